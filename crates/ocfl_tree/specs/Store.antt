@@ -1,0 +1,24 @@
+-- What a store that tells its tree tells, and what a call did to that.
+use Rattle.std.specs.Prelude.{◌≡◌, ℕ, ◌+◌, List, ◌++◌, Option}
+use Rattle.ocfl_tree.specs.Place.{Text, Place}
+use Rattle.ocfl_tree.specs.Tree.{Tree}
+use Rattle.ocfl_tree.specs.declared.store.Opening.{Opening}
+
+pub record Store : Type 0 where
+  pub tree : Tree
+  -- what is left of the open file
+  pub rest : Option Text
+  -- each opening of a file, with what it gave
+  pub openings : List Opening
+  pub listings : List Place
+  -- how often the device has failed
+  pub failures : ℕ
+  -- the largest read that was asked
+  pub largest : ℕ
+
+-- from s to t the tree stayed, and these openings, listings and so many failures were added
+pub record Did (s t : Store) (openings : List Opening) (listings : List Place) (failures : ℕ) : Type 0 where
+  pub tree : t.tree ≡ s.tree
+  pub openings_are : t.openings ≡ s.openings ++ openings
+  pub listings_are : t.listings ≡ s.listings ++ listings
+  pub failures_are : t.failures ≡ s.failures + failures

@@ -1,0 +1,33 @@
+use crate::name::Name;
+use crate::place::Place;
+
+/// What an entry of a directory is. A link is `Other`, and so is everything that is neither a file nor a directory.
+#[derive(Clone, Copy, Debug, PartialEq, Eq, PartialOrd, Ord)]
+pub enum Kind {
+    File,
+    Dir,
+    Other,
+}
+
+/// An entry of a directory.
+#[derive(Debug, Drop, PartialEq, Eq, PartialOrd, Ord)]
+pub struct Entry {
+    pub name: Name,
+    pub kind: Kind,
+}
+
+/// Why a store did not answer: its device failed, what was asked for is not there, or memory was refused.
+#[derive(Clone, Copy, Debug, PartialEq, Eq)]
+pub enum Trouble {
+    Device,
+    Absent,
+    Memory,
+}
+
+/// One opening of a file: how many bytes it gave, and whether the device failed in it.
+#[derive(Debug, Drop)]
+pub struct Opening {
+    pub place: Place,
+    pub given: u64,
+    pub failed: bool,
+}

@@ -1,0 +1,59 @@
+-- A cursor, and its text: what one run leaves for the next.
+use Rattle.std.specs.Prelude.{ℕ, ◌*◌, ◌^◌, ◌<◌, ◌≤◌, [], ◌∷◌, ◌++◌, length, codes, decimal, ⊤}
+use Rattle.sha2.specs.Sha256.{sha256}
+use Rattle.hex.specs.Hex.{encode_lower}
+use Rattle.ocfl_tree.specs.Place.{Text, Place}
+use Rattle.ocfl_tree.specs.Name.{IsPlace}
+use Rattle.ocfl_report.specs.Text.{place_text}
+
+-- where the next run begins: at the first item, behind a place, or with the next cycle
+pub data State : Type 0 where
+  start : State
+  behind : Place → State
+  ended : State
+
+-- the cycle, how many runs it has had, what they have spent, and where the next one begins
+pub record Cursor : Type 0 where
+  pub cycle : ℕ
+  pub runs : ℕ
+  pub spent : ℕ
+  pub state : State
+
+abbrev pub new_cursor : Cursor
+new_cursor = record { cycle = 1; runs = 0; spent = 0; state = start }
+
+-- a place of at most 255 names
+abbrev pub IsShortPlace : State → Type 0
+IsShortPlace start = ⊤
+IsShortPlace (behind p) = IsPlace p × (length p ≤ 255)
+IsShortPlace ended = ⊤
+
+-- the cursor's own rule
+pub record IsCursor (c : Cursor) : Type 0 where
+  pub first : 1 ≤ c.cycle
+  pub cycle : c.cycle < 2 ^ 64
+  pub runs : c.runs < 2 ^ 64
+  pub spent : c.spent ≤ c.runs * 2 ^ 63
+  pub place : IsShortPlace c.state
+
+-- ---- its text: six lines
+
+abbrev pub number_line : Text → ℕ → Text
+number_line name n = name ++ 32 ∷ decimal n ++ 10 ∷ []
+
+abbrev pub state_text : State → Text
+state_text start = codes "start"
+state_text (behind p) = codes "after " ++ place_text p
+state_text ended = codes "ended"
+
+-- the text before its last line
+abbrev pub cursor_body : Cursor → Text
+cursor_body c = codes "ocfl-scrub cursor 1\n" ++ number_line (codes "cycle") c.cycle ++ number_line (codes "runs") c.runs
+    ++ number_line (codes "spent") c.spent ++ state_text c.state ++ 10 ∷ []
+
+-- the SHA-256 of all bytes before it (FIPS 180-4, 6.2)
+abbrev pub digest_line : Text → Text
+digest_line body = codes "digest " ++ encode_lower (sha256 body) ++ 10 ∷ []
+
+abbrev pub cursor_text : Cursor → Text
+cursor_text c = cursor_body c ++ digest_line (cursor_body c)

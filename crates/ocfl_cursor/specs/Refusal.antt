@@ -1,0 +1,36 @@
+-- Why bytes are no cursor's text: the first that applies.
+use Rattle.std.specs.Prelude.{◌≡◌, ℕ, ◌-◌, ◌==◌, ◌&&◌, nat_eq, nat_le, Bool, not, length, take, drop, take_while, if◌then◌else◌, codes}
+use Rattle.std.specs.List.{starts_with}
+use Rattle.ocfl_tree.specs.Place.{Text, text_eq}
+use Rattle.ocfl_cursor.specs.Cursor.{Cursor, IsCursor, cursor_text, digest_line}
+
+pub data Refusal : Type 0 where
+  not_cursor : Refusal
+  version : Refusal
+  damaged : Refusal
+  malformed : Refusal
+
+abbrev pub max_text : ℕ
+max_text = 262144
+
+abbrev pub is_cursor_front : Text → Bool
+is_cursor_front b = starts_with nat_eq b (codes "ocfl-scrub cursor ") && nat_le (length b) max_text
+
+-- what follows those 18 bytes, up to a line feed or the end
+abbrev pub version_of : Text → Text
+version_of b = take_while (λ c. not (c == 10)) (drop 18 b)
+
+-- the last 72 bytes are the digest line of all before them
+abbrev pub is_sealed : Text → Bool
+is_sealed b = nat_le 72 (length b) && text_eq (drop (length b - 72) b) (digest_line (take (length b - 72) b))
+
+-- of bytes that are the text of no cursor
+abbrev pub refusal : Text → Refusal
+refusal b = if not (is_cursor_front b) then not_cursor
+    else (if not (text_eq (version_of b) (codes "1")) then version
+    else (if not (is_sealed b) then damaged else malformed))
+
+-- the bytes are the text of a cursor that keeps its rule
+pub record IsTextOf (b : Text) (c : Cursor) : Type 0 where
+  pub keeps : IsCursor c
+  pub is : b ≡ cursor_text c

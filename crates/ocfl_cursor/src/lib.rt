@@ -1,0 +1,2 @@
+//! Cursors: where the next run begins.
+#![tactic(auto)]

@@ -1,0 +1,7 @@
+//! Digest algorithms, and what the digests of a file are.
+#![tactic(auto)]
+
+mod algorithm;
+mod laws;
+
+pub use algorithm::Algorithm;

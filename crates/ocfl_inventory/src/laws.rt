@@ -1,0 +1,9 @@
+ghost use Rattle.std.specs.Prelude.{◌≡◌, ◌↔◌, Some, ℕ, List};
+ghost use Rattle.ocfl_tree.specs.Place.{Text};
+ghost use Rattle.ocfl_inventory.specs.Sidecar.{IsSidecar, sidecar_of};
+ghost use Rattle.ocfl_digest.specs.declared.algorithm.Algorithm.{Algorithm};
+
+/// The computed digest of a sidecar is that of the grammar, and there is one exactly where the grammar holds.
+pub fn sidecar_meets_the_grammar()
+    ensures { (b : Text) (a : Algorithm) (d : List ℕ) → (sidecar_of a b ≡ Some d) ↔ IsSidecar b a d }
+{}

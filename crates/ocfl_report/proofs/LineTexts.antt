@@ -1,0 +1,59 @@
+-- The text of lines determines the lines.
+use Rattle.std.proofs.Common.{◌≡◌, ◌≢◌, List, [], ◌∷◌, ◌++◌, flat_map, All, refl, sym, ap, ◌∙◌, append_assoc, arith}
+use Rattle.std.proofs.lemmas.List.Elements.{All-head, All-tail, All-weaker}
+use Rattle.std.proofs.lemmas.List.Concat.{flat_map-append}
+use Rattle.ocfl_tree.specs.Place.{Text}
+use Rattle.ocfl_report.specs.Line.{Line, Item}
+use Rattle.ocfl_report.specs.Text.{code_text, place_text, escape, line_text, lines_text, text, IsLine}
+use Rattle.ocfl_report.proofs.Bytes.{IsPrintable}
+use Rattle.ocfl_report.proofs.Separators.{first_parts}
+use Rattle.ocfl_report.proofs.Escapes.{escape_injective, escape_printable}
+use Rattle.ocfl_report.proofs.CodeTexts.{code_text_injective, code_text_printable}
+use Rattle.ocfl_report.proofs.PlaceTexts.{place_text_determines, place_text_printable}
+
+-- the text of a line and what follows it, as three parts with a separator behind each
+line_text-append : (l : Line) (rest : Text) → line_text l ++ rest ≡ code_text l.code ++ 9 ∷ (place_text l.place ++ 9 ∷ (escape l.detail ++ 10 ∷ rest))
+line_text-append l rest = simp append_assoc
+
+-- printable text has no tab
+no_tab : (t : Text) → All IsPrintable t → All (λ b. b ≢ 9) t
+no_tab t h = All-weaker IsPrintable (λ b. b ≢ 9) (λ b k. omega (arith, k)) t h
+
+-- printable text has no line feed
+no_line_feed : (t : Text) → All IsPrintable t → All (λ b. b ≢ 10) t
+no_line_feed t h = All-weaker IsPrintable (λ b. b ≢ 10) (λ b k. omega (arith, k)) t h
+
+-- where two texts are equal, so are the lines that they begin with, and so is what follows these
+pub first_lines : (l m : Line) (r s : Text) → IsLine l → IsLine m → line_text l ++ r ≡ line_text m ++ s → (l ≡ m) × (r ≡ s)
+first_lines l m r s h k e =
+    let whole = sym (line_text-append l r) ∙ e ∙ line_text-append m s in
+    let same_codes = first_parts 9 (code_text l.code) (code_text m.code) _ _ (no_tab _ (code_text_printable l.code)) (no_tab _ (code_text_printable m.code)) whole in
+    let same_places = first_parts 9 (place_text l.place) (place_text m.place) _ _ (no_tab _ (place_text_printable l.place h.place)) (no_tab _ (place_text_printable m.place k.place)) same_codes.1 in
+    let same_details = first_parts 10 (escape l.detail) (escape m.detail) r s (no_line_feed _ (escape_printable l.detail h.detail)) (no_line_feed _ (escape_printable m.detail k.detail)) same_places.1 in
+    let code = code_text_injective l.code m.code same_codes.0 in
+    let place = place_text_determines l.place m.place h.place k.place same_places.0 in
+    let detail = escape_injective l.detail m.detail h.detail k.detail same_details.0 in
+    ((λ i. record { code = code i; place = place i; detail = detail i }), same_details.1)
+
+-- a line's text is not empty
+line_text_not_empty : (l : Line) (rest : Text) → line_text l ++ rest ≢ []
+line_text_not_empty l rest e = by (code_text l.code) (sym (line_text-append l rest) ∙ e)
+  where
+    by : (t : Text) → t ++ 9 ∷ (place_text l.place ++ 9 ∷ (escape l.detail ++ 10 ∷ rest)) ≡ [] → ⊥
+    by [] f = cc
+    by (b ∷ t) f = cc
+
+-- lines are equal if their texts are
+pub lines_text_determines : (ls ms : List Line) → All IsLine ls → All IsLine ms → lines_text ls ≡ lines_text ms → ls ≡ ms
+lines_text_determines [] [] h k e = refl
+lines_text_determines [] (m ∷ ms) h k e = absurd (line_text_not_empty m (lines_text ms) (sym e))
+lines_text_determines (l ∷ ls) [] h k e = absurd (line_text_not_empty l (lines_text ls) e)
+lines_text_determines (l ∷ ls) (m ∷ ms) h k e =
+    let first = first_lines l m (lines_text ls) (lines_text ms) (All-head IsLine l ls h) (All-head IsLine m ms k) e in
+    let rest = lines_text_determines ls ms (All-tail IsLine l ls h) (All-tail IsLine m ms k) first.1 in
+    λ i. first.0 i ∷ rest i
+
+-- the text of items is that of all their lines
+pub text_is_lines_text : (items : List Item) → text items ≡ lines_text (flat_map (λ i. i.lines) items)
+text_is_lines_text [] = refl
+text_is_lines_text (i ∷ items) = ap (λ t. lines_text i.lines ++ t) (text_is_lines_text items) ∙ sym (flat_map-append line_text i.lines (flat_map (λ x. x.lines) items))

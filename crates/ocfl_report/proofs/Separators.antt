@@ -1,0 +1,31 @@
+-- Texts with separators between them are told apart again.
+use Rattle.std.proofs.Common.{◌≡◌, ◌≢◌, ℕ, List, [], ◌∷◌, ◌++◌, ◌==◌, eq-eqb, false, All, refl, ap, ◌∙◌}
+use Rattle.std.specs.List.{join_with_byte, slice_split}
+use Rattle.std.proofs.lemmas.List.Splits.{slice_split_none, slice_split_at}
+use Rattle.std.proofs.lemmas.List.Elements.{All-nil, All-cons, All-head, All-tail, All-append}
+use Rattle.ocfl_tree.specs.Place.{Text}
+
+-- where two texts are equal, so are their parts up to the first separator, and so is what follows it
+pub first_parts : (c : ℕ) (xs ys r s : Text) → All (λ b. b ≢ c) xs → All (λ b. b ≢ c) ys → xs ++ c ∷ r ≡ ys ++ c ∷ s → (xs ≡ ys) × (r ≡ s)
+first_parts c [] [] r s h k e = (refl, cc)
+first_parts c [] (y ∷ ys) r s h k e = let f : y ≡ c = cc in absurd (All-head (λ b. b ≢ c) y ys k f)
+first_parts c (x ∷ xs) [] r s h k e = let f : x ≡ c = cc in absurd (All-head (λ b. b ≢ c) x xs h f)
+first_parts c (x ∷ xs) (y ∷ ys) r s h k e =
+    let f : x ≡ y = cc in
+    let g : xs ++ c ∷ r ≡ ys ++ c ∷ s = cc in
+    let m = first_parts c xs ys r s (All-tail (λ b. b ≢ c) x xs h) (All-tail (λ b. b ≢ c) y ys k) g in
+    ((λ i. f i ∷ m.0 i), m.1)
+
+-- what is joined at a separator that no part has is split there into the same parts
+pub slice_split-join_with_byte : (c : ℕ) (x : Text) (xs : List Text) → All (All (λ b. b == c ≡ false)) (x ∷ xs) → slice_split (λ b. b == c) (join_with_byte c (x ∷ xs)) ≡ x ∷ xs
+slice_split-join_with_byte c x [] h = slice_split_none (λ b. b == c) x (All-head (All (λ b. b == c ≡ false)) x [] h)
+slice_split-join_with_byte c x (y ∷ xs) h =
+    slice_split_at (λ b. b == c) x c (join_with_byte c (y ∷ xs)) (All-head (All (λ b. b == c ≡ false)) x (y ∷ xs) h) (eq-eqb c c refl)
+    ∙ ap (λ t. x ∷ t) (slice_split-join_with_byte c y xs (All-tail (All (λ b. b == c ≡ false)) x (y ∷ xs) h))
+
+-- what holds of the separator and of the parts' bytes holds of the bytes of the whole
+pub All-join_with_byte : (P : ℕ → Type 0) (c : ℕ) → P c → (xs : List Text) → All (All P) xs → All P (join_with_byte c xs)
+All-join_with_byte P c p [] h = All-nil P
+All-join_with_byte P c p (x ∷ []) h = All-head (All P) x [] h
+All-join_with_byte P c p (x ∷ y ∷ xs) h =
+    All-append P x (c ∷ join_with_byte c (y ∷ xs)) (All-head (All P) x (y ∷ xs) h) (All-cons P c (join_with_byte c (y ∷ xs)) p (All-join_with_byte P c p (y ∷ xs) (All-tail (All P) x (y ∷ xs) h)))

@@ -1,0 +1,78 @@
+/// What a line of the report says. Codes that begin with `E` have the numbers of OCFL 1.1's validation codes.
+#[derive(Clone, Copy, Debug, PartialEq, Eq)]
+pub enum Code {
+    /// Nothing was found.
+    Clean,
+    /// An entry that is not allowed in an object root.
+    E001,
+    /// Several object declarations.
+    E003,
+    /// The bytes of an object declaration are not exact.
+    E007,
+    /// A file that is not allowed in a version directory.
+    E015,
+    /// The content directory's name holds a slash.
+    E017,
+    /// The content directory's name is `.` or `..`.
+    E018,
+    /// A content file that the manifest does not name.
+    E023,
+    /// An empty directory in a content directory.
+    E024,
+    /// A digest algorithm that no inventory may use.
+    E025,
+    /// An inventory that is not JSON.
+    E033,
+    /// An inventory without a digest algorithm.
+    E036,
+    /// An inventory without a manifest.
+    E041,
+    /// A sidecar that is not there.
+    E058,
+    /// The inventory's bytes do not have the sidecar's digest.
+    E060,
+    /// A sidecar that is not of the form.
+    E061,
+    /// An object without an inventory.
+    E063,
+    /// A storage root without a declaration.
+    E069,
+    /// A file in the storage hierarchy.
+    E072,
+    /// An empty directory in the storage hierarchy.
+    E073,
+    /// Several declarations of the storage root.
+    E076,
+    /// The bytes of the storage root's declaration are not exact.
+    E080,
+    /// A content file is missing, or does not have a digest that the manifest names.
+    E092,
+    /// A content file is missing, or does not have a digest that a fixity block names.
+    E093,
+    /// A digest that several keys of the manifest have.
+    E096,
+    /// A digest that several keys of one algorithm in the fixity block have.
+    E097,
+    /// A listed path with an element that is empty, `.` or `..`.
+    E099,
+    /// A listed path that begins or ends with a slash.
+    E100,
+    /// A listed path that is repeated, or that another one begins with.
+    E101,
+    /// A declaration of a version that is not known.
+    S01,
+    /// An inventory that is too long to be read.
+    S02,
+    /// A value that is needed is of a wrong kind, or empty.
+    S03,
+    /// What is neither a file nor a directory.
+    S04,
+    /// A directory that lies too deep to be listed.
+    S05,
+    /// A listed path that cannot be one of a content file.
+    S06,
+    /// An algorithm in the fixity block that is not computed: a note, and no finding.
+    S07,
+    /// A content file that could not be read.
+    S08,
+}

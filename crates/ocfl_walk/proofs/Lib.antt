@@ -1,0 +1,16 @@
+pub mod AfterLaws
+pub mod AuditLaws
+pub mod AuditExists
+pub mod StepLaws
+pub mod BelowLaws
+pub mod WayLaws
+pub mod WalkLaws
+pub mod NextLaws
+pub mod StackLaws
+pub mod BoundLaws
+pub mod MachineLaws
+pub mod PathLaws
+pub mod PublicLaws
+pub mod UnreadLaws
+pub mod Lists
+pub mod DueLaws

@@ -1,1 +1,11 @@
 pub mod RunLaws
+pub mod OnLiterals
+pub mod CaseTrees
+pub mod RootCases
+pub mod HeadCases
+pub mod PathCases
+pub mod ContentCases
+pub mod UnreadCases
+pub mod RunCases
+pub mod WalkCases
+pub mod CursorCases

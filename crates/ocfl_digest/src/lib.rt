@@ -2,6 +2,6 @@
 #![tactic(auto)]
 
 mod algorithm;
-mod laws;
+pub mod laws;
 
 pub use algorithm::Algorithm;

@@ -2,6 +2,6 @@
 #![tactic(auto)]
 
 mod declaration;
-mod laws;
+pub mod laws;
 
 pub use declaration::{Level, Version};

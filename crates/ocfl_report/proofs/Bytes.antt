@@ -1,9 +1,9 @@
 -- What holds of each byte of a text: of UTF-8, of a name, and by a test.
-use Rattle.std.proofs.Common.{◌≡◌, ℕ, ◌+◌, ◌/◌, ◌<◌, ◌≤◌, ◌&&◌, nat_le, nat_lt, leb-true, List, [], ◌∷◌, Bool, true, false, cond, ltb, ltb-true, refl, subst, All, IsUtf8, arith}
+use Rattle.std.proofs.Common.{◌≡◌, ℕ, ◌+◌, ◌/◌, ◌<◌, ◌≤◌, ◌&&◌, nat_le, nat_lt, leb-true, List, [], ◌∷◌, get_or, Fits, w8, Bool, true, false, cond, ltb, ltb-true, refl, subst, All, IsUtf8, arith}
 use Rattle.std.specs.List.{list_all}
 use Rattle.std.proofs.Math.Utf8.{scalar, scalars, next, encode, encodes, scalar_cases}
 use Rattle.std.proofs.lemmas.Bool.{and_parts}
-use Rattle.std.proofs.lemmas.List.Elements.{All-from_recursion, All-append, All-cons, All-nil}
+use Rattle.std.proofs.lemmas.List.Elements.{All-from_recursion, All-append, All-cons, All-nil, All-from_get_or}
 use Rattle.std.proofs.lemmas.Str.{IsUtf8-had}
 use Rattle.ocfl_tree.specs.Place.{Text}
 use Rattle.ocfl_tree.specs.Name.{IsName}
@@ -11,6 +11,10 @@ use Rattle.ocfl_tree.specs.Name.{IsName}
 -- what a byte can be
 abbrev pub IsByte : ℕ → Type 0
 IsByte b = b < 256
+
+-- a slice of bytes consists of bytes
+pub bytes_from_type : (t : Text) → ((k : ℕ) → Fits w8 (get_or t k 0)) → All IsByte t
+bytes_from_type t h = All-from_get_or IsByte t 0 (λ i within. omega (arith, h i))
 
 -- what a test tells of each byte that passes it holds of all bytes of a text that passes it
 pub All-from_test : (P : ℕ → Type 0) (test : ℕ → Bool) → ((b : ℕ) → test b ≡ true → P b) → (t : Text) → list_all test t ≡ true → All P t

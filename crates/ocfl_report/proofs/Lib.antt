@@ -1,6 +1,9 @@
 pub mod Bytes
 pub mod Separators
 pub mod Escapes
+pub mod Encoded
 pub mod CodeTexts
 pub mod PlaceTexts
+pub mod Joined
+pub mod Parts
 pub mod LineTexts

@@ -35,6 +35,10 @@ first_lines l m r s h k e =
     let detail = escape_injective l.detail m.detail h.detail k.detail same_details.0 in
     ((λ i. record { code = code i; place = place i; detail = detail i }), same_details.1)
 
+-- lines are equal if their texts are
+pub line_text_determines : (l m : Line) → IsLine l → IsLine m → line_text l ≡ line_text m → l ≡ m
+line_text_determines l m h k e = (first_lines l m [] [] h k (ap (λ t. t ++ []) e)).0
+
 -- a line's text is not empty
 line_text_not_empty : (l : Line) (rest : Text) → line_text l ++ rest ≢ []
 line_text_not_empty l rest e = by (code_text l.code) (sym (line_text-append l rest) ∙ e)
@@ -43,7 +47,7 @@ line_text_not_empty l rest e = by (code_text l.code) (sym (line_text-append l re
     by [] f = cc
     by (b ∷ t) f = cc
 
--- lines are equal if their texts are
+-- lists of lines are equal if their texts are
 pub lines_text_determines : (ls ms : List Line) → All IsLine ls → All IsLine ms → lines_text ls ≡ lines_text ms → ls ≡ ms
 lines_text_determines [] [] h k e = refl
 lines_text_determines [] (m ∷ ms) h k e = absurd (line_text_not_empty m (lines_text ms) (sym e))

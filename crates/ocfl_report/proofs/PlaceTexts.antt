@@ -25,12 +25,15 @@ unescape-escape-names (n ∷ p) h =
     let rest = unescape-escape-names p (All-tail IsName n p h) in
     λ i. first i ∷ rest i
 
+-- the parts of the text of a place below the root are its escaped names
+pub slice_split-place_text : (n : Text) (p : Place) → IsPlace (n ∷ p) → slice_split (λ b. b == 47) (place_text (n ∷ p)) ≡ map escape (n ∷ p)
+slice_split-place_text n p h =
+    let no_slashes = All-weaker IsName (λ m. All IsNoSlash (escape m)) escaped_name_no_slash (n ∷ p) h in
+    slice_split-join_with_byte 47 (escape n) (map escape p) (All-map (All IsNoSlash) escape (n ∷ p) no_slashes)
+
 -- the text of a place below the root reads back
 pub names_of-place_text : (n : Text) (p : Place) → IsPlace (n ∷ p) → names_of (place_text (n ∷ p)) ≡ n ∷ p
-names_of-place_text n p h =
-    let no_slashes = All-weaker IsName (λ m. All IsNoSlash (escape m)) escaped_name_no_slash (n ∷ p) h in
-    let split_again = slice_split-join_with_byte 47 (escape n) (map escape p) (All-map (All IsNoSlash) escape (n ∷ p) no_slashes) in
-    ap (map unescape) split_again ∙ unescape-escape-names (n ∷ p) h
+names_of-place_text n p h = ap (map unescape) (slice_split-place_text n p h) ∙ unescape-escape-names (n ∷ p) h
 
 -- a place with a name does not have the text `.`
 named_place_not_dot : (n : Text) (p : Place) → IsPlace (n ∷ p) → place_text (n ∷ p) ≢ codes "."

@@ -1,3 +1,6 @@
+ghost use Rattle.std.specs.Prelude.{◌≡◌};
+ghost use Rattle.ocfl_report.specs.Text.{code_text};
+
 /// What a line of the report says. Codes that begin with `E` have the numbers of OCFL 1.1's validation codes.
 #[derive(Clone, Copy, Debug, PartialEq, Eq)]
 pub enum Code {
@@ -75,4 +78,51 @@ pub enum Code {
     S07,
     /// A content file that could not be read.
     S08,
+}
+
+impl Code {
+    /// The code as a report line begins with it: `ok`, or the code's letter and its digits.
+    pub fn text(self) -> &'static str
+        ensures { result.now ≡ code_text self }
+    {
+        match self {
+            Code::Clean => "ok",
+            Code::E001 => "E001",
+            Code::E003 => "E003",
+            Code::E007 => "E007",
+            Code::E015 => "E015",
+            Code::E017 => "E017",
+            Code::E018 => "E018",
+            Code::E023 => "E023",
+            Code::E024 => "E024",
+            Code::E025 => "E025",
+            Code::E033 => "E033",
+            Code::E036 => "E036",
+            Code::E041 => "E041",
+            Code::E058 => "E058",
+            Code::E060 => "E060",
+            Code::E061 => "E061",
+            Code::E063 => "E063",
+            Code::E069 => "E069",
+            Code::E072 => "E072",
+            Code::E073 => "E073",
+            Code::E076 => "E076",
+            Code::E080 => "E080",
+            Code::E092 => "E092",
+            Code::E093 => "E093",
+            Code::E096 => "E096",
+            Code::E097 => "E097",
+            Code::E099 => "E099",
+            Code::E100 => "E100",
+            Code::E101 => "E101",
+            Code::S01 => "S01",
+            Code::S02 => "S02",
+            Code::S03 => "S03",
+            Code::S04 => "S04",
+            Code::S05 => "S05",
+            Code::S06 => "S06",
+            Code::S07 => "S07",
+            Code::S08 => "S08",
+        }
+    }
 }

@@ -1,17 +1,54 @@
-ghost use Rattle.std.specs.Prelude.{◌≡◌, List, All};
-ghost use Rattle.ocfl_tree.specs.Place.{Place};
+ghost use Rattle.std.specs.Prelude.{◌≡◌, ◌≢◌, List, All, IfOk, flat_map};
+ghost use Rattle.ocfl_tree.specs.Place.{Place as ModelPlace};
 ghost use Rattle.ocfl_tree.specs.Name.{IsPlace};
-ghost use Rattle.ocfl_report.specs.Line.{Line};
-ghost use Rattle.ocfl_report.specs.Text.{place_text, lines_text, IsLine};
+ghost use Rattle.ocfl_report.specs.Line.{Line as ModelLine, Item, line_of};
+ghost use Rattle.ocfl_report.specs.Text.{place_text, line_text, lines_text, text, IsLine};
+
+use crate::line::Line;
+use crate::path::{PlaceStop, put_place, read_place};
+use ocfl_tree::Place;
+use std::alloc::Global;
 
 /// The text of a place determines the place.
 #[tactic(auto, using(crate::proofs::PlaceTexts::place_text_determines))]
 pub fn text_determines_the_place()
-    ensures { (p q : Place) → IsPlace p → IsPlace q → place_text p ≡ place_text q → p ≡ q }
+    ensures { (p q : ModelPlace) → IsPlace p → IsPlace q → place_text p ≡ place_text q → p ≡ q }
+{}
+
+/// What is written of a place is read as that place, want of memory aside.
+pub fn place_reads_back(alloc: Global, place: &Place) -> Result<Place, PlaceStop>
+    ensures same { IfOk result (λ read. read ≡ place.now) }
+    ensures never_bad { result ≢ Err PlaceStop.Bad }
+{
+    // A place has names alone, which its list of names tells.
+    let _ = place.names();
+    let mut written = Vec::new(alloc);
+    put_place(place, &mut written)?;
+    read_place(alloc, written.as_slice())
+}
+
+/// The text of a line determines the line.
+#[tactic(auto, using(crate::proofs::LineTexts::line_text_determines))]
+pub fn text_determines_the_line()
+    ensures { (l m : ModelLine) → IsLine l → IsLine m → line_text l ≡ line_text m → l ≡ m }
+{}
+
+/// Every [`Line`] is one of those of which the laws speak.
+pub fn every_line_fits(line: &Line)
+    ensures { IsLine (line_of line.now) }
+{
+    let _ = line.place.names();
+    let _ = line.detail.as_str();
+}
+
+/// The text of items is that of all their lines.
+#[tactic(auto, using(crate::proofs::LineTexts::text_is_lines_text))]
+pub fn text_is_that_of_lines()
+    ensures { (items : List Item) → text items ≡ lines_text (flat_map (λ i. i.lines) items) }
 {}
 
 /// The text of a report determines its lines: a reader can tell them apart again.
 #[tactic(auto, using(crate::proofs::LineTexts::lines_text_determines))]
 pub fn text_determines_the_lines()
-    ensures { (ls ms : List Line) → All IsLine ls → All IsLine ms → lines_text ls ≡ lines_text ms → ls ≡ ms }
+    ensures { (ls ms : List ModelLine) → All IsLine ls → All IsLine ms → lines_text ls ≡ lines_text ms → ls ≡ ms }
 {}

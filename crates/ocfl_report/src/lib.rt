@@ -1,9 +1,17 @@
-//! The lines of a report, and their text.
+//! The lines of a report, their text, and output that says how much of it went out.
 #![tactic(auto)]
 
 mod code;
-mod laws;
+mod escaped;
+pub mod laws;
 mod line;
+mod output;
+mod path;
 
 pub use code::Code;
 pub use line::Line;
+pub use output::{OutStop, write_all_of};
+pub use path::{PlaceStop, put_place, read_place};
+
+#[cfg(test)]
+mod tests;

@@ -1,4 +1,4 @@
 //! Runs of the audit of a storage root, each within a budget.
 #![tactic(auto)]
 
-mod laws;
+pub mod laws;

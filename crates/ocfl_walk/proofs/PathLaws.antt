@@ -114,23 +114,60 @@ free_unnamed ns leaf e = ap (λ x. cost_of x None leaf) e
 hashed_named : (ns : List Named) (leaf : Option Leaf) → nat_lt 0 (cost_of ns None leaf) ≡ true → ns ≢ []
 hashed_named ns leaf h e = true_not_false (sym h ∙ ap (nat_lt 0) (free_unnamed ns leaf e))
 
-pub hashed_no_meta : (root : Tree) (p : Place) → is_hashed root p ≡ true → is_meta root p ≡ false
-hashed_no_meta root p h = by (zone root p) refl (hashed_named (named_at root p) (seen root p) h)
+-- a place with a named digest is a content path of the table of the object that it lies in
+pub record IsPath (root : Tree) (p : Place) : Type 0 where
+  pub object : Place
+  pub table : Table
+  pub version : Text
+  pub content : Text
+  pub name : Text
+  pub rest : Place
+  pub lies : zone root p ≡ inside object (version ∷ content ∷ name ∷ rest)
+  pub has : table_at root object ≡ Some table
+  pub among : IsAmong (paths_of table) (version ∷ content ∷ name ∷ rest)
+
+pub named_path : (root : Tree) (p : Place) → named_at root p ≢ [] → IsPath root p
+named_path root p some = by (zone root p) refl some
   where
-    in_table : (o q : Place) (t : Table) → zone root p ≡ inside o q → table_at root o ≡ Some t → named t q ≢ [] → is_root_meta p || is_object_meta q ≡ false
-    in_table o q t z e some =
+    in_table : (o q : Place) (t : Table) → zone root p ≡ inside o q → table_at root o ≡ Some t → named t q ≢ [] → IsPath root p
+    in_table o q t z e names =
         let k = table_from_inventory root o t e in
-        let m = kept_paths k.0 q (subst (λ x. IsAmong (paths_of x) q) k.1 (path_among t q some)) in
+        let m = kept_paths k.0 q (subst (λ x. IsAmong (paths_of x) q) k.1 (path_among t q names)) in
         let d = deep_path k.0.content q (ap (is_content_path k.0.content) m.is ∙ (kept_short k.0.content m.text m.kept).0) in
         let shape : q ≡ d.0 ∷ d.1.0 ∷ d.1.1.0 ∷ d.1.1.1.0 = d.1.1.1.1 in
-        let whole : p ≡ o ++ q = (zone_is root p o q z).whole in
-        (λ i. is_root_meta (whole i) || is_object_meta q) ∙ (λ i. is_root_meta (o ++ shape i) || is_object_meta (shape i)) ∙ ap (λ b. b || false) (no_root_meta o d.0 d.1.0 d.1.1.0 d.1.1.1.0)
+        record {
+          object = o;
+          table = t;
+          version = d.0;
+          content = d.1.0;
+          name = d.1.1.0;
+          rest = d.1.1.1.0;
+          lies = z ∙ ap (inside o) shape;
+          has = e;
+          among = subst (IsAmong (paths_of t)) shape (path_among t q names);
+        }
 
-    by : (z : Zone) → zone root p ≡ z → named_in root z ≢ [] → is_root_meta p || is_meta_zone z ≡ false
-    by skipped z some = absurd (some refl)
-    by hierarchy z some = absurd (some refl)
-    by (inside o q) z some = go (table_at root o) refl some
+    by : (z : Zone) → zone root p ≡ z → named_in root z ≢ [] → IsPath root p
+    by skipped z k = absurd (k refl)
+    by hierarchy z k = absurd (k refl)
+    by (inside o q) z k = go (table_at root o) refl k
       where
-        go : (table : Option Table) → table_at root o ≡ table → elim table as (λ _. List Named) [ None ↦ [] | Some t ↦ named t q ] ≢ [] → is_root_meta p || is_object_meta q ≡ false
-        go None e k = absurd (k refl)
-        go (Some t) e k = in_table o q t z e k
+        go : (table : Option Table) → table_at root o ≡ table → elim table as (λ _. List Named) [ None ↦ [] | Some t ↦ named t q ] ≢ [] → IsPath root p
+        go None e l = absurd (l refl)
+        go (Some t) e l = in_table o q t z e l
+
+pub hashed_path : (root : Tree) (p : Place) → is_hashed root p ≡ true → IsPath root p
+hashed_path root p h = named_path root p (hashed_named (named_at root p) (seen root p) h)
+
+pub hashed_no_meta : (root : Tree) (p : Place) → is_hashed root p ≡ true → is_meta root p ≡ false
+hashed_no_meta root p h = by (hashed_path root p h)
+  where
+    by : IsPath root p → is_meta root p ≡ false
+    by k =
+        let q : Place = k.version ∷ k.content ∷ k.name ∷ k.rest in
+        let whole : p ≡ k.object ++ q = (zone_is root p k.object q k.lies).whole in
+        (λ i. is_root_meta (whole i) || is_meta_zone (k.lies i)) ∙ ap (λ b. b || false) (no_root_meta k.object k.version k.content k.name k.rest)
+
+-- and so it has lines
+pub hashed_lines : (root : Tree) (u : Option ℕ) (p : Place) → is_hashed root p ≡ true → notes root u p ≢ []
+hashed_lines root u p h = let k = hashed_path root p h in path_lines root u p k.object _ k.table k.lies k.has k.among

@@ -1,4 +1,4 @@
 //! What the audit of a storage root is: the lines of each place, in order.
 #![tactic(auto)]
 
-mod laws;
+pub mod laws;

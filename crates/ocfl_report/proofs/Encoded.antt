@@ -1,0 +1,34 @@
+-- The report's escapes are the percent-encoding at its set of bytes, and decoding undoes them.
+use Rattle.std.proofs.Common.{◌≡◌, ℕ, ◌<◌, [], ◌∷◌, ◌++◌, true, bytes_eq, All, refl, sym, ap, ap₂, ◌∙◌}
+use Rattle.std.proofs.lemmas.Bool.{agree_below_at}
+use Rattle.std.proofs.lemmas.Slice.Eq.{bytes_eq-Decides}
+use Rattle.std.proofs.lemmas.List.Elements.{All-head, All-tail}
+use Rattle.percent_encoding.specs.AsciiSet.{should_percent_encode}
+use Rattle.percent_encoding.specs.Percent.{percent_encode_byte, encode_byte, percent_encode, percent_decode}
+use Rattle.percent_encoding.proofs.PercentLemmas.{round_trip}
+use Rattle.ocfl_tree.specs.Place.{Text}
+use Rattle.ocfl_tree.specs.Name.{IsName}
+use Rattle.ocfl_report.specs.Text.{escape_byte, escape}
+use Rattle.ocfl_report.specs.declared.escaped.TheConstants.{ESCAPED}
+use Rattle.ocfl_report.proofs.Bytes.{IsByte, name_bytes}
+
+-- a byte is escaped alike
+encode_byte-escape_byte : (b : ℕ) → b < 256 → encode_byte ESCAPED b ≡ escape_byte b
+unfolding should_percent_encode percent_encode_byte
+encode_byte-escape_byte b l =
+    (bytes_eq-Decides (encode_byte ESCAPED b) (escape_byte b)).0 (agree_below_at (λ c. bytes_eq (encode_byte ESCAPED c) (escape_byte c)) (λ _. true) 256 b refl l)
+
+-- a text is escaped alike
+pub percent_encode-escape : (t : Text) → All (λ b. b < 256) t → percent_encode ESCAPED t ≡ escape t
+unfolding percent_encode
+percent_encode-escape [] h = refl
+percent_encode-escape (b ∷ t) h =
+    ap₂ (λ x y. x ++ y) (encode_byte-escape_byte b (All-head IsByte b t h)) (percent_encode-escape t (All-tail IsByte b t h))
+
+-- decoding gives the text back
+pub percent_decode-escape : (t : Text) → All (λ b. b < 256) t → percent_decode (escape t) ≡ t
+percent_decode-escape t h = ap percent_decode (sym (percent_encode-escape t h)) ∙ round_trip ESCAPED t refl h
+
+-- what a name's escaped form decodes to
+pub decoded_name : (t n : Text) → IsName n → t ≡ escape n → percent_decode t ≡ n
+decoded_name t n h e = ap percent_decode e ∙ percent_decode-escape n (name_bytes n h)

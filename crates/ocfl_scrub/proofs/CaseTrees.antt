@@ -70,38 +70,17 @@ f_is_abc = text_at "o/v1/content/f" "abc" ∷ []
 
 -- ---- digests (FIPS 180-4, RFC 1321), of the bytes `abc` and of no bytes, and in capitals
 
-abbrev pub abc_md5 : String
-abc_md5 = "900150983cd24fb0d6963f7d28e17f72"
-
-abbrev pub abc_sha1 : String
-abc_sha1 = "a9993e364706816aba3e25717850c26c9cd0d89d"
-
 abbrev pub abc_sha256 : String
 abc_sha256 = "ba7816bf8f01cfea414140de5dae2223b00361a396177a9cb410ff61f20015ad"
 
 abbrev pub abc_sha512 : String
 abc_sha512 = "ddaf35a193617abacc417349ae20413112e6fa4e89a97ea20a9eeee64b55d39a2192992a274fc1a836ba3c23a3feebbd454d4423643ce80e2a9ac94fa54ca49f"
 
-abbrev pub abc_sha512_256 : String
-abc_sha512_256 = "53048e2681941ef99b2e29b76b4c7dabe4c2d0c634fc6d46e0e2f13107e7af23"
-
-abbrev pub empty_md5 : String
-empty_md5 = "d41d8cd98f00b204e9800998ecf8427e"
-
 abbrev pub empty_sha1 : String
 empty_sha1 = "da39a3ee5e6b4b0d3255bfef95601890afd80709"
 
 abbrev pub empty_sha256 : String
 empty_sha256 = "e3b0c44298fc1c149afbf4c8996fb92427ae41e4649b934ca495991b7852b855"
-
-abbrev pub empty_sha512 : String
-empty_sha512 = "cf83e1357eefb8bdf1542850d66d8007d620e4050b5715dc83f4a921d36ce9ce47d0d13c5d85f2b0ff8318d2877eec2f63b931bd47417a81a538327af927da3e"
-
-abbrev pub empty_sha512_256 : String
-empty_sha512_256 = "c672b8d1ef56ed28ab87c3622c5114069bdd3ad7b8f9737498d0c01ecef0967a"
-
-abbrev pub abc_md5_capitals : String
-abc_md5_capitals = "900150983CD24FB0D6963F7D28E17F72"
 
 abbrev pub abc_sha256_capitals : String
 abc_sha256_capitals = "BA7816BF8F01CFEA414140DE5DAE2223B00361A396177A9CB410FF61F20015AD"
@@ -128,6 +107,10 @@ inventory algorithm manifest fixity =
     codes "{\"id\":\"o\",\"type\":\"https://ocfl.io/1.1/spec/#inventory\",\"digestAlgorithm\":\"" ++ codes algorithm
     ++ codes "\",\"head\":\"v1\",\"manifest\":" ++ manifest ++ codes ",\"versions\":{},\"fixity\":" ++ fixity ++ codes "}"
 
+-- one with these keys beside those that are not looked at
+abbrev pub inventory_with : List Text → Text
+inventory_with members = keys (key "id" "\"o\"" ∷ key "type" "\"https://ocfl.io/1.1/spec/#inventory\"" ∷ key "head" "\"v1\"" ∷ key "versions" "{}" ∷ members)
+
 -- an inventory of sha256 by its manifest alone
 abbrev pub listing : List Text → Text
 listing manifest = inventory "sha256" (keys manifest) (codes "{}")
@@ -153,3 +136,10 @@ missing_and_right = sha256_object (listing_with (key empty_sha256 "[\"v1/content
 -- one file, by sha512
 abbrev pub sha512_file : Tree
 sha512_file = sha512_object (inventory "sha512" (keys (key abc_sha512 "[\"v1/content/f\"]" ∷ [])) (codes "{}")) f_is_abc
+
+-- three objects, each with one file
+abbrev pub three_objects : Tree
+three_objects = storage_root (
+    object_in "o1" (listing lists_f) (folder "o1/v1" ∷ folder "o1/v1/content" ∷ text_at "o1/v1/content/f" "abc" ∷
+    object_in "o2" (listing lists_f) (folder "o2/v1" ∷ folder "o2/v1/content" ∷ text_at "o2/v1/content/f" "abc" ∷
+    object_in "o3" (listing lists_f) (folder "o3/v1" ∷ folder "o3/v1/content" ∷ text_at "o3/v1/content/f" "abc" ∷ []))))

@@ -92,6 +92,11 @@ two_wrong_digests : Reports (sha256_object (listing (key "Y%" "[\"v1/content/f\"
 unfolding audit_on_literals
 two_wrong_digests = refl
 
+-- as written, `B` stands before `a`
+wrong_digests_ascend_folded : Reports (sha256_object (listing (key "B" "[\"v1/content/f\"]" ∷ key "a" "[\"v1/content/f\"]" ∷ [])) f_is_abc) "ok\t.\t-\nE101\to\tv1/content/f\nE092\to/v1/content/f\tsha256 a ba7816bf8f01cfea414140de5dae2223b00361a396177a9cb410ff61f20015ad\nE092\to/v1/content/f\tsha256 b ba7816bf8f01cfea414140de5dae2223b00361a396177a9cb410ff61f20015ad\n"
+unfolding audit_on_literals
+wrong_digests_ascend_folded = refl
+
 -- one digest in either case of letters is one
 same_wrong_digest_twice : Reports (sha256_object (listing (key "x" "[\"v1/content/f\"]" ∷ key "X" "[\"v1/content/f\"]" ∷ [])) f_is_abc) "ok\t.\t-\nE096\to\tx\nE101\to\tv1/content/f\nE092\to/v1/content/f\tsha256 x ba7816bf8f01cfea414140de5dae2223b00361a396177a9cb410ff61f20015ad\n"
 unfolding audit_on_literals

@@ -1,19 +1,21 @@
 -- Worked cases: the head of an object, but for the keys and paths of its inventory's tables.
 use Rattle.std.proofs.Common.{◌≡◌, [], ◌∷◌, ◌++◌, codes, refl, true, false, Some, None, take, replicate, length, nat_le}
 use Prim.Native.String.{String}
+use Rattle.serde_json.specs.Data.{null, no_members, member}
 use Rattle.ocfl_tree.specs.Place.{Text, Place}
 use Rattle.ocfl_tree.specs.Tree.{Tree}
 use Rattle.ocfl_report.specs.Line.{found, plain}
 use Rattle.ocfl_report.specs.declared.code.Code.TheVariants.{S02}
 use Rattle.ocfl_digest.specs.declared.algorithm.Algorithm.TheVariants.{Md5, Sha1, Sha256, Sha512_256}
 use Rattle.ocfl_inventory.specs.DigestText.{digest_of}
+use Rattle.ocfl_inventory.specs.Reading.{unsupported_in}
 use Rattle.ocfl_inventory.specs.Sidecar.{sidecar_of}
 use Rattle.ocfl_inventory.specs.Table.{table_of}
 use Rattle.ocfl_walk.specs.Zone.{inventory_at, table_at}
 use Rattle.ocfl_walk.specs.Head.{inventory_file_notes}
 use Rattle.ocfl_walk.specs.Audit.{audit}
 use Rattle.ocfl_scrub.proofs.OnLiterals.{audit_on_literals}
-use Rattle.ocfl_scrub.proofs.CaseTrees.{Reports, text_at, bytes_at, folder, link, storage_root, object, object_beside, right_sidecar_256, right_sidecar_512, sha256_object, sha512_object, f_is_abc, key, keys, inventory, listing, listing_with, lists_f, abc_sha256, abc_sha256_capitals}
+use Rattle.ocfl_scrub.proofs.CaseTrees.{Reports, text_at, bytes_at, folder, link, storage_root, object, object_beside, right_sidecar_256, right_sidecar_512, sha256_object, sha512_object, f_is_abc, key, keys, inventory, inventory_with, listing, listing_with, lists_f, abc_sha256, abc_sha256_capitals}
 
 -- ---- the declaration
 
@@ -240,7 +242,7 @@ text_behind_the_json = refl
 
 -- an inventory that lists `f`, with a `state` of these bytes
 abbrev with_state : Text → Text
-with_state state = codes "{\"digestAlgorithm\":\"sha256\",\"manifest\":" ++ keys lists_f ++ codes ",\"versions\":{\"v1\":{\"state\":" ++ state ++ codes "}}}"
+with_state state = inventory_with (key "digestAlgorithm" "\"sha256\"" ∷ (codes "\"manifest\":" ++ keys lists_f) ∷ (codes "\"state\":" ++ state) ∷ [])
 
 byte_that_is_no_utf8 : Reports (sha256_object (with_state (34 ∷ 0xFF ∷ 34 ∷ [])) f_is_abc) "ok\t.\t-\nE033\to\t-\n"
 unfolding audit_on_literals
@@ -254,24 +256,20 @@ lone_surrogate : Reports (sha256_object (with_state (codes "\"\\ud800\"")) []) "
 unfolding audit_on_literals
 lone_surrogate = refl
 
--- an inventory that lists `f`, with n arrays in each other at a key of its own
-abbrev with_arrays : Text → Text → Text
-with_arrays left right = codes "{\"digestAlgorithm\":\"sha256\",\"manifest\":" ++ keys lists_f ++ codes ",\"state\":" ++ left ++ right ++ codes "}"
-
-hundred_arrays : Reports (sha256_object (with_arrays (replicate 100 91) (replicate 100 93)) f_is_abc) "ok\t.\t-\nok\to\t-\nok\to/v1/content/f\t3\n"
+hundred_arrays : Reports (sha256_object (with_state (replicate 100 91 ++ replicate 100 93)) f_is_abc) "ok\t.\t-\nok\to\t-\nok\to/v1/content/f\t3\n"
 unfolding audit_on_literals
 hundred_arrays = refl
 
 -- with the inventory's own object 127
-deepest_nesting : Reports (sha256_object (with_arrays (replicate 126 91) (replicate 126 93)) f_is_abc) "ok\t.\t-\nok\to\t-\nok\to/v1/content/f\t3\n"
+deepest_nesting : Reports (sha256_object (with_state (replicate 126 91 ++ replicate 126 93)) f_is_abc) "ok\t.\t-\nok\to\t-\nok\to/v1/content/f\t3\n"
 unfolding audit_on_literals
 deepest_nesting = refl
 
-nesting_too_deep : Reports (sha256_object (with_arrays (replicate 127 91) (replicate 127 93)) f_is_abc) "ok\t.\t-\nE033\to\t-\n"
+nesting_too_deep : Reports (sha256_object (with_state (replicate 127 91 ++ replicate 127 93)) f_is_abc) "ok\t.\t-\nE033\to\t-\n"
 unfolding audit_on_literals
 nesting_too_deep = refl
 
-two_hundred_arrays : Reports (sha256_object (with_arrays (replicate 200 91) (replicate 200 93)) f_is_abc) "ok\t.\t-\nE033\to\t-\n"
+two_hundred_arrays : Reports (sha256_object (with_state (replicate 200 91 ++ replicate 200 93)) f_is_abc) "ok\t.\t-\nE033\to\t-\n"
 unfolding audit_on_literals
 two_hundred_arrays = refl
 
@@ -281,7 +279,7 @@ empty_object_as_inventory : Reports (object_beside (codes "44136fa355b3678a1146a
 unfolding audit_on_literals
 empty_object_as_inventory = refl
 
-algorithm_is_a_number : Reports (sha256_object (codes "{\"digestAlgorithm\":7,\"manifest\":{}}") []) "ok\t.\t-\nS03\to\tdigestAlgorithm\n"
+algorithm_is_a_number : Reports (sha256_object (inventory_with (key "digestAlgorithm" "7" ∷ key "manifest" "{}" ∷ [])) []) "ok\t.\t-\nS03\to\tdigestAlgorithm\n"
 unfolding audit_on_literals
 algorithm_is_a_number = refl
 
@@ -311,7 +309,7 @@ algorithm_twice = refl
 
 -- an inventory with a content directory of this JSON
 abbrev with_content : String → Text
-with_content d = codes "{\"digestAlgorithm\":\"sha256\",\"contentDirectory\":" ++ codes d ++ codes ",\"manifest\":{}}"
+with_content d = inventory_with (key "digestAlgorithm" "\"sha256\"" ∷ key "contentDirectory" d ∷ key "manifest" "{}" ∷ [])
 
 content_directory_with_slash : Reports (sha256_object (with_content "\"a/b\"") []) "ok\t.\t-\nE017\to\ta/b\n"
 unfolding audit_on_literals
@@ -340,7 +338,7 @@ content_directory_is_a_number = refl
 
 -- ---- the manifest and the fixity block as values
 
-no_manifest : Reports (sha256_object (codes "{\"digestAlgorithm\":\"sha256\",\"fixity\":7}") []) "ok\t.\t-\nE041\to\tmanifest\n"
+no_manifest : Reports (sha256_object (inventory_with (key "digestAlgorithm" "\"sha256\"" ∷ key "fixity" "7" ∷ [])) []) "ok\t.\t-\nE041\to\tmanifest\n"
 unfolding audit_on_literals
 no_manifest = refl
 
@@ -389,3 +387,7 @@ unsupported_fixity_is_no_finding = refl
 two_unsupported_fixities : Reports (sha256_object (listing_with lists_f (codes "{\"sha3\":[],\"blake2b-512\":{\"x\":[\"/x\"]},\"MD5\":7}")) f_is_abc) "ok\t.\t-\nS07\to\tMD5\nS07\to\tblake2b-512\nS07\to\tsha3\nok\to/v1/content/f\t3\n"
 unfolding audit_on_literals
 two_unsupported_fixities = refl
+
+-- ascending of itself, in whatever order a reading has the keys; a supported one is left out
+unsupported_keys_in_another_order : unsupported_in (member (codes "sha3") null (member (codes "md5") null (member (codes "blake2b-512") null no_members))) ≡ codes "blake2b-512" ∷ codes "sha3" ∷ []
+unsupported_keys_in_another_order = refl

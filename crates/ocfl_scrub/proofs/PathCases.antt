@@ -27,6 +27,11 @@ two_digests_twice_ascending : Reports (sha256_object (listing (key empty_sha256 
 unfolding audit_on_literals
 two_digests_twice_ascending = refl
 
+-- as written, `BA` stands before `aB`
+repeated_digests_ascend_folded : Reports (sha256_object (listing (key "BA" "[]" ∷ key "ba" "[]" ∷ key "aB" "[]" ∷ key "ab" "[]" ∷ [])) []) "ok\t.\t-\nE096\to\tab\nE096\to\tba\n"
+unfolding audit_on_literals
+repeated_digests_ascend_folded = refl
+
 -- one line for a digest, whatever its letters are
 any_key_three_times : Reports (sha256_object (listing (key "xy" "[]" ∷ key "xY" "[]" ∷ key "XY" "[]" ∷ [])) []) "ok\t.\t-\nE096\to\txy\n"
 unfolding audit_on_literals

@@ -1,5 +1,5 @@
 -- Worked cases: the storage root, the hierarchy, and the text of places.
-use Rattle.std.proofs.Common.{◌≡◌, ◌<◌, arith, ℕ, [], ◌∷◌, ◌++◌, codes, refl, Bool, true, false, ◌&&◌, nat_le, if◌then◌else◌, length, replicate, Some}
+use Rattle.std.proofs.Common.{◌≡◌, ◌<◌, arith, ℕ, [], ◌∷◌, ◌++◌, codes, refl, Bool, true, false, ◌&&◌, nat_le, if◌then◌else◌, length, replicate, Some, None}
 use Rattle.std.specs.declared.cmp.Ordering.TheVariants.{Less}
 use Rattle.ocfl_tree.specs.Place.{Text, Place, place_cmp, text_cmp}
 use Rattle.ocfl_tree.specs.Tree.{Tree, file, dir, other, is_dir, files_in}
@@ -11,8 +11,8 @@ use Rattle.ocfl_digest.specs.declared.algorithm.Algorithm.TheVariants.{Sha256}
 use Rattle.ocfl_inventory.specs.Declaration.{undeclared, declared}
 use Rattle.ocfl_inventory.specs.declared.declaration.Level.TheVariants.{Object}
 use Rattle.ocfl_inventory.specs.Table.{Table}
-use Rattle.ocfl_walk.specs.Zone.{is_entered, is_listed_zone, zone, object_declared}
-use Rattle.ocfl_walk.specs.Lines.{hierarchy_notes, object_entry_notes, version_entry_notes, content_notes}
+use Rattle.ocfl_walk.specs.Zone.{hierarchy, is_entered, is_listed_zone, zone, object_declared, seen}
+use Rattle.ocfl_walk.specs.Lines.{notes, hierarchy_notes, object_entry_notes, version_entry_notes, content_notes}
 use Rattle.ocfl_walk.specs.Audit.{audit}
 use Rattle.ocfl_scrub.proofs.OnLiterals.{audit_on_literals}
 use Rattle.ocfl_scrub.proofs.CaseTrees.{Reports, place, text_at, bytes_at, folder, link, storage_root}
@@ -201,6 +201,10 @@ deepest_empty_directory = refl
 
 directory_too_deep : (root : Tree) → hierarchy_notes root (deep 128) (Some dir) ≡ plain S05 ∷ []
 directory_too_deep root = refl
+
+-- also in the audit, wherever one is seen in the hierarchy
+seen_directory_too_deep : (root : Tree) → zone root (deep 128) ≡ hierarchy → seen root (deep 128) ≡ Some dir → notes root None (deep 128) ≡ plain S05 ∷ []
+seen_directory_too_deep root where_it_lies is_seen = rw (where_it_lies, is_seen)
 
 -- files and links there have their lines
 deepest_file_and_link : (root : Tree) (bytes : Text) → (hierarchy_notes root (deep 128) (Some (file bytes)) ≡ plain E072 ∷ []) × (hierarchy_notes root (deep 128) (Some other) ≡ plain S04 ∷ [])

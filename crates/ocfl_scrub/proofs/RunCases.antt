@@ -9,7 +9,7 @@ use Rattle.ocfl_walk.specs.Audit.{audit, after, total_cost}
 use Rattle.ocfl_walk.specs.Trail.{inventories}
 use Rattle.ocfl_scrub.specs.Runs.{cut, left, runs, joined}
 use Rattle.ocfl_scrub.proofs.OnLiterals.{audit_on_literals}
-use Rattle.ocfl_scrub.proofs.CaseTrees.{place, text_at, folder, storage_root, object_in, sha256_object, f_is_abc, key, listing, lists_f, three_files, missing_and_right, sha512_file, abc_sha256}
+use Rattle.ocfl_scrub.proofs.CaseTrees.{place, text_at, folder, storage_root, sha256_object, f_is_abc, key, listing, lists_f, three_files, three_objects, missing_and_right, sha512_file, abc_sha256}
 
 -- the texts of the runs that these budgets make
 abbrev texts : Tree → List ℕ → List Text
@@ -167,12 +167,6 @@ unfolding audit_on_literals
 behind_the_slash = refl
 
 -- ---- three objects
-
-abbrev three_objects : Tree
-three_objects = storage_root (
-    object_in "o1" (listing lists_f) (folder "o1/v1" ∷ folder "o1/v1/content" ∷ text_at "o1/v1/content/f" "abc" ∷
-    object_in "o2" (listing lists_f) (folder "o2/v1" ∷ folder "o2/v1/content" ∷ text_at "o2/v1/content/f" "abc" ∷
-    object_in "o3" (listing lists_f) (folder "o3/v1" ∷ folder "o3/v1/content" ∷ text_at "o3/v1/content/f" "abc" ∷ []))))
 
 -- a run goes on to the head of the next object
 runs_over_three_objects : texts three_objects (replicate 4 1) ≡ codes "ok\t.\t-\nok\to1\t-\nok\to1/v1/content/f\t3\nok\to2\t-\n" ∷ codes "ok\to2/v1/content/f\t3\nok\to3\t-\n" ∷ codes "ok\to3/v1/content/f\t3\n" ∷ []

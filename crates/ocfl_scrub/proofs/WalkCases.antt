@@ -6,7 +6,7 @@ use Rattle.ocfl_tree.specs.Tree.{Tree}
 use Rattle.ocfl_report.specs.Text.{text}
 use Rattle.ocfl_walk.specs.Walk.{walk, taken, lists, listed_at}
 use Rattle.ocfl_scrub.proofs.OnLiterals.{audit_on_literals}
-use Rattle.ocfl_scrub.proofs.CaseTrees.{place, text_at, folder, storage_root, object_in, listing, lists_f, missing_and_right, sha512_file}
+use Rattle.ocfl_scrub.proofs.CaseTrees.{place, text_at, folder, storage_root, missing_and_right, three_objects, sha512_file}
 
 -- what a walk that enters a tree at a place takes from there on
 abbrev Takes : Tree → String → String → Type 0
@@ -69,12 +69,6 @@ listed_at_the_head = (refl, refl)
 listed_at_the_file : (taken_of_one_file 7 ≡ codes "ok\to\t-\n") × (taken_of_one_file 8 ≡ codes "ok\to\t-\nok\to/v1/content/f\t3\n") × (listed_of_one_file 8 ≡ place "o" ∷ place "o/v1" ∷ place "o/v1/content" ∷ [])
 unfolding audit_on_literals
 listed_at_the_file = (refl, refl, refl)
-
-abbrev three_objects : Tree
-three_objects = storage_root (
-    object_in "o1" (listing lists_f) (folder "o1/v1" ∷ folder "o1/v1/content" ∷ text_at "o1/v1/content/f" "abc" ∷
-    object_in "o2" (listing lists_f) (folder "o2/v1" ∷ folder "o2/v1/content" ∷ text_at "o2/v1/content/f" "abc" ∷
-    object_in "o3" (listing lists_f) (folder "o3/v1" ∷ folder "o3/v1/content" ∷ text_at "o3/v1/content/f" "abc" ∷ []))))
 
 -- the root and the second object, and nothing of the first
 listed_on_entering : map (λ f. f.0) (listed_at three_objects [] (place "o2") []) ≡ place "o2" ∷ [] ∷ []

@@ -1,2 +1,26 @@
-//! Cursors: where the next run begins.
+//! Cursors: where the next run begins, and what a run may spend.
 #![tactic(auto)]
+
+mod cursor;
+mod decoding;
+mod encoding;
+mod form;
+mod laws;
+mod meter;
+mod number;
+mod pieces;
+mod reading;
+mod refused;
+mod seal;
+mod state;
+#[cfg(test)]
+mod tests;
+
+pub use cursor::Cursor;
+pub use decoding::decode;
+pub use encoding::encode;
+pub use laws::{cursor_reads_back, text_determines_the_cursor};
+pub use meter::{Budget, Meter};
+pub use reading::{CursorStop, read_cursor};
+pub use refused::Refused;
+pub use state::State;

@@ -1,1 +1,5 @@
 pub mod Names
+pub mod HashersLemmas
+pub mod Reading
+pub mod HashingLemmas
+pub mod BoundedLemmas

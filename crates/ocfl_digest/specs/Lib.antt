@@ -1,2 +1,9 @@
 pub mod Algorithm
 pub mod Digest
+pub mod Wanted
+pub mod Digests
+pub mod Hashers
+pub mod Pieces
+pub mod Stop
+pub mod Hashing
+pub mod Bounded

@@ -1,1 +1,17 @@
 pub mod SidecarLaws
+pub mod Sidecars
+pub mod Declarations
+pub mod Blocks
+pub mod Stops
+pub mod Runs
+pub mod Once
+pub mod Beginnings
+pub mod TextOrder
+pub mod PathTexts
+pub mod SeenRuns
+pub mod PathOrders
+pub mod Kept
+pub mod TableSearch
+pub mod Gatherings
+pub mod TripleOrders
+pub mod Inventories

@@ -5,3 +5,14 @@ pub mod Reading
 pub mod ListedPath
 pub mod Table
 pub mod Notes
+pub mod Sums
+pub mod Entries
+pub mod Beside
+pub mod Parts
+pub mod PathOrder
+pub mod TripleOrder
+pub mod TripleView
+pub mod NextPath
+pub mod Gathered
+pub mod ListsOf
+pub mod ReadInventory

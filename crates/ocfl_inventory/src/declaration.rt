@@ -1,3 +1,11 @@
+//! Which version a directory declares.
+ghost use Rattle.std.specs.Prelude.{◌≡◌, ◌≤◌, length, true};
+ghost use Rattle.ocfl_inventory.specs.Declaration.{prefix as level_prefix, begins_with_digit, after_prefix, is_declaration, declared as declared_of};
+ghost use Rattle.ocfl_inventory.specs.Entries.{is_counted, IsNext, IsVersionOf, meaning, file_names, PointsAtOne};
+ghost use Rattle.ocfl_tree.specs.Place.{text_eq};
+
+use ocfl_tree::{Entry, Kind};
+
 /// Where a declaration stands: in the storage root, or in an object root.
 #[derive(Clone, Copy, Debug, PartialEq, Eq)]
 pub enum Level {
@@ -10,4 +18,122 @@ pub enum Level {
 pub enum Version {
     V1_0,
     V1_1,
+}
+
+/// What a directory declares.
+#[derive(Clone, Copy, Debug, PartialEq, Eq)]
+pub enum Declared {
+    /// No file is a declaration.
+    None,
+    /// One file declares a known version.
+    One(Version),
+    /// One file declares a version that is not known: its index among the entries.
+    Unknown(usize),
+    /// Two or more files are declarations.
+    Several,
+}
+
+/// What the names of declarations begin with.
+fn prefix(level: Level) -> &'static [u8]
+    ensures { result.now ≡ level_prefix level }
+{
+    match level {
+        Level::Root => b"0=ocfl_",
+        Level::Object => b"0=ocfl_object_",
+    }
+}
+
+fn is_digit_first(bytes: &[u8]) -> bool
+    ensures { result ≡ begins_with_digit bytes.now }
+{
+    match bytes {
+        [first, ..] => first.is_ascii_digit(),
+        [] => false,
+    }
+}
+
+/// What stands behind as many bytes as the prefix has.
+fn behind_prefix(level: Level, name: &[u8]) -> &[u8]
+    requires { length (level_prefix level) ≤ length name.now }
+    ensures { result.now ≡ after_prefix level name.now }
+{
+    let (_, rest) = name.split_at(prefix(level).len());
+    rest
+}
+
+fn is_declaration_name(level: Level, name: &[u8]) -> bool
+    ensures { result ≡ is_declaration level name.now }
+{
+    if !name.starts_with(prefix(level)) {
+        return false;
+    }
+    is_digit_first(behind_prefix(level, name))
+}
+
+fn is_declaration_entry(level: Level, entry: &Entry) -> bool
+    ensures { result ≡ is_counted level entry.now }
+{
+    match entry.kind {
+        Kind::File => is_declaration_name(level, entry.name.as_str().as_bytes()),
+        Kind::Dir | Kind::Other => false,
+    }
+}
+
+/// The index of the first declaration at or behind an index.
+fn next_declaration(entries: &[Entry], level: Level, from: usize) -> Option<usize>
+    ensures { IsNext level entries.now from result }
+{
+    for index in from..entries.len() {
+        if is_declaration_entry(level, &entries[index]) {
+            return Some(index);
+        }
+    }
+    None
+}
+
+fn is_text(bytes: &[u8], text: &[u8]) -> bool
+    ensures { result ≡ text_eq bytes.now text.now }
+{
+    bytes == text
+}
+
+fn known_version(text: &[u8]) -> Option<Version>
+    ensures { IsVersionOf text.now result }
+{
+    if is_text(text, b"1.0") {
+        return Some(Version::V1_0);
+    }
+    if is_text(text, b"1.1") {
+        return Some(Version::V1_1);
+    }
+    None
+}
+
+/// The version that a declaration's name names.
+fn version_of(level: Level, entry: &Entry) -> Option<Version>
+    requires { is_counted level entry.now ≡ true }
+    ensures { IsVersionOf (after_prefix level entry.now.name) result }
+{
+    known_version(behind_prefix(level, entry.name.as_str().as_bytes()))
+}
+
+/// What the files among the entries of a directory declare (OCFL 1.1, 4.2 Root Conformance Declaration and 3.2 Object
+/// Conformance Declaration).
+///
+/// The entries may stand in any order. A file counts whose name is `0=ocfl_` (in the storage root) or `0=ocfl_object_`
+/// (in an object root) and then begins with an ASCII digit; known are `1.0` and `1.1`. Takes no memory.
+pub fn declaration(entries: &[Entry], level: Level) -> Declared
+    ensures declared { meaning level entries.now result ≡ declared_of level (file_names entries.now) }
+    ensures unknown { PointsAtOne level entries.now result }
+{
+    let Some(first) = next_declaration(entries, level, 0) else {
+        return Declared::None;
+    };
+    if next_declaration(entries, level, first + 1).is_some() {
+        return Declared::Several;
+    }
+    match version_of(level, &entries[first]) {
+        Some(version) => Declared::One(version),
+        None => Declared::Unknown(first),
+    }
 }

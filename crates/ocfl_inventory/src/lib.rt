@@ -1,7 +1,29 @@
 //! What declarations, sidecars and inventories say.
 #![tactic(auto)]
 
-mod declaration;
-pub mod laws;
+mod block;
+mod claims;
+mod conflicts;
+pub mod declaration;
+mod gather;
+mod keys;
+mod laws;
+mod listing;
+mod note;
+mod notes;
+mod order;
+mod paths;
+mod reading;
+mod sums;
+mod table;
+mod texts;
+mod triple;
 
-pub use declaration::{Level, Version};
+pub use declaration::{Declared, Level, Version};
+pub use reading::algorithm_of;
+pub use sums::{Sum, sidecar};
+pub use table::Table;
+pub use triple::Named;
+
+#[cfg(test)]
+mod tests;

@@ -7,7 +7,7 @@ use percent_encoding::{AsciiSet, CONTROLS, ascii_set, percent_encode};
 use std::alloc::AllocError;
 
 /// The ASCII bytes that are escaped: the controls, DEL among them, and `%`. The bytes outside ASCII always are.
-const ESCAPED: AsciiSet = ascii_set!(CONTROLS.add(b'%'));
+pub(crate) const ESCAPED: AsciiSet = ascii_set!(CONTROLS.add(b'%'));
 
 /// Appends the text with each control, `%`, DEL and byte outside ASCII as `%` and two capital hexadecimal digits.
 ///

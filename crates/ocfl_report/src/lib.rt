@@ -2,6 +2,7 @@
 #![tactic(auto)]
 
 mod code;
+mod display;
 mod escaped;
 pub mod laws;
 mod line;
@@ -9,6 +10,7 @@ mod output;
 mod path;
 
 pub use code::Code;
+pub use display::DisplayPlace;
 pub use line::Line;
 pub use output::{OutStop, write_all_of};
 pub use path::{PlaceStop, put_place, read_place};

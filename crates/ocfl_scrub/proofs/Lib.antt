@@ -9,3 +9,4 @@ pub mod UnreadCases
 pub mod RunCases
 pub mod WalkCases
 pub mod CursorCases
+pub mod CheckLaws

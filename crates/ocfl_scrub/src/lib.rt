@@ -1,4 +1,14 @@
 //! Runs of the audit of a storage root, each within a budget.
 #![tactic(auto)]
 
+mod checking;
+mod command;
 pub mod laws;
+mod note;
+
+pub use checking::{CheckEnd, End, check};
+pub use command::checked;
+pub use note::Note;
+
+#[cfg(test)]
+mod tests;

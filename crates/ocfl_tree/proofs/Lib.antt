@@ -1,3 +1,11 @@
+pub mod Changes
+pub mod Listings
+pub mod Lists
 pub mod Names
 pub mod Orders
+pub mod Places
+pub mod Reading
+pub mod Rising
+pub mod Seen
 pub mod Stores
+pub mod Trees

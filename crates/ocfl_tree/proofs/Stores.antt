@@ -1,5 +1,5 @@
 -- Calls of a store, one after the other.
-use Rattle.std.proofs.Common.{◌≡◌, List, ◌++◌, ◌∙◌, ap, ℕ, ◌+◌, arith, append_assoc}
+use Rattle.std.proofs.Common.{List, ◌++◌, ◌∙◌, ap, ℕ, ◌+◌, arith, append_assoc}
 use Rattle.ocfl_tree.specs.Place.{Place}
 use Rattle.ocfl_tree.specs.Store.{Store, Did}
 use Rattle.ocfl_tree.specs.declared.store.Opening.{Opening}

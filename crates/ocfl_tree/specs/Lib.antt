@@ -3,3 +3,10 @@ pub mod Ascending
 pub mod Name
 pub mod Tree
 pub mod Store
+pub mod Listing
+pub mod Calls
+pub mod Reading
+pub mod Faults
+pub mod MemTree
+pub mod Nodes
+pub mod Kept

@@ -1,11 +1,26 @@
 //! Names and places in an OCFL storage root, and what lies there.
 #![tactic(auto)]
 
-mod laws;
+mod build;
+mod fs_tree;
+pub mod laws;
+mod mem_tree;
 mod name;
+mod nodes;
+mod openings;
 mod place;
+mod plan;
 mod store;
+mod tree;
 
+pub use build::BuildStop;
+pub use fs_tree::FsTree;
+pub use mem_tree::MemTree;
 pub use name::{Name, NameStop};
 pub use place::Place;
+pub use plan::Point;
 pub use store::{Entry, Kind, Opening, Trouble};
+pub use tree::Tree;
+
+#[cfg(test)]
+mod tests;

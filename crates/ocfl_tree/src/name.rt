@@ -8,7 +8,8 @@ use std::alloc::{AllocError, Global};
 use std::cmp::Ordering;
 use std::marker::Model;
 
-/// The name of an entry of a directory.
+/// The name of an entry of a directory: text of 1 to 255 bytes without `/` and NUL that is neither `.` nor `..`.
+/// Its value in clauses: its bytes.
 #[derive(Debug, Drop)]
 pub struct Name {
     text: String,
@@ -25,7 +26,7 @@ impl Model for Name {
     ghost invariant = { λ a. IsName (string_bytes a.text) };
 }
 
-/// Why a text is not made a name.
+/// Why a text is not made a name: it is none, or memory was refused.
 #[derive(Clone, Copy, Debug, PartialEq, Eq)]
 pub enum NameStop {
     Bad,
@@ -44,6 +45,7 @@ fn has_name_bytes(text: &str) -> bool
 }
 
 impl Name {
+    /// The name of this text. `Bad` exactly where the text is no name.
     pub fn new(alloc: Global, text: &str) -> Result<Name, NameStop>
         ensures named { IfOk result (λ name. name ≡ text.now) }
         ensures ok { OnOk result (IsName text.now) }
@@ -58,6 +60,7 @@ impl Name {
         }
     }
 
+    /// The text of the name.
     pub fn as_str(&self) -> &str
         ensures value { result.now ≡ self.now }
         ensures name { IsName self.now }
@@ -65,6 +68,7 @@ impl Name {
         self.text.as_str()
     }
 
+    /// The same name again. The only error is want of memory.
     pub fn try_clone(&self) -> Result<Name, AllocError>
         ensures { IfOk result (λ name. name ≡ self.now) }
     {

@@ -10,7 +10,8 @@ use std::alloc::{AllocError, Global};
 use std::cmp::Ordering;
 use std::marker::Model;
 
-/// A list of names from the root.
+/// The names that lead from the storage root to something in it, none for the root itself (OCFL 1.1, 4.1 Root Structure).
+/// Its value in clauses: the list of the names' bytes.
 #[derive(Debug, Drop)]
 pub struct Place {
     names: Vec<Name>,
@@ -28,6 +29,7 @@ impl Model for Place {
 }
 
 impl Place {
+    /// The storage root, which takes no memory.
     pub fn root(alloc: Global) -> Place
         ensures { result ≡ [] }
     {
@@ -36,6 +38,7 @@ impl Place {
         }
     }
 
+    /// Adds a name at the end. The only error is want of memory, which leaves the place as it was.
     pub fn push(&mut self, name: Name) -> Result<(), AllocError>
         ensures ok { OnOk result (self.new ≡ self.old ++ name ∷ []) }
         ensures err { OnErr result (self.new ≡ self.old) }
@@ -45,6 +48,7 @@ impl Place {
         Ok(())
     }
 
+    /// The names, from the root down.
     pub fn names(&self) -> &[Name]
         ensures value { result.now ≡ self.now }
         ensures names { IsPlace self.now }
@@ -52,6 +56,7 @@ impl Place {
         self.names.as_slice()
     }
 
+    /// The same place again. The only error is want of memory.
     pub fn try_clone(&self) -> Result<Place, AllocError>
         ensures { IfOk result (λ place. place ≡ self.now) }
     {

@@ -1,5 +1,9 @@
+ghost use Rattle.std.specs.Prelude.{◌≡◌};
+ghost use Rattle.ocfl_tree.specs.declared.store.Trouble.TheVariants.{Memory};
+
 use crate::name::Name;
 use crate::place::Place;
+use std::alloc::{AllocError, AllocFailed};
 
 /// What an entry of a directory is. A link is `Other`, and so is everything that is neither a file nor a directory.
 #[derive(Clone, Copy, Debug, PartialEq, Eq, PartialOrd, Ord)]
@@ -22,6 +26,22 @@ pub enum Trouble {
     Device,
     Absent,
     Memory,
+}
+
+impl From<AllocError> for Trouble {
+    ghost from_gives = { λ _ e. e ≡ Memory };
+
+    fn from(_error: AllocError) -> Trouble {
+        Trouble::Memory
+    }
+}
+
+impl<T: Drop> From<AllocFailed<T>> for Trouble {
+    ghost from_gives = { λ _ e. e ≡ Memory };
+
+    fn from(_error: AllocFailed<T>) -> Trouble {
+        Trouble::Memory
+    }
 }
 
 /// One opening of a file: how many bytes it gave, and whether the device failed in it.

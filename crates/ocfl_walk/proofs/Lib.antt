@@ -14,3 +14,15 @@ pub mod PublicLaws
 pub mod UnreadLaws
 pub mod Lists
 pub mod DueLaws
+pub mod LooksEntries
+pub mod LooksZones
+pub mod LooksCalls
+pub mod NamedLaws
+pub mod MissingLaws
+pub mod WantedLaws
+pub mod ContentLaws
+pub mod PendingLaws
+pub mod WrongLaws
+pub mod JudgeLaws
+pub mod Trails
+pub mod ItemLaws

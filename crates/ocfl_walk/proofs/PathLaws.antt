@@ -19,7 +19,7 @@ use Rattle.ocfl_walk.proofs.AuditExists.{zone_is, path_among}
 use Rattle.ocfl_walk.proofs.BelowLaws.{place_same}
 use Rattle.ocfl_walk.proofs.BoundLaws.{kept_paths, kept_short, table_from_inventory}
 use Rattle.ocfl_walk.proofs.UnreadLaws.{file_some}
-use Rattle.ocfl_walk.specs.Trail.{is_root_meta, is_meta, is_object_meta, is_meta_zone}
+use Rattle.ocfl_walk.specs.Trail.{is_root_meta, is_meta, is_meta_zone}
 
 filled : {A : Type 0} (x : A) (xs : List A) → x ∷ xs ≢ []
 filled x xs e = cc
@@ -72,7 +72,7 @@ notes_at : (root : Tree) (u : Option ℕ) (p : Place) → p ≢ [] → notes roo
 notes_at root u [] h = absurd (h refl)
 notes_at root u (n ∷ p) h = refl
 
-deep_path : (content : Text) (q : Place) → is_content_path content q ≡ true → (v : Text) × ((c : Text) × ((n : Text) × ((r : Place) × (q ≡ v ∷ c ∷ n ∷ r))))
+pub deep_path : (content : Text) (q : Place) → is_content_path content q ≡ true → (v : Text) × ((c : Text) × ((n : Text) × ((r : Place) × (q ≡ v ∷ c ∷ n ∷ r))))
 deep_path content [] h = absurd (true_not_false (sym h))
 deep_path content (v ∷ []) h = absurd (true_not_false (sym h))
 deep_path content (v ∷ c ∷ []) h = absurd (true_not_false (sym h))

@@ -5,3 +5,8 @@ pub mod Audit
 pub mod Due
 pub mod Trail
 pub mod Walk
+pub mod Looking
+pub mod Ways
+pub mod Judging
+pub mod Pending
+pub mod FileLines

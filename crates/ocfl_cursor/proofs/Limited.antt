@@ -1,0 +1,77 @@
+-- What the first bytes of a reader tell of all of them, where one more is read than a cursor's text can have.
+use Rattle.std.proofs.Common.{◌≡◌, ◌⊎◌, inl, inr, ℕ, ◌<◌, ◌≤◌, [], ◌++◌, nat_eq, nat_le, false, min, length, take, codes, Option, Some, None, IfSome, sym, ap, subst, ◌∙◌, arith, length-take}
+use Rattle.std.specs.List.{starts_with}
+use Rattle.std.specs.Option.{option_map}
+use Rattle.std.proofs.lemmas.Bool.{lt-leb, and_right, cases_lt}
+use Rattle.std.proofs.lemmas.List.{take_all}
+use Rattle.ocfl_tree.specs.Place.{Text}
+use Rattle.ocfl_cursor.specs.Cursor.{Cursor}
+use Rattle.ocfl_cursor.specs.Refusal.{Refusal, not_cursor, max_text, is_cursor_front, IsTextOf}
+use Rattle.ocfl_cursor.specs.Refused.{IsRefused, RefusedRightly}
+use Rattle.ocfl_cursor.specs.Stop.{StopsRightly}
+use Rattle.ocfl_cursor.specs.declared.refused.Refused.{Refused}
+use Rattle.ocfl_cursor.specs.declared.refused.Refused.TheVariants.{NotCursor, Version, Damaged, Malformed, Memory}
+use Rattle.ocfl_cursor.specs.declared.reading.CursorStop.{CursorStop}
+use Rattle.ocfl_cursor.specs.declared.reading.CursorStop.TheVariants.{Read, Refused as Refuses}
+use Rattle.ocfl_cursor.proofs.CursorTexts.{length-cursor_text}
+use Rattle.ocfl_cursor.proofs.Refusals.{refused_not_cursor}
+
+-- how many bytes are read at most
+abbrev pub limit : ℕ
+limit = 262145
+
+-- a text that is too long does not begin as a cursor's
+too_long : (b : Text) → max_text < length b → is_cursor_front b ≡ false
+too_long b l = and_right (starts_with nat_eq b (codes "ocfl-scrub cursor ")) (nat_le (length b) max_text) (lt-leb (length b) max_text l)
+
+-- what is read is a cursor's text only where it is all
+IsTextOf-limited : (b : Text) (c : Cursor) → IsTextOf (take limit b) c → IsTextOf b c
+IsTextOf-limited b c h =
+    let short : min limit (length b) < 196000 = read-short in
+    subst (λ t. IsTextOf t c) (take_all limit b (omega (arith, short))) h
+  where
+    read-short : min limit (length b) < 196000
+    read-short = omega (arith, length-take limit b, ap length h.is, length-cursor_text c h.keeps)
+
+-- what is read is refused for the same reason as all of it
+IsRefused-limited : (b : Text) (r : Refusal) → IsRefused (take limit b) r → IsRefused b r
+IsRefused-limited b r h = by (cases_lt limit (length b))
+  where
+    by : (limit < length b) ⊎ (length b ≤ limit) → IsRefused b r
+    by (inr l) = subst (λ t. IsRefused t r) (take_all limit b l) h
+    by (inl l) =
+        let part : max_text < length (take limit b) = omega (arith, length-take limit b) in
+        let same : not_cursor ≡ r = sym (refused_not_cursor (take limit b) (too_long (take limit b) part)).reason ∙ h.reason in
+        subst (IsRefused b) same (refused_not_cursor b (too_long b (omega arith)))
+
+RefusedRightly-limited : (b : Text) (e : Refused) → RefusedRightly (take limit b) e → RefusedRightly b e
+RefusedRightly-limited b NotCursor h = IsRefused-limited b _ h
+RefusedRightly-limited b Version h = IsRefused-limited b _ h
+RefusedRightly-limited b Damaged h = IsRefused-limited b _ h
+RefusedRightly-limited b Malformed h = IsRefused-limited b _ h
+RefusedRightly-limited b Memory h = tt
+
+-- ---- of a reader's bytes, where they are known
+
+-- the bytes that were read are the first of those
+abbrev pub IsRead : Option Text → Text → Type 0
+IsRead known read = IfSome known (λ b. read ≡ take limit b)
+
+-- as reading to the end tells
+pub IsRead-to_end : (known : Option Text) (n : ℕ) (read before : Text) → n ≡ limit → before ≡ [] → IfSome (option_map (take n) known) (λ t. read ≡ before ++ t) → IsRead known read
+IsRead-to_end None n read before l e h = tt
+IsRead-to_end (Some b) n read before l e h = h ∙ (λ i. e i ++ take (l i) b)
+
+pub IsTextOf-read : (known : Option Text) (read : Text) (c : Cursor) → IsRead known read → IsTextOf read c → IfSome known (λ b. IsTextOf b c)
+IsTextOf-read None read c is h = tt
+IsTextOf-read (Some b) read c is h = IsTextOf-limited b c (subst (λ t. IsTextOf t c) is h)
+
+pub StopsRightly-read : (known : Option Text) (read : Text) (e : Refused) → IsRead known read → RefusedRightly read e → IfSome known (λ b. StopsRightly b (Refuses e))
+StopsRightly-read None read e is h = tt
+StopsRightly-read (Some b) read e is h = RefusedRightly-limited b e (subst (λ t. RefusedRightly t e) is h)
+
+-- a stop that comes before any bytes are refused says nothing of them
+pub StopsRightly-early : (known : Option Text) (stop : CursorStop) → (stop ≡ Read) ⊎ (stop ≡ Refuses Memory) → IfSome known (λ b. StopsRightly b stop)
+StopsRightly-early None stop h = tt
+StopsRightly-early (Some b) stop (inl e) = subst (StopsRightly b) (sym e) tt
+StopsRightly-early (Some b) stop (inr e) = subst (StopsRightly b) (sym e) tt

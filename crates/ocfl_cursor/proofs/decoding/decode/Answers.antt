@@ -1,0 +1,16 @@
+use Rattle.std.proofs.Common.{sym}
+use Rattle.ocfl_cursor.proofs.Refusals.{refused_not_cursor, refused_damaged, refused_after_seal, known_version-from_rest}
+use Rattle.ocfl_cursor.proofs.decoding.decode.Goals as goal
+
+pub returns-in_default-clause-refused : goal.returns-in_default-clause-refused
+returns-in_default-clause-refused c = refused_not_cursor c.args.text.now (sym c.in_default.ensures.found)
+
+pub returns-in-None-clause-refused : goal.returns-in-None-clause-refused
+returns-in-None-clause-refused c =
+    let known = known_version-from_rest c.args.text.now c.in-Some.rest.now _ _ c.in-Some.ensures.rest c.begins_with_version.ensures c.if-not-begins_with_version.false in
+    refused_damaged c.args.text.now (sym c.in-Some.ensures.found) known (sym c.in-None.ensures.sealed)
+
+pub returns-in-Some-sealed_body-clause-refused : goal.returns-in-Some-sealed_body-clause-refused
+returns-in-Some-sealed_body-clause-refused c =
+    let known = known_version-from_rest c.args.text.now c.in-Some.rest.now _ _ c.in-Some.ensures.rest c.begins_with_version.ensures c.if-not-begins_with_version.false in
+    refused_after_seal c.args.text.now c.in-Some-sealed_body.body.now c.read_body.result (sym c.in-Some.ensures.found) known c.in-Some-sealed_body.ensures.found c.read_body.ensures.errors c.read_body.ensures.malformed

@@ -1,0 +1,21 @@
+use Rattle.std.proofs.Common.{refl, ◌∙◌}
+use Rattle.std.proofs.lemmas.Bool.{false≢true}
+use Rattle.std.proofs.lemmas.Result.{err_from_is_err_and}
+use Rattle.ocfl_cursor.specs.declared.refused.Refused.TheVariants.{Malformed}
+use Rattle.ocfl_cursor.proofs.Options.{passed_on}
+use Rattle.ocfl_cursor.proofs.CursorTexts.{CountsFit-cursor, cursor_body_parts, IsStateLine-read, no_cursor_of-parts}
+use Rattle.ocfl_cursor.proofs.decoding.read_body.Goals as goal
+
+pub returns-in_default-clause-malformed : goal.returns-in_default-clause-malformed
+returns-in_default-clause-malformed c = λ e d h. c.in_default.ensures.missing refl d.cycle d.runs d.spent _ (CountsFit-cursor d h.keeps) (h.is ∙ cursor_body_parts d)
+
+pub returns-in_err-state-clause-malformed : goal.returns-in_err-state-clause-malformed
+returns-in_err-state-clause-malformed c = λ e d h.
+    let counts = c.in-Some.counts in
+    let passed = err_from_is_err_and c.from_residual.result c.from_residual.ensures.1 in
+    c.in_err-state.ensures.malformed (passed_on c.from_residual.result passed.0 c.in_err-state.field-0.0 Malformed passed.1 passed.2 e) d.state (IsStateLine-read c.args.body.now c.in-Some.line.now counts.cycle counts.runs counts.spent d c.in-Some.ensures.fits c.in-Some.ensures.found h)
+
+pub returns-in-None-clause-malformed : goal.returns-in-None-clause-malformed
+returns-in-None-clause-malformed c = λ e d h.
+    let counts = c.in-Some.counts in
+    no_cursor_of-parts c.args.body.now c.in-Some.line.now counts.cycle counts.runs counts.spent _ c.in-Some.ensures.fits c.in-Some.ensures.found c.in_ok-state.ensures.state (λ k. false≢true (c.in-None.ensures.keeps.1 k)) d h

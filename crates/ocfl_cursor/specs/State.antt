@@ -1,0 +1,13 @@
+-- What the parts of a cursor say.
+use Rattle.std.specs.Prelude.{ℕ}
+use Rattle.ocfl_cursor.specs.Cursor.{State, start, behind, ended, Cursor}
+use Rattle.ocfl_cursor.specs.declared.state.State.{State as MadeState}
+use Rattle.ocfl_cursor.specs.declared.state.State.TheVariants.{Start, After, Ended}
+
+abbrev pub state_of : MadeState → State
+state_of Start = start
+state_of (After p) = behind p
+state_of Ended = ended
+
+abbrev pub cursor_of : ℕ → ℕ → ℕ → MadeState → Cursor
+cursor_of cycle runs spent state = record { cycle = cycle; runs = runs; spent = spent; state = state_of state }

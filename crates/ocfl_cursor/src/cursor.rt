@@ -1,0 +1,123 @@
+ghost use Rattle.std.specs.Prelude.{◌≡◌, ◌↔◌, ◌+◌, ◌<◌, ◌^◌, IsSome, IfSome, IsNone};
+ghost use Rattle.ocfl_cursor.specs.Cursor.{IsCursor, new_cursor};
+ghost use Rattle.ocfl_cursor.specs.State.{state_of, cursor_of};
+ghost use Rattle.ocfl_cursor.specs.Moves.{next_cycle, after_run};
+
+use crate::state::{State, is_short};
+use std::marker::Model;
+
+/// What one run leaves for the next: the cycle (1 to 2^64 - 1), how many runs it has had, what they
+/// have spent (at most 2^63 a run), and where the next run begins.
+#[derive(Debug, Drop)]
+pub struct Cursor {
+    cycle: u64,
+    runs: u64,
+    spent: u128,
+    state: State,
+}
+
+impl Model for Cursor {
+    ghost use Rattle.ocfl_cursor.specs.Cursor.{Cursor, IsCursor};
+    ghost use Rattle.ocfl_cursor.specs.State.{cursor_of};
+
+    ghost Value = { Cursor };
+
+    ghost view = { λ a. cursor_of a.cycle a.runs a.spent a.state };
+
+    ghost invariant = { λ a. ∥ IsCursor (cursor_of a.cycle a.runs a.spent a.state) ∥₁ };
+}
+
+impl Default for Cursor {
+    ghost is_default = { λ cursor. cursor ≡ new_cursor };
+
+    fn default() -> Cursor {
+        Cursor::new()
+    }
+}
+
+impl Cursor {
+    /// The cursor of the first cycle, before its first run.
+    pub fn new() -> Cursor
+        ensures { result ≡ new_cursor }
+    {
+        Cursor {
+            cycle: 1,
+            runs: 0,
+            spent: 0,
+            state: State::Start,
+        }
+    }
+
+    /// The cursor with these parts, or `None` where none has them: the cycle is 0, more than 2^63
+    /// is spent for each run, or a place has more than 255 names.
+    pub fn from_parts(cycle: u64, runs: u64, spent: u128, state: State) -> Option<Cursor>
+        ensures value { IfSome result (λ cursor. cursor ≡ cursor_of cycle runs spent state) }
+        ensures keeps { IsSome result ↔ IsCursor (cursor_of cycle runs spent state) }
+    {
+        if 1 <= cycle && spent <= u128::from(runs) * (1 << 63) && is_short(&state) {
+            Some(Cursor {
+                cycle,
+                runs,
+                spent,
+                state,
+            })
+        } else {
+            None
+        }
+    }
+
+    /// The cursor at the beginning of the next cycle. `None` for the last cycle that there can be.
+    pub fn next_cycle(&self) -> Option<Cursor>
+        ensures value { IfSome result (λ next. next ≡ next_cycle self.now) }
+        ensures last { IsNone result ↔ (self.now.cycle ≡ u64.MAX) }
+    {
+        Cursor::from_parts(self.cycle.checked_add(1)?, 0, 0, State::Start)
+    }
+
+    /// The cursor after one more run, which has spent this much and ends in this state. `None` where
+    /// no cursor is so: the runs are counted out, or one of the limits of [`Cursor::from_parts`] is
+    /// passed.
+    pub fn after_run(&self, spent: u64, state: State) -> Option<Cursor>
+        ensures value { IfSome result (λ next. next ≡ after_run self.now spent (state_of state)) }
+        ensures keeps { IsSome result ↔ IsCursor (after_run self.now spent (state_of state)) }
+    {
+        let runs = self.runs.checked_add(1)?;
+        Cursor::from_parts(self.cycle, runs, self.spent + u128::from(spent), state)
+    }
+
+    /// The number of the cycle, from 1.
+    pub fn cycle(&self) -> u64
+        ensures { result ≡ self.now.cycle }
+    {
+        self.cycle
+    }
+
+    /// How many runs the cycle has had.
+    pub fn runs(&self) -> u64
+        ensures { result ≡ self.now.runs }
+    {
+        self.runs
+    }
+
+    /// What the runs of the cycle have spent.
+    pub fn spent(&self) -> u128
+        ensures { result ≡ self.now.spent }
+    {
+        self.spent
+    }
+
+    /// Where the next run begins.
+    pub fn state(&self) -> &State
+        ensures value { state_of result.now ≡ self.now.state }
+        ensures keeps { IsCursor self.now }
+    {
+        &self.state
+    }
+
+    /// Where the next run begins, taken out of the cursor.
+    pub fn into_state(self) -> State
+        ensures { state_of result ≡ self.state }
+    {
+        self.state
+    }
+}

@@ -1,0 +1,145 @@
+ghost use Rattle.std.specs.Prelude.{◌≡◌, ◌≢◌, ◌⊎◌, ◌≤◌, ℕ, List, ◌++◌, drop, length, codes, is_some, IfOk, IfErr, IfSome, IsNone};
+ghost use Rattle.ocfl_tree.specs.Name.{IsPlace};
+ghost use Rattle.ocfl_tree.specs.Place.{Place as ModelPlace, text_eq};
+ghost use Rattle.ocfl_report.specs.Text.{place_text};
+ghost use Rattle.ocfl_cursor.specs.Cursor.{State as ModelState, Cursor as ModelCursor};
+ghost use Rattle.ocfl_cursor.specs.State.{state_of};
+ghost use Rattle.ocfl_cursor.specs.Body.{first_line, CountsFit, counts_text, IsStateLine, IsBodyOf};
+ghost use Rattle.ocfl_cursor.specs.Refusal.{IsTextOf, is_cursor_front, refusal, malformed};
+ghost use Rattle.ocfl_cursor.specs.Refused.{RefusedRightly};
+
+use crate::cursor::Cursor;
+use crate::form::{AFTER, CYCLE, ENDED, FIRST_LINE, FRONT, MAX_TEXT, RUNS, SPENT, START, VERSION};
+use crate::number::{read_number, read_small_number};
+use crate::pieces::{after_prefix, before_line_feed, count_slashes, is_text, split_line};
+use crate::refused::Refused;
+use crate::seal::sealed_body;
+use crate::state::{MAX_NAMES, State};
+use ocfl_report::{PlaceStop, read_place};
+use ocfl_tree::Place;
+use std::alloc::Global;
+
+/// The cursor whose text the bytes are.
+///
+/// Bytes that are no cursor's text are refused for the first reason that applies. Memory is asked
+/// for only to make the place that the cursor holds; where that is refused the answer is `Memory`.
+pub fn decode(alloc: Global, text: &[u8]) -> Result<Cursor, Refused>
+    ensures cursor { IfOk result (λ cursor. IsTextOf text.now cursor) }
+    ensures refused { IfErr result (λ refused. RefusedRightly text.now refused) }
+
+    // Memory is asked for only once the bytes have passed every test that goes before.
+    ensures memory { result ≡ Err Refused.Memory → refusal text.now ≡ malformed }
+{
+    let Some(rest) = after_front(text) else {
+        return Err(Refused::NotCursor);
+    };
+    if !begins_with_version(rest) {
+        return Err(Refused::Version);
+    }
+    match sealed_body(text) {
+        Some(body) => read_body(alloc, body),
+        None => Err(Refused::Damaged),
+    }
+}
+
+/// What follows the front of a text. `None` where it does not begin as a cursor's, or is too long.
+fn after_front(text: &[u8]) -> Option<&[u8]>
+    ensures found { is_some result ≡ is_cursor_front text.now }
+    ensures rest { IfSome result (λ rest. rest.now ≡ drop 18 text.now) }
+{
+    if text.len() > MAX_TEXT || !text.starts_with(FRONT) {
+        return None;
+    }
+    Some(&text[FRONT.len()..])
+}
+
+/// Whether the text up to the first line feed, or all of it, is the known version.
+fn begins_with_version(text: &[u8]) -> bool
+    ensures { result ≡ text_eq (first_line text.now) (codes "1") }
+{
+    match split_line(text) {
+        Some((version, _)) => is_text(version, VERSION),
+        None => is_text(text, VERSION),
+    }
+}
+
+/// The cursor of which this is the text before its digest line.
+fn read_body(alloc: Global, body: &[u8]) -> Result<Cursor, Refused>
+    ensures cursor { IfOk result (λ cursor. IsBodyOf body.now cursor) }
+    ensures malformed { result ≡ Err Refused.Malformed
+        → (c : ModelCursor) → IsBodyOf body.now c → ⊥ }
+    ensures errors { IfErr result (λ e. (e ≡ Refused.Malformed) ⊎ (e ≡ Refused.Memory)) }
+{
+    let Some((counts, line)) = read_counts(body) else {
+        return Err(Refused::Malformed);
+    };
+    let state = read_state(alloc, line)?;
+    match Cursor::from_parts(counts.cycle, counts.runs, counts.spent, state) {
+        Some(cursor) => Ok(cursor),
+        None => Err(Refused::Malformed),
+    }
+}
+
+/// The numbers of a cursor, as its text has them.
+#[derive(Clone, Copy)]
+struct Counts {
+    cycle: u64,
+    runs: u64,
+    spent: u128,
+}
+
+/// Reads the first line and the lines of the numbers. Gives what follows them too.
+fn read_counts(body: &[u8]) -> Option<(Counts, &[u8])>
+    ensures found { IfSome result (λ read.
+        body.now ≡ counts_text read.0.cycle read.0.runs read.0.spent ++ read.1.now) }
+    ensures fits { IfSome result (λ read. CountsFit read.0.cycle read.0.runs read.0.spent) }
+    ensures missing { IsNone result → (cycle runs spent : ℕ) (rest : List ℕ)
+        → CountsFit cycle runs spent → body.now ≢ counts_text cycle runs spent ++ rest }
+{
+    let rest = after_prefix(FIRST_LINE, body)?;
+    let (cycle, rest) = read_small_number(CYCLE, rest)?;
+    let (runs, rest) = read_small_number(RUNS, rest)?;
+    let (spent, rest) = read_number(SPENT, rest)?;
+    Some((Counts { cycle, runs, spent }, rest))
+}
+
+/// Reads the line that says where the next run begins.
+fn read_state(alloc: Global, line: &[u8]) -> Result<State, Refused>
+    ensures state { IfOk result (λ state. IsStateLine line.now (state_of state)) }
+    ensures malformed { result ≡ Err Refused.Malformed
+        → (s : ModelState) → IsStateLine line.now s → ⊥ }
+    ensures errors { IfErr result (λ e. (e ≡ Refused.Malformed) ⊎ (e ≡ Refused.Memory)) }
+{
+    let Some(line) = before_line_feed(line) else {
+        return Err(Refused::Malformed);
+    };
+    if is_text(line, START) {
+        return Ok(State::Start);
+    }
+    if is_text(line, ENDED) {
+        return Ok(State::Ended);
+    }
+    let Some(path) = after_prefix(AFTER, line) else {
+        return Err(Refused::Malformed);
+    };
+    Ok(State::After(read_short_place(alloc, path)?))
+}
+
+/// The place of at most 255 names that has this path.
+fn read_short_place(alloc: Global, path: &[u8]) -> Result<Place, Refused>
+    ensures place { IfOk result (λ place. path.now ≡ place_text place) }
+    ensures names { IfOk result (λ place. IsPlace place × (length place ≤ 255)) }
+    ensures malformed { result ≡ Err Refused.Malformed → (p : ModelPlace)
+        → IsPlace p → length p ≤ 255 → path.now ≢ place_text p }
+    ensures errors { IfErr result (λ e. (e ≡ Refused.Malformed) ⊎ (e ≡ Refused.Memory)) }
+{
+    // So that no memory is asked for that no cursor's place needs.
+    if count_slashes(path) >= MAX_NAMES {
+        return Err(Refused::Malformed);
+    }
+    match read_place(alloc, path) {
+        Ok(place) => Ok(place),
+        Err(PlaceStop::Bad) => Err(Refused::Malformed),
+        Err(PlaceStop::Memory) => Err(Refused::Memory),
+    }
+}

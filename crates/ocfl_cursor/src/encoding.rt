@@ -1,0 +1,53 @@
+ghost use Rattle.std.specs.Prelude.{◌≡◌, [], ◌∷◌, ◌++◌, IfOk, OnOk};
+ghost use Rattle.ocfl_cursor.specs.Cursor.{IsCursor, state_text, cursor_body, cursor_text};
+ghost use Rattle.ocfl_cursor.specs.State.{state_of};
+
+use crate::cursor::Cursor;
+use crate::form::{AFTER, CYCLE, ENDED, FIRST_LINE, RUNS, SPENT, START};
+use crate::number::put_number;
+use crate::seal::digest_line;
+use crate::state::State;
+use ocfl_report::put_place;
+use std::alloc::{AllocError, Global};
+
+/// The text of the cursor: six lines, the last of which seals the others by their SHA-256.
+pub fn encode(alloc: Global, cursor: &Cursor) -> Result<Vec<u8>, AllocError>
+    ensures text { IfOk result (λ text. text.items ≡ cursor_text cursor.now) }
+    ensures keeps { IsCursor cursor.now }
+{
+    let mut text = encode_body(alloc, cursor)?;
+    let last_line = digest_line(&text);
+    text.extend_from_slice(&last_line)?;
+    Ok(text)
+}
+
+/// The text before its last line.
+fn encode_body(alloc: Global, cursor: &Cursor) -> Result<Vec<u8>, AllocError>
+    ensures text { IfOk result (λ text. text.items ≡ cursor_body cursor.now) }
+    ensures keeps { IsCursor cursor.now }
+{
+    let state = cursor.state();
+    let mut text = Vec::from_slice(alloc, FIRST_LINE)?;
+    put_number(alloc, CYCLE, u128::from(cursor.cycle()), &mut text)?;
+    put_number(alloc, RUNS, u128::from(cursor.runs()), &mut text)?;
+    put_number(alloc, SPENT, cursor.spent(), &mut text)?;
+    put_state(state, &mut text)?;
+    Ok(text)
+}
+
+/// Appends the line that says where the next run begins.
+fn put_state(state: &State, text: &mut Vec<u8>) -> Result<(), AllocError>
+    ensures { OnOk result
+        (text.new.items ≡ text.old.items ++ state_text (state_of state.now) ++ 10 ∷ []) }
+{
+    match state {
+        State::Start => text.extend_from_slice(START)?,
+        State::After(place) => {
+            text.extend_from_slice(AFTER)?;
+            put_place(place, text)?;
+        }
+        State::Ended => text.extend_from_slice(ENDED)?,
+    }
+    text.push(b'\n')?;
+    Ok(())
+}

@@ -1,0 +1,42 @@
+ghost use Rattle.std.specs.Prelude.{◌≡◌, ◌≢◌, List, ℕ, [], ◌∷◌, ◌++◌, ◌==◌, count_by, All, IfSome, IsNone};
+ghost use Rattle.ocfl_tree.specs.Place.{text_eq};
+
+/// Whether two texts are the same.
+pub(crate) fn is_text(text: &[u8], other: &[u8]) -> bool
+    ensures { result ≡ text_eq text.now other.now }
+{
+    text == other
+}
+
+/// What follows this beginning of the text. `None` where the text does not begin so.
+pub(crate) fn after_prefix<'a>(prefix: &[u8], text: &'a [u8]) -> Option<&'a [u8]>
+    ensures found { IfSome result (λ rest. text.now ≡ prefix.now ++ rest.now) }
+    ensures missing { IsNone result → (rest : List ℕ) → text.now ≢ prefix.now ++ rest }
+{
+    text.strip_prefix(prefix)
+}
+
+/// What stands before the first line feed, and what follows it. `None` without a line feed.
+pub(crate) fn split_line(text: &[u8]) -> Option<(&[u8], &[u8])>
+    ensures found { IfSome result (λ parts. text.now ≡ parts.0.now ++ 10 ∷ parts.1.now) }
+    ensures first { IfSome result (λ parts. All (λ b. b ≢ 10) parts.0.now) }
+    ensures missing { IsNone result → All (λ b. b ≢ 10) text.now }
+{
+    let end = text.iter().position(|&b| b == b'\n')?;
+    Some((&text[..end], &text[end + 1..]))
+}
+
+/// What stands before the line feed that ends the text. `None` where none does.
+pub(crate) fn before_line_feed(text: &[u8]) -> Option<&[u8]>
+    ensures found { IfSome result (λ line. text.now ≡ line.now ++ 10 ∷ []) }
+    ensures missing { IsNone result → (line : List ℕ) → text.now ≢ line ++ 10 ∷ [] }
+{
+    text.strip_suffix(b"\n")
+}
+
+/// How many slashes the text has.
+pub(crate) fn count_slashes(text: &[u8]) -> usize
+    ensures { result ≡ count_by (λ b. b == 47) text.now }
+{
+    text.iter().filter(|&&b| b == b'/').count()
+}

@@ -1,0 +1,53 @@
+ghost use Rattle.std.specs.Prelude.{◌≡◌, ◌⊎◌, take, IfOk, IfErr, IfSome};
+ghost use Rattle.ocfl_cursor.specs.Refusal.{IsTextOf};
+ghost use Rattle.ocfl_cursor.specs.Stop.{StopsRightly};
+
+use crate::cursor::Cursor;
+use crate::decoding::decode;
+use crate::form::MAX_TEXT;
+use crate::refused::Refused;
+use std::alloc::Global;
+use std::io::{ErrorKind, Read};
+
+/// Why no cursor was read.
+#[derive(Clone, Copy, Debug, PartialEq, Eq)]
+pub enum CursorStop {
+    /// The reader failed.
+    Read,
+    /// The bytes are refused, or memory was: for the bytes, or for the cursor.
+    Refused(Refused),
+}
+
+/// Reads a cursor from all the bytes of a reader: to its end, or one byte more than the text of a
+/// cursor can have.
+pub fn read_cursor<R: Read>(alloc: Global, reader: &mut R) -> Result<Cursor, CursorStop>
+    // Where the reader's bytes are known, the answer is that of `decode` for all of them.
+    ensures cursor { IfOk result
+        (λ cursor. IfSome (R.remaining reader.old) (λ bytes. IsTextOf bytes cursor)) }
+    ensures refused { IfErr result
+        (λ stop. IfSome (R.remaining reader.old) (λ bytes. StopsRightly bytes stop)) }
+{
+    let bytes = read_limited(alloc, reader)?;
+    match decode(alloc, &bytes) {
+        Ok(cursor) => Ok(cursor),
+        Err(refused) => Err(CursorStop::Refused(refused)),
+    }
+}
+
+/// All the bytes of a reader, or the first of them, one more than the text of a cursor can have.
+fn read_limited<R: Read>(alloc: Global, reader: &mut R) -> Result<Vec<u8>, CursorStop>
+    ensures bytes { IfOk result
+        (λ bytes. IfSome (R.remaining reader.old) (λ all. bytes.items ≡ take 262145 all)) }
+    ensures stop { IfErr result
+        (λ stop. (stop ≡ CursorStop.Read) ⊎ (stop ≡ CursorStop.Refused Refused.Memory)) }
+{
+    let mut bytes = Vec::new(alloc);
+    let mut limited = Read::take(reader, MAX_TEXT as u64 + 1);
+    match limited.read_to_end(&mut bytes) {
+        Ok(_) => Ok(bytes),
+        Err(error) if error.kind() == ErrorKind::OutOfMemory => {
+            Err(CursorStop::Refused(Refused::Memory))
+        }
+        Err(_) => Err(CursorStop::Read),
+    }
+}

@@ -1,0 +1,29 @@
+ghost use Rattle.std.specs.Prelude.{◌↔◌, IsTrue};
+ghost use Rattle.ocfl_cursor.specs.Cursor.{IsShortPlace};
+ghost use Rattle.ocfl_cursor.specs.State.{state_of};
+
+use ocfl_tree::Place;
+
+/// How many names the place of a cursor has at most.
+pub(crate) const MAX_NAMES: usize = 255;
+
+/// Where the next run begins.
+#[derive(Debug, Drop, PartialEq, Eq)]
+pub enum State {
+    /// At the first item.
+    Start,
+    /// Behind this place, whether or not an item is there.
+    After(Place),
+    /// With the first item of the next cycle.
+    Ended,
+}
+
+/// Whether a cursor may be in this state: a place has at most 255 names.
+pub(crate) fn is_short(state: &State) -> bool
+    ensures { IsTrue result ↔ IsShortPlace (state_of state.now) }
+{
+    match state {
+        State::After(place) => place.names().len() <= MAX_NAMES,
+        State::Start | State::Ended => true,
+    }
+}

@@ -1,0 +1,56 @@
+-- The order of triples tells them apart.
+use Rattle.std.proofs.Common.{◌≡◌, refl, true, false}
+use Rattle.std.specs.Ordering.{bool_cmp, ordering_then}
+use Rattle.std.specs.FinMap.{IsAntisymmetric}
+use Rattle.std.specs.declared.cmp.Ordering.{Ordering}
+use Rattle.std.specs.declared.cmp.Ordering.TheVariants.{Less, Equal, Greater}
+use Rattle.ocfl_digest.specs.Algorithm.{algorithm_cmp}
+use Rattle.ocfl_digest.specs.declared.algorithm.Algorithm.TheVariants.{Md5, Sha1, Sha256, Sha512, Sha512_256}
+use Rattle.ocfl_tree.proofs.Orders.{place_cmp_exact}
+use Rattle.ocfl_inventory.specs.Table.{named_cmp, triple_cmp}
+use Rattle.ocfl_inventory.proofs.Beginnings.{text_exact}
+
+then_parts : (r s : Ordering) → ordering_then r s ≡ Equal → (r ≡ Equal) × (s ≡ Equal)
+then_parts Less s e = absurd (no_less e)
+  where
+    no_less : Less ≡ Equal → ⊥
+    no_less f = cc
+then_parts Equal s e = (refl, e)
+then_parts Greater s e = absurd (no_greater e)
+  where
+    no_greater : Greater ≡ Equal → ⊥
+    no_greater f = cc
+
+bool_exact : IsAntisymmetric bool_cmp
+bool_exact true true e = refl
+bool_exact false false e = refl
+bool_exact true false e = cc
+bool_exact false true e = cc
+
+algorithm_exact : IsAntisymmetric algorithm_cmp
+algorithm_exact Md5 Md5 e = refl
+algorithm_exact Sha1 Sha1 e = refl
+algorithm_exact Sha256 Sha256 e = refl
+algorithm_exact Sha512 Sha512 e = refl
+algorithm_exact Sha512_256 Sha512_256 e = refl
+algorithm_exact Md5 b e = cc
+algorithm_exact Sha1 b e = cc
+algorithm_exact Sha256 b e = cc
+algorithm_exact Sha512 b e = cc
+algorithm_exact Sha512_256 b e = cc
+
+named_exact : IsAntisymmetric named_cmp
+named_exact a b e =
+    let w = then_parts _ _ e in
+    let v = then_parts _ _ w.1 in
+    let one = bool_exact a.fixity b.fixity w.0 in
+    let two = algorithm_exact a.algorithm b.algorithm v.0 in
+    let three = text_exact a.digest b.digest v.1 in
+    λ i. record { fixity = one i; algorithm = two i; digest = three i }
+
+pub triple_exact : IsAntisymmetric triple_cmp
+triple_exact a b e =
+    let w = then_parts _ _ e in
+    let one = place_cmp_exact a.path b.path w.0 in
+    let two = named_exact a.named b.named w.1 in
+    λ i. record { path = one i; named = two i }

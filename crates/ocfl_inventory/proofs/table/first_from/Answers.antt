@@ -1,0 +1,10 @@
+use Rattle.std.proofs.Common.{rules}
+use Rattle.std.specs.Prelude.{not}
+use Rattle.std.specs.Ordering.{is_lt}
+use Rattle.std.proofs.lemmas.List.Sorted.{IsPartitionPoint-from_clause}
+use Rattle.ocfl_tree.specs.Place.{place_cmp}
+use Rattle.ocfl_inventory.proofs.TableSearch.{parted_from}
+use Rattle.ocfl_inventory.proofs.table.first_from.Goals as goal
+
+pub returns-clause-found : goal.returns-clause-found
+returns-clause-found c = IsPartitionPoint-from_clause (λ t. is_lt (place_cmp t.path c.args.place.now)) c.args.triples.now c.partition_point.result c.partition_point.ensures.partitioned (parted_from c.args.triples.now c.args.place.now c.requires) (λ a r f h. search rules)

@@ -1,0 +1,8 @@
+use Rattle.std.proofs.Common.{ap, ◌∙◌, refl}
+use Rattle.serde_json.specs.Data.{Members}
+use Rattle.ocfl_inventory.specs.Reading.{Reading, ◌>>=◌}
+use Rattle.ocfl_inventory.specs.Parts.{inventory_in, inventory_view}
+use Rattle.ocfl_inventory.proofs.table.read_inventory.Goals as goal
+
+pub returns : goal.returns
+returns c = (inventory_view c.in_ok-inventory.inventory, ap (λ (r : Reading Members). r >>= inventory_in) c.in_ok-map.ensures ∙ c.in_ok-inventory.ensures, c.in_ok-finish.ensures.lines, c.in_ok-finish.ensures.table)

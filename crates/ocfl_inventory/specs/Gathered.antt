@@ -1,0 +1,25 @@
+-- Gathering the listed paths of a block: kept ones with their digest, bad ones as their texts.
+use Rattle.std.specs.Prelude.{◌≡◌, List, [], ◌∷◌, ◌++◌, Bool, map, filter, flat_map, is_some}
+use Rattle.ocfl_tree.specs.Place.{Text}
+use Rattle.ocfl_digest.specs.declared.algorithm.Algorithm.{Algorithm}
+use Rattle.ocfl_inventory.specs.DigestText.{folded}
+use Rattle.ocfl_inventory.specs.Reading.{Block}
+use Rattle.ocfl_inventory.specs.ListedPath.{elements, is_kept, path_fault}
+use Rattle.ocfl_inventory.specs.Table.{Triple}
+
+abbrev pub is_bad : Text → Text → Bool
+is_bad content t = is_some (path_fault content t)
+
+abbrev pub triple_of : Bool → Algorithm → Text → Text → Triple
+triple_of fixity a digest t = record { path = elements t; named = record { fixity = fixity; algorithm = a; digest = digest } }
+
+-- a digest with each kept path of a list of texts
+abbrev pub triples_in : Bool → Text → Algorithm → Text → List Text → List Triple
+triples_in fixity content a digest ts = map (triple_of fixity a digest) (filter (is_kept content) ts)
+
+-- the same for a key with the texts that it lists
+abbrev pub key_triples : Bool → Text → Algorithm → Text × List Text → List Triple
+key_triples fixity content a e = triples_in fixity content a (folded e.0) e.1
+
+abbrev pub bad_texts : Text → Block → List Text
+bad_texts content b = flat_map (λ e. filter (is_bad content) e.1) b

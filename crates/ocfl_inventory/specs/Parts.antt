@@ -1,0 +1,94 @@
+-- What the functions of the reading give, beside the definitions.
+use Rattle.std.specs.Prelude.{◌≡◌, ℕ, List, [], ◌∷◌, ◌++◌, option_map, Option, Some, None, Result, Ok, Err, map, codes, string_bytes}
+use Rattle.std.specs.Prelude.{String}
+use Rattle.std.specs.Borrow.{Bor}
+use Rattle.std.specs.declared.alloc.Global.{Global}
+use Rattle.std.specs.BTreeMap.{BTreeMap}
+use Rattle.serde_json.specs.View.{members_view}
+use Rattle.serde_json.specs.declared.value.Value.{Value}
+use Rattle.serde_json.specs.Data.{Data, Members, no_members}
+use Rattle.serde_json.specs.Find.{get_member}
+use Rattle.ocfl_tree.specs.Place.{Text, text_cmp, text_eq}
+use Rattle.ocfl_report.specs.Line.{Note, note}
+use Rattle.ocfl_digest.specs.Algorithm.{supported, algorithm_name}
+use Rattle.ocfl_inventory.specs.Reading.{Reading, ◌>>=◌, or_stop, Block, Inventory, object_of, algorithm_in, content_from, manifest_in, fixity_from, blocks_for, unsupported_in, block_of, inventory_of}
+use Rattle.ocfl_report.specs.declared.code.Code.TheVariants.{S03, E097}
+use Rattle.ocfl_digest.specs.declared.algorithm.Algorithm.{Algorithm}
+use Rattle.ocfl_inventory.specs.Notes.{folded_keys, repeated}
+use Rattle.ocfl_inventory.specs.declared.note.Remark.{Remark}
+use Rattle.ocfl_inventory.specs.declared.note.Stop.{Stop}
+use Rattle.ocfl_inventory.specs.declared.note.Stop.TheVariants as stops
+use Rattle.ocfl_inventory.specs.declared.listing.Listing.{Listing}
+use Rattle.ocfl_inventory.specs.declared.reading.Supported.{Supported}
+use Rattle.ocfl_inventory.specs.declared.reading.Inventory.{Inventory as MadeInventory}
+
+abbrev pub remark_view : Remark → Note
+remark_view r = note r.code (string_bytes r.detail)
+
+-- what stopped, unless memory ran out, is the line
+abbrev pub Says : Stop → Note → Type 0
+Says stops.Memory n = Unit {0}
+Says (stops.Because r) n = remark_view r ≡ n
+
+abbrev pub Fails : {Y : Type 0} → Stop → Reading Y → Type 0
+Fails stops.Memory read = Unit {0}
+Fails (stops.Because r) read = read ≡ Err (remark_view r)
+
+-- what a function returned, seen by view, is what reading gives, unless memory ran out
+abbrev pub Gives : {X Y : Type 0} → (X → Y) → Result X Stop → Reading Y → Type 0
+Gives view (Ok x) read = read ≡ Ok (view x)
+Gives view (Err e) read = Fails e read
+
+abbrev pub listing_view : Listing → Text × List Text
+listing_view e = (e.key.now, map (λ t. t.now) e.texts.items)
+
+abbrev pub block_view : List Listing → Block
+block_view = map listing_view
+
+-- behind the whole object
+abbrev pub inventory_in : Members → Reading Inventory
+inventory_in ms = do
+  a ← algorithm_in ms
+  c ← content_from (get_member (codes "contentDirectory") ms)
+  m ← manifest_in ms
+  fs ← fixity_from (get_member (codes "fixity") ms)
+  f ← or_stop (note S03 (codes "fixity")) (blocks_for fs supported)
+  Ok (record {
+    algorithm = a;
+    content = c;
+    manifest = m;
+    fixity = f;
+    unsupported = unsupported_in fs;
+  })
+
+abbrev pub fixity_view : Option (Bor (BTreeMap (String Global) Value)) → Members
+fixity_view None = no_members
+fixity_view (Some m) = members_view m.now.entries
+
+abbrev pub supported_view : List Supported → List (Algorithm × Block)
+supported_view = map (λ s. (s.algorithm, block_view s.block.items))
+
+-- the block of one algorithm behind those before it, and none where it is not of the form
+abbrev pub with_block : List (Algorithm × Block) → Members → Algorithm → Option (List (Algorithm × Block))
+with_block front ms a = by (get_member (algorithm_name a) ms)
+  where
+    by : Option Data → Option (List (Algorithm × Block))
+    by None = Some front
+    by (Some d) = option_map (λ b. front ++ (a, b) ∷ []) (block_of d)
+
+abbrev pub inventory_view : MadeInventory → Inventory
+inventory_view i = record {
+  algorithm = i.algorithm;
+  content = i.content.now;
+  manifest = block_view i.manifest.items;
+  fixity = supported_view i.fixity.items;
+  unsupported = map (λ t. t.now) i.unsupported.items;
+}
+
+abbrev pub IsLineOf : Stop → List Note → Type 0
+IsLineOf stops.Memory ns = ⊥
+IsLineOf (stops.Because r) ns = ns ≡ remark_view r ∷ []
+
+-- the lines of the digests that are repeated in an algorithm's block
+abbrev pub repeated_notes : Algorithm × Block → List Note
+repeated_notes e = map (λ d. note E097 (algorithm_name e.0 ++ 32 ∷ d)) (repeated text_cmp text_eq (folded_keys e.1))

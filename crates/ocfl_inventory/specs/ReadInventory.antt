@@ -1,0 +1,19 @@
+-- What reading an inventory gives, beside the definitions.
+use Rattle.std.specs.Prelude.{◌≡◌, List, [], Result, Ok, Err, Vec, map}
+use Rattle.std.specs.declared.alloc.Global.{Global}
+use Rattle.ocfl_report.specs.Line.{Note, Line}
+use Rattle.ocfl_inventory.specs.Reading.{Reading, Inventory}
+use Rattle.ocfl_inventory.specs.Notes.{inventory_notes}
+use Rattle.ocfl_inventory.specs.Table.{Table, table_from}
+use Rattle.ocfl_inventory.specs.Parts.{Fails, remark_view}
+use Rattle.ocfl_inventory.specs.declared.note.Remark.{Remark}
+use Rattle.ocfl_inventory.specs.declared.note.Stop.{Stop}
+
+-- the lines and the table of an inventory that does not stop, or what stops, unless memory ran out
+abbrev pub IsReading : Result (Vec Remark Global × Table) Stop → Reading Inventory → Type 0
+IsReading (Ok r) read = (i : Inventory) × (read ≡ Ok i) × (map remark_view r.0.items ≡ inventory_notes i) × (r.1 ≡ table_from i)
+IsReading (Err e) read = Fails e read
+
+-- the line of a note about the whole object
+abbrev pub note_line : Note → Line
+note_line n = record { code = n.code; place = []; detail = n.detail }

@@ -1,0 +1,166 @@
+//! The lines of an inventory that does not stop.
+ghost use Rattle.std.specs.Prelude.{◌≡◌, ◌++◌, ◌∷◌, [], map, flat_map, IfOk, OnOk, option_map, string_bytes};
+ghost use Rattle.std.specs.List.{cons_option};
+ghost use Rattle.ocfl_tree.specs.Place.{text_cmp, text_eq};
+ghost use Rattle.ocfl_report.specs.Line.{note};
+ghost use Rattle.ocfl_digest.specs.Algorithm.{algorithm_name};
+ghost use Rattle.ocfl_inventory.specs.ListedPath.{path_fault};
+ghost use Rattle.ocfl_inventory.specs.Notes.{fault_notes, folded_keys, repeated as repeated_of, inventory_notes};
+ghost use Rattle.ocfl_inventory.specs.Parts.{remark_view, block_view, supported_view, inventory_view, repeated_notes};
+ghost use Rattle.ocfl_inventory.specs.ListsOf.{AreListed};
+
+use crate::gather::Listed;
+use crate::keys::{Key, repeated};
+use crate::listing::Listing;
+use crate::note::Remark;
+use crate::paths::{elements, fault};
+use crate::reading::{Inventory, Supported};
+use crate::texts::put_in_order;
+use ocfl_digest::Algorithm;
+use ocfl_report::Code;
+use std::alloc::{AllocError, Global};
+
+/// Puts a line at the end.
+fn add(alloc: Global, code: Code, detail: &str, out: &mut Vec<Remark>) -> Result<(), AllocError>
+    ensures { OnOk result (map remark_view out.new.items ≡ map remark_view out.old.items ++ note code detail.now ∷ []) }
+{
+    let detail = String::from_str(alloc, detail)?;
+    out.push(Remark { code, detail })?;
+    Ok(())
+}
+
+/// Puts the line of a bad path at the end.
+fn add_fault(
+    alloc: Global,
+    content: &str,
+    text: &str,
+    out: &mut Vec<Remark>,
+) -> Result<(), AllocError>
+    ensures { OnOk result (map remark_view out.new.items ≡ map remark_view out.old.items
+        ++ cons_option (option_map (λ c. note c text.now) (path_fault content.now text.now)) []) }
+{
+    let parts = elements(alloc, text)?;
+    match fault(content, text, &parts) {
+        Some(code) => add(alloc, code, text, out),
+        None => Ok(()),
+    }
+}
+
+/// Puts the lines of the bad paths among the texts at the end, in order, each once.
+fn add_faults(
+    alloc: Global,
+    content: &str,
+    mut texts: Vec<&str>,
+    out: &mut Vec<Remark>,
+) -> Result<(), AllocError>
+    ensures { OnOk result (map remark_view out.new.items ≡ map remark_view out.old.items
+        ++ fault_notes content.now (map (λ t. t.now) texts.entry.items)) }
+{
+    put_in_order(&mut texts);
+    for text in &texts {
+        add_fault(alloc, content, text, out)?;
+    }
+    Ok(())
+}
+
+/// Puts a line for each detail at the end.
+fn add_each(
+    alloc: Global,
+    code: Code,
+    details: &[&str],
+    out: &mut Vec<Remark>,
+) -> Result<(), AllocError>
+    ensures { OnOk result (map remark_view out.new.items ≡ map remark_view out.old.items
+        ++ map (note code) (map (λ t. t.now) details.now)) }
+{
+    for detail in details {
+        add(alloc, code, detail, out)?;
+    }
+    Ok(())
+}
+
+/// The keys of a block.
+fn keys<'t>(alloc: Global, block: &[Listing<'t>]) -> Result<Vec<Key<'t>>, AllocError>
+    ensures { IfOk result (λ v. v.items ≡ folded_keys (block_view block.now)) }
+{
+    let mut found = Vec::with_capacity(alloc, block.len())?;
+    for listing in block {
+        found.push(Key::new(listing.key))?;
+    }
+    Ok(found)
+}
+
+/// Puts the lines of the manifest's repeated digests at the end.
+fn add_repeated(alloc: Global, block: &[Listing], out: &mut Vec<Remark>) -> Result<(), AllocError>
+    ensures { OnOk result (map remark_view out.new.items ≡ map remark_view out.old.items
+        ++ map (note Code.E096) (repeated_of text_cmp text_eq (folded_keys (block_view block.now)))) }
+{
+    for key in &repeated(alloc, keys(alloc, block)?)? {
+        let detail = key.folded(alloc)?;
+        out.push(Remark {
+            code: Code::E096,
+            detail,
+        })?;
+    }
+    Ok(())
+}
+
+/// The detail of a digest that is repeated in an algorithm's block.
+fn beside(alloc: Global, algorithm: Algorithm, key: &Key) -> Result<String, AllocError>
+    ensures { IfOk result (λ s. string_bytes s ≡ algorithm_name algorithm ++ 32 ∷ key.now) }
+{
+    let mut detail = String::from_str(alloc, algorithm.name())?;
+    detail.push_str(" ")?;
+    detail.push_str(&key.folded(alloc)?)?;
+    Ok(detail)
+}
+
+/// Puts the lines of the digests that are repeated in an algorithm's block at the end.
+fn add_repeated_in(
+    alloc: Global,
+    supported: &Supported,
+    out: &mut Vec<Remark>,
+) -> Result<(), AllocError>
+    ensures { OnOk result (map remark_view out.new.items ≡ map remark_view out.old.items ++ repeated_notes (supported.now.algorithm, block_view supported.now.block.items)) }
+{
+    for key in &repeated(alloc, keys(alloc, &supported.block)?)? {
+        let detail = beside(alloc, supported.algorithm, key)?;
+        out.push(Remark {
+            code: Code::E097,
+            detail,
+        })?;
+    }
+    Ok(())
+}
+
+fn add_repeated_fixity(
+    alloc: Global,
+    fixity: &[Supported],
+    out: &mut Vec<Remark>,
+) -> Result<(), AllocError>
+    ensures { OnOk result (map remark_view out.new.items ≡ map remark_view out.old.items ++ flat_map repeated_notes (supported_view fixity.now)) }
+{
+    for supported in fixity {
+        add_repeated_in(alloc, supported, out)?;
+    }
+    Ok(())
+}
+
+/// The lines of an inventory that does not stop, from what it lists.
+pub(crate) fn inventory_lines(
+    alloc: Global,
+    inventory: &Inventory,
+    lists: Listed,
+) -> Result<Vec<Remark>, AllocError>
+    requires { AreListed (inventory_view inventory.now) lists }
+    ensures { IfOk result (λ v. map remark_view v.items ≡ inventory_notes (inventory_view inventory.now)) }
+{
+    let mut lines = Vec::new(alloc);
+    add_repeated(alloc, &inventory.manifest, &mut lines)?;
+    add_repeated_fixity(alloc, &inventory.fixity, &mut lines)?;
+    add_faults(alloc, inventory.content, lists.manifest_bad, &mut lines)?;
+    add_faults(alloc, inventory.content, lists.fixity_bad, &mut lines)?;
+    add_each(alloc, Code::E101, &lists.conflicting, &mut lines)?;
+    add_each(alloc, Code::S07, &inventory.unsupported, &mut lines)?;
+    Ok(lines)
+}

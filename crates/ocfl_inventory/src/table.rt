@@ -1,0 +1,236 @@
+//! The table of an inventory: the digests that it names for the paths of its object.
+ghost use Rattle.std.specs.Prelude.{◌≡◌, [], ◌≤◌, IfOk, map, option_map, true, false, length, slice_get};
+ghost use Rattle.std.specs.Ordering.{is_lt};
+ghost use Rattle.std.specs.List.Sorted.{IsPartitionPoint};
+ghost use Rattle.ocfl_tree.specs.Place.{place_cmp};
+ghost use Rattle.ocfl_tree.specs.Ascending.{IsAscending, ascending};
+ghost use Rattle.ocfl_report.specs.Line.{line_of, lines_at};
+ghost use Rattle.ocfl_inventory.specs.Reading.{inventory_of};
+ghost use Rattle.ocfl_inventory.specs.Notes.{inventory_notes, notes_of};
+ghost use Rattle.ocfl_inventory.specs.Parts.{remark_view, inventory_view};
+ghost use Rattle.ocfl_inventory.specs.Table.{triple_cmp, table_from, table_of, named as named_in};
+ghost use Rattle.ocfl_inventory.specs.NextPath.{next_path};
+ghost use Rattle.ocfl_inventory.specs.TripleView.{named_view, triple_view, named_among};
+ghost use Rattle.ocfl_inventory.specs.ReadInventory.{IsReading, note_line};
+
+use crate::claims::Claim;
+use crate::gather::gather;
+use crate::note::{Remark, Stop};
+use crate::notes::inventory_lines;
+use crate::reading::{Inventory, behind_object, object};
+use crate::triple::{Named, Triple};
+use ocfl_digest::Algorithm;
+use ocfl_report::Line;
+use ocfl_tree::Place;
+use std::alloc::{AllocError, Global};
+use std::marker::Model;
+
+/// What an inventory says of the paths of its object, from the object's root down: for each, the digests that the
+/// manifest and the fixity block name.
+#[derive(Debug, Drop)]
+pub struct Table {
+    algorithm: Algorithm,
+    content: String,
+    triples: Vec<Triple>,
+}
+
+impl Model for Table {
+    ghost use Rattle.std.specs.Prelude.{map, string_bytes};
+    ghost use Rattle.ocfl_tree.specs.Ascending.{IsAscending};
+    ghost use Rattle.ocfl_inventory.specs.Table.{Table as TableModel, triple_cmp};
+    ghost use Rattle.ocfl_inventory.specs.TripleView.{triple_view};
+
+    ghost Value = { TableModel };
+
+    ghost view = { λ a. record { algorithm = a.algorithm; content = string_bytes a.content; triples = map triple_view a.triples.items } };
+
+    ghost invariant = { λ a. IsAscending triple_cmp (map triple_view a.triples.items) };
+}
+
+/// Where the paths that are not below a place begin.
+fn first_from(triples: &[Triple], place: &Place) -> usize
+    requires { IsAscending triple_cmp (map triple_view triples.now) }
+    ensures found { IsPartitionPoint (λ t. is_lt (place_cmp t.path place.now) ≡ true) (λ t. is_lt (place_cmp t.path place.now) ≡ false) triples.now result }
+    ensures bound { result ≤ length triples.now }
+{
+    triples.partition_point(|triple| triple.path.cmp(place).is_lt())
+}
+
+/// Where the paths above a place begin.
+fn first_above(triples: &[Triple], place: &Place) -> usize
+    requires { IsAscending triple_cmp (map triple_view triples.now) }
+    ensures found { IsPartitionPoint (λ t. is_lt (place_cmp place.now t.path) ≡ false) (λ t. is_lt (place_cmp place.now t.path) ≡ true) triples.now result }
+    ensures bound { result ≤ length triples.now }
+{
+    triples.partition_point(|triple| !place.cmp(&triple.path).is_lt())
+}
+
+/// Those of the triples that are a place's.
+fn triples_at<'t>(triples: &'t [Triple], place: &Place) -> &'t [Triple]
+    requires { IsAscending triple_cmp (map triple_view triples.now) }
+    ensures { map (λ t. named_view t.named) result.now ≡ named_among (map triple_view triples.now) place.now }
+{
+    let (front, _) = triples.split_at(first_above(triples, place));
+    let (_, found) = front.split_at(first_from(triples, place));
+    found
+}
+
+fn path_at(triples: &[Triple], index: usize) -> Option<&Place>
+    ensures { option_map (λ p. p.now) result ≡ option_map (λ t. t.path) (slice_get triples.now index) }
+{
+    let triple = triples.get(index)?;
+    Some(&triple.path)
+}
+
+fn clone_named(alloc: Global, triples: &[Triple]) -> Result<Vec<Named>, AllocError>
+    ensures { IfOk result (λ v. map named_view v.items ≡ map (λ t. named_view t.named) triples.now) }
+{
+    let mut found = Vec::with_capacity(alloc, triples.len())?;
+    for triple in triples {
+        found.push(triple.named.try_clone()?)?;
+    }
+    Ok(found)
+}
+
+fn to_triples(alloc: Global, claims: &[Claim]) -> Result<Vec<Triple>, AllocError>
+    ensures { IfOk result (λ v. map triple_view v.items ≡ claims.now) }
+{
+    let mut triples = Vec::with_capacity(alloc, claims.len())?;
+    for claim in claims {
+        triples.push(claim.to_triple(alloc)?)?;
+    }
+    Ok(triples)
+}
+
+/// Puts the claims in order, each once.
+fn put_claims_in_order(claims: &mut Vec<Claim>)
+    ensures { claims.new.items ≡ ascending triple_cmp claims.old.items }
+{
+    claims.sort_unstable();
+    claims.dedup();
+}
+
+/// The table of claims that stand in any order, as often as they are listed.
+fn make_table(
+    alloc: Global,
+    algorithm: Algorithm,
+    content: &str,
+    mut claims: Vec<Claim>,
+) -> Result<Table, AllocError>
+    ensures { IfOk result (λ t. t ≡ record { algorithm = algorithm; content = content.now; triples = ascending triple_cmp claims.entry.items }) }
+{
+    put_claims_in_order(&mut claims);
+    let triples = to_triples(alloc, &claims)?;
+    let content = String::from_str(alloc, content)?;
+    Ok(Table {
+        algorithm,
+        content,
+        triples,
+    })
+}
+
+/// The lines and the table of an inventory that does not stop.
+fn finish(alloc: Global, inventory: Inventory) -> Result<(Vec<Remark>, Table), AllocError>
+    ensures lines { IfOk result (λ r. map remark_view r.0.items ≡ inventory_notes (inventory_view inventory.entry)) }
+    ensures table { IfOk result (λ r. r.1 ≡ table_from (inventory_view inventory.entry)) }
+{
+    let (claims, listed) = gather(alloc, &inventory)?;
+    let remarks = inventory_lines(alloc, &inventory, listed)?;
+    let algorithm = inventory.algorithm;
+    let content = inventory.content;
+    // its lists are not needed beside the table
+    drop(inventory);
+    let table = make_table(alloc, algorithm, content, claims)?;
+    Ok((remarks, table))
+}
+
+/// The lines and the table of an inventory that does not stop, or what stops it.
+fn read_inventory(alloc: Global, bytes: &[u8]) -> Result<(Vec<Remark>, Table), Stop>
+    ensures { IsReading result (inventory_of bytes.now) }
+{
+    let map = object(alloc, bytes)?;
+    let inventory = behind_object(alloc, &map)?;
+    Ok(finish(alloc, inventory)?)
+}
+
+/// The line of a remark about the whole object.
+fn to_line(alloc: Global, remark: Remark) -> Line
+    ensures { line_of result ≡ note_line (remark_view remark) }
+{
+    Line {
+        code: remark.code,
+        place: Place::root(alloc),
+        detail: remark.detail,
+    }
+}
+
+fn to_lines(alloc: Global, remarks: Vec<Remark>) -> Result<Vec<Line>, AllocError>
+    ensures { IfOk result (λ v. map line_of v.items ≡ lines_at [] (map remark_view remarks.items)) }
+{
+    let mut lines = Vec::with_capacity(alloc, remarks.len())?;
+    for remark in remarks {
+        lines.push(to_line(alloc, remark))?;
+    }
+    Ok(lines)
+}
+
+impl Table {
+    /// Reads the bytes of an `inventory.json` (OCFL 1.1, 3.5 Inventory; RFC 8259).
+    ///
+    /// Answers the lines about the inventory, but for those on its sidecars, and its table. The lines carry the root as
+    /// their place: the caller puts the object's in. The first of these faults is the only line, and there is no table:
+    /// bytes that are no JSON object in UTF-8, or that nest too deep (E033); `digestAlgorithm` missing (E036), no text
+    /// (S03), or neither `sha256` nor `sha512` (E025); `contentDirectory` no text or empty (S03), with a slash (E017), or
+    /// `.` or `..` (E018); `manifest` missing (E041) or of a wrong form (S03); `fixity` of a wrong form (S03). Else there is
+    /// a table, and the lines are, in this order: digests that several keys have (E096, E097), bad paths (E100, E099,
+    /// S06), paths that conflict (E101), and algorithms of fixity that are not computed (S07). The error is want of memory.
+    pub fn read(alloc: Global, bytes: &[u8]) -> Result<(Vec<Line>, Option<Table>), AllocError>
+        ensures lines { IfOk result (λ r. map line_of r.0.items ≡ lines_at [] (notes_of bytes.now)) }
+        ensures table { IfOk result (λ r. r.1 ≡ table_of bytes.now) }
+    {
+        match read_inventory(alloc, bytes) {
+            Ok((remarks, table)) => Ok((to_lines(alloc, remarks)?, Some(table))),
+            Err(Stop::Memory) => Err(AllocError),
+            Err(Stop::Because(remark)) => {
+                let mut lines = Vec::new(alloc);
+                lines.push(to_line(alloc, remark))?;
+                Ok((lines, None))
+            }
+        }
+    }
+
+    /// The inventory's digest algorithm, `sha256` or `sha512`.
+    pub fn algorithm(&self) -> Algorithm
+        ensures { result ≡ self.now.algorithm }
+    {
+        self.algorithm
+    }
+
+    /// The name of the content directory (OCFL 1.1, 3.3.1 Content Directory), `content` where the inventory names none.
+    pub fn content_directory(&self) -> &str
+        ensures { result.now ≡ self.now.content }
+    {
+        self.content.as_str()
+    }
+
+    /// The digests that are named for a path of the object, from the object's root down: those of the manifest before
+    /// those of fixity, then by the algorithm's name, then by the digest's text, each once; none for a path that is not
+    /// named. The error is want of memory.
+    pub fn named(&self, alloc: Global, place: &Place) -> Result<Vec<Named>, AllocError>
+        ensures { IfOk result (λ v. map named_view v.items ≡ named_in self.now place.now) }
+    {
+        clone_named(alloc, triples_at(&self.triples, place))
+    }
+
+    /// The least path above the given one, or the least of all for none; `None` where there is no such path. Takes no
+    /// memory.
+    pub fn next_after(&self, after: Option<&Place>) -> Option<&Place>
+        ensures path { option_map (λ p. p.now) result ≡ next_path self.now (option_map (λ p. p.now) after.entry) }
+        ensures ascending { IsAscending triple_cmp self.now.triples }
+    {
+        match after {
+            Some(place) => path_at(&self.triples, first_above(&self.triples, place)),
+            None => path_at(&self.triples, 0),
+        }
+    }
+}

@@ -1,0 +1,441 @@
+use super::*;
+use crate::declaration::declaration;
+use ocfl_digest::Algorithm;
+use ocfl_tree::{Entry, Kind, Name, Place};
+use std::alloc::Global;
+use std::process::Abort;
+use std::test::Fail;
+
+// the digests of `abc`
+const MD5: &str = "900150983cd24fb0d6963f7d28e17f72";
+
+const SHA1: &str = "a9993e364706816aba3e25717850c26c9cd0d89d";
+
+const SHA256: &str = "ba7816bf8f01cfea414140de5dae2223b00361a396177a9cb410ff61f20015ad";
+
+const CAPITALS: &str = "BA7816BF8F01CFEA414140DE5DAE2223B00361A396177A9CB410FF61F20015AD";
+
+const SHA512: &str =
+    "ddaf35a193617abacc417349ae20413112e6fa4e89a97ea20a9eeee64b55d39a2192992a274fc1a836ba3c23a3feebbd454d4423643ce80e2a9ac94fa54ca49f";
+
+/// The text of an inventory with a manifest and further members.
+fn inventory(alloc: Global, manifest: &str, further: &str) -> Result<String, Fail> {
+    Ok(format!(in alloc;
+        "{{\"id\":\"o\",\"digestAlgorithm\":\"sha256\",\"head\":\"v1\",\"manifest\":{manifest},\"versions\":{{}}{further}}}"
+    )?)
+}
+
+/// The lines of an inventory's bytes, each as its code, a blank, its detail and a line feed, and whether there is a table.
+fn lines(alloc: Global, bytes: &[u8]) -> Result<(String, bool), Fail> {
+    let (lines, table) = Table::read(alloc, bytes)?;
+    let mut text = String::new(alloc);
+    for line in &lines {
+        let one = format!(in alloc; "{:?} {}\n", line.code, line.detail)?;
+        text.push_str(one.as_str())?;
+    }
+    Ok((text, table.is_some()))
+}
+
+fn stops(rt: &impl Abort, alloc: Global, bytes: &[u8], wanted: &str) -> Result<(), Fail> {
+    let (text, table) = lines(alloc, bytes)?;
+    assert_eq!(rt; text.as_str(), wanted);
+    assert!(rt; !table, "a table beside {wanted}");
+    Ok(())
+}
+
+fn goes_on(rt: &impl Abort, alloc: Global, bytes: &[u8], wanted: &str) -> Result<(), Fail> {
+    let (text, table) = lines(alloc, bytes)?;
+    assert_eq!(rt; text.as_str(), wanted);
+    assert!(rt; table, "no table beside {wanted}");
+    Ok(())
+}
+
+#[test]
+fn bytes_that_are_no_inventory(rt: HostRuntime) -> Result<(), Fail> {
+    let alloc = rt.alloc();
+    let cases = [
+        "[]",
+        "abc",
+        "",
+        "{\"digestAlgorithm\":",
+        "{\"a\":1e999}",
+        "{\"a\":\"\\ud800\"}",
+        "{} {}",
+    ];
+    for text in cases {
+        stops(&rt, alloc, text.as_bytes(), "E033 -\n")?;
+    }
+    stops(&rt, alloc, b"{\"a\":\"\xFF\"}", "E033 -\n")?;
+    stops(&rt, alloc, b"{}", "E036 digestAlgorithm\n")
+}
+
+/// An inventory with so many arrays within one another.
+fn nested(alloc: Global, arrays: usize) -> Result<String, Fail> {
+    let front = "[".repeat(alloc, arrays)?;
+    let back = "]".repeat(alloc, arrays)?;
+    let deep = format!(in alloc; ",\"deep\":{front}{back}")?;
+    inventory(alloc, "{}", deep.as_str())
+}
+
+#[test]
+fn inventories_nest_to_127(rt: HostRuntime) -> Result<(), Fail> {
+    let alloc = rt.alloc();
+    goes_on(&rt, alloc, nested(alloc, 126)?.as_bytes(), "")?;
+    stops(&rt, alloc, nested(alloc, 127)?.as_bytes(), "E033 -\n")
+}
+
+/// Inventories, each with the line that stops.
+const STOPS: [(&str, &str); 14] = [
+    ("{\"digestAlgorithm\":\"SHA256\"}", "E025 SHA256\n"),
+    ("{\"digestAlgorithm\":\"sha512/256\"}", "E025 sha512/256\n"),
+    ("{\"digestAlgorithm\":7}", "S03 digestAlgorithm\n"),
+    (
+        "{\"digestAlgorithm\":\"sha512\",\"contentDirectory\":\"a/b\"}",
+        "E017 a/b\n",
+    ),
+    (
+        "{\"digestAlgorithm\":\"sha512\",\"contentDirectory\":\"..\"}",
+        "E018 ..\n",
+    ),
+    (
+        "{\"digestAlgorithm\":\"sha512\",\"contentDirectory\":\"\"}",
+        "S03 contentDirectory\n",
+    ),
+    (
+        "{\"digestAlgorithm\":\"sha512\",\"contentDirectory\":7}",
+        "S03 contentDirectory\n",
+    ),
+    ("{\"digestAlgorithm\":\"sha512\"}", "E041 manifest\n"),
+    (
+        "{\"digestAlgorithm\":\"sha512\",\"manifest\":[]}",
+        "S03 manifest\n",
+    ),
+    (
+        "{\"digestAlgorithm\":\"sha512\",\"manifest\":{\"a\":\"v1/content/f\"}}",
+        "S03 manifest\n",
+    ),
+    (
+        "{\"digestAlgorithm\":\"sha512\",\"manifest\":{\"a\":[7]}}",
+        "S03 manifest\n",
+    ),
+    (
+        "{\"digestAlgorithm\":\"sha512\",\"manifest\":{},\"fixity\":[]}",
+        "S03 fixity\n",
+    ),
+    (
+        "{\"digestAlgorithm\":\"sha512\",\"manifest\":{},\"fixity\":{\"md5\":7}}",
+        "S03 fixity\n",
+    ),
+    (
+        "{\"digestAlgorithm\":\"sha512\",\"manifest\":{},\"fixity\":{\"sha512/256\":7}}",
+        "S03 fixity\n",
+    ),
+];
+
+#[test]
+fn keys_that_stop(rt: HostRuntime) -> Result<(), Fail> {
+    let alloc = rt.alloc();
+    for (text, wanted) in STOPS {
+        stops(&rt, alloc, text.as_bytes(), wanted)?;
+    }
+    Ok(())
+}
+
+/// Manifests, each with what follows the manifest and the lines.
+const GO_ON: [(&str, &str, &str); 13] = [
+    // bad paths of each kind
+    (
+        "{\"a\":[\"x/content/a\",\"/a\",\"v1/content/f\",\"v1/content/../b\"]}",
+        "",
+        "E100 /a\nE099 v1/content/../b\nS06 x/content/a\n",
+    ),
+    (
+        "{\"a\":[\"\",\"v1/content/f/\",\"v1//f\",\"v1/content\",\"v/content/f\",\"v1/c/f\",\"v1a/content/f\"]}",
+        "",
+        "E099 \nS06 v/content/f\nE099 v1//f\nS06 v1/c/f\nS06 v1/content\nE100 v1/content/f/\nS06 v1a/content/f\n",
+    ),
+    // each bad text once in the manifest, and once in all of fixity
+    (
+        "{\"a\":[\"v1/content/f\",\"/x\"]}",
+        ",\"fixity\":{\"md5\":{\"b\":[\"/x\"]},\"sha1\":{\"c\":[\"/x\"]}}",
+        "E100 /x\nE100 /x\n",
+    ),
+    // a digest twice in different case, also with no paths
+    ("{\"ab\":[],\"AB\":[],\"aB\":[],\"b\":[]}", "", "E096 ab\n"),
+    (
+        "{\"a\":[\"v1/content/f\"],\"A\":[\"v1/content/f\"]}",
+        "",
+        "E096 a\nE101 v1/content/f\n",
+    ),
+    (
+        "{}",
+        ",\"fixity\":{\"sha1\":{\"a\":[],\"A\":[]},\"md5\":{\"x\":[],\"X\":[],\"W\":[],\"w\":[]}}",
+        "E097 md5 w\nE097 md5 x\nE097 sha1 a\n",
+    ),
+    // a path that another one begins with by elements, and no path of the fixity block
+    (
+        "{\"a\":[\"v1/content/f\",\"v1/content/f/g\",\"v1/content/f-g\"]}",
+        "",
+        "E101 v1/content/f\n",
+    ),
+    (
+        "{\"a\":[\"v1/content/f\",\"v1/content/f-g\",\"v1/content/ff\"]}",
+        "",
+        "",
+    ),
+    (
+        "{\"a\":[\"v1/content/a/b/c\",\"v1/content/a-b\",\"v1/content/a\",\"v1/content/a/b\"]}",
+        "",
+        "E101 v1/content/a\nE101 v1/content/a/b\n",
+    ),
+    (
+        "{\"a\":[\"v1/content/f\",\"v1/content/f\",\"v1/content/f\"]}",
+        "",
+        "E101 v1/content/f\n",
+    ),
+    (
+        "{}",
+        ",\"fixity\":{\"md5\":{\"a\":[\"v1/content/f\",\"v1/content/f\"]}}",
+        "",
+    ),
+    // algorithms that are not computed
+    (
+        "{}",
+        ",\"fixity\":{\"blake2b-512\":7,\"MD5\":[],\"md5\":{}}",
+        "S07 MD5\nS07 blake2b-512\n",
+    ),
+    // all of them, in order
+    (
+        "{\"a\":[\"v1/content/f\",\"/x\"],\"A\":[\"v1/content/f/g\"]}",
+        ",\"fixity\":{\"b\":0,\"md5\":{\"c\":[\"/a\"],\"C\":[]}}",
+        "E096 a\nE097 md5 c\nE100 /x\nE100 /a\nE101 v1/content/f\nS07 b\n",
+    ),
+];
+
+#[test]
+fn lines_that_do_not_stop(rt: HostRuntime) -> Result<(), Fail> {
+    let alloc = rt.alloc();
+    for (manifest, further, wanted) in GO_ON {
+        let text = inventory(alloc, manifest, further)?;
+        goes_on(&rt, alloc, text.as_bytes(), wanted)?;
+    }
+    Ok(())
+}
+
+#[test]
+fn listed_paths_have_limits(rt: HostRuntime) -> Result<(), Fail> {
+    let alloc = rt.alloc();
+    for (elements, letters, is_kept) in [(126, 255, true), (127, 1, false), (1, 256, false)] {
+        let rest = "/d".repeat(alloc, elements - 1)?;
+        let last = "f".repeat(alloc, letters)?;
+        let path = format!(in alloc; "v1/content{rest}/{last}")?;
+        let manifest = format!(in alloc; "{{\"a\":[\"{path}\"]}}")?;
+        let text = inventory(alloc, manifest.as_str(), "")?;
+        let wanted = if is_kept {
+            String::new(alloc)
+        } else {
+            format!(in alloc; "S06 {path}\n")?
+        };
+        goes_on(&rt, alloc, text.as_bytes(), wanted.as_str())?;
+    }
+    let text = inventory(alloc, "{\"a\":[\"v1/content/\\u0000\"]}", "")?;
+    goes_on(&rt, alloc, text.as_bytes(), "S06 v1/content/\0\n")
+}
+
+fn place_of(alloc: Global, names: &[&str]) -> Result<Place, Fail> {
+    let mut place = Place::root(alloc);
+    for name in names {
+        place.push(Name::new(alloc, name)?)?;
+    }
+    Ok(place)
+}
+
+/// The digests that a table names for a path, each as `manifest` or `fixity`, the algorithm and the digest.
+fn named(alloc: Global, table: &Table, place: &Place) -> Result<String, Fail> {
+    let mut text = String::new(alloc);
+    for named in &table.named(alloc, place)? {
+        let block = if named.fixity { "fixity" } else { "manifest" };
+        let one = format!(in alloc; "{block} {} {}\n", named.algorithm.name(), named.digest)?;
+        text.push_str(one.as_str())?;
+    }
+    Ok(text)
+}
+
+#[test]
+fn digests_are_named_in_order(rt: HostRuntime) -> Result<(), Fail> {
+    let alloc = rt.alloc();
+    let manifest = format!(in alloc;
+        "{{\"{CAPITALS}\":[\"v1/content/f\"],\"b\":[\"v1/content/f\",\"v1/content/g\"],\"{SHA256}\":[\"v1/content/f\"]}}"
+    )?;
+    let fixity = format!(in alloc;
+        ",\"fixity\":{{\"sha512\":{{\"{SHA512}\":[\"v1/content/f\"]}},\"sha1\":{{\"{SHA1}\":[\"v1/content/f\"]}},\"md5\":{{\"{MD5}\":[\"v1/content/f\"]}},\"x\":0}}"
+    )?;
+    let text = inventory(alloc, manifest.as_str(), fixity.as_str())?;
+    let (_, table) = Table::read(alloc, text.as_bytes())?;
+    let Some(table) = table else {
+        return Err(Fail::new("no table"));
+    };
+    assert!(rt; table.algorithm() == Algorithm::Sha256);
+    assert_eq!(rt; table.content_directory(), "content");
+    let wanted = format!(in alloc;
+        "manifest sha256 b\nmanifest sha256 {SHA256}\nfixity md5 {MD5}\nfixity sha1 {SHA1}\nfixity sha512 {SHA512}\n"
+    )?;
+    let found = named(alloc, &table, &place_of(alloc, &["v1", "content", "f"])?)?;
+    assert_eq!(rt; found.as_str(), wanted.as_str());
+    let found = named(alloc, &table, &place_of(alloc, &["v1", "content", "g"])?)?;
+    assert_eq!(rt; found.as_str(), "manifest sha256 b\n");
+    let found = named(alloc, &table, &place_of(alloc, &["v1", "content"])?)?;
+    assert_eq!(rt; found.as_str(), "");
+    Ok(())
+}
+
+#[test]
+fn paths_follow_as_places(rt: HostRuntime) -> Result<(), Fail> {
+    let alloc = rt.alloc();
+    let text =
+        "{\"digestAlgorithm\":\"sha512\",\"contentDirectory\":\"c\",\"manifest\":{\"b\":[\"v1/c/a-b\",\"v1/c/a/b\"],\"a\":[\"v1/c/a/b\",\"v10/c/a\"]}}";
+    let (_, table) = Table::read(alloc, text.as_bytes())?;
+    let Some(table) = table else {
+        return Err(Fail::new("no table"));
+    };
+    assert_eq!(rt; table.content_directory(), "c");
+    let first = place_of(alloc, &["v1", "c", "a", "b"])?;
+    let second = place_of(alloc, &["v1", "c", "a-b"])?;
+    let third = place_of(alloc, &["v10", "c", "a"])?;
+    let before = place_of(alloc, &["v1", "c", "a"])?;
+    assert!(rt; table.next_after(None) == Some(&first));
+    assert!(rt; table.next_after(Some(&before)) == Some(&first));
+    assert!(rt; table.next_after(Some(&first)) == Some(&second));
+    assert!(rt; table.next_after(Some(&second)) == Some(&third));
+    assert!(rt; table.next_after(Some(&third)) == None);
+    Ok(())
+}
+
+#[test]
+fn an_algorithm_stands_where_no_table_does(rt: HostRuntime) -> Result<(), Fail> {
+    let alloc = rt.alloc();
+    let cases = [
+        (
+            "{\"digestAlgorithm\":\"sha512\",\"manifest\":7}",
+            Some(Algorithm::Sha512),
+        ),
+        ("{\"digestAlgorithm\":\"sha256\"}", Some(Algorithm::Sha256)),
+        ("{\"digestAlgorithm\":\"md5\"}", None),
+        ("{\"digestAlgorithm\":7}", None),
+        ("{}", None),
+        ("[]", None),
+    ];
+    for (text, wanted) in cases {
+        assert!(rt; algorithm_of(alloc, text.as_bytes())? == wanted, "{text}");
+    }
+    Ok(())
+}
+
+const SUM: [u8; 32] = [
+    0xba, 0x78, 0x16, 0xbf, 0x8f, 0x01, 0xcf, 0xea, 0x41, 0x41, 0x40, 0xde, 0x5d, 0xae, 0x22, 0x23,
+    0xb0, 0x03, 0x61, 0xa3, 0x96, 0x17, 0x7a, 0x9c, 0xb4, 0x10, 0xff, 0x61, 0xf2, 0x00, 0x15, 0xad,
+];
+
+#[test]
+fn sidecars_are_read(rt: HostRuntime) -> Result<(), Fail> {
+    let alloc = rt.alloc();
+    let rests = [
+        " inventory.json\n",
+        "  inventory.json",
+        "\t inventory.json \t\r\n\n",
+    ];
+    for rest in rests {
+        let small = format!(in alloc; "{SHA256}{rest}")?;
+        let capital = format!(in alloc; "{CAPITALS}{rest}")?;
+        let (Some(sum), Some(same)) = (
+            sidecar(small.as_bytes(), Algorithm::Sha256),
+            sidecar(capital.as_bytes(), Algorithm::Sha256),
+        ) else {
+            return Err(Fail::new("not of the form"));
+        };
+        assert_eq!(rt; sum.bytes(), SUM.as_slice());
+        assert_eq!(rt; same.bytes(), SUM.as_slice());
+    }
+    let text = format!(in alloc; "{SHA512} inventory.json\n")?;
+    let Some(sum) = sidecar(text.as_bytes(), Algorithm::Sha512) else {
+        return Err(Fail::new("not of the form"));
+    };
+    assert_eq!(rt; sum.bytes().len(), 64);
+    Ok(())
+}
+
+#[test]
+fn other_sidecars_are_refused(rt: HostRuntime) -> Result<(), Fail> {
+    let alloc = rt.alloc();
+    let rests = [
+        " *inventory.json\n",
+        "inventory.json",
+        " inventory.jso",
+        " inventory.json x",
+        " Inventory.json",
+        "a inventory.json",
+        "\n inventory.json",
+        "",
+    ];
+    for rest in rests {
+        let text = format!(in alloc; "{SHA256}{rest}")?;
+        assert!(rt;
+            sidecar(text.as_bytes(), Algorithm::Sha256).is_none(),
+            "{rest}"
+        );
+    }
+    let text = format!(in alloc; "{} inventory.json\n", &SHA256[..63])?;
+    assert!(rt; sidecar(text.as_bytes(), Algorithm::Sha256).is_none());
+    let text = format!(in alloc; "{SHA256} inventory.json\n")?;
+    let others = [
+        Algorithm::Md5,
+        Algorithm::Sha1,
+        Algorithm::Sha512,
+        Algorithm::Sha512_256,
+    ];
+    for algorithm in others {
+        assert!(rt; sidecar(text.as_bytes(), algorithm).is_none());
+    }
+    let text = format!(in alloc; "{SHA512} inventory.json\n")?;
+    assert!(rt; sidecar(text.as_bytes(), Algorithm::Sha256).is_none());
+    Ok(())
+}
+
+#[test]
+fn sidecars_have_at_most_4096_bytes(rt: HostRuntime) -> Result<(), Fail> {
+    let alloc = rt.alloc();
+    for (blanks, is_taken) in [(4096 - 79, true), (4097 - 79, false)] {
+        let end = " ".repeat(alloc, blanks)?;
+        let text = format!(in alloc; "{SHA256} inventory.json{end}")?;
+        assert!(rt; sidecar(text.as_bytes(), Algorithm::Sha256).is_some() == is_taken);
+    }
+    Ok(())
+}
+
+fn entry(alloc: Global, name: &str, kind: Kind) -> Result<Entry, Fail> {
+    Ok(Entry {
+        name: Name::new(alloc, name)?,
+        kind,
+    })
+}
+
+#[test]
+fn declarations_are_files_of_a_name(rt: HostRuntime) -> Result<(), Fail> {
+    let alloc = rt.alloc();
+    let mut entries = Vec::new(alloc);
+    entries.push(entry(alloc, "0=ocfl_1.0", Kind::Dir)?)?;
+    entries.push(entry(alloc, "0=ocfl_x1.0", Kind::File)?)?;
+    entries.push(entry(alloc, "0=ocfl_object_", Kind::File)?)?;
+    for level in [Level::Root, Level::Object] {
+        assert!(rt; declaration(&entries, level) == Declared::None);
+    }
+    entries.push(entry(alloc, "0=ocfl_1.1", Kind::File)?)?;
+    entries.push(entry(alloc, "0=ocfl_object_1.0", Kind::File)?)?;
+    assert!(rt; declaration(&entries, Level::Root) == Declared::One(Version::V1_1));
+    assert!(rt; declaration(&entries, Level::Object) == Declared::One(Version::V1_0));
+    entries.push(entry(alloc, "0=ocfl_2.0", Kind::File)?)?;
+    assert!(rt; declaration(&entries, Level::Root) == Declared::Several);
+    assert!(rt; declaration(&entries[5..], Level::Root) == Declared::Unknown(0));
+    assert!(rt; declaration(&entries[4..], Level::Root) == Declared::Unknown(1));
+    Ok(())
+}

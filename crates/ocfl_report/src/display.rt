@@ -1,0 +1,21 @@
+use crate::escaped::ESCAPED;
+use ocfl_tree::Place;
+use percent_encoding::percent_encode;
+use std::fmt;
+
+/// A place whose `Display` is its text in a report, as [`put_place`](crate::put_place) appends it.
+#[derive(Clone, Copy, Debug)]
+pub struct DisplayPlace<'a>(pub &'a Place);
+
+impl fmt::Display for DisplayPlace<'_> {
+    fn fmt<W: fmt::Write>(&self, f: &mut fmt::Formatter<W>) -> fmt::Result {
+        let Some((first, others)) = self.0.names().split_first() else {
+            return f.write_str(".");
+        };
+        write!(f, "{}", percent_encode(first.as_str().as_bytes(), ESCAPED))?;
+        for name in others {
+            write!(f, "/{}", percent_encode(name.as_str().as_bytes(), ESCAPED))?;
+        }
+        Ok(())
+    }
+}

@@ -1,0 +1,276 @@
+use crate::checked;
+use ocfl_digest::{Algorithm, Block, Wanted, hash_bytes};
+use ocfl_tree::{FsTree, MemTree, Name, Place, Point, Tree};
+use std::alloc::Global;
+use std::fs;
+use std::process::Abort;
+use std::test::Fail;
+
+// SHA-512 of `abc`, and of no bytes.
+const ABC: &str =
+    "ddaf35a193617abacc417349ae20413112e6fa4e89a97ea20a9eeee64b55d39a2192992a274fc1a836ba3c23a3feebbd454d4423643ce80e2a9ac94fa54ca49f";
+
+const NOTHING: &str =
+    "cf83e1357eefb8bdf1542850d66d8007d620e4050b5715dc83f4a921d36ce9ce47d0d13c5d85f2b0ff8318d2877eec2f63b931bd47417a81a538327af927da3e";
+
+const FILE: &str = "o/v1/content/f";
+
+fn place_of(alloc: Global, text: &str) -> Result<Place, Fail> {
+    let mut place = Place::root(alloc);
+    for name in text.split('/') {
+        place.push(Name::new(alloc, name)?)?;
+    }
+    Ok(place)
+}
+
+/// An inventory whose manifest lists `v1/content/f` under the digest, with these further keys.
+fn inventory(alloc: Global, digest: &str, more: &str) -> Result<String, Fail> {
+    Ok(format!(in alloc;
+        "{{\"id\":\"o\",\"type\":\"https://ocfl.io/1.1/spec/#inventory\",\"digestAlgorithm\":\"sha512\",\"head\":\"v1\",\"manifest\":{{\"{digest}\":[\"v1/content/f\"]}},\"versions\":{{}}{more}}}"
+    )?)
+}
+
+/// The text of a right sidecar.
+fn sidecar(alloc: Global, inventory: &str) -> Result<String, Fail> {
+    let digests = hash_bytes(inventory.as_bytes(), Wanted::none().with(Algorithm::Sha512));
+    let digest = hex::encode(alloc, digests.get(Algorithm::Sha512).ok_or("no digest")?)?;
+    Ok(format!(in alloc; "{digest} inventory.json\n")?)
+}
+
+/// What a storage root with an object holds, each file with its text.
+fn files<'a>(inventory: &'a str, sidecar: &'a str) -> [(&'static str, &'a str); 4] {
+    [
+        ("0=ocfl_1.1", "ocfl_1.1\n"),
+        ("o/0=ocfl_object_1.1", "ocfl_object_1.1\n"),
+        ("o/inventory.json", inventory),
+        ("o/inventory.json.sha512", sidecar),
+    ]
+}
+
+const FOLDERS: [&str; 3] = ["o", "o/v1", "o/v1/content"];
+
+/// That storage root in memory, its content file `f` of these bytes.
+fn root_with(alloc: Global, inventory: &str, content: &str) -> Result<MemTree, Fail> {
+    let mut store = MemTree::new(alloc);
+    for folder in FOLDERS {
+        store.put_dir(&place_of(alloc, folder)?)?;
+    }
+    let sidecar = sidecar(alloc, inventory)?;
+    for (place, text) in files(inventory, sidecar.as_str()) {
+        store.put_file(&place_of(alloc, place)?, text.as_bytes().to_vec(alloc)?)?;
+    }
+    store.put_file(&place_of(alloc, FILE)?, content.as_bytes().to_vec(alloc)?)?;
+    Ok(store)
+}
+
+fn right_root(alloc: Global) -> Result<MemTree, Fail> {
+    root_with(
+        alloc,
+        inventory(alloc, ABC, ",\"fixity\":{}")?.as_str(),
+        "abc",
+    )
+}
+
+/// Checking the path writes this text, and ends with this status and this note.
+fn expect<T: Tree>(
+    rt: &(impl Abort + AllocGlobal),
+    store: &mut T,
+    path: &str,
+    text: &str,
+    status: u8,
+    note: &str,
+) -> Result<(), Fail> {
+    let alloc = rt.alloc();
+    let mut out = Vec::new(alloc);
+    let mut block = Block::new(alloc)?;
+    let (got, said) = checked(alloc, store, path, &mut block, &mut out);
+    let said = format!(in alloc; "{said}")?;
+    assert_eq!(rt; out.as_slice(), text.as_bytes());
+    assert_eq!(rt; got, status);
+    assert_eq!(rt; said.as_str(), note);
+    Ok(())
+}
+
+/// Whether a file was opened at the place.
+fn is_opened(alloc: Global, store: &MemTree, place: &str) -> Result<bool, Fail> {
+    let place = place_of(alloc, place)?;
+    Ok(
+        store
+            .openings()
+            .iter()
+            .any(|opening| opening.place == place),
+    )
+}
+
+#[test]
+fn right_file(rt: HostRuntime) -> Result<(), Fail> {
+    let mut store = right_root(rt.alloc())?;
+    expect(&rt, &mut store, FILE, "ok\to/v1/content/f\t3\n", 0, "")?;
+    assert_eq!(rt; store.listings().len(), 4);
+    assert_eq!(rt; store.openings().len(), 2);
+    Ok(())
+}
+
+#[test]
+fn capitals_in_manifest_key(rt: HostRuntime) -> Result<(), Fail> {
+    let alloc = rt.alloc();
+    let capitals = ABC.to_ascii_uppercase(alloc)?;
+    let inventory = inventory(alloc, capitals.as_str(), "")?;
+    let mut store = root_with(alloc, inventory.as_str(), "abc")?;
+    expect(&rt, &mut store, FILE, "ok\to/v1/content/f\t3\n", 0, "")
+}
+
+#[test]
+fn emptied_file(rt: HostRuntime) -> Result<(), Fail> {
+    let alloc = rt.alloc();
+    let mut store = root_with(alloc, inventory(alloc, ABC, "")?.as_str(), "")?;
+    let text = format!(in alloc; "E092\to/v1/content/f\tsha512 {ABC} {NOTHING}\n")?;
+    expect(&rt, &mut store, FILE, text.as_str(), 1, "")
+}
+
+#[test]
+fn file_that_nothing_names(rt: HostRuntime) -> Result<(), Fail> {
+    let alloc = rt.alloc();
+    let mut store = right_root(alloc)?;
+    let path = "o/v1/content/g";
+    store.put_file(&place_of(alloc, path)?, b"abc".to_vec(alloc)?)?;
+    expect(&rt, &mut store, path, "E023\to/v1/content/g\t-\n", 1, "")?;
+    assert!(rt; !is_opened(alloc, &store, path)?);
+    Ok(())
+}
+
+#[test]
+fn no_item(rt: HostRuntime) -> Result<(), Fail> {
+    let alloc = rt.alloc();
+    let mut store = right_root(alloc)?;
+    expect(&rt, &mut store, "o/v1/content/h", "", 0, "no item")?;
+    store.remove(&place_of(alloc, "o")?)?;
+    expect(&rt, &mut store, FILE, "", 0, "no item")
+}
+
+#[test]
+fn bad_path(rt: HostRuntime) -> Result<(), Fail> {
+    let mut store = right_root(rt.alloc())?;
+    expect(&rt, &mut store, "o//f", "", 2, "bad path")?;
+    assert_eq!(rt; store.listings().len(), 0);
+    Ok(())
+}
+
+#[test]
+fn heads_that_stop(rt: HostRuntime) -> Result<(), Fail> {
+    let alloc = rt.alloc();
+    for inventory in ["abc", "{}"] {
+        let mut store = root_with(alloc, inventory, "abc")?;
+        expect(&rt, &mut store, FILE, "", 0, "no item")?;
+    }
+    let mut store = right_root(alloc)?;
+    store.remove(&place_of(alloc, "o/inventory.json")?)?;
+    expect(&rt, &mut store, FILE, "", 0, "no item")
+}
+
+#[test]
+fn wrong_sidecar_does_not_matter(rt: HostRuntime) -> Result<(), Fail> {
+    let alloc = rt.alloc();
+    let mut store = right_root(alloc)?;
+    let place = place_of(alloc, "o/inventory.json.sha512")?;
+    store.remove(&place)?;
+    store.put_file(&place, b"wrong".to_vec(alloc)?)?;
+    expect(&rt, &mut store, FILE, "ok\to/v1/content/f\t3\n", 0, "")
+}
+
+#[test]
+fn fixity_is_compared_too(rt: HostRuntime) -> Result<(), Fail> {
+    let alloc = rt.alloc();
+    let fixity =
+        ",\"fixity\":{\"md5\":{\"d41d8cd98f00b204e9800998ecf8427e\":[\"v1/content/f\"]},\"sha512/256\":{\"53048e2681941ef99b2e29b76b4c7dabe4c2d0c634fc6d46e0e2f13107e7af23\":[\"v1/content/f\"]}}";
+    let mut store = root_with(alloc, inventory(alloc, ABC, fixity)?.as_str(), "abc")?;
+    let text =
+        "E093\to/v1/content/f\tmd5 d41d8cd98f00b204e9800998ecf8427e 900150983cd24fb0d6963f7d28e17f72\n";
+    expect(&rt, &mut store, FILE, text, 1, "")
+}
+
+#[test]
+fn what_is_no_file(rt: HostRuntime) -> Result<(), Fail> {
+    let alloc = rt.alloc();
+    let mut store = right_root(alloc)?;
+    let place = place_of(alloc, FILE)?;
+    store.remove(&place)?;
+    let missing = "E092\to/v1/content/f\tsha512 missing\n";
+    expect(&rt, &mut store, FILE, missing, 1, "")?;
+    store.put_other(&place)?;
+    let text = format!(in alloc; "S04\to/v1/content/f\t-\n{missing}")?;
+    expect(&rt, &mut store, FILE, text.as_str(), 1, "")?;
+    store.remove(&place)?;
+    store.put_dir(&place)?;
+    let text = format!(in alloc; "E024\to/v1/content/f\t-\n{missing}")?;
+    expect(&rt, &mut store, FILE, text.as_str(), 1, "")
+}
+
+#[test]
+fn failing_store(rt: HostRuntime) -> Result<(), Fail> {
+    let alloc = rt.alloc();
+    let mut store = right_root(alloc)?;
+    store.fail_at(&place_of(alloc, "o/v1")?, Point::List)?;
+    expect(&rt, &mut store, FILE, "", 3, "stopped at o/v1")?;
+    let mut store = right_root(alloc)?;
+    store.fail_at(&place_of(alloc, FILE)?, Point::Read(0))?;
+    expect(&rt, &mut store, FILE, "S08\to/v1/content/f\t-\n", 1, "")
+}
+
+/// Takes so many bytes in all, and then fails.
+#[derive(Drop)]
+struct Narrow {
+    room: usize,
+}
+
+impl std::io::Write for Narrow {
+    fn write(&mut self, buffer: &[u8]) -> std::io::Result<usize> {
+        if self.room == 0 {
+            return Err(std::io::Error::from(std::io::ErrorKind::Other));
+        }
+        let count = buffer.len().min(self.room);
+        self.room -= count;
+        Ok(count)
+    }
+
+    fn flush(&mut self) -> std::io::Result<()> {
+        Ok(())
+    }
+}
+
+#[test]
+fn failing_output(rt: HostRuntime) -> Result<(), Fail> {
+    let alloc = rt.alloc();
+    let mut store = right_root(alloc)?;
+    let mut block = Block::new(alloc)?;
+    let (status, note) = checked(alloc, &mut store, FILE, &mut block, &mut Narrow { room: 5 });
+    let note = format!(in alloc; "{note}")?;
+    assert_eq!(rt; status, 3);
+    assert_eq!(rt; note.as_str(), "output failed");
+    Ok(())
+}
+
+#[test]
+fn over_a_folder(rt: HostRuntime) -> Result<(), Fail> {
+    let alloc = rt.alloc();
+    let capitals = ABC.to_ascii_uppercase(alloc)?;
+    for digest in [ABC, capitals.as_str()] {
+        if fs::exists(&rt, "root")? {
+            fs::remove_dir_all(&rt, "root")?;
+        }
+        fs::create_dir(&rt, "root")?;
+        for folder in FOLDERS {
+            fs::create_dir(&rt, format!(in alloc; "root/{folder}")?.as_str())?;
+        }
+        let inventory = inventory(alloc, digest, "")?;
+        let sidecar = sidecar(alloc, inventory.as_str())?;
+        for (place, text) in files(inventory.as_str(), sidecar.as_str()) {
+            fs::write(&rt, format!(in alloc; "root/{place}")?.as_str(), text)?;
+        }
+        fs::write(&rt, "root/o/v1/content/f", "abc")?;
+        let mut store = FsTree::at(&rt, "root")?;
+        expect(&rt, &mut store, FILE, "ok\to/v1/content/f\t3\n", 0, "")?;
+    }
+    fs::remove_dir_all(&rt, "root")?;
+    Ok(())
+}

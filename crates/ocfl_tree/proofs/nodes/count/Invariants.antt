@@ -1,0 +1,9 @@
+use Rattle.std.proofs.Common.{◌≡◌, ◌+◌, ◌≤◌, drop, length}
+use Rattle.ocfl_tree.specs.Nodes.{kept_in}
+use Rattle.ocfl_tree.proofs.nodes.count.Given as goal
+
+abbrev pub invariant-loop-place : goal.invariant-loop-place
+invariant-loop-place l = record {
+  counted : l.count + length (kept_in (drop l.place-index l.nodes) l.dir) ≡ length (kept_in l.nodes l.dir);
+  small : l.count ≤ l.place-index;
+}

@@ -1,0 +1,288 @@
+ghost use Rattle.std.specs.Prelude.{◌≡◌, ◌≢◌, ◌≤◌, ◌↔◌, IsTrue, true, false, IfOk, OnOk, OnErr, length, Err};
+ghost use Rattle.std.specs.Fs.{IsDir, IsFile, file_type};
+ghost use Rattle.std.specs.IoError.{error_kind};
+ghost use Rattle.ocfl_tree.specs.declared.fs_tree.Fault.TheVariants.{Trouble as Lasting};
+ghost use Rattle.ocfl_tree.specs.declared.store.Trouble.TheVariants.{Absent, Memory};
+ghost use Rattle.ocfl_tree.specs.Listing.{AreApart, IsOrdinary};
+ghost use Rattle.ocfl_tree.specs.MemTree.{empty_store};
+
+use crate::name::{Name, NameStop};
+use crate::place::Place;
+use crate::store::{Entry, Kind, Trouble};
+use crate::tree::Tree;
+use std::alloc::AllocError;
+use std::fs::Metadata;
+use std::io::{ErrorKind, Read};
+use std::marker::Model;
+use std::rt::Files;
+use std::{fs, io};
+
+/// A folder of the file system. It does not tell its tree.
+///
+/// A link is listed as `Other` and never followed, but for the folder itself. What is not found is `Absent`; want of
+/// memory is `Memory`, but never in a read; every other fault is `Device`: a file where a directory is asked for or
+/// the other way round, a name that is not UTF-8 or is listed twice, more than 1,000,000 entries, an entry that goes
+/// away while it is listed, a path that is longer than the system takes.
+#[derive(Drop)]
+pub struct FsTree<R: Files + AllocGlobal + Clone + Drop> {
+    rt: R,
+    root: String,
+    open: Option<R::File>,
+}
+
+/// Its value in clauses: whether a file is open.
+impl<R: Files + AllocGlobal + Clone + Drop> Model for FsTree<R> {
+    ghost use Rattle.std.specs.Prelude.{Bool, is_some};
+
+    ghost Value = { Bool };
+
+    ghost view = { λ a. is_some a.open };
+}
+
+/// How often an interrupted call is made at most.
+const TRIES: u64 = 1000;
+
+/// Why one try of a call gave nothing.
+#[derive(Clone, Copy, Debug, PartialEq, Eq)]
+enum Fault {
+    Interrupted,
+    Trouble(Trouble),
+}
+
+impl From<AllocError> for Fault {
+    ghost from_gives = { λ _ e. e ≡ Lasting Memory };
+
+    fn from(_error: AllocError) -> Fault {
+        Fault::Trouble(Trouble::Memory)
+    }
+}
+
+fn fault_of(error: &io::Error) -> Fault
+    ensures interrupted { (result ≡ Fault.Interrupted) ↔ (error_kind error.now ≡ ErrorKind.Interrupted) }
+    ensures absent { (result ≡ Fault.Trouble Absent) ↔ (error_kind error.now ≡ ErrorKind.NotFound) }
+    ensures memory { (result ≡ Fault.Trouble Memory) ↔ (error_kind error.now ≡ ErrorKind.OutOfMemory) }
+{
+    match error.kind() {
+        ErrorKind::Interrupted => Fault::Interrupted,
+        ErrorKind::NotFound => Fault::Trouble(Trouble::Absent),
+        ErrorKind::OutOfMemory => Fault::Trouble(Trouble::Memory),
+        _ => Fault::Trouble(Trouble::Device),
+    }
+}
+
+/// The fault of an entry that was listed: that it is not there any more is the device's.
+fn entry_fault_of(error: &io::Error) -> Fault
+    ensures { result ≢ Fault.Trouble Absent }
+{
+    match fault_of(error) {
+        Fault::Trouble(Trouble::Absent) => Fault::Trouble(Trouble::Device),
+        fault => fault,
+    }
+}
+
+fn kind_of(metadata: &Metadata) -> Kind
+    ensures dir { (result ≡ Kind.Dir) ↔ IsDir (file_type metadata.now) }
+    ensures file { result ≡ Kind.File → IsFile (file_type metadata.now) }
+    ensures other { result ≡ Kind.Other → IsFile (file_type metadata.now) → ⊥ }
+{
+    if metadata.is_dir() {
+        Kind::Dir
+    } else if metadata.is_file() {
+        Kind::File
+    } else {
+        Kind::Other
+    }
+}
+
+/// Whether each name is below the next.
+fn rise(entries: &[Entry]) -> bool
+    ensures { IsTrue result → AreApart entries.now }
+{
+    for (i, entry) in entries.iter().enumerate() {
+        if i > 0 && entries[i - 1].name >= entry.name {
+            return false;
+        }
+    }
+    true
+}
+
+/// Refuses entries of which two have one name.
+fn once(mut entries: Vec<Entry>) -> Result<Vec<Entry>, Trouble>
+    requires { length entries.items ≤ 1000000 }
+    ensures { IfOk result (λ entries. IsOrdinary entries.items) }
+{
+    entries.sort()?;
+    if rise(&entries) {
+        Ok(entries)
+    } else {
+        Err(Trouble::Device)
+    }
+}
+
+impl<R: Files + AllocGlobal + Clone + Drop> FsTree<R> {
+    /// The folder at a path, which need not be there yet.
+    pub fn at(rt: R, root: &str) -> Result<FsTree<R>, AllocError>
+        ensures { IfOk result (λ store. store ≡ false) }
+    {
+        let root = String::from_str(rt.alloc(), root)?;
+        Ok(FsTree {
+            rt,
+            root,
+            open: None,
+        })
+    }
+
+    fn kind_at(&self, path: &str) -> Result<Kind, Fault> {
+        match fs::symlink_metadata(&self.rt, path) {
+            Ok(metadata) => Ok(kind_of(&metadata)),
+            Err(error) => Err(fault_of(&error)),
+        }
+    }
+
+    /// The path of a place, where its names lead through directories to what is of this kind.
+    fn path(&self, place: &Place, kind: Kind) -> Result<String, Fault> {
+        let mut path = self.root.clone()?;
+        let mut found = match fs::metadata(&self.rt, path.as_str()) {
+            Ok(metadata) => kind_of(&metadata),
+            Err(error) => return Err(fault_of(&error)),
+        };
+        for name in place.names() {
+            if found != Kind::Dir {
+                return Err(Fault::Trouble(Trouble::Device));
+            }
+            path.push('/')?;
+            path.push_str(name.as_str())?;
+            found = self.kind_at(path.as_str())?;
+        }
+        if found == kind {
+            Ok(path)
+        } else {
+            Err(Fault::Trouble(Trouble::Device))
+        }
+    }
+
+    /// The entry of a directory; that it went away is the device's fault.
+    fn entry(&self, entry: &fs::DirEntry<R>) -> Result<Entry, Fault> {
+        let kind = match entry.metadata() {
+            Ok(metadata) => kind_of(&metadata),
+            Err(error) => return Err(entry_fault_of(&error)),
+        };
+        match Name::new(self.rt.alloc(), entry.file_name()) {
+            Ok(name) => Ok(Entry { name, kind }),
+            Err(NameStop::Memory) => Err(Fault::Trouble(Trouble::Memory)),
+            Err(NameStop::Bad) => Err(Fault::Trouble(Trouble::Device)),
+        }
+    }
+
+    fn entries(&self, place: &Place) -> Result<Vec<Entry>, Fault>
+        ensures { IfOk result (λ entries. length entries.items ≤ 1000000) }
+    {
+        let path = self.path(place, Kind::Dir)?;
+        let listing = match fs::read_dir(&self.rt, path.as_str()) {
+            Ok(listing) => listing,
+            Err(error) => return Err(fault_of(&error)),
+        };
+        let mut entries = Vec::new(self.rt.alloc());
+        for entry in listing {
+            if entries.len() >= 1_000_000 {
+                return Err(Fault::Trouble(Trouble::Device));
+            }
+            match entry {
+                Ok(entry) => entries.push(self.entry(&entry)?).map_err(AllocError::from)?,
+                Err(error) => return Err(entry_fault_of(&error)),
+            }
+        }
+        Ok(entries)
+    }
+
+    /// The entries, where the call is not interrupted too often.
+    fn listed(&self, place: &Place) -> Result<Vec<Entry>, Trouble>
+        ensures { IfOk result (λ entries. IsOrdinary entries.items) }
+    {
+        for _ in 0..TRIES {
+            match self.entries(place) {
+                Ok(entries) => return once(entries),
+                Err(Fault::Interrupted) => {}
+                Err(Fault::Trouble(trouble)) => return Err(trouble),
+            }
+        }
+        Err(Trouble::Device)
+    }
+
+    fn file(&self, place: &Place) -> Result<R::File, Fault> {
+        let path = self.path(place, Kind::File)?;
+        match fs::open(&self.rt, path.as_str()) {
+            Ok(file) => Ok(file),
+            Err(error) => Err(fault_of(&error)),
+        }
+    }
+
+    /// The file at a place, where the call is not interrupted too often.
+    fn opened(&self, place: &Place) -> Result<R::File, Trouble> {
+        for _ in 0..TRIES {
+            match self.file(place) {
+                Ok(file) => return Ok(file),
+                Err(Fault::Interrupted) => {}
+                Err(Fault::Trouble(trouble)) => return Err(trouble),
+            }
+        }
+        Err(Trouble::Device)
+    }
+}
+
+impl<R: Files + AllocGlobal + Clone + Drop> Tree for FsTree<R> {
+    ghost told = { false };
+
+    ghost state = { λ _. empty_store };
+
+    fn list(&mut self, place: &Place) -> Result<Vec<Entry>, Trouble>
+        ensures ordinary { IfOk result (λ entries. IsOrdinary entries.items) }
+        ensures ok { OnOk result (self.new ≡ self.old) }
+        ensures err { OnErr result (self.new ≡ false) }
+    {
+        match self.listed(place) {
+            Ok(entries) => Ok(entries),
+            Err(trouble) => {
+                self.open = None;
+                Err(trouble)
+            }
+        }
+    }
+
+    fn open(&mut self, place: &Place) -> Result<(), Trouble>
+        ensures ok { OnOk result (self.new ≡ true) }
+        ensures err { OnErr result (self.new ≡ false) }
+    {
+        self.open = None;
+        let file = self.opened(place)?;
+        self.open = Some(file);
+        Ok(())
+    }
+
+    fn read(&mut self, buffer: &mut [u8]) -> Result<usize, Trouble>
+        ensures bound { IfOk result (λ count. count ≤ length buffer.new) }
+        ensures no_memory { result ≢ Err Trouble.Memory }
+        ensures absent { (result ≡ Err Trouble.Absent) ↔ (self.old ≡ false) }
+        ensures ok { OnOk result (self.new ≡ true) }
+        ensures err { OnErr result (self.new ≡ false) }
+    {
+        let Some(file) = &mut self.open else {
+            return Err(Trouble::Absent);
+        };
+        for _ in 0..TRIES {
+            match file.read(buffer) {
+                Ok(count) => return Ok(count),
+                Err(error) if error.kind() == ErrorKind::Interrupted => {}
+                Err(_) => break,
+            }
+        }
+        self.open = None;
+        Err(Trouble::Device)
+    }
+
+    fn close(&mut self)
+        ensures { self.new ≡ false }
+    {
+        self.open = None;
+    }
+}

@@ -1,0 +1,145 @@
+//! Directories as a store lists them, from the storage root down.
+ghost use Rattle.std.specs.Prelude.{◌≡◌, ◌&&◌, ◌∷◌, ◌++◌, [], nat_le, suc, length, true, IsTrue, IfOk, IfErr, IfSome, MatchResult, MatchOption};
+ghost use Rattle.ocfl_tree.specs.Place.{text_eq};
+ghost use Rattle.ocfl_tree.specs.Tree.{Tree as Root};
+ghost use Rattle.ocfl_tree.specs.Listing.{IsListing, IsOrdinary, kind_in};
+ghost use Rattle.ocfl_inventory.specs.Declaration.{declared as declared_by_files};
+ghost use Rattle.ocfl_inventory.specs.Entries.{file_names};
+ghost use Rattle.ocfl_walk.specs.Zone.{max_listed_depth};
+ghost use Rattle.ocfl_walk.specs.Ways.{IsWayFault, fault_by, Stops, Enters, StaysOut, IsHead, head_by as head_by_declared, is_extensions_name, is_dir_kind, is_listable};
+
+use crate::fault::Fault;
+use ocfl_inventory::declaration::declaration;
+use ocfl_inventory::{Declared, Level};
+use ocfl_tree::{Entry, Kind, Name, Place, Tree, Trouble};
+
+/// The places of directories that are listed have at most so many names.
+const MAX_LISTED_DEPTH: usize = 127;
+
+/// A directory that was listed.
+#[derive(Debug, Drop)]
+pub(crate) struct Folder {
+    pub(crate) place: Place,
+    pub(crate) entries: Vec<Entry>,
+}
+
+/// What the declarations in a directory say.
+#[derive(Clone, Copy, Debug, PartialEq, Eq)]
+pub(crate) enum Head {
+    Undeclared,
+    /// One declaration, of a known version.
+    Known,
+    /// Several, or one of a version that is not known.
+    Stops,
+}
+
+pub(crate) fn is_text(text: &str, other: &str) -> bool
+    ensures { result ≡ text_eq text.now other.now }
+{
+    text == other
+}
+
+/// The kind of the entry of a name.
+pub(crate) fn kind_of(entries: &[Entry], name: &str) -> Option<Kind>
+    ensures { result ≡ kind_in entries.now name.now }
+{
+    for entry in entries {
+        if is_text(entry.name.as_str(), name) {
+            return Some(entry.kind);
+        }
+    }
+    None
+}
+
+/// The fault where a store did not answer at a place.
+pub(crate) fn fault_at(place: Place, trouble: Trouble) -> Fault
+    ensures { result ≡ fault_by place trouble }
+{
+    match trouble {
+        Trouble::Device | Trouble::Absent => Fault::Store(place),
+        Trouble::Memory => Fault::Memory,
+    }
+}
+
+/// Lists a directory that is there.
+pub(crate) fn list<T: Tree>(store: &mut T, place: Place) -> Result<Folder, Fault>
+    ensures only { IfErr result (λ why. IsWayFault why) }
+    ensures ordinary { IfOk result (λ folder. IsOrdinary folder.entries.items) }
+    ensures told { IsTrue T.told → (root : Root) → (T.state store.old).tree ≡ root
+        → is_listable root place ≡ true → MatchResult result
+        (λ folder. Enters root (T.state store.old) (T.state store.new) place
+        folder.place folder.entries.items)
+        (λ why. Stops root (T.state store.old) (T.state store.new) (place ∷ []) [] why) }
+{
+    match store.list(&place) {
+        Ok(entries) => Ok(Folder { place, entries }),
+        Err(trouble) => Err(fault_at(place, trouble)),
+    }
+}
+
+/// Whether a name leads to a directory that may be listed.
+fn can_enter(folder: &Folder, name: &Name) -> bool
+    ensures { result ≡ (nat_le (suc (length folder.now.place)) max_listed_depth
+        && is_dir_kind (kind_in folder.now.entries.items name.now)) }
+{
+    match kind_of(&folder.entries, name.as_str()) {
+        Some(Kind::Dir) => folder.place.names().len() < MAX_LISTED_DEPTH,
+        Some(Kind::File | Kind::Other) | None => false,
+    }
+}
+
+/// Goes one name further down, where a directory is that may be listed.
+pub(crate) fn enter<T: Tree>(
+    store: &mut T,
+    folder: Folder,
+    name: &Name,
+) -> Result<Option<Folder>, Fault>
+    ensures only { IfErr result (λ why. IsWayFault why) }
+    ensures ordinary { IfOk result (λ next. IfSome next (λ inner. IsOrdinary inner.entries.items)) }
+    ensures told { IsTrue T.told → (root : Root) → (T.state store.old).tree ≡ root
+        → IsListing root folder.place folder.entries.items
+        → let below = folder.place ++ name.now ∷ [] in MatchResult result
+        (λ next. MatchOption next
+        (StaysOut root (T.state store.old) (T.state store.new) below)
+        (λ inner. Enters root (T.state store.old) (T.state store.new) below
+        inner.place inner.entries.items))
+        (λ why. Stops root (T.state store.old) (T.state store.new) (below ∷ []) [] why) }
+{
+    if !can_enter(&folder, name) {
+        return Ok(None);
+    }
+    let mut place = folder.place;
+    let Ok(name) = name.try_clone() else {
+        return Err(Fault::Memory);
+    };
+    if place.push(name).is_err() {
+        return Err(Fault::Memory);
+    }
+    Ok(Some(list(store, place)?))
+}
+
+fn head_by(declared: Declared) -> Head
+    ensures { result ≡ head_by_declared declared }
+{
+    match declared {
+        Declared::None => Head::Undeclared,
+        Declared::One(_) => Head::Known,
+        Declared::Unknown(_) | Declared::Several => Head::Stops,
+    }
+}
+
+pub(crate) fn head_of(folder: &Folder, level: Level) -> Head
+    ensures { IsHead (declared_by_files level (file_names folder.now.entries.items)) result }
+{
+    head_by(declaration(&folder.entries, level))
+}
+
+/// Whether a name leads to the extensions of the storage root.
+pub(crate) fn is_extensions(folder: &Folder, name: &Name) -> bool
+    ensures { result ≡ is_extensions_name folder.now.place name.now }
+{
+    match folder.place.names() {
+        [] => is_text(name.as_str(), "extensions"),
+        [_, ..] => false,
+    }
+}

@@ -1,9 +1,9 @@
 -- Looking for declarations among entries, one after the other.
-use Rattle.std.proofs.Common.{◌≡◌, ℕ, zero, suc, ◌+◌, ◌≤◌, ◌<◌, List, [], ◌∷◌, ◌++◌, Bool, true, false, refl, sym, ◌∙◌, ap, cond, map, filter, drop, length, get_or, add-one, drop-cons, arith, Option, Some, None, subst}
+use Rattle.std.proofs.Common.{◌≡◌, ℕ, suc, ◌+◌, ◌≤◌, ◌<◌, List, [], ◌∷◌, ◌++◌, Bool, true, false, refl, sym, ◌∙◌, ap, cond, map, filter, drop, length, get_or, add-one, drop-cons, arith, Option, Some, None, subst}
 use Rattle.std.specs.Prelude.{◌&&◌, nat_eq, slice_get, is_some, All}
 use Rattle.std.specs.List.{starts_with}
 use Rattle.std.proofs.lemmas.Option.{slice_get-get_or, get_or_from_slice_get}
-use Rattle.std.proofs.lemmas.List.{length-append, drop_all}
+use Rattle.std.proofs.lemmas.List.{length-append}
 use Rattle.std.proofs.lemmas.Slice.Eq.{starts_is}
 use Rattle.std.proofs.lemmas.Bool.Decides.{Decides-eqb}
 use Rattle.ocfl_tree.specs.Place.{Text}
@@ -15,7 +15,7 @@ use Rattle.std.specs.List.Sorted.{IsPermutation}
 use Rattle.std.proofs.lemmas.List.Elements.{All-cons}
 use Rattle.std.proofs.lemmas.List.Sorted.{sum_by-IsPermutation, All-permutation}
 use Rattle.ocfl_inventory.proofs.Runs.{tally, tally_is}
-use Rattle.ocfl_inventory.specs.Declaration.{prefix, begins_with_digit, after_prefix, is_declaration, undeclared, known, unknown, several, declared, declared_by, version_named}
+use Rattle.ocfl_inventory.specs.Declaration.{prefix, after_prefix, is_declaration, undeclared, known, several, declared, declared_by, version_named}
 use Rattle.ocfl_inventory.specs.Entries.{is_file, file_names, is_counted, unknown_by, IsNext, IsVersionOf, PointsAtOne}
 use Rattle.ocfl_inventory.specs.declared.declaration.Declared.TheVariants as made
 use Rattle.ocfl_inventory.specs.declared.declaration.Level.{Level}

@@ -1,5 +1,5 @@
 -- What an inventory lists, put in order.
-use Rattle.std.proofs.Common.{◌≡◌, ℕ, ◌+◌, ◌≤◌, ◌<◌, List, [], ◌∷◌, ◌++◌, Bool, true, false, refl, sym, ◌∙◌, ap, subst, cond, map, filter, length, get_or, Bor, arith, append_assoc}
+use Rattle.std.proofs.Common.{◌≡◌, ◌+◌, List, [], ◌∷◌, ◌++◌, Bool, true, false, refl, sym, ◌∙◌, ap, subst, cond, map, filter, get_or, Bor, arith}
 use Rattle.std.specs.Prelude.{flat_map, Option, Some, None, option_map, filter_map, is_some}
 use Rattle.std.specs.List.{cons_option}
 use Rattle.std.specs.Cmp.{IsTotalOrder}
@@ -7,12 +7,12 @@ use Rattle.std.specs.FinMap.{IsAntisymmetric}
 use Rattle.std.specs.List.{dedup, dedup_from}
 use Rattle.std.specs.List.Retain.{IsFiltered, DiffersFromLast}
 use Rattle.std.specs.List.Sorted.{IsPermutation, IsSorted}
-use Rattle.std.specs.Ordering.{is_lt, is_eq, eq_by_cmp, ordering_then}
+use Rattle.std.specs.Ordering.{is_lt, eq_by_cmp, ordering_then}
 use Rattle.std.specs.declared.cmp.Ordering.{Ordering}
 use Rattle.std.specs.declared.cmp.Ordering.TheVariants.{Less, Equal, Greater}
 use Rattle.std.specs.Str.{bytes_eq}
 use Rattle.std.proofs.lemmas.List.Filters.{dedup_is}
-use Rattle.std.proofs.lemmas.List.Sorted.{IsPermutation-map, IsPermutation-trans, IsPermutation-append_left, IsPermutation-sym}
+use Rattle.std.proofs.lemmas.List.Sorted.{IsPermutation-map, IsPermutation-sym}
 use Rattle.std.proofs.lemmas.List.{map-append}
 use Rattle.std.proofs.lemmas.List.Elements.{filter-append}
 use Rattle.std.proofs.lemmas.Map.Text.{is_eq-slice_cmp}
@@ -32,7 +32,7 @@ use Rattle.ocfl_inventory.specs.Table.{Triple, triple_cmp, named_cmp, triples_of
 use Rattle.ocfl_inventory.specs.TripleOrder.{triple_total}
 use Rattle.ocfl_inventory.specs.Beside.{hits}
 use Rattle.ocfl_inventory.proofs.Runs.{IsUp}
-use Rattle.ocfl_inventory.proofs.Once.{up_from_sorted, sorted_once, among_permuted, alike, alike_itself, alike_is}
+use Rattle.ocfl_inventory.proofs.Once.{up_from_sorted, sorted_once, among_permuted, alike_itself, alike_is}
 use Rattle.ocfl_inventory.proofs.Beginnings.{text_exact, sorted_conflicts}
 use Rattle.ocfl_inventory.proofs.PathOrders.{slashed_elements}
 use Rattle.ocfl_inventory.proofs.PathTexts.{fault_line}

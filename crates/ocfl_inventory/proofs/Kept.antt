@@ -1,14 +1,13 @@
 -- The elements of a kept path are names.
-use Rattle.std.proofs.Common.{◌≡◌, ◌≢◌, ◌⊎◌, inl, inr, ℕ, zero, suc, ◌+◌, ◌≤◌, ◌<◌, List, [], ◌∷◌, Bool, true, false, refl, sym, ◌∙◌, ap, subst, cond, map, length, get_or, Bor, arith, codes, Option, Some, None, leb-true}
-use Rattle.std.specs.Prelude.{◌==◌, ◌||◌, ◌&&◌, nat_eq, nat_lt, nat_le, not, is_some, All}
-use Rattle.std.specs.List.{list_any, slice_split, onto_first, starts_with, ends_with}
+use Rattle.std.proofs.Common.{◌≡◌, ◌≢◌, ◌⊎◌, inl, inr, ℕ, zero, suc, ◌<◌, List, [], ◌∷◌, Bool, true, false, refl, sym, ◌∙◌, ap, cond, map, length, get_or, Bor, arith, codes, Some, None}
+use Rattle.std.specs.Prelude.{◌==◌, ◌||◌, nat_eq, nat_lt, not, is_some, All}
+use Rattle.std.specs.List.{list_any, onto_first, starts_with, ends_with}
 use Rattle.std.proofs.lemmas.Bool.Decides.{eqb_tells, nat_tests}
-use Rattle.ocfl_report.specs.declared.code.Code.{Code}
 use Rattle.ocfl_report.specs.declared.code.Code.TheVariants.{E099, E100, S06}
 use Rattle.ocfl_tree.specs.Place.{Text, Place, text_eq}
 use Rattle.ocfl_tree.specs.Name.{HasNameBytes}
 use Rattle.ocfl_tree.proofs.Orders.{true_not_false}
-use Rattle.ocfl_inventory.specs.ListedPath.{elements, is_dots, is_no_name, is_content_path, path_fault, is_kept}
+use Rattle.ocfl_inventory.specs.ListedPath.{elements, is_dots, is_no_name, is_content_path, is_kept}
 use Rattle.ocfl_inventory.specs.PathOrder.{AreNames}
 use Rattle.ocfl_inventory.proofs.PathOrders.{some_element}
 

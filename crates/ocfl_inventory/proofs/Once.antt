@@ -1,6 +1,6 @@
 -- A sorted list with each element once, and what the sorts and dedups of code leave.
-use Rattle.std.proofs.Common.{◌≡◌, ◌↔◌, ◌⊎◌, inl, inr, List, [], ◌∷◌, refl, sym, ◌∙◌, ap, subst, true, false, Bool, cond, ℕ, zero, suc, ◌+◌, ◌≤◌, ◌<◌, arith, filter, nat_le, leb-true, le-leb, map, length, get_or, add-one}
-use Rattle.std.specs.Prelude.{◌||◌, ◌&&◌, count_by}
+use Rattle.std.proofs.Common.{◌≡◌, ◌↔◌, inl, inr, List, [], ◌∷◌, refl, sym, ◌∙◌, ap, subst, true, false, Bool, cond, ℕ, ◌+◌, ◌≤◌, ◌<◌, arith, filter, nat_le, leb-true, le-leb, map, length, get_or, add-one}
+use Rattle.std.specs.Prelude.{◌||◌, count_by}
 use Rattle.std.specs.List.{list_any, dedup, dedup_from}
 use Rattle.std.specs.List.Sorted.{IsPermutation}
 use Rattle.std.specs.Ordering.{is_eq, is_lt}

@@ -1,8 +1,8 @@
 -- Comparing listed paths by their bytes compares them by their elements.
-use Rattle.std.proofs.Common.{◌≡◌, ◌≢◌, ◌⊎◌, inl, inr, ℕ, zero, suc, ◌+◌, ◌-◌, ◌≤◌, ◌<◌, List, [], ◌∷◌, ◌++◌, Bool, true, false, refl, sym, ◌∙◌, ap, subst, cond, drop, take, length, get_or, add-one, drop-cons, arith, length-drop, leb-true}
+use Rattle.std.proofs.Common.{◌≡◌, ◌≢◌, ◌⊎◌, inl, inr, ℕ, zero, suc, ◌+◌, ◌-◌, ◌≤◌, [], ◌∷◌, Bool, true, false, refl, sym, ◌∙◌, ap, subst, cond, drop, take, length, arith, length-drop, leb-true}
 use Prim.Native.Nat.{min}
 use Rattle.std.specs.Prelude.{◌==◌, ◌&&◌, nat_eq, nat_le}
-use Rattle.std.specs.List.{starts_with, slice_split, onto_first}
+use Rattle.std.specs.List.{starts_with, onto_first}
 use Rattle.std.specs.Ordering.{nat_cmp, ordering_then, ordering_reverse, is_eq}
 use Rattle.std.specs.declared.cmp.Ordering.{Ordering}
 use Rattle.std.specs.declared.cmp.Ordering.TheVariants.{Less, Equal, Greater}
@@ -11,7 +11,7 @@ use Rattle.std.proofs.lemmas.Cmp.{nat_cmp_total}
 use Rattle.std.specs.FinMap.{nat_cmp-IsAntisymmetric}
 use Rattle.std.proofs.lemmas.List.{drop_all, drop-drop}
 use Rattle.std.specs.Cmp.Lexicographic.{pointwise}
-use Rattle.ocfl_tree.specs.Place.{Text, Place, text_cmp, text_eq, place_cmp, place_eq, begins}
+use Rattle.ocfl_tree.specs.Place.{Text, Place, text_cmp, place_cmp, begins}
 use Rattle.ocfl_tree.proofs.Orders.{true_not_false}
 use Rattle.ocfl_inventory.specs.DigestText.{folded}
 use Rattle.ocfl_inventory.specs.ListedPath.{elements, slashed}

@@ -1,5 +1,5 @@
 -- Paths and their elements.
-use Rattle.std.proofs.Common.{◌≡◌, ℕ, List, [], ◌∷◌, Bool, true, false, refl, sym, ◌∙◌, ap, cond, map, Bor, length, Option, Some, None}
+use Rattle.std.proofs.Common.{◌≡◌, ℕ, List, [], ◌∷◌, Bool, refl, sym, ◌∙◌, ap, cond, map, Bor, length, Option, Some, None}
 use Rattle.std.proofs.lemmas.List.{length-map, drop_all, append-nil}
 use Rattle.std.proofs.Common.{◌+◌, ◌≤◌, ◌<◌, ◌++◌, get_or, drop, drop-cons, add-one, append_assoc, option_map, filter_map}
 use Rattle.std.specs.List.{cons_option}
@@ -8,8 +8,8 @@ use Rattle.ocfl_tree.specs.Place.{Text}
 use Rattle.ocfl_inventory.specs.ListedPath.{elements, is_dots, is_no_name, is_content_path, path_fault}
 use Rattle.ocfl_report.specs.declared.code.Code.{Code}
 use Rattle.ocfl_report.specs.declared.code.Code.TheVariants.{E099, E100, S06}
-use Rattle.std.specs.Prelude.{codes, nat_eq, ◌||◌, ◌&&◌, ◌==◌, not, nat_lt}
-use Rattle.std.specs.List.{list_any, list_all, starts_with, ends_with, slice_split, onto_first}
+use Rattle.std.specs.Prelude.{codes, nat_eq, ◌||◌, ◌&&◌, not, nat_lt}
+use Rattle.std.specs.List.{list_any, list_all, starts_with, ends_with}
 use Rattle.std.specs.Str.{all_ascii_digits}
 use Rattle.std.specs.Char.{is_ascii_digit}
 

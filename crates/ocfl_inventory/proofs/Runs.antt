@@ -1,18 +1,15 @@
 -- Sorted lists: what stands beside its like, and each element once.
-use Rattle.std.proofs.Common.{◌≡◌, ◌↔◌, ◌⊎◌, inl, inr, List, [], ◌∷◌, refl, sym, ◌∙◌, ap, subst, true, false, Bool, cond, ℕ, zero, suc, ◌+◌, ◌≤◌, ◌<◌, arith, filter, nat_le, leb-true, le-leb}
-use Rattle.std.specs.Prelude.{◌||◌, ◌&&◌, count_by, length}
-use Rattle.std.specs.List.{list_any, dedup}
-use Rattle.std.specs.List.Sorted.{IsPermutation, IsSorted}
-use Rattle.std.specs.Ordering.{is_eq, is_lt, ordering_reverse}
+use Rattle.std.proofs.Common.{◌≡◌, inl, inr, List, [], ◌∷◌, refl, sym, ◌∙◌, ap, subst, true, false, Bool, cond, ℕ, ◌+◌, ◌≤◌, arith}
+use Rattle.std.specs.Prelude.{count_by}
+use Rattle.std.specs.Ordering.{is_lt}
 use Rattle.std.specs.Cmp.{IsTotalOrder}
 use Rattle.std.specs.FinMap.{IsAntisymmetric}
 use Rattle.std.specs.declared.cmp.Ordering.{Ordering}
 use Rattle.std.specs.declared.cmp.Ordering.TheVariants.{Less, Equal, Greater}
 use Rattle.std.proofs.lemmas.List.Recursion.{is_count_by}
-use Rattle.std.proofs.lemmas.List.Sorted.{list_any-IsPermutation, sum_by-IsPermutation, IsPermutation-sym}
-use Rattle.ocfl_tree.specs.Ascending.{IsBeforeAll, IsAscending, IsAmong, ascending}
+use Rattle.ocfl_tree.specs.Ascending.{IsAmong}
 use Rattle.ocfl_inventory.specs.Beside.{hits}
-use Rattle.ocfl_tree.proofs.Orders.{true_not_false, below_from_greater, not_below_itself, not_both_below, ascending_unique, ascends_ascending, among_ascending, ascends_filter, among_filter, among_from_filter}
+use Rattle.ocfl_tree.proofs.Orders.{true_not_false, below_from_greater, not_below_itself}
 
 -- ---- counting by a recursion
 

@@ -1,9 +1,8 @@
 -- Neighbours in a list that is seen by f.
 use Rattle.std.proofs.Common.{◌≡◌, List, [], ◌∷◌, ◌++◌, refl, sym, ◌∙◌, ap, true, false, Bool, cond, ℕ, suc, ◌+◌, ◌-◌, ◌≤◌, ◌<◌, arith, map, length, drop, get_or, append_assoc, add-one, drop-cons, length-drop}
 use Rattle.std.proofs.lemmas.List.{append-nil}
-use Rattle.std.specs.Ordering.{is_lt}
 use Rattle.std.specs.Cmp.Lexicographic.{slice_cmp}
-use Rattle.std.proofs.Common.{Bor, Ordering, nat_cmp}
+use Rattle.std.proofs.Common.{Bor, nat_cmp}
 use Rattle.ocfl_tree.specs.Place.{Text, text_cmp, place_cmp}
 use Rattle.ocfl_inventory.specs.Beside.{hits}
 use Rattle.std.specs.Ordering.{ordering_then}

@@ -1,10 +1,8 @@
 -- Scanning a sidecar.
-use Rattle.std.proofs.Common.{◌≡◌, ℕ, suc, ◌+◌, ◌≤◌, ◌<◌, List, [], ◌∷◌, Bool, true, false, refl, sym, ◌∙◌, ap, cond, arith, take, drop, length, length-take, drop-cons, add-one, get_or, lt-ltb, ◌≢◌, nat_eq, Option, Some, None, codes, ltb-true}
-use Rattle.std.specs.Prelude.{take_while, nat_le, nat_lt, ◌==◌, ◌&&◌, Result, Ok, Err}
+use Rattle.std.proofs.Common.{◌≡◌, ℕ, suc, ◌+◌, ◌≤◌, ◌<◌, [], ◌∷◌, Bool, true, false, refl, sym, ◌∙◌, ap, cond, arith, take, drop, length, length-take, drop-cons, add-one, get_or, lt-ltb, ◌≢◌, nat_eq, None, codes}
+use Rattle.std.specs.Prelude.{nat_le, nat_lt, ◌==◌, ◌&&◌}
 use Rattle.std.specs.List.{starts_with, list_all}
 use Rattle.std.proofs.lemmas.List.{drop_all}
-use Rattle.hex.specs.Hex.{decode_of, decode_sized}
-use Rattle.hex.proofs.HexLemmas.{decode_sized-twice}
 use Rattle.ocfl_tree.specs.Place.{Text}
 use Rattle.ocfl_inventory.specs.Sidecar.{leading, is_blank, is_tail, decoded, is_after_digits, sidecar_of_len}
 use Rattle.std.proofs.lemmas.Bool.Decides.{nat_tests}

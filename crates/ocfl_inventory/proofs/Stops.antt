@@ -1,9 +1,8 @@
 -- What a stop says, and the whole object.
-use Rattle.std.proofs.Common.{◌≡◌, [], ◌∷◌, Some, None, Option, refl, sym, ap, ◌∙◌, cond, Bool, true, false, BTreeMap, String, Global}
-use Rattle.std.specs.Prelude.{Result, Ok, Err, option_and_then, IsUtf8}
+use Rattle.std.proofs.Common.{◌≡◌, [], ◌∷◌, Some, None, refl, sym, ap, ◌∙◌, cond, Bool, true, false, BTreeMap, String, Global}
+use Rattle.std.specs.Prelude.{Ok, Err, option_and_then, IsUtf8}
 use Rattle.std.specs.Str.{is_utf8}
 use Rattle.std.proofs.lemmas.Str.{is_utf8-from_IsUtf8, IsUtf8-from_is_utf8}
-use Rattle.serde_json.specs.Data.{Data, Members}
 use Rattle.serde_json.specs.Find.{as_object}
 use Rattle.serde_json.specs.Read.{read}
 use Rattle.serde_json.specs.View.{view, members_view}
@@ -11,13 +10,8 @@ use Rattle.serde_json.specs.declared.value.Value.{Value, Object}
 use Rattle.serde_json.proofs.Views.{view-Object}
 use Rattle.std.proofs.lemmas.Map.Text.{is_eq-slice_cmp}
 use Rattle.std.specs.Str.{bytes_eq}
-use Rattle.std.specs.Ordering.{is_eq, ordering_reverse}
-use Rattle.std.specs.declared.cmp.Ordering.{Ordering}
-use Rattle.std.specs.declared.cmp.Ordering.TheVariants.{Less, Equal, Greater}
-use Rattle.std.specs.Cmp.Lexicographic.{nat_list_cmp_total}
-use Rattle.ocfl_digest.specs.Algorithm.{algorithm_named}
-use Rattle.ocfl_tree.specs.Place.{Text, text_eq, text_cmp}
-use Rattle.ocfl_digest.specs.declared.algorithm.Algorithm.TheVariants.{Md5, Sha1, Sha256, Sha512}
+use Rattle.ocfl_tree.specs.Place.{Text, text_eq}
+use Rattle.ocfl_digest.specs.declared.algorithm.Algorithm.TheVariants.{Sha256, Sha512}
 use Rattle.ocfl_report.specs.Line.{Note, note, plain}
 use Rattle.ocfl_inventory.specs.Reading.{Reading, or_stop, object_of, digest_algorithm, content_named}
 use Rattle.ocfl_report.specs.declared.code.Code.TheVariants.{E033, E025, E017, E018}

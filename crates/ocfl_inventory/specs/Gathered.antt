@@ -1,5 +1,5 @@
 -- Gathering the listed paths of a block: kept ones with their digest, bad ones as their texts.
-use Rattle.std.specs.Prelude.{◌≡◌, List, [], ◌∷◌, ◌++◌, Bool, map, filter, flat_map, is_some}
+use Rattle.std.specs.Prelude.{List, Bool, map, filter, flat_map, is_some}
 use Rattle.ocfl_tree.specs.Place.{Text}
 use Rattle.ocfl_digest.specs.declared.algorithm.Algorithm.{Algorithm}
 use Rattle.ocfl_inventory.specs.DigestText.{folded}

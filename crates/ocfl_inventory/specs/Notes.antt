@@ -1,5 +1,5 @@
 -- The lines about the bytes of an inventory, but for its sidecars (OCFL 1.1, 3.5 Inventory).
-use Rattle.std.specs.Prelude.{◌==◌, nat_le, List, [], ◌∷◌, ◌++◌, Bool, Option, option_map, Ok, Err, map, filter, filter_map, flat_map, count_by}
+use Rattle.std.specs.Prelude.{nat_le, List, [], ◌∷◌, ◌++◌, Bool, option_map, Ok, Err, map, filter, filter_map, flat_map, count_by}
 use Rattle.std.specs.declared.cmp.Ordering.{Ordering}
 use Rattle.ocfl_tree.specs.Place.{Text, Place, text_cmp, text_eq, place_cmp, begins}
 use Rattle.ocfl_tree.specs.Ascending.{ascending}

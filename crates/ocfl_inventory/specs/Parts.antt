@@ -1,5 +1,5 @@
 -- What the functions of the reading give, beside the definitions.
-use Rattle.std.specs.Prelude.{◌≡◌, ℕ, List, [], ◌∷◌, ◌++◌, option_map, Option, Some, None, Result, Ok, Err, map, codes, string_bytes}
+use Rattle.std.specs.Prelude.{◌≡◌, List, [], ◌∷◌, ◌++◌, option_map, Option, Some, None, Result, Ok, Err, map, codes, string_bytes}
 use Rattle.std.specs.Prelude.{String}
 use Rattle.std.specs.Borrow.{Bor}
 use Rattle.std.specs.declared.alloc.Global.{Global}
@@ -11,7 +11,7 @@ use Rattle.serde_json.specs.Find.{get_member}
 use Rattle.ocfl_tree.specs.Place.{Text, text_cmp, text_eq}
 use Rattle.ocfl_report.specs.Line.{Note, note}
 use Rattle.ocfl_digest.specs.Algorithm.{supported, algorithm_name}
-use Rattle.ocfl_inventory.specs.Reading.{Reading, ◌>>=◌, or_stop, Block, Inventory, object_of, algorithm_in, content_from, manifest_in, fixity_from, blocks_for, unsupported_in, block_of, inventory_of}
+use Rattle.ocfl_inventory.specs.Reading.{Reading, ◌>>=◌, or_stop, Block, Inventory, algorithm_in, content_from, manifest_in, fixity_from, blocks_for, unsupported_in, block_of}
 use Rattle.ocfl_report.specs.declared.code.Code.TheVariants.{S03, E097}
 use Rattle.ocfl_digest.specs.declared.algorithm.Algorithm.{Algorithm}
 use Rattle.ocfl_inventory.specs.Notes.{folded_keys, repeated}

@@ -1,12 +1,11 @@
 -- Listed paths compared by their bytes: what their elements are compared by, with no list of the elements.
-use Rattle.std.specs.Prelude.{◌==◌, ◌&&◌, nat_eq, ℕ, List, [], ◌∷◌, Bool, true, false, length, drop, if◌then◌else◌}
+use Rattle.std.specs.Prelude.{◌==◌, ◌&&◌, nat_eq, ℕ, [], ◌∷◌, Bool, true, length, drop, if◌then◌else◌}
 use Rattle.std.specs.List.{starts_with}
 use Rattle.std.specs.Ordering.{nat_cmp}
 use Rattle.std.specs.declared.cmp.Ordering.{Ordering}
 use Rattle.std.specs.declared.cmp.Ordering.TheVariants.{Less, Equal, Greater}
 use Rattle.ocfl_tree.specs.Place.{Text, Place}
 use Rattle.ocfl_tree.specs.Name.{HasNameBytes}
-use Rattle.ocfl_inventory.specs.ListedPath.{elements}
 
 -- two bytes that differ: a slash ends an element, and so comes before all else
 abbrev pub byte_cmp : ℕ → ℕ → Ordering

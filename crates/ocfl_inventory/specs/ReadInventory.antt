@@ -1,5 +1,5 @@
 -- What reading an inventory gives, beside the definitions.
-use Rattle.std.specs.Prelude.{◌≡◌, List, [], Result, Ok, Err, Vec, map}
+use Rattle.std.specs.Prelude.{◌≡◌, [], Result, Ok, Err, Vec, map}
 use Rattle.std.specs.declared.alloc.Global.{Global}
 use Rattle.ocfl_report.specs.Line.{Note, Line}
 use Rattle.ocfl_inventory.specs.Reading.{Reading, Inventory}

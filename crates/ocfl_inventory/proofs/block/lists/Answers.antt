@@ -1,8 +1,8 @@
-use Rattle.std.proofs.Common.{◌≡◌, Some, map, ◌++◌, ◌∷◌, [], string_bytes, rules, sym, ◌∙◌}
+use Rattle.std.proofs.Common.{◌≡◌, map, ◌++◌, ◌∷◌, [], string_bytes}
 use Rattle.std.specs.Map.Iter.{deref_pair}
 use Rattle.std.proofs.lemmas.Map.Iter.{rest_more}
 use Rattle.std.proofs.lemmas.List.{map_push}
-use Rattle.serde_json.specs.View.{view, members_view}
+use Rattle.serde_json.specs.View.{members_view}
 use Rattle.ocfl_inventory.specs.Reading.{lists_of}
 use Rattle.ocfl_inventory.specs.Parts.{block_view}
 use Rattle.ocfl_inventory.proofs.Blocks.{lists_step}

@@ -1,4 +1,4 @@
-use Rattle.std.proofs.Common.{◌≡◌, map, drop}
+use Rattle.std.proofs.Common.{◌≡◌}
 use Rattle.serde_json.specs.View.{members_view}
 use Rattle.ocfl_inventory.specs.Reading.{lists_of}
 use Rattle.ocfl_inventory.specs.Parts.{block_view}

@@ -1,4 +1,4 @@
-use Rattle.std.proofs.Common.{map, arith}
+use Rattle.std.proofs.Common.{map}
 use Rattle.ocfl_tree.specs.Place.{begins}
 use Rattle.ocfl_inventory.specs.ListedPath.{elements}
 use Rattle.ocfl_inventory.proofs.SeenRuns.{seen_done}

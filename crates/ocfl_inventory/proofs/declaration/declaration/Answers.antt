@@ -1,5 +1,5 @@
 use Rattle.std.proofs.Common.{sym, ◌∙◌, ◌<◌, length, rules}
-use Rattle.ocfl_inventory.proofs.Declarations.{index_fits, none_is, several_is, entry_counts, one_is, known_is, unknown_is, points}
+use Rattle.ocfl_inventory.proofs.Declarations.{index_fits, none_is, several_is, entry_counts, one_is, known_is, unknown_is}
 use Rattle.ocfl_inventory.proofs.declaration.declaration.Goals as goal
 
 pub returns-in_default-clause-declared : goal.returns-in_default-clause-declared

@@ -1,4 +1,4 @@
-use Rattle.std.proofs.Common.{map, filter, rules}
+use Rattle.std.proofs.Common.{map, filter}
 use Rattle.ocfl_inventory.specs.Gathered.{is_bad, key_triples}
 use Rattle.ocfl_inventory.specs.Parts.{listing_view}
 use Rattle.ocfl_inventory.proofs.Gatherings.{joined_more}

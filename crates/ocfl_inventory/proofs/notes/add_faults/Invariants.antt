@@ -1,5 +1,4 @@
 use Rattle.std.proofs.Common.{◌≡◌, ◌++◌, map, drop, filter_map}
-use Rattle.ocfl_inventory.specs.Notes.{fault_notes}
 use Rattle.ocfl_inventory.specs.Parts.{remark_view}
 use Rattle.ocfl_inventory.proofs.PathTexts.{fault_line}
 use Rattle.ocfl_inventory.proofs.notes.add_faults.Given as goal

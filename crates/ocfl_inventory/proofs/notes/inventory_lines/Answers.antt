@@ -1,4 +1,4 @@
-use Rattle.std.proofs.Common.{◌≡◌, List, Bor, String, Global, map, ap, ◌∙◌, ◌++◌, string_bytes}
+use Rattle.std.proofs.Common.{List, Bor, map, ap, ◌∙◌, ◌++◌}
 use Rattle.std.specs.Prelude.{flat_map}
 use Rattle.ocfl_tree.specs.Place.{Text, text_cmp, text_eq}
 use Rattle.ocfl_report.specs.Line.{Note, note}

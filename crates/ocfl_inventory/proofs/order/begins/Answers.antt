@@ -1,4 +1,4 @@
-use Rattle.std.proofs.Common.{ap, ◌∙◌}
+use Rattle.std.proofs.Common.{◌∙◌}
 use Rattle.ocfl_inventory.specs.PathOrder.{path_begins}
 use Rattle.ocfl_inventory.proofs.PathOrders.{path_begins_is}
 use Rattle.ocfl_inventory.proofs.order.begins.Goals as goal

@@ -1,4 +1,4 @@
-use Rattle.std.proofs.Common.{ap, ◌∙◌}
+use Rattle.std.proofs.Common.{◌∙◌}
 use Rattle.ocfl_inventory.specs.PathOrder.{path_cmp}
 use Rattle.ocfl_inventory.proofs.PathOrders.{path_cmp_is}
 use Rattle.ocfl_inventory.proofs.order.cmp_paths.Goals as goal

@@ -1,7 +1,7 @@
-use Rattle.std.proofs.Common.{◌≡◌, List, sym, ◌∙◌, subst, map}
+use Rattle.std.proofs.Common.{◌≡◌, sym, ◌∙◌, subst, map}
 use Rattle.ocfl_tree.specs.Ascending.{IsAscending, ascending}
 use Rattle.ocfl_tree.proofs.Orders.{ascends_ascending}
-use Rattle.ocfl_inventory.specs.Table.{Triple, triple_cmp}
+use Rattle.ocfl_inventory.specs.Table.{triple_cmp}
 use Rattle.ocfl_inventory.specs.TripleOrder.{triple_total}
 use Rattle.ocfl_inventory.specs.TripleView.{triple_view}
 use Rattle.ocfl_inventory.proofs.table.make_table.Goals as goal

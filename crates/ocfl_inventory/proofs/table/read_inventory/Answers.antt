@@ -1,4 +1,4 @@
-use Rattle.std.proofs.Common.{ap, ◌∙◌, refl}
+use Rattle.std.proofs.Common.{ap, ◌∙◌}
 use Rattle.serde_json.specs.Data.{Members}
 use Rattle.ocfl_inventory.specs.Reading.{Reading, ◌>>=◌}
 use Rattle.ocfl_inventory.specs.Parts.{inventory_in, inventory_view}

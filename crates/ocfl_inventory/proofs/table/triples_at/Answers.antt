@@ -1,4 +1,4 @@
-use Rattle.std.proofs.Common.{◌≡◌, ◌≤◌, length, sym, ◌∙◌, ap, map, drop, take, arith, length-take}
+use Rattle.std.proofs.Common.{◌≤◌, sym, ◌∙◌, ap, map, drop, arith}
 use Rattle.ocfl_inventory.specs.TripleView.{named_view}
 use Rattle.ocfl_inventory.proofs.TableSearch.{in_order, picked}
 use Rattle.ocfl_inventory.proofs.table.triples_at.Goals as goal

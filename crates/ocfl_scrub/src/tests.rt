@@ -189,6 +189,129 @@ fn fixity_is_compared_too(rt: HostRuntime) -> Result<(), Fail> {
     expect(&rt, &mut store, FILE, text, 1, "")
 }
 
+// Digests of `abc`, and of no bytes (FIPS 180-4, RFC 1321).
+const ABC_MD5: &str = "900150983cd24fb0d6963f7d28e17f72";
+
+const ABC_SHA256: &str = "ba7816bf8f01cfea414140de5dae2223b00361a396177a9cb410ff61f20015ad";
+
+const ABC_SHA512_256: &str = "53048e2681941ef99b2e29b76b4c7dabe4c2d0c634fc6d46e0e2f13107e7af23";
+
+const NOTHING_MD5: &str = "d41d8cd98f00b204e9800998ecf8427e";
+
+const NOTHING_SHA1: &str = "da39a3ee5e6b4b0d3255bfef95601890afd80709";
+
+const NOTHING_SHA256: &str = "e3b0c44298fc1c149afbf4c8996fb92427ae41e4649b934ca495991b7852b855";
+
+const NOTHING_SHA512_256: &str = "c672b8d1ef56ed28ab87c3622c5114069bdd3ad7b8f9737498d0c01ecef0967a";
+
+/// An inventory by sha256 with this manifest and this fixity block.
+fn by_sha256(alloc: Global, manifest: &str, fixity: &str) -> Result<String, Fail> {
+    Ok(format!(in alloc;
+        "{{\"digestAlgorithm\":\"sha256\",\"manifest\":{{{manifest}}},\"fixity\":{{{fixity}}}}}"
+    )?)
+}
+
+#[test]
+fn named_in_fixity_alone(rt: HostRuntime) -> Result<(), Fail> {
+    let alloc = rt.alloc();
+    let fixity = format!(in alloc; "\"md5\":{{\"{ABC_MD5}\":[\"v1/content/f\"]}}")?;
+    let inventory = by_sha256(alloc, "", fixity.as_str())?;
+    let mut store = root_with(alloc, inventory.as_str(), "abc")?;
+    expect(&rt, &mut store, FILE, "E023\to/v1/content/f\t-\n", 1, "")?;
+    let place = place_of(alloc, FILE)?;
+    let opened = store
+        .openings()
+        .iter()
+        .filter(|opening| opening.place == place);
+    assert_eq!(rt; opened.count(), 1);
+    Ok(())
+}
+
+#[test]
+fn two_digests_and_fixity(rt: HostRuntime) -> Result<(), Fail> {
+    let alloc = rt.alloc();
+    let manifest = format!(in alloc;
+        "\"{NOTHING_SHA256}\":[\"v1/content/f\"],\"{ABC_SHA256}\":[\"v1/content/f\"]"
+    )?;
+    let fixity = format!(in alloc; "\"md5\":{{\"{NOTHING_MD5}\":[\"v1/content/f\"]}}")?;
+    let inventory = by_sha256(alloc, manifest.as_str(), fixity.as_str())?;
+    let mut store = root_with(alloc, inventory.as_str(), "abc")?;
+    let text = format!(in alloc;
+        "E092\to/v1/content/f\tsha256 {NOTHING_SHA256} {ABC_SHA256}\nE093\to/v1/content/f\tmd5 {NOTHING_MD5} {ABC_MD5}\n"
+    )?;
+    expect(&rt, &mut store, FILE, text.as_str(), 1, "")?;
+    let place = place_of(alloc, FILE)?;
+    store.remove(&place)?;
+    let missing = "E092\to/v1/content/f\tsha256 missing\nE093\to/v1/content/f\tmd5 missing\n";
+    expect(&rt, &mut store, FILE, missing, 1, "")?;
+    store.put_other(&place)?;
+    let text = format!(in alloc; "S04\to/v1/content/f\t-\n{missing}")?;
+    expect(&rt, &mut store, FILE, text.as_str(), 1, "")
+}
+
+#[test]
+fn fifth_algorithm(rt: HostRuntime) -> Result<(), Fail> {
+    let alloc = rt.alloc();
+    let manifest = format!(in alloc; "\"{ABC_SHA256}\":[\"v1/content/f\"]")?;
+    let wrong = format!(in alloc;
+        "E093\to/v1/content/f\tsha512/256 {ABC_SHA256} {ABC_SHA512_256}\n"
+    )?;
+    for (digest, text, status) in [
+        (ABC_SHA512_256, "ok\to/v1/content/f\t3\n", 0),
+        (ABC_SHA256, wrong.as_str(), 1),
+    ] {
+        let fixity = format!(in alloc; "\"sha512/256\":{{\"{digest}\":[\"v1/content/f\"]}}")?;
+        let inventory = by_sha256(alloc, manifest.as_str(), fixity.as_str())?;
+        let mut store = root_with(alloc, inventory.as_str(), "abc")?;
+        expect(&rt, &mut store, FILE, text, status, "")?;
+    }
+    Ok(())
+}
+
+#[test]
+fn empty_file_under_all_algorithms(rt: HostRuntime) -> Result<(), Fail> {
+    let alloc = rt.alloc();
+    let manifest = format!(in alloc; "\"{NOTHING_SHA256}\":[\"v1/content/f\"]")?;
+    let mut fixity = String::new(alloc);
+    for (name, digest) in [
+        ("md5", NOTHING_MD5),
+        ("sha1", NOTHING_SHA1),
+        ("sha512", NOTHING),
+        ("sha512/256", NOTHING_SHA512_256),
+    ] {
+        if !fixity.is_empty() {
+            fixity.push(',')?;
+        }
+        let block = format!(in alloc; "\"{name}\":{{\"{digest}\":[\"v1/content/f\"]}}")?;
+        fixity.push_str(block.as_str())?;
+    }
+    let inventory = by_sha256(alloc, manifest.as_str(), fixity.as_str())?;
+    let mut store = root_with(alloc, inventory.as_str(), "")?;
+    expect(&rt, &mut store, FILE, "ok\to/v1/content/f\t0\n", 0, "")?;
+    assert_eq!(rt; store.openings().len(), 2);
+    Ok(())
+}
+
+#[test]
+fn other_content_directory(rt: HostRuntime) -> Result<(), Fail> {
+    let alloc = rt.alloc();
+    let inventory = format!(in alloc;
+        "{{\"digestAlgorithm\":\"sha256\",\"contentDirectory\":\"data\",\"manifest\":{{\"{ABC_SHA256}\":[\"v1/data/f\"]}}}}"
+    )?;
+    let mut store = root_with(alloc, inventory.as_str(), "abc")?;
+    expect(&rt, &mut store, FILE, "", 0, "no item")?;
+    store.put_dir(&place_of(alloc, "o/v1/data")?)?;
+    store.put_file(&place_of(alloc, "o/v1/data/f")?, b"abc".to_vec(alloc)?)?;
+    expect(
+        &rt,
+        &mut store,
+        "o/v1/data/f",
+        "ok\to/v1/data/f\t3\n",
+        0,
+        "",
+    )
+}
+
 #[test]
 fn what_is_no_file(rt: HostRuntime) -> Result<(), Fail> {
     let alloc = rt.alloc();

@@ -7,7 +7,7 @@ mod conflicts;
 pub mod declaration;
 mod gather;
 mod keys;
-mod laws;
+pub mod laws;
 mod listing;
 mod note;
 mod notes;

@@ -1,6 +1,6 @@
 -- A check, put together from what was looked at, what was judged and what was written.
 use Rattle.std.proofs.Common.{◌≡◌, ◌≢◌, ◌⊎◌, inl, inr, ℕ, ◌<◌, List, [], ◌∷◌, ◌++◌, refl, sym, ◌∙◌, ap, subst, true, false, Bool, Option, Some, None, map, take, length, append-nil, arith, not, is_some}
-use Rattle.std.specs.Prelude.{cond, IsSome, option_map, ◌||◌}
+use Rattle.std.specs.Prelude.{cond, ◌||◌}
 use Rattle.std.specs.List.{list_any}
 use Rattle.std.specs.Io.KnownBytes.{Appends}
 use Rattle.std.proofs.KnownBytes.{Appends-nil}
@@ -14,18 +14,20 @@ use Rattle.ocfl_report.specs.Text.{lines_text, text}
 use Rattle.ocfl_report.specs.declared.line.Line.{Line as MadeLine}
 use Rattle.ocfl_walk.specs.Lines.{is_empty, notes, is_hashed}
 use Rattle.ocfl_walk.specs.Audit.{Unread, given_by, item_of, has_lines}
-use Rattle.ocfl_walk.specs.Trail.{content_trail, unread_of}
+use Rattle.ocfl_walk.specs.Trail.{is_meta, places_of, content_trail, unread_of}
 use Rattle.ocfl_walk.specs.Due.{hashed_among, items_at}
 use Rattle.ocfl_walk.specs.Walk.{item_at}
-use Rattle.ocfl_walk.specs.Looking.{content_at, content_in, Looks, LookFails, failures_by}
+use Rattle.ocfl_walk.specs.Looking.{is_served, is_served_in, Looks, LookFails, failures_by}
 use Rattle.ocfl_walk.specs.Judging.{Judges, JudgeFails}
 use Rattle.ocfl_walk.specs.declared.fault.Fault.{Fault}
 use Rattle.ocfl_walk.specs.declared.fault.Fault.TheVariants as fault
 use Rattle.ocfl_walk.proofs.AuditExists.{lines_from_notes}
 use Rattle.ocfl_walk.proofs.DueLaws.{lines_alike}
-use Rattle.ocfl_walk.proofs.PathLaws.{IsPath, hashed_path, hashed_lines}
-use Rattle.ocfl_walk.proofs.Trails.{content_behind, unread_behind, none_unread}
-use Rattle.ocfl_scrub.specs.Checking.{is_served, checked_item, Checks, CheckStops, CheckEnds, Writes, WriteStops, WriteEnds}
+use Rattle.ocfl_tree.proofs.Orders.{true_not_false}
+use Rattle.std.proofs.lemmas.List.Quantifiers.{all_pairs_push}
+use Rattle.ocfl_walk.proofs.PathLaws.{IsPath, hashed_path, hashed_lines, hashed_no_meta}
+use Rattle.ocfl_walk.proofs.Trails.{content_behind, unread_behind, none_unread, all_meta, meta_at}
+use Rattle.ocfl_scrub.specs.Checking.{checked_item, AreOnce, Checks, CheckStops, CheckEnds, Writes, WriteStops, WriteEnds}
 use Rattle.ocfl_scrub.specs.declared.checking.End.{End}
 use Rattle.ocfl_scrub.specs.declared.checking.End.TheVariants.{Ended, Stopped}
 use Rattle.ocfl_walk.specs.Head.{on}
@@ -50,6 +52,7 @@ pub written : (root : Tree) (s t : Store) (old new : Option (List ℕ)) (p : Pla
 written root s t old new p lines cost finding j sent finds = record {
   trail = j.trail;
   audits = j.audits;
+  alone = j.alone;
   wrote = subst (Appends old new) (sym (judged_text root s t p lines cost j)) sent;
   item_is = refl;
   found_is = finds ∙ sym (one_found _ _ j.item);
@@ -66,6 +69,7 @@ written_in_part root s t old new p lines cost gone j fewer sent =
       did = j.audits.did;
       part = true;
       opened = j.audits.opened;
+      alone = j.alone;
       gone = gone;
       wrote = subst (λ x. Appends old new (take gone x)) e sent;
       proper = λ h. subst (λ x. gone < length x) e fewer;
@@ -87,6 +91,7 @@ judged_unwritten root s t old p lines cost j = record {
   did = j.audits.did;
   part = true;
   opened = j.audits.opened;
+  alone = j.alone;
   gone = 0;
   wrote = nothing_out old (text (items_at root j.trail (p ∷ [])));
   proper = λ h. absurd cc;
@@ -101,6 +106,7 @@ unjudged root s t old p j = record {
   did = j.did;
   part = j.part;
   opened = j.opened;
+  alone = j.alone;
   gone = 0;
   wrote = nothing_out old (text (items_at root j.trail (p ∷ [])));
   proper = λ h. absurd cc;
@@ -110,9 +116,6 @@ unjudged root s t old p j = record {
 
 -- ---- the item of a place
 
-not_none : {A : Type 0} (x : A) → Some x ≡ None → ⊥
-not_none x e = cc
-
 has_item : (root : Tree) (u : Unread) (p : Place) → notes root None p ≢ [] → has_lines (item_of root u p) ≡ true
 has_item root u p some = (lines_from_notes root u p _).1 (λ e. some (lines_alike root (given_by u p) None p e))
 
@@ -120,13 +123,13 @@ no_item : (root : Tree) (u : Unread) (p : Place) → notes root None p ≡ [] �
 no_item root u p none = ap (λ ns. not (is_empty (lines_at p ns))) (lines_alike root None (given_by u p) p none)
 
 -- where the place is served and has lines, its item is the one
-served_item : (root : Tree) (trail : List Opening) (p : Place) → IsSome (content_at root p) → notes root None p ≢ [] → checked_item root trail p ≡ items_at root trail (p ∷ [])
+served_item : (root : Tree) (trail : List Opening) (p : Place) → (is_served root p ≡ true) → notes root None p ≢ [] → checked_item root trail p ≡ items_at root trail (p ∷ [])
 unfolding items_at
 served_item root trail p served some =
     ap (λ b. cond b (item_at root (unread_of root trail) p) []) served ∙ ap (λ b. on b (item_of root (unread_of root trail) p)) (has_item root (unread_of root trail) p some)
 
-unserved_item : (root : Tree) (trail : List Opening) (p : Place) → (content_at root p ≡ None) ⊎ (notes root None p ≡ []) → checked_item root trail p ≡ []
-unserved_item root trail p (inl none) = ap (λ o. cond (is_some o) (item_at root (unread_of root trail) p) []) none
+unserved_item : (root : Tree) (trail : List Opening) (p : Place) → (is_served root p ≡ false) ⊎ (notes root None p ≡ []) → checked_item root trail p ≡ []
+unserved_item root trail p (inl none) = ap (λ b. cond b (item_at root (unread_of root trail) p) []) none
 unserved_item root trail p (inr none) =
     ap (λ b. cond (is_served root p) (on b (item_of root (unread_of root trail) p)) []) (no_item root (unread_of root trail) p none) ∙ by (is_served root p)
   where
@@ -135,17 +138,16 @@ unserved_item root trail p (inr none) =
     by false = refl
 
 -- nothing is hashed there
-unhashed : (root : Tree) (p : Place) → (content_at root p ≡ None) ⊎ (notes root None p ≡ []) → is_hashed root p ≡ true → ⊥
+unhashed : (root : Tree) (p : Place) → (is_served root p ≡ false) ⊎ (notes root None p ≡ []) → is_hashed root p ≡ true → ⊥
 unhashed root p (inr none) h = hashed_lines root None p h none
 unhashed root p (inl none) h = by (hashed_path root p h)
   where
     by : IsPath root p → ⊥
     by k =
-        let table : content_at root p ≡ Some (k.table, k.version ∷ k.content ∷ k.name ∷ k.rest) =
-        ap (content_in root) k.lies ∙ ap (option_map (λ t. (t, k.version ∷ k.content ∷ k.name ∷ k.rest))) k.has in
-        not_none _ (sym table ∙ none)
+        let served : is_served root p ≡ true = ap (is_served_in root) k.lies ∙ ap is_some k.has in
+        true_not_false (sym served ∙ none)
 
-unserved_free : (root : Tree) (p : Place) → (content_at root p ≡ None) ⊎ (notes root None p ≡ []) → hashed_among root (p ∷ []) ≡ []
+unserved_free : (root : Tree) (p : Place) → (is_served root p ≡ false) ⊎ (notes root None p ≡ []) → hashed_among root (p ∷ []) ≡ []
 unfolding hashed_among
 unserved_free root p h = by (is_hashed root p) refl
   where
@@ -158,13 +160,14 @@ unserved_free root p h = by (is_hashed root p) refl
 count_nothing : (root : Tree) (trail : List Opening) → content_trail root trail ≡ [] → length (unread_of root trail) ≡ 0
 count_nothing root trail h = ap length (none_unread root trail h)
 
-pub nothing_there : (root : Tree) (s t : Store) (old : Option (List ℕ)) (p : Place) → Looks root s t p 0 → (content_at root p ≡ None) ⊎ (notes root None p ≡ []) → Checks root s t old old p false false
+pub nothing_there : (root : Tree) (s t : Store) (old : Option (List ℕ)) (p : Place) → Looks root s t p 0 → (is_served root p ≡ false) ⊎ (notes root None p ≡ []) → Checks root s t old old p false false
 nothing_there root s t old p l h =
     let e : checked_item root l.trail p ≡ [] = unserved_item root l.trail p h in
     record {
       trail = l.trail;
       listings = l.listings;
       audits = record { over = l.over; did = subst (Did s t l.trail l.listings) (sym (count_nothing root l.trail l.meta)) l.did; opened = l.meta ∙ sym (unserved_free root p h) };
+      once = l.once;
       listed = l.listed;
       wrote = subst (λ is. Appends old old (text is)) (sym e) (Appends-nil old);
       item_is = sym (ap (λ is. not (is_empty is)) e);
@@ -180,6 +183,7 @@ not_looked root s t old p why l = record {
   did = l.looks.did;
   part = false;
   opened = l.looks.meta;
+  once = l.looks.once;
   listed = l.looks.listed;
   gone = 0;
   wrote = nothing_out old (text (checked_item root l.looks.trail p));
@@ -196,15 +200,46 @@ items_alike : (root : Tree) (p : Place) (a b : List Opening) → unread_of root 
 unfolding items_at
 items_alike root p a b e = ap (λ v. item_of root v p ∷ []) e
 
-joined_item : (root : Tree) (front trail : List Opening) (p : Place) → content_trail root front ≡ [] → IsSome (content_at root p) → notes root None p ≢ [] → checked_item root (front ++ trail) p ≡ items_at root trail (p ∷ [])
+joined_item : (root : Tree) (front trail : List Opening) (p : Place) → content_trail root front ≡ [] → (is_served root p ≡ true) → notes root None p ≢ [] → checked_item root (front ++ trail) p ≡ items_at root trail (p ∷ [])
 joined_item root front trail p meta served some = served_item root (front ++ trail) p served some ∙ items_alike root p (front ++ trail) trail (unread_behind root front trail meta)
+
+-- a content file behind metadata is another file
+filled : {A : Type 0} (x : A) (xs : List A) → x ∷ xs ≢ []
+filled x xs e = cc
+
+hashed_places : (root : Tree) (p : Place) (b : Bool) → is_hashed root p ≡ b → hashed_among root (p ∷ []) ≡ cond b (p ∷ []) []
+unfolding hashed_among
+hashed_places root p b h = ap (λ x. cond x (p ∷ []) []) h
+
+-- what was opened is nothing, or the file of a hashed place
+abbrev IsOne : Tree → Place → List Opening → Type 0
+IsOne root p trail = (trail ≡ []) ⊎ ((x : Opening) × ((trail ≡ x ∷ []) × ((x.place ≡ p) × (is_hashed root p ≡ true))))
+
+alone : (root : Tree) (p : Place) (x : Opening) (trail : List Opening) → places_of (x ∷ trail) ≡ p ∷ [] → is_hashed root p ≡ true → IsOne root p (x ∷ trail)
+alone root p x [] h e = inr (x, (refl, (cc, e)))
+alone root p x (y ∷ trail) h e = absurd cc
+
+one_or_none : (root : Tree) (p : Place) (part : Bool) (trail : List Opening) → places_of trail ≡ cond part (hashed_among root (p ∷ [])) [] → IsOne root p trail
+one_or_none root p part [] h = inl refl
+one_or_none root p false (x ∷ trail) h = absurd cc
+one_or_none root p true (x ∷ trail) h = by (is_hashed root p) refl
+  where
+    by : (b : Bool) → is_hashed root p ≡ b → IsOne root p (x ∷ trail)
+    by false e = absurd (filled x.place (places_of trail) (h ∙ hashed_places root p false e))
+    by true e = alone root p x trail (h ∙ hashed_places root p true e) e
+
+then_one : (root : Tree) (p : Place) (front trail : List Opening) → content_trail root front ≡ [] → AreOnce front → IsOne root p trail → AreOnce (front ++ trail)
+then_one root p front trail meta once (inl e) = subst AreOnce (sym (append-nil front) ∙ ap (λ os. front ++ os) (sym e)) once
+then_one root p front trail meta once (inr k) =
+    subst (λ os. AreOnce (front ++ os)) (sym k.1.0)
+    (all_pairs_push (λ a b. a.place ≢ b.place) front k.0 once (λ i d l e. true_not_false (sym (meta_at root front i d l (all_meta root front meta)) ∙ ap (is_meta root) (e ∙ k.1.1.0) ∙ hashed_no_meta root p k.1.1.1)))
 
 did_after : (s t u : Store) (front trail : List Opening) (ls : List Place) (n : ℕ) → Did s t front ls 0 → Did t u trail [] n → Did s u (front ++ trail) ls n
 did_after s t u front trail ls n h k =
     let both = did_both s t u front trail ls [] 0 n h k in
     record { tree = both.tree; openings_are = both.openings_are; listings_are = both.listings_are ∙ ap (λ xs. s.listings ++ xs) (append-nil ls); failures_are = let f = both.failures_are in omega (arith, f) }
 
-pub looked_and_written : (root : Tree) (s t u : Store) (old new : Option (List ℕ)) (p : Place) (item finding : Bool) (end : End) → Looks root s t p 0 → IsSome (content_at root p) → notes root None p ≢ []
+pub looked_and_written : (root : Tree) (s t u : Store) (old new : Option (List ℕ)) (p : Place) (item finding : Bool) (end : End) → Looks root s t p 0 → (is_served root p ≡ true) → notes root None p ≢ []
     → WriteEnds root t u old new p item finding end → CheckEnds root s u old new p item finding end
 looked_and_written root s t u old new p item finding Ended l served some w =
     let items : checked_item root (l.trail ++ w.trail) p ≡ items_at root w.trail (p ∷ []) = joined_item root l.trail w.trail p l.meta served some in
@@ -216,6 +251,7 @@ looked_and_written root s t u old new p item finding Ended l served some w =
         did = subst (Did s u (l.trail ++ w.trail) l.listings) (ap length (sym (unread_behind root l.trail w.trail l.meta))) (did_after s t u l.trail w.trail l.listings _ l.did w.audits.did);
         opened = content_behind root l.trail w.trail l.meta ∙ w.audits.opened;
       };
+      once = then_one root p l.trail w.trail l.meta l.once (one_or_none root p true w.trail w.alone);
       listed = l.listed;
       wrote = subst (λ is. Appends old new (text is)) (sym items) w.wrote;
       item_is = w.item_is ∙ sym (ap (λ is. not (is_empty is)) (items ∙ one_item root w.trail p));
@@ -231,6 +267,7 @@ looked_and_written root s t u old new p item finding (Stopped why) l served some
       did = did_after s t u l.trail w.trail l.listings _ l.did w.did;
       part = w.part;
       opened = content_behind root l.trail w.trail l.meta ∙ w.opened;
+      once = then_one root p l.trail w.trail l.meta l.once (one_or_none root p w.part w.trail w.alone);
       listed = l.listed;
       gone = w.gone;
       wrote = subst (λ is. Appends old new (take w.gone (text is))) (sym items) w.wrote;
@@ -247,7 +284,7 @@ write_stopped root s t old new p item finding why end e w = subst (λ x. WriteEn
 pub check_stopped : (root : Tree) (s t : Store) (old new : Option (List ℕ)) (p : Place) (item finding : Bool) (why : Fault) (end : End) → end ≡ Stopped why → CheckStops root s t old new p why → CheckEnds root s t old new p item finding end
 check_stopped root s t old new p item finding why end e w = subst (λ x. CheckEnds root s t old new p item finding x) (sym e) w
 
-pub check_ended : (root : Tree) (s t u : Store) (old new : Option (List ℕ)) (p q : Place) (item finding : Bool) (end : End) → q ≡ p → Looks root s t p 0 → IsSome (content_at root p) → notes root None q ≢ []
+pub check_ended : (root : Tree) (s t u : Store) (old new : Option (List ℕ)) (p q : Place) (item finding : Bool) (end : End) → q ≡ p → Looks root s t p 0 → (is_served root p ≡ true) → notes root None q ≢ []
     → WriteEnds root t u old new q item finding end → CheckEnds root s u old new p item finding end
 check_ended root s t u old new p q item finding end e l served some w =
     looked_and_written root s t u old new p item finding end l served (subst (λ x. notes root None x ≢ []) e some) (subst (λ x. WriteEnds root t u old new x item finding end) e w)

@@ -1,5 +1,5 @@
 -- What checking one place does.
-use Rattle.std.specs.Prelude.{◌≡◌, ◌≢◌, ◌<◌, ℕ, List, [], ◌∷◌, Bool, true, false, not, length, take, if◌then◌else◌, Option, is_some}
+use Rattle.std.specs.Prelude.{◌≡◌, ◌≢◌, ◌<◌, ℕ, List, [], ◌∷◌, Bool, true, false, not, length, take, if◌then◌else◌, Option, AllPairs}
 use Rattle.std.specs.Io.KnownBytes.{Appends}
 use Rattle.ocfl_tree.specs.Place.{Place}
 use Rattle.ocfl_tree.specs.Tree.{Tree}
@@ -8,29 +8,30 @@ use Rattle.ocfl_tree.specs.declared.store.Opening.{Opening}
 use Rattle.ocfl_report.specs.Line.{Item, found}
 use Rattle.ocfl_report.specs.Text.{text}
 use Rattle.ocfl_walk.specs.Lines.{is_empty, is_hashed}
-use Rattle.ocfl_walk.specs.Trail.{content_trail, unread_of}
+use Rattle.ocfl_walk.specs.Trail.{places_of, content_trail, unread_of}
 use Rattle.ocfl_walk.specs.Due.{hashed_among, items_at}
 use Rattle.ocfl_walk.specs.Walk.{item_at}
-use Rattle.ocfl_walk.specs.Looking.{content_at, way_to, IsFront}
+use Rattle.ocfl_walk.specs.Looking.{is_served, way_to, IsFront}
 use Rattle.ocfl_walk.specs.Judging.{Audits}
 use Rattle.ocfl_walk.specs.declared.fault.Fault.{Fault}
 use Rattle.ocfl_walk.specs.declared.fault.Fault.TheVariants as fault
 use Rattle.ocfl_scrub.specs.declared.checking.End.{End}
 use Rattle.ocfl_scrub.specs.declared.checking.End.TheVariants as end
 
--- a place within an object whose head does not stop, of at least three names more than the object's
-abbrev pub is_served : Tree → Place → Bool
-is_served root p = is_some (content_at root p)
-
 -- the item at a place that is served, where a trail shows what could not be read
 abbrev pub checked_item : Tree → List Opening → Place → List Item
 checked_item root trail p = if is_served root p then item_at root (unread_of root trail) p else []
 
--- from s to t the place was checked: its lines were written, its file was opened once if it is hashed and no other content, and only directories on the way to it were listed, each once
+-- each file was opened at most once
+abbrev pub AreOnce : List Opening → Type 0
+AreOnce trail = AllPairs (λ a b. a.place ≢ b.place) trail
+
+-- from s to t the place was checked: its lines were written, its file was opened if it is hashed and no other content, and only directories on the way to it were listed, each once
 pub record Checks (root : Tree) (s t : Store) (old new : Option (List ℕ)) (p : Place) (item finding : Bool) : Type 0 where
   pub trail : List Opening
   pub listings : List Place
   pub audits : Audits root s t (p ∷ []) trail listings
+  pub once : AreOnce trail
   pub listed : IsFront listings (way_to p)
   pub wrote : Appends old new (text (checked_item root trail p))
   pub item_is : item ≡ not (is_empty (checked_item root trail p))
@@ -45,6 +46,7 @@ pub record CheckStops (root : Tree) (s t : Store) (old new : Option (List ℕ)) 
   pub did : Did s t trail listings failures
   pub part : Bool
   pub opened : content_trail root trail ≡ (if part then hashed_among root (p ∷ []) else [])
+  pub once : AreOnce trail
   pub listed : IsFront listings (way_to p)
   pub gone : ℕ
   pub wrote : Appends old new (take gone (text (checked_item root trail p)))
@@ -62,6 +64,7 @@ CheckEnds root s t old new p item finding (end.Stopped why) = CheckStops root s 
 pub record Writes (root : Tree) (s t : Store) (old new : Option (List ℕ)) (p : Place) (item finding : Bool) : Type 0 where
   pub trail : List Opening
   pub audits : Audits root s t (p ∷ []) trail []
+  pub alone : places_of trail ≡ hashed_among root (p ∷ [])
   pub wrote : Appends old new (text (items_at root trail (p ∷ [])))
   pub item_is : item ≡ true
   pub found_is : finding ≡ found (items_at root trail (p ∷ []))
@@ -73,6 +76,7 @@ pub record WriteStops (root : Tree) (s t : Store) (old new : Option (List ℕ)) 
   pub did : Did s t trail [] (length (unread_of root trail))
   pub part : Bool
   pub opened : content_trail root trail ≡ (if part then hashed_among root (p ∷ []) else [])
+  pub alone : places_of trail ≡ (if part then hashed_among root (p ∷ []) else [])
   pub gone : ℕ
   pub wrote : Appends old new (take gone (text (items_at root trail (p ∷ []))))
   pub proper : why ≡ fault.Output → gone < length (text (items_at root trail (p ∷ [])))

@@ -31,11 +31,12 @@ pub struct CheckEnd {
     pub end: End,
 }
 
-/// Writes the report lines of one place: of a place within an object whose head does not stop, at least three names
-/// below the object.
+/// Writes the report lines of one place: of an object as a whole, or of a place within an object whose head does not
+/// stop, at least three names below the object.
 ///
 /// Where there are none, nothing is written. A content file is opened once, if some digest is named for it, and no
-/// other content is. After a stop, `found` and `item` are false.
+/// other content is; each declaration, inventory and sidecar that the lines need is opened once. After a stop, `found`
+/// and `item` are false.
 pub fn check<T: Tree, W: Write>(
     alloc: Global,
     store: &mut T,

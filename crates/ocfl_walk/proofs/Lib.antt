@@ -17,6 +17,7 @@ pub mod DueLaws
 pub mod LooksEntries
 pub mod LooksZones
 pub mod LooksCalls
+pub mod FileLaws
 pub mod NamedLaws
 pub mod MissingLaws
 pub mod WantedLaws
@@ -25,4 +26,7 @@ pub mod PendingLaws
 pub mod WrongLaws
 pub mod JudgeLaws
 pub mod Trails
+pub mod InventoryLaws
+pub mod HeadLaws
+pub mod HeadCalls
 pub mod ItemLaws

@@ -1,8 +1,8 @@
 -- What calls did on the way down to a place.
-use Rattle.std.proofs.Common.{◌≡◌, ◌⊎◌, inl, inr, ℕ, ◌+◌, ◌<◌, ◌≤◌, List, [], ◌∷◌, ◌++◌, refl, sym, ◌∙◌, ap, subst, true, false, Bool, Option, Some, None, arith, length, append_assoc, get_or, drop, take, ◌-◌}
+use Rattle.std.proofs.Common.{◌≡◌, ◌≢◌, ◌⊎◌, inl, inr, ℕ, ◌+◌, ◌<◌, ◌≤◌, List, [], ◌∷◌, ◌++◌, refl, sym, ◌∙◌, ap, subst, true, false, Bool, Option, Some, None, arith, length, append_assoc, get_or, drop, take, ◌-◌}
 use Rattle.std.proofs.lemmas.List.{append-nil, take_all}
-use Rattle.std.proofs.lemmas.Bool.{le-leb, leb-true}
-use Rattle.std.specs.Prelude.{cond, ◌||◌, nat_le, nat_lt, option_and_then, not, map, Result, Ok, Err, Vec, IfErr, MatchResult, MatchOption, min}
+use Rattle.std.proofs.lemmas.Bool.{eqb-true, le-leb, leb-true}
+use Rattle.std.specs.Prelude.{cond, ◌==◌, ◌||◌, nat_le, nat_lt, option_and_then, not, map, Result, Ok, Err, Vec, IfErr, MatchResult, MatchOption, min}
 use Rattle.std.specs.declared.alloc.Global.{Global}
 use Rattle.ocfl_tree.specs.Place.{Text, Place, text_eq, beginnings}
 use Rattle.ocfl_tree.specs.Tree.{Tree, Leaf, dir, bytes_of, at, file_at}
@@ -22,31 +22,36 @@ use Rattle.ocfl_inventory.specs.Declaration.{Declared, undeclared, known, unknow
 use Rattle.ocfl_inventory.specs.Entries.{file_names, meaning, unknown_by, PointsAtOne}
 use Rattle.ocfl_inventory.specs.declared.declaration.Declared.{Declared as MadeDeclared}
 use Rattle.ocfl_inventory.specs.declared.declaration.Declared.TheVariants as made
+use Rattle.ocfl_inventory.specs.declared.declaration.Version.{Version}
 use Rattle.ocfl_inventory.specs.declared.declaration.Level.{Level}
 use Rattle.ocfl_inventory.specs.declared.declaration.Level.TheVariants as level
-use Rattle.ocfl_walk.specs.declared.look.Content.{Content}
+use Rattle.ocfl_walk.specs.declared.look.Found.{Found}
+use Rattle.ocfl_walk.specs.declared.look.Found.TheVariants as found
 use Rattle.ocfl_walk.specs.declared.folder.Head.{Head}
 use Rattle.ocfl_walk.specs.declared.folder.Head.TheVariants as head
 use Rattle.ocfl_inventory.specs.Table.{Table, Named, table_of}
 use Rattle.ocfl_inventory.specs.ListedPath.{is_version_name}
 use Rattle.ocfl_walk.specs.declared.sight.Sight.{Sight}
 use Rattle.ocfl_walk.specs.declared.sight.Sight.TheVariants as sight
-use Rattle.ocfl_walk.specs.Zone.{root_declared, seen, inventory_name, inventory_limit, inventory_at, table_at}
-use Rattle.ocfl_walk.specs.Lines.{cost_of, named_at, is_hashed}
-use Rattle.ocfl_walk.specs.Trail.{is_root_meta, is_meta_zone, is_meta}
-use Rattle.ocfl_walk.specs.Looking.{way_to, IsFront, Looks, failures_by, LookFails, content_at, IsSight}
-use Rattle.ocfl_walk.specs.Ways.{fault_by, IsWayFault, Goes, Stops, AreMeta, Seeks, SeekStops, ReadsMeta, ReadsTable, is_file_kind, is_listable, StaysOut, Enters, Sees, Finds, IsContentAt, IsHead, head_by, InHierarchy, IsObject, IsOpenObject, InVersion, InContent, is_extensions_name, way_below}
+use Rattle.ocfl_walk.specs.Zone.{inside, zone, is_entered, object_declared, root_declared, seen, inventory_name, inventory_limit, inventory_at, table_at}
+use Rattle.ocfl_walk.specs.Lines.{notes, cost_of, named_at, is_hashed}
+use Rattle.ocfl_report.specs.Line.{lines_at}
+use Rattle.ocfl_report.specs.declared.line.Line.{Line as MadeLine}
+use Rattle.ocfl_walk.specs.Trail.{is_head}
+use Rattle.ocfl_walk.specs.Looking.{way_to, IsFront, Looks, failures_by, LookFails, is_served, IsSight}
+use Rattle.ocfl_walk.specs.Ways.{fault_by, IsWayFault, Goes, Stops, AreMeta, Seeks, SeekStops, ReadsMeta, ReadsTable, is_file_kind, is_listable, StaysOut, Enters, Sees, Finds, IsFoundAt, ReadsHead, IsDeclared, IsHead, head_by, InHierarchy, IsObject, IsOpenObject, InVersion, InContent, is_extensions_name, way_below}
 use Rattle.ocfl_walk.specs.declared.fault.Fault.{Fault}
 use Rattle.ocfl_walk.specs.declared.fault.Fault.TheVariants as fault
 use Rattle.ocfl_tree.proofs.Orders.{true_not_false}
 use Rattle.ocfl_walk.proofs.PathLaws.{hashed_no_meta}
 use Rattle.ocfl_walk.proofs.LooksEntries.{file_there, no_file_there}
-use Rattle.ocfl_walk.proofs.AuditExists.{append_one, some_not_none}
-use Rattle.ocfl_walk.proofs.LooksZones.{listable_dir, inside_on, unseen_unlisted, declared_object, declared_root, no_content_here, no_content_in_root, hierarchy_on, object_on, object_zone_here, no_table_no_content, unknown_no_table, table_is_content, short_no_content, open_object, at_root, content_on, version_on, content_in_version}
+use Rattle.ocfl_walk.proofs.AuditExists.{append_one, append_nothing, some_not_none}
+use Rattle.ocfl_walk.proofs.StepLaws.{all_beginnings_step}
+use Rattle.ocfl_walk.proofs.LooksZones.{listable_dir, inside_on, unseen_unlisted, declared_object, declared_root, unserved_here, unserved_root, hierarchy_on, object_on, object_zone_here, unserved_stopped, unknown_no_table, table_is_content, unserved_short, open_object, at_root, content_on, version_on, content_in_version}
 
 -- ---- one call after the other
 
-did_then : (s t u : Store) (os os' : List Opening) (ls ls' : List Place) (f : ℕ) → Did s t os ls 0 → Did t u os' ls' f → Did s u (os ++ os') (ls ++ ls') f
+pub did_then : (s t u : Store) (os os' : List Opening) (ls ls' : List Place) (f : ℕ) → Did s t os ls 0 → Did t u os' ls' f → Did s u (os ++ os') (ls ++ ls') f
 did_then s t u os os' ls ls' f h k =
     let one = h.failures_are in
     let two = k.failures_are in
@@ -57,7 +62,7 @@ did_then s t u os os' ls ls' f h k =
       failures_are = omega (arith, one, two);
     }
 
-front_more : (ls way more : List Place) → IsFront ls way → IsFront ls (way ++ more)
+pub front_more : (ls way more : List Place) → IsFront ls way → IsFront ls (way ++ more)
 front_more ls way more h = (h.0 ++ more, ap (λ x. x ++ more) h.1 ∙ append_assoc ls h.0 more)
 
 front_then : (d : Place) (ls way : List Place) → IsFront ls way → IsFront (d ∷ ls) (d ∷ way)
@@ -145,10 +150,10 @@ dir_not_hashed root d h = ap (nat_lt 0) (by (seen root d) (seen_as _ (at root d)
     by leaf (inl e) = ap (cost_of (named_at root d) None) (e ∙ h) ∙ cost_of_dir (named_at root d) None
     by leaf (inr e) = ap (cost_of (named_at root d) None) e ∙ cost_of_none (named_at root d) None
 
-store_place : (p q : Place) → fault.Store p ≡ fault.Store q → p ≡ q
+pub store_place : (p q : Place) → fault.Store p ≡ fault.Store q → p ≡ q
 store_place p q e = cc
 
-memory_no_store : (q : Place) → fault.Memory ≡ fault.Store q → ⊥
+pub memory_no_store : (q : Place) → fault.Memory ≡ fault.Store q → ⊥
 memory_no_store q e = cc
 
 pub list_stops : (root : Tree) (s t : Store) (p : Place) (trouble : Trouble) → s.tree ≡ root → is_listable root p ≡ true → ListFails s t p trouble → Stops root s t (p ∷ []) [] (fault_by p trouble)
@@ -169,7 +174,7 @@ fault_on_way p Memory = (λ e. cc, λ e. cc)
 
 -- ---- what is seen at the end of the way
 
-did_nothing : (s : Store) → Did s s [] [] 0
+pub did_nothing : (s : Store) → Did s s [] [] 0
 did_nothing s = record { tree = refl; openings_are = sym (append-nil s.openings); listings_are = sym (append-nil s.listings); failures_are = omega arith }
 
 module _ (root : Tree) where
@@ -227,100 +232,14 @@ module _ (root : Tree) where
 
 -- ---- an object's inventory
 
-kind_is_file : (k : Option Kind) → is_file_kind k ≡ true → Some kind.File ≡ k
+pub kind_is_file : (k : Option Kind) → is_file_kind k ≡ true → Some kind.File ≡ k
 kind_is_file None h = absurd (true_not_false (sym h))
 kind_is_file (Some kind.File) h = refl
 kind_is_file (Some kind.Dir) h = absurd (true_not_false (sym h))
 kind_is_file (Some kind.Other) h = absurd (true_not_false (sym h))
 
-kind_is_no_file : (k : Option Kind) → is_file_kind k ≡ false → Some kind.File ≡ k → ⊥
+pub kind_is_no_file : (k : Option Kind) → is_file_kind k ≡ false → Some kind.File ≡ k → ⊥
 kind_is_no_file k h e = true_not_false (ap is_file_kind e ∙ h)
-
-module _ (root : Tree) (o : Place) (es : List Entry) (h : IsObject root o es) where
-  abbrev inventory_place : Place
-  inventory_place = o ++ inventory_name ∷ []
-
-  inventory_is_meta : is_meta root (o ++ inventory_name ∷ []) ≡ true
-  inventory_is_meta = ap (λ z. is_root_meta (o ++ inventory_name ∷ []) || is_meta_zone z) (inside_on root o o [] (inventory_name ∷ []) h.zone) ∙ or_true (is_root_meta (o ++ inventory_name ∷ []))
-    where
-      or_true : (b : Bool) → b || true ≡ true
-      or_true true = refl
-      or_true false = refl
-
-  inventory_not_hashed : is_hashed root (o ++ inventory_name ∷ []) ≡ false
-  inventory_not_hashed = by (is_hashed root (o ++ inventory_name ∷ [])) refl
-    where
-      by : (b : Bool) → is_hashed root (o ++ inventory_name ∷ []) ≡ b → b ≡ false
-      by false e = refl
-      by true e = absurd (true_not_false (sym inventory_is_meta ∙ hashed_no_meta root (o ++ inventory_name ∷ []) e))
-
-  inventory_trail : (given : ℕ) (failed : Bool) → AreMeta root (opening (o ++ inventory_name ∷ []) given failed ∷ [])
-  inventory_trail given failed = record {
-    meta = ap (λ b. map (λ x. x.place) (cond (not b) (opening (o ++ inventory_name ∷ []) given failed ∷ []) [])) inventory_is_meta;
-    once = λ i j d l k. absurd (omega (arith, l, k));
-  }
-
-  inventory_known : inventory_at root o ≡ file_at root (o ++ inventory_name ∷ [])
-  inventory_known = ap (λ b. cond b (file_at root (o ++ inventory_name ∷ [])) None) h.known
-
-  table_from_file : (bytes : Text) → file_at root (o ++ inventory_name ∷ []) ≡ Some bytes → table_at root o ≡ cond (nat_le (length bytes) inventory_limit) (table_of bytes) None
-  table_from_file bytes is = ap (option_and_then (λ b. cond (nat_le (length b) inventory_limit) (table_of b) None)) (inventory_known ∙ is)
-
-  pub no_inventory : is_file_kind (kind_in es inventory_name) ≡ false → table_at root o ≡ None
-  no_inventory none = ap (option_and_then (λ b. cond (nat_le (length b) inventory_limit) (table_of b) None)) (inventory_known ∙ no_file_there root o inventory_name es h.listing (kind_is_no_file (kind_in es inventory_name) none))
-
-  pub inventory_read : (s t : Store) (p : Place) (limit : ℕ) (b : Bounded) → s.tree ≡ root → p ≡ o ++ inventory_name ∷ [] → ReadsBounded root s t p limit b → ReadsMeta root s t
-  inventory_read s t p limit b over there l =
-      let k = subst (λ x. ReadsBounded root s t x limit b) there l in
-      record {
-        over = over;
-        trail = opening (o ++ inventory_name ∷ []) (min (length k.bytes) (limit + 1)) false ∷ [];
-        did = k.did;
-        meta = inventory_trail (min (length k.bytes) (limit + 1)) false;
-      }
-
-  pub inventory_whole : (s t : Store) (p : Place) (v : Vec ℕ Global) → p ≡ o ++ inventory_name ∷ [] → ReadsBounded root s t p inventory_limit (bounded.Whole v) → table_at root o ≡ table_of v.items
-  inventory_whole s t p v there l =
-      let k = subst (λ x. ReadsBounded root s t x inventory_limit (bounded.Whole v)) there l in
-      table_from_file k.bytes k.is_file ∙ ap (λ b. cond b (table_of k.bytes) None) (le-leb (length k.bytes) inventory_limit k.is_bounded.1) ∙ ap table_of (sym k.is_bounded.0)
-
-  pub inventory_over : (s t : Store) (p : Place) → p ≡ o ++ inventory_name ∷ [] → ReadsBounded root s t p inventory_limit bounded.Over → table_at root o ≡ None
-  inventory_over s t p there l =
-      let k = subst (λ x. ReadsBounded root s t x inventory_limit bounded.Over) there l in
-      table_from_file k.bytes k.is_file ∙ ap (λ b. cond b (table_of k.bytes) None) (not_within (length k.bytes) inventory_limit k.is_bounded)
-    where
-      not_within : (a b : ℕ) → b < a → nat_le a b ≡ false
-      not_within a b l = by (nat_le a b) refl
-        where
-          by : (x : Bool) → nat_le a b ≡ x → x ≡ false
-          by false e = refl
-          by true e = let le = leb-true a b e in absurd (omega (arith, l, le))
-
-  inventory_stops : (s t : Store) (limit : ℕ) (trouble : Trouble) → s.tree ≡ root → is_file_kind (kind_in es inventory_name) ≡ true → StopsReading root s t (o ++ inventory_name ∷ []) limit trouble → SeekStops root s t [] (fault_by (o ++ inventory_name ∷ []) trouble)
-  inventory_stops s t limit Device over is k = record {
-    trail = k.openings;
-    stops = record {
-      goes = record { over = over; listings = []; did = k.did; listed = ([], refl) };
-      store = λ q e. ap (is_hashed root) (sym (store_place (o ++ inventory_name ∷ []) q e)) ∙ inventory_not_hashed;
-    };
-    meta = subst (AreMeta root) (sym k.opened.2) (inventory_trail k.opened.0 true);
-  }
-  inventory_stops s t limit Absent over is k =
-      let there = file_there root o inventory_name es h.listing (kind_is_file (kind_in es inventory_name) is) in
-      absurd (some_not_none there.0 (sym (k.absent refl) ∙ ap (option_and_then bytes_of) there.1))
-  inventory_stops s t limit Memory over is k = record {
-    trail = k.openings;
-    stops = record { goes = record { over = over; listings = []; did = k.did; listed = ([], refl) }; store = λ q e. absurd (memory_no_store q e) };
-    meta = by k.opened;
-  }
-    where
-      by : (k.openings ≡ []) ⊎ ((given : ℕ) × (given ≤ limit) × (k.openings ≡ opening (o ++ inventory_name ∷ []) given false ∷ [])) → AreMeta root k.openings
-      by (inl e) = subst (AreMeta root) (sym e) (none_meta root)
-      by (inr e) = subst (AreMeta root) (sym e.2) (inventory_trail e.0 false)
-
-  pub inventory_fails : (s t : Store) (p : Place) (limit : ℕ) (trouble : Trouble) (why : Fault) → s.tree ≡ root → is_file_kind (kind_in es inventory_name) ≡ true → p ≡ o ++ inventory_name ∷ [] → StopsReading root s t p limit trouble → why ≡ fault_by p trouble → SeekStops root s t [] why
-  inventory_fails s t p limit trouble why over is there l e =
-      subst (SeekStops root s t []) (sym (e ∙ ap (λ x. fault_by x trouble) there)) (inventory_stops s t limit trouble over is (subst (λ x. StopsReading root s t x limit trouble) there l))
 
 module _ (root : Tree) where
   pub reads_nothing : (s : Store) → s.tree ≡ root → ReadsMeta root s s
@@ -376,21 +295,31 @@ head_unknown d head.Undeclared k none = undeclared_unknown d k
 head_unknown d head.Known k none = absurd (none refl)
 head_unknown d head.Stops k none = k.1
 
+declares_one : (es : List Entry) (m : MadeDeclared) → PointsAtOne level.Object es m → (m ≡ made.None → ⊥) → is_declared (meaning level.Object es m) ≡ true
+declares_one es made.None k some = absurd (some refl)
+declares_one es (made.One v) k some = refl
+declares_one es (made.Unknown i) k some = ap (λ e. is_declared (unknown_by level.Object e)) k.1
+declares_one es made.Several k some = refl
+
+pub none_left : (p : Place) (b : Bool) → b ≡ (length p == 0) → b ≡ true → p ≡ []
+none_left [] b e h = refl
+none_left (n ∷ p) b e h = let none = eqb-true (length (n ∷ p)) 0 (sym e ∙ h) in absurd (omega (arith, none))
+
 module _ (root : Tree) where
   nothing_sought : (s : Store) (way : List Place) → s.tree ≡ root → Seeks root s s way
   nothing_sought s way over = seeks_reads root s s way (reads_nothing root s over)
 
-  pub finds_nothing : (s : Store) (d p : Place) → s.tree ≡ root → content_at root (d ++ p) ≡ None → Finds root s s d p (Ok None)
+  pub finds_nothing : (s : Store) (d p : Place) → s.tree ≡ root → is_served root (d ++ p) ≡ false → Finds root s s d p (Ok None)
   finds_nothing s d p over none = record { gives = (nothing_sought s (way_below d p) over, none) }
 
   pub finds_nothing_here : (s : Store) (d rest : Place) (es : List Entry) → s.tree ≡ root → InHierarchy root d es → length rest ≡ 0 → Finds root s s d rest (Ok None)
-  finds_nothing_here s d [] es over h none = finds_nothing s d [] over (no_content_here root d h.zone)
+  finds_nothing_here s d [] es over h none = finds_nothing s d [] over (unserved_here root d h.zone)
   finds_nothing_here s d (m ∷ rest) es over h none = absurd (omega (arith, none))
 
-  pub finds_at : (s t : Store) (d p rest : Place) (r : Result (Option Content) Fault) → rest ≡ p → Finds root s t d p r → Finds root s t d rest r
+  pub finds_at : (s t : Store) (d p rest : Place) (r : Result (Option Found) Fault) → rest ≡ p → Finds root s t d p r → Finds root s t d rest r
   finds_at s t d p rest r same h = subst (λ x. Finds root s t d x r) (sym same) h
 
-  pub finds_out : (s t : Store) (d p q : Place) → s.tree ≡ root → StaysOut root s t q → content_at root (d ++ p) ≡ None → Finds root s t d p (Ok None)
+  pub finds_out : (s t : Store) (d p q : Place) → s.tree ≡ root → StaysOut root s t q → is_served root (d ++ p) ≡ false → Finds root s t d p (Ok None)
   finds_out s t d p q over h none = record {
     gives = (record { trail = []; goes = goes_nowhere root s t (way_below d p) over h.did; meta = none_meta root }, none);
   }
@@ -398,13 +327,13 @@ module _ (root : Tree) where
   pub finds_stop : (s t : Store) (d p : Place) (n : Text) (why : Fault) → Stops root s t ((d ++ n ∷ []) ∷ []) [] why → Finds root s t d (n ∷ p) (Err why)
   finds_stop s t d p n why h = record { gives = seek_stops root s t ((d ++ n ∷ []) ∷ []) (way_below (d ++ n ∷ []) p) why h }
 
-  finds_then : (s t u : Store) (d p : Place) (n : Text) (r : Result (Option Content) Fault) → s.tree ≡ root → Did s t [] ((d ++ n ∷ []) ∷ []) 0 → Finds root t u (d ++ n ∷ []) p r → Finds root s u d (n ∷ p) r
+  finds_then : (s t u : Store) (d p : Place) (n : Text) (r : Result (Option Found) Fault) → s.tree ≡ root → Did s t [] ((d ++ n ∷ []) ∷ []) 0 → Finds root t u (d ++ n ∷ []) p r → Finds root s u d (n ∷ p) r
   finds_then s t u d p n (Ok o) over did h = record {
-    gives = (seeks_then root s t u (d ++ n ∷ []) (way_below (d ++ n ∷ []) p) over did h.gives.0, subst (λ x. IsContentAt root x o) (append_one d p n) h.gives.1);
+    gives = (seeks_then root s t u (d ++ n ∷ []) (way_below (d ++ n ∷ []) p) over did h.gives.0, subst (λ x. IsFoundAt root x o) (append_one d p n) h.gives.1);
   }
   finds_then s t u d p n (Err why) over did h = record { gives = seek_stops_then root s t u (d ++ n ∷ []) (way_below (d ++ n ∷ []) p) why over did h.gives }
 
-  pub finds_further : (s t u : Store) (d e p rest : Place) (n : Text) (es : List Entry) (r : Result (Option Content) Fault) → s.tree ≡ root → Enters root s t (d ++ n ∷ []) e es → rest ≡ n ∷ p → Finds root t u e p r → Finds root s u d rest r
+  pub finds_further : (s t u : Store) (d e p rest : Place) (n : Text) (es : List Entry) (r : Result (Option Found) Fault) → s.tree ≡ root → Enters root s t (d ++ n ∷ []) e es → rest ≡ n ∷ p → Finds root t u e p r → Finds root s u d rest r
   finds_further s t u d e p rest n es r over h same k =
       subst (λ x. Finds root s u d x r) (sym same) (finds_then s t u d p n r over h.did (subst (λ x. Finds root t u x p r) h.is k))
 
@@ -420,23 +349,71 @@ module _ (root : Tree) where
       let is = declared_object root (d ++ n ∷ []) es k.listable ordinary k.listing in
       subst (λ x. IsObject root x es) (sym k.is) (object_on root d n old es h out k.listable k.listing (ap is_declared is ∙ says.0) (ap is_known is ∙ says.1))
 
-  -- an object whose head stops at its declaration
-  pub finds_stopped : (s t : Store) (d e p rest : Place) (n : Text) (old es : List Entry) → s.tree ≡ root → InHierarchy root d old → is_extensions_name d n ≡ false → IsOrdinary es → Enters root s t (d ++ n ∷ []) e es → rest ≡ n ∷ p
-      → (is_declared (declared level.Object (file_names es)) ≡ true) × (is_known (declared level.Object (file_names es)) ≡ false) → Finds root s t d rest (Ok None)
-  finds_stopped s t d e p rest n old es over h out ordinary k same says =
-      let is = declared_object root (d ++ n ∷ []) es k.listable ordinary k.listing in
-      let z = object_zone_here root d n old h out (ap is_declared is ∙ says.0) in
-      let none = no_table_no_content root (d ++ n ∷ []) p z (unknown_no_table root (d ++ n ∷ []) (ap is_known is ∙ says.1)) in
-      finds_at s t d (n ∷ p) rest (Ok None) same (finds_then s t t d p n (Ok None) over k.did (finds_nothing t (d ++ n ∷ []) p (k.did.tree ∙ over) none))
+  -- an object, with what its declarations say
+  pub declared_entered : (s t : Store) (d e : Place) (n : Text) (old es given : List Entry) (m : MadeDeclared) → InHierarchy root d old → is_extensions_name d n ≡ false → IsOrdinary es → Enters root s t (d ++ n ∷ []) e es → given ≡ es
+      → meaning level.Object given m ≡ declared level.Object (file_names given) → PointsAtOne level.Object given m → (m ≡ made.None → ⊥) → IsDeclared root e es m
+  declared_entered s t d e n old es given m h out ordinary k same said pointed some =
+      let says : meaning level.Object es m ≡ declared level.Object (file_names es) = subst (λ xs. meaning level.Object xs m ≡ declared level.Object (file_names xs)) same said in
+      let points : PointsAtOne level.Object es m = subst (λ xs. PointsAtOne level.Object xs m) same pointed in
+      let is : object_declared root (d ++ n ∷ []) ≡ declared level.Object (file_names es) = declared_object root (d ++ n ∷ []) es k.listable ordinary k.listing in
+      let declares : is_declared (object_declared root (d ++ n ∷ [])) ≡ true = ap is_declared (is ∙ sym says) ∙ declares_one es m points some in
+      subst (λ x. IsDeclared root x es m) (sym k.is) (record {
+        listing = k.listing;
+        way = all_beginnings_step (is_entered root) d n ∙ h.here.reached;
+        listable = k.listable;
+        zone = object_zone_here root d n old h out declares;
+        says = says ∙ sym is;
+        points = points;
+      })
+
+  pub undeclared_entered : (s t : Store) (d e : Place) (n : Text) (old es given : List Entry) (m : MadeDeclared) → InHierarchy root d old → is_extensions_name d n ≡ false → IsOrdinary es → Enters root s t (d ++ n ∷ []) e es → given ≡ es
+      → meaning level.Object given m ≡ declared level.Object (file_names given) → m ≡ made.None → InHierarchy root e es
+  undeclared_entered s t d e n old es given m h out ordinary k same said none =
+      let says : meaning level.Object es m ≡ declared level.Object (file_names es) = subst (λ xs. meaning level.Object xs m ≡ declared level.Object (file_names xs)) same said in
+      hierarchy_entered s t d e n old es h out ordinary k (ap is_declared (sym says ∙ ap (meaning level.Object es) none))
+
+  pub finds_object : (o : Place) (es : List Entry) (m : MadeDeclared) (v : Version) → IsDeclared root o es m → m ≡ made.One v → IsObject root o es
+  finds_object o es m v h one = record {
+    listing = h.listing;
+    way = h.way;
+    listable = h.listable;
+    zone = h.zone;
+    known = ap is_known (sym h.says ∙ ap (meaning level.Object es) one);
+  }
+
+  -- an object whose head stops at its declarations
+  pub finds_stopped : (s : Store) (o path : Place) (es : List Entry) (m : MadeDeclared) → s.tree ≡ root → IsDeclared root o es m → path ≢ [] → is_known (meaning level.Object es m) ≡ false → Finds root s s o path (Ok None)
+  finds_stopped s o [] es m over h some stops = absurd (some refl)
+  finds_stopped s o (n ∷ path) es m over h some stops =
+      finds_nothing s o (n ∷ path) over (unserved_stopped root o path n h.zone (unknown_no_table root o (ap is_known (sym h.says) ∙ stops)))
+
+  pub no_known : (o : Place) (es : List Entry) (m : MadeDeclared) → IsDeclared root o es m → (m ≡ made.None) ⊎ (((x : ℕ) × (m ≡ made.Unknown x)) ⊎ (m ≡ made.Several)) → is_known (meaning level.Object es m) ≡ false
+  no_known o es m h (inl e) = ap (λ x. is_known (meaning level.Object es x)) e
+  no_known o es m h (inr (inl k)) = ap (λ x. is_known (meaning level.Object es x)) k.1 ∙ ap (λ e. is_known (unknown_by level.Object e)) (subst (PointsAtOne level.Object es) k.1 h.points).1
+  no_known o es m h (inr (inr e)) = ap (λ x. is_known (meaning level.Object es x)) e
+
+  -- the head
+  pub finds_head : (s t : Store) (o path : Place) (lines : Vec MadeLine Global) → zone root o ≡ inside o [] → path ≡ [] → ReadsHead root s t o (Ok lines) → Finds root s t o path (Ok (Some (found.Head lines)))
+  finds_head s t o path lines z none h = subst (λ x. Finds root s t o x (Ok (Some (found.Head lines)))) (sym none) (record {
+    gives = (
+      seeks_reads root s t (way_below o []) h.gives.0,
+      (ap (λ p. is_head (zone root p)) (append_nothing o) ∙ ap is_head z, h.gives.1 ∙ ap (λ p. lines_at p (notes root None p)) (sym (append_nothing o))),
+    );
+  })
+
+  pub finds_head_stop : (s t : Store) (o path : Place) (why : Fault) → ReadsHead root s t o (Err why) → Finds root s t o path (Err why)
+  finds_head_stop s t o path why h = record { gives = seek_stops_more root s t [] (way_below o path) why h.gives }
 
   -- ---- within an object
 
   module _ (o : Place) (es : List Entry) (h : IsObject root o es) where
-    pub finds_short : (s : Store) (path : Place) → s.tree ≡ root → length path < 3 → Finds root s s o path (Ok None)
-    finds_short s path over short = finds_nothing s o path over (short_no_content root o path h.zone (omega (arith, short)))
+    pub finds_short : (s : Store) (path : Place) → s.tree ≡ root → path ≢ [] → length path < 3 → Finds root s s o path (Ok None)
+    finds_short s [] over some short = absurd (some refl)
+    finds_short s (n ∷ path) over some short = finds_nothing s o (n ∷ path) over (unserved_short root o path n h.zone (omega (arith, short)))
 
-    pub finds_no_table : (s t : Store) (path : Place) → ReadsTable root s t o (Ok None) → Finds root s t o path (Ok None)
-    finds_no_table s t path k = record { gives = (seeks_reads root s t (way_below o path) k.gives.0, no_table_no_content root o path h.zone (sym k.gives.1)) }
+    pub finds_no_table : (s t : Store) (path : Place) → path ≢ [] → ReadsTable root s t o (Ok None) → Finds root s t o path (Ok None)
+    finds_no_table s t [] some k = absurd (some refl)
+    finds_no_table s t (n ∷ path) some k = record { gives = (seeks_reads root s t (way_below o (n ∷ path)) k.gives.0, unserved_stopped root o path n h.zone (sym k.gives.1)) }
 
     pub finds_table_stop : (s t : Store) (path : Place) (why : Fault) → ReadsTable root s t o (Err why) → Finds root s t o path (Err why)
     finds_table_stop s t path why k = record { gives = seek_stops_more root s t [] (way_below o path) why k.gives }
@@ -454,9 +431,9 @@ module _ (root : Tree) where
     finds_sight_stop s t u path table why k l = record { gives = seeks_then_stops root s t u (way_below o path) why k.gives.0 l.gives }
 
     pub finds_content : (s t u : Store) (path p : Place) (table : Table) (sight : Sight) (v c n : Text) (rest : Place) → ReadsTable root s t o (Ok (Some table)) → path ≡ v ∷ c ∷ n ∷ rest → p ≡ path → Sees root t u o (v ∷ c ∷ n ∷ rest) (Ok sight)
-        → Finds root s u o path (Ok (Some (record { table = table; path = p; sight = sight })))
+        → Finds root s u o path (Ok (Some (found.Content (record { table = table; path = p; sight = sight }))))
     finds_content s t u path p table sight v c n rest k shape same l =
-        subst (λ x. Finds root s u o x (Ok (Some (record { table = table; path = p; sight = sight })))) (sym shape)
+        subst (λ x. Finds root s u o x (Ok (Some (found.Content (record { table = table; path = p; sight = sight }))))) (sym shape)
         (record {
           gives = (
             seeks_then_goes root s t u (way_below o (v ∷ c ∷ n ∷ rest)) k.gives.0 l.gives.0,
@@ -493,7 +470,7 @@ module _ (root : Tree) where
       let k = stops_more root s t ([] ∷ []) (way_below [] p) [] why h in
       record { looks = looks_from s t p (failures_by why) [] k.goes (none_meta root); only = only; store = k.store }
 
-  pub look_finds : (s t u : Store) (e p : Place) (es : List Entry) (o : Option Content) → s.tree ≡ root → Enters root s t [] e es → Finds root t u [] p (Ok o) → Looks root s u p 0 × IsContentAt root p o
+  pub look_finds : (s t u : Store) (e p : Place) (es : List Entry) (o : Option Found) → s.tree ≡ root → Enters root s t [] e es → Finds root t u [] p (Ok o) → Looks root s u p 0 × IsFoundAt root p o
   look_finds s t u e p es o over h k =
       let all = seeks_then root s t u [] (way_below [] p) over h.did k.gives.0 in
       (looks_from s u p 0 all.trail all.goes all.meta, k.gives.1)
@@ -507,20 +484,18 @@ module _ (root : Tree) where
   root_entered s t e es ordinary k says =
       subst (λ x. InHierarchy root x es) (sym k.is) (at_root root es (ap is_known (declared_root root es ordinary k.listing) ∙ says.1) k.listing)
 
-  pub look_unknown : (s t : Store) (e p : Place) (es : List Entry) (h : Head) → s.tree ≡ root → IsOrdinary es → Enters root s t [] e es → IsHead (declared level.Root (file_names es)) h → (h ≡ head.Known → ⊥) → Looks root s t p 0 × (content_at root p ≡ None)
+  pub look_unknown : (s t : Store) (e p : Place) (es : List Entry) (h : Head) → s.tree ≡ root → IsOrdinary es → Enters root s t [] e es → IsHead (declared level.Root (file_names es)) h → (h ≡ head.Known → ⊥) → Looks root s t p 0 × (is_served root p ≡ false)
   look_unknown s t e p es h over ordinary k says none =
       let is : is_known (root_declared root) ≡ false = ap is_known (declared_root root es ordinary k.listing) ∙ head_unknown (declared level.Root (file_names es)) h says none in
-      look_finds s t t e p es None over k (finds_nothing t [] p (k.did.tree ∙ over) (no_content_in_root root p is))
+      look_finds s t t e p es None over k (finds_nothing t [] p (k.did.tree ∙ over) (unserved_root root p is))
 
   pub stops_at : (s t : Store) (p q : Place) (why : Fault) → p ≡ q → Stops root s t (p ∷ []) [] why → Stops root s t (q ∷ []) [] why
   stops_at s t p q why same h = subst (λ x. Stops root s t (x ∷ []) [] why) same h
 
-  pub look_gives : (s t u : Store) (e p q : Place) (es : List Entry) (r : Result (Option Content) Fault) → s.tree ≡ root → Enters root s t [] e es → IfErr r IsWayFault → q ≡ p → Finds root t u e q r
-      → MatchResult r (λ o. Looks root s u p 0 × MatchOption o (content_at root p ≡ None) (λ c. (content_at root p ≡ Some (c.table, c.path)) × IsSight root p c.sight)) (LookFails root s u p)
+  pub look_gives : (s t u : Store) (e p q : Place) (es : List Entry) (r : Result (Option Found) Fault) → s.tree ≡ root → Enters root s t [] e es → IfErr r IsWayFault → q ≡ p → Finds root t u e q r
+      → MatchResult r (λ o. Looks root s u p 0 × IsFoundAt root p o) (LookFails root s u p)
   look_gives s t u e p q es r over h only there k = by r only (subst (λ x. Finds root t u [] x r) there (subst (λ x. Finds root t u x q r) h.is k))
     where
-      by : (r : Result (Option Content) Fault) → IfErr r IsWayFault → Finds root t u [] p r
-          → MatchResult r (λ o. Looks root s u p 0 × MatchOption o (content_at root p ≡ None) (λ c. (content_at root p ≡ Some (c.table, c.path)) × IsSight root p c.sight)) (LookFails root s u p)
-      by (Ok None) only k = look_finds s t u e p es None over h k
-      by (Ok (Some c)) only k = look_finds s t u e p es (Some c) over h k
+      by : (r : Result (Option Found) Fault) → IfErr r IsWayFault → Finds root t u [] p r → MatchResult r (λ o. Looks root s u p 0 × IsFoundAt root p o) (LookFails root s u p)
+      by (Ok o) only k = look_finds s t u e p es o over h k
       by (Err why) only k = look_stops s t u e p es why over h only k

@@ -7,6 +7,8 @@ pub mod Trail
 pub mod Walk
 pub mod Looking
 pub mod Ways
+pub mod HeadFiles
+pub mod HeadLines
 pub mod Judging
 pub mod Pending
 pub mod FileLines

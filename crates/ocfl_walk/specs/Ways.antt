@@ -1,5 +1,6 @@
 -- The way down to a place: what is known of a directory on it, and what was done to come there.
-use Rattle.std.specs.Prelude.{◌≡◌, ◌≢◌, ℕ, ◌&&◌, nat_le, length, List, [], ◌∷◌, ◌++◌, Bool, true, false, Option, Some, None, Result, MatchResult, AllPairs, codes}
+use Rattle.std.specs.Prelude.{◌≡◌, ◌≢◌, ℕ, ◌&&◌, nat_le, length, List, [], ◌∷◌, ◌++◌, Bool, true, false, Option, Some, None, Result, MatchResult, AllPairs, Vec, map, codes}
+use Rattle.std.specs.declared.alloc.Global.{Global}
 use Rattle.std.specs.List.{list_all}
 use Rattle.ocfl_tree.specs.Place.{Text, Place, text_eq, beginnings}
 use Rattle.ocfl_tree.specs.Tree.{Tree, is_dir}
@@ -11,19 +12,24 @@ use Rattle.ocfl_tree.specs.declared.store.Kind.TheVariants as kind
 use Rattle.ocfl_tree.specs.declared.store.Opening.{Opening}
 use Rattle.ocfl_tree.specs.declared.store.Trouble.{Trouble}
 use Rattle.ocfl_tree.specs.declared.store.Trouble.TheVariants as trouble
+use Rattle.ocfl_report.specs.Line.{line_of, lines_at}
+use Rattle.ocfl_report.specs.declared.line.Line.{Line as MadeLine}
 use Rattle.ocfl_inventory.specs.Declaration.{Declared, is_declared, is_known}
+use Rattle.ocfl_inventory.specs.Entries.{meaning, PointsAtOne}
+use Rattle.ocfl_inventory.specs.declared.declaration.Level.TheVariants as level
 use Rattle.ocfl_inventory.specs.declared.declaration.Declared.{Declared as MadeDeclared}
 use Rattle.ocfl_inventory.specs.declared.declaration.Declared.TheVariants as made
 use Rattle.ocfl_inventory.specs.Table.{Table}
 use Rattle.ocfl_inventory.specs.ListedPath.{is_version_name}
 use Rattle.ocfl_walk.specs.Zone.{max_listed_depth, hierarchy, inside, zone, is_entered, object_declared, table_at}
-use Rattle.ocfl_walk.specs.Lines.{is_hashed}
-use Rattle.ocfl_walk.specs.Trail.{content_trail}
+use Rattle.ocfl_walk.specs.Lines.{notes, is_hashed}
+use Rattle.ocfl_walk.specs.Trail.{content_trail, is_head}
 use Rattle.ocfl_walk.specs.Walk.{is_reached}
-use Rattle.ocfl_walk.specs.Looking.{IsFront, failures_by, content_at, IsSight}
+use Rattle.ocfl_walk.specs.Looking.{IsFront, failures_by, content_at, is_served, IsSight}
 use Rattle.ocfl_walk.specs.declared.fault.Fault.{Fault}
 use Rattle.ocfl_walk.specs.declared.fault.Fault.TheVariants as fault
-use Rattle.ocfl_walk.specs.declared.look.Content.{Content}
+use Rattle.ocfl_walk.specs.declared.look.Found.{Found}
+use Rattle.ocfl_walk.specs.declared.look.Found.TheVariants as found
 use Rattle.ocfl_walk.specs.declared.folder.Head.{Head}
 use Rattle.ocfl_walk.specs.declared.folder.Head.TheVariants as head
 use Rattle.ocfl_walk.specs.declared.sight.Sight.{Sight}
@@ -123,13 +129,18 @@ pub record Sees (root : Tree) (s t : Store) (d p : Place) (r : Result Sight Faul
   pub gives : MatchResult r (λ sight. Goes root s t (way_below d p) [] 0 × IsSight root (d ++ p) sight) (λ why. Stops root s t (way_below d p) [] why)
 
 -- what an answer says of a place
-abbrev pub IsContentAt : Tree → Place → Option Content → Type 0
-IsContentAt root p None = content_at root p ≡ None
-IsContentAt root p (Some c) = (content_at root p ≡ Some (c.table, c.path)) × IsSight root p c.sight
+abbrev pub IsFoundAt : Tree → Place → Option Found → Type 0
+IsFoundAt root p None = is_served root p ≡ false
+IsFoundAt root p (Some (found.Head lines)) = (is_head (zone root p) ≡ true) × (map line_of lines.items ≡ lines_at p (notes root None p))
+IsFoundAt root p (Some (found.Content c)) = (content_at root p ≡ Some (c.table, c.path)) × IsSight root p c.sight
 
--- the content place d ++ p: the directories between were listed, and metadata was read
-pub record Finds (root : Tree) (s t : Store) (d p : Place) (r : Result (Option Content) Fault) : Type 0 where
-  pub gives : MatchResult r (λ o. Seeks root s t (way_below d p) × IsContentAt root (d ++ p) o) (λ why. SeekStops root s t (way_below d p) why)
+-- the place d ++ p: the directories between were listed, and metadata was read
+pub record Finds (root : Tree) (s t : Store) (d p : Place) (r : Result (Option Found) Fault) : Type 0 where
+  pub gives : MatchResult r (λ o. Seeks root s t (way_below d p) × IsFoundAt root (d ++ p) o) (λ why. SeekStops root s t (way_below d p) why)
+
+-- the lines of an object's head, with its files read for them
+pub record ReadsHead (root : Tree) (s t : Store) (o : Place) (r : Result (Vec MadeLine Global) Fault) : Type 0 where
+  pub gives : MatchResult r (λ lines. ReadsMeta root s t × (map line_of lines.items ≡ lines_at o (notes root None o))) (λ why. SeekStops root s t [] why)
 
 -- ---- what declarations say
 
@@ -155,6 +166,15 @@ pub record IsAt (root : Tree) (d : Place) (es : List Entry) : Type 0 where
 pub record InHierarchy (root : Tree) (d : Place) (es : List Entry) : Type 0 where
   pub here : IsAt root d es
   pub zone : zone root d ≡ hierarchy
+
+-- an object, and what its declarations were read to be
+pub record IsDeclared (root : Tree) (o : Place) (es : List Entry) (d : MadeDeclared) : Type 0 where
+  pub listing : IsListing root o es
+  pub way : list_all (is_entered root) (beginnings o) ≡ true
+  pub listable : is_listable root o ≡ true
+  pub zone : zone root o ≡ inside o []
+  pub says : meaning level.Object es d ≡ object_declared root o
+  pub points : PointsAtOne level.Object es d
 
 -- an object of known version
 pub record IsObject (root : Tree) (o : Place) (es : List Entry) : Type 0 where

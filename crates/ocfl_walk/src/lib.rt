@@ -4,7 +4,14 @@
 mod content;
 mod fault;
 mod file_lines;
+mod files;
 mod folder;
+mod head;
+mod head_lines;
+#[cfg(test)]
+mod head_lines_tests;
+#[cfg(test)]
+mod head_tests;
 mod inventory;
 mod item;
 mod judging;

@@ -1,0 +1,368 @@
+//! The lines of an object's head, from files that were read before.
+ghost use Rattle.std.specs.Prelude.{◌≡◌, ◌≢◌, ◌≤◌, ◌++◌, ◌∷◌, [], List, true, false, not, length, is_some, map, option_map, Some, IfSome, IfOk, OnOk, MatchOption};
+ghost use Rattle.std.specs.Result.{result_ok};
+ghost use Rattle.hex.specs.Hex.{encode_lower};
+ghost use Rattle.ocfl_tree.specs.Place.{Place as Names, Text, text_eq};
+ghost use Rattle.ocfl_tree.specs.Tree.{Tree as Root};
+ghost use Rattle.ocfl_report.specs.Line.{Note, note, plain};
+ghost use Rattle.ocfl_digest.specs.Bounded.{IsBoundedTo};
+ghost use Rattle.ocfl_digest.specs.Digest.{digest_bytes_of};
+ghost use Rattle.ocfl_digest.specs.declared.algorithm.Algorithm.TheVariants.{Sha256, Sha512};
+ghost use Rattle.ocfl_inventory.specs.Declaration.{prefix, after_prefix, declaration_name, declaration_bytes as exact_declaration, is_known};
+ghost use Rattle.ocfl_inventory.specs.DigestText.{digest_of};
+ghost use Rattle.ocfl_inventory.specs.Entries.{meaning, PointsAtOne};
+ghost use Rattle.ocfl_inventory.specs.Reading.{algorithm_of as algorithm_in};
+ghost use Rattle.ocfl_inventory.specs.Sidecar.{sidecar_digits, sidecar_of};
+ghost use Rattle.ocfl_inventory.specs.Sums.{sum_view};
+ghost use Rattle.ocfl_inventory.specs.Table.{table_of};
+ghost use Rattle.ocfl_inventory.specs.declared.declaration.Level.TheVariants as level;
+ghost use Rattle.ocfl_walk.specs.Head.{on, or_clean, is_exact_declaration, sidecar_name, sidecar_at, mismatch, sidecar_notes, are_sidecars_missing, sidecars_notes, inventory_part, head_notes_by};
+ghost use Rattle.ocfl_walk.specs.HeadFiles.{IsFileAt};
+ghost use Rattle.ocfl_walk.specs.HeadLines.{AreSidecars, note_of, is_other_there, named_notes};
+ghost use Rattle.ocfl_walk.specs.Pending.{Adds};
+
+use crate::lines::{add_line, add_plain};
+use ocfl_digest::{Algorithm, Bounded, Wanted, hash_bytes};
+use ocfl_inventory::{Declared, Sum, Table, Version, algorithm_of, sidecar};
+use ocfl_report::{Code, Line};
+use ocfl_tree::{Entry, Place};
+use std::alloc::{AllocError, Global};
+
+/// What was read of the sidecars of an inventory, where they are there.
+#[derive(Debug, Drop)]
+pub(crate) struct Sidecars {
+    /// That of `sha256`.
+    pub(crate) short: Option<Bounded>,
+    /// That of `sha512`.
+    pub(crate) long: Option<Bounded>,
+}
+
+fn is_bytes(bytes: &[u8], other: &[u8]) -> bool
+    ensures { result ≡ text_eq bytes.now other.now }
+{
+    bytes == other
+}
+
+/// The exact bytes of an object's declaration.
+fn declaration_bytes(version: Version) -> &'static [u8]
+    ensures { result.now ≡ exact_declaration level.Object version }
+{
+    match version {
+        Version::V1_0 => b"ocfl_object_1.0\n",
+        Version::V1_1 => b"ocfl_object_1.1\n",
+    }
+}
+
+/// Whether these few bytes are all that a file has.
+fn is_file(bytes: &[u8], file: &Bounded) -> bool
+    ensures { (text : Text) → IsBoundedTo 4096 text file.now → length bytes.now ≤ 4096 → result ≡ text_eq text bytes.now }
+{
+    match file {
+        Bounded::Whole(whole) => is_bytes(whole, bytes),
+        Bounded::Over => false,
+    }
+}
+
+fn is_exact(version: Version, declaration: &Option<Bounded>) -> bool
+    ensures { (root : Root) (o : Names) → IsFileAt root (o ++ declaration_name level.Object version ∷ []) 4096 declaration.now
+        → result ≡ is_exact_declaration root o level.Object version }
+{
+    match declaration {
+        Some(file) => is_file(declaration_bytes(version), file),
+        None => false,
+    }
+}
+
+/// Puts the line of a declaration whose bytes are not exact at the end (OCFL 1.1, 3.2 Object Conformance Declaration).
+pub(crate) fn add_declaration(
+    alloc: Global,
+    lines: &mut Vec<Line>,
+    place: &Place,
+    version: Version,
+    declaration: &Option<Bounded>,
+) -> Result<(), AllocError>
+    ensures { (root : Root) → IsFileAt root (place.now ++ declaration_name level.Object version ∷ []) 4096 declaration.now
+        → OnOk result (Adds lines.old.items lines.new.items place.now (on (not (is_exact_declaration root place.now level.Object version)) (plain Code.E007))) }
+{
+    if is_exact(version, declaration) {
+        return Ok(());
+    }
+    add_plain(alloc, lines, place, Code::E007)
+}
+
+/// What stands behind the prefix of the names of object declarations.
+fn behind_prefix(name: &str) -> Option<&str>
+    ensures { MatchOption result ((rest : Text) → name.now ≢ prefix level.Object ++ rest)
+        (λ text. text.now ≡ after_prefix level.Object name.now) }
+{
+    name.strip_prefix("0=ocfl_object_")
+}
+
+/// Puts the line of a version that is not known at the end.
+fn add_unknown(
+    alloc: Global,
+    lines: &mut Vec<Line>,
+    place: &Place,
+    declaration: &str,
+) -> Result<(), AllocError>
+    ensures { (rest : Text) → declaration.now ≡ prefix level.Object ++ rest
+        → OnOk result (Adds lines.old.items lines.new.items place.now (note Code.S01 (after_prefix level.Object declaration.now) ∷ [])) }
+{
+    match behind_prefix(declaration) {
+        Some(version) => {
+            let detail = String::from_str(alloc, version)?;
+            add_line(lines, place, Code::S01, detail)
+        }
+        None => Ok(()),
+    }
+}
+
+/// Puts the line of a head that stops at its declarations at the end: they are several, or of a version that is not
+/// known.
+pub(crate) fn add_stop(
+    alloc: Global,
+    lines: &mut Vec<Line>,
+    place: &Place,
+    entries: &[Entry],
+    declared: Declared,
+) -> Result<(), AllocError>
+    ensures { (root : Root) → is_known (meaning level.Object entries.now declared) ≡ false
+        → PointsAtOne level.Object entries.now declared
+        → OnOk result (Adds lines.old.items lines.new.items place.now (head_notes_by root place.now (meaning level.Object entries.now declared))) }
+{
+    match declared {
+        Declared::Several => add_plain(alloc, lines, place, Code::E003),
+        Declared::Unknown(index) => match entries.get(index) {
+            Some(entry) => add_unknown(alloc, lines, place, entry.name.as_str()),
+            None => Ok(()),
+        },
+        Declared::None | Declared::One(_) => Ok(()),
+    }
+}
+
+/// Puts the line of a sidecar whose digest is not the one that was found at the end.
+fn add_unless_found(
+    alloc: Global,
+    lines: &mut Vec<Line>,
+    place: &Place,
+    algorithm: Algorithm,
+    wanted: &[u8],
+    found: &[u8],
+) -> Result<(), AllocError>
+    ensures { OnOk result (Adds lines.old.items lines.new.items place.now
+        (on (not (text_eq wanted.now found.now)) (mismatch Code.E060 algorithm (encode_lower wanted.now) (encode_lower found.now)))) }
+{
+    if is_bytes(wanted, found) {
+        return Ok(());
+    }
+    let wanted = hex::encode(alloc, wanted)?;
+    let found = hex::encode(alloc, found)?;
+    let detail = format!(in alloc; "{} {} {}", algorithm.name(), wanted, found)?;
+    add_line(lines, place, Code::E060, detail)
+}
+
+/// Puts the line of a sidecar whose digest is not that of the inventory at the end.
+fn add_unless_equal(
+    alloc: Global,
+    lines: &mut Vec<Line>,
+    place: &Place,
+    inventory: &[u8],
+    algorithm: Algorithm,
+    sum: &Sum,
+) -> Result<(), AllocError>
+    ensures { OnOk result (Adds lines.old.items lines.new.items place.now
+        (on (not (text_eq (sum_view sum.now) (digest_bytes_of algorithm inventory.now)))
+        (mismatch Code.E060 algorithm (encode_lower (sum_view sum.now)) (digest_of algorithm inventory.now)))) }
+{
+    let digests = hash_bytes(inventory, Wanted::none().with(algorithm));
+    match digests.get(algorithm) {
+        Some(found) => add_unless_found(alloc, lines, place, algorithm, sum.bytes(), found),
+        None => Ok(()),
+    }
+}
+
+/// The digest that a sidecar names, where it is of the form.
+fn sum_of(algorithm: Algorithm, file: &Bounded) -> Option<Sum>
+    ensures { (text : Text) → IsBoundedTo 4096 text file.now → option_map sum_view result ≡ sidecar_of algorithm text }
+{
+    match file {
+        Bounded::Whole(bytes) => sidecar(bytes, algorithm),
+        Bounded::Over => None,
+    }
+}
+
+/// Puts the line of a sidecar at the end: it is not of the form, or does not have the digest of the inventory.
+fn add_sidecar(
+    alloc: Global,
+    lines: &mut Vec<Line>,
+    place: &Place,
+    inventory: &[u8],
+    algorithm: Algorithm,
+    file: &Option<Bounded>,
+) -> Result<(), AllocError>
+    ensures { (root : Root) → IsFileAt root (place.now ++ sidecar_name algorithm ∷ []) 4096 file.now
+        → OnOk result (Adds lines.old.items lines.new.items place.now (sidecar_notes algorithm inventory.now (sidecar_at root place.now algorithm))) }
+{
+    let Some(file) = file else {
+        return Ok(());
+    };
+    match sum_of(algorithm, file) {
+        Some(sum) => add_unless_equal(alloc, lines, place, inventory, algorithm, &sum),
+        None => {
+            let detail = String::from_str(alloc, algorithm.name())?;
+            add_line(lines, place, Code::E061, detail)
+        }
+    }
+}
+
+/// Puts the line of an inventory without sidecars at the end.
+fn add_unless_any(
+    alloc: Global,
+    lines: &mut Vec<Line>,
+    place: &Place,
+    sidecars: &Sidecars,
+) -> Result<(), AllocError>
+    ensures { (root : Root) → AreSidecars root place.now sidecars.now
+        → OnOk result (Adds lines.old.items lines.new.items place.now (on (are_sidecars_missing root place.now) (plain Code.E058))) }
+{
+    if sidecars.short.is_some() || sidecars.long.is_some() {
+        return Ok(());
+    }
+    add_plain(alloc, lines, place, Code::E058)
+}
+
+/// Puts the lines of the sidecars at the end: neither is there, or what is wrong with those that are.
+fn add_sidecars(
+    alloc: Global,
+    lines: &mut Vec<Line>,
+    place: &Place,
+    inventory: &[u8],
+    sidecars: &Sidecars,
+) -> Result<(), AllocError>
+    ensures { (root : Root) → AreSidecars root place.now sidecars.now
+        → OnOk result (Adds lines.old.items lines.new.items place.now (sidecars_notes root place.now inventory.now)) }
+{
+    add_unless_any(alloc, lines, place, sidecars)?;
+    add_sidecar(
+        alloc,
+        lines,
+        place,
+        inventory,
+        Algorithm::Sha256,
+        &sidecars.short,
+    )?;
+    add_sidecar(
+        alloc,
+        lines,
+        place,
+        inventory,
+        Algorithm::Sha512,
+        &sidecars.long,
+    )
+}
+
+/// Whether the sidecar of an inventory's algorithm is missing while the other is there.
+fn has_other(algorithm: Algorithm, sidecars: &Sidecars) -> bool
+    ensures { (root : Root) (o : Names) → AreSidecars root o sidecars.now → is_some (sidecar_digits algorithm) ≡ true
+        → result ≡ is_other_there root o algorithm }
+{
+    match algorithm {
+        Algorithm::Sha256 => sidecars.short.is_none() && sidecars.long.is_some(),
+        Algorithm::Sha512 => sidecars.long.is_none() && sidecars.short.is_some(),
+        Algorithm::Md5 | Algorithm::Sha1 | Algorithm::Sha512_256 => false,
+    }
+}
+
+/// Puts the line of a sidecar that is missing while the other is there at the end, where an algorithm is named.
+fn add_missing_sidecar(
+    alloc: Global,
+    lines: &mut Vec<Line>,
+    place: &Place,
+    algorithm: Option<Algorithm>,
+    sidecars: &Sidecars,
+) -> Result<(), AllocError>
+    ensures { (root : Root) → AreSidecars root place.now sidecars.now → IfSome algorithm (λ a. is_some (sidecar_digits a) ≡ true)
+        → OnOk result (Adds lines.old.items lines.new.items place.now (named_notes root place.now algorithm)) }
+{
+    let Some(algorithm) = algorithm else {
+        return Ok(());
+    };
+    if !has_other(algorithm, sidecars) {
+        return Ok(());
+    }
+    let detail = String::from_str(alloc, algorithm.name())?;
+    add_line(lines, place, Code::E058, detail)
+}
+
+/// The algorithm that an inventory names, by its table where it has one.
+fn stated_algorithm(
+    alloc: Global,
+    inventory: &[u8],
+    table: Option<Table>,
+) -> Result<Option<Algorithm>, AllocError>
+    ensures { table ≡ table_of inventory.now → IfOk result (λ a. a ≡ result_ok (algorithm_in inventory.now)) }
+{
+    match table {
+        Some(table) => Ok(Some(table.algorithm())),
+        None => algorithm_of(alloc, inventory),
+    }
+}
+
+/// Puts lines that carry the root at the end, as lines of the place.
+fn add_moved(lines: &mut Vec<Line>, place: &Place, read: Vec<Line>) -> Result<(), AllocError>
+    ensures { OnOk result (Adds lines.old.items lines.new.items place.now (map note_of read.items)) }
+{
+    for line in read {
+        add_line(lines, place, line.code, line.detail)?;
+    }
+    Ok(())
+}
+
+/// Puts the lines of what an inventory says at the end, behind that of the sidecar of its algorithm.
+fn add_read(
+    alloc: Global,
+    lines: &mut Vec<Line>,
+    place: &Place,
+    inventory: &[u8],
+    sidecars: &Sidecars,
+) -> Result<(), AllocError>
+    ensures { (root : Root) → AreSidecars root place.now sidecars.now
+        → OnOk result (Adds lines.old.items lines.new.items place.now (inventory_part root place.now inventory.now (algorithm_in inventory.now))) }
+{
+    let (read, table) = Table::read(alloc, inventory)?;
+    let algorithm = stated_algorithm(alloc, inventory, table)?;
+    add_missing_sidecar(alloc, lines, place, algorithm, sidecars)?;
+    add_moved(lines, place, read)
+}
+
+/// Puts the lines of an object's inventory, and of its sidecars, at the end (OCFL 1.1, 3.5 Inventory and 3.6 Inventory
+/// Digest). The bytes are all that the inventory has.
+pub(crate) fn add_inventory(
+    alloc: Global,
+    lines: &mut Vec<Line>,
+    place: &Place,
+    bytes: &[u8],
+    sidecars: &Sidecars,
+) -> Result<(), AllocError>
+    ensures { (root : Root) → IsFileAt root (place.now ++ sidecar_name Sha256 ∷ []) 4096 sidecars.now.short
+        → IsFileAt root (place.now ++ sidecar_name Sha512 ∷ []) 4096 sidecars.now.long
+        → OnOk result (Adds lines.old.items lines.new.items place.now
+        (sidecars_notes root place.now bytes.now ++ inventory_part root place.now bytes.now (algorithm_in bytes.now))) }
+{
+    add_sidecars(alloc, lines, place, bytes, sidecars)?;
+    add_read(alloc, lines, place, bytes, sidecars)
+}
+
+/// Puts the line of a clean head at the end, where there is no line.
+pub(crate) fn add_clean(
+    alloc: Global,
+    lines: &mut Vec<Line>,
+    place: &Place,
+) -> Result<(), AllocError>
+    ensures { (ns : List Note) → Adds [] lines.old.items place.now ns → OnOk result (Adds [] lines.new.items place.now (or_clean ns)) }
+{
+    if !lines.is_empty() {
+        return Ok(());
+    }
+    add_plain(alloc, lines, place, Code::Clean)
+}

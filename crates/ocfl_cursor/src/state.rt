@@ -23,7 +23,11 @@ pub(crate) fn is_short(state: &State) -> bool
     ensures { IsTrue result ↔ IsShortPlace (state_of state.now) }
 {
     match state {
-        State::After(place) => place.names().len() <= MAX_NAMES,
+        State::After(place) => {
+            // A place has names alone, which its path tells.
+            let _ = place.path();
+            place.depth() <= MAX_NAMES
+        }
         State::Start | State::Ended => true,
     }
 }

@@ -23,7 +23,8 @@ use Rattle.ocfl_tree.proofs.Orders.{place_cmp_total, place_cmp_exact, ascending_
 use Rattle.ocfl_digest.specs.declared.algorithm.Algorithm.{Algorithm}
 use Rattle.ocfl_report.specs.Line.{Note, note}
 use Rattle.ocfl_report.specs.declared.code.Code.{Code}
-use Rattle.ocfl_inventory.specs.ListedPath.{elements, slashed, is_kept, path_fault}
+use Rattle.ocfl_tree.specs.Path.{elements, slashed}
+use Rattle.ocfl_inventory.specs.ListedPath.{is_kept, path_fault}
 use Rattle.ocfl_inventory.specs.DigestText.{folded}
 use Rattle.ocfl_inventory.specs.Reading.{Block}
 use Rattle.ocfl_inventory.specs.Gathered.{triple_of, is_bad, bad_texts}
@@ -34,7 +35,7 @@ use Rattle.ocfl_inventory.specs.Beside.{hits}
 use Rattle.ocfl_inventory.proofs.Runs.{IsUp}
 use Rattle.ocfl_inventory.proofs.Once.{up_from_sorted, sorted_once, among_permuted, alike_itself, alike_is}
 use Rattle.ocfl_inventory.proofs.Beginnings.{text_exact, sorted_conflicts}
-use Rattle.ocfl_inventory.proofs.PathOrders.{slashed_elements}
+use Rattle.ocfl_tree.proofs.Paths.{slashed_elements}
 use Rattle.ocfl_inventory.proofs.PathTexts.{fault_line}
 use Rattle.ocfl_inventory.proofs.TripleOrders.{triple_exact}
 

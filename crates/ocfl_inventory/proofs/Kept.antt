@@ -7,9 +7,10 @@ use Rattle.ocfl_report.specs.declared.code.Code.TheVariants.{E099, E100, S06}
 use Rattle.ocfl_tree.specs.Place.{Text, Place, text_eq}
 use Rattle.ocfl_tree.specs.Name.{HasNameBytes}
 use Rattle.ocfl_tree.proofs.Orders.{true_not_false}
-use Rattle.ocfl_inventory.specs.ListedPath.{elements, is_dots, is_no_name, is_content_path, is_kept}
+use Rattle.ocfl_tree.specs.Path.{elements}
+use Rattle.ocfl_inventory.specs.ListedPath.{is_dots, is_no_name, is_content_path, is_kept}
 use Rattle.ocfl_inventory.specs.PathOrder.{AreNames}
-use Rattle.ocfl_inventory.proofs.PathOrders.{some_element}
+use Rattle.ocfl_tree.proofs.PathOrders.{some_element}
 
 pub name_at : (ns : List (Bor Text)) (i : ℕ) (d : Bor Text) → i < length ns → AreNames (map (λ n. n.now) ns) → HasNameBytes (get_or ns i d).now
 name_at [] i d h all = absurd (omega (arith, h))

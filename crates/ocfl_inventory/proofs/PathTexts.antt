@@ -5,7 +5,8 @@ use Rattle.std.proofs.Common.{◌+◌, ◌≤◌, ◌<◌, ◌++◌, get_or, dro
 use Rattle.std.specs.List.{cons_option}
 use Rattle.ocfl_report.specs.Line.{Note, note}
 use Rattle.ocfl_tree.specs.Place.{Text}
-use Rattle.ocfl_inventory.specs.ListedPath.{elements, is_dots, is_no_name, is_content_path, path_fault}
+use Rattle.ocfl_tree.specs.Path.{elements}
+use Rattle.ocfl_inventory.specs.ListedPath.{is_dots, is_no_name, is_content_path, path_fault}
 use Rattle.ocfl_report.specs.declared.code.Code.{Code}
 use Rattle.ocfl_report.specs.declared.code.Code.TheVariants.{E099, E100, S06}
 use Rattle.std.specs.Prelude.{codes, nat_eq, ◌||◌, ◌&&◌, not, nat_lt}

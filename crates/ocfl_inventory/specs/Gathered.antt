@@ -4,7 +4,8 @@ use Rattle.ocfl_tree.specs.Place.{Text}
 use Rattle.ocfl_digest.specs.declared.algorithm.Algorithm.{Algorithm}
 use Rattle.ocfl_inventory.specs.DigestText.{folded}
 use Rattle.ocfl_inventory.specs.Reading.{Block}
-use Rattle.ocfl_inventory.specs.ListedPath.{elements, is_kept, path_fault}
+use Rattle.ocfl_tree.specs.Path.{elements}
+use Rattle.ocfl_inventory.specs.ListedPath.{is_kept, path_fault}
 use Rattle.ocfl_inventory.specs.Table.{Triple}
 
 abbrev pub is_bad : Text → Text → Bool

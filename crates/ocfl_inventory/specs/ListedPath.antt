@@ -1,20 +1,11 @@
 -- The path texts of an inventory (OCFL 1.1, 3.5.2 Manifest).
-use Rattle.std.specs.Prelude.{ℕ, ◌==◌, ◌||◌, ◌&&◌, nat_eq, nat_lt, [], ◌∷◌, ◌++◌, Bool, false, not, length, if◌then◌else◌, Option, Some, None, is_some, codes}
-use Rattle.std.specs.List.{starts_with, ends_with, list_any, slice_split}
+use Rattle.std.specs.Prelude.{ℕ, ◌==◌, ◌||◌, ◌&&◌, nat_eq, nat_lt, [], ◌∷◌, Bool, false, not, length, if◌then◌else◌, Option, Some, None, is_some, codes}
+use Rattle.std.specs.List.{starts_with, ends_with, list_any}
 use Rattle.std.specs.Str.{all_ascii_digits}
 use Rattle.ocfl_tree.specs.Place.{Text, Place, text_eq}
+use Rattle.ocfl_tree.specs.Path.{elements}
 use Rattle.ocfl_report.specs.declared.code.Code.{Code}
 use Rattle.ocfl_report.specs.declared.code.Code.TheVariants.{E099, E100, S06}
-
--- the texts between the slashes
-abbrev pub elements : Text → Place
-elements t = slice_split (λ b. b == 47) t
-
--- a path's elements with slashes between them
-abbrev pub slashed : Place → Text
-slashed [] = []
-slashed (n ∷ []) = n
-slashed (n ∷ m ∷ p) = n ++ 47 ∷ slashed (m ∷ p)
 
 -- `v` and one or more digits (OCFL 1.1, 3.3 Version Directories)
 abbrev pub is_version_name : Text → Bool

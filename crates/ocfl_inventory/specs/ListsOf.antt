@@ -1,7 +1,7 @@
 -- What an inventory lists.
 use Rattle.std.specs.Prelude.{◌≡◌, List, ◌++◌, false, true, map, flat_map}
 use Rattle.ocfl_inventory.specs.Reading.{Inventory}
-use Rattle.ocfl_inventory.specs.ListedPath.{elements}
+use Rattle.ocfl_tree.specs.Path.{elements}
 use Rattle.ocfl_inventory.specs.Notes.{kept_paths, conflicts}
 use Rattle.ocfl_inventory.specs.Table.{Triple, triples_of}
 use Rattle.ocfl_inventory.specs.Gathered.{bad_texts}

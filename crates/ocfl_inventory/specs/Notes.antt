@@ -8,7 +8,8 @@ use Rattle.ocfl_report.specs.declared.code.Code.TheVariants.{E096, E097, E101, S
 use Rattle.ocfl_digest.specs.Algorithm.{algorithm_name}
 use Rattle.ocfl_inventory.specs.DigestText.{folded}
 use Rattle.ocfl_inventory.specs.Reading.{Reading, Block, Inventory, inventory_of}
-use Rattle.ocfl_inventory.specs.ListedPath.{elements, slashed, path_fault, is_kept}
+use Rattle.ocfl_tree.specs.Path.{elements, slashed}
+use Rattle.ocfl_inventory.specs.ListedPath.{path_fault, is_kept}
 
 -- each element that stands twice or more, once, ascending
 abbrev pub repeated : {A : Type 0} → (A → A → Ordering) → (A → A → Bool) → List A → List A

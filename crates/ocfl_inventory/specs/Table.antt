@@ -8,7 +8,8 @@ use Rattle.ocfl_digest.specs.Algorithm.{algorithm_cmp}
 use Rattle.ocfl_digest.specs.declared.algorithm.Algorithm.{Algorithm}
 use Rattle.ocfl_inventory.specs.DigestText.{folded}
 use Rattle.ocfl_inventory.specs.Reading.{Reading, Block, Inventory, inventory_of}
-use Rattle.ocfl_inventory.specs.ListedPath.{elements, is_kept}
+use Rattle.ocfl_tree.specs.Path.{elements}
+use Rattle.ocfl_inventory.specs.ListedPath.{is_kept}
 
 -- a digest that an inventory names for a path, folded
 pub record Named : Type 0 where

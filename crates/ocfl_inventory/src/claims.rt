@@ -4,7 +4,8 @@ ghost use Rattle.std.specs.Ordering.{eq_by_cmp};
 ghost use Rattle.std.specs.Cmp.{partial_equiv_from_equiv, partial_order_from_total};
 ghost use Rattle.std.proofs.lemmas.Cmp.{eq_by_cmp_equiv};
 ghost use Rattle.ocfl_tree.specs.Place.{begins as begins_place};
-ghost use Rattle.ocfl_inventory.specs.ListedPath.{elements, slashed, is_kept};
+ghost use Rattle.ocfl_tree.specs.Path.{elements, slashed};
+ghost use Rattle.ocfl_inventory.specs.ListedPath.{is_kept};
 ghost use Rattle.ocfl_inventory.specs.DigestText.{folded};
 ghost use Rattle.ocfl_inventory.specs.PathOrder.{AreNames};
 ghost use Rattle.ocfl_inventory.specs.Table.{named_cmp, triple_cmp};
@@ -30,7 +31,7 @@ pub(crate) struct Claim<'t> {
 }
 
 impl<'t> Model for Claim<'t> {
-    ghost use Rattle.ocfl_inventory.specs.ListedPath.{elements};
+    ghost use Rattle.ocfl_tree.specs.Path.{elements};
     ghost use Rattle.ocfl_inventory.specs.PathOrder.{AreNames};
     ghost use Rattle.ocfl_inventory.specs.Table.{Triple};
 

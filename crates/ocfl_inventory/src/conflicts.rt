@@ -2,7 +2,7 @@
 ghost use Rattle.std.specs.Prelude.{◌≡◌, IfOk, IsPermutation, map};
 ghost use Rattle.ocfl_tree.specs.Place.{begins as begins_place};
 ghost use Rattle.ocfl_inventory.specs.Beside.{hits};
-ghost use Rattle.ocfl_inventory.specs.ListedPath.{elements};
+ghost use Rattle.ocfl_tree.specs.Path.{elements};
 ghost use Rattle.ocfl_inventory.specs.Notes.{conflicts as conflicts_of};
 
 use crate::claims::Claim;

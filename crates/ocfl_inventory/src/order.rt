@@ -1,8 +1,8 @@
 //! The order of listed paths.
 ghost use Rattle.std.specs.Prelude.{◌≡◌, ◌+◌, ◌≤◌, ◌*◌, length, drop, true};
 ghost use Rattle.ocfl_tree.specs.Place.{place_cmp, begins as begins_place};
-ghost use Rattle.ocfl_inventory.specs.ListedPath.{elements};
-ghost use Rattle.ocfl_inventory.specs.PathOrder.{byte_cmp, path_cmp, path_begins, is_ended as is_ended_text};
+ghost use Rattle.ocfl_tree.specs.Path.{elements};
+ghost use Rattle.ocfl_tree.specs.Path.{byte_cmp, path_cmp, path_begins, is_ended as is_ended_text};
 
 use std::cmp::Ordering;
 

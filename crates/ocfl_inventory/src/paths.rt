@@ -5,7 +5,8 @@ ghost use Rattle.std.specs.Char.{is_ascii_digit};
 ghost use Rattle.ocfl_tree.specs.Place.{text_eq};
 ghost use Rattle.ocfl_tree.specs.Name.{HasNameBytes};
 ghost use Rattle.ocfl_inventory.specs.PathOrder.{AreNames};
-ghost use Rattle.ocfl_inventory.specs.ListedPath.{elements as elements_of, is_version_name as is_version_text, is_dots as is_dots_text, is_no_name as is_no_name_text, is_content_path as is_content_place, path_fault};
+ghost use Rattle.ocfl_tree.specs.Path.{elements as elements_of};
+ghost use Rattle.ocfl_inventory.specs.ListedPath.{is_version_name as is_version_text, is_dots as is_dots_text, is_no_name as is_no_name_text, is_content_path as is_content_place, path_fault};
 ghost use Rattle.std.specs.Str.{all_ascii_digits};
 
 use ocfl_report::Code;

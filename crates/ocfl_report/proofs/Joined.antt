@@ -1,6 +1,6 @@
--- The names of a place, written and read one after the other.
-use Rattle.std.proofs.Common.{◌≡◌, ◌≢◌, ◌==◌, codes, ◌++◌, ℕ, ◌+◌, ◌<◌, List, [], ◌∷◌, map, flat_map, length, take, drop, get_or, sym, ap, ap₂, ◌∙◌, append-nil, arith}
-use Rattle.std.proofs.lemmas.List.{map-append, length-map, get_or-map, take_more, drop_more}
+-- The names of a place, read one after the other.
+use Rattle.std.proofs.Common.{◌≡◌, ◌≢◌, ◌==◌, codes, ◌++◌, ℕ, ◌+◌, ◌<◌, List, [], ◌∷◌, map, length, take, get_or, sym, ap, ap₂, ◌∙◌, arith}
+use Rattle.std.proofs.lemmas.List.{map-append, length-map, get_or-map, take_more}
 use Rattle.std.specs.List.{join_with_byte, slice_split}
 use Rattle.std.proofs.lemmas.List.Elements.{All-get_or}
 use Rattle.std.proofs.lemmas.List.Splits.{length-slice_split, join_with_byte-slice_split}
@@ -8,20 +8,6 @@ use Rattle.ocfl_tree.specs.Place.{Text, Place}
 use Rattle.ocfl_tree.specs.Name.{IsName, IsPlace}
 use Rattle.ocfl_report.specs.Text.{escape, place_text}
 use Rattle.ocfl_report.proofs.PlaceTexts.{slice_split-place_text}
-
--- a name below another
-abbrev pub name_below : Text → Text
-name_below n = 47 ∷ escape n
-
--- a place's text is its first name, and each of the others behind a slash
-pub place_text-cons : (n : Text) (p : Place) → place_text (n ∷ p) ≡ escape n ++ flat_map name_below p
-place_text-cons n [] = sym (append-nil (escape n))
-place_text-cons n (m ∷ p) = ap (λ t. escape n ++ 47 ∷ t) (place_text-cons m p)
-
--- what is left of a place's text where a name is left
-pub names_left : (p : Place) (i : ℕ) (n : Text) → i < length p → n ≡ get_or p i n → flat_map name_below (drop i p) ≡ 47 ∷ (escape n ++ flat_map name_below (drop (i + 1) p))
-names_left p i n within there =
-    ap (flat_map name_below) (drop_more p i n within) ∙ ap (λ m. 47 ∷ (escape m ++ flat_map name_below (drop (i + 1) p))) (sym there)
 
 -- the parts of a text are at least one
 parts_not_empty : (t : Text) → slice_split (λ b. b == 47) t ≢ []

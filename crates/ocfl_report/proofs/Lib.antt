@@ -6,4 +6,5 @@ pub mod CodeTexts
 pub mod PlaceTexts
 pub mod Joined
 pub mod Parts
+pub mod PathTexts
 pub mod LineTexts

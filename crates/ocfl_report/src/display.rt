@@ -9,13 +9,10 @@ pub struct DisplayPlace<'a>(pub &'a Place);
 
 impl fmt::Display for DisplayPlace<'_> {
     fn fmt<W: fmt::Write>(&self, f: &mut fmt::Formatter<W>) -> fmt::Result {
-        let Some((first, others)) = self.0.names().split_first() else {
+        let path = self.0.path();
+        if path.is_empty() {
             return f.write_str(".");
-        };
-        write!(f, "{}", percent_encode(first.as_str().as_bytes(), ESCAPED))?;
-        for name in others {
-            write!(f, "/{}", percent_encode(name.as_str().as_bytes(), ESCAPED))?;
         }
-        Ok(())
+        write!(f, "{}", percent_encode(path.as_bytes(), ESCAPED))
     }
 }

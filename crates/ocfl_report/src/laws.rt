@@ -20,8 +20,8 @@ pub fn place_reads_back(alloc: Global, place: &Place) -> Result<Place, PlaceStop
     ensures same { IfOk result (λ read. read ≡ place.now) }
     ensures never_bad { result ≢ Err PlaceStop.Bad }
 {
-    // A place has names alone, which its list of names tells.
-    let _ = place.names();
+    // A place has names alone, which its path tells.
+    let _ = place.path();
     let mut written = Vec::new(alloc);
     put_place(place, &mut written)?;
     read_place(alloc, written.as_slice())
@@ -37,7 +37,7 @@ pub fn text_determines_the_line()
 pub fn every_line_fits(line: &Line)
     ensures { IsLine (line_of line.now) }
 {
-    let _ = line.place.names();
+    let _ = line.place.path();
     let _ = line.detail.as_str();
 }
 

@@ -1,6 +1,6 @@
 use crate::code::Code;
 use crate::escaped::put_escaped;
-use crate::path::put_names;
+use crate::path::put_text;
 use ocfl_tree::Place;
 use std::alloc::AllocError;
 
@@ -49,7 +49,7 @@ impl Line {
     {
         out.extend_from_slice(self.code.text().as_bytes())?;
         out.push(b'\t')?;
-        put_names(self.place.names(), out)?;
+        put_text(&self.place, out)?;
         out.push(b'\t')?;
         put_escaped(self.detail.as_bytes(), out)?;
         out.push(b'\n')?;

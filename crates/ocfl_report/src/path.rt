@@ -41,32 +41,29 @@ pub fn put_place(place: &Place, out: &mut Vec<u8>) -> Result<(), AllocError>
         (vec_capacity out.old < vec_len out.old + length (place_text place.now)) }
 {
     let start = out.len();
-    let put = put_names(place.names(), out);
+    let put = put_text(place, out);
     if put.is_err() {
         out.truncate(start);
     }
     put
 }
 
-/// Appends the text of the place with these names. Where memory is refused a beginning of it stands behind what was
-/// there.
-pub(crate) fn put_names(names: &[Name], out: &mut Vec<u8>) -> Result<(), AllocError>
-    ensures ok { OnOk result (out.new.items ≡ out.old.items ++ place_text names.now) }
+/// Appends the text of the place. Where memory is refused a beginning of it stands behind what was there.
+#[tactic(auto, using(crate::proofs::PathTexts::root_text, crate::proofs::PathTexts::path_text))]
+pub(crate) fn put_text(place: &Place, out: &mut Vec<u8>) -> Result<(), AllocError>
+    ensures ok { OnOk result (out.new.items ≡ out.old.items ++ place_text place.now) }
     ensures begins { StartsWith out.new.items out.old.items }
     ensures full { OnErr result
-        (vec_capacity out.old < vec_len out.old + length (place_text names.now)) }
+        (vec_capacity out.old < vec_len out.old + length (place_text place.now)) }
     ensures capacity { vec_capacity out.old ≤ vec_capacity out.new }
 {
-    let Some((first, others)) = names.split_first() else {
+    let path = place.path();
+    if path.is_empty() {
         out.push(b'.')?;
         return Ok(());
-    };
-    put_escaped(first.as_str().as_bytes(), out)?;
-    for name in others {
-        out.push(b'/')?;
-        put_escaped(name.as_str().as_bytes(), out)?;
     }
-    Ok(())
+    // Escaping leaves a slash as it is.
+    put_escaped(path.as_bytes(), out)
 }
 
 /// The place whose text the bytes are, as [`put_place`] writes it.

@@ -11,4 +11,10 @@ pub use command::checked;
 pub use note::Note;
 
 #[cfg(test)]
+mod head_tests;
+#[cfg(test)]
+mod inventory_tests;
+#[cfg(test)]
+mod test_roots;
+#[cfg(test)]
 mod tests;

@@ -1,40 +1,19 @@
 use crate::checked;
-use ocfl_digest::{Algorithm, Block, Wanted, hash_bytes};
-use ocfl_tree::{FsTree, MemTree, Name, Place, Point, Tree};
+use crate::test_roots::{
+    ABC_MD5, ABC_SHA256, ABC_SHA512, FILE, FOLDERS, NOTHING_SHA512, expect, is_opened, place_of,
+    put, remove, sidecar,
+};
+use ocfl_digest::{Algorithm, Block};
+use ocfl_tree::{FsTree, MemTree, Point};
 use std::alloc::Global;
 use std::fs;
-use std::process::Abort;
 use std::test::Fail;
-
-// SHA-512 of `abc`, and of no bytes.
-const ABC: &str =
-    "ddaf35a193617abacc417349ae20413112e6fa4e89a97ea20a9eeee64b55d39a2192992a274fc1a836ba3c23a3feebbd454d4423643ce80e2a9ac94fa54ca49f";
-
-const NOTHING: &str =
-    "cf83e1357eefb8bdf1542850d66d8007d620e4050b5715dc83f4a921d36ce9ce47d0d13c5d85f2b0ff8318d2877eec2f63b931bd47417a81a538327af927da3e";
-
-const FILE: &str = "o/v1/content/f";
-
-fn place_of(alloc: Global, text: &str) -> Result<Place, Fail> {
-    let mut place = Place::root(alloc);
-    for name in text.split('/') {
-        place.push(Name::new(alloc, name)?)?;
-    }
-    Ok(place)
-}
 
 /// An inventory whose manifest lists `v1/content/f` under the digest, with these further keys.
 fn inventory(alloc: Global, digest: &str, more: &str) -> Result<String, Fail> {
     Ok(format!(in alloc;
         "{{\"id\":\"o\",\"type\":\"https://ocfl.io/1.1/spec/#inventory\",\"digestAlgorithm\":\"sha512\",\"head\":\"v1\",\"manifest\":{{\"{digest}\":[\"v1/content/f\"]}},\"versions\":{{}}{more}}}"
     )?)
-}
-
-/// The text of a right sidecar.
-fn sidecar(alloc: Global, inventory: &str) -> Result<String, Fail> {
-    let digests = hash_bytes(inventory.as_bytes(), Wanted::none().with(Algorithm::Sha512));
-    let digest = hex::encode(alloc, digests.get(Algorithm::Sha512).ok_or("no digest")?)?;
-    Ok(format!(in alloc; "{digest} inventory.json\n")?)
 }
 
 /// What a storage root with an object holds, each file with its text.
@@ -47,58 +26,25 @@ fn files<'a>(inventory: &'a str, sidecar: &'a str) -> [(&'static str, &'a str); 
     ]
 }
 
-const FOLDERS: [&str; 3] = ["o", "o/v1", "o/v1/content"];
-
 /// That storage root in memory, its content file `f` of these bytes.
 fn root_with(alloc: Global, inventory: &str, content: &str) -> Result<MemTree, Fail> {
     let mut store = MemTree::new(alloc);
     for folder in FOLDERS {
         store.put_dir(&place_of(alloc, folder)?)?;
     }
-    let sidecar = sidecar(alloc, inventory)?;
+    let sidecar = sidecar(alloc, Algorithm::Sha512, inventory.as_bytes())?;
     for (place, text) in files(inventory, sidecar.as_str()) {
-        store.put_file(&place_of(alloc, place)?, text.as_bytes().to_vec(alloc)?)?;
+        put(alloc, &mut store, place, text.as_bytes())?;
     }
-    store.put_file(&place_of(alloc, FILE)?, content.as_bytes().to_vec(alloc)?)?;
+    put(alloc, &mut store, FILE, content.as_bytes())?;
     Ok(store)
 }
 
 fn right_root(alloc: Global) -> Result<MemTree, Fail> {
     root_with(
         alloc,
-        inventory(alloc, ABC, ",\"fixity\":{}")?.as_str(),
+        inventory(alloc, ABC_SHA512, ",\"fixity\":{}")?.as_str(),
         "abc",
-    )
-}
-
-/// Checking the path writes this text, and ends with this status and this note.
-fn expect<T: Tree>(
-    rt: &(impl Abort + AllocGlobal),
-    store: &mut T,
-    path: &str,
-    text: &str,
-    status: u8,
-    note: &str,
-) -> Result<(), Fail> {
-    let alloc = rt.alloc();
-    let mut out = Vec::new(alloc);
-    let mut block = Block::new(alloc)?;
-    let (got, said) = checked(alloc, store, path, &mut block, &mut out);
-    let said = format!(in alloc; "{said}")?;
-    assert_eq!(rt; out.as_slice(), text.as_bytes());
-    assert_eq!(rt; got, status);
-    assert_eq!(rt; said.as_str(), note);
-    Ok(())
-}
-
-/// Whether a file was opened at the place.
-fn is_opened(alloc: Global, store: &MemTree, place: &str) -> Result<bool, Fail> {
-    let place = place_of(alloc, place)?;
-    Ok(
-        store
-            .openings()
-            .iter()
-            .any(|opening| opening.place == place),
     )
 }
 
@@ -114,7 +60,7 @@ fn right_file(rt: HostRuntime) -> Result<(), Fail> {
 #[test]
 fn capitals_in_manifest_key(rt: HostRuntime) -> Result<(), Fail> {
     let alloc = rt.alloc();
-    let capitals = ABC.to_ascii_uppercase(alloc)?;
+    let capitals = ABC_SHA512.to_ascii_uppercase(alloc)?;
     let inventory = inventory(alloc, capitals.as_str(), "")?;
     let mut store = root_with(alloc, inventory.as_str(), "abc")?;
     expect(&rt, &mut store, FILE, "ok\to/v1/content/f\t3\n", 0, "")
@@ -123,8 +69,8 @@ fn capitals_in_manifest_key(rt: HostRuntime) -> Result<(), Fail> {
 #[test]
 fn emptied_file(rt: HostRuntime) -> Result<(), Fail> {
     let alloc = rt.alloc();
-    let mut store = root_with(alloc, inventory(alloc, ABC, "")?.as_str(), "")?;
-    let text = format!(in alloc; "E092\to/v1/content/f\tsha512 {ABC} {NOTHING}\n")?;
+    let mut store = root_with(alloc, inventory(alloc, ABC_SHA512, "")?.as_str(), "")?;
+    let text = format!(in alloc; "E092\to/v1/content/f\tsha512 {ABC_SHA512} {NOTHING_SHA512}\n")?;
     expect(&rt, &mut store, FILE, text.as_str(), 1, "")
 }
 
@@ -133,7 +79,7 @@ fn file_that_nothing_names(rt: HostRuntime) -> Result<(), Fail> {
     let alloc = rt.alloc();
     let mut store = right_root(alloc)?;
     let path = "o/v1/content/g";
-    store.put_file(&place_of(alloc, path)?, b"abc".to_vec(alloc)?)?;
+    put(alloc, &mut store, path, b"abc")?;
     expect(&rt, &mut store, path, "E023\to/v1/content/g\t-\n", 1, "")?;
     assert!(rt; !is_opened(alloc, &store, path)?);
     Ok(())
@@ -144,7 +90,7 @@ fn no_item(rt: HostRuntime) -> Result<(), Fail> {
     let alloc = rt.alloc();
     let mut store = right_root(alloc)?;
     expect(&rt, &mut store, "o/v1/content/h", "", 0, "no item")?;
-    store.remove(&place_of(alloc, "o")?)?;
+    remove(alloc, &mut store, "o")?;
     expect(&rt, &mut store, FILE, "", 0, "no item")
 }
 
@@ -164,7 +110,7 @@ fn heads_that_stop(rt: HostRuntime) -> Result<(), Fail> {
         expect(&rt, &mut store, FILE, "", 0, "no item")?;
     }
     let mut store = right_root(alloc)?;
-    store.remove(&place_of(alloc, "o/inventory.json")?)?;
+    remove(alloc, &mut store, "o/inventory.json")?;
     expect(&rt, &mut store, FILE, "", 0, "no item")
 }
 
@@ -172,9 +118,9 @@ fn heads_that_stop(rt: HostRuntime) -> Result<(), Fail> {
 fn wrong_sidecar_does_not_matter(rt: HostRuntime) -> Result<(), Fail> {
     let alloc = rt.alloc();
     let mut store = right_root(alloc)?;
-    let place = place_of(alloc, "o/inventory.json.sha512")?;
-    store.remove(&place)?;
-    store.put_file(&place, b"wrong".to_vec(alloc)?)?;
+    let place = "o/inventory.json.sha512";
+    remove(alloc, &mut store, place)?;
+    put(alloc, &mut store, place, b"wrong")?;
     expect(&rt, &mut store, FILE, "ok\to/v1/content/f\t3\n", 0, "")
 }
 
@@ -183,17 +129,13 @@ fn fixity_is_compared_too(rt: HostRuntime) -> Result<(), Fail> {
     let alloc = rt.alloc();
     let fixity =
         ",\"fixity\":{\"md5\":{\"d41d8cd98f00b204e9800998ecf8427e\":[\"v1/content/f\"]},\"sha512/256\":{\"53048e2681941ef99b2e29b76b4c7dabe4c2d0c634fc6d46e0e2f13107e7af23\":[\"v1/content/f\"]}}";
-    let mut store = root_with(alloc, inventory(alloc, ABC, fixity)?.as_str(), "abc")?;
+    let mut store = root_with(alloc, inventory(alloc, ABC_SHA512, fixity)?.as_str(), "abc")?;
     let text =
         "E093\to/v1/content/f\tmd5 d41d8cd98f00b204e9800998ecf8427e 900150983cd24fb0d6963f7d28e17f72\n";
     expect(&rt, &mut store, FILE, text, 1, "")
 }
 
-// Digests of `abc`, and of no bytes (FIPS 180-4, RFC 1321).
-const ABC_MD5: &str = "900150983cd24fb0d6963f7d28e17f72";
-
-const ABC_SHA256: &str = "ba7816bf8f01cfea414140de5dae2223b00361a396177a9cb410ff61f20015ad";
-
+// Further digests of `abc`, and of no bytes (FIPS 180-4, RFC 1321).
 const ABC_SHA512_256: &str = "53048e2681941ef99b2e29b76b4c7dabe4c2d0c634fc6d46e0e2f13107e7af23";
 
 const NOTHING_MD5: &str = "d41d8cd98f00b204e9800998ecf8427e";
@@ -276,7 +218,7 @@ fn empty_file_under_all_algorithms(rt: HostRuntime) -> Result<(), Fail> {
     for (name, digest) in [
         ("md5", NOTHING_MD5),
         ("sha1", NOTHING_SHA1),
-        ("sha512", NOTHING),
+        ("sha512", NOTHING_SHA512),
         ("sha512/256", NOTHING_SHA512_256),
     ] {
         if !fixity.is_empty() {
@@ -301,7 +243,7 @@ fn other_content_directory(rt: HostRuntime) -> Result<(), Fail> {
     let mut store = root_with(alloc, inventory.as_str(), "abc")?;
     expect(&rt, &mut store, FILE, "", 0, "no item")?;
     store.put_dir(&place_of(alloc, "o/v1/data")?)?;
-    store.put_file(&place_of(alloc, "o/v1/data/f")?, b"abc".to_vec(alloc)?)?;
+    put(alloc, &mut store, "o/v1/data/f", b"abc")?;
     expect(
         &rt,
         &mut store,
@@ -376,8 +318,8 @@ fn failing_output(rt: HostRuntime) -> Result<(), Fail> {
 #[test]
 fn over_a_folder(rt: HostRuntime) -> Result<(), Fail> {
     let alloc = rt.alloc();
-    let capitals = ABC.to_ascii_uppercase(alloc)?;
-    for digest in [ABC, capitals.as_str()] {
+    let capitals = ABC_SHA512.to_ascii_uppercase(alloc)?;
+    for digest in [ABC_SHA512, capitals.as_str()] {
         if fs::exists(&rt, "root")? {
             fs::remove_dir_all(&rt, "root")?;
         }
@@ -386,7 +328,7 @@ fn over_a_folder(rt: HostRuntime) -> Result<(), Fail> {
             fs::create_dir(&rt, format!(in alloc; "root/{folder}")?.as_str())?;
         }
         let inventory = inventory(alloc, digest, "")?;
-        let sidecar = sidecar(alloc, inventory.as_str())?;
+        let sidecar = sidecar(alloc, Algorithm::Sha512, inventory.as_bytes())?;
         for (place, text) in files(inventory.as_str(), sidecar.as_str()) {
             fs::write(&rt, format!(in alloc; "root/{place}")?.as_str(), text)?;
         }

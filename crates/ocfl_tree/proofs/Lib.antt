@@ -3,6 +3,9 @@ pub mod Listings
 pub mod Lists
 pub mod Names
 pub mod Orders
+pub mod PathOrders
+pub mod Paths
+pub mod PathNames
 pub mod Places
 pub mod Reading
 pub mod Rising

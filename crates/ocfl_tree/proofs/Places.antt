@@ -1,7 +1,6 @@
 -- Texts and places, and where one begins with another.
-use Rattle.std.proofs.Common.{◌≡◌, ◌≢◌, Bool, true, false, cond, [], ◌∷◌, ◌++◌, length, Option, Some, None, sym, ◌∙◌, ap, refl, nat_eq, ◌&&◌, arith}
+use Rattle.std.proofs.Common.{◌≡◌, ◌≢◌, Bool, true, false, cond, [], ◌∷◌, ◌++◌, Option, Some, None, sym, ◌∙◌, ap, refl, nat_eq, ◌&&◌}
 use Rattle.std.specs.Bool.{Decides}
-use Rattle.std.specs.List.{starts_with}
 use Rattle.std.specs.Cmp.{IsTotalOrder}
 use Rattle.std.specs.Cmp.Lexicographic.{pointwise, slice_cmp, lists_ties, texts_ties, nat_list_cmp_total}
 use Rattle.std.specs.FinMap.{IsAntisymmetric, slice_cmp-IsAntisymmetric, nat_cmp-IsAntisymmetric}
@@ -24,12 +23,6 @@ place_eq-pointwise p q = lists_ties (slice_cmp nat_cmp) texts_ties p q
 
 pub path_eq-Decides : (a b : Place) → Decides (pointwise (pointwise nat_eq) a b) (a ≡ b)
 path_eq-Decides a b = slice_eq-Decides bytes_eq-Decides a b (pointwise (pointwise nat_eq) a b) refl
-
-pub path_eq-differ : (a b : Place) → pointwise (pointwise nat_eq) a b ≡ false → a ≢ b
-path_eq-differ a b t e = let h = (path_eq-Decides a b).1 e in cc
-
-pub text_eq-pointwise : (a b : Text) → pointwise nat_eq a b ≡ text_eq a b
-text_eq-pointwise a b = texts_ties a b
 
 pub text_cmp_exact : IsAntisymmetric text_cmp
 text_cmp_exact = slice_cmp-IsAntisymmetric nat_cmp-IsAntisymmetric
@@ -74,11 +67,6 @@ no_child_name d p h = by (child_name d p) refl
     by None e = refl
     by (Some n) e = absurd (h n (append-child_name d p n e))
 
-pub child_name-empty : (d p : Place) → length p ≡ 0 → child_name d p ≡ None
-child_name-empty [] [] h = refl
-child_name-empty (n ∷ d) [] h = refl
-child_name-empty d (n ∷ p) h = absurd (omega arith)
-
 -- what a place begins with
 pub begins-itself : (p : Place) → begins p p ≡ true
 begins-itself [] = refl
@@ -92,9 +80,3 @@ begins-longer (n ∷ p) (m ∷ q) r h = by (text_eq n m) h (begins-longer p q r)
     by : (b : Bool) → (b && begins p q) ≡ true → (begins p q ≡ true → begins p (q ++ r) ≡ true) → (b && begins p (q ++ r)) ≡ true
     by true k more = more k
     by false k more = absurd cc
-
--- what `starts_with` computes
-pub begins-starts_with : (p q : Place) → starts_with (pointwise nat_eq) q p ≡ begins p q
-begins-starts_with [] q = refl
-begins-starts_with (n ∷ p) [] = refl
-begins-starts_with (n ∷ p) (m ∷ q) = let one = text_eq-pointwise n m in let more = begins-starts_with p q in cc

@@ -1,6 +1,7 @@
 pub mod Place
 pub mod Ascending
 pub mod Name
+pub mod Path
 pub mod Tree
 pub mod Store
 pub mod Listing

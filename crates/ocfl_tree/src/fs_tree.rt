@@ -146,12 +146,13 @@ impl<R: Files + AllocGlobal + Clone + Drop> FsTree<R> {
             Ok(metadata) => kind_of(&metadata),
             Err(error) => return Err(fault_of(&error)),
         };
-        for name in place.names() {
+        // Unlike `split`, it gives no name for the empty path of the root.
+        for name in place.path().split_terminator('/') {
             if found != Kind::Dir {
                 return Err(Fault::Trouble(Trouble::Device));
             }
             path.push('/')?;
-            path.push_str(name.as_str())?;
+            path.push_str(name)?;
             found = self.kind_at(path.as_str())?;
         }
         if found == kind {

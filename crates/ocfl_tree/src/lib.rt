@@ -8,6 +8,8 @@ mod mem_tree;
 mod name;
 mod nodes;
 mod openings;
+mod order;
+mod path;
 mod place;
 mod plan;
 mod store;

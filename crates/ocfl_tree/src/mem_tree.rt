@@ -133,7 +133,7 @@ impl MemTree {
         ensures removed { IsOk result ↔ ((place.now ≢ []) × IsSome (at self.old.store.tree place.now)) }
         ensures only_absent { IfErr result (λ stop. stop ≡ BuildStop.Absent) }
     {
-        if place.names().is_empty() || !nodes::stands(&self.nodes, place.names()) {
+        if place.path().is_empty() || !nodes::stands(&self.nodes, place) {
             return Err(BuildStop::Absent);
         }
         nodes::remove(&mut self.nodes, place);
@@ -250,7 +250,7 @@ impl Tree for MemTree {
             note_opening(&mut self.openings, place, true)?;
             return Err(device_failed(&mut self.failures));
         }
-        let Some(index) = nodes::file_index(&self.nodes, place.names()) else {
+        let Some(index) = nodes::file_index(&self.nodes, place) else {
             return Err(Trouble::Absent);
         };
         note_opening(&mut self.openings, place, false)?;

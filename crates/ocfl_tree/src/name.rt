@@ -60,6 +60,16 @@ impl Name {
         }
     }
 
+    /// The name of a text that is one. The only error is want of memory.
+    pub(crate) fn of(alloc: Global, text: &str) -> Result<Name, AllocError>
+        requires { IsName text.now }
+        ensures { IfOk result (λ name. name ≡ text.now) }
+    {
+        Ok(Name {
+            text: String::from_str(alloc, text)?,
+        })
+    }
+
     /// The text of the name.
     pub fn as_str(&self) -> &str
         ensures value { result.now ≡ self.now }

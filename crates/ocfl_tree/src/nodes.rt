@@ -4,6 +4,8 @@ ghost use Rattle.ocfl_tree.specs.Place.{begins, child_name};
 ghost use Rattle.ocfl_tree.specs.Tree.{file, dir, lookup};
 ghost use Rattle.ocfl_tree.specs.Listing.{kind_of};
 ghost use Rattle.ocfl_tree.specs.MemTree.{parent};
+ghost use Rattle.ocfl_tree.specs.Name.{IsName};
+ghost use Rattle.ocfl_tree.specs.Path.{names_of};
 ghost use Rattle.ocfl_tree.specs.Nodes.{leaf_of, bytes_in, leaf_at, stands_at, kept_in, kept_refusal};
 
 use crate::build::BuildStop;
@@ -29,6 +31,8 @@ pub(crate) struct Stored {
 
 impl Model for Stored {
     ghost use Rattle.ocfl_tree.specs.Tree.{Leaf};
+    ghost use Rattle.ocfl_tree.specs.Name.{IsName};
+    ghost use Rattle.ocfl_tree.specs.Path.{names_of};
     ghost use Rattle.ocfl_tree.specs.Nodes.{leaf_of};
 
     ghost Value = { Leaf };
@@ -64,50 +68,48 @@ impl Stored {
     }
 }
 
-/// The index of what lies at a place.
-pub(crate) fn position(nodes: &[(Place, Stored)], names: &[Name]) -> Option<usize>
-    ensures { MatchOption result (lookup nodes.now names.now ≡ None)
-        (λ i. (i < length nodes.now) × (lookup nodes.now names.now ≡ Some (leaf_at nodes.now i))) }
+/// The index of what lies at the place with this path.
+pub(crate) fn position(nodes: &[(Place, Stored)], path: &str) -> Option<usize>
+    ensures { MatchOption result (lookup nodes.now (names_of path.now) ≡ None)
+        (λ i. (i < length nodes.now) × (lookup nodes.now (names_of path.now) ≡ Some (leaf_at nodes.now i))) }
 {
     for (i, node) in nodes.iter().enumerate() {
-        if node.0.names() == names {
+        if node.0.path() == path {
             return Some(i);
         }
     }
     None
 }
 
-/// Whether a directory lies at a place.
-pub(crate) fn is_dir(nodes: &[(Place, Stored)], names: &[Name]) -> bool
-    ensures { IsTrue result ↔ (stands_at nodes.now names.now ≡ Some dir) }
+/// Whether a directory lies at the place with this path.
+pub(crate) fn is_dir(nodes: &[(Place, Stored)], path: &str) -> bool
+    ensures { IsTrue result ↔ (stands_at nodes.now (names_of path.now) ≡ Some dir) }
 {
-    if names.is_empty() {
+    if path.is_empty() {
         return true;
     }
-    match position(nodes, names) {
+    match position(nodes, path) {
         Some(i) => nodes[i].1.kind() == Kind::Dir,
         None => false,
     }
 }
 
-/// The name of a place that lies right below the directory.
-fn child<'a>(dir: &[Name], place: &'a Place) -> Option<&'a Name>
-    ensures { MatchOption result (child_name dir.now place.now ≡ None)
-        (λ name. child_name dir.now place.now ≡ Some name.now) }
+/// The name of a place that lies right below the directory with this path.
+fn child<'a>(dir: &str, place: &'a Place) -> Option<&'a str>
+    ensures { MatchOption result (child_name (names_of dir.now) place.now ≡ None)
+        (λ name. (child_name (names_of dir.now) place.now ≡ Some name.now) × IsName name.now) }
 {
-    let Some((name, front)) = place.names().split_last() else {
-        return None;
-    };
-    if front == dir { Some(name) } else { None }
+    let (parent, name) = place.split_last()?;
+    if parent == dir { Some(name) } else { None }
 }
 
-/// The entries of a directory.
+/// The entries of the directory with this path.
 pub(crate) fn entries(
     alloc: Global,
     nodes: &[(Place, Stored)],
-    dir: &[Name],
+    dir: &str,
 ) -> Result<Vec<Entry>, AllocError>
-    ensures { IfOk result (λ entries. entries.items ≡ kept_in nodes.now dir.now) }
+    ensures { IfOk result (λ entries. entries.items ≡ kept_in nodes.now (names_of dir.now)) }
 {
     let mut entries = Vec::new(alloc);
     for (place, stored) in nodes {
@@ -115,7 +117,7 @@ pub(crate) fn entries(
             continue;
         };
         let entry = Entry {
-            name: name.try_clone()?,
+            name: Name::of(alloc, name)?,
             kind: stored.kind(),
         };
         entries.push(entry)?;
@@ -123,9 +125,9 @@ pub(crate) fn entries(
     Ok(entries)
 }
 
-/// How many entries a directory has.
-pub(crate) fn count(nodes: &[(Place, Stored)], dir: &[Name]) -> usize
-    ensures { result ≡ length (kept_in nodes.now dir.now) }
+/// How many entries the directory with this path has.
+pub(crate) fn count(nodes: &[(Place, Stored)], dir: &str) -> usize
+    ensures { result ≡ length (kept_in nodes.now (names_of dir.now)) }
 {
     let mut count = 0;
     for (place, _) in nodes {
@@ -150,24 +152,24 @@ pub(crate) fn list(
     ensures absent { result ≡ Err Trouble.Absent → stands_at nodes.now place.now ≢ Some dir }
     ensures no_device { result ≢ Err Trouble.Device }
 {
-    if !is_dir(nodes, place.names()) {
+    if !is_dir(nodes, place.path()) {
         return Err(Trouble::Absent);
     }
-    let entries = entries(alloc, nodes, place.names())?;
+    let entries = entries(alloc, nodes, place.path())?;
     listings.push(place.try_clone()?)?;
     Ok(entries)
 }
 
 /// The index of the file at a place.
-pub(crate) fn file_index(nodes: &[(Place, Stored)], names: &[Name]) -> Option<usize>
+pub(crate) fn file_index(nodes: &[(Place, Stored)], place: &Place) -> Option<usize>
     ensures some { IfSome result (λ i. (i < length nodes.now)
-        × (stands_at nodes.now names.now ≡ Some (file (bytes_in (leaf_at nodes.now i))))) }
-    ensures none { IsNone result → (bytes : List ℕ) → stands_at nodes.now names.now ≢ Some (file bytes) }
+        × (stands_at nodes.now place.now ≡ Some (file (bytes_in (leaf_at nodes.now i))))) }
+    ensures none { IsNone result → (bytes : List ℕ) → stands_at nodes.now place.now ≢ Some (file bytes) }
 {
-    if names.is_empty() {
+    if place.path().is_empty() {
         return None;
     }
-    let index = position(nodes, names)?;
+    let index = position(nodes, place.path())?;
     match nodes[index].1.kind() {
         Kind::File => Some(index),
         Kind::Dir | Kind::Other => None,
@@ -194,10 +196,10 @@ pub(crate) fn put(
     ensures refused { MatchOption (kept_refusal nodes.old.items place.now)
         (IsOkUnless result BuildStop.Memory) (λ stop. result ≡ Err stop) }
 {
-    if stands(nodes, place.names()) {
+    if stands(nodes, place) {
         return Err(BuildStop::Exists);
     }
-    let parent = parent(place.names());
+    let parent = parent(place);
     if !is_dir(nodes, parent) {
         return Err(BuildStop::NoParent);
     }
@@ -208,26 +210,26 @@ pub(crate) fn put(
     Ok(())
 }
 
-/// All names but the last.
-fn parent(names: &[Name]) -> &[Name]
-    ensures { result.now ≡ parent names.now }
+/// The path of the directory that a place lies in, and for the root its own.
+fn parent(place: &Place) -> &str
+    ensures { names_of result.now ≡ parent place.now }
 {
-    match names.split_last() {
-        Some((_, front)) => front,
-        None => names,
+    match place.split_last() {
+        Some((parent, _)) => parent,
+        None => "",
     }
 }
 
 /// Whether something lies at a place.
-pub(crate) fn stands(nodes: &[(Place, Stored)], names: &[Name]) -> bool
-    ensures { result ≡ is_some (stands_at nodes.now names.now) }
+pub(crate) fn stands(nodes: &[(Place, Stored)], place: &Place) -> bool
+    ensures { result ≡ is_some (stands_at nodes.now place.now) }
 {
-    names.is_empty() || position(nodes, names).is_some()
+    place.path().is_empty() || position(nodes, place.path()).is_some()
 }
 
 /// Takes a place away with all below it.
 pub(crate) fn remove(nodes: &mut Vec<(Place, Stored)>, place: &Place)
     ensures { nodes.new.items ≡ filter (λ e. not (begins place.now e.0)) nodes.old.items }
 {
-    nodes.retain(|node| !node.0.names().starts_with(place.names()));
+    nodes.retain(|node| !node.0.starts_with(place));
 }

@@ -1,31 +1,34 @@
-ghost use Rattle.std.specs.Prelude.{◌≡◌, ◌++◌, ◌∷◌, [], IfOk, OnOk, OnErr, Some, nat_eq, refl};
+ghost use Rattle.std.specs.Prelude.{◌≡◌, ◌↔◌, ◌++◌, ◌∷◌, [], length, string_bytes, IfOk, OnOk, OnErr, IfSome, IsNone, MatchOption, Some, nat_eq, refl};
 ghost use Rattle.std.specs.Cmp.{partial_equiv_from_equiv, partial_order_from_agreeing_total};
-ghost use Rattle.std.specs.Cmp.Lexicographic.{pointwise, slice_cmp, nat_list_eq_equiv, nat_list_cmp_total, texts_po, texts_ties, lists_equiv, lists_total, lists_ties, lists_po, lists_agrees, slice_partial_cmp};
+ghost use Rattle.std.specs.Cmp.Lexicographic.{pointwise, slice_cmp, nat_list_eq_equiv, nat_list_cmp_total, texts_ties, lists_equiv, lists_total, lists_ties};
 ghost use Rattle.std.specs.Ordering.{nat_cmp};
-ghost use Rattle.ocfl_tree.specs.Name.{IsPlace};
-ghost use Rattle.ocfl_tree.specs.Place.{place_cmp};
+ghost use Rattle.ocfl_tree.specs.Name.{IsName, IsPlace};
+ghost use Rattle.ocfl_tree.specs.Path.{names_of, slashed};
+ghost use Rattle.ocfl_tree.specs.Place.{place_cmp, begins};
 
 use crate::name::Name;
+use crate::{order, path};
 use std::alloc::{AllocError, Global};
 use std::cmp::Ordering;
 use std::marker::Model;
 
 /// The names that lead from the storage root to something in it, none for the root itself (OCFL 1.1, 4.1 Root Structure).
-/// Its value in clauses: the list of the names' bytes.
+/// They are kept in one text, its path. Its value in clauses: the list of the names' bytes.
 #[derive(Debug, Drop)]
 pub struct Place {
-    names: Vec<Name>,
+    path: String,
 }
 
 impl Model for Place {
-    ghost use Rattle.std.specs.Prelude.{List, ℕ};
+    ghost use Rattle.std.specs.Prelude.{List, ℕ, string_bytes};
     ghost use Rattle.ocfl_tree.specs.Name.{IsPlace};
+    ghost use Rattle.ocfl_tree.specs.Path.{names_of};
 
     ghost Value = { List (List ℕ) };
 
-    ghost view = { λ a. a.names.items };
+    ghost view = { λ a. names_of (string_bytes a.path) };
 
-    ghost invariant = { λ a. IsPlace a.names.items };
+    ghost invariant = { λ a. IsPlace (names_of (string_bytes a.path)) };
 }
 
 impl Place {
@@ -34,7 +37,20 @@ impl Place {
         ensures { result ≡ [] }
     {
         Place {
-            names: Vec::new(alloc),
+            path: String::new(alloc),
+        }
+    }
+
+    /// The place with this path: its names with `/` between them, and nothing for the storage root. It takes no memory.
+    /// `None` exactly where a text between the slashes is no name.
+    pub fn from_path(path: String) -> Option<Place>
+        ensures some { IfSome result (λ place. place ≡ names_of (string_bytes path)) }
+        ensures none { IsNone result ↔ (IsPlace (names_of (string_bytes path)) → ⊥) }
+    {
+        if path::is_path(path.as_str()) {
+            Some(Place { path })
+        } else {
+            None
         }
     }
 
@@ -43,28 +59,55 @@ impl Place {
         ensures ok { OnOk result (self.new ≡ self.old ++ name ∷ []) }
         ensures err { OnErr result (self.new ≡ self.old) }
     {
-        let _ = name.as_str();
-        self.names.push(name)?;
-        Ok(())
+        path::push(&mut self.path, name.as_str())
     }
 
-    /// The names, from the root down.
-    pub fn names(&self) -> &[Name]
-        ensures value { result.now ≡ self.now }
+    /// The names, from the root down. The only error is want of memory.
+    pub fn names(&self) -> Result<Vec<Name>, AllocError>
+        ensures { IfOk result (λ names. names.items ≡ self.now) }
+    {
+        path::names(*self.path.allocator(), self.path.as_str())
+    }
+
+    /// The path: the names with `/` between them, and nothing for the storage root.
+    #[tactic(auto, using(crate::proofs::Paths::slashed_names))]
+    pub fn path(&self) -> &str
+        ensures value { result.now ≡ slashed self.now }
+        ensures place { names_of result.now ≡ self.now }
         ensures names { IsPlace self.now }
     {
-        self.names.as_slice()
+        self.path.as_str()
+    }
+
+    /// How many names lead to the place from the storage root.
+    pub fn depth(&self) -> usize
+        ensures { result ≡ length self.now }
+    {
+        path::count(self.path.as_str())
+    }
+
+    /// Whether the place is the base or lies below it.
+    pub fn starts_with(&self, base: &Place) -> bool
+        ensures { result ≡ begins base.now self.now }
+    {
+        order::begins(base.path.as_str(), self.path.as_str())
+    }
+
+    /// The path of the directory that the place lies in and its name there, and none for the storage root.
+    pub(crate) fn split_last(&self) -> Option<(&str, &str)>
+        ensures { MatchOption result (self.now ≡ [])
+            (λ p. (self.now ≡ names_of p.0.now ++ p.1.now ∷ []) × IsName p.1.now) }
+    {
+        path::split_last(self.path.as_str())
     }
 
     /// The same place again. The only error is want of memory.
     pub fn try_clone(&self) -> Result<Place, AllocError>
         ensures { IfOk result (λ place. place ≡ self.now) }
     {
-        let mut names = Vec::with_capacity(*self.names.allocator(), self.names.len())?;
-        for name in &self.names {
-            names.push(name.try_clone()?)?;
-        }
-        Ok(Place { names })
+        Ok(Place {
+            path: self.path.clone()?,
+        })
     }
 }
 
@@ -73,8 +116,9 @@ impl PartialEq for Place {
 
     ghost laws = { partial_equiv_from_equiv (lists_equiv nat_list_eq_equiv) };
 
+    #[tactic(auto, using(crate::proofs::Paths::names_eq))]
     fn eq(&self, other: &Place) -> bool {
-        self.names == other.names
+        self.path == other.path
     }
 }
 
@@ -103,6 +147,6 @@ impl Ord for Place {
     ghost matches_eq = { lists_ties (slice_cmp nat_cmp) texts_ties };
 
     fn cmp(&self, other: &Place) -> Ordering {
-        self.names.cmp(&other.names)
+        order::cmp_paths(self.path.as_str(), other.path.as_str())
     }
 }

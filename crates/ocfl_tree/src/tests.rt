@@ -100,9 +100,103 @@ fn places_are_in_order(rt: HostRuntime) -> Result<(), Fail> {
     for (i, place) in rising.iter().enumerate() {
         for (j, later) in rising.iter().enumerate() {
             assert_eq!(rt; place.cmp(later), i.cmp(&j));
+            assert_eq!(rt; *place == *later, i == j);
         }
         let copy = place.try_clone()?;
-        assert!(rt; copy == *place && copy.names().len() == place.names().len());
+        assert!(rt; copy == *place && copy.depth() == place.depth());
     }
+    Ok(())
+}
+
+/// A path of many names that ends in these bytes.
+fn long_path(alloc: Global, end: &str) -> Result<String, Fail> {
+    let mut path = String::new(alloc);
+    for _ in 0..40 {
+        path.push_str("v1/content/")?;
+    }
+    path.push_str(end)?;
+    Ok(path)
+}
+
+#[test]
+fn long_paths_are_in_order(rt: HostRuntime) -> Result<(), Fail> {
+    let alloc = rt.alloc();
+    let ends = ["a", "a/b", "a/c", "a-b", "b"];
+    for (i, end) in ends.iter().enumerate() {
+        let place = Place::from_path(long_path(alloc, *end)?).expect(&rt, "a path");
+        assert_eq!(rt; place.path(), long_path(alloc, *end)?.as_str());
+        for (j, later) in ends.iter().enumerate() {
+            let other = Place::from_path(long_path(alloc, *later)?).expect(&rt, "a path");
+            assert_eq!(rt; place.cmp(&other), i.cmp(&j));
+        }
+    }
+    Ok(())
+}
+
+#[test]
+fn paths_are_read_and_written(rt: HostRuntime) -> Result<(), Fail> {
+    let alloc = rt.alloc();
+    let cases: [(&str, &[&str]); 5] = [
+        ("", &[]),
+        ("a", &["a"]),
+        ("a/b", &["a", "b"]),
+        ("v1/content/é", &["v1", "content", "é"]),
+        ("...", &["..."]),
+    ];
+    for (text, names) in &cases {
+        let place = place_of(alloc, *names)?;
+        assert_eq!(rt; place.path(), *text);
+        assert_eq!(rt; place.depth(), names.len());
+        let read = Place::from_path(String::from_str(alloc, *text)?).expect(&rt, "a path");
+        assert!(rt; read == place);
+        let listed = read.names()?;
+        assert_eq!(rt; listed.len(), names.len());
+        for (name, want) in listed.iter().zip(names.iter()) {
+            assert_eq!(rt; name.as_str(), *want);
+        }
+    }
+    assert!(rt; Place::root(alloc) == place_of(alloc, &[])?);
+    Ok(())
+}
+
+#[test]
+fn texts_that_are_no_paths_are_refused(rt: HostRuntime) -> Result<(), Fail> {
+    let alloc = rt.alloc();
+    let mut long = String::new(alloc);
+    for _ in 0..255 {
+        long.push('a')?;
+    }
+    assert!(rt; Place::from_path(long.clone()?).is_some());
+    long.push('a')?;
+    for bad in [
+        long.as_str(),
+        "/",
+        "/a",
+        "a/",
+        "a//b",
+        ".",
+        "a/./b",
+        "a/..",
+        "a\0",
+        "a/b\0/c",
+    ] {
+        let place = Place::from_path(String::from_str(alloc, bad)?);
+        assert!(rt; place.is_none(), "{bad}");
+    }
+    Ok(())
+}
+
+#[test]
+fn places_begin_with_what_lies_above_them(rt: HostRuntime) -> Result<(), Fail> {
+    let alloc = rt.alloc();
+    let root = Place::root(alloc);
+    let a = place_of(alloc, &["a"])?;
+    let below = place_of(alloc, &["a", "b"])?;
+    let beside = place_of(alloc, &["ab"])?;
+    for place in [&root, &a, &below, &beside] {
+        assert!(rt; place.starts_with(&root) && place.starts_with(place));
+    }
+    assert!(rt; below.starts_with(&a) && !a.starts_with(&below));
+    assert!(rt; !beside.starts_with(&a) && !root.starts_with(&a));
     Ok(())
 }

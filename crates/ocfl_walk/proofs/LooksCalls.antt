@@ -480,6 +480,11 @@ module _ (root : Tree) where
       let all = seek_stops_then root s t u [] (way_below [] p) why over h.did k.gives in
       record { looks = looks_from s u p (failures_by why) all.trail all.stops.goes all.meta; only = only; store = all.stops.store }
 
+  -- want of memory behind the first listing
+  pub look_no_memory : (s t : Store) (e p : Place) (es : List Entry) → s.tree ≡ root → Enters root s t [] e es → LookFails root s t p fault.Memory
+  look_no_memory s t e p es over h =
+      look_stops s t t e p es fault.Memory over h (λ e. cc, λ e. cc) (record { gives = memory_stops root t t (way_below [] p) (reads_nothing root t (h.did.tree ∙ over)) })
+
   pub root_entered : (s t : Store) (e : Place) (es : List Entry) → IsOrdinary es → Enters root s t [] e es → (is_declared (declared level.Root (file_names es)) ≡ true) × (is_known (declared level.Root (file_names es)) ≡ true) → InHierarchy root e es
   root_entered s t e es ordinary k says =
       subst (λ x. InHierarchy root x es) (sym k.is) (at_root root es (ap is_known (declared_root root es ordinary k.listing) ∙ says.1) k.listing)

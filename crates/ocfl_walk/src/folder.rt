@@ -83,7 +83,7 @@ fn can_enter(folder: &Folder, name: &Name) -> bool
         && is_dir_kind (kind_in folder.now.entries.items name.now)) }
 {
     match kind_of(&folder.entries, name.as_str()) {
-        Some(Kind::Dir) => folder.place.names().len() < MAX_LISTED_DEPTH,
+        Some(Kind::Dir) => folder.place.depth() < MAX_LISTED_DEPTH,
         Some(Kind::File | Kind::Other) | None => false,
     }
 }
@@ -138,8 +138,5 @@ pub(crate) fn head_of(folder: &Folder, level: Level) -> Head
 pub(crate) fn is_extensions(folder: &Folder, name: &Name) -> bool
     ensures { result ≡ is_extensions_name folder.now.place name.now }
 {
-    match folder.place.names() {
-        [] => is_text(name.as_str(), "extensions"),
-        [_, ..] => false,
-    }
+    folder.place.depth() == 0 && is_text(name.as_str(), "extensions")
 }

@@ -138,5 +138,6 @@ pub(crate) fn look<T: Tree>(
     let Head::Known = head_of(&root, Level::Root) else {
         return Ok(None);
     };
-    look_below(alloc, store, root, place.names())
+    let names = place.names()?;
+    look_below(alloc, store, root, &names)
 }

@@ -97,7 +97,7 @@ fn both_stores_hold_the_same(rt: HostRuntime) -> Result<(), Fail> {
 }
 
 #[test]
-fn links_and_what_is_not_there_are_trouble(rt: HostRuntime) -> Result<(), Fail> {
+fn links_are_trouble(rt: HostRuntime) -> Result<(), Fail> {
     let alloc = rt.alloc();
     fill(&rt, "links")?;
     let mut folder = FsTree::at(rt.clone()?, "links")?;
@@ -117,6 +117,15 @@ fn links_and_what_is_not_there_are_trouble(rt: HostRuntime) -> Result<(), Fail> 
         assert_eq!(rt; folder.open(&wrong), Err(Trouble::Device));
         assert_eq!(rt; folder.read(&mut buffer), Err(Trouble::Absent));
     }
+    fs::remove_dir_all(&rt, "links")?;
+    Ok(())
+}
+
+#[test]
+fn what_is_not_there_is_absent(rt: HostRuntime) -> Result<(), Fail> {
+    let alloc = rt.alloc();
+    fill(&rt, "absent")?;
+    let mut folder = FsTree::at(rt.clone()?, "absent")?;
     let missing = place_of(alloc, &["d", "missing"])?;
     assert_eq!(rt; folder.list(&missing).err(), Some(Trouble::Absent));
     assert_eq!(rt; folder.open(&missing), Err(Trouble::Absent));
@@ -134,13 +143,22 @@ fn links_and_what_is_not_there_are_trouble(rt: HostRuntime) -> Result<(), Fail> 
         nowhere.list(&Place::root(alloc)).err(),
         Some(Trouble::Absent)
     );
+    fs::remove_dir_all(&rt, "absent")?;
+    Ok(())
+}
 
+#[test]
+fn a_closed_file_gives_nothing(rt: HostRuntime) -> Result<(), Fail> {
+    let alloc = rt.alloc();
+    fill(&rt, "closed")?;
+    let mut folder = FsTree::at(rt.clone()?, "closed")?;
+    let mut buffer = [0; 9];
     folder.open(&place_of(alloc, &["a-b"])?)?;
     assert_eq!(rt; folder.read(&mut buffer), Ok(3));
     assert_eq!(rt; folder.read(&mut buffer), Ok(0));
     folder.close();
     assert_eq!(rt; folder.read(&mut buffer), Err(Trouble::Absent));
-    fs::remove_dir_all(&rt, "links")?;
+    fs::remove_dir_all(&rt, "closed")?;
     Ok(())
 }
 

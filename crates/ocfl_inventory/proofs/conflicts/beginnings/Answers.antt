@@ -1,6 +1,6 @@
 use Rattle.std.proofs.Common.{map}
 use Rattle.ocfl_tree.specs.Place.{begins}
-use Rattle.ocfl_inventory.specs.ListedPath.{elements}
+use Rattle.ocfl_tree.specs.Path.{elements}
 use Rattle.ocfl_inventory.proofs.SeenRuns.{seen_done}
 use Rattle.ocfl_inventory.proofs.conflicts.beginnings.Goals as goal
 

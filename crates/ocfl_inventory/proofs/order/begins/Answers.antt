@@ -1,6 +1,6 @@
 use Rattle.std.proofs.Common.{◌∙◌}
-use Rattle.ocfl_inventory.specs.PathOrder.{path_begins}
-use Rattle.ocfl_inventory.proofs.PathOrders.{path_begins_is}
+use Rattle.ocfl_tree.specs.Path.{path_begins}
+use Rattle.ocfl_tree.proofs.PathOrders.{path_begins_is}
 use Rattle.ocfl_inventory.proofs.order.begins.Goals as goal
 
 pub returns : goal.returns

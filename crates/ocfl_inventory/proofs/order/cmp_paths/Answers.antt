@@ -1,6 +1,6 @@
 use Rattle.std.proofs.Common.{◌∙◌}
-use Rattle.ocfl_inventory.specs.PathOrder.{path_cmp}
-use Rattle.ocfl_inventory.proofs.PathOrders.{path_cmp_is}
+use Rattle.ocfl_tree.specs.Path.{path_cmp}
+use Rattle.ocfl_tree.proofs.PathOrders.{path_cmp_is}
 use Rattle.ocfl_inventory.proofs.order.cmp_paths.Goals as goal
 
 pub returns : goal.returns

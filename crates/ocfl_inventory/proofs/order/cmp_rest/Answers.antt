@@ -1,5 +1,5 @@
 use Rattle.std.proofs.Common.{sym, ◌∙◌}
-use Rattle.ocfl_inventory.proofs.PathOrders.{shared_done}
+use Rattle.ocfl_tree.proofs.PathOrders.{shared_done}
 use Rattle.ocfl_inventory.proofs.order.cmp_rest.Goals as goal
 
 pub returns : goal.returns

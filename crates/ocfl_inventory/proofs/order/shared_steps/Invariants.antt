@@ -1,5 +1,5 @@
 use Rattle.std.proofs.Common.{◌≡◌, ◌*◌, drop}
-use Rattle.ocfl_inventory.specs.PathOrder.{path_cmp}
+use Rattle.ocfl_tree.specs.Path.{path_cmp}
 use Rattle.ocfl_inventory.proofs.order.shared_steps.Given as goal
 
 abbrev pub invariant-loop-step : goal.invariant-loop-step

@@ -4,4 +4,4 @@ use Rattle.ocfl_tree.proofs.Trees.{parent-append}
 use Rattle.ocfl_tree.proofs.nodes.parent.Goals as goal
 
 pub returns-in-Some : goal.returns-in-Some
-returns-in-Some c = sym (ap parent c.in-Some.ensures.cases.0 ∙ parent-append _ _)
+returns-in-Some c = sym (ap parent c.in-Some.ensures.0 ∙ parent-append _ _)

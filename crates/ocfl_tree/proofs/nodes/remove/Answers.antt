@@ -1,8 +1,7 @@
 use Rattle.std.proofs.Common.{rules, not}
 use Rattle.std.proofs.lemmas.Fn.{filter_same}
 use Rattle.ocfl_tree.specs.Place.{begins}
-use Rattle.ocfl_tree.proofs.Places.{begins-starts_with}
 use Rattle.ocfl_tree.proofs.nodes.remove.Goals as goal
 
 pub returns : goal.returns
-returns c = filter_same _ (λ e. not (begins c.args.place.now e.0)) _ (λ x b f t. let e = begins-starts_with c.args.place.now x.0 in search rules) _ _ c.retain.ensures.filtered
+returns c = filter_same _ (λ e. not (begins c.args.place.now e.0)) _ (λ x b f t. search rules) _ _ c.retain.ensures.filtered

@@ -1,0 +1,8 @@
+use Rattle.std.proofs.Common.{lit<, tests, rules}
+use Rattle.std.proofs.lemmas.Iterator.Search.{all_from_yields_List}
+use Rattle.std.proofs.lemmas.Iterator.Splits.{YieldsList-from_str_split}
+use Rattle.ocfl_tree.specs.Path.{fits}
+use Rattle.ocfl_tree.proofs.path.all_fit.Goals as goal
+
+pub returns : goal.returns
+returns c = all_from_yields_List fits _ _ _ c.all.ensures.ran (YieldsList-from_str_split 47 c.args.path.now (lit< tt) c.split.ensures.text c.split.ensures.has_more c.split.ensures.pattern) (λ x b q k. search (rules, tests))

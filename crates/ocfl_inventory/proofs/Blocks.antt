@@ -1,12 +1,16 @@
 -- Reading a block one after the other, as a loop does.
-use Rattle.std.proofs.Common.{◌≡◌, ℕ, suc, ◌+◌, ◌<◌, ◌≤◌, List, [], ◌∷◌, ◌++◌, Option, Some, None, option_map, length, drop, get_or, refl, sym, ap, ◌∙◌, append_assoc, add-one, drop-cons, String, Global}
-use Rattle.std.specs.Prelude.{option_and_then, string_bytes}
-use Rattle.std.proofs.lemmas.List.{append-nil, drop_all}
+use Rattle.std.proofs.Common.{◌≡◌, List, [], ◌∷◌, ◌++◌, Bool, true, false, Option, Some, None, option_map, refl, sym, ap, ◌∙◌, append_assoc, String, Global}
+use Rattle.std.specs.Prelude.{◌&&◌, is_some, option_and_then, string_bytes}
+use Rattle.std.specs.List.{cons_option, list_all}
+use Rattle.std.proofs.lemmas.List.{append-nil}
+use Rattle.serde_json.specs.Data.{Items}
 use Rattle.serde_json.specs.Find.{as_str, as_array}
 use Rattle.serde_json.specs.View.{view, items_view, members_view}
 use Rattle.serde_json.specs.declared.value.Value.{Value}
 use Rattle.ocfl_tree.specs.Place.{Text}
+use Rattle.ocfl_tree.proofs.Orders.{true_not_false}
 use Rattle.ocfl_inventory.specs.Reading.{Block, texts_of, lists_of}
+use Rattle.ocfl_inventory.specs.Parts.{texts_among}
 
 -- what was read before, and what is still read
 abbrev pub with_front : {A : Type 0} → List A → Option (List A) → Option (List A)
@@ -16,25 +20,36 @@ with_front_one : {A : Type 0} (front : List A) (x : A) (read : Option (List A)) 
 with_front_one front x None = refl
 with_front_one front x (Some xs) = ap Some (sym (append_assoc front (x ∷ []) xs))
 
-next_is : (xs : List Value) (i : ℕ) (v : Value) → i < length xs → v ≡ get_or xs i v → drop i xs ≡ v ∷ drop (i + 1) xs
-next_is xs i v h e = rw (add-one) (drop-cons xs i v h ∙ ap (λ x. x ∷ drop (suc i) xs) (sym e))
+-- ---- values that are texts
 
-pub texts_step : (xs : List Value) (i : ℕ) (v : Value) (t : Text) (front : List Text) (total : Option (List Text)) → i < length xs → v ≡ get_or xs i v → Some t ≡ as_str (view v)
-    → with_front front (texts_of (items_view (drop i xs))) ≡ total → with_front (front ++ t ∷ []) (texts_of (items_view (drop (i + 1) xs))) ≡ total
-texts_step xs i v t front total h e s so_far =
-    let one : texts_of (items_view (drop i xs)) ≡ option_map (λ ts. t ∷ ts) (texts_of (items_view (drop (i + 1) xs))) = rw (next_is xs i v h e, ← s) in
-    sym (ap (with_front front) one ∙ with_front_one front t (texts_of (items_view (drop (i + 1) xs)))) ∙ so_far
+texts_tested : (vs : List Value) → list_all (λ v. is_some (as_str (view v))) vs ≡ is_some (texts_of (items_view vs))
+texts_tested [] = refl
+texts_tested (v ∷ vs) = by (as_str (view v)) (texts_of (items_view vs)) (texts_tested vs)
+  where
+    by : (o : Option Text) (p : Option (List Text)) → list_all (λ w. is_some (as_str (view w))) vs ≡ is_some p → (is_some o && list_all (λ w. is_some (as_str (view w))) vs) ≡ is_some (option_and_then (λ t. option_map (λ ts. t ∷ ts) p) o)
+    by None p h = refl
+    by (Some t) None h = h
+    by (Some t) (Some ts) h = h
 
-pub texts_stop : (xs : List Value) (i : ℕ) (v : Value) (front : List Text) (total : Option (List Text)) → i < length xs → v ≡ get_or xs i v → None ≡ as_str (view v)
-    → with_front front (texts_of (items_view (drop i xs))) ≡ total → None ≡ total
-texts_stop xs i v front total h e s so_far =
-    let one : texts_of (items_view (drop i xs)) ≡ None = rw (next_is xs i v h e, ← s) in
-    sym (ap (with_front front) one) ∙ so_far
+texts_are : (vs : List Value) → is_some (texts_of (items_view vs)) ≡ true → Some (texts_among vs) ≡ texts_of (items_view vs)
+texts_are [] h = refl
+texts_are (v ∷ vs) h = by (as_str (view v)) (texts_of (items_view vs)) h (texts_are vs)
+  where
+    by : (o : Option Text) (p : Option (List Text)) → is_some (option_and_then (λ t. option_map (λ ts. t ∷ ts) p) o) ≡ true → (is_some p ≡ true → Some (texts_among vs) ≡ p)
+        → Some (cons_option o [] ++ texts_among vs) ≡ option_and_then (λ t. option_map (λ ts. t ∷ ts) p) o
+    by None p k more = absurd (true_not_false (sym k))
+    by (Some t) None k more = absurd (true_not_false (sym k))
+    by (Some t) (Some ts) k more = ap (option_map (λ us. t ∷ us)) (more refl)
 
-pub texts_done : (xs : List Value) (i : ℕ) (front : List Text) (total : Option (List Text)) → length xs ≤ i → with_front front (texts_of (items_view (drop i xs))) ≡ total → Some front ≡ total
-texts_done xs i front total h so_far =
-    let one : drop i xs ≡ [] = drop_all i xs h in
-    sym (ap (λ ys. with_front front (texts_of (items_view ys))) one ∙ ap Some (append-nil front)) ∙ so_far
+pub texts_found : (vs : List Value) (b : Bool) (found : Option Items) → b ≡ list_all (λ v. is_some (as_str (view v))) vs → b ≡ true → Some (items_view vs) ≡ found → Some (texts_among vs) ≡ option_and_then texts_of found
+texts_found vs b found h k e = texts_are vs (sym (texts_tested vs) ∙ sym h ∙ k) ∙ ap (option_and_then texts_of) e
+
+pub texts_missing : (vs : List Value) (b : Bool) (found : Option Items) → b ≡ list_all (λ v. is_some (as_str (view v))) vs → b ≡ false → Some (items_view vs) ≡ found → None ≡ option_and_then texts_of found
+texts_missing vs b found h k e = by (texts_of (items_view vs)) (sym (texts_tested vs) ∙ sym h ∙ k) ∙ ap (option_and_then texts_of) e
+  where
+    by : (o : Option (List Text)) → is_some o ≡ false → None ≡ o
+    by None f = refl
+    by (Some ts) f = absurd (true_not_false f)
 
 abbrev Entry : Type 0
 Entry = String Global × Value

@@ -1,29 +1,30 @@
 -- What an inventory lists, put in order.
-use Rattle.std.proofs.Common.{◌≡◌, ◌+◌, List, [], ◌∷◌, ◌++◌, Bool, true, false, refl, sym, ◌∙◌, ap, subst, cond, map, filter, get_or, Bor, arith}
+use Rattle.std.proofs.Common.{◌≡◌, ◌+◌, List, [], ◌∷◌, ◌++◌, Bool, false, refl, sym, ◌∙◌, ap, subst, cond, map, filter, get_or, arith}
 use Rattle.std.specs.Prelude.{flat_map, Option, Some, None, option_map, filter_map, is_some}
 use Rattle.std.specs.List.{cons_option}
 use Rattle.std.specs.Cmp.{IsTotalOrder}
 use Rattle.std.specs.FinMap.{IsAntisymmetric}
-use Rattle.std.specs.List.{dedup, dedup_from}
+use Rattle.std.specs.List.{dedup}
 use Rattle.std.specs.List.Retain.{IsFiltered, DiffersFromLast}
 use Rattle.std.specs.List.Sorted.{IsPermutation, IsSorted}
 use Rattle.std.specs.Ordering.{is_lt, eq_by_cmp, ordering_then}
 use Rattle.std.specs.declared.cmp.Ordering.{Ordering}
 use Rattle.std.specs.declared.cmp.Ordering.TheVariants.{Less, Equal, Greater}
-use Rattle.std.specs.Str.{bytes_eq}
+use Rattle.std.specs.Prelude.{nat_eq}
+use Rattle.std.specs.Ordering.{nat_cmp}
+use Rattle.std.specs.Cmp.Lexicographic.{pointwise, slice_cmp, lists_ties, texts_ties}
 use Rattle.std.proofs.lemmas.List.Filters.{dedup_is}
-use Rattle.std.proofs.lemmas.List.Sorted.{IsPermutation-map, IsPermutation-sym}
+use Rattle.std.proofs.lemmas.List.Sorted.{IsPermutation-map, IsPermutation-refl, IsPermutation-sym}
 use Rattle.std.proofs.lemmas.List.{map-append}
 use Rattle.std.proofs.lemmas.List.Elements.{filter-append}
-use Rattle.std.proofs.lemmas.Map.Text.{is_eq-slice_cmp}
 use Rattle.std.specs.Cmp.Lexicographic.{nat_list_cmp_total}
-use Rattle.ocfl_tree.specs.Place.{Text, Place, text_cmp, text_eq, place_cmp, place_eq, begins}
+use Rattle.ocfl_tree.specs.Place.{Text, Place, text_cmp, place_cmp, place_eq, begins}
 use Rattle.ocfl_tree.specs.Ascending.{ascending}
 use Rattle.ocfl_tree.proofs.Orders.{place_cmp_total, place_cmp_exact, ascending_unique, ascends_ascending, ascends_filter, among_ascending, among_filter, among_from_filter}
 use Rattle.ocfl_digest.specs.declared.algorithm.Algorithm.{Algorithm}
 use Rattle.ocfl_report.specs.Line.{Note, note}
 use Rattle.ocfl_report.specs.declared.code.Code.{Code}
-use Rattle.ocfl_tree.specs.Path.{elements, slashed}
+use Rattle.ocfl_tree.specs.Path.{elements}
 use Rattle.ocfl_inventory.specs.ListedPath.{is_kept, path_fault}
 use Rattle.ocfl_inventory.specs.DigestText.{folded}
 use Rattle.ocfl_inventory.specs.Reading.{Block}
@@ -33,50 +34,10 @@ use Rattle.ocfl_inventory.specs.Table.{Triple, triple_cmp, named_cmp, triples_of
 use Rattle.ocfl_inventory.specs.TripleOrder.{triple_total}
 use Rattle.ocfl_inventory.specs.Beside.{hits}
 use Rattle.ocfl_inventory.proofs.Runs.{IsUp}
-use Rattle.ocfl_inventory.proofs.Once.{up_from_sorted, sorted_once, among_permuted, alike_itself, alike_is}
+use Rattle.ocfl_inventory.proofs.Once.{up_from_sorted, sorted_once, among_permuted}
 use Rattle.ocfl_inventory.proofs.Beginnings.{text_exact, sorted_conflicts}
-use Rattle.ocfl_tree.proofs.Paths.{slashed_elements}
 use Rattle.ocfl_inventory.proofs.PathTexts.{fault_line}
 use Rattle.ocfl_inventory.proofs.TripleOrders.{triple_exact}
-
--- ---- texts and their elements
-
-module _ {A B : Type 0} (f : A → B) (same : A → A → Bool) (eq : B → B → Bool) (seen : (x y : A) → same x y ≡ eq (f x) (f y)) where
-  dedup_seen_from : (k : A) (xs : List A) → map f (dedup_from same k xs) ≡ dedup_from eq (f k) (map f xs)
-  dedup_seen_from k [] = refl
-  dedup_seen_from k (y ∷ xs) = by (same y k) (dedup_seen_from k xs) (dedup_seen_from y xs) ∙ ap (λ b. cond b (dedup_from eq (f k) (map f xs)) (f k ∷ dedup_from eq (f y) (map f xs))) (seen y k)
-    where
-      by : (b : Bool) → map f (dedup_from same k xs) ≡ dedup_from eq (f k) (map f xs) → map f (dedup_from same y xs) ≡ dedup_from eq (f y) (map f xs)
-          → map f (cond b (dedup_from same k xs) (k ∷ dedup_from same y xs)) ≡ cond b (dedup_from eq (f k) (map f xs)) (f k ∷ dedup_from eq (f y) (map f xs))
-      by true g i = g
-      by false g i = ap (λ ys. f k ∷ ys) i
-
-  pub dedup_seen : (xs : List A) → map f (dedup same xs) ≡ dedup eq (map f xs)
-  dedup_seen [] = refl
-  dedup_seen (x ∷ xs) = dedup_seen_from x xs
-
-both_or_none : (a b : Bool) → (a ≡ true → b ≡ true) → (b ≡ true → a ≡ true) → a ≡ b
-both_or_none true b h k = sym (h refl)
-both_or_none false true h k = k refl
-both_or_none false false h k = refl
-
-pub same_elements : (t u : Text) → bytes_eq t u ≡ place_eq (elements t) (elements u)
-same_elements t u = sym (is_eq-slice_cmp t u) ∙ both_or_none (text_eq t u) (place_eq (elements t) (elements u)) forth back
-  where
-    forth : text_eq t u ≡ true → place_eq (elements t) (elements u) ≡ true
-    forth h = ap (λ v. place_eq (elements t) (elements v)) (sym (alike_is nat_list_cmp_total text_exact t u h)) ∙ alike_itself place_cmp_total place_cmp_exact (elements t)
-
-    back : place_eq (elements t) (elements u) ≡ true → text_eq t u ≡ true
-    back h =
-        let e : t ≡ u = sym (slashed_elements t) ∙ ap slashed (alike_is place_cmp_total place_cmp_exact (elements t) (elements u) h) ∙ slashed_elements u in
-        ap (text_eq t) (sym e) ∙ alike_itself nat_list_cmp_total text_exact t
-
-pub slashed_notes : (code : Code) (ts : List (Bor Text)) (ps : List Place) → map (λ t. elements t.now) ts ≡ ps → map (note code) (map (λ t. t.now) ts) ≡ map (λ p. note code (slashed p)) ps
-slashed_notes code ts ps h = each ts ∙ ap (map (λ p. note code (slashed p))) h
-  where
-    each : (ts : List (Bor Text)) → map (note code) (map (λ t. t.now) ts) ≡ map (λ p. note code (slashed p)) (map (λ t. elements t.now) ts)
-    each [] = refl
-    each (t ∷ ts) = λ i. note code (sym (slashed_elements t.now) i) ∷ each ts i
 
 -- ---- sorted triples
 
@@ -98,16 +59,23 @@ triples_up xs s = subst (IsUp triple_cmp) (itself xs) (up_from_sorted triple_tot
     itself [] = refl
     itself (x ∷ xs) = ap (λ ys. x ∷ ys) (itself xs)
 
-pub conflicting : (es fs : List Triple) (hs zs : List (Bor Text)) → IsPermutation es fs → IsSorted triple_cmp fs → map (λ t. elements t.now) hs ≡ hits begins (map (λ e. e.path) fs) → IsFiltered (DiffersFromLast (λ (a b : Bor Text). bytes_eq a.now b.now)) [] hs zs
-    → map (λ t. elements t.now) zs ≡ conflicts (map (λ e. e.path) es)
-conflicting es fs hs zs p s h f =
-    ap (map (λ t. elements t.now)) (dedup_is (λ (a b : Bor Text). bytes_eq a.now b.now) hs zs f)
-    ∙ dedup_seen (λ t. elements t.now) (λ (a b : Bor Text). bytes_eq a.now b.now) place_eq (λ t u. same_elements t.now u.now) hs
-    ∙ ap (dedup place_eq) h
-    ∙ sorted_conflicts (map (λ e. e.path) es) (map (λ e. e.path) fs) (IsPermutation-map (λ e. e.path) es fs p) (paths_up fs s)
+same_place : (p q : Place) → pointwise (pointwise nat_eq) p q ≡ place_eq p q
+same_place = lists_ties (slice_cmp nat_cmp) texts_ties
 
-pub triples_once : (es fs zs : List Triple) → IsPermutation es fs → IsSorted triple_cmp fs → IsFiltered (DiffersFromLast (eq_by_cmp triple_cmp)) [] fs zs → zs ≡ ascending triple_cmp es
-triples_once es fs zs p s f = dedup_is (eq_by_cmp triple_cmp) fs zs f ∙ sorted_once triple_total triple_exact es fs p (triples_up fs s)
+pub conflicting : (es : List Triple) (hs zs : List Place) → IsSorted triple_cmp es → hs ≡ hits begins (map (λ e. e.path) es) → IsFiltered (DiffersFromLast (pointwise (pointwise nat_eq))) [] hs zs → zs ≡ conflicts (map (λ e. e.path) es)
+conflicting es hs zs s h f =
+    dedup_is (pointwise (pointwise nat_eq)) hs zs f
+    ∙ (λ i. dedup (λ p q. same_place p q i) (h i))
+    ∙ sorted_conflicts (map (λ e. e.path) es) (map (λ e. e.path) es) (IsPermutation-refl (map (λ e. e.path) es)) (paths_up es s)
+
+pub conflicts_permuted : (es fs : List Triple) → IsPermutation es fs → IsSorted triple_cmp fs → conflicts (map (λ e. e.path) fs) ≡ conflicts (map (λ e. e.path) es)
+conflicts_permuted es fs p s =
+    let up = paths_up fs s in
+    sym (sorted_conflicts (map (λ e. e.path) fs) (map (λ e. e.path) fs) (IsPermutation-refl (map (λ e. e.path) fs)) up)
+    ∙ sorted_conflicts (map (λ e. e.path) es) (map (λ e. e.path) fs) (IsPermutation-map (λ e. e.path) es fs p) up
+
+pub triples_once : (es zs : List Triple) → IsSorted triple_cmp es → IsFiltered (DiffersFromLast (eq_by_cmp triple_cmp)) [] es zs → zs ≡ ascending triple_cmp es
+triples_once es zs s f = dedup_is (eq_by_cmp triple_cmp) es zs f ∙ sorted_once triple_total triple_exact es es (IsPermutation-refl es) (triples_up es s)
 
 -- ---- what is listed
 

@@ -1,87 +1,149 @@
--- The elements of a kept path are names.
-use Rattle.std.proofs.Common.{◌≡◌, ◌≢◌, ◌⊎◌, inl, inr, ℕ, zero, suc, ◌<◌, List, [], ◌∷◌, Bool, true, false, refl, sym, ◌∙◌, ap, cond, map, length, get_or, Bor, arith, codes, Some, None}
-use Rattle.std.specs.Prelude.{◌==◌, ◌||◌, nat_eq, nat_lt, not, is_some, All}
-use Rattle.std.specs.List.{list_any, onto_first, starts_with, ends_with}
-use Rattle.std.proofs.lemmas.Bool.Decides.{eqb_tells, nat_tests}
+-- A path is kept where it is that of a place, and does not lie elsewhere.
+use Rattle.std.proofs.Common.{◌≡◌, ◌↔◌, ℕ, [], ◌∷◌, ◌++◌, Bool, true, false, refl, sym, ◌∙◌, ap, cond, length, take, drop, codes, arith, Option, Some, None, MatchOption, IfSome, IsNone, IsUtf8}
+use Rattle.std.specs.Prelude.{◌-◌, ◌==◌, ◌||◌, ◌&&◌, nat_eq, nat_lt, nat_le, not, is_some}
+use Rattle.std.specs.List.{list_any, list_all, starts_with, ends_with}
+use Rattle.std.specs.Cmp.Lexicographic.{texts_ties, pointwise}
+use Rattle.std.proofs.lemmas.Bool.Decides.{Decides-eqb, nat_tests}
+use Rattle.std.proofs.lemmas.Slice.Eq.{starts_is, ends_is}
 use Rattle.ocfl_report.specs.declared.code.Code.TheVariants.{E099, E100, S06}
 use Rattle.ocfl_tree.specs.Place.{Text, Place, text_eq}
-use Rattle.ocfl_tree.specs.Name.{HasNameBytes}
+use Rattle.ocfl_tree.specs.Name.{IsPlace}
+use Rattle.ocfl_tree.specs.Path.{elements, names_of, fits}
 use Rattle.ocfl_tree.proofs.Orders.{true_not_false}
-use Rattle.ocfl_tree.specs.Path.{elements}
+use Rattle.ocfl_tree.proofs.Paths.{elements-append}
+use Rattle.ocfl_tree.proofs.PathNames.{names_are, place_from_tests, place_fits, place_has_no_zero}
 use Rattle.ocfl_inventory.specs.ListedPath.{is_dots, is_no_name, is_content_path, is_kept}
-use Rattle.ocfl_inventory.specs.PathOrder.{AreNames}
-use Rattle.ocfl_tree.proofs.PathOrders.{some_element}
-
-pub name_at : (ns : List (Bor Text)) (i : ℕ) (d : Bor Text) → i < length ns → AreNames (map (λ n. n.now) ns) → HasNameBytes (get_or ns i d).now
-name_at [] i d h all = absurd (omega (arith, h))
-name_at (n ∷ ns) zero d h all = all.0
-name_at (n ∷ ns) (suc i) d h all = name_at ns i d (omega arith) all.1
-
--- ---- tests that are false
-
-left_false : (a b : Bool) → a || b ≡ false → a ≡ false
-left_false true b h = absurd (true_not_false h)
-left_false false b h = refl
-
-right_false : (a b : Bool) → a || b ≡ false → b ≡ false
-right_false true b h = absurd (true_not_false h)
-right_false false b h = h
-
-abbrev has_slash : Text → Bool
-has_slash n = list_any (λ b. b == 47) n
-
-no_slash_behind : (c : ℕ) (xs : Place) → (xs ≡ [] → ⊥) → (c == 47) ≡ false → list_any has_slash xs ≡ false → list_any has_slash (onto_first c xs) ≡ false
-no_slash_behind c [] k e h = absurd (k refl)
-no_slash_behind c (x ∷ xs) k e h = rw e h
-
-no_slash : (t : Text) → list_any has_slash (elements t) ≡ false
-no_slash [] = refl
-no_slash (c ∷ t) = by (c == 47) refl (no_slash t)
-  where
-    by : (b : Bool) → (c == 47) ≡ b → list_any has_slash (elements t) ≡ false → list_any has_slash (cond b ([] ∷ elements t) (onto_first c (elements t))) ≡ false
-    by true e h = h
-    by false e h = no_slash_behind c (elements t) (some_element t) e h
+use Rattle.ocfl_inventory.specs.Gathered.{is_long}
+use Rattle.ocfl_inventory.proofs.PathTexts.{no_name_is, has_zero}
 
 -- ---- a name by its tests
 
-eqb_apart : (a b : ℕ) → (a == b) ≡ false → a ≢ b
-eqb_apart a b h e = by (eqb_tells a b)
+some_bytes : (c : ℕ) (n : Text) → (length (c ∷ n) == 0) ≡ false
+some_bytes c n = grind (arith, nat_tests)
+
+fits_is : (n : Text) → fits n ≡ not (is_dots n || is_long n)
+fits_is n = by (length n == 0) (nat_le (length n) 255) (pointwise nat_eq n (codes ".")) (pointwise nat_eq n (codes "..")) (text_eq n []) (empty n) (text_eq n (codes ".")) (texts_ties n (codes ".")) (text_eq n (codes "..")) (texts_ties n (codes "..")) (is_long n) long
   where
-    by : (((a == b) ≡ true) × (a ≡ b)) ⊎ (((a == b) ≡ false) × (a ≢ b)) → ⊥
-    by (inl w) = true_not_false (sym w.0 ∙ h)
-    by (inr w) = w.1 e
+    empty : (n : Text) → (length n == 0) ≡ text_eq n []
+    empty [] = refl
+    empty (c ∷ n) = some_bytes c n
 
-plain_each : (n : Text) → list_any (λ b. b == 47) n ≡ false → list_any (λ b. b == 0) n ≡ false → All (λ b. (b ≢ 47) × (b ≢ 0)) n
-plain_each [] h k i d l = absurd (omega (arith, l))
-plain_each (c ∷ n) h k zero d l = (eqb_apart c 47 (left_false _ _ h), eqb_apart c 0 (left_false _ _ k))
-plain_each (c ∷ n) h k (suc i) d l = plain_each n (right_false (c == 47) _ h) (right_false (c == 0) _ k) i d (omega arith)
+    long : nat_le (length n) 255 ≡ not (is_long n)
+    long = grind (arith, nat_tests)
 
-not_text : (n t : Text) → text_eq t t ≡ true → text_eq n t ≡ false → n ≢ t
-not_text n t h k e = true_not_false (sym h ∙ ap (λ m. text_eq m t) (sym e) ∙ k)
+    by : (a b c d a2 : Bool) → a ≡ a2 → (c2 : Bool) → c ≡ c2 → (d2 : Bool) → d ≡ d2 → (l : Bool) → b ≡ not l → (not a && b && not c && not d) ≡ not ((a2 || c2 || d2) || l)
+    by a b c d a2 e c2 f d2 g l h = (λ i. not (e i) && h i && not (f i) && not (g i)) ∙ same a2 c2 d2 l
+      where
+        same : (a c d l : Bool) → (not a && not l && not c && not d) ≡ not ((a || c || d) || l)
+        same true c d l = refl
+        same false true d true = refl
+        same false true d false = refl
+        same false false true true = refl
+        same false false true false = refl
+        same false false false true = refl
+        same false false false false = refl
 
-name_bytes : (n : Text) → has_slash n ≡ false → is_dots n ≡ false → is_no_name n ≡ false → HasNameBytes n
-name_bytes n s d k = record {
-  not_empty = not_text n [] refl (left_false _ _ (left_false _ _ d));
-  short = (let h : nat_lt 255 (length n) ≡ false = left_false _ _ k in grind (arith, nat_tests));
-  plain = plain_each n s (right_false (nat_lt 255 (length n)) _ k);
-  not_dot = not_text n (codes ".") refl (right_false (text_eq n []) _ (left_false _ _ d));
-  not_dots = not_text n (codes "..") refl (right_false (text_eq n [] || text_eq n (codes ".")) _ d);
-}
-
-are_names : (ns : Place) → list_any has_slash ns ≡ false → list_any is_dots ns ≡ false → list_any is_no_name ns ≡ false → AreNames ns
-are_names [] s d k = tt
-are_names (n ∷ ns) s d k = (
-  name_bytes n (left_false (has_slash n) _ s) (left_false (is_dots n) _ d) (left_false (is_no_name n) _ k),
-  are_names ns (right_false (has_slash n) _ s) (right_false (is_dots n) _ d) (right_false (is_no_name n) _ k),
-)
-
-pub kept_names : (content t : Text) → is_kept content t ≡ true → AreNames (elements t)
-kept_names content t h = by (starts_with nat_eq t (codes "/") || ends_with nat_eq t (codes "/")) (list_any is_dots (elements t)) refl (not (is_content_path content (elements t)) || nat_lt 128 (length (elements t))) (list_any is_no_name (elements t)) refl h
+all_fit_is : (ns : Place) → list_all fits ns ≡ not (list_any is_dots ns || list_any is_long ns)
+all_fit_is [] = refl
+all_fit_is (n ∷ ns) = (λ i. fits_is n i && all_fit_is ns i) ∙ same (is_dots n) (is_long n) (list_any is_dots ns) (list_any is_long ns)
   where
-    by : (a b : Bool) → list_any is_dots (elements t) ≡ b → (c d : Bool) → list_any is_no_name (elements t) ≡ d
-        → not (is_some (cond a (Some E100) (cond b (Some E099) (cond (c || d) (Some S06) None)))) ≡ true → AreNames (elements t)
-    by true b e c d f k = absurd (true_not_false (sym k))
-    by false true e c d f k = absurd (true_not_false (sym k))
-    by false false e true d f k = absurd (true_not_false (sym k))
-    by false false e false true f k = absurd (true_not_false (sym k))
-    by false false e false false f k = are_names (elements t) (no_slash t) e f
+    same : (a b c d : Bool) → (not (a || b) && not (c || d)) ≡ not ((a || c) || (b || d))
+    same true b c d = refl
+    same false true true d = refl
+    same false true false d = refl
+    same false false c d = refl
+
+-- ---- the ends of a path
+
+dots_in_front : (u v : Place) → list_any is_dots v ≡ true → list_any is_dots (u ++ v) ≡ true
+dots_in_front [] v h = h
+dots_in_front (n ∷ u) v h = by (is_dots n) (dots_in_front u v h)
+  where
+    by : (b : Bool) → list_any is_dots (u ++ v) ≡ true → b || list_any is_dots (u ++ v) ≡ true
+    by true k = refl
+    by false k = k
+
+starts_dotted : (t : Text) → starts_with nat_eq t (codes "/") ≡ true → list_any is_dots (elements t) ≡ true
+starts_dotted t h =
+    let e : t ≡ codes "/" ++ drop 1 t = (starts_is Decides-eqb t (codes "/") (starts_with nat_eq t (codes "/")) refl).0 h in
+    ap (λ u. list_any is_dots (elements u)) e
+
+ends_dotted : (t : Text) → ends_with nat_eq t (codes "/") ≡ true → list_any is_dots (elements t) ≡ true
+ends_dotted t h =
+    let e : t ≡ take (length t - 1) t ++ codes "/" = (ends_is Decides-eqb t (codes "/") (ends_with nat_eq t (codes "/")) refl).0 h in
+    ap (λ u. list_any is_dots (elements u)) e ∙ ap (list_any is_dots) (elements-append (take (length t - 1) t) []) ∙ dots_in_front (elements (take (length t - 1) t)) (elements []) refl
+
+-- ---- what is kept
+
+abbrev pub lies_elsewhere : Text → Text → Bool
+lies_elsewhere content t = not (is_content_path content (elements t)) || nat_lt 128 (length (elements t))
+
+pub elsewhere_is_bad : (content t : Text) → lies_elsewhere content t ≡ true → is_kept content t ≡ false
+elsewhere_is_bad content t h = by (starts_with nat_eq t (codes "/") || ends_with nat_eq t (codes "/")) (list_any is_dots (elements t)) (not (is_content_path content (elements t))) (nat_lt 128 (length (elements t))) (list_any is_no_name (elements t)) h
+  where
+    by : (a b c d e : Bool) → c || d ≡ true → not (is_some (cond a (Some E100) (cond b (Some E099) (cond (c || d || e) (Some S06) None)))) ≡ false
+    by true b c d e k = refl
+    by false true c d e k = refl
+    by false false true d e k = refl
+    by false false false true e k = refl
+    by false false false false e k = absurd (true_not_false (sym k))
+
+kept_by_tests : (content t : Text) → lies_elsewhere content t ≡ false → is_kept content t ≡ not (list_any is_dots (elements t) || list_any is_no_name (elements t))
+kept_by_tests content t h = by (starts_with nat_eq t (codes "/")) (ends_with nat_eq t (codes "/")) (list_any is_dots (elements t)) (not (is_content_path content (elements t))) (nat_lt 128 (length (elements t))) (list_any is_no_name (elements t)) (starts_dotted t) (ends_dotted t) h
+  where
+    by : (a z b c d e : Bool) → (a ≡ true → b ≡ true) → (z ≡ true → b ≡ true) → c || d ≡ false → not (is_some (cond (a || z) (Some E100) (cond b (Some E099) (cond (c || d || e) (Some S06) None)))) ≡ not (b || e)
+    by true z true c d e f g k = refl
+    by true z false c d e f g k = absurd (true_not_false (sym (f refl)))
+    by false true true c d e f g k = refl
+    by false true false c d e f g k = absurd (true_not_false (sym (g refl)))
+    by false false true c d e f g k = refl
+    by false false false false false true f g k = refl
+    by false false false false false false f g k = refl
+    by false false false true d e f g k = absurd (true_not_false k)
+    by false false false false true e f g k = absurd (true_not_false k)
+
+tests : (t : Text) → not (list_any is_dots (elements t) || list_any is_no_name (elements t)) ≡ (list_all fits (elements t) && not (has_zero t))
+tests t = ap (λ b. not (list_any is_dots (elements t) || b)) (no_name_is t) ∙ same (list_any is_dots (elements t)) (list_any is_long (elements t)) (has_zero t) ∙ ap (λ b. b && not (has_zero t)) (sym (all_fit_is (elements t)))
+  where
+    same : (a b c : Bool) → not (a || (b || c)) ≡ (not (a || b) && not c)
+    same true b c = refl
+    same false true c = refl
+    same false false c = refl
+
+both : (a b : Bool) → a && not b ≡ true → (a ≡ true) × (b ≡ false)
+both true true h = absurd (true_not_false (sym h))
+both true false h = (refl, refl)
+both false b h = absurd (true_not_false (sym h))
+
+not_empty : (content t : Text) → lies_elsewhere content t ≡ false → (length t == 0) ≡ false
+not_empty content [] h = absurd (true_not_false h)
+not_empty content (c ∷ t) h = some_bytes c t
+
+kept_fits : (content t : Text) → lies_elsewhere content t ≡ false → is_kept content t ≡ (list_all fits (elements t) && not (has_zero t))
+kept_fits content t h = kept_by_tests content t h ∙ tests t
+
+kept_names : (content t : Text) → IsUtf8 t → lies_elsewhere content t ≡ false → is_kept content t ≡ true → IsPlace (names_of t)
+kept_names content t u h k =
+    let w = both _ _ (sym (kept_fits content t h) ∙ k) in
+    place_from_tests t u (not_empty content t h) w.1 w.0
+
+names_kept : (content t : Text) → lies_elsewhere content t ≡ false → IsPlace (names_of t) → is_kept content t ≡ true
+names_kept content t h p =
+    let some = not_empty content t h in
+    kept_fits content t h ∙ (λ i. place_fits t some p i && not (place_has_no_zero t some p i))
+
+pub kept_from_path : (content t : Text) (o : Option Place) → IsUtf8 t → lies_elsewhere content t ≡ false → IfSome o (λ p. p ≡ names_of t) → IsNone o ↔ (IsPlace (names_of t) → ⊥)
+    → MatchOption o (is_kept content t ≡ false) (λ p. (is_kept content t ≡ true) × (p ≡ elements t))
+kept_from_path content t None u h some none = by (is_kept content t) refl
+  where
+    by : (b : Bool) → is_kept content t ≡ b → is_kept content t ≡ false
+    by true e = absurd (none.0 refl (kept_names content t u h e))
+    by false e = e
+kept_from_path content t (Some p) u h some none = (by (is_kept content t) refl, some ∙ names_are t (not_empty content t h))
+  where
+    never : IsNone (Some p) → ⊥
+    never e = cc
+
+    by : (b : Bool) → is_kept content t ≡ b → is_kept content t ≡ true
+    by true e = e
+    by false e = absurd (never (none.1 (λ q. true_not_false (sym (names_kept content t h q) ∙ e))))

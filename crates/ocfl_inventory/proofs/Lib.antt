@@ -9,9 +9,10 @@ pub mod Beginnings
 pub mod TextOrder
 pub mod PathTexts
 pub mod SeenRuns
-pub mod PathOrders
+pub mod FoldedTexts
 pub mod Kept
 pub mod TableSearch
 pub mod Gatherings
 pub mod TripleOrders
 pub mod Inventories
+pub mod SharedFronts

@@ -1,40 +1,85 @@
 -- Paths and their elements.
-use Rattle.std.proofs.Common.{◌≡◌, ℕ, List, [], ◌∷◌, Bool, refl, sym, ◌∙◌, ap, cond, map, Bor, length, Option, Some, None}
-use Rattle.std.proofs.lemmas.List.{length-map, drop_all, append-nil}
-use Rattle.std.proofs.Common.{◌+◌, ◌≤◌, ◌<◌, ◌++◌, get_or, drop, drop-cons, add-one, append_assoc, option_map, filter_map}
-use Rattle.std.specs.List.{cons_option}
-use Rattle.ocfl_report.specs.Line.{Note, note}
-use Rattle.ocfl_tree.specs.Place.{Text}
-use Rattle.ocfl_tree.specs.Path.{elements}
-use Rattle.ocfl_inventory.specs.ListedPath.{is_dots, is_no_name, is_content_path, path_fault}
-use Rattle.ocfl_report.specs.declared.code.Code.{Code}
-use Rattle.ocfl_report.specs.declared.code.Code.TheVariants.{E099, E100, S06}
-use Rattle.std.specs.Prelude.{codes, nat_eq, ◌||◌, ◌&&◌, not, nat_lt}
-use Rattle.std.specs.List.{list_any, list_all, starts_with, ends_with}
+use Rattle.std.proofs.Common.{◌≡◌, ℕ, ◌+◌, ◌≤◌, ◌<◌, List, [], ◌∷◌, ◌++◌, Bool, true, false, refl, sym, ◌∙◌, ap, cond, map, Bor, length, Option, Some, None, arith, lit<, get_or, drop, drop-cons, add-one, append_assoc, option_map, filter_map}
+use Rattle.std.specs.Prelude.{◌==◌, ◌||◌, ◌&&◌, nat_le, nat_lt, count_by}
+use Rattle.std.specs.List.{cons_option, list_any, list_all, onto_first, position_or_len, before_first, after_first}
+use Rattle.std.specs.Option.{MatchOption}
 use Rattle.std.specs.Str.{all_ascii_digits}
 use Rattle.std.specs.Char.{is_ascii_digit}
+use Rattle.std.proofs.lemmas.Bool.Decides.{nat_tests}
+use Rattle.std.proofs.lemmas.List.{drop_all, append-nil}
+use Rattle.std.proofs.lemmas.List.Splits.{slice_split_none, slice_split_first, length-slice_split}
+use Rattle.std.proofs.lemmas.List.Sums.{fails_before_first}
+use Rattle.std.proofs.lemmas.Str.Pattern.{IsSplitOnceResult, split_once_first}
+use Rattle.ocfl_report.specs.Line.{Note, note}
+use Rattle.ocfl_tree.specs.Place.{Text, Place, text_eq}
+use Rattle.ocfl_tree.specs.Path.{elements}
+use Rattle.ocfl_tree.proofs.PathOrders.{some_element, slash_is}
+use Rattle.ocfl_inventory.specs.ListedPath.{is_no_name, is_version_name, is_content_path, path_fault}
+use Rattle.ocfl_inventory.specs.Gathered.{is_long}
 
 pub digits_are : (bs : Text) → all_ascii_digits bs ≡ list_all is_ascii_digit bs
 digits_are [] = refl
 digits_are (c ∷ bs) = ap (λ b. is_ascii_digit c && b) (digits_are bs)
 
-pub any_lent : (p : Text → Bool) (xs : List (Bor Text)) → list_any p (map (λ x. x.now) xs) ≡ list_any (λ x. p x.now) xs
-any_lent p [] = refl
-any_lent p (x ∷ xs) = ap (λ b. p x.now || b) (any_lent p xs)
+or_assoc : (a b c : Bool) → ((a || b) || c) ≡ (a || (b || c))
+or_assoc true b c = refl
+or_assoc false b c = refl
 
-pub fault_is : (content t : Text) (parts : List (Bor Text)) (a b c : Bool) → map (λ x. x.now) parts ≡ elements t
-    → a ≡ (starts_with nat_eq t (codes "/") || ends_with nat_eq t (codes "/")) → b ≡ list_any (λ p. is_dots p.now) parts
-    → c ≡ (not (is_content_path content (map (λ x. x.now) parts)) || nat_lt 128 (length parts) || list_any (λ p. is_no_name p.now) parts)
-    → cond a (Some E100) (cond b (Some E099) (cond c (Some S06) None)) ≡ path_fault content t
-fault_is content t parts a b c h ha hb hc =
-    let two : b ≡ list_any is_dots (elements t) = hb ∙ sym (any_lent is_dots parts) ∙ ap (list_any is_dots) h in
-    let len : length parts ≡ length (elements t) = sym (length-map parts (λ x. x.now)) ∙ ap length h in
-    let none : list_any (λ p. is_no_name p.now) parts ≡ list_any is_no_name (elements t) = sym (any_lent is_no_name parts) ∙ ap (list_any is_no_name) h in
-    let three : c ≡ (not (is_content_path content (elements t)) || nat_lt 128 (length (elements t)) || list_any is_no_name (elements t)) = hc ∙ (λ i. not (is_content_path content (h i)) || nat_lt 128 (len i) || none i) in
-    λ i. cond (ha i) (Some E100) (cond (two i) (Some E099) (cond (three i) (Some S06) None))
+-- ---- how many elements
 
-pub chosen : (r : Option Code) (a b c : Bool) (content t : Text) → cond a (Some E100) (cond b (Some E099) (cond c (Some S06) None)) ≡ path_fault content t → r ≡ cond a (Some E100) (cond b (Some E099) (cond c (Some S06) None)) → r ≡ path_fault content t
-chosen r a b c content t e h = h ∙ e
+pub deep_is : (t : Text) (n : ℕ) → n ≡ count_by (λ b. b == 47) t → nat_le 128 n ≡ nat_lt 128 (length (elements t))
+deep_is t n h = ap (nat_le 128) h ∙ one_more (count_by (λ b. b == 47) t) ∙ ap (nat_lt 128) (sym (length-slice_split (λ b. b == 47) t))
+  where
+    one_more : (m : ℕ) → nat_le 128 m ≡ nat_lt 128 (m + 1)
+    one_more m = grind (arith, nat_tests)
+
+-- ---- an element is no name
+
+any_either : (p q : Text → Bool) (xs : Place) → list_any (λ x. p x || q x) xs ≡ (list_any p xs || list_any q xs)
+any_either p q [] = refl
+any_either p q (x ∷ xs) = ap (λ b. (p x || q x) || b) (any_either p q xs) ∙ by (p x) (q x) (list_any p xs) (list_any q xs)
+  where
+    by : (a b c d : Bool) → ((a || b) || (c || d)) ≡ ((a || c) || (b || d))
+    by true b c d = refl
+    by false true true d = refl
+    by false true false d = refl
+    by false false c d = refl
+
+abbrev pub has_zero : Text → Bool
+has_zero n = list_any (λ b. b == 0) n
+
+zero_behind : (c : ℕ) (xs : Place) → (xs ≡ [] → ⊥) → list_any has_zero (onto_first c xs) ≡ (c == 0 || list_any has_zero xs)
+zero_behind c [] h = absurd (h refl)
+zero_behind c (x ∷ xs) h = or_assoc (c == 0) (has_zero x) (list_any has_zero xs)
+
+zero_somewhere : (t : Text) → list_any has_zero (elements t) ≡ has_zero t
+zero_somewhere [] = refl
+zero_somewhere (c ∷ t) = by (c == 47) refl (zero_somewhere t)
+  where
+    by : (b : Bool) → (c == 47) ≡ b → list_any has_zero (elements t) ≡ has_zero t → list_any has_zero (cond b ([] ∷ elements t) (onto_first c (elements t))) ≡ (c == 0 || has_zero t)
+    by true e h = h ∙ ap (λ d. d == 0 || has_zero t) (sym (slash_is c e))
+    by false e h = zero_behind c (elements t) (some_element t) ∙ ap (λ b. c == 0 || b) h
+
+pub no_name_is : (t : Text) → list_any is_no_name (elements t) ≡ (list_any is_long (elements t) || list_any (λ b. b == 0) t)
+no_name_is t = any_either is_long has_zero (elements t) ∙ ap (λ b. list_any is_long (elements t) || b) (zero_somewhere t)
+
+-- ---- the first elements
+
+pub cut_first : (t : Text) (r : Option (Bor Text × Bor Text)) → IsSplitOnceResult 47 t r → MatchOption r (elements t ≡ t ∷ []) (λ x. elements t ≡ x.0.now ∷ elements x.1.now)
+cut_first t r h = by r (split_once_first 47 t r h (lit< tt))
+  where
+    by : (o : Option (Bor Text × Bor Text)) → MatchOption o (position_or_len (λ b. b == 47) t ≡ length t) (λ x. (position_or_len (λ b. b == 47) t < length t) × (x.0.now ≡ before_first (λ b. b == 47) t) × (x.1.now ≡ after_first (λ b. b == 47) t))
+        → MatchOption o (elements t ≡ t ∷ []) (λ x. elements t ≡ x.0.now ∷ elements x.1.now)
+    by None e = slice_split_none (λ b. b == 47) t (λ k d l. fails_before_first (λ b. b == 47) t k d (omega (arith, e, l)))
+    by (Some x) w = slice_split_first (λ b. b == 47) t 0 w.0 ∙ (λ i. sym w.1 i ∷ elements (sym w.2 i))
+
+pub content_path_from : (content t v n below rest : Text) → elements t ≡ v ∷ elements below → elements below ≡ n ∷ elements rest
+    → is_content_path content (elements t) ≡ (is_version_name v && text_eq n content)
+content_path_from content t v n below rest h k = ap (is_content_path content) (h ∙ ap (λ p. v ∷ p) k) ∙ by (elements rest) (some_element rest)
+  where
+    by : (p : Place) → (p ≡ [] → ⊥) → is_content_path content (v ∷ n ∷ p) ≡ (is_version_name v && text_eq n content)
+    by [] f = absurd (f refl)
+    by (m ∷ p) f = refl
 
 -- ---- the lines of bad paths
 

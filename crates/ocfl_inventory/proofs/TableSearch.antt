@@ -1,5 +1,5 @@
 -- Searching triples that ascend.
-use Rattle.std.proofs.Common.{◌≡◌, ℕ, zero, suc, ◌≤◌, ◌<◌, List, [], ◌∷◌, Bool, true, false, refl, sym, ◌∙◌, ap, subst, cond, map, length, get_or, take, drop, arith, Option, Some, None, option_map, filter_map, leb-true}
+use Rattle.std.proofs.Common.{◌≡◌, ℕ, zero, suc, ◌≤◌, ◌<◌, List, [], ◌∷◌, Bool, true, false, refl, sym, ◌∙◌, ap, cond, map, length, get_or, take, drop, arith, Option, Some, None, option_map, filter_map, leb-true}
 use Rattle.std.specs.Prelude.{not, find, slice_get, nat_le}
 use Rattle.std.proofs.lemmas.Bool.Decides.{nat_tests}
 use Rattle.std.specs.List.{cons_option}
@@ -11,8 +11,6 @@ use Rattle.ocfl_tree.specs.Place.{Place, place_cmp, place_eq}
 use Rattle.ocfl_tree.specs.Ascending.{IsBeforeAll, IsAscending}
 use Rattle.ocfl_tree.proofs.Orders.{true_not_false, place_cmp_total, place_cmp_exact, below_from_greater}
 use Rattle.ocfl_inventory.specs.Table.{Named, Triple, triple_cmp, named_cmp}
-use Rattle.ocfl_inventory.specs.TripleView.{named_view, triple_view}
-use Rattle.ocfl_inventory.specs.declared.triple.Triple.{Triple as MadeTriple}
 use Rattle.ocfl_inventory.proofs.Runs.{IsUnder, IsUp, not_below}
 use Rattle.ocfl_inventory.proofs.Once.{no_fall}
 
@@ -34,24 +32,20 @@ up_paths : (es : List Triple) → IsAscending triple_cmp es → IsUp place_cmp (
 up_paths [] h = tt
 up_paths (x ∷ es) h = (under_paths x es h.0, up_paths es h.1)
 
-same_paths : (xs : List MadeTriple) → map (λ e. e.path) (map triple_view xs) ≡ map (λ t. t.path) xs
-same_paths [] = refl
-same_paths (x ∷ xs) = ap (λ ps. x.path ∷ ps) (same_paths xs)
-
-under_at : (p : Place) (xs : List MadeTriple) (j : ℕ) (d : MadeTriple) → IsUnder place_cmp p (map (λ t. t.path) xs) → j < length xs → is_lt (place_cmp (get_or xs j d).path p) ≡ false
+under_at : (p : Place) (xs : List Triple) (j : ℕ) (d : Triple) → IsUnder place_cmp p (map (λ t. t.path) xs) → j < length xs → is_lt (place_cmp (get_or xs j d).path p) ≡ false
 under_at p [] j d h l = absurd (omega (arith, l))
 under_at p (x ∷ xs) zero d h l = h.0
 under_at p (x ∷ xs) (suc j) d h l = under_at p xs j d h.1 (omega arith)
 
-up_at : (xs : List MadeTriple) (i j : ℕ) (d : MadeTriple) → IsUp place_cmp (map (λ t. t.path) xs) → i ≤ j → j < length xs → is_lt (place_cmp (get_or xs j d).path (get_or xs i d).path) ≡ false
+up_at : (xs : List Triple) (i j : ℕ) (d : Triple) → IsUp place_cmp (map (λ t. t.path) xs) → i ≤ j → j < length xs → is_lt (place_cmp (get_or xs j d).path (get_or xs i d).path) ≡ false
 up_at [] i j d h k l = absurd (omega (arith, l))
 up_at (x ∷ xs) zero zero d h k l = not_below place_cmp_total place_cmp_exact x.path
 up_at (x ∷ xs) zero (suc j) d h k l = under_at x.path xs j d h.0 (omega arith)
 up_at (x ∷ xs) (suc i) zero d h k l = absurd (omega (arith, k))
 up_at (x ∷ xs) (suc i) (suc j) d h k l = up_at xs i j d h.1 (omega arith) (omega arith)
 
-paths_at : (xs : List MadeTriple) → IsAscending triple_cmp (map triple_view xs) → (i j : ℕ) (d : MadeTriple) → i ≤ j → j < length xs → is_lt (place_cmp (get_or xs j d).path (get_or xs i d).path) ≡ false
-paths_at xs up i j d k l = up_at xs i j d (subst (IsUp place_cmp) (same_paths xs) (up_paths (map triple_view xs) up)) k l
+paths_at : (xs : List Triple) → IsAscending triple_cmp xs → (i j : ℕ) (d : Triple) → i ≤ j → j < length xs → is_lt (place_cmp (get_or xs j d).path (get_or xs i d).path) ≡ false
+paths_at xs up i j d k l = up_at xs i j d (up_paths xs up) k l
 
 below_too : (p q r : Place) → is_lt (place_cmp q p) ≡ false → is_lt (place_cmp q r) ≡ true → is_lt (place_cmp p r) ≡ true
 below_too p q r h k = by (place_cmp p q) refl
@@ -66,7 +60,7 @@ below_too p q r h k = by (place_cmp p q) refl
     by Equal e = ap (λ s. is_lt (place_cmp s r)) (place_cmp_exact p q e) ∙ k
     by Greater e = absurd (true_not_false (sym (ap is_lt (below_from_greater place_cmp_total p q e)) ∙ h))
 
-pub parted_from : (xs : List MadeTriple) (q : Place) → IsAscending triple_cmp (map triple_view xs) → (i j : ℕ) (d : MadeTriple) → i ≤ j → j < length xs → is_lt (place_cmp (get_or xs j d).path q) ≡ true → is_lt (place_cmp (get_or xs i d).path q) ≡ true
+pub parted_from : (xs : List Triple) (q : Place) → IsAscending triple_cmp xs → (i j : ℕ) (d : Triple) → i ≤ j → j < length xs → is_lt (place_cmp (get_or xs j d).path q) ≡ true → is_lt (place_cmp (get_or xs i d).path q) ≡ true
 parted_from xs q up i j d k l h = below_too (get_or xs i d).path (get_or xs j d).path q (paths_at xs up i j d k l) h
 
 not_true : (b : Bool) → not b ≡ true → b ≡ false
@@ -77,10 +71,10 @@ not_false : (b : Bool) → not b ≡ false → b ≡ true
 not_false true h = refl
 not_false false h = absurd (true_not_false h)
 
-pub parted_above : (xs : List MadeTriple) (q : Place) → IsAscending triple_cmp (map triple_view xs) → (i j : ℕ) (d : MadeTriple) → i ≤ j → j < length xs → not (is_lt (place_cmp q (get_or xs j d).path)) ≡ true → not (is_lt (place_cmp q (get_or xs i d).path)) ≡ true
+pub parted_above : (xs : List Triple) (q : Place) → IsAscending triple_cmp xs → (i j : ℕ) (d : Triple) → i ≤ j → j < length xs → not (is_lt (place_cmp q (get_or xs j d).path)) ≡ true → not (is_lt (place_cmp q (get_or xs i d).path)) ≡ true
 parted_above xs q up i j d k l h = ap not (no_fall place_cmp_total place_cmp_exact (get_or xs i d).path (get_or xs j d).path q (paths_at xs up i j d k l) (not_true _ h))
 
-pub above_point : (xs : List MadeTriple) (q : Place) (n : ℕ) → IsPartitionPoint (λ t. not (is_lt (place_cmp q t.path)) ≡ true) (λ t. not (is_lt (place_cmp q t.path)) ≡ false) xs n → IsPartitionPoint (λ t. is_lt (place_cmp q t.path) ≡ false) (λ t. is_lt (place_cmp q t.path) ≡ true) xs n
+pub above_point : (xs : List Triple) (q : Place) (n : ℕ) → IsPartitionPoint (λ t. not (is_lt (place_cmp q t.path)) ≡ true) (λ t. not (is_lt (place_cmp q t.path)) ≡ false) xs n → IsPartitionPoint (λ t. is_lt (place_cmp q t.path) ≡ false) (λ t. is_lt (place_cmp q t.path) ≡ true) xs n
 above_point xs q n h = (λ k d a b. not_true _ (h.0 k d a b), λ k d a b. not_false _ (h.1 k d a b))
 
 -- ---- the digests of a place
@@ -89,10 +83,10 @@ module _ (q : Place) where
   abbrev pick : Triple → Option Named
   pick e = cond (place_eq e.path q) (Some e.named) None
 
-  abbrev IsLow : List MadeTriple → ℕ → Type 0
+  abbrev IsLow : List Triple → ℕ → Type 0
   IsLow xs i = IsPartitionPoint (λ t. is_lt (place_cmp t.path q) ≡ true) (λ t. is_lt (place_cmp t.path q) ≡ false) xs i
 
-  abbrev IsHigh : List MadeTriple → ℕ → Type 0
+  abbrev IsHigh : List Triple → ℕ → Type 0
   IsHigh xs j = IsPartitionPoint (λ t. is_lt (place_cmp q t.path) ≡ false) (λ t. is_lt (place_cmp q t.path) ≡ true) xs j
 
   below_apart : (p : Place) → is_lt (place_cmp p q) ≡ true → place_eq p q ≡ false
@@ -119,23 +113,23 @@ module _ (q : Place) where
       by Equal e f = refl
       by Greater e f = absurd (true_not_false (sym (ap is_lt (below_from_greater place_cmp_total p q e)) ∙ k))
 
-  skip : (x : MadeTriple) (ys : List Named) → place_eq x.path q ≡ false → cons_option (pick (triple_view x)) ys ≡ ys
-  skip x ys h = ap (λ b. cons_option (cond b (Some (named_view x.named)) None) ys) h
+  skip : (x : Triple) (ys : List Named) → place_eq x.path q ≡ false → cons_option (pick x) ys ≡ ys
+  skip x ys h = ap (λ b. cons_option (cond b (Some (x.named)) None) ys) h
 
-  keep : (x : MadeTriple) (ys : List Named) → place_eq x.path q ≡ true → cons_option (pick (triple_view x)) ys ≡ named_view x.named ∷ ys
-  keep x ys h = ap (λ b. cons_option (cond b (Some (named_view x.named)) None) ys) h
+  keep : (x : Triple) (ys : List Named) → place_eq x.path q ≡ true → cons_option (pick x) ys ≡ x.named ∷ ys
+  keep x ys h = ap (λ b. cons_option (cond b (Some (x.named)) None) ys) h
 
-  none_above : (xs : List MadeTriple) → ((k : ℕ) (d : MadeTriple) → 0 ≤ k → k < length xs → is_lt (place_cmp q (get_or xs k d).path) ≡ true) → filter_map pick (map triple_view xs) ≡ []
+  none_above : (xs : List Triple) → ((k : ℕ) (d : Triple) → 0 ≤ k → k < length xs → is_lt (place_cmp q (get_or xs k d).path) ≡ true) → filter_map pick xs ≡ []
   none_above [] h = refl
   none_above (x ∷ xs) h = skip x _ (above_apart x.path (h 0 x (omega arith) (omega arith))) ∙ none_above xs (λ k d a b. h (suc k) d (omega arith) (omega arith))
 
-  picked_first : (xs : List MadeTriple) (j : ℕ) → ((k : ℕ) (d : MadeTriple) → 0 ≤ k → k < length xs → is_lt (place_cmp (get_or xs k d).path q) ≡ false) → IsHigh xs j
-      → filter_map pick (map triple_view xs) ≡ map (λ t. named_view t.named) (take j xs)
+  picked_first : (xs : List Triple) (j : ℕ) → ((k : ℕ) (d : Triple) → 0 ≤ k → k < length xs → is_lt (place_cmp (get_or xs k d).path q) ≡ false) → IsHigh xs j
+      → filter_map pick xs ≡ map (λ t. t.named) (take j xs)
   picked_first xs zero h w = none_above xs w.1
   picked_first [] (suc j) h w = refl
   picked_first (x ∷ xs) (suc j) h w =
       keep x _ (between_same x.path (h 0 x (omega arith) (omega arith)) (w.0 0 x (omega arith) (omega arith)))
-      ∙ ap (λ ys. named_view x.named ∷ ys) (picked_first xs j (λ k d a b. h (suc k) d (omega arith) (omega arith)) (λ k d a b. w.0 (suc k) d (omega arith) (omega arith), λ k d a b. w.1 (suc k) d (omega arith) (omega arith)))
+      ∙ ap (λ ys. x.named ∷ ys) (picked_first xs j (λ k d a b. h (suc k) d (omega arith) (omega arith)) (λ k d a b. w.0 (suc k) d (omega arith) (omega arith), λ k d a b. w.1 (suc k) d (omega arith) (omega arith)))
 
   both_below : (p : Place) → is_lt (place_cmp p q) ≡ true → is_lt (place_cmp q p) ≡ true → ⊥
   both_below p h k = true_not_false (sym h ∙ ap is_lt (place_cmp_total.antisymm p q) ∙ by (place_cmp q p) k)
@@ -145,18 +139,18 @@ module _ (q : Place) where
       by Equal e = refl
       by Greater e = absurd (true_not_false (sym e))
 
-  not_past : (xs : List MadeTriple) (i j : ℕ) → i ≤ length xs → IsLow xs i → IsHigh xs j → j < i → ⊥
+  not_past : (xs : List Triple) (i j : ℕ) → i ≤ length xs → IsLow xs i → IsHigh xs j → j < i → ⊥
   not_past [] i j a low high l = omega (arith, a, l)
   not_past (x ∷ xs) i j a low high l = both_below (get_or (x ∷ xs) j x).path (low.0 j x (omega arith) l) (high.1 j x (omega arith) (omega (arith, a, l)))
 
-  pub in_order : (xs : List MadeTriple) (i j : ℕ) → i ≤ length xs → IsLow xs i → IsHigh xs j → i ≤ j
+  pub in_order : (xs : List Triple) (i j : ℕ) → i ≤ length xs → IsLow xs i → IsHigh xs j → i ≤ j
   in_order xs i j a low high = by (nat_le i j) refl
     where
       by : (b : Bool) → nat_le i j ≡ b → i ≤ j
       by true e = leb-true _ _ e
       by false e = let l : j < i = grind (arith, nat_tests) in absurd (not_past xs i j a low high l)
 
-  pub picked : (xs : List MadeTriple) (i j : ℕ) → i ≤ length xs → IsLow xs i → IsHigh xs j → filter_map pick (map triple_view xs) ≡ map (λ t. named_view t.named) (drop i (take j xs))
+  pub picked : (xs : List Triple) (i j : ℕ) → i ≤ length xs → IsLow xs i → IsHigh xs j → filter_map pick xs ≡ map (λ t. t.named) (drop i (take j xs))
   picked xs zero j a low high = picked_first xs j low.1 high
   picked [] (suc i) j a low high = absurd (omega (arith, a))
   picked (x ∷ xs) (suc i) zero a low high = absurd (not_past (x ∷ xs) (suc i) zero a low high (omega arith))
@@ -166,13 +160,13 @@ module _ (q : Place) where
 
 -- ---- the next path
 
-pub found_at : (test : Place → Bool) (xs : List MadeTriple) (n : ℕ) → IsPartitionPoint (λ t. test t.path ≡ false) (λ t. test t.path ≡ true) xs n → option_map (λ t. t.path) (slice_get xs n) ≡ find test (map (λ e. e.path) (map triple_view xs))
+pub found_at : (test : Place → Bool) (xs : List Triple) (n : ℕ) → IsPartitionPoint (λ t. test t.path ≡ false) (λ t. test t.path ≡ true) xs n → option_map (λ t. t.path) (slice_get xs n) ≡ find test (map (λ t. t.path) xs)
 found_at test [] n w = refl
-found_at test (x ∷ xs) zero w = ap (λ b. cond b (Some x.path) (find test (map (λ e. e.path) (map triple_view xs)))) (sym (w.1 0 x (omega arith) (omega arith)))
+found_at test (x ∷ xs) zero w = ap (λ b. cond b (Some x.path) (find test (map (λ t. t.path) xs))) (sym (w.1 0 x (omega arith) (omega arith)))
 found_at test (x ∷ xs) (suc n) w =
     found_at test xs n (λ k d b l. w.0 (suc k) d (omega arith) (omega arith), λ k d b l. w.1 (suc k) d (omega arith) (omega arith))
-    ∙ ap (λ b. cond b (Some x.path) (find test (map (λ e. e.path) (map triple_view xs)))) (sym (w.0 0 x (omega arith) (omega arith)))
+    ∙ ap (λ b. cond b (Some x.path) (find test (map (λ t. t.path) xs))) (sym (w.0 0 x (omega arith) (omega arith)))
 
-pub first_of : (xs : List MadeTriple) → option_map (λ t. t.path) (slice_get xs 0) ≡ slice_get (map (λ e. e.path) (map triple_view xs)) 0
+pub first_of : (xs : List Triple) → option_map (λ t. t.path) (slice_get xs 0) ≡ slice_get (map (λ t. t.path) xs) 0
 first_of [] = refl
 first_of (x ∷ xs) = refl

@@ -1,13 +1,14 @@
 -- The order of triples tells them apart.
 use Rattle.std.proofs.Common.{◌≡◌, refl, true, false}
-use Rattle.std.specs.Ordering.{bool_cmp, ordering_then}
+use Rattle.std.specs.Ordering.{bool_cmp, is_eq, ordering_then}
 use Rattle.std.specs.FinMap.{IsAntisymmetric}
 use Rattle.std.specs.declared.cmp.Ordering.{Ordering}
 use Rattle.std.specs.declared.cmp.Ordering.TheVariants.{Less, Equal, Greater}
 use Rattle.ocfl_digest.specs.Algorithm.{algorithm_cmp}
 use Rattle.ocfl_digest.specs.declared.algorithm.Algorithm.TheVariants.{Md5, Sha1, Sha256, Sha512, Sha512_256}
+use Rattle.ocfl_tree.specs.Place.{place_cmp, text_cmp}
 use Rattle.ocfl_tree.proofs.Orders.{place_cmp_exact}
-use Rattle.ocfl_inventory.specs.Table.{named_cmp, triple_cmp}
+use Rattle.ocfl_inventory.specs.Table.{Triple, named_cmp, triple_cmp}
 use Rattle.ocfl_inventory.proofs.Beginnings.{text_exact}
 
 then_parts : (r s : Ordering) → ordering_then r s ≡ Equal → (r ≡ Equal) × (s ≡ Equal)
@@ -54,3 +55,15 @@ triple_exact a b e =
     let one = place_cmp_exact a.path b.path w.0 in
     let two = named_exact a.named b.named w.1 in
     λ i. record { path = one i; named = two i }
+
+then_differs : (p f a r : Ordering) → is_eq r ≡ false → is_eq (ordering_then p (ordering_then f (ordering_then a r))) ≡ false
+then_differs Less f a r h = refl
+then_differs Greater f a r h = refl
+then_differs Equal Less a r h = refl
+then_differs Equal Greater a r h = refl
+then_differs Equal Equal Less r h = refl
+then_differs Equal Equal Greater r h = refl
+then_differs Equal Equal Equal r h = h
+
+pub digests_differ : (x y : Triple) → is_eq (text_cmp x.named.digest y.named.digest) ≡ false → is_eq (triple_cmp x y) ≡ false
+digests_differ x y h = then_differs (place_cmp x.path y.path) (bool_cmp x.named.fixity y.named.fixity) (algorithm_cmp x.named.algorithm y.named.algorithm) (text_cmp x.named.digest y.named.digest) h

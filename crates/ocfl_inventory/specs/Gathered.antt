@@ -1,5 +1,5 @@
 -- Gathering the listed paths of a block: kept ones with their digest, bad ones as their texts.
-use Rattle.std.specs.Prelude.{List, Bool, map, filter, flat_map, is_some}
+use Rattle.std.specs.Prelude.{List, Bool, nat_lt, length, map, filter, flat_map, is_some}
 use Rattle.ocfl_tree.specs.Place.{Text}
 use Rattle.ocfl_digest.specs.declared.algorithm.Algorithm.{Algorithm}
 use Rattle.ocfl_inventory.specs.DigestText.{folded}
@@ -7,6 +7,10 @@ use Rattle.ocfl_inventory.specs.Reading.{Block}
 use Rattle.ocfl_tree.specs.Path.{elements}
 use Rattle.ocfl_inventory.specs.ListedPath.{is_kept, path_fault}
 use Rattle.ocfl_inventory.specs.Table.{Triple}
+
+-- too long for a name
+abbrev pub is_long : Text → Bool
+is_long n = nat_lt 255 (length n)
 
 abbrev pub is_bad : Text → Text → Bool
 is_bad content t = is_some (path_fault content t)

@@ -9,10 +9,10 @@ pub mod Sums
 pub mod Entries
 pub mod Beside
 pub mod Parts
-pub mod PathOrder
 pub mod TripleOrder
 pub mod TripleView
 pub mod NextPath
 pub mod Gathered
 pub mod ListsOf
 pub mod ReadInventory
+pub mod SharedFront

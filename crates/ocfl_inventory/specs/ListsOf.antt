@@ -1,7 +1,6 @@
 -- What an inventory lists.
 use Rattle.std.specs.Prelude.{◌≡◌, List, ◌++◌, false, true, map, flat_map}
 use Rattle.ocfl_inventory.specs.Reading.{Inventory}
-use Rattle.ocfl_tree.specs.Path.{elements}
 use Rattle.ocfl_inventory.specs.Notes.{kept_paths, conflicts}
 use Rattle.ocfl_inventory.specs.Table.{Triple, triples_of}
 use Rattle.ocfl_inventory.specs.Gathered.{bad_texts}
@@ -15,4 +14,4 @@ all_triples i = triples_of false i.content i.algorithm i.manifest ++ flat_map (�
 pub record AreListed (i : Inventory) (l : Listed) : Type 0 where
   pub manifest_bad : map (λ t. t.now) l.manifest_bad.items ≡ bad_texts i.content i.manifest
   pub fixity_bad : map (λ t. t.now) l.fixity_bad.items ≡ flat_map (λ e. bad_texts i.content e.1) i.fixity
-  pub conflicting : map (λ t. elements t.now) l.conflicting.items ≡ conflicts (kept_paths i.content i.manifest)
+  pub conflicting : l.conflicting.items ≡ conflicts (kept_paths i.content i.manifest)

@@ -1,13 +1,14 @@
 -- What the functions of the reading give, beside the definitions.
-use Rattle.std.specs.Prelude.{◌≡◌, List, [], ◌∷◌, ◌++◌, option_map, Option, Some, None, Result, Ok, Err, map, codes, string_bytes}
+use Rattle.std.specs.Prelude.{◌≡◌, List, [], ◌∷◌, ◌++◌, option_map, Option, Some, None, Result, Ok, Err, map, flat_map, codes, string_bytes}
 use Rattle.std.specs.Prelude.{String}
 use Rattle.std.specs.Borrow.{Bor}
 use Rattle.std.specs.declared.alloc.Global.{Global}
 use Rattle.std.specs.BTreeMap.{BTreeMap}
-use Rattle.serde_json.specs.View.{members_view}
+use Rattle.std.specs.List.{cons_option}
+use Rattle.serde_json.specs.View.{view, members_view}
 use Rattle.serde_json.specs.declared.value.Value.{Value}
 use Rattle.serde_json.specs.Data.{Data, Members, no_members}
-use Rattle.serde_json.specs.Find.{get_member}
+use Rattle.serde_json.specs.Find.{as_str, get_member}
 use Rattle.ocfl_tree.specs.Place.{Text, text_cmp, text_eq}
 use Rattle.ocfl_report.specs.Line.{Note, note}
 use Rattle.ocfl_digest.specs.Algorithm.{supported, algorithm_name}
@@ -39,8 +40,16 @@ abbrev pub Gives : {X Y : Type 0} → (X → Y) → Result X Stop → Reading Y 
 Gives view (Ok x) read = read ≡ Ok (view x)
 Gives view (Err e) read = Fails e read
 
+-- the text of a value, if it is one
+abbrev pub text_in : Value → List Text
+text_in v = cons_option (as_str (view v)) []
+
+-- the texts among values
+abbrev pub texts_among : List Value → List Text
+texts_among vs = flat_map text_in vs
+
 abbrev pub listing_view : Listing → Text × List Text
-listing_view e = (e.key.now, map (λ t. t.now) e.texts.items)
+listing_view e = (e.key.now, texts_among e.values.now)
 
 abbrev pub block_view : List Listing → Block
 block_view = map listing_view

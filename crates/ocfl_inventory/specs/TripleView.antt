@@ -1,15 +1,11 @@
--- What stored triples say.
+-- What stored digests say.
 use Rattle.std.specs.Prelude.{string_bytes, List, if◌then◌else◌, Some, None, filter_map}
 use Rattle.ocfl_tree.specs.Place.{Place, place_eq}
 use Rattle.ocfl_inventory.specs.Table.{Named, Triple}
 use Rattle.ocfl_inventory.specs.declared.triple.Named.{Named as MadeNamed}
-use Rattle.ocfl_inventory.specs.declared.triple.Triple.{Triple as MadeTriple}
 
 abbrev pub named_view : MadeNamed → Named
 named_view n = record { fixity = n.fixity; algorithm = n.algorithm; digest = string_bytes n.digest }
-
-abbrev pub triple_view : MadeTriple → Triple
-triple_view t = record { path = t.path; named = named_view t.named }
 
 -- those of the triples that are a place's
 abbrev pub named_among : List Triple → Place → List Named

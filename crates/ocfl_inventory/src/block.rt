@@ -1,8 +1,9 @@
 //! The blocks of an inventory, read off a JSON value.
-ghost use Rattle.std.specs.Prelude.{◌≡◌, option_map, option_and_then, map, IfOk};
+ghost use Rattle.std.specs.Prelude.{◌≡◌, option_map, option_and_then, is_some, IfOk};
+ghost use Rattle.std.specs.List.{list_all};
 ghost use Rattle.serde_json.specs.View.{view, items_view, members_view};
-ghost use Rattle.serde_json.specs.Find.{get_member, as_array};
-ghost use Rattle.ocfl_inventory.specs.Parts.{block_view};
+ghost use Rattle.serde_json.specs.Find.{get_member, as_array, as_str};
+ghost use Rattle.ocfl_inventory.specs.Parts.{block_view, texts_among};
 ghost use Rattle.ocfl_inventory.specs.Reading.{texts_of, lists_of, block_of};
 
 use crate::listing::Listing;
@@ -16,31 +17,22 @@ pub(crate) fn member<'v>(map: &'v Map<String, Value>, name: &str) -> Option<&'v 
     map.get(name)
 }
 
-pub(crate) fn texts<'v>(
-    alloc: Global,
-    values: &'v Vec<Value>,
-) -> Result<Option<Vec<&'v str>>, AllocError>
-    ensures { IfOk result (λ o. option_map (λ v. map (λ t. t.now) v.items) o ≡ texts_of (items_view values.now.items)) }
+/// Whether all values are texts.
+fn are_texts(values: &[Value]) -> bool
+    ensures { result ≡ list_all (λ v. is_some (as_str (view v))) values.now }
 {
-    let mut texts = Vec::with_capacity(alloc, values.len())?;
-    for value in values {
-        let Some(text) = value.as_str() else {
-            return Ok(None);
-        };
-        texts.push(text)?;
-    }
-    Ok(Some(texts))
+    values.iter().all(|value| value.is_string())
 }
 
-pub(crate) fn texts_in<'v>(
-    alloc: Global,
-    value: &'v Value,
-) -> Result<Option<Vec<&'v str>>, AllocError>
-    ensures { IfOk result (λ o. option_map (λ v. map (λ t. t.now) v.items) o ≡ option_and_then texts_of (as_array (view value.now))) }
+/// The values of an array of texts.
+fn texts_in(value: &Value) -> Option<&[Value]>
+    ensures { option_map (λ vs. texts_among vs.now) result ≡ option_and_then texts_of (as_array (view value.now)) }
 {
-    match value.as_array() {
-        Some(values) => texts(alloc, values),
-        None => Ok(None),
+    let values = value.as_array()?;
+    if are_texts(values) {
+        Some(values)
+    } else {
+        None
     }
 }
 
@@ -52,12 +44,12 @@ pub(crate) fn lists<'v>(
 {
     let mut block = Vec::with_capacity(alloc, map.len())?;
     for (key, value) in map.iter() {
-        let Some(texts) = texts_in(alloc, value)? else {
+        let Some(values) = texts_in(value) else {
             return Ok(None);
         };
         block.push(Listing {
             key: key.as_str(),
-            texts,
+            values,
         })?;
     }
     Ok(Some(block))

@@ -2,7 +2,6 @@
 #![tactic(auto)]
 
 mod block;
-mod claims;
 mod conflicts;
 pub mod declaration;
 mod gather;
@@ -11,9 +10,9 @@ pub mod laws;
 mod listing;
 mod note;
 mod notes;
-mod order;
 mod paths;
 mod reading;
+mod sorting;
 mod sums;
 mod table;
 mod texts;

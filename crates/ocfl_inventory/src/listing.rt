@@ -1,8 +1,10 @@
 //! One key of a block.
 
-/// A key of a block, with the texts that it lists.
+use serde_json::Value;
+
+/// A key of a block, with the values that it lists, which are texts.
 #[derive(Drop)]
 pub(crate) struct Listing<'a> {
     pub(crate) key: &'a str,
-    pub(crate) texts: Vec<&'a str>,
+    pub(crate) values: &'a [Value],
 }

@@ -2,6 +2,7 @@
 ghost use Rattle.std.specs.Prelude.{◌≡◌, ◌++◌, ◌∷◌, [], map, flat_map, IfOk, OnOk, option_map, string_bytes};
 ghost use Rattle.std.specs.List.{cons_option};
 ghost use Rattle.ocfl_tree.specs.Place.{text_cmp, text_eq};
+ghost use Rattle.ocfl_tree.specs.Path.{slashed};
 ghost use Rattle.ocfl_report.specs.Line.{note};
 ghost use Rattle.ocfl_digest.specs.Algorithm.{algorithm_name};
 ghost use Rattle.ocfl_inventory.specs.ListedPath.{path_fault};
@@ -13,11 +14,12 @@ use crate::gather::Listed;
 use crate::keys::{Key, repeated};
 use crate::listing::Listing;
 use crate::note::Remark;
-use crate::paths::{elements, fault};
+use crate::paths::fault;
 use crate::reading::{Inventory, Supported};
 use crate::texts::put_in_order;
 use ocfl_digest::Algorithm;
 use ocfl_report::Code;
+use ocfl_tree::Place;
 use std::alloc::{AllocError, Global};
 
 /// Puts a line at the end.
@@ -39,8 +41,7 @@ fn add_fault(
     ensures { OnOk result (map remark_view out.new.items ≡ map remark_view out.old.items
         ++ cons_option (option_map (λ c. note c text.now) (path_fault content.now text.now)) []) }
 {
-    let parts = elements(alloc, text)?;
-    match fault(content, text, &parts) {
+    match fault(content, text) {
         Some(code) => add(alloc, code, text, out),
         None => Ok(()),
     }
@@ -75,6 +76,22 @@ fn add_each(
 {
     for detail in details {
         add(alloc, code, detail, out)?;
+    }
+    Ok(())
+}
+
+/// Puts a line for each place at the end.
+fn add_places(
+    alloc: Global,
+    code: Code,
+    places: &[Place],
+    out: &mut Vec<Remark>,
+) -> Result<(), AllocError>
+    ensures { OnOk result (map remark_view out.new.items ≡ map remark_view out.old.items
+        ++ map (λ p. note code (slashed p)) places.now) }
+{
+    for place in places {
+        add(alloc, code, place.path(), out)?;
     }
     Ok(())
 }
@@ -160,7 +177,7 @@ pub(crate) fn inventory_lines(
     add_repeated_fixity(alloc, &inventory.fixity, &mut lines)?;
     add_faults(alloc, inventory.content, lists.manifest_bad, &mut lines)?;
     add_faults(alloc, inventory.content, lists.fixity_bad, &mut lines)?;
-    add_each(alloc, Code::E101, &lists.conflicting, &mut lines)?;
+    add_places(alloc, Code::E101, &lists.conflicting, &mut lines)?;
     add_each(alloc, Code::S07, &inventory.unsupported, &mut lines)?;
     Ok(lines)
 }

@@ -1,55 +1,22 @@
 //! Listed paths.
-ghost use Rattle.std.specs.Prelude.{◌≡◌, map, IfOk, ◌==◌, ◌||◌, nat_lt, nat_eq, not, length, codes};
+ghost use Rattle.std.specs.Prelude.{◌≡◌, ◌∷◌, [], ◌≤◌, ◌==◌, ◌||◌, ◌&&◌, nat_lt, nat_eq, not, length, count_by, true, false, IfOk, MatchOption, codes};
 ghost use Rattle.std.specs.List.{list_any, list_all, starts_with, ends_with};
+ghost use Rattle.std.specs.Str.{all_ascii_digits};
 ghost use Rattle.std.specs.Char.{is_ascii_digit};
 ghost use Rattle.ocfl_tree.specs.Place.{text_eq};
-ghost use Rattle.ocfl_tree.specs.Name.{HasNameBytes};
-ghost use Rattle.ocfl_inventory.specs.PathOrder.{AreNames};
-ghost use Rattle.ocfl_tree.specs.Path.{elements as elements_of};
-ghost use Rattle.ocfl_inventory.specs.ListedPath.{is_version_name as is_version_text, is_dots as is_dots_text, is_no_name as is_no_name_text, is_content_path as is_content_place, path_fault};
-ghost use Rattle.std.specs.Str.{all_ascii_digits};
+ghost use Rattle.ocfl_tree.specs.Path.{elements};
+ghost use Rattle.ocfl_inventory.specs.ListedPath.{is_version_name as is_version_text, is_dots as is_dots_text, is_no_name as is_no_name_text, is_content_path as is_content_place, path_fault, is_kept};
+ghost use Rattle.ocfl_inventory.specs.Gathered.{is_long};
 
 use ocfl_report::Code;
-use ocfl_tree::{Name, NameStop, Place};
+use ocfl_tree::Place;
 use std::alloc::{AllocError, Global};
-
-pub(crate) fn elements<'t>(alloc: Global, text: &'t str) -> Result<Vec<&'t str>, AllocError>
-    ensures { IfOk result (λ v. map (λ x. x.now) v.items ≡ elements_of text.now) }
-{
-    text.split('/').collect(alloc)
-}
 
 /// Whether two texts are the same.
 pub(crate) fn is_text(text: &str, other: &str) -> bool
     ensures { result ≡ text_eq text.now other.now }
 {
     text == other
-}
-
-/// A name, where its bytes may be one.
-fn make_name(alloc: Global, text: &str) -> Result<Name, AllocError>
-    requires { HasNameBytes text.now }
-    ensures { IfOk result (λ name. name ≡ text.now) }
-{
-    let _bytes = text.as_bytes();
-    match Name::new(alloc, text) {
-        Ok(name) => Ok(name),
-        Err(NameStop::Memory) => Err(AllocError),
-        Err(NameStop::Bad) => unreachable!(),
-    }
-}
-
-/// The place that a path's elements lead to.
-pub(crate) fn place_of(alloc: Global, path: &str) -> Result<Place, AllocError>
-    requires { AreNames (elements_of path.now) }
-    ensures { IfOk result (λ place. place ≡ elements_of path.now) }
-{
-    let parts = elements(alloc, path)?;
-    let mut place = Place::root(alloc);
-    for part in &parts {
-        place.push(make_name(alloc, part)?)?;
-    }
-    Ok(place)
 }
 
 fn all_digits(bytes: &[u8]) -> bool
@@ -79,43 +46,78 @@ fn is_dots(text: &str) -> bool
     is_text(text, "") || is_text(text, ".") || is_text(text, "..")
 }
 
+fn has_dots(text: &str) -> bool
+    ensures { result ≡ list_any is_dots_text (elements text.now) }
+{
+    text.split('/').any(|element| is_dots(element))
+}
+
+fn has_long(text: &str) -> bool
+    ensures { result ≡ list_any is_long (elements text.now) }
+{
+    text.split('/').any(|element| element.len() > 255)
+}
+
 fn has_zero(bytes: &[u8]) -> bool
     ensures { result ≡ list_any (λ b. b == 0) bytes.now }
 {
-    bytes.iter().any(|b| *b == 0)
+    bytes.contains(&0)
 }
 
-fn is_no_name(text: &str) -> bool
-    ensures { result ≡ is_no_name_text text.now }
+fn has_no_name(text: &str) -> bool
+    ensures { result ≡ list_any is_no_name_text (elements text.now) }
 {
-    text.len() > 255 || has_zero(text.as_bytes())
+    has_long(text) || has_zero(text.as_bytes())
 }
 
-fn has_dots(parts: &[&str]) -> bool
-    ensures { result ≡ list_any (λ p. is_dots_text p.now) parts.now }
+/// How many slashes are in a run of bytes that is short enough to count them in one byte, and so many at a time.
+fn slashes_in(run: &[u8]) -> u8
+    requires { length run.now ≤ 128 }
+    ensures { result ≡ count_by (λ b. b == 47) run.now }
 {
-    parts.iter().any(|p| is_dots(p))
-}
-
-fn has_no_name(parts: &[&str]) -> bool
-    ensures { result ≡ list_any (λ p. is_no_name_text p.now) parts.now }
-{
-    parts.iter().any(|p| is_no_name(p))
-}
-
-fn is_content_path(content: &str, parts: &[&str]) -> bool
-    ensures { result ≡ is_content_place content.now (map (λ x. x.now) parts.now) }
-{
-    match parts {
-        [version, name, _, ..] => is_version_name(version) && is_text(name, content),
-        _ => false,
+    let mut count = 0;
+    for byte in run {
+        count += u8::from(*byte == b'/');
     }
+    count
 }
 
-fn is_outside(content: &str, parts: &[&str]) -> bool
-    ensures { result ≡ (not (is_content_place content.now (map (λ x. x.now) parts.now)) || nat_lt 128 (length parts.now) || list_any (λ p. is_no_name_text p.now) parts.now) }
+fn slashes(bytes: &[u8]) -> usize
+    ensures { result ≡ count_by (λ b. b == 47) bytes.now }
 {
-    !is_content_path(content, parts) || parts.len() > 128 || has_no_name(parts)
+    let mut rest = bytes;
+    let mut count = 0;
+    while rest.len() > 128 {
+        let (run, behind) = rest.split_at(128);
+        count += slashes_in(run) as usize;
+        rest = behind;
+    }
+    count + slashes_in(rest) as usize
+}
+
+fn is_deep(text: &str) -> bool
+    ensures { result ≡ nat_lt 128 (length (elements text.now)) }
+{
+    slashes(text.as_bytes()) >= 128
+}
+
+/// The first element of a path and what is left behind its slash, or none where there is no slash.
+fn split_first(text: &str) -> Option<(&str, &str)>
+    ensures { MatchOption result (elements text.now ≡ text.now ∷ []) (λ r. elements text.now ≡ r.0.now ∷ elements r.1.now) }
+{
+    text.split_once('/')
+}
+
+fn is_content_path(content: &str, text: &str) -> bool
+    ensures { result ≡ is_content_place content.now (elements text.now) }
+{
+    let Some((version, below)) = split_first(text) else {
+        return false;
+    };
+    let Some((name, _)) = split_first(below) else {
+        return false;
+    };
+    is_version_name(version) && is_text(name, content)
 }
 
 fn has_slash_at_end(text: &str) -> bool
@@ -124,19 +126,39 @@ fn has_slash_at_end(text: &str) -> bool
     text.as_bytes().starts_with(b"/") || text.as_bytes().ends_with(b"/")
 }
 
+/// Whether a path lies elsewhere than those that are kept, whatever its elements are.
+fn is_elsewhere(content: &str, text: &str) -> bool
+    ensures { result ≡ (not (is_content_place content.now (elements text.now)) || nat_lt 128 (length (elements text.now))) }
+{
+    !is_content_path(content, text) || is_deep(text)
+}
+
 /// What is wrong with a listed path.
-pub(crate) fn fault(content: &str, text: &str, parts: &[&str]) -> Option<Code>
-    requires { map (λ x. x.now) parts.now ≡ elements_of text.now }
+pub(crate) fn fault(content: &str, text: &str) -> Option<Code>
     ensures { result ≡ path_fault content.now text.now }
 {
     if has_slash_at_end(text) {
         return Some(Code::E100);
     }
-    if has_dots(parts) {
+    if has_dots(text) {
         return Some(Code::E099);
     }
-    if is_outside(content, parts) {
+    if is_elsewhere(content, text) || has_no_name(text) {
         return Some(Code::S06);
     }
     None
+}
+
+/// The place of a listed path that nothing is wrong with. That its elements are names is left to the place to find out.
+pub(crate) fn kept_place(
+    alloc: Global,
+    content: &str,
+    text: &str,
+) -> Result<Option<Place>, AllocError>
+    ensures { IfOk result (λ o. MatchOption o (is_kept content.now text.now ≡ false) (λ place. (is_kept content.now text.now ≡ true) × (place ≡ elements text.now))) }
+{
+    if is_elsewhere(content, text) {
+        return Ok(None);
+    }
+    Ok(Place::from_path(String::from_str(alloc, text)?))
 }

@@ -1,7 +1,7 @@
 //! The table of an inventory: the digests that it names for the paths of its object.
 ghost use Rattle.std.specs.Prelude.{◌≡◌, [], ◌≤◌, IfOk, map, option_map, true, false, length, slice_get};
 ghost use Rattle.std.specs.Ordering.{is_lt};
-ghost use Rattle.std.specs.List.Sorted.{IsPartitionPoint};
+ghost use Rattle.std.specs.List.Sorted.{IsPartitionPoint, IsSorted};
 ghost use Rattle.ocfl_tree.specs.Place.{place_cmp};
 ghost use Rattle.ocfl_tree.specs.Ascending.{IsAscending, ascending};
 ghost use Rattle.ocfl_report.specs.Line.{line_of, lines_at};
@@ -10,10 +10,9 @@ ghost use Rattle.ocfl_inventory.specs.Notes.{inventory_notes, notes_of};
 ghost use Rattle.ocfl_inventory.specs.Parts.{remark_view, inventory_view};
 ghost use Rattle.ocfl_inventory.specs.Table.{triple_cmp, table_from, table_of, named as named_in};
 ghost use Rattle.ocfl_inventory.specs.NextPath.{next_path};
-ghost use Rattle.ocfl_inventory.specs.TripleView.{named_view, triple_view, named_among};
+ghost use Rattle.ocfl_inventory.specs.TripleView.{named_view, named_among};
 ghost use Rattle.ocfl_inventory.specs.ReadInventory.{IsReading, note_line};
 
-use crate::claims::Claim;
 use crate::gather::gather;
 use crate::note::{Remark, Stop};
 use crate::notes::inventory_lines;
@@ -35,40 +34,39 @@ pub struct Table {
 }
 
 impl Model for Table {
-    ghost use Rattle.std.specs.Prelude.{map, string_bytes};
+    ghost use Rattle.std.specs.Prelude.{string_bytes};
     ghost use Rattle.ocfl_tree.specs.Ascending.{IsAscending};
     ghost use Rattle.ocfl_inventory.specs.Table.{Table as TableModel, triple_cmp};
-    ghost use Rattle.ocfl_inventory.specs.TripleView.{triple_view};
 
     ghost Value = { TableModel };
 
-    ghost view = { λ a. record { algorithm = a.algorithm; content = string_bytes a.content; triples = map triple_view a.triples.items } };
+    ghost view = { λ a. record { algorithm = a.algorithm; content = string_bytes a.content; triples = a.triples.items } };
 
-    ghost invariant = { λ a. IsAscending triple_cmp (map triple_view a.triples.items) };
+    ghost invariant = { λ a. IsAscending triple_cmp a.triples.items };
 }
 
 /// Where the paths that are not below a place begin.
 fn first_from(triples: &[Triple], place: &Place) -> usize
-    requires { IsAscending triple_cmp (map triple_view triples.now) }
+    requires { IsAscending triple_cmp triples.now }
     ensures found { IsPartitionPoint (λ t. is_lt (place_cmp t.path place.now) ≡ true) (λ t. is_lt (place_cmp t.path place.now) ≡ false) triples.now result }
     ensures bound { result ≤ length triples.now }
 {
-    triples.partition_point(|triple| triple.path.cmp(place).is_lt())
+    triples.partition_point(|triple| triple.path().cmp(place).is_lt())
 }
 
 /// Where the paths above a place begin.
 fn first_above(triples: &[Triple], place: &Place) -> usize
-    requires { IsAscending triple_cmp (map triple_view triples.now) }
+    requires { IsAscending triple_cmp triples.now }
     ensures found { IsPartitionPoint (λ t. is_lt (place_cmp place.now t.path) ≡ false) (λ t. is_lt (place_cmp place.now t.path) ≡ true) triples.now result }
     ensures bound { result ≤ length triples.now }
 {
-    triples.partition_point(|triple| !place.cmp(&triple.path).is_lt())
+    triples.partition_point(|triple| !place.cmp(triple.path()).is_lt())
 }
 
 /// Those of the triples that are a place's.
 fn triples_at<'t>(triples: &'t [Triple], place: &Place) -> &'t [Triple]
-    requires { IsAscending triple_cmp (map triple_view triples.now) }
-    ensures { map (λ t. named_view t.named) result.now ≡ named_among (map triple_view triples.now) place.now }
+    requires { IsAscending triple_cmp triples.now }
+    ensures { map (λ t. t.named) result.now ≡ named_among triples.now place.now }
 {
     let (front, _) = triples.split_at(first_above(triples, place));
     let (_, found) = front.split_at(first_from(triples, place));
@@ -79,48 +77,30 @@ fn path_at(triples: &[Triple], index: usize) -> Option<&Place>
     ensures { option_map (λ p. p.now) result ≡ option_map (λ t. t.path) (slice_get triples.now index) }
 {
     let triple = triples.get(index)?;
-    Some(&triple.path)
+    Some(triple.path())
 }
 
 fn clone_named(alloc: Global, triples: &[Triple]) -> Result<Vec<Named>, AllocError>
-    ensures { IfOk result (λ v. map named_view v.items ≡ map (λ t. named_view t.named) triples.now) }
+    ensures { IfOk result (λ v. map named_view v.items ≡ map (λ t. t.named) triples.now) }
 {
     let mut found = Vec::with_capacity(alloc, triples.len())?;
     for triple in triples {
-        found.push(triple.named.try_clone()?)?;
+        found.push(triple.named().try_clone()?)?;
     }
     Ok(found)
 }
 
-fn to_triples(alloc: Global, claims: &[Claim]) -> Result<Vec<Triple>, AllocError>
-    ensures { IfOk result (λ v. map triple_view v.items ≡ claims.now) }
-{
-    let mut triples = Vec::with_capacity(alloc, claims.len())?;
-    for claim in claims {
-        triples.push(claim.to_triple(alloc)?)?;
-    }
-    Ok(triples)
-}
-
-/// Puts the claims in order, each once.
-fn put_claims_in_order(claims: &mut Vec<Claim>)
-    ensures { claims.new.items ≡ ascending triple_cmp claims.old.items }
-{
-    claims.sort_unstable();
-    claims.dedup();
-}
-
-/// The table of claims that stand in any order, as often as they are listed.
+/// The table of sorted triples, which may stand more than once.
 fn make_table(
     alloc: Global,
     algorithm: Algorithm,
     content: &str,
-    mut claims: Vec<Claim>,
+    mut triples: Vec<Triple>,
 ) -> Result<Table, AllocError>
-    ensures { IfOk result (λ t. t ≡ record { algorithm = algorithm; content = content.now; triples = ascending triple_cmp claims.entry.items }) }
+    requires { IsSorted triple_cmp triples.items }
+    ensures { IfOk result (λ t. t ≡ record { algorithm = algorithm; content = content.now; triples = ascending triple_cmp triples.items }) }
 {
-    put_claims_in_order(&mut claims);
-    let triples = to_triples(alloc, &claims)?;
+    triples.dedup();
     let content = String::from_str(alloc, content)?;
     Ok(Table {
         algorithm,
@@ -134,13 +114,13 @@ fn finish(alloc: Global, inventory: Inventory) -> Result<(Vec<Remark>, Table), A
     ensures lines { IfOk result (λ r. map remark_view r.0.items ≡ inventory_notes (inventory_view inventory.entry)) }
     ensures table { IfOk result (λ r. r.1 ≡ table_from (inventory_view inventory.entry)) }
 {
-    let (claims, listed) = gather(alloc, &inventory)?;
+    let (triples, listed) = gather(alloc, &inventory)?;
     let remarks = inventory_lines(alloc, &inventory, listed)?;
     let algorithm = inventory.algorithm;
     let content = inventory.content;
     // its lists are not needed beside the table
     drop(inventory);
-    let table = make_table(alloc, algorithm, content, claims)?;
+    let table = make_table(alloc, algorithm, content, triples)?;
     Ok((remarks, table))
 }
 

@@ -312,6 +312,18 @@ fn paths_follow_as_places(rt: HostRuntime) -> Result<(), Fail> {
 }
 
 #[test]
+fn paths_that_share_long_beginnings_conflict_by_elements(rt: HostRuntime) -> Result<(), Fail> {
+    let alloc = rt.alloc();
+    let deep = "/some-long-directory".repeat(alloc, 60)?;
+    let manifest = format!(in alloc;
+        "{{\"c\":[\"v1/content{deep}/a/b\"],\"b\":[\"v1/content{deep}/a-b\"],\"a\":[\"v1/content{deep}/a\",\"v1/content{deep}/a-b/some-long-directory\"],\"d\":[\"v1/content{deep}/some-long-directory-b\"]}}"
+    )?;
+    let text = inventory(alloc, manifest.as_str(), "")?;
+    let wanted = format!(in alloc; "E101 v1/content{deep}/a\nE101 v1/content{deep}/a-b\n")?;
+    goes_on(&rt, alloc, text.as_bytes(), wanted.as_str())
+}
+
+#[test]
 fn an_algorithm_stands_where_no_table_does(rt: HostRuntime) -> Result<(), Fail> {
     let alloc = rt.alloc();
     let cases = [

@@ -1,10 +1,18 @@
 //! A path with a digest that is named for it.
-ghost use Rattle.std.specs.Prelude.{◌≡◌, IfOk};
+ghost use Rattle.std.specs.Prelude.{◌≡◌, IfOk, Some, refl, drop};
+ghost use Rattle.std.specs.Ordering.{eq_by_cmp};
+ghost use Rattle.std.specs.Cmp.{partial_equiv_from_equiv, partial_order_from_total};
+ghost use Rattle.std.proofs.lemmas.Cmp.{eq_by_cmp_equiv};
+ghost use Rattle.ocfl_inventory.specs.Table.{named_cmp, triple_cmp};
+ghost use Rattle.ocfl_inventory.specs.TripleOrder.{triple_total};
 ghost use Rattle.ocfl_inventory.specs.TripleView.{named_view};
+ghost use Rattle.ocfl_inventory.specs.SharedFront.{behind};
 
 use ocfl_digest::Algorithm;
-use ocfl_tree::Place;
-use std::alloc::{AllocError, Global};
+use ocfl_tree::{Place, cmp_elements};
+use std::alloc::AllocError;
+use std::cmp::Ordering;
+use std::marker::Model;
 
 /// A digest that an inventory names for a path.
 #[derive(Debug, Drop)]
@@ -27,11 +35,116 @@ impl Named {
             digest: self.digest.clone()?,
         })
     }
+
+    /// The manifest before fixity, then by the algorithm's name, then by the digest.
+    fn cmp_named(&self, other: &Named) -> Ordering
+        ensures { result ≡ named_cmp (named_view self.now) (named_view other.now) }
+    {
+        let algorithms = self.algorithm.name().cmp(other.algorithm.name());
+        let digests = self.digest.cmp(&other.digest);
+        self.fixity
+            .cmp(&other.fixity)
+            .then(algorithms.then(digests))
+    }
 }
 
 /// A path of an object, from the object's root down, with one of its digests.
 #[derive(Debug, Drop)]
 pub(crate) struct Triple {
-    pub(crate) path: Place,
-    pub(crate) named: Named,
+    path: Place,
+    named: Named,
+}
+
+impl Model for Triple {
+    ghost use Rattle.ocfl_inventory.specs.Table.{Triple as TripleModel};
+    ghost use Rattle.ocfl_inventory.specs.TripleView.{named_view};
+
+    ghost Value = { TripleModel };
+
+    ghost view = { λ a. record { path = a.path; named = named_view a.named } };
+}
+
+impl Triple {
+    pub(crate) fn new(path: Place, named: Named) -> Triple
+        ensures { result ≡ record { path = path; named = named_view named } }
+    {
+        Triple { path, named }
+    }
+
+    pub(crate) fn path(&self) -> &Place
+        ensures { result.now ≡ self.now.path }
+    {
+        &self.path
+    }
+
+    pub(crate) fn named(&self) -> &Named
+        ensures { named_view result.now ≡ self.now.named }
+    {
+        &self.named
+    }
+}
+
+/// What stands behind so many bytes.
+fn past(text: &str, count: usize) -> &[u8]
+    ensures { result.now ≡ drop count text.now }
+{
+    let bytes = text.as_bytes();
+    bytes.split_at(count.min(bytes.len())).1
+}
+
+impl Triple {
+    /// Compares triples by their paths without so many bytes at the front, and then as named digests go.
+    pub(crate) fn cmp_past(&self, other: &Triple, count: usize) -> Ordering
+        ensures { result ≡ triple_cmp (behind count self.now) (behind count other.now) }
+    {
+        let path = past(self.path.path(), count);
+        let beside = past(other.path.path(), count);
+        match cmp_elements(path, beside) {
+            Ordering::Equal => self.named.cmp_named(&other.named),
+            order => order,
+        }
+    }
+}
+
+impl PartialEq for Triple {
+    ghost eq = { eq_by_cmp triple_cmp };
+
+    ghost laws = { partial_equiv_from_equiv (eq_by_cmp_equiv triple_total) };
+
+    // Triples beside each other mostly have digests of their own, and paths that share many bytes.
+    fn eq(&self, other: &Self) -> bool {
+        self.named.digest == other.named.digest && self.cmp(other) == Ordering::Equal
+    }
+}
+
+impl Eq for Triple {
+    ghost laws = { eq_by_cmp_equiv triple_total };
+}
+
+impl PartialOrd for Triple {
+    ghost partial_cmp = { λ x y. Some (triple_cmp x y) };
+
+    ghost laws = { partial_order_from_total triple_total };
+
+    fn partial_cmp(&self, other: &Self) -> Option<Ordering> {
+        Some(self.cmp(other))
+    }
+}
+
+/// By the path, then the manifest before fixity, then by the algorithm's name, then by the digest.
+impl Ord for Triple {
+    ghost cmp = { triple_cmp };
+
+    ghost total = { triple_total };
+
+    ghost matches_partial_cmp = { λ x y. refl };
+
+    ghost matches_eq = { λ x y. refl };
+
+    fn cmp(&self, other: &Self) -> Ordering {
+        match self.path.cmp(&other.path) {
+            Ordering::Equal => self.named.cmp_named(&other.named),
+            order => order,
+        }
+    }
 }

@@ -223,6 +223,9 @@ names_cmp (a ∷ t) [] = some_above (elements (a ∷ t)) (some_element (a ∷ t)
     some_above (x ∷ xs) h = refl
 names_cmp (a ∷ t) (b ∷ u) = path_cmp_is (a ∷ t) (b ∷ u)
 
+pub elements_cmp : (t u : Text) → place_cmp (elements t) (elements u) ≡ place_cmp (names_of t) (names_of u)
+elements_cmp t u = sym (path_cmp_is t u) ∙ names_cmp t u
+
 pub names_begin : (t u : Text) → (length t == 0) ≡ false → path_begins t u ≡ begins (names_of t) (names_of u)
 names_begin [] u h = absurd (true_not_false h)
 names_begin (c ∷ t) [] h = none_begins (elements (c ∷ t)) (some_element (c ∷ t))

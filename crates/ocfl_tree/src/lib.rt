@@ -19,6 +19,7 @@ pub use build::BuildStop;
 pub use fs_tree::FsTree;
 pub use mem_tree::MemTree;
 pub use name::{Name, NameStop};
+pub use order::cmp_elements;
 pub use place::Place;
 pub use plan::Point;
 pub use store::{Entry, Kind, Opening, Trouble};

@@ -1,7 +1,7 @@
 //! The order of paths.
 ghost use Rattle.std.specs.Prelude.{◌≡◌, ◌≤◌, ◌<◌, length, drop, IsTrue};
 ghost use Rattle.ocfl_tree.specs.Place.{place_cmp, begins as begins_place};
-ghost use Rattle.ocfl_tree.specs.Path.{names_of, byte_cmp, path_cmp, path_begins, is_ended as is_ended_text};
+ghost use Rattle.ocfl_tree.specs.Path.{elements, names_of, byte_cmp, path_cmp, path_begins, is_ended as is_ended_text};
 
 use std::cmp::Ordering;
 
@@ -54,20 +54,24 @@ fn cmp_rest(text: &[u8], other: &[u8]) -> Ordering
     text.len().cmp(&other.len())
 }
 
-fn cmp_texts(text: &[u8], other: &[u8]) -> Ordering
-    ensures { result ≡ path_cmp text.now other.now }
+/// Compares two texts by what stands between their slashes, element by element, a beginning before its extensions. Paths
+/// in one directory share many bytes, which are passed by in long steps.
+#[tactic(auto, using(crate::proofs::PathOrders::path_cmp_is))]
+pub fn cmp_elements(text: &[u8], other: &[u8]) -> Ordering
+    ensures { result ≡ place_cmp (elements text.now) (elements other.now) }
 {
+    let (text, other) = past_shared(text, other, 512);
     let (text, other) = past_shared(text, other, 128);
     let (text, other) = past_shared(text, other, 16);
     cmp_rest(text, other)
 }
 
-/// Compares two paths name by name. Those in one directory share many bytes, which are passed by in long steps.
-#[tactic(auto, using(crate::proofs::PathOrders::names_cmp))]
+/// Compares two paths name by name.
+#[tactic(auto, using(crate::proofs::PathOrders::elements_cmp))]
 pub(crate) fn cmp_paths(path: &str, other: &str) -> Ordering
     ensures { result ≡ place_cmp (names_of path.now) (names_of other.now) }
 {
-    cmp_texts(path.as_bytes(), other.as_bytes())
+    cmp_elements(path.as_bytes(), other.as_bytes())
 }
 
 fn is_ended(rest: &[u8]) -> bool

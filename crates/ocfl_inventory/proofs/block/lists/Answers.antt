@@ -1,10 +1,10 @@
-use Rattle.std.proofs.Common.{◌≡◌, map, ◌++◌, ◌∷◌, [], string_bytes}
+use Rattle.std.proofs.Common.{◌≡◌, ◌++◌, ◌∷◌, [], string_bytes}
 use Rattle.std.specs.Map.Iter.{deref_pair}
 use Rattle.std.proofs.lemmas.Map.Iter.{rest_more}
 use Rattle.std.proofs.lemmas.List.{map_push}
 use Rattle.serde_json.specs.View.{members_view}
 use Rattle.ocfl_inventory.specs.Reading.{lists_of}
-use Rattle.ocfl_inventory.specs.Parts.{block_view}
+use Rattle.ocfl_inventory.specs.Parts.{block_view, texts_among}
 use Rattle.ocfl_inventory.proofs.Blocks.{lists_step}
 use Rattle.ocfl_inventory.proofs.block.lists.Goals as goal
 
@@ -13,5 +13,5 @@ loop-key-preserved c =
     let k = c.in-Some.key in
     let v = c.in-Some.value in
     let e : c.loop-key.key-iterator ≡ (k.now, v.now) ∷ c.next.new.self = rest_more deref_pair c.loop-key.key-iterator c.next.new.self c.next.result (k, v) c.in-Some.is c.next.ensures.steps in
-    let p : block_view c.push.new.self.items ≡ block_view c.loop-key.block.items ++ (string_bytes k.now, map (λ t. t.now) c.in-Some-2.texts.items) ∷ [] = rw (c.in_ok-push.ensures.items, map_push, c.as_str.ensures.value) in
-    rw p (lists_step c.loop-key.key-iterator c.next.new.self k.now v.now (map (λ t. t.now) c.in-Some-2.texts.items) (block_view c.loop-key.block.items) (lists_of (members_view c.args.map.now.entries)) e (rw c.in-Some-2.is at c.in_ok-texts.ensures) c.loop-key.invariant)
+    let p : block_view c.push.new.self.items ≡ block_view c.loop-key.block.items ++ (string_bytes k.now, texts_among c.in-Some-texts_in.values.now) ∷ [] = rw (c.in_ok-push.ensures.items, map_push, c.as_str.ensures.value) in
+    rw p (lists_step c.loop-key.key-iterator c.next.new.self k.now v.now (texts_among c.in-Some-texts_in.values.now) (block_view c.loop-key.block.items) (lists_of (members_view c.args.map.now.entries)) e (rw c.in-Some-texts_in.is at c.texts_in.ensures) c.loop-key.invariant)

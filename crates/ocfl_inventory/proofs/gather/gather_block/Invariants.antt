@@ -6,6 +6,6 @@ use Rattle.ocfl_inventory.proofs.gather.gather_block.Given as goal
 
 abbrev pub invariant-loop-listing : goal.invariant-loop-listing
 invariant-loop-listing l = record {
-  claims : l.found.claims.items ≡ l.initial.found.claims.items ++ triples_of l.source.fixity l.source.content.now l.source.algorithm (block_view (take l.listing-index l.block));
+  triples : l.found.triples.items ≡ l.initial.found.triples.items ++ triples_of l.source.fixity l.source.content.now l.source.algorithm (block_view (take l.listing-index l.block));
   bad : map (λ t. t.now) l.found.bad.items ≡ map (λ t. t.now) l.initial.found.bad.items ++ bad_texts l.source.content.now (block_view (take l.listing-index l.block));
 }

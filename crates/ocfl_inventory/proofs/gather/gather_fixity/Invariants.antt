@@ -7,6 +7,6 @@ use Rattle.ocfl_inventory.proofs.gather.gather_fixity.Given as goal
 
 abbrev pub invariant-loop-supported : goal.invariant-loop-supported
 invariant-loop-supported l = record {
-  claims : l.found.claims.items ≡ l.initial.found.claims.items ++ flat_map (λ e. triples_of true l.content e.0 e.1) (supported_view (take l.supported-index l.fixity));
+  triples : l.found.triples.items ≡ l.initial.found.triples.items ++ flat_map (λ e. triples_of true l.content e.0 e.1) (supported_view (take l.supported-index l.fixity));
   bad : map (λ t. t.now) l.found.bad.items ≡ map (λ t. t.now) l.initial.found.bad.items ++ flat_map (λ e. bad_texts l.content e.1) (supported_view (take l.supported-index l.fixity));
 }

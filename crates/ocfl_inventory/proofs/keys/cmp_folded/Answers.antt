@@ -1,5 +1,5 @@
 use Rattle.std.proofs.Common.{sym, ◌∙◌}
-use Rattle.ocfl_inventory.proofs.PathOrders.{folded_done}
+use Rattle.ocfl_inventory.proofs.FoldedTexts.{folded_done}
 use Rattle.ocfl_inventory.proofs.keys.cmp_folded.Goals as goal
 
 pub returns : goal.returns

@@ -1,5 +1,4 @@
 use Rattle.std.proofs.Common.{◌≤◌, sym, ◌∙◌, ap, map, drop, arith}
-use Rattle.ocfl_inventory.specs.TripleView.{named_view}
 use Rattle.ocfl_inventory.proofs.TableSearch.{in_order, picked}
 use Rattle.ocfl_inventory.proofs.table.triples_at.Goals as goal
 
@@ -10,5 +9,5 @@ split_at-requires-2 c =
 
 pub returns : goal.returns
 returns c =
-    ap (map (λ t. named_view t.named)) (c.split_at-2.ensures.back ∙ ap (drop c.first_from.result) c.split_at.ensures.front)
+    ap (map (λ t. t.named)) (c.split_at-2.ensures.back ∙ ap (drop c.first_from.result) c.split_at.ensures.front)
     ∙ sym (picked c.args.place.now c.args.triples.now c.first_from.result c.first_above.result c.first_from.ensures.bound c.first_from.ensures.found c.first_above.ensures.found)

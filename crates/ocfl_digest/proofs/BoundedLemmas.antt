@@ -10,7 +10,8 @@ use Rattle.ocfl_tree.specs.declared.store.Trouble.{Trouble}
 use Rattle.ocfl_tree.specs.declared.store.Trouble.TheVariants.{Device, Absent, Memory}
 use Rattle.ocfl_digest.specs.Bounded.{IsBoundedTo, ReadsBounded, StopsReading}
 use Rattle.ocfl_digest.specs.declared.bounded.Bounded.{Bounded}
-use Rattle.ocfl_digest.proofs.Reading.{reading_opens, reading_reads, closed_did, failed_did, whole_given, file_at-at, file_at-none}
+use Rattle.ocfl_tree.proofs.Reading.{reading_opens, reading_reads, reading_fails, reading_ends, file_at-at, file_at-none}
+use Rattle.ocfl_tree.proofs.Stores.{did_closed}
 
 -- these bytes, no more than limit, were given since s
 pub record IsBounding (told : Bool) (s t : Store) (p : Place) (limit : ℕ) (bytes : Text) : Type 0 where
@@ -62,9 +63,9 @@ bounding_ends told root s t u v p limit room bytes piece b is_room before reads 
     let all : min (length bytes) (limit + 1) ≡ length bytes = omega arith in
     record {
       bytes = bytes;
-      is_file = file_at-at s root p bytes same (whole_given s t u p bytes room (before.reading is) last (omega arith));
+      is_file = file_at-at s root p bytes same (reading_ends s t u p bytes room (before.reading is) last (omega arith));
       is_bounded = fits;
-      did = subst (λ m. Did s v (opening p m false ∷ []) [] 0) (sym all) (closed_did s u v _ _ _ now.did closes);
+      did = subst (λ m. Did s v (opening p m false ∷ []) [] 0) (sym all) (did_closed s u v _ _ _ now.did closes);
       closed = closes.closed;
       largest = closes.largest ∙ asks_more limit (length bytes) room s.largest t.largest u.largest within is_room (before.asks is) largest;
     }
@@ -84,7 +85,7 @@ bounding_passes told root s t u v p limit room bytes piece b is_room before read
       bytes = (bytes ++ piece) ++ now.left;
       is_file = file_at-at s root p ((bytes ++ piece) ++ now.left) same now.is_file;
       is_bounded = over _ (omega arith);
-      did = subst (λ m. Did s v (opening p m false ∷ []) [] 0) (sym most) (closed_did s u v _ _ _ now.did closes);
+      did = subst (λ m. Did s v (opening p m false ∷ []) [] 0) (sym most) (did_closed s u v _ _ _ now.did closes);
       closed = closes.closed;
       largest = closes.largest ∙ asks_more limit (length bytes) room s.largest t.largest u.largest within is_room (before.asks is) largest;
     }
@@ -103,7 +104,7 @@ read_stops told root s t u p limit room bytes Device is_room before fails other 
     record {
       openings = _;
       opened = (length bytes, within, refl);
-      did = failed_did s t u p bytes (before.reading is) fails;
+      did = reading_fails s t u p bytes (before.reading is) fails;
       absent = λ e. absurd cc;
       closed = fails.closed;
       largest = omega (arith, asked);
@@ -125,7 +126,7 @@ memory_stops told root s t u v p limit room bytes piece is_room before reads fit
     record {
       openings = _;
       opened = inr (length (bytes ++ piece), omega (arith, length-append bytes piece), refl);
-      did = closed_did s u v _ _ _ (reading_reads s t u p bytes piece room (before.reading is) reads).did closes;
+      did = did_closed s u v _ _ _ (reading_reads s t u p bytes piece room (before.reading is) reads).did closes;
       absent = λ e. absurd cc;
       closed = closes.closed;
       largest = omega (arith, asked, kept);

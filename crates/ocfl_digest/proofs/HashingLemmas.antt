@@ -17,7 +17,8 @@ use Rattle.ocfl_digest.specs.declared.digests.Digests.{Digests}
 use Rattle.ocfl_digest.specs.declared.hashers.Hashers.{Hashers}
 use Rattle.ocfl_digest.specs.declared.stop.Cause.TheVariants.{TooLong}
 use Rattle.ocfl_digest.specs.declared.wanted.Wanted.{Wanted}
-use Rattle.ocfl_digest.proofs.Reading.{reading_opens, reading_reads, closed_did, failed_did, whole_given, file_at-at, file_at-none, same_some}
+use Rattle.ocfl_tree.proofs.Reading.{reading_opens, reading_reads, reading_fails, reading_ends, file_at-at, file_at-none, same_some}
+use Rattle.ocfl_tree.proofs.Stores.{did_closed}
 
 -- the largest read so far, where n bytes were given in reads that ask for 65,536
 abbrev pub AsksBlocks : Store → Store → ℕ → Type 0
@@ -86,10 +87,10 @@ hashing_ends told s t u v root p w h k d n room count is_room before short piece
     let asked = asks_more n room s.largest t.largest u.largest is_room (before.asks is) (largest is) short in
     record {
       bytes = before.bytes;
-      is_file = file_at-at s root p before.bytes same (whole_given s t u p before.bytes room (before.reading is) reads (omega arith));
+      is_file = file_at-at s root p before.bytes same (reading_ends s t u p before.bytes room (before.reading is) reads (omega arith));
       digests = digests before.bytes fed;
       length_is = sym before.length_is;
-      did = subst (λ m. Did s v (opening p m false ∷ []) [] 0) before.length_is (closed_did s u v _ _ _ now.did (closes is));
+      did = subst (λ m. Did s v (opening p m false ∷ []) [] 0) before.length_is (did_closed s u v _ _ _ now.did (closes is));
       closed = (closes is).closed;
       largest = (closes is).largest ∙ asked;
     }
@@ -120,7 +121,7 @@ read_stops told root s t u p w h n room Device is_room before short fails other 
     let asked = asks_more n room s.largest t.largest u.largest is_room (before.asks is) largest short in
     record {
       fits = λ bytes at_place. omega (arith, before.length_is, given_within s t root p before.bytes same (before.reading is) bytes at_place);
-      did = subst (λ m. Did s u (opening p m true ∷ []) [] 1) before.length_is (failed_did s t u p before.bytes (before.reading is) fails);
+      did = subst (λ m. Did s u (opening p m true ∷ []) [] 1) before.length_is (reading_fails s t u p before.bytes (before.reading is) fails);
       closed = fails.closed;
       largest = omega (arith, asked);
     }
@@ -143,7 +144,7 @@ too_long_stops told root s t u p w h n before long closes is same =
         omega (arith, before.length_is, length-append before.bytes now.left),
         omega (arith, before.short),
       );
-      did = subst (λ m. Did s u (opening p m false ∷ []) [] 0) before.length_is (closed_did s t u _ _ _ now.did (closes is));
+      did = subst (λ m. Did s u (opening p m false ∷ []) [] 0) before.length_is (did_closed s t u _ _ _ now.did (closes is));
       closed = (closes is).closed;
       largest = omega (arith, asked, kept);
     }

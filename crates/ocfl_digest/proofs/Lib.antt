@@ -1,5 +1,4 @@
 pub mod Names
 pub mod HashersLemmas
-pub mod Reading
 pub mod HashingLemmas
 pub mod BoundedLemmas

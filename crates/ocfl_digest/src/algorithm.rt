@@ -1,6 +1,7 @@
 ghost use Rattle.std.specs.Prelude.{◌≡◌};
-ghost use Rattle.ocfl_tree.specs.Place.{text_eq};
 ghost use Rattle.ocfl_digest.specs.Algorithm.{algorithm_name, algorithm_named};
+
+use ocfl_tree::is_text;
 
 /// A digest algorithm that is computed, in the order of the names.
 #[derive(Clone, Copy, Debug, PartialEq, Eq)]
@@ -15,13 +16,6 @@ pub enum Algorithm {
     Sha512,
     /// `sha512/256`, the SHA-512/256 of FIPS 180-4.
     Sha512_256,
-}
-
-/// Whether two texts are the same.
-fn is_text(text: &str, other: &str) -> bool
-    ensures { result ≡ text_eq text.now other.now }
-{
-    text == other
 }
 
 impl Algorithm {

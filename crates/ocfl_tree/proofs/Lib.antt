@@ -1,3 +1,4 @@
+pub mod Bools
 pub mod Changes
 pub mod Listings
 pub mod Lists

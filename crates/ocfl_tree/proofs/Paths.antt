@@ -1,5 +1,5 @@
 -- The names of a path.
-use Rattle.std.proofs.Common.{◌≡◌, ◌≢◌, ◌⊎◌, inl, inr, ℕ, suc, ◌+◌, ◌<◌, [], ◌∷◌, ◌++◌, Bool, true, false, refl, sym, ◌∙◌, ap, cond, length, get_or, arith}
+use Rattle.std.proofs.Common.{◌≡◌, ◌≢◌, ◌⊎◌, inl, inr, ℕ, zero, suc, ◌+◌, ◌<◌, [], ◌∷◌, ◌++◌, Bool, true, false, refl, sym, ◌∙◌, ap, cond, length, get_or, arith}
 use Rattle.std.specs.Prelude.{◌==◌, nat_eq}
 use Rattle.std.specs.List.{onto_first, count_by}
 use Rattle.std.specs.Cmp.Lexicographic.{pointwise}
@@ -7,16 +7,16 @@ use Rattle.std.proofs.lemmas.Bool.Decides.{eqb_tells}
 use Rattle.std.proofs.lemmas.Slice.Eq.{bytes_eq-Decides}
 use Rattle.std.proofs.lemmas.List.Splits.{length-slice_split}
 use Rattle.ocfl_tree.specs.Place.{Text, Place}
-use Rattle.ocfl_tree.specs.Path.{elements, names_of, slashed, below}
+use Rattle.ocfl_tree.specs.Path.{elements, names_of, slashed, below, joined}
 use Rattle.ocfl_tree.specs.Name.{IsName, IsPlace}
 use Rattle.ocfl_tree.proofs.Names.{place_push}
-use Rattle.std.proofs.Common.{Bor, Option, Some, None, MatchOption, Result, Ok, Err, OnOk, OnErr, subst, length-append}
+use Rattle.std.proofs.Common.{Bor, Option, Some, None, MatchOption, Result, Ok, Err, OnOk, OnErr, subst, length-append, append-nil}
 use Rattle.std.proofs.Common.{◌≤◌, take, drop}
 use Rattle.std.specs.Str.Pattern.{RFindsChar}
-use Rattle.std.proofs.lemmas.Str.Pattern.{NoCharPasses-char, drop_at_char}
-use Rattle.std.proofs.lemmas.List.{take-append-drop}
+use Rattle.std.proofs.lemmas.Str.Pattern.{NoCharPasses-char, drop_at_char, IsSplitOnceResult, split_parts}
+use Rattle.std.proofs.lemmas.List.{take-append-drop, drop-drop, drop_all, length-drop, take-take, take_more, take_all, same_from_push}
 use Rattle.std.proofs.lemmas.List.{get_or_push}
-use Rattle.std.proofs.lemmas.List.Elements.{All-head}
+use Rattle.std.proofs.lemmas.List.Elements.{All-head, All-tail, All-nil, All-append, All-cons, All-take, All-drop}
 use Rattle.ocfl_tree.proofs.Orders.{true_not_false}
 use Rattle.ocfl_tree.proofs.Places.{path_eq-Decides, not_decided}
 use Rattle.ocfl_tree.proofs.PathOrders.{some_element, slash_is}
@@ -108,9 +108,12 @@ last_name t (c ∷ front) n e h k =
     let names : names_of t ≡ elements (c ∷ front) ++ n ∷ [] = ap names_of e ∙ elements-append (c ∷ front) n ∙ ap (λ ns. elements (c ∷ front) ++ ns) (lone_element n h) in
     (names, last_is (elements (c ∷ front)) n (subst IsPlace names k))
 
+only_element : (t : Text) → (length t == 0) ≡ false → Lacks t → names_of t ≡ t ∷ []
+only_element [] some h = absurd (true_not_false some)
+only_element (c ∷ t) some h = lone_element (c ∷ t) h
+
 only_name : (t : Text) → (length t == 0) ≡ false → Lacks t → IsPlace (names_of t) → IsLast t [] t
-only_name [] some h k = absurd (true_not_false some)
-only_name (c ∷ t) some h k = let names = lone_element (c ∷ t) h in (names, last_is [] (c ∷ t) (subst IsPlace names k))
+only_name t some h k = let names = only_element t some h in (names, last_is [] t (subst IsPlace names k))
 
 abbrev Parts : Type 0
 Parts = Option (Bor Text × Bor Text)
@@ -138,6 +141,80 @@ last_of_some t r x is e k =
 
 pub last_of_none : (t : Text) (r : Parts) → r ≡ None → IsSplit t r → (length t == 0) ≡ false → IsPlace (names_of t) → IsLast t [] t
 last_of_none t r is e some k = only_name t some (subst (IfParts t) is (parts_of t r e)) k
+
+-- ---- the first name
+
+-- a path whose first slash is known
+names_seam : (t u : Text) → names_of (t ++ 47 ∷ u) ≡ elements t ++ elements u
+names_seam [] u = refl
+names_seam (c ∷ t) u = elements-append (c ∷ t) u
+
+abbrev IsFirst : Text → Text → Text → Type 0
+IsFirst t n rest = names_of t ≡ n ∷ names_of rest
+
+first_name : (t n rest : Text) → t ≡ n ++ 47 ∷ rest → Lacks n → IsPlace (names_of t) → IsFirst t n rest
+first_name t n [] e h k =
+    let names : names_of t ≡ n ∷ [] ∷ [] = ap names_of e ∙ names_seam n [] ∙ ap (λ ns. ns ++ [] ∷ []) (lone_element n h) in
+    absurd ((All-head IsName [] [] (All-tail IsName n ([] ∷ []) (subst IsPlace names k))).fits.not_empty refl)
+first_name t n (c ∷ rest) e h k =
+    ap names_of e ∙ names_seam n (c ∷ rest) ∙ ap (λ ns. ns ++ elements (c ∷ rest)) (lone_element n h)
+
+abbrev IfSplit : Text → Parts → Type 0
+IfSplit t r = MatchOption r (Lacks t) (λ x. (t ≡ x.0.now ++ 47 ∷ x.1.now) × Lacks x.0.now)
+
+pub first_of_some : (t : Text) (r : Parts) (x : Bor Text × Bor Text) → r ≡ Some x → IsSplitOnceResult 47 t r → IsPlace (names_of t) → IsFirst t x.0.now x.1.now
+first_of_some t r x is e k =
+    let parts : IfSplit t (Some x) = subst (IfSplit t) is (split_parts 47 t r e (omega arith)) in
+    first_name t x.0.now x.1.now parts.0 parts.1 k
+
+pub first_of_none : (t : Text) (r : Parts) → r ≡ None → IsSplitOnceResult 47 t r → (length t == 0) ≡ false → IsFirst t t []
+first_of_none t r is e some = only_element t some (subst (IfSplit t) is (split_parts 47 t r e (omega arith)))
+
+-- ---- one path behind another
+
+pub names_joined : (t u : Text) → names_of (joined t u) ≡ names_of t ++ names_of u
+names_joined [] u = refl
+names_joined (b ∷ t) [] = sym (append-nil (elements (b ∷ t)))
+names_joined (b ∷ t) (c ∷ u) = elements-append (b ∷ t) (c ∷ u)
+
+pub names_of_name : (n : Text) → IsName n → names_of n ≡ n ∷ []
+names_of_name n h = names_alone n h.fits.not_empty (λ i l. (h.fits.plain i 0 l).0)
+
+pub place_joined : (t u w : Text) → w ≡ joined t u → IsPlace (names_of t) → IsPlace (names_of u) → IsPlace (names_of w)
+place_joined t u w e h k = subst IsPlace (sym (ap names_of e ∙ names_joined t u)) (All-append IsName (names_of t) (names_of u) h k)
+
+pub names_child : (t n : Text) → IsName n → names_of (joined t n) ≡ names_of t ++ n ∷ []
+names_child t n h = names_joined t n ∙ ap (λ ns. names_of t ++ ns) (names_of_name n h)
+
+pub place_child : (t n w : Text) → w ≡ joined t n → IsPlace (names_of t) → IsName n → IsPlace (names_of w)
+place_child t n w e h k = place_joined t n w e h (subst IsPlace (sym (names_of_name n k)) (All-cons IsName n [] k (All-nil IsName)))
+
+-- ---- so many names at the front, and what is behind them
+
+pub place_behind : (t u : Text) (i : ℕ) → names_of u ≡ drop i (names_of t) → IsPlace (names_of t) → IsPlace (names_of u)
+place_behind t u i e h = subst IsPlace (sym e) (All-drop IsName i (names_of t) h)
+
+pub place_front : (t u : Text) (i : ℕ) → names_of u ≡ take i (names_of t) → IsPlace (names_of t) → IsPlace (names_of u)
+place_front t u i e h = subst IsPlace (sym e) (All-take IsName i (names_of t) h)
+
+pub drop_one_more : (ns : Place) (i : ℕ) (n : Text) (rest : Place) → drop i ns ≡ n ∷ rest → drop (i + 1) ns ≡ rest
+drop_one_more ns i n rest e = sym (drop-drop 1 i ns) ∙ ap (drop 1) e
+
+pub drop_past : (ns : Place) (i j : ℕ) → drop i ns ≡ [] → i ≤ j → drop j ns ≡ []
+drop_past ns i j e h = drop_all j ns (omega (arith, length-drop i ns, ap length e))
+
+pub take_one_less : (ns front : Place) (i : ℕ) (n : Text) → i < length ns → take (i + 1) ns ≡ front ++ n ∷ [] → take i ns ≡ front
+take_one_less ns front i n h e = (same_from_push (take i ns) front (get_or ns i n) n (sym (take_more ns i n h) ∙ e)).0
+
+take_nil : (j : ℕ) → take {A = Text} j [] ≡ []
+take_nil zero = refl
+take_nil (suc j) = refl
+
+pub take_more_than_all : (ns : Place) (i j : ℕ) → length ns ≤ i → length ns ≤ j → take i ns ≡ take j ns
+take_more_than_all ns i j h k = take_all i ns h ∙ sym (take_all j ns k)
+
+pub take_none : (ns : Place) (i j : ℕ) → take i ns ≡ [] → j ≤ i → take j ns ≡ []
+take_none ns i j e h = sym (take-take j i ns h) ∙ ap (take j) e ∙ take_nil j
 
 -- ---- how many they are
 

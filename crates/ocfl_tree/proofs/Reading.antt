@@ -1,7 +1,8 @@
 -- A file that is opened, read piece by piece, and closed.
-use Rattle.std.proofs.Common.{◌≡◌, ℕ, ◌+◌, true, false, [], ◌∷◌, ◌++◌, length, Some, sym, ◌∙◌, ap, refl, append_assoc, append-nil, length-append, arith, add-zero, ◌<◌}
+use Rattle.std.specs.Prelude.{option_and_then}
+use Rattle.std.proofs.Common.{◌≡◌, ◌≢◌, Option, None, ℕ, ◌+◌, true, false, [], ◌∷◌, ◌++◌, length, Some, sym, ◌∙◌, ap, refl, append_assoc, append-nil, length-append, arith, add-zero, ◌<◌}
 use Rattle.ocfl_tree.specs.Place.{Text, Place}
-use Rattle.ocfl_tree.specs.Tree.{file, at}
+use Rattle.ocfl_tree.specs.Tree.{Tree, Leaf, file, dir, other, at, bytes_of, file_at}
 use Rattle.ocfl_tree.specs.Store.{Store, Did}
 use Rattle.ocfl_tree.specs.Calls.{Opens, Reads, ReadFails, Closes, opening, change_last, with_given, with_failure}
 use Rattle.ocfl_tree.specs.Reading.{IsReading}
@@ -14,7 +15,7 @@ use Rattle.ocfl_tree.proofs.Seen.{change_last-append}
 pub reading_opens : (s t : Store) (p : Place) → Opens s t p → IsReading s t p []
 reading_opens s t p o = record { left = o.bytes; is_file = o.is_file; rest = o.rest; did = o.did }
 
-same_some : {A : Type 0} (x y : A) → Some x ≡ Some y → x ≡ y
+pub same_some : {A : Type 0} (x y : A) → Some x ≡ Some y → x ≡ y
 same_some x y e = cc
 
 -- what a change of the last opening leaves of a reading
@@ -52,3 +53,17 @@ reading_closes s t u p given h c = did_both s t u (opening p (length given) fals
 -- while a file is open, no read answers that none is
 pub reading_stays_open : (s t u : Store) (p : Place) (given : Text) → IsReading s t p given → ReadFails t u Absent → ⊥
 reading_stays_open s t u p given h r = some_not_none h.left (sym h.rest ∙ (r.absent refl).0)
+
+-- ---- what `at` gives, as the bytes of a file
+
+pub file_at-at : (s : Store) (root : Tree) (p : Place) (bytes : Text) → s.tree ≡ root → at s.tree p ≡ Some (file bytes) → file_at root p ≡ Some bytes
+file_at-at s root p bytes same is = rw (← same, is) refl
+
+no_bytes : (leaf : Option Leaf) → ((bytes : Text) → leaf ≢ Some (file bytes)) → option_and_then bytes_of leaf ≡ None
+no_bytes None h = refl
+no_bytes (Some (file bytes)) h = absurd (h bytes refl)
+no_bytes (Some dir) h = refl
+no_bytes (Some other) h = refl
+
+pub file_at-none : (s : Store) (root : Tree) (p : Place) → s.tree ≡ root → ((bytes : Text) → at s.tree p ≢ Some (file bytes)) → file_at root p ≡ None
+file_at-none s root p same h = rw (← same) (no_bytes (at s.tree p) h)

@@ -27,6 +27,12 @@ abbrev pub below : Text → Text → Text
 below [] n = n
 below (b ∷ t) n = (b ∷ t) ++ 47 ∷ n
 
+-- the path that leads along one path, and from there along another
+abbrev pub joined : Text → Text → Text
+joined [] u = u
+joined (b ∷ t) [] = b ∷ t
+joined (b ∷ t) (c ∷ u) = (b ∷ t) ++ 47 ∷ (c ∷ u)
+
 -- whether a text without `/` and NUL is a name
 abbrev pub fits : Text → Bool
 fits n = not (length n == 0) && nat_le (length n) 255 && not (pointwise nat_eq n (codes ".")) && not (pointwise nat_eq n (codes ".."))

@@ -13,6 +13,7 @@ mod path;
 mod place;
 mod plan;
 mod store;
+mod text;
 mod tree;
 
 pub use build::BuildStop;
@@ -23,6 +24,7 @@ pub use order::cmp_elements;
 pub use place::Place;
 pub use plan::Point;
 pub use store::{Entry, Kind, Opening, Trouble};
+pub use text::{is_bytes, is_text};
 pub use tree::Tree;
 
 #[cfg(test)]

@@ -1,8 +1,8 @@
 //! Paths: the names of a place in one text, with `/` between them.
-ghost use Rattle.std.specs.Prelude.{◌≡◌, ◌≢◌, ◌≤◌, ◌+◌, ◌==◌, ◌↔◌, ◌∷◌, ◌++◌, [], length, IsTrue, IfOk, OnOk, OnErr, MatchOption, string_bytes};
+ghost use Rattle.std.specs.Prelude.{◌≡◌, ◌≢◌, ◌≤◌, ◌+◌, ◌==◌, ◌↔◌, ◌∷◌, ◌++◌, [], length, IsTrue, IfOk, OnOk, OnErr, MatchOption, string_bytes, take, drop};
 ghost use Rattle.std.specs.List.{list_all, list_any, count_by};
 ghost use Rattle.ocfl_tree.specs.Name.{IsName, IsPlace};
-ghost use Rattle.ocfl_tree.specs.Path.{elements, names_of, below, fits as fits_name};
+ghost use Rattle.ocfl_tree.specs.Path.{elements, names_of, below, joined, fits as fits_name};
 
 use crate::name::Name;
 use std::alloc::{AllocError, Global};
@@ -94,4 +94,65 @@ pub(crate) fn split_last(path: &str) -> Option<(&str, &str)>
         Some((parent, name)) => Some((parent, name)),
         None => Some(("", path)),
     }
+}
+
+/// The first name of a path, and the path that leads on from there.
+fn split_first(path: &str) -> Option<(&str, &str)>
+    requires { IsPlace (names_of path.now) }
+    ensures { MatchOption result (names_of path.now ≡ []) (λ p. names_of path.now ≡ p.0.now ∷ names_of p.1.now) }
+{
+    if path.is_empty() {
+        return None;
+    }
+    match path.split_once('/') {
+        Some((name, rest)) => Some((name, rest)),
+        None => Some((path, "")),
+    }
+}
+
+/// What of a path lies behind so many names.
+pub(crate) fn behind(path: &str, names: usize) -> &str
+    requires { IsPlace (names_of path.now) }
+    ensures { names_of result.now ≡ drop names (names_of path.now) }
+{
+    let mut rest = path;
+    for _ in 0..names {
+        match split_first(rest) {
+            Some((_, more)) => rest = more,
+            None => return rest,
+        }
+    }
+    rest
+}
+
+/// The path of so many names at the front.
+pub(crate) fn front(path: &str, names: usize) -> &str
+    requires { IsPlace (names_of path.now) }
+    ensures { names_of result.now ≡ take names (names_of path.now) }
+{
+    let mut front = path;
+    for _ in 0..count(path).saturating_sub(names) {
+        match split_last(front) {
+            Some((parent, _)) => front = parent,
+            None => return front,
+        }
+    }
+    front
+}
+
+/// The path that leads along one path, and from there along another, in one allocation.
+pub(crate) fn join(alloc: Global, path: &str, more: &str) -> Result<String, AllocError>
+    ensures { IfOk result (λ joined_path. string_bytes joined_path ≡ joined path.now more.now) }
+{
+    if path.is_empty() {
+        return String::from_str(alloc, more);
+    }
+    if more.is_empty() {
+        return String::from_str(alloc, path);
+    }
+    let mut whole = String::with_capacity(alloc, path.len() + 1 + more.len())?;
+    whole.push_str(path)?;
+    whole.push('/')?;
+    whole.push_str(more)?;
+    Ok(whole)
 }

@@ -1,4 +1,4 @@
-ghost use Rattle.std.specs.Prelude.{◌≡◌, ◌↔◌, ◌++◌, ◌∷◌, [], length, string_bytes, IfOk, OnOk, OnErr, IfSome, IsNone, MatchOption, Some, nat_eq, refl};
+ghost use Rattle.std.specs.Prelude.{◌≡◌, ◌↔◌, ◌++◌, ◌∷◌, [], length, string_bytes, IfOk, OnOk, OnErr, take, drop, IfSome, IsNone, MatchOption, Some, nat_eq, refl};
 ghost use Rattle.std.specs.Cmp.{partial_equiv_from_equiv, partial_order_from_agreeing_total};
 ghost use Rattle.std.specs.Cmp.Lexicographic.{pointwise, slice_cmp, nat_list_eq_equiv, nat_list_cmp_total, texts_ties, lists_equiv, lists_total, lists_ties};
 ghost use Rattle.std.specs.Ordering.{nat_cmp};
@@ -91,6 +91,48 @@ impl Place {
         ensures { result ≡ begins base.now self.now }
     {
         order::begins(base.path.as_str(), self.path.as_str())
+    }
+
+    /// The place of a name in this directory. The only error is want of memory.
+    #[tactic(auto, using(crate::proofs::Paths::names_child))]
+    pub fn child(&self, name: &Name) -> Result<Place, AllocError>
+        ensures { IfOk result (λ place. place ≡ self.now ++ name.now ∷ []) }
+    {
+        let alloc = *self.path.allocator();
+        Ok(Place {
+            path: path::join(alloc, self.path.as_str(), name.as_str())?,
+        })
+    }
+
+    /// The place that another leads to from this one. The only error is want of memory.
+    #[tactic(auto, using(crate::proofs::Paths::names_joined))]
+    pub fn join(&self, more: &Place) -> Result<Place, AllocError>
+        ensures { IfOk result (λ place. place ≡ self.now ++ more.now) }
+    {
+        let alloc = *self.path.allocator();
+        Ok(Place {
+            path: path::join(alloc, self.path.as_str(), more.path.as_str())?,
+        })
+    }
+
+    /// What leads on from behind the first so many names: the root where there are no more. The only error is want of memory.
+    pub fn behind(&self, names: usize) -> Result<Place, AllocError>
+        ensures { IfOk result (λ place. place ≡ drop names self.now) }
+    {
+        let alloc = *self.path.allocator();
+        Ok(Place {
+            path: String::from_str(alloc, path::behind(self.path.as_str(), names))?,
+        })
+    }
+
+    /// The place of the first so many names: the same place where there are no more. The only error is want of memory.
+    pub fn first(&self, names: usize) -> Result<Place, AllocError>
+        ensures { IfOk result (λ place. place ≡ take names self.now) }
+    {
+        let alloc = *self.path.allocator();
+        Ok(Place {
+            path: String::from_str(alloc, path::front(self.path.as_str(), names))?,
+        })
     }
 
     /// The path of the directory that the place lies in and its name there, and none for the storage root.

@@ -1,4 +1,4 @@
-use crate::{Entry, Name, NameStop, Place, Tree};
+use crate::{Entry, Name, NameStop, Place, Tree, is_bytes, is_text};
 use std::alloc::Global;
 use std::process::Abort;
 use std::test::Fail;
@@ -198,5 +198,40 @@ fn places_begin_with_what_lies_above_them(rt: HostRuntime) -> Result<(), Fail> {
     }
     assert!(rt; below.starts_with(&a) && !a.starts_with(&below));
     assert!(rt; !beside.starts_with(&a) && !root.starts_with(&a));
+    Ok(())
+}
+
+#[test]
+fn places_are_joined_and_cut(rt: HostRuntime) -> Result<(), Fail> {
+    let alloc = rt.alloc();
+    let names = ["v1", "content", "é", "a-b"];
+    let whole = place_of(alloc, &names)?;
+    for count in 0..6usize {
+        let front = whole.first(count)?;
+        let behind = whole.behind(count)?;
+        let cut = count.min(names.len());
+        assert!(rt; front == place_of(alloc, &names[..cut])?);
+        assert!(rt; behind == place_of(alloc, &names[cut..])?);
+        assert!(rt; front.join(&behind)? == whole);
+    }
+    let root = Place::root(alloc);
+    let name = Name::new(alloc, "a")?;
+    assert_eq!(rt; root.child(&name)?.path(), "a");
+    assert_eq!(rt; whole.child(&name)?.path(), "v1/content/é/a-b/a");
+    assert!(rt; root.join(&root)? == root && root.first(1)? == root && root.behind(1)? == root);
+    Ok(())
+}
+
+#[test]
+fn texts_are_compared_whole(rt: HostRuntime) -> Result<(), Fail> {
+    for (text, other, same) in [
+        ("", "", true),
+        ("a", "a", true),
+        ("a", "A", false),
+        ("a", "ab", false),
+    ] {
+        assert_eq!(rt; is_text(text, other), same);
+        assert_eq!(rt; is_bytes(text.as_bytes(), other.as_bytes()), same);
+    }
     Ok(())
 }

@@ -14,7 +14,7 @@ use Rattle.std.specs.Prelude.{nat_eq}
 use Rattle.std.specs.Ordering.{nat_cmp}
 use Rattle.std.specs.Cmp.Lexicographic.{pointwise, slice_cmp, lists_ties, texts_ties}
 use Rattle.std.proofs.lemmas.List.Filters.{dedup_is}
-use Rattle.std.proofs.lemmas.List.Sorted.{IsPermutation-map, IsPermutation-refl, IsPermutation-sym}
+use Rattle.std.proofs.lemmas.List.Sorted.{IsPermutation-map, IsPermutation-refl, IsPermutation-sym, IsPermutation-append_left, IsPermutation-trans}
 use Rattle.std.proofs.lemmas.List.{map-append}
 use Rattle.std.proofs.lemmas.List.Elements.{filter-append}
 use Rattle.std.specs.Cmp.Lexicographic.{nat_list_cmp_total}
@@ -136,3 +136,7 @@ ascending_permuted es fs p = ascending_unique triple_total triple_exact (ascendi
   λ i. (among_ascending triple_exact es z).0 (among_permuted triple_total triple_exact fs es (IsPermutation-sym es fs p) z ((among_ascending triple_exact fs z).1 i)),
   λ i. (among_ascending triple_exact fs z).0 (among_permuted triple_total triple_exact es fs p z ((among_ascending triple_exact es z).1 i)),
 ))
+
+-- what was gathered beside sorted triples, of all that is listed
+pub all_gathered : (in_manifest sorted in_fixity found : List Triple) → IsPermutation in_manifest sorted → IsPermutation (sorted ++ in_fixity) found → IsPermutation (in_manifest ++ in_fixity) found
+all_gathered in_manifest sorted in_fixity found h k = IsPermutation-trans _ _ _ (IsPermutation-append_left in_fixity in_manifest sorted h) k

@@ -3,6 +3,7 @@ pub mod Sidecars
 pub mod Declarations
 pub mod Blocks
 pub mod Stops
+pub mod Stopped
 pub mod Runs
 pub mod Once
 pub mod Beginnings
@@ -16,3 +17,4 @@ pub mod Gatherings
 pub mod TripleOrders
 pub mod Inventories
 pub mod SharedFronts
+pub mod Fits

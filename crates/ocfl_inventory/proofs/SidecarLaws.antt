@@ -5,6 +5,7 @@ use Rattle.std.specs.List.{list_all, starts_with}
 use Rattle.std.specs.Cmp.Lexicographic.{bytes_decides}
 use Rattle.hex.specs.Hex.{decode_of}
 use Rattle.hex.specs.declared.error.FromHexError.{FromHexError}
+use Rattle.ocfl_tree.proofs.Bools.{and_both}
 use Rattle.ocfl_tree.specs.Place.{Text}
 use Rattle.ocfl_inventory.specs.Sidecar.{is_blank, is_tail, sidecar_digits, leading, IsSidecar, decoded, is_after_digits, sidecar_of_len, sidecar_of}
 use Rattle.ocfl_digest.specs.declared.algorithm.Algorithm.{Algorithm}
@@ -15,9 +16,6 @@ true_not_false e = cc
 both : (a b : Bool) → a && b ≡ true → (a ≡ true) × (b ≡ true)
 both true b h = (refl, h)
 both false b h = absurd (true_not_false (sym h))
-
-and_both : (a b : Bool) → a ≡ true → b ≡ true → a && b ≡ true
-and_both a b h k = ap (λ x. x && b) h ∙ k
 
 take_drop_joined : (n : ℕ) (xs : Text) → take n xs ++ drop n xs ≡ xs
 take_drop_joined zero xs = refl

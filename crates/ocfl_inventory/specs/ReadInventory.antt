@@ -1,13 +1,14 @@
 -- What reading an inventory gives, beside the definitions.
-use Rattle.std.specs.Prelude.{◌≡◌, [], Result, Ok, Err, Vec, map}
+use Rattle.std.specs.Prelude.{◌≡◌, List, [], ◌∷◌, Result, Ok, Err, Vec, map}
 use Rattle.std.specs.declared.alloc.Global.{Global}
-use Rattle.ocfl_report.specs.Line.{Note, Line}
+use Rattle.ocfl_report.specs.Line.{Note, Line, lines_at}
 use Rattle.ocfl_inventory.specs.Reading.{Reading, Inventory}
 use Rattle.ocfl_inventory.specs.Notes.{inventory_notes}
 use Rattle.ocfl_inventory.specs.Table.{Table, table_from}
 use Rattle.ocfl_inventory.specs.Parts.{Fails, remark_view}
 use Rattle.ocfl_inventory.specs.declared.note.Remark.{Remark}
 use Rattle.ocfl_inventory.specs.declared.note.Stop.{Stop}
+use Rattle.ocfl_inventory.specs.declared.note.Stop.TheVariants as stops
 
 -- the lines and the table of an inventory that does not stop, or what stops, unless memory ran out
 abbrev pub IsReading : Result (Vec Remark Global × Table) Stop → Reading Inventory → Type 0
@@ -17,3 +18,13 @@ IsReading (Err e) read = Fails e read
 -- the line of a note about the whole object
 abbrev pub note_line : Note → Line
 note_line n = record { code = n.code; place = []; detail = n.detail }
+
+-- the table alone of an inventory that does not stop, or what stops, unless memory ran out
+abbrev pub IsTableReading : Result Table Stop → Reading Inventory → Type 0
+IsTableReading (Ok t) read = (i : Inventory) × (read ≡ Ok i) × (t ≡ table_from i)
+IsTableReading (Err e) read = Fails e read
+
+-- these are the line of what stopped, which want of memory has not
+abbrev pub SaysLines : Stop → List Line → Type 0
+SaysLines stops.Memory ls = ⊥
+SaysLines (stops.Because r) ls = ls ≡ lines_at [] (remark_view r ∷ [])

@@ -1,9 +1,10 @@
 -- The digests that an inventory names for the paths of its object (OCFL 1.1, 3.5.2 Manifest and 3.5.4 Fixity).
-use Rattle.std.specs.Prelude.{List, ◌++◌, Bool, true, false, if◌then◌else◌, Option, Some, None, Ok, Err, map, filter, filter_map, flat_map}
+use Rattle.std.specs.Prelude.{◌≤◌, ◌<◌, ◌^◌, length, List, ◌++◌, Bool, true, false, if◌then◌else◌, Option, Some, None, Ok, Err, map, filter, filter_map, flat_map}
+use Rattle.std.specs.List.{AllByRecursion}
 use Rattle.std.specs.Ordering.{bool_cmp, ordering_then}
 use Rattle.std.specs.declared.cmp.Ordering.{Ordering}
 use Rattle.ocfl_tree.specs.Place.{Text, Place, text_cmp, place_cmp, place_eq}
-use Rattle.ocfl_tree.specs.Ascending.{ascending}
+use Rattle.ocfl_tree.specs.Ascending.{IsAscending, ascending}
 use Rattle.ocfl_digest.specs.Algorithm.{algorithm_cmp}
 use Rattle.ocfl_digest.specs.declared.algorithm.Algorithm.{Algorithm}
 use Rattle.ocfl_inventory.specs.DigestText.{folded}
@@ -50,13 +51,13 @@ table_from i = record {
   triples = ascending triple_cmp (triples_of false i.content i.algorithm i.manifest ++ flat_map (λ e. triples_of true i.content e.0 e.1) i.fixity);
 }
 
+abbrev pub table_from_reading : Reading Inventory → Option Table
+table_from_reading (Ok i) = Some (table_from i)
+table_from_reading (Err n) = None
+
 -- the table of an inventory's bytes, and none where a line stops
 abbrev pub table_of : Text → Option Table
 table_of bytes = table_from_reading (inventory_of bytes)
-  where
-    table_from_reading : Reading Inventory → Option Table
-    table_from_reading (Ok i) = Some (table_from i)
-    table_from_reading (Err n) = None
 
 -- the digests that a table names for a path, in order
 abbrev pub named : Table → Place → List Named
@@ -65,3 +66,9 @@ named t q = filter_map (λ e. if place_eq e.path q then Some e.named else None) 
 -- the paths that a table names, ascending; a path stands as often as it has digests
 abbrev pub paths_of : Table → List Place
 paths_of t = map (λ e. e.path) t.triples
+
+-- a table as it may be read of any bytes
+pub record IsFit (t : Table) : Type 0 where
+  pub short : AllByRecursion (λ q. length q ≤ 128) (paths_of t)
+  pub ascends : IsAscending triple_cmp t.triples
+  pub few : length t.triples < 2 ^ 64

@@ -1,10 +1,10 @@
 //! Which version a directory declares.
-ghost use Rattle.std.specs.Prelude.{◌≡◌, ◌≤◌, length, true};
-ghost use Rattle.ocfl_inventory.specs.Declaration.{prefix as level_prefix, begins_with_digit, after_prefix, is_declaration, declared as declared_of};
+ghost use Rattle.std.specs.Prelude.{◌≡◌, ◌≢◌, ◌≤◌, ◌++◌, MatchOption, length, true};
+ghost use Rattle.ocfl_inventory.specs.Declaration.{prefix as level_prefix, begins_with_digit, after_prefix, is_declaration, declared as declared_of, declaration_name as name_of_declaration, declaration_bytes as bytes_of_declaration};
 ghost use Rattle.ocfl_inventory.specs.Entries.{is_counted, IsNext, IsVersionOf, meaning, file_names, PointsAtOne};
-ghost use Rattle.ocfl_tree.specs.Place.{text_eq};
+ghost use Rattle.ocfl_tree.specs.Place.{Text};
 
-use ocfl_tree::{Entry, Kind};
+use ocfl_tree::{Entry, Kind, is_bytes};
 
 /// Where a declaration stands: in the storage root, or in an object root.
 #[derive(Clone, Copy, Debug, PartialEq, Eq)]
@@ -34,13 +34,46 @@ pub enum Declared {
 }
 
 /// What the names of declarations begin with.
-fn prefix(level: Level) -> &'static [u8]
+fn prefix(level: Level) -> &'static str
     ensures { result.now ≡ level_prefix level }
 {
     match level {
-        Level::Root => b"0=ocfl_",
-        Level::Object => b"0=ocfl_object_",
+        Level::Root => "0=ocfl_",
+        Level::Object => "0=ocfl_object_",
     }
+}
+
+/// The name of the declaration of a known version (OCFL 1.1, 4.2 Root Conformance Declaration and 3.2 Object Conformance
+/// Declaration).
+pub fn declaration_name(level: Level, version: Version) -> &'static str
+    ensures { result.now ≡ name_of_declaration level version }
+{
+    match (level, version) {
+        (Level::Root, Version::V1_0) => "0=ocfl_1.0",
+        (Level::Root, Version::V1_1) => "0=ocfl_1.1",
+        (Level::Object, Version::V1_0) => "0=ocfl_object_1.0",
+        (Level::Object, Version::V1_1) => "0=ocfl_object_1.1",
+    }
+}
+
+/// The exact bytes of the declaration of a known version: its name after `0=`, and a line feed.
+pub fn declaration_bytes(level: Level, version: Version) -> &'static [u8]
+    ensures { result.now ≡ bytes_of_declaration level version }
+{
+    match (level, version) {
+        (Level::Root, Version::V1_0) => b"ocfl_1.0\n",
+        (Level::Root, Version::V1_1) => b"ocfl_1.1\n",
+        (Level::Object, Version::V1_0) => b"ocfl_object_1.0\n",
+        (Level::Object, Version::V1_1) => b"ocfl_object_1.1\n",
+    }
+}
+
+/// What of a name stands behind the prefix of declarations' names, known version or not; none where the name lacks that.
+pub fn version_in_name(level: Level, name: &str) -> Option<&str>
+    ensures { MatchOption result ((rest : Text) → name.now ≢ level_prefix level ++ rest)
+        (λ text. text.now ≡ after_prefix level name.now) }
+{
+    name.strip_prefix(prefix(level))
 }
 
 fn is_digit_first(bytes: &[u8]) -> bool
@@ -61,20 +94,22 @@ fn behind_prefix(level: Level, name: &[u8]) -> &[u8]
     rest
 }
 
-fn is_declaration_name(level: Level, name: &[u8]) -> bool
+/// Whether a file of this name counts as a declaration: `0=ocfl_` (in the storage root) or `0=ocfl_object_` (in an
+/// object root), and then an ASCII digit.
+pub fn is_declaration_name(level: Level, name: &str) -> bool
     ensures { result ≡ is_declaration level name.now }
 {
-    if !name.starts_with(prefix(level)) {
+    if !name.as_bytes().starts_with(prefix(level).as_bytes()) {
         return false;
     }
-    is_digit_first(behind_prefix(level, name))
+    is_digit_first(behind_prefix(level, name.as_bytes()))
 }
 
 fn is_declaration_entry(level: Level, entry: &Entry) -> bool
     ensures { result ≡ is_counted level entry.now }
 {
     match entry.kind {
-        Kind::File => is_declaration_name(level, entry.name.as_str().as_bytes()),
+        Kind::File => is_declaration_name(level, entry.name.as_str()),
         Kind::Dir | Kind::Other => false,
     }
 }
@@ -91,19 +126,13 @@ fn next_declaration(entries: &[Entry], level: Level, from: usize) -> Option<usiz
     None
 }
 
-fn is_text(bytes: &[u8], text: &[u8]) -> bool
-    ensures { result ≡ text_eq bytes.now text.now }
-{
-    bytes == text
-}
-
 fn known_version(text: &[u8]) -> Option<Version>
     ensures { IsVersionOf text.now result }
 {
-    if is_text(text, b"1.0") {
+    if is_bytes(text, b"1.0") {
         return Some(Version::V1_0);
     }
-    if is_text(text, b"1.1") {
+    if is_bytes(text, b"1.1") {
         return Some(Version::V1_1);
     }
     None

@@ -227,3 +227,15 @@ pub(crate) fn gather<'t>(
     };
     Ok((found.triples, listed))
 }
+
+/// Gathers the kept paths of an inventory with their digests, sorted and as often as they are listed, and makes nothing
+/// for lines.
+pub(crate) fn gather_kept(alloc: Global, inventory: &Inventory) -> Result<Vec<Triple>, AllocError>
+    ensures triples { IfOk result (λ v. IsPermutation (all_triples (inventory_view inventory.now)) v.items) }
+    ensures sorted { IfOk result (λ v. IsSorted triple_cmp v.items) }
+{
+    let manifest = gather_manifest(alloc, inventory)?;
+    let content = inventory.content;
+    let found = gather_beside(alloc, content, &inventory.fixity, manifest.triples)?;
+    Ok(found.triples)
+}

@@ -18,10 +18,14 @@ mod table;
 mod texts;
 mod triple;
 
-pub use declaration::{Declared, Level, Version};
+pub use declaration::{
+    Declared, Level, Version, declaration_bytes, declaration_name, is_declaration_name,
+    version_in_name,
+};
+pub use paths::is_version_name;
 pub use reading::algorithm_of;
 pub use sums::{Sum, sidecar};
-pub use table::Table;
+pub use table::{InventoryReading, Table, read_inventory};
 pub use triple::Named;
 
 #[cfg(test)]

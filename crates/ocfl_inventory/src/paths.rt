@@ -3,21 +3,13 @@ ghost use Rattle.std.specs.Prelude.{◌≡◌, ◌∷◌, [], ◌≤◌, ◌==�
 ghost use Rattle.std.specs.List.{list_any, list_all, starts_with, ends_with};
 ghost use Rattle.std.specs.Str.{all_ascii_digits};
 ghost use Rattle.std.specs.Char.{is_ascii_digit};
-ghost use Rattle.ocfl_tree.specs.Place.{text_eq};
 ghost use Rattle.ocfl_tree.specs.Path.{elements};
 ghost use Rattle.ocfl_inventory.specs.ListedPath.{is_version_name as is_version_text, is_dots as is_dots_text, is_no_name as is_no_name_text, is_content_path as is_content_place, path_fault, is_kept};
 ghost use Rattle.ocfl_inventory.specs.Gathered.{is_long};
 
 use ocfl_report::Code;
-use ocfl_tree::Place;
+use ocfl_tree::{Place, is_text};
 use std::alloc::{AllocError, Global};
-
-/// Whether two texts are the same.
-pub(crate) fn is_text(text: &str, other: &str) -> bool
-    ensures { result ≡ text_eq text.now other.now }
-{
-    text == other
-}
 
 fn all_digits(bytes: &[u8]) -> bool
     ensures { result ≡ list_all is_ascii_digit bytes.now }
@@ -31,7 +23,9 @@ fn are_digits(bytes: &[u8]) -> bool
     all_digits(bytes)
 }
 
-fn is_version_name(text: &str) -> bool
+/// Whether a name is that of a version's directory: `v` and then ASCII digits, at least one (OCFL 1.1, 3.3 Version
+/// Directories).
+pub fn is_version_name(text: &str) -> bool
     ensures { result ≡ is_version_text text.now }
 {
     match text.as_bytes() {

@@ -252,11 +252,18 @@ pub(crate) fn behind_object<'v>(
     })
 }
 
-fn stated_algorithm(alloc: Global, bytes: &[u8]) -> Result<Algorithm, Stop>
-    ensures { Gives (λ a. a) result (algorithm_stated bytes.now) }
+/// The digest algorithm that the members of an inventory name, where they name one of an inventory.
+pub(crate) fn stated_algorithm(
+    alloc: Global,
+    map: &Map<String, Value>,
+) -> Result<Option<Algorithm>, AllocError>
+    ensures { IfOk result (λ a. a ≡ result_ok (algorithm_in (members_view map.now.entries))) }
 {
-    let map = object(alloc, bytes)?;
-    algorithm(alloc, &map)
+    match algorithm(alloc, map) {
+        Ok(algorithm) => Ok(Some(algorithm)),
+        Err(Stop::Memory) => Err(AllocError),
+        Err(Stop::Because(_)) => Ok(None),
+    }
 }
 
 /// The digest algorithm that the bytes of an inventory name (OCFL 1.1, 3.5.1 Basic Structure).
@@ -266,8 +273,8 @@ fn stated_algorithm(alloc: Global, bytes: &[u8]) -> Result<Algorithm, Stop>
 pub fn algorithm_of(alloc: Global, bytes: &[u8]) -> Result<Option<Algorithm>, AllocError>
     ensures { IfOk result (λ a. a ≡ result_ok (algorithm_stated bytes.now)) }
 {
-    match stated_algorithm(alloc, bytes) {
-        Ok(algorithm) => Ok(Some(algorithm)),
+    match object(alloc, bytes) {
+        Ok(map) => stated_algorithm(alloc, &map),
         Err(Stop::Memory) => Err(AllocError),
         Err(Stop::Because(_)) => Ok(None),
     }

@@ -1,26 +1,29 @@
 //! The table of an inventory: the digests that it names for the paths of its object.
-ghost use Rattle.std.specs.Prelude.{◌≡◌, [], ◌≤◌, IfOk, map, option_map, true, false, length, slice_get};
+ghost use Rattle.std.specs.Prelude.{◌≡◌, [], ◌≤◌, ◌<◌, ◌^◌, IfOk, IfSome, None, map, option_map, true, false, length, slice_get};
 ghost use Rattle.std.specs.Ordering.{is_lt};
+ghost use Rattle.std.specs.Result.{result_ok};
 ghost use Rattle.std.specs.List.Sorted.{IsPartitionPoint, IsSorted};
 ghost use Rattle.ocfl_tree.specs.Place.{place_cmp};
 ghost use Rattle.ocfl_tree.specs.Ascending.{IsAscending, ascending};
 ghost use Rattle.ocfl_report.specs.Line.{line_of, lines_at};
-ghost use Rattle.ocfl_inventory.specs.Reading.{inventory_of};
-ghost use Rattle.ocfl_inventory.specs.Notes.{inventory_notes, notes_of};
-ghost use Rattle.ocfl_inventory.specs.Parts.{remark_view, inventory_view};
-ghost use Rattle.ocfl_inventory.specs.Table.{triple_cmp, table_from, table_of, named as named_in};
+ghost use Rattle.serde_json.specs.View.{members_view};
+ghost use Rattle.ocfl_inventory.specs.Reading.{algorithm_in, algorithm_of, inventory_of};
+ghost use Rattle.ocfl_inventory.specs.Notes.{inventory_notes, notes_of, reading_notes};
+ghost use Rattle.ocfl_inventory.specs.Parts.{remark_view, inventory_in, inventory_view};
+ghost use Rattle.ocfl_inventory.specs.Table.{IsFit, triple_cmp, table_from, table_from_reading, table_of, named as named_in};
 ghost use Rattle.ocfl_inventory.specs.NextPath.{next_path};
 ghost use Rattle.ocfl_inventory.specs.TripleView.{named_view, named_among};
-ghost use Rattle.ocfl_inventory.specs.ReadInventory.{IsReading, note_line};
+ghost use Rattle.ocfl_inventory.specs.ReadInventory.{IsReading, IsTableReading, SaysLines, note_line};
 
-use crate::gather::gather;
+use crate::gather::{gather, gather_kept};
 use crate::note::{Remark, Stop};
 use crate::notes::inventory_lines;
-use crate::reading::{Inventory, behind_object, object};
+use crate::reading::{Inventory, behind_object, object, stated_algorithm};
 use crate::triple::{Named, Triple};
 use ocfl_digest::Algorithm;
 use ocfl_report::Line;
 use ocfl_tree::Place;
+use serde_json::{Map, Value};
 use std::alloc::{AllocError, Global};
 use std::marker::Model;
 
@@ -98,7 +101,8 @@ fn make_table(
     mut triples: Vec<Triple>,
 ) -> Result<Table, AllocError>
     requires { IsSorted triple_cmp triples.items }
-    ensures { IfOk result (λ t. t ≡ record { algorithm = algorithm; content = content.now; triples = ascending triple_cmp triples.items }) }
+    ensures few { IfOk result (λ t. length t.triples < 2 ^ 64) }
+    ensures is { IfOk result (λ t. t ≡ record { algorithm = algorithm; content = content.now; triples = ascending triple_cmp triples.items }) }
 {
     triples.dedup();
     let content = String::from_str(alloc, content)?;
@@ -113,6 +117,7 @@ fn make_table(
 fn finish(alloc: Global, inventory: Inventory) -> Result<(Vec<Remark>, Table), AllocError>
     ensures lines { IfOk result (λ r. map remark_view r.0.items ≡ inventory_notes (inventory_view inventory.entry)) }
     ensures table { IfOk result (λ r. r.1 ≡ table_from (inventory_view inventory.entry)) }
+    ensures few { IfOk result (λ r. length r.1.triples < 2 ^ 64) }
 {
     let (triples, listed) = gather(alloc, &inventory)?;
     let remarks = inventory_lines(alloc, &inventory, listed)?;
@@ -124,13 +129,36 @@ fn finish(alloc: Global, inventory: Inventory) -> Result<(Vec<Remark>, Table), A
     Ok((remarks, table))
 }
 
-/// The lines and the table of an inventory that does not stop, or what stops it.
-fn read_inventory(alloc: Global, bytes: &[u8]) -> Result<(Vec<Remark>, Table), Stop>
-    ensures { IsReading result (inventory_of bytes.now) }
+/// The table of an inventory that does not stop, and none of its lines.
+fn finish_alone(alloc: Global, inventory: Inventory) -> Result<Table, AllocError>
+    ensures table { IfOk result (λ t. t ≡ table_from (inventory_view inventory.entry)) }
+    ensures few { IfOk result (λ t. length t.triples < 2 ^ 64) }
+{
+    let triples = gather_kept(alloc, &inventory)?;
+    let algorithm = inventory.algorithm;
+    let content = inventory.content;
+    // its lists are not needed beside the table
+    drop(inventory);
+    make_table(alloc, algorithm, content, triples)
+}
+
+/// The lines and the table of the members of an inventory that does not stop, or what stops it.
+fn read_members(alloc: Global, members: &Map<String, Value>) -> Result<(Vec<Remark>, Table), Stop>
+    ensures reading { IsReading result (inventory_in (members_view members.now.entries)) }
+    ensures few { IfOk result (λ r. length r.1.triples < 2 ^ 64) }
+{
+    let inventory = behind_object(alloc, members)?;
+    Ok(finish(alloc, inventory)?)
+}
+
+/// The table of an inventory that does not stop, or what stops it.
+fn read_table(alloc: Global, bytes: &[u8]) -> Result<Table, Stop>
+    ensures reading { IsTableReading result (inventory_of bytes.now) }
+    ensures few { IfOk result (λ t. length t.triples < 2 ^ 64) }
 {
     let map = object(alloc, bytes)?;
     let inventory = behind_object(alloc, &map)?;
-    Ok(finish(alloc, inventory)?)
+    Ok(finish_alone(alloc, inventory)?)
 }
 
 /// The line of a remark about the whole object.
@@ -154,28 +182,106 @@ fn to_lines(alloc: Global, remarks: Vec<Remark>) -> Result<Vec<Line>, AllocError
     Ok(lines)
 }
 
+/// What one parse of the bytes of an `inventory.json` gives.
+#[derive(Debug, Drop)]
+pub struct InventoryReading {
+    /// The digest algorithm that it names, `sha256` or `sha512`, where it names one of these.
+    pub algorithm: Option<Algorithm>,
+    /// The lines about it, at the root.
+    pub lines: Vec<Line>,
+    /// Its table, where nothing stops.
+    pub table: Option<Table>,
+}
+
+/// An inventory that stops: its line is the only one.
+fn stopped(
+    alloc: Global,
+    algorithm: Option<Algorithm>,
+    stop: Stop,
+) -> Result<InventoryReading, AllocError>
+    ensures algorithm { IfOk result (λ r. r.algorithm ≡ algorithm) }
+    ensures lines { IfOk result (λ r. SaysLines stop (map line_of r.lines.items)) }
+    ensures table { IfOk result (λ r. r.table ≡ None) }
+{
+    match stop {
+        Stop::Memory => Err(AllocError),
+        Stop::Because(remark) => {
+            let mut lines = Vec::new(alloc);
+            lines.push(to_line(alloc, remark))?;
+            Ok(InventoryReading {
+                algorithm,
+                lines,
+                table: None,
+            })
+        }
+    }
+}
+
+/// The lines, the table and the algorithm of the members of an inventory.
+fn reading_of_members(
+    alloc: Global,
+    members: &Map<String, Value>,
+) -> Result<InventoryReading, AllocError>
+    ensures algorithm { IfOk result (λ r. r.algorithm ≡ result_ok (algorithm_in (members_view members.now.entries))) }
+    ensures lines { IfOk result (λ r. map line_of r.lines.items ≡ lines_at [] (reading_notes (inventory_in (members_view members.now.entries)))) }
+    ensures table { IfOk result (λ r. r.table ≡ table_from_reading (inventory_in (members_view members.now.entries))) }
+    ensures fit { IfOk result (λ r. IfSome r.table (λ t. IsFit t)) }
+{
+    let algorithm = stated_algorithm(alloc, members)?;
+    match read_members(alloc, members) {
+        Ok((remarks, table)) => Ok(InventoryReading {
+            algorithm,
+            lines: to_lines(alloc, remarks)?,
+            table: Some(table),
+        }),
+        Err(stop) => stopped(alloc, algorithm, stop),
+    }
+}
+
+/// Reads the bytes of an `inventory.json` by one parse (OCFL 1.1, 3.5 Inventory; RFC 8259).
+///
+/// The lines carry the root as their place: the caller puts the object's in. They are those about the inventory, but for
+/// those on its sidecars. The first of these faults is the only line, and there is no table: bytes that are no JSON object
+/// in UTF-8, or that nest too deep (E033); `digestAlgorithm` missing (E036), no text (S03), or neither `sha256` nor
+/// `sha512` (E025); `contentDirectory` no text or empty (S03), with a slash (E017), or `.` or `..` (E018); `manifest`
+/// missing (E041) or of a wrong form (S03); `fixity` of a wrong form (S03). Else there is a table, and the lines are, in
+/// this order: digests that several keys have (E096, E097), bad paths (E100, E099, S06), paths that conflict (E101), and
+/// algorithms of fixity that are not computed (S07). The algorithm is that of `algorithm_of`, also where a later key
+/// stops. The error is want of memory.
+pub fn read_inventory(alloc: Global, bytes: &[u8]) -> Result<InventoryReading, AllocError>
+    ensures algorithm { IfOk result (λ r. r.algorithm ≡ result_ok (algorithm_of bytes.now)) }
+    ensures lines { IfOk result (λ r. map line_of r.lines.items ≡ lines_at [] (notes_of bytes.now)) }
+    ensures table { IfOk result (λ r. r.table ≡ table_of bytes.now) }
+    ensures fit { IfOk result (λ r. IfSome r.table (λ t. IsFit t)) }
+{
+    match object(alloc, bytes) {
+        Ok(map) => reading_of_members(alloc, &map),
+        Err(stop) => stopped(alloc, None, stop),
+    }
+}
+
 impl Table {
-    /// Reads the bytes of an `inventory.json` (OCFL 1.1, 3.5 Inventory; RFC 8259).
-    ///
-    /// Answers the lines about the inventory, but for those on its sidecars, and its table. The lines carry the root as
-    /// their place: the caller puts the object's in. The first of these faults is the only line, and there is no table:
-    /// bytes that are no JSON object in UTF-8, or that nest too deep (E033); `digestAlgorithm` missing (E036), no text
-    /// (S03), or neither `sha256` nor `sha512` (E025); `contentDirectory` no text or empty (S03), with a slash (E017), or
-    /// `.` or `..` (E018); `manifest` missing (E041) or of a wrong form (S03); `fixity` of a wrong form (S03). Else there is
-    /// a table, and the lines are, in this order: digests that several keys have (E096, E097), bad paths (E100, E099,
-    /// S06), paths that conflict (E101), and algorithms of fixity that are not computed (S07). The error is want of memory.
+    /// Reads the bytes of an `inventory.json`: the lines about it and its table, as `read_inventory` gives them. On any
+    /// bytes the table's paths have at most 128 names, and ascend. The error is want of memory.
     pub fn read(alloc: Global, bytes: &[u8]) -> Result<(Vec<Line>, Option<Table>), AllocError>
         ensures lines { IfOk result (λ r. map line_of r.0.items ≡ lines_at [] (notes_of bytes.now)) }
         ensures table { IfOk result (λ r. r.1 ≡ table_of bytes.now) }
+        ensures fit { IfOk result (λ r. IfSome r.1 (λ t. IsFit t)) }
     {
-        match read_inventory(alloc, bytes) {
-            Ok((remarks, table)) => Ok((to_lines(alloc, remarks)?, Some(table))),
+        let read = read_inventory(alloc, bytes)?;
+        Ok((read.lines, read.table))
+    }
+
+    /// Reads the bytes of an `inventory.json` for its table alone, and makes no lines: none where one of the faults of
+    /// `read_inventory` stops. The error is want of memory.
+    pub fn read_alone(alloc: Global, bytes: &[u8]) -> Result<Option<Table>, AllocError>
+        ensures table { IfOk result (λ table. table ≡ table_of bytes.now) }
+        ensures fit { IfOk result (λ table. IfSome table (λ t. IsFit t)) }
+    {
+        match read_table(alloc, bytes) {
+            Ok(table) => Ok(Some(table)),
             Err(Stop::Memory) => Err(AllocError),
-            Err(Stop::Because(remark)) => {
-                let mut lines = Vec::new(alloc);
-                lines.push(to_line(alloc, remark))?;
-                Ok((lines, None))
-            }
+            Err(Stop::Because(_)) => Ok(None),
         }
     }
 

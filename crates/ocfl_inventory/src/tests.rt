@@ -451,3 +451,86 @@ fn declarations_are_files_of_a_name(rt: HostRuntime) -> Result<(), Fail> {
     assert!(rt; declaration(&entries[4..], Level::Root) == Declared::Unknown(1));
     Ok(())
 }
+
+/// One reading gives what the calls for its parts give.
+fn reads_as_its_parts(rt: &impl Abort, alloc: Global, bytes: &[u8]) -> Result<(), Fail> {
+    let read = read_inventory(alloc, bytes)?;
+    let (lines, table) = Table::read(alloc, bytes)?;
+    let alone = Table::read_alone(alloc, bytes)?;
+    assert_eq!(rt; read.algorithm, algorithm_of(alloc, bytes)?);
+    assert_eq!(rt; read.lines.len(), lines.len());
+    assert_eq!(rt; read.table.is_some(), table.is_some());
+    assert_eq!(rt; alone.is_some(), table.is_some());
+    if let (Some(alone), Some(table)) = (&alone, &table) {
+        assert_eq!(rt; alone.algorithm(), table.algorithm());
+        assert_eq!(rt; alone.content_directory(), table.content_directory());
+        for path in ["v1/content/a", "v2/content/b", "x"] {
+            let place = Place::from_path(String::from_str(alloc, path)?).expect(rt, "a path");
+            let named = alone.named(alloc, &place)?;
+            assert_eq!(rt; named.len(), table.named(alloc, &place)?.len());
+        }
+    }
+    Ok(())
+}
+
+#[test]
+fn one_parse_gives_algorithm_lines_and_table(rt: HostRuntime) -> Result<(), Fail> {
+    let alloc = rt.alloc();
+    let whole = inventory(
+        alloc,
+        "{\"ab\":[\"v1/content/a\",\"v2/content/b\",\"x\"]}",
+        "",
+    )?;
+    reads_as_its_parts(&rt, alloc, whole.as_str().as_bytes())?;
+    let stopped = inventory(alloc, "[]", "")?;
+    reads_as_its_parts(&rt, alloc, stopped.as_str().as_bytes())?;
+    let read = read_inventory(alloc, stopped.as_str().as_bytes())?;
+    assert_eq!(rt; read.algorithm, Some(Algorithm::Sha256));
+    assert!(rt; read.table.is_none() && read.lines.len() == 1);
+    for bytes in ["", "[]", "{}", "{\"digestAlgorithm\":\"md5\"}"] {
+        reads_as_its_parts(&rt, alloc, bytes.as_bytes())?;
+    }
+    Ok(())
+}
+
+#[test]
+fn names_and_bytes_of_declarations(rt: HostRuntime) -> Result<(), Fail> {
+    let cases = [
+        (Level::Root, Version::V1_0, "0=ocfl_1.0", "ocfl_1.0\n"),
+        (Level::Root, Version::V1_1, "0=ocfl_1.1", "ocfl_1.1\n"),
+        (
+            Level::Object,
+            Version::V1_0,
+            "0=ocfl_object_1.0",
+            "ocfl_object_1.0\n",
+        ),
+        (
+            Level::Object,
+            Version::V1_1,
+            "0=ocfl_object_1.1",
+            "ocfl_object_1.1\n",
+        ),
+    ];
+    for (level, version, name, bytes) in cases {
+        assert_eq!(rt; declaration_name(level, version), name);
+        assert!(rt; declaration_bytes(level, version) == bytes.as_bytes());
+        assert!(rt; is_declaration_name(level, name));
+    }
+    assert!(rt; !is_declaration_name(Level::Object, "0=ocfl_1.1"));
+    assert!(rt; !is_declaration_name(Level::Object, "0=ocfl_object_x"));
+    assert_eq!(rt;
+        version_in_name(Level::Object, "0=ocfl_object_2.0"),
+        Some("2.0")
+    );
+    assert_eq!(rt; version_in_name(Level::Object, "0=ocfl_2.0"), None);
+    for (name, is_version) in [
+        ("v1", true),
+        ("v01", true),
+        ("v", false),
+        ("1", false),
+        ("v1a", false),
+    ] {
+        assert_eq!(rt; is_version_name(name), is_version);
+    }
+    Ok(())
+}

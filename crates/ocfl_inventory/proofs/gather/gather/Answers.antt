@@ -1,12 +1,11 @@
 use Rattle.std.proofs.Common.{List, ap, subst, ◌∙◌, ◌++◌, map, true, false, IsPermutation}
 use Rattle.std.specs.Prelude.{flat_map}
-use Rattle.std.proofs.lemmas.List.Sorted.{IsPermutation-append_left, IsPermutation-trans}
 use Rattle.ocfl_inventory.specs.Gathered.{bad_texts}
 use Rattle.ocfl_inventory.specs.Notes.{conflicts}
 use Rattle.ocfl_inventory.specs.Parts.{block_view, supported_view}
 use Rattle.ocfl_inventory.specs.Table.{Triple, triples_of}
 use Rattle.ocfl_inventory.specs.declared.reading.Supported.{Supported}
-use Rattle.ocfl_inventory.proofs.Inventories.{conflicts_permuted, kept_paths_of}
+use Rattle.ocfl_inventory.proofs.Inventories.{all_gathered, conflicts_permuted, kept_paths_of}
 use Rattle.ocfl_inventory.proofs.gather.gather.Goals as goal
 
 pub returns-clause-triples : goal.returns-clause-triples
@@ -16,9 +15,8 @@ returns-clause-triples c =
     let in_fixity = λ (fs : List Supported). flat_map (λ e. triples_of true content e.0 e.1) (supported_view fs) in
     let sorted = c.in_ok-manifest.manifest.triples.items in
     let found = c.in_ok-found.found.triples.items in
-    let moved : IsPermutation (in_manifest ++ in_fixity c.args.inventory.now.fixity.items) (sorted ++ in_fixity c.args.inventory.now.fixity.items) = IsPermutation-append_left (in_fixity c.args.inventory.now.fixity.items) in_manifest sorted c.in_ok-manifest.ensures.triples in
     let beside : IsPermutation (sorted ++ in_fixity c.args.inventory.now.fixity.items) found = subst (λ (fs : List Supported). IsPermutation (sorted ++ in_fixity fs) found) c.deref-2.ensures.value c.in_ok-found.ensures.triples in
-    IsPermutation-trans _ _ _ moved beside
+    all_gathered in_manifest sorted (in_fixity c.args.inventory.now.fixity.items) found c.in_ok-manifest.ensures.triples beside
 
 pub returns-clause-listed : goal.returns-clause-listed
 returns-clause-listed c =

@@ -9,5 +9,5 @@ use Rattle.ocfl_inventory.proofs.table.make_table.Goals as goal
 pub invariant_of-result : goal.invariant_of-result
 invariant_of-result c = subst (IsAscending triple_cmp) (sym (triples_once c.args.triples.items c.dedup.new.self.items c.requires c.dedup.ensures.filtered)) (ascends_ascending triple_total c.args.triples.items)
 
-pub returns : goal.returns
-returns c = λ i. record { algorithm = c.args.algorithm; content = c.in_ok-content.ensures.ok i; triples = triples_once c.args.triples.items c.dedup.new.self.items c.requires c.dedup.ensures.filtered i }
+pub returns-clause-is : goal.returns-clause-is
+returns-clause-is c = λ i. record { algorithm = c.args.algorithm; content = c.in_ok-content.ensures.ok i; triples = triples_once c.args.triples.items c.dedup.new.self.items c.requires c.dedup.ensures.filtered i }

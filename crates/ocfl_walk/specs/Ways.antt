@@ -20,19 +20,16 @@ use Rattle.ocfl_inventory.specs.declared.declaration.Level.TheVariants as level
 use Rattle.ocfl_inventory.specs.declared.declaration.Declared.{Declared as MadeDeclared}
 use Rattle.ocfl_inventory.specs.declared.declaration.Declared.TheVariants as made
 use Rattle.ocfl_inventory.specs.Table.{Table}
-use Rattle.ocfl_inventory.specs.ListedPath.{is_version_name}
-use Rattle.ocfl_walk.specs.Zone.{max_listed_depth, hierarchy, inside, zone, is_entered, object_declared, table_at}
-use Rattle.ocfl_walk.specs.Lines.{notes, is_hashed}
-use Rattle.ocfl_walk.specs.Trail.{content_trail, is_head}
-use Rattle.ocfl_walk.specs.Walk.{is_reached}
-use Rattle.ocfl_walk.specs.Looking.{IsFront, failures_by, content_at, is_served, IsSight}
+use Rattle.ocfl_audit.specs.Zone.{max_listed_depth, hierarchy, inside, zone, is_entered, object_declared, table_at}
+use Rattle.ocfl_audit.specs.Lines.{notes, is_hashed}
+use Rattle.ocfl_audit.specs.Trail.{content_trail, heads_of}
+use Rattle.ocfl_audit.specs.Walk.{is_reached}
+use Rattle.ocfl_walk.specs.Looking.{IsFront, failures_by}
+use Rattle.ocfl_walk.specs.Auditing.{FailedAt}
 use Rattle.ocfl_walk.specs.declared.fault.Fault.{Fault}
 use Rattle.ocfl_walk.specs.declared.fault.Fault.TheVariants as fault
-use Rattle.ocfl_walk.specs.declared.look.Found.{Found}
-use Rattle.ocfl_walk.specs.declared.look.Found.TheVariants as found
 use Rattle.ocfl_walk.specs.declared.folder.Head.{Head}
 use Rattle.ocfl_walk.specs.declared.folder.Head.TheVariants as head
-use Rattle.ocfl_walk.specs.declared.sight.Sight.{Sight}
 
 -- the places below d on the way to d ++ p, with that place at the end
 abbrev pub way_below : Place → Place → List Place
@@ -58,20 +55,15 @@ pub record Goes (root : Tree) (s t : Store) (way : List Place) (trail : List Ope
   pub did : Did s t trail listings failures
   pub listed : IsFront listings way
 
--- and then there was a fault
+-- and then there was a fault; one of the store names the place at which it failed
 pub record Stops (root : Tree) (s t : Store) (way : List Place) (trail : List Opening) (why : Fault) : Type 0 where
   pub goes : Goes root s t way trail (failures_by why)
-  pub store : (q : Place) → why ≡ fault.Store q → is_hashed root q ≡ false
+  pub store : (q : Place) → why ≡ fault.Store q → (is_hashed root q ≡ false) × FailedAt goes.listings trail q
 
 -- openings of metadata, each file once
 pub record AreMeta (root : Tree) (trail : List Opening) : Type 0 where
   pub meta : content_trail root trail ≡ []
   pub once : AllPairs (λ a b. a.place ≢ b.place) trail
-
-pub record Seeks (root : Tree) (s t : Store) (way : List Place) : Type 0 where
-  pub trail : List Opening
-  pub goes : Goes root s t way trail 0
-  pub meta : AreMeta root trail
 
 pub record SeekStops (root : Tree) (s t : Store) (way : List Place) (why : Fault) : Type 0 where
   pub trail : List Opening
@@ -84,6 +76,16 @@ pub record ReadsMeta (root : Tree) (s t : Store) : Type 0 where
   pub trail : List Opening
   pub did : Did s t trail [] 0
   pub meta : AreMeta root trail
+
+-- and of inventories at most that of o
+pub record Opens (root : Tree) (s t : Store) (o : Place) : Type 0 where
+  pub reads : ReadsMeta root s t
+  pub heads : IsFront (heads_of root reads.trail) (o ∷ [])
+
+-- and then there was a fault
+pub record OpensStop (root : Tree) (s t : Store) (o : Place) (why : Fault) : Type 0 where
+  pub stops : SeekStops root s t [] why
+  pub heads : IsFront (heads_of root stops.trail) (o ∷ [])
 
 -- ---- one name further
 
@@ -120,27 +122,17 @@ pub record Enters (root : Tree) (s t : Store) (d e : Place) (es : List Entry) : 
   pub listable : is_listable root d ≡ true
   pub listing : IsListing root d es
 
--- an object's table, with its inventory read for it
+-- each opening is that of an inventory
+abbrev pub AreInventories : Tree → List Opening → Type 0
+AreInventories root trail = length trail ≡ length (heads_of root trail)
+
+-- an object's table, with its inventory read for it, and no other file
 pub record ReadsTable (root : Tree) (s t : Store) (o : Place) (r : Result (Option Table) Fault) : Type 0 where
-  pub gives : MatchResult r (λ table. ReadsMeta root s t × (table ≡ table_at root o)) (λ why. SeekStops root s t [] why)
+  pub gives : MatchResult r (λ table. (opens : Opens root s t o) × (table ≡ table_at root o) × AreInventories root opens.reads.trail) (λ why. (stop : OpensStop root s t o why) × AreInventories root stop.stops.trail)
 
--- what is seen at d ++ p: the directories between were listed
-pub record Sees (root : Tree) (s t : Store) (d p : Place) (r : Result Sight Fault) : Type 0 where
-  pub gives : MatchResult r (λ sight. Goes root s t (way_below d p) [] 0 × IsSight root (d ++ p) sight) (λ why. Stops root s t (way_below d p) [] why)
-
--- what an answer says of a place
-abbrev pub IsFoundAt : Tree → Place → Option Found → Type 0
-IsFoundAt root p None = is_served root p ≡ false
-IsFoundAt root p (Some (found.Head lines)) = (is_head (zone root p) ≡ true) × (map line_of lines.items ≡ lines_at p (notes root None p))
-IsFoundAt root p (Some (found.Content c)) = (content_at root p ≡ Some (c.table, c.path)) × IsSight root p c.sight
-
--- the place d ++ p: the directories between were listed, and metadata was read
-pub record Finds (root : Tree) (s t : Store) (d p : Place) (r : Result (Option Found) Fault) : Type 0 where
-  pub gives : MatchResult r (λ o. Seeks root s t (way_below d p) × IsFoundAt root (d ++ p) o) (λ why. SeekStops root s t (way_below d p) why)
-
--- the lines of an object's head, with its files read for them
-pub record ReadsHead (root : Tree) (s t : Store) (o : Place) (r : Result (Vec MadeLine Global) Fault) : Type 0 where
-  pub gives : MatchResult r (λ lines. ReadsMeta root s t × (map line_of lines.items ≡ lines_at o (notes root None o))) (λ why. SeekStops root s t [] why)
+-- the lines of an object's head and its table, with its files read for them
+pub record ReadsHead (root : Tree) (s t : Store) (o : Place) (r : Result (Vec MadeLine Global × Option Table) Fault) : Type 0 where
+  pub gives : MatchResult r (λ p. Opens root s t o × (map line_of p.0.items ≡ lines_at o (notes root None o)) × (p.1 ≡ table_at root o)) (λ why. OpensStop root s t o why)
 
 -- ---- what declarations say
 
@@ -189,21 +181,3 @@ pub record IsOpenObject (root : Tree) (o : Place) (es : List Entry) (t : Table) 
   pub here : IsAt root o es
   pub zone : zone root o ≡ inside o []
   pub table : table_at root o ≡ Some t
-
--- a version directory of such an object
-pub record InVersion (root : Tree) (d : Place) (es : List Entry) (t : Table) : Type 0 where
-  pub here : IsAt root d es
-  pub object : Place
-  pub version : Text
-  pub zone : zone root d ≡ inside object (version ∷ [])
-  pub table : table_at root object ≡ Some t
-  pub named : is_version_name version ≡ true
-
--- a content directory, or a directory below one
-pub record InContent (root : Tree) (d : Place) (es : List Entry) : Type 0 where
-  pub here : IsAt root d es
-  pub object : Place
-  pub version : Text
-  pub content : Text
-  pub inner : Place
-  pub zone : zone root d ≡ inside object (version ∷ content ∷ inner)

@@ -1,10 +1,10 @@
-ghost use Rattle.std.specs.Prelude.{◌≡◌, ◌++◌, [], IfOk, MatchOption, None, OnOk, Some, map};
+ghost use Rattle.std.specs.Prelude.{◌≡◌, ◌++◌, [], IfOk, IfSome, MatchOption, None, OnOk, Some, map};
 ghost use Rattle.ocfl_tree.specs.Ascending.{IsAscending};
 ghost use Rattle.ocfl_tree.specs.Place.{Place as Spot};
 ghost use Rattle.ocfl_tree.specs.Tree.{Tree as Root};
 ghost use Rattle.ocfl_report.specs.Line.{line_of, lines_at};
 ghost use Rattle.ocfl_inventory.specs.Table.{Table, named as digests_of, named_cmp};
-ghost use Rattle.ocfl_walk.specs.Lines.{missing_notes, notes};
+ghost use Rattle.ocfl_audit.specs.Lines.{missing_notes, notes};
 ghost use Rattle.ocfl_walk.specs.Looking.{IsSight, content_at};
 ghost use Rattle.ocfl_inventory.specs.TripleView.{named_view};
 ghost use Rattle.ocfl_walk.specs.Pending.{Adds, IsPending, is_read, sight_notes};
@@ -70,7 +70,8 @@ pub(crate) fn content_item(
     named: Vec<Named>,
     sight: Sight,
 ) -> Result<Option<Pending>, AllocError>
-    ensures { (root : Root) (t : Table) (q : Spot) → content_at root place.now ≡ Some (t, q)
+    ensures place { IfOk result (λ item. IfSome item (λ pending. pending.place ≡ place.now)) }
+    ensures told { (root : Root) (t : Table) (q : Spot) → content_at root place.now ≡ Some (t, q)
         → map named_view named.items ≡ digests_of t q → IsSight root place.now sight
         → IfOk result (λ item. MatchOption item (notes root None place.now ≡ []) (λ pending. IsPending root pending × (pending.place ≡ place.now))) }
 {

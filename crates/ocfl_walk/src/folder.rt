@@ -1,26 +1,36 @@
 //! Directories as a store lists them, from the storage root down.
 ghost use Rattle.std.specs.Prelude.{◌≡◌, ◌&&◌, ◌∷◌, ◌++◌, [], nat_le, suc, length, true, IsTrue, IfOk, IfErr, IfSome, MatchResult, MatchOption};
-ghost use Rattle.ocfl_tree.specs.Place.{text_eq};
 ghost use Rattle.ocfl_tree.specs.Tree.{Tree as Root};
 ghost use Rattle.ocfl_tree.specs.Listing.{IsListing, IsOrdinary, kind_in};
 ghost use Rattle.ocfl_inventory.specs.Declaration.{declared as declared_by_files};
 ghost use Rattle.ocfl_inventory.specs.Entries.{file_names};
-ghost use Rattle.ocfl_walk.specs.Zone.{max_listed_depth};
+ghost use Rattle.ocfl_audit.specs.Zone.{max_listed_depth};
 ghost use Rattle.ocfl_walk.specs.Ways.{IsWayFault, fault_by, Stops, Enters, StaysOut, IsHead, head_by as head_by_declared, is_extensions_name, is_dir_kind, is_listable};
 
 use crate::fault::Fault;
 use ocfl_inventory::declaration::declaration;
 use ocfl_inventory::{Declared, Level};
-use ocfl_tree::{Entry, Kind, Name, Place, Tree, Trouble};
+use ocfl_tree::{Entry, Kind, Name, Place, Tree, Trouble, is_text};
+use std::alloc::Global;
+use std::default::MadeWith;
 
 /// The places of directories that are listed have at most so many names.
-const MAX_LISTED_DEPTH: usize = 127;
+pub(crate) const MAX_LISTED_DEPTH: usize = 127;
 
 /// A directory that was listed.
 #[derive(Debug, Drop)]
 pub(crate) struct Folder {
     pub(crate) place: Place,
     pub(crate) entries: Vec<Entry>,
+}
+
+impl MadeWith<Global> for Folder {
+    fn made_with(alloc: Global) -> Folder {
+        Folder {
+            place: Place::root(alloc),
+            entries: Vec::new(alloc),
+        }
+    }
 }
 
 /// What the declarations in a directory say.
@@ -31,12 +41,6 @@ pub(crate) enum Head {
     Known,
     /// Several, or one of a version that is not known.
     Stops,
-}
-
-pub(crate) fn is_text(text: &str, other: &str) -> bool
-    ensures { result ≡ text_eq text.now other.now }
-{
-    text == other
 }
 
 /// The kind of the entry of a name.
@@ -64,6 +68,7 @@ pub(crate) fn fault_at(place: Place, trouble: Trouble) -> Fault
 /// Lists a directory that is there.
 pub(crate) fn list<T: Tree>(store: &mut T, place: Place) -> Result<Folder, Fault>
     ensures only { IfErr result (λ why. IsWayFault why) }
+    ensures place { IfOk result (λ folder. folder.place ≡ place) }
     ensures ordinary { IfOk result (λ folder. IsOrdinary folder.entries.items) }
     ensures told { IsTrue T.told → (root : Root) → (T.state store.old).tree ≡ root
         → is_listable root place ≡ true → MatchResult result
@@ -78,7 +83,7 @@ pub(crate) fn list<T: Tree>(store: &mut T, place: Place) -> Result<Folder, Fault
 }
 
 /// Whether a name leads to a directory that may be listed.
-fn can_enter(folder: &Folder, name: &Name) -> bool
+pub(crate) fn can_enter(folder: &Folder, name: &Name) -> bool
     ensures { result ≡ (nat_le (suc (length folder.now.place)) max_listed_depth
         && is_dir_kind (kind_in folder.now.entries.items name.now)) }
 {
@@ -86,36 +91,6 @@ fn can_enter(folder: &Folder, name: &Name) -> bool
         Some(Kind::Dir) => folder.place.depth() < MAX_LISTED_DEPTH,
         Some(Kind::File | Kind::Other) | None => false,
     }
-}
-
-/// Goes one name further down, where a directory is that may be listed.
-pub(crate) fn enter<T: Tree>(
-    store: &mut T,
-    folder: Folder,
-    name: &Name,
-) -> Result<Option<Folder>, Fault>
-    ensures only { IfErr result (λ why. IsWayFault why) }
-    ensures ordinary { IfOk result (λ next. IfSome next (λ inner. IsOrdinary inner.entries.items)) }
-    ensures told { IsTrue T.told → (root : Root) → (T.state store.old).tree ≡ root
-        → IsListing root folder.place folder.entries.items
-        → let below = folder.place ++ name.now ∷ [] in MatchResult result
-        (λ next. MatchOption next
-        (StaysOut root (T.state store.old) (T.state store.new) below)
-        (λ inner. Enters root (T.state store.old) (T.state store.new) below
-        inner.place inner.entries.items))
-        (λ why. Stops root (T.state store.old) (T.state store.new) (below ∷ []) [] why) }
-{
-    if !can_enter(&folder, name) {
-        return Ok(None);
-    }
-    let mut place = folder.place;
-    let Ok(name) = name.try_clone() else {
-        return Err(Fault::Memory);
-    };
-    if place.push(name).is_err() {
-        return Err(Fault::Memory);
-    }
-    Ok(Some(list(store, place)?))
 }
 
 fn head_by(declared: Declared) -> Head

@@ -1,6 +1,5 @@
 //! The lines of an object's head, from files that were read before.
-ghost use Rattle.std.specs.Prelude.{◌≡◌, ◌≢◌, ◌≤◌, ◌++◌, ◌∷◌, [], List, true, false, not, length, is_some, map, option_map, Some, IfSome, IfOk, OnOk, MatchOption};
-ghost use Rattle.std.specs.Result.{result_ok};
+ghost use Rattle.std.specs.Prelude.{◌≡◌, ◌≤◌, ◌++◌, ◌∷◌, [], List, true, false, not, length, is_some, map, option_map, Some, IfSome, IfOk, OnOk};
 ghost use Rattle.hex.specs.Hex.{encode_lower};
 ghost use Rattle.ocfl_tree.specs.Place.{Place as Names, Text, text_eq};
 ghost use Rattle.ocfl_tree.specs.Tree.{Tree as Root};
@@ -8,24 +7,27 @@ ghost use Rattle.ocfl_report.specs.Line.{Note, note, plain};
 ghost use Rattle.ocfl_digest.specs.Bounded.{IsBoundedTo};
 ghost use Rattle.ocfl_digest.specs.Digest.{digest_bytes_of};
 ghost use Rattle.ocfl_digest.specs.declared.algorithm.Algorithm.TheVariants.{Sha256, Sha512};
-ghost use Rattle.ocfl_inventory.specs.Declaration.{prefix, after_prefix, declaration_name, declaration_bytes as exact_declaration, is_known};
+ghost use Rattle.ocfl_inventory.specs.Declaration.{prefix, after_prefix, declaration_name as name_of_declaration, is_known};
 ghost use Rattle.ocfl_inventory.specs.DigestText.{digest_of};
 ghost use Rattle.ocfl_inventory.specs.Entries.{meaning, PointsAtOne};
 ghost use Rattle.ocfl_inventory.specs.Reading.{algorithm_of as algorithm_in};
 ghost use Rattle.ocfl_inventory.specs.Sidecar.{sidecar_digits, sidecar_of};
 ghost use Rattle.ocfl_inventory.specs.Sums.{sum_view};
-ghost use Rattle.ocfl_inventory.specs.Table.{table_of};
+ghost use Rattle.ocfl_inventory.specs.Table.{IsFit, table_of};
 ghost use Rattle.ocfl_inventory.specs.declared.declaration.Level.TheVariants as level;
-ghost use Rattle.ocfl_walk.specs.Head.{on, or_clean, is_exact_declaration, sidecar_name, sidecar_at, mismatch, sidecar_notes, are_sidecars_missing, sidecars_notes, inventory_part, head_notes_by};
+ghost use Rattle.ocfl_audit.specs.Head.{on, or_clean, is_exact_declaration, sidecar_name, sidecar_at, mismatch, sidecar_notes, are_sidecars_missing, sidecars_notes, inventory_part, head_notes_by};
 ghost use Rattle.ocfl_walk.specs.HeadFiles.{IsFileAt};
 ghost use Rattle.ocfl_walk.specs.HeadLines.{AreSidecars, note_of, is_other_there, named_notes};
 ghost use Rattle.ocfl_walk.specs.Pending.{Adds};
 
 use crate::lines::{add_line, add_plain};
 use ocfl_digest::{Algorithm, Bounded, Wanted, hash_bytes};
-use ocfl_inventory::{Declared, Sum, Table, Version, algorithm_of, sidecar};
+use ocfl_inventory::{
+    Declared, Level, Sum, Table, Version, declaration_bytes, read_inventory, sidecar,
+    version_in_name,
+};
 use ocfl_report::{Code, Line};
-use ocfl_tree::{Entry, Place};
+use ocfl_tree::{Entry, Place, is_bytes};
 use std::alloc::{AllocError, Global};
 
 /// What was read of the sidecars of an inventory, where they are there.
@@ -37,24 +39,8 @@ pub(crate) struct Sidecars {
     pub(crate) long: Option<Bounded>,
 }
 
-fn is_bytes(bytes: &[u8], other: &[u8]) -> bool
-    ensures { result ≡ text_eq bytes.now other.now }
-{
-    bytes == other
-}
-
-/// The exact bytes of an object's declaration.
-fn declaration_bytes(version: Version) -> &'static [u8]
-    ensures { result.now ≡ exact_declaration level.Object version }
-{
-    match version {
-        Version::V1_0 => b"ocfl_object_1.0\n",
-        Version::V1_1 => b"ocfl_object_1.1\n",
-    }
-}
-
 /// Whether these few bytes are all that a file has.
-fn is_file(bytes: &[u8], file: &Bounded) -> bool
+pub(crate) fn is_file(bytes: &[u8], file: &Bounded) -> bool
     ensures { (text : Text) → IsBoundedTo 4096 text file.now → length bytes.now ≤ 4096 → result ≡ text_eq text bytes.now }
 {
     match file {
@@ -64,11 +50,11 @@ fn is_file(bytes: &[u8], file: &Bounded) -> bool
 }
 
 fn is_exact(version: Version, declaration: &Option<Bounded>) -> bool
-    ensures { (root : Root) (o : Names) → IsFileAt root (o ++ declaration_name level.Object version ∷ []) 4096 declaration.now
+    ensures { (root : Root) (o : Names) → IsFileAt root (o ++ name_of_declaration level.Object version ∷ []) 4096 declaration.now
         → result ≡ is_exact_declaration root o level.Object version }
 {
     match declaration {
-        Some(file) => is_file(declaration_bytes(version), file),
+        Some(file) => is_file(declaration_bytes(Level::Object, version), file),
         None => false,
     }
 }
@@ -81,21 +67,13 @@ pub(crate) fn add_declaration(
     version: Version,
     declaration: &Option<Bounded>,
 ) -> Result<(), AllocError>
-    ensures { (root : Root) → IsFileAt root (place.now ++ declaration_name level.Object version ∷ []) 4096 declaration.now
+    ensures { (root : Root) → IsFileAt root (place.now ++ name_of_declaration level.Object version ∷ []) 4096 declaration.now
         → OnOk result (Adds lines.old.items lines.new.items place.now (on (not (is_exact_declaration root place.now level.Object version)) (plain Code.E007))) }
 {
     if is_exact(version, declaration) {
         return Ok(());
     }
     add_plain(alloc, lines, place, Code::E007)
-}
-
-/// What stands behind the prefix of the names of object declarations.
-fn behind_prefix(name: &str) -> Option<&str>
-    ensures { MatchOption result ((rest : Text) → name.now ≢ prefix level.Object ++ rest)
-        (λ text. text.now ≡ after_prefix level.Object name.now) }
-{
-    name.strip_prefix("0=ocfl_object_")
 }
 
 /// Puts the line of a version that is not known at the end.
@@ -108,7 +86,7 @@ fn add_unknown(
     ensures { (rest : Text) → declaration.now ≡ prefix level.Object ++ rest
         → OnOk result (Adds lines.old.items lines.new.items place.now (note Code.S01 (after_prefix level.Object declaration.now) ∷ [])) }
 {
-    match behind_prefix(declaration) {
+    match version_in_name(Level::Object, declaration) {
         Some(version) => {
             let detail = String::from_str(alloc, version)?;
             add_line(lines, place, Code::S01, detail)
@@ -294,20 +272,6 @@ fn add_missing_sidecar(
     add_line(lines, place, Code::E058, detail)
 }
 
-/// The algorithm that an inventory names, by its table where it has one.
-fn stated_algorithm(
-    alloc: Global,
-    inventory: &[u8],
-    table: Option<Table>,
-) -> Result<Option<Algorithm>, AllocError>
-    ensures { table ≡ table_of inventory.now → IfOk result (λ a. a ≡ result_ok (algorithm_in inventory.now)) }
-{
-    match table {
-        Some(table) => Ok(Some(table.algorithm())),
-        None => algorithm_of(alloc, inventory),
-    }
-}
-
 /// Puts lines that carry the root at the end, as lines of the place.
 fn add_moved(lines: &mut Vec<Line>, place: &Place, read: Vec<Line>) -> Result<(), AllocError>
     ensures { OnOk result (Adds lines.old.items lines.new.items place.now (map note_of read.items)) }
@@ -318,33 +282,37 @@ fn add_moved(lines: &mut Vec<Line>, place: &Place, read: Vec<Line>) -> Result<()
     Ok(())
 }
 
-/// Puts the lines of what an inventory says at the end, behind that of the sidecar of its algorithm.
+/// Puts the lines of what an inventory says at the end, behind that of the sidecar of its algorithm, and gives its table.
 fn add_read(
     alloc: Global,
     lines: &mut Vec<Line>,
     place: &Place,
     inventory: &[u8],
     sidecars: &Sidecars,
-) -> Result<(), AllocError>
-    ensures { (root : Root) → AreSidecars root place.now sidecars.now
+) -> Result<Option<Table>, AllocError>
+    ensures lines { (root : Root) → AreSidecars root place.now sidecars.now
         → OnOk result (Adds lines.old.items lines.new.items place.now (inventory_part root place.now inventory.now (algorithm_in inventory.now))) }
+    ensures table { IfOk result (λ table. table ≡ table_of inventory.now) }
+    ensures fit { IfOk result (λ table. IfSome table (λ t. IsFit t)) }
 {
-    let (read, table) = Table::read(alloc, inventory)?;
-    let algorithm = stated_algorithm(alloc, inventory, table)?;
-    add_missing_sidecar(alloc, lines, place, algorithm, sidecars)?;
-    add_moved(lines, place, read)
+    let read = read_inventory(alloc, inventory)?;
+    add_missing_sidecar(alloc, lines, place, read.algorithm, sidecars)?;
+    add_moved(lines, place, read.lines)?;
+    Ok(read.table)
 }
 
 /// Puts the lines of an object's inventory, and of its sidecars, at the end (OCFL 1.1, 3.5 Inventory and 3.6 Inventory
-/// Digest). The bytes are all that the inventory has.
+/// Digest), and gives its table. The bytes are all that the inventory has.
 pub(crate) fn add_inventory(
     alloc: Global,
     lines: &mut Vec<Line>,
     place: &Place,
     bytes: &[u8],
     sidecars: &Sidecars,
-) -> Result<(), AllocError>
-    ensures { (root : Root) → IsFileAt root (place.now ++ sidecar_name Sha256 ∷ []) 4096 sidecars.now.short
+) -> Result<Option<Table>, AllocError>
+    ensures table { IfOk result (λ table. table ≡ table_of bytes.now) }
+    ensures fit { IfOk result (λ table. IfSome table (λ t. IsFit t)) }
+    ensures lines { (root : Root) → IsFileAt root (place.now ++ sidecar_name Sha256 ∷ []) 4096 sidecars.now.short
         → IsFileAt root (place.now ++ sidecar_name Sha512 ∷ []) 4096 sidecars.now.long
         → OnOk result (Adds lines.old.items lines.new.items place.now
         (sidecars_notes root place.now bytes.now ++ inventory_part root place.now bytes.now (algorithm_in bytes.now))) }

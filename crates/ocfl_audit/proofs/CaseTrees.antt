@@ -1,0 +1,145 @@
+-- Words to write the trees of worked cases with, and the digests that they name.
+use Rattle.std.proofs.Common.{◌≡◌, ◌==◌, List, [], ◌∷◌, ◌++◌, codes}
+use Rattle.std.specs.List.{join_with_byte, slice_split}
+use Prim.Native.String.{String}
+use Rattle.ocfl_tree.specs.Place.{Text, Place}
+use Rattle.ocfl_tree.specs.Tree.{Tree, Leaf, file, dir, other}
+use Rattle.ocfl_report.specs.Text.{text}
+use Rattle.ocfl_digest.specs.declared.algorithm.Algorithm.TheVariants.{Sha256, Sha512}
+use Rattle.ocfl_inventory.specs.DigestText.{digest_of}
+use Rattle.ocfl_audit.specs.Audit.{audit}
+
+-- the audit of a tree in which each file can be read has this text
+abbrev pub Reports : Tree → String → Type 0
+Reports root t = text (audit root []) ≡ codes t
+
+-- ---- what lies in a tree
+
+-- a place by its text
+abbrev pub place : String → Place
+place t = slice_split (λ b. b == 47) (codes t)
+
+abbrev pub bytes_at : String → Text → Place × Leaf
+bytes_at p bytes = (place p, file bytes)
+
+abbrev pub text_at : String → String → Place × Leaf
+text_at p t = bytes_at p (codes t)
+
+abbrev pub folder : String → Place × Leaf
+folder p = (place p, dir)
+
+abbrev pub link : String → Place × Leaf
+link p = (place p, other)
+
+-- a declared storage root, and what else lies in it
+abbrev pub storage_root : Tree → Tree
+storage_root more = text_at "0=ocfl_1.1" "ocfl_1.1\n" ∷ more
+
+-- a storage root with an object `o`: its declaration, and its inventory of these bytes
+abbrev pub object : Text → Tree → Tree
+object inventory more = storage_root (folder "o" ∷ text_at "o/0=ocfl_object_1.1" "ocfl_object_1.1\n" ∷ bytes_at "o/inventory.json" inventory ∷ more)
+
+-- the same with a sidecar for sha256
+abbrev pub object_beside : Text → Text → Tree → Tree
+object_beside sidecar inventory more = object inventory (bytes_at "o/inventory.json.sha256" sidecar ∷ more)
+
+-- the right ones
+abbrev pub right_sidecar_256 : Text → Text
+right_sidecar_256 inventory = digest_of Sha256 inventory ++ codes " inventory.json\n"
+
+abbrev pub right_sidecar_512 : Text → Text
+right_sidecar_512 inventory = digest_of Sha512 inventory ++ codes " inventory.json\n"
+
+-- an object with a right sidecar, and what lies in its first version
+abbrev pub sha256_object : Text → Tree → Tree
+sha256_object inventory more = object_beside (right_sidecar_256 inventory) inventory (folder "o/v1" ∷ folder "o/v1/content" ∷ more)
+
+abbrev pub sha512_object : Text → Tree → Tree
+sha512_object inventory more = object inventory (bytes_at "o/inventory.json.sha512" (right_sidecar_512 inventory) ∷ folder "o/v1" ∷ folder "o/v1/content" ∷ more)
+
+-- at p an object like those, with a right sidecar for sha256
+abbrev pub object_in : String → Text → Tree → Tree
+object_in p inventory more =
+    folder p ∷ (place p ++ codes "0=ocfl_object_1.1" ∷ [], file (codes "ocfl_object_1.1\n")) ∷
+    (place p ++ codes "inventory.json" ∷ [], file inventory) ∷
+    (place p ++ codes "inventory.json.sha256" ∷ [], file (right_sidecar_256 inventory)) ∷ more
+
+-- a content file `f` of three bytes
+abbrev pub f_is_abc : Tree
+f_is_abc = text_at "o/v1/content/f" "abc" ∷ []
+
+-- ---- digests (FIPS 180-4, RFC 1321), of the bytes `abc` and of no bytes, and in capitals
+
+abbrev pub abc_sha256 : String
+abc_sha256 = "ba7816bf8f01cfea414140de5dae2223b00361a396177a9cb410ff61f20015ad"
+
+abbrev pub abc_sha512 : String
+abc_sha512 = "ddaf35a193617abacc417349ae20413112e6fa4e89a97ea20a9eeee64b55d39a2192992a274fc1a836ba3c23a3feebbd454d4423643ce80e2a9ac94fa54ca49f"
+
+abbrev pub empty_sha1 : String
+empty_sha1 = "da39a3ee5e6b4b0d3255bfef95601890afd80709"
+
+abbrev pub empty_sha256 : String
+empty_sha256 = "e3b0c44298fc1c149afbf4c8996fb92427ae41e4649b934ca495991b7852b855"
+
+abbrev pub abc_sha256_capitals : String
+abc_sha256_capitals = "BA7816BF8F01CFEA414140DE5DAE2223B00361A396177A9CB410FF61F20015AD"
+
+abbrev pub abc_sha512_capitals : String
+abc_sha512_capitals = "DDAF35A193617ABACC417349AE20413112E6FA4E89A97EA20A9EEEE64B55D39A2192992A274FC1A836BA3C23A3FEEBBD454D4423643CE80E2A9AC94FA54CA49F"
+
+abbrev pub empty_sha256_capitals : String
+empty_sha256_capitals = "E3B0C44298FC1C149AFBF4C8996FB92427AE41E4649B934CA495991B7852B855"
+
+-- ---- inventories
+
+-- a key with its value
+abbrev pub key : String → String → Text
+key k value = 34 ∷ codes k ++ codes "\":" ++ codes value
+
+-- keys with their values, as an object
+abbrev pub keys : List Text → Text
+keys ms = 123 ∷ join_with_byte 44 ms ++ 125 ∷ []
+
+-- an inventory by its algorithm, its manifest and its fixity block
+abbrev pub inventory : String → Text → Text → Text
+inventory algorithm manifest fixity =
+    codes "{\"id\":\"o\",\"type\":\"https://ocfl.io/1.1/spec/#inventory\",\"digestAlgorithm\":\"" ++ codes algorithm
+    ++ codes "\",\"head\":\"v1\",\"manifest\":" ++ manifest ++ codes ",\"versions\":{},\"fixity\":" ++ fixity ++ codes "}"
+
+-- one with these keys beside those that are not looked at
+abbrev pub inventory_with : List Text → Text
+inventory_with members = keys (key "id" "\"o\"" ∷ key "type" "\"https://ocfl.io/1.1/spec/#inventory\"" ∷ key "head" "\"v1\"" ∷ key "versions" "{}" ∷ members)
+
+-- an inventory of sha256 by its manifest alone
+abbrev pub listing : List Text → Text
+listing manifest = inventory "sha256" (keys manifest) (codes "{}")
+
+-- and with a fixity block
+abbrev pub listing_with : List Text → Text → Text
+listing_with manifest fixity = inventory "sha256" (keys manifest) fixity
+
+-- the manifest that lists `f` rightly
+abbrev pub lists_f : List Text
+lists_f = key abc_sha256 "[\"v1/content/f\"]" ∷ []
+
+-- ---- trees of several cases
+
+-- a file for each digest of the manifest: `a` and `c` of three bytes, `b` of none
+abbrev pub three_files : Tree
+three_files = sha256_object (listing (key abc_sha256 "[\"v1/content/a\",\"v1/content/c\"]" ∷ key empty_sha256 "[\"v1/content/b\"]" ∷ [])) (text_at "o/v1/content/a" "abc" ∷ text_at "o/v1/content/b" "" ∷ text_at "o/v1/content/c" "abc" ∷ [])
+
+-- `a` is listed twice and not there, `b` is right
+abbrev pub missing_and_right : Tree
+missing_and_right = sha256_object (listing_with (key empty_sha256 "[\"v1/content/a\"]" ∷ key abc_sha256 "[\"v1/content/b\"]" ∷ []) (codes "{\"sha1\":" ++ keys (key empty_sha1 "[\"v1/content/a\"]" ∷ []) ++ codes "}")) (text_at "o/v1/content/b" "abc" ∷ [])
+
+-- one file, by sha512
+abbrev pub sha512_file : Tree
+sha512_file = sha512_object (inventory "sha512" (keys (key abc_sha512 "[\"v1/content/f\"]" ∷ [])) (codes "{}")) f_is_abc
+
+-- three objects, each with one file
+abbrev pub three_objects : Tree
+three_objects = storage_root (
+    object_in "o1" (listing lists_f) (folder "o1/v1" ∷ folder "o1/v1/content" ∷ text_at "o1/v1/content/f" "abc" ∷
+    object_in "o2" (listing lists_f) (folder "o2/v1" ∷ folder "o2/v1/content" ∷ text_at "o2/v1/content/f" "abc" ∷
+    object_in "o3" (listing lists_f) (folder "o3/v1" ∷ folder "o3/v1/content" ∷ text_at "o3/v1/content/f" "abc" ∷ []))))

@@ -1,0 +1,242 @@
+-- Worked cases: runs by budgets, and what is left behind a place.
+use Rattle.std.proofs.Common.{◌≡◌, ℕ, List, [], ◌∷◌, ◌++◌, codes, refl, Some, None, true, false, map, replicate, take}
+use Prim.Native.String.{String}
+use Rattle.ocfl_tree.specs.Place.{Text}
+use Rattle.ocfl_tree.specs.Tree.{Tree}
+use Rattle.ocfl_report.specs.Line.{found}
+use Rattle.ocfl_report.specs.Text.{text, place_text}
+use Rattle.ocfl_audit.specs.Audit.{audit, after, total_cost}
+use Rattle.ocfl_audit.specs.Trail.{inventories}
+use Rattle.ocfl_audit.specs.Runs.{Limits, cut, left, runs, joined, total_files, of_budget}
+use Rattle.ocfl_audit.proofs.OnLiterals.{audit_on_literals}
+use Rattle.ocfl_audit.proofs.CaseTrees.{place, text_at, folder, storage_root, sha256_object, f_is_abc, key, listing, lists_f, three_files, three_objects, missing_and_right, sha512_file, abc_sha256}
+
+-- the texts of the runs that these budgets make
+abbrev texts : Tree → List ℕ → List Text
+texts root budgets = map text (runs (audit root []) (map of_budget budgets))
+
+-- and what each spends
+abbrev costs : Tree → List ℕ → List ℕ
+costs root budgets = map total_cost (runs (audit root []) (map of_budget budgets))
+
+-- ---- a storage root alone
+
+one_run_of_a_bare_root : (texts (storage_root []) (1 ∷ []) ≡ codes "ok\t.\t-\n" ∷ []) × (costs (storage_root []) (1 ∷ []) ≡ 0 ∷ []) × (left (audit (storage_root []) []) (of_budget 1) ≡ [])
+unfolding audit_on_literals
+one_run_of_a_bare_root = (refl, refl, refl)
+
+-- what costs nothing takes one run, however many budgets there are
+one_run_where_nothing_costs : texts (storage_root (folder "x" ∷ [])) (1 ∷ 1 ∷ 1 ∷ []) ≡ codes "ok\t.\t-\nE073\tx\t-\n" ∷ []
+unfolding audit_on_literals
+one_run_where_nothing_costs = refl
+
+-- ---- three files, of cost 4, 1 and 4
+
+costs_of_three_files : map (λ i. i.cost) (audit three_files []) ≡ 0 ∷ 0 ∷ 4 ∷ 1 ∷ 4 ∷ []
+unfolding audit_on_literals
+costs_of_three_files = refl
+
+budgets_of_five : (costs three_files (replicate 4 5) ≡ 5 ∷ 4 ∷ []) × (texts three_files (replicate 4 5) ≡ codes "ok\t.\t-\nok\to\t-\nok\to/v1/content/a\t3\nok\to/v1/content/b\t0\n" ∷ codes "ok\to/v1/content/c\t3\n" ∷ [])
+unfolding audit_on_literals
+budgets_of_five = (refl, refl)
+
+-- a file is started while less than the budget is spent, and not at the budget
+budgets_of_four : (costs three_files (replicate 4 4) ≡ 4 ∷ 5 ∷ []) × (texts three_files (replicate 4 4) ≡ codes "ok\t.\t-\nok\to\t-\nok\to/v1/content/a\t3\n" ∷ codes "ok\to/v1/content/b\t0\nok\to/v1/content/c\t3\n" ∷ [])
+unfolding audit_on_literals
+budgets_of_four = (refl, refl)
+
+-- a file larger than the budget is taken all the same
+budgets_of_one : (costs three_files (replicate 4 1) ≡ 4 ∷ 1 ∷ 4 ∷ []) × (texts three_files (replicate 4 1) ≡ codes "ok\t.\t-\nok\to\t-\nok\to/v1/content/a\t3\n" ∷ codes "ok\to/v1/content/b\t0\n" ∷ codes "ok\to/v1/content/c\t3\n" ∷ [])
+unfolding audit_on_literals
+budgets_of_one = (refl, refl)
+
+budget_of_nine : (costs three_files (replicate 4 9) ≡ 9 ∷ []) × (texts three_files (replicate 4 9) ≡ codes "ok\t.\t-\nok\to\t-\nok\to/v1/content/a\t3\nok\to/v1/content/b\t0\nok\to/v1/content/c\t3\n" ∷ [])
+unfolding audit_on_literals
+budget_of_nine = (refl, refl)
+
+-- one more than what is spent before the last file
+budget_of_six : costs three_files (replicate 4 6) ≡ 9 ∷ []
+unfolding audit_on_literals
+budget_of_six = refl
+
+-- the runs, joined
+abbrev Joins : List ℕ → String → Type 0
+Joins budgets t = text (joined (runs (audit three_files []) (map of_budget budgets))) ≡ codes t
+
+joined_reports_of_five : Joins (replicate 4 5) "ok\t.\t-\nok\to\t-\nok\to/v1/content/a\t3\nok\to/v1/content/b\t0\nok\to/v1/content/c\t3\n"
+unfolding audit_on_literals
+joined_reports_of_five = refl
+
+joined_reports_of_four : Joins (replicate 4 4) "ok\t.\t-\nok\to\t-\nok\to/v1/content/a\t3\nok\to/v1/content/b\t0\nok\to/v1/content/c\t3\n"
+unfolding audit_on_literals
+joined_reports_of_four = refl
+
+joined_reports_of_one : Joins (replicate 4 1) "ok\t.\t-\nok\to\t-\nok\to/v1/content/a\t3\nok\to/v1/content/b\t0\nok\to/v1/content/c\t3\n"
+unfolding audit_on_literals
+joined_reports_of_one = refl
+
+joined_reports_of_nine : Joins (replicate 4 9) "ok\t.\t-\nok\to\t-\nok\to/v1/content/a\t3\nok\to/v1/content/b\t0\nok\to/v1/content/c\t3\n"
+unfolding audit_on_literals
+joined_reports_of_nine = refl
+
+budgets_that_run_out : (costs three_files (1 ∷ 1 ∷ []) ≡ 4 ∷ 1 ∷ []) × Joins (1 ∷ 1 ∷ []) "ok\t.\t-\nok\to\t-\nok\to/v1/content/a\t3\nok\to/v1/content/b\t0\n"
+unfolding audit_on_literals
+budgets_that_run_out = (refl, refl)
+
+budgets_of_several_sizes : costs three_files (4 ∷ 1 ∷ 4 ∷ []) ≡ 4 ∷ 1 ∷ 4 ∷ []
+unfolding audit_on_literals
+budgets_of_several_sizes = refl
+
+no_budgets : runs (audit three_files []) [] ≡ []
+no_budgets = refl
+
+-- ---- a budget, and a limit on files
+
+-- what each run spends under so many limits, each of this budget and so many files
+abbrev costs_under : Tree → ℕ → Limits → List ℕ
+costs_under root n limits = map total_cost (runs (audit root []) (replicate n limits))
+
+-- and how many files it starts
+abbrev files_under : Tree → ℕ → Limits → List ℕ
+files_under root n limits = map total_files (runs (audit root []) (replicate n limits))
+
+abbrev limits_of : ℕ → ℕ → Limits
+limits_of budget files = record { budget = budget; files = files }
+
+one_file_a_run : (costs_under three_files 5 (limits_of 9 1) ≡ 4 ∷ 1 ∷ 4 ∷ []) × (files_under three_files 5 (limits_of 9 1) ≡ 1 ∷ 1 ∷ 1 ∷ [])
+unfolding audit_on_literals
+one_file_a_run = (refl, refl)
+
+two_files_a_run : (costs_under three_files 5 (limits_of 9 2) ≡ 5 ∷ 4 ∷ []) × (files_under three_files 5 (limits_of 9 2) ≡ 2 ∷ 1 ∷ [])
+unfolding audit_on_literals
+two_files_a_run = (refl, refl)
+
+two_files_and_a_budget_of_five : costs_under three_files 5 (limits_of 5 2) ≡ 5 ∷ 4 ∷ []
+unfolding audit_on_literals
+two_files_and_a_budget_of_five = refl
+
+-- the budget is spent before the limit on files is reached
+two_files_and_a_budget_of_four : costs_under three_files 5 (limits_of 4 2) ≡ 4 ∷ 5 ∷ []
+unfolding audit_on_literals
+two_files_and_a_budget_of_four = refl
+
+as_many_files_as_there_are : (costs_under three_files 5 (limits_of 9 3) ≡ 9 ∷ []) × (files_under three_files 5 (limits_of 9 3) ≡ 3 ∷ [])
+unfolding audit_on_literals
+as_many_files_as_there_are = (refl, refl)
+
+-- the last place of the first run, and what it leaves
+places_of_the_first_run : (map (λ i. i.place) (cut (audit three_files []) (of_budget 4)) ≡ [] ∷ place "o" ∷ place "o/v1/content/a" ∷ []) × (map (λ i. i.place) (left (audit three_files []) (of_budget 4)) ≡ place "o/v1/content/b" ∷ place "o/v1/content/c" ∷ [])
+unfolding audit_on_literals
+places_of_the_first_run = (refl, refl)
+
+-- ---- behind a place
+
+-- what is left behind a place, by a budget of nine
+abbrev Resumes : Tree → String → String → Type 0
+Resumes root p t = text (cut (after (audit root []) (Some (place p))) (of_budget 9)) ≡ codes t
+
+behind_a_head : Resumes three_files "o" "ok\to/v1/content/a\t3\nok\to/v1/content/b\t0\nok\to/v1/content/c\t3\n"
+unfolding audit_on_literals
+behind_a_head = refl
+
+behind_a_place_that_is_not_there : Resumes three_files "o/v1/content/aa" "ok\to/v1/content/b\t0\nok\to/v1/content/c\t3\n"
+unfolding audit_on_literals
+behind_a_place_that_is_not_there = refl
+
+behind_the_last_place : Resumes three_files "o/v1/content/c" ""
+unfolding audit_on_literals
+behind_the_last_place = refl
+
+-- all of it, as for a new cycle
+behind_no_place : cut (after (audit three_files []) None) (of_budget 9) ≡ audit three_files []
+unfolding audit_on_literals
+behind_no_place = refl
+
+behind_an_earlier_sibling : Resumes missing_and_right "n" "ok\to\t-\nE092\to/v1/content/a\tsha256 missing\nE093\to/v1/content/a\tsha1 missing\nok\to/v1/content/b\t3\n"
+unfolding audit_on_literals
+behind_an_earlier_sibling = refl
+
+behind_a_version : (Resumes missing_and_right "o/v0" "E092\to/v1/content/a\tsha256 missing\nE093\to/v1/content/a\tsha1 missing\nok\to/v1/content/b\t3\n") × (Resumes missing_and_right "o/v1" "E092\to/v1/content/a\tsha256 missing\nE093\to/v1/content/a\tsha1 missing\nok\to/v1/content/b\t3\n")
+unfolding audit_on_literals
+behind_a_version = (refl, refl)
+
+behind_a_missing_file : Resumes missing_and_right "o/v1/content/a" "ok\to/v1/content/b\t3\n"
+unfolding audit_on_literals
+behind_a_missing_file = refl
+
+behind_a_place_below_a_file : Resumes missing_and_right "o/v1/content/b/x" ""
+unfolding audit_on_literals
+behind_a_place_below_a_file = refl
+
+behind_later_places : (Resumes missing_and_right "o-x" "") × (Resumes missing_and_right "p/q" "")
+unfolding audit_on_literals
+behind_later_places = (refl, refl)
+
+-- ---- what costs nothing is taken although the budget is spent
+
+abbrev listed_and_unlisted : Tree
+listed_and_unlisted = sha256_object (listing lists_f) (f_is_abc ++ text_at "o/v1/content/z" "abc" ∷ [])
+
+unlisted_file_behind_the_budget : (texts listed_and_unlisted (4 ∷ 4 ∷ []) ≡ codes "ok\t.\t-\nok\to\t-\nok\to/v1/content/f\t3\nE023\to/v1/content/z\t-\n" ∷ []) × (costs listed_and_unlisted (4 ∷ 4 ∷ []) ≡ 4 ∷ []) × (left (audit listed_and_unlisted []) (of_budget 4) ≡ [])
+unfolding audit_on_literals
+unlisted_file_behind_the_budget = (refl, refl, refl)
+
+-- nor is it one of the files that a run may start
+unlisted_file_behind_the_file_limit : (map text (runs (audit listed_and_unlisted []) (replicate 2 (limits_of 9 1))) ≡ codes "ok\t.\t-\nok\to\t-\nok\to/v1/content/f\t3\nE023\to/v1/content/z\t-\n" ∷ []) × (files_under listed_and_unlisted 2 (limits_of 9 1) ≡ 1 ∷ []) × (left (audit listed_and_unlisted []) (limits_of 9 1) ≡ [])
+unfolding audit_on_literals
+unlisted_file_behind_the_file_limit = (refl, refl, refl)
+
+-- a run has a finding where its own items have one
+finding_of_one_run : map found (runs (audit (sha256_object (listing (key abc_sha256 "[\"v1/content/a\",\"v1/content/c\"]" ∷ [])) (text_at "o/v1/content/a" "abc" ∷ text_at "o/v1/content/b" "" ∷ text_at "o/v1/content/c" "abc" ∷ [])) []) (of_budget 1 ∷ of_budget 1 ∷ [])) ≡ true ∷ false ∷ []
+unfolding audit_on_literals
+finding_of_one_run = refl
+
+-- ---- a slash before a dash
+
+abbrev slash_and_dash : Tree
+slash_and_dash = sha256_object (listing (key abc_sha256 "[\"v1/content/a-b\",\"v1/content/a/b\"]" ∷ [])) (text_at "o/v1/content/a-b" "abc" ∷ folder "o/v1/content/a" ∷ text_at "o/v1/content/a/b" "abc" ∷ [])
+
+slash_before_dash_in_runs : texts slash_and_dash (1 ∷ 1 ∷ 1 ∷ []) ≡ codes "ok\t.\t-\nok\to\t-\nok\to/v1/content/a/b\t3\n" ∷ codes "ok\to/v1/content/a-b\t3\n" ∷ []
+unfolding audit_on_literals
+slash_before_dash_in_runs = refl
+
+-- the second run, from where the first one ended
+behind_the_slash : map (λ i. i.place) (after (audit slash_and_dash []) (Some (place "o/v1/content/a/b"))) ≡ place "o/v1/content/a-b" ∷ []
+unfolding audit_on_literals
+behind_the_slash = refl
+
+-- ---- three objects
+
+-- a run goes on to the head of the next object
+runs_over_three_objects : texts three_objects (replicate 4 1) ≡ codes "ok\t.\t-\nok\to1\t-\nok\to1/v1/content/f\t3\nok\to2\t-\n" ∷ codes "ok\to2/v1/content/f\t3\nok\to3\t-\n" ∷ codes "ok\to3/v1/content/f\t3\n" ∷ []
+unfolding audit_on_literals
+runs_over_three_objects = refl
+
+inventories_of_three_objects : inventories three_objects ≡ place "o1/inventory.json" ∷ place "o2/inventory.json" ∷ place "o3/inventory.json" ∷ []
+unfolding audit_on_literals
+inventories_of_three_objects = refl
+
+-- an object of unknown version reads none
+inventories_of_a_stopped_object : inventories (storage_root (folder "o" ∷ text_at "o/0=ocfl_object_2.0" "" ∷ text_at "o/inventory.json" "{}" ∷ [])) ≡ []
+unfolding audit_on_literals
+inventories_of_a_stopped_object = refl
+
+-- ---- what a stop leaves
+
+-- an output that takes 10 bytes
+ten_bytes_of_the_report : take 10 (text (audit sha512_file [])) ≡ codes "ok\t.\t-\nok\t"
+unfolding audit_on_literals
+ten_bytes_of_the_report = refl
+
+-- the only item that went out whole is the root
+behind_the_root : text (cut (after (audit sha512_file []) (Some [])) (of_budget 9)) ≡ codes "ok\to\t-\nok\to/v1/content/f\t3\n"
+unfolding audit_on_literals
+behind_the_root = refl
+
+-- where the object can't be listed
+report_before_the_object : text (take 1 (audit sha512_file [])) ≡ codes "ok\t.\t-\n"
+unfolding audit_on_literals
+report_before_the_object = refl
+
+place_of_a_stop : (place_text (place "o") ≡ codes "o") × (place_text (place "o/inventory.json") ≡ codes "o/inventory.json")
+place_of_a_stop = (refl, refl)

@@ -1,0 +1,103 @@
+-- Worked cases: the walk over a stack of listings and the table of one object.
+use Rattle.std.proofs.Common.{◌≡◌, ℕ, List, [], ◌∷◌, codes, refl, map}
+use Prim.Native.String.{String}
+use Rattle.ocfl_tree.specs.Place.{Text, Place}
+use Rattle.ocfl_tree.specs.Tree.{Tree}
+use Rattle.ocfl_report.specs.Text.{text}
+use Rattle.ocfl_audit.specs.Walk.{walk}
+use Rattle.ocfl_audit.specs.Stack.{taken, lists, listed_at}
+use Rattle.ocfl_audit.proofs.OnLiterals.{audit_on_literals}
+use Rattle.ocfl_audit.proofs.CaseTrees.{place, text_at, folder, storage_root, missing_and_right, three_objects, sha512_file}
+
+-- what a walk that enters a tree at a place takes from there on
+abbrev Takes : Tree → String → String → Type 0
+Takes root p t = text (taken 12 root [] (place p) (listed_at root [] (place p) [])) ≡ codes t
+
+-- ---- a file that is missing, and one that is right
+
+entered_before_the_object : Takes missing_and_right "n" "ok\to\t-\nE092\to/v1/content/a\tsha256 missing\nE093\to/v1/content/a\tsha1 missing\nok\to/v1/content/b\t3\n"
+unfolding audit_on_literals
+entered_before_the_object = refl
+
+entered_at_an_absent_version : Takes missing_and_right "o/v0" "E092\to/v1/content/a\tsha256 missing\nE093\to/v1/content/a\tsha1 missing\nok\to/v1/content/b\t3\n"
+unfolding audit_on_literals
+entered_at_an_absent_version = refl
+
+entered_at_a_version : Takes missing_and_right "o/v1" "E092\to/v1/content/a\tsha256 missing\nE093\to/v1/content/a\tsha1 missing\nok\to/v1/content/b\t3\n"
+unfolding audit_on_literals
+entered_at_a_version = refl
+
+entered_at_a_missing_file : Takes missing_and_right "o/v1/content/a" "ok\to/v1/content/b\t3\n"
+unfolding audit_on_literals
+entered_at_a_missing_file = refl
+
+entered_below_a_file : Takes missing_and_right "o/v1/content/b/x" ""
+unfolding audit_on_literals
+entered_below_a_file = refl
+
+entered_behind_the_object : Takes missing_and_right "o-x" ""
+unfolding audit_on_literals
+entered_behind_the_object = refl
+
+entered_where_nothing_is : Takes missing_and_right "p/q" ""
+unfolding audit_on_literals
+entered_where_nothing_is = refl
+
+-- ---- what is listed, and when
+
+directories_listed : lists 12 missing_and_right [] (listed_at missing_and_right [] [] []) ≡ place "o" ∷ place "o/v1" ∷ place "o/v1/content" ∷ []
+unfolding audit_on_literals
+directories_listed = refl
+
+-- what the walk has taken, and has listed, after so many places
+abbrev taken_of_one_file : ℕ → Text
+taken_of_one_file n = text (taken n sha512_file [] [] (listed_at sha512_file [] [] []))
+
+abbrev listed_of_one_file : ℕ → List Place
+listed_of_one_file n = lists n sha512_file [] (listed_at sha512_file [] [] [])
+
+-- the root is listed first
+listed_at_the_root : (map (λ f. f.0) (listed_at sha512_file [] [] []) ≡ [] ∷ []) × (listed_of_one_file 1 ≡ [])
+unfolding audit_on_literals
+listed_at_the_root = (refl, refl)
+
+-- behind the root's declaration comes the object
+listed_at_the_head : (taken_of_one_file 2 ≡ codes "ok\to\t-\n") × (listed_of_one_file 2 ≡ place "o" ∷ [])
+unfolding audit_on_literals
+listed_at_the_head = (refl, refl)
+
+-- then its three files, the version and its content directory
+listed_at_the_file : (taken_of_one_file 7 ≡ codes "ok\to\t-\n") × (taken_of_one_file 8 ≡ codes "ok\to\t-\nok\to/v1/content/f\t3\n") × (listed_of_one_file 8 ≡ place "o" ∷ place "o/v1" ∷ place "o/v1/content" ∷ [])
+unfolding audit_on_literals
+listed_at_the_file = (refl, refl, refl)
+
+-- the root and the second object, and nothing of the first
+listed_on_entering : map (λ f. f.0) (listed_at three_objects [] (place "o2") []) ≡ place "o2" ∷ [] ∷ []
+unfolding audit_on_literals
+listed_on_entering = refl
+
+listed_behind_the_second_head : lists 16 three_objects (place "o2") (listed_at three_objects [] (place "o2") []) ≡ place "o2/v1" ∷ place "o2/v1/content" ∷ place "o3" ∷ place "o3/v1" ∷ place "o3/v1/content" ∷ []
+unfolding audit_on_literals
+listed_behind_the_second_head = refl
+
+-- ---- a walk through the whole tree
+
+abbrev plain_tree : Tree
+plain_tree = storage_root (folder "x" ∷ folder "y" ∷ text_at "y/z" "z" ∷ [])
+
+walk_through_the_hierarchy : text (walk 4 plain_tree [] []) ≡ codes "ok\t.\t-\nE073\tx\t-\nE072\ty/z\t-\n"
+unfolding audit_on_literals
+walk_through_the_hierarchy = refl
+
+walk_through_an_object : text (walk 6 missing_and_right [] []) ≡ codes "ok\t.\t-\nok\to\t-\nE092\to/v1/content/a\tsha256 missing\nE093\to/v1/content/a\tsha1 missing\nok\to/v1/content/b\t3\n"
+unfolding audit_on_literals
+walk_through_an_object = refl
+
+taken_from_the_hierarchy : Takes plain_tree "x" "E072\ty/z\t-\n"
+unfolding audit_on_literals
+taken_from_the_hierarchy = refl
+
+-- what lies under no directory is not there, for the walk as for the audit
+walk_without_directory : text (walk 4 (storage_root (folder "a/b" ∷ text_at "a/b/0=ocfl_object_1.1" "ocfl_object_1.1\n" ∷ [])) [] []) ≡ codes "ok\t.\t-\n"
+unfolding audit_on_literals
+walk_without_directory = refl

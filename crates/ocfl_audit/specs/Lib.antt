@@ -1,0 +1,11 @@
+pub mod Zone
+pub mod Head
+pub mod Lines
+pub mod Audit
+pub mod Due
+pub mod Trail
+pub mod Walk
+pub mod Stack
+pub mod Between
+pub mod Objects
+pub mod Runs

@@ -1,0 +1,126 @@
+-- The turn that is chosen, and what a stand is once listings of which nothing is left are let go.
+use Rattle.std.proofs.Common.{◌≡◌, List, [], ◌∷◌, refl, sym, ◌∙◌, ap, subst, true, false, Bool, Option, Some, None, Result, Ok, Err, arith}
+use Rattle.std.specs.Prelude.{cond, IfOk}
+use Rattle.std.specs.Ordering.{is_lt}
+use Rattle.std.specs.declared.cmp.Ordering.TheVariants.{Less}
+use Rattle.ocfl_tree.specs.Place.{Place, place_cmp}
+use Rattle.ocfl_tree.specs.Tree.{Tree}
+use Rattle.ocfl_tree.specs.Store.{Store}
+use Rattle.ocfl_tree.specs.declared.store.Entry.{Entry}
+use Rattle.ocfl_walk.specs.Standing.{IsBelowNext, IsOrderlyIf, IsStanding, Pile, StandsAt, TurnIs, next_of, path_from, size_of, stand_size, piles_in, trimmed, trimmed_from, turn_of}
+use Rattle.ocfl_audit.specs.Between.{IsBeyond}
+use Rattle.ocfl_walk.specs.Walking.{GoesOn}
+use Rattle.ocfl_walk.specs.Auditing.{WalkFails}
+use Rattle.ocfl_walk.specs.declared.fault.Fault.{Fault}
+use Rattle.ocfl_walk.specs.declared.fault.Fault.TheVariants as fault
+use Rattle.ocfl_walk.specs.declared.stand.Around.{Around}
+use Rattle.ocfl_walk.specs.declared.stand.Stand.{Stand}
+use Rattle.ocfl_walk.specs.declared.stand.Step.{Step}
+use Rattle.ocfl_walk.specs.declared.stand.Step.TheVariants as step
+use Rattle.ocfl_walk.specs.declared.stand.Turn.{Turn}
+use Rattle.ocfl_walk.specs.declared.stand.Turn.TheVariants as turn
+use Rattle.ocfl_audit.proofs.BelowLaws.{less_from}
+use Rattle.ocfl_walk.proofs.DueTurns.{turn_comes}
+use Rattle.ocfl_walk.proofs.OrderlyLaws.{fit_of, orderly_trimmed, size_trimmed}
+use Rattle.ocfl_walk.proofs.AuditingLaws.{walk_fails_nothing}
+use Rattle.ocfl_walk.proofs.TurnLaws.{standing_trimmed}
+
+not_base : (o p : Option Place) → turn.Base ≡ turn_of o p → ⊥
+not_base None None e = cc
+not_base (Some x) None e = cc
+not_base None (Some b) e = cc
+not_base (Some x) (Some b) e = by (is_lt (place_cmp b x)) e
+  where
+    by : (c : Bool) → turn.Base ≡ cond c (turn.Path b) (turn.Entry x) → ⊥
+    by true e = cc
+    by false e = cc
+
+entry_next : (o p : Option Place) (x : Place) → turn.Entry x ≡ turn_of o p → o ≡ Some x
+entry_next None None x e = absurd cc
+entry_next (Some y) None x e = cc
+entry_next None (Some b) x e = absurd cc
+entry_next (Some y) (Some b) x e = by (is_lt (place_cmp b y)) e
+  where
+    by : (c : Bool) → turn.Entry x ≡ cond c (turn.Path b) (turn.Entry y) → Some y ≡ Some x
+    by true e = absurd cc
+    by false e = cc
+
+path_next : (o p : Option Place) (x : Place) → turn.Path x ≡ turn_of o p → (p ≡ Some x) × IsBelowNext x o
+path_next None None x e = absurd cc
+path_next (Some y) None x e = absurd cc
+path_next None (Some b) x e = (cc, tt)
+path_next (Some y) (Some b) x e = by (is_lt (place_cmp b y)) refl e
+  where
+    by : (c : Bool) → is_lt (place_cmp b y) ≡ c → turn.Path x ≡ cond c (turn.Path b) (turn.Entry y) → (Some b ≡ Some x) × (place_cmp x y ≡ Less)
+    by true f e = let same : b ≡ x = cc in (ap (λ z. Some z) same, subst (λ z. place_cmp z y ≡ Less) same (less_from _ f))
+    by false f e = absurd cc
+
+module _ (last : Option Place) (o : Option Place) (a : Option Around) (t : Turn) (base : last ≡ None → t ≡ turn.Base) (next : (p : Place) → last ≡ Some p → t ≡ turn_of o (path_from p a)) where
+  pub chosen_base : t ≡ turn.Base → last ≡ None
+  chosen_base e = by last refl
+    where
+      by : (l : Option Place) → last ≡ l → last ≡ None
+      by None g = g
+      by (Some p) g = absurd (not_base o (path_from p a) (sym e ∙ next p g))
+
+  pub chosen_entry : (x : Place) → t ≡ turn.Entry x → o ≡ Some x
+  chosen_entry x e = by last refl
+    where
+      by : (l : Option Place) → last ≡ l → o ≡ Some x
+      by None g = absurd (let b : turn.Entry x ≡ turn.Base = sym e ∙ base g in cc)
+      by (Some p) g = entry_next o (path_from p a) x (sym e ∙ next p g)
+
+  pub chosen_path : (x : Place) → t ≡ turn.Path x → (p : Place) → last ≡ Some p → (path_from p a ≡ Some x) × IsBelowNext x o
+  chosen_path x e p g = path_next o (path_from p a) x (sym e ∙ next p g)
+
+trimmed_twice : (ps : List Pile) → trimmed (trimmed ps) ≡ trimmed ps
+trimmed_twice [] = refl
+trimmed_twice (p ∷ ps) = by p.0 p.1 (trimmed_twice ps)
+  where
+    by : (d : Place) (es : List Entry) → trimmed (trimmed ps) ≡ trimmed ps → trimmed (trimmed_from d es (trimmed ps) ps) ≡ trimmed_from d es (trimmed ps) ps
+    by d [] h = h
+    by d (e ∷ es) h = refl
+
+module _ (ps qs : List Pile) (a : Option Around) (is : qs ≡ trimmed ps) where
+  pub trim_stays : trimmed qs ≡ qs
+  trim_stays = ap trimmed is ∙ trimmed_twice ps ∙ sym is
+
+  pub mid_orderly : (last : Option Place) → IsOrderlyIf last ps a → IsOrderlyIf last qs a
+  mid_orderly last h = subst (λ xs. IsOrderlyIf last xs a) (sym is) (orderly_trimmed last ps a h)
+
+  pub mid_size : (last : Option Place) → size_of last qs a ≡ size_of last ps a
+  mid_size last = ap (λ xs. size_of last xs a) is ∙ size_trimmed last ps a
+
+  pub mid_stands : (root : Tree) (p : Place) → IsStanding root p ps a → IsStanding root p qs a
+  mid_stands root p h = subst (λ xs. IsStanding root p xs a) (sym is) (standing_trimmed root p ps a h)
+
+  pub chosen_turn : (root : Tree) (last : Option Place) (p : Place) (t : Turn) → last ≡ Some p → IsOrderlyIf last ps a → IsStanding root p ps a → t ≡ turn_of (next_of qs) (path_from p a) → TurnIs root p qs t
+  chosen_turn root last p t l o h e =
+      let fit = fit_of p ps a (subst (λ x. IsOrderlyIf x ps a) l o) in
+      subst (λ xs. TurnIs root p xs t) (sym is)
+      (turn_comes root p ps a t h fit (e ∙ ap (λ xs. turn_of (next_of xs) (path_from p a)) is) (λ b. not_base (next_of qs) (path_from p a) (sym b ∙ e)))
+
+pub sizes : (old mid : Stand) → mid.last ≡ old.last → mid.around ≡ old.around → piles_in mid.last mid.listings.items ≡ trimmed (piles_in old.last old.listings.items) → stand_size mid ≡ stand_size old
+unfolding stand_size
+sizes old mid l a is = (λ i. size_of (l i) (piles_in mid.last mid.listings.items) (a i)) ∙ mid_size (piles_in old.last old.listings.items) (piles_in mid.last mid.listings.items) old.around is old.last
+
+pub goes_from : (old mid new : Stand) → mid.last ≡ old.last → stand_size mid ≡ stand_size old → (r : Result Step Fault) → IfOk r (λ s. GoesOn mid new s) → IfOk r (λ s. GoesOn old new s)
+goes_from old mid new l z (Err f) g = g
+goes_from old mid new l z (Ok s) g = by s g
+  where
+    by : (s : Step) → GoesOn mid new s → GoesOn old new s
+    by (step.Item p) g = (g.0, subst (λ x. IsBeyond x p.place) l g.1, omega (arith, z, g.2), g.3)
+    by step.Nothing g = (g.0, g.1, subst (λ x. IsBeyond x g.0) l g.2, omega (arith, z, g.3))
+    by step.End g = tt
+
+-- where the last place is there, the walk stands at it
+pub at_last : (root : Tree) (old : Stand) (X : Option Place → Type 0) (last : Option Place) → StandsAt root old last → (old.last ≡ None → ⊥) → ((p : Place) → old.last ≡ Some p → IsStanding root p (piles_in old.last old.listings.items) old.around → X (Some p)) → X last
+at_last root old X None st n k = absurd (n st)
+at_last root old X (Some p) st n k = k p st.0 st.1
+
+pub at_first : (root : Tree) (old : Stand) (X : Option Place → Type 0) (last : Option Place) → StandsAt root old last → old.last ≡ None → X None → X last
+at_first root old X None st n k = k
+at_first root old X (Some p) st n k = absurd (let e : None ≡ Some p = sym n ∙ st.0 in cc)
+
+pub no_memory : (root : Tree) (s : Store) (last : Option Place) → s.tree ≡ root → WalkFails root s s last fault.Memory
+no_memory root s last over = walk_fails_nothing root s last fault.Memory over refl (λ q e. cc)

@@ -1,0 +1,141 @@
+-- What was done on the way down to a place, and where that leads.
+use Rattle.std.proofs.Common.{true, ◌≡◌, ℕ, List, [], ◌∷◌, ◌++◌, refl, sym, ◌∙◌, ap, subst, Option, Some, None, arith, length, append_assoc}
+use Rattle.std.proofs.lemmas.List.{append-nil, length-append}
+use Rattle.std.specs.Prelude.{Ok, Err}
+use Rattle.ocfl_tree.specs.Place.{Place}
+use Rattle.ocfl_tree.specs.Tree.{Tree}
+use Rattle.ocfl_tree.specs.Store.{Store, Did}
+use Rattle.ocfl_tree.specs.declared.store.Opening.{Opening}
+use Rattle.ocfl_inventory.specs.Table.{Table}
+use Rattle.ocfl_tree.proofs.Orders.{true_not_false}
+use Rattle.ocfl_audit.specs.Zone.{zone}
+use Rattle.ocfl_walk.specs.Looking.{IsFront, failures_by}
+use Rattle.ocfl_walk.specs.Ways.{AreInventories, Stops, Opens, ReadsTable}
+use Rattle.ocfl_walk.specs.Standing.{IsTableAround}
+use Rattle.ocfl_audit.specs.Trail.{heads_of}
+use Rattle.ocfl_walk.specs.Entering.{Descends, DescendFails, GoesInto}
+use Rattle.ocfl_walk.proofs.FailLaws.{failed_behind}
+use Rattle.ocfl_walk.specs.declared.fault.Fault.{Fault}
+use Rattle.ocfl_walk.specs.declared.fault.Fault.TheVariants as fault
+use Rattle.ocfl_walk.specs.declared.folder.Folder.{Folder}
+use Rattle.ocfl_walk.specs.declared.stand.Around.{Around}
+use Rattle.ocfl_tree.proofs.Stores.{did_then}
+use Rattle.ocfl_walk.proofs.LooksCalls.{did_nothing, memory_no_store}
+use Rattle.ocfl_walk.proofs.LooksZones.{is_plain}
+use Rattle.ocfl_walk.proofs.AuditingLaws.{heads_append}
+use Rattle.ocfl_audit.proofs.Trails.{content_behind}
+
+-- ---- one after the other
+
+pub front_on : {A : Type 0} (a m w b k : List A) → IsFront (a ++ m) w → IsFront (b ++ k) m → IsFront ((a ++ b) ++ k) w
+front_on a m w b k h g = (
+  g.0 ++ h.0,
+  h.1 ∙ ap (λ x. (a ++ x) ++ h.0) g.1 ∙ append_assoc a ((b ++ k) ++ g.0) h.0 ∙ ap (λ x. a ++ x) (append_assoc (b ++ k) g.0 h.0)
+      ∙ sym (append_assoc a (b ++ k) (g.0 ++ h.0)) ∙ ap (λ x. x ++ (g.0 ++ h.0)) (sym (append_assoc a b k)),
+)
+
+module _ (root : Tree) where
+  pub both_inventories : (os os' : List Opening) → AreInventories root os → AreInventories root os' → AreInventories root (os ++ os')
+  both_inventories os os' h k =
+      let all = ap length (heads_append root os os') in
+      omega (arith, h, k, all, length-append os os', length-append (heads_of root os) (heads_of root os'))
+
+  abbrev pub descends_on : (s t u : Store) (way more more' may left left' : List Place) (f : ℕ) → Descends root s t way more may left 0 → Descends root t u more more' left left' f → Descends root s u way more' may left' f
+  descends_on s t u way more more' may left left' f h g = record {
+    over = h.over;
+    trail = h.trail ++ g.trail;
+    listings = h.listings ++ g.listings;
+    did = did_then s t u h.trail g.trail h.listings g.listings f h.did g.did;
+    meta = content_behind root h.trail g.trail h.meta ∙ g.meta;
+    only = both_inventories h.trail g.trail h.only g.only;
+    listed = front_on h.listings more way g.listings more' h.listed g.listed;
+    heads = subst (λ x. IsFront (x ++ left') may) (sym (heads_append root h.trail g.trail)) (front_on (heads_of root h.trail) left may (heads_of root g.trail) left' h.heads g.heads);
+  }
+
+  pub descent_fails_on : (s t u : Store) (way more may left : List Place) (why : Fault) → Descends root s t way more may left 0 → DescendFails root t u more left why → DescendFails root s u way may why
+  descent_fails_on s t u way more may left why h g = record {
+    goes = descends_on s t u way more [] may left [] (failures_by why) h g.goes;
+    store = λ q e. let k = g.store q e in (k.0, failed_behind h.listings g.goes.listings h.trail g.goes.trail q k.1);
+  }
+
+  -- nothing was done
+  pub descends_not : (s t : Store) (way may : List Place) → s.tree ≡ root → Did s t [] [] 0 → Descends root s t way [] may [] 0
+  descends_not s t way may over did = record { over = over; trail = []; listings = []; did = did; meta = refl; only = refl; listed = (way, refl); heads = (may, refl) }
+
+  pub descent_memory : (s : Store) (way may : List Place) → s.tree ≡ root → DescendFails root s s way may fault.Memory
+  descent_memory s way may over = record { goes = descends_not s s way may over (did_nothing s); store = λ q e. absurd (memory_no_store q e) }
+
+  -- one directory was listed
+  pub descends_one : (s t : Store) (d : Place) (way may : List Place) → s.tree ≡ root → Did s t [] (d ∷ []) 0 → Descends root s t (d ∷ way) way may may 0
+  descends_one s t d way may over did = record { over = over; trail = []; listings = d ∷ []; did = did; meta = refl; only = refl; listed = ([], sym (append-nil (d ∷ way))); heads = ([], sym (append-nil may)) }
+
+  -- no more is done
+  abbrev pub descends_end : (s t : Store) (way more may left : List Place) (f : ℕ) → Descends root s t way more may left f → Descends root s t way [] may [] f
+  descends_end s t way more may left f h = record {
+    over = h.over;
+    trail = h.trail;
+    listings = h.listings;
+    did = h.did;
+    meta = h.meta;
+    only = h.only;
+    listed = (more ++ h.listed.0, h.listed.1 ∙ append_assoc h.listings more h.listed.0 ∙ ap (λ x. x ++ (more ++ h.listed.0)) (sym (append-nil h.listings)));
+    heads = (left ++ h.heads.0, h.heads.1 ∙ append_assoc (heads_of root h.trail) left h.heads.0 ∙ ap (λ x. x ++ (left ++ h.heads.0)) (sym (append-nil (heads_of root h.trail))));
+  }
+
+  -- a listing that failed
+  pub listing_fails : (s t : Store) (d : Place) (way may : List Place) (why : Fault) → Stops root s t (d ∷ []) [] why → DescendFails root s t (d ∷ way) may why
+  listing_fails s t d way may why h = record {
+    goes = record {
+      over = h.goes.over;
+      trail = [];
+      listings = h.goes.listings;
+      did = h.goes.did;
+      meta = refl;
+      only = refl;
+      listed = (h.goes.listed.0 ++ way, ap (λ x. x ++ way) h.goes.listed.1 ∙ append_assoc h.goes.listings h.goes.listed.0 way ∙ ap (λ x. x ++ (h.goes.listed.0 ++ way)) (sym (append-nil h.goes.listings)));
+      heads = (may, refl);
+    };
+    store = h.store;
+  }
+
+  -- ---- an object's inventory
+
+  opens_front : (o : Place) (trail : List Opening) → IsFront (heads_of root trail) (o ∷ []) → IsFront (heads_of root trail ++ []) (o ∷ [])
+  opens_front o trail h = subst (λ x. IsFront x (o ∷ [])) (sym (append-nil (heads_of root trail))) h
+
+  descends_read : (s t : Store) (o : Place) (m : Opens root s t o) → AreInventories root m.reads.trail → Descends root s t [] [] (o ∷ []) [] 0
+  descends_read s t o m only = record { over = m.reads.over; trail = m.reads.trail; listings = []; did = m.reads.did; meta = m.reads.meta.meta; only = only; listed = ([], refl); heads = opens_front o m.reads.trail m.heads }
+
+  pub into_stops : (s t : Store) (o : Place) (around : Option Around) (why : Fault) → ReadsTable root s t o (Err why) → GoesInto root s t o around (Err why)
+  into_stops s t o around why r =
+      let k = r.gives.0.stops in
+      record {
+        gives = record {
+          goes = record {
+            over = k.stops.goes.over;
+            trail = k.trail;
+            listings = k.stops.goes.listings;
+            did = k.stops.goes.did;
+            meta = k.meta.meta;
+            only = r.gives.1;
+            listed = subst (λ x. IsFront x []) (sym (append-nil k.stops.goes.listings)) k.stops.goes.listed;
+            heads = opens_front o k.trail r.gives.0.heads;
+          };
+          store = k.stops.store;
+        };
+      }
+
+  pub into_none : (s t : Store) (o : Place) (around : Option Around) → ReadsTable root s t o (Ok None) → GoesInto root s t o around (Ok None)
+  into_none s t o around r = record { gives = (descends_read s t o r.gives.0 r.gives.2, sym r.gives.1) }
+
+  pub into_memory : (s t : Store) (o : Place) (around : Option Around) (table : Table) → ReadsTable root s t o (Ok (Some table)) → GoesInto root s t o around (Err fault.Memory)
+  into_memory s t o around table r = record { gives = record { goes = descends_read s t o r.gives.0 r.gives.2; store = λ q e. absurd (memory_no_store q e) } }
+
+  pub into_table : (s t : Store) (o p : Place) (table : Table) (f : Folder) → ReadsTable root s t o (Ok (Some table)) → p ≡ o → GoesInto root s t o (Some (record { place = p; table = table })) (Ok (Some f))
+  into_table s t o p table f r e = record { gives = (descends_read s t o r.gives.0 r.gives.2, (e, sym r.gives.1)) }
+
+  -- ---- what is shut
+
+  -- where there is no object there is no table
+  pub plain_table : (p : Place) → is_plain (zone root p) ≡ true → IsTableAround root p None
+  plain_table p h o s z = absurd (true_not_false (sym h ∙ ap is_plain z))

@@ -1,0 +1,189 @@
+-- One name further down, on the way to a place.
+use Rattle.std.proofs.Common.{◌≡◌, ℕ, List, [], ◌∷◌, ◌++◌, refl, sym, ◌∙◌, ap, subst, true, false, Bool, Option, Some, None}
+use Rattle.std.specs.Prelude.{cond, ◌&&◌, ◌||◌, not, Result, Ok, Err, ⊤}
+use Rattle.ocfl_tree.specs.Place.{Text, Place}
+use Rattle.ocfl_tree.specs.Tree.{Tree, is_dir}
+use Rattle.ocfl_tree.specs.Store.{Store, Did}
+use Rattle.ocfl_tree.specs.declared.store.Entry.{Entry}
+use Rattle.ocfl_inventory.specs.Declaration.{is_known}
+use Rattle.ocfl_audit.specs.Zone.{skipped, hierarchy, inside, object_zone, root_declared, is_in_extensions, zone, table_at, is_entered, is_listed_zone, is_listed_in_object}
+use Rattle.ocfl_audit.specs.Walk.{is_reached, step_listed}
+use Rattle.ocfl_walk.specs.Ways.{Enters, Stops, way_below, is_listable, is_extensions_name, IsAt, IsObject}
+use Rattle.ocfl_walk.specs.Standing.{IsPart, IsTableAround}
+use Rattle.ocfl_walk.specs.Entering.{Descends, GoesInto, IsIn, IsShut, Leads, may_open}
+use Rattle.ocfl_walk.specs.Auditing.{holder_of, FailedAt}
+use Rattle.ocfl_walk.specs.declared.fault.Fault.{Fault}
+use Rattle.ocfl_walk.specs.declared.folder.Folder.{Folder}
+use Rattle.ocfl_walk.specs.declared.stand.Around.{Around}
+use Rattle.ocfl_tree.proofs.Orders.{true_not_false}
+use Rattle.ocfl_audit.proofs.AuditExists.{append_one}
+use Rattle.ocfl_audit.proofs.StepLaws.{reached_step, listed_step}
+use Rattle.ocfl_walk.proofs.LooksZones.{inside_on, inside_step, not_entered, out_of_zone, open_object, reach_on, entered_from, is_plain, plain_below, plain_extensions}
+use Rattle.ocfl_walk.proofs.DescentLaws.{descends_on, descent_fails_on, descends_not, descends_one, descends_end, listing_fails, plain_table}
+
+and_false : (a b : Bool) → b ≡ false → a && b ≡ false
+and_false true b h = h
+and_false false b h = refl
+
+nothing_more : (xs : List Place) → (rest : List Place) → [] ≡ (xs ++ []) ++ rest → xs ≡ []
+nothing_more [] rest h = refl
+nothing_more (x ∷ xs) rest h = absurd cc
+
+-- what is known of an answer on any store
+abbrev pub IsFair : Option Around → Folder → Result (Option Folder) Fault → Type 0
+IsFair new inner (Ok None) = new ≡ None
+IsFair new inner (Ok (Some f)) = f ≡ inner
+IsFair new inner (Err why) = ⊤
+
+module _ (root : Tree) where
+  shut_out : (d : Place) (n : Text) → is_entered root (d ++ n ∷ []) ≡ false → is_reached root (d ++ n ∷ []) ≡ false
+  shut_out d n h = reached_step root d n ∙ and_false (is_reached root d) (is_entered root (d ++ n ∷ [])) h
+
+  -- where there is no object
+  shut_plain : (d : Place) (n : Text) (r : Place) → is_entered root (d ++ n ∷ []) ≡ false → is_plain (zone root (d ++ n ∷ r)) ≡ true → IsShut root d n r None
+  shut_plain d n r h plain = record { out = shut_out d n h; table = plain_table root (d ++ n ∷ r) plain }
+
+  pub shut_unlisted : (d : Place) (n : Text) (r : Place) → zone root d ≡ hierarchy → is_listable root (d ++ n ∷ []) ≡ false → IsShut root d n r None
+  shut_unlisted d n r z h = shut_plain d n r (not_entered root (d ++ n ∷ []) h) (plain_below root d r n z h)
+
+  extensions_out : (d : Place) (n : Text) → is_extensions_name d n ≡ true → is_entered root (d ++ n ∷ []) ≡ false
+  extensions_out [] n h = by (is_dir root (n ∷ [])) refl
+    where
+      skips : (x : Bool) → cond (x || true) skipped (object_zone root [] (n ∷ [])) ≡ skipped
+      skips true = refl
+      skips false = refl
+
+      by : (b : Bool) → is_dir root (n ∷ []) ≡ b → is_entered root (n ∷ []) ≡ false
+      by true e =
+          let there : is_in_extensions root (n ∷ []) ≡ true = ap (λ b. b && is_dir root (n ∷ [])) h ∙ e in
+          out_of_zone root (n ∷ []) (ap (is_listed_zone root) (ap (λ b. cond (not (is_known (root_declared root)) || b) skipped (object_zone root [] (n ∷ []))) there ∙ skips (not (is_known (root_declared root)))))
+      by false e = not_entered root (n ∷ []) e
+  extensions_out (m ∷ d) n h = absurd (true_not_false (sym h))
+
+  pub shut_extensions : (d : Place) (n : Text) (r : Place) → zone root d ≡ hierarchy → is_extensions_name d n ≡ true → IsShut root d n r None
+  shut_extensions d n r z h = shut_plain d n r (extensions_out d n h) (plain_extensions root d r n z h)
+
+  object_below : (d : Place) (n : Text) (r : Place) → zone root (d ++ n ∷ []) ≡ inside (d ++ n ∷ []) [] → zone root (d ++ n ∷ r) ≡ inside (d ++ n ∷ []) r
+  object_below d n r z = ap (zone root) (sym (append_one d r n)) ∙ inside_on root (d ++ n ∷ []) (d ++ n ∷ []) [] r z
+
+  -- an object whose head stops
+  pub shut_object : (d : Place) (n : Text) (r : Place) → zone root (d ++ n ∷ []) ≡ inside (d ++ n ∷ []) [] → table_at root (d ++ n ∷ []) ≡ None → IsShut root d n r None
+  shut_object d n r z none = record {
+    out = shut_out d n (out_of_zone root (d ++ n ∷ []) (ap (is_listed_zone root) z ∙ ap (λ x. is_listed_in_object x []) none));
+    table = λ o s e. let same : inside (d ++ n ∷ []) r ≡ inside o s = sym (object_below d n r z) ∙ e in let is : d ++ n ∷ [] ≡ o = cc in ap (table_at root) (sym is) ∙ none;
+  }
+
+  -- ---- within an object
+
+  module _ (d : Place) (n : Text) (r : Place) (a : Around) (p : IsPart root d (Some a)) where
+    table_below : IsTableAround root (d ++ n ∷ r) (Some a)
+    table_below = (p.0 ++ n ∷ r, inside_on root d a.place p.0 (n ∷ r) p.1, p.2)
+
+    zone_next : is_listed_zone root (zone root (d ++ n ∷ [])) ≡ step_listed a.table p.0 n
+    zone_next = ap (is_listed_zone root) (inside_step root d a.place p.0 n p.1) ∙ ap (λ x. is_listed_in_object x (p.0 ++ n ∷ [])) p.2 ∙ listed_step a.table p.0 n
+
+    pub shut_off : step_listed a.table p.0 n ≡ false → IsShut root d n r (Some a)
+    shut_off h = record { out = shut_out d n (out_of_zone root (d ++ n ∷ []) (zone_next ∙ h)); table = table_below }
+
+    pub shut_deep : is_listable root (d ++ n ∷ []) ≡ false → IsShut root d n r (Some a)
+    shut_deep h = record { out = shut_out d n (not_entered root (d ++ n ∷ []) h); table = table_below }
+
+    pub in_object : (old : List Entry) (s t : Store) (f : Folder) → IsAt root d old → step_listed a.table p.0 n ≡ true → Enters root s t (d ++ n ∷ []) f.place f.entries.items → IsIn root (d ++ n ∷ []) f (Some a)
+    in_object old s t f at h k = record {
+      place = k.is;
+      here = record { listing = k.listing; reached = reach_on root d n at.reached (entered_from root (d ++ n ∷ []) k.listable (zone_next ∙ h)) };
+      part = (p.0 ++ n ∷ [], inside_step root d a.place p.0 n p.1, p.2);
+    }
+
+  -- ---- what a name leads to
+
+  module _ (s t : Store) (d : Place) (n : Text) (r : Place) (a : Option Around) (over : s.tree ≡ root) where
+    pub leads_shut : Did s t [] [] 0 → IsShut root d n r a → Leads root s t d n r a a (Ok None)
+    leads_shut did h = record { gives = (descends_not root s t (way_below d (n ∷ r)) (may_open a (zone root (d ++ n ∷ r))) over did, h) }
+
+    pub leads_listed : Did s t [] ((d ++ n ∷ []) ∷ []) 0 → IsShut root d n r a → Leads root s t d n r a a (Ok None)
+    leads_listed did h = record {
+      gives = (
+        descends_end root s t (way_below d (n ∷ r)) (way_below (d ++ n ∷ []) r) (may_open a (zone root (d ++ n ∷ r))) (may_open a (zone root (d ++ n ∷ r))) 0
+            (descends_one root s t (d ++ n ∷ []) (way_below (d ++ n ∷ []) r) (may_open a (zone root (d ++ n ∷ r))) over did),
+        h,
+      );
+    }
+
+    pub leads_in : (f : Folder) → Did s t [] ((d ++ n ∷ []) ∷ []) 0 → IsIn root (d ++ n ∷ []) f a → Leads root s t d n r a a (Ok (Some f))
+    leads_in f did h = record { gives = (descends_one root s t (d ++ n ∷ []) (way_below (d ++ n ∷ []) r) (may_open a (zone root (d ++ n ∷ r))) over did, h) }
+
+  pub leads_stop : (s t : Store) (d : Place) (n : Text) (r : Place) (a b : Option Around) (why : Fault) → Stops root s t ((d ++ n ∷ []) ∷ []) [] why → Leads root s t d n r a b (Err why)
+  leads_stop s t d n r a b why h = record { gives = listing_fails root s t (d ++ n ∷ []) (way_below (d ++ n ∷ []) r) (may_open a (zone root (d ++ n ∷ r))) why h }
+
+  -- into an object
+
+  abbrev descends_beside : (s t : Store) (way may left : List Place) (f : ℕ) → Descends root s t [] [] may left f → Descends root s t way way may left f
+  descends_beside s t way may left f h =
+      let none : h.listings ≡ [] = nothing_more h.listings h.listed.0 h.listed.1 in
+      record {
+        over = h.over;
+        trail = h.trail;
+        listings = [];
+        did = subst (λ ls. Did s t h.trail ls f) none h.did;
+        meta = h.meta;
+        only = h.only;
+        listed = ([], sym (append_nothing way));
+        heads = h.heads;
+      }
+    where
+      append_nothing : (xs : List Place) → xs ++ [] ≡ xs
+      append_nothing [] = refl
+      append_nothing (x ∷ xs) = ap (λ ys. x ∷ ys) (append_nothing xs)
+
+  module _ (s t u : Store) (d : Place) (n : Text) (r : Place) (over : s.tree ≡ root) (did : Did s t [] ((d ++ n ∷ []) ∷ []) 0) (z : zone root (d ++ n ∷ []) ≡ inside (d ++ n ∷ []) []) where
+    abbrev rest : List Place
+    rest = way_below (d ++ n ∷ []) r
+
+    may_is : may_open None (zone root (d ++ n ∷ r)) ≡ (d ++ n ∷ []) ∷ []
+    may_is = ap holder_of (object_below d n r z)
+
+    came : Descends root s t (way_below d (n ∷ r)) rest (may_open None (zone root (d ++ n ∷ r))) ((d ++ n ∷ []) ∷ []) 0
+    came = subst (λ x. Descends root s t (way_below d (n ∷ r)) rest (may_open None (zone root (d ++ n ∷ r))) x 0) may_is (descends_one root s t (d ++ n ∷ []) rest (may_open None (zone root (d ++ n ∷ r))) over did)
+
+    then : Descends root t u [] [] ((d ++ n ∷ []) ∷ []) [] 0 → Descends root s u (way_below d (n ∷ r)) rest (may_open None (zone root (d ++ n ∷ r))) [] 0
+    then h = descends_on root s t u (way_below d (n ∷ r)) rest rest (may_open None (zone root (d ++ n ∷ r))) ((d ++ n ∷ []) ∷ []) [] 0 came (descends_beside t u rest ((d ++ n ∷ []) ∷ []) [] 0 h)
+
+    pub leads_object_none : (new : Option Around) → new ≡ None → GoesInto root t u (d ++ n ∷ []) new (Ok None) → Leads root s u d n r None new (Ok None)
+    leads_object_none new e h = subst (λ x. Leads root s u d n r None x (Ok None)) (sym e) (record {
+      gives = (descends_end root s u (way_below d (n ∷ r)) rest (may_open None (zone root (d ++ n ∷ r))) [] 0 (then h.gives.0), shut_object d n r z h.gives.1);
+    })
+
+    pub leads_object : (new : Option Around) (f : Folder) → f.place ≡ d ++ n ∷ [] → IsObject root (d ++ n ∷ []) f.entries.items → GoesInto root t u (d ++ n ∷ []) new (Ok (Some f)) → Leads root s u d n r None new (Ok (Some f))
+    leads_object None f e is h = absurd h.gives.1
+    leads_object (Some a) f e is h =
+        let open_ = open_object root (d ++ n ∷ []) f.entries.items a.table is h.gives.1.1 in
+        record {
+          gives = (
+            then h.gives.0,
+            record {
+              place = e;
+              here = open_.here;
+              part = ([], z ∙ ap (λ x. inside x []) (sym h.gives.1.0), ap (table_at root) h.gives.1.0 ∙ h.gives.1.1);
+            },
+          );
+        }
+
+    pub leads_object_stop : (new : Option Around) (why : Fault) → GoesInto root t u (d ++ n ∷ []) new (Err why) → Leads root s u d n r None new (Err why)
+    leads_object_stop new why h =
+        record {
+          gives = descent_fails_on root s t u (way_below d (n ∷ r)) rest (may_open None (zone root (d ++ n ∷ r))) ((d ++ n ∷ []) ∷ []) why came
+              (record {
+                goes = descends_end root t u rest rest ((d ++ n ∷ []) ∷ []) [] _ (descends_beside t u rest ((d ++ n ∷ []) ∷ []) [] _ h.gives.goes);
+                store = λ q e.
+                    let k = h.gives.store q e in
+                    (k.0, subst (λ ls. FailedAt ls h.gives.goes.trail q) (nothing_more h.gives.goes.listings h.gives.goes.listed.0 h.gives.goes.listed.1) k.1);
+              });
+        }
+
+    pub leads_by_object : (new : Option Around) (inner : Folder) (x : Result (Option Folder) Fault) → inner.place ≡ d ++ n ∷ [] → IsObject root inner.place inner.entries.items → GoesInto root t u inner.place new x
+        → IsFair new inner x → Leads root s u d n r None new x
+    leads_by_object new inner (Ok None) e is h k = leads_object_none new k (subst (λ o. GoesInto root t u o new (Ok None)) e h)
+    leads_by_object new inner (Ok (Some f)) e is h k =
+        leads_object new f (ap (λ g. g.place) k ∙ e) (subst (λ o. IsObject root o f.entries.items) e (subst (λ es. IsObject root inner.place es) (ap (λ g. g.entries.items) (sym k)) is)) (subst (λ o. GoesInto root t u o new (Ok (Some f))) e h)
+    leads_by_object new inner (Err why) e is h k = leads_object_stop new why (subst (λ o. GoesInto root t u o new (Err why)) e h)

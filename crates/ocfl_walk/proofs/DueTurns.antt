@@ -1,0 +1,105 @@
+-- What is due before and after a turn.
+use Rattle.std.proofs.Common.{◌≡◌, ◌≢◌, List, [], ◌∷◌, ◌++◌, refl, sym, ◌∙◌, ap, subst, map, filter, Option, Some, None, not}
+use Rattle.std.specs.Ordering.{is_lt}
+use Rattle.std.specs.declared.cmp.Ordering.TheVariants.{Less}
+use Rattle.ocfl_tree.specs.Place.{Place, place_cmp}
+use Rattle.ocfl_tree.specs.Ascending.{IsAmong}
+use Rattle.ocfl_tree.specs.Tree.{Tree, Leaf}
+use Rattle.ocfl_tree.proofs.Orders.{place_cmp_total, not_below_itself, among_filter, among_from_filter}
+use Rattle.ocfl_report.specs.Line.{Note, Item, lines_at}
+use Rattle.ocfl_audit.specs.Audit.{Unread, item_of, audit, after}
+use Rattle.ocfl_audit.specs.Due.{due, items_at}
+use Rattle.ocfl_audit.specs.Head.{on}
+use Rattle.ocfl_audit.specs.Lines.{notes, is_empty}
+use Rattle.ocfl_audit.specs.Walk.{item_at}
+use Rattle.ocfl_audit.specs.Stack.{Frame, IsStack, seen_places}
+use Rattle.ocfl_audit.specs.Zone.{seen}
+use Rattle.ocfl_walk.specs.Standing.{Pile, IsFitIf, IsStanding, IsTurn, TurnIs, frames_of, next_of, path_from, place_by, trimmed, turn_of}
+use Rattle.ocfl_walk.specs.declared.stand.Around.{Around}
+use Rattle.ocfl_walk.specs.declared.stand.Turn.{Turn}
+use Rattle.ocfl_walk.specs.declared.stand.Turn.TheVariants as turn
+use Rattle.ocfl_audit.proofs.BelowLaws.{above, less_from}
+use Rattle.ocfl_audit.proofs.DueLaws.{after_is_due}
+use Rattle.ocfl_audit.proofs.MachineLaws.{IsNext, NextIs, from_root}
+use Rattle.ocfl_audit.proofs.NextLaws.{walk_takes, walk_ends, seen_to}
+use Rattle.ocfl_tree.specs.Store.{Store}
+use Rattle.ocfl_audit.specs.Stack.{NoneSeenAbove}
+use Rattle.ocfl_audit.specs.Between.{read_between}
+use Rattle.ocfl_audit.proofs.BetweenLaws.{looked_step, read_step, looked_end, read_end}
+use Rattle.ocfl_walk.specs.Auditing.{Audits, Walks}
+use Rattle.ocfl_walk.proofs.AuditingLaws.{IsNear, audits_nothing}
+use Rattle.ocfl_walk.proofs.TurnLaws.{standing_trimmed, turn_is_next}
+use Rattle.ocfl_audit.proofs.WayLaws.{is_closed}
+
+places_at : (root : Tree) (u : Unread) (ps : List Place) → map (λ i. i.place) (map (item_of root u) ps) ≡ ps
+places_at root u [] = refl
+places_at root u (p ∷ ps) = ap (λ qs. p ∷ qs) (places_at root u ps)
+
+-- what is due, by the audit's items
+due_places : (root : Tree) (last : Option Place) → due root last ≡ map (λ i. i.place) (after (audit root []) last)
+unfolding items_at
+due_places root last = sym (ap (map (λ i. i.place)) (after_is_due root [] last) ∙ places_at root [] (due root last))
+
+places_append : (xs ys : List Item) → map (λ i. i.place) (xs ++ ys) ≡ map (λ i. i.place) xs ++ map (λ i. i.place) ys
+places_append [] ys = refl
+places_append (x ∷ xs) ys = ap (λ zs. x.place ∷ zs) (places_append xs ys)
+
+item_some : (root : Tree) (x : Place) (ns : List Note) → notes root None x ≡ ns → ns ≢ [] → map (λ i. i.place) (item_at root [] x) ≡ x ∷ []
+item_some root x [] e n = absurd (n refl)
+item_some root x (m ∷ ns) e n = ap (λ ks. map (λ i. i.place) (on (not (is_empty (lines_at x ks))) (item_of root [] x))) e
+
+item_none : (root : Tree) (x : Place) → notes root None x ≡ [] → map (λ i. i.place) (item_at root [] x) ≡ []
+item_none root x e = ap (λ ks. map (λ i. i.place) (on (not (is_empty (lines_at x ks))) (item_of root [] x))) e
+
+module _ (root : Tree) where
+  due_steps : (last x : Place) → after (audit root []) (Some last) ≡ item_at root [] x ++ after (audit root []) (Some x) → due root (Some last) ≡ map (λ i. i.place) (item_at root [] x) ++ due root (Some x)
+  due_steps last x h =
+      due_places root (Some last) ∙ ap (map (λ i. i.place)) h ∙ places_append (item_at root [] x) (after (audit root []) (Some x))
+      ∙ ap (λ ps. map (λ i. i.place) (item_at root [] x) ++ ps) (sym (due_places root (Some x)))
+
+  turn_from : (last : Place) (k : Place × List Frame) → IsNext root (is_closed root) last k → IsTurn root last k.0 k.1
+  turn_from last k n =
+      let steps = due_steps last k.0 (walk_takes root (is_closed root) [] last k.0 n.above_last n.none_seen n.none_named) in
+      record {
+        above = n.above_last;
+        none_seen = n.none_seen;
+        stack = n.stack;
+        listed = n.listed;
+        some = λ s. steps ∙ ap (λ ps. ps ++ due root (Some k.0)) (item_some root k.0 _ refl s);
+        none = λ s. steps ∙ ap (λ ps. ps ++ due root (Some k.0)) (item_none root k.0 s);
+      }
+
+  pub near_turn : (last x : Place) (fs : List Frame) → IsTurn root last x fs → IsNear root (Some last) x
+  near_turn last x fs t = record { beyond = t.above; looked = looked_step root last x t.above t.none_seen; read = read_step root last x t.above t.none_seen }
+
+  -- where nothing is left, nothing is looked into or read
+  pub walks_end : (s : Store) (last : Place) → NoneSeenAbove root last → s.tree ≡ root → Walks root s s (Some last) None
+  walks_end s last none over = record {
+    trail = [];
+    audits = subst (λ ls. Audits root s s [] ls (read_between root (Some last) None) []) (sym (looked_end root last none)) (subst (λ hs. Audits root s s [] [] hs []) (sym (read_end root last none)) (audits_nothing root s over));
+  }
+
+  -- a place at which the stack stays is not seen
+  unseen_if_stays : (last b : Place) (fs : List Frame) → place_cmp last b ≡ Less → IsStack root last fs → IsStack root b fs → (o : Option Leaf) → seen root b ≡ o → o ≡ None
+  unseen_if_stays last b fs l h k None e = refl
+  unseen_if_stays last b fs l h k (Some leaf) e =
+      let same : filter (above last) (seen_places root) ≡ filter (above b) (seen_places root) = sym h ∙ k in
+      let here = among_filter (above last) (seen_places root) b (seen_to root b leaf e) (ap is_lt l) in
+      let there = among_from_filter (above b) (seen_places root) b (subst (λ xs. IsAmong xs b) same here) in
+      absurd (not_below_itself place_cmp_total b (less_from _ there.1))
+
+  pub turn_comes : (last : Place) (ps : List Pile) (a : Option Around) (t : Turn) → IsStanding root last ps a → IsFitIf a → t ≡ turn_of (next_of (trimmed ps)) (path_from last a) → (t ≡ turn.Base → ⊥) → TurnIs root last (trimmed ps) t
+  turn_comes last ps a t h fit is base = by t base (subst (λ x. NextIs root (is_closed root) last (place_by root (trimmed ps) x)) (sym is) (turn_is_next root (is_closed root) last ps a h fit))
+    where
+      by : (t : Turn) → (t ≡ turn.Base → ⊥) → NextIs root (is_closed root) last (place_by root (trimmed ps) t) → TurnIs root last (trimmed ps) t
+      by turn.Base n k = n refl
+      by (turn.Entry e) n k = turn_from last _ k
+      by (turn.Path b) n k = (turn_from last _ k, unseen_if_stays last b (frames_of (trimmed ps)) k.above_last (standing_trimmed root last ps a h).stack k.stack (seen root b) refl)
+      by turn.End n k = (k.0, due_places root (Some last) ∙ ap (map (λ i. i.place)) (walk_ends root (is_closed root) [] last k.0 k.1))
+
+  -- the storage root comes first, and has lines
+  pub due_first : notes root None [] ≢ [] → due root None ≡ [] ∷ due root (Some [])
+  due_first s =
+      due_places root None ∙ ap (map (λ i. i.place)) (from_root root (is_closed root) []) ∙ places_append (item_at root [] []) (after (audit root []) (Some []))
+      ∙ ap (λ ps. ps ++ map (λ i. i.place) (after (audit root []) (Some []))) (item_some root [] _ refl s)
+      ∙ ap (λ ps. [] ∷ ps) (sym (due_places root (Some [])))

@@ -1,0 +1,256 @@
+-- One place, looked up by itself.
+use Rattle.std.proofs.Common.{◌≡◌, ◌≢◌, ℕ, ◌+◌, ◌≤◌, List, [], ◌∷◌, ◌++◌, refl, sym, ◌∙◌, ap, subst, true, false, Bool, Option, Some, None, arith, length, append_assoc}
+use Rattle.std.proofs.lemmas.List.{append-nil, length-append}
+use Rattle.std.specs.Prelude.{AllPairs, Result, Ok, Err, IfErr, IfOk}
+use Rattle.ocfl_tree.specs.Place.{Text, Place}
+use Rattle.ocfl_tree.specs.Tree.{Tree, dir}
+use Rattle.ocfl_tree.specs.Store.{Store, Did}
+use Rattle.ocfl_tree.specs.Listing.{kind_at, kind_in}
+use Rattle.ocfl_tree.specs.declared.store.Entry.{Entry}
+use Rattle.ocfl_tree.specs.declared.store.Opening.{Opening}
+use Rattle.ocfl_audit.specs.Zone.{Zone, skipped, hierarchy, inside, zone, seen}
+use Rattle.ocfl_audit.specs.Trail.{heads_of, is_head}
+use Rattle.ocfl_walk.specs.Auditing.{holder_of}
+use Rattle.ocfl_walk.specs.Entering.{Descends, DescendFails, Leads, may_open}
+use Rattle.ocfl_walk.specs.Finding.{Finds, FindFails, FindsItem}
+use Rattle.ocfl_walk.specs.Looking.{IsFront, failures_by}
+use Rattle.ocfl_walk.specs.Standing.{IsMet, IsPart, IsTableAround}
+use Rattle.ocfl_walk.specs.Walking.{IsItemAt, Visits}
+use Rattle.ocfl_walk.specs.Ways.{AreInventories, IsAt, way_below}
+use Rattle.ocfl_walk.specs.declared.fault.Fault.{Fault}
+use Rattle.ocfl_walk.specs.declared.fault.Fault.TheVariants as fault
+use Rattle.ocfl_walk.specs.declared.folder.Folder.{Folder}
+use Rattle.ocfl_walk.specs.declared.pending.Pending.{Pending}
+use Rattle.ocfl_walk.specs.declared.stand.Around.{Around}
+use Rattle.ocfl_walk.specs.declared.visit.Visit.{Visit}
+use Rattle.ocfl_tree.proofs.Orders.{true_not_false}
+use Rattle.ocfl_audit.proofs.AuditExists.{append_one, some_not_none}
+use Rattle.ocfl_audit.proofs.Trails.{content_behind}
+use Rattle.ocfl_audit.proofs.WayLaws.{head_seen, is_closed}
+use Rattle.ocfl_audit.specs.Head.{on}
+use Rattle.ocfl_audit.specs.Between.{is_looked_into}
+use Rattle.ocfl_audit.specs.Trail.{content_trail, reads_inventory}
+use Rattle.ocfl_walk.proofs.DescentLaws.{front_on}
+use Rattle.ocfl_walk.proofs.FailLaws.{failed_behind, few_once, none_once}
+use Rattle.ocfl_walk.proofs.ItemLaws.{head_zone}
+use Rattle.ocfl_walk.proofs.LooksCalls.{did_nothing, memory_no_store}
+use Rattle.ocfl_walk.proofs.LooksZones.{inside_step, sight_nothing, unseen_behind}
+use Rattle.ocfl_walk.proofs.MeetLaws.{own_head}
+use Rattle.ocfl_walk.proofs.AuditingLaws.{heads_append}
+use Rattle.ocfl_tree.proofs.Stores.{did_then}
+
+-- ---- lists
+
+pub none_is : {A : Type 0} (xs : List A) → length xs ≡ 0 → xs ≡ []
+none_is [] h = refl
+none_is (x ∷ xs) h = absurd (omega (arith, h))
+
+pub front_of : {A : Type 0} (xs ys zs : List A) → IsFront (xs ++ ys) zs → IsFront xs zs
+front_of xs ys zs h = (ys ++ h.0, h.1 ∙ append_assoc xs ys h.0)
+
+-- a front and what is left of it are no more than the whole
+front_fits : {A : Type 0} (xs ys zs : List A) → IsFront (xs ++ ys) zs → length xs + length ys ≤ length zs
+front_fits xs ys zs h = let one = ap length h.1 in omega (arith, one, length-append (xs ++ ys) h.0, length-append xs ys)
+
+-- a front of what is left
+front_next : {A : Type 0} (a m w b : List A) → IsFront (a ++ m) w → IsFront b m → IsFront (a ++ b) w
+front_next a m w b h g = front_of (a ++ b) [] w (front_on a m w b [] h (subst (λ x. IsFront x m) (sym (append-nil b)) g))
+
+pub may_few : (a : Option Around) (z : Zone) → length (may_open a z) ≤ 1
+may_few None skipped = omega arith
+may_few None hierarchy = omega arith
+may_few None (inside o q) = omega arith
+may_few (Some b) z = omega arith
+
+-- the place, from one directory further down
+pub further : (p d e : Place) (n : Text) (r' r : Place) → p ≡ d ++ n ∷ r → e ≡ d ++ n ∷ [] → r ≡ r' → p ≡ e ++ r'
+further p d e n r' r is at same = is ∙ ap (λ x. d ++ n ∷ x) same ∙ sym (append_one d r' n) ∙ ap (λ x. x ++ r') (sym at)
+
+-- at one place at most that place
+pub front_within : (e : Place) (b : Bool) (xs : List Place) → IsFront xs (on b e) → IsFront xs (e ∷ [])
+front_within e true xs h = h
+front_within e false [] h = (e ∷ [], refl)
+front_within e false (x ∷ xs) h = absurd cc
+
+pub front_own : (e : Place) (b : Bool) (xs : List Place) → xs ≡ on b e → IsFront xs (e ∷ [])
+front_own e b xs is = front_within e b xs ([], sym is ∙ sym (append-nil xs))
+
+module _ (root : Tree) where
+  -- ---- what was done
+
+  pub few_openings : (trail : List Opening) (left may : List Place) → AreInventories root trail → IsFront (heads_of root trail ++ left) may → length trail + length left ≤ length may
+  few_openings trail left may only h = let k = front_fits (heads_of root trail) left may h in omega (arith, only, k)
+
+  abbrev pub finds_descended : (s t : Store) (way more may left : List Place) (f : ℕ) → length may ≤ 1 → Descends root s t way more may left f → Finds root s t way may f
+  finds_descended s t way more may left f few h =
+      let all = few_openings h.trail left may h.only h.heads in
+      record {
+        over = h.over;
+        trail = h.trail;
+        listings = h.listings;
+        did = h.did;
+        meta = h.meta;
+        once = few_once h.trail (omega (arith, few, all));
+        closed = λ e. none_is h.trail (let none = ap length e in omega (arith, none, all));
+        listed = front_of h.listings more way h.listed;
+        heads = front_of (heads_of root h.trail) left may h.heads;
+      }
+
+  pub finds_stopped : (s t : Store) (way may : List Place) (why : Fault) → length may ≤ 1 → DescendFails root s t way may why → FindFails root s t way may why
+  finds_stopped s t way may why few h = record { finds = finds_descended s t way [] may [] (failures_by why) few h.goes; store = h.store }
+
+  both_once : (left : List Place) (os os' : List Opening) → length os + length left ≤ 1 → (left ≡ [] → os' ≡ []) → AllPairs (λ a b. a.place ≢ b.place) os' → AllPairs (λ a b. a.place ≢ b.place) (os ++ os')
+  both_once left [] os' few closed once = once
+  both_once left (x ∷ os) os' few closed once =
+      let none = ap length (closed (none_is left (omega (arith, few)))) in
+      few_once (x ∷ os ++ os') (omega (arith, few, none, length-append (x ∷ os) os'))
+
+  module _ (s t u : Store) (way more may left : List Place) (few : length may ≤ 1) (h : Descends root s t way more may left 0) where
+    all : length h.trail + length left ≤ length may
+    all = few_openings h.trail left may h.only h.heads
+
+    abbrev finds_on : (f : ℕ) → Finds root t u more left f → Finds root s u way may f
+    finds_on f g = record {
+      over = h.over;
+      trail = h.trail ++ g.trail;
+      listings = h.listings ++ g.listings;
+      did = did_then s t u h.trail g.trail h.listings g.listings f h.did g.did;
+      meta = content_behind root h.trail g.trail h.meta ∙ g.meta;
+      once = both_once left h.trail g.trail (omega (arith, all, few)) g.closed g.once;
+      closed = λ e.
+          let none = ap length e in
+          let before = none_is h.trail (omega (arith, none, all)) in
+          let behind = g.closed (none_is left (omega (arith, none, all))) in
+          (λ i. before i ++ behind i);
+      listed = front_next h.listings more way g.listings h.listed g.listed;
+      heads = subst (λ x. IsFront x may) (sym (heads_append root h.trail g.trail)) (front_next (heads_of root h.trail) left may (heads_of root g.trail) h.heads g.heads);
+    }
+
+    pub item_on : (p : Place) (r : Result (Option Pending) Fault) → FindsItem root t u more left p r → FindsItem root s u way may p r
+    item_on p (Ok o) k = record { gives = (finds_on 0 k.gives.0, k.gives.1) }
+    item_on p (Err why) k = record {
+      gives = record {
+        finds = finds_on (failures_by why) k.gives.finds;
+        store = λ q e. let f = k.gives.store q e in (f.0, failed_behind h.listings k.gives.finds.listings h.trail k.gives.finds.trail q f.1);
+      };
+    }
+
+  pub finds_nothing : (s : Store) (way may : List Place) → s.tree ≡ root → Finds root s s way may 0
+  finds_nothing s way may over = record { over = over; trail = []; listings = []; did = did_nothing s; meta = refl; once = none_once; closed = λ e. refl; listed = (way, refl); heads = (may, refl) }
+
+  -- an item that is known without the store
+  pub item_known : (s t : Store) (way may : List Place) (p : Place) (r : Result (Option Pending) Fault) → Finds root s t way may 0 → IfErr r (λ why. why ≡ fault.Memory) → IfOk r (λ o. IsItemAt root p o) → FindsItem root s t way may p r
+  item_known s t way may p (Ok o) h only told = record { gives = (h, told) }
+  item_known s t way may p (Err why) h only told = record { gives = subst (FindFails root s t way may) (sym only) (record { finds = h; store = λ q e. absurd (memory_no_store q e) }) }
+
+  pub item_memory : (s : Store) (way may : List Place) (p : Place) → s.tree ≡ root → FindsItem root s s way may p (Err fault.Memory)
+  item_memory s way may p over = record { gives = record { finds = finds_nothing s way may over; store = λ q e. absurd (memory_no_store q e) } }
+
+  -- ---- at the last name
+
+  module _ (d e : Place) (n : Text) (a : Option Around) (is : e ≡ d ++ n ∷ []) (part : IsPart root d a) where
+    no_head : (b : Around) → IsPart root d (Some b) → is_head (zone root e) ≡ false
+    no_head b p = ap (λ x. is_head (zone root x)) is ∙ ap is_head (inside_step root d b.place p.0 n p.1) ∙ by p.0
+      where
+        by : (s : Place) → is_head (inside b.place (s ++ n ∷ [])) ≡ false
+        by [] = refl
+        by (m ∷ s) = refl
+
+    own_inventory : (x : Option Around) → IsPart root d x → is_head (zone root e) ≡ true → may_open x (zone root e) ≡ e ∷ []
+    own_inventory None p h = ap holder_of (head_zone root e h)
+    own_inventory (Some b) p h = absurd (true_not_false (sym h ∙ no_head b p))
+
+    not_base : e ≢ []
+    not_base k = by d (sym is ∙ k)
+      where
+        by : (c : Place) → c ++ n ∷ [] ≡ [] → ⊥
+        by [] g = absurd cc
+        by (m ∷ c) g = absurd cc
+
+    module _ (s t : Store) (trail : List Opening) (heads : IsFront (heads_of root trail) (e ∷ [])) (elsewhere : is_head (zone root e) ≡ false → e ≢ [] → trail ≡ []) where
+      own_heads : (b : Bool) → is_head (zone root e) ≡ b → IsFront (heads_of root trail) (may_open a (zone root e))
+      own_heads true h = subst (IsFront (heads_of root trail)) (sym (own_inventory a part h)) heads
+      own_heads false h = subst (λ x. IsFront (heads_of root x) (may_open a (zone root e))) (sym (elsewhere h not_base)) (may_open a (zone root e), refl)
+
+      own_closed : (b : Bool) → is_head (zone root e) ≡ b → may_open a (zone root e) ≡ [] → trail ≡ []
+      own_closed true h k = absurd (filled (sym (own_inventory a part h) ∙ k))
+        where
+          filled : e ∷ [] ≡ [] → ⊥
+          filled g = cc
+      own_closed false h k = elsewhere h not_base
+
+      abbrev finds_met : (f : ℕ) (listings : List Place) → s.tree ≡ root → Did s t trail listings f → content_trail root trail ≡ [] → AllPairs (λ x y. x.place ≢ y.place) trail → IsFront listings (e ∷ []) → Finds root s t (e ∷ []) (may_open a (zone root e)) f
+      finds_met f listings over did meta once listed = record {
+        over = over;
+        trail = trail;
+        listings = listings;
+        did = did;
+        meta = meta;
+        once = once;
+        closed = own_closed (is_head (zone root e)) refl;
+        listed = listed;
+        heads = own_heads (is_head (zone root e)) refl;
+      }
+
+    module _ (s t : Store) where
+      pub item_met : (v : Visit) → Visits root s t e (Ok v) → FindsItem root s t (e ∷ []) (may_open a (zone root e)) e (Ok v.item)
+      item_met v h =
+          let m = h.gives.0 in
+          record { gives = (finds_met s t m.trail (front_own e (reads_inventory root e) (heads_of root m.trail) m.heads) m.elsewhere 0 m.listings m.over m.did m.meta m.once (front_own e (is_looked_into root e) m.listings m.listed), h.gives.1.item) }
+
+      pub item_unmet : (why : Fault) → Visits root s t e (Err why) → FindsItem root s t (e ∷ []) (may_open a (zone root e)) e (Err why)
+      item_unmet why h =
+          let m = h.gives in
+          record { gives = record { finds = finds_met s t m.trail (front_within e (reads_inventory root e) (heads_of root m.trail) m.heads) m.elsewhere (failures_by why) m.listings m.over m.did m.meta m.once (front_within e (is_looked_into root e) m.listings m.listed); store = m.store } }
+
+  -- ---- a name before it
+
+  module _ (d : Place) (n : Text) (r p : Place) (old new : Option Around) (is : p ≡ d ++ n ∷ r) where
+    few_old : length (may_open old (zone root p)) ≤ 1
+    few_old = may_few old (zone root p)
+
+    pub item_further : (s t u : Store) (inner : Folder) (r' : Place) (res : Result (Option Pending) Fault) → r ≡ r' → Leads root s t d n r old new (Ok (Some inner)) → FindsItem root t u (way_below inner.place r') (may_open new (zone root p)) p res
+        → FindsItem root s u (way_below d (n ∷ r)) (may_open old (zone root p)) p res
+    item_further s t u inner r' res same h k =
+        item_on s t u (way_below d (n ∷ r)) (way_below (d ++ n ∷ []) r) (may_open old (zone root p)) (may_open new (zone root p)) few_old
+        (subst (λ x. Descends root s t (way_below d (n ∷ r)) (way_below (d ++ n ∷ []) r) (may_open old (zone root x)) (may_open new (zone root x)) 0) (sym is) h.gives.0)
+        p res (subst (λ x. FindsItem root t u (way_below (d ++ n ∷ []) x) (may_open new (zone root p)) p res) (sym same) (subst (λ x. FindsItem root t u (way_below x r') (may_open new (zone root p)) p res) h.gives.1.place k))
+
+    pub item_stop : (s t : Store) (why : Fault) → Leads root s t d n r old new (Err why) → FindsItem root s t (way_below d (n ∷ r)) (may_open old (zone root p)) p (Err why)
+    item_stop s t why h = record {
+      gives = finds_stopped s t (way_below d (n ∷ r)) (may_open old (zone root p)) why few_old (subst (λ x. DescendFails root s t (way_below d (n ∷ r)) (may_open old (zone root x)) why) (sym is) h.gives);
+    }
+
+    pub item_shut : (s t : Store) (res : Result (Option Pending) Fault) → Leads root s t d n r old new (Ok None) → IfErr res (λ why. why ≡ fault.Memory) → IfOk res (λ o. IsItemAt root p o) → FindsItem root s t (way_below d (n ∷ r)) (may_open old (zone root p)) p res
+    item_shut s t res h only told =
+        item_known s t (way_below d (n ∷ r)) (may_open old (zone root p)) p res
+        (finds_descended s t (way_below d (n ∷ r)) [] (may_open old (zone root p)) [] 0 few_old (subst (λ x. Descends root s t (way_below d (n ∷ r)) [] (may_open old (zone root x)) [] 0) (sym is) h.gives.0))
+        only told
+
+    pub shut_table : (s t : Store) → Leads root s t d n r old new (Ok None) → IsTableAround root p new
+    shut_table s t h = subst (λ x. IsTableAround root x new) (sym is) h.gives.1.table
+
+    pub shut_unseen : (s t : Store) (m : Text) (q : Place) → r ≡ m ∷ q → Leads root s t d n r old new (Ok None) → seen root p ≡ None
+    shut_unseen s t m q e h =
+        ap (seen root) (is ∙ ap (λ x. d ++ n ∷ x) e ∙ sym (append_one d (m ∷ q) n)) ∙ unseen_behind root (d ++ n ∷ []) q m h.gives.1.out
+
+  -- ---- an entry that is there, or not
+
+  pub listed_met : (d e : Place) (n : Text) (es : List Entry) (a : Option Around) (entry : Entry) → IsAt root d es → IsPart root d a → e ≡ d ++ n ∷ [] → entry.name ≡ n → kind_in es n ≡ Some entry.kind → IsMet root d a entry e
+  listed_met d e n es a entry at part is name there = record {
+    is = is ∙ ap (λ x. d ++ x ∷ []) (sym name);
+    reached = at.reached;
+    part = part;
+    kind = ap (kind_at root d) name ∙ sym (at.listing.each n) ∙ there;
+  }
+
+  module _ (d e : Place) (n : Text) (es : List Entry) (at : IsAt root d es) (is : e ≡ d ++ n ∷ []) (none : kind_in es n ≡ None) where
+    pub missing_unseen : seen root e ≡ None
+    missing_unseen = ap (seen root) is ∙ sight_nothing root d n es at (sym none)
+
+    pub missing_table : (a : Option Around) → IsPart root d a → IsTableAround root e a
+    missing_table None z = λ o s h.
+        let own = own_head root d n z o s (sym (ap (zone root) is) ∙ h) in
+        let same : o ≡ e = own.0 ∙ sym is in
+        absurd (some_not_none dir (sym missing_unseen ∙ ap (seen root) (sym same) ∙ head_seen root (is_closed root) e o s h))
+    missing_table (Some b) p = (p.0 ++ n ∷ [], ap (zone root) is ∙ inside_step root d b.place p.0 n p.1, p.2)

@@ -1,0 +1,185 @@
+-- What was done to know one place.
+use Rattle.std.proofs.Common.{◌≡◌, ◌≢◌, ℕ, ◌+◌, List, [], ◌∷◌, ◌++◌, refl, sym, ◌∙◌, ap, subst, true, false, Bool, Option, Some, None, arith, length, map, filter}
+use Rattle.std.specs.Prelude.{AllPairs, cond, ◌||◌, not, Result, Ok, Err, MatchResult}
+use Rattle.ocfl_tree.specs.Place.{Text, Place, text_eq}
+use Rattle.ocfl_tree.specs.Tree.{Tree}
+use Rattle.ocfl_tree.specs.Store.{Store, Did}
+use Rattle.ocfl_tree.specs.Listing.{IsOrdinary}
+use Rattle.ocfl_tree.specs.declared.store.Entry.{Entry}
+use Rattle.ocfl_tree.specs.declared.store.Opening.{Opening}
+use Rattle.ocfl_inventory.specs.Declaration.{declared, is_known}
+use Rattle.ocfl_inventory.specs.Entries.{file_names}
+use Rattle.ocfl_inventory.specs.declared.declaration.Level.TheVariants as level
+use Rattle.ocfl_audit.specs.Zone.{Zone, skipped, hierarchy, inside, inventory_name, is_in_extensions, object_zone, root_declared, zone}
+use Rattle.ocfl_audit.specs.Due.{hashed_among}
+use Rattle.ocfl_audit.specs.Lines.{is_hashed, notes, notes_in}
+use Rattle.ocfl_audit.specs.Between.{is_looked_into}
+use Rattle.ocfl_audit.specs.Trail.{content_openings, content_trail, heads_of, inventory_of, reads_inventory, unread_of}
+use Rattle.ocfl_walk.specs.Auditing.{FailedAt, GoDownFails, GoesDown, holder_of}
+use Rattle.ocfl_walk.specs.Entering.{Starts, StartFails}
+use Rattle.ocfl_walk.specs.Finding.{Finds, FindFails, FindsItem}
+use Rattle.ocfl_walk.specs.Looking.{IsFront, failures_by, way_to}
+use Rattle.ocfl_walk.specs.Walking.{IsItemAt, Visits}
+use Rattle.ocfl_walk.specs.Ways.{Enters, IsHead, Stops, way_below}
+use Rattle.ocfl_walk.specs.declared.fault.Fault.{Fault}
+use Rattle.ocfl_walk.specs.declared.fault.Fault.TheVariants as fault
+use Rattle.ocfl_walk.specs.declared.folder.Head.{Head}
+use Rattle.ocfl_walk.specs.declared.folder.Head.TheVariants as head
+use Rattle.ocfl_walk.specs.declared.pending.Pending.{Pending}
+use Rattle.ocfl_walk.specs.declared.visit.Visit.{Visit}
+use Rattle.ocfl_audit.proofs.AuditExists.{zone_is}
+use Rattle.ocfl_audit.proofs.PathLaws.{notes_at}
+use Rattle.ocfl_walk.proofs.AuditingLaws.{audits_nothing, front_all}
+use Rattle.ocfl_walk.proofs.FailLaws.{none_once}
+use Rattle.ocfl_walk.proofs.DescentLaws.{descends_one}
+use Rattle.ocfl_walk.proofs.EnterLaws.{start_unlisted}
+use Rattle.ocfl_walk.proofs.FindLaws.{front_own, front_within, finds_descended, finds_stopped, item_memory, item_on, may_few}
+use Rattle.ocfl_walk.proofs.LooksCalls.{head_unknown, way_is}
+use Rattle.ocfl_walk.proofs.LooksZones.{declared_root}
+
+-- ---- as it is told
+
+pub place_is : (d q p : Place) (n : Text) (r : Place) → d ≡ [] → q ≡ p → q ≡ n ∷ r → p ≡ d ++ n ∷ r
+place_is d q p n r base same is = sym same ∙ is ∙ ap (λ x. x ++ n ∷ r) (sym base)
+
+pub no_base : (q p : Place) (n : Text) (r : Place) → q ≡ p → q ≡ n ∷ r → p ≢ []
+no_base q p n r same is e = let two : n ∷ r ≡ [] = sym is ∙ same ∙ e in cc
+
+none_mapped : {A B : Type 0} (f : A → B) (xs : List A) → map f xs ≡ [] → xs ≡ []
+none_mapped f [] h = refl
+none_mapped f (x ∷ xs) h = absurd cc
+
+none_hashed : (root : Tree) → hashed_among root [] ≡ []
+unfolding hashed_among
+none_hashed root = refl
+
+module _ (root : Tree) where
+  -- where no content was opened none was unreadable
+  none_unread : (trail : List Opening) → content_trail root trail ≡ [] → length (unread_of root trail) ≡ 0
+  none_unread trail h = ap (λ os. length {A = Place × ℕ} (map (λ o. (o.place, o.given)) (filter (λ o. o.failed) os))) (none_mapped (λ o. o.place) (content_openings root trail) h)
+
+  did_so : (s t : Store) (trail : List Opening) (listed : List Place) (f : ℕ) → content_trail root trail ≡ [] → Did s t trail listed f → Did s t trail listed (length (unread_of root trail) + f)
+  did_so s t trail listed f meta did = let none = none_unread trail meta in subst (Did s t trail listed) (omega (arith, none)) did
+
+  did_well : (s t : Store) (trail : List Opening) (listed : List Place) → content_trail root trail ≡ [] → Did s t trail listed 0 → Did s t trail listed (length (unread_of root trail))
+  did_well s t trail listed meta did = subst (Did s t trail listed) (sym (none_unread trail meta)) did
+
+  module _ (s t : Store) (p : Place) where
+    module _ (trail : List Opening) (listed : List Place) (over : s.tree ≡ root) (meta : content_trail root trail ≡ []) (once : AllPairs (λ a b. a.place ≢ b.place) trail) (way : IsFront listed (way_to p)) (heads : IsFront (heads_of root trail) (holder_of (zone root p))) where
+      went : Did s t trail listed 0 → GoesDown root s t (Some p)
+      went did = record {
+        trail = trail;
+        listed = listed;
+        heads = heads_of root trail;
+        audits = record { over = over; did = did_well s t trail listed meta did; opened = meta ∙ sym (none_hashed root); heads_are = refl };
+        listed_front = way;
+        heads_front = heads;
+        once = once;
+      }
+
+      went_wrong : (why : Fault) → ((q : Place) → why ≡ fault.Store q → (is_hashed root q ≡ false) × FailedAt listed trail q) → Did s t trail listed (failures_by why) → GoDownFails root s t (Some p) why
+      went_wrong why store did = record {
+        trail = trail;
+        listed = listed;
+        heads = heads_of root trail;
+        fails = record { over = over; did = did_so s t trail listed (failures_by why) meta did; opened = meta ∙ sym (none_hashed root); heads_are = refl; store = store };
+        listed_front = way;
+        heads_front = heads;
+        once = once;
+      }
+
+    pub goes_down : Finds root s t (way_to p) (holder_of (zone root p)) 0 → GoesDown root s t (Some p)
+    goes_down h = went h.trail h.listings h.over h.meta h.once h.listed h.heads h.did
+
+    pub go_down_fails : (why : Fault) → FindFails root s t (way_to p) (holder_of (zone root p)) why → GoDownFails root s t (Some p) why
+    go_down_fails why h = went_wrong h.finds.trail h.finds.listings h.finds.over h.finds.meta h.finds.once h.finds.listed h.finds.heads why h.store h.finds.did
+
+    -- the start of a walk is such a way
+    pub start_goes_down : Starts root s t p 0 → GoesDown root s t (Some p)
+    start_goes_down h = goes_down (finds_descended root s t (way_to p) [] (holder_of (zone root p)) [] 0 (may_few None (zone root p)) h)
+
+    pub start_fails_down : (why : Fault) → StartFails root s t p why → GoDownFails root s t (Some p) why
+    start_fails_down why h = go_down_fails why (finds_stopped root s t (way_to p) (holder_of (zone root p)) why (may_few None (zone root p)) h)
+
+  abbrev pub IsAnswer : Store → Store → Place → Result (Option Pending) Fault → Type 0
+  IsAnswer s t p r = MatchResult r (λ o. GoesDown root s t (Some p) × IsItemAt root p o) (λ why. GoDownFails root s t (Some p) why)
+
+  pub answered : (s t : Store) (p : Place) (r : Result (Option Pending) Fault) → FindsItem root s t (way_to p) (holder_of (zone root p)) p r → IsAnswer s t p r
+  answered s t p (Ok o) h = (goes_down s t p h.gives.0, h.gives.1)
+  answered s t p (Err why) h = go_down_fails s t p why h.gives
+
+  -- ---- below the storage root
+
+  pub answered_unlisted : (s t : Store) (p d : Place) (why : Fault) → d ≡ [] → Stops root s t (d ∷ []) [] why → GoDownFails root s t (Some p) why
+  answered_unlisted s t p d why e h = start_fails_down s t p why (start_unlisted root s t p d why e h)
+
+  module _ (s t : Store) (p : Place) (over : s.tree ≡ root) (did : Did s t [] ([] ∷ []) 0) where
+    pub answered_below : (u : Store) (d q : Place) (r : Result (Option Pending) Fault) → d ≡ [] → q ≡ p → FindsItem root t u (way_below d q) (holder_of (zone root p)) p r → IsAnswer s u p r
+    answered_below u d q r base same h =
+        answered s u p r
+        (subst (λ w. FindsItem root s u w (holder_of (zone root p)) p r) (sym (way_is p))
+        (item_on root s t u ([] ∷ way_below [] p) (way_below [] p) (holder_of (zone root p)) (holder_of (zone root p)) (may_few None (zone root p)) (descends_one root s t [] (way_below [] p) (holder_of (zone root p)) over did) p r
+        (subst (λ x. FindsItem root t u (way_below [] x) (holder_of (zone root p)) p r) same (subst (λ x. FindsItem root t u (way_below x q) (holder_of (zone root p)) p r) base h))))
+
+    skipped_notes : (q : Place) → q ≢ [] → is_known (root_declared root) ≡ false → notes root None q ≡ []
+    skipped_notes q some h = notes_at root None q some ∙ ap (λ b. notes_in root q None (cond (not b || is_in_extensions root q) skipped (object_zone root [] q))) h
+
+    -- where the root's version is not known nothing else has lines
+    pub answered_unknown : (es : List Entry) (m : Head) (e : Place) → p ≢ [] → IsOrdinary es → Enters root s t [] e es → IsHead (declared level.Root (file_names es)) m → (m ≡ head.Known → ⊥) → GoesDown root s t (Some p) × IsItemAt root p None
+    answered_unknown es m e some ordinary k says unknown =
+        let none : is_known (root_declared root) ≡ false = ap is_known (declared_root root es ordinary k.listing) ∙ head_unknown (declared level.Root (file_names es)) m says unknown in (
+          goes_down s t p (subst (λ w. Finds root s t w (holder_of (zone root p)) 0) (sym (way_is p))
+              (finds_descended root s t ([] ∷ way_below [] p) (way_below [] p) (holder_of (zone root p)) (holder_of (zone root p)) 0 (may_few None (zone root p)) (descends_one root s t [] (way_below [] p) (holder_of (zone root p)) over did))),
+          skipped_notes p some none,
+        )
+
+  -- ---- the storage root
+
+  no_object_there : (trail : List Opening) (xs : List Place) → heads_of root trail ≡ [] ∷ xs → ⊥
+  no_object_there [] xs h = absurd cc
+  no_object_there (x ∷ trail) xs h = by (zone root x.place) refl (λ k. no_object_there trail xs k) h
+    where
+      either : (o : Place) (b : Bool) → o ≢ [] → (heads_of root trail ≡ [] ∷ xs → ⊥) → cond b (o ∷ []) [] ++ heads_of root trail ≡ [] ∷ xs → ⊥
+      either o true some rest g = some cc
+      either o false some rest g = rest g
+
+      by : (z : Zone) → zone root x.place ≡ z → (heads_of root trail ≡ [] ∷ xs → ⊥) → inventory_of z ++ heads_of root trail ≡ [] ∷ xs → ⊥
+      by skipped e rest k = rest k
+      by hierarchy e rest k = rest k
+      by (inside o []) e rest k = rest k
+      by (inside o (n ∷ [])) e rest k = either o (text_eq n inventory_name) (zone_is root x.place o (n ∷ []) e).below rest k
+      by (inside o (n ∷ m ∷ q)) e rest k = rest k
+
+  no_objects : (trail : List Opening) → IsFront (heads_of root trail) ([] ∷ []) → IsFront (heads_of root trail) (holder_of (zone root []))
+  no_objects trail h = subst (λ xs. IsFront xs (holder_of (zone root []))) (sym (by (heads_of root trail) refl h.1)) (holder_of (zone root []), refl)
+    where
+      by : (xs : List Place) → heads_of root trail ≡ xs → [] ∷ [] ≡ xs ++ h.0 → heads_of root trail ≡ []
+      by [] e k = e
+      by (x ∷ xs) e k = let top : x ≡ [] = cc in absurd (no_object_there trail xs (e ∙ ap (λ y. y ∷ xs) top))
+
+  pub answered_base : (s t : Store) (p : Place) (v : Visit) → p ≡ [] → Visits root s t [] (Ok v) → GoesDown root s t (Some p) × IsItemAt root p v.item
+  answered_base s t p v top h =
+      let m = h.gives.0 in
+      subst (λ x. GoesDown root s t (Some x) × IsItemAt root x v.item) (sym top)
+      (went s t [] m.trail m.listings m.over m.meta m.once (front_own [] (is_looked_into root []) m.listings m.listed) (no_objects m.trail (front_own [] (reads_inventory root []) (heads_of root m.trail) m.heads)) m.did, h.gives.1.item)
+
+  pub answered_no_base : (s t : Store) (p : Place) (why : Fault) → p ≡ [] → Visits root s t [] (Err why) → GoDownFails root s t (Some p) why
+  answered_no_base s t p why top h =
+      let m = h.gives in
+      subst (λ x. GoDownFails root s t (Some x) why) (sym top)
+      (went_wrong s t [] m.trail m.listings m.over m.meta m.once (front_within [] (is_looked_into root []) m.listings m.listed) (no_objects m.trail (front_within [] (reads_inventory root []) (heads_of root m.trail) m.heads)) why m.store m.did)
+
+  pub answered_memory : (s : Store) (p : Place) → s.tree ≡ root → GoDownFails root s s (Some p) fault.Memory
+  answered_memory s p over = go_down_fails s s p fault.Memory (item_memory root s (way_to p) (holder_of (zone root p)) p over).gives
+
+-- with no place given nothing is done
+pub start_at_none : (root : Tree) (s : Store) → s.tree ≡ root → GoesDown root s s None
+start_at_none root s over = record {
+  trail = [];
+  listed = [];
+  heads = [];
+  audits = audits_nothing root s over;
+  listed_front = front_all [];
+  heads_front = front_all [];
+  once = none_once;
+}

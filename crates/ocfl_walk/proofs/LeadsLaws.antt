@@ -1,0 +1,54 @@
+-- Which names lead on, by how deep a directory lies in its object.
+use Rattle.std.proofs.Common.{◌≡◌, ◌≢◌, suc, ◌+◌, ◌-◌, ◌≤◌, List, [], ◌∷◌, ◌++◌, refl, sym, ◌∙◌, ap, true, Bool, Some, arith, length}
+use Rattle.std.proofs.lemmas.Bool.{leb-true}
+use Rattle.std.proofs.lemmas.List.{length-append}
+use Rattle.std.specs.Prelude.{◌&&◌, nat_le}
+use Rattle.std.specs.List.{list_all}
+use Rattle.ocfl_tree.specs.Place.{Text, Place, text_eq, beginnings}
+use Rattle.ocfl_tree.specs.Tree.{Tree, is_dir}
+use Rattle.ocfl_tree.specs.declared.store.Entry.{Entry}
+use Rattle.ocfl_inventory.specs.ListedPath.{is_version_name}
+use Rattle.ocfl_audit.specs.Zone.{inside, zone, table_at, is_entered, is_listed_zone, is_listed_in_object, is_listed_within, max_listed_depth}
+use Rattle.ocfl_audit.specs.Walk.{step_listed}
+use Rattle.ocfl_walk.specs.Ways.{IsAt}
+use Rattle.ocfl_walk.specs.declared.stand.Around.{Around}
+use Rattle.ocfl_tree.proofs.Bools.{and_first, and_second}
+use Rattle.ocfl_audit.proofs.AuditExists.{zone_is}
+
+pub may_depth : (d : Place) (n : Text) (b : Bool) → nat_le (suc (length d)) max_listed_depth && b ≡ true → length (d ++ n ∷ []) ≤ 127
+may_depth d n b h =
+    let k : suc (length d) ≤ 127 = leb-true (suc (length d)) 127 (and_first (nat_le (suc (length d)) max_listed_depth) b h) in
+    omega (arith, k, length-append d (n ∷ []))
+
+module _ (root : Tree) (d : Place) (n : Text) (es : List Entry) (a : Around) (at : IsAt root d es) (s : Place) (z : zone root d ≡ inside a.place s) (t : table_at root a.place ≡ Some a.table) where
+  listed_here : is_listed_within a.table s ≡ true
+  listed_here =
+      let entered : is_entered root d ≡ true = and_second (list_all (is_entered root) (beginnings d)) (is_entered root d) at.reached in
+      sym (ap (is_listed_zone root) z ∙ ap (λ x. is_listed_in_object x s) t)
+      ∙ and_second (is_dir root d) (is_listed_zone root (zone root d)) (and_second (nat_le (length d) max_listed_depth) (is_dir root d && is_listed_zone root (zone root d)) entered)
+
+  deep : length d ≡ length a.place + length s
+  deep = ap length (zone_is root d a.place s z).whole ∙ length-append a.place s
+
+  pub leads_zero : length d - length a.place ≡ 0 → is_version_name n ≡ step_listed a.table s n
+  leads_zero h = by s deep
+    where
+      by : (s : Place) → length d ≡ length a.place + length s → is_version_name n ≡ step_listed a.table s n
+      by [] e = refl
+      by (v ∷ s) e = absurd (omega (arith, h, e))
+
+  pub leads_one : length d - length a.place ≡ 1 → text_eq n a.table.content ≡ step_listed a.table s n
+  leads_one h = by s deep listed_here
+    where
+      by : (s : Place) → length d ≡ length a.place + length s → is_listed_within a.table s ≡ true → text_eq n a.table.content ≡ step_listed a.table s n
+      by [] e l = absurd (omega (arith, h, e))
+      by (v ∷ []) e l = ap (λ b. b && text_eq n a.table.content) (sym l)
+      by (v ∷ w ∷ s) e l = absurd (omega (arith, h, e))
+
+  pub leads_more : length d - length a.place ≢ 0 → length d - length a.place ≢ 1 → true ≡ step_listed a.table s n
+  leads_more h k = by s deep listed_here
+    where
+      by : (s : Place) → length d ≡ length a.place + length s → is_listed_within a.table s ≡ true → true ≡ step_listed a.table s n
+      by [] e l = absurd (h (omega (arith, e)))
+      by (v ∷ []) e l = absurd (k (omega (arith, e)))
+      by (v ∷ w ∷ s) e l = sym l

@@ -1,0 +1,45 @@
+-- What is met at an entry, with the object that holds it.
+use Rattle.std.proofs.Common.{◌≡◌, [], ◌∷◌, ◌++◌, sym, ◌∙◌, ap, true, false, Bool, Option, Some, None, ◌≤◌, length}
+use Rattle.std.specs.Prelude.{cond, IfSome}
+use Rattle.ocfl_tree.specs.Place.{Place, Text}
+use Rattle.ocfl_tree.specs.Tree.{Tree}
+use Rattle.ocfl_tree.specs.declared.store.Entry.{Entry}
+use Rattle.ocfl_inventory.specs.Declaration.{is_declared}
+use Rattle.ocfl_inventory.specs.Table.{IsFit, Table}
+use Rattle.ocfl_audit.specs.Trail.{is_head}
+use Rattle.ocfl_audit.specs.Zone.{skipped, hierarchy, inside, zone, table_at, object_declared}
+use Rattle.ocfl_audit.specs.Walk.{is_extensions, step_zone}
+use Rattle.ocfl_tree.specs.Listing.{IsOrdinary}
+use Rattle.ocfl_walk.specs.declared.folder.Folder.{Folder}
+use Rattle.ocfl_walk.proofs.OrderlyLaws.{begins_own}
+use Rattle.ocfl_walk.specs.Standing.{IsAroundIf, IsMet, IsTableAround, around_of}
+use Rattle.ocfl_walk.specs.Walking.{IsFairFolder, IsTableAt}
+use Rattle.ocfl_walk.specs.declared.stand.Around.{Around}
+use Rattle.ocfl_walk.proofs.LooksZones.{inside_on}
+use Rattle.ocfl_audit.proofs.StepLaws.{zone_step}
+
+-- below the hierarchy an object begins at its own place
+pub own_head : (root : Tree) (d : Place) (n : Text) → zone root d ≡ hierarchy → (o s : Place) → zone root (d ++ n ∷ []) ≡ inside o s → (o ≡ d ++ n ∷ []) × (s ≡ [])
+own_head root d n h o s e = by (is_extensions root d n) (is_declared (object_declared root (d ++ n ∷ []))) (sym (zone_step root d n ∙ ap (λ z. cond (is_extensions root d n) skipped (step_zone root d n z)) h) ∙ e)
+  where
+    by : (a b : Bool) → cond a skipped (cond b (inside (d ++ n ∷ []) []) hierarchy) ≡ inside o s → (o ≡ d ++ n ∷ []) × (s ≡ [])
+    by true b f = absurd cc
+    by false true f = (cc, cc)
+    by false false f = absurd cc
+
+pub table_met : (root : Tree) (d x : Place) (entry : Entry) (a : Option Around) (table : Option Table) → IsMet root d a entry x → IsTableAt root x table → IsTableAround root x (around_of a x table)
+table_met root d x entry a (Some t) m h = ([], h.0, h.1)
+table_met root d x entry None None m h = λ o s e.
+    let own = own_head root d entry.name m.part o s (sym (ap (zone root) m.is) ∙ e) in
+    let same : o ≡ x = own.0 ∙ sym m.is in
+    let head : is_head (zone root x) ≡ true = ap is_head (e ∙ ap (inside o) own.1) in
+    ap (table_at root) same ∙ h head
+table_met root d x entry (Some b) None m h = (m.part.0 ++ entry.name ∷ [], ap (zone root) m.is ∙ inside_on root d b.place m.part.0 (entry.name ∷ []) m.part.1, m.part.2)
+
+pub around_fair : (x : Place) (a : Option Around) (table : Option Table) → IsAroundIf x a → IfSome table (λ t. IsFit t × (length x ≤ 127)) → IsAroundIf x (around_of a x table)
+around_fair x a None h k = h
+around_fair x a (Some t) h k = record { holds = begins_own x; depth = k.1; fit = k.0 }
+
+pub ordinary : (root : Tree) (x : Place) (f : Option Folder) → IfSome f (λ g. IsFairFolder x g) → IfSome f (λ g. IsOrdinary g.entries.items)
+ordinary root x None h = h
+ordinary root x (Some g) h = h.entries

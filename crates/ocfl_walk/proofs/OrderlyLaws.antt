@@ -1,0 +1,146 @@
+-- A stand stays in order, on any store.
+use Rattle.std.proofs.Common.{◌≡◌, ℕ, ◌+◌, ◌<◌, ◌≤◌, List, [], ◌∷◌, ◌++◌, refl, sym, ◌∙◌, ap, subst, true, map, Option, Some, None, length, append_assoc, arith}
+use Rattle.std.proofs.lemmas.List.{append-nil}
+use Rattle.std.specs.Prelude.{IfSome}
+use Rattle.std.specs.Ordering.{ordering_then}
+use Rattle.std.specs.List.{AllByRecursion}
+use Rattle.std.specs.declared.cmp.Ordering.{Ordering}
+use Rattle.std.specs.declared.cmp.Ordering.TheVariants.{Less, Equal, Greater}
+use Rattle.ocfl_tree.specs.Place.{Place, Text, text_cmp, place_cmp, begins}
+use Rattle.ocfl_tree.specs.Ascending.{IsBeforeAll}
+use Rattle.ocfl_tree.specs.declared.store.Entry.{Entry}
+use Rattle.ocfl_audit.specs.Stack.{Frame}
+use Rattle.ocfl_walk.specs.Standing.{IsAroundIf, IsChain, IsFairPile, IsFitIf, IsOrderly, IsOrderlyIf, IsTaken, Pile, back_onto, frames_of, left_names, pushed, size_of, trimmed, trimmed_from, weigh, entry_weight, paths_above}
+use Rattle.ocfl_walk.specs.declared.folder.Folder.{Folder}
+use Rattle.ocfl_walk.specs.declared.stand.Around.{Around}
+use Rattle.ocfl_audit.proofs.BelowLaws.{above_self, above_name, begins_front, begins_rest}
+
+-- what is not longer than d and lies above it lies above all below d
+above_longer : (d y r : Place) → place_cmp d y ≡ Less → length y ≤ length d → place_cmp (d ++ r) y ≡ Less
+above_longer [] [] r h l = absurd cc
+above_longer [] (m ∷ y) r h l = absurd (omega (arith, l))
+above_longer (n ∷ d) [] r h l = absurd cc
+above_longer (n ∷ d) (m ∷ y) r h l = by (text_cmp n m) refl h (λ g. above_longer d y r g (omega (arith, l)))
+  where
+    by : (o : Ordering) → text_cmp n m ≡ o → ordering_then o (place_cmp d y) ≡ Less → (place_cmp d y ≡ Less → place_cmp (d ++ r) y ≡ Less) → place_cmp (n ∷ d ++ r) (m ∷ y) ≡ Less
+    by Less e g k = ap (λ o. ordering_then o (place_cmp (d ++ r) y)) e
+    by Equal e g k = ap (λ o. ordering_then o (place_cmp (d ++ r) y)) e ∙ k g
+    by Greater e g k = absurd cc
+
+pub length_one : (d : Place) (n : Text) → length (d ++ n ∷ []) ≡ length d + 1
+length_one [] n = refl
+length_one (m ∷ d) n = omega (arith, length_one d n)
+
+pub begins_on : (d e p : Place) → begins d e ≡ true → begins e p ≡ true → begins d p ≡ true
+begins_on d e p h k =
+    let r = begins_rest d e h in
+    let s = begins_rest e p k in
+    subst (λ x. begins d x ≡ true) (sym (s.1 ∙ ap (λ x. x ++ s.0) r.1 ∙ append_assoc d r.0 s.0)) (begins_front d (r.0 ++ s.0))
+
+before_longer : (d p d' : Place) (ns : List Text) → begins d p ≡ true → length d' < length d → IsBeforeAll place_cmp d (map (λ n. d' ++ n ∷ []) ns) → IsBeforeAll place_cmp p (map (λ n. d' ++ n ∷ []) ns)
+before_longer d p d' [] h l b = tt
+before_longer d p d' (n ∷ ns) h l b =
+    let r = begins_rest d p h in
+    (subst (λ x. place_cmp x (d' ++ n ∷ []) ≡ Less) (sym r.1) (above_longer d (d' ++ n ∷ []) r.0 b.0 (omega (arith, l, length_one d' n))), before_longer d p d' ns h l b.1)
+
+-- a chain that leads down to d leads to all below d
+pub chain_on : (p d : Place) (k : ℕ) (fs : List Frame) → begins d p ≡ true → length d < k → IsChain d (length d) fs → IsChain p k fs
+chain_on p d k [] h l c = tt
+chain_on p d k (f ∷ fs) h l c = (begins_on f.0 d p c.0 h, omega (arith, l, c.1), before_longer d p f.0 f.1 h c.1 c.2, c.3, c.4)
+
+chain_trimmed : (p : Place) (k : ℕ) (ps : List Pile) → IsChain p k (frames_of ps) → IsChain p k (frames_of (trimmed ps))
+chain_trimmed p k [] c = c
+chain_trimmed p k (q ∷ ps) c = by q.0 q.1 c (chain_trimmed p k ps (chain_on p q.0 k (frames_of ps) c.0 c.1 c.4))
+  where
+    by : (d : Place) (es : List Entry) → IsChain p k ((d, map (λ e. e.name) es) ∷ frames_of ps) → IsChain p k (frames_of (trimmed ps)) → IsChain p k (frames_of (trimmed_from d es (trimmed ps) ps))
+    by d [] h l = l
+    by d (e ∷ es) h l = h
+
+few_trimmed : (ps : List Pile) → AllByRecursion (λ p. length p.1 ≤ 1000000) ps → AllByRecursion (λ p. length p.1 ≤ 1000000) (trimmed ps)
+few_trimmed [] h = h
+few_trimmed (q ∷ ps) h = by q.0 q.1 h.0 h.1 (few_trimmed ps h.1)
+  where
+    by : (d : Place) (es : List Entry) → length es ≤ 1000000 → AllByRecursion (λ p. length p.1 ≤ 1000000) ps → AllByRecursion (λ p. length p.1 ≤ 1000000) (trimmed ps) → AllByRecursion (λ p. length p.1 ≤ 1000000) (trimmed_from d es (trimmed ps) ps)
+    by d [] k m l = l
+    by d (e ∷ es) k m l = (k, m)
+
+pub orderly_trimmed : (last : Option Place) (ps : List Pile) (a : Option Around) → IsOrderlyIf last ps a → IsOrderlyIf last (trimmed ps) a
+orderly_trimmed None ps a h = (ap trimmed h.0, h.1)
+orderly_trimmed (Some p) ps a h = record { chain = chain_trimmed p 128 ps h.chain; few = few_trimmed ps h.few; object = h.object }
+
+weigh_trimmed : (w : ℕ) (ps : List Pile) → weigh w (trimmed ps) ≡ weigh w ps
+weigh_trimmed w [] = refl
+weigh_trimmed w (q ∷ ps) = by q.0 q.1 (weigh_trimmed w ps)
+  where
+    by : (d : Place) (es : List Entry) → weigh w (trimmed ps) ≡ weigh w ps → weigh w (trimmed_from d es (trimmed ps) ps) ≡ weigh w ((d, es) ∷ ps)
+    by d [] h = grind (arith, h)
+    by d (e ∷ es) h = refl
+
+pub size_trimmed : (last : Option Place) (ps : List Pile) (a : Option Around) → size_of last (trimmed ps) a ≡ size_of last ps a
+unfolding size_of
+size_trimmed None ps a = refl
+size_trimmed (Some p) ps a = ap (λ n. n + paths_above p a) (weigh_trimmed entry_weight ps)
+
+pub fit_of : (last : Place) (ps : List Pile) (a : Option Around) → IsOrderly last ps a → IsFitIf a
+fit_of last ps None h = tt
+fit_of last ps (Some a) h = h.object.fit
+
+-- ---- at an entry
+
+pub before_names : (d : Place) (n : Text) (ns : List Text) → IsBeforeAll text_cmp n ns → IsBeforeAll place_cmp (d ++ n ∷ []) (map (λ m. d ++ m ∷ []) ns)
+before_names d n [] h = tt
+before_names d n (m ∷ ns) h = (above_name d n m [] [] h.0, before_names d n ns h.1)
+
+pub own_names : (x : Place) (ns : List Text) → IsBeforeAll place_cmp x (map (λ n. x ++ n ∷ []) ns)
+own_names x [] = tt
+own_names x (n ∷ ns) = (above_self x n [], own_names x ns)
+
+pub begins_own : (x : Place) → begins x x ≡ true
+begins_own x = subst (λ y. begins x y ≡ true) (append-nil x) (begins_front x [])
+
+module _ (last : Place) (ps new : List Pile) (entry : Entry) (a : Option Around) (h : IsOrderly last ps a) (t : IsTaken ps new entry) where
+  pub old_chain : IsChain last 128 ((t.place, entry.name ∷ map (λ e. e.name) t.rest) ∷ frames_of t.others)
+  old_chain = subst (λ qs. IsChain last 128 (frames_of qs)) t.old_is h.chain
+
+  pub entry_after : place_cmp last (t.place ++ entry.name ∷ []) ≡ Less
+  entry_after = old_chain.2.0
+
+  -- an entry lies in a directory of at most 127 names
+  pub entry_short : (x : Place) → x ≡ t.place ++ entry.name ∷ [] → length x ≤ 255
+  entry_short x e = omega (arith, ap length e, length_one t.place entry.name, old_chain.1)
+
+  new_few : AllByRecursion (λ p. length p.1 ≤ 1000000) new
+  new_few = let f = subst (AllByRecursion (λ p. length p.1 ≤ 1000000)) t.old_is h.few in let n : length t.rest ≤ 1000000 = omega (arith, f.0) in subst (AllByRecursion (λ p. length p.1 ≤ 1000000)) (sym t.new_is) (n, f.1)
+
+  -- with the entry taken off, before anything else is done
+  pub orderly_left : IsOrderly last new None
+  orderly_left = record {
+    chain = subst (λ qs. IsChain last 128 (frames_of qs)) (sym t.new_is) (old_chain.0, old_chain.1, old_chain.2.1, old_chain.3.1, old_chain.4);
+    few = new_few;
+    object = tt;
+  }
+
+  chain_at_entry : (k : ℕ) → length t.place < k → IsChain (t.place ++ entry.name ∷ []) k (frames_of new)
+  chain_at_entry k l = subst (λ qs. IsChain (t.place ++ entry.name ∷ []) k (frames_of qs)) (sym t.new_is) (begins_front t.place (entry.name ∷ []), l, before_names t.place entry.name (map (λ e. e.name) t.rest) old_chain.3.0, old_chain.3.1, old_chain.4)
+
+  pub orderly_entry : (x : Place) → x ≡ t.place ++ entry.name ∷ [] → (f : Option Folder) → IfSome f (λ g. IsFairPile x g) → (a' : Option Around) → IsAroundIf x a' → IsOrderly x (pushed f new) a'
+  orderly_entry x e None g a' h' = record { chain = subst (λ y. IsChain y 128 (frames_of new)) (sym e) (chain_at_entry 128 old_chain.1); few = new_few; object = h' }
+  orderly_entry x e (Some f) g a' h' =
+      let deeper : length t.place < length x = omega (arith, ap length e, length_one t.place entry.name) in
+      let below : IsChain x (length x) (frames_of new) = subst (λ y. IsChain y (length x) (frames_of new)) (sym e) (chain_at_entry (length x) deeper) in
+      let own : IsChain x 128 ((x, left_names f) ∷ frames_of new) = (begins_own x, omega (arith, g.depth), own_names x (left_names f), g.ascends, below) in
+      record { chain = subst (λ d. IsChain x 128 ((d, left_names f) ∷ frames_of new)) (sym g.place) own; few = (g.few, new_few); object = h' }
+
+-- ---- room for one more listing
+
+pub chain_short : (p : Place) (k : ℕ) (fs : List Frame) → IsChain p k fs → length fs ≤ k
+chain_short p k [] c = omega arith
+chain_short p k (f ∷ fs) c = let h = chain_short f.0 (length f.0) fs c.4 in omega (arith, h, c.1)
+
+pub frames_count : (ps : List Pile) → length (frames_of ps) ≡ length ps
+frames_count [] = refl
+frames_count (p ∷ ps) = omega (arith, frames_count ps)
+
+pub back_count : {A B : Type 0} (f : A → B) (xs : List A) (ys : List B) → length (back_onto f xs ys) ≡ length xs + length ys
+back_count f [] ys = omega arith
+back_count f (x ∷ xs) ys = let h = back_count f xs (f x ∷ ys) in omega (arith, h)

@@ -1,0 +1,181 @@
+-- A step to a path of the table at which nothing is seen.
+use Rattle.std.proofs.Common.{◌≡◌, ◌≢◌, inl, inr, ◌+◌, ◌<◌, ◌≤◌, List, [], ◌∷◌, ◌++◌, refl, sym, ◌∙◌, ap, subst, true, false, Bool, map, filter, Option, Some, None, length, drop, arith}
+use Rattle.std.proofs.lemmas.List.{length-append}
+use Rattle.std.specs.Prelude.{cond, find, option_map, ◌&&◌}
+use Rattle.std.specs.List.{AllByRecursion}
+use Rattle.std.specs.Ordering.{is_lt, is_eq, ordering_then}
+use Rattle.std.specs.declared.cmp.Ordering.{Ordering}
+use Rattle.std.specs.declared.cmp.Ordering.TheVariants.{Less, Equal, Greater}
+use Rattle.ocfl_tree.specs.Place.{Place, Text, text_cmp, place_cmp, begins}
+use Rattle.ocfl_tree.specs.Ascending.{IsAmong, IsBeforeAll}
+use Rattle.ocfl_tree.specs.declared.store.Entry.{Entry}
+use Rattle.ocfl_tree.proofs.Orders.{place_cmp_total, true_not_false, not_below_itself}
+use Rattle.ocfl_inventory.specs.Table.{paths_of}
+use Rattle.ocfl_inventory.specs.NextPath as table
+use Rattle.ocfl_walk.specs.Standing.{IsAroundIf, IsBelowNext, IsChain, IsOrderly, Pile, frames_of, next_of, path_from, paths_above, size_of, trimmed, trimmed_from}
+use Rattle.ocfl_walk.specs.declared.stand.Around.{Around}
+use Rattle.ocfl_audit.proofs.BelowLaws.{begins_front, begins_rest, cmp_behind, less_from, text_cmp_total, text_cmp_exact}
+use Rattle.ocfl_walk.proofs.OrderlyLaws.{before_names}
+use Rattle.ocfl_walk.proofs.TurnLaws.{drop_front}
+
+-- what was found passes the test, and is one of the list
+found : (test : Place → Bool) (ps : List Place) (q : Place) → find test ps ≡ Some q → (test q ≡ true) × IsAmong ps q
+found test [] q e = absurd cc
+found test (p ∷ ps) q e = by (test p) refl e (found test ps q)
+  where
+    by : (b : Bool) → test p ≡ b → cond b (Some p) (find test ps) ≡ Some q → (find test ps ≡ Some q → (test q ≡ true) × IsAmong ps q) → (test q ≡ true) × IsAmong (p ∷ ps) q
+    by true f g k = let same : p ≡ q = cc in (ap test (sym same) ∙ f, inl (sym same))
+    by false f g k = let w = k g in (w.0, inr w.1)
+
+pub record IsOnward (last b : Place) (a : Around) : Type 0 where
+  pub path : Place
+  pub is : b ≡ a.place ++ path
+  pub among : IsAmong (paths_of a.table) path
+  pub above : place_cmp last b ≡ Less
+
+pub onward : (last b : Place) (a : Around) → begins a.place last ≡ true → path_from last (Some a) ≡ Some b → IsOnward last b a
+onward last b a h e = by (table.next_path a.table (Some (drop (length a.place) last))) refl e
+  where
+    rest : (r : Place) × (last ≡ a.place ++ r)
+    rest = begins_rest a.place last h
+
+    inner : drop (length a.place) last ≡ rest.0
+    inner = ap (drop (length a.place)) rest.1 ∙ drop_front a.place rest.0
+
+    by : (o : Option Place) → table.next_path a.table (Some (drop (length a.place) last)) ≡ o → option_map (λ q. a.place ++ q) o ≡ Some b → IsOnward last b a
+    by None f g = absurd cc
+    by (Some q) f g =
+        let k = found (λ p. is_lt (place_cmp (drop (length a.place) last) p)) (paths_of a.table) q f in
+        let is : b ≡ a.place ++ q = cc in
+        record {
+          path = q;
+          is = is;
+          among = k.1;
+          above = (λ i. place_cmp (rest.1 i) (is i)) ∙ cmp_behind a.place rest.0 q ∙ ap (λ r. place_cmp r q) (sym inner) ∙ less_from _ k.0;
+        }
+
+-- what lies between a place below d and an entry of d lies below d
+begins_between : (d r b : Place) (n : Text) → place_cmp (d ++ r) b ≡ Less → place_cmp b (d ++ n ∷ []) ≡ Less → begins d b ≡ true
+begins_between [] r b n h k = refl
+begins_between (m ∷ d) r [] n h k = absurd cc
+begins_between (m ∷ d) r (c ∷ b) n h k = by (text_cmp m c) refl (text_cmp c m) refl h k (begins_between d r b n)
+  where
+    by : (o : Ordering) → text_cmp m c ≡ o → (u : Ordering) → text_cmp c m ≡ u → ordering_then o (place_cmp (d ++ r) b) ≡ Less → ordering_then u (place_cmp b (d ++ n ∷ [])) ≡ Less
+        → (place_cmp (d ++ r) b ≡ Less → place_cmp b (d ++ n ∷ []) ≡ Less → begins d b ≡ true) → is_eq (text_cmp m c) && begins d b ≡ true
+    by Equal e Equal f g i j = ap (λ x. is_eq x && begins d b) e ∙ j g i
+    by Less e Less f g i j = absurd (not_below_itself text_cmp_total m (text_cmp_total.trans m c m e f))
+    by Less e Equal f g i j = absurd (not_below_itself text_cmp_total m (ap (text_cmp m) (sym (text_cmp_exact c m f)) ∙ e))
+    by Less e Greater f g i j = absurd cc
+    by Equal e Less f g i j = absurd (not_below_itself text_cmp_total c (ap (text_cmp c) (sym (text_cmp_exact m c e)) ∙ f))
+    by Equal e Greater f g i j = absurd cc
+    by Greater e u f g i j = absurd cc
+
+above_all : (b x : Place) (ys : List Place) → place_cmp b x ≡ Less → IsBeforeAll place_cmp x ys → IsBeforeAll place_cmp b ys
+above_all b x [] l h = tt
+above_all b x (y ∷ ys) l h = (place_cmp_total.trans b x y l h.0, above_all b x ys l h.1)
+
+fewer_or_same : (f g : Place → Bool) (ps : List Place) → ((q : Place) → g q ≡ true → f q ≡ true) → length (filter g ps) ≤ length (filter f ps)
+fewer_or_same f g [] h = omega arith
+fewer_or_same f g (p ∷ ps) h = by (f p) (g p) refl refl (fewer_or_same f g ps h)
+  where
+    by : (a b : Bool) → f p ≡ a → g p ≡ b → length (filter g ps) ≤ length (filter f ps) → length (cond b (p ∷ filter g ps) (filter g ps)) ≤ length (cond a (p ∷ filter f ps) (filter f ps))
+    by true true e k l = omega (arith, l)
+    by true false e k l = omega (arith, l)
+    by false true e k l = absurd (true_not_false (sym (h p k) ∙ e))
+    by false false e k l = l
+
+fewer : (f g : Place → Bool) (ps : List Place) (q : Place) → ((q : Place) → g q ≡ true → f q ≡ true) → IsAmong ps q → f q ≡ true → g q ≡ false → length (filter g ps) < length (filter f ps)
+fewer f g [] q h i e k = absurd i
+fewer f g (p ∷ ps) q h i e k = by (f p) (g p) refl refl i (fewer_or_same f g ps h) (λ j. fewer f g ps q h j e k)
+  where
+    by : (a b : Bool) → f p ≡ a → g p ≡ b → IsAmong (p ∷ ps) q → length (filter g ps) ≤ length (filter f ps) → (IsAmong ps q → length (filter g ps) < length (filter f ps)) → length (cond b (p ∷ filter g ps) (filter g ps)) < length (cond a (p ∷ filter f ps) (filter f ps))
+    by a b u v (inl w) l m = here a b (sym u ∙ ap f (sym w) ∙ e) (sym v ∙ ap g (sym w) ∙ k) l
+      where
+        here : (a b : Bool) → a ≡ true → b ≡ false → length (filter g ps) ≤ length (filter f ps) → length (cond b (p ∷ filter g ps) (filter g ps)) < length (cond a (p ∷ filter f ps) (filter f ps))
+        here true false x y l = omega (arith, l)
+        here true true x y l = absurd (true_not_false y)
+        here false b x y l = absurd (true_not_false (sym x))
+    by true true u v (inr j) l m = let n = m j in omega (arith, n)
+    by true false u v (inr j) l m = omega (arith, l)
+    by false true u v (inr j) l m = absurd (true_not_false (sym (h p v) ∙ u))
+    by false false u v (inr j) l m = m j
+
+head_some : (ps qs : List Pile) (d : Place) → trimmed ps ≡ (d, []) ∷ qs → ⊥
+head_some [] qs d e = omega (arith, ap length e)
+head_some (p ∷ ps) qs d e = by p.0 p.1 e (head_some ps qs d)
+  where
+    by : (c : Place) (es : List Entry) → trimmed_from c es (trimmed ps) ps ≡ (d, []) ∷ qs → (trimmed ps ≡ (d, []) ∷ qs → ⊥) → ⊥
+    by c [] g k = k g
+    by c (x ∷ es) g k = let same : ◌≡◌ {A = Place × List Entry} (c, x ∷ es) (d, []) = cc in omega (arith, ap (λ p. length p.1) same)
+
+module _ (last b : Place) (ps : List Pile) (a : Option Around) (h : IsOrderly last ps a) (p : path_from last a ≡ Some b) where
+  pub path_above : place_cmp last b ≡ Less
+  path_above = by a h.object p
+    where
+      by : (a : Option Around) → IsAroundIf last a → path_from last a ≡ Some b → place_cmp last b ≡ Less
+      by None k e = absurd cc
+      by (Some o) k e = (onward last b o k.holds e).above
+
+  pub path_fewer : paths_above b a < paths_above last a
+  path_fewer = by a h.object p
+    where
+      by : (a : Option Around) → IsAroundIf last a → path_from last a ≡ Some b → paths_above b a < paths_above last a
+      by None k e = absurd cc
+      by (Some o) k e =
+          let w = onward last b o k.holds e in
+          fewer (λ q. is_lt (place_cmp last (o.place ++ q))) (λ q. is_lt (place_cmp b (o.place ++ q))) (paths_of o.table) w.path
+          (λ q u. ap is_lt (place_cmp_total.trans last b (o.place ++ q) w.above (less_from _ u)))
+          w.among (ap is_lt (ap (place_cmp last) (sym w.is) ∙ w.above)) (no w.path w.is)
+        where
+          no : (q : Place) → b ≡ o.place ++ q → is_lt (place_cmp b (o.place ++ q)) ≡ false
+          no q e = go (place_cmp b (o.place ++ q)) refl
+            where
+              go : (r : Ordering) → place_cmp b (o.place ++ q) ≡ r → is_lt r ≡ false
+              go Less f = absurd (not_below_itself place_cmp_total b (ap (place_cmp b) e ∙ f))
+              go Equal f = refl
+              go Greater f = refl
+
+  -- an object's place has at most 127 names, and a path of its table at most 128
+  pub path_short : length b ≤ 255
+  path_short = by a h.object p
+    where
+      fits : (qs : List Place) (q : Place) → AllByRecursion (λ x. length x ≤ 128) qs → IsAmong qs q → length q ≤ 128
+      fits [] q k i = absurd i
+      fits (x ∷ qs) q k (inl e) = subst (λ y. length y ≤ 128) (sym e) k.0
+      fits (x ∷ qs) q k (inr i) = fits qs q k.1 i
+
+      by : (a : Option Around) → IsAroundIf last a → path_from last a ≡ Some b → length b ≤ 255
+      by None k e = absurd cc
+      by (Some o) k e =
+          let w = onward last b o k.holds e in
+          let l : length b ≡ length o.place + length w.path = ap length w.is ∙ length-append o.place w.path in
+          let s = fits (paths_of o.table) w.path k.fit.short w.among in
+          omega (arith, l, s, k.depth)
+
+  pub size_path : size_of (Some b) ps a < size_of (Some last) ps a
+  unfolding size_of
+  size_path = let f = path_fewer in omega (arith, f)
+
+  pub orderly_path : trimmed ps ≡ ps → IsBelowNext b (next_of ps) → IsOrderly b ps a
+  orderly_path t n = record { chain = chain ps t n h.chain; few = h.few; object = around a h.object p }
+    where
+      around : (a : Option Around) → IsAroundIf last a → path_from last a ≡ Some b → IsAroundIf b a
+      around None k e = tt
+      around (Some o) k e = let w = onward last b o k.holds e in record { holds = subst (λ x. begins o.place x ≡ true) (sym w.is) (begins_front o.place w.path); depth = k.depth; fit = k.fit }
+
+      chain : (ps : List Pile) → trimmed ps ≡ ps → IsBelowNext b (next_of ps) → IsChain last 128 (frames_of ps) → IsChain b 128 (frames_of ps)
+      chain [] t n c = tt
+      chain (q ∷ ps) t n c = by q.0 q.1 t n c
+        where
+          by : (d : Place) (es : List Entry) → trimmed ((d, es) ∷ ps) ≡ (d, es) ∷ ps → IsBelowNext b (next_of ((d, es) ∷ ps)) → IsChain last 128 ((d, map (λ e. e.name) es) ∷ frames_of ps) → IsChain b 128 ((d, map (λ e. e.name) es) ∷ frames_of ps)
+          by d [] t n c = absurd (head_some ((d, []) ∷ ps) ps d t)
+          by d (e ∷ es) t n c =
+              let r = begins_rest d last c.0 in
+              (begins_between d r.0 b e.name (subst (λ x. place_cmp x b ≡ Less) r.1 path_above) n, c.1, (n, above_all b (d ++ e.name ∷ []) (map (λ m. d ++ m ∷ []) (map (λ x. x.name) es)) n (names d e.name (map (λ x. x.name) es) c.3.0)), c.3, c.4)
+            where
+              names : (d : Place) (n : Text) (ns : List Text) → IsBeforeAll text_cmp n ns → IsBeforeAll place_cmp (d ++ n ∷ []) (map (λ m. d ++ m ∷ []) ns)
+              names d n ns g = before_names d n ns g
+
+pub last_is : (l : Option Place) → l ≢ None → (p : Place) × (l ≡ Some p)
+last_is None n = absurd (n refl)
+last_is (Some p) n = (p, refl)

@@ -1,0 +1,201 @@
+-- Listings with their places: the one at an index is that of so many names of a place.
+use Rattle.std.specs.declared.alloc.Global.{Global}
+use Rattle.std.proofs.Common.{◌≡◌, ℕ, zero, suc, ◌+◌, ◌-◌, ◌<◌, ◌≤◌, List, [], ◌∷◌, ◌++◌, refl, sym, ◌∙◌, ap, subst, true, false, Bool, Option, Some, None, length, take, arith, vec_len}
+use Rattle.std.proofs.lemmas.List.{length-append, length-take-le, take-append-le}
+use Rattle.std.proofs.Math.Seq.{take-append_seam, take-length}
+use Rattle.std.specs.Prelude.{Vec, ◌==◌, IfSome, MatchOption, option_map, slice_get}
+use Rattle.std.specs.Option.{option_to_list}
+use Rattle.ocfl_tree.specs.Place.{Place, Text, begins}
+use Rattle.ocfl_tree.specs.declared.store.Entry.{Entry}
+use Rattle.ocfl_audit.specs.Stack.{Frame}
+use Rattle.ocfl_audit.proofs.BelowLaws.{begins_front, begins_rest}
+use Rattle.ocfl_walk.specs.Standing.{IsChain, back, IsFairPile, IsOrderly, IsOrderlyIf, IsTaken, Pile, folders_from, frames_of, next_of, pile_of, piles_at, piles_of, pushed, spot_of, trimmed}
+use Rattle.ocfl_walk.specs.declared.stand.Around.{Around}
+use Rattle.ocfl_walk.specs.declared.folder.Folder.{Folder}
+use Rattle.ocfl_walk.proofs.Backs.{next_of_last, piles_push, taken_at, trim_drops_by, trim_keeps_by}
+use Rattle.ocfl_walk.proofs.OrderlyLaws.{back_count, chain_short, frames_count, length_one}
+
+push_from : (i : ℕ) (p : Place) (vs : List (Vec Entry Global)) (v : Vec Entry Global) → folders_from i p (vs ++ v ∷ []) ≡ folders_from i p vs ++ record { place = take (i + length vs) p; entries = v } ∷ []
+push_from i p [] v = let e : i ≡ i + 0 = omega arith in ap (λ k. record { place = take k p; entries = v } ∷ []) e
+push_from i p (w ∷ vs) v =
+    let e : suc i + length vs ≡ i + length (w ∷ vs) = omega arith in
+    ap (λ fs. record { place = take i p; entries = w } ∷ fs) (push_from (suc i) p vs v ∙ ap (λ k. folders_from (suc i) p vs ++ record { place = take k p; entries = v } ∷ []) e)
+
+-- a listing more
+pub folders_push : (p : Place) (vs ws : List (Vec Entry Global)) (v : Vec Entry Global) → ws ≡ vs ++ v ∷ [] → folders_from 0 p ws ≡ folders_from 0 p vs ++ record { place = take (length vs) p; entries = v } ∷ []
+folders_push p vs ws v e =
+    let none : 0 + length vs ≡ length vs = omega arith in
+    ap (folders_from 0 p) e ∙ push_from 0 p vs v ∙ ap (λ k. folders_from 0 p vs ++ record { place = take k p; entries = v } ∷ []) none
+
+pub folders_count : (i : ℕ) (p : Place) (vs : List (Vec Entry Global)) → length (folders_from i p vs) ≡ length vs
+folders_count i p [] = refl
+folders_count i p (v ∷ vs) = omega (arith, folders_count (suc i) p vs)
+
+pub piles_count : (p : Place) (vs : List (Vec Entry Global)) → length (piles_at p vs) ≡ length vs
+piles_count p vs = let a = back_count pile_of (folders_from 0 p vs) [] in let b = folders_count 0 p vs in omega (arith, a, b)
+
+folders_same : (i : ℕ) (p q : Place) (vs : List (Vec Entry Global)) → ((k : ℕ) → k < i + length vs → take k p ≡ take k q) → folders_from i p vs ≡ folders_from i q vs
+folders_same i p q [] h = refl
+folders_same i p q (v ∷ vs) h =
+    let here : take i p ≡ take i q = h i (omega arith) in
+    ap (λ d. record { place = d; entries = v } ∷ folders_from (suc i) p vs) here ∙ ap (λ fs. record { place = take i q; entries = v } ∷ fs) (folders_same (suc i) p q vs (λ k l. h k (omega (arith, l))))
+
+-- the last place has a name for each listing but the first
+pub chain_deep : (p : Place) (k : ℕ) (vs : List (Vec Entry Global)) → IsChain p k (frames_of (piles_at p vs)) → length vs ≤ suc (length p)
+chain_deep p k vs c = let n = by (frames_of (piles_at p vs)) c in let a = frames_count (piles_at p vs) in let b = piles_count p vs in omega (arith, n, a, b)
+  where
+    by : (fs : List Frame) → IsChain p k fs → length fs ≤ suc (length p)
+    by [] c = omega arith
+    by (f ∷ fs) c =
+        let short = chain_short f.0 (length f.0) fs c.4 in
+        let r = begins_rest f.0 p c.0 in
+        let long : length p ≡ length f.0 + length r.0 = ap length r.1 ∙ length-append f.0 r.0 in
+        omega (arith, short, long)
+
+take_within : (k n : ℕ) (p : Place) → k ≤ n → take k (take n p) ≡ take k p
+take_within zero n p l = refl
+take_within (suc k) zero p l = absurd (omega (arith, l))
+take_within (suc k) (suc n) [] l = refl
+take_within (suc k) (suc n) (x ∷ p) l = ap (λ q. x ∷ q) (take_within k n p (omega (arith, l)))
+
+-- where the deepest listing lies on the way to both places, all do
+pub folders_shared : (p q : Place) (vs : List (Vec Entry Global)) (n : ℕ) → length vs ≡ suc n → n ≤ length p → begins (take n p) q ≡ true → folders_from 0 p vs ≡ folders_from 0 q vs
+folders_shared p q vs n count deep h = folders_same 0 p q vs (λ k l. same k (omega (arith, l, count)))
+  where
+    same : (k : ℕ) → k ≤ n → take k p ≡ take k q
+    same k l =
+        let r = begins_rest (take n p) q h in
+        let long : k ≤ length (take n p) = omega (arith, l, length-take-le n p deep) in
+        sym (take_within k n p l) ∙ sym (take-append-le k (take n p) r.0 long) ∙ ap (take k) (sym r.1)
+
+pub folders_none : (p : Place) (vs : List (Vec Entry Global)) → vs ≡ [] → folders_from 0 p vs ≡ []
+folders_none p vs e = ap (folders_from 0 p) e
+
+-- ---- the next entry
+
+pub next_at : (p : Place) (vs above xs : List (Vec Entry Global)) (v : Vec Entry Global) (es : List Entry) (o : Option Entry) → xs ≡ vs → xs ≡ above ++ v ∷ [] → es ≡ v.items → o ≡ slice_get es (length es - 1)
+    → next_of (piles_at p vs) ≡ option_map (λ e. take (length above) p ++ e.name ∷ []) o
+next_at p vs above xs v es o same split items last =
+    next_of_last (folders_from 0 p above) (folders_from 0 p vs) (record { place = take (length above) p; entries = v }) o (folders_push p above vs v (sym same ∙ split)) (subst (λ ys. o ≡ slice_get ys (length ys - 1)) items last)
+
+-- the deepest listing's entry is taken off
+pub taken_here : (p : Place) (vs old new : List (Vec Entry Global)) (v w : Vec Entry Global) (o : Option Entry) → old ≡ vs ++ v ∷ [] → new ≡ vs ++ w ∷ [] → v.items ≡ w.items ++ option_to_list o
+    → MatchOption o ((vec_len v ≡ 0) × (vec_len w ≡ 0)) (λ _. vec_len w + 1 ≡ vec_len v) → MatchOption o (next_of (piles_at p old) ≡ None) (λ entry. IsTaken (piles_at p old) (piles_at p new) entry)
+taken_here p vs old new v w o h k e n =
+    taken_at (folders_from 0 p vs) (folders_from 0 p old) (folders_from 0 p new) (record { place = take (length vs) p; entries = v }) (record { place = take (length vs) p; entries = w }) o (folders_push p vs old v h) (folders_push p vs new w k) refl e n
+
+pub same_count : {A : Type 0} (vs old new : List A) (v w : A) → old ≡ vs ++ v ∷ [] → new ≡ vs ++ w ∷ [] → length new ≡ length old
+same_count vs old new v w h k = ap length k ∙ length-append vs (w ∷ []) ∙ sym (ap length h ∙ length-append vs (v ∷ []))
+
+-- one more on top, at its own place
+pub pushed_at : (p : Place) (vs ws : List (Vec Entry Global)) (f : Folder) → ws ≡ vs ++ f.entries ∷ [] → f.place ≡ p → length p ≡ length vs → piles_at p ws ≡ pile_of f ∷ piles_at p vs
+pushed_at p vs ws f e place count =
+    piles_push (folders_from 0 p vs) (folders_from 0 p ws) (record { place = take (length vs) p; entries = f.entries }) (folders_push p vs ws f.entries e)
+    ∙ ap (λ d. (d, back (λ x. x) f.entries.items) ∷ piles_at p vs) (ap (λ n. take n p) (sym count) ∙ take-length p ∙ sym place)
+
+-- ---- listings that are let go
+
+pub trim_keeps_at : (p : Place) (vs old new : List (Vec Entry Global)) (v : Vec Entry Global) (b : Bool) → old ≡ vs ++ v ∷ [] → new ≡ vs ++ v ∷ [] → b ≡ (vec_len v == 0) → b ≡ false → piles_at p new ≡ trimmed (piles_at p old)
+trim_keeps_at p vs old new v b h k e n =
+    trim_keeps_by (folders_from 0 p vs) (folders_from 0 p old) (folders_from 0 p new) (record { place = take (length vs) p; entries = v }) b (folders_push p vs old v h) (folders_push p vs new v k) e n
+
+pub trim_drops_at : (p : Place) (vs old : List (Vec Entry Global)) (v : Vec Entry Global) (b : Bool) → old ≡ vs ++ v ∷ [] → b ≡ (vec_len v == 0) → b ≡ true → trimmed (piles_at p vs) ≡ trimmed (piles_at p old)
+trim_drops_at p vs old v b h e n = trim_drops_by (folders_from 0 p vs) (folders_from 0 p old) (record { place = take (length vs) p; entries = v }) b (folders_push p vs old v h) e n
+
+-- ---- on to another place
+
+snoc : (n : ℕ) (vs : List (Vec Entry Global)) → length vs ≡ suc n → (us : List (Vec Entry Global)) × (v : Vec Entry Global) × (vs ≡ us ++ v ∷ []) × (length us ≡ n)
+snoc n [] e = absurd (omega (arith, e))
+snoc zero (v ∷ []) e = ([], v, refl, refl)
+snoc zero (v ∷ w ∷ vs) e = absurd (omega (arith, e))
+snoc (suc n) (v ∷ []) e = absurd (omega (arith, e))
+snoc (suc n) (v ∷ w ∷ vs) e = let k = snoc n (w ∷ vs) (omega (arith, e)) in (v ∷ k.0, k.1, ap (λ us. v ∷ us) k.2, omega (arith, k.3))
+
+-- the deepest listing's place
+top_place : (p : Place) (vs : List (Vec Entry Global)) (n : ℕ) (q : Pile) (ps : List Pile) → length vs ≡ suc n → piles_at p vs ≡ q ∷ ps → q.0 ≡ take n p
+top_place p vs n q ps count is =
+    let k = snoc n vs count in
+    let top : piles_at p vs ≡ (take (length k.0) p, back (λ x. x) k.1.items) ∷ piles_at p k.0 = piles_push (folders_from 0 p k.0) (folders_from 0 p vs) (record { place = take (length k.0) p; entries = k.1 }) (folders_push p k.0 vs k.1 k.2) in
+    first (sym is ∙ top) ∙ ap (λ m. take m p) k.3
+  where
+    first : {x : Pile} {xs : List Pile} → q ∷ ps ≡ x ∷ xs → q.0 ≡ x.0
+    first {x = x} e = let same : ◌≡◌ {A = Pile} q x = cc in ap (λ y. y.0) same
+
+some_count : (p : Place) (vs : List (Vec Entry Global)) (q : Pile) (ps : List Pile) → piles_at p vs ≡ q ∷ ps → length vs ≡ suc (length ps)
+some_count p vs q ps is = let n = piles_count p vs in let m : length (piles_at p vs) ≡ length (q ∷ ps) = ap length is in omega (arith, n, m)
+
+-- at an entry of the deepest listing
+module _ (p x : Place) (old new : List (Vec Entry Global)) (entry : Entry) (a : Option Around) (h : IsOrderly p (piles_at p old) a) (t : IsTaken (piles_at p old) (piles_at p new) entry) (count : length new ≡ length old) (e : x ≡ t.place ++ entry.name ∷ []) where
+  abbrev n : ℕ
+  n = length t.others
+
+  many : length old ≡ suc n
+  many = some_count p old (t.place, entry ∷ t.rest) t.others t.old_is
+
+  deep : n ≤ length p
+  deep = let d = chain_deep p 128 old h.chain in let m = many in omega (arith, d, m)
+
+  top : t.place ≡ take n p
+  top = top_place p old n (t.place, entry ∷ t.rest) t.others many t.old_is
+
+  pub entry_shared : piles_at x new ≡ piles_at p new
+  entry_shared = ap piles_of (sym (folders_shared p x new n (count ∙ many) deep (subst (λ y. begins (take n p) y ≡ true) (sym (e ∙ ap (λ d. d ++ entry.name ∷ []) top)) (begins_front (take n p) (entry.name ∷ [])))))
+
+  pub entry_depth : length x ≡ length new
+  entry_depth =
+      let l : length x ≡ length t.place + 1 = ap length e ∙ length_one t.place entry.name in
+      let d : length t.place ≡ n = ap length top ∙ length-take-le n p deep in
+      let m = many in
+      omega (arith, l, d, m, count)
+
+  -- its listing goes on top
+  pub entry_pushed : (ws : List (Vec Entry Global)) (f : Option Folder) → IfSome f (λ g. IsFairPile x g) → ((q : Place) → IfSome f (λ g. (g.place ≡ q) × (length q ≡ length new)) → piles_at q ws ≡ pushed f (piles_at q new)) → piles_at x ws ≡ pushed f (piles_at p new)
+  entry_pushed ws f fair push = push x (fits f fair) ∙ ap (pushed f) entry_shared
+    where
+      fits : (f : Option Folder) → IfSome f (λ g. IsFairPile x g) → IfSome f (λ g. (g.place ≡ x) × (length x ≡ length new))
+      fits None k = tt
+      fits (Some g) k = (k.place, entry_depth)
+
+  pub entry_room : (f : Option Folder) → IfSome f (λ g. IsFairPile x g) → IfSome f (λ _. length new < 128)
+  entry_room None k = tt
+  entry_room (Some g) k = let d = entry_depth in omega (arith, d, k.depth)
+
+-- at a path of the table
+pub path_shared : (p b : Place) (vs : List (Vec Entry Global)) (a : Option Around) → IsOrderly p (piles_at p vs) a → IsOrderly b (piles_at p vs) a → piles_at b vs ≡ piles_at p vs
+path_shared p b vs a h k = by (piles_at p vs) refl k.chain
+  where
+    none : (vs : List (Vec Entry Global)) → length vs ≡ 0 → piles_at b vs ≡ piles_at p vs
+    none [] e = refl
+    none (v ∷ vs) e = absurd (omega (arith, e))
+
+    by : (ps : List Pile) → piles_at p vs ≡ ps → IsChain b 128 (frames_of ps) → piles_at b vs ≡ piles_at p vs
+    by [] e c = let n = piles_count p vs in let m : length (piles_at p vs) ≡ 0 = ap length e in none vs (omega (arith, n, m))
+    by (q ∷ ps) e c =
+        let many = some_count p vs q ps e in
+        let d = chain_deep p 128 vs h.chain in
+        ap piles_of (sym (folders_shared p b vs (length ps) many (omega (arith, d, many)) (subst (λ y. begins y b ≡ true) (top_place p vs (length ps) q ps many e) c.0)))
+
+-- a walk that has a next entry has begun
+pub begun : (last : Option Place) (ps : List Pile) (a : Option Around) (x : Place) → IsOrderlyIf last ps a → next_of ps ≡ Some x → (last ≡ Some (spot_of last)) × IsOrderly (spot_of last) ps a
+begun None ps a x h e = absurd (let n : None ≡ Some x = sym (ap next_of h.0) ∙ e in cc)
+begun (Some p) ps a x h e = (refl, h)
+
+pub begun_if : (last : Option Place) (ps : List Pile) (a : Option Around) → IsOrderlyIf last ps a → (last ≡ None → ⊥) → (last ≡ Some (spot_of last)) × IsOrderly (spot_of last) ps a
+begun_if None ps a h n = absurd (n refl)
+begun_if (Some p) ps a h n = (refl, h)
+
+-- ---- on the way down to a place
+
+-- what is kept of the next listing
+abbrev pub kept_at : Option Place → List (Vec Entry Global) → Vec Entry Global → Folder
+kept_at last vs v = record { place = take (length vs) (spot_of last); entries = v }
+
+pub kept_place : (last : Option Place) (vs : List (Vec Entry Global)) (v : Vec Entry Global) (d q : Place) → last ≡ Some (d ++ q) → length vs ≡ length d → (kept_at last vs v).place ≡ d
+kept_place last vs v d q way depth = (λ i. take (depth i) (spot_of (way i))) ∙ take-append_seam d q
+
+-- one listing and one name more
+pub deeper : (vs ws : List (Vec Entry Global)) (v : Vec Entry Global) (d : Place) (n : Text) (e : Place) → ws ≡ vs ++ v ∷ [] → length vs ≡ length d → e ≡ d ++ n ∷ [] → length ws ≡ length e
+deeper vs ws v d n e push depth is =
+    let w : length ws ≡ length vs + 1 = ap length push ∙ length-append vs (v ∷ []) in
+    let l : length e ≡ length d + 1 = ap length is ∙ length_one d n in
+    omega (arith, w, l, depth)

@@ -1,0 +1,135 @@
+-- Where a walk stands after a step, on a told tree.
+use Rattle.std.proofs.Common.{◌≡◌, inl, inr, ◌<◌, List, [], ◌∷◌, ◌++◌, refl, sym, ◌∙◌, ap, subst, false, Option, Some, None, arith}
+use Rattle.std.proofs.lemmas.List.{append-nil}
+use Rattle.std.specs.Prelude.{option_map}
+use Rattle.std.specs.Ordering.{is_lt}
+use Rattle.std.specs.declared.cmp.Ordering.{Ordering}
+use Rattle.std.specs.declared.cmp.Ordering.TheVariants.{Less, Equal, Greater}
+use Rattle.ocfl_tree.specs.Place.{Place, Text, place_cmp}
+use Rattle.ocfl_tree.specs.Tree.{Tree}
+use Rattle.ocfl_tree.specs.Store.{Store}
+use Rattle.ocfl_tree.specs.declared.store.Entry.{Entry}
+use Rattle.ocfl_tree.proofs.Orders.{place_cmp_total, not_both_below}
+use Rattle.ocfl_audit.specs.Zone.{inside, zone}
+use Rattle.ocfl_audit.specs.Walk.{seen_names}
+use Rattle.ocfl_audit.specs.Stack.{Frame, IsStack, IsListed}
+use Rattle.ocfl_walk.specs.Standing.{StandsAt, stand_size, AreEntries, HaveEntries, IsStanding, IsTableAround, IsTaken, IsTurn, Pile, frames_of, left_names, left_of_folder, path_from, popped, pushed}
+use Rattle.ocfl_walk.specs.Walking.{GoesOn, NextGoesOn, NextTold, Onward, SoFar, Steps, IsPileAt}
+use Rattle.ocfl_walk.specs.declared.fault.Fault.{Fault}
+use Rattle.ocfl_walk.specs.declared.folder.Folder.{Folder}
+use Rattle.ocfl_walk.specs.declared.stand.Around.{Around}
+use Rattle.ocfl_audit.specs.Due.{due}
+use Rattle.ocfl_walk.specs.declared.pending.Pending.{Pending}
+use Rattle.ocfl_walk.specs.declared.stand.Stand.{Stand}
+use Rattle.ocfl_walk.specs.declared.stand.Step.TheVariants as step
+use Rattle.ocfl_walk.proofs.LooksZones.{inside_on}
+use Rattle.ocfl_audit.specs.Between.{IsBeyond}
+use Rattle.ocfl_walk.specs.Auditing.{Walks, WalkFails}
+use Rattle.ocfl_walk.proofs.AuditingLaws.{walks_fail, walks_on, walks_over}
+use Rattle.ocfl_audit.proofs.WayLaws.{is_closed, zone_part}
+
+-- ---- places, one after the other
+
+-- what is past a place is not before it
+not_below : (b c : Place) → place_cmp b c ≡ Less → is_lt (place_cmp c b) ≡ false
+not_below b c l = by (place_cmp c b) refl
+  where
+    by : (r : Ordering) → place_cmp c b ≡ r → is_lt r ≡ false
+    by Less e = absurd (not_both_below place_cmp_total b c l e)
+    by Equal e = refl
+    by Greater e = refl
+
+after_on : (last : Option Place) (x y : Place) → IsBeyond last x → IsBeyond (Some x) y → IsBeyond last y
+after_on None x y h k = tt
+after_on (Some a) x y h k = place_cmp_total.trans a x y h k
+
+-- ---- the stack after a step
+
+module _ (root : Tree) where
+  -- at an entry, its listing on top where it is entered
+  pub entry_stands : (last x : Place) (ps new : List Pile) (entry : Entry) (f : Option Folder) (a a' : Option Around) → IsStanding root last ps a → IsTurn root last x ((x, seen_names root x) ∷ popped ps)
+      → IsTaken ps new entry → IsPileAt root x f → IsTableAround root x a' → IsStanding root x (pushed f new) a'
+  entry_stands last x ps new entry f a a' h t k m z = by f m
+    where
+      left : popped ps ≡ frames_of new
+      left = ap popped k.old_is ∙ sym (ap frames_of k.new_is)
+
+      stack : IsStack root x ((x, seen_names root x) ∷ frames_of new)
+      stack = subst (λ fs. IsStack root x ((x, seen_names root x) ∷ fs)) left t.stack
+
+      listed : IsListed root ((x, seen_names root x) ∷ frames_of new)
+      listed = subst (λ fs. IsListed root ((x, seen_names root x) ∷ fs)) left t.listed
+
+      entries : HaveEntries root new
+      entries = let old : HaveEntries root ((k.place, entry ∷ k.rest) ∷ k.others) = subst (HaveEntries root) k.old_is h.entries in subst (HaveEntries root) (sym k.new_is) (old.0.1, old.1)
+
+      by : (f : Option Folder) → IsPileAt root x f → IsStanding root x (pushed f new) a'
+      by None e = record {
+        stack = subst (λ ns. IsStack root x ((x, ns) ∷ frames_of new)) e stack;
+        listed = listed.1;
+        entries = entries;
+        table = z;
+      }
+      by (Some g) e = record {
+        stack = subst (λ d. IsStack root x ((d, left_names g) ∷ frames_of new)) (sym e.0) (subst (λ ns. IsStack root x ((x, ns) ∷ frames_of new)) (sym e.1) stack);
+        listed = subst (λ d. IsListed root ((d, left_names g) ∷ frames_of new)) (sym e.0) (subst (λ ns. IsListed root ((x, ns) ∷ frames_of new)) (sym e.1) (listed_own x (seen_names root x) (frames_of new) listed refl));
+        entries = (subst (λ d. AreEntries root d (left_of_folder g)) (sym e.0) e.2, entries);
+        table = z;
+      }
+        where
+          listed_own : (x : Place) (ns : List Text) (fs : List Frame) → IsListed root ((x, ns) ∷ fs) → ns ≡ seen_names root x → IsListed root ((x, ns) ∷ fs)
+          listed_own x ns fs l e = l
+
+  pub object_zone : (o s q : Place) (p : Place) → zone root p ≡ inside o s → zone root (o ++ q) ≡ inside o q
+  object_zone o s q p e = inside_on root o o [] q (subst (λ x. zone root x ≡ inside o []) (append-nil o) (zone_part root (is_closed root) p o [] s e))
+
+  -- at a path of the table
+  pub path_stands : (last b : Place) (ps : List Pile) (a : Option Around) → IsStanding root last ps a → IsTurn root last b (frames_of ps) → path_from last a ≡ Some b → IsStanding root b ps a
+  path_stands last b ps a h t p = record { stack = t.stack; listed = t.listed; entries = h.entries; table = by a h.table p }
+    where
+      of : (a : Around) (o : Option Place) → option_map (λ q. a.place ++ q) o ≡ Some b → (q : Place) × (b ≡ a.place ++ q)
+      of a None e = absurd cc
+      of a (Some q) e = (q, cc)
+
+      by : (a : Option Around) → IsTableAround root last a → path_from last a ≡ Some b → IsTableAround root b a
+      by None z e = absurd cc
+      by (Some a) z e = let w = of a _ e in (w.0, ap (zone root) w.1 ∙ object_zone a.place z.0 w.0 last z.1, z.2)
+
+-- ---- steps, one after the other
+
+pub onward_step : (old mid new : Stand) → Onward old mid → GoesOn mid new step.Nothing → Onward old new
+onward_step old mid new (inl e) g = inr (g.0, g.1, subst (λ m. IsBeyond m.last g.0) e g.2, subst (λ m. stand_size new < stand_size m) e g.3)
+onward_step old mid new (inr h) g = inr (g.0, g.1, after_on old.last h.0 g.0 h.2 (subst (λ l. IsBeyond l g.0) h.1 g.2), omega (arith, g.3, h.3))
+
+pub onward_item : (old mid new : Stand) (p : Pending) → Onward old mid → GoesOn mid new (step.Item p) → NextGoesOn old new (Some p)
+onward_item old mid new p (inl e) g = (g.0, subst (λ m. IsBeyond m.last p.place) e g.1, subst (λ m. stand_size new < stand_size m) e g.2, g.3)
+onward_item old mid new p (inr h) g = (g.0, after_on old.last h.0 p.place h.2 (subst (λ l. IsBeyond l p.place) h.1 g.1), omega (arith, g.2, h.3), g.3)
+
+module _ (root : Tree) (s t u : Store) (last : Option Place) (mid new : Stand) where
+  pub so_far_step : SoFar root s t last mid → ((l : Option Place) → StandsAt root mid l → Steps root t u l new step.Nothing) → SoFar root s u last new
+  so_far_step (inl h) k = let g = k last h.1 in inr (subst (λ x. (y : Place) × Walks root x u last (Some y) × StandsAt root new (Some y) × IsBeyond last y × (due root last ≡ due root (Some y))) h.0 g)
+  so_far_step (inr h) k =
+      let g = k (Some h.0) h.2 in
+      inr (g.0, walks_on root s t u last h.0 h.3 (Some g.0) (not_below h.0 g.0 g.3) h.1 g.1, g.2, after_on last h.0 g.0 h.3 g.3, h.4 ∙ g.4)
+
+  pub so_far_item : (p : Pending) → SoFar root s t last mid → ((l : Option Place) → StandsAt root mid l → Steps root t u l new (step.Item p)) → NextTold root s u last new (Some p)
+  so_far_item p (inl h) k = let g = k last h.1 in (subst (λ x. Walks root x u last (Some p.place)) h.0 g.0, g.1, g.3)
+  so_far_item p (inr h) k =
+      let g = k (Some h.0) h.2 in
+      (walks_on root s t u last h.0 h.3 (Some p.place) (not_below h.0 p.place g.2) h.1 g.0, g.1, record { pending = g.3.pending; due_are = h.4 ∙ g.3.due_are })
+
+  pub so_far_end : SoFar root s t last mid → ((l : Option Place) → StandsAt root mid l → Steps root t u l new step.End) → NextTold root s u last new None
+  so_far_end (inl h) k = let g = k last h.1 in (subst (λ x. Walks root x u last None) h.0 g.0, g.1, (last, g.2, g.1))
+  so_far_end (inr h) k =
+      let g = k (Some h.0) h.2 in
+      (walks_on root s t u last h.0 h.3 None tt h.1 g.0, h.4 ∙ g.1, (Some h.0, g.2, g.1))
+
+  pub so_far_fails : (why : Fault) → SoFar root s t last mid → ((l : Option Place) → StandsAt root mid l → WalkFails root t u l why) → WalkFails root s u last why
+  so_far_fails why (inl h) k = subst (λ x. WalkFails root x u last why) h.0 (k last h.1)
+  so_far_fails why (inr h) k =
+      let g = k (Some h.0) h.2 in
+      walks_fail root s t u last h.0 h.3 why h.1 g
+
+  pub so_far_over : SoFar root s t last mid → s.tree ≡ root → t.tree ≡ root
+  so_far_over (inl h) o = ap (λ x. x.tree) h.0 ∙ o
+  so_far_over (inr h) o = walks_over root s t last (Some h.0) h.1

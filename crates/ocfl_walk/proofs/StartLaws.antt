@@ -1,0 +1,131 @@
+-- The first step of a walk, to the storage root.
+use Rattle.std.proofs.Common.{◌≡◌, ℕ, ◌+◌, ◌*◌, ◌^◌, ◌<◌, ◌≤◌, List, [], ◌∷◌, ◌++◌, refl, sym, ◌∙◌, ap, subst, map, Option, Some, None, length, arith}
+use Rattle.std.proofs.Math.Nat.{pow-suc, one-le-pow, mul_comm}
+use Rattle.std.specs.declared.alloc.Global.{Global}
+use Rattle.std.specs.Prelude.{IfSome, Vec}
+use Rattle.ocfl_tree.specs.declared.store.Entry.{Entry}
+use Rattle.ocfl_tree.specs.Place.{Place, Text, begins, place_cmp}
+use Rattle.ocfl_tree.specs.Ascending.{IsAmong, IsBeforeAll}
+use Rattle.ocfl_tree.specs.Tree.{Tree}
+use Rattle.ocfl_tree.specs.Store.{Store}
+use Rattle.ocfl_audit.specs.Due.{due}
+use Rattle.ocfl_audit.specs.Walk.{seen_names}
+use Rattle.ocfl_audit.specs.Stack.{IsStack, seen_left, seen_places}
+use Rattle.ocfl_walk.specs.Standing.{AreEntries, IsFairPile, IsOrderly, IsOrderlyIf, IsStanding, Pile, StandsAt, entry_weight, left_names, left_of_folder, piles_at, piles_in, pushed, size_of, stand_size, weigh}
+use Rattle.ocfl_walk.specs.Walking.{IsItemAt, IsPileAt, Meets, Steps, step_from}
+use Rattle.ocfl_walk.specs.declared.folder.Folder.{Folder}
+use Rattle.ocfl_walk.specs.declared.pending.Pending.{Pending}
+use Rattle.ocfl_walk.specs.declared.stand.Around.{Around}
+use Rattle.ocfl_walk.specs.declared.stand.Stand.{Stand}
+use Rattle.ocfl_walk.proofs.BaseLaws.{root_some}
+use Rattle.ocfl_walk.proofs.DueTurns.{due_first}
+use Rattle.ocfl_walk.proofs.HeadCalls.{inside_not_root}
+use Rattle.ocfl_walk.proofs.PlacedLaws.{piles_count}
+use Rattle.ocfl_walk.proofs.SizeLaws.{mul_room}
+use Rattle.ocfl_audit.proofs.StackLaws.{stack_starts}
+use Rattle.ocfl_audit.specs.Head.{on}
+use Rattle.ocfl_audit.proofs.BetweenLaws.{looked_first, read_first, root_unread}
+use Rattle.ocfl_walk.proofs.AuditingLaws.{IsNear, meets_walks}
+use Rattle.ocfl_audit.proofs.WayLaws.{is_closed}
+
+pub not_begun : (l : Option Place) (ps : List Pile) (a : Option Around) → IsOrderlyIf l ps a → l ≡ None → (ps ≡ []) × (a ≡ None)
+not_begun l ps a h e = subst (λ x. IsOrderlyIf x ps a) e h
+
+pub first_room : (vs : List (Vec Entry Global)) (f : Option Folder) → piles_at [] vs ≡ [] → IfSome f (λ _. length vs < 128)
+first_room vs None e = tt
+first_room vs (Some f) e = let n : length (piles_at [] vs) ≡ 0 = ap length e in let m = piles_count [] vs in omega (arith, n, m)
+
+-- the first listing
+pub first_pushed : (x : Place) (vs ws : List (Vec Entry Global)) (f : Option Folder) → x ≡ [] → piles_at [] vs ≡ [] → IfSome f (λ g. IsFairPile [] g)
+    → ((p : Place) → IfSome f (λ g. (g.place ≡ p) × (length p ≡ length vs)) → piles_at p ws ≡ pushed f (piles_at p vs)) → piles_at x ws ≡ pushed f (piles_at [] vs)
+first_pushed x vs ws f e none fair push = ap (λ p. piles_at p ws) e ∙ push [] (fits f fair)
+  where
+    fits : (f : Option Folder) → IfSome f (λ g. IsFairPile [] g) → IfSome f (λ g. (g.place ≡ []) × (length {A = Text} [] ≡ length vs))
+    fits None k = tt
+    fits (Some g) k = (k.place, (let n : length (piles_at [] vs) ≡ 0 = ap length none in let m = piles_count [] vs in let z : 0 ≡ length vs = omega (arith, n, m) in z))
+
+above_root : (d : Place) (ns : List Text) → d ≡ [] → IsBeforeAll place_cmp [] (map (λ n. d ++ n ∷ []) ns)
+above_root d [] e = tt
+above_root d (n ∷ ns) e = (ap (λ y. place_cmp [] (y ++ n ∷ [])) e, above_root d ns e)
+
+pub orderly_first : (x : Place) (f : Option Folder) (ps : List Pile) (a : Option Around) → x ≡ [] → ps ≡ [] → a ≡ None → IfSome f (λ g. IsFairPile [] g) → IsOrderly x (pushed f ps) a
+orderly_first x f ps a e none alone h = subst (λ b. IsOrderly x (pushed f ps) b) (sym alone) (subst (λ qs. IsOrderly x (pushed f qs) None) (sym none) (subst (λ y. IsOrderly y (pushed f []) None) (sym e) (by f h)))
+  where
+    by : (f : Option Folder) → IfSome f (λ g. IsFairPile [] g) → IsOrderly [] (pushed f []) None
+    by None k = record { chain = tt; few = tt; object = tt }
+    by (Some g) k =
+        let short : length g.place ≡ 0 = ap length k.place in
+        record { chain = (ap (λ y. begins y []) k.place, omega (arith, short), above_root g.place (left_names g) k.place, k.ascends, tt); few = (k.few, tt); object = tt }
+
+module _ (w : ℕ) (big : 1000000 < w) where
+  weigh_first : (n v : ℕ) → 1 ≤ v → n ≤ 1000000 → n * v + 0 < v * w * w
+  weigh_first n v one few =
+      let m = mul_room n 0 w v one (omega (arith, few, big)) in
+      let u = mul_room 1 0 w (v * w) (at_least v one) (omega (arith, big)) in
+      let same = mul_comm v w in
+      let turn = mul_comm (v * w) w in
+      omega (arith, m, u, same, turn)
+    where
+      at_least : (v : ℕ) → 1 ≤ v → 1 ≤ v * w
+      at_least v one = let k = mul_room 0 0 w v one (omega (arith, big)) in let same = mul_comm v w in omega (arith, k, same)
+
+  weight_first : (f : Option Folder) → IfSome f (λ g. IsFairPile [] g) → weigh w (pushed f []) + 0 < w ^ 130
+  weight_first f h =
+      let v : ℕ = w ^ 128 in
+      let one : 1 ≤ v = one-le-pow 128 w (omega (arith, big)) in
+      let whole : w ^ 130 ≡ v * w * w = pow-suc w 129 ∙ ap (λ y. y * w) (pow-suc w 128) in
+      subst (λ y. weigh w (pushed f []) + 0 < y) (sym whole) (by f h v one refl)
+    where
+      by : (f : Option Folder) → IfSome f (λ g. IsFairPile [] g) → (v : ℕ) → 1 ≤ v → w ^ 128 ≡ v → weigh w (pushed f []) + 0 < v * w * w
+      by None k v one e = let h = weigh_first 0 v one (omega arith) in omega (arith, h)
+      by (Some g) k v one e = let h = weigh_first (length (left_of_folder g)) v one k.few in subst (λ y. length (left_of_folder g) * y + 0 + 0 < v * w * w) (sym e) (omega (arith, h))
+
+pub size_first : (x : Place) (f : Option Folder) (ps : List Pile) (a : Option Around) → ps ≡ [] → a ≡ None → IfSome f (λ g. IsFairPile [] g) → size_of (Some x) (pushed f ps) a < size_of None ps a
+unfolding size_of entry_weight
+size_first x f ps a none alone h = subst (λ b. size_of (Some x) (pushed f ps) b < size_of None ps b) (sym alone) (subst (λ qs. size_of (Some x) (pushed f qs) None < size_of None qs None) (sym none) (weight_first entry_weight (omega arith) f h))
+
+pub size_begins : (old new : Stand) (x : Place) (ps qs : List Pile) (a a' : Option Around) → old.last ≡ None → piles_in old.last old.listings.items ≡ ps → old.around ≡ a → new.last ≡ Some x → piles_in new.last new.listings.items ≡ qs → new.around ≡ a' → size_of (Some x) qs a' < size_of None ps a → stand_size new < stand_size old
+unfolding stand_size
+size_begins old new x ps qs a a' e1 e2 e3 f1 f2 f3 h = (subst (λ n. n < size_of old.last (piles_in old.last old.listings.items) old.around) (λ i. size_of (sym f1 i) (sym f2 i) (sym f3 i)) (subst (λ n. size_of (Some x) qs a' < n) (λ i. size_of (sym e1 i) (sym e2 i) (sym e3 i)) h))
+
+pub root_short : (x : Place) → x ≡ [] → length x ≤ 255
+root_short x e = let n : length x ≡ length {A = Text} [] = ap length e in omega (arith, n)
+
+pub item_first : (x : Place) (item : Option Pending) → x ≡ [] → IfSome item (λ p. p.place ≡ []) → IfSome item (λ p. p.place ≡ x)
+item_first x None e h = h
+item_first x (Some p) e h = h ∙ sym e
+
+module _ (root : Tree) where
+  pub first_stands : (x : Place) (f : Option Folder) (ps : List Pile) (a : Option Around) → x ≡ [] → ps ≡ [] → a ≡ None → IsPileAt root [] f → IsStanding root x (pushed f ps) a
+  first_stands x f ps a e none alone h = subst (λ b. IsStanding root x (pushed f ps) b) (sym alone) (subst (λ qs. IsStanding root x (pushed f qs) None) (sym none) (subst (λ y. IsStanding root y (pushed f []) None) (sym e) (by f h)))
+    where
+      starts : IsStack root [] (([], seen_names root []) ∷ [])
+      starts = stack_starts root (is_closed root) []
+
+      by : (f : Option Folder) → IsPileAt root [] f → IsStanding root [] (pushed f []) None
+      by None k = record {
+        stack = sym (ap (λ ns. seen_left (seen_places root) (([], ns) ∷ [])) k) ∙ starts;
+        listed = tt;
+        entries = tt;
+        table = λ o s z. absurd (inside_not_root root o s z);
+      }
+      by (Some g) k = record {
+        stack = subst (λ d. IsStack root [] ((d, left_names g) ∷ [])) (sym k.0) (subst (λ ns. IsStack root [] (([], ns) ∷ [])) (sym k.1) starts);
+        listed = ((λ n i. subst (λ d. IsAmong (seen_names root d) n) (sym k.0) (subst (λ ns. IsAmong ns n) k.1 i)), tt);
+        entries = (subst (λ d. AreEntries root d (left_of_folder g)) (sym k.0) k.2, tt);
+        table = λ o s z. absurd (inside_not_root root o s z);
+      }
+
+  -- the storage root comes first
+  pub near_first : IsNear root None []
+  near_first = record { beyond = tt; looked = looked_first root; read = read_first root ∙ sym (ap (λ b. on b []) (root_unread root)) }
+
+  pub step_first : (s t : Store) (x : Place) (new : Stand) (item : Option Pending) → x ≡ [] → Meets root s t [] → IsItemAt root [] item → StandsAt root new (Some x) → Steps root s t None new (step_from item)
+  step_first s t x new None e m i st = absurd (root_some root i)
+  step_first s t x new (Some p) e m i st =
+      let there : [] ≡ p.place = sym i.1 in (
+        meets_walks root s t None p.place (subst (IsNear root None) there near_first) (subst (Meets root s t) there m),
+        subst (λ y. StandsAt root new (Some y)) (e ∙ there) st,
+        tt,
+        record { pending = i.0; due_are = subst (λ y. due root None ≡ y ∷ due root (Some y)) there (due_first root (root_some root)) },
+      )

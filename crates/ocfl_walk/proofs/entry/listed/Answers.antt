@@ -1,0 +1,19 @@
+use Rattle.std.proofs.Common.{◌≡◌, ◌++◌, ◌∷◌, [], true, sym, subst, ◌∙◌}
+use Rattle.ocfl_walk.specs.Ways.{is_listable}
+use Rattle.ocfl_walk.proofs.LooksEntries.{listable_is}
+use Rattle.ocfl_walk.proofs.LooksCalls.{enters_at}
+use Rattle.ocfl_walk.proofs.LeadsLaws.{may_depth}
+use Rattle.ocfl_walk.proofs.entry.listed.Goals as goal
+
+pub returns-clause-told : goal.returns-clause-told
+returns-clause-told g c = λ h root over listing.
+    let may : is_listable root (c.args.folder.now.place ++ c.args.name.now ∷ []) ≡ true =
+    sym (listable_is root c.args.folder.now.place c.args.name.now c.args.folder.now.entries.items listing) ∙ sym c.can_enter.ensures ∙ c.if-not-can_enter.false in
+    enters_at root _ _ _ _ _ _ c.in_ok-place.ensures (c.in_ok-list.ensures.told h root over (subst (λ p. is_listable root p ≡ true) (sym c.in_ok-place.ensures) may))
+
+pub returns-clause-fair : goal.returns-clause-fair
+returns-clause-fair g c = record {
+  place = c.in_ok-list.ensures.place ∙ c.in_ok-place.ensures;
+  depth = may_depth c.args.folder.now.place c.args.name.now _ (sym c.can_enter.ensures ∙ c.if-not-can_enter.false);
+  entries = c.in_ok-list.ensures.ordinary;
+}

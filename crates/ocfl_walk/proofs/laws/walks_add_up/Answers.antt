@@ -1,0 +1,5 @@
+use Rattle.ocfl_walk.proofs.AuditingLaws.{walks_fail}
+use Rattle.ocfl_walk.proofs.laws.walks_add_up.Goals as goal
+
+pub returns-clause-fail : goal.returns-clause-fail
+returns-clause-fail c = λ root s t u from b why beyond v w. walks_fail root s t u from b beyond why v w

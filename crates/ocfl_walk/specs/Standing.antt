@@ -1,0 +1,264 @@
+-- Where a walk stands: what is left of its listings, and the table of the object that holds its last place.
+use Rattle.std.specs.declared.alloc.Global.{Global}
+use Rattle.std.specs.Prelude.{Vec, suc, take, ◌≡◌, ◌<◌, ◌≤◌, ◌≢◌, ◌+◌, ◌*◌, ◌-◌, ◌^◌, ℕ, List, [], ◌∷◌, ◌++◌, true, Option, Some, None, map, filter, option_map, length, drop, if◌then◌else◌, ⊤}
+use Rattle.std.specs.Ordering.{is_lt}
+use Rattle.std.specs.List.{AllByRecursion}
+use Rattle.std.specs.declared.cmp.Ordering.TheVariants.{Less}
+use Rattle.ocfl_tree.specs.Place.{Text, Place, text_cmp, place_cmp, begins}
+use Rattle.ocfl_tree.specs.Ascending.{IsAscending, IsBeforeAll}
+use Rattle.ocfl_tree.specs.Tree.{Tree}
+use Rattle.ocfl_tree.specs.Listing.{kind_at}
+use Rattle.ocfl_tree.specs.declared.store.Entry.{Entry}
+use Rattle.ocfl_inventory.specs.Table.{IsFit, Table, paths_of}
+use Rattle.ocfl_audit.specs.Zone.{hierarchy, inside, zone, table_at, seen}
+use Rattle.ocfl_audit.specs.Lines.{notes}
+use Rattle.ocfl_audit.specs.Due.{due}
+use Rattle.ocfl_inventory.specs.NextPath.{next_path}
+use Rattle.ocfl_audit.specs.Walk.{is_reached, seen_names}
+use Rattle.ocfl_audit.specs.Stack.{NoneSeenBetween, NoneSeenAbove, Frame, IsStack, IsListed}
+use Rattle.ocfl_walk.specs.declared.stand.Turn.{Turn}
+use Rattle.ocfl_walk.specs.declared.stand.Turn.TheVariants as turn
+use Rattle.ocfl_walk.specs.declared.folder.Folder.{Folder}
+use Rattle.ocfl_walk.specs.declared.stand.Around.{Around}
+use Rattle.ocfl_walk.specs.declared.stand.Stand.{Stand}
+
+-- ---- what is kept: the next entry stands last in a listing, the deepest listing last
+
+abbrev pub back_onto : {A B : Type 0} → (A → B) → List A → List B → List B
+back_onto f [] ys = ys
+back_onto f (x ∷ xs) ys = back_onto f xs (f x ∷ ys)
+
+-- from the last to the first
+abbrev pub back : {A B : Type 0} → (A → B) → List A → List B
+back f xs = back_onto f xs []
+
+-- a directory, and the entries of it that are left, the next one first
+abbrev pub Pile : Type 0
+Pile = Place × List Entry
+
+abbrev pub pile_of : Folder → Pile
+pile_of f = (f.place, back (λ e. e) f.entries.items)
+
+-- the deepest first
+abbrev pub piles_of : List Folder → List Pile
+piles_of fs = back pile_of fs
+
+abbrev pub frame_of : Pile → Frame
+frame_of p = (p.0, map (λ e. e.name) p.1)
+
+abbrev pub frames_of : List Pile → List Frame
+frames_of ps = map frame_of ps
+
+-- the place that a walk stands behind; the storage root's where it has not begun
+abbrev pub spot_of : Option Place → Place
+spot_of None = []
+spot_of (Some p) = p
+
+-- the listings with their places: the one at index i is that of the first i names of p
+abbrev pub folders_from : ℕ → Place → List (Vec Entry Global) → List Folder
+folders_from i p [] = []
+folders_from i p (v ∷ vs) = record { place = take i p; entries = v } ∷ folders_from (suc i) p vs
+
+abbrev pub piles_at : Place → List (Vec Entry Global) → List Pile
+piles_at p vs = piles_of (folders_from 0 p vs)
+
+abbrev pub piles_in : Option Place → List (Vec Entry Global) → List Pile
+piles_in last vs = piles_at (spot_of last) vs
+
+-- without those in front of which nothing is left
+abbrev pub trimmed_from : Place → List Entry → List Pile → List Pile → List Pile
+trimmed_from d [] later ps = later
+trimmed_from d (e ∷ es) later ps = (d, e ∷ es) ∷ ps
+
+abbrev pub trimmed : List Pile → List Pile
+trimmed [] = []
+trimmed (p ∷ ps) = trimmed_from p.0 p.1 (trimmed ps) ps
+
+-- ---- on every store
+
+-- each listing is of a directory on the way to p, and what is left of it lies above p
+abbrev pub IsChain : Place → ℕ → List Frame → Type 0
+IsChain p k [] = ⊤
+IsChain p k (f ∷ fs) =
+    (begins f.0 p ≡ true) × (length f.0 < k) × IsBeforeAll place_cmp p (map (λ n. f.0 ++ n ∷ []) f.1) × IsAscending text_cmp f.1 × IsChain f.0 (length f.0) fs
+
+abbrev pub IsFitIf : Option Around → Type 0
+IsFitIf None = ⊤
+IsFitIf (Some a) = IsFit a.table
+
+-- the last place lies in the object
+pub record IsAround (last : Place) (a : Around) : Type 0 where
+  pub holds : begins a.place last ≡ true
+  pub depth : length a.place ≤ 127
+  pub fit : IsFit a.table
+
+abbrev pub IsAroundIf : Place → Option Around → Type 0
+IsAroundIf last None = ⊤
+IsAroundIf last (Some a) = IsAround last a
+
+pub record IsOrderly (last : Place) (ps : List Pile) (around : Option Around) : Type 0 where
+  pub chain : IsChain last 128 (frames_of ps)
+  pub few : AllByRecursion (λ p. length p.1 ≤ 1000000) ps
+  pub object : IsAroundIf last around
+
+-- nothing was taken yet, or all is in order
+abbrev pub IsOrderlyIf : Option Place → List Pile → Option Around → Type 0
+IsOrderlyIf None ps around = (ps ≡ []) × (around ≡ None)
+IsOrderlyIf (Some last) ps around = IsOrderly last ps around
+
+abbrev pub IsOrderlyStand : Stand → Type 0
+IsOrderlyStand s = IsOrderlyIf s.last (piles_in s.last s.listings.items) s.around
+
+-- ---- a number that each step of the walk lowers
+
+-- a listing weighs so much for each entry that is left that all below an entry weighs less
+abbrev pub weigh : ℕ → List Pile → ℕ
+weigh w [] = 0
+weigh w (p ∷ ps) = length p.1 * w ^ (128 - length ps) + weigh w ps
+
+abbrev pub paths_above : Place → Option Around → ℕ
+paths_above last None = 0
+paths_above last (Some a) = length (filter (λ q. is_lt (place_cmp last (a.place ++ q))) (paths_of a.table))
+
+unfoldable pub entry_weight : ℕ
+entry_weight = 2 ^ 65
+
+unfoldable pub size_of : Option Place → List Pile → Option Around → ℕ
+size_of None ps around = entry_weight ^ 130
+size_of (Some last) ps around = weigh entry_weight ps + paths_above last around
+
+unfoldable pub stand_size : Stand → ℕ
+stand_size s = size_of s.last (piles_in s.last s.listings.items) s.around
+
+-- ---- on a store that tells its tree
+
+-- each entry that is left is what its name leads to
+abbrev pub AreEntries : Tree → Place → List Entry → Type 0
+AreEntries root d es = AllByRecursion (λ e. kind_at root d e.name ≡ Some e.kind) es
+
+abbrev pub HaveEntries : Tree → List Pile → Type 0
+HaveEntries root ps = AllByRecursion (λ p. AreEntries root p.0 p.1) ps
+
+-- the table of the object that holds a place, if there is one
+abbrev pub IsTableAround : Tree → Place → Option Around → Type 0
+IsTableAround root p None = (o s : Place) → zone root p ≡ inside o s → table_at root o ≡ None
+IsTableAround root p (Some a) = (s : Place) × (zone root p ≡ inside a.place s) × (table_at root a.place ≡ Some a.table)
+
+pub record IsStanding (root : Tree) (last : Place) (ps : List Pile) (around : Option Around) : Type 0 where
+  pub stack : IsStack root last (frames_of ps)
+  pub listed : IsListed root (frames_of ps)
+  pub entries : HaveEntries root ps
+  pub table : IsTableAround root last around
+
+-- which part of the root a directory that is entered lies in
+abbrev pub IsPart : Tree → Place → Option Around → Type 0
+IsPart root d None = zone root d ≡ hierarchy
+IsPart root d (Some a) = (s : Place) × (zone root d ≡ inside a.place s) × (table_at root a.place ≡ Some a.table)
+
+-- the walk stands over this tree, with this last place
+abbrev pub StandsAt : Tree → Stand → Option Place → Type 0
+StandsAt root s None = s.last ≡ None
+StandsAt root s (Some p) = (s.last ≡ Some p) × IsStanding root p (piles_in s.last s.listings.items) s.around
+
+-- ---- a step
+
+-- the place of the next entry, where the first listing is not used up
+abbrev pub next_in : Place → List Entry → Option Place
+next_in d [] = None
+next_in d (e ∷ es) = Some (d ++ e.name ∷ [])
+
+abbrev pub next_of : List Pile → Option Place
+next_of [] = None
+next_of (p ∷ ps) = next_in p.0 p.1
+
+-- the place of the table's next path
+abbrev pub path_from : Place → Option Around → Option Place
+path_from last None = None
+path_from last (Some a) = option_map (λ q. a.place ++ q) (next_path a.table (Some (drop (length a.place) last)))
+
+-- the lesser of an entry and a path, the entry where they are one
+abbrev pub turn_of : Option Place → Option Place → Turn
+turn_of None None = turn.End
+turn_of (Some e) None = turn.Entry e
+turn_of None (Some b) = turn.Path b
+turn_of (Some e) (Some b) = if is_lt (place_cmp b e) then turn.Path b else turn.Entry e
+
+-- the first entry was taken off
+pub record IsTaken (old new : List Pile) (entry : Entry) : Type 0 where
+  pub place : Place
+  pub rest : List Entry
+  pub others : List Pile
+  pub old_is : old ≡ (place, entry ∷ rest) ∷ others
+  pub new_is : new ≡ (place, rest) ∷ others
+
+-- an entry that is next, and the part of the root that its directory lies in
+pub record IsMet (root : Tree) (d : Place) (around : Option Around) (entry : Entry) (e : Place) : Type 0 where
+  pub is : e ≡ d ++ entry.name ∷ []
+  pub reached : is_reached root d ≡ true
+  pub part : IsPart root d around
+  pub kind : kind_at root d entry.name ≡ Some entry.kind
+
+-- the stack behind the first entry
+abbrev pub popped_from : Place → List Entry → List Pile → List Frame
+popped_from d [] ps = []
+popped_from d (e ∷ es) ps = (d, map (λ x. x.name) es) ∷ frames_of ps
+
+abbrev pub popped : List Pile → List Frame
+popped [] = []
+popped (p ∷ ps) = popped_from p.0 p.1 ps
+
+-- where the walk comes to by a turn: at an entry with its own listing on top
+abbrev pub place_by : Tree → List Pile → Turn → Option (Place × List Frame)
+place_by root ps turn.Base = None
+place_by root ps (turn.Entry e) = Some (e, (e, seen_names root e) ∷ popped ps)
+place_by root ps (turn.Path b) = Some (b, frames_of ps)
+place_by root ps turn.End = None
+
+-- the object, where a place lies in it
+abbrev pub still : Option Around → Place → Option Around
+still None e = None
+still (Some a) e = if begins a.place e then Some a else None
+
+-- the object that a place lies in, with the table that was met there if it is one
+abbrev pub around_of : Option Around → Place → Option Table → Option Around
+around_of around e None = around
+around_of around e (Some t) = Some (record { place = e; table = t })
+
+abbrev pub IsBelowNext : Place → Option Place → Type 0
+IsBelowNext b None = ⊤
+IsBelowNext b (Some e) = place_cmp b e ≡ Less
+
+-- where the walk stood at last it goes on to x, with these listings left
+pub record IsTurn (root : Tree) (last x : Place) (fs : List Frame) : Type 0 where
+  pub above : place_cmp last x ≡ Less
+  pub none_seen : NoneSeenBetween root last x
+  pub stack : IsStack root x fs
+  pub listed : IsListed root fs
+  pub some : notes root None x ≢ [] → due root (Some last) ≡ x ∷ due root (Some x)
+  pub none : notes root None x ≡ [] → due root (Some last) ≡ due root (Some x)
+
+-- what a turn comes to
+abbrev pub TurnIs : Tree → Place → List Pile → Turn → Type 0
+TurnIs root last ps turn.Base = ⊥
+TurnIs root last ps (turn.Entry e) = IsTurn root last e ((e, seen_names root e) ∷ popped ps)
+TurnIs root last ps (turn.Path b) = IsTurn root last b (frames_of ps) × (seen root b ≡ None)
+TurnIs root last ps turn.End = NoneSeenAbove root last × (due root (Some last) ≡ [])
+
+-- the entries that are left of a listing, the next first
+abbrev pub left_of_folder : Folder → List Entry
+left_of_folder f = back (λ e. e) f.entries.items
+
+abbrev pub left_names : Folder → List Text
+left_names f = map (λ e. e.name) (left_of_folder f)
+
+-- the listing of an entry goes on top, if there is one
+abbrev pub pushed : Option Folder → List Pile → List Pile
+pushed None ps = ps
+pushed (Some f) ps = pile_of f ∷ ps
+
+-- listed and put in order
+pub record IsFairPile (e : Place) (f : Folder) : Type 0 where
+  pub place : f.place ≡ e
+  pub depth : length e ≤ 127
+  pub ascends : IsAscending text_cmp (left_names f)
+  pub few : length (left_of_folder f) ≤ 1000000

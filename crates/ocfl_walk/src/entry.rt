@@ -1,0 +1,192 @@
+//! Where a walk begins: the listings on the way to a place, of each what lies above that place.
+ghost use Rattle.std.specs.Prelude.{◌≡◌, ◌≤◌, ◌∷◌, ◌++◌, ◌&&◌, [], length, true, false, None, Some, IsTrue, IfOk, IfErr, IfSome, MatchOption, MatchResult};
+ghost use Rattle.ocfl_tree.specs.Tree.{Tree as Root};
+ghost use Rattle.ocfl_tree.specs.Place.{Place as Spot};
+ghost use Rattle.ocfl_tree.specs.Listing.{IsListing};
+ghost use Rattle.ocfl_walk.specs.Entering.{Descends, DescendFails, GoesInto, IsBrought, IsComing, IsFairWay, IsKept, Leads, Starts, StartFails, may_open};
+ghost use Rattle.ocfl_walk.specs.Standing.{IsAroundIf, IsOrderly, IsOrderlyStand, IsPart, IsTableAround, StandsAt, piles_in};
+ghost use Rattle.ocfl_audit.specs.Walk.{step_listed};
+ghost use Rattle.ocfl_walk.specs.Walking.{IsFairFolder};
+ghost use Rattle.ocfl_walk.specs.Ways.{Enters, IsAt, IsObject, IsWayFault, StaysOut, Stops, way_below};
+ghost use Rattle.ocfl_audit.specs.Zone.{inside, table_at, zone};
+
+use crate::fault::Fault;
+use crate::folder::{Folder, Head, can_enter, head_of, is_extensions, list};
+use crate::listing::{keep_above, sorted};
+use crate::object::table_of_object;
+use crate::stand::{Around, Stand};
+use arrayvec::ArrayVec;
+use ocfl_inventory::declaration::declaration;
+use ocfl_inventory::{Declared, Level, is_version_name};
+use ocfl_tree::{Name, Place, Tree, is_text};
+use std::alloc::Global;
+
+/// The listing of a directory in a directory, where it may be listed.
+fn listed<T: Tree>(store: &mut T, folder: &Folder, name: &Name) -> Result<Option<Folder>, Fault>
+    ensures only { IfErr result (λ why. IsWayFault why) }
+    ensures fair { IfOk result (λ next. IfSome next (λ inner. IsFairFolder (folder.now.place ++ name.now ∷ []) inner)) }
+    ensures told { IsTrue T.told → (root : Root) → (T.state store.old).tree ≡ root
+        → IsListing root folder.now.place folder.now.entries.items
+        → let below = folder.now.place ++ name.now ∷ [] in MatchResult result
+        (λ next. MatchOption next
+        (StaysOut root (T.state store.old) (T.state store.new) below)
+        (λ inner. Enters root (T.state store.old) (T.state store.new) below
+        inner.place inner.entries.items))
+        (λ why. Stops root (T.state store.old) (T.state store.new) (below ∷ []) [] why) }
+{
+    if !can_enter(folder, name) {
+        return Ok(None);
+    }
+    let place = folder.place.child(name)?;
+    Ok(Some(list(store, place)?))
+}
+
+/// What lies below an object, where its head does not stop: its table is kept.
+fn into_object<T: Tree>(
+    alloc: Global,
+    store: &mut T,
+    object: &mut Option<Around>,
+    folder: Folder,
+) -> Result<Option<Folder>, Fault>
+    ensures only { IfErr result (λ why. IsWayFault why) }
+    ensures fair { IfOk result (λ o. MatchOption o (object.new ≡ object.old) (λ f. (f ≡ folder) × IsKept folder.place object.new)) }
+    ensures told { IsTrue T.told → (root : Root) → (T.state store.old).tree ≡ root
+        → IsObject root folder.place folder.entries.items
+        → GoesInto root (T.state store.old) (T.state store.new) folder.place object.new result }
+{
+    let Some(table) = table_of_object(alloc, store, &folder)? else {
+        return Ok(None);
+    };
+    let place = folder.place.try_clone()?;
+    *object = Some(Around { place, table });
+    Ok(Some(folder))
+}
+
+/// The directory of the storage hierarchy, or the object, that a name leads to, where it is entered.
+fn down_in_hierarchy<T: Tree>(
+    alloc: Global,
+    store: &mut T,
+    object: &mut Option<Around>,
+    folder: &Folder,
+    name: &Name,
+) -> Result<Option<Folder>, Fault>
+    requires { object.old ≡ None }
+    ensures only { IfErr result (λ why. IsWayFault why) }
+    ensures fair { IfOk result (λ o. IsFairWay folder.now.place name.now object.old object.new o) }
+    ensures told { IsTrue T.told → (root : Root) → (T.state store.old).tree ≡ root
+        → IsAt root folder.now.place folder.now.entries.items → IsPart root folder.now.place object.old → (r : Spot)
+        → Leads root (T.state store.old) (T.state store.new) folder.now.place name.now r object.old object.new result }
+{
+    if is_extensions(folder, name) {
+        return Ok(None);
+    }
+    let Some(inner) = listed(store, folder, name)? else {
+        return Ok(None);
+    };
+    match declaration(&inner.entries, Level::Object) {
+        Declared::None => Ok(Some(inner)),
+        Declared::One(_) => into_object(alloc, store, object, inner),
+        Declared::Unknown(_) | Declared::Several => Ok(None),
+    }
+}
+
+/// Whether a name leads from a directory of an object to another that is listed.
+fn leads_on(object: &Around, folder: &Folder, name: &Name) -> bool
+    requires { length object.now.place ≤ length folder.now.place }
+    ensures told { (root : Root) → IsAt root folder.now.place folder.now.entries.items → (s : Spot) → zone root folder.now.place ≡ inside object.now.place s
+        → table_at root object.now.place ≡ Some object.now.table → result ≡ step_listed object.now.table s name.now }
+{
+    let depth = folder.place.depth() - object.place.depth();
+    if depth == 0 {
+        is_version_name(name.as_str())
+    } else if depth == 1 {
+        is_text(name.as_str(), object.table.content_directory())
+    } else {
+        true
+    }
+}
+
+/// The directory that a name leads to, where it is entered.
+pub(crate) fn down<T: Tree>(
+    alloc: Global,
+    store: &mut T,
+    object: &mut Option<Around>,
+    folder: &Folder,
+    name: &Name,
+) -> Result<Option<Folder>, Fault>
+    requires { IsAroundIf folder.now.place object.old }
+    ensures only { IfErr result (λ why. IsWayFault why) }
+    ensures fair { IfOk result (λ o. IsFairWay folder.now.place name.now object.old object.new o) }
+    ensures told { IsTrue T.told → (root : Root) → (T.state store.old).tree ≡ root
+        → IsAt root folder.now.place folder.now.entries.items → IsPart root folder.now.place object.old → (r : Spot)
+        → Leads root (T.state store.old) (T.state store.new) folder.now.place name.now r object.old object.new result }
+{
+    match object {
+        None => down_in_hierarchy(alloc, store, object, folder, name),
+        Some(around) => {
+            if leads_on(around, folder, name) {
+                listed(store, folder, name)
+            } else {
+                Ok(None)
+            }
+        }
+    }
+}
+
+/// Goes down to a place by its names.
+fn go_down<T: Tree>(
+    alloc: Global,
+    store: &mut T,
+    stand: &mut Stand,
+    folder: Folder,
+    names: &[Name],
+) -> Result<(), Fault>
+    requires coming { IsComing folder.place folder.entries.items (piles_in stand.old.last stand.old.listings.items) stand.old.around }
+    requires way { stand.old.last ≡ Some (folder.place ++ names.now) }
+    requires depth { length stand.old.listings.items ≡ length folder.place }
+    ensures only { IfErr result (λ why. IsWayFault why) }
+    ensures last { stand.new.last ≡ stand.old.last }
+    ensures orderly { IfOk result (λ _. IsOrderly (folder.place ++ names.now) (piles_in stand.new.last stand.new.listings.items) stand.new.around) }
+    ensures told { IsTrue T.told → (root : Root) → (T.state store.old).tree ≡ root
+        → IsAt root folder.place folder.entries.items → IsPart root folder.place stand.old.around
+        → let may = may_open stand.old.around (zone root (folder.place ++ names.now)) in MatchResult result
+        (λ _. Descends root (T.state store.old) (T.state store.new) (way_below folder.place names.now) [] may [] 0
+        × IsBrought root folder.place names.now (piles_in stand.old.last stand.old.listings.items) (piles_in stand.new.last stand.new.listings.items) stand.new.around)
+        (λ why. DescendFails root (T.state store.old) (T.state store.new) (way_below folder.place names.now) may why) }
+{
+    let Some((name, rest)) = names.split_first() else {
+        stand.listings.push(sorted(folder).entries);
+        return Ok(());
+    };
+    let inner = down(alloc, store, &mut stand.around, &folder, name)?;
+    let mut left = sorted(folder);
+    keep_above(&mut left.entries, name);
+    stand.listings.push(left.entries);
+    match inner {
+        Some(inner) => go_down(alloc, store, stand, inner, rest),
+        None => Ok(()),
+    }
+}
+
+/// Where a walk stands at a place.
+pub(crate) fn stand_at<T: Tree>(alloc: Global, store: &mut T, after: &Place) -> Result<Stand, Fault>
+    ensures only { IfErr result (λ why. IsWayFault why) }
+    ensures last { IfOk result (λ stand. stand.last ≡ Some after.now) }
+    ensures orderly { IfOk result (λ stand. IsOrderlyStand stand) }
+    ensures told { IsTrue T.told → (root : Root) → (T.state store.old).tree ≡ root → MatchResult result
+        (λ stand. Starts root (T.state store.old) (T.state store.new) after.now 0 × StandsAt root stand (Some after.now))
+        (λ why. StartFails root (T.state store.old) (T.state store.new) after.now why) }
+{
+    let mut stand = Stand {
+        listings: ArrayVec::new_in(alloc),
+        around: None,
+        last: Some(after.try_clone()?),
+    };
+    let base = list(store, Place::root(alloc))?;
+    let Head::Known = head_of(&base, Level::Root) else {
+        return Ok(stand);
+    };
+    let names = after.names()?;
+    go_down(alloc, store, &mut stand, base, &names)?;
+    Ok(stand)
+}

@@ -1,0 +1,82 @@
+//! One place, looked up in the listings on the way down to it.
+ghost use Rattle.std.specs.Prelude.{◌≡◌, ◌∷◌, ◌++◌, [], None, Some, IsTrue, IfErr, MatchOption};
+ghost use Rattle.ocfl_tree.specs.Tree.{Tree as Root};
+ghost use Rattle.ocfl_tree.specs.Listing.{kind_in};
+ghost use Rattle.ocfl_audit.specs.Zone.{zone};
+ghost use Rattle.ocfl_walk.specs.Entering.{may_open};
+ghost use Rattle.ocfl_walk.specs.Finding.{FindsItem};
+ghost use Rattle.ocfl_walk.specs.Standing.{IsAroundIf, IsPart};
+ghost use Rattle.ocfl_walk.specs.Ways.{IsAt, IsWayFault, way_below};
+
+use crate::entry::down;
+use crate::fault::Fault;
+use crate::folder::Folder;
+use crate::pending::Pending;
+use crate::stand::{Around, visit, visit_path};
+use ocfl_tree::{Entry, Name, Place, Tree, is_text};
+use std::alloc::Global;
+
+/// The entry of a name.
+fn entry_named<'f>(entries: &'f [Entry], name: &Name) -> Option<&'f Entry>
+    ensures { MatchOption result (kind_in entries.now name.now ≡ None)
+        (λ e. (e.now.name ≡ name.now) × (kind_in entries.now name.now ≡ Some e.now.kind)) }
+{
+    for entry in entries {
+        if is_text(entry.name.as_str(), name.as_str()) {
+            return Some(entry);
+        }
+    }
+    None
+}
+
+/// The item of a name in a directory.
+fn item_in<T: Tree>(
+    alloc: Global,
+    store: &mut T,
+    place: &Place,
+    around: &Option<Around>,
+    folder: &Folder,
+    name: &Name,
+) -> Result<Option<Pending>, Fault>
+    ensures only { IfErr result (λ why. IsWayFault why) }
+    ensures told { IsTrue T.told → (root : Root) → (T.state store.old).tree ≡ root
+        → IsAt root folder.now.place folder.now.entries.items → IsPart root folder.now.place around.now
+        → place.now ≡ folder.now.place ++ name.now ∷ []
+        → FindsItem root (T.state store.old) (T.state store.new) (place.now ∷ [])
+        (may_open around.now (zone root place.now)) place.now result }
+{
+    match entry_named(&folder.entries, name) {
+        Some(entry) => Ok(visit(alloc, store, around, place.try_clone()?, entry)?.item),
+        None => visit_path(alloc, around, place),
+    }
+}
+
+/// The item of a name and those behind it, below a directory.
+pub(crate) fn find_below<T: Tree>(
+    alloc: Global,
+    store: &mut T,
+    place: &Place,
+    mut around: Option<Around>,
+    folder: Folder,
+    name: &Name,
+    rest: &[Name],
+) -> Result<Option<Pending>, Fault>
+    requires { IsAroundIf folder.place around }
+    ensures only { IfErr result (λ why. IsWayFault why) }
+    ensures told { IsTrue T.told → (root : Root) → (T.state store.old).tree ≡ root
+        → IsAt root folder.place folder.entries.items → IsPart root folder.place around
+        → place.now ≡ folder.place ++ name.now ∷ rest.now
+        → FindsItem root (T.state store.old) (T.state store.new) (way_below folder.place (name.now ∷ rest.now))
+        (may_open around (zone root place.now)) place.now result }
+{
+    let Some((next, behind)) = rest.split_first() else {
+        return item_in(alloc, store, place, &around, &folder, name);
+    };
+    let inner = down(alloc, store, &mut around, &folder, name)?;
+    // only one listing is held at a time
+    drop(folder);
+    match inner {
+        Some(inner) => find_below(alloc, store, place, around, inner, next, behind),
+        None => visit_path(alloc, &around, place),
+    }
+}

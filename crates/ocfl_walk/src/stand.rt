@@ -1,0 +1,413 @@
+//! Where a walk stands, and its steps.
+ghost use Rattle.std.specs.Prelude.{◌≡◌, ◌≢◌, ◌<◌, ◌++◌, ◌∷◌, [], true, false, Option, Some, None, IsTrue, IfOk, IfErr, IfSome, OnOk, OnErr, MatchOption, MatchResult, length};
+ghost use Rattle.std.specs.declared.cmp.Ordering.TheVariants.{Less};
+ghost use Rattle.ocfl_tree.specs.Place.{Place as Spot, place_cmp};
+ghost use Rattle.ocfl_tree.specs.Tree.{Tree as Root};
+ghost use Rattle.ocfl_walk.specs.Ways.{IsWayFault};
+ghost use Rattle.arrayvec.specs.ArrayVec.{array_vec_len};
+ghost use Rattle.ocfl_tree.specs.Store.{Store};
+ghost use Rattle.ocfl_audit.specs.Walk.{seen_names};
+ghost use Rattle.ocfl_walk.specs.Standing.{IsBelowNext, IsStanding, IsTurn, frames_of, popped, pushed, IsAroundIf, IsMet, IsOrderlyStand, IsTableAround, IsTaken, StandsAt, next_of, path_from, piles_at, piles_in, still, trimmed, turn_of, around_of};
+ghost use Rattle.ocfl_audit.specs.Zone.{seen};
+ghost use Rattle.ocfl_walk.specs.Walking.{IsItemAt, step_from, GoesOn, IsFairMet, IsFairVisit, IsMeeting, IsVisit, MeetFails, Meets, NextGoesOn, NextTold, Steps, Visits};
+ghost use Rattle.ocfl_walk.specs.Auditing.{WalkFails};
+
+use crate::base::visit_base;
+use crate::content::content_item;
+use crate::fault::Fault;
+use crate::folder::Folder;
+use crate::listing::sorted_if;
+use crate::pending::Pending;
+use crate::sight::Sight;
+use crate::visit::{
+    Visit, visit_in_content, visit_in_hierarchy, visit_in_object, visit_in_version,
+};
+use arrayvec::ArrayVec;
+use ocfl_inventory::Table;
+use ocfl_tree::{Entry, Place, Tree};
+use std::alloc::{AllocError, Global};
+
+/// The object that the last place lies in, where its head does not stop.
+#[derive(Debug, Drop)]
+pub(crate) struct Around {
+    pub(crate) place: Place,
+    pub(crate) table: Table,
+}
+
+/// The listings on the way to a place, of each what is left, the next entry last: the listing at an index is that of so
+/// many names of the place.
+pub(crate) type Listings = ArrayVec<Vec<Entry>, 128, Global>;
+
+/// Where a walk stands: what is left of the listings on the way to its last place, and that place.
+#[derive(Debug, Drop)]
+pub(crate) struct Stand {
+    pub(crate) listings: Listings,
+    pub(crate) around: Option<Around>,
+    pub(crate) last: Option<Place>,
+}
+
+/// Which place is next.
+#[derive(Debug, Drop)]
+pub(crate) enum Turn {
+    /// The storage root.
+    Base,
+    /// An entry of the last listing that is left.
+    Entry(Place),
+    /// A path of the table.
+    Path(Place),
+    End,
+}
+
+/// What was met at an entry.
+#[derive(Debug, Drop)]
+pub(crate) struct Met {
+    pub(crate) item: Option<Pending>,
+    pub(crate) folder: Option<Folder>,
+    /// The object that holds the entry, where its head does not stop.
+    pub(crate) around: Option<Around>,
+}
+
+/// What a step came to.
+#[derive(Debug, Drop)]
+pub(crate) enum Step {
+    Item(Pending),
+    /// A place without lines.
+    Nothing,
+    End,
+}
+
+/// Lets go of the listings of which nothing is left, at the end.
+fn drop_empty(listings: &mut Listings)
+    ensures { (p : Spot) → piles_at p listings.new.items ≡ trimmed (piles_at p listings.old.items) }
+{
+    while listings.len() > 0 {
+        let Some(entries) = listings.pop() else {
+            return;
+        };
+        if !entries.is_empty() {
+            listings.push(entries);
+            return;
+        }
+    }
+}
+
+/// The place of the next entry.
+fn next_entry(listings: &Listings, last: &Place) -> Result<Option<Place>, AllocError>
+    ensures { IfOk result (λ o. o ≡ next_of (piles_at last.now listings.now.items)) }
+{
+    let Some((entries, above)) = listings.as_slice().split_last() else {
+        return Ok(None);
+    };
+    let Some(entry) = entries.last() else {
+        return Ok(None);
+    };
+    let directory = last.first(above.len())?;
+    Ok(Some(directory.child(&entry.name)?))
+}
+
+/// The place of the table's next path.
+fn next_path(around: &Option<Around>, last: &Place) -> Result<Option<Place>, AllocError>
+    ensures { IfOk result (λ o. o ≡ path_from last.now around.now) }
+{
+    let Some(around) = around else {
+        return Ok(None);
+    };
+    let inner = last.behind(around.place.depth())?;
+    match around.table.next_after(Some(&inner)) {
+        Some(path) => Ok(Some(around.place.join(path)?)),
+        None => Ok(None),
+    }
+}
+
+/// The lesser of an entry and a path, the entry where they are one.
+fn lesser(entry: Option<Place>, path: Option<Place>) -> Turn
+    ensures { result ≡ turn_of entry path }
+{
+    match (entry, path) {
+        (None, None) => Turn::End,
+        (Some(entry), None) => Turn::Entry(entry),
+        (None, Some(path)) => Turn::Path(path),
+        (Some(entry), Some(path)) => {
+            if path.cmp(&entry).is_lt() {
+                Turn::Path(path)
+            } else {
+                Turn::Entry(entry)
+            }
+        }
+    }
+}
+
+/// Which place is next.
+fn choose(
+    listings: &Listings,
+    around: &Option<Around>,
+    last: &Option<Place>,
+) -> Result<Turn, AllocError>
+    ensures base { last.now ≡ None → IfOk result (λ turn. turn ≡ Turn.Base) }
+    ensures next { (p : Spot) → last.now ≡ Some p → IfOk result (λ turn. turn ≡ turn_of (next_of (piles_in last.now listings.now.items)) (path_from p around.now)) }
+{
+    let Some(last) = last else {
+        return Ok(Turn::Base);
+    };
+    let entry = next_entry(listings, last)?;
+    let path = next_path(around, last)?;
+    Ok(lesser(entry, path))
+}
+
+/// Takes the next entry off.
+fn take_entry(listings: &mut Listings) -> Option<Entry>
+    ensures taken { (p : Spot) → MatchOption result (next_of (piles_at p listings.old.items) ≡ None)
+        (λ entry. IsTaken (piles_at p listings.old.items) (piles_at p listings.new.items) entry) }
+    ensures count { length listings.new.items ≡ length listings.old.items }
+{
+    if listings.len() == 0 {
+        return None;
+    }
+    let mut entries = listings.pop()?;
+    let entry = entries.pop();
+    listings.push(entries);
+    entry
+}
+
+/// What is met at an entry, by the part of the storage root that it lies in.
+pub(crate) fn visit<T: Tree>(
+    alloc: Global,
+    store: &mut T,
+    around: &Option<Around>,
+    place: Place,
+    entry: &Entry,
+) -> Result<Visit, Fault>
+    ensures only { IfErr result (λ why. IsWayFault why) }
+    ensures fair { IfOk result (λ v. IsFairVisit place v) }
+    ensures told { IsTrue T.told → (root : Root) → (T.state store.old).tree ≡ root
+        → (d : Spot) → IsMet root d around.now entry.now place
+        → Visits root (T.state store.old) (T.state store.new) place result }
+{
+    let Some(around) = around else {
+        return visit_in_hierarchy(alloc, store, place, entry);
+    };
+    let depth = around.place.depth();
+    match place.depth().saturating_sub(depth) {
+        1 => visit_in_object(alloc, store, place, entry),
+        2 => visit_in_version(alloc, store, &around.table, place, entry),
+        _ => {
+            let inner = place.behind(depth)?;
+            let named = around.table.named(alloc, &inner)?;
+            visit_in_content(alloc, store, place, entry, named)
+        }
+    }
+}
+
+/// The object, where the place lies in it.
+fn still_around(around: Option<Around>, place: &Place) -> Option<Around>
+    ensures { result ≡ still around place.now }
+{
+    match around {
+        Some(around) if place.starts_with(&around.place) => Some(around),
+        Some(_) | None => None,
+    }
+}
+
+/// The object that a place lies in, with the table that was met there if it is one.
+fn around_at(
+    around: Option<Around>,
+    place: &Place,
+    table: Option<Table>,
+) -> Result<Option<Around>, AllocError>
+    ensures { IfOk result (λ a. a ≡ around_of around place.now table) }
+{
+    let Some(table) = table else {
+        return Ok(around);
+    };
+    let place = place.try_clone()?;
+    Ok(Some(Around { place, table }))
+}
+
+/// What is met at an entry behind the last place.
+fn meet<T: Tree>(
+    alloc: Global,
+    store: &mut T,
+    around: Option<Around>,
+    place: &Place,
+    entry: &Entry,
+) -> Result<Met, Fault>
+    ensures only { IfErr result (λ why. IsWayFault why) }
+    ensures fair { IsAroundIf place.now (still around place.now) → IfOk result (λ m. IsFairMet place.now m) }
+    ensures told { IsTrue T.told → (root : Root) → (T.state store.old).tree ≡ root
+        → (d : Spot) → IsMet root d (still around place.now) entry.now place.now
+        → MatchResult result
+        (λ m. Meets root (T.state store.old) (T.state store.new) place.now × IsMeeting root place.now m)
+        (λ why. MeetFails root (T.state store.old) (T.state store.new) place.now why) }
+{
+    let around = still_around(around, place);
+    let Visit {
+        item,
+        folder,
+        table,
+    } = visit(alloc, store, &around, place.try_clone()?, entry)?;
+    let around = around_at(around, place, table)?;
+    let folder = sorted_if(folder);
+    Ok(Met {
+        item,
+        folder,
+        around,
+    })
+}
+
+/// What is met at a place that is not seen: only a path of the table has lines there.
+pub(crate) fn visit_path(
+    alloc: Global,
+    around: &Option<Around>,
+    place: &Place,
+) -> Result<Option<Pending>, Fault>
+    ensures only { IfErr result (λ why. why ≡ Fault.Memory) }
+    ensures fair { IfOk result (λ o. IfSome o (λ p. p.place ≡ place.now)) }
+    ensures told { (root : Root) → IsTableAround root place.now around.now → seen root place.now ≡ None
+        → IfOk result (λ o. IsItemAt root place.now o) }
+{
+    let Some(around) = around else {
+        return Ok(None);
+    };
+    let inner = place.behind(around.place.depth())?;
+    let named = around.table.named(alloc, &inner)?;
+    if named.is_empty() {
+        return Ok(None);
+    }
+    Ok(content_item(alloc, place, named, Sight::Nothing)?)
+}
+
+fn step_of(item: Option<Pending>) -> Step
+    ensures { result ≡ step_from item }
+{
+    match item {
+        Some(item) => Step::Item(item),
+        None => Step::Nothing,
+    }
+}
+
+/// Puts the listing of the last place on top, if there is one.
+fn push_if(listings: &mut Listings, folder: Option<Folder>)
+    requires { IfSome folder (λ _. array_vec_len listings.old < 128) }
+    ensures { (p : Spot) → IfSome folder (λ f. (f.place ≡ p) × (length p ≡ length listings.old.items))
+        → piles_at p listings.new.items ≡ pushed folder (piles_at p listings.old.items) }
+{
+    if let Some(folder) = folder {
+        listings.push(folder.entries);
+    }
+}
+
+impl Stand {
+    /// Takes the storage root.
+    fn take_base<T: Tree>(&mut self, alloc: Global, store: &mut T) -> Result<Step, Fault>
+        requires orderly { IsOrderlyStand self.old }
+        requires first { self.old.last ≡ None }
+        ensures orderly { IsOrderlyStand self.new }
+        ensures only { IfErr result (λ why. IsWayFault why) }
+        ensures goes_on { IfOk result (λ step. GoesOn self.old self.new step) }
+        ensures told { IsTrue T.told → (root : Root) → (T.state store.old).tree ≡ root → MatchResult result
+            (λ step. Steps root (T.state store.old) (T.state store.new) None self.new step)
+            (λ why. WalkFails root (T.state store.old) (T.state store.new) None why) }
+    {
+        let Visit { item, folder, .. } = visit_base(alloc, store)?;
+        push_if(&mut self.listings, sorted_if(folder));
+        self.last = Some(Place::root(alloc));
+        Ok(step_of(item))
+    }
+
+    /// Takes the next entry, which lies at this place.
+    fn take_entry<T: Tree>(
+        &mut self,
+        alloc: Global,
+        store: &mut T,
+        place: Place,
+    ) -> Result<Step, Fault>
+        requires orderly { IsOrderlyStand self.old }
+        requires next { next_of (piles_in self.old.last self.old.listings.items) ≡ Some place }
+        ensures orderly { IsOrderlyStand self.new }
+        ensures only { IfErr result (λ why. IsWayFault why) }
+        ensures goes_on { IfOk result (λ step. GoesOn self.old self.new step) }
+        ensures told { IsTrue T.told → (root : Root) → (T.state store.old).tree ≡ root
+            → (last : Spot) → self.old.last ≡ Some last → IsStanding root last (piles_in self.old.last self.old.listings.items) self.old.around
+            → IsTurn root last place ((place, seen_names root place) ∷ popped (piles_in self.old.last self.old.listings.items)) → MatchResult result
+            (λ step. Steps root (T.state store.old) (T.state store.new) (Some last) self.new step)
+            (λ why. WalkFails root (T.state store.old) (T.state store.new) (Some last) why) }
+    {
+        let Some(entry) = take_entry(&mut self.listings) else {
+            return Ok(Step::End);
+        };
+        let around = self.around.take();
+        let Met {
+            item,
+            folder,
+            around,
+        } = meet(alloc, store, around, &place, &entry)?;
+        push_if(&mut self.listings, folder);
+        self.around = around;
+        self.last = Some(place);
+        Ok(step_of(item))
+    }
+
+    /// Takes the table's next path, at which nothing is seen.
+    fn take_path(&mut self, alloc: Global, place: Place) -> Result<Step, Fault>
+        requires orderly { IsOrderlyStand self.old }
+        requires next { (last : Spot) → self.old.last ≡ Some last → (path_from last self.old.around ≡ Some place) × IsBelowNext place (next_of (piles_in self.old.last self.old.listings.items)) }
+        requires some { self.old.last ≢ None }
+        requires trim { trimmed (piles_in self.old.last self.old.listings.items) ≡ piles_in self.old.last self.old.listings.items }
+        ensures orderly { IsOrderlyStand self.new }
+        ensures only { IfErr result (λ why. IsWayFault why) }
+        ensures goes_on { IfOk result (λ step. GoesOn self.old self.new step) }
+        ensures told { (s : Store) (root : Root) → s.tree ≡ root
+            → (last : Spot) → self.old.last ≡ Some last → IsStanding root last (piles_in self.old.last self.old.listings.items) self.old.around
+            → IsTurn root last place (frames_of (piles_in self.old.last self.old.listings.items)) → seen root place ≡ None → MatchResult result
+            (λ step. Steps root s s (Some last) self.new step)
+            (λ why. WalkFails root s s (Some last) why) }
+    {
+        let item = visit_path(alloc, &self.around, &place)?;
+        self.last = Some(place);
+        Ok(step_of(item))
+    }
+
+    /// Takes the next place.
+    fn step<T: Tree>(&mut self, alloc: Global, store: &mut T) -> Result<Step, Fault>
+        requires { IsOrderlyStand self.old }
+        ensures orderly { IsOrderlyStand self.new }
+        ensures only { IfErr result (λ why. IsWayFault why) }
+        ensures goes_on { IfOk result (λ step. GoesOn self.old self.new step) }
+        ensures told { IsTrue T.told → (root : Root) → (T.state store.old).tree ≡ root
+            → (last : Option Spot) → StandsAt root self.old last → MatchResult result
+            (λ step. Steps root (T.state store.old) (T.state store.new) last self.new step)
+            (λ why. WalkFails root (T.state store.old) (T.state store.new) last why) }
+    {
+        drop_empty(&mut self.listings);
+        match choose(&self.listings, &self.around, &self.last)? {
+            Turn::Base => self.take_base(alloc, store),
+            Turn::Entry(place) => self.take_entry(alloc, store, place),
+            Turn::Path(place) => self.take_path(alloc, place),
+            Turn::End => Ok(Step::End),
+        }
+    }
+
+    /// The next item.
+    pub(crate) fn next<T: Tree>(
+        &mut self,
+        alloc: Global,
+        store: &mut T,
+    ) -> Result<Option<Pending>, Fault>
+        requires { IsOrderlyStand self.old }
+        ensures orderly { IsOrderlyStand self.new }
+        ensures only { IfErr result (λ why. IsWayFault why) }
+        ensures goes_on { IfOk result (λ o. NextGoesOn self.old self.new o) }
+        ensures told { IsTrue T.told → (root : Root) → (T.state store.old).tree ≡ root
+            → (last : Option Spot) → StandsAt root self.old last → MatchResult result
+            (λ o. NextTold root (T.state store.old) (T.state store.new) last self.new o)
+            (λ why. WalkFails root (T.state store.old) (T.state store.new) last why) }
+    {
+        loop {
+            match self.step(alloc, store)? {
+                Step::Item(item) => return Ok(Some(item)),
+                Step::End => return Ok(None),
+                Step::Nothing => {}
+            }
+        }
+    }
+}

@@ -1,0 +1,99 @@
+//! The walk: items in order, from a stack of sorted listings and the table of one object.
+ghost use Rattle.std.specs.Prelude.{◌≡◌, Option, option_map, true, None, Some, IsTrue, IfOk, IfErr, Err, MatchResult};
+ghost use Rattle.ocfl_tree.specs.Place.{Place as Spot};
+ghost use Rattle.ocfl_tree.specs.Tree.{Tree as Root};
+ghost use Rattle.ocfl_walk.specs.Auditing.{GoDownFails, GoesDown, WalkFails};
+ghost use Rattle.ocfl_walk.specs.Orderly.{is_orderly};
+ghost use Rattle.ocfl_walk.specs.Ways.{IsWayFault};
+
+use crate::entry::stand_at;
+use crate::fault::Fault;
+use crate::pending::Pending;
+use crate::stand::Stand;
+use arrayvec::ArrayVec;
+use ocfl_tree::{Place, Tree};
+use std::alloc::Global;
+
+/// The items of a storage root above a place, one after the other.
+///
+/// It holds what is left of the listings on the way to its last place, at most 128 of them, the table of the object that
+/// holds that place, and at most two places; no file's bytes.
+#[derive(Debug, Drop)]
+pub struct Walk {
+    alloc: Global,
+    stand: Stand,
+    broken: bool,
+    ghost orderly: { is_orderly stand ≡ true },
+}
+
+impl Walk {
+    ghost use Rattle.ocfl_walk.specs.Walks.{Gives, GoesOn, IsBroken, IsLive, OpensInventories, Stands, last_of};
+
+    /// A walk over the items above a place, whether or not there is one at it, or over all of them.
+    ///
+    /// It lists the directories on the way to the place, as far as they lead, and reads at most the inventory of the object
+    /// that holds it; without a place it makes no call. `Fault::Store` where the store did not answer, `Fault::Memory` where
+    /// memory was refused.
+    pub fn start<T: Tree>(
+        alloc: Global,
+        store: &mut T,
+        after: Option<&Place>,
+    ) -> Result<Walk, Fault>
+        ensures only { IfErr result (λ why. IsWayFault why) }
+        ensures live { IfOk result (λ walk. IsLive walk) }
+        ensures last { IfOk result (λ walk. last_of walk ≡ option_map (λ p. p.now) after.entry) }
+        ensures untouched { after.entry ≡ None → store.new ≡ store.old }
+        ensures ready { after.entry ≡ None → IfErr result (λ _. ⊥) }
+        ensures inventories { IsTrue T.told → (root : Root) → (T.state store.old).tree ≡ root
+            → OpensInventories root (T.state store.old) (T.state store.new) }
+        ensures told { IsTrue T.told → (root : Root) → (T.state store.old).tree ≡ root
+            → let p = option_map (λ p. p.now) after.entry in MatchResult result
+            (λ walk. GoesDown root (T.state store.old) (T.state store.new) p × Stands root walk p)
+            (λ why. GoDownFails root (T.state store.old) (T.state store.new) p why) }
+    {
+        let Some(place) = after else {
+            return Ok(Walk {
+                alloc,
+                stand: Stand {
+                    listings: ArrayVec::new_in(alloc),
+                    around: None,
+                    last: None,
+                },
+                broken: false,
+            });
+        };
+        let stand = stand_at(alloc, store, place)?;
+        Ok(Walk {
+            alloc,
+            stand,
+            broken: false,
+        })
+    }
+
+    /// The next item, and `None` where there are no more, then and at each further call.
+    ///
+    /// It lists the directories and reads the inventories between the last place and the item's, each once; it opens no
+    /// content file. `Fault::Store` where the store did not answer, `Fault::Memory` where memory was refused. After a fault
+    /// each further call answers `Fault::Broken` and makes no call of the store: a walk from the last place goes on.
+    pub fn next<T: Tree>(&mut self, store: &mut T) -> Result<Option<Pending>, Fault>
+        ensures only { IsLive self.old → IfErr result (λ why. IsWayFault why) }
+        ensures breaks { IfErr result (λ _. IsBroken self.new) }
+        ensures stays { IsBroken self.old → (result ≡ Err Fault.Broken) × (store.new ≡ store.old) }
+        ensures goes_on { IsLive self.old → IfOk result (λ o. IsLive self.new × GoesOn self.old self.new o) }
+        ensures told { IsTrue T.told → (root : Root) → (T.state store.old).tree ≡ root → IsLive self.old
+            → (last : Option Spot) → Stands root self.old last → MatchResult result
+            (λ o. Gives root (T.state store.old) (T.state store.new) last self.new o)
+            (λ why. WalkFails root (T.state store.old) (T.state store.new) last why) }
+    {
+        if self.broken {
+            return Err(Fault::Broken);
+        }
+        match self.stand.next(self.alloc, store) {
+            Ok(found) => Ok(found),
+            Err(fault) => {
+                self.broken = true;
+                Err(fault)
+            }
+        }
+    }
+}

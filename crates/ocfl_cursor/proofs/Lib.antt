@@ -6,3 +6,5 @@ pub mod Paths
 pub mod CursorTexts
 pub mod Refusals
 pub mod Limited
+pub mod OnLiterals
+pub mod CursorCases

@@ -1,5 +1,5 @@
 -- What the first bytes of a reader tell of all of them, where one more is read than a cursor's text can have.
-use Rattle.std.proofs.Common.{◌≡◌, ◌⊎◌, inl, inr, ℕ, ◌<◌, ◌≤◌, [], ◌++◌, nat_eq, nat_le, false, min, length, take, codes, Option, Some, None, IfSome, sym, ap, subst, ◌∙◌, arith, length-take}
+use Rattle.std.proofs.Common.{◌≡◌, ◌⊎◌, inl, inr, ℕ, ◌<◌, ◌≤◌, [], ◌++◌, nat_eq, nat_le, false, min, length, take, codes, Option, Some, None, IfSome, sym, subst, ◌∙◌, arith, length-take}
 use Rattle.std.specs.List.{starts_with}
 use Rattle.std.specs.Option.{option_map}
 use Rattle.std.proofs.lemmas.Bool.{lt-leb, and_right, cases_lt}
@@ -13,7 +13,7 @@ use Rattle.ocfl_cursor.specs.declared.refused.Refused.{Refused}
 use Rattle.ocfl_cursor.specs.declared.refused.Refused.TheVariants.{NotCursor, Version, Damaged, Malformed, Memory}
 use Rattle.ocfl_cursor.specs.declared.reading.CursorStop.{CursorStop}
 use Rattle.ocfl_cursor.specs.declared.reading.CursorStop.TheVariants.{Read, Refused as Refuses}
-use Rattle.ocfl_cursor.proofs.CursorTexts.{length-cursor_text}
+use Rattle.ocfl_cursor.proofs.CursorTexts.{length-text}
 use Rattle.ocfl_cursor.proofs.Refusals.{refused_not_cursor}
 
 -- how many bytes are read at most
@@ -31,7 +31,7 @@ IsTextOf-limited b c h =
     subst (λ t. IsTextOf t c) (take_all limit b (omega (arith, short))) h
   where
     read-short : min limit (length b) < 196000
-    read-short = omega (arith, length-take limit b, ap length h.is, length-cursor_text c h.keeps)
+    read-short = omega (arith, length-take limit b, length-text (take limit b) c h)
 
 -- what is read is refused for the same reason as all of it
 IsRefused-limited : (b : Text) (r : Refusal) → IsRefused (take limit b) r → IsRefused b r

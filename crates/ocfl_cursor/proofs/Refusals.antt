@@ -3,25 +3,36 @@ use Rattle.std.proofs.Common.{◌≡◌, ◌⊎◌, inl, inr, Result, Ok, Err, I
 use Rattle.std.specs.List.{starts_with}
 use Rattle.std.proofs.lemmas.Bool.{le-leb, false≢true}
 use Rattle.std.proofs.lemmas.List.{take_at, drop_at}
-use Rattle.ocfl_tree.specs.Place.{Text, text_eq}
-use Rattle.ocfl_cursor.specs.Cursor.{Cursor, cursor_body, digest_line, cursor_text}
+use Rattle.ocfl_tree.specs.Place.{Text}
+use Rattle.ocfl_cursor.specs.Cursor.{Cursor, cursor_body, digest_line, cursor_text, version_one_body, version_one_text}
 use Rattle.ocfl_cursor.specs.Body.{first_line, IsBodyOf}
-use Rattle.ocfl_cursor.specs.Refusal.{Refusal, not_cursor, version, damaged, malformed, max_text, is_cursor_front, version_of, is_sealed, IsTextOf}
+use Rattle.ocfl_cursor.specs.Refusal.{Refusal, not_cursor, version, damaged, malformed, max_text, is_cursor_front, version_of, is_version, is_sealed, IsTextOf}
 use Rattle.ocfl_cursor.specs.Refused.{IsRefused, RefusedRightly}
 use Rattle.ocfl_cursor.specs.declared.refused.Refused.{Refused}
 use Rattle.ocfl_cursor.specs.declared.refused.Refused.TheVariants.{Malformed, Memory}
 use Rattle.ocfl_cursor.proofs.Texts.{same-text_eq}
-use Rattle.ocfl_cursor.proofs.CursorTexts.{length-sealed, length-cursor_text, IsBodyOf-sealed}
+use Rattle.ocfl_cursor.proofs.CursorTexts.{length-sealed, length-text, IsBodyOf-sealed}
 
 -- ---- a cursor's text passes each test
 
 front-cursor_text : (b : Text) (c : Cursor) → IsTextOf b c → is_cursor_front b ≡ true
 front-cursor_text b c h =
-    let short : length (cursor_text c) ≤ max_text = omega (arith, length-cursor_text c h.keeps) in
-    ap is_cursor_front h.is ∙ ap (λ r. starts_with nat_eq (cursor_text c) (codes "ocfl-scrub cursor ") && r) (le-leb (length (cursor_text c)) max_text short)
+    let short : length b ≤ max_text = omega (arith, length-text b c h) in
+    ap₂ (λ r s. r && s) (by h.is) (le-leb (length b) max_text short)
+  where
+    front : Text → Bool
+    front t = starts_with nat_eq t (codes "ocfl-scrub cursor ")
 
-version-cursor_text : (b : Text) (c : Cursor) → IsTextOf b c → text_eq (version_of b) (codes "1") ≡ true
-version-cursor_text b c h = ap (λ t. text_eq (version_of t) (codes "1")) h.is
+    by : (b ≡ cursor_text c) ⊎ ((c.files ≡ 0) × (b ≡ version_one_text c)) → front b ≡ true
+    by (inl e) = ap front e
+    by (inr e) = ap front e.1
+
+version-cursor_text : (b : Text) (c : Cursor) → IsTextOf b c → is_version (version_of b) ≡ true
+version-cursor_text b c h = by h.is
+  where
+    by : (b ≡ cursor_text c) ⊎ ((c.files ≡ 0) × (b ≡ version_one_text c)) → is_version (version_of b) ≡ true
+    by (inl e) = ap (λ t. is_version (version_of t)) e
+    by (inr e) = ap (λ t. is_version (version_of t)) e.1
 
 -- what is followed by its digest line is sealed
 pub is_sealed-sealed : (b body : Text) → b ≡ body ++ digest_line body → is_sealed b ≡ true
@@ -33,7 +44,11 @@ is_sealed-sealed b body e =
     ap₂ (λ r s. r && s) (le-leb 72 (length b) (omega arith)) (same-text_eq _ _ (back ∙ ap digest_line (sym front)))
 
 sealed-cursor_text : (b : Text) (c : Cursor) → IsTextOf b c → is_sealed b ≡ true
-sealed-cursor_text b c h = is_sealed-sealed b (cursor_body c) h.is
+sealed-cursor_text b c h = by h.is
+  where
+    by : (b ≡ cursor_text c) ⊎ ((c.files ≡ 0) × (b ≡ version_one_text c)) → is_sealed b ≡ true
+    by (inl e) = is_sealed-sealed b (cursor_body c) e
+    by (inr e) = is_sealed-sealed b (version_one_body c) e.1
 
 -- ---- so bytes that fail one are the text of no cursor
 
@@ -42,7 +57,7 @@ abbrev refusal_by : Bool → Bool → Bool → Refusal
 refusal_by front known sealed = cond (not front) not_cursor (cond (not known) version (cond (not sealed) damaged malformed))
 
 abbrev known_version : Text → Bool
-known_version b = text_eq (version_of b) (codes "1")
+known_version b = is_version (version_of b)
 
 pub refused_not_cursor : (b : Text) → is_cursor_front b ≡ false → IsRefused b not_cursor
 refused_not_cursor b e = record {
@@ -50,19 +65,19 @@ refused_not_cursor b e = record {
   reason = ap (λ r. refusal_by r (known_version b) (is_sealed b)) e;
 }
 
-pub refused_version : (b : Text) → is_cursor_front b ≡ true → text_eq (version_of b) (codes "1") ≡ false → IsRefused b version
+pub refused_version : (b : Text) → is_cursor_front b ≡ true → is_version (version_of b) ≡ false → IsRefused b version
 refused_version b front e = record {
   no_cursor = λ c h. false≢true (sym e ∙ version-cursor_text b c h);
   reason = λ i. refusal_by (front i) (e i) (is_sealed b);
 }
 
-pub refused_damaged : (b : Text) → is_cursor_front b ≡ true → text_eq (version_of b) (codes "1") ≡ true → is_sealed b ≡ false → IsRefused b damaged
+pub refused_damaged : (b : Text) → is_cursor_front b ≡ true → is_version (version_of b) ≡ true → is_sealed b ≡ false → IsRefused b damaged
 refused_damaged b front known e = record {
   no_cursor = λ c h. false≢true (sym e ∙ sealed-cursor_text b c h);
   reason = λ i. refusal_by (front i) (known i) (e i);
 }
 
-pub refused_malformed : (b body : Text) → is_cursor_front b ≡ true → text_eq (version_of b) (codes "1") ≡ true → b ≡ body ++ digest_line body → ((c : Cursor) → IsBodyOf body c → ⊥) → IsRefused b malformed
+pub refused_malformed : (b body : Text) → is_cursor_front b ≡ true → is_version (version_of b) ≡ true → b ≡ body ++ digest_line body → ((c : Cursor) → IsBodyOf body c → ⊥) → IsRefused b malformed
 refused_malformed b body front known e none =
     let sealed = is_sealed-sealed b body e in
     record {
@@ -71,17 +86,17 @@ refused_malformed b body front known e none =
     }
 
 -- the version as what follows the front tells it
-pub known_version-from_rest : (b rest : Text) (r known : Bool) → rest ≡ drop 18 b → r ≡ text_eq (first_line rest) (codes "1") → r ≡ known → text_eq (version_of b) (codes "1") ≡ known
-known_version-from_rest b rest r known e f g = ap (λ t. text_eq (first_line t) (codes "1")) (sym e) ∙ sym f ∙ g
+pub known_version-from_rest : (b rest : Text) (r known : Bool) → rest ≡ drop 18 b → r ≡ is_version (first_line rest) → r ≡ known → is_version (version_of b) ≡ known
+known_version-from_rest b rest r known e f g = ap (λ t. is_version (first_line t)) (sym e) ∙ sym f ∙ g
 
 -- what the last test refuses, memory aside
-pub RefusedRightly-malformed : (b body : Text) (e : Refused) → is_cursor_front b ≡ true → text_eq (version_of b) (codes "1") ≡ true → b ≡ body ++ digest_line body
+pub RefusedRightly-malformed : (b body : Text) (e : Refused) → is_cursor_front b ≡ true → is_version (version_of b) ≡ true → b ≡ body ++ digest_line body
     → (e ≡ Malformed) ⊎ (e ≡ Memory) → (e ≡ Malformed → (c : Cursor) → IsBodyOf body c → ⊥) → RefusedRightly b e
 RefusedRightly-malformed b body e front known is (inl m) none = subst (RefusedRightly b) (sym m) (refused_malformed b body front known is (none m))
 RefusedRightly-malformed b body e front known is (inr m) none = subst (RefusedRightly b) (sym m) tt
 
 -- the same of a result
-pub refused_after_seal : {A : Type 0} (b body : Text) (r : Result A Refused) → is_cursor_front b ≡ true → text_eq (version_of b) (codes "1") ≡ true → b ≡ body ++ digest_line body
+pub refused_after_seal : {A : Type 0} (b body : Text) (r : Result A Refused) → is_cursor_front b ≡ true → is_version (version_of b) ≡ true → b ≡ body ++ digest_line body
     → IfErr r (λ e. (e ≡ Malformed) ⊎ (e ≡ Memory)) → (r ≡ Err Malformed → (c : Cursor) → IsBodyOf body c → ⊥) → IfErr r (λ e. RefusedRightly b e)
 refused_after_seal b body (Ok x) front known is errors none = tt
 refused_after_seal b body (Err e) front known is errors none = RefusedRightly-malformed b body e front known is errors (λ m. none (ap Err m))

@@ -1,28 +1,46 @@
--- The parts of a cursor's text before its digest line.
-use Rattle.std.specs.Prelude.{◌≡◌, ℕ, ◌^◌, ◌<◌, [], ◌∷◌, ◌++◌, ◌==◌, not, take_while, codes}
+-- The parts of a cursor's text before its digest line, in either version.
+use Rattle.std.specs.Prelude.{◌≡◌, ◌⊎◌, ℕ, ◌^◌, ◌<◌, [], ◌∷◌, ◌++◌, ◌==◌, not, take_while, codes}
 use Rattle.ocfl_tree.specs.Place.{Text}
-use Rattle.ocfl_cursor.specs.Cursor.{State, Cursor, IsShortPlace, IsCursor, number_line, state_text, cursor_body}
+use Rattle.ocfl_cursor.specs.Cursor.{State, Cursor, IsShortPlace, IsCursor, number_line, state_text, cursor_body, version_one_body}
+use Rattle.ocfl_cursor.specs.declared.form.Version.{Version}
+use Rattle.ocfl_cursor.specs.declared.form.Version.TheVariants.{One, Two}
 
 -- the text up to the first line feed, or all of it
 abbrev pub first_line : Text → Text
 first_line t = take_while (λ c. not (c == 10)) t
 
--- the first line, and the lines of the numbers
-abbrev pub counts_text : ℕ → ℕ → ℕ → Text
-counts_text cycle runs spent = codes "ocfl-scrub cursor 1\n" ++ number_line (codes "cycle") cycle ++ number_line (codes "runs") runs ++ number_line (codes "spent") spent
+-- the first line of a version
+abbrev pub version_line : Version → Text
+version_line One = codes "ocfl-scrub cursor 1\n"
+version_line Two = codes "ocfl-scrub cursor 2\n"
 
--- the numbers fit the fields of a cursor
-pub record CountsFit (n m k : ℕ) : Type 0 where
+-- the line of the files, which version 1 has not
+abbrev pub files_line : Version → ℕ → Text
+files_line One files = []
+files_line Two files = number_line (codes "files") files
+
+-- as many files as the version tells, in a cursor's field
+abbrev pub FilesFit : Version → ℕ → Type 0
+FilesFit One files = files ≡ 0
+FilesFit Two files = files < 2 ^ 128
+
+-- the first line, and the lines of the numbers
+abbrev pub counts_text : Version → ℕ → ℕ → ℕ → ℕ → Text
+counts_text v cycle runs spent files = version_line v ++ number_line (codes "cycle") cycle ++ number_line (codes "runs") runs ++ number_line (codes "spent") spent ++ files_line v files
+
+-- the numbers fit the fields of a cursor, and the version
+pub record CountsFit (v : Version) (n m k f : ℕ) : Type 0 where
   pub cycle : n < 2 ^ 64
   pub runs : m < 2 ^ 64
   pub spent : k < 2 ^ 128
+  pub files : FilesFit v f
 
 -- the text is the line of this state
 pub record IsStateLine (line : Text) (s : State) : Type 0 where
   pub short : IsShortPlace s
   pub is : line ≡ state_text s ++ 10 ∷ []
 
--- the text is that of this cursor before the digest line
+-- the text is that of this cursor before the digest line, in either version
 pub record IsBodyOf (body : Text) (c : Cursor) : Type 0 where
   pub keeps : IsCursor c
-  pub is : body ≡ cursor_body c
+  pub is : (body ≡ cursor_body c) ⊎ ((c.files ≡ 0) × (body ≡ version_one_body c))

@@ -12,15 +12,16 @@ pub data State : Type 0 where
   behind : Place → State
   ended : State
 
--- the cycle, how many runs it has had, what they have spent, and where the next one begins
+-- the cycle, how many runs it has had, what they have spent and how many files they have started, and where the next one begins
 pub record Cursor : Type 0 where
   pub cycle : ℕ
   pub runs : ℕ
   pub spent : ℕ
+  pub files : ℕ
   pub state : State
 
 abbrev pub new_cursor : Cursor
-new_cursor = record { cycle = 1; runs = 0; spent = 0; state = start }
+new_cursor = record { cycle = 1; runs = 0; spent = 0; files = 0; state = start }
 
 -- a place of at most 255 names
 abbrev pub IsShortPlace : State → Type 0
@@ -34,9 +35,10 @@ pub record IsCursor (c : Cursor) : Type 0 where
   pub cycle : c.cycle < 2 ^ 64
   pub runs : c.runs < 2 ^ 64
   pub spent : c.spent ≤ c.runs * 2 ^ 63
+  pub files : c.files ≤ c.spent
   pub place : IsShortPlace c.state
 
--- ---- its text: six lines
+-- ---- its text: seven lines
 
 abbrev pub number_line : Text → ℕ → Text
 number_line name n = name ++ 32 ∷ decimal n ++ 10 ∷ []
@@ -46,10 +48,14 @@ state_text start = codes "start"
 state_text (behind p) = codes "after " ++ place_text p
 state_text ended = codes "ended"
 
+-- the text without its first line and its last: what is shown of a cursor
+abbrev pub cursor_lines : Cursor → Text
+cursor_lines c = number_line (codes "cycle") c.cycle ++ number_line (codes "runs") c.runs ++ number_line (codes "spent") c.spent
+    ++ number_line (codes "files") c.files ++ state_text c.state ++ 10 ∷ []
+
 -- the text before its last line
 abbrev pub cursor_body : Cursor → Text
-cursor_body c = codes "ocfl-scrub cursor 1\n" ++ number_line (codes "cycle") c.cycle ++ number_line (codes "runs") c.runs
-    ++ number_line (codes "spent") c.spent ++ state_text c.state ++ 10 ∷ []
+cursor_body c = codes "ocfl-scrub cursor 2\n" ++ cursor_lines c
 
 -- the SHA-256 of all bytes before it (FIPS 180-4, 6.2)
 abbrev pub digest_line : Text → Text
@@ -57,3 +63,12 @@ digest_line body = codes "digest " ++ encode_lower (sha256 body) ++ 10 ∷ []
 
 abbrev pub cursor_text : Cursor → Text
 cursor_text c = cursor_body c ++ digest_line (cursor_body c)
+
+-- ---- its text in version 1, which has no line of files
+
+abbrev pub version_one_body : Cursor → Text
+version_one_body c = codes "ocfl-scrub cursor 1\n" ++ number_line (codes "cycle") c.cycle ++ number_line (codes "runs") c.runs
+    ++ number_line (codes "spent") c.spent ++ state_text c.state ++ 10 ∷ []
+
+abbrev pub version_one_text : Cursor → Text
+version_one_text c = version_one_body c ++ digest_line (version_one_body c)

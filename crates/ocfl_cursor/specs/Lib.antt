@@ -6,4 +6,5 @@ pub mod Refusal
 pub mod Refused
 pub mod Stop
 pub mod Number
+pub mod Limits
 pub mod Meter

@@ -1,28 +1,30 @@
--- What a run may spend, and what it has spent.
-use Rattle.std.specs.Prelude.{ℕ, ◌^◌, ◌+◌, ◌<◌, ◌≤◌}
-
--- the most that a run may be allowed to spend
-abbrev pub max_budget : ℕ
-max_budget = 2 ^ 62
+-- What a run has spent, and how many files it has started.
+use Rattle.std.specs.Prelude.{ℕ, ◌^◌, ◌+◌, ◌<◌, ◌≤◌, ◌==◌, if◌then◌else◌}
+use Rattle.ocfl_cursor.specs.Limits.{IsBudget, IsFileLimit}
+use Rattle.ocfl_cursor.specs.declared.limits.Limits.{Limits}
 
 -- what auditing one file costs at most: its bytes, at most 2 ^ 62, and one more
 abbrev pub max_cost : ℕ
 max_cost = 2 ^ 62 + 1
 
--- a run may spend at least 1
-abbrev pub IsBudget : ℕ → Type 0
-IsBudget most = (1 ≤ most) × (most ≤ max_budget)
+-- an item that costs something is one file, and another is none
+abbrev pub files_of : ℕ → ℕ
+files_of cost = if cost == 0 then 0 else 1
 
--- what a run may spend, and what it has spent
+-- the limits of a run, what it has spent, and how many files it has started
 pub record Meter : Type 0 where
-  pub budget : ℕ
+  pub limits : Limits
   pub spent : ℕ
+  pub files : ℕ
 
--- a run passes its budget by the last file that it started, at most
+-- a run passes its budget by the last file that it started, at most; it starts no more files than their limit, and each costs something
 pub record IsMeter (m : Meter) : Type 0 where
-  pub budget : IsBudget m.budget
-  pub spent : m.spent ≤ m.budget + 2 ^ 62
+  pub budget : IsBudget m.limits.budget
+  pub limit : IsFileLimit m.limits.files
+  pub spent : m.spent ≤ m.limits.budget + 2 ^ 62
+  pub files : m.files ≤ m.limits.files
+  pub paid : m.files ≤ m.spent
 
--- a file may be started: less than the budget is spent
+-- a file may be started: less than the budget is spent, and fewer files than their limit are started
 abbrev pub MayStart : Meter → Type 0
-MayStart m = m.spent < m.budget
+MayStart m = (m.spent < m.limits.budget) × (m.files < m.limits.files)

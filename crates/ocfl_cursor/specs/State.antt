@@ -9,5 +9,5 @@ state_of Start = start
 state_of (After p) = behind p
 state_of Ended = ended
 
-abbrev pub cursor_of : ℕ → ℕ → ℕ → MadeState → Cursor
-cursor_of cycle runs spent state = record { cycle = cycle; runs = runs; spent = spent; state = state_of state }
+abbrev pub cursor_of : ℕ → ℕ → ℕ → ℕ → MadeState → Cursor
+cursor_of cycle runs spent files state = record { cycle = cycle; runs = runs; spent = spent; files = files; state = state_of state }

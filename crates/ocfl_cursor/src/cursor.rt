@@ -7,12 +7,14 @@ use crate::state::{State, is_short};
 use std::marker::Model;
 
 /// What one run leaves for the next: the cycle (1 to 2^64 - 1), how many runs it has had, what they
-/// have spent (at most 2^63 a run), and where the next run begins.
+/// have spent (at most 2^63 a run), how many files they have started (each costs at least 1), and
+/// where the next run begins.
 #[derive(Debug, Drop)]
 pub struct Cursor {
     cycle: u64,
     runs: u64,
     spent: u128,
+    files: u128,
     state: State,
 }
 
@@ -22,9 +24,9 @@ impl Model for Cursor {
 
     ghost Value = { Cursor };
 
-    ghost view = { λ a. cursor_of a.cycle a.runs a.spent a.state };
+    ghost view = { λ a. cursor_of a.cycle a.runs a.spent a.files a.state };
 
-    ghost invariant = { λ a. ∥ IsCursor (cursor_of a.cycle a.runs a.spent a.state) ∥₁ };
+    ghost invariant = { λ a. ∥ IsCursor (cursor_of a.cycle a.runs a.spent a.files a.state) ∥₁ };
 }
 
 impl Default for Cursor {
@@ -44,21 +46,31 @@ impl Cursor {
             cycle: 1,
             runs: 0,
             spent: 0,
+            files: 0,
             state: State::Start,
         }
     }
 
     /// The cursor with these parts, or `None` where none has them: the cycle is 0, more than 2^63
-    /// is spent for each run, or a place has more than 255 names.
-    pub fn from_parts(cycle: u64, runs: u64, spent: u128, state: State) -> Option<Cursor>
-        ensures value { IfSome result (λ cursor. cursor ≡ cursor_of cycle runs spent state) }
-        ensures keeps { IsSome result ↔ IsCursor (cursor_of cycle runs spent state) }
+    /// is spent for each run, more files are started than is spent, or a place has more than 255
+    /// names.
+    pub fn from_parts(
+        cycle: u64,
+        runs: u64,
+        spent: u128,
+        files: u128,
+        state: State,
+    ) -> Option<Cursor>
+        ensures value { IfSome result (λ cursor. cursor ≡ cursor_of cycle runs spent files state) }
+        ensures keeps { IsSome result ↔ IsCursor (cursor_of cycle runs spent files state) }
     {
-        if 1 <= cycle && spent <= u128::from(runs) * (1 << 63) && is_short(&state) {
+        let paid = spent <= u128::from(runs) * (1 << 63) && files <= spent;
+        if 1 <= cycle && paid && is_short(&state) {
             Some(Cursor {
                 cycle,
                 runs,
                 spent,
+                files,
                 state,
             })
         } else {
@@ -71,18 +83,22 @@ impl Cursor {
         ensures value { IfSome result (λ next. next ≡ next_cycle self.now) }
         ensures last { IsNone result ↔ (self.now.cycle ≡ u64.MAX) }
     {
-        Cursor::from_parts(self.cycle.checked_add(1)?, 0, 0, State::Start)
+        Cursor::from_parts(self.cycle.checked_add(1)?, 0, 0, 0, State::Start)
     }
 
-    /// The cursor after one more run, which has spent this much and ends in this state. `None` where
-    /// no cursor is so: the runs are counted out, or one of the limits of [`Cursor::from_parts`] is
-    /// passed.
-    pub fn after_run(&self, spent: u64, state: State) -> Option<Cursor>
-        ensures value { IfSome result (λ next. next ≡ after_run self.now spent (state_of state)) }
-        ensures keeps { IsSome result ↔ IsCursor (after_run self.now spent (state_of state)) }
+    /// The cursor after one more run, which has spent this much, started so many files, and ends in
+    /// this state. `None` where no cursor is so: the runs are counted out, or one of the limits of
+    /// [`Cursor::from_parts`] is passed.
+    pub fn after_run(&self, spent: u64, files: u64, state: State) -> Option<Cursor>
+        ensures value { IfSome result
+            (λ next. next ≡ after_run self.now spent files (state_of state)) }
+        ensures keeps { IsSome result
+            ↔ IsCursor (after_run self.now spent files (state_of state)) }
     {
         let runs = self.runs.checked_add(1)?;
-        Cursor::from_parts(self.cycle, runs, self.spent + u128::from(spent), state)
+        let spent = self.spent + u128::from(spent);
+        let files = self.files + u128::from(files);
+        Cursor::from_parts(self.cycle, runs, spent, files, state)
     }
 
     /// The number of the cycle, from 1.
@@ -104,6 +120,13 @@ impl Cursor {
         ensures { result ≡ self.now.spent }
     {
         self.spent
+    }
+
+    /// How many files the runs of the cycle have started.
+    pub fn files(&self) -> u128
+        ensures { result ≡ self.now.files }
+    {
+        self.files
     }
 
     /// Where the next run begins.

@@ -1,22 +1,26 @@
-ghost use Rattle.std.specs.Prelude.{◌≡◌, ◌≢◌, ◌⊎◌, ◌≤◌, ℕ, List, ◌++◌, drop, length, codes, is_some, IfOk, IfErr, IfSome, IsNone};
+ghost use Rattle.std.specs.Prelude.{◌≡◌, ◌≢◌, ◌⊎◌, ◌≤◌, ℕ, List, ◌++◌, drop, length, is_some, IfOk, IfErr, IfSome, IsNone};
 ghost use Rattle.ocfl_tree.specs.Name.{IsPlace};
-ghost use Rattle.ocfl_tree.specs.Place.{Place as ModelPlace, text_eq};
+ghost use Rattle.ocfl_tree.specs.Place.{Place as ModelPlace};
 ghost use Rattle.ocfl_report.specs.Text.{place_text};
 ghost use Rattle.ocfl_cursor.specs.Cursor.{State as ModelState, Cursor as ModelCursor};
 ghost use Rattle.ocfl_cursor.specs.State.{state_of};
-ghost use Rattle.ocfl_cursor.specs.Body.{first_line, CountsFit, counts_text, IsStateLine, IsBodyOf};
-ghost use Rattle.ocfl_cursor.specs.Refusal.{IsTextOf, is_cursor_front, refusal, malformed};
+ghost use Rattle.ocfl_cursor.specs.Body.{first_line, version_line, files_line, FilesFit, CountsFit, counts_text, IsStateLine, IsBodyOf};
+ghost use Rattle.ocfl_cursor.specs.Refusal.{IsTextOf, is_cursor_front, is_version, refusal, malformed};
 ghost use Rattle.ocfl_cursor.specs.Refused.{RefusedRightly};
+ghost use Rattle.ocfl_cursor.specs.declared.form.Version.{Version as ModelVersion};
 
 use crate::cursor::Cursor;
-use crate::form::{AFTER, CYCLE, ENDED, FIRST_LINE, FRONT, MAX_TEXT, RUNS, SPENT, START, VERSION};
+use crate::form::{
+    AFTER, CYCLE, ENDED, FILES, FIRST_LINE_ONE, FIRST_LINE_TWO, FRONT, MAX_TEXT, RUNS, SPENT,
+    START, VERSION_ONE, VERSION_TWO, Version,
+};
 use crate::number::{read_number, read_small_number};
-use crate::pieces::{after_prefix, before_line_feed, count_slashes, is_text, split_line};
+use crate::pieces::{after_prefix, before_line_feed, count_slashes, split_line};
 use crate::refused::Refused;
 use crate::seal::sealed_body;
 use crate::state::{MAX_NAMES, State};
 use ocfl_report::{PlaceStop, read_place};
-use ocfl_tree::Place;
+use ocfl_tree::{Place, is_bytes};
 use std::alloc::Global;
 
 /// The cursor whose text the bytes are.
@@ -53,14 +57,21 @@ fn after_front(text: &[u8]) -> Option<&[u8]>
     Some(&text[FRONT.len()..])
 }
 
-/// Whether the text up to the first line feed, or all of it, is the known version.
+/// Whether the text up to the first line feed, or all of it, is a known version.
 fn begins_with_version(text: &[u8]) -> bool
-    ensures { result ≡ text_eq (first_line text.now) (codes "1") }
+    ensures { result ≡ is_version (first_line text.now) }
 {
     match split_line(text) {
-        Some((version, _)) => is_text(version, VERSION),
-        None => is_text(text, VERSION),
+        Some((version, _)) => is_version(version),
+        None => is_version(text),
     }
+}
+
+/// Whether the text is a known version.
+fn is_version(text: &[u8]) -> bool
+    ensures { result ≡ is_version text.now }
+{
+    is_bytes(text, VERSION_ONE) || is_bytes(text, VERSION_TWO)
 }
 
 /// The cursor of which this is the text before its digest line.
@@ -74,33 +85,71 @@ fn read_body(alloc: Global, body: &[u8]) -> Result<Cursor, Refused>
         return Err(Refused::Malformed);
     };
     let state = read_state(alloc, line)?;
-    match Cursor::from_parts(counts.cycle, counts.runs, counts.spent, state) {
+    match Cursor::from_parts(counts.cycle, counts.runs, counts.spent, counts.files, state) {
         Some(cursor) => Ok(cursor),
         None => Err(Refused::Malformed),
     }
 }
 
-/// The numbers of a cursor, as its text has them.
+/// The version of a cursor's text, and the numbers that it tells.
 #[derive(Clone, Copy)]
 struct Counts {
+    version: Version,
     cycle: u64,
     runs: u64,
     spent: u128,
+    files: u128,
 }
 
 /// Reads the first line and the lines of the numbers. Gives what follows them too.
 fn read_counts(body: &[u8]) -> Option<(Counts, &[u8])>
-    ensures found { IfSome result (λ read.
-        body.now ≡ counts_text read.0.cycle read.0.runs read.0.spent ++ read.1.now) }
-    ensures fits { IfSome result (λ read. CountsFit read.0.cycle read.0.runs read.0.spent) }
-    ensures missing { IsNone result → (cycle runs spent : ℕ) (rest : List ℕ)
-        → CountsFit cycle runs spent → body.now ≢ counts_text cycle runs spent ++ rest }
+    ensures found { IfSome result (λ read. body.now ≡ counts_text read.0.version
+        read.0.cycle read.0.runs read.0.spent read.0.files ++ read.1.now) }
+    ensures fits { IfSome result (λ read. CountsFit read.0.version
+        read.0.cycle read.0.runs read.0.spent read.0.files) }
+    ensures missing { IsNone result
+        → (v : ModelVersion) (cycle runs spent files : ℕ) (rest : List ℕ)
+        → CountsFit v cycle runs spent files
+        → body.now ≢ counts_text v cycle runs spent files ++ rest }
 {
-    let rest = after_prefix(FIRST_LINE, body)?;
+    let (version, rest) = read_first_line(body)?;
     let (cycle, rest) = read_small_number(CYCLE, rest)?;
     let (runs, rest) = read_small_number(RUNS, rest)?;
     let (spent, rest) = read_number(SPENT, rest)?;
-    Some((Counts { cycle, runs, spent }, rest))
+    let (files, rest) = read_files(version, rest)?;
+    let counts = Counts {
+        version,
+        cycle,
+        runs,
+        spent,
+        files,
+    };
+    Some((counts, rest))
+}
+
+/// Reads the first line, which tells the version.
+fn read_first_line(body: &[u8]) -> Option<(Version, &[u8])>
+    ensures found { IfSome result (λ read. body.now ≡ version_line read.0 ++ read.1.now) }
+    ensures missing { IsNone result
+        → (v : ModelVersion) (rest : List ℕ) → body.now ≢ version_line v ++ rest }
+{
+    if let Some(rest) = after_prefix(FIRST_LINE_TWO, body) {
+        return Some((Version::Two, rest));
+    }
+    Some((Version::One, after_prefix(FIRST_LINE_ONE, body)?))
+}
+
+/// Reads the line of the files, which version 1 has not.
+fn read_files(version: Version, text: &[u8]) -> Option<(u128, &[u8])>
+    ensures found { IfSome result (λ read. text.now ≡ files_line version read.0 ++ read.1.now) }
+    ensures fits { IfSome result (λ read. FilesFit version read.0) }
+    ensures missing { IsNone result → (files : ℕ) (rest : List ℕ)
+        → FilesFit version files → text.now ≢ files_line version files ++ rest }
+{
+    match version {
+        Version::One => Some((0, text)),
+        Version::Two => read_number(FILES, text),
+    }
 }
 
 /// Reads the line that says where the next run begins.
@@ -113,10 +162,10 @@ fn read_state(alloc: Global, line: &[u8]) -> Result<State, Refused>
     let Some(line) = before_line_feed(line) else {
         return Err(Refused::Malformed);
     };
-    if is_text(line, START) {
+    if is_bytes(line, START) {
         return Ok(State::Start);
     }
-    if is_text(line, ENDED) {
+    if is_bytes(line, ENDED) {
         return Ok(State::Ended);
     }
     let Some(path) = after_prefix(AFTER, line) else {

@@ -1,38 +1,41 @@
 ghost use Rattle.std.specs.Prelude.{◌≡◌, [], ◌∷◌, ◌++◌, IfOk, OnOk};
-ghost use Rattle.ocfl_cursor.specs.Cursor.{IsCursor, state_text, cursor_body, cursor_text};
+ghost use Rattle.ocfl_cursor.specs.Cursor.{IsCursor, state_text, cursor_lines, cursor_text};
 ghost use Rattle.ocfl_cursor.specs.State.{state_of};
 
 use crate::cursor::Cursor;
-use crate::form::{AFTER, CYCLE, ENDED, FIRST_LINE, RUNS, SPENT, START};
+use crate::form::{AFTER, CYCLE, ENDED, FILES, FIRST_LINE_TWO, RUNS, SPENT, START};
 use crate::number::put_number;
 use crate::seal::digest_line;
 use crate::state::State;
 use ocfl_report::put_place;
 use std::alloc::{AllocError, Global};
 
-/// The text of the cursor: six lines, the last of which seals the others by their SHA-256.
+/// The text of the cursor: seven lines, the last of which seals the others by their SHA-256.
 pub fn encode(alloc: Global, cursor: &Cursor) -> Result<Vec<u8>, AllocError>
     ensures text { IfOk result (λ text. text.items ≡ cursor_text cursor.now) }
     ensures keeps { IsCursor cursor.now }
 {
-    let mut text = encode_body(alloc, cursor)?;
+    let lines = cursor_lines(alloc, cursor)?;
+    let mut text = Vec::from_slice(alloc, FIRST_LINE_TWO)?;
+    text.extend_from_slice(&lines)?;
     let last_line = digest_line(&text);
     text.extend_from_slice(&last_line)?;
     Ok(text)
 }
 
-/// The text before its last line.
-fn encode_body(alloc: Global, cursor: &Cursor) -> Result<Vec<u8>, AllocError>
-    ensures text { IfOk result (λ text. text.items ≡ cursor_body cursor.now) }
+/// The text of the cursor without its first line and its last: five lines, to be shown.
+pub fn cursor_lines(alloc: Global, cursor: &Cursor) -> Result<Vec<u8>, AllocError>
+    ensures lines { IfOk result (λ lines. lines.items ≡ cursor_lines cursor.now) }
     ensures keeps { IsCursor cursor.now }
 {
     let state = cursor.state();
-    let mut text = Vec::from_slice(alloc, FIRST_LINE)?;
-    put_number(alloc, CYCLE, u128::from(cursor.cycle()), &mut text)?;
-    put_number(alloc, RUNS, u128::from(cursor.runs()), &mut text)?;
-    put_number(alloc, SPENT, cursor.spent(), &mut text)?;
-    put_state(state, &mut text)?;
-    Ok(text)
+    let mut lines = Vec::new(alloc);
+    put_number(alloc, CYCLE, u128::from(cursor.cycle()), &mut lines)?;
+    put_number(alloc, RUNS, u128::from(cursor.runs()), &mut lines)?;
+    put_number(alloc, SPENT, cursor.spent(), &mut lines)?;
+    put_number(alloc, FILES, cursor.files(), &mut lines)?;
+    put_state(state, &mut lines)?;
+    Ok(lines)
 }
 
 /// Appends the line that says where the next run begins.

@@ -6,11 +6,22 @@ pub(crate) const MAX_TEXT: usize = 262_144;
 /// How the text of each version begins.
 pub(crate) const FRONT: &[u8] = b"ocfl-scrub cursor ";
 
-/// The version that is written and read, which follows the front up to the first line feed.
-pub(crate) const VERSION: &[u8] = b"1";
+/// The versions that are read: the second, which is written, has a line of the files.
+#[derive(Clone, Copy)]
+pub(crate) enum Version {
+    One,
+    Two,
+}
 
-/// The first line of that version.
-pub(crate) const FIRST_LINE: &[u8] = b"ocfl-scrub cursor 1\n";
+// What follows the front in each, up to the first line feed.
+pub(crate) const VERSION_ONE: &[u8] = b"1";
+
+pub(crate) const VERSION_TWO: &[u8] = b"2";
+
+// The first line of each.
+pub(crate) const FIRST_LINE_ONE: &[u8] = b"ocfl-scrub cursor 1\n";
+
+pub(crate) const FIRST_LINE_TWO: &[u8] = b"ocfl-scrub cursor 2\n";
 
 // The names of the lines with numbers, in their order.
 pub(crate) const CYCLE: &str = "cycle";
@@ -18,6 +29,8 @@ pub(crate) const CYCLE: &str = "cycle";
 pub(crate) const RUNS: &str = "runs";
 
 pub(crate) const SPENT: &str = "spent";
+
+pub(crate) const FILES: &str = "files";
 
 // The line that says where the next run begins: the path of a place follows `after `.
 pub(crate) const START: &[u8] = b"start";

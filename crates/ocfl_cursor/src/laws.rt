@@ -1,5 +1,6 @@
-ghost use Rattle.std.specs.Prelude.{◌≡◌, IfOk, IfErr};
-ghost use Rattle.ocfl_cursor.specs.Cursor.{Cursor as ModelCursor, IsCursor, cursor_text};
+ghost use Rattle.std.specs.Prelude.{◌≡◌, List, ℕ, IfOk, IfErr};
+ghost use Rattle.ocfl_cursor.specs.Cursor.{Cursor as ModelCursor};
+ghost use Rattle.ocfl_cursor.specs.Refusal.{IsTextOf};
 
 use crate::cursor::Cursor;
 use crate::decoding::decode;
@@ -7,11 +8,9 @@ use crate::encoding::encode;
 use crate::refused::Refused;
 use std::alloc::Global;
 
-/// The text of a cursor determines the cursor.
-#[tactic(auto, using(crate::proofs::CursorTexts::cursor_text_determines))]
+/// A text determines the cursor whose text it is, in either version.
 pub fn text_determines_the_cursor()
-    ensures { (c d : ModelCursor) → IsCursor c → IsCursor d
-        → cursor_text c ≡ cursor_text d → c ≡ d }
+    ensures { (b : List ℕ) (c d : ModelCursor) → IsTextOf b c → IsTextOf b d → c ≡ d }
 {}
 
 /// What is written of a cursor is read as that cursor, want of memory aside.

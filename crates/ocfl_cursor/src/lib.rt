@@ -1,4 +1,4 @@
-//! Cursors: where the next run begins, and what a run may spend.
+//! Cursors: where the next run begins, and what a run may spend and start.
 #![tactic(auto)]
 
 mod cursor;
@@ -6,6 +6,7 @@ mod decoding;
 mod encoding;
 mod form;
 mod laws;
+mod limits;
 mod meter;
 mod number;
 mod pieces;
@@ -18,9 +19,10 @@ mod tests;
 
 pub use cursor::Cursor;
 pub use decoding::decode;
-pub use encoding::encode;
+pub use encoding::{cursor_lines, encode};
 pub use laws::{cursor_reads_back, text_determines_the_cursor};
-pub use meter::{Budget, Meter};
+pub use limits::{Budget, FileLimit, Limits};
+pub use meter::Meter;
 pub use reading::{CursorStop, read_cursor};
 pub use refused::Refused;
 pub use state::State;

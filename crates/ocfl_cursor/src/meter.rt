@@ -1,50 +1,16 @@
-ghost use Rattle.std.specs.Prelude.{◌≡◌, ◌↔◌, ◌⊎◌, ◌+◌, ◌≤◌, IsTrue, IsSome, IfSome};
-ghost use Rattle.ocfl_cursor.specs.Meter.{IsBudget, IsMeter, MayStart, max_cost};
+ghost use Rattle.std.specs.Prelude.{◌≡◌, ◌↔◌, ◌⊎◌, ◌+◌, ◌≤◌, IsTrue};
+ghost use Rattle.ocfl_cursor.specs.Meter.{IsMeter, MayStart, files_of, max_cost};
 
+use crate::limits::Limits;
 use std::marker::Model;
 
-// The most that a run may be allowed to spend.
-const MAX_BUDGET: u64 = 1 << 62;
-
-/// How much one run may spend: 1 to 2^62.
-#[derive(Clone, Copy, Debug, PartialEq, Eq)]
-pub struct Budget {
-    most: u64,
-}
-
-impl Model for Budget {
-    ghost use Rattle.std.specs.Prelude.{ℕ};
-    ghost use Rattle.ocfl_cursor.specs.Meter.{IsBudget};
-
-    ghost Value = { ℕ };
-
-    ghost view = { λ a. a.most };
-
-    ghost invariant = { λ a. IsBudget a.most };
-
-    ghost inverse = { λ n. record { most = n } };
-}
-
-impl Budget {
-    /// The budget of this number, or `None` where it is 0 or above 2^62.
-    pub fn new(most: u64) -> Option<Budget>
-        ensures value { IfSome result (λ budget. budget ≡ most) }
-        ensures range { IsSome result ↔ IsBudget most }
-    {
-        if 1 <= most && most <= MAX_BUDGET {
-            Some(Budget { most })
-        } else {
-            None
-        }
-    }
-}
-
-/// What a run has spent of its budget. A file is paid for once it is read, so the last one that a
-/// run starts may pass the budget.
+/// What a run has spent of its budget, and how many files it has started. A file is paid for once it
+/// is read, so the last one that a run starts may pass the budget.
 #[derive(Debug, Drop)]
 pub struct Meter {
-    budget: Budget,
+    limits: Limits,
     spent: u64,
+    files: u64,
 }
 
 impl Model for Meter {
@@ -52,34 +18,43 @@ impl Model for Meter {
 
     ghost Value = { Meter };
 
-    ghost view = { λ a. record { budget = a.budget; spent = a.spent } };
+    ghost view = { λ a. record { limits = a.limits; spent = a.spent; files = a.files } };
 
-    ghost invariant = { λ a. IsMeter (record { budget = a.budget; spent = a.spent }) };
+    ghost invariant = { λ a. IsMeter (record { limits = a.limits; spent = a.spent; files = a.files }) };
 }
 
 impl Meter {
-    /// A meter that has spent nothing.
-    pub fn new(budget: Budget) -> Meter
-        ensures budget { result.budget ≡ budget }
+    /// A meter that has spent nothing and started no file.
+    pub fn new(limits: Limits) -> Meter
+        ensures limits { result.limits ≡ limits }
         ensures spent { result.spent ≡ 0 }
+        ensures files { result.files ≡ 0 }
     {
-        Meter { budget, spent: 0 }
+        Meter {
+            limits,
+            spent: 0,
+            files: 0,
+        }
     }
 
     /// Whether a file may be started: the test before each item that costs something.
     pub fn may_start(&self) -> bool
         ensures { IsTrue result ↔ MayStart self.now }
     {
-        self.spent < self.budget.most
+        self.spent < self.limits.budget.most && self.files < self.limits.files.most
     }
 
-    /// Adds the cost of an item.
+    /// Adds the cost of an item: of a file, or 0 for an item that is none.
     pub fn charge(&mut self, cost: u64)
         requires { (cost ≡ 0) ⊎ (MayStart self.old × (cost ≤ max_cost)) }
-        ensures budget { self.new.budget ≡ self.old.budget }
+        ensures limits { self.new.limits ≡ self.old.limits }
         ensures spent { self.new.spent ≡ self.old.spent + cost }
+        ensures files { self.new.files ≡ self.old.files + files_of cost }
     {
-        self.spent += cost;
+        if cost > 0 {
+            self.spent += cost;
+            self.files += 1;
+        }
     }
 
     /// What was charged so far. It passes the budget by the last file that was started, at most.
@@ -88,5 +63,13 @@ impl Meter {
         ensures bound { IsMeter self.now }
     {
         self.spent
+    }
+
+    /// How many files were started so far: at most as many as the limit, and as was spent.
+    pub fn files(&self) -> u64
+        ensures value { result ≡ self.now.files }
+        ensures bound { IsMeter self.now }
+    {
+        self.files
     }
 }

@@ -1,12 +1,4 @@
 ghost use Rattle.std.specs.Prelude.{◌≡◌, ◌≢◌, List, ℕ, [], ◌∷◌, ◌++◌, ◌==◌, count_by, All, IfSome, IsNone};
-ghost use Rattle.ocfl_tree.specs.Place.{text_eq};
-
-/// Whether two texts are the same.
-pub(crate) fn is_text(text: &[u8], other: &[u8]) -> bool
-    ensures { result ≡ text_eq text.now other.now }
-{
-    text == other
-}
 
 /// What follows this beginning of the text. `None` where the text does not begin so.
 pub(crate) fn after_prefix<'a>(prefix: &[u8], text: &'a [u8]) -> Option<&'a [u8]>

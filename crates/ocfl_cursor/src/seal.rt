@@ -2,7 +2,7 @@ ghost use Rattle.std.specs.Prelude.{◌≡◌, ◌++◌, IfSome, is_some};
 ghost use Rattle.ocfl_cursor.specs.Cursor.{digest_line};
 ghost use Rattle.ocfl_cursor.specs.Refusal.{is_sealed};
 
-use crate::pieces::is_text;
+use ocfl_tree::is_bytes;
 use sha2::{Digest, Sha256};
 
 /// How many bytes the digest line has.
@@ -30,7 +30,7 @@ pub(crate) fn sealed_body(text: &[u8]) -> Option<&[u8]>
         return None;
     }
     let (body, last_line) = text.split_at(text.len() - DIGEST_LINE);
-    if is_text(last_line, &digest_line(body)) {
+    if is_bytes(last_line, &digest_line(body)) {
         Some(body)
     } else {
         None

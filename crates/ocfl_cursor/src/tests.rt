@@ -6,14 +6,26 @@ use std::io::{self, ErrorKind, Read};
 use std::test::Fail;
 
 /// A text of a cursor behind `o/v1/content/c`, before its digest line.
-const BODY: &str = "ocfl-scrub cursor 1\ncycle 3\nruns 2\nspent 9\nafter o/v1/content/c\n";
+const BODY: &str = "ocfl-scrub cursor 2\ncycle 3\nruns 2\nspent 9\nfiles 3\nafter o/v1/content/c\n";
 
 /// The SHA-256 of that, by `sha256sum`.
-const DIGEST: &str = "822836e04ff6618e0a7571237f0049f590a6f9890506f09338f0505902d351d7";
+const DIGEST: &str = "894422823bd158b8102505a5075ffb65b0f4cfeb1067789d3830a518ec8f4b26";
+
+/// The same of version 1, which does not tell the files.
+const OLD_BODY: &str = "ocfl-scrub cursor 1\ncycle 3\nruns 2\nspent 9\nafter o/v1/content/c\n";
+
+/// The SHA-256 of that, by `sha256sum`.
+const OLD_DIGEST: &str = "822836e04ff6618e0a7571237f0049f590a6f9890506f09338f0505902d351d7";
 
 /// The whole text.
 fn whole_text(alloc: Global) -> Result<Vec<u8>, Fail> {
     let text = format!(in alloc; "{BODY}digest {DIGEST}\n")?;
+    Ok(Vec::from_slice(alloc, text.as_bytes())?)
+}
+
+/// The whole text of version 1.
+fn old_text(alloc: Global) -> Result<Vec<u8>, Fail> {
+    let text = format!(in alloc; "{OLD_BODY}digest {OLD_DIGEST}\n")?;
     Ok(Vec::from_slice(alloc, text.as_bytes())?)
 }
 
@@ -45,7 +57,7 @@ fn long_place(alloc: Global, count: usize) -> Result<Place, Fail> {
 }
 
 fn cursor_behind(place: Place) -> Result<Cursor, Fail> {
-    Ok(Cursor::from_parts(1, 1, 0, State::After(place)).ok_or("a place of at most 255 names")?)
+    Ok(Cursor::from_parts(1, 1, 0, 0, State::After(place)).ok_or("a place of at most 255 names")?)
 }
 
 fn refusal_of(alloc: Global, text: &[u8]) -> Option<Refused> {
@@ -55,12 +67,12 @@ fn refusal_of(alloc: Global, text: &[u8]) -> Option<Refused> {
 #[test]
 fn texts_have_their_lengths(rt: HostRuntime) -> Result<(), Fail> {
     let alloc = rt.alloc();
-    assert_eq!(rt; encode(alloc, &Cursor::new())?.len(), 121);
-    let root = Cursor::from_parts(1, 0, 0, State::After(Place::root(alloc))).ok_or("the root")?;
-    assert_eq!(rt; encode(alloc, &root)?.len(), 123);
+    assert_eq!(rt; encode(alloc, &Cursor::new())?.len(), 129);
+    let root = Cursor::from_parts(1, 0, 0, 0, State::After(Place::root(alloc))).ok_or("the root")?;
+    assert_eq!(rt; encode(alloc, &root)?.len(), 131);
     let long = cursor_behind(long_place(alloc, 255)?)?;
     let text = encode(alloc, &long)?;
-    assert_eq!(rt; text.len(), 195_451);
+    assert_eq!(rt; text.len(), 195_459);
     assert_eq!(rt;
         decode(alloc, &text)?.state(),
         &State::After(long_place(alloc, 255)?)
@@ -69,13 +81,15 @@ fn texts_have_their_lengths(rt: HostRuntime) -> Result<(), Fail> {
 }
 
 #[test]
-fn writes_six_lines(rt: HostRuntime) -> Result<(), Fail> {
+fn writes_seven_lines(rt: HostRuntime) -> Result<(), Fail> {
     let alloc = rt.alloc();
     let state = State::After(place_of(alloc, &["o", "v1", "content", "c"])?);
-    let cursor = Cursor::from_parts(3, 2, 9, state).ok_or("a cursor")?;
+    let cursor = Cursor::from_parts(3, 2, 9, 3, state).ok_or("a cursor")?;
     let text = encode(alloc, &cursor)?;
-    assert_eq!(rt; text.len(), 136);
+    assert_eq!(rt; text.len(), 144);
     assert_eq!(rt; text, whole_text(alloc)?);
+    let shown = "cycle 3\nruns 2\nspent 9\nfiles 3\nafter o/v1/content/c\n";
+    assert_eq!(rt; cursor_lines(alloc, &cursor)?.as_slice(), shown.as_bytes());
     Ok(())
 }
 
@@ -83,16 +97,15 @@ fn writes_six_lines(rt: HostRuntime) -> Result<(), Fail> {
 fn reads_what_is_written(rt: HostRuntime) -> Result<(), Fail> {
     let alloc = rt.alloc();
     let cursor = decode(alloc, &whole_text(alloc)?)?;
-    assert_eq!(rt; (cursor.cycle(), cursor.runs(), cursor.spent()), (3, 2, 9));
+    assert_eq!(rt; (cursor.cycle(), cursor.runs()), (3, 2));
+    assert_eq!(rt; (cursor.spent(), cursor.files()), (9, 3));
     let place = place_of(alloc, &["o", "v1", "content", "c"])?;
     assert_eq!(rt; cursor.into_state(), State::After(place));
     for state in [State::Start, State::After(Place::root(alloc)), State::Ended] {
-        let cursor = Cursor::from_parts(u64::MAX, u64::MAX, 7, state).ok_or("a cursor")?;
+        let cursor = Cursor::from_parts(u64::MAX, u64::MAX, 7, 7, state).ok_or("a cursor")?;
         let read = cursor_reads_back(alloc, &cursor)?;
-        assert_eq!(rt;
-            (read.cycle(), read.runs(), read.spent()),
-            (u64::MAX, u64::MAX, 7)
-        );
+        assert_eq!(rt; (read.cycle(), read.runs()), (u64::MAX, u64::MAX));
+        assert_eq!(rt; (read.spent(), read.files()), (7, 7));
         assert_eq!(rt; read.state(), cursor.state());
     }
     text_determines_the_cursor();
@@ -100,17 +113,57 @@ fn reads_what_is_written(rt: HostRuntime) -> Result<(), Fail> {
 }
 
 #[test]
+fn reads_version_one(rt: HostRuntime) -> Result<(), Fail> {
+    let alloc = rt.alloc();
+    let text = old_text(alloc)?;
+    assert_eq!(rt; text.len(), 136);
+    let cursor = decode(alloc, &text)?;
+    assert_eq!(rt; (cursor.cycle(), cursor.runs()), (3, 2));
+    assert_eq!(rt; (cursor.spent(), cursor.files()), (9, 0));
+    let shown = "cycle 3\nruns 2\nspent 9\nfiles 0\nafter o/v1/content/c\n";
+    assert_eq!(rt; cursor_lines(alloc, &cursor)?.as_slice(), shown.as_bytes());
+    let place = place_of(alloc, &["o", "v1", "content", "c"])?;
+    assert_eq!(rt; cursor.into_state(), State::After(place));
+    // As another version, it is not what its digest line seals.
+    let body = OLD_BODY.replace(alloc, "cursor 1", "cursor 2")?;
+    let changed = format!(in alloc; "{body}digest {OLD_DIGEST}\n")?;
+    assert_eq!(rt;
+        refusal_of(alloc, changed.as_bytes()),
+        Some(Refused::Damaged)
+    );
+    Ok(())
+}
+
+/// The longest text of version 1 has 195,451 bytes.
+#[test]
+fn reads_a_long_text_of_version_one(rt: HostRuntime) -> Result<(), Fail> {
+    let alloc = rt.alloc();
+    let place = long_place(alloc, 255)?;
+    let mut body = Vec::from_slice(
+        alloc,
+        b"ocfl-scrub cursor 1\ncycle 1\nruns 1\nspent 0\nafter ",
+    )?;
+    ocfl_report::put_place(&place, &mut body)?;
+    body.extend_from_slice(b"\n")?;
+    let text = seal(alloc, &body)?;
+    assert_eq!(rt; text.len(), 195_451);
+    assert_eq!(rt; decode(alloc, &text)?.into_state(), State::After(place));
+    Ok(())
+}
+
+#[test]
 fn refuses_cut_texts(rt: HostRuntime) -> Result<(), Fail> {
     let alloc = rt.alloc();
-    let whole = whole_text(alloc)?;
-    for kept in 0..whole.len() {
-        let want = match kept {
-            0..18 => Refused::NotCursor,
-            18 => Refused::Version,
-            _ => Refused::Damaged,
-        };
-        let part = &whole[..kept];
-        assert_eq!(rt; refusal_of(alloc, part), Some(want), "cut to {kept} bytes");
+    for whole in [whole_text(alloc)?, old_text(alloc)?] {
+        for kept in 0..whole.len() {
+            let want = match kept {
+                0..18 => Refused::NotCursor,
+                18 => Refused::Version,
+                _ => Refused::Damaged,
+            };
+            let part = &whole[..kept];
+            assert_eq!(rt; refusal_of(alloc, part), Some(want), "cut to {kept} bytes");
+        }
     }
     Ok(())
 }
@@ -118,20 +171,23 @@ fn refuses_cut_texts(rt: HostRuntime) -> Result<(), Fail> {
 #[test]
 fn refuses_changed_bytes(rt: HostRuntime) -> Result<(), Fail> {
     let alloc = rt.alloc();
-    for place in 0..136usize {
-        let want = match place {
-            0..18 => Refused::NotCursor,
-            18 | 19 => Refused::Version,
-            _ => Refused::Damaged,
-        };
-        let mut changed = whole_text(alloc)?;
-        let byte = changed.get_mut(place).ok_or("a text of 136 bytes")?;
-        *byte ^= 1;
-        assert_eq!(rt;
-            refusal_of(alloc, &changed),
-            Some(want),
-            "byte {place} changed"
-        );
+    for whole in [whole_text(alloc)?, old_text(alloc)?] {
+        for place in 0..whole.len() {
+            let want = match place {
+                0..18 => Refused::NotCursor,
+                18 | 19 => Refused::Version,
+                _ => Refused::Damaged,
+            };
+            let mut changed = whole.clone()?;
+            let byte = changed.get_mut(place).ok_or("a byte of the text")?;
+            // So that no version is made another one that is read.
+            *byte ^= 4;
+            assert_eq!(rt;
+                refusal_of(alloc, &changed),
+                Some(want),
+                "byte {place} changed"
+            );
+        }
     }
     Ok(())
 }
@@ -139,7 +195,7 @@ fn refuses_changed_bytes(rt: HostRuntime) -> Result<(), Fail> {
 #[test]
 fn refuses_other_texts(rt: HostRuntime) -> Result<(), Fail> {
     let alloc = rt.alloc();
-    let third = BODY.replace(alloc, "cursor 1", "cursor 3")?;
+    let third = BODY.replace(alloc, "cursor 2", "cursor 3")?;
     assert_eq!(rt;
         refusal_of(alloc, &seal(alloc, third.as_bytes())?),
         Some(Refused::Version)
@@ -163,7 +219,7 @@ fn refuses_other_texts(rt: HostRuntime) -> Result<(), Fail> {
     Ok(())
 }
 
-/// What is put for what in the body, so that no cursor has it.
+/// What is put for what in the body of either version, so that no cursor has it.
 const CHANGES: [(&str, &str); 26] = [
     ("cycle 3\n", "cycle 03\n"),
     ("cycle 3\n", "cycle 0\n"),
@@ -203,10 +259,47 @@ const CHANGES: [(&str, &str); 26] = [
 fn refuses_forms_of_no_cursor(rt: HostRuntime) -> Result<(), Fail> {
     let alloc = rt.alloc();
     for (from, to) in CHANGES {
+        for whole in [BODY, OLD_BODY] {
+            let body = whole.replace(alloc, from, to)?;
+            let refusal = refusal_of(alloc, &seal(alloc, body.as_bytes())?);
+            assert_eq!(rt; refusal, Some(Refused::Malformed), "{body:?}");
+        }
+    }
+    Ok(())
+}
+
+/// What is put for the line of the files, so that no cursor has it.
+const FILES_CHANGES: [(&str, &str); 8] = [
+    ("files 3\n", ""),
+    ("files 3\n", "files 10\n"),
+    ("files 3\n", "files 03\n"),
+    ("files 3\n", "files \n"),
+    ("files 3\n", "files 3\nfiles 3\n"),
+    ("spent 9\nfiles 3\n", "files 3\nspent 9\n"),
+    (
+        "files 3\n",
+        "files 340282366920938463463374607431768211456\n",
+    ),
+    ("cursor 2\n", "cursor 1\n"),
+];
+
+#[test]
+fn refuses_other_lines_of_files(rt: HostRuntime) -> Result<(), Fail> {
+    let alloc = rt.alloc();
+    for (from, to) in FILES_CHANGES {
         let body = BODY.replace(alloc, from, to)?;
         let refusal = refusal_of(alloc, &seal(alloc, body.as_bytes())?);
         assert_eq!(rt; refusal, Some(Refused::Malformed), "{body:?}");
     }
+    // A text of version 1 has none, even of no files.
+    let none = OLD_BODY.replace(alloc, "spent 9\n", "spent 9\nfiles 0\n")?;
+    assert_eq!(rt;
+        refusal_of(alloc, &seal(alloc, none.as_bytes())?),
+        Some(Refused::Malformed)
+    );
+    let all = BODY.replace(alloc, "files 3\n", "files 9\n")?;
+    let cursor = decode(alloc, &seal(alloc, all.as_bytes())?)?;
+    assert_eq!(rt; cursor.files(), 9);
     Ok(())
 }
 
@@ -218,18 +311,20 @@ fn keeps_the_limits_of_a_cursor(rt: HostRuntime) -> Result<(), Fail> {
         ("9223372036854775809", false),
     ] {
         let counts = format!(in alloc; "runs 1\nspent {spent}\n")?;
-        let body = BODY.replace(alloc, "runs 2\nspent 9\n", counts.as_str())?;
-        let read = decode(alloc, &seal(alloc, body.as_bytes())?);
-        assert_eq!(rt; read.is_ok(), fits, "spent {spent}");
-        assert_eq!(rt;
-            read.err(),
-            (!fits).then_some(Refused::Malformed),
-            "spent {spent}"
-        );
+        for whole in [BODY, OLD_BODY] {
+            let body = whole.replace(alloc, "runs 2\nspent 9\n", counts.as_str())?;
+            let read = decode(alloc, &seal(alloc, body.as_bytes())?);
+            assert_eq!(rt; read.is_ok(), fits, "spent {spent}");
+            assert_eq!(rt;
+                read.err(),
+                (!fits).then_some(Refused::Malformed),
+                "spent {spent}"
+            );
+        }
     }
     let mut body = Vec::from_slice(
         alloc,
-        b"ocfl-scrub cursor 1\ncycle 1\nruns 1\nspent 0\nafter ",
+        b"ocfl-scrub cursor 2\ncycle 1\nruns 1\nspent 0\nfiles 0\nafter ",
     )?;
     ocfl_report::put_place(&long_place(alloc, 256)?, &mut body)?;
     body.extend_from_slice(b"\n")?;
@@ -237,33 +332,36 @@ fn keeps_the_limits_of_a_cursor(rt: HostRuntime) -> Result<(), Fail> {
         refusal_of(alloc, &seal(alloc, &body)?),
         Some(Refused::Malformed)
     );
-    assert!(rt; Cursor::from_parts(0, 0, 0, State::Start).is_none());
-    assert!(rt; Cursor::from_parts(1, 0, 1, State::Start).is_none());
-    assert!(rt; Cursor::from_parts(1, 2, 1 << 64, State::Ended).is_some());
-    assert!(rt; Cursor::from_parts(1, 2, (1 << 64) + 1, State::Ended).is_none());
+    assert!(rt; Cursor::from_parts(0, 0, 0, 0, State::Start).is_none());
+    assert!(rt; Cursor::from_parts(1, 0, 1, 0, State::Start).is_none());
+    assert!(rt; Cursor::from_parts(1, 2, 1 << 64, 0, State::Ended).is_some());
+    assert!(rt; Cursor::from_parts(1, 2, (1 << 64) + 1, 0, State::Ended).is_none());
+    assert!(rt; Cursor::from_parts(1, 2, 9, 9, State::Ended).is_some());
+    assert!(rt; Cursor::from_parts(1, 2, 9, 10, State::Ended).is_none());
     let too_deep = State::After(long_place(alloc, 256)?);
-    assert!(rt; Cursor::from_parts(1, 0, 0, too_deep).is_none());
+    assert!(rt; Cursor::from_parts(1, 0, 0, 0, too_deep).is_none());
     Ok(())
 }
 
 #[test]
 fn moves_on(rt: HostRuntime) -> Result<(), Fail> {
     let behind = State::After(place_of(rt.alloc(), &["a"])?);
-    let one = Cursor::new().after_run(5, behind).ok_or("a run")?;
-    let two = one.after_run(4, State::Ended).ok_or("a second run")?;
-    assert_eq!(rt; (two.cycle(), two.runs(), two.spent()), (1, 2, 9));
+    let one = Cursor::new().after_run(5, 2, behind).ok_or("a run")?;
+    let two = one.after_run(4, 1, State::Ended).ok_or("a second run")?;
+    assert_eq!(rt; (two.cycle(), two.runs()), (1, 2));
+    assert_eq!(rt; (two.spent(), two.files()), (9, 3));
     assert_eq!(rt; two.state(), &State::Ended);
     let next = two.next_cycle().ok_or("a second cycle")?;
-    assert_eq!(rt; (next.cycle(), next.runs(), next.spent()), (2, 0, 0));
+    assert_eq!(rt; (next.cycle(), next.runs()), (2, 0));
+    assert_eq!(rt; (next.spent(), next.files()), (0, 0));
     assert_eq!(rt; next.state(), &State::Start);
-    let last = Cursor::from_parts(u64::MAX, u64::MAX, 0, State::Ended).ok_or("the last cursor")?;
+    let last = Cursor::from_parts(u64::MAX, u64::MAX, 0, 0, State::Ended);
+    let last = last.ok_or("the last cursor")?;
     assert!(rt; last.next_cycle().is_none());
-    assert!(rt; last.after_run(0, State::Start).is_none());
-    assert!(rt;
-        Cursor::new()
-            .after_run((1 << 63) + 1, State::Start)
-            .is_none()
-    );
+    assert!(rt; last.after_run(0, 0, State::Start).is_none());
+    let too_much = (1 << 63) + 1;
+    assert!(rt; Cursor::new().after_run(too_much, 1, State::Start).is_none());
+    assert!(rt; Cursor::new().after_run(4, 5, State::Start).is_none());
     Ok(())
 }
 
@@ -281,24 +379,62 @@ fn reasons_have_their_texts(rt: HostRuntime) -> Result<(), Fail> {
     Ok(())
 }
 
+/// A meter of this budget, for a run that may start so many files.
+fn meter_of(budget: u64, files: u64) -> Result<Meter, Fail> {
+    let budget = Budget::new(budget).ok_or("a budget")?;
+    let files = FileLimit::new(files).ok_or("a limit on files")?;
+    Ok(Meter::new(Limits { budget, files }))
+}
+
+#[test]
+fn limits_have_their_ranges(rt: HostRuntime) -> Result<(), Fail> {
+    assert!(rt; Budget::new(0).is_none());
+    assert!(rt; Budget::new(1).is_some());
+    assert!(rt; Budget::new(4_611_686_018_427_387_904).is_some());
+    assert!(rt; Budget::new(4_611_686_018_427_387_905).is_none());
+    assert!(rt; FileLimit::new(0).is_none());
+    assert!(rt; FileLimit::new(1).is_some());
+    assert!(rt; FileLimit::new(4_611_686_018_427_387_904).is_some());
+    assert!(rt; FileLimit::new(4_611_686_018_427_387_905).is_none());
+    Ok(())
+}
+
 #[test]
 fn meters_a_run(rt: HostRuntime) -> Result<(), Fail> {
-    assert!(rt; Budget::new(0).is_none());
-    assert!(rt; Budget::new(4_611_686_018_427_387_905).is_none());
-    let most = Budget::new(4_611_686_018_427_387_904).ok_or("the largest budget")?;
-    let mut meter = Meter::new(most);
-    assert_eq!(rt; meter.spent(), 0);
+    let mut meter = meter_of(4_611_686_018_427_387_904, 3)?;
+    assert_eq!(rt; (meter.spent(), meter.files()), (0, 0));
     assert!(rt; meter.may_start());
     meter.charge(4_611_686_018_427_387_903);
     assert!(rt; meter.may_start());
     meter.charge(4_611_686_018_427_387_905);
-    assert_eq!(rt; meter.spent(), 1 << 63);
+    assert_eq!(rt; (meter.spent(), meter.files()), (1 << 63, 2));
     assert!(rt; !meter.may_start());
     meter.charge(0);
-    let mut least = Meter::new(Budget::new(1).ok_or("the least budget")?);
+    assert_eq!(rt; (meter.spent(), meter.files()), (1 << 63, 2));
+    let mut least = meter_of(1, 4_611_686_018_427_387_904)?;
     assert!(rt; least.may_start());
     least.charge(1);
     assert!(rt; !least.may_start());
+    Ok(())
+}
+
+#[test]
+fn meters_the_files_of_a_run(rt: HostRuntime) -> Result<(), Fail> {
+    let mut meter = meter_of(9, 2)?;
+    // What costs nothing is no file.
+    meter.charge(0);
+    assert!(rt; meter.may_start());
+    meter.charge(4);
+    meter.charge(0);
+    assert!(rt; meter.may_start());
+    meter.charge(1);
+    meter.charge(0);
+    assert_eq!(rt; (meter.spent(), meter.files()), (5, 2));
+    assert!(rt; !meter.may_start());
+    let mut one = meter_of(9, 1)?;
+    assert!(rt; one.may_start());
+    one.charge(4);
+    assert!(rt; !one.may_start());
     Ok(())
 }
 

@@ -1,0 +1,271 @@
+-- Worked cases: cursors, their text, and why bytes are none.
+use Rattle.std.proofs.Common.{◌≡◌, ◌==◌, ◌≤◌, ◌+◌, ℕ, zero, suc, List, [], ◌∷◌, ◌++◌, codes, refl, sym, inr, arith, length, map, replicate, take, drop}
+use Rattle.std.specs.List.{slice_split}
+use Prim.Native.String.{String}
+use Rattle.ocfl_tree.specs.Place.{Text, Place}
+use Rattle.ocfl_cursor.specs.Cursor.{start, behind, ended, Cursor, IsCursor, new_cursor, cursor_lines, cursor_body, cursor_text, digest_line, version_one_body, version_one_text}
+use Rattle.ocfl_cursor.specs.Refusal.{Refusal, not_cursor, version, damaged, malformed, refusal, IsTextOf}
+use Rattle.ocfl_cursor.proofs.OnLiterals.{cursor_on_literals}
+
+-- a place by its text
+abbrev place : String → Place
+place t = slice_split (λ b. b == 47) (codes t)
+
+-- ---- texts
+
+-- of a third cycle, after its second run
+abbrev third_cycle : Cursor
+third_cycle = record { cycle = 3; runs = 2; spent = 9; files = 3; state = behind (place "o/v1/content/c") }
+
+text_of_a_cursor : cursor_text third_cycle ≡ codes "ocfl-scrub cursor 2\ncycle 3\nruns 2\nspent 9\nfiles 3\nafter o/v1/content/c\ndigest 894422823bd158b8102505a5075ffb65b0f4cfeb1067789d3830a518ec8f4b26\n"
+unfolding cursor_on_literals
+text_of_a_cursor = refl
+
+lengths_of_a_cursor : (length (cursor_text third_cycle) ≡ 144) × (length (cursor_body third_cycle) ≡ 72) × (length (digest_line (cursor_body third_cycle)) ≡ 72)
+unfolding cursor_on_literals
+lengths_of_a_cursor = (refl, refl, refl)
+
+-- the first line has 20 bytes, and the last one 72
+cursor_as_shown : (cursor_lines third_cycle ≡ codes "cycle 3\nruns 2\nspent 9\nfiles 3\nafter o/v1/content/c\n") × (take 52 (drop 20 (cursor_text third_cycle)) ≡ cursor_lines third_cycle)
+unfolding cursor_on_literals
+cursor_as_shown = (refl, refl)
+
+text_of_a_new_cursor : cursor_text new_cursor ≡ codes "ocfl-scrub cursor 2\ncycle 1\nruns 0\nspent 0\nfiles 0\nstart\ndigest f5dddf8c1323ee2119db1954daab3d21b29adbdb93b23e9c366e50fbc8b52aa3\n"
+unfolding cursor_on_literals
+text_of_a_new_cursor = refl
+
+length_of_a_new_cursor : length (cursor_text new_cursor) ≡ 129
+unfolding cursor_on_literals
+length_of_a_new_cursor = refl
+
+length_behind_the_root : length (cursor_text (record new_cursor { state = behind [] })) ≡ 131
+unfolding cursor_on_literals
+length_behind_the_root = refl
+
+text_behind_the_root : cursor_body (record new_cursor { state = behind [] }) ≡ codes "ocfl-scrub cursor 2\ncycle 1\nruns 0\nspent 0\nfiles 0\nafter .\n"
+unfolding cursor_on_literals
+text_behind_the_root = refl
+
+text_of_an_ended_cursor : cursor_body (record { cycle = 18446744073709551615; runs = 10; spent = 9223372036854775808; files = 12; state = ended }) ≡ codes "ocfl-scrub cursor 2\ncycle 18446744073709551615\nruns 10\nspent 9223372036854775808\nfiles 12\nended\n"
+unfolding cursor_on_literals
+text_of_an_ended_cursor = refl
+
+-- a place is written as in a report
+odd_place_in_a_cursor : cursor_body (record new_cursor { state = behind (codes "a%" ∷ (0xC3 ∷ 0xA9 ∷ 32 ∷ 10 ∷ []) ∷ []) }) ≡ codes "ocfl-scrub cursor 2\ncycle 1\nruns 0\nspent 0\nfiles 0\nafter a%25/%C3%A9 %0A\n"
+unfolding cursor_on_literals
+odd_place_in_a_cursor = refl
+
+-- 255 names of 255 bytes, each escaped; with its last line 195,459 bytes
+longest_body : length (cursor_body (record new_cursor { runs = 1; state = behind (replicate 255 (replicate 255 1)) })) ≡ 195387
+unfolding cursor_on_literals
+longest_body = refl
+
+-- ---- texts of version 1
+
+-- that cursor without files
+abbrev without_files : Cursor
+without_files = record third_cycle { files = 0 }
+
+version_one_of_a_cursor : version_one_text without_files ≡ codes "ocfl-scrub cursor 1\ncycle 3\nruns 2\nspent 9\nafter o/v1/content/c\ndigest 822836e04ff6618e0a7571237f0049f590a6f9890506f09338f0505902d351d7\n"
+unfolding cursor_on_literals
+version_one_of_a_cursor = refl
+
+-- it is read as that cursor
+version_one_is_read : IsCursor without_files → IsTextOf (codes "ocfl-scrub cursor 1\ncycle 3\nruns 2\nspent 9\nafter o/v1/content/c\ndigest 822836e04ff6618e0a7571237f0049f590a6f9890506f09338f0505902d351d7\n") without_files
+version_one_is_read keeps = record { keeps = keeps; is = inr (refl, sym version_one_of_a_cursor) }
+
+-- and shown with the line of its files
+version_one_as_shown : cursor_lines without_files ≡ codes "cycle 3\nruns 2\nspent 9\nfiles 0\nafter o/v1/content/c\n"
+unfolding cursor_on_literals
+version_one_as_shown = refl
+
+lengths_of_version_one : (length (version_one_text without_files) ≡ 136) × (length (version_one_body without_files) ≡ 64) × (length (digest_line (version_one_body without_files)) ≡ 72)
+unfolding cursor_on_literals
+lengths_of_version_one = (refl, refl, refl)
+
+version_one_of_a_new_cursor : version_one_text new_cursor ≡ codes "ocfl-scrub cursor 1\ncycle 1\nruns 0\nspent 0\nstart\ndigest eec5ed22301f28c448cd6ef3e3f29ee5aef8b762c091f1384e735a1c51cad9b7\n"
+unfolding cursor_on_literals
+version_one_of_a_new_cursor = refl
+
+length_of_version_one_of_a_new_cursor : length (version_one_text new_cursor) ≡ 121
+unfolding cursor_on_literals
+length_of_version_one_of_a_new_cursor = refl
+
+length_of_version_one_behind_the_root : length (version_one_text (record new_cursor { state = behind [] })) ≡ 123
+unfolding cursor_on_literals
+length_of_version_one_behind_the_root = refl
+
+version_one_behind_the_root : version_one_body (record new_cursor { state = behind [] }) ≡ codes "ocfl-scrub cursor 1\ncycle 1\nruns 0\nspent 0\nafter .\n"
+unfolding cursor_on_literals
+version_one_behind_the_root = refl
+
+version_one_of_an_ended_cursor : version_one_body (record { cycle = 18446744073709551615; runs = 10; spent = 9223372036854775808; files = 0; state = ended }) ≡ codes "ocfl-scrub cursor 1\ncycle 18446744073709551615\nruns 10\nspent 9223372036854775808\nended\n"
+unfolding cursor_on_literals
+version_one_of_an_ended_cursor = refl
+
+odd_place_in_version_one : version_one_body (record new_cursor { state = behind (codes "a%" ∷ (0xC3 ∷ 0xA9 ∷ 32 ∷ 10 ∷ []) ∷ []) }) ≡ codes "ocfl-scrub cursor 1\ncycle 1\nruns 0\nspent 0\nafter a%25/%C3%A9 %0A\n"
+unfolding cursor_on_literals
+odd_place_in_version_one = refl
+
+-- with its last line 195,451 bytes
+longest_body_of_version_one : length (version_one_body (record new_cursor { runs = 1; state = behind (replicate 255 (replicate 255 1)) })) ≡ 195379
+unfolding cursor_on_literals
+longest_body_of_version_one = refl
+
+-- ---- a cursor's own rule
+
+-- a cursor without files, by its other numbers
+abbrev counted : ℕ → ℕ → ℕ → Cursor
+counted cycle runs spent = record { cycle = cycle; runs = runs; spent = spent; files = 0; state = start }
+
+new_cursor_keeps_the_rule : IsCursor new_cursor
+new_cursor_keeps_the_rule = record { first = omega arith; cycle = omega arith; runs = omega arith; spent = omega arith; files = omega arith; place = tt }
+
+most_spent_in_one_run : IsCursor (counted 1 1 9223372036854775808)
+most_spent_in_one_run = record { first = omega arith; cycle = omega arith; runs = omega arith; spent = omega arith; files = omega arith; place = tt }
+
+more_spent_than_runs_can : IsCursor (counted 1 1 9223372036854775809) → ⊥
+more_spent_than_runs_can c = let h = c.spent in absurd (omega (arith, h))
+
+spent_without_a_run : IsCursor (counted 1 0 1) → ⊥
+spent_without_a_run c = let h = c.spent in absurd (omega (arith, h))
+
+last_cycle_and_run : IsCursor (counted 18446744073709551615 18446744073709551615 0)
+last_cycle_and_run = record { first = omega arith; cycle = omega arith; runs = omega arith; spent = omega arith; files = omega arith; place = tt }
+
+cycle_too_large : IsCursor (counted 18446744073709551616 1 0) → ⊥
+cycle_too_large c = let h = c.cycle in absurd (omega (arith, h))
+
+runs_too_large : IsCursor (counted 1 18446744073709551616 0) → ⊥
+runs_too_large c = let h = c.runs in absurd (omega (arith, h))
+
+no_cycle : IsCursor (counted 0 1 0) → ⊥
+no_cycle c = let h = c.first in absurd (omega (arith, h))
+
+as_many_files_as_spent : IsCursor (record (counted 1 1 9) { files = 9 })
+as_many_files_as_spent = record { first = omega arith; cycle = omega arith; runs = omega arith; spent = omega arith; files = omega arith; place = tt }
+
+more_files_than_spent : IsCursor (record (counted 1 1 9) { files = 10 }) → ⊥
+more_files_than_spent c = let h = c.files in absurd (omega (arith, h))
+
+place_of_256_names : IsCursor (record new_cursor { state = behind (replicate 256 (1 ∷ [])) }) → ⊥
+place_of_256_names c = let h : 256 ≤ 255 = c.place.1 in absurd (omega (arith, h))
+
+-- ---- refusals
+
+-- a text with the right last line behind it
+abbrev sealed : String → Text
+sealed body = codes body ++ digest_line (codes body)
+
+no_bytes_at_all : refusal [] ≡ not_cursor
+no_bytes_at_all = refl
+
+-- n, and what follows, k in all
+abbrev upward : ℕ → ℕ → List ℕ
+upward n zero = []
+upward n (suc k) = n ∷ upward (n + 1) k
+
+-- the text of that cursor in version 1
+abbrev whole : Text
+whole = codes "ocfl-scrub cursor 1\ncycle 3\nruns 2\nspent 9\nafter o/v1/content/c\ndigest 822836e04ff6618e0a7571237f0049f590a6f9890506f09338f0505902d351d7\n"
+
+-- cut behind n bytes
+abbrev cut_to : ℕ → Refusal
+cut_to n = refusal (take n whole)
+
+cut_within_the_front : map cut_to (upward 0 18) ≡ replicate 18 not_cursor
+unfolding cursor_on_literals
+cut_within_the_front = refl
+
+cut_before_the_version : cut_to 18 ≡ version
+unfolding cursor_on_literals
+cut_before_the_version = refl
+
+cut_within_the_body : map cut_to (upward 19 45) ≡ replicate 45 damaged
+unfolding cursor_on_literals
+cut_within_the_body = refl
+
+cut_within_the_last_line : map cut_to (upward 64 72) ≡ replicate 72 damaged
+unfolding cursor_on_literals
+cut_within_the_last_line = refl
+
+-- the byte at n made another
+abbrev changed_at : ℕ → Refusal
+changed_at n = refusal (take n whole ++ 33 ∷ drop (n + 1) whole)
+
+changed_in_the_front : map changed_at (upward 0 18) ≡ replicate 18 not_cursor
+unfolding cursor_on_literals
+changed_in_the_front = refl
+
+-- the version, and the line feed behind it
+changed_in_the_version : map changed_at (18 ∷ 19 ∷ []) ≡ version ∷ version ∷ []
+unfolding cursor_on_literals
+changed_in_the_version = refl
+
+changed_in_the_body : map changed_at (upward 20 44) ≡ replicate 44 damaged
+unfolding cursor_on_literals
+changed_in_the_body = refl
+
+changed_in_the_last_line : map changed_at (upward 64 72) ≡ replicate 72 damaged
+unfolding cursor_on_literals
+changed_in_the_last_line = refl
+
+byte_behind_the_text : refusal (whole ++ 10 ∷ []) ≡ damaged
+unfolding cursor_on_literals
+byte_behind_the_text = refl
+
+-- its digits in capitals
+digest_in_capitals : refusal (codes "ocfl-scrub cursor 1\ncycle 3\nruns 2\nspent 9\nafter o/v1/content/c\ndigest 822836E04FF6618E0A7571237F0049F590A6F9890506F09338F0505902D351D7\n") ≡ damaged
+unfolding cursor_on_literals
+digest_in_capitals = refl
+
+version_of_the_future : refusal (codes "ocfl-scrub cursor 3\ncycle 3\nruns 2\nspent 9\nafter o/v1/content/c\n") ≡ version
+version_of_the_future = refl
+
+-- the version is looked at before the last line
+sealed_version_of_the_future : refusal (sealed "ocfl-scrub cursor 3\ncycle 3\nruns 2\nspent 9\nafter o/v1/content/c\n") ≡ version
+unfolding cursor_on_literals
+sealed_version_of_the_future = refl
+
+-- a text of version 1 whose first line is made that of version 2
+version_one_made_two : refusal (codes "ocfl-scrub cursor 2\ncycle 3\nruns 2\nspent 9\nafter o/v1/content/c\ndigest 822836e04ff6618e0a7571237f0049f590a6f9890506f09338f0505902d351d7\n") ≡ damaged
+unfolding cursor_on_literals
+version_one_made_two = refl
+
+version_with_a_zero : refusal (sealed "ocfl-scrub cursor 01\ncycle 1\nruns 0\nspent 0\nstart\n") ≡ version
+unfolding cursor_on_literals
+version_with_a_zero = refl
+
+-- bytes that are no cursor's text are then malformed
+leading_zero : refusal (sealed "ocfl-scrub cursor 1\ncycle 03\nruns 2\nspent 9\nafter o/v1/content/c\n") ≡ malformed
+unfolding cursor_on_literals
+leading_zero = refl
+
+sealed_cycle_too_large : refusal (sealed "ocfl-scrub cursor 1\ncycle 18446744073709551616\nruns 1\nspent 0\nstart\n") ≡ malformed
+unfolding cursor_on_literals
+sealed_cycle_too_large = refl
+
+sealed_spent_too_large : refusal (sealed "ocfl-scrub cursor 1\ncycle 1\nruns 1\nspent 9223372036854775809\nstart\n") ≡ malformed
+unfolding cursor_on_literals
+sealed_spent_too_large = refl
+
+first_line_alone : refusal (sealed "ocfl-scrub cursor 1\n") ≡ malformed
+unfolding cursor_on_literals
+first_line_alone = refl
+
+sealed_files_above_spent : refusal (sealed "ocfl-scrub cursor 2\ncycle 3\nruns 2\nspent 9\nfiles 10\nafter o/v1/content/c\n") ≡ malformed
+unfolding cursor_on_literals
+sealed_files_above_spent = refl
+
+version_two_without_files : refusal (sealed "ocfl-scrub cursor 2\ncycle 3\nruns 2\nspent 9\nafter o/v1/content/c\n") ≡ malformed
+unfolding cursor_on_literals
+version_two_without_files = refl
+
+version_one_with_files : refusal (sealed "ocfl-scrub cursor 1\ncycle 3\nruns 2\nspent 9\nfiles 0\nafter o/v1/content/c\n") ≡ malformed
+unfolding cursor_on_literals
+version_one_with_files = refl
+
+-- 262,145 bytes that begin as a cursor
+text_too_long : refusal (codes "ocfl-scrub cursor 1\n" ++ replicate 262125 49) ≡ not_cursor
+unfolding cursor_on_literals
+text_too_long = refl

@@ -1,6 +1,0 @@
-use Rattle.std.proofs.Common.{◌∙◌}
-use Rattle.std.specs.Cmp.Lexicographic.{texts_ties}
-use Rattle.ocfl_cursor.proofs.pieces.is_text.Goals as goal
-
-pub returns : goal.returns
-returns c = c.eq.ensures ∙ texts_ties c.args.text.now c.args.other.now

@@ -1,11 +1,15 @@
-ghost use Rattle.std.specs.Prelude.{◌≡◌, ◌≢◌, ◌⊎◌, IsTrue};
+ghost use Rattle.std.specs.Prelude.{◌≡◌, ◌≢◌, ◌⊎◌, [], false, true, IsTrue};
+ghost use Rattle.std.specs.Io.KnownBytes.{Appends};
 ghost use Rattle.ocfl_tree.specs.Place.{Place as ModelPlace};
 ghost use Rattle.ocfl_tree.specs.Name.{IsPlace};
-ghost use Rattle.ocfl_report.specs.Text.{place_text};
+ghost use Rattle.ocfl_report.specs.Line.{found as found_in};
+ghost use Rattle.ocfl_report.specs.Text.{place_text, text};
+ghost use Rattle.ocfl_audit.specs.Audit.{audit as whole_audit};
 ghost use Rattle.ocfl_tree.specs.Tree.{Tree as Root};
 ghost use Rattle.ocfl_walk.specs.Judging.{HasShortFiles};
-ghost use Rattle.ocfl_scrub.specs.Noting.{status_of, IsCheckNote, ChecksWithNote};
+ghost use Rattle.ocfl_scrub.specs.Noting.{status_of, IsAuditNote, IsCheckNote, IsRefused, IsStatus, IsStopNote, AuditsWithNote, ChecksWithNote, WritesWhole, WritesWithStatus};
 
+use crate::auditing::{AuditEnd, audit};
 use crate::checking::{CheckEnd, End, check};
 use crate::note::Note;
 use ocfl_digest::Block;
@@ -26,8 +30,15 @@ pub fn checked<T: Tree, W: Write>(
     block: &mut Block,
     out: &mut W,
 ) -> (u8, Note)
-    ensures bad { result.1 ≡ Note.BadPath → (result.0 ≡ 2) × (store.new ≡ store.old) × (out.new ≡ out.old) }
+    // Of every store.
+    ensures bad { ((p : ModelPlace) → IsPlace p → path.now ≢ place_text p)
+        → IsRefused result.0 result.1 × (store.new ≡ store.old) × (out.new ≡ out.old) }
     ensures only_bad { result.1 ≡ Note.BadPath → (p : ModelPlace) → IsPlace p → path.now ≢ place_text p }
+    ensures status { IsStatus result.0 result.1 }
+    ensures lines { result.1 ≡ Note.Nothing → WritesWithStatus (W.contents out.old) (W.contents out.new) result.0 }
+    ensures silent { result.1 ≢ Note.Nothing → result.1 ≢ Note.OutputFailed → out.new ≡ out.old }
+
+    // Of a store that tells its tree.
     ensures told { IsTrue T.told → (root : Root) → (T.state store.old).tree ≡ root → HasShortFiles root → (p : ModelPlace) → IsPlace p → path.now ≡ place_text p
         → ChecksWithNote root (T.state store.old) (T.state store.new) (W.contents out.old) (W.contents out.new) p result.0 result.1
         ⊎ ((result.0 ≡ 3) × (result.1 ≡ Note.OutOfMemory) × (store.new ≡ store.old) × (out.new ≡ out.old)) }
@@ -39,18 +50,72 @@ pub fn checked<T: Tree, W: Write>(
     }
 }
 
+/// Audits a whole storage root, and gives the exit status with what is to be said: 0 without a finding, 1 with one, 3
+/// after a stop.
+pub fn audited<T: Tree, W: Write>(
+    alloc: Global,
+    store: &mut T,
+    block: &mut Block,
+    out: &mut W,
+) -> (u8, Note)
+    // Of every store.
+    ensures status { IsStatus result.0 result.1 }
+    ensures only { (result.1 ≢ Note.NoItem) × (result.1 ≢ Note.BadPath) }
+    ensures lines { result.1 ≡ Note.Nothing → WritesWithStatus (W.contents out.old) (W.contents out.new) result.0 }
+    ensures uncut { result.1 ≢ Note.OutputFailed → WritesWhole (W.contents out.old) (W.contents out.new) }
+
+    // Of a store that tells its tree.
+    ensures told { IsTrue T.told → (root : Root) → (T.state store.old).tree ≡ root → HasShortFiles root →
+        AuditsWithNote root (T.state store.old) (T.state store.new) (W.contents out.old) (W.contents out.new) result.0 result.1 }
+    ensures unfailing { IsTrue T.told → (root : Root) → (T.state store.old).tree ≡ root → HasShortFiles root → result.1 ≡ Note.Nothing
+        → (T.state store.new).failures ≡ (T.state store.old).failures
+        → Appends (W.contents out.old) (W.contents out.new) (text (whole_audit root [])) × (result.0 ≡ status_of (found_in (whole_audit root []))) }
+{
+    audit_noted(audit(alloc, store, block, out))
+}
+
 fn noted(end: CheckEnd) -> (u8, Note)
-    requires { end.end ≢ End.Stopped Fault.Broken }
+    requires whole { end.end ≢ End.Stopped Fault.Broken }
+    requires stopped { end.end ≢ End.Ended → end.item ≡ false }
+    requires no_item { end.item ≡ false → end.found ≡ false }
     ensures note { IsCheckNote end.item end.found end.end result.0 result.1 }
+    ensures status { IsStatus result.0 result.1 }
     ensures good_path { result.1 ≢ Note.BadPath }
+    ensures nothing { result.1 ≡ Note.Nothing → (end.item ≡ true) × (result.0 ≡ status_of end.found) }
+    ensures silent { result.1 ≢ Note.Nothing → result.1 ≢ Note.OutputFailed → (end.item ≡ false) × (end.end ≢ End.Stopped Fault.Output) }
 {
     match end.end {
         End::Ended if !end.item => (status(end.found), Note::NoItem),
         End::Ended => (status(end.found), Note::Nothing),
-        End::Stopped(Fault::Store(place)) => (3, Note::StoppedAt(place)),
-        End::Stopped(Fault::Memory) => (3, Note::OutOfMemory),
-        End::Stopped(Fault::Output) => (3, Note::OutputFailed),
-        End::Stopped(Fault::Broken) => unreachable!(),
+        End::Stopped(why) => (3, stop_note(why)),
+    }
+}
+
+fn audit_noted(end: AuditEnd) -> (u8, Note)
+    requires whole { end.end ≢ End.Stopped Fault.Broken }
+    ensures note { IsAuditNote end.found end.end result.0 result.1 }
+    ensures status { IsStatus result.0 result.1 }
+    ensures only { (result.1 ≢ Note.NoItem) × (result.1 ≢ Note.BadPath) }
+    ensures nothing { result.1 ≡ Note.Nothing → (end.end ≡ End.Ended) × (result.0 ≡ status_of end.found) }
+    ensures uncut { result.1 ≢ Note.OutputFailed → end.end ≢ End.Stopped Fault.Output }
+{
+    let AuditEnd { found, end, .. } = end;
+    match end {
+        End::Ended => (status(found), Note::Nothing),
+        End::Stopped(why) => (3, stop_note(why)),
+    }
+}
+
+// What is said after a stop.
+fn stop_note(why: Fault) -> Note
+    requires { why ≢ Fault.Broken }
+    ensures { IsStopNote why result }
+{
+    match why {
+        Fault::Store(place) => Note::StoppedAt(place),
+        Fault::Memory => Note::OutOfMemory,
+        Fault::Output => Note::OutputFailed,
+        Fault::Broken => unreachable!(),
     }
 }
 

@@ -1,16 +1,14 @@
 //! Checks of an object as a whole: the lines of its head, and whether its content is checked behind them.
 use crate::test_roots::{
     ABC_SHA256, ABC_SHA512, DECLARATION, FILE, FILE_IS_OK, INVENTORY, LONG_SIDECAR, NOTHING_SHA512,
-    SHORT_SIDECAR, expect, finds, goes_on, inventory, is_ok, is_opened, listing, object_with,
-    place_of, put, remove, rewrite, right_object, sidecar, stops,
+    SHORT_SIDECAR, ZEROS, expect, finds, goes_on, inventory, is_ok, is_opened, listing,
+    object_with, place_of, put, remove, rewrite, right_object, sidecar, stops,
 };
 use ocfl_digest::Algorithm;
 use ocfl_tree::{MemTree, Place, Point};
 use std::alloc::Global;
 use std::process::Abort;
 use std::test::Fail;
-
-const ZEROS: &str = "0000000000000000000000000000000000000000000000000000000000000000";
 
 // SHA-256 of the inventory `{}`.
 const EMPTY_SHA256: &str = "44136fa355b3678a1146ad16f7e8649e94fb4fc21fe77e8310c060f61caaff8a";

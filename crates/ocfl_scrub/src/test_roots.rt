@@ -1,5 +1,5 @@
 //! What the tests share: digests, storage roots, and what a check of them is to do.
-use crate::checked;
+use crate::{audited, checked};
 use ocfl_digest::{Algorithm, Block, Wanted, hash_bytes};
 use ocfl_tree::{MemTree, Name, Place, Tree};
 use std::alloc::Global;
@@ -15,8 +15,17 @@ pub(crate) const ABC_SHA256: &str =
 pub(crate) const ABC_SHA512: &str =
     "ddaf35a193617abacc417349ae20413112e6fa4e89a97ea20a9eeee64b55d39a2192992a274fc1a836ba3c23a3feebbd454d4423643ce80e2a9ac94fa54ca49f";
 
+pub(crate) const NOTHING_MD5: &str = "d41d8cd98f00b204e9800998ecf8427e";
+
+pub(crate) const NOTHING_SHA1: &str = "da39a3ee5e6b4b0d3255bfef95601890afd80709";
+
+pub(crate) const NOTHING_SHA256: &str =
+    "e3b0c44298fc1c149afbf4c8996fb92427ae41e4649b934ca495991b7852b855";
+
 pub(crate) const NOTHING_SHA512: &str =
     "cf83e1357eefb8bdf1542850d66d8007d620e4050b5715dc83f4a921d36ce9ce47d0d13c5d85f2b0ff8318d2877eec2f63b931bd47417a81a538327af927da3e";
+
+pub(crate) const ZEROS: &str = "0000000000000000000000000000000000000000000000000000000000000000";
 
 /// The content file of the object.
 pub(crate) const FILE: &str = "o/v1/content/f";
@@ -93,6 +102,26 @@ pub(crate) fn expect<T: Tree>(
     Ok(())
 }
 
+/// An audit of the storage root writes this text, and ends with this status and this note.
+pub(crate) fn expect_audit<T: Tree>(
+    rt: &(impl Abort + AllocGlobal),
+    store: &mut T,
+    text: &str,
+    status: u8,
+    note: &str,
+) -> Result<(), Fail> {
+    let alloc = rt.alloc();
+    let mut out = Vec::new(alloc);
+    let mut block = Block::new(alloc)?;
+    let (got, said) = audited(alloc, store, &mut block, &mut out);
+    let wrote = String::from_utf8(out)?;
+    let said = format!(in alloc; "{said}")?;
+    assert_eq!(rt; wrote.as_str(), text);
+    assert_eq!(rt; got, status, "{text}");
+    assert_eq!(rt; said.as_str(), note, "{text}");
+    Ok(())
+}
+
 /// Whether a file was opened at the place.
 pub(crate) fn is_opened(alloc: Global, store: &MemTree, place: &str) -> Result<bool, Fail> {
     let place = place_of(alloc, place)?;
@@ -119,8 +148,8 @@ pub(crate) fn listing(alloc: Global, paths: &str, fixity: &str) -> Result<String
     inventory(alloc, members.as_str())
 }
 
-/// A storage root whose object has this inventory, a right sidecar of it, and a content file `f` of the bytes `abc`.
-pub(crate) fn object_with(alloc: Global, inventory: &[u8]) -> Result<MemTree, Fail> {
+/// A storage root whose object has this inventory and a right sidecar of it, and no content.
+pub(crate) fn object_without_files(alloc: Global, inventory: &[u8]) -> Result<MemTree, Fail> {
     let mut store = MemTree::new(alloc);
     for folder in FOLDERS {
         store.put_dir(&place_of(alloc, folder)?)?;
@@ -130,7 +159,35 @@ pub(crate) fn object_with(alloc: Global, inventory: &[u8]) -> Result<MemTree, Fa
     put(alloc, &mut store, DECLARATION, b"ocfl_object_1.1\n")?;
     put(alloc, &mut store, INVENTORY, inventory)?;
     put(alloc, &mut store, SHORT_SIDECAR, right.as_bytes())?;
+    Ok(store)
+}
+
+/// That root, with a content file `f` of the bytes `abc`.
+pub(crate) fn object_with(alloc: Global, inventory: &[u8]) -> Result<MemTree, Fail> {
+    let mut store = object_without_files(alloc, inventory)?;
     put(alloc, &mut store, FILE, b"abc")?;
+    Ok(store)
+}
+
+/// A storage root whose object has an inventory by sha256 with this manifest and this fixity block, and no content.
+pub(crate) fn object_listing(alloc: Global, manifest: &str, fixity: &str) -> Result<MemTree, Fail> {
+    let members = format!(in alloc;
+        "\"digestAlgorithm\":\"sha256\",\"manifest\":{{{manifest}}},\"fixity\":{{{fixity}}}"
+    )?;
+    object_without_files(alloc, inventory(alloc, members.as_str())?.as_bytes())
+}
+
+/// A storage root whose object has an inventory by sha512 that lists `f` under this digest, and a content file `f` of
+/// the bytes `abc`.
+pub(crate) fn long_object(alloc: Global, digest: &str) -> Result<MemTree, Fail> {
+    let members = format!(in alloc;
+        "\"digestAlgorithm\":\"sha512\",\"manifest\":{{\"{digest}\":[\"v1/content/f\"]}}"
+    )?;
+    let inventory = inventory(alloc, members.as_str())?;
+    let mut store = object_with(alloc, inventory.as_bytes())?;
+    let right = sidecar(alloc, Algorithm::Sha512, inventory.as_bytes())?;
+    remove(alloc, &mut store, SHORT_SIDECAR)?;
+    put(alloc, &mut store, LONG_SIDECAR, right.as_bytes())?;
     Ok(store)
 }
 

@@ -1,7 +1,7 @@
 use crate::checked;
 use crate::test_roots::{
-    ABC_MD5, ABC_SHA256, ABC_SHA512, FILE, FOLDERS, NOTHING_SHA512, expect, is_opened, place_of,
-    put, remove, sidecar,
+    ABC_MD5, ABC_SHA256, ABC_SHA512, FILE, FOLDERS, NOTHING_MD5, NOTHING_SHA1, NOTHING_SHA256,
+    NOTHING_SHA512, expect, is_opened, place_of, put, remove, sidecar,
 };
 use ocfl_digest::{Algorithm, Block};
 use ocfl_tree::{FsTree, MemTree, Point};
@@ -103,6 +103,20 @@ fn bad_path(rt: HostRuntime) -> Result<(), Fail> {
 }
 
 #[test]
+fn long_bad_paths(rt: HostRuntime) -> Result<(), Fail> {
+    let alloc = rt.alloc();
+    let mut store = right_root(alloc)?;
+    let many = "o/".repeat(alloc, 100)?;
+    let long = "x".repeat(alloc, 256)?;
+    for path in ["", "..", "%41", many.as_str(), long.as_str()] {
+        expect(&rt, &mut store, path, "", 2, "bad path")?;
+    }
+    assert_eq!(rt; store.listings().len(), 0);
+    assert_eq!(rt; store.openings().len(), 0);
+    Ok(())
+}
+
+#[test]
 fn heads_that_stop(rt: HostRuntime) -> Result<(), Fail> {
     let alloc = rt.alloc();
     for inventory in ["abc", "{}"] {
@@ -135,14 +149,8 @@ fn fixity_is_compared_too(rt: HostRuntime) -> Result<(), Fail> {
     expect(&rt, &mut store, FILE, text, 1, "")
 }
 
-// Further digests of `abc`, and of no bytes (FIPS 180-4, RFC 1321).
+// Further digests of `abc`, and of no bytes (FIPS 180-4).
 const ABC_SHA512_256: &str = "53048e2681941ef99b2e29b76b4c7dabe4c2d0c634fc6d46e0e2f13107e7af23";
-
-const NOTHING_MD5: &str = "d41d8cd98f00b204e9800998ecf8427e";
-
-const NOTHING_SHA1: &str = "da39a3ee5e6b4b0d3255bfef95601890afd80709";
-
-const NOTHING_SHA256: &str = "e3b0c44298fc1c149afbf4c8996fb92427ae41e4649b934ca495991b7852b855";
 
 const NOTHING_SHA512_256: &str = "c672b8d1ef56ed28ab87c3622c5114069bdd3ad7b8f9737498d0c01ecef0967a";
 

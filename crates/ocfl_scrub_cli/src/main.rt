@@ -4,7 +4,7 @@
 use clap::error::ErrorKind;
 use clap::{Arg, ArgMatches, Command};
 use ocfl_digest::Block;
-use ocfl_scrub::{Note, checked};
+use ocfl_scrub::{Note, audited, checked};
 use ocfl_tree::FsTree;
 use std::alloc::{AllocError, Global};
 use std::process::ExitCode;
@@ -17,18 +17,42 @@ const USAGE: u8 = 2;
 /// The exit status of a run that stopped.
 const STOPPED: u8 = 3;
 
-fn check_command<'a>(alloc: Global) -> Result<Command<'a>, AllocError> {
-    let root = Arg::new(alloc, "root")
+/// What is to be done.
+#[derive(Clone, Copy)]
+enum Deed<'a> {
+    Audit,
+    /// The place with this path is checked.
+    Check(&'a str),
+}
+
+/// What a command line asks for, and the folder of the storage root.
+#[derive(Clone, Copy)]
+struct Asked<'a> {
+    deed: Deed<'a>,
+    root: &'a str,
+}
+
+fn root_arg<'a>(alloc: Global) -> Arg<'a> {
+    Arg::new(alloc, "root")
         .value_name("ROOT")
         .help("The folder of the storage root")
-        .required(true);
+        .required(true)
+}
+
+fn audit_command<'a>(alloc: Global) -> Result<Command<'a>, AllocError> {
+    Command::new(alloc, "audit")
+        .about("Writes the report lines of the whole storage root")
+        .arg(root_arg(alloc))
+}
+
+fn check_command<'a>(alloc: Global) -> Result<Command<'a>, AllocError> {
     let path = Arg::new(alloc, "path")
         .value_name("PATH")
         .help("A place in it, written as in report lines")
         .required(true);
     Command::new(alloc, "check")
         .about("Writes the report lines of one place")
-        .arg(root)?
+        .arg(root_arg(alloc))?
         .arg(path)
 }
 
@@ -36,25 +60,34 @@ fn command<'a>(alloc: Global) -> Result<Command<'a>, AllocError> {
     Command::new(alloc, "ocfl-scrub")
         .about("Audits the fixity of OCFL 1.1 storage roots")
         .subcommand_required(true)
+        .subcommand(audit_command(alloc)?)?
         .subcommand(check_command(alloc)?)
 }
 
-/// The root and the path that a command line asks to check.
-fn asked<'a>(matches: &ArgMatches<'a>) -> Option<(&'a str, &'a str)> {
-    let (_, inner) = matches.subcommand()?;
-    Some((inner.get_str("root")?, inner.get_str("path")?))
+fn asked_by<'a>(matches: &ArgMatches<'a>) -> Option<Asked<'a>> {
+    let (name, inner) = matches.subcommand()?;
+    let deed = if name == "audit" {
+        Deed::Audit
+    } else {
+        Deed::Check(inner.get_str("path")?)
+    };
+    let root = inner.get_str("root")?;
+    Some(Asked { deed, root })
 }
 
-/// Checks one place of a folder, and gives the status with what is to be said.
-fn check_folder<R: Files + AllocGlobal + Print>(rt: &R, root: &str, path: &str) -> (u8, Note) {
-    let Ok(mut store) = FsTree::at(rt, root) else {
+/// Does what is asked over a folder, and gives the status with what is to be said.
+fn perform<R: Files + AllocGlobal + Print>(rt: &R, asked: Asked) -> (u8, Note) {
+    let Ok(mut store) = FsTree::at(rt, asked.root) else {
         return (STOPPED, Note::OutOfMemory);
     };
     let Ok(mut block) = Block::new(rt.alloc()) else {
         return (STOPPED, Note::OutOfMemory);
     };
     let mut out = io::writer(rt);
-    checked(rt.alloc(), &mut store, path, &mut block, &mut out)
+    match asked.deed {
+        Deed::Audit => audited(rt.alloc(), &mut store, &mut block, &mut out),
+        Deed::Check(path) => checked(rt.alloc(), &mut store, path, &mut block, &mut out),
+    }
 }
 
 /// Says what a command ended with, where there is something to say.
@@ -85,11 +118,11 @@ fn run<R: Files + Env + AllocGlobal + Print + Eprint>(rt: &R) -> io::Result<u8> 
             return Ok(if error.use_stderr() { USAGE } else { 0 });
         }
     };
-    let Some((root, path)) = asked(&matches) else {
+    let Some(asked) = asked_by(&matches) else {
         eprintln!(rt; "ocfl-scrub: a value is missing")?;
         return Ok(USAGE);
     };
-    let (status, note) = check_folder(rt, root, path);
+    let (status, note) = perform(rt, asked);
     say(rt, &note)?;
     Ok(status)
 }

@@ -1,0 +1,178 @@
+-- Audits one after the other.
+use Rattle.std.proofs.Common.{◌≡◌, inl, inr, ℕ, ◌+◌, List, [], ◌∷◌, ◌++◌, refl, sym, ◌∙◌, ap, subst, true, false, Bool, map, filter, Some, None, not, length, length-append, append_assoc, append-nil, arith}
+use Rattle.std.specs.Prelude.{cond}
+use Rattle.std.specs.Ordering.{is_eq}
+use Rattle.std.specs.declared.cmp.Ordering.{Ordering}
+use Rattle.std.specs.declared.cmp.Ordering.TheVariants.{Less, Equal, Greater}
+use Rattle.ocfl_tree.specs.Place.{Place, place_cmp, place_eq}
+use Rattle.ocfl_tree.specs.Ascending.{IsAscending, IsAmong}
+use Rattle.ocfl_tree.specs.Tree.{Tree}
+use Rattle.ocfl_tree.specs.Store.{Store, Did}
+use Rattle.ocfl_tree.specs.Calls.{opening}
+use Rattle.ocfl_tree.specs.declared.store.Opening.{Opening}
+use Rattle.ocfl_tree.proofs.Stores.{did_both}
+use Rattle.ocfl_tree.proofs.Orders.{place_cmp_total, place_cmp_exact, not_below_itself, before_each, among_from_filter}
+use Rattle.ocfl_report.specs.Line.{lines_at}
+use Rattle.ocfl_audit.specs.Zone.{zone}
+use Rattle.ocfl_audit.specs.Lines.{notes, cost, is_hashed}
+use Rattle.ocfl_audit.specs.Audit.{Unread, given_by, item_of}
+use Rattle.ocfl_audit.specs.Trail.{is_meta, content_openings, content_trail, unread_of, heads_of, inventory_of}
+use Rattle.ocfl_audit.specs.Due.{items_at, hashed_among}
+use Rattle.ocfl_walk.specs.Auditing.{Audits, Fails, FailedAt, in_listing, in_opening}
+use Rattle.ocfl_walk.specs.declared.fault.Fault.{Fault}
+use Rattle.ocfl_scrub.proofs.Lists.{map_append, filter_append, ascends_across}
+
+-- ---- what two trails show
+
+pub unread_append : (root : Tree) (os os' : List Opening) → unread_of root (os ++ os') ≡ unread_of root os ++ unread_of root os'
+unread_append root os os' =
+    ap (λ xs. map (λ o. (o.place, o.given)) (filter (λ o. o.failed) xs)) (filter_append (λ o. not (is_meta root o.place)) os os')
+    ∙ ap (map (λ o. (o.place, o.given))) (filter_append (λ o. o.failed) (content_openings root os) (content_openings root os'))
+    ∙ map_append (λ o. (o.place, o.given)) (filter (λ o. o.failed) (content_openings root os)) (filter (λ o. o.failed) (content_openings root os'))
+
+trail_append : (root : Tree) (os os' : List Opening) → content_trail root (os ++ os') ≡ content_trail root os ++ content_trail root os'
+trail_append root os os' =
+    ap (map (λ o. o.place)) (filter_append (λ o. not (is_meta root o.place)) os os')
+    ∙ map_append (λ o. o.place) (content_openings root os) (content_openings root os')
+
+heads_append : (root : Tree) (os os' : List Opening) → heads_of root (os ++ os') ≡ heads_of root os ++ heads_of root os'
+heads_append root [] os' = refl
+heads_append root (o ∷ os) os' =
+    ap (λ ps. inventory_of (zone root o.place) ++ ps) (heads_append root os os') ∙ sym (append_assoc (inventory_of (zone root o.place)) (heads_of root os) (heads_of root os'))
+
+pub hashed_append : (root : Tree) (ps qs : List Place) → hashed_among root (ps ++ qs) ≡ hashed_among root ps ++ hashed_among root qs
+unfolding hashed_among
+hashed_append root ps qs = filter_append (is_hashed root) ps qs
+
+hashed_are_among : (root : Tree) (ps : List Place) (p : Place) → IsAmong (hashed_among root ps) p → IsAmong ps p
+unfolding hashed_among
+hashed_are_among root ps p i = (among_from_filter (is_hashed root) ps p i).0
+
+failed_among : (os : List Opening) (p : Place) → IsAmong (map (λ (e : Place × ℕ). e.0) (map (λ (o : Opening). (o.place, o.given)) (filter (λ (o : Opening). o.failed) os))) p → IsAmong (map (λ o. o.place) os) p
+failed_among [] p i = i
+failed_among (o ∷ os) p i = by o.failed i (failed_among os p)
+  where
+    by : (b : Bool) → IsAmong (map (λ (e : Place × ℕ). e.0) (map (λ o. (o.place, o.given)) (cond b (o ∷ filter (λ o. o.failed) os) (filter (λ o. o.failed) os)))) p
+        → (IsAmong (map (λ (e : Place × ℕ). e.0) (map (λ o. (o.place, o.given)) (filter (λ o. o.failed) os))) p → IsAmong (map (λ o. o.place) os) p) → IsAmong (o.place ∷ map (λ o. o.place) os) p
+    by true (inl e) k = inl e
+    by true (inr j) k = inr (k j)
+    by false j k = inr (k j)
+
+-- ---- what is given at a place
+
+module _ (p : Place) where
+  given_none : (u : Unread) → (IsAmong (map (λ (e : Place × ℕ). e.0) u) p → ⊥) → given_by u p ≡ None
+  given_none [] h = refl
+  given_none (e ∷ u) h = by (place_cmp e.0 p) refl (given_none u (λ i. h (inr i)))
+    where
+      by : (r : Ordering) → place_cmp e.0 p ≡ r → given_by u p ≡ None → cond (is_eq r) (Some e.1) (given_by u p) ≡ None
+      by Less f k = k
+      by Equal f k = absurd (h (inl (sym (place_cmp_exact e.0 p f))))
+      by Greater f k = k
+
+  given_left : (u v : Unread) → given_by v p ≡ None → given_by (u ++ v) p ≡ given_by u p
+  given_left [] v h = h
+  given_left (e ∷ u) v h = ap (cond (place_eq e.0 p) (Some e.1)) (given_left u v h)
+
+  given_right : (u v : Unread) → (IsAmong (map (λ (e : Place × ℕ). e.0) u) p → ⊥) → given_by (u ++ v) p ≡ given_by v p
+  given_right [] v h = refl
+  given_right (e ∷ u) v h = by (place_cmp e.0 p) refl (given_right u v (λ i. h (inr i)))
+    where
+      by : (r : Ordering) → place_cmp e.0 p ≡ r → given_by (u ++ v) p ≡ given_by v p → cond (is_eq r) (Some e.1) (given_by (u ++ v) p) ≡ given_by v p
+      by Less f k = k
+      by Equal f k = absurd (h (inl (sym (place_cmp_exact e.0 p f))))
+      by Greater f k = k
+
+-- a place that is none of ps is not unread in a trail over ps
+not_unread : (root : Tree) (os : List Opening) (ps : List Place) (p : Place) → content_trail root os ≡ hashed_among root ps → (IsAmong ps p → ⊥) → IsAmong (map (λ (e : Place × ℕ). e.0) (unread_of root os)) p → ⊥
+not_unread root os ps p e h i = h (hashed_are_among root ps p (subst (λ qs. IsAmong qs p) e (failed_among (content_openings root os) p i)))
+
+not_after : (ps qs : List Place) (p : Place) → IsAscending place_cmp (ps ++ qs) → IsAmong ps p → IsAmong qs p → ⊥
+not_after ps qs p h i j = not_below_itself place_cmp_total p (before_each place_cmp p qs (ascends_across place_cmp ps qs p h i) p j)
+
+-- ---- items at two trails
+
+-- what was read differs at none of the places
+abbrev AgreeAt : Unread → Unread → List Place → Type 0
+AgreeAt u v [] = Unit {0}
+AgreeAt u v (p ∷ ps) = (given_by u p ≡ given_by v p) × AgreeAt u v ps
+
+items_agree : (root : Tree) (u v : Unread) (ps : List Place) → AgreeAt u v ps → map (item_of root u) ps ≡ map (item_of root v) ps
+items_agree root u v [] h = refl
+items_agree root u v (p ∷ ps) h = ap (λ g. record { place = p; lines = lines_at p (notes root g p); cost = cost root g p } ∷ map (item_of root u) ps) h.0 ∙ ap (λ is. item_of root v p ∷ is) (items_agree root u v ps h.1)
+
+agree_all : (u v : Unread) (ps : List Place) → ((p : Place) → IsAmong ps p → given_by u p ≡ given_by v p) → AgreeAt u v ps
+agree_all u v [] h = tt
+agree_all u v (p ∷ ps) h = (h p (inl refl), agree_all u v ps (λ q i. h q (inr i)))
+
+-- a trail over later places changes nothing at earlier ones
+pub items_before : (root : Tree) (os os' : List Opening) (ps qs : List Place) → IsAscending place_cmp (ps ++ qs) → content_trail root os' ≡ hashed_among root qs → items_at root (os ++ os') ps ≡ items_at root os ps
+unfolding items_at
+items_before root os os' ps qs h e =
+    items_agree root _ _ ps (agree_all _ _ ps (λ p i.
+    ap (λ u. given_by u p) (unread_append root os os') ∙ given_left p _ _ (given_none p (unread_of root os') (not_unread root os' qs p e (not_after ps qs p h i)))))
+
+-- nor the other way round
+pub items_behind : (root : Tree) (os os' : List Opening) (ps qs : List Place) → IsAscending place_cmp (ps ++ qs) → content_trail root os ≡ hashed_among root ps → items_at root (os ++ os') qs ≡ items_at root os' qs
+unfolding items_at
+items_behind root os os' ps qs h e =
+    items_agree root _ _ qs (agree_all _ _ qs (λ p i.
+    ap (λ u. given_by u p) (unread_append root os os') ∙ given_right p _ _ (not_unread root os ps p e (λ j. not_after ps qs p h j i))))
+
+pub items_append : (root : Tree) (os : List Opening) (ps qs : List Place) → items_at root os (ps ++ qs) ≡ items_at root os ps ++ items_at root os qs
+unfolding items_at
+items_append root os ps qs = map_append _ ps qs
+
+pub items_then : (root : Tree) (os os' : List Opening) (ps qs : List Place) → IsAscending place_cmp (ps ++ qs)
+    → content_trail root os ≡ hashed_among root ps → content_trail root os' ≡ hashed_among root qs → items_at root (os ++ os') (ps ++ qs) ≡ items_at root os ps ++ items_at root os' qs
+items_then root os os' ps qs h e f =
+    items_append root (os ++ os') ps qs ∙ ap (λ is. is ++ items_at root (os ++ os') qs) (items_before root os os' ps qs h f) ∙ ap (λ is. items_at root os ps ++ is) (items_behind root os os' ps qs h e)
+
+-- ---- calls
+
+opened_then : (root : Tree) (os os' : List Opening) (ps qs : List Place) → content_trail root os ≡ hashed_among root ps → content_trail root os' ≡ hashed_among root qs
+    → content_trail root (os ++ os') ≡ hashed_among root (ps ++ qs)
+opened_then root os os' ps qs e f = trail_append root os os' ∙ ap (λ xs. xs ++ content_trail root os') e ∙ ap (λ xs. hashed_among root ps ++ xs) f ∙ sym (hashed_append root ps qs)
+
+unread_count : (root : Tree) (os os' : List Opening) → length (unread_of root (os ++ os')) ≡ length (unread_of root os) + length (unread_of root os')
+unread_count root os os' = ap length (unread_append root os os') ∙ length-append (unread_of root os) (unread_of root os')
+
+pub nothing_hashed : (root : Tree) → hashed_among root [] ≡ []
+unfolding hashed_among
+nothing_hashed root = refl
+
+pub audits_none : (root : Tree) (s : Store) → s.tree ≡ root → Audits root s s [] [] [] []
+audits_none root s h = record {
+  over = h;
+  did = record { tree = refl; openings_are = sym (append-nil s.openings); listings_are = sym (append-nil s.listings); failures_are = let e : s.failures ≡ s.failures + 0 = omega arith in e };
+  opened = sym (nothing_hashed root);
+  heads_are = refl;
+}
+
+module _ (root : Tree) (s t u : Store) (ps qs ls ls' hs hs' : List Place) (os os' : List Opening) where
+  heads_then : heads_of root os ≡ hs → heads_of root os' ≡ hs' → heads_of root (os ++ os') ≡ hs ++ hs'
+  heads_then e f = heads_append root os os' ∙ ap (λ xs. xs ++ heads_of root os') e ∙ ap (λ xs. hs ++ xs) f
+
+  pub audits_then : Audits root s t ps ls hs os → Audits root t u qs ls' hs' os' → Audits root s u (ps ++ qs) (ls ++ ls') (hs ++ hs') (os ++ os')
+  audits_then h k = record {
+    over = h.over;
+    did = subst (Did s u (os ++ os') (ls ++ ls')) (sym (unread_count root os os')) (did_both s t u os os' ls ls' _ _ h.did k.did);
+    opened = opened_then root os os' ps qs h.opened k.opened;
+    heads_are = heads_then h.heads_are k.heads_are;
+  }
+
+  failed_then : (q : Place) → FailedAt ls' os' q → FailedAt (ls ++ ls') (os ++ os') q
+  failed_then q (in_listing before e) = in_listing (ls ++ before) (ap (λ xs. ls ++ xs) e ∙ sym (append_assoc ls before (q ∷ [])))
+  failed_then q (in_opening before given e) = in_opening (os ++ before) given (ap (λ xs. os ++ xs) e ∙ sym (append_assoc os before (opening q given true ∷ [])))
+
+  pub fails_then : (why : Fault) → Audits root s t ps ls hs os → Fails root t u qs ls' hs' os' why → Fails root s u (ps ++ qs) (ls ++ ls') (hs ++ hs') (os ++ os') why
+  fails_then why h k = record {
+    over = h.over;
+    did = subst (Did s u (os ++ os') (ls ++ ls')) (let c = unread_count root os os' in omega (arith, c)) (did_both s t u os os' ls ls' _ _ h.did k.did);
+    opened = opened_then root os os' ps qs h.opened k.opened;
+    heads_are = heads_then h.heads_are k.heads_are;
+    store = λ q e. ((k.store q e).0, failed_then q (k.store q e).1);
+  }
+
+pub audits_over : {root : Tree} {s t : Store} {ps ls hs : List Place} {os : List Opening} → Audits root s t ps ls hs os → t.tree ≡ root
+audits_over h = h.did.tree ∙ h.over

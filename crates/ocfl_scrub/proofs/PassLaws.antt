@@ -1,0 +1,222 @@
+-- A pass, item by item, and its ends.
+use Rattle.std.proofs.Common.{◌≡◌, ◌≢◌, ℕ, List, [], ◌∷◌, ◌++◌, refl, sym, ◌∙◌, ap, subst, true, false, Bool, Some, None, Option, append-nil, append_assoc, take, not}
+use Rattle.std.specs.Prelude.{◌||◌}
+use Rattle.std.specs.List.{list_any}
+use Rattle.std.specs.Ordering.{is_lt}
+use Rattle.std.specs.Io.KnownBytes.{Appends}
+use Rattle.std.proofs.KnownBytes.{Appends-nil, Appends-trans}
+use Rattle.ocfl_tree.specs.Place.{Place, place_cmp}
+use Rattle.ocfl_tree.specs.Ascending.{ascending, IsAscending}
+use Rattle.ocfl_tree.specs.Tree.{Tree}
+use Rattle.ocfl_tree.specs.Store.{Store}
+use Rattle.ocfl_tree.specs.declared.store.Opening.{Opening}
+use Rattle.ocfl_tree.proofs.Orders.{place_cmp_total, ascends_filter, ascends_ascending}
+use Rattle.ocfl_report.specs.Line.{Line, Item, has_finding, found, is_finding_code}
+use Rattle.ocfl_report.specs.Text.{lines_text, text, line_text}
+use Rattle.ocfl_audit.specs.Audit.{candidates}
+use Rattle.ocfl_audit.specs.Lines.{is_empty, notes}
+use Rattle.ocfl_audit.specs.Due.{item_places, due, items_at, hashed_among}
+use Rattle.ocfl_audit.specs.Trail.{content_trail}
+use Rattle.ocfl_audit.specs.Between.{IsBeyond, looked_between, read_between}
+use Rattle.ocfl_walk.specs.Auditing.{Audits, Fails, Walks, WalkFails}
+use Rattle.ocfl_walk.specs.declared.fault.Fault.{Fault}
+use Rattle.ocfl_walk.specs.declared.fault.Fault.TheVariants.{Output}
+use Rattle.ocfl_scrub.specs.Taking.{WritesLines, PartOf, Takes, Misses}
+use Rattle.ocfl_scrub.specs.Passing.{last_of, up_to_last, Passes, Finishes, Halts}
+use Rattle.ocfl_scrub.proofs.Lists.{flat_append, ascends_left}
+use Rattle.ocfl_scrub.proofs.AuditingLaws.{audits_none, audits_then, fails_then, items_before, items_behind, items_then}
+use Rattle.ocfl_scrub.proofs.BetweenLaws.{HasGoneOn, looked_self, looked_next, looked_end, looked_front, read_self, read_next, read_end, read_front, front_behind}
+use Rattle.ocfl_scrub.proofs.TakeLaws.{nothing_of}
+
+-- ---- texts and findings of what follows
+
+pub text_append : (xs ys : List Item) → text (xs ++ ys) ≡ text xs ++ text ys
+text_append xs ys = flat_append (λ i. lines_text i.lines) xs ys
+
+any_append : {A : Type 0} (test : A → Bool) (xs ys : List A) → list_any test (xs ++ ys) ≡ (list_any test xs || list_any test ys)
+any_append test [] ys = refl
+any_append test (x ∷ xs) ys = ap (λ b. test x || b) (any_append test xs ys) ∙ by (test x)
+  where
+    by : (b : Bool) → (b || (list_any test xs || list_any test ys)) ≡ ((b || list_any test xs) || list_any test ys)
+    by true = refl
+    by false = refl
+
+found_append : (xs ys : List Item) → found (xs ++ ys) ≡ (found xs || found ys)
+found_append xs ys = any_append has_finding xs ys
+
+-- ---- on every store
+
+pub lines_then : (old mid new : Option (List ℕ)) (a b either : Bool) → WritesLines old mid a → WritesLines mid new b → either ≡ (a || b) → WritesLines old new either
+lines_then old mid new a b either h k e =
+    let test = λ (l : Line). is_finding_code l.code in (
+      h.0 ++ k.0,
+      subst (Appends old new) (sym (flat_append line_text h.0 k.0)) (Appends-trans old mid new _ _ h.1 k.1),
+      e ∙ ap (λ x. x || b) h.2 ∙ ap (λ x. list_any test h.0 || x) k.2 ∙ sym (any_append test h.0 k.0),
+    )
+
+-- ---- what is due
+
+items_ascend : (root : Tree) → IsAscending place_cmp (item_places root)
+unfolding item_places
+items_ascend root = ascends_filter place_cmp (λ p. not (is_empty (notes root None p))) (ascending place_cmp (candidates root)) (ascends_ascending place_cmp_total (candidates root))
+
+due_ascends : (root : Tree) (last : Option Place) → IsAscending place_cmp (due root last)
+unfolding due
+due_ascends root None = items_ascend root
+due_ascends root (Some p) = ascends_filter place_cmp (λ q. is_lt (place_cmp p q)) (item_places root) (items_ascend root)
+
+front_ascends : (root : Tree) (from : Option Place) (ps qs rest : List Place) → due root from ≡ ps ++ (qs ++ rest) → IsAscending place_cmp (ps ++ qs)
+front_ascends root from ps qs rest e =
+    ascends_left place_cmp (ps ++ qs) rest (subst (IsAscending place_cmp) (e ∙ sym (append_assoc ps qs rest)) (due_ascends root from))
+
+pub last_append : (from : Option Place) (ps : List Place) (p : Place) → last_of from (ps ++ p ∷ []) ≡ Some p
+last_append from [] p = refl
+last_append from (q ∷ ps) p = last_append (Some q) ps p
+
+no_items : (root : Tree) (os : List Opening) → items_at root os [] ≡ []
+unfolding items_at
+no_items root os = refl
+
+take_nothing : {A : Type 0} (xs : List A) → take 0 xs ≡ []
+take_nothing [] = refl
+take_nothing (x ∷ xs) = refl
+
+-- ---- a walk to a place, and then what was done there
+
+module _ (root : Tree) (p : Place) (w : List Opening) (meta : content_trail root w ≡ hashed_among root []) where
+  -- a walk has no part in the items
+  walked_items : (os : List Opening) → items_at root (w ++ os) (p ∷ []) ≡ items_at root os (p ∷ [])
+  walked_items os = items_behind root w os [] (p ∷ []) (tt, tt) meta
+
+module _ (root : Tree) (t u v : Store) (last to : Option Place) (w : Walks root t u last to) where
+  walk_then : (qs : List Place) (os : List Opening) → Audits root u v qs [] [] os → Audits root t v qs (looked_between root last to) (read_between root last to) (w.trail ++ os)
+  walk_then qs os k =
+      subst (λ hs. Audits root t v qs (looked_between root last to) hs (w.trail ++ os)) (append-nil (read_between root last to))
+      (subst (λ ls. Audits root t v qs ls (read_between root last to ++ []) (w.trail ++ os)) (append-nil (looked_between root last to))
+      (audits_then root t u v [] qs (looked_between root last to) [] (read_between root last to) [] w.trail os w.audits k))
+
+  walk_then_fails : (qs : List Place) (os : List Opening) (why : Fault) → Fails root u v qs [] [] os why → Fails root t v qs (looked_between root last to) (read_between root last to) (w.trail ++ os) why
+  walk_then_fails qs os why k =
+      subst (λ hs. Fails root t v qs (looked_between root last to) hs (w.trail ++ os) why) (append-nil (read_between root last to))
+      (subst (λ ls. Fails root t v qs ls (read_between root last to ++ []) (w.trail ++ os) why) (append-nil (looked_between root last to))
+      (fails_then root t u v [] qs (looked_between root last to) [] (read_between root last to) [] w.trail os why w.audits k))
+
+-- ---- a pass begins
+
+pub passes_none : (root : Tree) (s : Store) (old : Option (List ℕ)) (from : Option Place) → s.tree ≡ root → Passes root s s old old from from false
+passes_none root s old from over = record {
+  done = [];
+  trail = [];
+  audits = subst (λ hs. Audits root s s [] (up_to_last (looked_between root) from from) hs []) (sym (read_self root from))
+      (subst (λ ls. Audits root s s [] ls [] []) (sym (looked_self root from)) (audits_none root s over));
+  due_are = refl;
+  last_is = refl;
+  wrote = subst (λ is. Appends old old (text is)) (sym (no_items root [])) (Appends-nil old);
+  found_is = sym (ap found (no_items root []));
+}
+
+pub passes_over : {root : Tree} {s t : Store} {old new : Option (List ℕ)} {from last : Option Place} {finding : Bool} → Passes root s t old new from last finding → t.tree ≡ root
+passes_over h = h.audits.did.tree ∙ h.audits.over
+
+-- ---- a pass goes on
+
+module _ (root : Tree) (s t u : Store) (old mid : Option (List ℕ)) (from last : Option Place) (finding : Bool) (low : HasGoneOn from last) (h : Passes root s t old mid from last finding) where
+  module _ (p : Place) (up : IsBeyond last p) (least : due root last ≡ p ∷ due root (Some p)) (w : Walks root t u last (Some p)) (v : Store) (new : Option (List ℕ)) where
+    due_with : due root from ≡ h.done ++ ((p ∷ []) ++ due root (Some p))
+    due_with = h.due_are ∙ ap (λ ps. h.done ++ ps) least
+
+    with_ascends : IsAscending place_cmp (h.done ++ p ∷ [])
+    with_ascends = front_ascends root from h.done (p ∷ []) (due root (Some p)) due_with
+
+    pub passes_took : (cost : ℕ) (more either : Bool) → Takes root u v mid new p cost more → either ≡ (finding || more) → Passes root s v old new from (Some p) either
+    passes_took cost more either k f =
+        let both : Audits root t v (p ∷ []) (looked_between root last (Some p)) (read_between root last (Some p)) (w.trail ++ k.trail) = walk_then root t u v last (Some p) w (p ∷ []) k.trail k.audits in
+        let here : items_at root (w.trail ++ k.trail) (p ∷ []) ≡ items_at root k.trail (p ∷ []) = walked_items root p w.trail w.audits.opened k.trail in
+        let same : items_at root (h.trail ++ (w.trail ++ k.trail)) (h.done ++ p ∷ []) ≡ items_at root h.trail h.done ++ items_at root k.trail (p ∷ []) =
+        items_then root h.trail (w.trail ++ k.trail) h.done (p ∷ []) with_ascends h.audits.opened both.opened ∙ ap (λ is. items_at root h.trail h.done ++ is) here in
+        record {
+          done = h.done ++ p ∷ [];
+          trail = h.trail ++ (w.trail ++ k.trail);
+          audits = subst (λ hs. Audits root s v (h.done ++ p ∷ []) (looked_between root from (Some p)) hs (h.trail ++ (w.trail ++ k.trail))) (read_next root from last low p up)
+              (subst (λ ls. Audits root s v (h.done ++ p ∷ []) ls (up_to_last (read_between root) from last ++ read_between root last (Some p)) (h.trail ++ (w.trail ++ k.trail))) (looked_next root from last low p up)
+              (audits_then root s t v h.done (p ∷ []) _ _ _ _ h.trail (w.trail ++ k.trail) h.audits both));
+          due_are = due_with ∙ sym (append_assoc h.done (p ∷ []) (due root (Some p)));
+          last_is = sym (last_append from h.done p);
+          wrote = subst (Appends old new) (sym (text_append (items_at root h.trail h.done) (items_at root k.trail (p ∷ []))) ∙ ap text (sym same)) (Appends-trans old mid new _ _ h.wrote k.wrote);
+          found_is = f ∙ ap (λ b. b || more) h.found_is ∙ ap (λ b. found (items_at root h.trail h.done) || b) k.found_is
+              ∙ sym (found_append (items_at root h.trail h.done) (items_at root k.trail (p ∷ []))) ∙ ap found (sym same);
+        }
+
+    -- the item was not taken
+    pub passes_missed : (why : Fault) → Misses root u v mid new p why → Halts root s v old new from last finding why
+    passes_missed why k =
+        let trail : List Opening = h.trail ++ (w.trail ++ k.trail) in
+        let both = walk_then_fails root t u v last (Some p) w k.begun k.trail why k.fails in
+        let next_is : take 1 (due root last) ≡ p ∷ [] = ap (take 1) least ∙ ap (λ ps. p ∷ ps) (take_nothing (due root (Some p))) in
+        let due_begun : due root from ≡ h.done ++ (k.begun ++ (k.one.0 ++ due root (Some p))) =
+        due_with ∙ ap (λ ps. h.done ++ ps) (ap (λ ps. ps ++ due root (Some p)) k.one.1 ∙ append_assoc k.begun k.one.0 (due root (Some p))) in
+        let before : items_at root trail h.done ≡ items_at root h.trail h.done =
+        items_before root h.trail (w.trail ++ k.trail) h.done k.begun (front_ascends root from h.done k.begun (k.one.0 ++ due root (Some p)) due_begun) both.opened in
+        let next : items_at root k.trail (p ∷ []) ≡ items_at root trail (take 1 (due root last)) =
+        sym (ap (items_at root trail) next_is ∙ items_behind root h.trail (w.trail ++ k.trail) h.done (p ∷ []) with_ascends h.audits.opened ∙ walked_items root p w.trail w.audits.opened k.trail) in
+        record {
+          done = h.done;
+          begun = k.begun;
+          trail = trail;
+          listed = up_to_last (looked_between root) from last ++ looked_between root last (Some p);
+          heads = up_to_last (read_between root) from last ++ read_between root last (Some p);
+          fails = fails_then root s t v h.done k.begun _ _ _ _ h.trail (w.trail ++ k.trail) why h.audits both;
+          listed_front = front_behind _ _ _ _ (looked_end root from last low) (looked_front root last p up);
+          heads_front = front_behind _ _ _ _ (read_end root from last low) (read_front root last p up);
+          due_are = h.due_are;
+          one = (k.one.0, next_is ∙ k.one.1);
+          last_is = h.last_is;
+          part = k.part;
+          wrote = subst (λ is. Appends old new (text is ++ k.part)) (sym before) (Appends-trans old mid new _ _ h.wrote k.wrote);
+          part_of = subst (λ is. PartOf why (text is) k.part) next k.part_of;
+          found_is = h.found_is ∙ ap found (sym before);
+        }
+
+  -- the walk did not get there
+  pub passes_lost : (why : Fault) → why ≢ Output → WalkFails root t u last why → Halts root s u old mid from last finding why
+  passes_lost why other w =
+      let trail : List Opening = h.trail ++ w.trail in
+      let due_done : due root from ≡ h.done ++ ([] ++ due root last) = h.due_are in
+      let before : items_at root trail h.done ≡ items_at root h.trail h.done = items_before root h.trail w.trail h.done [] (front_ascends root from h.done [] (due root last) due_done) w.fails.opened in
+      record {
+        done = h.done;
+        begun = [];
+        trail = trail;
+        listed = up_to_last (looked_between root) from last ++ w.listed;
+        heads = up_to_last (read_between root) from last ++ w.heads;
+        fails = fails_then root s t u h.done [] _ _ _ _ h.trail w.trail why h.audits w.fails;
+        listed_front = front_behind _ _ _ _ (looked_end root from last low) w.listed_front;
+        heads_front = front_behind _ _ _ _ (read_end root from last low) w.heads_front;
+        due_are = h.due_are;
+        one = (take 1 (due root last), refl);
+        last_is = h.last_is;
+        part = [];
+        wrote = subst (λ xs. Appends old mid xs) (sym (append-nil (text (items_at root trail h.done))))
+            (subst (λ is. Appends old mid (text is)) (sym before) h.wrote);
+        part_of = nothing_of why other (text (items_at root trail (take 1 (due root last))));
+        found_is = h.found_is ∙ ap found (sym before);
+      }
+
+  -- nothing is left
+  pub passes_finish : Walks root t u last None → due root last ≡ [] → Finishes root s u old mid from last finding
+  passes_finish w none =
+      let trail : List Opening = h.trail ++ w.trail in
+      let done_is : h.done ≡ due root from = sym (h.due_are ∙ ap (λ ps. h.done ++ ps) none ∙ append-nil h.done) in
+      let due_done : due root from ≡ h.done ++ ([] ++ due root last) = h.due_are in
+      let before : items_at root h.trail h.done ≡ items_at root trail (due root from) =
+      sym (items_before root h.trail w.trail h.done [] (front_ascends root from h.done [] (due root last) due_done) w.audits.opened) ∙ ap (items_at root trail) done_is in
+      let joined = audits_then root s t u h.done [] _ _ _ _ h.trail w.trail h.audits w.audits in
+      record {
+        trail = trail;
+        audits = subst (λ ps. Audits root s u ps (looked_between root from None) (read_between root from None) trail) (append-nil h.done ∙ done_is)
+            (subst (λ hs. Audits root s u (h.done ++ []) (looked_between root from None) hs trail) (read_end root from last low)
+            (subst (λ ls. Audits root s u (h.done ++ []) ls (up_to_last (read_between root) from last ++ read_between root last None) trail) (looked_end root from last low) joined));
+        last_is = h.last_is ∙ ap (last_of from) done_is;
+        wrote = subst (λ is. Appends old mid (text is)) before h.wrote;
+        found_is = h.found_is ∙ ap found before;
+      }

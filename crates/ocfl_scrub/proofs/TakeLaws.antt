@@ -1,0 +1,129 @@
+-- One item, judged and written.
+use Rattle.std.proofs.Common.{◌≡◌, ◌≢◌, ℕ, ◌+◌, List, [], ◌∷◌, refl, sym, ◌∙◌, ap, subst, true, false, Bool, Option, map, take, append-nil, arith}
+use Rattle.std.specs.Prelude.{cond, ◌||◌}
+use Rattle.std.specs.List.{list_any}
+use Rattle.std.specs.Io.KnownBytes.{Appends}
+use Rattle.std.proofs.KnownBytes.{Appends-nil}
+use Rattle.ocfl_tree.specs.Place.{Text, Place}
+use Rattle.ocfl_tree.specs.Tree.{Tree}
+use Rattle.ocfl_tree.specs.Store.{Store, Did}
+use Rattle.ocfl_report.specs.Line.{Line, line_of, is_finding_code, found}
+use Rattle.ocfl_report.specs.Text.{lines_text, text}
+use Rattle.ocfl_report.specs.declared.line.Line.{Line as MadeLine}
+use Rattle.ocfl_audit.specs.Audit.{total_cost}
+use Rattle.ocfl_audit.specs.Due.{hashed_among, items_at}
+use Rattle.ocfl_walk.specs.Looking.{IsFront, failures_by}
+use Rattle.ocfl_walk.specs.Auditing.{Fails}
+use Rattle.ocfl_walk.specs.Judging.{Judges, JudgeFails}
+use Rattle.ocfl_walk.specs.declared.fault.Fault.{Fault}
+use Rattle.ocfl_walk.specs.declared.fault.Fault.TheVariants.{Store as AtStore, Memory, Output}
+use Rattle.ocfl_scrub.specs.Taking.{WritesLines, PartOf, Takes, Misses}
+use Rattle.ocfl_scrub.proofs.AuditingLaws.{audits_none, nothing_hashed}
+
+or_none : (b : Bool) → (b || false) ≡ b
+or_none true = refl
+or_none false = refl
+
+-- ---- on every store
+
+pub nothing_written : (old : Option (List ℕ)) → WritesLines old old false
+nothing_written old = ([], Appends-nil old, refl)
+
+pub lines_written : (old new : Option (List ℕ)) (lines : List Line) (piece : List ℕ) (finding : Bool) → piece ≡ lines_text lines → Appends old new piece → finding ≡ list_any (λ l. is_finding_code l.code) lines → WritesLines old new finding
+lines_written old new lines piece finding e sent finds = (lines, subst (Appends old new) e sent, finds)
+
+-- ---- on a store that tells its tree
+
+-- a fault that is not the store's, which counts no failure
+abbrev failures_none : Fault → Type 0
+failures_none why = ((n : ℕ) → n ≡ n + failures_by why) × ((q : Place) → why ≡ AtStore q → ⊥)
+
+memory_none : failures_none Memory
+memory_none = (λ n. omega arith, λ q e. cc)
+
+memory_other : Memory ≢ Output
+memory_other e = cc
+
+take_none : (xs : List ℕ) → [] ≡ take 0 xs
+take_none [] = refl
+take_none (x ∷ xs) = refl
+
+-- nothing went out
+pub nothing_of : (why : Fault) → why ≢ Output → (whole : Text) → PartOf why whole []
+nothing_of why other whole = record { gone = 0; is = take_none whole; proper = λ e. absurd (other e); none = λ _. refl }
+
+module _ (root : Tree) (s t : Store) (p : Place) (lines : List MadeLine) (cost : ℕ) (j : Judges root s t p lines cost) where
+  judged_text : lines_text (map line_of lines) ≡ text (items_at root j.trail (p ∷ []))
+  judged_text = sym (ap text j.item ∙ append-nil (lines_text (map line_of lines)))
+
+  judged_found : found (items_at root j.trail (p ∷ [])) ≡ list_any (λ l. is_finding_code l.code) (map line_of lines)
+  judged_found = ap found j.item ∙ or_none (list_any (λ l. is_finding_code l.code) (map line_of lines))
+
+  pub judged_takes : (old new : Option (List ℕ)) (piece : List ℕ) (finding : Bool) → piece ≡ lines_text (map line_of lines) → finding ≡ list_any (λ l. is_finding_code l.code) (map line_of lines)
+      → Appends old new piece → Takes root s t old new p cost finding
+  judged_takes old new piece finding e f sent = record {
+    trail = j.trail;
+    audits = j.audits;
+    alone = j.alone;
+    wrote = subst (Appends old new) (e ∙ judged_text) sent;
+    cost_is = sym (ap total_cost j.item ∙ (let z : cost + 0 ≡ cost = omega arith in z));
+    found_is = f ∙ sym judged_found;
+  }
+
+  judged_fails : (why : Fault) → failures_none why → Fails root s t (p ∷ []) [] [] j.trail why
+  judged_fails why other = record {
+    over = j.audits.over;
+    did = subst (Did s t j.trail []) (other.0 _) j.audits.did;
+    opened = j.audits.opened;
+    heads_are = j.audits.heads_are;
+    store = λ q e. absurd (other.1 q e);
+  }
+
+  -- no room for the text
+  pub judged_memory : (old : Option (List ℕ)) → Misses root s t old old p Memory
+  judged_memory old = record {
+    trail = j.trail;
+    begun = p ∷ [];
+    one = ([], refl);
+    fails = judged_fails Memory memory_none;
+    alone = j.alone;
+    part = [];
+    wrote = Appends-nil old;
+    part_of = nothing_of Memory memory_other (text (items_at root j.trail (p ∷ [])));
+  }
+
+front_of_one : (p : Place) (part : Bool) → IsFront (cond part (p ∷ []) []) (p ∷ [])
+front_of_one p true = ([], refl)
+front_of_one p false = (p ∷ [], refl)
+
+none_or_hashed : (root : Tree) (p : Place) (part : Bool) → cond part (hashed_among root (p ∷ [])) [] ≡ hashed_among root (cond part (p ∷ []) [])
+none_or_hashed root p true = refl
+none_or_hashed root p false = sym (nothing_hashed root)
+
+-- the item was not judged
+pub unjudged : (root : Tree) (s t : Store) (old : Option (List ℕ)) (p : Place) → JudgeFails root s t p → Misses root s t old old p Memory
+unjudged root s t old p j = record {
+  trail = j.trail;
+  begun = cond j.part (p ∷ []) [];
+  one = front_of_one p j.part;
+  fails = j.fails;
+  alone = j.alone ∙ none_or_hashed root p j.part;
+  part = [];
+  wrote = Appends-nil old;
+  part_of = nothing_of Memory memory_other (text (items_at root j.trail (p ∷ [])));
+}
+
+-- nothing was done
+pub unbegun : (root : Tree) (s : Store) (old : Option (List ℕ)) (p : Place) → s.tree ≡ root → Misses root s s old old p Memory
+unbegun root s old p over =
+    let none = audits_none root s over in
+    record {
+      trail = [];
+      begun = [];
+      one = (p ∷ [], refl);
+      fails = record { over = over; did = subst (Did s s [] []) (memory_none.0 _) none.did; opened = none.opened; heads_are = refl; store = λ q e. absurd (memory_none.1 q e) };
+      alone = sym (nothing_hashed root);
+      part = [];
+      wrote = Appends-nil old;
+      part_of = nothing_of Memory memory_other (text (items_at root [] (p ∷ [])));
+    }

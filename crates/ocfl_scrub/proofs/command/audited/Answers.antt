@@ -1,0 +1,13 @@
+use Rattle.ocfl_scrub.proofs.command.audited.Goals as goal
+
+pub returns-clause-told : goal.returns-clause-told
+returns-clause-told g c told root over short = record {
+  last = c.audit.result.last;
+  finding = c.audit.result.found;
+  ended = c.audit.result.end;
+  audits = c.audit.ensures.told told root over short;
+  says = c.audit_noted.ensures.note;
+}
+
+pub returns-clause-uncut : goal.returns-clause-uncut
+returns-clause-uncut g c whole = (c.audit.result.found, c.audit.ensures.lines (c.audit_noted.ensures.uncut whole))

@@ -1,0 +1,67 @@
+-- What a pass over the items above a place does: it takes one after the other.
+use Rattle.std.specs.Prelude.{◌≡◌, ℕ, List, [], ◌∷◌, ◌++◌, Bool, Option, Some, None, take}
+use Rattle.std.specs.Io.KnownBytes.{Appends}
+use Rattle.ocfl_tree.specs.Place.{Text, Place}
+use Rattle.ocfl_tree.specs.Tree.{Tree}
+use Rattle.ocfl_tree.specs.Store.{Store}
+use Rattle.ocfl_tree.specs.declared.store.Opening.{Opening}
+use Rattle.ocfl_report.specs.Line.{found}
+use Rattle.ocfl_report.specs.Text.{text}
+use Rattle.ocfl_audit.specs.Due.{due, items_at}
+use Rattle.ocfl_audit.specs.Between.{looked_between, read_between}
+use Rattle.ocfl_walk.specs.Looking.{IsFront}
+use Rattle.ocfl_walk.specs.Auditing.{Audits, Fails}
+use Rattle.ocfl_walk.specs.declared.fault.Fault.{Fault}
+use Rattle.ocfl_scrub.specs.Taking.{PartOf}
+use Rattle.ocfl_scrub.specs.declared.checking.End.{End}
+use Rattle.ocfl_scrub.specs.declared.checking.End.TheVariants as end
+
+-- the last of the places, or else the one before them
+abbrev pub last_of : Option Place → List Place → Option Place
+last_of last [] = last
+last_of last (p ∷ ps) = last_of (Some p) ps
+
+-- what lies between a place and the last one taken: nothing where there is none
+abbrev pub up_to_last : (Option Place → Option Place → List Place) → Option Place → Option Place → List Place
+up_to_last between from None = []
+up_to_last between from (Some p) = between from (Some p)
+
+-- from s to t the items above from were taken up to last, each whole
+pub record Passes (root : Tree) (s t : Store) (old new : Option (List ℕ)) (from last : Option Place) (finding : Bool) : Type 0 where
+  pub done : List Place
+  pub trail : List Opening
+  pub audits : Audits root s t done (up_to_last (looked_between root) from last) (up_to_last (read_between root) from last) trail
+  pub due_are : due root from ≡ done ++ due root last
+  pub last_is : last ≡ last_of from done
+  pub wrote : Appends old new (text (items_at root trail done))
+  pub found_is : finding ≡ found (items_at root trail done)
+
+-- from s to t all items above from were taken
+pub record Finishes (root : Tree) (s t : Store) (old new : Option (List ℕ)) (from last : Option Place) (finding : Bool) : Type 0 where
+  pub trail : List Opening
+  pub audits : Audits root s t (due root from) (looked_between root from None) (read_between root from None) trail
+  pub last_is : last ≡ last_of from (due root from)
+  pub wrote : Appends old new (text (items_at root trail (due root from)))
+  pub found_is : finding ≡ found (items_at root trail (due root from))
+
+-- from s to t the items above from were taken up to last, and then there was a fault: of the next item at most a proper beginning went out
+pub record Halts (root : Tree) (s t : Store) (old new : Option (List ℕ)) (from last : Option Place) (finding : Bool) (why : Fault) : Type 0 where
+  pub done : List Place
+  pub begun : List Place
+  pub trail : List Opening
+  pub listed : List Place
+  pub heads : List Place
+  pub fails : Fails root s t (done ++ begun) listed heads trail why
+  pub listed_front : IsFront listed (looked_between root from None)
+  pub heads_front : IsFront heads (read_between root from None)
+  pub due_are : due root from ≡ done ++ due root last
+  pub one : IsFront begun (take 1 (due root last))
+  pub last_is : last ≡ last_of from done
+  pub part : Text
+  pub wrote : Appends old new (text (items_at root trail done) ++ part)
+  pub part_of : PartOf why (text (items_at root trail (take 1 (due root last)))) part
+  pub found_is : finding ≡ found (items_at root trail done)
+
+abbrev pub PassEnds : Tree → Store → Store → Option (List ℕ) → Option (List ℕ) → Option Place → Option Place → Bool → End → Type 0
+PassEnds root s t old new from last finding end.Ended = Finishes root s t old new from last finding
+PassEnds root s t old new from last finding (end.Stopped why) = Halts root s t old new from last finding why

@@ -1,0 +1,125 @@
+//! The audit of a whole storage root.
+ghost use Rattle.std.specs.Prelude.{◌≡◌, ◌≢◌, ◌||◌, [], None, false, IsTrue};
+ghost use Rattle.std.specs.Io.KnownBytes.{Appends};
+ghost use Rattle.ocfl_report.specs.Line.{found as found_in};
+ghost use Rattle.ocfl_report.specs.Text.{text};
+ghost use Rattle.ocfl_tree.specs.Tree.{Tree as Root};
+ghost use Rattle.ocfl_audit.specs.Audit.{audit as whole_audit};
+ghost use Rattle.ocfl_walk.specs.Judging.{HasShortFiles};
+ghost use Rattle.ocfl_walk.specs.Walks.{IsLive, Stands, last_of};
+ghost use Rattle.ocfl_scrub.specs.Passing.{PassEnds};
+ghost use Rattle.ocfl_scrub.specs.Taking.{WritesLines};
+ghost use Rattle.ocfl_scrub.specs.WholeAudit.{AuditEnds};
+
+use crate::checking::End;
+use crate::taking::take_item;
+use ocfl_digest::Block;
+use ocfl_tree::{Place, Tree};
+use ocfl_walk::{Fault, Walk};
+use std::alloc::Global;
+use std::io::Write;
+
+/// What an audit did.
+#[derive(Debug, Drop)]
+pub struct AuditEnd {
+    /// Whether a line of an item that went out whole is a finding.
+    pub found: bool,
+    /// The place of the last item that went out whole.
+    pub last: Option<Place>,
+    pub end: End,
+}
+
+/// Writes the report lines of a whole storage root, item by item: the lines of one go out as one piece before the next
+/// is looked at.
+///
+/// Each content file that some digest is named for is opened once, and no other content is. One that cannot be read is
+/// reported and stops nothing. After a stop the items before it have gone out whole, and of the next at most a beginning,
+/// and nothing where it was not the output that failed.
+pub fn audit<T: Tree, W: Write>(
+    alloc: Global,
+    store: &mut T,
+    block: &mut Block,
+    out: &mut W,
+) -> AuditEnd
+    // Of every store.
+    ensures whole { result.end ≢ End.Stopped Fault.Broken }
+    ensures lines { result.end ≢ End.Stopped Fault.Output → WritesLines (W.contents out.old) (W.contents out.new) result.found }
+    ensures silent { result.last ≡ None → result.end ≢ End.Stopped Fault.Output → out.new ≡ out.old }
+    ensures none_found { result.last ≡ None → result.found ≡ false }
+
+    // Of a store that tells its tree.
+    ensures told { IsTrue T.told → (root : Root) → (T.state store.old).tree ≡ root → HasShortFiles root →
+        AuditEnds root (T.state store.old) (T.state store.new) (W.contents out.old) (W.contents out.new) result.last result.found result.end }
+    ensures unfailing { IsTrue T.told → (root : Root) → (T.state store.old).tree ≡ root → HasShortFiles root → result.end ≡ End.Ended
+        → (T.state store.new).failures ≡ (T.state store.old).failures
+        → Appends (W.contents out.old) (W.contents out.new) (text (whole_audit root [])) × (result.found ≡ found_in (whole_audit root [])) }
+{
+    match Walk::start(alloc, store, None) {
+        Ok(walk) => take_all(alloc, store, walk, None, block, out),
+        Err(why) => AuditEnd {
+            found: false,
+            last: None,
+            end: End::Stopped(why),
+        },
+    }
+}
+
+fn either(a: bool, b: bool) -> bool
+    ensures { result ≡ (a || b) }
+{
+    if a { true } else { b }
+}
+
+// Takes the items above a place, one after the other.
+fn take_all<T: Tree, W: Write>(
+    alloc: Global,
+    store: &mut T,
+    mut walk: Walk,
+    from: Option<Place>,
+    block: &mut Block,
+    out: &mut W,
+) -> AuditEnd
+    requires live { IsLive walk }
+    requires behind { last_of walk ≡ from }
+    ensures whole { result.end ≢ End.Stopped Fault.Broken }
+    ensures lines { result.end ≢ End.Stopped Fault.Output → WritesLines (W.contents out.old) (W.contents out.new) result.found }
+    ensures silent { result.last ≡ None → result.end ≢ End.Stopped Fault.Output → out.new ≡ out.old }
+    ensures none_found { result.last ≡ None → result.found ≡ false }
+    ensures told { IsTrue T.told → (root : Root) → (T.state store.old).tree ≡ root → HasShortFiles root → Stands root walk from →
+        PassEnds root (T.state store.old) (T.state store.new) (W.contents out.old) (W.contents out.new) from result.last result.found result.end }
+{
+    let mut last = from;
+    let mut found = false;
+    loop {
+        let pending = match walk.next(store) {
+            Ok(Some(pending)) => pending,
+            Ok(None) => {
+                return AuditEnd {
+                    found,
+                    last,
+                    end: End::Ended,
+                };
+            }
+            Err(why) => {
+                return AuditEnd {
+                    found,
+                    last,
+                    end: End::Stopped(why),
+                };
+            }
+        };
+        match take_item(alloc, store, &pending, block, out) {
+            Ok(taken) => {
+                found = either(found, taken.found);
+                last = Some(taken.place);
+            }
+            Err(why) => {
+                return AuditEnd {
+                    found,
+                    last,
+                    end: End::Stopped(why),
+                };
+            }
+        }
+    }
+}

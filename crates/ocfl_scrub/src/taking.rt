@@ -1,0 +1,88 @@
+//! One item: it is judged, and its lines go out as one piece.
+ghost use Rattle.std.specs.Prelude.{◌≡◌, ◌≢◌, ◌⊎◌, ℕ, IsTrue, IfErr, IfOk, map, MatchResult};
+ghost use Rattle.std.specs.List.{list_any};
+ghost use Rattle.ocfl_report.specs.Line.{line_of, is_finding_code};
+ghost use Rattle.ocfl_report.specs.Text.{lines_text};
+ghost use Rattle.ocfl_tree.specs.Tree.{Tree as Root};
+ghost use Rattle.ocfl_walk.specs.Judging.{CostFits, HasShortFiles};
+ghost use Rattle.ocfl_walk.specs.Pending.{IsPending};
+ghost use Rattle.ocfl_scrub.specs.Taking.{Misses, Takes, WritesLines};
+
+use ocfl_digest::Block;
+use ocfl_report::{Line, write_all_of};
+use ocfl_tree::{Place, Tree};
+use ocfl_walk::{Fault, Pending, judge};
+use std::alloc::{AllocError, Global};
+use std::io::Write;
+
+/// An item whose lines went out whole.
+#[derive(Debug, Drop)]
+pub(crate) struct Taken {
+    pub(crate) place: Place,
+    /// What it cost.
+    pub(crate) cost: u64,
+    /// Whether a line of it is a finding.
+    pub(crate) found: bool,
+}
+
+/// Judges an item and writes its lines as one piece.
+///
+/// A fault is `Fault::Memory`, and then nothing was written, or `Fault::Output`.
+#[tactic(auto, using(crate::proofs::TakeLaws::lines_written, crate::proofs::TakeLaws::judged_takes, crate::proofs::TakeLaws::judged_memory, crate::proofs::TakeLaws::unjudged, crate::proofs::TakeLaws::unbegun))]
+pub(crate) fn take_item<T: Tree, W: Write>(
+    alloc: Global,
+    store: &mut T,
+    pending: &Pending,
+    block: &mut Block,
+    out: &mut W,
+) -> Result<Taken, Fault>
+    // Of every store.
+    ensures place { IfOk result (λ taken. taken.place ≡ pending.now.place) }
+    ensures cost { IfOk result (λ taken. CostFits pending.now.hashed taken.cost) }
+    ensures lines { IfOk result (λ taken. WritesLines (W.contents out.old) (W.contents out.new) taken.found) }
+    ensures only { IfErr result (λ why. (why ≡ Fault.Memory) ⊎ (why ≡ Fault.Output)) }
+    ensures unwritten { IfErr result (λ why. why ≢ Fault.Output → out.new ≡ out.old) }
+
+    // Of a store that tells its tree.
+    ensures told { IsTrue T.told → (root : Root) → (T.state store.old).tree ≡ root → HasShortFiles root → IsPending root pending.now → MatchResult result
+        (λ taken. Takes root (T.state store.old) (T.state store.new) (W.contents out.old) (W.contents out.new) pending.now.place taken.cost taken.found)
+        (λ why. Misses root (T.state store.old) (T.state store.new) (W.contents out.old) (W.contents out.new) pending.now.place why) }
+{
+    // A place that is kept first cannot be wanting once the lines have gone out.
+    let Ok(place) = pending.place().try_clone() else {
+        return Err(Fault::Memory);
+    };
+    let (lines, cost) = match judge(alloc, store, pending, block) {
+        Ok(judged) => judged,
+        Err(why) => return Err(why),
+    };
+    let found = has_finding(&lines);
+    let Ok(text) = text_of(alloc, &lines) else {
+        return Err(Fault::Memory);
+    };
+    match write_all_of(out, &text) {
+        Ok(()) => Ok(Taken { place, cost, found }),
+        Err(_) => Err(Fault::Output),
+    }
+}
+
+fn text_of(alloc: Global, lines: &[Line]) -> Result<Vec<u8>, AllocError>
+    ensures { IfOk result (λ text. text.items ≡ lines_text (map line_of lines.now)) }
+{
+    let mut text = Vec::new(alloc);
+    for line in lines {
+        line.put(&mut text)?;
+    }
+    Ok(text)
+}
+
+fn has_finding(lines: &[Line]) -> bool
+    ensures { result ≡ list_any (λ l. is_finding_code l.code) (map line_of lines.now) }
+{
+    for line in lines {
+        if line.is_finding() {
+            return true;
+        }
+    }
+    false
+}

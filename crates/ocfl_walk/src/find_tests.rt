@@ -1,5 +1,6 @@
 use crate::fault::Fault;
 use crate::item::item_at;
+use crate::walk_tests::listed;
 use ocfl_tree::{MemTree, Name, Place, Point};
 use std::alloc::Global;
 use std::process::Abort;
@@ -26,10 +27,7 @@ fn put(store: &mut MemTree, alloc: Global, place: &str, text: &str) -> Result<()
     Ok(())
 }
 
-/// A storage root with the object `p/o`, and the object `p/s` whose head stops.
-fn root(alloc: Global) -> Result<MemTree, Fail> {
-    let mut store = MemTree::new(alloc);
-    put(&mut store, alloc, "0=ocfl_1.1", "ocfl_1.1\n")?;
+fn put_directories(alloc: Global, store: &mut MemTree) -> Result<(), Fail> {
     for place in [
         "empty",
         "extensions",
@@ -48,6 +46,14 @@ fn root(alloc: Global) -> Result<MemTree, Fail> {
     ] {
         store.put_dir(&place_of(alloc, place)?)?;
     }
+    Ok(())
+}
+
+/// A storage root with the object `p/o`, and the object `p/s` whose head stops.
+fn root(alloc: Global) -> Result<MemTree, Fail> {
+    let mut store = MemTree::new(alloc);
+    put(&mut store, alloc, "0=ocfl_1.1", "ocfl_1.1\n")?;
+    put_directories(alloc, &mut store)?;
     for (place, text) in [
         ("notes", "abc"),
         ("extensions/e/0=ocfl_object_1.1", "ocfl_object_1.1\n"),
@@ -197,11 +203,11 @@ fn a_root_of_no_known_version_has_one_item(rt: HostRuntime) -> Result<(), Fail> 
     Ok(())
 }
 
-/// The paths of places, one after the other.
-fn paths<'p>(alloc: Global, places: impl Iterator<Item = &'p Place>) -> Result<String, Fail> {
+/// The path of each file that was opened, oldest first.
+fn opened(alloc: Global, store: &MemTree) -> Result<String, Fail> {
     let mut text = String::new(alloc);
-    for place in places {
-        let more = format!(in alloc; "{};", place.path())?;
+    for opening in store.openings() {
+        let more = format!(in alloc; "{};", opening.place.path())?;
         text.push_str(more.as_str())?;
     }
     Ok(text)
@@ -210,7 +216,7 @@ fn paths<'p>(alloc: Global, places: impl Iterator<Item = &'p Place>) -> Result<S
 #[test]
 fn only_the_way_is_listed_and_one_inventory_read(rt: HostRuntime) -> Result<(), Fail> {
     let alloc = rt.alloc();
-    for (place, listed, opened) in [
+    for (place, listings, openings) in [
         (".", ";", "0=ocfl_1.1;"),
         ("notes", ";", ""),
         ("p/f", ";p;", ""),
@@ -231,10 +237,10 @@ fn only_the_way_is_listed_and_one_inventory_read(rt: HostRuntime) -> Result<(), 
     ] {
         let mut store = root(alloc)?;
         text_at(&mut store, alloc, place)?;
-        let text = paths(alloc, store.listings().iter())?;
-        assert_eq!(rt; text.as_str(), listed, "{place}");
-        let text = paths(alloc, store.openings().iter().map(|opening| &opening.place))?;
-        assert_eq!(rt; text.as_str(), opened, "{place}");
+        let text = listed(alloc, &store)?;
+        assert_eq!(rt; text.as_str(), listings, "{place}");
+        let text = opened(alloc, &store)?;
+        assert_eq!(rt; text.as_str(), openings, "{place}");
     }
     Ok(())
 }

@@ -220,9 +220,8 @@ fn objects_that_share_a_prefix(rt: HostRuntime) -> Result<(), Fail> {
 
 // ---- listed files that are not there
 
-#[test]
-fn missing_files_around_the_entries(rt: HostRuntime) -> Result<(), Fail> {
-    let alloc = rt.alloc();
+/// A storage root with an object that lists files which are not there, before, between and behind its entries.
+fn root_with_missing_files(alloc: Global) -> Result<MemTree, Fail> {
     let mut store = base(alloc)?;
     let manifest = format!(in alloc;
         "\"{A2}\":[\"v1/content/a/b\",\"v1/content/f\",\"v1/content/z\",\"v2/content/f\",\"v3/content/f\",\"v4/content/d/f\"]"
@@ -233,6 +232,13 @@ fn missing_files_around_the_entries(rt: HostRuntime) -> Result<(), Fail> {
     }
     put(alloc, &mut store, "o/v1/content/f", "abc")?;
     put(alloc, &mut store, "o/v3/content/f", "abc")?;
+    Ok(store)
+}
+
+#[test]
+fn missing_files_around_the_entries(rt: HostRuntime) -> Result<(), Fail> {
+    let alloc = rt.alloc();
+    let mut store = root_with_missing_files(alloc)?;
     let rows = [
         ("o", "ok|o|-\n"),
         ("o/v1/content/a/b", "E092|o/v1/content/a/b|sha256 missing\n"),
@@ -254,7 +260,15 @@ fn missing_files_around_the_entries(rt: HostRuntime) -> Result<(), Fail> {
         tail = tail.strip_prefix(lines).ok_or("no such lines")?;
         expect_after(&rt, &mut store, place, tail)?;
     }
-    // Places between the items.
+    expect_between_items(&rt, &mut store, text.as_str())
+}
+
+/// A walk entered at a place between the items gives what stands from the next one on.
+fn expect_between_items(
+    rt: &(impl Abort + AllocGlobal),
+    store: &mut MemTree,
+    text: &str,
+) -> Result<(), Fail> {
     for (place, next) in [
         ("o/inventory.json", "E092|o/v1/content/a/b|"),
         ("o/v1/content/a", "E092|o/v1/content/a/b|"),
@@ -270,7 +284,7 @@ fn missing_files_around_the_entries(rt: HostRuntime) -> Result<(), Fail> {
     ] {
         let at = text.find(next).ok_or("no such line")?;
         let tail = text.get(at..).ok_or("no such line")?;
-        expect_after(&rt, &mut store, place, tail)?;
+        expect_after(rt, store, place, tail)?;
     }
     Ok(())
 }

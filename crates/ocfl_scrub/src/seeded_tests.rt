@@ -102,9 +102,8 @@ const STRAY: [&str; 6] = [
     "v1",
 ];
 
-/// Puts an object at the path, right or wrong.
-fn grow_object(grown: &mut Grown, dice: &mut Dice, object: &str) -> Result<(), Fail> {
-    let alloc = grown.alloc;
+/// Puts the declaration of an object, mostly a right one.
+fn grow_declaration(grown: &mut Grown, dice: &mut Dice, object: &str) -> Result<(), Fail> {
     let declaration = if dice.is_one_of(9) {
         ""
     } else {
@@ -116,9 +115,14 @@ fn grow_object(grown: &mut Grown, dice: &mut Dice, object: &str) -> Result<(), F
         "0=ocfl_object_1.1"
     };
     grown.file(
-        format!(in alloc; "{object}/{name}")?.as_str(),
+        format!(in grown.alloc; "{object}/{name}")?.as_str(),
         declaration.as_bytes(),
-    )?;
+    )
+}
+
+/// Puts what may stand in an object's content directories, and gives the paths that the manifest is to list.
+fn grow_content(grown: &mut Grown, dice: &mut Dice, object: &str) -> Result<String, Fail> {
+    let alloc = grown.alloc;
     let mut listed = String::new(alloc);
     for path in CONTENT {
         let whole = format!(in alloc; "{object}/{path}")?;
@@ -132,6 +136,14 @@ fn grow_object(grown: &mut Grown, dice: &mut Dice, object: &str) -> Result<(), F
         }
         grown.any(dice, whole.as_str())?;
     }
+    Ok(listed)
+}
+
+/// Puts an object at the path, right or wrong.
+fn grow_object(grown: &mut Grown, dice: &mut Dice, object: &str) -> Result<(), Fail> {
+    let alloc = grown.alloc;
+    grow_declaration(grown, dice, object)?;
+    let listed = grow_content(grown, dice, object)?;
     for path in STRAY {
         if dice.is_one_of(3) {
             grown.any(dice, format!(in alloc; "{object}/{path}")?.as_str())?;

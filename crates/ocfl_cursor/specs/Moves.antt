@@ -9,3 +9,7 @@ next_cycle c = record { cycle = c.cycle + 1; runs = 0; spent = 0; files = 0; sta
 -- one run later, which has spent this much, started so many files and left this state
 abbrev pub after_run : Cursor → ℕ → ℕ → State → Cursor
 after_run c spent files state = record { cycle = c.cycle; runs = c.runs + 1; spent = c.spent + spent; files = c.files + files; state = state }
+
+-- the same, at the first item
+abbrev pub at_start : Cursor → Cursor
+at_start c = record { cycle = c.cycle; runs = c.runs; spent = c.spent; files = c.files; state = start }

@@ -1,10 +1,11 @@
 ghost use Rattle.std.specs.Prelude.{◌≡◌, ◌↔◌, ◌+◌, ◌<◌, ◌^◌, IsSome, IfSome, IsNone};
 ghost use Rattle.ocfl_cursor.specs.Cursor.{IsCursor, new_cursor};
 ghost use Rattle.ocfl_cursor.specs.State.{state_of, cursor_of};
-ghost use Rattle.ocfl_cursor.specs.Moves.{next_cycle, after_run};
+ghost use Rattle.ocfl_cursor.specs.Moves.{at_start, next_cycle, after_run};
 
 use crate::state::{State, is_short};
 use std::marker::Model;
+use std::mem;
 
 /// What one run leaves for the next: the cycle (1 to 2^64 - 1), how many runs it has had, what they
 /// have spent (at most 2^63 a run), how many files they have started (each costs at least 1), and
@@ -135,6 +136,15 @@ impl Cursor {
         ensures keeps { IsCursor self.now }
     {
         &self.state
+    }
+
+    /// Takes out where the next run begins, and leaves the cursor at the first item.
+    pub fn take_state(&mut self) -> State
+        ensures state { state_of result ≡ self.old.state }
+        ensures left { self.new ≡ at_start self.old }
+        ensures keeps { IsCursor self.old }
+    {
+        mem::replace(&mut self.state, State::Start)
     }
 
     /// Where the next run begins, taken out of the cursor.

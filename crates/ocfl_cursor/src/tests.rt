@@ -351,6 +351,11 @@ fn moves_on(rt: HostRuntime) -> Result<(), Fail> {
     assert_eq!(rt; (two.cycle(), two.runs()), (1, 2));
     assert_eq!(rt; (two.spent(), two.files()), (9, 3));
     assert_eq!(rt; two.state(), &State::Ended);
+    let mut taken = one;
+    let behind = State::After(place_of(rt.alloc(), &["a"])?);
+    assert_eq!(rt; taken.take_state(), behind);
+    assert_eq!(rt; taken.state(), &State::Start);
+    assert_eq!(rt; (taken.runs(), taken.spent(), taken.files()), (1, 5, 2));
     let next = two.next_cycle().ok_or("a second cycle")?;
     assert_eq!(rt; (next.cycle(), next.runs()), (2, 0));
     assert_eq!(rt; (next.spent(), next.files()), (0, 0));

@@ -1,3 +1,6 @@
+ghost use Rattle.std.specs.Prelude.{Some};
+ghost use Rattle.ocfl_report.specs.Text.{place_text};
+
 use crate::escaped::ESCAPED;
 use ocfl_tree::Place;
 use percent_encoding::percent_encode;
@@ -8,6 +11,8 @@ use std::fmt;
 pub struct DisplayPlace<'a>(pub &'a Place);
 
 impl fmt::Display for DisplayPlace<'_> {
+    ghost output = { λ d. Some (place_text d.0.now) };
+
     fn fmt<W: fmt::Write>(&self, f: &mut fmt::Formatter<W>) -> fmt::Result {
         let path = self.0.path();
         if path.is_empty() {

@@ -1,0 +1,4 @@
+pub mod Line
+pub mod Budget
+pub mod Asks
+pub mod Stop

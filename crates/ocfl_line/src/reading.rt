@@ -1,0 +1,129 @@
+ghost use Rattle.std.specs.Prelude.{◌≡◌, ℕ, ◌<◌, ◌^◌, IfOk, IfSome, IsNone, codes, option_map, string_bytes};
+ghost use Rattle.clap.specs.Words.{found_of, first_of, rows_of, subcommand_rows_of};
+ghost use Rattle.ocfl_cursor.specs.declared.limits.Limits.{Limits as LimitsOf};
+ghost use Rattle.ocfl_line.specs.Asks.{Asks, HasLimits, HasNumber, HasRuns, IsDeed};
+ghost use Rattle.ocfl_line.specs.declared.deed.Deed.{Deed as DeedOf};
+ghost use Rattle.ocfl_line.specs.declared.deed.Asked.{Asked as AskedOf};
+
+use crate::budget::read_budget;
+use crate::deed::{Asked, Deed};
+use clap::ArgMatches;
+use ocfl_cursor::{FileLimit, Limits};
+use std::alloc::{AllocError, Global};
+
+// The most runs of a cycle.
+const MAX_RUNS: usize = 100000;
+
+/// The text of an argument, where it is given.
+fn text_of<'a>(inner: &ArgMatches<'a>, id: &str) -> Option<&'a str>
+    ensures { option_map (λ s. s.now) result ≡ first_of id.now (rows_of (found_of inner.now)) }
+{
+    inner.get_str(id)
+}
+
+/// The same as a text of its own.
+fn copied(alloc: Global, inner: &ArgMatches<'_>, id: &str) -> Result<Option<String>, AllocError>
+    ensures { IfOk result (λ copy.
+        option_map string_bytes copy ≡ first_of id.now (rows_of (found_of inner.now))) }
+{
+    match text_of(inner, id) {
+        Some(text) => Ok(Some(String::from_str(alloc, text)?)),
+        None => Ok(None),
+    }
+}
+
+/// The number of `--files`.
+fn files_of(inner: &ArgMatches<'_>) -> Option<u64>
+    ensures found { IfSome result (HasNumber (codes "files") (rows_of (found_of inner.now))) }
+    ensures missing { IsNone result
+        → (n : ℕ) → n < 2 ^ 64 → HasNumber (codes "files") (rows_of (found_of inner.now)) n → ⊥ }
+{
+    inner.get_one::<u64>("files")
+}
+
+/// The number of `--runs`.
+fn number_of_runs(inner: &ArgMatches<'_>) -> Option<usize>
+    ensures found { IfSome result (HasNumber (codes "runs") (rows_of (found_of inner.now))) }
+    ensures missing { IsNone result
+        → (n : ℕ) → n < 2 ^ 64 → HasNumber (codes "runs") (rows_of (found_of inner.now)) n → ⊥ }
+{
+    inner.get_one::<usize>("runs")
+}
+
+/// The limits of a run, or `None` where the budget's text writes none.
+fn limits_of(inner: &ArgMatches<'_>) -> Option<Limits>
+    ensures found { IfSome result (HasLimits (rows_of (found_of inner.now))) }
+    ensures missing { IsNone result
+        → (limits : LimitsOf) → HasLimits (rows_of (found_of inner.now)) limits → ⊥ }
+{
+    let budget = read_budget(text_of(inner, "budget")?)?;
+    let files = FileLimit::new(files_of(inner)?)?;
+    Some(Limits { budget, files })
+}
+
+/// The most runs of a cycle.
+fn runs_of(inner: &ArgMatches<'_>) -> Option<usize>
+    ensures found { IfSome result (HasRuns (rows_of (found_of inner.now))) }
+    ensures missing { IsNone result
+        → (runs : ℕ) → HasRuns (rows_of (found_of inner.now)) runs → ⊥ }
+{
+    let runs = number_of_runs(inner)?;
+    if 1 <= runs && runs <= MAX_RUNS {
+        Some(runs)
+    } else {
+        None
+    }
+}
+
+/// The deed of the subcommand with this name and these matches, or `None` where they ask for none.
+fn deed_of(alloc: Global, name: &str, inner: &ArgMatches<'_>) -> Result<Option<Deed>, AllocError>
+    ensures found { IfOk result (λ o. IfSome o (IsDeed name.now (rows_of (found_of inner.now)))) }
+    ensures missing { IfOk result (λ o. IsNone o
+        → (d : DeedOf) → IsDeed name.now (rows_of (found_of inner.now)) d → ⊥) }
+{
+    if name == "audit" {
+        return Ok(Some(Deed::Audit));
+    }
+    if name == "run" {
+        let Some(limits) = limits_of(inner) else {
+            return Ok(None);
+        };
+        return Ok(Some(Deed::Run(limits)));
+    }
+    if name == "cycle" {
+        let Some(limits) = limits_of(inner) else {
+            return Ok(None);
+        };
+        let Some(runs) = runs_of(inner) else {
+            return Ok(None);
+        };
+        return Ok(Some(Deed::Cycle(limits, runs)));
+    }
+    if name == "check" {
+        let Some(path) = text_of(inner, "path") else {
+            return Ok(None);
+        };
+        return Ok(Some(Deed::Check(String::from_str(alloc, path)?)));
+    }
+    if name == "show" {
+        return Ok(Some(Deed::Show));
+    }
+    Ok(None)
+}
+
+/// What is asked for by matches, or `None` where they ask for nothing.
+pub(crate) fn asked_by(alloc: Global, matches: &ArgMatches<'_>) -> Result<Option<Asked>, AllocError>
+    ensures found { IfOk result (λ o. IfSome o (Asks (subcommand_rows_of matches.now))) }
+    ensures missing { IfOk result (λ o. IsNone o
+        → (a : AskedOf) → Asks (subcommand_rows_of matches.now) a → ⊥) }
+{
+    let Some((name, inner)) = matches.subcommand() else {
+        return Ok(None);
+    };
+    let Some(deed) = deed_of(alloc, name, inner)? else {
+        return Ok(None);
+    };
+    let root = copied(alloc, inner, "root")?;
+    let file = copied(alloc, inner, "file")?;
+    Ok(Some(Asked { deed, root, file }))
+}

@@ -25,23 +25,23 @@ use Rattle.ocfl_scrub.specs.declared.checking.End.TheVariants.{Ended, Stopped}
 use Rattle.ocfl_scrub.proofs.AuditingLaws.{items_append}
 use Rattle.ocfl_scrub.proofs.TakeLaws.{nothing_of}
 
-due_all : (root : Tree) → due root None ≡ item_places root
+pub due_all : (root : Tree) → due root None ≡ item_places root
 unfolding due
 due_all root = refl
 
-places_of_items : (root : Tree) (os : List Opening) (ps : List Place) → places (items_at root os ps) ≡ ps
+pub places_of_items : (root : Tree) (os : List Opening) (ps : List Place) → places (items_at root os ps) ≡ ps
 unfolding items_at
 places_of_items root os [] = refl
 places_of_items root os (p ∷ ps) = ap (λ qs. p ∷ qs) (places_of_items root os ps)
 
-take_items : (root : Tree) (os : List Opening) (n : ℕ) (ps : List Place) → take n (items_at root os ps) ≡ items_at root os (take n ps)
+pub take_items : (root : Tree) (os : List Opening) (n : ℕ) (ps : List Place) → take n (items_at root os ps) ≡ items_at root os (take n ps)
 unfolding items_at
 take_items root os zero [] = refl
 take_items root os zero (p ∷ ps) = refl
 take_items root os (suc n) [] = refl
 take_items root os (suc n) (p ∷ ps) = ap (λ is. item_of root (unread_of root os) p ∷ is) (take_items root os n ps)
 
-nothing_front : {A : Type 0} (xs : List A) → IsFront xs [] → xs ≡ []
+pub nothing_front : {A : Type 0} (xs : List A) → IsFront xs [] → xs ≡ []
 nothing_front [] f = refl
 nothing_front (x ∷ xs) f = absurd (let e = f.1 in cc)
 
@@ -110,7 +110,7 @@ unstarted root s t old why only g = record {
 
 -- ---- where no failure was counted
 
-none_left : {A : Type 0} (xs : List A) (n : ℕ) → n ≡ n + length xs → xs ≡ []
+pub none_left : {A : Type 0} (xs : List A) (n : ℕ) → n ≡ n + length xs → xs ≡ []
 none_left [] n e = refl
 none_left (x ∷ xs) n e = absurd (omega (arith, e))
 

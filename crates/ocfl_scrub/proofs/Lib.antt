@@ -7,3 +7,17 @@ pub mod PassLaws
 pub mod StepLaws
 pub mod AuditLaws
 pub mod OrderLaws
+pub mod CutLaws
+pub mod PartLaws
+pub mod NextLaws
+pub mod TurnLaws
+pub mod CycleLaws
+pub mod CycleEndLaws
+pub mod GoesLaws
+pub mod CyclingLaws
+pub mod MeterLaws
+pub mod WayOrder
+pub mod PayLaws
+pub mod PayTurns
+pub mod RunLaws
+pub mod PerformLaws

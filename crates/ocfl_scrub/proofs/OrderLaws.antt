@@ -26,7 +26,7 @@ some_notes : (ns : List Note) → ns ≢ [] → not (is_empty ns) ≡ true
 some_notes [] h = absurd (h refl)
 some_notes (n ∷ ns) h = refl
 
-item_among : (root : Tree) (p : Place) → notes root None p ≢ [] → IsAmong (item_places root) p
+pub item_among : (root : Tree) (p : Place) → notes root None p ≢ [] → IsAmong (item_places root) p
 unfolding item_places
 item_among root p some =
     among_filter (λ q. not (is_empty (notes root None q))) (ascending place_cmp (candidates root)) p

@@ -41,7 +41,7 @@ any_append test (x ∷ xs) ys = ap (λ b. test x || b) (any_append test xs ys) �
     by true = refl
     by false = refl
 
-found_append : (xs ys : List Item) → found (xs ++ ys) ≡ (found xs || found ys)
+pub found_append : (xs ys : List Item) → found (xs ++ ys) ≡ (found xs || found ys)
 found_append xs ys = any_append has_finding xs ys
 
 -- ---- on every store
@@ -60,12 +60,12 @@ items_ascend : (root : Tree) → IsAscending place_cmp (item_places root)
 unfolding item_places
 items_ascend root = ascends_filter place_cmp (λ p. not (is_empty (notes root None p))) (ascending place_cmp (candidates root)) (ascends_ascending place_cmp_total (candidates root))
 
-due_ascends : (root : Tree) (last : Option Place) → IsAscending place_cmp (due root last)
+pub due_ascends : (root : Tree) (last : Option Place) → IsAscending place_cmp (due root last)
 unfolding due
 due_ascends root None = items_ascend root
 due_ascends root (Some p) = ascends_filter place_cmp (λ q. is_lt (place_cmp p q)) (item_places root) (items_ascend root)
 
-front_ascends : (root : Tree) (from : Option Place) (ps qs rest : List Place) → due root from ≡ ps ++ (qs ++ rest) → IsAscending place_cmp (ps ++ qs)
+pub front_ascends : (root : Tree) (from : Option Place) (ps qs rest : List Place) → due root from ≡ ps ++ (qs ++ rest) → IsAscending place_cmp (ps ++ qs)
 front_ascends root from ps qs rest e =
     ascends_left place_cmp (ps ++ qs) rest (subst (IsAscending place_cmp) (e ∙ sym (append_assoc ps qs rest)) (due_ascends root from))
 
@@ -73,11 +73,11 @@ pub last_append : (from : Option Place) (ps : List Place) (p : Place) → last_o
 last_append from [] p = refl
 last_append from (q ∷ ps) p = last_append (Some q) ps p
 
-no_items : (root : Tree) (os : List Opening) → items_at root os [] ≡ []
+pub no_items : (root : Tree) (os : List Opening) → items_at root os [] ≡ []
 unfolding items_at
 no_items root os = refl
 
-take_nothing : {A : Type 0} (xs : List A) → take 0 xs ≡ []
+pub take_nothing : {A : Type 0} (xs : List A) → take 0 xs ≡ []
 take_nothing [] = refl
 take_nothing (x ∷ xs) = refl
 
@@ -85,7 +85,7 @@ take_nothing (x ∷ xs) = refl
 
 module _ (root : Tree) (p : Place) (w : List Opening) (meta : content_trail root w ≡ hashed_among root []) where
   -- a walk has no part in the items
-  walked_items : (os : List Opening) → items_at root (w ++ os) (p ∷ []) ≡ items_at root os (p ∷ [])
+  pub walked_items : (os : List Opening) → items_at root (w ++ os) (p ∷ []) ≡ items_at root os (p ∷ [])
   walked_items os = items_behind root w os [] (p ∷ []) (tt, tt) meta
 
 module _ (root : Tree) (t u v : Store) (last to : Option Place) (w : Walks root t u last to) where
@@ -103,7 +103,7 @@ module _ (root : Tree) (t u v : Store) (last to : Option Place) (w : Walks root 
 
 -- ---- a pass begins
 
-pub passes_none : (root : Tree) (s : Store) (old : Option (List ℕ)) (from : Option Place) → s.tree ≡ root → Passes root s s old old from from false
+unfoldable pub passes_none : (root : Tree) (s : Store) (old : Option (List ℕ)) (from : Option Place) → s.tree ≡ root → Passes root s s old old from from false
 passes_none root s old from over = record {
   done = [];
   trail = [];
@@ -122,18 +122,25 @@ passes_over h = h.audits.did.tree ∙ h.audits.over
 
 module _ (root : Tree) (s t u : Store) (old mid : Option (List ℕ)) (from last : Option Place) (finding : Bool) (low : HasGoneOn from last) (h : Passes root s t old mid from last finding) where
   module _ (p : Place) (up : IsBeyond last p) (least : due root last ≡ p ∷ due root (Some p)) (w : Walks root t u last (Some p)) (v : Store) (new : Option (List ℕ)) where
-    due_with : due root from ≡ h.done ++ ((p ∷ []) ++ due root (Some p))
+    pub due_with : due root from ≡ h.done ++ ((p ∷ []) ++ due root (Some p))
     due_with = h.due_are ∙ ap (λ ps. h.done ++ ps) least
 
-    with_ascends : IsAscending place_cmp (h.done ++ p ∷ [])
+    pub with_ascends : IsAscending place_cmp (h.done ++ p ∷ [])
     with_ascends = front_ascends root from h.done (p ∷ []) (due root (Some p)) due_with
 
-    pub passes_took : (cost : ℕ) (more either : Bool) → Takes root u v mid new p cost more → either ≡ (finding || more) → Passes root s v old new from (Some p) either
+    module _ (cost : ℕ) (more : Bool) (k : Takes root u v mid new p cost more) where
+      pub taken_there : Audits root t v (p ∷ []) (looked_between root last (Some p)) (read_between root last (Some p)) (w.trail ++ k.trail)
+      taken_there = walk_then root t u v last (Some p) w (p ∷ []) k.trail k.audits
+
+      pub took_items : items_at root (h.trail ++ (w.trail ++ k.trail)) (h.done ++ p ∷ []) ≡ items_at root h.trail h.done ++ items_at root k.trail (p ∷ [])
+      took_items =
+          items_then root h.trail (w.trail ++ k.trail) h.done (p ∷ []) with_ascends h.audits.opened taken_there.opened
+          ∙ ap (λ is. items_at root h.trail h.done ++ is) (walked_items root p w.trail w.audits.opened k.trail)
+
+    unfoldable pub passes_took : (cost : ℕ) (more either : Bool) → Takes root u v mid new p cost more → either ≡ (finding || more) → Passes root s v old new from (Some p) either
     passes_took cost more either k f =
-        let both : Audits root t v (p ∷ []) (looked_between root last (Some p)) (read_between root last (Some p)) (w.trail ++ k.trail) = walk_then root t u v last (Some p) w (p ∷ []) k.trail k.audits in
-        let here : items_at root (w.trail ++ k.trail) (p ∷ []) ≡ items_at root k.trail (p ∷ []) = walked_items root p w.trail w.audits.opened k.trail in
-        let same : items_at root (h.trail ++ (w.trail ++ k.trail)) (h.done ++ p ∷ []) ≡ items_at root h.trail h.done ++ items_at root k.trail (p ∷ []) =
-        items_then root h.trail (w.trail ++ k.trail) h.done (p ∷ []) with_ascends h.audits.opened both.opened ∙ ap (λ is. items_at root h.trail h.done ++ is) here in
+        let both = taken_there cost more k in
+        let same = took_items cost more k in
         record {
           done = h.done ++ p ∷ [];
           trail = h.trail ++ (w.trail ++ k.trail);
@@ -148,15 +155,24 @@ module _ (root : Tree) (s t u : Store) (old mid : Option (List ℕ)) (from last 
         }
 
     -- the item was not taken
-    pub passes_missed : (why : Fault) → Misses root u v mid new p why → Halts root s v old new from last finding why
+    module _ (why : Fault) (k : Misses root u v mid new p why) where
+      pub missed_there : Fails root t v k.begun (looked_between root last (Some p)) (read_between root last (Some p)) (w.trail ++ k.trail) why
+      missed_there = walk_then_fails root t u v last (Some p) w k.begun k.trail why k.fails
+
+      due_begun : due root from ≡ h.done ++ (k.begun ++ (k.one.0 ++ due root (Some p)))
+      due_begun = due_with ∙ ap (λ ps. h.done ++ ps) (ap (λ ps. ps ++ due root (Some p)) k.one.1 ∙ append_assoc k.begun k.one.0 (due root (Some p)))
+
+      pub missed_items : items_at root (h.trail ++ (w.trail ++ k.trail)) h.done ≡ items_at root h.trail h.done
+      missed_items = items_before root h.trail (w.trail ++ k.trail) h.done k.begun (front_ascends root from h.done k.begun (k.one.0 ++ due root (Some p)) due_begun) missed_there.opened
+
+    pub next_is : take 1 (due root last) ≡ p ∷ []
+    next_is = ap (take 1) least ∙ ap (λ ps. p ∷ ps) (take_nothing (due root (Some p)))
+
+    unfoldable pub passes_missed : (why : Fault) → Misses root u v mid new p why → Halts root s v old new from last finding why
     passes_missed why k =
         let trail : List Opening = h.trail ++ (w.trail ++ k.trail) in
-        let both = walk_then_fails root t u v last (Some p) w k.begun k.trail why k.fails in
-        let next_is : take 1 (due root last) ≡ p ∷ [] = ap (take 1) least ∙ ap (λ ps. p ∷ ps) (take_nothing (due root (Some p))) in
-        let due_begun : due root from ≡ h.done ++ (k.begun ++ (k.one.0 ++ due root (Some p))) =
-        due_with ∙ ap (λ ps. h.done ++ ps) (ap (λ ps. ps ++ due root (Some p)) k.one.1 ∙ append_assoc k.begun k.one.0 (due root (Some p))) in
-        let before : items_at root trail h.done ≡ items_at root h.trail h.done =
-        items_before root h.trail (w.trail ++ k.trail) h.done k.begun (front_ascends root from h.done k.begun (k.one.0 ++ due root (Some p)) due_begun) both.opened in
+        let both = missed_there why k in
+        let before = missed_items why k in
         let next : items_at root k.trail (p ∷ []) ≡ items_at root trail (take 1 (due root last)) =
         sym (ap (items_at root trail) next_is ∙ items_behind root h.trail (w.trail ++ k.trail) h.done (p ∷ []) with_ascends h.audits.opened ∙ walked_items root p w.trail w.audits.opened k.trail) in
         record {
@@ -177,12 +193,17 @@ module _ (root : Tree) (s t u : Store) (old mid : Option (List ℕ)) (from last 
           found_is = h.found_is ∙ ap found (sym before);
         }
 
+  -- nothing was done but walking
+  pub walked_on : (os : List Opening) → content_trail root os ≡ hashed_among root [] → items_at root (h.trail ++ os) h.done ≡ items_at root h.trail h.done
+  walked_on os opened =
+      let due_done : due root from ≡ h.done ++ ([] ++ due root last) = h.due_are in
+      items_before root h.trail os h.done [] (front_ascends root from h.done [] (due root last) due_done) opened
+
   -- the walk did not get there
-  pub passes_lost : (why : Fault) → why ≢ Output → WalkFails root t u last why → Halts root s u old mid from last finding why
+  unfoldable pub passes_lost : (why : Fault) → why ≢ Output → WalkFails root t u last why → Halts root s u old mid from last finding why
   passes_lost why other w =
       let trail : List Opening = h.trail ++ w.trail in
-      let due_done : due root from ≡ h.done ++ ([] ++ due root last) = h.due_are in
-      let before : items_at root trail h.done ≡ items_at root h.trail h.done = items_before root h.trail w.trail h.done [] (front_ascends root from h.done [] (due root last) due_done) w.fails.opened in
+      let before : items_at root trail h.done ≡ items_at root h.trail h.done = walked_on w.trail w.fails.opened in
       record {
         done = h.done;
         begun = [];
@@ -203,13 +224,17 @@ module _ (root : Tree) (s t u : Store) (old mid : Option (List ℕ)) (from last 
       }
 
   -- nothing is left
-  pub passes_finish : Walks root t u last None → due root last ≡ [] → Finishes root s u old mid from last finding
+  pub all_done : due root last ≡ [] → h.done ≡ due root from
+  all_done none = sym (h.due_are ∙ ap (λ ps. h.done ++ ps) none ∙ append-nil h.done)
+
+  pub finished_items : (w : Walks root t u last None) → due root last ≡ [] → items_at root h.trail h.done ≡ items_at root (h.trail ++ w.trail) (due root from)
+  finished_items w none = sym (walked_on w.trail w.audits.opened) ∙ ap (items_at root (h.trail ++ w.trail)) (all_done none)
+
+  unfoldable pub passes_finish : Walks root t u last None → due root last ≡ [] → Finishes root s u old mid from last finding
   passes_finish w none =
       let trail : List Opening = h.trail ++ w.trail in
-      let done_is : h.done ≡ due root from = sym (h.due_are ∙ ap (λ ps. h.done ++ ps) none ∙ append-nil h.done) in
-      let due_done : due root from ≡ h.done ++ ([] ++ due root last) = h.due_are in
-      let before : items_at root h.trail h.done ≡ items_at root trail (due root from) =
-      sym (items_before root h.trail w.trail h.done [] (front_ascends root from h.done [] (due root last) due_done) w.audits.opened) ∙ ap (items_at root trail) done_is in
+      let done_is = all_done none in
+      let before = finished_items w none in
       let joined = audits_then root s t u h.done [] _ _ _ _ h.trail w.trail h.audits w.audits in
       record {
         trail = trail;

@@ -18,10 +18,10 @@ use Rattle.ocfl_scrub.proofs.PassLaws.{passes_took, passes_missed, passes_finish
 -- ---- on every store
 
 module _ (old new : Walk) (o : Option Pending) (q : Pending) (last : Option Place) (is : o ≡ Some q) (behind : last_of old ≡ last) (goes : GoesOn old new o) where
-  went : GoesOn old new (Some q)
+  pub went : GoesOn old new (Some q)
   went = subst (GoesOn old new) is goes
 
-  next_above : IsBeyond last q.place
+  pub next_above : IsBeyond last q.place
   next_above = subst (λ l. IsBeyond l q.place) behind went.1
 
   pub behind_next : (place : Place) → place ≡ q.place → last_of new ≡ Some place
@@ -32,7 +32,7 @@ module _ (old new : Walk) (o : Option Pending) (q : Pending) (last : Option Plac
 
   -- ---- on a store that tells its tree
   module _ (root : Tree) (s t u : Store) (before mid : Option (List ℕ)) (from : Option Place) (finding : Bool) (low : HasGoneOn from last) (h : Passes root s t before mid from last finding) (gives : Gives root t u last new o) where
-    given : Gives root t u last new (Some q)
+    pub given : Gives root t u last new (Some q)
     given = subst (Gives root t u last new) is gives
 
     pub next_over : u.tree ≡ root

@@ -20,7 +20,7 @@ use Rattle.ocfl_walk.specs.declared.fault.Fault.TheVariants.{Store as AtStore, M
 use Rattle.ocfl_scrub.specs.Taking.{WritesLines, PartOf, Takes, Misses}
 use Rattle.ocfl_scrub.proofs.AuditingLaws.{audits_none, nothing_hashed}
 
-or_none : (b : Bool) → (b || false) ≡ b
+pub or_none : (b : Bool) → (b || false) ≡ b
 or_none true = refl
 or_none false = refl
 
@@ -41,7 +41,7 @@ failures_none why = ((n : ℕ) → n ≡ n + failures_by why) × ((q : Place) �
 memory_none : failures_none Memory
 memory_none = (λ n. omega arith, λ q e. cc)
 
-memory_other : Memory ≢ Output
+pub memory_other : Memory ≢ Output
 memory_other e = cc
 
 take_none : (xs : List ℕ) → [] ≡ take 0 xs

@@ -12,7 +12,7 @@ ghost use Rattle.ocfl_scrub.specs.Taking.{WritesLines};
 ghost use Rattle.ocfl_scrub.specs.WholeAudit.{AuditEnds};
 
 use crate::checking::End;
-use crate::taking::take_item;
+use crate::taking::{either, take_item};
 use ocfl_digest::Block;
 use ocfl_tree::{Place, Tree};
 use ocfl_walk::{Fault, Walk};
@@ -62,12 +62,6 @@ pub fn audit<T: Tree, W: Write>(
             end: End::Stopped(why),
         },
     }
-}
-
-fn either(a: bool, b: bool) -> bool
-    ensures { result ≡ (a || b) }
-{
-    if a { true } else { b }
 }
 
 // Takes the items above a place, one after the other.

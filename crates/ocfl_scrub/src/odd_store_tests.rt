@@ -11,9 +11,9 @@ use std::test::Fail;
 
 /// A store that does not find a file that it lists.
 #[derive(Drop)]
-struct Forgetful {
-    inner: MemTree,
-    hidden: Place,
+pub(crate) struct Forgetful {
+    pub(crate) inner: MemTree,
+    pub(crate) hidden: Place,
 }
 
 impl Tree for Forgetful {

@@ -1,5 +1,5 @@
 //! One item: it is judged, and its lines go out as one piece.
-ghost use Rattle.std.specs.Prelude.{◌≡◌, ◌≢◌, ◌⊎◌, ℕ, IsTrue, IfErr, IfOk, map, MatchResult};
+ghost use Rattle.std.specs.Prelude.{◌≡◌, ◌≢◌, ◌⊎◌, ◌||◌, ℕ, IsTrue, IfErr, IfOk, map, MatchResult};
 ghost use Rattle.std.specs.List.{list_any};
 ghost use Rattle.ocfl_report.specs.Line.{line_of, is_finding_code};
 ghost use Rattle.ocfl_report.specs.Text.{lines_text};
@@ -85,4 +85,11 @@ fn has_finding(lines: &[Line]) -> bool
         }
     }
     false
+}
+
+/// Whether one of the two is so.
+pub(crate) fn either(a: bool, b: bool) -> bool
+    ensures { result ≡ (a || b) }
+{
+    if a { true } else { b }
 }

@@ -1,0 +1,411 @@
+-- Some runs one after the other, by their places: a run, and then those that follow.
+use Rattle.std.proofs.Common.{◌≡◌, ◌≢◌, inl, inr, ℕ, zero, suc, ◌+◌, ◌<◌, ◌≤◌, List, [], ◌∷◌, ◌++◌, refl, sym, ◌∙◌, ap, subst, true, false, Bool, Some, None, Option, append-nil, append_assoc, length, length-append, take, drop, arith}
+use Rattle.std.specs.Prelude.{◌||◌}
+use Rattle.std.proofs.lemmas.List.{take-append-drop}
+use Rattle.std.specs.Io.KnownBytes.{Appends}
+use Rattle.std.proofs.KnownBytes.{Appends-nil, Appends-trans}
+use Rattle.ocfl_tree.specs.Place.{Text, Place, place_cmp}
+use Rattle.ocfl_tree.specs.Ascending.{IsAscending, IsAmong}
+use Rattle.ocfl_tree.specs.Tree.{Tree}
+use Rattle.ocfl_tree.specs.Store.{Store}
+use Rattle.ocfl_tree.specs.declared.store.Opening.{Opening}
+use Rattle.ocfl_report.specs.Line.{Item, found}
+use Rattle.ocfl_report.specs.Text.{text}
+use Rattle.ocfl_audit.specs.Audit.{total_cost}
+use Rattle.ocfl_audit.specs.Lines.{is_empty, is_hashed}
+use Rattle.ocfl_audit.specs.Trail.{content_trail}
+use Rattle.ocfl_audit.specs.Zone.{Zone, skipped, hierarchy, inside, zone}
+use Rattle.ocfl_audit.specs.Due.{due, items_at, hashed_among}
+use Rattle.ocfl_audit.specs.Between.{read_between}
+use Rattle.ocfl_audit.specs.Runs.{Limits, total_files, cut, left, runs, runs_after, joined}
+use Rattle.ocfl_audit.proofs.DueLaws.{after_is_due}
+use Rattle.ocfl_walk.specs.Looking.{IsFront}
+use Rattle.ocfl_walk.specs.Auditing.{Audits, Fails, holder, holder_of}
+use Rattle.ocfl_walk.specs.declared.fault.Fault.{Fault}
+use Rattle.ocfl_walk.specs.declared.fault.Fault.TheVariants.{Memory, Output, Store as AtStore}
+use Rattle.ocfl_scrub.specs.Taking.{PartOf}
+use Rattle.ocfl_scrub.specs.Passing.{last_of}
+use Rattle.ocfl_scrub.specs.WholeAudit.{places}
+use Rattle.ocfl_scrub.specs.Running.{items_above, rest as rest_of, RunStops}
+use Rattle.ocfl_scrub.specs.declared.cycling.CycleStatus.{CycleStatus}
+use Rattle.ocfl_scrub.specs.declared.cycling.CycleStatus.TheVariants.{Ended, Spent, Stopped}
+use Rattle.ocfl_scrub.proofs.Lists.{map_append, ascends_left}
+use Rattle.ocfl_scrub.proofs.AuditingLaws.{audits_none, audits_then, fails_then, items_before, items_behind, items_append, items_then}
+use Rattle.ocfl_scrub.proofs.PassLaws.{text_append, found_append, due_ascends, no_items, take_nothing}
+use Rattle.ocfl_scrub.proofs.TakeLaws.{nothing_of, memory_other}
+use Rattle.ocfl_scrub.proofs.AuditLaws.{places_of_items, nothing_front}
+use Rattle.ocfl_scrub.proofs.CutLaws.{IsStop, cost_append, files_append, cut_of_paid, left_of_paid, cut_and_left}
+use Rattle.ocfl_scrub.proofs.PartLaws.{stop_alike, stop_hashed}
+use Rattle.ocfl_scrub.proofs.NextLaws.{read_parts}
+use Rattle.ocfl_scrub.proofs.TurnLaws.{Turn, first_place, front_is, rest_is, due_parts, front_length}
+
+-- ---- some runs
+
+-- how many inventories runs read that begin above a place: none where there is no run, and else those from there on and one more for each run, but for the first where nothing holds that place
+pub record ReadFew (root : Tree) (from : Option Place) (heads : List Place) (count : ℕ) : Type 0 where
+  pub none : count ≡ 0 → length heads ≡ 0
+  pub some : 1 ≤ count → length heads < length (holder root from) + length (read_between root from None) + count
+
+-- from s to t the runs of the limits took the items above from up to last
+pub record Parts (root : Tree) (s t : Store) (old new : Option (List ℕ)) (from last : Option Place) (limits : List Limits) (spent files : ℕ) (finding : Bool) (count : ℕ) (ended : Bool) : Type 0 where
+  pub done : List Place
+  pub trail : List Opening
+  pub listed : List Place
+  pub heads : List Place
+  pub audits : Audits root s t done listed heads trail
+  pub due_are : due root from ≡ done ++ due root last
+  pub last_is : last ≡ last_of from done
+  pub wrote : Appends old new (text (items_at root trail done))
+  pub runs_are : joined (runs (items_at root trail (due root from)) limits) ≡ items_at root trail done
+  pub count_is : count ≡ length (runs (items_at root trail (due root from)) limits)
+  pub costs : total_cost (items_at root trail done) ≡ spent
+  pub counts : total_files (items_at root trail done) ≡ files
+  pub finds : found (items_at root trail done) ≡ finding
+  pub read : ReadFew root from heads count
+  pub ended_is : ended ≡ is_empty (due root last)
+
+-- from s to t they took the items above from up to last, and then there was a fault
+pub record PartsStop (root : Tree) (s t : Store) (old new : Option (List ℕ)) (from last : Option Place) (limits : List Limits) (spent files : ℕ) (finding : Bool) (count : ℕ) (why : Fault) : Type 0 where
+  pub done : List Place
+  pub begun : List Place
+  pub rest : List Place
+  pub trail : List Opening
+  pub others : List Item
+  pub listed : List Place
+  pub heads : List Place
+  pub fails : Fails root s t (done ++ begun) listed heads trail why
+  pub due_are : due root from ≡ (done ++ begun) ++ rest
+  pub last_is : last ≡ last_of from done
+  pub runs_begin : joined (runs (items_at root trail (due root from)) limits) ≡ items_at root trail done ++ others
+  pub one : IsFront begun (places (take 1 others))
+  pub part : Text
+  pub wrote : Appends old new (text (items_at root trail done) ++ part)
+  pub part_of : PartOf why (text (take 1 others)) part
+  pub count_fits : count ≤ length (runs (items_at root trail (due root from)) limits)
+  pub costs : total_cost (items_at root trail done) ≡ spent
+  pub counts : total_files (items_at root trail done) ≡ files
+  pub finds : found (items_at root trail done) ≡ finding
+  pub read : ReadFew root from heads count
+
+abbrev pub PartsEnd : Tree → Store → Store → Option (List ℕ) → Option (List ℕ) → Option Place → Option Place → List Limits → ℕ → ℕ → Bool → ℕ → CycleStatus → Type 0
+PartsEnd root s t old new from last limits spent files finding count Ended = Parts root s t old new from last limits spent files finding count true
+PartsEnd root s t old new from last limits spent files finding count Spent = Parts root s t old new from last limits spent files finding count false
+PartsEnd root s t old new from last limits spent files finding count (Stopped why) = PartsStop root s t old new from last limits spent files finding count why
+
+-- ---- lists
+
+last_then : (from : Option Place) (ps qs : List Place) → last_of (last_of from ps) qs ≡ last_of from (ps ++ qs)
+last_then from [] qs = refl
+last_then from (p ∷ ps) qs = last_then (Some p) ps qs
+
+none_empty : (ps : List Place) → ps ≡ [] → is_empty ps ≡ true
+none_empty [] h = refl
+none_empty (p ∷ ps) h = absurd cc
+
+some_items : (root : Tree) (os : List Opening) (p : Place) (ps : List Place) → is_empty (items_at root os (p ∷ ps)) ≡ false
+unfolding items_at
+some_items root os p ps = refl
+
+-- the first of some, where others follow
+first_more : (x : Item) (xs ys : List Item) → take 1 (x ∷ xs) ≡ take 1 (x ∷ xs ++ ys)
+first_more x xs ys = ap (λ is. x ∷ is) (take_nothing xs ∙ sym (take_nothing (xs ++ ys)))
+
+one_more : (begun : List Place) (xs ys : List Item) → IsFront begun (places (take 1 xs)) → IsFront begun (places (take 1 (xs ++ ys)))
+one_more begun [] ys f = subst (λ ps. IsFront ps (places (take 1 ys))) (sym (nothing_front begun f)) (places (take 1 ys), refl)
+one_more begun (x ∷ xs) ys f = subst (λ is. IsFront begun (places is)) (first_more x xs ys) f
+
+part_more : (why : Fault) (part : Text) (xs ys : List Item) → PartOf why (text (take 1 xs)) part → PartOf why (text (take 1 (xs ++ ys))) part
+part_more why part (x ∷ xs) ys h = subst (λ is. PartOf why (text is) part) (first_more x xs ys) h
+part_more why part [] ys h =
+    let other : why ≢ Output = λ e. let l = h.proper e in absurd (omega (arith, l)) in
+    let none : part ≡ [] = h.is ∙ ap (λ n. take n []) (h.none other) in
+    subst (PartOf why (text (take 1 ys))) (sym none) (nothing_of why other (text (take 1 ys)))
+
+-- ---- runs
+
+runs_go_on : (items : List Item) (ls : List Limits) → is_empty items ≡ false → runs_after ls items ≡ runs items ls
+runs_go_on [] ls h = absurd cc
+runs_go_on (i ∷ items) [] h = refl
+runs_go_on (i ∷ items) (l ∷ ls) h = refl
+
+runs_end : (ls : List Limits) → runs_after ls [] ≡ []
+runs_end [] = refl
+runs_end (l ∷ ls) = refl
+
+-- no limits are left
+pub parts_none : (root : Tree) (s : Store) (old : Option (List ℕ)) (last : Option Place) → s.tree ≡ root → is_empty (due root last) ≡ false → Parts root s s old old last last [] 0 0 false 0 false
+unfolding items_at
+parts_none root s old last over some = record {
+  done = [];
+  trail = [];
+  listed = [];
+  heads = [];
+  audits = audits_none root s over;
+  due_are = refl;
+  last_is = refl;
+  wrote = Appends-nil old;
+  runs_are = refl;
+  count_is = refl;
+  costs = refl;
+  counts = refl;
+  finds = refl;
+  read = record { none = λ e. refl; some = λ e. absurd (omega (arith, e)) };
+  ended_is = sym some;
+}
+
+not_of_store : (p : Place) → Memory ≡ AtStore p → ⊥
+not_of_store p e = cc
+
+-- want of memory before a run
+pub parts_unbegun : (root : Tree) (s : Store) (old : Option (List ℕ)) (last : Option Place) (limits : List Limits) → s.tree ≡ root → PartsStop root s s old old last last limits 0 0 false 0 Memory
+unfolding items_at
+parts_unbegun root s old last limits over =
+    let none = audits_none root s over in
+    let others : List Item = joined (runs (items_at root [] (due root last)) limits) in
+    record {
+      done = [];
+      begun = [];
+      rest = due root last;
+      trail = [];
+      others = others;
+      listed = [];
+      heads = [];
+      fails = record { over = over; did = none.did; opened = none.opened; heads_are = refl; store = λ q e. absurd (not_of_store q e) };
+      due_are = refl;
+      last_is = refl;
+      runs_begin = refl;
+      one = (places (take 1 others), refl);
+      part = [];
+      wrote = Appends-nil old;
+      part_of = nothing_of Memory memory_other (text (take 1 others));
+      count_fits = omega arith;
+      costs = refl;
+      counts = refl;
+      finds = refl;
+      read = record { none = λ e. refl; some = λ e. absurd (omega (arith, e)) };
+    }
+
+-- ---- one run alone
+
+first_none : (ps : List Place) → None ≡ first_place ps → ps ≡ []
+first_none [] e = refl
+first_none (p ∷ ps) e = absurd cc
+
+module _ (root : Tree) (s t : Store) (old mid : Option (List ℕ)) (from mid_last : Option Place) (l : Limits) (spent files : ℕ) (finding : Bool) (ls : List Limits) where
+  -- it took all that was left
+  pub parts_ended : Turn root s t old mid from mid_last l spent files finding None → Parts root s t old mid from mid_last (l ∷ ls) spent files finding 1 true
+  parts_ended h =
+      let none : due root mid_last ≡ [] = first_none (due root mid_last) h.next_is in
+      let split : items_at root h.trail (due root from) ≡ items_at root h.trail h.done ++ items_at root h.trail (due root mid_last) = ap (items_at root h.trail) h.due_are ∙ items_append root h.trail h.done (due root mid_last) in
+      let is_cut : cut (items_at root h.trail (due root from)) l ≡ items_at root h.trail h.done = ap (λ is. cut is l) split ∙ cut_of_paid l _ _ h.paid h.stops in
+      let is_left : left (items_at root h.trail (due root from)) l ≡ [] = ap (λ is. left is l) split ∙ left_of_paid l _ _ h.paid h.stops ∙ ap (items_at root h.trail) none ∙ no_items root h.trail in
+      let are : runs (items_at root h.trail (due root from)) (l ∷ ls) ≡ cut (items_at root h.trail (due root from)) l ∷ [] = ap (λ xs. cut (items_at root h.trail (due root from)) l ∷ runs_after ls xs) is_left ∙ ap (λ xs. cut (items_at root h.trail (due root from)) l ∷ xs) (runs_end ls) in
+      record {
+        done = h.done;
+        trail = h.trail;
+        listed = h.listed;
+        heads = h.heads;
+        audits = h.audits;
+        due_are = h.due_are;
+        last_is = h.last_is;
+        wrote = h.wrote;
+        runs_are = ap joined are ∙ append-nil _ ∙ is_cut;
+        count_is = sym (ap length are);
+        costs = h.costs;
+        counts = h.counts;
+        finds = h.finds;
+        read = record { none = λ e. absurd (omega (arith, e)); some = λ e. let r = h.read in omega (arith, r) };
+        ended_is = sym (none_empty (due root mid_last) none);
+      }
+
+  -- it stopped
+  pub parts_stopped : (why : Fault) → RunStops root s t old mid from mid_last l spent files finding why → PartsStop root s t old mid from mid_last (l ∷ ls) spent files finding 1 why
+  parts_stopped why h =
+      let above : List Item = items_above root h.trail from in
+      let left_items : List Item = rest_of root h.trail from l in
+      let later : List Item = joined (runs_after ls (left (items_at root h.trail (due root from)) l)) in
+      let split : above ≡ h.whole ++ (h.others ++ left_items) =
+      sym (cut_and_left above l) ∙ ap (λ is. is ++ left_items) h.items_are ∙ append_assoc h.whole h.others left_items in
+      let done : List Place = places h.whole in
+      let done_is : h.whole ≡ items_at root h.trail done = sym (front_is root h.trail from h.whole (h.others ++ left_items) split) in
+      let next_is : due root (last_of from done) ≡ places (h.others ++ left_items) =
+      sym (places_of_items root h.trail (due root (last_of from done))) ∙ ap places (rest_is root h.trail from h.whole (h.others ++ left_items) split) in
+      let first : places h.others ≡ h.begun ++ (h.one.0 ++ places (drop 1 h.others)) =
+      ap places (sym (take-append-drop 1 h.others)) ∙ map_append (λ i. i.place) (take 1 h.others) (drop 1 h.others) ∙ ap (λ ps. ps ++ places (drop 1 h.others)) h.one.1 ∙ append_assoc h.begun h.one.0 (places (drop 1 h.others)) in
+      let behind : List Place = (h.one.0 ++ places (drop 1 h.others)) ++ places left_items in
+      let next_begun : due root (last_of from done) ≡ h.begun ++ behind =
+      next_is ∙ map_append (λ i. i.place) h.others left_items ∙ ap (λ ps. ps ++ places left_items) first ∙ append_assoc h.begun (h.one.0 ++ places (drop 1 h.others)) (places left_items) in
+      record {
+        done = done;
+        begun = h.begun;
+        rest = behind;
+        trail = h.trail;
+        others = h.others ++ later;
+        listed = h.down ++ h.listed;
+        heads = h.held ++ h.heads;
+        fails = h.fails;
+        due_are = due_parts root h.trail from h.whole (h.others ++ left_items) split ∙ ap (λ ps. done ++ ps) next_begun ∙ sym (append_assoc done h.begun behind);
+        last_is = h.last_is;
+        runs_begin = ap (λ is. is ++ later) (ap (λ is. cut is l) (sym (after_is_due root h.trail from)) ∙ h.items_are ∙ ap (λ is. is ++ h.others) done_is) ∙ append_assoc (items_at root h.trail done) h.others later;
+        one = one_more h.begun h.others later h.one;
+        part = h.part;
+        wrote = subst (λ is. Appends old mid (text is ++ h.part)) done_is h.wrote;
+        part_of = part_more why h.part h.others later h.part_of;
+        count_fits = omega arith;
+        costs = ap total_cost (sym done_is) ∙ sym h.spent_is;
+        counts = ap total_files (sym done_is) ∙ sym h.files_is;
+        finds = ap found (sym done_is) ∙ sym h.found_is;
+        read = record {
+          none = λ e. absurd (omega (arith, e));
+          some = λ e.
+              let f = front_length h.held (holder root from) h.held_front in
+              let g = front_length h.heads (read_between root from None) h.heads_front in
+              let m = length-append h.held h.heads in
+              omega (arith, f, g, m);
+        };
+      }
+
+-- ---- a run that left something, and those that follow
+
+holder_one : (root : Tree) (last : Option Place) → length (holder root last) ≤ 1
+holder_one root None = omega arith
+holder_one root (Some p) = by (zone root p)
+  where
+    by : (z : Zone) → length (holder_of z) ≤ 1
+    by skipped = omega arith
+    by hierarchy = omega arith
+    by (inside o q) = omega arith
+
+first_some : (next : Place) (ps : List Place) → Some next ≡ first_place ps → (behind : List Place) × (ps ≡ next ∷ behind)
+first_some next [] e = absurd cc
+first_some next (p ∷ ps) e = let same : p ≡ next = cc in (ps, ap (λ q. q ∷ ps) same)
+
+among_behind : (ps : List Place) (p : Place) (qs : List Place) → IsAmong (ps ++ p ∷ qs) p
+among_behind [] p qs = inl refl
+among_behind (x ∷ ps) p qs = inr (among_behind ps p qs)
+
+module _ (root : Tree) (s t : Store) (old mid : Option (List ℕ)) (from mid_last : Option Place) (l : Limits) (spent files : ℕ) (finding : Bool) (ls : List Limits) (next : Place) (h : Turn root s t old mid from mid_last l spent files finding (Some next)) where
+  -- what is next is a hashed file
+  pub record IsNext : Type 0 where
+    pub behind : List Place
+    pub due_is : due root mid_last ≡ next ∷ behind
+    pub hashed : is_hashed root next ≡ true
+
+  pub next_there : IsNext
+  next_there =
+      let spent_here : ℕ = total_cost (items_at root h.trail h.done) in
+      let opened_here : ℕ = total_files (items_at root h.trail h.done) in
+      let first = first_some next (due root mid_last) h.next_is in
+      record { behind = first.0; due_is = first.1; hashed = stop_hashed root h.trail l spent_here opened_here next first.0 (subst (λ qs. IsStop l spent_here opened_here (items_at root h.trail qs)) first.1 h.stops) }
+
+  pub next_some : is_empty (due root mid_last) ≡ false
+  next_some = ap is_empty next_there.due_is
+
+  -- what both read
+  reads_then : (heads : List Place) (count : ℕ) → ReadFew root mid_last heads count → ReadFew root from (h.heads ++ heads) (1 + count)
+  reads_then heads count k =
+      let there : IsAmong (due root from) next = subst (λ ps. IsAmong ps next) (sym (h.due_are ∙ ap (λ ps. h.done ++ ps) next_there.due_is)) (among_behind h.done next next_there.behind) in
+      let parts = read_parts root mid_last next next_there.behind next_there.due_is next_there.hashed from there in
+      record { none = λ e. absurd (omega (arith, e)); some = λ e. by count k.none k.some parts }
+    where
+      by : (n : ℕ) → (n ≡ 0 → length heads ≡ 0) → (1 ≤ n → length heads < length (holder root mid_last) + length (read_between root mid_last None) + n)
+          → length (read_between root from (Some next)) + length (read_between root mid_last None) ≡ length (read_between root from None)
+          → length (h.heads ++ heads) < length (holder root from) + length (read_between root from None) + (1 + n)
+      by zero none some parts = let e = none refl in let r = h.read in let m = length-append h.heads heads in omega (arith, e, r, m, parts)
+      by (suc n) none some parts =
+          let e = some (omega arith) in
+          let r = h.read in
+          let m = length-append h.heads heads in
+          let one = holder_one root mid_last in
+          omega (arith, e, r, m, one, parts)
+
+  module _ (u : Store) (new : Option (List ℕ)) (last : Option Place) (spent' files' : ℕ) (finding' : Bool) (count : ℕ) where
+    -- at a trail that goes on over places that follow, the runs are the first cut and those of the rest
+    runs_then : (os : List Opening) (ps rest : List Place) → content_trail root os ≡ hashed_among root ps → due root mid_last ≡ ps ++ rest
+        → runs (items_at root (h.trail ++ os) (due root from)) (l ∷ ls) ≡ items_at root h.trail h.done ∷ runs (items_at root os (due root mid_last)) ls
+    runs_then os ps rest opened is =
+        let up : IsAscending place_cmp (h.done ++ due root mid_last) = subst (IsAscending place_cmp) h.due_are (due_ascends root from) in
+        let up_front : IsAscending place_cmp (h.done ++ ps) = ascends_left place_cmp (h.done ++ ps) rest (subst (IsAscending place_cmp) (ap (λ qs. h.done ++ qs) is ∙ sym (append_assoc h.done ps rest)) up) in
+        let first : items_at root (h.trail ++ os) h.done ≡ items_at root h.trail h.done = items_before root h.trail os h.done ps up_front opened in
+        let then : items_at root (h.trail ++ os) (due root mid_last) ≡ items_at root os (due root mid_last) = items_behind root h.trail os h.done (due root mid_last) up h.audits.opened in
+        let split : items_at root (h.trail ++ os) (due root from) ≡ items_at root h.trail h.done ++ items_at root os (due root mid_last) =
+        ap (items_at root (h.trail ++ os)) h.due_are ∙ items_append root (h.trail ++ os) h.done (due root mid_last) ∙ ap (λ is. is ++ items_at root (h.trail ++ os) (due root mid_last)) first ∙ ap (λ is. items_at root h.trail h.done ++ is) then in
+        let stop = stop_alike root h.trail os l _ _ (due root mid_last) h.stops in
+        let some : is_empty (items_at root os (due root mid_last)) ≡ false = ap (λ qs. is_empty (items_at root os qs)) next_there.due_is ∙ some_items root os next next_there.behind in
+        ap (λ is. runs is (l ∷ ls)) split
+        ∙ ap (λ xs. xs ∷ runs_after ls (left (items_at root h.trail h.done ++ items_at root os (due root mid_last)) l)) (cut_of_paid l _ _ h.paid stop)
+        ∙ ap (λ xs. items_at root h.trail h.done ∷ runs_after ls xs) (left_of_paid l _ _ h.paid stop)
+        ∙ ap (λ xs. items_at root h.trail h.done ∷ xs) (runs_go_on (items_at root os (due root mid_last)) ls some)
+
+    parts_then : (ended : Bool) → Parts root t u mid new mid_last last ls spent' files' finding' count ended
+        → Parts root s u old new from last (l ∷ ls) (spent + spent') (files + files') (finding || finding') (1 + count) ended
+    parts_then ended k =
+        let due_are : due root from ≡ (h.done ++ k.done) ++ due root last = h.due_are ∙ ap (λ qs. h.done ++ qs) k.due_are ∙ sym (append_assoc h.done k.done (due root last)) in
+        let up : IsAscending place_cmp (h.done ++ k.done) = ascends_left place_cmp (h.done ++ k.done) (due root last) (subst (IsAscending place_cmp) due_are (due_ascends root from)) in
+        let first : List Item = items_at root h.trail h.done in
+        let second : List Item = items_at root k.trail k.done in
+        let same : items_at root (h.trail ++ k.trail) (h.done ++ k.done) ≡ first ++ second = items_then root h.trail k.trail h.done k.done up h.audits.opened k.audits.opened in
+        let are = runs_then k.trail k.done (due root last) k.audits.opened k.due_are in
+        record {
+          done = h.done ++ k.done;
+          trail = h.trail ++ k.trail;
+          listed = h.listed ++ k.listed;
+          heads = h.heads ++ k.heads;
+          audits = audits_then root s t u h.done k.done h.listed k.listed h.heads k.heads h.trail k.trail h.audits k.audits;
+          due_are = due_are;
+          last_is = k.last_is ∙ ap (λ x. last_of x k.done) h.last_is ∙ last_then from h.done k.done;
+          wrote = subst (Appends old new) (sym (text_append first second) ∙ ap text (sym same)) (Appends-trans old mid new _ _ h.wrote k.wrote);
+          runs_are = ap joined are ∙ ap (λ is. first ++ is) k.runs_are ∙ sym same;
+          count_is = let n : length (runs (items_at root (h.trail ++ k.trail) (due root from)) (l ∷ ls)) ≡ suc (length (runs (items_at root k.trail (due root mid_last)) ls)) = ap length are in let c = k.count_is in omega (arith, n, c);
+          costs = ap total_cost same ∙ cost_append first second ∙ (let c = h.costs in let d = k.costs in omega (arith, c, d));
+          counts = ap total_files same ∙ files_append first second ∙ (let c = h.counts in let d = k.counts in omega (arith, c, d));
+          finds = ap found same ∙ found_append first second ∙ ap (λ v. v || found second) h.finds ∙ ap (λ v. finding || v) k.finds;
+          read = reads_then k.heads count k.read;
+          ended_is = k.ended_is;
+        }
+
+    stops_then : (why : Fault) → PartsStop root t u mid new mid_last last ls spent' files' finding' count why
+        → PartsStop root s u old new from last (l ∷ ls) (spent + spent') (files + files') (finding || finding') (1 + count) why
+    stops_then why k =
+        let both : (h.done ++ k.done) ++ k.begun ≡ h.done ++ (k.done ++ k.begun) = append_assoc h.done k.done k.begun in
+        let due_are : due root from ≡ (h.done ++ (k.done ++ k.begun)) ++ k.rest = h.due_are ∙ ap (λ qs. h.done ++ qs) k.due_are ∙ sym (append_assoc h.done (k.done ++ k.begun) k.rest) in
+        let all_up : IsAscending place_cmp (h.done ++ (k.done ++ k.begun)) = ascends_left place_cmp (h.done ++ (k.done ++ k.begun)) k.rest (subst (IsAscending place_cmp) due_are (due_ascends root from)) in
+        let up : IsAscending place_cmp (h.done ++ k.done) = ascends_left place_cmp (h.done ++ k.done) k.begun (subst (IsAscending place_cmp) (sym both) all_up) in
+        let first : List Item = items_at root h.trail h.done in
+        let second : List Item = items_at root k.trail k.done in
+        let before : items_at root (h.trail ++ k.trail) h.done ≡ first = items_before root h.trail k.trail h.done (k.done ++ k.begun) all_up k.fails.opened in
+        let behind : items_at root (h.trail ++ k.trail) k.done ≡ second = items_behind root h.trail k.trail h.done k.done up h.audits.opened in
+        let same : items_at root (h.trail ++ k.trail) (h.done ++ k.done) ≡ first ++ second =
+        items_append root (h.trail ++ k.trail) h.done k.done ∙ ap (λ is. is ++ items_at root (h.trail ++ k.trail) k.done) before ∙ ap (λ is. first ++ is) behind in
+        let are = runs_then k.trail (k.done ++ k.begun) k.rest k.fails.opened k.due_are in
+        let texts : text first ++ (text second ++ k.part) ≡ text (items_at root (h.trail ++ k.trail) (h.done ++ k.done)) ++ k.part =
+        sym (append_assoc (text first) (text second) k.part) ∙ ap (λ xs. xs ++ k.part) (sym (text_append first second) ∙ ap text (sym same)) in
+        record {
+          done = h.done ++ k.done;
+          begun = k.begun;
+          rest = k.rest;
+          trail = h.trail ++ k.trail;
+          others = k.others;
+          listed = h.listed ++ k.listed;
+          heads = h.heads ++ k.heads;
+          fails = subst (λ ps. Fails root s u ps (h.listed ++ k.listed) (h.heads ++ k.heads) (h.trail ++ k.trail) why) (sym both)
+              (fails_then root s t u h.done (k.done ++ k.begun) h.listed k.listed h.heads k.heads h.trail k.trail why h.audits k.fails);
+          due_are = due_are ∙ ap (λ qs. qs ++ k.rest) (sym both);
+          last_is = k.last_is ∙ ap (λ x. last_of x k.done) h.last_is ∙ last_then from h.done k.done;
+          runs_begin = ap joined are ∙ ap (λ is. first ++ is) k.runs_begin ∙ sym (append_assoc first second k.others) ∙ ap (λ is. is ++ k.others) (sym same);
+          one = k.one;
+          part = k.part;
+          wrote = subst (Appends old new) texts (Appends-trans old mid new _ _ h.wrote k.wrote);
+          part_of = k.part_of;
+          count_fits = let n : length (runs (items_at root (h.trail ++ k.trail) (due root from)) (l ∷ ls)) ≡ suc (length (runs (items_at root k.trail (due root mid_last)) ls)) = ap length are in let c = k.count_fits in omega (arith, n, c);
+          costs = ap total_cost same ∙ cost_append first second ∙ (let c = h.costs in let d = k.costs in omega (arith, c, d));
+          counts = ap total_files same ∙ files_append first second ∙ (let c = h.counts in let d = k.counts in omega (arith, c, d));
+          finds = ap found same ∙ found_append first second ∙ ap (λ v. v || found second) h.finds ∙ ap (λ v. finding || v) k.finds;
+          read = reads_then k.heads count k.read;
+        }
+
+    pub ends_then : (end : CycleStatus) → PartsEnd root t u mid new mid_last last ls spent' files' finding' count end
+        → PartsEnd root s u old new from last (l ∷ ls) (spent + spent') (files + files') (finding || finding') (1 + count) end
+    ends_then Ended k = parts_then true k
+    ends_then Spent k = parts_then false k
+    ends_then (Stopped why) k = stops_then why k

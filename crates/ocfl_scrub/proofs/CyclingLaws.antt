@@ -1,0 +1,89 @@
+-- The loop of a cycle as the code says it.
+use Rattle.std.proofs.Common.{◌≡◌, ◌≢◌, ◌<◌, ◌≤◌, ℕ, ◌+◌, List, [], ◌∷◌, refl, sym, ◌∙◌, ap, subst, Bool, Some, None, Option, map, drop, length, get_or}
+use Rattle.std.proofs.Math.ListN.{drop_of_length-le}
+use Rattle.ocfl_tree.specs.Place.{Place}
+use Rattle.ocfl_tree.specs.Tree.{Tree}
+use Rattle.ocfl_tree.specs.Store.{Store}
+use Rattle.ocfl_tree.proofs.Lists.{drop_item}
+use Rattle.ocfl_audit.specs.Runs.{Limits}
+use Rattle.ocfl_cursor.specs.Cursor.{State, start, behind, ended, Cursor, new_cursor}
+use Rattle.ocfl_cursor.specs.Moves.{after_run}
+use Rattle.ocfl_cursor.specs.declared.limits.Limits.{Limits as MadeLimits}
+use Rattle.ocfl_walk.specs.declared.fault.Fault.{Fault}
+use Rattle.ocfl_walk.specs.declared.fault.Fault.TheVariants.{Output}
+use Rattle.ocfl_scrub.specs.Taking.{WritesLines}
+use Rattle.ocfl_scrub.specs.Running.{limits_of, state_at, state_after, begun_in, begun}
+use Rattle.ocfl_scrub.specs.Cycling.{CyclesTo}
+use Rattle.ocfl_scrub.specs.declared.running.RunStatus.{RunStatus}
+use Rattle.ocfl_scrub.specs.declared.running.RunStatus.TheVariants as run
+use Rattle.ocfl_scrub.specs.declared.cycling.CycleStatus.{CycleStatus}
+use Rattle.ocfl_scrub.specs.declared.cycling.CycleStatus.TheVariants as cycle
+
+-- ---- limits
+
+pub limits_next : (xs : List MadeLimits) (i : ℕ) (x : MadeLimits) → i < length xs → x ≡ get_or xs i x → map limits_of (drop i xs) ≡ limits_of x ∷ map limits_of (drop (i + 1) xs)
+limits_next xs i x fits is = ap (map limits_of) (drop_item xs i x fits is)
+
+pub limits_out : (xs : List MadeLimits) (i : ℕ) → length xs ≤ i → map limits_of (drop i xs) ≡ []
+limits_out xs i out = ap (map limits_of) (drop_of_length-le xs out)
+
+-- ---- how a run ended
+
+pub ended_not_worn : (end : RunStatus) → end ≡ run.Ended → end ≢ run.Worn
+ended_not_worn end e f = cc
+
+pub spent_not_worn : (end : RunStatus) → end ≡ run.Spent → end ≢ run.Worn
+spent_not_worn end e f = cc
+
+pub stopped_not_worn : (end : RunStatus) (why : Fault) → end ≡ run.Stopped why → end ≢ run.Worn
+stopped_not_worn end why e f = cc
+
+pub ended_wrote : (end : RunStatus) → end ≡ run.Ended → end ≢ run.Stopped Output
+ended_wrote end e f = cc
+
+pub spent_wrote : (end : RunStatus) → end ≡ run.Spent → end ≢ run.Stopped Output
+spent_wrote end e f = cc
+
+pub stopped_wrote : (end : RunStatus) (why : Fault) (last_end : CycleStatus) → end ≡ run.Stopped why → last_end ≡ cycle.Stopped why → last_end ≢ cycle.Stopped Output → end ≢ run.Stopped Output
+stopped_wrote end why last_end e f other g = let same : why ≡ Output = cc in other (f ∙ ap cycle.Stopped same)
+
+-- ---- cursors
+
+pub new_unended : (c : Cursor) → c ≡ new_cursor → c.state ≢ ended
+new_unended c e f = start_not_ended (sym (ap (λ x. x.state) e) ∙ f)
+  where
+    start_not_ended : start ≡ ended → ⊥
+    start_not_ended g = cc
+
+begun_same : (c : Cursor) (s : State) → s ≢ ended → begun_in c s ≡ c
+begun_same c start h = refl
+begun_same c (behind p) h = refl
+begun_same c ended h = absurd (h refl)
+
+state_unended : (last : Option Place) → state_at last ≢ ended
+state_unended None e = cc
+state_unended (Some p) e = cc
+
+-- one run later, on every store
+module _ (c now reached : Cursor) (cost opened : ℕ) (end : RunStatus) (last : Option Place) (is_now : now ≡ c) (unended : c.state ≢ ended) (is : reached ≡ after_run (begun now) cost opened (state_after end last)) where
+  reached_is : reached ≡ after_run c cost opened (state_after end last)
+  reached_is = is ∙ ap (λ x. after_run (begun x) cost opened (state_after end last)) is_now ∙ ap (λ x. after_run x cost opened (state_after end last)) (begun_same c c.state unended)
+
+  pub one_run_more : (n : ℕ) → c.runs ≡ n → reached.runs ≡ n + 1
+  one_run_more n e = ap (λ x. x.runs) reached_is ∙ ap (λ m. m + 1) e
+
+  pub same_cycle : c.cycle ≡ 1 → reached.cycle ≡ 1
+  same_cycle e = ap (λ x. x.cycle) reached_is ∙ e
+
+  pub spent_unended : end ≡ run.Spent → reached.state ≢ ended
+  spent_unended e f = state_unended last (sym (ap (λ x. x.state) reached_is ∙ ap (λ w. state_after w last) e) ∙ f)
+
+-- ---- ends
+
+pub lines_said : (old new : Option (List ℕ)) (finding reported : Bool) → reported ≡ finding → WritesLines old new finding → WritesLines old new reported
+lines_said old new finding reported e h = subst (WritesLines old new) (sym e) h
+
+pub cycle_said : (root : Tree) (s t : Store) (old new : Option (List ℕ)) (all : List Limits) (c d : Cursor) (finding reported : Bool) (end last_end : CycleStatus) → d ≡ c → reported ≡ finding → last_end ≡ end
+    → CyclesTo root s t old new all c finding end → CyclesTo root s t old new all d reported last_end
+cycle_said root s t old new all c d finding reported end last_end e f g h =
+    subst (CyclesTo root s t old new all d reported) (sym g) (subst (λ v. CyclesTo root s t old new all d v end) (sym f) (subst (λ x. CyclesTo root s t old new all x finding end) (sym e) h))

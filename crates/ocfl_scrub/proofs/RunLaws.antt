@@ -1,0 +1,299 @@
+-- A pass that is paid for is a run.
+use Rattle.std.proofs.Common.{◌≡◌, ◌≢◌, ◌⊎◌, inl, inr, ℕ, suc, ◌+◌, ◌<◌, ◌≤◌, ◌^◌, List, [], ◌∷◌, ◌++◌, refl, sym, ◌∙◌, ap, subst, true, false, Bool, Some, None, Option, append-nil, take, map, Bor, arith}
+use Rattle.std.specs.Prelude.{cond}
+use Rattle.std.specs.Option.{option_map, option_copied}
+use Rattle.std.specs.Io.KnownBytes.{Appends}
+use Rattle.std.proofs.KnownBytes.{Appends-nil}
+use Rattle.ocfl_tree.specs.Place.{Text, Place}
+use Rattle.ocfl_tree.specs.Tree.{Tree}
+use Rattle.ocfl_tree.specs.Store.{Store}
+use Rattle.ocfl_tree.specs.declared.store.Opening.{Opening}
+use Rattle.ocfl_report.specs.Line.{Item, found}
+use Rattle.ocfl_report.specs.Text.{text}
+use Rattle.ocfl_audit.specs.Audit.{audit, after, item_of, total_cost, given_by}
+use Rattle.ocfl_audit.specs.Lines.{is_hashed}
+use Rattle.ocfl_audit.specs.Due.{due, items_at}
+use Rattle.ocfl_audit.specs.Between.{looked_between, read_between}
+use Rattle.ocfl_audit.specs.Trail.{content_trail, unread_of}
+use Rattle.ocfl_audit.specs.Runs.{Limits, files_of, total_files, cut_len, cut, left}
+use Rattle.ocfl_audit.proofs.DueLaws.{after_is_due}
+use Rattle.ocfl_audit.proofs.Trails.{unread_behind}
+use Rattle.ocfl_cursor.specs.Cursor.{State, Cursor, IsShortPlace, IsCursor}
+use Rattle.ocfl_cursor.specs.Moves.{after_run}
+use Rattle.ocfl_walk.specs.Looking.{IsFront}
+use Rattle.ocfl_walk.specs.Ways.{IsWayFault}
+use Rattle.ocfl_walk.specs.Auditing.{Audits, Fails, GoesDown, GoDownFails}
+use Rattle.ocfl_walk.specs.declared.fault.Fault.{Fault}
+use Rattle.ocfl_walk.specs.declared.fault.Fault.TheVariants.{Output}
+use Rattle.ocfl_scrub.specs.Taking.{PartOf}
+use Rattle.ocfl_scrub.specs.Passing.{last_of}
+use Rattle.ocfl_scrub.specs.WholeAudit.{places}
+use Rattle.ocfl_scrub.specs.Running.{items_above, taken, rest, first_of, last_cost, place_in, Runs, RunStops, RunEnds, RunsFrom, RunsClean, RunsCleanly, IsPaid, begun, state_after}
+use Rattle.ocfl_scrub.specs.Paying.{Begins, Paid, Counts, IsWithinBoth, PaysAll, PaysUpTo, PaysHalting, PaidEnds}
+use Rattle.ocfl_scrub.specs.declared.running.RunStatus.{RunStatus}
+use Rattle.ocfl_scrub.specs.declared.running.RunStatus.TheVariants.{Ended, Spent, Stopped, Worn}
+use Rattle.ocfl_scrub.proofs.AuditingLaws.{audits_then, fails_then, items_append, nothing_hashed}
+use Rattle.ocfl_scrub.proofs.AuditLaws.{places_of_items, take_items, none_left}
+use Rattle.ocfl_scrub.proofs.PassLaws.{take_nothing}
+use Rattle.ocfl_scrub.proofs.TakeLaws.{nothing_of}
+use Rattle.ocfl_scrub.proofs.MeterLaws.{paid_files}
+use Rattle.ocfl_scrub.proofs.WayOrder.{listed_once, read_once}
+use Rattle.ocfl_scrub.proofs.CutLaws.{IsStop, paid_begins, cut_of_paid, left_of_paid, paid_passes, test_unpaid, hashed_costs}
+
+-- ---- where a cut ends
+
+nothing_stops : (root : Tree) (os : List Opening) (l : Limits) (spent files : ℕ) → IsStop l spent files (items_at root os [])
+unfolding items_at
+nothing_stops root os l spent files = tt
+
+-- the limits do not pay what is next, whatever could be read
+unpaid_stops : (root : Tree) (os : List Opening) (l : Limits) (spent files : ℕ) (p : Place) (ps : List Place) → is_hashed root p ≡ true → (IsWithinBoth l spent files → ⊥) → IsStop l spent files (items_at root os (p ∷ ps))
+unfolding items_at
+unpaid_stops root os l spent files p ps h k = test_unpaid l spent files _ (hashed_costs root (given_by (unread_of root os) p) p h) k
+
+none_first : (root : Tree) (os : List Opening) → None ≡ first_of (items_at root os [])
+unfolding items_at
+none_first root os = refl
+
+some_first : (root : Tree) (os : List Opening) (p : Place) (ps : List Place) → Some p ≡ first_of (items_at root os (p ∷ ps))
+unfolding items_at
+some_first root os p ps = refl
+
+all_front : (xs : List Place) → IsFront xs xs
+all_front xs = ([], sym (append-nil xs))
+
+-- the next item is in the cut where it is paid for
+first_taken : (l : Limits) (s f : ℕ) (ys : List Item) → Paid l s f (take 1 ys) → take 1 (take (cut_len l s f ys) ys) ≡ take 1 ys
+first_taken l s f [] h = refl
+first_taken l s f (y ∷ ys) h =
+    let n : ℕ = cut_len l (s + y.cost) (f + files_of y.cost) ys in
+    ap (λ v. take 1 (take (cond v (suc n) 0) (y ∷ ys))) h.0 ∙ ap (λ zs. y ∷ zs) (take_nothing (take n ys) ∙ sym (take_nothing ys))
+
+no_part : (why : Fault) → why ≢ Output → (whole part : Text) → PartOf why whole part → part ≡ []
+no_part why other whole part h = h.is ∙ ap (λ n. take n whole) (h.none other) ∙ take_nothing whole
+
+-- what was begun and written of the next item is a beginning of the first that the cut has left
+ends_at : (root : Tree) (os : List Opening) (why : Fault) (begun : List Place) (part : Text) (nexts : List Place) (first : List Item) → (first ≡ items_at root os nexts) ⊎ ((why ≢ Output) × (begun ≡ []))
+    → IsFront begun nexts → PartOf why (text (items_at root os nexts)) part → IsFront begun (places first) × PartOf why (text first) part
+ends_at root os why begun part nexts first (inl e) one h =
+    (subst (IsFront begun) (sym (places_of_items root os nexts) ∙ ap places (sym e)) one, subst (λ is. PartOf why (text is) part) (sym e) h)
+ends_at root os why begun part nexts first (inr (other, none)) one h =
+    (subst (λ xs. IsFront xs (places first)) (sym none) (places first, refl), subst (PartOf why (text first)) (sym (no_part why other _ part h)) (nothing_of why other (text first)))
+
+next_of : {A B C : Type 0} → A ⊎ C → (A → B) → B ⊎ C
+next_of (inl a) f = inl (f a)
+next_of (inr c) f = inr c
+
+-- ---- behind a walk that went down to where the pass begins
+
+module _ (root : Tree) (s t u : Store) (old new : Option (List ℕ)) (from last : Option Place) (l : Limits) (spent files : ℕ) (finding : Bool) (g : GoesDown root s t from) where
+  meta : content_trail root g.trail ≡ []
+  meta = g.audits.opened ∙ nothing_hashed root
+
+  -- what was read on the way down has no part in the items
+  walked : (os : List Opening) (ps : List Place) → items_at root (g.trail ++ os) ps ≡ items_at root os ps
+  unfolding items_at
+  walked os ps = ap (λ v. map (item_of root v) ps) (unread_behind root g.trail os meta)
+
+  module _ (os : List Opening) (done later : List Place) (due_are : due root from ≡ done ++ later) where
+    above_are : items_above root (g.trail ++ os) from ≡ items_at root os done ++ items_at root os later
+    above_are = after_is_due root (g.trail ++ os) from ∙ walked os (due root from) ∙ ap (items_at root os) due_are ∙ items_append root os done later
+
+    module _ (counts : Counts l spent files (items_at root os done)) where
+      module _ (next : Option Place) (stop : IsStop l spent files (items_at root os later)) where
+        stop_there : IsStop l (total_cost (items_at root os done)) (total_files (items_at root os done)) (items_at root os later)
+        stop_there =
+            subst (λ n. IsStop l n (total_files (items_at root os done)) (items_at root os later)) counts.spent_is
+            (subst (λ n. IsStop l spent n (items_at root os later)) counts.files_is stop)
+
+        taken_are : taken root (g.trail ++ os) from l ≡ items_at root os done
+        taken_are = ap (λ is. cut is l) above_are ∙ cut_of_paid l _ _ counts.paid stop_there
+
+        rest_are : rest root (g.trail ++ os) from l ≡ items_at root os later
+        rest_are = ap (λ is. left is l) above_are ∙ left_of_paid l _ _ counts.paid stop_there
+
+        runs_of : next ≡ first_of (items_at root os later) → Audits root t u done (looked_between root from next) (read_between root from next) os
+            → Appends old new (text (items_at root os done)) → finding ≡ found (items_at root os done) → last ≡ last_of from done → Runs root s u old new from last l spent files finding next
+        runs_of next_is k wrote found_is last_is =
+            let at_places : places (taken root (g.trail ++ os) from l) ≡ done = ap places taken_are ∙ places_of_items root os done in
+            record {
+              trail = g.trail ++ os;
+              down = g.listed;
+              held = g.heads;
+              audits = subst (λ ps. Audits root s u ps (g.listed ++ looked_between root from next) (g.heads ++ read_between root from next) (g.trail ++ os)) (sym at_places)
+                  (audits_then root s t u [] done g.listed (looked_between root from next) g.heads (read_between root from next) g.trail os g.audits k);
+              down_front = g.listed_front;
+              held_front = g.heads_front;
+              lists_once = listed_once root from next g.listed (looked_between root from next) g.listed_front (all_front _);
+              reads_once = read_once root from next g.heads (read_between root from next) g.heads_front (all_front _);
+              wrote = subst (λ is. Appends old new (text is)) (sym taken_are) wrote;
+              spent_is = counts.spent_is ∙ ap total_cost (sym taken_are);
+              files_is = counts.files_is ∙ ap total_files (sym taken_are);
+              found_is = found_is ∙ ap found (sym taken_are);
+              last_is = last_is ∙ ap (last_of from) (sym at_places);
+              next_is = next_is ∙ ap first_of (sym rest_are);
+              overrun = λ some.
+                  let c = counts.spent_is in
+                  let q = paid_passes l (items_at root os done) counts.paid (omega (arith, some, c)) in
+                  let e : last_cost (taken root (g.trail ++ os) from l) ≡ last_cost (items_at root os done) = ap last_cost taken_are in
+                  omega (arith, q, c, e);
+            }
+
+  -- all were taken
+  ended : PaysAll root t u old new from last l spent files finding → Runs root s u old new from last l spent files finding None
+  ended h =
+      let k = h.finishes in
+      runs_of k.trail (due root from) [] (sym (append-nil (due root from))) h.counts None (nothing_stops root k.trail l spent files) (none_first root k.trail) k.audits k.wrote k.found_is k.last_is
+
+  -- the limits were reached
+  spent_all : (h : PaysUpTo root t u old new from last l spent files finding) → Runs root s u old new from last l spent files finding (Some h.next)
+  spent_all h =
+      runs_of h.trail h.done (h.next ∷ due root (Some h.next)) h.due_are h.counts (Some h.next) (unpaid_stops root h.trail l spent files h.next _ h.hashed h.reached) (some_first root h.trail h.next _) h.audits h.wrote h.found_is h.last_is
+
+  -- there was a fault
+  stopped : (why : Fault) → PaysHalting root t u old new from last l spent files finding why → RunStops root s u old new from last l spent files finding why
+  stopped why h =
+      let k = h.halts in
+      let trail : List Opening = g.trail ++ k.trail in
+      let whole : List Item = items_at root k.trail k.done in
+      let later : List Item = items_at root k.trail (due root last) in
+      let others : List Item = take (cut_len l (0 + total_cost whole) (0 + total_files whole) later) later in
+      let whole_places : k.done ≡ places whole = sym (places_of_items root k.trail k.done) in
+      let next_item : take 1 later ≡ items_at root k.trail (take 1 (due root last)) = take_items root k.trail 1 (due root last) in
+      let c = h.counts.spent_is in
+      let f = h.counts.files_is in
+      let first : Paid l spent files (items_at root k.trail (take 1 (due root last))) → take 1 others ≡ items_at root k.trail (take 1 (due root last)) = λ p.
+      first_taken l (0 + total_cost whole) (0 + total_files whole) later
+      (subst (λ n. Paid l n (0 + total_files whole) (take 1 later)) (let z : spent ≡ 0 + total_cost whole = omega (arith, c) in z)
+      (subst (λ n. Paid l spent n (take 1 later)) (let z : files ≡ 0 + total_files whole = omega (arith, f) in z) (subst (Paid l spent files) (sym next_item) p)))
+      ∙ next_item in
+      let ends = ends_at root k.trail why k.begun k.part (take 1 (due root last)) (take 1 others) (next_of h.next first) k.one k.part_of in
+      record {
+        trail = trail;
+        whole = whole;
+        others = others;
+        items_are = ap (λ is. cut is l) (above_are k.trail k.done (due root last) k.due_are) ∙ paid_begins l whole later h.counts.paid;
+        begun = k.begun;
+        one = ends.0;
+        down = g.listed;
+        listed = k.listed;
+        held = g.heads;
+        heads = k.heads;
+        fails = subst (λ ps. Fails root s u (ps ++ k.begun) (g.listed ++ k.listed) (g.heads ++ k.heads) trail why) whole_places
+            (fails_then root s t u [] (k.done ++ k.begun) g.listed k.listed g.heads k.heads g.trail k.trail why g.audits k.fails);
+        down_front = g.listed_front;
+        listed_front = k.listed_front;
+        held_front = g.heads_front;
+        heads_front = k.heads_front;
+        lists_once = listed_once root from None g.listed k.listed g.listed_front k.listed_front;
+        reads_once = read_once root from None g.heads k.heads g.heads_front k.heads_front;
+        part = k.part;
+        wrote = k.wrote;
+        part_of = ends.1;
+        spent_is = h.counts.spent_is;
+        files_is = h.counts.files_is;
+        found_is = k.found_is;
+        last_is = k.last_is ∙ ap (last_of from) whole_places;
+      }
+
+  pub pass_is_run : (end : RunStatus) → PaidEnds root t u old new from last l spent files finding end → RunEnds root s u old new from last l spent files finding end
+  pass_is_run Ended h = ended h
+  pass_is_run Spent h = (h.next, spent_all h)
+  pass_is_run (Stopped why) h = stopped why h
+  pass_is_run Worn h = h
+
+-- the place that a walk is given by reference
+pub lent_place : {A : Type 0} (o : Option (Bor A)) (from : Option A) → option_copied o ≡ from → option_map (λ p. p.now) o ≡ from
+lent_place None from e = e
+lent_place (Some p) from e = e
+
+-- no walk was started
+pub not_run : (root : Tree) (s t : Store) (old : Option (List ℕ)) (from : Option Place) (l : Limits) (why : Fault) → IsWayFault why → GoDownFails root s t from why → RunStops root s t old old from from l 0 0 false why
+not_run root s t old from l why only g = record {
+  trail = g.trail;
+  whole = [];
+  others = taken root g.trail from l;
+  items_are = refl;
+  begun = [];
+  one = (places (take 1 (taken root g.trail from l)), refl);
+  down = g.listed;
+  listed = [];
+  held = g.heads;
+  heads = [];
+  fails = subst (λ ls. Fails root s t [] ls (g.heads ++ []) g.trail why) (sym (append-nil g.listed)) (subst (λ hs. Fails root s t [] g.listed hs g.trail why) (sym (append-nil g.heads)) g.fails);
+  down_front = g.listed_front;
+  listed_front = (looked_between root from None, refl);
+  held_front = g.heads_front;
+  heads_front = (read_between root from None, refl);
+  lists_once = listed_once root from None g.listed [] g.listed_front (looked_between root from None, refl);
+  reads_once = read_once root from None g.heads [] g.heads_front (read_between root from None, refl);
+  part = [];
+  wrote = Appends-nil old;
+  part_of = nothing_of why only.0 (text (take 1 (taken root g.trail from l)));
+  spent_is = refl;
+  files_is = refl;
+  found_is = refl;
+  last_is = refl;
+}
+
+-- ---- where no failure was counted
+
+no_first : (items : List Item) → None ≡ first_of items → items ≡ []
+no_first [] e = refl
+no_first (i ∷ items) e = absurd cc
+
+a_first : (items : List Item) (p : Place) → Some p ≡ first_of items → items ≢ []
+a_first [] p e f = absurd cc
+a_first (i ∷ items) p e f = cc
+
+module _ (root : Tree) (s t : Store) (old new : Option (List ℕ)) (c : Cursor) (last : Option Place) (l : Limits) (spent files : ℕ) (finding : Bool) (same : t.failures ≡ s.failures) where
+  all_read : (next : Option Place) (h : Runs root s t old new (place_in c.state) last l spent files finding next) → unread_of root h.trail ≡ []
+  all_read next h = none_left (unread_of root h.trail) s.failures (sym same ∙ h.audits.did.failures_are)
+
+  cleanly : (next : Option Place) → Runs root s t old new (place_in c.state) last l spent files finding next → RunsClean root old new (place_in c.state) l spent files finding
+  cleanly next h =
+      let e = all_read next h in
+      record {
+        wrote = subst (λ u. Appends old new (text (cut (after (audit root u) (place_in c.state)) l))) e h.wrote;
+        spent_is = h.spent_is ∙ ap (λ u. total_cost (cut (after (audit root u) (place_in c.state)) l)) e;
+        files_is = h.files_is ∙ ap (λ u. total_files (cut (after (audit root u) (place_in c.state)) l)) e;
+        found_is = h.found_is ∙ ap (λ u. found (cut (after (audit root u) (place_in c.state)) l)) e;
+      }
+
+  pub runs_cleanly : (end : RunStatus) → RunEnds root s t old new (place_in c.state) last l spent files finding end → RunsCleanly root old new c l spent files finding end
+  runs_cleanly Ended h = (cleanly None h, subst (λ u. left (after (audit root u) (place_in c.state)) l ≡ []) (all_read None h) (no_first _ h.next_is))
+  runs_cleanly Spent h = (cleanly (Some h.0) h.1, subst (λ u. left (after (audit root u) (place_in c.state)) l ≢ []) (all_read (Some h.0) h.1) (a_first _ h.0 h.1.next_is))
+  runs_cleanly (Stopped why) h = tt
+  runs_cleanly Worn h = tt
+
+-- ---- from the cursor that a run is given
+
+-- the run can be counted
+pub run_counted : (b : Cursor) (l : Limits) (spent files : ℕ) (state : State) → IsCursor b → b.runs + 1 < 2 ^ 64 → spent ≤ 2 ^ 63 → IsPaid l spent files → IsShortPlace state → IsCursor (after_run b spent files state)
+run_counted b l spent files state h room fits p short =
+    let s = h.spent in
+    let f = h.files in
+    let m = paid_files l spent files p in
+    record {
+      first = h.first;
+      cycle = h.cycle;
+      runs = room;
+      spent = omega (arith, s, fits);
+      files = omega (arith, f, m);
+      place = short;
+    }
+
+module _ (root : Tree) (s t : Store) (old new : Option (List ℕ)) (c b : Cursor) (from last : Option Place) (l : Limits) (spent files : ℕ) (finding : Bool) (end : RunStatus) (h : Begins c b from)
+    (run : RunEnds root s t old new from last l spent files finding end) where
+  begun_there : RunEnds root s t old new (place_in c.state) last l spent files finding end
+  begun_there = subst (λ x. RunEnds root s t old new x last l spent files finding end) h.from_is run
+
+  pub runs_from : (reached : Cursor) (state : State) → reached ≡ after_run b spent files state → state ≡ state_after end last → RunsFrom root s t old new c l reached spent files finding end
+  runs_from reached state e f = record {
+    last = last;
+    run = begun_there;
+    cursor_is = e ∙ ap (λ x. after_run x spent files state) h.begun_is ∙ ap (λ x. after_run (begun c) spent files x) f;
+  }
+
+  pub clean_from : t.failures ≡ s.failures → RunsCleanly root old new c l spent files finding end
+  clean_from same = runs_cleanly root s t old new c last l spent files finding same end begun_there

@@ -1,0 +1,140 @@
+-- One run of a cycle, by its places.
+use Rattle.std.proofs.Common.{◌≡◌, ℕ, ◌+◌, ◌≤◌, List, [], ◌∷◌, ◌++◌, refl, sym, ◌∙◌, ap, subst, Bool, Some, None, Option, map, length, length-append, arith}
+use Rattle.std.specs.Io.KnownBytes.{Appends}
+use Rattle.ocfl_tree.specs.Place.{Place, place_cmp}
+use Rattle.ocfl_tree.specs.Ascending.{IsAscending}
+use Rattle.ocfl_tree.specs.Tree.{Tree}
+use Rattle.ocfl_tree.specs.Store.{Store}
+use Rattle.ocfl_tree.specs.declared.store.Opening.{Opening}
+use Rattle.ocfl_report.specs.Line.{Item, found}
+use Rattle.ocfl_report.specs.Text.{text}
+use Rattle.ocfl_audit.specs.Audit.{Unread, audit, after, item_of, total_cost}
+use Rattle.ocfl_audit.specs.Trail.{unread_of}
+use Rattle.ocfl_audit.specs.Due.{due, items_at}
+use Rattle.ocfl_audit.specs.Between.{read_between}
+use Rattle.ocfl_audit.specs.Runs.{Limits, total_files}
+use Rattle.ocfl_audit.proofs.AuditExists.{audit_is}
+use Rattle.ocfl_audit.proofs.AfterLaws.{after_is_end, after_item}
+use Rattle.ocfl_audit.proofs.DueLaws.{after_is_due}
+use Rattle.ocfl_walk.specs.Looking.{IsFront}
+use Rattle.ocfl_walk.specs.Auditing.{Audits, holder}
+use Rattle.ocfl_scrub.specs.Passing.{last_of}
+use Rattle.ocfl_scrub.specs.WholeAudit.{places}
+use Rattle.ocfl_scrub.specs.Paying.{Paid}
+use Rattle.ocfl_scrub.specs.Running.{items_above, taken, rest, first_of, Runs}
+use Rattle.ocfl_scrub.proofs.Lists.{map_append}
+use Rattle.ocfl_scrub.proofs.AuditLaws.{places_of_items}
+use Rattle.ocfl_scrub.proofs.CutLaws.{IsStop, cut_and_left}
+use Rattle.ocfl_scrub.proofs.PartLaws.{cut_paid, cut_stops}
+
+-- ---- the items above a place, in two parts
+
+heads_same : {A : Type 0} (x y : A) (xs ys : List A) → x ∷ xs ≡ y ∷ ys → x ≡ y
+heads_same x y xs ys e = cc
+
+tails_same : {A : Type 0} (x y : A) (xs ys : List A) → x ∷ xs ≡ y ∷ ys → xs ≡ ys
+tails_same x y xs ys e = cc
+
+module _ (root : Tree) (unread : Unread) where
+  after_next : (front : List Item) (x : Item) (rest : List Item) → audit root unread ≡ front ++ x ∷ rest → after (audit root unread) (Some x.place) ≡ rest
+  after_next front x rest e =
+      ap (λ is. after is (Some x.place)) e ∙ after_item front x rest (subst (λ is. IsAscending place_cmp (places is)) e (audit_is root unread).ascends)
+
+  after_one : (from : Option Place) (x : Item) (rest : List Item) → after (audit root unread) from ≡ x ∷ rest → after (audit root unread) (Some x.place) ≡ rest
+  after_one None x rest e = after_next [] x rest e
+  after_one (Some p) x rest e =
+      let w = after_is_end (audit root unread) p (audit_is root unread).ascends in
+      after_next w.0 x rest (w.1 ∙ ap (λ is. w.0 ++ is) e)
+
+  -- behind the last of a front lies what follows it
+  after_front : (from : Option Place) (xs ys : List Item) → after (audit root unread) from ≡ xs ++ ys → after (audit root unread) (last_of from (places xs)) ≡ ys
+  after_front from [] ys e = e
+  after_front from (x ∷ xs) ys e = after_front (Some x.place) xs ys (after_one from x (xs ++ ys) e)
+
+module _ (root : Tree) (os : List Opening) where
+  front_items : (ps : List Place) (xs ys : List Item) → items_at root os ps ≡ xs ++ ys → items_at root os (places xs) ≡ xs
+  unfolding items_at
+  front_items ps [] ys e = refl
+  front_items [] (x ∷ xs) ys e = absurd cc
+  front_items (p ∷ ps) (x ∷ xs) ys e =
+      let f : item_of root (unread_of root os) p ≡ x = heads_same _ _ (map (item_of root (unread_of root os)) ps) (xs ++ ys) e in
+      let g : map (item_of root (unread_of root os)) ps ≡ xs ++ ys = tails_same (item_of root (unread_of root os) p) x _ _ e in
+      let h : x.place ≡ p = sym (ap (λ i. i.place) f) in
+      ap (λ q. item_of root (unread_of root os) q ∷ map (item_of root (unread_of root os)) (places xs)) h
+      ∙ ap (λ i. i ∷ map (item_of root (unread_of root os)) (places xs)) f ∙ ap (λ is. x ∷ is) (front_items ps xs ys g)
+
+  -- a front of the items above a place, and the rest
+  module _ (from : Option Place) (xs ys : List Item) (split : items_above root os from ≡ xs ++ ys) where
+    above_is : items_at root os (due root from) ≡ xs ++ ys
+    above_is = sym (after_is_due root os from) ∙ split
+
+    pub front_is : items_at root os (places xs) ≡ xs
+    front_is = front_items (due root from) xs ys above_is
+
+    pub rest_is : items_at root os (due root (last_of from (places xs))) ≡ ys
+    rest_is = sym (after_is_due root os (last_of from (places xs))) ∙ after_front root (unread_of root os) from xs ys split
+
+    pub due_parts : due root from ≡ places xs ++ due root (last_of from (places xs))
+    due_parts =
+        sym (places_of_items root os (due root from)) ∙ ap places above_is ∙ map_append (λ i. i.place) xs ys
+        ∙ ap (λ ps. places xs ++ ps) (ap places (sym rest_is) ∙ places_of_items root os (due root (last_of from (places xs))))
+
+-- ---- one run
+
+abbrev pub first_place : List Place → Option Place
+first_place [] = None
+first_place (p ∷ ps) = Some p
+
+-- from s to t a run took the places that its limits allow, and left those behind the last of them
+pub record Turn (root : Tree) (s t : Store) (old new : Option (List ℕ)) (from last : Option Place) (limits : Limits) (spent files : ℕ) (finding : Bool) (next : Option Place) : Type 0 where
+  pub done : List Place
+  pub trail : List Opening
+  pub listed : List Place
+  pub heads : List Place
+  pub audits : Audits root s t done listed heads trail
+  pub due_are : due root from ≡ done ++ due root last
+  pub last_is : last ≡ last_of from done
+  pub next_is : next ≡ first_place (due root last)
+  pub paid : Paid limits 0 0 (items_at root trail done)
+  pub stops : IsStop limits (total_cost (items_at root trail done)) (total_files (items_at root trail done)) (items_at root trail (due root last))
+  pub wrote : Appends old new (text (items_at root trail done))
+  pub costs : total_cost (items_at root trail done) ≡ spent
+  pub counts : total_files (items_at root trail done) ≡ files
+  pub finds : found (items_at root trail done) ≡ finding
+  pub read : length heads ≤ length (holder root from) + length (read_between root from next)
+
+pub front_length : {A : Type 0} (xs ys : List A) → IsFront xs ys → length xs ≤ length ys
+front_length xs ys f = let e : length ys ≡ length xs + length f.0 = ap length f.1 ∙ length-append xs f.0 in omega (arith, e)
+
+first_places : (items : List Item) → first_of items ≡ first_place (places items)
+first_places [] = refl
+first_places (i ∷ items) = refl
+
+module _ (root : Tree) (s t : Store) (old new : Option (List ℕ)) (from last : Option Place) (limits : Limits) (spent files : ℕ) (finding : Bool) where
+  pub turn_of : (next : Option Place) → Runs root s t old new from last limits spent files finding next → Turn root s t old new from last limits spent files finding next
+  turn_of next h =
+      let cut_items : List Item = taken root h.trail from limits in
+      let left_items : List Item = rest root h.trail from limits in
+      let above : List Item = items_above root h.trail from in
+      let split : above ≡ cut_items ++ left_items = sym (cut_and_left above limits) in
+      let done : List Place = places cut_items in
+      let is_last : last_of from done ≡ last = sym h.last_is in
+      let taken_is : cut_items ≡ items_at root h.trail done = sym (front_is root h.trail from cut_items left_items split) in
+      let left_is : left_items ≡ items_at root h.trail (due root last) = sym (rest_is root h.trail from cut_items left_items split) ∙ ap (λ l. items_at root h.trail (due root l)) is_last in
+      record {
+        done = done;
+        trail = h.trail;
+        listed = _;
+        heads = h.held ++ read_between root from next;
+        audits = h.audits;
+        due_are = due_parts root h.trail from cut_items left_items split ∙ ap (λ l. done ++ due root l) is_last;
+        last_is = h.last_is;
+        next_is = h.next_is ∙ first_places left_items ∙ ap first_place (ap places left_is ∙ places_of_items root h.trail (due root last));
+        paid = subst (Paid limits 0 0) taken_is (cut_paid limits above);
+        stops = subst (IsStop limits _ _) left_is (subst (λ is. IsStop limits (total_cost is) (total_files is) left_items) taken_is (cut_stops limits above));
+        wrote = subst (λ is. Appends old new (text is)) taken_is h.wrote;
+        costs = ap total_cost (sym taken_is) ∙ sym h.spent_is;
+        counts = ap total_files (sym taken_is) ∙ sym h.files_is;
+        finds = ap found (sym taken_is) ∙ sym h.found_is;
+        read = let f = front_length h.held (holder root from) h.held_front in let e = length-append h.held (read_between root from next) in omega (arith, e, f);
+      }

@@ -1,0 +1,124 @@
+-- What lies on the way to a place comes before all that lies above it.
+use Rattle.std.proofs.Common.{◌≡◌, ◌⊎◌, inl, inr, List, [], ◌∷◌, ◌++◌, refl, sym, ◌∙◌, ap, subst, Option, Some, None, map}
+use Rattle.ocfl_tree.specs.Place.{Text, Place, place_cmp, beginnings}
+use Rattle.ocfl_tree.specs.Ascending.{IsAscending, IsAmong, IsBeforeAll}
+use Rattle.std.specs.declared.cmp.Ordering.TheVariants.{Less}
+use Rattle.ocfl_tree.specs.Tree.{Tree}
+use Rattle.ocfl_tree.proofs.Orders.{place_cmp_total}
+use Rattle.ocfl_audit.specs.Zone.{Zone, skipped, hierarchy, inside, zone}
+use Rattle.ocfl_audit.specs.Between.{IsBeyond, looked_between, read_between}
+use Rattle.ocfl_audit.proofs.AuditExists.{zone_is}
+use Rattle.ocfl_audit.proofs.BelowLaws.{cmp_behind, above_self, from_append, ascends_append}
+use Rattle.ocfl_audit.proofs.BetweenLaws.{from_between}
+use Rattle.ocfl_walk.specs.Looking.{way_to, IsFront}
+use Rattle.ocfl_walk.specs.Auditing.{holder_of, way_of, holder}
+use Rattle.ocfl_scrub.proofs.Lists.{map_append, ascends_left, ascends_across}
+use Rattle.ocfl_scrub.proofs.OrderLaws.{looked_ascend, read_ascend}
+
+-- ---- the way to a place
+
+module _ (n : Text) where
+  below_name : (a : Place) (bs : List Place) → IsBeforeAll place_cmp a bs → IsBeforeAll place_cmp (n ∷ a) (map (λ q. n ∷ q) bs)
+  below_name a [] h = tt
+  below_name a (b ∷ bs) h = (cmp_behind (n ∷ []) a b ∙ h.0, below_name a bs h.1)
+
+  ascends_name : (ps : List Place) → IsAscending place_cmp ps → IsAscending place_cmp (map (λ q. n ∷ q) ps)
+  ascends_name [] h = tt
+  ascends_name (a ∷ ps) h = (below_name a ps h.0, ascends_name ps h.1)
+
+  root_before : (ps : List Place) → IsBeforeAll place_cmp [] (map (λ q. n ∷ q) ps)
+  root_before [] = tt
+  root_before (a ∷ ps) = (refl, root_before ps)
+
+  way_parts : (p : Place) → way_to (n ∷ p) ≡ [] ∷ map (λ q. n ∷ q) (way_to p)
+  way_parts p = ap (λ ps. [] ∷ ps) (sym (map_append (λ q. n ∷ q) (beginnings p) (p ∷ [])))
+
+pub way_ascends : (p : Place) → IsAscending place_cmp (way_to p)
+way_ascends [] = (tt, tt)
+way_ascends (n ∷ p) = subst (IsAscending place_cmp) (sym (way_parts n p)) (root_before n (way_to p), ascends_name n (way_to p) (way_ascends p))
+
+-- the place itself, or before it
+abbrev pub IsUpTo : Place → Place → Type 0
+IsUpTo p x = (x ≡ p) ⊎ (place_cmp x p ≡ Less)
+
+way_up_to : (p x : Place) → IsAmong (way_to p) x → IsUpTo p x
+way_up_to p x i = by (from_append (beginnings p) (p ∷ []) x i)
+  where
+    by : IsAmong (beginnings p) x ⊎ IsAmong (p ∷ []) x → IsUpTo p x
+    by (inl j) = inr (ascends_across place_cmp (beginnings p) (p ∷ []) x (way_ascends p) j).0
+    by (inr (inl e)) = inl e
+    by (inr (inr j)) = absurd j
+
+before_beyond : (p x y : Place) → IsUpTo p x → place_cmp p y ≡ Less → place_cmp x y ≡ Less
+before_beyond p x y (inl e) l = subst (λ z. place_cmp z y ≡ Less) (sym e) l
+before_beyond p x y (inr k) l = place_cmp_total.trans x p y k l
+
+-- ---- the object that holds a place
+
+object_up_to : (root : Tree) (p o q : Place) → zone root p ≡ inside o q → IsUpTo p o
+object_up_to root p o q e = by q (zone_is root p o q e).whole
+  where
+    nothing_more : (o : Place) → o ++ [] ≡ o
+    nothing_more [] = refl
+    nothing_more (n ∷ o) = ap (λ r. n ∷ r) (nothing_more o)
+
+    by : (q : Place) → p ≡ o ++ q → IsUpTo p o
+    by [] f = inl (sym (f ∙ nothing_more o))
+    by (n ∷ q) f = inr (subst (λ x. place_cmp o x ≡ Less) (sym f) (above_self o n q))
+
+holder_ascends : (root : Tree) (p : Place) (z : Zone) → IsAscending place_cmp (holder_of z)
+holder_ascends root p skipped = tt
+holder_ascends root p hierarchy = tt
+holder_ascends root p (inside o q) = (tt, tt)
+
+holder_up_to : (root : Tree) (p x : Place) → IsAmong (holder_of (zone root p)) x → IsUpTo p x
+holder_up_to root p x i = by (zone root p) refl i
+  where
+    by : (z : Zone) → zone root p ≡ z → IsAmong (holder_of z) x → IsUpTo p x
+    by skipped e j = absurd j
+    by hierarchy e j = absurd j
+    by (inside o q) e (inl f) = subst (IsUpTo p) (sym f) (object_up_to root p o q e)
+    by (inside o q) e (inr j) = absurd j
+
+-- ---- and what lies above it
+
+looked_beyond : (root : Tree) (from to : Option Place) (y : Place) → IsAmong (looked_between root from to) y → IsBeyond from y
+unfolding looked_between
+looked_beyond root from to y i = (from_between _ from to y i).1
+
+read_beyond : (root : Tree) (from to : Option Place) (y : Place) → IsAmong (read_between root from to) y → IsBeyond from y
+unfolding read_between
+read_beyond root from to y i = (from_between _ from to y i).1
+
+front_of_none : (xs : List Place) → IsFront xs [] → xs ≡ []
+front_of_none [] f = refl
+front_of_none (x ∷ xs) f = absurd (let e = f.1 in cc)
+
+left_among : (xs ys : List Place) (z : Place) → IsAmong xs z → IsAmong (xs ++ ys) z
+left_among [] ys z i = absurd i
+left_among (x ∷ xs) ys z (inl e) = inl e
+left_among (x ∷ xs) ys z (inr i) = inr (left_among xs ys z i)
+
+joined_ascends : (p : Place) (front way rest : List Place) → IsFront front way → IsAscending place_cmp way → ((x : Place) → IsAmong way x → IsUpTo p x)
+    → IsAscending place_cmp rest → ((y : Place) → IsAmong rest y → place_cmp p y ≡ Less) → IsAscending place_cmp (front ++ rest)
+joined_ascends p front way rest f up low k far =
+    ascends_append place_cmp front rest (ascends_left place_cmp front f.0 (subst (IsAscending place_cmp) f.1 up)) k
+    (λ x y i j. before_beyond p x y (low x (subst (λ zs. IsAmong zs x) (sym f.1) (left_among front f.0 x i))) (far y j))
+
+front_ascends : (whole xs : List Place) → IsFront xs whole → IsAscending place_cmp whole → IsAscending place_cmp xs
+front_ascends whole xs f h = ascends_left place_cmp xs f.0 (subst (IsAscending place_cmp) f.1 h)
+
+module _ (root : Tree) where
+  -- the directories on the way to a place, and then those above it
+  pub listed_once : (from to : Option Place) (down listed : List Place) → IsFront down (way_of from) → IsFront listed (looked_between root from to) → IsAscending place_cmp (down ++ listed)
+  listed_once None to down listed f g = subst (λ xs. IsAscending place_cmp (xs ++ listed)) (sym (front_of_none down f)) (front_ascends _ listed g (looked_ascend root None to))
+  listed_once (Some p) to down listed f g =
+      joined_ascends p down (way_to p) listed f (way_ascends p) (way_up_to p) (front_ascends _ listed g (looked_ascend root (Some p) to))
+      (λ y j. looked_beyond root (Some p) to y (subst (λ zs. IsAmong zs y) (sym g.1) (left_among listed g.0 y j)))
+
+  -- the object that holds a place, and then those above it
+  pub read_once : (from to : Option Place) (held heads : List Place) → IsFront held (holder root from) → IsFront heads (read_between root from to) → IsAscending place_cmp (held ++ heads)
+  read_once None to held heads f g = subst (λ xs. IsAscending place_cmp (xs ++ heads)) (sym (front_of_none held f)) (front_ascends _ heads g (read_ascend root None to))
+  read_once (Some p) to held heads f g =
+      joined_ascends p held (holder_of (zone root p)) heads f (holder_ascends root p (zone root p)) (holder_up_to root p) (front_ascends _ heads g (read_ascend root (Some p) to))
+      (λ y j. read_beyond root (Some p) to y (subst (λ zs. IsAmong zs y) (sym g.1) (left_among heads g.0 y j)))

@@ -1,0 +1,27 @@
+use Rattle.std.proofs.Common.{◌≡◌, ◌≢◌, drop, map, false}
+use Rattle.std.specs.Prelude.{IsTrue}
+use Rattle.ocfl_cursor.specs.Cursor.{ended, new_cursor}
+use Rattle.ocfl_tree.specs.Tree.{Tree as Root}
+use Rattle.ocfl_walk.specs.Judging.{HasShortFiles}
+use Rattle.ocfl_scrub.specs.Running.{limits_of}
+use Rattle.ocfl_scrub.specs.Taking.{WritesLines}
+use Rattle.ocfl_scrub.proofs.GoesLaws.{CycleGoes}
+use Rattle.ocfl_scrub.proofs.cycling.cycle.Given as goal
+
+abbrev pub invariant-loop-one : goal.invariant-loop-one
+invariant-loop-one g l =
+    let Tree = g.T.Tree in
+    let Write = g.W.Write in
+    record {
+      counted : l.runs ≡ l.one-index;
+      counts : l.cursor.runs ≡ l.runs;
+      cycle : l.cursor.cycle ≡ 1;
+      unended : l.cursor.state ≢ ended;
+      begins : l.runs ≡ 0 → l.cursor ≡ new_cursor;
+      none_found : l.runs ≡ 0 → l.found ≡ false;
+      silent : l.runs ≡ 0 → l.out ≡ l.fn.out;
+      untouched : l.runs ≡ 0 → l.store ≡ l.fn.store;
+      lines : WritesLines (Write.contents l.fn.out) (Write.contents l.out) l.found;
+      told : IsTrue Tree.told → (root : Root) → (Tree.state l.fn.store).tree ≡ root → HasShortFiles root →
+          CycleGoes root (Tree.state l.fn.store) (Tree.state l.store) (Write.contents l.fn.out) (Write.contents l.out) (map limits_of (drop l.one-index l.limits)) (map limits_of l.limits) l.cursor l.found;
+    }

@@ -1,0 +1,27 @@
+use Rattle.std.proofs.Common.{◌≡◌, subst, inl, ◌∙◌, ap, map}
+use Rattle.ocfl_scrub.specs.Cycling.{CyclesTo, HeadlineOf}
+use Rattle.ocfl_scrub.specs.Running.{limits_of}
+use Rattle.ocfl_scrub.specs.Performing.{equal_limits}
+use Rattle.ocfl_scrub.proofs.performing.performed_cycle.Goals as goal
+
+pub returns-clause-told : goal.returns-clause-told
+returns-clause-told g c told root over short =
+    let e = c.cycle.ensures in
+    let s = g.T.Tree.state c.args.store.now in
+    let t = g.T.Tree.state c.cycle.new.store in
+    let old = g.W.Write.contents c.args.out.now in
+    let new = g.W.Write.contents c.cycle.new.out in
+    let end = c.cycle.result in
+    let same : map limits_of c.deref.result.now ≡ equal_limits c.args.limits c.args.count = ap (map limits_of) (c.deref.ensures.value ∙ c.in-Ok.ensures) in
+    inl (record {
+      reached = end.cursor;
+      count = end.runs;
+      spent = end.spent;
+      finding = end.found;
+      ended = end.end;
+      cycles = subst (λ ls. CyclesTo root s t old new ls end.cursor end.found end.end) same (e.told told root over short);
+      headline = λ clean. subst (λ ls. HeadlineOf root s t old new ls end.runs end.end) same (e.headline told root over short clean);
+      count_is = e.runs;
+      spent_is = e.spent;
+      says = c.cycle_noted.ensures.note;
+    })

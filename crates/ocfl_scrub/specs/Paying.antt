@@ -1,0 +1,91 @@
+-- A pass whose items are paid for, one after the other.
+use Rattle.std.specs.Prelude.{◌≡◌, ◌≢◌, ◌⊎◌, ◌<◌, ◌≤◌, ◌+◌, ◌^◌, ℕ, List, [], ◌∷◌, ◌++◌, Bool, true, Option, Some, length, take, IfSome, ⊤}
+use Rattle.std.specs.Io.KnownBytes.{Appends}
+use Rattle.ocfl_tree.specs.Place.{Place}
+use Rattle.ocfl_tree.specs.Tree.{Tree}
+use Rattle.ocfl_tree.specs.Store.{Store}
+use Rattle.ocfl_tree.specs.declared.store.Opening.{Opening}
+use Rattle.ocfl_report.specs.Line.{Item, found}
+use Rattle.ocfl_report.specs.Text.{text}
+use Rattle.ocfl_audit.specs.Audit.{total_cost}
+use Rattle.ocfl_audit.specs.Lines.{is_hashed}
+use Rattle.ocfl_audit.specs.Due.{due, items_at}
+use Rattle.ocfl_audit.specs.Between.{looked_between, read_between}
+use Rattle.ocfl_audit.specs.Runs.{Limits, files_of, total_files, may_take}
+use Rattle.ocfl_cursor.specs.Cursor.{Cursor, IsCursor}
+use Rattle.ocfl_cursor.specs.Moves.{at_start}
+use Rattle.ocfl_walk.specs.Auditing.{Audits}
+use Rattle.ocfl_walk.specs.declared.fault.Fault.{Fault}
+use Rattle.ocfl_walk.specs.declared.fault.Fault.TheVariants as fault
+use Rattle.ocfl_scrub.specs.Passing.{last_of, Passes, Finishes, Halts}
+use Rattle.ocfl_scrub.specs.Running.{place_in, begun, IsWorn}
+use Rattle.ocfl_scrub.specs.declared.running.RunStatus.{RunStatus}
+use Rattle.ocfl_scrub.specs.declared.running.RunStatus.TheVariants as status
+
+-- ---- on every store
+
+-- a place that a cursor can hold has at most 255 names
+abbrev pub IsShort : Option Place → Type 0
+IsShort last = IfSome last (λ p. length p ≤ 255)
+
+-- a run can be counted, and this is where it begins
+pub record Begins (c b : Cursor) (from : Option Place) : Type 0 where
+  pub unworn : IsWorn c → ⊥
+  pub begun_is : b ≡ at_start (begun c)
+  pub from_is : from ≡ place_in c.state
+  pub keeps : IsCursor b
+  pub room : b.runs + 1 < 2 ^ 64
+  pub short : IsShort from
+
+-- ---- on a store that tells its tree
+
+-- each of the items may be taken, where so much was spent before and so many files were started
+abbrev pub Paid : Limits → ℕ → ℕ → List Item → Type 0
+Paid limits spent files [] = ⊤
+Paid limits spent files (i ∷ items) = (may_take limits spent files i.cost ≡ true) × Paid limits (spent + i.cost) (files + files_of i.cost) items
+
+-- the items were paid for, and this is what they cost
+pub record Counts (limits : Limits) (spent files : ℕ) (items : List Item) : Type 0 where
+  pub paid : Paid limits 0 0 items
+  pub spent_is : spent ≡ total_cost items
+  pub files_is : files ≡ total_files items
+
+-- below both limits
+abbrev pub IsWithinBoth : Limits → ℕ → ℕ → Type 0
+IsWithinBoth limits spent files = (spent < limits.budget) × (files < limits.files)
+
+-- from s to t the items above from were taken up to last, each whole and paid for
+pub record Pays (root : Tree) (s t : Store) (old new : Option (List ℕ)) (from last : Option Place) (limits : Limits) (spent files : ℕ) (finding : Bool) : Type 0 where
+  pub passes : Passes root s t old new from last finding
+  pub counts : Counts limits spent files (items_at root passes.trail passes.done)
+
+-- from s to t all of them were
+pub record PaysAll (root : Tree) (s t : Store) (old new : Option (List ℕ)) (from last : Option Place) (limits : Limits) (spent files : ℕ) (finding : Bool) : Type 0 where
+  pub finishes : Finishes root s t old new from last finding
+  pub counts : Counts limits spent files (items_at root finishes.trail (due root from))
+
+-- from s to t those before a hashed item were, at which a limit is reached; the walk has gone on to it
+pub record PaysUpTo (root : Tree) (s t : Store) (old new : Option (List ℕ)) (from last : Option Place) (limits : Limits) (spent files : ℕ) (finding : Bool) : Type 0 where
+  pub next : Place
+  pub done : List Place
+  pub trail : List Opening
+  pub audits : Audits root s t done (looked_between root from (Some next)) (read_between root from (Some next)) trail
+  pub due_are : due root from ≡ done ++ next ∷ due root (Some next)
+  pub last_is : last ≡ last_of from done
+  pub wrote : Appends old new (text (items_at root trail done))
+  pub found_is : finding ≡ found (items_at root trail done)
+  pub counts : Counts limits spent files (items_at root trail done)
+  pub hashed : is_hashed root next ≡ true
+  pub reached : IsWithinBoth limits spent files → ⊥
+
+-- from s to t there was a fault behind the last of them: the next one is paid for, or it was not begun
+pub record PaysHalting (root : Tree) (s t : Store) (old new : Option (List ℕ)) (from last : Option Place) (limits : Limits) (spent files : ℕ) (finding : Bool) (why : Fault) : Type 0 where
+  pub halts : Halts root s t old new from last finding why
+  pub counts : Counts limits spent files (items_at root halts.trail halts.done)
+  pub next : Paid limits spent files (items_at root halts.trail (take 1 (due root last))) ⊎ ((why ≢ fault.Output) × (halts.begun ≡ []))
+
+abbrev pub PaidEnds : Tree → Store → Store → Option (List ℕ) → Option (List ℕ) → Option Place → Option Place → Limits → ℕ → ℕ → Bool → RunStatus → Type 0
+PaidEnds root s t old new from last limits spent files finding status.Ended = PaysAll root s t old new from last limits spent files finding
+PaidEnds root s t old new from last limits spent files finding status.Spent = PaysUpTo root s t old new from last limits spent files finding
+PaidEnds root s t old new from last limits spent files finding (status.Stopped why) = PaysHalting root s t old new from last limits spent files finding why
+PaidEnds root s t old new from last limits spent files finding status.Worn = ⊥

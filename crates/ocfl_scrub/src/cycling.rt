@@ -1,0 +1,143 @@
+//! A cycle of runs from the first item, each with limits of its own.
+ghost use Rattle.std.specs.Prelude.{◌≡◌, ◌≢◌, ◌↔◌, ◌≤◌, [], false, map, length, IfOk, IsTrue};
+ghost use Rattle.ocfl_cursor.specs.Cursor.{ended, new_cursor};
+ghost use Rattle.ocfl_tree.specs.Tree.{Tree as Root};
+ghost use Rattle.ocfl_walk.specs.Judging.{HasShortFiles};
+ghost use Rattle.ocfl_scrub.specs.Cycling.{CyclesTo, HeadlineOf};
+ghost use Rattle.ocfl_scrub.specs.Running.{limits_of};
+ghost use Rattle.ocfl_scrub.specs.Taking.{WritesLines};
+
+use crate::running::{RunEnd, RunStatus, run};
+use crate::taking::either;
+use ocfl_cursor::{Cursor, Limits, Refused, decode, encode};
+use ocfl_digest::Block;
+use ocfl_tree::Tree;
+use ocfl_walk::Fault;
+use std::alloc::Global;
+use std::io::Write;
+
+/// How a cycle ended.
+#[derive(Debug, Drop)]
+pub enum CycleStatus {
+    /// No item is left.
+    Ended,
+    /// Items are left, and no limits for a further run.
+    Spent,
+    /// A call failed.
+    Stopped(Fault),
+}
+
+/// What a cycle did.
+#[derive(Debug, Drop)]
+pub struct CycleEnd {
+    /// The cursor of the last run.
+    pub cursor: Cursor,
+    /// How many runs there were.
+    pub runs: usize,
+    /// What the items that went out whole cost.
+    pub spent: u128,
+    /// How many of them are files that were read.
+    pub files: u128,
+    /// Whether a line of one of them is a finding.
+    pub found: bool,
+    pub end: CycleStatus,
+}
+
+/// Makes runs from the first item on, one for each of these limits, until no item is left. Between
+/// two runs the cursor is written as its text and read again.
+///
+/// Each run takes the items behind those of the run before, and what they write, joined, begins the
+/// report of the whole audit; it is all of that where the cycle has ended. Without limits there is
+/// no run. Want of memory for a cursor's text is `Stopped(Fault::Memory)`, with the cursor of the
+/// last run.
+pub fn cycle<T: Tree, W: Write>(
+    alloc: Global,
+    store: &mut T,
+    limits: &[Limits],
+    block: &mut Block,
+    out: &mut W,
+) -> CycleEnd
+    // Of every store.
+    ensures whole { result.end ≢ CycleStatus.Stopped Fault.Broken }
+    ensures none { limits.now ≡ [] →
+        (result.cursor ≡ new_cursor) × (result.end ≡ CycleStatus.Spent) × (result.found ≡ false)
+        × (store.new ≡ store.old) × (out.new ≡ out.old) }
+    ensures counted { result.runs ≤ length limits.now }
+    ensures first { result.cursor.cycle ≡ 1 }
+    ensures runs { result.runs ≡ result.cursor.runs }
+    ensures spent { result.spent ≡ result.cursor.spent }
+    ensures files { result.files ≡ result.cursor.files }
+    ensures ended { (result.end ≡ CycleStatus.Ended) ↔ (result.cursor.state ≡ ended) }
+    ensures lines { result.end ≢ CycleStatus.Stopped Fault.Output →
+        WritesLines (W.contents out.old) (W.contents out.new) result.found }
+
+    // Of a store that tells its tree.
+    ensures told { IsTrue T.told → (root : Root) → (T.state store.old).tree ≡ root →
+        HasShortFiles root →
+        CyclesTo root (T.state store.old) (T.state store.new) (W.contents out.old)
+        (W.contents out.new) (map limits_of limits.now) result.cursor result.found result.end }
+    ensures headline { IsTrue T.told → (root : Root) → (T.state store.old).tree ≡ root →
+        HasShortFiles root → (T.state store.new).failures ≡ (T.state store.old).failures →
+        HeadlineOf root (T.state store.old) (T.state store.new) (W.contents out.old)
+        (W.contents out.new) (map limits_of limits.now) result.runs result.end }
+{
+    let mut cursor = Cursor::new();
+    let mut runs = 0;
+    let mut found = false;
+    for one in limits {
+        let Ok(begun) = handed_on(alloc, &cursor, runs) else {
+            return cycle_end(cursor, runs, found, CycleStatus::Stopped(Fault::Memory));
+        };
+        let RunEnd {
+            cursor: reached,
+            found: more,
+            end,
+            ..
+        } = run(alloc, store, begun, *one, block, out);
+        cursor = reached;
+        runs += 1;
+        found = either(found, more);
+        match end {
+            RunStatus::Spent => {}
+            RunStatus::Ended => return cycle_end(cursor, runs, found, CycleStatus::Ended),
+            RunStatus::Stopped(why) => {
+                return cycle_end(cursor, runs, found, CycleStatus::Stopped(why));
+            }
+            RunStatus::Worn => unreachable!(),
+        }
+    }
+    cycle_end(cursor, runs, found, CycleStatus::Spent)
+}
+
+/// What the next run begins with: a new cursor for the first, and for a further one the last run's
+/// cursor, as it is read from its text.
+fn handed_on(alloc: Global, cursor: &Cursor, runs: usize) -> Result<Cursor, Refused>
+    requires first { runs ≡ 0 → cursor.now ≡ new_cursor }
+    ensures { IfOk result (λ begun. begun ≡ cursor.now) }
+{
+    if runs == 0 {
+        return Ok(Cursor::new());
+    }
+    match encode(alloc, cursor) {
+        Ok(text) => decode(alloc, &text),
+        Err(_) => Err(Refused::Memory),
+    }
+}
+
+fn cycle_end(cursor: Cursor, runs: usize, found: bool, end: CycleStatus) -> CycleEnd
+    ensures cursor { result.cursor ≡ cursor }
+    ensures runs { result.runs ≡ runs }
+    ensures spent { result.spent ≡ cursor.spent }
+    ensures files { result.files ≡ cursor.files }
+    ensures found { result.found ≡ found }
+    ensures end { result.end ≡ end }
+{
+    CycleEnd {
+        runs,
+        spent: cursor.spent(),
+        files: cursor.files(),
+        cursor,
+        found,
+        end,
+    }
+}

@@ -1,0 +1,272 @@
+//! One run: what lies above its cursor's place, as far as its limits allow.
+ghost use Rattle.std.specs.Prelude.{◌≡◌, ◌≢◌, ◌↔◌, ◌+◌, ◌≤◌, ◌^◌, Option, true, false, IsTrue, IfErr, IfOk};
+ghost use Rattle.ocfl_cursor.specs.Cursor.{IsShortPlace};
+ghost use Rattle.ocfl_cursor.specs.Meter.{IsMeter, MayStart};
+ghost use Rattle.ocfl_cursor.specs.Moves.{after_run};
+ghost use Rattle.ocfl_cursor.specs.State.{state_of};
+ghost use Rattle.ocfl_tree.specs.Place.{Place as Spot};
+ghost use Rattle.ocfl_tree.specs.Tree.{Tree as Root};
+ghost use Rattle.ocfl_walk.specs.Judging.{HasShortFiles};
+ghost use Rattle.ocfl_walk.specs.Walks.{IsLive, Stands, last_of};
+ghost use Rattle.ocfl_scrub.specs.Taking.{WritesLines};
+ghost use Rattle.ocfl_scrub.specs.Paying.{Begins, IsShort, PaidEnds};
+ghost use Rattle.ocfl_scrub.specs.Running.{IsPaid, IsWorn, RunEnds, RunsCleanly, RunsFrom, begun, limits_of, state_after};
+
+use crate::taking::{either, take_item};
+use ocfl_cursor::{Cursor, Limits, Meter, State};
+use ocfl_digest::Block;
+use ocfl_tree::{Place, Tree};
+use ocfl_walk::{Fault, Pending, Walk};
+use std::alloc::Global;
+use std::io::Write;
+
+/// How a run ended.
+#[derive(Debug, Drop)]
+pub enum RunStatus {
+    /// No item is left: the cycle has ended.
+    Ended,
+    /// The next item is a file that the limits do not allow to start.
+    Spent,
+    /// A call failed, and a run from the cursor goes on behind the last item that went out whole.
+    Stopped(Fault),
+    /// No further run can be counted, and none was made.
+    Worn,
+}
+
+/// What a run did.
+#[derive(Debug, Drop)]
+pub struct RunEnd {
+    /// Where the next run begins.
+    pub cursor: Cursor,
+    /// What the items that went out whole cost.
+    pub spent: u64,
+    /// How many of them are files that were read.
+    pub files: u64,
+    /// Whether a line of one of them is a finding.
+    pub found: bool,
+    pub end: RunStatus,
+}
+
+/// Takes the items above the cursor's place, whether or not there is one at it, and starts a file
+/// only while less than the budget is spent and fewer files than their limit are started. An item
+/// that is no such file is taken in any case.
+///
+/// A cursor that has ended begins the next cycle. The lines of an item go out as one piece before
+/// the next item is looked at. A file that cannot be read is reported and stops nothing. After a
+/// stop the cursor stands behind the last item whose lines went out whole, and where there is none
+/// where the run began; what was spent, started and found is that of those items alone.
+///
+/// A cursor is worn where its runs, or after the end of a cycle its cycles, cannot be counted
+/// further: then no call of the store is made, nothing is written, and the cursor is handed back.
+pub fn run<T: Tree, W: Write>(
+    alloc: Global,
+    store: &mut T,
+    cursor: Cursor,
+    limits: Limits,
+    block: &mut Block,
+    out: &mut W,
+) -> RunEnd
+    // Of every store.
+    ensures whole { result.end ≢ RunStatus.Stopped Fault.Broken }
+    ensures worn { (result.end ≡ RunStatus.Worn) ↔ IsWorn cursor }
+    ensures worn_cursor { result.end ≡ RunStatus.Worn → result.cursor ≡ cursor }
+    ensures worn_figures { result.end ≡ RunStatus.Worn → (result.spent ≡ 0) × (result.files ≡ 0) × (result.found ≡ false) }
+    ensures worn_silent { result.end ≡ RunStatus.Worn → (store.new ≡ store.old) × (out.new ≡ out.old) }
+    ensures cursor { result.end ≢ RunStatus.Worn → (last : Option Spot) × (result.cursor ≡ after_run (begun cursor) result.spent result.files (state_after result.end last)) }
+    ensures paid { IsPaid (limits_of limits) result.spent result.files }
+    ensures overrun { result.spent ≤ limits.budget + 2 ^ 62 }
+    ensures lines { result.end ≢ RunStatus.Stopped Fault.Output → WritesLines (W.contents out.old) (W.contents out.new) result.found }
+
+    // Of a store that tells its tree.
+    ensures told { IsTrue T.told → (root : Root) → (T.state store.old).tree ≡ root → HasShortFiles root → result.end ≢ RunStatus.Worn →
+        RunsFrom root (T.state store.old) (T.state store.new) (W.contents out.old) (W.contents out.new) cursor (limits_of limits) result.cursor result.spent result.files result.found result.end }
+    ensures unfailing { IsTrue T.told → (root : Root) → (T.state store.old).tree ≡ root → HasShortFiles root → (T.state store.new).failures ≡ (T.state store.old).failures →
+        RunsCleanly root (W.contents out.old) (W.contents out.new) cursor (limits_of limits) result.spent result.files result.found result.end }
+{
+    let (start, from) = match begin(cursor) {
+        Ok(begun) => begun,
+        Err(worn) => {
+            return RunEnd {
+                cursor: worn,
+                spent: 0,
+                files: 0,
+                found: false,
+                end: RunStatus::Worn,
+            };
+        }
+    };
+    let Pass {
+        last,
+        spent,
+        files,
+        found,
+        end,
+    } = pass_from(alloc, store, from, limits, block, out);
+    let left = left_state(&end, last);
+    match start.after_run(spent, files, left) {
+        Some(cursor) => RunEnd {
+            cursor,
+            spent,
+            files,
+            found,
+            end,
+        },
+        None => unreachable!(),
+    }
+}
+
+// The cursor that a run begins with, its place taken out of it. A worn cursor is handed back.
+fn begin(cursor: Cursor) -> Result<(Cursor, Option<Place>), Cursor>
+    ensures worn { IfErr result (λ c. IsWorn cursor × (c ≡ cursor)) }
+    ensures begins { IfOk result (λ b. Begins cursor b.0 b.1) }
+{
+    if matches!(cursor.state(), State::Ended) {
+        return match cursor.next_cycle() {
+            Some(next) => Ok((next, None)),
+            None => Err(cursor),
+        };
+    }
+    if cursor.runs() == u64::MAX {
+        return Err(cursor);
+    }
+    let mut begun = cursor;
+    match begun.take_state() {
+        State::After(place) => Ok((begun, Some(place))),
+        State::Start | State::Ended => Ok((begun, None)),
+    }
+}
+
+// Where a run leaves the cursor: behind the last item that was taken, unless none is left.
+fn left_state(end: &RunStatus, last: Option<Place>) -> State
+    requires short { IsShort last }
+    ensures state { state_of result ≡ state_after end.now last }
+    ensures short { IsShortPlace (state_of result) }
+{
+    if matches!(end, RunStatus::Ended) {
+        return State::Ended;
+    }
+    match last {
+        Some(place) => {
+            // A place has names alone, which its path tells.
+            let _ = place.path();
+            State::After(place)
+        }
+        None => State::Start,
+    }
+}
+
+// What a pass over the items above a place did.
+#[derive(Debug, Drop)]
+struct Pass {
+    last: Option<Place>,
+    spent: u64,
+    files: u64,
+    found: bool,
+    end: RunStatus,
+}
+
+// Takes the items above a place, as far as the limits allow.
+fn pass_from<T: Tree, W: Write>(
+    alloc: Global,
+    store: &mut T,
+    from: Option<Place>,
+    limits: Limits,
+    block: &mut Block,
+    out: &mut W,
+) -> Pass
+    requires short { IsShort from }
+    ensures whole { result.end ≢ RunStatus.Stopped Fault.Broken }
+    ensures works { result.end ≢ RunStatus.Worn }
+    ensures short { IsShort result.last }
+    ensures paid { IsPaid (limits_of limits) result.spent result.files }
+    ensures fits { result.spent ≤ 2 ^ 63 }
+    ensures lines { result.end ≢ RunStatus.Stopped Fault.Output → WritesLines (W.contents out.old) (W.contents out.new) result.found }
+    ensures told { IsTrue T.told → (root : Root) → (T.state store.old).tree ≡ root → HasShortFiles root →
+        RunEnds root (T.state store.old) (T.state store.new) (W.contents out.old) (W.contents out.new) from result.last (limits_of limits) result.spent result.files result.found result.end }
+{
+    match Walk::start(alloc, store, from.as_ref()) {
+        Ok(walk) => take_within(alloc, store, walk, from, limits, block, out),
+        Err(why) => Pass {
+            last: from,
+            spent: 0,
+            files: 0,
+            found: false,
+            end: RunStatus::Stopped(why),
+        },
+    }
+}
+
+// Whether an item is free, or the limits allow to start it.
+fn pays(meter: &Meter, pending: &Pending) -> bool
+    ensures paid { result ≡ true → pending.now.hashed ≡ true → MayStart meter.now }
+    ensures unpaid { result ≡ false → (pending.now.hashed ≡ true) × (MayStart meter.now → ⊥) }
+{
+    if pending.hashed() {
+        meter.may_start()
+    } else {
+        true
+    }
+}
+
+// Takes the items that a walk gives, one after the other, as far as the limits allow.
+fn take_within<T: Tree, W: Write>(
+    alloc: Global,
+    store: &mut T,
+    mut walk: Walk,
+    from: Option<Place>,
+    limits: Limits,
+    block: &mut Block,
+    out: &mut W,
+) -> Pass
+    requires live { IsLive walk }
+    requires behind { last_of walk ≡ from }
+    requires short { IsShort from }
+    ensures whole { result.end ≢ RunStatus.Stopped Fault.Broken }
+    ensures works { result.end ≢ RunStatus.Worn }
+    ensures short { IsShort result.last }
+    ensures paid { IsPaid (limits_of limits) result.spent result.files }
+    ensures fits { result.spent ≤ 2 ^ 63 }
+    ensures lines { result.end ≢ RunStatus.Stopped Fault.Output → WritesLines (W.contents out.old) (W.contents out.new) result.found }
+    ensures told { IsTrue T.told → (root : Root) → (T.state store.old).tree ≡ root → HasShortFiles root → Stands root walk from →
+        PaidEnds root (T.state store.old) (T.state store.new) (W.contents out.old) (W.contents out.new) from result.last (limits_of limits) result.spent result.files result.found result.end }
+{
+    let mut meter = Meter::new(limits);
+    let mut last = from;
+    let mut found = false;
+    loop {
+        let pending = match walk.next(store) {
+            Ok(Some(pending)) => pending,
+            Ok(None) => return pass_end(&meter, last, found, RunStatus::Ended),
+            Err(why) => return pass_end(&meter, last, found, RunStatus::Stopped(why)),
+        };
+        let paid = pays(&meter, &pending);
+        if !paid {
+            return pass_end(&meter, last, found, RunStatus::Spent);
+        }
+        match take_item(alloc, store, &pending, block, out) {
+            Ok(taken) => {
+                meter.charge(taken.cost);
+                found = either(found, taken.found);
+                last = Some(taken.place);
+            }
+            Err(why) => return pass_end(&meter, last, found, RunStatus::Stopped(why)),
+        }
+    }
+}
+
+fn pass_end(meter: &Meter, last: Option<Place>, found: bool, end: RunStatus) -> Pass
+    ensures last { result.last ≡ last }
+    ensures spent { result.spent ≡ meter.now.spent }
+    ensures files { result.files ≡ meter.now.files }
+    ensures found { result.found ≡ found }
+    ensures end { result.end ≡ end }
+    ensures bound { IsMeter meter.now }
+{
+    Pass {
+        last,
+        spent: meter.spent(),
+        files: meter.files(),
+        found,
+        end,
+    }
+}

@@ -1,8 +1,13 @@
 -- The status and the text that a command ends with.
-use Rattle.std.specs.Prelude.{◌≡◌, ◌⊎◌, ℕ, List, Bool, true, false, Option}
+use Rattle.std.specs.Prelude.{◌≡◌, ◌≢◌, ◌⊎◌, ℕ, List, Bool, true, false, Option, Some, None, Vec, ⊤}
+use Rattle.std.specs.declared.alloc.Global.{Global}
 use Rattle.ocfl_tree.specs.Place.{Place}
 use Rattle.ocfl_tree.specs.Tree.{Tree}
 use Rattle.ocfl_tree.specs.Store.{Store}
+use Rattle.ocfl_cursor.specs.Cursor.{Cursor, cursor_text}
+use Rattle.ocfl_cursor.specs.declared.reading.CursorStop.{CursorStop}
+use Rattle.ocfl_cursor.specs.declared.reading.CursorStop.TheVariants as stop
+use Rattle.ocfl_cursor.specs.declared.refused.Refused.TheVariants as refused
 use Rattle.ocfl_walk.specs.declared.fault.Fault.{Fault}
 use Rattle.ocfl_walk.specs.declared.fault.Fault.TheVariants as fault
 use Rattle.ocfl_scrub.specs.Taking.{WritesLines}
@@ -10,6 +15,13 @@ use Rattle.ocfl_scrub.specs.Checking.{CheckEnds}
 use Rattle.ocfl_scrub.specs.WholeAudit.{AuditEnds}
 use Rattle.ocfl_scrub.specs.declared.checking.End.{End}
 use Rattle.ocfl_scrub.specs.declared.checking.End.TheVariants as end
+use Rattle.ocfl_audit.specs.Runs.{Limits}
+use Rattle.ocfl_scrub.specs.Running.{RunsFrom, RunsCleanly}
+use Rattle.ocfl_scrub.specs.Cycling.{CyclesTo, HeadlineOf}
+use Rattle.ocfl_scrub.specs.declared.running.RunStatus.{RunStatus}
+use Rattle.ocfl_scrub.specs.declared.running.RunStatus.TheVariants as run
+use Rattle.ocfl_scrub.specs.declared.cycling.CycleStatus.{CycleStatus}
+use Rattle.ocfl_scrub.specs.declared.cycling.CycleStatus.TheVariants as cycle
 use Rattle.ocfl_scrub.specs.declared.note.Note.{Note}
 use Rattle.ocfl_scrub.specs.declared.note.Note.TheVariants as note
 
@@ -28,6 +40,59 @@ IsStatus status note.BadPath = status ≡ 2
 IsStatus status (note.StoppedAt p) = status ≡ 3
 IsStatus status note.OutOfMemory = status ≡ 3
 IsStatus status note.OutputFailed = status ≡ 3
+IsStatus status (note.RunMade cycle runs cost ended) = (status ≡ 0) ⊎ (status ≡ 1)
+IsStatus status (note.CycleMade runs cost ended) = (status ≡ 0) ⊎ (status ≡ 1)
+IsStatus status note.CursorWorn = status ≡ 3
+IsStatus status note.CursorFileFailed = status ≡ 3
+IsStatus status (note.CursorRefused why) = (status ≡ 4) × (why ≢ refused.Memory)
+
+-- what is said after a stop
+abbrev pub IsStopSaid : Note → Type 0
+IsStopSaid (note.StoppedAt p) = ⊤
+IsStopSaid note.OutOfMemory = ⊤
+IsStopSaid note.OutputFailed = ⊤
+IsStopSaid n = ⊥
+
+-- what each command can say
+abbrev pub IsAuditSaid : Note → Type 0
+IsAuditSaid note.Nothing = ⊤
+IsAuditSaid n = IsStopSaid n
+
+abbrev pub IsCheckSaid : Note → Type 0
+IsCheckSaid note.Nothing = ⊤
+IsCheckSaid note.NoItem = ⊤
+IsCheckSaid note.BadPath = ⊤
+IsCheckSaid n = IsStopSaid n
+
+abbrev pub IsCycleSaid : Note → Type 0
+IsCycleSaid (note.CycleMade runs cost ended) = ⊤
+IsCycleSaid n = IsStopSaid n
+
+-- a run whose cursor was read
+abbrev pub IsRanSaid : Note → Type 0
+IsRanSaid (note.RunMade cycle runs cost ended) = ⊤
+IsRanSaid note.CursorWorn = ⊤
+IsRanSaid n = IsStopSaid n
+
+-- what is said where no cursor was read
+abbrev pub IsUnreadSaid : Note → Type 0
+IsUnreadSaid note.OutOfMemory = ⊤
+IsUnreadSaid note.CursorFileFailed = ⊤
+IsUnreadSaid (note.CursorRefused why) = ⊤
+IsUnreadSaid n = ⊥
+
+abbrev pub IsRunSaid : Note → Type 0
+IsRunSaid note.CursorFileFailed = ⊤
+IsRunSaid (note.CursorRefused why) = ⊤
+IsRunSaid n = IsRanSaid n
+
+abbrev pub IsShowSaid : Note → Type 0
+IsShowSaid note.Nothing = ⊤
+IsShowSaid note.OutOfMemory = ⊤
+IsShowSaid note.OutputFailed = ⊤
+IsShowSaid note.CursorFileFailed = ⊤
+IsShowSaid (note.CursorRefused why) = ⊤
+IsShowSaid n = ⊥
 
 -- a path that is no place's, or one that could not be read for want of memory
 abbrev pub IsRefused : ℕ → Note → Type 0
@@ -65,6 +130,32 @@ abbrev pub IsAuditNote : Bool → End → ℕ → Note → Type 0
 IsAuditNote finding end.Ended status n = (status ≡ status_of finding) × (n ≡ note.Nothing)
 IsAuditNote finding (end.Stopped why) status n = (status ≡ 3) × IsStopNote why n
 
+-- what a run is said to have done: the cycle and the runs of the cursor that it answered, and its own cost
+abbrev pub run_summary : Cursor → ℕ → Bool → Note
+run_summary c spent whole = note.RunMade c.cycle c.runs spent whole
+
+-- what a run ended with
+abbrev pub IsRunNote : Cursor → ℕ → Bool → RunStatus → ℕ → Note → Type 0
+IsRunNote c spent finding run.Ended status n = (status ≡ status_of finding) × (n ≡ run_summary c spent true)
+IsRunNote c spent finding run.Spent status n = (status ≡ status_of finding) × (n ≡ run_summary c spent false)
+IsRunNote c spent finding (run.Stopped why) status n = (status ≡ 3) × IsStopNote why n
+IsRunNote c spent finding run.Worn status n = (status ≡ 3) × (n ≡ note.CursorWorn)
+
+-- what a cycle ended with
+abbrev pub IsCycleNote : ℕ → ℕ → Bool → CycleStatus → ℕ → Note → Type 0
+IsCycleNote runs spent finding cycle.Ended status n = (status ≡ status_of finding) × (n ≡ note.CycleMade runs spent true)
+IsCycleNote runs spent finding cycle.Spent status n = (status ≡ status_of finding) × (n ≡ note.CycleMade runs spent false)
+IsCycleNote runs spent finding (cycle.Stopped why) status n = (status ≡ 3) × IsStopNote why n
+
+-- what it is ended with where no cursor was read
+abbrev pub IsUnreadNote : CursorStop → ℕ → Note → Type 0
+IsUnreadNote stop.Read status n = (status ≡ 3) × (n ≡ note.CursorFileFailed)
+IsUnreadNote (stop.Refused refused.Memory) status n = (status ≡ 3) × (n ≡ note.OutOfMemory)
+IsUnreadNote (stop.Refused refused.NotCursor) status n = (status ≡ 4) × (n ≡ note.CursorRefused refused.NotCursor)
+IsUnreadNote (stop.Refused refused.Version) status n = (status ≡ 4) × (n ≡ note.CursorRefused refused.Version)
+IsUnreadNote (stop.Refused refused.Damaged) status n = (status ≡ 4) × (n ≡ note.CursorRefused refused.Damaged)
+IsUnreadNote (stop.Refused refused.Malformed) status n = (status ≡ 4) × (n ≡ note.CursorRefused refused.Malformed)
+
 -- the place was checked, and the status and the text are those of the check
 pub record ChecksWithNote (root : Tree) (s t : Store) (old new : Option (List ℕ)) (p : Place) (status : ℕ) (n : Note) : Type 0 where
   pub item : Bool
@@ -80,3 +171,32 @@ pub record AuditsWithNote (root : Tree) (s t : Store) (old new : Option (List �
   pub ended : End
   pub audits : AuditEnds root s t old new last finding ended
   pub says : IsAuditNote finding ended status n
+
+-- the same where the cursor's text is handed back, or where there was no memory for it
+abbrev pub IsStoredNote : Cursor → ℕ → Bool → RunStatus → ℕ → Note → Option (Vec ℕ Global) → Type 0
+IsStoredNote c spent finding how status n None = (status ≡ 3) × (n ≡ note.OutOfMemory)
+IsStoredNote c spent finding how status n (Some stored) = (stored.items ≡ cursor_text c) × IsRunNote c spent finding how status n
+
+-- a run was made from a cursor, and the status, the text and what is handed back are those of the run
+pub record RunsWithNote (root : Tree) (s t : Store) (old new : Option (List ℕ)) (c : Cursor) (limits : Limits) (status : ℕ) (n : Note) (stored : Option (Vec ℕ Global)) : Type 0 where
+  pub reached : Cursor
+  pub spent : ℕ
+  pub files : ℕ
+  pub finding : Bool
+  pub ended : RunStatus
+  pub runs : RunsFrom root s t old new c limits reached spent files finding ended
+  pub clean : t.failures ≡ s.failures → RunsCleanly root old new c limits spent files finding ended
+  pub says : IsStoredNote reached spent finding ended status n stored
+
+-- a cycle was made, and the status and the text are those of the cycle
+pub record CyclesWithNote (root : Tree) (s t : Store) (old new : Option (List ℕ)) (limits : List Limits) (status : ℕ) (n : Note) : Type 0 where
+  pub reached : Cursor
+  pub count : ℕ
+  pub spent : ℕ
+  pub finding : Bool
+  pub ended : CycleStatus
+  pub cycles : CyclesTo root s t old new limits reached finding ended
+  pub headline : t.failures ≡ s.failures → HeadlineOf root s t old new limits count ended
+  pub count_is : count ≡ reached.runs
+  pub spent_is : spent ≡ reached.spent
+  pub says : IsCycleNote count spent finding ended status n

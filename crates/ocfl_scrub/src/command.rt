@@ -7,7 +7,7 @@ ghost use Rattle.ocfl_report.specs.Text.{place_text, text};
 ghost use Rattle.ocfl_audit.specs.Audit.{audit as whole_audit};
 ghost use Rattle.ocfl_tree.specs.Tree.{Tree as Root};
 ghost use Rattle.ocfl_walk.specs.Judging.{HasShortFiles};
-ghost use Rattle.ocfl_scrub.specs.Noting.{status_of, IsAuditNote, IsCheckNote, IsRefused, IsStatus, IsStopNote, AuditsWithNote, ChecksWithNote, WritesWhole, WritesWithStatus};
+ghost use Rattle.ocfl_scrub.specs.Noting.{status_of, IsAuditNote, IsAuditSaid, IsCheckNote, IsCheckSaid, IsRefused, IsStatus, IsStopNote, IsStopSaid, AuditsWithNote, ChecksWithNote, WritesWhole, WritesWithStatus};
 
 use crate::auditing::{AuditEnd, audit};
 use crate::checking::{CheckEnd, End, check};
@@ -35,6 +35,7 @@ pub fn checked<T: Tree, W: Write>(
         → IsRefused result.0 result.1 × (store.new ≡ store.old) × (out.new ≡ out.old) }
     ensures only_bad { result.1 ≡ Note.BadPath → (p : ModelPlace) → IsPlace p → path.now ≢ place_text p }
     ensures status { IsStatus result.0 result.1 }
+    ensures said { IsCheckSaid result.1 }
     ensures lines { result.1 ≡ Note.Nothing → WritesWithStatus (W.contents out.old) (W.contents out.new) result.0 }
     ensures silent { result.1 ≢ Note.Nothing → result.1 ≢ Note.OutputFailed → out.new ≡ out.old }
 
@@ -60,7 +61,7 @@ pub fn audited<T: Tree, W: Write>(
 ) -> (u8, Note)
     // Of every store.
     ensures status { IsStatus result.0 result.1 }
-    ensures only { (result.1 ≢ Note.NoItem) × (result.1 ≢ Note.BadPath) }
+    ensures said { IsAuditSaid result.1 }
     ensures lines { result.1 ≡ Note.Nothing → WritesWithStatus (W.contents out.old) (W.contents out.new) result.0 }
     ensures uncut { result.1 ≢ Note.OutputFailed → WritesWhole (W.contents out.old) (W.contents out.new) }
 
@@ -81,6 +82,7 @@ fn noted(end: CheckEnd) -> (u8, Note)
     ensures note { IsCheckNote end.item end.found end.end result.0 result.1 }
     ensures status { IsStatus result.0 result.1 }
     ensures good_path { result.1 ≢ Note.BadPath }
+    ensures said { IsCheckSaid result.1 }
     ensures nothing { result.1 ≡ Note.Nothing → (end.item ≡ true) × (result.0 ≡ status_of end.found) }
     ensures silent { result.1 ≢ Note.Nothing → result.1 ≢ Note.OutputFailed → (end.item ≡ false) × (end.end ≢ End.Stopped Fault.Output) }
 {
@@ -95,7 +97,7 @@ fn audit_noted(end: AuditEnd) -> (u8, Note)
     requires whole { end.end ≢ End.Stopped Fault.Broken }
     ensures note { IsAuditNote end.found end.end result.0 result.1 }
     ensures status { IsStatus result.0 result.1 }
-    ensures only { (result.1 ≢ Note.NoItem) × (result.1 ≢ Note.BadPath) }
+    ensures said { IsAuditSaid result.1 }
     ensures nothing { result.1 ≡ Note.Nothing → (end.end ≡ End.Ended) × (result.0 ≡ status_of end.found) }
     ensures uncut { result.1 ≢ Note.OutputFailed → end.end ≢ End.Stopped Fault.Output }
 {
@@ -107,9 +109,10 @@ fn audit_noted(end: AuditEnd) -> (u8, Note)
 }
 
 // What is said after a stop.
-fn stop_note(why: Fault) -> Note
+pub(crate) fn stop_note(why: Fault) -> Note
     requires { why ≢ Fault.Broken }
-    ensures { IsStopNote why result }
+    ensures note { IsStopNote why result }
+    ensures said { IsStopSaid result }
 {
     match why {
         Fault::Store(place) => Note::StoppedAt(place),
@@ -119,7 +122,7 @@ fn stop_note(why: Fault) -> Note
     }
 }
 
-fn status(found: bool) -> u8
+pub(crate) fn status(found: bool) -> u8
     ensures { result ≡ status_of found }
 {
     if found { 1 } else { 0 }

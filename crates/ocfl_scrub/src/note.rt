@@ -1,3 +1,7 @@
+ghost use Rattle.std.specs.Prelude.{◌≡◌, Some};
+ghost use Rattle.ocfl_scrub.specs.NoteText.{end_text, note_text, refused_text};
+
+use ocfl_cursor::Refused;
 use ocfl_report::DisplayPlace;
 use ocfl_tree::Place;
 use std::fmt;
@@ -16,9 +20,37 @@ pub enum Note {
     StoppedAt(Place),
     OutOfMemory,
     OutputFailed,
+    /// One run was made.
+    RunMade {
+        /// The cycle of the cursor that the run answered, from 1.
+        cycle: u64,
+        /// How many runs that cycle has had.
+        runs: u64,
+        /// What this run cost, in bytes and one more for each file.
+        cost: u64,
+        /// Whether no item is left.
+        ended: bool,
+    },
+    /// A cycle was made, or its first runs.
+    CycleMade {
+        /// How many runs there were.
+        runs: usize,
+        /// What they cost, in bytes and one more for each file.
+        cost: u128,
+        /// Whether no item is left.
+        ended: bool,
+    },
+    /// No further run can be counted.
+    CursorWorn,
+    /// The cursor could not be read, or not be stored.
+    CursorFileFailed,
+    /// The bytes are those of no cursor, for this reason, which is not want of memory.
+    CursorRefused(Refused),
 }
 
 impl fmt::Display for Note {
+    ghost output = { λ note. Some (note_text note) };
+
     fn fmt<W: fmt::Write>(&self, f: &mut fmt::Formatter<W>) -> fmt::Result {
         match self {
             Note::Nothing => Ok(()),
@@ -27,6 +59,42 @@ impl fmt::Display for Note {
             Note::StoppedAt(place) => write!(f, "stopped at {}", DisplayPlace(place)),
             Note::OutOfMemory => f.write_str("out of memory"),
             Note::OutputFailed => f.write_str("output failed"),
+            Note::RunMade {
+                cycle,
+                runs,
+                cost,
+                ended,
+            } => write!(
+                f,
+                "cycle {cycle}, run {runs}, cost {cost}, {}",
+                end_word(*ended)
+            ),
+            Note::CycleMade { runs, cost, ended } => {
+                write!(f, "runs {runs}, cost {cost}, {}", end_word(*ended))
+            }
+            Note::CursorWorn => f.write_str("cursor worn"),
+            Note::CursorFileFailed => f.write_str("cursor file failed"),
+            Note::CursorRefused(why) => write!(f, "cursor refused: {}", refused_word(*why)),
         }
+    }
+}
+
+// Whether an item is left for the cycle's next run.
+fn end_word(ended: bool) -> &'static str
+    ensures { result.now ≡ end_text ended }
+{
+    if ended { "ended" } else { "open" }
+}
+
+// Why bytes are refused.
+fn refused_word(why: Refused) -> &'static str
+    ensures { result.now ≡ refused_text why }
+{
+    match why {
+        Refused::NotCursor => "not a cursor",
+        Refused::Version => "version",
+        Refused::Damaged => "damaged",
+        Refused::Malformed => "malformed",
+        Refused::Memory => "out of memory",
     }
 }

@@ -1,0 +1,34 @@
+-- The line that a note is shown as.
+use Rattle.std.specs.Prelude.{◌++◌, [], Bool, true, false, codes}
+use Rattle.std.specs.Fmt.{decimal}
+use Rattle.ocfl_tree.specs.Place.{Text}
+use Rattle.ocfl_report.specs.Text.{place_text}
+use Rattle.ocfl_cursor.specs.declared.refused.Refused.{Refused}
+use Rattle.ocfl_cursor.specs.declared.refused.Refused.TheVariants as refused
+use Rattle.ocfl_scrub.specs.declared.note.Note.{Note}
+use Rattle.ocfl_scrub.specs.declared.note.Note.TheVariants as note
+
+-- whether an item is left for the next run
+abbrev pub end_text : Bool → Text
+end_text true = codes "ended"
+end_text false = codes "open"
+
+abbrev pub refused_text : Refused → Text
+refused_text refused.NotCursor = codes "not a cursor"
+refused_text refused.Version = codes "version"
+refused_text refused.Damaged = codes "damaged"
+refused_text refused.Malformed = codes "malformed"
+refused_text refused.Memory = codes "out of memory"
+
+abbrev pub note_text : Note → Text
+note_text note.Nothing = []
+note_text note.NoItem = codes "no item"
+note_text note.BadPath = codes "bad path"
+note_text (note.StoppedAt p) = codes "stopped at " ++ place_text p
+note_text note.OutOfMemory = codes "out of memory"
+note_text note.OutputFailed = codes "output failed"
+note_text (note.RunMade cycle runs cost whole) = codes "cycle " ++ decimal cycle ++ codes ", run " ++ decimal runs ++ codes ", cost " ++ decimal cost ++ codes ", " ++ end_text whole
+note_text (note.CycleMade runs cost whole) = codes "runs " ++ decimal runs ++ codes ", cost " ++ decimal cost ++ codes ", " ++ end_text whole
+note_text note.CursorWorn = codes "cursor worn"
+note_text note.CursorFileFailed = codes "cursor file failed"
+note_text (note.CursorRefused why) = codes "cursor refused: " ++ refused_text why

@@ -1,0 +1,214 @@
+-- What the function of the program does, by what is asked for.
+use Rattle.std.specs.Prelude.{◌≡◌, ◌≢◌, ◌⊎◌, ◌<◌, ℕ, Bool, List, [], Option, Some, None, Vec, IfSome, IsNone, IsSome, map, replicate, take, length, string_bytes, ⊤}
+use Rattle.std.specs.declared.alloc.Global.{Global}
+use Rattle.std.specs.Borrow.{MutBor}
+use Rattle.std.specs.Io.KnownBytes.{Appends}
+use Rattle.ocfl_tree.specs.Place.{Text, Place}
+use Rattle.ocfl_tree.specs.Name.{IsPlace}
+use Rattle.ocfl_tree.specs.Tree.{Tree}
+use Rattle.ocfl_tree.specs.Store.{Store}
+use Rattle.ocfl_report.specs.Line.{found}
+use Rattle.ocfl_report.specs.Text.{place_text, text}
+use Rattle.ocfl_audit.specs.Audit.{audit}
+use Rattle.ocfl_audit.specs.Runs.{Limits}
+use Rattle.ocfl_cursor.specs.Cursor.{Cursor, new_cursor, cursor_lines, cursor_text}
+use Rattle.ocfl_cursor.specs.Moves.{after_run}
+use Rattle.ocfl_cursor.specs.Refusal.{IsTextOf}
+use Rattle.ocfl_cursor.specs.Stop.{StopsRightly}
+use Rattle.ocfl_cursor.specs.declared.limits.Limits.{Limits as MadeLimits}
+use Rattle.ocfl_cursor.specs.declared.reading.CursorStop.{CursorStop}
+use Rattle.ocfl_cursor.specs.declared.reading.CursorStop.TheVariants as stop
+use Rattle.ocfl_line.specs.declared.deed.Deed.{Deed}
+use Rattle.ocfl_line.specs.declared.deed.Deed.TheVariants as deed
+use Rattle.ocfl_scrub.specs.Noting.{status_of, IsAuditSaid, IsCheckSaid, IsRunSaid, IsCycleSaid, IsShowSaid, IsRefused, IsRunNote, IsUnreadNote, WritesWithStatus, AuditsWithNote, ChecksWithNote, RunsWithNote, CyclesWithNote}
+use Rattle.ocfl_scrub.specs.Running.{IsPaid, IsWorn, begun, limits_of, state_after}
+use Rattle.ocfl_scrub.specs.declared.running.RunStatus.{RunStatus}
+use Rattle.ocfl_scrub.specs.declared.note.Note.{Note}
+use Rattle.ocfl_scrub.specs.declared.note.Note.TheVariants as note
+
+-- ---- the cursor that is read
+
+-- the bytes of a reader, where there is one and they are known
+abbrev pub bytes_of : {R : Type 0} → (R → Option (List ℕ)) → Option (MutBor R) → Option (Option Text)
+bytes_of remaining None = None
+bytes_of remaining (Some reader) = Some (remaining reader.now)
+
+-- the cursor that is stored is the one whose text the bytes are, where they are known
+abbrev pub IsStored : Option (Option Text) → Cursor → Type 0
+IsStored None c = ⊥
+IsStored (Some known) c = IfSome known (λ bytes. IsTextOf bytes c)
+
+-- a run begins with the cursor that is stored, and without a reader with the first
+abbrev pub BeginsWith : Option (Option Text) → Cursor → Type 0
+BeginsWith None c = c ≡ new_cursor
+BeginsWith (Some known) c = IfSome known (λ bytes. IsTextOf bytes c)
+
+-- no cursor was read, and where the bytes are known they are rightly refused; only a reader can be refused
+abbrev pub StopsWith : Option (Option Text) → CursorStop → Type 0
+StopsWith None why = ⊥
+StopsWith (Some known) why = IfSome known (λ bytes. StopsRightly bytes why)
+
+-- what is said to be refused is rightly refused
+abbrev pub RefusesRightly : Option (Option Text) → Note → Type 0
+RefusesRightly known (note.CursorRefused why) = StopsWith known (stop.Refused why)
+RefusesRightly known n = ⊤
+
+-- ---- of every store
+
+-- what each command can say
+abbrev pub IsSaid : Deed → Note → Type 0
+IsSaid deed.Audit n = IsAuditSaid n
+IsSaid (deed.Check path) n = IsCheckSaid n
+IsSaid (deed.Run limits) n = IsRunSaid n
+IsSaid (deed.Cycle limits count) n = IsCycleSaid n
+IsSaid deed.Show n = IsShowSaid n
+
+-- with these texts no call of the store was made, and nothing was written
+abbrev pub IsSilent : Note → Type 0
+IsSilent note.BadPath = ⊤
+IsSilent note.CursorWorn = ⊤
+IsSilent note.CursorFileFailed = ⊤
+IsSilent (note.CursorRefused why) = ⊤
+IsSilent n = ⊥
+
+-- with these texts all lines went out
+abbrev pub IsWhole : Note → Type 0
+IsWhole note.Nothing = ⊤
+IsWhole (note.RunMade cycle runs cost ended) = ⊤
+IsWhole (note.CycleMade runs cost ended) = ⊤
+IsWhole n = ⊥
+
+-- whether a run hands a cursor back: after a want of memory it depends on which
+abbrev pub IsKept : Note → Option (Vec ℕ Global) → Type 0
+IsKept (note.RunMade cycle runs cost ended) stored = IsSome stored
+IsKept (note.StoppedAt p) stored = IsSome stored
+IsKept note.OutputFailed stored = IsSome stored
+IsKept note.OutOfMemory stored = ⊤
+IsKept n stored = IsNone stored
+
+abbrev pub IsKeptBy : Deed → Note → Option (Vec ℕ Global) → Type 0
+IsKeptBy (deed.Run limits) n stored = IsKept n stored
+IsKeptBy deed n stored = IsNone stored
+
+-- the text that is handed back is that of the cursor to which a run led from the one that it begins with, and the status and what is said are those of that run
+pub record HandedBack (known : Option (Option Text)) (limits : Limits) (status : ℕ) (n : Note) (handed : Text) : Type 0 where
+  pub from : Cursor
+  pub begins : BeginsWith known from
+  pub spent : ℕ
+  pub files : ℕ
+  pub paid : IsPaid limits spent files
+  pub finding : Bool
+  pub ended : RunStatus
+  pub last : Option Place
+  pub reached : Cursor
+  pub reached_is : reached ≡ after_run (begun from) spent files (state_after ended last)
+  pub handed_is : handed ≡ cursor_text reached
+  pub says : IsRunNote reached spent finding ended status n
+
+abbrev pub HandsBack : Option (Option Text) → Deed → ℕ → Note → Option (Vec ℕ Global) → Type 0
+HandsBack known (deed.Run limits) status n stored = IfSome stored (λ handed. HandedBack known (limits_of limits) status n handed.items)
+HandsBack known deed status n stored = ⊤
+
+-- without a reader a run has a new cursor, and there is none to show
+abbrev pub IsWithoutFile : Option (Option Text) → Deed → Note → Type 0
+IsWithoutFile None (deed.Run limits) n = n ≢ note.CursorFileFailed
+IsWithoutFile None deed.Show n = n ≡ note.CursorFileFailed
+IsWithoutFile known deed n = ⊤
+
+-- the path of no place
+abbrev pub IsNoPath : Text → Type 0
+IsNoPath path = (p : Place) → IsPlace p → path ≢ place_text p
+
+-- a path is refused exactly where it is that of no place, unless there was no memory to read it
+abbrev pub RefusesPath : Deed → ℕ → Note → Type 0
+RefusesPath (deed.Check path) status n = (IsNoPath (string_bytes path) → IsRefused status n) × (n ≡ note.BadPath → IsNoPath (string_bytes path))
+RefusesPath deed status n = ⊤
+
+-- the lines of the stored cursor went out
+pub record Shows (known : Option (Option Text)) (old new : Option (List ℕ)) : Type 0 where
+  pub shown : Cursor
+  pub stored : IsStored known shown
+  pub wrote : Appends old new (cursor_lines shown)
+
+-- a proper beginning of them did
+pub record ShowsPart (known : Option (Option Text)) (old new : Option (List ℕ)) : Type 0 where
+  pub shown : Cursor
+  pub stored : IsStored known shown
+  pub gone : ℕ
+  pub proper : gone < length (cursor_lines shown)
+  pub wrote : Appends old new (take gone (cursor_lines shown))
+
+-- what is shown, by what is said
+abbrev pub ShowsWith : Option (Option Text) → Note → Option (List ℕ) → Option (List ℕ) → Type 0
+ShowsWith known note.Nothing old new = Shows known old new
+ShowsWith known note.OutputFailed old new = ShowsPart known old new
+ShowsWith known n old new = new ≡ old
+
+-- the lines of a report went out, and the status says whether one of them is a finding
+abbrev pub WritesBy : Option (Option Text) → Deed → ℕ → Note → Option (List ℕ) → Option (List ℕ) → Type 0
+WritesBy known deed.Show status n old new = ShowsWith known n old new
+WritesBy known deed status n old new = IsWhole n → WritesWithStatus old new status
+
+-- ---- of a store that tells its tree
+
+-- where no failure was counted, the whole audit went out
+pub record AuditPerformed (root : Tree) (s t : Store) (old new : Option (List ℕ)) (status : ℕ) (n : Note) : Type 0 where
+  pub audits : AuditsWithNote root s t old new status n
+  pub clean : n ≡ note.Nothing → t.failures ≡ s.failures → Appends old new (text (audit root [])) × (status ≡ status_of (found (audit root [])))
+
+-- nothing was done for want of memory
+pub record OutOfMemoryFirst (s t : Store) (old new : Option (List ℕ)) (status : ℕ) (n : Note) : Type 0 where
+  pub status_is : status ≡ 3
+  pub says : n ≡ note.OutOfMemory
+  pub uncalled : t ≡ s
+  pub unwritten : new ≡ old
+
+abbrev pub CheckPerformed : Tree → Store → Store → Option (List ℕ) → Option (List ℕ) → Text → ℕ → Note → Type 0
+CheckPerformed root s t old new path status n = (p : Place) → IsPlace p → path ≡ place_text p →
+    ChecksWithNote root s t old new p status n ⊎ OutOfMemoryFirst s t old new status n
+
+-- no cursor was read
+pub record RunUnread (known : Option (Option Text)) (status : ℕ) (n : Note) : Type 0 where
+  pub why : CursorStop
+  pub stops : StopsWith known why
+  pub says : IsUnreadNote why status n
+
+-- the cursor that was read is worn
+pub record RunWorn (known : Option (Option Text)) (status : ℕ) (n : Note) : Type 0 where
+  pub from : Cursor
+  pub begins : BeginsWith known from
+  pub worn : IsWorn from
+  pub status_is : status ≡ 3
+  pub says : n ≡ note.CursorWorn
+
+-- no run was made, no call of the store, and nothing was written or handed back
+pub record RunUnmade (known : Option (Option Text)) (s t : Store) (old new : Option (List ℕ)) (status : ℕ) (n : Note) (stored : Option (Vec ℕ Global)) : Type 0 where
+  pub why : RunUnread known status n ⊎ RunWorn known status n
+  pub uncalled : t ≡ s
+  pub unwritten : new ≡ old
+  pub unkept : IsNone stored
+
+-- a run was made from the cursor that was read
+pub record RunMade (known : Option (Option Text)) (root : Tree) (s t : Store) (old new : Option (List ℕ)) (limits : Limits) (status : ℕ) (n : Note) (stored : Option (Vec ℕ Global)) : Type 0 where
+  pub from : Cursor
+  pub begins : BeginsWith known from
+  pub runs : RunsWithNote root s t old new from limits status n stored
+
+abbrev pub RunPerformed : Option (Option Text) → Tree → Store → Store → Option (List ℕ) → Option (List ℕ) → Limits → ℕ → Note → Option (Vec ℕ Global) → Type 0
+RunPerformed known root s t old new limits status n stored =
+    RunMade known root s t old new limits status n stored ⊎ RunUnmade known s t old new status n stored
+
+-- so many runs, each within the same limits
+abbrev pub equal_limits : MadeLimits → ℕ → List Limits
+equal_limits limits count = map limits_of (replicate count limits)
+
+abbrev pub CyclePerformed : Tree → Store → Store → Option (List ℕ) → Option (List ℕ) → List Limits → ℕ → Note → Type 0
+CyclePerformed root s t old new limits status n = CyclesWithNote root s t old new limits status n ⊎ OutOfMemoryFirst s t old new status n
+
+-- from s to t the deed was done
+abbrev pub Performs : Option (Option Text) → Tree → Store → Store → Option (List ℕ) → Option (List ℕ) → Deed → ℕ → Note → Option (Vec ℕ Global) → Type 0
+Performs known root s t old new deed.Audit status n stored = AuditPerformed root s t old new status n
+Performs known root s t old new (deed.Check path) status n stored = CheckPerformed root s t old new (string_bytes path) status n
+Performs known root s t old new (deed.Run limits) status n stored = RunPerformed known root s t old new (limits_of limits) status n stored
+Performs known root s t old new (deed.Cycle limits count) status n stored = CyclePerformed root s t old new (equal_limits limits count) status n
+Performs known root s t old new deed.Show status n stored = t ≡ s

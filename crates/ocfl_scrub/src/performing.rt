@@ -1,0 +1,318 @@
+//! What the program does for a command: the one function that the program and the tests call.
+ghost use Rattle.std.specs.Prelude.{◌≡◌, ◌≢◌, ◌↔◌, ℕ, IfErr, IfOk, IsNone, IsTrue, Some, Vec, replicate};
+ghost use Rattle.std.specs.declared.alloc.Global.{Global};
+ghost use Rattle.ocfl_tree.specs.Tree.{Tree as Root};
+ghost use Rattle.ocfl_walk.specs.Judging.{HasShortFiles};
+ghost use Rattle.ocfl_scrub.specs.Running.{limits_of};
+ghost use Rattle.ocfl_scrub.specs.Noting.{IsCycleNote, IsCycleSaid, IsRanSaid, IsRunNote, IsRunSaid, IsShowSaid, IsStatus, IsStoredNote, IsUnreadNote, IsUnreadSaid, WritesWithStatus, run_summary as summary_of_run, status_of};
+ghost use Rattle.ocfl_scrub.specs.Performing.{BeginsWith, CyclePerformed, HandsBack, IsKept, IsKeptBy, IsSaid, IsSilent, IsWhole, IsWithoutFile, Performs, RefusesPath, RefusesRightly, RunPerformed, ShowsWith, StopsWith, WritesBy, bytes_of, equal_limits as limits_of_each};
+
+use crate::command::{audited, checked, status, stop_note};
+use crate::cycling::{CycleEnd, CycleStatus, cycle};
+use crate::note::Note;
+use crate::running::{RunEnd, RunStatus, run};
+use ocfl_cursor::{Cursor, CursorStop, Limits, Refused, cursor_lines, encode, read_cursor};
+use ocfl_digest::Block;
+use ocfl_line::Deed;
+use ocfl_report::write_all_of;
+use ocfl_tree::Tree;
+use ocfl_walk::Fault;
+use std::alloc::{AllocError, Global};
+use std::io::{Read, Write};
+
+/// What a command ends with.
+#[derive(Debug, Drop)]
+pub struct Performed {
+    /// The exit status: 0 without a finding, 1 with one, 2 where the path is not that of a place, 3
+    /// after a stop, of a worn cursor, or where a cursor could not be read, 4 where the bytes are
+    /// those of no cursor.
+    pub status: u8,
+    /// What is to be said.
+    pub note: Note,
+    /// The text of the cursor that is to be stored.
+    pub cursor: Option<Vec<u8>>,
+}
+
+/// Does what is asked for, and gives what the program ends with. The report lines, or those of the
+/// cursor that is shown, go to the writer.
+///
+/// The reader gives the bytes of the cursor that is stored, which a run goes on from, and which is
+/// shown. Without a reader a run begins with a new cursor, and there is none to show. After a run
+/// the text of the cursor that it answered is handed back, to be stored, after a stop too: but not
+/// where the cursor was worn, or there was no memory for its text.
+///
+/// Where bytes are refused as a cursor, or could not be read, no call of the store is made, and
+/// nothing is written.
+pub fn perform<T: Tree, R: Read, W: Write>(
+    alloc: Global,
+    store: &mut T,
+    deed: &Deed,
+    reader: Option<&mut R>,
+    block: &mut Block,
+    out: &mut W,
+) -> Performed
+    // Of every store.
+    ensures status { IsStatus result.status result.note }
+    ensures said { IsSaid deed.now result.note }
+    ensures silent { IsSilent result.note → (store.new ≡ store.old) × (out.new ≡ out.old) }
+    ensures show_calls { deed.now ≡ Deed.Show → store.new ≡ store.old }
+    ensures refused { RefusesRightly (bytes_of R.remaining reader.entry) result.note }
+    ensures kept { IsKeptBy deed.now result.note result.cursor }
+    ensures handed_back { HandsBack (bytes_of R.remaining reader.entry) deed.now
+        result.status result.note result.cursor }
+    ensures without_file { IsWithoutFile (bytes_of R.remaining reader.entry) deed.now result.note }
+    ensures bad_path { RefusesPath deed.now result.status result.note }
+    ensures lines { WritesBy (bytes_of R.remaining reader.entry) deed.now result.status result.note
+        (W.contents out.old) (W.contents out.new) }
+
+    // Of a store that tells its tree.
+    ensures told { IsTrue T.told → (root : Root) → (T.state store.old).tree ≡ root →
+        HasShortFiles root →
+        Performs (bytes_of R.remaining reader.entry) root (T.state store.old) (T.state store.new)
+        (W.contents out.old) (W.contents out.new) deed.now result.status result.note result.cursor }
+{
+    match deed {
+        Deed::Audit => without_cursor(audited(alloc, store, block, out)),
+        Deed::Check(path) => without_cursor(checked(alloc, store, path.as_str(), block, out)),
+        Deed::Run(limits) => performed_run(alloc, store, *limits, reader, block, out),
+        Deed::Cycle(limits, count) => {
+            without_cursor(performed_cycle(alloc, store, *limits, *count, block, out))
+        }
+        Deed::Show => without_cursor(shown(alloc, reader, out)),
+    }
+}
+
+// What is said, where there is no cursor to store.
+fn without_cursor(said: (u8, Note)) -> Performed
+    ensures status { result.status ≡ said.0 }
+    ensures note { result.note ≡ said.1 }
+    ensures cursor { IsNone result.cursor }
+{
+    let (status, note) = said;
+    Performed {
+        status,
+        note,
+        cursor: None,
+    }
+}
+
+// The cursor that a run begins with.
+fn first_cursor<R: Read>(alloc: Global, reader: Option<&mut R>) -> Result<Cursor, CursorStop>
+    ensures cursor { IfOk result (BeginsWith (bytes_of R.remaining reader.entry)) }
+    ensures refused { IfErr result (StopsWith (bytes_of R.remaining reader.entry)) }
+{
+    match reader {
+        Some(reader) => read_cursor(alloc, reader),
+        None => Ok(Cursor::new()),
+    }
+}
+
+// What is said where no cursor was read.
+fn unread(why: CursorStop) -> (u8, Note)
+    ensures note { IsUnreadNote why result.0 result.1 }
+    ensures status { IsStatus result.0 result.1 }
+    ensures said { IsUnreadSaid result.1 }
+{
+    match why {
+        CursorStop::Read => (3, Note::CursorFileFailed),
+        CursorStop::Refused(Refused::Memory) => (3, Note::OutOfMemory),
+        CursorStop::Refused(why) => (4, Note::CursorRefused(why)),
+    }
+}
+
+// One run from the stored cursor.
+fn performed_run<T: Tree, R: Read, W: Write>(
+    alloc: Global,
+    store: &mut T,
+    limits: Limits,
+    reader: Option<&mut R>,
+    block: &mut Block,
+    out: &mut W,
+) -> Performed
+    // Of every store.
+    ensures status { IsStatus result.status result.note }
+    ensures said { IsRunSaid result.note }
+    ensures silent { IsSilent result.note → (store.new ≡ store.old) × (out.new ≡ out.old) }
+    ensures refused { RefusesRightly (bytes_of R.remaining reader.entry) result.note }
+    ensures kept { IsKept result.note result.cursor }
+    ensures handed_back { HandsBack (bytes_of R.remaining reader.entry) (Deed.Run limits)
+        result.status result.note result.cursor }
+    ensures without_file { IsWithoutFile (bytes_of R.remaining reader.entry) (Deed.Run limits)
+        result.note }
+    ensures lines { IsWhole result.note →
+        WritesWithStatus (W.contents out.old) (W.contents out.new) result.status }
+
+    // Of a store that tells its tree.
+    ensures told { IsTrue T.told → (root : Root) → (T.state store.old).tree ≡ root →
+        HasShortFiles root →
+        RunPerformed (bytes_of R.remaining reader.entry) root (T.state store.old)
+        (T.state store.new) (W.contents out.old) (W.contents out.new) (limits_of limits)
+        result.status result.note result.cursor }
+{
+    let cursor = match first_cursor(alloc, reader) {
+        Ok(cursor) => cursor,
+        Err(why) => return without_cursor(unread(why)),
+    };
+    let end = run(alloc, store, cursor, limits, block, out);
+    ran(alloc, end)
+}
+
+// What is said after a run, and the text of its cursor.
+fn ran(alloc: Global, end: RunEnd) -> Performed
+    requires whole { end.end ≢ RunStatus.Stopped Fault.Broken }
+    ensures status { IsStatus result.status result.note }
+    ensures said { IsRanSaid result.note }
+    ensures worn { (result.note ≡ Note.CursorWorn) ↔ (end.end ≡ RunStatus.Worn) }
+    ensures worn_ends { end.end ≡ RunStatus.Worn → (result.status ≡ 3) × IsNone result.cursor }
+    ensures kept { IsKept result.note result.cursor }
+    ensures note { end.end ≢ RunStatus.Worn →
+        IsStoredNote end.cursor end.spent end.found end.end result.status result.note result.cursor }
+    ensures lines { IsWhole result.note →
+        (end.end ≢ RunStatus.Stopped Fault.Output) × (result.status ≡ status_of end.found) }
+{
+    let RunEnd {
+        cursor,
+        spent,
+        found,
+        end,
+        ..
+    } = end;
+    if matches!(end, RunStatus::Worn) {
+        return without_cursor((3, Note::CursorWorn));
+    }
+    let Ok(text) = encode(alloc, &cursor) else {
+        return without_cursor((3, Note::OutOfMemory));
+    };
+    let (status, note) = run_noted(&cursor, spent, found, end);
+    Performed {
+        status,
+        note,
+        cursor: Some(text),
+    }
+}
+
+// What is said after a run whose cursor has a text.
+fn run_noted(cursor: &Cursor, spent: u64, found: bool, end: RunStatus) -> (u8, Note)
+    requires whole { end ≢ RunStatus.Stopped Fault.Broken }
+    ensures note { IsRunNote cursor.now spent found end result.0 result.1 }
+    ensures status { IsStatus result.0 result.1 }
+    ensures said { IsRanSaid result.1 }
+    ensures worn { result.1 ≡ Note.CursorWorn → end ≡ RunStatus.Worn }
+    ensures kept { end ≢ RunStatus.Worn → (text : Vec ℕ Global) → IsKept result.1 (Some text) }
+    ensures lines { IsWhole result.1 →
+        (end ≢ RunStatus.Stopped Fault.Output) × (result.0 ≡ status_of found) }
+{
+    match end {
+        RunStatus::Ended => (status(found), run_summary(cursor, spent, true)),
+        RunStatus::Spent => (status(found), run_summary(cursor, spent, false)),
+        RunStatus::Stopped(why) => (3, stop_note(why)),
+        RunStatus::Worn => (3, Note::CursorWorn),
+    }
+}
+
+fn run_summary(cursor: &Cursor, spent: u64, ended: bool) -> Note
+    ensures { result ≡ summary_of_run cursor.now spent ended }
+{
+    Note::RunMade {
+        cycle: cursor.cycle(),
+        runs: cursor.runs(),
+        cost: spent,
+        ended,
+    }
+}
+
+// A cycle of so many runs, each within the same limits.
+fn performed_cycle<T: Tree, W: Write>(
+    alloc: Global,
+    store: &mut T,
+    limits: Limits,
+    count: usize,
+    block: &mut Block,
+    out: &mut W,
+) -> (u8, Note)
+    // Of every store.
+    ensures status { IsStatus result.0 result.1 }
+    ensures said { IsCycleSaid result.1 }
+    ensures lines { IsWhole result.1 →
+        WritesWithStatus (W.contents out.old) (W.contents out.new) result.0 }
+
+    // Of a store that tells its tree.
+    ensures told { IsTrue T.told → (root : Root) → (T.state store.old).tree ≡ root →
+        HasShortFiles root →
+        CyclePerformed root (T.state store.old) (T.state store.new) (W.contents out.old)
+        (W.contents out.new) (limits_of_each limits count) result.0 result.1 }
+{
+    let Ok(each) = equal_limits(alloc, limits, count) else {
+        return (3, Note::OutOfMemory);
+    };
+    cycle_noted(cycle(alloc, store, &each, block, out))
+}
+
+fn equal_limits(alloc: Global, limits: Limits, count: usize) -> Result<Vec<Limits>, AllocError>
+    ensures { IfOk result (λ each. each.items ≡ replicate count limits) }
+{
+    Vec::from_elem(alloc, limits, count)
+}
+
+// What is said after a cycle.
+fn cycle_noted(end: CycleEnd) -> (u8, Note)
+    requires whole { end.end ≢ CycleStatus.Stopped Fault.Broken }
+    ensures note { IsCycleNote end.runs end.spent end.found end.end result.0 result.1 }
+    ensures status { IsStatus result.0 result.1 }
+    ensures said { IsCycleSaid result.1 }
+    ensures lines { IsWhole result.1 →
+        (end.end ≢ CycleStatus.Stopped Fault.Output) × (result.0 ≡ status_of end.found) }
+{
+    let CycleEnd {
+        runs,
+        spent,
+        found,
+        end,
+        ..
+    } = end;
+    match end {
+        CycleStatus::Ended => (
+            status(found),
+            Note::CycleMade {
+                runs,
+                cost: spent,
+                ended: true,
+            },
+        ),
+        CycleStatus::Spent => (
+            status(found),
+            Note::CycleMade {
+                runs,
+                cost: spent,
+                ended: false,
+            },
+        ),
+        CycleStatus::Stopped(why) => (3, stop_note(why)),
+    }
+}
+
+// The lines of the stored cursor go out.
+fn shown<R: Read, W: Write>(alloc: Global, reader: Option<&mut R>, out: &mut W) -> (u8, Note)
+    ensures status { IsStatus result.0 result.1 }
+    ensures said { IsShowSaid result.1 }
+    ensures refused { RefusesRightly (bytes_of R.remaining reader.entry) result.1 }
+    ensures without_file { IsWithoutFile (bytes_of R.remaining reader.entry) Deed.Show result.1 }
+    ensures shows { ShowsWith (bytes_of R.remaining reader.entry) result.1 (W.contents out.old)
+        (W.contents out.new) }
+    ensures silent { IsSilent result.1 → out.new ≡ out.old }
+{
+    let Some(reader) = reader else {
+        return (3, Note::CursorFileFailed);
+    };
+    let cursor = match read_cursor(alloc, reader) {
+        Ok(cursor) => cursor,
+        Err(why) => return unread(why),
+    };
+    let Ok(lines) = cursor_lines(alloc, &cursor) else {
+        return (3, Note::OutOfMemory);
+    };
+    match write_all_of(out, &lines) {
+        Ok(()) => (0, Note::Nothing),
+        Err(_) => (3, Note::OutputFailed),
+    }
+}

@@ -1,142 +1,195 @@
-//! The program `ocfl-scrub`: its command line, standard error and exit status.
+//! The program `ocfl-scrub`: its files, standard error and exit status.
 #![tactic(auto)]
 
-use clap::error::ErrorKind;
-use clap::{Arg, ArgMatches, Command};
 use ocfl_digest::Block;
-use ocfl_scrub::{Note, audited, checked};
+use ocfl_scrub::{Asked, LineStop, Note, Performed, asked, perform};
 use ocfl_tree::FsTree;
-use std::alloc::{AllocError, Global};
+use std::fs::{File, OpenFile};
+use std::io::{Read, Write};
 use std::process::ExitCode;
 use std::rt::{Env, Files};
-use std::{env, io};
+use std::{env, fs, io};
 
 /// The exit status of a command line that is not understood.
 const USAGE: u8 = 2;
 
-/// The exit status of a run that stopped.
+/// The exit status where a command stopped.
 const STOPPED: u8 = 3;
 
-/// What is to be done.
-#[derive(Clone, Copy)]
-enum Deed<'a> {
-    Audit,
-    /// The place with this path is checked.
-    Check(&'a str),
+/// The folder that a file lies in.
+fn folder_of(file: &str) -> &str {
+    match file.rsplit_once('/') {
+        Some(("", _)) => "/",
+        Some((folder, _)) => folder,
+        None => ".",
+    }
 }
 
-/// What a command line asks for, and the folder of the storage root.
-#[derive(Clone, Copy)]
-struct Asked<'a> {
-    deed: Deed<'a>,
-    root: &'a str,
-}
-
-fn root_arg<'a>(alloc: Global) -> Arg<'a> {
-    Arg::new(alloc, "root")
-        .value_name("ROOT")
-        .help("The folder of the storage root")
-        .required(true)
-}
-
-fn audit_command<'a>(alloc: Global) -> Result<Command<'a>, AllocError> {
-    Command::new(alloc, "audit")
-        .about("Writes the report lines of the whole storage root")
-        .arg(root_arg(alloc))
-}
-
-fn check_command<'a>(alloc: Global) -> Result<Command<'a>, AllocError> {
-    let path = Arg::new(alloc, "path")
-        .value_name("PATH")
-        .help("A place in it, written as in report lines")
-        .required(true);
-    Command::new(alloc, "check")
-        .about("Writes the report lines of one place")
-        .arg(root_arg(alloc))?
-        .arg(path)
-}
-
-fn command<'a>(alloc: Global) -> Result<Command<'a>, AllocError> {
-    Command::new(alloc, "ocfl-scrub")
-        .about("Audits the fixity of OCFL 1.1 storage roots")
-        .subcommand_required(true)
-        .subcommand(audit_command(alloc)?)?
-        .subcommand(check_command(alloc)?)
-}
-
-fn asked_by<'a>(matches: &ArgMatches<'a>) -> Option<Asked<'a>> {
-    let (name, inner) = matches.subcommand()?;
-    let deed = if name == "audit" {
-        Deed::Audit
-    } else {
-        Deed::Check(inner.get_str("path")?)
+/// Whether a file lies in a storage root, or would. Where one of the two folders is not found, it
+/// does not.
+fn lies_inside<R: Files + AllocGlobal>(rt: &R, file: &str, root: &str) -> bool {
+    let Ok(folder) = fs::canonicalize(rt, folder_of(file)) else {
+        return false;
     };
-    let root = inner.get_str("root")?;
-    Some(Asked { deed, root })
+    let Ok(root) = fs::canonicalize(rt, root) else {
+        return false;
+    };
+    folder.as_path().starts_with(root.as_path())
 }
 
-/// Does what is asked over a folder, and gives the status with what is to be said.
-fn perform<R: Files + AllocGlobal + Print>(rt: &R, asked: Asked) -> (u8, Note) {
-    let Ok(mut store) = FsTree::at(rt, asked.root) else {
+/// The cursor's file, and `None` where there is no such file.
+fn opened<R: Files>(rt: &R, file: &str) -> io::Result<Option<R::File>> {
+    match File::open(rt, file) {
+        Ok(opened) => Ok(Some(opened)),
+        Err(error) if error.kind() == io::ErrorKind::NotFound => Ok(None),
+        Err(error) => Err(error),
+    }
+}
+
+fn write_synced<R: Files>(rt: &R, file: &str, text: &[u8]) -> io::Result<()> {
+    // What a killed run left is no part of this one, and what is linked there is not written to.
+    let _ = fs::remove_file(rt, file);
+    let mut made = File::create_new(rt, file)?;
+    made.write_all(text)?;
+    made.sync_all()
+}
+
+/// Puts a text in the place of a file: it is written beside it, synced and renamed over it, so that
+/// the file is whole at each moment.
+fn put_in_place<R: Files + AllocGlobal>(rt: &R, file: &str, text: &[u8]) -> io::Result<()> {
+    let beside = format!(in rt.alloc(); "{file}.new")?;
+    let written = write_synced(rt, beside.as_str(), text);
+    if written.is_err() {
+        let _ = fs::remove_file(rt, beside.as_str());
+        return written;
+    }
+    fs::rename(rt, beside.as_str(), file)?;
+    // Not every system can sync a folder; the file is whole without it.
+    if let Ok(folder) = File::open(rt, folder_of(file)) {
+        let _ = folder.sync_all();
+    }
+    Ok(())
+}
+
+/// What is said of a cursor's file that could not be read or put in place.
+fn file_note(error: &io::Error) -> Note {
+    match error.kind() {
+        io::ErrorKind::OutOfMemory => Note::OutOfMemory,
+        _ => Note::CursorFileFailed,
+    }
+}
+
+/// Does what is asked for over a folder, and gives the status with what is to be said.
+fn done<R: Files + AllocGlobal + Print>(rt: &R, asked: &Asked) -> (u8, Note) {
+    let file = asked.file.as_ref().map(|file| file.as_str());
+    let root = asked.root.as_ref().map_or(".", |root| root.as_str());
+    let Ok(mut store) = FsTree::at(rt, root) else {
         return (STOPPED, Note::OutOfMemory);
     };
     let Ok(mut block) = Block::new(rt.alloc()) else {
         return (STOPPED, Note::OutOfMemory);
     };
+    let mut reader = match file.map_or(Ok(None), |file| opened(rt, file)) {
+        Ok(reader) => reader,
+        Err(error) => return (STOPPED, file_note(&error)),
+    };
     let mut out = io::writer(rt);
-    match asked.deed {
-        Deed::Audit => audited(rt.alloc(), &mut store, &mut block, &mut out),
-        Deed::Check(path) => checked(rt.alloc(), &mut store, path, &mut block, &mut out),
+    let Performed {
+        status,
+        note,
+        cursor,
+    } = perform(
+        rt.alloc(),
+        &mut store,
+        &asked.deed,
+        reader.as_mut(),
+        &mut block,
+        &mut out,
+    );
+    if let (Some(text), Some(file)) = (&cursor, file) {
+        if let Err(error) = put_in_place(rt, file, text) {
+            return (STOPPED, file_note(&error));
+        }
     }
+    (status, note)
 }
 
-/// Says what a command ended with, where there is something to say.
-fn say<R: Eprint>(rt: &R, note: &Note) -> io::Result<()> {
-    match note {
-        Note::Nothing => Ok(()),
-        _ => eprintln!(rt; "ocfl-scrub: {note}"),
-    }
+/// Says one line on standard error. A standard error that cannot be written changes nothing.
+fn say<R: Eprint>(rt: &R, line: &str) {
+    let _ = eprintln!(rt; "ocfl-scrub: {line}");
 }
 
-fn run<R: Files + Env + AllocGlobal + Print + Eprint>(rt: &R) -> io::Result<u8> {
-    let words: Vec<String> = match env::args(rt) {
-        Ok(words) => words.collect(rt.alloc())?,
+/// Does what is asked for, unless it would write into the storage root.
+fn answer<R: Files + AllocGlobal + Print + Eprint>(rt: &R, asked: &Asked) -> u8 {
+    if let (Some(file), Some(root)) = (&asked.file, &asked.root) {
+        if lies_inside(rt, file.as_str(), root.as_str()) {
+            say(
+                rt,
+                "the cursor's file lies in the storage root, which is never written into",
+            );
+            return USAGE;
+        }
+    }
+    let (status, note) = done(rt, asked);
+    if !matches!(note, Note::Nothing) {
+        let _ = eprintln!(rt; "ocfl-scrub: {note}");
+    }
+    status
+}
+
+fn out_of_memory<R: Eprint>(rt: &R) -> u8 {
+    say(rt, "out of memory");
+    STOPPED
+}
+
+/// The words of the command line, or the status where they cannot be read.
+fn words<R: Env + AllocGlobal + Eprint>(rt: &R) -> Result<Vec<String>, u8> {
+    let read = match env::args(rt) {
+        Ok(words) => words.collect(rt.alloc()).ok(),
         Err(error) if error.kind() == io::ErrorKind::InvalidData => {
-            eprintln!(rt; "ocfl-scrub: an argument is not UTF-8")?;
-            return Ok(USAGE);
+            say(rt, "an argument is not UTF-8");
+            return Err(USAGE);
         }
-        Err(error) => return Err(error),
+        Err(_) => None,
     };
-    let mut command = command(rt.alloc())?;
-    let matches = match command.try_get_matches_from_mut(words.as_slice()) {
-        Ok(matches) => matches,
-        Err(error) if error.kind() == ErrorKind::OutOfMemory => {
-            return Err(io::Error::from(io::ErrorKind::OutOfMemory));
+    match read {
+        Some(words) => Ok(words),
+        None => Err(out_of_memory(rt)),
+    }
+}
+
+/// Prints the help that was asked for, or says what is wrong with a command line.
+fn usage<R: Print + Eprint>(rt: &R, error: &clap::Error) -> u8 {
+    let printed = error.print(rt);
+    if error.use_stderr() {
+        return USAGE;
+    }
+    if printed.is_err() {
+        say(rt, "output failed");
+        return STOPPED;
+    }
+    0
+}
+
+fn status_of<R: Files + Env + AllocGlobal + Print + Eprint>(rt: &R) -> u8 {
+    let mut words = match words(rt) {
+        Ok(words) => words,
+        Err(status) => return status,
+    };
+    // Usage texts name the program by its first word, whatever its file is called.
+    if let Some(first) = words.first_mut() {
+        match String::from_str(rt.alloc(), "ocfl-scrub") {
+            Ok(name) => *first = name,
+            Err(_) => return out_of_memory(rt),
         }
-        Err(error) => {
-            error.print(rt)?;
-            return Ok(if error.use_stderr() { USAGE } else { 0 });
-        }
-    };
-    let Some(asked) = asked_by(&matches) else {
-        eprintln!(rt; "ocfl-scrub: a value is missing")?;
-        return Ok(USAGE);
-    };
-    let (status, note) = perform(rt, asked);
-    say(rt, &note)?;
-    Ok(status)
+    }
+    match asked(rt.alloc(), words.as_slice()) {
+        Ok(asked) => answer(rt, &asked),
+        Err(LineStop::Usage(error)) => usage(rt, &error),
+        Err(LineStop::Memory) => out_of_memory(rt),
+    }
 }
 
 fn main(rt: HostRuntime) -> ExitCode {
-    match run(&rt) {
-        Ok(status) => ExitCode::from(status),
-        Err(error) => {
-            let text = match error.kind() {
-                io::ErrorKind::OutOfMemory => "out of memory",
-                _ => "output failed",
-            };
-            let _ = eprintln!(rt; "ocfl-scrub: {text}");
-            ExitCode::from(STOPPED)
-        }
-    }
+    ExitCode::from(status_of(&rt))
 }

@@ -14,8 +14,6 @@ mod reading;
 mod refused;
 mod seal;
 mod state;
-#[cfg(test)]
-mod tests;
 
 pub use cursor::Cursor;
 pub use decoding::decode;

@@ -10,8 +10,6 @@ mod hashing;
 mod laws;
 mod pieces;
 mod stop;
-#[cfg(test)]
-mod tests;
 mod wanted;
 
 pub use algorithm::Algorithm;

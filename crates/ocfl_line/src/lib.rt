@@ -6,8 +6,6 @@ mod budget;
 mod command;
 mod deed;
 mod reading;
-#[cfg(test)]
-mod tests;
 
 pub use asking::asked;
 pub use deed::{Asked, Deed, LineStop};

@@ -14,6 +14,3 @@ pub use display::DisplayPlace;
 pub use line::Line;
 pub use output::{OutStop, write_all_of};
 pub use path::{PlaceStop, put_place, read_place};
-
-#[cfg(test)]
-mod tests;

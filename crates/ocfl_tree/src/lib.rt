@@ -26,6 +26,3 @@ pub use plan::Point;
 pub use store::{Entry, Kind, Opening, Trouble};
 pub use text::{is_bytes, is_text};
 pub use tree::Tree;
-
-#[cfg(test)]
-mod tests;

@@ -3,20 +3,12 @@
 
 mod base;
 mod content;
-#[cfg(test)]
-mod cost_tests;
 mod entry;
 mod fault;
 mod file_lines;
 mod find;
-#[cfg(test)]
-mod find_tests;
 mod folder;
 mod head_lines;
-#[cfg(test)]
-mod head_lines_tests;
-#[cfg(test)]
-mod head_tests;
 mod item;
 mod judging;
 pub mod laws;
@@ -26,13 +18,9 @@ mod missing;
 mod object;
 mod pending;
 mod sight;
-#[cfg(test)]
-mod stack_tests;
 mod stand;
 mod visit;
 mod walk;
-#[cfg(test)]
-mod walk_tests;
 
 pub use fault::Fault;
 pub use item::item_at;

@@ -1,0 +1,237 @@
+use clap::error::ErrorKind;
+use ocfl_cursor::{Budget, FileLimit, Limits};
+use ocfl_line::{Asked, Deed, LineStop, asked};
+use std::alloc::{AllocError, Global};
+use std::test::Fail;
+
+/// The most that a run may be allowed to read, and the most files that it may start.
+const MOST: u64 = 4611686018427387904;
+
+fn limits(budget: u64, files: u64) -> Result<Limits, Fail> {
+    let budget = Budget::new(budget).ok_or("a budget")?;
+    let files = FileLimit::new(files).ok_or("a limit")?;
+    Ok(Limits { budget, files })
+}
+
+/// The program's name and the words of a line, in which no word has a space.
+fn words_of<'a>(alloc: Global, line: &'a str) -> Result<Vec<&'a str>, AllocError> {
+    let mut words = Vec::new(alloc);
+    words.push("ocfl-scrub")?;
+    for word in line.split(' ') {
+        words.push(word)?;
+    }
+    Ok(words)
+}
+
+fn read(alloc: Global, line: &str) -> Result<Asked, LineStop> {
+    let words = words_of(alloc, line)?;
+    asked(alloc, words.as_slice())
+}
+
+/// The kind of the fault of usage.
+fn words_fault(alloc: Global, words: &[&str]) -> Option<ErrorKind> {
+    match asked(alloc, words) {
+        Err(LineStop::Usage(error)) => Some(error.kind()),
+        _ => None,
+    }
+}
+
+/// The same of a line.
+fn fault(alloc: Global, line: &str) -> Option<ErrorKind> {
+    match read(alloc, line) {
+        Err(LineStop::Usage(error)) => Some(error.kind()),
+        _ => None,
+    }
+}
+
+/// Whether a line asks for this run over the root `R` with the cursor `F`.
+fn is_run(alloc: Global, line: &str, limits: Limits) -> Result<bool, Fail> {
+    let asked = read(alloc, line)?;
+    let places = asked.root.as_deref() == Some("R") && asked.file.as_deref() == Some("F");
+    Ok(asked.deed == Deed::Run(limits) && places)
+}
+
+/// The text of a line's fault, or of the help that it asks for.
+fn usage_text(alloc: Global, line: &str) -> Result<String, Fail> {
+    match read(alloc, line) {
+        Err(LineStop::Usage(error)) => Ok(format!(in alloc; "{error}")?),
+        _ => Err(Fail::from("no usage")),
+    }
+}
+
+#[test]
+fn reads_a_cycle(rt: HostRuntime) -> Result<(), Fail> {
+    let alloc = rt.alloc();
+    let asked = read(alloc, "cycle --budget 1 --runs 2 R")?;
+    assert_eq!(rt; asked.deed, Deed::Cycle(limits(1, MOST)?, 2));
+    assert!(rt; asked.root.as_deref() == Some("R") && asked.file.is_none());
+    let asked = read(alloc, "cycle --runs 100000 --files 3 --budget 2 R")?;
+    assert_eq!(rt; asked.deed, Deed::Cycle(limits(2, 3)?, 100000));
+    Ok(())
+}
+
+#[test]
+fn reads_a_run(rt: HostRuntime) -> Result<(), Fail> {
+    let alloc = rt.alloc();
+    assert!(rt; is_run(alloc, "run --cursor F --budget 9 R", limits(9, MOST)?)?);
+    assert!(rt;
+        is_run(
+            alloc,
+            "run --files 3 R --budget=9 --cursor F",
+            limits(9, 3)?
+        )?
+    );
+    let line = "run --cursor F --budget 9 --files 4611686018427387904 R";
+    assert!(rt; is_run(alloc, line, limits(9, MOST)?)?);
+    Ok(())
+}
+
+#[test]
+fn reads_the_others(rt: HostRuntime) -> Result<(), Fail> {
+    let alloc = rt.alloc();
+    let audit = read(alloc, "audit R")?;
+    assert_eq!(rt; audit.deed, Deed::Audit);
+    assert!(rt; audit.root.as_deref() == Some("R") && audit.file.is_none());
+    let check = read(alloc, "check R o/v1")?;
+    assert!(rt; matches!(&check.deed, Deed::Check(path) if path.as_str() == "o/v1"));
+    assert!(rt; check.root.as_deref() == Some("R") && check.file.is_none());
+    let show = read(alloc, "show F")?;
+    assert_eq!(rt; show.deed, Deed::Show);
+    assert!(rt; show.root.is_none() && show.file.as_deref() == Some("F"));
+    Ok(())
+}
+
+#[test]
+fn reads_budgets(rt: HostRuntime) -> Result<(), Fail> {
+    let alloc = rt.alloc();
+    let budgets = [
+        ("1K", 1024),
+        ("3M", 3145728),
+        ("10G", 10737418240),
+        ("5T", 5497558138880),
+        ("4194304T", MOST),
+        ("4611686018427387904", MOST),
+        ("007", 7),
+    ];
+    for (text, number) in budgets {
+        let line = format!(in alloc; "run --cursor F --budget {text} R")?;
+        assert!(rt; is_run(alloc, line.as_str(), limits(number, MOST)?)?);
+    }
+    Ok(())
+}
+
+#[test]
+fn refuses_other_budgets(rt: HostRuntime) {
+    let refused = [
+        "0",
+        "0K",
+        "4611686018427387905",
+        "4194305T",
+        "18446744073709551616",
+        "1k",
+        "1KK",
+        "K",
+        "+1",
+        "+1K",
+        "1 K",
+        "1.5G",
+        "0x1",
+        "",
+    ];
+    for text in refused {
+        let words = ["ocfl-scrub", "run", "--cursor", "F", "--budget", text, "R"];
+        let kind = words_fault(rt.alloc(), words.as_slice());
+        assert_eq!(rt; kind, Some(ErrorKind::ValueValidation), "{text}");
+    }
+    let negative = fault(rt.alloc(), "run --cursor F --budget -1 R");
+    assert_eq!(rt; negative, Some(ErrorKind::UnknownArgument));
+}
+
+#[test]
+fn says_what_a_budget_is(rt: HostRuntime) -> Result<(), Fail> {
+    let alloc = rt.alloc();
+    let text = usage_text(alloc, "cycle --budget 1k --runs 2 R")?;
+    let wanted = "error: invalid value for '--budget <N>': N is 1 to 4611686018427387904, \
+                  as digits or with one suffix K, M, G or T\n\nUsage: ocfl-scrub <COMMAND>\n\n\
+                  For more information, try '--help'.\n";
+    assert_eq!(rt; text.as_str(), wanted);
+    Ok(())
+}
+
+#[test]
+fn refuses_other_numbers(rt: HostRuntime) {
+    let alloc = rt.alloc();
+    let kind = Some(ErrorKind::ValueValidation);
+    for line in [
+        "run --cursor F --budget 1 --files 0 R",
+        "run --cursor F --budget 1 --files 4611686018427387905 R",
+        "run --cursor F --budget 1 --files 1K R",
+        "cycle --budget 1 --runs 0 R",
+        "cycle --budget 1 --runs 100001 R",
+        "cycle --budget 1 --runs x R",
+    ] {
+        assert_eq!(rt; fault(alloc, line), kind, "{line}");
+    }
+}
+
+#[test]
+fn refuses_other_lines(rt: HostRuntime) {
+    let alloc = rt.alloc();
+    for line in [
+        "audit",
+        "check R",
+        "show",
+        "cycle --budget 1 --runs 2",
+        "run --cursor F R",
+    ] {
+        assert_eq!(rt;
+            fault(alloc, line),
+            Some(ErrorKind::MissingRequiredArgument),
+            "{line}"
+        );
+    }
+    assert_eq!(rt; fault(alloc, "scrub R"), Some(ErrorKind::InvalidSubcommand));
+    assert_eq!(rt; fault(alloc, "audit R S"), Some(ErrorKind::UnknownArgument));
+    assert_eq!(rt;
+        fault(alloc, "audit --budget 1 R"),
+        Some(ErrorKind::UnknownArgument)
+    );
+}
+
+#[test]
+fn needs_a_subcommand(rt: HostRuntime) {
+    let alone = ["ocfl-scrub"];
+    let kind = words_fault(rt.alloc(), alone.as_slice());
+    assert_eq!(rt; kind, Some(ErrorKind::MissingSubcommand));
+}
+
+#[test]
+fn answers_with_help(rt: HostRuntime) -> Result<(), Fail> {
+    let alloc = rt.alloc();
+    assert_eq!(rt; fault(alloc, "--help"), Some(ErrorKind::DisplayHelp));
+    assert_eq!(rt; fault(alloc, "run --help"), Some(ErrorKind::DisplayHelp));
+    assert_eq!(rt; fault(alloc, "--version"), Some(ErrorKind::DisplayVersion));
+    assert_eq!(rt;
+        usage_text(alloc, "--version")?.as_str(),
+        "ocfl-scrub 0.1.0\n"
+    );
+    let help = usage_text(alloc, "--help")?;
+    for part in [
+        "\nUsage: ocfl-scrub <COMMAND>\n",
+        "\n  show   Writes what a cursor file says\n",
+        "\n  ocfl-scrub run --cursor root.cursor ",
+        "\n  3  stopped, worn or the cursor file failed\n  4  cursor refused\n",
+    ] {
+        assert!(rt; help.contains(part), "{part}");
+    }
+    let help = usage_text(alloc, "cycle --help")?;
+    for part in [
+        "\nUsage: ocfl-scrub cycle [OPTIONS] --budget <N> --runs <COUNT> <ROOT>\n",
+        "one suffix K, M, G or T (powers of 1024)\n",
+        "1 to 4611686018427387904 [default: 4611686018427387904]\n",
+        "The most runs: 1 to 100000\n",
+    ] {
+        assert!(rt; help.contains(part), "{part}");
+    }
+    Ok(())
+}

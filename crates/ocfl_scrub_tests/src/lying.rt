@@ -1,0 +1,189 @@
+//! Stores that lie: what they tell changes, or does not end.
+ghost use Rattle.std.specs.Prelude.{false};
+ghost use Rattle.ocfl_tree.specs.MemTree.{empty_store};
+
+use crate::roots::{DECLARATION, SHORT_SIDECAR, expect_audit, right_object};
+use crate::run_figures::{MOST, limits};
+use crate::stop::{ROOTS, root_by};
+use ocfl_cursor::Cursor;
+use ocfl_digest::Block;
+use ocfl_report::read_place;
+use ocfl_scrub::{RunEnd, RunStatus, run};
+use ocfl_tree::{Entry, MemTree, Place, Tree, Trouble};
+use std::process::Abort;
+use std::test::Fail;
+
+/// A store that tells of one root and of another by turns, with each call.
+#[derive(Drop)]
+struct Restless {
+    first: MemTree,
+    second: MemTree,
+    calls: u64,
+    is_second_open: bool,
+}
+
+impl Restless {
+    fn is_first_due(&mut self) -> bool {
+        self.calls = self.calls.wrapping_add(1);
+        self.calls % 3 != 0
+    }
+}
+
+impl Tree for Restless {
+    ghost told = { false };
+
+    ghost state = { λ _. empty_store };
+
+    fn list(&mut self, place: &Place) -> Result<Vec<Entry>, Trouble> {
+        if self.is_first_due() {
+            self.first.list(place)
+        } else {
+            self.second.list(place)
+        }
+    }
+
+    fn open(&mut self, place: &Place) -> Result<(), Trouble> {
+        self.is_second_open = !self.is_first_due();
+        if self.is_second_open {
+            self.second.open(place)
+        } else {
+            self.first.open(place)
+        }
+    }
+
+    fn read(&mut self, buffer: &mut [u8]) -> Result<usize, Trouble> {
+        if self.is_second_open {
+            self.second.read(buffer)
+        } else {
+            self.first.read(buffer)
+        }
+    }
+
+    fn close(&mut self) {
+        self.first.close();
+        self.second.close();
+    }
+}
+
+/// The places of a report's lines do not descend.
+fn expect_ascending(rt: &(impl Abort + AllocGlobal), report: &str, what: &str) -> Result<(), Fail> {
+    let alloc = rt.alloc();
+    let mut before = Place::root(alloc);
+    for line in report.lines() {
+        let text = line.split('\t').nth(1).ok_or("no place")?;
+        let place = read_place(alloc, text.as_bytes())?;
+        assert!(rt; before <= place, "{what}: {line}");
+        before = place;
+    }
+    Ok(())
+}
+
+/// Runs over a store that changes end, cost what their limits allow, and report in order.
+fn expect_order(
+    rt: &(impl Abort + AllocGlobal),
+    store: &mut Restless,
+    what: &str,
+) -> Result<(), Fail> {
+    let alloc = rt.alloc();
+    let mut block = Block::new(alloc)?;
+    let mut cursor = Cursor::new();
+    let mut report = Vec::new(alloc);
+    for _ in 0..10u64 {
+        let one = limits(5, MOST)?;
+        let made = run(alloc, store, cursor, one, &mut block, &mut report);
+        // No file has more than three bytes.
+        assert!(rt; made.spent < 5 + 4, "{what}");
+        let RunEnd {
+            cursor: reached,
+            end,
+            ..
+        } = made;
+        cursor = reached;
+        if !is_open(&end) {
+            break;
+        }
+    }
+    let report = String::from_utf8(report)?;
+    expect_ascending(rt, report.as_str(), what)
+}
+
+fn is_open(end: &RunStatus) -> bool {
+    matches!(end, RunStatus::Spent)
+}
+
+#[test]
+fn listings_and_files_that_change(rt: HostRuntime) -> Result<(), Fail> {
+    let alloc = rt.alloc();
+    for number in 0..ROOTS {
+        for calls in 0..12u64 {
+            let what = format!(in alloc; "root {number}, from call {calls}")?;
+            let mut store = Restless {
+                first: root_by(alloc, number)?,
+                second: root_by(alloc, (number + 1 + calls % 4) % ROOTS)?,
+                calls,
+                is_second_open: false,
+            };
+            expect_order(&rt, &mut store, what.as_str())?;
+        }
+    }
+    Ok(())
+}
+
+/// A store of which one file never ends.
+#[derive(Drop)]
+struct Unending {
+    inner: MemTree,
+    file: Place,
+    is_open: bool,
+}
+
+impl Tree for Unending {
+    ghost told = { false };
+
+    ghost state = { λ _. empty_store };
+
+    fn list(&mut self, place: &Place) -> Result<Vec<Entry>, Trouble> {
+        self.inner.list(place)
+    }
+
+    fn open(&mut self, place: &Place) -> Result<(), Trouble> {
+        self.is_open = *place == self.file;
+        self.inner.open(place)
+    }
+
+    fn read(&mut self, buffer: &mut [u8]) -> Result<usize, Trouble> {
+        let is_open = self.is_open;
+        match self.inner.read(buffer) {
+            Ok(0) if is_open => {
+                for byte in buffer.iter_mut() {
+                    *byte = b'x';
+                }
+                Ok(buffer.len())
+            }
+            answer => answer,
+        }
+    }
+
+    fn close(&mut self) {
+        self.is_open = false;
+        self.inner.close();
+    }
+}
+
+#[test]
+fn files_of_a_head_that_never_end(rt: HostRuntime) -> Result<(), Fail> {
+    let alloc = rt.alloc();
+    for (file, line) in [
+        (DECLARATION, "E007\to\t-\n"),
+        (SHORT_SIDECAR, "E061\to\tsha256\n"),
+    ] {
+        let mut store = Unending {
+            inner: right_object(alloc)?,
+            file: crate::roots::place_of(alloc, file)?,
+            is_open: false,
+        };
+        let text = format!(in alloc; "ok\t.\t-\n{line}ok\to/v1/content/f\t3\n")?;
+        expect_audit(&rt, &mut store, text.as_str(), 1, "")?;
+    }
+    Ok(())
+}

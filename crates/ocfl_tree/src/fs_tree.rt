@@ -1,19 +1,23 @@
-ghost use Rattle.std.specs.Prelude.{◌≡◌, ◌≢◌, ◌≤◌, ◌↔◌, IsTrue, true, false, IfOk, OnOk, OnErr, length, Err};
+ghost use Rattle.std.specs.Prelude.{◌≡◌, ◌≢◌, ◌≤◌, ◌↔◌, IsTrue, true, false, IfOk, OnOk, OnErr, MatchOption, length, string_bytes, Err};
 ghost use Rattle.std.specs.Fs.{IsDir, IsFile, file_type};
 ghost use Rattle.std.specs.IoError.{error_kind};
 ghost use Rattle.ocfl_tree.specs.declared.fs_tree.Fault.TheVariants.{Trouble as Lasting};
 ghost use Rattle.ocfl_tree.specs.declared.store.Trouble.TheVariants.{Absent, Memory};
 ghost use Rattle.ocfl_tree.specs.Listing.{AreApart, IsOrdinary};
 ghost use Rattle.ocfl_tree.specs.MemTree.{empty_store};
+ghost use Rattle.ocfl_tree.specs.Path.{names_of};
+ghost use Rattle.ocfl_tree.specs.Place.{begins};
 
 use crate::name::{Name, NameStop};
 use crate::place::Place;
 use crate::store::{Entry, Kind, Trouble};
 use crate::tree::Tree;
+use crate::{order, path};
 use std::alloc::AllocError;
-use std::fs::Metadata;
+use std::fs::{Metadata, OpenFile};
 use std::io::{ErrorKind, Read};
 use std::marker::Model;
+use std::os::unix::fs::MetadataExt;
 use std::rt::Files;
 use std::{fs, io};
 
@@ -22,11 +26,17 @@ use std::{fs, io};
 /// A link is listed as `Other` and never followed, but for the folder itself. What is not found is `Absent`; want of
 /// memory is `Memory`, but never in a read; every other fault is `Device`: a file where a directory is asked for or
 /// the other way round, a name that is not UTF-8 or is listed twice, more than 1,000,000 entries, an entry that goes
-/// away while it is listed, a path that is longer than the system takes.
+/// away while it is listed, a file that is another when it is open, a path that is longer than the system takes.
+///
+/// The directory that was found last is known until a listing or an opening fails. The names on the
+/// way to a place in it, or in one on the way there, are not looked at again; at any other place they
+/// are all looked at.
 #[derive(Drop)]
 pub struct FsTree<R: Files + AllocGlobal + Clone + Drop> {
     rt: R,
     root: String,
+    /// The path of the directory that was found last, from the folder on.
+    known: Option<String>,
     open: Option<R::File>,
 }
 
@@ -70,7 +80,8 @@ fn fault_of(error: &io::Error) -> Fault
     }
 }
 
-/// The fault of an entry that was listed: that it is not there any more is the device's.
+/// The fault of an entry that was listed, or of a file that is open: that it is not there is the
+/// device's.
 fn entry_fault_of(error: &io::Error) -> Fault
     ensures { result ≢ Fault.Trouble Absent }
 {
@@ -91,6 +102,24 @@ fn kind_of(metadata: &Metadata) -> Kind
         Kind::File
     } else {
         Kind::Other
+    }
+}
+
+/// Whether what was opened is the file that was looked at before.
+fn is_same_file(before: &Metadata, opened: &Metadata) -> bool
+    ensures { IsTrue result → IsFile (file_type opened.now) }
+{
+    opened.is_file() && opened.dev() == before.dev() && opened.ino() == before.ino()
+}
+
+/// Whether a directory is the known one or on the way there.
+fn is_known(known: &Option<String>, dir: &str) -> bool
+    ensures { MatchOption known.now (result ≡ false)
+        (λ last. result ≡ begins (names_of dir.now) (names_of (string_bytes last))) }
+{
+    match known {
+        Some(last) => order::begins(dir, last.as_str()),
+        None => false,
     }
 }
 
@@ -128,37 +157,83 @@ impl<R: Files + AllocGlobal + Clone + Drop> FsTree<R> {
         Ok(FsTree {
             rt,
             root,
+            known: None,
             open: None,
         })
     }
 
-    fn kind_at(&self, path: &str) -> Result<Kind, Fault> {
+    /// What lies at a path, which may be a link.
+    fn look(&self, path: &str) -> Result<Metadata, Fault> {
         match fs::symlink_metadata(&self.rt, path) {
-            Ok(metadata) => Ok(kind_of(&metadata)),
+            Ok(metadata) => Ok(metadata),
             Err(error) => Err(fault_of(&error)),
         }
     }
 
-    /// The path of a place, where its names lead through directories to what is of this kind.
-    fn path(&self, place: &Place, kind: Kind) -> Result<String, Fault> {
+    /// What the folder is, where a link leads to it too.
+    fn look_at_root(&self) -> Result<Metadata, Fault> {
+        match fs::metadata(&self.rt, self.root.as_str()) {
+            Ok(metadata) => Ok(metadata),
+            Err(error) => Err(fault_of(&error)),
+        }
+    }
+
+    /// Looks at each name on the way to a directory that is not known, and at that.
+    fn pass(&self, dir: &str) -> Result<(), Fault> {
+        if is_known(&self.known, dir) {
+            return Ok(());
+        }
         let mut path = self.root.clone()?;
-        let mut found = match fs::metadata(&self.rt, path.as_str()) {
-            Ok(metadata) => kind_of(&metadata),
-            Err(error) => return Err(fault_of(&error)),
-        };
+        let mut found = kind_of(&self.look_at_root()?);
         // Unlike `split`, it gives no name for the empty path of the root.
-        for name in place.path().split_terminator('/') {
+        for name in dir.split_terminator('/') {
             if found != Kind::Dir {
                 return Err(Fault::Trouble(Trouble::Device));
             }
             path.push('/')?;
             path.push_str(name)?;
-            found = self.kind_at(path.as_str())?;
+            found = kind_of(&self.look(path.as_str())?);
         }
-        if found == kind {
-            Ok(path)
+        if found == Kind::Dir {
+            Ok(())
         } else {
             Err(Fault::Trouble(Trouble::Device))
+        }
+    }
+
+    /// The path of a place and what lies there, where its names lead through directories to what is of
+    /// this kind.
+    fn path(&self, place: &Place, kind: Kind) -> Result<(String, Metadata), Fault> {
+        let path = path::join(self.rt.alloc(), self.root.as_str(), place.path())?;
+        let metadata = match place.split_last() {
+            Some((dir, _)) => {
+                self.pass(dir)?;
+                self.look(path.as_str())?
+            }
+            None => self.look_at_root()?,
+        };
+        if kind_of(&metadata) == kind {
+            Ok((path, metadata))
+        } else {
+            Err(Fault::Trouble(Trouble::Device))
+        }
+    }
+
+    /// Knows a directory from now on, or none where memory for it is refused.
+    fn know(&mut self, dir: &str)
+        ensures { self.new ≡ self.old }
+    {
+        self.known = String::from_str(self.rt.alloc(), dir).ok();
+    }
+
+    /// Knows the directory of a file whose names led there, where that is not known yet.
+    fn know_way(&mut self, place: &Place)
+        ensures { self.new ≡ self.old }
+    {
+        if let Some((dir, _)) = place.split_last() {
+            if !is_known(&self.known, dir) {
+                self.know(dir);
+            }
         }
     }
 
@@ -178,7 +253,7 @@ impl<R: Files + AllocGlobal + Clone + Drop> FsTree<R> {
     fn entries(&self, place: &Place) -> Result<Vec<Entry>, Fault>
         ensures { IfOk result (λ entries. length entries.items ≤ 1000000) }
     {
-        let path = self.path(place, Kind::Dir)?;
+        let (path, _) = self.path(place, Kind::Dir)?;
         let listing = match fs::read_dir(&self.rt, path.as_str()) {
             Ok(listing) => listing,
             Err(error) => return Err(fault_of(&error)),
@@ -210,11 +285,17 @@ impl<R: Files + AllocGlobal + Clone + Drop> FsTree<R> {
         Err(Trouble::Device)
     }
 
+    /// The file at a place, where it is the one that was looked at right before.
     fn file(&self, place: &Place) -> Result<R::File, Fault> {
-        let path = self.path(place, Kind::File)?;
-        match fs::open(&self.rt, path.as_str()) {
-            Ok(file) => Ok(file),
-            Err(error) => Err(fault_of(&error)),
+        let (path, before) = self.path(place, Kind::File)?;
+        let file = match fs::open(&self.rt, path.as_str()) {
+            Ok(file) => file,
+            Err(error) => return Err(fault_of(&error)),
+        };
+        match file.metadata() {
+            Ok(opened) if is_same_file(&before, &opened) => Ok(file),
+            Ok(_) => Err(Fault::Trouble(Trouble::Device)),
+            Err(error) => Err(entry_fault_of(&error)),
         }
     }
 
@@ -242,8 +323,12 @@ impl<R: Files + AllocGlobal + Clone + Drop> Tree for FsTree<R> {
         ensures err { OnErr result (self.new ≡ false) }
     {
         match self.listed(place) {
-            Ok(entries) => Ok(entries),
+            Ok(entries) => {
+                self.know(place.path());
+                Ok(entries)
+            }
             Err(trouble) => {
+                self.known = None;
                 self.open = None;
                 Err(trouble)
             }
@@ -255,9 +340,17 @@ impl<R: Files + AllocGlobal + Clone + Drop> Tree for FsTree<R> {
         ensures err { OnErr result (self.new ≡ false) }
     {
         self.open = None;
-        let file = self.opened(place)?;
-        self.open = Some(file);
-        Ok(())
+        match self.opened(place) {
+            Ok(file) => {
+                self.know_way(place);
+                self.open = Some(file);
+                Ok(())
+            }
+            Err(trouble) => {
+                self.known = None;
+                Err(trouble)
+            }
+        }
     }
 
     fn read(&mut self, buffer: &mut [u8]) -> Result<usize, Trouble>

@@ -1,5 +1,5 @@
 -- What an inventory lists, put in order.
-use Rattle.std.proofs.Common.{◌≡◌, ◌+◌, List, [], ◌∷◌, ◌++◌, Bool, false, refl, sym, ◌∙◌, ap, subst, cond, map, filter, get_or, arith}
+use Rattle.std.proofs.Common.{◌≡◌, ◌+◌, List, [], ◌∷◌, ◌++◌, Bool, false, refl, sym, ◌∙◌, ap, subst, cond, map, filter, get_or, arith, append_assoc}
 use Rattle.std.specs.Prelude.{flat_map, Option, Some, None, option_map, filter_map, is_some}
 use Rattle.std.specs.List.{cons_option}
 use Rattle.std.specs.Cmp.{IsTotalOrder}
@@ -18,18 +18,22 @@ use Rattle.std.proofs.lemmas.List.Sorted.{IsPermutation-map, IsPermutation-refl,
 use Rattle.std.proofs.lemmas.List.{map-append}
 use Rattle.std.proofs.lemmas.List.Elements.{filter-append}
 use Rattle.std.specs.Cmp.Lexicographic.{nat_list_cmp_total}
-use Rattle.ocfl_tree.specs.Place.{Text, Place, text_cmp, place_cmp, place_eq, begins}
+use Rattle.ocfl_tree.specs.Place.{Text, Place, text_cmp, text_eq, place_cmp, place_eq, begins}
 use Rattle.ocfl_tree.specs.Ascending.{ascending}
 use Rattle.ocfl_tree.proofs.Orders.{place_cmp_total, place_cmp_exact, ascending_unique, ascends_ascending, ascends_filter, among_ascending, among_filter, among_from_filter}
 use Rattle.ocfl_digest.specs.declared.algorithm.Algorithm.{Algorithm}
 use Rattle.ocfl_report.specs.Line.{Note, note}
 use Rattle.ocfl_report.specs.declared.code.Code.{Code}
-use Rattle.ocfl_tree.specs.Path.{elements}
+use Rattle.ocfl_report.specs.declared.code.Code.TheVariants.{E096, E101, S07}
+use Rattle.ocfl_tree.specs.Path.{elements, slashed}
 use Rattle.ocfl_inventory.specs.ListedPath.{is_kept, path_fault}
 use Rattle.ocfl_inventory.specs.DigestText.{folded}
-use Rattle.ocfl_inventory.specs.Reading.{Block}
+use Rattle.ocfl_inventory.specs.Reading.{Block, Inventory}
+use Rattle.ocfl_inventory.specs.Parts.{repeated_notes}
+use Rattle.ocfl_inventory.specs.ListsOf.{AreListed, all_repeated, other_notes}
+use Rattle.ocfl_inventory.specs.declared.gather.Listed.{Listed}
 use Rattle.ocfl_inventory.specs.Gathered.{triple_of, is_bad, bad_texts}
-use Rattle.ocfl_inventory.specs.Notes.{conflicts, kept_paths, listed, fault_notes}
+use Rattle.ocfl_inventory.specs.Notes.{conflicts, kept_paths, listed, fault_notes, folded_keys, inventory_notes, repeated}
 use Rattle.ocfl_inventory.specs.Table.{Triple, triple_cmp, named_cmp, triples_of}
 use Rattle.ocfl_inventory.specs.TripleOrder.{triple_total}
 use Rattle.ocfl_inventory.specs.Beside.{hits}
@@ -120,14 +124,24 @@ module _ (content : Text) where
   bad_fixity [] = refl
   bad_fixity (e ∷ fs) = (λ i. bad_listed e.1 i ++ bad_fixity fs i) ∙ sym (filter-append (is_bad content) (listed e.1) (flat_map (λ x. listed x.1) fs))
 
-pub joined_notes : (l0 l1 l2 l3 l4 l5 l6 a b c d e f : List Note) → l0 ≡ [] → l1 ≡ l0 ++ a → l2 ≡ l1 ++ b → l3 ≡ l2 ++ c → l4 ≡ l3 ++ d → l5 ≡ l4 ++ e → l6 ≡ l5 ++ f → l6 ≡ a ++ b ++ c ++ d ++ e ++ f
-joined_notes l0 l1 l2 l3 l4 l5 l6 a b c d e f h0 h1 h2 h3 h4 h5 h6 =
-    let k1 : l1 ≡ a = h1 ∙ ap (λ x. x ++ a) h0 in
-    let k2 : l2 ≡ a ++ b = h2 ∙ ap (λ x. x ++ b) k1 in
-    let k3 : l3 ≡ a ++ b ++ c = h3 ∙ ap (λ x. x ++ c) k2 in
-    let k4 : l4 ≡ a ++ b ++ c ++ d = h4 ∙ ap (λ x. x ++ d) k3 in
-    let k5 : l5 ≡ a ++ b ++ c ++ d ++ e = h5 ∙ ap (λ x. x ++ e) k4 in
-    h6 ∙ ap (λ x. x ++ f) k5
+four_joined : (front a b c d : List Note) → front ++ (a ++ b ++ c ++ d) ≡ front ++ a ++ b ++ c ++ d
+four_joined front a b c d = sym (append_assoc front (a ++ b ++ c) d) ∙ ap (λ x. x ++ d) (sym (append_assoc front (a ++ b) c) ∙ ap (λ x. x ++ c) (sym (append_assoc front a b)))
+
+pub others_joined : (l0 l1 l2 l3 a b c d : List Note) → l1 ≡ l0 ++ a → l2 ≡ l1 ++ b → l3 ≡ l2 ++ c → l3 ++ d ≡ l0 ++ (a ++ b ++ c ++ d)
+others_joined l0 l1 l2 l3 a b c d h1 h2 h3 =
+    let k2 : l2 ≡ l0 ++ a ++ b = h2 ∙ ap (λ x. x ++ b) h1 in
+    let k3 : l3 ≡ l0 ++ a ++ b ++ c = h3 ∙ ap (λ x. x ++ c) k2 in
+    ap (λ x. x ++ d) k3 ∙ sym (four_joined l0 a b c d)
+
+-- the lines of what is listed, where what is listed is known
+pub lines_of_listed : (i : Inventory) (l : Listed) → AreListed i.content i.manifest i.fixity l → all_repeated i.manifest i.fixity ++ other_notes i.content l i.unsupported ≡ inventory_notes i
+lines_of_listed i l h =
+    let repeats = map (note E096) (repeated text_cmp text_eq (folded_keys i.manifest)) in
+    let in_fixity = flat_map repeated_notes i.fixity in
+    let manifest = ap (fault_notes i.content) (h.manifest_bad ∙ bad_listed i.content i.manifest) ∙ faults_of_bad i.content (listed i.manifest) in
+    let fixity = ap (fault_notes i.content) (h.fixity_bad ∙ bad_fixity i.content i.fixity) ∙ faults_of_bad i.content (flat_map (λ e. listed e.1) i.fixity) in
+    four_joined (repeats ++ in_fixity) _ _ _ _
+    ∙ (λ k. repeats ++ in_fixity ++ manifest k ++ fixity k ++ map (λ p. note E101 (slashed p)) (h.conflicting k) ++ map (note S07) i.unsupported)
 
 -- ---- the table's triples
 

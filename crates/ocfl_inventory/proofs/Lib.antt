@@ -14,6 +14,7 @@ pub mod FoldedTexts
 pub mod Kept
 pub mod TableSearch
 pub mod Gatherings
+pub mod Members
 pub mod TripleOrders
 pub mod Inventories
 pub mod SharedFronts

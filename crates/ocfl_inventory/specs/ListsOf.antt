@@ -1,17 +1,35 @@
 -- What an inventory lists.
-use Rattle.std.specs.Prelude.{◌≡◌, List, ◌++◌, false, true, map, flat_map}
-use Rattle.ocfl_inventory.specs.Reading.{Inventory}
-use Rattle.ocfl_inventory.specs.Notes.{kept_paths, conflicts}
+use Rattle.std.specs.Prelude.{◌≡◌, List, ◌++◌, false, true, map, flat_map, string_bytes}
+use Rattle.ocfl_tree.specs.Place.{Text, text_cmp, text_eq}
+use Rattle.ocfl_tree.specs.Path.{slashed}
+use Rattle.ocfl_report.specs.Line.{Note, note}
+use Rattle.ocfl_report.specs.declared.code.Code.TheVariants.{E096, E101, S07}
+use Rattle.ocfl_digest.specs.declared.algorithm.Algorithm.{Algorithm}
+use Rattle.ocfl_inventory.specs.Reading.{Block}
+use Rattle.ocfl_inventory.specs.Notes.{kept_paths, conflicts, fault_notes, folded_keys, repeated}
+use Rattle.ocfl_inventory.specs.Parts.{repeated_notes}
 use Rattle.ocfl_inventory.specs.Table.{Triple, triples_of}
 use Rattle.ocfl_inventory.specs.Gathered.{bad_texts}
 use Rattle.ocfl_inventory.specs.declared.gather.Listed.{Listed}
 
--- all triples of an inventory, as often as they are listed
-abbrev pub all_triples : Inventory → List Triple
-all_triples i = triples_of false i.content i.algorithm i.manifest ++ flat_map (λ e. triples_of true i.content e.0 e.1) i.fixity
+-- all triples of a manifest and of a fixity block, as often as they are listed
+abbrev pub all_triples : Text → Algorithm → Block → List (Algorithm × Block) → List Triple
+all_triples content a m fs = triples_of false content a m ++ flat_map (λ e. triples_of true content e.0 e.1) fs
 
--- the texts of an inventory's listed paths that have lines
-pub record AreListed (i : Inventory) (l : Listed) : Type 0 where
-  pub manifest_bad : map (λ t. t.now) l.manifest_bad.items ≡ bad_texts i.content i.manifest
-  pub fixity_bad : map (λ t. t.now) l.fixity_bad.items ≡ flat_map (λ e. bad_texts i.content e.1) i.fixity
-  pub conflicting : l.conflicting.items ≡ conflicts (kept_paths i.content i.manifest)
+-- the texts of listed paths that have lines
+pub record AreListed (content : Text) (m : Block) (fs : List (Algorithm × Block)) (l : Listed) : Type 0 where
+  pub manifest_bad : map string_bytes l.manifest_bad.items ≡ bad_texts content m
+  pub fixity_bad : map string_bytes l.fixity_bad.items ≡ flat_map (λ e. bad_texts content e.1) fs
+  pub conflicting : l.conflicting.items ≡ conflicts (kept_paths content m)
+
+-- the lines of the digests that several keys have
+abbrev pub all_repeated : Block → List (Algorithm × Block) → List Note
+all_repeated m fs = map (note E096) (repeated text_cmp text_eq (folded_keys m)) ++ flat_map repeated_notes fs
+
+-- the other lines, of what was listed
+abbrev pub other_notes : Text → Listed → List Text → List Note
+other_notes content l unsupported =
+    fault_notes content (map string_bytes l.manifest_bad.items)
+    ++ fault_notes content (map string_bytes l.fixity_bad.items)
+    ++ map (λ p. note E101 (slashed p)) l.conflicting.items
+    ++ map (note S07) unsupported

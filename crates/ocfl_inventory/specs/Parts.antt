@@ -1,7 +1,6 @@
 -- What the functions of the reading give, beside the definitions.
 use Rattle.std.specs.Prelude.{◌≡◌, List, [], ◌∷◌, ◌++◌, option_map, Option, Some, None, Result, Ok, Err, map, flat_map, codes, string_bytes}
 use Rattle.std.specs.Prelude.{String}
-use Rattle.std.specs.Borrow.{Bor}
 use Rattle.std.specs.declared.alloc.Global.{Global}
 use Rattle.std.specs.BTreeMap.{BTreeMap}
 use Rattle.std.specs.List.{cons_option}
@@ -13,14 +12,16 @@ use Rattle.ocfl_tree.specs.Place.{Text, text_cmp, text_eq}
 use Rattle.ocfl_report.specs.Line.{Note, note}
 use Rattle.ocfl_digest.specs.Algorithm.{supported, algorithm_name}
 use Rattle.ocfl_inventory.specs.Reading.{Reading, ◌>>=◌, or_stop, Block, Inventory, algorithm_in, content_from, manifest_in, fixity_from, blocks_for, unsupported_in, block_of}
-use Rattle.ocfl_report.specs.declared.code.Code.TheVariants.{S03, E097}
+use Rattle.ocfl_report.specs.declared.code.Code.TheVariants.{E041, E097, S03}
 use Rattle.ocfl_digest.specs.declared.algorithm.Algorithm.{Algorithm}
+use Rattle.ocfl_digest.specs.declared.algorithm.Algorithm.TheVariants.{Md5, Sha1, Sha256, Sha512, Sha512_256}
 use Rattle.ocfl_inventory.specs.Notes.{folded_keys, repeated}
 use Rattle.ocfl_inventory.specs.declared.note.Remark.{Remark}
 use Rattle.ocfl_inventory.specs.declared.note.Stop.{Stop}
 use Rattle.ocfl_inventory.specs.declared.note.Stop.TheVariants as stops
 use Rattle.ocfl_inventory.specs.declared.listing.Listing.{Listing}
 use Rattle.ocfl_inventory.specs.declared.reading.Supported.{Supported}
+use Rattle.ocfl_inventory.specs.declared.reading.Values.{Values}
 use Rattle.ocfl_inventory.specs.declared.reading.Inventory.{Inventory as MadeInventory}
 
 abbrev pub remark_view : Remark → Note
@@ -49,7 +50,7 @@ abbrev pub texts_among : List Value → List Text
 texts_among vs = flat_map text_in vs
 
 abbrev pub listing_view : Listing → Text × List Text
-listing_view e = (e.key.now, texts_among e.values.now)
+listing_view e = (string_bytes e.key, texts_among e.values.items)
 
 abbrev pub block_view : List Listing → Block
 block_view = map listing_view
@@ -70,28 +71,43 @@ inventory_in ms = do
     unsupported = unsupported_in fs;
   })
 
-abbrev pub fixity_view : Option (Bor (BTreeMap (String Global) Value)) → Members
+-- the manifest, of what stands at its key
+abbrev pub manifest_from : Option Data → Reading Block
+manifest_from o = do
+  d ← or_stop (note E041 (codes "manifest")) o
+  or_stop (note S03 (codes "manifest")) (block_of d)
+
+abbrev pub fixity_view : Option (BTreeMap (String Global) Value) → Members
 fixity_view None = no_members
-fixity_view (Some m) = members_view m.now.entries
+fixity_view (Some m) = members_view m.entries
+
+-- what stands at the key of an algorithm
+abbrev pub value_for : Algorithm → Members → Option Data
+value_for a ms = get_member (algorithm_name a) ms
+
+-- what stands at the keys of the supported algorithms
+pub record AreValues (v : Values) (ms : Members) : Type 0 where
+  pub md5 : option_map view v.md5 ≡ value_for Md5 ms
+  pub sha1 : option_map view v.sha1 ≡ value_for Sha1 ms
+  pub sha256 : option_map view v.sha256 ≡ value_for Sha256 ms
+  pub sha512 : option_map view v.sha512 ≡ value_for Sha512 ms
+  pub sha512_256 : option_map view v.sha512_256 ≡ value_for Sha512_256 ms
 
 abbrev pub supported_view : List Supported → List (Algorithm × Block)
 supported_view = map (λ s. (s.algorithm, block_view s.block.items))
 
 -- the block of one algorithm behind those before it, and none where it is not of the form
-abbrev pub with_block : List (Algorithm × Block) → Members → Algorithm → Option (List (Algorithm × Block))
-with_block front ms a = by (get_member (algorithm_name a) ms)
-  where
-    by : Option Data → Option (List (Algorithm × Block))
-    by None = Some front
-    by (Some d) = option_map (λ b. front ++ (a, b) ∷ []) (block_of d)
+abbrev pub with_block : List (Algorithm × Block) → Option Data → Algorithm → Option (List (Algorithm × Block))
+with_block front None a = Some front
+with_block front (Some d) a = option_map (λ b. front ++ (a, b) ∷ []) (block_of d)
 
 abbrev pub inventory_view : MadeInventory → Inventory
 inventory_view i = record {
   algorithm = i.algorithm;
-  content = i.content.now;
+  content = string_bytes i.content;
   manifest = block_view i.manifest.items;
   fixity = supported_view i.fixity.items;
-  unsupported = map (λ t. t.now) i.unsupported.items;
+  unsupported = map string_bytes i.unsupported.items;
 }
 
 abbrev pub IsLineOf : Stop → List Note → Type 0

@@ -1,5 +1,5 @@
 //! The listed paths of an inventory, kept ones apart from bad ones.
-ghost use Rattle.std.specs.Prelude.{◌≡◌, ◌++◌, ◌∷◌, [], OnOk, map, filter, flat_map, true, false, IfOk, IsPermutation};
+ghost use Rattle.std.specs.Prelude.{◌≡◌, ◌++◌, ◌∷◌, [], OnOk, map, filter, flat_map, true, false, string_bytes, IfOk, IsPermutation};
 ghost use Rattle.std.specs.List.Sorted.{IsSorted};
 ghost use Rattle.ocfl_inventory.specs.Table.{triples_of, triple_cmp};
 ghost use Rattle.ocfl_inventory.specs.Parts.{block_view, inventory_view, listing_view, supported_view, text_in, texts_among};
@@ -28,101 +28,112 @@ pub(crate) struct Source<'t> {
 }
 
 impl Source<'_> {
-    /// The digest of a key.
-    fn name(&self, alloc: Global, key: &str) -> Result<Named, AllocError>
-        ensures { IfOk result (λ n. named_view n ≡ record { fixity = self.now.fixity; algorithm = self.now.algorithm; digest = folded key.now }) }
+    /// The digest with this text.
+    fn name(&self, digest: String) -> Named
+        ensures { named_view result ≡ record { fixity = self.now.fixity; algorithm = self.now.algorithm; digest = string_bytes digest } }
     {
-        Ok(Named {
+        Named {
             fixity: self.fixity,
             algorithm: self.algorithm,
-            digest: key.to_ascii_lowercase(alloc)?,
-        })
+            digest,
+        }
     }
+}
+
+/// The text with small letters.
+fn small(mut text: String) -> String
+    ensures { string_bytes result ≡ folded (string_bytes text) }
+{
+    text.make_ascii_lowercase();
+    text
 }
 
 /// The paths that are kept, with their digests, and the texts of the others.
 #[derive(Drop)]
-pub(crate) struct Gathered<'t> {
+pub(crate) struct Gathered {
     pub(crate) triples: Vec<Triple>,
-    pub(crate) bad: Vec<&'t str>,
+    pub(crate) bad: Vec<String>,
 }
 
 /// Puts a listed path with its digest, or its text where it is bad, at the end.
-fn gather_text<'t>(
+fn gather_text(
     alloc: Global,
     source: &Source,
-    key: &'t str,
-    text: &'t str,
-    found: &mut Gathered<'t>,
+    digest: String,
+    text: String,
+    found: &mut Gathered,
 ) -> Result<(), AllocError>
-    ensures triples { OnOk result (found.new.triples.items ≡ found.old.triples.items ++ triples_in source.now.fixity source.now.content.now source.now.algorithm (folded key.now) (text.now ∷ [])) }
-    ensures bad { OnOk result (map (λ t. t.now) found.new.bad.items ≡ map (λ t. t.now) found.old.bad.items ++ filter (is_bad source.now.content.now) (text.now ∷ [])) }
+    ensures triples { OnOk result (found.new.triples.items ≡ found.old.triples.items ++ triples_in source.now.fixity source.now.content.now source.now.algorithm (string_bytes digest) (string_bytes text ∷ [])) }
+    ensures bad { OnOk result (map string_bytes found.new.bad.items ≡ map string_bytes found.old.bad.items ++ filter (is_bad source.now.content.now) (string_bytes text ∷ [])) }
 {
-    match kept_place(alloc, source.content, text)? {
-        Some(path) => {
-            let named = source.name(alloc, key)?;
-            found.triples.push(Triple::new(path, named))?;
-        }
+    match kept_place(alloc, source.content, text.as_str())? {
+        Some(path) => found.triples.push(Triple::new(path, source.name(digest)))?,
         None => found.bad.push(text)?,
     }
     Ok(())
 }
 
 /// Gathers the text of a value, if it is one.
-fn gather_value<'t>(
+fn gather_value(
     alloc: Global,
     source: &Source,
-    key: &'t str,
-    value: &'t Value,
-    found: &mut Gathered<'t>,
+    digest: String,
+    value: Value,
+    found: &mut Gathered,
 ) -> Result<(), AllocError>
-    ensures triples { OnOk result (found.new.triples.items ≡ found.old.triples.items ++ triples_in source.now.fixity source.now.content.now source.now.algorithm (folded key.now) (text_in value.now)) }
-    ensures bad { OnOk result (map (λ t. t.now) found.new.bad.items ≡ map (λ t. t.now) found.old.bad.items ++ filter (is_bad source.now.content.now) (text_in value.now)) }
+    ensures triples { OnOk result (found.new.triples.items ≡ found.old.triples.items ++ triples_in source.now.fixity source.now.content.now source.now.algorithm (string_bytes digest) (text_in value)) }
+    ensures bad { OnOk result (map string_bytes found.new.bad.items ≡ map string_bytes found.old.bad.items ++ filter (is_bad source.now.content.now) (text_in value)) }
 {
-    match value.as_str() {
-        Some(text) => gather_text(alloc, source, key, text, found),
-        None => Ok(()),
+    match value {
+        Value::String(text) => gather_text(alloc, source, digest, text, found),
+        _ => Ok(()),
     }
 }
 
-fn gather_values<'t>(
+fn gather_values(
     alloc: Global,
     source: &Source,
-    key: &'t str,
-    values: &'t [Value],
-    found: &mut Gathered<'t>,
+    digest: &String,
+    values: Vec<Value>,
+    found: &mut Gathered,
 ) -> Result<(), AllocError>
-    ensures triples { OnOk result (found.new.triples.items ≡ found.old.triples.items ++ triples_in source.now.fixity source.now.content.now source.now.algorithm (folded key.now) (texts_among values.now)) }
-    ensures bad { OnOk result (map (λ t. t.now) found.new.bad.items ≡ map (λ t. t.now) found.old.bad.items ++ filter (is_bad source.now.content.now) (texts_among values.now)) }
+    ensures triples { OnOk result (found.new.triples.items ≡ found.old.triples.items ++ triples_in source.now.fixity source.now.content.now source.now.algorithm (string_bytes digest.now) (texts_among values.items)) }
+    ensures bad { OnOk result (map string_bytes found.new.bad.items ≡ map string_bytes found.old.bad.items ++ filter (is_bad source.now.content.now) (texts_among values.items)) }
 {
     for value in values {
-        gather_value(alloc, source, key, value, found)?;
+        gather_value(alloc, source, digest.clone()?, value, found)?;
     }
     Ok(())
 }
 
-/// Gathers what one key lists.
-fn gather_listing<'t>(
+/// Gathers what one key lists. The last value takes the key's text, and those before it copies.
+fn gather_listing(
     alloc: Global,
     source: &Source,
-    listing: &Listing<'t>,
-    found: &mut Gathered<'t>,
+    listing: Listing,
+    found: &mut Gathered,
 ) -> Result<(), AllocError>
-    ensures triples { OnOk result (found.new.triples.items ≡ found.old.triples.items ++ key_triples source.now.fixity source.now.content.now source.now.algorithm (listing_view listing.now)) }
-    ensures bad { OnOk result (map (λ t. t.now) found.new.bad.items ≡ map (λ t. t.now) found.old.bad.items ++ filter (is_bad source.now.content.now) (listing_view listing.now).1) }
+    ensures triples { OnOk result (found.new.triples.items ≡ found.old.triples.items ++ key_triples source.now.fixity source.now.content.now source.now.algorithm (listing_view listing)) }
+    ensures bad { OnOk result (map string_bytes found.new.bad.items ≡ map string_bytes found.old.bad.items ++ filter (is_bad source.now.content.now) (listing_view listing).1) }
 {
-    gather_values(alloc, source, listing.key, listing.values, found)
+    let Listing { key, mut values } = listing;
+    let digest = small(key);
+    let Some(last) = values.pop() else {
+        return Ok(());
+    };
+    gather_values(alloc, source, &digest, values, found)?;
+    gather_value(alloc, source, digest, last, found)
 }
 
 /// Gathers what a block lists.
-pub(crate) fn gather_block<'t>(
+fn gather_block(
     alloc: Global,
     source: &Source,
-    block: &[Listing<'t>],
-    found: &mut Gathered<'t>,
+    block: Vec<Listing>,
+    found: &mut Gathered,
 ) -> Result<(), AllocError>
-    ensures triples { OnOk result (found.new.triples.items ≡ found.old.triples.items ++ triples_of source.now.fixity source.now.content.now source.now.algorithm (block_view block.now)) }
-    ensures bad { OnOk result (map (λ t. t.now) found.new.bad.items ≡ map (λ t. t.now) found.old.bad.items ++ bad_texts source.now.content.now (block_view block.now)) }
+    ensures triples { OnOk result (found.new.triples.items ≡ found.old.triples.items ++ triples_of source.now.fixity source.now.content.now source.now.algorithm (block_view block.items)) }
+    ensures bad { OnOk result (map string_bytes found.new.bad.items ≡ map string_bytes found.old.bad.items ++ bad_texts source.now.content.now (block_view block.items)) }
 {
     for listing in block {
         gather_listing(alloc, source, listing, found)?;
@@ -131,14 +142,14 @@ pub(crate) fn gather_block<'t>(
 }
 
 /// Gathers what the supported algorithms of a fixity block list.
-pub(crate) fn gather_fixity<'t>(
+fn gather_fixity(
     alloc: Global,
-    content: &'t str,
-    fixity: &[Supported<'t>],
-    found: &mut Gathered<'t>,
+    content: &str,
+    fixity: Vec<Supported>,
+    found: &mut Gathered,
 ) -> Result<(), AllocError>
-    ensures triples { OnOk result (found.new.triples.items ≡ found.old.triples.items ++ flat_map (λ e. triples_of true content.now e.0 e.1) (supported_view fixity.now)) }
-    ensures bad { OnOk result (map (λ t. t.now) found.new.bad.items ≡ map (λ t. t.now) found.old.bad.items ++ flat_map (λ e. bad_texts content.now e.1) (supported_view fixity.now)) }
+    ensures triples { OnOk result (found.new.triples.items ≡ found.old.triples.items ++ flat_map (λ e. triples_of true content.now e.0 e.1) (supported_view fixity.items)) }
+    ensures bad { OnOk result (map string_bytes found.new.bad.items ≡ map string_bytes found.old.bad.items ++ flat_map (λ e. bad_texts content.now e.1) (supported_view fixity.items)) }
 {
     for supported in fixity {
         let source = Source {
@@ -146,53 +157,58 @@ pub(crate) fn gather_fixity<'t>(
             fixity: true,
             algorithm: supported.algorithm,
         };
-        gather_block(alloc, &source, &supported.block, found)?;
+        gather_block(alloc, &source, supported.block, found)?;
     }
     Ok(())
 }
 
 /// The texts of an inventory's listed paths that have lines.
 #[derive(Drop)]
-pub(crate) struct Listed<'t> {
+pub(crate) struct Listed {
     /// The bad path texts of the manifest.
-    pub(crate) manifest_bad: Vec<&'t str>,
+    pub(crate) manifest_bad: Vec<String>,
     /// The bad path texts of the fixity block.
-    pub(crate) fixity_bad: Vec<&'t str>,
+    pub(crate) fixity_bad: Vec<String>,
     /// The conflicting paths of the manifest, in order, each once.
     pub(crate) conflicting: Vec<Place>,
 }
 
 /// Gathers what the manifest lists, and sorts what is kept.
-fn gather_manifest<'t>(alloc: Global, inventory: &Inventory<'t>) -> Result<Gathered<'t>, AllocError>
-    ensures triples { IfOk result (λ g. IsPermutation (triples_of false inventory.now.content.now inventory.now.algorithm (block_view inventory.now.manifest.items)) g.triples.items) }
+fn gather_manifest(
+    alloc: Global,
+    content: &str,
+    algorithm: Algorithm,
+    manifest: Vec<Listing>,
+) -> Result<Gathered, AllocError>
+    ensures triples { IfOk result (λ g. IsPermutation (triples_of false content.now algorithm (block_view manifest.items)) g.triples.items) }
     ensures sorted { IfOk result (λ g. IsSorted triple_cmp g.triples.items) }
-    ensures bad { IfOk result (λ g. map (λ t. t.now) g.bad.items ≡ bad_texts inventory.now.content.now (block_view inventory.now.manifest.items)) }
+    ensures bad { IfOk result (λ g. map string_bytes g.bad.items ≡ bad_texts content.now (block_view manifest.items)) }
 {
     let source = Source {
-        content: inventory.content,
+        content,
         fixity: false,
-        algorithm: inventory.algorithm,
+        algorithm,
     };
     let mut found = Gathered {
-        triples: Vec::with_capacity(alloc, inventory.manifest.len())?,
+        triples: Vec::with_capacity(alloc, manifest.len())?,
         bad: Vec::new(alloc),
     };
-    gather_block(alloc, &source, &inventory.manifest, &mut found)?;
-    sort(&mut found.triples);
+    gather_block(alloc, &source, manifest, &mut found)?;
+    sort(&mut found.triples)?;
     Ok(found)
 }
 
 /// Gathers what the fixity block lists beside sorted triples, and sorts all that is kept.
-fn gather_beside<'t>(
+fn gather_beside(
     alloc: Global,
-    content: &'t str,
-    fixity: &[Supported<'t>],
+    content: &str,
+    fixity: Vec<Supported>,
     triples: Vec<Triple>,
-) -> Result<Gathered<'t>, AllocError>
+) -> Result<Gathered, AllocError>
     requires { IsSorted triple_cmp triples.items }
-    ensures triples { IfOk result (λ g. IsPermutation (triples.items ++ flat_map (λ e. triples_of true content.now e.0 e.1) (supported_view fixity.now)) g.triples.items) }
+    ensures triples { IfOk result (λ g. IsPermutation (triples.items ++ flat_map (λ e. triples_of true content.now e.0 e.1) (supported_view fixity.items)) g.triples.items) }
     ensures sorted { IfOk result (λ g. IsSorted triple_cmp g.triples.items) }
-    ensures bad { IfOk result (λ g. map (λ t. t.now) g.bad.items ≡ flat_map (λ e. bad_texts content.now e.1) (supported_view fixity.now)) }
+    ensures bad { IfOk result (λ g. map string_bytes g.bad.items ≡ flat_map (λ e. bad_texts content.now e.1) (supported_view fixity.items)) }
 {
     let mut found = Gathered {
         triples,
@@ -202,24 +218,26 @@ fn gather_beside<'t>(
         return Ok(found);
     }
     gather_fixity(alloc, content, fixity, &mut found)?;
-    sort(&mut found.triples);
+    sort(&mut found.triples)?;
     Ok(found)
 }
 
 /// Gathers what an inventory lists: its kept paths with their digests, sorted and as often as they are listed, and the
 /// texts that have lines.
-pub(crate) fn gather<'t>(
+pub(crate) fn gather(
     alloc: Global,
-    inventory: &Inventory<'t>,
-) -> Result<(Vec<Triple>, Listed<'t>), AllocError>
-    ensures triples { IfOk result (λ r. IsPermutation (all_triples (inventory_view inventory.now)) r.0.items) }
+    content: &str,
+    algorithm: Algorithm,
+    manifest: Vec<Listing>,
+    fixity: Vec<Supported>,
+) -> Result<(Vec<Triple>, Listed), AllocError>
+    ensures triples { IfOk result (λ r. IsPermutation (all_triples content.now algorithm (block_view manifest.items) (supported_view fixity.items)) r.0.items) }
     ensures sorted { IfOk result (λ r. IsSorted triple_cmp r.0.items) }
-    ensures listed { IfOk result (λ r. AreListed (inventory_view inventory.now) r.1) }
+    ensures listed { IfOk result (λ r. AreListed content.now (block_view manifest.items) (supported_view fixity.items) r.1) }
 {
-    let manifest = gather_manifest(alloc, inventory)?;
+    let manifest = gather_manifest(alloc, content, algorithm, manifest)?;
     let conflicting = conflicts(alloc, &manifest.triples)?;
-    let content = inventory.content;
-    let found = gather_beside(alloc, content, &inventory.fixity, manifest.triples)?;
+    let found = gather_beside(alloc, content, fixity, manifest.triples)?;
     let listed = Listed {
         manifest_bad: manifest.bad,
         fixity_bad: found.bad,
@@ -230,12 +248,17 @@ pub(crate) fn gather<'t>(
 
 /// Gathers the kept paths of an inventory with their digests, sorted and as often as they are listed, and makes nothing
 /// for lines.
-pub(crate) fn gather_kept(alloc: Global, inventory: &Inventory) -> Result<Vec<Triple>, AllocError>
-    ensures triples { IfOk result (λ v. IsPermutation (all_triples (inventory_view inventory.now)) v.items) }
+pub(crate) fn gather_kept(
+    alloc: Global,
+    content: &str,
+    algorithm: Algorithm,
+    manifest: Vec<Listing>,
+    fixity: Vec<Supported>,
+) -> Result<Vec<Triple>, AllocError>
+    ensures triples { IfOk result (λ v. IsPermutation (all_triples content.now algorithm (block_view manifest.items) (supported_view fixity.items)) v.items) }
     ensures sorted { IfOk result (λ v. IsSorted triple_cmp v.items) }
 {
-    let manifest = gather_manifest(alloc, inventory)?;
-    let content = inventory.content;
-    let found = gather_beside(alloc, content, &inventory.fixity, manifest.triples)?;
+    let manifest = gather_manifest(alloc, content, algorithm, manifest)?;
+    let found = gather_beside(alloc, content, fixity, manifest.triples)?;
     Ok(found.triples)
 }

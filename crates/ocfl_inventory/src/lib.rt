@@ -11,6 +11,7 @@ mod listing;
 mod note;
 mod notes;
 mod paths;
+mod ranks;
 mod reading;
 mod sorting;
 mod sums;
@@ -27,6 +28,3 @@ pub use reading::algorithm_of;
 pub use sums::{Sum, sidecar};
 pub use table::{InventoryReading, Table, read_inventory};
 pub use triple::Named;
-
-#[cfg(test)]
-mod tests;

@@ -6,17 +6,17 @@ ghost use Rattle.ocfl_tree.specs.Path.{slashed};
 ghost use Rattle.ocfl_report.specs.Line.{note};
 ghost use Rattle.ocfl_digest.specs.Algorithm.{algorithm_name};
 ghost use Rattle.ocfl_inventory.specs.ListedPath.{path_fault};
-ghost use Rattle.ocfl_inventory.specs.Notes.{fault_notes, folded_keys, repeated as repeated_of, inventory_notes};
-ghost use Rattle.ocfl_inventory.specs.Parts.{remark_view, block_view, supported_view, inventory_view, repeated_notes};
-ghost use Rattle.ocfl_inventory.specs.ListsOf.{AreListed};
+ghost use Rattle.ocfl_inventory.specs.Notes.{fault_notes, folded_keys, repeated as repeated_of};
+ghost use Rattle.ocfl_inventory.specs.Parts.{remark_view, block_view, supported_view, repeated_notes};
+ghost use Rattle.ocfl_inventory.specs.ListsOf.{all_repeated, other_notes};
 
 use crate::gather::Listed;
 use crate::keys::{Key, repeated};
 use crate::listing::Listing;
 use crate::note::Remark;
 use crate::paths::fault;
-use crate::reading::{Inventory, Supported};
-use crate::texts::put_in_order;
+use crate::reading::Supported;
+use crate::texts::{borrowed, put_in_order};
 use ocfl_digest::Algorithm;
 use ocfl_report::Code;
 use ocfl_tree::Place;
@@ -51,12 +51,13 @@ fn add_fault(
 fn add_faults(
     alloc: Global,
     content: &str,
-    mut texts: Vec<&str>,
+    texts: &[String],
     out: &mut Vec<Remark>,
 ) -> Result<(), AllocError>
     ensures { OnOk result (map remark_view out.new.items ≡ map remark_view out.old.items
-        ++ fault_notes content.now (map (λ t. t.now) texts.entry.items)) }
+        ++ fault_notes content.now (map string_bytes texts.now)) }
 {
+    let mut texts = borrowed(alloc, texts)?;
     put_in_order(&mut texts);
     for text in &texts {
         add_fault(alloc, content, text, out)?;
@@ -68,14 +69,14 @@ fn add_faults(
 fn add_each(
     alloc: Global,
     code: Code,
-    details: &[&str],
+    details: &[String],
     out: &mut Vec<Remark>,
 ) -> Result<(), AllocError>
     ensures { OnOk result (map remark_view out.new.items ≡ map remark_view out.old.items
-        ++ map (note code) (map (λ t. t.now) details.now)) }
+        ++ map (note code) (map string_bytes details.now)) }
 {
     for detail in details {
-        add(alloc, code, detail, out)?;
+        add(alloc, code, detail.as_str(), out)?;
     }
     Ok(())
 }
@@ -97,12 +98,12 @@ fn add_places(
 }
 
 /// The keys of a block.
-fn keys<'t>(alloc: Global, block: &[Listing<'t>]) -> Result<Vec<Key<'t>>, AllocError>
+fn keys<'t>(alloc: Global, block: &'t [Listing]) -> Result<Vec<Key<'t>>, AllocError>
     ensures { IfOk result (λ v. v.items ≡ folded_keys (block_view block.now)) }
 {
     let mut found = Vec::with_capacity(alloc, block.len())?;
     for listing in block {
-        found.push(Key::new(listing.key))?;
+        found.push(Key::new(listing.key.as_str()))?;
     }
     Ok(found)
 }
@@ -163,21 +164,32 @@ fn add_repeated_fixity(
     Ok(())
 }
 
-/// The lines of an inventory that does not stop, from what it lists.
-pub(crate) fn inventory_lines(
+/// The lines of the digests that several keys of an inventory have.
+pub(crate) fn repeated_lines(
     alloc: Global,
-    inventory: &Inventory,
-    lists: Listed,
+    manifest: &[Listing],
+    fixity: &[Supported],
 ) -> Result<Vec<Remark>, AllocError>
-    requires { AreListed (inventory_view inventory.now) lists }
-    ensures { IfOk result (λ v. map remark_view v.items ≡ inventory_notes (inventory_view inventory.now)) }
+    ensures { IfOk result (λ v. map remark_view v.items ≡ all_repeated (block_view manifest.now) (supported_view fixity.now)) }
 {
     let mut lines = Vec::new(alloc);
-    add_repeated(alloc, &inventory.manifest, &mut lines)?;
-    add_repeated_fixity(alloc, &inventory.fixity, &mut lines)?;
-    add_faults(alloc, inventory.content, lists.manifest_bad, &mut lines)?;
-    add_faults(alloc, inventory.content, lists.fixity_bad, &mut lines)?;
-    add_places(alloc, Code::E101, &lists.conflicting, &mut lines)?;
-    add_each(alloc, Code::S07, &inventory.unsupported, &mut lines)?;
+    add_repeated(alloc, manifest, &mut lines)?;
+    add_repeated_fixity(alloc, fixity, &mut lines)?;
     Ok(lines)
+}
+
+/// Puts the other lines of an inventory that does not stop at the end, from what it lists.
+pub(crate) fn add_others(
+    alloc: Global,
+    content: &str,
+    lists: &Listed,
+    unsupported: &[String],
+    lines: &mut Vec<Remark>,
+) -> Result<(), AllocError>
+    ensures { OnOk result (map remark_view lines.new.items ≡ map remark_view lines.old.items ++ other_notes content.now lists.now (map string_bytes unsupported.now)) }
+{
+    add_faults(alloc, content, &lists.manifest_bad, lines)?;
+    add_faults(alloc, content, &lists.fixity_bad, lines)?;
+    add_places(alloc, Code::E101, &lists.conflicting, lines)?;
+    add_each(alloc, Code::S07, unsupported, lines)
 }

@@ -1,19 +1,20 @@
 //! The keys of an inventory, each of which may stop.
-ghost use Rattle.std.specs.Prelude.{◌≡◌, map, IfOk, Some, None, option_map, filter, not, is_some, if◌then◌else◌};
+ghost use Rattle.std.specs.Prelude.{◌≡◌, false, map, IfOk, Some, None, option_map, string_bytes, filter, not, is_some, if◌then◌else◌};
 ghost use Rattle.std.specs.Prelude.{codes, ◌==◌};
 ghost use Rattle.std.specs.List.{list_any};
 ghost use Rattle.std.specs.Result.{result_ok};
 ghost use Rattle.serde_json.specs.View.{view, members_view};
 ghost use Rattle.serde_json.specs.Find.{get_member};
+ghost use Rattle.ocfl_tree.specs.Place.{text_eq};
 ghost use Rattle.ocfl_report.specs.Line.{note};
 ghost use Rattle.ocfl_digest.specs.Algorithm.{algorithm_name, algorithm_named, supported as all_supported};
-ghost use Rattle.ocfl_inventory.specs.Reading.{object_of, digest_algorithm, algorithm_in, content_named, content_from, manifest_in, fixity_from, blocks_for, keys_of, unsupported_in, algorithm_of as algorithm_stated};
-ghost use Rattle.ocfl_inventory.specs.Parts.{Gives, Says, block_view, fixity_view, supported_view, with_block, inventory_view, inventory_in};
+ghost use Rattle.ocfl_inventory.specs.Reading.{object_of, digest_algorithm, algorithm_in, content_named, content_from, fixity_from, blocks_for, keys_of, unsupported_in, algorithm_of as algorithm_stated};
+ghost use Rattle.ocfl_inventory.specs.Parts.{Gives, Says, AreValues, value_for, block_view, manifest_from, fixity_view, supported_view, with_block, inventory_view, inventory_in};
 
-use crate::block::{block, member};
+use crate::block::{block, member, members, take_member};
 use crate::listing::Listing;
 use crate::note::{Remark, Stop};
-use crate::texts::put_in_order;
+use crate::texts::{owned, put_in_order};
 use ocfl_digest::Algorithm;
 use ocfl_report::Code;
 use serde_json::{Map, Value};
@@ -89,7 +90,7 @@ fn content_text<'v>(alloc: Global, text: &'v str) -> Result<&'v str, Stop>
     Ok(text)
 }
 
-fn content<'v>(alloc: Global, map: &'v Map<String, Value>) -> Result<&'v str, Stop>
+fn content_in<'v>(alloc: Global, map: &'v Map<String, Value>) -> Result<&'v str, Stop>
     ensures { Gives (λ t. t.now) result
         (content_from (get_member (codes "contentDirectory") (members_view map.now.entries))) }
 {
@@ -102,10 +103,18 @@ fn content<'v>(alloc: Global, map: &'v Map<String, Value>) -> Result<&'v str, St
     content_text(alloc, text)
 }
 
-fn manifest<'v>(alloc: Global, map: &'v Map<String, Value>) -> Result<Vec<Listing<'v>>, Stop>
-    ensures { Gives (λ b. block_view b.items) result (manifest_in (members_view map.now.entries)) }
+fn content(alloc: Global, map: &Map<String, Value>) -> Result<String, Stop>
+    ensures { Gives string_bytes result
+        (content_from (get_member (codes "contentDirectory") (members_view map.now.entries))) }
 {
-    let Some(value) = member(map, "manifest") else {
+    let text = content_in(alloc, map)?;
+    Ok(String::from_str(alloc, text)?)
+}
+
+fn manifest(alloc: Global, value: Option<Value>) -> Result<Vec<Listing>, Stop>
+    ensures { Gives (λ b. block_view b.items) result (manifest_from (option_map view value)) }
+{
+    let Some(value) = value else {
         return Err(stop(alloc, Code::E041, "manifest"));
     };
     let Some(listings) = block(alloc, value)? else {
@@ -114,16 +123,13 @@ fn manifest<'v>(alloc: Global, map: &'v Map<String, Value>) -> Result<Vec<Listin
     Ok(listings)
 }
 
-fn fixity<'v>(
-    alloc: Global,
-    map: &'v Map<String, Value>,
-) -> Result<Option<&'v Map<String, Value>>, Stop>
-    ensures { Gives fixity_view result (fixity_from (get_member (codes "fixity") (members_view map.now.entries))) }
+fn fixity(alloc: Global, value: Option<Value>) -> Result<Option<Map<String, Value>>, Stop>
+    ensures { Gives fixity_view result (fixity_from (option_map view value)) }
 {
-    let Some(value) = member(map, "fixity") else {
+    let Some(value) = value else {
         return Ok(None);
     };
-    let Some(members) = value.as_object() else {
+    let Some(members) = members(value) else {
         return Err(stop(alloc, Code::S03, "fixity"));
     };
     Ok(Some(members))
@@ -131,32 +137,32 @@ fn fixity<'v>(
 
 /// The block of one algorithm.
 #[derive(Drop)]
-pub struct Supported<'v> {
+pub struct Supported {
     pub algorithm: Algorithm,
-    pub block: Vec<Listing<'v>>,
+    pub block: Vec<Listing>,
 }
 
 /// An inventory that does not stop.
 #[derive(Drop)]
-pub struct Inventory<'v> {
+pub struct Inventory {
     pub algorithm: Algorithm,
-    pub content: &'v str,
-    pub manifest: Vec<Listing<'v>>,
-    pub fixity: Vec<Supported<'v>>,
-    pub unsupported: Vec<&'v str>,
+    pub content: String,
+    pub manifest: Vec<Listing>,
+    pub fixity: Vec<Supported>,
+    pub unsupported: Vec<String>,
 }
 
 /// Puts the block of one algorithm behind those before it, and says whether it was of the form.
-fn take_block<'v>(
+fn take_block(
     alloc: Global,
-    map: &'v Map<String, Value>,
+    value: Option<Value>,
     algorithm: Algorithm,
-    found: &mut Vec<Supported<'v>>,
+    found: &mut Vec<Supported>,
 ) -> Result<bool, AllocError>
-    ensures { IfOk result (λ b. with_block (supported_view found.old.items) (members_view map.now.entries) algorithm
+    ensures { IfOk result (λ b. with_block (supported_view found.old.items) (option_map view value) algorithm
         ≡ (if b then Some (supported_view found.new.items) else None)) }
 {
-    let Some(value) = member(map, algorithm.name()) else {
+    let Some(value) = value else {
         return Ok(true);
     };
     let Some(block) = block(alloc, value)? else {
@@ -166,26 +172,68 @@ fn take_block<'v>(
     Ok(true)
 }
 
-fn supported_blocks<'v>(
+/// The values of the supported algorithms' members.
+#[derive(Drop)]
+pub(crate) struct Values {
+    md5: Option<Value>,
+    sha1: Option<Value>,
+    sha256: Option<Value>,
+    sha512: Option<Value>,
+    sha512_256: Option<Value>,
+}
+
+/// Takes the value of an algorithm's member out of a fixity block.
+fn take_for(map: &mut Map<String, Value>, algorithm: Algorithm) -> Option<Value>
+    ensures value { option_map view result ≡ value_for algorithm (members_view map.old.entries) }
+    ensures others { (a : Algorithm) → text_eq (algorithm_name a) (algorithm_name algorithm) ≡ false → value_for a (members_view map.new.entries) ≡ value_for a (members_view map.old.entries) }
+{
+    take_member(map, algorithm.name())
+}
+
+fn take_values(mut map: Map<String, Value>) -> Values
+    ensures { AreValues result (members_view map.entries) }
+{
+    let md5 = take_for(&mut map, Algorithm::Md5);
+    let sha1 = take_for(&mut map, Algorithm::Sha1);
+    let sha256 = take_for(&mut map, Algorithm::Sha256);
+    let sha512 = take_for(&mut map, Algorithm::Sha512);
+    let sha512_256 = take_for(&mut map, Algorithm::Sha512_256);
+    Values {
+        md5,
+        sha1,
+        sha256,
+        sha512,
+        sha512_256,
+    }
+}
+
+fn supported_blocks(
     alloc: Global,
-    map: &'v Map<String, Value>,
-) -> Result<Option<Vec<Supported<'v>>>, AllocError>
-    ensures { IfOk result (λ o. option_map (λ v. supported_view v.items) o ≡ blocks_for (members_view map.now.entries) all_supported) }
+    map: Map<String, Value>,
+) -> Result<Option<Vec<Supported>>, AllocError>
+    ensures { IfOk result (λ o. option_map (λ v. supported_view v.items) o ≡ blocks_for (members_view map.entries) all_supported) }
 {
     let mut found = Vec::new(alloc);
-    if !take_block(alloc, map, Algorithm::Md5, &mut found)? {
+    let Values {
+        md5,
+        sha1,
+        sha256,
+        sha512,
+        sha512_256,
+    } = take_values(map);
+    if !take_block(alloc, md5, Algorithm::Md5, &mut found)? {
         return Ok(None);
     }
-    if !take_block(alloc, map, Algorithm::Sha1, &mut found)? {
+    if !take_block(alloc, sha1, Algorithm::Sha1, &mut found)? {
         return Ok(None);
     }
-    if !take_block(alloc, map, Algorithm::Sha256, &mut found)? {
+    if !take_block(alloc, sha256, Algorithm::Sha256, &mut found)? {
         return Ok(None);
     }
-    if !take_block(alloc, map, Algorithm::Sha512, &mut found)? {
+    if !take_block(alloc, sha512, Algorithm::Sha512, &mut found)? {
         return Ok(None);
     }
-    if !take_block(alloc, map, Algorithm::Sha512_256, &mut found)? {
+    if !take_block(alloc, sha512_256, Algorithm::Sha512_256, &mut found)? {
         return Ok(None);
     }
     Ok(Some(found))
@@ -208,28 +256,30 @@ fn unsupported_keys<'v>(
 }
 
 /// The keys that name no supported algorithm, ascending by bytes.
-fn unsupported<'v>(
-    alloc: Global,
-    members: &'v Map<String, Value>,
-) -> Result<Vec<&'v str>, AllocError>
-    ensures { IfOk result (λ v. map (λ t. t.now) v.items ≡ unsupported_in (members_view members.now.entries)) }
+fn unsupported(alloc: Global, members: &Map<String, Value>) -> Result<Vec<String>, AllocError>
+    ensures { IfOk result (λ v. map string_bytes v.items ≡ unsupported_in (members_view members.now.entries)) }
 {
     let mut keys = unsupported_keys(alloc, members)?;
     put_in_order(&mut keys);
-    Ok(keys)
+    owned(alloc, &keys)
+}
+
+/// Takes the manifest out of the members of an inventory, which leaves the fixity block.
+fn take_manifest(map: &mut Map<String, Value>) -> Option<Value>
+    ensures value { option_map view result ≡ get_member (codes "manifest") (members_view map.old.entries) }
+    ensures fixity { get_member (codes "fixity") (members_view map.new.entries) ≡ get_member (codes "fixity") (members_view map.old.entries) }
+{
+    take_member(map, "manifest")
 }
 
 /// What stands behind the whole object.
-pub(crate) fn behind_object<'v>(
-    alloc: Global,
-    map: &'v Map<String, Value>,
-) -> Result<Inventory<'v>, Stop>
-    ensures { Gives inventory_view result (inventory_in (members_view map.now.entries)) }
+pub(crate) fn behind_object(alloc: Global, mut map: Map<String, Value>) -> Result<Inventory, Stop>
+    ensures { Gives inventory_view result (inventory_in (members_view map.entries)) }
 {
-    let algorithm = algorithm(alloc, map)?;
-    let content = content(alloc, map)?;
-    let manifest = manifest(alloc, map)?;
-    let fixity = fixity(alloc, map)?;
+    let algorithm = algorithm(alloc, &map)?;
+    let content = content(alloc, &map)?;
+    let manifest = manifest(alloc, take_manifest(&mut map))?;
+    let fixity = fixity(alloc, take_member(&mut map, "fixity"))?;
     let Some(members) = fixity else {
         return Ok(Inventory {
             algorithm,
@@ -239,10 +289,10 @@ pub(crate) fn behind_object<'v>(
             unsupported: Vec::new(alloc),
         });
     };
+    let unsupported = unsupported(alloc, &members)?;
     let Some(fixity) = supported_blocks(alloc, members)? else {
         return Err(stop(alloc, Code::S03, "fixity"));
     };
-    let unsupported = unsupported(alloc, members)?;
     Ok(Inventory {
         algorithm,
         content,

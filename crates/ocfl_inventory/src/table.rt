@@ -1,5 +1,5 @@
 //! The table of an inventory: the digests that it names for the paths of its object.
-ghost use Rattle.std.specs.Prelude.{◌≡◌, [], ◌≤◌, ◌<◌, ◌^◌, IfOk, IfSome, None, map, option_map, true, false, length, slice_get};
+ghost use Rattle.std.specs.Prelude.{◌≡◌, [], ◌≤◌, ◌<◌, ◌^◌, IfOk, IfSome, None, map, option_map, true, false, length, slice_get, string_bytes};
 ghost use Rattle.std.specs.Ordering.{is_lt};
 ghost use Rattle.std.specs.Result.{result_ok};
 ghost use Rattle.std.specs.List.Sorted.{IsPartitionPoint, IsSorted};
@@ -17,7 +17,7 @@ ghost use Rattle.ocfl_inventory.specs.ReadInventory.{IsReading, IsTableReading, 
 
 use crate::gather::{gather, gather_kept};
 use crate::note::{Remark, Stop};
-use crate::notes::inventory_lines;
+use crate::notes::{add_others, repeated_lines};
 use crate::reading::{Inventory, behind_object, object, stated_algorithm};
 use crate::triple::{Named, Triple};
 use ocfl_digest::Algorithm;
@@ -94,57 +94,57 @@ fn clone_named(alloc: Global, triples: &[Triple]) -> Result<Vec<Named>, AllocErr
 }
 
 /// The table of sorted triples, which may stand more than once.
-fn make_table(
-    alloc: Global,
-    algorithm: Algorithm,
-    content: &str,
-    mut triples: Vec<Triple>,
-) -> Result<Table, AllocError>
+fn make_table(algorithm: Algorithm, content: String, mut triples: Vec<Triple>) -> Table
     requires { IsSorted triple_cmp triples.items }
-    ensures few { IfOk result (λ t. length t.triples < 2 ^ 64) }
-    ensures is { IfOk result (λ t. t ≡ record { algorithm = algorithm; content = content.now; triples = ascending triple_cmp triples.items }) }
+    ensures few { length result.triples < 2 ^ 64 }
+    ensures is { result ≡ record { algorithm = algorithm; content = string_bytes content; triples = ascending triple_cmp triples.items } }
 {
     triples.dedup();
-    let content = String::from_str(alloc, content)?;
-    Ok(Table {
+    Table {
         algorithm,
         content,
         triples,
-    })
+    }
 }
 
 /// The lines and the table of an inventory that does not stop.
 fn finish(alloc: Global, inventory: Inventory) -> Result<(Vec<Remark>, Table), AllocError>
-    ensures lines { IfOk result (λ r. map remark_view r.0.items ≡ inventory_notes (inventory_view inventory.entry)) }
-    ensures table { IfOk result (λ r. r.1 ≡ table_from (inventory_view inventory.entry)) }
+    ensures lines { IfOk result (λ r. map remark_view r.0.items ≡ inventory_notes (inventory_view inventory)) }
+    ensures table { IfOk result (λ r. r.1 ≡ table_from (inventory_view inventory)) }
     ensures few { IfOk result (λ r. length r.1.triples < 2 ^ 64) }
 {
-    let (triples, listed) = gather(alloc, &inventory)?;
-    let remarks = inventory_lines(alloc, &inventory, listed)?;
-    let algorithm = inventory.algorithm;
-    let content = inventory.content;
-    // its lists are not needed beside the table
-    drop(inventory);
-    let table = make_table(alloc, algorithm, content, triples)?;
-    Ok((remarks, table))
+    let Inventory {
+        algorithm,
+        content,
+        manifest,
+        fixity,
+        unsupported,
+    } = inventory;
+    let mut remarks = repeated_lines(alloc, &manifest, &fixity)?;
+    let (triples, listed) = gather(alloc, content.as_str(), algorithm, manifest, fixity)?;
+    add_others(alloc, content.as_str(), &listed, &unsupported, &mut remarks)?;
+    Ok((remarks, make_table(algorithm, content, triples)))
 }
 
 /// The table of an inventory that does not stop, and none of its lines.
 fn finish_alone(alloc: Global, inventory: Inventory) -> Result<Table, AllocError>
-    ensures table { IfOk result (λ t. t ≡ table_from (inventory_view inventory.entry)) }
+    ensures table { IfOk result (λ t. t ≡ table_from (inventory_view inventory)) }
     ensures few { IfOk result (λ t. length t.triples < 2 ^ 64) }
 {
-    let triples = gather_kept(alloc, &inventory)?;
-    let algorithm = inventory.algorithm;
-    let content = inventory.content;
-    // its lists are not needed beside the table
-    drop(inventory);
-    make_table(alloc, algorithm, content, triples)
+    let Inventory {
+        algorithm,
+        content,
+        manifest,
+        fixity,
+        unsupported: _,
+    } = inventory;
+    let triples = gather_kept(alloc, content.as_str(), algorithm, manifest, fixity)?;
+    Ok(make_table(algorithm, content, triples))
 }
 
 /// The lines and the table of the members of an inventory that does not stop, or what stops it.
-fn read_members(alloc: Global, members: &Map<String, Value>) -> Result<(Vec<Remark>, Table), Stop>
-    ensures reading { IsReading result (inventory_in (members_view members.now.entries)) }
+fn read_members(alloc: Global, members: Map<String, Value>) -> Result<(Vec<Remark>, Table), Stop>
+    ensures reading { IsReading result (inventory_in (members_view members.entries)) }
     ensures few { IfOk result (λ r. length r.1.triples < 2 ^ 64) }
 {
     let inventory = behind_object(alloc, members)?;
@@ -157,7 +157,7 @@ fn read_table(alloc: Global, bytes: &[u8]) -> Result<Table, Stop>
     ensures few { IfOk result (λ t. length t.triples < 2 ^ 64) }
 {
     let map = object(alloc, bytes)?;
-    let inventory = behind_object(alloc, &map)?;
+    let inventory = behind_object(alloc, map)?;
     Ok(finish_alone(alloc, inventory)?)
 }
 
@@ -220,14 +220,14 @@ fn stopped(
 /// The lines, the table and the algorithm of the members of an inventory.
 fn reading_of_members(
     alloc: Global,
-    members: &Map<String, Value>,
+    members: Map<String, Value>,
 ) -> Result<InventoryReading, AllocError>
-    ensures algorithm { IfOk result (λ r. r.algorithm ≡ result_ok (algorithm_in (members_view members.now.entries))) }
-    ensures lines { IfOk result (λ r. map line_of r.lines.items ≡ lines_at [] (reading_notes (inventory_in (members_view members.now.entries)))) }
-    ensures table { IfOk result (λ r. r.table ≡ table_from_reading (inventory_in (members_view members.now.entries))) }
+    ensures algorithm { IfOk result (λ r. r.algorithm ≡ result_ok (algorithm_in (members_view members.entries))) }
+    ensures lines { IfOk result (λ r. map line_of r.lines.items ≡ lines_at [] (reading_notes (inventory_in (members_view members.entries)))) }
+    ensures table { IfOk result (λ r. r.table ≡ table_from_reading (inventory_in (members_view members.entries))) }
     ensures fit { IfOk result (λ r. IfSome r.table (λ t. IsFit t)) }
 {
-    let algorithm = stated_algorithm(alloc, members)?;
+    let algorithm = stated_algorithm(alloc, &members)?;
     match read_members(alloc, members) {
         Ok((remarks, table)) => Ok(InventoryReading {
             algorithm,
@@ -255,7 +255,7 @@ pub fn read_inventory(alloc: Global, bytes: &[u8]) -> Result<InventoryReading, A
     ensures fit { IfOk result (λ r. IfSome r.table (λ t. IsFit t)) }
 {
     match object(alloc, bytes) {
-        Ok(map) => reading_of_members(alloc, &map),
+        Ok(map) => reading_of_members(alloc, map),
         Err(stop) => stopped(alloc, None, stop),
     }
 }

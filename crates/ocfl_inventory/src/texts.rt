@@ -1,7 +1,9 @@
 //! Texts in order.
-ghost use Rattle.std.specs.Prelude.{◌≡◌, map};
+ghost use Rattle.std.specs.Prelude.{◌≡◌, map, string_bytes, IfOk};
 ghost use Rattle.ocfl_tree.specs.Place.{text_cmp};
 ghost use Rattle.ocfl_tree.specs.Ascending.{ascending};
+
+use std::alloc::{AllocError, Global};
 
 /// Puts the texts in order, each once.
 pub(crate) fn put_in_order(texts: &mut Vec<&str>)
@@ -9,4 +11,26 @@ pub(crate) fn put_in_order(texts: &mut Vec<&str>)
 {
     texts.sort_unstable();
     texts.dedup();
+}
+
+/// The same texts, owned.
+pub(crate) fn owned(alloc: Global, texts: &[&str]) -> Result<Vec<String>, AllocError>
+    ensures { IfOk result (λ v. map string_bytes v.items ≡ map (λ t. t.now) texts.now) }
+{
+    let mut found = Vec::with_capacity(alloc, texts.len())?;
+    for text in texts {
+        found.push(String::from_str(alloc, *text)?)?;
+    }
+    Ok(found)
+}
+
+/// The same texts, borrowed.
+pub(crate) fn borrowed<'t>(alloc: Global, texts: &'t [String]) -> Result<Vec<&'t str>, AllocError>
+    ensures { IfOk result (λ v. map (λ t. t.now) v.items ≡ map string_bytes texts.now) }
+{
+    let mut found = Vec::with_capacity(alloc, texts.len())?;
+    for text in texts {
+        found.push(text.as_str())?;
+    }
+    Ok(found)
 }

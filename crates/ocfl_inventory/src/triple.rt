@@ -3,6 +3,7 @@ ghost use Rattle.std.specs.Prelude.{◌≡◌, IfOk, Some, refl, drop};
 ghost use Rattle.std.specs.Ordering.{eq_by_cmp};
 ghost use Rattle.std.specs.Cmp.{partial_equiv_from_equiv, partial_order_from_total};
 ghost use Rattle.std.proofs.lemmas.Cmp.{eq_by_cmp_equiv};
+ghost use Rattle.ocfl_tree.specs.Path.{slashed};
 ghost use Rattle.ocfl_inventory.specs.Table.{named_cmp, triple_cmp};
 ghost use Rattle.ocfl_inventory.specs.TripleOrder.{triple_total};
 ghost use Rattle.ocfl_inventory.specs.TripleView.{named_view};
@@ -77,6 +78,13 @@ impl Triple {
         &self.path
     }
 
+    /// What of the path stands behind so many bytes.
+    pub(crate) fn past(&self, count: usize) -> &[u8]
+        ensures { result.now ≡ drop count (slashed self.now.path) }
+    {
+        past(self.path.path(), count)
+    }
+
     pub(crate) fn named(&self) -> &Named
         ensures { named_view result.now ≡ self.now.named }
     {
@@ -97,9 +105,7 @@ impl Triple {
     pub(crate) fn cmp_past(&self, other: &Triple, count: usize) -> Ordering
         ensures { result ≡ triple_cmp (behind count self.now) (behind count other.now) }
     {
-        let path = past(self.path.path(), count);
-        let beside = past(other.path.path(), count);
-        match cmp_elements(path, beside) {
+        match cmp_elements(self.past(count), other.past(count)) {
             Ordering::Equal => self.named.cmp_named(&other.named),
             order => order,
         }

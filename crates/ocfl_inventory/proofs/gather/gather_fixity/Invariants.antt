@@ -1,4 +1,4 @@
-use Rattle.std.proofs.Common.{◌≡◌, ◌++◌, map, take, true}
+use Rattle.std.proofs.Common.{◌≡◌, ◌++◌, map, true, string_bytes}
 use Rattle.std.specs.Prelude.{flat_map}
 use Rattle.ocfl_inventory.specs.Table.{triples_of}
 use Rattle.ocfl_inventory.specs.Parts.{supported_view}
@@ -7,6 +7,6 @@ use Rattle.ocfl_inventory.proofs.gather.gather_fixity.Given as goal
 
 abbrev pub invariant-loop-supported : goal.invariant-loop-supported
 invariant-loop-supported l = record {
-  triples : l.found.triples.items ≡ l.initial.found.triples.items ++ flat_map (λ e. triples_of true l.content e.0 e.1) (supported_view (take l.supported-index l.fixity));
-  bad : map (λ t. t.now) l.found.bad.items ≡ map (λ t. t.now) l.initial.found.bad.items ++ flat_map (λ e. bad_texts l.content e.1) (supported_view (take l.supported-index l.fixity));
+  triples : l.found.triples.items ≡ l.initial.found.triples.items ++ flat_map (λ e. triples_of true l.content e.0 e.1) (supported_view l.yielded);
+  bad : map string_bytes l.found.bad.items ≡ map string_bytes l.initial.found.bad.items ++ flat_map (λ e. bad_texts l.content e.1) (supported_view l.yielded);
 }

@@ -1,5 +1,5 @@
-use Rattle.std.proofs.Common.{◌≡◌, List, subst}
-use Rattle.std.specs.Prelude.{IfOk}
+use Rattle.std.proofs.Common.{ap, subst, ◌∙◌, List, IsPermutation}
+use Rattle.ocfl_tree.specs.Place.{Text}
 use Rattle.ocfl_inventory.specs.Table.{Table, Triple}
 use Rattle.ocfl_inventory.specs.ListsOf.{all_triples}
 use Rattle.ocfl_inventory.specs.Parts.{inventory_view}
@@ -8,7 +8,7 @@ use Rattle.ocfl_inventory.proofs.table.finish_alone.Goals as goal
 
 pub returns-clause-table : goal.returns-clause-table
 returns-clause-table c =
-    let with_triples : List Triple → Table = λ es. record { algorithm = c.args.inventory.algorithm; content = c.args.inventory.content.now; triples = es } in
-    subst (λ (es : List Triple). IfOk c.make_table.result (λ t. t ≡ with_triples es))
-    (ascending_permuted (all_triples (inventory_view c.args.inventory)) c.in_ok-triples.triples.items c.in_ok-triples.ensures.triples)
-    c.make_table.ensures.is
+    let i = inventory_view c.args.inventory in
+    let with_triples : List Triple → Table = λ es. record { algorithm = i.algorithm; content = i.content; triples = es } in
+    let found : IsPermutation (all_triples i.content i.algorithm i.manifest i.fixity) c.in_ok-triples.triples.items = subst (λ (content : Text). IsPermutation (all_triples content i.algorithm i.manifest i.fixity) c.in_ok-triples.triples.items) c.as_str.ensures.value c.in_ok-triples.ensures.triples in
+    c.make_table.ensures.is ∙ ap with_triples (ascending_permuted (all_triples i.content i.algorithm i.manifest i.fixity) c.in_ok-triples.triples.items found)

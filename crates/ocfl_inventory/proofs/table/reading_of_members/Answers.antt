@@ -8,7 +8,7 @@ pub returns-in_ok-to_lines-in-Ok-clause-fit : goal.returns-in_ok-to_lines-in-Ok-
 returns-in_ok-to_lines-in-Ok-clause-fit c = read_fits c.in-Ok.ensures.reading.0 c.in-Ok.table c.in-Ok.ensures.reading.3 c.in-Ok.ensures.few
 
 pub returns-in-Err-clause-lines : goal.returns-in-Err-clause-lines
-returns-in-Err-clause-lines c = stopped_lines c.stopped.result c.in-Err.stop (inventory_in (members_view c.args.members.now.entries)) c.stopped.ensures.lines c.in-Err.ensures.reading
+returns-in-Err-clause-lines c = stopped_lines c.stopped.result c.in-Err.stop (inventory_in (members_view c.args.members.entries)) c.stopped.ensures.lines c.in-Err.ensures.reading
 
 pub returns-in-Err-clause-table : goal.returns-in-Err-clause-table
-returns-in-Err-clause-table c = stopped_table c.stopped.result c.in-Err.stop (inventory_in (members_view c.args.members.now.entries)) c.stopped.ensures.lines c.stopped.ensures.table c.in-Err.ensures.reading
+returns-in-Err-clause-table c = stopped_table c.stopped.result c.in-Err.stop (inventory_in (members_view c.args.members.entries)) c.stopped.ensures.lines c.stopped.ensures.table c.in-Err.ensures.reading

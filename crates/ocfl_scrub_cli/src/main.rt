@@ -6,6 +6,7 @@ use ocfl_scrub::{Asked, LineStop, Note, Performed, asked, perform};
 use ocfl_tree::FsTree;
 use std::fs::{File, OpenFile};
 use std::io::{Read, Write};
+use std::path::PathBuf;
 use std::process::ExitCode;
 use std::rt::{Env, Files};
 use std::{env, fs, io};
@@ -25,16 +26,25 @@ fn folder_of(file: &str) -> &str {
     }
 }
 
+/// A folder's own path, and `None` where it is not found.
+fn path_of<R: Files + AllocGlobal>(rt: &R, folder: &str) -> io::Result<Option<PathBuf>> {
+    match fs::canonicalize(rt, folder) {
+        Ok(path) => Ok(Some(path)),
+        Err(error) if error.kind() == io::ErrorKind::OutOfMemory => Err(error),
+        Err(_) => Ok(None),
+    }
+}
+
 /// Whether a file lies in a storage root, or would. Where one of the two folders is not found, it
 /// does not.
-fn lies_inside<R: Files + AllocGlobal>(rt: &R, file: &str, root: &str) -> bool {
-    let Ok(folder) = fs::canonicalize(rt, folder_of(file)) else {
-        return false;
+fn lies_inside<R: Files + AllocGlobal>(rt: &R, file: &str, root: &str) -> io::Result<bool> {
+    let Some(folder) = path_of(rt, folder_of(file))? else {
+        return Ok(false);
     };
-    let Ok(root) = fs::canonicalize(rt, root) else {
-        return false;
+    let Some(root) = path_of(rt, root)? else {
+        return Ok(false);
     };
-    folder.as_path().starts_with(root.as_path())
+    Ok(folder.as_path().starts_with(root.as_path()))
 }
 
 /// The cursor's file, and `None` where there is no such file.
@@ -122,12 +132,16 @@ fn say<R: Eprint>(rt: &R, line: &str) {
 /// Does what is asked for, unless it would write into the storage root.
 fn answer<R: Files + AllocGlobal + Print + Eprint>(rt: &R, asked: &Asked) -> u8 {
     if let (Some(file), Some(root)) = (&asked.file, &asked.root) {
-        if lies_inside(rt, file.as_str(), root.as_str()) {
-            say(
-                rt,
-                "the cursor's file lies in the storage root, which is never written into",
-            );
-            return USAGE;
+        match lies_inside(rt, file.as_str(), root.as_str()) {
+            Ok(false) => {}
+            Ok(true) => {
+                say(
+                    rt,
+                    "the cursor's file lies in the storage root, which is never written into",
+                );
+                return USAGE;
+            }
+            Err(_) => return out_of_memory(rt),
         }
     }
     let (status, note) = done(rt, asked);

@@ -1,76 +1,58 @@
 #!/usr/bin/env python3
-"""Uses each command of the program on folders that it makes, and compares what comes with what is written down here.
+"""Uses each command of the program on folders that it makes, and compares what comes with what is
+written down here.
 
 usage: commands.py
 """
-import hashlib
 import os
-import shutil
 import subprocess
-import sys
-import tempfile
 
-PROGRAM = os.path.join(os.path.dirname(os.path.abspath(__file__)), "..", "ocfl-scrub")
-ITEMS = ["ok\t.\t-\n", "ok\to\t-\n", "ok\to/v1/content/a\t3\n", "ok\to/v1/content/b\t0\n", "ok\to/v1/content/c\t3\n"]
-failed = []
-passed = 0
+import common
+from common import digest, expect, is_so, line, nights, ran, read, write
 
-
-def write(path, data):
-    os.makedirs(os.path.dirname(path), exist_ok=True)
-    with open(path, "wb") as file:
-        file.write(data)
+FILES = {"v1/content/a": b"abc", "v1/content/b": b"", "v1/content/c": b"abc"}
+ITEMS = common.sound({"o": FILES})
+OPEN = "cycle 1, run 1, cost 4, open"
+# what tells the samples which program to run
+TOLD = {**os.environ, "OCFL_SCRUB": common.PROGRAM}
 
 
-def read(path):
-    with open(path, "rb") as file:
-        return file.read()
-
-
-def make_root(folder):
-    """One object with the files `a` and `c` of the bytes `abc`, and `b` of no bytes: costs 4, 1 and 4."""
-    files = {"v1/content/a": b"abc", "v1/content/b": b"", "v1/content/c": b"abc"}
-    listed = {}
-    for path, data in files.items():
-        write(os.path.join(folder, "o", path), data)
-        listed.setdefault(hashlib.sha256(data).hexdigest(), []).append('"%s"' % path)
-    manifest = ",".join('"%s":[%s]' % (digest, ",".join(paths)) for digest, paths in listed.items())
-    inventory = ('{"digestAlgorithm":"sha256","manifest":{%s}}' % manifest).encode()
-    write(os.path.join(folder, "0=ocfl_1.1"), b"ocfl_1.1\n")
-    write(os.path.join(folder, "o/0=ocfl_object_1.1"), b"ocfl_object_1.1\n")
-    write(os.path.join(folder, "o/inventory.json"), inventory)
-    write(os.path.join(folder, "o/inventory.json.sha256"), hashlib.sha256(inventory).hexdigest().encode() + b" inventory.json\n")
-    return folder
-
-
-def is_so(name, got, expected):
-    global passed
-    if got == expected:
-        passed += 1
-    else:
-        failed.append(name)
-        print("%s:\n  expected %r\n  got      %r" % (name, expected, got))
-
-
-def ran(words):
-    done = subprocess.run([PROGRAM] + words, capture_output=True, timeout=60)
-    return done.returncode, done.stdout.decode(), done.stderr.decode()
-
-
-def expect(name, words, status, items, note):
-    """The status, the items written, and what is said behind the program's name."""
-    is_so(name, ran(words), (status, "".join(items), "ocfl-scrub: %s\n" % note if note else ""))
-
-
-def nights(folder, root):
+def runs(folder, root):
     cursor = os.path.join(folder, "cursor")
     run = ["run", "--cursor", cursor, "--budget", "4", root]
-    expect("first run", run, 0, ITEMS[:3], "cycle 1, run 1, cost 4, open")
-    expect("cursor shown", ["show", cursor], 0, ["cycle 1\nruns 1\nspent 4\nfiles 1\nafter o/v1/content/a\n"], None)
+    expect("first run", run, 0, ITEMS[:3], OPEN)
+    shown = "cycle 1\nruns 1\nspent 4\nfiles 1\nafter o/v1/content/a\n"
+    expect("cursor shown", ["show", cursor], 0, [shown], None)
     expect("second run goes on", run, 0, ITEMS[3:], "cycle 1, run 2, cost 5, ended")
-    expect("next cycle", ["run", "--cursor", cursor, "--budget", "1K", root], 0, ITEMS, "cycle 2, run 1, cost 9, ended")
+    run[4] = "1K"
+    expect("next cycle", run, 0, ITEMS, "cycle 2, run 1, cost 9, ended")
     is_so("nothing is left beside it", sorted(os.listdir(folder)), ["cursor"])
-    expect("one file a run", ["run", "--cursor", cursor, "--budget", "9", "--files", "1", root], 0, ITEMS[:3], "cycle 3, run 1, cost 4, open")
+    one = ["run", "--cursor", cursor, "--budget", "9", "--files", "1", root]
+    expect("one file a run", one, 0, ITEMS[:3], "cycle 3, run 1, cost 4, open")
+
+
+def cursor_bytes(folder, root):
+    """The cursor's file is the text of the rules, whose digest is computed here."""
+    cursor = os.path.join(folder, "bytes")
+    ran(["run", "--cursor", cursor, "--budget", "4", root])
+    body = b"ocfl-scrub cursor 2\ncycle 1\nruns 1\nspent 4\nfiles 1\nafter o/v1/content/a\n"
+    is_so("bytes of a cursor", read(cursor), body + b"digest %s\n" % digest(body).encode())
+    older = b"ocfl-scrub cursor 1\ncycle 7\nruns 1\nspent 4\nafter o/v1/content/a\n"
+    write(cursor, older + b"digest %s\n" % digest(older).encode())
+    run = ["run", "--cursor", cursor, "--budget", "9", root]
+    expect("cursor of version 1", run, 0, ITEMS[3:], "cycle 7, run 2, cost 5, ended")
+    last = b"ocfl-scrub cursor 2\ncycle %d\nruns 1\nspent 4\nfiles 1\nended\n" % (2**64 - 1)
+    last += b"digest %s\n" % digest(last).encode()
+    write(cursor, last)
+    expect("worn", run, 3, [], "cursor worn")
+    is_so("a worn cursor stays", read(cursor), last)
+
+
+def three_nights(folder, root):
+    run = ["run", "--cursor", os.path.join(folder, "nightly"), "--budget", "1", root]
+    reports = nights(run)
+    is_so("three nights", [len(report.splitlines()) for report in reports], [3, 1, 1])
+    is_so("joined, they are the audit", (0, "".join(reports), ""), ran(["audit", root]))
 
 
 def cycles(root):
@@ -79,64 +61,145 @@ def cycles(root):
     expect("cycle that ends", one + ["3"], 0, ITEMS, "runs 3, cost 9, ended")
     expect("audit", ["audit", root], 0, ITEMS, None)
     expect("check", ["check", root, "o/v1/content/b"], 0, ITEMS[3:4], None)
+    expect("check of the root", ["check", root, "."], 0, ITEMS[:1], None)
     expect("no item", ["check", root, "o/v1/content/d"], 0, [], "no item")
     expect("bad path", ["check", root, "o//d"], 2, [], "bad path")
+
+
+def refused_cursors(file, run):
+    malformed = b"ocfl-scrub cursor 2\ncycle 03\nruns 0\nspent 0\nfiles 0\nstart\n"
+    cases = [
+        ("empty", b"", "not a cursor"),
+        ("too long", b"ocfl-scrub cursor 2\n" + b"x" * 262_125, "not a cursor"),
+        ("later version", b"ocfl-scrub cursor 3\n", "version"),
+        ("cut", b"ocfl-scrub cursor 2\ncycle 1\n", "damaged"),
+        ("leading zero", malformed + b"digest %s\n" % digest(malformed).encode(), "malformed"),
+    ]
+    for name, data, why in cases:
+        write(file, data)
+        expect("refused: " + name, run + [file], 4, [], "cursor refused: " + why)
+        expect("not shown: " + name, ["show", file], 4, [], "cursor refused: " + why)
+        is_so("untouched: " + name, read(file), data)
 
 
 def cursor_files(folder, root):
     file = os.path.join(folder, "file")
     run = ["run", "--budget", "4", root, "--cursor"]
     expect("show without a file", ["show", file], 3, [], "cursor file failed")
-    for name, data, why in [("empty", b"", "not a cursor"), ("later version", b"ocfl-scrub cursor 3\n", "version"), ("cut", b"ocfl-scrub cursor 2\ncycle 1\n", "damaged")]:
-        write(file, data)
-        expect("refused: " + name, run + [file], 4, [], "cursor refused: " + why)
-        is_so("untouched: " + name, read(file), data)
-    os.mkdir(os.path.join(folder, "folder"))
-    expect("folder as a file", run + [os.path.join(folder, "folder")], 3, [], "cursor file failed")
-    expect("file that cannot be made", run + [os.path.join(folder, "none/file")], 3, ITEMS[:3], "cursor file failed")
-    status, out, said = ran(run + [os.path.join(root, "o/cursor")])
-    is_so("file in the root", (status, out, sorted(os.listdir(os.path.join(root, "o")))), (2, "", ["0=ocfl_object_1.1", "inventory.json", "inventory.json.sha256", "v1"]))
+    refused_cursors(file, run)
+    inner = os.path.join(folder, "folder")
+    os.mkdir(inner)
+    expect("folder as a file", run + [inner], 3, [], "cursor file failed")
+    unmade = os.path.join(folder, "none/file")
+    expect("file that cannot be made", run + [unmade], 3, ITEMS[:3], "cursor file failed")
     os.remove(file)
     os.symlink(os.path.join(root, "o/v1/content/a"), file + ".new")
-    expect("link in the way", run + [file], 0, ITEMS[:3], "cycle 1, run 1, cost 4, open")
+    expect("link in the way", run + [file], 0, ITEMS[:3], OPEN)
     is_so("what is linked", read(os.path.join(root, "o/v1/content/a")), b"abc")
-    expect("root that is not there", ["run", "--budget", "4", "--cursor", os.path.join(folder, "other"), os.path.join(folder, "no-root")], 3, [], "stopped at .")
-    expect("its cursor is stored", ["show", os.path.join(folder, "other")], 0, ["cycle 1\nruns 1\nspent 0\nfiles 0\nstart\n"], None)
+    other = os.path.join(folder, "other")
+    nowhere = ["run", "--budget", "4", "--cursor", other, os.path.join(folder, "no-root")]
+    expect("root that is not there", nowhere, 3, [], "stopped at .")
+    shown = "cycle 1\nruns 1\nspent 0\nfiles 0\nstart\n"
+    expect("its cursor is stored", ["show", other], 0, [shown], None)
+
+
+def inside_the_root(folder, root):
+    """A cursor's file in the storage root is refused, on whatever way it is named."""
+    link = os.path.join(folder, "link")
+    os.symlink(os.path.join(root, "o"), link)
+    before = common.snapshot(root)
+    for name, file in [
+        ("object", os.path.join(root, "o/cursor")),
+        ("root", os.path.join(root, "cursor")),
+        ("over a link", os.path.join(link, "cursor")),
+        ("over dots", os.path.join(root, "o", "..", "cursor")),
+    ]:
+        status, out, said = ran(["run", "--budget", "4", root, "--cursor", file])
+        is_so("file in the root: " + name, (status, out, said != ""), (2, "", True))
+    is_so("the root is as it was", common.snapshot(root), before)
+
+
+def usages(root):
+    run = ["run", "--cursor", "c", "--budget"]
+    cycle = ["cycle", "--budget", "1"]
+    for name, words in [
+        ("no command", []),
+        ("no root", ["audit"]),
+        ("unknown command", ["scrub", root]),
+        ("a word too many", ["audit", root, root]),
+        ("budget of nothing", run + ["0", root]),
+        ("letters", run + ["4x", root]),
+        ("budget too large", run + ["4611686018427387905", root]),
+        ("budget too large by its suffix", run + ["5000000T", root]),
+        ("no file limit", cycle + ["--files", "0", "--runs", "1", root]),
+        ("no runs", cycle + ["--runs", "0", root]),
+        ("too many runs", cycle + ["--runs", "100001", root]),
+        ("no UTF-8", ["audit", b"\xff"]),
+    ]:
+        status, out, said = ran(words)
+        is_so("usage: " + name, (status, out, said != ""), (2, "", True))
+
+
+def helps():
+    status, out, said = ran(["--help"])
+    is_so("help", (status, "Usage: ocfl-scrub" in out, said), (0, True, ""))
+    for command in ["audit", "run", "cycle", "check", "show"]:
+        is_so("help names " + command, "\n  " + command in out, True)
+        status, told, said = ran([command, "--help"])
+        whole = "Usage: ocfl-scrub %s" % command in told
+        is_so("help of " + command, (status, whole, said), (0, True, ""))
+    status, out, said = ran(["--version"])
+    is_so("version", (status, out.startswith("ocfl-scrub "), said), (0, True, ""))
 
 
 def findings(root):
     write(os.path.join(root, "o/v1/content/b"), b"b")
-    line = "E092\to/v1/content/b\tsha256 %s %s\n" % (hashlib.sha256(b"").hexdigest(), hashlib.sha256(b"b").hexdigest())
-    expect("finding", ["audit", root], 1, ITEMS[:2] + [ITEMS[2], line, ITEMS[4]], None)
+    wrong = line("E092", "o/v1/content/b", "sha256 %s %s" % (digest(b""), digest(b"b")))
+    expect("finding", ["audit", root], 1, ITEMS[:3] + [wrong, ITEMS[4]], None)
     os.rename(os.path.join(root, "o/inventory.json"), os.path.join(root, "o/kept"))
     os.mkdir(os.path.join(root, "o/inventory.json"))
     status, out, said = ran(["audit", root])
     is_so("inventory that is a folder", (status, out.startswith(ITEMS[0])), (1, True))
 
 
-def usages(root):
-    for name, words in [("no command", []), ("no root", ["audit"]), ("budget of nothing", ["run", "--cursor", "c", "--budget", "0", root]), ("letters", ["run", "--cursor", "c", "--budget", "4x", root]), ("no file limit", ["cycle", "--budget", "1", "--files", "0", "--runs", "1", root]), ("no runs", ["cycle", "--budget", "1", "--runs", "0", root])]:
-        status, out, said = ran(words)
-        is_so("usage: " + name, (status, out, said != ""), (2, "", True))
-    status, out, said = ran(["--help"])
-    is_so("help", (status, "Usage: ocfl-scrub" in out, said), (0, True, ""))
+def samples(folder):
+    """What README shows: the sample, and a nightly cycle over it."""
+    for name in ["make", "nights"]:
+        made = os.path.join(folder, name)
+        script = os.path.join(common.TOP, "samples", name)
+        done = subprocess.run([script, made], capture_output=True, env=TOLD, timeout=60)
+        is_so("samples/%s ends well" % name, (done.returncode, done.stderr), (0, b""))
+        again = subprocess.run([script, made], capture_output=True, env=TOLD, timeout=60)
+        is_so("samples/%s replaces nothing" % name, again.returncode, 2)
+    digests = [digest(text, "sha512") for text in [b"Yours sincerely\n", b"Yours sincerly\n"]]
+    lines = [
+        line("ok", "."),
+        line("ok", "letters"),
+        line("E092", "letters/v1/content/damaged.txt", " ".join(["sha512", *digests])),
+        line("ok", "letters/v1/content/good.txt", 13),
+        line("ok", "letters/v1/content/later.txt", 18),
+    ]
+    expect("the sample", ["audit", os.path.join(folder, "make")], 1, lines, None)
+    joined = read(os.path.join(folder, "nights", "report")).decode()
+    is_so("its nights", joined, "".join(lines))
 
 
-def main():
-    folder = tempfile.mkdtemp(prefix="ocfl-scrub-trial-")
-    try:
-        root = make_root(os.path.join(folder, "root"))
-        for name in ["nights", "files"]:
-            os.mkdir(os.path.join(folder, name))
-        nights(os.path.join(folder, "nights"), root)
-        cycles(root)
-        cursor_files(os.path.join(folder, "files"), root)
-        usages(root)
-        findings(root)
-    finally:
-        shutil.rmtree(folder)
-    print("%d passed, %d failed" % (passed, len(failed)))
-    return 1 if failed else 0
+def tell(folder):
+    root = common.make_root(os.path.join(folder, "root"), {"o": FILES})
+    for name in ["runs", "files", "samples"]:
+        os.mkdir(os.path.join(folder, name))
+    before = common.snapshot(root)
+    runs(os.path.join(folder, "runs"), root)
+    cursor_bytes(folder, root)
+    three_nights(folder, root)
+    cycles(root)
+    cursor_files(os.path.join(folder, "files"), root)
+    inside_the_root(folder, root)
+    usages(root)
+    helps()
+    is_so("nothing was written below the root", common.snapshot(root), before)
+    findings(root)
+    samples(os.path.join(folder, "samples"))
 
 
-sys.exit(main())
+common.trial(tell)

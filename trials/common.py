@@ -1,0 +1,240 @@
+"""What the trials share: storage roots that they make, the program run on them, and the count.
+
+The program is the file that OCFL_SCRUB names. Without it, it is the one that the launcher at the
+top of the repository builds.
+"""
+import hashlib
+import json
+import os
+import shutil
+import signal
+import stat
+import subprocess
+import sys
+import tempfile
+import time
+import traceback
+
+TOP = os.path.dirname(os.path.dirname(os.path.abspath(__file__)))
+LIMIT = 60
+NEW = "cycle 1\nruns 0\nspent 0\nfiles 0\nstart\n"
+passed = 0
+failed = []
+
+
+def built():
+    """The program itself, which the launcher builds where it is not built."""
+    subprocess.run([os.path.join(TOP, "ocfl-scrub"), "--version"], stdout=subprocess.DEVNULL)
+    return os.path.join(TOP, "crates", "ocfl_scrub_cli", "out", "ocfl_scrub_cli")
+
+
+PROGRAM = os.path.abspath(os.environ.get("OCFL_SCRUB") or built())
+
+
+def is_so(name, got, expected):
+    """Counts whether what came is what is expected, and shows both where it is not."""
+    global passed
+    if got == expected:
+        passed += 1
+        return True
+    failed.append(name)
+    print("%s:\n  expected %s\n  got      %s" % (name, shown(expected), shown(got)), flush=True)
+    return False
+
+
+def shown(value):
+    text = repr(value)
+    return text if len(text) < 1500 else text[:700] + " .. " + text[-700:]
+
+
+def trial(tell):
+    """Calls `tell` with a new folder, and ends with the count as last line."""
+    folder = tempfile.mkdtemp(prefix="ocfl-scrub-trial-")
+    try:
+        tell(folder)
+    except Exception:
+        traceback.print_exc(file=sys.stdout)
+        failed.append("an exception")
+    finally:
+        shutil.rmtree(folder, ignore_errors=True)
+    print("%d passed, %d failed" % (passed, len(failed)))
+    sys.exit(1 if failed else 0)
+
+
+def text_of(data):
+    return data.decode("utf-8", "surrogateescape")
+
+
+def end(process, limit=LIMIT):
+    """Status, output and what was said; the status is `no end` where the limit passed."""
+    try:
+        out, said = process.communicate(timeout=limit)
+    except subprocess.TimeoutExpired:
+        os.killpg(process.pid, signal.SIGKILL)
+        out, said = process.communicate()
+        return "no end", text_of(out or b""), text_of(said or b"")
+    return process.returncode, text_of(out or b""), text_of(said or b"")
+
+
+def start(words, before=(), **how):
+    """Starts the program, behind the words of `before`, in a process group of its own."""
+    how = {"stdout": subprocess.PIPE, "stderr": subprocess.PIPE, **how}
+    command = [*before, PROGRAM, *words]
+    return subprocess.Popen(command, stdin=subprocess.DEVNULL, start_new_session=True, **how)
+
+
+def ran(words, before=(), limit=LIMIT, **how):
+    return end(start(words, before, **how), limit)
+
+
+def traced(rules, words, log="/dev/null", **how):
+    """As `ran`, under strace with its rules."""
+    if shutil.which("strace") is None:
+        return "no strace", "", ""
+    return ran(words, ["strace", "--quiet=all", "-o", log, *rules], **how)
+
+
+def note(text):
+    return "ocfl-scrub: %s\n" % text if text else ""
+
+
+def expect(name, words, status, items, said):
+    """The status, the items written, and what is said behind the program's name."""
+    return is_so(name, ran(words), (status, "".join(items), note(said)))
+
+
+def write(path, data):
+    os.makedirs(os.path.dirname(path), exist_ok=True)
+    with open(path, "wb") as file:
+        file.write(data)
+    return path
+
+
+def read(path):
+    with open(path, "rb") as file:
+        return file.read()
+
+
+def digest(data, algorithm="sha256"):
+    return hashlib.new(algorithm, data).hexdigest()
+
+
+def line(code, place, detail="-"):
+    return "%s\t%s\t%s\n" % (code, place, detail)
+
+
+def put_inventory(folder, inventory, algorithm="sha256"):
+    """Writes an object's declaration, inventory and sidecar."""
+    write(os.path.join(folder, "0=ocfl_object_1.1"), b"ocfl_object_1.1\n")
+    write(os.path.join(folder, "inventory.json"), inventory)
+    sidecar = digest(inventory, algorithm) + " inventory.json\n"
+    write(os.path.join(folder, "inventory.json." + algorithm), sidecar.encode())
+
+
+def make_object(folder, files, listed=None, algorithm="sha256"):
+    """An object with these files (bytes by path), whose inventory lists them, or what `listed`."""
+    manifest = {}
+    for path, data in files.items():
+        write(os.path.join(folder, path), data)
+    for path, data in (files if listed is None else listed).items():
+        manifest.setdefault(digest(data, algorithm), []).append(path)
+    inventory = json.dumps({"digestAlgorithm": algorithm, "manifest": manifest}).encode()
+    put_inventory(folder, inventory, algorithm)
+    return folder
+
+
+def make_root(folder, objects):
+    """A storage root with these objects: files by the place of the object."""
+    write(os.path.join(folder, "0=ocfl_1.1"), b"ocfl_1.1\n")
+    for place, files in objects.items():
+        make_object(os.path.join(folder, place), files)
+    return folder
+
+
+def sound(objects):
+    """The lines of the audit of a root with these objects, all as listed."""
+    lines = {(): line("ok", ".")}
+    for place, files in objects.items():
+        lines[tuple(place.split("/"))] = line("ok", place)
+        for path, data in files.items():
+            whole = "%s/%s" % (place, path)
+            lines[tuple(whole.split("/"))] = line("ok", whole, len(data))
+    # a beginning comes before what extends it, and names go by their bytes
+    order = sorted(lines, key=lambda names: [name.encode() for name in names])
+    return [lines[names] for names in order]
+
+
+def snapshot(root):
+    """All that lies below a folder: names, kinds, sizes, times and bytes."""
+    found = {}
+    for at, folders, files, here in os.fwalk(os.fsencode(root)):
+        for name in [b".", *folders, *files]:
+            look = os.stat(name, dir_fd=here, follow_symlinks=False)
+            known = [look.st_mode, look.st_size, look.st_mtime_ns, look.st_ctime_ns]
+            if stat.S_ISREG(look.st_mode):
+                with open(os.open(name, os.O_RDONLY, dir_fd=here), "rb") as file:
+                    known.append(hashlib.sha256(file.read()).hexdigest())
+            found[at + b"/" + name] = known
+    return found
+
+
+def shown_cursor(file):
+    """What the program shows of a cursor, or its status and note where it shows none."""
+    status, out, said = ran(["show", file])
+    return out if status == 0 else (status, said)
+
+
+def nights(run, most=100):
+    """The reports of a cycle's runs, one each, until it has ended."""
+    reports = []
+    for _ in range(most):
+        status, out, said = ran(run)
+        reports.append(out)
+        if status not in (0, 1) or said.endswith(", ended\n"):
+            break
+    return reports
+
+
+class Stopped:
+    """The program, stopped by strace behind a call; it goes on when the block is left.
+
+    `ended` is then what `ran` gives, or says that it never stopped there.
+    """
+
+    def __init__(self, rules, call, words, when=1, limit=LIMIT):
+        self.log = tempfile.NamedTemporaryFile(prefix="ocfl-scrub-calls-")
+        stop = "inject=%s:signal=STOP:when=%d" % (call, when)
+        before = ["strace", "--quiet=all", "-o", self.log.name, *rules, "-e", stop]
+        self.limit = limit
+        self.ended = ("not stopped", "", "")
+        self.process = start(words, before) if shutil.which("strace") else None
+
+    def __enter__(self):
+        until = time.monotonic() + self.limit
+        while self.process and self.process.poll() is None and time.monotonic() < until:
+            if b"stopped by SIGSTOP" in read(self.log.name):
+                break
+            time.sleep(0.002)
+        return self
+
+    def __exit__(self, *_):
+        was_stopped = b"stopped by SIGSTOP" in read(self.log.name)
+        self.log.close()
+        if self.process is None:
+            return
+        if was_stopped:
+            os.kill(child_of(self.process.pid), signal.SIGCONT)
+        ended = end(self.process, self.limit)
+        self.ended = ended if was_stopped else ("not stopped", *ended[1:])
+
+
+def child_of(pid):
+    """The one child of a process."""
+    for name in filter(str.isdigit, os.listdir("/proc")):
+        try:
+            parent = read("/proc/%s/stat" % name).split(b") ")[-1].split()[1]
+        except (FileNotFoundError, ProcessLookupError):
+            continue
+        if int(parent) == pid:
+            return int(name)
+    raise ProcessLookupError(pid)

@@ -1,0 +1,197 @@
+#!/usr/bin/env python3
+"""Makes each call fail that the program makes of the system for a storage root, one at a time.
+
+usage: faults.py
+
+strace injects the errors. Where the opening or a read of a content file fails, its line is S08 and
+nothing else changes; elsewhere the program stops at that place, with a cursor that goes on.
+"""
+import os
+import re
+
+import common
+from common import is_so, line, note, ran, traced
+
+BLOCK = 65_536
+OBJECTS = {
+    "a": {"v1/content/one": b"abc", "v2/content/deep/two": b"", "v2/content/deep/zwei": b"z"},
+    "b": {"v1/content/blocks": bytes(range(256)) * 512 + b"end", "v1/content/whole": b"w" * BLOCK},
+    "h/c": {"v1/content/last": b"last"},
+}
+UNLISTED = "b/v1/content/unlisted"
+CALLS = {"openat", "open", "read", "pread64", "getdents64", "stat", "lstat", "newfstatat", "statx",
+         "fstat"}
+# A listing that answers ENOENT counts as ended, which is how the C library takes it.
+ERRORS = {"openat": ["EIO", "EACCES", "EMFILE", "ENOMEM", "ENOENT"],
+          "read": ["EIO", "ENOMEM", "EISDIR"],
+          "getdents64": ["EIO", "EACCES", "ENOMEM", "ENOTDIR"]}
+LOOKS = {"stat", "lstat", "newfstatat", "statx", "fstat"}
+
+
+class Audit:
+    """The root, its files, and the audit that is expected of it."""
+
+    def __init__(self, folder):
+        self.root = common.make_root(os.path.join(folder, "root"), OBJECTS)
+        common.write(os.path.join(self.root, UNLISTED), b"nobody names it")
+        self.file = os.path.join(folder, "cursor")
+        self.run = ["run", "--cursor", self.file, "--budget", "1G", self.root]
+        self.sizes = {"%s/%s" % (place, path): len(data)
+                      for place, files in OBJECTS.items() for path, data in files.items()}
+        self.items = common.sound(OBJECTS)
+        at = [item.split("\t")[1] for item in self.items].index("b/v1/content/whole")
+        self.items.insert(at, line("E023", UNLISTED))
+        self.cost = sum(self.sizes.values()) + len(self.sizes)
+
+    def fails(self, rule, path):
+        """A run from the beginning in which a call on this path fails."""
+        if os.path.exists(self.file):
+            os.remove(self.file)
+        return traced([*calls_on(path), "-e", rule], self.run)
+
+    def before(self, place):
+        """The items in front of a place."""
+        names = [] if place == "." else place.split("/")
+        return [item for item in self.items if names_of(item) < names]
+
+    def summary(self, less=0):
+        return note("cycle 1, run 1, cost %d, ended" % (self.cost - less))
+
+    def is_untouched(self, name, got):
+        is_so(name, got, (1, "".join(self.items), self.summary()))
+
+    def is_unread(self, name, got, place, given):
+        """S08 at this place alone, which costs what it gave and one."""
+        items = [line("S08", place) if place == item.split("\t")[1] else item
+                 for item in self.items]
+        is_so(name, got, (1, "".join(items), self.summary(self.sizes[place] - given)))
+
+    def is_stopped(self, name, got, place, said=None):
+        """A stop there, behind the items in front of it (an object's own files are its head's)."""
+        head, last = os.path.split(place)
+        front = head or "." if last.startswith(("0=", "inventory.json")) else place
+        said = note(said or "stopped at " + place)
+        is_so(name, got, (3, "".join(self.before(front)), said))
+        self.goes_on(name, got[1])
+
+    def goes_on(self, name, written):
+        shown = common.shown_cursor(self.file)
+        is_so(name + ": a cursor", isinstance(shown, str), True)
+        status, out, said = ran(self.run)
+        is_so(name + ": joined", written + out, "".join(self.items))
+        is_so(name + ": ended", (status in (0, 1), said.endswith(", ended\n")), (True, True))
+
+    def stops_or_is_unread(self, name, got, place):
+        """What a look that failed may end in: it is made for a listing, or for an opening."""
+        status, out, said = got
+        if status == 3:
+            at = re.fullmatch(r"ocfl-scrub: stopped at (.*)\n", said)
+            is_near = bool(at) and (near(at[1], place) and at[1] not in self.sizes)
+            is_so(name + ": where", (said, is_near), (said, True))
+            is_so(name + ": whole items", "".join(self.items).startswith(out), True)
+            self.goes_on(name, out)
+        else:
+            unread = [item.split("\t")[1] for item in out.splitlines() if item.startswith("S08")]
+            is_so(name + ": one unread file", (status, len(unread)), (1, 1))
+            is_so(name + ": where", [near(place, it) for it in unread], [True])
+            self.is_unread(name, got, unread[0], 0)
+
+
+def calls_on(path):
+    """What has strace see the calls on a path alone; directories are opened with a slash behind."""
+    return ["-P", path, "-P", path + "/"] if os.path.isdir(path) else ["-P", path]
+
+
+def names_of(item):
+    place = item.split("\t")[1]
+    return [] if place == "." else place.split("/")
+
+
+def near(one, other):
+    """Whether one of two places is the other, or lies on the way to it."""
+    return "." in (one, other) or (one + "/").startswith(other + "/") or (
+        other + "/").startswith(one + "/")
+
+
+def places_of(root):
+    """All files and directories of the root."""
+    found = ["."]
+    for at, folders, files in os.walk(root):
+        found += [os.path.relpath(os.path.join(at, name), root) for name in folders + files]
+    return sorted(found)
+
+
+def calls_of(audit, path, log):
+    """How often each call is made on a path."""
+    if os.path.exists(audit.file):
+        os.remove(audit.file)
+    traced(calls_on(path), audit.run, log)
+    counts = {}
+    for text in common.read(log).decode(errors="replace").splitlines():
+        call = text.split("(")[0]
+        if call in CALLS:
+            counts[call] = counts.get(call, 0) + 1
+    return counts
+
+
+def error_at(audit, place, call, error, when):
+    """One fault, and what has to come of it."""
+    path = audit.root if place == "." else os.path.join(audit.root, place)
+    name = "%s of %s %s on %s" % (error, call, when, place)
+    got = audit.fails("inject=%s:error=%s:when=%s" % (call, error, when), path)
+    if call in LOOKS:
+        audit.stops_or_is_unread(name, got, place)
+    elif error == "ENOMEM" and call != "read":
+        audit.is_stopped(name, got, place, "out of memory")
+    elif place in audit.sizes:
+        given = (int(when.rstrip("+")) - 1) * BLOCK if call == "read" else 0
+        audit.is_unread(name, got, place, min(given, audit.sizes[place]))
+    else:
+        audit.is_stopped(name, got, place)
+
+
+def each_call(audit, folder):
+    """Each call on each place fails once with EIO, and openings and reads with other errors."""
+    tried = interruptions = 0
+    for place in places_of(audit.root):
+        path = audit.root if place == "." else os.path.join(audit.root, place)
+        counts = calls_of(audit, path, os.path.join(folder, "log"))
+        for call, count in sorted(counts.items()):
+            errors = ERRORS.get(call, ["EIO"])
+            for number in range(1, count + 1):
+                for error in errors:
+                    error_at(audit, place, call, error, str(number))
+                    tried += 1
+                interruptions += interrupted(audit, place, path, call, number)
+    print("faults.py: %d errors of calls, %d interruptions" % (tried, interruptions))
+    is_so("openings and reads of all files are among them", tried > 300, True)
+
+
+def interrupted(audit, place, path, call, number):
+    """Interrupted once, and 900 times in a row, a call is made again; gives how many it tried."""
+    whens = [str(number)] + ["1..900"] * (number == 1)
+    for when in whens:
+        name = "EINTR of %s %s on %s" % (call, when, place)
+        audit.is_untouched(name, audit.fails("inject=%s:error=EINTR:when=%s" % (call, when), path))
+    return len(whens)
+
+
+def always_interrupted(audit):
+    """A read that is interrupted for ever is given up."""
+    for place in ["a/v1/content/one", "b/v1/content/blocks", "a/inventory.json", "0=ocfl_1.1"]:
+        error_at(audit, place, "read", "EINTR", "1+")
+    error_at(audit, "b/v1/content/blocks", "read", "EINTR", "2+")
+    for place in [".", "a", "a/v2/content/deep"]:
+        error_at(audit, place, "getdents64", "EINTR", "1+")
+
+
+def tell(folder):
+    audit = Audit(folder)
+    before = common.snapshot(audit.root)
+    audit.is_untouched("without a fault", ran(audit.run))
+    each_call(audit, folder)
+    always_interrupted(audit)
+    is_so("nothing was written below the root", common.snapshot(audit.root), before)
+
+
+common.trial(tell)

@@ -1,0 +1,270 @@
+#!/usr/bin/env python3
+"""Tries the program where standard output, standard error or the cursor's file fail.
+
+usage: outputs.py
+
+After each failure whole items were written, the cursor's file is whole, and going on writes what
+is left of the audit.
+"""
+import os
+import resource
+import signal
+import subprocess
+
+import common
+from common import NEW, end, is_so, note, ran, read, shown_cursor, start, traced, write
+
+FILES = {"v1/content/a": b"abc", "v1/content/b": b"", "v1/content/c": b"abc"}
+ITEMS = common.sound({"o": FILES})
+SUMMARY = "cycle 1, run 1, cost 9, ended"
+STOPPED = NEW.replace("runs 0", "runs 1")
+FAILED = note("output failed")
+
+
+class Case:
+    """A root, and a cursor's file in a folder of its own."""
+
+    def __init__(self, folder, name):
+        self.folder = os.path.join(folder, name)
+        os.mkdir(self.folder)
+        self.root = os.path.join(folder, "root")
+        self.file = os.path.join(self.folder, "cursor")
+        self.out = os.path.join(self.folder, "out")
+        self.run = ["run", "--cursor", self.file, "--budget", "9", self.root]
+
+    def goes_on(self, name, written):
+        """The next run writes what is left, and nothing lies beside the cursor's file."""
+        status, out, said = ran(self.run)
+        is_so(name + ": joined, it is the audit", (status, written + out), (0, "".join(ITEMS)))
+        left = [it for it in os.listdir(self.folder) if it not in ("cursor", "out")]
+        is_so(name + ": nothing is left beside the file", left, [])
+
+
+def full_output(folder):
+    case = Case(folder, "full")
+    with open("/dev/full", "wb") as full:
+        status, _, said = ran(case.run, stdout=full)
+    is_so("full device", (status, said), (3, FAILED))
+    is_so("full device: cursor", shown_cursor(case.file), STOPPED)
+    case.goes_on("full device", "")
+    for words in [["audit", case.root], ["check", case.root, "o"], ["show", case.file],
+                  ["cycle", "--budget", "1", "--runs", "9", case.root]]:
+        with open("/dev/full", "wb") as full:
+            status, _, said = ran(words, stdout=full)
+        is_so("full device: " + words[0], (status, said), (3, FAILED))
+    with open("/dev/full", "wb") as full:
+        status, _, said = ran(["--help"], stdout=full)
+    is_so("full device: help", (status, said), (3, FAILED))
+
+
+def closed_pipe(folder):
+    case = Case(folder, "pipe")
+    reading, writing = os.pipe()
+    os.close(reading)
+    process = start(case.run, stdout=writing)
+    os.close(writing)
+    is_so("closed pipe", end(process), (3, "", FAILED))
+    is_so("closed pipe: cursor", shown_cursor(case.file), STOPPED)
+    case.goes_on("closed pipe", "")
+
+
+def head(folder):
+    """`| head -n 1`: the report is longer than a pipe holds."""
+    files = {"v1/content/%0200d" % number: b"" for number in range(1000)}
+    root = common.make_root(os.path.join(folder, "long"), {"o": files})
+    words = "status=0; \"$0\" audit \"$1\" || status=$?; echo status $status >&2"
+    shell = ["sh", "-c", "{ %s; } | head -n 1" % words, common.PROGRAM, root]
+    done = subprocess.run(shell, capture_output=True, timeout=60)
+    said = FAILED + "status 3\n"
+    is_so("a head of the report", (done.stdout.decode(), done.stderr.decode()), (ITEMS[0], said))
+
+
+def failing_write(folder):
+    """A write fails at each line: the items before it went out, and the run goes on behind them."""
+    for error in ["ENOSPC", "EPIPE", "EIO"]:
+        for number in range(len(ITEMS)):
+            name = "%s at line %d" % (error, number + 1)
+            case = Case(folder, name)
+            write(case.out, b"")
+            with open(case.out, "ab") as out:
+                rule = "inject=write:error=%s:when=%d+" % (error, number + 1)
+                how = {"log": "/dev/null", "stdout": out}
+                status, _, said = traced(["-P", case.out, "-e", rule], case.run, **how)
+            is_so(name, (status, said), (3, FAILED))
+            written = read(case.out).decode()
+            is_so(name + ": whole items", written, "".join(ITEMS[:number]))
+            case.goes_on(name, written)
+
+
+def interrupted_write(folder):
+    for when, name in [("2", "interrupted once"), ("2..900", "interrupted 899 times")]:
+        case = Case(folder, name)
+        write(case.out, b"")
+        with open(case.out, "ab") as out:
+            rules = ["-P", case.out, "-e", "inject=write:error=EINTR:when=" + when]
+            status, _, said = traced(rules, case.run, stdout=out)
+        is_so(name, (status, said), (0, note(SUMMARY)))
+        is_so(name + ": all is there", read(case.out).decode(), "".join(ITEMS))
+    case = Case(folder, "always interrupted")
+    write(case.out, b"")
+    with open(case.out, "ab") as out:
+        rules = ["-P", case.out, "-e", "inject=write:error=EINTR:when=2+"]
+        status, _, said = traced(rules, case.run, stdout=out)
+    is_so("always interrupted", (status, said), (3, FAILED))
+    case.goes_on("always interrupted", read(case.out).decode())
+
+
+def closed(numbers):
+    """What closes these descriptors in the program before it begins."""
+    return lambda: [os.close(number) for number in numbers]
+
+
+def closed_streams(folder):
+    case = Case(folder, "no output")
+    status, _, said = ran(case.run, preexec_fn=closed([1]))
+    is_so("closed output", (status, said), (3, FAILED))
+    is_so("closed output: cursor", shown_cursor(case.file), STOPPED)
+    case.goes_on("closed output", "")
+    case = Case(folder, "no error")
+    is_so("closed error", ran(case.run, preexec_fn=closed([2])), (0, "".join(ITEMS), ""))
+    whole = shown_cursor(case.file)
+    is_so("closed error: cursor", whole, "cycle 1\nruns 1\nspent 9\nfiles 3\nended\n")
+    case = Case(folder, "nothing open")
+    status, _, _ = ran(case.run, preexec_fn=closed([0, 1, 2]))
+    is_so("all closed", (status, shown_cursor(case.file)), (3, STOPPED))
+    case.goes_on("all closed", "")
+
+
+def unsaid(folder):
+    """Statuses where standard error is a full device, or closed."""
+    case = Case(folder, "unsaid")
+    bad = write(os.path.join(folder, "bad"), b"no cursor")
+    wrong = os.path.join(folder, "wrong")
+    common.make_root(wrong, {"o": {}})
+    write(os.path.join(wrong, "o/v1/content/x"), b"")
+    for status, words in [
+        (0, case.run),
+        (1, ["audit", wrong]),
+        (1, ["cycle", "--budget", "1", "--runs", "1", wrong]),
+        (2, ["audit"]),
+        (2, ["check", case.root, "o//a"]),
+        (3, ["audit", os.path.join(folder, "no-root")]),
+        (4, ["show", bad]),
+    ]:
+        with open("/dev/full", "wb") as full:
+            got = ran(words, stderr=full)[0]
+        is_so("status %d with a full standard error" % status, got, status)
+        got = ran(words, preexec_fn=closed([2]))[0]
+        is_so("status %d with a closed standard error" % status, got, status)
+
+
+def full_file(folder):
+    """The cursor's file lies on a device that has room for one such file, and not for two."""
+    case = Case(folder, "small")
+    mounted = ["mount", "-t", "tmpfs", "-o", "size=4k", "tmpfs", case.folder]
+    if os.geteuid() != 0 or subprocess.run(mounted, capture_output=True).returncode != 0:
+        print("outputs.py: no device can be mounted here; the limit on a file's size stands for it")
+        return
+    try:
+        case.run[4] = "1"
+        write(case.file, b"")
+        os.remove(case.file)
+        is_so("first file on a small device", ran(case.run)[0], 0)
+        before = read(case.file)
+        got = ran(case.run)
+        is_so("full device for the file", got, (3, ITEMS[3], note("cursor file failed")))
+        is_so("full device for the file: it is whole", read(case.file), before)
+        is_so("full device for the file: nothing beside it", os.listdir(case.folder), ["cursor"])
+    finally:
+        subprocess.run(["umount", case.folder], check=True)
+
+
+def no_size():
+    signal.signal(signal.SIGXFSZ, signal.SIG_IGN)
+    resource.setrlimit(resource.RLIMIT_FSIZE, (20, 20))
+
+
+def limited_file(folder):
+    case = Case(folder, "limited")
+    case.run[4] = "1"
+    ran(case.run)
+    before = read(case.file)
+    got = ran(case.run, preexec_fn=no_size)
+    is_so("file that may not grow", got, (3, ITEMS[3], note("cursor file failed")))
+    is_so("file that may not grow: it is whole", read(case.file), before)
+    is_so("file that may not grow: nothing beside it", os.listdir(case.folder), ["cursor"])
+
+
+def failing_file(folder):
+    """Each call that stores the cursor fails once."""
+    for call, error in [
+        ("openat", "ENOSPC"), ("openat", "EACCES"), ("openat", "EMFILE"), ("openat", "EROFS"),
+        ("write", "ENOSPC"), ("write", "EIO"), ("write", "EDQUOT"), ("fsync", "EIO"),
+        ("rename,renameat,renameat2", "EIO"), ("rename,renameat,renameat2", "EXDEV"),
+    ]:
+        name = "%s of %s" % (error, call.split(",")[0])
+        case = Case(folder, name)
+        case.run[4] = "1"
+        ran(case.run)
+        before = read(case.file)
+        rules = ["-P", case.file + ".new", "-e", "inject=%s:error=%s" % (call, error)]
+        got = traced(rules, case.run)
+        is_so(name, got, (3, ITEMS[3], note("cursor file failed")))
+        is_so(name + ": the file is whole", read(case.file), before)
+        case.run[4] = "9"
+        status, out, _ = ran(case.run)
+        is_so(name + ": goes on", (status, out), (0, "".join(ITEMS[3:])))
+        is_so(name + ": nothing beside it", os.listdir(case.folder), ["cursor"])
+
+
+def unread_file(folder):
+    """The cursor's file is there and cannot be read: no call of the store is made."""
+    for call, error in [("openat", "EACCES"), ("openat", "EIO"), ("read", "EIO")]:
+        name = "%s of the file's %s" % (error, call)
+        case = Case(folder, name)
+        ran(case.run)
+        before = read(case.file)
+        rules = ["-P", case.file, "-e", "inject=%s:error=%s" % (call, error)]
+        got = traced(rules, case.run)
+        is_so(name, got, (3, "", note("cursor file failed")))
+        is_so(name + ": it is whole", read(case.file), before)
+
+
+def vanishing_file(folder):
+    """The cursor's file goes away while the run reads the root, or its folder does."""
+    case = Case(folder, "vanishing")
+    case.run[4] = "1"
+    ran(case.run)
+    os.remove(case.file)
+    got = ran(case.run)
+    is_so("file that is gone begins a cycle", got[:2], (0, "".join(ITEMS[:3])))
+    content = os.path.join(case.root, "o/v1/content/")
+    with common.Stopped(["-P", content + "b"], "openat", case.run) as stopped:
+        os.remove(case.file)
+    is_so("file that vanishes", stopped.ended[:2], (0, ITEMS[3]))
+    shown = "cycle 1\nruns 2\nspent 5\nfiles 2\nafter o/v1/content/b\n"
+    is_so("file that vanishes: it is stored", shown_cursor(case.file), shown)
+    with common.Stopped(["-P", content + "c"], "openat", case.run) as stopped:
+        os.rename(case.folder, case.folder + "-gone")
+    is_so("folder that vanishes", stopped.ended, (3, ITEMS[4], note("cursor file failed")))
+
+
+def tell(folder):
+    root = common.make_root(os.path.join(folder, "root"), {"o": FILES})
+    before = common.snapshot(root)
+    full_output(folder)
+    closed_pipe(folder)
+    head(folder)
+    failing_write(folder)
+    interrupted_write(folder)
+    closed_streams(folder)
+    unsaid(folder)
+    full_file(folder)
+    limited_file(folder)
+    failing_file(folder)
+    unread_file(folder)
+    vanishing_file(folder)
+    is_so("nothing was written below the root", common.snapshot(root), before)
+
+
+common.trial(tell)

@@ -16,7 +16,8 @@ import sys
 import tempfile
 
 HERE = os.path.dirname(os.path.abspath(__file__))
-PROGRAM = os.path.join(HERE, "..", "crates", "ocfl_scrub_cli", "out", "ocfl_scrub_cli")
+BUILT = os.path.join(HERE, "..", "crates", "ocfl_scrub_cli", "out", "ocfl_scrub_cli")
+PROGRAM = os.path.abspath(os.environ.get("OCFL_SCRUB", BUILT))
 
 
 def write(path, data):
@@ -41,15 +42,28 @@ def make_object(folder, directories, files, listed):
     write(os.path.join(folder, "inventory.json.sha512"), sidecar.encode())
 
 
+def peak_of(process):
+    """The peak of a process's own memory in MiB so far; `ru_maxrss` counts that of this script too."""
+    try:
+        with open("/proc/%d/status" % process.pid) as status:
+            found = [line.split()[1] for line in status if line.startswith("VmHWM:")]
+    except OSError:
+        found = []
+    return int(found[0]) / 1024 if found else 0.0
+
+
 def cpu_of(command):
     """The CPU seconds of a command, the peak of its memory in MiB, and the lines that it wrote."""
     before = resource.getrusage(resource.RUSAGE_CHILDREN)
     process = subprocess.Popen(command, shell=True, stdout=subprocess.PIPE)
-    lines = sum(chunk.count(b"\n") for chunk in iter(lambda: process.stdout.read(1 << 20), b""))
-    _, _, usage = os.wait4(process.pid, 0)
+    peak, lines = 0.0, 0
+    for chunk in iter(lambda: process.stdout.read1(1 << 16), b""):
+        lines += chunk.count(b"\n")
+        peak = max(peak, peak_of(process))
+    process.wait()
     after = resource.getrusage(resource.RUSAGE_CHILDREN)
     seconds = after.ru_utime + after.ru_stime - before.ru_utime - before.ru_stime
-    return seconds, usage.ru_maxrss / 1024, lines
+    return seconds, peak, lines
 
 
 def measure(title, files, make):
@@ -60,11 +74,12 @@ def measure(title, files, make):
         find = "find %s -type f -print0 | xargs -0 sha512sum" % root
         cpu_of(find)
         other, _, _ = cpu_of(find)
+        looked, _, _ = cpu_of("find %s" % root)
         own, peak, lines = cpu_of("exec %s audit %s" % (PROGRAM, root))
     finally:
         shutil.rmtree(root)
-    figures = (title, lines, own * 1e6 / files, other * 1e6 / files, own / other, peak)
-    print("| %s | %d | %.1f | %.1f | %.2f | %.0f |" % figures, flush=True)
+    figures = (title, lines, own * 1e6 / files, own / other, own / looked, peak)
+    print("| %s | %d | %.1f | %.2f | %.2f | %.0f |" % figures, flush=True)
 
 
 def main():
@@ -77,7 +92,7 @@ def main():
             os.makedirs(folder)
             make_object(folder, 1, 1, 1)
 
-    print("| folder | lines | microseconds a file | by `sha512sum` | ratio | peak, MiB |")
+    print("| folder | lines | microseconds a file | to `sha512sum` | to `find` | peak, MiB |")
     print("|---|---|---|---|---|---|")
     measure("one directory of %d files, none listed" % many, many,
             lambda root: make_object(os.path.join(root, "o"), 1, many, 0))

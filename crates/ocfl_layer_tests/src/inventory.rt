@@ -28,7 +28,8 @@ fn inventory(alloc: Global, manifest: &str, further: &str) -> Result<String, Fai
     )?)
 }
 
-/// The lines of an inventory's bytes, each as its code, a blank, its detail and a line feed, and whether there is a table.
+/// The lines of an inventory's bytes, each as its code, a blank, its detail and a line feed, and
+/// whether there is a table.
 fn lines(alloc: Global, bytes: &[u8]) -> Result<(String, bool), Fail> {
     let (lines, table) = Table::read(alloc, bytes)?;
     let mut text = String::new(alloc);
@@ -289,7 +290,8 @@ fn place_of(alloc: Global, names: &[&str]) -> Result<Place, Fail> {
     Ok(place)
 }
 
-/// The digests that a table names for a path, each as `manifest` or `fixity`, the algorithm and the digest.
+/// The digests that a table names for a path, each as `manifest` or `fixity`, the algorithm and the
+/// digest.
 fn named(alloc: Global, table: &Table, place: &Place) -> Result<String, Fail> {
     let mut text = String::new(alloc);
     for named in &table.named(alloc, place)? {

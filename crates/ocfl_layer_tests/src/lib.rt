@@ -1,4 +1,5 @@
-//! Tests of what the audit stands on, crate by crate, by their public calls: no code.
+//! Tests of lines, digests, inventories, cursors and the command line by their public calls: no
+//! code.
 #![tactic(auto)]
 
 #[cfg(test)]
@@ -11,7 +12,3 @@ mod inventory;
 mod line;
 #[cfg(test)]
 mod report;
-#[cfg(test)]
-mod tree;
-#[cfg(test)]
-mod walk;

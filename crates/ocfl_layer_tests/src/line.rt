@@ -102,6 +102,36 @@ fn reads_the_others(rt: HostRuntime) -> Result<(), Fail> {
 }
 
 #[test]
+fn reads_a_flag(rt: HostRuntime) -> Result<(), Fail> {
+    let alloc = rt.alloc();
+    for line in [
+        "audit --quiet R",
+        "audit R --quiet",
+        "run --quiet --cursor F --budget 1 R",
+        "cycle --budget 1 --quiet --runs 1 R",
+    ] {
+        assert!(rt; read(alloc, line)?.quiet, "{line}");
+    }
+    for line in [
+        "audit R",
+        "audit quiet",
+        "run --cursor quiet --budget 1 true",
+        "check R p",
+        "show F",
+    ] {
+        assert!(rt; !read(alloc, line)?.quiet, "{line}");
+    }
+    for line in ["check --quiet R p", "show --quiet F", "--quiet audit R"] {
+        assert_eq!(rt;
+            fault(alloc, line),
+            Some(ErrorKind::UnknownArgument),
+            "{line}"
+        );
+    }
+    Ok(())
+}
+
+#[test]
 fn reads_budgets(rt: HostRuntime) -> Result<(), Fail> {
     let alloc = rt.alloc();
     let budgets = [

@@ -13,7 +13,8 @@ enum Answer {
     Fails(ErrorKind),
 }
 
-/// A writer that keeps what it takes. It answers each call by the next of its answers, and by the last from then on.
+/// A writer that keeps what it takes. It answers each call by the next of its answers, and by the
+/// last from then on.
 #[derive(Drop)]
 struct Scripted<'a> {
     answers: &'a [Answer],

@@ -42,8 +42,8 @@ impl Faults {
     }
 }
 
-/// A folder that has these names, each ended by a NUL; `gone` is not there when it is looked at, and
-/// names that end in `dir` are directories.
+/// A folder that has these names, each ended by a NUL; `gone` is not there when it is looked at,
+/// and names that end in `dir` are directories.
 #[derive(Clone, Drop)]
 struct Fake {
     alloc: Global,

@@ -75,7 +75,8 @@ fn what_is_not_hashed_costs_nothing(rt: HostRuntime) -> Result<(), Fail> {
     Ok(())
 }
 
-/// A storage root with the content files `a` and `c` of the bytes `abc`, and the empty `b` between them.
+/// A storage root with the content files `a` and `c` of the bytes `abc`, and the empty `b` between
+/// them.
 fn three_files(alloc: Global) -> Result<MemTree, Fail> {
     let mut store = base(alloc)?;
     let manifest = format!(in alloc;

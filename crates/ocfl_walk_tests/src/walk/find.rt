@@ -60,7 +60,8 @@ fn root(alloc: Global) -> Result<MemTree, Fail> {
     Ok(store)
 }
 
-/// The lines of the item at a place: `none` where there is none, `hashed` where its file has to be read.
+/// The lines of the item at a place: `none` where there is none, `hashed` where its file has to be
+/// read.
 fn text_at(store: &mut MemTree, alloc: Global, text: &str) -> Result<String, Fail> {
     let Some(pending) = item(alloc, store, text)? else {
         return Ok(String::from_str(alloc, "none")?);

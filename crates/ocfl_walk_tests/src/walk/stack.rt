@@ -38,7 +38,8 @@ fn step(alloc: Global, store: &mut MemTree, walk: &mut Walk) -> Result<String, F
     }
 }
 
-/// A walk entered at a place gives these items, having listed these directories when it gave each of them.
+/// A walk entered at a place gives these items, having listed these directories when it gave each
+/// of them.
 fn steps(
     rt: &(impl Abort + AllocGlobal),
     store: &mut MemTree,
@@ -220,7 +221,8 @@ fn objects_that_share_a_prefix(rt: HostRuntime) -> Result<(), Fail> {
 
 // ---- listed files that are not there
 
-/// A storage root with an object that lists files which are not there, before, between and behind its entries.
+/// A storage root with an object that lists files which are not there, before, between and behind
+/// its entries.
 fn root_with_missing_files(alloc: Global) -> Result<MemTree, Fail> {
     let mut store = base(alloc)?;
     let manifest = format!(in alloc;

@@ -175,8 +175,11 @@ def installing(folder):
     kit = ran(["rt", "version"])[1].strip() if shutil.which("rt") else "unknown"
     build = "ocfl-scrub 0.1.0\ncommit %s\nkit %s\nsha256 %s\n" % (commit, kit, digest.hexdigest())
     is_so("BUILD", read(prefix + "/share/ocfl-scrub/BUILD"), build)
-    is_so("the installed program", ran([prefix + "/bin/ocfl-scrub", "--version"]),
+    is_so("the installed program", ran([prefix + "/bin/ocfl-scrub", "--version"]), (0, build, ""))
+    os.rename(prefix + "/share/ocfl-scrub/BUILD", prefix + "/BUILD")
+    is_so("the same without BUILD", ran([prefix + "/bin/ocfl-scrub", "--version"]),
           (0, "ocfl-scrub 0.1.0\n", ""))
+    os.rename(prefix + "/BUILD", prefix + "/share/ocfl-scrub/BUILD")
     page = read(prefix + "/share/man/man1/ocfl-scrub.1")
     is_so("the page's commit", ['"ocfl\\-scrub 0.1.0 (%s)"' % commit[:7] in page,
                                 "Built from commit %s by %s." % (commit, kit) in page], [True,

@@ -1,5 +1,5 @@
 -- What the words of a command line ask for.
-use Rattle.std.specs.Prelude.{◌≡◌, ℕ, ◌≤◌, List, Option, Some, IsSomeAnd, codes, option_map, string_bytes}
+use Rattle.std.specs.Prelude.{◌≡◌, ◌↔◌, ℕ, ◌≤◌, Bool, List, Option, Some, IsSomeAnd, IsTrue, codes, option_map, string_bytes}
 use Rattle.std.specs.Str.Parse.{IsNumeral, digits_value, without_leading_plus}
 use Rattle.clap.specs.Words.{Row, Text, first_of, one_of}
 use Rattle.ocfl_cursor.specs.Limits.{IsFileLimit}
@@ -38,11 +38,17 @@ IsDeed name rows (Cycle limits runs) = (name ≡ codes "cycle") × HasLimits row
 IsDeed name rows (Check path) = (name ≡ codes "check") × (first_of (codes "path") rows ≡ Some (string_bytes path))
 IsDeed name rows Show = name ≡ codes "show"
 
--- what they ask for: a deed, and the folder and the file that it is done with, where they are given
+-- the flag is given, for which `clap` has this text
+abbrev pub IsGiven : Text → List Row → Type 0
+IsGiven id rows = first_of id rows ≡ Some (codes "true")
+
+-- what they ask for: a deed, the folder and the file that it is done with, where they are given, and
+-- whether quietly
 pub record IsAsked (name : Text) (rows : List Row) (a : Asked) : Type 0 where
   pub deed : IsDeed name rows a.deed
   pub root : option_map string_bytes a.root ≡ first_of (codes "root") rows
   pub file : option_map string_bytes a.file ≡ first_of (codes "file") rows
+  pub quiet : IsTrue a.quiet ↔ IsGiven (codes "quiet") rows
 
 -- the same of the subcommand that `clap` finds
 abbrev pub Asks : Option (Text × List Row) → Asked → Type 0

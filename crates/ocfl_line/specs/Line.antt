@@ -2,6 +2,7 @@
 use Rattle.std.specs.Prelude.{ℕ, [], ◌∷◌, Some, true, false, codes, ◌≡◌}
 use Rattle.clap.specs.Words.{App, Rule, app_of, new_app, new_rule, with_rule, with_subcommand}
 use Rattle.clap.specs.Simple.{on_top}
+use Rattle.clap.specs.declared.builder.action.ArgAction.TheVariants.{SetTrue}
 use Rattle.clap.specs.declared.builder.command.Command.{Command}
 use Rattle.clap.specs.declared.builder.command.Command.TheViews.{out-Command}
 use Rattle.clap.specs.declared.builder.value_parser.ValueParser.TheVariants as vp
@@ -50,16 +51,22 @@ runs_rule = record (new_rule (codes "runs")) {
   required = true;
 }
 
+-- a flag
+abbrev pub quiet_rule : Rule
+quiet_rule = record (new_rule (codes "quiet")) { long = Some (codes "quiet"); action = Some SetTrue }
+
 -- ---- the subcommands
 
 abbrev pub audit_app : App
-audit_app = with_rule (new_app (codes "audit")) root_rule
+audit_app = with_rule (with_rule (new_app (codes "audit")) quiet_rule) root_rule
 
 abbrev pub run_app : App
-run_app = with_rule (with_rule (with_rule (with_rule (new_app (codes "run")) cursor_rule) budget_rule) files_rule) root_rule
+run_app = with_rule (with_rule (with_rule (with_rule (with_rule
+    (new_app (codes "run")) cursor_rule) budget_rule) files_rule) quiet_rule) root_rule
 
 abbrev pub cycle_app : App
-cycle_app = with_rule (with_rule (with_rule (with_rule (new_app (codes "cycle")) budget_rule) files_rule) runs_rule) root_rule
+cycle_app = with_rule (with_rule (with_rule (with_rule (with_rule
+    (new_app (codes "cycle")) budget_rule) files_rule) runs_rule) quiet_rule) root_rule
 
 abbrev pub check_app : App
 check_app = with_rule (with_rule (new_app (codes "check")) root_rule) path_rule

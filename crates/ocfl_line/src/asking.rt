@@ -20,7 +20,8 @@ as digits or with one suffix K, M, G or T";
 /// `Usage` where they are not understood, or ask for help or the version, and with `Memory` where
 /// memory was refused.
 pub fn asked<'a, S: AsStr>(alloc: Global, words: &'a [S]) -> Result<Asked, LineStop>
-    // Where there is an answer, `clap` finds no fault in the words, and the answer is what they ask.
+    // Where there is an answer, `clap` finds no fault in the words, and the answer is what they
+    // ask.
     ensures asked { IfOk result (Asks (subcommand_of line_app (map S.text words.entry.now))) }
     ensures faultless { IfOk result (λ _. fault_of line_app (map S.text words.entry.now) ≡ []) }
     // Of usage there is a fault: one that `clap` finds, or the words ask for nothing.

@@ -1,8 +1,11 @@
 ghost use Rattle.std.specs.Prelude.{◌≡◌, IfOk, false};
 ghost use Rattle.clap.specs.Words.{rule_of};
-ghost use Rattle.ocfl_line.specs.Line.{IsCommand, audit_app, bare_app, budget_rule, check_app, cursor_rule, cycle_app, file_rule, files_rule, line_app, path_rule, root_rule, run_app, runs_rule, show_app};
+ghost use Rattle.ocfl_line.specs.Line.{IsCommand, audit_app, bare_app, budget_rule, check_app};
+ghost use Rattle.ocfl_line.specs.Line.{cursor_rule, cycle_app, file_rule, files_rule, line_app};
+ghost use Rattle.ocfl_line.specs.Line.{path_rule, quiet_rule, root_rule, run_app, runs_rule};
+ghost use Rattle.ocfl_line.specs.Line.{show_app};
 
-use clap::{Arg, Command, value_parser};
+use clap::{Arg, ArgAction, Command, value_parser};
 use std::alloc::{AllocError, Global};
 
 /// The version of the program.
@@ -100,11 +103,22 @@ fn runs_arg<'a>(alloc: Global) -> Arg<'a>
         .required(true)
 }
 
+fn quiet_arg<'a>(alloc: Global) -> Arg<'a>
+    ensures rule { rule_of result ≡ quiet_rule }
+    ensures local { result.global ≡ false }
+{
+    Arg::new(alloc, "quiet")
+        .long("quiet")
+        .help("Shows no progress; it is shown where standard error is a terminal")
+        .action(ArgAction::SetTrue)
+}
+
 fn audit_command<'a>(alloc: Global) -> Result<Command<'a>, AllocError>
     ensures { IfOk result (IsCommand audit_app) }
 {
     Command::new(alloc, "audit")
         .about("Writes the report lines of the whole storage root")
+        .arg(quiet_arg(alloc))?
         .arg(root_arg(alloc))
 }
 
@@ -116,6 +130,7 @@ fn run_command<'a>(alloc: Global) -> Result<Command<'a>, AllocError>
         .arg(cursor_arg(alloc))?
         .arg(budget_arg(alloc))?
         .arg(files_arg(alloc))?
+        .arg(quiet_arg(alloc))?
         .arg(root_arg(alloc))
 }
 
@@ -127,6 +142,7 @@ fn cycle_command<'a>(alloc: Global) -> Result<Command<'a>, AllocError>
         .arg(budget_arg(alloc))?
         .arg(files_arg(alloc))?
         .arg(runs_arg(alloc))?
+        .arg(quiet_arg(alloc))?
         .arg(root_arg(alloc))
 }
 

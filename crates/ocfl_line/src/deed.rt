@@ -26,6 +26,8 @@ pub struct Asked {
     pub root: Option<String>,
     /// The file of the cursor, of `Run` and of `Show`.
     pub file: Option<String>,
+    /// Whether no progress is to be shown.
+    pub quiet: bool,
 }
 
 /// Why a command line asks for nothing.

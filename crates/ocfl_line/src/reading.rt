@@ -1,7 +1,8 @@
-ghost use Rattle.std.specs.Prelude.{◌≡◌, ℕ, ◌<◌, ◌^◌, IfOk, IfSome, IsNone, codes, option_map, string_bytes};
+ghost use Rattle.std.specs.Prelude.{◌≡◌, ◌↔◌, ℕ, ◌<◌, ◌^◌, IfOk, IfSome, IsNone, IsTrue, codes};
+ghost use Rattle.std.specs.Prelude.{option_map, string_bytes};
 ghost use Rattle.clap.specs.Words.{found_of, first_of, rows_of, subcommand_rows_of};
 ghost use Rattle.ocfl_cursor.specs.declared.limits.Limits.{Limits as LimitsOf};
-ghost use Rattle.ocfl_line.specs.Asks.{Asks, HasLimits, HasNumber, HasRuns, IsDeed};
+ghost use Rattle.ocfl_line.specs.Asks.{Asks, HasLimits, HasNumber, HasRuns, IsDeed, IsGiven};
 ghost use Rattle.ocfl_line.specs.declared.deed.Deed.{Deed as DeedOf};
 ghost use Rattle.ocfl_line.specs.declared.deed.Asked.{Asked as AskedOf};
 
@@ -29,6 +30,16 @@ fn copied(alloc: Global, inner: &ArgMatches<'_>, id: &str) -> Result<Option<Stri
     match text_of(inner, id) {
         Some(text) => Ok(Some(String::from_str(alloc, text)?)),
         None => Ok(None),
+    }
+}
+
+/// Whether a flag is given.
+fn is_given(inner: &ArgMatches<'_>, id: &str) -> bool
+    ensures { IsTrue result ↔ IsGiven id.now (rows_of (found_of inner.now)) }
+{
+    match text_of(inner, id) {
+        Some(text) => text == "true",
+        None => false,
     }
 }
 
@@ -125,5 +136,11 @@ pub(crate) fn asked_by(alloc: Global, matches: &ArgMatches<'_>) -> Result<Option
     };
     let root = copied(alloc, inner, "root")?;
     let file = copied(alloc, inner, "file")?;
-    Ok(Some(Asked { deed, root, file }))
+    let quiet = is_given(inner, "quiet");
+    Ok(Some(Asked {
+        deed,
+        root,
+        file,
+        quiet,
+    }))
 }

@@ -1,9 +1,12 @@
 //! The program `ocfl-scrub`: its files, standard error and exit status.
 #![tactic(auto)]
 
+mod progress;
+
+use clap::error::ErrorKind;
 use ocfl_digest::Block;
-use ocfl_scrub::{Asked, LineStop, Note, Performed, asked, perform};
-use ocfl_tree::FsTree;
+use ocfl_scrub::{Asked, Deed, LineStop, Note, Performed, asked, perform};
+use progress::{Clearing, Watched, clear, is_terminal};
 use std::fs::{File, OpenFile};
 use std::io::{Read, Write};
 use std::path::PathBuf;
@@ -89,11 +92,20 @@ fn file_note(error: &io::Error) -> Note {
     }
 }
 
+/// Whether progress is shown while this is done.
+fn is_shown<R: Files + AllocGlobal>(rt: &R, asked: &Asked) -> bool {
+    let is_long = matches!(&asked.deed, Deed::Audit | Deed::Run(_) | Deed::Cycle(_, _));
+    is_long && !asked.quiet && is_terminal(rt, "/dev/stderr")
+}
+
 /// Does what is asked for over a folder, and gives the status with what is to be said.
-fn done<R: Files + AllocGlobal + Print>(rt: &R, asked: &Asked) -> (u8, Note) {
+fn done<R>(rt: &R, asked: &Asked, is_shown: bool) -> (u8, Note)
+where
+    R: Files + AllocGlobal + Print + Eprint,
+{
     let file = asked.file.as_ref().map(|file| file.as_str());
     let root = asked.root.as_ref().map_or(".", |root| root.as_str());
-    let Ok(mut store) = FsTree::at(rt, root) else {
+    let Ok(mut store) = Watched::at(rt, root, is_shown) else {
         return (STOPPED, Note::OutOfMemory);
     };
     let Ok(mut block) = Block::new(rt.alloc()) else {
@@ -103,7 +115,11 @@ fn done<R: Files + AllocGlobal + Print>(rt: &R, asked: &Asked) -> (u8, Note) {
         Ok(reader) => reader,
         Err(error) => return (STOPPED, file_note(&error)),
     };
-    let mut out = io::writer(rt);
+    let mut out = Clearing {
+        rt,
+        is_shared: is_shown && is_terminal(rt, "/dev/stdout"),
+        out: io::writer(rt),
+    };
     let Performed {
         status,
         note,
@@ -144,7 +160,11 @@ fn answer<R: Files + AllocGlobal + Print + Eprint>(rt: &R, asked: &Asked) -> u8 
             Err(_) => return out_of_memory(rt),
         }
     }
-    let (status, note) = done(rt, asked);
+    let is_shown = is_shown(rt, asked);
+    let (status, note) = done(rt, asked, is_shown);
+    if is_shown {
+        clear(rt);
+    }
     if !matches!(note, Note::Nothing) {
         let _ = eprintln!(rt; "ocfl-scrub: {note}");
     }
@@ -172,11 +192,34 @@ fn words<R: Env + AllocGlobal + Eprint>(rt: &R) -> Result<Vec<String>, u8> {
     }
 }
 
-/// Prints the help that was asked for, or says what is wrong with a command line.
-fn usage<R: Print + Eprint>(rt: &R, error: &clap::Error) -> u8 {
-    let printed = error.print(rt);
+/// What `install` noted beside the program that it installed, where there is such a file.
+fn build_notes<R: Files + AllocGlobal>(rt: &R) -> Option<String> {
+    let program = env::current_exe(rt).ok()?;
+    let prefix = folder_of(folder_of(program.to_str()?));
+    let file = format!(in rt.alloc(); "{prefix}/share/ocfl-scrub/BUILD").ok()?;
+    fs::read_to_string(rt, file.as_str()).ok()
+}
+
+/// Prints those notes without their first line, which is the version: commit, toolchain, digest.
+fn print_build<R: Files + AllocGlobal + Print>(rt: &R) -> io::Result<()> {
+    let notes = build_notes(rt);
+    match notes.as_ref().and_then(|notes| notes.split_once('\n')) {
+        Some((_, rest)) => print!(rt; "{rest}"),
+        None => Ok(()),
+    }
+}
+
+/// Prints the help or the version that was asked for, or says what is wrong with a command line.
+fn usage<R>(rt: &R, error: &clap::Error) -> u8
+where
+    R: Files + AllocGlobal + Print + Eprint,
+{
+    let mut printed = error.print(rt);
     if error.use_stderr() {
         return USAGE;
+    }
+    if printed.is_ok() && error.kind() == ErrorKind::DisplayVersion {
+        printed = print_build(rt);
     }
     if printed.is_err() {
         say(rt, "output failed");

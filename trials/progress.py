@@ -1,0 +1,120 @@
+#!/usr/bin/env python3
+"""Tries what is shown on a terminal while the program works.
+
+usage: progress.py
+
+Whatever is shown, the report is the same bytes, and where there is no terminal nothing is shown.
+"""
+import os
+import pty
+import re
+import subprocess
+
+import common
+from common import end, is_so, note, ran, start
+
+# More than the program reads from one showing to the next.
+LARGE = 300 << 20
+FILES = {"v1/content/a": b"abc", "v1/content/z": b""}
+SUMMARY = "cycle 1, run 1, cost %d, ended" % (LARGE + 1 + 4 + 1)
+
+
+def make(folder):
+    """A root with a large file between two small ones, and a folder whose name has a tab."""
+    root = os.path.join(folder, "root")
+    common.make_root(root, {})
+    large = os.path.join(root, "o/v1/content/large")
+    os.makedirs(os.path.dirname(large))
+    with open(large, "wb") as file:
+        file.truncate(LARGE)
+    with open(large, "rb") as file:
+        common.make_object(os.path.join(root, "o"), FILES, listed={})
+        listed = {**FILES, "v1/content/large": file.read()}
+    common.make_object(os.path.join(root, "o"), FILES, listed=listed)
+    return root
+
+
+class Terminal:
+    """A terminal for the program's outputs: what it was sent, and what stands on it at the end."""
+
+    def __init__(self):
+        self.ours, self.theirs = pty.openpty()
+        self.sent = b""
+
+    def ran(self, words, **outputs):
+        """The status, what came by pipes, and this terminal's text."""
+        process = start(words, **{name: self.theirs for name in outputs if outputs[name]})
+        os.close(self.theirs)
+        while True:
+            try:
+                part = os.read(self.ours, 65536)
+            except OSError:
+                break
+            if not part:
+                break
+            self.sent += part
+        os.close(self.ours)
+        return end(process)
+
+    def text(self):
+        """What stands there: a return goes to the line's beginning, and letters replace letters."""
+        lines = []
+        for sent in self.sent.decode().replace("\r\n", "\n").split("\n"):
+            stands = ""
+            for part in sent.split("\r"):
+                stands = part + stands[len(part):]
+            lines.append(stands.rstrip(" "))
+        return "\n".join(lines)
+
+
+def on_standard_error(folder, root, report):
+    cursor = os.path.join(folder, "cursor")
+    run = ["run", "--cursor", cursor, "--budget", "1G", root]
+    cycle = ["cycle", "--budget", "1G", "--runs", "9", root]
+    for words, said in [(["audit", root], ""), (run, note(SUMMARY)),
+                        (cycle, note("runs 1, cost %d, ended" % (LARGE + 6)))]:
+        terminal = Terminal()
+        status, out, _ = terminal.ran(words, stderr=True)
+        is_so(words[0] + ": the report", (status, out), (0, report))
+        shows = re.search(rb"\r\d+ files, 2\d\d MiB, at o/v1/content/large ", terminal.sent)
+        is_so(words[0] + ": progress is shown", shows is not None, True)
+        is_so(words[0] + ": what is left on the terminal", terminal.text(), said)
+        widest = max(len(part) for part in terminal.sent.decode().split("\r"))
+        is_so(words[0] + ": it fits into a line", widest <= 79, True)
+
+
+def quietly(folder, root, report):
+    terminal = Terminal()
+    is_so("quiet: the report", terminal.ran(["audit", "--quiet", root], stderr=True)[:2], (0, report))
+    is_so("quiet: nothing is shown", terminal.sent, b"")
+    terminal = Terminal()
+    place = "o/v1/content/large"
+    checked = common.line("ok", place, LARGE)
+    is_so("check: the line", terminal.ran(["check", root, place], stderr=True)[:2], (0, checked))
+    is_so("check: nothing is shown", terminal.sent, b"")
+    is_so("no terminal", ran(["audit", root]), (0, report, ""))
+    with open(os.devnull, "wb") as null:
+        is_so("no terminal, but a device", ran(["audit", root], stderr=null)[:2], (0, report))
+    process = start(["audit", root], stderr=subprocess.STDOUT)
+    is_so("one pipe for both", end(process)[:2], (0, report))
+
+
+def on_one_terminal(folder, root, report):
+    terminal = Terminal()
+    status, _, _ = terminal.ran(["audit", root], stdout=True, stderr=True)
+    is_so("both on one terminal", (status, terminal.text()), (0, report))
+    is_so("both on one terminal: progress is shown", b" MiB, at " in terminal.sent, True)
+    terminal = Terminal()
+    _, _, said = terminal.ran(["audit", root], stdout=True)
+    is_so("report on a terminal alone", (terminal.text(), said), (report, ""))
+
+
+def tell(folder):
+    root = make(folder)
+    status, report, said = ran(["audit", root])
+    is_so("without a terminal", (status, said, report.count("\n")), (0, "", 5))
+    for tells in [on_standard_error, quietly, on_one_terminal]:
+        tells(folder, root, report)
+
+
+common.trial(tell)

@@ -1,4 +1,7 @@
-ghost use Rattle.std.specs.Prelude.{◌≡◌, ◌≢◌, ◌↔◌, ◌++◌, ◌∷◌, [], ◌<◌, ◌&&◌, nat_le, suc, length, ℕ, List, Option, Some, None, map, filter, flat_map, if◌then◌else◌, true, false, ◌≤◌, ◌+◌, ◌-◌, ◌/◌, ◌^◌, All, take, replicate};
+ghost use Rattle.std.specs.Prelude.{◌≡◌, ◌≢◌, ◌↔◌, ◌++◌, ◌∷◌, [], ◌<◌, ◌&&◌, nat_le, suc, length};
+ghost use Rattle.std.specs.Prelude.{ℕ, List, Option, Some, None, map, filter, flat_map};
+ghost use Rattle.std.specs.Prelude.{if◌then◌else◌, true, false, ◌≤◌, ◌+◌, ◌-◌, ◌/◌, ◌^◌, All, take};
+ghost use Rattle.std.specs.Prelude.{replicate};
 ghost use Rattle.std.specs.Ordering.{is_lt};
 ghost use Rattle.std.specs.declared.cmp.Ordering.TheVariants.{Less};
 ghost use Rattle.ocfl_tree.specs.Ascending.{IsAmong, IsAscending, IsBeforeAll};
@@ -7,10 +10,18 @@ ghost use Rattle.ocfl_tree.specs.Place.{Place, Text, begins, place_cmp, text_cmp
 ghost use Rattle.ocfl_report.specs.Line.{Item};
 ghost use Rattle.ocfl_inventory.specs.Table.{Table, paths_of};
 ghost use Rattle.ocfl_inventory.specs.Notes.{listed};
-ghost use Rattle.ocfl_audit.specs.Audit.{IsAudit, Unread, after, audit, candidates, given_by, item_of, total_cost};
-ghost use Rattle.ocfl_audit.specs.Walk.{is_extensions, is_reached, item_at, items_of_place, items_under, names_below, step_listed, step_zone, walk, walk_after};
-ghost use Rattle.ocfl_audit.specs.Stack.{IsStack, NoPathAbove, NoPathBetween, NoneSeenAbove, NoneSeenBetween, entered_at, left_of, listed_at, lists, taken};
-ghost use Rattle.ocfl_audit.specs.Zone.{is_entered, is_in_extensions, is_listed_within, is_listed_zone, max_listed_depth, seen, skipped, zone, inside, inventory_name, object_declared, root_declared, table_at};
+ghost use Rattle.ocfl_audit.specs.Audit.{IsAudit, Unread, after, audit, candidates, given_by};
+ghost use Rattle.ocfl_audit.specs.Audit.{item_of, total_cost};
+ghost use Rattle.ocfl_audit.specs.Walk.{is_extensions, is_reached, item_at, items_of_place};
+ghost use Rattle.ocfl_audit.specs.Walk.{items_under, names_below, step_listed, step_zone, walk};
+ghost use Rattle.ocfl_audit.specs.Walk.{walk_after};
+ghost use Rattle.ocfl_audit.specs.Stack.{IsStack, NoPathAbove, NoPathBetween, NoneSeenAbove};
+ghost use Rattle.ocfl_audit.specs.Stack.{NoneSeenBetween, entered_at, left_of, listed_at, lists};
+ghost use Rattle.ocfl_audit.specs.Stack.{taken};
+ghost use Rattle.ocfl_audit.specs.Zone.{is_entered, is_in_extensions, is_listed_within};
+ghost use Rattle.ocfl_audit.specs.Zone.{is_listed_zone, max_listed_depth, seen, skipped, zone};
+ghost use Rattle.ocfl_audit.specs.Zone.{inside, inventory_name, object_declared, root_declared};
+ghost use Rattle.ocfl_audit.specs.Zone.{table_at};
 ghost use Rattle.ocfl_audit.specs.Objects.{IsObjectRoot, HasInventory};
 ghost use Rattle.ocfl_inventory.specs.Declaration.{is_declaration, is_declared, is_known};
 ghost use Rattle.ocfl_inventory.specs.declared.declaration.Level.TheVariants.{Object};
@@ -18,13 +29,17 @@ ghost use Rattle.ocfl_audit.specs.Lines.{notes, is_hashed};
 ghost use Rattle.ocfl_tree.specs.declared.store.Opening.{Opening};
 ghost use Rattle.ocfl_audit.specs.Trail.{inventories, is_meta, unread_of};
 ghost use Rattle.ocfl_audit.specs.Due.{item_places, items_at, due};
-ghost use Rattle.ocfl_audit.specs.Between.{IsBeyond, IsWithin, is_looked_into, looked_between, read_between};
-ghost use Rattle.ocfl_audit.specs.Runs.{Limits, total_files, cut_len, cut, IsCut, runs, joined, IsAtLeast, FilesFit, of_budget, sum_of, budget_cut, budget_runs};
+ghost use Rattle.ocfl_audit.specs.Between.{IsBeyond, IsWithin, is_looked_into, looked_between};
+ghost use Rattle.ocfl_audit.specs.Between.{read_between};
+ghost use Rattle.ocfl_audit.specs.Runs.{Limits, total_files, cut_len, cut, IsCut, runs, joined};
+ghost use Rattle.ocfl_audit.specs.Runs.{IsAtLeast, FilesFit, of_budget, sum_of, budget_cut};
+ghost use Rattle.ocfl_audit.specs.Runs.{budget_runs};
 
 /// The audit is the one list that its description fits.
 #[tactic(auto, using(crate::proofs::AuditLaws::audit_unique))]
 pub fn audit_is_unique()
-    ensures { (root : Tree) (unread : Unread) (xs ys : List Item) → IsAudit root unread xs → IsAudit root unread ys → xs ≡ ys }
+    ensures { (root : Tree) (unread : Unread) (xs ys : List Item) → IsAudit root unread xs
+        → IsAudit root unread ys → xs ≡ ys }
 {}
 
 /// The audit fits its description.
@@ -35,70 +50,111 @@ pub fn audit_is_there()
 /// What is above a place is an end of the audit.
 #[tactic(auto, using(crate::proofs::AfterLaws::after_is_end))]
 pub fn after_is_an_end()
-    ensures { (items : List Item) (p : Place) → IsAscending place_cmp (map (λ i. i.place) items) → (front : List Item) × (items ≡ front ++ after items (Some p)) }
+    ensures { (items : List Item) (p : Place) → IsAscending place_cmp (map (λ i. i.place) items)
+        → (front : List Item) × (items ≡ front ++ after items (Some p)) }
 {}
 
 /// The items at a place and below it: its own, and then those under each name, ascending.
 #[tactic(auto, using(crate::proofs::PublicLaws::by_name, crate::proofs::WalkLaws::item_here, crate::proofs::WalkLaws::names_ascend))]
 pub fn items_go_by_name()
-    ensures by_name { (root : Tree) (unread : Unread) (d : Place) → items_under d (audit root unread) ≡ item_at root unread d ++ flat_map (λ n. items_under (d ++ n ∷ []) (audit root unread)) (names_below root d) }
+    ensures by_name { (root : Tree) (unread : Unread) (d : Place)
+        → items_under d (audit root unread) ≡ item_at root unread d
+        ++ flat_map (λ n. items_under (d ++ n ∷ []) (audit root unread)) (names_below root d) }
     ensures names { (root : Tree) (d : Place) → IsAscending text_cmp (names_below root d) }
-    ensures here { (root : Tree) (unread : Unread) (d : Place) → items_of_place d (audit root unread) ≡ item_at root unread d }
+    ensures here { (root : Tree) (unread : Unread) (d : Place)
+        → items_of_place d (audit root unread) ≡ item_at root unread d }
 {}
 
-/// Those above a place further down: what is above it under its next name, and then all under greater names.
+/// Those above a place further down: what is above it under its next name, and then all under
+/// greater names.
 #[tactic(auto, using(crate::proofs::PublicLaws::at_itself, crate::proofs::PublicLaws::further))]
 pub fn items_go_on()
-    ensures at_itself { (root : Tree) (unread : Unread) (d : Place) → after (items_under d (audit root unread)) (Some d) ≡ flat_map (λ n. items_under (d ++ n ∷ []) (audit root unread)) (names_below root d) }
-    ensures further { (root : Tree) (unread : Unread) (d q : Place) (n : Text) → after (items_under d (audit root unread)) (Some (d ++ n ∷ q)) ≡ after (items_under (d ++ n ∷ []) (audit root unread)) (Some (d ++ n ∷ q)) ++ flat_map (λ m. items_under (d ++ m ∷ []) (audit root unread)) (filter (λ m. is_lt (text_cmp n m)) (names_below root d)) }
+    ensures at_itself { (root : Tree) (unread : Unread) (d : Place)
+        → after (items_under d (audit root unread)) (Some d)
+        ≡ flat_map (λ n. items_under (d ++ n ∷ []) (audit root unread)) (names_below root d) }
+    ensures further { (root : Tree) (unread : Unread) (d q : Place) (n : Text)
+        → after (items_under d (audit root unread)) (Some (d ++ n ∷ q))
+        ≡ after (items_under (d ++ n ∷ []) (audit root unread)) (Some (d ++ n ∷ q))
+        ++ flat_map (λ m. items_under (d ++ m ∷ []) (audit root unread))
+        (filter (λ m. is_lt (text_cmp n m)) (names_below root d)) }
 {}
 
 /// Above each place at which something lies, a directory lies.
 #[tactic(auto, using(crate::proofs::WayLaws::is_closed))]
 pub fn directories_lie_above()
-    ensures { (root : Tree) (d : Place) (n : Text) (leaf : Leaf) → at root (d ++ n ∷ []) ≡ Some leaf → at root d ≡ Some dir }
+    ensures { (root : Tree) (d : Place) (n : Text) (leaf : Leaf) → at root (d ++ n ∷ []) ≡ Some leaf
+        → at root d ≡ Some dir }
 {}
 
 /// Zone, entered and seen, one name further.
 #[tactic(auto, using(crate::proofs::StepLaws::zone_step, crate::proofs::StepLaws::entered_step, crate::proofs::StepLaws::reached_step, crate::proofs::StepLaws::seen_step, crate::proofs::StepLaws::listed_step))]
 pub fn a_name_is_one_step()
-    ensures zone { (root : Tree) (d : Place) (n : Text) → zone root (d ++ n ∷ []) ≡ (if is_extensions root d n then skipped else step_zone root d n (zone root d)) }
-    ensures entered { (root : Tree) (d : Place) (n : Text) → is_entered root (d ++ n ∷ []) ≡ nat_le (suc (length d)) max_listed_depth && (is_dir root (d ++ n ∷ []) && is_listed_zone root (if is_extensions root d n then skipped else step_zone root d n (zone root d))) }
-    ensures reached { (root : Tree) (d : Place) (n : Text) → is_reached root (d ++ n ∷ []) ≡ is_reached root d && is_entered root (d ++ n ∷ []) }
-    ensures seen { (root : Tree) (d : Place) (n : Text) → seen root (d ++ n ∷ []) ≡ (if is_reached root d then at root (d ++ n ∷ []) else None) }
-    ensures listed { (t : Table) (q : Place) (n : Text) → is_listed_within t (q ++ n ∷ []) ≡ step_listed t q n }
+    ensures zone { (root : Tree) (d : Place) (n : Text)
+        → zone root (d ++ n ∷ []) ≡ (if is_extensions root d n then skipped else step_zone root d n
+        (zone root d)) }
+    ensures entered { (root : Tree) (d : Place) (n : Text)
+        → is_entered root (d ++ n ∷ []) ≡ nat_le (suc (length d)) max_listed_depth &&
+        (is_dir root (d ++ n ∷ []) && is_listed_zone root
+        (if is_extensions root d n then skipped else step_zone root d n (zone root d))) }
+    ensures reached { (root : Tree) (d : Place) (n : Text)
+        → is_reached root (d ++ n ∷ []) ≡ is_reached root d && is_entered root (d ++ n ∷ []) }
+    ensures seen { (root : Tree) (d : Place) (n : Text)
+        → seen root (d ++ n ∷ []) ≡ (if is_reached root d then at root (d ++ n ∷ []) else None) }
+    ensures listed { (t : Table) (q : Place) (n : Text)
+        → is_listed_within t (q ++ n ∷ []) ≡ step_listed t q n }
 {}
 
 /// The walk gives the audit, and resumed at a place what is above it.
 pub fn walk_gives_the_audit()
-    ensures whole { (root : Tree) (unread : Unread) (k : ℕ) → 255 < k → walk k root unread [] ≡ audit root unread }
-    ensures resumed { (root : Tree) (unread : Unread) (k : ℕ) (q : Place) → 255 < k → walk_after k root unread [] q ≡ after (audit root unread) (Some q) }
-    ensures short { (root : Tree) (u : Option ℕ) (p : Place) → notes root u p ≢ [] → length p < 256 }
-    ensures stacked { (root : Tree) (unread : Unread) (q : Place) → left_of (audit root unread) (entered_at root [] q []) ≡ after (audit root unread) (Some q) }
+    ensures whole { (root : Tree) (unread : Unread) (k : ℕ) → 255 < k
+        → walk k root unread [] ≡ audit root unread }
+    ensures resumed { (root : Tree) (unread : Unread) (k : ℕ) (q : Place) → 255 < k
+        → walk_after k root unread [] q ≡ after (audit root unread) (Some q) }
+    ensures short { (root : Tree) (u : Option ℕ) (p : Place) → notes root u p ≢ []
+        → length p < 256 }
+    ensures stacked { (root : Tree) (unread : Unread) (q : Place)
+        → left_of (audit root unread) (entered_at root [] q [])
+        ≡ after (audit root unread) (Some q) }
 {}
 
 /// A step of a walk over a stack of listings and one table.
 pub fn walk_goes_on()
-    ensures takes { (root : Tree) (unread : Unread) (last x : Place) → place_cmp last x ≡ Less → NoneSeenBetween root last x → NoPathBetween root last x → after (audit root unread) (Some last) ≡ item_at root unread x ++ after (audit root unread) (Some x) }
-    ensures ends { (root : Tree) (unread : Unread) (last : Place) → NoneSeenAbove root last → NoPathAbove root last → after (audit root unread) (Some last) ≡ [] }
+    ensures takes { (root : Tree) (unread : Unread) (last x : Place) → place_cmp last x ≡ Less
+        → NoneSeenBetween root last x → NoPathBetween root last x
+        → after (audit root unread) (Some last)
+        ≡ item_at root unread x ++ after (audit root unread) (Some x) }
+    ensures ends { (root : Tree) (unread : Unread) (last : Place) → NoneSeenAbove root last
+        → NoPathAbove root last → after (audit root unread) (Some last) ≡ [] }
     ensures starts { (root : Tree) (q : Place) → IsStack root q (listed_at root [] q []) }
-    ensures way { (root : Tree) (q e : Place) → IsAmong (map (λ f. f.0) (listed_at root [] q [])) e → begins e q ≡ true }
+    ensures way { (root : Tree) (q e : Place) → IsAmong (map (λ f. f.0) (listed_at root [] q [])) e
+        → begins e q ≡ true }
 {}
 
-/// The walk over a stack of listings and the table of one object gives what is above the place at which it starts.
+/// The walk over a stack of listings and the table of one object gives what is above the place at
+/// which it starts.
 pub fn walk_over_a_stack()
-    ensures first { (root : Tree) (unread : Unread) → audit root unread ≡ item_at root unread [] ++ after (audit root unread) (Some []) }
-    ensures lists { (root : Tree) (k : ℕ) (q : Place) → IsBeforeAll place_cmp q (lists k root q (listed_at root [] q [])) × IsAscending place_cmp (lists k root q (listed_at root [] q [])) }
-    ensures rest { (root : Tree) (unread : Unread) (k : ℕ) (q : Place) → length (candidates root) < k → taken k root unread q (listed_at root [] q []) ≡ after (audit root unread) (Some q) }
+    ensures first { (root : Tree) (unread : Unread)
+        → audit root unread ≡ item_at root unread [] ++ after (audit root unread) (Some []) }
+    ensures lists { (root : Tree) (k : ℕ) (q : Place)
+        → IsBeforeAll place_cmp q (lists k root q (listed_at root [] q []))
+        × IsAscending place_cmp (lists k root q (listed_at root [] q [])) }
+    ensures rest { (root : Tree) (unread : Unread) (k : ℕ) (q : Place)
+        → length (candidates root) < k → taken k root unread q (listed_at root [] q [])
+        ≡ after (audit root unread) (Some q) }
 {}
 
-/// Which places have lines does not depend on what could be read, and what could be read changes an item at its own place alone.
+/// Which places have lines does not depend on what could be read, and what could be read changes an
+/// item at its own place alone.
 #[tactic(auto, using(crate::proofs::DueLaws::lines_alike, crate::proofs::DueLaws::items_agree, crate::proofs::DueLaws::audit_by_places, crate::proofs::DueLaws::after_is_due))]
 pub fn reading_moves_no_lines()
-    ensures places { (root : Tree) (u v : Option ℕ) (p : Place) → notes root u p ≡ [] → notes root v p ≡ [] }
-    ensures items { (root : Tree) (u v : Unread) (p : Place) → given_by u p ≡ given_by v p → items_of_place p (audit root u) ≡ items_of_place p (audit root v) }
-    ensures by_places { (root : Tree) (u : Unread) → audit root u ≡ map (item_of root u) (item_places root) }
-    ensures due { (root : Tree) (trail : List Opening) (last : Option Place) → after (audit root (unread_of root trail)) last ≡ items_at root trail (due root last) }
+    ensures places { (root : Tree) (u v : Option ℕ) (p : Place) → notes root u p ≡ []
+        → notes root v p ≡ [] }
+    ensures items { (root : Tree) (u v : Unread) (p : Place) → given_by u p ≡ given_by v p
+        → items_of_place p (audit root u) ≡ items_of_place p (audit root v) }
+    ensures by_places { (root : Tree) (u : Unread)
+        → audit root u ≡ map (item_of root u) (item_places root) }
+    ensures due { (root : Tree) (trail : List Opening) (last : Option Place)
+        → after (audit root (unread_of root trail)) last ≡ items_at root trail (due root last) }
 {}
 
 /// No hashed file is a declaration, an inventory or a sidecar.
@@ -110,22 +166,31 @@ pub fn content_is_no_meta()
 /// Each path that an object's table names has lines.
 #[tactic(auto, using(crate::proofs::PathLaws::path_lines))]
 pub fn named_paths_have_lines()
-    ensures { (root : Tree) (u : Option ℕ) (p o q : Place) (t : Table) → zone root p ≡ inside o q → table_at root o ≡ Some t → IsAmong (paths_of t) q → notes root u p ≢ [] }
+    ensures { (root : Tree) (u : Option ℕ) (p o q : Place) (t : Table) → zone root p ≡ inside o q
+        → table_at root o ≡ Some t → IsAmong (paths_of t) q → notes root u p ≢ [] }
 {}
 
-/// What an audit looks into and reads on the way from one place to another adds up, and is all where both ends are open.
+/// What an audit looks into and reads on the way from one place to another adds up, and is all
+/// where both ends are open.
 #[tactic(auto, using(crate::proofs::BetweenLaws::looked_on, crate::proofs::BetweenLaws::read_on))]
 pub fn ways_add_up()
-    ensures looked { (root : Tree) (from to : Option Place) (b : Place) → IsBeyond from b → IsWithin to b → looked_between root from (Some b) ++ looked_between root (Some b) to ≡ looked_between root from to }
-    ensures read { (root : Tree) (from to : Option Place) (b : Place) → IsBeyond from b → IsWithin to b → read_between root from (Some b) ++ read_between root (Some b) to ≡ read_between root from to }
+    ensures looked { (root : Tree) (from to : Option Place) (b : Place) → IsBeyond from b
+        → IsWithin to b → looked_between root from (Some b) ++ looked_between root (Some b) to
+        ≡ looked_between root from to }
+    ensures read { (root : Tree) (from to : Option Place) (b : Place) → IsBeyond from b
+        → IsWithin to b → read_between root from (Some b) ++ read_between root (Some b) to
+        ≡ read_between root from to }
 {}
 
-/// The inventories that an audit reads are those of the objects that have one, each once, in order. Those objects are
-/// seen by the audit.
+/// The inventories that an audit reads are those of the objects that have one, each once, in order.
+/// Those objects are seen by the audit.
 #[tactic(auto, using(crate::proofs::ObjectLaws::inventories_read, crate::proofs::ObjectLaws::inventories_which, crate::proofs::ObjectLaws::inventories_ascend, crate::proofs::ObjectLaws::object_seen))]
 pub fn inventories_are_of_objects()
-    ensures of_objects { (root : Tree) → inventories root ≡ map (λ o. o ++ inventory_name ∷ []) (read_between root None None) }
-    ensures which { (root : Tree) (p : Place) → IsAmong (inventories root) p ↔ ((o : Place) × ((p ≡ o ++ inventory_name ∷ []) × HasInventory root o)) }
+    ensures of_objects { (root : Tree) → inventories root
+        ≡ map (λ o. o ++ inventory_name ∷ []) (read_between root None None) }
+    ensures which { (root : Tree) (p : Place)
+        → IsAmong (inventories root) p ↔ ((o : Place)
+        × ((p ≡ o ++ inventory_name ∷ []) × HasInventory root o)) }
     ensures ascending { (root : Tree) → IsAscending place_cmp (inventories root) }
     ensures seen { (root : Tree) (o : Place) → HasInventory root o → seen root o ≡ Some dir }
 {}
@@ -136,63 +201,104 @@ pub fn objects_have_their_zone()
     ensures { (root : Tree) (o : Place) → IsObjectRoot root o ↔ (zone root o ≡ inside o []) }
 {}
 
-/// The objects whose inventories are read between two places are those between them that have one, and the directories
-/// that are looked into are those between them into which an audit looks, each once, in order.
+/// The objects whose inventories are read between two places are those between them that have one,
+/// and the directories that are looked into are those between them into which an audit looks, each
+/// once, in order.
 #[tactic(auto, using(crate::proofs::ObjectLaws::read_part, crate::proofs::ObjectLaws::read_ascends, crate::proofs::ObjectLaws::looked_which, crate::proofs::ObjectLaws::looked_ascends))]
 pub fn ways_are_parts()
-    ensures read { (root : Tree) (from to : Option Place) (o : Place) → IsAmong (read_between root from to) o ↔ (IsBeyond from o × (IsWithin to o × HasInventory root o)) }
+    ensures read { (root : Tree) (from to : Option Place) (o : Place)
+        → IsAmong (read_between root from to) o
+        ↔ (IsBeyond from o × (IsWithin to o × HasInventory root o)) }
     ensures read_in_order { (root : Tree) → IsAscending place_cmp (read_between root None None) }
-    ensures looked { (root : Tree) (from to : Option Place) (d : Place) → IsAmong (looked_between root from to) d ↔ (IsBeyond from d × (IsWithin to d × (is_looked_into root d ≡ true))) }
-    ensures looked_in_order { (root : Tree) → IsAscending place_cmp (looked_between root None None) }
+    ensures looked { (root : Tree) (from to : Option Place) (d : Place)
+        → IsAmong (looked_between root from to) d
+        ↔ (IsBeyond from d × (IsWithin to d × (is_looked_into root d ≡ true))) }
+    ensures looked_in_order { (root : Tree) → IsAscending place_cmp
+        (looked_between root None None) }
 {}
 
-/// No inventory is read of an object without one, or with no known version or several declarations; none in the
-/// storage root's extensions, none inside another object, and none in a storage root that is not of known version.
+/// No inventory is read of an object without one, or with no known version or several declarations;
+/// none in the storage root's extensions, none inside another object, and none in a storage root
+/// that is not of known version.
 #[tactic(auto, using(crate::proofs::ObjectLaws::none_without_file, crate::proofs::ObjectLaws::none_of_unknown, crate::proofs::ObjectLaws::one_declaration, crate::proofs::ObjectLaws::none_of_several, crate::proofs::ObjectLaws::none_in_extensions, crate::proofs::ObjectLaws::none_inside, crate::proofs::ObjectLaws::none_in_unknown_root))]
 pub fn other_inventories_are_not_read()
-    ensures without_file { (root : Tree) (o : Place) → file_at root (o ++ inventory_name ∷ []) ≡ None → IsAmong (inventories root) (o ++ inventory_name ∷ []) → ⊥ }
-    ensures of_unknown_version { (root : Tree) (o : Place) → is_known (object_declared root o) ≡ false → IsAmong (inventories root) (o ++ inventory_name ∷ []) → ⊥ }
-    ensures one_declaration { (root : Tree) (o : Place) → IsAmong (inventories root) (o ++ inventory_name ∷ []) → (n : Text) × (filter (is_declaration Object) (files_in root o) ≡ n ∷ []) }
-    ensures of_several_declarations { (root : Tree) (o : Place) (n m : Text) (ns : List Text) → filter (is_declaration Object) (files_in root o) ≡ n ∷ m ∷ ns → IsAmong (inventories root) (o ++ inventory_name ∷ []) → ⊥ }
-    ensures in_extensions { (root : Tree) (o : Place) → is_in_extensions root o ≡ true → IsAmong (inventories root) (o ++ inventory_name ∷ []) → ⊥ }
-    ensures inside_an_object { (root : Tree) (o : Place) (n : Text) (q : Place) → o ≢ [] → is_declared (object_declared root o) ≡ true → IsAmong (inventories root) ((o ++ n ∷ q) ++ inventory_name ∷ []) → ⊥ }
-    ensures in_an_unknown_root { (root : Tree) (p : Place) → is_known (root_declared root) ≡ false → IsAmong (inventories root) p → ⊥ }
+    ensures without_file { (root : Tree) (o : Place)
+        → file_at root (o ++ inventory_name ∷ []) ≡ None
+        → IsAmong (inventories root) (o ++ inventory_name ∷ []) → ⊥ }
+    ensures of_unknown_version { (root : Tree) (o : Place)
+        → is_known (object_declared root o) ≡ false
+        → IsAmong (inventories root) (o ++ inventory_name ∷ []) → ⊥ }
+    ensures one_declaration { (root : Tree) (o : Place)
+        → IsAmong (inventories root) (o ++ inventory_name ∷ [])
+        → (n : Text) × (filter (is_declaration Object) (files_in root o) ≡ n ∷ []) }
+    ensures of_several_declarations { (root : Tree) (o : Place) (n m : Text) (ns : List Text)
+        → filter (is_declaration Object) (files_in root o) ≡ n ∷ m ∷ ns
+        → IsAmong (inventories root) (o ++ inventory_name ∷ []) → ⊥ }
+    ensures in_extensions { (root : Tree) (o : Place) → is_in_extensions root o ≡ true
+        → IsAmong (inventories root) (o ++ inventory_name ∷ []) → ⊥ }
+    ensures inside_an_object { (root : Tree) (o : Place) (n : Text) (q : Place) → o ≢ []
+        → is_declared (object_declared root o) ≡ true
+        → IsAmong (inventories root) ((o ++ n ∷ q) ++ inventory_name ∷ []) → ⊥ }
+    ensures in_an_unknown_root { (root : Tree) (p : Place) → is_known (root_declared root) ≡ false
+        → IsAmong (inventories root) p → ⊥ }
 {}
 
 /// The computed cut is the greatest that the rule allows, and no other number is.
 #[tactic(auto, using(crate::proofs::RunLaws::cut_is, crate::proofs::RunLaws::cut_only))]
 pub fn cut_is_the_greatest()
     ensures is { (items : List Item) (l : Limits) → IsCut items l (cut_len l 0 0 items) }
-    ensures only { (items : List Item) (l : Limits) (n : ℕ) → IsCut items l n → n ≡ cut_len l 0 0 items }
+    ensures only { (items : List Item) (l : Limits) (n : ℕ) → IsCut items l n
+        → n ≡ cut_len l 0 0 items }
 {}
 
-/// Each file costs something. Where no limit on files is less than their number, cuts and runs are those of budgets alone.
+/// Each file costs something. Where no limit on files is less than their number, cuts and runs are
+/// those of budgets alone.
 #[tactic(auto, using(crate::proofs::RunLaws::files_cost, crate::proofs::RunLaws::same_cut, crate::proofs::RunLaws::same_runs, crate::proofs::RunLaws::same_budgets))]
 pub fn budgets_alone()
     ensures cost { (items : List Item) → total_files items ≤ total_cost items }
-    ensures cut { (items : List Item) (l : Limits) → total_files items ≤ l.files → cut items l ≡ budget_cut items l.budget }
-    ensures runs { (items : List Item) (limits : List Limits) → FilesFit items limits → runs items limits ≡ budget_runs items (map (λ l. l.budget) limits) }
-    ensures by_default { (items : List Item) (budgets : List ℕ) → total_files items ≤ 2 ^ 62 → runs items (map of_budget budgets) ≡ budget_runs items budgets }
+    ensures cut { (items : List Item) (l : Limits) → total_files items ≤ l.files
+        → cut items l ≡ budget_cut items l.budget }
+    ensures runs { (items : List Item) (limits : List Limits) → FilesFit items limits
+        → runs items limits ≡ budget_runs items (map (λ l. l.budget) limits) }
+    ensures by_default { (items : List Item) (budgets : List ℕ) → total_files items ≤ 2 ^ 62
+        → runs items (map of_budget budgets) ≡ budget_runs items budgets }
 {}
 
-/// Where the files fit, budgets that sum to the cost are enough: the runs, joined, are the whole, and no budget after these is used.
+/// Where the files fit, budgets that sum to the cost are enough: the runs, joined, are the whole,
+/// and no budget after these is used.
 #[tactic(auto, using(crate::proofs::RunLaws::limits_join, crate::proofs::RunLaws::limits_few))]
 pub fn runs_join()
-    ensures whole { (limits : List Limits) (items : List Item) → 1 ≤ length limits → FilesFit items limits → total_cost items ≤ sum_of (map (λ l. l.budget) limits) → joined (runs items limits) ≡ items }
-    ensures few { (k : ℕ) (limits : List Limits) (items : List Item) → 1 ≤ k → k ≤ length limits → FilesFit items limits → total_cost items ≤ sum_of (take k (map (λ l. l.budget) limits)) → length (runs items limits) ≤ k }
+    ensures whole { (limits : List Limits) (items : List Item) → 1 ≤ length limits
+        → FilesFit items limits → total_cost items ≤ sum_of (map (λ l. l.budget) limits)
+        → joined (runs items limits) ≡ items }
+    ensures few { (k : ℕ) (limits : List Limits) (items : List Item) → 1 ≤ k → k ≤ length limits
+        → FilesFit items limits → total_cost items ≤ sum_of (take k (map (λ l. l.budget) limits))
+        → length (runs items limits) ≤ k }
 {}
 
-/// Limits that are each at least so large take all in at most one run more than the cost by the budget and the files by their limit.
+/// Limits that are each at least so large take all in at most one run more than the cost by the
+/// budget and the files by their limit.
 pub fn large_limits_are_few()
-    ensures whole { (b n : ℕ) (limits : List Limits) (items : List Item) → 1 ≤ b → 1 ≤ n → All (IsAtLeast b n) limits → total_cost items / b + total_files items / n + 1 ≤ length limits → joined (runs items limits) ≡ items }
-    ensures few { (b n : ℕ) (limits : List Limits) (items : List Item) → 1 ≤ b → 1 ≤ n → All (IsAtLeast b n) limits → length (runs items limits) ≤ total_cost items / b + total_files items / n + 1 }
+    ensures whole { (b n : ℕ) (limits : List Limits) (items : List Item) → 1 ≤ b → 1 ≤ n
+        → All (IsAtLeast b n) limits → total_cost items / b + total_files items / n + 1
+        ≤ length limits → joined (runs items limits) ≡ items }
+    ensures few { (b n : ℕ) (limits : List Limits) (items : List Item) → 1 ≤ b → 1 ≤ n
+        → All (IsAtLeast b n) limits → length (runs items limits)
+        ≤ total_cost items / b + total_files items / n + 1 }
 {}
 
-/// Equal limits under which the files fit take all in at most one run more than the cost less one divided by the budget, and what costs nothing in one run.
+/// Equal limits under which the files fit take all in at most one run more than the cost less one
+/// divided by the budget, and what costs nothing in one run.
 #[tactic(auto, using(crate::proofs::RunLaws::same_few, crate::proofs::RunLaws::same_join, crate::proofs::RunLaws::free_join, crate::proofs::RunLaws::free_run))]
 pub fn equal_budgets_are_few()
-    ensures few { (items : List Item) (l : Limits) (n : ℕ) → total_files items ≤ l.files → 1 ≤ l.budget → 1 ≤ total_cost items → length (runs items (replicate n l)) ≤ (total_cost items - 1) / l.budget + 1 }
-    ensures whole { (items : List Item) (l : Limits) (n : ℕ) → total_files items ≤ l.files → 1 ≤ l.budget → 1 ≤ total_cost items → (total_cost items - 1) / l.budget + 1 ≤ n → joined (runs items (replicate n l)) ≡ items }
-    ensures free { (items : List Item) (l : Limits) (n : ℕ) → total_cost items ≡ 0 → 1 ≤ n → joined (runs items (replicate n l)) ≡ items }
-    ensures once { (items : List Item) (l : Limits) (n : ℕ) → total_cost items ≡ 0 → 1 ≤ n → length (runs items (replicate n l)) ≡ 1 }
+    ensures few { (items : List Item) (l : Limits) (n : ℕ) → total_files items ≤ l.files
+        → 1 ≤ l.budget → 1 ≤ total_cost items
+        → length (runs items (replicate n l)) ≤ (total_cost items - 1) / l.budget + 1 }
+    ensures whole { (items : List Item) (l : Limits) (n : ℕ) → total_files items ≤ l.files
+        → 1 ≤ l.budget → 1 ≤ total_cost items → (total_cost items - 1) / l.budget + 1 ≤ n
+        → joined (runs items (replicate n l)) ≡ items }
+    ensures free { (items : List Item) (l : Limits) (n : ℕ) → total_cost items ≡ 0 → 1 ≤ n
+        → joined (runs items (replicate n l)) ≡ items }
+    ensures once { (items : List Item) (l : Limits) (n : ℕ) → total_cost items ≡ 0 → 1 ≤ n
+        → length (runs items (replicate n l)) ≡ 1 }
 {}

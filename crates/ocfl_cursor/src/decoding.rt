@@ -1,11 +1,14 @@
-ghost use Rattle.std.specs.Prelude.{◌≡◌, ◌≢◌, ◌⊎◌, ◌≤◌, ℕ, List, ◌++◌, drop, length, is_some, IfOk, IfErr, IfSome, IsNone};
+ghost use Rattle.std.specs.Prelude.{◌≡◌, ◌≢◌, ◌⊎◌, ◌≤◌, ℕ, List, ◌++◌, drop, length, is_some, IfOk};
+ghost use Rattle.std.specs.Prelude.{IfErr, IfSome, IsNone};
 ghost use Rattle.ocfl_tree.specs.Name.{IsPlace};
 ghost use Rattle.ocfl_tree.specs.Place.{Place as ModelPlace};
 ghost use Rattle.ocfl_report.specs.Text.{place_text};
 ghost use Rattle.ocfl_cursor.specs.Cursor.{State as ModelState, Cursor as ModelCursor};
 ghost use Rattle.ocfl_cursor.specs.State.{state_of};
-ghost use Rattle.ocfl_cursor.specs.Body.{first_line, version_line, files_line, FilesFit, CountsFit, counts_text, IsStateLine, IsBodyOf};
-ghost use Rattle.ocfl_cursor.specs.Refusal.{IsTextOf, is_cursor_front, is_version, refusal, malformed};
+ghost use Rattle.ocfl_cursor.specs.Body.{first_line, version_line, files_line, FilesFit, CountsFit};
+ghost use Rattle.ocfl_cursor.specs.Body.{counts_text, IsStateLine, IsBodyOf};
+ghost use Rattle.ocfl_cursor.specs.Refusal.{IsTextOf, is_cursor_front, is_version, refusal};
+ghost use Rattle.ocfl_cursor.specs.Refusal.{malformed};
 ghost use Rattle.ocfl_cursor.specs.Refused.{RefusedRightly};
 ghost use Rattle.ocfl_cursor.specs.declared.form.Version.{Version as ModelVersion};
 

@@ -4,8 +4,8 @@ ghost use Rattle.ocfl_cursor.specs.Meter.{IsMeter, MayStart, files_of, max_cost}
 use crate::limits::Limits;
 use std::marker::Model;
 
-/// What a run has spent of its budget, and how many files it has started. A file is paid for once it
-/// is read, so the last one that a run starts may pass the budget.
+/// What a run has spent of its budget, and how many files it has started. A file is paid for once
+/// it is read, so the last one that a run starts may pass the budget.
 #[derive(Debug, Drop)]
 pub struct Meter {
     limits: Limits,
@@ -20,7 +20,11 @@ impl Model for Meter {
 
     ghost view = { λ a. record { limits = a.limits; spent = a.spent; files = a.files } };
 
-    ghost invariant = { λ a. IsMeter (record { limits = a.limits; spent = a.spent; files = a.files }) };
+    ghost invariant = { λ a. IsMeter (record {
+      limits = a.limits;
+      spent = a.spent;
+      files = a.files;
+    }) };
 }
 
 impl Meter {

@@ -1,4 +1,5 @@
-ghost use Rattle.std.specs.Prelude.{◌≡◌, ◌≢◌, ℕ, ◌^◌, ◌<◌, List, ◌++◌, decimal, IsTrue, IfSome, IsNone, OnOk, ◌↔◌};
+ghost use Rattle.std.specs.Prelude.{◌≡◌, ◌≢◌, ℕ, ◌^◌, ◌<◌, List, ◌++◌, decimal, IsTrue, IfSome};
+ghost use Rattle.std.specs.Prelude.{IsNone, OnOk, ◌↔◌};
 ghost use Rattle.ocfl_cursor.specs.Cursor.{number_line};
 ghost use Rattle.ocfl_cursor.specs.Number.{IsPlain};
 

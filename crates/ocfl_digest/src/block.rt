@@ -1,6 +1,7 @@
 use std::alloc::{AllocError, Global};
 
-/// The length of a block in bytes. It is a multiple of the block sizes of all algorithms, 64 and 128.
+/// The length of a block in bytes. It is a multiple of the block sizes of all algorithms, 64 and
+/// 128.
 pub(crate) const BLOCK_LEN: usize = 65_536;
 
 /// Room for 65,536 bytes on the heap, which is lent to calls that read.

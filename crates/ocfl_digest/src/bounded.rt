@@ -17,11 +17,11 @@ pub enum Bounded {
 
 /// The bytes of the file at a place, if they are at most `limit`, by one opening.
 ///
-/// `Over` is answered exactly where the file has more. Each read asks for 4,096 bytes, or for one more
-/// than the limit leaves where that is less: no more than `limit + 1` bytes are read.
+/// `Over` is answered exactly where the file has more. Each read asks for 4,096 bytes, or for one
+/// more than the limit leaves where that is less: no more than `limit + 1` bytes are read.
 ///
-/// `Device` where the device failed, `Absent` where no file is there, `Memory` where memory was refused
-/// to the store or to the vector. After every answer no file is open.
+/// `Device` where the device failed, `Absent` where no file is there, `Memory` where memory was
+/// refused to the store or to the vector. After every answer no file is open.
 pub fn read_bounded<T: Tree>(
     alloc: Global,
     store: &mut T,
@@ -32,7 +32,8 @@ pub fn read_bounded<T: Tree>(
     ensures within { IfOk result (IsWithin limit) }
 
     // Of a store that tells its tree.
-    ensures reads { IsTrue T.told → (root : Root) → (T.state store.old).tree ≡ root → MatchResult result
+    ensures reads { IsTrue T.told → (root : Root) → (T.state store.old).tree ≡ root
+        → MatchResult result
         (ReadsBounded root (T.state store.old) (T.state store.new) place.now limit)
         (StopsReading root (T.state store.old) (T.state store.new) place.now limit) }
 {

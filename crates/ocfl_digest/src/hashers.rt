@@ -125,7 +125,8 @@ impl Hashers {
 
     /// The digests of what the hashers hold.
     pub(crate) fn end(self) -> Digests
-        ensures { (wanted : Wanted) (bytes : Text) → AreFed wanted bytes self → AreDigests wanted bytes result }
+        ensures { (wanted : Wanted) (bytes : Text) → AreFed wanted bytes self
+            → AreDigests wanted bytes result }
     {
         Digests {
             md5: end_md5(self.md5),
@@ -137,8 +138,8 @@ impl Hashers {
     }
 }
 
-/// The digest of some bytes under each wanted algorithm (RFC 1321, section 3; FIPS 180-4, sections 6.1,
-/// 6.2, 6.4 and 6.7).
+/// The digest of some bytes under each wanted algorithm (RFC 1321, section 3; FIPS 180-4, sections
+/// 6.1, 6.2, 6.4 and 6.7).
 pub fn hash_bytes(bytes: &[u8], wanted: Wanted) -> Digests
     ensures { AreDigests wanted bytes.now result }
 {

@@ -17,12 +17,13 @@ const TOO_LONG: u64 = 1 << 62;
 /// The digests of the file at a place under each wanted algorithm, and its length in bytes, by one
 /// opening (RFC 1321, section 3; FIPS 180-4, sections 6.1, 6.2, 6.4 and 6.7).
 ///
-/// It reads into the lent block, and takes no memory. Each read asks for 65,536 bytes, or for what is
-/// missing to 2^62 bytes where that is less.
+/// It reads into the lent block, and takes no memory. Each read asks for 65,536 bytes, or for what
+/// is missing to 2^62 bytes where that is less.
 ///
-/// A stop says how many bytes the file gave before. `Device` where the device failed, `Absent` where no
-/// file is there, `Memory` where the store was refused memory to open the file, and `TooLong` once the
-/// file gave 2^62 bytes, even where it ends there. After every answer no file is open.
+/// A stop says how many bytes the file gave before. `Device` where the device failed, `Absent`
+/// where no file is there, `Memory` where the store was refused memory to open the file, and
+/// `TooLong` once the file gave 2^62 bytes, even where it ends there. After every answer no file is
+/// open.
 pub fn hash_open<T: Tree>(
     store: &mut T,
     place: &Place,
@@ -37,9 +38,12 @@ pub fn hash_open<T: Tree>(
     ensures memory { IfErr result (λ stop. stop.cause ≡ Cause.Memory → stop.bytes ≡ 0) }
 
     // Of a store that tells its tree.
-    ensures hashes { IsTrue T.told → (root : Root) → (T.state store.old).tree ≡ root → MatchResult result
-        (λ hashed. HashesFile root (T.state store.old) (T.state store.new) place.now wanted hashed.0 hashed.1)
-        (λ stop. StopsHashing root (T.state store.old) (T.state store.new) place.now stop.bytes stop.cause) }
+    ensures hashes { IsTrue T.told → (root : Root) → (T.state store.old).tree ≡ root
+        → MatchResult result
+        (λ hashed. HashesFile root (T.state store.old)
+        (T.state store.new) place.now wanted hashed.0 hashed.1)
+        (λ stop. StopsHashing root (T.state store.old)
+        (T.state store.new) place.now stop.bytes stop.cause) }
 {
     if let Err(trouble) = store.open(place) {
         return Err(ReadStop::after(0, trouble));

@@ -1,4 +1,5 @@
-ghost use Rattle.std.specs.Prelude.{◌≡◌, ◌≢◌, ◌≤◌, IsTrue, IfOk, IfErr, MatchResult, Err, take, max};
+ghost use Rattle.std.specs.Prelude.{◌≡◌, ◌≢◌, ◌≤◌, IsTrue, IfOk, IfErr, MatchResult, Err, take};
+ghost use Rattle.std.specs.Prelude.{max};
 ghost use Rattle.ocfl_tree.specs.Calls.{Reads, ReadFails};
 ghost use Rattle.ocfl_digest.specs.Pieces.{FeedsPiece};
 
@@ -6,8 +7,8 @@ use crate::block::BLOCK_LEN;
 use crate::hashers::Hashers;
 use ocfl_tree::{Tree, Trouble};
 
-/// Reads the next bytes of the open file into the front of the buffer, at most `room` of them, and gives
-/// how many.
+/// Reads the next bytes of the open file into the front of the buffer, at most `room` of them, and
+/// gives how many.
 pub(crate) fn read_piece<T: Tree, const N: usize>(
     store: &mut T,
     buffer: &mut [u8; N],
@@ -16,7 +17,8 @@ pub(crate) fn read_piece<T: Tree, const N: usize>(
     requires { room ≤ N }
     ensures bound { IfOk result (λ count. count ≤ room) }
     ensures no_memory { result ≢ Err Trouble.Memory }
-    ensures largest { IsTrue T.told → (T.state store.new).largest ≡ max (T.state store.old).largest room }
+    ensures largest { IsTrue T.told → (T.state store.new).largest
+        ≡ max (T.state store.old).largest room }
     ensures reads { IsTrue T.told → MatchResult result
         (λ count. Reads (T.state store.old) (T.state store.new) (take count buffer.new) room)
         (ReadFails (T.state store.old) (T.state store.new)) }
@@ -24,8 +26,8 @@ pub(crate) fn read_piece<T: Tree, const N: usize>(
     store.read(&mut buffer[..room])
 }
 
-/// Reads the next bytes of the open file into the front of the block, at most `room` of them, and feeds
-/// them to the hashers. Gives how many they are.
+/// Reads the next bytes of the open file into the front of the block, at most `room` of them, and
+/// feeds them to the hashers. Gives how many they are.
 pub(crate) fn hash_piece<T: Tree>(
     store: &mut T,
     hashers: &mut Hashers,
@@ -35,9 +37,12 @@ pub(crate) fn hash_piece<T: Tree>(
     requires { room ≤ 65536 }
     ensures bound { IfOk result (λ count. count ≤ room) }
     ensures no_memory { result ≢ Err Trouble.Memory }
-    ensures largest { IsTrue T.told → (T.state store.new).largest ≡ max (T.state store.old).largest room }
-    ensures fed { IfOk result (FeedsPiece T.told (T.state store.old) (T.state store.new) hashers.old hashers.new room) }
-    ensures fails { IsTrue T.told → IfErr result (ReadFails (T.state store.old) (T.state store.new)) }
+    ensures largest { IsTrue T.told → (T.state store.new).largest
+        ≡ max (T.state store.old).largest room }
+    ensures fed { IfOk result (FeedsPiece T.told (T.state store.old)
+        (T.state store.new) hashers.old hashers.new room) }
+    ensures fails { IsTrue T.told → IfErr result
+        (ReadFails (T.state store.old) (T.state store.new)) }
 {
     let count = read_piece(store, block, room)?;
     hashers.feed(&block[..count]);

@@ -28,7 +28,9 @@ fn are_texts(values: &[Value]) -> bool
 /// Takes a member out of a map, which leaves the others as they are.
 pub(crate) fn take_member(map: &mut Map<String, Value>, name: &str) -> Option<Value>
     ensures value { option_map view result ≡ get_member name.now (members_view map.old.entries) }
-    ensures others { (q : Text) → text_eq q name.now ≡ false → get_member q (members_view map.new.entries) ≡ get_member q (members_view map.old.entries) }
+    ensures others { (q : Text) → text_eq q name.now ≡ false
+        → get_member q (members_view map.new.entries)
+        ≡ get_member q (members_view map.old.entries) }
 {
     map.remove(name)
 }
@@ -55,7 +57,8 @@ pub(crate) fn members(value: Value) -> Option<Map<String, Value>>
 
 /// The values of an array of texts.
 fn texts_in(value: Value) -> Option<Vec<Value>>
-    ensures { option_map (λ vs. texts_among vs.items) result ≡ option_and_then texts_of (as_array (view value)) }
+    ensures { option_map (λ vs. texts_among vs.items) result
+        ≡ option_and_then texts_of (as_array (view value)) }
 {
     let values = array(value)?;
     if are_texts(&values) {
@@ -66,7 +69,8 @@ fn texts_in(value: Value) -> Option<Vec<Value>>
 }
 
 fn lists(alloc: Global, map: Map<String, Value>) -> Result<Option<Vec<Listing>>, AllocError>
-    ensures { IfOk result (λ o. option_map (λ v. block_view v.items) o ≡ lists_of (members_view map.entries)) }
+    ensures { IfOk result (λ o. option_map (λ v. block_view v.items) o
+        ≡ lists_of (members_view map.entries)) }
 {
     let mut block = Vec::with_capacity(alloc, map.len())?;
     for (key, value) in map {

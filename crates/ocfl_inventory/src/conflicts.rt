@@ -11,7 +11,8 @@ use crate::triple::Triple;
 use ocfl_tree::Place;
 use std::alloc::{AllocError, Global};
 
-/// Whether a path may begin another, as its last bytes tell: those beside each other share most of the first ones.
+/// Whether a path may begin another, as its last bytes tell: those beside each other share most of
+/// the first ones.
 fn may_begin(path: &[u8], other: &[u8]) -> bool
     ensures { starts_with nat_eq other.now path.now ≡ true → result ≡ true }
 {
@@ -43,8 +44,8 @@ fn beginnings(alloc: Global, triples: &[Triple]) -> Result<Vec<Place>, AllocErro
     Ok(found)
 }
 
-/// The paths of sorted triples that conflict, in order, each once. In order a path stands just before those that it
-/// begins, so that only neighbours are compared.
+/// The paths of sorted triples that conflict, in order, each once. In order a path stands just
+/// before those that it begins, so that only neighbours are compared.
 pub(crate) fn conflicts(alloc: Global, triples: &[Triple]) -> Result<Vec<Place>, AllocError>
     requires { IsSorted triple_cmp triples.now }
     ensures { IfOk result (λ v. v.items ≡ conflicts_of (map (λ e. e.path) triples.now)) }

@@ -1,7 +1,12 @@
 //! Which version a directory declares.
 ghost use Rattle.std.specs.Prelude.{◌≡◌, ◌≢◌, ◌≤◌, ◌++◌, MatchOption, length, true};
-ghost use Rattle.ocfl_inventory.specs.Declaration.{prefix as level_prefix, begins_with_digit, after_prefix, is_declaration, declared as declared_of, declaration_name as name_of_declaration, declaration_bytes as bytes_of_declaration};
-ghost use Rattle.ocfl_inventory.specs.Entries.{is_counted, IsNext, IsVersionOf, meaning, file_names, PointsAtOne};
+ghost use Rattle.ocfl_inventory.specs.Declaration.{prefix as level_prefix, begins_with_digit};
+ghost use Rattle.ocfl_inventory.specs.Declaration.{after_prefix, is_declaration};
+ghost use Rattle.ocfl_inventory.specs.Declaration.{declared as declared_of};
+ghost use Rattle.ocfl_inventory.specs.Declaration.{declaration_name as name_of_declaration};
+ghost use Rattle.ocfl_inventory.specs.Declaration.{declaration_bytes as bytes_of_declaration};
+ghost use Rattle.ocfl_inventory.specs.Entries.{is_counted, IsNext, IsVersionOf, meaning};
+ghost use Rattle.ocfl_inventory.specs.Entries.{file_names, PointsAtOne};
 ghost use Rattle.ocfl_tree.specs.Place.{Text};
 
 use ocfl_tree::{Entry, Kind, is_bytes};
@@ -43,8 +48,8 @@ fn prefix(level: Level) -> &'static str
     }
 }
 
-/// The name of the declaration of a known version (OCFL 1.1, 4.2 Root Conformance Declaration and 3.2 Object Conformance
-/// Declaration).
+/// The name of the declaration of a known version (OCFL 1.1, 4.2 Root Conformance Declaration and
+/// 3.2 Object Conformance Declaration).
 pub fn declaration_name(level: Level, version: Version) -> &'static str
     ensures { result.now ≡ name_of_declaration level version }
 {
@@ -68,7 +73,8 @@ pub fn declaration_bytes(level: Level, version: Version) -> &'static [u8]
     }
 }
 
-/// What of a name stands behind the prefix of declarations' names, known version or not; none where the name lacks that.
+/// What of a name stands behind the prefix of declarations' names, known version or not; none where
+/// the name lacks that.
 pub fn version_in_name(level: Level, name: &str) -> Option<&str>
     ensures { MatchOption result ((rest : Text) → name.now ≢ level_prefix level ++ rest)
         (λ text. text.now ≡ after_prefix level name.now) }
@@ -94,8 +100,8 @@ fn behind_prefix(level: Level, name: &[u8]) -> &[u8]
     rest
 }
 
-/// Whether a file of this name counts as a declaration: `0=ocfl_` (in the storage root) or `0=ocfl_object_` (in an
-/// object root), and then an ASCII digit.
+/// Whether a file of this name counts as a declaration: `0=ocfl_` (in the storage root) or
+/// `0=ocfl_object_` (in an object root), and then an ASCII digit.
 pub fn is_declaration_name(level: Level, name: &str) -> bool
     ensures { result ≡ is_declaration level name.now }
 {
@@ -146,13 +152,15 @@ fn version_of(level: Level, entry: &Entry) -> Option<Version>
     known_version(behind_prefix(level, entry.name.as_str().as_bytes()))
 }
 
-/// What the files among the entries of a directory declare (OCFL 1.1, 4.2 Root Conformance Declaration and 3.2 Object
-/// Conformance Declaration).
+/// What the files among the entries of a directory declare (OCFL 1.1, 4.2 Root Conformance
+/// Declaration and 3.2 Object Conformance Declaration).
 ///
-/// The entries may stand in any order. A file counts whose name is `0=ocfl_` (in the storage root) or `0=ocfl_object_`
-/// (in an object root) and then begins with an ASCII digit; known are `1.0` and `1.1`. Takes no memory.
+/// The entries may stand in any order. A file counts whose name is `0=ocfl_` (in the storage root)
+/// or `0=ocfl_object_` (in an object root) and then begins with an ASCII digit; known are `1.0` and
+/// `1.1`. Takes no memory.
 pub fn declaration(entries: &[Entry], level: Level) -> Declared
-    ensures declared { meaning level entries.now result ≡ declared_of level (file_names entries.now) }
+    ensures declared { meaning level entries.now result
+        ≡ declared_of level (file_names entries.now) }
     ensures unknown { PointsAtOne level entries.now result }
 {
     let Some(first) = next_declaration(entries, level, 0) else {

@@ -1,8 +1,10 @@
 //! The listed paths of an inventory, kept ones apart from bad ones.
-ghost use Rattle.std.specs.Prelude.{◌≡◌, ◌++◌, ◌∷◌, [], OnOk, map, filter, flat_map, true, false, string_bytes, IfOk, IsPermutation};
+ghost use Rattle.std.specs.Prelude.{◌≡◌, ◌++◌, ◌∷◌, [], OnOk, map, filter, flat_map, true, false};
+ghost use Rattle.std.specs.Prelude.{string_bytes, IfOk, IsPermutation};
 ghost use Rattle.std.specs.List.Sorted.{IsSorted};
 ghost use Rattle.ocfl_inventory.specs.Table.{triples_of, triple_cmp};
-ghost use Rattle.ocfl_inventory.specs.Parts.{block_view, inventory_view, listing_view, supported_view, text_in, texts_among};
+ghost use Rattle.ocfl_inventory.specs.Parts.{block_view, inventory_view, listing_view};
+ghost use Rattle.ocfl_inventory.specs.Parts.{supported_view, text_in, texts_among};
 ghost use Rattle.ocfl_inventory.specs.ListsOf.{all_triples, AreListed};
 ghost use Rattle.ocfl_inventory.specs.DigestText.{folded};
 ghost use Rattle.ocfl_inventory.specs.TripleView.{named_view};
@@ -30,7 +32,11 @@ pub(crate) struct Source<'t> {
 impl Source<'_> {
     /// The digest with this text.
     fn name(&self, digest: String) -> Named
-        ensures { named_view result ≡ record { fixity = self.now.fixity; algorithm = self.now.algorithm; digest = string_bytes digest } }
+        ensures { named_view result ≡ record {
+          fixity = self.now.fixity;
+          algorithm = self.now.algorithm;
+          digest = string_bytes digest;
+        } }
     {
         Named {
             fixity: self.fixity,
@@ -63,8 +69,12 @@ fn gather_text(
     text: String,
     found: &mut Gathered,
 ) -> Result<(), AllocError>
-    ensures triples { OnOk result (found.new.triples.items ≡ found.old.triples.items ++ triples_in source.now.fixity source.now.content.now source.now.algorithm (string_bytes digest) (string_bytes text ∷ [])) }
-    ensures bad { OnOk result (map string_bytes found.new.bad.items ≡ map string_bytes found.old.bad.items ++ filter (is_bad source.now.content.now) (string_bytes text ∷ [])) }
+    ensures triples { OnOk result (found.new.triples.items
+        ≡ found.old.triples.items ++ triples_in source.now.fixity source.now.content.now
+        source.now.algorithm (string_bytes digest) (string_bytes text ∷ [])) }
+    ensures bad { OnOk result (map string_bytes found.new.bad.items
+        ≡ map string_bytes found.old.bad.items
+        ++ filter (is_bad source.now.content.now) (string_bytes text ∷ [])) }
 {
     match kept_place(alloc, source.content, text.as_str())? {
         Some(path) => found.triples.push(Triple::new(path, source.name(digest)))?,
@@ -81,8 +91,12 @@ fn gather_value(
     value: Value,
     found: &mut Gathered,
 ) -> Result<(), AllocError>
-    ensures triples { OnOk result (found.new.triples.items ≡ found.old.triples.items ++ triples_in source.now.fixity source.now.content.now source.now.algorithm (string_bytes digest) (text_in value)) }
-    ensures bad { OnOk result (map string_bytes found.new.bad.items ≡ map string_bytes found.old.bad.items ++ filter (is_bad source.now.content.now) (text_in value)) }
+    ensures triples { OnOk result (found.new.triples.items
+        ≡ found.old.triples.items ++ triples_in source.now.fixity source.now.content.now
+        source.now.algorithm (string_bytes digest) (text_in value)) }
+    ensures bad { OnOk result (map string_bytes found.new.bad.items
+        ≡ map string_bytes found.old.bad.items
+        ++ filter (is_bad source.now.content.now) (text_in value)) }
 {
     match value {
         Value::String(text) => gather_text(alloc, source, digest, text, found),
@@ -97,8 +111,12 @@ fn gather_values(
     values: Vec<Value>,
     found: &mut Gathered,
 ) -> Result<(), AllocError>
-    ensures triples { OnOk result (found.new.triples.items ≡ found.old.triples.items ++ triples_in source.now.fixity source.now.content.now source.now.algorithm (string_bytes digest.now) (texts_among values.items)) }
-    ensures bad { OnOk result (map string_bytes found.new.bad.items ≡ map string_bytes found.old.bad.items ++ filter (is_bad source.now.content.now) (texts_among values.items)) }
+    ensures triples { OnOk result (found.new.triples.items
+        ≡ found.old.triples.items ++ triples_in source.now.fixity source.now.content.now
+        source.now.algorithm (string_bytes digest.now) (texts_among values.items)) }
+    ensures bad { OnOk result (map string_bytes found.new.bad.items
+        ≡ map string_bytes found.old.bad.items
+        ++ filter (is_bad source.now.content.now) (texts_among values.items)) }
 {
     for value in values {
         gather_value(alloc, source, digest.clone()?, value, found)?;
@@ -113,8 +131,12 @@ fn gather_listing(
     listing: Listing,
     found: &mut Gathered,
 ) -> Result<(), AllocError>
-    ensures triples { OnOk result (found.new.triples.items ≡ found.old.triples.items ++ key_triples source.now.fixity source.now.content.now source.now.algorithm (listing_view listing)) }
-    ensures bad { OnOk result (map string_bytes found.new.bad.items ≡ map string_bytes found.old.bad.items ++ filter (is_bad source.now.content.now) (listing_view listing).1) }
+    ensures triples { OnOk result (found.new.triples.items
+        ≡ found.old.triples.items ++ key_triples source.now.fixity source.now.content.now
+        source.now.algorithm (listing_view listing)) }
+    ensures bad { OnOk result (map string_bytes found.new.bad.items
+        ≡ map string_bytes found.old.bad.items
+        ++ filter (is_bad source.now.content.now) (listing_view listing).1) }
 {
     let Listing { key, mut values } = listing;
     let digest = small(key);
@@ -132,8 +154,12 @@ fn gather_block(
     block: Vec<Listing>,
     found: &mut Gathered,
 ) -> Result<(), AllocError>
-    ensures triples { OnOk result (found.new.triples.items ≡ found.old.triples.items ++ triples_of source.now.fixity source.now.content.now source.now.algorithm (block_view block.items)) }
-    ensures bad { OnOk result (map string_bytes found.new.bad.items ≡ map string_bytes found.old.bad.items ++ bad_texts source.now.content.now (block_view block.items)) }
+    ensures triples { OnOk result (found.new.triples.items
+        ≡ found.old.triples.items ++ triples_of source.now.fixity source.now.content.now
+        source.now.algorithm (block_view block.items)) }
+    ensures bad { OnOk result (map string_bytes found.new.bad.items
+        ≡ map string_bytes found.old.bad.items
+        ++ bad_texts source.now.content.now (block_view block.items)) }
 {
     for listing in block {
         gather_listing(alloc, source, listing, found)?;
@@ -148,8 +174,12 @@ fn gather_fixity(
     fixity: Vec<Supported>,
     found: &mut Gathered,
 ) -> Result<(), AllocError>
-    ensures triples { OnOk result (found.new.triples.items ≡ found.old.triples.items ++ flat_map (λ e. triples_of true content.now e.0 e.1) (supported_view fixity.items)) }
-    ensures bad { OnOk result (map string_bytes found.new.bad.items ≡ map string_bytes found.old.bad.items ++ flat_map (λ e. bad_texts content.now e.1) (supported_view fixity.items)) }
+    ensures triples { OnOk result (found.new.triples.items
+        ≡ found.old.triples.items ++ flat_map (λ e. triples_of true content.now e.0 e.1)
+        (supported_view fixity.items)) }
+    ensures bad { OnOk result (map string_bytes found.new.bad.items
+        ≡ map string_bytes found.old.bad.items
+        ++ flat_map (λ e. bad_texts content.now e.1) (supported_view fixity.items)) }
 {
     for supported in fixity {
         let source = Source {
@@ -180,9 +210,11 @@ fn gather_manifest(
     algorithm: Algorithm,
     manifest: Vec<Listing>,
 ) -> Result<Gathered, AllocError>
-    ensures triples { IfOk result (λ g. IsPermutation (triples_of false content.now algorithm (block_view manifest.items)) g.triples.items) }
+    ensures triples { IfOk result (λ g. IsPermutation
+        (triples_of false content.now algorithm (block_view manifest.items)) g.triples.items) }
     ensures sorted { IfOk result (λ g. IsSorted triple_cmp g.triples.items) }
-    ensures bad { IfOk result (λ g. map string_bytes g.bad.items ≡ bad_texts content.now (block_view manifest.items)) }
+    ensures bad { IfOk result (λ g. map string_bytes g.bad.items
+        ≡ bad_texts content.now (block_view manifest.items)) }
 {
     let source = Source {
         content,
@@ -206,9 +238,12 @@ fn gather_beside(
     triples: Vec<Triple>,
 ) -> Result<Gathered, AllocError>
     requires { IsSorted triple_cmp triples.items }
-    ensures triples { IfOk result (λ g. IsPermutation (triples.items ++ flat_map (λ e. triples_of true content.now e.0 e.1) (supported_view fixity.items)) g.triples.items) }
+    ensures triples { IfOk result (λ g. IsPermutation
+        (triples.items ++ flat_map (λ e. triples_of true content.now e.0 e.1)
+        (supported_view fixity.items)) g.triples.items) }
     ensures sorted { IfOk result (λ g. IsSorted triple_cmp g.triples.items) }
-    ensures bad { IfOk result (λ g. map string_bytes g.bad.items ≡ flat_map (λ e. bad_texts content.now e.1) (supported_view fixity.items)) }
+    ensures bad { IfOk result (λ g. map string_bytes g.bad.items
+        ≡ flat_map (λ e. bad_texts content.now e.1) (supported_view fixity.items)) }
 {
     let mut found = Gathered {
         triples,
@@ -222,8 +257,8 @@ fn gather_beside(
     Ok(found)
 }
 
-/// Gathers what an inventory lists: its kept paths with their digests, sorted and as often as they are listed, and the
-/// texts that have lines.
+/// Gathers what an inventory lists: its kept paths with their digests, sorted and as often as they
+/// are listed, and the texts that have lines.
 pub(crate) fn gather(
     alloc: Global,
     content: &str,
@@ -231,9 +266,12 @@ pub(crate) fn gather(
     manifest: Vec<Listing>,
     fixity: Vec<Supported>,
 ) -> Result<(Vec<Triple>, Listed), AllocError>
-    ensures triples { IfOk result (λ r. IsPermutation (all_triples content.now algorithm (block_view manifest.items) (supported_view fixity.items)) r.0.items) }
+    ensures triples { IfOk result (λ r. IsPermutation
+        (all_triples content.now algorithm (block_view manifest.items)
+        (supported_view fixity.items)) r.0.items) }
     ensures sorted { IfOk result (λ r. IsSorted triple_cmp r.0.items) }
-    ensures listed { IfOk result (λ r. AreListed content.now (block_view manifest.items) (supported_view fixity.items) r.1) }
+    ensures listed { IfOk result (λ r. AreListed content.now (block_view manifest.items)
+        (supported_view fixity.items) r.1) }
 {
     let manifest = gather_manifest(alloc, content, algorithm, manifest)?;
     let conflicting = conflicts(alloc, &manifest.triples)?;
@@ -246,8 +284,8 @@ pub(crate) fn gather(
     Ok((found.triples, listed))
 }
 
-/// Gathers the kept paths of an inventory with their digests, sorted and as often as they are listed, and makes nothing
-/// for lines.
+/// Gathers the kept paths of an inventory with their digests, sorted and as often as they are
+/// listed, and makes nothing for lines.
 pub(crate) fn gather_kept(
     alloc: Global,
     content: &str,
@@ -255,7 +293,9 @@ pub(crate) fn gather_kept(
     manifest: Vec<Listing>,
     fixity: Vec<Supported>,
 ) -> Result<Vec<Triple>, AllocError>
-    ensures triples { IfOk result (λ v. IsPermutation (all_triples content.now algorithm (block_view manifest.items) (supported_view fixity.items)) v.items) }
+    ensures triples { IfOk result (λ v. IsPermutation
+        (all_triples content.now algorithm (block_view manifest.items)
+        (supported_view fixity.items)) v.items) }
     ensures sorted { IfOk result (λ v. IsSorted triple_cmp v.items) }
 {
     let manifest = gather_manifest(alloc, content, algorithm, manifest)?;

@@ -1,5 +1,6 @@
 //! The lines of an inventory that does not stop.
-ghost use Rattle.std.specs.Prelude.{◌≡◌, ◌++◌, ◌∷◌, [], map, flat_map, IfOk, OnOk, option_map, string_bytes};
+ghost use Rattle.std.specs.Prelude.{◌≡◌, ◌++◌, ◌∷◌, [], map, flat_map, IfOk, OnOk, option_map};
+ghost use Rattle.std.specs.Prelude.{string_bytes};
 ghost use Rattle.std.specs.List.{cons_option};
 ghost use Rattle.ocfl_tree.specs.Place.{text_cmp, text_eq};
 ghost use Rattle.ocfl_tree.specs.Path.{slashed};
@@ -7,7 +8,8 @@ ghost use Rattle.ocfl_report.specs.Line.{note};
 ghost use Rattle.ocfl_digest.specs.Algorithm.{algorithm_name};
 ghost use Rattle.ocfl_inventory.specs.ListedPath.{path_fault};
 ghost use Rattle.ocfl_inventory.specs.Notes.{fault_notes, folded_keys, repeated as repeated_of};
-ghost use Rattle.ocfl_inventory.specs.Parts.{remark_view, block_view, supported_view, repeated_notes};
+ghost use Rattle.ocfl_inventory.specs.Parts.{remark_view, block_view, supported_view};
+ghost use Rattle.ocfl_inventory.specs.Parts.{repeated_notes};
 ghost use Rattle.ocfl_inventory.specs.ListsOf.{all_repeated, other_notes};
 
 use crate::gather::Listed;
@@ -24,7 +26,8 @@ use std::alloc::{AllocError, Global};
 
 /// Puts a line at the end.
 fn add(alloc: Global, code: Code, detail: &str, out: &mut Vec<Remark>) -> Result<(), AllocError>
-    ensures { OnOk result (map remark_view out.new.items ≡ map remark_view out.old.items ++ note code detail.now ∷ []) }
+    ensures { OnOk result (map remark_view out.new.items
+        ≡ map remark_view out.old.items ++ note code detail.now ∷ []) }
 {
     let detail = String::from_str(alloc, detail)?;
     out.push(Remark { code, detail })?;
@@ -111,7 +114,8 @@ fn keys<'t>(alloc: Global, block: &'t [Listing]) -> Result<Vec<Key<'t>>, AllocEr
 /// Puts the lines of the manifest's repeated digests at the end.
 fn add_repeated(alloc: Global, block: &[Listing], out: &mut Vec<Remark>) -> Result<(), AllocError>
     ensures { OnOk result (map remark_view out.new.items ≡ map remark_view out.old.items
-        ++ map (note Code.E096) (repeated_of text_cmp text_eq (folded_keys (block_view block.now)))) }
+        ++ map (note Code.E096) (repeated_of text_cmp text_eq
+        (folded_keys (block_view block.now)))) }
 {
     for key in &repeated(alloc, keys(alloc, block)?)? {
         let detail = key.folded(alloc)?;
@@ -139,7 +143,9 @@ fn add_repeated_in(
     supported: &Supported,
     out: &mut Vec<Remark>,
 ) -> Result<(), AllocError>
-    ensures { OnOk result (map remark_view out.new.items ≡ map remark_view out.old.items ++ repeated_notes (supported.now.algorithm, block_view supported.now.block.items)) }
+    ensures { OnOk result (map remark_view out.new.items
+        ≡ map remark_view out.old.items ++ repeated_notes
+        (supported.now.algorithm, block_view supported.now.block.items)) }
 {
     for key in &repeated(alloc, keys(alloc, &supported.block)?)? {
         let detail = beside(alloc, supported.algorithm, key)?;
@@ -156,7 +162,8 @@ fn add_repeated_fixity(
     fixity: &[Supported],
     out: &mut Vec<Remark>,
 ) -> Result<(), AllocError>
-    ensures { OnOk result (map remark_view out.new.items ≡ map remark_view out.old.items ++ flat_map repeated_notes (supported_view fixity.now)) }
+    ensures { OnOk result (map remark_view out.new.items
+        ≡ map remark_view out.old.items ++ flat_map repeated_notes (supported_view fixity.now)) }
 {
     for supported in fixity {
         add_repeated_in(alloc, supported, out)?;
@@ -170,7 +177,8 @@ pub(crate) fn repeated_lines(
     manifest: &[Listing],
     fixity: &[Supported],
 ) -> Result<Vec<Remark>, AllocError>
-    ensures { IfOk result (λ v. map remark_view v.items ≡ all_repeated (block_view manifest.now) (supported_view fixity.now)) }
+    ensures { IfOk result (λ v. map remark_view v.items
+        ≡ all_repeated (block_view manifest.now) (supported_view fixity.now)) }
 {
     let mut lines = Vec::new(alloc);
     add_repeated(alloc, manifest, &mut lines)?;
@@ -186,7 +194,9 @@ pub(crate) fn add_others(
     unsupported: &[String],
     lines: &mut Vec<Remark>,
 ) -> Result<(), AllocError>
-    ensures { OnOk result (map remark_view lines.new.items ≡ map remark_view lines.old.items ++ other_notes content.now lists.now (map string_bytes unsupported.now)) }
+    ensures { OnOk result (map remark_view lines.new.items
+        ≡ map remark_view lines.old.items ++ other_notes content.now lists.now
+        (map string_bytes unsupported.now)) }
 {
     add_faults(alloc, content, &lists.manifest_bad, lines)?;
     add_faults(alloc, content, &lists.fixity_bad, lines)?;

@@ -1,10 +1,15 @@
 //! Listed paths.
-ghost use Rattle.std.specs.Prelude.{◌≡◌, ◌∷◌, [], ◌≤◌, ◌==◌, ◌||◌, ◌&&◌, nat_lt, nat_eq, not, length, count_by, true, false, IfOk, MatchOption, codes};
+ghost use Rattle.std.specs.Prelude.{◌≡◌, ◌∷◌, [], ◌≤◌, ◌==◌, ◌||◌, ◌&&◌, nat_lt, nat_eq, not};
+ghost use Rattle.std.specs.Prelude.{length, count_by, true, false, IfOk, MatchOption, codes};
 ghost use Rattle.std.specs.List.{list_any, list_all, starts_with, ends_with};
 ghost use Rattle.std.specs.Str.{all_ascii_digits};
 ghost use Rattle.std.specs.Char.{is_ascii_digit};
 ghost use Rattle.ocfl_tree.specs.Path.{elements};
-ghost use Rattle.ocfl_inventory.specs.ListedPath.{is_version_name as is_version_text, is_dots as is_dots_text, is_no_name as is_no_name_text, is_content_path as is_content_place, path_fault, is_kept};
+ghost use Rattle.ocfl_inventory.specs.ListedPath.{is_version_name as is_version_text};
+ghost use Rattle.ocfl_inventory.specs.ListedPath.{is_dots as is_dots_text};
+ghost use Rattle.ocfl_inventory.specs.ListedPath.{is_no_name as is_no_name_text};
+ghost use Rattle.ocfl_inventory.specs.ListedPath.{is_content_path as is_content_place, path_fault};
+ghost use Rattle.ocfl_inventory.specs.ListedPath.{is_kept};
 ghost use Rattle.ocfl_inventory.specs.Gathered.{is_long};
 
 use ocfl_report::Code;
@@ -23,8 +28,8 @@ fn are_digits(bytes: &[u8]) -> bool
     all_digits(bytes)
 }
 
-/// Whether a name is that of a version's directory: `v` and then ASCII digits, at least one (OCFL 1.1, 3.3 Version
-/// Directories).
+/// Whether a name is that of a version's directory: `v` and then ASCII digits, at least one (OCFL
+/// 1.1, 3.3 Version Directories).
 pub fn is_version_name(text: &str) -> bool
     ensures { result ≡ is_version_text text.now }
 {
@@ -64,7 +69,8 @@ fn has_no_name(text: &str) -> bool
     has_long(text) || has_zero(text.as_bytes())
 }
 
-/// How many slashes are in a run of bytes that is short enough to count them in one byte, and so many at a time.
+/// How many slashes are in a run of bytes that is short enough to count them in one byte, and so
+/// many at a time.
 fn slashes_in(run: &[u8]) -> u8
     requires { length run.now ≤ 128 }
     ensures { result ≡ count_by (λ b. b == 47) run.now }
@@ -97,7 +103,8 @@ fn is_deep(text: &str) -> bool
 
 /// The first element of a path and what is left behind its slash, or none where there is no slash.
 fn split_first(text: &str) -> Option<(&str, &str)>
-    ensures { MatchOption result (elements text.now ≡ text.now ∷ []) (λ r. elements text.now ≡ r.0.now ∷ elements r.1.now) }
+    ensures { MatchOption result (elements text.now ≡ text.now ∷ [])
+        (λ r. elements text.now ≡ r.0.now ∷ elements r.1.now) }
 {
     text.split_once('/')
 }
@@ -115,14 +122,16 @@ fn is_content_path(content: &str, text: &str) -> bool
 }
 
 fn has_slash_at_end(text: &str) -> bool
-    ensures { result ≡ (starts_with nat_eq text.now (codes "/") || ends_with nat_eq text.now (codes "/")) }
+    ensures { result ≡ (starts_with nat_eq text.now (codes "/") || ends_with nat_eq text.now
+        (codes "/")) }
 {
     text.as_bytes().starts_with(b"/") || text.as_bytes().ends_with(b"/")
 }
 
 /// Whether a path lies elsewhere than those that are kept, whatever its elements are.
 fn is_elsewhere(content: &str, text: &str) -> bool
-    ensures { result ≡ (not (is_content_place content.now (elements text.now)) || nat_lt 128 (length (elements text.now))) }
+    ensures { result ≡ (not (is_content_place content.now (elements text.now)) || nat_lt 128
+        (length (elements text.now))) }
 {
     !is_content_path(content, text) || is_deep(text)
 }
@@ -143,13 +152,15 @@ pub(crate) fn fault(content: &str, text: &str) -> Option<Code>
     None
 }
 
-/// The place of a listed path that nothing is wrong with. That its elements are names is left to the place to find out.
+/// The place of a listed path that nothing is wrong with. That its elements are names is left to
+/// the place to find out.
 pub(crate) fn kept_place(
     alloc: Global,
     content: &str,
     text: &str,
 ) -> Result<Option<Place>, AllocError>
-    ensures { IfOk result (λ o. MatchOption o (is_kept content.now text.now ≡ false) (λ place. (is_kept content.now text.now ≡ true) × (place ≡ elements text.now))) }
+    ensures { IfOk result (λ o. MatchOption o (is_kept content.now text.now ≡ false)
+        (λ place. (is_kept content.now text.now ≡ true) × (place ≡ elements text.now))) }
 {
     if is_elsewhere(content, text) {
         return Ok(None);

@@ -53,7 +53,8 @@ impl Spots {
         Spots { spots, shared }
     }
 
-    /// The bytes of a path at the spots, where the end comes before a slash, and a slash before all else.
+    /// The bytes of a path at the spots, where the end comes before a slash, and a slash before all
+    /// else.
     pub(crate) fn rank(&self, triple: &Triple) -> u128 {
         let seen = window(triple.past(self.shared));
         let mut rank = 0;

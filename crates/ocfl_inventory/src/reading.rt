@@ -1,5 +1,6 @@
 //! The keys of an inventory, each of which may stop.
-ghost use Rattle.std.specs.Prelude.{◌≡◌, false, map, IfOk, Some, None, option_map, string_bytes, filter, not, is_some, if◌then◌else◌};
+ghost use Rattle.std.specs.Prelude.{◌≡◌, false, map, IfOk, Some, None, option_map, string_bytes};
+ghost use Rattle.std.specs.Prelude.{filter, not, is_some, if◌then◌else◌};
 ghost use Rattle.std.specs.Prelude.{codes, ◌==◌};
 ghost use Rattle.std.specs.List.{list_any};
 ghost use Rattle.std.specs.Result.{result_ok};
@@ -7,9 +8,15 @@ ghost use Rattle.serde_json.specs.View.{view, members_view};
 ghost use Rattle.serde_json.specs.Find.{get_member};
 ghost use Rattle.ocfl_tree.specs.Place.{text_eq};
 ghost use Rattle.ocfl_report.specs.Line.{note};
-ghost use Rattle.ocfl_digest.specs.Algorithm.{algorithm_name, algorithm_named, supported as all_supported};
-ghost use Rattle.ocfl_inventory.specs.Reading.{object_of, digest_algorithm, algorithm_in, content_named, content_from, fixity_from, blocks_for, keys_of, unsupported_in, algorithm_of as algorithm_stated};
-ghost use Rattle.ocfl_inventory.specs.Parts.{Gives, Says, AreValues, value_for, block_view, manifest_from, fixity_view, supported_view, with_block, inventory_view, inventory_in};
+ghost use Rattle.ocfl_digest.specs.Algorithm.{algorithm_name, algorithm_named};
+ghost use Rattle.ocfl_digest.specs.Algorithm.{supported as all_supported};
+ghost use Rattle.ocfl_inventory.specs.Reading.{object_of, digest_algorithm, algorithm_in};
+ghost use Rattle.ocfl_inventory.specs.Reading.{content_named, content_from, fixity_from};
+ghost use Rattle.ocfl_inventory.specs.Reading.{blocks_for, keys_of, unsupported_in};
+ghost use Rattle.ocfl_inventory.specs.Reading.{algorithm_of as algorithm_stated};
+ghost use Rattle.ocfl_inventory.specs.Parts.{Gives, Says, AreValues, value_for, block_view};
+ghost use Rattle.ocfl_inventory.specs.Parts.{manifest_from, fixity_view, supported_view};
+ghost use Rattle.ocfl_inventory.specs.Parts.{with_block, inventory_view, inventory_in};
 
 use crate::block::{block, member, members, take_member};
 use crate::listing::Listing;
@@ -159,7 +166,8 @@ fn take_block(
     algorithm: Algorithm,
     found: &mut Vec<Supported>,
 ) -> Result<bool, AllocError>
-    ensures { IfOk result (λ b. with_block (supported_view found.old.items) (option_map view value) algorithm
+    ensures { IfOk result (λ b. with_block (supported_view found.old.items)
+        (option_map view value) algorithm
         ≡ (if b then Some (supported_view found.new.items) else None)) }
 {
     let Some(value) = value else {
@@ -185,7 +193,8 @@ pub(crate) struct Values {
 /// Takes the value of an algorithm's member out of a fixity block.
 fn take_for(map: &mut Map<String, Value>, algorithm: Algorithm) -> Option<Value>
     ensures value { option_map view result ≡ value_for algorithm (members_view map.old.entries) }
-    ensures others { (a : Algorithm) → text_eq (algorithm_name a) (algorithm_name algorithm) ≡ false → value_for a (members_view map.new.entries) ≡ value_for a (members_view map.old.entries) }
+    ensures others { (a : Algorithm) → text_eq (algorithm_name a) (algorithm_name algorithm) ≡ false
+        → value_for a (members_view map.new.entries) ≡ value_for a (members_view map.old.entries) }
 {
     take_member(map, algorithm.name())
 }
@@ -211,7 +220,8 @@ fn supported_blocks(
     alloc: Global,
     map: Map<String, Value>,
 ) -> Result<Option<Vec<Supported>>, AllocError>
-    ensures { IfOk result (λ o. option_map (λ v. supported_view v.items) o ≡ blocks_for (members_view map.entries) all_supported) }
+    ensures { IfOk result (λ o. option_map (λ v. supported_view v.items) o
+        ≡ blocks_for (members_view map.entries) all_supported) }
 {
     let mut found = Vec::new(alloc);
     let Values {
@@ -244,7 +254,9 @@ fn unsupported_keys<'v>(
     alloc: Global,
     members: &'v Map<String, Value>,
 ) -> Result<Vec<&'v str>, AllocError>
-    ensures { IfOk result (λ v. map (λ t. t.now) v.items ≡ filter (λ k. not (is_some (algorithm_named k))) (keys_of (members_view members.now.entries))) }
+    ensures { IfOk result (λ v. map (λ t. t.now) v.items
+        ≡ filter (λ k. not (is_some (algorithm_named k)))
+        (keys_of (members_view members.now.entries))) }
 {
     let mut found = Vec::new(alloc);
     for (key, _) in members.iter() {
@@ -257,7 +269,8 @@ fn unsupported_keys<'v>(
 
 /// The keys that name no supported algorithm, ascending by bytes.
 fn unsupported(alloc: Global, members: &Map<String, Value>) -> Result<Vec<String>, AllocError>
-    ensures { IfOk result (λ v. map string_bytes v.items ≡ unsupported_in (members_view members.now.entries)) }
+    ensures { IfOk result (λ v. map string_bytes v.items
+        ≡ unsupported_in (members_view members.now.entries)) }
 {
     let mut keys = unsupported_keys(alloc, members)?;
     put_in_order(&mut keys);
@@ -266,8 +279,10 @@ fn unsupported(alloc: Global, members: &Map<String, Value>) -> Result<Vec<String
 
 /// Takes the manifest out of the members of an inventory, which leaves the fixity block.
 fn take_manifest(map: &mut Map<String, Value>) -> Option<Value>
-    ensures value { option_map view result ≡ get_member (codes "manifest") (members_view map.old.entries) }
-    ensures fixity { get_member (codes "fixity") (members_view map.new.entries) ≡ get_member (codes "fixity") (members_view map.old.entries) }
+    ensures value { option_map view result ≡ get_member (codes "manifest")
+        (members_view map.old.entries) }
+    ensures fixity { get_member (codes "fixity") (members_view map.new.entries)
+        ≡ get_member (codes "fixity") (members_view map.old.entries) }
 {
     take_member(map, "manifest")
 }
@@ -318,8 +333,9 @@ pub(crate) fn stated_algorithm(
 
 /// The digest algorithm that the bytes of an inventory name (OCFL 1.1, 3.5.1 Basic Structure).
 ///
-/// The bytes are those of an `inventory.json`. `None` is answered where they are no JSON object in UTF-8 (RFC 8259), and
-/// where `digestAlgorithm` is missing, is no text, or is neither `sha256` nor `sha512`. The error is want of memory.
+/// The bytes are those of an `inventory.json`. `None` is answered where they are no JSON object in
+/// UTF-8 (RFC 8259), and where `digestAlgorithm` is missing, is no text, or is neither `sha256` nor
+/// `sha512`. The error is want of memory.
 pub fn algorithm_of(alloc: Global, bytes: &[u8]) -> Result<Option<Algorithm>, AllocError>
     ensures { IfOk result (λ a. a ≡ result_ok (algorithm_stated bytes.now)) }
 {

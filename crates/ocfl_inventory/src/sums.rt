@@ -1,7 +1,9 @@
 //! The text of a sidecar file.
 ghost use Rattle.std.specs.Prelude.{◌≡◌, option_map, length, ◌≤◌, ◌&&◌, drop, codes, nat_eq};
 ghost use Rattle.std.specs.List.{list_all, starts_with};
-ghost use Rattle.ocfl_inventory.specs.Sidecar.{is_blank as is_blank_byte, is_tail as is_tail_byte, leading, is_after_digits as goes_on, sidecar_of_len, sidecar_of};
+ghost use Rattle.ocfl_inventory.specs.Sidecar.{is_blank as is_blank_byte, is_tail as is_tail_byte};
+ghost use Rattle.ocfl_inventory.specs.Sidecar.{leading, is_after_digits as goes_on, sidecar_of_len};
+ghost use Rattle.ocfl_inventory.specs.Sidecar.{sidecar_of};
 ghost use Rattle.ocfl_inventory.specs.Sums.{sum_view};
 
 use hex::FromHex;
@@ -66,7 +68,8 @@ fn are_tail(bytes: &[u8]) -> bool
 
 /// Whether this is the inventory's name and what may follow it.
 fn is_name_and_tail(name: &[u8]) -> bool
-    ensures { result ≡ (starts_with nat_eq name.now (codes "inventory.json") && list_all is_tail_byte (drop 14 name.now)) }
+    ensures { result ≡ (starts_with nat_eq name.now
+        (codes "inventory.json") && list_all is_tail_byte (drop 14 name.now)) }
 {
     if !name.starts_with(b"inventory.json") {
         return false;
@@ -129,9 +132,10 @@ fn long(bytes: &[u8]) -> Option<Sum>
 
 /// The digest that the bytes of a sidecar name (OCFL 1.1, 3.6 Inventory Digest).
 ///
-/// The bytes are 64 (`sha256`) or 128 (`sha512`) hexadecimal digits of either case, one or more spaces or tabs,
-/// `inventory.json`, and then only spaces, tabs, CR and LF; at most 4,096 of them. `None` is answered for all other
-/// bytes, and for each algorithm that has no sidecars. Takes no memory.
+/// The bytes are 64 (`sha256`) or 128 (`sha512`) hexadecimal digits of either case, one or more
+/// spaces or tabs, `inventory.json`, and then only spaces, tabs, CR and LF; at most 4,096 of them.
+/// `None` is answered for all other bytes, and for each algorithm that has no sidecars. Takes no
+/// memory.
 pub fn sidecar(bytes: &[u8], algorithm: Algorithm) -> Option<Sum>
     ensures { option_map sum_view result ≡ sidecar_of algorithm bytes.now }
 {

@@ -1,5 +1,6 @@
 //! The table of an inventory: the digests that it names for the paths of its object.
-ghost use Rattle.std.specs.Prelude.{◌≡◌, [], ◌≤◌, ◌<◌, ◌^◌, IfOk, IfSome, None, map, option_map, true, false, length, slice_get, string_bytes};
+ghost use Rattle.std.specs.Prelude.{◌≡◌, [], ◌≤◌, ◌<◌, ◌^◌, IfOk, IfSome, None, map, option_map};
+ghost use Rattle.std.specs.Prelude.{true, false, length, slice_get, string_bytes};
 ghost use Rattle.std.specs.Ordering.{is_lt};
 ghost use Rattle.std.specs.Result.{result_ok};
 ghost use Rattle.std.specs.List.Sorted.{IsPartitionPoint, IsSorted};
@@ -10,10 +11,12 @@ ghost use Rattle.serde_json.specs.View.{members_view};
 ghost use Rattle.ocfl_inventory.specs.Reading.{algorithm_in, algorithm_of, inventory_of};
 ghost use Rattle.ocfl_inventory.specs.Notes.{inventory_notes, notes_of, reading_notes};
 ghost use Rattle.ocfl_inventory.specs.Parts.{remark_view, inventory_in, inventory_view};
-ghost use Rattle.ocfl_inventory.specs.Table.{IsFit, triple_cmp, table_from, table_from_reading, table_of, named as named_in};
+ghost use Rattle.ocfl_inventory.specs.Table.{IsFit, triple_cmp, table_from, table_from_reading};
+ghost use Rattle.ocfl_inventory.specs.Table.{table_of, named as named_in};
 ghost use Rattle.ocfl_inventory.specs.NextPath.{next_path};
 ghost use Rattle.ocfl_inventory.specs.TripleView.{named_view, named_among};
-ghost use Rattle.ocfl_inventory.specs.ReadInventory.{IsReading, IsTableReading, SaysLines, note_line};
+ghost use Rattle.ocfl_inventory.specs.ReadInventory.{IsReading, IsTableReading, SaysLines};
+ghost use Rattle.ocfl_inventory.specs.ReadInventory.{note_line};
 
 use crate::gather::{gather, gather_kept};
 use crate::note::{Remark, Stop};
@@ -27,8 +30,8 @@ use serde_json::{Map, Value};
 use std::alloc::{AllocError, Global};
 use std::marker::Model;
 
-/// What an inventory says of the paths of its object, from the object's root down: for each, the digests that the
-/// manifest and the fixity block name.
+/// What an inventory says of the paths of its object, from the object's root down: for each, the
+/// digests that the manifest and the fixity block name.
 #[derive(Debug, Drop)]
 pub struct Table {
     algorithm: Algorithm,
@@ -43,7 +46,11 @@ impl Model for Table {
 
     ghost Value = { TableModel };
 
-    ghost view = { λ a. record { algorithm = a.algorithm; content = string_bytes a.content; triples = a.triples.items } };
+    ghost view = { λ a. record {
+      algorithm = a.algorithm;
+      content = string_bytes a.content;
+      triples = a.triples.items;
+    } };
 
     ghost invariant = { λ a. IsAscending triple_cmp a.triples.items };
 }
@@ -51,7 +58,8 @@ impl Model for Table {
 /// Where the paths that are not below a place begin.
 fn first_from(triples: &[Triple], place: &Place) -> usize
     requires { IsAscending triple_cmp triples.now }
-    ensures found { IsPartitionPoint (λ t. is_lt (place_cmp t.path place.now) ≡ true) (λ t. is_lt (place_cmp t.path place.now) ≡ false) triples.now result }
+    ensures found { IsPartitionPoint (λ t. is_lt (place_cmp t.path place.now) ≡ true)
+        (λ t. is_lt (place_cmp t.path place.now) ≡ false) triples.now result }
     ensures bound { result ≤ length triples.now }
 {
     triples.partition_point(|triple| triple.path().cmp(place).is_lt())
@@ -60,7 +68,8 @@ fn first_from(triples: &[Triple], place: &Place) -> usize
 /// Where the paths above a place begin.
 fn first_above(triples: &[Triple], place: &Place) -> usize
     requires { IsAscending triple_cmp triples.now }
-    ensures found { IsPartitionPoint (λ t. is_lt (place_cmp place.now t.path) ≡ false) (λ t. is_lt (place_cmp place.now t.path) ≡ true) triples.now result }
+    ensures found { IsPartitionPoint (λ t. is_lt (place_cmp place.now t.path) ≡ false)
+        (λ t. is_lt (place_cmp place.now t.path) ≡ true) triples.now result }
     ensures bound { result ≤ length triples.now }
 {
     triples.partition_point(|triple| !place.cmp(triple.path()).is_lt())
@@ -77,7 +86,8 @@ fn triples_at<'t>(triples: &'t [Triple], place: &Place) -> &'t [Triple]
 }
 
 fn path_at(triples: &[Triple], index: usize) -> Option<&Place>
-    ensures { option_map (λ p. p.now) result ≡ option_map (λ t. t.path) (slice_get triples.now index) }
+    ensures { option_map (λ p. p.now) result ≡ option_map (λ t. t.path)
+        (slice_get triples.now index) }
 {
     let triple = triples.get(index)?;
     Some(triple.path())
@@ -97,7 +107,11 @@ fn clone_named(alloc: Global, triples: &[Triple]) -> Result<Vec<Named>, AllocErr
 fn make_table(algorithm: Algorithm, content: String, mut triples: Vec<Triple>) -> Table
     requires { IsSorted triple_cmp triples.items }
     ensures few { length result.triples < 2 ^ 64 }
-    ensures is { result ≡ record { algorithm = algorithm; content = string_bytes content; triples = ascending triple_cmp triples.items } }
+    ensures is { result ≡ record {
+      algorithm = algorithm;
+      content = string_bytes content;
+      triples = ascending triple_cmp triples.items;
+    } }
 {
     triples.dedup();
     Table {
@@ -109,7 +123,8 @@ fn make_table(algorithm: Algorithm, content: String, mut triples: Vec<Triple>) -
 
 /// The lines and the table of an inventory that does not stop.
 fn finish(alloc: Global, inventory: Inventory) -> Result<(Vec<Remark>, Table), AllocError>
-    ensures lines { IfOk result (λ r. map remark_view r.0.items ≡ inventory_notes (inventory_view inventory)) }
+    ensures lines { IfOk result (λ r. map remark_view r.0.items
+        ≡ inventory_notes (inventory_view inventory)) }
     ensures table { IfOk result (λ r. r.1 ≡ table_from (inventory_view inventory)) }
     ensures few { IfOk result (λ r. length r.1.triples < 2 ^ 64) }
 {
@@ -222,9 +237,12 @@ fn reading_of_members(
     alloc: Global,
     members: Map<String, Value>,
 ) -> Result<InventoryReading, AllocError>
-    ensures algorithm { IfOk result (λ r. r.algorithm ≡ result_ok (algorithm_in (members_view members.entries))) }
-    ensures lines { IfOk result (λ r. map line_of r.lines.items ≡ lines_at [] (reading_notes (inventory_in (members_view members.entries)))) }
-    ensures table { IfOk result (λ r. r.table ≡ table_from_reading (inventory_in (members_view members.entries))) }
+    ensures algorithm { IfOk result (λ r. r.algorithm
+        ≡ result_ok (algorithm_in (members_view members.entries))) }
+    ensures lines { IfOk result (λ r. map line_of r.lines.items
+        ≡ lines_at [] (reading_notes (inventory_in (members_view members.entries)))) }
+    ensures table { IfOk result (λ r. r.table
+        ≡ table_from_reading (inventory_in (members_view members.entries))) }
     ensures fit { IfOk result (λ r. IfSome r.table (λ t. IsFit t)) }
 {
     let algorithm = stated_algorithm(alloc, &members)?;
@@ -240,17 +258,20 @@ fn reading_of_members(
 
 /// Reads the bytes of an `inventory.json` by one parse (OCFL 1.1, 3.5 Inventory; RFC 8259).
 ///
-/// The lines carry the root as their place: the caller puts the object's in. They are those about the inventory, but for
-/// those on its sidecars. The first of these faults is the only line, and there is no table: bytes that are no JSON object
-/// in UTF-8, or that nest too deep (E033); `digestAlgorithm` missing (E036), no text (S03), or neither `sha256` nor
-/// `sha512` (E025); `contentDirectory` no text or empty (S03), with a slash (E017), or `.` or `..` (E018); `manifest`
-/// missing (E041) or of a wrong form (S03); `fixity` of a wrong form (S03). Else there is a table, and the lines are, in
-/// this order: digests that several keys have (E096, E097), bad paths (E100, E099, S06), paths that conflict (E101), and
-/// algorithms of fixity that are not computed (S07). The algorithm is that of `algorithm_of`, also where a later key
-/// stops. The error is want of memory.
+/// The lines carry the root as their place: the caller puts the object's in. They are those about
+/// the inventory, but for those on its sidecars. The first of these faults is the only line, and
+/// there is no table: bytes that are no JSON object in UTF-8, or that nest too deep (E033);
+/// `digestAlgorithm` missing (E036), no text (S03), or neither `sha256` nor `sha512` (E025);
+/// `contentDirectory` no text or empty (S03), with a slash (E017), or `.` or `..` (E018);
+/// `manifest` missing (E041) or of a wrong form (S03); `fixity` of a wrong form (S03). Else there
+/// is a table, and the lines are, in this order: digests that several keys have (E096, E097), bad
+/// paths (E100, E099, S06), paths that conflict (E101), and algorithms of fixity that are not
+/// computed (S07). The algorithm is that of `algorithm_of`, also where a later key stops. The error
+/// is want of memory.
 pub fn read_inventory(alloc: Global, bytes: &[u8]) -> Result<InventoryReading, AllocError>
     ensures algorithm { IfOk result (λ r. r.algorithm ≡ result_ok (algorithm_of bytes.now)) }
-    ensures lines { IfOk result (λ r. map line_of r.lines.items ≡ lines_at [] (notes_of bytes.now)) }
+    ensures lines { IfOk result (λ r. map line_of r.lines.items
+        ≡ lines_at [] (notes_of bytes.now)) }
     ensures table { IfOk result (λ r. r.table ≡ table_of bytes.now) }
     ensures fit { IfOk result (λ r. IfSome r.table (λ t. IsFit t)) }
 {
@@ -261,10 +282,12 @@ pub fn read_inventory(alloc: Global, bytes: &[u8]) -> Result<InventoryReading, A
 }
 
 impl Table {
-    /// Reads the bytes of an `inventory.json`: the lines about it and its table, as `read_inventory` gives them. On any
-    /// bytes the table's paths have at most 128 names, and ascend. The error is want of memory.
+    /// Reads the bytes of an `inventory.json`: the lines about it and its table, as
+    /// `read_inventory` gives them. On any bytes the table's paths have at most 128 names, and
+    /// ascend. The error is want of memory.
     pub fn read(alloc: Global, bytes: &[u8]) -> Result<(Vec<Line>, Option<Table>), AllocError>
-        ensures lines { IfOk result (λ r. map line_of r.0.items ≡ lines_at [] (notes_of bytes.now)) }
+        ensures lines { IfOk result (λ r. map line_of r.0.items
+            ≡ lines_at [] (notes_of bytes.now)) }
         ensures table { IfOk result (λ r. r.1 ≡ table_of bytes.now) }
         ensures fit { IfOk result (λ r. IfSome r.1 (λ t. IsFit t)) }
     {
@@ -272,8 +295,8 @@ impl Table {
         Ok((read.lines, read.table))
     }
 
-    /// Reads the bytes of an `inventory.json` for its table alone, and makes no lines: none where one of the faults of
-    /// `read_inventory` stops. The error is want of memory.
+    /// Reads the bytes of an `inventory.json` for its table alone, and makes no lines: none where
+    /// one of the faults of `read_inventory` stops. The error is want of memory.
     pub fn read_alone(alloc: Global, bytes: &[u8]) -> Result<Option<Table>, AllocError>
         ensures table { IfOk result (λ table. table ≡ table_of bytes.now) }
         ensures fit { IfOk result (λ table. IfSome table (λ t. IsFit t)) }
@@ -292,26 +315,28 @@ impl Table {
         self.algorithm
     }
 
-    /// The name of the content directory (OCFL 1.1, 3.3.1 Content Directory), `content` where the inventory names none.
+    /// The name of the content directory (OCFL 1.1, 3.3.1 Content Directory), `content` where the
+    /// inventory names none.
     pub fn content_directory(&self) -> &str
         ensures { result.now ≡ self.now.content }
     {
         self.content.as_str()
     }
 
-    /// The digests that are named for a path of the object, from the object's root down: those of the manifest before
-    /// those of fixity, then by the algorithm's name, then by the digest's text, each once; none for a path that is not
-    /// named. The error is want of memory.
+    /// The digests that are named for a path of the object, from the object's root down: those of
+    /// the manifest before those of fixity, then by the algorithm's name, then by the digest's
+    /// text, each once; none for a path that is not named. The error is want of memory.
     pub fn named(&self, alloc: Global, place: &Place) -> Result<Vec<Named>, AllocError>
         ensures { IfOk result (λ v. map named_view v.items ≡ named_in self.now place.now) }
     {
         clone_named(alloc, triples_at(&self.triples, place))
     }
 
-    /// The least path above the given one, or the least of all for none; `None` where there is no such path. Takes no
-    /// memory.
+    /// The least path above the given one, or the least of all for none; `None` where there is no
+    /// such path. Takes no memory.
     pub fn next_after(&self, after: Option<&Place>) -> Option<&Place>
-        ensures path { option_map (λ p. p.now) result ≡ next_path self.now (option_map (λ p. p.now) after.entry) }
+        ensures path { option_map (λ p. p.now) result
+            ≡ next_path self.now (option_map (λ p. p.now) after.entry) }
         ensures ascending { IsAscending triple_cmp self.now.triples }
     {
         match after {

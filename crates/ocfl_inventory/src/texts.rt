@@ -7,7 +7,8 @@ use std::alloc::{AllocError, Global};
 
 /// Puts the texts in order, each once.
 pub(crate) fn put_in_order(texts: &mut Vec<&str>)
-    ensures { map (λ t. t.now) texts.new.items ≡ ascending text_cmp (map (λ t. t.now) texts.old.items) }
+    ensures { map (λ t. t.now) texts.new.items
+        ≡ ascending text_cmp (map (λ t. t.now) texts.old.items) }
 {
     texts.sort_unstable();
     texts.dedup();

@@ -101,7 +101,8 @@ fn past(text: &str, count: usize) -> &[u8]
 }
 
 impl Triple {
-    /// Compares triples by their paths without so many bytes at the front, and then as named digests go.
+    /// Compares triples by their paths without so many bytes at the front, and then as named
+    /// digests go.
     pub(crate) fn cmp_past(&self, other: &Triple, count: usize) -> Ordering
         ensures { result ≡ triple_cmp (behind count self.now) (behind count other.now) }
     {

@@ -1,7 +1,8 @@
 ghost use Rattle.std.specs.Prelude.{◌≡◌};
 ghost use Rattle.ocfl_report.specs.Text.{code_text};
 
-/// What a line of the report says. Codes that begin with `E` have the numbers of OCFL 1.1's validation codes.
+/// What a line of the report says. Codes that begin with `E` have the numbers of OCFL 1.1's
+/// validation codes.
 #[derive(Clone, Copy, Debug, PartialEq, Eq)]
 pub enum Code {
     /// Nothing was found.

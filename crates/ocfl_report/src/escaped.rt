@@ -1,21 +1,25 @@
 //! Escaped text, after RFC 3986, 2.1, with this report's own set of bytes that stand as they are.
-ghost use Rattle.std.specs.Prelude.{◌≡◌, ◌+◌, ◌<◌, ◌≤◌, ◌++◌, ◌↔◌, IsTrue, OnOk, OnErr, length, vec_len, vec_capacity};
+ghost use Rattle.std.specs.Prelude.{◌≡◌, ◌+◌, ◌<◌, ◌≤◌, ◌++◌, ◌↔◌, IsTrue, OnOk, OnErr, length};
+ghost use Rattle.std.specs.Prelude.{vec_len, vec_capacity};
 ghost use Rattle.std.specs.Io.{StartsWith};
 ghost use Rattle.ocfl_report.specs.Text.{escape};
 
 use percent_encoding::{AsciiSet, CONTROLS, ascii_set, percent_encode};
 use std::alloc::AllocError;
 
-/// The ASCII bytes that are escaped: the controls, DEL among them, and `%`. The bytes outside ASCII always are.
+/// The ASCII bytes that are escaped: the controls, DEL among them, and `%`. The bytes outside ASCII
+/// always are.
 pub(crate) const ESCAPED: AsciiSet = ascii_set!(CONTROLS.add(b'%'));
 
-/// Appends the text with each control, `%`, DEL and byte outside ASCII as `%` and two capital hexadecimal digits.
+/// Appends the text with each control, `%`, DEL and byte outside ASCII as `%` and two capital
+/// hexadecimal digits.
 ///
 /// Where memory is refused a beginning of that stands behind what was there.
 pub(crate) fn put_escaped(text: &[u8], out: &mut Vec<u8>) -> Result<(), AllocError>
     ensures ok { OnOk result (out.new.items ≡ out.old.items ++ escape text.now) }
     ensures begins { StartsWith out.new.items out.old.items }
-    ensures full { OnErr result (vec_capacity out.old < vec_len out.old + length (escape text.now)) }
+    ensures full { OnErr result (vec_capacity out.old
+        < vec_len out.old + length (escape text.now)) }
     ensures capacity { vec_capacity out.old ≤ vec_capacity out.new }
 {
     for piece in percent_encode(text, ESCAPED) {

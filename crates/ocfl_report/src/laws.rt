@@ -50,5 +50,6 @@ pub fn text_is_that_of_lines()
 /// The text of a report determines its lines: a reader can tell them apart again.
 #[tactic(auto, using(crate::proofs::LineTexts::lines_text_determines))]
 pub fn text_determines_the_lines()
-    ensures { (ls ms : List ModelLine) → All IsLine ls → All IsLine ms → lines_text ls ≡ lines_text ms → ls ≡ ms }
+    ensures { (ls ms : List ModelLine) → All IsLine ls → All IsLine ms
+        → lines_text ls ≡ lines_text ms → ls ≡ ms }
 {}

@@ -16,16 +16,18 @@ pub struct Line {
 }
 
 impl Line {
-    ghost use Rattle.std.specs.Prelude.{◌≡◌, ◌+◌, ◌<◌, ◌++◌, length, vec_len, vec_capacity, OnOk, OnErr};
+    ghost use Rattle.std.specs.Prelude.{◌≡◌, ◌+◌, ◌<◌, ◌++◌, length, vec_len, vec_capacity, OnOk};
+    ghost use Rattle.std.specs.Prelude.{OnErr};
     ghost use Rattle.std.specs.Io.{StartsWith};
     ghost use Rattle.ocfl_report.specs.Line.{line_of, is_finding_code};
     ghost use Rattle.ocfl_report.specs.Text.{line_text};
 
-    /// Appends the line as a report has it: code, place and detail with tabs between them, and a line feed. The place
-    /// is written as by [`put_place`](crate::put_place), and the detail is escaped whole by the same rule: spaces and
-    /// slashes in it stand as they are.
+    /// Appends the line as a report has it: code, place and detail with tabs between them, and a
+    /// line feed. The place is written as by [`put_place`](crate::put_place), and the detail is
+    /// escaped whole by the same rule: spaces and slashes in it stand as they are.
     ///
-    /// The only error is want of memory, which comes only where `out` has too little room. Then `out` is as it was.
+    /// The only error is want of memory, which comes only where `out` has too little room. Then
+    /// `out` is as it was.
     pub fn put(&self, out: &mut Vec<u8>) -> Result<(), AllocError>
         ensures ok { OnOk result (out.new.items ≡ out.old.items ++ line_text (line_of self.now)) }
         ensures err { OnErr result (out.new.items ≡ out.old.items) }
@@ -56,7 +58,8 @@ impl Line {
         Ok(())
     }
 
-    /// Whether the line is a finding: every code is one but `ok` and the note on an algorithm that is not computed.
+    /// Whether the line is a finding: every code is one but `ok` and the note on an algorithm that
+    /// is not computed.
     pub fn is_finding(&self) -> bool
         ensures { result ≡ is_finding_code self.now.code }
     {

@@ -13,10 +13,12 @@ pub struct OutStop {
     pub gone: usize,
 }
 
-/// Writes all of the bytes, by as many calls of `write` as the writer needs. It does not flush, and never allocates.
+/// Writes all of the bytes, by as many calls of `write` as the writer needs. It does not flush, and
+/// never allocates.
 ///
-/// An error of the writer stops the output, and so does its answer that it took none of the bytes that are left. A call
-/// that was interrupted is made again; 1,000 interruptions in a row are a stop.
+/// An error of the writer stops the output, and so does its answer that it took none of the bytes
+/// that are left. A call that was interrupted is made again; 1,000 interruptions in a row are a
+/// stop.
 pub fn write_all_of<W: Write>(out: &mut W, bytes: &[u8]) -> Result<(), OutStop>
     ensures ok { OnOk result (Appends (W.contents out.old) (W.contents out.new) bytes.now) }
     ensures fewer { IfErr result (λ stop. stop.gone < length bytes.now) }

@@ -1,4 +1,5 @@
-ghost use Rattle.std.specs.Prelude.{◌≡◌, ◌+◌, ◌<◌, ◌≤◌, ◌++◌, ◌==◌, ◌↔◌, codes, length, map, vec_len, vec_capacity, IsTrue, IfOk, OnOk, OnErr};
+ghost use Rattle.std.specs.Prelude.{◌≡◌, ◌+◌, ◌<◌, ◌≤◌, ◌++◌, ◌==◌, ◌↔◌, codes, length, map};
+ghost use Rattle.std.specs.Prelude.{vec_len, vec_capacity, IsTrue, IfOk, OnOk, OnErr};
 ghost use Rattle.std.specs.Io.{StartsWith};
 ghost use Rattle.std.specs.List.{slice_split};
 ghost use Rattle.ocfl_tree.specs.Place.{Text as ModelText, Place as ModelPlace};
@@ -29,11 +30,12 @@ impl From<AllocError> for PlaceStop {
     }
 }
 
-/// Appends the place as a report has it: its names with `/` between them, and `.` for the root. In a name each control,
-/// `%`, DEL and byte outside ASCII stands as `%` and two capital hexadecimal digits (RFC 3986, 2.1); all else stands as
-/// it is, spaces too.
+/// Appends the place as a report has it: its names with `/` between them, and `.` for the root. In
+/// a name each control, `%`, DEL and byte outside ASCII stands as `%` and two capital hexadecimal
+/// digits (RFC 3986, 2.1); all else stands as it is, spaces too.
 ///
-/// The only error is want of memory, which comes only where `out` has too little room. Then `out` is as it was.
+/// The only error is want of memory, which comes only where `out` has too little room. Then `out`
+/// is as it was.
 pub fn put_place(place: &Place, out: &mut Vec<u8>) -> Result<(), AllocError>
     ensures ok { OnOk result (out.new.items ≡ out.old.items ++ place_text place.now) }
     ensures err { OnErr result (out.new.items ≡ out.old.items) }
@@ -48,7 +50,8 @@ pub fn put_place(place: &Place, out: &mut Vec<u8>) -> Result<(), AllocError>
     put
 }
 
-/// Appends the text of the place. Where memory is refused a beginning of it stands behind what was there.
+/// Appends the text of the place. Where memory is refused a beginning of it stands behind what was
+/// there.
 #[tactic(auto, using(crate::proofs::PathTexts::root_text, crate::proofs::PathTexts::path_text))]
 pub(crate) fn put_text(place: &Place, out: &mut Vec<u8>) -> Result<(), AllocError>
     ensures ok { OnOk result (out.new.items ≡ out.old.items ++ place_text place.now) }
@@ -68,8 +71,9 @@ pub(crate) fn put_text(place: &Place, out: &mut Vec<u8>) -> Result<(), AllocErro
 
 /// The place whose text the bytes are, as [`put_place`] writes it.
 ///
-/// Each place has one text. Any other text is [`PlaceStop::Bad`]: one with an empty name, with `.` or `..` in a path,
-/// with small hexadecimal digits, with the escape of a byte that stands as it is, or with a name that is no UTF-8.
+/// Each place has one text. Any other text is [`PlaceStop::Bad`]: one with an empty name, with `.`
+/// or `..` in a path, with small hexadecimal digits, with the escape of a byte that stands as it
+/// is, or with a name that is no UTF-8.
 pub fn read_place(alloc: Global, bytes: &[u8]) -> Result<Place, PlaceStop>
     ensures ok { IfOk result (λ place. bytes.now ≡ place_text place) }
     ensures names { IfOk result IsPlace }

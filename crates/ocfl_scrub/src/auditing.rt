@@ -29,12 +29,13 @@ pub struct AuditEnd {
     pub end: End,
 }
 
-/// Writes the report lines of a whole storage root, item by item: the lines of one go out as one piece before the next
-/// is looked at.
+/// Writes the report lines of a whole storage root, item by item: the lines of one go out as one
+/// piece before the next is looked at.
 ///
-/// Each content file that some digest is named for is opened once, and no other content is. One that cannot be read is
-/// reported and stops nothing. After a stop the items before it have gone out whole, and of the next at most a beginning,
-/// and nothing where it was not the output that failed.
+/// Each content file that some digest is named for is opened once, and no other content is. One
+/// that cannot be read is reported and stops nothing. After a stop the items before it have gone
+/// out whole, and of the next at most a beginning, and nothing where it was not the output that
+/// failed.
 pub fn audit<T: Tree, W: Write>(
     alloc: Global,
     store: &mut T,
@@ -43,16 +44,22 @@ pub fn audit<T: Tree, W: Write>(
 ) -> AuditEnd
     // Of every store.
     ensures whole { result.end ≢ End.Stopped Fault.Broken }
-    ensures lines { result.end ≢ End.Stopped Fault.Output → WritesLines (W.contents out.old) (W.contents out.new) result.found }
-    ensures silent { result.last ≡ None → result.end ≢ End.Stopped Fault.Output → out.new ≡ out.old }
+    ensures lines { result.end ≢ End.Stopped Fault.Output
+        → WritesLines (W.contents out.old) (W.contents out.new) result.found }
+    ensures silent { result.last ≡ None → result.end ≢ End.Stopped Fault.Output
+        → out.new ≡ out.old }
     ensures none_found { result.last ≡ None → result.found ≡ false }
 
     // Of a store that tells its tree.
-    ensures told { IsTrue T.told → (root : Root) → (T.state store.old).tree ≡ root → HasShortFiles root →
-        AuditEnds root (T.state store.old) (T.state store.new) (W.contents out.old) (W.contents out.new) result.last result.found result.end }
-    ensures unfailing { IsTrue T.told → (root : Root) → (T.state store.old).tree ≡ root → HasShortFiles root → result.end ≡ End.Ended
+    ensures told { IsTrue T.told → (root : Root) → (T.state store.old).tree ≡ root
+        → HasShortFiles root →
+        AuditEnds root (T.state store.old) (T.state store.new) (W.contents out.old)
+        (W.contents out.new) result.last result.found result.end }
+    ensures unfailing { IsTrue T.told → (root : Root) → (T.state store.old).tree ≡ root
+        → HasShortFiles root → result.end ≡ End.Ended
         → (T.state store.new).failures ≡ (T.state store.old).failures
-        → Appends (W.contents out.old) (W.contents out.new) (text (whole_audit root [])) × (result.found ≡ found_in (whole_audit root [])) }
+        → Appends (W.contents out.old) (W.contents out.new) (text (whole_audit root []))
+        × (result.found ≡ found_in (whole_audit root [])) }
 {
     match Walk::start(alloc, store, None) {
         Ok(walk) => take_all(alloc, store, walk, None, block, out),
@@ -76,11 +83,15 @@ fn take_all<T: Tree, W: Write>(
     requires live { IsLive walk }
     requires behind { last_of walk ≡ from }
     ensures whole { result.end ≢ End.Stopped Fault.Broken }
-    ensures lines { result.end ≢ End.Stopped Fault.Output → WritesLines (W.contents out.old) (W.contents out.new) result.found }
-    ensures silent { result.last ≡ None → result.end ≢ End.Stopped Fault.Output → out.new ≡ out.old }
+    ensures lines { result.end ≢ End.Stopped Fault.Output
+        → WritesLines (W.contents out.old) (W.contents out.new) result.found }
+    ensures silent { result.last ≡ None → result.end ≢ End.Stopped Fault.Output
+        → out.new ≡ out.old }
     ensures none_found { result.last ≡ None → result.found ≡ false }
-    ensures told { IsTrue T.told → (root : Root) → (T.state store.old).tree ≡ root → HasShortFiles root → Stands root walk from →
-        PassEnds root (T.state store.old) (T.state store.new) (W.contents out.old) (W.contents out.new) from result.last result.found result.end }
+    ensures told { IsTrue T.told → (root : Root) → (T.state store.old).tree ≡ root
+        → HasShortFiles root → Stands root walk from →
+        PassEnds root (T.state store.old) (T.state store.new) (W.contents out.old)
+        (W.contents out.new) from result.last result.found result.end }
 {
     let mut last = from;
     let mut found = false;

@@ -30,9 +30,9 @@ pub struct CheckEnd {
 
 /// Writes the report lines of one place.
 ///
-/// Where there are none, nothing is written. A content file is opened once, if some digest is named for it, and no
-/// other content is; each declaration, inventory and sidecar that the lines need is opened once. After a stop, `found`
-/// and `item` are false.
+/// Where there are none, nothing is written. A content file is opened once, if some digest is named
+/// for it, and no other content is; each declaration, inventory and sidecar that the lines need is
+/// opened once. After a stop, `found` and `item` are false.
 pub fn check<T: Tree, W: Write>(
     alloc: Global,
     store: &mut T,
@@ -44,12 +44,16 @@ pub fn check<T: Tree, W: Write>(
     ensures whole { result.end ≢ End.Stopped Fault.Broken }
     ensures stopped { result.end ≢ End.Ended → result.item ≡ false }
     ensures no_item { result.item ≡ false → result.found ≡ false }
-    ensures silent { result.item ≡ false → result.end ≢ End.Stopped Fault.Output → out.new ≡ out.old }
-    ensures lines { result.item ≡ true → WritesLines (W.contents out.old) (W.contents out.new) result.found }
+    ensures silent { result.item ≡ false → result.end ≢ End.Stopped Fault.Output
+        → out.new ≡ out.old }
+    ensures lines { result.item ≡ true → WritesLines (W.contents out.old)
+        (W.contents out.new) result.found }
 
     // Of a store that tells its tree.
-    ensures told { IsTrue T.told → (root : Root) → (T.state store.old).tree ≡ root → HasShortFiles root →
-        CheckEnds root (T.state store.old) (T.state store.new) (W.contents out.old) (W.contents out.new) place.now result.item result.found result.end }
+    ensures told { IsTrue T.told → (root : Root) → (T.state store.old).tree ≡ root
+        → HasShortFiles root →
+        CheckEnds root (T.state store.old) (T.state store.new) (W.contents out.old)
+        (W.contents out.new) place.now result.item result.found result.end }
 {
     let pending = match item_at(alloc, store, place) {
         Ok(Some(pending)) => pending,

@@ -7,7 +7,10 @@ ghost use Rattle.ocfl_report.specs.Text.{place_text, text};
 ghost use Rattle.ocfl_audit.specs.Audit.{audit as whole_audit};
 ghost use Rattle.ocfl_tree.specs.Tree.{Tree as Root};
 ghost use Rattle.ocfl_walk.specs.Judging.{HasShortFiles};
-ghost use Rattle.ocfl_scrub.specs.Noting.{status_of, IsAuditNote, IsAuditSaid, IsCheckNote, IsCheckSaid, IsRefused, IsStatus, IsStopNote, IsStopSaid, AuditsWithNote, ChecksWithNote, WritesWhole, WritesWithStatus};
+ghost use Rattle.ocfl_scrub.specs.Noting.{status_of, IsAuditNote, IsAuditSaid, IsCheckNote};
+ghost use Rattle.ocfl_scrub.specs.Noting.{IsCheckSaid, IsRefused, IsStatus, IsStopNote, IsStopSaid};
+ghost use Rattle.ocfl_scrub.specs.Noting.{AuditsWithNote, ChecksWithNote, WritesWhole};
+ghost use Rattle.ocfl_scrub.specs.Noting.{WritesWithStatus};
 
 use crate::auditing::{AuditEnd, audit};
 use crate::checking::{CheckEnd, End, check};
@@ -19,8 +22,9 @@ use ocfl_walk::Fault;
 use std::alloc::Global;
 use std::io::Write;
 
-/// Checks the place with this path, written as in report lines, and gives the exit status with what is to be said: 0
-/// without a finding, 1 with one, 2 where the path is not that of a place, 3 after a stop.
+/// Checks the place with this path, written as in report lines, and gives the exit status with what
+/// is to be said: 0 without a finding, 1 with one, 2 where the path is not that of a place, 3 after
+/// a stop.
 ///
 /// For a path that is not that of a place no call of the store is made, and nothing is written.
 pub fn checked<T: Tree, W: Write>(
@@ -33,16 +37,21 @@ pub fn checked<T: Tree, W: Write>(
     // Of every store.
     ensures bad { ((p : ModelPlace) → IsPlace p → path.now ≢ place_text p)
         → IsRefused result.0 result.1 × (store.new ≡ store.old) × (out.new ≡ out.old) }
-    ensures only_bad { result.1 ≡ Note.BadPath → (p : ModelPlace) → IsPlace p → path.now ≢ place_text p }
+    ensures only_bad { result.1 ≡ Note.BadPath → (p : ModelPlace) → IsPlace p
+        → path.now ≢ place_text p }
     ensures status { IsStatus result.0 result.1 }
     ensures said { IsCheckSaid result.1 }
-    ensures lines { result.1 ≡ Note.Nothing → WritesWithStatus (W.contents out.old) (W.contents out.new) result.0 }
+    ensures lines { result.1 ≡ Note.Nothing → WritesWithStatus (W.contents out.old)
+        (W.contents out.new) result.0 }
     ensures silent { result.1 ≢ Note.Nothing → result.1 ≢ Note.OutputFailed → out.new ≡ out.old }
 
     // Of a store that tells its tree.
-    ensures told { IsTrue T.told → (root : Root) → (T.state store.old).tree ≡ root → HasShortFiles root → (p : ModelPlace) → IsPlace p → path.now ≡ place_text p
-        → ChecksWithNote root (T.state store.old) (T.state store.new) (W.contents out.old) (W.contents out.new) p result.0 result.1
-        ⊎ ((result.0 ≡ 3) × (result.1 ≡ Note.OutOfMemory) × (store.new ≡ store.old) × (out.new ≡ out.old)) }
+    ensures told { IsTrue T.told → (root : Root) → (T.state store.old).tree ≡ root
+        → HasShortFiles root → (p : ModelPlace) → IsPlace p → path.now ≡ place_text p
+        → ChecksWithNote root (T.state store.old) (T.state store.new) (W.contents out.old)
+        (W.contents out.new) p result.0 result.1
+        ⊎ ((result.0 ≡ 3) × (result.1 ≡ Note.OutOfMemory) × (store.new ≡ store.old)
+        × (out.new ≡ out.old)) }
 {
     match read_place(alloc, path.as_bytes()) {
         Ok(place) => noted(check(alloc, store, &place, block, out)),
@@ -51,8 +60,8 @@ pub fn checked<T: Tree, W: Write>(
     }
 }
 
-/// Audits a whole storage root, and gives the exit status with what is to be said: 0 without a finding, 1 with one, 3
-/// after a stop.
+/// Audits a whole storage root, and gives the exit status with what is to be said: 0 without a
+/// finding, 1 with one, 3 after a stop.
 pub fn audited<T: Tree, W: Write>(
     alloc: Global,
     store: &mut T,
@@ -62,15 +71,21 @@ pub fn audited<T: Tree, W: Write>(
     // Of every store.
     ensures status { IsStatus result.0 result.1 }
     ensures said { IsAuditSaid result.1 }
-    ensures lines { result.1 ≡ Note.Nothing → WritesWithStatus (W.contents out.old) (W.contents out.new) result.0 }
-    ensures uncut { result.1 ≢ Note.OutputFailed → WritesWhole (W.contents out.old) (W.contents out.new) }
+    ensures lines { result.1 ≡ Note.Nothing → WritesWithStatus (W.contents out.old)
+        (W.contents out.new) result.0 }
+    ensures uncut { result.1 ≢ Note.OutputFailed
+        → WritesWhole (W.contents out.old) (W.contents out.new) }
 
     // Of a store that tells its tree.
-    ensures told { IsTrue T.told → (root : Root) → (T.state store.old).tree ≡ root → HasShortFiles root →
-        AuditsWithNote root (T.state store.old) (T.state store.new) (W.contents out.old) (W.contents out.new) result.0 result.1 }
-    ensures unfailing { IsTrue T.told → (root : Root) → (T.state store.old).tree ≡ root → HasShortFiles root → result.1 ≡ Note.Nothing
+    ensures told { IsTrue T.told → (root : Root) → (T.state store.old).tree ≡ root
+        → HasShortFiles root →
+        AuditsWithNote root (T.state store.old) (T.state store.new) (W.contents out.old)
+        (W.contents out.new) result.0 result.1 }
+    ensures unfailing { IsTrue T.told → (root : Root) → (T.state store.old).tree ≡ root
+        → HasShortFiles root → result.1 ≡ Note.Nothing
         → (T.state store.new).failures ≡ (T.state store.old).failures
-        → Appends (W.contents out.old) (W.contents out.new) (text (whole_audit root [])) × (result.0 ≡ status_of (found_in (whole_audit root []))) }
+        → Appends (W.contents out.old) (W.contents out.new) (text (whole_audit root []))
+        × (result.0 ≡ status_of (found_in (whole_audit root []))) }
 {
     audit_noted(audit(alloc, store, block, out))
 }
@@ -83,8 +98,10 @@ fn noted(end: CheckEnd) -> (u8, Note)
     ensures status { IsStatus result.0 result.1 }
     ensures good_path { result.1 ≢ Note.BadPath }
     ensures said { IsCheckSaid result.1 }
-    ensures nothing { result.1 ≡ Note.Nothing → (end.item ≡ true) × (result.0 ≡ status_of end.found) }
-    ensures silent { result.1 ≢ Note.Nothing → result.1 ≢ Note.OutputFailed → (end.item ≡ false) × (end.end ≢ End.Stopped Fault.Output) }
+    ensures nothing { result.1 ≡ Note.Nothing
+        → (end.item ≡ true) × (result.0 ≡ status_of end.found) }
+    ensures silent { result.1 ≢ Note.Nothing → result.1 ≢ Note.OutputFailed
+        → (end.item ≡ false) × (end.end ≢ End.Stopped Fault.Output) }
 {
     match end.end {
         End::Ended if !end.item => (status(end.found), Note::NoItem),
@@ -98,7 +115,8 @@ fn audit_noted(end: AuditEnd) -> (u8, Note)
     ensures note { IsAuditNote end.found end.end result.0 result.1 }
     ensures status { IsStatus result.0 result.1 }
     ensures said { IsAuditSaid result.1 }
-    ensures nothing { result.1 ≡ Note.Nothing → (end.end ≡ End.Ended) × (result.0 ≡ status_of end.found) }
+    ensures nothing { result.1 ≡ Note.Nothing
+        → (end.end ≡ End.Ended) × (result.0 ≡ status_of end.found) }
     ensures uncut { result.1 ≢ Note.OutputFailed → end.end ≢ End.Stopped Fault.Output }
 {
     let AuditEnd { found, end, .. } = end;

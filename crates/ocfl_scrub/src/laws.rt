@@ -11,13 +11,16 @@ ghost use Rattle.ocfl_audit.specs.Lines.{is_hashed};
 #[tactic(auto, using(crate::proofs::OrderLaws::hashed_ascend, crate::proofs::OrderLaws::hashed_all))]
 pub fn hashed_places_are_those_of_the_audit()
     ensures ascends { (root : Tree) → IsAscending place_cmp (hashed_among root (item_places root)) }
-    ensures all { (root : Tree) (p : Place) → (is_hashed root p ≡ true) ↔ IsAmong (hashed_among root (item_places root)) p }
+    ensures all { (root : Tree) (p : Place) → (is_hashed root p ≡ true)
+        ↔ IsAmong (hashed_among root (item_places root)) p }
 {}
 
-/// The directories that are looked into between two places, and the objects whose inventories are read, are in order,
-/// each once.
+/// The directories that are looked into between two places, and the objects whose inventories are
+/// read, are in order, each once.
 #[tactic(auto, using(crate::proofs::OrderLaws::looked_ascend, crate::proofs::OrderLaws::read_ascend))]
 pub fn listed_and_read_ascend()
-    ensures listed { (root : Tree) (from to : Option Place) → IsAscending place_cmp (looked_between root from to) }
-    ensures read { (root : Tree) (from to : Option Place) → IsAscending place_cmp (read_between root from to) }
+    ensures listed { (root : Tree) (from to : Option Place)
+        → IsAscending place_cmp (looked_between root from to) }
+    ensures read { (root : Tree) (from to : Option Place)
+        → IsAscending place_cmp (read_between root from to) }
 {}

@@ -6,8 +6,8 @@ use ocfl_report::DisplayPlace;
 use ocfl_tree::Place;
 use std::fmt;
 
-/// What a command says on standard error when it ends: its `Display` is one line, without what the program puts before
-/// it.
+/// What a command says on standard error when it ends: its `Display` is one line, without what the
+/// program puts before it.
 #[derive(Debug, Drop)]
 pub enum Note {
     /// Nothing is said.

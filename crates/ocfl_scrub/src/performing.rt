@@ -1,11 +1,19 @@
 //! What the program does for a command: the one function that the program and the tests call.
-ghost use Rattle.std.specs.Prelude.{◌≡◌, ◌≢◌, ◌↔◌, ℕ, IfErr, IfOk, IsNone, IsTrue, Some, Vec, replicate};
+ghost use Rattle.std.specs.Prelude.{◌≡◌, ◌≢◌, ◌↔◌, ℕ, IfErr, IfOk, IsNone, IsTrue, Some, Vec};
+ghost use Rattle.std.specs.Prelude.{replicate};
 ghost use Rattle.std.specs.declared.alloc.Global.{Global};
 ghost use Rattle.ocfl_tree.specs.Tree.{Tree as Root};
 ghost use Rattle.ocfl_walk.specs.Judging.{HasShortFiles};
 ghost use Rattle.ocfl_scrub.specs.Running.{limits_of};
-ghost use Rattle.ocfl_scrub.specs.Noting.{IsCycleNote, IsCycleSaid, IsRanSaid, IsRunNote, IsRunSaid, IsShowSaid, IsStatus, IsStoredNote, IsUnreadNote, IsUnreadSaid, WritesWithStatus, run_summary as summary_of_run, status_of};
-ghost use Rattle.ocfl_scrub.specs.Performing.{BeginsWith, CyclePerformed, HandsBack, IsKept, IsKeptBy, IsSaid, IsSilent, IsWhole, IsWithoutFile, Performs, RefusesPath, RefusesRightly, RunPerformed, ShowsWith, StopsWith, WritesBy, bytes_of, equal_limits as limits_of_each};
+ghost use Rattle.ocfl_scrub.specs.Noting.{IsCycleNote, IsCycleSaid, IsRanSaid, IsRunNote};
+ghost use Rattle.ocfl_scrub.specs.Noting.{IsRunSaid, IsShowSaid, IsStatus, IsStoredNote};
+ghost use Rattle.ocfl_scrub.specs.Noting.{IsUnreadNote, IsUnreadSaid, WritesWithStatus};
+ghost use Rattle.ocfl_scrub.specs.Noting.{run_summary as summary_of_run, status_of};
+ghost use Rattle.ocfl_scrub.specs.Performing.{BeginsWith, CyclePerformed, HandsBack, IsKept};
+ghost use Rattle.ocfl_scrub.specs.Performing.{IsKeptBy, IsSaid, IsSilent, IsWhole, IsWithoutFile};
+ghost use Rattle.ocfl_scrub.specs.Performing.{Performs, RefusesPath, RefusesRightly, RunPerformed};
+ghost use Rattle.ocfl_scrub.specs.Performing.{ShowsWith, StopsWith, WritesBy, bytes_of};
+ghost use Rattle.ocfl_scrub.specs.Performing.{equal_limits as limits_of_each};
 
 use crate::command::{audited, checked, status, stop_note};
 use crate::cycling::{CycleEnd, CycleStatus, cycle};
@@ -166,7 +174,8 @@ fn ran(alloc: Global, end: RunEnd) -> Performed
     ensures worn_ends { end.end ≡ RunStatus.Worn → (result.status ≡ 3) × IsNone result.cursor }
     ensures kept { IsKept result.note result.cursor }
     ensures note { end.end ≢ RunStatus.Worn →
-        IsStoredNote end.cursor end.spent end.found end.end result.status result.note result.cursor }
+        IsStoredNote end.cursor end.spent end.found end.end result.status result.note
+        result.cursor }
     ensures lines { IsWhole result.note →
         (end.end ≢ RunStatus.Stopped Fault.Output) × (result.status ≡ status_of end.found) }
 {

@@ -1,5 +1,6 @@
 //! One run: what lies above its cursor's place, as far as its limits allow.
-ghost use Rattle.std.specs.Prelude.{◌≡◌, ◌≢◌, ◌↔◌, ◌+◌, ◌≤◌, ◌^◌, Option, true, false, IsTrue, IfErr, IfOk};
+ghost use Rattle.std.specs.Prelude.{◌≡◌, ◌≢◌, ◌↔◌, ◌+◌, ◌≤◌, ◌^◌, Option, true, false, IsTrue};
+ghost use Rattle.std.specs.Prelude.{IfErr, IfOk};
 ghost use Rattle.ocfl_cursor.specs.Cursor.{IsShortPlace};
 ghost use Rattle.ocfl_cursor.specs.Meter.{IsMeter, MayStart};
 ghost use Rattle.ocfl_cursor.specs.Moves.{after_run};
@@ -10,7 +11,8 @@ ghost use Rattle.ocfl_walk.specs.Judging.{HasShortFiles};
 ghost use Rattle.ocfl_walk.specs.Walks.{IsLive, Stands, last_of};
 ghost use Rattle.ocfl_scrub.specs.Taking.{WritesLines};
 ghost use Rattle.ocfl_scrub.specs.Paying.{Begins, IsShort, PaidEnds};
-ghost use Rattle.ocfl_scrub.specs.Running.{IsPaid, IsWorn, RunEnds, RunsCleanly, RunsFrom, begun, limits_of, state_after};
+ghost use Rattle.ocfl_scrub.specs.Running.{IsPaid, IsWorn, RunEnds, RunsCleanly, RunsFrom, begun};
+ghost use Rattle.ocfl_scrub.specs.Running.{limits_of, state_after};
 
 use crate::taking::{either, take_item};
 use ocfl_cursor::{Cursor, Limits, Meter, State};
@@ -70,18 +72,28 @@ pub fn run<T: Tree, W: Write>(
     ensures whole { result.end ≢ RunStatus.Stopped Fault.Broken }
     ensures worn { (result.end ≡ RunStatus.Worn) ↔ IsWorn cursor }
     ensures worn_cursor { result.end ≡ RunStatus.Worn → result.cursor ≡ cursor }
-    ensures worn_figures { result.end ≡ RunStatus.Worn → (result.spent ≡ 0) × (result.files ≡ 0) × (result.found ≡ false) }
-    ensures worn_silent { result.end ≡ RunStatus.Worn → (store.new ≡ store.old) × (out.new ≡ out.old) }
-    ensures cursor { result.end ≢ RunStatus.Worn → (last : Option Spot) × (result.cursor ≡ after_run (begun cursor) result.spent result.files (state_after result.end last)) }
+    ensures worn_figures { result.end ≡ RunStatus.Worn
+        → (result.spent ≡ 0) × (result.files ≡ 0) × (result.found ≡ false) }
+    ensures worn_silent { result.end ≡ RunStatus.Worn
+        → (store.new ≡ store.old) × (out.new ≡ out.old) }
+    ensures cursor { result.end ≢ RunStatus.Worn
+        → (last : Option Spot) × (result.cursor
+        ≡ after_run (begun cursor) result.spent result.files (state_after result.end last)) }
     ensures paid { IsPaid (limits_of limits) result.spent result.files }
     ensures overrun { result.spent ≤ limits.budget + 2 ^ 62 }
-    ensures lines { result.end ≢ RunStatus.Stopped Fault.Output → WritesLines (W.contents out.old) (W.contents out.new) result.found }
+    ensures lines { result.end ≢ RunStatus.Stopped Fault.Output
+        → WritesLines (W.contents out.old) (W.contents out.new) result.found }
 
     // Of a store that tells its tree.
-    ensures told { IsTrue T.told → (root : Root) → (T.state store.old).tree ≡ root → HasShortFiles root → result.end ≢ RunStatus.Worn →
-        RunsFrom root (T.state store.old) (T.state store.new) (W.contents out.old) (W.contents out.new) cursor (limits_of limits) result.cursor result.spent result.files result.found result.end }
-    ensures unfailing { IsTrue T.told → (root : Root) → (T.state store.old).tree ≡ root → HasShortFiles root → (T.state store.new).failures ≡ (T.state store.old).failures →
-        RunsCleanly root (W.contents out.old) (W.contents out.new) cursor (limits_of limits) result.spent result.files result.found result.end }
+    ensures told { IsTrue T.told → (root : Root) → (T.state store.old).tree ≡ root
+        → HasShortFiles root → result.end ≢ RunStatus.Worn →
+        RunsFrom root (T.state store.old) (T.state store.new) (W.contents out.old)
+        (W.contents out.new) cursor (limits_of limits) result.cursor result.spent result.files
+        result.found result.end }
+    ensures unfailing { IsTrue T.told → (root : Root) → (T.state store.old).tree ≡ root
+        → HasShortFiles root → (T.state store.new).failures ≡ (T.state store.old).failures →
+        RunsCleanly root (W.contents out.old) (W.contents out.new) cursor
+        (limits_of limits) result.spent result.files result.found result.end }
 {
     let (start, from) = match begin(cursor) {
         Ok(begun) => begun,
@@ -180,9 +192,13 @@ fn pass_from<T: Tree, W: Write>(
     ensures short { IsShort result.last }
     ensures paid { IsPaid (limits_of limits) result.spent result.files }
     ensures fits { result.spent ≤ 2 ^ 63 }
-    ensures lines { result.end ≢ RunStatus.Stopped Fault.Output → WritesLines (W.contents out.old) (W.contents out.new) result.found }
-    ensures told { IsTrue T.told → (root : Root) → (T.state store.old).tree ≡ root → HasShortFiles root →
-        RunEnds root (T.state store.old) (T.state store.new) (W.contents out.old) (W.contents out.new) from result.last (limits_of limits) result.spent result.files result.found result.end }
+    ensures lines { result.end ≢ RunStatus.Stopped Fault.Output
+        → WritesLines (W.contents out.old) (W.contents out.new) result.found }
+    ensures told { IsTrue T.told → (root : Root) → (T.state store.old).tree ≡ root
+        → HasShortFiles root →
+        RunEnds root (T.state store.old) (T.state store.new) (W.contents out.old)
+        (W.contents out.new) from result.last
+        (limits_of limits) result.spent result.files result.found result.end }
 {
     match Walk::start(alloc, store, from.as_ref()) {
         Ok(walk) => take_within(alloc, store, walk, from, limits, block, out),
@@ -226,9 +242,13 @@ fn take_within<T: Tree, W: Write>(
     ensures short { IsShort result.last }
     ensures paid { IsPaid (limits_of limits) result.spent result.files }
     ensures fits { result.spent ≤ 2 ^ 63 }
-    ensures lines { result.end ≢ RunStatus.Stopped Fault.Output → WritesLines (W.contents out.old) (W.contents out.new) result.found }
-    ensures told { IsTrue T.told → (root : Root) → (T.state store.old).tree ≡ root → HasShortFiles root → Stands root walk from →
-        PaidEnds root (T.state store.old) (T.state store.new) (W.contents out.old) (W.contents out.new) from result.last (limits_of limits) result.spent result.files result.found result.end }
+    ensures lines { result.end ≢ RunStatus.Stopped Fault.Output
+        → WritesLines (W.contents out.old) (W.contents out.new) result.found }
+    ensures told { IsTrue T.told → (root : Root) → (T.state store.old).tree ≡ root
+        → HasShortFiles root → Stands root walk from →
+        PaidEnds root (T.state store.old) (T.state store.new) (W.contents out.old)
+        (W.contents out.new) from result.last
+        (limits_of limits) result.spent result.files result.found result.end }
 {
     let mut meter = Meter::new(limits);
     let mut last = from;

@@ -39,14 +39,18 @@ pub(crate) fn take_item<T: Tree, W: Write>(
     // Of every store.
     ensures place { IfOk result (λ taken. taken.place ≡ pending.now.place) }
     ensures cost { IfOk result (λ taken. CostFits pending.now.hashed taken.cost) }
-    ensures lines { IfOk result (λ taken. WritesLines (W.contents out.old) (W.contents out.new) taken.found) }
+    ensures lines { IfOk result (λ taken. WritesLines (W.contents out.old)
+        (W.contents out.new) taken.found) }
     ensures only { IfErr result (λ why. (why ≡ Fault.Memory) ⊎ (why ≡ Fault.Output)) }
     ensures unwritten { IfErr result (λ why. why ≢ Fault.Output → out.new ≡ out.old) }
 
     // Of a store that tells its tree.
-    ensures told { IsTrue T.told → (root : Root) → (T.state store.old).tree ≡ root → HasShortFiles root → IsPending root pending.now → MatchResult result
-        (λ taken. Takes root (T.state store.old) (T.state store.new) (W.contents out.old) (W.contents out.new) pending.now.place taken.cost taken.found)
-        (λ why. Misses root (T.state store.old) (T.state store.new) (W.contents out.old) (W.contents out.new) pending.now.place why) }
+    ensures told { IsTrue T.told → (root : Root) → (T.state store.old).tree ≡ root
+        → HasShortFiles root → IsPending root pending.now → MatchResult result
+        (λ taken. Takes root (T.state store.old) (T.state store.new) (W.contents out.old)
+        (W.contents out.new) pending.now.place taken.cost taken.found)
+        (λ why. Misses root (T.state store.old) (T.state store.new) (W.contents out.old)
+        (W.contents out.new) pending.now.place why) }
 {
     // A place that is kept first cannot be wanting once the lines have gone out.
     let Ok(place) = pending.place().try_clone() else {

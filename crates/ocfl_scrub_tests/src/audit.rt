@@ -306,7 +306,8 @@ fn versions_by_their_names(rt: HostRuntime) -> Result<(), Fail> {
 
 // ---- content that cannot be read
 
-/// A storage root with the content files `a` and `c` of the bytes `abc`, and the empty `b` between them.
+/// A storage root with the content files `a` and `c` of the bytes `abc`, and the empty `b` between
+/// them.
 pub(crate) fn three_files(alloc: Global) -> Result<MemTree, Fail> {
     let manifest = format!(in alloc;
         "\"{ABC_SHA256}\":[\"v1/content/a\",\"v1/content/c\"],\"{NOTHING_SHA256}\":[\"v1/content/b\"]"

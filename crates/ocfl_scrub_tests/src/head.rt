@@ -1,4 +1,5 @@
-//! Checks of an object as a whole: the lines of its head, and whether its content is checked behind them.
+//! Checks of an object as a whole: the lines of its head, and whether its content is checked behind
+//! them.
 use crate::roots::{
     ABC_SHA256, ABC_SHA512, DECLARATION, FILE, FILE_IS_OK, INVENTORY, LONG_SIDECAR, NOTHING_SHA512,
     SHORT_SIDECAR, ZEROS, expect, finds, goes_on, inventory, is_ok, is_opened, listing,
@@ -311,7 +312,8 @@ fn object_with_both_sidecars(alloc: Global) -> Result<MemTree, Fail> {
     Ok(store)
 }
 
-/// With this call failing, the check of the object stops: it writes nothing, and opens no file after that one.
+/// With this call failing, the check of the object stops: it writes nothing, and opens no file
+/// after that one.
 fn stops_at(rt: &(impl Abort + AllocGlobal), place: &str, point: Point) -> Result<(), Fail> {
     let alloc = rt.alloc();
     let mut store = object_with_both_sidecars(alloc)?;

@@ -1,4 +1,5 @@
-//! Tests of audits, runs, cycles, checks and the program's commands, by their public calls: no code.
+//! Tests of audits, runs, cycles, checks and the program's commands, by their public calls: no
+//! code.
 #![tactic(auto)]
 
 #[cfg(test)]

@@ -109,7 +109,8 @@ fn directories_that_are_listed_and_not_found(rt: HostRuntime) -> Result<(), Fail
     Ok(())
 }
 
-/// A store whose base has a right declaration and the directory `d`, and each other place the directory `d` alone.
+/// A store whose base has a right declaration and the directory `d`, and each other place the
+/// directory `d` alone.
 #[derive(Drop)]
 struct Endless {
     inner: MemTree,

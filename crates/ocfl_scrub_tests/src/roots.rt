@@ -169,7 +169,8 @@ pub(crate) fn object_with(alloc: Global, inventory: &[u8]) -> Result<MemTree, Fa
     Ok(store)
 }
 
-/// A storage root whose object has an inventory by sha256 with this manifest and this fixity block, and no content.
+/// A storage root whose object has an inventory by sha256 with this manifest and this fixity block,
+/// and no content.
 pub(crate) fn object_listing(alloc: Global, manifest: &str, fixity: &str) -> Result<MemTree, Fail> {
     let members = format!(in alloc;
         "\"digestAlgorithm\":\"sha256\",\"manifest\":{{{manifest}}},\"fixity\":{{{fixity}}}"
@@ -177,8 +178,8 @@ pub(crate) fn object_listing(alloc: Global, manifest: &str, fixity: &str) -> Res
     object_without_files(alloc, inventory(alloc, members.as_str())?.as_bytes())
 }
 
-/// A storage root whose object has an inventory by sha512 that lists `f` under this digest, and a content file `f` of
-/// the bytes `abc`.
+/// A storage root whose object has an inventory by sha512 that lists `f` under this digest, and a
+/// content file `f` of the bytes `abc`.
 pub(crate) fn long_object(alloc: Global, digest: &str) -> Result<MemTree, Fail> {
     let members = format!(in alloc;
         "\"digestAlgorithm\":\"sha512\",\"manifest\":{{\"{digest}\":[\"v1/content/f\"]}}"

@@ -120,7 +120,8 @@ fn grow_declaration(grown: &mut Grown, dice: &mut Dice, object: &str) -> Result<
     )
 }
 
-/// Puts what may stand in an object's content directories, and gives the paths that the manifest is to list.
+/// Puts what may stand in an object's content directories, and gives the paths that the manifest is
+/// to list.
 fn grow_content(grown: &mut Grown, dice: &mut Dice, object: &str) -> Result<String, Fail> {
     let alloc = grown.alloc;
     let mut listed = String::new(alloc);
@@ -245,8 +246,8 @@ fn checks(alloc: Global, grown: &mut Grown, block: &mut Block) -> Result<String,
     Ok(String::from_utf8(joined)?)
 }
 
-/// The audit of each of these roots writes what the checks of all places write. It lists no place twice, and opens none
-/// twice.
+/// The audit of each of these roots writes what the checks of all places write. It lists no place
+/// twice, and opens none twice.
 fn audits_are_checks(
     rt: &(impl Abort + AllocGlobal),
     seeds: std::ops::Range<u64>,

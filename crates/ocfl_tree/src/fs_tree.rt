@@ -1,4 +1,5 @@
-ghost use Rattle.std.specs.Prelude.{◌≡◌, ◌≢◌, ◌≤◌, ◌↔◌, IsTrue, true, false, IfOk, OnOk, OnErr, MatchOption, length, string_bytes, Err};
+ghost use Rattle.std.specs.Prelude.{◌≡◌, ◌≢◌, ◌≤◌, ◌↔◌, IsTrue, true, false, IfOk, OnOk, OnErr};
+ghost use Rattle.std.specs.Prelude.{MatchOption, length, string_bytes, Err};
 ghost use Rattle.std.specs.Fs.{IsDir, IsFile, file_type};
 ghost use Rattle.std.specs.IoError.{error_kind};
 ghost use Rattle.ocfl_tree.specs.declared.fs_tree.Fault.TheVariants.{Trouble as Lasting};
@@ -23,14 +24,15 @@ use std::{fs, io};
 
 /// A folder of the file system. It does not tell its tree.
 ///
-/// A link is listed as `Other` and never followed, but for the folder itself. What is not found is `Absent`; want of
-/// memory is `Memory`, but never in a read; every other fault is `Device`: a file where a directory is asked for or
-/// the other way round, a name that is not UTF-8 or is listed twice, more than 1,000,000 entries, an entry that goes
-/// away while it is listed, a file that is another when it is open, a path that is longer than the system takes.
+/// A link is listed as `Other` and never followed, but for the folder itself. What is not found is
+/// `Absent`; want of memory is `Memory`, but never in a read; every other fault is `Device`: a file
+/// where a directory is asked for or the other way round, a name that is not UTF-8 or is listed
+/// twice, more than 1,000,000 entries, an entry that goes away while it is listed, a file that is
+/// another when it is open, a path that is longer than the system takes.
 ///
 /// The directory that was found last is known until a listing or an opening fails. The names on the
-/// way to a place in it, or in one on the way there, are not looked at again; at any other place they
-/// are all looked at.
+/// way to a place in it, or in one on the way there, are not looked at again; at any other place
+/// they are all looked at.
 #[derive(Drop)]
 pub struct FsTree<R: Files + AllocGlobal + Clone + Drop> {
     rt: R,
@@ -68,9 +70,11 @@ impl From<AllocError> for Fault {
 }
 
 fn fault_of(error: &io::Error) -> Fault
-    ensures interrupted { (result ≡ Fault.Interrupted) ↔ (error_kind error.now ≡ ErrorKind.Interrupted) }
+    ensures interrupted { (result ≡ Fault.Interrupted)
+        ↔ (error_kind error.now ≡ ErrorKind.Interrupted) }
     ensures absent { (result ≡ Fault.Trouble Absent) ↔ (error_kind error.now ≡ ErrorKind.NotFound) }
-    ensures memory { (result ≡ Fault.Trouble Memory) ↔ (error_kind error.now ≡ ErrorKind.OutOfMemory) }
+    ensures memory { (result ≡ Fault.Trouble Memory)
+        ↔ (error_kind error.now ≡ ErrorKind.OutOfMemory) }
 {
     match error.kind() {
         ErrorKind::Interrupted => Fault::Interrupted,
@@ -201,8 +205,8 @@ impl<R: Files + AllocGlobal + Clone + Drop> FsTree<R> {
         }
     }
 
-    /// The path of a place and what lies there, where its names lead through directories to what is of
-    /// this kind.
+    /// The path of a place and what lies there, where its names lead through directories to what is
+    /// of this kind.
     fn path(&self, place: &Place, kind: Kind) -> Result<(String, Metadata), Fault> {
         let path = path::join(self.rt.alloc(), self.root.as_str(), place.path())?;
         let metadata = match place.split_last() {

@@ -1,9 +1,14 @@
-ghost use Rattle.std.specs.Prelude.{◌≡◌, ◌≢◌, ◌↔◌, ◌<◌, ◌≤◌, ◌+◌, ◌^◌, [], Bool, true, IsTrue, ◌&&◌, nat_lt, IfOk, IfErr, OnOk, OnErr, IsOk, IsErr, IsOkUnless, MatchOption, MatchResult, None, Some, Err, length, take, max, is_some, IsSome, if◌then◌else◌};
+ghost use Rattle.std.specs.Prelude.{◌≡◌, ◌≢◌, ◌↔◌, ◌<◌, ◌≤◌, ◌+◌, ◌^◌, [], Bool, true, IsTrue};
+ghost use Rattle.std.specs.Prelude.{◌&&◌, nat_lt, IfOk, IfErr, OnOk, OnErr, IsOk, IsErr};
+ghost use Rattle.std.specs.Prelude.{IsOkUnless, MatchOption, MatchResult, None, Some, Err, length};
+ghost use Rattle.std.specs.Prelude.{take, max, is_some, IsSome, if◌then◌else◌};
 ghost use Rattle.ocfl_tree.specs.Tree.{Leaf, file, dir, other, at};
 ghost use Rattle.ocfl_tree.specs.Listing.{IsOrdinary};
-ghost use Rattle.ocfl_tree.specs.Calls.{Lists, ListFails, Opens, OpenFails, Reads, ReadFails, Closes};
+ghost use Rattle.ocfl_tree.specs.Calls.{Lists, ListFails, Opens, OpenFails, Reads, ReadFails};
+ghost use Rattle.ocfl_tree.specs.Calls.{Closes};
 ghost use Rattle.ocfl_tree.specs.Faults.{after_call};
-ghost use Rattle.ocfl_tree.specs.MemTree.{nothing_held, with_step, with_call, with_point, fails, read_fails, given_of, put_refusal, Puts, Removes};
+ghost use Rattle.ocfl_tree.specs.MemTree.{nothing_held, with_step, with_call, with_point, fails};
+ghost use Rattle.ocfl_tree.specs.MemTree.{read_fails, given_of, put_refusal, Puts, Removes};
 
 use crate::build::BuildStop;
 use crate::nodes::{self, Node, Stored};
@@ -41,7 +46,8 @@ impl Model for MemTree {
 
     ghost use Rattle.ocfl_tree.specs.Kept.{seen, IsKept};
 
-    ghost view = { λ a. seen a.nodes.items a.open a.openings.items a.listings.items a.failures a.largest a.plan };
+    ghost view = { λ a. seen a.nodes.items a.open a.openings.items a.listings.items a.failures
+        a.largest a.plan };
 
     ghost invariant = { λ a. IsKept a.nodes.items a.openings.items a.open };
 }
@@ -130,7 +136,8 @@ impl MemTree {
         ensures ok { OnOk result (Removes self.old.store self.new.store place.now) }
         ensures faults { self.new.faults ≡ self.old.faults }
         ensures err { OnErr result (self.new ≡ self.old) }
-        ensures removed { IsOk result ↔ ((place.now ≢ []) × IsSome (at self.old.store.tree place.now)) }
+        ensures removed { IsOk result ↔ ((place.now ≢ [])
+            × IsSome (at self.old.store.tree place.now)) }
         ensures only_absent { IfErr result (λ stop. stop ≡ BuildStop.Absent) }
     {
         if place.path().is_empty() || !nodes::stands(&self.nodes, place) {
@@ -149,8 +156,9 @@ impl MemTree {
         self.plan.set_step(count);
     }
 
-    /// Of the following calls of `list`, `open` and `read`, the one of this number, counted from 1, answers `Device`.
-    /// A read without an open file is not counted. A later plan takes the place of this one.
+    /// Of the following calls of `list`, `open` and `read`, the one of this number, counted from 1,
+    /// answers `Device`. A read without an open file is not counted. A later plan takes the place
+    /// of this one.
     pub fn fail_call(&mut self, number: u64)
         requires { 0 < number }
         ensures { self.new ≡ with_call number self.old }
@@ -158,8 +166,8 @@ impl MemTree {
         self.plan.set_call(number);
     }
 
-    /// Each call of this kind at the place answers `Device`; of reads, those at the offset or later, in bytes.
-    /// The only refusal is `Memory`.
+    /// Each call of this kind at the place answers `Device`; of reads, those at the offset or
+    /// later, in bytes. The only refusal is `Memory`.
     pub fn fail_at(&mut self, place: &Place, point: Point) -> Result<(), BuildStop>
         ensures ok { OnOk result (self.new ≡ with_point place.now point self.old) }
         ensures err { OnErr result (self.new ≡ self.old) }
@@ -211,8 +219,10 @@ impl Tree for MemTree {
 
         // Which calls are made to fail.
         ensures after { self.new.faults ≡ after_call self.old.faults }
-        ensures device { result ≡ Err Trouble.Device → IsTrue (fails self.old place.now Point.List) }
-        ensures struck { IsTrue (fails self.old place.now Point.List) → IsErr result × (result ≢ Err Trouble.Absent) }
+        ensures device { result ≡ Err Trouble.Device
+            → IsTrue (fails self.old place.now Point.List) }
+        ensures struck { IsTrue (fails self.old place.now Point.List)
+            → IsErr result × (result ≢ Err Trouble.Absent) }
     {
         let struck = self.plan.strikes(place, Point::List);
         if can_fail(struck, self.failures) {
@@ -241,8 +251,10 @@ impl Tree for MemTree {
 
         // Which calls are made to fail.
         ensures after { self.new.faults ≡ after_call self.old.faults }
-        ensures device { result ≡ Err Trouble.Device → IsTrue (fails self.old place.now Point.Open) }
-        ensures struck { IsTrue (fails self.old place.now Point.Open) → IsErr result × (result ≢ Err Trouble.Absent) }
+        ensures device { result ≡ Err Trouble.Device
+            → IsTrue (fails self.old place.now Point.Open) }
+        ensures struck { IsTrue (fails self.old place.now Point.Open)
+            → IsErr result × (result ≢ Err Trouble.Absent) }
     {
         self.open = None; // also where nothing is opened
         let struck = self.plan.strikes(place, Point::Open);
@@ -263,13 +275,17 @@ impl Tree for MemTree {
         ensures no_memory { result ≢ Err Trouble.Memory }
         ensures largest { self.new.store.largest ≡ max self.old.store.largest (length buffer.new) }
         ensures reads { MatchResult result
-            (λ count. Reads self.old.store self.new.store (take count buffer.new) (length buffer.new))
+            (λ count. Reads self.old.store self.new.store (take count buffer.new)
+            (length buffer.new))
             (ReadFails self.old.store self.new.store) }
 
         // How much is given, and which calls are made to fail.
-        ensures count { IfOk result (λ count. count ≡ given_of self.old.faults.step self.old.store.rest (length buffer.new)) }
-        ensures after { self.new.faults ≡ (if is_some self.old.store.rest then after_call self.old.faults else self.old.faults) }
-        ensures device { (result ≡ Err Trouble.Device) ↔ (IsSome self.old.store.rest × IsTrue (read_fails self.old)) }
+        ensures count { IfOk result (λ count. count
+            ≡ given_of self.old.faults.step self.old.store.rest (length buffer.new)) }
+        ensures after { self.new.faults ≡ (if is_some self.old.store.rest then after_call
+            self.old.faults else self.old.faults) }
+        ensures device { (result ≡ Err Trouble.Device)
+            ↔ (IsSome self.old.store.rest × IsTrue (read_fails self.old)) }
     {
         self.largest = self.largest.max(buffer.len());
         let Some(open) = self.open else {

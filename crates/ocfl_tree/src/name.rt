@@ -1,6 +1,7 @@
 ghost use Rattle.std.specs.Prelude.{◌≡◌, IsTrue, ◌↔◌, IfOk, OnOk, Some, nat_eq, refl};
 ghost use Rattle.std.specs.Cmp.{partial_equiv_from_equiv};
-ghost use Rattle.std.specs.Cmp.Lexicographic.{pointwise, slice_cmp, nat_list_eq_equiv, nat_list_cmp_total, texts_po, texts_ties};
+ghost use Rattle.std.specs.Cmp.Lexicographic.{pointwise, slice_cmp, nat_list_eq_equiv};
+ghost use Rattle.std.specs.Cmp.Lexicographic.{nat_list_cmp_total, texts_po, texts_ties};
 ghost use Rattle.std.specs.Ordering.{nat_cmp};
 ghost use Rattle.ocfl_tree.specs.Name.{HasNameBytes, IsName};
 
@@ -8,8 +9,8 @@ use std::alloc::{AllocError, Global};
 use std::cmp::Ordering;
 use std::marker::Model;
 
-/// The name of an entry of a directory: text of 1 to 255 bytes without `/` and NUL that is neither `.` nor `..`.
-/// Its value in clauses: its bytes.
+/// The name of an entry of a directory: text of 1 to 255 bytes without `/` and NUL that is neither
+/// `.` nor `..`. Its value in clauses: its bytes.
 #[derive(Debug, Drop)]
 pub struct Name {
     text: String,

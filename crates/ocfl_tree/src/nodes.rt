@@ -1,4 +1,6 @@
-ghost use Rattle.std.specs.Prelude.{◌≡◌, ◌≢◌, ℕ, ◌<◌, ◌≤◌, ◌++◌, ◌∷◌, [], List, take, IsTrue, ◌↔◌, IfOk, OnOk, OnErr, IfSome, IsNone, IsOkUnless, MatchOption, None, Some, Err, length, not, is_some};
+ghost use Rattle.std.specs.Prelude.{◌≡◌, ◌≢◌, ℕ, ◌<◌, ◌≤◌, ◌++◌, ◌∷◌, [], List, take, IsTrue, ◌↔◌};
+ghost use Rattle.std.specs.Prelude.{IfOk, OnOk, OnErr, IfSome, IsNone, IsOkUnless, MatchOption};
+ghost use Rattle.std.specs.Prelude.{None, Some, Err, length, not, is_some};
 ghost use Rattle.std.specs.List.{filter};
 ghost use Rattle.ocfl_tree.specs.Place.{begins, child_name};
 ghost use Rattle.ocfl_tree.specs.Tree.{file, dir, lookup};
@@ -6,7 +8,8 @@ ghost use Rattle.ocfl_tree.specs.Listing.{kind_of};
 ghost use Rattle.ocfl_tree.specs.MemTree.{parent};
 ghost use Rattle.ocfl_tree.specs.Name.{IsName};
 ghost use Rattle.ocfl_tree.specs.Path.{names_of};
-ghost use Rattle.ocfl_tree.specs.Nodes.{leaf_of, bytes_in, leaf_at, stands_at, kept_in, kept_refusal};
+ghost use Rattle.ocfl_tree.specs.Nodes.{leaf_of, bytes_in, leaf_at, stands_at, kept_in};
+ghost use Rattle.ocfl_tree.specs.Nodes.{kept_refusal};
 
 use crate::build::BuildStop;
 use crate::name::Name;
@@ -71,7 +74,8 @@ impl Stored {
 /// The index of what lies at the place with this path.
 pub(crate) fn position(nodes: &[(Place, Stored)], path: &str) -> Option<usize>
     ensures { MatchOption result (lookup nodes.now (names_of path.now) ≡ None)
-        (λ i. (i < length nodes.now) × (lookup nodes.now (names_of path.now) ≡ Some (leaf_at nodes.now i))) }
+        (λ i. (i < length nodes.now) × (lookup nodes.now (names_of path.now)
+        ≡ Some (leaf_at nodes.now i))) }
 {
     for (i, node) in nodes.iter().enumerate() {
         if node.0.path() == path {
@@ -164,7 +168,8 @@ pub(crate) fn list(
 pub(crate) fn file_index(nodes: &[(Place, Stored)], place: &Place) -> Option<usize>
     ensures some { IfSome result (λ i. (i < length nodes.now)
         × (stands_at nodes.now place.now ≡ Some (file (bytes_in (leaf_at nodes.now i))))) }
-    ensures none { IsNone result → (bytes : List ℕ) → stands_at nodes.now place.now ≢ Some (file bytes) }
+    ensures none { IsNone result → (bytes : List ℕ)
+        → stands_at nodes.now place.now ≢ Some (file bytes) }
 {
     if place.path().is_empty() {
         return None;

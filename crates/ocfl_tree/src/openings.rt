@@ -14,7 +14,8 @@ pub(crate) fn note_opening(
     place: &Place,
     failed: bool,
 ) -> Result<(), AllocError>
-    ensures ok { OnOk result (openings.new.items ≡ openings.old.items ++ opening place.now 0 failed ∷ []) }
+    ensures ok { OnOk result (openings.new.items
+        ≡ openings.old.items ++ opening place.now 0 failed ∷ []) }
     ensures err { OnErr result (openings.new.items ≡ openings.old.items) }
 {
     openings.push(Opening {
@@ -37,8 +38,10 @@ pub(crate) fn note_listing(listings: &mut Vec<Place>, place: &Place) -> Result<(
 /// Adds to what the last opening gave.
 pub(crate) fn note_given(openings: &mut Vec<Opening>, count: usize)
     requires some { 0 < length openings.old.items }
-    requires fits { (front : List Opening) (last : Opening) → openings.old.items ≡ front ++ last ∷ [] → last.given + count < 2 ^ 64 }
-    ensures { (front : List Opening) (last : Opening) → openings.old.items ≡ front ++ last ∷ [] → openings.new.items ≡ front ++ with_given count last ∷ [] }
+    requires fits { (front : List Opening) (last : Opening)
+        → openings.old.items ≡ front ++ last ∷ [] → last.given + count < 2 ^ 64 }
+    ensures { (front : List Opening) (last : Opening) → openings.old.items ≡ front ++ last ∷ []
+        → openings.new.items ≡ front ++ with_given count last ∷ [] }
 {
     let last = openings.len() - 1;
     openings[last].given += count as u64;
@@ -47,7 +50,8 @@ pub(crate) fn note_given(openings: &mut Vec<Opening>, count: usize)
 /// Notes that the device failed in the last opening.
 pub(crate) fn note_failure(openings: &mut Vec<Opening>)
     requires { 0 < length openings.old.items }
-    ensures { (front : List Opening) (last : Opening) → openings.old.items ≡ front ++ last ∷ [] → openings.new.items ≡ front ++ with_failure last ∷ [] }
+    ensures { (front : List Opening) (last : Opening) → openings.old.items ≡ front ++ last ∷ []
+        → openings.new.items ≡ front ++ with_failure last ∷ [] }
 {
     let last = openings.len() - 1;
     openings[last].failed = true;
@@ -56,7 +60,8 @@ pub(crate) fn note_failure(openings: &mut Vec<Opening>)
 /// Counts a read of the file that was opened last, and tells whether it is made to fail.
 pub(crate) fn strikes_read(plan: &mut Plan, openings: &[Opening]) -> bool
     requires { 0 < length openings.now }
-    ensures struck { (front : List Opening) (last : Opening) → openings.now ≡ front ++ last ∷ [] → result ≡ is_struck plan.old last.place (Point.Read last.given) }
+    ensures struck { (front : List Opening) (last : Opening) → openings.now ≡ front ++ last ∷ []
+        → result ≡ is_struck plan.old last.place (Point.Read last.given) }
     ensures after { plan.new ≡ after_call plan.old }
 {
     let last = &openings[openings.len() - 1];

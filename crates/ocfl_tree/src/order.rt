@@ -1,7 +1,8 @@
 //! The order of paths.
 ghost use Rattle.std.specs.Prelude.{◌≡◌, ◌≤◌, ◌<◌, length, drop, IsTrue};
 ghost use Rattle.ocfl_tree.specs.Place.{place_cmp, begins as begins_place};
-ghost use Rattle.ocfl_tree.specs.Path.{elements, names_of, byte_cmp, path_cmp, path_begins, is_ended as is_ended_text};
+ghost use Rattle.ocfl_tree.specs.Path.{elements, names_of, byte_cmp, path_cmp, path_begins};
+ghost use Rattle.ocfl_tree.specs.Path.{is_ended as is_ended_text};
 
 use std::cmp::Ordering;
 
@@ -22,7 +23,8 @@ fn cmp_bytes(byte: u8, other: u8) -> Ordering
 fn shares(text: &[u8], other: &[u8], count: usize) -> bool
     ensures text { IsTrue result → count ≤ length text.now }
     ensures other { IsTrue result → count ≤ length other.now }
-    ensures same { IsTrue result → path_cmp (drop count text.now) (drop count other.now) ≡ path_cmp text.now other.now }
+    ensures same { IsTrue result → path_cmp (drop count text.now) (drop count other.now)
+        ≡ path_cmp text.now other.now }
 {
     count <= text.len().min(other.len()) && text[..count] == other[..count]
 }
@@ -54,8 +56,8 @@ fn cmp_rest(text: &[u8], other: &[u8]) -> Ordering
     text.len().cmp(&other.len())
 }
 
-/// Compares two texts by what stands between their slashes, element by element, a beginning before its extensions. Paths
-/// in one directory share many bytes, which are passed by in long steps.
+/// Compares two texts by what stands between their slashes, element by element, a beginning before
+/// its extensions. Paths in one directory share many bytes, which are passed by in long steps.
 #[tactic(auto, using(crate::proofs::PathOrders::path_cmp_is))]
 pub fn cmp_elements(text: &[u8], other: &[u8]) -> Ordering
     ensures { result ≡ place_cmp (elements text.now) (elements other.now) }

@@ -1,5 +1,6 @@
 //! Paths: the names of a place in one text, with `/` between them.
-ghost use Rattle.std.specs.Prelude.{◌≡◌, ◌≢◌, ◌≤◌, ◌+◌, ◌==◌, ◌↔◌, ◌∷◌, ◌++◌, [], length, IsTrue, IfOk, OnOk, OnErr, MatchOption, string_bytes, take, drop};
+ghost use Rattle.std.specs.Prelude.{◌≡◌, ◌≢◌, ◌≤◌, ◌+◌, ◌==◌, ◌↔◌, ◌∷◌, ◌++◌, [], length, IsTrue};
+ghost use Rattle.std.specs.Prelude.{IfOk, OnOk, OnErr, MatchOption, string_bytes, take, drop};
 ghost use Rattle.std.specs.List.{list_all, list_any, count_by};
 ghost use Rattle.ocfl_tree.specs.Name.{IsName, IsPlace};
 ghost use Rattle.ocfl_tree.specs.Path.{elements, names_of, below, joined, fits as fits_name};
@@ -67,7 +68,8 @@ pub(crate) fn names(alloc: Global, path: &str) -> Result<Vec<Name>, AllocError>
     Ok(names)
 }
 
-/// Adds a name at the end of a path. The only error is want of memory, which leaves the path as it was.
+/// Adds a name at the end of a path. The only error is want of memory, which leaves the path as it
+/// was.
 pub(crate) fn push(path: &mut String, name: &str) -> Result<(), AllocError>
     requires { length name.now ≤ 255 }
     ensures ok { OnOk result (string_bytes path.new ≡ below (string_bytes path.old) name.now) }
@@ -99,7 +101,8 @@ pub(crate) fn split_last(path: &str) -> Option<(&str, &str)>
 /// The first name of a path, and the path that leads on from there.
 fn split_first(path: &str) -> Option<(&str, &str)>
     requires { IsPlace (names_of path.now) }
-    ensures { MatchOption result (names_of path.now ≡ []) (λ p. names_of path.now ≡ p.0.now ∷ names_of p.1.now) }
+    ensures { MatchOption result (names_of path.now ≡ [])
+        (λ p. names_of path.now ≡ p.0.now ∷ names_of p.1.now) }
 {
     if path.is_empty() {
         return None;

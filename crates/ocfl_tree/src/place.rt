@@ -1,6 +1,10 @@
-ghost use Rattle.std.specs.Prelude.{◌≡◌, ◌↔◌, ◌++◌, ◌∷◌, [], length, string_bytes, IfOk, OnOk, OnErr, take, drop, IfSome, IsNone, MatchOption, Some, nat_eq, refl};
+ghost use Rattle.std.specs.Prelude.{◌≡◌, ◌↔◌, ◌++◌, ◌∷◌, [], length, string_bytes, IfOk, OnOk};
+ghost use Rattle.std.specs.Prelude.{OnErr, take, drop, IfSome, IsNone, MatchOption, Some, nat_eq};
+ghost use Rattle.std.specs.Prelude.{refl};
 ghost use Rattle.std.specs.Cmp.{partial_equiv_from_equiv, partial_order_from_agreeing_total};
-ghost use Rattle.std.specs.Cmp.Lexicographic.{pointwise, slice_cmp, nat_list_eq_equiv, nat_list_cmp_total, texts_ties, lists_equiv, lists_total, lists_ties};
+ghost use Rattle.std.specs.Cmp.Lexicographic.{pointwise, slice_cmp, nat_list_eq_equiv};
+ghost use Rattle.std.specs.Cmp.Lexicographic.{nat_list_cmp_total, texts_ties, lists_equiv};
+ghost use Rattle.std.specs.Cmp.Lexicographic.{lists_total, lists_ties};
 ghost use Rattle.std.specs.Ordering.{nat_cmp};
 ghost use Rattle.ocfl_tree.specs.Name.{IsName, IsPlace};
 ghost use Rattle.ocfl_tree.specs.Path.{names_of, slashed};
@@ -12,8 +16,9 @@ use std::alloc::{AllocError, Global};
 use std::cmp::Ordering;
 use std::marker::Model;
 
-/// The names that lead from the storage root to something in it, none for the root itself (OCFL 1.1, 4.1 Root Structure).
-/// They are kept in one text, its path. Its value in clauses: the list of the names' bytes.
+/// The names that lead from the storage root to something in it, none for the root itself (OCFL
+/// 1.1, 4.1 Root Structure). They are kept in one text, its path. Its value in clauses: the list of
+/// the names' bytes.
 #[derive(Debug, Drop)]
 pub struct Place {
     path: String,
@@ -41,8 +46,8 @@ impl Place {
         }
     }
 
-    /// The place with this path: its names with `/` between them, and nothing for the storage root. It takes no memory.
-    /// `None` exactly where a text between the slashes is no name.
+    /// The place with this path: its names with `/` between them, and nothing for the storage root.
+    /// It takes no memory. `None` exactly where a text between the slashes is no name.
     pub fn from_path(path: String) -> Option<Place>
         ensures some { IfSome result (λ place. place ≡ names_of (string_bytes path)) }
         ensures none { IsNone result ↔ (IsPlace (names_of (string_bytes path)) → ⊥) }
@@ -115,7 +120,8 @@ impl Place {
         })
     }
 
-    /// What leads on from behind the first so many names: the root where there are no more. The only error is want of memory.
+    /// What leads on from behind the first so many names: the root where there are no more. The
+    /// only error is want of memory.
     pub fn behind(&self, names: usize) -> Result<Place, AllocError>
         ensures { IfOk result (λ place. place ≡ drop names self.now) }
     {
@@ -125,7 +131,8 @@ impl Place {
         })
     }
 
-    /// The place of the first so many names: the same place where there are no more. The only error is want of memory.
+    /// The place of the first so many names: the same place where there are no more. The only error
+    /// is want of memory.
     pub fn first(&self, names: usize) -> Result<Place, AllocError>
         ensures { IfOk result (λ place. place ≡ take names self.now) }
     {
@@ -135,7 +142,8 @@ impl Place {
         })
     }
 
-    /// The path of the directory that the place lies in and its name there, and none for the storage root.
+    /// The path of the directory that the place lies in and its name there, and none for the
+    /// storage root.
     pub(crate) fn split_last(&self) -> Option<(&str, &str)>
         ensures { MatchOption result (self.now ≡ [])
             (λ p. (self.now ≡ names_of p.0.now ++ p.1.now ∷ []) × IsName p.1.now) }
@@ -171,7 +179,8 @@ impl Eq for Place {
 impl PartialOrd for Place {
     ghost partial_cmp = { λ x y. Some (place_cmp x y) };
 
-    ghost laws = { partial_order_from_agreeing_total place_cmp (lists_total nat_list_cmp_total) (λ x y. refl) (lists_ties (slice_cmp nat_cmp) texts_ties) };
+    ghost laws = { partial_order_from_agreeing_total place_cmp (lists_total nat_list_cmp_total)
+        (λ x y. refl) (lists_ties (slice_cmp nat_cmp) texts_ties) };
 
     fn partial_cmp(&self, other: &Place) -> Option<Ordering> {
         Some(self.cmp(other))

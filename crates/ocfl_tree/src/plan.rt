@@ -1,6 +1,7 @@
 ghost use Rattle.std.specs.Prelude.{◌≡◌, ◌<◌, ◌≤◌, ◌++◌, ◌∷◌, [], ◌&&◌, Some, OnOk, OnErr};
 ghost use Rattle.ocfl_tree.specs.Place.{place_eq};
-ghost use Rattle.ocfl_tree.specs.Faults.{no_faults, is_met, is_planned, is_struck, is_due, due_after, after_call, within_step};
+ghost use Rattle.ocfl_tree.specs.Faults.{no_faults, is_met, is_planned, is_struck, is_due};
+ghost use Rattle.ocfl_tree.specs.Faults.{due_after, after_call, within_step};
 
 use crate::place::Place;
 use std::alloc::{AllocError, Global};
@@ -104,7 +105,10 @@ impl Plan {
     }
 
     pub(crate) fn add(&mut self, place: &Place, point: Point) -> Result<(), AllocError>
-        ensures ok { OnOk result (self.new ≡ record self.old { points = self.old.points ++ (place.now, point) ∷ [] }) }
+        ensures ok { OnOk result (self.new ≡ record self.old {
+          points = self.old.points
+              ++ (place.now, point) ∷ [];
+        }) }
         ensures err { OnErr result (self.new ≡ self.old) }
     {
         self.points.push((place.try_clone()?, point))?;

@@ -5,7 +5,8 @@ use crate::name::Name;
 use crate::place::Place;
 use std::alloc::{AllocError, AllocFailed};
 
-/// What an entry of a directory is. A link is `Other`, and so is everything that is neither a file nor a directory.
+/// What an entry of a directory is. A link is `Other`, and so is everything that is neither a file
+/// nor a directory.
 #[derive(Clone, Copy, Debug, PartialEq, Eq, PartialOrd, Ord)]
 pub enum Kind {
     File,
@@ -20,7 +21,8 @@ pub struct Entry {
     pub kind: Kind,
 }
 
-/// Why a store did not answer: its device failed, what was asked for is not there, or memory was refused.
+/// Why a store did not answer: its device failed, what was asked for is not there, or memory was
+/// refused.
 #[derive(Clone, Copy, Debug, PartialEq, Eq)]
 pub enum Trouble {
     Device,

@@ -1,9 +1,12 @@
 //! The storage root: its lines, and its listing where it is entered.
-ghost use Rattle.std.specs.Prelude.{◌≡◌, ◌++◌, ◌∷◌, [], None, false, IsTrue, IfOk, IfErr, MatchOption, OnOk, map};
+ghost use Rattle.std.specs.Prelude.{◌≡◌, ◌++◌, ◌∷◌, [], None, false, IsTrue, IfOk, IfErr};
+ghost use Rattle.std.specs.Prelude.{MatchOption, OnOk, map};
 ghost use Rattle.ocfl_tree.specs.Place.{Text};
 ghost use Rattle.ocfl_tree.specs.Tree.{Tree as Root};
 ghost use Rattle.ocfl_report.specs.Line.{line_of, lines_at, note};
-ghost use Rattle.ocfl_inventory.specs.Declaration.{after_prefix, declaration_name as declaration_name_of, is_known, known, prefix};
+ghost use Rattle.ocfl_inventory.specs.Declaration.{after_prefix};
+ghost use Rattle.ocfl_inventory.specs.Declaration.{declaration_name as declaration_name_of};
+ghost use Rattle.ocfl_inventory.specs.Declaration.{is_known, known, prefix};
 ghost use Rattle.ocfl_inventory.specs.Entries.{meaning, PointsAtOne};
 ghost use Rattle.ocfl_inventory.specs.declared.declaration.Level.TheVariants as level;
 ghost use Rattle.ocfl_audit.specs.Head.{is_exact_declaration, root_notes_by};
@@ -30,7 +33,8 @@ use ocfl_tree::{Entry, Place, Tree};
 use std::alloc::{AllocError, Global};
 
 fn is_exact(version: Version, declaration: &Option<Bounded>) -> bool
-    ensures { (root : Root) → IsFileAt root (declaration_name_of level.Root version ∷ []) 4096 declaration.now
+    ensures { (root : Root) → IsFileAt root (declaration_name_of level.Root version
+        ∷ []) 4096 declaration.now
         → result ≡ is_exact_declaration root [] level.Root version }
 {
     match declaration {
@@ -39,7 +43,8 @@ fn is_exact(version: Version, declaration: &Option<Bounded>) -> bool
     }
 }
 
-/// Puts the line of a storage root of known version at the end (OCFL 1.1, 4.2 Root Conformance Declaration).
+/// Puts the line of a storage root of known version at the end (OCFL 1.1, 4.2 Root Conformance
+/// Declaration).
 fn add_known(
     alloc: Global,
     lines: &mut Vec<Line>,
@@ -47,8 +52,10 @@ fn add_known(
     version: Version,
     declaration: &Option<Bounded>,
 ) -> Result<(), AllocError>
-    ensures { (root : Root) → IsFileAt root (declaration_name_of level.Root version ∷ []) 4096 declaration.now
-        → OnOk result (Adds lines.old.items lines.new.items place.now (root_notes_by root (known version))) }
+    ensures { (root : Root) → IsFileAt root (declaration_name_of level.Root version
+        ∷ []) 4096 declaration.now
+        → OnOk result (Adds lines.old.items lines.new.items place.now
+        (root_notes_by root (known version))) }
 {
     if is_exact(version, declaration) {
         return add_plain(alloc, lines, place, Code::Clean);
@@ -64,7 +71,8 @@ fn add_unknown(
     declaration: &str,
 ) -> Result<(), AllocError>
     ensures { (rest : Text) → declaration.now ≡ prefix level.Root ++ rest
-        → OnOk result (Adds lines.old.items lines.new.items place.now (note Code.S01 (after_prefix level.Root declaration.now) ∷ [])) }
+        → OnOk result (Adds lines.old.items lines.new.items place.now
+        (note Code.S01 (after_prefix level.Root declaration.now) ∷ [])) }
 {
     match version_in_name(Level::Root, declaration) {
         Some(version) => {
@@ -85,7 +93,8 @@ fn add_stop(
 ) -> Result<(), AllocError>
     ensures { (root : Root) → is_known (meaning level.Root entries.now declared) ≡ false
         → PointsAtOne level.Root entries.now declared
-        → OnOk result (Adds lines.old.items lines.new.items place.now (root_notes_by root (meaning level.Root entries.now declared))) }
+        → OnOk result (Adds lines.old.items lines.new.items place.now
+        (root_notes_by root (meaning level.Root entries.now declared))) }
 {
     match declared {
         Declared::None => add_plain(alloc, lines, place, Code::E069),
@@ -100,7 +109,8 @@ fn add_stop(
 
 fn item_of(alloc: Global, place: &Place, lines: Vec<Line>) -> Result<Pending, AllocError>
     ensures place { IfOk result (λ item. item.place ≡ place.now) }
-    ensures told { (root : Root) → place.now ≡ [] → map line_of lines.items ≡ lines_at [] (notes root None [])
+    ensures told { (root : Root) → place.now ≡ []
+        → map line_of lines.items ≡ lines_at [] (notes root None [])
         → IfOk result (λ item. IsPending root item) }
 {
     Ok(Pending {

@@ -1,4 +1,5 @@
-ghost use Rattle.std.specs.Prelude.{◌≡◌, ◌++◌, [], IfOk, IfSome, MatchOption, None, OnOk, Some, map};
+ghost use Rattle.std.specs.Prelude.{◌≡◌, ◌++◌, [], IfOk, IfSome, MatchOption, None, OnOk, Some};
+ghost use Rattle.std.specs.Prelude.{map};
 ghost use Rattle.ocfl_tree.specs.Ascending.{IsAscending};
 ghost use Rattle.ocfl_tree.specs.Place.{Place as Spot};
 ghost use Rattle.ocfl_tree.specs.Tree.{Tree as Root};
@@ -44,7 +45,8 @@ fn known_lines(
     sight: Sight,
 ) -> Result<Vec<Line>, AllocError>
     ensures { IsAscending named_cmp (map named_view named.now)
-        → IfOk result (λ lines. map line_of lines.items ≡ lines_at place.now (sight_notes sight ++ missing_notes (map named_view named.now))) }
+        → IfOk result (λ lines. map line_of lines.items
+        ≡ lines_at place.now (sight_notes sight ++ missing_notes (map named_view named.now))) }
 {
     let mut lines = Vec::new(alloc);
     add_sight(alloc, &mut lines, place, sight)?;
@@ -62,8 +64,8 @@ fn is_hashed(named: &[Named], sight: Sight) -> bool
     }
 }
 
-/// The item at a content place, from the digests that the object's table names for it and from what is seen there;
-/// none where the place has no lines.
+/// The item at a content place, from the digests that the object's table names for it and from what
+/// is seen there; none where the place has no lines.
 pub(crate) fn content_item(
     alloc: Global,
     place: &Place,
@@ -73,7 +75,8 @@ pub(crate) fn content_item(
     ensures place { IfOk result (λ item. IfSome item (λ pending. pending.place ≡ place.now)) }
     ensures told { (root : Root) (t : Table) (q : Spot) → content_at root place.now ≡ Some (t, q)
         → map named_view named.items ≡ digests_of t q → IsSight root place.now sight
-        → IfOk result (λ item. MatchOption item (notes root None place.now ≡ []) (λ pending. IsPending root pending × (pending.place ≡ place.now))) }
+        → IfOk result (λ item. MatchOption item (notes root None place.now ≡ [])
+        (λ pending. IsPending root pending × (pending.place ≡ place.now))) }
 {
     let place = place.try_clone()?;
     if is_hashed(&named, sight) {

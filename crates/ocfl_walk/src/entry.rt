@@ -1,13 +1,17 @@
 //! Where a walk begins: the listings on the way to a place, of each what lies above that place.
-ghost use Rattle.std.specs.Prelude.{◌≡◌, ◌≤◌, ◌∷◌, ◌++◌, ◌&&◌, [], length, true, false, None, Some, IsTrue, IfOk, IfErr, IfSome, MatchOption, MatchResult};
+ghost use Rattle.std.specs.Prelude.{◌≡◌, ◌≤◌, ◌∷◌, ◌++◌, ◌&&◌, [], length, true, false, None, Some};
+ghost use Rattle.std.specs.Prelude.{IsTrue, IfOk, IfErr, IfSome, MatchOption, MatchResult};
 ghost use Rattle.ocfl_tree.specs.Tree.{Tree as Root};
 ghost use Rattle.ocfl_tree.specs.Place.{Place as Spot};
 ghost use Rattle.ocfl_tree.specs.Listing.{IsListing};
-ghost use Rattle.ocfl_walk.specs.Entering.{Descends, DescendFails, GoesInto, IsBrought, IsComing, IsFairWay, IsKept, Leads, Starts, StartFails, may_open};
-ghost use Rattle.ocfl_walk.specs.Standing.{IsAroundIf, IsOrderly, IsOrderlyStand, IsPart, IsTableAround, StandsAt, piles_in};
+ghost use Rattle.ocfl_walk.specs.Entering.{Descends, DescendFails, GoesInto, IsBrought, IsComing};
+ghost use Rattle.ocfl_walk.specs.Entering.{IsFairWay, IsKept, Leads, Starts, StartFails, may_open};
+ghost use Rattle.ocfl_walk.specs.Standing.{IsAroundIf, IsOrderly, IsOrderlyStand, IsPart};
+ghost use Rattle.ocfl_walk.specs.Standing.{IsTableAround, StandsAt, piles_in};
 ghost use Rattle.ocfl_audit.specs.Walk.{step_listed};
 ghost use Rattle.ocfl_walk.specs.Walking.{IsFairFolder};
-ghost use Rattle.ocfl_walk.specs.Ways.{Enters, IsAt, IsObject, IsWayFault, StaysOut, Stops, way_below};
+ghost use Rattle.ocfl_walk.specs.Ways.{Enters, IsAt, IsObject, IsWayFault, StaysOut, Stops};
+ghost use Rattle.ocfl_walk.specs.Ways.{way_below};
 ghost use Rattle.ocfl_audit.specs.Zone.{inside, table_at, zone};
 
 use crate::fault::Fault;
@@ -24,7 +28,8 @@ use std::alloc::Global;
 /// The listing of a directory in a directory, where it may be listed.
 fn listed<T: Tree>(store: &mut T, folder: &Folder, name: &Name) -> Result<Option<Folder>, Fault>
     ensures only { IfErr result (λ why. IsWayFault why) }
-    ensures fair { IfOk result (λ next. IfSome next (λ inner. IsFairFolder (folder.now.place ++ name.now ∷ []) inner)) }
+    ensures fair { IfOk result (λ next. IfSome next
+        (λ inner. IsFairFolder (folder.now.place ++ name.now ∷ []) inner)) }
     ensures told { IsTrue T.told → (root : Root) → (T.state store.old).tree ≡ root
         → IsListing root folder.now.place folder.now.entries.items
         → let below = folder.now.place ++ name.now ∷ [] in MatchResult result
@@ -49,7 +54,8 @@ fn into_object<T: Tree>(
     folder: Folder,
 ) -> Result<Option<Folder>, Fault>
     ensures only { IfErr result (λ why. IsWayFault why) }
-    ensures fair { IfOk result (λ o. MatchOption o (object.new ≡ object.old) (λ f. (f ≡ folder) × IsKept folder.place object.new)) }
+    ensures fair { IfOk result (λ o. MatchOption o (object.new ≡ object.old)
+        (λ f. (f ≡ folder) × IsKept folder.place object.new)) }
     ensures told { IsTrue T.told → (root : Root) → (T.state store.old).tree ≡ root
         → IsObject root folder.place folder.entries.items
         → GoesInto root (T.state store.old) (T.state store.new) folder.place object.new result }
@@ -62,7 +68,8 @@ fn into_object<T: Tree>(
     Ok(Some(folder))
 }
 
-/// The directory of the storage hierarchy, or the object, that a name leads to, where it is entered.
+/// The directory of the storage hierarchy, or the object, that a name leads to, where it is
+/// entered.
 fn down_in_hierarchy<T: Tree>(
     alloc: Global,
     store: &mut T,
@@ -74,8 +81,10 @@ fn down_in_hierarchy<T: Tree>(
     ensures only { IfErr result (λ why. IsWayFault why) }
     ensures fair { IfOk result (λ o. IsFairWay folder.now.place name.now object.old object.new o) }
     ensures told { IsTrue T.told → (root : Root) → (T.state store.old).tree ≡ root
-        → IsAt root folder.now.place folder.now.entries.items → IsPart root folder.now.place object.old → (r : Spot)
-        → Leads root (T.state store.old) (T.state store.new) folder.now.place name.now r object.old object.new result }
+        → IsAt root folder.now.place folder.now.entries.items
+        → IsPart root folder.now.place object.old → (r : Spot)
+        → Leads root (T.state store.old) (T.state store.new) folder.now.place name.now r object.old
+        object.new result }
 {
     if is_extensions(folder, name) {
         return Ok(None);
@@ -93,8 +102,10 @@ fn down_in_hierarchy<T: Tree>(
 /// Whether a name leads from a directory of an object to another that is listed.
 fn leads_on(object: &Around, folder: &Folder, name: &Name) -> bool
     requires { length object.now.place ≤ length folder.now.place }
-    ensures told { (root : Root) → IsAt root folder.now.place folder.now.entries.items → (s : Spot) → zone root folder.now.place ≡ inside object.now.place s
-        → table_at root object.now.place ≡ Some object.now.table → result ≡ step_listed object.now.table s name.now }
+    ensures told { (root : Root) → IsAt root folder.now.place folder.now.entries.items → (s : Spot)
+        → zone root folder.now.place ≡ inside object.now.place s
+        → table_at root object.now.place ≡ Some object.now.table
+        → result ≡ step_listed object.now.table s name.now }
 {
     let depth = folder.place.depth() - object.place.depth();
     if depth == 0 {
@@ -118,8 +129,10 @@ pub(crate) fn down<T: Tree>(
     ensures only { IfErr result (λ why. IsWayFault why) }
     ensures fair { IfOk result (λ o. IsFairWay folder.now.place name.now object.old object.new o) }
     ensures told { IsTrue T.told → (root : Root) → (T.state store.old).tree ≡ root
-        → IsAt root folder.now.place folder.now.entries.items → IsPart root folder.now.place object.old → (r : Spot)
-        → Leads root (T.state store.old) (T.state store.new) folder.now.place name.now r object.old object.new result }
+        → IsAt root folder.now.place folder.now.entries.items
+        → IsPart root folder.now.place object.old → (r : Spot)
+        → Leads root (T.state store.old) (T.state store.new) folder.now.place name.now r object.old
+        object.new result }
 {
     match object {
         None => down_in_hierarchy(alloc, store, object, folder, name),
@@ -141,18 +154,24 @@ fn go_down<T: Tree>(
     folder: Folder,
     names: &[Name],
 ) -> Result<(), Fault>
-    requires coming { IsComing folder.place folder.entries.items (piles_in stand.old.last stand.old.listings.items) stand.old.around }
+    requires coming { IsComing folder.place folder.entries.items
+        (piles_in stand.old.last stand.old.listings.items) stand.old.around }
     requires way { stand.old.last ≡ Some (folder.place ++ names.now) }
     requires depth { length stand.old.listings.items ≡ length folder.place }
     ensures only { IfErr result (λ why. IsWayFault why) }
     ensures last { stand.new.last ≡ stand.old.last }
-    ensures orderly { IfOk result (λ _. IsOrderly (folder.place ++ names.now) (piles_in stand.new.last stand.new.listings.items) stand.new.around) }
+    ensures orderly { IfOk result (λ _. IsOrderly (folder.place ++ names.now)
+        (piles_in stand.new.last stand.new.listings.items) stand.new.around) }
     ensures told { IsTrue T.told → (root : Root) → (T.state store.old).tree ≡ root
         → IsAt root folder.place folder.entries.items → IsPart root folder.place stand.old.around
-        → let may = may_open stand.old.around (zone root (folder.place ++ names.now)) in MatchResult result
-        (λ _. Descends root (T.state store.old) (T.state store.new) (way_below folder.place names.now) [] may [] 0
-        × IsBrought root folder.place names.now (piles_in stand.old.last stand.old.listings.items) (piles_in stand.new.last stand.new.listings.items) stand.new.around)
-        (λ why. DescendFails root (T.state store.old) (T.state store.new) (way_below folder.place names.now) may why) }
+        → let may = may_open stand.old.around
+        (zone root (folder.place ++ names.now)) in MatchResult result
+        (λ _. Descends root (T.state store.old) (T.state store.new)
+        (way_below folder.place names.now) [] may [] 0
+        × IsBrought root folder.place names.now (piles_in stand.old.last stand.old.listings.items)
+        (piles_in stand.new.last stand.new.listings.items) stand.new.around)
+        (λ why. DescendFails root (T.state store.old) (T.state store.new)
+        (way_below folder.place names.now) may why) }
 {
     let Some((name, rest)) = names.split_first() else {
         stand.listings.push(sorted(folder).entries);
@@ -173,8 +192,10 @@ pub(crate) fn stand_at<T: Tree>(alloc: Global, store: &mut T, after: &Place) -> 
     ensures only { IfErr result (λ why. IsWayFault why) }
     ensures last { IfOk result (λ stand. stand.last ≡ Some after.now) }
     ensures orderly { IfOk result (λ stand. IsOrderlyStand stand) }
-    ensures told { IsTrue T.told → (root : Root) → (T.state store.old).tree ≡ root → MatchResult result
-        (λ stand. Starts root (T.state store.old) (T.state store.new) after.now 0 × StandsAt root stand (Some after.now))
+    ensures told { IsTrue T.told → (root : Root) → (T.state store.old).tree ≡ root
+        → MatchResult result
+        (λ stand. Starts root (T.state store.old) (T.state store.new) after.now 0
+        × StandsAt root stand (Some after.now))
         (λ why. StartFails root (T.state store.old) (T.state store.new) after.now why) }
 {
     let mut stand = Stand {

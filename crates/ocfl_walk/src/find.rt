@@ -40,7 +40,8 @@ fn item_in<T: Tree>(
 ) -> Result<Option<Pending>, Fault>
     ensures only { IfErr result (λ why. IsWayFault why) }
     ensures told { IsTrue T.told → (root : Root) → (T.state store.old).tree ≡ root
-        → IsAt root folder.now.place folder.now.entries.items → IsPart root folder.now.place around.now
+        → IsAt root folder.now.place folder.now.entries.items
+        → IsPart root folder.now.place around.now
         → place.now ≡ folder.now.place ++ name.now ∷ []
         → FindsItem root (T.state store.old) (T.state store.new) (place.now ∷ [])
         (may_open around.now (zone root place.now)) place.now result }
@@ -66,7 +67,8 @@ pub(crate) fn find_below<T: Tree>(
     ensures told { IsTrue T.told → (root : Root) → (T.state store.old).tree ≡ root
         → IsAt root folder.place folder.entries.items → IsPart root folder.place around
         → place.now ≡ folder.place ++ name.now ∷ rest.now
-        → FindsItem root (T.state store.old) (T.state store.new) (way_below folder.place (name.now ∷ rest.now))
+        → FindsItem root (T.state store.old) (T.state store.new)
+        (way_below folder.place (name.now ∷ rest.now))
         (may_open around (zone root place.now)) place.now result }
 {
     let Some((next, behind)) = rest.split_first() else {

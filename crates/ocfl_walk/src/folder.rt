@@ -1,11 +1,14 @@
 //! Directories as a store lists them, from the storage root down.
-ghost use Rattle.std.specs.Prelude.{◌≡◌, ◌&&◌, ◌∷◌, ◌++◌, [], nat_le, suc, length, true, IsTrue, IfOk, IfErr, IfSome, MatchResult, MatchOption};
+ghost use Rattle.std.specs.Prelude.{◌≡◌, ◌&&◌, ◌∷◌, ◌++◌, [], nat_le, suc, length, true, IsTrue};
+ghost use Rattle.std.specs.Prelude.{IfOk, IfErr, IfSome, MatchResult, MatchOption};
 ghost use Rattle.ocfl_tree.specs.Tree.{Tree as Root};
 ghost use Rattle.ocfl_tree.specs.Listing.{IsListing, IsOrdinary, kind_in};
 ghost use Rattle.ocfl_inventory.specs.Declaration.{declared as declared_by_files};
 ghost use Rattle.ocfl_inventory.specs.Entries.{file_names};
 ghost use Rattle.ocfl_audit.specs.Zone.{max_listed_depth};
-ghost use Rattle.ocfl_walk.specs.Ways.{IsWayFault, fault_by, Stops, Enters, StaysOut, IsHead, head_by as head_by_declared, is_extensions_name, is_dir_kind, is_listable};
+ghost use Rattle.ocfl_walk.specs.Ways.{IsWayFault, fault_by, Stops, Enters, StaysOut, IsHead};
+ghost use Rattle.ocfl_walk.specs.Ways.{head_by as head_by_declared, is_extensions_name};
+ghost use Rattle.ocfl_walk.specs.Ways.{is_dir_kind, is_listable};
 
 use crate::fault::Fault;
 use ocfl_inventory::declaration::declaration;

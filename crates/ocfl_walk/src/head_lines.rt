@@ -1,5 +1,6 @@
 //! The lines of an object's head, from files that were read before.
-ghost use Rattle.std.specs.Prelude.{◌≡◌, ◌≤◌, ◌++◌, ◌∷◌, [], List, true, false, not, length, is_some, map, option_map, Some, IfSome, IfOk, OnOk};
+ghost use Rattle.std.specs.Prelude.{◌≡◌, ◌≤◌, ◌++◌, ◌∷◌, [], List, true, false, not, length};
+ghost use Rattle.std.specs.Prelude.{is_some, map, option_map, Some, IfSome, IfOk, OnOk};
 ghost use Rattle.hex.specs.Hex.{encode_lower};
 ghost use Rattle.ocfl_tree.specs.Place.{Place as Names, Text, text_eq};
 ghost use Rattle.ocfl_tree.specs.Tree.{Tree as Root};
@@ -7,7 +8,9 @@ ghost use Rattle.ocfl_report.specs.Line.{Note, note, plain};
 ghost use Rattle.ocfl_digest.specs.Bounded.{IsBoundedTo};
 ghost use Rattle.ocfl_digest.specs.Digest.{digest_bytes_of};
 ghost use Rattle.ocfl_digest.specs.declared.algorithm.Algorithm.TheVariants.{Sha256, Sha512};
-ghost use Rattle.ocfl_inventory.specs.Declaration.{prefix, after_prefix, declaration_name as name_of_declaration, is_known};
+ghost use Rattle.ocfl_inventory.specs.Declaration.{prefix, after_prefix};
+ghost use Rattle.ocfl_inventory.specs.Declaration.{declaration_name as name_of_declaration};
+ghost use Rattle.ocfl_inventory.specs.Declaration.{is_known};
 ghost use Rattle.ocfl_inventory.specs.DigestText.{digest_of};
 ghost use Rattle.ocfl_inventory.specs.Entries.{meaning, PointsAtOne};
 ghost use Rattle.ocfl_inventory.specs.Reading.{algorithm_of as algorithm_in};
@@ -15,7 +18,9 @@ ghost use Rattle.ocfl_inventory.specs.Sidecar.{sidecar_digits, sidecar_of};
 ghost use Rattle.ocfl_inventory.specs.Sums.{sum_view};
 ghost use Rattle.ocfl_inventory.specs.Table.{IsFit, table_of};
 ghost use Rattle.ocfl_inventory.specs.declared.declaration.Level.TheVariants as level;
-ghost use Rattle.ocfl_audit.specs.Head.{on, or_clean, is_exact_declaration, sidecar_name, sidecar_at, mismatch, sidecar_notes, are_sidecars_missing, sidecars_notes, inventory_part, head_notes_by};
+ghost use Rattle.ocfl_audit.specs.Head.{on, or_clean, is_exact_declaration, sidecar_name};
+ghost use Rattle.ocfl_audit.specs.Head.{sidecar_at, mismatch, sidecar_notes, are_sidecars_missing};
+ghost use Rattle.ocfl_audit.specs.Head.{sidecars_notes, inventory_part, head_notes_by};
 ghost use Rattle.ocfl_walk.specs.HeadFiles.{IsFileAt};
 ghost use Rattle.ocfl_walk.specs.HeadLines.{AreSidecars, note_of, is_other_there, named_notes};
 ghost use Rattle.ocfl_walk.specs.Pending.{Adds};
@@ -41,7 +46,8 @@ pub(crate) struct Sidecars {
 
 /// Whether these few bytes are all that a file has.
 pub(crate) fn is_file(bytes: &[u8], file: &Bounded) -> bool
-    ensures { (text : Text) → IsBoundedTo 4096 text file.now → length bytes.now ≤ 4096 → result ≡ text_eq text bytes.now }
+    ensures { (text : Text) → IsBoundedTo 4096 text file.now → length bytes.now ≤ 4096
+        → result ≡ text_eq text bytes.now }
 {
     match file {
         Bounded::Whole(whole) => is_bytes(whole, bytes),
@@ -50,7 +56,8 @@ pub(crate) fn is_file(bytes: &[u8], file: &Bounded) -> bool
 }
 
 fn is_exact(version: Version, declaration: &Option<Bounded>) -> bool
-    ensures { (root : Root) (o : Names) → IsFileAt root (o ++ name_of_declaration level.Object version ∷ []) 4096 declaration.now
+    ensures { (root : Root) (o : Names) → IsFileAt root
+        (o ++ name_of_declaration level.Object version ∷ []) 4096 declaration.now
         → result ≡ is_exact_declaration root o level.Object version }
 {
     match declaration {
@@ -59,7 +66,8 @@ fn is_exact(version: Version, declaration: &Option<Bounded>) -> bool
     }
 }
 
-/// Puts the line of a declaration whose bytes are not exact at the end (OCFL 1.1, 3.2 Object Conformance Declaration).
+/// Puts the line of a declaration whose bytes are not exact at the end (OCFL 1.1, 3.2 Object
+/// Conformance Declaration).
 pub(crate) fn add_declaration(
     alloc: Global,
     lines: &mut Vec<Line>,
@@ -67,8 +75,11 @@ pub(crate) fn add_declaration(
     version: Version,
     declaration: &Option<Bounded>,
 ) -> Result<(), AllocError>
-    ensures { (root : Root) → IsFileAt root (place.now ++ name_of_declaration level.Object version ∷ []) 4096 declaration.now
-        → OnOk result (Adds lines.old.items lines.new.items place.now (on (not (is_exact_declaration root place.now level.Object version)) (plain Code.E007))) }
+    ensures { (root : Root) → IsFileAt root (place.now
+        ++ name_of_declaration level.Object version ∷ []) 4096 declaration.now
+        → OnOk result (Adds lines.old.items lines.new.items place.now
+        (on (not (is_exact_declaration root place.now level.Object version))
+        (plain Code.E007))) }
 {
     if is_exact(version, declaration) {
         return Ok(());
@@ -84,7 +95,8 @@ fn add_unknown(
     declaration: &str,
 ) -> Result<(), AllocError>
     ensures { (rest : Text) → declaration.now ≡ prefix level.Object ++ rest
-        → OnOk result (Adds lines.old.items lines.new.items place.now (note Code.S01 (after_prefix level.Object declaration.now) ∷ [])) }
+        → OnOk result (Adds lines.old.items lines.new.items place.now
+        (note Code.S01 (after_prefix level.Object declaration.now) ∷ [])) }
 {
     match version_in_name(Level::Object, declaration) {
         Some(version) => {
@@ -95,8 +107,8 @@ fn add_unknown(
     }
 }
 
-/// Puts the line of a head that stops at its declarations at the end: they are several, or of a version that is not
-/// known.
+/// Puts the line of a head that stops at its declarations at the end: they are several, or of a
+/// version that is not known.
 pub(crate) fn add_stop(
     alloc: Global,
     lines: &mut Vec<Line>,
@@ -106,7 +118,8 @@ pub(crate) fn add_stop(
 ) -> Result<(), AllocError>
     ensures { (root : Root) → is_known (meaning level.Object entries.now declared) ≡ false
         → PointsAtOne level.Object entries.now declared
-        → OnOk result (Adds lines.old.items lines.new.items place.now (head_notes_by root place.now (meaning level.Object entries.now declared))) }
+        → OnOk result (Adds lines.old.items lines.new.items place.now
+        (head_notes_by root place.now (meaning level.Object entries.now declared))) }
 {
     match declared {
         Declared::Several => add_plain(alloc, lines, place, Code::E003),
@@ -128,7 +141,8 @@ fn add_unless_found(
     found: &[u8],
 ) -> Result<(), AllocError>
     ensures { OnOk result (Adds lines.old.items lines.new.items place.now
-        (on (not (text_eq wanted.now found.now)) (mismatch Code.E060 algorithm (encode_lower wanted.now) (encode_lower found.now)))) }
+        (on (not (text_eq wanted.now found.now))
+        (mismatch Code.E060 algorithm (encode_lower wanted.now) (encode_lower found.now)))) }
 {
     if is_bytes(wanted, found) {
         return Ok(());
@@ -150,7 +164,8 @@ fn add_unless_equal(
 ) -> Result<(), AllocError>
     ensures { OnOk result (Adds lines.old.items lines.new.items place.now
         (on (not (text_eq (sum_view sum.now) (digest_bytes_of algorithm inventory.now)))
-        (mismatch Code.E060 algorithm (encode_lower (sum_view sum.now)) (digest_of algorithm inventory.now)))) }
+        (mismatch Code.E060 algorithm (encode_lower (sum_view sum.now))
+        (digest_of algorithm inventory.now)))) }
 {
     let digests = hash_bytes(inventory, Wanted::none().with(algorithm));
     match digests.get(algorithm) {
@@ -161,7 +176,8 @@ fn add_unless_equal(
 
 /// The digest that a sidecar names, where it is of the form.
 fn sum_of(algorithm: Algorithm, file: &Bounded) -> Option<Sum>
-    ensures { (text : Text) → IsBoundedTo 4096 text file.now → option_map sum_view result ≡ sidecar_of algorithm text }
+    ensures { (text : Text) → IsBoundedTo 4096 text file.now
+        → option_map sum_view result ≡ sidecar_of algorithm text }
 {
     match file {
         Bounded::Whole(bytes) => sidecar(bytes, algorithm),
@@ -169,7 +185,8 @@ fn sum_of(algorithm: Algorithm, file: &Bounded) -> Option<Sum>
     }
 }
 
-/// Puts the line of a sidecar at the end: it is not of the form, or does not have the digest of the inventory.
+/// Puts the line of a sidecar at the end: it is not of the form, or does not have the digest of the
+/// inventory.
 fn add_sidecar(
     alloc: Global,
     lines: &mut Vec<Line>,
@@ -179,7 +196,8 @@ fn add_sidecar(
     file: &Option<Bounded>,
 ) -> Result<(), AllocError>
     ensures { (root : Root) → IsFileAt root (place.now ++ sidecar_name algorithm ∷ []) 4096 file.now
-        → OnOk result (Adds lines.old.items lines.new.items place.now (sidecar_notes algorithm inventory.now (sidecar_at root place.now algorithm))) }
+        → OnOk result (Adds lines.old.items lines.new.items place.now
+        (sidecar_notes algorithm inventory.now (sidecar_at root place.now algorithm))) }
 {
     let Some(file) = file else {
         return Ok(());
@@ -201,7 +219,8 @@ fn add_unless_any(
     sidecars: &Sidecars,
 ) -> Result<(), AllocError>
     ensures { (root : Root) → AreSidecars root place.now sidecars.now
-        → OnOk result (Adds lines.old.items lines.new.items place.now (on (are_sidecars_missing root place.now) (plain Code.E058))) }
+        → OnOk result (Adds lines.old.items lines.new.items place.now
+        (on (are_sidecars_missing root place.now) (plain Code.E058))) }
 {
     if sidecars.short.is_some() || sidecars.long.is_some() {
         return Ok(());
@@ -209,7 +228,8 @@ fn add_unless_any(
     add_plain(alloc, lines, place, Code::E058)
 }
 
-/// Puts the lines of the sidecars at the end: neither is there, or what is wrong with those that are.
+/// Puts the lines of the sidecars at the end: neither is there, or what is wrong with those that
+/// are.
 fn add_sidecars(
     alloc: Global,
     lines: &mut Vec<Line>,
@@ -218,7 +238,8 @@ fn add_sidecars(
     sidecars: &Sidecars,
 ) -> Result<(), AllocError>
     ensures { (root : Root) → AreSidecars root place.now sidecars.now
-        → OnOk result (Adds lines.old.items lines.new.items place.now (sidecars_notes root place.now inventory.now)) }
+        → OnOk result (Adds lines.old.items lines.new.items place.now
+        (sidecars_notes root place.now inventory.now)) }
 {
     add_unless_any(alloc, lines, place, sidecars)?;
     add_sidecar(
@@ -241,7 +262,8 @@ fn add_sidecars(
 
 /// Whether the sidecar of an inventory's algorithm is missing while the other is there.
 fn has_other(algorithm: Algorithm, sidecars: &Sidecars) -> bool
-    ensures { (root : Root) (o : Names) → AreSidecars root o sidecars.now → is_some (sidecar_digits algorithm) ≡ true
+    ensures { (root : Root) (o : Names) → AreSidecars root o sidecars.now
+        → is_some (sidecar_digits algorithm) ≡ true
         → result ≡ is_other_there root o algorithm }
 {
     match algorithm {
@@ -251,7 +273,8 @@ fn has_other(algorithm: Algorithm, sidecars: &Sidecars) -> bool
     }
 }
 
-/// Puts the line of a sidecar that is missing while the other is there at the end, where an algorithm is named.
+/// Puts the line of a sidecar that is missing while the other is there at the end, where an
+/// algorithm is named.
 fn add_missing_sidecar(
     alloc: Global,
     lines: &mut Vec<Line>,
@@ -259,8 +282,10 @@ fn add_missing_sidecar(
     algorithm: Option<Algorithm>,
     sidecars: &Sidecars,
 ) -> Result<(), AllocError>
-    ensures { (root : Root) → AreSidecars root place.now sidecars.now → IfSome algorithm (λ a. is_some (sidecar_digits a) ≡ true)
-        → OnOk result (Adds lines.old.items lines.new.items place.now (named_notes root place.now algorithm)) }
+    ensures { (root : Root) → AreSidecars root place.now sidecars.now
+        → IfSome algorithm (λ a. is_some (sidecar_digits a) ≡ true)
+        → OnOk result (Adds lines.old.items lines.new.items place.now
+        (named_notes root place.now algorithm)) }
 {
     let Some(algorithm) = algorithm else {
         return Ok(());
@@ -274,7 +299,8 @@ fn add_missing_sidecar(
 
 /// Puts lines that carry the root at the end, as lines of the place.
 fn add_moved(lines: &mut Vec<Line>, place: &Place, read: Vec<Line>) -> Result<(), AllocError>
-    ensures { OnOk result (Adds lines.old.items lines.new.items place.now (map note_of read.items)) }
+    ensures { OnOk result (Adds lines.old.items lines.new.items place.now
+        (map note_of read.items)) }
 {
     for line in read {
         add_line(lines, place, line.code, line.detail)?;
@@ -282,7 +308,8 @@ fn add_moved(lines: &mut Vec<Line>, place: &Place, read: Vec<Line>) -> Result<()
     Ok(())
 }
 
-/// Puts the lines of what an inventory says at the end, behind that of the sidecar of its algorithm, and gives its table.
+/// Puts the lines of what an inventory says at the end, behind that of the sidecar of its
+/// algorithm, and gives its table.
 fn add_read(
     alloc: Global,
     lines: &mut Vec<Line>,
@@ -291,7 +318,8 @@ fn add_read(
     sidecars: &Sidecars,
 ) -> Result<Option<Table>, AllocError>
     ensures lines { (root : Root) → AreSidecars root place.now sidecars.now
-        → OnOk result (Adds lines.old.items lines.new.items place.now (inventory_part root place.now inventory.now (algorithm_in inventory.now))) }
+        → OnOk result (Adds lines.old.items lines.new.items place.now
+        (inventory_part root place.now inventory.now (algorithm_in inventory.now))) }
     ensures table { IfOk result (λ table. table ≡ table_of inventory.now) }
     ensures fit { IfOk result (λ table. IfSome table (λ t. IsFit t)) }
 {
@@ -301,8 +329,9 @@ fn add_read(
     Ok(read.table)
 }
 
-/// Puts the lines of an object's inventory, and of its sidecars, at the end (OCFL 1.1, 3.5 Inventory and 3.6 Inventory
-/// Digest), and gives its table. The bytes are all that the inventory has.
+/// Puts the lines of an object's inventory, and of its sidecars, at the end (OCFL 1.1, 3.5
+/// Inventory and 3.6 Inventory Digest), and gives its table. The bytes are all that the inventory
+/// has.
 pub(crate) fn add_inventory(
     alloc: Global,
     lines: &mut Vec<Line>,
@@ -312,10 +341,12 @@ pub(crate) fn add_inventory(
 ) -> Result<Option<Table>, AllocError>
     ensures table { IfOk result (λ table. table ≡ table_of bytes.now) }
     ensures fit { IfOk result (λ table. IfSome table (λ t. IsFit t)) }
-    ensures lines { (root : Root) → IsFileAt root (place.now ++ sidecar_name Sha256 ∷ []) 4096 sidecars.now.short
+    ensures lines { (root : Root) → IsFileAt root
+        (place.now ++ sidecar_name Sha256 ∷ []) 4096 sidecars.now.short
         → IsFileAt root (place.now ++ sidecar_name Sha512 ∷ []) 4096 sidecars.now.long
         → OnOk result (Adds lines.old.items lines.new.items place.now
-        (sidecars_notes root place.now bytes.now ++ inventory_part root place.now bytes.now (algorithm_in bytes.now))) }
+        (sidecars_notes root place.now bytes.now
+        ++ inventory_part root place.now bytes.now (algorithm_in bytes.now))) }
 {
     add_sidecars(alloc, lines, place, bytes, sidecars)?;
     add_read(alloc, lines, place, bytes, sidecars)
@@ -327,7 +358,8 @@ pub(crate) fn add_clean(
     lines: &mut Vec<Line>,
     place: &Place,
 ) -> Result<(), AllocError>
-    ensures { (ns : List Note) → Adds [] lines.old.items place.now ns → OnOk result (Adds [] lines.new.items place.now (or_clean ns)) }
+    ensures { (ns : List Note) → Adds [] lines.old.items place.now ns
+        → OnOk result (Adds [] lines.new.items place.now (or_clean ns)) }
 {
     if !lines.is_empty() {
         return Ok(());

@@ -1,4 +1,5 @@
-ghost use Rattle.std.specs.Prelude.{◌≡◌, [], None, Some, IsTrue, IfErr, IfOk, MatchResult, map, true};
+ghost use Rattle.std.specs.Prelude.{◌≡◌, [], None, Some, IsTrue, IfErr, IfOk, MatchResult, map};
+ghost use Rattle.std.specs.Prelude.{true};
 ghost use Rattle.ocfl_tree.specs.Tree.{Tree as Root};
 ghost use Rattle.ocfl_report.specs.Line.{line_of, lines_at};
 ghost use Rattle.ocfl_audit.specs.Lines.{notes};
@@ -38,21 +39,24 @@ pub(crate) fn head_item(
     })
 }
 
-/// The item at one place, by its path in the storage root (OCFL 1.1, 4 OCFL Storage Root): its lines, or the digests
-/// that its file is to be compared with; `None` where it has no lines.
+/// The item at one place, by its path in the storage root (OCFL 1.1, 4 OCFL Storage Root): its
+/// lines, or the digests that its file is to be compared with; `None` where it has no lines.
 ///
-/// Of directories it lists those on the way to the place and the place itself, in order, each once and only as far as
-/// they are entered. Of files it reads, each once, the declaration of the storage root or of an object where the place
-/// is that, and the inventory of the object that holds the place; an object's sidecars too. `Fault::Store` where the
-/// store did not answer, `Fault::Memory` where memory was refused.
+/// Of directories it lists those on the way to the place and the place itself, in order, each once
+/// and only as far as they are entered. Of files it reads, each once, the declaration of the
+/// storage root or of an object where the place is that, and the inventory of the object that holds
+/// the place; an object's sidecars too. `Fault::Store` where the store did not answer,
+/// `Fault::Memory` where memory was refused.
 pub fn item_at<T: Tree>(
     alloc: Global,
     store: &mut T,
     place: &Place,
 ) -> Result<Option<Pending>, Fault>
     ensures only { IfErr result (λ why. IsWayFault why) }
-    ensures told { IsTrue T.told → (root : Root) → (T.state store.old).tree ≡ root → MatchResult result
-        (λ o. GoesDown root (T.state store.old) (T.state store.new) (Some place.now) × IsItemAt root place.now o)
+    ensures told { IsTrue T.told → (root : Root) → (T.state store.old).tree ≡ root
+        → MatchResult result
+        (λ o. GoesDown root (T.state store.old) (T.state store.new) (Some place.now)
+        × IsItemAt root place.now o)
         (λ why. GoDownFails root (T.state store.old) (T.state store.new) (Some place.now) why) }
 {
     let names = place.names()?;

@@ -1,6 +1,7 @@
-//! An object's own files: its declaration, its inventory and the sidecars. They are read for its head with its table, or
-//! for the table alone; a file of the storage root is read in the same way.
-ghost use Rattle.std.specs.Prelude.{◌≡◌, ◌∷◌, ◌++◌, [], true, false, IsTrue, IfErr, IfOk, IfSome, MatchOption, MatchResult};
+//! An object's own files: its declaration, its inventory and the sidecars. They are read for its
+//! head with its table, or for the table alone; a file of the storage root is read in the same way.
+ghost use Rattle.std.specs.Prelude.{◌≡◌, ◌∷◌, ◌++◌, [], true, false, IsTrue, IfErr, IfOk, IfSome};
+ghost use Rattle.std.specs.Prelude.{MatchOption, MatchResult};
 ghost use Rattle.ocfl_tree.specs.Tree.{Tree as Root, file_at};
 ghost use Rattle.ocfl_tree.specs.Listing.{IsListing, kind_in};
 ghost use Rattle.ocfl_digest.specs.declared.algorithm.Algorithm.TheVariants.{Sha256, Sha512};
@@ -9,10 +10,13 @@ ghost use Rattle.ocfl_inventory.specs.Table.{IsFit};
 ghost use Rattle.ocfl_audit.specs.Head.{inventory_file_notes, sidecar_name};
 ghost use Rattle.ocfl_audit.specs.Trail.{is_meta};
 ghost use Rattle.ocfl_audit.specs.Zone.{inside, inventory_name, object_declared, zone};
-ghost use Rattle.ocfl_walk.specs.HeadFiles.{FilesStop, IsFileAt, OpensJust, ReadsFile, ReadsFiles, ReadsSome, head_files, inventory_files, inventory_names, table_in};
+ghost use Rattle.ocfl_walk.specs.HeadFiles.{FilesStop, IsFileAt, OpensJust, ReadsFile, ReadsFiles};
+ghost use Rattle.ocfl_walk.specs.HeadFiles.{ReadsSome, head_files, inventory_files};
+ghost use Rattle.ocfl_walk.specs.HeadFiles.{inventory_names, table_in};
 ghost use Rattle.ocfl_walk.specs.Pending.{Adds};
 ghost use Rattle.ocfl_walk.specs.Visiting.{HeadRead};
-ghost use Rattle.ocfl_walk.specs.Ways.{IsDeclared, IsObject, IsWayFault, ReadsHead, ReadsTable, is_file_kind};
+ghost use Rattle.ocfl_walk.specs.Ways.{IsDeclared, IsObject, IsWayFault, ReadsHead, ReadsTable};
+ghost use Rattle.ocfl_walk.specs.Ways.{is_file_kind};
 
 use crate::fault::Fault;
 use crate::folder::{Folder, fault_at};
@@ -50,7 +54,8 @@ fn file_named<'f>(entries: &'f [Entry], name: &str) -> Option<&'f Name>
 
 /// The place of the file of this name, where one is listed.
 fn place_of_file(folder: &Folder, name: &str) -> Result<Option<Place>, AllocError>
-    ensures { IfOk result (λ o. MatchOption o (is_file_kind (kind_in folder.now.entries.items name.now) ≡ false)
+    ensures { IfOk result (λ o. MatchOption o
+        (is_file_kind (kind_in folder.now.entries.items name.now) ≡ false)
         (λ place. (place ≡ folder.now.place ++ name.now ∷ [])
         × (is_file_kind (kind_in folder.now.entries.items name.now) ≡ true))) }
 {
@@ -72,7 +77,8 @@ pub(crate) fn read_file<T: Tree>(
     ensures told { IsTrue T.told → (root : Root) → (T.state store.old).tree ≡ root
         → IsListing root folder.now.place folder.now.entries.items
         → is_meta root (folder.now.place ++ name.now ∷ []) ≡ true
-        → ReadsFile root (T.state store.old) (T.state store.new) folder.now.place name.now limit result }
+        → ReadsFile root (T.state store.old) (T.state store.new) folder.now.place name.now limit
+        result }
 {
     let Some(place) = place_of_file(folder, name)? else {
         return Ok(None);
@@ -89,10 +95,12 @@ fn read_sidecars<T: Tree>(alloc: Global, store: &mut T, folder: &Folder) -> Resu
         → IsListing root folder.now.place folder.now.entries.items
         → zone root folder.now.place ≡ inside folder.now.place []
         → MatchResult result
-        (λ sidecars. ReadsFiles root (T.state store.old) (T.state store.new) folder.now.place (sidecar_name Sha256 ∷ sidecar_name Sha512 ∷ [])
+        (λ sidecars. ReadsFiles root (T.state store.old) (T.state store.new) folder.now.place
+        (sidecar_name Sha256 ∷ sidecar_name Sha512 ∷ [])
         × IsFileAt root (folder.now.place ++ sidecar_name Sha256 ∷ []) 4096 sidecars.short
         × IsFileAt root (folder.now.place ++ sidecar_name Sha512 ∷ []) 4096 sidecars.long)
-        (λ why. FilesStop root (T.state store.old) (T.state store.new) folder.now.place (sidecar_name Sha256 ∷ sidecar_name Sha512 ∷ []) why) }
+        (λ why. FilesStop root (T.state store.old) (T.state store.new) folder.now.place
+        (sidecar_name Sha256 ∷ sidecar_name Sha512 ∷ []) why) }
 {
     let short = read_file(alloc, store, folder, "inventory.json.sha256", SIDE_LIMIT)?;
     let long = read_file(alloc, store, folder, "inventory.json.sha512", SIDE_LIMIT)?;
@@ -112,14 +120,19 @@ fn add_inventory_file<T: Tree>(
         → IsListing root folder.now.place folder.now.entries.items
         → zone root folder.now.place ≡ inside folder.now.place []
         → MatchResult result
-        (λ table. ReadsSome root (T.state store.old) (T.state store.new) folder.now.place inventory_names
+        (λ table. ReadsSome root (T.state store.old)
+        (T.state store.new) folder.now.place inventory_names
         × (table ≡ table_in (file_at root (folder.now.place ++ inventory_name ∷ [])))
-        × Adds lines.old.items lines.new.items folder.now.place (inventory_file_notes root folder.now.place (file_at root (folder.now.place ++ inventory_name ∷ []))))
-        (λ why. FilesStop root (T.state store.old) (T.state store.new) folder.now.place inventory_names why) }
+        × Adds lines.old.items lines.new.items folder.now.place
+        (inventory_file_notes root folder.now.place
+        (file_at root (folder.now.place ++ inventory_name ∷ []))))
+        (λ why. FilesStop root (T.state store.old)
+        (T.state store.new) folder.now.place inventory_names why) }
     ensures opened { IsTrue T.told → (root : Root) → (T.state store.old).tree ≡ root
         → IsListing root folder.now.place folder.now.entries.items
         → zone root folder.now.place ≡ inside folder.now.place []
-        → OpensJust root (T.state store.old) (T.state store.new) folder.now.place (inventory_files root folder.now.place) result }
+        → OpensJust root (T.state store.old) (T.state store.new) folder.now.place
+        (inventory_files root folder.now.place) result }
 {
     match read_file(alloc, store, folder, INVENTORY_NAME, INVENTORY_LIMIT)? {
         None => {
@@ -152,7 +165,8 @@ fn known_head<T: Tree>(
         → ReadsHead root (T.state store.old) (T.state store.new) folder.now.place result }
     ensures opened { IsTrue T.told → (root : Root) → (T.state store.old).tree ≡ root
         → IsObject root folder.now.place folder.now.entries.items
-        → OpensJust root (T.state store.old) (T.state store.new) folder.now.place (head_files root folder.now.place (known version)) result }
+        → OpensJust root (T.state store.old) (T.state store.new) folder.now.place
+        (head_files root folder.now.place (known version)) result }
 {
     let mut lines = Vec::new(alloc);
     let name = declaration_name(Level::Object, version);
@@ -163,8 +177,9 @@ fn known_head<T: Tree>(
     Ok((lines, table))
 }
 
-/// The lines of an object as a whole, and its table where they do not stop (OCFL 1.1, 3 OCFL Object). The inventory is
-/// read and parsed once for both, and the sidecars are opened only where it is there within its limit.
+/// The lines of an object as a whole, and its table where they do not stop (OCFL 1.1, 3 OCFL
+/// Object). The inventory is read and parsed once for both, and the sidecars are opened only where
+/// it is there within its limit.
 #[tactic(auto, using(crate::proofs::HeadReads::head_read_from, crate::proofs::HeadOpens::known_object, crate::proofs::HeadOpens::known_opens))]
 pub(crate) fn head_lines<T: Tree>(
     alloc: Global,
@@ -182,7 +197,8 @@ pub(crate) fn head_lines<T: Tree>(
         → HeadRead root (T.state store.old) (T.state store.new) folder.now.place result }
     ensures opened { IsTrue T.told → (root : Root) → (T.state store.old).tree ≡ root
         → IsDeclared root folder.now.place folder.now.entries.items declared
-        → OpensJust root (T.state store.old) (T.state store.new) folder.now.place (head_files root folder.now.place (object_declared root folder.now.place)) result }
+        → OpensJust root (T.state store.old) (T.state store.new) folder.now.place
+        (head_files root folder.now.place (object_declared root folder.now.place)) result }
 {
     if let Declared::One(version) = declared {
         return known_head(alloc, store, folder, version);
@@ -192,7 +208,8 @@ pub(crate) fn head_lines<T: Tree>(
     Ok((lines, None))
 }
 
-/// The table of an object, where its head does not stop. No file but the inventory is opened for it.
+/// The table of an object, where its head does not stop. No file but the inventory is opened for
+/// it.
 pub(crate) fn table_of_object<T: Tree>(
     alloc: Global,
     store: &mut T,
@@ -204,7 +221,8 @@ pub(crate) fn table_of_object<T: Tree>(
         → ReadsTable root (T.state store.old) (T.state store.new) folder.now.place result }
     ensures opened { IsTrue T.told → (root : Root) → (T.state store.old).tree ≡ root
         → IsObject root folder.now.place folder.now.entries.items
-        → OpensJust root (T.state store.old) (T.state store.new) folder.now.place (inventory_name ∷ []) result }
+        → OpensJust root (T.state store.old) (T.state store.new) folder.now.place
+        (inventory_name ∷ []) result }
     ensures fit { IfOk result (λ o. IfSome o (λ t. IsFit t)) }
 {
     match read_file(alloc, store, folder, INVENTORY_NAME, INVENTORY_LIMIT)? {

@@ -1,5 +1,7 @@
 //! Where a walk stands, and its steps.
-ghost use Rattle.std.specs.Prelude.{◌≡◌, ◌≢◌, ◌<◌, ◌++◌, ◌∷◌, [], true, false, Option, Some, None, IsTrue, IfOk, IfErr, IfSome, OnOk, OnErr, MatchOption, MatchResult, length};
+ghost use Rattle.std.specs.Prelude.{◌≡◌, ◌≢◌, ◌<◌, ◌++◌, ◌∷◌, [], true, false, Option, Some, None};
+ghost use Rattle.std.specs.Prelude.{IsTrue, IfOk, IfErr, IfSome, OnOk, OnErr, MatchOption};
+ghost use Rattle.std.specs.Prelude.{MatchResult, length};
 ghost use Rattle.std.specs.declared.cmp.Ordering.TheVariants.{Less};
 ghost use Rattle.ocfl_tree.specs.Place.{Place as Spot, place_cmp};
 ghost use Rattle.ocfl_tree.specs.Tree.{Tree as Root};
@@ -7,9 +9,14 @@ ghost use Rattle.ocfl_walk.specs.Ways.{IsWayFault};
 ghost use Rattle.arrayvec.specs.ArrayVec.{array_vec_len};
 ghost use Rattle.ocfl_tree.specs.Store.{Store};
 ghost use Rattle.ocfl_audit.specs.Walk.{seen_names};
-ghost use Rattle.ocfl_walk.specs.Standing.{IsBelowNext, IsStanding, IsTurn, frames_of, popped, pushed, IsAroundIf, IsMet, IsOrderlyStand, IsTableAround, IsTaken, StandsAt, next_of, path_from, piles_at, piles_in, still, trimmed, turn_of, around_of};
+ghost use Rattle.ocfl_walk.specs.Standing.{IsBelowNext, IsStanding, IsTurn, frames_of, popped};
+ghost use Rattle.ocfl_walk.specs.Standing.{pushed, IsAroundIf, IsMet, IsOrderlyStand};
+ghost use Rattle.ocfl_walk.specs.Standing.{IsTableAround, IsTaken, StandsAt, next_of, path_from};
+ghost use Rattle.ocfl_walk.specs.Standing.{piles_at, piles_in, still, trimmed, turn_of, around_of};
 ghost use Rattle.ocfl_audit.specs.Zone.{seen};
-ghost use Rattle.ocfl_walk.specs.Walking.{IsItemAt, step_from, GoesOn, IsFairMet, IsFairVisit, IsMeeting, IsVisit, MeetFails, Meets, NextGoesOn, NextTold, Steps, Visits};
+ghost use Rattle.ocfl_walk.specs.Walking.{IsItemAt, step_from, GoesOn, IsFairMet, IsFairVisit};
+ghost use Rattle.ocfl_walk.specs.Walking.{IsMeeting, IsVisit, MeetFails, Meets, NextGoesOn};
+ghost use Rattle.ocfl_walk.specs.Walking.{NextTold, Steps, Visits};
 ghost use Rattle.ocfl_walk.specs.Auditing.{WalkFails};
 
 use crate::base::visit_base;
@@ -34,8 +41,8 @@ pub(crate) struct Around {
     pub(crate) table: Table,
 }
 
-/// The listings on the way to a place, of each what is left, the next entry last: the listing at an index is that of so
-/// many names of the place.
+/// The listings on the way to a place, of each what is left, the next entry last: the listing at an
+/// index is that of so many names of the place.
 pub(crate) type Listings = ArrayVec<Vec<Entry>, 128, Global>;
 
 /// Where a walk stands: what is left of the listings on the way to its last place, and that place.
@@ -144,7 +151,9 @@ fn choose(
     last: &Option<Place>,
 ) -> Result<Turn, AllocError>
     ensures base { last.now ≡ None → IfOk result (λ turn. turn ≡ Turn.Base) }
-    ensures next { (p : Spot) → last.now ≡ Some p → IfOk result (λ turn. turn ≡ turn_of (next_of (piles_in last.now listings.now.items)) (path_from p around.now)) }
+    ensures next { (p : Spot) → last.now ≡ Some p
+        → IfOk result (λ turn. turn ≡ turn_of (next_of (piles_in last.now listings.now.items))
+        (path_from p around.now)) }
 {
     let Some(last) = last else {
         return Ok(Turn::Base);
@@ -232,11 +241,13 @@ fn meet<T: Tree>(
     entry: &Entry,
 ) -> Result<Met, Fault>
     ensures only { IfErr result (λ why. IsWayFault why) }
-    ensures fair { IsAroundIf place.now (still around place.now) → IfOk result (λ m. IsFairMet place.now m) }
+    ensures fair { IsAroundIf place.now (still around place.now)
+        → IfOk result (λ m. IsFairMet place.now m) }
     ensures told { IsTrue T.told → (root : Root) → (T.state store.old).tree ≡ root
         → (d : Spot) → IsMet root d (still around place.now) entry.now place.now
         → MatchResult result
-        (λ m. Meets root (T.state store.old) (T.state store.new) place.now × IsMeeting root place.now m)
+        (λ m. Meets root (T.state store.old) (T.state store.new) place.now
+        × IsMeeting root place.now m)
         (λ why. MeetFails root (T.state store.old) (T.state store.new) place.now why) }
 {
     let around = still_around(around, place);
@@ -262,7 +273,8 @@ pub(crate) fn visit_path(
 ) -> Result<Option<Pending>, Fault>
     ensures only { IfErr result (λ why. why ≡ Fault.Memory) }
     ensures fair { IfOk result (λ o. IfSome o (λ p. p.place ≡ place.now)) }
-    ensures told { (root : Root) → IsTableAround root place.now around.now → seen root place.now ≡ None
+    ensures told { (root : Root) → IsTableAround root place.now around.now
+        → seen root place.now ≡ None
         → IfOk result (λ o. IsItemAt root place.now o) }
 {
     let Some(around) = around else {
@@ -288,7 +300,8 @@ fn step_of(item: Option<Pending>) -> Step
 /// Puts the listing of the last place on top, if there is one.
 fn push_if(listings: &mut Listings, folder: Option<Folder>)
     requires { IfSome folder (λ _. array_vec_len listings.old < 128) }
-    ensures { (p : Spot) → IfSome folder (λ f. (f.place ≡ p) × (length p ≡ length listings.old.items))
+    ensures { (p : Spot) → IfSome folder (λ f. (f.place ≡ p)
+        × (length p ≡ length listings.old.items))
         → piles_at p listings.new.items ≡ pushed folder (piles_at p listings.old.items) }
 {
     if let Some(folder) = folder {
@@ -304,7 +317,8 @@ impl Stand {
         ensures orderly { IsOrderlyStand self.new }
         ensures only { IfErr result (λ why. IsWayFault why) }
         ensures goes_on { IfOk result (λ step. GoesOn self.old self.new step) }
-        ensures told { IsTrue T.told → (root : Root) → (T.state store.old).tree ≡ root → MatchResult result
+        ensures told { IsTrue T.told → (root : Root) → (T.state store.old).tree ≡ root
+            → MatchResult result
             (λ step. Steps root (T.state store.old) (T.state store.new) None self.new step)
             (λ why. WalkFails root (T.state store.old) (T.state store.new) None why) }
     {
@@ -327,8 +341,11 @@ impl Stand {
         ensures only { IfErr result (λ why. IsWayFault why) }
         ensures goes_on { IfOk result (λ step. GoesOn self.old self.new step) }
         ensures told { IsTrue T.told → (root : Root) → (T.state store.old).tree ≡ root
-            → (last : Spot) → self.old.last ≡ Some last → IsStanding root last (piles_in self.old.last self.old.listings.items) self.old.around
-            → IsTurn root last place ((place, seen_names root place) ∷ popped (piles_in self.old.last self.old.listings.items)) → MatchResult result
+            → (last : Spot) → self.old.last ≡ Some last
+            → IsStanding root last (piles_in self.old.last self.old.listings.items)
+            self.old.around
+            → IsTurn root last place ((place, seen_names root place)
+            ∷ popped (piles_in self.old.last self.old.listings.items)) → MatchResult result
             (λ step. Steps root (T.state store.old) (T.state store.new) (Some last) self.new step)
             (λ why. WalkFails root (T.state store.old) (T.state store.new) (Some last) why) }
     {
@@ -350,15 +367,21 @@ impl Stand {
     /// Takes the table's next path, at which nothing is seen.
     fn take_path(&mut self, alloc: Global, place: Place) -> Result<Step, Fault>
         requires orderly { IsOrderlyStand self.old }
-        requires next { (last : Spot) → self.old.last ≡ Some last → (path_from last self.old.around ≡ Some place) × IsBelowNext place (next_of (piles_in self.old.last self.old.listings.items)) }
+        requires next { (last : Spot) → self.old.last ≡ Some last
+            → (path_from last self.old.around ≡ Some place)
+            × IsBelowNext place (next_of (piles_in self.old.last self.old.listings.items)) }
         requires some { self.old.last ≢ None }
-        requires trim { trimmed (piles_in self.old.last self.old.listings.items) ≡ piles_in self.old.last self.old.listings.items }
+        requires trim { trimmed (piles_in self.old.last self.old.listings.items)
+            ≡ piles_in self.old.last self.old.listings.items }
         ensures orderly { IsOrderlyStand self.new }
         ensures only { IfErr result (λ why. IsWayFault why) }
         ensures goes_on { IfOk result (λ step. GoesOn self.old self.new step) }
         ensures told { (s : Store) (root : Root) → s.tree ≡ root
-            → (last : Spot) → self.old.last ≡ Some last → IsStanding root last (piles_in self.old.last self.old.listings.items) self.old.around
-            → IsTurn root last place (frames_of (piles_in self.old.last self.old.listings.items)) → seen root place ≡ None → MatchResult result
+            → (last : Spot) → self.old.last ≡ Some last
+            → IsStanding root last (piles_in self.old.last self.old.listings.items)
+            self.old.around
+            → IsTurn root last place (frames_of (piles_in self.old.last self.old.listings.items))
+            → seen root place ≡ None → MatchResult result
             (λ step. Steps root s s (Some last) self.new step)
             (λ why. WalkFails root s s (Some last) why) }
     {

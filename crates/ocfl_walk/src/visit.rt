@@ -1,5 +1,6 @@
 //! What the walk meets at an entry of a directory.
-ghost use Rattle.std.specs.Prelude.{◌≡◌, ◌≢◌, ◌≤◌, ◌∷◌, ◌&&◌, ◌||◌, nat_eq, codes, [], None, Some, true, false, IsTrue, IfErr, IfOk, IfSome, cond, map, length};
+ghost use Rattle.std.specs.Prelude.{◌≡◌, ◌≢◌, ◌≤◌, ◌∷◌, ◌&&◌, ◌||◌, nat_eq, codes, [], None, Some};
+ghost use Rattle.std.specs.Prelude.{true, false, IsTrue, IfErr, IfOk, IfSome, cond, map, length};
 ghost use Rattle.ocfl_tree.specs.Place.{Place as Spot, Text, text_eq};
 ghost use Rattle.ocfl_tree.specs.Tree.{Tree as Root};
 ghost use Rattle.ocfl_tree.specs.Listing.{IsListing, IsOrdinary};
@@ -11,8 +12,10 @@ ghost use Rattle.ocfl_inventory.specs.ListedPath.{is_version_name as is_version_
 ghost use Rattle.ocfl_inventory.specs.Table.{Table as TableOf, named as digests_of};
 ghost use Rattle.ocfl_inventory.specs.TripleView.{named_view};
 ghost use Rattle.ocfl_inventory.specs.declared.declaration.Level.TheVariants as level;
-ghost use Rattle.ocfl_audit.specs.Zone.{Zone, hierarchy, inside, is_listed_zone, object_declared, table_at, zone};
-ghost use Rattle.ocfl_audit.specs.Lines.{is_inventory_or_sidecar as is_beside_inventory, listed_dir_notes};
+ghost use Rattle.ocfl_audit.specs.Zone.{Zone, hierarchy, inside, is_listed_zone, object_declared};
+ghost use Rattle.ocfl_audit.specs.Zone.{table_at, zone};
+ghost use Rattle.ocfl_audit.specs.Lines.{is_inventory_or_sidecar as is_beside_inventory};
+ghost use Rattle.ocfl_audit.specs.Lines.{listed_dir_notes};
 ghost use Rattle.ocfl_audit.specs.Walk.{seen_names};
 ghost use Rattle.ocfl_walk.specs.Ways.{IsDeclared, IsWayFault};
 ghost use Rattle.ocfl_walk.specs.Looking.{content_at};
@@ -63,7 +66,8 @@ impl Visit {
 /// The item with one line, whose detail is a dash.
 pub(crate) fn plain_item(alloc: Global, place: Place, code: Code) -> Result<Pending, AllocError>
     ensures place { IfOk result (λ p. p.place ≡ place) }
-    ensures told { (root : Root) → IsPlainAt root place (plain code ∷ []) → IfOk result (λ p. IsPending root p × (p.place ≡ place)) }
+    ensures told { (root : Root) → IsPlainAt root place (plain code ∷ [])
+        → IfOk result (λ p. IsPending root p × (p.place ≡ place)) }
 {
     let mut lines = Vec::new(alloc);
     add_plain(alloc, &mut lines, &place, code)?;
@@ -78,7 +82,8 @@ pub(crate) fn plain_item(alloc: Global, place: Place, code: Code) -> Result<Pend
 fn visit_plain(alloc: Global, place: Place, code: Code) -> Result<Visit, Fault>
     ensures only { IfErr result (λ why. why ≡ Fault.Memory) }
     ensures fair { IfOk result (λ v. IsFairVisit place v) }
-    ensures told { (root : Root) → IsPlainAt root place (plain code ∷ []) → seen_names root place ≡ [] → IfOk result (λ v. IsVisit root place v) }
+    ensures told { (root : Root) → IsPlainAt root place (plain code ∷ [])
+        → seen_names root place ≡ [] → IfOk result (λ v. IsVisit root place v) }
 {
     Ok(Visit::of_item(Some(plain_item(alloc, place, code)?)))
 }
@@ -110,7 +115,8 @@ fn visit_object<T: Tree>(
     declared: Declared,
 ) -> Result<Visit, Fault>
     ensures only { IfErr result (λ why. IsWayFault why) }
-    ensures fair { length folder.place ≤ 127 → IsOrdinary folder.entries.items → IfOk result (λ v. IsFairVisit folder.place v) }
+    ensures fair { length folder.place ≤ 127 → IsOrdinary folder.entries.items
+        → IfOk result (λ v. IsFairVisit folder.place v) }
     ensures told { IsTrue T.told → (root : Root) → (T.state store.old).tree ≡ root
         → IsDeclared root folder.place folder.entries.items declared
         → VisitsHead root (T.state store.old) (T.state store.new) folder.place result }
@@ -133,7 +139,8 @@ fn visit_directory<T: Tree>(alloc: Global, store: &mut T, place: Place) -> Resul
     ensures fair { IfOk result (λ v. IsFairVisit place v) }
     ensures told { IsTrue T.told → (root : Root) → (T.state store.old).tree ≡ root
         → IsEntryAt root place kind.Dir → place ≢ []
-        → zone root place ≡ cond (is_declared (object_declared root place)) (inside place []) hierarchy
+        → zone root place ≡ cond (is_declared (object_declared root place))
+        (inside place []) hierarchy
         → Visits root (T.state store.old) (T.state store.new) place result }
 {
     if place.depth() > MAX_LISTED_DEPTH {
@@ -261,7 +268,8 @@ pub(crate) fn visit_in_version<T: Tree>(
     ensures fair { IfOk result (λ v. IsFairVisit place v) }
     ensures told { IsTrue T.told → (root : Root) → (T.state store.old).tree ≡ root
         → IsEntryAt root place entry.now.kind → (o : Spot) (version : Text)
-        → zone root place ≡ inside o (version ∷ entry.now.name ∷ []) → table_at root o ≡ Some table.now
+        → zone root place ≡ inside o (version ∷ entry.now.name ∷ [])
+        → table_at root o ≡ Some table.now
         → is_version_text version ≡ true
         → Visits root (T.state store.old) (T.state store.new) place result }
 {

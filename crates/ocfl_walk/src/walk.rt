@@ -1,5 +1,6 @@
 //! The walk: items in order, from a stack of sorted listings and the table of one object.
-ghost use Rattle.std.specs.Prelude.{◌≡◌, Option, option_map, true, None, Some, IsTrue, IfOk, IfErr, Err, MatchResult};
+ghost use Rattle.std.specs.Prelude.{◌≡◌, Option, option_map, true, None, Some, IsTrue, IfOk, IfErr};
+ghost use Rattle.std.specs.Prelude.{Err, MatchResult};
 ghost use Rattle.ocfl_tree.specs.Place.{Place as Spot};
 ghost use Rattle.ocfl_tree.specs.Tree.{Tree as Root};
 ghost use Rattle.ocfl_walk.specs.Auditing.{GoDownFails, GoesDown, WalkFails};
@@ -16,8 +17,8 @@ use std::alloc::Global;
 
 /// The items of a storage root above a place, one after the other.
 ///
-/// It holds what is left of the listings on the way to its last place, at most 128 of them, the table of the object that
-/// holds that place, and at most two places; no file's bytes.
+/// It holds what is left of the listings on the way to its last place, at most 128 of them, the
+/// table of the object that holds that place, and at most two places; no file's bytes.
 #[derive(Debug, Drop)]
 pub struct Walk {
     alloc: Global,
@@ -27,13 +28,14 @@ pub struct Walk {
 }
 
 impl Walk {
-    ghost use Rattle.ocfl_walk.specs.Walks.{Gives, GoesOn, IsBroken, IsLive, OpensInventories, Stands, last_of};
+    ghost use Rattle.ocfl_walk.specs.Walks.{Gives, GoesOn, IsBroken, IsLive, OpensInventories};
+    ghost use Rattle.ocfl_walk.specs.Walks.{Stands, last_of};
 
     /// A walk over the items above a place, whether or not there is one at it, or over all of them.
     ///
-    /// It lists the directories on the way to the place, as far as they lead, and reads at most the inventory of the object
-    /// that holds it; without a place it makes no call. `Fault::Store` where the store did not answer, `Fault::Memory` where
-    /// memory was refused.
+    /// It lists the directories on the way to the place, as far as they lead, and reads at most the
+    /// inventory of the object that holds it; without a place it makes no call. `Fault::Store`
+    /// where the store did not answer, `Fault::Memory` where memory was refused.
     pub fn start<T: Tree>(
         alloc: Global,
         store: &mut T,
@@ -72,15 +74,18 @@ impl Walk {
 
     /// The next item, and `None` where there are no more, then and at each further call.
     ///
-    /// It lists the directories and reads the inventories between the last place and the item's, each once; it opens no
-    /// content file. `Fault::Store` where the store did not answer, `Fault::Memory` where memory was refused. After a fault
-    /// each further call answers `Fault::Broken` and makes no call of the store: a walk from the last place goes on.
+    /// It lists the directories and reads the inventories between the last place and the item's,
+    /// each once; it opens no content file. `Fault::Store` where the store did not answer,
+    /// `Fault::Memory` where memory was refused. After a fault each further call answers
+    /// `Fault::Broken` and makes no call of the store: a walk from the last place goes on.
     pub fn next<T: Tree>(&mut self, store: &mut T) -> Result<Option<Pending>, Fault>
         ensures only { IsLive self.old → IfErr result (λ why. IsWayFault why) }
         ensures breaks { IfErr result (λ _. IsBroken self.new) }
         ensures stays { IsBroken self.old → (result ≡ Err Fault.Broken) × (store.new ≡ store.old) }
-        ensures goes_on { IsLive self.old → IfOk result (λ o. IsLive self.new × GoesOn self.old self.new o) }
-        ensures told { IsTrue T.told → (root : Root) → (T.state store.old).tree ≡ root → IsLive self.old
+        ensures goes_on { IsLive self.old → IfOk result
+            (λ o. IsLive self.new × GoesOn self.old self.new o) }
+        ensures told { IsTrue T.told → (root : Root) → (T.state store.old).tree ≡ root
+            → IsLive self.old
             → (last : Option Spot) → Stands root self.old last → MatchResult result
             (λ o. Gives root (T.state store.old) (T.state store.new) last self.new o)
             (λ why. WalkFails root (T.state store.old) (T.state store.new) last why) }

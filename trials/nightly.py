@@ -3,13 +3,11 @@
 nights with their statuses and reports, the units of systemd and cron, the questions to reports, the
 grammar of report lines, and the gallery.
 
-usage: nightly.py        ends with the line `N passed, M failed`
+usage: nightly.py
 
-The environment variable OCFL_SCRUB names the program; without it, that is ../ocfl-scrub. Where a
-tool is missing, that is a failure which names Debian's package.
+Where a tool is missing, that is a failure which names Debian's package.
 """
 import gzip
-import hashlib
 import json
 import os
 import random
@@ -17,36 +15,22 @@ import re
 import shutil
 import subprocess
 import sys
-import tempfile
 import traceback
 
-TOP = os.path.normpath(os.path.join(os.path.dirname(os.path.abspath(__file__)), ".."))
-BUILT = os.path.join(TOP, "crates/ocfl_scrub_cli/out/ocfl_scrub_cli")
-PROGRAM = os.path.abspath(os.environ.get("OCFL_SCRUB") or os.path.join(TOP, "ocfl-scrub"))
+import common
+from common import PROGRAM, TOP, digest, is_so
+
 PACKAGES = {"man": "man-db", "groff": "groff", "systemd-analyze": "systemd", "flock": "util-linux",
             "ionice": "util-linux", "jq": "jq", "sqlite3": "sqlite3", "awk": "mawk", "git": "git",
             "gzip": "gzip", "perl": "perl"}
 ITEMS = ["ok\t.\t-\n", "ok\to\t-\n", "ok\to/v1/content/a\t3\n", "ok\to/v1/content/b\t0\n",
          "ok\to/v1/content/c\t3\n"]
 WRONG_B = "E092\to/v1/content/b\tsha256 %s %s\n" % (
-    hashlib.sha256(b"").hexdigest(), hashlib.sha256(b"b").hexdigest())
-failed = []
-passed = 0
-
-
-def is_so(name, got, expected):
-    global passed
-    if got == expected:
-        passed += 1
-    else:
-        failed.append(name)
-        print("%s:\n  expected %r\n  got      %r" % (name, expected, got))
+    digest(b""), digest(b"b"))
 
 
 def write(path, data, mode=None):
-    os.makedirs(os.path.dirname(path), exist_ok=True)
-    with open(path, "wb") as file:
-        file.write(data if isinstance(data, bytes) else data.encode())
+    common.write(path, data if isinstance(data, bytes) else data.encode())
     if mode:
         os.chmod(path, mode)
 
@@ -58,25 +42,10 @@ def read(path):
         return file.read().decode()
 
 
-def make_object(folder, files):
-    """An object of these content files, right in all that is audited."""
-    manifest = {}
-    for path, data in files.items():
-        write(os.path.join(folder, path), data)
-        manifest.setdefault(hashlib.sha256(data).hexdigest(), []).append(path)
-    inventory = json.dumps({"digestAlgorithm": "sha256", "manifest": manifest}).encode()
-    write(os.path.join(folder, "0=ocfl_object_1.1"), "ocfl_object_1.1\n")
-    write(os.path.join(folder, "inventory.json"), inventory)
-    sidecar = hashlib.sha256(inventory).hexdigest() + " inventory.json\n"
-    write(os.path.join(folder, "inventory.json.sha256"), sidecar)
-
-
 def make_root(root):
     """A storage root of one object, whose files `a`, `b` and `c` cost 4, 1 and 4."""
-    write(os.path.join(root, "0=ocfl_1.1"), "ocfl_1.1\n")
-    make_object(os.path.join(root, "o"),
-                {"v1/content/a": b"abc", "v1/content/b": b"", "v1/content/c": b"abc"})
-    return root
+    files = {"v1/content/a": b"abc", "v1/content/b": b"", "v1/content/c": b"abc"}
+    return common.make_root(root, {"o": files})
 
 
 def ran(words, cwd=None, **environment):
@@ -139,10 +108,6 @@ def git(clone, *words):
 
 def make_clone(folder):
     """A clone with this program built in it, in its own repository: what `install` works on."""
-    program = PROGRAM
-    if not os.environ.get("OCFL_SCRUB"):
-        ran([PROGRAM, "--version"])
-        program = BUILT
     for name in ["install", "ocfl-scrub", "crates.txt"]:
         os.makedirs(folder, exist_ok=True)
         shutil.copy2(os.path.join(TOP, name), folder)
@@ -153,7 +118,7 @@ def make_clone(folder):
     git(folder, "commit", "-q", "-m", "as it is")
     out = os.path.join(folder, "crates/ocfl_scrub_cli/out")
     os.makedirs(out)
-    shutil.copy(program, os.path.join(out, "ocfl_scrub_cli"))
+    shutil.copy(PROGRAM, os.path.join(out, "ocfl_scrub_cli"))
     stamp = subprocess.run(["cksum"], stdin=open(os.path.join(out, "ocfl_scrub_cli"), "rb"),
                            capture_output=True, check=True).stdout
     write(os.path.join(out, "built"), stamp)
@@ -171,9 +136,9 @@ def installing(folder):
     is_so("install", (status, out.splitlines()[-1:]), (0, ["installed in %s/bin" % prefix]))
     is_so("what is installed", tree(prefix), INSTALLED)
     commit = git(clone, "rev-parse", "HEAD").strip()
-    digest = hashlib.sha256(open(clone + "/crates/ocfl_scrub_cli/out/ocfl_scrub_cli", "rb").read())
     kit = ran(["rt", "version"])[1].strip() if shutil.which("rt") else "unknown"
-    build = "ocfl-scrub 0.1.0\ncommit %s\nkit %s\nsha256 %s\n" % (commit, kit, digest.hexdigest())
+    build = "ocfl-scrub 0.1.0\ncommit %s\nkit %s\nsha256 %s\n" % (
+        commit, kit, digest(common.read(PROGRAM)))
     is_so("BUILD", read(prefix + "/share/ocfl-scrub/BUILD"), build)
     is_so("the installed program", ran([prefix + "/bin/ocfl-scrub", "--version"]), (0, build, ""))
     os.rename(prefix + "/share/ocfl-scrub/BUILD", prefix + "/BUILD")
@@ -736,32 +701,26 @@ def tried(part, *given):
     try:
         return part(*given)
     except Exception:
-        failed.append(part.__name__)
+        common.failed.append(part.__name__)
         traceback.print_exc(file=sys.stdout)
         return []
 
 
-def main():
-    folder = tempfile.mkdtemp(prefix="ocfl-nightly-")
+def tell(folder):
     prefix = folder + "/prefix"
     parts = [plain_nights, nights_with_findings, telling, stopped_nights, locked_nights,
              killed_nights, full_disk, changes, unverified, told_commands]
-    try:
-        tools()
-        tried(installing, folder)
-        tried(manual, prefix)
-        tried(units, prefix)
-        for part in parts:
-            os.mkdir(os.path.join(folder, part.__name__))
-            tried(part, os.path.join(folder, part.__name__))
-        tried(cron, folder + "/cron", prefix)
-        lines = [text_of([line]) for line in tried(simple_questions, folder)]
-        lines += tried(gallery, folder + "/gallery")
-        tried(lines_have_the_grammar, lines)
-    finally:
-        shutil.rmtree(folder)
-    print("%d passed, %d failed" % (passed, len(failed)))
-    return 1 if failed else 0
+    tools()
+    tried(installing, folder)
+    tried(manual, prefix)
+    tried(units, prefix)
+    for part in parts:
+        os.mkdir(os.path.join(folder, part.__name__))
+        tried(part, os.path.join(folder, part.__name__))
+    tried(cron, folder + "/cron", prefix)
+    lines = [text_of([line]) for line in tried(simple_questions, folder)]
+    lines += tried(gallery, folder + "/gallery")
+    tried(lines_have_the_grammar, lines)
 
 
-sys.exit(main())
+common.trial(tell)

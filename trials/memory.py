@@ -16,8 +16,8 @@ import common
 from common import PROGRAM, is_so, line, note, put_inventory, ran, shown_cursor, write
 
 MIB = 1024 * 1024
-# what bench/README.md gives for an audit of one object of 100,000 files, in MiB
-ONE_INVENTORY = 89
+# A tenth more than bench/README.md gives for an audit of one object of 100,000 files, in MiB.
+ONE_INVENTORY = 82
 
 
 def peak_of(words):
@@ -90,7 +90,7 @@ def one_inventory(folder):
     status, count, peak = peak_of(["audit", root])
     print("memory.py: %.1f MiB over one object of 100,000 files" % peak)
     is_so("one object of 100,000 files", (status, count), (0, 100_002))
-    is_so("its peak is that of bench/README.md", peak <= ONE_INVENTORY, True)
+    is_so("its peak is about that of bench/README.md", peak <= ONE_INVENTORY, True)
     shutil.rmtree(root)
 
 

@@ -13,10 +13,11 @@ use Rattle.ocfl_audit.specs.Due.{item_places, due, items_at}
 use Rattle.ocfl_audit.specs.Trail.{unread_of}
 use Rattle.ocfl_audit.specs.Between.{looked_between, read_between}
 use Rattle.ocfl_audit.proofs.DueLaws.{after_is_due}
-use Rattle.ocfl_walk.specs.Looking.{IsFront}
-use Rattle.ocfl_walk.specs.Ways.{IsWayFault}
-use Rattle.ocfl_walk.specs.Auditing.{Audits, Fails, GoDownFails}
-use Rattle.ocfl_walk.specs.declared.fault.Fault.{Fault}
+use Rattle.ocfl_item.specs.Looking.{IsFront}
+use Rattle.ocfl_item.specs.Ways.{IsWayFault}
+use Rattle.ocfl_item.specs.Auditing.{Audits, Fails}
+use Rattle.ocfl_walk.specs.WalkCalls.{GoDownFails}
+use Rattle.ocfl_item.specs.declared.fault.Fault.{Fault}
 use Rattle.ocfl_scrub.specs.Taking.{PartOf}
 use Rattle.ocfl_scrub.specs.Passing.{last_of, Finishes, Halts, PassEnds}
 use Rattle.ocfl_scrub.specs.WholeAudit.{places, AuditsAll, AuditStops, AuditEnds}

@@ -18,8 +18,8 @@ use Rattle.ocfl_audit.specs.Lines.{notes, cost, is_hashed}
 use Rattle.ocfl_audit.specs.Audit.{Unread, given_by, item_of}
 use Rattle.ocfl_audit.specs.Trail.{is_meta, content_openings, content_trail, unread_of, heads_of, inventory_of}
 use Rattle.ocfl_audit.specs.Due.{items_at, hashed_among}
-use Rattle.ocfl_walk.specs.Auditing.{Audits, Fails, FailedAt, in_listing, in_opening}
-use Rattle.ocfl_walk.specs.declared.fault.Fault.{Fault}
+use Rattle.ocfl_item.specs.Auditing.{Audits, Fails, FailedAt, in_listing, in_opening}
+use Rattle.ocfl_item.specs.declared.fault.Fault.{Fault}
 use Rattle.ocfl_scrub.proofs.Lists.{map_append, filter_append, ascends_across}
 
 -- ---- what two trails show

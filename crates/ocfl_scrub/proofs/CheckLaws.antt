@@ -20,12 +20,13 @@ use Rattle.ocfl_audit.proofs.AuditExists.{lines_from_notes}
 use Rattle.ocfl_audit.proofs.DueLaws.{lines_alike}
 use Rattle.ocfl_audit.proofs.PathLaws.{hashed_lines, hashed_no_meta}
 use Rattle.ocfl_audit.proofs.Trails.{unread_behind, all_meta, meta_at}
-use Rattle.ocfl_walk.specs.Ways.{IsWayFault}
-use Rattle.ocfl_walk.specs.Auditing.{Audits, Fails, GoesDown, GoDownFails}
-use Rattle.ocfl_walk.specs.Pending.{IsPending}
-use Rattle.ocfl_walk.specs.Walking.{IsItemAt}
-use Rattle.ocfl_walk.specs.declared.fault.Fault.{Fault}
-use Rattle.ocfl_walk.specs.declared.pending.Pending.{Pending}
+use Rattle.ocfl_item.specs.Ways.{IsWayFault}
+use Rattle.ocfl_item.specs.Auditing.{Audits, Fails}
+use Rattle.ocfl_walk.specs.WalkCalls.{GoesDown, GoDownFails}
+use Rattle.ocfl_item.specs.Pending.{IsPending}
+use Rattle.ocfl_item.specs.Meeting.{IsItemAt}
+use Rattle.ocfl_item.specs.declared.fault.Fault.{Fault}
+use Rattle.ocfl_item.specs.declared.pending.Pending.{Pending}
 use Rattle.ocfl_scrub.specs.Taking.{PartOf, Takes, Misses}
 use Rattle.ocfl_scrub.specs.Checking.{checked_item, AreOnce, Checks, CheckStops, CheckEnds}
 use Rattle.ocfl_scrub.specs.declared.checking.End.{End}

@@ -19,8 +19,8 @@ use Rattle.ocfl_audit.proofs.DueLaws.{after_is_due}
 use Rattle.ocfl_audit.proofs.ObjectLaws.{inventories_read}
 use Rattle.ocfl_audit.proofs.RunLaws.{large_whole, large_few, limits_join, limits_few}
 use Rattle.ocfl_cursor.specs.Cursor.{Cursor}
-use Rattle.ocfl_walk.specs.Auditing.{Audits, Fails}
-use Rattle.ocfl_walk.specs.declared.fault.Fault.{Fault}
+use Rattle.ocfl_item.specs.Auditing.{Audits, Fails}
+use Rattle.ocfl_item.specs.declared.fault.Fault.{Fault}
 use Rattle.ocfl_scrub.specs.Passing.{last_of}
 use Rattle.ocfl_scrub.specs.WholeAudit.{places}
 use Rattle.ocfl_scrub.specs.Cycling.{audit_of, all_runs, all_taken, enough, Cycles, CycleStops, CycleEnds, CyclesTo, Headline, HeadlineOf}

@@ -9,8 +9,8 @@ use Rattle.ocfl_audit.specs.Due.{due}
 use Rattle.ocfl_audit.specs.Runs.{Limits}
 use Rattle.ocfl_cursor.specs.Cursor.{Cursor, new_cursor}
 use Rattle.ocfl_cursor.specs.Moves.{after_run}
-use Rattle.ocfl_walk.specs.declared.fault.Fault.{Fault}
-use Rattle.ocfl_walk.specs.declared.fault.Fault.TheVariants.{Memory}
+use Rattle.ocfl_item.specs.declared.fault.Fault.{Fault}
+use Rattle.ocfl_item.specs.declared.fault.Fault.TheVariants.{Memory}
 use Rattle.ocfl_scrub.specs.Running.{place_in, state_at, state_after, begun_in, begun, Runs, RunStops, RunEnds, RunsFrom}
 use Rattle.ocfl_scrub.specs.Cycling.{CyclesTo, cycle_state, cycle_cursor}
 use Rattle.ocfl_scrub.specs.declared.running.RunStatus.{RunStatus}

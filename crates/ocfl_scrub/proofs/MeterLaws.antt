@@ -2,7 +2,7 @@
 use Rattle.std.proofs.Common.{◌≡◌, ℕ, ◌+◌, ◌<◌, ◌≤◌, ◌^◌, List, [], ◌∷◌, ◌++◌, length, refl, subst, arith, eqb-true, true, false, Bool, sym, ◌∙◌, ap}
 use Rattle.std.specs.Prelude.{cond, ◌==◌}
 use Rattle.ocfl_audit.specs.Runs.{Limits, files_of, sum_of}
-use Rattle.ocfl_walk.specs.Judging.{CostFits}
+use Rattle.ocfl_item.specs.Judging.{CostFits}
 use Rattle.ocfl_scrub.specs.Running.{ArePaid, IsPaid}
 
 pub paid_none : (l : Limits) → IsPaid l 0 0

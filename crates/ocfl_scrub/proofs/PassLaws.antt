@@ -18,9 +18,10 @@ use Rattle.ocfl_audit.specs.Lines.{is_empty, notes}
 use Rattle.ocfl_audit.specs.Due.{item_places, due, items_at, hashed_among}
 use Rattle.ocfl_audit.specs.Trail.{content_trail}
 use Rattle.ocfl_audit.specs.Between.{IsBeyond, looked_between, read_between}
-use Rattle.ocfl_walk.specs.Auditing.{Audits, Fails, Walks, WalkFails}
-use Rattle.ocfl_walk.specs.declared.fault.Fault.{Fault}
-use Rattle.ocfl_walk.specs.declared.fault.Fault.TheVariants.{Output}
+use Rattle.ocfl_item.specs.Auditing.{Audits, Fails}
+use Rattle.ocfl_walk.specs.WalkCalls.{Walks, WalkFails}
+use Rattle.ocfl_item.specs.declared.fault.Fault.{Fault}
+use Rattle.ocfl_item.specs.declared.fault.Fault.TheVariants.{Output}
 use Rattle.ocfl_scrub.specs.Taking.{WritesLines, PartOf, Takes, Misses}
 use Rattle.ocfl_scrub.specs.Passing.{last_of, up_to_last, Passes, Finishes, Halts}
 use Rattle.ocfl_scrub.proofs.Lists.{flat_append, ascends_left}

@@ -14,9 +14,10 @@ use Rattle.ocfl_audit.specs.Between.{IsBeyond, looked_between, read_between}
 use Rattle.ocfl_audit.specs.Trail.{unread_of}
 use Rattle.ocfl_audit.specs.Runs.{Limits, files_of, total_files, may_take}
 use Rattle.std.specs.Io.KnownBytes.{Appends}
-use Rattle.ocfl_walk.specs.Auditing.{Audits, Walks, WalkFails}
-use Rattle.ocfl_walk.specs.declared.fault.Fault.{Fault}
-use Rattle.ocfl_walk.specs.declared.fault.Fault.TheVariants.{Output}
+use Rattle.ocfl_item.specs.Auditing.{Audits}
+use Rattle.ocfl_walk.specs.WalkCalls.{Walks, WalkFails}
+use Rattle.ocfl_item.specs.declared.fault.Fault.{Fault}
+use Rattle.ocfl_item.specs.declared.fault.Fault.TheVariants.{Output}
 use Rattle.ocfl_scrub.specs.Taking.{Takes, Misses}
 use Rattle.ocfl_scrub.specs.Passing.{up_to_last}
 use Rattle.ocfl_scrub.specs.Paying.{Paid, Counts, IsWithinBoth, Pays, PaysAll, PaysUpTo, PaysHalting}

@@ -9,11 +9,11 @@ use Rattle.ocfl_audit.specs.Lines.{is_hashed}
 use Rattle.ocfl_audit.specs.Runs.{Limits, files_of}
 use Rattle.ocfl_cursor.specs.Meter.{Meter, IsMeter, MayStart, max_cost}
 use Rattle.ocfl_cursor.specs.declared.limits.Limits.{Limits as MadeLimits}
-use Rattle.ocfl_walk.specs.Judging.{CostFits}
-use Rattle.ocfl_walk.specs.Pending.{IsPending}
+use Rattle.ocfl_item.specs.Judging.{CostFits}
+use Rattle.ocfl_item.specs.Pending.{IsPending}
 use Rattle.ocfl_walk.specs.Walks.{last_of, Stands, Gives, GoesOn}
-use Rattle.ocfl_walk.specs.declared.fault.Fault.{Fault}
-use Rattle.ocfl_walk.specs.declared.pending.Pending.{Pending}
+use Rattle.ocfl_item.specs.declared.fault.Fault.{Fault}
+use Rattle.ocfl_item.specs.declared.pending.Pending.{Pending}
 use Rattle.ocfl_walk.specs.declared.walk.Walk.{Walk}
 use Rattle.ocfl_scrub.specs.Running.{limits_of, IsPaid}
 use Rattle.ocfl_scrub.specs.Taking.{Takes, Misses}

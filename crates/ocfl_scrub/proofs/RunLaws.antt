@@ -20,11 +20,12 @@ use Rattle.ocfl_audit.proofs.DueLaws.{after_is_due}
 use Rattle.ocfl_audit.proofs.Trails.{unread_behind}
 use Rattle.ocfl_cursor.specs.Cursor.{State, Cursor, IsShortPlace, IsCursor}
 use Rattle.ocfl_cursor.specs.Moves.{after_run}
-use Rattle.ocfl_walk.specs.Looking.{IsFront}
-use Rattle.ocfl_walk.specs.Ways.{IsWayFault}
-use Rattle.ocfl_walk.specs.Auditing.{Audits, Fails, GoesDown, GoDownFails}
-use Rattle.ocfl_walk.specs.declared.fault.Fault.{Fault}
-use Rattle.ocfl_walk.specs.declared.fault.Fault.TheVariants.{Output}
+use Rattle.ocfl_item.specs.Looking.{IsFront}
+use Rattle.ocfl_item.specs.Ways.{IsWayFault}
+use Rattle.ocfl_item.specs.Auditing.{Audits, Fails}
+use Rattle.ocfl_walk.specs.WalkCalls.{GoesDown, GoDownFails}
+use Rattle.ocfl_item.specs.declared.fault.Fault.{Fault}
+use Rattle.ocfl_item.specs.declared.fault.Fault.TheVariants.{Output}
 use Rattle.ocfl_scrub.specs.Taking.{PartOf}
 use Rattle.ocfl_scrub.specs.Passing.{last_of}
 use Rattle.ocfl_scrub.specs.WholeAudit.{places}

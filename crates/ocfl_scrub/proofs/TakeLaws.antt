@@ -12,11 +12,11 @@ use Rattle.ocfl_report.specs.Text.{lines_text, text}
 use Rattle.ocfl_report.specs.declared.line.Line.{Line as MadeLine}
 use Rattle.ocfl_audit.specs.Audit.{total_cost}
 use Rattle.ocfl_audit.specs.Due.{hashed_among, items_at}
-use Rattle.ocfl_walk.specs.Looking.{IsFront, failures_by}
-use Rattle.ocfl_walk.specs.Auditing.{Fails}
-use Rattle.ocfl_walk.specs.Judging.{Judges, JudgeFails}
-use Rattle.ocfl_walk.specs.declared.fault.Fault.{Fault}
-use Rattle.ocfl_walk.specs.declared.fault.Fault.TheVariants.{Store as AtStore, Memory, Output}
+use Rattle.ocfl_item.specs.Looking.{IsFront, failures_by}
+use Rattle.ocfl_item.specs.Auditing.{Fails}
+use Rattle.ocfl_item.specs.Judging.{Judges, JudgeFails}
+use Rattle.ocfl_item.specs.declared.fault.Fault.{Fault}
+use Rattle.ocfl_item.specs.declared.fault.Fault.TheVariants.{Store as AtStore, Memory, Output}
 use Rattle.ocfl_scrub.specs.Taking.{WritesLines, PartOf, Takes, Misses}
 use Rattle.ocfl_scrub.proofs.AuditingLaws.{audits_none, nothing_hashed}
 

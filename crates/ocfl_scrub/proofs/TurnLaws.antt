@@ -16,8 +16,9 @@ use Rattle.ocfl_audit.specs.Runs.{Limits, total_files}
 use Rattle.ocfl_audit.proofs.AuditExists.{audit_is}
 use Rattle.ocfl_audit.proofs.AfterLaws.{after_is_end, after_item}
 use Rattle.ocfl_audit.proofs.DueLaws.{after_is_due}
-use Rattle.ocfl_walk.specs.Looking.{IsFront}
-use Rattle.ocfl_walk.specs.Auditing.{Audits, holder}
+use Rattle.ocfl_item.specs.Looking.{IsFront}
+use Rattle.ocfl_item.specs.Auditing.{Audits}
+use Rattle.ocfl_walk.specs.WalkCalls.{holder}
 use Rattle.ocfl_scrub.specs.Passing.{last_of}
 use Rattle.ocfl_scrub.specs.WholeAudit.{places}
 use Rattle.ocfl_scrub.specs.Paying.{Paid}

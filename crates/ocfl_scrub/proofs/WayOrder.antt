@@ -10,8 +10,8 @@ use Rattle.ocfl_audit.specs.Between.{IsBeyond, looked_between, read_between}
 use Rattle.ocfl_audit.proofs.AuditExists.{zone_is}
 use Rattle.ocfl_audit.proofs.BelowLaws.{cmp_behind, above_self, from_append, ascends_append}
 use Rattle.ocfl_audit.proofs.BetweenLaws.{from_between}
-use Rattle.ocfl_walk.specs.Looking.{way_to, IsFront}
-use Rattle.ocfl_walk.specs.Auditing.{holder_of, way_of, holder}
+use Rattle.ocfl_item.specs.Looking.{way_to, IsFront}
+use Rattle.ocfl_walk.specs.WalkCalls.{holder_of, way_of, holder}
 use Rattle.ocfl_scrub.proofs.Lists.{map_append, ascends_left, ascends_across}
 use Rattle.ocfl_scrub.proofs.OrderLaws.{looked_ascend, read_ascend}
 

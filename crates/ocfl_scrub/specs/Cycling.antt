@@ -12,9 +12,9 @@ use Rattle.ocfl_audit.specs.Due.{item_places, hashed_among}
 use Rattle.ocfl_audit.specs.Trail.{unread_of, content_trail, inventories}
 use Rattle.ocfl_audit.specs.Runs.{Limits, total_files, runs, joined, IsAtLeast, FilesFit, sum_of}
 use Rattle.ocfl_cursor.specs.Cursor.{State, ended, Cursor}
-use Rattle.ocfl_walk.specs.Looking.{IsFront}
-use Rattle.ocfl_walk.specs.Auditing.{Audits, Fails}
-use Rattle.ocfl_walk.specs.declared.fault.Fault.{Fault}
+use Rattle.ocfl_item.specs.Looking.{IsFront}
+use Rattle.ocfl_item.specs.Auditing.{Audits, Fails}
+use Rattle.ocfl_item.specs.declared.fault.Fault.{Fault}
 use Rattle.ocfl_scrub.specs.Taking.{PartOf}
 use Rattle.ocfl_scrub.specs.Passing.{last_of}
 use Rattle.ocfl_scrub.specs.WholeAudit.{places}

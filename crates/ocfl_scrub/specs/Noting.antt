@@ -8,8 +8,8 @@ use Rattle.ocfl_cursor.specs.Cursor.{Cursor, cursor_text}
 use Rattle.ocfl_cursor.specs.declared.reading.CursorStop.{CursorStop}
 use Rattle.ocfl_cursor.specs.declared.reading.CursorStop.TheVariants as stop
 use Rattle.ocfl_cursor.specs.declared.refused.Refused.TheVariants as refused
-use Rattle.ocfl_walk.specs.declared.fault.Fault.{Fault}
-use Rattle.ocfl_walk.specs.declared.fault.Fault.TheVariants as fault
+use Rattle.ocfl_item.specs.declared.fault.Fault.{Fault}
+use Rattle.ocfl_item.specs.declared.fault.Fault.TheVariants as fault
 use Rattle.ocfl_scrub.specs.Taking.{WritesLines}
 use Rattle.ocfl_scrub.specs.Checking.{CheckEnds}
 use Rattle.ocfl_scrub.specs.WholeAudit.{AuditEnds}

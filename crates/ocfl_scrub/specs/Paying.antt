@@ -14,9 +14,9 @@ use Rattle.ocfl_audit.specs.Between.{looked_between, read_between}
 use Rattle.ocfl_audit.specs.Runs.{Limits, files_of, total_files, may_take}
 use Rattle.ocfl_cursor.specs.Cursor.{Cursor, IsCursor}
 use Rattle.ocfl_cursor.specs.Moves.{at_start}
-use Rattle.ocfl_walk.specs.Auditing.{Audits}
-use Rattle.ocfl_walk.specs.declared.fault.Fault.{Fault}
-use Rattle.ocfl_walk.specs.declared.fault.Fault.TheVariants as fault
+use Rattle.ocfl_item.specs.Auditing.{Audits}
+use Rattle.ocfl_item.specs.declared.fault.Fault.{Fault}
+use Rattle.ocfl_item.specs.declared.fault.Fault.TheVariants as fault
 use Rattle.ocfl_scrub.specs.Passing.{last_of, Passes, Finishes, Halts}
 use Rattle.ocfl_scrub.specs.Running.{place_in, begun, IsWorn}
 use Rattle.ocfl_scrub.specs.declared.running.RunStatus.{RunStatus}

@@ -16,9 +16,10 @@ use Rattle.ocfl_cursor.specs.Cursor.{State, start, behind, ended, Cursor}
 use Rattle.ocfl_cursor.specs.Meter.{max_cost}
 use Rattle.ocfl_cursor.specs.Moves.{next_cycle, after_run}
 use Rattle.ocfl_cursor.specs.declared.limits.Limits.{Limits as MadeLimits}
-use Rattle.ocfl_walk.specs.Looking.{IsFront}
-use Rattle.ocfl_walk.specs.Auditing.{Audits, Fails, way_of, holder}
-use Rattle.ocfl_walk.specs.declared.fault.Fault.{Fault}
+use Rattle.ocfl_item.specs.Looking.{IsFront}
+use Rattle.ocfl_item.specs.Auditing.{Audits, Fails}
+use Rattle.ocfl_walk.specs.WalkCalls.{way_of, holder}
+use Rattle.ocfl_item.specs.declared.fault.Fault.{Fault}
 use Rattle.ocfl_scrub.specs.Taking.{PartOf}
 use Rattle.ocfl_scrub.specs.Passing.{last_of}
 use Rattle.ocfl_scrub.specs.WholeAudit.{places}

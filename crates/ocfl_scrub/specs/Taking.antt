@@ -11,10 +11,10 @@ use Rattle.ocfl_report.specs.Text.{lines_text, text}
 use Rattle.ocfl_audit.specs.Audit.{total_cost}
 use Rattle.ocfl_audit.specs.Trail.{places_of}
 use Rattle.ocfl_audit.specs.Due.{hashed_among, items_at}
-use Rattle.ocfl_walk.specs.Looking.{IsFront}
-use Rattle.ocfl_walk.specs.Auditing.{Audits, Fails}
-use Rattle.ocfl_walk.specs.declared.fault.Fault.{Fault}
-use Rattle.ocfl_walk.specs.declared.fault.Fault.TheVariants as fault
+use Rattle.ocfl_item.specs.Looking.{IsFront}
+use Rattle.ocfl_item.specs.Auditing.{Audits, Fails}
+use Rattle.ocfl_item.specs.declared.fault.Fault.{Fault}
+use Rattle.ocfl_item.specs.declared.fault.Fault.TheVariants as fault
 
 -- on every store: the text of some lines went out, and it is said whether one of them is a finding
 abbrev pub WritesLines : Option (List ℕ) → Option (List ℕ) → Bool → Type 0

@@ -11,9 +11,9 @@ use Rattle.ocfl_audit.specs.Audit.{audit}
 use Rattle.ocfl_audit.specs.Trail.{unread_of}
 use Rattle.ocfl_audit.specs.Due.{item_places}
 use Rattle.ocfl_audit.specs.Between.{looked_between, read_between}
-use Rattle.ocfl_walk.specs.Looking.{IsFront}
-use Rattle.ocfl_walk.specs.Auditing.{Audits, Fails}
-use Rattle.ocfl_walk.specs.declared.fault.Fault.{Fault}
+use Rattle.ocfl_item.specs.Looking.{IsFront}
+use Rattle.ocfl_item.specs.Auditing.{Audits, Fails}
+use Rattle.ocfl_item.specs.declared.fault.Fault.{Fault}
 use Rattle.ocfl_scrub.specs.Taking.{PartOf}
 use Rattle.ocfl_scrub.specs.Passing.{last_of}
 use Rattle.ocfl_scrub.specs.declared.checking.End.{End}

@@ -5,7 +5,7 @@ ghost use Rattle.ocfl_report.specs.Line.{found as found_in};
 ghost use Rattle.ocfl_report.specs.Text.{text};
 ghost use Rattle.ocfl_tree.specs.Tree.{Tree as Root};
 ghost use Rattle.ocfl_audit.specs.Audit.{audit as whole_audit};
-ghost use Rattle.ocfl_walk.specs.Judging.{HasShortFiles};
+ghost use Rattle.ocfl_item.specs.Judging.{HasShortFiles};
 ghost use Rattle.ocfl_walk.specs.Walks.{IsLive, Stands, last_of};
 ghost use Rattle.ocfl_scrub.specs.Passing.{PassEnds};
 ghost use Rattle.ocfl_scrub.specs.Taking.{WritesLines};

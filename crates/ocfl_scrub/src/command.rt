@@ -6,7 +6,7 @@ ghost use Rattle.ocfl_report.specs.Line.{found as found_in};
 ghost use Rattle.ocfl_report.specs.Text.{place_text, text};
 ghost use Rattle.ocfl_audit.specs.Audit.{audit as whole_audit};
 ghost use Rattle.ocfl_tree.specs.Tree.{Tree as Root};
-ghost use Rattle.ocfl_walk.specs.Judging.{HasShortFiles};
+ghost use Rattle.ocfl_item.specs.Judging.{HasShortFiles};
 ghost use Rattle.ocfl_scrub.specs.Noting.{status_of, IsAuditNote, IsAuditSaid, IsCheckNote};
 ghost use Rattle.ocfl_scrub.specs.Noting.{IsCheckSaid, IsRefused, IsStatus, IsStopNote, IsStopSaid};
 ghost use Rattle.ocfl_scrub.specs.Noting.{AuditsWithNote, ChecksWithNote, WritesWhole};

@@ -2,7 +2,7 @@
 ghost use Rattle.std.specs.Prelude.{◌≡◌, ◌≢◌, ◌↔◌, ◌≤◌, [], false, map, length, IfOk, IsTrue};
 ghost use Rattle.ocfl_cursor.specs.Cursor.{ended, new_cursor};
 ghost use Rattle.ocfl_tree.specs.Tree.{Tree as Root};
-ghost use Rattle.ocfl_walk.specs.Judging.{HasShortFiles};
+ghost use Rattle.ocfl_item.specs.Judging.{HasShortFiles};
 ghost use Rattle.ocfl_scrub.specs.Cycling.{CyclesTo, HeadlineOf};
 ghost use Rattle.ocfl_scrub.specs.Running.{limits_of};
 ghost use Rattle.ocfl_scrub.specs.Taking.{WritesLines};

@@ -7,7 +7,7 @@ ghost use Rattle.ocfl_cursor.specs.Moves.{after_run};
 ghost use Rattle.ocfl_cursor.specs.State.{state_of};
 ghost use Rattle.ocfl_tree.specs.Place.{Place as Spot};
 ghost use Rattle.ocfl_tree.specs.Tree.{Tree as Root};
-ghost use Rattle.ocfl_walk.specs.Judging.{HasShortFiles};
+ghost use Rattle.ocfl_item.specs.Judging.{HasShortFiles};
 ghost use Rattle.ocfl_walk.specs.Walks.{IsLive, Stands, last_of};
 ghost use Rattle.ocfl_scrub.specs.Taking.{WritesLines};
 ghost use Rattle.ocfl_scrub.specs.Paying.{Begins, IsShort, PaidEnds};

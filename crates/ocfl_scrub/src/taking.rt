@@ -4,8 +4,8 @@ ghost use Rattle.std.specs.List.{list_any};
 ghost use Rattle.ocfl_report.specs.Line.{line_of, is_finding_code};
 ghost use Rattle.ocfl_report.specs.Text.{lines_text};
 ghost use Rattle.ocfl_tree.specs.Tree.{Tree as Root};
-ghost use Rattle.ocfl_walk.specs.Judging.{CostFits, HasShortFiles};
-ghost use Rattle.ocfl_walk.specs.Pending.{IsPending};
+ghost use Rattle.ocfl_item.specs.Judging.{CostFits, HasShortFiles};
+ghost use Rattle.ocfl_item.specs.Pending.{IsPending};
 ghost use Rattle.ocfl_scrub.specs.Taking.{Misses, Takes, WritesLines};
 
 use ocfl_digest::Block;

@@ -5,7 +5,7 @@ use Rattle.std.specs.Option.{option_to_list}
 use Rattle.std.proofs.lemmas.Bool.{eqb-true, eqb-false}
 use Rattle.ocfl_tree.specs.declared.store.Entry.{Entry}
 use Rattle.ocfl_walk.specs.Standing.{IsTaken, back, back_onto, next_in, next_of, piles_of, pile_of, trimmed, trimmed_from}
-use Rattle.ocfl_walk.specs.declared.folder.Folder.{Folder}
+use Rattle.ocfl_item.specs.declared.folder.Folder.{Folder}
 
 module _ {A B : Type 0} (f : A → B) where
   back_onto_push : (xs : List A) (x : A) (ys : List B) → back_onto f (xs ++ x ∷ []) ys ≡ f x ∷ back_onto f xs ys

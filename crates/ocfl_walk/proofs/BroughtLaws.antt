@@ -10,13 +10,14 @@ use Rattle.ocfl_tree.specs.declared.store.Entry.{Entry}
 use Rattle.ocfl_audit.specs.Zone.{hierarchy, inside, zone}
 use Rattle.ocfl_audit.specs.Walk.{seen_names}
 use Rattle.ocfl_audit.specs.Stack.{IsListed, listed_at, seen_left, seen_places}
-use Rattle.ocfl_walk.specs.Ways.{IsAt, way_below}
-use Rattle.ocfl_walk.specs.Standing.{AreEntries, HaveEntries, IsAroundIf, IsChain, IsOrderly, IsPart, IsTableAround, Pile, frames_of, left_names, left_of_folder, pile_of, piles_of}
-use Rattle.ocfl_walk.specs.Walking.{IsFairFolder}
+use Rattle.ocfl_item.specs.Ways.{IsAt, way_below}
+use Rattle.ocfl_walk.specs.Standing.{AreEntries, HaveEntries, IsAroundIf, IsChain, IsOrderly, Pile, frames_of, left_names, left_of_folder, pile_of, piles_of}
+use Rattle.ocfl_item.specs.Around.{IsPart, IsTableAround}
+use Rattle.ocfl_item.specs.Meeting.{IsFairFolder}
 use Rattle.ocfl_walk.specs.Entering.{Descends, DescendFails, IsBrought, IsComing, IsShut, Leads, may_open}
-use Rattle.ocfl_walk.specs.declared.fault.Fault.{Fault}
-use Rattle.ocfl_walk.specs.declared.folder.Folder.{Folder}
-use Rattle.ocfl_walk.specs.declared.stand.Around.{Around}
+use Rattle.ocfl_item.specs.declared.fault.Fault.{Fault}
+use Rattle.ocfl_item.specs.declared.folder.Folder.{Folder}
+use Rattle.ocfl_item.specs.declared.meeting.Around.{Around}
 use Rattle.ocfl_tree.proofs.Orders.{among_from_filter, ascends_filter}
 use Rattle.ocfl_audit.proofs.AuditExists.{append_one}
 use Rattle.ocfl_walk.proofs.Backs.{piles_push}

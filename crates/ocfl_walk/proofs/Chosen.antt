@@ -10,10 +10,10 @@ use Rattle.ocfl_tree.specs.declared.store.Entry.{Entry}
 use Rattle.ocfl_walk.specs.Standing.{IsBelowNext, IsOrderlyIf, IsStanding, Pile, StandsAt, TurnIs, next_of, path_from, size_of, stand_size, piles_in, trimmed, trimmed_from, turn_of}
 use Rattle.ocfl_audit.specs.Between.{IsBeyond}
 use Rattle.ocfl_walk.specs.Walking.{GoesOn}
-use Rattle.ocfl_walk.specs.Auditing.{WalkFails}
-use Rattle.ocfl_walk.specs.declared.fault.Fault.{Fault}
-use Rattle.ocfl_walk.specs.declared.fault.Fault.TheVariants as fault
-use Rattle.ocfl_walk.specs.declared.stand.Around.{Around}
+use Rattle.ocfl_walk.specs.WalkCalls.{WalkFails}
+use Rattle.ocfl_item.specs.declared.fault.Fault.{Fault}
+use Rattle.ocfl_item.specs.declared.fault.Fault.TheVariants as fault
+use Rattle.ocfl_item.specs.declared.meeting.Around.{Around}
 use Rattle.ocfl_walk.specs.declared.stand.Stand.{Stand}
 use Rattle.ocfl_walk.specs.declared.stand.Step.{Step}
 use Rattle.ocfl_walk.specs.declared.stand.Step.TheVariants as step
@@ -22,7 +22,7 @@ use Rattle.ocfl_walk.specs.declared.stand.Turn.TheVariants as turn
 use Rattle.ocfl_audit.proofs.BelowLaws.{less_from}
 use Rattle.ocfl_walk.proofs.DueTurns.{turn_comes}
 use Rattle.ocfl_walk.proofs.OrderlyLaws.{fit_of, orderly_trimmed, size_trimmed}
-use Rattle.ocfl_walk.proofs.AuditingLaws.{walk_fails_nothing}
+use Rattle.ocfl_walk.proofs.WalkCallLaws.{walk_fails_nothing}
 use Rattle.ocfl_walk.proofs.TurnLaws.{standing_trimmed}
 
 not_base : (o p : Option Place) → turn.Base ≡ turn_of o p → ⊥

@@ -9,20 +9,20 @@ use Rattle.ocfl_tree.specs.declared.store.Opening.{Opening}
 use Rattle.ocfl_inventory.specs.Table.{Table}
 use Rattle.ocfl_tree.proofs.Orders.{true_not_false}
 use Rattle.ocfl_audit.specs.Zone.{zone}
-use Rattle.ocfl_walk.specs.Looking.{IsFront, failures_by}
-use Rattle.ocfl_walk.specs.Ways.{AreInventories, Stops, Opens, ReadsTable}
-use Rattle.ocfl_walk.specs.Standing.{IsTableAround}
+use Rattle.ocfl_item.specs.Looking.{IsFront, failures_by}
+use Rattle.ocfl_item.specs.Ways.{AreInventories, Stops, Opens, ReadsTable}
+use Rattle.ocfl_item.specs.Around.{IsTableAround}
 use Rattle.ocfl_audit.specs.Trail.{heads_of}
 use Rattle.ocfl_walk.specs.Entering.{Descends, DescendFails, GoesInto}
-use Rattle.ocfl_walk.proofs.FailLaws.{failed_behind}
-use Rattle.ocfl_walk.specs.declared.fault.Fault.{Fault}
-use Rattle.ocfl_walk.specs.declared.fault.Fault.TheVariants as fault
-use Rattle.ocfl_walk.specs.declared.folder.Folder.{Folder}
-use Rattle.ocfl_walk.specs.declared.stand.Around.{Around}
+use Rattle.ocfl_item.proofs.FailLaws.{failed_behind}
+use Rattle.ocfl_item.specs.declared.fault.Fault.{Fault}
+use Rattle.ocfl_item.specs.declared.fault.Fault.TheVariants as fault
+use Rattle.ocfl_item.specs.declared.folder.Folder.{Folder}
+use Rattle.ocfl_item.specs.declared.meeting.Around.{Around}
 use Rattle.ocfl_tree.proofs.Stores.{did_then}
-use Rattle.ocfl_walk.proofs.LooksCalls.{did_nothing, memory_no_store}
-use Rattle.ocfl_walk.proofs.LooksZones.{is_plain}
-use Rattle.ocfl_walk.proofs.AuditingLaws.{heads_append}
+use Rattle.ocfl_item.proofs.LooksCalls.{did_nothing, memory_no_store}
+use Rattle.ocfl_item.proofs.LooksZones.{is_plain}
+use Rattle.ocfl_item.proofs.AuditingLaws.{heads_append}
 use Rattle.ocfl_audit.proofs.Trails.{content_behind}
 
 -- ---- one after the other

@@ -8,17 +8,18 @@ use Rattle.ocfl_tree.specs.declared.store.Entry.{Entry}
 use Rattle.ocfl_inventory.specs.Declaration.{is_known}
 use Rattle.ocfl_audit.specs.Zone.{skipped, hierarchy, inside, object_zone, root_declared, is_in_extensions, zone, table_at, is_entered, is_listed_zone, is_listed_in_object}
 use Rattle.ocfl_audit.specs.Walk.{is_reached, step_listed}
-use Rattle.ocfl_walk.specs.Ways.{Enters, Stops, way_below, is_listable, is_extensions_name, IsAt, IsObject}
-use Rattle.ocfl_walk.specs.Standing.{IsPart, IsTableAround}
+use Rattle.ocfl_item.specs.Ways.{Enters, Stops, way_below, is_listable, is_extensions_name, IsAt, IsObject}
+use Rattle.ocfl_item.specs.Around.{IsPart, IsTableAround}
 use Rattle.ocfl_walk.specs.Entering.{Descends, GoesInto, IsIn, IsShut, Leads, may_open}
-use Rattle.ocfl_walk.specs.Auditing.{holder_of, FailedAt}
-use Rattle.ocfl_walk.specs.declared.fault.Fault.{Fault}
-use Rattle.ocfl_walk.specs.declared.folder.Folder.{Folder}
-use Rattle.ocfl_walk.specs.declared.stand.Around.{Around}
+use Rattle.ocfl_walk.specs.WalkCalls.{holder_of}
+use Rattle.ocfl_item.specs.Auditing.{FailedAt}
+use Rattle.ocfl_item.specs.declared.fault.Fault.{Fault}
+use Rattle.ocfl_item.specs.declared.folder.Folder.{Folder}
+use Rattle.ocfl_item.specs.declared.meeting.Around.{Around}
 use Rattle.ocfl_tree.proofs.Orders.{true_not_false}
 use Rattle.ocfl_audit.proofs.AuditExists.{append_one}
 use Rattle.ocfl_audit.proofs.StepLaws.{reached_step, listed_step}
-use Rattle.ocfl_walk.proofs.LooksZones.{inside_on, inside_step, not_entered, out_of_zone, open_object, reach_on, entered_from, is_plain, plain_below, plain_extensions}
+use Rattle.ocfl_item.proofs.LooksZones.{inside_on, inside_step, not_entered, out_of_zone, open_object, reach_on, entered_from, is_plain, plain_below, plain_extensions}
 use Rattle.ocfl_walk.proofs.DescentLaws.{descends_on, descent_fails_on, descends_not, descends_one, descends_end, listing_fails, plain_table}
 
 and_false : (a b : Bool) → b ≡ false → a && b ≡ false

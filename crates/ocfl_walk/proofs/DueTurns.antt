@@ -15,7 +15,7 @@ use Rattle.ocfl_audit.specs.Walk.{item_at}
 use Rattle.ocfl_audit.specs.Stack.{Frame, IsStack, seen_places}
 use Rattle.ocfl_audit.specs.Zone.{seen}
 use Rattle.ocfl_walk.specs.Standing.{Pile, IsFitIf, IsStanding, IsTurn, TurnIs, frames_of, next_of, path_from, place_by, trimmed, turn_of}
-use Rattle.ocfl_walk.specs.declared.stand.Around.{Around}
+use Rattle.ocfl_item.specs.declared.meeting.Around.{Around}
 use Rattle.ocfl_walk.specs.declared.stand.Turn.{Turn}
 use Rattle.ocfl_walk.specs.declared.stand.Turn.TheVariants as turn
 use Rattle.ocfl_audit.proofs.BelowLaws.{above, less_from}
@@ -26,8 +26,10 @@ use Rattle.ocfl_tree.specs.Store.{Store}
 use Rattle.ocfl_audit.specs.Stack.{NoneSeenAbove}
 use Rattle.ocfl_audit.specs.Between.{read_between}
 use Rattle.ocfl_audit.proofs.BetweenLaws.{looked_step, read_step, looked_end, read_end}
-use Rattle.ocfl_walk.specs.Auditing.{Audits, Walks}
-use Rattle.ocfl_walk.proofs.AuditingLaws.{IsNear, audits_nothing}
+use Rattle.ocfl_item.specs.Auditing.{Audits}
+use Rattle.ocfl_walk.specs.WalkCalls.{Walks}
+use Rattle.ocfl_walk.proofs.WalkCallLaws.{IsNear}
+use Rattle.ocfl_item.proofs.AuditingLaws.{audits_nothing}
 use Rattle.ocfl_walk.proofs.TurnLaws.{standing_trimmed, turn_is_next}
 use Rattle.ocfl_audit.proofs.WayLaws.{is_closed}
 

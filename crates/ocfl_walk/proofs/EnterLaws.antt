@@ -12,21 +12,21 @@ use Rattle.ocfl_inventory.specs.declared.declaration.Level.TheVariants as level
 use Rattle.ocfl_audit.specs.Zone.{hierarchy, skipped, root_declared, is_listed_zone, zone}
 use Rattle.ocfl_audit.specs.Walk.{is_reached}
 use Rattle.ocfl_audit.specs.Stack.{seen_places}
-use Rattle.ocfl_walk.specs.Looking.{way_to}
-use Rattle.ocfl_walk.specs.Ways.{Enters, IsHead, Stops, way_below}
+use Rattle.ocfl_item.specs.Looking.{way_to}
+use Rattle.ocfl_item.specs.Ways.{Enters, IsHead, Stops, way_below}
 use Rattle.ocfl_walk.specs.Standing.{IsOrderly, IsOrderlyIf, IsStanding, Pile, piles_of}
-use Rattle.ocfl_walk.specs.Auditing.{holder_of}
+use Rattle.ocfl_walk.specs.WalkCalls.{holder_of}
 use Rattle.ocfl_walk.specs.Entering.{Descends, DescendFails, IsBrought, IsComing, Starts, StartFails}
-use Rattle.ocfl_walk.specs.Auditing.{holder_of}
-use Rattle.ocfl_walk.specs.declared.fault.Fault.{Fault}
-use Rattle.ocfl_walk.specs.declared.fault.Fault.TheVariants as fault
-use Rattle.ocfl_walk.specs.declared.folder.Folder.{Folder}
-use Rattle.ocfl_walk.specs.declared.folder.Head.{Head}
-use Rattle.ocfl_walk.specs.declared.folder.Head.TheVariants as head
-use Rattle.ocfl_walk.specs.declared.stand.Around.{Around}
+use Rattle.ocfl_walk.specs.WalkCalls.{holder_of}
+use Rattle.ocfl_item.specs.declared.fault.Fault.{Fault}
+use Rattle.ocfl_item.specs.declared.fault.Fault.TheVariants as fault
+use Rattle.ocfl_item.specs.declared.folder.Folder.{Folder}
+use Rattle.ocfl_item.specs.declared.folder.Head.{Head}
+use Rattle.ocfl_item.specs.declared.folder.Head.TheVariants as head
+use Rattle.ocfl_item.specs.declared.meeting.Around.{Around}
 use Rattle.ocfl_walk.proofs.DescentLaws.{descends_end, descends_on, descends_one, descent_fails_on, descent_memory, listing_fails, plain_table}
-use Rattle.ocfl_walk.proofs.LooksCalls.{head_unknown, way_is}
-use Rattle.ocfl_walk.proofs.LooksZones.{declared_root, out_of_zone, plain_unknown}
+use Rattle.ocfl_item.proofs.LooksCalls.{head_unknown, way_is}
+use Rattle.ocfl_item.proofs.LooksZones.{declared_root, out_of_zone, plain_unknown}
 use Rattle.ocfl_audit.proofs.StackLaws.{stack_starts, start_stops}
 use Rattle.ocfl_audit.proofs.WayLaws.{is_closed}
 

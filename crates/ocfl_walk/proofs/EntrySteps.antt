@@ -16,16 +16,18 @@ use Rattle.ocfl_audit.specs.Lines.{notes}
 use Rattle.ocfl_audit.specs.Walk.{is_reached, seen_names}
 use Rattle.ocfl_audit.specs.Stack.{IsListed}
 use Rattle.ocfl_audit.specs.Zone.{Zone, skipped, hierarchy, inside, zone, table_at, is_entered, is_listed_zone, is_listed_in_object, max_listed_depth}
-use Rattle.ocfl_walk.specs.Standing.{HaveEntries, IsAroundIf, IsMet, IsOrderly, IsPart, IsStanding, IsTableAround, IsTaken, Pile, StandsAt, frames_of, next_of, still}
-use Rattle.ocfl_walk.specs.Walking.{IsItemAt, Meets, Steps, step_from}
-use Rattle.ocfl_walk.specs.declared.pending.Pending.{Pending}
-use Rattle.ocfl_walk.specs.declared.stand.Around.{Around}
+use Rattle.ocfl_walk.specs.Standing.{HaveEntries, IsAroundIf, IsOrderly, IsStanding, IsTaken, Pile, StandsAt, frames_of, next_of, still}
+use Rattle.ocfl_item.specs.Around.{IsMet, IsPart, IsTableAround}
+use Rattle.ocfl_item.specs.Meeting.{IsItemAt, Meets}
+use Rattle.ocfl_walk.specs.Walking.{Steps, step_from}
+use Rattle.ocfl_item.specs.declared.pending.Pending.{Pending}
+use Rattle.ocfl_item.specs.declared.meeting.Around.{Around}
 use Rattle.ocfl_walk.specs.declared.stand.Stand.{Stand}
 use Rattle.ocfl_audit.proofs.AuditExists.{zone_is}
 use Rattle.ocfl_audit.proofs.BelowLaws.{above_self, begins_front, begins_rest, text_from_test}
-use Rattle.ocfl_walk.proofs.LooksZones.{inside_on}
+use Rattle.ocfl_item.proofs.LooksZones.{inside_on}
 use Rattle.ocfl_walk.proofs.OrderlyLaws.{entry_after, old_chain}
-use Rattle.ocfl_walk.proofs.AuditingLaws.{IsNear, meets_walks}
+use Rattle.ocfl_walk.proofs.WalkCallLaws.{IsNear, meets_walks}
 use Rattle.ocfl_walk.proofs.StandLaws.{object_zone}
 
 pub taken_place : (ps new : List Pile) (entry : Entry) (x : Place) (t : IsTaken ps new entry) → next_of ps ≡ Some x → x ≡ t.place ++ entry.name ∷ []

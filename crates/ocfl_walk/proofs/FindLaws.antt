@@ -10,19 +10,19 @@ use Rattle.ocfl_tree.specs.declared.store.Entry.{Entry}
 use Rattle.ocfl_tree.specs.declared.store.Opening.{Opening}
 use Rattle.ocfl_audit.specs.Zone.{Zone, skipped, hierarchy, inside, zone, seen}
 use Rattle.ocfl_audit.specs.Trail.{heads_of, is_head}
-use Rattle.ocfl_walk.specs.Auditing.{holder_of}
+use Rattle.ocfl_walk.specs.WalkCalls.{holder_of}
 use Rattle.ocfl_walk.specs.Entering.{Descends, DescendFails, Leads, may_open}
 use Rattle.ocfl_walk.specs.Finding.{Finds, FindFails, FindsItem}
-use Rattle.ocfl_walk.specs.Looking.{IsFront, failures_by}
-use Rattle.ocfl_walk.specs.Standing.{IsMet, IsPart, IsTableAround}
-use Rattle.ocfl_walk.specs.Walking.{IsItemAt, Visits}
-use Rattle.ocfl_walk.specs.Ways.{AreInventories, IsAt, way_below}
-use Rattle.ocfl_walk.specs.declared.fault.Fault.{Fault}
-use Rattle.ocfl_walk.specs.declared.fault.Fault.TheVariants as fault
-use Rattle.ocfl_walk.specs.declared.folder.Folder.{Folder}
-use Rattle.ocfl_walk.specs.declared.pending.Pending.{Pending}
-use Rattle.ocfl_walk.specs.declared.stand.Around.{Around}
-use Rattle.ocfl_walk.specs.declared.visit.Visit.{Visit}
+use Rattle.ocfl_item.specs.Looking.{IsFront, failures_by}
+use Rattle.ocfl_item.specs.Around.{IsMet, IsPart, IsTableAround}
+use Rattle.ocfl_item.specs.Meeting.{IsItemAt, Visits}
+use Rattle.ocfl_item.specs.Ways.{AreInventories, IsAt, way_below}
+use Rattle.ocfl_item.specs.declared.fault.Fault.{Fault}
+use Rattle.ocfl_item.specs.declared.fault.Fault.TheVariants as fault
+use Rattle.ocfl_item.specs.declared.folder.Folder.{Folder}
+use Rattle.ocfl_item.specs.declared.pending.Pending.{Pending}
+use Rattle.ocfl_item.specs.declared.meeting.Around.{Around}
+use Rattle.ocfl_item.specs.declared.visit.Visit.{Visit}
 use Rattle.ocfl_tree.proofs.Orders.{true_not_false}
 use Rattle.ocfl_audit.proofs.AuditExists.{append_one, some_not_none}
 use Rattle.ocfl_audit.proofs.Trails.{content_behind}
@@ -31,12 +31,12 @@ use Rattle.ocfl_audit.specs.Head.{on}
 use Rattle.ocfl_audit.specs.Between.{is_looked_into}
 use Rattle.ocfl_audit.specs.Trail.{content_trail, reads_inventory}
 use Rattle.ocfl_walk.proofs.DescentLaws.{front_on}
-use Rattle.ocfl_walk.proofs.FailLaws.{failed_behind, few_once, none_once}
-use Rattle.ocfl_walk.proofs.ItemLaws.{head_zone}
-use Rattle.ocfl_walk.proofs.LooksCalls.{did_nothing, memory_no_store}
-use Rattle.ocfl_walk.proofs.LooksZones.{inside_step, sight_nothing, unseen_behind}
+use Rattle.ocfl_item.proofs.FailLaws.{failed_behind, few_once, none_once}
+use Rattle.ocfl_item.proofs.ItemLaws.{head_zone}
+use Rattle.ocfl_item.proofs.LooksCalls.{did_nothing, memory_no_store}
+use Rattle.ocfl_item.proofs.LooksZones.{inside_step, sight_nothing, unseen_behind}
 use Rattle.ocfl_walk.proofs.MeetLaws.{own_head}
-use Rattle.ocfl_walk.proofs.AuditingLaws.{heads_append}
+use Rattle.ocfl_item.proofs.AuditingLaws.{heads_append}
 use Rattle.ocfl_tree.proofs.Stores.{did_then}
 
 -- ---- lists

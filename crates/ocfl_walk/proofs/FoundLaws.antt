@@ -15,27 +15,28 @@ use Rattle.ocfl_audit.specs.Due.{hashed_among}
 use Rattle.ocfl_audit.specs.Lines.{is_hashed, notes, notes_in}
 use Rattle.ocfl_audit.specs.Between.{is_looked_into}
 use Rattle.ocfl_audit.specs.Trail.{content_openings, content_trail, heads_of, inventory_of, reads_inventory, unread_of}
-use Rattle.ocfl_walk.specs.Auditing.{FailedAt, GoDownFails, GoesDown, holder_of}
+use Rattle.ocfl_item.specs.Auditing.{FailedAt}
+use Rattle.ocfl_walk.specs.WalkCalls.{GoDownFails, GoesDown, holder_of}
 use Rattle.ocfl_walk.specs.Entering.{Starts, StartFails}
 use Rattle.ocfl_walk.specs.Finding.{Finds, FindFails, FindsItem}
-use Rattle.ocfl_walk.specs.Looking.{IsFront, failures_by, way_to}
-use Rattle.ocfl_walk.specs.Walking.{IsItemAt, Visits}
-use Rattle.ocfl_walk.specs.Ways.{Enters, IsHead, Stops, way_below}
-use Rattle.ocfl_walk.specs.declared.fault.Fault.{Fault}
-use Rattle.ocfl_walk.specs.declared.fault.Fault.TheVariants as fault
-use Rattle.ocfl_walk.specs.declared.folder.Head.{Head}
-use Rattle.ocfl_walk.specs.declared.folder.Head.TheVariants as head
-use Rattle.ocfl_walk.specs.declared.pending.Pending.{Pending}
-use Rattle.ocfl_walk.specs.declared.visit.Visit.{Visit}
+use Rattle.ocfl_item.specs.Looking.{IsFront, failures_by, way_to}
+use Rattle.ocfl_item.specs.Meeting.{IsItemAt, Visits}
+use Rattle.ocfl_item.specs.Ways.{Enters, IsHead, Stops, way_below}
+use Rattle.ocfl_item.specs.declared.fault.Fault.{Fault}
+use Rattle.ocfl_item.specs.declared.fault.Fault.TheVariants as fault
+use Rattle.ocfl_item.specs.declared.folder.Head.{Head}
+use Rattle.ocfl_item.specs.declared.folder.Head.TheVariants as head
+use Rattle.ocfl_item.specs.declared.pending.Pending.{Pending}
+use Rattle.ocfl_item.specs.declared.visit.Visit.{Visit}
 use Rattle.ocfl_audit.proofs.AuditExists.{zone_is}
 use Rattle.ocfl_audit.proofs.PathLaws.{notes_at}
-use Rattle.ocfl_walk.proofs.AuditingLaws.{audits_nothing, front_all}
-use Rattle.ocfl_walk.proofs.FailLaws.{none_once}
+use Rattle.ocfl_item.proofs.AuditingLaws.{audits_nothing, front_all}
+use Rattle.ocfl_item.proofs.FailLaws.{none_once}
 use Rattle.ocfl_walk.proofs.DescentLaws.{descends_one}
 use Rattle.ocfl_walk.proofs.EnterLaws.{start_unlisted}
 use Rattle.ocfl_walk.proofs.FindLaws.{front_own, front_within, finds_descended, finds_stopped, item_memory, item_on, may_few}
-use Rattle.ocfl_walk.proofs.LooksCalls.{head_unknown, way_is}
-use Rattle.ocfl_walk.proofs.LooksZones.{declared_root}
+use Rattle.ocfl_item.proofs.LooksCalls.{head_unknown, way_is}
+use Rattle.ocfl_item.proofs.LooksZones.{declared_root}
 
 -- ---- as it is told
 

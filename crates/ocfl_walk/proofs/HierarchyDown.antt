@@ -14,15 +14,15 @@ use Rattle.ocfl_inventory.specs.declared.declaration.Version.{Version}
 use Rattle.ocfl_inventory.specs.declared.declaration.Level.TheVariants as level
 use Rattle.ocfl_inventory.specs.Declaration.{is_known}
 use Rattle.ocfl_audit.specs.Zone.{hierarchy, inside, table_at, zone}
-use Rattle.ocfl_walk.specs.Ways.{Enters, StaysOut, is_extensions_name, IsAt, InHierarchy, IsDeclared, IsObject}
-use Rattle.ocfl_walk.specs.Standing.{IsPart}
-use Rattle.ocfl_walk.specs.Walking.{IsFairFolder}
+use Rattle.ocfl_item.specs.Ways.{Enters, StaysOut, is_extensions_name, IsAt, InHierarchy, IsDeclared, IsObject}
+use Rattle.ocfl_item.specs.Around.{IsPart}
+use Rattle.ocfl_item.specs.Meeting.{IsFairFolder}
 use Rattle.ocfl_walk.specs.Entering.{GoesInto, IsFairWay, IsKept, Leads}
-use Rattle.ocfl_walk.specs.declared.fault.Fault.{Fault}
-use Rattle.ocfl_walk.specs.declared.folder.Folder.{Folder}
-use Rattle.ocfl_walk.specs.declared.stand.Around.{Around}
-use Rattle.ocfl_walk.proofs.LooksCalls.{declared_entered, did_nothing, finds_object, no_known, undeclared_entered}
-use Rattle.ocfl_walk.proofs.LooksZones.{unknown_no_table}
+use Rattle.ocfl_item.specs.declared.fault.Fault.{Fault}
+use Rattle.ocfl_item.specs.declared.folder.Folder.{Folder}
+use Rattle.ocfl_item.specs.declared.meeting.Around.{Around}
+use Rattle.ocfl_item.proofs.LooksCalls.{declared_entered, did_nothing, finds_object, no_known, undeclared_entered}
+use Rattle.ocfl_item.proofs.LooksZones.{unknown_no_table}
 use Rattle.ocfl_walk.proofs.OrderlyLaws.{begins_own}
 use Rattle.ocfl_walk.proofs.DownLaws.{IsFair, leads_by_object, leads_in, leads_listed, leads_shut, shut_extensions, shut_object, shut_unlisted}
 

@@ -8,15 +8,16 @@ use Rattle.ocfl_tree.specs.Store.{Store}
 use Rattle.ocfl_tree.specs.declared.store.Entry.{Entry}
 use Rattle.ocfl_audit.specs.Zone.{inside, table_at, zone}
 use Rattle.ocfl_audit.specs.Walk.{step_listed}
-use Rattle.ocfl_walk.specs.Ways.{Enters, Stops, StaysOut, IsAt}
-use Rattle.ocfl_walk.specs.Standing.{IsAround, IsAroundIf, IsPart}
-use Rattle.ocfl_walk.specs.Walking.{IsFairFolder}
+use Rattle.ocfl_item.specs.Ways.{Enters, Stops, StaysOut, IsAt}
+use Rattle.ocfl_walk.specs.Standing.{IsAround, IsAroundIf}
+use Rattle.ocfl_item.specs.Around.{IsPart}
+use Rattle.ocfl_item.specs.Meeting.{IsFairFolder}
 use Rattle.ocfl_walk.specs.Entering.{IsFairWay, Leads}
-use Rattle.ocfl_walk.specs.declared.fault.Fault.{Fault}
-use Rattle.ocfl_walk.specs.declared.folder.Folder.{Folder}
-use Rattle.ocfl_walk.specs.declared.stand.Around.{Around}
+use Rattle.ocfl_item.specs.declared.fault.Fault.{Fault}
+use Rattle.ocfl_item.specs.declared.folder.Folder.{Folder}
+use Rattle.ocfl_item.specs.declared.meeting.Around.{Around}
 use Rattle.ocfl_audit.proofs.BelowLaws.{begins_front, begins_rest}
-use Rattle.ocfl_walk.proofs.LooksCalls.{did_nothing}
+use Rattle.ocfl_item.proofs.LooksCalls.{did_nothing}
 use Rattle.ocfl_walk.proofs.OrderlyLaws.{begins_on}
 use Rattle.ocfl_walk.proofs.DownLaws.{in_object, leads_in, leads_shut, leads_stop, shut_deep, shut_off}
 

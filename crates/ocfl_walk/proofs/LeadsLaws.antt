@@ -10,8 +10,8 @@ use Rattle.ocfl_tree.specs.declared.store.Entry.{Entry}
 use Rattle.ocfl_inventory.specs.ListedPath.{is_version_name}
 use Rattle.ocfl_audit.specs.Zone.{inside, zone, table_at, is_entered, is_listed_zone, is_listed_in_object, is_listed_within, max_listed_depth}
 use Rattle.ocfl_audit.specs.Walk.{step_listed}
-use Rattle.ocfl_walk.specs.Ways.{IsAt}
-use Rattle.ocfl_walk.specs.declared.stand.Around.{Around}
+use Rattle.ocfl_item.specs.Ways.{IsAt}
+use Rattle.ocfl_item.specs.declared.meeting.Around.{Around}
 use Rattle.ocfl_tree.proofs.Bools.{and_first, and_second}
 use Rattle.ocfl_audit.proofs.AuditExists.{zone_is}
 

@@ -21,7 +21,7 @@ use Rattle.ocfl_walk.specs.Standing.{AreEntries, back, back_onto}
 use Rattle.ocfl_audit.proofs.AuditExists.{some_not_none}
 use Rattle.ocfl_audit.proofs.BelowLaws.{text_cmp_total, text_cmp_exact}
 use Rattle.ocfl_audit.proofs.WayLaws.{entry_named}
-use Rattle.ocfl_walk.proofs.LooksEntries.{name_there}
+use Rattle.ocfl_item.proofs.LooksEntries.{name_there}
 use Rattle.ocfl_audit.proofs.StackLaws.{names_sorted}
 
 abbrev names_of : List Entry → List Text

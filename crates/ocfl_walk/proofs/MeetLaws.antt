@@ -10,12 +10,13 @@ use Rattle.ocfl_audit.specs.Trail.{is_head}
 use Rattle.ocfl_audit.specs.Zone.{skipped, hierarchy, inside, zone, table_at, object_declared}
 use Rattle.ocfl_audit.specs.Walk.{is_extensions, step_zone}
 use Rattle.ocfl_tree.specs.Listing.{IsOrdinary}
-use Rattle.ocfl_walk.specs.declared.folder.Folder.{Folder}
+use Rattle.ocfl_item.specs.declared.folder.Folder.{Folder}
 use Rattle.ocfl_walk.proofs.OrderlyLaws.{begins_own}
-use Rattle.ocfl_walk.specs.Standing.{IsAroundIf, IsMet, IsTableAround, around_of}
-use Rattle.ocfl_walk.specs.Walking.{IsFairFolder, IsTableAt}
-use Rattle.ocfl_walk.specs.declared.stand.Around.{Around}
-use Rattle.ocfl_walk.proofs.LooksZones.{inside_on}
+use Rattle.ocfl_walk.specs.Standing.{IsAroundIf, around_of}
+use Rattle.ocfl_item.specs.Around.{IsMet, IsTableAround}
+use Rattle.ocfl_item.specs.Meeting.{IsFairFolder, IsTableAt}
+use Rattle.ocfl_item.specs.declared.meeting.Around.{Around}
+use Rattle.ocfl_item.proofs.LooksZones.{inside_on}
 use Rattle.ocfl_audit.proofs.StepLaws.{zone_step}
 
 -- below the hierarchy an object begins at its own place

@@ -13,10 +13,10 @@ use Rattle.ocfl_tree.proofs.Orders.{place_cmp_total, true_not_false, not_below_i
 use Rattle.ocfl_inventory.specs.Table.{paths_of}
 use Rattle.ocfl_inventory.specs.NextPath as table
 use Rattle.ocfl_walk.specs.Standing.{IsAroundIf, IsBelowNext, IsChain, IsOrderly, Pile, frames_of, next_of, path_from, paths_above, size_of, trimmed, trimmed_from}
-use Rattle.ocfl_walk.specs.declared.stand.Around.{Around}
+use Rattle.ocfl_item.specs.declared.meeting.Around.{Around}
 use Rattle.ocfl_audit.proofs.BelowLaws.{begins_front, begins_rest, cmp_behind, less_from, text_cmp_total, text_cmp_exact}
 use Rattle.ocfl_walk.proofs.OrderlyLaws.{before_names}
-use Rattle.ocfl_walk.proofs.TurnLaws.{drop_front}
+use Rattle.std.proofs.Math.Seq.{drop-append_seam}
 
 -- what was found passes the test, and is one of the list
 found : (test : Place → Bool) (ps : List Place) (q : Place) → find test ps ≡ Some q → (test q ≡ true) × IsAmong ps q
@@ -40,7 +40,7 @@ onward last b a h e = by (table.next_path a.table (Some (drop (length a.place) l
     rest = begins_rest a.place last h
 
     inner : drop (length a.place) last ≡ rest.0
-    inner = ap (drop (length a.place)) rest.1 ∙ drop_front a.place rest.0
+    inner = ap (drop (length a.place)) rest.1 ∙ drop-append_seam a.place rest.0
 
     by : (o : Option Place) → table.next_path a.table (Some (drop (length a.place) last)) ≡ o → option_map (λ q. a.place ++ q) o ≡ Some b → IsOnward last b a
     by None f g = absurd cc

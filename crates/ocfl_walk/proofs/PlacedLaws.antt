@@ -10,8 +10,8 @@ use Rattle.ocfl_tree.specs.declared.store.Entry.{Entry}
 use Rattle.ocfl_audit.specs.Stack.{Frame}
 use Rattle.ocfl_audit.proofs.BelowLaws.{begins_front, begins_rest}
 use Rattle.ocfl_walk.specs.Standing.{IsChain, back, IsFairPile, IsOrderly, IsOrderlyIf, IsTaken, Pile, folders_from, frames_of, next_of, pile_of, piles_at, piles_of, pushed, spot_of, trimmed}
-use Rattle.ocfl_walk.specs.declared.stand.Around.{Around}
-use Rattle.ocfl_walk.specs.declared.folder.Folder.{Folder}
+use Rattle.ocfl_item.specs.declared.meeting.Around.{Around}
+use Rattle.ocfl_item.specs.declared.folder.Folder.{Folder}
 use Rattle.ocfl_walk.proofs.Backs.{next_of_last, piles_push, taken_at, trim_drops_by, trim_keeps_by}
 use Rattle.ocfl_walk.proofs.OrderlyLaws.{back_count, chain_short, frames_count, length_one}
 

@@ -10,9 +10,9 @@ use Rattle.ocfl_inventory.specs.Table.{Triple, paths_of}
 use Rattle.ocfl_walk.specs.Standing.{IsAroundIf, IsFairPile, IsOrderly, IsTaken, Pile, entry_weight, frames_of, left_of_folder, paths_above, piles_in, pushed, size_of, stand_size, weigh}
 use Rattle.ocfl_audit.specs.Between.{IsBeyond}
 use Rattle.ocfl_walk.specs.Walking.{GoesOn, step_from}
-use Rattle.ocfl_walk.specs.declared.folder.Folder.{Folder}
-use Rattle.ocfl_walk.specs.declared.pending.Pending.{Pending}
-use Rattle.ocfl_walk.specs.declared.stand.Around.{Around}
+use Rattle.ocfl_item.specs.declared.folder.Folder.{Folder}
+use Rattle.ocfl_item.specs.declared.pending.Pending.{Pending}
+use Rattle.ocfl_item.specs.declared.meeting.Around.{Around}
 use Rattle.ocfl_walk.specs.declared.stand.Stand.{Stand}
 use Rattle.ocfl_walk.proofs.OrderlyLaws.{chain_short, frames_count, old_chain}
 

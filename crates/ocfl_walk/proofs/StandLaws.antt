@@ -13,19 +13,20 @@ use Rattle.ocfl_tree.proofs.Orders.{place_cmp_total, not_both_below}
 use Rattle.ocfl_audit.specs.Zone.{inside, zone}
 use Rattle.ocfl_audit.specs.Walk.{seen_names}
 use Rattle.ocfl_audit.specs.Stack.{Frame, IsStack, IsListed}
-use Rattle.ocfl_walk.specs.Standing.{StandsAt, stand_size, AreEntries, HaveEntries, IsStanding, IsTableAround, IsTaken, IsTurn, Pile, frames_of, left_names, left_of_folder, path_from, popped, pushed}
+use Rattle.ocfl_walk.specs.Standing.{StandsAt, stand_size, AreEntries, HaveEntries, IsStanding, IsTaken, IsTurn, Pile, frames_of, left_names, left_of_folder, path_from, popped, pushed}
+use Rattle.ocfl_item.specs.Around.{IsTableAround}
 use Rattle.ocfl_walk.specs.Walking.{GoesOn, NextGoesOn, NextTold, Onward, SoFar, Steps, IsPileAt}
-use Rattle.ocfl_walk.specs.declared.fault.Fault.{Fault}
-use Rattle.ocfl_walk.specs.declared.folder.Folder.{Folder}
-use Rattle.ocfl_walk.specs.declared.stand.Around.{Around}
+use Rattle.ocfl_item.specs.declared.fault.Fault.{Fault}
+use Rattle.ocfl_item.specs.declared.folder.Folder.{Folder}
+use Rattle.ocfl_item.specs.declared.meeting.Around.{Around}
 use Rattle.ocfl_audit.specs.Due.{due}
-use Rattle.ocfl_walk.specs.declared.pending.Pending.{Pending}
+use Rattle.ocfl_item.specs.declared.pending.Pending.{Pending}
 use Rattle.ocfl_walk.specs.declared.stand.Stand.{Stand}
 use Rattle.ocfl_walk.specs.declared.stand.Step.TheVariants as step
-use Rattle.ocfl_walk.proofs.LooksZones.{inside_on}
+use Rattle.ocfl_item.proofs.LooksZones.{inside_on}
 use Rattle.ocfl_audit.specs.Between.{IsBeyond}
-use Rattle.ocfl_walk.specs.Auditing.{Walks, WalkFails}
-use Rattle.ocfl_walk.proofs.AuditingLaws.{walks_fail, walks_on, walks_over}
+use Rattle.ocfl_walk.specs.WalkCalls.{Walks, WalkFails}
+use Rattle.ocfl_walk.proofs.WalkCallLaws.{walks_fail, walks_on, walks_over}
 use Rattle.ocfl_audit.proofs.WayLaws.{is_closed, zone_part}
 
 -- ---- places, one after the other

@@ -12,20 +12,21 @@ use Rattle.ocfl_audit.specs.Due.{due}
 use Rattle.ocfl_audit.specs.Walk.{seen_names}
 use Rattle.ocfl_audit.specs.Stack.{IsStack, seen_left, seen_places}
 use Rattle.ocfl_walk.specs.Standing.{AreEntries, IsFairPile, IsOrderly, IsOrderlyIf, IsStanding, Pile, StandsAt, entry_weight, left_names, left_of_folder, piles_at, piles_in, pushed, size_of, stand_size, weigh}
-use Rattle.ocfl_walk.specs.Walking.{IsItemAt, IsPileAt, Meets, Steps, step_from}
-use Rattle.ocfl_walk.specs.declared.folder.Folder.{Folder}
-use Rattle.ocfl_walk.specs.declared.pending.Pending.{Pending}
-use Rattle.ocfl_walk.specs.declared.stand.Around.{Around}
+use Rattle.ocfl_item.specs.Meeting.{IsItemAt, Meets}
+use Rattle.ocfl_walk.specs.Walking.{IsPileAt, Steps, step_from}
+use Rattle.ocfl_item.specs.declared.folder.Folder.{Folder}
+use Rattle.ocfl_item.specs.declared.pending.Pending.{Pending}
+use Rattle.ocfl_item.specs.declared.meeting.Around.{Around}
 use Rattle.ocfl_walk.specs.declared.stand.Stand.{Stand}
-use Rattle.ocfl_walk.proofs.BaseLaws.{root_some}
+use Rattle.ocfl_item.proofs.BaseLaws.{root_some}
 use Rattle.ocfl_walk.proofs.DueTurns.{due_first}
-use Rattle.ocfl_walk.proofs.HeadCalls.{inside_not_root}
+use Rattle.ocfl_item.proofs.HeadCalls.{inside_not_root}
 use Rattle.ocfl_walk.proofs.PlacedLaws.{piles_count}
 use Rattle.ocfl_walk.proofs.SizeLaws.{mul_room}
 use Rattle.ocfl_audit.proofs.StackLaws.{stack_starts}
 use Rattle.ocfl_audit.specs.Head.{on}
 use Rattle.ocfl_audit.proofs.BetweenLaws.{looked_first, read_first, root_unread}
-use Rattle.ocfl_walk.proofs.AuditingLaws.{IsNear, meets_walks}
+use Rattle.ocfl_walk.proofs.WalkCallLaws.{IsNear, meets_walks}
 use Rattle.ocfl_audit.proofs.WayLaws.{is_closed}
 
 pub not_begun : (l : Option Place) (ps : List Pile) (a : Option Around) → IsOrderlyIf l ps a → l ≡ None → (ps ≡ []) × (a ≡ None)

@@ -4,6 +4,7 @@ use Rattle.std.specs.Prelude.{cond, option_map, find}
 use Rattle.std.specs.Ordering.{is_lt, match_ordering}
 use Rattle.std.specs.declared.cmp.Ordering.{Ordering}
 use Rattle.std.specs.declared.cmp.Ordering.TheVariants.{Less, Equal, Greater}
+use Rattle.std.proofs.Math.Seq.{drop-append_seam}
 use Rattle.ocfl_tree.specs.Place.{Place, place_cmp}
 use Rattle.ocfl_tree.specs.Ascending.{ascending, insert_once, IsAscending}
 use Rattle.ocfl_tree.specs.Tree.{Tree}
@@ -14,8 +15,9 @@ use Rattle.ocfl_inventory.specs.NextPath as table
 use Rattle.ocfl_audit.specs.Zone.{Zone, skipped, hierarchy, inside, zone, table_at}
 use Rattle.ocfl_audit.specs.Walk.{IsClosed, seen_names}
 use Rattle.ocfl_audit.specs.Stack.{IsListed, seen_places, seen_left, next_entry, next_path, next_path_in, next_path_of, next_place, lesser, least_path, first_of_list}
-use Rattle.ocfl_walk.specs.Standing.{Pile, frames_of, trimmed, trimmed_from, next_of, path_from, turn_of, place_by, IsStanding, IsTableAround, IsFitIf, AreEntries, HaveEntries}
-use Rattle.ocfl_walk.specs.declared.stand.Around.{Around}
+use Rattle.ocfl_walk.specs.Standing.{Pile, frames_of, trimmed, trimmed_from, next_of, path_from, turn_of, place_by, IsStanding, IsFitIf, AreEntries, HaveEntries}
+use Rattle.ocfl_item.specs.Around.{IsTableAround}
+use Rattle.ocfl_item.specs.declared.meeting.Around.{Around}
 use Rattle.ocfl_walk.specs.declared.stand.Turn.TheVariants as turn
 use Rattle.ocfl_audit.proofs.AuditExists.{zone_is}
 use Rattle.ocfl_audit.proofs.BelowLaws.{above}
@@ -87,10 +89,6 @@ least_first s (p ∷ q ∷ ps) h = let k = ascending_from q ps h.1 in by k.0 k.1
         twice false xs = refl
     by rest e Greater f n ih = absurd (n refl)
 
-pub drop_front : (o s : Place) → drop (length o) (o ++ s) ≡ s
-drop_front [] s = refl
-drop_front (n ∷ o) s = drop_front o s
-
 next_same : (t : Table) (s : Place) → IsAscending triple_cmp t.triples → least_path s (paths_of t) ≡ table.next_path t (Some s)
 next_same t s h = least_first s (paths_of t) (rises_triples t.triples h) ∙ sym (find_first (above s) (paths_of t))
 
@@ -109,7 +107,7 @@ path_same root last (Some a) h fit =
     let whole : last ≡ a.place ++ h.0 = (zone_is root last a.place h.0 h.1).whole in
     ap (next_path_in root) h.1
     ∙ ap (next_path_of a.place h.0) h.2
-    ∙ ap (option_map (λ q. a.place ++ q)) (next_same a.table h.0 fit.ascends ∙ ap (λ s. table.next_path a.table (Some s)) (sym (ap (drop (length a.place)) whole ∙ drop_front a.place h.0)))
+    ∙ ap (option_map (λ q. a.place ++ q)) (next_same a.table h.0 fit.ascends ∙ ap (λ s. table.next_path a.table (Some s)) (sym (ap (drop (length a.place)) whole ∙ drop-append_seam a.place h.0)))
 
 -- ---- listings of which nothing is left
 

@@ -7,7 +7,7 @@ use Rattle.ocfl_tree.specs.Tree.{Tree}
 use Rattle.ocfl_walk.specs.Entering.{Descends}
 use Rattle.ocfl_walk.specs.Walking.{NextGoesOn}
 use Rattle.ocfl_walk.specs.Walks.{GoesOn, OpensInventories, walk_size}
-use Rattle.ocfl_walk.specs.declared.pending.Pending.{Pending}
+use Rattle.ocfl_item.specs.declared.pending.Pending.{Pending}
 use Rattle.ocfl_walk.specs.declared.walk.Walk.{Walk}
 
 pub goes_by : (old new : Walk) (o : Option Pending) → NextGoesOn old.stand new.stand o → GoesOn old new o

@@ -10,20 +10,22 @@ use Rattle.ocfl_tree.specs.declared.store.Opening.{Opening}
 use Rattle.ocfl_audit.specs.Zone.{Zone, zone, table_at}
 use Rattle.ocfl_audit.specs.Lines.{is_hashed}
 use Rattle.ocfl_audit.specs.Trail.{content_trail}
-use Rattle.ocfl_walk.specs.Looking.{way_to, IsFront, failures_by}
-use Rattle.ocfl_walk.specs.Auditing.{FailedAt, holder_of}
-use Rattle.ocfl_walk.specs.Ways.{way_below, AreInventories, IsAt}
+use Rattle.ocfl_item.specs.Looking.{way_to, IsFront, failures_by}
+use Rattle.ocfl_item.specs.Auditing.{FailedAt}
+use Rattle.ocfl_walk.specs.WalkCalls.{holder_of}
+use Rattle.ocfl_item.specs.Ways.{way_below, AreInventories, IsAt}
 use Rattle.ocfl_audit.specs.Walk.{is_reached}
 use Rattle.ocfl_audit.specs.Stack.{seen_places, seen_left, listed_at, IsListed}
 use Rattle.ocfl_inventory.specs.Table.{IsFit}
-use Rattle.ocfl_walk.specs.Standing.{Pile, frames_of, IsChain, IsAroundIf, HaveEntries, IsTableAround, IsPart}
+use Rattle.ocfl_walk.specs.Standing.{Pile, frames_of, IsChain, IsAroundIf, HaveEntries}
+use Rattle.ocfl_item.specs.Around.{IsTableAround, IsPart}
 use Rattle.ocfl_audit.specs.Trail.{heads_of}
-use Rattle.ocfl_walk.specs.Walking.{IsFairFolder}
-use Rattle.ocfl_walk.specs.Auditing.{holder_of}
-use Rattle.ocfl_walk.specs.declared.fault.Fault.{Fault}
-use Rattle.ocfl_walk.specs.declared.fault.Fault.TheVariants as fault
-use Rattle.ocfl_walk.specs.declared.folder.Folder.{Folder}
-use Rattle.ocfl_walk.specs.declared.stand.Around.{Around}
+use Rattle.ocfl_item.specs.Meeting.{IsFairFolder}
+use Rattle.ocfl_walk.specs.WalkCalls.{holder_of}
+use Rattle.ocfl_item.specs.declared.fault.Fault.{Fault}
+use Rattle.ocfl_item.specs.declared.fault.Fault.TheVariants as fault
+use Rattle.ocfl_item.specs.declared.folder.Folder.{Folder}
+use Rattle.ocfl_item.specs.declared.meeting.Around.{Around}
 
 -- ---- what was done
 

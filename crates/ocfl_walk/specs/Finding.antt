@@ -6,12 +6,12 @@ use Rattle.ocfl_tree.specs.Store.{Store, Did}
 use Rattle.ocfl_tree.specs.declared.store.Opening.{Opening}
 use Rattle.ocfl_audit.specs.Lines.{is_hashed}
 use Rattle.ocfl_audit.specs.Trail.{content_trail, heads_of}
-use Rattle.ocfl_walk.specs.Looking.{IsFront, failures_by}
-use Rattle.ocfl_walk.specs.Auditing.{FailedAt}
-use Rattle.ocfl_walk.specs.Walking.{IsItemAt}
-use Rattle.ocfl_walk.specs.declared.fault.Fault.{Fault}
-use Rattle.ocfl_walk.specs.declared.fault.Fault.TheVariants as fault
-use Rattle.ocfl_walk.specs.declared.pending.Pending.{Pending}
+use Rattle.ocfl_item.specs.Looking.{IsFront, failures_by}
+use Rattle.ocfl_item.specs.Auditing.{FailedAt}
+use Rattle.ocfl_item.specs.Meeting.{IsItemAt}
+use Rattle.ocfl_item.specs.declared.fault.Fault.{Fault}
+use Rattle.ocfl_item.specs.declared.fault.Fault.TheVariants as fault
+use Rattle.ocfl_item.specs.declared.pending.Pending.{Pending}
 
 -- from s to t the first directories of a way were listed, in order, and metadata was read, each file once, of inventories the first of those that may be; where none may be, nothing was read
 pub record Finds (root : Tree) (s t : Store) (way may : List Place) (failures : ℕ) : Type 0 where

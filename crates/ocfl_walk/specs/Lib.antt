@@ -1,15 +1,7 @@
-pub mod Looking
-pub mod Auditing
-pub mod Ways
-pub mod HeadFiles
-pub mod HeadLines
-pub mod Judging
-pub mod Pending
-pub mod FileLines
+pub mod WalkCalls
 pub mod Standing
 pub mod Orderly
 pub mod Walking
-pub mod Visiting
 pub mod Entering
 pub mod Walks
 pub mod Finding

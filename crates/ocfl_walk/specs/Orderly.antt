@@ -8,7 +8,7 @@ use Rattle.ocfl_inventory.specs.Table.{Table, paths_of, triple_cmp}
 use Rattle.ocfl_audit.specs.Lines.{is_empty}
 use Rattle.ocfl_audit.specs.Stack.{Frame}
 use Rattle.ocfl_walk.specs.Standing.{Pile, frames_of, piles_in}
-use Rattle.ocfl_walk.specs.declared.stand.Around.{Around}
+use Rattle.ocfl_item.specs.declared.meeting.Around.{Around}
 use Rattle.ocfl_walk.specs.declared.stand.Stand.{Stand}
 
 abbrev pub is_before_all : {A : Type 0} → (A → A → Ordering) → A → List A → Bool

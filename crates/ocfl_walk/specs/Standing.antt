@@ -10,16 +10,17 @@ use Rattle.ocfl_tree.specs.Tree.{Tree}
 use Rattle.ocfl_tree.specs.Listing.{kind_at}
 use Rattle.ocfl_tree.specs.declared.store.Entry.{Entry}
 use Rattle.ocfl_inventory.specs.Table.{IsFit, Table, paths_of}
-use Rattle.ocfl_audit.specs.Zone.{hierarchy, inside, zone, table_at, seen}
+use Rattle.ocfl_audit.specs.Zone.{seen}
 use Rattle.ocfl_audit.specs.Lines.{notes}
 use Rattle.ocfl_audit.specs.Due.{due}
 use Rattle.ocfl_inventory.specs.NextPath.{next_path}
-use Rattle.ocfl_audit.specs.Walk.{is_reached, seen_names}
+use Rattle.ocfl_audit.specs.Walk.{seen_names}
 use Rattle.ocfl_audit.specs.Stack.{NoneSeenBetween, NoneSeenAbove, Frame, IsStack, IsListed}
+use Rattle.ocfl_item.specs.Around.{IsTableAround}
 use Rattle.ocfl_walk.specs.declared.stand.Turn.{Turn}
 use Rattle.ocfl_walk.specs.declared.stand.Turn.TheVariants as turn
-use Rattle.ocfl_walk.specs.declared.folder.Folder.{Folder}
-use Rattle.ocfl_walk.specs.declared.stand.Around.{Around}
+use Rattle.ocfl_item.specs.declared.folder.Folder.{Folder}
+use Rattle.ocfl_item.specs.declared.meeting.Around.{Around}
 use Rattle.ocfl_walk.specs.declared.stand.Stand.{Stand}
 
 -- ---- what is kept: the next entry stands last in a listing, the deepest listing last
@@ -139,21 +140,11 @@ AreEntries root d es = AllByRecursion (λ e. kind_at root d e.name ≡ Some e.ki
 abbrev pub HaveEntries : Tree → List Pile → Type 0
 HaveEntries root ps = AllByRecursion (λ p. AreEntries root p.0 p.1) ps
 
--- the table of the object that holds a place, if there is one
-abbrev pub IsTableAround : Tree → Place → Option Around → Type 0
-IsTableAround root p None = (o s : Place) → zone root p ≡ inside o s → table_at root o ≡ None
-IsTableAround root p (Some a) = (s : Place) × (zone root p ≡ inside a.place s) × (table_at root a.place ≡ Some a.table)
-
 pub record IsStanding (root : Tree) (last : Place) (ps : List Pile) (around : Option Around) : Type 0 where
   pub stack : IsStack root last (frames_of ps)
   pub listed : IsListed root (frames_of ps)
   pub entries : HaveEntries root ps
   pub table : IsTableAround root last around
-
--- which part of the root a directory that is entered lies in
-abbrev pub IsPart : Tree → Place → Option Around → Type 0
-IsPart root d None = zone root d ≡ hierarchy
-IsPart root d (Some a) = (s : Place) × (zone root d ≡ inside a.place s) × (table_at root a.place ≡ Some a.table)
 
 -- the walk stands over this tree, with this last place
 abbrev pub StandsAt : Tree → Stand → Option Place → Type 0
@@ -190,13 +181,6 @@ pub record IsTaken (old new : List Pile) (entry : Entry) : Type 0 where
   pub others : List Pile
   pub old_is : old ≡ (place, entry ∷ rest) ∷ others
   pub new_is : new ≡ (place, rest) ∷ others
-
--- an entry that is next, and the part of the root that its directory lies in
-pub record IsMet (root : Tree) (d : Place) (around : Option Around) (entry : Entry) (e : Place) : Type 0 where
-  pub is : e ≡ d ++ entry.name ∷ []
-  pub reached : is_reached root d ≡ true
-  pub part : IsPart root d around
-  pub kind : kind_at root d entry.name ≡ Some entry.kind
 
 -- the stack behind the first entry
 abbrev pub popped_from : Place → List Entry → List Pile → List Frame

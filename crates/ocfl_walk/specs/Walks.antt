@@ -5,12 +5,12 @@ use Rattle.ocfl_tree.specs.Tree.{Tree}
 use Rattle.ocfl_tree.specs.Store.{Store}
 use Rattle.ocfl_tree.specs.declared.store.Opening.{Opening}
 use Rattle.ocfl_audit.specs.Due.{due}
-use Rattle.ocfl_walk.specs.Auditing.{Walks}
-use Rattle.ocfl_walk.specs.Ways.{AreInventories}
-use Rattle.ocfl_walk.specs.Pending.{IsPending}
+use Rattle.ocfl_walk.specs.WalkCalls.{Walks}
+use Rattle.ocfl_item.specs.Ways.{AreInventories}
+use Rattle.ocfl_item.specs.Pending.{IsPending}
 use Rattle.ocfl_audit.specs.Between.{IsBeyond}
 use Rattle.ocfl_walk.specs.Standing.{StandsAt, stand_size}
-use Rattle.ocfl_walk.specs.declared.pending.Pending.{Pending}
+use Rattle.ocfl_item.specs.declared.pending.Pending.{Pending}
 use Rattle.ocfl_walk.specs.declared.walk.Walk.{Walk}
 
 -- it has not failed

@@ -1,27 +1,28 @@
 //! Where a walk begins: the listings on the way to a place, of each what lies above that place.
-ghost use Rattle.std.specs.Prelude.{◌≡◌, ◌≤◌, ◌∷◌, ◌++◌, ◌&&◌, [], length, true, false, None, Some};
+ghost use Rattle.std.specs.Prelude.{◌≡◌, ◌≤◌, ◌∷◌, ◌++◌, [], length, true, None, Some};
 ghost use Rattle.std.specs.Prelude.{IsTrue, IfOk, IfErr, IfSome, MatchOption, MatchResult};
 ghost use Rattle.ocfl_tree.specs.Tree.{Tree as Root};
 ghost use Rattle.ocfl_tree.specs.Place.{Place as Spot};
 ghost use Rattle.ocfl_tree.specs.Listing.{IsListing};
 ghost use Rattle.ocfl_walk.specs.Entering.{Descends, DescendFails, GoesInto, IsBrought, IsComing};
 ghost use Rattle.ocfl_walk.specs.Entering.{IsFairWay, IsKept, Leads, Starts, StartFails, may_open};
-ghost use Rattle.ocfl_walk.specs.Standing.{IsAroundIf, IsOrderly, IsOrderlyStand, IsPart};
-ghost use Rattle.ocfl_walk.specs.Standing.{IsTableAround, StandsAt, piles_in};
+ghost use Rattle.ocfl_walk.specs.Standing.{IsAroundIf, IsOrderly, IsOrderlyStand};
+ghost use Rattle.ocfl_item.specs.Around.{IsPart};
+ghost use Rattle.ocfl_walk.specs.Standing.{StandsAt, piles_in};
 ghost use Rattle.ocfl_audit.specs.Walk.{step_listed};
-ghost use Rattle.ocfl_walk.specs.Walking.{IsFairFolder};
-ghost use Rattle.ocfl_walk.specs.Ways.{Enters, IsAt, IsObject, IsWayFault, StaysOut, Stops};
-ghost use Rattle.ocfl_walk.specs.Ways.{way_below};
+ghost use Rattle.ocfl_item.specs.Meeting.{IsFairFolder};
+ghost use Rattle.ocfl_item.specs.Ways.{Enters, IsAt, IsObject, IsWayFault, StaysOut, Stops};
+ghost use Rattle.ocfl_item.specs.Ways.{way_below};
 ghost use Rattle.ocfl_audit.specs.Zone.{inside, table_at, zone};
 
-use crate::fault::Fault;
-use crate::folder::{Folder, Head, can_enter, head_of, is_extensions, list};
 use crate::listing::{keep_above, sorted};
-use crate::object::table_of_object;
-use crate::stand::{Around, Stand};
+use crate::stand::Stand;
 use arrayvec::ArrayVec;
 use ocfl_inventory::declaration::declaration;
 use ocfl_inventory::{Declared, Level, is_version_name};
+use ocfl_item::{
+    Around, Fault, Folder, Head, can_enter, head_of, is_extensions, list, table_of_object,
+};
 use ocfl_tree::{Name, Place, Tree, is_text};
 use std::alloc::Global;
 

@@ -5,14 +5,12 @@ ghost use Rattle.ocfl_tree.specs.Listing.{kind_in};
 ghost use Rattle.ocfl_audit.specs.Zone.{zone};
 ghost use Rattle.ocfl_walk.specs.Entering.{may_open};
 ghost use Rattle.ocfl_walk.specs.Finding.{FindsItem};
-ghost use Rattle.ocfl_walk.specs.Standing.{IsAroundIf, IsPart};
-ghost use Rattle.ocfl_walk.specs.Ways.{IsAt, IsWayFault, way_below};
+ghost use Rattle.ocfl_walk.specs.Standing.{IsAroundIf};
+ghost use Rattle.ocfl_item.specs.Around.{IsPart};
+ghost use Rattle.ocfl_item.specs.Ways.{IsAt, IsWayFault, way_below};
 
 use crate::entry::down;
-use crate::fault::Fault;
-use crate::folder::Folder;
-use crate::pending::Pending;
-use crate::stand::{Around, visit, visit_path};
+use ocfl_item::{Around, Fault, Folder, Pending, visit_entry, visit_path};
 use ocfl_tree::{Entry, Name, Place, Tree, is_text};
 use std::alloc::Global;
 
@@ -47,7 +45,7 @@ fn item_in<T: Tree>(
         (may_open around.now (zone root place.now)) place.now result }
 {
     match entry_named(&folder.entries, name) {
-        Some(entry) => Ok(visit(alloc, store, around, place.try_clone()?, entry)?.item),
+        Some(entry) => Ok(visit_entry(alloc, store, around, place.try_clone()?, entry)?.item),
         None => visit_path(alloc, around, place),
     }
 }

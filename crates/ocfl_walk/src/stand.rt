@@ -1,45 +1,31 @@
 //! Where a walk stands, and its steps.
-ghost use Rattle.std.specs.Prelude.{◌≡◌, ◌≢◌, ◌<◌, ◌++◌, ◌∷◌, [], true, false, Option, Some, None};
-ghost use Rattle.std.specs.Prelude.{IsTrue, IfOk, IfErr, IfSome, OnOk, OnErr, MatchOption};
+ghost use Rattle.std.specs.Prelude.{◌≡◌, ◌≢◌, ◌<◌, ◌∷◌, [], Option, Some, None};
+ghost use Rattle.std.specs.Prelude.{IsTrue, IfOk, IfErr, IfSome, MatchOption};
 ghost use Rattle.std.specs.Prelude.{MatchResult, length};
-ghost use Rattle.std.specs.declared.cmp.Ordering.TheVariants.{Less};
-ghost use Rattle.ocfl_tree.specs.Place.{Place as Spot, place_cmp};
+ghost use Rattle.ocfl_tree.specs.Place.{Place as Spot};
 ghost use Rattle.ocfl_tree.specs.Tree.{Tree as Root};
-ghost use Rattle.ocfl_walk.specs.Ways.{IsWayFault};
+ghost use Rattle.ocfl_item.specs.Ways.{IsWayFault};
 ghost use Rattle.arrayvec.specs.ArrayVec.{array_vec_len};
 ghost use Rattle.ocfl_tree.specs.Store.{Store};
 ghost use Rattle.ocfl_audit.specs.Walk.{seen_names};
 ghost use Rattle.ocfl_walk.specs.Standing.{IsBelowNext, IsStanding, IsTurn, frames_of, popped};
-ghost use Rattle.ocfl_walk.specs.Standing.{pushed, IsAroundIf, IsMet, IsOrderlyStand};
-ghost use Rattle.ocfl_walk.specs.Standing.{IsTableAround, IsTaken, StandsAt, next_of, path_from};
+ghost use Rattle.ocfl_walk.specs.Standing.{pushed, IsAroundIf, IsOrderlyStand};
+ghost use Rattle.ocfl_item.specs.Around.{IsMet};
+ghost use Rattle.ocfl_walk.specs.Standing.{IsTaken, StandsAt, next_of, path_from};
 ghost use Rattle.ocfl_walk.specs.Standing.{piles_at, piles_in, still, trimmed, turn_of, around_of};
 ghost use Rattle.ocfl_audit.specs.Zone.{seen};
-ghost use Rattle.ocfl_walk.specs.Walking.{IsItemAt, step_from, GoesOn, IsFairMet, IsFairVisit};
-ghost use Rattle.ocfl_walk.specs.Walking.{IsMeeting, IsVisit, MeetFails, Meets, NextGoesOn};
-ghost use Rattle.ocfl_walk.specs.Walking.{NextTold, Steps, Visits};
-ghost use Rattle.ocfl_walk.specs.Auditing.{WalkFails};
+ghost use Rattle.ocfl_walk.specs.Walking.{step_from, GoesOn, IsFairMet};
+ghost use Rattle.ocfl_walk.specs.Walking.{IsMeeting, NextGoesOn};
+ghost use Rattle.ocfl_item.specs.Meeting.{MeetFails, Meets};
+ghost use Rattle.ocfl_walk.specs.Walking.{NextTold, Steps};
+ghost use Rattle.ocfl_walk.specs.WalkCalls.{WalkFails};
 
-use crate::base::visit_base;
-use crate::content::content_item;
-use crate::fault::Fault;
-use crate::folder::Folder;
 use crate::listing::sorted_if;
-use crate::pending::Pending;
-use crate::sight::Sight;
-use crate::visit::{
-    Visit, visit_in_content, visit_in_hierarchy, visit_in_object, visit_in_version,
-};
 use arrayvec::ArrayVec;
 use ocfl_inventory::Table;
+use ocfl_item::{Around, Fault, Folder, Pending, Visit, visit_base, visit_entry, visit_path};
 use ocfl_tree::{Entry, Place, Tree};
 use std::alloc::{AllocError, Global};
-
-/// The object that the last place lies in, where its head does not stop.
-#[derive(Debug, Drop)]
-pub(crate) struct Around {
-    pub(crate) place: Place,
-    pub(crate) table: Table,
-}
 
 /// The listings on the way to a place, of each what is left, the next entry last: the listing at an
 /// index is that of so many names of the place.
@@ -178,35 +164,6 @@ fn take_entry(listings: &mut Listings) -> Option<Entry>
     entry
 }
 
-/// What is met at an entry, by the part of the storage root that it lies in.
-pub(crate) fn visit<T: Tree>(
-    alloc: Global,
-    store: &mut T,
-    around: &Option<Around>,
-    place: Place,
-    entry: &Entry,
-) -> Result<Visit, Fault>
-    ensures only { IfErr result (λ why. IsWayFault why) }
-    ensures fair { IfOk result (λ v. IsFairVisit place v) }
-    ensures told { IsTrue T.told → (root : Root) → (T.state store.old).tree ≡ root
-        → (d : Spot) → IsMet root d around.now entry.now place
-        → Visits root (T.state store.old) (T.state store.new) place result }
-{
-    let Some(around) = around else {
-        return visit_in_hierarchy(alloc, store, place, entry);
-    };
-    let depth = around.place.depth();
-    match place.depth().saturating_sub(depth) {
-        1 => visit_in_object(alloc, store, place, entry),
-        2 => visit_in_version(alloc, store, &around.table, place, entry),
-        _ => {
-            let inner = place.behind(depth)?;
-            let named = around.table.named(alloc, &inner)?;
-            visit_in_content(alloc, store, place, entry, named)
-        }
-    }
-}
-
 /// The object, where the place lies in it.
 fn still_around(around: Option<Around>, place: &Place) -> Option<Around>
     ensures { result ≡ still around place.now }
@@ -255,7 +212,7 @@ fn meet<T: Tree>(
         item,
         folder,
         table,
-    } = visit(alloc, store, &around, place.try_clone()?, entry)?;
+    } = visit_entry(alloc, store, &around, place.try_clone()?, entry)?;
     let around = around_at(around, place, table)?;
     let folder = sorted_if(folder);
     Ok(Met {
@@ -263,29 +220,6 @@ fn meet<T: Tree>(
         folder,
         around,
     })
-}
-
-/// What is met at a place that is not seen: only a path of the table has lines there.
-pub(crate) fn visit_path(
-    alloc: Global,
-    around: &Option<Around>,
-    place: &Place,
-) -> Result<Option<Pending>, Fault>
-    ensures only { IfErr result (λ why. why ≡ Fault.Memory) }
-    ensures fair { IfOk result (λ o. IfSome o (λ p. p.place ≡ place.now)) }
-    ensures told { (root : Root) → IsTableAround root place.now around.now
-        → seen root place.now ≡ None
-        → IfOk result (λ o. IsItemAt root place.now o) }
-{
-    let Some(around) = around else {
-        return Ok(None);
-    };
-    let inner = place.behind(around.place.depth())?;
-    let named = around.table.named(alloc, &inner)?;
-    if named.is_empty() {
-        return Ok(None);
-    }
-    Ok(content_item(alloc, place, named, Sight::Nothing)?)
 }
 
 fn step_of(item: Option<Pending>) -> Step

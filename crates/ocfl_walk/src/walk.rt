@@ -3,15 +3,14 @@ ghost use Rattle.std.specs.Prelude.{◌≡◌, Option, option_map, true, None, S
 ghost use Rattle.std.specs.Prelude.{Err, MatchResult};
 ghost use Rattle.ocfl_tree.specs.Place.{Place as Spot};
 ghost use Rattle.ocfl_tree.specs.Tree.{Tree as Root};
-ghost use Rattle.ocfl_walk.specs.Auditing.{GoDownFails, GoesDown, WalkFails};
+ghost use Rattle.ocfl_walk.specs.WalkCalls.{GoDownFails, GoesDown, WalkFails};
 ghost use Rattle.ocfl_walk.specs.Orderly.{is_orderly};
-ghost use Rattle.ocfl_walk.specs.Ways.{IsWayFault};
+ghost use Rattle.ocfl_item.specs.Ways.{IsWayFault};
 
 use crate::entry::stand_at;
-use crate::fault::Fault;
-use crate::pending::Pending;
 use crate::stand::Stand;
 use arrayvec::ArrayVec;
+use ocfl_item::{Fault, Pending};
 use ocfl_tree::{Place, Tree};
 use std::alloc::Global;
 

@@ -1,7 +1,7 @@
 use Rattle.std.proofs.Common.{◌≡◌, None, false}
 use Rattle.std.specs.Prelude.{IsTrue}
 use Rattle.ocfl_tree.specs.Tree.{Tree as Root}
-use Rattle.ocfl_walk.specs.Judging.{HasShortFiles}
+use Rattle.ocfl_item.specs.Judging.{HasShortFiles}
 use Rattle.ocfl_walk.specs.Walks.{IsLive, Stands, last_of, walk_size}
 use Rattle.ocfl_scrub.specs.Taking.{WritesLines}
 use Rattle.ocfl_scrub.specs.Passing.{Passes}

@@ -2,7 +2,7 @@ use Rattle.std.proofs.Common.{◌≡◌, ◌≢◌, drop, map, false}
 use Rattle.std.specs.Prelude.{IsTrue}
 use Rattle.ocfl_cursor.specs.Cursor.{ended, new_cursor}
 use Rattle.ocfl_tree.specs.Tree.{Tree as Root}
-use Rattle.ocfl_walk.specs.Judging.{HasShortFiles}
+use Rattle.ocfl_item.specs.Judging.{HasShortFiles}
 use Rattle.ocfl_scrub.specs.Running.{limits_of}
 use Rattle.ocfl_scrub.specs.Taking.{WritesLines}
 use Rattle.ocfl_scrub.proofs.GoesLaws.{CycleGoes}

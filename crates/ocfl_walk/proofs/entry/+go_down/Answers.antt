@@ -1,10 +1,11 @@
 use Rattle.std.proofs.Common.{◌≡◌, ◌∙◌, ◌<◌, sym, ap, subst, arith, rules, length, ◌++◌, Some}
-use Rattle.ocfl_walk.specs.Ways.{IsAt}
-use Rattle.ocfl_walk.specs.Standing.{IsPart, folders_from, piles_in, spot_of}
+use Rattle.ocfl_item.specs.Ways.{IsAt}
+use Rattle.ocfl_item.specs.Around.{IsPart}
+use Rattle.ocfl_walk.specs.Standing.{folders_from, piles_in, spot_of}
 use Rattle.ocfl_walk.specs.Entering.{IsComing}
 use Rattle.std.proofs.lemmas.Result.{err_from_is_err_and}
 use Rattle.ocfl_walk.proofs.DescentLaws.{descends_not}
-use Rattle.ocfl_walk.proofs.LooksCalls.{did_nothing}
+use Rattle.ocfl_item.proofs.LooksCalls.{did_nothing}
 use Rattle.ocfl_walk.proofs.BroughtLaws.{came_fails, came_on, came_stop, coming_next, coming_room, end_orderly, brought_end, orderly_at, stop_orderly}
 use Rattle.ocfl_audit.proofs.AuditExists.{append_one}
 use Rattle.ocfl_walk.proofs.PlacedLaws.{deeper, folders_count, folders_push, kept_at, kept_place}

@@ -1,7 +1,7 @@
 use Rattle.std.proofs.Common.{◌≡◌, ◌++◌, ◌∷◌, [], true, sym, subst, ◌∙◌}
-use Rattle.ocfl_walk.specs.Ways.{is_listable}
-use Rattle.ocfl_walk.proofs.LooksEntries.{listable_is}
-use Rattle.ocfl_walk.proofs.LooksCalls.{enters_at}
+use Rattle.ocfl_item.specs.Ways.{is_listable}
+use Rattle.ocfl_item.proofs.LooksEntries.{listable_is}
+use Rattle.ocfl_item.proofs.LooksCalls.{enters_at}
 use Rattle.ocfl_walk.proofs.LeadsLaws.{may_depth}
 use Rattle.ocfl_walk.proofs.entry.listed.Goals as goal
 

@@ -1,9 +1,9 @@
 use Rattle.std.proofs.Common.{◌≡◌, ◌∙◌, sym, refl, ap, subst, true, length, ◌++◌, Some}
 use Rattle.std.proofs.lemmas.Result.{err_from_is_err_and}
-use Rattle.ocfl_walk.specs.Ways.{is_listable}
+use Rattle.ocfl_item.specs.Ways.{is_listable}
 use Rattle.ocfl_walk.specs.Standing.{folders_from, piles_in}
 use Rattle.ocfl_walk.proofs.PlacedLaws.{folders_none}
-use Rattle.ocfl_walk.proofs.LooksCalls.{enters_at, over_then, root_entered}
+use Rattle.ocfl_item.proofs.LooksCalls.{enters_at, over_then, root_entered}
 use Rattle.ocfl_walk.proofs.EnterLaws.{coming_root, orderly_brought, orderly_nothing, stands_brought, stands_nothing, start_down, start_listed, start_listed_memory, start_memory, start_stops_down, start_unlisted}
 use Rattle.ocfl_walk.proofs.entry.stand_at.Goals as goal
 

@@ -1,4 +1,4 @@
-use Rattle.ocfl_walk.proofs.AuditingLaws.{walks_fail}
+use Rattle.ocfl_walk.proofs.WalkCallLaws.{walks_fail}
 use Rattle.ocfl_walk.proofs.laws.walks_add_up.Goals as goal
 
 pub returns-clause-fail : goal.returns-clause-fail

@@ -3,7 +3,7 @@ use Rattle.std.specs.Prelude.{MatchResult}
 use Rattle.std.proofs.lemmas.Result.{err_from_is_err_and}
 use Rattle.ocfl_walk.specs.Standing.{TurnIs, piles_in, spot_of}
 use Rattle.ocfl_walk.specs.Walking.{Steps}
-use Rattle.ocfl_walk.specs.Auditing.{WalkFails}
+use Rattle.ocfl_walk.specs.WalkCalls.{WalkFails}
 use Rattle.ocfl_walk.specs.declared.stand.Stand.{Stand}
 use Rattle.ocfl_walk.specs.declared.stand.Step.TheVariants as step
 use Rattle.ocfl_walk.proofs.Chosen.{at_first, at_last, chosen_base, chosen_entry, chosen_path, chosen_turn, goes_from, mid_orderly, mid_stands, no_memory, sizes, trim_stays}

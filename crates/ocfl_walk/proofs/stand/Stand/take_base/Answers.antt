@@ -5,7 +5,7 @@ use Rattle.ocfl_audit.specs.Between.{IsBeyond}
 use Rattle.ocfl_walk.specs.Walking.{GoesOn, Steps}
 use Rattle.ocfl_walk.proofs.MeetLaws.{ordinary}
 use Rattle.ocfl_walk.proofs.SizeLaws.{goes_to}
-use Rattle.ocfl_walk.proofs.AuditingLaws.{meets_fails}
+use Rattle.ocfl_walk.proofs.WalkCallLaws.{meets_fails}
 use Rattle.ocfl_walk.proofs.StartLaws.{first_pushed, first_room, first_stands, item_first, near_first, root_short, not_begun, orderly_first, size_begins, size_first, step_first}
 use Rattle.ocfl_walk.proofs.stand.Stand.take_base.Goals as goal
 

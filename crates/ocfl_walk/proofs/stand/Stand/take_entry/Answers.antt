@@ -3,9 +3,10 @@ use Rattle.std.proofs.lemmas.Result.{err_from_is_err_and}
 use Rattle.std.specs.declared.cmp.Ordering.TheVariants.{Less}
 use Rattle.ocfl_audit.specs.Between.{IsBeyond}
 use Rattle.ocfl_tree.specs.Place.{place_cmp}
-use Rattle.ocfl_walk.specs.Standing.{IsAroundIf, IsMet, IsOrderlyIf, IsOrderly, IsStanding, piles_in, spot_of, still}
+use Rattle.ocfl_walk.specs.Standing.{IsAroundIf, IsOrderlyIf, IsOrderly, IsStanding, piles_in, spot_of, still}
+use Rattle.ocfl_item.specs.Around.{IsMet}
 use Rattle.ocfl_walk.specs.Walking.{GoesOn, Steps}
-use Rattle.ocfl_walk.proofs.AuditingLaws.{meets_fails}
+use Rattle.ocfl_walk.proofs.WalkCallLaws.{meets_fails}
 use Rattle.ocfl_walk.proofs.DueTurns.{near_turn}
 use Rattle.ocfl_walk.proofs.EntrySteps.{still_around, entry_met, step_to, taken_place}
 use Rattle.ocfl_walk.proofs.OrderlyLaws.{entry_after, entry_short, orderly_entry}

@@ -3,16 +3,16 @@ use Rattle.std.proofs.lemmas.Result.{err_from_is_err_and}
 use Rattle.ocfl_walk.specs.Standing.{IsOrderly, IsStanding, piles_in, spot_of}
 use Rattle.ocfl_audit.specs.Between.{IsBeyond}
 use Rattle.ocfl_walk.specs.Walking.{GoesOn, Steps}
-use Rattle.ocfl_walk.specs.Auditing.{WalkFails}
+use Rattle.ocfl_walk.specs.WalkCalls.{WalkFails}
 use Rattle.ocfl_walk.proofs.Chosen.{no_memory}
 use Rattle.ocfl_walk.proofs.EntrySteps.{step_to}
 use Rattle.ocfl_walk.proofs.PathSteps.{orderly_path, path_above, path_short, size_path}
 use Rattle.ocfl_walk.proofs.PlacedLaws.{begun_if, path_shared}
 use Rattle.ocfl_walk.proofs.SizeLaws.{goes_to, sizes_fall}
 use Rattle.ocfl_walk.proofs.DueTurns.{near_turn}
-use Rattle.ocfl_walk.proofs.ShutLaws.{shut_unseen}
+use Rattle.ocfl_item.proofs.ShutLaws.{shut_unseen}
 use Rattle.ocfl_walk.proofs.StandLaws.{path_stands}
-use Rattle.ocfl_walk.proofs.VisitLaws.{meets_shut}
+use Rattle.ocfl_item.proofs.VisitLaws.{meets_shut}
 use Rattle.ocfl_walk.proofs.stand.Stand.take_path.Goals as goal
 
 pub returns-in_err-item-clause-told : goal.returns-in_err-item-clause-told

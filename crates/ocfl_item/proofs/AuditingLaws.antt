@@ -1,0 +1,111 @@
+-- What calls did adds up.
+use Rattle.std.proofs.Common.{◌≡◌, ◌+◌, List, [], ◌∷◌, ◌++◌, refl, sym, ◌∙◌, ap, subst, false, map, filter, length, append_assoc, arith}
+use Rattle.std.proofs.lemmas.List.{append-nil, length-append, map-append}
+use Rattle.std.specs.Prelude.{not}
+use Rattle.ocfl_tree.specs.Place.{Place}
+use Rattle.ocfl_tree.specs.Tree.{Tree}
+use Rattle.ocfl_tree.specs.Store.{Store, Did}
+use Rattle.ocfl_tree.specs.declared.store.Opening.{Opening}
+use Rattle.ocfl_tree.proofs.Stores.{did_both}
+use Rattle.ocfl_audit.specs.Zone.{zone}
+use Rattle.ocfl_audit.specs.Lines.{is_hashed}
+use Rattle.ocfl_audit.specs.Due.{hashed_among}
+use Rattle.ocfl_audit.specs.Trail.{is_meta, content_openings, content_trail, unread_of, heads_of, inventory_of}
+use Rattle.ocfl_audit.proofs.Trails.{filter_append, none_unread}
+use Rattle.ocfl_item.specs.Looking.{IsFront, failures_by}
+use Rattle.ocfl_item.specs.Auditing.{Audits, Fails, FailedAt}
+use Rattle.ocfl_item.proofs.FailLaws.{failed_behind}
+use Rattle.ocfl_item.specs.declared.fault.Fault.{Fault}
+use Rattle.ocfl_item.specs.declared.fault.Fault.TheVariants as fault
+
+-- ---- trails
+
+pub heads_append : (root : Tree) (xs ys : List Opening) → heads_of root (xs ++ ys) ≡ heads_of root xs ++ heads_of root ys
+heads_append root [] ys = refl
+heads_append root (x ∷ xs) ys = ap (λ zs. inventory_of (zone root x.place) ++ zs) (heads_append root xs ys) ∙ sym (append_assoc (inventory_of (zone root x.place)) (heads_of root xs) (heads_of root ys))
+
+content_append : (root : Tree) (xs ys : List Opening) → content_openings root (xs ++ ys) ≡ content_openings root xs ++ content_openings root ys
+content_append root xs ys = filter_append (λ o. not (is_meta root o.place)) xs ys
+
+pub trail_append : (root : Tree) (xs ys : List Opening) → content_trail root (xs ++ ys) ≡ content_trail root xs ++ content_trail root ys
+trail_append root xs ys = ap (map (λ o. o.place)) (content_append root xs ys) ∙ map-append (λ o. o.place) (content_openings root xs) (content_openings root ys)
+
+pub unread_append : (root : Tree) (xs ys : List Opening) → unread_of root (xs ++ ys) ≡ unread_of root xs ++ unread_of root ys
+unread_append root xs ys =
+    ap (λ os. map (λ o. (o.place, o.given)) (filter (λ o. o.failed) os)) (content_append root xs ys)
+    ∙ ap (map (λ o. (o.place, o.given))) (filter_append (λ o. o.failed) (content_openings root xs) (content_openings root ys))
+    ∙ map-append (λ o. (o.place, o.given)) (filter (λ o. o.failed) (content_openings root xs)) (filter (λ o. o.failed) (content_openings root ys))
+
+unread_count : (root : Tree) (xs ys : List Opening) → length (unread_of root (xs ++ ys)) ≡ length (unread_of root xs) + length (unread_of root ys)
+unread_count root xs ys = ap length (unread_append root xs ys) ∙ length-append (unread_of root xs) (unread_of root ys)
+
+pub hashed_append : (root : Tree) (ps qs : List Place) → hashed_among root (ps ++ qs) ≡ hashed_among root ps ++ hashed_among root qs
+unfolding hashed_among
+hashed_append root ps qs = filter_append (is_hashed root) ps qs
+
+-- ---- one call after the other
+
+module _ (root : Tree) (s t u : Store) where
+  pub audits_on : (ps qs ls ls' hs hs' : List Place) (os os' : List Opening) → Audits root s t ps ls hs os → Audits root t u qs ls' hs' os' → Audits root s u (ps ++ qs) (ls ++ ls') (hs ++ hs') (os ++ os')
+  audits_on ps qs ls ls' hs hs' os os' h k = record {
+    over = h.over;
+    did = subst (Did s u (os ++ os') (ls ++ ls')) (sym (unread_count root os os')) (did_both s t u os os' ls ls' (length (unread_of root os)) (length (unread_of root os')) h.did k.did);
+    opened = trail_append root os os' ∙ ap (λ l. l ++ content_trail root os') h.opened ∙ ap (λ l. hashed_among root ps ++ l) k.opened ∙ sym (hashed_append root ps qs);
+    heads_are = heads_append root os os' ∙ ap (λ l. l ++ heads_of root os') h.heads_are ∙ ap (λ l. hs ++ l) k.heads_are;
+  }
+
+  pub audits_fail : (ps qs ls ls' hs hs' : List Place) (os os' : List Opening) (why : Fault) → Audits root s t ps ls hs os → Fails root t u qs ls' hs' os' why → Fails root s u (ps ++ qs) (ls ++ ls') (hs ++ hs') (os ++ os') why
+  audits_fail ps qs ls ls' hs hs' os os' why h k = record {
+    over = h.over;
+    did =
+        let both : Did s u (os ++ os') (ls ++ ls') (length (unread_of root os) + (length (unread_of root os') + failures_by why)) =
+        did_both s t u os os' ls ls' (length (unread_of root os)) (length (unread_of root os') + failures_by why) h.did k.did in
+        let count = unread_count root os os' in
+        let same : length (unread_of root os) + (length (unread_of root os') + failures_by why) ≡ length (unread_of root (os ++ os')) + failures_by why = omega (arith, count) in
+        subst (Did s u (os ++ os') (ls ++ ls')) same both;
+    opened = trail_append root os os' ∙ ap (λ l. l ++ content_trail root os') h.opened ∙ ap (λ l. hashed_among root ps ++ l) k.opened ∙ sym (hashed_append root ps qs);
+    heads_are = heads_append root os os' ∙ ap (λ l. l ++ heads_of root os') h.heads_are ∙ ap (λ l. hs ++ l) k.heads_are;
+    store = λ q e. let w = k.store q e in (w.0, failed_behind ls ls' os os' q w.1);
+  }
+
+-- where nothing was done
+pub did_nothing : (s : Store) → Did s s [] [] 0
+did_nothing s = record { tree = refl; openings_are = sym (append-nil s.openings); listings_are = sym (append-nil s.listings); failures_are = omega arith }
+
+pub audits_nothing : (root : Tree) (s : Store) → s.tree ≡ root → Audits root s s [] [] [] []
+unfolding hashed_among
+audits_nothing root s over = record { over = over; did = did_nothing s; opened = refl; heads_are = refl }
+
+pub fails_nothing : (root : Tree) (s : Store) (why : Fault) → s.tree ≡ root → failures_by why ≡ 0 → ((q : Place) → why ≡ fault.Store q → ⊥) → Fails root s s [] [] [] [] why
+unfolding hashed_among
+fails_nothing root s why over none not = record { over = over; did = (let same : 0 ≡ 0 + failures_by why = omega (arith, none) in subst (Did s s [] []) same (did_nothing s)); opened = refl; heads_are = refl; store = λ q e. absurd (not q e) }
+
+-- where only metadata was read
+pub audits_meta : (root : Tree) (s t : Store) (ls hs : List Place) (os : List Opening) → s.tree ≡ root → Did s t os ls 0 → content_trail root os ≡ [] → heads_of root os ≡ hs → Audits root s t [] ls hs os
+unfolding hashed_among
+audits_meta root s t ls hs os over did meta heads = record { over = over; did = subst (Did s t os ls) (sym (ap length (none_unread root os meta))) did; opened = meta; heads_are = heads }
+
+pub fails_meta : (root : Tree) (s t : Store) (ls hs : List Place) (os : List Opening) (why : Fault) → s.tree ≡ root → Did s t os ls (failures_by why) → content_trail root os ≡ [] → heads_of root os ≡ hs
+    → ((q : Place) → why ≡ fault.Store q → (is_hashed root q ≡ false) × FailedAt ls os q) → Fails root s t [] ls hs os why
+unfolding hashed_among
+fails_meta root s t ls hs os why over did meta heads store = record {
+  over = over;
+  did = let none : length (unread_of root os) ≡ 0 = ap length (none_unread root os meta) in let same : failures_by why ≡ length (unread_of root os) + failures_by why = omega (arith, none) in subst (Did s t os ls) same did;
+  opened = meta;
+  heads_are = heads;
+  store = store;
+}
+
+-- ---- beginnings
+
+pub front_all : {A : Type 0} (xs : List A) → IsFront xs xs
+front_all xs = ([], sym (append-nil xs))
+
+pub front_none : {A : Type 0} (xs : List A) → IsFront [] xs
+front_none xs = (xs, refl)
+
+pub front_more : {A : Type 0} (xs ys zs whole : List A) → ys ++ zs ≡ whole → IsFront xs ys → IsFront xs whole
+front_more xs ys zs whole e h = (h.0 ++ zs, sym e ∙ ap (λ l. l ++ zs) h.1 ∙ append_assoc xs h.0 zs)
+
+pub front_behind : {A : Type 0} (xs ys zs whole : List A) → xs ++ zs ≡ whole → IsFront ys zs → IsFront (xs ++ ys) whole
+front_behind xs ys zs whole e h = (h.0, sym e ∙ ap (λ l. xs ++ l) h.1 ∙ sym (append_assoc xs ys h.0))

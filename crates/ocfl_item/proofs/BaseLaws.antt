@@ -1,0 +1,239 @@
+-- The storage root: its lines, what is read for them, and its listing.
+use Rattle.std.proofs.Common.{◌≡◌, ◌≢◌, ◌≤◌, ℕ, List, [], ◌∷◌, ◌++◌, refl, sym, ◌∙◌, ap, subst, true, false, Bool, Option, Some, None, arith, length, map}
+use Rattle.std.specs.Prelude.{AllPairs, cond, ◌||◌, not, nat_lt, Result, Ok, Err, is_some, filter}
+use Rattle.std.specs.List.{AllByRecursion}
+use Rattle.std.proofs.lemmas.List.{append-nil, length-map}
+use Rattle.std.proofs.lemmas.List.Prefix.{front_fits}
+use Rattle.ocfl_tree.specs.Place.{Place, Text}
+use Rattle.ocfl_tree.specs.Tree.{Tree, file_at, names_in}
+use Rattle.ocfl_tree.specs.Store.{Store}
+use Rattle.ocfl_tree.specs.Listing.{IsListing, IsOrdinary}
+use Rattle.ocfl_tree.specs.declared.store.Entry.{Entry}
+use Rattle.ocfl_tree.specs.declared.store.Opening.{Opening}
+use Rattle.ocfl_report.specs.Line.{line_of, lines_at}
+use Rattle.ocfl_report.specs.declared.line.Line.{Line as MadeLine}
+use Rattle.ocfl_inventory.specs.Declaration.{Declared, undeclared, known, unknown, several, declaration_name, declared, is_declared, is_known}
+use Rattle.ocfl_inventory.specs.Entries.{PointsAtOne, file_names, meaning}
+use Rattle.ocfl_inventory.specs.TripleView.{named_view}
+use Rattle.ocfl_inventory.specs.declared.declaration.Declared.{Declared as MadeDeclared}
+use Rattle.ocfl_inventory.specs.declared.declaration.Declared.TheVariants as made
+use Rattle.ocfl_inventory.specs.declared.declaration.Level.TheVariants.{Root}
+use Rattle.ocfl_inventory.specs.declared.declaration.Version.{Version}
+use Rattle.ocfl_inventory.specs.declared.declaration.Version.TheVariants.{V1_0, V1_1}
+use Rattle.ocfl_digest.specs.declared.bounded.Bounded.{Bounded}
+use Rattle.ocfl_audit.specs.Zone.{skipped, hierarchy, inside, zone, root_declared, object_declared, table_at, seen, is_in_extensions, is_listed_zone}
+use Rattle.ocfl_audit.specs.Head.{root_notes_by}
+use Rattle.ocfl_item.specs.HeadFiles.{ReadsFile, files_there}
+use Rattle.ocfl_audit.specs.Lines.{cost_of, is_hashed, named_at, named_in, notes}
+use Rattle.ocfl_item.specs.Looking.{IsFront, failures_by}
+use Rattle.ocfl_item.specs.Pending.{Adds, IsPending}
+use Rattle.ocfl_audit.specs.Trail.{reads_inventory, content_trail, heads_of, inventory_of, is_head, is_meta, places_of}
+use Rattle.ocfl_item.specs.Meeting.{IsVisit, MeetFails, Meets}
+use Rattle.ocfl_item.specs.Ways.{Enters, Stops}
+use Rattle.ocfl_item.specs.declared.fault.Fault.{Fault}
+use Rattle.ocfl_item.specs.declared.fault.Fault.TheVariants as fault
+use Rattle.ocfl_item.specs.declared.folder.Folder.{Folder}
+use Rattle.ocfl_item.specs.declared.pending.Pending.{Pending}
+use Rattle.ocfl_tree.proofs.Orders.{true_not_false}
+use Rattle.ocfl_item.proofs.HeadLaws.{unknown_stops}
+use Rattle.ocfl_item.proofs.ItemLaws.{clean_some}
+use Rattle.ocfl_tree.proofs.Stores.{did_then}
+use Rattle.ocfl_item.proofs.LooksZones.{at_root, declared_root}
+use Rattle.ocfl_audit.specs.Head.{on}
+use Rattle.ocfl_audit.proofs.BetweenLaws.{root_unread}
+use Rattle.ocfl_item.proofs.FailLaws.{failed_behind, few_once, none_once}
+use Rattle.ocfl_item.proofs.AuditingLaws.{front_all, front_none, heads_append}
+use Rattle.ocfl_item.proofs.VisitLaws.{meet_out}
+use Rattle.ocfl_audit.proofs.Trails.{content_behind}
+
+-- ---- its lines
+
+some_notes : (root : Tree) (d : Declared) → root_notes_by root d ≢ []
+some_notes root undeclared e = cc
+some_notes root several e = cc
+some_notes root (unknown t) e = cc
+some_notes root (known v) e = clean_some _ e
+
+pub root_some : (root : Tree) → notes root None [] ≢ []
+root_some root = some_notes root (root_declared root)
+
+root_unnamed : (root : Tree) → named_at root [] ≡ []
+root_unnamed root = by (not (is_known (root_declared root)))
+  where
+    by : (b : Bool) → named_in root (cond (b || false) skipped hierarchy) ≡ []
+    by true = refl
+    by false = refl
+
+pub root_not_hashed : (root : Tree) → is_hashed root [] ≡ false
+root_not_hashed root = ap (λ ns. nat_lt 0 (cost_of ns None (seen root []))) (root_unnamed root)
+
+pub root_pending : (root : Tree) (p : Place) (made : Pending) → p ≡ [] → made.place ≡ p → made.hashed ≡ false → made.named.items ≡ [] → map line_of made.lines.items ≡ lines_at [] (notes root None []) → IsPending root made
+root_pending root p made none there unhashed unnamed lines =
+    let place : made.place ≡ [] = there ∙ none in
+    record {
+      some = subst (λ x. notes root None x ≢ []) (sym place) (root_some root);
+      hashed = unhashed ∙ sym (ap (is_hashed root) place ∙ root_not_hashed root);
+      named = ap (map named_view) unnamed ∙ sym (ap (named_at root) place ∙ root_unnamed root);
+      lines = λ h. subst (λ x. map line_of made.lines.items ≡ lines_at x (notes root None x)) (sym place) lines;
+    }
+
+pub declaration_at_root : (root : Tree) (p : Place) (n : Text) (v : Version) → p ≡ [] → n ≡ declaration_name Root v → is_meta root (p ++ n ∷ []) ≡ true
+declaration_at_root root p n v e f = (λ i. is_meta root (e i ++ f i ∷ [])) ∙ by v
+  where
+    by : (v : Version) → is_meta root (declaration_name Root v ∷ []) ≡ true
+    by V1_0 = refl
+    by V1_1 = refl
+
+-- lines that were put behind none
+pub root_lines : (root : Tree) (old new : List MadeLine) (p : Place) (d : Declared) → old ≡ [] → p ≡ [] → Adds old new p (root_notes_by root d) → d ≡ root_declared root → map line_of new ≡ lines_at [] (notes root None [])
+root_lines root old new p d none top h same =
+    subst (λ x. map line_of new ≡ map line_of x ++ lines_at p (root_notes_by root d)) none h ∙ (λ i. lines_at (top i) (root_notes_by root (same i)))
+
+-- ---- what was done
+
+module _ (root : Tree) where
+  no_heads : (q : Text) → inventory_of (zone root (q ∷ [])) ≡ []
+  no_heads q = by (not (is_known (root_declared root)) || is_in_extensions root (q ∷ [])) (is_declared (object_declared root (q ∷ [])))
+    where
+      by : (a b : Bool) → inventory_of (cond a skipped (cond b (inside (q ∷ []) []) hierarchy)) ≡ []
+      by true b = refl
+      by false true = refl
+      by false false = refl
+
+  abbrev IsQuiet : Place → Type 0
+  IsQuiet p = (is_meta root p ≡ true) × (inventory_of (zone root p) ≡ [])
+
+  front_quiet : (xs ys : List Place) → AllByRecursion IsQuiet (xs ++ ys) → AllByRecursion IsQuiet xs
+  front_quiet [] ys h = tt
+  front_quiet (x ∷ xs) ys h = (h.0, front_quiet xs ys h.1)
+
+  only_quiet : (trail : List Opening) → AllByRecursion IsQuiet (places_of trail) → (content_trail root trail ≡ []) × (heads_of root trail ≡ [])
+  only_quiet [] h = (refl, refl)
+  only_quiet (x ∷ trail) h =
+      let more = only_quiet trail h.1 in
+      let others = filter (λ o. not (is_meta root o.place)) trail in
+      (ap (λ b. map (λ y. y.place) (cond (not b) (x ∷ others) others)) h.0.0 ∙ more.0, (λ i. h.0.1 i ++ more.1 i))
+
+  trail_quiet : (n : Text) (trail : List Opening) → is_meta root (n ∷ []) ≡ true → IsFront (places_of trail) (files_there root [] (n ∷ [])) → (content_trail root trail ≡ []) × (heads_of root trail ≡ [])
+  trail_quiet n trail meta h = only_quiet trail (front_quiet (places_of trail) h.0 (subst (AllByRecursion IsQuiet) h.1 (by (is_some (file_at root ([] ++ n ∷ []))))))
+    where
+      by : (c : Bool) → AllByRecursion IsQuiet (map (λ m. [] ++ m ∷ []) (cond c (n ∷ []) []))
+      by true = ((meta, no_heads n), tt)
+      by false = tt
+
+  one_once : (n : Text) (os trail : List Opening) → os ≡ [] → IsFront (places_of trail) (files_there root [] (n ∷ [])) → AllPairs (λ a b. a.place ≢ b.place) (os ++ trail)
+  one_once n os trail none h = few_once (os ++ trail) (
+      let long = front_fits (files_there root [] (n ∷ [])) (places_of trail) h.0 h.1 in
+      let few = by (is_some (file_at root ([] ++ n ∷ []))) in
+      let before = ap (λ x. length (x ++ trail)) none in
+      omega (arith, long, few, before, length-map trail (λ x. x.place)))
+    where
+      by : (c : Bool) → length (map (λ m. [] ++ m ∷ []) (cond c (n ∷ []) [])) ≤ 1
+      by true = omega arith
+      by false = omega arith
+
+  pub base_not_listed : (s t : Store) (p : Place) (why : Fault) → p ≡ [] → Stops root s t (p ∷ []) [] why → MeetFails root s t [] why
+  base_not_listed s t p why top h = record {
+    over = h.goes.over;
+    trail = [];
+    listings = h.goes.listings;
+    did = h.goes.did;
+    meta = refl;
+    once = none_once;
+    elsewhere = λ g k. refl;
+    listed = subst (λ x. IsFront h.goes.listings (x ∷ [])) top h.goes.listed;
+    heads = front_none (on (reads_inventory root []) []);
+    store = h.store;
+  }
+
+  pub no_inventory : ◌≡◌ {A = List Place} [] (on (reads_inventory root []) [])
+  no_inventory = sym (ap (λ b. on b []) (root_unread root))
+
+  abbrev pub base_listed : (s t : Store) (p e : Place) (es : List Entry) → p ≡ [] → s.tree ≡ root → Enters root s t p e es → Meets root s t []
+  base_listed s t p e es top over h = record { over = over; trail = []; listings = p ∷ []; did = h.did; meta = refl; once = none_once; elsewhere = λ g k. refl; listed = ap (λ x. x ∷ []) top; heads = no_inventory }
+
+  pub base_memory : (s t : Store) → Meets root s t [] → MeetFails root s t [] fault.Memory
+  base_memory s t m = meet_out root s t [] fault.Memory m refl
+
+  pub base_read : (s t u : Store) (n : Text) (limit : ℕ) (f : Option Bounded) → is_meta root (n ∷ []) ≡ true → (m : Meets root s t []) → m.trail ≡ [] → ReadsFile root t u [] n limit (Ok f) → Meets root s u []
+  base_read s t u n limit f meta m none h =
+      let k = h.gives.0 in
+      let quiet = trail_quiet n k.trail meta ([], sym k.opened ∙ sym (append-nil (places_of k.trail))) in
+      record {
+        over = m.over;
+        trail = m.trail ++ k.trail;
+        listings = m.listings ++ [];
+        did = did_then s t u m.trail k.trail m.listings [] 0 m.did k.did;
+        meta = content_behind root m.trail k.trail m.meta ∙ quiet.0;
+        once = one_once n m.trail k.trail none ([], sym k.opened ∙ sym (append-nil (places_of k.trail)));
+        elsewhere = λ g e. absurd (e refl);
+        listed = append-nil m.listings ∙ m.listed;
+        heads = heads_append root m.trail k.trail ∙ ap (λ l. heads_of root m.trail ++ l) quiet.1 ∙ append-nil (heads_of root m.trail) ∙ m.heads;
+      }
+
+  pub base_unread : (s t u : Store) (n : Text) (limit : ℕ) (why : Fault) → is_meta root (n ∷ []) ≡ true → (m : Meets root s t []) → m.trail ≡ [] → ReadsFile root t u [] n limit (Err why) → MeetFails root s u [] why
+  base_unread s t u n limit why meta m none h =
+      let k = h.gives in
+      let quiet = trail_quiet n k.trail meta k.opened in
+      let no_listing : k.stops.goes.listings ≡ [] = nothing_listed k.stops.goes.listings k.stops.goes.listed.0 k.stops.goes.listed.1 in
+      record {
+        over = m.over;
+        trail = m.trail ++ k.trail;
+        listings = m.listings ++ k.stops.goes.listings;
+        did = did_then s t u m.trail k.trail m.listings k.stops.goes.listings (failures_by why) m.did k.stops.goes.did;
+        meta = content_behind root m.trail k.trail m.meta ∙ quiet.0;
+        once = one_once n m.trail k.trail none k.opened;
+        elsewhere = λ g e. absurd (e refl);
+        listed = subst (IsFront (m.listings ++ k.stops.goes.listings)) (ap (λ l. m.listings ++ l) no_listing ∙ append-nil m.listings ∙ m.listed) (front_all (m.listings ++ k.stops.goes.listings));
+        heads = subst (IsFront (heads_of root (m.trail ++ k.trail))) (heads_append root m.trail k.trail ∙ ap (λ l. heads_of root m.trail ++ l) quiet.1 ∙ append-nil (heads_of root m.trail) ∙ m.heads) (front_all (heads_of root (m.trail ++ k.trail)));
+        store = λ q g. let w = k.stops.store q g in (w.0, failed_behind m.listings k.stops.goes.listings m.trail k.trail q w.1);
+      }
+    where
+      nothing_listed : (xs ys : List Place) → [] ≡ xs ++ ys → xs ≡ []
+      nothing_listed [] ys e = refl
+      nothing_listed (x ∷ xs) ys e = cc
+
+  -- ---- what was met
+
+  no_table : is_head (zone root []) ≡ true → table_at root [] ≡ None
+  no_table e = by (not (is_known (root_declared root))) e
+    where
+      by : (b : Bool) → is_head (cond (b || false) skipped hierarchy) ≡ true → table_at root [] ≡ None
+      by true f = absurd (true_not_false (sym f))
+      by false f = absurd (true_not_false (sym f))
+
+  pub base_known : (p : Pending) (f : Folder) → f.place ≡ [] → IsListing root [] f.entries.items → is_known (root_declared root) ≡ true → IsPending root p → p.place ≡ [] → IsVisit root [] (record { item = Some p; folder = Some f; table = None })
+  base_known p f top h is pending at = record { item = (pending, at); folder = (top, (at_root root f.entries.items is h).here.reached, h); table = no_table }
+
+  pub base_stopped : (p : Pending) → is_known (root_declared root) ≡ false → IsPending root p → p.place ≡ [] → IsVisit root [] (record { item = Some p; folder = None; table = None })
+  base_stopped p is pending at = record {
+    item = (pending, at);
+    folder = ap (λ b. cond (is_listed_zone root (cond (not b || false) skipped hierarchy)) (names_in root []) []) is;
+    table = no_table;
+  }
+
+  -- ---- what the declarations say
+
+  pub at_base : (t u : Store) (p : Place) (n m : Text) (limit : ℕ) (r : Result (Option Bounded) Fault) → p ≡ [] → n ≡ m → ReadsFile root t u p n limit r → ReadsFile root t u [] m limit r
+  at_base t u p n m limit r top same h = subst (λ x. ReadsFile root t u [] x limit r) same (subst (λ x. ReadsFile root t u x n limit r) top h)
+
+  pub listing_there : (s t : Store) (d e : Place) (es : List Entry) → Enters root s t d e es → IsListing root e es
+  listing_there s t d e es h = subst (λ x. IsListing root x es) (sym h.is) h.listing
+
+  pub root_is : (es given : List Entry) (d : Declared) → given ≡ es → IsOrdinary es → IsListing root [] es → d ≡ declared Root (file_names given) → d ≡ root_declared root
+  root_is es given d same ordinary h is = is ∙ ap (λ xs. declared Root (file_names xs)) same ∙ sym (declared_root root es ordinary h)
+
+  pub base_now_known : (v : Version) → known v ≡ root_declared root → is_known (root_declared root) ≡ true
+  base_now_known v e = ap is_known (sym e)
+
+-- a storage root that is not of one known version
+pub record IsStopped (root : Tree) (es : List Entry) (m : MadeDeclared) : Type 0 where
+  pub says : meaning Root es m ≡ root_declared root
+  pub stops : is_known (meaning Root es m) ≡ false
+  pub points : PointsAtOne Root es m
+
+pub base_stops : (root : Tree) (es given later : List Entry) (m n : MadeDeclared) → given ≡ es → later ≡ es → n ≡ m → IsOrdinary es → IsListing root [] es → meaning Root given m ≡ declared Root (file_names given) → PointsAtOne Root given m → ((v : Version) → m ≡ made.One v → ⊥)
+    → IsStopped root later n
+base_stops root es given later m n e f same ordinary h says points none =
+    let k : IsStopped root given m = record { says = root_is root es given (meaning Root given m) e ordinary h says; stops = unknown_stops Root given m none points; points = points } in
+    subst (IsStopped root later) (sym same) (subst (λ xs. IsStopped root xs m) (e ∙ sym f) k)

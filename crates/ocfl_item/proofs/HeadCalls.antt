@@ -1,0 +1,239 @@
+-- What reading an object's inventory, and its head, did.
+use Rattle.std.proofs.Common.{◌≡◌, ◌≢◌, ℕ, ◌<◌, List, [], ◌∷◌, ◌++◌, refl, sym, ◌∙◌, ap, subst, true, false, Bool, Option, Some, None, arith, length, map}
+use Rattle.std.proofs.lemmas.Bool.{le-leb, leb-true}
+use Rattle.std.proofs.lemmas.Map.Made.{AllPairs-from_IsDistinct}
+use Rattle.std.specs.List.{IsDistinct, list_all}
+use Rattle.ocfl_tree.proofs.Places.{text_eq-Decides}
+use Rattle.std.specs.Prelude.{cond, ◌||◌, not, nat_le, AllPairs, Result, Ok, Err, Vec, option_and_then}
+use Rattle.std.specs.declared.alloc.Global.{Global}
+use Rattle.ocfl_tree.specs.Place.{Text, Place, text_eq}
+use Rattle.ocfl_tree.specs.Tree.{Tree, file_at}
+use Rattle.ocfl_tree.specs.Store.{Store}
+use Rattle.ocfl_tree.specs.declared.store.Entry.{Entry}
+use Rattle.ocfl_report.specs.Line.{Note, line_of, lines_at, plain}
+use Rattle.ocfl_report.specs.declared.line.Line.{Line as MadeLine}
+use Rattle.ocfl_report.specs.declared.code.Code.TheVariants.{E007, E063, S02}
+use Rattle.ocfl_digest.specs.declared.bounded.Bounded.{Bounded}
+use Rattle.ocfl_digest.specs.declared.bounded.Bounded.TheVariants as bounded
+use Rattle.ocfl_inventory.specs.Declaration.{known, declaration_name, is_known}
+use Rattle.ocfl_inventory.specs.Entries.{meaning, PointsAtOne}
+use Rattle.ocfl_inventory.specs.Reading.{algorithm_of}
+use Rattle.ocfl_inventory.specs.Table.{Table, table_of}
+use Rattle.ocfl_inventory.specs.declared.declaration.Declared.{Declared as MadeDeclared}
+use Rattle.ocfl_inventory.specs.declared.declaration.Level.TheVariants as level
+use Rattle.ocfl_inventory.specs.declared.declaration.Version.{Version}
+use Rattle.ocfl_inventory.specs.declared.declaration.Version.TheVariants.{V1_0, V1_1}
+use Rattle.ocfl_audit.specs.Zone.{skipped, hierarchy, inside, zone, root_declared, object_declared, inventory_name, inventory_limit, table_at}
+use Rattle.ocfl_audit.specs.Head.{on, or_clean, is_exact_declaration, sidecars_notes, inventory_part, inventory_file_notes, head_notes_by}
+use Rattle.ocfl_audit.specs.Lines.{notes, notes_in}
+use Rattle.ocfl_audit.specs.Trail.{is_object_meta}
+use Rattle.ocfl_item.specs.Pending.{Adds}
+use Rattle.ocfl_item.specs.Ways.{Opens, ReadsTable, IsObject, IsDeclared, ReadsHead}
+use Rattle.ocfl_item.specs.HeadFiles.{IsFileAt, ReadsFiles, FilesStop, ReadsFile, ReadsSome, head_names, table_in}
+use Rattle.ocfl_item.specs.declared.fault.Fault.{Fault}
+use Rattle.ocfl_item.specs.declared.fault.Fault.TheVariants as fault
+use Rattle.ocfl_item.proofs.HeadTrails.{head_opened, inventory_alone, inventory_opened}
+use Rattle.ocfl_audit.proofs.PathLaws.{notes_at}
+use Rattle.ocfl_item.proofs.WrongLaws.{adds_both}
+use Rattle.ocfl_item.proofs.LooksCalls.{reads_nothing, memory_stops}
+use Rattle.ocfl_item.proofs.FileLaws.{files_then, some_then, some_of, some_more, stop_more, stop_then, memory_after, some_is_meta, stop_is_meta}
+
+-- ---- the table
+
+abbrev pub table_given : Option Bounded → Option Table
+table_given None = None
+table_given (Some (bounded.Whole v)) = table_of v.items
+table_given (Some bounded.Over) = None
+
+pub not_within : (a b : ℕ) → b < a → nat_le a b ≡ false
+not_within a b l = by (nat_le a b) refl
+  where
+    by : (x : Bool) → nat_le a b ≡ x → x ≡ false
+    by false e = refl
+    by true e = let le = leb-true a b e in absurd (omega (arith, l, le))
+
+module _ (root : Tree) (o : Place) (es : List Entry) (h : IsObject root o es) where
+  table_here : table_at root o ≡ option_and_then (λ b. cond (nat_le (length b) inventory_limit) (table_of b) None) (file_at root (o ++ inventory_name ∷ []))
+  table_here = ap (option_and_then (λ b. cond (nat_le (length b) inventory_limit) (table_of b) None)) (ap (λ b. cond b (file_at root (o ++ inventory_name ∷ [])) None) h.known)
+
+  table_is_given : (f : Option Bounded) → IsFileAt root (o ++ inventory_name ∷ []) inventory_limit f → table_at root o ≡ table_given f
+  table_is_given None is = table_here ∙ ap (option_and_then (λ b. cond (nat_le (length b) inventory_limit) (table_of b) None)) is
+  table_is_given (Some (bounded.Whole v)) is =
+      table_here ∙ ap (option_and_then (λ b. cond (nat_le (length b) inventory_limit) (table_of b) None)) is.1
+      ∙ ap (λ b. cond b (table_of is.0) None) (le-leb (length is.0) inventory_limit is.2.1) ∙ ap table_of (sym is.2.0)
+  table_is_given (Some bounded.Over) is =
+      table_here ∙ ap (option_and_then (λ b. cond (nat_le (length b) inventory_limit) (table_of b) None)) is.1 ∙ ap (λ b. cond b (table_of is.0) None) (not_within (length is.0) inventory_limit is.2)
+
+  one_apart : AllPairs (λ n m. n ≢ m) (inventory_name ∷ [])
+  one_apart i j d l k = absurd (omega (arith, l, k))
+
+  abbrev table_opens : (s t : Store) (f : Option Bounded) → ReadsFile root s t o inventory_name inventory_limit (Ok f) → Opens root s t o
+  table_opens s t f k =
+      let some = some_of root o s t (inventory_name ∷ []) k.gives.0 in
+      record { reads = some_is_meta root o h.zone (inventory_name ∷ []) refl one_apart s t some; heads = inventory_opened root o h.zone some.trail some.opened }
+
+  pub table_reads : (s t : Store) (f : Option Bounded) (table : Option Table) → ReadsFile root s t o inventory_name inventory_limit (Ok f) → table ≡ table_given f → ReadsTable root s t o (Ok table)
+  table_reads s t f table k e = record { gives = (table_opens s t f k, e ∙ sym (table_is_given f k.gives.1), inventory_alone root o h.zone k.gives.0.trail (some_of root o s t (inventory_name ∷ []) k.gives.0).opened) }
+
+  pub table_memory : (s t : Store) (f : Option Bounded) → ReadsFile root s t o inventory_name inventory_limit (Ok f) → ReadsTable root s t o (Err fault.Memory)
+  table_memory s t f k = let opens = table_opens s t f k in record { gives = (record { stops = memory_stops root s t [] opens.reads; heads = opens.heads }, inventory_alone root o h.zone k.gives.0.trail (some_of root o s t (inventory_name ∷ []) k.gives.0).opened) }
+
+  pub table_fails : (s t : Store) (why : Fault) → ReadsFile root s t o inventory_name inventory_limit (Err why) → ReadsTable root s t o (Err why)
+  table_fails s t why k = record {
+    gives = (
+      record { stops = stop_is_meta root o h.zone (inventory_name ∷ []) refl one_apart s t why k.gives; heads = inventory_opened root o h.zone k.gives.trail k.gives.opened },
+      inventory_alone root o h.zone k.gives.trail k.gives.opened,
+    );
+  }
+
+  pub table_whole : (s t : Store) (v : Vec ℕ Global) (table : Option Table) (bytes : Text) → ReadsFile root s t o inventory_name inventory_limit (Ok (Some (bounded.Whole v))) → bytes ≡ v.items → table ≡ table_of bytes → ReadsTable root s t o (Ok table)
+  table_whole s t v table bytes k same e = table_reads s t (Some (bounded.Whole v)) table k (e ∙ ap table_of same)
+
+  pub table_over : (s t : Store) → ReadsFile root s t o inventory_name inventory_limit (Ok (Some bounded.Over)) → ReadsTable root s t o (Ok None)
+  table_over s t k = table_reads s t (Some bounded.Over) None k refl
+
+  pub table_absent : (s t : Store) → ReadsFile root s t o inventory_name inventory_limit (Ok None) → ReadsTable root s t o (Ok None)
+  table_absent s t k = table_reads s t None None k refl
+
+-- ---- one file after the other
+
+module _ (root : Tree) (o : Place) where
+  pub over_file : (s t : Store) (n : Text) (limit : ℕ) (f : Option Bounded) → ReadsFile root s t o n limit (Ok f) → t.tree ≡ root
+  over_file s t n limit f h = h.gives.0.did.tree ∙ h.gives.0.over
+
+  pub first_stops : (s t : Store) (n : Text) (ns : List Text) (limit : ℕ) (why : Fault) → ReadsFile root s t o n limit (Err why) → FilesStop root s t o (n ∷ ns) why
+  first_stops s t n ns limit why h = stop_more root o s t (n ∷ []) ns why h.gives
+
+  pub later_stops : (s t u : Store) (n : Text) (ns : List Text) (limit : ℕ) (f : Option Bounded) (why : Fault) → ReadsFile root s t o n limit (Ok f) → FilesStop root t u o ns why → FilesStop root s u o (n ∷ ns) why
+  later_stops s t u n ns limit f why h k = stop_then root o s t u (n ∷ []) ns why h.gives.0 k
+
+  pub second_stops : (s t u : Store) (n m : Text) (limit : ℕ) (f : Option Bounded) (why : Fault) → ReadsFile root s t o n limit (Ok f) → ReadsFile root t u o m limit (Err why) → FilesStop root s u o (n ∷ m ∷ []) why
+  second_stops s t u n m limit f why h k = later_stops s t u n (m ∷ []) limit f why h k.gives
+
+  pub both_read : (s t u : Store) (n m : Text) (limit : ℕ) (f g : Option Bounded) → ReadsFile root s t o n limit (Ok f) → ReadsFile root t u o m limit (Ok g)
+      → ReadsFiles root s u o (n ∷ m ∷ []) × IsFileAt root (o ++ n ∷ []) limit f × IsFileAt root (o ++ m ∷ []) limit g
+  both_read s t u n m limit f g h k = (files_then root o s t u (n ∷ []) (m ∷ []) h.gives.0 k.gives.0, h.gives.1, k.gives.1)
+
+  pub first_some : (s t : Store) (n : Text) (ns : List Text) (limit : ℕ) (f : Option Bounded) → ReadsFile root s t o n limit (Ok f) → ReadsSome root s t o (n ∷ ns)
+  first_some s t n ns limit f h = some_more root o s t (n ∷ []) ns (some_of root o s t (n ∷ []) h.gives.0)
+
+  pub first_memory : (s t : Store) (n : Text) (ns : List Text) (limit : ℕ) (f : Option Bounded) → ReadsFile root s t o n limit (Ok f) → FilesStop root s t o (n ∷ ns) fault.Memory
+  first_memory s t n ns limit f h = memory_after root o s t (n ∷ ns) (first_some s t n ns limit f h)
+
+  pub all_some : (s t u : Store) (n : Text) (ns : List Text) (limit : ℕ) (f : Option Bounded) → ReadsFile root s t o n limit (Ok f) → ReadsFiles root t u o ns → ReadsSome root s u o (n ∷ ns)
+  all_some s t u n ns limit f h k = some_then root o s t u (n ∷ []) ns h.gives.0 (some_of root o t u ns k)
+
+  pub all_memory : (s t u : Store) (n : Text) (ns : List Text) (limit : ℕ) (f : Option Bounded) → ReadsFile root s t o n limit (Ok f) → ReadsFiles root t u o ns → FilesStop root s u o (n ∷ ns) fault.Memory
+  all_memory s t u n ns limit f h k = memory_after root o s u (n ∷ ns) (all_some s t u n ns limit f h k)
+
+  pub later_some : (s t u : Store) (n : Text) (ns : List Text) (limit : ℕ) (f : Option Bounded) → ReadsFile root s t o n limit (Ok f) → ReadsSome root t u o ns → ReadsSome root s u o (n ∷ ns)
+  later_some s t u n ns limit f h k = some_then root o s t u (n ∷ []) ns h.gives.0 k
+
+  pub later_memory : (s t u : Store) (n : Text) (ns : List Text) (limit : ℕ) (f : Option Bounded) → ReadsFile root s t o n limit (Ok f) → ReadsSome root t u o ns → FilesStop root s u o (n ∷ ns) fault.Memory
+  later_memory s t u n ns limit f h k = memory_after root o s u (n ∷ ns) (later_some s t u n ns limit f h k)
+
+  -- ---- the table of an inventory
+
+  pub no_inventory_table : file_at root (o ++ inventory_name ∷ []) ≡ None → None ≡ table_in (file_at root (o ++ inventory_name ∷ []))
+  no_inventory_table none = sym (ap table_in none)
+
+  pub long_inventory_table : IsFileAt root (o ++ inventory_name ∷ []) inventory_limit (Some bounded.Over) → None ≡ table_in (file_at root (o ++ inventory_name ∷ []))
+  long_inventory_table is = sym (ap table_in is.1 ∙ ap (λ b. cond b (table_of is.0) None) (not_within (length is.0) inventory_limit is.2))
+
+  pub inventory_table : (v : Vec ℕ Global) (bytes : Text) (table : Option Table) → IsFileAt root (o ++ inventory_name ∷ []) inventory_limit (Some (bounded.Whole v)) → bytes ≡ v.items → table ≡ table_of bytes
+      → table ≡ table_in (file_at root (o ++ inventory_name ∷ []))
+  inventory_table v bytes table is same h =
+      h ∙ ap table_of (same ∙ is.2.0) ∙ sym (ap table_in is.1 ∙ ap (λ b. cond b (table_of is.0) None) (le-leb (length is.0) inventory_limit is.2.1))
+
+  -- ---- the lines about an inventory
+
+  pub no_inventory_lines : (old new : List MadeLine) → file_at root (o ++ inventory_name ∷ []) ≡ None → Adds old new o (plain E063 ∷ []) → Adds old new o (inventory_file_notes root o (file_at root (o ++ inventory_name ∷ [])))
+  no_inventory_lines old new none h = subst (λ f. Adds old new o (inventory_file_notes root o f)) (sym none) h
+
+  pub long_inventory_lines : (old new : List MadeLine) → IsFileAt root (o ++ inventory_name ∷ []) inventory_limit (Some bounded.Over) → Adds old new o (plain S02 ∷ []) → Adds old new o (inventory_file_notes root o (file_at root (o ++ inventory_name ∷ [])))
+  long_inventory_lines old new is h =
+      subst (λ f. Adds old new o (inventory_file_notes root o f)) (sym is.1)
+      (subst (λ b. Adds old new o (cond b (sidecars_notes root o is.0 ++ inventory_part root o is.0 (algorithm_of is.0)) (plain S02 ∷ []))) (sym (not_within (length is.0) inventory_limit is.2)) h)
+
+  pub inventory_lines : (old new : List MadeLine) (v : Vec ℕ Global) (bytes : Text) → IsFileAt root (o ++ inventory_name ∷ []) inventory_limit (Some (bounded.Whole v)) → bytes ≡ v.items → Adds old new o (sidecars_notes root o bytes ++ inventory_part root o bytes (algorithm_of bytes))
+      → Adds old new o (inventory_file_notes root o (file_at root (o ++ inventory_name ∷ [])))
+  inventory_lines old new v bytes is same h =
+      let k : Adds old new o (sidecars_notes root o is.0 ++ inventory_part root o is.0 (algorithm_of is.0)) = subst (λ b. Adds old new o (sidecars_notes root o b ++ inventory_part root o b (algorithm_of b))) (same ∙ is.2.0) h in
+      subst (λ f. Adds old new o (inventory_file_notes root o f)) (sym is.1)
+      (subst (λ b. Adds old new o (cond b (sidecars_notes root o is.0 ++ inventory_part root o is.0 (algorithm_of is.0)) (plain S02 ∷ []))) (sym (le-leb (length is.0) inventory_limit is.2.1)) k)
+
+-- ---- the head
+
+pub inside_not_root : (root : Tree) (o q : Place) → zone root [] ≡ inside o q → ⊥
+inside_not_root root o q z = by (not (is_known (root_declared root))) z
+  where
+    by : (b : Bool) → cond (b || false) skipped hierarchy ≡ inside o q → ⊥
+    by true e = cc
+    by false e = cc
+
+pub head_notes_are : (root : Tree) (o : Place) → zone root o ≡ inside o [] → notes root None o ≡ head_notes_by root o (object_declared root o)
+head_notes_are root o z = notes_at root None o (λ e. inside_not_root root o [] (ap (zone root) (sym e) ∙ z)) ∙ ap (notes_in root o None) z
+
+names_distinct : (v : Version) → IsDistinct text_eq (head_names v)
+unfolding IsDistinct
+names_distinct V1_0 = ((refl, (refl, (refl, tt))), ((refl, (refl, tt)), ((refl, tt), (tt, tt))))
+names_distinct V1_1 = ((refl, (refl, (refl, tt))), ((refl, (refl, tt)), ((refl, tt), (tt, tt))))
+
+names_apart : (v : Version) → AllPairs (λ n m. n ≢ m) (head_names v)
+names_apart v = AllPairs-from_IsDistinct text_eq-Decides (head_names v) (names_distinct v)
+
+names_meta : (v : Version) → list_all (λ n. is_object_meta (n ∷ [])) (head_names v) ≡ true
+names_meta V1_0 = refl
+names_meta V1_1 = refl
+
+pub declaration_is_meta : (n : Text) (v : Version) → n ≡ declaration_name level.Object v → is_object_meta (n ∷ []) ≡ true
+declaration_is_meta n v e = ap (λ m. is_object_meta (m ∷ [])) e ∙ by v
+  where
+    by : (v : Version) → is_object_meta (declaration_name level.Object v ∷ []) ≡ true
+    by V1_0 = refl
+    by V1_1 = refl
+
+pub head_declaration : (root : Tree) (o : Place) (s t : Store) (n m : Text) (limit : ℕ) (r : Result (Option Bounded) Fault) → n ≡ m → ReadsFile root s t o n limit r → ReadsFile root s t o m limit r
+head_declaration root o s t n m limit r e h = subst (λ x. ReadsFile root s t o x limit r) e h
+
+pub first_added : (old new : List MadeLine) (p : Place) (ns : List Note) → old ≡ [] → Adds old new p ns → Adds [] new p ns
+first_added old new p ns none h = subst (λ x. Adds x new p ns) none h
+
+module _ (root : Tree) (o : Place) (z : zone root o ≡ inside o []) (v : Version) where
+  pub head_stops : (s t : Store) (why : Fault) → FilesStop root s t o (head_names v) why → ReadsHead root s t o (Err why)
+  head_stops s t why h = record { gives = record { stops = stop_is_meta root o z (head_names v) (names_meta v) (names_apart v) s t why h; heads = head_opened root o z v h.trail h.opened } }
+
+  pub head_read : (s t : Store) (lines : Vec MadeLine Global) (table : Option Table) → object_declared root o ≡ known v → ReadsSome root s t o (head_names v) → map line_of lines.items ≡ lines_at o (notes root None o)
+      → table ≡ table_in (file_at root (o ++ inventory_name ∷ [])) → ReadsHead root s t o (Ok (lines, table))
+  head_read s t lines table same h is given = record {
+    gives = (
+      record { reads = some_is_meta root o z (head_names v) (names_meta v) (names_apart v) s t h; heads = head_opened root o z v h.trail h.opened },
+      is,
+      given ∙ sym (ap (λ d. table_in (cond (is_known d) (file_at root (o ++ inventory_name ∷ [])) None)) same),
+    );
+  }
+
+  pub known_lines : (a b c : List MadeLine) → object_declared root o ≡ known v → Adds [] a o (on (not (is_exact_declaration root o level.Object v)) (plain E007)) → Adds a b o (inventory_file_notes root o (file_at root (o ++ inventory_name ∷ [])))
+      → ((ns : List Note) → Adds [] b o ns → Adds [] c o (or_clean ns)) → map line_of c ≡ lines_at o (notes root None o)
+  known_lines a b c is h k clean =
+      clean (on (not (is_exact_declaration root o level.Object v)) (plain E007) ++ inventory_file_notes root o (file_at root (o ++ inventory_name ∷ []))) (adds_both [] a b o _ _ h k)
+      ∙ ap (lines_at o) (sym (head_notes_are root o z ∙ ap (head_notes_by root o) is))
+
+pub stopped_head : (root : Tree) (o : Place) (es : List Entry) (m : MadeDeclared) (s : Store) (lines : Vec MadeLine Global) → s.tree ≡ root → IsDeclared root o es m → is_known (meaning level.Object es m) ≡ false → Adds [] lines.items o (head_notes_by root o (meaning level.Object es m))
+    → ReadsHead root s s o (Ok (lines, None))
+stopped_head root o es m s lines over h stops k = record {
+  gives = (
+    record { reads = reads_nothing root s over; heads = (o ∷ [], refl) },
+    k ∙ ap (lines_at o) (sym (head_notes_are root o h.zone ∙ ap (head_notes_by root o) (sym h.says))),
+    sym (ap (λ b. table_in (cond b (file_at root (o ++ inventory_name ∷ [])) None)) (ap is_known (sym h.says) ∙ stops)),
+  );
+}
+
+pub stopped_memory : (root : Tree) (o : Place) (s : Store) → s.tree ≡ root → ReadsHead root s s o (Err fault.Memory)
+stopped_memory root o s over = record { gives = record { stops = memory_stops root s s [] (reads_nothing root s over); heads = (o ∷ [], refl) } }
+
+pub stop_added : (root : Tree) (o : Place) (es : List Entry) (m : MadeDeclared) (old new : List MadeLine) (given : List Entry) → given ≡ es → old ≡ [] → is_known (meaning level.Object es m) ≡ false → PointsAtOne level.Object es m
+    → (is_known (meaning level.Object given m) ≡ false → PointsAtOne level.Object given m → Adds old new o (head_notes_by root o (meaning level.Object given m))) → Adds [] new o (head_notes_by root o (meaning level.Object es m))
+stop_added root o es m old new given same none h k adds =
+    first_added old new o (head_notes_by root o (meaning level.Object es m)) none
+    (subst (λ xs. is_known (meaning level.Object xs m) ≡ false → PointsAtOne level.Object xs m → Adds old new o (head_notes_by root o (meaning level.Object xs m))) same adds h k)

@@ -1,0 +1,163 @@
+-- The lines of an object's head, from files that were read before.
+use Rattle.std.proofs.Common.{◌≡◌, ℕ, ◌<◌, ◌≤◌, List, [], ◌∷◌, ◌++◌, Bool, true, false, Option, Some, None, Result, Ok, Err, OnOk, length, map, refl, sym, ◌∙◌, ap, subst, arith}
+use Rattle.std.specs.Prelude.{◌&&◌, nat_eq, is_some, slice_get, IfSome}
+use Rattle.std.specs.List.{starts_with}
+use Rattle.std.specs.Result.{result_ok}
+use Rattle.std.proofs.lemmas.Slice.Eq.{starts_is}
+use Rattle.std.proofs.lemmas.Bool.Decides.{Decides-eqb}
+use Rattle.std.proofs.lemmas.List.{append-nil}
+use Rattle.ocfl_tree.specs.Place.{Place, Text, text_eq}
+use Rattle.ocfl_tree.specs.Tree.{Tree, file_at}
+use Rattle.ocfl_tree.specs.declared.store.Entry.{Entry}
+use Rattle.ocfl_tree.specs.declared.store.Kind.{Kind}
+use Rattle.ocfl_tree.specs.declared.store.Kind.TheVariants.{File, Dir, Other}
+use Rattle.ocfl_tree.proofs.Orders.{true_not_false}
+use Rattle.ocfl_report.specs.Line.{Note, Line, note, line_of, lines_at}
+use Rattle.ocfl_report.specs.declared.code.Code.TheVariants.{S01}
+use Rattle.ocfl_report.specs.declared.line.Line.{Line as MadeLine}
+use Rattle.ocfl_digest.specs.Bounded.{IsBoundedTo}
+use Rattle.ocfl_digest.specs.declared.algorithm.Algorithm.{Algorithm}
+use Rattle.ocfl_digest.specs.declared.bounded.Bounded.{Bounded}
+use Rattle.ocfl_inventory.specs.Reading.{Reading, algorithm_of}
+use Rattle.ocfl_inventory.specs.Notes.{notes_of}
+use Rattle.ocfl_inventory.specs.Sidecar.{sidecar_digits}
+use Rattle.ocfl_inventory.specs.Declaration.{Declared, unknown, prefix, after_prefix, declaration_name, declaration_bytes, is_declaration, is_known}
+use Rattle.ocfl_inventory.specs.Entries.{is_file, is_counted, meaning, unknown_by, PointsAtOne}
+use Rattle.ocfl_inventory.specs.declared.declaration.Level.{Level}
+use Rattle.ocfl_inventory.specs.declared.declaration.Level.TheVariants.{Root, Object}
+use Rattle.ocfl_inventory.specs.declared.declaration.Declared.{Declared as MadeDeclared}
+use Rattle.ocfl_inventory.specs.declared.declaration.Declared.TheVariants as made
+use Rattle.ocfl_inventory.specs.declared.declaration.Version.{Version}
+use Rattle.ocfl_inventory.specs.declared.declaration.Version.TheVariants.{V1_0, V1_1}
+use Rattle.ocfl_audit.specs.Head.{on, is_exact_declaration, inventory_part}
+use Rattle.ocfl_item.specs.HeadFiles.{IsFileAt}
+use Rattle.ocfl_item.specs.HeadLines.{declared_notes, note_of, named_notes}
+use Rattle.ocfl_item.specs.Pending.{Adds}
+use Rattle.ocfl_audit.proofs.BelowLaws.{text_from_test}
+use Rattle.ocfl_item.proofs.WrongLaws.{adds_both}
+use Rattle.ocfl_item.proofs.InventoryLaws.{stopped_notes, stated_has_sidecar}
+
+-- ---- lines that are there or not
+
+pub adds_none : (old : List MadeLine) (p : Place) → Adds old old p []
+adds_none old p = sym (append-nil (map line_of old))
+
+pub adds_not : (old : List MadeLine) (p : Place) (b : Bool) (n : Note) → b ≡ false → Adds old old p (on b n)
+adds_not old p b n h = subst (λ c. Adds old old p (on c n)) (sym h) (adds_none old p)
+
+pub adds_two : {X E : Type 0} (old mid new : List MadeLine) (p : Place) (r : Result X E) (ms ns : List Note) → Adds old mid p ms → OnOk r (Adds mid new p ns) → OnOk r (Adds old new p (ms ++ ns))
+adds_two old mid new p (Ok _) ms ns h k = adds_both old mid new p ms ns h k
+adds_two old mid new p (Err e) ms ns h k = tt
+
+pub adds_three : {E : Type 0} (old one two new : List MadeLine) (p : Place) (r : Result (Unit {0}) E) (ls ms ns : List Note) → Adds old one p ls → Adds one two p ms → OnOk r (Adds two new p ns) → OnOk r (Adds old new p (ls ++ ms ++ ns))
+adds_three old one two new p r ls ms ns h k l = adds_two old two new p r (ls ++ ms) ns (adds_both old one two p ls ms h k) l
+
+-- ---- declarations
+
+short_declaration : (l : Level) (v : Version) → length (declaration_bytes l v) ≤ 4096
+short_declaration Root V1_0 = omega arith
+short_declaration Root V1_1 = omega arith
+short_declaration Object V1_0 = omega arith
+short_declaration Object V1_1 = omega arith
+
+pub long_is_other : (text bytes : Text) (limit : ℕ) → limit < length text → length bytes ≤ limit → text_eq text bytes ≡ false
+long_is_other text bytes limit long short = by (text_eq text bytes) refl
+  where
+    by : (b : Bool) → text_eq text bytes ≡ b → b ≡ false
+    by true e = absurd (omega (arith, ap length (text_from_test text bytes e)))
+    by false e = refl
+
+pub exact_by : (root : Tree) (o : Place) (l : Level) (v : Version) (f : Option Bounded) (b : Bounded) (exact : Text) (r : Bool) → f ≡ Some b → exact ≡ declaration_bytes l v
+    → ((text : Text) → IsBoundedTo 4096 text b → length exact ≤ 4096 → r ≡ text_eq text exact)
+    → IsFileAt root (o ++ declaration_name l v ∷ []) 4096 f → r ≡ is_exact_declaration root o l v
+exact_by root o l v f b exact r is same told h =
+    let read : IsFileAt root (o ++ declaration_name l v ∷ []) 4096 (Some b) = subst (IsFileAt root (o ++ declaration_name l v ∷ []) 4096) is h in
+    told read.0 read.2 (subst (λ t. length t ≤ 4096) (sym same) (short_declaration l v)) ∙ ap (text_eq read.0) same ∙ sym (exactly read.0 read.1)
+  where
+    exactly : (bytes : Text) → file_at root (o ++ declaration_name l v ∷ []) ≡ Some bytes → is_exact_declaration root o l v ≡ text_eq bytes (declaration_bytes l v)
+    exactly bytes at = rw at
+
+-- ---- heads that stop
+
+pub counted_begins : (l : Level) (e : Entry) → is_counted l e ≡ true → e.name ≡ prefix l ++ after_prefix l e.name
+counted_begins l e h = by e.kind h
+  where
+    first : (a b : Bool) → a && b ≡ true → a ≡ true
+    first true b k = refl
+    first false b k = absurd (true_not_false (sym k))
+
+    by : (k : Kind) → is_file k && is_declaration l e.name ≡ true → e.name ≡ prefix l ++ after_prefix l e.name
+    by File g = (starts_is Decides-eqb e.name (prefix l) (starts_with nat_eq e.name (prefix l)) refl).0 (first _ _ g)
+    by Dir g = absurd (true_not_false (sym g))
+    by Other g = absurd (true_not_false (sym g))
+
+-- the name of a declaration whose version is not known
+pub record IsUnknown (root : Tree) (o : Place) (l : Level) (d : Declared) (name : Text) : Type 0 where
+  pub begins : name ≡ prefix l ++ after_prefix l name
+  pub lines : declared_notes root o l d ≡ note S01 (after_prefix l name) ∷ []
+
+unknown_lines : (root : Tree) (o : Place) (l : Level) (t : Text) → declared_notes root o l (unknown t) ≡ note S01 t ∷ []
+unknown_lines root o Root t = refl
+unknown_lines root o Object t = refl
+
+pub unknown_name : (root : Tree) (o : Place) (l : Level) (es : List Entry) (d : MadeDeclared) (i : ℕ) (e : Entry) → d ≡ made.Unknown i → slice_get es i ≡ Some e → PointsAtOne l es d → IsUnknown root o l (meaning l es d) e.name
+unknown_name root o l es d i e is at points =
+    let one : PointsAtOne l es (made.Unknown i) = subst (PointsAtOne l es) is points in
+    let same : Some one.0 ≡ Some e = sym one.1 ∙ at in
+    record {
+      begins = counted_begins l e (subst (λ x. is_counted l x ≡ true) (entry_same one.0 e same) one.2);
+      lines = ap (λ x. declared_notes root o l (meaning l es x)) is ∙ ap (λ x. declared_notes root o l (unknown_by l x)) at ∙ unknown_lines root o l (after_prefix l e.name);
+    }
+  where
+    entry_same : (x y : Entry) → Some x ≡ Some y → x ≡ y
+    entry_same x y k = cc
+
+-- the entry of an unknown version is there
+pub unknown_there : (l : Level) (es : List Entry) (d : MadeDeclared) (i : ℕ) → d ≡ made.Unknown i → slice_get es i ≡ None → PointsAtOne l es d → ⊥
+unknown_there l es d i is at points =
+    let one : PointsAtOne l es (made.Unknown i) = subst (PointsAtOne l es) is points in
+    not_both one.0 (sym at ∙ one.1)
+  where
+    not_both : (e : Entry) → None ≡ Some e → ⊥
+    not_both e k = cc
+
+-- what declares no one known version stops
+pub unknown_stops : (l : Level) (es : List Entry) (m : MadeDeclared) → ((v : Version) → m ≡ made.One v → ⊥) → PointsAtOne l es m → is_known (meaning l es m) ≡ false
+unknown_stops l es made.None none k = refl
+unknown_stops l es (made.One v) none k = absurd (none v refl)
+unknown_stops l es (made.Unknown i) none k = ap (λ e. is_known (unknown_by l e)) k.1
+unknown_stops l es made.Several none k = refl
+
+-- ---- what an inventory says
+
+notes_back : (p : Place) (ls : List MadeLine) (ns : List Note) → map line_of ls ≡ lines_at p ns → map note_of ls ≡ ns
+notes_back p ls ns h = each ls ∙ ap (map note_in) h ∙ back ns
+  where
+    note_in : Line → Note
+    note_in l = note l.code l.detail
+
+    each : (ls : List MadeLine) → map note_of ls ≡ map note_in (map line_of ls)
+    each [] = refl
+    each (l ∷ ls) = ap (λ ns. note_of l ∷ ns) (each ls)
+
+    back : (ns : List Note) → map note_in (lines_at p ns) ≡ ns
+    back [] = refl
+    back (n ∷ ns) = ap (λ ms. n ∷ ms) (back ns)
+
+part_is : (root : Tree) (o : Place) (bytes : Text) → named_notes root o (result_ok (algorithm_of bytes)) ++ notes_of bytes ≡ inventory_part root o bytes (algorithm_of bytes)
+part_is root o bytes = by (algorithm_of bytes) refl
+  where
+    by : (r : Reading Algorithm) → algorithm_of bytes ≡ r → named_notes root o (result_ok r) ++ notes_of bytes ≡ inventory_part root o bytes r
+    by (Ok a) e = refl
+    by (Err n) e = stopped_notes bytes n e
+
+pub read_part : (root : Tree) (o : Place) (bytes : Text) (a : Option Algorithm) (ls : List MadeLine) → a ≡ result_ok (algorithm_of bytes) → map line_of ls ≡ lines_at [] (notes_of bytes)
+    → named_notes root o a ++ map note_of ls ≡ inventory_part root o bytes (algorithm_of bytes)
+read_part root o bytes a ls is read = (λ i. named_notes root o (is i) ++ notes_back [] ls (notes_of bytes) read i) ∙ part_is root o bytes
+
+pub named_have_sidecars : (bytes : Text) (a : Option Algorithm) → a ≡ result_ok (algorithm_of bytes) → IfSome a (λ x. is_some (sidecar_digits x) ≡ true)
+named_have_sidecars bytes a is = subst (λ o. IfSome o (λ x. is_some (sidecar_digits x) ≡ true)) (sym is) (by (algorithm_of bytes) refl)
+  where
+    by : (r : Reading Algorithm) → algorithm_of bytes ≡ r → IfSome (result_ok r) (λ x. is_some (sidecar_digits x) ≡ true)
+    by (Ok a) e = stated_has_sidecar bytes a e
+    by (Err n) e = tt

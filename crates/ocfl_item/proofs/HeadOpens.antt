@@ -1,0 +1,99 @@
+-- Which of an object's own files were opened.
+use Rattle.std.proofs.Common.{◌≡◌, List, [], ◌∷◌, ◌++◌, refl, sym, ◌∙◌, ap, subst, true, false, ℕ, Option, Some, None, length}
+use Rattle.std.proofs.lemmas.Bool.{le-leb}
+use Rattle.std.specs.Prelude.{cond, Result, Ok, Vec}
+use Rattle.std.specs.declared.alloc.Global.{Global}
+use Rattle.ocfl_tree.specs.Place.{Text, Place}
+use Rattle.ocfl_tree.specs.Tree.{Tree, file_at}
+use Rattle.ocfl_tree.specs.Store.{Store}
+use Rattle.ocfl_tree.specs.declared.store.Entry.{Entry}
+use Rattle.ocfl_digest.specs.declared.algorithm.Algorithm.TheVariants.{Sha256, Sha512}
+use Rattle.ocfl_digest.specs.declared.bounded.Bounded.{Bounded}
+use Rattle.ocfl_digest.specs.declared.bounded.Bounded.TheVariants as bounded
+use Rattle.ocfl_inventory.specs.Declaration.{Declared, undeclared, known, unknown, several, is_known}
+use Rattle.ocfl_inventory.specs.Entries.{meaning}
+use Rattle.ocfl_inventory.specs.declared.declaration.Declared.{Declared as MadeDeclared}
+use Rattle.ocfl_inventory.specs.declared.declaration.Declared.TheVariants as made
+use Rattle.ocfl_inventory.specs.declared.declaration.Level.TheVariants as level
+use Rattle.ocfl_inventory.specs.declared.declaration.Version.{Version}
+use Rattle.ocfl_audit.specs.Head.{sidecar_name}
+use Rattle.ocfl_audit.specs.Zone.{inventory_name, inventory_limit, object_declared}
+use Rattle.ocfl_item.specs.HeadFiles.{FilesStop, IsFileAt, OpensJust, ReadsFile, ReadsFiles, files_there, head_files, inventory_files, sidecars_for}
+use Rattle.ocfl_item.specs.Ways.{IsDeclared, IsObject}
+use Rattle.ocfl_item.specs.declared.fault.Fault.{Fault}
+use Rattle.ocfl_item.specs.declared.fault.Fault.TheVariants as fault
+use Rattle.ocfl_item.proofs.FileLaws.{files_then, memory_after, some_of}
+use Rattle.ocfl_item.proofs.HeadCalls.{all_memory, later_stops, not_within}
+use Rattle.ocfl_item.proofs.LooksCalls.{did_nothing, memory_no_store}
+
+abbrev both : List Text
+both = sidecar_name Sha256 ∷ sidecar_name Sha512 ∷ []
+
+module _ (root : Tree) (o : Place) where
+  -- ---- which sidecars are read
+
+  pub sidecars_none : file_at root (o ++ inventory_name ∷ []) ≡ None → sidecars_for (file_at root (o ++ inventory_name ∷ [])) ≡ []
+  sidecars_none is = ap sidecars_for is
+
+  pub sidecars_over : IsFileAt root (o ++ inventory_name ∷ []) inventory_limit (Some bounded.Over) → sidecars_for (file_at root (o ++ inventory_name ∷ [])) ≡ []
+  sidecars_over is = ap sidecars_for is.1 ∙ ap (λ b. cond b both []) (not_within (length is.0) inventory_limit is.2)
+
+  pub sidecars_within : (v : Vec ℕ Global) → IsFileAt root (o ++ inventory_name ∷ []) inventory_limit (Some (bounded.Whole v)) → sidecars_for (file_at root (o ++ inventory_name ∷ [])) ≡ both
+  sidecars_within v is = ap sidecars_for is.1 ∙ ap (λ b. cond b both []) (le-leb (length is.0) inventory_limit is.2.1)
+
+  -- ---- what is read about an inventory
+
+  pub inventory_alone : (s t : Store) → sidecars_for (file_at root (o ++ inventory_name ∷ [])) ≡ [] → ReadsFiles root s t o (inventory_name ∷ []) → ReadsFiles root s t o (inventory_files root o)
+  inventory_alone s t e h = subst (λ ns. ReadsFiles root s t o (inventory_name ∷ ns)) (sym e) h
+
+  pub with_sidecars : (s t u : Store) (f : Option Bounded) → sidecars_for (file_at root (o ++ inventory_name ∷ [])) ≡ both → ReadsFile root s t o inventory_name inventory_limit (Ok f) → ReadsFiles root t u o both → ReadsFiles root s u o (inventory_files root o)
+  with_sidecars s t u f e h k = subst (λ ns. ReadsFiles root s u o (inventory_name ∷ ns)) (sym e) (files_then root o s t u (inventory_name ∷ []) both h.gives.0 k)
+
+  pub sidecars_stop : (s t u : Store) (f : Option Bounded) (why : Fault) → sidecars_for (file_at root (o ++ inventory_name ∷ [])) ≡ both → ReadsFile root s t o inventory_name inventory_limit (Ok f) → FilesStop root t u o both why → FilesStop root s u o (inventory_files root o) why
+  sidecars_stop s t u f why e h k = subst (λ ns. FilesStop root s u o (inventory_name ∷ ns) why) (sym e) (later_stops root o s t u inventory_name both inventory_limit f why h k)
+
+  pub sidecars_memory : (s t u : Store) (f : Option Bounded) → sidecars_for (file_at root (o ++ inventory_name ∷ [])) ≡ both → ReadsFile root s t o inventory_name inventory_limit (Ok f) → ReadsFiles root t u o both → FilesStop root s u o (inventory_files root o) fault.Memory
+  sidecars_memory s t u f e h k = subst (λ ns. FilesStop root s u o (inventory_name ∷ ns) fault.Memory) (sym e) (all_memory root o s t u inventory_name both inventory_limit f h k)
+
+  pub one_memory : (s t : Store) (n : Text) (limit : ℕ) (f : Option Bounded) → ReadsFile root s t o n limit (Ok f) → FilesStop root s t o (n ∷ []) fault.Memory
+  one_memory s t n limit f h = memory_after root o s t (n ∷ []) (some_of root o s t (n ∷ []) h.gives.0)
+
+  pub then_all : (s t u : Store) (n : Text) (ns : List Text) (limit : ℕ) (f : Option Bounded) → ReadsFile root s t o n limit (Ok f) → ReadsFiles root t u o ns → ReadsFiles root s u o (n ∷ ns)
+  then_all s t u n ns limit f h k = files_then root o s t u (n ∷ []) ns h.gives.0 k
+
+  -- ---- nothing
+
+  no_head_files : (d : Declared) → is_known d ≡ false → head_files root o d ≡ []
+  no_head_files undeclared h = refl
+  no_head_files (known v) h = absurd (never h)
+    where
+      never : true ≡ false → ⊥
+      never e = cc
+  no_head_files (unknown t) h = refl
+  no_head_files several h = refl
+
+  pub stop_opens_none : (es : List Entry) (m : MadeDeclared) (s : Store) → s.tree ≡ root → IsDeclared root o es m → is_known (meaning level.Object es m) ≡ false → ReadsFiles root s s o (head_files root o (object_declared root o))
+  stop_opens_none es m s over h stops =
+      subst (ReadsFiles root s s o) (sym (ap (head_files root o) (sym h.says) ∙ no_head_files (meaning level.Object es m) stops)) (record { over = over; trail = []; did = did_nothing s; opened = refl })
+
+  pub none_memory : (s : Store) (ns : List Text) → s.tree ≡ root → FilesStop root s s o ns fault.Memory
+  none_memory s ns over = record {
+    trail = [];
+    stops = record { goes = record { over = over; listings = []; did = did_nothing s; listed = ([], refl) }; store = λ q e. absurd (memory_no_store q e) };
+    opened = (files_there root o ns, refl);
+  }
+
+  -- ---- a known version
+
+  pub known_object : (es : List Entry) (m : MadeDeclared) (v : Version) → m ≡ made.One v → IsDeclared root o es m → IsObject root o es
+  known_object es m v is h = record {
+    listing = h.listing;
+    way = h.way;
+    listable = h.listable;
+    zone = h.zone;
+    known = ap is_known (sym h.says ∙ ap (meaning level.Object es) is);
+  }
+
+  pub known_opens : {A : Type 0} (es : List Entry) (m : MadeDeclared) (v : Version) (s t : Store) (r : Result A Fault) → m ≡ made.One v → IsDeclared root o es m → OpensJust root s t o (head_files root o (known v)) r
+      → OpensJust root s t o (head_files root o (object_declared root o)) r
+  known_opens es m v s t r is h k = subst (λ d. OpensJust root s t o (head_files root o d) r) (sym (ap (meaning level.Object es) is) ∙ h.says) k

@@ -1,0 +1,64 @@
+-- The item at a place, from what was looked at.
+use Rattle.std.proofs.Common.{◌≡◌, ◌≢◌, List, [], subst, ◌∷◌, refl, sym, ◌∙◌, ap, true, false, None, map}
+use Rattle.std.specs.Prelude.{nat_lt}
+use Rattle.ocfl_tree.specs.Place.{Place}
+use Rattle.ocfl_tree.specs.Tree.{Tree}
+use Rattle.ocfl_report.specs.Line.{Note, line_of, lines_at}
+use Rattle.ocfl_inventory.specs.Table.{Named}
+use Rattle.ocfl_inventory.specs.TripleView.{named_view}
+use Rattle.ocfl_audit.specs.Zone.{Zone, skipped, hierarchy, inside, zone, seen, object_declared}
+use Rattle.ocfl_audit.specs.Lines.{notes, named_at, cost_of, is_hashed}
+use Rattle.ocfl_audit.specs.Trail.{is_head}
+use Rattle.ocfl_item.specs.Pending.{IsPending}
+use Rattle.ocfl_item.specs.declared.pending.Pending.{Pending}
+use Rattle.ocfl_inventory.specs.Declaration.{Declared, undeclared, known, unknown, several, is_declared}
+use Rattle.ocfl_audit.specs.Head.{or_clean, head_notes_by}
+use Rattle.ocfl_tree.proofs.Orders.{true_not_false}
+use Rattle.ocfl_audit.proofs.AuditExists.{zone_is, append_nothing}
+use Rattle.ocfl_audit.proofs.PathLaws.{named_path}
+use Rattle.ocfl_item.proofs.HeadCalls.{head_notes_are}
+
+-- no digest is named for an object's root
+none_named : (root : Tree) (p : Place) → is_head (zone root p) ≡ true → named_at root p ≡ []
+none_named root p e = by (named_at root p) refl
+  where
+    filled : (n : Named) (ns : List Named) → n ∷ ns ≢ []
+    filled n ns h = cc
+
+    by : (ns : List Named) → named_at root p ≡ ns → named_at root p ≡ []
+    by [] h = h
+    by (n ∷ ns) h =
+        let k = named_path root p (λ g. filled n ns (sym h ∙ g)) in
+        absurd (true_not_false (sym e ∙ ap is_head k.lies))
+
+pub clean_some : (ns : List Note) → or_clean ns ≢ []
+clean_some [] e = cc
+clean_some (n ∷ ns) e = cc
+
+head_some : (root : Tree) (o : Place) (d : Declared) → is_declared d ≡ true → head_notes_by root o d ≢ []
+head_some root o undeclared h e = true_not_false (sym h)
+head_some root o (known v) h e = clean_some _ e
+head_some root o (unknown t) h e = cc
+head_some root o several h e = cc
+
+pub head_zone : (root : Tree) (p : Place) → is_head (zone root p) ≡ true → zone root p ≡ inside p []
+head_zone root p e = by (zone root p) refl e
+  where
+    by : (z : Zone) → zone root p ≡ z → is_head z ≡ true → zone root p ≡ inside p []
+    by skipped h g = absurd (true_not_false (sym g))
+    by hierarchy h g = absurd (true_not_false (sym g))
+    by (inside o []) h g = h ∙ ap (λ x. inside x []) (sym ((zone_is root p o [] h).whole ∙ append_nothing o))
+    by (inside o (n ∷ q)) h g = absurd (true_not_false (sym g))
+
+-- an object's head has lines, and nothing is hashed there
+pub head_pending : (root : Tree) (p : Place) (made : Pending) → is_head (zone root p) ≡ true → made.place ≡ p → made.hashed ≡ false → made.named.items ≡ [] → map line_of made.lines.items ≡ lines_at p (notes root None p) → IsPending root made
+head_pending root p made e place unhashed unnamed lines =
+    let z : zone root p ≡ inside p [] = head_zone root p e in
+    let none : named_at root p ≡ [] = none_named root p e in
+    let some : notes root None p ≢ [] = λ g. head_some root p (object_declared root p) (zone_is root p p [] z).declares (sym (head_notes_are root p z) ∙ g) in
+    record {
+      some = subst (λ x. notes root None x ≢ []) (sym place) some;
+      hashed = unhashed ∙ sym (ap (is_hashed root) place ∙ ap (λ ns. nat_lt 0 (cost_of ns None (seen root p))) none);
+      named = ap (map named_view) unnamed ∙ sym (ap (named_at root) place ∙ none);
+      lines = λ h. subst (λ x. map line_of made.lines.items ≡ lines_at x (notes root None x)) (sym place) lines;
+    }

@@ -1,0 +1,208 @@
+-- What judging one item does to a store that tells its tree.
+use Rattle.std.proofs.Common.{◌≡◌, ◌≢◌, ℕ, ◌+◌, ◌<◌, ◌≤◌, ◌^◌, List, [], ◌∷◌, ◌++◌, length, cond, map, filter, refl, sym, ◌∙◌, ap, subst, true, false, Bool, Option, Some, None, not, arith}
+use Rattle.std.specs.Prelude.{option_and_then}
+use Rattle.ocfl_tree.specs.Place.{Place, Text}
+use Rattle.ocfl_tree.specs.Ascending.{IsAmong}
+use Rattle.ocfl_tree.specs.Tree.{Tree, file_at, bytes_of}
+use Rattle.ocfl_tree.specs.Store.{Store, Did}
+use Rattle.ocfl_tree.specs.Calls.{opening}
+use Rattle.ocfl_tree.specs.declared.store.Opening.{Opening}
+use Rattle.ocfl_report.specs.Line.{plain, line_of, lines_at}
+use Rattle.ocfl_report.specs.declared.code.Code.TheVariants.{S08}
+use Rattle.ocfl_report.specs.declared.line.Line.{Line as MadeLine}
+use Rattle.ocfl_digest.specs.Digest.{digest_bytes_of}
+use Rattle.ocfl_digest.specs.Hashing.{HashesFile, StopsHashing, StopFits, stop_trail, stop_failures}
+use Rattle.ocfl_digest.specs.declared.digests.Digests.{Digests}
+use Rattle.ocfl_digest.specs.declared.stop.Cause.{Cause}
+use Rattle.ocfl_digest.specs.declared.stop.Cause.TheVariants.{Device, Absent, Memory, TooLong}
+use Rattle.ocfl_digest.specs.declared.wanted.Wanted.{Wanted}
+use Rattle.ocfl_inventory.specs.Table.{Named}
+use Rattle.ocfl_inventory.specs.TripleView.{named_view}
+use Rattle.ocfl_inventory.specs.declared.triple.Named.{Named as MadeNamed}
+use Rattle.ocfl_audit.specs.Audit.{given_by}
+use Rattle.ocfl_audit.specs.Due.{items_at, hashed_among}
+use Rattle.ocfl_item.specs.FileLines.{HasDigests}
+use Rattle.ocfl_item.specs.Judging.{HasShortFiles, Judges, JudgeFails}
+use Rattle.ocfl_audit.specs.Lines.{notes, named_at, is_hashed, cost, file_notes, or_bytes, unnamed_notes, wrong_notes}
+use Rattle.ocfl_item.specs.Pending.{IsPending}
+use Rattle.ocfl_audit.specs.Trail.{content_openings, content_trail, heads_of, inventory_of, unread_of}
+use Rattle.ocfl_item.specs.declared.pending.Pending.{Pending}
+use Rattle.ocfl_audit.proofs.AuditExists.{some_not_none}
+use Rattle.ocfl_audit.proofs.BelowLaws.{place_same}
+use Rattle.ocfl_item.proofs.ContentLaws.{IsHashedFile, hashed_file, unhashed_cost}
+use Rattle.ocfl_audit.proofs.PathLaws.{hashed_no_meta, hashed_path}
+use Rattle.ocfl_item.proofs.AuditingLaws.{did_nothing}
+use Rattle.ocfl_item.specs.declared.fault.Fault.TheVariants as fault
+use Rattle.ocfl_item.proofs.WantedLaws.{AreWanted}
+
+-- ---- the lines of a file that some digest is named for
+
+file_whole : (bytes : Text) (ns : List Named) → ns ≢ [] → file_notes bytes ns None ≡ or_bytes bytes (unnamed_notes ns ++ wrong_notes bytes ns)
+file_whole bytes [] h = absurd (h refl)
+file_whole bytes (n ∷ ns) h = refl
+
+file_part : (bytes : Text) (ns : List Named) (given : ℕ) → ns ≢ [] → file_notes bytes ns (Some given) ≡ unnamed_notes ns ++ plain S08 ∷ []
+file_part bytes [] given h = absurd (h refl)
+file_part bytes (n ∷ ns) given h = refl
+
+-- ---- one place and a trail
+
+item_is : (root : Tree) (p : Place) (trail : List Opening) (u : Option ℕ) (lines : List MadeLine) (c : ℕ) → given_by (unread_of root trail) p ≡ u → lines_at p (notes root u p) ≡ map line_of lines → cost root u p ≡ c
+    → items_at root trail (p ∷ []) ≡ record { place = p; lines = map line_of lines; cost = c } ∷ []
+unfolding items_at
+item_is root p trail u lines c e f k =
+    ap (λ g. record { place = p; lines = lines_at p (notes root g p); cost = cost root g p } ∷ []) e ∙ (λ i. record { place = p; lines = f i; cost = k i } ∷ [])
+
+hashed_alone : (root : Tree) (p : Place) (b : Bool) → is_hashed root p ≡ b → hashed_among root (p ∷ []) ≡ cond b (p ∷ []) []
+unfolding hashed_among
+hashed_alone root p b h = ap (λ x. cond x (p ∷ []) []) h
+
+-- ---- an item whose file is not hashed
+
+pub judged_known : (root : Tree) (s : Store) (made : Pending) (lines : List MadeLine) → s.tree ≡ root → IsPending root made → made.hashed ≡ false → map line_of lines ≡ map line_of made.lines.items → Judges root s s made.place lines 0
+judged_known root s made lines over pending unhashed same =
+    let free : is_hashed root made.place ≡ false = sym pending.hashed ∙ unhashed in
+    record {
+      trail = [];
+      audits = record { over = over; did = did_nothing s; opened = sym (hashed_alone root made.place false free); heads_are = refl };
+      alone = sym (hashed_alone root made.place false free);
+      item = item_is root made.place [] None lines 0 refl (sym (same ∙ pending.lines unhashed)) (unhashed_cost root made.place free);
+    }
+
+not_the_store : (q : Place) → fault.Memory ≡ fault.Store q → ⊥
+not_the_store q e = absurd cc
+
+pub nothing_judged : (root : Tree) (s t : Store) (p : Place) → s.tree ≡ root → Did s t [] [] 0 → JudgeFails root s t p
+unfolding hashed_among
+nothing_judged root s t p over did = record {
+  trail = [];
+  part = false;
+  fails = record { over = over; did = did; opened = refl; heads_are = refl; store = λ q e. absurd (not_the_store q e) };
+  alone = refl;
+}
+
+-- ---- one opening of a file that is hashed
+
+some_same : {A : Type 0} (x y : A) → Some x ≡ Some y → x ≡ y
+some_same x y e = cc
+
+module _ (root : Tree) (p : Place) (hashed : is_hashed root p ≡ true) where
+  opened_content : (n : ℕ) (failed : Bool) → content_openings root (opening p n failed ∷ []) ≡ opening p n failed ∷ []
+  opened_content n failed = ap (λ b. cond (not b) (opening p n failed ∷ []) []) (hashed_no_meta root p hashed)
+
+  opened_place : (n : ℕ) (failed : Bool) → content_trail root (opening p n failed ∷ []) ≡ hashed_among root (p ∷ [])
+  opened_place n failed = ap (map (λ o. o.place)) (opened_content n failed) ∙ sym (hashed_alone root p true hashed)
+
+  none_unread : (n : ℕ) → unread_of root (opening p n false ∷ []) ≡ []
+  none_unread n = ap (λ os. map (λ o. (o.place, o.given)) (filter (λ o. o.failed) os)) (opened_content n false)
+
+  one_unread : (n : ℕ) → unread_of root (opening p n true ∷ []) ≡ (p, n) ∷ []
+  one_unread n = ap (λ os. map (λ o. (o.place, o.given)) (filter (λ o. o.failed) os)) (opened_content n true)
+
+  no_head : (n : ℕ) (failed : Bool) → heads_of root (opening p n failed ∷ []) ≡ []
+  no_head n failed = ap (λ z. inventory_of z ++ []) (hashed_path root p hashed).lies
+
+  did_whole : (s t : Store) (n : ℕ) → Did s t (opening p n false ∷ []) [] 0 → Did s t (opening p n false ∷ []) [] (length (unread_of root (opening p n false ∷ [])))
+  did_whole s t n did = subst (Did s t (opening p n false ∷ []) []) (sym (ap length (none_unread n))) did
+
+  did_part : (s t : Store) (n : ℕ) → Did s t (opening p n true ∷ []) [] 1 → Did s t (opening p n true ∷ []) [] (length (unread_of root (opening p n true ∷ [])))
+  did_part s t n did = subst (Did s t (opening p n true ∷ []) []) (sym (ap length (one_unread n))) did
+
+  opens_fails : (s t : Store) (n : ℕ) (failed : Bool) → s.tree ≡ root → Did s t (opening p n failed ∷ []) [] (length (unread_of root (opening p n failed ∷ []))) → JudgeFails root s t p
+  opens_fails s t n failed over did =
+      let count = length (unread_of root (opening p n failed ∷ [])) in
+      let same : count ≡ count + 0 = omega arith in
+      record {
+        trail = opening p n failed ∷ [];
+        part = true;
+        fails = record {
+          over = over;
+          did = subst (Did s t (opening p n failed ∷ []) []) same did;
+          opened = opened_place n failed;
+          heads_are = no_head n failed;
+          store = λ q e. absurd (not_the_store q e);
+        };
+        alone = sym (hashed_alone root p true hashed);
+      }
+
+  whole_fails : (s t : Store) (n : ℕ) → s.tree ≡ root → Did s t (opening p n false ∷ []) [] 0 → JudgeFails root s t p
+  whole_fails s t n over did = opens_fails s t n false over (did_whole s t n did)
+
+  part_fails : (s t : Store) (n : ℕ) → s.tree ≡ root → Did s t (opening p n true ∷ []) [] 1 → JudgeFails root s t p
+  part_fails s t n over did = opens_fails s t n true over (did_part s t n did)
+
+  opens_judges : (s t : Store) (n : ℕ) (failed : Bool) (u : Option ℕ) (lines : List MadeLine) → s.tree ≡ root → Did s t (opening p n failed ∷ []) [] (length (unread_of root (opening p n failed ∷ []))) → given_by (unread_of root (opening p n failed ∷ [])) p ≡ u
+      → lines_at p (notes root u p) ≡ map line_of lines → cost root u p ≡ n + 1 → Judges root s t p lines (n + 1)
+  opens_judges s t n failed u lines over did given are costs = record {
+    trail = opening p n failed ∷ [];
+    audits = record { over = over; did = did; opened = opened_place n failed; heads_are = no_head n failed };
+    alone = sym (hashed_alone root p true hashed);
+    item = item_is root p (opening p n failed ∷ []) u lines (n + 1) given are costs;
+  }
+
+  whole_judges : (s t : Store) (n : ℕ) (lines : List MadeLine) → s.tree ≡ root → Did s t (opening p n false ∷ []) [] 0 → lines_at p (notes root None p) ≡ map line_of lines → cost root None p ≡ n + 1 → Judges root s t p lines (n + 1)
+  whole_judges s t n lines over did are costs = opens_judges s t n false None lines over (did_whole s t n did) (ap (λ u. given_by u p) (none_unread n)) are costs
+
+  part_judges : (s t : Store) (n : ℕ) (lines : List MadeLine) → s.tree ≡ root → Did s t (opening p n true ∷ []) [] 1 → lines_at p (notes root (Some n) p) ≡ map line_of lines → cost root (Some n) p ≡ n + 1 → Judges root s t p lines (n + 1)
+  part_judges s t n lines over did are costs = opens_judges s t n true (Some n) lines over (did_part s t n did) (ap (λ u. given_by u p) (one_unread n) ∙ ap (λ b. cond b (Some n) None) (place_same p)) are costs
+
+  -- a file that is there and short enough stops only by the device, or where memory was refused
+  by_device : HasShortFiles root → (s t : Store) (n : ℕ) (cause : Cause) → StopsHashing root s t p n cause → cause ≢ Memory → Did s t (opening p n true ∷ []) [] 1
+  by_device short s t n cause stops kept = go cause stops.fits stops.did kept
+    where
+      f : IsHashedFile root p
+      f = hashed_file root p hashed
+
+      bytes_are : file_at root p ≡ Some f.bytes
+      bytes_are = ap (option_and_then bytes_of) f.is_file
+
+      go : (why : Cause) → StopFits root p n why → Did s t (stop_trail p n why) [] (stop_failures why) → why ≢ Memory → Did s t (opening p n true ∷ []) [] 1
+      go Device fits did k = did
+      go Absent fits did k = absurd (some_not_none f.bytes (sym fits.0 ∙ bytes_are))
+      go Memory fits did k = absurd (k refl)
+      go TooLong fits did k =
+          let same : fits.0 ≡ f.bytes = some_same fits.0 f.bytes (sym fits.1 ∙ bytes_are) in
+          let long : 2 ^ 62 ≤ length f.bytes = subst (λ b. 2 ^ 62 ≤ length b) same fits.2 in
+          let small : length f.bytes < 2 ^ 62 = short p f.bytes f.is_file in
+          absurd (omega (arith, long, small))
+
+-- ---- the same, from what was made
+
+module _ (root : Tree) (s t : Store) (made : Pending) (over : s.tree ≡ root) (pending : IsPending root made) (hashed : made.hashed ≡ true) where
+  file_is : is_hashed root made.place ≡ true
+  file_is = sym pending.hashed ∙ hashed
+
+  pub failed_whole : (w : Wanted) (d : Digests) (n : ℕ) → HashesFile root s t made.place w d n → JudgeFails root s t made.place
+  failed_whole w d n h = whole_fails root made.place file_is s t n over h.did
+
+  pub judged_whole : (w : Wanted) (d : Digests) (n : ℕ) (ns : List MadeNamed) (lines : List MadeLine) → ns ≡ made.named.items → AreWanted w (map (λ m. m.algorithm) made.named.items) → HashesFile root s t made.place w d n
+      → ((bytes : Text) → HasDigests (map (λ m. m.algorithm) ns) bytes d → n ≡ length bytes → map line_of lines ≡ lines_at made.place (or_bytes bytes (unnamed_notes (map named_view ns) ++ wrong_notes bytes (map named_view ns))))
+      → Judges root s t made.place lines (n + 1)
+  judged_whole w d n ns lines same wanted h are =
+      let f = hashed_file root made.place file_is in
+      let bytes : h.bytes ≡ f.bytes = some_same h.bytes f.bytes (sym h.is_file ∙ ap (option_and_then bytes_of) f.is_file) in
+      let count : n ≡ length f.bytes = h.length_is ∙ ap length bytes in
+      let names : map named_view ns ≡ named_at root made.place = ap (map named_view) same ∙ pending.named in
+      let has : HasDigests (map (λ m. m.algorithm) ns) f.bytes d = subst (λ b. HasDigests (map (λ m. m.algorithm) ns) b d) bytes (λ a i. h.digests.each a ∙ ap (λ b. cond b (Some (digest_bytes_of a h.bytes)) None) ((wanted a).1 (subst (λ ms. IsAmong (map (λ m. m.algorithm) ms) a) same i))) in
+      whole_judges root made.place file_is s t n lines over h.did
+      (ap (lines_at made.place) (f.lines None ∙ file_whole f.bytes (named_at root made.place) f.digests ∙ ap (λ xs. or_bytes f.bytes (unnamed_notes xs ++ wrong_notes f.bytes xs)) (sym names)) ∙ sym (are f.bytes has count))
+      (f.whole ∙ ap (λ k. k + 1) (sym count))
+
+  pub failed_part : HasShortFiles root → (n : ℕ) (cause : Cause) → StopsHashing root s t made.place n cause → cause ≢ Memory → JudgeFails root s t made.place
+  failed_part short n cause stops kept = part_fails root made.place file_is s t n over (by_device root made.place file_is short s t n cause stops kept)
+
+  pub judged_part : HasShortFiles root → (n : ℕ) (cause : Cause) (ns : List MadeNamed) (lines : List MadeLine) → ns ≡ made.named.items → StopsHashing root s t made.place n cause → cause ≢ Memory
+      → map line_of lines ≡ lines_at made.place (unnamed_notes (map named_view ns) ++ plain S08 ∷ []) → Judges root s t made.place lines (n + 1)
+  judged_part short n cause ns lines same stops kept are =
+      let f = hashed_file root made.place file_is in
+      let names : map named_view ns ≡ named_at root made.place = ap (map named_view) same ∙ pending.named in
+      part_judges root made.place file_is s t n lines over (by_device root made.place file_is short s t n cause stops kept)
+      (ap (lines_at made.place) (f.lines (Some n) ∙ file_part f.bytes (named_at root made.place) n f.digests ∙ ap (λ xs. unnamed_notes xs ++ plain S08 ∷ []) (sym names)) ∙ sym are)
+      (f.part n)
+
+-- where memory was refused the file was not opened
+pub refused : (root : Tree) (s t : Store) (p : Place) (n : ℕ) (cause : Cause) → s.tree ≡ root → StopsHashing root s t p n cause → cause ≡ Memory → JudgeFails root s t p
+refused root s t p n cause over stops e = by (subst (StopsHashing root s t p n) e stops)
+  where
+    by : StopsHashing root s t p n Memory → JudgeFails root s t p
+    by h = nothing_judged root s t p over h.did

@@ -1,0 +1,96 @@
+-- Entries within an object whose head does not stop, by how many names they lie below it.
+use Rattle.std.proofs.Common.{◌≡◌, ℕ, zero, suc, ◌-◌, ◌+◌, ◌<◌, ◌≤◌, [], ◌∷◌, ◌++◌, sym, ◌∙◌, ap, true, Some, arith, length, drop, append_assoc}
+use Rattle.std.specs.Prelude.{option_map}
+use Rattle.std.specs.List.{list_all}
+use Rattle.std.proofs.lemmas.List.{length-append}
+use Rattle.ocfl_tree.specs.Place.{Place, Text, beginnings}
+use Rattle.ocfl_tree.specs.Tree.{Tree}
+use Rattle.ocfl_tree.specs.declared.store.Entry.{Entry}
+use Rattle.ocfl_inventory.specs.ListedPath.{is_version_name}
+use Rattle.ocfl_audit.specs.Zone.{inside, zone, is_entered, is_listed_in_object, is_listed_zone}
+use Rattle.ocfl_item.specs.Looking.{content_at, content_in}
+use Rattle.ocfl_item.specs.Around.{IsMet}
+use Rattle.ocfl_item.specs.declared.meeting.Around.{Around}
+use Rattle.ocfl_audit.proofs.AuditExists.{zone_is}
+use Rattle.ocfl_tree.proofs.Bools.{and_second}
+use Rattle.ocfl_item.proofs.LooksZones.{inside_step, zone_of_entered}
+use Rattle.std.proofs.Math.Seq.{drop-append_seam}
+
+-- an entry of a version directory
+pub record IsInVersion (root : Tree) (o e : Place) (n : Text) : Type 0 where
+  pub version : Text
+  pub zone : zone root e ≡ inside o (version ∷ n ∷ [])
+  pub named : is_version_name version ≡ true
+
+-- one within a content directory
+pub record IsInContent (root : Tree) (a : Around) (e : Place) : Type 0 where
+  pub content : content_at root e ≡ Some (a.table, drop (length a.place) e)
+  pub listed : is_listed_zone root (zone root e) ≡ true
+
+module _ (root : Tree) (d e : Place) (a : Around) (entry : Entry) (m : IsMet root d (Some a) entry e) where
+  way : Place
+  way = m.part.0
+
+  pub whole : e ≡ a.place ++ (m.part.0 ++ entry.name ∷ [])
+  whole = m.is ∙ ap (λ x. x ++ entry.name ∷ []) (zone_is root d a.place m.part.0 m.part.1).whole ∙ append_assoc a.place m.part.0 (entry.name ∷ [])
+
+  pub long : length e ≡ length a.place + (length m.part.0 + 1)
+  long = ap length whole ∙ length-append a.place (m.part.0 ++ entry.name ∷ []) ∙ ap (λ k. length a.place + k) (length-append m.part.0 (entry.name ∷ []))
+
+  zone_here : zone root e ≡ inside a.place (m.part.0 ++ entry.name ∷ [])
+  zone_here = ap (zone root) m.is ∙ inside_step root d a.place m.part.0 entry.name m.part.1
+
+  listed_here : is_listed_in_object (Some a.table) m.part.0 ≡ true
+  listed_here = ap (λ x. is_listed_in_object x m.part.0) (sym m.part.2) ∙ ap (is_listed_zone root) (sym m.part.1) ∙ zone_of_entered root d (and_second (list_all (is_entered root) (beginnings d)) (is_entered root d) m.reached)
+
+  pub in_object : length e ≡ length a.place + 1 → zone root e ≡ inside a.place (entry.name ∷ [])
+  in_object h = by m.part.0 (let l = long in omega (arith, l, h)) zone_here
+    where
+      by : (s : Place) → length s ≡ 0 → zone root e ≡ inside a.place (s ++ entry.name ∷ []) → zone root e ≡ inside a.place (entry.name ∷ [])
+      by [] k z = z
+      by (v ∷ s) k z = absurd (omega (arith, k))
+
+  pub in_version : length e ≡ length a.place + 2 → IsInVersion root a.place e entry.name
+  in_version h = by m.part.0 (let l = long in omega (arith, l, h)) zone_here listed_here
+    where
+      by : (s : Place) → length s ≡ 1 → zone root e ≡ inside a.place (s ++ entry.name ∷ []) → is_listed_in_object (Some a.table) s ≡ true → IsInVersion root a.place e entry.name
+      by [] k z l = absurd (omega (arith, k))
+      by (v ∷ []) k z l = record { version = v; zone = z; named = l }
+      by (v ∷ c ∷ s) k z l = absurd (omega (arith, k))
+
+  pub in_content : length a.place + 2 < length e → IsInContent root a e
+  in_content h = record { content = by m.part.0 few zone_here ∙ ap (λ q. Some (a.table, q)) (sym inner); listed = deep m.part.0 few zone_here listed_here }
+    where
+      few : 2 ≤ length m.part.0
+      few = let l = long in omega (arith, l, h)
+
+      inner : drop (length a.place) e ≡ m.part.0 ++ entry.name ∷ []
+      inner = ap (drop (length a.place)) whole ∙ drop-append_seam a.place (m.part.0 ++ entry.name ∷ [])
+
+      by : (s : Place) → 2 ≤ length s → zone root e ≡ inside a.place (s ++ entry.name ∷ []) → content_at root e ≡ Some (a.table, s ++ entry.name ∷ [])
+      by [] k z = absurd (omega (arith, k))
+      by (v ∷ []) k z = absurd (omega (arith, k))
+      by (v ∷ c ∷ []) k z = ap (content_in root) z ∙ ap (option_map (λ t. (t, v ∷ c ∷ entry.name ∷ []))) m.part.2
+      by (v ∷ c ∷ x ∷ s) k z = ap (content_in root) z ∙ ap (option_map (λ t. (t, v ∷ c ∷ x ∷ (s ++ entry.name ∷ [])))) m.part.2
+
+      deep : (s : Place) → 2 ≤ length s → zone root e ≡ inside a.place (s ++ entry.name ∷ []) → is_listed_in_object (Some a.table) s ≡ true → is_listed_zone root (zone root e) ≡ true
+      deep [] k z l = absurd (omega (arith, k))
+      deep (v ∷ []) k z l = absurd (omega (arith, k))
+      deep (v ∷ c ∷ s) k z l = ap (is_listed_zone root) z ∙ ap (λ x. is_listed_in_object x (v ∷ c ∷ (s ++ entry.name ∷ []))) m.part.2 ∙ l
+
+two_more : (s r : ℕ) → r ≡ s + 1 → (r ≡ 1 → ⊥) → (r ≡ 2 → ⊥) → 2 ≤ s
+two_more zero r h n m = absurd (n (omega (arith, h)))
+two_more (suc zero) r h n m = absurd (m (omega (arith, h)))
+two_more (suc (suc s)) r h n m = omega arith
+
+pub far_below : (root : Tree) (d e : Place) (a : Around) (entry : Entry) (m : IsMet root d (Some a) entry e) (r : ℕ) → r ≡ length e - length a.place → (r ≡ 1 → ⊥) → (r ≡ 2 → ⊥) → length a.place + 2 < length e
+far_below root d e a entry m r is n k =
+    let l = long root d e a entry m in
+    let s = two_more (length m.part.0) r (omega (arith, l, is)) n k in
+    omega (arith, l, s)
+
+pub one_below : (root : Tree) (d e : Place) (a : Around) (entry : Entry) (m : IsMet root d (Some a) entry e) (r : ℕ) → r ≡ length e - length a.place → r ≡ 1 → length e ≡ length a.place + 1
+one_below root d e a entry m r is k = let l = long root d e a entry m in omega (arith, l, is, k)
+
+pub two_below : (root : Tree) (d e : Place) (a : Around) (entry : Entry) (m : IsMet root d (Some a) entry e) (r : ℕ) → r ≡ length e - length a.place → r ≡ 2 → length e ≡ length a.place + 2
+two_below root d e a entry m r is k = let l = long root d e a entry m in omega (arith, l, is, k)

@@ -1,0 +1,399 @@
+-- What is met at an entry.
+use Rattle.std.proofs.Common.{◌≡◌, ◌≢◌, ◌<◌, ◌≤◌, List, [], ◌∷◌, ◌++◌, refl, sym, ◌∙◌, ap, subst, true, false, Bool, Option, Some, None, arith, length, map}
+use Rattle.std.specs.Prelude.{cond, nat_lt, nat_le, option_map, Result, Ok, Err, IfErr, IfOk, ◌&&◌, ◌||◌, not, codes}
+use Rattle.std.specs.List.{list_all}
+use Rattle.std.proofs.lemmas.Bool.{le-leb, lt-ltb, le-ltb, lt-leb}
+use Rattle.ocfl_tree.specs.Place.{Place, Text, text_eq, beginnings}
+use Rattle.ocfl_tree.specs.Tree.{Tree, Leaf, file, dir, other, at, is_dir, is_dir_leaf, names_in}
+use Rattle.ocfl_tree.specs.Store.{Store, Did}
+use Rattle.ocfl_tree.specs.Listing.{kind_of, IsListing}
+use Rattle.ocfl_tree.specs.declared.store.Entry.{Entry}
+use Rattle.ocfl_tree.specs.declared.store.Kind.{Kind}
+use Rattle.ocfl_tree.specs.declared.store.Kind.TheVariants as kind
+use Rattle.ocfl_tree.proofs.Orders.{true_not_false}
+use Rattle.ocfl_report.specs.Line.{Note, plain, line_of, lines_at}
+use Rattle.ocfl_report.specs.declared.code.Code.{Code}
+use Rattle.ocfl_report.specs.declared.code.Code.TheVariants.{E001, E015, E024, S04, S05}
+use Rattle.ocfl_inventory.specs.Table.{Table, Named, named}
+use Rattle.ocfl_inventory.specs.TripleView.{named_view}
+use Rattle.ocfl_audit.specs.Zone.{Zone, skipped, hierarchy, inside, zone, seen, table_at, is_entered, is_listed_zone, is_listed_in_object, max_listed_depth}
+use Rattle.ocfl_audit.specs.Lines.{notes, notes_in, object_notes, object_entry_notes, version_entry_notes, is_inventory_or_sidecar, named_at, cost_of, is_hashed, is_empty, listed_dir_notes}
+use Rattle.ocfl_inventory.specs.Declaration.{is_declaration}
+use Rattle.ocfl_inventory.specs.ListedPath.{is_version_name}
+use Rattle.ocfl_inventory.specs.declared.declaration.Level.TheVariants as level
+use Rattle.ocfl_audit.specs.Head.{on}
+use Rattle.ocfl_audit.specs.Walk.{is_reached, seen_names}
+use Rattle.ocfl_audit.specs.Trail.{heads_of, is_head, reads_inventory}
+use Rattle.ocfl_audit.specs.Between.{is_looked_into, shows_entries}
+use Rattle.ocfl_item.specs.Looking.{IsFront, IsSight, content_in, content_at}
+use Rattle.ocfl_item.specs.Pending.{IsPending}
+use Rattle.ocfl_item.specs.Ways.{Enters, Stops, is_listable}
+use Rattle.ocfl_item.specs.Meeting.{IsFolderAt, IsItemAt, IsTableAt, IsVisit, Meets, MeetFails, Visits}
+use Rattle.ocfl_item.specs.Visiting.{IsEntryAt, IsListedAt, IsPlainAt}
+use Rattle.ocfl_item.specs.declared.fault.Fault.{Fault}
+use Rattle.ocfl_item.specs.declared.fault.Fault.TheVariants as fault
+use Rattle.ocfl_item.specs.declared.folder.Folder.{Folder}
+use Rattle.ocfl_item.specs.declared.pending.Pending.{Pending}
+use Rattle.ocfl_item.specs.declared.visit.Visit.{Visit}
+use Rattle.ocfl_item.specs.declared.sight.Sight.TheVariants as sight
+use Rattle.ocfl_tree.proofs.Bools.{and_both}
+use Rattle.ocfl_item.proofs.LooksZones.{leaf_dir, entered_from}
+use Rattle.ocfl_item.proofs.LooksEntries.{emptied, not_emptied}
+use Rattle.ocfl_item.proofs.AuditingLaws.{did_nothing, front_all, front_none}
+use Rattle.ocfl_item.proofs.FailLaws.{none_once}
+use Rattle.ocfl_item.proofs.ShutLaws.{IsShut, listed_shows, looked_at, no_head_unread, shut_no_dir, shut_zone}
+use Rattle.ocfl_audit.proofs.PathLaws.{named_path, notes_at}
+use Rattle.ocfl_audit.proofs.AuditExists.{IsInside, zone_is}
+
+-- ---- the item of one line
+
+pub plain_pending : (root : Tree) (e : Place) (code : Code) (made : Pending) → IsPlainAt root e (plain code ∷ []) → made.place ≡ e → made.hashed ≡ false → made.named.items ≡ []
+    → map line_of made.lines.items ≡ lines_at e (plain code ∷ []) → IsPending root made × (made.place ≡ e)
+plain_pending root e code made h place unhashed unnamed lines = (
+  record {
+    some = subst (λ x. notes root None x ≢ []) (sym place) (λ g. filled (sym h.lines ∙ g));
+    hashed = unhashed ∙ sym (ap (is_hashed root) place ∙ ap (λ ns. nat_lt 0 (cost_of ns None (seen root e))) h.named);
+    named = ap (map named_view) unnamed ∙ sym (ap (named_at root) place ∙ h.named);
+    lines = λ g. subst (λ x. map line_of made.lines.items ≡ lines_at x (notes root None x)) (sym place) (lines ∙ ap (lines_at e) (sym h.lines));
+  },
+  place,
+)
+  where
+    filled : plain code ∷ [] ≡ [] → ⊥
+    filled g = cc
+
+-- ---- directories
+
+pub deep_unlistable : (root : Tree) (e : Place) → 127 < length e → is_listable root e ≡ false
+deep_unlistable root e h = ap (λ b. b && is_dir root e) (lt-leb (length e) 127 h)
+
+pub reached_here : (root : Tree) (e : Place) → IsListedAt root e → length e ≤ 127 → is_reached root e ≡ true
+reached_here root e h short = and_both (list_all (is_entered root) (beginnings e)) (is_entered root e) h.way (entered_from root e (listable_here root e h short) h.listed)
+  where
+    listable_here : (root : Tree) (e : Place) → IsListedAt root e → length e ≤ 127 → is_listable root e ≡ true
+    listable_here root e h short = and_both (nat_le (length e) max_listed_depth) (is_dir root e) (le-leb (length e) 127 short) h.directory
+
+pub listable : (root : Tree) (e : Place) → IsListedAt root e → length e ≤ 127 → is_listable root e ≡ true
+listable root e h short = and_both (nat_le (length e) max_listed_depth) (is_dir root e) (le-leb (length e) 127 short) h.directory
+
+-- ---- the lines of a directory
+
+pub deep_notes : (root : Tree) (e : Place) (ns : List Note) → 127 < length e → listed_dir_notes root e ns ≡ plain S05 ∷ []
+deep_notes root e ns h = ap (λ b. cond b (plain S05 ∷ []) (cond (is_empty (names_in root e)) ns [])) (lt-ltb 127 (length e) h)
+
+pub short_notes : (root : Tree) (e : Place) (ns : List Note) → length e ≤ 127 → listed_dir_notes root e ns ≡ cond (is_empty (names_in root e)) ns []
+short_notes root e ns h = ap (λ b. cond b (plain S05 ∷ []) (cond (is_empty (names_in root e)) ns [])) (le-ltb 127 (length e) h)
+
+same_either : (b : Bool) → cond {A = List Note} b [] [] ≡ []
+same_either true = refl
+same_either false = refl
+
+pub no_notes : (root : Tree) (e : Place) → length e ≤ 127 → listed_dir_notes root e [] ≡ []
+no_notes root e h = short_notes root e [] h ∙ same_either (is_empty (names_in root e))
+
+-- ---- what was done
+
+-- nothing, at a place that is shut
+pub meets_shut : (root : Tree) (s : Store) (e : Place) → s.tree ≡ root → IsShut root e → Meets root s s e
+meets_shut root s e over h = record { over = over; trail = []; listings = []; did = did_nothing s; meta = refl; once = none_once; elsewhere = λ g k. refl; listed = sym (ap (λ b. on b e) h.looked); heads = sym (ap (λ b. on b e) h.read) }
+
+-- a directory that is no object was listed
+pub meets_listing : (root : Tree) (s t : Store) (e : Place) → s.tree ≡ root → Did s t [] (e ∷ []) 0 → is_looked_into root e ≡ true → reads_inventory root e ≡ false → Meets root s t e
+meets_listing root s t e over did looked read = record { over = over; trail = []; listings = e ∷ []; did = did; meta = refl; once = none_once; elsewhere = λ g k. refl; listed = sym (ap (λ b. on b e) looked); heads = sym (ap (λ b. on b e) read) }
+
+pub meet_stop : (root : Tree) (s t : Store) (e : Place) (why : Fault) → is_looked_into root e ≡ true → Stops root s t (e ∷ []) [] why → MeetFails root s t e why
+meet_stop root s t e why looked h = record {
+  over = h.goes.over;
+  trail = [];
+  listings = h.goes.listings;
+  did = h.goes.did;
+  meta = refl;
+  once = none_once;
+  elsewhere = λ g k. refl;
+  listed = subst (λ b. IsFront h.goes.listings (on b e)) (sym looked) h.goes.listed;
+  heads = front_none (on (reads_inventory root e) e);
+  store = h.store;
+}
+
+pub meet_out : (root : Tree) (s t : Store) (e : Place) (why : Fault) → Meets root s t e → why ≡ fault.Memory → MeetFails root s t e why
+meet_out root s t e why h is = subst (MeetFails root s t e) (sym is) (record {
+  over = h.over;
+  trail = h.trail;
+  listings = h.listings;
+  did = h.did;
+  meta = h.meta;
+  once = h.once;
+  elsewhere = h.elsewhere;
+  listed = subst (IsFront h.listings) h.listed (front_all h.listings);
+  heads = subst (IsFront (heads_of root h.trail)) h.heads (front_all (heads_of root h.trail));
+  store = λ q g. absurd cc;
+})
+
+-- nothing was done, and memory was refused
+pub meet_nothing : (root : Tree) (s : Store) (e : Place) → s.tree ≡ root → MeetFails root s s e fault.Memory
+meet_nothing root s e over = record {
+  over = over;
+  trail = [];
+  listings = [];
+  did = did_nothing s;
+  meta = refl;
+  once = none_once;
+  elsewhere = λ g k. refl;
+  listed = front_none (on (is_looked_into root e) e);
+  heads = front_none (on (reads_inventory root e) e);
+  store = λ q g. absurd cc;
+}
+
+-- what is told of what was met, or memory was refused
+pub visits_by : (root : Tree) (s t : Store) (e : Place) (r : Result Visit Fault) → Meets root s t e → IfErr r (λ why. why ≡ fault.Memory) → IfOk r (λ v. IsVisit root e v) → Visits root s t e r
+visits_by root s t e (Ok v) h only told = record { gives = (h, told) }
+visits_by root s t e (Err why) h only told = record { gives = meet_out root s t e why h only }
+
+pub visits_stop : (root : Tree) (s t : Store) (e : Place) (why : Fault) → is_looked_into root e ≡ true → Stops root s t (e ∷ []) [] why → Visits root s t e (Err why)
+visits_stop root s t e why looked h = record { gives = meet_stop root s t e why looked h }
+
+-- ---- a directory that is listed
+
+-- its listing, and no table
+pub visit_of_folder : (root : Tree) (e : Place) (v : Visit) (f : Folder) → IsItemAt root e v.item → v.folder ≡ Some f → v.table ≡ None → is_head (zone root e) ≡ false → f.place ≡ e → is_reached root e ≡ true → IsListing root e f.entries.items → IsVisit root e v
+visit_of_folder root e v f item folder table head place reached listing = record {
+  item = item;
+  folder = subst (IsFolderAt root e) (sym folder) (place, reached, listing);
+  table = subst (IsTableAt root e) (sym table) (λ h. absurd (true_not_false (sym h ∙ head)));
+}
+
+-- an item, and nothing else
+pub visit_of_item : (root : Tree) (e : Place) (v : Visit) → IsItemAt root e v.item → v.folder ≡ None → v.table ≡ None → is_head (zone root e) ≡ false → seen_names root e ≡ [] → IsVisit root e v
+visit_of_item root e v item folder table head none = record {
+  item = item;
+  folder = subst (IsFolderAt root e) (sym folder) none;
+  table = subst (IsTableAt root e) (sym table) (λ h. absurd (true_not_false (sym h ∙ head)));
+}
+
+-- ---- content
+
+pub content_no_head : (root : Tree) (e : Place) (x : Table × Place) → content_at root e ≡ Some x → is_head (zone root e) ≡ false
+content_no_head root e x h = by (zone root e) h
+  where
+    by : (z : Zone) → content_in root z ≡ Some x → is_head z ≡ false
+    by skipped k = refl
+    by hierarchy k = refl
+    by (inside o []) k = absurd cc
+    by (inside o (n ∷ q)) k = refl
+
+pub seen_entry : (root : Tree) (e : Place) → list_all (is_entered root) (beginnings e) ≡ true → seen root e ≡ at root e
+seen_entry root e h = ap (λ b. cond b (at root e) None) h
+
+kind_file : (leaf : Option Leaf) → option_map kind_of leaf ≡ Some kind.File → (bytes : Text) × (leaf ≡ Some (file bytes))
+kind_file None h = absurd cc
+kind_file (Some (file bytes)) h = (bytes, refl)
+kind_file (Some dir) h = absurd cc
+kind_file (Some other) h = absurd cc
+
+kind_dir : (leaf : Option Leaf) → option_map kind_of leaf ≡ Some kind.Dir → leaf ≡ Some dir
+kind_dir None h = absurd cc
+kind_dir (Some (file bytes)) h = absurd cc
+kind_dir (Some dir) h = refl
+kind_dir (Some other) h = absurd cc
+
+kind_other : (leaf : Option Leaf) → option_map kind_of leaf ≡ Some kind.Other → leaf ≡ Some other
+kind_other None h = absurd cc
+kind_other (Some (file bytes)) h = absurd cc
+kind_other (Some dir) h = absurd cc
+kind_other (Some other) h = refl
+
+pub entry_file : (root : Tree) (e : Place) (k : Kind) → IsEntryAt root e k → k ≡ kind.File → (bytes : Text) × (seen root e ≡ Some (file bytes))
+entry_file root e k h is = let w = kind_file (at root e) (h.kind ∙ ap Some is) in (w.0, seen_entry root e h.way ∙ w.1)
+
+pub entry_dir : (root : Tree) (e : Place) (k : Kind) → IsEntryAt root e k → k ≡ kind.Dir → seen root e ≡ Some dir
+entry_dir root e k h is = seen_entry root e h.way ∙ kind_dir (at root e) (h.kind ∙ ap Some is)
+
+pub entry_other : (root : Tree) (e : Place) (k : Kind) → IsEntryAt root e k → k ≡ kind.Other → seen root e ≡ Some other
+entry_other root e k h is = seen_entry root e h.way ∙ kind_other (at root e) (h.kind ∙ ap Some is)
+
+pub dir_here : (root : Tree) (e : Place) (k : Kind) → IsEntryAt root e k → k ≡ kind.Dir → is_dir root e ≡ true
+dir_here root e k h is = ap is_dir_leaf (kind_dir (at root e) (h.kind ∙ ap Some is))
+
+-- what is no directory is not entered
+pub no_dir : (root : Tree) (e : Place) (k : Kind) → IsEntryAt root e k → k ≢ kind.Dir → is_dir root e ≡ false
+no_dir root e k h not = by (at root e) h.kind
+  where
+    by : (leaf : Option Leaf) → option_map kind_of leaf ≡ Some k → is_dir_leaf leaf ≡ false
+    by None g = refl
+    by (Some (file bytes)) g = refl
+    by (Some dir) g = absurd (not cc)
+    by (Some other) g = refl
+
+pub no_dir_shut : (root : Tree) (e : Place) (k : Kind) → IsEntryAt root e k → k ≢ kind.Dir → IsShut root e
+no_dir_shut root e k h not = shut_no_dir root e (no_dir root e k h not)
+
+module _ (root : Tree) (e : Place) (h : IsListedAt root e) where
+  seen_dir : seen root e ≡ Some dir
+  seen_dir = seen_entry root e h.way ∙ leaf_dir (at root e) h.directory
+
+  pub deep_sight : 127 < length e → IsSight root e sight.DeepDir
+  deep_sight deep = (seen_dir, deep_notes root e (plain E024 ∷ []) deep)
+
+  pub empty_sight : (es : List Entry) → length e ≤ 127 → IsListing root e es → es ≡ [] → IsSight root e sight.EmptyDir
+  empty_sight es short listing none = (seen_dir, short_notes root e (plain E024 ∷ []) short ∙ ap (λ b. cond b (plain E024 ∷ []) []) (emptied root e es listing none))
+
+  pub dir_sight : (es : List Entry) → length e ≤ 127 → IsListing root e es → es ≢ [] → IsSight root e sight.Dir
+  dir_sight es short listing some = (seen_dir, short_notes root e (plain E024 ∷ []) short ∙ ap (λ b. cond b (plain E024 ∷ []) []) (not_emptied root e es listing some))
+
+-- ---- answers
+
+pub relined : (root : Tree) (e : Place) (ns ms : List Note) → ns ≡ ms → IsPlainAt root e ns → IsPlainAt root e ms
+relined root e ns ms is h = record { lines = h.lines ∙ is; named = h.named; head = h.head }
+
+pub visits_memory : (root : Tree) (s t : Store) (e : Place) → Meets root s t e → Visits root s t e (Err fault.Memory)
+visits_memory root s t e h = record { gives = meet_out root s t e fault.Memory h refl }
+
+pub visits_told : (root : Tree) (s t : Store) (e : Place) (v : Visit) → Meets root s t e → IsVisit root e v → Visits root s t e (Ok v)
+visits_told root s t e v h told = record { gives = (h, told) }
+
+-- nothing was done, and memory was refused
+pub visits_nothing : (root : Tree) (s : Store) (e : Place) → s.tree ≡ root → Visits root s s e (Err fault.Memory)
+visits_nothing root s e over = record { gives = meet_nothing root s e over }
+
+-- a directory that is no object was listed
+pub entered_meets : (root : Tree) (s t : Store) (e d : Place) (es : List Entry) → s.tree ≡ root → Enters root s t e d es → is_looked_into root e ≡ true → is_head (zone root e) ≡ false → Meets root s t e
+entered_meets root s t e d es over h looked head = meets_listing root s t e over h.did looked (no_head_unread root e head)
+
+-- one that is listed
+pub looked_listed : (root : Tree) (e : Place) → IsListedAt root e → length e ≤ 127 → is_looked_into root e ≡ true
+looked_listed root e h short = looked_at root e h.way (listable root e h short) (listed_shows root (zone root e) h.listed)
+
+pub file_shut : (root : Tree) (e : Place) (k : Kind) → IsEntryAt root e k → k ≡ kind.File → IsShut root e
+file_shut root e k h is = no_dir_shut root e k h (λ g. clash (sym is ∙ g))
+  where
+    clash : kind.File ≡ kind.Dir → ⊥
+    clash g = cc
+
+pub other_shut : (root : Tree) (e : Place) (k : Kind) → IsEntryAt root e k → k ≡ kind.Other → IsShut root e
+other_shut root e k h is = no_dir_shut root e k h (λ g. clash (sym is ∙ g))
+  where
+    clash : kind.Other ≡ kind.Dir → ⊥
+    clash g = cc
+
+pub listed_entry : (root : Tree) (e : Place) (k : Kind) → IsEntryAt root e k → k ≡ kind.Dir → is_listed_zone root (zone root e) ≡ true → IsListedAt root e
+listed_entry root e k h is listed = record { way = h.way; directory = dir_here root e k h is; listed = listed }
+
+-- ---- entries of an object's root and of its versions
+
+abbrev path_in : Zone → Place
+path_in skipped = []
+path_in hierarchy = []
+path_in (inside o q) = q
+
+-- no digest is named for a place of fewer than three names more
+pub named_short : (root : Tree) (e o q : Place) → zone root e ≡ inside o q → length q ≤ 2 → named_at root e ≡ []
+named_short root e o q z short = by (named_at root e) refl
+  where
+    filled : (n : Named) (ns : List Named) → n ∷ ns ≢ []
+    filled n ns h = cc
+
+    by : (ns : List Named) → named_at root e ≡ ns → named_at root e ≡ []
+    by [] h = h
+    by (n ∷ ns) h =
+        let k = named_path root e (λ g. filled n ns (sym h ∙ g)) in
+        let long : length q ≡ length (k.version ∷ k.content ∷ k.name ∷ k.rest) = ap (λ x. length (path_in x)) (sym z ∙ k.lies) in
+        absurd (omega (arith, long, short))
+
+not_root : (root : Tree) (p o q : Place) → zone root p ≡ inside o q → p ≢ []
+not_root root p o q z e = filled (zone_is root p o q z)
+  where
+    front : (o q : Place) → [] ≡ o ++ q → o ≡ []
+    front [] q g = refl
+    front (n ∷ o) q g = absurd cc
+
+    filled : IsInside root p o q → ⊥
+    filled is = is.below (front o q (sym e ∙ is.whole))
+
+pub object_plain : (root : Tree) (e o : Place) (n : Text) (t : Table) → zone root e ≡ inside o (n ∷ []) → table_at root o ≡ Some t → IsPlainAt root e (object_entry_notes root e n (seen root e))
+object_plain root e o n t z h = record {
+  lines = notes_at root None e (not_root root e o (n ∷ []) z) ∙ ap (notes_in root e None) z ∙ ap (λ y. object_notes root e None y (n ∷ [])) h;
+  named = named_short root e o (n ∷ []) z (omega arith);
+  head = ap is_head z;
+}
+
+pub version_plain : (root : Tree) (e o : Place) (v n : Text) (t : Table) → zone root e ≡ inside o (v ∷ n ∷ []) → table_at root o ≡ Some t → IsPlainAt root e (version_entry_notes root t e n (seen root e))
+version_plain root e o v n t z h = record {
+  lines = notes_at root None e (not_root root e o (v ∷ n ∷ []) z) ∙ ap (notes_in root e None) z ∙ ap (λ y. object_notes root e None y (v ∷ n ∷ [])) h;
+  named = named_short root e o (v ∷ n ∷ []) z (omega arith);
+  head = ap is_head z;
+}
+
+-- a place without lines, and not entered
+visit_of_nothing : (root : Tree) (e : Place) (v : Visit) → IsPlainAt root e [] → IsShut root e → v.item ≡ None → v.folder ≡ None → v.table ≡ None → IsVisit root e v
+visit_of_nothing root e v plain none item folder table = visit_of_item root e v (subst (IsItemAt root e) (sym item) plain.lines) folder table plain.head none.names
+
+-- ---- at a place that is not entered
+
+module _ (root : Tree) (s : Store) (e : Place) (over : s.tree ≡ root) (shut : IsShut root e) where
+  pub nothing_visits : (v : Visit) → IsPlainAt root e [] → v.item ≡ None → v.folder ≡ None → v.table ≡ None → Visits root s s e (Ok v)
+  nothing_visits v plain item folder table = visits_told root s s e v (meets_shut root s e over shut) (visit_of_nothing root e v plain shut item folder table)
+
+  pub plain_visits : (ns : List Note) (r : Result Visit Fault) → IsPlainAt root e ns → IfErr r (λ why. why ≡ fault.Memory) → (IsPlainAt root e ns → seen_names root e ≡ [] → IfOk r (λ v. IsVisit root e v)) → Visits root s s e r
+  plain_visits ns r plain only told = visits_by root s s e r (meets_shut root s e over shut) only (told plain shut.names)
+
+  pub item_visits : (v : Visit) (o : Option Pending) → is_head (zone root e) ≡ false → IsItemAt root e o → v.item ≡ o → v.folder ≡ None → v.table ≡ None → Visits root s s e (Ok v)
+  item_visits v o no_head there item folder table = visits_told root s s e v (meets_shut root s e over shut) (visit_of_item root e v (subst (IsItemAt root e) (sym item) there) folder table no_head shut.names)
+
+module _ (root : Tree) (e o : Place) (n : Text) (t : Table) (k : Kind) (h : IsEntryAt root e k) (z : zone root e ≡ inside o (n ∷ [])) (table : table_at root o ≡ Some t) where
+  of_object : (leaf : Leaf) (ns : List Note) → seen root e ≡ Some leaf → object_entry_notes root e n (Some leaf) ≡ ns → IsPlainAt root e ns
+  of_object leaf ns s is = relined root e (object_entry_notes root e n (seen root e)) ns (ap (object_entry_notes root e n) s ∙ is) (object_plain root e o n t z table)
+
+  pub object_file_known : k ≡ kind.File → is_declaration level.Object n || is_inventory_or_sidecar n ≡ true → IsPlainAt root e []
+  object_file_known is b = let f = entry_file root e k h is in of_object (file f.0) [] f.1 (ap (λ x. on (not x) (plain E001)) b)
+
+  pub object_file_other : k ≡ kind.File → is_declaration level.Object n || is_inventory_or_sidecar n ≡ false → IsPlainAt root e (plain E001 ∷ [])
+  object_file_other is b = let f = entry_file root e k h is in of_object (file f.0) (plain E001 ∷ []) f.1 (ap (λ x. on (not x) (plain E001)) b)
+
+  pub object_other : k ≡ kind.Other → IsPlainAt root e (plain S04 ∷ [])
+  object_other is = of_object other (plain S04 ∷ []) (entry_other root e k h is) refl
+
+  pub object_version : k ≡ kind.Dir → is_version_name n ≡ true → IsPlainAt root e (listed_dir_notes root e [])
+  object_version is b = of_object dir (listed_dir_notes root e []) (entry_dir root e k h is) (ap (λ x. cond x (listed_dir_notes root e []) (on (not (text_eq n (codes "extensions") || text_eq n (codes "logs"))) (plain E001))) b)
+
+  pub object_version_listed : k ≡ kind.Dir → is_version_name n ≡ true → IsListedAt root e
+  object_version_listed is b = listed_entry root e k h is (ap (is_listed_zone root) z ∙ ap (λ x. is_listed_in_object x (n ∷ [])) table ∙ b)
+
+  dir_else : k ≡ kind.Dir → is_version_name n ≡ false → object_entry_notes root e n (Some dir) ≡ on (not (text_eq n (codes "extensions") || text_eq n (codes "logs"))) (plain E001)
+  dir_else is b = ap (λ x. cond x (listed_dir_notes root e []) (on (not (text_eq n (codes "extensions") || text_eq n (codes "logs"))) (plain E001))) b
+
+  pub object_dir_known : k ≡ kind.Dir → is_version_name n ≡ false → text_eq n (codes "extensions") || text_eq n (codes "logs") ≡ true → IsPlainAt root e []
+  object_dir_known is b a = of_object dir [] (entry_dir root e k h is) (dir_else is b ∙ ap (λ x. on (not x) (plain E001)) a)
+
+  pub object_dir_other : k ≡ kind.Dir → is_version_name n ≡ false → text_eq n (codes "extensions") || text_eq n (codes "logs") ≡ false → IsPlainAt root e (plain E001 ∷ [])
+  object_dir_other is b a = of_object dir (plain E001 ∷ []) (entry_dir root e k h is) (dir_else is b ∙ ap (λ x. on (not x) (plain E001)) a)
+
+  pub object_dir_shut : is_version_name n ≡ false → IsShut root e
+  object_dir_shut b = shut_zone root e (not_root root e o (n ∷ []) z) (ap (shows_entries root) z ∙ ap (λ x. is_listed_in_object x (n ∷ [])) table ∙ b)
+
+module _ (root : Tree) (e o : Place) (v n : Text) (t : Table) (k : Kind) (h : IsEntryAt root e k) (z : zone root e ≡ inside o (v ∷ n ∷ [])) (table : table_at root o ≡ Some t) where
+  of_version : (leaf : Leaf) (ns : List Note) → seen root e ≡ Some leaf → version_entry_notes root t e n (Some leaf) ≡ ns → IsPlainAt root e ns
+  of_version leaf ns s is = relined root e (version_entry_notes root t e n (seen root e)) ns (ap (version_entry_notes root t e n) s ∙ is) (version_plain root e o v n t z table)
+
+  pub version_file_known : k ≡ kind.File → is_inventory_or_sidecar n ≡ true → IsPlainAt root e []
+  version_file_known is b = let f = entry_file root e k h is in of_version (file f.0) [] f.1 (ap (λ x. on (not x) (plain E015)) b)
+
+  pub version_file_other : k ≡ kind.File → is_inventory_or_sidecar n ≡ false → IsPlainAt root e (plain E015 ∷ [])
+  version_file_other is b = let f = entry_file root e k h is in of_version (file f.0) (plain E015 ∷ []) f.1 (ap (λ x. on (not x) (plain E015)) b)
+
+  pub version_other : k ≡ kind.Other → IsPlainAt root e (plain S04 ∷ [])
+  version_other is = of_version other (plain S04 ∷ []) (entry_other root e k h is) refl
+
+  pub version_content : k ≡ kind.Dir → text_eq n t.content ≡ true → IsPlainAt root e (listed_dir_notes root e [])
+  version_content is b = of_version dir (listed_dir_notes root e []) (entry_dir root e k h is) (ap (λ x. cond x (listed_dir_notes root e []) []) b)
+
+  in_version : (b : Bool) → is_version_name v ≡ true → text_eq n t.content ≡ b → is_listed_zone root (zone root e) ≡ b
+  in_version b named is = ap (is_listed_zone root) z ∙ ap (λ x. is_listed_in_object x (v ∷ n ∷ [])) table ∙ ap (λ x. x && text_eq n t.content) named ∙ is
+
+  pub version_content_listed : k ≡ kind.Dir → is_version_name v ≡ true → text_eq n t.content ≡ true → IsListedAt root e
+  version_content_listed is named b = listed_entry root e k h is (in_version true named b)
+
+  pub version_dir : k ≡ kind.Dir → text_eq n t.content ≡ false → IsPlainAt root e []
+  version_dir is b = of_version dir [] (entry_dir root e k h is) (ap (λ x. cond x (listed_dir_notes root e []) []) b)
+
+  pub version_dir_shut : is_version_name v ≡ true → text_eq n t.content ≡ false → IsShut root e
+  version_dir_shut named b = shut_zone root e (not_root root e o (v ∷ n ∷ []) z) (ap (shows_entries root) z ∙ ap (λ x. is_listed_in_object x (v ∷ n ∷ [])) table ∙ ap (λ x. x && text_eq n t.content) named ∙ b)

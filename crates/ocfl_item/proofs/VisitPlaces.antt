@@ -1,0 +1,304 @@
+-- Entries of the storage hierarchy: what lies outside objects, and objects.
+use Rattle.std.proofs.Common.{◌≡◌, ◌≢◌, suc, ◌+◌, ◌<◌, ◌≤◌, List, [], ◌∷◌, ◌++◌, refl, sym, ◌∙◌, ap, subst, true, false, Bool, Option, Some, None, arith, length}
+use Rattle.std.specs.Prelude.{cond, nat_eq, nat_le, option_map, codes, ◌&&◌, Result, Ok, Err, IfOk}
+use Rattle.std.specs.List.{list_all}
+use Rattle.std.proofs.lemmas.List.{length-append}
+use Rattle.std.proofs.lemmas.Bool.{eqb-true, le-leb, lt-ltb, le-ltb, lt-leb}
+use Rattle.ocfl_tree.specs.Place.{Place, Text, text_eq, beginnings}
+use Rattle.ocfl_tree.specs.Tree.{Tree, Leaf, file, other, at, is_dir, names_in, files_in}
+use Rattle.ocfl_tree.specs.Store.{Store, Did}
+use Rattle.ocfl_tree.specs.Listing.{kind_of, IsListing, IsOrdinary}
+use Rattle.ocfl_tree.specs.declared.store.Entry.{Entry}
+use Rattle.ocfl_tree.specs.declared.store.Kind.{Kind}
+use Rattle.ocfl_tree.specs.declared.store.Kind.TheVariants as kind
+use Rattle.ocfl_tree.proofs.Orders.{true_not_false}
+use Rattle.ocfl_report.specs.Line.{Note, plain}
+use Rattle.ocfl_report.specs.declared.code.Code.TheVariants.{E072, E073, S04, S05}
+use Rattle.ocfl_inventory.specs.Table.{Table}
+use Rattle.ocfl_inventory.specs.Declaration.{undeclared, declared, is_declared}
+use Rattle.ocfl_inventory.specs.Entries.{file_names, meaning, unknown_by, PointsAtOne}
+use Rattle.ocfl_inventory.specs.declared.declaration.Declared.{Declared as MadeDeclared}
+use Rattle.ocfl_inventory.specs.declared.declaration.Declared.TheVariants as made
+use Rattle.ocfl_inventory.specs.declared.declaration.Level.TheVariants as level
+use Rattle.ocfl_audit.specs.Head.{on}
+use Rattle.ocfl_audit.specs.Zone.{skipped, hierarchy, inside, zone, seen, table_at, is_entered, is_listed_zone, is_listed_in_object, max_listed_depth, object_declared}
+use Rattle.ocfl_audit.specs.Lines.{notes_in, named_in, is_empty, listed_dir_notes, hierarchy_notes}
+use Rattle.ocfl_audit.specs.Walk.{is_extensions, is_reached, seen_names, step_zone}
+use Rattle.ocfl_audit.specs.Trail.{is_head}
+use Rattle.ocfl_item.specs.Looking.{IsFront, failures_by}
+use Rattle.ocfl_item.specs.Pending.{IsPending}
+use Rattle.ocfl_item.specs.Ways.{IsDeclared, is_listable}
+use Rattle.ocfl_item.specs.Meeting.{IsFairVisit, IsFolderAt, IsItemAt, IsTableAt, IsVisit, Meets, MeetFails, Visits}
+use Rattle.ocfl_item.specs.Around.{IsMet}
+use Rattle.ocfl_item.specs.Visiting.{HeadRead, IsEntryAt, IsPlainAt, ReadsOne, ReadOneFails, VisitsHead}
+use Rattle.ocfl_item.specs.declared.fault.Fault.{Fault}
+use Rattle.ocfl_item.specs.declared.fault.Fault.TheVariants as fault
+use Rattle.ocfl_item.specs.declared.folder.Folder.{Folder}
+use Rattle.ocfl_item.specs.declared.pending.Pending.{Pending}
+use Rattle.ocfl_item.specs.declared.meeting.Around.{Around}
+use Rattle.ocfl_item.specs.declared.visit.Visit.{Visit}
+use Rattle.ocfl_audit.proofs.AuditExists.{not_empty}
+use Rattle.ocfl_item.proofs.FailLaws.{failed_behind, none_once}
+use Rattle.ocfl_tree.proofs.Stores.{did_then}
+use Rattle.ocfl_item.proofs.LooksEntries.{emptied, not_emptied}
+use Rattle.ocfl_tree.proofs.Bools.{and_both, and_first}
+use Rattle.ocfl_item.proofs.LooksZones.{declared_object, entered_from, out_of_zone}
+use Rattle.ocfl_audit.proofs.PathLaws.{notes_at}
+use Rattle.ocfl_audit.proofs.StepLaws.{all_beginnings_step, zone_step}
+use Rattle.ocfl_audit.specs.Trail.{heads_of, reads_inventory}
+use Rattle.ocfl_audit.specs.Between.{is_looked_into, shows_entries}
+use Rattle.ocfl_item.proofs.AuditingLaws.{did_nothing, front_all, front_none}
+use Rattle.ocfl_item.proofs.ShutLaws.{IsShut, hidden, looked_at, shut_zone}
+use Rattle.ocfl_item.proofs.VisitLaws.{deep_notes, entry_dir, entry_file, entry_other, no_dir, relined, short_notes, dir_here}
+
+-- ---- an entry that is next
+
+pub entry_met : (root : Tree) (d e : Place) (a : Option Around) (entry : Entry) → IsMet root d a entry e → IsEntryAt root e entry.kind
+entry_met root d e a entry m = record {
+  way = ap (λ x. list_all (is_entered root) (beginnings x)) m.is ∙ all_beginnings_step (is_entered root) d entry.name ∙ m.reached;
+  kind = ap (λ x. option_map kind_of (at root x)) m.is ∙ m.kind;
+}
+
+pub filled_by : (e d : Place) (n : Text) → e ≡ d ++ n ∷ [] → e ≢ []
+filled_by e d n is g = not_empty d n (sym is ∙ g)
+
+and_false : (a b : Bool) → b ≡ false → a && b ≡ false
+and_false true b h = h
+and_false false b h = refl
+
+pub hierarchy_plain : (root : Tree) (e : Place) → e ≢ [] → zone root e ≡ hierarchy → IsPlainAt root e (hierarchy_notes root e (seen root e))
+hierarchy_plain root e some z = record {
+  lines = notes_at root None e some ∙ ap (notes_in root e None) z;
+  named = ap (named_in root) z;
+  head = ap is_head z;
+}
+
+pub skipped_plain : (root : Tree) (e : Place) → e ≢ [] → zone root e ≡ skipped → IsPlainAt root e []
+skipped_plain root e some z = record {
+  lines = notes_at root None e some ∙ ap (notes_in root e None) z;
+  named = ap (named_in root) z;
+  head = ap is_head z;
+}
+
+undeclared_no_dir : (root : Tree) (e : Place) → is_dir root e ≡ false → object_declared root e ≡ undeclared
+undeclared_no_dir root e h = ap (λ b. cond (b && nat_le (length e) max_listed_depth) (declared level.Object (files_in root e)) undeclared) h
+
+pub undeclared_deep : (root : Tree) (e : Place) → 127 < length e → object_declared root e ≡ undeclared
+undeclared_deep root e h = ap (λ b. cond b (declared level.Object (files_in root e)) undeclared) (and_false (is_dir root e) (nat_le (length e) max_listed_depth) (lt-leb (length e) 127 h))
+
+module _ (root : Tree) (e d : Place) (n : Text) (is : e ≡ d ++ n ∷ []) (part : zone root d ≡ hierarchy) where
+  zone_next : zone root e ≡ cond (is_extensions root d n) skipped (cond (is_declared (object_declared root e)) (inside e []) hierarchy)
+  zone_next =
+      ap (zone root) is ∙ zone_step root d n ∙ ap (λ z. cond (is_extensions root d n) skipped (step_zone root d n z)) part
+      ∙ ap (λ x. cond (is_extensions root d n) skipped (cond (is_declared (object_declared root x)) (inside x []) hierarchy)) (sym is)
+
+  pub zone_passed : is_extensions root d n ≡ false → zone root e ≡ cond (is_declared (object_declared root e)) (inside e []) hierarchy
+  zone_passed h = zone_next ∙ ap (λ b. cond b skipped (cond (is_declared (object_declared root e)) (inside e []) hierarchy)) h
+
+  pub zone_skipped : is_extensions root d n ≡ true → zone root e ≡ skipped
+  zone_skipped h = zone_next ∙ ap (λ b. cond b skipped (cond (is_declared (object_declared root e)) (inside e []) hierarchy)) h
+
+  no_extensions : is_dir root e ≡ false → is_extensions root d n ≡ false
+  no_extensions h = by d is
+    where
+      by : (d : Place) → e ≡ d ++ n ∷ [] → is_extensions root d n ≡ false
+      by [] g = and_false (text_eq n (codes "extensions")) (is_dir root (n ∷ [])) (ap (is_dir root) (sym g) ∙ h)
+      by (m ∷ d) g = refl
+
+  pub extensions_from : nat_eq (length e) 1 && text_eq n (codes "extensions") ≡ true → is_dir root e ≡ true → is_extensions root d n ≡ true
+  extensions_from h there = by d is
+    where
+      by : (d : Place) → e ≡ d ++ n ∷ [] → is_extensions root d n ≡ true
+      by [] g = and_both (text_eq n (codes "extensions")) (is_dir root (n ∷ [])) (ap (λ k. nat_eq k 1 && text_eq n (codes "extensions")) (sym (ap length g)) ∙ h) (ap (is_dir root) (sym g) ∙ there)
+      by (m ∷ d) g =
+          let one : length e ≡ 1 = eqb-true (length e) 1 (and_first (nat_eq (length e) 1) (text_eq n (codes "extensions")) h) in
+          let long : length e ≡ suc (length (d ++ n ∷ [])) = ap length g in
+          let inner : length (d ++ n ∷ []) ≡ length d + 1 = length-append d (n ∷ []) in
+          absurd (omega (arith, one, long, inner))
+
+  pub extensions_not : nat_eq (length e) 1 && text_eq n (codes "extensions") ≡ false → is_extensions root d n ≡ false
+  extensions_not h = by d is
+    where
+      by : (d : Place) → e ≡ d ++ n ∷ [] → is_extensions root d n ≡ false
+      by [] g = ap (λ b. b && is_dir root (n ∷ [])) (ap (λ k. nat_eq k 1 && text_eq n (codes "extensions")) (sym (ap length g)) ∙ h)
+      by (m ∷ d) g = refl
+
+  -- what is no directory lies in the hierarchy
+  zone_no_dir : is_dir root e ≡ false → zone root e ≡ hierarchy
+  zone_no_dir h = zone_passed (no_extensions h) ∙ ap (λ x. cond (is_declared x) (inside e []) hierarchy) (undeclared_no_dir root e h)
+
+  module _ (k : Kind) (h : IsEntryAt root e k) where
+    in_hierarchy : (leaf : Leaf) (ns : List Note) → is_dir root e ≡ false → seen root e ≡ Some leaf → hierarchy_notes root e (Some leaf) ≡ ns → IsPlainAt root e ns
+    in_hierarchy leaf ns not s k = relined root e (hierarchy_notes root e (seen root e)) ns (ap (hierarchy_notes root e) s ∙ k) (hierarchy_plain root e (filled_by e d n is) (zone_no_dir not))
+
+    no_file_dir : k ≡ kind.File → is_dir root e ≡ false
+    no_file_dir g = no_dir root e k h (λ x. clash (sym g ∙ x))
+      where
+        clash : kind.File ≡ kind.Dir → ⊥
+        clash x = cc
+
+    no_other_dir : k ≡ kind.Other → is_dir root e ≡ false
+    no_other_dir g = no_dir root e k h (λ x. clash (sym g ∙ x))
+      where
+        clash : kind.Other ≡ kind.Dir → ⊥
+        clash x = cc
+
+    pub file_deeper : k ≡ kind.File → 1 < length e → IsPlainAt root e (plain E072 ∷ [])
+    file_deeper g deep = let f = entry_file root e k h g in in_hierarchy (file f.0) (plain E072 ∷ []) (no_file_dir g) f.1 (ap (λ b. on b (plain E072)) (lt-ltb 1 (length e) deep))
+
+    pub file_in_root : k ≡ kind.File → length e ≤ 1 → IsPlainAt root e []
+    file_in_root g short = let f = entry_file root e k h g in in_hierarchy (file f.0) [] (no_file_dir g) f.1 (ap (λ b. on b (plain E072)) (le-ltb 1 (length e) short))
+
+    pub other_in_hierarchy : k ≡ kind.Other → IsPlainAt root e (plain S04 ∷ [])
+    other_in_hierarchy g = in_hierarchy other (plain S04 ∷ []) (no_other_dir g) (entry_other root e k h g) refl
+
+    module _ (g : k ≡ kind.Dir) (x : nat_eq (length e) 1 && text_eq n (codes "extensions") ≡ true) where
+      in_extensions : zone root e ≡ skipped
+      in_extensions = zone_skipped (extensions_from x (dir_here root e k h g))
+
+      pub extensions_plain : IsPlainAt root e []
+      extensions_plain = skipped_plain root e (filled_by e d n is) in_extensions
+
+      pub extensions_shut : IsShut root e
+      extensions_shut = shut_zone root e (filled_by e d n is) (ap (shows_entries root) in_extensions)
+
+-- ---- a directory of the hierarchy, or an object
+
+module _ (root : Tree) (e : Place) (h : IsEntryAt root e kind.Dir) (some : e ≢ []) (z : zone root e ≡ cond (is_declared (object_declared root e)) (inside e []) hierarchy) where
+  undeclared_zone : object_declared root e ≡ undeclared → zone root e ≡ hierarchy
+  undeclared_zone g = z ∙ ap (λ x. cond (is_declared x) (inside e []) hierarchy) g
+
+  directory_plain : (ns : List Note) → object_declared root e ≡ undeclared → listed_dir_notes root e (plain E073 ∷ []) ≡ ns → IsPlainAt root e ns
+  directory_plain ns g k = relined root e (hierarchy_notes root e (seen root e)) ns (ap (hierarchy_notes root e) (entry_dir root e kind.Dir h refl) ∙ k) (hierarchy_plain root e some (undeclared_zone g))
+
+  pub deep_plain : 127 < length e → IsPlainAt root e (plain S05 ∷ [])
+  deep_plain deep = directory_plain (plain S05 ∷ []) (undeclared_deep root e deep) (deep_notes root e (plain E073 ∷ []) deep)
+
+  pub short_listable : length e ≤ 127 → is_listable root e ≡ true
+  short_listable short = and_both (nat_le (length e) max_listed_depth) (is_dir root e) (le-leb (length e) 127 short) (dir_here root e kind.Dir h refl)
+
+  -- it is looked into, an object or not
+  pub looked_either : length e ≤ 127 → is_looked_into root e ≡ true
+  looked_either short = looked_at root e h.way (short_listable short) (ap (shows_entries root) z ∙ by (is_declared (object_declared root e)))
+    where
+      by : (b : Bool) → shows_entries root (cond b (inside e []) hierarchy) ≡ true
+      by true = refl
+      by false = refl
+
+  module _ (es : List Entry) (short : length e ≤ 127) (ordinary : IsOrdinary es) (listing : IsListing root e es) where
+    declares : object_declared root e ≡ declared level.Object (file_names es)
+    declares = declared_object root e es (short_listable short) ordinary listing
+
+    pub none_declared : (m : MadeDeclared) → meaning level.Object es m ≡ declared level.Object (file_names es) → m ≡ made.None → object_declared root e ≡ undeclared
+    none_declared m says none = declares ∙ sym says ∙ ap (meaning level.Object es) none
+
+    pub empty_plain : object_declared root e ≡ undeclared → es ≡ [] → IsPlainAt root e (plain E073 ∷ [])
+    empty_plain g none = directory_plain (plain E073 ∷ []) g (short_notes root e (plain E073 ∷ []) short ∙ ap (λ b. cond b (plain E073 ∷ []) []) (emptied root e es listing none))
+
+    pub full_plain : object_declared root e ≡ undeclared → es ≢ [] → IsPlainAt root e []
+    full_plain g full = directory_plain [] g (short_notes root e (plain E073 ∷ []) short ∙ ap (λ b. cond b (plain E073 ∷ []) []) (not_emptied root e es listing full))
+
+    pub empty_names : es ≡ [] → seen_names root e ≡ []
+    empty_names none = by (is_reached root e) (names_in root e) (emptied root e es listing none)
+      where
+        by : (b : Bool) (ns : List Text) → is_empty ns ≡ true → cond b ns [] ≡ []
+        by true [] g = refl
+        by true (n ∷ ns) g = absurd (true_not_false (sym g))
+        by false ns g = refl
+
+    pub reached_hierarchy : object_declared root e ≡ undeclared → is_reached root e ≡ true
+    reached_hierarchy g = and_both (list_all (is_entered root) (beginnings e)) (is_entered root e) h.way (entered_from root e (short_listable short) (ap (is_listed_zone root) (undeclared_zone g)))
+
+    pub looked_hierarchy : object_declared root e ≡ undeclared → (is_looked_into root e ≡ true) × (is_head (zone root e) ≡ false)
+    looked_hierarchy g = (looked_either short, ap is_head (undeclared_zone g))
+
+    some_declared : (m : MadeDeclared) → PointsAtOne level.Object es m → m ≢ made.None → is_declared (meaning level.Object es m) ≡ true
+    some_declared made.None p not = absurd (not refl)
+    some_declared (made.One v) p not = refl
+    some_declared (made.Unknown i) p not = ap (λ o. is_declared (unknown_by level.Object o)) p.1
+    some_declared made.Several p not = refl
+
+    pub is_object : (m : MadeDeclared) → meaning level.Object es m ≡ declared level.Object (file_names es) → PointsAtOne level.Object es m → m ≢ made.None → IsDeclared root e es m
+    is_object m says points not = record {
+      listing = listing;
+      way = h.way;
+      listable = short_listable short;
+      zone = z ∙ ap (λ b. cond b (inside e []) hierarchy) (ap is_declared (declares ∙ sym says) ∙ some_declared m points not);
+      says = says ∙ sym declares;
+      points = points;
+    }
+
+-- the listing, and then what the head reads
+pub listed_then : (root : Tree) (s t u : Store) (e : Place) → is_head (zone root e) ≡ true → s.tree ≡ root → Did s t [] (e ∷ []) 0 → is_looked_into root e ≡ true → ReadsOne root t u e → Meets root s u e
+listed_then root s t u e head over did looked h = record {
+  over = over;
+  trail = h.trail;
+  listings = e ∷ [];
+  did = did_then s t u [] h.trail (e ∷ []) [] 0 did h.did;
+  meta = h.meta;
+  once = h.once;
+  elsewhere = λ g k. absurd (true_not_false (sym head ∙ g));
+  listed = sym (ap (λ b. on b e) looked);
+  heads = h.heads;
+}
+
+listed_fails : (root : Tree) (s t u : Store) (e : Place) (why : Fault) → is_head (zone root e) ≡ true → s.tree ≡ root → Did s t [] (e ∷ []) 0 → is_looked_into root e ≡ true → ReadOneFails root t u e why → MeetFails root s u e why
+listed_fails root s t u e why head over did looked h = record {
+  over = over;
+  trail = h.trail;
+  listings = e ∷ [];
+  did = did_then s t u [] h.trail (e ∷ []) [] (failures_by why) did h.did;
+  meta = h.meta;
+  once = h.once;
+  elsewhere = λ g k. absurd (true_not_false (sym head ∙ g));
+  listed = subst (λ b. IsFront (e ∷ []) (on b e)) (sym looked) (front_all (e ∷ []));
+  heads = h.heads;
+  store = λ q g. let w = h.store q g in (w.0, failed_behind (e ∷ []) [] [] h.trail q w.1);
+}
+
+pub visits_then : (root : Tree) (s t u : Store) (e : Place) (r : Result Visit Fault) → is_head (zone root e) ≡ true → s.tree ≡ root → Did s t [] (e ∷ []) 0 → is_looked_into root e ≡ true → VisitsHead root t u e r → Visits root s u e r
+visits_then root s t u e (Ok v) head over did looked h = record { gives = (listed_then root s t u e head over did looked h.gives.0, h.gives.1) }
+visits_then root s t u e (Err why) head over did looked h = record { gives = listed_fails root s t u e why head over did looked h.gives }
+
+-- an object's root is looked into
+pub object_looked : (root : Tree) (o : Place) (es : List Entry) (m : MadeDeclared) → IsDeclared root o es m → is_looked_into root o ≡ true
+object_looked root o es m h = looked_at root o h.way h.listable (ap (shows_entries root) h.zone)
+
+-- ---- an object
+
+pub head_memory : (root : Tree) (s t : Store) (o : Place) → ReadsOne root s t o → VisitsHead root s t o (Err fault.Memory)
+head_memory root s t o h = record {
+  gives = record { over = h.over; trail = h.trail; did = h.did; meta = h.meta; once = h.once; heads = subst (IsFront (heads_of root h.trail)) h.heads (front_all (heads_of root h.trail)); store = λ q g. absurd cc };
+}
+
+pub head_stop : (root : Tree) (s t : Store) (o : Place) (why : Fault) → HeadRead root s t o (Err why) → VisitsHead root s t o (Err why)
+head_stop root s t o why h = record { gives = h.gives }
+
+module _ (root : Tree) (o : Place) (es : List Entry) (m : MadeDeclared) (h : IsDeclared root o es m) where
+  pub head_here : is_head (zone root o) ≡ true
+  head_here = ap is_head h.zone
+
+  pub stopped_visit : (v : Visit) (p : Pending) → v.item ≡ Some p → v.folder ≡ None → v.table ≡ None → IsPending root p × (p.place ≡ o) → table_at root o ≡ None → IsVisit root o v
+  stopped_visit v p item folder table pending none = record {
+    item = subst (IsItemAt root o) (sym item) pending;
+    folder = subst (IsFolderAt root o) (sym folder) (hidden root o (out_of_zone root o (ap (is_listed_zone root) h.zone ∙ ap (λ x. is_listed_in_object x []) none)));
+    table = subst (IsTableAt root o) (sym table) (λ g. none);
+  }
+
+  pub open_visit : (v : Visit) (p : Pending) (f : Folder) (t : Table) → v.item ≡ Some p → v.folder ≡ Some f → v.table ≡ Some t → IsPending root p × (p.place ≡ o) → f.place ≡ o → f.entries.items ≡ es → table_at root o ≡ Some t → IsVisit root o v
+  open_visit v p f t item folder table pending place entries is = record {
+    item = subst (IsItemAt root o) (sym item) pending;
+    folder = subst (IsFolderAt root o) (sym folder) (place, and_both (list_all (is_entered root) (beginnings o)) (is_entered root o) h.way (entered_from root o h.listable (ap (is_listed_zone root) h.zone ∙ ap (λ x. is_listed_in_object x []) is)), subst (IsListing root o) (sym entries) h.listing);
+    table = subst (IsTableAt root o) (sym table) (h.zone, is);
+  }
+
+pub unread_memory : (root : Tree) (s : Store) (o : Place) → s.tree ≡ root → HeadRead root s s o (Err fault.Memory)
+unread_memory root s o over = record {
+  gives = record { over = over; trail = []; did = did_nothing s; meta = refl; once = none_once; heads = front_none (on (reads_inventory root o) o); store = λ q g. absurd cc };
+}
+
+pub plain_by : (root : Tree) (e d : Place) (ns : List Note) (r : Result Visit Fault) → d ≡ e → (IsPlainAt root d ns → seen_names root d ≡ [] → IfOk r (λ v. IsVisit root d v)) → IsPlainAt root e ns → seen_names root e ≡ [] → IfOk r (λ v. IsVisit root e v)
+plain_by root e d ns r is told = subst (λ x. IsPlainAt root x ns → seen_names root x ≡ [] → IfOk r (λ v. IsVisit root x v)) is told
+
+pub directory_over : (e d : Place) (r : Result Visit Fault) → d ≡ e → IfOk r (λ v. IsFairVisit d v) → IfOk r (λ v. IsFairVisit e v)
+directory_over e d r is h = subst (λ x. IfOk r (λ v. IsFairVisit x v)) is h

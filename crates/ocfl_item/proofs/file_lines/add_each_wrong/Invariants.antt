@@ -1,0 +1,11 @@
+use Rattle.std.proofs.Common.{map, take}
+use Rattle.ocfl_tree.specs.Place.{Text}
+use Rattle.ocfl_inventory.specs.TripleView.{named_view}
+use Rattle.ocfl_item.specs.FileLines.{HasDigests}
+use Rattle.ocfl_audit.specs.Lines.{wrong_notes}
+use Rattle.ocfl_item.specs.Pending.{Adds}
+use Rattle.ocfl_item.proofs.file_lines.add_each_wrong.Given as goal
+
+abbrev pub invariant-loop-entry : goal.invariant-loop-entry
+invariant-loop-entry l =
+    (bytes : Text) → HasDigests (map (λ n. n.algorithm) l.named) bytes l.digests → Adds l.initial.lines.items l.lines.items l.place (wrong_notes bytes (map named_view (take l.entry-index l.named)))

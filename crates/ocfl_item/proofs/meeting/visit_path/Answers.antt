@@ -1,0 +1,33 @@
+use Rattle.std.proofs.Common.{◌≡◌, ◌∙◌, ap, sym, subst, [], length, drop, map}
+use Rattle.ocfl_inventory.specs.Table.{named}
+use Rattle.ocfl_inventory.specs.TripleView.{named_view}
+use Rattle.ocfl_item.specs.Around.{IsTableAround}
+use Rattle.ocfl_item.proofs.LooksEntries.{no_entries, some_entries}
+use Rattle.ocfl_item.proofs.PathItems.{named_around, named_content, some_named, unseen_notes, untabled}
+use Rattle.ocfl_item.proofs.meeting.visit_path.Goals as goal
+
+pub returns-in_default-clause-told : goal.returns-in_default-clause-told
+returns-in_default-clause-told c = λ root h unseen.
+    unseen_notes root c.args.place.now unseen (untabled root c.args.place.now (subst (IsTableAround root c.args.place.now) c.in_default.is h))
+
+pub returns-then-is_empty-clause-told : goal.returns-then-is_empty-clause-told
+returns-then-is_empty-clause-told c = λ root h unseen.
+    let p = c.args.place.now in
+    let a = c.in-Some.around in
+    let around = subst (IsTableAround root p) c.in-Some.is h in
+    let inner = c.in_ok-inner.ensures ∙ ap (λ n. drop n p) c.depth.ensures in
+    let items = c.in_ok-named.named.items in
+    let none : items ≡ [] = no_entries items c.in_ok-named.named.len c.in_ok-named.named.ok.0 (sym c.if-is_empty.true ∙ c.is_empty.ensures) in
+    unseen_notes root p unseen (named_around root p a around ∙ sym (c.in_ok-named.ensures ∙ ap (named a.table) inner) ∙ ap (map named_view) none)
+
+pub returns-clause-told : goal.returns-clause-told
+returns-clause-told c = λ root h unseen.
+    let p = c.args.place.now in
+    let a = c.in-Some.around in
+    let around = subst (IsTableAround root p) c.in-Some.is h in
+    let inner = c.in_ok-inner.ensures ∙ ap (λ n. drop n p) c.depth.ensures in
+    let items = c.in_ok-named.named.items in
+    let digests = c.in_ok-named.ensures ∙ ap (named a.table) inner in
+    let some = some_named items (some_entries items c.in_ok-named.named.len c.in_ok-named.named.ok.0 (sym c.if-is_empty.false ∙ c.is_empty.ensures)) in
+    let content = named_content root p a around (λ e. some (digests ∙ sym (named_around root p a around) ∙ e)) in
+    c.in_ok-content_item.ensures.told root a.table (drop (length a.place) p) content digests unseen

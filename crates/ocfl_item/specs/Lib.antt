@@ -1,0 +1,11 @@
+pub mod Looking
+pub mod Auditing
+pub mod Ways
+pub mod Around
+pub mod Meeting
+pub mod HeadFiles
+pub mod HeadLines
+pub mod Judging
+pub mod Pending
+pub mod FileLines
+pub mod Visiting

@@ -1,0 +1,102 @@
+//! The storage root: its lines, and its listing where it is entered.
+ghost use Rattle.std.specs.Prelude.{◌≡◌, ◌∷◌, [], None, false, IsTrue, IfOk, IfErr};
+ghost use Rattle.std.specs.Prelude.{OnOk, map};
+ghost use Rattle.ocfl_tree.specs.Tree.{Tree as Root};
+ghost use Rattle.ocfl_report.specs.Line.{line_of, lines_at};
+ghost use Rattle.ocfl_inventory.specs.Declaration.{declaration_name as declaration_name_of};
+ghost use Rattle.ocfl_inventory.specs.Declaration.{known};
+ghost use Rattle.ocfl_inventory.specs.declared.declaration.Level.TheVariants as level;
+ghost use Rattle.ocfl_audit.specs.Head.{root_notes_by};
+ghost use Rattle.ocfl_item.specs.HeadFiles.{IsFileAt};
+ghost use Rattle.ocfl_audit.specs.Lines.{notes};
+ghost use Rattle.ocfl_item.specs.Pending.{Adds, IsPending};
+ghost use Rattle.ocfl_item.specs.Meeting.{IsFairVisit, Visits};
+ghost use Rattle.ocfl_item.specs.Ways.{IsWayFault};
+
+use crate::declarations::{add_stop, is_exact};
+use crate::fault::Fault;
+use crate::folder::list;
+use crate::lines::add_plain;
+use crate::object::{SIDE_LIMIT, read_file};
+use crate::pending::Pending;
+use crate::visit::Visit;
+use ocfl_digest::Bounded;
+use ocfl_inventory::declaration::declaration;
+use ocfl_inventory::{Declared, Level, Version, declaration_name};
+use ocfl_report::{Code, Line};
+use ocfl_tree::{Place, Tree};
+use std::alloc::{AllocError, Global};
+
+/// Puts the line of a storage root of known version at the end (OCFL 1.1, 4.2 Root Conformance
+/// Declaration).
+fn add_known(
+    alloc: Global,
+    lines: &mut Vec<Line>,
+    place: &Place,
+    version: Version,
+    declaration: &Option<Bounded>,
+) -> Result<(), AllocError>
+    ensures { (root : Root) → IsFileAt root (declaration_name_of level.Root version
+        ∷ []) 4096 declaration.now
+        → OnOk result (Adds lines.old.items lines.new.items place.now
+        (root_notes_by root (known version))) }
+{
+    if is_exact(Level::Root, version, declaration) {
+        return add_plain(alloc, lines, place, Code::Clean);
+    }
+    add_plain(alloc, lines, place, Code::E080)
+}
+
+fn item_of(alloc: Global, place: &Place, lines: Vec<Line>) -> Result<Pending, AllocError>
+    ensures place { IfOk result (λ item. item.place ≡ place.now) }
+    ensures told { (root : Root) → place.now ≡ []
+        → map line_of lines.items ≡ lines_at [] (notes root None [])
+        → IfOk result (λ item. IsPending root item) }
+{
+    Ok(Pending {
+        place: place.try_clone()?,
+        hashed: false,
+        named: Vec::new(alloc),
+        lines,
+    })
+}
+
+/// The storage root as the walk meets it (OCFL 1.1, 4 OCFL Storage Root).
+pub fn visit_base<T: Tree>(alloc: Global, store: &mut T) -> Result<Visit, Fault>
+    ensures only { IfErr result (λ why. IsWayFault why) }
+    ensures fair { IfOk result (λ v. IsFairVisit [] v) }
+    ensures told { IsTrue T.told → (root : Root) → (T.state store.old).tree ≡ root
+        → Visits root (T.state store.old) (T.state store.new) [] result }
+{
+    let folder = list(store, Place::root(alloc))?;
+    let mut lines = Vec::new(alloc);
+    match declaration(&folder.entries, Level::Root) {
+        Declared::One(version) => {
+            let name = declaration_name(Level::Root, version);
+            let file = read_file(alloc, store, &folder, name, SIDE_LIMIT)?;
+            add_known(alloc, &mut lines, &folder.place, version, &file)?;
+            let item = item_of(alloc, &folder.place, lines)?;
+            Ok(Visit {
+                item: Some(item),
+                folder: Some(folder),
+                table: None,
+            })
+        }
+        declared => {
+            add_stop(
+                alloc,
+                &mut lines,
+                &folder.place,
+                Level::Root,
+                &folder.entries,
+                declared,
+            )?;
+            let item = item_of(alloc, &folder.place, lines)?;
+            Ok(Visit {
+                item: Some(item),
+                folder: None,
+                table: None,
+            })
+        }
+    }
+}

@@ -1,0 +1,100 @@
+ghost use Rattle.std.specs.Prelude.{◌≡◌, ◌++◌, [], IfOk, IfSome, MatchOption, None, OnOk, Some};
+ghost use Rattle.std.specs.Prelude.{map};
+ghost use Rattle.ocfl_tree.specs.Ascending.{IsAscending};
+ghost use Rattle.ocfl_tree.specs.Place.{Place as Spot};
+ghost use Rattle.ocfl_tree.specs.Tree.{Tree as Root};
+ghost use Rattle.ocfl_report.specs.Line.{line_of, lines_at};
+ghost use Rattle.ocfl_inventory.specs.Table.{Table, named as digests_of, named_cmp};
+ghost use Rattle.ocfl_audit.specs.Lines.{missing_notes, notes};
+ghost use Rattle.ocfl_item.specs.Looking.{IsSight, content_at};
+ghost use Rattle.ocfl_inventory.specs.TripleView.{named_view};
+ghost use Rattle.ocfl_item.specs.Pending.{Adds, IsPending, is_read, sight_notes};
+
+use crate::lines::add_plain;
+use crate::missing::add_missing;
+use crate::pending::Pending;
+use crate::sight::Sight;
+use ocfl_inventory::Named;
+use ocfl_report::{Code, Line};
+use ocfl_tree::Place;
+use std::alloc::{AllocError, Global};
+
+/// Puts the line for what is seen at the end, if it has one.
+fn add_sight(
+    alloc: Global,
+    lines: &mut Vec<Line>,
+    place: &Place,
+    sight: Sight,
+) -> Result<(), AllocError>
+    ensures { OnOk result (Adds lines.old.items lines.new.items place.now (sight_notes sight)) }
+{
+    match sight {
+        Sight::Nothing | Sight::Dir => Ok(()),
+        Sight::File => add_plain(alloc, lines, place, Code::E023),
+        Sight::EmptyDir => add_plain(alloc, lines, place, Code::E024),
+        Sight::DeepDir => add_plain(alloc, lines, place, Code::S05),
+        Sight::Other => add_plain(alloc, lines, place, Code::S04),
+    }
+}
+
+/// The lines of a content place whose file is not hashed.
+fn known_lines(
+    alloc: Global,
+    place: &Place,
+    named: &[Named],
+    sight: Sight,
+) -> Result<Vec<Line>, AllocError>
+    ensures { IsAscending named_cmp (map named_view named.now)
+        → IfOk result (λ lines. map line_of lines.items
+        ≡ lines_at place.now (sight_notes sight ++ missing_notes (map named_view named.now))) }
+{
+    let mut lines = Vec::new(alloc);
+    add_sight(alloc, &mut lines, place, sight)?;
+    add_missing(alloc, &mut lines, place, named)?;
+    Ok(lines)
+}
+
+/// Whether a file is seen that some digest is named for: only then is it hashed.
+fn is_hashed(named: &[Named], sight: Sight) -> bool
+    ensures { result ≡ is_read sight (map named_view named.now) }
+{
+    match sight {
+        Sight::File => !named.is_empty(),
+        _ => false,
+    }
+}
+
+/// The item at a content place, from the digests that the object's table names for it and from what
+/// is seen there; none where the place has no lines.
+pub(crate) fn content_item(
+    alloc: Global,
+    place: &Place,
+    named: Vec<Named>,
+    sight: Sight,
+) -> Result<Option<Pending>, AllocError>
+    ensures place { IfOk result (λ item. IfSome item (λ pending. pending.place ≡ place.now)) }
+    ensures told { (root : Root) (t : Table) (q : Spot) → content_at root place.now ≡ Some (t, q)
+        → map named_view named.items ≡ digests_of t q → IsSight root place.now sight
+        → IfOk result (λ item. MatchOption item (notes root None place.now ≡ [])
+        (λ pending. IsPending root pending × (pending.place ≡ place.now))) }
+{
+    let place = place.try_clone()?;
+    if is_hashed(&named, sight) {
+        return Ok(Some(Pending {
+            place,
+            hashed: true,
+            named,
+            lines: Vec::new(alloc),
+        }));
+    }
+    let lines = known_lines(alloc, &place, &named, sight)?;
+    if lines.is_empty() {
+        return Ok(None);
+    }
+    Ok(Some(Pending {
+        place,
+        hashed: false,
+        named,
+        lines,
+    }))
+}

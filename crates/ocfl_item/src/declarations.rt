@@ -1,0 +1,98 @@
+//! The line of what a directory declares, where that is not one declaration of a known version; and
+//! whether a declaration has the bytes that it must have.
+ghost use Rattle.std.specs.Prelude.{◌≡◌, ◌≤◌, ◌++◌, ◌∷◌, [], false, length, OnOk};
+ghost use Rattle.ocfl_tree.specs.Place.{Place as Names, Text, text_eq};
+ghost use Rattle.ocfl_tree.specs.Tree.{Tree as Root};
+ghost use Rattle.ocfl_report.specs.Line.{note};
+ghost use Rattle.ocfl_digest.specs.Bounded.{IsBoundedTo};
+ghost use Rattle.ocfl_inventory.specs.Declaration.{after_prefix, is_known};
+ghost use Rattle.ocfl_inventory.specs.Declaration.{declaration_name as name_of_declaration};
+ghost use Rattle.ocfl_inventory.specs.Declaration.{prefix};
+ghost use Rattle.ocfl_inventory.specs.Entries.{meaning, PointsAtOne};
+ghost use Rattle.ocfl_audit.specs.Head.{is_exact_declaration};
+ghost use Rattle.ocfl_item.specs.HeadFiles.{IsFileAt};
+ghost use Rattle.ocfl_item.specs.HeadLines.{declared_notes};
+ghost use Rattle.ocfl_item.specs.Pending.{Adds};
+
+use crate::lines::{add_line, add_plain};
+use ocfl_digest::Bounded;
+use ocfl_inventory::{Declared, Level, Version, declaration_bytes, version_in_name};
+use ocfl_report::{Code, Line};
+use ocfl_tree::{Entry, Place, is_bytes};
+use std::alloc::{AllocError, Global};
+
+/// Whether these few bytes are all that a file has.
+fn is_file(bytes: &[u8], file: &Bounded) -> bool
+    ensures { (text : Text) → IsBoundedTo 4096 text file.now → length bytes.now ≤ 4096
+        → result ≡ text_eq text bytes.now }
+{
+    match file {
+        Bounded::Whole(whole) => is_bytes(whole, bytes),
+        Bounded::Over => false,
+    }
+}
+
+/// Whether the file of a declaration has just the bytes of that version's.
+pub(crate) fn is_exact(level: Level, version: Version, declaration: &Option<Bounded>) -> bool
+    ensures { (root : Root) (d : Names) → IsFileAt root
+        (d ++ name_of_declaration level version ∷ []) 4096 declaration.now
+        → result ≡ is_exact_declaration root d level version }
+{
+    match declaration {
+        Some(file) => is_file(declaration_bytes(level, version), file),
+        None => false,
+    }
+}
+
+/// Puts the line of a version that is not known at the end.
+fn add_unknown(
+    alloc: Global,
+    lines: &mut Vec<Line>,
+    place: &Place,
+    level: Level,
+    declaration: &str,
+) -> Result<(), AllocError>
+    ensures { (rest : Text) → declaration.now ≡ prefix level ++ rest
+        → OnOk result (Adds lines.old.items lines.new.items place.now
+        (note Code.S01 (after_prefix level declaration.now) ∷ [])) }
+{
+    match version_in_name(level, declaration) {
+        Some(version) => {
+            let detail = String::from_str(alloc, version)?;
+            add_line(lines, place, Code::S01, detail)
+        }
+        None => Ok(()),
+    }
+}
+
+/// Puts the line of a storage root or of an object at the end that declares nothing, several
+/// versions, or one that is not known.
+pub(crate) fn add_stop(
+    alloc: Global,
+    lines: &mut Vec<Line>,
+    place: &Place,
+    level: Level,
+    entries: &[Entry],
+    declared: Declared,
+) -> Result<(), AllocError>
+    ensures { (root : Root) → is_known (meaning level entries.now declared) ≡ false
+        → PointsAtOne level entries.now declared
+        → OnOk result (Adds lines.old.items lines.new.items place.now
+        (declared_notes root place.now level (meaning level entries.now declared))) }
+{
+    match declared {
+        Declared::None => match level {
+            Level::Root => add_plain(alloc, lines, place, Code::E069),
+            Level::Object => Ok(()),
+        },
+        Declared::Several => match level {
+            Level::Root => add_plain(alloc, lines, place, Code::E076),
+            Level::Object => add_plain(alloc, lines, place, Code::E003),
+        },
+        Declared::Unknown(index) => match entries.get(index) {
+            Some(entry) => add_unknown(alloc, lines, place, level, entry.name.as_str()),
+            None => Ok(()),
+        },
+        Declared::One(_) => Ok(()),
+    }
+}

@@ -1,0 +1,26 @@
+ghost use Rattle.std.specs.Prelude.{◌≡◌};
+ghost use Rattle.ocfl_item.specs.declared.fault.Fault.TheVariants.{Memory};
+
+use ocfl_tree::Place;
+use std::alloc::AllocError;
+
+/// Why a call stops.
+#[derive(Debug, Drop)]
+pub enum Fault {
+    /// The store did not answer at this place.
+    Store(Place),
+    /// Memory was refused.
+    Memory,
+    /// The output failed.
+    Output,
+    /// The walk had failed before.
+    Broken,
+}
+
+impl From<AllocError> for Fault {
+    ghost from_gives = { λ _ e. e ≡ Memory };
+
+    fn from(_error: AllocError) -> Fault {
+        Fault::Memory
+    }
+}

@@ -1,0 +1,141 @@
+ghost use Rattle.std.specs.Prelude.{◌≡◌, ◌++◌, ◌∷◌, [], IfOk, OnOk, Some, length, map};
+ghost use Rattle.hex.specs.Hex.{encode_lower};
+ghost use Rattle.ocfl_tree.specs.Place.{Text};
+ghost use Rattle.ocfl_report.specs.Line.{line_of, lines_at, plain};
+ghost use Rattle.ocfl_digest.specs.Digest.{digest_bytes_of};
+ghost use Rattle.ocfl_digest.specs.Digests.{digest_in};
+ghost use Rattle.ocfl_inventory.specs.TripleView.{named_view};
+ghost use Rattle.ocfl_audit.specs.Lines.{is_in_manifest as is_named_in_manifest, or_bytes};
+ghost use Rattle.ocfl_audit.specs.Lines.{unnamed_notes, wrong_notes};
+ghost use Rattle.ocfl_item.specs.FileLines.{HasDigests, wrong_by};
+ghost use Rattle.ocfl_item.specs.Pending.{Adds};
+
+use crate::lines::{add_line, add_plain, code_of};
+use ocfl_digest::Digests;
+use ocfl_inventory::Named;
+use ocfl_report::{Code, Line};
+use ocfl_tree::{Place, is_text};
+use std::alloc::{AllocError, Global};
+
+fn is_in_manifest(named: &[Named]) -> bool
+    ensures { result ≡ is_named_in_manifest (map named_view named.now) }
+{
+    for entry in named {
+        if !entry.fixity {
+            return true;
+        }
+    }
+    false
+}
+
+/// Puts the line of a content file that the manifest does not name at the end.
+pub(crate) fn add_unnamed(
+    alloc: Global,
+    lines: &mut Vec<Line>,
+    place: &Place,
+    named: &[Named],
+) -> Result<(), AllocError>
+    ensures { OnOk result (Adds lines.old.items lines.new.items place.now
+        (unnamed_notes (map named_view named.now))) }
+{
+    if is_in_manifest(named) {
+        return Ok(());
+    }
+    add_plain(alloc, lines, place, Code::E023)
+}
+
+/// Puts the line of a named digest at the end, unless it is the one that was found.
+fn add_unless_found(
+    alloc: Global,
+    lines: &mut Vec<Line>,
+    place: &Place,
+    named: &Named,
+    found: &[u8],
+) -> Result<(), AllocError>
+    ensures { OnOk result (Adds lines.old.items lines.new.items place.now
+        (wrong_by (encode_lower found.now) (named_view named.now))) }
+{
+    let found = hex::encode(alloc, found)?;
+    if is_text(&named.digest, &found) {
+        return Ok(());
+    }
+    let detail = format!(in alloc; "{} {} {}", named.algorithm.name(), named.digest, found)?;
+    add_line(lines, place, code_of(named), detail)
+}
+
+/// Puts the line of a named digest at the end, unless it is the file's.
+fn add_wrong(
+    alloc: Global,
+    lines: &mut Vec<Line>,
+    place: &Place,
+    named: &Named,
+    digests: &Digests,
+) -> Result<(), AllocError>
+    ensures { (bytes : Text) → digest_in digests.now named.now.algorithm
+        ≡ Some (digest_bytes_of named.now.algorithm bytes)
+        → OnOk result (Adds lines.old.items lines.new.items place.now
+        (wrong_notes bytes (named_view named.now ∷ []))) }
+{
+    match digests.get(named.algorithm) {
+        Some(found) => add_unless_found(alloc, lines, place, named, found),
+        None => Ok(()),
+    }
+}
+
+/// Puts a line for each named digest that is not the file's at the end.
+fn add_each_wrong(
+    alloc: Global,
+    lines: &mut Vec<Line>,
+    place: &Place,
+    named: &[Named],
+    digests: &Digests,
+) -> Result<(), AllocError>
+    ensures { (bytes : Text) → HasDigests (map (λ n. n.algorithm) named.now) bytes digests.now
+        → OnOk result (Adds lines.old.items lines.new.items place.now
+        (wrong_notes bytes (map named_view named.now))) }
+{
+    for entry in named {
+        add_wrong(alloc, lines, place, entry, digests)?;
+    }
+    Ok(())
+}
+
+/// The lines of a content file that was read to its end: its digests, and how many bytes it has.
+pub(crate) fn hashed_lines(
+    alloc: Global,
+    place: &Place,
+    named: &[Named],
+    digests: &Digests,
+    count: u64,
+) -> Result<Vec<Line>, AllocError>
+    ensures { (bytes : Text) → HasDigests (map (λ n. n.algorithm) named.now) bytes digests.now
+        → count ≡ length bytes
+        → IfOk result (λ lines. map line_of lines.items
+        ≡ lines_at place.now (or_bytes bytes
+        (unnamed_notes (map named_view named.now)
+        ++ wrong_notes bytes (map named_view named.now)))) }
+{
+    let mut lines = Vec::new(alloc);
+    add_unnamed(alloc, &mut lines, place, named)?;
+    add_each_wrong(alloc, &mut lines, place, named, digests)?;
+    if lines.is_empty() {
+        let detail = count.to_string(alloc)?;
+        add_line(&mut lines, place, Code::Clean, detail)?;
+    }
+    Ok(lines)
+}
+
+/// The lines of a content file that could not be read.
+pub(crate) fn unread_lines(
+    alloc: Global,
+    place: &Place,
+    named: &[Named],
+) -> Result<Vec<Line>, AllocError>
+    ensures { IfOk result (λ lines. map line_of lines.items
+        ≡ lines_at place.now (unnamed_notes (map named_view named.now) ++ plain Code.S08 ∷ [])) }
+{
+    let mut lines = Vec::new(alloc);
+    add_unnamed(alloc, &mut lines, place, named)?;
+    add_plain(alloc, &mut lines, place, Code::S08)?;
+    Ok(lines)
+}

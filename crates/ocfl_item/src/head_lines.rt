@@ -1,0 +1,297 @@
+//! The lines of an object's head, from files that were read before.
+ghost use Rattle.std.specs.Prelude.{◌≡◌, ◌++◌, ◌∷◌, [], List, true, false, not};
+ghost use Rattle.std.specs.Prelude.{is_some, map, option_map, Some, IfSome, IfOk, OnOk};
+ghost use Rattle.hex.specs.Hex.{encode_lower};
+ghost use Rattle.ocfl_tree.specs.Place.{Place as Names, Text, text_eq};
+ghost use Rattle.ocfl_tree.specs.Tree.{Tree as Root};
+ghost use Rattle.ocfl_report.specs.Line.{Note, plain};
+ghost use Rattle.ocfl_digest.specs.Bounded.{IsBoundedTo};
+ghost use Rattle.ocfl_digest.specs.Digest.{digest_bytes_of};
+ghost use Rattle.ocfl_digest.specs.declared.algorithm.Algorithm.TheVariants.{Sha256, Sha512};
+ghost use Rattle.ocfl_inventory.specs.Declaration.{declaration_name as name_of_declaration};
+ghost use Rattle.ocfl_inventory.specs.DigestText.{digest_of};
+ghost use Rattle.ocfl_inventory.specs.Reading.{algorithm_of as algorithm_in};
+ghost use Rattle.ocfl_inventory.specs.Sidecar.{sidecar_digits, sidecar_of};
+ghost use Rattle.ocfl_inventory.specs.Sums.{sum_view};
+ghost use Rattle.ocfl_inventory.specs.Table.{IsFit, table_of};
+ghost use Rattle.ocfl_inventory.specs.declared.declaration.Level.TheVariants as level;
+ghost use Rattle.ocfl_audit.specs.Head.{on, or_clean, is_exact_declaration, sidecar_name};
+ghost use Rattle.ocfl_audit.specs.Head.{sidecar_at, mismatch, sidecar_notes, are_sidecars_missing};
+ghost use Rattle.ocfl_audit.specs.Head.{sidecars_notes, inventory_part};
+ghost use Rattle.ocfl_item.specs.HeadFiles.{IsFileAt};
+ghost use Rattle.ocfl_item.specs.HeadLines.{AreSidecars, note_of, is_other_there, named_notes};
+ghost use Rattle.ocfl_item.specs.Pending.{Adds};
+
+use crate::declarations::is_exact;
+use crate::lines::{add_line, add_plain};
+use ocfl_digest::{Algorithm, Bounded, Wanted, hash_bytes};
+use ocfl_inventory::{Level, Sum, Table, Version, read_inventory, sidecar};
+use ocfl_report::{Code, Line};
+use ocfl_tree::{Place, is_bytes};
+use std::alloc::{AllocError, Global};
+
+/// What was read of the sidecars of an inventory, where they are there.
+#[derive(Debug, Drop)]
+pub(crate) struct Sidecars {
+    /// That of `sha256`.
+    pub(crate) short: Option<Bounded>,
+    /// That of `sha512`.
+    pub(crate) long: Option<Bounded>,
+}
+
+/// Puts the line of a declaration whose bytes are not exact at the end (OCFL 1.1, 3.2 Object
+/// Conformance Declaration).
+pub(crate) fn add_declaration(
+    alloc: Global,
+    lines: &mut Vec<Line>,
+    place: &Place,
+    version: Version,
+    declaration: &Option<Bounded>,
+) -> Result<(), AllocError>
+    ensures { (root : Root) → IsFileAt root (place.now
+        ++ name_of_declaration level.Object version ∷ []) 4096 declaration.now
+        → OnOk result (Adds lines.old.items lines.new.items place.now
+        (on (not (is_exact_declaration root place.now level.Object version))
+        (plain Code.E007))) }
+{
+    if is_exact(Level::Object, version, declaration) {
+        return Ok(());
+    }
+    add_plain(alloc, lines, place, Code::E007)
+}
+
+/// Puts the line of a sidecar whose digest is not the one that was found at the end.
+fn add_unless_found(
+    alloc: Global,
+    lines: &mut Vec<Line>,
+    place: &Place,
+    algorithm: Algorithm,
+    wanted: &[u8],
+    found: &[u8],
+) -> Result<(), AllocError>
+    ensures { OnOk result (Adds lines.old.items lines.new.items place.now
+        (on (not (text_eq wanted.now found.now))
+        (mismatch Code.E060 algorithm (encode_lower wanted.now) (encode_lower found.now)))) }
+{
+    if is_bytes(wanted, found) {
+        return Ok(());
+    }
+    let wanted = hex::encode(alloc, wanted)?;
+    let found = hex::encode(alloc, found)?;
+    let detail = format!(in alloc; "{} {} {}", algorithm.name(), wanted, found)?;
+    add_line(lines, place, Code::E060, detail)
+}
+
+/// Puts the line of a sidecar whose digest is not that of the inventory at the end.
+fn add_unless_equal(
+    alloc: Global,
+    lines: &mut Vec<Line>,
+    place: &Place,
+    inventory: &[u8],
+    algorithm: Algorithm,
+    sum: &Sum,
+) -> Result<(), AllocError>
+    ensures { OnOk result (Adds lines.old.items lines.new.items place.now
+        (on (not (text_eq (sum_view sum.now) (digest_bytes_of algorithm inventory.now)))
+        (mismatch Code.E060 algorithm (encode_lower (sum_view sum.now))
+        (digest_of algorithm inventory.now)))) }
+{
+    let digests = hash_bytes(inventory, Wanted::none().with(algorithm));
+    match digests.get(algorithm) {
+        Some(found) => add_unless_found(alloc, lines, place, algorithm, sum.bytes(), found),
+        None => Ok(()),
+    }
+}
+
+/// The digest that a sidecar names, where it is of the form.
+fn sum_of(algorithm: Algorithm, file: &Bounded) -> Option<Sum>
+    ensures { (text : Text) → IsBoundedTo 4096 text file.now
+        → option_map sum_view result ≡ sidecar_of algorithm text }
+{
+    match file {
+        Bounded::Whole(bytes) => sidecar(bytes, algorithm),
+        Bounded::Over => None,
+    }
+}
+
+/// Puts the line of a sidecar at the end: it is not of the form, or does not have the digest of the
+/// inventory.
+fn add_sidecar(
+    alloc: Global,
+    lines: &mut Vec<Line>,
+    place: &Place,
+    inventory: &[u8],
+    algorithm: Algorithm,
+    file: &Option<Bounded>,
+) -> Result<(), AllocError>
+    ensures { (root : Root) → IsFileAt root (place.now ++ sidecar_name algorithm ∷ []) 4096 file.now
+        → OnOk result (Adds lines.old.items lines.new.items place.now
+        (sidecar_notes algorithm inventory.now (sidecar_at root place.now algorithm))) }
+{
+    let Some(file) = file else {
+        return Ok(());
+    };
+    match sum_of(algorithm, file) {
+        Some(sum) => add_unless_equal(alloc, lines, place, inventory, algorithm, &sum),
+        None => {
+            let detail = String::from_str(alloc, algorithm.name())?;
+            add_line(lines, place, Code::E061, detail)
+        }
+    }
+}
+
+/// Puts the line of an inventory without sidecars at the end.
+fn add_unless_any(
+    alloc: Global,
+    lines: &mut Vec<Line>,
+    place: &Place,
+    sidecars: &Sidecars,
+) -> Result<(), AllocError>
+    ensures { (root : Root) → AreSidecars root place.now sidecars.now
+        → OnOk result (Adds lines.old.items lines.new.items place.now
+        (on (are_sidecars_missing root place.now) (plain Code.E058))) }
+{
+    if sidecars.short.is_some() || sidecars.long.is_some() {
+        return Ok(());
+    }
+    add_plain(alloc, lines, place, Code::E058)
+}
+
+/// Puts the lines of the sidecars at the end: neither is there, or what is wrong with those that
+/// are.
+fn add_sidecars(
+    alloc: Global,
+    lines: &mut Vec<Line>,
+    place: &Place,
+    inventory: &[u8],
+    sidecars: &Sidecars,
+) -> Result<(), AllocError>
+    ensures { (root : Root) → AreSidecars root place.now sidecars.now
+        → OnOk result (Adds lines.old.items lines.new.items place.now
+        (sidecars_notes root place.now inventory.now)) }
+{
+    add_unless_any(alloc, lines, place, sidecars)?;
+    add_sidecar(
+        alloc,
+        lines,
+        place,
+        inventory,
+        Algorithm::Sha256,
+        &sidecars.short,
+    )?;
+    add_sidecar(
+        alloc,
+        lines,
+        place,
+        inventory,
+        Algorithm::Sha512,
+        &sidecars.long,
+    )
+}
+
+/// Whether the sidecar of an inventory's algorithm is missing while the other is there.
+fn has_other(algorithm: Algorithm, sidecars: &Sidecars) -> bool
+    ensures { (root : Root) (o : Names) → AreSidecars root o sidecars.now
+        → is_some (sidecar_digits algorithm) ≡ true
+        → result ≡ is_other_there root o algorithm }
+{
+    match algorithm {
+        Algorithm::Sha256 => sidecars.short.is_none() && sidecars.long.is_some(),
+        Algorithm::Sha512 => sidecars.long.is_none() && sidecars.short.is_some(),
+        Algorithm::Md5 | Algorithm::Sha1 | Algorithm::Sha512_256 => false,
+    }
+}
+
+/// Puts the line of a sidecar that is missing while the other is there at the end, where an
+/// algorithm is named.
+fn add_missing_sidecar(
+    alloc: Global,
+    lines: &mut Vec<Line>,
+    place: &Place,
+    algorithm: Option<Algorithm>,
+    sidecars: &Sidecars,
+) -> Result<(), AllocError>
+    ensures { (root : Root) → AreSidecars root place.now sidecars.now
+        → IfSome algorithm (λ a. is_some (sidecar_digits a) ≡ true)
+        → OnOk result (Adds lines.old.items lines.new.items place.now
+        (named_notes root place.now algorithm)) }
+{
+    let Some(algorithm) = algorithm else {
+        return Ok(());
+    };
+    if !has_other(algorithm, sidecars) {
+        return Ok(());
+    }
+    let detail = String::from_str(alloc, algorithm.name())?;
+    add_line(lines, place, Code::E058, detail)
+}
+
+/// Puts lines that carry the root at the end, as lines of the place.
+fn add_moved(lines: &mut Vec<Line>, place: &Place, read: Vec<Line>) -> Result<(), AllocError>
+    ensures { OnOk result (Adds lines.old.items lines.new.items place.now
+        (map note_of read.items)) }
+{
+    for line in read {
+        add_line(lines, place, line.code, line.detail)?;
+    }
+    Ok(())
+}
+
+/// Puts the lines of what an inventory says at the end, behind that of the sidecar of its
+/// algorithm, and gives its table.
+fn add_read(
+    alloc: Global,
+    lines: &mut Vec<Line>,
+    place: &Place,
+    inventory: &[u8],
+    sidecars: &Sidecars,
+) -> Result<Option<Table>, AllocError>
+    ensures lines { (root : Root) → AreSidecars root place.now sidecars.now
+        → OnOk result (Adds lines.old.items lines.new.items place.now
+        (inventory_part root place.now inventory.now (algorithm_in inventory.now))) }
+    ensures table { IfOk result (λ table. table ≡ table_of inventory.now) }
+    ensures fit { IfOk result (λ table. IfSome table (λ t. IsFit t)) }
+{
+    let read = read_inventory(alloc, inventory)?;
+    add_missing_sidecar(alloc, lines, place, read.algorithm, sidecars)?;
+    add_moved(lines, place, read.lines)?;
+    Ok(read.table)
+}
+
+/// Puts the lines of an object's inventory, and of its sidecars, at the end (OCFL 1.1, 3.5
+/// Inventory and 3.6 Inventory Digest), and gives its table. The bytes are all that the inventory
+/// has.
+pub(crate) fn add_inventory(
+    alloc: Global,
+    lines: &mut Vec<Line>,
+    place: &Place,
+    bytes: &[u8],
+    sidecars: &Sidecars,
+) -> Result<Option<Table>, AllocError>
+    ensures table { IfOk result (λ table. table ≡ table_of bytes.now) }
+    ensures fit { IfOk result (λ table. IfSome table (λ t. IsFit t)) }
+    ensures lines { (root : Root) → IsFileAt root
+        (place.now ++ sidecar_name Sha256 ∷ []) 4096 sidecars.now.short
+        → IsFileAt root (place.now ++ sidecar_name Sha512 ∷ []) 4096 sidecars.now.long
+        → OnOk result (Adds lines.old.items lines.new.items place.now
+        (sidecars_notes root place.now bytes.now
+        ++ inventory_part root place.now bytes.now (algorithm_in bytes.now))) }
+{
+    add_sidecars(alloc, lines, place, bytes, sidecars)?;
+    add_read(alloc, lines, place, bytes, sidecars)
+}
+
+/// Puts the line of a clean head at the end, where there is no line.
+pub(crate) fn add_clean(
+    alloc: Global,
+    lines: &mut Vec<Line>,
+    place: &Place,
+) -> Result<(), AllocError>
+    ensures { (ns : List Note) → Adds [] lines.old.items place.now ns
+        → OnOk result (Adds [] lines.new.items place.now (or_clean ns)) }
+{
+    if !lines.is_empty() {
+        return Ok(());
+    }
+    add_plain(alloc, lines, place, Code::Clean)
+}

@@ -1,0 +1,81 @@
+ghost use Rattle.std.specs.Prelude.{◌≡◌, ◌∷◌, [], OnOk, not, option_map, map};
+ghost use Rattle.std.specs.Option.{option_copied};
+ghost use Rattle.ocfl_tree.specs.Ascending.{IsAscending};
+ghost use Rattle.ocfl_inventory.specs.Table.{named_cmp};
+ghost use Rattle.ocfl_inventory.specs.TripleView.{named_view};
+ghost use Rattle.ocfl_audit.specs.Head.{on};
+ghost use Rattle.ocfl_audit.specs.Lines.{missing_notes};
+ghost use Rattle.ocfl_item.specs.Pending.{Adds, is_repeated, is_same_block, missing_note};
+
+use crate::lines::{add_line, code_of};
+use ocfl_inventory::Named;
+use ocfl_report::Line;
+use ocfl_tree::Place;
+use std::alloc::{AllocError, Global};
+
+/// Whether two digests are named in one block and of one algorithm.
+fn is_same(named: &Named, other: &Named) -> bool
+    ensures { result ≡ is_same_block (named_view named.now) (named_view other.now) }
+{
+    named.fixity == other.fixity && named.algorithm == other.algorithm
+}
+
+fn add_missing_line(
+    alloc: Global,
+    lines: &mut Vec<Line>,
+    place: &Place,
+    named: &Named,
+) -> Result<(), AllocError>
+    ensures { OnOk result (Adds lines.old.items lines.new.items place.now
+        (missing_note (named_view named.now) ∷ [])) }
+{
+    let detail = format!(in alloc; "{} missing", named.algorithm.name())?;
+    add_line(lines, place, code_of(named), detail)
+}
+
+fn is_repetition(before: Option<&Named>, named: &Named) -> bool
+    ensures { result ≡ is_repeated (option_map named_view (option_copied before.entry))
+        (named_view named.now) }
+{
+    match before {
+        Some(other) => is_same(other, named),
+        None => false,
+    }
+}
+
+/// Puts the line for a missing file's block and algorithm at the end, unless the one before has it.
+fn add_next_missing(
+    alloc: Global,
+    lines: &mut Vec<Line>,
+    place: &Place,
+    before: Option<&Named>,
+    named: &Named,
+) -> Result<(), AllocError>
+    ensures { OnOk result (Adds lines.old.items lines.new.items place.now
+        (on (not (is_repeated (option_map named_view (option_copied before.entry))
+        (named_view named.now))) (missing_note (named_view named.now)))) }
+{
+    if is_repetition(before, named) {
+        return Ok(());
+    }
+    add_missing_line(alloc, lines, place, named)
+}
+
+/// Puts the lines for a missing file at the end, one for each block and algorithm that names it.
+pub(crate) fn add_missing(
+    alloc: Global,
+    lines: &mut Vec<Line>,
+    place: &Place,
+    named: &[Named],
+) -> Result<(), AllocError>
+    ensures { IsAscending named_cmp (map named_view named.now)
+        → OnOk result (Adds lines.old.items lines.new.items place.now
+        (missing_notes (map named_view named.now))) }
+{
+    let mut before = None;
+    for entry in named {
+        add_next_missing(alloc, lines, place, before, entry)?;
+        before = Some(entry);
+    }
+    Ok(())
+}

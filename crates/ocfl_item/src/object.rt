@@ -1,0 +1,241 @@
+//! An object's own files: its declaration, its inventory and the sidecars. They are read for its
+//! head with its table, or for the table alone; a file of the storage root is read in the same way.
+ghost use Rattle.std.specs.Prelude.{◌≡◌, ◌∷◌, ◌++◌, [], true, false, IsTrue, IfErr, IfOk, IfSome};
+ghost use Rattle.std.specs.Prelude.{MatchOption, MatchResult};
+ghost use Rattle.ocfl_tree.specs.Tree.{Tree as Root, file_at};
+ghost use Rattle.ocfl_tree.specs.Listing.{IsListing, kind_in};
+ghost use Rattle.ocfl_digest.specs.declared.algorithm.Algorithm.TheVariants.{Sha256, Sha512};
+ghost use Rattle.ocfl_inventory.specs.Declaration.{known};
+ghost use Rattle.ocfl_inventory.specs.Table.{IsFit};
+ghost use Rattle.ocfl_audit.specs.Head.{inventory_file_notes, sidecar_name};
+ghost use Rattle.ocfl_audit.specs.Trail.{is_meta};
+ghost use Rattle.ocfl_audit.specs.Zone.{inside, inventory_name, object_declared, zone};
+ghost use Rattle.ocfl_item.specs.HeadFiles.{FilesStop, IsFileAt, OpensJust, ReadsFile, ReadsFiles};
+ghost use Rattle.ocfl_item.specs.HeadFiles.{ReadsSome, head_files, inventory_files};
+ghost use Rattle.ocfl_item.specs.HeadFiles.{inventory_names, table_in};
+ghost use Rattle.ocfl_item.specs.Pending.{Adds};
+ghost use Rattle.ocfl_item.specs.Visiting.{HeadRead};
+ghost use Rattle.ocfl_item.specs.Ways.{IsDeclared, IsObject, IsWayFault, ReadsHead, ReadsTable};
+ghost use Rattle.ocfl_item.specs.Ways.{is_file_kind};
+
+use crate::declarations::add_stop;
+use crate::fault::Fault;
+use crate::folder::{Folder, fault_at};
+use crate::head_lines::{Sidecars, add_clean, add_declaration, add_inventory};
+use crate::lines::add_plain;
+use ocfl_digest::{Bounded, read_bounded};
+use ocfl_inventory::{Declared, Level, Table, Version, declaration_name};
+use ocfl_report::{Code, Line};
+use ocfl_tree::{Entry, Kind, Name, Place, Tree, is_text};
+use std::alloc::{AllocError, Global};
+
+pub(crate) const INVENTORY_NAME: &str = "inventory.json";
+
+/// An inventory of more bytes is not read.
+pub(crate) const INVENTORY_LIMIT: usize = 268_435_456;
+
+/// No declaration or sidecar of more bytes is of its form.
+pub(crate) const SIDE_LIMIT: usize = 4096;
+
+/// The name of the file of this name, where one is listed.
+fn file_named<'f>(entries: &'f [Entry], name: &str) -> Option<&'f Name>
+    ensures { MatchOption result (is_file_kind (kind_in entries.now name.now) ≡ false)
+        (λ n. (n.now ≡ name.now) × (is_file_kind (kind_in entries.now name.now) ≡ true)) }
+{
+    for entry in entries {
+        if is_text(entry.name.as_str(), name) {
+            return match entry.kind {
+                Kind::File => Some(&entry.name),
+                Kind::Dir | Kind::Other => None,
+            };
+        }
+    }
+    None
+}
+
+/// The place of the file of this name, where one is listed.
+fn place_of_file(folder: &Folder, name: &str) -> Result<Option<Place>, AllocError>
+    ensures { IfOk result (λ o. MatchOption o
+        (is_file_kind (kind_in folder.now.entries.items name.now) ≡ false)
+        (λ place. (place ≡ folder.now.place ++ name.now ∷ [])
+        × (is_file_kind (kind_in folder.now.entries.items name.now) ≡ true))) }
+{
+    let Some(name) = file_named(&folder.entries, name) else {
+        return Ok(None);
+    };
+    Ok(Some(folder.place.child(name)?))
+}
+
+/// What a file of a directory holds within a limit, where it is there.
+pub(crate) fn read_file<T: Tree>(
+    alloc: Global,
+    store: &mut T,
+    folder: &Folder,
+    name: &str,
+    limit: usize,
+) -> Result<Option<Bounded>, Fault>
+    ensures only { IfErr result (λ why. IsWayFault why) }
+    ensures told { IsTrue T.told → (root : Root) → (T.state store.old).tree ≡ root
+        → IsListing root folder.now.place folder.now.entries.items
+        → is_meta root (folder.now.place ++ name.now ∷ []) ≡ true
+        → ReadsFile root (T.state store.old) (T.state store.new) folder.now.place name.now limit
+        result }
+{
+    let Some(place) = place_of_file(folder, name)? else {
+        return Ok(None);
+    };
+    match read_bounded(alloc, store, &place, limit) {
+        Ok(file) => Ok(Some(file)),
+        Err(trouble) => Err(fault_at(place, trouble)),
+    }
+}
+
+fn read_sidecars<T: Tree>(alloc: Global, store: &mut T, folder: &Folder) -> Result<Sidecars, Fault>
+    ensures only { IfErr result (λ why. IsWayFault why) }
+    ensures told { IsTrue T.told → (root : Root) → (T.state store.old).tree ≡ root
+        → IsListing root folder.now.place folder.now.entries.items
+        → zone root folder.now.place ≡ inside folder.now.place []
+        → MatchResult result
+        (λ sidecars. ReadsFiles root (T.state store.old) (T.state store.new) folder.now.place
+        (sidecar_name Sha256 ∷ sidecar_name Sha512 ∷ [])
+        × IsFileAt root (folder.now.place ++ sidecar_name Sha256 ∷ []) 4096 sidecars.short
+        × IsFileAt root (folder.now.place ++ sidecar_name Sha512 ∷ []) 4096 sidecars.long)
+        (λ why. FilesStop root (T.state store.old) (T.state store.new) folder.now.place
+        (sidecar_name Sha256 ∷ sidecar_name Sha512 ∷ []) why) }
+{
+    let short = read_file(alloc, store, folder, "inventory.json.sha256", SIDE_LIMIT)?;
+    let long = read_file(alloc, store, folder, "inventory.json.sha512", SIDE_LIMIT)?;
+    Ok(Sidecars { short, long })
+}
+
+/// Puts the lines of an object's inventory and its sidecars at the end.
+fn add_inventory_file<T: Tree>(
+    alloc: Global,
+    store: &mut T,
+    folder: &Folder,
+    lines: &mut Vec<Line>,
+) -> Result<Option<Table>, Fault>
+    ensures only { IfErr result (λ why. IsWayFault why) }
+    ensures fit { IfOk result (λ table. IfSome table (λ t. IsFit t)) }
+    ensures told { IsTrue T.told → (root : Root) → (T.state store.old).tree ≡ root
+        → IsListing root folder.now.place folder.now.entries.items
+        → zone root folder.now.place ≡ inside folder.now.place []
+        → MatchResult result
+        (λ table. ReadsSome root (T.state store.old)
+        (T.state store.new) folder.now.place inventory_names
+        × (table ≡ table_in (file_at root (folder.now.place ++ inventory_name ∷ [])))
+        × Adds lines.old.items lines.new.items folder.now.place
+        (inventory_file_notes root folder.now.place
+        (file_at root (folder.now.place ++ inventory_name ∷ []))))
+        (λ why. FilesStop root (T.state store.old)
+        (T.state store.new) folder.now.place inventory_names why) }
+    ensures opened { IsTrue T.told → (root : Root) → (T.state store.old).tree ≡ root
+        → IsListing root folder.now.place folder.now.entries.items
+        → zone root folder.now.place ≡ inside folder.now.place []
+        → OpensJust root (T.state store.old) (T.state store.new) folder.now.place
+        (inventory_files root folder.now.place) result }
+{
+    match read_file(alloc, store, folder, INVENTORY_NAME, INVENTORY_LIMIT)? {
+        None => {
+            add_plain(alloc, lines, &folder.place, Code::E063)?;
+            Ok(None)
+        }
+        Some(Bounded::Over) => {
+            add_plain(alloc, lines, &folder.place, Code::S02)?;
+            Ok(None)
+        }
+        Some(Bounded::Whole(bytes)) => {
+            let sidecars = read_sidecars(alloc, store, folder)?;
+            Ok(add_inventory(alloc, lines, &folder.place, &bytes, &sidecars)?)
+        }
+    }
+}
+
+/// The lines of an object of known version, and its table where they do not stop.
+fn known_head<T: Tree>(
+    alloc: Global,
+    store: &mut T,
+    folder: &Folder,
+    version: Version,
+) -> Result<(Vec<Line>, Option<Table>), Fault>
+    ensures only { IfErr result (λ why. IsWayFault why) }
+    ensures fit { IfOk result (λ p. IfSome p.1 (λ t. IsFit t)) }
+    ensures told { IsTrue T.told → (root : Root) → (T.state store.old).tree ≡ root
+        → IsObject root folder.now.place folder.now.entries.items
+        → object_declared root folder.now.place ≡ known version
+        → ReadsHead root (T.state store.old) (T.state store.new) folder.now.place result }
+    ensures opened { IsTrue T.told → (root : Root) → (T.state store.old).tree ≡ root
+        → IsObject root folder.now.place folder.now.entries.items
+        → OpensJust root (T.state store.old) (T.state store.new) folder.now.place
+        (head_files root folder.now.place (known version)) result }
+{
+    let mut lines = Vec::new(alloc);
+    let name = declaration_name(Level::Object, version);
+    let declaration = read_file(alloc, store, folder, name, SIDE_LIMIT)?;
+    add_declaration(alloc, &mut lines, &folder.place, version, &declaration)?;
+    let table = add_inventory_file(alloc, store, folder, &mut lines)?;
+    add_clean(alloc, &mut lines, &folder.place)?;
+    Ok((lines, table))
+}
+
+/// The lines of an object as a whole, and its table where they do not stop (OCFL 1.1, 3 OCFL
+/// Object). The inventory is read and parsed once for both, and the sidecars are opened only where
+/// it is there within its limit.
+#[tactic(auto, using(crate::proofs::HeadReads::head_read_from, crate::proofs::HeadOpens::known_object, crate::proofs::HeadOpens::known_opens))]
+pub(crate) fn head_lines<T: Tree>(
+    alloc: Global,
+    store: &mut T,
+    folder: &Folder,
+    declared: Declared,
+) -> Result<(Vec<Line>, Option<Table>), Fault>
+    ensures only { IfErr result (λ why. IsWayFault why) }
+    ensures fit { IfOk result (λ p. IfSome p.1 (λ t. IsFit t)) }
+    ensures told { IsTrue T.told → (root : Root) → (T.state store.old).tree ≡ root
+        → IsDeclared root folder.now.place folder.now.entries.items declared
+        → ReadsHead root (T.state store.old) (T.state store.new) folder.now.place result }
+    ensures heads { IsTrue T.told → (root : Root) → (T.state store.old).tree ≡ root
+        → IsDeclared root folder.now.place folder.now.entries.items declared
+        → HeadRead root (T.state store.old) (T.state store.new) folder.now.place result }
+    ensures opened { IsTrue T.told → (root : Root) → (T.state store.old).tree ≡ root
+        → IsDeclared root folder.now.place folder.now.entries.items declared
+        → OpensJust root (T.state store.old) (T.state store.new) folder.now.place
+        (head_files root folder.now.place (object_declared root folder.now.place)) result }
+{
+    if let Declared::One(version) = declared {
+        return known_head(alloc, store, folder, version);
+    }
+    let mut lines = Vec::new(alloc);
+    add_stop(
+        alloc,
+        &mut lines,
+        &folder.place,
+        Level::Object,
+        &folder.entries,
+        declared,
+    )?;
+    Ok((lines, None))
+}
+
+/// The table of an object, where its head does not stop. No file but the inventory is opened for
+/// it.
+pub fn table_of_object<T: Tree>(
+    alloc: Global,
+    store: &mut T,
+    folder: &Folder,
+) -> Result<Option<Table>, Fault>
+    ensures only { IfErr result (λ why. IsWayFault why) }
+    ensures told { IsTrue T.told → (root : Root) → (T.state store.old).tree ≡ root
+        → IsObject root folder.now.place folder.now.entries.items
+        → ReadsTable root (T.state store.old) (T.state store.new) folder.now.place result }
+    ensures opened { IsTrue T.told → (root : Root) → (T.state store.old).tree ≡ root
+        → IsObject root folder.now.place folder.now.entries.items
+        → OpensJust root (T.state store.old) (T.state store.new) folder.now.place
+        (inventory_name ∷ []) result }
+    ensures fit { IfOk result (λ o. IfSome o (λ t. IsFit t)) }
+{
+    match read_file(alloc, store, folder, INVENTORY_NAME, INVENTORY_LIMIT)? {
+        Some(Bounded::Whole(bytes)) => { Ok(Table::read_alone(alloc, &bytes)?) }
+        Some(Bounded::Over) => Ok(None),
+        None => Ok(None),
+    }
+}

@@ -1,0 +1,62 @@
+-- What the calls of a walk did to a store that tells its tree: from one place on to another, and down to one place.
+use Rattle.std.specs.Prelude.{List, [], ◌∷◌, Option, Some, None, AllPairs, ◌≢◌}
+use Rattle.ocfl_tree.specs.Place.{Place}
+use Rattle.ocfl_tree.specs.Tree.{Tree}
+use Rattle.ocfl_tree.specs.Store.{Store}
+use Rattle.ocfl_tree.specs.declared.store.Opening.{Opening}
+use Rattle.ocfl_audit.specs.Zone.{Zone, skipped, hierarchy, inside, zone}
+use Rattle.ocfl_audit.specs.Between.{looked_between, read_between}
+use Rattle.ocfl_item.specs.Auditing.{Audits, Fails}
+use Rattle.ocfl_item.specs.Looking.{IsFront, way_to}
+use Rattle.ocfl_item.specs.declared.fault.Fault.{Fault}
+
+-- ---- from one place on to another
+
+-- the directories between two places were listed, and the inventories between them read
+pub record Walks (root : Tree) (s t : Store) (from to : Option Place) : Type 0 where
+  pub trail : List Opening
+  pub audits : Audits root s t [] (looked_between root from to) (read_between root from to) trail
+
+-- the first of those above a place, and then there was a fault
+pub record WalkFails (root : Tree) (s t : Store) (from : Option Place) (why : Fault) : Type 0 where
+  pub trail : List Opening
+  pub listed : List Place
+  pub heads : List Place
+  pub fails : Fails root s t [] listed heads trail why
+  pub listed_front : IsFront listed (looked_between root from None)
+  pub heads_front : IsFront heads (read_between root from None)
+
+-- ---- down to one place
+
+-- the object that holds a place
+abbrev pub holder_of : Zone → List Place
+holder_of skipped = []
+holder_of hierarchy = []
+holder_of (inside o q) = o ∷ []
+
+abbrev pub way_of : Option Place → List Place
+way_of None = []
+way_of (Some p) = way_to p
+
+abbrev pub holder : Tree → Option Place → List Place
+holder root None = []
+holder root (Some p) = holder_of (zone root p)
+
+-- the first directories on the way to a place were listed, and at most the inventory of the object that holds it was read
+pub record GoesDown (root : Tree) (s t : Store) (p : Option Place) : Type 0 where
+  pub trail : List Opening
+  pub listed : List Place
+  pub heads : List Place
+  pub audits : Audits root s t [] listed heads trail
+  pub listed_front : IsFront listed (way_of p)
+  pub heads_front : IsFront heads (holder root p)
+  pub once : AllPairs (λ a b. a.place ≢ b.place) trail
+
+pub record GoDownFails (root : Tree) (s t : Store) (p : Option Place) (why : Fault) : Type 0 where
+  pub trail : List Opening
+  pub listed : List Place
+  pub heads : List Place
+  pub fails : Fails root s t [] listed heads trail why
+  pub listed_front : IsFront listed (way_of p)
+  pub heads_front : IsFront heads (holder root p)
+  pub once : AllPairs (λ a b. a.place ≢ b.place) trail

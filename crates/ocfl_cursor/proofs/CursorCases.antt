@@ -34,32 +34,6 @@ text_of_a_new_cursor : cursor_text new_cursor ≡ codes "ocfl-scrub cursor 2\ncy
 unfolding cursor_on_literals
 text_of_a_new_cursor = refl
 
-length_of_a_new_cursor : length (cursor_text new_cursor) ≡ 129
-unfolding cursor_on_literals
-length_of_a_new_cursor = refl
-
-length_behind_the_root : length (cursor_text (record new_cursor { state = behind [] })) ≡ 131
-unfolding cursor_on_literals
-length_behind_the_root = refl
-
-text_behind_the_root : cursor_body (record new_cursor { state = behind [] }) ≡ codes "ocfl-scrub cursor 2\ncycle 1\nruns 0\nspent 0\nfiles 0\nafter .\n"
-unfolding cursor_on_literals
-text_behind_the_root = refl
-
-text_of_an_ended_cursor : cursor_body (record { cycle = 18446744073709551615; runs = 10; spent = 9223372036854775808; files = 12; state = ended }) ≡ codes "ocfl-scrub cursor 2\ncycle 18446744073709551615\nruns 10\nspent 9223372036854775808\nfiles 12\nended\n"
-unfolding cursor_on_literals
-text_of_an_ended_cursor = refl
-
--- a place is written as in a report
-odd_place_in_a_cursor : cursor_body (record new_cursor { state = behind (codes "a%" ∷ (0xC3 ∷ 0xA9 ∷ 32 ∷ 10 ∷ []) ∷ []) }) ≡ codes "ocfl-scrub cursor 2\ncycle 1\nruns 0\nspent 0\nfiles 0\nafter a%25/%C3%A9 %0A\n"
-unfolding cursor_on_literals
-odd_place_in_a_cursor = refl
-
--- 255 names of 255 bytes, each escaped; with its last line 195,459 bytes
-longest_body : length (cursor_body (record new_cursor { runs = 1; state = behind (replicate 255 (replicate 255 1)) })) ≡ 195387
-unfolding cursor_on_literals
-longest_body = refl
-
 -- ---- texts of version 1
 
 -- that cursor without files
@@ -87,30 +61,46 @@ version_one_of_a_new_cursor : version_one_text new_cursor ≡ codes "ocfl-scrub 
 unfolding cursor_on_literals
 version_one_of_a_new_cursor = refl
 
-length_of_version_one_of_a_new_cursor : length (version_one_text new_cursor) ≡ 121
-unfolding cursor_on_literals
-length_of_version_one_of_a_new_cursor = refl
+-- ---- texts in both versions
 
-length_of_version_one_behind_the_root : length (version_one_text (record new_cursor { state = behind [] })) ≡ 123
-unfolding cursor_on_literals
-length_of_version_one_behind_the_root = refl
+abbrev behind_the_root : Cursor
+behind_the_root = record new_cursor { state = behind [] }
 
-version_one_behind_the_root : version_one_body (record new_cursor { state = behind [] }) ≡ codes "ocfl-scrub cursor 1\ncycle 1\nruns 0\nspent 0\nafter .\n"
-unfolding cursor_on_literals
-version_one_behind_the_root = refl
+-- how many bytes the text has in version 2, and in version 1
+abbrev lengths : Cursor → ℕ × ℕ
+lengths c = (length (cursor_text c), length (version_one_text c))
 
-version_one_of_an_ended_cursor : version_one_body (record { cycle = 18446744073709551615; runs = 10; spent = 9223372036854775808; files = 0; state = ended }) ≡ codes "ocfl-scrub cursor 1\ncycle 18446744073709551615\nruns 10\nspent 9223372036854775808\nended\n"
+lengths_of_short_texts : (lengths new_cursor ≡ (129, 121)) × (lengths behind_the_root ≡ (131, 123))
 unfolding cursor_on_literals
-version_one_of_an_ended_cursor = refl
+lengths_of_short_texts = (refl, refl)
 
-odd_place_in_version_one : version_one_body (record new_cursor { state = behind (codes "a%" ∷ (0xC3 ∷ 0xA9 ∷ 32 ∷ 10 ∷ []) ∷ []) }) ≡ codes "ocfl-scrub cursor 1\ncycle 1\nruns 0\nspent 0\nafter a%25/%C3%A9 %0A\n"
-unfolding cursor_on_literals
-odd_place_in_version_one = refl
+-- the text before the last line in version 2, and in version 1 that of the cursor without files
+abbrev bodies : Cursor → Text × Text
+bodies c = (cursor_body c, version_one_body (record c { files = 0 }))
 
--- with its last line 195,451 bytes
-longest_body_of_version_one : length (version_one_body (record new_cursor { runs = 1; state = behind (replicate 255 (replicate 255 1)) })) ≡ 195379
+bodies_behind_the_root : bodies behind_the_root ≡ (codes "ocfl-scrub cursor 2\ncycle 1\nruns 0\nspent 0\nfiles 0\nafter .\n", codes "ocfl-scrub cursor 1\ncycle 1\nruns 0\nspent 0\nafter .\n")
 unfolding cursor_on_literals
-longest_body_of_version_one = refl
+bodies_behind_the_root = refl
+
+bodies_of_an_ended_cursor : bodies (record { cycle = 18446744073709551615; runs = 10; spent = 9223372036854775808; files = 12; state = ended })
+    ≡ (codes "ocfl-scrub cursor 2\ncycle 18446744073709551615\nruns 10\nspent 9223372036854775808\nfiles 12\nended\n", codes "ocfl-scrub cursor 1\ncycle 18446744073709551615\nruns 10\nspent 9223372036854775808\nended\n")
+unfolding cursor_on_literals
+bodies_of_an_ended_cursor = refl
+
+-- a place is written as in a report
+bodies_at_an_odd_place : bodies (record new_cursor { state = behind (codes "a%" ∷ (0xC3 ∷ 0xA9 ∷ 32 ∷ 10 ∷ []) ∷ []) })
+    ≡ (codes "ocfl-scrub cursor 2\ncycle 1\nruns 0\nspent 0\nfiles 0\nafter a%25/%C3%A9 %0A\n", codes "ocfl-scrub cursor 1\ncycle 1\nruns 0\nspent 0\nafter a%25/%C3%A9 %0A\n")
+unfolding cursor_on_literals
+bodies_at_an_odd_place = refl
+
+-- 255 names of 255 bytes, each escaped
+abbrev longest : Cursor
+longest = record new_cursor { runs = 1; state = behind (replicate 255 (replicate 255 1)) }
+
+-- with the last line 195,459 bytes, and 195,451 in version 1
+longest_bodies : (length (cursor_body longest) ≡ 195387) × (length (version_one_body longest) ≡ 195379)
+unfolding cursor_on_literals
+longest_bodies = (refl, refl)
 
 -- ---- a cursor's own rule
 

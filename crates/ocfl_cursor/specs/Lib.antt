@@ -1,10 +1,9 @@
 pub mod Cursor
 pub mod State
 pub mod Moves
-pub mod Body
 pub mod Refusal
 pub mod Refused
 pub mod Stop
-pub mod Number
+pub mod Model
 pub mod Limits
 pub mod Meter

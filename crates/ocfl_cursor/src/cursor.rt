@@ -1,4 +1,4 @@
-ghost use Rattle.std.specs.Prelude.{◌≡◌, ◌↔◌, ◌+◌, ◌<◌, IsSome, IfSome, IsNone};
+ghost use Rattle.std.specs.Prelude.{◌≡◌, ◌↔◌, IsSome, IfSome, IsNone};
 ghost use Rattle.ocfl_cursor.specs.Cursor.{IsCursor, new_cursor};
 ghost use Rattle.ocfl_cursor.specs.State.{state_of, cursor_of};
 ghost use Rattle.ocfl_cursor.specs.Moves.{at_start, next_cycle, after_run};

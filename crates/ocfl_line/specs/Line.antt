@@ -1,11 +1,14 @@
 -- The command line, as `clap` is to read it.
-use Rattle.std.specs.Prelude.{ℕ, [], ◌∷◌, Some, true, false, codes, ◌≡◌}
-use Rattle.clap.specs.Words.{App, Rule, app_of, new_app, new_rule, with_rule, with_subcommand}
+use Rattle.std.specs.Prelude.{ℕ, List, [], ◌∷◌, Some, true, false, codes, ◌≡◌}
+use Rattle.clap.specs.Words.{App, Rule, Text, app_of, new_app, new_rule, rule_of, with_subcommand}
 use Rattle.clap.specs.Simple.{on_top}
 use Rattle.clap.specs.declared.builder.action.ArgAction.TheVariants.{SetTrue}
+use Rattle.clap.specs.declared.builder.arg.Arg.{Arg}
 use Rattle.clap.specs.declared.builder.command.Command.{Command}
 use Rattle.clap.specs.declared.builder.command.Command.TheViews.{out-Command}
 use Rattle.clap.specs.declared.builder.value_parser.ValueParser.TheVariants as vp
+use Rattle.ocfl_line.specs.declared.command.Argument.{Argument}
+use Rattle.ocfl_line.specs.declared.command.Argument.TheVariants.{Root, Path, File, Cursor, Budget, Files, Runs, Quiet}
 
 abbrev pub most_files : ℕ
 most_files = 4611686018427387904
@@ -15,25 +18,25 @@ most_runs = 100000
 
 -- ---- the arguments
 
+-- an argument that has a value and must be given
+abbrev pub needed_rule : Text → Rule
+needed_rule id = record (new_rule id) { value_names = 1; required = true }
+
 abbrev pub root_rule : Rule
-root_rule = record (new_rule (codes "root")) { value_names = 1; required = true }
+root_rule = needed_rule (codes "root")
 
 abbrev pub path_rule : Rule
-path_rule = record (new_rule (codes "path")) { value_names = 1; required = true }
+path_rule = needed_rule (codes "path")
 
 abbrev pub file_rule : Rule
-file_rule = record (new_rule (codes "file")) { value_names = 1; required = true }
+file_rule = needed_rule (codes "file")
 
 abbrev pub cursor_rule : Rule
 cursor_rule = record file_rule { long = Some (codes "cursor") }
 
 -- a text, which `IsBudgetText` reads
 abbrev pub budget_rule : Rule
-budget_rule = record (new_rule (codes "budget")) {
-  long = Some (codes "budget");
-  value_names = 1;
-  required = true;
-}
+budget_rule = record (needed_rule (codes "budget")) { long = Some (codes "budget") }
 
 abbrev pub files_rule : Rule
 files_rule = record (new_rule (codes "files")) {
@@ -44,35 +47,50 @@ files_rule = record (new_rule (codes "files")) {
 }
 
 abbrev pub runs_rule : Rule
-runs_rule = record (new_rule (codes "runs")) {
+runs_rule = record (needed_rule (codes "runs")) {
   long = Some (codes "runs");
-  value_names = 1;
   parser = Some (vp.Unsigned 1 most_runs);
-  required = true;
 }
 
 -- a flag
 abbrev pub quiet_rule : Rule
 quiet_rule = record (new_rule (codes "quiet")) { long = Some (codes "quiet"); action = Some SetTrue }
 
+-- the rule of each argument of the program
+abbrev pub rule_for : Argument → Rule
+rule_for Root = root_rule
+rule_for Path = path_rule
+rule_for File = file_rule
+rule_for Cursor = cursor_rule
+rule_for Budget = budget_rule
+rule_for Files = files_rule
+rule_for Runs = runs_rule
+rule_for Quiet = quiet_rule
+
+-- the argument is one that `clap` reads by this rule, for its own subcommand alone
+abbrev pub IsArg : Rule → Arg → Type 0
+IsArg r a = (rule_of a ≡ r) × (a.global ≡ false)
+
 -- ---- the subcommands
 
+-- the subcommand of this name, whose arguments have these rules
+abbrev pub app_with : Text → List Rule → App
+app_with name rules = on_top (λ s. record s { rules = rules }) (new_app name)
+
 abbrev pub audit_app : App
-audit_app = with_rule (with_rule (new_app (codes "audit")) quiet_rule) root_rule
+audit_app = app_with (codes "audit") (quiet_rule ∷ root_rule ∷ [])
 
 abbrev pub run_app : App
-run_app = with_rule (with_rule (with_rule (with_rule (with_rule
-    (new_app (codes "run")) cursor_rule) budget_rule) files_rule) quiet_rule) root_rule
+run_app = app_with (codes "run") (cursor_rule ∷ budget_rule ∷ files_rule ∷ quiet_rule ∷ root_rule ∷ [])
 
 abbrev pub cycle_app : App
-cycle_app = with_rule (with_rule (with_rule (with_rule (with_rule
-    (new_app (codes "cycle")) budget_rule) files_rule) runs_rule) quiet_rule) root_rule
+cycle_app = app_with (codes "cycle") (budget_rule ∷ files_rule ∷ runs_rule ∷ quiet_rule ∷ root_rule ∷ [])
 
 abbrev pub check_app : App
-check_app = with_rule (with_rule (new_app (codes "check")) root_rule) path_rule
+check_app = app_with (codes "check") (root_rule ∷ path_rule ∷ [])
 
 abbrev pub show_app : App
-show_app = with_rule (new_app (codes "show")) file_rule
+show_app = app_with (codes "show") (file_rule ∷ [])
 
 -- ---- the program
 

@@ -1,10 +1,8 @@
-ghost use Rattle.std.specs.Prelude.{◌≡◌, IfOk, false};
-ghost use Rattle.clap.specs.Words.{rule_of};
-ghost use Rattle.ocfl_line.specs.Line.{IsCommand, audit_app, bare_app, budget_rule, check_app};
-ghost use Rattle.ocfl_line.specs.Line.{cursor_rule, cycle_app, file_rule, files_rule, line_app};
-ghost use Rattle.ocfl_line.specs.Line.{path_rule, quiet_rule, root_rule, run_app, runs_rule};
-ghost use Rattle.ocfl_line.specs.Line.{show_app};
+ghost use Rattle.std.specs.Prelude.{IfOk, map};
+ghost use Rattle.ocfl_line.specs.Line.{IsArg, IsCommand, app_with, bare_app, line_app};
+ghost use Rattle.ocfl_line.specs.Line.{needed_rule, rule_for};
 
+use crate::command::Argument::{Budget, Cursor, File, Files, Path, Quiet, Root, Runs};
 use clap::{Arg, ArgAction, Command, value_parser};
 use std::alloc::{AllocError, Global};
 
@@ -23,145 +21,100 @@ Exit status:
   3  stopped, worn or the cursor file failed
   4  cursor refused";
 
-fn root_arg<'a>(alloc: Global) -> Arg<'a>
-    ensures rule { rule_of result ≡ root_rule }
-    ensures local { result.global ≡ false }
+/// An argument of a subcommand.
+#[derive(Clone, Copy)]
+enum Argument {
+    Root,
+    Path,
+    File,
+    Cursor,
+    Budget,
+    Files,
+    Runs,
+    Quiet,
+}
+
+// What help says of each.
+const ROOT: &str = "The folder of the storage root";
+
+const PATH: &str = "A place in it, written as in report lines; . is the root";
+
+const FILE: &str = "The cursor file";
+
+const CURSOR: &str = "The cursor file, which the run replaces; one that is not there is a new \
+cursor";
+
+const BUDGET: &str = "A run starts a file only while it has read less than N, in bytes and 1 for \
+each file: 1 to 4611686018427387904, alone or with one suffix K, M, G or T (powers of 1024)";
+
+const FILES: &str = "The most files that a run starts: 1 to 4611686018427387904";
+
+const RUNS: &str = "The most runs: 1 to 100000";
+
+const QUIET: &str = "Shows no progress; it is shown where standard error is a terminal";
+
+/// An argument that has a value and must be given.
+fn needed<'a>(alloc: Global, id: &'a str, value: &'a str, help: &'a str) -> Arg<'a>
+    ensures { IsArg (needed_rule id.now) result }
 {
-    Arg::new(alloc, "root")
-        .value_name("ROOT")
-        .help("The folder of the storage root")
+    Arg::new(alloc, id)
+        .value_name(value)
+        .help(help)
         .required(true)
 }
 
-fn path_arg<'a>(alloc: Global) -> Arg<'a>
-    ensures rule { rule_of result ≡ path_rule }
-    ensures local { result.global ≡ false }
+/// The argument as `clap` takes it.
+fn arg_of<'a>(alloc: Global, argument: Argument) -> Arg<'a>
+    ensures { IsArg (rule_for argument) result }
 {
-    Arg::new(alloc, "path")
-        .value_name("PATH")
-        .help("A place in it, written as in report lines; . is the root")
-        .required(true)
+    match argument {
+        Root => needed(alloc, "root", "ROOT", ROOT),
+        Path => needed(alloc, "path", "PATH", PATH),
+        File => needed(alloc, "file", "FILE", FILE),
+        Cursor => needed(alloc, "file", "FILE", CURSOR).long("cursor"),
+        Budget => needed(alloc, "budget", "N", BUDGET).long("budget"),
+        Files => Arg::new(alloc, "files")
+            .long("files")
+            .value_name("N")
+            .help(FILES)
+            .value_parser(value_parser!(u64).range(1..=4611686018427387904))
+            .default_value("4611686018427387904"),
+        Runs => needed(alloc, "runs", "COUNT", RUNS)
+            .long("runs")
+            .value_parser(value_parser!(u64).range(1..=100000)),
+        Quiet => Arg::new(alloc, "quiet")
+            .long("quiet")
+            .help(QUIET)
+            .action(ArgAction::SetTrue),
+    }
 }
 
-fn file_arg<'a>(alloc: Global) -> Arg<'a>
-    ensures rule { rule_of result ≡ file_rule }
-    ensures local { result.global ≡ false }
+/// The subcommand for a deed: its name, what help says of it, and its arguments.
+fn deed_command<'a>(
+    alloc: Global,
+    name: &'a str,
+    about: &'a str,
+    arguments: &[Argument],
+) -> Result<Command<'a>, AllocError>
+    ensures { IfOk result (IsCommand (app_with name.now (map rule_for arguments.now))) }
 {
-    Arg::new(alloc, "file")
-        .value_name("FILE")
-        .help("The cursor file")
-        .required(true)
+    let mut command = Command::new(alloc, name).about(about);
+    for &argument in arguments {
+        command = command.arg(arg_of(alloc, argument))?;
+    }
+    Ok(command)
 }
 
-fn cursor_arg<'a>(alloc: Global) -> Arg<'a>
-    ensures rule { rule_of result ≡ cursor_rule }
-    ensures local { result.global ≡ false }
-{
-    Arg::new(alloc, "file")
-        .long("cursor")
-        .value_name("FILE")
-        .help("The cursor file, which the run replaces; one that is not there is a new cursor")
-        .required(true)
-}
+// What help says of the subcommands.
+const AUDIT: &str = "Writes the report lines of the whole storage root";
 
-fn budget_arg<'a>(alloc: Global) -> Arg<'a>
-    ensures rule { rule_of result ≡ budget_rule }
-    ensures local { result.global ≡ false }
-{
-    Arg::new(alloc, "budget")
-        .long("budget")
-        .value_name("N")
-        .help(
-            "A run starts a file only while it has read less than N, in bytes and 1 for each file: \
-             1 to 4611686018427387904, alone or with one suffix K, M, G or T \
-             (powers of 1024)",
-        )
-        .required(true)
-}
+const RUN: &str = "Writes the report lines of one run, from where the cursor file says";
 
-fn files_arg<'a>(alloc: Global) -> Arg<'a>
-    ensures rule { rule_of result ≡ files_rule }
-    ensures local { result.global ≡ false }
-{
-    Arg::new(alloc, "files")
-        .long("files")
-        .value_name("N")
-        .help("The most files that a run starts: 1 to 4611686018427387904")
-        .value_parser(value_parser!(u64).range(1..=4611686018427387904))
-        .default_value("4611686018427387904")
-}
+const CYCLE: &str = "Writes the report lines of one run after the other, without a cursor file";
 
-fn runs_arg<'a>(alloc: Global) -> Arg<'a>
-    ensures rule { rule_of result ≡ runs_rule }
-    ensures local { result.global ≡ false }
-{
-    Arg::new(alloc, "runs")
-        .long("runs")
-        .value_name("COUNT")
-        .help("The most runs: 1 to 100000")
-        .value_parser(value_parser!(usize).range(1..=100000))
-        .required(true)
-}
+const CHECK: &str = "Writes the report lines of one place";
 
-fn quiet_arg<'a>(alloc: Global) -> Arg<'a>
-    ensures rule { rule_of result ≡ quiet_rule }
-    ensures local { result.global ≡ false }
-{
-    Arg::new(alloc, "quiet")
-        .long("quiet")
-        .help("Shows no progress; it is shown where standard error is a terminal")
-        .action(ArgAction::SetTrue)
-}
-
-fn audit_command<'a>(alloc: Global) -> Result<Command<'a>, AllocError>
-    ensures { IfOk result (IsCommand audit_app) }
-{
-    Command::new(alloc, "audit")
-        .about("Writes the report lines of the whole storage root")
-        .arg(quiet_arg(alloc))?
-        .arg(root_arg(alloc))
-}
-
-fn run_command<'a>(alloc: Global) -> Result<Command<'a>, AllocError>
-    ensures { IfOk result (IsCommand run_app) }
-{
-    Command::new(alloc, "run")
-        .about("Writes the report lines of one run, from where the cursor file says")
-        .arg(cursor_arg(alloc))?
-        .arg(budget_arg(alloc))?
-        .arg(files_arg(alloc))?
-        .arg(quiet_arg(alloc))?
-        .arg(root_arg(alloc))
-}
-
-fn cycle_command<'a>(alloc: Global) -> Result<Command<'a>, AllocError>
-    ensures { IfOk result (IsCommand cycle_app) }
-{
-    Command::new(alloc, "cycle")
-        .about("Writes the report lines of one run after the other, without a cursor file")
-        .arg(budget_arg(alloc))?
-        .arg(files_arg(alloc))?
-        .arg(runs_arg(alloc))?
-        .arg(quiet_arg(alloc))?
-        .arg(root_arg(alloc))
-}
-
-fn check_command<'a>(alloc: Global) -> Result<Command<'a>, AllocError>
-    ensures { IfOk result (IsCommand check_app) }
-{
-    Command::new(alloc, "check")
-        .about("Writes the report lines of one place")
-        .arg(root_arg(alloc))?
-        .arg(path_arg(alloc))
-}
-
-fn show_command<'a>(alloc: Global) -> Result<Command<'a>, AllocError>
-    ensures { IfOk result (IsCommand show_app) }
-{
-    Command::new(alloc, "show")
-        .about("Writes what a cursor file says")
-        .arg(file_arg(alloc))
-}
+const SHOW: &str = "Writes what a cursor file says";
 
 // The program's own texts, without its subcommands.
 fn bare_command<'a>(alloc: Global) -> Command<'a>
@@ -179,9 +132,9 @@ pub(crate) fn line_command<'a>(alloc: Global) -> Result<Command<'a>, AllocError>
     ensures { IfOk result (IsCommand line_app) }
 {
     bare_command(alloc)
-        .subcommand(audit_command(alloc)?)?
-        .subcommand(run_command(alloc)?)?
-        .subcommand(cycle_command(alloc)?)?
-        .subcommand(check_command(alloc)?)?
-        .subcommand(show_command(alloc)?)
+        .subcommand(deed_command(alloc, "audit", AUDIT, &[Quiet, Root])?)?
+        .subcommand(deed_command(alloc, "run", RUN, &[Cursor, Budget, Files, Quiet, Root])?)?
+        .subcommand(deed_command(alloc, "cycle", CYCLE, &[Budget, Files, Runs, Quiet, Root])?)?
+        .subcommand(deed_command(alloc, "check", CHECK, &[Root, Path])?)?
+        .subcommand(deed_command(alloc, "show", SHOW, &[File])?)
 }

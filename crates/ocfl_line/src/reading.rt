@@ -1,4 +1,4 @@
-ghost use Rattle.std.specs.Prelude.{◌≡◌, ◌↔◌, ℕ, ◌<◌, ◌^◌, IfOk, IfSome, IsNone, IsTrue, codes};
+ghost use Rattle.std.specs.Prelude.{◌≡◌, ◌↔◌, ℕ, ◌<◌, ◌^◌, IfOk, IfSome, IsNone, IsTrue};
 ghost use Rattle.std.specs.Prelude.{option_map, string_bytes};
 ghost use Rattle.clap.specs.Words.{found_of, first_of, rows_of, subcommand_rows_of};
 ghost use Rattle.ocfl_cursor.specs.declared.limits.Limits.{Limits as LimitsOf};
@@ -13,7 +13,7 @@ use ocfl_cursor::{FileLimit, Limits};
 use std::alloc::{AllocError, Global};
 
 // The most runs of a cycle.
-const MAX_RUNS: usize = 100000;
+const MAX_RUNS: u64 = 100000;
 
 /// The text of an argument, where it is given.
 fn text_of<'a>(inner: &ArgMatches<'a>, id: &str) -> Option<&'a str>
@@ -43,22 +43,13 @@ fn is_given(inner: &ArgMatches<'_>, id: &str) -> bool
     }
 }
 
-/// The number of `--files`.
-fn files_of(inner: &ArgMatches<'_>) -> Option<u64>
-    ensures found { IfSome result (HasNumber (codes "files") (rows_of (found_of inner.now))) }
+/// The number of an option.
+fn number_of(inner: &ArgMatches<'_>, id: &str) -> Option<u64>
+    ensures found { IfSome result (HasNumber id.now (rows_of (found_of inner.now))) }
     ensures missing { IsNone result
-        → (n : ℕ) → n < 2 ^ 64 → HasNumber (codes "files") (rows_of (found_of inner.now)) n → ⊥ }
+        → (n : ℕ) → n < 2 ^ 64 → HasNumber id.now (rows_of (found_of inner.now)) n → ⊥ }
 {
-    inner.get_one::<u64>("files")
-}
-
-/// The number of `--runs`.
-fn number_of_runs(inner: &ArgMatches<'_>) -> Option<usize>
-    ensures found { IfSome result (HasNumber (codes "runs") (rows_of (found_of inner.now))) }
-    ensures missing { IsNone result
-        → (n : ℕ) → n < 2 ^ 64 → HasNumber (codes "runs") (rows_of (found_of inner.now)) n → ⊥ }
-{
-    inner.get_one::<usize>("runs")
+    inner.get_one::<u64>(id)
 }
 
 /// The limits of a run, or `None` where the budget's text writes none.
@@ -68,7 +59,7 @@ fn limits_of(inner: &ArgMatches<'_>) -> Option<Limits>
         → (limits : LimitsOf) → HasLimits (rows_of (found_of inner.now)) limits → ⊥ }
 {
     let budget = read_budget(text_of(inner, "budget")?)?;
-    let files = FileLimit::new(files_of(inner)?)?;
+    let files = FileLimit::new(number_of(inner, "files")?)?;
     Some(Limits { budget, files })
 }
 
@@ -78,9 +69,9 @@ fn runs_of(inner: &ArgMatches<'_>) -> Option<usize>
     ensures missing { IsNone result
         → (runs : ℕ) → HasRuns (rows_of (found_of inner.now)) runs → ⊥ }
 {
-    let runs = number_of_runs(inner)?;
+    let runs = number_of(inner, "runs")?;
     if 1 <= runs && runs <= MAX_RUNS {
-        Some(runs)
+        Some(runs as usize)
     } else {
         None
     }

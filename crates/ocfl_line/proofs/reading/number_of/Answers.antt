@@ -1,13 +1,13 @@
-use Rattle.std.proofs.Common.{◌∙◌, codes}
+use Rattle.std.proofs.Common.{◌∙◌}
 use Rattle.std.specs.Str.Parse.{ParsesUnsigned, ExplainsUnsignedError, HasUnsignedDigitsIfOk}
 use Rattle.clap.specs.Words.{found_of}
 use Rattle.clap.proofs.WalkLemmas.{one_text-rows}
 use Rattle.ocfl_line.proofs.Numbers.{read_found, read_missing}
-use Rattle.ocfl_line.proofs.reading.number_of_runs.Goals as goal
+use Rattle.ocfl_line.proofs.reading.number_of.Goals as goal
 
 pub returns : goal.returns
 returns c =
-    let same = one_text-rows (found_of c.args.inner.now) (codes "runs") in
+    let same = one_text-rows (found_of c.args.inner.now) c.args.id.now in
     record {
       found = read_found
           (λ t r. ParsesUnsigned 64 10 t r × ExplainsUnsignedError 10 t r × HasUnsignedDigitsIfOk t r)

@@ -62,30 +62,21 @@ fn end_md5(hasher: Option<Md5>) -> Option<[u8; 16]>
     ensures { (wanted : Bool) (bytes : Text) → IsFed md5.Holds wanted bytes hasher
         → result ≡ (if wanted then Some (md5.md5 bytes) else None) }
 {
-    match hasher {
-        Some(hasher) => Some(hasher.finalize()),
-        None => None,
-    }
+    Some(hasher?.finalize())
 }
 
 fn end_sha1(hasher: Option<Sha1>) -> Option<[u8; 20]>
     ensures { (wanted : Bool) (bytes : Text) → IsFed sha1.Holds wanted bytes hasher
         → result ≡ (if wanted then Some (sha1.sha1 bytes) else None) }
 {
-    match hasher {
-        Some(hasher) => Some(hasher.finalize()),
-        None => None,
-    }
+    Some(hasher?.finalize())
 }
 
 fn end_sha2<H: Digest>(hasher: Option<H>) -> Option<H::Output>
     ensures { (wanted : Bool) (bytes : Text) → IsFed H.holds wanted bytes hasher
         → IsFed (λ digest m. H.digest_of m digest) wanted bytes result }
 {
-    match hasher {
-        Some(hasher) => Some(hasher.finalize()),
-        None => None,
-    }
+    Some(hasher?.finalize())
 }
 
 /// A hasher for each wanted algorithm, which hold the same bytes.

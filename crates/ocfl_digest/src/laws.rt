@@ -1,4 +1,4 @@
-ghost use Rattle.std.specs.Prelude.{◌≡◌, Some, ℕ, List};
+ghost use Rattle.std.specs.Prelude.{◌≡◌, Some};
 ghost use Rattle.ocfl_tree.specs.Ascending.{IsAscending};
 ghost use Rattle.ocfl_digest.specs.Algorithm.{algorithm_name, algorithm_cmp, algorithm_named};
 ghost use Rattle.ocfl_digest.specs.Algorithm.{supported};

@@ -41,65 +41,97 @@ slash_is c h = find (eqb_tells c 47)
     find (inl w) = w.1
     find (inr w) = absurd (true_not_false (sym h ∙ w.0))
 
+-- ---- two paths by their first bytes
+
+-- `of` compares two places name by name: it goes on where the names are equal, and answers `less` or `greater` where they
+-- are not, so `differ` for two bytes that are not the same; where one place ends first it answers `short` or `long`
+record ByNames {R : Type 0} (of : Place → Place → R) (less greater short long : R) (differ : ℕ → ℕ → R) : Type 0 where
+  step : Ordering → R → R
+  goes : (x y : Text) (xs ys : Place) → of (x ∷ xs) (y ∷ ys) ≡ step (text_cmp x y) (of xs ys)
+  equal : (r : R) → step Equal r ≡ r
+  below : (r : R) → step Less r ≡ less
+  above : (r : R) → step Greater r ≡ greater
+  ends : (y : Text) (ys : Place) → of [] (y ∷ ys) ≡ short
+  outlasts : (x : Text) (xs : Place) → of (x ∷ xs) [] ≡ long
+  differs : (a b : ℕ) (o : Ordering) (r : R) → a ≢ b → differ a b ≡ step (ordering_then (nat_cmp a b) o) r
+
+module _ {R : Type 0} {of : Place → Place → R} {less greater short long : R} {differ : ℕ → ℕ → R} (n : ByNames of less greater short long differ) where
+  behind : (a b : ℕ) (xs ys : Place) → (xs ≡ [] → ⊥) → (ys ≡ [] → ⊥) → a ≡ b → of xs ys ≡ of (onto_first a xs) (onto_first b ys)
+  behind a b [] ys h k e = absurd (h refl)
+  behind a b (x ∷ xs) [] h k e = absurd (k refl)
+  behind a b (x ∷ xs) (y ∷ ys) h k e = n.goes x y xs ys
+      ∙ sym (ap (λ r. n.step (ordering_then r (text_cmp x y)) (of xs ys)) (ap (λ c. nat_cmp c b) e ∙ equal_bytes b))
+      ∙ sym (n.goes (a ∷ x) (b ∷ y) xs ys)
+
+  apart : (a b : ℕ) (xs ys : Place) → (xs ≡ [] → ⊥) → (ys ≡ [] → ⊥) → a ≢ b → differ a b ≡ of (onto_first a xs) (onto_first b ys)
+  apart a b [] ys h k e = absurd (h refl)
+  apart a b (x ∷ xs) [] h k e = absurd (k refl)
+  apart a b (x ∷ xs) (y ∷ ys) h k e = n.differs a b (text_cmp x y) (of xs ys) e ∙ sym (n.goes (a ∷ x) (b ∷ y) xs ys)
+
+  slash_first : (b : ℕ) (xs ys : Place) → (ys ≡ [] → ⊥) → less ≡ of ([] ∷ xs) (onto_first b ys)
+  slash_first b xs [] k = absurd (k refl)
+  slash_first b xs (y ∷ ys) k = sym (n.goes [] (b ∷ y) xs ys ∙ n.below (of xs ys))
+
+  slash_second : (a : ℕ) (xs ys : Place) → (xs ≡ [] → ⊥) → greater ≡ of (onto_first a xs) ([] ∷ ys)
+  slash_second a [] ys k = absurd (k refl)
+  slash_second a (x ∷ xs) ys k = sym (n.goes (a ∷ x) [] xs ys ∙ n.above (of xs ys))
+
+  -- the first path is empty, and so one empty element
+  end_first : (b : ℕ) (e : Bool) (ys : Place) → (ys ≡ [] → ⊥) → cond e short less ≡ of ([] ∷ []) (cond e ([] ∷ ys) (onto_first b ys))
+  end_first b e [] k = absurd (k refl)
+  end_first b true (y ∷ ys) k = sym (n.goes [] [] [] (y ∷ ys) ∙ n.equal (of [] (y ∷ ys)) ∙ n.ends y ys)
+  end_first b false (y ∷ ys) k = slash_first b [] (y ∷ ys) k
+
+  -- or the second is
+  end_second : (a : ℕ) (e : Bool) (xs : Place) → (xs ≡ [] → ⊥) → cond e long greater ≡ of (cond e ([] ∷ xs) (onto_first a xs)) ([] ∷ [])
+  end_second a e [] k = absurd (k refl)
+  end_second a true (x ∷ xs) k = sym (n.goes [] [] (x ∷ xs) [] ∙ n.equal (of (x ∷ xs) []) ∙ n.outlasts x xs)
+  end_second a false (x ∷ xs) k = slash_second a (x ∷ xs) [] k
+
+  -- both have a first byte, and r is what is said of the rest of both
+  firsts : (a b : ℕ) (t u : Text) (r : R) → r ≡ of (elements t) (elements u)
+      → cond (a == b) r (cond (a == 47) less (cond (b == 47) greater (differ a b))) ≡ of (elements (a ∷ t)) (elements (b ∷ u))
+  firsts a b t u r is = by (eqb_tells a b)
+    where
+      Goal : Bool → Bool → Bool → Type 0
+      Goal s e f = cond s r (cond e less (cond f greater (differ a b))) ≡ of (cond e ([] ∷ elements t) (onto_first a (elements t))) (cond f ([] ∷ elements u) (onto_first b (elements u)))
+
+      alike : a ≡ b → (e f : Bool) → (a == 47) ≡ e → (b == 47) ≡ f → Goal true e f
+      alike h true true g k = is ∙ sym (n.goes [] [] (elements t) (elements u) ∙ n.equal (of (elements t) (elements u)))
+      alike h false false g k = is ∙ behind a b (elements t) (elements u) (some_element t) (some_element u) h
+      alike h true false g k = absurd (true_not_false (sym g ∙ ap (λ c. c == 47) h ∙ k))
+      alike h false true g k = absurd (true_not_false (sym k ∙ ap (λ c. c == 47) (sym h) ∙ g))
+
+      unlike : a ≢ b → (e f : Bool) → (a == 47) ≡ e → (b == 47) ≡ f → Goal false e f
+      unlike h true true g k = absurd (h (slash_is a g ∙ sym (slash_is b k)))
+      unlike h true false g k = slash_first b (elements t) (elements u) (some_element u)
+      unlike h false true g k = slash_second a (elements t) (elements u) (some_element t)
+      unlike h false false g k = apart a b (elements t) (elements u) (some_element t) (some_element u) h
+
+      by : (((a == b) ≡ true) × (a ≡ b)) ⊎ (((a == b) ≡ false) × (a ≢ b)) → Goal (a == b) (a == 47) (b == 47)
+      by (inl w) = subst (λ s. Goal s (a == 47) (b == 47)) (sym w.0) (alike w.1 (a == 47) (b == 47) refl refl)
+      by (inr w) = subst (λ s. Goal s (a == 47) (b == 47)) (sym w.0) (unlike w.1 (a == 47) (b == 47) refl refl)
+
+-- the answer is the same whatever the test says
+whatever : {R : Type 0} (e : Bool) (r : R) → r ≡ cond e r r
+whatever true r = refl
+whatever false r = refl
+
 -- ---- the order
 
-cmp_behind : (a b : ℕ) (xs ys : Place) → (xs ≡ [] → ⊥) → (ys ≡ [] → ⊥) → a ≡ b → place_cmp (onto_first a xs) (onto_first b ys) ≡ place_cmp xs ys
-cmp_behind a b [] ys h k e = absurd (h refl)
-cmp_behind a b (x ∷ xs) [] h k e = absurd (k refl)
-cmp_behind a b (x ∷ xs) (y ∷ ys) h k e = ap (λ r. ordering_then (ordering_then r (text_cmp x y)) (place_cmp xs ys)) (ap (λ c. nat_cmp c b) e ∙ equal_bytes b)
-
-cmp_apart : (a b : ℕ) (xs ys : Place) → (xs ≡ [] → ⊥) → (ys ≡ [] → ⊥) → a ≢ b → nat_cmp a b ≡ place_cmp (onto_first a xs) (onto_first b ys)
-cmp_apart a b [] ys h k e = absurd (h refl)
-cmp_apart a b (x ∷ xs) [] h k e = absurd (k refl)
-cmp_apart a b (x ∷ xs) (y ∷ ys) h k e = by (nat_cmp a b) refl
+by_order : ByNames place_cmp Less Greater Less Greater nat_cmp
+by_order = record { step = ordering_then; goes = λ x y xs ys. refl; equal = λ r. refl; below = λ r. refl; above = λ r. refl; ends = λ y ys. refl; outlasts = λ x xs. refl; differs = λ a b o r e. by a b o r e (nat_cmp a b) refl }
   where
-    by : (r : Ordering) → nat_cmp a b ≡ r → r ≡ ordering_then (ordering_then r (text_cmp x y)) (place_cmp xs ys)
-    by Less f = refl
-    by Equal f = absurd (e (nat_cmp-IsAntisymmetric a b f))
-    by Greater f = refl
-
-cmp_slash_first : (b : ℕ) (xs ys : Place) → (ys ≡ [] → ⊥) → Less ≡ place_cmp ([] ∷ xs) (onto_first b ys)
-cmp_slash_first b xs [] k = absurd (k refl)
-cmp_slash_first b xs (y ∷ ys) k = refl
-
-cmp_slash_second : (a : ℕ) (xs ys : Place) → (xs ≡ [] → ⊥) → Greater ≡ place_cmp (onto_first a xs) ([] ∷ ys)
-cmp_slash_second a [] ys k = absurd (k refl)
-cmp_slash_second a (x ∷ xs) ys k = refl
-
-cmp_end_first : (b : ℕ) (e : Bool) (ys : Place) → (ys ≡ [] → ⊥) → Less ≡ place_cmp ([] ∷ []) (cond e ([] ∷ ys) (onto_first b ys))
-cmp_end_first b e [] k = absurd (k refl)
-cmp_end_first b true (y ∷ ys) k = refl
-cmp_end_first b false (y ∷ ys) k = refl
-
-cmp_end_second : (a : ℕ) (e : Bool) (xs : Place) → (xs ≡ [] → ⊥) → Greater ≡ place_cmp (cond e ([] ∷ xs) (onto_first a xs)) ([] ∷ [])
-cmp_end_second a e [] k = absurd (k refl)
-cmp_end_second a true (x ∷ xs) k = refl
-cmp_end_second a false (x ∷ xs) k = refl
+    by : (a b : ℕ) (o r : Ordering) → a ≢ b → (c : Ordering) → nat_cmp a b ≡ c → c ≡ ordering_then (ordering_then c o) r
+    by a b o r e Less f = refl
+    by a b o r e Equal f = absurd (e (nat_cmp-IsAntisymmetric a b f))
+    by a b o r e Greater f = refl
 
 pub path_cmp_is : (t u : Text) → path_cmp t u ≡ place_cmp (elements t) (elements u)
 path_cmp_is [] [] = refl
-path_cmp_is [] (b ∷ u) = cmp_end_first b (b == 47) (elements u) (some_element u)
-path_cmp_is (a ∷ t) [] = cmp_end_second a (a == 47) (elements t) (some_element t)
-path_cmp_is (a ∷ t) (b ∷ u) = by (eqb_tells a b) (path_cmp_is t u)
-  where
-    Goal : Bool → Bool → Bool → Type 0
-    Goal s e f = cond s (path_cmp t u) (cond e Less (cond f Greater (nat_cmp a b))) ≡ place_cmp (cond e ([] ∷ elements t) (onto_first a (elements t))) (cond f ([] ∷ elements u) (onto_first b (elements u)))
-
-    alike : a ≡ b → path_cmp t u ≡ place_cmp (elements t) (elements u) → (e f : Bool) → (a == 47) ≡ e → (b == 47) ≡ f → Goal true e f
-    alike h ih true true g k = ih
-    alike h ih false false g k = ih ∙ sym (cmp_behind a b (elements t) (elements u) (some_element t) (some_element u) h)
-    alike h ih true false g k = absurd (true_not_false (sym g ∙ ap (λ c. c == 47) h ∙ k))
-    alike h ih false true g k = absurd (true_not_false (sym k ∙ ap (λ c. c == 47) (sym h) ∙ g))
-
-    apart : a ≢ b → (e f : Bool) → (a == 47) ≡ e → (b == 47) ≡ f → Goal false e f
-    apart h true true g k = absurd (h (slash_is a g ∙ sym (slash_is b k)))
-    apart h true false g k = cmp_slash_first b (elements t) (elements u) (some_element u)
-    apart h false true g k = cmp_slash_second a (elements t) (elements u) (some_element t)
-    apart h false false g k = cmp_apart a b (elements t) (elements u) (some_element t) (some_element u) h
-
-    by : (((a == b) ≡ true) × (a ≡ b)) ⊎ (((a == b) ≡ false) × (a ≢ b)) → path_cmp t u ≡ place_cmp (elements t) (elements u) → Goal (a == b) (a == 47) (b == 47)
-    by (inl w) ih = subst (λ s. Goal s (a == 47) (b == 47)) (sym w.0) (alike w.1 ih (a == 47) (b == 47) refl refl)
-    by (inr w) ih = subst (λ s. Goal s (a == 47) (b == 47)) (sym w.0) (apart w.1 (a == 47) (b == 47) refl refl)
+path_cmp_is [] (b ∷ u) = whatever (b == 47) Less ∙ end_first by_order b (b == 47) (elements u) (some_element u)
+path_cmp_is (a ∷ t) [] = whatever (a == 47) Greater ∙ end_second by_order a (a == 47) (elements t) (some_element t)
+path_cmp_is (a ∷ t) (b ∷ u) = firsts by_order a b t u (path_cmp t u) (path_cmp_is t u)
 
 -- ---- where the loop ends
 
@@ -149,63 +181,29 @@ same_front n m x y b h k e is f = front_alike n x y h k (ap (λ l. pointwise nat
 
 -- ---- beginnings
 
-begins_behind : (a b : ℕ) (xs ys : Place) → (xs ≡ [] → ⊥) → (ys ≡ [] → ⊥) → a ≡ b → begins (onto_first a xs) (onto_first b ys) ≡ begins xs ys
-begins_behind a b [] ys h k e = absurd (h refl)
-begins_behind a b (x ∷ xs) [] h k e = absurd (k refl)
-begins_behind a b (x ∷ xs) (y ∷ ys) h k e = ap (λ r. is_eq (ordering_then r (text_cmp x y)) && begins xs ys) (ap (λ c. nat_cmp c b) e ∙ equal_bytes b)
-
-begins_apart : (a b : ℕ) (xs ys : Place) → (xs ≡ [] → ⊥) → (ys ≡ [] → ⊥) → a ≢ b → false ≡ begins (onto_first a xs) (onto_first b ys)
-begins_apart a b [] ys h k e = absurd (h refl)
-begins_apart a b (x ∷ xs) [] h k e = absurd (k refl)
-begins_apart a b (x ∷ xs) (y ∷ ys) h k e = by (nat_cmp a b) refl
+by_beginning : ByNames begins false false true false (λ a b. false)
+by_beginning = record { step = λ o r. is_eq o && r; goes = λ x y xs ys. refl; equal = λ r. refl; below = λ r. refl; above = λ r. refl; ends = λ y ys. refl; outlasts = λ x xs. refl; differs = λ a b o r e. by a b o r e (nat_cmp a b) refl }
   where
-    by : (r : Ordering) → nat_cmp a b ≡ r → false ≡ is_eq (ordering_then r (text_cmp x y)) && begins xs ys
-    by Less f = refl
-    by Equal f = absurd (e (nat_cmp-IsAntisymmetric a b f))
-    by Greater f = refl
+    by : (a b : ℕ) (o : Ordering) (r : Bool) → a ≢ b → (c : Ordering) → nat_cmp a b ≡ c → false ≡ is_eq (ordering_then c o) && r
+    by a b o r e Less f = refl
+    by a b o r e Equal f = absurd (e (nat_cmp-IsAntisymmetric a b f))
+    by a b o r e Greater f = refl
 
-begins_slash_first : (b : ℕ) (xs ys : Place) → (ys ≡ [] → ⊥) → false ≡ begins ([] ∷ xs) (onto_first b ys)
-begins_slash_first b xs [] k = absurd (k refl)
-begins_slash_first b xs (y ∷ ys) k = refl
+-- a test is what it says, and what comes after a test that fails says nothing
+test_is : (e : Bool) → e ≡ cond e true false
+test_is true = refl
+test_is false = refl
 
-begins_slash_second : (a : ℕ) (xs ys : Place) → (xs ≡ [] → ⊥) → false ≡ begins (onto_first a xs) ([] ∷ ys)
-begins_slash_second a [] ys k = absurd (k refl)
-begins_slash_second a (x ∷ xs) ys k = refl
-
-begins_end_first : (b : ℕ) (e : Bool) (ys : Place) → (ys ≡ [] → ⊥) → e ≡ begins ([] ∷ []) (cond e ([] ∷ ys) (onto_first b ys))
-begins_end_first b e [] k = absurd (k refl)
-begins_end_first b true (y ∷ ys) k = refl
-begins_end_first b false (y ∷ ys) k = refl
-
-begins_end_second : (a : ℕ) (e : Bool) (xs : Place) → (xs ≡ [] → ⊥) → false ≡ begins (cond e ([] ∷ xs) (onto_first a xs)) ([] ∷ [])
-begins_end_second a e [] k = absurd (k refl)
-begins_end_second a true (x ∷ xs) k = refl
-begins_end_second a false (x ∷ xs) k = refl
+tests_are : (s e f x y : Bool) → (s && x) && y ≡ cond s (x && y) (cond e false (cond f false false))
+tests_are true e f x y = refl
+tests_are false true f x y = refl
+tests_are false false f x y = whatever f false
 
 pub path_begins_is : (t u : Text) → path_begins t u ≡ begins (elements t) (elements u)
 path_begins_is [] [] = refl
-path_begins_is [] (b ∷ u) = begins_end_first b (b == 47) (elements u) (some_element u)
-path_begins_is (a ∷ t) [] = begins_end_second a (a == 47) (elements t) (some_element t)
-path_begins_is (a ∷ t) (b ∷ u) = by (eqb_tells a b) (path_begins_is t u)
-  where
-    Goal : Bool → Bool → Bool → Type 0
-    Goal s e f = (s && starts_with nat_eq u t) && is_ended (drop (length t) u) ≡ begins (cond e ([] ∷ elements t) (onto_first a (elements t))) (cond f ([] ∷ elements u) (onto_first b (elements u)))
-
-    alike : a ≡ b → path_begins t u ≡ begins (elements t) (elements u) → (e f : Bool) → (a == 47) ≡ e → (b == 47) ≡ f → Goal true e f
-    alike h ih true true g k = ih
-    alike h ih false false g k = ih ∙ sym (begins_behind a b (elements t) (elements u) (some_element t) (some_element u) h)
-    alike h ih true false g k = absurd (true_not_false (sym g ∙ ap (λ c. c == 47) h ∙ k))
-    alike h ih false true g k = absurd (true_not_false (sym k ∙ ap (λ c. c == 47) (sym h) ∙ g))
-
-    apart : a ≢ b → (e f : Bool) → (a == 47) ≡ e → (b == 47) ≡ f → Goal false e f
-    apart h true true g k = absurd (h (slash_is a g ∙ sym (slash_is b k)))
-    apart h true false g k = begins_slash_first b (elements t) (elements u) (some_element u)
-    apart h false true g k = begins_slash_second a (elements t) (elements u) (some_element t)
-    apart h false false g k = begins_apart a b (elements t) (elements u) (some_element t) (some_element u) h
-
-    by : (((a == b) ≡ true) × (a ≡ b)) ⊎ (((a == b) ≡ false) × (a ≢ b)) → path_begins t u ≡ begins (elements t) (elements u) → Goal (a == b) (a == 47) (b == 47)
-    by (inl w) ih = subst (λ s. Goal s (a == 47) (b == 47)) (sym w.0) (alike w.1 ih (a == 47) (b == 47) refl refl)
-    by (inr w) ih = subst (λ s. Goal s (a == 47) (b == 47)) (sym w.0) (apart w.1 (a == 47) (b == 47) refl refl)
+path_begins_is [] (b ∷ u) = test_is (b == 47) ∙ end_first by_beginning b (b == 47) (elements u) (some_element u)
+path_begins_is (a ∷ t) [] = whatever (a == 47) false ∙ end_second by_beginning a (a == 47) (elements t) (some_element t)
+path_begins_is (a ∷ t) (b ∷ u) = tests_are (a == b) (a == 47) (b == 47) (starts_with nat_eq u t) (is_ended (drop (length t) u)) ∙ firsts by_beginning a b t u (path_begins t u) (path_begins_is t u)
 
 -- ---- the same of the names, of which the storage root has none
 

@@ -1,8 +1,8 @@
-ghost use Rattle.std.specs.Prelude.{◌≡◌, ◌≢◌, ◌↔◌, ◌<◌, ◌≤◌, ◌+◌, ◌^◌, [], Bool, true, IsTrue};
+ghost use Rattle.std.specs.Prelude.{◌≡◌, ◌≢◌, ◌↔◌, ◌<◌, ◌≤◌, ◌+◌, ◌^◌, [], true, IsTrue};
 ghost use Rattle.std.specs.Prelude.{◌&&◌, nat_lt, IfOk, IfErr, OnOk, OnErr, IsOk, IsErr};
-ghost use Rattle.std.specs.Prelude.{IsOkUnless, MatchOption, MatchResult, None, Some, Err, length};
+ghost use Rattle.std.specs.Prelude.{IsOkUnless, MatchOption, MatchResult, Err, length};
 ghost use Rattle.std.specs.Prelude.{take, max, is_some, IsSome, if◌then◌else◌};
-ghost use Rattle.ocfl_tree.specs.Tree.{Leaf, file, dir, other, at};
+ghost use Rattle.ocfl_tree.specs.Tree.{file, dir, other, at};
 ghost use Rattle.ocfl_tree.specs.Listing.{IsOrdinary};
 ghost use Rattle.ocfl_tree.specs.Calls.{Lists, ListFails, Opens, OpenFails, Reads, ReadFails};
 ghost use Rattle.ocfl_tree.specs.Calls.{Closes};
@@ -17,7 +17,7 @@ use crate::place::Place;
 use crate::plan::{Plan, Point};
 use crate::store::{Entry, Opening, Trouble};
 use crate::tree::Tree;
-use std::alloc::{AllocError, Global};
+use std::alloc::Global;
 use std::marker::Model;
 
 /// The open file: the index of its place, and how many bytes of it were read.

@@ -16,7 +16,7 @@ use Rattle.ocfl_digest.specs.declared.algorithm.Algorithm.{Algorithm}
 use Rattle.ocfl_inventory.specs.Table.{Table, Triple, triple_cmp, triples_of, table_from, table_of, paths_of}
 use Rattle.ocfl_inventory.specs.Reading.{Inventory, Block, Reading, inventory_of}
 use Rattle.ocfl_tree.specs.Path.{elements}
-use Rattle.ocfl_inventory.specs.ListedPath.{is_dots, is_no_name, is_content_path, is_kept}
+use Rattle.ocfl_inventory.specs.ListedPath.{is_empty_or_dots, is_too_long_or_nul, is_content_path, is_kept}
 use Rattle.ocfl_audit.specs.Zone.{zone, table_at, inventory_at, inventory_limit, seen, is_entered, is_listed_zone, max_listed_depth}
 use Rattle.ocfl_audit.specs.Lines.{notes}
 use Rattle.ocfl_audit.specs.Walk.{is_reached, IsClosed}
@@ -105,7 +105,7 @@ table_from_inventory root o t h = by (inventory_at root o) h
         go false f = absurd (some_not_none t f)
 
 pub kept_short : (content x : Text) → is_kept content x ≡ true → (is_content_path content (elements x) ≡ true) × (nat_lt 128 (length (elements x)) ≡ false)
-kept_short content x h = by (starts_with nat_eq x (codes "/") || ends_with nat_eq x (codes "/")) (list_any is_dots (elements x)) (is_content_path content (elements x)) (nat_lt 128 (length (elements x))) (list_any is_no_name (elements x)) refl refl h
+kept_short content x h = by (starts_with nat_eq x (codes "/") || ends_with nat_eq x (codes "/")) (list_any is_empty_or_dots (elements x)) (is_content_path content (elements x)) (nat_lt 128 (length (elements x))) (list_any is_too_long_or_nul (elements x)) refl refl h
   where
     by : (a b c d e : Bool) → is_content_path content (elements x) ≡ c → nat_lt 128 (length (elements x)) ≡ d → not (is_some (cond a (Some E100) (cond b (Some E099) (cond (not c || d || e) (Some S06) None)))) ≡ true → (is_content_path content (elements x) ≡ true) × (nat_lt 128 (length (elements x)) ≡ false)
     by true b c d e f g k = absurd (true_not_false (sym k))

@@ -11,7 +11,7 @@ use Rattle.std.specs.declared.cmp.Ordering.TheVariants.{Less, Equal, Greater}
 use Rattle.ocfl_tree.specs.Place.{Text, Place, text_cmp, text_eq, place_cmp, place_eq, begins}
 use Rattle.ocfl_inventory.specs.Notes.{is_conflict, conflicts}
 use Rattle.ocfl_tree.proofs.Orders.{true_not_false, place_cmp_total, place_cmp_exact, below_from_greater}
-use Rattle.ocfl_inventory.specs.Beside.{hits}
+use Rattle.ocfl_inventory.specs.Internal.Beside.{hits}
 use Rattle.ocfl_inventory.proofs.Runs.{IsUp, IsFront}
 use Rattle.ocfl_inventory.proofs.Once.{alike_itself, alike_is, sorted_hits}
 

@@ -1,5 +1,5 @@
 -- Reading a block one after the other, as a loop does.
-use Rattle.std.proofs.Common.{◌≡◌, List, [], ◌∷◌, ◌++◌, Bool, true, false, Option, Some, None, option_map, refl, sym, ap, ◌∙◌, append_assoc, String, Global}
+use Rattle.std.proofs.Common.{◌≡◌, List, [], ◌∷◌, ◌++◌, Bool, true, false, Option, Some, None, option_map, refl, sym, ap, ◌∙◌, append_assoc, String, Global, Vec}
 use Rattle.std.specs.Prelude.{◌&&◌, is_some, option_and_then, string_bytes}
 use Rattle.std.specs.List.{cons_option, list_all}
 use Rattle.std.proofs.lemmas.List.{append-nil}
@@ -10,7 +10,7 @@ use Rattle.serde_json.specs.declared.value.Value.{Value}
 use Rattle.ocfl_tree.specs.Place.{Text}
 use Rattle.ocfl_tree.proofs.Orders.{true_not_false}
 use Rattle.ocfl_inventory.specs.Reading.{Block, texts_of, lists_of}
-use Rattle.ocfl_inventory.specs.Parts.{texts_among}
+use Rattle.ocfl_inventory.specs.Internal.Parts.{texts_among}
 
 -- what was read before, and what is still read
 abbrev pub with_front : {A : Type 0} → List A → Option (List A) → Option (List A)
@@ -41,15 +41,24 @@ texts_are (v ∷ vs) h = by (as_str (view v)) (texts_of (items_view vs)) h (text
     by (Some t) None k more = absurd (true_not_false (sym k))
     by (Some t) (Some ts) k more = ap (option_map (λ us. t ∷ us)) (more refl)
 
-pub texts_found : (vs : List Value) (b : Bool) (found : Option Items) → b ≡ list_all (λ v. is_some (as_str (view v))) vs → b ≡ true → Some (items_view vs) ≡ found → Some (texts_among vs) ≡ option_and_then texts_of found
-texts_found vs b found h k e = texts_are vs (sym (texts_tested vs) ∙ sym h ∙ k) ∙ ap (option_and_then texts_of) e
+-- what a test of the values that were read says of the texts among them
+module _ (read : List Value) (values : Vec Value Global) (array : Option (Vec Value Global)) (b : Bool) (found : Option Items)
+    (tested : b ≡ list_all (λ v. is_some (as_str (view v))) read) (same : read ≡ values.items) (was : array ≡ Some values) (is : option_map (λ v. items_view v.items) array ≡ found) where
+  found_is : Some (items_view values.items) ≡ found
+  found_is = sym (ap (option_map (λ (v : Vec Value Global). items_view v.items)) was) ∙ is
 
-pub texts_missing : (vs : List Value) (b : Bool) (found : Option Items) → b ≡ list_all (λ v. is_some (as_str (view v))) vs → b ≡ false → Some (items_view vs) ≡ found → None ≡ option_and_then texts_of found
-texts_missing vs b found h k e = by (texts_of (items_view vs)) (sym (texts_tested vs) ∙ sym h ∙ k) ∙ ap (option_and_then texts_of) e
-  where
-    by : (o : Option (List Text)) → is_some o ≡ false → None ≡ o
-    by None f = refl
-    by (Some ts) f = absurd (true_not_false f)
+  tells : is_some (texts_of (items_view values.items)) ≡ b
+  tells = sym (texts_tested values.items) ∙ sym (tested ∙ ap (list_all (λ v. is_some (as_str (view v)))) same)
+
+  pub texts_found : b ≡ true → Some (texts_among values.items) ≡ option_and_then texts_of found
+  texts_found k = texts_are values.items (tells ∙ k) ∙ ap (option_and_then texts_of) found_is
+
+  pub texts_missing : b ≡ false → None ≡ option_and_then texts_of found
+  texts_missing k = by (texts_of (items_view values.items)) (tells ∙ k) ∙ ap (option_and_then texts_of) found_is
+    where
+      by : (o : Option (List Text)) → is_some o ≡ false → None ≡ o
+      by None f = refl
+      by (Some ts) f = absurd (true_not_false f)
 
 abbrev Entry : Type 0
 Entry = String Global × Value

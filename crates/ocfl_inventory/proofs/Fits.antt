@@ -15,7 +15,7 @@ use Rattle.ocfl_report.specs.declared.code.Code.TheVariants.{E099, E100, S06}
 use Rattle.ocfl_inventory.specs.ListedPath.{is_kept}
 use Rattle.ocfl_inventory.specs.Reading.{Block, Inventory}
 use Rattle.ocfl_inventory.specs.Table.{IsFit, Table, Triple, named_digest, table_from, triple_cmp, triples_of}
-use Rattle.ocfl_inventory.specs.TripleOrder.{triple_total}
+use Rattle.ocfl_inventory.specs.Internal.TripleOrder.{triple_total}
 
 abbrev IsShort : Triple → Type 0
 IsShort t = length t.path ≤ 128

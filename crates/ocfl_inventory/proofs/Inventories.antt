@@ -18,7 +18,7 @@ use Rattle.std.proofs.lemmas.List.Sorted.{IsPermutation-map, IsPermutation-refl,
 use Rattle.std.proofs.lemmas.List.{map-append}
 use Rattle.std.proofs.lemmas.List.Elements.{filter-append}
 use Rattle.std.specs.Cmp.Lexicographic.{nat_list_cmp_total}
-use Rattle.ocfl_tree.specs.Place.{Text, Place, text_cmp, text_eq, place_cmp, place_eq, begins}
+use Rattle.ocfl_tree.specs.Place.{Text, Place, text_cmp, place_cmp, place_eq, begins}
 use Rattle.ocfl_tree.specs.Ascending.{ascending}
 use Rattle.ocfl_tree.proofs.Orders.{place_cmp_total, place_cmp_exact, ascending_unique, ascends_ascending, ascends_filter, among_ascending, among_filter, among_from_filter}
 use Rattle.ocfl_digest.specs.declared.algorithm.Algorithm.{Algorithm}
@@ -29,18 +29,17 @@ use Rattle.ocfl_tree.specs.Path.{elements, slashed}
 use Rattle.ocfl_inventory.specs.ListedPath.{is_kept, path_fault}
 use Rattle.ocfl_inventory.specs.DigestText.{folded}
 use Rattle.ocfl_inventory.specs.Reading.{Block, Inventory}
-use Rattle.ocfl_inventory.specs.Parts.{repeated_notes}
-use Rattle.ocfl_inventory.specs.ListsOf.{AreListed, all_repeated, other_notes}
+use Rattle.ocfl_inventory.specs.Internal.ListsOf.{AreListed, all_repeated, all_triples, other_notes}
 use Rattle.ocfl_inventory.specs.declared.gather.Listed.{Listed}
-use Rattle.ocfl_inventory.specs.Gathered.{triple_of, is_bad, bad_texts}
-use Rattle.ocfl_inventory.specs.Notes.{conflicts, kept_paths, listed, fault_notes, folded_keys, inventory_notes, repeated}
-use Rattle.ocfl_inventory.specs.Table.{Triple, triple_cmp, named_cmp, triples_of}
-use Rattle.ocfl_inventory.specs.TripleOrder.{triple_total}
-use Rattle.ocfl_inventory.specs.Beside.{hits}
+use Rattle.ocfl_inventory.specs.Internal.Gathered.{triple_of, is_bad, bad_texts}
+use Rattle.ocfl_inventory.specs.Notes.{conflicts, kept_paths, listed, fault_notes, inventory_notes, repeated_digests, repeated_notes}
+use Rattle.ocfl_inventory.specs.Table.{Table, Triple, triple_cmp, named_cmp, table_from, triples_of}
+use Rattle.ocfl_inventory.specs.Internal.TripleOrder.{triple_total}
+use Rattle.ocfl_inventory.specs.Internal.Beside.{hits}
 use Rattle.ocfl_inventory.proofs.Runs.{IsUp}
 use Rattle.ocfl_inventory.proofs.Once.{up_from_sorted, sorted_once, among_permuted}
 use Rattle.ocfl_inventory.proofs.Beginnings.{text_exact, sorted_conflicts}
-use Rattle.ocfl_inventory.proofs.PathTexts.{fault_line}
+use Rattle.ocfl_inventory.specs.Notes.{fault_note}
 use Rattle.ocfl_inventory.proofs.TripleOrders.{triple_exact}
 
 -- ---- sorted triples
@@ -104,17 +103,17 @@ module _ {A : Type 0} (cmp : A → A → Ordering) (total : IsTotalOrder cmp) (e
   ))
 
 module _ (content : Text) where
-  faults_left : (ts : List Text) → filter_map (fault_line content) (filter (is_bad content) ts) ≡ filter_map (fault_line content) ts
+  faults_left : (ts : List Text) → filter_map (fault_note content) (filter (is_bad content) ts) ≡ filter_map (fault_note content) ts
   faults_left [] = refl
   faults_left (t ∷ ts) = by (path_fault content t) refl (faults_left ts)
     where
-      by : (o : Option Code) → path_fault content t ≡ o → filter_map (fault_line content) (filter (is_bad content) ts) ≡ filter_map (fault_line content) ts
-          → filter_map (fault_line content) (cond (is_some o) (t ∷ filter (is_bad content) ts) (filter (is_bad content) ts)) ≡ cons_option (option_map (λ c. note c t) o) (filter_map (fault_line content) ts)
+      by : (o : Option Code) → path_fault content t ≡ o → filter_map (fault_note content) (filter (is_bad content) ts) ≡ filter_map (fault_note content) ts
+          → filter_map (fault_note content) (cond (is_some o) (t ∷ filter (is_bad content) ts) (filter (is_bad content) ts)) ≡ cons_option (option_map (λ c. note c t) o) (filter_map (fault_note content) ts)
       by None e h = h
-      by (Some code) e h = ap (λ o. cons_option (option_map (λ c. note c t) o) (filter_map (fault_line content) (filter (is_bad content) ts))) e ∙ ap (λ ns. note code t ∷ ns) h
+      by (Some code) e h = ap (λ o. cons_option (option_map (λ c. note c t) o) (filter_map (fault_note content) (filter (is_bad content) ts))) e ∙ ap (λ ns. note code t ∷ ns) h
 
   pub faults_of_bad : (ts : List Text) → fault_notes content (filter (is_bad content) ts) ≡ fault_notes content ts
-  faults_of_bad ts = ap (filter_map (fault_line content)) (ascending_filter text_cmp nat_list_cmp_total text_exact (is_bad content) ts) ∙ faults_left (ascending text_cmp ts)
+  faults_of_bad ts = ap (filter_map (fault_note content)) (ascending_filter text_cmp nat_list_cmp_total text_exact (is_bad content) ts) ∙ faults_left (ascending text_cmp ts)
 
   pub bad_listed : (b : Block) → bad_texts content b ≡ filter (is_bad content) (listed b)
   bad_listed [] = refl
@@ -136,7 +135,7 @@ others_joined l0 l1 l2 l3 a b c d h1 h2 h3 =
 -- the lines of what is listed, where what is listed is known
 pub lines_of_listed : (i : Inventory) (l : Listed) → AreListed i.content i.manifest i.fixity l → all_repeated i.manifest i.fixity ++ other_notes i.content l i.unsupported ≡ inventory_notes i
 lines_of_listed i l h =
-    let repeats = map (note E096) (repeated text_cmp text_eq (folded_keys i.manifest)) in
+    let repeats = map (note E096) (repeated_digests i.manifest) in
     let in_fixity = flat_map repeated_notes i.fixity in
     let manifest = ap (fault_notes i.content) (h.manifest_bad ∙ bad_listed i.content i.manifest) ∙ faults_of_bad i.content (listed i.manifest) in
     let fixity = ap (fault_notes i.content) (h.fixity_bad ∙ bad_fixity i.content i.fixity) ∙ faults_of_bad i.content (flat_map (λ e. listed e.1) i.fixity) in
@@ -154,3 +153,11 @@ ascending_permuted es fs p = ascending_unique triple_total triple_exact (ascendi
 -- what was gathered beside sorted triples, of all that is listed
 pub all_gathered : (in_manifest sorted in_fixity found : List Triple) → IsPermutation in_manifest sorted → IsPermutation (sorted ++ in_fixity) found → IsPermutation (in_manifest ++ in_fixity) found
 all_gathered in_manifest sorted in_fixity found h k = IsPermutation-trans _ _ _ (IsPermutation-append_left in_fixity in_manifest sorted h) k
+
+-- the table of what was gathered, where the content directory is as it was handed on
+pub table_gathered : (i : Inventory) (content : Text) (found : List Triple) (t : Table) → content ≡ i.content → IsPermutation (all_triples content i.algorithm i.manifest i.fixity) found
+    → t ≡ record { algorithm = i.algorithm; content = i.content; triples = ascending triple_cmp found } → t ≡ table_from i
+table_gathered i content found t same gathered is =
+    let with_triples : List Triple → Table = λ es. record { algorithm = i.algorithm; content = i.content; triples = es } in
+    let all : IsPermutation (all_triples i.content i.algorithm i.manifest i.fixity) found = subst (λ (d : Text). IsPermutation (all_triples d i.algorithm i.manifest i.fixity) found) same gathered in
+    is ∙ ap with_triples (ascending_permuted (all_triples i.content i.algorithm i.manifest i.fixity) found all)

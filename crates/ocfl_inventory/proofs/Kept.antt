@@ -12,23 +12,22 @@ use Rattle.ocfl_tree.specs.Path.{elements, names_of, fits}
 use Rattle.ocfl_tree.proofs.Orders.{true_not_false}
 use Rattle.ocfl_tree.proofs.Paths.{elements-append}
 use Rattle.ocfl_tree.proofs.PathNames.{names_are, place_from_tests, place_fits, place_has_no_zero}
-use Rattle.ocfl_inventory.specs.ListedPath.{is_dots, is_no_name, is_content_path, is_kept}
-use Rattle.ocfl_inventory.specs.Gathered.{is_long}
-use Rattle.ocfl_inventory.proofs.PathTexts.{no_name_is, has_zero}
+use Rattle.ocfl_inventory.specs.ListedPath.{is_empty_or_dots, is_too_long_or_nul, is_content_path, is_kept, is_too_long}
+use Rattle.ocfl_inventory.proofs.PathTexts.{too_long_or_nul_is, has_zero}
 
 -- ---- a name by its tests
 
 some_bytes : (c : ℕ) (n : Text) → (length (c ∷ n) == 0) ≡ false
 some_bytes c n = grind (arith, nat_tests)
 
-fits_is : (n : Text) → fits n ≡ not (is_dots n || is_long n)
-fits_is n = by (length n == 0) (nat_le (length n) 255) (pointwise nat_eq n (codes ".")) (pointwise nat_eq n (codes "..")) (text_eq n []) (empty n) (text_eq n (codes ".")) (texts_ties n (codes ".")) (text_eq n (codes "..")) (texts_ties n (codes "..")) (is_long n) long
+fits_is : (n : Text) → fits n ≡ not (is_empty_or_dots n || is_too_long n)
+fits_is n = by (length n == 0) (nat_le (length n) 255) (pointwise nat_eq n (codes ".")) (pointwise nat_eq n (codes "..")) (text_eq n []) (empty n) (text_eq n (codes ".")) (texts_ties n (codes ".")) (text_eq n (codes "..")) (texts_ties n (codes "..")) (is_too_long n) long
   where
     empty : (n : Text) → (length n == 0) ≡ text_eq n []
     empty [] = refl
     empty (c ∷ n) = some_bytes c n
 
-    long : nat_le (length n) 255 ≡ not (is_long n)
+    long : nat_le (length n) 255 ≡ not (is_too_long n)
     long = grind (arith, nat_tests)
 
     by : (a b c d a2 : Bool) → a ≡ a2 → (c2 : Bool) → c ≡ c2 → (d2 : Bool) → d ≡ d2 → (l : Bool) → b ≡ not l → (not a && b && not c && not d) ≡ not ((a2 || c2 || d2) || l)
@@ -43,9 +42,9 @@ fits_is n = by (length n == 0) (nat_le (length n) 255) (pointwise nat_eq n (code
         same false false false true = refl
         same false false false false = refl
 
-all_fit_is : (ns : Place) → list_all fits ns ≡ not (list_any is_dots ns || list_any is_long ns)
+all_fit_is : (ns : Place) → list_all fits ns ≡ not (list_any is_empty_or_dots ns || list_any is_too_long ns)
 all_fit_is [] = refl
-all_fit_is (n ∷ ns) = (λ i. fits_is n i && all_fit_is ns i) ∙ same (is_dots n) (is_long n) (list_any is_dots ns) (list_any is_long ns)
+all_fit_is (n ∷ ns) = (λ i. fits_is n i && all_fit_is ns i) ∙ same (is_empty_or_dots n) (is_too_long n) (list_any is_empty_or_dots ns) (list_any is_too_long ns)
   where
     same : (a b c d : Bool) → (not (a || b) && not (c || d)) ≡ not ((a || c) || (b || d))
     same true b c d = refl
@@ -55,23 +54,23 @@ all_fit_is (n ∷ ns) = (λ i. fits_is n i && all_fit_is ns i) ∙ same (is_dots
 
 -- ---- the ends of a path
 
-dots_in_front : (u v : Place) → list_any is_dots v ≡ true → list_any is_dots (u ++ v) ≡ true
+dots_in_front : (u v : Place) → list_any is_empty_or_dots v ≡ true → list_any is_empty_or_dots (u ++ v) ≡ true
 dots_in_front [] v h = h
-dots_in_front (n ∷ u) v h = by (is_dots n) (dots_in_front u v h)
+dots_in_front (n ∷ u) v h = by (is_empty_or_dots n) (dots_in_front u v h)
   where
-    by : (b : Bool) → list_any is_dots (u ++ v) ≡ true → b || list_any is_dots (u ++ v) ≡ true
+    by : (b : Bool) → list_any is_empty_or_dots (u ++ v) ≡ true → b || list_any is_empty_or_dots (u ++ v) ≡ true
     by true k = refl
     by false k = k
 
-starts_dotted : (t : Text) → starts_with nat_eq t (codes "/") ≡ true → list_any is_dots (elements t) ≡ true
+starts_dotted : (t : Text) → starts_with nat_eq t (codes "/") ≡ true → list_any is_empty_or_dots (elements t) ≡ true
 starts_dotted t h =
     let e : t ≡ codes "/" ++ drop 1 t = (starts_is Decides-eqb t (codes "/") (starts_with nat_eq t (codes "/")) refl).0 h in
-    ap (λ u. list_any is_dots (elements u)) e
+    ap (λ u. list_any is_empty_or_dots (elements u)) e
 
-ends_dotted : (t : Text) → ends_with nat_eq t (codes "/") ≡ true → list_any is_dots (elements t) ≡ true
+ends_dotted : (t : Text) → ends_with nat_eq t (codes "/") ≡ true → list_any is_empty_or_dots (elements t) ≡ true
 ends_dotted t h =
     let e : t ≡ take (length t - 1) t ++ codes "/" = (ends_is Decides-eqb t (codes "/") (ends_with nat_eq t (codes "/")) refl).0 h in
-    ap (λ u. list_any is_dots (elements u)) e ∙ ap (list_any is_dots) (elements-append (take (length t - 1) t) []) ∙ dots_in_front (elements (take (length t - 1) t)) (elements []) refl
+    ap (λ u. list_any is_empty_or_dots (elements u)) e ∙ ap (list_any is_empty_or_dots) (elements-append (take (length t - 1) t) []) ∙ dots_in_front (elements (take (length t - 1) t)) (elements []) refl
 
 -- ---- what is kept
 
@@ -79,7 +78,7 @@ abbrev pub lies_elsewhere : Text → Text → Bool
 lies_elsewhere content t = not (is_content_path content (elements t)) || nat_lt 128 (length (elements t))
 
 pub elsewhere_is_bad : (content t : Text) → lies_elsewhere content t ≡ true → is_kept content t ≡ false
-elsewhere_is_bad content t h = by (starts_with nat_eq t (codes "/") || ends_with nat_eq t (codes "/")) (list_any is_dots (elements t)) (not (is_content_path content (elements t))) (nat_lt 128 (length (elements t))) (list_any is_no_name (elements t)) h
+elsewhere_is_bad content t h = by (starts_with nat_eq t (codes "/") || ends_with nat_eq t (codes "/")) (list_any is_empty_or_dots (elements t)) (not (is_content_path content (elements t))) (nat_lt 128 (length (elements t))) (list_any is_too_long_or_nul (elements t)) h
   where
     by : (a b c d e : Bool) → c || d ≡ true → not (is_some (cond a (Some E100) (cond b (Some E099) (cond (c || d || e) (Some S06) None)))) ≡ false
     by true b c d e k = refl
@@ -88,8 +87,8 @@ elsewhere_is_bad content t h = by (starts_with nat_eq t (codes "/") || ends_with
     by false false false true e k = refl
     by false false false false e k = absurd (true_not_false (sym k))
 
-kept_by_tests : (content t : Text) → lies_elsewhere content t ≡ false → is_kept content t ≡ not (list_any is_dots (elements t) || list_any is_no_name (elements t))
-kept_by_tests content t h = by (starts_with nat_eq t (codes "/")) (ends_with nat_eq t (codes "/")) (list_any is_dots (elements t)) (not (is_content_path content (elements t))) (nat_lt 128 (length (elements t))) (list_any is_no_name (elements t)) (starts_dotted t) (ends_dotted t) h
+kept_by_tests : (content t : Text) → lies_elsewhere content t ≡ false → is_kept content t ≡ not (list_any is_empty_or_dots (elements t) || list_any is_too_long_or_nul (elements t))
+kept_by_tests content t h = by (starts_with nat_eq t (codes "/")) (ends_with nat_eq t (codes "/")) (list_any is_empty_or_dots (elements t)) (not (is_content_path content (elements t))) (nat_lt 128 (length (elements t))) (list_any is_too_long_or_nul (elements t)) (starts_dotted t) (ends_dotted t) h
   where
     by : (a z b c d e : Bool) → (a ≡ true → b ≡ true) → (z ≡ true → b ≡ true) → c || d ≡ false → not (is_some (cond (a || z) (Some E100) (cond b (Some E099) (cond (c || d || e) (Some S06) None)))) ≡ not (b || e)
     by true z true c d e f g k = refl
@@ -102,8 +101,8 @@ kept_by_tests content t h = by (starts_with nat_eq t (codes "/")) (ends_with nat
     by false false false true d e f g k = absurd (true_not_false k)
     by false false false false true e f g k = absurd (true_not_false k)
 
-tests : (t : Text) → not (list_any is_dots (elements t) || list_any is_no_name (elements t)) ≡ (list_all fits (elements t) && not (has_zero t))
-tests t = ap (λ b. not (list_any is_dots (elements t) || b)) (no_name_is t) ∙ same (list_any is_dots (elements t)) (list_any is_long (elements t)) (has_zero t) ∙ ap (λ b. b && not (has_zero t)) (sym (all_fit_is (elements t)))
+tests : (t : Text) → not (list_any is_empty_or_dots (elements t) || list_any is_too_long_or_nul (elements t)) ≡ (list_all fits (elements t) && not (has_zero t))
+tests t = ap (λ b. not (list_any is_empty_or_dots (elements t) || b)) (too_long_or_nul_is t) ∙ same (list_any is_empty_or_dots (elements t)) (list_any is_too_long (elements t)) (has_zero t) ∙ ap (λ b. b && not (has_zero t)) (sym (all_fit_is (elements t)))
   where
     same : (a b c : Bool) → not (a || (b || c)) ≡ (not (a || b) && not c)
     same true b c = refl

@@ -11,7 +11,7 @@ use Rattle.std.specs.declared.cmp.Ordering.TheVariants.{Less, Equal, Greater}
 use Rattle.std.proofs.lemmas.List.Sorted.{list_any-IsPermutation, sum_by-IsPermutation, IsPermutation-sym}
 use Rattle.ocfl_tree.specs.Ascending.{IsBeforeAll, IsAscending, IsAmong, ascending}
 use Rattle.ocfl_tree.proofs.Orders.{true_not_false, below_from_greater, not_below_itself, ascending_unique, ascends_ascending, among_ascending, ascends_filter, among_filter, among_from_filter}
-use Rattle.ocfl_inventory.specs.Beside.{hits}
+use Rattle.ocfl_inventory.specs.Internal.Beside.{hits}
 use Rattle.ocfl_inventory.proofs.Runs.{tally, tally_is, IsUnder, IsUp, IsFront, under_each, both_ways, not_below, hit_sound, hit_complete}
 
 module _ {A : Type 0} {cmp : A → A → Ordering} (o : IsTotalOrder cmp) (exact : IsAntisymmetric cmp) where

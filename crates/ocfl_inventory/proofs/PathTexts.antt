@@ -1,5 +1,5 @@
 -- Paths and their elements.
-use Rattle.std.proofs.Common.{◌≡◌, ℕ, ◌+◌, ◌≤◌, ◌<◌, List, [], ◌∷◌, ◌++◌, Bool, true, false, refl, sym, ◌∙◌, ap, cond, map, Bor, length, Option, Some, None, arith, lit<, get_or, drop, drop-cons, add-one, append_assoc, option_map, filter_map}
+use Rattle.std.proofs.Common.{◌≡◌, ℕ, ◌+◌, ◌≤◌, ◌<◌, List, [], ◌∷◌, ◌++◌, Bool, true, false, refl, sym, ◌∙◌, ap, cond, map, Bor, length, Option, Some, None, arith, lit<, get_or, drop, drop-cons, add-one, append_assoc, filter_map}
 use Rattle.std.specs.Prelude.{◌==◌, ◌||◌, ◌&&◌, nat_le, nat_lt, count_by}
 use Rattle.std.specs.List.{cons_option, list_any, list_all, onto_first, position_or_len, before_first, after_first}
 use Rattle.std.specs.Option.{MatchOption}
@@ -10,12 +10,12 @@ use Rattle.std.proofs.lemmas.List.{drop_all, append-nil}
 use Rattle.std.proofs.lemmas.List.Splits.{slice_split_none, slice_split_first, length-slice_split}
 use Rattle.std.proofs.lemmas.List.Sums.{fails_before_first}
 use Rattle.std.proofs.lemmas.Str.Pattern.{IsSplitOnceResult, split_once_first}
-use Rattle.ocfl_report.specs.Line.{Note, note}
+use Rattle.ocfl_report.specs.Line.{Note}
 use Rattle.ocfl_tree.specs.Place.{Text, Place, text_eq}
 use Rattle.ocfl_tree.specs.Path.{elements}
 use Rattle.ocfl_tree.proofs.PathOrders.{some_element, slash_is}
-use Rattle.ocfl_inventory.specs.ListedPath.{is_no_name, is_version_name, is_content_path, path_fault}
-use Rattle.ocfl_inventory.specs.Gathered.{is_long}
+use Rattle.ocfl_inventory.specs.Notes.{fault_note}
+use Rattle.ocfl_inventory.specs.ListedPath.{is_too_long_or_nul, is_version_name, is_content_path, is_too_long}
 
 pub digits_are : (bs : Text) → all_ascii_digits bs ≡ list_all is_ascii_digit bs
 digits_are [] = refl
@@ -60,8 +60,8 @@ zero_somewhere (c ∷ t) = by (c == 47) refl (zero_somewhere t)
     by true e h = h ∙ ap (λ d. d == 0 || has_zero t) (sym (slash_is c e))
     by false e h = zero_behind c (elements t) (some_element t) ∙ ap (λ b. c == 0 || b) h
 
-pub no_name_is : (t : Text) → list_any is_no_name (elements t) ≡ (list_any is_long (elements t) || list_any (λ b. b == 0) t)
-no_name_is t = any_either is_long has_zero (elements t) ∙ ap (λ b. list_any is_long (elements t) || b) (zero_somewhere t)
+pub too_long_or_nul_is : (t : Text) → list_any is_too_long_or_nul (elements t) ≡ (list_any is_too_long (elements t) || list_any (λ b. b == 0) t)
+too_long_or_nul_is t = any_either is_too_long has_zero (elements t) ∙ ap (λ b. list_any is_too_long (elements t) || b) (zero_somewhere t)
 
 -- ---- the first elements
 
@@ -83,20 +83,17 @@ content_path_from content t v n below rest h k = ap (is_content_path content) (h
 
 -- ---- the lines of bad paths
 
-abbrev pub fault_line : Text → Text → Option Note
-fault_line content t = option_map (λ c. note c t) (path_fault content t)
-
-pub faults_step : (content : Text) (xs : List (Bor Text)) (i : ℕ) (d : Bor Text) (front total new : List Note) → i < length xs → new ≡ front ++ cons_option (fault_line content (get_or xs i d).now) []
-    → front ++ filter_map (fault_line content) (map (λ x. x.now) (drop i xs)) ≡ total → new ++ filter_map (fault_line content) (map (λ x. x.now) (drop (i + 1) xs)) ≡ total
+pub faults_step : (content : Text) (xs : List (Bor Text)) (i : ℕ) (d : Bor Text) (front total new : List Note) → i < length xs → new ≡ front ++ cons_option (fault_note content (get_or xs i d).now) []
+    → front ++ filter_map (fault_note content) (map (λ x. x.now) (drop i xs)) ≡ total → new ++ filter_map (fault_note content) (map (λ x. x.now) (drop (i + 1) xs)) ≡ total
 faults_step content xs i d front total new h e so_far =
     let one : drop i xs ≡ get_or xs i d ∷ drop (i + 1) xs = drop-cons xs i d h ∙ ap (λ n. get_or xs i d ∷ drop n xs) (sym (add-one i)) in
-    let later : List Note = filter_map (fault_line content) (map (λ x. x.now) (drop (i + 1) xs)) in
-    let two : filter_map (fault_line content) (map (λ x. x.now) (drop i xs)) ≡ cons_option (fault_line content (get_or xs i d).now) later = ap (λ ys. filter_map (fault_line content) (map (λ x. x.now) ys)) one in
-    ap (λ ys. ys ++ later) e ∙ append_assoc front (cons_option (fault_line content (get_or xs i d).now) []) later ∙ ap (λ ys. front ++ ys) (joined (fault_line content (get_or xs i d).now) later ∙ sym two) ∙ so_far
+    let later : List Note = filter_map (fault_note content) (map (λ x. x.now) (drop (i + 1) xs)) in
+    let two : filter_map (fault_note content) (map (λ x. x.now) (drop i xs)) ≡ cons_option (fault_note content (get_or xs i d).now) later = ap (λ ys. filter_map (fault_note content) (map (λ x. x.now) ys)) one in
+    ap (λ ys. ys ++ later) e ∙ append_assoc front (cons_option (fault_note content (get_or xs i d).now) []) later ∙ ap (λ ys. front ++ ys) (joined (fault_note content (get_or xs i d).now) later ∙ sym two) ∙ so_far
   where
     joined : (o : Option Note) (ns : List Note) → cons_option o [] ++ ns ≡ cons_option o ns
     joined None ns = refl
     joined (Some n) ns = refl
 
-pub faults_done : (content : Text) (xs : List (Bor Text)) (i : ℕ) (front total : List Note) → length xs ≤ i → front ++ filter_map (fault_line content) (map (λ x. x.now) (drop i xs)) ≡ total → front ≡ total
-faults_done content xs i front total h so_far = sym (ap (λ ys. front ++ filter_map (fault_line content) (map (λ x. x.now) ys)) (drop_all i xs h) ∙ append-nil front) ∙ so_far
+pub faults_done : (content : Text) (xs : List (Bor Text)) (i : ℕ) (front total : List Note) → length xs ≤ i → front ++ filter_map (fault_note content) (map (λ x. x.now) (drop i xs)) ≡ total → front ≡ total
+faults_done content xs i front total h so_far = sym (ap (λ ys. front ++ filter_map (fault_note content) (map (λ x. x.now) ys)) (drop_all i xs h) ∙ append-nil front) ∙ so_far

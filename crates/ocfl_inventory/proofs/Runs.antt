@@ -8,7 +8,7 @@ use Rattle.std.specs.declared.cmp.Ordering.{Ordering}
 use Rattle.std.specs.declared.cmp.Ordering.TheVariants.{Less, Equal, Greater}
 use Rattle.std.proofs.lemmas.List.Recursion.{is_count_by}
 use Rattle.ocfl_tree.specs.Ascending.{IsAmong}
-use Rattle.ocfl_inventory.specs.Beside.{hits}
+use Rattle.ocfl_inventory.specs.Internal.Beside.{hits}
 use Rattle.ocfl_tree.proofs.Orders.{true_not_false, below_from_greater, not_below_itself}
 
 -- ---- counting by a recursion

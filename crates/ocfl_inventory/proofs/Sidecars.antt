@@ -26,8 +26,8 @@ leading_end p t i total h so_far =
     let three : length (leading p (drop i t)) ≡ 0 = ap (λ ys. length (leading p ys)) (drop_all i t h) in
     omega (arith, three, so_far)
 
-no_sidecar : (n : ℕ) (b : Text) (x y : Bool) → length (take n b) == n ≡ false → sidecar_of_len n b ≡ None
-no_sidecar n b x y h = by (nat_le (length b) 4096)
+no_sidecar : (n : ℕ) (b : Text) → length (take n b) == n ≡ false → sidecar_of_len n b ≡ None
+no_sidecar n b h = by (nat_le (length b) 4096)
   where
     by : (c : Bool) → cond (c && (length (take n b) == n && is_after_digits (drop n b))) (decoded (take n b)) None ≡ None
     by true = ap (λ e. cond (e && is_after_digits (drop n b)) (decoded (take n b)) None) h
@@ -36,7 +36,7 @@ no_sidecar n b x y h = by (nat_le (length b) 4096)
 pub too_short : (n : ℕ) (b : Text) → length b < n → sidecar_of_len n b ≡ None
 too_short n b h =
     let e : length (take n b) < n = simp length-take (omega arith) in
-    no_sidecar n b true true (grind (arith, nat_tests))
+    no_sidecar n b (grind (arith, nat_tests))
 
 pub after_is : (rest part : Text) (gap : ℕ) (s a : Bool) → gap ≡ length (leading is_blank rest) → gap ≢ 0 → part ≡ drop gap rest → s ≡ starts_with nat_eq part (codes "inventory.json") → s ≡ true → a ≡ list_all is_tail (drop 14 part)
     → a ≡ is_after_digits rest

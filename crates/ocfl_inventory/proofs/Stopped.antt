@@ -6,11 +6,11 @@ use Rattle.ocfl_report.specs.Line.{line_of, lines_at}
 use Rattle.ocfl_digest.specs.declared.algorithm.Algorithm.{Algorithm}
 use Rattle.ocfl_inventory.specs.Reading.{Reading, ◌>>=◌, Inventory}
 use Rattle.ocfl_inventory.specs.Notes.{reading_notes}
-use Rattle.ocfl_inventory.specs.Parts.{Fails}
-use Rattle.ocfl_inventory.specs.ReadInventory.{SaysLines}
+use Rattle.ocfl_inventory.specs.Internal.Parts.{Fails}
+use Rattle.ocfl_inventory.specs.Internal.ReadInventory.{SaysLines}
 use Rattle.ocfl_inventory.specs.Table.{table_from_reading}
-use Rattle.ocfl_inventory.specs.declared.note.Stop.{Stop}
-use Rattle.ocfl_inventory.specs.declared.note.Stop.TheVariants as stops
+use Rattle.ocfl_inventory.specs.declared.remark.Stop.{Stop}
+use Rattle.ocfl_inventory.specs.declared.remark.Stop.TheVariants as stops
 use Rattle.ocfl_inventory.specs.declared.table.InventoryReading.{InventoryReading}
 
 -- what stops first stops all that comes behind it

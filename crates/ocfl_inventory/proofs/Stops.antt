@@ -17,9 +17,9 @@ use Rattle.ocfl_inventory.specs.Reading.{Reading, or_stop, object_of, digest_alg
 use Rattle.ocfl_report.specs.declared.code.Code.TheVariants.{E033, E025, E017, E018}
 use Rattle.std.specs.Prelude.{codes, length, ◌==◌, ◌||◌}
 use Rattle.std.specs.List.{list_any}
-use Rattle.ocfl_inventory.specs.declared.note.Stop.{Stop}
-use Rattle.ocfl_inventory.specs.declared.note.Stop.TheVariants as stops
-use Rattle.ocfl_inventory.specs.Parts.{Says, Fails}
+use Rattle.ocfl_inventory.specs.declared.remark.Stop.{Stop}
+use Rattle.ocfl_inventory.specs.declared.remark.Stop.TheVariants as stops
+use Rattle.ocfl_inventory.specs.Internal.Parts.{Says, Fails}
 
 pub fails_by : {Y : Type 0} (e : Stop) (n : Note) (reading : Reading Y) → reading ≡ Err n → Says e n → Fails e reading
 fails_by stops.Memory n reading h s = tt

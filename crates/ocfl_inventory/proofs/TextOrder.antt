@@ -12,7 +12,7 @@ use Rattle.std.proofs.lemmas.Map.Text.{is_eq-slice_cmp}
 use Rattle.ocfl_tree.specs.Place.{Text, text_cmp, text_eq}
 use Rattle.ocfl_tree.specs.Ascending.{ascending}
 use Rattle.ocfl_inventory.specs.Notes.{repeated}
-use Rattle.ocfl_inventory.specs.Beside.{hits}
+use Rattle.ocfl_inventory.specs.Internal.Beside.{hits}
 use Rattle.ocfl_inventory.proofs.Runs.{IsUp}
 use Rattle.ocfl_inventory.proofs.Once.{up_from_sorted, sorted_once, sorted_hits, alike_front}
 use Rattle.ocfl_inventory.proofs.Beginnings.{text_exact}

@@ -12,11 +12,15 @@ abbrev pub is_version_name : Text → Bool
 is_version_name [] = false
 is_version_name (c ∷ t) = c == 118 && nat_lt 0 (length t) && all_ascii_digits t
 
-abbrev pub is_dots : Text → Bool
-is_dots t = text_eq t [] || text_eq t (codes ".") || text_eq t (codes "..")
+abbrev pub is_empty_or_dots : Text → Bool
+is_empty_or_dots t = text_eq t [] || text_eq t (codes ".") || text_eq t (codes "..")
 
-abbrev pub is_no_name : Text → Bool
-is_no_name t = nat_lt 255 (length t) || list_any (λ b. b == 0) t
+-- too long for a name
+abbrev pub is_too_long : Text → Bool
+is_too_long t = nat_lt 255 (length t)
+
+abbrev pub is_too_long_or_nul : Text → Bool
+is_too_long_or_nul t = is_too_long t || list_any (λ b. b == 0) t
 
 -- a version, the content directory, and at least one more element
 abbrev pub is_content_path : Text → Place → Bool
@@ -32,8 +36,8 @@ max_elements = 128
 abbrev pub path_fault : Text → Text → Option Code
 path_fault content t =
     if starts_with nat_eq t (codes "/") || ends_with nat_eq t (codes "/") then Some E100
-    else (if list_any is_dots (elements t) then Some E099
-    else (if not (is_content_path content (elements t)) || nat_lt max_elements (length (elements t)) || list_any is_no_name (elements t) then Some S06
+    else (if list_any is_empty_or_dots (elements t) then Some E099
+    else (if not (is_content_path content (elements t)) || nat_lt max_elements (length (elements t)) || list_any is_too_long_or_nul (elements t) then Some S06
     else None))
 
 -- a path that nothing is wrong with is kept

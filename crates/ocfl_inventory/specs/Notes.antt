@@ -1,11 +1,12 @@
 -- The lines about the bytes of an inventory, but for its sidecars (OCFL 1.1, 3.5 Inventory).
-use Rattle.std.specs.Prelude.{nat_le, List, [], ◌∷◌, ◌++◌, Bool, option_map, Ok, Err, map, filter, filter_map, flat_map, count_by}
+use Rattle.std.specs.Prelude.{nat_le, List, [], ◌∷◌, ◌++◌, Bool, Option, option_map, Ok, Err, map, filter, filter_map, flat_map, count_by}
 use Rattle.std.specs.declared.cmp.Ordering.{Ordering}
 use Rattle.ocfl_tree.specs.Place.{Text, Place, text_cmp, text_eq, place_cmp, begins}
 use Rattle.ocfl_tree.specs.Ascending.{ascending}
 use Rattle.ocfl_report.specs.Line.{Note, note}
 use Rattle.ocfl_report.specs.declared.code.Code.TheVariants.{E096, E097, E101, S07}
 use Rattle.ocfl_digest.specs.Algorithm.{algorithm_name}
+use Rattle.ocfl_digest.specs.declared.algorithm.Algorithm.{Algorithm}
 use Rattle.ocfl_inventory.specs.DigestText.{folded}
 use Rattle.ocfl_inventory.specs.Reading.{Reading, Block, Inventory, inventory_of}
 use Rattle.ocfl_tree.specs.Path.{elements, slashed}
@@ -18,13 +19,21 @@ repeated cmp eq xs = filter (λ x. nat_le 2 (count_by (eq x) xs)) (ascending cmp
 abbrev pub folded_keys : Block → List Text
 folded_keys b = map (λ e. folded e.0) b
 
+-- the digests that several keys have, in either case of letters
+abbrev pub repeated_digests : Block → List Text
+repeated_digests b = repeated text_cmp text_eq (folded_keys b)
+
 -- all texts that a block lists
 abbrev pub listed : Block → List Text
 listed b = flat_map (λ e. e.1) b
 
+-- the line of a path text, where it is bad
+abbrev pub fault_note : Text → Text → Option Note
+fault_note content t = option_map (λ c. note c t) (path_fault content t)
+
 -- a line for each bad path text, once, ascending by bytes
 abbrev pub fault_notes : Text → List Text → List Note
-fault_notes content ts = filter_map (λ t. option_map (λ c. note c t) (path_fault content t)) (ascending text_cmp ts)
+fault_notes content ts = filter_map (fault_note content) (ascending text_cmp ts)
 
 -- the paths that are kept, as often as they are listed
 abbrev pub kept_paths : Text → Block → List Place
@@ -37,10 +46,14 @@ is_conflict ps p = nat_le 2 (count_by (begins p) ps)
 abbrev pub conflicts : List Place → List Place
 conflicts ps = filter (is_conflict ps) (ascending place_cmp ps)
 
+-- a line for each digest that several keys of an algorithm's fixity block have
+abbrev pub repeated_notes : Algorithm × Block → List Note
+repeated_notes e = map (λ d. note E097 (algorithm_name e.0 ++ 32 ∷ d)) (repeated_digests e.1)
+
 abbrev pub inventory_notes : Inventory → List Note
 inventory_notes i =
-    map (note E096) (repeated text_cmp text_eq (folded_keys i.manifest))
-    ++ flat_map (λ e. map (λ d. note E097 (algorithm_name e.0 ++ 32 ∷ d)) (repeated text_cmp text_eq (folded_keys e.1))) i.fixity
+    map (note E096) (repeated_digests i.manifest)
+    ++ flat_map repeated_notes i.fixity
     ++ fault_notes i.content (listed i.manifest)
     ++ fault_notes i.content (flat_map (λ e. listed e.1) i.fixity)
     ++ map (λ p. note E101 (slashed p)) (conflicts (kept_paths i.content i.manifest))

@@ -70,10 +70,13 @@ content_from None = Ok (codes "content")
 content_from (Some d) = or_stop (note S03 (codes "contentDirectory")) (as_str d) >>= content_named
 
 -- OCFL 1.1, 3.5.2 Manifest
-abbrev pub manifest_in : Members → Reading Block
-manifest_in ms = do
-  d ← or_stop (note E041 (codes "manifest")) (get_member (codes "manifest") ms)
+abbrev pub manifest_from : Option Data → Reading Block
+manifest_from o = do
+  d ← or_stop (note E041 (codes "manifest")) o
   or_stop (note S03 (codes "manifest")) (block_of d)
+
+abbrev pub manifest_in : Members → Reading Block
+manifest_in ms = manifest_from (get_member (codes "manifest") ms)
 
 -- OCFL 1.1, 3.5.4 Fixity
 abbrev pub fixity_from : Option Data → Reading Members
@@ -108,11 +111,9 @@ pub record Inventory : Type 0 where
 abbrev pub algorithm_of : Text → Reading Algorithm
 algorithm_of bytes = object_of bytes >>= algorithm_in
 
--- the keys are looked at in this order: the first that stops is the answer
-abbrev pub inventory_of : Text → Reading Inventory
-inventory_of bytes = do
-  ms ← object_of bytes
-  a ← algorithm_in ms
+-- the keys are looked at in this order, behind the algorithm: the first that stops is the answer
+abbrev pub behind_algorithm : Members → Algorithm → Reading Inventory
+behind_algorithm ms a = do
   c ← content_from (get_member (codes "contentDirectory") ms)
   m ← manifest_in ms
   fs ← fixity_from (get_member (codes "fixity") ms)
@@ -124,3 +125,9 @@ inventory_of bytes = do
     fixity = f;
     unsupported = unsupported_in fs;
   })
+
+abbrev pub inventory_in : Members → Reading Inventory
+inventory_in ms = algorithm_in ms >>= behind_algorithm ms
+
+abbrev pub inventory_of : Text → Reading Inventory
+inventory_of bytes = object_of bytes >>= inventory_in

@@ -6,6 +6,8 @@ use Rattle.hex.specs.declared.error.FromHexError.{FromHexError}
 use Rattle.ocfl_tree.specs.Place.{Text}
 use Rattle.ocfl_digest.specs.declared.algorithm.Algorithm.{Algorithm}
 use Rattle.ocfl_digest.specs.declared.algorithm.Algorithm.TheVariants.{Md5, Sha1, Sha256, Sha512, Sha512_256}
+use Rattle.ocfl_inventory.specs.declared.sidecar_text.Sum.{Sum}
+use Rattle.ocfl_inventory.specs.declared.sidecar_text.Sum.TheVariants.{Short, Long}
 
 abbrev pub is_blank : ℕ → Bool
 is_blank c = c == 32 || c == 9
@@ -59,3 +61,8 @@ sidecar_of_len n b = if nat_le (length b) 4096 && (length (take n b) == n && is_
 -- the digest of a sidecar's text
 abbrev pub sidecar_of : Algorithm → Text → Option (List ℕ)
 sidecar_of a b = option_and_then (λ n. sidecar_of_len n b) (sidecar_digits a)
+
+-- the bytes of a digest that was read
+abbrev pub sum_view : Sum → List ℕ
+sum_view (Short bytes) = bytes
+sum_view (Long bytes) = bytes

@@ -4,10 +4,10 @@ ghost use Rattle.std.specs.List.{list_all};
 ghost use Rattle.serde_json.specs.View.{view, items_view, members_view};
 ghost use Rattle.serde_json.specs.Find.{get_member, as_array, as_object, as_str};
 ghost use Rattle.ocfl_tree.specs.Place.{Text, text_eq};
-ghost use Rattle.ocfl_inventory.specs.Parts.{block_view, texts_among};
+ghost use Rattle.ocfl_inventory.specs.Internal.Parts.{block_view, texts_among};
 ghost use Rattle.ocfl_inventory.specs.Reading.{texts_of, lists_of, block_of};
 
-use crate::listing::Listing;
+use crate::inventory::Listing;
 use serde_json::{Map, Value};
 use std::alloc::{AllocError, Global};
 

@@ -3,7 +3,7 @@ ghost use Rattle.std.specs.Prelude.{◌≡◌, nat_eq, true, IfOk, map};
 ghost use Rattle.std.specs.List.{starts_with};
 ghost use Rattle.std.specs.List.Sorted.{IsSorted};
 ghost use Rattle.ocfl_tree.specs.Place.{begins as begins_place};
-ghost use Rattle.ocfl_inventory.specs.Beside.{hits};
+ghost use Rattle.ocfl_inventory.specs.Internal.Beside.{hits};
 ghost use Rattle.ocfl_inventory.specs.Notes.{conflicts as conflicts_of};
 ghost use Rattle.ocfl_inventory.specs.Table.{triple_cmp};
 

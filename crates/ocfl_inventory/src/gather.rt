@@ -1,19 +1,19 @@
 //! The listed paths of an inventory, kept ones apart from bad ones.
-ghost use Rattle.std.specs.Prelude.{◌≡◌, ◌++◌, ◌∷◌, [], OnOk, map, filter, flat_map, true, false};
+ghost use Rattle.std.specs.Prelude.{◌≡◌, ◌++◌, ◌∷◌, [], OnOk, map, flat_map, true, false};
 ghost use Rattle.std.specs.Prelude.{string_bytes, IfOk, IsPermutation};
 ghost use Rattle.std.specs.List.Sorted.{IsSorted};
 ghost use Rattle.ocfl_inventory.specs.Table.{triples_of, triple_cmp};
-ghost use Rattle.ocfl_inventory.specs.Parts.{block_view, inventory_view, listing_view};
-ghost use Rattle.ocfl_inventory.specs.Parts.{supported_view, text_in, texts_among};
-ghost use Rattle.ocfl_inventory.specs.ListsOf.{all_triples, AreListed};
+ghost use Rattle.ocfl_inventory.specs.Internal.Parts.{block_view, listing_view};
+ghost use Rattle.ocfl_inventory.specs.Internal.Parts.{supported_view, text_in, texts_among};
+ghost use Rattle.ocfl_inventory.specs.Internal.ListsOf.{all_triples, AreListed};
 ghost use Rattle.ocfl_inventory.specs.DigestText.{folded};
 ghost use Rattle.ocfl_inventory.specs.TripleView.{named_view};
-ghost use Rattle.ocfl_inventory.specs.Gathered.{is_bad, bad_texts, triples_in, key_triples};
+ghost use Rattle.ocfl_inventory.specs.Internal.Gathered.{kept_from, bad_from, bad_texts};
+ghost use Rattle.ocfl_inventory.specs.Internal.Gathered.{key_triples};
 
 use crate::conflicts::conflicts;
-use crate::listing::Listing;
+use crate::inventory::{Listing, Supported};
 use crate::paths::kept_place;
-use crate::reading::{Inventory, Supported};
 use crate::sorting::sort;
 use crate::triple::{Named, Triple};
 use ocfl_digest::Algorithm;
@@ -27,6 +27,24 @@ pub(crate) struct Source<'t> {
     pub(crate) content: &'t str,
     pub(crate) fixity: bool,
     pub(crate) algorithm: Algorithm,
+}
+
+/// The paths that are kept, with their digests, and the texts of the others.
+#[derive(Drop)]
+pub(crate) struct Gathered {
+    pub(crate) triples: Vec<Triple>,
+    pub(crate) bad: Vec<String>,
+}
+
+/// The texts of an inventory's listed paths that have lines.
+#[derive(Drop)]
+pub(crate) struct Listed {
+    /// The bad path texts of the manifest.
+    pub(crate) manifest_bad: Vec<String>,
+    /// The bad path texts of the fixity block.
+    pub(crate) fixity_bad: Vec<String>,
+    /// The conflicting paths of the manifest, in order, each once.
+    pub(crate) conflicting: Vec<Place>,
 }
 
 impl Source<'_> {
@@ -54,13 +72,6 @@ fn small(mut text: String) -> String
     text
 }
 
-/// The paths that are kept, with their digests, and the texts of the others.
-#[derive(Drop)]
-pub(crate) struct Gathered {
-    pub(crate) triples: Vec<Triple>,
-    pub(crate) bad: Vec<String>,
-}
-
 /// Puts a listed path with its digest, or its text where it is bad, at the end.
 fn gather_text(
     alloc: Global,
@@ -69,12 +80,10 @@ fn gather_text(
     text: String,
     found: &mut Gathered,
 ) -> Result<(), AllocError>
-    ensures triples { OnOk result (found.new.triples.items
-        ≡ found.old.triples.items ++ triples_in source.now.fixity source.now.content.now
-        source.now.algorithm (string_bytes digest) (string_bytes text ∷ [])) }
+    ensures triples { OnOk result (found.new.triples.items ≡ found.old.triples.items
+        ++ kept_from source.now (string_bytes digest) (string_bytes text ∷ [])) }
     ensures bad { OnOk result (map string_bytes found.new.bad.items
-        ≡ map string_bytes found.old.bad.items
-        ++ filter (is_bad source.now.content.now) (string_bytes text ∷ [])) }
+        ≡ map string_bytes found.old.bad.items ++ bad_from source.now (string_bytes text ∷ [])) }
 {
     match kept_place(alloc, source.content, text.as_str())? {
         Some(path) => found.triples.push(Triple::new(path, source.name(digest)))?,
@@ -91,12 +100,10 @@ fn gather_value(
     value: Value,
     found: &mut Gathered,
 ) -> Result<(), AllocError>
-    ensures triples { OnOk result (found.new.triples.items
-        ≡ found.old.triples.items ++ triples_in source.now.fixity source.now.content.now
-        source.now.algorithm (string_bytes digest) (text_in value)) }
+    ensures triples { OnOk result (found.new.triples.items ≡ found.old.triples.items
+        ++ kept_from source.now (string_bytes digest) (text_in value)) }
     ensures bad { OnOk result (map string_bytes found.new.bad.items
-        ≡ map string_bytes found.old.bad.items
-        ++ filter (is_bad source.now.content.now) (text_in value)) }
+        ≡ map string_bytes found.old.bad.items ++ bad_from source.now (text_in value)) }
 {
     match value {
         Value::String(text) => gather_text(alloc, source, digest, text, found),
@@ -111,12 +118,10 @@ fn gather_values(
     values: Vec<Value>,
     found: &mut Gathered,
 ) -> Result<(), AllocError>
-    ensures triples { OnOk result (found.new.triples.items
-        ≡ found.old.triples.items ++ triples_in source.now.fixity source.now.content.now
-        source.now.algorithm (string_bytes digest.now) (texts_among values.items)) }
+    ensures triples { OnOk result (found.new.triples.items ≡ found.old.triples.items
+        ++ kept_from source.now (string_bytes digest.now) (texts_among values.items)) }
     ensures bad { OnOk result (map string_bytes found.new.bad.items
-        ≡ map string_bytes found.old.bad.items
-        ++ filter (is_bad source.now.content.now) (texts_among values.items)) }
+        ≡ map string_bytes found.old.bad.items ++ bad_from source.now (texts_among values.items)) }
 {
     for value in values {
         gather_value(alloc, source, digest.clone()?, value, found)?;
@@ -135,8 +140,7 @@ fn gather_listing(
         ≡ found.old.triples.items ++ key_triples source.now.fixity source.now.content.now
         source.now.algorithm (listing_view listing)) }
     ensures bad { OnOk result (map string_bytes found.new.bad.items
-        ≡ map string_bytes found.old.bad.items
-        ++ filter (is_bad source.now.content.now) (listing_view listing).1) }
+        ≡ map string_bytes found.old.bad.items ++ bad_from source.now (listing_view listing).1) }
 {
     let Listing { key, mut values } = listing;
     let digest = small(key);
@@ -190,17 +194,6 @@ fn gather_fixity(
         gather_block(alloc, &source, supported.block, found)?;
     }
     Ok(())
-}
-
-/// The texts of an inventory's listed paths that have lines.
-#[derive(Drop)]
-pub(crate) struct Listed {
-    /// The bad path texts of the manifest.
-    pub(crate) manifest_bad: Vec<String>,
-    /// The bad path texts of the fixity block.
-    pub(crate) fixity_bad: Vec<String>,
-    /// The conflicting paths of the manifest, in order, each once.
-    pub(crate) conflicting: Vec<Place>,
 }
 
 /// Gathers what the manifest lists, and sorts what is kept.

@@ -1,23 +1,19 @@
 //! The lines of an inventory that does not stop.
-ghost use Rattle.std.specs.Prelude.{◌≡◌, ◌++◌, ◌∷◌, [], map, flat_map, IfOk, OnOk, option_map};
-ghost use Rattle.std.specs.Prelude.{string_bytes};
+ghost use Rattle.std.specs.Prelude.{◌≡◌, ◌++◌, ◌∷◌, [], map, flat_map, IfOk, OnOk, string_bytes};
 ghost use Rattle.std.specs.List.{cons_option};
-ghost use Rattle.ocfl_tree.specs.Place.{text_cmp, text_eq};
 ghost use Rattle.ocfl_tree.specs.Path.{slashed};
 ghost use Rattle.ocfl_report.specs.Line.{note};
 ghost use Rattle.ocfl_digest.specs.Algorithm.{algorithm_name};
-ghost use Rattle.ocfl_inventory.specs.ListedPath.{path_fault};
-ghost use Rattle.ocfl_inventory.specs.Notes.{fault_notes, folded_keys, repeated as repeated_of};
-ghost use Rattle.ocfl_inventory.specs.Parts.{remark_view, block_view, supported_view};
-ghost use Rattle.ocfl_inventory.specs.Parts.{repeated_notes};
-ghost use Rattle.ocfl_inventory.specs.ListsOf.{all_repeated, other_notes};
+ghost use Rattle.ocfl_inventory.specs.Notes.{fault_note, fault_notes, folded_keys};
+ghost use Rattle.ocfl_inventory.specs.Notes.{repeated_digests, repeated_notes};
+ghost use Rattle.ocfl_inventory.specs.Internal.Parts.{remark_view, block_view, supported_view};
+ghost use Rattle.ocfl_inventory.specs.Internal.ListsOf.{all_repeated, other_notes};
 
 use crate::gather::Listed;
+use crate::inventory::{Listing, Supported};
 use crate::keys::{Key, repeated};
-use crate::listing::Listing;
-use crate::note::Remark;
 use crate::paths::fault;
-use crate::reading::Supported;
+use crate::remark::Remark;
 use crate::texts::{borrowed, put_in_order};
 use ocfl_digest::Algorithm;
 use ocfl_report::Code;
@@ -42,7 +38,7 @@ fn add_fault(
     out: &mut Vec<Remark>,
 ) -> Result<(), AllocError>
     ensures { OnOk result (map remark_view out.new.items ≡ map remark_view out.old.items
-        ++ cons_option (option_map (λ c. note c text.now) (path_fault content.now text.now)) []) }
+        ++ cons_option (fault_note content.now text.now) []) }
 {
     match fault(content, text) {
         Some(code) => add(alloc, code, text, out),
@@ -68,34 +64,24 @@ fn add_faults(
     Ok(())
 }
 
-/// Puts a line for each detail at the end.
-fn add_each(
-    alloc: Global,
-    code: Code,
-    details: &[String],
-    out: &mut Vec<Remark>,
-) -> Result<(), AllocError>
+/// Puts the lines of the paths that conflict at the end.
+fn add_conflicts(alloc: Global, places: &[Place], out: &mut Vec<Remark>) -> Result<(), AllocError>
     ensures { OnOk result (map remark_view out.new.items ≡ map remark_view out.old.items
-        ++ map (note code) (map string_bytes details.now)) }
+        ++ map (λ p. note Code.E101 (slashed p)) places.now) }
 {
-    for detail in details {
-        add(alloc, code, detail.as_str(), out)?;
+    for place in places {
+        add(alloc, Code::E101, place.path(), out)?;
     }
     Ok(())
 }
 
-/// Puts a line for each place at the end.
-fn add_places(
-    alloc: Global,
-    code: Code,
-    places: &[Place],
-    out: &mut Vec<Remark>,
-) -> Result<(), AllocError>
+/// Puts the lines of the algorithms of fixity that are not computed at the end.
+fn add_unsupported(alloc: Global, keys: &[String], out: &mut Vec<Remark>) -> Result<(), AllocError>
     ensures { OnOk result (map remark_view out.new.items ≡ map remark_view out.old.items
-        ++ map (λ p. note code (slashed p)) places.now) }
+        ++ map (note Code.S07) (map string_bytes keys.now)) }
 {
-    for place in places {
-        add(alloc, code, place.path(), out)?;
+    for key in keys {
+        add(alloc, Code::S07, key.as_str(), out)?;
     }
     Ok(())
 }
@@ -114,8 +100,7 @@ fn keys<'t>(alloc: Global, block: &'t [Listing]) -> Result<Vec<Key<'t>>, AllocEr
 /// Puts the lines of the manifest's repeated digests at the end.
 fn add_repeated(alloc: Global, block: &[Listing], out: &mut Vec<Remark>) -> Result<(), AllocError>
     ensures { OnOk result (map remark_view out.new.items ≡ map remark_view out.old.items
-        ++ map (note Code.E096) (repeated_of text_cmp text_eq
-        (folded_keys (block_view block.now)))) }
+        ++ map (note Code.E096) (repeated_digests (block_view block.now))) }
 {
     for key in &repeated(alloc, keys(alloc, block)?)? {
         let detail = key.folded(alloc)?;
@@ -200,6 +185,6 @@ pub(crate) fn add_others(
 {
     add_faults(alloc, content, &lists.manifest_bad, lines)?;
     add_faults(alloc, content, &lists.fixity_bad, lines)?;
-    add_places(alloc, Code::E101, &lists.conflicting, lines)?;
-    add_each(alloc, Code::S07, unsupported, lines)
+    add_conflicts(alloc, &lists.conflicting, lines)?;
+    add_unsupported(alloc, unsupported, lines)
 }

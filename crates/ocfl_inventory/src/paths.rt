@@ -5,13 +5,13 @@ ghost use Rattle.std.specs.List.{list_any, list_all, starts_with, ends_with};
 ghost use Rattle.std.specs.Str.{all_ascii_digits};
 ghost use Rattle.std.specs.Char.{is_ascii_digit};
 ghost use Rattle.ocfl_tree.specs.Path.{elements};
-ghost use Rattle.ocfl_inventory.specs.ListedPath.{is_version_name as is_version_text};
-ghost use Rattle.ocfl_inventory.specs.ListedPath.{is_dots as is_dots_text};
-ghost use Rattle.ocfl_inventory.specs.ListedPath.{is_no_name as is_no_name_text};
+ghost use Rattle.ocfl_inventory.specs.ListedPath.{is_version_name as is_version_text, is_too_long};
+ghost use Rattle.ocfl_inventory.specs.ListedPath.{is_empty_or_dots as is_empty_or_dots_text};
+ghost use Rattle.ocfl_inventory.specs.ListedPath.{is_too_long_or_nul as is_too_long_or_nul_text};
 ghost use Rattle.ocfl_inventory.specs.ListedPath.{is_content_path as is_content_place, path_fault};
 ghost use Rattle.ocfl_inventory.specs.ListedPath.{is_kept};
-ghost use Rattle.ocfl_inventory.specs.Gathered.{is_long};
 
+use crate::texts::has_byte;
 use ocfl_report::Code;
 use ocfl_tree::{Place, is_text};
 use std::alloc::{AllocError, Global};
@@ -39,34 +39,28 @@ pub fn is_version_name(text: &str) -> bool
     }
 }
 
-fn is_dots(text: &str) -> bool
-    ensures { result ≡ is_dots_text text.now }
+fn is_empty_or_dots(text: &str) -> bool
+    ensures { result ≡ is_empty_or_dots_text text.now }
 {
     is_text(text, "") || is_text(text, ".") || is_text(text, "..")
 }
 
-fn has_dots(text: &str) -> bool
-    ensures { result ≡ list_any is_dots_text (elements text.now) }
+fn has_empty_or_dots(text: &str) -> bool
+    ensures { result ≡ list_any is_empty_or_dots_text (elements text.now) }
 {
-    text.split('/').any(|element| is_dots(element))
+    text.split('/').any(|element| is_empty_or_dots(element))
 }
 
 fn has_long(text: &str) -> bool
-    ensures { result ≡ list_any is_long (elements text.now) }
+    ensures { result ≡ list_any is_too_long (elements text.now) }
 {
     text.split('/').any(|element| element.len() > 255)
 }
 
-fn has_zero(bytes: &[u8]) -> bool
-    ensures { result ≡ list_any (λ b. b == 0) bytes.now }
+fn has_too_long_or_nul(text: &str) -> bool
+    ensures { result ≡ list_any is_too_long_or_nul_text (elements text.now) }
 {
-    bytes.contains(&0)
-}
-
-fn has_no_name(text: &str) -> bool
-    ensures { result ≡ list_any is_no_name_text (elements text.now) }
-{
-    has_long(text) || has_zero(text.as_bytes())
+    has_long(text) || has_byte(text.as_bytes(), 0)
 }
 
 /// How many slashes are in a run of bytes that is short enough to count them in one byte, and so
@@ -143,10 +137,10 @@ pub(crate) fn fault(content: &str, text: &str) -> Option<Code>
     if has_slash_at_end(text) {
         return Some(Code::E100);
     }
-    if has_dots(text) {
+    if has_empty_or_dots(text) {
         return Some(Code::E099);
     }
-    if is_elsewhere(content, text) || has_no_name(text) {
+    if is_elsewhere(content, text) || has_too_long_or_nul(text) {
         return Some(Code::S06);
     }
     None

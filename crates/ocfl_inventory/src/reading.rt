@@ -1,8 +1,6 @@
 //! The keys of an inventory, each of which may stop.
 ghost use Rattle.std.specs.Prelude.{◌≡◌, false, map, IfOk, Some, None, option_map, string_bytes};
-ghost use Rattle.std.specs.Prelude.{filter, not, is_some, if◌then◌else◌};
-ghost use Rattle.std.specs.Prelude.{codes, ◌==◌};
-ghost use Rattle.std.specs.List.{list_any};
+ghost use Rattle.std.specs.Prelude.{filter, not, is_some, if◌then◌else◌, codes};
 ghost use Rattle.std.specs.Result.{result_ok};
 ghost use Rattle.serde_json.specs.View.{view, members_view};
 ghost use Rattle.serde_json.specs.Find.{get_member};
@@ -12,16 +10,16 @@ ghost use Rattle.ocfl_digest.specs.Algorithm.{algorithm_name, algorithm_named};
 ghost use Rattle.ocfl_digest.specs.Algorithm.{supported as all_supported};
 ghost use Rattle.ocfl_inventory.specs.Reading.{object_of, digest_algorithm, algorithm_in};
 ghost use Rattle.ocfl_inventory.specs.Reading.{content_named, content_from, fixity_from};
-ghost use Rattle.ocfl_inventory.specs.Reading.{blocks_for, keys_of, unsupported_in};
-ghost use Rattle.ocfl_inventory.specs.Reading.{algorithm_of as algorithm_stated};
-ghost use Rattle.ocfl_inventory.specs.Parts.{Gives, Says, AreValues, value_for, block_view};
-ghost use Rattle.ocfl_inventory.specs.Parts.{manifest_from, fixity_view, supported_view};
-ghost use Rattle.ocfl_inventory.specs.Parts.{with_block, inventory_view, inventory_in};
+ghost use Rattle.ocfl_inventory.specs.Reading.{blocks_for, keys_of, unsupported_in, inventory_in};
+ghost use Rattle.ocfl_inventory.specs.Reading.{algorithm_of as algorithm_stated, manifest_from};
+ghost use Rattle.ocfl_inventory.specs.Internal.Parts.{Gives, Says, AreValues, value_for};
+ghost use Rattle.ocfl_inventory.specs.Internal.Parts.{block_view, fixity_view, supported_view};
+ghost use Rattle.ocfl_inventory.specs.Internal.Parts.{with_block, inventory_view};
 
 use crate::block::{block, member, members, take_member};
-use crate::listing::Listing;
-use crate::note::{Remark, Stop};
-use crate::texts::{owned, put_in_order};
+use crate::inventory::{Inventory, Listing, Supported};
+use crate::remark::{Remark, Stop};
+use crate::texts::{has_byte, owned, put_in_order};
 use ocfl_digest::Algorithm;
 use ocfl_report::Code;
 use serde_json::{Map, Value};
@@ -74,12 +72,6 @@ fn algorithm(alloc: Global, map: &Map<String, Value>) -> Result<Algorithm, Stop>
         return Err(stop(alloc, Code::S03, "digestAlgorithm"));
     };
     named_algorithm(alloc, text)
-}
-
-fn has_byte(bytes: &[u8], byte: u8) -> bool
-    ensures { result ≡ list_any (λ b. b == byte) bytes.now }
-{
-    bytes.iter().any(|b| *b == byte)
 }
 
 fn content_text<'v>(alloc: Global, text: &'v str) -> Result<&'v str, Stop>
@@ -140,23 +132,6 @@ fn fixity(alloc: Global, value: Option<Value>) -> Result<Option<Map<String, Valu
         return Err(stop(alloc, Code::S03, "fixity"));
     };
     Ok(Some(members))
-}
-
-/// The block of one algorithm.
-#[derive(Drop)]
-pub struct Supported {
-    pub algorithm: Algorithm,
-    pub block: Vec<Listing>,
-}
-
-/// An inventory that does not stop.
-#[derive(Drop)]
-pub struct Inventory {
-    pub algorithm: Algorithm,
-    pub content: String,
-    pub manifest: Vec<Listing>,
-    pub fixity: Vec<Supported>,
-    pub unsupported: Vec<String>,
 }
 
 /// Puts the block of one algorithm behind those before it, and says whether it was of the form.

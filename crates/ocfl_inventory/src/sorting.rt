@@ -4,7 +4,7 @@ ghost use Rattle.std.specs.Prelude.{◌≡◌, ◌≤◌, ◌++◌, ℕ, List, A
 ghost use Rattle.std.specs.Prelude.{IsPermutation};
 ghost use Rattle.std.specs.List.Sorted.{IsSorted};
 ghost use Rattle.ocfl_inventory.specs.Table.{triple_cmp};
-ghost use Rattle.ocfl_inventory.specs.SharedFront.{IsBelow};
+ghost use Rattle.ocfl_inventory.specs.Internal.SharedFront.{IsBelow};
 
 use crate::ranks::Spots;
 use crate::triple::Triple;

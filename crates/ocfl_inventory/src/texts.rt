@@ -1,9 +1,16 @@
-//! Texts in order.
-ghost use Rattle.std.specs.Prelude.{◌≡◌, map, string_bytes, IfOk};
+//! Texts: what is in them, and their order.
+ghost use Rattle.std.specs.Prelude.{◌≡◌, ◌==◌, map, string_bytes, IfOk};
+ghost use Rattle.std.specs.List.{list_any};
 ghost use Rattle.ocfl_tree.specs.Place.{text_cmp};
 ghost use Rattle.ocfl_tree.specs.Ascending.{ascending};
 
 use std::alloc::{AllocError, Global};
+
+pub(crate) fn has_byte(bytes: &[u8], byte: u8) -> bool
+    ensures { result ≡ list_any (λ b. b == byte) bytes.now }
+{
+    bytes.contains(&byte)
+}
 
 /// Puts the texts in order, each once.
 pub(crate) fn put_in_order(texts: &mut Vec<&str>)

@@ -5,9 +5,9 @@ ghost use Rattle.std.specs.Cmp.{partial_equiv_from_equiv, partial_order_from_tot
 ghost use Rattle.std.proofs.lemmas.Cmp.{eq_by_cmp_equiv};
 ghost use Rattle.ocfl_tree.specs.Path.{slashed};
 ghost use Rattle.ocfl_inventory.specs.Table.{named_cmp, triple_cmp};
-ghost use Rattle.ocfl_inventory.specs.TripleOrder.{triple_total};
+ghost use Rattle.ocfl_inventory.specs.Internal.TripleOrder.{triple_total};
 ghost use Rattle.ocfl_inventory.specs.TripleView.{named_view};
-ghost use Rattle.ocfl_inventory.specs.SharedFront.{behind};
+ghost use Rattle.ocfl_inventory.specs.Internal.SharedFront.{behind};
 
 use ocfl_digest::Algorithm;
 use ocfl_tree::{Place, cmp_elements};

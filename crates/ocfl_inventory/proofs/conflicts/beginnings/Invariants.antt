@@ -1,6 +1,6 @@
 use Rattle.std.proofs.Common.{◌≡◌, ◌++◌, ◌-◌, map, drop}
 use Rattle.ocfl_tree.specs.Place.{begins}
-use Rattle.ocfl_inventory.specs.Beside.{hits}
+use Rattle.ocfl_inventory.specs.Internal.Beside.{hits}
 use Rattle.ocfl_inventory.proofs.conflicts.beginnings.Given as goal
 
 abbrev pub invariant-loop-i : goal.invariant-loop-i

@@ -1,6 +1,6 @@
 use Rattle.std.proofs.Common.{map, filter, string_bytes}
-use Rattle.ocfl_inventory.specs.Gathered.{is_bad, key_triples}
-use Rattle.ocfl_inventory.specs.Parts.{listing_view}
+use Rattle.ocfl_inventory.specs.Internal.Gathered.{is_bad, key_triples}
+use Rattle.ocfl_inventory.specs.Internal.Parts.{listing_view}
 use Rattle.ocfl_inventory.proofs.Gatherings.{joined_push}
 use Rattle.ocfl_inventory.proofs.gather.gather_block.Goals as goal
 

@@ -1,7 +1,7 @@
 use Rattle.std.proofs.Common.{◌≡◌, ◌++◌, map, string_bytes}
 use Rattle.ocfl_inventory.specs.Table.{triples_of}
-use Rattle.ocfl_inventory.specs.Parts.{block_view}
-use Rattle.ocfl_inventory.specs.Gathered.{bad_texts}
+use Rattle.ocfl_inventory.specs.Internal.Parts.{block_view}
+use Rattle.ocfl_inventory.specs.Internal.Gathered.{bad_texts}
 use Rattle.ocfl_inventory.proofs.gather.gather_block.Given as goal
 
 abbrev pub invariant-loop-listing : goal.invariant-loop-listing

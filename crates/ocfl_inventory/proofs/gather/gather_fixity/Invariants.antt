@@ -1,8 +1,8 @@
 use Rattle.std.proofs.Common.{◌≡◌, ◌++◌, map, true, string_bytes}
 use Rattle.std.specs.Prelude.{flat_map}
 use Rattle.ocfl_inventory.specs.Table.{triples_of}
-use Rattle.ocfl_inventory.specs.Parts.{supported_view}
-use Rattle.ocfl_inventory.specs.Gathered.{bad_texts}
+use Rattle.ocfl_inventory.specs.Internal.Parts.{supported_view}
+use Rattle.ocfl_inventory.specs.Internal.Gathered.{bad_texts}
 use Rattle.ocfl_inventory.proofs.gather.gather_fixity.Given as goal
 
 abbrev pub invariant-loop-supported : goal.invariant-loop-supported

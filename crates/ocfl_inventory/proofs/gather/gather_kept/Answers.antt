@@ -1,6 +1,6 @@
 use Rattle.std.proofs.Common.{true, false}
 use Rattle.std.specs.Prelude.{flat_map}
-use Rattle.ocfl_inventory.specs.Parts.{block_view, supported_view}
+use Rattle.ocfl_inventory.specs.Internal.Parts.{block_view, supported_view}
 use Rattle.ocfl_inventory.specs.Table.{triples_of}
 use Rattle.ocfl_inventory.proofs.Inventories.{all_gathered}
 use Rattle.ocfl_inventory.proofs.gather.gather_kept.Goals as goal

@@ -1,7 +1,7 @@
 use Rattle.std.proofs.Common.{◌≡◌, [], ◌∷◌, ◌++◌, sym, ap, ◌∙◌, map, cond, true, false, string_bytes}
 use Rattle.std.proofs.lemmas.List.{append-nil, map_push}
 use Rattle.std.proofs.lemmas.Bool.{not-true, not-false}
-use Rattle.ocfl_inventory.specs.Gathered.{is_bad}
+use Rattle.ocfl_inventory.specs.Internal.Gathered.{is_bad}
 use Rattle.ocfl_inventory.proofs.gather.gather_text.Goals as goal
 
 pub returns-in_ok-push-in-Some-clause-bad : goal.returns-in_ok-push-in-Some-clause-bad

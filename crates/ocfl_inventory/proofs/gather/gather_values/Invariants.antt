@@ -1,6 +1,6 @@
 use Rattle.std.proofs.Common.{◌≡◌, ◌++◌, map, filter, string_bytes}
-use Rattle.ocfl_inventory.specs.Gathered.{is_bad, triples_in}
-use Rattle.ocfl_inventory.specs.Parts.{texts_among}
+use Rattle.ocfl_inventory.specs.Internal.Gathered.{is_bad, triples_in}
+use Rattle.ocfl_inventory.specs.Internal.Parts.{texts_among}
 use Rattle.ocfl_inventory.proofs.gather.gather_values.Given as goal
 
 abbrev pub invariant-loop-value : goal.invariant-loop-value

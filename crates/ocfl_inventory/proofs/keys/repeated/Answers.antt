@@ -1,6 +1,6 @@
 use Rattle.std.proofs.Common.{◌∙◌, ap}
 use Rattle.ocfl_tree.specs.Place.{text_eq}
-use Rattle.ocfl_inventory.specs.Beside.{hits}
+use Rattle.ocfl_inventory.specs.Internal.Beside.{hits}
 use Rattle.ocfl_inventory.proofs.TextOrder.{keys_repeated}
 use Rattle.ocfl_inventory.proofs.keys.repeated.Goals as goal
 

@@ -1,7 +1,7 @@
 use Rattle.std.proofs.Common.{◌≡◌, ◌++◌, map, drop, filter_map}
-use Rattle.ocfl_inventory.specs.Parts.{remark_view}
-use Rattle.ocfl_inventory.proofs.PathTexts.{fault_line}
+use Rattle.ocfl_inventory.specs.Internal.Parts.{remark_view}
+use Rattle.ocfl_inventory.specs.Notes.{fault_note}
 use Rattle.ocfl_inventory.proofs.notes.add_faults.Given as goal
 
 abbrev pub invariant-loop-text : goal.invariant-loop-text
-invariant-loop-text l = map remark_view l.out.items ++ filter_map (fault_line l.content) (map (λ t. t.now) (drop l.text-index l.text-items)) ≡ map remark_view l.initial.out.items ++ filter_map (fault_line l.content) (map (λ t. t.now) l.text-items)
+invariant-loop-text l = map remark_view l.out.items ++ filter_map (fault_note l.content) (map (λ t. t.now) (drop l.text-index l.text-items)) ≡ map remark_view l.initial.out.items ++ filter_map (fault_note l.content) (map (λ t. t.now) l.text-items)

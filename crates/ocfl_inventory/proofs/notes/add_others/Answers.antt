@@ -5,8 +5,8 @@ use Rattle.ocfl_tree.specs.Path.{slashed}
 use Rattle.ocfl_report.specs.Line.{Note, note}
 use Rattle.ocfl_report.specs.declared.code.Code.TheVariants.{E101}
 use Rattle.ocfl_inventory.specs.Notes.{fault_notes}
-use Rattle.ocfl_inventory.specs.Parts.{remark_view}
-use Rattle.ocfl_inventory.specs.declared.note.Remark.{Remark}
+use Rattle.ocfl_inventory.specs.Internal.Parts.{remark_view}
+use Rattle.ocfl_inventory.specs.declared.remark.Remark.{Remark}
 use Rattle.ocfl_inventory.proofs.Inventories.{others_joined}
 use Rattle.ocfl_inventory.proofs.notes.add_others.Goals as goal
 
@@ -14,9 +14,9 @@ pub returns : goal.returns
 returns c =
     let lines = λ (rs : List Remark). map remark_view rs in
     let faults = λ (ts : List (String Global)). fault_notes c.args.content.now (map string_bytes ts) in
-    subst (λ (ns : List Note). OnOk c.add_each.result (lines c.add_each.new.out.items ≡ ns))
-    (others_joined (lines c.args.lines.now.items) (lines c.add_faults.new.out.items) (lines c.add_faults-2.new.out.items) (lines c.add_places.new.out.items) _ _ _ _
+    subst (λ (ns : List Note). OnOk c.add_unsupported.result (lines c.add_unsupported.new.out.items ≡ ns))
+    (others_joined (lines c.args.lines.now.items) (lines c.add_faults.new.out.items) (lines c.add_faults-2.new.out.items) (lines c.add_conflicts.new.out.items) _ _ _ _
     (c.in_ok-add_faults.ensures ∙ ap (λ (ts : List (String Global)). lines c.args.lines.now.items ++ faults ts) c.deref.ensures.value)
     (c.in_ok-add_faults-2.ensures ∙ ap (λ (ts : List (String Global)). lines c.add_faults.new.out.items ++ faults ts) c.deref-2.ensures.value)
-    (c.in_ok-add_places.ensures ∙ ap (λ (ps : List Place). lines c.add_faults-2.new.out.items ++ map (λ p. note E101 (slashed p)) ps) c.deref-3.ensures.value))
-    c.add_each.ensures
+    (c.in_ok-add_conflicts.ensures ∙ ap (λ (ps : List Place). lines c.add_faults-2.new.out.items ++ map (λ p. note E101 (slashed p)) ps) c.deref-3.ensures.value))
+    c.add_unsupported.ensures

@@ -5,8 +5,8 @@ use Rattle.std.proofs.lemmas.Fn.{always_returns_same}
 use Rattle.std.proofs.lemmas.List.MinMax.{ranks_by}
 use Rattle.std.proofs.lemmas.List.Sorted.{All-permutation, IsPermutation-trans}
 use Rattle.ocfl_inventory.specs.Table.{Triple, triple_cmp}
-use Rattle.ocfl_inventory.specs.TripleOrder.{triple_total}
-use Rattle.ocfl_inventory.specs.SharedFront.{IsBelow, behind}
+use Rattle.ocfl_inventory.specs.Internal.TripleOrder.{triple_total}
+use Rattle.ocfl_inventory.specs.Internal.SharedFront.{IsBelow, behind}
 use Rattle.ocfl_inventory.proofs.SharedFronts.{sorted_behind}
 use Rattle.ocfl_inventory.proofs.sorting.sort.Goals as goal
 

@@ -1,9 +1,8 @@
-use Rattle.std.proofs.Common.{◌≡◌, ap, subst, ◌∙◌, ◌++◌, List, map, string_bytes, IsPermutation}
+use Rattle.std.proofs.Common.{◌≡◌, subst, ◌∙◌, ◌++◌, map, string_bytes}
 use Rattle.ocfl_tree.specs.Place.{Text}
-use Rattle.ocfl_inventory.specs.Table.{Table, Triple}
-use Rattle.ocfl_inventory.specs.ListsOf.{AreListed, all_repeated, all_triples, other_notes}
-use Rattle.ocfl_inventory.specs.Parts.{block_view, inventory_view, remark_view, supported_view}
-use Rattle.ocfl_inventory.proofs.Inventories.{ascending_permuted, lines_of_listed}
+use Rattle.ocfl_inventory.specs.Internal.ListsOf.{AreListed, all_repeated, other_notes}
+use Rattle.ocfl_inventory.specs.Internal.Parts.{block_view, inventory_view, remark_view, supported_view}
+use Rattle.ocfl_inventory.proofs.Inventories.{lines_of_listed, table_gathered}
 use Rattle.ocfl_inventory.proofs.table.finish.Goals as goal
 
 pub returns-clause-lines : goal.returns-clause-lines
@@ -17,8 +16,4 @@ returns-clause-lines c =
     ∙ lines_of_listed i listed are
 
 pub returns-clause-table : goal.returns-clause-table
-returns-clause-table c =
-    let i = inventory_view c.args.inventory in
-    let with_triples : List Triple → Table = λ es. record { algorithm = i.algorithm; content = i.content; triples = es } in
-    let found : IsPermutation (all_triples i.content i.algorithm i.manifest i.fixity) c.in_ok-triples.triples.items = subst (λ (content : Text). IsPermutation (all_triples content i.algorithm i.manifest i.fixity) c.in_ok-triples.triples.items) c.as_str.ensures.value c.in_ok-triples.ensures.triples in
-    c.make_table.ensures.is ∙ ap with_triples (ascending_permuted (all_triples i.content i.algorithm i.manifest i.fixity) c.in_ok-triples.triples.items found)
+returns-clause-table c = table_gathered (inventory_view c.args.inventory) _ _ _ c.as_str.ensures.value c.in_ok-triples.ensures.triples c.make_table.ensures.is

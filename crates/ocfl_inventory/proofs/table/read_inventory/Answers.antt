@@ -1,5 +1,4 @@
-use Rattle.ocfl_inventory.specs.Reading.{algorithm_in, algorithm_of, inventory_of, object_of}
-use Rattle.ocfl_inventory.specs.Parts.{inventory_in}
+use Rattle.ocfl_inventory.specs.Reading.{algorithm_in, algorithm_of, inventory_of, object_of, inventory_in}
 use Rattle.ocfl_inventory.proofs.Stopped.{fails_then, stopped_algorithm, stopped_lines, stopped_table}
 use Rattle.ocfl_inventory.proofs.table.read_inventory.Goals as goal
 

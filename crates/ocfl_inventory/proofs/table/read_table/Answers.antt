@@ -1,7 +1,7 @@
 use Rattle.std.proofs.Common.{ap, ◌∙◌}
 use Rattle.serde_json.specs.Data.{Members}
-use Rattle.ocfl_inventory.specs.Reading.{Reading, ◌>>=◌}
-use Rattle.ocfl_inventory.specs.Parts.{inventory_in, inventory_view}
+use Rattle.ocfl_inventory.specs.Reading.{Reading, ◌>>=◌, inventory_in}
+use Rattle.ocfl_inventory.specs.Internal.Parts.{inventory_view}
 use Rattle.ocfl_inventory.proofs.table.read_table.Goals as goal
 
 pub returns-clause-reading : goal.returns-clause-reading

@@ -1,5 +1,5 @@
 use Rattle.serde_json.specs.View.{members_view}
-use Rattle.ocfl_inventory.specs.Parts.{inventory_in}
+use Rattle.ocfl_inventory.specs.Reading.{inventory_in}
 use Rattle.ocfl_inventory.proofs.Fits.{read_fits}
 use Rattle.ocfl_inventory.proofs.Stopped.{stopped_lines, stopped_table}
 use Rattle.ocfl_inventory.proofs.table.reading_of_members.Goals as goal

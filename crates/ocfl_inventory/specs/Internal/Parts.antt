@@ -1,5 +1,5 @@
 -- What the functions of the reading give, beside the definitions.
-use Rattle.std.specs.Prelude.{◌≡◌, List, [], ◌∷◌, ◌++◌, option_map, Option, Some, None, Result, Ok, Err, map, flat_map, codes, string_bytes}
+use Rattle.std.specs.Prelude.{◌≡◌, List, [], ◌∷◌, ◌++◌, option_map, Option, Some, None, Result, Ok, Err, map, flat_map, string_bytes}
 use Rattle.std.specs.Prelude.{String}
 use Rattle.std.specs.declared.alloc.Global.{Global}
 use Rattle.std.specs.BTreeMap.{BTreeMap}
@@ -8,21 +8,19 @@ use Rattle.serde_json.specs.View.{view, members_view}
 use Rattle.serde_json.specs.declared.value.Value.{Value}
 use Rattle.serde_json.specs.Data.{Data, Members, no_members}
 use Rattle.serde_json.specs.Find.{as_str, get_member}
-use Rattle.ocfl_tree.specs.Place.{Text, text_cmp, text_eq}
+use Rattle.ocfl_tree.specs.Place.{Text}
 use Rattle.ocfl_report.specs.Line.{Note, note}
-use Rattle.ocfl_digest.specs.Algorithm.{supported, algorithm_name}
-use Rattle.ocfl_inventory.specs.Reading.{Reading, ◌>>=◌, or_stop, Block, Inventory, algorithm_in, content_from, manifest_in, fixity_from, blocks_for, unsupported_in, block_of}
-use Rattle.ocfl_report.specs.declared.code.Code.TheVariants.{E041, E097, S03}
+use Rattle.ocfl_digest.specs.Algorithm.{algorithm_name}
+use Rattle.ocfl_inventory.specs.Reading.{Reading, Block, Inventory, block_of}
 use Rattle.ocfl_digest.specs.declared.algorithm.Algorithm.{Algorithm}
 use Rattle.ocfl_digest.specs.declared.algorithm.Algorithm.TheVariants.{Md5, Sha1, Sha256, Sha512, Sha512_256}
-use Rattle.ocfl_inventory.specs.Notes.{folded_keys, repeated}
-use Rattle.ocfl_inventory.specs.declared.note.Remark.{Remark}
-use Rattle.ocfl_inventory.specs.declared.note.Stop.{Stop}
-use Rattle.ocfl_inventory.specs.declared.note.Stop.TheVariants as stops
-use Rattle.ocfl_inventory.specs.declared.listing.Listing.{Listing}
-use Rattle.ocfl_inventory.specs.declared.reading.Supported.{Supported}
+use Rattle.ocfl_inventory.specs.declared.remark.Remark.{Remark}
+use Rattle.ocfl_inventory.specs.declared.remark.Stop.{Stop}
+use Rattle.ocfl_inventory.specs.declared.remark.Stop.TheVariants as stops
+use Rattle.ocfl_inventory.specs.declared.inventory.Listing.{Listing}
+use Rattle.ocfl_inventory.specs.declared.inventory.Supported.{Supported}
 use Rattle.ocfl_inventory.specs.declared.reading.Values.{Values}
-use Rattle.ocfl_inventory.specs.declared.reading.Inventory.{Inventory as MadeInventory}
+use Rattle.ocfl_inventory.specs.declared.inventory.Inventory.{Inventory as MadeInventory}
 
 abbrev pub remark_view : Remark → Note
 remark_view r = note r.code (string_bytes r.detail)
@@ -54,28 +52,6 @@ listing_view e = (string_bytes e.key, texts_among e.values.items)
 
 abbrev pub block_view : List Listing → Block
 block_view = map listing_view
-
--- behind the whole object
-abbrev pub inventory_in : Members → Reading Inventory
-inventory_in ms = do
-  a ← algorithm_in ms
-  c ← content_from (get_member (codes "contentDirectory") ms)
-  m ← manifest_in ms
-  fs ← fixity_from (get_member (codes "fixity") ms)
-  f ← or_stop (note S03 (codes "fixity")) (blocks_for fs supported)
-  Ok (record {
-    algorithm = a;
-    content = c;
-    manifest = m;
-    fixity = f;
-    unsupported = unsupported_in fs;
-  })
-
--- the manifest, of what stands at its key
-abbrev pub manifest_from : Option Data → Reading Block
-manifest_from o = do
-  d ← or_stop (note E041 (codes "manifest")) o
-  or_stop (note S03 (codes "manifest")) (block_of d)
 
 abbrev pub fixity_view : Option (BTreeMap (String Global) Value) → Members
 fixity_view None = no_members
@@ -109,11 +85,3 @@ inventory_view i = record {
   fixity = supported_view i.fixity.items;
   unsupported = map string_bytes i.unsupported.items;
 }
-
-abbrev pub IsLineOf : Stop → List Note → Type 0
-IsLineOf stops.Memory ns = ⊥
-IsLineOf (stops.Because r) ns = ns ≡ remark_view r ∷ []
-
--- the lines of the digests that are repeated in an algorithm's block
-abbrev pub repeated_notes : Algorithm × Block → List Note
-repeated_notes e = map (λ d. note E097 (algorithm_name e.0 ++ 32 ∷ d)) (repeated text_cmp text_eq (folded_keys e.1))

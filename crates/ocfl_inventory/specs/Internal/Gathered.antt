@@ -1,5 +1,5 @@
 -- Gathering the listed paths of a block: kept ones with their digest, bad ones as their texts.
-use Rattle.std.specs.Prelude.{List, Bool, nat_lt, length, map, filter, flat_map, is_some}
+use Rattle.std.specs.Prelude.{List, Bool, map, filter, flat_map, is_some}
 use Rattle.ocfl_tree.specs.Place.{Text}
 use Rattle.ocfl_digest.specs.declared.algorithm.Algorithm.{Algorithm}
 use Rattle.ocfl_inventory.specs.DigestText.{folded}
@@ -7,10 +7,7 @@ use Rattle.ocfl_inventory.specs.Reading.{Block}
 use Rattle.ocfl_tree.specs.Path.{elements}
 use Rattle.ocfl_inventory.specs.ListedPath.{is_kept, path_fault}
 use Rattle.ocfl_inventory.specs.Table.{Triple}
-
--- too long for a name
-abbrev pub is_long : Text → Bool
-is_long n = nat_lt 255 (length n)
+use Rattle.ocfl_inventory.specs.declared.gather.Source.{Source}
 
 abbrev pub is_bad : Text → Text → Bool
 is_bad content t = is_some (path_fault content t)
@@ -28,3 +25,10 @@ key_triples fixity content a e = triples_in fixity content a (folded e.0) e.1
 
 abbrev pub bad_texts : Text → Block → List Text
 bad_texts content b = flat_map (λ e. filter (is_bad content) e.1) b
+
+-- what texts give that a source lists beside a digest, kept and bad
+abbrev pub kept_from : Source → Text → List Text → List Triple
+kept_from source digest ts = triples_in source.fixity source.content.now source.algorithm digest ts
+
+abbrev pub bad_from : Source → List Text → List Text
+bad_from source ts = filter (is_bad source.content.now) ts

@@ -5,10 +5,10 @@ use Rattle.ocfl_report.specs.Line.{Note, Line, lines_at}
 use Rattle.ocfl_inventory.specs.Reading.{Reading, Inventory}
 use Rattle.ocfl_inventory.specs.Notes.{inventory_notes}
 use Rattle.ocfl_inventory.specs.Table.{Table, table_from}
-use Rattle.ocfl_inventory.specs.Parts.{Fails, remark_view}
-use Rattle.ocfl_inventory.specs.declared.note.Remark.{Remark}
-use Rattle.ocfl_inventory.specs.declared.note.Stop.{Stop}
-use Rattle.ocfl_inventory.specs.declared.note.Stop.TheVariants as stops
+use Rattle.ocfl_inventory.specs.Internal.Parts.{Fails, remark_view}
+use Rattle.ocfl_inventory.specs.declared.remark.Remark.{Remark}
+use Rattle.ocfl_inventory.specs.declared.remark.Stop.{Stop}
+use Rattle.ocfl_inventory.specs.declared.remark.Stop.TheVariants as stops
 
 -- the lines and the table of an inventory that does not stop, or what stops, unless memory ran out
 abbrev pub IsReading : Result (Vec Remark Global × Table) Stop → Reading Inventory → Type 0

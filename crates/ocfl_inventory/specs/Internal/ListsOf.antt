@@ -1,15 +1,14 @@
 -- What an inventory lists.
 use Rattle.std.specs.Prelude.{◌≡◌, List, ◌++◌, false, true, map, flat_map, string_bytes}
-use Rattle.ocfl_tree.specs.Place.{Text, text_cmp, text_eq}
+use Rattle.ocfl_tree.specs.Place.{Text}
 use Rattle.ocfl_tree.specs.Path.{slashed}
 use Rattle.ocfl_report.specs.Line.{Note, note}
 use Rattle.ocfl_report.specs.declared.code.Code.TheVariants.{E096, E101, S07}
 use Rattle.ocfl_digest.specs.declared.algorithm.Algorithm.{Algorithm}
 use Rattle.ocfl_inventory.specs.Reading.{Block}
-use Rattle.ocfl_inventory.specs.Notes.{kept_paths, conflicts, fault_notes, folded_keys, repeated}
-use Rattle.ocfl_inventory.specs.Parts.{repeated_notes}
+use Rattle.ocfl_inventory.specs.Notes.{kept_paths, conflicts, fault_notes, repeated_digests, repeated_notes}
 use Rattle.ocfl_inventory.specs.Table.{Triple, triples_of}
-use Rattle.ocfl_inventory.specs.Gathered.{bad_texts}
+use Rattle.ocfl_inventory.specs.Internal.Gathered.{bad_texts}
 use Rattle.ocfl_inventory.specs.declared.gather.Listed.{Listed}
 
 -- all triples of a manifest and of a fixity block, as often as they are listed
@@ -24,7 +23,7 @@ pub record AreListed (content : Text) (m : Block) (fs : List (Algorithm × Block
 
 -- the lines of the digests that several keys have
 abbrev pub all_repeated : Block → List (Algorithm × Block) → List Note
-all_repeated m fs = map (note E096) (repeated text_cmp text_eq (folded_keys m)) ++ flat_map repeated_notes fs
+all_repeated m fs = map (note E096) (repeated_digests m) ++ flat_map repeated_notes fs
 
 -- the other lines, of what was listed
 abbrev pub other_notes : Text → Listed → List Text → List Note

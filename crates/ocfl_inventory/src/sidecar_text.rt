@@ -1,10 +1,10 @@
 //! The text of a sidecar file.
 ghost use Rattle.std.specs.Prelude.{◌≡◌, option_map, length, ◌≤◌, ◌&&◌, drop, codes, nat_eq};
+ghost use Rattle.std.specs.Prelude.{IfSome, MatchOption, None};
 ghost use Rattle.std.specs.List.{list_all, starts_with};
 ghost use Rattle.ocfl_inventory.specs.Sidecar.{is_blank as is_blank_byte, is_tail as is_tail_byte};
 ghost use Rattle.ocfl_inventory.specs.Sidecar.{leading, is_after_digits as goes_on, sidecar_of_len};
-ghost use Rattle.ocfl_inventory.specs.Sidecar.{sidecar_of};
-ghost use Rattle.ocfl_inventory.specs.Sums.{sum_view};
+ghost use Rattle.ocfl_inventory.specs.Sidecar.{decoded, sidecar_of, sum_view};
 
 use hex::FromHex;
 use ocfl_digest::Algorithm;
@@ -90,21 +90,32 @@ fn is_after_digits(rest: &[u8]) -> bool
     is_name_and_tail(name)
 }
 
-/// The digest of a sidecar with 64 digits.
-fn short(bytes: &[u8]) -> Option<Sum>
-    ensures { option_map sum_view result ≡ sidecar_of_len 64 bytes.now }
+/// The digits of a sidecar that has so many, where all else of it is of the form.
+#[tactic(auto, using(crate::proofs::Sidecars::too_short))]
+fn digits(bytes: &[u8], count: usize) -> Option<&[u8]>
+    ensures value { MatchOption result (sidecar_of_len count bytes.now ≡ None)
+        (λ digits. sidecar_of_len count bytes.now ≡ decoded digits.now) }
+    ensures size { IfSome result (λ digits. length digits.now ≡ count) }
 {
     if bytes.len() > 4096 {
         return None;
     }
-    if bytes.len() < 64 {
+    if bytes.len() < count {
         return None;
     }
-    let (digits, rest) = bytes.split_at(64);
-    if !is_after_digits(rest) {
-        return None;
+    let (digits, rest) = bytes.split_at(count);
+    if is_after_digits(rest) {
+        Some(digits)
+    } else {
+        None
     }
-    match <[u8; 32] as FromHex>::from_hex(digits) {
+}
+
+/// The digest of a sidecar with 64 digits.
+fn short(bytes: &[u8]) -> Option<Sum>
+    ensures { option_map sum_view result ≡ sidecar_of_len 64 bytes.now }
+{
+    match <[u8; 32] as FromHex>::from_hex(digits(bytes, 64)?) {
         Ok(sum) => Some(Sum::Short(sum)),
         Err(_) => None,
     }
@@ -114,17 +125,7 @@ fn short(bytes: &[u8]) -> Option<Sum>
 fn long(bytes: &[u8]) -> Option<Sum>
     ensures { option_map sum_view result ≡ sidecar_of_len 128 bytes.now }
 {
-    if bytes.len() > 4096 {
-        return None;
-    }
-    if bytes.len() < 128 {
-        return None;
-    }
-    let (digits, rest) = bytes.split_at(128);
-    if !is_after_digits(rest) {
-        return None;
-    }
-    match <[u8; 64] as FromHex>::from_hex(digits) {
+    match <[u8; 64] as FromHex>::from_hex(digits(bytes, 128)?) {
         Ok(sum) => Some(Sum::Long(sum)),
         Err(_) => None,
     }

@@ -1,8 +1,0 @@
-use Rattle.std.proofs.Common.{◌≡◌, ◌++◌, map, take}
-use Rattle.ocfl_tree.specs.Path.{slashed}
-use Rattle.ocfl_report.specs.Line.{note}
-use Rattle.ocfl_inventory.specs.Parts.{remark_view}
-use Rattle.ocfl_inventory.proofs.notes.add_places.Given as goal
-
-abbrev pub invariant-loop-place : goal.invariant-loop-place
-invariant-loop-place l = map remark_view l.out.items ≡ map remark_view l.initial.out.items ++ map (λ p. note l.code (slashed p)) (take l.place-index l.places)

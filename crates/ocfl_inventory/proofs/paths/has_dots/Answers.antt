@@ -1,8 +1,0 @@
-use Rattle.std.proofs.Common.{lit<, tests, rules}
-use Rattle.std.proofs.lemmas.Iterator.Search.{any_from_yields_List}
-use Rattle.std.proofs.lemmas.Iterator.Splits.{YieldsList-from_str_split}
-use Rattle.ocfl_inventory.specs.ListedPath.{is_dots}
-use Rattle.ocfl_inventory.proofs.paths.has_dots.Goals as goal
-
-pub returns : goal.returns
-returns c = any_from_yields_List is_dots _ _ _ c.any.ensures.ran (YieldsList-from_str_split 47 c.args.text.now (lit< tt) c.split.ensures.text c.split.ensures.has_more c.split.ensures.pattern) (λ x b q k. search (rules, tests))

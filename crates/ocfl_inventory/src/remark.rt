@@ -1,0 +1,28 @@
+//! A line without its place, and why a reading stopped.
+ghost use Rattle.std.specs.Prelude.{◌≡◌};
+ghost use Rattle.ocfl_inventory.specs.declared.remark.Stop.TheVariants.{Memory};
+
+use ocfl_report::Code;
+use std::alloc::AllocError;
+
+/// The code and the detail of a line.
+#[derive(Debug, Drop)]
+pub struct Remark {
+    pub code: Code,
+    pub detail: String,
+}
+
+/// Why a reading stopped: for want of memory, or because of what its only line says.
+#[derive(Debug, Drop)]
+pub enum Stop {
+    Memory,
+    Because(Remark),
+}
+
+impl From<AllocError> for Stop {
+    ghost from_gives = { λ _ e. e ≡ Memory };
+
+    fn from(_e: AllocError) -> Stop {
+        Stop::Memory
+    }
+}

@@ -1,98 +1,78 @@
 //! What the head of an object opens, and how it stops.
-use crate::walk::{base, expect_item, place_of, put, put_dir};
+use crate::walk::{expect_item, failed_place};
+use ocfl_common_tests::object::bare_root;
+use ocfl_common_tests::tree::{change, opened_from, place_of};
 use ocfl_tree::{MemTree, Point};
-use ocfl_walk::{Fault, item_at};
 use std::alloc::Global;
 use std::test::Fail;
 
-const INVENTORY: &str = "{\"digestAlgorithm\":\"sha512\",\"manifest\":{\"aa\":[\"v1/content/f\"]}}";
+/// The files of the object `p/o`, all of them right, in the order in which they are opened.
+const FILES: [(&str, &str); 4] = [
+    ("p/o/0=ocfl_object_1.1", "ocfl_object_1.1\n"),
+    (
+        "p/o/inventory.json",
+        "{\"digestAlgorithm\":\"sha512\",\"manifest\":{\"aa\":[\"v1/content/f\"]}}",
+    ),
+    (
+        "p/o/inventory.json.sha256",
+        "b4b2743ac83bc8c579de7e33916bd0d9586135dbebc889f08e2bac5cf534a5f7 inventory.json\n",
+    ),
+    (
+        "p/o/inventory.json.sha512",
+        "0728e45a9884cccea6b3fd06aa5043c9ec985aa51811e8d589a71fb10cce16a80ccabd70a2b3bda8333d17ed8cc95569db2264cdb42a6518af620f0da1834af3 inventory.json\n",
+    ),
+];
 
-const SHORT: &str =
-    "b4b2743ac83bc8c579de7e33916bd0d9586135dbebc889f08e2bac5cf534a5f7 inventory.json\n";
-
-const LONG: &str =
-    "0728e45a9884cccea6b3fd06aa5043c9ec985aa51811e8d589a71fb10cce16a80ccabd70a2b3bda8333d17ed8cc95569db2264cdb42a6518af620f0da1834af3 inventory.json\n";
-
-/// A storage root with the object `p/o`, all of whose files are right.
+/// A storage root with that object.
 fn root(alloc: Global) -> Result<MemTree, Fail> {
-    let mut store = base(alloc)?;
-    put_dir(alloc, &mut store, "p")?;
-    put_dir(alloc, &mut store, "p/o")?;
-    for (name, text) in [
-        ("p/o/0=ocfl_object_1.1", "ocfl_object_1.1\n"),
-        ("p/o/inventory.json", INVENTORY),
-        ("p/o/inventory.json.sha256", SHORT),
-        ("p/o/inventory.json.sha512", LONG),
-    ] {
-        put(alloc, &mut store, name, text)?;
-    }
+    let mut store = bare_root(alloc)?;
+    change(alloc, &mut store, &FILES)?;
     Ok(store)
 }
 
 #[test]
 fn a_head_opens_its_files_in_order(rt: HostRuntime) -> Result<(), Fail> {
-    let alloc = rt.alloc();
-    let mut store = root(alloc)?;
+    let mut store = root(rt.alloc())?;
     expect_item(&rt, &mut store, "p/o", "ok|p/o|-\n", 0)?;
-    let openings = store.openings();
-    assert_eq!(rt; openings.len(), 4);
-    for (opening, want) in openings.iter().zip([
-        "p/o/0=ocfl_object_1.1",
-        "p/o/inventory.json",
-        "p/o/inventory.json.sha256",
-        "p/o/inventory.json.sha512",
-    ]) {
-        assert!(rt;
-            opening.place == place_of(alloc, want)? && !opening.failed,
-            "{want}"
-        );
-    }
+    let opened = opened_from(rt.alloc(), &store, 0, "")?;
+    let want =
+        "p/o/0=ocfl_object_1.1;p/o/inventory.json;p/o/inventory.json.sha256;p/o/inventory.json.sha512;";
+    assert_eq!(rt; opened.as_str(), want);
+    assert!(rt; store.openings().iter().all(|opening| !opening.failed));
     assert_eq!(rt; store.listings().len(), 3);
     Ok(())
 }
 
 #[test]
-fn without_an_inventory_no_sidecar_is_opened(rt: HostRuntime) -> Result<(), Fail> {
-    let alloc = rt.alloc();
-    let mut store = root(alloc)?;
-    store.remove(&place_of(alloc, "p/o/inventory.json")?)?;
-    expect_item(&rt, &mut store, "p/o", "E063|p/o|-\n", 0)?;
-    assert_eq!(rt; store.openings().len(), 1);
-    Ok(())
-}
-
-#[test]
-fn a_head_that_stops_at_its_declarations_opens_nothing(rt: HostRuntime) -> Result<(), Fail> {
-    let alloc = rt.alloc();
-    let mut store = root(alloc)?;
-    put(alloc, &mut store, "p/o/0=ocfl_object_1.0", "")?;
-    expect_item(&rt, &mut store, "p/o", "E003|p/o|-\n", 0)?;
-    store.remove(&place_of(alloc, "p/o/0=ocfl_object_1.1")?)?;
-    store.remove(&place_of(alloc, "p/o/0=ocfl_object_1.0")?)?;
-    put(alloc, &mut store, "p/o/0=ocfl_object_2", "")?;
-    expect_item(&rt, &mut store, "p/o", "S01|p/o|2\n", 0)?;
-    assert!(rt; store.openings().is_empty());
+fn a_head_that_stops_opens_no_more(rt: HostRuntime) -> Result<(), Fail> {
+    let older = ("p/o/0=ocfl_object_1.0", "");
+    let later = ("p/o/0=ocfl_object_2", "");
+    let rows: [(&[(&str, &str)], &str, usize); 3] = [
+        (&[("-p/o/inventory.json", "")], "E063|p/o|-\n", 1),
+        (&[older], "E003|p/o|-\n", 0),
+        (&[("-p/o/0=ocfl_object_1.1", ""), later], "S01|p/o|2\n", 0),
+    ];
+    for (changes, want, opened) in rows {
+        let mut store = root(rt.alloc())?;
+        change(rt.alloc(), &mut store, changes)?;
+        expect_item(&rt, &mut store, "p/o", want, 0)?;
+        assert_eq!(rt; store.openings().len(), opened, "{want}");
+    }
     Ok(())
 }
 
 #[test]
 fn a_file_of_the_head_that_fails_stops_it(rt: HostRuntime) -> Result<(), Fail> {
-    let alloc = rt.alloc();
-    for (name, count) in [
-        ("p/o/0=ocfl_object_1.1", 1),
-        ("p/o/inventory.json", 2),
-        ("p/o/inventory.json.sha256", 3),
-        ("p/o/inventory.json.sha512", 4),
-    ] {
-        let mut store = root(alloc)?;
-        store.fail_at(&place_of(alloc, name)?, Point::Read(1))?;
-        let answer = item_at(alloc, &mut store, &place_of(alloc, "p/o")?);
-        let Err(Fault::Store(failed)) = answer else {
-            return Err("no fault".into());
-        };
-        assert!(rt; failed == place_of(alloc, name)?, "{name}");
-        assert_eq!(rt; store.openings().len(), count);
-        assert_eq!(rt; store.failures(), 1);
+    for ((name, _), count) in FILES.iter().zip(1..5usize) {
+        let mut store = root(rt.alloc())?;
+        let file = place_of(rt.alloc(), name)?;
+        store.fail_at(&file, Point::Read(1))?;
+        assert!(rt;
+            failed_place(rt.alloc(), &mut store, "p/o")? == file,
+            "{name}"
+        );
+        assert_eq!(rt; store.openings().len(), count, "{name}");
+        assert_eq!(rt; store.failures(), 1, "{name}");
     }
     Ok(())
 }

@@ -1,120 +1,117 @@
 //! The lines of content places, and what they cost.
-use crate::walk::{A2, AM, N1, NM, base, expect_item, place_of, put, put_dir, put_o};
+use crate::walk::expect_item;
+use ocfl_common_tests::object::{FILE, listing, object_listing, object_without_files};
+use ocfl_common_tests::roots::unread_in_fixity_alone;
+use ocfl_common_tests::tree::{change, place_of, put_dir, times_opened};
 use ocfl_tree::{MemTree, Point};
 use std::alloc::Global;
 use std::test::Fail;
 
-const F: &str = "o/v1/content/f";
+const LISTS_F: &str = r#""ABC_SHA256":["v1/content/f"]"#;
 
-/// An object with this manifest and this fixity block.
-fn object(alloc: Global, manifest: &str, fixity: &str) -> Result<MemTree, Fail> {
-    let mut store = base(alloc)?;
-    put_o(alloc, &mut store, manifest, fixity)?;
+/// What lists `f` twice in the manifest, and in fixity.
+const LISTS_F_TWICE: &str = r#""ABC_SHA256":["v1/content/f"],"no digest":["v1/content/f"]"#;
+
+const SHA1_OF_F: &str = r#""sha1":{"NOTHING_SHA1":["v1/content/f"]}"#;
+
+/// An object with this manifest and this fixity block, and with these changes.
+fn object(
+    alloc: Global,
+    manifest: &str,
+    fixity: &str,
+    changes: &[(&str, &str)],
+) -> Result<MemTree, Fail> {
+    let mut store = object_without_files(alloc, listing(alloc, manifest, fixity)?.as_str())?;
+    change(alloc, &mut store, changes)?;
     Ok(store)
 }
 
-/// That object, with the content file `f` of this text.
-fn object_with(alloc: Global, manifest: &str, fixity: &str, text: &str) -> Result<MemTree, Fail> {
-    let mut store = object(alloc, manifest, fixity)?;
-    put(alloc, &mut store, F, text)?;
-    Ok(store)
-}
+/// A manifest, a fixity block, what is changed, the lines of `f`, their cost, and how often `f` is
+/// opened.
+type Judged = (
+    &'static str,
+    &'static str,
+    &'static [(&'static str, &'static str)],
+    &'static str,
+    u64,
+    usize,
+);
 
-/// The member that lists `f` under a digest.
-fn lists_f(alloc: Global, digest: &str) -> Result<String, Fail> {
-    Ok(format!(in alloc; "\"{digest}\":[\"v1/content/f\"]")?)
-}
-
-/// The fixity block of one algorithm that lists `f` under a digest.
-fn fixity_of(alloc: Global, algorithm: &str, digest: &str) -> Result<String, Fail> {
-    Ok(format!(in alloc; "\"{algorithm}\":{{\"{digest}\":[\"v1/content/f\"]}}")?)
-}
+const JUDGED: [Judged; 9] = [
+    (LISTS_F, "", &[(FILE, "abc")], "ok|o/v1/content/f|3\n", 4, 1),
+    (
+        LISTS_F,
+        r#""md5":{"NOTHING_MD5":["v1/content/f"]}"#,
+        &[(FILE, "abc")],
+        "E093|o/v1/content/f|md5 NOTHING_MD5 ABC_MD5\n",
+        4,
+        1,
+    ),
+    // the manifest does not name the file
+    ("", "", &[(FILE, "abc")], "E023|o/v1/content/f|-\n", 0, 0),
+    (
+        "",
+        r#""md5":{"ABC_MD5":["v1/content/f"]}"#,
+        &[(FILE, "abc")],
+        "E023|o/v1/content/f|-\n",
+        4,
+        1,
+    ),
+    // no file is there
+    (
+        LISTS_F_TWICE,
+        SHA1_OF_F,
+        &[],
+        "E092|o/v1/content/f|sha256 missing\nE093|o/v1/content/f|sha1 missing\n",
+        0,
+        0,
+    ),
+    (
+        LISTS_F_TWICE,
+        SHA1_OF_F,
+        &[("o/v1/content/f/", "")],
+        "E024|o/v1/content/f|-\nE092|o/v1/content/f|sha256 missing\nE093|o/v1/content/f|sha1 missing\n",
+        0,
+        0,
+    ),
+    (
+        LISTS_F_TWICE,
+        SHA1_OF_F,
+        &[("o/v1/content/f/g/", "")],
+        "E092|o/v1/content/f|sha256 missing\nE093|o/v1/content/f|sha1 missing\n",
+        0,
+        0,
+    ),
+    (
+        LISTS_F_TWICE,
+        SHA1_OF_F,
+        &[("o/v1/content/f@", "")],
+        "S04|o/v1/content/f|-\nE092|o/v1/content/f|sha256 missing\nE093|o/v1/content/f|sha1 missing\n",
+        0,
+        0,
+    ),
+    // a directory that holds something is no item
+    ("", "", &[("o/v1/content/f/g/", "")], "", 0, 0),
+];
 
 #[test]
-fn file_has_its_digests(rt: HostRuntime) -> Result<(), Fail> {
-    let alloc = rt.alloc();
-    let mut store = object_with(alloc, lists_f(alloc, A2)?.as_str(), "", "abc")?;
-    expect_item(&rt, &mut store, F, "ok|o/v1/content/f|3\n", 4)?;
-    let file = place_of(alloc, F)?;
-    let opened = store.openings().iter().filter(|it| it.place == file);
-    assert_eq!(rt; opened.count(), 1);
+fn lines_and_costs_of_a_content_place(rt: HostRuntime) -> Result<(), Fail> {
+    for (manifest, fixity, changes, want, cost, opened) in JUDGED {
+        let mut store = object(rt.alloc(), manifest, fixity, changes)?;
+        expect_item(&rt, &mut store, FILE, want, cost)?;
+        assert_eq!(rt; times_opened(rt.alloc(), &store, FILE)?, opened, "{want}");
+    }
     Ok(())
-}
-
-#[test]
-fn file_has_another_digest(rt: HostRuntime) -> Result<(), Fail> {
-    let alloc = rt.alloc();
-    let (manifest, fixity) = (lists_f(alloc, A2)?, fixity_of(alloc, "md5", NM)?);
-    let mut store = object_with(alloc, manifest.as_str(), fixity.as_str(), "abc")?;
-    let want = format!(in alloc; "E093|o/v1/content/f|md5 {NM} {AM}\n")?;
-    expect_item(&rt, &mut store, F, want.as_str(), 4)
-}
-
-#[test]
-fn manifest_does_not_name_the_file(rt: HostRuntime) -> Result<(), Fail> {
-    let alloc = rt.alloc();
-    let want = "E023|o/v1/content/f|-\n";
-    let mut store = object_with(alloc, "", "", "abc")?;
-    expect_item(&rt, &mut store, F, want, 0)?;
-    let file = place_of(alloc, F)?;
-    assert!(rt; store.openings().iter().all(|it| it.place != file));
-    let fixity = fixity_of(alloc, "md5", AM)?;
-    let mut store = object_with(alloc, "", fixity.as_str(), "abc")?;
-    expect_item(&rt, &mut store, F, want, 4)
-}
-
-/// An object that lists `f` twice in its manifest and once in its fixity block, without the file.
-fn object_without_its_file(alloc: Global) -> Result<MemTree, Fail> {
-    let manifest = format!(in alloc; "{},{}", lists_f(alloc, A2)?, lists_f(alloc, "no digest")?)?;
-    object(
-        alloc,
-        manifest.as_str(),
-        fixity_of(alloc, "sha1", N1)?.as_str(),
-    )
-}
-
-const MISSING: &str = "E092|o/v1/content/f|sha256 missing\nE093|o/v1/content/f|sha1 missing\n";
-
-#[test]
-fn file_is_missing(rt: HostRuntime) -> Result<(), Fail> {
-    let alloc = rt.alloc();
-    let mut store = object_without_its_file(alloc)?;
-    expect_item(&rt, &mut store, F, MISSING, 0)?;
-    put_dir(alloc, &mut store, F)?;
-    let empty = format!(in alloc; "E024|o/v1/content/f|-\n{MISSING}")?;
-    expect_item(&rt, &mut store, F, empty.as_str(), 0)?;
-    put_dir(alloc, &mut store, "o/v1/content/f/g")?;
-    expect_item(&rt, &mut store, F, MISSING, 0)?;
-    let mut store = object_without_its_file(alloc)?;
-    store.put_other(&place_of(alloc, F)?)?;
-    let other = format!(in alloc; "S04|o/v1/content/f|-\n{MISSING}")?;
-    expect_item(&rt, &mut store, F, other.as_str(), 0)
-}
-
-#[test]
-fn directory_that_holds_something_is_no_item(rt: HostRuntime) -> Result<(), Fail> {
-    let alloc = rt.alloc();
-    let mut store = object(alloc, "", "")?;
-    put_dir(alloc, &mut store, F)?;
-    put_dir(alloc, &mut store, "o/v1/content/f/g")?;
-    expect_item(&rt, &mut store, F, "", 0)
 }
 
 #[test]
 fn directory_that_lies_too_deep(rt: HostRuntime) -> Result<(), Fail> {
     let alloc = rt.alloc();
     // With `o/v1/content` before them, 125 names more are 128.
-    let mut path = format!(in alloc; "v1/content")?;
-    for _ in 0..125u64 {
-        path.push_str("/d")?;
-    }
-    let manifest = format!(in alloc; "\"{A2}\":[\"{path}\"]")?;
-    let mut store = object(alloc, manifest.as_str(), "")?;
-    let mut place = format!(in alloc; "o/v1/content")?;
-    for _ in 0..125u64 {
-        place.push_str("/d")?;
-        put_dir(alloc, &mut store, place.as_str())?;
-    }
+    let names = "/d".repeat(alloc, 125)?;
+    let mut store = object_listing(alloc, format!(in alloc; "\"v1/content{names}\"")?.as_str())?;
+    let place = format!(in alloc; "o/v1/content{names}")?;
+    put_dir(alloc, &mut store, place.as_str())?;
     let want = format!(in alloc; "S05|{place}|-\nE092|{place}|sha256 missing\n")?;
     expect_item(&rt, &mut store, place.as_str(), want.as_str(), 0)
 }
@@ -123,16 +120,13 @@ fn directory_that_lies_too_deep(rt: HostRuntime) -> Result<(), Fail> {
 fn file_cannot_be_read_on(rt: HostRuntime) -> Result<(), Fail> {
     let alloc = rt.alloc();
     let text = "x".repeat(alloc, 65_537)?;
-    let manifest = lists_f(alloc, A2)?;
-    let mut store = object_with(alloc, manifest.as_str(), "", text.as_str())?;
-    store.fail_at(&place_of(alloc, F)?, Point::Read(65_536))?;
-    expect_item(&rt, &mut store, F, "S08|o/v1/content/f|-\n", 65_537)?;
+    let mut store = object(alloc, LISTS_F, "", &[(FILE, text.as_str())])?;
+    store.fail_at(&place_of(alloc, FILE)?, Point::Read(65_536))?;
+    expect_item(&rt, &mut store, FILE, "S08|o/v1/content/f|-\n", 65_537)?;
     assert_eq!(rt; store.largest_read(), 65_536);
-    let fixity = fixity_of(alloc, "sha1", N1)?;
-    let mut store = object_with(alloc, "", fixity.as_str(), text.as_str())?;
-    store.fail_at(&place_of(alloc, F)?, Point::Open)?;
+    let mut store = unread_in_fixity_alone(alloc)?;
     let want = "E023|o/v1/content/f|-\nS08|o/v1/content/f|-\n";
-    expect_item(&rt, &mut store, F, want, 1)?;
+    expect_item(&rt, &mut store, FILE, want, 1)?;
     assert_eq!(rt; store.failures(), 1);
     Ok(())
 }

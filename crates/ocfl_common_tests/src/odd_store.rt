@@ -1,0 +1,76 @@
+//! Stores that answer oddly.
+ghost use Rattle.std.specs.Prelude.{false};
+ghost use Rattle.ocfl_tree.specs.MemTree.{empty_store};
+
+use ocfl_tree::{Entry, MemTree, Place, Tree, Trouble};
+
+/// How a store differs from the one in memory that stands behind it.
+#[derive(Drop)]
+pub enum Oddity {
+    /// It does not find what lies at this place, though it lists it.
+    Hides(Place),
+    /// Each directory but the root has the entries of this one.
+    Repeats(Place),
+    /// The file at this place goes on with the byte `x` and never ends.
+    NeverEnds(Place),
+}
+
+/// A store in memory that answers oddly.
+#[derive(Drop)]
+pub struct Odd {
+    pub inner: MemTree,
+    pub oddity: Oddity,
+}
+
+impl Odd {
+    /// Finds nothing at a place that is hidden, and then no file is open.
+    fn look(&mut self, place: &Place) -> Result<(), Trouble> {
+        match &self.oddity {
+            Oddity::Hides(hidden) if *place == *hidden => {
+                self.inner.close();
+                Err(Trouble::Absent)
+            }
+            _ => Ok(()),
+        }
+    }
+
+    /// Whether the file that was opened last never ends.
+    fn is_endless(&self) -> bool {
+        match (&self.oddity, self.inner.openings().last()) {
+            (Oddity::NeverEnds(file), Some(opening)) => opening.place == *file,
+            _ => false,
+        }
+    }
+}
+
+impl Tree for Odd {
+    ghost told = { false };
+
+    ghost state = { λ _. empty_store };
+
+    fn list(&mut self, place: &Place) -> Result<Vec<Entry>, Trouble> {
+        self.look(place)?;
+        match &self.oddity {
+            Oddity::Repeats(deep) if !place.path().is_empty() => self.inner.list(deep),
+            _ => self.inner.list(place),
+        }
+    }
+
+    fn open(&mut self, place: &Place) -> Result<(), Trouble> {
+        self.look(place)?;
+        self.inner.open(place)
+    }
+
+    fn read(&mut self, buffer: &mut [u8]) -> Result<usize, Trouble> {
+        let count = self.inner.read(buffer)?;
+        if count > 0 || !self.is_endless() {
+            return Ok(count);
+        }
+        buffer.fill(b'x');
+        Ok(buffer.len())
+    }
+
+    fn close(&mut self) {
+        self.inner.close();
+    }
+}

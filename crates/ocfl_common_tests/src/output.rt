@@ -1,0 +1,33 @@
+//! Writers that fail.
+use std::alloc::Global;
+use std::io::{self, ErrorKind, Write};
+
+/// Keeps so many bytes in all, and then fails.
+#[derive(Drop)]
+pub struct Narrow {
+    room: usize,
+    pub kept: Vec<u8>,
+}
+
+impl Narrow {
+    pub fn new(alloc: Global, room: usize) -> Narrow {
+        let kept = Vec::new(alloc);
+        Narrow { room, kept }
+    }
+}
+
+impl Write for Narrow {
+    fn write(&mut self, buffer: &[u8]) -> io::Result<usize> {
+        let count = buffer.len().min(self.room);
+        if count == 0 {
+            return Err(io::Error::from(ErrorKind::Other));
+        }
+        self.kept.extend_from_slice(&buffer[..count])?;
+        self.room -= count;
+        Ok(count)
+    }
+
+    fn flush(&mut self) -> io::Result<()> {
+        Ok(())
+    }
+}

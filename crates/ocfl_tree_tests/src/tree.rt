@@ -1,3 +1,4 @@
+use ocfl_common_tests::tree::place_of;
 use ocfl_tree::{Entry, Name, NameStop, Place, Tree, is_bytes, is_text};
 use std::alloc::Global;
 use std::process::Abort;
@@ -8,15 +9,6 @@ mod fake;
 mod folder;
 mod memory;
 mod way;
-
-/// The place of these names.
-fn place_of(alloc: Global, names: &[&str]) -> Result<Place, Fail> {
-    let mut place = Place::root(alloc);
-    for name in names {
-        place.push(Name::new(alloc, *name)?)?;
-    }
-    Ok(place)
-}
 
 /// The bytes of the file at a place, and the length of each read.
 fn whole<T: Tree>(
@@ -73,10 +65,7 @@ fn lists<T: Tree>(
 #[test]
 fn names_are_taken_and_refused(rt: HostRuntime) -> Result<(), Fail> {
     let alloc = rt.alloc();
-    let mut long = String::new(alloc);
-    for _ in 0..255 {
-        long.push('a')?;
-    }
+    let mut long = "a".repeat(alloc, 255)?;
     assert!(rt; Name::new(alloc, long.as_str())?.as_str() == long.as_str());
     long.push('a')?;
     for bad in [long.as_str(), "", ".", "..", "a/b", "/", "a\0"] {
@@ -93,11 +82,11 @@ fn names_are_taken_and_refused(rt: HostRuntime) -> Result<(), Fail> {
 fn places_are_in_order(rt: HostRuntime) -> Result<(), Fail> {
     let alloc = rt.alloc();
     let rising = [
-        place_of(alloc, &[])?,
-        place_of(alloc, &["a"])?,
-        place_of(alloc, &["a", "b"])?,
-        place_of(alloc, &["a-b"])?,
-        place_of(alloc, &["b"])?,
+        place_of(alloc, "")?,
+        place_of(alloc, "a")?,
+        place_of(alloc, "a/b")?,
+        place_of(alloc, "a-b")?,
+        place_of(alloc, "b")?,
     ];
     for (i, place) in rising.iter().enumerate() {
         for (j, later) in rising.iter().enumerate() {
@@ -146,7 +135,10 @@ fn paths_are_read_and_written(rt: HostRuntime) -> Result<(), Fail> {
         ("...", &["..."]),
     ];
     for (text, names) in &cases {
-        let place = place_of(alloc, *names)?;
+        let mut place = Place::root(alloc);
+        for name in *names {
+            place.push(Name::new(alloc, *name)?)?;
+        }
         assert_eq!(rt; place.path(), *text);
         assert_eq!(rt; place.depth(), names.len());
         let read = Place::from_path(String::from_str(alloc, *text)?).expect(&rt, "a path");
@@ -157,17 +149,14 @@ fn paths_are_read_and_written(rt: HostRuntime) -> Result<(), Fail> {
             assert_eq!(rt; name.as_str(), *want);
         }
     }
-    assert!(rt; Place::root(alloc) == place_of(alloc, &[])?);
+    assert!(rt; Place::root(alloc) == place_of(alloc, "")?);
     Ok(())
 }
 
 #[test]
 fn texts_that_are_no_paths_are_refused(rt: HostRuntime) -> Result<(), Fail> {
     let alloc = rt.alloc();
-    let mut long = String::new(alloc);
-    for _ in 0..255 {
-        long.push('a')?;
-    }
+    let mut long = "a".repeat(alloc, 255)?;
     assert!(rt; Place::from_path(long.clone()?).is_some());
     long.push('a')?;
     for bad in [
@@ -192,9 +181,9 @@ fn texts_that_are_no_paths_are_refused(rt: HostRuntime) -> Result<(), Fail> {
 fn places_begin_with_what_lies_above_them(rt: HostRuntime) -> Result<(), Fail> {
     let alloc = rt.alloc();
     let root = Place::root(alloc);
-    let a = place_of(alloc, &["a"])?;
-    let below = place_of(alloc, &["a", "b"])?;
-    let beside = place_of(alloc, &["ab"])?;
+    let a = place_of(alloc, "a")?;
+    let below = place_of(alloc, "a/b")?;
+    let beside = place_of(alloc, "ab")?;
     for place in [&root, &a, &below, &beside] {
         assert!(rt; place.starts_with(&root) && place.starts_with(place));
     }
@@ -206,15 +195,21 @@ fn places_begin_with_what_lies_above_them(rt: HostRuntime) -> Result<(), Fail> {
 #[test]
 fn places_are_joined_and_cut(rt: HostRuntime) -> Result<(), Fail> {
     let alloc = rt.alloc();
-    let names = ["v1", "content", "é", "a-b"];
-    let whole = place_of(alloc, &names)?;
-    for count in 0..6usize {
-        let front = whole.first(count)?;
-        let behind = whole.behind(count)?;
-        let cut = count.min(names.len());
-        assert!(rt; front == place_of(alloc, &names[..cut])?);
-        assert!(rt; behind == place_of(alloc, &names[cut..])?);
-        assert!(rt; front.join(&behind)? == whole);
+    let whole = place_of(alloc, "v1/content/é/a-b")?;
+    for (count, front, behind) in [
+        (0, "", "v1/content/é/a-b"),
+        (1, "v1", "content/é/a-b"),
+        (2, "v1/content", "é/a-b"),
+        (3, "v1/content/é", "a-b"),
+        (4, "v1/content/é/a-b", ""),
+        (5, "v1/content/é/a-b", ""),
+    ] {
+        assert!(rt; whole.first(count)? == place_of(alloc, front)?, "{front}");
+        assert!(rt; whole.behind(count)? == place_of(alloc, behind)?, "{front}");
+        assert!(rt;
+            whole.first(count)?.join(&whole.behind(count)?)? == whole,
+            "{front}"
+        );
     }
     let root = Place::root(alloc);
     let name = Name::new(alloc, "a")?;

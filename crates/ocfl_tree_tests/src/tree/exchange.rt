@@ -1,5 +1,5 @@
 //! Files that are exchanged between the look and the opening.
-use super::place_of;
+use ocfl_common_tests::tree::place_of;
 use ocfl_tree::{FsTree, Tree, Trouble};
 use std::alloc::{Allocator, Global};
 use std::fs::{self, Metadata, OpenOptions};
@@ -78,7 +78,7 @@ fn read<R: Files + AllocGlobal + Clone + Drop>(
     rt: R,
     top: &str,
 ) -> Result<Result<usize, Trouble>, Fail> {
-    let place = place_of(rt.alloc(), &["f"])?;
+    let place = place_of(rt.alloc(), "f")?;
     let mut store = FsTree::at(rt, top)?;
     if let Err(trouble) = store.open(&place) {
         return Ok(Err(trouble));

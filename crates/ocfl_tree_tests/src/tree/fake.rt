@@ -1,7 +1,7 @@
 //! A file system that fails where it is told to.
 ghost use Rattle.std.specs.Prelude.{IsErr};
 
-use super::place_of;
+use ocfl_common_tests::tree::place_of;
 use ocfl_tree::{FsTree, Place, Tree, Trouble};
 use std::alloc::{Allocator, Global};
 use std::cell::Cell;
@@ -234,7 +234,7 @@ fn listed<R: Files + AllocGlobal + Clone + Drop>(rt: R) -> Result<Result<usize, 
 
 /// What reading the whole of a file of 3 bytes answers.
 fn read<R: Files + AllocGlobal + Clone + Drop>(rt: R) -> Result<Result<usize, Trouble>, Fail> {
-    let place = place_of(rt.alloc(), &["f"])?;
+    let place = place_of(rt.alloc(), "f")?;
     let mut store = FsTree::at(rt, "top")?;
     if let Err(trouble) = store.open(&place) {
         return Ok(Err(trouble));
@@ -338,71 +338,34 @@ fn a_listing_that_fails_behind_its_names_is_no_listing(rt: HostRuntime) -> Resul
     Ok(())
 }
 
-/// How often the opening of a file looks at something.
-fn looks_to_open<T: Tree>(
-    store: &mut T,
-    looks: &Cell<u32>,
-    alloc: Global,
-    names: &[&str],
-) -> Result<u32, Fail> {
-    let place = place_of(alloc, names)?;
-    looks.set(0);
-    store.open(&place)?;
-    Ok(looks.get())
-}
-
-/// How often the listing of a directory looks at something.
-fn looks_to_list<T: Tree>(
-    store: &mut T,
-    looks: &Cell<u32>,
-    alloc: Global,
-    names: &[&str],
-) -> Result<u32, Fail> {
-    let place = place_of(alloc, names)?;
-    looks.set(0);
-    store.list(&place)?;
-    Ok(looks.get())
-}
-
-/// How often each listing, and then each opening, looks at something.
-fn looks_to<R: Files + AllocGlobal + Clone + Drop>(
-    rt: R,
-    looks: &Cell<u32>,
-    listed: &[&[&str]],
-    opened: &[&[&str]],
-) -> Result<Vec<u32>, Fail> {
-    let alloc = rt.alloc();
-    let mut store = FsTree::at(rt, "top")?;
-    let mut counts = Vec::new(alloc);
-    for names in listed {
-        counts.push(looks_to_list(&mut store, looks, alloc, names)?)?;
-    }
-    for names in opened {
-        counts.push(looks_to_open(&mut store, looks, alloc, names)?)?;
-    }
-    Ok(counts)
-}
+/// Files that are opened one after the other, and how often each opening looks at something.
+const OPENED: [(&str, u32); 8] = [
+    ("dir/a-dir/f", 1),
+    ("dir/f", 1),
+    ("f", 1),
+    ("dir/a-dir/g", 1),
+    // At another place all is looked at, and that is known from then on.
+    ("dir/dir/f", 4),
+    ("dir/dir/g", 1),
+    ("b-dir/f", 3),
+    ("b-dir/g", 1),
+];
 
 #[test]
 fn a_known_directory_is_not_looked_at(rt: HostRuntime) -> Result<(), Fail> {
-    let alloc = rt.alloc();
-    let files = Fake::new(alloc, b"a\0dir\0", Call::Name, ErrorKind::Other, 0)?;
+    let files = Fake::new(rt.alloc(), b"a\0dir\0", Call::Name, ErrorKind::Other, 0)?;
     let looks = files.looks.clone()?;
-    let listed: &[&[&str]] = &[&[], &["dir"], &["dir", "dir"], &["dir", "a-dir"]];
-    let opened: &[&[&str]] = &[
-        &["dir", "a-dir", "f"],
-        &["dir", "f"],
-        &["f"],
-        &["dir", "a-dir", "g"],
-        // At another place all is looked at, and that is known from then on.
-        &["dir", "dir", "f"],
-        &["dir", "dir", "g"],
-        &["b-dir", "f"],
-        &["b-dir", "g"],
-    ];
-    let counts = looks_to(files, &looks, listed, opened)?;
-    // A listing looks at the directory and at each of its two entries.
-    let want = [3, 3, 3, 3, 1, 1, 1, 1, 4, 1, 3, 1];
-    assert!(rt; counts.as_slice() == want.as_slice());
+    let mut store = FsTree::at(files, "top")?;
+    for path in ["", "dir", "dir/dir", "dir/a-dir"] {
+        looks.set(0);
+        store.list(&place_of(rt.alloc(), path)?)?;
+        // A listing looks at the directory and at each of its two entries.
+        assert_eq!(rt; looks.get(), 3, "{path}");
+    }
+    for (path, want) in OPENED {
+        looks.set(0);
+        store.open(&place_of(rt.alloc(), path)?)?;
+        assert_eq!(rt; looks.get(), want, "{path}");
+    }
     Ok(())
 }

@@ -1,4 +1,6 @@
-use super::{lists, place_of, whole};
+//! The tree in memory: what it holds, what its builders refuse, and its calls that fail.
+use super::{lists, whole};
+use ocfl_common_tests::tree::{change, place_of};
 use ocfl_tree::{BuildStop, MemTree, Place, Point, Tree, Trouble};
 use std::alloc::Global;
 use std::test::Fail;
@@ -6,81 +8,78 @@ use std::test::Fail;
 /// The files `a`, `d/b` and an empty `d/e`, a directory `d` and a link `l`.
 fn small(alloc: Global) -> Result<MemTree, Fail> {
     let mut store = MemTree::new(alloc);
-    store.put_file(
-        &place_of(alloc, &["a"])?,
-        vec![in alloc; b'1', b'2', b'3', b'4', b'5']?,
-    )?;
-    store.put_dir(&place_of(alloc, &["d"])?)?;
-    store.put_file(&place_of(alloc, &["d", "b"])?, vec![in alloc; b'b']?)?;
-    store.put_file(&place_of(alloc, &["d", "e"])?, Vec::new(alloc))?;
-    store.put_other(&place_of(alloc, &["l"])?)?;
+    let entries = [
+        ("a", "12345"),
+        ("d/", ""),
+        ("d/b", "b"),
+        ("d/e", ""),
+        ("l@", ""),
+    ];
+    change(alloc, &mut store, &entries)?;
     Ok(store)
 }
 
+/// How many bytes a read gives at most, a file, its text, and how many bytes its reads give.
+const READS: [(usize, &str, &str, &[usize]); 3] = [
+    (usize::MAX, "a", "12345", &[5, 0]),
+    (2, "a", "12345", &[2, 2, 1, 0]),
+    (2, "d/e", "", &[0]),
+];
+
 #[test]
-fn a_small_tree_is_listed_and_read(rt: HostRuntime) -> Result<(), Fail> {
-    let alloc = rt.alloc();
-    let mut store = small(alloc)?;
-    let root = Place::root(alloc);
-    lists(&rt, &mut store, &root, "a File;d Dir;l Other;")?;
-    lists(&rt, &mut store, &place_of(alloc, &["d"])?, "b File;e File;")?;
-    let a = place_of(alloc, &["a"])?;
-    assert_eq!(rt; store.list(&a).err(), Some(Trouble::Absent));
-    assert_eq!(rt;
-        store.list(&place_of(alloc, &["l"])?).err(),
-        Some(Trouble::Absent)
-    );
-    assert_eq!(rt;
-        store.open(&place_of(alloc, &["l"])?).err(),
-        Some(Trouble::Absent)
-    );
-    assert_eq!(rt; store.open(&root).err(), Some(Trouble::Absent));
-
-    let (bytes, lengths) = whole(alloc, &mut store, &a)?;
-    assert_eq!(rt; bytes.as_slice(), b"12345".as_slice());
-    assert_eq!(rt; lengths.as_slice(), [5, 0].as_slice());
-    store.step(2);
-    let (bytes, lengths) = whole(alloc, &mut store, &a)?;
-    assert_eq!(rt; bytes.as_slice(), b"12345".as_slice());
-    assert_eq!(rt; lengths.as_slice(), [2, 2, 1, 0].as_slice());
-    let (bytes, lengths) = whole(alloc, &mut store, &place_of(alloc, &["d", "e"])?)?;
-    assert!(rt; bytes.is_empty());
-    assert_eq!(rt; lengths.as_slice(), [0].as_slice());
-
-    assert_eq!(rt; store.openings().len(), 3);
-    assert!(rt;
-        store.openings()[1].place == a
-            && store.openings()[1].given == 5
-            && !store.openings()[1].failed
-    );
-    assert_eq!(rt; store.listings().len(), 2);
+fn a_small_tree_is_read(rt: HostRuntime) -> Result<(), Fail> {
+    let mut store = small(rt.alloc())?;
+    for (step, path, text, counts) in READS {
+        store.step(step);
+        let (bytes, lengths) = whole(rt.alloc(), &mut store, &place_of(rt.alloc(), path)?)?;
+        assert_eq!(rt; bytes.as_slice(), text.as_bytes(), "{path}");
+        assert_eq!(rt; lengths.as_slice(), counts, "{path}");
+    }
+    let [_, second, _] = store.openings() else {
+        return Err("not three openings".into());
+    };
+    assert!(rt; second.place == place_of(rt.alloc(), "a")? && second.given == 5 && !second.failed);
     assert_eq!(rt; store.failures(), 0);
     assert_eq!(rt; store.largest_read(), 4096);
     Ok(())
 }
 
 #[test]
+fn a_small_tree_is_listed(rt: HostRuntime) -> Result<(), Fail> {
+    let mut store = small(rt.alloc())?;
+    for (path, want) in [("", "a File;d Dir;l Other;"), ("d", "b File;e File;")] {
+        lists(&rt, &mut store, &place_of(rt.alloc(), path)?, want)?;
+    }
+    for path in ["a", "l"] {
+        let listed = store.list(&place_of(rt.alloc(), path)?);
+        assert_eq!(rt; listed.err(), Some(Trouble::Absent), "{path}");
+    }
+    for path in ["l", ""] {
+        let opened = store.open(&place_of(rt.alloc(), path)?);
+        assert_eq!(rt; opened.err(), Some(Trouble::Absent), "{path}");
+    }
+    assert_eq!(rt; store.listings().len(), 2);
+    Ok(())
+}
+
+#[test]
 fn builders_refuse_and_remove(rt: HostRuntime) -> Result<(), Fail> {
     let alloc = rt.alloc();
+    let (root, d) = (Place::root(alloc), place_of(alloc, "d")?);
+    let orphan = place_of(alloc, "x/y")?;
     let mut store = small(alloc)?;
-    let root = Place::root(alloc);
-    let d = place_of(alloc, &["d"])?;
-    let below_file = place_of(alloc, &["a", "x"])?;
-    let orphan = place_of(alloc, &["x", "y"])?;
     assert_eq!(rt; store.put_dir(&root).err(), Some(BuildStop::Exists));
     assert_eq!(rt; store.put_other(&d).err(), Some(BuildStop::Exists));
-    assert_eq!(rt; store.put_dir(&below_file).err(), Some(BuildStop::NoParent));
-    assert_eq!(rt;
-        store.put_file(&orphan, Vec::new(alloc)).err(),
-        Some(BuildStop::NoParent)
-    );
+    let below_file = store.put_dir(&place_of(alloc, "a/x")?);
+    assert_eq!(rt; below_file.err(), Some(BuildStop::NoParent));
+    let without_parent = store.put_file(&orphan, Vec::new(alloc));
+    assert_eq!(rt; without_parent.err(), Some(BuildStop::NoParent));
     assert_eq!(rt; store.remove(&root).err(), Some(BuildStop::Absent));
     assert_eq!(rt; store.remove(&orphan).err(), Some(BuildStop::Absent));
 
-    store.open(&place_of(alloc, &["a"])?)?;
+    store.open(&place_of(alloc, "a")?)?;
     store.remove(&d)?;
-    let mut buffer = [0; 9];
-    assert_eq!(rt; store.read(&mut buffer), Err(Trouble::Absent));
+    assert_eq!(rt; store.read(&mut [0; 9]), Err(Trouble::Absent));
     lists(&rt, &mut store, &root, "a File;l Other;")?;
     store.put_dir(&d)?;
     lists(&rt, &mut store, &d, "")?;
@@ -90,20 +89,17 @@ fn builders_refuse_and_remove(rt: HostRuntime) -> Result<(), Fail> {
 
 #[test]
 fn the_planned_call_fails(rt: HostRuntime) -> Result<(), Fail> {
-    let alloc = rt.alloc();
-    let mut store = small(alloc)?;
-    let root = Place::root(alloc);
-    let a = place_of(alloc, &["a"])?;
-    let mut buffer = [0; 2];
+    let mut store = small(rt.alloc())?;
+    let (root, a) = (Place::root(rt.alloc()), place_of(rt.alloc(), "a")?);
     store.fail_call(9);
     store.fail_call(4);
     // Without an open file a read is not counted.
-    assert_eq!(rt; store.read(&mut buffer), Err(Trouble::Absent));
+    assert_eq!(rt; store.read(&mut [0; 2]), Err(Trouble::Absent));
     store.list(&root)?;
     store.open(&a)?;
-    assert_eq!(rt; store.read(&mut buffer), Ok(2));
-    assert_eq!(rt; store.read(&mut buffer), Err(Trouble::Device));
-    assert_eq!(rt; store.read(&mut buffer), Err(Trouble::Absent));
+    for want in [Ok(2), Err(Trouble::Device), Err(Trouble::Absent)] {
+        assert_eq!(rt; store.read(&mut [0; 2]), want);
+    }
     assert_eq!(rt; store.failures(), 1);
     assert_eq!(rt; store.openings().len(), 1);
     assert!(rt; store.openings()[0].given == 2 && store.openings()[0].failed);
@@ -122,26 +118,20 @@ fn the_planned_call_fails(rt: HostRuntime) -> Result<(), Fail> {
 
 #[test]
 fn calls_at_a_planned_place_fail(rt: HostRuntime) -> Result<(), Fail> {
-    let alloc = rt.alloc();
-    let mut store = small(alloc)?;
-    let root = Place::root(alloc);
-    let a = place_of(alloc, &["a"])?;
-    let b = place_of(alloc, &["d", "b"])?;
-    let mut buffer = [0; 2];
-    store.fail_at(&a, Point::Read(3))?;
-    store.fail_at(&b, Point::Open)?;
-    store.fail_at(&place_of(alloc, &["d"])?, Point::List)?;
+    let (a, b) = (place_of(rt.alloc(), "a")?, place_of(rt.alloc(), "d/b")?);
+    let (root, d) = (Place::root(rt.alloc()), place_of(rt.alloc(), "d")?);
+    let mut store = small(rt.alloc())?;
+    for (place, point) in [(&a, Point::Read(3)), (&b, Point::Open), (&d, Point::List)] {
+        store.fail_at(place, point)?;
+    }
     for _ in 0..2 {
         store.list(&root)?;
-        assert_eq!(rt;
-            store.list(&place_of(alloc, &["d"])?).err(),
-            Some(Trouble::Device)
-        );
+        assert_eq!(rt; store.list(&d).err(), Some(Trouble::Device));
         assert_eq!(rt; store.open(&b), Err(Trouble::Device));
         store.open(&a)?;
-        assert_eq!(rt; store.read(&mut buffer), Ok(2));
-        assert_eq!(rt; store.read(&mut buffer), Ok(2));
-        assert_eq!(rt; store.read(&mut buffer), Err(Trouble::Device));
+        for want in [Ok(2), Ok(2), Err(Trouble::Device)] {
+            assert_eq!(rt; store.read(&mut [0; 2]), want);
+        }
     }
     assert_eq!(rt; store.failures(), 6);
     Ok(())

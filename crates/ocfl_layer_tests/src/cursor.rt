@@ -1,3 +1,4 @@
+use ocfl_common_tests::tree::place_of;
 use ocfl_cursor::{
     Budget, Cursor, CursorStop, FileLimit, Limits, Meter, Refused, State, cursor_lines,
     cursor_reads_back, decode, encode, read_cursor, text_determines_the_cursor,
@@ -6,6 +7,7 @@ use ocfl_tree::{Name, Place};
 use sha2::{Digest, Sha256};
 use std::alloc::Global;
 use std::io::{self, ErrorKind, Read};
+use std::process::Abort;
 use std::test::Fail;
 
 /// A text of a cursor behind `o/v1/content/c`, before its digest line.
@@ -39,14 +41,6 @@ fn seal(alloc: Global, body: &[u8]) -> Result<Vec<u8>, Fail> {
     text.extend_from_slice(hex::encode(alloc, Sha256::digest(body))?.as_bytes())?;
     text.extend_from_slice(b"\n")?;
     Ok(text)
-}
-
-fn place_of(alloc: Global, names: &[&str]) -> Result<Place, Fail> {
-    let mut place = Place::root(alloc);
-    for name in names {
-        place.push(Name::new(alloc, *name)?)?;
-    }
-    Ok(place)
 }
 
 /// A place of so many names, each 255 bytes 0x01.
@@ -86,7 +80,7 @@ fn texts_have_their_lengths(rt: HostRuntime) -> Result<(), Fail> {
 #[test]
 fn writes_seven_lines(rt: HostRuntime) -> Result<(), Fail> {
     let alloc = rt.alloc();
-    let state = State::After(place_of(alloc, &["o", "v1", "content", "c"])?);
+    let state = State::After(place_of(alloc, "o/v1/content/c")?);
     let cursor = Cursor::from_parts(3, 2, 9, 3, state).ok_or("a cursor")?;
     let text = encode(alloc, &cursor)?;
     assert_eq!(rt; text.len(), 144);
@@ -102,7 +96,7 @@ fn reads_what_is_written(rt: HostRuntime) -> Result<(), Fail> {
     let cursor = decode(alloc, &whole_text(alloc)?)?;
     assert_eq!(rt; (cursor.cycle(), cursor.runs()), (3, 2));
     assert_eq!(rt; (cursor.spent(), cursor.files()), (9, 3));
-    let place = place_of(alloc, &["o", "v1", "content", "c"])?;
+    let place = place_of(alloc, "o/v1/content/c")?;
     assert_eq!(rt; cursor.into_state(), State::After(place));
     for state in [State::Start, State::After(Place::root(alloc)), State::Ended] {
         let cursor = Cursor::from_parts(u64::MAX, u64::MAX, 7, 7, state).ok_or("a cursor")?;
@@ -125,7 +119,7 @@ fn reads_version_one(rt: HostRuntime) -> Result<(), Fail> {
     assert_eq!(rt; (cursor.spent(), cursor.files()), (9, 0));
     let shown = "cycle 3\nruns 2\nspent 9\nfiles 0\nafter o/v1/content/c\n";
     assert_eq!(rt; cursor_lines(alloc, &cursor)?.as_slice(), shown.as_bytes());
-    let place = place_of(alloc, &["o", "v1", "content", "c"])?;
+    let place = place_of(alloc, "o/v1/content/c")?;
     assert_eq!(rt; cursor.into_state(), State::After(place));
     // As another version, it is not what its digest line seals.
     let body = OLD_BODY.replace(alloc, "cursor 1", "cursor 2")?;
@@ -154,42 +148,34 @@ fn reads_a_long_text_of_version_one(rt: HostRuntime) -> Result<(), Fail> {
     Ok(())
 }
 
-#[test]
-fn refuses_cut_texts(rt: HostRuntime) -> Result<(), Fail> {
-    let alloc = rt.alloc();
-    for whole in [whole_text(alloc)?, old_text(alloc)?] {
-        for kept in 0..whole.len() {
-            let want = match kept {
-                0..18 => Refused::NotCursor,
-                18 => Refused::Version,
-                _ => Refused::Damaged,
-            };
-            let part = &whole[..kept];
-            assert_eq!(rt; refusal_of(alloc, part), Some(want), "cut to {kept} bytes");
-        }
-    }
+/// The text is refused so where it is cut before this byte, and where this byte is changed.
+fn expect_damaged_at(
+    rt: &(impl Abort + AllocGlobal),
+    whole: &[u8],
+    place: usize,
+) -> Result<(), Fail> {
+    let (cut, changed) = match place {
+        0..18 => (Refused::NotCursor, Refused::NotCursor),
+        18 => (Refused::Version, Refused::Version),
+        // The line feed ends the version.
+        19 => (Refused::Damaged, Refused::Version),
+        _ => (Refused::Damaged, Refused::Damaged),
+    };
+    let got = refusal_of(rt.alloc(), &whole[..place]);
+    assert_eq!(rt; got, Some(cut), "cut to {place} bytes");
+    let mut other = whole.to_vec(rt.alloc())?;
+    // So that no version is made another one that is read.
+    *other.get_mut(place).ok_or("a byte of the text")? ^= 4;
+    let got = refusal_of(rt.alloc(), &other);
+    assert_eq!(rt; got, Some(changed), "byte {place} changed");
     Ok(())
 }
 
 #[test]
-fn refuses_changed_bytes(rt: HostRuntime) -> Result<(), Fail> {
-    let alloc = rt.alloc();
-    for whole in [whole_text(alloc)?, old_text(alloc)?] {
+fn refuses_texts_that_are_cut_or_changed(rt: HostRuntime) -> Result<(), Fail> {
+    for whole in [whole_text(rt.alloc())?, old_text(rt.alloc())?] {
         for place in 0..whole.len() {
-            let want = match place {
-                0..18 => Refused::NotCursor,
-                18 | 19 => Refused::Version,
-                _ => Refused::Damaged,
-            };
-            let mut changed = whole.clone()?;
-            let byte = changed.get_mut(place).ok_or("a byte of the text")?;
-            // So that no version is made another one that is read.
-            *byte ^= 4;
-            assert_eq!(rt;
-                refusal_of(alloc, &changed),
-                Some(want),
-                "byte {place} changed"
-            );
+            expect_damaged_at(&rt, whole.as_slice(), place)?;
         }
     }
     Ok(())
@@ -258,19 +244,6 @@ const CHANGES: [(&str, &str); 26] = [
     ("/content/c\n", "/content/c\r\n"),
 ];
 
-#[test]
-fn refuses_forms_of_no_cursor(rt: HostRuntime) -> Result<(), Fail> {
-    let alloc = rt.alloc();
-    for (from, to) in CHANGES {
-        for whole in [BODY, OLD_BODY] {
-            let body = whole.replace(alloc, from, to)?;
-            let refusal = refusal_of(alloc, &seal(alloc, body.as_bytes())?);
-            assert_eq!(rt; refusal, Some(Refused::Malformed), "{body:?}");
-        }
-    }
-    Ok(())
-}
-
 /// What is put for the line of the files, so that no cursor has it.
 const FILES_CHANGES: [(&str, &str); 8] = [
     ("files 3\n", ""),
@@ -286,22 +259,37 @@ const FILES_CHANGES: [(&str, &str); 8] = [
     ("cursor 2\n", "cursor 1\n"),
 ];
 
+/// What the body of a text is refused for, where this is put for that in it.
+fn refusal_with(alloc: Global, body: &str, change: (&str, &str)) -> Result<Option<Refused>, Fail> {
+    let (from, to) = change;
+    let body = body.replace(alloc, from, to)?;
+    Ok(refusal_of(alloc, &seal(alloc, body.as_bytes())?))
+}
+
 #[test]
-fn refuses_other_lines_of_files(rt: HostRuntime) -> Result<(), Fail> {
-    let alloc = rt.alloc();
-    for (from, to) in FILES_CHANGES {
-        let body = BODY.replace(alloc, from, to)?;
-        let refusal = refusal_of(alloc, &seal(alloc, body.as_bytes())?);
-        assert_eq!(rt; refusal, Some(Refused::Malformed), "{body:?}");
+fn refuses_forms_of_no_cursor(rt: HostRuntime) -> Result<(), Fail> {
+    let malformed = Some(Refused::Malformed);
+    for change in CHANGES {
+        for body in [BODY, OLD_BODY] {
+            assert_eq!(rt;
+                refusal_with(rt.alloc(), body, change)?,
+                malformed,
+                "{change:?}"
+            );
+        }
     }
-    // A text of version 1 has none, even of no files.
-    let none = OLD_BODY.replace(alloc, "spent 9\n", "spent 9\nfiles 0\n")?;
-    assert_eq!(rt;
-        refusal_of(alloc, &seal(alloc, none.as_bytes())?),
-        Some(Refused::Malformed)
-    );
-    let all = BODY.replace(alloc, "files 3\n", "files 9\n")?;
-    let cursor = decode(alloc, &seal(alloc, all.as_bytes())?)?;
+    for change in FILES_CHANGES {
+        assert_eq!(rt;
+            refusal_with(rt.alloc(), BODY, change)?,
+            malformed,
+            "{change:?}"
+        );
+    }
+    // A text of version 1 has no such line, even of no files.
+    let none = ("spent 9\n", "spent 9\nfiles 0\n");
+    assert_eq!(rt; refusal_with(rt.alloc(), OLD_BODY, none)?, malformed);
+    let all = BODY.replace(rt.alloc(), "files 3\n", "files 9\n")?;
+    let cursor = decode(rt.alloc(), &seal(rt.alloc(), all.as_bytes())?)?;
     assert_eq!(rt; cursor.files(), 9);
     Ok(())
 }
@@ -348,14 +336,14 @@ fn keeps_the_limits_of_a_cursor(rt: HostRuntime) -> Result<(), Fail> {
 
 #[test]
 fn moves_on(rt: HostRuntime) -> Result<(), Fail> {
-    let behind = State::After(place_of(rt.alloc(), &["a"])?);
+    let behind = State::After(place_of(rt.alloc(), "a")?);
     let one = Cursor::new().after_run(5, 2, behind).ok_or("a run")?;
     let two = one.after_run(4, 1, State::Ended).ok_or("a second run")?;
     assert_eq!(rt; (two.cycle(), two.runs()), (1, 2));
     assert_eq!(rt; (two.spent(), two.files()), (9, 3));
     assert_eq!(rt; two.state(), &State::Ended);
     let mut taken = one;
-    let behind = State::After(place_of(rt.alloc(), &["a"])?);
+    let behind = State::After(place_of(rt.alloc(), "a")?);
     assert_eq!(rt; taken.take_state(), behind);
     assert_eq!(rt; taken.state(), &State::Start);
     assert_eq!(rt; (taken.runs(), taken.spent(), taken.files()), (1, 5, 2));
@@ -395,16 +383,16 @@ fn meter_of(budget: u64, files: u64) -> Result<Meter, Fail> {
 }
 
 #[test]
-fn limits_have_their_ranges(rt: HostRuntime) -> Result<(), Fail> {
-    assert!(rt; Budget::new(0).is_none());
-    assert!(rt; Budget::new(1).is_some());
-    assert!(rt; Budget::new(4_611_686_018_427_387_904).is_some());
-    assert!(rt; Budget::new(4_611_686_018_427_387_905).is_none());
-    assert!(rt; FileLimit::new(0).is_none());
-    assert!(rt; FileLimit::new(1).is_some());
-    assert!(rt; FileLimit::new(4_611_686_018_427_387_904).is_some());
-    assert!(rt; FileLimit::new(4_611_686_018_427_387_905).is_none());
-    Ok(())
+fn limits_have_their_ranges(rt: HostRuntime) {
+    for (number, is_limit) in [
+        (0, false),
+        (1, true),
+        (4_611_686_018_427_387_904, true),
+        (4_611_686_018_427_387_905, false),
+    ] {
+        assert_eq!(rt; Budget::new(number).is_some(), is_limit, "{number}");
+        assert_eq!(rt; FileLimit::new(number).is_some(), is_limit, "{number}");
+    }
 }
 
 #[test]

@@ -1,8 +1,10 @@
+use ocfl_common_tests::digests::with_digests;
+use ocfl_common_tests::tree::place_of;
 use ocfl_digest::{
     Algorithm, Block, Bounded, Cause, Digests, ReadStop, Wanted, hash_bytes, hash_open,
     read_bounded,
 };
-use ocfl_tree::{FsTree, MemTree, Name, Place, Point, Tree, Trouble};
+use ocfl_tree::{FsTree, MemTree, Point, Tree, Trouble};
 use std::alloc::Global;
 use std::fs;
 use std::process::Abort;
@@ -16,22 +18,20 @@ const ALL: [Algorithm; 5] = [
     Algorithm::Sha512_256,
 ];
 
-/// The digests of the bytes `abc`.
 const OF_ABC: [&str; 5] = [
-    "900150983cd24fb0d6963f7d28e17f72",
-    "a9993e364706816aba3e25717850c26c9cd0d89d",
-    "ba7816bf8f01cfea414140de5dae2223b00361a396177a9cb410ff61f20015ad",
-    "ddaf35a193617abacc417349ae20413112e6fa4e89a97ea20a9eeee64b55d39a2192992a274fc1a836ba3c23a3feebbd454d4423643ce80e2a9ac94fa54ca49f",
-    "53048e2681941ef99b2e29b76b4c7dabe4c2d0c634fc6d46e0e2f13107e7af23",
+    "ABC_MD5",
+    "ABC_SHA1",
+    "ABC_SHA256",
+    "ABC_SHA512",
+    "ABC_SHA512/256",
 ];
 
-/// The digests of no bytes.
 const OF_NOTHING: [&str; 5] = [
-    "d41d8cd98f00b204e9800998ecf8427e",
-    "da39a3ee5e6b4b0d3255bfef95601890afd80709",
-    "e3b0c44298fc1c149afbf4c8996fb92427ae41e4649b934ca495991b7852b855",
-    "cf83e1357eefb8bdf1542850d66d8007d620e4050b5715dc83f4a921d36ce9ce47d0d13c5d85f2b0ff8318d2877eec2f63b931bd47417a81a538327af927da3e",
-    "c672b8d1ef56ed28ab87c3622c5114069bdd3ad7b8f9737498d0c01ecef0967a",
+    "NOTHING_MD5",
+    "NOTHING_SHA1",
+    "NOTHING_SHA256",
+    "NOTHING_SHA512",
+    "NOTHING_SHA512/256",
 ];
 
 /// The digests of the first 65,536 bytes of `rising`, as `openssl dgst` gives them.
@@ -69,12 +69,6 @@ fn rising(alloc: Global, count: u32) -> Result<Vec<u8>, Fail> {
     Ok(bytes)
 }
 
-fn place_of(alloc: Global, name: &str) -> Result<Place, Fail> {
-    let mut place = Place::root(alloc);
-    place.push(Name::new(alloc, name)?)?;
-    Ok(place)
-}
-
 /// A tree with the file `f` alone.
 fn tree_of(alloc: Global, bytes: Vec<u8>) -> Result<MemTree, Fail> {
     let mut store = MemTree::new(alloc);
@@ -94,7 +88,8 @@ fn text_of(alloc: Global, digest: Option<&[u8]>) -> Result<String, Fail> {
 fn are(rt: &(impl Abort + AllocGlobal), digests: &Digests, want: &[&str; 5]) -> Result<(), Fail> {
     for (algorithm, want) in ALL.iter().zip(want) {
         let text = text_of(rt.alloc(), digests.get(*algorithm))?;
-        assert_eq!(rt; text.as_str(), *want, "{algorithm:?}");
+        let want = with_digests(rt.alloc(), want)?;
+        assert_eq!(rt; text.as_str(), want.as_str(), "{algorithm:?}");
     }
     Ok(())
 }
@@ -148,96 +143,102 @@ fn bytes_are_hashed(rt: HostRuntime) -> Result<(), Fail> {
     are(&rt, &one, &["", "", OF_ABC[2], "", ""])
 }
 
-#[test]
-fn all_five_from_one_opening(rt: HostRuntime) -> Result<(), Fail> {
-    let alloc = rt.alloc();
+/// What hashing the file `f` from one opening gives.
+fn hashed<T: Tree>(
+    alloc: Global,
+    store: &mut T,
+    wanted: Wanted,
+) -> Result<Result<(Digests, u64), ReadStop>, Fail> {
     let place = place_of(alloc, "f")?;
-    let mut block = Block::new(alloc)?;
-    for (bytes, want) in [(b"abc".as_slice(), &OF_ABC), (b"", &OF_NOTHING)] {
-        let mut store = tree_of(alloc, Vec::from_slice(alloc, bytes)?)?;
-        let (digests, length) = hash_open(&mut store, &place, all(), &mut block)?;
-        are(&rt, &digests, want)?;
-        assert!(rt; length == bytes.len() as u64 && store.largest_read() == 65_536);
-        opened_once(&rt, &store, length, false)?;
-        let mut buffer = [0; 1];
-        assert!(rt; store.read(&mut buffer) == Err(Trouble::Absent));
-    }
+    Ok(hash_open(store, &place, wanted, &mut Block::new(alloc)?))
+}
+
+/// What reading the file `f` within a limit gives.
+fn read_within<T: Tree>(
+    alloc: Global,
+    store: &mut T,
+    limit: usize,
+) -> Result<Result<Bounded, Trouble>, Fail> {
+    let place = place_of(alloc, "f")?;
+    Ok(read_bounded(alloc, store, &place, limit))
+}
+
+/// Hashing a file of these bytes by all algorithms gives these digests, by one opening.
+fn expect_all(
+    rt: &(impl Abort + AllocGlobal),
+    bytes: Vec<u8>,
+    step: usize,
+    want: &[&str; 5],
+) -> Result<(), Fail> {
+    let count = bytes.len() as u64;
+    let mut store = tree_of(rt.alloc(), bytes)?;
+    store.step(step);
+    let (digests, length) = hashed(rt.alloc(), &mut store, all())??;
+    are(rt, &digests, want)?;
+    assert!(rt; length == count && store.largest_read() == 65_536);
+    opened_once(rt, &store, count, false)?;
+    assert!(rt; store.read(&mut [0; 1]) == Err(Trouble::Absent));
     Ok(())
 }
 
 #[test]
+fn all_five_from_one_opening(rt: HostRuntime) -> Result<(), Fail> {
+    expect_all(&rt, b"abc".to_vec(rt.alloc())?, usize::MAX, &OF_ABC)?;
+    expect_all(&rt, Vec::new(rt.alloc()), usize::MAX, &OF_NOTHING)?;
+    for step in [1, 7, 65_535, usize::MAX] {
+        let bytes = rising(rt.alloc(), 131_073)?;
+        expect_all(&rt, bytes, step, &OF_TWO_BLOCKS_AND_ONE)?;
+    }
+    expect_all(&rt, rising(rt.alloc(), 65_536)?, usize::MAX, &OF_ONE_BLOCK)
+}
+
+#[test]
 fn no_algorithm_gives_the_length_alone(rt: HostRuntime) -> Result<(), Fail> {
-    let alloc = rt.alloc();
-    let mut store = tree_of(alloc, vec![in alloc; b'a', b'b', b'c']?)?;
-    let mut block = Block::new(alloc)?;
-    let place = place_of(alloc, "f")?;
-    let (digests, length) = hash_open(&mut store, &place, Wanted::none(), &mut block)?;
+    let mut store = tree_of(rt.alloc(), b"abc".to_vec(rt.alloc())?)?;
+    let (digests, length) = hashed(rt.alloc(), &mut store, Wanted::none())??;
     are(&rt, &digests, &["", "", "", "", ""])?;
     assert!(rt; length == 3);
     opened_once(&rt, &store, 3, false)
 }
 
 #[test]
-fn reads_of_any_length_give_the_same(rt: HostRuntime) -> Result<(), Fail> {
-    let alloc = rt.alloc();
-    let place = place_of(alloc, "f")?;
-    let mut block = Block::new(alloc)?;
-    for step in [1, 7, 65_535, usize::MAX] {
-        let mut store = tree_of(alloc, rising(alloc, 131_073)?)?;
-        store.step(step);
-        let (digests, length) = hash_open(&mut store, &place, all(), &mut block)?;
-        are(&rt, &digests, &OF_TWO_BLOCKS_AND_ONE)?;
-        assert!(rt; length == 131_073 && store.largest_read() == 65_536);
-        opened_once(&rt, &store, 131_073, false)?;
-    }
-    let mut store = tree_of(alloc, rising(alloc, 65_536)?)?;
-    let (digests, length) = hash_open(&mut store, &place, all(), &mut block)?;
-    are(&rt, &digests, &OF_ONE_BLOCK)?;
-    assert!(rt; length == 65_536);
-    opened_once(&rt, &store, 65_536, false)
-}
-
-#[test]
 fn a_stop_says_what_was_given(rt: HostRuntime) -> Result<(), Fail> {
-    let alloc = rt.alloc();
-    let place = place_of(alloc, "f")?;
-    let mut block = Block::new(alloc)?;
     for (point, bytes) in [(Point::Read(65_536), 65_536), (Point::Open, 0)] {
-        let mut store = tree_of(alloc, rising(alloc, 65_537)?)?;
-        store.fail_at(&place, point)?;
-        let stop = hash_open(&mut store, &place, all(), &mut block).err();
+        let mut store = tree_of(rt.alloc(), rising(rt.alloc(), 65_537)?)?;
+        store.fail_at(&place_of(rt.alloc(), "f")?, point)?;
+        let stop = hashed(rt.alloc(), &mut store, all())?.err();
         let cause = Cause::Device;
         assert!(rt; stop == Some(ReadStop { bytes, cause }), "{stop:?}");
         opened_once(&rt, &store, bytes, true)?;
     }
-    let mut store = MemTree::new(alloc);
-    let stop = hash_open(&mut store, &place, all(), &mut block).err();
+    let mut store = MemTree::new(rt.alloc());
+    let stop = hashed(rt.alloc(), &mut store, all())?.err();
     let cause = Cause::Absent;
     assert!(rt; stop == Some(ReadStop { bytes: 0, cause }), "{stop:?}");
     assert!(rt; store.openings().is_empty() && store.failures() == 0);
     Ok(())
 }
 
+/// How many bytes a file has, within which limit it is read, and how many bytes it gives.
+const LIMITS: [(u32, usize, u64); 8] = [
+    (4, 4, 4),
+    (5, 4, 5),
+    (0, 0, 0),
+    (1, 0, 1),
+    (9, 4, 5),
+    (10_000, 10_000, 10_000),
+    (10_000, 9_999, 10_000),
+    (10_000, usize::MAX, 10_000),
+];
+
 #[test]
 fn a_file_is_read_within_a_limit(rt: HostRuntime) -> Result<(), Fail> {
-    let alloc = rt.alloc();
-    let place = place_of(alloc, "f")?;
-    for (count, limit, given) in [
-        (4, 4, 4),
-        (5, 4, 5),
-        (0, 0, 0),
-        (1, 0, 1),
-        (9, 4, 5),
-        (10_000, 10_000, 10_000),
-        (10_000, 9_999, 10_000),
-        (10_000, usize::MAX, 10_000),
-    ] {
-        let bytes = rising(alloc, count)?;
+    for (count, limit, given) in LIMITS {
+        let bytes = rising(rt.alloc(), count)?;
         for step in [1, 3_000, usize::MAX] {
-            let mut store = tree_of(alloc, rising(alloc, count)?)?;
+            let mut store = tree_of(rt.alloc(), rising(rt.alloc(), count)?)?;
             store.step(step);
-            let read = read_bounded(alloc, &mut store, &place, limit)?;
-            match read {
+            match read_within(rt.alloc(), &mut store, limit)?? {
                 Bounded::Whole(whole) => assert!(rt; whole == bytes && bytes.len() <= limit),
                 Bounded::Over => assert!(rt; limit < bytes.len()),
             }
@@ -250,39 +251,34 @@ fn a_file_is_read_within_a_limit(rt: HostRuntime) -> Result<(), Fail> {
 
 #[test]
 fn a_limited_read_tells_its_trouble(rt: HostRuntime) -> Result<(), Fail> {
-    let alloc = rt.alloc();
-    let place = place_of(alloc, "f")?;
+    let mut missing = MemTree::new(rt.alloc());
+    let read = read_within(rt.alloc(), &mut missing, 9_999)?;
+    assert!(rt; read == Err(Trouble::Absent));
+    assert!(rt; missing.openings().is_empty() && missing.failures() == 0);
     for (point, given) in [(Point::Read(3), 4_096), (Point::Open, 0)] {
-        let mut store = tree_of(alloc, rising(alloc, 5_000)?)?;
-        store.fail_at(&place, point)?;
-        let read = read_bounded(alloc, &mut store, &place, 9_999);
+        let mut store = tree_of(rt.alloc(), rising(rt.alloc(), 5_000)?)?;
+        store.fail_at(&place_of(rt.alloc(), "f")?, point)?;
+        let read = read_within(rt.alloc(), &mut store, 9_999)?;
         assert!(rt; read == Err(Trouble::Device));
         opened_once(&rt, &store, given, true)?;
     }
-    let mut store = MemTree::new(alloc);
-    let read = read_bounded(alloc, &mut store, &place, 9_999);
-    assert!(rt; read == Err(Trouble::Absent));
-    assert!(rt; store.openings().is_empty() && store.failures() == 0);
     Ok(())
 }
 
 #[test]
 fn a_file_of_a_folder_is_read(rt: HostRuntime) -> Result<(), Fail> {
-    let alloc = rt.alloc();
-    let bytes = rising(alloc, 131_073)?;
+    let bytes = rising(rt.alloc(), 131_073)?;
     if !fs::exists(&rt, "folder")? {
         fs::create_dir(&rt, "folder")?;
     }
     fs::write(&rt, "folder/f", bytes.as_slice())?;
-    let place = place_of(alloc, "f")?;
-    let mut block = Block::new(alloc)?;
     let mut store = FsTree::at(&rt, "folder")?;
-    let (digests, length) = hash_open(&mut store, &place, all(), &mut block)?;
+    let (digests, length) = hashed(rt.alloc(), &mut store, all())??;
     are(&rt, &digests, &OF_TWO_BLOCKS_AND_ONE)?;
     assert!(rt; length == 131_073);
-    let whole = read_bounded(alloc, &mut store, &place, 131_073)?;
+    let whole = read_within(rt.alloc(), &mut store, 131_073)??;
     assert!(rt; whole == Bounded::Whole(bytes));
-    let over = read_bounded(alloc, &mut store, &place, 131_072)?;
+    let over = read_within(rt.alloc(), &mut store, 131_072)??;
     assert!(rt; over == Bounded::Over);
     fs::remove_dir_all(&rt, "folder")?;
     Ok(())

@@ -1,3 +1,5 @@
+use ocfl_common_tests::digests::{ABC_SHA256, with_digests};
+use ocfl_common_tests::tree::place_of;
 use ocfl_digest::Algorithm;
 use ocfl_inventory::declaration::declaration;
 use ocfl_inventory::{
@@ -8,18 +10,6 @@ use ocfl_tree::{Entry, Kind, Name, Place};
 use std::alloc::Global;
 use std::process::Abort;
 use std::test::Fail;
-
-// the digests of `abc`
-const MD5: &str = "900150983cd24fb0d6963f7d28e17f72";
-
-const SHA1: &str = "a9993e364706816aba3e25717850c26c9cd0d89d";
-
-const SHA256: &str = "ba7816bf8f01cfea414140de5dae2223b00361a396177a9cb410ff61f20015ad";
-
-const CAPITALS: &str = "BA7816BF8F01CFEA414140DE5DAE2223B00361A396177A9CB410FF61F20015AD";
-
-const SHA512: &str =
-    "ddaf35a193617abacc417349ae20413112e6fa4e89a97ea20a9eeee64b55d39a2192992a274fc1a836ba3c23a3feebbd454d4423643ce80e2a9ac94fa54ca49f";
 
 /// The text of an inventory with a manifest and further members.
 fn inventory(alloc: Global, manifest: &str, further: &str) -> Result<String, Fail> {
@@ -54,25 +44,6 @@ fn goes_on(rt: &impl Abort, alloc: Global, bytes: &[u8], wanted: &str) -> Result
     Ok(())
 }
 
-#[test]
-fn bytes_that_are_no_inventory(rt: HostRuntime) -> Result<(), Fail> {
-    let alloc = rt.alloc();
-    let cases = [
-        "[]",
-        "abc",
-        "",
-        "{\"digestAlgorithm\":",
-        "{\"a\":1e999}",
-        "{\"a\":\"\\ud800\"}",
-        "{} {}",
-    ];
-    for text in cases {
-        stops(&rt, alloc, text.as_bytes(), "E033 -\n")?;
-    }
-    stops(&rt, alloc, b"{\"a\":\"\xFF\"}", "E033 -\n")?;
-    stops(&rt, alloc, b"{}", "E036 digestAlgorithm\n")
-}
-
 /// An inventory with so many arrays within one another.
 fn nested(alloc: Global, arrays: usize) -> Result<String, Fail> {
     let front = "[".repeat(alloc, arrays)?;
@@ -89,7 +60,17 @@ fn inventories_nest_to_127(rt: HostRuntime) -> Result<(), Fail> {
 }
 
 /// Inventories, each with the line that stops.
-const STOPS: [(&str, &str); 14] = [
+const STOPS: [(&str, &str); 22] = [
+    // what is no object in JSON
+    ("[]", "E033 -\n"),
+    ("abc", "E033 -\n"),
+    ("", "E033 -\n"),
+    ("{\"digestAlgorithm\":", "E033 -\n"),
+    ("{\"a\":1e999}", "E033 -\n"),
+    ("{\"a\":\"\\ud800\"}", "E033 -\n"),
+    ("{} {}", "E033 -\n"),
+    // keys that stop
+    ("{}", "E036 digestAlgorithm\n"),
     ("{\"digestAlgorithm\":\"SHA256\"}", "E025 SHA256\n"),
     ("{\"digestAlgorithm\":\"sha512/256\"}", "E025 sha512/256\n"),
     ("{\"digestAlgorithm\":7}", "S03 digestAlgorithm\n"),
@@ -137,12 +118,11 @@ const STOPS: [(&str, &str); 14] = [
 ];
 
 #[test]
-fn keys_that_stop(rt: HostRuntime) -> Result<(), Fail> {
-    let alloc = rt.alloc();
+fn inventories_that_stop(rt: HostRuntime) -> Result<(), Fail> {
     for (text, wanted) in STOPS {
-        stops(&rt, alloc, text.as_bytes(), wanted)?;
+        stops(&rt, rt.alloc(), text.as_bytes(), wanted)?;
     }
-    Ok(())
+    stops(&rt, rt.alloc(), b"{\"a\":\"\xFF\"}", "E033 -\n")
 }
 
 /// Manifests, each with what follows the manifest and the lines.
@@ -257,44 +237,34 @@ fn three_hundred(alloc: Global, front: &str, back: &str) -> Result<String, Fail>
 }
 
 #[test]
-fn three_hundred_members_of_an_inventory(rt: HostRuntime) -> Result<(), Fail> {
+fn three_hundred_members_algorithms_and_keys(rt: HostRuntime) -> Result<(), Fail> {
     let alloc = rt.alloc();
-    let members = three_hundred(alloc, "\"member", "\":0")?;
-    let further = format!(in alloc; ",{members}")?;
-    let text = inventory(alloc, "{}", further.as_str())?;
-    goes_on(&rt, alloc, text.as_bytes(), "")?;
-    assert!(rt; Table::read_alone(alloc, text.as_bytes())?.is_some());
-    Ok(())
-}
-
-#[test]
-fn three_hundred_algorithms_that_are_not_computed(rt: HostRuntime) -> Result<(), Fail> {
-    let alloc = rt.alloc();
+    let members = format!(in alloc; ",{}", three_hundred(alloc, "\"member", "\":0")?)?;
     let blocks = three_hundred(alloc, "\"x", "\":0")?;
-    let further = format!(in alloc; ",\"fixity\":{{{blocks}}}")?;
-    let text = inventory(alloc, "{}", further.as_str())?;
-    let mut wanted = String::new(alloc);
+    let fixity = format!(in alloc; ",\"fixity\":{{{blocks}}}")?;
+    let keys = format!(in alloc; "{{{}}}", three_hundred(alloc, "\"", "\":[]")?)?;
+    // No algorithm of that fixity block is computed.
+    let mut notes = String::new(alloc);
     for number in 100..400u64 {
-        wanted.push_str(format!(in alloc; "S07 x{number}\n")?.as_str())?;
+        notes.push_str(format!(in alloc; "S07 x{number}\n")?.as_str())?;
     }
-    goes_on(&rt, alloc, text.as_bytes(), wanted.as_str())?;
-    assert!(rt; Table::read_alone(alloc, text.as_bytes())?.is_some());
+    for (manifest, further, wanted) in [
+        ("{}", members.as_str(), ""),
+        ("{}", fixity.as_str(), notes.as_str()),
+        (keys.as_str(), "", ""),
+    ] {
+        let text = inventory(alloc, manifest, further)?;
+        goes_on(&rt, alloc, text.as_bytes(), wanted)?;
+        assert!(rt; Table::read_alone(alloc, text.as_bytes())?.is_some());
+    }
     Ok(())
-}
-
-fn place_of(alloc: Global, names: &[&str]) -> Result<Place, Fail> {
-    let mut place = Place::root(alloc);
-    for name in names {
-        place.push(Name::new(alloc, name)?)?;
-    }
-    Ok(place)
 }
 
 /// The digests that a table names for a path, each as `manifest` or `fixity`, the algorithm and the
 /// digest.
-fn named(alloc: Global, table: &Table, place: &Place) -> Result<String, Fail> {
+fn named(alloc: Global, table: &Table, path: &str) -> Result<String, Fail> {
     let mut text = String::new(alloc);
-    for named in &table.named(alloc, place)? {
+    for named in &table.named(alloc, &place_of(alloc, path)?)? {
         let block = if named.fixity { "fixity" } else { "manifest" };
         let one = format!(in alloc; "{block} {} {}\n", named.algorithm.name(), named.digest)?;
         text.push_str(one.as_str())?;
@@ -308,9 +278,8 @@ fn names_three_hundred(rt: &impl Abort, alloc: Global, table: Option<Table>) -> 
         return Err(Fail::new("no table"));
     };
     for number in 100..400u64 {
-        let name = format!(in alloc; "{number}")?;
-        let place = place_of(alloc, &["v1", "content", name.as_str()])?;
-        let found = named(alloc, &table, &place)?;
+        let path = format!(in alloc; "v1/content/{number}")?;
+        let found = named(alloc, &table, path.as_str())?;
         let wanted = format!(in alloc; "manifest sha256 a\nfixity md5 b{number}\n")?;
         assert_eq!(rt; found.as_str(), wanted.as_str());
     }
@@ -335,63 +304,62 @@ fn three_hundred_paths_and_three_hundred_digests(rt: HostRuntime) -> Result<(), 
     names_three_hundred(&rt, alloc, Table::read_alone(alloc, text.as_bytes())?)
 }
 
-#[test]
-fn three_hundred_keys_of_a_manifest(rt: HostRuntime) -> Result<(), Fail> {
-    let alloc = rt.alloc();
-    let keys = three_hundred(alloc, "\"", "\":[]")?;
-    let text = inventory(alloc, format!(in alloc; "{{{keys}}}")?.as_str(), "")?;
-    goes_on(&rt, alloc, text.as_bytes(), "")?;
-    assert!(rt; Table::read_alone(alloc, text.as_bytes())?.is_some());
-    Ok(())
+/// The table of an inventory, in which digests may be named.
+fn table_of(alloc: Global, text: &str) -> Result<Table, Fail> {
+    let (_, table) = Table::read(alloc, with_digests(alloc, text)?.as_bytes())?;
+    Ok(table.ok_or("no table")?)
 }
 
 #[test]
 fn digests_are_named_in_order(rt: HostRuntime) -> Result<(), Fail> {
-    let alloc = rt.alloc();
-    let manifest = format!(in alloc;
-        "{{\"{CAPITALS}\":[\"v1/content/f\"],\"b\":[\"v1/content/f\",\"v1/content/g\"],\"{SHA256}\":[\"v1/content/f\"]}}"
+    let manifest =
+        r#"{"ABC_CAPITALS":["v1/content/f"],"b":["v1/content/f","v1/content/g"],"ABC_SHA256":["v1/content/f"]}"#;
+    let fixity =
+        r#","fixity":{"sha512":{"ABC_SHA512":["v1/content/f"]},"sha1":{"ABC_SHA1":["v1/content/f"]},"md5":{"ABC_MD5":["v1/content/f"]},"x":0}"#;
+    let table = table_of(
+        rt.alloc(),
+        inventory(rt.alloc(), manifest, fixity)?.as_str(),
     )?;
-    let fixity = format!(in alloc;
-        ",\"fixity\":{{\"sha512\":{{\"{SHA512}\":[\"v1/content/f\"]}},\"sha1\":{{\"{SHA1}\":[\"v1/content/f\"]}},\"md5\":{{\"{MD5}\":[\"v1/content/f\"]}},\"x\":0}}"
-    )?;
-    let text = inventory(alloc, manifest.as_str(), fixity.as_str())?;
-    let (_, table) = Table::read(alloc, text.as_bytes())?;
-    let Some(table) = table else {
-        return Err(Fail::new("no table"));
-    };
     assert!(rt; table.algorithm() == Algorithm::Sha256);
     assert_eq!(rt; table.content_directory(), "content");
-    let wanted = format!(in alloc;
-        "manifest sha256 b\nmanifest sha256 {SHA256}\nfixity md5 {MD5}\nfixity sha1 {SHA1}\nfixity sha512 {SHA512}\n"
-    )?;
-    let found = named(alloc, &table, &place_of(alloc, &["v1", "content", "f"])?)?;
-    assert_eq!(rt; found.as_str(), wanted.as_str());
-    let found = named(alloc, &table, &place_of(alloc, &["v1", "content", "g"])?)?;
-    assert_eq!(rt; found.as_str(), "manifest sha256 b\n");
-    let found = named(alloc, &table, &place_of(alloc, &["v1", "content"])?)?;
-    assert_eq!(rt; found.as_str(), "");
+    for (path, wanted) in [
+        (
+            "v1/content/f",
+            "manifest sha256 b\nmanifest sha256 ABC_SHA256\nfixity md5 ABC_MD5\nfixity sha1 ABC_SHA1\nfixity sha512 ABC_SHA512\n",
+        ),
+        ("v1/content/g", "manifest sha256 b\n"),
+        ("v1/content", ""),
+    ] {
+        let found = named(rt.alloc(), &table, path)?;
+        assert_eq!(rt;
+            found.as_str(),
+            with_digests(rt.alloc(), wanted)?.as_str(),
+            "{path}"
+        );
+    }
     Ok(())
 }
 
+/// Paths, each with the next one that the table of `paths_follow_as_places` lists.
+const NEXT: [(Option<&str>, Option<&str>); 5] = [
+    (None, Some("v1/c/a/b")),
+    (Some("v1/c/a"), Some("v1/c/a/b")),
+    (Some("v1/c/a/b"), Some("v1/c/a-b")),
+    (Some("v1/c/a-b"), Some("v10/c/a")),
+    (Some("v10/c/a"), None),
+];
+
 #[test]
 fn paths_follow_as_places(rt: HostRuntime) -> Result<(), Fail> {
-    let alloc = rt.alloc();
     let text =
         "{\"digestAlgorithm\":\"sha512\",\"contentDirectory\":\"c\",\"manifest\":{\"b\":[\"v1/c/a-b\",\"v1/c/a/b\"],\"a\":[\"v1/c/a/b\",\"v10/c/a\"]}}";
-    let (_, table) = Table::read(alloc, text.as_bytes())?;
-    let Some(table) = table else {
-        return Err(Fail::new("no table"));
-    };
+    let table = table_of(rt.alloc(), text)?;
     assert_eq!(rt; table.content_directory(), "c");
-    let first = place_of(alloc, &["v1", "c", "a", "b"])?;
-    let second = place_of(alloc, &["v1", "c", "a-b"])?;
-    let third = place_of(alloc, &["v10", "c", "a"])?;
-    let before = place_of(alloc, &["v1", "c", "a"])?;
-    assert!(rt; table.next_after(None) == Some(&first));
-    assert!(rt; table.next_after(Some(&before)) == Some(&first));
-    assert!(rt; table.next_after(Some(&first)) == Some(&second));
-    assert!(rt; table.next_after(Some(&second)) == Some(&third));
-    assert!(rt; table.next_after(Some(&third)) == None);
+    for (after, wanted) in NEXT {
+        let place = place_of(rt.alloc(), after.unwrap_or(""))?;
+        let next = table.next_after(after.map(|_| &place));
+        assert!(rt; next.map(|place| place.path()) == wanted, "after {after:?}");
+    }
     Ok(())
 }
 
@@ -432,68 +400,61 @@ const SUM: [u8; 32] = [
     0xb0, 0x03, 0x61, 0xa3, 0x96, 0x17, 0x7a, 0x9c, 0xb4, 0x10, 0xff, 0x61, 0xf2, 0x00, 0x15, 0xad,
 ];
 
-#[test]
-fn sidecars_are_read(rt: HostRuntime) -> Result<(), Fail> {
-    let alloc = rt.alloc();
-    let rests = [
-        " inventory.json\n",
-        "  inventory.json",
-        "\t inventory.json \t\r\n\n",
-    ];
-    for rest in rests {
-        let small = format!(in alloc; "{SHA256}{rest}")?;
-        let capital = format!(in alloc; "{CAPITALS}{rest}")?;
-        let (Some(sum), Some(same)) = (
-            sidecar(small.as_bytes(), Algorithm::Sha256),
-            sidecar(capital.as_bytes(), Algorithm::Sha256),
-        ) else {
-            return Err(Fail::new("not of the form"));
-        };
-        assert_eq!(rt; sum.bytes(), SUM.as_slice());
-        assert_eq!(rt; same.bytes(), SUM.as_slice());
-    }
-    let text = format!(in alloc; "{SHA512} inventory.json\n")?;
-    let Some(sum) = sidecar(text.as_bytes(), Algorithm::Sha512) else {
-        return Err(Fail::new("not of the form"));
+/// The digest in a sidecar of this text, in which digests may be named.
+fn sum_of(alloc: Global, text: &str, algorithm: Algorithm) -> Result<Option<Vec<u8>>, Fail> {
+    let text = with_digests(alloc, text)?;
+    let sum = match sidecar(text.as_bytes(), algorithm) {
+        Some(sum) => Some(sum.bytes().to_vec(alloc)?),
+        None => None,
     };
-    assert_eq!(rt; sum.bytes().len(), 64);
-    Ok(())
+    Ok(sum)
 }
 
 #[test]
+fn sidecars_are_read(rt: HostRuntime) -> Result<(), Fail> {
+    for text in [
+        "ABC_SHA256 inventory.json\n",
+        "ABC_CAPITALS inventory.json\n",
+        "ABC_SHA256  inventory.json",
+        "ABC_CAPITALS  inventory.json",
+        "ABC_SHA256\t inventory.json \t\r\n\n",
+        "ABC_CAPITALS\t inventory.json \t\r\n\n",
+    ] {
+        let sum = sum_of(rt.alloc(), text, Algorithm::Sha256)?;
+        assert!(rt; sum.as_deref() == Some(SUM.as_slice()), "{text}");
+    }
+    let long = sum_of(rt.alloc(), "ABC_SHA512 inventory.json\n", Algorithm::Sha512)?;
+    assert_eq!(rt; long.ok_or("not of the form")?.len(), 64);
+    Ok(())
+}
+
+/// Texts that are no sidecars of these algorithms.
+const NO_SIDECARS: [(&str, Algorithm); 14] = [
+    ("ABC_SHA256 *inventory.json\n", Algorithm::Sha256),
+    ("ABC_SHA256inventory.json", Algorithm::Sha256),
+    ("ABC_SHA256 inventory.jso", Algorithm::Sha256),
+    ("ABC_SHA256 inventory.json x", Algorithm::Sha256),
+    ("ABC_SHA256 Inventory.json", Algorithm::Sha256),
+    ("ABC_SHA256a inventory.json", Algorithm::Sha256),
+    ("ABC_SHA256\n inventory.json", Algorithm::Sha256),
+    ("ABC_SHA256", Algorithm::Sha256),
+    (
+        "ba7816bf8f01cfea414140de5dae2223b00361a396177a9cb410ff61f20015a inventory.json\n",
+        Algorithm::Sha256,
+    ),
+    ("ABC_SHA256 inventory.json\n", Algorithm::Md5),
+    ("ABC_SHA256 inventory.json\n", Algorithm::Sha1),
+    ("ABC_SHA256 inventory.json\n", Algorithm::Sha512),
+    ("ABC_SHA256 inventory.json\n", Algorithm::Sha512_256),
+    ("ABC_SHA512 inventory.json\n", Algorithm::Sha256),
+];
+
+#[test]
 fn other_sidecars_are_refused(rt: HostRuntime) -> Result<(), Fail> {
-    let alloc = rt.alloc();
-    let rests = [
-        " *inventory.json\n",
-        "inventory.json",
-        " inventory.jso",
-        " inventory.json x",
-        " Inventory.json",
-        "a inventory.json",
-        "\n inventory.json",
-        "",
-    ];
-    for rest in rests {
-        let text = format!(in alloc; "{SHA256}{rest}")?;
-        assert!(rt;
-            sidecar(text.as_bytes(), Algorithm::Sha256).is_none(),
-            "{rest}"
-        );
+    for (text, algorithm) in NO_SIDECARS {
+        let sum = sum_of(rt.alloc(), text, algorithm)?;
+        assert!(rt; sum.is_none(), "{text}, {algorithm:?}");
     }
-    let text = format!(in alloc; "{} inventory.json\n", &SHA256[..63])?;
-    assert!(rt; sidecar(text.as_bytes(), Algorithm::Sha256).is_none());
-    let text = format!(in alloc; "{SHA256} inventory.json\n")?;
-    let others = [
-        Algorithm::Md5,
-        Algorithm::Sha1,
-        Algorithm::Sha512,
-        Algorithm::Sha512_256,
-    ];
-    for algorithm in others {
-        assert!(rt; sidecar(text.as_bytes(), algorithm).is_none());
-    }
-    let text = format!(in alloc; "{SHA512} inventory.json\n")?;
-    assert!(rt; sidecar(text.as_bytes(), Algorithm::Sha256).is_none());
     Ok(())
 }
 
@@ -502,7 +463,7 @@ fn sidecars_have_at_most_4096_bytes(rt: HostRuntime) -> Result<(), Fail> {
     let alloc = rt.alloc();
     for (blanks, is_taken) in [(4096 - 79, true), (4097 - 79, false)] {
         let end = " ".repeat(alloc, blanks)?;
-        let text = format!(in alloc; "{SHA256} inventory.json{end}")?;
+        let text = format!(in alloc; "{ABC_SHA256} inventory.json{end}")?;
         assert!(rt; sidecar(text.as_bytes(), Algorithm::Sha256).is_some() == is_taken);
     }
     Ok(())

@@ -245,23 +245,26 @@ fn answers_with_help(rt: HostRuntime) -> Result<(), Fail> {
         usage_text(alloc, "--version")?.as_str(),
         "ocfl-scrub 0.1.0\n"
     );
-    let help = usage_text(alloc, "--help")?;
-    for part in [
-        "\nUsage: ocfl-scrub <COMMAND>\n",
-        "\n  show   Writes what a cursor file says\n",
-        "\n  ocfl-scrub run --cursor root.cursor ",
-        "\n  3  stopped, worn or the cursor file failed\n  4  cursor refused\n",
+    for (line, part) in [
+        ("--help", "\nUsage: ocfl-scrub <COMMAND>\n"),
+        ("--help", "\n  show   Writes what a cursor file says\n"),
+        ("--help", "\n  ocfl-scrub run --cursor root.cursor "),
+        (
+            "--help",
+            "\n  3  stopped, worn or the cursor file failed\n  4  cursor refused\n",
+        ),
+        (
+            "cycle --help",
+            "\nUsage: ocfl-scrub cycle [OPTIONS] --budget <N> --runs <COUNT> <ROOT>\n",
+        ),
+        ("cycle --help", "one suffix K, M, G or T (powers of 1024)\n"),
+        (
+            "cycle --help",
+            "1 to 4611686018427387904 [default: 4611686018427387904]\n",
+        ),
+        ("cycle --help", "The most runs: 1 to 100000\n"),
     ] {
-        assert!(rt; help.contains(part), "{part}");
-    }
-    let help = usage_text(alloc, "cycle --help")?;
-    for part in [
-        "\nUsage: ocfl-scrub cycle [OPTIONS] --budget <N> --runs <COUNT> <ROOT>\n",
-        "one suffix K, M, G or T (powers of 1024)\n",
-        "1 to 4611686018427387904 [default: 4611686018427387904]\n",
-        "The most runs: 1 to 100000\n",
-    ] {
-        assert!(rt; help.contains(part), "{part}");
+        assert!(rt; usage_text(alloc, line)?.contains(part), "{part}");
     }
     Ok(())
 }

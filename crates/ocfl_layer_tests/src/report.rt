@@ -1,5 +1,6 @@
+use ocfl_common_tests::tree::place_of;
 use ocfl_report::{Code, Line, OutStop, PlaceStop, put_place, read_place, write_all_of};
-use ocfl_tree::{Name, Place};
+use ocfl_tree::Place;
 use std::alloc::Global;
 use std::io::{self, ErrorKind, Write};
 use std::process::Abort;
@@ -96,18 +97,10 @@ const CODES: [Code; 37] = [
     Code::S08,
 ];
 
-fn place_of(alloc: Global, names: &[&str]) -> Result<Place, Fail> {
-    let mut place = Place::root(alloc);
-    for name in names {
-        place.push(Name::new(alloc, name)?)?;
-    }
-    Ok(place)
-}
-
-fn line_text(alloc: Global, code: Code, names: &[&str], detail: &str) -> Result<Vec<u8>, Fail> {
+fn line_text(alloc: Global, code: Code, path: &str, detail: &str) -> Result<Vec<u8>, Fail> {
     let line = Line {
         code,
-        place: place_of(alloc, names)?,
+        place: place_of(alloc, path)?,
         detail: String::from_str(alloc, detail)?,
     };
     let mut text = Vec::new(alloc);
@@ -115,8 +108,8 @@ fn line_text(alloc: Global, code: Code, names: &[&str], detail: &str) -> Result<
     Ok(text)
 }
 
-fn is_text_of(rt: &impl Abort, alloc: Global, text: &str, names: &[&str]) -> Result<(), Fail> {
-    let place = place_of(alloc, names)?;
+fn is_text_of(rt: &impl Abort, alloc: Global, text: &str, path: &str) -> Result<(), Fail> {
+    let place = place_of(alloc, path)?;
     assert_eq!(rt;
         read_place(alloc, text.as_bytes())?,
         place,
@@ -136,14 +129,19 @@ fn is_text_of(rt: &impl Abort, alloc: Global, text: &str, names: &[&str]) -> Res
 #[test]
 fn places_are_read(rt: HostRuntime) -> Result<(), Fail> {
     let alloc = rt.alloc();
-    is_text_of(&rt, alloc, ".", &[])?;
-    is_text_of(&rt, alloc, "a%25/b", &["a%", "b"])?;
-    is_text_of(&rt, alloc, "a/b-c/d e", &["a", "b-c", "d e"])?;
-    is_text_of(&rt, alloc, "...", &["..."])?;
-    is_text_of(&rt, alloc, "%C3%A9%09%25 %7F", &["é\t% \u{7F}"])?;
     let longest = "\u{1}".repeat(alloc, 255)?;
     let escaped = "%01".repeat(alloc, 255)?;
-    is_text_of(&rt, alloc, escaped.as_str(), &[longest.as_str()])
+    for (text, path) in [
+        (".", ""),
+        ("a%25/b", "a%/b"),
+        ("a/b-c/d e", "a/b-c/d e"),
+        ("...", "..."),
+        ("%C3%A9%09%25 %7F", "é\t% \u{7F}"),
+        (escaped.as_str(), longest.as_str()),
+    ] {
+        is_text_of(&rt, alloc, text, path)?;
+    }
+    Ok(())
 }
 
 #[test]
@@ -170,19 +168,24 @@ fn other_texts_are_bad(rt: HostRuntime) -> Result<(), Fail> {
 
 #[test]
 fn lines_are_escaped(rt: HostRuntime) -> Result<(), Fail> {
-    let alloc = rt.alloc();
-    let text = line_text(alloc, Code::E023, &["o", "v1", "content", "é\t% "], "-")?;
-    assert_eq!(rt;
-        text.as_slice(),
-        b"E023\to/v1/content/%C3%A9%09%25 \t-\n".as_slice()
-    );
-    let text = line_text(alloc, Code::E099, &["o"], "a\tb\nc\u{7F}é% d/")?;
-    assert_eq!(rt;
-        text.as_slice(),
-        b"E099\to\ta%09b%0Ac%7F%C3%A9%25 d/\n".as_slice()
-    );
-    let text = line_text(alloc, Code::Clean, &[], "-")?;
-    assert_eq!(rt; text.as_slice(), b"ok\t.\t-\n".as_slice());
+    for (code, path, detail, want) in [
+        (
+            Code::E023,
+            "o/v1/content/é\t% ",
+            "-",
+            "E023\to/v1/content/%C3%A9%09%25 \t-\n",
+        ),
+        (
+            Code::E099,
+            "o",
+            "a\tb\nc\u{7F}é% d/",
+            "E099\to\ta%09b%0Ac%7F%C3%A9%25 d/\n",
+        ),
+        (Code::Clean, "", "-", "ok\t.\t-\n"),
+    ] {
+        let text = line_text(rt.alloc(), code, path, detail)?;
+        assert_eq!(rt; text.as_slice(), want.as_bytes(), "{want}");
+    }
     Ok(())
 }
 
@@ -191,7 +194,7 @@ fn a_line_goes_behind_what_is_there(rt: HostRuntime) -> Result<(), Fail> {
     let alloc = rt.alloc();
     let line = Line {
         code: Code::S07,
-        place: place_of(alloc, &["o"])?,
+        place: place_of(alloc, "o")?,
         detail: String::from_str(alloc, "blake2b-512")?,
     };
     ocfl_report::laws::every_line_fits(&line);

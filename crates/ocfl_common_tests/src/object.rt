@@ -42,8 +42,8 @@ pub fn listing(alloc: Global, manifest: &str, fixity: &str) -> Result<String, Fa
 }
 
 /// The digits of a right sidecar by sha256.
-pub fn short_digits(alloc: Global, inventory: &str) -> Result<String, Fail> {
-    Ok(hex::encode(alloc, Sha256::digest(inventory.as_bytes()))?)
+pub fn short_digits(alloc: Global, inventory: &[u8]) -> Result<String, Fail> {
+    Ok(hex::encode(alloc, Sha256::digest(inventory))?)
 }
 
 /// The text of a right sidecar by sha512.
@@ -59,7 +59,7 @@ pub fn put_object(
     object: &str,
     inventory: &str,
 ) -> Result<(), Fail> {
-    let digits = short_digits(alloc, inventory)?;
+    let digits = short_digits(alloc, inventory.as_bytes())?;
     let sidecar = format!(in alloc; "{digits} inventory.json\n")?;
     for (name, text) in [
         ("0=ocfl_object_1.1", "ocfl_object_1.1\n"),

@@ -10,13 +10,12 @@ use std::test::Fail;
 
 /// A storage root: what the manifest and the fixity block of its object `o` list, where there is
 /// one, and the changes that are made to it then. Behind them the lines of all its items, with bars
-/// for tabs, what judging these costs, and the status of an audit.
+/// for tabs, what judging these costs and the status of an audit.
 pub type Root = (
     Option<(&'static str, &'static str)>,
     &'static [(&'static str, &'static str)],
     &'static str,
-    u64,
-    u8,
+    (u64, u8),
 );
 
 /// What lists the file `f` of the bytes `abc`.
@@ -36,8 +35,7 @@ const UNDER_FOUR_ALGORITHMS: Root = (
     )),
     &[(FILE, "")],
     "ok|.|-\nok|o|-\nok|o/v1/content/f|0\n",
-    1,
-    0,
+    (1, 0),
 );
 
 /// A file that has the right digest in the manifest, and a wrong one in fixity.
@@ -48,8 +46,7 @@ const WRONG_FIXITY: Root = (
     )),
     &[(FILE, "abc")],
     "ok|.|-\nok|o|-\nE093|o/v1/content/f|md5 NOTHING_MD5 ABC_MD5\n",
-    4,
-    1,
+    (4, 1),
 );
 
 /// The missing file `a`, and the file `b`.
@@ -60,8 +57,7 @@ const MISSING_AND_THERE: Root = (
     )),
     &[("o/v1/content/b", "abc")],
     "ok|.|-\nok|o|-\nE092|o/v1/content/a|sha256 missing\nE093|o/v1/content/a|sha1 missing\nok|o/v1/content/b|3\n",
-    4,
-    1,
+    (4, 1),
 );
 
 /// The content files `a` and `c` of the bytes `abc`, and the empty `b` between them.
@@ -76,8 +72,7 @@ const THREE_FILES: Root = (
         ("o/v1/content/c", "abc"),
     ],
     "ok|.|-\nok|o|-\nok|o/v1/content/a|3\nok|o/v1/content/b|0\nok|o/v1/content/c|3\n",
-    9,
-    0,
+    (9, 0),
 );
 
 /// Storage roots whose audits and walks are tried.
@@ -87,29 +82,26 @@ pub const ROOTS: [Root; 33] = [
     MISSING_AND_THERE,
     THREE_FILES,
     // the storage root's own line
-    (None, &[], "ok|.|-\n", 0, 0),
-    (None, &[("-0=ocfl_1.1", "")], "E069|.|-\n", 0, 1),
-    (None, &[("0=ocfl_1.0", "ocfl_1.0\n")], "E076|.|-\n", 0, 1),
+    (None, &[], "ok|.|-\n", (0, 0)),
+    (None, &[("-0=ocfl_1.1", "")], "E069|.|-\n", (0, 1)),
+    (None, &[("0=ocfl_1.0", "ocfl_1.0\n")], "E076|.|-\n", (0, 1)),
     (
         None,
         &[("0=ocfl_1.0", "ocfl_1.0\n"), ("x/", "")],
         "E076|.|-\n",
-        0,
-        1,
+        (0, 1),
     ),
     (
         None,
         &[("0=ocfl_1.1", "ocfl_1.1"), ("x/", "")],
         "E080|.|-\nE073|x|-\n",
-        0,
-        1,
+        (0, 1),
     ),
     (
         None,
         &[("-0=ocfl_1.1", ""), ("0=ocfl_2.0", ""), ("x/", "")],
         "S01|.|2.0\n",
-        0,
-        1,
+        (0, 1),
     ),
     (
         F_OF_ABC,
@@ -119,15 +111,13 @@ pub const ROOTS: [Root; 33] = [
             (FILE, "abc"),
         ],
         "S01|.|2.0\n",
-        0,
-        1,
+        (0, 1),
     ),
     (
         F_OF_ABC,
         &[("0=ocfl_1.1", "ocfl_1.1"), (FILE, "abc")],
         "E080|.|-\nok|o|-\nok|o/v1/content/f|3\n",
-        4,
-        1,
+        (4, 1),
     ),
     // what belongs to no object
     (
@@ -140,8 +130,7 @@ pub const ROOTS: [Root; 33] = [
             ("z@", ""),
         ],
         "ok|.|-\nE073|x|-\nE072|y/readme|-\nS04|z|-\n",
-        0,
-        1,
+        (0, 1),
     ),
     (
         None,
@@ -153,8 +142,7 @@ pub const ROOTS: [Root; 33] = [
             ("z@", ""),
         ],
         "ok|.|-\nE073|x|-\nE072|y/readme|-\nS04|z|-\n",
-        0,
-        1,
+        (0, 1),
     ),
     // heads that stop hide what is inside
     (
@@ -165,8 +153,7 @@ pub const ROOTS: [Root; 33] = [
             (SHORT_SIDECAR, "ZEROS inventory.json\n"),
         ],
         "ok|.|-\nE060|o|sha256 ZEROS ABC_SHA256\nE033|o|-\n",
-        0,
-        1,
+        (0, 1),
     ),
     (
         F_OF_ABC,
@@ -176,8 +163,7 @@ pub const ROOTS: [Root; 33] = [
             (SHORT_SIDECAR, "BRACES_SHA256 inventory.json\n"),
         ],
         "ok|.|-\nE036|o|digestAlgorithm\n",
-        0,
-        1,
+        (0, 1),
     ),
     (
         F_OF_ABC,
@@ -188,8 +174,7 @@ pub const ROOTS: [Root; 33] = [
             ("q/", ""),
         ],
         "ok|.|-\nE036|o|digestAlgorithm\nE073|q|-\n",
-        0,
-        1,
+        (0, 1),
     ),
     (
         F_OF_ABC,
@@ -199,30 +184,26 @@ pub const ROOTS: [Root; 33] = [
             ("-o/inventory.json.sha256", ""),
         ],
         "ok|.|-\nE058|o|-\nE033|o|-\n",
-        0,
-        1,
+        (0, 1),
     ),
     // heads that do not stop
     (
         F_OF_ABC,
         &[(FILE, "abc"), ("-o/inventory.json.sha256", "")],
         "ok|.|-\nE058|o|-\nok|o/v1/content/f|3\n",
-        4,
-        1,
+        (4, 1),
     ),
     (
         Some((r#""ABC_SHA256":["v1/content/f"]"#, r#""blake2b-512":7"#)),
         &[(FILE, "abc")],
         "ok|.|-\nS07|o|blake2b-512\nok|o/v1/content/f|3\n",
-        4,
-        0,
+        (4, 0),
     ),
     (
         Some(("", r#""blake2b-512":7"#)),
         &[(FILE, "abc")],
         "ok|.|-\nS07|o|blake2b-512\nE023|o/v1/content/f|-\n",
-        0,
-        1,
+        (0, 1),
     ),
     (
         Some((
@@ -231,8 +212,7 @@ pub const ROOTS: [Root; 33] = [
         )),
         &[(FILE, "abc")],
         "ok|.|-\nE100|o|/a\nE099|o|v1/content/../b\nS06|o|x/content/a\nok|o/v1/content/f|3\n",
-        4,
-        1,
+        (4, 1),
     ),
     (
         Some((
@@ -241,30 +221,26 @@ pub const ROOTS: [Root; 33] = [
         )),
         &[(FILE, "abc")],
         "ok|.|-\nE096|o|ABC_SHA256\nE101|o|v1/content/f\nok|o/v1/content/f|3\n",
-        4,
-        1,
+        (4, 1),
     ),
     (
         Some((r#""ABC_SHA256":["v1/content/f","v1/content/f/g"]"#, "")),
         &[(FILE, "abc")],
         "ok|.|-\nE101|o|v1/content/f\nok|o/v1/content/f|3\nE092|o/v1/content/f/g|sha256 missing\n",
-        4,
-        1,
+        (4, 1),
     ),
     // what lies in an object
     (
         F_OF_ABC,
         &[(FILE, "abc"), ("o/v1/content/é\t% ", "abc")],
         "ok|.|-\nok|o|-\nok|o/v1/content/f|3\nE023|o/v1/content/%C3%A9%09%25 |-\n",
-        4,
-        1,
+        (4, 1),
     ),
     (
         F_OF_ABC,
         &[(FILE, "abc"), ("o/v1/content/z", "abc")],
         "ok|.|-\nok|o|-\nok|o/v1/content/f|3\nE023|o/v1/content/z|-\n",
-        4,
-        1,
+        (4, 1),
     ),
     (
         F_OF_ABC,
@@ -276,15 +252,13 @@ pub const ROOTS: [Root; 33] = [
             ("o/v1/other/x", ""),
         ],
         "ok|.|-\nok|o|-\nE001|o/junk|-\nok|o/v1/content/f|3\nE015|o/v1/notes|-\n",
-        4,
-        1,
+        (4, 1),
     ),
     (
         Some((r#""ABC_SHA256":["v1/content/d"]"#, "")),
         &[("o/v1/content/d/", "")],
         "ok|.|-\nok|o|-\nE024|o/v1/content/d|-\nE092|o/v1/content/d|sha256 missing\n",
-        0,
-        1,
+        (0, 1),
     ),
     (
         Some((
@@ -293,16 +267,14 @@ pub const ROOTS: [Root; 33] = [
         )),
         &[(FILE, "abc"), ("o/v1/content/d/", "")],
         "ok|.|-\nok|o|-\nE024|o/v1/content/d|-\nE092|o/v1/content/d|sha256 missing\nE093|o/v1/content/f|md5 NOTHING_MD5 ABC_MD5\n",
-        4,
-        1,
+        (4, 1),
     ),
     // the order of names and paths
     (
         Some((r#""ABC_SHA256":["v1/content/a/b","v1/content/a-b"]"#, "")),
         &[("o/v1/content/a/b", "abc"), ("o/v1/content/a-b", "abc")],
         "ok|.|-\nok|o|-\nok|o/v1/content/a/b|3\nok|o/v1/content/a-b|3\n",
-        8,
-        0,
+        (8, 0),
     ),
     (
         THREE_VERSIONS,
@@ -312,8 +284,7 @@ pub const ROOTS: [Root; 33] = [
             ("o/v2/content/f", "abc"),
         ],
         "ok|.|-\nok|o|-\nok|o/v10/content/f|3\nok|o/v2/content/f|3\nE092|o/v3/content/f|sha256 missing\n",
-        8,
-        1,
+        (8, 1),
     ),
     (
         THREE_VERSIONS,
@@ -324,15 +295,13 @@ pub const ROOTS: [Root; 33] = [
             ("p/", ""),
         ],
         "ok|.|-\nok|o|-\nok|o/v10/content/f|3\nok|o/v2/content/f|3\nE092|o/v3/content/f|sha256 missing\nE073|p|-\n",
-        8,
-        1,
+        (8, 1),
     ),
     (
         F_OF_ABC,
         &[(FILE, "abc")],
         "ok|.|-\nok|o|-\nok|o/v1/content/f|3\n",
-        4,
-        0,
+        (4, 0),
     ),
 ];
 

@@ -154,7 +154,7 @@ pub(crate) fn expect_after(
 #[test]
 fn walks_over_roots(rt: HostRuntime) -> Result<(), Fail> {
     for root in &ROOTS {
-        let (_, _, report, cost, _) = root;
+        let (_, _, report, (cost, _)) = root;
         expect(&rt, &mut built(rt.alloc(), root)?, report, *cost)?;
     }
     Ok(())

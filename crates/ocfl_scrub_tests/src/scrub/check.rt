@@ -1,348 +1,266 @@
-use crate::roots::{
-    ABC_MD5, ABC_SHA256, ABC_SHA512, FILE, FOLDERS, NOTHING_MD5, NOTHING_SHA1, NOTHING_SHA256,
-    NOTHING_SHA512, expect, is_opened, place_of, put, remove, sidecar,
-};
-use ocfl_digest::{Algorithm, Block};
+//! Checks of content places.
+use super::roots::{FILE_IS_OK, expect};
+use ocfl_common_tests::digests::with_digests;
+use ocfl_common_tests::object::{FILE, inventory, long_sidecar, object_with};
+use ocfl_common_tests::output::Narrow;
+use ocfl_common_tests::roots::{right_object, under_four_algorithms};
+use ocfl_common_tests::tree::{change, place_of, times_opened};
+use ocfl_digest::Block;
 use ocfl_scrub::checked;
-use ocfl_tree::{FsTree, MemTree, Point};
-use std::alloc::Global;
+use ocfl_tree::{FsTree, Point};
 use std::fs;
 use std::test::Fail;
 
-/// An inventory whose manifest lists `v1/content/f` under the digest, with these further keys.
-fn inventory(alloc: Global, digest: &str, more: &str) -> Result<String, Fail> {
-    Ok(format!(in alloc;
-        "{{\"id\":\"o\",\"type\":\"https://ocfl.io/1.1/spec/#inventory\",\"digestAlgorithm\":\"sha512\",\"head\":\"v1\",\"manifest\":{{\"{digest}\":[\"v1/content/f\"]}},\"versions\":{{}}{more}}}"
-    )?)
-}
+const BY_SHA512: &str =
+    r#""digestAlgorithm":"sha512","manifest":{"ABC_SHA512":["v1/content/f"]},"fixity":{}"#;
 
-/// What a storage root with an object holds, each file with its text.
-fn files<'a>(inventory: &'a str, sidecar: &'a str) -> [(&'static str, &'a str); 4] {
-    [
-        ("0=ocfl_1.1", "ocfl_1.1\n"),
-        ("o/0=ocfl_object_1.1", "ocfl_object_1.1\n"),
-        ("o/inventory.json", inventory),
-        ("o/inventory.json.sha512", sidecar),
-    ]
-}
+const DATA: &str =
+    r#""digestAlgorithm":"sha256","contentDirectory":"data","manifest":{"ABC_SHA256":["v1/data/f"]}"#;
 
-/// That storage root in memory, its content file `f` of these bytes.
-fn root_with(alloc: Global, inventory: &str, content: &str) -> Result<MemTree, Fail> {
-    let mut store = MemTree::new(alloc);
-    for folder in FOLDERS {
-        store.put_dir(&place_of(alloc, folder)?)?;
-    }
-    let sidecar = sidecar(alloc, Algorithm::Sha512, inventory.as_bytes())?;
-    for (place, text) in files(inventory, sidecar.as_str()) {
-        put(alloc, &mut store, place, text.as_bytes())?;
-    }
-    put(alloc, &mut store, FILE, content.as_bytes())?;
-    Ok(store)
-}
+const TWO_DIGESTS_AND_FIXITY: &str =
+    r#""digestAlgorithm":"sha256","manifest":{"NOTHING_SHA256":["v1/content/f"],"ABC_SHA256":["v1/content/f"]},"fixity":{"md5":{"NOTHING_MD5":["v1/content/f"]}}"#;
 
-fn right_root(alloc: Global) -> Result<MemTree, Fail> {
-    root_with(
-        alloc,
-        inventory(alloc, ABC_SHA512, ",\"fixity\":{}")?.as_str(),
-        "abc",
-    )
-}
+/// The members of an inventory, what is changed in the object with it and the file `f`, the path
+/// that is checked, its text, the status, and how often the path is opened. Where there is no text
+/// there is no item.
+type Check = (
+    &'static str,
+    &'static [(&'static str, &'static str)],
+    &'static str,
+    &'static str,
+    u8,
+    usize,
+);
 
-#[test]
-fn right_file(rt: HostRuntime) -> Result<(), Fail> {
-    let mut store = right_root(rt.alloc())?;
-    expect(&rt, &mut store, FILE, "ok\to/v1/content/f\t3\n", 0, "")?;
-    assert_eq!(rt; store.listings().len(), 4);
-    assert_eq!(rt; store.openings().len(), 2);
-    Ok(())
-}
-
-#[test]
-fn capitals_in_manifest_key(rt: HostRuntime) -> Result<(), Fail> {
-    let alloc = rt.alloc();
-    let capitals = ABC_SHA512.to_ascii_uppercase(alloc)?;
-    let inventory = inventory(alloc, capitals.as_str(), "")?;
-    let mut store = root_with(alloc, inventory.as_str(), "abc")?;
-    expect(&rt, &mut store, FILE, "ok\to/v1/content/f\t3\n", 0, "")
-}
-
-#[test]
-fn emptied_file(rt: HostRuntime) -> Result<(), Fail> {
-    let alloc = rt.alloc();
-    let mut store = root_with(alloc, inventory(alloc, ABC_SHA512, "")?.as_str(), "")?;
-    let text = format!(in alloc; "E092\to/v1/content/f\tsha512 {ABC_SHA512} {NOTHING_SHA512}\n")?;
-    expect(&rt, &mut store, FILE, text.as_str(), 1, "")
-}
-
-#[test]
-fn file_that_nothing_names(rt: HostRuntime) -> Result<(), Fail> {
-    let alloc = rt.alloc();
-    let mut store = right_root(alloc)?;
-    let path = "o/v1/content/g";
-    put(alloc, &mut store, path, b"abc")?;
-    expect(&rt, &mut store, path, "E023\to/v1/content/g\t-\n", 1, "")?;
-    assert!(rt; !is_opened(alloc, &store, path)?);
-    Ok(())
-}
-
-#[test]
-fn no_item(rt: HostRuntime) -> Result<(), Fail> {
-    let alloc = rt.alloc();
-    let mut store = right_root(alloc)?;
-    expect(&rt, &mut store, "o/v1/content/h", "", 0, "no item")?;
-    remove(alloc, &mut store, "o")?;
-    expect(&rt, &mut store, FILE, "", 0, "no item")
-}
-
-#[test]
-fn bad_path(rt: HostRuntime) -> Result<(), Fail> {
-    let mut store = right_root(rt.alloc())?;
-    expect(&rt, &mut store, "o//f", "", 2, "bad path")?;
-    assert_eq!(rt; store.listings().len(), 0);
-    Ok(())
-}
-
-#[test]
-fn long_bad_paths(rt: HostRuntime) -> Result<(), Fail> {
-    let alloc = rt.alloc();
-    let mut store = right_root(alloc)?;
-    let many = "o/".repeat(alloc, 100)?;
-    let long = "x".repeat(alloc, 256)?;
-    for path in ["", "..", "%41", many.as_str(), long.as_str()] {
-        expect(&rt, &mut store, path, "", 2, "bad path")?;
-    }
-    assert_eq!(rt; store.listings().len(), 0);
-    assert_eq!(rt; store.openings().len(), 0);
-    Ok(())
-}
-
-#[test]
-fn heads_that_stop(rt: HostRuntime) -> Result<(), Fail> {
-    let alloc = rt.alloc();
-    for inventory in ["abc", "{}"] {
-        let mut store = root_with(alloc, inventory, "abc")?;
-        expect(&rt, &mut store, FILE, "", 0, "no item")?;
-    }
-    let mut store = right_root(alloc)?;
-    remove(alloc, &mut store, "o/inventory.json")?;
-    expect(&rt, &mut store, FILE, "", 0, "no item")
-}
-
-#[test]
-fn wrong_sidecar_does_not_matter(rt: HostRuntime) -> Result<(), Fail> {
-    let alloc = rt.alloc();
-    let mut store = right_root(alloc)?;
-    let place = "o/inventory.json.sha512";
-    remove(alloc, &mut store, place)?;
-    put(alloc, &mut store, place, b"wrong")?;
-    expect(&rt, &mut store, FILE, "ok\to/v1/content/f\t3\n", 0, "")
-}
-
-#[test]
-fn fixity_is_compared_too(rt: HostRuntime) -> Result<(), Fail> {
-    let alloc = rt.alloc();
-    let fixity =
-        ",\"fixity\":{\"md5\":{\"d41d8cd98f00b204e9800998ecf8427e\":[\"v1/content/f\"]},\"sha512/256\":{\"53048e2681941ef99b2e29b76b4c7dabe4c2d0c634fc6d46e0e2f13107e7af23\":[\"v1/content/f\"]}}";
-    let mut store = root_with(alloc, inventory(alloc, ABC_SHA512, fixity)?.as_str(), "abc")?;
-    let text =
-        "E093\to/v1/content/f\tmd5 d41d8cd98f00b204e9800998ecf8427e 900150983cd24fb0d6963f7d28e17f72\n";
-    expect(&rt, &mut store, FILE, text, 1, "")
-}
-
-// Further digests of `abc`, and of no bytes (FIPS 180-4).
-const ABC_SHA512_256: &str = "53048e2681941ef99b2e29b76b4c7dabe4c2d0c634fc6d46e0e2f13107e7af23";
-
-const NOTHING_SHA512_256: &str = "c672b8d1ef56ed28ab87c3622c5114069bdd3ad7b8f9737498d0c01ecef0967a";
-
-/// An inventory by sha256 with this manifest and this fixity block.
-fn by_sha256(alloc: Global, manifest: &str, fixity: &str) -> Result<String, Fail> {
-    Ok(format!(in alloc;
-        "{{\"digestAlgorithm\":\"sha256\",\"manifest\":{{{manifest}}},\"fixity\":{{{fixity}}}}}"
-    )?)
-}
-
-#[test]
-fn named_in_fixity_alone(rt: HostRuntime) -> Result<(), Fail> {
-    let alloc = rt.alloc();
-    let fixity = format!(in alloc; "\"md5\":{{\"{ABC_MD5}\":[\"v1/content/f\"]}}")?;
-    let inventory = by_sha256(alloc, "", fixity.as_str())?;
-    let mut store = root_with(alloc, inventory.as_str(), "abc")?;
-    expect(&rt, &mut store, FILE, "E023\to/v1/content/f\t-\n", 1, "")?;
-    let place = place_of(alloc, FILE)?;
-    let opened = store
-        .openings()
-        .iter()
-        .filter(|opening| opening.place == place);
-    assert_eq!(rt; opened.count(), 1);
-    Ok(())
-}
-
-#[test]
-fn two_digests_and_fixity(rt: HostRuntime) -> Result<(), Fail> {
-    let alloc = rt.alloc();
-    let manifest = format!(in alloc;
-        "\"{NOTHING_SHA256}\":[\"v1/content/f\"],\"{ABC_SHA256}\":[\"v1/content/f\"]"
-    )?;
-    let fixity = format!(in alloc; "\"md5\":{{\"{NOTHING_MD5}\":[\"v1/content/f\"]}}")?;
-    let inventory = by_sha256(alloc, manifest.as_str(), fixity.as_str())?;
-    let mut store = root_with(alloc, inventory.as_str(), "abc")?;
-    let text = format!(in alloc;
-        "E092\to/v1/content/f\tsha256 {NOTHING_SHA256} {ABC_SHA256}\nE093\to/v1/content/f\tmd5 {NOTHING_MD5} {ABC_MD5}\n"
-    )?;
-    expect(&rt, &mut store, FILE, text.as_str(), 1, "")?;
-    let place = place_of(alloc, FILE)?;
-    store.remove(&place)?;
-    let missing = "E092\to/v1/content/f\tsha256 missing\nE093\to/v1/content/f\tmd5 missing\n";
-    expect(&rt, &mut store, FILE, missing, 1, "")?;
-    store.put_other(&place)?;
-    let text = format!(in alloc; "S04\to/v1/content/f\t-\n{missing}")?;
-    expect(&rt, &mut store, FILE, text.as_str(), 1, "")
-}
-
-#[test]
-fn fifth_algorithm(rt: HostRuntime) -> Result<(), Fail> {
-    let alloc = rt.alloc();
-    let manifest = format!(in alloc; "\"{ABC_SHA256}\":[\"v1/content/f\"]")?;
-    let wrong = format!(in alloc;
-        "E093\to/v1/content/f\tsha512/256 {ABC_SHA256} {ABC_SHA512_256}\n"
-    )?;
-    for (digest, text, status) in [
-        (ABC_SHA512_256, "ok\to/v1/content/f\t3\n", 0),
-        (ABC_SHA256, wrong.as_str(), 1),
-    ] {
-        let fixity = format!(in alloc; "\"sha512/256\":{{\"{digest}\":[\"v1/content/f\"]}}")?;
-        let inventory = by_sha256(alloc, manifest.as_str(), fixity.as_str())?;
-        let mut store = root_with(alloc, inventory.as_str(), "abc")?;
-        expect(&rt, &mut store, FILE, text, status, "")?;
-    }
-    Ok(())
-}
-
-#[test]
-fn empty_file_under_all_algorithms(rt: HostRuntime) -> Result<(), Fail> {
-    let alloc = rt.alloc();
-    let manifest = format!(in alloc; "\"{NOTHING_SHA256}\":[\"v1/content/f\"]")?;
-    let mut fixity = String::new(alloc);
-    for (name, digest) in [
-        ("md5", NOTHING_MD5),
-        ("sha1", NOTHING_SHA1),
-        ("sha512", NOTHING_SHA512),
-        ("sha512/256", NOTHING_SHA512_256),
-    ] {
-        if !fixity.is_empty() {
-            fixity.push(',')?;
-        }
-        let block = format!(in alloc; "\"{name}\":{{\"{digest}\":[\"v1/content/f\"]}}")?;
-        fixity.push_str(block.as_str())?;
-    }
-    let inventory = by_sha256(alloc, manifest.as_str(), fixity.as_str())?;
-    let mut store = root_with(alloc, inventory.as_str(), "")?;
-    expect(&rt, &mut store, FILE, "ok\to/v1/content/f\t0\n", 0, "")?;
-    assert_eq!(rt; store.openings().len(), 2);
-    Ok(())
-}
-
-#[test]
-fn other_content_directory(rt: HostRuntime) -> Result<(), Fail> {
-    let alloc = rt.alloc();
-    let inventory = format!(in alloc;
-        "{{\"digestAlgorithm\":\"sha256\",\"contentDirectory\":\"data\",\"manifest\":{{\"{ABC_SHA256}\":[\"v1/data/f\"]}}}}"
-    )?;
-    let mut store = root_with(alloc, inventory.as_str(), "abc")?;
-    expect(&rt, &mut store, FILE, "", 0, "no item")?;
-    store.put_dir(&place_of(alloc, "o/v1/data")?)?;
-    put(alloc, &mut store, "o/v1/data/f", b"abc")?;
-    expect(
-        &rt,
-        &mut store,
-        "o/v1/data/f",
-        "ok\to/v1/data/f\t3\n",
+const CHECKS: [Check; 20] = [
+    (BY_SHA512, &[], FILE, FILE_IS_OK, 0, 1),
+    (
+        r#""digestAlgorithm":"sha512","manifest":{"ABC_LONG_CAPITALS":["v1/content/f"]}"#,
+        &[],
+        FILE,
+        FILE_IS_OK,
         0,
-        "",
-    )
+        1,
+    ),
+    (
+        BY_SHA512,
+        &[(FILE, "")],
+        FILE,
+        "E092|o/v1/content/f|sha512 ABC_SHA512 NOTHING_SHA512\n",
+        1,
+        1,
+    ),
+    // what nothing names
+    (
+        BY_SHA512,
+        &[("o/v1/content/g", "abc")],
+        "o/v1/content/g",
+        "E023|o/v1/content/g|-\n",
+        1,
+        0,
+    ),
+    (BY_SHA512, &[], "o/v1/content/h", "", 0, 0),
+    (BY_SHA512, &[("-o", "")], FILE, "", 0, 0),
+    // heads that stop, and a wrong sidecar, which does not matter
+    (BY_SHA512, &[("o/inventory.json", "abc")], FILE, "", 0, 0),
+    (BY_SHA512, &[("o/inventory.json", "{}")], FILE, "", 0, 0),
+    (BY_SHA512, &[("-o/inventory.json", "")], FILE, "", 0, 0),
+    (
+        BY_SHA512,
+        &[("o/inventory.json.sha512", "wrong")],
+        FILE,
+        FILE_IS_OK,
+        0,
+        1,
+    ),
+    // fixity is compared too
+    (
+        r#""digestAlgorithm":"sha512","manifest":{"ABC_SHA512":["v1/content/f"]},"fixity":{"md5":{"NOTHING_MD5":["v1/content/f"]},"sha512/256":{"ABC_SHA512/256":["v1/content/f"]}}"#,
+        &[],
+        FILE,
+        "E093|o/v1/content/f|md5 NOTHING_MD5 ABC_MD5\n",
+        1,
+        1,
+    ),
+    (
+        r#""digestAlgorithm":"sha256","manifest":{},"fixity":{"md5":{"ABC_MD5":["v1/content/f"]}}"#,
+        &[],
+        FILE,
+        "E023|o/v1/content/f|-\n",
+        1,
+        1,
+    ),
+    (
+        TWO_DIGESTS_AND_FIXITY,
+        &[],
+        FILE,
+        "E092|o/v1/content/f|sha256 NOTHING_SHA256 ABC_SHA256\nE093|o/v1/content/f|md5 NOTHING_MD5 ABC_MD5\n",
+        1,
+        1,
+    ),
+    // the fifth algorithm
+    (
+        r#""digestAlgorithm":"sha256","manifest":{"ABC_SHA256":["v1/content/f"]},"fixity":{"sha512/256":{"ABC_SHA512/256":["v1/content/f"]}}"#,
+        &[],
+        FILE,
+        FILE_IS_OK,
+        0,
+        1,
+    ),
+    (
+        r#""digestAlgorithm":"sha256","manifest":{"ABC_SHA256":["v1/content/f"]},"fixity":{"sha512/256":{"ABC_SHA256":["v1/content/f"]}}"#,
+        &[],
+        FILE,
+        "E093|o/v1/content/f|sha512/256 ABC_SHA256 ABC_SHA512/256\n",
+        1,
+        1,
+    ),
+    (
+        r#""digestAlgorithm":"sha256","manifest":{"NOTHING_SHA256":["v1/content/f"]},"fixity":{"md5":{"NOTHING_MD5":["v1/content/f"]},"sha1":{"NOTHING_SHA1":["v1/content/f"]},"sha512":{"NOTHING_SHA512":["v1/content/f"]},"sha512/256":{"NOTHING_SHA512/256":["v1/content/f"]}}"#,
+        &[(FILE, "")],
+        FILE,
+        "ok|o/v1/content/f|0\n",
+        0,
+        1,
+    ),
+    // another content directory
+    (DATA, &[], FILE, "", 0, 0),
+    (
+        DATA,
+        &[("o/v1/data/f", "abc")],
+        "o/v1/data/f",
+        "ok|o/v1/data/f|3\n",
+        0,
+        1,
+    ),
+    // an inventory without a sidecar, and a path of another kind of place
+    (
+        BY_SHA512,
+        &[("-o/inventory.json.sha256", "")],
+        FILE,
+        FILE_IS_OK,
+        0,
+        1,
+    ),
+    (BY_SHA512, &[], ".", "ok|.|-\n", 0, 0),
+];
+
+#[test]
+fn content_places(rt: HostRuntime) -> Result<(), Fail> {
+    for (members, changes, path, text, status, opened) in CHECKS {
+        let mut store = object_with(rt.alloc(), inventory(rt.alloc(), members)?.as_str())?;
+        change(rt.alloc(), &mut store, changes)?;
+        let note = if text.is_empty() { "no item" } else { "" };
+        expect(&rt, &mut store, path, text, status, note)?;
+        assert_eq!(rt;
+            times_opened(rt.alloc(), &store, path)?,
+            opened,
+            "{path}: {text}"
+        );
+    }
+    Ok(())
 }
+
+/// What else may lie where the file is listed, and the first line then.
+const NO_FILE: [(&[(&str, &str)], &str); 3] = [
+    (&[], ""),
+    (&[("o/v1/content/f@", "")], "S04|o/v1/content/f|-\n"),
+    (&[("o/v1/content/f/", "")], "E024|o/v1/content/f|-\n"),
+];
 
 #[test]
 fn what_is_no_file(rt: HostRuntime) -> Result<(), Fail> {
-    let alloc = rt.alloc();
-    let mut store = right_root(alloc)?;
-    let place = place_of(alloc, FILE)?;
-    store.remove(&place)?;
-    let missing = "E092\to/v1/content/f\tsha512 missing\n";
-    expect(&rt, &mut store, FILE, missing, 1, "")?;
-    store.put_other(&place)?;
-    let text = format!(in alloc; "S04\to/v1/content/f\t-\n{missing}")?;
-    expect(&rt, &mut store, FILE, text.as_str(), 1, "")?;
-    store.remove(&place)?;
-    store.put_dir(&place)?;
-    let text = format!(in alloc; "E024\to/v1/content/f\t-\n{missing}")?;
-    expect(&rt, &mut store, FILE, text.as_str(), 1, "")
+    for (members, missing) in [
+        (BY_SHA512, "E092|o/v1/content/f|sha512 missing\n"),
+        (
+            TWO_DIGESTS_AND_FIXITY,
+            "E092|o/v1/content/f|sha256 missing\nE093|o/v1/content/f|md5 missing\n",
+        ),
+    ] {
+        for (changes, line) in NO_FILE {
+            let mut store = object_with(rt.alloc(), inventory(rt.alloc(), members)?.as_str())?;
+            store.remove(&place_of(rt.alloc(), FILE)?)?;
+            change(rt.alloc(), &mut store, changes)?;
+            let text = format!(in rt.alloc(); "{line}{missing}")?;
+            expect(&rt, &mut store, FILE, text.as_str(), 1, "")?;
+        }
+    }
+    Ok(())
+}
+
+#[test]
+fn calls_for_a_right_file(rt: HostRuntime) -> Result<(), Fail> {
+    for (mut store, text) in [
+        (right_object(rt.alloc())?, FILE_IS_OK),
+        (under_four_algorithms(rt.alloc())?, "ok|o/v1/content/f|0\n"),
+    ] {
+        expect(&rt, &mut store, FILE, text, 0, "")?;
+        assert_eq!(rt; store.listings().len(), 4, "{text}");
+        assert_eq!(rt; store.openings().len(), 2, "{text}");
+    }
+    Ok(())
+}
+
+#[test]
+fn bad_paths(rt: HostRuntime) -> Result<(), Fail> {
+    let mut store = right_object(rt.alloc())?;
+    let many = "o/".repeat(rt.alloc(), 100)?;
+    let long = "x".repeat(rt.alloc(), 256)?;
+    for path in ["o//f", "", "..", "%41", many.as_str(), long.as_str()] {
+        expect(&rt, &mut store, path, "", 2, "bad path")?;
+    }
+    assert!(rt; store.listings().is_empty() && store.openings().is_empty());
+    Ok(())
 }
 
 #[test]
 fn failing_store(rt: HostRuntime) -> Result<(), Fail> {
-    let alloc = rt.alloc();
-    let mut store = right_root(alloc)?;
-    store.fail_at(&place_of(alloc, "o/v1")?, Point::List)?;
-    expect(&rt, &mut store, FILE, "", 3, "stopped at o/v1")?;
-    let mut store = right_root(alloc)?;
-    store.fail_at(&place_of(alloc, FILE)?, Point::Read(0))?;
-    expect(&rt, &mut store, FILE, "S08\to/v1/content/f\t-\n", 1, "")
-}
-
-/// Takes so many bytes in all, and then fails.
-#[derive(Drop)]
-struct Narrow {
-    room: usize,
-}
-
-impl std::io::Write for Narrow {
-    fn write(&mut self, buffer: &[u8]) -> std::io::Result<usize> {
-        if self.room == 0 {
-            return Err(std::io::Error::from(std::io::ErrorKind::Other));
-        }
-        let count = buffer.len().min(self.room);
-        self.room -= count;
-        Ok(count)
+    for (place, point, text, status, note) in [
+        ("o/v1", Point::List, "", 3, "stopped at o/v1"),
+        (FILE, Point::Read(0), "S08|o/v1/content/f|-\n", 1, ""),
+    ] {
+        let mut store = right_object(rt.alloc())?;
+        store.fail_at(&place_of(rt.alloc(), place)?, point)?;
+        expect(&rt, &mut store, FILE, text, status, note)?;
     }
-
-    fn flush(&mut self) -> std::io::Result<()> {
-        Ok(())
-    }
+    Ok(())
 }
 
 #[test]
 fn failing_output(rt: HostRuntime) -> Result<(), Fail> {
     let alloc = rt.alloc();
-    let mut store = right_root(alloc)?;
-    let mut block = Block::new(alloc)?;
-    let (status, note) = checked(alloc, &mut store, FILE, &mut block, &mut Narrow { room: 5 });
-    let note = format!(in alloc; "{note}")?;
+    let (mut block, mut out) = (Block::new(alloc)?, Narrow::new(alloc, 5));
+    let (status, note) = checked(alloc, &mut right_object(alloc)?, FILE, &mut block, &mut out);
     assert_eq!(rt; status, 3);
-    assert_eq!(rt; note.as_str(), "output failed");
+    assert_eq!(rt; format!(in alloc; "{note}")?.as_str(), "output failed");
     Ok(())
 }
 
 #[test]
 fn over_a_folder(rt: HostRuntime) -> Result<(), Fail> {
     let alloc = rt.alloc();
-    let capitals = ABC_SHA512.to_ascii_uppercase(alloc)?;
-    for digest in [ABC_SHA512, capitals.as_str()] {
+    for digest in ["ABC_SHA512", "ABC_LONG_CAPITALS"] {
         if fs::exists(&rt, "root")? {
             fs::remove_dir_all(&rt, "root")?;
         }
-        fs::create_dir(&rt, "root")?;
-        for folder in FOLDERS {
-            fs::create_dir(&rt, format!(in alloc; "root/{folder}")?.as_str())?;
+        for folder in ["root", "root/o", "root/o/v1", "root/o/v1/content"] {
+            fs::create_dir(&rt, folder)?;
         }
-        let inventory = inventory(alloc, digest, "")?;
-        let sidecar = sidecar(alloc, Algorithm::Sha512, inventory.as_bytes())?;
-        for (place, text) in files(inventory.as_str(), sidecar.as_str()) {
-            fs::write(&rt, format!(in alloc; "root/{place}")?.as_str(), text)?;
+        let inventory = format!(in alloc;
+            "{{\"digestAlgorithm\":\"sha512\",\"manifest\":{{\"{digest}\":[\"v1/content/f\"]}}}}"
+        )?;
+        let inventory = with_digests(alloc, inventory.as_str())?;
+        let sidecar = long_sidecar(alloc, inventory.as_str())?;
+        for (place, text) in [
+            ("root/0=ocfl_1.1", "ocfl_1.1\n"),
+            ("root/o/0=ocfl_object_1.1", "ocfl_object_1.1\n"),
+            ("root/o/inventory.json", inventory.as_str()),
+            ("root/o/inventory.json.sha512", sidecar.as_str()),
+            ("root/o/v1/content/f", "abc"),
+        ] {
+            fs::write(&rt, place, text)?;
         }
-        fs::write(&rt, "root/o/v1/content/f", "abc")?;
-        let mut store = FsTree::at(&rt, "root")?;
-        expect(&rt, &mut store, FILE, "ok\to/v1/content/f\t3\n", 0, "")?;
+        expect(&rt, &mut FsTree::at(&rt, "root")?, FILE, FILE_IS_OK, 0, "")?;
     }
     fs::remove_dir_all(&rt, "root")?;
     Ok(())

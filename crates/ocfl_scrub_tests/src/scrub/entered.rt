@@ -1,9 +1,7 @@
 //! A walk that is entered at a place gives what the whole walk gives above that place.
-use crate::roots::place_of;
-use crate::seeded::{Dice, grow};
-use crate::stop::{Narrow, ROOTS, root_by, whole};
+use super::seeded::{Dice, grow};
+use ocfl_common_tests::tree::place_of;
 use ocfl_digest::Block;
-use ocfl_scrub::audit;
 use ocfl_tree::{MemTree, Place};
 use ocfl_walk::{Fault, Walk, judge};
 use std::alloc::Global;
@@ -19,10 +17,8 @@ struct Passage {
 
 fn said(fault: Fault) -> Fail {
     match fault {
-        Fault::Store(_) => "store".into(),
-        Fault::Memory => "memory".into(),
-        Fault::Output => "output".into(),
-        Fault::Broken => "broken".into(),
+        Fault::Store(_) => "the store fails".into(),
+        _ => "no store fails".into(),
     }
 }
 
@@ -34,15 +30,10 @@ fn items_above(
     block: &mut Block,
 ) -> Result<Vec<Passage>, Fail> {
     let mut items: Vec<Passage> = Vec::new(alloc);
-    let mut walk = match Walk::start(alloc, store, after) {
-        Ok(walk) => walk,
-        Err(fault) => return Err(said(fault)),
-    };
+    let mut walk = Walk::start(alloc, store, after).map_err(said)?;
     for _ in 0..1_000 {
-        let pending = match walk.next(store) {
-            Ok(Some(pending)) => pending,
-            Ok(None) => return Ok(items),
-            Err(fault) => return Err(said(fault)),
+        let Some(pending) = walk.next(store).map_err(said)? else {
+            return Ok(items);
         };
         let before = match items.last() {
             Some(item) => Some(&item.place),
@@ -51,10 +42,7 @@ fn items_above(
         if before.is_some_and(|place| pending.place() <= place) {
             return Err("an item is not above the one before".into());
         }
-        let (lines, _) = match judge(alloc, store, &pending, block) {
-            Ok(judged) => judged,
-            Err(fault) => return Err(said(fault)),
-        };
+        let (lines, _) = judge(alloc, store, &pending, block).map_err(said)?;
         let mut text = Vec::new(alloc);
         for line in &lines {
             line.put(&mut text)?;
@@ -78,6 +66,17 @@ fn text_above(alloc: Global, items: &[Passage], after: Option<&Place>) -> Result
     Ok(text)
 }
 
+/// The text of what a walk gives that is entered behind a place.
+pub(crate) fn rest_behind(
+    alloc: Global,
+    store: &mut MemTree,
+    last: Option<&Place>,
+    block: &mut Block,
+) -> Result<String, Fail> {
+    let items = items_above(alloc, store, last, block)?;
+    text_above(alloc, &items, None)
+}
+
 /// One of the places, or one that is near to it.
 fn some_place(alloc: Global, dice: &mut Dice, places: &[Place]) -> Result<Place, Fail> {
     let index = dice.throw(places.len() as u64) as usize;
@@ -93,28 +92,27 @@ fn some_place(alloc: Global, dice: &mut Dice, places: &[Place]) -> Result<Place,
     place_of(alloc, path.as_str())
 }
 
-/// Walks that are entered at random places of these roots.
-fn entered_walks(rt: &(impl Abort + AllocGlobal), seeds: std::ops::Range<u64>) -> Result<(), Fail> {
+/// A walk that is entered at a random place of the root gives what a whole walk gives above it, and
+/// lists nothing before the place but what is on the way.
+fn expect_entered(
+    rt: &(impl Abort + AllocGlobal),
+    seed: u64,
+    block: &mut Block,
+) -> Result<(), Fail> {
     let alloc = rt.alloc();
-    let mut block = Block::new(alloc)?;
-    for seed in seeds {
-        let mut grown = grow(alloc, seed)?;
-        let mut dice = Dice { state: seed };
-        let items = items_above(alloc, &mut grown.store, None, &mut block)?;
-        for _ in 0..3 {
-            let after = some_place(alloc, &mut dice, &grown.places)?;
-            let want = text_above(alloc, &items, Some(&after))?;
-            let listed = grown.store.listings().len();
-            let entered = items_above(alloc, &mut grown.store, Some(&after), &mut block)?;
-            let text = text_above(alloc, &entered, None)?;
-            let path = after.path();
-            assert_eq!(rt; text.as_str(), want.as_str(), "seed {seed}, after {path}");
-            for place in grown.store.listings().iter().skip(listed) {
-                assert!(rt;
-                    after.starts_with(place) || *place > after,
-                    "seed {seed}, after {path}"
-                );
-            }
+    let mut grown = grow(alloc, seed)?;
+    let mut dice = Dice { state: seed };
+    let items = items_above(alloc, &mut grown.store, None, block)?;
+    for _ in 0..3 {
+        let after = some_place(alloc, &mut dice, &grown.places)?;
+        let path = after.path();
+        let want = text_above(alloc, &items, Some(&after))?;
+        let listed = grown.store.listings().len();
+        let text = rest_behind(alloc, &mut grown.store, Some(&after), block)?;
+        assert_eq!(rt; text.as_str(), want.as_str(), "seed {seed}, after {path}");
+        for place in grown.store.listings().iter().skip(listed) {
+            let is_due = after.starts_with(place) || *place > after;
+            assert!(rt; is_due, "seed {seed}, after {path}");
         }
     }
     Ok(())
@@ -122,70 +120,9 @@ fn entered_walks(rt: &(impl Abort + AllocGlobal), seeds: std::ops::Range<u64>) -
 
 #[test]
 fn walks_entered_at_random_places(rt: HostRuntime) -> Result<(), Fail> {
-    entered_walks(&rt, 1..201)
-}
-
-#[test]
-fn walks_entered_at_more_places(rt: HostRuntime) -> Result<(), Fail> {
-    entered_walks(&rt, 201..401)
-}
-
-#[test]
-fn walks_entered_at_still_more_places(rt: HostRuntime) -> Result<(), Fail> {
-    entered_walks(&rt, 401..501)
-}
-
-#[test]
-fn walk_from_the_last_place_after_a_store_failed(rt: HostRuntime) -> Result<(), Fail> {
-    let alloc = rt.alloc();
-    let mut block = Block::new(alloc)?;
-    for number in 0..ROOTS {
-        for call in 1..1_000u64 {
-            let mut store = root_by(alloc, number)?;
-            let all = String::from_utf8(whole(alloc, &mut store)?)?;
-            store.fail_call(call);
-            let mut out = Vec::new(alloc);
-            let end = audit(alloc, &mut store, &mut block, &mut out);
-            if store.failures() == 0 {
-                break;
-            }
-            let rest = items_above(alloc, &mut store, end.last.as_ref(), &mut block)?;
-            let rest = text_above(alloc, &rest, None)?;
-            let text = String::from_utf8(out)?;
-            if text.contains("\nS08\t") {
-                assert_eq!(rt; rest.as_str(), "", "call {call}");
-            } else {
-                let joined = format!(in alloc; "{text}{rest}")?;
-                assert_eq!(rt; joined.as_str(), all.as_str(), "call {call}");
-            }
-        }
-    }
-    Ok(())
-}
-
-#[test]
-fn walk_from_the_last_place_after_the_output_failed(rt: HostRuntime) -> Result<(), Fail> {
-    let alloc = rt.alloc();
-    let mut block = Block::new(alloc)?;
-    for number in 0..ROOTS {
-        let mut store = root_by(alloc, number)?;
-        let all = String::from_utf8(whole(alloc, &mut store)?)?;
-        for room in 0..all.len() {
-            let mut out = Narrow {
-                room,
-                kept: Vec::new(alloc),
-            };
-            let end = audit(alloc, &mut store, &mut block, &mut out);
-            let rest = items_above(alloc, &mut store, end.last.as_ref(), &mut block)?;
-            let rest = text_above(alloc, &rest, None)?;
-            let gone = all.strip_suffix(rest.as_str()).ok_or("no such end")?;
-            // Of the item that did not go out whole at most a beginning went out.
-            assert!(rt; out.kept.starts_with(gone.as_bytes()), "room {room}");
-            assert!(rt;
-                all.as_bytes().starts_with(out.kept.as_slice()),
-                "room {room}"
-            );
-        }
+    let mut block = Block::new(rt.alloc())?;
+    for seed in 1..501 {
+        expect_entered(&rt, seed, &mut block)?;
     }
     Ok(())
 }

@@ -1,13 +1,10 @@
 //! Each failure that a store or an output can have, at each place where it can have it.
-ghost use Rattle.std.specs.Prelude.{false};
-ghost use Rattle.ocfl_tree.specs.MemTree.{empty_store};
-
-use crate::run_figures::{MOST, limits};
-use crate::stop::{ROOTS, root_by, whole};
+use super::run_figures::{MOST, limits};
+use super::stop::{ROOTS, Tried, root_by};
 use ocfl_cursor::Cursor;
 use ocfl_digest::Block;
 use ocfl_scrub::{RunEnd, RunStatus, run};
-use ocfl_tree::{Entry, MemTree, Opening, Place, Point, Tree, Trouble};
+use ocfl_tree::{Opening, Place, Point, Tree};
 use ocfl_walk::Fault;
 use std::alloc::Global;
 use std::io;
@@ -16,12 +13,12 @@ use std::test::Fail;
 
 /// What a run without limits that matter wrote, and how it ended.
 #[derive(Drop)]
-struct Outcome {
-    text: String,
-    end: RunEnd,
+pub(crate) struct Outcome {
+    pub(crate) text: String,
+    pub(crate) end: RunEnd,
 }
 
-fn ran<T: Tree>(alloc: Global, store: &mut T, cursor: Cursor) -> Result<Outcome, Fail> {
+pub(crate) fn ran<T: Tree>(alloc: Global, store: &mut T, cursor: Cursor) -> Result<Outcome, Fail> {
     let mut block = Block::new(alloc)?;
     let mut out = Vec::new(alloc);
     let end = run(
@@ -60,7 +57,7 @@ fn with_unread(alloc: Global, report: &str, openings: &[Opening]) -> Result<Stri
 }
 
 /// What was written begins the report with whole items, and the rest of it comes from the cursor.
-fn expect_rest(
+pub(crate) fn expect_rest(
     rt: &(impl Abort + AllocGlobal),
     number: u64,
     all: &str,
@@ -107,32 +104,6 @@ fn expect_fault(
     }
 }
 
-#[test]
-fn listings_that_fail(rt: HostRuntime) -> Result<(), Fail> {
-    let alloc = rt.alloc();
-    for number in 0..ROOTS {
-        let mut store = root_by(alloc, number)?;
-        let all = String::from_utf8(whole(alloc, &mut store)?)?;
-        for place in store.listings() {
-            expect_fault(&rt, number, all.as_str(), place, Point::List)?;
-        }
-    }
-    Ok(())
-}
-
-#[test]
-fn openings_that_fail(rt: HostRuntime) -> Result<(), Fail> {
-    let alloc = rt.alloc();
-    for number in 0..ROOTS {
-        let mut store = root_by(alloc, number)?;
-        let all = String::from_utf8(whole(alloc, &mut store)?)?;
-        for opening in store.openings() {
-            expect_fault(&rt, number, all.as_str(), &opening.place, Point::Open)?;
-        }
-    }
-    Ok(())
-}
-
 /// Reads fail so at each offset of content, and at the first and the last of another file.
 fn expect_faults_in(
     rt: &(impl Abort + AllocGlobal),
@@ -150,86 +121,15 @@ fn expect_faults_in(
 }
 
 #[test]
-fn reads_that_fail_at_each_offset(rt: HostRuntime) -> Result<(), Fail> {
-    let alloc = rt.alloc();
+fn listings_openings_and_reads_that_fail(rt: HostRuntime) -> Result<(), Fail> {
     for number in 0..ROOTS {
-        let mut store = root_by(alloc, number)?;
-        let all = String::from_utf8(whole(alloc, &mut store)?)?;
+        let Tried { store, all, .. } = Tried::new(rt.alloc(), number)?;
+        for place in store.listings() {
+            expect_fault(&rt, number, all.as_str(), place, Point::List)?;
+        }
         for opening in store.openings() {
+            expect_fault(&rt, number, all.as_str(), &opening.place, Point::Open)?;
             expect_faults_in(&rt, number, all.as_str(), opening)?;
-        }
-    }
-    Ok(())
-}
-
-/// A store that has no memory for one of its calls, and for none after it.
-#[derive(Drop)]
-struct Scant {
-    inner: MemTree,
-    calls: u64,
-}
-
-impl Scant {
-    /// Whether this call finds memory.
-    fn has_memory(&mut self) -> bool {
-        self.calls = self.calls.saturating_sub(1);
-        self.calls > 0
-    }
-}
-
-impl Tree for Scant {
-    ghost told = { false };
-
-    ghost state = { λ _. empty_store };
-
-    fn list(&mut self, place: &Place) -> Result<Vec<Entry>, Trouble> {
-        if self.has_memory() {
-            self.inner.list(place)
-        } else {
-            Err(Trouble::Memory)
-        }
-    }
-
-    fn open(&mut self, place: &Place) -> Result<(), Trouble> {
-        if self.has_memory() {
-            self.inner.open(place)
-        } else {
-            self.inner.close();
-            Err(Trouble::Memory)
-        }
-    }
-
-    fn read(&mut self, buffer: &mut [u8]) -> Result<usize, Trouble> {
-        if self.has_memory() {
-            self.inner.read(buffer)
-        } else {
-            self.inner.close();
-            Err(Trouble::Memory)
-        }
-    }
-
-    fn close(&mut self) {
-        self.inner.close();
-    }
-}
-
-#[test]
-fn memory_that_a_call_of_the_store_lacks(rt: HostRuntime) -> Result<(), Fail> {
-    let alloc = rt.alloc();
-    for number in 0..ROOTS {
-        let all = String::from_utf8(whole(alloc, &mut root_by(alloc, number)?)?)?;
-        for calls in 1..1_000u64 {
-            let inner = root_by(alloc, number)?;
-            let mut store = Scant { inner, calls };
-            let got = ran(alloc, &mut store, Cursor::new())?;
-            let what = format!(in alloc; "root {number}, call {calls}")?;
-            if store.calls > 0 {
-                assert_eq!(rt; got.text.as_str(), all.as_str(), "{what}");
-                break;
-            }
-            let is_told = matches!(got.end.end, RunStatus::Stopped(Fault::Memory));
-            assert!(rt; is_told, "{what}");
-            expect_rest(&rt, number, all.as_str(), got, what.as_str())?;
         }
     }
     Ok(())
@@ -255,30 +155,33 @@ impl io::Write for Drops {
     }
 }
 
-#[test]
-fn output_that_takes_a_byte_a_call_and_then_none(rt: HostRuntime) -> Result<(), Fail> {
+/// A run over such an output is cut where its room is less than the report, and a run from its
+/// cursor writes the rest.
+pub(crate) fn expect_dropped(
+    rt: &(impl Abort + AllocGlobal),
+    root: &mut Tried,
+    room: usize,
+) -> Result<(), Fail> {
     let alloc = rt.alloc();
-    for number in 0..ROOTS {
-        let mut store = root_by(alloc, number)?;
-        let all = whole(alloc, &mut store)?;
-        for room in 0..=all.len() {
-            let mut block = Block::new(alloc)?;
-            let mut out = Drops {
-                room,
-                kept: Vec::new(alloc),
-            };
-            let most = limits(MOST, MOST)?;
-            let end = run(alloc, &mut store, Cursor::new(), most, &mut block, &mut out);
-            let is_cut = matches!(end.end, RunStatus::Stopped(Fault::Output));
-            assert_eq!(rt; is_cut, room < all.len(), "room {room}");
-            assert!(rt; out.kept.len() == room && all.starts_with(out.kept.as_slice()));
-            let RunEnd { cursor, .. } = end;
-            if is_cut {
-                let rest = ran(alloc, &mut store, cursor)?;
-                assert!(rt; all.ends_with(rest.text.as_bytes()), "room {room}");
-                assert!(rt; rest.text.len() + room >= all.len(), "room {room}");
-            }
-        }
+    let kept = Vec::new(alloc);
+    let (mut block, mut out) = (Block::new(alloc)?, Drops { room, kept });
+    let most = limits(MOST, MOST)?;
+    let end = run(
+        alloc,
+        &mut root.store,
+        Cursor::new(),
+        most,
+        &mut block,
+        &mut out,
+    );
+    let is_cut = matches!(end.end, RunStatus::Stopped(Fault::Output));
+    assert_eq!(rt; is_cut, room < root.all.len(), "room {room}");
+    assert!(rt; root.begins_with(out.kept.as_slice(), room), "room {room}");
+    if is_cut {
+        let RunEnd { cursor, .. } = end;
+        let rest = ran(alloc, &mut root.store, cursor)?;
+        assert!(rt; root.all.ends_with(rest.text.as_str()), "room {room}");
+        assert!(rt; rest.text.len() + room >= root.all.len(), "room {room}");
     }
     Ok(())
 }

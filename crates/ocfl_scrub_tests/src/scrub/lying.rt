@@ -1,15 +1,16 @@
-//! Stores that lie: what they tell changes, or does not end.
+//! Stores that lie, in that what they tell changes, and one that lacks memory.
 ghost use Rattle.std.specs.Prelude.{false};
 ghost use Rattle.ocfl_tree.specs.MemTree.{empty_store};
 
-use crate::roots::{DECLARATION, SHORT_SIDECAR, expect_audit, right_object};
-use crate::run_figures::{MOST, limits};
-use crate::stop::{ROOTS, root_by};
+use super::faults::{expect_rest, ran};
+use super::run_figures::{MOST, limits};
+use super::stop::{ROOTS, Tried, root_by};
 use ocfl_cursor::Cursor;
 use ocfl_digest::Block;
 use ocfl_report::read_place;
 use ocfl_scrub::{RunEnd, RunStatus, run};
 use ocfl_tree::{Entry, MemTree, Place, Tree, Trouble};
+use ocfl_walk::Fault;
 use std::process::Abort;
 use std::test::Fail;
 
@@ -129,61 +130,68 @@ fn listings_and_files_that_change(rt: HostRuntime) -> Result<(), Fail> {
     Ok(())
 }
 
-/// A store of which one file never ends.
+/// A store that has no memory for one of its calls, and for none after it.
 #[derive(Drop)]
-struct Unending {
+struct Scant {
     inner: MemTree,
-    file: Place,
-    is_open: bool,
+    calls: u64,
 }
 
-impl Tree for Unending {
+impl Scant {
+    /// Whether this call finds memory; where it does not, no file is open.
+    fn find_memory(&mut self) -> Result<(), Trouble> {
+        self.calls = self.calls.saturating_sub(1);
+        if self.calls > 0 {
+            return Ok(());
+        }
+        self.inner.close();
+        Err(Trouble::Memory)
+    }
+}
+
+impl Tree for Scant {
     ghost told = { false };
 
     ghost state = { λ _. empty_store };
 
     fn list(&mut self, place: &Place) -> Result<Vec<Entry>, Trouble> {
+        self.find_memory()?;
         self.inner.list(place)
     }
 
     fn open(&mut self, place: &Place) -> Result<(), Trouble> {
-        self.is_open = *place == self.file;
+        self.find_memory()?;
         self.inner.open(place)
     }
 
     fn read(&mut self, buffer: &mut [u8]) -> Result<usize, Trouble> {
-        let is_open = self.is_open;
-        match self.inner.read(buffer) {
-            Ok(0) if is_open => {
-                for byte in buffer.iter_mut() {
-                    *byte = b'x';
-                }
-                Ok(buffer.len())
-            }
-            answer => answer,
-        }
+        self.find_memory()?;
+        self.inner.read(buffer)
     }
 
     fn close(&mut self) {
-        self.is_open = false;
         self.inner.close();
     }
 }
 
 #[test]
-fn files_of_a_head_that_never_end(rt: HostRuntime) -> Result<(), Fail> {
+fn memory_that_a_call_of_the_store_lacks(rt: HostRuntime) -> Result<(), Fail> {
     let alloc = rt.alloc();
-    for (file, line) in [
-        (DECLARATION, "E007\to\t-\n"),
-        (SHORT_SIDECAR, "E061\to\tsha256\n"),
-    ] {
-        let mut store = Unending {
-            inner: right_object(alloc)?,
-            file: crate::roots::place_of(alloc, file)?,
-            is_open: false,
-        };
-        let text = format!(in alloc; "ok\t.\t-\n{line}ok\to/v1/content/f\t3\n")?;
-        expect_audit(&rt, &mut store, text.as_str(), 1, "")?;
+    for number in 0..ROOTS {
+        let all = Tried::new(alloc, number)?.all;
+        for calls in 1..1_000u64 {
+            let inner = root_by(alloc, number)?;
+            let mut store = Scant { inner, calls };
+            let got = ran(alloc, &mut store, Cursor::new())?;
+            let what = format!(in alloc; "root {number}, call {calls}")?;
+            if store.calls > 0 {
+                assert_eq!(rt; got.text.as_str(), all.as_str(), "{what}");
+                break;
+            }
+            let is_told = matches!(got.end.end, RunStatus::Stopped(Fault::Memory));
+            assert!(rt; is_told, "{what}");
+            expect_rest(&rt, number, all.as_str(), got, what.as_str())?;
+        }
     }
     Ok(())
 }

@@ -1,50 +1,31 @@
 //! What the program does for each command: its status, its text, and the cursor that it stores.
-use crate::audit::three_files;
-use crate::roots::{
-    ABC_SHA256, ABC_SHA512, FILE, FILE_IS_OK, NOTHING_MD5, long_object, object_listing,
-    object_with, place_of, put, right_object,
-};
-use crate::run_figures::{A, B, C, HEADS, MOST, cursor_of, limits, place_at};
-use crate::stop::Narrow;
+use super::roots::{FILE_IS_OK, HEADS};
+use super::run_figures::{A, ALL, B, C, MOST, cursor_of, limits};
+use super::stop::{STOPS, stopping};
+use ocfl_common_tests::digests::lines_of;
+use ocfl_common_tests::object::{FILE, listing, object_with};
+use ocfl_common_tests::output::Narrow;
+use ocfl_common_tests::roots::{long_object, right_object, three_files, wrong_fixity};
+use ocfl_common_tests::tree::place_of;
 use ocfl_cursor::{State, encode};
 use ocfl_digest::Block;
 use ocfl_line::Deed;
 use ocfl_scrub::{Performed, perform};
-use ocfl_tree::{MemTree, Point, Tree};
+use ocfl_tree::Tree;
 use sha2::{Digest, Sha256};
 use std::alloc::Global;
 use std::io::{self, ErrorKind, Read};
 use std::process::Abort;
 use std::test::Fail;
 
-/// The text of a cursor behind `o/v1/content/c`.
-const STORED: &str = "ocfl-scrub cursor 2
-cycle 3
-runs 2
-spent 9
-files 3
-after o/v1/content/c
-digest 894422823bd158b8102505a5075ffb65b0f4cfeb1067789d3830a518ec8f4b26
-";
+/// The text of a cursor behind `o/v1/content/c`, with its digest by `sha256sum`.
+const STORED: &str =
+    "ocfl-scrub cursor 2\ncycle 3\nruns 2\nspent 9\nfiles 3\nafter o/v1/content/c\n\
+    digest 894422823bd158b8102505a5075ffb65b0f4cfeb1067789d3830a518ec8f4b26\n";
 
 /// The same of version 1, which does not tell the files.
-const OLD: &str = "ocfl-scrub cursor 1
-cycle 3
-runs 2
-spent 9
-after o/v1/content/c
-digest 822836e04ff6618e0a7571237f0049f590a6f9890506f09338f0505902d351d7
-";
-
-/// What a run that paid for the file `a` alone leaves.
-const BEHIND_A: &str = "ocfl-scrub cursor 2
-cycle 1
-runs 1
-spent 4
-files 1
-after o/v1/content/a
-digest e8e91be603724de14a4fd56ba13ae2c0a491f4cbcbc43593c5d8b1a9dc2f3c2b
-";
+const OLD: &str = "ocfl-scrub cursor 1\ncycle 3\nruns 2\nspent 9\nafter o/v1/content/c\n\
+    digest 822836e04ff6618e0a7571237f0049f590a6f9890506f09338f0505902d351d7\n";
 
 /// Doing the deed, with these bytes as the stored cursor, writes this text and ends with this
 /// status and this note. It gives the cursor to be stored.
@@ -68,29 +49,14 @@ fn expect<T: Tree>(
     let done = perform(alloc, store, deed, reader, &mut block, &mut out);
     let wrote = String::from_utf8(out)?;
     let said = format!(in alloc; "{}", done.note)?;
-    assert_eq!(rt; wrote.as_str(), text, "{note}");
+    assert_eq!(rt; wrote.as_str(), lines_of(alloc, text)?.as_str(), "{note}");
     assert_eq!(rt; said.as_str(), note, "{text}");
     assert_eq!(rt; done.status, status, "{text}{note}");
     let Performed { cursor, .. } = done;
     Ok(cursor)
 }
 
-/// The same of a deed that stores no cursor.
-fn expect_none<T: Tree>(
-    rt: &(impl Abort + AllocGlobal),
-    store: &mut T,
-    deed: &Deed,
-    file: Option<&[u8]>,
-    text: &str,
-    status: u8,
-    note: &str,
-) -> Result<(), Fail> {
-    let stored = expect(rt, store, deed, file, text, status, note)?;
-    assert!(rt; stored.is_none(), "{note}");
-    Ok(())
-}
-
-/// The same, and no call of the store is made.
+/// The same over three files, and no call of the store is made and no cursor stored.
 fn expect_silent(
     rt: &(impl Abort + AllocGlobal),
     deed: &Deed,
@@ -100,11 +66,10 @@ fn expect_silent(
     note: &str,
 ) -> Result<(), Fail> {
     let mut store = three_files(rt.alloc())?;
-    expect_none(rt, &mut store, deed, file, text, status, note)?;
-    assert!(rt;
-        store.openings().is_empty() && store.listings().is_empty(),
-        "{note}"
-    );
+    let stored = expect(rt, &mut store, deed, file, text, status, note)?;
+    assert!(rt; stored.is_none(), "{note}");
+    assert!(rt; store.openings().is_empty(), "{note}");
+    assert!(rt; store.listings().is_empty(), "{note}");
     Ok(())
 }
 
@@ -118,62 +83,80 @@ fn sealed(alloc: Global, body: &str) -> Result<String, Fail> {
     Ok(format!(in alloc; "{body}digest {digest}\n")?)
 }
 
-/// A storage root whose file has the right digest in the manifest, and a wrong one in fixity.
-fn wrong_fixity(alloc: Global) -> Result<MemTree, Fail> {
-    let manifest = format!(in alloc; "\"{ABC_SHA256}\":[\"v1/content/f\"]")?;
-    let fixity = format!(in alloc; "\"md5\":{{\"{NOTHING_MD5}\":[\"v1/content/f\"]}}")?;
-    let mut store = object_listing(alloc, manifest.as_str(), fixity.as_str())?;
-    put(alloc, &mut store, FILE, b"abc")?;
-    Ok(store)
+/// The pieces, one after the other.
+fn joined(alloc: Global, pieces: &[&str]) -> Result<String, Fail> {
+    let mut text = String::new(alloc);
+    for piece in pieces {
+        text.push_str(piece)?;
+    }
+    Ok(text)
 }
+
+/// The budget and the limit of files of so many runs, what their cycle writes, and the note.
+const CYCLES: [(u64, u64, usize, &[&str], &str); 5] = [
+    (1, MOST, 2, &[HEADS, A, B], "runs 2, cost 5, open"),
+    (1, MOST, 3, ALL, "runs 3, cost 9, ended"),
+    (9, 1, 3, ALL, "runs 3, cost 9, ended"),
+    (9, 2, 1, &[HEADS, A, B], "runs 1, cost 5, open"),
+    (9, 3, 100_000, ALL, "runs 1, cost 9, ended"),
+];
 
 #[test]
 fn cycles(rt: HostRuntime) -> Result<(), Fail> {
-    let alloc = rt.alloc();
-    let two = format!(in alloc; "{HEADS}{A}{B}")?;
-    let three = format!(in alloc; "{HEADS}{A}{B}{C}")?;
-    let cases = [
-        (limits(1, MOST)?, 2, two.as_str(), "runs 2, cost 5, open"),
-        (limits(1, MOST)?, 3, three.as_str(), "runs 3, cost 9, ended"),
-        (limits(9, 1)?, 3, three.as_str(), "runs 3, cost 9, ended"),
-        (limits(9, 2)?, 1, two.as_str(), "runs 1, cost 5, open"),
-        (
-            limits(9, 3)?,
-            100_000,
-            three.as_str(),
-            "runs 1, cost 9, ended",
-        ),
-    ];
-    for (most, count, text, note) in cases {
-        let deed = Deed::Cycle(most, count);
-        expect_none(&rt, &mut three_files(alloc)?, &deed, None, text, 0, note)?;
+    for (budget, files, count, pieces, note) in CYCLES {
+        let text = joined(rt.alloc(), pieces)?;
+        let deed = Deed::Cycle(limits(budget, files)?, count);
+        let mut store = three_files(rt.alloc())?;
+        let stored = expect(&rt, &mut store, &deed, None, text.as_str(), 0, note)?;
+        assert!(rt; stored.is_none(), "{note}");
     }
     Ok(())
 }
 
+/// Runs, each from the cursor of the one before: the budget, what it writes, the note, and the
+/// cursor that it leaves, with its digest by `sha256sum`. The last one begins the next cycle.
+const RUNS: [(u64, &[&str], &str, &str); 3] = [
+    (
+        4,
+        &[HEADS, A],
+        "cycle 1, run 1, cost 4, open",
+        "ocfl-scrub cursor 2\ncycle 1\nruns 1\nspent 4\nfiles 1\nafter o/v1/content/a\n\
+        digest e8e91be603724de14a4fd56ba13ae2c0a491f4cbcbc43593c5d8b1a9dc2f3c2b\n",
+    ),
+    (
+        4,
+        &[B, C],
+        "cycle 1, run 2, cost 5, ended",
+        "ocfl-scrub cursor 2\ncycle 1\nruns 2\nspent 9\nfiles 3\nended\n\
+        digest 629e63ed542686e0d0efd4f5c3a5fb514fb8c1116062fa160ae0411dd8b6b511\n",
+    ),
+    (
+        9,
+        ALL,
+        "cycle 2, run 1, cost 9, ended",
+        "ocfl-scrub cursor 2\ncycle 2\nruns 1\nspent 9\nfiles 3\nended\n\
+        digest 6e5e203d75efaac87e5137b6658e1cb8307e4f16ff6d2d8735ca61c56f5fe56e\n",
+    ),
+];
+
 #[test]
 fn runs_that_go_on(rt: HostRuntime) -> Result<(), Fail> {
-    let alloc = rt.alloc();
-    let mut store = three_files(alloc)?;
-    let text = format!(in alloc; "{HEADS}{A}")?;
-    let note = "cycle 1, run 1, cost 4, open";
-    let stored = expect(&rt, &mut store, &run_of(4)?, None, text.as_str(), 0, note)?;
-    let stored = stored.ok_or("no cursor")?;
-    assert!(rt; stored.as_slice() == BEHIND_A.as_bytes());
-    let text = format!(in alloc; "{B}{C}")?;
-    let note = "cycle 1, run 2, cost 5, ended";
-    let file = Some(stored.as_slice());
-    let stored = expect(&rt, &mut store, &run_of(4)?, file, text.as_str(), 0, note)?;
-    let stored = stored.ok_or("no cursor")?;
-    let body = "ocfl-scrub cursor 2\ncycle 1\nruns 2\nspent 9\nfiles 3\nended\n";
-    assert!(rt; stored.as_slice() == sealed(alloc, body)?.as_bytes());
-    // The next run begins the next cycle.
-    let text = format!(in alloc; "{HEADS}{A}{B}{C}")?;
-    let note = "cycle 2, run 1, cost 9, ended";
-    let file = Some(stored.as_slice());
-    let stored = expect(&rt, &mut store, &run_of(9)?, file, text.as_str(), 0, note)?;
-    let body = "ocfl-scrub cursor 2\ncycle 2\nruns 1\nspent 9\nfiles 3\nended\n";
-    assert!(rt; stored.ok_or("no cursor")?.as_slice() == sealed(alloc, body)?.as_bytes());
+    let mut store = three_files(rt.alloc())?;
+    let mut stored: Option<Vec<u8>> = None;
+    for (budget, pieces, note, right) in RUNS {
+        let text = joined(rt.alloc(), pieces)?;
+        let file = stored.as_deref();
+        stored = expect(
+            &rt,
+            &mut store,
+            &run_of(budget)?,
+            file,
+            text.as_str(),
+            0,
+            note,
+        )?;
+        assert!(rt; stored.as_deref() == Some(right.as_bytes()), "{note}");
+    }
     Ok(())
 }
 
@@ -189,7 +172,7 @@ fn run_from_a_stored_cursor(rt: HostRuntime) -> Result<(), Fail> {
             "ocfl-scrub cursor 2\ncycle 3\nruns 3\nspent 9\nfiles {files}\nended\n"
         )?;
         let right = sealed(alloc, body.as_str())?;
-        assert!(rt; stored.ok_or("no cursor")?.as_slice() == right.as_bytes());
+        assert!(rt; stored.as_deref() == Some(right.as_bytes()), "{note}");
     }
     Ok(())
 }
@@ -286,37 +269,44 @@ fn worn_cursors(rt: HostRuntime) -> Result<(), Fail> {
 
 #[test]
 fn findings(rt: HostRuntime) -> Result<(), Fail> {
-    let alloc = rt.alloc();
-    let wrong = "E093\to/v1/content/f\tmd5 d41d8cd98f00b204e9800998ecf8427e \
-        900150983cd24fb0d6963f7d28e17f72\n";
-    let text = format!(in alloc; "{HEADS}{wrong}")?;
-    let text = text.as_str();
-    expect_none(
-        &rt,
-        &mut wrong_fixity(alloc)?,
-        &Deed::Audit,
-        None,
-        text,
-        1,
-        "",
-    )?;
-    let mut store = wrong_fixity(alloc)?;
-    let note = "cycle 1, run 1, cost 4, ended";
-    let stored = expect(&rt, &mut store, &run_of(9)?, None, text, 1, note)?;
-    assert!(rt; stored.is_some());
-    let deed = Deed::Cycle(limits(9, MOST)?, 1);
-    let note = "runs 1, cost 4, ended";
-    expect_none(&rt, &mut wrong_fixity(alloc)?, &deed, None, text, 1, note)?;
-    // What cannot be computed is no finding.
-    let members = "\"digestAlgorithm\":\"sha256\",\"manifest\":{},\"fixity\":{\"blake2b-512\":7}";
-    let inventory = crate::roots::inventory(alloc, members)?;
-    let mut store = object_with(alloc, inventory.as_bytes())?;
-    let text = "ok\t.\t-\nS07\to\tblake2b-512\nE023\to/v1/content/f\t-\n";
-    expect_none(&rt, &mut store, &Deed::Audit, None, text, 1, "")?;
-    let inventory = crate::roots::listing(alloc, "\"v1/content/f\"", "{\"blake2b-512\":7}")?;
-    let mut store = object_with(alloc, inventory.as_bytes())?;
-    let text = format!(in alloc; "ok\t.\t-\nS07\to\tblake2b-512\n{FILE_IS_OK}")?;
-    expect_none(&rt, &mut store, &Deed::Audit, None, text.as_str(), 0, "")
+    let text = "ok|.|-\nok|o|-\nE093|o/v1/content/f|md5 NOTHING_MD5 ABC_MD5\n";
+    for (deed, note, stores) in [
+        (Deed::Audit, "", false),
+        (run_of(9)?, "cycle 1, run 1, cost 4, ended", true),
+        (
+            Deed::Cycle(limits(9, MOST)?, 1),
+            "runs 1, cost 4, ended",
+            false,
+        ),
+    ] {
+        let mut store = wrong_fixity(rt.alloc())?;
+        let stored = expect(&rt, &mut store, &deed, None, text, 1, note)?;
+        assert_eq!(rt; stored.is_some(), stores, "{note}");
+    }
+    Ok(())
+}
+
+#[test]
+fn what_cannot_be_computed_is_no_finding(rt: HostRuntime) -> Result<(), Fail> {
+    for (manifest, line, status) in [
+        ("", "E023|o/v1/content/f|-\n", 1),
+        (r#""ABC_SHA256":["v1/content/f"]"#, FILE_IS_OK, 0),
+    ] {
+        let inventory = listing(rt.alloc(), manifest, r#""blake2b-512":7"#)?;
+        let mut store = object_with(rt.alloc(), inventory.as_str())?;
+        let text = format!(in rt.alloc(); "ok|.|-\nS07|o|blake2b-512\n{line}")?;
+        let stored = expect(
+            &rt,
+            &mut store,
+            &Deed::Audit,
+            None,
+            text.as_str(),
+            status,
+            "",
+        )?;
+        assert!(rt; stored.is_none(), "{line}");
+    }
+    Ok(())
 }
 
 #[test]
@@ -324,21 +314,15 @@ fn places_that_are_checked(rt: HostRuntime) -> Result<(), Fail> {
     let alloc = rt.alloc();
     let cases = [
         (FILE, FILE_IS_OK, 0, ""),
-        (".", "ok\t.\t-\n", 0, ""),
+        (".", "ok|.|-\n", 0, ""),
         ("o/v1/content/h", "", 0, "no item"),
         ("o//f", "", 2, "bad path"),
     ];
     for (path, text, status, note) in cases {
         let deed = Deed::Check(format!(in alloc; "{path}")?);
-        expect_none(
-            &rt,
-            &mut right_object(alloc)?,
-            &deed,
-            None,
-            text,
-            status,
-            note,
-        )?;
+        let mut store = right_object(alloc)?;
+        let stored = expect(&rt, &mut store, &deed, None, text, status, note)?;
+        assert!(rt; stored.is_none(), "{path}");
     }
     let deed = Deed::Check(format!(in alloc; "o//f")?);
     expect_silent(&rt, &deed, None, "", 2, "bad path")
@@ -347,31 +331,18 @@ fn places_that_are_checked(rt: HostRuntime) -> Result<(), Fail> {
 #[test]
 fn calls_that_stop(rt: HostRuntime) -> Result<(), Fail> {
     let alloc = rt.alloc();
-    let root = "ok\t.\t-\n";
-    let cases = [
-        (".", Point::List, "", "stopped at .", "start"),
-        ("o", Point::List, root, "stopped at o", "after ."),
-        (
-            "o/inventory.json",
-            Point::Read(0),
-            root,
-            "stopped at o/inventory.json",
-            "after .",
-        ),
-    ];
-    for (place, point, text, note, state) in cases {
-        let mut store = long_object(alloc, ABC_SHA512)?;
-        store.fail_at(&place_at(alloc, place)?, point)?;
+    for (place, point, text, note, state) in STOPS {
+        let mut store = stopping(alloc, place, point)?;
         let stored = expect(&rt, &mut store, &run_of(9)?, None, text, 3, note)?;
         let body = format!(in alloc;
             "ocfl-scrub cursor 2\ncycle 1\nruns 1\nspent 0\nfiles 0\n{state}\n"
         )?;
         let right = sealed(alloc, body.as_str())?;
-        assert!(rt; stored.ok_or("no cursor")?.as_slice() == right.as_bytes());
+        assert!(rt; stored.as_deref() == Some(right.as_bytes()), "{note}");
         for deed in [Deed::Audit, Deed::Cycle(limits(9, MOST)?, 2)] {
-            let mut store = long_object(alloc, ABC_SHA512)?;
-            store.fail_at(&place_at(alloc, place)?, point)?;
-            expect_none(&rt, &mut store, &deed, None, text, 3, note)?;
+            let mut store = stopping(alloc, place, point)?;
+            let stored = expect(&rt, &mut store, &deed, None, text, 3, note)?;
+            assert!(rt; stored.is_none(), "{note}");
         }
     }
     Ok(())
@@ -383,12 +354,8 @@ fn with_ten_bytes(
     deed: &Deed,
 ) -> Result<(Vec<u8>, Option<Vec<u8>>), Fail> {
     let alloc = rt.alloc();
-    let mut store = long_object(alloc, ABC_SHA512)?;
-    let mut block = Block::new(alloc)?;
-    let mut out = Narrow {
-        room: 10,
-        kept: Vec::new(alloc),
-    };
+    let mut store = long_object(alloc, "ABC_SHA512")?;
+    let (mut block, mut out) = (Block::new(alloc)?, Narrow::new(alloc, 10));
     let mut file = STORED.as_bytes();
     let reader = match deed {
         Deed::Show => Some(&mut file),
@@ -413,7 +380,7 @@ fn output_of_ten_bytes(rt: HostRuntime) -> Result<(), Fail> {
     assert!(rt; wrote.as_slice() == begun);
     let behind_the_root = encode(
         alloc,
-        &cursor_of(1, 1, State::After(place_at(alloc, ".")?))?,
+        &cursor_of(1, 1, State::After(place_of(alloc, ".")?))?,
     )?;
     assert!(rt; cursor == Some(behind_the_root));
     for deed in [Deed::Audit, Deed::Cycle(limits(9, MOST)?, 2)] {

@@ -1,10 +1,12 @@
 //! What the tests of runs share: limits, cursors, and what runs and cycles say.
-use crate::roots::{ABC_SHA256, NOTHING_SHA256, place_of, put, sidecar};
+use super::roots::HEADS;
+use ocfl_common_tests::digests::{ABC_SHA256, NOTHING_SHA256, lines_of};
+use ocfl_common_tests::tree::place_of;
 use ocfl_cursor::{Budget, Cursor, FileLimit, Limits, State};
-use ocfl_digest::{Algorithm, Block};
+use ocfl_digest::Block;
 use ocfl_report::DisplayPlace;
 use ocfl_scrub::{CycleEnd, CycleStatus, RunEnd, RunStatus, cycle, run};
-use ocfl_tree::{MemTree, Place, Tree};
+use ocfl_tree::Tree;
 use ocfl_walk::Fault;
 use std::alloc::Global;
 use std::process::Abort;
@@ -13,15 +15,15 @@ use std::test::Fail;
 /// The largest limit of files, and the largest budget.
 pub(crate) const MOST: u64 = 4_611_686_018_427_387_904;
 
-/// The items of the root and of the object, both right.
-pub(crate) const HEADS: &str = "ok\t.\t-\nok\to\t-\n";
-
 // The items of the content files of one object.
-pub(crate) const A: &str = "ok\to/v1/content/a\t3\n";
+pub(crate) const A: &str = "ok|o/v1/content/a|3\n";
 
-pub(crate) const B: &str = "ok\to/v1/content/b\t0\n";
+pub(crate) const B: &str = "ok|o/v1/content/b|0\n";
 
-pub(crate) const C: &str = "ok\to/v1/content/c\t3\n";
+pub(crate) const C: &str = "ok|o/v1/content/c|3\n";
+
+/// All items of the root of three files.
+pub(crate) const ALL: &[&str] = &[HEADS, A, B, C];
 
 pub(crate) fn limits(budget: u64, files: u64) -> Result<Limits, Fail> {
     let budget = Budget::new(budget).ok_or("no budget")?;
@@ -52,18 +54,9 @@ pub(crate) fn equal_limits(
     Ok(all)
 }
 
-/// A place by its path, `.` for the root.
-pub(crate) fn place_at(alloc: Global, path: &str) -> Result<Place, Fail> {
-    if path == "." {
-        Ok(Place::root(alloc))
-    } else {
-        place_of(alloc, path)
-    }
-}
-
 /// A cursor of the first cycle that has had no run and stands behind this place.
 pub(crate) fn cursor_after(alloc: Global, path: &str) -> Result<Cursor, Fail> {
-    cursor_of(1, 0, State::After(place_at(alloc, path)?))
+    cursor_of(1, 0, State::After(place_of(alloc, path)?))
 }
 
 /// A cursor that has spent nothing.
@@ -150,7 +143,7 @@ pub(crate) fn expect_run<T: Tree>(
     Ok(cursor)
 }
 
-/// These bytes are the pieces, one after the other.
+/// These bytes are the pieces, one after the other, with tabs for their bars.
 fn expect_text(
     rt: &(impl Abort + AllocGlobal),
     out: Vec<u8>,
@@ -162,7 +155,11 @@ fn expect_text(
         text.push_str(piece)?;
     }
     let wrote = String::from_utf8(out)?;
-    assert_eq!(rt; wrote.as_str(), text.as_str(), "{said}");
+    assert_eq!(rt;
+        wrote.as_str(),
+        lines_of(rt.alloc(), text.as_str())?.as_str(),
+        "{said}"
+    );
     Ok(())
 }
 
@@ -197,74 +194,6 @@ pub(crate) fn expect_cycle<T: Tree>(
     let says = cycle_says(alloc, &end)?;
     assert_eq!(rt; says.as_str(), said);
     Ok(())
-}
-
-/// How often the place was opened.
-pub(crate) fn opened_at(store: &MemTree, place: &Place) -> usize {
-    store
-        .openings()
-        .iter()
-        .filter(|opening| opening.place == *place)
-        .count()
-}
-
-/// The paths of these openings that end so, oldest first, each with a semicolon behind it.
-pub(crate) fn opened_paths(
-    alloc: Global,
-    store: &MemTree,
-    from: usize,
-    ending: &str,
-) -> Result<String, Fail> {
-    let mut text = String::new(alloc);
-    for opening in store.openings().iter().skip(from) {
-        let path = opening.place.path();
-        if path.ends_with(ending) {
-            text.push_str(path)?;
-            text.push(';')?;
-        }
-    }
-    Ok(text)
-}
-
-/// Puts an object whose inventory lists `v1/content/f`, which has the bytes `abc`.
-pub(crate) fn put_right_object(
-    alloc: Global,
-    store: &mut MemTree,
-    object: &str,
-    inventory: &[u8],
-) -> Result<(), Fail> {
-    for folder in ["", "/v1", "/v1/content"] {
-        let path = format!(in alloc; "{object}{folder}")?;
-        store.put_dir(&place_of(alloc, path.as_str())?)?;
-    }
-    let right = sidecar(alloc, Algorithm::Sha256, inventory)?;
-    put_in(alloc, store, object, "inventory.json", inventory)?;
-    put_in(
-        alloc,
-        store,
-        object,
-        "inventory.json.sha256",
-        right.as_bytes(),
-    )?;
-    put_in(
-        alloc,
-        store,
-        object,
-        "0=ocfl_object_1.1",
-        b"ocfl_object_1.1\n",
-    )?;
-    put_in(alloc, store, object, "v1/content/f", b"abc")
-}
-
-fn put_in(
-    alloc: Global,
-    store: &mut MemTree,
-    object: &str,
-    place: &str,
-    bytes: &[u8],
-) -> Result<(), Fail> {
-    let path = format!(in alloc; "{object}/{place}")?;
-    put(alloc, store, path.as_str(), bytes)
 }
 
 /// What the files of a report cost, how many they are, and whether it has a finding.
@@ -310,7 +239,7 @@ fn cost_of(code: &str, detail: &str) -> u64 {
 
 /// How many bytes the items have that went out whole, where so many bytes of the report did. Lines
 /// of one place are one item.
-pub(crate) fn whole_items(report: &str, room: usize) -> usize {
+fn whole_items(report: &str, room: usize) -> usize {
     let mut whole = 0;
     let mut end = 0usize;
     let mut before: &[u8] = b"";
@@ -323,4 +252,13 @@ pub(crate) fn whole_items(report: &str, room: usize) -> usize {
         end = end.saturating_add(line.len());
     }
     whole
+}
+
+/// The figures of the items that went out whole, where so many bytes of the report did, and the
+/// report behind them.
+pub(crate) fn due_of(report: &str, room: usize) -> Result<(Figures, &str), Fail> {
+    let (went, left) = report
+        .split_at_checked(whole_items(report, room))
+        .ok_or("no such byte")?;
+    Ok((reckoned(went)?, left))
 }

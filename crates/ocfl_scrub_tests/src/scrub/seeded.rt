@@ -1,11 +1,12 @@
 //! An audit writes what checks of all places write, one after the other.
-use crate::roots::{ABC_SHA256, NOTHING_SHA256, place_of, sidecar};
-use ocfl_digest::{Algorithm, Block};
+use ocfl_common_tests::digests::with_digests;
+use ocfl_common_tests::object::short_digits;
+use ocfl_common_tests::tree::place_of;
+use ocfl_digest::Block;
 use ocfl_report::put_place;
 use ocfl_scrub::{audited, checked};
 use ocfl_tree::{MemTree, Place};
 use std::alloc::Global;
-use std::process::Abort;
 use std::test::Fail;
 
 /// Numbers that look random, the same for the same seed: a linear congruence with Knuth's numbers.
@@ -151,9 +152,9 @@ fn grow_object(grown: &mut Grown, dice: &mut Dice, object: &str) -> Result<(), F
         }
     }
     let digest = if dice.is_one_of(4) {
-        NOTHING_SHA256
+        "NOTHING_SHA256"
     } else {
-        ABC_SHA256
+        "ABC_SHA256"
     };
     let inventory = if dice.is_one_of(12) {
         format!(in alloc; "{{}}")?
@@ -162,12 +163,14 @@ fn grow_object(grown: &mut Grown, dice: &mut Dice, object: &str) -> Result<(), F
             "{{\"digestAlgorithm\":\"sha256\",\"manifest\":{{\"{digest}\":[{listed}]}}}}"
         )?
     };
+    let inventory = with_digests(alloc, inventory.as_str())?;
     if !dice.is_one_of(12) {
         let path = format!(in alloc; "{object}/inventory.json")?;
         grown.file(path.as_str(), inventory.as_bytes())?;
     }
     if !dice.is_one_of(6) {
-        let right = sidecar(alloc, Algorithm::Sha256, inventory.as_bytes())?;
+        let digits = short_digits(alloc, inventory.as_bytes())?;
+        let right = format!(in alloc; "{digits} inventory.json\n")?;
         let path = format!(in alloc; "{object}/inventory.json.sha256")?;
         grown.file(path.as_str(), right.as_bytes())?;
     }
@@ -199,26 +202,14 @@ pub(crate) fn grow(alloc: Global, seed: u64) -> Result<Grown, Fail> {
     Ok(grown)
 }
 
-/// Whether some directory was listed twice.
-fn lists_twice(alloc: Global, store: &MemTree) -> Result<bool, Fail> {
+/// Whether one of the places comes twice.
+fn has_twice<'a>(alloc: Global, places: impl Iterator<Item = &'a Place>) -> Result<bool, Fail> {
     let mut before: Vec<&Place> = Vec::new(alloc);
-    for place in store.listings() {
+    for place in places {
         if before.contains(&place) {
             return Ok(true);
         }
         before.push(place)?;
-    }
-    Ok(false)
-}
-
-/// Whether some file was opened twice.
-fn opens_twice(alloc: Global, store: &MemTree) -> Result<bool, Fail> {
-    let mut before: Vec<&Place> = Vec::new(alloc);
-    for opening in store.openings() {
-        if before.contains(&&opening.place) {
-            return Ok(true);
-        }
-        before.push(&opening.place)?;
     }
     Ok(false)
 }
@@ -246,38 +237,20 @@ fn checks(alloc: Global, grown: &mut Grown, block: &mut Block) -> Result<String,
     Ok(String::from_utf8(joined)?)
 }
 
-/// The audit of each of these roots writes what the checks of all places write. It lists no place
-/// twice, and opens none twice.
-fn audits_are_checks(
-    rt: &(impl Abort + AllocGlobal),
-    seeds: std::ops::Range<u64>,
-) -> Result<(), Fail> {
-    let alloc = rt.alloc();
-    let mut block = Block::new(alloc)?;
-    for seed in seeds {
-        let mut grown = grow(alloc, seed)?;
-        let mut all = Vec::new(alloc);
-        let _ = audited(alloc, &mut grown.store, &mut block, &mut all);
-        assert!(rt; !lists_twice(alloc, &grown.store)?, "seed {seed}");
-        assert!(rt; !opens_twice(alloc, &grown.store)?, "seed {seed}");
+#[test]
+fn an_audit_is_the_checks_of_all_places(rt: HostRuntime) -> Result<(), Fail> {
+    let mut block = Block::new(rt.alloc())?;
+    for seed in 1..501 {
+        let mut grown = grow(rt.alloc(), seed)?;
+        let mut all = Vec::new(rt.alloc());
+        let _ = audited(rt.alloc(), &mut grown.store, &mut block, &mut all);
+        let listed = grown.store.listings().iter();
+        assert!(rt; !has_twice(rt.alloc(), listed)?, "seed {seed}");
+        let opened = grown.store.openings().iter().map(|opening| &opening.place);
+        assert!(rt; !has_twice(rt.alloc(), opened)?, "seed {seed}");
         let all = String::from_utf8(all)?;
-        let joined = checks(alloc, &mut grown, &mut block)?;
+        let joined = checks(rt.alloc(), &mut grown, &mut block)?;
         assert_eq!(rt; all.as_str(), joined.as_str(), "seed {seed}");
     }
     Ok(())
-}
-
-#[test]
-fn an_audit_is_the_checks_of_all_places(rt: HostRuntime) -> Result<(), Fail> {
-    audits_are_checks(&rt, 1..201)
-}
-
-#[test]
-fn an_audit_is_the_checks_of_more_roots(rt: HostRuntime) -> Result<(), Fail> {
-    audits_are_checks(&rt, 201..401)
-}
-
-#[test]
-fn an_audit_is_the_checks_of_still_more_roots(rt: HostRuntime) -> Result<(), Fail> {
-    audits_are_checks(&rt, 401..501)
 }

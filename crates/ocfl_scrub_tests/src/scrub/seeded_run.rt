@@ -1,7 +1,8 @@
 //! Runs with limits of all kinds write, joined, what an audit writes.
-use crate::run_figures::{Figures, limits, opened_paths, reckoned};
-use crate::seeded::{Dice, grow};
-use crate::stop::whole;
+use super::run_figures::{Figures, limits, reckoned};
+use super::seeded::{Dice, grow};
+use super::stop::whole;
+use ocfl_common_tests::tree::opened_from;
 use ocfl_cursor::{Cursor, Limits};
 use ocfl_digest::Block;
 use ocfl_scrub::{CycleStatus, RunEnd, RunStatus, cycle, run};
@@ -78,7 +79,7 @@ fn runs_of(
 
 /// How often inventories were opened.
 fn inventories(alloc: Global, store: &MemTree) -> Result<usize, Fail> {
-    let paths = opened_paths(alloc, store, 0, "/inventory.json")?;
+    let paths = opened_from(alloc, store, 0, "/inventory.json")?;
     Ok(paths.as_str().split(';').count())
 }
 
@@ -143,7 +144,7 @@ fn cycle_is_the_audit(
 fn root_of_seed(rt: &(impl Abort + AllocGlobal), seed: u64) -> Result<(), Fail> {
     let alloc = rt.alloc();
     let mut once = grow(alloc, seed)?;
-    let text = String::from_utf8(whole(alloc, &mut once.store)?)?;
+    let text = whole(alloc, &mut once.store)?;
     let all = reckoned(text.as_str())?;
     let mut grown = grow(alloc, seed)?;
     let mut dice = Dice {
@@ -157,27 +158,10 @@ fn root_of_seed(rt: &(impl Abort + AllocGlobal), seed: u64) -> Result<(), Fail> 
     cycle_is_the_audit(rt, &mut again.store, &mut done, text.as_str(), &all)
 }
 
-fn runs_are_the_audit(
-    rt: &(impl Abort + AllocGlobal),
-    seeds: std::ops::Range<u64>,
-) -> Result<(), Fail> {
-    for seed in seeds {
-        root_of_seed(rt, seed)?;
-    }
-    Ok(())
-}
-
 #[test]
 fn runs_are_an_audit(rt: HostRuntime) -> Result<(), Fail> {
-    runs_are_the_audit(&rt, 1..201)
-}
-
-#[test]
-fn runs_are_an_audit_of_more_roots(rt: HostRuntime) -> Result<(), Fail> {
-    runs_are_the_audit(&rt, 201..401)
-}
-
-#[test]
-fn runs_are_an_audit_of_still_more_roots(rt: HostRuntime) -> Result<(), Fail> {
-    runs_are_the_audit(&rt, 401..501)
+    for seed in 1..501 {
+        root_of_seed(&rt, seed)?;
+    }
+    Ok(())
 }

@@ -31,21 +31,6 @@ const OLD: &str = "0=ocfl_object_1.0";
 
 const NEW: &str = "0=ocfl_object_1.1";
 
-/// A declaration of this name and text, with all else right, gives these lines.
-fn declares(
-    rt: &(impl Abort + AllocGlobal),
-    name: &str,
-    text: &str,
-    want: &str,
-) -> Result<(), Fail> {
-    let rest = ("inventory.json", BY_SHA512);
-    says(
-        rt,
-        &[(name, text), rest, ("inventory.json.sha512", RIGHT_LONG)],
-        want,
-    )
-}
-
 #[test]
 fn declarations(rt: HostRuntime) -> Result<(), Fail> {
     let over = "x".repeat(rt.alloc(), 4_097)?;
@@ -58,7 +43,9 @@ fn declarations(rt: HostRuntime) -> Result<(), Fail> {
         (NEW, "ocfl_1.1\n", "E007|p/o|-\n"),
         (NEW, over.as_str(), "E007|p/o|-\n"),
     ] {
-        declares(&rt, name, text, want)?;
+        let rest = ("inventory.json", BY_SHA512);
+        let files = [(name, text), rest, ("inventory.json.sha512", RIGHT_LONG)];
+        says(&rt, &files, want)?;
     }
     Ok(())
 }

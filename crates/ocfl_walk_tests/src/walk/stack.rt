@@ -39,17 +39,6 @@ fn steps(
     Ok(())
 }
 
-/// The inventories that were opened are these.
-fn expect_inventories(
-    rt: &(impl Abort + AllocGlobal),
-    store: &MemTree,
-    want: &str,
-) -> Result<(), Fail> {
-    let opened = opened_from(rt.alloc(), store, 0, "/inventory.json")?;
-    assert_eq!(rt; opened.as_str(), want);
-    Ok(())
-}
-
 const ALL_LISTED: &str = ";o;o/v1;o/v1/content;";
 
 const A: (&str, &str) = ("o/v1/content/a", ALL_LISTED);
@@ -82,6 +71,17 @@ fn listings_after_each_item(rt: HostRuntime) -> Result<(), Fail> {
     for (after, rows) in STEPS {
         steps(&rt, &mut missing_and_there(rt.alloc())?, after, rows)?;
     }
+    Ok(())
+}
+
+/// The inventories that were opened are these.
+fn expect_inventories(
+    rt: &(impl Abort + AllocGlobal),
+    store: &MemTree,
+    want: &str,
+) -> Result<(), Fail> {
+    let opened = opened_from(rt.alloc(), store, 0, "/inventory.json")?;
+    assert_eq!(rt; opened.as_str(), want);
     Ok(())
 }
 

@@ -1,0 +1,19 @@
+//! The tests, and what they share.
+mod audit;
+mod check;
+mod cycle;
+mod entered;
+mod faults;
+mod head;
+mod inventory;
+mod lying;
+mod odd_store;
+mod perform;
+mod roots;
+mod run;
+mod run_content;
+mod run_figures;
+mod run_stop;
+mod seeded;
+mod seeded_run;
+mod stop;

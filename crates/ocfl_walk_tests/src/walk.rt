@@ -15,6 +15,7 @@ mod find;
 mod head;
 mod head_lines;
 mod judging;
+mod met;
 mod stack;
 
 pub(crate) fn said(fault: Fault) -> Fail {

@@ -1,12 +1,12 @@
 -- A pass over all items is the audit.
-use Rattle.std.proofs.Common.{◌≡◌, ℕ, zero, suc, ◌+◌, List, [], ◌∷◌, ◌++◌, refl, sym, ◌∙◌, ap, subst, Bool, false, None, Option, length, take, arith}
+use Rattle.std.proofs.Common.{◌≡◌, ◌≢◌, ℕ, zero, suc, ◌+◌, List, [], ◌∷◌, ◌++◌, refl, sym, ◌∙◌, ap, subst, Bool, false, None, Option, length, take, arith}
 use Rattle.std.specs.Io.KnownBytes.{Appends}
 use Rattle.std.proofs.KnownBytes.{Appends-nil}
 use Rattle.ocfl_tree.specs.Place.{Place}
 use Rattle.ocfl_tree.specs.Tree.{Tree}
 use Rattle.ocfl_tree.specs.Store.{Store}
 use Rattle.ocfl_tree.specs.declared.store.Opening.{Opening}
-use Rattle.ocfl_report.specs.Line.{found}
+use Rattle.ocfl_report.specs.Line.{Item, found}
 use Rattle.ocfl_report.specs.Text.{text}
 use Rattle.ocfl_audit.specs.Audit.{audit, item_of}
 use Rattle.ocfl_audit.specs.Due.{item_places, due, items_at}
@@ -18,12 +18,14 @@ use Rattle.ocfl_item.specs.Ways.{IsWayFault}
 use Rattle.ocfl_item.specs.Auditing.{Audits, Fails}
 use Rattle.ocfl_walk.specs.WalkCalls.{GoDownFails}
 use Rattle.ocfl_item.specs.declared.fault.Fault.{Fault}
+use Rattle.ocfl_item.specs.declared.fault.Fault.TheVariants.{Output}
 use Rattle.ocfl_scrub.specs.Taking.{PartOf}
-use Rattle.ocfl_scrub.specs.Passing.{last_of, Finishes, Halts, PassEnds}
-use Rattle.ocfl_scrub.specs.WholeAudit.{places, AuditsAll, AuditStops, AuditEnds}
+use Rattle.ocfl_scrub.specs.Written.{places, last_of, StopsWithin}
+use Rattle.ocfl_scrub.proofs.Passing.{Finishes, Halts}
+use Rattle.ocfl_scrub.specs.WholeAudit.{AuditsAll, AuditStops, AuditEnds}
 use Rattle.ocfl_scrub.specs.declared.checking.End.{End}
 use Rattle.ocfl_scrub.specs.declared.checking.End.TheVariants.{Ended, Stopped}
-use Rattle.ocfl_scrub.proofs.AuditingLaws.{items_append}
+use Rattle.ocfl_scrub.proofs.AuditsJoined.{items_append}
 use Rattle.ocfl_scrub.proofs.TakeLaws.{nothing_of}
 
 pub due_all : (root : Tree) → due root None ≡ item_places root
@@ -49,8 +51,8 @@ nothing_front (x ∷ xs) f = absurd (let e = f.1 in cc)
 any_front : {A : Type 0} (xs ys : List A) → IsFront xs [] → IsFront xs ys
 any_front xs ys f = subst (λ zs. IsFront zs ys) (sym (nothing_front xs f)) (ys, refl)
 
-module _ (root : Tree) (s t : Store) (old new : Option (List ℕ)) (last : Option Place) (finding : Bool) where
-  finish_all : Finishes root s t old new None last finding → AuditsAll root s t old new last finding
+module _ {root : Tree} {s t : Store} {old new : Option (List ℕ)} {last : Option Place} {finding : Bool} where
+  pub finish_all : Finishes root s t old new None last finding → AuditsAll root s t old new last finding
   finish_all h =
       let items : items_at root h.trail (due root None) ≡ audit root (unread_of root h.trail) = sym (after_is_due root h.trail None) in
       record {
@@ -61,52 +63,57 @@ module _ (root : Tree) (s t : Store) (old new : Option (List ℕ)) (last : Optio
         found_is = h.found_is ∙ ap found items;
       }
 
-  halt_all : (why : Fault) → Halts root s t old new None last finding why → AuditStops root s t old new last finding why
+  pub halt_all : (why : Fault) → Halts root s t old new None last finding why → AuditStops root s t old new last finding why
   halt_all why h =
       let next : items_at root h.trail (take 1 (due root last)) ≡ take 1 (items_at root h.trail (due root last)) = sym (take_items root h.trail 1 (due root last)) in
       let whole_places : h.done ≡ places (items_at root h.trail h.done) = sym (places_of_items root h.trail h.done) in
       record {
         trail = h.trail;
-        whole = items_at root h.trail h.done;
-        others = items_at root h.trail (due root last);
-        items_are = after_is_due root h.trail None ∙ ap (items_at root h.trail) h.due_are ∙ items_append root h.trail h.done (due root last);
-        begun = h.begun;
-        one = subst (IsFront h.begun) (sym (places_of_items root h.trail (take 1 (due root last))) ∙ ap places next) h.one;
+        stops = record {
+          whole = items_at root h.trail h.done;
+          others = items_at root h.trail (due root last);
+          items_are = after_is_due root h.trail None ∙ ap (items_at root h.trail) h.due_are ∙ items_append root h.trail h.done (due root last);
+          begun = h.begun;
+          one = subst (IsFront h.begun) (sym (places_of_items root h.trail (take 1 (due root last))) ∙ ap places next) h.one;
+          part = h.part;
+          wrote = h.wrote;
+          part_of = subst (λ is. PartOf why (text is) h.part) next h.part_of;
+          last_is = h.last_is ∙ ap (last_of None) whole_places;
+        };
+        found_is = h.found_is;
         listed = h.listed;
         heads = h.heads;
         fails = subst (λ ps. Fails root s t (ps ++ h.begun) h.listed h.heads h.trail why) whole_places h.fails;
         listed_front = h.listed_front;
         heads_front = h.heads_front;
-        part = h.part;
-        wrote = h.wrote;
-        part_of = subst (λ is. PartOf why (text is) h.part) next h.part_of;
-        last_is = h.last_is ∙ ap (last_of None) whole_places;
-        found_is = h.found_is;
       }
 
-  pub pass_is_audit : (end : End) → PassEnds root s t old new None last finding end → AuditEnds root s t old new last finding end
-  pass_is_audit Ended h = finish_all h
-  pass_is_audit (Stopped why) h = halt_all why h
+-- nothing went out
+unfoldable pub nothing_out : (items : List Item) (old : Option (List ℕ)) (last : Option Place) (why : Fault) → why ≢ Output → StopsWithin items old old last last why
+nothing_out items old last why other = record {
+  whole = [];
+  others = items;
+  items_are = refl;
+  begun = [];
+  one = (places (take 1 items), refl);
+  part = [];
+  wrote = Appends-nil old;
+  part_of = nothing_of why other (text (take 1 items));
+  last_is = refl;
+}
 
 -- no walk was started
 pub unstarted : (root : Tree) (s t : Store) (old : Option (List ℕ)) (why : Fault) → IsWayFault why → GoDownFails root s t None why → AuditStops root s t old old None false why
+unfolding nothing_out
 unstarted root s t old why only g = record {
   trail = g.trail;
-  whole = [];
-  others = audit root (unread_of root g.trail);
-  items_are = refl;
-  begun = [];
-  one = (places (take 1 (audit root (unread_of root g.trail))), refl);
+  stops = nothing_out (audit root (unread_of root g.trail)) old None why only.0;
+  found_is = refl;
   listed = g.listed;
   heads = g.heads;
   fails = g.fails;
   listed_front = any_front g.listed (looked_between root None None) g.listed_front;
   heads_front = any_front g.heads (read_between root None None) g.heads_front;
-  part = [];
-  wrote = Appends-nil old;
-  part_of = nothing_of why only.0 (text (take 1 (audit root (unread_of root g.trail))));
-  last_is = refl;
-  found_is = refl;
 }
 
 -- ---- where no failure was counted
@@ -122,9 +129,3 @@ nothing_unread root s t old new last finding Ended h e same =
     let none : unread_of root h.trail ≡ [] = none_left (unread_of root h.trail) s.failures (sym same ∙ h.audits.did.failures_are) in
     (subst (λ u. Appends old new (text (audit root u))) none h.wrote, h.found_is ∙ ap (λ u. found (audit root u)) none)
 nothing_unread root s t old new last finding (Stopped why) h e same = absurd cc
-
--- a pass over all items, from a store that was not touched before it
-pub audit_all : {S : Type 0} (state : S → Store) (a b c : S) (root : Tree) (old new : Option (List ℕ)) (last : Option Place) (finding : Bool) (end : End) → b ≡ a → (state a).tree ≡ root
-    → ((state b).tree ≡ root → PassEnds root (state b) (state c) old new None last finding end) → AuditEnds root (state a) (state c) old new last finding end
-audit_all state a b c root old new last finding end e over h =
-    pass_is_audit root (state a) (state c) old new last finding end (subst (λ x. PassEnds root (state x) (state c) old new None last finding end) e (h (ap (λ x. (state x).tree) e ∙ over)))

@@ -9,7 +9,7 @@ use Rattle.ocfl_tree.proofs.Orders.{place_cmp_total, not_below_itself}
 use Rattle.ocfl_audit.specs.Between.{IsBeyond, IsWithin, between, looked_between, read_between}
 use Rattle.ocfl_audit.proofs.BetweenLaws.{looked_on, read_on}
 use Rattle.ocfl_item.specs.Looking.{IsFront}
-use Rattle.ocfl_scrub.specs.Passing.{up_to_last}
+use Rattle.ocfl_scrub.proofs.Passing.{up_to_last}
 use Rattle.ocfl_scrub.proofs.Lists.{filter_none}
 
 -- nothing was taken, or the last place taken lies above the first

@@ -28,10 +28,10 @@ use Rattle.ocfl_item.specs.Meeting.{IsItemAt}
 use Rattle.ocfl_item.specs.declared.fault.Fault.{Fault}
 use Rattle.ocfl_item.specs.declared.pending.Pending.{Pending}
 use Rattle.ocfl_scrub.specs.Taking.{PartOf, Takes, Misses}
-use Rattle.ocfl_scrub.specs.Checking.{checked_item, AreOnce, Checks, CheckStops, CheckEnds}
+use Rattle.ocfl_scrub.specs.Checking.{checked_item, AreOnce, IsJustFor, Checks, CheckStops, CheckEnds}
 use Rattle.ocfl_scrub.specs.declared.checking.End.{End}
 use Rattle.ocfl_scrub.specs.declared.checking.End.TheVariants.{Stopped}
-use Rattle.ocfl_scrub.proofs.AuditingLaws.{audits_then, fails_then, nothing_hashed}
+use Rattle.ocfl_scrub.proofs.AuditsJoined.{audits_then, fails_then, nothing_hashed}
 use Rattle.ocfl_scrub.proofs.TakeLaws.{nothing_of}
 
 -- ---- the item of a place
@@ -133,9 +133,7 @@ module _ (root : Tree) (p : Place) where
           listed = g.listed;
           heads = g.heads;
           audits = record { over = g.audits.over; did = g.audits.did; opened = g.audits.opened ∙ nothing_hashed root ∙ sym (lines_free root p none); heads_are = g.audits.heads_are };
-          listed_front = g.listed_front;
-          heads_front = g.heads_front;
-          once = g.once;
+          just = record { listed_front = g.listed_front; heads_front = g.heads_front; once = g.once };
           wrote = subst (λ is. Appends old old (text is)) (sym e) (Appends-nil old);
           item_is = sym (ap (λ is. not (is_empty is)) e);
           found_is = sym (ap found e);
@@ -149,9 +147,7 @@ module _ (root : Tree) (p : Place) where
       listed = g.listed;
       heads = g.heads;
       fails = g.fails;
-      listed_front = g.listed_front;
-      heads_front = g.heads_front;
-      once = g.once;
+      just = record { listed_front = g.listed_front; heads_front = g.heads_front; once = g.once };
       part = [];
       wrote = Appends-nil old;
       part_of = nothing_of why only.0 (text (checked_item root g.trail p));
@@ -160,6 +156,9 @@ module _ (root : Tree) (p : Place) where
   module _ (s t u : Store) (old new : Option (List ℕ)) (g : GoesDown root s t (Some p)) (some : notes root None p ≢ []) where
     meta : content_trail root g.trail ≡ []
     meta = g.audits.opened ∙ nothing_hashed root
+
+    just_then : (trail : List Opening) → IsOne root p trail → IsJustFor root p g.listed g.heads (g.trail ++ trail)
+    just_then trail one = record { listed_front = g.listed_front; heads_front = g.heads_front; once = then_one root p g.trail trail meta g.once one }
 
     pub down_and_taken : (cost : ℕ) (finding : Bool) → Takes root t u old new p cost finding → Checks root s u old new p true finding
     down_and_taken cost finding k =
@@ -171,9 +170,7 @@ module _ (root : Tree) (p : Place) where
           audits = subst (λ hs. Audits root s u (p ∷ []) g.listed hs (g.trail ++ k.trail)) (append-nil g.heads)
               (subst (λ ls. Audits root s u (p ∷ []) ls (g.heads ++ []) (g.trail ++ k.trail)) (append-nil g.listed)
               (audits_then root s t u [] (p ∷ []) g.listed [] g.heads [] g.trail k.trail g.audits k.audits));
-          listed_front = g.listed_front;
-          heads_front = g.heads_front;
-          once = then_one root p g.trail k.trail meta g.once (one_or_none root p k.trail k.alone);
+          just = just_then k.trail (one_or_none root p k.trail k.alone);
           wrote = subst (λ is. Appends old new (text is)) (sym items) k.wrote;
           item_is = sym (ap (λ is. not (is_empty is)) (items ∙ one_item root k.trail p));
           found_is = k.found_is ∙ sym (ap found items);
@@ -191,9 +188,7 @@ module _ (root : Tree) (p : Place) where
           fails = subst (λ hs. Fails root s u k.begun g.listed hs (g.trail ++ k.trail) why) (append-nil g.heads)
               (subst (λ ls. Fails root s u k.begun ls (g.heads ++ []) (g.trail ++ k.trail) why) (append-nil g.listed)
               (fails_then root s t u [] k.begun g.listed [] g.heads [] g.trail k.trail why g.audits k.fails));
-          listed_front = g.listed_front;
-          heads_front = g.heads_front;
-          once = then_one root p g.trail k.trail meta g.once (one_of_front root p k.begun k.one.0 k.trail k.one.1 k.alone);
+          just = just_then k.trail (one_of_front root p k.begun k.one.0 k.trail k.one.1 k.alone);
           part = k.part;
           wrote = k.wrote;
           part_of = subst (λ is. PartOf why (text is) k.part) (sym items) k.part_of;

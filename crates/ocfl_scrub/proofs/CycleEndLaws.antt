@@ -6,28 +6,27 @@ use Rattle.ocfl_tree.specs.Place.{Place}
 use Rattle.ocfl_tree.specs.Tree.{Tree}
 use Rattle.ocfl_tree.specs.Store.{Store}
 use Rattle.ocfl_tree.specs.declared.store.Opening.{Opening}
-use Rattle.ocfl_report.specs.Line.{Item, found}
+use Rattle.ocfl_report.specs.Line.{Item}
 use Rattle.ocfl_report.specs.Text.{text}
-use Rattle.ocfl_audit.specs.Audit.{audit, total_cost}
+use Rattle.ocfl_audit.specs.Audit.{audit}
 use Rattle.ocfl_audit.specs.Zone.{inventory_name}
 use Rattle.ocfl_audit.specs.Lines.{is_empty}
 use Rattle.ocfl_audit.specs.Trail.{unread_of, inventories}
 use Rattle.ocfl_audit.specs.Due.{due, items_at, hashed_among}
 use Rattle.ocfl_audit.specs.Between.{read_between}
-use Rattle.ocfl_audit.specs.Runs.{Limits, total_files, runs, joined, sum_of}
+use Rattle.ocfl_audit.specs.Runs.{Limits, runs, joined, sum_of}
 use Rattle.ocfl_audit.proofs.DueLaws.{after_is_due}
 use Rattle.ocfl_audit.proofs.ObjectLaws.{inventories_read}
 use Rattle.ocfl_audit.proofs.RunLaws.{large_whole, large_few, limits_join, limits_few}
 use Rattle.ocfl_cursor.specs.Cursor.{Cursor}
 use Rattle.ocfl_item.specs.Auditing.{Audits, Fails}
 use Rattle.ocfl_item.specs.declared.fault.Fault.{Fault}
-use Rattle.ocfl_scrub.specs.Passing.{last_of}
-use Rattle.ocfl_scrub.specs.WholeAudit.{places}
+use Rattle.ocfl_scrub.specs.Written.{places, last_of, Figures}
 use Rattle.ocfl_scrub.specs.Cycling.{audit_of, all_runs, all_taken, enough, Cycles, CycleStops, CycleEnds, CyclesTo, Headline, HeadlineOf}
 use Rattle.ocfl_scrub.specs.declared.cycling.CycleStatus.{CycleStatus}
 use Rattle.ocfl_scrub.specs.declared.cycling.CycleStatus.TheVariants.{Ended, Spent, Stopped}
 use Rattle.ocfl_scrub.proofs.AuditLaws.{due_all, places_of_items, none_left}
-use Rattle.ocfl_scrub.proofs.CycleLaws.{ReadFew, Parts, PartsStop, PartsEnd}
+use Rattle.ocfl_scrub.proofs.RunsJoined.{ReadFew, Parts, PartsStop, PartsEnd}
 
 -- ---- what is left
 
@@ -67,25 +66,24 @@ module _ (root : Tree) (s t : Store) (old new : Option (List ℕ)) (last : Optio
 
   cycles : (ended : Bool) → Parts root s t old new None last limits spent files finding count ended → Cycles root s t old new last limits spent files finding count ended
   cycles ended h =
-      let items : List Item = audit_of root h.trail in
-      let are : all_taken root h.trail limits ≡ items_at root h.trail h.done = ap (λ is. joined (runs is limits)) (whole_is h.trail) ∙ h.runs_are in
-      let at_places : h.done ≡ places (all_taken root h.trail limits) = sym (ap places are ∙ places_of_items root h.trail h.done) in
-      let counted : count ≡ length (all_runs root h.trail limits) = h.count_is ∙ ap (λ is. length (runs is limits)) (sym (whole_is h.trail)) in
-      let to_end : all_taken root h.trail limits ≡ items → ended ≡ true = λ e. h.ended_is ∙ none_due root h.trail h.done (due root last) (sym are ∙ e ∙ whole_is h.trail ∙ ap (items_at root h.trail) h.due_are) in
-      let done_all : ended ≡ true → h.done ≡ due root None = λ e. sym (h.due_are ∙ ap (λ qs. h.done ++ qs) (nothing (due root last) (sym h.ended_is ∙ e)) ∙ append-nil h.done) in
+      let k = h.took in
+      let items : List Item = audit_of root k.trail in
+      let are : all_taken root k.trail limits ≡ items_at root k.trail k.done = ap (λ is. joined (runs is limits)) (whole_is k.trail) ∙ h.runs_are in
+      let at_places : k.done ≡ places (all_taken root k.trail limits) = sym (ap places are ∙ places_of_items root k.trail k.done) in
+      let counted : count ≡ length (all_runs root k.trail limits) = h.count_is ∙ ap (λ is. length (runs is limits)) (sym (whole_is k.trail)) in
+      let to_end : all_taken root k.trail limits ≡ items → ended ≡ true = λ e. h.ended_is ∙ none_due root k.trail k.done (due root last) (sym are ∙ e ∙ whole_is k.trail ∙ ap (items_at root k.trail) k.due_are) in
+      let done_all : ended ≡ true → k.done ≡ due root None = λ e. sym (k.due_are ∙ ap (λ qs. k.done ++ qs) (nothing (due root last) (sym h.ended_is ∙ e)) ∙ append-nil k.done) in
       record {
-        trail = h.trail;
-        listed = h.listed;
-        heads = h.heads;
-        audits = subst (λ ps. Audits root s t ps h.listed h.heads h.trail) at_places h.audits;
-        inventories_read = few_inventories root h.heads count h.read;
-        wrote = subst (λ is. Appends old new (text is)) (sym are) h.wrote;
-        spent_is = sym h.costs ∙ ap total_cost (sym are);
-        files_is = sym h.counts ∙ ap total_files (sym are);
-        found_is = sym h.finds ∙ ap found (sym are);
+        trail = k.trail;
+        listed = k.listed;
+        heads = k.heads;
+        audits = subst (λ ps. Audits root s t ps k.listed k.heads k.trail) at_places k.audits;
+        inventories_read = few_inventories root k.heads count h.read;
+        wrote = subst (λ is. Appends old new (text is)) (sym are) k.wrote;
+        figures = subst (λ is. Figures is spent files finding) (sym are) k.figures;
         count_is = counted;
-        last_is = h.last_is ∙ ap (last_of None) at_places;
-        whole_is = (λ e. are ∙ ap (items_at root h.trail) (done_all e) ∙ sym (whole_is h.trail), to_end);
+        last_is = k.last_is ∙ ap (last_of None) at_places;
+        whole_is = (λ e. are ∙ ap (items_at root k.trail) (done_all e) ∙ sym (whole_is k.trail), to_end);
         few = λ b n p q large. let m = large_few b n p q limits items large in omega (arith, counted, m);
         suffice = λ b n p q large fits. to_end (large_whole b n p q limits items large fits);
         by_sum = λ k p fits files_fit sum.
@@ -100,23 +98,23 @@ module _ (root : Tree) (s t : Store) (old new : Option (List ℕ)) (last : Optio
       let at_places : h.done ≡ places whole = sym (places_of_items root h.trail h.done) in
       record {
         trail = h.trail;
-        whole = whole;
-        others = h.others;
-        items_are = ap (λ is. joined (runs is limits)) (whole_is h.trail) ∙ h.runs_begin;
-        begun = h.begun;
-        one = h.one;
+        stops = record {
+          whole = whole;
+          others = h.others;
+          items_are = ap (λ is. joined (runs is limits)) (whole_is h.trail) ∙ h.runs_begin;
+          begun = h.begun;
+          one = h.one;
+          part = h.part;
+          wrote = h.wrote;
+          part_of = h.part_of;
+          last_is = h.last_is ∙ ap (last_of None) at_places;
+        };
+        figures = h.figures;
         listed = h.listed;
         heads = h.heads;
         fails = subst (λ ps. Fails root s t (ps ++ h.begun) h.listed h.heads h.trail why) at_places h.fails;
         inventories_read = few_inventories root h.heads count h.read;
         count_fits = subst (λ is. count ≤ length (runs is limits)) (sym (whole_is h.trail)) h.count_fits;
-        part = h.part;
-        wrote = h.wrote;
-        part_of = h.part_of;
-        spent_is = sym h.costs;
-        files_is = sym h.counts;
-        found_is = sym h.finds;
-        last_is = h.last_is ∙ ap (last_of None) at_places;
       }
 
   pub cycle_ends : (end : CycleStatus) → PartsEnd root s t old new None last limits spent files finding count end → CycleEnds root s t old new last limits spent files finding count end

@@ -11,7 +11,7 @@ use Rattle.ocfl_audit.specs.Audit.{given_by, total_cost}
 use Rattle.ocfl_audit.specs.Trail.{unread_of}
 use Rattle.ocfl_audit.specs.Due.{items_at}
 use Rattle.ocfl_audit.specs.Runs.{Limits, files_of, total_files, may_take, cut_len, cut, left}
-use Rattle.ocfl_scrub.specs.Paying.{Paid}
+use Rattle.ocfl_scrub.proofs.Paying.{Paid}
 use Rattle.ocfl_scrub.proofs.CutLaws.{IsStop, test_free, hashed_costs, free_costs}
 
 module _ (l : Limits) where

@@ -23,9 +23,10 @@ use Rattle.ocfl_walk.specs.WalkCalls.{Walks, WalkFails}
 use Rattle.ocfl_item.specs.declared.fault.Fault.{Fault}
 use Rattle.ocfl_item.specs.declared.fault.Fault.TheVariants.{Output}
 use Rattle.ocfl_scrub.specs.Taking.{WritesLines, PartOf, Takes, Misses}
-use Rattle.ocfl_scrub.specs.Passing.{last_of, up_to_last, Passes, Finishes, Halts}
+use Rattle.ocfl_scrub.specs.Written.{last_of}
+use Rattle.ocfl_scrub.proofs.Passing.{up_to_last, Passes, Finishes, Halts}
 use Rattle.ocfl_scrub.proofs.Lists.{flat_append, ascends_left}
-use Rattle.ocfl_scrub.proofs.AuditingLaws.{audits_none, audits_then, fails_then, items_before, items_behind, items_then}
+use Rattle.ocfl_scrub.proofs.AuditsJoined.{audits_none, audits_then, fails_then, items_before, items_behind, items_then}
 use Rattle.ocfl_scrub.proofs.BetweenLaws.{HasGoneOn, looked_self, looked_next, looked_end, looked_front, read_self, read_next, read_end, read_front, front_behind}
 use Rattle.ocfl_scrub.proofs.TakeLaws.{nothing_of}
 

@@ -19,9 +19,9 @@ use Rattle.ocfl_walk.specs.WalkCalls.{Walks, WalkFails}
 use Rattle.ocfl_item.specs.declared.fault.Fault.{Fault}
 use Rattle.ocfl_item.specs.declared.fault.Fault.TheVariants.{Output}
 use Rattle.ocfl_scrub.specs.Taking.{Takes, Misses}
-use Rattle.ocfl_scrub.specs.Passing.{up_to_last}
-use Rattle.ocfl_scrub.specs.Paying.{Paid, Counts, IsWithinBoth, Pays, PaysAll, PaysUpTo, PaysHalting}
-use Rattle.ocfl_scrub.proofs.AuditingLaws.{audits_then}
+use Rattle.ocfl_scrub.proofs.Passing.{up_to_last}
+use Rattle.ocfl_scrub.proofs.Paying.{Paid, Counts, IsWithinBoth, Pays, PaysAll, PaysUpTo, PaysHalting}
+use Rattle.ocfl_scrub.proofs.AuditsJoined.{audits_then}
 use Rattle.ocfl_scrub.proofs.BetweenLaws.{HasGoneOn, looked_next, read_next}
 use Rattle.ocfl_scrub.proofs.CutLaws.{cost_append, files_append, paid_append, test_paid, test_free, free_costs}
 use Rattle.ocfl_scrub.proofs.PassLaws.{no_items, passes_none, passes_took, took_items, passes_missed, missed_items, next_is, passes_lost, walked_on, passes_finish, finished_items}

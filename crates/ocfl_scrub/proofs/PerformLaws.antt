@@ -1,5 +1,5 @@
 -- What is said and handed back after a run.
-use Rattle.std.proofs.Common.{◌≡◌, refl, ℕ, List, Bool, Option, Some, None, Vec, inl, inr}
+use Rattle.std.proofs.Common.{◌≡◌, refl, ℕ, List, Option, Some, None, Vec, inl, inr}
 use Rattle.std.specs.Prelude.{◌≢◌, IsNone, IfSome, ◌⊎◌, String, string_bytes}
 use Rattle.std.specs.declared.alloc.Global.{Global}
 use Rattle.ocfl_tree.specs.Place.{Text, Place}
@@ -15,74 +15,66 @@ use Rattle.ocfl_scrub.specs.Performing.{BeginsWith, HandedBack, IsNoPath, Refuse
 use Rattle.ocfl_scrub.specs.Running.{IsPaid, IsWorn, RunsCleanly, RunsFrom, begun, state_after}
 use Rattle.ocfl_scrub.specs.declared.note.Note.{Note}
 use Rattle.ocfl_scrub.specs.declared.note.Note.TheVariants as note
+use Rattle.ocfl_scrub.specs.declared.performing.Performed.{Performed}
+use Rattle.ocfl_scrub.specs.declared.running.RunEnd.{RunEnd}
 use Rattle.ocfl_scrub.specs.declared.running.RunStatus.{RunStatus}
 use Rattle.ocfl_scrub.specs.declared.running.RunStatus.TheVariants as run
 
-pub worn_or_not : (how : RunStatus) → (how ≡ run.Worn) ⊎ (how ≢ run.Worn)
+worn_or_not : (how : RunStatus) → (how ≡ run.Worn) ⊎ (how ≢ run.Worn)
 worn_or_not run.Worn = inl refl
 worn_or_not run.Ended = inr (λ e. cc)
 worn_or_not run.Spent = inr (λ e. cc)
 worn_or_not (run.Stopped why) = inr (λ e. cc)
 
 -- what is known of a run from a cursor and of what is said after it, on any store
-pub record Made (known : Option (Option Text)) (limits : Limits) (from reached : Cursor) (spent files : ℕ) (finding : Bool) (how : RunStatus) (status : ℕ) (n : Note) (stored : Option (Vec ℕ Global)) : Type 0 where
+pub record Made (known : Option (Option Text)) (limits : Limits) (from : Cursor) (ran : RunEnd) (said : Performed) : Type 0 where
   pub begins : BeginsWith known from
-  pub paid : IsPaid limits spent files
-  pub leads : how ≢ run.Worn → (last : Option Place) × (reached ≡ after_run (begun from) spent files (state_after how last))
-  pub is_worn : how ≡ run.Worn → IsWorn from
-  pub worn_says : how ≡ run.Worn → n ≡ note.CursorWorn
-  pub worn_ends : how ≡ run.Worn → (status ≡ 3) × IsNone stored
-  pub says : how ≢ run.Worn → IsStoredNote reached spent finding how status n stored
+  pub paid : IsPaid limits ran.spent ran.files
+  pub leads : ran.end ≢ run.Worn → (last : Option Place) × (ran.cursor ≡ after_run (begun from) ran.spent ran.files (state_after ran.end last))
+  pub is_worn : ran.end ≡ run.Worn → IsWorn from
+  pub worn_says : ran.end ≡ run.Worn → said.note ≡ note.CursorWorn
+  pub worn_ends : ran.end ≡ run.Worn → (said.status ≡ 3) × IsNone said.cursor
+  pub says : ran.end ≢ run.Worn → IsStoredNote ran.cursor ran.spent ran.found ran.end said.status said.note said.cursor
 
--- a text that is handed back is that of the cursor that the run answered
-pub handed_back : (known : Option (Option Text)) (limits : Limits) (from reached : Cursor) (spent files : ℕ) (finding : Bool) (how : RunStatus) (status : ℕ) (n : Note) (stored : Option (Vec ℕ Global))
-    → Made known limits from reached spent files finding how status n stored → IfSome stored (λ handed. HandedBack known limits status n handed.items)
-handed_back known limits from reached spent files finding how status n None h = tt
-handed_back known limits from reached spent files finding how status n (Some v) h =
-    let unworn : how ≢ run.Worn = λ e. let gone = (h.worn_ends e).1 in cc in
-    record {
-      from = from;
-      begins = h.begins;
-      spent = spent;
-      files = files;
-      paid = h.paid;
-      finding = finding;
-      ended = how;
-      last = (h.leads unworn).0;
-      reached = reached;
-      reached_is = (h.leads unworn).1;
-      handed_is = (h.says unworn).0;
-      says = (h.says unworn).1;
-    }
+module _ (known : Option (Option Text)) (limits : Limits) (from : Cursor) (ran : RunEnd) (said : Performed) where
+  -- a text that is handed back is that of the cursor that the run answered
+  pub handed_back : Made known limits from ran said → IfSome said.cursor (λ handed. HandedBack known limits said.status said.note handed.items)
+  handed_back h = by said.cursor h.worn_ends h.says
+    where
+      by : (stored : Option (Vec ℕ Global)) → (ran.end ≡ run.Worn → (said.status ≡ 3) × IsNone stored) → (ran.end ≢ run.Worn → IsStoredNote ran.cursor ran.spent ran.found ran.end said.status said.note stored)
+          → IfSome stored (λ handed. HandedBack known limits said.status said.note handed.items)
+      by None ends says = tt
+      by (Some v) ends says =
+          let unworn : ran.end ≢ run.Worn = λ e. let gone = (ends e).1 in cc in
+          record {
+            from = from;
+            begins = h.begins;
+            ran = ran;
+            paid = h.paid;
+            last = (h.leads unworn).0;
+            cursor_is = (h.leads unworn).1;
+            handed_is = (says unworn).0;
+            says = (says unworn).1;
+          }
 
--- the same run on a store that tells its tree
-pub run_performed : (known : Option (Option Text)) (root : Tree) (s t : Store) (old new : Option (List ℕ)) (limits : Limits) (from reached : Cursor) (spent files : ℕ) (finding : Bool) (how : RunStatus) (status : ℕ) (n : Note) (stored : Option (Vec ℕ Global))
-    → Made known limits from reached spent files finding how status n stored
-    → (how ≡ run.Worn → (t ≡ s) × (new ≡ old))
-    → (how ≢ run.Worn → RunsFrom root s t old new from limits reached spent files finding how)
-    → (t.failures ≡ s.failures → RunsCleanly root old new from limits spent files finding how)
-    → (how ≡ run.Worn) ⊎ (how ≢ run.Worn)
-    → RunPerformed known root s t old new limits status n stored
-run_performed known root s t old new limits from reached spent files finding how status n stored h silent runs clean (inl worn) = inr (record {
-  why = inr (record { from = from; begins = h.begins; worn = h.is_worn worn; status_is = (h.worn_ends worn).0; says = h.worn_says worn });
-  uncalled = (silent worn).0;
-  unwritten = (silent worn).1;
-  unkept = (h.worn_ends worn).1;
-})
-run_performed known root s t old new limits from reached spent files finding how status n stored h silent runs clean (inr made) = inl (record {
-  from = from;
-  begins = h.begins;
-  runs = record {
-    reached = reached;
-    spent = spent;
-    files = files;
-    finding = finding;
-    ended = how;
-    runs = runs made;
-    clean = clean;
-    says = h.says made;
-  };
-})
+  -- the same run on a store that tells its tree
+  module _ (root : Tree) (s t : Store) (old new : Option (List ℕ)) (h : Made known limits from ran said) where
+    pub run_performed : (ran.end ≡ run.Worn → (t ≡ s) × (new ≡ old)) → (ran.end ≢ run.Worn → RunsFrom root s t old new from limits ran.cursor ran.spent ran.files ran.found ran.end)
+        → (t.failures ≡ s.failures → RunsCleanly root old new from limits ran.spent ran.files ran.found ran.end) → RunPerformed known root s t old new limits said.status said.note said.cursor
+    run_performed silent runs clean = by (worn_or_not ran.end)
+      where
+        by : (ran.end ≡ run.Worn) ⊎ (ran.end ≢ run.Worn) → RunPerformed known root s t old new limits said.status said.note said.cursor
+        by (inl worn) = inr (record {
+          why = inr (record { from = from; begins = h.begins; worn = h.is_worn worn; status_is = (h.worn_ends worn).0; says = h.worn_says worn });
+          uncalled = (silent worn).0;
+          unwritten = (silent worn).1;
+          unkept = (h.worn_ends worn).1;
+        })
+        by (inr made) = inl (record {
+          from = from;
+          begins = h.begins;
+          runs = record { ran = ran; runs = runs made; clean = clean; says = h.says made };
+        })
 
 -- a path that was checked is refused as the check refuses it
 pub path_refused : (d : Deed) (path : String Global) (read : Text) (status status' : ℕ) (n n' : Note)

@@ -3,7 +3,6 @@ use Rattle.std.proofs.Common.{◌≡◌, ◌≢◌, ◌⊎◌, inl, inr, ℕ, su
 use Rattle.std.specs.Prelude.{cond}
 use Rattle.std.specs.Option.{option_map, option_copied}
 use Rattle.std.specs.Io.KnownBytes.{Appends}
-use Rattle.std.proofs.KnownBytes.{Appends-nil}
 use Rattle.ocfl_tree.specs.Place.{Text, Place}
 use Rattle.ocfl_tree.specs.Tree.{Tree}
 use Rattle.ocfl_tree.specs.Store.{Store}
@@ -27,14 +26,14 @@ use Rattle.ocfl_walk.specs.WalkCalls.{GoesDown, GoDownFails}
 use Rattle.ocfl_item.specs.declared.fault.Fault.{Fault}
 use Rattle.ocfl_item.specs.declared.fault.Fault.TheVariants.{Output}
 use Rattle.ocfl_scrub.specs.Taking.{PartOf}
-use Rattle.ocfl_scrub.specs.Passing.{last_of}
-use Rattle.ocfl_scrub.specs.WholeAudit.{places}
+use Rattle.ocfl_scrub.specs.Written.{places, last_of, Figures}
 use Rattle.ocfl_scrub.specs.Running.{items_above, taken, rest, first_of, last_cost, place_in, Runs, RunStops, RunEnds, RunsFrom, RunsClean, RunsCleanly, IsPaid, begun, state_after}
-use Rattle.ocfl_scrub.specs.Paying.{Begins, Paid, Counts, IsWithinBoth, PaysAll, PaysUpTo, PaysHalting, PaidEnds}
+use Rattle.ocfl_scrub.specs.Beginning.{Begins}
+use Rattle.ocfl_scrub.proofs.Paying.{Paid, Counts, IsWithinBoth, PaysAll, PaysUpTo, PaysHalting}
 use Rattle.ocfl_scrub.specs.declared.running.RunStatus.{RunStatus}
 use Rattle.ocfl_scrub.specs.declared.running.RunStatus.TheVariants.{Ended, Spent, Stopped, Worn}
-use Rattle.ocfl_scrub.proofs.AuditingLaws.{audits_then, fails_then, items_append, nothing_hashed}
-use Rattle.ocfl_scrub.proofs.AuditLaws.{places_of_items, take_items, none_left}
+use Rattle.ocfl_scrub.proofs.AuditsJoined.{audits_then, fails_then, items_append, nothing_hashed}
+use Rattle.ocfl_scrub.proofs.AuditLaws.{places_of_items, take_items, nothing_out, none_left}
 use Rattle.ocfl_scrub.proofs.PassLaws.{take_nothing}
 use Rattle.ocfl_scrub.proofs.TakeLaws.{nothing_of}
 use Rattle.ocfl_scrub.proofs.MeterLaws.{paid_files}
@@ -128,9 +127,7 @@ module _ (root : Tree) (s t u : Store) (old new : Option (List ℕ)) (from last 
               lists_once = listed_once root from next g.listed (looked_between root from next) g.listed_front (all_front _);
               reads_once = read_once root from next g.heads (read_between root from next) g.heads_front (all_front _);
               wrote = subst (λ is. Appends old new (text is)) (sym taken_are) wrote;
-              spent_is = counts.spent_is ∙ ap total_cost (sym taken_are);
-              files_is = counts.files_is ∙ ap total_files (sym taken_are);
-              found_is = found_is ∙ ap found (sym taken_are);
+              figures = subst (λ is. Figures is spent files finding) (sym taken_are) (record { spent_is = counts.spent_is; files_is = counts.files_is; found_is = found_is });
               last_is = last_is ∙ ap (last_of from) (sym at_places);
               next_is = next_is ∙ ap first_of (sym rest_are);
               overrun = λ some.
@@ -141,18 +138,18 @@ module _ (root : Tree) (s t u : Store) (old new : Option (List ℕ)) (from last 
             }
 
   -- all were taken
-  ended : PaysAll root t u old new from last l spent files finding → Runs root s u old new from last l spent files finding None
+  pub ended : PaysAll root t u old new from last l spent files finding → Runs root s u old new from last l spent files finding None
   ended h =
       let k = h.finishes in
       runs_of k.trail (due root from) [] (sym (append-nil (due root from))) h.counts None (nothing_stops root k.trail l spent files) (none_first root k.trail) k.audits k.wrote k.found_is k.last_is
 
   -- the limits were reached
-  spent_all : (h : PaysUpTo root t u old new from last l spent files finding) → Runs root s u old new from last l spent files finding (Some h.next)
+  pub spent_all : (h : PaysUpTo root t u old new from last l spent files finding) → Runs root s u old new from last l spent files finding (Some h.next)
   spent_all h =
       runs_of h.trail h.done (h.next ∷ due root (Some h.next)) h.due_are h.counts (Some h.next) (unpaid_stops root h.trail l spent files h.next _ h.hashed h.reached) (some_first root h.trail h.next _) h.audits h.wrote h.found_is h.last_is
 
   -- there was a fault
-  stopped : (why : Fault) → PaysHalting root t u old new from last l spent files finding why → RunStops root s u old new from last l spent files finding why
+  pub stopped : (why : Fault) → PaysHalting root t u old new from last l spent files finding why → RunStops root s u old new from last l spent files finding why
   stopped why h =
       let k = h.halts in
       let trail : List Opening = g.trail ++ k.trail in
@@ -171,11 +168,18 @@ module _ (root : Tree) (s t u : Store) (old new : Option (List ℕ)) (from last 
       let ends = ends_at root k.trail why k.begun k.part (take 1 (due root last)) (take 1 others) (next_of h.next first) k.one k.part_of in
       record {
         trail = trail;
-        whole = whole;
-        others = others;
-        items_are = ap (λ is. cut is l) (above_are k.trail k.done (due root last) k.due_are) ∙ paid_begins l whole later h.counts.paid;
-        begun = k.begun;
-        one = ends.0;
+        stops = record {
+          whole = whole;
+          others = others;
+          items_are = ap (λ is. cut is l) (above_are k.trail k.done (due root last) k.due_are) ∙ paid_begins l whole later h.counts.paid;
+          begun = k.begun;
+          one = ends.0;
+          part = k.part;
+          wrote = k.wrote;
+          part_of = ends.1;
+          last_is = k.last_is ∙ ap (last_of from) whole_places;
+        };
+        figures = record { spent_is = h.counts.spent_is; files_is = h.counts.files_is; found_is = k.found_is };
         down = g.listed;
         listed = k.listed;
         held = g.heads;
@@ -188,20 +192,7 @@ module _ (root : Tree) (s t u : Store) (old new : Option (List ℕ)) (from last 
         heads_front = k.heads_front;
         lists_once = listed_once root from None g.listed k.listed g.listed_front k.listed_front;
         reads_once = read_once root from None g.heads k.heads g.heads_front k.heads_front;
-        part = k.part;
-        wrote = k.wrote;
-        part_of = ends.1;
-        spent_is = h.counts.spent_is;
-        files_is = h.counts.files_is;
-        found_is = k.found_is;
-        last_is = k.last_is ∙ ap (last_of from) whole_places;
       }
-
-  pub pass_is_run : (end : RunStatus) → PaidEnds root t u old new from last l spent files finding end → RunEnds root s u old new from last l spent files finding end
-  pass_is_run Ended h = ended h
-  pass_is_run Spent h = (h.next, spent_all h)
-  pass_is_run (Stopped why) h = stopped why h
-  pass_is_run Worn h = h
 
 -- the place that a walk is given by reference
 pub lent_place : {A : Type 0} (o : Option (Bor A)) (from : Option A) → option_copied o ≡ from → option_map (λ p. p.now) o ≡ from
@@ -210,13 +201,11 @@ lent_place (Some p) from e = e
 
 -- no walk was started
 pub not_run : (root : Tree) (s t : Store) (old : Option (List ℕ)) (from : Option Place) (l : Limits) (why : Fault) → IsWayFault why → GoDownFails root s t from why → RunStops root s t old old from from l 0 0 false why
+unfolding nothing_out
 not_run root s t old from l why only g = record {
   trail = g.trail;
-  whole = [];
-  others = taken root g.trail from l;
-  items_are = refl;
-  begun = [];
-  one = (places (take 1 (taken root g.trail from l)), refl);
+  stops = nothing_out (taken root g.trail from l) old from why only.0;
+  figures = record { spent_is = refl; files_is = refl; found_is = refl };
   down = g.listed;
   listed = [];
   held = g.heads;
@@ -228,13 +217,6 @@ not_run root s t old from l why only g = record {
   heads_front = (read_between root from None, refl);
   lists_once = listed_once root from None g.listed [] g.listed_front (looked_between root from None, refl);
   reads_once = read_once root from None g.heads [] g.heads_front (read_between root from None, refl);
-  part = [];
-  wrote = Appends-nil old;
-  part_of = nothing_of why only.0 (text (take 1 (taken root g.trail from l)));
-  spent_is = refl;
-  files_is = refl;
-  found_is = refl;
-  last_is = refl;
 }
 
 -- ---- where no failure was counted
@@ -256,9 +238,7 @@ module _ (root : Tree) (s t : Store) (old new : Option (List ℕ)) (c : Cursor) 
       let e = all_read next h in
       record {
         wrote = subst (λ u. Appends old new (text (cut (after (audit root u) (place_in c.state)) l))) e h.wrote;
-        spent_is = h.spent_is ∙ ap (λ u. total_cost (cut (after (audit root u) (place_in c.state)) l)) e;
-        files_is = h.files_is ∙ ap (λ u. total_files (cut (after (audit root u) (place_in c.state)) l)) e;
-        found_is = h.found_is ∙ ap (λ u. found (cut (after (audit root u) (place_in c.state)) l)) e;
+        figures = subst (λ u. Figures (cut (after (audit root u) (place_in c.state)) l) spent files finding) e h.figures;
       }
 
   pub runs_cleanly : (end : RunStatus) → RunEnds root s t old new (place_in c.state) last l spent files finding end → RunsCleanly root old new c l spent files finding end

@@ -18,7 +18,7 @@ use Rattle.ocfl_item.specs.Judging.{Judges, JudgeFails}
 use Rattle.ocfl_item.specs.declared.fault.Fault.{Fault}
 use Rattle.ocfl_item.specs.declared.fault.Fault.TheVariants.{Store as AtStore, Memory, Output}
 use Rattle.ocfl_scrub.specs.Taking.{WritesLines, PartOf, Takes, Misses}
-use Rattle.ocfl_scrub.proofs.AuditingLaws.{audits_none, nothing_hashed}
+use Rattle.ocfl_scrub.proofs.AuditsJoined.{audits_none, nothing_hashed}
 
 pub or_none : (b : Bool) → (b || false) ≡ b
 or_none true = refl

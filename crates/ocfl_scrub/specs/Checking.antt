@@ -27,15 +27,19 @@ checked_item root trail p = item_at root (unread_of root trail) p
 abbrev pub AreOnce : List Opening → Type 0
 AreOnce trail = AllPairs (λ a b. a.place ≢ b.place) trail
 
+-- only directories on the way to a place were listed, at most the inventory of its object was read, and no file was opened twice
+pub record IsJustFor (root : Tree) (p : Place) (listed heads : List Place) (trail : List Opening) : Type 0 where
+  pub listed_front : IsFront listed (way_to p)
+  pub heads_front : IsFront heads (holder_of (zone root p))
+  pub once : AreOnce trail
+
 -- from s to t the place was checked: its lines were written, its file was opened if it is hashed and no other content, only directories on the way to it were listed, each once, and at most the inventory of its object was read
 pub record Checks (root : Tree) (s t : Store) (old new : Option (List ℕ)) (p : Place) (item finding : Bool) : Type 0 where
   pub trail : List Opening
   pub listed : List Place
   pub heads : List Place
   pub audits : Audits root s t (p ∷ []) listed heads trail
-  pub listed_front : IsFront listed (way_to p)
-  pub heads_front : IsFront heads (holder_of (zone root p))
-  pub once : AreOnce trail
+  pub just : IsJustFor root p listed heads trail
   pub wrote : Appends old new (text (checked_item root trail p))
   pub item_is : item ≡ not (is_empty (checked_item root trail p))
   pub found_is : finding ≡ found (checked_item root trail p)
@@ -48,9 +52,7 @@ pub record CheckStops (root : Tree) (s t : Store) (old new : Option (List ℕ)) 
   pub listed : List Place
   pub heads : List Place
   pub fails : Fails root s t begun listed heads trail why
-  pub listed_front : IsFront listed (way_to p)
-  pub heads_front : IsFront heads (holder_of (zone root p))
-  pub once : AreOnce trail
+  pub just : IsJustFor root p listed heads trail
   pub part : Text
   pub wrote : Appends old new part
   pub part_of : PartOf why (text (checked_item root trail p)) part

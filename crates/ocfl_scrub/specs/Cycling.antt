@@ -1,23 +1,20 @@
 -- What a cycle does: runs from the first item on, one for each of some limits, until no item is left.
 use Rattle.std.specs.Prelude.{◌≡◌, ◌<◌, ◌≤◌, ◌+◌, ◌/◌, ◌↔◌, ℕ, List, [], ◌++◌, Bool, true, false, Option, None, All, map, take, length, ⊤}
 use Rattle.std.specs.Io.KnownBytes.{Appends}
-use Rattle.ocfl_tree.specs.Place.{Text, Place}
+use Rattle.ocfl_tree.specs.Place.{Place}
 use Rattle.ocfl_tree.specs.Tree.{Tree}
 use Rattle.ocfl_tree.specs.Store.{Store}
 use Rattle.ocfl_tree.specs.declared.store.Opening.{Opening}
-use Rattle.ocfl_report.specs.Line.{Item, found}
+use Rattle.ocfl_report.specs.Line.{Item}
 use Rattle.ocfl_report.specs.Text.{text}
 use Rattle.ocfl_audit.specs.Audit.{audit, total_cost}
 use Rattle.ocfl_audit.specs.Due.{item_places, hashed_among}
 use Rattle.ocfl_audit.specs.Trail.{unread_of, content_trail, inventories}
 use Rattle.ocfl_audit.specs.Runs.{Limits, total_files, runs, joined, IsAtLeast, FilesFit, sum_of}
 use Rattle.ocfl_cursor.specs.Cursor.{State, ended, Cursor}
-use Rattle.ocfl_item.specs.Looking.{IsFront}
 use Rattle.ocfl_item.specs.Auditing.{Audits, Fails}
 use Rattle.ocfl_item.specs.declared.fault.Fault.{Fault}
-use Rattle.ocfl_scrub.specs.Taking.{PartOf}
-use Rattle.ocfl_scrub.specs.Passing.{last_of}
-use Rattle.ocfl_scrub.specs.WholeAudit.{places}
+use Rattle.ocfl_scrub.specs.Written.{places, last_of, Figures, StopsWithin}
 use Rattle.ocfl_scrub.specs.Running.{state_at}
 use Rattle.ocfl_scrub.specs.declared.cycling.CycleStatus.{CycleStatus}
 use Rattle.ocfl_scrub.specs.declared.cycling.CycleStatus.TheVariants as status
@@ -45,9 +42,7 @@ pub record Cycles (root : Tree) (s t : Store) (old new : Option (List ℕ)) (las
   pub audits : Audits root s t (places (all_taken root trail limits)) listed heads trail
   pub inventories_read : 1 ≤ count → length heads < length (inventories root) + count
   pub wrote : Appends old new (text (all_taken root trail limits))
-  pub spent_is : spent ≡ total_cost (all_taken root trail limits)
-  pub files_is : files ≡ total_files (all_taken root trail limits)
-  pub found_is : finding ≡ found (all_taken root trail limits)
+  pub figures : Figures (all_taken root trail limits) spent files finding
   pub count_is : count ≡ length (all_runs root trail limits)
   pub last_is : last ≡ last_of None (places (all_taken root trail limits))
   pub whole_is : (whole ≡ true) ↔ (all_taken root trail limits ≡ audit_of root trail)
@@ -58,23 +53,13 @@ pub record Cycles (root : Tree) (s t : Store) (old new : Option (List ℕ)) (las
 -- from s to t a cycle stopped: the first items that its runs take went out whole, and of the next at most a proper beginning
 pub record CycleStops (root : Tree) (s t : Store) (old new : Option (List ℕ)) (last : Option Place) (limits : List Limits) (spent files : ℕ) (finding : Bool) (count : ℕ) (why : Fault) : Type 0 where
   pub trail : List Opening
-  pub whole : List Item
-  pub others : List Item
-  pub items_are : all_taken root trail limits ≡ whole ++ others
-  pub begun : List Place
-  pub one : IsFront begun (places (take 1 others))
+  pub stops : StopsWithin (all_taken root trail limits) old new None last why
+  pub figures : Figures stops.whole spent files finding
   pub listed : List Place
   pub heads : List Place
-  pub fails : Fails root s t (places whole ++ begun) listed heads trail why
+  pub fails : Fails root s t (places stops.whole ++ stops.begun) listed heads trail why
   pub inventories_read : 1 ≤ count → length heads < length (inventories root) + count
   pub count_fits : count ≤ length (all_runs root trail limits)
-  pub part : Text
-  pub wrote : Appends old new (text whole ++ part)
-  pub part_of : PartOf why (text (take 1 others)) part
-  pub spent_is : spent ≡ total_cost whole
-  pub files_is : files ≡ total_files whole
-  pub found_is : finding ≡ found whole
-  pub last_is : last ≡ last_of None (places whole)
 
 abbrev pub CycleEnds : Tree → Store → Store → Option (List ℕ) → Option (List ℕ) → Option Place → List Limits → ℕ → ℕ → Bool → ℕ → CycleStatus → Type 0
 CycleEnds root s t old new last limits spent files finding count status.Ended = Cycles root s t old new last limits spent files finding count true

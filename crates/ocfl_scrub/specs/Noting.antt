@@ -13,13 +13,17 @@ use Rattle.ocfl_item.specs.declared.fault.Fault.TheVariants as fault
 use Rattle.ocfl_scrub.specs.Taking.{WritesLines}
 use Rattle.ocfl_scrub.specs.Checking.{CheckEnds}
 use Rattle.ocfl_scrub.specs.WholeAudit.{AuditEnds}
+use Rattle.ocfl_scrub.specs.declared.auditing.AuditEnd.{AuditEnd}
+use Rattle.ocfl_scrub.specs.declared.checking.CheckEnd.{CheckEnd}
 use Rattle.ocfl_scrub.specs.declared.checking.End.{End}
 use Rattle.ocfl_scrub.specs.declared.checking.End.TheVariants as end
 use Rattle.ocfl_audit.specs.Runs.{Limits}
 use Rattle.ocfl_scrub.specs.Running.{RunsFrom, RunsCleanly}
 use Rattle.ocfl_scrub.specs.Cycling.{CyclesTo, HeadlineOf}
+use Rattle.ocfl_scrub.specs.declared.running.RunEnd.{RunEnd}
 use Rattle.ocfl_scrub.specs.declared.running.RunStatus.{RunStatus}
 use Rattle.ocfl_scrub.specs.declared.running.RunStatus.TheVariants as run
+use Rattle.ocfl_scrub.specs.declared.cycling.CycleEnd.{CycleEnd}
 use Rattle.ocfl_scrub.specs.declared.cycling.CycleStatus.{CycleStatus}
 use Rattle.ocfl_scrub.specs.declared.cycling.CycleStatus.TheVariants as cycle
 use Rattle.ocfl_scrub.specs.declared.note.Note.{Note}
@@ -53,6 +57,17 @@ IsStopSaid note.OutOfMemory = ⊤
 IsStopSaid note.OutputFailed = ⊤
 IsStopSaid n = ⊥
 
+-- what is said of the file that a cursor is read from
+abbrev pub IsFileSaid : Note → Type 0
+IsFileSaid note.CursorFileFailed = ⊤
+IsFileSaid (note.CursorRefused why) = ⊤
+IsFileSaid n = ⊥
+
+-- what is said where no cursor was read
+abbrev pub IsUnreadSaid : Note → Type 0
+IsUnreadSaid note.OutOfMemory = ⊤
+IsUnreadSaid n = IsFileSaid n
+
 -- what each command can say
 abbrev pub IsAuditSaid : Note → Type 0
 IsAuditSaid note.Nothing = ⊤
@@ -74,13 +89,6 @@ IsRanSaid (note.RunMade cycle runs cost ended) = ⊤
 IsRanSaid note.CursorWorn = ⊤
 IsRanSaid n = IsStopSaid n
 
--- what is said where no cursor was read
-abbrev pub IsUnreadSaid : Note → Type 0
-IsUnreadSaid note.OutOfMemory = ⊤
-IsUnreadSaid note.CursorFileFailed = ⊤
-IsUnreadSaid (note.CursorRefused why) = ⊤
-IsUnreadSaid n = ⊥
-
 abbrev pub IsRunSaid : Note → Type 0
 IsRunSaid note.CursorFileFailed = ⊤
 IsRunSaid (note.CursorRefused why) = ⊤
@@ -88,11 +96,8 @@ IsRunSaid n = IsRanSaid n
 
 abbrev pub IsShowSaid : Note → Type 0
 IsShowSaid note.Nothing = ⊤
-IsShowSaid note.OutOfMemory = ⊤
 IsShowSaid note.OutputFailed = ⊤
-IsShowSaid note.CursorFileFailed = ⊤
-IsShowSaid (note.CursorRefused why) = ⊤
-IsShowSaid n = ⊥
+IsShowSaid n = IsUnreadSaid n
 
 -- a path that is no place's, or one that could not be read for want of memory
 abbrev pub IsRefused : ℕ → Note → Type 0
@@ -158,19 +163,15 @@ IsUnreadNote (stop.Refused refused.Malformed) status n = (status ≡ 4) × (n �
 
 -- the place was checked, and the status and the text are those of the check
 pub record ChecksWithNote (root : Tree) (s t : Store) (old new : Option (List ℕ)) (p : Place) (status : ℕ) (n : Note) : Type 0 where
-  pub item : Bool
-  pub finding : Bool
-  pub ended : End
-  pub checks : CheckEnds root s t old new p item finding ended
-  pub says : IsCheckNote item finding ended status n
+  pub ran : CheckEnd
+  pub checks : CheckEnds root s t old new p ran.item ran.found ran.end
+  pub says : IsCheckNote ran.item ran.found ran.end status n
 
 -- the root was audited, and the status and the text are those of the audit
 pub record AuditsWithNote (root : Tree) (s t : Store) (old new : Option (List ℕ)) (status : ℕ) (n : Note) : Type 0 where
-  pub last : Option Place
-  pub finding : Bool
-  pub ended : End
-  pub audits : AuditEnds root s t old new last finding ended
-  pub says : IsAuditNote finding ended status n
+  pub ran : AuditEnd
+  pub audits : AuditEnds root s t old new ran.last ran.found ran.end
+  pub says : IsAuditNote ran.found ran.end status n
 
 -- the same where the cursor's text is handed back, or where there was no memory for it
 abbrev pub IsStoredNote : Cursor → ℕ → Bool → RunStatus → ℕ → Note → Option (Vec ℕ Global) → Type 0
@@ -179,24 +180,16 @@ IsStoredNote c spent finding how status n (Some stored) = (stored.items ≡ curs
 
 -- a run was made from a cursor, and the status, the text and what is handed back are those of the run
 pub record RunsWithNote (root : Tree) (s t : Store) (old new : Option (List ℕ)) (c : Cursor) (limits : Limits) (status : ℕ) (n : Note) (stored : Option (Vec ℕ Global)) : Type 0 where
-  pub reached : Cursor
-  pub spent : ℕ
-  pub files : ℕ
-  pub finding : Bool
-  pub ended : RunStatus
-  pub runs : RunsFrom root s t old new c limits reached spent files finding ended
-  pub clean : t.failures ≡ s.failures → RunsCleanly root old new c limits spent files finding ended
-  pub says : IsStoredNote reached spent finding ended status n stored
+  pub ran : RunEnd
+  pub runs : RunsFrom root s t old new c limits ran.cursor ran.spent ran.files ran.found ran.end
+  pub clean : t.failures ≡ s.failures → RunsCleanly root old new c limits ran.spent ran.files ran.found ran.end
+  pub says : IsStoredNote ran.cursor ran.spent ran.found ran.end status n stored
 
 -- a cycle was made, and the status and the text are those of the cycle
 pub record CyclesWithNote (root : Tree) (s t : Store) (old new : Option (List ℕ)) (limits : List Limits) (status : ℕ) (n : Note) : Type 0 where
-  pub reached : Cursor
-  pub count : ℕ
-  pub spent : ℕ
-  pub finding : Bool
-  pub ended : CycleStatus
-  pub cycles : CyclesTo root s t old new limits reached finding ended
-  pub headline : t.failures ≡ s.failures → HeadlineOf root s t old new limits count ended
-  pub count_is : count ≡ reached.runs
-  pub spent_is : spent ≡ reached.spent
-  pub says : IsCycleNote count spent finding ended status n
+  pub ran : CycleEnd
+  pub cycles : CyclesTo root s t old new limits ran.cursor ran.found ran.end
+  pub headline : t.failures ≡ s.failures → HeadlineOf root s t old new limits ran.runs ran.end
+  pub count_is : ran.runs ≡ ran.cursor.runs
+  pub spent_is : ran.spent ≡ ran.cursor.spent
+  pub says : IsCycleNote ran.runs ran.spent ran.found ran.end status n

@@ -1,5 +1,5 @@
 -- What the function of the program does, by what is asked for.
-use Rattle.std.specs.Prelude.{◌≡◌, ◌≢◌, ◌⊎◌, ◌<◌, ℕ, Bool, List, [], Option, Some, None, Vec, IfSome, IsNone, IsSome, map, replicate, take, length, string_bytes, ⊤}
+use Rattle.std.specs.Prelude.{◌≡◌, ◌≢◌, ◌⊎◌, ◌<◌, ℕ, List, [], Option, Some, None, Vec, IfSome, IsNone, IsSome, map, replicate, take, length, string_bytes, ⊤}
 use Rattle.std.specs.declared.alloc.Global.{Global}
 use Rattle.std.specs.Borrow.{MutBor}
 use Rattle.std.specs.Io.KnownBytes.{Appends}
@@ -20,9 +20,9 @@ use Rattle.ocfl_cursor.specs.declared.reading.CursorStop.{CursorStop}
 use Rattle.ocfl_cursor.specs.declared.reading.CursorStop.TheVariants as stop
 use Rattle.ocfl_line.specs.declared.deed.Deed.{Deed}
 use Rattle.ocfl_line.specs.declared.deed.Deed.TheVariants as deed
-use Rattle.ocfl_scrub.specs.Noting.{status_of, IsAuditSaid, IsCheckSaid, IsRunSaid, IsCycleSaid, IsShowSaid, IsRefused, IsRunNote, IsUnreadNote, WritesWithStatus, AuditsWithNote, ChecksWithNote, RunsWithNote, CyclesWithNote}
+use Rattle.ocfl_scrub.specs.Noting.{status_of, IsAuditSaid, IsCheckSaid, IsRunSaid, IsCycleSaid, IsFileSaid, IsShowSaid, IsRefused, IsRunNote, IsUnreadNote, WritesWithStatus, AuditsWithNote, ChecksWithNote, RunsWithNote, CyclesWithNote}
 use Rattle.ocfl_scrub.specs.Running.{IsPaid, IsWorn, begun, limits_of, state_after}
-use Rattle.ocfl_scrub.specs.declared.running.RunStatus.{RunStatus}
+use Rattle.ocfl_scrub.specs.declared.running.RunEnd.{RunEnd}
 use Rattle.ocfl_scrub.specs.declared.note.Note.{Note}
 use Rattle.ocfl_scrub.specs.declared.note.Note.TheVariants as note
 
@@ -67,9 +67,7 @@ IsSaid deed.Show n = IsShowSaid n
 abbrev pub IsSilent : Note → Type 0
 IsSilent note.BadPath = ⊤
 IsSilent note.CursorWorn = ⊤
-IsSilent note.CursorFileFailed = ⊤
-IsSilent (note.CursorRefused why) = ⊤
-IsSilent n = ⊥
+IsSilent n = IsFileSaid n
 
 -- with these texts all lines went out
 abbrev pub IsWhole : Note → Type 0
@@ -94,16 +92,12 @@ IsKeptBy deed n stored = IsNone stored
 pub record HandedBack (known : Option (Option Text)) (limits : Limits) (status : ℕ) (n : Note) (handed : Text) : Type 0 where
   pub from : Cursor
   pub begins : BeginsWith known from
-  pub spent : ℕ
-  pub files : ℕ
-  pub paid : IsPaid limits spent files
-  pub finding : Bool
-  pub ended : RunStatus
+  pub ran : RunEnd
+  pub paid : IsPaid limits ran.spent ran.files
   pub last : Option Place
-  pub reached : Cursor
-  pub reached_is : reached ≡ after_run (begun from) spent files (state_after ended last)
-  pub handed_is : handed ≡ cursor_text reached
-  pub says : IsRunNote reached spent finding ended status n
+  pub cursor_is : ran.cursor ≡ after_run (begun from) ran.spent ran.files (state_after ran.end last)
+  pub handed_is : handed ≡ cursor_text ran.cursor
+  pub says : IsRunNote ran.cursor ran.spent ran.found ran.end status n
 
 abbrev pub HandsBack : Option (Option Text) → Deed → ℕ → Note → Option (Vec ℕ Global) → Type 0
 HandsBack known (deed.Run limits) status n stored = IfSome stored (λ handed. HandedBack known (limits_of limits) status n handed.items)

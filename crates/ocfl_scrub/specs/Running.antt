@@ -1,17 +1,17 @@
 -- What one run does: it takes what lies above its cursor's place, as far as its limits allow.
-use Rattle.std.specs.Prelude.{◌≡◌, ◌≢◌, ◌<◌, ◌≤◌, ◌+◌, ◌==◌, ◌^◌, ℕ, List, [], ◌∷◌, ◌++◌, Bool, Option, Some, None, length, take, if◌then◌else◌, ⊤}
+use Rattle.std.specs.Prelude.{◌≡◌, ◌≢◌, ◌<◌, ◌≤◌, ◌+◌, ◌==◌, ◌^◌, ℕ, List, [], ◌∷◌, ◌++◌, Bool, Option, Some, None, length, if◌then◌else◌, ⊤}
 use Rattle.std.specs.Io.KnownBytes.{Appends}
-use Rattle.ocfl_tree.specs.Place.{Text, Place, place_cmp}
+use Rattle.ocfl_tree.specs.Place.{Place, place_cmp}
 use Rattle.ocfl_tree.specs.Ascending.{IsAscending}
 use Rattle.ocfl_tree.specs.Tree.{Tree}
 use Rattle.ocfl_tree.specs.Store.{Store}
 use Rattle.ocfl_tree.specs.declared.store.Opening.{Opening}
-use Rattle.ocfl_report.specs.Line.{Item, found}
+use Rattle.ocfl_report.specs.Line.{Item}
 use Rattle.ocfl_report.specs.Text.{text}
-use Rattle.ocfl_audit.specs.Audit.{audit, after, total_cost}
+use Rattle.ocfl_audit.specs.Audit.{audit, after}
 use Rattle.ocfl_audit.specs.Trail.{unread_of}
 use Rattle.ocfl_audit.specs.Between.{looked_between, read_between}
-use Rattle.ocfl_audit.specs.Runs.{Limits, sum_of, total_files, cut, left}
+use Rattle.ocfl_audit.specs.Runs.{Limits, sum_of, cut, left}
 use Rattle.ocfl_cursor.specs.Cursor.{State, start, behind, ended, Cursor}
 use Rattle.ocfl_cursor.specs.Meter.{max_cost}
 use Rattle.ocfl_cursor.specs.Moves.{next_cycle, after_run}
@@ -20,9 +20,7 @@ use Rattle.ocfl_item.specs.Looking.{IsFront}
 use Rattle.ocfl_item.specs.Auditing.{Audits, Fails}
 use Rattle.ocfl_walk.specs.WalkCalls.{way_of, holder}
 use Rattle.ocfl_item.specs.declared.fault.Fault.{Fault}
-use Rattle.ocfl_scrub.specs.Taking.{PartOf}
-use Rattle.ocfl_scrub.specs.Passing.{last_of}
-use Rattle.ocfl_scrub.specs.WholeAudit.{places}
+use Rattle.ocfl_scrub.specs.Written.{places, last_of, Figures, StopsWithin}
 use Rattle.ocfl_scrub.specs.declared.running.RunStatus.{RunStatus}
 use Rattle.ocfl_scrub.specs.declared.running.RunStatus.TheVariants as status
 
@@ -115,9 +113,7 @@ pub record Runs (root : Tree) (s t : Store) (old new : Option (List ℕ)) (from 
   pub lists_once : IsAscending place_cmp (down ++ looked_between root from next)
   pub reads_once : IsAscending place_cmp (held ++ read_between root from next)
   pub wrote : Appends old new (text (taken root trail from limits))
-  pub spent_is : spent ≡ total_cost (taken root trail from limits)
-  pub files_is : files ≡ total_files (taken root trail from limits)
-  pub found_is : finding ≡ found (taken root trail from limits)
+  pub figures : Figures (taken root trail from limits) spent files finding
   pub last_is : last ≡ last_of from (places (taken root trail from limits))
   pub next_is : next ≡ first_of (rest root trail from limits)
   pub overrun : 0 < spent → spent < limits.budget + last_cost (taken root trail from limits)
@@ -125,29 +121,19 @@ pub record Runs (root : Tree) (s t : Store) (old new : Option (List ℕ)) (from 
 -- from s to t a run stopped: the first items of the cut went out whole, and of the next at most a proper beginning
 pub record RunStops (root : Tree) (s t : Store) (old new : Option (List ℕ)) (from last : Option Place) (limits : Limits) (spent files : ℕ) (finding : Bool) (why : Fault) : Type 0 where
   pub trail : List Opening
-  pub whole : List Item
-  pub others : List Item
-  pub items_are : taken root trail from limits ≡ whole ++ others
-  pub begun : List Place
-  pub one : IsFront begun (places (take 1 others))
+  pub stops : StopsWithin (taken root trail from limits) old new from last why
+  pub figures : Figures stops.whole spent files finding
   pub down : List Place
   pub listed : List Place
   pub held : List Place
   pub heads : List Place
-  pub fails : Fails root s t (places whole ++ begun) (down ++ listed) (held ++ heads) trail why
+  pub fails : Fails root s t (places stops.whole ++ stops.begun) (down ++ listed) (held ++ heads) trail why
   pub down_front : IsFront down (way_of from)
   pub listed_front : IsFront listed (looked_between root from None)
   pub held_front : IsFront held (holder root from)
   pub heads_front : IsFront heads (read_between root from None)
   pub lists_once : IsAscending place_cmp (down ++ listed)
   pub reads_once : IsAscending place_cmp (held ++ heads)
-  pub part : Text
-  pub wrote : Appends old new (text whole ++ part)
-  pub part_of : PartOf why (text (take 1 others)) part
-  pub spent_is : spent ≡ total_cost whole
-  pub files_is : files ≡ total_files whole
-  pub found_is : finding ≡ found whole
-  pub last_is : last ≡ last_of from (places whole)
 
 abbrev pub RunEnds : Tree → Store → Store → Option (List ℕ) → Option (List ℕ) → Option Place → Option Place → Limits → ℕ → ℕ → Bool → RunStatus → Type 0
 RunEnds root s t old new from last limits spent files finding status.Ended = Runs root s t old new from last limits spent files finding None
@@ -166,9 +152,7 @@ pub record RunsFrom (root : Tree) (s t : Store) (old new : Option (List ℕ)) (c
 -- the text and the figures of a run are those of the cut of the audit of files that can all be read
 pub record RunsClean (root : Tree) (old new : Option (List ℕ)) (from : Option Place) (limits : Limits) (spent files : ℕ) (finding : Bool) : Type 0 where
   pub wrote : Appends old new (text (cut (after (audit root []) from) limits))
-  pub spent_is : spent ≡ total_cost (cut (after (audit root []) from) limits)
-  pub files_is : files ≡ total_files (cut (after (audit root []) from) limits)
-  pub found_is : finding ≡ found (cut (after (audit root []) from) limits)
+  pub figures : Figures (cut (after (audit root []) from) limits) spent files finding
 
 -- and it ended with the cycle exactly where it left nothing
 abbrev pub RunsCleanly : Tree → Option (List ℕ) → Option (List ℕ) → Cursor → Limits → ℕ → ℕ → Bool → RunStatus → Type 0

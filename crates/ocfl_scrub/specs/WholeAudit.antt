@@ -1,11 +1,11 @@
 -- What the audit of a whole storage root does.
-use Rattle.std.specs.Prelude.{◌≡◌, ℕ, List, ◌++◌, Bool, Option, None, map, take}
+use Rattle.std.specs.Prelude.{◌≡◌, ℕ, List, ◌++◌, Bool, Option, None}
 use Rattle.std.specs.Io.KnownBytes.{Appends}
-use Rattle.ocfl_tree.specs.Place.{Text, Place}
+use Rattle.ocfl_tree.specs.Place.{Place}
 use Rattle.ocfl_tree.specs.Tree.{Tree}
 use Rattle.ocfl_tree.specs.Store.{Store}
 use Rattle.ocfl_tree.specs.declared.store.Opening.{Opening}
-use Rattle.ocfl_report.specs.Line.{Item, found}
+use Rattle.ocfl_report.specs.Line.{found}
 use Rattle.ocfl_report.specs.Text.{text}
 use Rattle.ocfl_audit.specs.Audit.{audit}
 use Rattle.ocfl_audit.specs.Trail.{unread_of}
@@ -14,13 +14,9 @@ use Rattle.ocfl_audit.specs.Between.{looked_between, read_between}
 use Rattle.ocfl_item.specs.Looking.{IsFront}
 use Rattle.ocfl_item.specs.Auditing.{Audits, Fails}
 use Rattle.ocfl_item.specs.declared.fault.Fault.{Fault}
-use Rattle.ocfl_scrub.specs.Taking.{PartOf}
-use Rattle.ocfl_scrub.specs.Passing.{last_of}
+use Rattle.ocfl_scrub.specs.Written.{places, last_of, StopsWithin}
 use Rattle.ocfl_scrub.specs.declared.checking.End.{End}
 use Rattle.ocfl_scrub.specs.declared.checking.End.TheVariants as end
-
-abbrev pub places : List Item → List Place
-places items = map (λ i. i.place) items
 
 -- from s to t the audit's text was written: each hashed file was opened once, in order, each directory that is looked into listed once, and each inventory read once
 pub record AuditsAll (root : Tree) (s t : Store) (old new : Option (List ℕ)) (last : Option Place) (finding : Bool) : Type 0 where
@@ -33,21 +29,13 @@ pub record AuditsAll (root : Tree) (s t : Store) (old new : Option (List ℕ)) (
 -- from s to t the audit stopped: its first items went out whole, and of the next at most a proper beginning
 pub record AuditStops (root : Tree) (s t : Store) (old new : Option (List ℕ)) (last : Option Place) (finding : Bool) (why : Fault) : Type 0 where
   pub trail : List Opening
-  pub whole : List Item
-  pub others : List Item
-  pub items_are : audit root (unread_of root trail) ≡ whole ++ others
-  pub begun : List Place
-  pub one : IsFront begun (places (take 1 others))
+  pub stops : StopsWithin (audit root (unread_of root trail)) old new None last why
+  pub found_is : finding ≡ found stops.whole
   pub listed : List Place
   pub heads : List Place
-  pub fails : Fails root s t (places whole ++ begun) listed heads trail why
+  pub fails : Fails root s t (places stops.whole ++ stops.begun) listed heads trail why
   pub listed_front : IsFront listed (looked_between root None None)
   pub heads_front : IsFront heads (read_between root None None)
-  pub part : Text
-  pub wrote : Appends old new (text whole ++ part)
-  pub part_of : PartOf why (text (take 1 others)) part
-  pub last_is : last ≡ last_of None (places whole)
-  pub found_is : finding ≡ found whole
 
 abbrev pub AuditEnds : Tree → Store → Store → Option (List ℕ) → Option (List ℕ) → Option Place → Bool → End → Type 0
 AuditEnds root s t old new last finding end.Ended = AuditsAll root s t old new last finding

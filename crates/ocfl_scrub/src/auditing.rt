@@ -6,8 +6,6 @@ ghost use Rattle.ocfl_report.specs.Text.{text};
 ghost use Rattle.ocfl_tree.specs.Tree.{Tree as Root};
 ghost use Rattle.ocfl_audit.specs.Audit.{audit as whole_audit};
 ghost use Rattle.ocfl_item.specs.Judging.{HasShortFiles};
-ghost use Rattle.ocfl_walk.specs.Walks.{IsLive, Stands, last_of};
-ghost use Rattle.ocfl_scrub.specs.Passing.{PassEnds};
 ghost use Rattle.ocfl_scrub.specs.Taking.{WritesLines};
 ghost use Rattle.ocfl_scrub.specs.WholeAudit.{AuditEnds};
 
@@ -61,70 +59,32 @@ pub fn audit<T: Tree, W: Write>(
         → Appends (W.contents out.old) (W.contents out.new) (text (whole_audit root []))
         × (result.found ≡ found_in (whole_audit root [])) }
 {
-    match Walk::start(alloc, store, None) {
-        Ok(walk) => take_all(alloc, store, walk, None, block, out),
-        Err(why) => AuditEnd {
-            found: false,
-            last: None,
-            end: End::Stopped(why),
-        },
-    }
-}
-
-// Takes the items above a place, one after the other.
-fn take_all<T: Tree, W: Write>(
-    alloc: Global,
-    store: &mut T,
-    mut walk: Walk,
-    from: Option<Place>,
-    block: &mut Block,
-    out: &mut W,
-) -> AuditEnd
-    requires live { IsLive walk }
-    requires behind { last_of walk ≡ from }
-    ensures whole { result.end ≢ End.Stopped Fault.Broken }
-    ensures lines { result.end ≢ End.Stopped Fault.Output
-        → WritesLines (W.contents out.old) (W.contents out.new) result.found }
-    ensures silent { result.last ≡ None → result.end ≢ End.Stopped Fault.Output
-        → out.new ≡ out.old }
-    ensures none_found { result.last ≡ None → result.found ≡ false }
-    ensures told { IsTrue T.told → (root : Root) → (T.state store.old).tree ≡ root
-        → HasShortFiles root → Stands root walk from →
-        PassEnds root (T.state store.old) (T.state store.new) (W.contents out.old)
-        (W.contents out.new) from result.last result.found result.end }
-{
-    let mut last = from;
+    let mut walk = match Walk::start(alloc, store, None) {
+        Ok(walk) => walk,
+        Err(why) => return audit_end(None, false, End::Stopped(why)),
+    };
+    let mut last = None;
     let mut found = false;
     loop {
         let pending = match walk.next(store) {
             Ok(Some(pending)) => pending,
-            Ok(None) => {
-                return AuditEnd {
-                    found,
-                    last,
-                    end: End::Ended,
-                };
-            }
-            Err(why) => {
-                return AuditEnd {
-                    found,
-                    last,
-                    end: End::Stopped(why),
-                };
-            }
+            Ok(None) => return audit_end(last, found, End::Ended),
+            Err(why) => return audit_end(last, found, End::Stopped(why)),
         };
         match take_item(alloc, store, &pending, block, out) {
             Ok(taken) => {
                 found = either(found, taken.found);
                 last = Some(taken.place);
             }
-            Err(why) => {
-                return AuditEnd {
-                    found,
-                    last,
-                    end: End::Stopped(why),
-                };
-            }
+            Err(why) => return audit_end(last, found, End::Stopped(why)),
         }
     }
+}
+
+fn audit_end(last: Option<Place>, found: bool, end: End) -> AuditEnd
+    ensures last { result.last ≡ last }
+    ensures found { result.found ≡ found }
+    ensures end { result.end ≡ end }
+{
+    AuditEnd { found, last, end }
 }

@@ -5,12 +5,12 @@ ghost use Rattle.ocfl_cursor.specs.Cursor.{IsShortPlace};
 ghost use Rattle.ocfl_cursor.specs.Meter.{IsMeter, MayStart};
 ghost use Rattle.ocfl_cursor.specs.Moves.{after_run};
 ghost use Rattle.ocfl_cursor.specs.State.{state_of};
+ghost use Rattle.ocfl_tree.specs.Name.{IsPlace};
 ghost use Rattle.ocfl_tree.specs.Place.{Place as Spot};
 ghost use Rattle.ocfl_tree.specs.Tree.{Tree as Root};
 ghost use Rattle.ocfl_item.specs.Judging.{HasShortFiles};
-ghost use Rattle.ocfl_walk.specs.Walks.{IsLive, Stands, last_of};
 ghost use Rattle.ocfl_scrub.specs.Taking.{WritesLines};
-ghost use Rattle.ocfl_scrub.specs.Paying.{Begins, IsShort, PaidEnds};
+ghost use Rattle.ocfl_scrub.specs.Beginning.{Begins, IsShort};
 ghost use Rattle.ocfl_scrub.specs.Running.{IsPaid, IsWorn, RunEnds, RunsCleanly, RunsFrom, begun};
 ghost use Rattle.ocfl_scrub.specs.Running.{limits_of, state_after};
 
@@ -159,12 +159,18 @@ fn left_state(end: &RunStatus, last: Option<Place>) -> State
     }
     match last {
         Some(place) => {
-            // A place has names alone, which its path tells.
-            let _ = place.path();
+            has_names(&place);
             State::After(place)
         }
         None => State::Start,
     }
+}
+
+// A place has names alone, which its path tells.
+fn has_names(place: &Place)
+    ensures { IsPlace place.now }
+{
+    let _ = place.path();
 }
 
 // What a pass over the items above a place did.
@@ -200,57 +206,11 @@ fn pass_from<T: Tree, W: Write>(
         (W.contents out.new) from result.last
         (limits_of limits) result.spent result.files result.found result.end }
 {
-    match Walk::start(alloc, store, from.as_ref()) {
-        Ok(walk) => take_within(alloc, store, walk, from, limits, block, out),
-        Err(why) => Pass {
-            last: from,
-            spent: 0,
-            files: 0,
-            found: false,
-            end: RunStatus::Stopped(why),
-        },
-    }
-}
-
-// Whether an item is free, or the limits allow to start it.
-fn pays(meter: &Meter, pending: &Pending) -> bool
-    ensures paid { result ≡ true → pending.now.hashed ≡ true → MayStart meter.now }
-    ensures unpaid { result ≡ false → (pending.now.hashed ≡ true) × (MayStart meter.now → ⊥) }
-{
-    if pending.hashed() {
-        meter.may_start()
-    } else {
-        true
-    }
-}
-
-// Takes the items that a walk gives, one after the other, as far as the limits allow.
-fn take_within<T: Tree, W: Write>(
-    alloc: Global,
-    store: &mut T,
-    mut walk: Walk,
-    from: Option<Place>,
-    limits: Limits,
-    block: &mut Block,
-    out: &mut W,
-) -> Pass
-    requires live { IsLive walk }
-    requires behind { last_of walk ≡ from }
-    requires short { IsShort from }
-    ensures whole { result.end ≢ RunStatus.Stopped Fault.Broken }
-    ensures works { result.end ≢ RunStatus.Worn }
-    ensures short { IsShort result.last }
-    ensures paid { IsPaid (limits_of limits) result.spent result.files }
-    ensures fits { result.spent ≤ 2 ^ 63 }
-    ensures lines { result.end ≢ RunStatus.Stopped Fault.Output
-        → WritesLines (W.contents out.old) (W.contents out.new) result.found }
-    ensures told { IsTrue T.told → (root : Root) → (T.state store.old).tree ≡ root
-        → HasShortFiles root → Stands root walk from →
-        PaidEnds root (T.state store.old) (T.state store.new) (W.contents out.old)
-        (W.contents out.new) from result.last
-        (limits_of limits) result.spent result.files result.found result.end }
-{
     let mut meter = Meter::new(limits);
+    let mut walk = match Walk::start(alloc, store, from.as_ref()) {
+        Ok(walk) => walk,
+        Err(why) => return pass_end(&meter, from, false, RunStatus::Stopped(why)),
+    };
     let mut last = from;
     let mut found = false;
     loop {
@@ -271,6 +231,18 @@ fn take_within<T: Tree, W: Write>(
             }
             Err(why) => return pass_end(&meter, last, found, RunStatus::Stopped(why)),
         }
+    }
+}
+
+// Whether an item is free, or the limits allow to start it.
+fn pays(meter: &Meter, pending: &Pending) -> bool
+    ensures paid { result ≡ true → pending.now.hashed ≡ true → MayStart meter.now }
+    ensures unpaid { result ≡ false → (pending.now.hashed ≡ true) × (MayStart meter.now → ⊥) }
+{
+    if pending.hashed() {
+        meter.may_start()
+    } else {
+        true
     }
 }
 

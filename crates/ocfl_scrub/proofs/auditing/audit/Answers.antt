@@ -1,17 +1,54 @@
-use Rattle.std.proofs.Common.{refl}
-use Rattle.ocfl_scrub.proofs.AuditLaws.{audit_all, unstarted, nothing_unread}
+use Rattle.std.proofs.Common.{refl, None}
+use Rattle.ocfl_scrub.proofs.AuditLaws.{unstarted, nothing_unread}
+use Rattle.ocfl_scrub.proofs.AuditTurns.{nothing_taken, audit_ended, audit_took, audit_missed, audit_lost}
+use Rattle.ocfl_scrub.proofs.LoopLaws.{sets_out, goes_further}
 use Rattle.ocfl_scrub.proofs.auditing.audit.Goals as goal
 
-pub returns-in-Ok-clause-told : goal.returns-in-Ok-clause-told
-returns-in-Ok-clause-told g c told root over short =
-    let from_there = c.in-Ok.ensures.told told root over in
-    audit_all g.T.Tree.state c.args.store.now c.start.new.store _ root _ _ _ _ _ (c.in-Ok.ensures.untouched refl) over (λ o. c.take_all.ensures.told told root o short from_there.1)
-
-pub returns-in-Ok-clause-unfailing : goal.returns-in-Ok-clause-unfailing
-returns-in-Ok-clause-unfailing g c told root over short ended same =
-    let from_there = c.in-Ok.ensures.told told root over in
-    nothing_unread root _ _ _ _ _ _ _
-    (audit_all g.T.Tree.state c.args.store.now c.start.new.store _ root _ _ _ _ _ (c.in-Ok.ensures.untouched refl) over (λ o. c.take_all.ensures.told told root o short from_there.1)) ended same
-
 pub returns-in-Err-clause-told : goal.returns-in-Err-clause-told
-returns-in-Err-clause-told g c told root over short = unstarted root _ _ _ _ c.in-Err.ensures.only (c.in-Err.ensures.told told root over)
+returns-in-Err-clause-told g c told root over short =
+    let e = c.audit_end.ensures in
+    rw (e.last, e.found, e.end) (unstarted root _ _ _ _ c.in-Err.ensures.only (c.in-Err.ensures.told told root over))
+
+pub loop-pending-init : goal.loop-pending-init
+loop-pending-init g c = record {
+  way = sets_out _ None _ c.in-Ok.ensures.live c.in-Ok.ensures.last;
+  silent = λ e. refl;
+  none_found = λ e. refl;
+  told = λ told root over short. nothing_taken g.T.Tree.state c.args.store.now c.start.new.store root _ _ (c.in-Ok.ensures.untouched refl) over (c.in-Ok.ensures.told told root over).1;
+}
+
+pub returns-in-Ok-None-clause-told : goal.returns-in-Ok-None-clause-told
+returns-in-Ok-None-clause-told g c told root over short =
+    let i = c.loop-pending.invariant in
+    let e = c.audit_end-in-Ok-None.ensures in
+    rw (e.last, e.found, e.end) (audit_ended i.way (i.told told root over short) _ c.next.new.self (c.in-Ok-None.ensures.told told root) c.in-Ok-None.field-0-is)
+
+pub returns-in-Ok-None-clause-unfailing : goal.returns-in-Ok-None-clause-unfailing
+returns-in-Ok-None-clause-unfailing g c told root over short ended same =
+    nothing_unread root _ _ _ _ _ _ _ (returns-in-Ok-None-clause-told g c told root over short) ended same
+
+pub returns-in-Err-next-clause-told : goal.returns-in-Err-next-clause-told
+returns-in-Err-next-clause-told g c told root over short =
+    let i = c.loop-pending.invariant in
+    let e = c.audit_end-in-Err-next.ensures in
+    rw (e.last, e.found, e.end) (audit_lost i.way (i.told told root over short) _ _ c.in-Err-next.ensures.only (c.in-Err-next.ensures.told told root))
+
+pub returns-in-Err-take_item-clause-told : goal.returns-in-Err-take_item-clause-told
+returns-in-Err-take_item-clause-told g c told root over short =
+    let i = c.loop-pending.invariant in
+    let e = c.audit_end-in-Err-take_item.ensures in
+    rw (e.last, e.found, e.end)
+    (audit_missed i.way (i.told told root over short) _ _ (c.in-Ok-Some.ensures.told told root) c.in-Ok-Some.field-0-is c.in-Ok-Some.ensures.goes_on _ _ _ (λ u q. c.in-Err-take_item.ensures.told told root u short q))
+
+pub loop-pending-preserved : goal.loop-pending-preserved
+loop-pending-preserved g c =
+    let i = c.loop-pending.invariant in
+    let given = c.in-Ok-Some in
+    let took = c.in-Ok-take_item.ensures in
+    record {
+      way = goes_further _ i.way given.field-0-is given.ensures.goes_on _ _ _ _ took.place took.lines c.either-found.ensures;
+      silent = λ e. cc;
+      none_found = λ e. cc;
+      told = λ told root over short.
+          audit_took i.way (i.told told root over short) _ _ (given.ensures.told told root) given.field-0-is given.ensures.goes_on _ _ _ _ _ _ took.place c.either-found.ensures (λ u q. took.told told root u short q);
+    }

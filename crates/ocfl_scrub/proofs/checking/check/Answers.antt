@@ -1,5 +1,5 @@
 use Rattle.ocfl_scrub.proofs.CheckLaws.{place_there, place_bare, nothing_there, not_gone_down, check_stopped, check_took, check_missed}
-use Rattle.ocfl_scrub.proofs.AuditingLaws.{audits_over}
+use Rattle.ocfl_scrub.proofs.AuditsJoined.{audits_over}
 use Rattle.ocfl_scrub.proofs.checking.check.Goals as goal
 
 pub returns-in-Ok-None-clause-told : goal.returns-in-Ok-None-clause-told

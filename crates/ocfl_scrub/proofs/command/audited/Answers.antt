@@ -2,9 +2,7 @@ use Rattle.ocfl_scrub.proofs.command.audited.Goals as goal
 
 pub returns-clause-told : goal.returns-clause-told
 returns-clause-told g c told root over short = record {
-  last = c.audit.result.last;
-  finding = c.audit.result.found;
-  ended = c.audit.result.end;
+  ran = c.audit.result;
   audits = c.audit.ensures.told told root over short;
   says = c.audit_noted.ensures.note;
 }

@@ -3,8 +3,8 @@ use Rattle.ocfl_scrub.specs.Running.{limits_of}
 use Rattle.ocfl_scrub.proofs.TakeLaws.{nothing_written}
 use Rattle.ocfl_scrub.proofs.PassLaws.{lines_then}
 use Rattle.ocfl_scrub.proofs.CycleEndLaws.{headline_of}
-use Rattle.ocfl_scrub.proofs.GoesLaws.{cycle_begins, goes_over, goes_out, goes_unbegun, turn_spent, turn_ended, turn_stopped}
-use Rattle.ocfl_scrub.proofs.CyclingLaws.{limits_next, limits_out, ended_not_worn, spent_not_worn, stopped_not_worn, ended_wrote, spent_wrote, stopped_wrote, new_unended, one_run_more, same_cycle, spent_unended, lines_said, cycle_said}
+use Rattle.ocfl_scrub.proofs.CycleTurns.{cycle_begins, goes_over, goes_out, goes_unbegun, turn_spent, turn_ended, turn_stopped}
+use Rattle.ocfl_scrub.proofs.CycleLoop.{limits_next, limits_out, ended_not_worn, spent_not_worn, stopped_not_worn, ended_wrote, spent_wrote, stopped_wrote, new_unended, one_run_more, same_cycle, spent_unended, lines_said, cycle_said}
 use Rattle.ocfl_scrub.proofs.cycling.cycle.Goals as goal
 
 pub loop-one-init : goal.loop-one-init

@@ -5,7 +5,7 @@ use Rattle.ocfl_tree.specs.Tree.{Tree as Root}
 use Rattle.ocfl_item.specs.Judging.{HasShortFiles}
 use Rattle.ocfl_scrub.specs.Running.{limits_of}
 use Rattle.ocfl_scrub.specs.Taking.{WritesLines}
-use Rattle.ocfl_scrub.proofs.GoesLaws.{CycleGoes}
+use Rattle.ocfl_scrub.proofs.CycleTurns.{CycleGoes}
 use Rattle.ocfl_scrub.proofs.cycling.cycle.Given as goal
 
 abbrev pub invariant-loop-one : goal.invariant-loop-one

@@ -14,11 +14,7 @@ returns-clause-told g c told root over short =
     let end = c.cycle.result in
     let same : map limits_of c.deref.result.now ≡ equal_limits c.args.limits c.args.count = ap (map limits_of) (c.deref.ensures.value ∙ c.in-Ok.ensures) in
     inl (record {
-      reached = end.cursor;
-      count = end.runs;
-      spent = end.spent;
-      finding = end.found;
-      ended = end.end;
+      ran = end;
       cycles = subst (λ ls. CyclesTo root s t old new ls end.cursor end.found end.end) same (e.told told root over short);
       headline = λ clean. subst (λ ls. HeadlineOf root s t old new ls end.runs end.end) same (e.headline told root over short clean);
       count_is = e.runs;

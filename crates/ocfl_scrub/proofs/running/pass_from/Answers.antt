@@ -1,12 +1,68 @@
-use Rattle.ocfl_scrub.proofs.AuditingLaws.{audits_over}
-use Rattle.ocfl_scrub.proofs.RunLaws.{lent_place, pass_is_run, not_run}
+use Rattle.std.proofs.Common.{◌∙◌}
+use Rattle.ocfl_scrub.proofs.MeterLaws.{paid_start}
+use Rattle.ocfl_scrub.proofs.RunTurns.{within_both, not_within, charged_item, nothing_paid, run_ended, run_spent, run_took, run_missed, run_lost}
+use Rattle.ocfl_scrub.proofs.RunLaws.{lent_place, not_run}
+use Rattle.ocfl_scrub.proofs.LoopLaws.{sets_out, next_short, goes_further}
 use Rattle.ocfl_scrub.proofs.running.pass_from.Goals as goal
-
-pub returns-in-Ok-clause-told : goal.returns-in-Ok-clause-told
-returns-in-Ok-clause-told g c told root over short =
-    let there = rw (lent_place _ _ c.as_ref.ensures.value) at (c.in-Ok.ensures.told told root over) in
-    pass_is_run root _ _ _ _ _ _ _ _ _ _ _ there.0 _ (c.take_within.ensures.told told root (audits_over there.0.audits) short there.1)
 
 pub returns-in-Err-clause-told : goal.returns-in-Err-clause-told
 returns-in-Err-clause-told g c told root over short =
-    not_run root _ _ _ _ _ _ c.in-Err.ensures.only (rw (lent_place _ _ c.as_ref.ensures.value) at (c.in-Err.ensures.told told root over))
+    let e = c.pass_end.ensures in
+    rw (e.last, e.spent, e.files, e.found, e.end, c.new-meter.ensures.spent, c.new-meter.ensures.files)
+    (not_run root _ _ _ _ _ _ c.in-Err.ensures.only (rw (lent_place _ _ c.as_ref.ensures.value) at (c.in-Err.ensures.told told root over)))
+
+pub loop-pending-init : goal.loop-pending-init
+loop-pending-init g c =
+    let lent = lent_place _ _ c.as_ref.ensures.value in
+    let meter = c.new-meter.ensures in
+    record {
+      way = sets_out _ c.args.from _ c.in-Ok.ensures.live (c.in-Ok.ensures.last ∙ lent);
+      short = c.requires.short;
+      limits = meter.limits;
+      paid = paid_start _ _ _ meter.spent meter.files;
+      told = λ told root over short. nothing_paid root _ _ _ _ c.args.from _ _ _ meter.spent meter.files (rw lent at (c.in-Ok.ensures.told told root over));
+    }
+
+pub returns-in-Ok-None-clause-told : goal.returns-in-Ok-None-clause-told
+returns-in-Ok-None-clause-told g c told root over short =
+    let i = c.loop-pending.invariant in
+    let e = c.pass_end-in-Ok-None.ensures in
+    rw (e.last, e.spent, e.files, e.found, e.end) (run_ended i.way (i.told told root over short) _ c.next.new.self (c.in-Ok-None.ensures.told told root) c.in-Ok-None.field-0-is)
+
+pub returns-in-Err-next-clause-told : goal.returns-in-Err-next-clause-told
+returns-in-Err-next-clause-told g c told root over short =
+    let i = c.loop-pending.invariant in
+    let e = c.pass_end-in-Err-next.ensures in
+    rw (e.last, e.spent, e.files, e.found, e.end) (run_lost i.way (i.told told root over short) _ _ c.in-Err-next.ensures.only (c.in-Err-next.ensures.told told root))
+
+pub returns-then-not-paid-clause-told : goal.returns-then-not-paid-clause-told
+returns-then-not-paid-clause-told g c told root over short =
+    let i = c.loop-pending.invariant in
+    let e = c.pass_end-then-not-paid.ensures in
+    let unpaid = c.pays-paid.ensures.unpaid c.if-not-paid.true in
+    rw (e.last, e.spent, e.files, e.found, e.end)
+    (run_spent i.way (i.told told root over short) _ _ (c.in-Ok-Some.ensures.told told root) c.in-Ok-Some.field-0-is c.in-Ok-Some.ensures.goes_on unpaid.0 (not_within _ c.loop-pending.meter i.limits unpaid.1))
+
+pub returns-in-Err-take_item-clause-told : goal.returns-in-Err-take_item-clause-told
+returns-in-Err-take_item-clause-told g c told root over short =
+    let i = c.loop-pending.invariant in
+    let e = c.pass_end-in-Err-take_item.ensures in
+    rw (e.last, e.spent, e.files, e.found, e.end)
+    (run_missed i.way (i.told told root over short) _ _ (c.in-Ok-Some.ensures.told told root) c.in-Ok-Some.field-0-is c.in-Ok-Some.ensures.goes_on (λ h. within_both _ c.loop-pending.meter i.limits (c.pays-paid.ensures.paid c.if-not-paid.false h))
+    _ _ _ (λ u q. c.in-Err-take_item.ensures.told told root u short q))
+
+pub loop-pending-preserved : goal.loop-pending-preserved
+loop-pending-preserved g c =
+    let i = c.loop-pending.invariant in
+    let given = c.in-Ok-Some in
+    let took = c.in-Ok-take_item.ensures in
+    let may = c.pays-paid.ensures.paid c.if-not-paid.false in
+    record {
+      way = goes_further _ i.way given.field-0-is given.ensures.goes_on _ _ _ _ took.place took.lines c.either-found.ensures;
+      short = next_short _ i.way given.field-0-is given.ensures.goes_on _ took.place;
+      limits = c.charge.ensures.limits ∙ i.limits;
+      paid = charged_item _ c.loop-pending.meter _ _ _ _ i.limits i.paid took.cost may c.charge.ensures.spent c.charge.ensures.files;
+      told = λ told root over short.
+          run_took i.way (i.told told root over short) _ _ (given.ensures.told told root) given.field-0-is given.ensures.goes_on (λ h. within_both _ c.loop-pending.meter i.limits (may h)) _ _ _ _ _ _ _ _ took.place
+          c.charge.ensures.spent c.charge.ensures.files c.either-found.ensures (λ u q. took.told told root u short q);
+    }

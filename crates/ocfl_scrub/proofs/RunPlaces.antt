@@ -6,7 +6,7 @@ use Rattle.ocfl_tree.specs.Ascending.{IsAscending}
 use Rattle.ocfl_tree.specs.Tree.{Tree}
 use Rattle.ocfl_tree.specs.Store.{Store}
 use Rattle.ocfl_tree.specs.declared.store.Opening.{Opening}
-use Rattle.ocfl_report.specs.Line.{Item, found}
+use Rattle.ocfl_report.specs.Line.{Item}
 use Rattle.ocfl_report.specs.Text.{text}
 use Rattle.ocfl_audit.specs.Audit.{Unread, audit, after, item_of, total_cost}
 use Rattle.ocfl_audit.specs.Trail.{unread_of}
@@ -19,9 +19,8 @@ use Rattle.ocfl_audit.proofs.DueLaws.{after_is_due}
 use Rattle.ocfl_item.specs.Looking.{IsFront}
 use Rattle.ocfl_item.specs.Auditing.{Audits}
 use Rattle.ocfl_walk.specs.WalkCalls.{holder}
-use Rattle.ocfl_scrub.specs.Passing.{last_of}
-use Rattle.ocfl_scrub.specs.WholeAudit.{places}
-use Rattle.ocfl_scrub.specs.Paying.{Paid}
+use Rattle.ocfl_scrub.specs.Written.{places, last_of, Figures}
+use Rattle.ocfl_scrub.proofs.Paying.{Paid}
 use Rattle.ocfl_scrub.specs.Running.{items_above, taken, rest, first_of, Runs}
 use Rattle.ocfl_scrub.proofs.Lists.{map_append}
 use Rattle.ocfl_scrub.proofs.AuditLaws.{places_of_items}
@@ -86,8 +85,8 @@ abbrev pub first_place : List Place → Option Place
 first_place [] = None
 first_place (p ∷ ps) = Some p
 
--- from s to t a run took the places that its limits allow, and left those behind the last of them
-pub record Turn (root : Tree) (s t : Store) (old new : Option (List ℕ)) (from last : Option Place) (limits : Limits) (spent files : ℕ) (finding : Bool) (next : Option Place) : Type 0 where
+-- from s to t the places above from were audited up to last, and their items went out, with these figures
+pub record Took (root : Tree) (s t : Store) (old new : Option (List ℕ)) (from last : Option Place) (spent files : ℕ) (finding : Bool) : Type 0 where
   pub done : List Place
   pub trail : List Opening
   pub listed : List Place
@@ -95,14 +94,16 @@ pub record Turn (root : Tree) (s t : Store) (old new : Option (List ℕ)) (from 
   pub audits : Audits root s t done listed heads trail
   pub due_are : due root from ≡ done ++ due root last
   pub last_is : last ≡ last_of from done
-  pub next_is : next ≡ first_place (due root last)
-  pub paid : Paid limits 0 0 (items_at root trail done)
-  pub stops : IsStop limits (total_cost (items_at root trail done)) (total_files (items_at root trail done)) (items_at root trail (due root last))
   pub wrote : Appends old new (text (items_at root trail done))
-  pub costs : total_cost (items_at root trail done) ≡ spent
-  pub counts : total_files (items_at root trail done) ≡ files
-  pub finds : found (items_at root trail done) ≡ finding
-  pub read : length heads ≤ length (holder root from) + length (read_between root from next)
+  pub figures : Figures (items_at root trail done) spent files finding
+
+-- a run took them: its limits allow these places, and not what is next
+pub record Turn (root : Tree) (s t : Store) (old new : Option (List ℕ)) (from last : Option Place) (limits : Limits) (spent files : ℕ) (finding : Bool) (next : Option Place) : Type 0 where
+  pub took : Took root s t old new from last spent files finding
+  pub next_is : next ≡ first_place (due root last)
+  pub paid : Paid limits 0 0 (items_at root took.trail took.done)
+  pub stops : IsStop limits (total_cost (items_at root took.trail took.done)) (total_files (items_at root took.trail took.done)) (items_at root took.trail (due root last))
+  pub read : length took.heads ≤ length (holder root from) + length (read_between root from next)
 
 pub front_length : {A : Type 0} (xs ys : List A) → IsFront xs ys → length xs ≤ length ys
 front_length xs ys f = let e : length ys ≡ length xs + length f.0 = ap length f.1 ∙ length-append xs f.0 in omega (arith, e)
@@ -123,19 +124,19 @@ module _ (root : Tree) (s t : Store) (old new : Option (List ℕ)) (from last : 
       let taken_is : cut_items ≡ items_at root h.trail done = sym (front_is root h.trail from cut_items left_items split) in
       let left_is : left_items ≡ items_at root h.trail (due root last) = sym (rest_is root h.trail from cut_items left_items split) ∙ ap (λ l. items_at root h.trail (due root l)) is_last in
       record {
-        done = done;
-        trail = h.trail;
-        listed = _;
-        heads = h.held ++ read_between root from next;
-        audits = h.audits;
-        due_are = due_parts root h.trail from cut_items left_items split ∙ ap (λ l. done ++ due root l) is_last;
-        last_is = h.last_is;
+        took = record {
+          done = done;
+          trail = h.trail;
+          listed = _;
+          heads = h.held ++ read_between root from next;
+          audits = h.audits;
+          due_are = due_parts root h.trail from cut_items left_items split ∙ ap (λ l. done ++ due root l) is_last;
+          last_is = h.last_is;
+          wrote = subst (λ is. Appends old new (text is)) taken_is h.wrote;
+          figures = subst (λ is. Figures is spent files finding) taken_is h.figures;
+        };
         next_is = h.next_is ∙ first_places left_items ∙ ap first_place (ap places left_is ∙ places_of_items root h.trail (due root last));
         paid = subst (Paid limits 0 0) taken_is (cut_paid limits above);
         stops = subst (IsStop limits _ _) left_is (subst (λ is. IsStop limits (total_cost is) (total_files is) left_items) taken_is (cut_stops limits above));
-        wrote = subst (λ is. Appends old new (text is)) taken_is h.wrote;
-        costs = ap total_cost (sym taken_is) ∙ sym h.spent_is;
-        counts = ap total_files (sym taken_is) ∙ sym h.files_is;
-        finds = ap found (sym taken_is) ∙ sym h.found_is;
         read = let f = front_length h.held (holder root from) h.held_front in let e = length-append h.held (read_between root from next) in omega (arith, e, f);
       }

@@ -20,25 +20,24 @@ use Rattle.ocfl_audit.specs.Between.{read_between}
 use Rattle.ocfl_audit.specs.Runs.{Limits, total_files, cut, left, runs, runs_after, joined}
 use Rattle.ocfl_audit.proofs.DueLaws.{after_is_due}
 use Rattle.ocfl_item.specs.Looking.{IsFront}
-use Rattle.ocfl_item.specs.Auditing.{Audits, Fails}
+use Rattle.ocfl_item.specs.Auditing.{Fails}
 use Rattle.ocfl_walk.specs.WalkCalls.{holder, holder_of}
 use Rattle.ocfl_item.specs.declared.fault.Fault.{Fault}
 use Rattle.ocfl_item.specs.declared.fault.Fault.TheVariants.{Memory, Output, Store as AtStore}
 use Rattle.ocfl_scrub.specs.Taking.{PartOf}
-use Rattle.ocfl_scrub.specs.Passing.{last_of}
-use Rattle.ocfl_scrub.specs.WholeAudit.{places}
+use Rattle.ocfl_scrub.specs.Written.{places, last_of, Figures}
 use Rattle.ocfl_scrub.specs.Running.{items_above, rest as rest_of, RunStops}
 use Rattle.ocfl_scrub.specs.declared.cycling.CycleStatus.{CycleStatus}
 use Rattle.ocfl_scrub.specs.declared.cycling.CycleStatus.TheVariants.{Ended, Spent, Stopped}
 use Rattle.ocfl_scrub.proofs.Lists.{map_append, ascends_left}
-use Rattle.ocfl_scrub.proofs.AuditingLaws.{audits_none, audits_then, fails_then, items_before, items_behind, items_append, items_then}
+use Rattle.ocfl_scrub.proofs.AuditsJoined.{audits_none, audits_then, fails_then, items_before, items_behind, items_append, items_then}
 use Rattle.ocfl_scrub.proofs.PassLaws.{text_append, found_append, due_ascends, no_items, take_nothing}
 use Rattle.ocfl_scrub.proofs.TakeLaws.{nothing_of, memory_other}
 use Rattle.ocfl_scrub.proofs.AuditLaws.{places_of_items, nothing_front}
 use Rattle.ocfl_scrub.proofs.CutLaws.{IsStop, cost_append, files_append, cut_of_paid, left_of_paid, cut_and_left}
 use Rattle.ocfl_scrub.proofs.PartLaws.{stop_alike, stop_hashed}
 use Rattle.ocfl_scrub.proofs.NextLaws.{read_parts}
-use Rattle.ocfl_scrub.proofs.TurnLaws.{Turn, first_place, front_is, rest_is, due_parts, front_length}
+use Rattle.ocfl_scrub.proofs.RunPlaces.{Took, Turn, first_place, front_is, rest_is, due_parts, front_length}
 
 -- ---- some runs
 
@@ -49,20 +48,10 @@ pub record ReadFew (root : Tree) (from : Option Place) (heads : List Place) (cou
 
 -- from s to t the runs of the limits took the items above from up to last
 pub record Parts (root : Tree) (s t : Store) (old new : Option (List ℕ)) (from last : Option Place) (limits : List Limits) (spent files : ℕ) (finding : Bool) (count : ℕ) (ended : Bool) : Type 0 where
-  pub done : List Place
-  pub trail : List Opening
-  pub listed : List Place
-  pub heads : List Place
-  pub audits : Audits root s t done listed heads trail
-  pub due_are : due root from ≡ done ++ due root last
-  pub last_is : last ≡ last_of from done
-  pub wrote : Appends old new (text (items_at root trail done))
-  pub runs_are : joined (runs (items_at root trail (due root from)) limits) ≡ items_at root trail done
-  pub count_is : count ≡ length (runs (items_at root trail (due root from)) limits)
-  pub costs : total_cost (items_at root trail done) ≡ spent
-  pub counts : total_files (items_at root trail done) ≡ files
-  pub finds : found (items_at root trail done) ≡ finding
-  pub read : ReadFew root from heads count
+  pub took : Took root s t old new from last spent files finding
+  pub runs_are : joined (runs (items_at root took.trail (due root from)) limits) ≡ items_at root took.trail took.done
+  pub count_is : count ≡ length (runs (items_at root took.trail (due root from)) limits)
+  pub read : ReadFew root from took.heads count
   pub ended_is : ended ≡ is_empty (due root last)
 
 -- from s to t they took the items above from up to last, and then there was a fault
@@ -83,9 +72,7 @@ pub record PartsStop (root : Tree) (s t : Store) (old new : Option (List ℕ)) (
   pub wrote : Appends old new (text (items_at root trail done) ++ part)
   pub part_of : PartOf why (text (take 1 others)) part
   pub count_fits : count ≤ length (runs (items_at root trail (due root from)) limits)
-  pub costs : total_cost (items_at root trail done) ≡ spent
-  pub counts : total_files (items_at root trail done) ≡ files
-  pub finds : found (items_at root trail done) ≡ finding
+  pub figures : Figures (items_at root trail done) spent files finding
   pub read : ReadFew root from heads count
 
 abbrev pub PartsEnd : Tree → Store → Store → Option (List ℕ) → Option (List ℕ) → Option Place → Option Place → List Limits → ℕ → ℕ → Bool → ℕ → CycleStatus → Type 0
@@ -122,6 +109,14 @@ part_more why part [] ys h =
     let none : part ≡ [] = h.is ∙ ap (λ n. take n []) (h.none other) in
     subst (PartOf why (text (take 1 ys))) (sym none) (nothing_of why other (text (take 1 ys)))
 
+-- what the items of two parts cost and say together
+figures_then : {xs ys both : List Item} {a b a' b' : ℕ} {v v' : Bool} → both ≡ xs ++ ys → Figures xs a b v → Figures ys a' b' v' → Figures both (a + a') (b + b') (v || v')
+figures_then {xs} {ys} {both} {a} {b} {a'} {b'} {v} {v'} e h k = subst (λ is. Figures is (a + a') (b + b') (v || v')) (sym e) (record {
+  spent_is = let c = cost_append xs ys in let m = h.spent_is in let n = k.spent_is in omega (arith, c, m, n);
+  files_is = let c = files_append xs ys in let m = h.files_is in let n = k.files_is in omega (arith, c, m, n);
+  found_is = ap (λ w. w || v') h.found_is ∙ ap (λ w. found xs || w) k.found_is ∙ sym (found_append xs ys);
+})
+
 -- ---- runs
 
 runs_go_on : (items : List Item) (ls : List Limits) → is_empty items ≡ false → runs_after ls items ≡ runs items ls
@@ -137,19 +132,19 @@ runs_end (l ∷ ls) = refl
 pub parts_none : (root : Tree) (s : Store) (old : Option (List ℕ)) (last : Option Place) → s.tree ≡ root → is_empty (due root last) ≡ false → Parts root s s old old last last [] 0 0 false 0 false
 unfolding items_at
 parts_none root s old last over some = record {
-  done = [];
-  trail = [];
-  listed = [];
-  heads = [];
-  audits = audits_none root s over;
-  due_are = refl;
-  last_is = refl;
-  wrote = Appends-nil old;
+  took = record {
+    done = [];
+    trail = [];
+    listed = [];
+    heads = [];
+    audits = audits_none root s over;
+    due_are = refl;
+    last_is = refl;
+    wrote = Appends-nil old;
+    figures = record { spent_is = refl; files_is = refl; found_is = refl };
+  };
   runs_are = refl;
   count_is = refl;
-  costs = refl;
-  counts = refl;
-  finds = refl;
   read = record { none = λ e. refl; some = λ e. absurd (omega (arith, e)) };
   ended_is = sym some;
 }
@@ -180,9 +175,7 @@ parts_unbegun root s old last limits over =
       wrote = Appends-nil old;
       part_of = nothing_of Memory memory_other (text (take 1 others));
       count_fits = omega arith;
-      costs = refl;
-      counts = refl;
-      finds = refl;
+      figures = record { spent_is = refl; files_is = refl; found_is = refl };
       read = record { none = λ e. refl; some = λ e. absurd (omega (arith, e)) };
     }
 
@@ -197,24 +190,14 @@ module _ (root : Tree) (s t : Store) (old mid : Option (List ℕ)) (from mid_las
   pub parts_ended : Turn root s t old mid from mid_last l spent files finding None → Parts root s t old mid from mid_last (l ∷ ls) spent files finding 1 true
   parts_ended h =
       let none : due root mid_last ≡ [] = first_none (due root mid_last) h.next_is in
-      let split : items_at root h.trail (due root from) ≡ items_at root h.trail h.done ++ items_at root h.trail (due root mid_last) = ap (items_at root h.trail) h.due_are ∙ items_append root h.trail h.done (due root mid_last) in
-      let is_cut : cut (items_at root h.trail (due root from)) l ≡ items_at root h.trail h.done = ap (λ is. cut is l) split ∙ cut_of_paid l _ _ h.paid h.stops in
-      let is_left : left (items_at root h.trail (due root from)) l ≡ [] = ap (λ is. left is l) split ∙ left_of_paid l _ _ h.paid h.stops ∙ ap (items_at root h.trail) none ∙ no_items root h.trail in
-      let are : runs (items_at root h.trail (due root from)) (l ∷ ls) ≡ cut (items_at root h.trail (due root from)) l ∷ [] = ap (λ xs. cut (items_at root h.trail (due root from)) l ∷ runs_after ls xs) is_left ∙ ap (λ xs. cut (items_at root h.trail (due root from)) l ∷ xs) (runs_end ls) in
+      let split : items_at root h.took.trail (due root from) ≡ items_at root h.took.trail h.took.done ++ items_at root h.took.trail (due root mid_last) = ap (items_at root h.took.trail) h.took.due_are ∙ items_append root h.took.trail h.took.done (due root mid_last) in
+      let is_cut : cut (items_at root h.took.trail (due root from)) l ≡ items_at root h.took.trail h.took.done = ap (λ is. cut is l) split ∙ cut_of_paid l _ _ h.paid h.stops in
+      let is_left : left (items_at root h.took.trail (due root from)) l ≡ [] = ap (λ is. left is l) split ∙ left_of_paid l _ _ h.paid h.stops ∙ ap (items_at root h.took.trail) none ∙ no_items root h.took.trail in
+      let are : runs (items_at root h.took.trail (due root from)) (l ∷ ls) ≡ cut (items_at root h.took.trail (due root from)) l ∷ [] = ap (λ xs. cut (items_at root h.took.trail (due root from)) l ∷ runs_after ls xs) is_left ∙ ap (λ xs. cut (items_at root h.took.trail (due root from)) l ∷ xs) (runs_end ls) in
       record {
-        done = h.done;
-        trail = h.trail;
-        listed = h.listed;
-        heads = h.heads;
-        audits = h.audits;
-        due_are = h.due_are;
-        last_is = h.last_is;
-        wrote = h.wrote;
+        took = h.took;
         runs_are = ap joined are ∙ append-nil _ ∙ is_cut;
         count_is = sym (ap length are);
-        costs = h.costs;
-        counts = h.counts;
-        finds = h.finds;
         read = record { none = λ e. absurd (omega (arith, e)); some = λ e. let r = h.read in omega (arith, r) };
         ended_is = sym (none_empty (due root mid_last) none);
       }
@@ -222,40 +205,39 @@ module _ (root : Tree) (s t : Store) (old mid : Option (List ℕ)) (from mid_las
   -- it stopped
   pub parts_stopped : (why : Fault) → RunStops root s t old mid from mid_last l spent files finding why → PartsStop root s t old mid from mid_last (l ∷ ls) spent files finding 1 why
   parts_stopped why h =
+      let w = h.stops in
       let above : List Item = items_above root h.trail from in
       let left_items : List Item = rest_of root h.trail from l in
       let later : List Item = joined (runs_after ls (left (items_at root h.trail (due root from)) l)) in
-      let split : above ≡ h.whole ++ (h.others ++ left_items) =
-      sym (cut_and_left above l) ∙ ap (λ is. is ++ left_items) h.items_are ∙ append_assoc h.whole h.others left_items in
-      let done : List Place = places h.whole in
-      let done_is : h.whole ≡ items_at root h.trail done = sym (front_is root h.trail from h.whole (h.others ++ left_items) split) in
-      let next_is : due root (last_of from done) ≡ places (h.others ++ left_items) =
-      sym (places_of_items root h.trail (due root (last_of from done))) ∙ ap places (rest_is root h.trail from h.whole (h.others ++ left_items) split) in
-      let first : places h.others ≡ h.begun ++ (h.one.0 ++ places (drop 1 h.others)) =
-      ap places (sym (take-append-drop 1 h.others)) ∙ map_append (λ i. i.place) (take 1 h.others) (drop 1 h.others) ∙ ap (λ ps. ps ++ places (drop 1 h.others)) h.one.1 ∙ append_assoc h.begun h.one.0 (places (drop 1 h.others)) in
-      let behind : List Place = (h.one.0 ++ places (drop 1 h.others)) ++ places left_items in
-      let next_begun : due root (last_of from done) ≡ h.begun ++ behind =
-      next_is ∙ map_append (λ i. i.place) h.others left_items ∙ ap (λ ps. ps ++ places left_items) first ∙ append_assoc h.begun (h.one.0 ++ places (drop 1 h.others)) (places left_items) in
+      let split : above ≡ w.whole ++ (w.others ++ left_items) =
+      sym (cut_and_left above l) ∙ ap (λ is. is ++ left_items) w.items_are ∙ append_assoc w.whole w.others left_items in
+      let done : List Place = places w.whole in
+      let done_is : w.whole ≡ items_at root h.trail done = sym (front_is root h.trail from w.whole (w.others ++ left_items) split) in
+      let next_is : due root (last_of from done) ≡ places (w.others ++ left_items) =
+      sym (places_of_items root h.trail (due root (last_of from done))) ∙ ap places (rest_is root h.trail from w.whole (w.others ++ left_items) split) in
+      let first : places w.others ≡ w.begun ++ (w.one.0 ++ places (drop 1 w.others)) =
+      ap places (sym (take-append-drop 1 w.others)) ∙ map_append (λ i. i.place) (take 1 w.others) (drop 1 w.others) ∙ ap (λ ps. ps ++ places (drop 1 w.others)) w.one.1 ∙ append_assoc w.begun w.one.0 (places (drop 1 w.others)) in
+      let behind : List Place = (w.one.0 ++ places (drop 1 w.others)) ++ places left_items in
+      let next_begun : due root (last_of from done) ≡ w.begun ++ behind =
+      next_is ∙ map_append (λ i. i.place) w.others left_items ∙ ap (λ ps. ps ++ places left_items) first ∙ append_assoc w.begun (w.one.0 ++ places (drop 1 w.others)) (places left_items) in
       record {
         done = done;
-        begun = h.begun;
+        begun = w.begun;
         rest = behind;
         trail = h.trail;
-        others = h.others ++ later;
+        others = w.others ++ later;
         listed = h.down ++ h.listed;
         heads = h.held ++ h.heads;
         fails = h.fails;
-        due_are = due_parts root h.trail from h.whole (h.others ++ left_items) split ∙ ap (λ ps. done ++ ps) next_begun ∙ sym (append_assoc done h.begun behind);
-        last_is = h.last_is;
-        runs_begin = ap (λ is. is ++ later) (ap (λ is. cut is l) (sym (after_is_due root h.trail from)) ∙ h.items_are ∙ ap (λ is. is ++ h.others) done_is) ∙ append_assoc (items_at root h.trail done) h.others later;
-        one = one_more h.begun h.others later h.one;
-        part = h.part;
-        wrote = subst (λ is. Appends old mid (text is ++ h.part)) done_is h.wrote;
-        part_of = part_more why h.part h.others later h.part_of;
+        due_are = due_parts root h.trail from w.whole (w.others ++ left_items) split ∙ ap (λ ps. done ++ ps) next_begun ∙ sym (append_assoc done w.begun behind);
+        last_is = w.last_is;
+        runs_begin = ap (λ is. is ++ later) (ap (λ is. cut is l) (sym (after_is_due root h.trail from)) ∙ w.items_are ∙ ap (λ is. is ++ w.others) done_is) ∙ append_assoc (items_at root h.trail done) w.others later;
+        one = one_more w.begun w.others later w.one;
+        part = w.part;
+        wrote = subst (λ is. Appends old mid (text is ++ w.part)) done_is w.wrote;
+        part_of = part_more why w.part w.others later w.part_of;
         count_fits = omega arith;
-        costs = ap total_cost (sym done_is) ∙ sym h.spent_is;
-        counts = ap total_files (sym done_is) ∙ sym h.files_is;
-        finds = ap found (sym done_is) ∙ sym h.found_is;
+        figures = subst (λ is. Figures is spent files finding) done_is h.figures;
         read = record {
           none = λ e. absurd (omega (arith, e));
           some = λ e.
@@ -294,114 +276,114 @@ module _ (root : Tree) (s t : Store) (old mid : Option (List ℕ)) (from mid_las
 
   pub next_there : IsNext
   next_there =
-      let spent_here : ℕ = total_cost (items_at root h.trail h.done) in
-      let opened_here : ℕ = total_files (items_at root h.trail h.done) in
+      let spent_here : ℕ = total_cost (items_at root h.took.trail h.took.done) in
+      let opened_here : ℕ = total_files (items_at root h.took.trail h.took.done) in
       let first = first_some next (due root mid_last) h.next_is in
-      record { behind = first.0; due_is = first.1; hashed = stop_hashed root h.trail l spent_here opened_here next first.0 (subst (λ qs. IsStop l spent_here opened_here (items_at root h.trail qs)) first.1 h.stops) }
+      record { behind = first.0; due_is = first.1; hashed = stop_hashed root h.took.trail l spent_here opened_here next first.0 (subst (λ qs. IsStop l spent_here opened_here (items_at root h.took.trail qs)) first.1 h.stops) }
 
   pub next_some : is_empty (due root mid_last) ≡ false
   next_some = ap is_empty next_there.due_is
 
   -- what both read
-  reads_then : (heads : List Place) (count : ℕ) → ReadFew root mid_last heads count → ReadFew root from (h.heads ++ heads) (1 + count)
+  reads_then : (heads : List Place) (count : ℕ) → ReadFew root mid_last heads count → ReadFew root from (h.took.heads ++ heads) (1 + count)
   reads_then heads count k =
-      let there : IsAmong (due root from) next = subst (λ ps. IsAmong ps next) (sym (h.due_are ∙ ap (λ ps. h.done ++ ps) next_there.due_is)) (among_behind h.done next next_there.behind) in
+      let there : IsAmong (due root from) next = subst (λ ps. IsAmong ps next) (sym (h.took.due_are ∙ ap (λ ps. h.took.done ++ ps) next_there.due_is)) (among_behind h.took.done next next_there.behind) in
       let parts = read_parts root mid_last next next_there.behind next_there.due_is next_there.hashed from there in
       record { none = λ e. absurd (omega (arith, e)); some = λ e. by count k.none k.some parts }
     where
       by : (n : ℕ) → (n ≡ 0 → length heads ≡ 0) → (1 ≤ n → length heads < length (holder root mid_last) + length (read_between root mid_last None) + n)
           → length (read_between root from (Some next)) + length (read_between root mid_last None) ≡ length (read_between root from None)
-          → length (h.heads ++ heads) < length (holder root from) + length (read_between root from None) + (1 + n)
-      by zero none some parts = let e = none refl in let r = h.read in let m = length-append h.heads heads in omega (arith, e, r, m, parts)
+          → length (h.took.heads ++ heads) < length (holder root from) + length (read_between root from None) + (1 + n)
+      by zero none some parts = let e = none refl in let r = h.read in let m = length-append h.took.heads heads in omega (arith, e, r, m, parts)
       by (suc n) none some parts =
           let e = some (omega arith) in
           let r = h.read in
-          let m = length-append h.heads heads in
+          let m = length-append h.took.heads heads in
           let one = holder_one root mid_last in
           omega (arith, e, r, m, one, parts)
 
   module _ (u : Store) (new : Option (List ℕ)) (last : Option Place) (spent' files' : ℕ) (finding' : Bool) (count : ℕ) where
     -- at a trail that goes on over places that follow, the runs are the first cut and those of the rest
     runs_then : (os : List Opening) (ps rest : List Place) → content_trail root os ≡ hashed_among root ps → due root mid_last ≡ ps ++ rest
-        → runs (items_at root (h.trail ++ os) (due root from)) (l ∷ ls) ≡ items_at root h.trail h.done ∷ runs (items_at root os (due root mid_last)) ls
+        → runs (items_at root (h.took.trail ++ os) (due root from)) (l ∷ ls) ≡ items_at root h.took.trail h.took.done ∷ runs (items_at root os (due root mid_last)) ls
     runs_then os ps rest opened is =
-        let up : IsAscending place_cmp (h.done ++ due root mid_last) = subst (IsAscending place_cmp) h.due_are (due_ascends root from) in
-        let up_front : IsAscending place_cmp (h.done ++ ps) = ascends_left place_cmp (h.done ++ ps) rest (subst (IsAscending place_cmp) (ap (λ qs. h.done ++ qs) is ∙ sym (append_assoc h.done ps rest)) up) in
-        let first : items_at root (h.trail ++ os) h.done ≡ items_at root h.trail h.done = items_before root h.trail os h.done ps up_front opened in
-        let then : items_at root (h.trail ++ os) (due root mid_last) ≡ items_at root os (due root mid_last) = items_behind root h.trail os h.done (due root mid_last) up h.audits.opened in
-        let split : items_at root (h.trail ++ os) (due root from) ≡ items_at root h.trail h.done ++ items_at root os (due root mid_last) =
-        ap (items_at root (h.trail ++ os)) h.due_are ∙ items_append root (h.trail ++ os) h.done (due root mid_last) ∙ ap (λ is. is ++ items_at root (h.trail ++ os) (due root mid_last)) first ∙ ap (λ is. items_at root h.trail h.done ++ is) then in
-        let stop = stop_alike root h.trail os l _ _ (due root mid_last) h.stops in
+        let up : IsAscending place_cmp (h.took.done ++ due root mid_last) = subst (IsAscending place_cmp) h.took.due_are (due_ascends root from) in
+        let up_front : IsAscending place_cmp (h.took.done ++ ps) = ascends_left place_cmp (h.took.done ++ ps) rest (subst (IsAscending place_cmp) (ap (λ qs. h.took.done ++ qs) is ∙ sym (append_assoc h.took.done ps rest)) up) in
+        let first : items_at root (h.took.trail ++ os) h.took.done ≡ items_at root h.took.trail h.took.done = items_before root h.took.trail os h.took.done ps up_front opened in
+        let then : items_at root (h.took.trail ++ os) (due root mid_last) ≡ items_at root os (due root mid_last) = items_behind root h.took.trail os h.took.done (due root mid_last) up h.took.audits.opened in
+        let split : items_at root (h.took.trail ++ os) (due root from) ≡ items_at root h.took.trail h.took.done ++ items_at root os (due root mid_last) =
+        ap (items_at root (h.took.trail ++ os)) h.took.due_are ∙ items_append root (h.took.trail ++ os) h.took.done (due root mid_last) ∙ ap (λ is. is ++ items_at root (h.took.trail ++ os) (due root mid_last)) first ∙ ap (λ is. items_at root h.took.trail h.took.done ++ is) then in
+        let stop = stop_alike root h.took.trail os l _ _ (due root mid_last) h.stops in
         let some : is_empty (items_at root os (due root mid_last)) ≡ false = ap (λ qs. is_empty (items_at root os qs)) next_there.due_is ∙ some_items root os next next_there.behind in
         ap (λ is. runs is (l ∷ ls)) split
-        ∙ ap (λ xs. xs ∷ runs_after ls (left (items_at root h.trail h.done ++ items_at root os (due root mid_last)) l)) (cut_of_paid l _ _ h.paid stop)
-        ∙ ap (λ xs. items_at root h.trail h.done ∷ runs_after ls xs) (left_of_paid l _ _ h.paid stop)
-        ∙ ap (λ xs. items_at root h.trail h.done ∷ xs) (runs_go_on (items_at root os (due root mid_last)) ls some)
+        ∙ ap (λ xs. xs ∷ runs_after ls (left (items_at root h.took.trail h.took.done ++ items_at root os (due root mid_last)) l)) (cut_of_paid l _ _ h.paid stop)
+        ∙ ap (λ xs. items_at root h.took.trail h.took.done ∷ runs_after ls xs) (left_of_paid l _ _ h.paid stop)
+        ∙ ap (λ xs. items_at root h.took.trail h.took.done ∷ xs) (runs_go_on (items_at root os (due root mid_last)) ls some)
 
     parts_then : (ended : Bool) → Parts root t u mid new mid_last last ls spent' files' finding' count ended
         → Parts root s u old new from last (l ∷ ls) (spent + spent') (files + files') (finding || finding') (1 + count) ended
     parts_then ended k =
-        let due_are : due root from ≡ (h.done ++ k.done) ++ due root last = h.due_are ∙ ap (λ qs. h.done ++ qs) k.due_are ∙ sym (append_assoc h.done k.done (due root last)) in
-        let up : IsAscending place_cmp (h.done ++ k.done) = ascends_left place_cmp (h.done ++ k.done) (due root last) (subst (IsAscending place_cmp) due_are (due_ascends root from)) in
-        let first : List Item = items_at root h.trail h.done in
-        let second : List Item = items_at root k.trail k.done in
-        let same : items_at root (h.trail ++ k.trail) (h.done ++ k.done) ≡ first ++ second = items_then root h.trail k.trail h.done k.done up h.audits.opened k.audits.opened in
-        let are = runs_then k.trail k.done (due root last) k.audits.opened k.due_are in
+        let a = h.took in
+        let b = k.took in
+        let due_are : due root from ≡ (a.done ++ b.done) ++ due root last = a.due_are ∙ ap (λ qs. a.done ++ qs) b.due_are ∙ sym (append_assoc a.done b.done (due root last)) in
+        let up : IsAscending place_cmp (a.done ++ b.done) = ascends_left place_cmp (a.done ++ b.done) (due root last) (subst (IsAscending place_cmp) due_are (due_ascends root from)) in
+        let first : List Item = items_at root a.trail a.done in
+        let second : List Item = items_at root b.trail b.done in
+        let same : items_at root (a.trail ++ b.trail) (a.done ++ b.done) ≡ first ++ second = items_then root a.trail b.trail a.done b.done up a.audits.opened b.audits.opened in
+        let are = runs_then b.trail b.done (due root last) b.audits.opened b.due_are in
         record {
-          done = h.done ++ k.done;
-          trail = h.trail ++ k.trail;
-          listed = h.listed ++ k.listed;
-          heads = h.heads ++ k.heads;
-          audits = audits_then root s t u h.done k.done h.listed k.listed h.heads k.heads h.trail k.trail h.audits k.audits;
-          due_are = due_are;
-          last_is = k.last_is ∙ ap (λ x. last_of x k.done) h.last_is ∙ last_then from h.done k.done;
-          wrote = subst (Appends old new) (sym (text_append first second) ∙ ap text (sym same)) (Appends-trans old mid new _ _ h.wrote k.wrote);
+          took = record {
+            done = a.done ++ b.done;
+            trail = a.trail ++ b.trail;
+            listed = a.listed ++ b.listed;
+            heads = a.heads ++ b.heads;
+            audits = audits_then root s t u a.done b.done a.listed b.listed a.heads b.heads a.trail b.trail a.audits b.audits;
+            due_are = due_are;
+            last_is = b.last_is ∙ ap (λ x. last_of x b.done) a.last_is ∙ last_then from a.done b.done;
+            wrote = subst (Appends old new) (sym (text_append first second) ∙ ap text (sym same)) (Appends-trans old mid new _ _ a.wrote b.wrote);
+            figures = figures_then same a.figures b.figures;
+          };
           runs_are = ap joined are ∙ ap (λ is. first ++ is) k.runs_are ∙ sym same;
-          count_is = let n : length (runs (items_at root (h.trail ++ k.trail) (due root from)) (l ∷ ls)) ≡ suc (length (runs (items_at root k.trail (due root mid_last)) ls)) = ap length are in let c = k.count_is in omega (arith, n, c);
-          costs = ap total_cost same ∙ cost_append first second ∙ (let c = h.costs in let d = k.costs in omega (arith, c, d));
-          counts = ap total_files same ∙ files_append first second ∙ (let c = h.counts in let d = k.counts in omega (arith, c, d));
-          finds = ap found same ∙ found_append first second ∙ ap (λ v. v || found second) h.finds ∙ ap (λ v. finding || v) k.finds;
-          read = reads_then k.heads count k.read;
+          count_is = let n : length (runs (items_at root (a.trail ++ b.trail) (due root from)) (l ∷ ls)) ≡ suc (length (runs (items_at root b.trail (due root mid_last)) ls)) = ap length are in let c = k.count_is in omega (arith, n, c);
+          read = reads_then b.heads count k.read;
           ended_is = k.ended_is;
         }
 
     stops_then : (why : Fault) → PartsStop root t u mid new mid_last last ls spent' files' finding' count why
         → PartsStop root s u old new from last (l ∷ ls) (spent + spent') (files + files') (finding || finding') (1 + count) why
     stops_then why k =
-        let both : (h.done ++ k.done) ++ k.begun ≡ h.done ++ (k.done ++ k.begun) = append_assoc h.done k.done k.begun in
-        let due_are : due root from ≡ (h.done ++ (k.done ++ k.begun)) ++ k.rest = h.due_are ∙ ap (λ qs. h.done ++ qs) k.due_are ∙ sym (append_assoc h.done (k.done ++ k.begun) k.rest) in
-        let all_up : IsAscending place_cmp (h.done ++ (k.done ++ k.begun)) = ascends_left place_cmp (h.done ++ (k.done ++ k.begun)) k.rest (subst (IsAscending place_cmp) due_are (due_ascends root from)) in
-        let up : IsAscending place_cmp (h.done ++ k.done) = ascends_left place_cmp (h.done ++ k.done) k.begun (subst (IsAscending place_cmp) (sym both) all_up) in
-        let first : List Item = items_at root h.trail h.done in
+        let both : (h.took.done ++ k.done) ++ k.begun ≡ h.took.done ++ (k.done ++ k.begun) = append_assoc h.took.done k.done k.begun in
+        let due_are : due root from ≡ (h.took.done ++ (k.done ++ k.begun)) ++ k.rest = h.took.due_are ∙ ap (λ qs. h.took.done ++ qs) k.due_are ∙ sym (append_assoc h.took.done (k.done ++ k.begun) k.rest) in
+        let all_up : IsAscending place_cmp (h.took.done ++ (k.done ++ k.begun)) = ascends_left place_cmp (h.took.done ++ (k.done ++ k.begun)) k.rest (subst (IsAscending place_cmp) due_are (due_ascends root from)) in
+        let up : IsAscending place_cmp (h.took.done ++ k.done) = ascends_left place_cmp (h.took.done ++ k.done) k.begun (subst (IsAscending place_cmp) (sym both) all_up) in
+        let first : List Item = items_at root h.took.trail h.took.done in
         let second : List Item = items_at root k.trail k.done in
-        let before : items_at root (h.trail ++ k.trail) h.done ≡ first = items_before root h.trail k.trail h.done (k.done ++ k.begun) all_up k.fails.opened in
-        let behind : items_at root (h.trail ++ k.trail) k.done ≡ second = items_behind root h.trail k.trail h.done k.done up h.audits.opened in
-        let same : items_at root (h.trail ++ k.trail) (h.done ++ k.done) ≡ first ++ second =
-        items_append root (h.trail ++ k.trail) h.done k.done ∙ ap (λ is. is ++ items_at root (h.trail ++ k.trail) k.done) before ∙ ap (λ is. first ++ is) behind in
+        let before : items_at root (h.took.trail ++ k.trail) h.took.done ≡ first = items_before root h.took.trail k.trail h.took.done (k.done ++ k.begun) all_up k.fails.opened in
+        let behind : items_at root (h.took.trail ++ k.trail) k.done ≡ second = items_behind root h.took.trail k.trail h.took.done k.done up h.took.audits.opened in
+        let same : items_at root (h.took.trail ++ k.trail) (h.took.done ++ k.done) ≡ first ++ second =
+        items_append root (h.took.trail ++ k.trail) h.took.done k.done ∙ ap (λ is. is ++ items_at root (h.took.trail ++ k.trail) k.done) before ∙ ap (λ is. first ++ is) behind in
         let are = runs_then k.trail (k.done ++ k.begun) k.rest k.fails.opened k.due_are in
-        let texts : text first ++ (text second ++ k.part) ≡ text (items_at root (h.trail ++ k.trail) (h.done ++ k.done)) ++ k.part =
+        let texts : text first ++ (text second ++ k.part) ≡ text (items_at root (h.took.trail ++ k.trail) (h.took.done ++ k.done)) ++ k.part =
         sym (append_assoc (text first) (text second) k.part) ∙ ap (λ xs. xs ++ k.part) (sym (text_append first second) ∙ ap text (sym same)) in
         record {
-          done = h.done ++ k.done;
+          done = h.took.done ++ k.done;
           begun = k.begun;
           rest = k.rest;
-          trail = h.trail ++ k.trail;
+          trail = h.took.trail ++ k.trail;
           others = k.others;
-          listed = h.listed ++ k.listed;
-          heads = h.heads ++ k.heads;
-          fails = subst (λ ps. Fails root s u ps (h.listed ++ k.listed) (h.heads ++ k.heads) (h.trail ++ k.trail) why) (sym both)
-              (fails_then root s t u h.done (k.done ++ k.begun) h.listed k.listed h.heads k.heads h.trail k.trail why h.audits k.fails);
+          listed = h.took.listed ++ k.listed;
+          heads = h.took.heads ++ k.heads;
+          fails = subst (λ ps. Fails root s u ps (h.took.listed ++ k.listed) (h.took.heads ++ k.heads) (h.took.trail ++ k.trail) why) (sym both)
+              (fails_then root s t u h.took.done (k.done ++ k.begun) h.took.listed k.listed h.took.heads k.heads h.took.trail k.trail why h.took.audits k.fails);
           due_are = due_are ∙ ap (λ qs. qs ++ k.rest) (sym both);
-          last_is = k.last_is ∙ ap (λ x. last_of x k.done) h.last_is ∙ last_then from h.done k.done;
+          last_is = k.last_is ∙ ap (λ x. last_of x k.done) h.took.last_is ∙ last_then from h.took.done k.done;
           runs_begin = ap joined are ∙ ap (λ is. first ++ is) k.runs_begin ∙ sym (append_assoc first second k.others) ∙ ap (λ is. is ++ k.others) (sym same);
           one = k.one;
           part = k.part;
-          wrote = subst (Appends old new) texts (Appends-trans old mid new _ _ h.wrote k.wrote);
+          wrote = subst (Appends old new) texts (Appends-trans old mid new _ _ h.took.wrote k.wrote);
           part_of = k.part_of;
-          count_fits = let n : length (runs (items_at root (h.trail ++ k.trail) (due root from)) (l ∷ ls)) ≡ suc (length (runs (items_at root k.trail (due root mid_last)) ls)) = ap length are in let c = k.count_fits in omega (arith, n, c);
-          costs = ap total_cost same ∙ cost_append first second ∙ (let c = h.costs in let d = k.costs in omega (arith, c, d));
-          counts = ap total_files same ∙ files_append first second ∙ (let c = h.counts in let d = k.counts in omega (arith, c, d));
-          finds = ap found same ∙ found_append first second ∙ ap (λ v. v || found second) h.finds ∙ ap (λ v. finding || v) k.finds;
+          count_fits = let n : length (runs (items_at root (h.took.trail ++ k.trail) (due root from)) (l ∷ ls)) ≡ suc (length (runs (items_at root k.trail (due root mid_last)) ls)) = ap length are in let c = k.count_fits in omega (arith, n, c);
+          figures = figures_then same h.took.figures k.figures;
           read = reads_then k.heads count k.read;
         }
 

@@ -1,5 +1,5 @@
 -- What a pass over the items above a place does: it takes one after the other.
-use Rattle.std.specs.Prelude.{◌≡◌, ℕ, List, [], ◌∷◌, ◌++◌, Bool, Option, Some, None, take}
+use Rattle.std.specs.Prelude.{◌≡◌, ℕ, List, [], ◌++◌, Bool, Option, Some, None, take}
 use Rattle.std.specs.Io.KnownBytes.{Appends}
 use Rattle.ocfl_tree.specs.Place.{Text, Place}
 use Rattle.ocfl_tree.specs.Tree.{Tree}
@@ -13,13 +13,7 @@ use Rattle.ocfl_item.specs.Looking.{IsFront}
 use Rattle.ocfl_item.specs.Auditing.{Audits, Fails}
 use Rattle.ocfl_item.specs.declared.fault.Fault.{Fault}
 use Rattle.ocfl_scrub.specs.Taking.{PartOf}
-use Rattle.ocfl_scrub.specs.declared.checking.End.{End}
-use Rattle.ocfl_scrub.specs.declared.checking.End.TheVariants as end
-
--- the last of the places, or else the one before them
-abbrev pub last_of : Option Place → List Place → Option Place
-last_of last [] = last
-last_of last (p ∷ ps) = last_of (Some p) ps
+use Rattle.ocfl_scrub.specs.Written.{last_of}
 
 -- what lies between a place and the last one taken: nothing where there is none
 abbrev pub up_to_last : (Option Place → Option Place → List Place) → Option Place → Option Place → List Place
@@ -61,7 +55,3 @@ pub record Halts (root : Tree) (s t : Store) (old new : Option (List ℕ)) (from
   pub wrote : Appends old new (text (items_at root trail done) ++ part)
   pub part_of : PartOf why (text (items_at root trail (take 1 (due root last)))) part
   pub found_is : finding ≡ found (items_at root trail done)
-
-abbrev pub PassEnds : Tree → Store → Store → Option (List ℕ) → Option (List ℕ) → Option Place → Option Place → Bool → End → Type 0
-PassEnds root s t old new from last finding end.Ended = Finishes root s t old new from last finding
-PassEnds root s t old new from last finding (end.Stopped why) = Halts root s t old new from last finding why

@@ -1,5 +1,5 @@
 -- A pass whose items are paid for, one after the other.
-use Rattle.std.specs.Prelude.{◌≡◌, ◌≢◌, ◌⊎◌, ◌<◌, ◌≤◌, ◌+◌, ◌^◌, ℕ, List, [], ◌∷◌, ◌++◌, Bool, true, Option, Some, length, take, IfSome, ⊤}
+use Rattle.std.specs.Prelude.{◌≡◌, ◌≢◌, ◌⊎◌, ◌<◌, ◌+◌, ℕ, List, [], ◌∷◌, ◌++◌, Bool, true, Option, Some, take, ⊤}
 use Rattle.std.specs.Io.KnownBytes.{Appends}
 use Rattle.ocfl_tree.specs.Place.{Place}
 use Rattle.ocfl_tree.specs.Tree.{Tree}
@@ -12,32 +12,11 @@ use Rattle.ocfl_audit.specs.Lines.{is_hashed}
 use Rattle.ocfl_audit.specs.Due.{due, items_at}
 use Rattle.ocfl_audit.specs.Between.{looked_between, read_between}
 use Rattle.ocfl_audit.specs.Runs.{Limits, files_of, total_files, may_take}
-use Rattle.ocfl_cursor.specs.Cursor.{Cursor, IsCursor}
-use Rattle.ocfl_cursor.specs.Moves.{at_start}
 use Rattle.ocfl_item.specs.Auditing.{Audits}
 use Rattle.ocfl_item.specs.declared.fault.Fault.{Fault}
 use Rattle.ocfl_item.specs.declared.fault.Fault.TheVariants as fault
-use Rattle.ocfl_scrub.specs.Passing.{last_of, Passes, Finishes, Halts}
-use Rattle.ocfl_scrub.specs.Running.{place_in, begun, IsWorn}
-use Rattle.ocfl_scrub.specs.declared.running.RunStatus.{RunStatus}
-use Rattle.ocfl_scrub.specs.declared.running.RunStatus.TheVariants as status
-
--- ---- on every store
-
--- a place that a cursor can hold has at most 255 names
-abbrev pub IsShort : Option Place → Type 0
-IsShort last = IfSome last (λ p. length p ≤ 255)
-
--- a run can be counted, and this is where it begins
-pub record Begins (c b : Cursor) (from : Option Place) : Type 0 where
-  pub unworn : IsWorn c → ⊥
-  pub begun_is : b ≡ at_start (begun c)
-  pub from_is : from ≡ place_in c.state
-  pub keeps : IsCursor b
-  pub room : b.runs + 1 < 2 ^ 64
-  pub short : IsShort from
-
--- ---- on a store that tells its tree
+use Rattle.ocfl_scrub.specs.Written.{last_of}
+use Rattle.ocfl_scrub.proofs.Passing.{Passes, Finishes, Halts}
 
 -- each of the items may be taken, where so much was spent before and so many files were started
 abbrev pub Paid : Limits → ℕ → ℕ → List Item → Type 0
@@ -83,9 +62,3 @@ pub record PaysHalting (root : Tree) (s t : Store) (old new : Option (List ℕ))
   pub halts : Halts root s t old new from last finding why
   pub counts : Counts limits spent files (items_at root halts.trail halts.done)
   pub next : Paid limits spent files (items_at root halts.trail (take 1 (due root last))) ⊎ ((why ≢ fault.Output) × (halts.begun ≡ []))
-
-abbrev pub PaidEnds : Tree → Store → Store → Option (List ℕ) → Option (List ℕ) → Option Place → Option Place → Limits → ℕ → ℕ → Bool → RunStatus → Type 0
-PaidEnds root s t old new from last limits spent files finding status.Ended = PaysAll root s t old new from last limits spent files finding
-PaidEnds root s t old new from last limits spent files finding status.Spent = PaysUpTo root s t old new from last limits spent files finding
-PaidEnds root s t old new from last limits spent files finding (status.Stopped why) = PaysHalting root s t old new from last limits spent files finding why
-PaidEnds root s t old new from last limits spent files finding status.Worn = ⊥

@@ -17,11 +17,11 @@ use Rattle.ocfl_scrub.specs.declared.running.RunStatus.{RunStatus}
 use Rattle.ocfl_scrub.specs.declared.running.RunStatus.TheVariants as run
 use Rattle.ocfl_scrub.specs.declared.cycling.CycleStatus.{CycleStatus}
 use Rattle.ocfl_scrub.specs.declared.cycling.CycleStatus.TheVariants as cycle
-use Rattle.ocfl_scrub.proofs.AuditingLaws.{audits_over}
+use Rattle.ocfl_scrub.proofs.AuditsJoined.{audits_over}
 use Rattle.ocfl_scrub.proofs.TakeLaws.{or_none}
 use Rattle.ocfl_scrub.proofs.NextLaws.{root_is_due}
-use Rattle.ocfl_scrub.proofs.TurnLaws.{turn_of}
-use Rattle.ocfl_scrub.proofs.CycleLaws.{Parts, PartsStop, PartsEnd, parts_none, parts_unbegun, parts_ended, parts_stopped, next_some, ends_then}
+use Rattle.ocfl_scrub.proofs.RunPlaces.{turn_of}
+use Rattle.ocfl_scrub.proofs.RunsJoined.{Parts, PartsStop, PartsEnd, parts_none, parts_unbegun, parts_ended, parts_stopped, next_some, ends_then}
 use Rattle.ocfl_scrub.proofs.CycleEndLaws.{cycle_ends}
 
 -- where a cycle of all limits has come: whatever the runs of the limits that are left do from here, with them the cycle is whole

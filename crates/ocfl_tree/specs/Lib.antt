@@ -9,5 +9,4 @@ pub mod Calls
 pub mod Reading
 pub mod Faults
 pub mod MemTree
-pub mod Nodes
-pub mod Kept
+pub mod Model

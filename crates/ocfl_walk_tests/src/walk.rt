@@ -93,16 +93,16 @@ pub(crate) fn failed_place<T: Tree>(
 
 /// What a walk gave: the text of its items, their cost, and how many of them were hashed.
 #[derive(Drop)]
-struct Walked {
+struct Gathered {
     text: String,
     cost: u64,
     hashed: usize,
 }
 
 /// A walk over all items above a place.
-fn walked(alloc: Global, store: &mut MemTree, after: &str) -> Result<Walked, Fail> {
+fn walked(alloc: Global, store: &mut MemTree, after: &str) -> Result<Gathered, Fail> {
     let mut walk = entered(alloc, store, after)?;
-    let mut all = Walked {
+    let mut all = Gathered {
         text: String::new(alloc),
         cost: 0,
         hashed: 0,

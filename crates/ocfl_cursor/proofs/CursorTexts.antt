@@ -11,7 +11,7 @@ use Rattle.ocfl_tree.specs.Place.{Text}
 use Rattle.ocfl_report.specs.Text.{place_text}
 use Rattle.ocfl_report.proofs.PlaceTexts.{place_text_determines}
 use Rattle.ocfl_cursor.specs.Cursor.{State, start, behind, ended, Cursor, IsShortPlace, IsCursor, number_line, state_text, cursor_body, digest_line, cursor_text, version_one_body, version_one_text}
-use Rattle.ocfl_cursor.specs.Model.Body.{version_line, files_line, FilesFit, counts_text, CountsFit, IsStateLine, IsBodyOf}
+use Rattle.ocfl_cursor.specs.Internal.Body.{version_line, files_line, FilesFit, counts_text, CountsFit, IsStateLine, IsBodyOf}
 use Rattle.ocfl_cursor.specs.Refusal.{IsTextOf}
 use Rattle.ocfl_cursor.specs.declared.form.Version.{Version}
 use Rattle.ocfl_cursor.specs.declared.form.Version.TheVariants.{One, Two}

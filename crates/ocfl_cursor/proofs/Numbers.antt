@@ -11,7 +11,7 @@ use Rattle.std.proofs.lemmas.List.Elements.{All-from_get_or, All-get_or}
 use Rattle.ocfl_tree.specs.Place.{Text}
 use Rattle.ocfl_report.proofs.Separators.{first_parts}
 use Rattle.ocfl_cursor.specs.Cursor.{number_line}
-use Rattle.ocfl_cursor.specs.Model.Number.{IsPlain}
+use Rattle.ocfl_cursor.specs.Internal.Number.{IsPlain}
 
 -- a number of 128 bits has at most 64 digits
 pub wide : (n : ℕ) → n < 2 ^ 128 → n < 10 ^ 64

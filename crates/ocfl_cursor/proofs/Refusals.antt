@@ -5,7 +5,7 @@ use Rattle.std.proofs.lemmas.Bool.{le-leb, false≢true}
 use Rattle.std.proofs.lemmas.List.{take_at, drop_at}
 use Rattle.ocfl_tree.specs.Place.{Text}
 use Rattle.ocfl_cursor.specs.Cursor.{Cursor, cursor_body, digest_line, cursor_text, version_one_body, version_one_text}
-use Rattle.ocfl_cursor.specs.Model.Body.{first_line, IsBodyOf}
+use Rattle.ocfl_cursor.specs.Internal.Body.{first_line, IsBodyOf}
 use Rattle.ocfl_cursor.specs.Refusal.{Refusal, not_cursor, version, damaged, malformed, max_text, is_cursor_front, version_of, is_version, is_sealed, IsTextOf}
 use Rattle.ocfl_cursor.specs.Refused.{IsRefused, RefusedRightly}
 use Rattle.ocfl_cursor.specs.declared.refused.Refused.{Refused}

@@ -4,6 +4,6 @@ pub mod Moves
 pub mod Refusal
 pub mod Refused
 pub mod Stop
-pub mod Model
+pub mod Internal
 pub mod Limits
 pub mod Meter

@@ -1,7 +1,7 @@
 ghost use Rattle.std.specs.Prelude.{◌≡◌, ◌≢◌, ℕ, ◌^◌, ◌<◌, List, ◌++◌, decimal, IsTrue, IfSome};
 ghost use Rattle.std.specs.Prelude.{IsNone, OnOk, ◌↔◌};
 ghost use Rattle.ocfl_cursor.specs.Cursor.{number_line};
-ghost use Rattle.ocfl_cursor.specs.Model.Number.{IsPlain};
+ghost use Rattle.ocfl_cursor.specs.Internal.Number.{IsPlain};
 
 use crate::pieces::{after_prefix, split_line};
 use std::alloc::{AllocError, Global};

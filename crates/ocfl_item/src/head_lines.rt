@@ -11,8 +11,7 @@ ghost use Rattle.ocfl_digest.specs.declared.algorithm.Algorithm.TheVariants.{Sha
 ghost use Rattle.ocfl_inventory.specs.Declaration.{declaration_name as name_of_declaration};
 ghost use Rattle.ocfl_inventory.specs.DigestText.{digest_of};
 ghost use Rattle.ocfl_inventory.specs.Reading.{algorithm_of as algorithm_in};
-ghost use Rattle.ocfl_inventory.specs.Sidecar.{sidecar_digits, sidecar_of};
-ghost use Rattle.ocfl_inventory.specs.Sums.{sum_view};
+ghost use Rattle.ocfl_inventory.specs.Sidecar.{sidecar_digits, sidecar_of, sum_view};
 ghost use Rattle.ocfl_inventory.specs.Table.{IsFit, table_of};
 ghost use Rattle.ocfl_inventory.specs.declared.declaration.Level.TheVariants as level;
 ghost use Rattle.ocfl_audit.specs.Head.{on, or_clean, is_exact_declaration, sidecar_name};

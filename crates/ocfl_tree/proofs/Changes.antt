@@ -6,9 +6,9 @@ use Rattle.std.proofs.lemmas.List.{same_from_push}
 use Rattle.ocfl_tree.specs.Place.{Text, Place, begins, child_name}
 use Rattle.ocfl_tree.specs.Tree.{Tree, Leaf, dir, lookup, is_dir_leaf, at, is_dir, names_in}
 use Rattle.ocfl_tree.specs.Faults.{Faults}
-use Rattle.ocfl_tree.specs.Model.Nodes.{with_entry, kept_in, AreOnce, stands_at, kept_refusal}
+use Rattle.ocfl_tree.specs.Internal.Nodes.{with_entry, kept_in, AreOnce, stands_at, kept_refusal}
 use Rattle.ocfl_tree.specs.MemTree.{parent, put_refusal, after_put, Puts, Removes}
-use Rattle.ocfl_tree.specs.Model.Kept.{IsKept, seen}
+use Rattle.ocfl_tree.specs.Internal.Kept.{IsKept, seen}
 use Rattle.ocfl_tree.specs.declared.build.BuildStop.{BuildStop}
 use Rattle.ocfl_tree.specs.declared.build.BuildStop.TheVariants.{Exists, NoParent, Full}
 use Rattle.ocfl_tree.specs.declared.mem_tree.OpenFile.{OpenFile}

@@ -13,7 +13,7 @@ use Rattle.ocfl_tree.specs.Place.{Text, Place, text_cmp, text_eq, place_eq, chil
 use Rattle.ocfl_tree.specs.Ascending.{insert_once, ascending, IsAmong, IsBeforeAll, IsAscending}
 use Rattle.ocfl_tree.specs.Tree.{Tree, Leaf, dir, lookup, at, names_in}
 use Rattle.ocfl_tree.specs.Listing.{kind_of, kind_at, entry_at, entries_in, kind_in, AreApart, IsOrdinary, IsListing}
-use Rattle.ocfl_tree.specs.Model.Nodes.{with_entry, kept_in, AreOnce}
+use Rattle.ocfl_tree.specs.Internal.Nodes.{with_entry, kept_in, AreOnce}
 use Rattle.ocfl_tree.specs.declared.store.Kind.{Kind}
 use Rattle.ocfl_tree.specs.declared.store.Entry.{Entry}
 use Rattle.ocfl_tree.proofs.Orders.{among_ascending, ascends_ascending, not_below_itself}

@@ -4,7 +4,7 @@ use Rattle.std.proofs.lemmas.List.{drop_more, get_or_default}
 use Rattle.ocfl_tree.specs.Place.{Text, Place, child_name}
 use Rattle.ocfl_tree.specs.Tree.{Tree, Leaf, dir, lookup}
 use Rattle.ocfl_tree.specs.Listing.{kind_of}
-use Rattle.ocfl_tree.specs.Model.Nodes.{leaf_at, with_entry, kept_in}
+use Rattle.ocfl_tree.specs.Internal.Nodes.{leaf_at, with_entry, kept_in}
 use Rattle.ocfl_tree.proofs.Places.{place_eq-Decides, not_decided}
 
 -- the rest of a list from an item that was read

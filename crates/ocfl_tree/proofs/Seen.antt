@@ -8,9 +8,9 @@ use Rattle.std.specs.Prelude.{slice_get, nat_lt, ◌&&◌, ◌^◌, Bool}
 use Rattle.std.specs.Option.{option_map_or}
 use Rattle.ocfl_tree.specs.Faults.{Faults, is_struck}
 use Rattle.ocfl_tree.specs.MemTree.{fails, read_fails}
-use Rattle.ocfl_tree.specs.Model.Nodes.{leaf_at, bytes_in, stands_at, kept_in}
+use Rattle.ocfl_tree.specs.Internal.Nodes.{leaf_at, bytes_in, stands_at, kept_in}
 use Rattle.ocfl_tree.specs.declared.plan.Point.TheVariants as point
-use Rattle.ocfl_tree.specs.Model.Kept.{rest_of, seen, IsOpen, IfOpen, IsKept}
+use Rattle.ocfl_tree.specs.Internal.Kept.{rest_of, seen, IsOpen, IfOpen, IsKept}
 use Rattle.ocfl_tree.specs.Calls.{Lists, ListFails, Opens, OpenFails, Reads, ReadFails, Fails, opening, change_last, with_given, with_failure}
 use Rattle.ocfl_tree.specs.declared.mem_tree.OpenFile.{OpenFile}
 use Rattle.ocfl_tree.specs.declared.store.Entry.{Entry}

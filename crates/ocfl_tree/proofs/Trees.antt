@@ -4,7 +4,7 @@ use Rattle.std.proofs.lemmas.List.{same_from_push}
 use Rattle.ocfl_tree.specs.Place.{Text, Place, place_eq, begins}
 use Rattle.ocfl_tree.specs.Tree.{Tree, Leaf, file, dir, other, lookup, is_dir_leaf, at_below, at}
 use Rattle.ocfl_tree.specs.MemTree.{parent, after_put, after_removal}
-use Rattle.ocfl_tree.specs.Model.Nodes.{stands_at, AreOnce}
+use Rattle.ocfl_tree.specs.Internal.Nodes.{stands_at, AreOnce}
 use Rattle.ocfl_tree.proofs.Places.{place_eq-Decides, differ, begins-longer}
 use Rattle.ocfl_tree.proofs.Lists.{lookup_here, lookup_other}
 

@@ -9,4 +9,4 @@ pub mod Calls
 pub mod Reading
 pub mod Faults
 pub mod MemTree
-pub mod Model
+pub mod Internal

@@ -44,7 +44,7 @@ impl Model for MemTree {
 
     ghost Value = { Held };
 
-    ghost use Rattle.ocfl_tree.specs.Model.Kept.{seen, IsKept};
+    ghost use Rattle.ocfl_tree.specs.Internal.Kept.{seen, IsKept};
 
     ghost view = { λ a. seen a.nodes.items a.open a.openings.items a.listings.items a.failures
         a.largest a.plan };

@@ -8,8 +8,8 @@ ghost use Rattle.ocfl_tree.specs.Listing.{kind_of};
 ghost use Rattle.ocfl_tree.specs.MemTree.{parent};
 ghost use Rattle.ocfl_tree.specs.Name.{IsName};
 ghost use Rattle.ocfl_tree.specs.Path.{names_of};
-ghost use Rattle.ocfl_tree.specs.Model.Nodes.{leaf_of, bytes_in, leaf_at, stands_at, kept_in};
-ghost use Rattle.ocfl_tree.specs.Model.Nodes.{kept_refusal};
+ghost use Rattle.ocfl_tree.specs.Internal.Nodes.{leaf_of, bytes_in, leaf_at, stands_at, kept_in};
+ghost use Rattle.ocfl_tree.specs.Internal.Nodes.{kept_refusal};
 
 use crate::build::BuildStop;
 use crate::name::Name;
@@ -36,7 +36,7 @@ impl Model for Stored {
     ghost use Rattle.ocfl_tree.specs.Tree.{Leaf};
     ghost use Rattle.ocfl_tree.specs.Name.{IsName};
     ghost use Rattle.ocfl_tree.specs.Path.{names_of};
-    ghost use Rattle.ocfl_tree.specs.Model.Nodes.{leaf_of};
+    ghost use Rattle.ocfl_tree.specs.Internal.Nodes.{leaf_of};
 
     ghost Value = { Leaf };
 

@@ -1,5 +1,5 @@
 use Rattle.std.proofs.Common.{◌≡◌, refl, sym, ap, ◌∙◌}
-use Rattle.ocfl_cursor.specs.Model.Body.{first_line}
+use Rattle.ocfl_cursor.specs.Internal.Body.{first_line}
 use Rattle.ocfl_cursor.specs.Refusal.{is_version}
 use Rattle.ocfl_cursor.proofs.Texts.{first_line-found, first_line-missing}
 use Rattle.ocfl_cursor.proofs.decoding.begins_with_version.Goals as goal

@@ -1,7 +1,7 @@
 use Rattle.std.proofs.Common.{refl, sym, subst}
 use Rattle.std.proofs.lemmas.Bool.{false≢true}
 use Rattle.std.proofs.lemmas.Result.{err_from_is_err_and}
-use Rattle.ocfl_cursor.specs.Model.Body.{IsBodyOf}
+use Rattle.ocfl_cursor.specs.Internal.Body.{IsBodyOf}
 use Rattle.ocfl_cursor.specs.declared.refused.Refused.TheVariants.{Malformed}
 use Rattle.ocfl_cursor.proofs.Options.{passed_on}
 use Rattle.ocfl_cursor.proofs.CursorTexts.{written_body, IsStateLine-read, no_cursor_of-parts, body_of-parts}

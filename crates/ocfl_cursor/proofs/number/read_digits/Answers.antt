@@ -2,7 +2,7 @@ use Rattle.std.proofs.Common.{◌≡◌, decimal, Ok, sym, subst, ap, ◌∙◌}
 use Rattle.std.specs.Result.{result_ok}
 use Rattle.std.specs.Str.{IsUtf8}
 use Rattle.std.proofs.lemmas.Fmt.{parse-decimal_wide}
-use Rattle.ocfl_cursor.specs.Model.Number.{IsPlain}
+use Rattle.ocfl_cursor.specs.Internal.Number.{IsPlain}
 use Rattle.ocfl_cursor.proofs.Options.{IfSome-result_ok, IsNone-not_some}
 use Rattle.ocfl_cursor.proofs.Numbers.{wide, read_is_decimal, decimal_plain, decimal_utf8}
 use Rattle.ocfl_cursor.proofs.number.read_digits.Goals as goal

@@ -1,6 +1,6 @@
 use Rattle.std.proofs.Common.{◌≡◌, ◌++◌, drop}
 use Rattle.ocfl_tree.specs.Path.{names_of}
-use Rattle.ocfl_tree.specs.Model.Nodes.{kept_in}
+use Rattle.ocfl_tree.specs.Internal.Nodes.{kept_in}
 use Rattle.ocfl_tree.proofs.nodes.entries.Given as goal
 
 abbrev pub invariant-loop-place : goal.invariant-loop-place

@@ -1,6 +1,6 @@
 use Rattle.std.proofs.Common.{Err, ◌≡◌, ap, sym, ◌∙◌, arith, drop, take, length, ◌-◌}
 use Rattle.std.specs.Prelude.{is_some}
-use Rattle.ocfl_tree.specs.Model.Nodes.{bytes_in, leaf_at}
+use Rattle.ocfl_tree.specs.Internal.Nodes.{bytes_in, leaf_at}
 use Rattle.ocfl_tree.proofs.Orders.{true_not_false}
 use Rattle.ocfl_tree.proofs.Lists.{leaf_at_item}
 use Rattle.ocfl_tree.proofs.Seen.{reads_seen, read_breaks, read_fails_is, some_rest, is_open, rest_slice}

@@ -3,7 +3,7 @@ use Rattle.std.specs.Prelude.{◌≡◌, ℕ, ◌<◌, ◌≤◌, List, [], ◌�
 use Rattle.ocfl_tree.specs.Place.{Text, Place}
 use Rattle.ocfl_tree.specs.Tree.{Tree, at}
 use Rattle.ocfl_tree.specs.Faults.{Faults}
-use Rattle.ocfl_tree.specs.Model.Nodes.{AreOnce, stands_at, kept_in, leaf_at, bytes_in}
+use Rattle.ocfl_tree.specs.Internal.Nodes.{AreOnce, stands_at, kept_in, leaf_at, bytes_in}
 use Rattle.ocfl_tree.specs.MemTree.{Held}
 use Rattle.ocfl_tree.specs.declared.store.Opening.{Opening}
 use Rattle.ocfl_tree.specs.declared.mem_tree.OpenFile.{OpenFile}

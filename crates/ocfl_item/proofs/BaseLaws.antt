@@ -42,8 +42,8 @@ use Rattle.ocfl_item.proofs.LooksZones.{at_root, declared_root}
 use Rattle.ocfl_audit.specs.Head.{on}
 use Rattle.ocfl_audit.proofs.BetweenLaws.{root_unread}
 use Rattle.ocfl_item.proofs.FailLaws.{failed_behind, few_once, none_once}
-use Rattle.ocfl_item.proofs.AuditingLaws.{front_all, front_none, heads_append}
-use Rattle.ocfl_item.proofs.VisitLaws.{meet_out}
+use Rattle.ocfl_item.proofs.AuditingLaws.{front_all, heads_append}
+use Rattle.ocfl_item.proofs.VisitLaws.{meet_out, meet_stop}
 use Rattle.ocfl_audit.proofs.Trails.{content_behind}
 
 -- ---- its lines
@@ -133,18 +133,7 @@ module _ (root : Tree) where
       by false = omega arith
 
   pub base_not_listed : (s t : Store) (p : Place) (why : Fault) → p ≡ [] → Stops root s t (p ∷ []) [] why → MeetFails root s t [] why
-  base_not_listed s t p why top h = record {
-    over = h.goes.over;
-    trail = [];
-    listings = h.goes.listings;
-    did = h.goes.did;
-    meta = refl;
-    once = none_once;
-    elsewhere = λ g k. refl;
-    listed = subst (λ x. IsFront h.goes.listings (x ∷ [])) top h.goes.listed;
-    heads = front_none (on (reads_inventory root []) []);
-    store = h.store;
-  }
+  base_not_listed s t p why top h = meet_stop root s t [] why refl (subst (λ x. Stops root s t (x ∷ []) [] why) top h)
 
   pub no_inventory : ◌≡◌ {A = List Place} [] (on (reads_inventory root []) [])
   no_inventory = sym (ap (λ b. on b []) (root_unread root))

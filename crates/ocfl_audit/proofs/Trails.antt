@@ -2,17 +2,13 @@
 use Rattle.std.proofs.Common.{◌≡◌, ℕ, zero, suc, ◌<◌, length, get_or, arith, List, [], ◌∷◌, ◌++◌, refl, ◌∙◌, ap, true, false, Bool, map, filter, not}
 use Rattle.std.specs.Prelude.{cond}
 use Rattle.std.specs.List.{AllByRecursion}
+use Rattle.std.proofs.lemmas.List.Elements.{filter-append}
 use Rattle.ocfl_tree.specs.Tree.{Tree}
 use Rattle.ocfl_tree.specs.declared.store.Opening.{Opening}
 use Rattle.ocfl_audit.specs.Trail.{is_meta, content_openings, content_trail, unread_of}
 
 pub filter_append : {A : Type 0} (test : A → Bool) (xs ys : List A) → filter test (xs ++ ys) ≡ filter test xs ++ filter test ys
-filter_append test [] ys = refl
-filter_append test (x ∷ xs) ys = by (test x) (filter_append test xs ys)
-  where
-    by : (b : Bool) → filter test (xs ++ ys) ≡ filter test xs ++ filter test ys → cond b (x ∷ filter test (xs ++ ys)) (filter test (xs ++ ys)) ≡ cond b (x ∷ filter test xs) (filter test xs) ++ filter test ys
-    by true h = ap (λ zs. x ∷ zs) h
-    by false h = h
+filter_append = filter-append
 
 none_mapped : (os : List Opening) → map (λ o. o.place) os ≡ [] → os ≡ []
 none_mapped [] h = refl

@@ -1,5 +1,5 @@
 -- Words to write the trees of worked cases with, and the digests that they name.
-use Rattle.std.proofs.Common.{◌≡◌, ◌==◌, List, [], ◌∷◌, ◌++◌, codes}
+use Rattle.std.proofs.Common.{◌≡◌, ◌==◌, List, [], ◌∷◌, ◌++◌, codes, map}
 use Rattle.std.specs.List.{join_with_byte, slice_split}
 use Prim.Native.String.{String}
 use Rattle.ocfl_tree.specs.Place.{Text, Place}
@@ -9,9 +9,19 @@ use Rattle.ocfl_digest.specs.declared.algorithm.Algorithm.TheVariants.{Sha256, S
 use Rattle.ocfl_inventory.specs.DigestText.{digest_of}
 use Rattle.ocfl_audit.specs.Audit.{audit}
 
--- the audit of a tree in which each file can be read has this text
-abbrev pub Reports : Tree → String → Type 0
-Reports root t = text (audit root []) ≡ codes t
+-- a case by its name: a text, and what it is to be
+pub record Case : Type 0 where
+  pub name : String
+  pub shown : Text
+  pub wanted : Text
+
+-- each case of a table has the text that is wanted
+abbrev pub AllAre : List Case → Type 0
+AllAre cases = map (λ c. c.shown) cases ≡ map (λ c. c.wanted) cases
+
+-- the text of the audit of a tree in which each file can be read
+abbrev pub reports : String → Tree → String → Case
+reports name root t = record { name = name; shown = text (audit root []); wanted = codes t }
 
 -- ---- what lies in a tree
 
@@ -68,28 +78,44 @@ object_in p inventory more =
 abbrev pub f_is_abc : Tree
 f_is_abc = text_at "o/v1/content/f" "abc" ∷ []
 
--- ---- digests (FIPS 180-4, RFC 1321), of the bytes `abc` and of no bytes, and in capitals
+-- ---- digests (FIPS 180-4, RFC 1321)
 
-abbrev pub abc_sha256 : String
-abc_sha256 = "ba7816bf8f01cfea414140de5dae2223b00361a396177a9cb410ff61f20015ad"
+-- the digests of some bytes, as an inventory writes them
+pub record Digests : Type 0 where
+  pub md5 : String
+  pub sha1 : String
+  pub sha256 : String
+  pub sha512 : String
+  pub sha512_256 : String
 
-abbrev pub abc_sha512 : String
-abc_sha512 = "ddaf35a193617abacc417349ae20413112e6fa4e89a97ea20a9eeee64b55d39a2192992a274fc1a836ba3c23a3feebbd454d4423643ce80e2a9ac94fa54ca49f"
+-- of the bytes `abc`
+abbrev pub abc : Digests
+abc = record {
+  md5 = "900150983cd24fb0d6963f7d28e17f72";
+  sha1 = "a9993e364706816aba3e25717850c26c9cd0d89d";
+  sha256 = "ba7816bf8f01cfea414140de5dae2223b00361a396177a9cb410ff61f20015ad";
+  sha512 = "ddaf35a193617abacc417349ae20413112e6fa4e89a97ea20a9eeee64b55d39a2192992a274fc1a836ba3c23a3feebbd454d4423643ce80e2a9ac94fa54ca49f";
+  sha512_256 = "53048e2681941ef99b2e29b76b4c7dabe4c2d0c634fc6d46e0e2f13107e7af23";
+}
 
-abbrev pub empty_sha1 : String
-empty_sha1 = "da39a3ee5e6b4b0d3255bfef95601890afd80709"
+abbrev pub no_bytes : Digests
+no_bytes = record {
+  md5 = "d41d8cd98f00b204e9800998ecf8427e";
+  sha1 = "da39a3ee5e6b4b0d3255bfef95601890afd80709";
+  sha256 = "e3b0c44298fc1c149afbf4c8996fb92427ae41e4649b934ca495991b7852b855";
+  sha512 = "cf83e1357eefb8bdf1542850d66d8007d620e4050b5715dc83f4a921d36ce9ce47d0d13c5d85f2b0ff8318d2877eec2f63b931bd47417a81a538327af927da3e";
+  sha512_256 = "c672b8d1ef56ed28ab87c3622c5114069bdd3ad7b8f9737498d0c01ecef0967a";
+}
 
-abbrev pub empty_sha256 : String
-empty_sha256 = "e3b0c44298fc1c149afbf4c8996fb92427ae41e4649b934ca495991b7852b855"
-
+-- and some in capitals
 abbrev pub abc_sha256_capitals : String
 abc_sha256_capitals = "BA7816BF8F01CFEA414140DE5DAE2223B00361A396177A9CB410FF61F20015AD"
 
 abbrev pub abc_sha512_capitals : String
 abc_sha512_capitals = "DDAF35A193617ABACC417349AE20413112E6FA4E89A97EA20A9EEEE64B55D39A2192992A274FC1A836BA3C23A3FEEBBD454D4423643CE80E2A9AC94FA54CA49F"
 
-abbrev pub empty_sha256_capitals : String
-empty_sha256_capitals = "E3B0C44298FC1C149AFBF4C8996FB92427AE41E4649B934CA495991B7852B855"
+abbrev pub no_bytes_sha256_capitals : String
+no_bytes_sha256_capitals = "E3B0C44298FC1C149AFBF4C8996FB92427AE41E4649B934CA495991B7852B855"
 
 -- ---- inventories
 
@@ -121,21 +147,21 @@ listing_with manifest fixity = inventory "sha256" (keys manifest) fixity
 
 -- the manifest that lists `f` rightly
 abbrev pub lists_f : List Text
-lists_f = key abc_sha256 "[\"v1/content/f\"]" ∷ []
+lists_f = key abc.sha256 "[\"v1/content/f\"]" ∷ []
 
 -- ---- trees of several cases
 
 -- a file for each digest of the manifest: `a` and `c` of three bytes, `b` of none
 abbrev pub three_files : Tree
-three_files = sha256_object (listing (key abc_sha256 "[\"v1/content/a\",\"v1/content/c\"]" ∷ key empty_sha256 "[\"v1/content/b\"]" ∷ [])) (text_at "o/v1/content/a" "abc" ∷ text_at "o/v1/content/b" "" ∷ text_at "o/v1/content/c" "abc" ∷ [])
+three_files = sha256_object (listing (key abc.sha256 "[\"v1/content/a\",\"v1/content/c\"]" ∷ key no_bytes.sha256 "[\"v1/content/b\"]" ∷ [])) (text_at "o/v1/content/a" "abc" ∷ text_at "o/v1/content/b" "" ∷ text_at "o/v1/content/c" "abc" ∷ [])
 
 -- `a` is listed twice and not there, `b` is right
 abbrev pub missing_and_right : Tree
-missing_and_right = sha256_object (listing_with (key empty_sha256 "[\"v1/content/a\"]" ∷ key abc_sha256 "[\"v1/content/b\"]" ∷ []) (codes "{\"sha1\":" ++ keys (key empty_sha1 "[\"v1/content/a\"]" ∷ []) ++ codes "}")) (text_at "o/v1/content/b" "abc" ∷ [])
+missing_and_right = sha256_object (listing_with (key no_bytes.sha256 "[\"v1/content/a\"]" ∷ key abc.sha256 "[\"v1/content/b\"]" ∷ []) (codes "{\"sha1\":" ++ keys (key no_bytes.sha1 "[\"v1/content/a\"]" ∷ []) ++ codes "}")) (text_at "o/v1/content/b" "abc" ∷ [])
 
 -- one file, by sha512
 abbrev pub sha512_file : Tree
-sha512_file = sha512_object (inventory "sha512" (keys (key abc_sha512 "[\"v1/content/f\"]" ∷ [])) (codes "{}")) f_is_abc
+sha512_file = sha512_object (inventory "sha512" (keys (key abc.sha512 "[\"v1/content/f\"]" ∷ [])) (codes "{}")) f_is_abc
 
 -- three objects, each with one file
 abbrev pub three_objects : Tree
@@ -143,3 +169,26 @@ three_objects = storage_root (
     object_in "o1" (listing lists_f) (folder "o1/v1" ∷ folder "o1/v1/content" ∷ text_at "o1/v1/content/f" "abc" ∷
     object_in "o2" (listing lists_f) (folder "o2/v1" ∷ folder "o2/v1/content" ∷ text_at "o2/v1/content/f" "abc" ∷
     object_in "o3" (listing lists_f) (folder "o3/v1" ∷ folder "o3/v1/content" ∷ text_at "o3/v1/content/f" "abc" ∷ []))))
+
+-- ---- what is left behind places, for runs and for walks
+
+-- a place, and the lines of what is behind it
+pub record Behind : Type 0 where
+  pub name : String
+  pub place : String
+  pub lines : String
+
+abbrev pub behind : String → String → String → Behind
+behind name p lines = record { name = name; place = p; lines = lines }
+
+-- of `missing_and_right`: before its object, in it, and behind it
+abbrev pub behind_each : List Behind
+behind_each =
+    behind "behind_an_earlier_sibling" "n" "ok\to\t-\nE092\to/v1/content/a\tsha256 missing\nE093\to/v1/content/a\tsha1 missing\nok\to/v1/content/b\t3\n" ∷
+    behind "behind_an_absent_version" "o/v0" "E092\to/v1/content/a\tsha256 missing\nE093\to/v1/content/a\tsha1 missing\nok\to/v1/content/b\t3\n" ∷
+    behind "behind_a_version" "o/v1" "E092\to/v1/content/a\tsha256 missing\nE093\to/v1/content/a\tsha1 missing\nok\to/v1/content/b\t3\n" ∷
+    behind "behind_a_missing_file" "o/v1/content/a" "ok\to/v1/content/b\t3\n" ∷
+    behind "behind_a_place_below_a_file" "o/v1/content/b/x" "" ∷
+    behind "behind_a_later_sibling" "o-x" "" ∷
+    behind "behind_a_later_place" "p/q" "" ∷
+    []

@@ -1,6 +1,7 @@
 -- Worked cases: the content of objects, and what else lies in them.
 use Rattle.std.proofs.Common.{◌≡◌, [], ◌∷◌, ◌++◌, codes, refl, true, map}
 use Prim.Native.String.{String}
+use Rattle.ocfl_tree.specs.Place.{Text}
 use Rattle.ocfl_tree.specs.Tree.{Tree, file}
 use Rattle.ocfl_report.specs.Line.{found}
 use Rattle.ocfl_report.specs.Text.{text}
@@ -10,51 +11,36 @@ use Rattle.ocfl_audit.specs.Audit.{audit, total_cost}
 use Rattle.ocfl_audit.specs.Due.{item_places, hashed_among}
 use Rattle.ocfl_audit.specs.Walk.{item_at}
 use Rattle.ocfl_audit.proofs.OnLiterals.{audit_on_literals}
-use Rattle.ocfl_audit.proofs.CaseTrees.{Reports, place, text_at, folder, link, storage_root, object_in, sha256_object, sha512_object, f_is_abc, key, keys, inventory, listing, listing_with, lists_f, missing_and_right, sha512_file, abc_sha256, abc_sha512, abc_sha512_capitals, empty_sha256}
+use Rattle.ocfl_audit.proofs.CaseTrees.{Case, Digests, AllAre, reports, place, text_at, folder, link, storage_root, object_in, sha256_object, sha512_object, f_is_abc, key, keys, inventory, listing, listing_with, lists_f, missing_and_right, sha512_file, abc, abc_sha512_capitals, no_bytes}
 
 -- ---- digests
 
-digests_of_abc :
-    (digest_of Md5 (codes "abc") ≡ codes "900150983cd24fb0d6963f7d28e17f72") × (digest_of Sha1 (codes "abc") ≡ codes "a9993e364706816aba3e25717850c26c9cd0d89d")
-    × (digest_of Sha256 (codes "abc") ≡ codes "ba7816bf8f01cfea414140de5dae2223b00361a396177a9cb410ff61f20015ad")
-    × (digest_of Sha512 (codes "abc") ≡ codes "ddaf35a193617abacc417349ae20413112e6fa4e89a97ea20a9eeee64b55d39a2192992a274fc1a836ba3c23a3feebbd454d4423643ce80e2a9ac94fa54ca49f")
-    × (digest_of Sha512_256 (codes "abc") ≡ codes "53048e2681941ef99b2e29b76b4c7dabe4c2d0c634fc6d46e0e2f13107e7af23")
+abbrev AreDigests : Text → Digests → Type 0
+AreDigests bytes d =
+    (digest_of Md5 bytes ≡ codes d.md5) × (digest_of Sha1 bytes ≡ codes d.sha1) × (digest_of Sha256 bytes ≡ codes d.sha256)
+    × (digest_of Sha512 bytes ≡ codes d.sha512) × (digest_of Sha512_256 bytes ≡ codes d.sha512_256)
+
+digests_of_abc : AreDigests (codes "abc") abc
 unfolding audit_on_literals
 digests_of_abc = (refl, refl, refl, refl, refl)
 
-digests_of_no_bytes :
-    (digest_of Md5 [] ≡ codes "d41d8cd98f00b204e9800998ecf8427e") × (digest_of Sha1 [] ≡ codes "da39a3ee5e6b4b0d3255bfef95601890afd80709")
-    × (digest_of Sha256 [] ≡ codes "e3b0c44298fc1c149afbf4c8996fb92427ae41e4649b934ca495991b7852b855")
-    × (digest_of Sha512 [] ≡ codes "cf83e1357eefb8bdf1542850d66d8007d620e4050b5715dc83f4a921d36ce9ce47d0d13c5d85f2b0ff8318d2877eec2f63b931bd47417a81a538327af927da3e")
-    × (digest_of Sha512_256 [] ≡ codes "c672b8d1ef56ed28ab87c3622c5114069bdd3ad7b8f9737498d0c01ecef0967a")
+digests_of_no_bytes : AreDigests [] no_bytes
 unfolding audit_on_literals
 digests_of_no_bytes = (refl, refl, refl, refl, refl)
 
 -- ---- a file and its digests
 
-right_file : Reports sha512_file "ok\t.\t-\nok\to\t-\nok\to/v1/content/f\t3\n"
-unfolding audit_on_literals
-right_file = refl
-
 cost_of_right_file : map (λ i. i.cost) (audit sha512_file []) ≡ 0 ∷ 0 ∷ 4 ∷ []
 unfolding audit_on_literals
 cost_of_right_file = refl
 
-capitals_in_manifest_key : Reports (sha512_object (inventory "sha512" (keys (key abc_sha512_capitals "[\"v1/content/f\"]" ∷ [])) (codes "{}")) f_is_abc) "ok\t.\t-\nok\to\t-\nok\to/v1/content/f\t3\n"
-unfolding audit_on_literals
-capitals_in_manifest_key = refl
-
 -- an empty file that all algorithms name
 abbrev empty_file : Tree
-empty_file = sha256_object (listing_with (key empty_sha256 "[\"v1/content/f\"]" ∷ []) (keys (
+empty_file = sha256_object (listing_with (key no_bytes.sha256 "[\"v1/content/f\"]" ∷ []) (keys (
     key "md5" "{\"d41d8cd98f00b204e9800998ecf8427e\":[\"v1/content/f\"]}"
     ∷ key "sha1" "{\"da39a3ee5e6b4b0d3255bfef95601890afd80709\":[\"v1/content/f\"]}"
     ∷ key "sha512" "{\"cf83e1357eefb8bdf1542850d66d8007d620e4050b5715dc83f4a921d36ce9ce47d0d13c5d85f2b0ff8318d2877eec2f63b931bd47417a81a538327af927da3e\":[\"v1/content/f\"]}"
     ∷ key "sha512/256" "{\"c672b8d1ef56ed28ab87c3622c5114069bdd3ad7b8f9737498d0c01ecef0967a\":[\"v1/content/f\"]}" ∷ []))) (text_at "o/v1/content/f" "" ∷ [])
-
-all_algorithms_on_an_empty_file : Reports empty_file "ok\t.\t-\nok\to\t-\nok\to/v1/content/f\t0\n"
-unfolding audit_on_literals
-all_algorithms_on_an_empty_file = refl
 
 -- one file to be opened, of cost one
 empty_file_is_hashed_once : (hashed_among empty_file (item_places empty_file) ≡ place "o/v1/content/f" ∷ []) × (total_cost (audit empty_file []) ≡ 1)
@@ -65,73 +51,50 @@ empty_file_is_hashed_once = (refl, refl)
 abbrev wrong_in_fixity : Tree
 wrong_in_fixity = sha256_object (listing_with lists_f (codes "{\"md5\":{\"d41d8cd98f00b204e9800998ecf8427e\":[\"v1/content/f\"]}}")) f_is_abc
 
-fixity_mismatch : Reports wrong_in_fixity "ok\t.\t-\nok\to\t-\nE093\to/v1/content/f\tmd5 d41d8cd98f00b204e9800998ecf8427e 900150983cd24fb0d6963f7d28e17f72\n"
-unfolding audit_on_literals
-fixity_mismatch = refl
-
 cost_of_fixity_mismatch : (total_cost (audit wrong_in_fixity []) ≡ 4) × (found (audit wrong_in_fixity []) ≡ true)
 unfolding audit_on_literals
 cost_of_fixity_mismatch = (refl, refl)
-
-fixity_match : Reports (sha256_object (listing_with lists_f (codes "{\"md5\":{\"900150983CD24FB0D6963F7D28E17F72\":[\"v1/content/f\"]}}")) f_is_abc) "ok\t.\t-\nok\to\t-\nok\to/v1/content/f\t3\n"
-unfolding audit_on_literals
-fixity_match = refl
-
--- by the algorithms' names, whatever the order of the block
-fixity_mismatch_in_each_algorithm : Reports (sha256_object (listing_with lists_f (codes "{\"sha512/256\":{\"x\":[\"v1/content/f\"]},\"sha512\":{\"x\":[\"v1/content/f\"]},\"sha256\":{\"x\":[\"v1/content/f\"]},\"sha1\":{\"x\":[\"v1/content/f\"]},\"md5\":{\"x\":[\"v1/content/f\"]}}")) f_is_abc) "ok\t.\t-\nok\to\t-\nE093\to/v1/content/f\tmd5 x 900150983cd24fb0d6963f7d28e17f72\nE093\to/v1/content/f\tsha1 x a9993e364706816aba3e25717850c26c9cd0d89d\nE093\to/v1/content/f\tsha256 x ba7816bf8f01cfea414140de5dae2223b00361a396177a9cb410ff61f20015ad\nE093\to/v1/content/f\tsha512 x ddaf35a193617abacc417349ae20413112e6fa4e89a97ea20a9eeee64b55d39a2192992a274fc1a836ba3c23a3feebbd454d4423643ce80e2a9ac94fa54ca49f\nE093\to/v1/content/f\tsha512/256 x 53048e2681941ef99b2e29b76b4c7dabe4c2d0c634fc6d46e0e2f13107e7af23\n"
-unfolding audit_on_literals
-fixity_mismatch_in_each_algorithm = refl
-
--- the manifest before the fixity block; the digest that is right has no line
-two_digests_and_fixity : Reports (sha256_object (listing_with (key empty_sha256 "[\"v1/content/f\"]" ∷ key abc_sha256 "[\"v1/content/f\"]" ∷ []) (codes "{\"md5\":{\"d41d8cd98f00b204e9800998ecf8427e\":[\"v1/content/f\"]}}")) f_is_abc) "ok\t.\t-\nE101\to\tv1/content/f\nE092\to/v1/content/f\tsha256 e3b0c44298fc1c149afbf4c8996fb92427ae41e4649b934ca495991b7852b855 ba7816bf8f01cfea414140de5dae2223b00361a396177a9cb410ff61f20015ad\nE093\to/v1/content/f\tmd5 d41d8cd98f00b204e9800998ecf8427e 900150983cd24fb0d6963f7d28e17f72\n"
-unfolding audit_on_literals
-two_digests_and_fixity = refl
-
--- ascending, told folded and escaped
-two_wrong_digests : Reports (sha256_object (listing (key "Y%" "[\"v1/content/f\"]" ∷ key "X y" "[\"v1/content/f\"]" ∷ [])) f_is_abc) "ok\t.\t-\nE101\to\tv1/content/f\nE092\to/v1/content/f\tsha256 x y ba7816bf8f01cfea414140de5dae2223b00361a396177a9cb410ff61f20015ad\nE092\to/v1/content/f\tsha256 y%25 ba7816bf8f01cfea414140de5dae2223b00361a396177a9cb410ff61f20015ad\n"
-unfolding audit_on_literals
-two_wrong_digests = refl
-
--- as written, `B` stands before `a`
-wrong_digests_ascend_folded : Reports (sha256_object (listing (key "B" "[\"v1/content/f\"]" ∷ key "a" "[\"v1/content/f\"]" ∷ [])) f_is_abc) "ok\t.\t-\nE101\to\tv1/content/f\nE092\to/v1/content/f\tsha256 a ba7816bf8f01cfea414140de5dae2223b00361a396177a9cb410ff61f20015ad\nE092\to/v1/content/f\tsha256 b ba7816bf8f01cfea414140de5dae2223b00361a396177a9cb410ff61f20015ad\n"
-unfolding audit_on_literals
-wrong_digests_ascend_folded = refl
-
--- one digest in either case of letters is one
-same_wrong_digest_twice : Reports (sha256_object (listing (key "x" "[\"v1/content/f\"]" ∷ key "X" "[\"v1/content/f\"]" ∷ [])) f_is_abc) "ok\t.\t-\nE096\to\tx\nE101\to\tv1/content/f\nE092\to/v1/content/f\tsha256 x ba7816bf8f01cfea414140de5dae2223b00361a396177a9cb410ff61f20015ad\n"
-unfolding audit_on_literals
-same_wrong_digest_twice = refl
-
--- hashed, but no `ok`
-named_by_fixity_alone : Reports (sha256_object (listing_with [] (codes "{\"md5\":{\"900150983cd24fb0d6963f7d28e17f72\":[\"v1/content/f\"]}}")) f_is_abc) "ok\t.\t-\nok\to\t-\nE023\to/v1/content/f\t-\n"
-unfolding audit_on_literals
-named_by_fixity_alone = refl
 
 cost_of_named_by_fixity_alone : map (λ i. i.cost) (audit (sha256_object (listing_with [] (codes "{\"md5\":{\"900150983cd24fb0d6963f7d28e17f72\":[\"v1/content/f\"]}}")) f_is_abc) []) ≡ 0 ∷ 0 ∷ 4 ∷ []
 unfolding audit_on_literals
 cost_of_named_by_fixity_alone = refl
 
-wrong_by_fixity_alone : Reports (sha256_object (listing_with [] (codes "{\"md5\":{\"x\":[\"v1/content/f\"]}}")) f_is_abc) "ok\t.\t-\nok\to\t-\nE023\to/v1/content/f\t-\nE093\to/v1/content/f\tmd5 x 900150983cd24fb0d6963f7d28e17f72\n"
+files_and_digests : AllAre (
+    reports "right_file" sha512_file "ok\t.\t-\nok\to\t-\nok\to/v1/content/f\t3\n" ∷
+    reports "capitals_in_manifest_key" (sha512_object (inventory "sha512" (keys (key abc_sha512_capitals "[\"v1/content/f\"]" ∷ [])) (codes "{}")) f_is_abc) "ok\t.\t-\nok\to\t-\nok\to/v1/content/f\t3\n" ∷
+    reports "all_algorithms_on_an_empty_file" empty_file "ok\t.\t-\nok\to\t-\nok\to/v1/content/f\t0\n" ∷
+    reports "fixity_mismatch" wrong_in_fixity "ok\t.\t-\nok\to\t-\nE093\to/v1/content/f\tmd5 d41d8cd98f00b204e9800998ecf8427e 900150983cd24fb0d6963f7d28e17f72\n" ∷
+    reports "fixity_match" (sha256_object (listing_with lists_f (codes "{\"md5\":{\"900150983CD24FB0D6963F7D28E17F72\":[\"v1/content/f\"]}}")) f_is_abc) "ok\t.\t-\nok\to\t-\nok\to/v1/content/f\t3\n" ∷
+    -- by the algorithms' names, whatever the order of the block
+    reports "fixity_mismatch_in_each_algorithm" (sha256_object (listing_with lists_f (codes "{\"sha512/256\":{\"x\":[\"v1/content/f\"]},\"sha512\":{\"x\":[\"v1/content/f\"]},\"sha256\":{\"x\":[\"v1/content/f\"]},\"sha1\":{\"x\":[\"v1/content/f\"]},\"md5\":{\"x\":[\"v1/content/f\"]}}")) f_is_abc) "ok\t.\t-\nok\to\t-\nE093\to/v1/content/f\tmd5 x 900150983cd24fb0d6963f7d28e17f72\nE093\to/v1/content/f\tsha1 x a9993e364706816aba3e25717850c26c9cd0d89d\nE093\to/v1/content/f\tsha256 x ba7816bf8f01cfea414140de5dae2223b00361a396177a9cb410ff61f20015ad\nE093\to/v1/content/f\tsha512 x ddaf35a193617abacc417349ae20413112e6fa4e89a97ea20a9eeee64b55d39a2192992a274fc1a836ba3c23a3feebbd454d4423643ce80e2a9ac94fa54ca49f\nE093\to/v1/content/f\tsha512/256 x 53048e2681941ef99b2e29b76b4c7dabe4c2d0c634fc6d46e0e2f13107e7af23\n" ∷
+    -- the manifest before the fixity block; the digest that is right has no line
+    reports "two_digests_and_fixity" (sha256_object (listing_with (key no_bytes.sha256 "[\"v1/content/f\"]" ∷ key abc.sha256 "[\"v1/content/f\"]" ∷ []) (codes "{\"md5\":{\"d41d8cd98f00b204e9800998ecf8427e\":[\"v1/content/f\"]}}")) f_is_abc) "ok\t.\t-\nE101\to\tv1/content/f\nE092\to/v1/content/f\tsha256 e3b0c44298fc1c149afbf4c8996fb92427ae41e4649b934ca495991b7852b855 ba7816bf8f01cfea414140de5dae2223b00361a396177a9cb410ff61f20015ad\nE093\to/v1/content/f\tmd5 d41d8cd98f00b204e9800998ecf8427e 900150983cd24fb0d6963f7d28e17f72\n" ∷
+    -- ascending, told folded and escaped
+    reports "two_wrong_digests" (sha256_object (listing (key "Y%" "[\"v1/content/f\"]" ∷ key "X y" "[\"v1/content/f\"]" ∷ [])) f_is_abc) "ok\t.\t-\nE101\to\tv1/content/f\nE092\to/v1/content/f\tsha256 x y ba7816bf8f01cfea414140de5dae2223b00361a396177a9cb410ff61f20015ad\nE092\to/v1/content/f\tsha256 y%25 ba7816bf8f01cfea414140de5dae2223b00361a396177a9cb410ff61f20015ad\n" ∷
+    -- as written, `B` stands before `a`
+    reports "wrong_digests_ascend_folded" (sha256_object (listing (key "B" "[\"v1/content/f\"]" ∷ key "a" "[\"v1/content/f\"]" ∷ [])) f_is_abc) "ok\t.\t-\nE101\to\tv1/content/f\nE092\to/v1/content/f\tsha256 a ba7816bf8f01cfea414140de5dae2223b00361a396177a9cb410ff61f20015ad\nE092\to/v1/content/f\tsha256 b ba7816bf8f01cfea414140de5dae2223b00361a396177a9cb410ff61f20015ad\n" ∷
+    -- one digest in either case of letters is one
+    reports "same_wrong_digest_twice" (sha256_object (listing (key "x" "[\"v1/content/f\"]" ∷ key "X" "[\"v1/content/f\"]" ∷ [])) f_is_abc) "ok\t.\t-\nE096\to\tx\nE101\to\tv1/content/f\nE092\to/v1/content/f\tsha256 x ba7816bf8f01cfea414140de5dae2223b00361a396177a9cb410ff61f20015ad\n" ∷
+    -- hashed, but no `ok`
+    reports "named_by_fixity_alone" (sha256_object (listing_with [] (codes "{\"md5\":{\"900150983cd24fb0d6963f7d28e17f72\":[\"v1/content/f\"]}}")) f_is_abc) "ok\t.\t-\nok\to\t-\nE023\to/v1/content/f\t-\n" ∷
+    reports "wrong_by_fixity_alone" (sha256_object (listing_with [] (codes "{\"md5\":{\"x\":[\"v1/content/f\"]}}")) f_is_abc) "ok\t.\t-\nok\to\t-\nE023\to/v1/content/f\t-\nE093\to/v1/content/f\tmd5 x 900150983cd24fb0d6963f7d28e17f72\n" ∷
+    [])
 unfolding audit_on_literals
-wrong_by_fixity_alone = refl
+files_and_digests = refl
 
 -- ---- the fifth algorithm
-
-fifth_algorithm_match : Reports (sha256_object (listing_with lists_f (codes "{\"sha512/256\":{\"53048e2681941ef99b2e29b76b4c7dabe4c2d0c634fc6d46e0e2f13107e7af23\":[\"v1/content/f\"]}}")) f_is_abc) "ok\t.\t-\nok\to\t-\nok\to/v1/content/f\t3\n"
-unfolding audit_on_literals
-fifth_algorithm_match = refl
-
-fifth_algorithm_mismatch : Reports (sha256_object (listing_with lists_f (codes "{\"sha512/256\":{\"ba7816bf8f01cfea414140de5dae2223b00361a396177a9cb410ff61f20015ad\":[\"v1/content/f\"]}}")) f_is_abc) "ok\t.\t-\nok\to\t-\nE093\to/v1/content/f\tsha512/256 ba7816bf8f01cfea414140de5dae2223b00361a396177a9cb410ff61f20015ad 53048e2681941ef99b2e29b76b4c7dabe4c2d0c634fc6d46e0e2f13107e7af23\n"
-unfolding audit_on_literals
-fifth_algorithm_mismatch = refl
 
 -- `f` is named by it alone
 abbrev fifth_alone : Tree
 fifth_alone = sha256_object (listing_with [] (codes "{\"sha512/256\":{\"53048e2681941ef99b2e29b76b4c7dabe4c2d0c634fc6d46e0e2f13107e7af23\":[\"v1/content/f\"]}}")) f_is_abc
 
-fifth_algorithm_without_manifest : Reports fifth_alone "ok\t.\t-\nok\to\t-\nE023\to/v1/content/f\t-\n"
+fifth_algorithm : AllAre (
+    reports "fifth_algorithm_match" (sha256_object (listing_with lists_f (codes "{\"sha512/256\":{\"53048e2681941ef99b2e29b76b4c7dabe4c2d0c634fc6d46e0e2f13107e7af23\":[\"v1/content/f\"]}}")) f_is_abc) "ok\t.\t-\nok\to\t-\nok\to/v1/content/f\t3\n" ∷
+    reports "fifth_algorithm_mismatch" (sha256_object (listing_with lists_f (codes "{\"sha512/256\":{\"ba7816bf8f01cfea414140de5dae2223b00361a396177a9cb410ff61f20015ad\":[\"v1/content/f\"]}}")) f_is_abc) "ok\t.\t-\nok\to\t-\nE093\to/v1/content/f\tsha512/256 ba7816bf8f01cfea414140de5dae2223b00361a396177a9cb410ff61f20015ad 53048e2681941ef99b2e29b76b4c7dabe4c2d0c634fc6d46e0e2f13107e7af23\n" ∷
+    reports "fifth_algorithm_without_manifest" fifth_alone "ok\t.\t-\nok\to\t-\nE023\to/v1/content/f\t-\n" ∷
+    [])
 unfolding audit_on_literals
-fifth_algorithm_without_manifest = refl
+fifth_algorithm = refl
 
 cost_of_fifth_algorithm : (map (λ i. i.cost) (audit fifth_alone []) ≡ 0 ∷ 0 ∷ 4 ∷ []) × (hashed_among fifth_alone (item_places fifth_alone) ≡ place "o/v1/content/f" ∷ [])
 unfolding audit_on_literals hashed_among item_places
@@ -140,106 +103,74 @@ cost_of_fifth_algorithm = (refl, refl)
 -- ---- the item at one place
 
 -- the lines of one place
-abbrev Shows : Tree → String → String → Type 0
-Shows root p t = text (item_at root [] (place p)) ≡ codes t
-
-item_of_a_right_file : Shows sha512_file "o/v1/content/f" "ok\to/v1/content/f\t3\n"
-unfolding audit_on_literals
-item_of_a_right_file = refl
-
-item_of_a_wrong_file : Shows (sha512_object (inventory "sha512" (keys (key abc_sha512 "[\"v1/content/f\"]" ∷ [])) (codes "{}")) (text_at "o/v1/content/f" "" ∷ [])) "o/v1/content/f" "E092\to/v1/content/f\tsha512 ddaf35a193617abacc417349ae20413112e6fa4e89a97ea20a9eeee64b55d39a2192992a274fc1a836ba3c23a3feebbd454d4423643ce80e2a9ac94fa54ca49f cf83e1357eefb8bdf1542850d66d8007d620e4050b5715dc83f4a921d36ce9ce47d0d13c5d85f2b0ff8318d2877eec2f63b931bd47417a81a538327af927da3e\n"
-unfolding audit_on_literals
-item_of_a_wrong_file = refl
+abbrev shows : String → Tree → String → String → Case
+shows name root p t = record { name = name; shown = text (item_at root [] (place p)); wanted = codes t }
 
 -- the same with an unlisted file
 abbrev with_unlisted : Tree
 with_unlisted = sha512_file ++ text_at "o/v1/content/g" "abc" ∷ []
 
-item_of_an_unlisted_file : Shows with_unlisted "o/v1/content/g" "E023\to/v1/content/g\t-\n"
-unfolding audit_on_literals
-item_of_an_unlisted_file = refl
-
 unlisted_file_is_not_hashed : hashed_among with_unlisted (item_places with_unlisted) ≡ place "o/v1/content/f" ∷ []
 unfolding audit_on_literals hashed_among item_places
 unlisted_file_is_not_hashed = refl
 
-no_item_where_nothing_is : Shows sha512_file "o/v1/content/h" ""
+items_at_one_place : AllAre (
+    shows "item_of_a_right_file" sha512_file "o/v1/content/f" "ok\to/v1/content/f\t3\n" ∷
+    shows "item_of_a_wrong_file" (sha512_object (inventory "sha512" (keys (key abc.sha512 "[\"v1/content/f\"]" ∷ [])) (codes "{}")) (text_at "o/v1/content/f" "" ∷ [])) "o/v1/content/f" "E092\to/v1/content/f\tsha512 ddaf35a193617abacc417349ae20413112e6fa4e89a97ea20a9eeee64b55d39a2192992a274fc1a836ba3c23a3feebbd454d4423643ce80e2a9ac94fa54ca49f cf83e1357eefb8bdf1542850d66d8007d620e4050b5715dc83f4a921d36ce9ce47d0d13c5d85f2b0ff8318d2877eec2f63b931bd47417a81a538327af927da3e\n" ∷
+    shows "item_of_an_unlisted_file" with_unlisted "o/v1/content/g" "E023\to/v1/content/g\t-\n" ∷
+    shows "no_item_where_nothing_is" sha512_file "o/v1/content/h" "" ∷
+    shows "no_item_at_a_version" sha512_file "o/v1" "" ∷
+    shows "no_item_at_a_content_directory" sha512_file "o/v1/content" "" ∷
+    shows "no_item_at_an_inventory" sha512_file "o/inventory.json" "" ∷
+    shows "no_item_where_the_object_is_gone" (storage_root []) "o/v1/content/f" "" ∷
+    [])
 unfolding audit_on_literals
-no_item_where_nothing_is = refl
-
-no_item_at_directories : (Shows sha512_file "o/v1" "") × (Shows sha512_file "o/v1/content" "") × (Shows sha512_file "o/inventory.json" "")
-unfolding audit_on_literals
-no_item_at_directories = (refl, refl, refl)
-
-no_item_where_the_object_is_gone : Shows (storage_root []) "o/v1/content/f" ""
-unfolding audit_on_literals
-no_item_where_the_object_is_gone = refl
+items_at_one_place = refl
 
 -- ---- files that nothing names
 
-unlisted_file : Reports (sha256_object (listing lists_f) (text_at "o/v1/content/z" "abc" ∷ f_is_abc)) "ok\t.\t-\nok\to\t-\nok\to/v1/content/f\t3\nE023\to/v1/content/z\t-\n"
+files_that_nothing_names : AllAre (
+    reports "unlisted_file" (sha256_object (listing lists_f) (text_at "o/v1/content/z" "abc" ∷ f_is_abc)) "ok\t.\t-\nok\to\t-\nok\to/v1/content/f\t3\nE023\to/v1/content/z\t-\n" ∷
+    -- é, a tab, a percent sign and a space
+    reports "odd_letters_in_a_name" (sha256_object (listing []) ((place "o/v1/content" ++ (0xC3 ∷ 0xA9 ∷ 9 ∷ 37 ∷ 32 ∷ []) ∷ [], file []) ∷ [])) "ok\t.\t-\nok\to\t-\nE023\to/v1/content/%C3%A9%09%25 \t-\n" ∷
+    [])
 unfolding audit_on_literals
-unlisted_file = refl
-
--- é, a tab, a percent sign and a space
-odd_letters_in_a_name : Reports (sha256_object (listing []) ((place "o/v1/content" ++ (0xC3 ∷ 0xA9 ∷ 9 ∷ 37 ∷ 32 ∷ []) ∷ [], file []) ∷ [])) "ok\t.\t-\nok\to\t-\nE023\to/v1/content/%C3%A9%09%25 \t-\n"
-unfolding audit_on_literals
-odd_letters_in_a_name = refl
+files_that_nothing_names = refl
 
 -- ---- paths where no file is
-
-missing_and_right_files : Reports missing_and_right "ok\t.\t-\nok\to\t-\nE092\to/v1/content/a\tsha256 missing\nE093\to/v1/content/a\tsha1 missing\nok\to/v1/content/b\t3\n"
-unfolding audit_on_literals
-missing_and_right_files = refl
 
 cost_of_missing_and_right_files : map (λ i. i.cost) (audit missing_and_right []) ≡ 0 ∷ 0 ∷ 0 ∷ 4 ∷ []
 unfolding audit_on_literals
 cost_of_missing_and_right_files = refl
 
--- one line for a block and algorithm, however many digests
-missing_under_several_digests : Reports (sha256_object (listing_with (key "x" "[\"v1/content/f\"]" ∷ key "y" "[\"v1/content/f\"]" ∷ []) (codes "{\"sha1\":{\"z\":[\"v1/content/f\"]},\"md5\":{\"z\":[\"v1/content/f\"],\"w\":[\"v1/content/f\"]}}")) []) "ok\t.\t-\nE101\to\tv1/content/f\nE092\to/v1/content/f\tsha256 missing\nE093\to/v1/content/f\tmd5 missing\nE093\to/v1/content/f\tsha1 missing\n"
+paths_without_file : AllAre (
+    reports "missing_and_right_files" missing_and_right "ok\t.\t-\nok\to\t-\nE092\to/v1/content/a\tsha256 missing\nE093\to/v1/content/a\tsha1 missing\nok\to/v1/content/b\t3\n" ∷
+    -- one line for a block and algorithm, however many digests
+    reports "missing_under_several_digests" (sha256_object (listing_with (key "x" "[\"v1/content/f\"]" ∷ key "y" "[\"v1/content/f\"]" ∷ []) (codes "{\"sha1\":{\"z\":[\"v1/content/f\"]},\"md5\":{\"z\":[\"v1/content/f\"],\"w\":[\"v1/content/f\"]}}")) []) "ok\t.\t-\nE101\to\tv1/content/f\nE092\to/v1/content/f\tsha256 missing\nE093\to/v1/content/f\tmd5 missing\nE093\to/v1/content/f\tsha1 missing\n" ∷
+    reports "missing_by_fixity_alone" (sha256_object (listing_with [] (codes "{\"md5\":{\"x\":[\"v1/content/f\"]}}")) []) "ok\t.\t-\nok\to\t-\nE093\to/v1/content/f\tmd5 missing\n" ∷
+    -- `v10` before `v2`, and no directory `v3`
+    reports "versions_in_order" (sha256_object (listing (key abc.sha256 "[\"v10/content/f\",\"v2/content/f\",\"v3/content/f\"]" ∷ [])) (folder "o/v10" ∷ folder "o/v10/content" ∷ text_at "o/v10/content/f" "abc" ∷ folder "o/v2" ∷ folder "o/v2/content" ∷ text_at "o/v2/content/f" "abc" ∷ [])) "ok\t.\t-\nok\to\t-\nok\to/v10/content/f\t3\nok\to/v2/content/f\t3\nE092\to/v3/content/f\tsha256 missing\n" ∷
+    reports "missing_directory" (sha256_object (listing (key abc.sha256 "[\"v1/content/x/y\"]" ∷ [])) []) "ok\t.\t-\nok\to\t-\nE092\to/v1/content/x/y\tsha256 missing\n" ∷
+    [])
 unfolding audit_on_literals
-missing_under_several_digests = refl
-
-missing_by_fixity_alone : Reports (sha256_object (listing_with [] (codes "{\"md5\":{\"x\":[\"v1/content/f\"]}}")) []) "ok\t.\t-\nok\to\t-\nE093\to/v1/content/f\tmd5 missing\n"
-unfolding audit_on_literals
-missing_by_fixity_alone = refl
-
--- `v10` before `v2`, and no directory `v3`
-versions_in_order : Reports (sha256_object (listing (key abc_sha256 "[\"v10/content/f\",\"v2/content/f\",\"v3/content/f\"]" ∷ [])) (folder "o/v10" ∷ folder "o/v10/content" ∷ text_at "o/v10/content/f" "abc" ∷ folder "o/v2" ∷ folder "o/v2/content" ∷ text_at "o/v2/content/f" "abc" ∷ [])) "ok\t.\t-\nok\to\t-\nok\to/v10/content/f\t3\nok\to/v2/content/f\t3\nE092\to/v3/content/f\tsha256 missing\n"
-unfolding audit_on_literals
-versions_in_order = refl
-
-missing_directory : Reports (sha256_object (listing (key abc_sha256 "[\"v1/content/x/y\"]" ∷ [])) []) "ok\t.\t-\nok\to\t-\nE092\to/v1/content/x/y\tsha256 missing\n"
-unfolding audit_on_literals
-missing_directory = refl
+paths_without_file = refl
 
 -- ---- directories and links in content
 
-listed_empty_directory : Reports (sha256_object (listing (key abc_sha256 "[\"v1/content/d\"]" ∷ [])) (folder "o/v1/content/d" ∷ [])) "ok\t.\t-\nok\to\t-\nE024\to/v1/content/d\t-\nE092\to/v1/content/d\tsha256 missing\n"
-unfolding audit_on_literals
-listed_empty_directory = refl
-
-cost_of_listed_empty_directory : total_cost (audit (sha256_object (listing (key abc_sha256 "[\"v1/content/d\"]" ∷ [])) (folder "o/v1/content/d" ∷ [])) []) ≡ 0
+cost_of_listed_empty_directory : total_cost (audit (sha256_object (listing (key abc.sha256 "[\"v1/content/d\"]" ∷ [])) (folder "o/v1/content/d" ∷ [])) []) ≡ 0
 unfolding audit_on_literals
 cost_of_listed_empty_directory = refl
 
-directories_in_content : Reports (sha256_object (listing (key abc_sha256 "[\"v1/content/d\",\"v1/content/e/g\"]" ∷ [])) (folder "o/v1/content/d" ∷ folder "o/v1/content/d/x" ∷ folder "o/v1/content/e" ∷ text_at "o/v1/content/e/g" "abc" ∷ [])) "ok\t.\t-\nok\to\t-\nE092\to/v1/content/d\tsha256 missing\nE024\to/v1/content/d/x\t-\nok\to/v1/content/e/g\t3\n"
+directories_and_links_in_content : AllAre (
+    reports "listed_empty_directory" (sha256_object (listing (key abc.sha256 "[\"v1/content/d\"]" ∷ [])) (folder "o/v1/content/d" ∷ [])) "ok\t.\t-\nok\to\t-\nE024\to/v1/content/d\t-\nE092\to/v1/content/d\tsha256 missing\n" ∷
+    reports "directories_in_content" (sha256_object (listing (key abc.sha256 "[\"v1/content/d\",\"v1/content/e/g\"]" ∷ [])) (folder "o/v1/content/d" ∷ folder "o/v1/content/d/x" ∷ folder "o/v1/content/e" ∷ text_at "o/v1/content/e/g" "abc" ∷ [])) "ok\t.\t-\nok\to\t-\nE092\to/v1/content/d\tsha256 missing\nE024\to/v1/content/d/x\t-\nok\to/v1/content/e/g\t3\n" ∷
+    -- the same digests as where `f` is a file
+    reports "listed_link" (sha256_object (listing_with (key no_bytes.sha256 "[\"v1/content/f\"]" ∷ key abc.sha256 "[\"v1/content/f\"]" ∷ []) (codes "{\"md5\":{\"d41d8cd98f00b204e9800998ecf8427e\":[\"v1/content/f\"]}}")) (link "o/v1/content/f" ∷ [])) "ok\t.\t-\nE101\to\tv1/content/f\nS04\to/v1/content/f\t-\nE092\to/v1/content/f\tsha256 missing\nE093\to/v1/content/f\tmd5 missing\n" ∷
+    reports "unlisted_link_in_content" (sha256_object (listing []) (link "o/v1/content/f" ∷ [])) "ok\t.\t-\nok\to\t-\nS04\to/v1/content/f\t-\n" ∷
+    reports "path_below_a_link" (sha256_object (listing (key abc.sha256 "[\"v1/content/f/g\"]" ∷ [])) (link "o/v1/content/f" ∷ [])) "ok\t.\t-\nok\to\t-\nS04\to/v1/content/f\t-\nE092\to/v1/content/f/g\tsha256 missing\n" ∷
+    [])
 unfolding audit_on_literals
-directories_in_content = refl
-
--- the same digests as where `f` is a file
-listed_link : Reports (sha256_object (listing_with (key empty_sha256 "[\"v1/content/f\"]" ∷ key abc_sha256 "[\"v1/content/f\"]" ∷ []) (codes "{\"md5\":{\"d41d8cd98f00b204e9800998ecf8427e\":[\"v1/content/f\"]}}")) (link "o/v1/content/f" ∷ [])) "ok\t.\t-\nE101\to\tv1/content/f\nS04\to/v1/content/f\t-\nE092\to/v1/content/f\tsha256 missing\nE093\to/v1/content/f\tmd5 missing\n"
-unfolding audit_on_literals
-listed_link = refl
-
-unlisted_link_in_content : Reports (sha256_object (listing []) (link "o/v1/content/f" ∷ [])) "ok\t.\t-\nok\to\t-\nS04\to/v1/content/f\t-\n"
-unfolding audit_on_literals
-unlisted_link_in_content = refl
-
-path_below_a_link : Reports (sha256_object (listing (key abc_sha256 "[\"v1/content/f/g\"]" ∷ [])) (link "o/v1/content/f" ∷ [])) "ok\t.\t-\nok\to\t-\nS04\to/v1/content/f\t-\nE092\to/v1/content/f/g\tsha256 missing\n"
-unfolding audit_on_literals
-path_below_a_link = refl
+directories_and_links_in_content = refl
 
 -- ---- entries of an object root
 
@@ -247,64 +178,32 @@ path_below_a_link = refl
 abbrev around_f : Tree → Tree
 around_f more = sha256_object (listing lists_f) (f_is_abc ++ more)
 
-entries_that_are_not_allowed : Reports (around_f (text_at "o/junk" "" ∷ folder "o/logs" ∷ text_at "o/logs/l" "" ∷ text_at "o/v1/notes" "" ∷ folder "o/v1/other" ∷ text_at "o/v1/other/x" "" ∷ [])) "ok\t.\t-\nok\to\t-\nE001\to/junk\t-\nok\to/v1/content/f\t3\nE015\to/v1/notes\t-\n"
+entries_of_objects : AllAre (
+    reports "entries_that_are_not_allowed" (around_f (text_at "o/junk" "" ∷ folder "o/logs" ∷ text_at "o/logs/l" "" ∷ text_at "o/v1/notes" "" ∷ folder "o/v1/other" ∷ text_at "o/v1/other/x" "" ∷ [])) "ok\t.\t-\nok\to\t-\nE001\to/junk\t-\nok\to/v1/content/f\t3\nE015\to/v1/notes\t-\n" ∷
+    reports "directories_of_an_object_root" (around_f (folder "o/extensions" ∷ text_at "o/extensions/k" "" ∷ folder "o/logs" ∷ folder "o/v0002" ∷ folder "o/V3" ∷ folder "o/v" ∷ folder "o/vx" ∷ text_at "o/vx/y" "" ∷ [])) "ok\t.\t-\nok\to\t-\nE001\to/V3\t-\nE001\to/v\t-\nok\to/v1/content/f\t3\nE001\to/vx\t-\n" ∷
+    reports "files_of_an_object_root" (around_f (text_at "o/0=ocfl_1.1" "" ∷ text_at "o/0=ocfl_object_x" "" ∷ text_at "o/extensions" "" ∷ text_at "o/logs" "" ∷ text_at "o/v2" "" ∷ [])) "ok\t.\t-\nok\to\t-\nE001\to/0=ocfl_1.1\t-\nE001\to/0=ocfl_object_x\t-\nE001\to/extensions\t-\nE001\to/logs\t-\nok\to/v1/content/f\t3\nE001\to/v2\t-\n" ∷
+    -- links have their line whatever their name
+    reports "links_of_an_object_root" (around_f (link "o/inventory.json.sha512" ∷ link "o/logs" ∷ link "o/v2" ∷ link "o/0=ocfl_object_1.0" ∷ [])) "ok\t.\t-\nok\to\t-\nS04\to/0=ocfl_object_1.0\t-\nS04\to/inventory.json.sha512\t-\nS04\to/logs\t-\nok\to/v1/content/f\t3\nS04\to/v2\t-\n" ∷
+    -- an object in an object is no object of its own
+    reports "object_within_an_object" (around_f (object_in "o/sub" (listing []) [])) "ok\t.\t-\nok\to\t-\nE001\to/sub\t-\nok\to/v1/content/f\t3\n" ∷
+    reports "object_within_content" (around_f (folder "o/v1/content/p" ∷ text_at "o/v1/content/p/0=ocfl_object_1.1" "ocfl_object_1.1\n" ∷ [])) "ok\t.\t-\nok\to\t-\nok\to/v1/content/f\t3\nE023\to/v1/content/p/0=ocfl_object_1.1\t-\n" ∷
+    -- also where its head stops
+    reports "object_within_a_stopped_object" (storage_root (folder "o" ∷ text_at "o/0=ocfl_object_2.0" "" ∷ object_in "o/sub" (listing []) [])) "ok\t.\t-\nS01\to\t2.0\n" ∷
+    reports "object_in_the_hierarchy" (storage_root (folder "p" ∷ folder "p/x" ∷ object_in "p/q" (listing lists_f) (folder "p/q/v1" ∷ folder "p/q/v1/content" ∷ text_at "p/q/v1/content/f" "abc" ∷ []))) "ok\t.\t-\nok\tp/q\t-\nok\tp/q/v1/content/f\t3\nE073\tp/x\t-\n" ∷
+    [])
 unfolding audit_on_literals
-entries_that_are_not_allowed = refl
-
-directories_of_an_object_root : Reports (around_f (folder "o/extensions" ∷ text_at "o/extensions/k" "" ∷ folder "o/logs" ∷ folder "o/v0002" ∷ folder "o/V3" ∷ folder "o/v" ∷ folder "o/vx" ∷ text_at "o/vx/y" "" ∷ [])) "ok\t.\t-\nok\to\t-\nE001\to/V3\t-\nE001\to/v\t-\nok\to/v1/content/f\t3\nE001\to/vx\t-\n"
-unfolding audit_on_literals
-directories_of_an_object_root = refl
-
-files_of_an_object_root : Reports (around_f (text_at "o/0=ocfl_1.1" "" ∷ text_at "o/0=ocfl_object_x" "" ∷ text_at "o/extensions" "" ∷ text_at "o/logs" "" ∷ text_at "o/v2" "" ∷ [])) "ok\t.\t-\nok\to\t-\nE001\to/0=ocfl_1.1\t-\nE001\to/0=ocfl_object_x\t-\nE001\to/extensions\t-\nE001\to/logs\t-\nok\to/v1/content/f\t3\nE001\to/v2\t-\n"
-unfolding audit_on_literals
-files_of_an_object_root = refl
-
--- links have their line whatever their name
-links_of_an_object_root : Reports (around_f (link "o/inventory.json.sha512" ∷ link "o/logs" ∷ link "o/v2" ∷ link "o/0=ocfl_object_1.0" ∷ [])) "ok\t.\t-\nok\to\t-\nS04\to/0=ocfl_object_1.0\t-\nS04\to/inventory.json.sha512\t-\nS04\to/logs\t-\nok\to/v1/content/f\t3\nS04\to/v2\t-\n"
-unfolding audit_on_literals
-links_of_an_object_root = refl
-
--- an object in an object is no object of its own
-object_within_an_object : Reports (around_f (object_in "o/sub" (listing []) [])) "ok\t.\t-\nok\to\t-\nE001\to/sub\t-\nok\to/v1/content/f\t3\n"
-unfolding audit_on_literals
-object_within_an_object = refl
-
-object_within_content : Reports (around_f (folder "o/v1/content/p" ∷ text_at "o/v1/content/p/0=ocfl_object_1.1" "ocfl_object_1.1\n" ∷ [])) "ok\t.\t-\nok\to\t-\nok\to/v1/content/f\t3\nE023\to/v1/content/p/0=ocfl_object_1.1\t-\n"
-unfolding audit_on_literals
-object_within_content = refl
-
--- also where its head stops
-object_within_a_stopped_object : Reports (storage_root (folder "o" ∷ text_at "o/0=ocfl_object_2.0" "" ∷ object_in "o/sub" (listing []) [])) "ok\t.\t-\nS01\to\t2.0\n"
-unfolding audit_on_literals
-object_within_a_stopped_object = refl
-
-object_in_the_hierarchy : Reports (storage_root (folder "p" ∷ folder "p/x" ∷ object_in "p/q" (listing lists_f) (folder "p/q/v1" ∷ folder "p/q/v1/content" ∷ text_at "p/q/v1/content/f" "abc" ∷ []))) "ok\t.\t-\nok\tp/q\t-\nok\tp/q/v1/content/f\t3\nE073\tp/x\t-\n"
-unfolding audit_on_literals
-object_in_the_hierarchy = refl
+entries_of_objects = refl
 
 -- ---- entries of a version directory
 
-entries_of_a_version : Reports (around_f (text_at "o/v1/inventory.json" "" ∷ text_at "o/v1/inventory.json.sha256" "" ∷ text_at "o/v1/inventory.json.sha512" "" ∷ text_at "o/v1/inventory.json.md5" "" ∷ folder "o/v1/logs" ∷ link "o/v1/other" ∷ folder "o/v2" ∷ folder "o/v2/content" ∷ [])) "ok\t.\t-\nok\to\t-\nok\to/v1/content/f\t3\nE015\to/v1/inventory.json.md5\t-\nS04\to/v1/other\t-\n"
+entries_of_versions : AllAre (
+    reports "entries_of_a_version" (around_f (text_at "o/v1/inventory.json" "" ∷ text_at "o/v1/inventory.json.sha256" "" ∷ text_at "o/v1/inventory.json.sha512" "" ∷ text_at "o/v1/inventory.json.md5" "" ∷ folder "o/v1/logs" ∷ link "o/v1/other" ∷ folder "o/v2" ∷ folder "o/v2/content" ∷ [])) "ok\t.\t-\nok\to\t-\nok\to/v1/content/f\t3\nE015\to/v1/inventory.json.md5\t-\nS04\to/v1/other\t-\n" ∷
+    reports "links_of_a_version" (sha256_object (listing (key abc.sha256 "[\"v2/content/f\"]" ∷ [])) (link "o/v1/inventory.json" ∷ folder "o/v2" ∷ link "o/v2/content" ∷ [])) "ok\t.\t-\nok\to\t-\nS04\to/v1/inventory.json\t-\nS04\to/v2/content\t-\nE092\to/v2/content/f\tsha256 missing\n" ∷
+    reports "version_is_a_link" (sha256_object (listing (key abc.sha256 "[\"v2/content/f\"]" ∷ [])) (link "o/v2" ∷ text_at "o/v2/content/f" "abc" ∷ [])) "ok\t.\t-\nok\to\t-\nS04\to/v2\t-\nE092\to/v2/content/f\tsha256 missing\n" ∷
+    reports "version_is_a_file" (sha256_object (listing (key abc.sha256 "[\"v2/content/f\"]" ∷ [])) (text_at "o/v2" "" ∷ [])) "ok\t.\t-\nok\to\t-\nE001\to/v2\t-\nE092\to/v2/content/f\tsha256 missing\n" ∷
+    reports "content_directory_is_a_file" (sha256_object (listing (key abc.sha256 "[\"v2/content/f\"]" ∷ [])) (folder "o/v2" ∷ text_at "o/v2/content" "" ∷ [])) "ok\t.\t-\nok\to\t-\nE015\to/v2/content\t-\nE092\to/v2/content/f\tsha256 missing\n" ∷
+    -- `content` is then a directory like others, and not entered
+    reports "content_directory_of_another_name" (sha256_object (codes "{\"digestAlgorithm\":\"sha256\",\"contentDirectory\":\"data\",\"manifest\":{\"ba7816bf8f01cfea414140de5dae2223b00361a396177a9cb410ff61f20015ad\":[\"v1/data/f\"]}}") (text_at "o/v1/content/x" "" ∷ folder "o/v1/data" ∷ text_at "o/v1/data/f" "abc" ∷ text_at "o/v1/data/g" "" ∷ [])) "ok\t.\t-\nok\to\t-\nok\to/v1/data/f\t3\nE023\to/v1/data/g\t-\n" ∷
+    [])
 unfolding audit_on_literals
-entries_of_a_version = refl
-
-links_of_a_version : Reports (sha256_object (listing (key abc_sha256 "[\"v2/content/f\"]" ∷ [])) (link "o/v1/inventory.json" ∷ folder "o/v2" ∷ link "o/v2/content" ∷ [])) "ok\t.\t-\nok\to\t-\nS04\to/v1/inventory.json\t-\nS04\to/v2/content\t-\nE092\to/v2/content/f\tsha256 missing\n"
-unfolding audit_on_literals
-links_of_a_version = refl
-
-version_is_a_link : Reports (sha256_object (listing (key abc_sha256 "[\"v2/content/f\"]" ∷ [])) (link "o/v2" ∷ text_at "o/v2/content/f" "abc" ∷ [])) "ok\t.\t-\nok\to\t-\nS04\to/v2\t-\nE092\to/v2/content/f\tsha256 missing\n"
-unfolding audit_on_literals
-version_is_a_link = refl
-
-version_is_a_file : Reports (sha256_object (listing (key abc_sha256 "[\"v2/content/f\"]" ∷ [])) (text_at "o/v2" "" ∷ [])) "ok\t.\t-\nok\to\t-\nE001\to/v2\t-\nE092\to/v2/content/f\tsha256 missing\n"
-unfolding audit_on_literals
-version_is_a_file = refl
-
-content_directory_is_a_file : Reports (sha256_object (listing (key abc_sha256 "[\"v2/content/f\"]" ∷ [])) (folder "o/v2" ∷ text_at "o/v2/content" "" ∷ [])) "ok\t.\t-\nok\to\t-\nE015\to/v2/content\t-\nE092\to/v2/content/f\tsha256 missing\n"
-unfolding audit_on_literals
-content_directory_is_a_file = refl
-
--- `content` is then a directory like others, and not entered
-content_directory_of_another_name : Reports (sha256_object (codes "{\"digestAlgorithm\":\"sha256\",\"contentDirectory\":\"data\",\"manifest\":{\"ba7816bf8f01cfea414140de5dae2223b00361a396177a9cb410ff61f20015ad\":[\"v1/data/f\"]}}") (text_at "o/v1/content/x" "" ∷ folder "o/v1/data" ∷ text_at "o/v1/data/f" "abc" ∷ text_at "o/v1/data/g" "" ∷ [])) "ok\t.\t-\nok\to\t-\nok\to/v1/data/f\t3\nE023\to/v1/data/g\t-\n"
-unfolding audit_on_literals
-content_directory_of_another_name = refl
+entries_of_versions = refl

@@ -1,5 +1,5 @@
 -- Worked cases: the digests and the paths that an inventory lists.
-use Rattle.std.proofs.Common.{◌≡◌, List, [], ◌∷◌, ◌++◌, codes, refl, Option, Some, None, replicate}
+use Rattle.std.proofs.Common.{◌≡◌, List, [], ◌∷◌, ◌++◌, codes, refl, Option, Some, None, map, length, replicate}
 use Prim.Native.String.{String}
 use Rattle.std.specs.List.{join_with_byte}
 use Rattle.ocfl_tree.specs.Place.{Text}
@@ -10,134 +10,72 @@ use Rattle.ocfl_report.specs.declared.code.Code.TheVariants.{E099, E100, S06}
 use Rattle.ocfl_inventory.specs.ListedPath.{path_fault}
 use Rattle.ocfl_audit.specs.Audit.{audit}
 use Rattle.ocfl_audit.proofs.OnLiterals.{audit_on_literals}
-use Rattle.ocfl_audit.proofs.CaseTrees.{Reports, sha256_object, f_is_abc, key, keys, inventory, listing, listing_with, lists_f, abc_sha256, abc_sha256_capitals, empty_sha256, empty_sha256_capitals}
+use Rattle.ocfl_audit.proofs.CaseTrees.{Case, AllAre, reports, sha256_object, f_is_abc, key, keys, inventory, listing, listing_with, lists_f, abc, abc_sha256_capitals, no_bytes, no_bytes_sha256_capitals}
 
 -- ---- keys
 
-digest_twice_in_the_manifest : Reports (sha256_object (listing (key abc_sha256 "[\"v1/content/f\"]" ∷ key abc_sha256_capitals "[\"v1/content/f\"]" ∷ [])) f_is_abc) "ok\t.\t-\nE096\to\tba7816bf8f01cfea414140de5dae2223b00361a396177a9cb410ff61f20015ad\nE101\to\tv1/content/f\nok\to/v1/content/f\t3\n"
+keys_that_stand_twice : AllAre (
+    reports "digest_twice_in_the_manifest" (sha256_object (listing (key abc.sha256 "[\"v1/content/f\"]" ∷ key abc_sha256_capitals "[\"v1/content/f\"]" ∷ [])) f_is_abc) "ok\t.\t-\nE096\to\tba7816bf8f01cfea414140de5dae2223b00361a396177a9cb410ff61f20015ad\nE101\to\tv1/content/f\nok\to/v1/content/f\t3\n" ∷
+    -- keys count, also where they list nothing
+    reports "digest_twice_with_empty_lists" (sha256_object (listing (key abc_sha256_capitals "[]" ∷ key abc.sha256 "[]" ∷ [])) []) "ok\t.\t-\nE096\to\tba7816bf8f01cfea414140de5dae2223b00361a396177a9cb410ff61f20015ad\n" ∷
+    reports "two_digests_twice_ascending" (sha256_object (listing (key no_bytes.sha256 "[]" ∷ key no_bytes_sha256_capitals "[]" ∷ key abc.sha256 "[]" ∷ key abc_sha256_capitals "[]" ∷ [])) []) "ok\t.\t-\nE096\to\tba7816bf8f01cfea414140de5dae2223b00361a396177a9cb410ff61f20015ad\nE096\to\te3b0c44298fc1c149afbf4c8996fb92427ae41e4649b934ca495991b7852b855\n" ∷
+    -- as written, `BA` stands before `aB`
+    reports "repeated_digests_ascend_folded" (sha256_object (listing (key "BA" "[]" ∷ key "ba" "[]" ∷ key "aB" "[]" ∷ key "ab" "[]" ∷ [])) []) "ok\t.\t-\nE096\to\tab\nE096\to\tba\n" ∷
+    -- one line for a digest, whatever its letters are
+    reports "any_key_three_times" (sha256_object (listing (key "xy" "[]" ∷ key "xY" "[]" ∷ key "XY" "[]" ∷ [])) []) "ok\t.\t-\nE096\to\txy\n" ∷
+    -- the last value is kept
+    reports "key_twice_letter_for_letter" (sha256_object (listing (key abc.sha256 "[\"v1/content/a\"]" ∷ key abc.sha256 "[\"v1/content/f\"]" ∷ [])) f_is_abc) "ok\t.\t-\nok\to\t-\nok\to/v1/content/f\t3\n" ∷
+    reports "digest_twice_in_fixity" (sha256_object (listing_with lists_f (keys (key "md5" "{\"900150983cd24fb0d6963f7d28e17f72\":[\"v1/content/f\"],\"900150983CD24FB0D6963F7D28E17F72\":[\"v1/content/f\"]}" ∷ []))) f_is_abc) "ok\t.\t-\nE097\to\tmd5 900150983cd24fb0d6963f7d28e17f72\nok\to/v1/content/f\t3\n" ∷
+    -- by the algorithms' names, then by the digests
+    reports "digests_twice_in_fixity_ascending" (sha256_object (listing_with lists_f (codes "{\"sha512/256\":{\"e\":[],\"E\":[]},\"sha512\":{\"d\":[],\"D\":[]},\"sha256\":{\"c\":[],\"C\":[]},\"sha1\":{\"b\":[],\"B\":[]},\"md5\":{\"z\":[],\"Z\":[],\"a\":[],\"A\":[]}}")) f_is_abc) "ok\t.\t-\nE097\to\tmd5 a\nE097\to\tmd5 z\nE097\to\tsha1 b\nE097\to\tsha256 c\nE097\to\tsha512 d\nE097\to\tsha512/256 e\nok\to/v1/content/f\t3\n" ∷
+    reports "manifest_keys_before_fixity_keys" (sha256_object (listing_with (key abc.sha256 "[]" ∷ key abc_sha256_capitals "[]" ∷ []) (codes "{\"md5\":{\"a\":[],\"A\":[]}}")) []) "ok\t.\t-\nE096\to\tba7816bf8f01cfea414140de5dae2223b00361a396177a9cb410ff61f20015ad\nE097\to\tmd5 a\n" ∷
+    -- a digest may stand once in each block
+    reports "same_digest_in_other_blocks" (sha256_object (listing_with lists_f (codes "{\"md5\":{\"x\":[]},\"sha1\":{\"X\":[]}}")) f_is_abc) "ok\t.\t-\nok\to\t-\nok\to/v1/content/f\t3\n" ∷
+    [])
 unfolding audit_on_literals
-digest_twice_in_the_manifest = refl
-
--- keys count, also where they list nothing
-digest_twice_with_empty_lists : Reports (sha256_object (listing (key abc_sha256_capitals "[]" ∷ key abc_sha256 "[]" ∷ [])) []) "ok\t.\t-\nE096\to\tba7816bf8f01cfea414140de5dae2223b00361a396177a9cb410ff61f20015ad\n"
-unfolding audit_on_literals
-digest_twice_with_empty_lists = refl
-
-two_digests_twice_ascending : Reports (sha256_object (listing (key empty_sha256 "[]" ∷ key empty_sha256_capitals "[]" ∷ key abc_sha256 "[]" ∷ key abc_sha256_capitals "[]" ∷ [])) []) "ok\t.\t-\nE096\to\tba7816bf8f01cfea414140de5dae2223b00361a396177a9cb410ff61f20015ad\nE096\to\te3b0c44298fc1c149afbf4c8996fb92427ae41e4649b934ca495991b7852b855\n"
-unfolding audit_on_literals
-two_digests_twice_ascending = refl
-
--- as written, `BA` stands before `aB`
-repeated_digests_ascend_folded : Reports (sha256_object (listing (key "BA" "[]" ∷ key "ba" "[]" ∷ key "aB" "[]" ∷ key "ab" "[]" ∷ [])) []) "ok\t.\t-\nE096\to\tab\nE096\to\tba\n"
-unfolding audit_on_literals
-repeated_digests_ascend_folded = refl
-
--- one line for a digest, whatever its letters are
-any_key_three_times : Reports (sha256_object (listing (key "xy" "[]" ∷ key "xY" "[]" ∷ key "XY" "[]" ∷ [])) []) "ok\t.\t-\nE096\to\txy\n"
-unfolding audit_on_literals
-any_key_three_times = refl
-
--- the last value is kept
-key_twice_letter_for_letter : Reports (sha256_object (listing (key abc_sha256 "[\"v1/content/a\"]" ∷ key abc_sha256 "[\"v1/content/f\"]" ∷ [])) f_is_abc) "ok\t.\t-\nok\to\t-\nok\to/v1/content/f\t3\n"
-unfolding audit_on_literals
-key_twice_letter_for_letter = refl
-
-digest_twice_in_fixity : Reports (sha256_object (listing_with lists_f (keys (key "md5" "{\"900150983cd24fb0d6963f7d28e17f72\":[\"v1/content/f\"],\"900150983CD24FB0D6963F7D28E17F72\":[\"v1/content/f\"]}" ∷ []))) f_is_abc) "ok\t.\t-\nE097\to\tmd5 900150983cd24fb0d6963f7d28e17f72\nok\to/v1/content/f\t3\n"
-unfolding audit_on_literals
-digest_twice_in_fixity = refl
-
--- by the algorithms' names, then by the digests
-digests_twice_in_fixity_ascending : Reports (sha256_object (listing_with lists_f (codes "{\"sha512/256\":{\"e\":[],\"E\":[]},\"sha512\":{\"d\":[],\"D\":[]},\"sha256\":{\"c\":[],\"C\":[]},\"sha1\":{\"b\":[],\"B\":[]},\"md5\":{\"z\":[],\"Z\":[],\"a\":[],\"A\":[]}}")) f_is_abc) "ok\t.\t-\nE097\to\tmd5 a\nE097\to\tmd5 z\nE097\to\tsha1 b\nE097\to\tsha256 c\nE097\to\tsha512 d\nE097\to\tsha512/256 e\nok\to/v1/content/f\t3\n"
-unfolding audit_on_literals
-digests_twice_in_fixity_ascending = refl
-
-manifest_keys_before_fixity_keys : Reports (sha256_object (listing_with (key abc_sha256 "[]" ∷ key abc_sha256_capitals "[]" ∷ []) (codes "{\"md5\":{\"a\":[],\"A\":[]}}")) []) "ok\t.\t-\nE096\to\tba7816bf8f01cfea414140de5dae2223b00361a396177a9cb410ff61f20015ad\nE097\to\tmd5 a\n"
-unfolding audit_on_literals
-manifest_keys_before_fixity_keys = refl
-
--- a digest may stand once in each block
-same_digest_in_other_blocks : Reports (sha256_object (listing_with lists_f (codes "{\"md5\":{\"x\":[]},\"sha1\":{\"X\":[]}}")) f_is_abc) "ok\t.\t-\nok\to\t-\nok\to/v1/content/f\t3\n"
-unfolding audit_on_literals
-same_digest_in_other_blocks = refl
+keys_that_stand_twice = refl
 
 -- ---- bad paths
 
--- ascending by their bytes
-bad_paths_of_each_kind : Reports (sha256_object (listing (key abc_sha256 "[\"x/content/a\",\"/a\",\"v1/content/f\",\"v1/content/../b\"]" ∷ [])) f_is_abc) "ok\t.\t-\nE100\to\t/a\nE099\to\tv1/content/../b\nS06\to\tx/content/a\nok\to/v1/content/f\t3\n"
+bad_paths : AllAre (
+    -- ascending by their bytes
+    reports "bad_paths_of_each_kind" (sha256_object (listing (key abc.sha256 "[\"x/content/a\",\"/a\",\"v1/content/f\",\"v1/content/../b\"]" ∷ [])) f_is_abc) "ok\t.\t-\nE100\to\t/a\nE099\to\tv1/content/../b\nS06\to\tx/content/a\nok\to/v1/content/f\t3\n" ∷
+    reports "bad_path_twice" (sha256_object (listing (key abc.sha256 "[\"/b\",\"/a\",\"/b\"]" ∷ key no_bytes.sha256 "[\"/b\"]" ∷ [])) []) "ok\t.\t-\nE100\to\t/a\nE100\to\t/b\n" ∷
+    -- once for the manifest, and once for the supported fixity algorithms together
+    reports "bad_path_in_manifest_and_fixity" (sha256_object (listing_with (key abc.sha256 "[\"v1/content/f\",\"/x\"]" ∷ []) (codes "{\"md5\":{\"900150983cd24fb0d6963f7d28e17f72\":[\"/x\"]},\"sha1\":{\"a9993e364706816aba3e25717850c26c9cd0d89d\":[\"/x\"]}}")) f_is_abc) "ok\t.\t-\nE100\to\t/x\nE100\to\t/x\nok\to/v1/content/f\t3\n" ∷
+    reports "manifest_paths_before_fixity_paths" (sha256_object (listing_with (key abc.sha256 "[\"/b\"]" ∷ []) (codes "{\"sha1\":{\"x\":[\"/a\"]},\"md5\":{\"y\":[\"/c\"]}}")) []) "ok\t.\t-\nE100\to\t/b\nE100\to\t/a\nE100\to\t/c\n" ∷
+    reports "empty_path" (sha256_object (listing (key abc.sha256 "[\"\"]" ∷ [])) []) "ok\t.\t-\nE099\to\t\n" ∷
+    [])
 unfolding audit_on_literals
-bad_paths_of_each_kind = refl
+bad_paths = refl
 
-bad_path_twice : Reports (sha256_object (listing (key abc_sha256 "[\"/b\",\"/a\",\"/b\"]" ∷ key empty_sha256 "[\"/b\"]" ∷ [])) []) "ok\t.\t-\nE100\to\t/a\nE100\to\t/b\n"
-unfolding audit_on_literals
-bad_path_twice = refl
+-- these paths have this fault, where the content directory is `content`
+abbrev HaveFault : Option Code → List String → Type 0
+HaveFault fault paths = map (λ p. path_fault (codes "content") (codes p)) paths ≡ replicate (length paths) fault
 
--- once for the manifest, and once for the supported fixity algorithms together
-bad_path_in_manifest_and_fixity : Reports (sha256_object (listing_with (key abc_sha256 "[\"v1/content/f\",\"/x\"]" ∷ []) (codes "{\"md5\":{\"900150983cd24fb0d6963f7d28e17f72\":[\"/x\"]},\"sha1\":{\"a9993e364706816aba3e25717850c26c9cd0d89d\":[\"/x\"]}}")) f_is_abc) "ok\t.\t-\nE100\to\t/x\nE100\to\t/x\nok\to/v1/content/f\t3\n"
-unfolding audit_on_literals
-bad_path_in_manifest_and_fixity = refl
+-- also before dots that lie between
+slashes_at_an_end : HaveFault (Some E100) ("v1/content/f/" ∷ "/" ∷ "/v1/../f" ∷ [])
+slashes_at_an_end = refl
 
-manifest_paths_before_fixity_paths : Reports (sha256_object (listing_with (key abc_sha256 "[\"/b\"]" ∷ []) (codes "{\"sha1\":{\"x\":[\"/a\"]},\"md5\":{\"y\":[\"/c\"]}}")) []) "ok\t.\t-\nE100\to\t/b\nE100\to\t/a\nE100\to\t/c\n"
-unfolding audit_on_literals
-manifest_paths_before_fixity_paths = refl
-
-empty_path : Reports (sha256_object (listing (key abc_sha256 "[\"\"]" ∷ [])) []) "ok\t.\t-\nE099\to\t\n"
-unfolding audit_on_literals
-empty_path = refl
-
--- the faults of path texts, where the content directory is `content`
-abbrev HasFault : String → Option Code → Type 0
-HasFault t fault = path_fault (codes "content") (codes t) ≡ fault
-
-path_that_ends_with_slash : HasFault "v1/content/f/" (Some E100)
-path_that_ends_with_slash = refl
-
-slash_alone : HasFault "/" (Some E100)
-slash_alone = refl
-
--- an end before what lies between
-slash_at_an_end_before_dots : HasFault "/v1/../f" (Some E100)
-slash_at_an_end_before_dots = refl
-
-empty_element : HasFault "v1/content//f" (Some E099)
+empty_element : HaveFault (Some E099) ("v1/content//f" ∷ [])
 empty_element = refl
 
-dot_in_front : HasFault "./v1/content/f" (Some E099)
-dot_in_front = refl
+-- also before all that makes no content path
+dots_as_elements : HaveFault (Some E099) ("./v1/content/f" ∷ "v1/content/." ∷ "x/../f" ∷ [])
+dots_as_elements = refl
 
-dot_at_the_end : HasFault "v1/content/." (Some E099)
-dot_at_the_end = refl
+too_few_elements : HaveFault (Some S06) ("v1/content" ∷ "v1" ∷ [])
+too_few_elements = refl
 
--- dots before all that makes no content path
-dots_before_an_odd_version : HasFault "x/../f" (Some E099)
-dots_before_an_odd_version = refl
+names_of_no_version : HaveFault (Some S06) ("v/content/f" ∷ "v1a/content/f" ∷ "V1/content/f" ∷ "1/content/f" ∷ [])
+names_of_no_version = refl
 
-two_elements : HasFault "v1/content" (Some S06)
-two_elements = refl
-
-one_element : HasFault "v1" (Some S06)
-one_element = refl
-
-version_without_digits : HasFault "v/content/f" (Some S06)
-version_without_digits = refl
-
-version_with_a_letter : HasFault "v1a/content/f" (Some S06)
-version_with_a_letter = refl
-
-version_with_a_capital : HasFault "V1/content/f" (Some S06)
-version_with_a_capital = refl
-
-version_without_v : HasFault "1/content/f" (Some S06)
-version_without_v = refl
-
-other_content_directory : HasFault "v1/data/f" (Some S06)
+other_content_directory : HaveFault (Some S06) ("v1/data/f" ∷ [])
 other_content_directory = refl
 
-padded_version : HasFault "v0001/content/f" None
-padded_version = refl
-
--- dots are forbidden as whole elements alone
-dots_within_an_element : HasFault "v1/content/a..b/.c/..." None
-dots_within_an_element = refl
+-- a padded version, and dots that are no whole elements
+paths_without_fault : HaveFault None ("v0001/content/f" ∷ "v1/content/a..b/.c/..." ∷ [])
+paths_without_fault = refl
 
 -- `v1/content`, and n elements more
 abbrev long_path : List Text → Text
@@ -164,25 +102,21 @@ element_with_nul = refl
 abbrev lists_one : Text → Tree
 lists_one path = sha256_object (inventory "sha256" (codes "{\"x\":[\"" ++ path ++ codes "\"]}") (codes "{}")) []
 
-longest_path_is_kept : text (audit (lists_one (long_path (replicate 126 (codes "a")))) []) ≡ codes "ok\t.\t-\nok\to\t-\nE092\to/" ++ long_path (replicate 126 (codes "a")) ++ codes "\tsha256 missing\n"
-unfolding audit_on_literals
-longest_path_is_kept = refl
+abbrev keeps : String → Text → Case
+keeps name path = record { name = name; shown = text (audit (lists_one path) []); wanted = codes "ok\t.\t-\nok\to\t-\nE092\to/" ++ path ++ codes "\tsha256 missing\n" }
 
-longer_path_is_told : text (audit (lists_one (long_path (replicate 127 (codes "a")))) []) ≡ codes "ok\t.\t-\nS06\to\t" ++ long_path (replicate 127 (codes "a")) ++ codes "\n"
-unfolding audit_on_literals
-longer_path_is_told = refl
+abbrev drops : String → Text → Case
+drops name path = record { name = name; shown = text (audit (lists_one path) []); wanted = codes "ok\t.\t-\nS06\to\t" ++ path ++ codes "\n" }
 
-longest_element_is_kept : text (audit (lists_one (long_path (replicate 255 97 ∷ []))) []) ≡ codes "ok\t.\t-\nok\to\t-\nE092\to/" ++ long_path (replicate 255 97 ∷ []) ++ codes "\tsha256 missing\n"
+long_paths : AllAre (
+    keeps "longest_path_is_kept" (long_path (replicate 126 (codes "a"))) ∷
+    drops "longer_path_is_told" (long_path (replicate 127 (codes "a"))) ∷
+    keeps "longest_element_is_kept" (long_path (replicate 255 97 ∷ [])) ∷
+    drops "longer_element_is_told" (long_path (replicate 256 97 ∷ [])) ∷
+    reports "nul_is_told_escaped" (lists_one (codes "v1/content/a\\u0000")) "ok\t.\t-\nS06\to\tv1/content/a%00\n" ∷
+    [])
 unfolding audit_on_literals
-longest_element_is_kept = refl
-
-longer_element_is_told : text (audit (lists_one (long_path (replicate 256 97 ∷ []))) []) ≡ codes "ok\t.\t-\nS06\to\t" ++ long_path (replicate 256 97 ∷ []) ++ codes "\n"
-unfolding audit_on_literals
-longer_element_is_told = refl
-
-nul_is_told_escaped : Reports (lists_one (codes "v1/content/a\\u0000")) "ok\t.\t-\nS06\to\tv1/content/a%00\n"
-unfolding audit_on_literals
-nul_is_told_escaped = refl
+long_paths = refl
 
 -- ---- a content directory of another name
 
@@ -195,50 +129,28 @@ content_directory_longer_than_a_name : text (audit (sha256_object (with_content 
 unfolding audit_on_literals
 content_directory_longer_than_a_name = refl
 
-content_directory_with_nul : Reports (sha256_object (with_content (codes "a\\u0000") (codes "v1/a\\u0000/f")) []) "ok\t.\t-\nS06\to\tv1/a%00/f\n"
+content_directory_with_nul : AllAre (reports "content_directory_with_nul" (sha256_object (with_content (codes "a\\u0000") (codes "v1/a\\u0000/f")) []) "ok\t.\t-\nS06\to\tv1/a%00/f\n" ∷ [])
 unfolding audit_on_literals
 content_directory_with_nul = refl
 
 -- ---- paths that are repeated or in each other's way
 
-path_below_a_path : Reports (sha256_object (listing (key abc_sha256 "[\"v1/content/f\",\"v1/content/f/g\"]" ∷ [])) f_is_abc) "ok\t.\t-\nE101\to\tv1/content/f\nok\to/v1/content/f\t3\nE092\to/v1/content/f/g\tsha256 missing\n"
+paths_in_conflict : AllAre (
+    reports "path_below_a_path" (sha256_object (listing (key abc.sha256 "[\"v1/content/f\",\"v1/content/f/g\"]" ∷ [])) f_is_abc) "ok\t.\t-\nE101\to\tv1/content/f\nok\to/v1/content/f\t3\nE092\to/v1/content/f/g\tsha256 missing\n" ∷
+    reports "path_twice_in_one_list" (sha256_object (listing (key abc.sha256 "[\"v1/content/f\",\"v1/content/f\"]" ∷ [])) f_is_abc) "ok\t.\t-\nE101\to\tv1/content/f\nok\to/v1/content/f\t3\n" ∷
+    -- by elements: `a` is no beginning of `a-b` or of `ab`
+    reports "letters_are_no_beginning" (sha256_object (listing (key abc.sha256 "[\"v1/content/a-b\",\"v1/content/a\",\"v1/content/ab\"]" ∷ [])) []) "ok\t.\t-\nok\to\t-\nE092\to/v1/content/a\tsha256 missing\nE092\to/v1/content/a-b\tsha256 missing\nE092\to/v1/content/ab\tsha256 missing\n" ∷
+    -- although `a-b` stands between the two as texts
+    reports "path_between_as_text" (sha256_object (listing (key abc.sha256 "[\"v1/content/a-b\",\"v1/content/a\",\"v1/content/a/b\"]" ∷ [])) []) "ok\t.\t-\nE101\to\tv1/content/a\nE092\to/v1/content/a\tsha256 missing\nE092\to/v1/content/a/b\tsha256 missing\nE092\to/v1/content/a-b\tsha256 missing\n" ∷
+    -- ascending as places
+    reports "repeated_paths_ascending" (sha256_object (listing (key abc.sha256 "[\"v1/content/a-b\",\"v1/content/a/b\"]" ∷ key no_bytes.sha256 "[\"v1/content/a-b\",\"v1/content/a/b\"]" ∷ [])) []) "ok\t.\t-\nE101\to\tv1/content/a/b\nE101\to\tv1/content/a-b\nE092\to/v1/content/a/b\tsha256 missing\nE092\to/v1/content/a-b\tsha256 missing\n" ∷
+    reports "each_proper_beginning" (sha256_object (listing (key abc.sha256 "[\"v1/content/a/b/c\",\"v1/content/a/b\",\"v1/content/a\"]" ∷ [])) []) "ok\t.\t-\nE101\to\tv1/content/a\nE101\to\tv1/content/a/b\nE092\to/v1/content/a\tsha256 missing\nE092\to/v1/content/a/b\tsha256 missing\nE092\to/v1/content/a/b/c\tsha256 missing\n" ∷
+    -- dropped paths are in nobody's way
+    reports "bad_path_is_no_conflict" (sha256_object (listing (key abc.sha256 "[\"v1/content/f\",\"v1/content/f/\",\"v1/content/f//g\"]" ∷ [])) f_is_abc) "ok\t.\t-\nE100\to\tv1/content/f/\nE099\to\tv1/content/f//g\nok\to/v1/content/f\t3\n" ∷
+    -- a fixity block may repeat paths
+    reports "fixity_repeats_paths" (sha256_object (listing_with lists_f (codes "{\"md5\":{\"900150983cd24fb0d6963f7d28e17f72\":[\"v1/content/f\",\"v1/content/f\"]}}")) f_is_abc) "ok\t.\t-\nok\to\t-\nok\to/v1/content/f\t3\n" ∷
+    -- the lines of keys, of paths, of conflicts, and the note
+    reports "lines_of_a_head_in_order" (sha256_object (listing_with (key abc.sha256 "[\"v1/content/f\",\"/x\"]" ∷ key abc_sha256_capitals "[\"v1/content/f\"]" ∷ []) (codes "{\"blake2b-512\":7,\"md5\":{\"a\":[\"/w\"],\"A\":[]}}")) f_is_abc) "ok\t.\t-\nE096\to\tba7816bf8f01cfea414140de5dae2223b00361a396177a9cb410ff61f20015ad\nE097\to\tmd5 a\nE100\to\t/x\nE100\to\t/w\nE101\to\tv1/content/f\nS07\to\tblake2b-512\nok\to/v1/content/f\t3\n" ∷
+    [])
 unfolding audit_on_literals
-path_below_a_path = refl
-
-path_twice_in_one_list : Reports (sha256_object (listing (key abc_sha256 "[\"v1/content/f\",\"v1/content/f\"]" ∷ [])) f_is_abc) "ok\t.\t-\nE101\to\tv1/content/f\nok\to/v1/content/f\t3\n"
-unfolding audit_on_literals
-path_twice_in_one_list = refl
-
--- by elements: `a` is no beginning of `a-b` or of `ab`
-letters_are_no_beginning : Reports (sha256_object (listing (key abc_sha256 "[\"v1/content/a-b\",\"v1/content/a\",\"v1/content/ab\"]" ∷ [])) []) "ok\t.\t-\nok\to\t-\nE092\to/v1/content/a\tsha256 missing\nE092\to/v1/content/a-b\tsha256 missing\nE092\to/v1/content/ab\tsha256 missing\n"
-unfolding audit_on_literals
-letters_are_no_beginning = refl
-
--- although `a-b` stands between the two as texts
-path_between_as_text : Reports (sha256_object (listing (key abc_sha256 "[\"v1/content/a-b\",\"v1/content/a\",\"v1/content/a/b\"]" ∷ [])) []) "ok\t.\t-\nE101\to\tv1/content/a\nE092\to/v1/content/a\tsha256 missing\nE092\to/v1/content/a/b\tsha256 missing\nE092\to/v1/content/a-b\tsha256 missing\n"
-unfolding audit_on_literals
-path_between_as_text = refl
-
--- ascending as places
-repeated_paths_ascending : Reports (sha256_object (listing (key abc_sha256 "[\"v1/content/a-b\",\"v1/content/a/b\"]" ∷ key empty_sha256 "[\"v1/content/a-b\",\"v1/content/a/b\"]" ∷ [])) []) "ok\t.\t-\nE101\to\tv1/content/a/b\nE101\to\tv1/content/a-b\nE092\to/v1/content/a/b\tsha256 missing\nE092\to/v1/content/a-b\tsha256 missing\n"
-unfolding audit_on_literals
-repeated_paths_ascending = refl
-
-each_proper_beginning : Reports (sha256_object (listing (key abc_sha256 "[\"v1/content/a/b/c\",\"v1/content/a/b\",\"v1/content/a\"]" ∷ [])) []) "ok\t.\t-\nE101\to\tv1/content/a\nE101\to\tv1/content/a/b\nE092\to/v1/content/a\tsha256 missing\nE092\to/v1/content/a/b\tsha256 missing\nE092\to/v1/content/a/b/c\tsha256 missing\n"
-unfolding audit_on_literals
-each_proper_beginning = refl
-
--- dropped paths are in nobody's way
-bad_path_is_no_conflict : Reports (sha256_object (listing (key abc_sha256 "[\"v1/content/f\",\"v1/content/f/\",\"v1/content/f//g\"]" ∷ [])) f_is_abc) "ok\t.\t-\nE100\to\tv1/content/f/\nE099\to\tv1/content/f//g\nok\to/v1/content/f\t3\n"
-unfolding audit_on_literals
-bad_path_is_no_conflict = refl
-
--- a fixity block may repeat paths
-fixity_repeats_paths : Reports (sha256_object (listing_with lists_f (codes "{\"md5\":{\"900150983cd24fb0d6963f7d28e17f72\":[\"v1/content/f\",\"v1/content/f\"]}}")) f_is_abc) "ok\t.\t-\nok\to\t-\nok\to/v1/content/f\t3\n"
-unfolding audit_on_literals
-fixity_repeats_paths = refl
-
--- the lines of keys, of paths, of conflicts, and the note
-lines_of_a_head_in_order : Reports (sha256_object (listing_with (key abc_sha256 "[\"v1/content/f\",\"/x\"]" ∷ key abc_sha256_capitals "[\"v1/content/f\"]" ∷ []) (codes "{\"blake2b-512\":7,\"md5\":{\"a\":[\"/w\"],\"A\":[]}}")) f_is_abc) "ok\t.\t-\nE096\to\tba7816bf8f01cfea414140de5dae2223b00361a396177a9cb410ff61f20015ad\nE097\to\tmd5 a\nE100\to\t/x\nE100\to\t/w\nE101\to\tv1/content/f\nS07\to\tblake2b-512\nok\to/v1/content/f\t3\n"
-unfolding audit_on_literals
-lines_of_a_head_in_order = refl
+paths_in_conflict = refl

@@ -15,117 +15,63 @@ use Rattle.ocfl_audit.specs.Zone.{hierarchy, is_entered, is_listed_zone, zone, o
 use Rattle.ocfl_audit.specs.Lines.{notes, hierarchy_notes, object_entry_notes, version_entry_notes, content_notes}
 use Rattle.ocfl_audit.specs.Audit.{audit}
 use Rattle.ocfl_audit.proofs.OnLiterals.{audit_on_literals}
-use Rattle.ocfl_audit.proofs.CaseTrees.{Reports, place, text_at, bytes_at, folder, link, storage_root}
+use Rattle.ocfl_audit.proofs.CaseTrees.{AllAre, reports, place, text_at, bytes_at, folder, link, storage_root}
 
 -- ---- the declaration of the storage root
-
-declared_root : Reports (storage_root []) "ok\t.\t-\n"
-unfolding audit_on_literals
-declared_root = refl
 
 declared_root_is_no_finding : found (audit (storage_root []) []) ≡ false
 unfolding audit_on_literals
 declared_root_is_no_finding = refl
 
-root_of_the_older_version : Reports (text_at "0=ocfl_1.0" "ocfl_1.0\n" ∷ []) "ok\t.\t-\n"
-unfolding audit_on_literals
-root_of_the_older_version = refl
-
-empty_root : Reports [] "E069\t.\t-\n"
-unfolding audit_on_literals
-empty_root = refl
-
 empty_root_is_finding : found (audit [] []) ≡ true
 unfolding audit_on_literals
 empty_root_is_finding = refl
 
--- the root is then the only item
-undeclared_root_stops : Reports (folder "x" ∷ folder "y" ∷ text_at "y/readme" "" ∷ link "z" ∷ []) "E069\t.\t-\n"
+root_declarations : AllAre (
+    reports "declared_root" (storage_root []) "ok\t.\t-\n" ∷
+    reports "root_of_the_older_version" (text_at "0=ocfl_1.0" "ocfl_1.0\n" ∷ []) "ok\t.\t-\n" ∷
+    reports "empty_root" [] "E069\t.\t-\n" ∷
+    -- the root is then the only item
+    reports "undeclared_root_stops" (folder "x" ∷ folder "y" ∷ text_at "y/readme" "" ∷ link "z" ∷ []) "E069\t.\t-\n" ∷
+    -- the audit goes on
+    reports "root_declaration_without_line_feed" (text_at "0=ocfl_1.1" "ocfl_1.1" ∷ folder "x" ∷ []) "E080\t.\t-\nE073\tx\t-\n" ∷
+    reports "root_declaration_of_another_version" (text_at "0=ocfl_1.0" "ocfl_1.1\n" ∷ []) "E080\t.\t-\n" ∷
+    -- its right bytes, and 4,088 more
+    reports "long_root_declaration" (bytes_at "0=ocfl_1.1" (codes "ocfl_1.1\n" ++ replicate 4088 10) ∷ []) "E080\t.\t-\n" ∷
+    reports "two_root_declarations" (text_at "0=ocfl_1.0" "ocfl_1.0\n" ∷ storage_root (folder "x" ∷ [])) "E076\t.\t-\n" ∷
+    reports "known_and_unknown_declaration" (text_at "0=ocfl_2.0" "ocfl_2.0\n" ∷ storage_root []) "E076\t.\t-\n" ∷
+    reports "unknown_root_version" (text_at "0=ocfl_2.0" "ocfl_2.0\n" ∷ folder "x" ∷ text_at "y/readme" "" ∷ []) "S01\t.\t2.0\n" ∷
+    reports "longer_root_version" (text_at "0=ocfl_1.1.1" "ocfl_1.1\n" ∷ []) "S01\t.\t1.1.1\n" ∷
+    -- a name counts where a digit follows
+    reports "declaration_without_digit" (text_at "0=ocfl_layout" "" ∷ text_at "0=ocfl_" "" ∷ []) "E069\t.\t-\n" ∷
+    -- only files count
+    reports "directory_and_link_declare_nothing" (folder "0=ocfl_1.0" ∷ link "0=ocfl_1.1" ∷ []) "E069\t.\t-\n" ∷
+    -- files that are not understood; the storage root is no object
+    reports "object_declarations_in_the_base" (storage_root (text_at "0=ocfl_object_1.0" "" ∷ text_at "0=ocfl_object_1.1" "ocfl_object_1.1\n" ∷ [])) "ok\t.\t-\n" ∷
+    [])
 unfolding audit_on_literals
-undeclared_root_stops = refl
-
--- the audit goes on
-root_declaration_without_line_feed : Reports (text_at "0=ocfl_1.1" "ocfl_1.1" ∷ folder "x" ∷ []) "E080\t.\t-\nE073\tx\t-\n"
-unfolding audit_on_literals
-root_declaration_without_line_feed = refl
-
-root_declaration_of_another_version : Reports (text_at "0=ocfl_1.0" "ocfl_1.1\n" ∷ []) "E080\t.\t-\n"
-unfolding audit_on_literals
-root_declaration_of_another_version = refl
-
--- its right bytes, and 4,088 more
-long_root_declaration : Reports (bytes_at "0=ocfl_1.1" (codes "ocfl_1.1\n" ++ replicate 4088 10) ∷ []) "E080\t.\t-\n"
-unfolding audit_on_literals
-long_root_declaration = refl
-
-two_root_declarations : Reports (text_at "0=ocfl_1.0" "ocfl_1.0\n" ∷ storage_root (folder "x" ∷ [])) "E076\t.\t-\n"
-unfolding audit_on_literals
-two_root_declarations = refl
-
-known_and_unknown_declaration : Reports (text_at "0=ocfl_2.0" "ocfl_2.0\n" ∷ storage_root []) "E076\t.\t-\n"
-unfolding audit_on_literals
-known_and_unknown_declaration = refl
-
-unknown_root_version : Reports (text_at "0=ocfl_2.0" "ocfl_2.0\n" ∷ folder "x" ∷ text_at "y/readme" "" ∷ []) "S01\t.\t2.0\n"
-unfolding audit_on_literals
-unknown_root_version = refl
-
-longer_root_version : Reports (text_at "0=ocfl_1.1.1" "ocfl_1.1\n" ∷ []) "S01\t.\t1.1.1\n"
-unfolding audit_on_literals
-longer_root_version = refl
-
--- a name counts where a digit follows
-declaration_without_digit : Reports (text_at "0=ocfl_layout" "" ∷ text_at "0=ocfl_" "" ∷ []) "E069\t.\t-\n"
-unfolding audit_on_literals
-declaration_without_digit = refl
-
--- only files count
-directory_and_link_declare_nothing : Reports (folder "0=ocfl_1.0" ∷ link "0=ocfl_1.1" ∷ []) "E069\t.\t-\n"
-unfolding audit_on_literals
-directory_and_link_declare_nothing = refl
-
--- files that are not understood; the storage root is no object
-object_declarations_in_the_base : Reports (storage_root (text_at "0=ocfl_object_1.0" "" ∷ text_at "0=ocfl_object_1.1" "ocfl_object_1.1\n" ∷ [])) "ok\t.\t-\n"
-unfolding audit_on_literals
-object_declarations_in_the_base = refl
+root_declarations = refl
 
 -- ---- the base and the hierarchy
 
-base_and_hierarchy : Reports (storage_root (link "z" ∷ folder "y" ∷ text_at "y/readme" "" ∷ folder "x" ∷ folder "extensions" ∷ folder "extensions/k" ∷ text_at "notes" "n" ∷ [])) "ok\t.\t-\nE073\tx\t-\nE072\ty/readme\t-\nS04\tz\t-\n"
+base_and_hierarchies : AllAre (
+    reports "base_and_hierarchy" (storage_root (link "z" ∷ folder "y" ∷ text_at "y/readme" "" ∷ folder "x" ∷ folder "extensions" ∷ folder "extensions/k" ∷ text_at "notes" "n" ∷ [])) "ok\t.\t-\nE073\tx\t-\nE072\ty/readme\t-\nS04\tz\t-\n" ∷
+    reports "extensions_as_file" (storage_root (text_at "extensions" "" ∷ [])) "ok\t.\t-\n" ∷
+    reports "extensions_as_link" (storage_root (link "extensions" ∷ [])) "ok\t.\t-\nS04\textensions\t-\n" ∷
+    -- nothing in them is looked at
+    reports "inside_extensions" (storage_root (folder "extensions" ∷ text_at "extensions/f" "" ∷ link "extensions/l" ∷ folder "extensions/o" ∷ text_at "extensions/o/0=ocfl_object_1.1" "" ∷ [])) "ok\t.\t-\n" ∷
+    -- only those of the base are kept apart
+    reports "extensions_below_the_base" (storage_root (folder "y" ∷ folder "y/extensions" ∷ [])) "ok\t.\t-\nE073\ty/extensions\t-\n" ∷
+    reports "nested_directories" (storage_root (folder "a" ∷ folder "a/b" ∷ folder "a/b/c" ∷ text_at "a/b/f" "" ∷ link "a/l" ∷ [])) "ok\t.\t-\nE073\ta/b/c\t-\nE072\ta/b/f\t-\nS04\ta/l\t-\n" ∷
+    -- a place below no directory, or below a file, is not there
+    reports "place_without_directory" (storage_root (folder "a/b" ∷ text_at "a/b/0=ocfl_object_1.1" "ocfl_object_1.1\n" ∷ text_at "f" "" ∷ text_at "f/g" "" ∷ [])) "ok\t.\t-\n" ∷
+    -- a directory is no object by a directory of that name
+    reports "directory_named_as_object_declaration" (storage_root (folder "x" ∷ folder "x/0=ocfl_object_1.1" ∷ [])) "ok\t.\t-\nE073\tx/0=ocfl_object_1.1\t-\n" ∷
+    -- as places, not as texts
+    reports "order_of_items" (storage_root (folder "a-b" ∷ folder "b" ∷ folder "a" ∷ folder "a/c" ∷ folder "a/b" ∷ [])) "ok\t.\t-\nE073\ta/b\t-\nE073\ta/c\t-\nE073\ta-b\t-\nE073\tb\t-\n" ∷
+    [])
 unfolding audit_on_literals
-base_and_hierarchy = refl
-
-extensions_as_file : Reports (storage_root (text_at "extensions" "" ∷ [])) "ok\t.\t-\n"
-unfolding audit_on_literals
-extensions_as_file = refl
-
-extensions_as_link : Reports (storage_root (link "extensions" ∷ [])) "ok\t.\t-\nS04\textensions\t-\n"
-unfolding audit_on_literals
-extensions_as_link = refl
-
--- nothing in them is looked at
-inside_extensions : Reports (storage_root (folder "extensions" ∷ text_at "extensions/f" "" ∷ link "extensions/l" ∷ folder "extensions/o" ∷ text_at "extensions/o/0=ocfl_object_1.1" "" ∷ [])) "ok\t.\t-\n"
-unfolding audit_on_literals
-inside_extensions = refl
-
--- only those of the base are kept apart
-extensions_below_the_base : Reports (storage_root (folder "y" ∷ folder "y/extensions" ∷ [])) "ok\t.\t-\nE073\ty/extensions\t-\n"
-unfolding audit_on_literals
-extensions_below_the_base = refl
-
-nested_directories : Reports (storage_root (folder "a" ∷ folder "a/b" ∷ folder "a/b/c" ∷ text_at "a/b/f" "" ∷ link "a/l" ∷ [])) "ok\t.\t-\nE073\ta/b/c\t-\nE072\ta/b/f\t-\nS04\ta/l\t-\n"
-unfolding audit_on_literals
-nested_directories = refl
-
--- a place below no directory, or below a file, is not there
-place_without_directory : Reports (storage_root (folder "a/b" ∷ text_at "a/b/0=ocfl_object_1.1" "ocfl_object_1.1\n" ∷ text_at "f" "" ∷ text_at "f/g" "" ∷ [])) "ok\t.\t-\n"
-unfolding audit_on_literals
-place_without_directory = refl
-
--- a directory is no object by a directory of that name
-directory_named_as_object_declaration : Reports (storage_root (folder "x" ∷ folder "x/0=ocfl_object_1.1" ∷ [])) "ok\t.\t-\nE073\tx/0=ocfl_object_1.1\t-\n"
-unfolding audit_on_literals
-directory_named_as_object_declaration = refl
+base_and_hierarchies = refl
 
 -- ---- the order of places
 
@@ -147,10 +93,6 @@ ascii_before_others = refl
 
 ten_before_two : text_cmp (codes "v10") (codes "v2") ≡ Less
 ten_before_two = refl
-
-order_of_items : Reports (storage_root (folder "a-b" ∷ folder "b" ∷ folder "a" ∷ folder "a/c" ∷ folder "a/b" ∷ [])) "ok\t.\t-\nE073\ta/b\t-\nE073\ta/c\t-\nE073\ta-b\t-\nE073\tb\t-\n"
-unfolding audit_on_literals
-order_of_items = refl
 
 -- ---- the text of a place
 

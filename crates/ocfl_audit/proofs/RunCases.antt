@@ -9,7 +9,7 @@ use Rattle.ocfl_audit.specs.Audit.{audit, after, total_cost}
 use Rattle.ocfl_audit.specs.Trail.{inventories}
 use Rattle.ocfl_audit.specs.Runs.{Limits, cut, left, runs, joined, total_files, of_budget}
 use Rattle.ocfl_audit.proofs.OnLiterals.{audit_on_literals}
-use Rattle.ocfl_audit.proofs.CaseTrees.{place, text_at, folder, storage_root, sha256_object, f_is_abc, key, listing, lists_f, three_files, three_objects, missing_and_right, sha512_file, abc_sha256}
+use Rattle.ocfl_audit.proofs.CaseTrees.{Case, AllAre, Behind, behind, behind_each, place, text_at, folder, storage_root, sha256_object, f_is_abc, key, listing, lists_f, three_files, three_objects, missing_and_right, sha512_file, abc}
 
 -- the texts of the runs that these budgets make
 abbrev texts : Tree → List ℕ → List Text
@@ -60,28 +60,22 @@ unfolding audit_on_literals
 budget_of_six = refl
 
 -- the runs, joined
-abbrev Joins : List ℕ → String → Type 0
-Joins budgets t = text (joined (runs (audit three_files []) (map of_budget budgets))) ≡ codes t
+abbrev joins : String → List ℕ → String → Case
+joins name budgets t = record { name = name; shown = text (joined (runs (audit three_files []) (map of_budget budgets))); wanted = codes t }
 
-joined_reports_of_five : Joins (replicate 4 5) "ok\t.\t-\nok\to\t-\nok\to/v1/content/a\t3\nok\to/v1/content/b\t0\nok\to/v1/content/c\t3\n"
+joined_reports : AllAre (
+    joins "joined_reports_of_five" (replicate 4 5) "ok\t.\t-\nok\to\t-\nok\to/v1/content/a\t3\nok\to/v1/content/b\t0\nok\to/v1/content/c\t3\n" ∷
+    joins "joined_reports_of_four" (replicate 4 4) "ok\t.\t-\nok\to\t-\nok\to/v1/content/a\t3\nok\to/v1/content/b\t0\nok\to/v1/content/c\t3\n" ∷
+    joins "joined_reports_of_one" (replicate 4 1) "ok\t.\t-\nok\to\t-\nok\to/v1/content/a\t3\nok\to/v1/content/b\t0\nok\to/v1/content/c\t3\n" ∷
+    joins "joined_reports_of_nine" (replicate 4 9) "ok\t.\t-\nok\to\t-\nok\to/v1/content/a\t3\nok\to/v1/content/b\t0\nok\to/v1/content/c\t3\n" ∷
+    joins "budgets_that_run_out" (1 ∷ 1 ∷ []) "ok\t.\t-\nok\to\t-\nok\to/v1/content/a\t3\nok\to/v1/content/b\t0\n" ∷
+    [])
 unfolding audit_on_literals
-joined_reports_of_five = refl
+joined_reports = refl
 
-joined_reports_of_four : Joins (replicate 4 4) "ok\t.\t-\nok\to\t-\nok\to/v1/content/a\t3\nok\to/v1/content/b\t0\nok\to/v1/content/c\t3\n"
+costs_of_budgets_that_run_out : costs three_files (1 ∷ 1 ∷ []) ≡ 4 ∷ 1 ∷ []
 unfolding audit_on_literals
-joined_reports_of_four = refl
-
-joined_reports_of_one : Joins (replicate 4 1) "ok\t.\t-\nok\to\t-\nok\to/v1/content/a\t3\nok\to/v1/content/b\t0\nok\to/v1/content/c\t3\n"
-unfolding audit_on_literals
-joined_reports_of_one = refl
-
-joined_reports_of_nine : Joins (replicate 4 9) "ok\t.\t-\nok\to\t-\nok\to/v1/content/a\t3\nok\to/v1/content/b\t0\nok\to/v1/content/c\t3\n"
-unfolding audit_on_literals
-joined_reports_of_nine = refl
-
-budgets_that_run_out : (costs three_files (1 ∷ 1 ∷ []) ≡ 4 ∷ 1 ∷ []) × Joins (1 ∷ 1 ∷ []) "ok\t.\t-\nok\to\t-\nok\to/v1/content/a\t3\nok\to/v1/content/b\t0\n"
-unfolding audit_on_literals
-budgets_that_run_out = (refl, refl)
+costs_of_budgets_that_run_out = refl
 
 budgets_of_several_sizes : costs three_files (4 ∷ 1 ∷ 4 ∷ []) ≡ 4 ∷ 1 ∷ 4 ∷ []
 unfolding audit_on_literals
@@ -132,45 +126,25 @@ places_of_the_first_run = (refl, refl)
 -- ---- behind a place
 
 -- what is left behind a place, by a budget of nine
-abbrev Resumes : Tree → String → String → Type 0
-Resumes root p t = text (cut (after (audit root []) (Some (place p))) (of_budget 9)) ≡ codes t
+abbrev resumes : Tree → Behind → Case
+resumes root b = record { name = b.name; shown = text (cut (after (audit root []) (Some (place b.place))) (of_budget 9)); wanted = codes b.lines }
 
-behind_a_head : Resumes three_files "o" "ok\to/v1/content/a\t3\nok\to/v1/content/b\t0\nok\to/v1/content/c\t3\n"
+behind_places_of_three_files : AllAre (
+    resumes three_files (behind "behind_a_head" "o" "ok\to/v1/content/a\t3\nok\to/v1/content/b\t0\nok\to/v1/content/c\t3\n") ∷
+    resumes three_files (behind "behind_a_place_that_is_not_there" "o/v1/content/aa" "ok\to/v1/content/b\t0\nok\to/v1/content/c\t3\n") ∷
+    resumes three_files (behind "behind_the_last_place" "o/v1/content/c" "") ∷
+    [])
 unfolding audit_on_literals
-behind_a_head = refl
+behind_places_of_three_files = refl
 
-behind_a_place_that_is_not_there : Resumes three_files "o/v1/content/aa" "ok\to/v1/content/b\t0\nok\to/v1/content/c\t3\n"
+behind_places_around_a_missing_file : AllAre (map (resumes missing_and_right) behind_each)
 unfolding audit_on_literals
-behind_a_place_that_is_not_there = refl
-
-behind_the_last_place : Resumes three_files "o/v1/content/c" ""
-unfolding audit_on_literals
-behind_the_last_place = refl
+behind_places_around_a_missing_file = refl
 
 -- all of it, as for a new cycle
 behind_no_place : cut (after (audit three_files []) None) (of_budget 9) ≡ audit three_files []
 unfolding audit_on_literals
 behind_no_place = refl
-
-behind_an_earlier_sibling : Resumes missing_and_right "n" "ok\to\t-\nE092\to/v1/content/a\tsha256 missing\nE093\to/v1/content/a\tsha1 missing\nok\to/v1/content/b\t3\n"
-unfolding audit_on_literals
-behind_an_earlier_sibling = refl
-
-behind_a_version : (Resumes missing_and_right "o/v0" "E092\to/v1/content/a\tsha256 missing\nE093\to/v1/content/a\tsha1 missing\nok\to/v1/content/b\t3\n") × (Resumes missing_and_right "o/v1" "E092\to/v1/content/a\tsha256 missing\nE093\to/v1/content/a\tsha1 missing\nok\to/v1/content/b\t3\n")
-unfolding audit_on_literals
-behind_a_version = (refl, refl)
-
-behind_a_missing_file : Resumes missing_and_right "o/v1/content/a" "ok\to/v1/content/b\t3\n"
-unfolding audit_on_literals
-behind_a_missing_file = refl
-
-behind_a_place_below_a_file : Resumes missing_and_right "o/v1/content/b/x" ""
-unfolding audit_on_literals
-behind_a_place_below_a_file = refl
-
-behind_later_places : (Resumes missing_and_right "o-x" "") × (Resumes missing_and_right "p/q" "")
-unfolding audit_on_literals
-behind_later_places = (refl, refl)
 
 -- ---- what costs nothing is taken although the budget is spent
 
@@ -187,14 +161,14 @@ unfolding audit_on_literals
 unlisted_file_behind_the_file_limit = (refl, refl, refl)
 
 -- a run has a finding where its own items have one
-finding_of_one_run : map found (runs (audit (sha256_object (listing (key abc_sha256 "[\"v1/content/a\",\"v1/content/c\"]" ∷ [])) (text_at "o/v1/content/a" "abc" ∷ text_at "o/v1/content/b" "" ∷ text_at "o/v1/content/c" "abc" ∷ [])) []) (of_budget 1 ∷ of_budget 1 ∷ [])) ≡ true ∷ false ∷ []
+finding_of_one_run : map found (runs (audit (sha256_object (listing (key abc.sha256 "[\"v1/content/a\",\"v1/content/c\"]" ∷ [])) (text_at "o/v1/content/a" "abc" ∷ text_at "o/v1/content/b" "" ∷ text_at "o/v1/content/c" "abc" ∷ [])) []) (of_budget 1 ∷ of_budget 1 ∷ [])) ≡ true ∷ false ∷ []
 unfolding audit_on_literals
 finding_of_one_run = refl
 
 -- ---- a slash before a dash
 
 abbrev slash_and_dash : Tree
-slash_and_dash = sha256_object (listing (key abc_sha256 "[\"v1/content/a-b\",\"v1/content/a/b\"]" ∷ [])) (text_at "o/v1/content/a-b" "abc" ∷ folder "o/v1/content/a" ∷ text_at "o/v1/content/a/b" "abc" ∷ [])
+slash_and_dash = sha256_object (listing (key abc.sha256 "[\"v1/content/a-b\",\"v1/content/a/b\"]" ∷ [])) (text_at "o/v1/content/a-b" "abc" ∷ folder "o/v1/content/a" ∷ text_at "o/v1/content/a/b" "abc" ∷ [])
 
 slash_before_dash_in_runs : texts slash_and_dash (1 ∷ 1 ∷ 1 ∷ []) ≡ codes "ok\t.\t-\nok\to\t-\nok\to/v1/content/a/b\t3\n" ∷ codes "ok\to/v1/content/a-b\t3\n" ∷ []
 unfolding audit_on_literals

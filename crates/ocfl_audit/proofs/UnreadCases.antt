@@ -10,28 +10,27 @@ use Rattle.ocfl_audit.specs.Due.{item_places, items_at, hashed_among}
 use Rattle.ocfl_audit.specs.Trail.{unread_of, content_trail}
 use Rattle.ocfl_audit.specs.Runs.{runs, of_budget}
 use Rattle.ocfl_audit.proofs.OnLiterals.{audit_on_literals}
-use Rattle.ocfl_audit.proofs.CaseTrees.{place, text_at, bytes_at, folder, sha256_object, f_is_abc, key, listing, listing_with, lists_f, three_files, abc_sha256}
+use Rattle.ocfl_audit.proofs.CaseTrees.{Case, AllAre, place, text_at, bytes_at, folder, sha256_object, f_is_abc, key, listing, listing_with, lists_f, three_files, abc}
 
--- the audit where one file gave only so many bytes has this text
-abbrev ReportsUnread : Tree → String → ℕ → String → Type 0
-ReportsUnread root p given t = text (audit root ((place p, given) ∷ [])) ≡ codes t
+-- the text of the audit where one file gave only so many bytes
+abbrev reports_unread : String → Tree → String → ℕ → String → Case
+reports_unread name root p given t = record { name = name; shown = text (audit root ((place p, given) ∷ [])); wanted = codes t }
 
 -- ---- a long file `f` whose read fails behind 65,536 bytes, and a short one
 
 abbrev long_and_short : Tree
-long_and_short = sha256_object (listing (key abc_sha256 "[\"v1/content/f\",\"v1/content/g\"]" ∷ [])) (bytes_at "o/v1/content/f" (replicate 65537 97) ∷ text_at "o/v1/content/g" "abc" ∷ [])
+long_and_short = sha256_object (listing (key abc.sha256 "[\"v1/content/f\",\"v1/content/g\"]" ∷ [])) (bytes_at "o/v1/content/f" (replicate 65537 97) ∷ text_at "o/v1/content/g" "abc" ∷ [])
 
-read_fails : ReportsUnread long_and_short "o/v1/content/f" 65536 "ok\t.\t-\nok\to\t-\nS08\to/v1/content/f\t-\nok\to/v1/content/g\t3\n"
+long_file_unread : AllAre (
+    reports_unread "read_fails" long_and_short "o/v1/content/f" 65536 "ok\t.\t-\nok\to\t-\nS08\to/v1/content/f\t-\nok\to/v1/content/g\t3\n" ∷
+    reports_unread "open_fails" long_and_short "o/v1/content/f" 0 "ok\t.\t-\nok\to\t-\nS08\to/v1/content/f\t-\nok\to/v1/content/g\t3\n" ∷
+    [])
 unfolding audit_on_literals
-read_fails = refl
+long_file_unread = refl
 
 cost_where_read_fails : map (λ i. i.cost) (audit long_and_short ((place "o/v1/content/f", 65536) ∷ [])) ≡ 0 ∷ 0 ∷ 65537 ∷ 4 ∷ []
 unfolding audit_on_literals
 cost_where_read_fails = refl
-
-open_fails : ReportsUnread long_and_short "o/v1/content/f" 0 "ok\t.\t-\nok\to\t-\nS08\to/v1/content/f\t-\nok\to/v1/content/g\t3\n"
-unfolding audit_on_literals
-open_fails = refl
 
 cost_where_open_fails : map (λ i. i.cost) (audit long_and_short ((place "o/v1/content/f", 0) ∷ [])) ≡ 0 ∷ 0 ∷ 1 ∷ 4 ∷ []
 unfolding audit_on_literals
@@ -47,9 +46,12 @@ unread_file_is_finding = refl
 
 -- ---- three files, of which the first fails
 
-first_of_three_fails : ReportsUnread three_files "o/v1/content/a" 2 "ok\t.\t-\nok\to\t-\nS08\to/v1/content/a\t-\nok\to/v1/content/b\t0\nok\to/v1/content/c\t3\n"
+first_file_unread : AllAre (
+    reports_unread "first_of_three_fails" three_files "o/v1/content/a" 2 "ok\t.\t-\nok\to\t-\nS08\to/v1/content/a\t-\nok\to/v1/content/b\t0\nok\to/v1/content/c\t3\n" ∷
+    reports_unread "first_gave_all" three_files "o/v1/content/a" 3 "ok\t.\t-\nok\to\t-\nS08\to/v1/content/a\t-\nok\to/v1/content/b\t0\nok\to/v1/content/c\t3\n" ∷
+    [])
 unfolding audit_on_literals
-first_of_three_fails = refl
+first_file_unread = refl
 
 -- where it gave this many bytes
 abbrev first_gave : ℕ → Unread
@@ -72,43 +74,32 @@ cost_where_first_gave_all : map (λ i. i.cost) (audit three_files (first_gave 3)
 unfolding audit_on_literals
 cost_where_first_gave_all = refl
 
-first_gave_all : ReportsUnread three_files "o/v1/content/a" 3 "ok\t.\t-\nok\to\t-\nS08\to/v1/content/a\t-\nok\to/v1/content/b\t0\nok\to/v1/content/c\t3\n"
-unfolding audit_on_literals
-first_gave_all = refl
-
 -- ---- what gives way, and what stays
-
--- the lines of its digests give way
-wrong_file_unread : ReportsUnread (sha256_object (listing_with lists_f (codes "{\"md5\":{\"x\":[\"v1/content/f\"]}}")) (text_at "o/v1/content/f" "" ∷ [])) "o/v1/content/f" 0 "ok\t.\t-\nok\to\t-\nS08\to/v1/content/f\t-\n"
-unfolding audit_on_literals
-wrong_file_unread = refl
 
 -- `f` is named by fixity alone
 abbrev fixity_alone : Tree
 fixity_alone = sha256_object (listing_with [] (codes "{\"md5\":{\"900150983cd24fb0d6963f7d28e17f72\":[\"v1/content/f\"]}}")) f_is_abc
 
--- that the manifest does not name it stays
-unlisted_file_unread : ReportsUnread fixity_alone "o/v1/content/f" 0 "ok\t.\t-\nok\to\t-\nE023\to/v1/content/f\t-\nS08\to/v1/content/f\t-\n"
+other_lines_of_unread_files : AllAre (
+    -- the lines of its digests give way
+    reports_unread "wrong_file_unread" (sha256_object (listing_with lists_f (codes "{\"md5\":{\"x\":[\"v1/content/f\"]}}")) (text_at "o/v1/content/f" "" ∷ [])) "o/v1/content/f" 0 "ok\t.\t-\nok\to\t-\nS08\to/v1/content/f\t-\n" ∷
+    -- that the manifest does not name it stays
+    reports_unread "unlisted_file_unread" fixity_alone "o/v1/content/f" 0 "ok\t.\t-\nok\to\t-\nE023\to/v1/content/f\t-\nS08\to/v1/content/f\t-\n" ∷
+    -- a file that nothing names is never opened
+    reports_unread "unnamed_file_stays_unnamed" (sha256_object (listing []) f_is_abc) "o/v1/content/f" 2 "ok\t.\t-\nok\to\t-\nE023\to/v1/content/f\t-\n" ∷
+    -- nor is what is no file
+    reports_unread "missing_file_stays_missing" (sha256_object (listing lists_f) []) "o/v1/content/f" 2 "ok\t.\t-\nok\to\t-\nE092\to/v1/content/f\tsha256 missing\n" ∷
+    [])
 unfolding audit_on_literals
-unlisted_file_unread = refl
+other_lines_of_unread_files = refl
 
 cost_of_unlisted_file_unread : map (λ i. i.cost) (audit fixity_alone ((place "o/v1/content/f", 0) ∷ [])) ≡ 0 ∷ 0 ∷ 1 ∷ []
 unfolding audit_on_literals
 cost_of_unlisted_file_unread = refl
 
--- a file that nothing names is never opened
-unnamed_file_stays_unnamed : ReportsUnread (sha256_object (listing []) f_is_abc) "o/v1/content/f" 2 "ok\t.\t-\nok\to\t-\nE023\to/v1/content/f\t-\n"
-unfolding audit_on_literals
-unnamed_file_stays_unnamed = refl
-
 cost_of_unnamed_file : total_cost (audit (sha256_object (listing []) f_is_abc) ((place "o/v1/content/f", 2) ∷ [])) ≡ 0
 unfolding audit_on_literals
 cost_of_unnamed_file = refl
-
--- nor is what is no file
-missing_file_stays_missing : ReportsUnread (sha256_object (listing lists_f) []) "o/v1/content/f" 2 "ok\t.\t-\nok\to\t-\nE092\to/v1/content/f\tsha256 missing\n"
-unfolding audit_on_literals
-missing_file_stays_missing = refl
 
 cost_of_listed_directory_unread : total_cost (audit (sha256_object (listing lists_f) (folder "o/v1/content/f" ∷ [])) ((place "o/v1/content/f", 2) ∷ [])) ≡ 0
 unfolding audit_on_literals

@@ -1,47 +1,22 @@
 -- Worked cases: the walk over a stack of listings and the table of one object.
 use Rattle.std.proofs.Common.{◌≡◌, ℕ, List, [], ◌∷◌, codes, refl, map}
-use Prim.Native.String.{String}
 use Rattle.ocfl_tree.specs.Place.{Text, Place}
 use Rattle.ocfl_tree.specs.Tree.{Tree}
 use Rattle.ocfl_report.specs.Text.{text}
 use Rattle.ocfl_audit.specs.Walk.{walk}
 use Rattle.ocfl_audit.specs.Stack.{taken, lists, listed_at}
 use Rattle.ocfl_audit.proofs.OnLiterals.{audit_on_literals}
-use Rattle.ocfl_audit.proofs.CaseTrees.{place, text_at, folder, storage_root, missing_and_right, three_objects, sha512_file}
+use Rattle.ocfl_audit.proofs.CaseTrees.{Case, AllAre, Behind, behind, behind_each, place, text_at, folder, storage_root, missing_and_right, three_objects, sha512_file}
 
 -- what a walk that enters a tree at a place takes from there on
-abbrev Takes : Tree → String → String → Type 0
-Takes root p t = text (taken 12 root [] (place p) (listed_at root [] (place p) [])) ≡ codes t
+abbrev takes : Tree → Behind → Case
+takes root b = record { name = b.name; shown = text (taken 12 root [] (place b.place) (listed_at root [] (place b.place) [])); wanted = codes b.lines }
 
 -- ---- a file that is missing, and one that is right
 
-entered_before_the_object : Takes missing_and_right "n" "ok\to\t-\nE092\to/v1/content/a\tsha256 missing\nE093\to/v1/content/a\tsha1 missing\nok\to/v1/content/b\t3\n"
+entered_at_each : AllAre (map (takes missing_and_right) behind_each)
 unfolding audit_on_literals
-entered_before_the_object = refl
-
-entered_at_an_absent_version : Takes missing_and_right "o/v0" "E092\to/v1/content/a\tsha256 missing\nE093\to/v1/content/a\tsha1 missing\nok\to/v1/content/b\t3\n"
-unfolding audit_on_literals
-entered_at_an_absent_version = refl
-
-entered_at_a_version : Takes missing_and_right "o/v1" "E092\to/v1/content/a\tsha256 missing\nE093\to/v1/content/a\tsha1 missing\nok\to/v1/content/b\t3\n"
-unfolding audit_on_literals
-entered_at_a_version = refl
-
-entered_at_a_missing_file : Takes missing_and_right "o/v1/content/a" "ok\to/v1/content/b\t3\n"
-unfolding audit_on_literals
-entered_at_a_missing_file = refl
-
-entered_below_a_file : Takes missing_and_right "o/v1/content/b/x" ""
-unfolding audit_on_literals
-entered_below_a_file = refl
-
-entered_behind_the_object : Takes missing_and_right "o-x" ""
-unfolding audit_on_literals
-entered_behind_the_object = refl
-
-entered_where_nothing_is : Takes missing_and_right "p/q" ""
-unfolding audit_on_literals
-entered_where_nothing_is = refl
+entered_at_each = refl
 
 -- ---- what is listed, and when
 
@@ -93,7 +68,7 @@ walk_through_an_object : text (walk 6 missing_and_right [] []) ≡ codes "ok\t.\
 unfolding audit_on_literals
 walk_through_an_object = refl
 
-taken_from_the_hierarchy : Takes plain_tree "x" "E072\ty/z\t-\n"
+taken_from_the_hierarchy : AllAre (takes plain_tree (behind "taken_from_the_hierarchy" "x" "E072\ty/z\t-\n") ∷ [])
 unfolding audit_on_literals
 taken_from_the_hierarchy = refl
 

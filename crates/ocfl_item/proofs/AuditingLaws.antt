@@ -1,7 +1,7 @@
--- What calls did adds up.
-use Rattle.std.proofs.Common.{◌≡◌, ◌+◌, List, [], ◌∷◌, ◌++◌, refl, sym, ◌∙◌, ap, subst, false, map, filter, length, append_assoc, arith}
+-- What calls did adds up; where a call failed; and files that were opened once each.
+use Rattle.std.proofs.Common.{◌≡◌, ◌+◌, List, [], ◌∷◌, ◌++◌, refl, sym, ◌∙◌, ap, subst, false, map, filter, length, append_assoc, arith, ◌≢◌, ◌≤◌, true}
 use Rattle.std.proofs.lemmas.List.{append-nil, length-append, map-append}
-use Rattle.std.specs.Prelude.{not}
+use Rattle.std.specs.Prelude.{not, AllPairs}
 use Rattle.ocfl_tree.specs.Place.{Place}
 use Rattle.ocfl_tree.specs.Tree.{Tree}
 use Rattle.ocfl_tree.specs.Store.{Store, Did}
@@ -13,10 +13,29 @@ use Rattle.ocfl_audit.specs.Due.{hashed_among}
 use Rattle.ocfl_audit.specs.Trail.{is_meta, content_openings, content_trail, unread_of, heads_of, inventory_of}
 use Rattle.ocfl_audit.proofs.Trails.{filter_append, none_unread}
 use Rattle.ocfl_item.specs.Looking.{IsFront, failures_by}
-use Rattle.ocfl_item.specs.Auditing.{Audits, Fails, FailedAt}
-use Rattle.ocfl_item.proofs.FailLaws.{failed_behind}
+use Rattle.ocfl_item.specs.Auditing.{Audits, Fails, FailedAt, in_listing, in_opening}
 use Rattle.ocfl_item.specs.declared.fault.Fault.{Fault}
 use Rattle.ocfl_item.specs.declared.fault.Fault.TheVariants as fault
+use Rattle.ocfl_tree.specs.Calls.{opening}
+
+-- ---- where a call failed
+
+-- what was done before does not matter
+pub failed_behind : (ls ls' : List Place) (os os' : List Opening) (q : Place) → FailedAt ls' os' q → FailedAt (ls ++ ls') (os ++ os') q
+failed_behind ls ls' os os' q (in_listing before e) = in_listing (ls ++ before) (ap (λ x. ls ++ x) e ∙ sym (append_assoc ls before (q ∷ [])))
+failed_behind ls ls' os os' q (in_opening before given e) = in_opening (os ++ before) given (ap (λ x. os ++ x) e ∙ sym (append_assoc os before (opening q given true ∷ [])))
+
+-- a listing that failed
+pub failed_listing : (p q : Place) → p ≡ q → FailedAt (p ∷ []) [] q
+failed_listing p q e = in_listing [] (ap (λ x. x ∷ []) e)
+
+-- ---- once each
+
+pub few_once : (trail : List Opening) → length trail ≤ 1 → AllPairs (λ a b. a.place ≢ b.place) trail
+few_once trail few i j d l k = absurd (omega (arith, few, l, k))
+
+pub none_once : AllPairs {X = Opening} (λ a b. a.place ≢ b.place) []
+none_once i j d l k = absurd (omega (arith, l, k))
 
 -- ---- trails
 

@@ -41,8 +41,7 @@ use Rattle.ocfl_tree.proofs.Stores.{did_then}
 use Rattle.ocfl_item.proofs.LooksZones.{at_root, declared_root}
 use Rattle.ocfl_audit.specs.Head.{on}
 use Rattle.ocfl_audit.proofs.BetweenLaws.{root_unread}
-use Rattle.ocfl_item.proofs.FailLaws.{failed_behind, few_once, none_once}
-use Rattle.ocfl_item.proofs.AuditingLaws.{front_all, heads_append}
+use Rattle.ocfl_item.proofs.AuditingLaws.{failed_behind, few_once, none_once, front_all, heads_append}
 use Rattle.ocfl_item.proofs.VisitLaws.{meet_out, meet_stop}
 use Rattle.ocfl_audit.proofs.Trails.{content_behind}
 

@@ -28,7 +28,7 @@ use Rattle.ocfl_item.specs.declared.fault.Fault.TheVariants as fault
 use Rattle.ocfl_tree.proofs.Orders.{true_not_false}
 use Rattle.ocfl_audit.proofs.AuditExists.{some_not_none}
 use Rattle.ocfl_audit.proofs.PathLaws.{hashed_no_meta}
-use Rattle.ocfl_item.proofs.FailLaws.{failed_behind}
+use Rattle.ocfl_item.proofs.AuditingLaws.{failed_behind}
 use Rattle.ocfl_item.proofs.LooksEntries.{file_there, no_file_there}
 use Rattle.ocfl_item.proofs.LooksZones.{inside_on}
 use Rattle.ocfl_tree.proofs.Stores.{did_then}

@@ -1,6 +1,5 @@
 pub mod LooksEntries
 pub mod LooksZones
-pub mod FailLaws
 pub mod LooksCalls
 pub mod FileLaws
 pub mod HeadTrails

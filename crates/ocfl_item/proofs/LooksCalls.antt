@@ -28,7 +28,7 @@ use Rattle.ocfl_item.specs.Looking.{way_to, IsFront}
 use Rattle.ocfl_item.specs.Ways.{fault_by, IsWayFault, Stops, AreMeta, SeekStops, ReadsMeta, ReadsTable, is_file_kind, is_listable, Enters, IsDeclared, IsHead, head_by, InHierarchy, IsObject, IsOpenObject, is_extensions_name, way_below}
 use Rattle.ocfl_item.specs.declared.fault.Fault.TheVariants as fault
 use Rattle.ocfl_tree.proofs.Orders.{true_not_false}
-use Rattle.ocfl_item.proofs.FailLaws.{failed_listing}
+use Rattle.ocfl_item.proofs.AuditingLaws.{failed_listing}
 use Rattle.ocfl_audit.proofs.StepLaws.{all_beginnings_step}
 use Rattle.ocfl_item.proofs.LooksZones.{listable_dir, declared_object, declared_root, hierarchy_on, object_zone_here, open_object, at_root}
 

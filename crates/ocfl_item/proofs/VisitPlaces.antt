@@ -38,7 +38,7 @@ use Rattle.ocfl_item.specs.declared.pending.Pending.{Pending}
 use Rattle.ocfl_item.specs.declared.meeting.Around.{Around}
 use Rattle.ocfl_item.specs.declared.visit.Visit.{Visit}
 use Rattle.ocfl_audit.proofs.AuditExists.{not_empty}
-use Rattle.ocfl_item.proofs.FailLaws.{failed_behind, none_once}
+use Rattle.ocfl_item.proofs.AuditingLaws.{failed_behind, none_once, did_nothing, front_all, front_none}
 use Rattle.ocfl_tree.proofs.Stores.{did_then}
 use Rattle.ocfl_item.proofs.LooksEntries.{emptied, not_emptied}
 use Rattle.ocfl_tree.proofs.Bools.{and_both, and_first}
@@ -47,7 +47,6 @@ use Rattle.ocfl_audit.proofs.PathLaws.{notes_at}
 use Rattle.ocfl_audit.proofs.StepLaws.{all_beginnings_step, zone_step}
 use Rattle.ocfl_audit.specs.Trail.{heads_of, reads_inventory}
 use Rattle.ocfl_audit.specs.Between.{is_looked_into, shows_entries}
-use Rattle.ocfl_item.proofs.AuditingLaws.{did_nothing, front_all, front_none}
 use Rattle.ocfl_item.proofs.ShutLaws.{IsShut, hidden, looked_at, shut_zone}
 use Rattle.ocfl_item.proofs.VisitLaws.{deep_notes, entry_dir, entry_file, entry_other, no_dir, relined, short_notes, dir_here}
 

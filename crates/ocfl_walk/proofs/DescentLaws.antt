@@ -14,7 +14,7 @@ use Rattle.ocfl_item.specs.Ways.{AreInventories, Stops, Opens, ReadsTable}
 use Rattle.ocfl_item.specs.Around.{IsTableAround}
 use Rattle.ocfl_audit.specs.Trail.{heads_of}
 use Rattle.ocfl_walk.specs.Entering.{Descends, DescendFails, GoesInto}
-use Rattle.ocfl_item.proofs.FailLaws.{failed_behind}
+use Rattle.ocfl_item.proofs.AuditingLaws.{failed_behind, heads_append}
 use Rattle.ocfl_item.specs.declared.fault.Fault.{Fault}
 use Rattle.ocfl_item.specs.declared.fault.Fault.TheVariants as fault
 use Rattle.ocfl_item.specs.declared.folder.Folder.{Folder}
@@ -22,7 +22,6 @@ use Rattle.ocfl_item.specs.declared.meeting.Around.{Around}
 use Rattle.ocfl_tree.proofs.Stores.{did_then}
 use Rattle.ocfl_item.proofs.LooksCalls.{did_nothing, memory_no_store}
 use Rattle.ocfl_item.proofs.LooksZones.{is_plain}
-use Rattle.ocfl_item.proofs.AuditingLaws.{heads_append}
 use Rattle.ocfl_audit.proofs.Trails.{content_behind}
 
 -- ---- one after the other

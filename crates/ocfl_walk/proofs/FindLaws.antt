@@ -31,12 +31,11 @@ use Rattle.ocfl_audit.specs.Head.{on}
 use Rattle.ocfl_audit.specs.Between.{is_looked_into}
 use Rattle.ocfl_audit.specs.Trail.{content_trail, reads_inventory}
 use Rattle.ocfl_walk.proofs.DescentLaws.{front_on}
-use Rattle.ocfl_item.proofs.FailLaws.{failed_behind, few_once, none_once}
+use Rattle.ocfl_item.proofs.AuditingLaws.{failed_behind, few_once, none_once, heads_append}
 use Rattle.ocfl_item.proofs.ItemLaws.{head_zone}
 use Rattle.ocfl_item.proofs.LooksCalls.{did_nothing, memory_no_store}
 use Rattle.ocfl_item.proofs.LooksZones.{inside_step, sight_nothing, unseen_behind}
 use Rattle.ocfl_walk.proofs.MeetLaws.{own_head}
-use Rattle.ocfl_item.proofs.AuditingLaws.{heads_append}
 use Rattle.ocfl_tree.proofs.Stores.{did_then}
 
 -- ---- lists

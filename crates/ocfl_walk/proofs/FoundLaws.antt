@@ -30,8 +30,7 @@ use Rattle.ocfl_item.specs.declared.pending.Pending.{Pending}
 use Rattle.ocfl_item.specs.declared.visit.Visit.{Visit}
 use Rattle.ocfl_audit.proofs.AuditExists.{zone_is}
 use Rattle.ocfl_audit.proofs.PathLaws.{notes_at}
-use Rattle.ocfl_item.proofs.AuditingLaws.{audits_nothing, front_all}
-use Rattle.ocfl_item.proofs.FailLaws.{none_once}
+use Rattle.ocfl_item.proofs.AuditingLaws.{audits_nothing, front_all, none_once}
 use Rattle.ocfl_walk.proofs.DescentLaws.{descends_one}
 use Rattle.ocfl_walk.proofs.EnterLaws.{start_unlisted}
 use Rattle.ocfl_walk.proofs.FindLaws.{front_own, front_within, finds_descended, finds_stopped, item_memory, item_on, may_few}

@@ -48,8 +48,8 @@ pub(crate) struct Watched<'a, R: Files + AllocGlobal> {
     bytes: u64,
     /// The work since it was shown.
     work: u64,
-    /// The place that is read, as a report line has it, where it is shown.
-    place: String,
+    /// The place that is read, where it is shown.
+    place: Place,
 }
 
 impl<'a, R: Files + AllocGlobal + Eprint> Watched<'a, R> {
@@ -61,7 +61,7 @@ impl<'a, R: Files + AllocGlobal + Eprint> Watched<'a, R> {
             files: 0,
             bytes: 0,
             work: 0,
-            place: String::new(rt.alloc()),
+            place: Place::root(rt.alloc()),
         })
     }
 
@@ -70,9 +70,9 @@ impl<'a, R: Files + AllocGlobal + Eprint> Watched<'a, R> {
         if !self.is_shown {
             return;
         }
-        // Where memory is refused, the place before stays.
-        if let Ok(text) = format!(in self.rt.alloc(); "{}", DisplayPlace(place)) {
-            self.place = text;
+        // Its text is made where it is shown. Where memory is refused, the place before stays.
+        if let Ok(place) = place.try_clone() {
+            self.place = place;
         }
         self.add(CALL);
     }
@@ -85,13 +85,19 @@ impl<'a, R: Files + AllocGlobal + Eprint> Watched<'a, R> {
         }
     }
 
+    /// Shows what was read and where. Where memory is refused, what was shown before stays.
     fn show(&self) {
-        let (files, mebibytes) = (self.files, self.bytes >> 20);
-        let place = tail(self.place.as_str());
-        let text = format!(in self.rt.alloc(); "{files} files, {mebibytes} MiB, at {place}");
-        if let Ok(text) = text {
-            let _ = eprint!(self.rt; "\r{text:<79}");
+        if let Ok(line) = self.line() {
+            let _ = eprint!(self.rt; "\r{line:<79}");
         }
+    }
+
+    fn line(&self) -> Result<String, AllocError> {
+        let alloc = self.rt.alloc();
+        let (files, mebibytes) = (self.files, self.bytes >> 20);
+        let place = format!(in alloc; "{}", DisplayPlace(&self.place))?;
+        let place = tail(place.as_str());
+        format!(in alloc; "{files} files, {mebibytes} MiB, at {place}")
     }
 }
 

@@ -52,6 +52,18 @@ pub fn long_sidecar(alloc: Global, inventory: &str) -> Result<String, Fail> {
     Ok(format!(in alloc; "{digits} inventory.json\n")?)
 }
 
+/// Puts a file of this name and text into an object.
+fn put_in(
+    alloc: Global,
+    store: &mut MemTree,
+    object: &str,
+    name: &str,
+    text: &str,
+) -> Result<(), Fail> {
+    let path = format!(in alloc; "{object}/{name}")?;
+    put(alloc, store, path.as_str(), text.as_bytes())
+}
+
 /// Puts an object with this inventory, a right sidecar of it by sha256, and no content.
 pub fn put_object(
     alloc: Global,
@@ -61,15 +73,21 @@ pub fn put_object(
 ) -> Result<(), Fail> {
     let digits = short_digits(alloc, inventory.as_bytes())?;
     let sidecar = format!(in alloc; "{digits} inventory.json\n")?;
-    for (name, text) in [
-        ("0=ocfl_object_1.1", "ocfl_object_1.1\n"),
-        ("inventory.json", inventory),
-        ("inventory.json.sha256", sidecar.as_str()),
-    ] {
-        let path = format!(in alloc; "{object}/{name}")?;
-        put(alloc, store, path.as_str(), text.as_bytes())?;
-    }
-    Ok(())
+    put_in(
+        alloc,
+        store,
+        object,
+        "0=ocfl_object_1.1",
+        "ocfl_object_1.1\n",
+    )?;
+    put_in(alloc, store, object, "inventory.json", inventory)?;
+    put_in(
+        alloc,
+        store,
+        object,
+        "inventory.json.sha256",
+        sidecar.as_str(),
+    )
 }
 
 /// A storage root whose object `o` has this inventory, a right sidecar of it, and no content.

@@ -38,6 +38,7 @@ use Rattle.ocfl_tree.proofs.Orders.{true_not_false}
 use Rattle.ocfl_item.proofs.HeadLaws.{unknown_stops}
 use Rattle.ocfl_item.proofs.ItemLaws.{clean_some}
 use Rattle.ocfl_tree.proofs.Stores.{did_then}
+use Rattle.ocfl_item.proofs.LooksCalls.{over_then}
 use Rattle.ocfl_item.proofs.LooksZones.{at_root, declared_root}
 use Rattle.ocfl_audit.specs.Head.{on}
 use Rattle.ocfl_audit.proofs.BetweenLaws.{root_unread}
@@ -207,6 +208,19 @@ module _ (root : Tree) where
 
   pub listing_there : (s t : Store) (d e : Place) (es : List Entry) → Enters root s t d e es → IsListing root e es
   listing_there s t d e es h = subst (λ x. IsListing root x es) (sym h.is) h.listing
+
+  -- ---- its declaration
+
+  module _ (s t u : Store) (p e : Place) (es : List Entry) (top : p ≡ []) (over : s.tree ≡ root) (there : Enters root s t p e es) (v : Version) (limit : ℕ) where
+    -- it was read at the place that was listed, and that is the root's
+    pub declaration_read : (n : Text) (r : Result (Option Bounded) Fault) → n ≡ declaration_name Root v → (t.tree ≡ root → IsListing root e es → is_meta root (e ++ n ∷ []) ≡ true → ReadsFile root t u e n limit r) → ReadsFile root t u [] (declaration_name Root v) limit r
+    declaration_read n r same told = at_base t u e n (declaration_name Root v) limit r (there.is ∙ top) same (told (over_then root s t p e es over there) (listing_there s t p e es there) (declaration_at_root root e n v (there.is ∙ top) same))
+
+    pub declared_meets : (f : Option Bounded) → ReadsFile root t u [] (declaration_name Root v) limit (Ok f) → Meets root s u []
+    declared_meets f read = base_read s t u (declaration_name Root v) limit f (declaration_at_root root [] (declaration_name Root v) v refl refl) (base_listed s t p e es top over there) refl read
+
+    pub declared_fails : (why : Fault) → ReadsFile root t u [] (declaration_name Root v) limit (Err why) → MeetFails root s u [] why
+    declared_fails why read = base_unread s t u (declaration_name Root v) limit why (declaration_at_root root [] (declaration_name Root v) v refl refl) (base_listed s t p e es top over there) refl read
 
   pub root_is : (es given : List Entry) (d : Declared) → given ≡ es → IsOrdinary es → IsListing root [] es → d ≡ declared Root (file_names given) → d ≡ root_declared root
   root_is es given d same ordinary h is = is ∙ ap (λ xs. declared Root (file_names xs)) same ∙ sym (declared_root root es ordinary h)

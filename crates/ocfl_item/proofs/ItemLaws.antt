@@ -1,10 +1,9 @@
 -- The item at a place, from what was looked at.
-use Rattle.std.proofs.Common.{◌≡◌, ◌≢◌, List, [], subst, ◌∷◌, refl, sym, ◌∙◌, ap, true, false, None, map}
+use Rattle.std.proofs.Common.{arith, ◌≡◌, ◌≢◌, List, [], subst, ◌∷◌, refl, sym, ◌∙◌, ap, true, false, None, map}
 use Rattle.std.specs.Prelude.{nat_lt}
 use Rattle.ocfl_tree.specs.Place.{Place}
 use Rattle.ocfl_tree.specs.Tree.{Tree}
 use Rattle.ocfl_report.specs.Line.{Note, line_of, lines_at}
-use Rattle.ocfl_inventory.specs.Table.{Named}
 use Rattle.ocfl_inventory.specs.TripleView.{named_view}
 use Rattle.ocfl_audit.specs.Zone.{Zone, skipped, hierarchy, inside, zone, seen, object_declared}
 use Rattle.ocfl_audit.specs.Lines.{notes, named_at, cost_of, is_hashed}
@@ -15,21 +14,8 @@ use Rattle.ocfl_inventory.specs.Declaration.{Declared, undeclared, known, unknow
 use Rattle.ocfl_audit.specs.Head.{or_clean, head_notes_by}
 use Rattle.ocfl_tree.proofs.Orders.{true_not_false}
 use Rattle.ocfl_audit.proofs.AuditExists.{zone_is, append_nothing}
-use Rattle.ocfl_audit.proofs.PathLaws.{named_path}
 use Rattle.ocfl_item.proofs.HeadCalls.{head_notes_are}
-
--- no digest is named for an object's root
-none_named : (root : Tree) (p : Place) → is_head (zone root p) ≡ true → named_at root p ≡ []
-none_named root p e = by (named_at root p) refl
-  where
-    filled : (n : Named) (ns : List Named) → n ∷ ns ≢ []
-    filled n ns h = cc
-
-    by : (ns : List Named) → named_at root p ≡ ns → named_at root p ≡ []
-    by [] h = h
-    by (n ∷ ns) h =
-        let k = named_path root p (λ g. filled n ns (sym h ∙ g)) in
-        absurd (true_not_false (sym e ∙ ap is_head k.lies))
+use Rattle.ocfl_item.proofs.VisitLaws.{named_short}
 
 pub clean_some : (ns : List Note) → or_clean ns ≢ []
 clean_some [] e = cc
@@ -54,7 +40,7 @@ head_zone root p e = by (zone root p) refl e
 pub head_pending : (root : Tree) (p : Place) (made : Pending) → is_head (zone root p) ≡ true → made.place ≡ p → made.hashed ≡ false → made.named.items ≡ [] → map line_of made.lines.items ≡ lines_at p (notes root None p) → IsPending root made
 head_pending root p made e place unhashed unnamed lines =
     let z : zone root p ≡ inside p [] = head_zone root p e in
-    let none : named_at root p ≡ [] = none_named root p e in
+    let none : named_at root p ≡ [] = named_short root p p [] z (omega arith) in
     let some : notes root None p ≢ [] = λ g. head_some root p (object_declared root p) (zone_is root p p [] z).declares (sym (head_notes_are root p z) ∙ g) in
     record {
       some = subst (λ x. notes root None x ≢ []) (sym place) some;

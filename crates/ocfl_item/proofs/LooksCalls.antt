@@ -221,3 +221,7 @@ module _ (root : Tree) where
   pub root_entered : (s t : Store) (e : Place) (es : List Entry) → IsOrdinary es → Enters root s t [] e es → (is_declared (declared level.Root (file_names es)) ≡ true) × (is_known (declared level.Root (file_names es)) ≡ true) → InHierarchy root e es
   root_entered s t e es ordinary k says =
       subst (λ x. InHierarchy root x es) (sym k.is) (at_root root es (ap is_known (declared_root root es ordinary k.listing) ∙ says.1) k.listing)
+
+-- the storage root can be listed
+pub root_listable : (root : Tree) (p : Place) → p ≡ [] → is_listable root p ≡ true
+root_listable root p top = subst (λ q. is_listable root q ≡ true) (sym top) refl

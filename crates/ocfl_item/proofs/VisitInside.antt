@@ -1,5 +1,5 @@
 -- Entries within an object whose head does not stop, by how many names they lie below it.
-use Rattle.std.proofs.Common.{◌≡◌, ℕ, zero, suc, ◌-◌, ◌+◌, ◌<◌, ◌≤◌, [], ◌∷◌, ◌++◌, sym, ◌∙◌, ap, true, Some, arith, length, drop, append_assoc}
+use Rattle.std.proofs.Common.{◌≡◌, ℕ, zero, suc, ◌-◌, ◌+◌, ◌<◌, ◌≤◌, [], ◌∷◌, ◌++◌, sym, ◌∙◌, ap, true, Some, Option, subst, arith, length, drop, append_assoc}
 use Rattle.std.specs.Prelude.{option_map}
 use Rattle.std.specs.List.{list_all}
 use Rattle.std.proofs.lemmas.List.{length-append}
@@ -94,3 +94,7 @@ one_below root d e a entry m r is k = let l = long root d e a entry m in omega (
 
 pub two_below : (root : Tree) (d e : Place) (a : Around) (entry : Entry) (m : IsMet root d (Some a) entry e) (r : ℕ) → r ≡ length e - length a.place → r ≡ 2 → length e ≡ length a.place + 2
 two_below root d e a entry m r is k = let l = long root d e a entry m in omega (arith, l, is, k)
+
+-- an entry that is met within an object, where that object is the one at hand
+pub met_within : (root : Tree) (d e : Place) (around : Option Around) (a : Around) (entry : Entry) → around ≡ Some a → IsMet root d around entry e → IsMet root d (Some a) entry e
+met_within root d e around a entry is met = subst (λ x. IsMet root d x entry e) is met

@@ -1,55 +1,40 @@
-use Rattle.std.proofs.Common.{◌≡◌, ◌∙◌, sym, refl, subst, ap, true, []}
+use Rattle.std.proofs.Common.{◌∙◌, sym, refl, ap}
 use Rattle.std.proofs.lemmas.Result.{err_from_is_err_and}
-use Rattle.ocfl_inventory.specs.Declaration.{declaration_name, is_known}
-use Rattle.ocfl_inventory.specs.declared.declaration.Level.TheVariants.{Root}
-use Rattle.ocfl_item.specs.Ways.{is_listable}
-use Rattle.ocfl_item.proofs.BaseLaws.{at_base, base_known, base_listed, base_memory, base_not_listed, base_now_known, base_read, base_stopped, base_stops, base_unread, declaration_at_root, listing_there, root_is, root_lines}
-use Rattle.ocfl_item.proofs.LooksCalls.{enters_at, over_then}
+use Rattle.ocfl_inventory.specs.Declaration.{is_known}
+use Rattle.ocfl_item.proofs.BaseLaws.{base_known, base_listed, base_memory, base_not_listed, base_now_known, base_stopped, base_stops, declaration_read, declared_fails, declared_meets, root_is, root_lines}
+use Rattle.ocfl_item.proofs.LooksCalls.{enters_at, root_listable}
 use Rattle.ocfl_item.proofs.base.visit_base.Goals as goal
 
 pub returns-in_err-folder-clause-told : goal.returns-in_err-folder-clause-told
 returns-in_err-folder-clause-told g c = λ h root over.
-    let listable : is_listable root c.root.result ≡ true = subst (λ p. is_listable root p ≡ true) (sym c.root.ensures) refl in
     let p = err_from_is_err_and c.from_residual.result c.from_residual.ensures.1 in
-    rw (p.1, p.2) (record { gives = base_not_listed root _ _ _ _ c.root.ensures (c.in_err-folder.ensures.told h root over listable) })
+    rw (p.1, p.2) (record { gives = base_not_listed root _ _ _ _ c.root.ensures (c.in_err-folder.ensures.told h root over (root_listable root _ c.root.ensures)) })
 
 pub returns-in_err-file-in-One-clause-told : goal.returns-in_err-file-in-One-clause-told
 returns-in_err-file-in-One-clause-told g c = λ h root over.
-    let listable : is_listable root c.root.result ≡ true = subst (λ p. is_listable root p ≡ true) (sym c.root.ensures) refl in
     let p = err_from_is_err_and c.from_residual-in_err-file-in-One.result c.from_residual-in_err-file-in-One.ensures.1 in
-    let there = c.in_ok-folder.ensures.told h root over listable in
-    let name = declaration_name Root c.in-One.version in
-    let meta = declaration_at_root root _ _ c.in-One.version (there.is ∙ c.root.ensures) c.declaration_name-name.ensures in
-    let read = at_base root _ _ _ _ name _ _ (there.is ∙ c.root.ensures) c.declaration_name-name.ensures (c.in_err-file-in-One.ensures.told h root (over_then root _ _ _ _ _ over there) (listing_there root _ _ _ _ _ there) meta) in
-    rw (p.1, p.2) (record { gives = base_unread root _ _ _ name _ _ (declaration_at_root root [] name c.in-One.version refl refl) (base_listed root _ _ _ _ _ c.root.ensures over there) refl read })
+    let there = c.in_ok-folder.ensures.told h root over (root_listable root _ c.root.ensures) in
+    let read = declaration_read root _ _ _ _ _ _ c.root.ensures over there c.in-One.version _ _ _ c.declaration_name-name.ensures (c.in_err-file-in-One.ensures.told h root) in
+    rw (p.1, p.2) (record { gives = declared_fails root _ _ _ _ _ _ c.root.ensures over there c.in-One.version _ _ read })
 
 pub returns-in_err-add_known-in-One-clause-told : goal.returns-in_err-add_known-in-One-clause-told
 returns-in_err-add_known-in-One-clause-told g c = λ h root over.
-    let listable : is_listable root c.root.result ≡ true = subst (λ p. is_listable root p ≡ true) (sym c.root.ensures) refl in
     let p = err_from_is_err_and c.from_residual-in_err-add_known-in-One.result c.from_residual-in_err-add_known-in-One.ensures.1 in
-    let there = c.in_ok-folder.ensures.told h root over listable in
-    let name = declaration_name Root c.in-One.version in
-    let meta = declaration_at_root root _ _ c.in-One.version (there.is ∙ c.root.ensures) c.declaration_name-name.ensures in
-    let read = at_base root _ _ _ _ name _ _ (there.is ∙ c.root.ensures) c.declaration_name-name.ensures (c.in_ok-file-in-One.ensures.told h root (over_then root _ _ _ _ _ over there) (listing_there root _ _ _ _ _ there) meta) in
-    rw (p.1, p.2) (record { gives = base_memory root _ _ (base_read root _ _ _ name _ _ (declaration_at_root root [] name c.in-One.version refl refl) (base_listed root _ _ _ _ _ c.root.ensures over there) refl read) })
+    let there = c.in_ok-folder.ensures.told h root over (root_listable root _ c.root.ensures) in
+    let read = declaration_read root _ _ _ _ _ _ c.root.ensures over there c.in-One.version _ _ _ c.declaration_name-name.ensures (c.in_ok-file-in-One.ensures.told h root) in
+    rw (p.1, p.2) (record { gives = base_memory root _ _ (declared_meets root _ _ _ _ _ _ c.root.ensures over there c.in-One.version _ _ read) })
 
 pub returns-in_err-item-in-One-clause-told : goal.returns-in_err-item-in-One-clause-told
 returns-in_err-item-in-One-clause-told g c = λ h root over.
-    let listable : is_listable root c.root.result ≡ true = subst (λ p. is_listable root p ≡ true) (sym c.root.ensures) refl in
     let p = err_from_is_err_and c.from_residual-in_err-item-in-One.result c.from_residual-in_err-item-in-One.ensures.1 in
-    let there = c.in_ok-folder.ensures.told h root over listable in
-    let name = declaration_name Root c.in-One.version in
-    let meta = declaration_at_root root _ _ c.in-One.version (there.is ∙ c.root.ensures) c.declaration_name-name.ensures in
-    let read = at_base root _ _ _ _ name _ _ (there.is ∙ c.root.ensures) c.declaration_name-name.ensures (c.in_ok-file-in-One.ensures.told h root (over_then root _ _ _ _ _ over there) (listing_there root _ _ _ _ _ there) meta) in
-    rw (p.1, p.2) (record { gives = base_memory root _ _ (base_read root _ _ _ name _ _ (declaration_at_root root [] name c.in-One.version refl refl) (base_listed root _ _ _ _ _ c.root.ensures over there) refl read) })
+    let there = c.in_ok-folder.ensures.told h root over (root_listable root _ c.root.ensures) in
+    let read = declaration_read root _ _ _ _ _ _ c.root.ensures over there c.in-One.version _ _ _ c.declaration_name-name.ensures (c.in_ok-file-in-One.ensures.told h root) in
+    rw (p.1, p.2) (record { gives = base_memory root _ _ (declared_meets root _ _ _ _ _ _ c.root.ensures over there c.in-One.version _ _ read) })
 
 pub returns-in_ok-item-in-One-clause-told : goal.returns-in_ok-item-in-One-clause-told
 returns-in_ok-item-in-One-clause-told g c = λ h root over.
-    let listable : is_listable root c.root.result ≡ true = subst (λ p. is_listable root p ≡ true) (sym c.root.ensures) refl in
-    let there = c.in_ok-folder.ensures.told h root over listable in
-    let name = declaration_name Root c.in-One.version in
-    let meta = declaration_at_root root _ _ c.in-One.version (there.is ∙ c.root.ensures) c.declaration_name-name.ensures in
-    let read = at_base root _ _ _ _ name _ _ (there.is ∙ c.root.ensures) c.declaration_name-name.ensures (c.in_ok-file-in-One.ensures.told h root (over_then root _ _ _ _ _ over there) (listing_there root _ _ _ _ _ there) meta) in
+    let there = c.in_ok-folder.ensures.told h root over (root_listable root _ c.root.ensures) in
+    let read = declaration_read root _ _ _ _ _ _ c.root.ensures over there c.in-One.version _ _ _ c.declaration_name-name.ensures (c.in_ok-file-in-One.ensures.told h root) in
     let top = there.is ∙ c.root.ensures in
     let listing = (enters_at root _ _ _ _ _ _ c.root.ensures there).listing in
     let says = root_is root _ _ _ c.deref.ensures.value c.in_ok-folder.ensures.ordinary listing c.in-One.ensures.declared in
@@ -57,7 +42,7 @@ returns-in_ok-item-in-One-clause-told g c = λ h root over.
     let pending = c.in_ok-item-in-One.ensures.told root top lines in
     record {
       gives = (
-        base_read root _ _ _ name _ _ (declaration_at_root root [] name c.in-One.version refl refl) (base_listed root _ _ _ _ _ c.root.ensures over there) refl read,
+        declared_meets root _ _ _ _ _ _ c.root.ensures over there c.in-One.version _ _ read,
         base_known root c.in_ok-item-in-One.item _ top listing (base_now_known root c.in-One.version says) pending (c.in_ok-item-in-One.ensures.place ∙ top),
       );
     }
@@ -68,9 +53,7 @@ returns-in_err-add_stop-in_default g c =
     rw (p.1, p.2) (record {
       only = (λ e. cc, λ e. cc);
       fair = tt;
-      told = λ h root over.
-          let listable : is_listable root c.root.result ≡ true = subst (λ p. is_listable root p ≡ true) (sym c.root.ensures) refl in
-          record { gives = base_memory root _ _ (base_listed root _ _ _ _ _ c.root.ensures over (c.in_ok-folder.ensures.told h root over listable)) };
+      told = λ h root over. record { gives = base_memory root _ _ (base_listed root _ _ _ _ _ c.root.ensures over (c.in_ok-folder.ensures.told h root over (root_listable root _ c.root.ensures))) };
     })
 
 pub returns-in_err-item-in_default : goal.returns-in_err-item-in_default
@@ -79,9 +62,7 @@ returns-in_err-item-in_default g c =
     rw (p.1, p.2) (record {
       only = (λ e. cc, λ e. cc);
       fair = tt;
-      told = λ h root over.
-          let listable : is_listable root c.root.result ≡ true = subst (λ p. is_listable root p ≡ true) (sym c.root.ensures) refl in
-          record { gives = base_memory root _ _ (base_listed root _ _ _ _ _ c.root.ensures over (c.in_ok-folder.ensures.told h root over listable)) };
+      told = λ h root over. record { gives = base_memory root _ _ (base_listed root _ _ _ _ _ c.root.ensures over (c.in_ok-folder.ensures.told h root over (root_listable root _ c.root.ensures))) };
     })
 
 pub returns-in_ok-item-in_default : goal.returns-in_ok-item-in_default
@@ -89,8 +70,7 @@ returns-in_ok-item-in_default g c = record {
   only = tt;
   fair = record { item = c.in_ok-item-in_default.ensures.place ∙ c.in_ok-folder.ensures.place ∙ c.root.ensures; folder = tt; table = tt };
   told = λ h root over.
-      let listable : is_listable root c.root.result ≡ true = subst (λ p. is_listable root p ≡ true) (sym c.root.ensures) refl in
-      let there = c.in_ok-folder.ensures.told h root over listable in
+      let there = c.in_ok-folder.ensures.told h root over (root_listable root _ c.root.ensures) in
       let top = there.is ∙ c.root.ensures in
       let listing = (enters_at root _ _ _ _ _ _ c.root.ensures there).listing in
       let stop = base_stops root _ _ _ c.declaration.result c.declaration.result c.deref.ensures.value c.deref-in_default.ensures.value refl c.in_ok-folder.ensures.ordinary listing c.declaration.ensures.declared c.declaration.ensures.unknown c.in_default.not-One in

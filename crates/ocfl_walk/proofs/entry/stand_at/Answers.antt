@@ -1,9 +1,8 @@
-use Rattle.std.proofs.Common.{◌≡◌, ◌∙◌, sym, refl, ap, subst, true, length, ◌++◌, Some}
+use Rattle.std.proofs.Common.{◌∙◌, sym, ap, length, ◌++◌, Some}
 use Rattle.std.proofs.lemmas.Result.{err_from_is_err_and}
-use Rattle.ocfl_item.specs.Ways.{is_listable}
 use Rattle.ocfl_walk.specs.Standing.{folders_from, piles_in}
 use Rattle.ocfl_walk.proofs.PlacedLaws.{folders_none}
-use Rattle.ocfl_item.proofs.LooksCalls.{enters_at, over_then, root_entered}
+use Rattle.ocfl_item.proofs.LooksCalls.{enters_at, over_then, root_entered, root_listable}
 use Rattle.ocfl_walk.proofs.EnterLaws.{coming_root, orderly_brought, orderly_nothing, stands_brought, stands_nothing, start_down, start_listed, start_listed_memory, start_memory, start_stops_down, start_unlisted}
 use Rattle.ocfl_walk.proofs.entry.stand_at.Goals as goal
 
@@ -24,9 +23,8 @@ returns-in_err-try_clone-clause-told g c = λ h root over.
 
 pub returns-in_err-base-clause-told : goal.returns-in_err-base-clause-told
 returns-in_err-base-clause-told g c = λ h root over.
-    let listable : is_listable root c.root.result ≡ true = subst (λ p. is_listable root p ≡ true) (sym c.root.ensures) refl in
     let p = err_from_is_err_and c.from_residual-in_err-base.result c.from_residual-in_err-base.ensures.1 in
-    rw (p.1, p.2) (start_unlisted root (g.T.Tree.state c.args.store.now) (g.T.Tree.state c.list.new.store) c.args.after.now c.root.result _ c.root.ensures (c.in_err-base.ensures.told h root over listable))
+    rw (p.1, p.2) (start_unlisted root (g.T.Tree.state c.args.store.now) (g.T.Tree.state c.list.new.store) c.args.after.now c.root.result _ c.root.ensures (c.in_err-base.ensures.told h root over (root_listable root _ c.root.ensures)))
 
 pub returns-in_default : goal.returns-in_default
 returns-in_default g c = record {
@@ -34,8 +32,7 @@ returns-in_default g c = record {
   last = ap (λ x. Some x) c.in_ok-try_clone.ensures;
   orderly = orderly_nothing c.in_ok-try_clone.field-0 (folders_from 0 c.in_ok-try_clone.field-0 c.new_in.result.items) (folders_none c.in_ok-try_clone.field-0 c.new_in.result.items c.new_in.ensures);
   told = λ h root over.
-      let listable : is_listable root c.root.result ≡ true = subst (λ p. is_listable root p ≡ true) (sym c.root.ensures) refl in
-      let k = enters_at root _ _ _ _ _ _ c.root.ensures (c.in_ok-base.ensures.told h root over listable) in (
+      let k = enters_at root _ _ _ _ _ _ c.root.ensures (c.in_ok-base.ensures.told h root over (root_listable root _ c.root.ensures)) in (
         start_listed root (g.T.Tree.state c.args.store.now) (g.T.Tree.state c.list.new.store) c.args.after.now over k.did,
         (
           ap (λ x. Some x) c.in_ok-try_clone.ensures,
@@ -46,15 +43,13 @@ returns-in_default g c = record {
 
 pub returns-in_err-names-clause-told : goal.returns-in_err-names-clause-told
 returns-in_err-names-clause-told g c = λ h root over.
-    let listable : is_listable root c.root.result ≡ true = subst (λ p. is_listable root p ≡ true) (sym c.root.ensures) refl in
-    let k = enters_at root _ _ _ _ _ _ c.root.ensures (c.in_ok-base.ensures.told h root over listable) in
+    let k = enters_at root _ _ _ _ _ _ c.root.ensures (c.in_ok-base.ensures.told h root over (root_listable root _ c.root.ensures)) in
     let p = err_from_is_err_and c.from_residual-in_err-names.result c.from_residual-in_err-names.ensures.1 in
     rw (p.1, p.2) (start_listed_memory root (g.T.Tree.state c.args.store.now) (g.T.Tree.state c.list.new.store) c.args.after.now over k.did)
 
 pub returns-in_err-go_down-clause-told : goal.returns-in_err-go_down-clause-told
 returns-in_err-go_down-clause-told g c = λ h root over.
-    let listable : is_listable root c.root.result ≡ true = subst (λ p. is_listable root p ≡ true) (sym c.root.ensures) refl in
-    let k = enters_at root _ _ _ _ _ _ c.root.ensures (c.in_ok-base.ensures.told h root over listable) in
+    let k = enters_at root _ _ _ _ _ _ c.root.ensures (c.in_ok-base.ensures.told h root over (root_listable root _ c.root.ensures)) in
     let hier = root_entered root _ _ _ _ c.in_ok-base.ensures.ordinary k c.in-Known.ensures in
     let p = err_from_is_err_and c.from_residual-in_err-go_down.result c.from_residual-in_err-go_down.ensures.1 in
     rw (p.1, p.2) (start_stops_down root (g.T.Tree.state c.args.store.now) (g.T.Tree.state c.list.new.store) c.args.after.now over k.did (g.T.Tree.state c.go_down.new.store) c.in_ok-base.base.place c.deref.result.now (c.in_ok-base.ensures.place ∙ c.root.ensures) (c.deref.ensures.value ∙ c.in_ok-names.ensures) _
@@ -62,8 +57,7 @@ returns-in_err-go_down-clause-told g c = λ h root over.
 
 pub returns-clause-told : goal.returns-clause-told
 returns-clause-told g c = λ h root over.
-    let listable : is_listable root c.root.result ≡ true = subst (λ p. is_listable root p ≡ true) (sym c.root.ensures) refl in
-    let k = enters_at root _ _ _ _ _ _ c.root.ensures (c.in_ok-base.ensures.told h root over listable) in
+    let k = enters_at root _ _ _ _ _ _ c.root.ensures (c.in_ok-base.ensures.told h root over (root_listable root _ c.root.ensures)) in
     let hier = root_entered root _ _ _ _ c.in_ok-base.ensures.ordinary k c.in-Known.ensures in
     let both = c.in_ok-go_down.ensures.told h root (over_then root _ _ _ _ _ over k) hier.here hier.zone in
     let names = c.deref.ensures.value ∙ c.in_ok-names.ensures in

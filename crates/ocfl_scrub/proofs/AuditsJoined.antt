@@ -1,5 +1,5 @@
 -- Audits one after the other.
-use Rattle.std.proofs.Common.{◌≡◌, inl, inr, ℕ, ◌+◌, List, [], ◌∷◌, ◌++◌, refl, sym, ◌∙◌, ap, subst, true, false, Bool, map, filter, Some, None, not, length, length-append, append_assoc, append-nil, arith}
+use Rattle.std.proofs.Common.{◌≡◌, inl, inr, ℕ, ◌+◌, List, [], ◌∷◌, ◌++◌, refl, sym, ◌∙◌, ap, subst, true, false, Bool, map, filter, Some, None}
 use Rattle.std.specs.Prelude.{cond}
 use Rattle.std.specs.Ordering.{is_eq}
 use Rattle.std.specs.declared.cmp.Ordering.{Ordering}
@@ -7,42 +7,19 @@ use Rattle.std.specs.declared.cmp.Ordering.TheVariants.{Less, Equal, Greater}
 use Rattle.ocfl_tree.specs.Place.{Place, place_cmp, place_eq}
 use Rattle.ocfl_tree.specs.Ascending.{IsAscending, IsAmong}
 use Rattle.ocfl_tree.specs.Tree.{Tree}
-use Rattle.ocfl_tree.specs.Store.{Store, Did}
-use Rattle.ocfl_tree.specs.Calls.{opening}
+use Rattle.ocfl_tree.specs.Store.{Store}
 use Rattle.ocfl_tree.specs.declared.store.Opening.{Opening}
-use Rattle.ocfl_tree.proofs.Stores.{did_both}
 use Rattle.ocfl_tree.proofs.Orders.{place_cmp_total, place_cmp_exact, not_below_itself, before_each, among_from_filter}
 use Rattle.ocfl_report.specs.Line.{lines_at}
-use Rattle.ocfl_audit.specs.Zone.{zone}
 use Rattle.ocfl_audit.specs.Lines.{notes, cost, is_hashed}
 use Rattle.ocfl_audit.specs.Audit.{Unread, given_by, item_of}
-use Rattle.ocfl_audit.specs.Trail.{is_meta, content_openings, content_trail, unread_of, heads_of, inventory_of}
+use Rattle.ocfl_audit.specs.Trail.{content_openings, content_trail, unread_of}
 use Rattle.ocfl_audit.specs.Due.{items_at, hashed_among}
-use Rattle.ocfl_item.specs.Auditing.{Audits, Fails, FailedAt, in_listing, in_opening}
-use Rattle.ocfl_item.specs.declared.fault.Fault.{Fault}
-use Rattle.ocfl_scrub.proofs.Lists.{map_append, filter_append, ascends_across}
+use Rattle.ocfl_item.specs.Auditing.{Audits}
+use Rattle.ocfl_scrub.proofs.Lists.{map_append, ascends_across}
+use Rattle.ocfl_item.proofs.AuditingLaws.{unread_append}
 
--- ---- what two trails show
-
-pub unread_append : (root : Tree) (os os' : List Opening) → unread_of root (os ++ os') ≡ unread_of root os ++ unread_of root os'
-unread_append root os os' =
-    ap (λ xs. map (λ o. (o.place, o.given)) (filter (λ o. o.failed) xs)) (filter_append (λ o. not (is_meta root o.place)) os os')
-    ∙ ap (map (λ o. (o.place, o.given))) (filter_append (λ o. o.failed) (content_openings root os) (content_openings root os'))
-    ∙ map_append (λ o. (o.place, o.given)) (filter (λ o. o.failed) (content_openings root os)) (filter (λ o. o.failed) (content_openings root os'))
-
-trail_append : (root : Tree) (os os' : List Opening) → content_trail root (os ++ os') ≡ content_trail root os ++ content_trail root os'
-trail_append root os os' =
-    ap (map (λ o. o.place)) (filter_append (λ o. not (is_meta root o.place)) os os')
-    ∙ map_append (λ o. o.place) (content_openings root os) (content_openings root os')
-
-heads_append : (root : Tree) (os os' : List Opening) → heads_of root (os ++ os') ≡ heads_of root os ++ heads_of root os'
-heads_append root [] os' = refl
-heads_append root (o ∷ os) os' =
-    ap (λ ps. inventory_of (zone root o.place) ++ ps) (heads_append root os os') ∙ sym (append_assoc (inventory_of (zone root o.place)) (heads_of root os) (heads_of root os'))
-
-pub hashed_append : (root : Tree) (ps qs : List Place) → hashed_among root (ps ++ qs) ≡ hashed_among root ps ++ hashed_among root qs
-unfolding hashed_among
-hashed_append root ps qs = filter_append (is_hashed root) ps qs
+-- ---- what a trail shows
 
 hashed_are_among : (root : Tree) (ps : List Place) (p : Place) → IsAmong (hashed_among root ps) p → IsAmong ps p
 unfolding hashed_among
@@ -130,49 +107,9 @@ items_then root os os' ps qs h e f =
 
 -- ---- calls
 
-opened_then : (root : Tree) (os os' : List Opening) (ps qs : List Place) → content_trail root os ≡ hashed_among root ps → content_trail root os' ≡ hashed_among root qs
-    → content_trail root (os ++ os') ≡ hashed_among root (ps ++ qs)
-opened_then root os os' ps qs e f = trail_append root os os' ∙ ap (λ xs. xs ++ content_trail root os') e ∙ ap (λ xs. hashed_among root ps ++ xs) f ∙ sym (hashed_append root ps qs)
-
-unread_count : (root : Tree) (os os' : List Opening) → length (unread_of root (os ++ os')) ≡ length (unread_of root os) + length (unread_of root os')
-unread_count root os os' = ap length (unread_append root os os') ∙ length-append (unread_of root os) (unread_of root os')
-
 pub nothing_hashed : (root : Tree) → hashed_among root [] ≡ []
 unfolding hashed_among
 nothing_hashed root = refl
-
-pub audits_none : (root : Tree) (s : Store) → s.tree ≡ root → Audits root s s [] [] [] []
-audits_none root s h = record {
-  over = h;
-  did = record { tree = refl; openings_are = sym (append-nil s.openings); listings_are = sym (append-nil s.listings); failures_are = let e : s.failures ≡ s.failures + 0 = omega arith in e };
-  opened = sym (nothing_hashed root);
-  heads_are = refl;
-}
-
-module _ (root : Tree) (s t u : Store) (ps qs ls ls' hs hs' : List Place) (os os' : List Opening) where
-  heads_then : heads_of root os ≡ hs → heads_of root os' ≡ hs' → heads_of root (os ++ os') ≡ hs ++ hs'
-  heads_then e f = heads_append root os os' ∙ ap (λ xs. xs ++ heads_of root os') e ∙ ap (λ xs. hs ++ xs) f
-
-  pub audits_then : Audits root s t ps ls hs os → Audits root t u qs ls' hs' os' → Audits root s u (ps ++ qs) (ls ++ ls') (hs ++ hs') (os ++ os')
-  audits_then h k = record {
-    over = h.over;
-    did = subst (Did s u (os ++ os') (ls ++ ls')) (sym (unread_count root os os')) (did_both s t u os os' ls ls' _ _ h.did k.did);
-    opened = opened_then root os os' ps qs h.opened k.opened;
-    heads_are = heads_then h.heads_are k.heads_are;
-  }
-
-  failed_then : (q : Place) → FailedAt ls' os' q → FailedAt (ls ++ ls') (os ++ os') q
-  failed_then q (in_listing before e) = in_listing (ls ++ before) (ap (λ xs. ls ++ xs) e ∙ sym (append_assoc ls before (q ∷ [])))
-  failed_then q (in_opening before given e) = in_opening (os ++ before) given (ap (λ xs. os ++ xs) e ∙ sym (append_assoc os before (opening q given true ∷ [])))
-
-  pub fails_then : (why : Fault) → Audits root s t ps ls hs os → Fails root t u qs ls' hs' os' why → Fails root s u (ps ++ qs) (ls ++ ls') (hs ++ hs') (os ++ os') why
-  fails_then why h k = record {
-    over = h.over;
-    did = subst (Did s u (os ++ os') (ls ++ ls')) (let c = unread_count root os os' in omega (arith, c)) (did_both s t u os os' ls ls' _ _ h.did k.did);
-    opened = opened_then root os os' ps qs h.opened k.opened;
-    heads_are = heads_then h.heads_are k.heads_are;
-    store = λ q e. ((k.store q e).0, failed_then q (k.store q e).1);
-  }
 
 pub audits_over : {root : Tree} {s t : Store} {ps ls hs : List Place} {os : List Opening} → Audits root s t ps ls hs os → t.tree ≡ root
 audits_over h = h.did.tree ∙ h.over

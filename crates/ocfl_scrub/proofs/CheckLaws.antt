@@ -31,7 +31,8 @@ use Rattle.ocfl_scrub.specs.Taking.{PartOf, Takes, Misses}
 use Rattle.ocfl_scrub.specs.Checking.{checked_item, AreOnce, IsJustFor, Checks, CheckStops, CheckEnds}
 use Rattle.ocfl_scrub.specs.declared.checking.End.{End}
 use Rattle.ocfl_scrub.specs.declared.checking.End.TheVariants.{Stopped}
-use Rattle.ocfl_scrub.proofs.AuditsJoined.{audits_then, fails_then, nothing_hashed}
+use Rattle.ocfl_scrub.proofs.AuditsJoined.{nothing_hashed}
+use Rattle.ocfl_item.proofs.AuditingLaws.{audits_fail, audits_on}
 use Rattle.ocfl_scrub.proofs.TakeLaws.{nothing_of}
 
 -- ---- the item of a place
@@ -169,7 +170,7 @@ module _ (root : Tree) (p : Place) where
           heads = g.heads;
           audits = subst (λ hs. Audits root s u (p ∷ []) g.listed hs (g.trail ++ k.trail)) (append-nil g.heads)
               (subst (λ ls. Audits root s u (p ∷ []) ls (g.heads ++ []) (g.trail ++ k.trail)) (append-nil g.listed)
-              (audits_then root s t u [] (p ∷ []) g.listed [] g.heads [] g.trail k.trail g.audits k.audits));
+              (audits_on root s t u [] (p ∷ []) g.listed [] g.heads [] g.trail k.trail g.audits k.audits));
           just = just_then k.trail (one_or_none root p k.trail k.alone);
           wrote = subst (λ is. Appends old new (text is)) (sym items) k.wrote;
           item_is = sym (ap (λ is. not (is_empty is)) (items ∙ one_item root k.trail p));
@@ -187,7 +188,7 @@ module _ (root : Tree) (p : Place) where
           heads = g.heads;
           fails = subst (λ hs. Fails root s u k.begun g.listed hs (g.trail ++ k.trail) why) (append-nil g.heads)
               (subst (λ ls. Fails root s u k.begun ls (g.heads ++ []) (g.trail ++ k.trail) why) (append-nil g.listed)
-              (fails_then root s t u [] k.begun g.listed [] g.heads [] g.trail k.trail why g.audits k.fails));
+              (audits_fail root s t u [] k.begun g.listed [] g.heads [] g.trail k.trail why g.audits k.fails));
           just = just_then k.trail (one_of_front root p k.begun k.one.0 k.trail k.one.1 k.alone);
           part = k.part;
           wrote = k.wrote;

@@ -15,14 +15,6 @@ module _ {A B : Type 0} where
   flat_append f (x ∷ xs) ys = ap (λ zs. f x ++ zs) (flat_append f xs ys) ∙ sym (append_assoc (f x) (flat_map f xs) (flat_map f ys))
 
 module _ {A : Type 0} where
-  pub filter_append : (test : A → Bool) (xs ys : List A) → filter test (xs ++ ys) ≡ filter test xs ++ filter test ys
-  filter_append test [] ys = refl
-  filter_append test (x ∷ xs) ys = by (test x) (filter_append test xs ys)
-    where
-      by : (b : Bool) → filter test (xs ++ ys) ≡ filter test xs ++ filter test ys → cond b (x ∷ filter test (xs ++ ys)) (filter test (xs ++ ys)) ≡ cond b (x ∷ filter test xs) (filter test xs) ++ filter test ys
-      by true h = ap (λ zs. x ∷ zs) h
-      by false h = h
-
   pub ascends_left : (cmp : A → A → Ordering) (xs ys : List A) → IsAscending cmp (xs ++ ys) → IsAscending cmp xs
   ascends_left cmp [] ys h = tt
   ascends_left cmp (x ∷ xs) ys h = (before_left xs h.0, ascends_left cmp xs ys h.1)

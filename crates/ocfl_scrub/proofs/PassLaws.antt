@@ -26,7 +26,8 @@ use Rattle.ocfl_scrub.specs.Taking.{WritesLines, PartOf, Takes, Misses}
 use Rattle.ocfl_scrub.specs.Written.{last_of}
 use Rattle.ocfl_scrub.proofs.Passing.{up_to_last, Passes, Finishes, Halts}
 use Rattle.ocfl_scrub.proofs.Lists.{flat_append, ascends_left}
-use Rattle.ocfl_scrub.proofs.AuditsJoined.{audits_none, audits_then, fails_then, items_before, items_behind, items_then}
+use Rattle.ocfl_scrub.proofs.AuditsJoined.{items_before, items_behind, items_then}
+use Rattle.ocfl_item.proofs.AuditingLaws.{audits_fail, audits_nothing, audits_on}
 use Rattle.ocfl_scrub.proofs.BetweenLaws.{HasGoneOn, looked_self, looked_next, looked_end, looked_front, read_self, read_next, read_end, read_front, front_behind}
 use Rattle.ocfl_scrub.proofs.TakeLaws.{nothing_of}
 
@@ -95,13 +96,13 @@ module _ (root : Tree) (t u v : Store) (last to : Option Place) (w : Walks root 
   walk_then qs os k =
       subst (λ hs. Audits root t v qs (looked_between root last to) hs (w.trail ++ os)) (append-nil (read_between root last to))
       (subst (λ ls. Audits root t v qs ls (read_between root last to ++ []) (w.trail ++ os)) (append-nil (looked_between root last to))
-      (audits_then root t u v [] qs (looked_between root last to) [] (read_between root last to) [] w.trail os w.audits k))
+      (audits_on root t u v [] qs (looked_between root last to) [] (read_between root last to) [] w.trail os w.audits k))
 
   walk_then_fails : (qs : List Place) (os : List Opening) (why : Fault) → Fails root u v qs [] [] os why → Fails root t v qs (looked_between root last to) (read_between root last to) (w.trail ++ os) why
   walk_then_fails qs os why k =
       subst (λ hs. Fails root t v qs (looked_between root last to) hs (w.trail ++ os) why) (append-nil (read_between root last to))
       (subst (λ ls. Fails root t v qs ls (read_between root last to ++ []) (w.trail ++ os) why) (append-nil (looked_between root last to))
-      (fails_then root t u v [] qs (looked_between root last to) [] (read_between root last to) [] w.trail os why w.audits k))
+      (audits_fail root t u v [] qs (looked_between root last to) [] (read_between root last to) [] w.trail os why w.audits k))
 
 -- ---- a pass begins
 
@@ -110,7 +111,7 @@ passes_none root s old from over = record {
   done = [];
   trail = [];
   audits = subst (λ hs. Audits root s s [] (up_to_last (looked_between root) from from) hs []) (sym (read_self root from))
-      (subst (λ ls. Audits root s s [] ls [] []) (sym (looked_self root from)) (audits_none root s over));
+      (subst (λ ls. Audits root s s [] ls [] []) (sym (looked_self root from)) (audits_nothing root s over));
   due_are = refl;
   last_is = refl;
   wrote = subst (λ is. Appends old old (text is)) (sym (no_items root [])) (Appends-nil old);
@@ -148,7 +149,7 @@ module _ (root : Tree) (s t u : Store) (old mid : Option (List ℕ)) (from last 
           trail = h.trail ++ (w.trail ++ k.trail);
           audits = subst (λ hs. Audits root s v (h.done ++ p ∷ []) (looked_between root from (Some p)) hs (h.trail ++ (w.trail ++ k.trail))) (read_next root from last low p up)
               (subst (λ ls. Audits root s v (h.done ++ p ∷ []) ls (up_to_last (read_between root) from last ++ read_between root last (Some p)) (h.trail ++ (w.trail ++ k.trail))) (looked_next root from last low p up)
-              (audits_then root s t v h.done (p ∷ []) _ _ _ _ h.trail (w.trail ++ k.trail) h.audits both));
+              (audits_on root s t v h.done (p ∷ []) _ _ _ _ h.trail (w.trail ++ k.trail) h.audits both));
           due_are = due_with ∙ sym (append_assoc h.done (p ∷ []) (due root (Some p)));
           last_is = sym (last_append from h.done p);
           wrote = subst (Appends old new) (sym (text_append (items_at root h.trail h.done) (items_at root k.trail (p ∷ []))) ∙ ap text (sym same)) (Appends-trans old mid new _ _ h.wrote k.wrote);
@@ -183,7 +184,7 @@ module _ (root : Tree) (s t u : Store) (old mid : Option (List ℕ)) (from last 
           trail = trail;
           listed = up_to_last (looked_between root) from last ++ looked_between root last (Some p);
           heads = up_to_last (read_between root) from last ++ read_between root last (Some p);
-          fails = fails_then root s t v h.done k.begun _ _ _ _ h.trail (w.trail ++ k.trail) why h.audits both;
+          fails = audits_fail root s t v h.done k.begun _ _ _ _ h.trail (w.trail ++ k.trail) why h.audits both;
           listed_front = front_behind _ _ _ _ (looked_end root from last low) (looked_front root last p up);
           heads_front = front_behind _ _ _ _ (read_end root from last low) (read_front root last p up);
           due_are = h.due_are;
@@ -212,7 +213,7 @@ module _ (root : Tree) (s t u : Store) (old mid : Option (List ℕ)) (from last 
         trail = trail;
         listed = up_to_last (looked_between root) from last ++ w.listed;
         heads = up_to_last (read_between root) from last ++ w.heads;
-        fails = fails_then root s t u h.done [] _ _ _ _ h.trail w.trail why h.audits w.fails;
+        fails = audits_fail root s t u h.done [] _ _ _ _ h.trail w.trail why h.audits w.fails;
         listed_front = front_behind _ _ _ _ (looked_end root from last low) w.listed_front;
         heads_front = front_behind _ _ _ _ (read_end root from last low) w.heads_front;
         due_are = h.due_are;
@@ -237,7 +238,7 @@ module _ (root : Tree) (s t u : Store) (old mid : Option (List ℕ)) (from last 
       let trail : List Opening = h.trail ++ w.trail in
       let done_is = all_done none in
       let before = finished_items w none in
-      let joined = audits_then root s t u h.done [] _ _ _ _ h.trail w.trail h.audits w.audits in
+      let joined = audits_on root s t u h.done [] _ _ _ _ h.trail w.trail h.audits w.audits in
       record {
         trail = trail;
         audits = subst (λ ps. Audits root s u ps (looked_between root from None) (read_between root from None) trail) (append-nil h.done ∙ done_is)

@@ -21,7 +21,7 @@ use Rattle.ocfl_item.specs.declared.fault.Fault.TheVariants.{Output}
 use Rattle.ocfl_scrub.specs.Taking.{Takes, Misses}
 use Rattle.ocfl_scrub.proofs.Passing.{up_to_last}
 use Rattle.ocfl_scrub.proofs.Paying.{Paid, Counts, IsWithinBoth, Pays, PaysAll, PaysUpTo, PaysHalting}
-use Rattle.ocfl_scrub.proofs.AuditsJoined.{audits_then}
+use Rattle.ocfl_item.proofs.AuditingLaws.{audits_on}
 use Rattle.ocfl_scrub.proofs.BetweenLaws.{HasGoneOn, looked_next, read_next}
 use Rattle.ocfl_scrub.proofs.CutLaws.{cost_append, files_append, paid_append, test_paid, test_free, free_costs}
 use Rattle.ocfl_scrub.proofs.PassLaws.{no_items, passes_none, passes_took, took_items, passes_missed, missed_items, next_is, passes_lost, walked_on, passes_finish, finished_items}
@@ -110,7 +110,7 @@ module _ (root : Tree) (s t u : Store) (old mid : Option (List ℕ)) (from last 
         let g = h.passes in
         let trail : List Opening = g.trail ++ w.trail in
         let before : items_at root trail g.done ≡ items_at root g.trail g.done = walked_on root s t u old mid from last finding low g w.trail w.audits.opened in
-        let joined = audits_then root s t u g.done [] _ _ _ _ g.trail w.trail g.audits w.audits in
+        let joined = audits_on root s t u g.done [] _ _ _ _ g.trail w.trail g.audits w.audits in
         record {
           next = p;
           done = g.done;

@@ -32,7 +32,8 @@ use Rattle.ocfl_scrub.specs.Beginning.{Begins}
 use Rattle.ocfl_scrub.proofs.Paying.{Paid, Counts, IsWithinBoth, PaysAll, PaysUpTo, PaysHalting}
 use Rattle.ocfl_scrub.specs.declared.running.RunStatus.{RunStatus}
 use Rattle.ocfl_scrub.specs.declared.running.RunStatus.TheVariants.{Ended, Spent, Stopped, Worn}
-use Rattle.ocfl_scrub.proofs.AuditsJoined.{audits_then, fails_then, items_append, nothing_hashed}
+use Rattle.ocfl_scrub.proofs.AuditsJoined.{items_append, nothing_hashed}
+use Rattle.ocfl_item.proofs.AuditingLaws.{audits_fail, audits_on}
 use Rattle.ocfl_scrub.proofs.AuditLaws.{places_of_items, take_items, nothing_out, none_left}
 use Rattle.ocfl_scrub.proofs.PassLaws.{take_nothing}
 use Rattle.ocfl_scrub.proofs.TakeLaws.{nothing_of}
@@ -121,7 +122,7 @@ module _ (root : Tree) (s t u : Store) (old new : Option (List ℕ)) (from last 
               down = g.listed;
               held = g.heads;
               audits = subst (λ ps. Audits root s u ps (g.listed ++ looked_between root from next) (g.heads ++ read_between root from next) (g.trail ++ os)) (sym at_places)
-                  (audits_then root s t u [] done g.listed (looked_between root from next) g.heads (read_between root from next) g.trail os g.audits k);
+                  (audits_on root s t u [] done g.listed (looked_between root from next) g.heads (read_between root from next) g.trail os g.audits k);
               down_front = g.listed_front;
               held_front = g.heads_front;
               lists_once = listed_once root from next g.listed (looked_between root from next) g.listed_front (all_front _);
@@ -185,7 +186,7 @@ module _ (root : Tree) (s t u : Store) (old new : Option (List ℕ)) (from last 
         held = g.heads;
         heads = k.heads;
         fails = subst (λ ps. Fails root s u (ps ++ k.begun) (g.listed ++ k.listed) (g.heads ++ k.heads) trail why) whole_places
-            (fails_then root s t u [] (k.done ++ k.begun) g.listed k.listed g.heads k.heads g.trail k.trail why g.audits k.fails);
+            (audits_fail root s t u [] (k.done ++ k.begun) g.listed k.listed g.heads k.heads g.trail k.trail why g.audits k.fails);
         down_front = g.listed_front;
         listed_front = k.listed_front;
         held_front = g.heads_front;

@@ -30,7 +30,8 @@ use Rattle.ocfl_scrub.specs.Running.{items_above, rest as rest_of, RunStops}
 use Rattle.ocfl_scrub.specs.declared.cycling.CycleStatus.{CycleStatus}
 use Rattle.ocfl_scrub.specs.declared.cycling.CycleStatus.TheVariants.{Ended, Spent, Stopped}
 use Rattle.ocfl_scrub.proofs.Lists.{map_append, ascends_left}
-use Rattle.ocfl_scrub.proofs.AuditsJoined.{audits_none, audits_then, fails_then, items_before, items_behind, items_append, items_then}
+use Rattle.ocfl_scrub.proofs.AuditsJoined.{items_before, items_behind, items_append, items_then}
+use Rattle.ocfl_item.proofs.AuditingLaws.{audits_fail, audits_nothing, audits_on}
 use Rattle.ocfl_scrub.proofs.PassLaws.{text_append, found_append, due_ascends, no_items, take_nothing}
 use Rattle.ocfl_scrub.proofs.TakeLaws.{nothing_of, memory_other}
 use Rattle.ocfl_scrub.proofs.AuditLaws.{places_of_items, nothing_front}
@@ -137,7 +138,7 @@ parts_none root s old last over some = record {
     trail = [];
     listed = [];
     heads = [];
-    audits = audits_none root s over;
+    audits = audits_nothing root s over;
     due_are = refl;
     last_is = refl;
     wrote = Appends-nil old;
@@ -156,7 +157,7 @@ not_of_store p e = cc
 pub parts_unbegun : (root : Tree) (s : Store) (old : Option (List ℕ)) (last : Option Place) (limits : List Limits) → s.tree ≡ root → PartsStop root s s old old last last limits 0 0 false 0 Memory
 unfolding items_at
 parts_unbegun root s old last limits over =
-    let none = audits_none root s over in
+    let none = audits_nothing root s over in
     let others : List Item = joined (runs (items_at root [] (due root last)) limits) in
     record {
       done = [];
@@ -337,7 +338,7 @@ module _ (root : Tree) (s t : Store) (old mid : Option (List ℕ)) (from mid_las
             trail = a.trail ++ b.trail;
             listed = a.listed ++ b.listed;
             heads = a.heads ++ b.heads;
-            audits = audits_then root s t u a.done b.done a.listed b.listed a.heads b.heads a.trail b.trail a.audits b.audits;
+            audits = audits_on root s t u a.done b.done a.listed b.listed a.heads b.heads a.trail b.trail a.audits b.audits;
             due_are = due_are;
             last_is = b.last_is ∙ ap (λ x. last_of x b.done) a.last_is ∙ last_then from a.done b.done;
             wrote = subst (Appends old new) (sym (text_append first second) ∙ ap text (sym same)) (Appends-trans old mid new _ _ a.wrote b.wrote);
@@ -374,7 +375,7 @@ module _ (root : Tree) (s t : Store) (old mid : Option (List ℕ)) (from mid_las
           listed = h.took.listed ++ k.listed;
           heads = h.took.heads ++ k.heads;
           fails = subst (λ ps. Fails root s u ps (h.took.listed ++ k.listed) (h.took.heads ++ k.heads) (h.took.trail ++ k.trail) why) (sym both)
-              (fails_then root s t u h.took.done (k.done ++ k.begun) h.took.listed k.listed h.took.heads k.heads h.took.trail k.trail why h.took.audits k.fails);
+              (audits_fail root s t u h.took.done (k.done ++ k.begun) h.took.listed k.listed h.took.heads k.heads h.took.trail k.trail why h.took.audits k.fails);
           due_are = due_are ∙ ap (λ qs. qs ++ k.rest) (sym both);
           last_is = k.last_is ∙ ap (λ x. last_of x k.done) h.took.last_is ∙ last_then from h.took.done k.done;
           runs_begin = ap joined are ∙ ap (λ is. first ++ is) k.runs_begin ∙ sym (append_assoc first second k.others) ∙ ap (λ is. is ++ k.others) (sym same);

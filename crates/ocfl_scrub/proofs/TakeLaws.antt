@@ -18,7 +18,8 @@ use Rattle.ocfl_item.specs.Judging.{Judges, JudgeFails}
 use Rattle.ocfl_item.specs.declared.fault.Fault.{Fault}
 use Rattle.ocfl_item.specs.declared.fault.Fault.TheVariants.{Store as AtStore, Memory, Output}
 use Rattle.ocfl_scrub.specs.Taking.{WritesLines, PartOf, Takes, Misses}
-use Rattle.ocfl_scrub.proofs.AuditsJoined.{audits_none, nothing_hashed}
+use Rattle.ocfl_scrub.proofs.AuditsJoined.{nothing_hashed}
+use Rattle.ocfl_item.proofs.AuditingLaws.{audits_nothing}
 
 pub or_none : (b : Bool) → (b || false) ≡ b
 or_none true = refl
@@ -116,7 +117,7 @@ unjudged root s t old p j = record {
 -- nothing was done
 pub unbegun : (root : Tree) (s : Store) (old : Option (List ℕ)) (p : Place) → s.tree ≡ root → Misses root s s old old p Memory
 unbegun root s old p over =
-    let none = audits_none root s over in
+    let none = audits_nothing root s over in
     record {
       trail = [];
       begun = [];

@@ -7,7 +7,7 @@ use Rattle.std.specs.declared.cmp.Ordering.{Ordering}
 use Rattle.std.specs.declared.cmp.Ordering.TheVariants.{Less, Equal, Greater}
 use Rattle.ocfl_tree.specs.Place.{Place, Text, place_cmp, place_eq}
 use Rattle.ocfl_tree.specs.Ascending.{ascending, IsAscending, IsAmong}
-use Rattle.ocfl_tree.specs.Tree.{Tree, Leaf, file, dir, other, lookup, at_below, at, is_dir_leaf, files_in}
+use Rattle.ocfl_tree.specs.StorageRoot.{StorageRoot, Leaf, file, dir, other, lookup, at_below, at, is_dir_leaf, files_in}
 use Rattle.ocfl_report.specs.Line.{Note, lines_at}
 use Rattle.ocfl_inventory.specs.Declaration.{undeclared, declared, is_declared}
 use Rattle.ocfl_inventory.specs.Table.{Table, Triple, Named, named, paths_of}
@@ -30,7 +30,7 @@ place_from_test p q e = place_cmp_exact p q (equal_from_test _ e)
 pub some_not_none : {A : Type 0} (x : A) → None ≡ Some x → ⊥
 some_not_none x e = cc
 
-pub among_keys : (root : Tree) (p : Place) (leaf : Leaf) → lookup root p ≡ Some leaf → IsAmong (map (λ e. e.0) root) p
+pub among_keys : (root : StorageRoot) (p : Place) (leaf : Leaf) → lookup root p ≡ Some leaf → IsAmong (map (λ e. e.0) root) p
 among_keys [] p leaf h = absurd (some_not_none leaf h)
 among_keys (e ∷ root) p leaf h = by (place_eq e.0 p) refl h (among_keys root p leaf)
   where
@@ -42,7 +42,7 @@ pub append_one : (front rest : Place) (n : Text) → (front ++ n ∷ []) ++ rest
 append_one [] rest n = refl
 append_one (m ∷ front) rest n = ap (λ p. m ∷ p) (append_one front rest n)
 
-at_below_lookup : (root : Tree) (front : Place) (n : Text) (p : Place) (leaf : Leaf) → at_below root front n p ≡ Some leaf → lookup root (front ++ n ∷ p) ≡ Some leaf
+at_below_lookup : (root : StorageRoot) (front : Place) (n : Text) (p : Place) (leaf : Leaf) → at_below root front n p ≡ Some leaf → lookup root (front ++ n ∷ p) ≡ Some leaf
 at_below_lookup root front n [] leaf h = h
 at_below_lookup root front n (m ∷ p) leaf h = by (is_dir_leaf (lookup root (front ++ n ∷ []))) h (at_below_lookup root (front ++ n ∷ []) m p leaf)
   where
@@ -50,15 +50,15 @@ at_below_lookup root front n (m ∷ p) leaf h = by (is_dir_leaf (lookup root (fr
     by true e k = ap (lookup root) (sym (append_one front (m ∷ p) n)) ∙ k e
     by false e k = absurd (some_not_none leaf e)
 
-pub at_lookup : (root : Tree) (n : Text) (p : Place) (leaf : Leaf) → at root (n ∷ p) ≡ Some leaf → lookup root (n ∷ p) ≡ Some leaf
+pub at_lookup : (root : StorageRoot) (n : Text) (p : Place) (leaf : Leaf) → at root (n ∷ p) ≡ Some leaf → lookup root (n ∷ p) ≡ Some leaf
 at_lookup root n p leaf h = at_below_lookup root [] n p leaf h
 
 -- a place at which something lies is a candidate
-at_candidate : (root : Tree) (p : Place) (leaf : Leaf) → at root p ≡ Some leaf → IsAmong (candidates root) p
+at_candidate : (root : StorageRoot) (p : Place) (leaf : Leaf) → at root p ≡ Some leaf → IsAmong (candidates root) p
 at_candidate root [] leaf h = among_left ([] ∷ map (λ e. e.0) root) _ [] (inl refl)
 at_candidate root (n ∷ p) leaf h = among_left ([] ∷ map (λ e. e.0) root) _ (n ∷ p) (inr (among_keys root (n ∷ p) leaf (at_lookup root n p leaf h)))
 
-pub seen_candidate : (root : Tree) (p : Place) (leaf : Leaf) → seen root p ≡ Some leaf → IsAmong (candidates root) p
+pub seen_candidate : (root : StorageRoot) (p : Place) (leaf : Leaf) → seen root p ≡ Some leaf → IsAmong (candidates root) p
 seen_candidate root p leaf h = by _ h
   where
     by : (b : Bool) → cond b (at root p) None ≡ Some leaf → IsAmong (candidates root) p
@@ -71,12 +71,12 @@ pub not_empty : (front : Place) (n : Text) → front ++ n ∷ [] ≢ []
 not_empty [] n e = cc
 not_empty (m ∷ front) n e = cc
 
-pub record IsInside (root : Tree) (p o q : Place) : Type 0 where
+pub record IsInside (root : StorageRoot) (p o q : Place) : Type 0 where
   pub whole : p ≡ o ++ q
   pub declares : is_declared (object_declared root o) ≡ true
   pub below : o ≢ []
 
-pub object_zone_is : (root : Tree) (front rest o q : Place) → object_zone root front rest ≡ inside o q → IsInside root (front ++ rest) o q
+pub object_zone_is : (root : StorageRoot) (front rest o q : Place) → object_zone root front rest ≡ inside o q → IsInside root (front ++ rest) o q
 object_zone_is root front [] o q h = absurd (no h)
   where
     no : hierarchy ≡ inside o q → ⊥
@@ -95,7 +95,7 @@ object_zone_is root front (n ∷ rest) o q h = by (is_declared (object_declared 
     by true d e k = let a : front ++ n ∷ [] ≡ o = cc in let b : rest ≡ q = cc in here d a b
     by false d e k = subst (λ p. IsInside root p o q) (append_one front rest n) (k e)
 
-pub zone_is : (root : Tree) (p o q : Place) → zone root p ≡ inside o q → IsInside root p o q
+pub zone_is : (root : StorageRoot) (p o q : Place) → zone root p ≡ inside o q → IsInside root p o q
 zone_is root p o q h = by _ h
   where
     no : skipped ≡ inside o q → ⊥
@@ -106,7 +106,7 @@ zone_is root p o q h = by _ h
     by false e = object_zone_is root [] p o q e
 
 -- a declared object is a place of the tree
-pub object_at : (root : Tree) (o : Place) → is_declared (object_declared root o) ≡ true → at root o ≡ Some dir
+pub object_at : (root : StorageRoot) (o : Place) → is_declared (object_declared root o) ≡ true → at root o ≡ Some dir
 object_at root o d = by (at root o) refl d
   where
     by : (leaf : Option Leaf) → at root o ≡ leaf → is_declared (cond (is_dir_leaf leaf && nat_le (length o) max_listed_depth) (declared Object (files_in root o)) undeclared) ≡ true → at root o ≡ Some dir
@@ -115,7 +115,7 @@ object_at root o d = by (at root o) refl d
     by (Some dir) e h = e
     by (Some other) e h = absurd (true_not_false (sym h))
 
-pub object_key : (root : Tree) (o : Place) → o ≢ [] → at root o ≡ Some dir → IsAmong (map (λ e. e.0) root) o
+pub object_key : (root : StorageRoot) (o : Place) → o ≢ [] → at root o ≡ Some dir → IsAmong (map (λ e. e.0) root) o
 object_key root [] below h = absurd (below refl)
 object_key root (n ∷ o) below h = among_keys root (n ∷ o) dir (at_lookup root n o dir h)
 
@@ -137,13 +137,13 @@ path_among t q h = by (named t q) refl
     by [] e = absurd (h e)
     by (n ∷ ns) e = named_among q t.triples n (subst (λ xs. IsAmong xs n) (sym e) (inl refl))
 
-pub path_candidate : (root : Tree) (o q : Place) (t : Table) → table_at root o ≡ Some t → IsAmong (map (λ e. e.0) root) o → IsAmong (paths_of t) q → IsAmong (candidates root) (o ++ q)
+pub path_candidate : (root : StorageRoot) (o q : Place) (t : Table) → table_at root o ≡ Some t → IsAmong (map (λ e. e.0) root) o → IsAmong (paths_of t) q → IsAmong (candidates root) (o ++ q)
 path_candidate root o q t h key path = among_right ([] ∷ map (λ e. e.0) root) _ (o ++ q) (by root key)
   where
     here : IsAmong (named_places root o) (o ++ q)
     here = subst (λ r. IsAmong (elim r [ None ↦ [] | Some t' ↦ map (λ x. o ++ x) (paths_of t') ]) (o ++ q)) (sym h) (among_map (λ x. o ++ x) (paths_of t) q path)
 
-    by : (es : Tree) → IsAmong (map (λ e. e.0) es) o → IsAmong (flat_map (λ e. named_places root e.0) es) (o ++ q)
+    by : (es : StorageRoot) → IsAmong (map (λ e. e.0) es) o → IsAmong (flat_map (λ e. named_places root e.0) es) (o ++ q)
     by [] i = absurd i
     by (e ∷ es) (inl f) = among_left (named_places root e.0) _ (o ++ q) (subst (λ x. IsAmong (named_places root x) (o ++ q)) f here)
     by (e ∷ es) (inr i) = among_right (named_places root e.0) _ (o ++ q) (by es i)
@@ -152,7 +152,7 @@ pub missing_named : (ns : List Named) → missing_notes ns ≢ [] → ns ≢ []
 missing_named ns h e = h (ap missing_notes e)
 
 -- lines within an object stand at a place of the tree, or at one that the table names
-within_candidate : (root : Tree) (p o q : Place) (t : Table) → table_at root o ≡ Some t → p ≡ o ++ q → IsAmong (map (λ e. e.0) root) o → (leaf : Option Leaf) → seen root p ≡ leaf → (u : Option ℕ) → within_notes root p u leaf t q ≢ [] → IsAmong (candidates root) p
+within_candidate : (root : StorageRoot) (p o q : Place) (t : Table) → table_at root o ≡ Some t → p ≡ o ++ q → IsAmong (map (λ e. e.0) root) o → (leaf : Option Leaf) → seen root p ≡ leaf → (u : Option ℕ) → within_notes root p u leaf t q ≢ [] → IsAmong (candidates root) p
 within_candidate root p o q t h whole key (Some leaf) e u some = seen_candidate root p leaf e
 within_candidate root p o [] t h whole key None e u some = absurd (some refl)
 within_candidate root p o (v ∷ []) t h whole key None e u some = absurd (some refl)
@@ -160,7 +160,7 @@ within_candidate root p o (v ∷ c ∷ []) t h whole key None e u some = absurd 
 within_candidate root p o (v ∷ c ∷ n ∷ q) t h whole key None e u some =
     subst (IsAmong (candidates root)) (sym whole) (path_candidate root o (v ∷ c ∷ n ∷ q) t h key (path_among t (v ∷ c ∷ n ∷ q) (missing_named _ some)))
 
-object_candidate : (root : Tree) (p o q : Place) (u : Option ℕ) → p ≡ o ++ q → IsAmong (map (λ e. e.0) root) o → (table : Option Table) → table_at root o ≡ table → object_notes root p u table q ≢ [] → IsAmong (candidates root) p
+object_candidate : (root : StorageRoot) (p o q : Place) (u : Option ℕ) → p ≡ o ++ q → IsAmong (map (λ e. e.0) root) o → (table : Option Table) → table_at root o ≡ table → object_notes root p u table q ≢ [] → IsAmong (candidates root) p
 object_candidate root p o q u whole key None e some = absurd (some refl)
 object_candidate root p o q u whole key (Some t) e some = within_candidate root p o q t e whole key (seen root p) refl u some
 
@@ -168,7 +168,7 @@ pub append_nothing : (p : Place) → p ++ [] ≡ p
 append_nothing [] = refl
 append_nothing (n ∷ p) = ap (λ q. n ∷ q) (append_nothing p)
 
-zone_candidate : (root : Tree) (p : Place) (u : Option ℕ) (z : Zone) → zone root p ≡ z → notes_in root p u z ≢ [] → IsAmong (candidates root) p
+zone_candidate : (root : StorageRoot) (p : Place) (u : Option ℕ) (z : Zone) → zone root p ≡ z → notes_in root p u z ≢ [] → IsAmong (candidates root) p
 zone_candidate root p u skipped e some = absurd (some refl)
 zone_candidate root p u hierarchy e some = by (seen root p) refl some
   where
@@ -183,13 +183,13 @@ zone_candidate root p u (inside o (n ∷ q)) e some =
     let is = zone_is root p o (n ∷ q) e in
     object_candidate root p o (n ∷ q) u is.whole (object_key root o is.below (object_at root o is.declares)) (table_at root o) refl some
 
-pub notes_candidate : (root : Tree) (u : Option ℕ) (p : Place) → notes root u p ≢ [] → IsAmong (candidates root) p
+pub notes_candidate : (root : StorageRoot) (u : Option ℕ) (p : Place) → notes root u p ≢ [] → IsAmong (candidates root) p
 notes_candidate root u [] some = among_left ([] ∷ map (λ e. e.0) root) _ [] (inl refl)
 notes_candidate root u (n ∷ p) some = zone_candidate root (n ∷ p) u (zone root (n ∷ p)) refl some
 
 -- ---- the audit
 
-module _ (root : Tree) (unread : Unread) where
+module _ (root : StorageRoot) (unread : Unread) where
   has_notes : Place → Bool
   has_notes p = has_lines (item_of root unread p)
 

@@ -1,12 +1,12 @@
 -- The audit is known by its description.
 use Rattle.std.proofs.Common.{◌≡◌, List, [], ◌∷◌, refl, sym, ◌∙◌, map}
 use Rattle.std.specs.List.{AllByRecursion}
-use Rattle.ocfl_tree.specs.Tree.{Tree}
+use Rattle.ocfl_tree.specs.StorageRoot.{StorageRoot}
 use Rattle.ocfl_report.specs.Line.{Item}
 use Rattle.ocfl_audit.specs.Audit.{Unread, item_of, IsAudit}
 use Rattle.ocfl_tree.proofs.Orders.{place_cmp_total, place_cmp_exact, ascending_unique}
 
-module _ (root : Tree) (unread : Unread) where
+module _ (root : StorageRoot) (unread : Unread) where
   -- items that are those of their places are known by these
   items_from_places : (items : List Item) → AllByRecursion (λ i. i ≡ item_of root unread i.place) items → items ≡ map (item_of root unread) (map (λ i. i.place) items)
   items_from_places [] h = refl

@@ -7,7 +7,7 @@ use Rattle.std.specs.declared.cmp.Ordering.{Ordering}
 use Rattle.std.specs.declared.cmp.Ordering.TheVariants.{Less, Equal, Greater}
 use Rattle.ocfl_tree.specs.Place.{Place, place_cmp, beginnings}
 use Rattle.ocfl_tree.specs.Ascending.{ascending, IsAscending, IsAmong}
-use Rattle.ocfl_tree.specs.Tree.{Tree, Leaf, dir, at, is_dir, is_dir_leaf}
+use Rattle.ocfl_tree.specs.StorageRoot.{StorageRoot, Leaf, dir, at, is_dir, is_dir_leaf}
 use Rattle.ocfl_tree.proofs.Orders.{place_cmp_total, place_cmp_exact, true_not_false, below_from_greater, not_below_itself, ascending_unique, among_ascending, among_filter, among_from_filter, among_left, among_right, ascends_filter, ascends_ascending}
 use Rattle.ocfl_audit.specs.Zone.{Zone, skipped, hierarchy, inside, zone, is_entered, is_listed_zone, seen, max_listed_depth}
 use Rattle.ocfl_audit.specs.Walk.{is_reached}
@@ -170,13 +170,13 @@ dir_leaf (Some dir) h = refl
 dir_leaf (Some l) h = absurd (true_not_false (sym h))
 
 -- the storage root has no beginning before it
-abbrev pub directories : Tree → List Place
+abbrev pub directories : StorageRoot → List Place
 directories root = filter (is_looked_into root) (ascending place_cmp (candidates root))
 
-abbrev pub objects : Tree → List Place
+abbrev pub objects : StorageRoot → List Place
 objects root = filter (reads_inventory root) (ascending place_cmp (map (λ e. e.0) root))
 
-module _ (root : Tree) where
+module _ (root : StorageRoot) where
   pub directories_ascend : IsAscending place_cmp (directories root)
   directories_ascend = ascends_filter place_cmp (is_looked_into root) _ (ascends_ascending place_cmp_total (candidates root))
 

@@ -10,7 +10,7 @@ use Rattle.std.specs.Ordering.{match_ordering}
 use Rattle.std.specs.declared.cmp.Ordering.{Ordering}
 use Rattle.std.specs.declared.cmp.Ordering.TheVariants.{Less, Equal, Greater}
 use Rattle.ocfl_tree.specs.Ascending.{insert_once, ascending, IsAmong}
-use Rattle.ocfl_tree.specs.Tree.{Tree, Leaf, at, is_dir}
+use Rattle.ocfl_tree.specs.StorageRoot.{StorageRoot, Leaf, at, is_dir}
 use Rattle.ocfl_report.specs.declared.code.Code.TheVariants.{E099, E100, S06}
 use Rattle.ocfl_digest.specs.declared.algorithm.Algorithm.{Algorithm}
 use Rattle.ocfl_inventory.specs.Table.{Table, Triple, triple_cmp, triples_of, table_from, table_of, paths_of}
@@ -93,7 +93,7 @@ kept_table bytes t h = by (inventory_of bytes) h
     by (Ok i) e = let f : t ≡ table_from i = cc in (i, f)
     by (Err n) e = absurd (some_not_none t e)
 
-pub table_from_inventory : (root : Tree) (o : Place) (t : Table) → table_at root o ≡ Some t → (i : Inventory) × (t ≡ table_from i)
+pub table_from_inventory : (root : StorageRoot) (o : Place) (t : Table) → table_at root o ≡ Some t → (i : Inventory) × (t ≡ table_from i)
 table_from_inventory root o t h = by (inventory_at root o) h
   where
     by : (b : Option Text) → elim b [ None ↦ None | Some bytes ↦ cond (nat_le (length bytes) inventory_limit) (table_of bytes) None ] ≡ Some t → (i : Inventory) × (t ≡ table_from i)
@@ -114,7 +114,7 @@ kept_short content x h = by (starts_with nat_eq x (codes "/") || ends_with nat_e
     by false false true true e f g k = absurd (true_not_false (sym k))
     by false false false d e f g k = absurd (true_not_false (sym k))
 
-path_short : (root : Tree) (o q : Place) (t : Table) → table_at root o ≡ Some t → IsAmong (paths_of t) q → length q ≤ 128
+path_short : (root : StorageRoot) (o q : Place) (t : Table) → table_at root o ≡ Some t → IsAmong (paths_of t) q → length q ≤ 128
 path_short root o q t h i =
     let k = table_from_inventory root o t h in
     let m = kept_paths k.0 q (subst (λ x. IsAmong (paths_of x) q) k.1 i) in
@@ -127,7 +127,7 @@ last_name : (n : Text) (p : Place) → (d : Place) × ((m : Text) × (n ∷ p �
 last_name n [] = ([], (n, refl))
 last_name n (m ∷ p) = let k = last_name m p in (n ∷ k.0, (k.1.0, ap (λ x. n ∷ x) k.1.1))
 
-reached_short : (root : Tree) (d : Place) → is_reached root d ≡ true → length d ≤ 127
+reached_short : (root : StorageRoot) (d : Place) → is_reached root d ≡ true → length d ≤ 127
 reached_short root d h = leb-true (length d) 127 (by (list_all (is_entered root) (beginnings d)) (nat_le (length d) max_listed_depth) h)
   where
     by : (a b : Bool) → a && (b && (is_dir root d && is_listed_zone root (zone root d))) ≡ true → b ≡ true
@@ -135,7 +135,7 @@ reached_short root d h = leb-true (length d) 127 (by (list_all (is_entered root)
     by true false k = k
     by false b k = absurd (true_not_false (sym k))
 
-seen_short : (root : Tree) (p : Place) (leaf : Leaf) → seen root p ≡ Some leaf → length p ≤ 128
+seen_short : (root : StorageRoot) (p : Place) (leaf : Leaf) → seen root p ≡ Some leaf → length p ≤ 128
 seen_short root [] leaf h = omega arith
 seen_short root (n ∷ p) leaf h = by (list_all (is_entered root) (beginnings (n ∷ p))) refl h
   where
@@ -148,7 +148,7 @@ seen_short root (n ∷ p) leaf h = by (list_all (is_entered root) (beginnings (n
         let whole : length (n ∷ p) ≡ length k.0 + length (k.1.0 ∷ []) = ap length k.1.1 ∙ length-append k.0 (k.1.0 ∷ []) in
         omega (arith, short, whole)
 
-pub item_short : (root : Tree) (closed : IsClosed root) (u : Option ℕ) (p : Place) → notes root u p ≢ [] → length p < 256
+pub item_short : (root : StorageRoot) (closed : IsClosed root) (u : Option ℕ) (p : Place) → notes root u p ≢ [] → length p < 256
 item_short root closed u p some = by (reason root closed u p some)
   where
     by : Reason root closed p → length p < 256
@@ -162,7 +162,7 @@ item_short root closed u p some = by (reason root closed u p some)
 
 -- ---- the way to a cursor's place
 
-on_way : (root : Tree) (d q : Place) (fs : List Frame) (e : Place) → IsAmong (map (λ f. f.0) (listed_at root d q fs)) e → (begins e (d ++ q) ≡ true) ⊎ IsAmong (map (λ f. f.0) fs) e
+on_way : (root : StorageRoot) (d q : Place) (fs : List Frame) (e : Place) → IsAmong (map (λ f. f.0) (listed_at root d q fs)) e → (begins e (d ++ q) ≡ true) ⊎ IsAmong (map (λ f. f.0) fs) e
 on_way root d [] fs e (inl h) = inl (ap (λ x. begins x (d ++ [])) h ∙ begins_front d [])
 on_way root d [] fs e (inr i) = inr i
 on_way root d (n ∷ q) fs e i = by (on_way root (d ++ n ∷ []) q _ e i)
@@ -172,7 +172,7 @@ on_way root d (n ∷ q) fs e i = by (on_way root (d ++ n ∷ []) q _ e i)
     by (inr (inl h)) = inl (ap (λ x. begins x (d ++ n ∷ q)) h ∙ begins_front d (n ∷ q))
     by (inr (inr j)) = inr j
 
-pub lists_the_way : (root : Tree) (q e : Place) → IsAmong (map (λ f. f.0) (listed_at root [] q [])) e → begins e q ≡ true
+pub lists_the_way : (root : StorageRoot) (q e : Place) → IsAmong (map (λ f. f.0) (listed_at root [] q [])) e → begins e q ≡ true
 lists_the_way root q e i = by (on_way root [] q [] e i)
   where
     by : (begins e q ≡ true) ⊎ ⊥ → begins e q ≡ true

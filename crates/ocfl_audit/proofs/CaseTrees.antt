@@ -3,7 +3,7 @@ use Rattle.std.proofs.Common.{◌≡◌, ◌==◌, List, [], ◌∷◌, ◌++◌
 use Rattle.std.specs.List.{join_with_byte, slice_split}
 use Prim.Native.String.{String}
 use Rattle.ocfl_tree.specs.Place.{Text, Place}
-use Rattle.ocfl_tree.specs.Tree.{Tree, Leaf, file, dir, other}
+use Rattle.ocfl_tree.specs.StorageRoot.{StorageRoot, Leaf, file, dir, other}
 use Rattle.ocfl_report.specs.Text.{text}
 use Rattle.ocfl_digest.specs.declared.algorithm.Algorithm.TheVariants.{Sha256, Sha512}
 use Rattle.ocfl_inventory.specs.DigestText.{digest_of}
@@ -20,7 +20,7 @@ abbrev pub AllAre : List Case → Type 0
 AllAre cases = map (λ c. c.shown) cases ≡ map (λ c. c.wanted) cases
 
 -- the text of the audit of a tree in which each file can be read
-abbrev pub reports : String → Tree → String → Case
+abbrev pub reports : String → StorageRoot → String → Case
 reports name root t = record { name = name; shown = text (audit root []); wanted = codes t }
 
 -- ---- what lies in a tree
@@ -42,15 +42,15 @@ abbrev pub link : String → Place × Leaf
 link p = (place p, other)
 
 -- a declared storage root, and what else lies in it
-abbrev pub storage_root : Tree → Tree
+abbrev pub storage_root : StorageRoot → StorageRoot
 storage_root more = text_at "0=ocfl_1.1" "ocfl_1.1\n" ∷ more
 
 -- a storage root with an object `o`: its declaration, and its inventory of these bytes
-abbrev pub object : Text → Tree → Tree
+abbrev pub object : Text → StorageRoot → StorageRoot
 object inventory more = storage_root (folder "o" ∷ text_at "o/0=ocfl_object_1.1" "ocfl_object_1.1\n" ∷ bytes_at "o/inventory.json" inventory ∷ more)
 
 -- the same with a sidecar for sha256
-abbrev pub object_beside : Text → Text → Tree → Tree
+abbrev pub object_beside : Text → Text → StorageRoot → StorageRoot
 object_beside sidecar inventory more = object inventory (bytes_at "o/inventory.json.sha256" sidecar ∷ more)
 
 -- the right ones
@@ -61,21 +61,21 @@ abbrev pub right_sidecar_512 : Text → Text
 right_sidecar_512 inventory = digest_of Sha512 inventory ++ codes " inventory.json\n"
 
 -- an object with a right sidecar, and what lies in its first version
-abbrev pub sha256_object : Text → Tree → Tree
+abbrev pub sha256_object : Text → StorageRoot → StorageRoot
 sha256_object inventory more = object_beside (right_sidecar_256 inventory) inventory (folder "o/v1" ∷ folder "o/v1/content" ∷ more)
 
-abbrev pub sha512_object : Text → Tree → Tree
+abbrev pub sha512_object : Text → StorageRoot → StorageRoot
 sha512_object inventory more = object inventory (bytes_at "o/inventory.json.sha512" (right_sidecar_512 inventory) ∷ folder "o/v1" ∷ folder "o/v1/content" ∷ more)
 
 -- at p an object like those, with a right sidecar for sha256
-abbrev pub object_in : String → Text → Tree → Tree
+abbrev pub object_in : String → Text → StorageRoot → StorageRoot
 object_in p inventory more =
     folder p ∷ (place p ++ codes "0=ocfl_object_1.1" ∷ [], file (codes "ocfl_object_1.1\n")) ∷
     (place p ++ codes "inventory.json" ∷ [], file inventory) ∷
     (place p ++ codes "inventory.json.sha256" ∷ [], file (right_sidecar_256 inventory)) ∷ more
 
 -- a content file `f` of three bytes
-abbrev pub f_is_abc : Tree
+abbrev pub f_is_abc : StorageRoot
 f_is_abc = text_at "o/v1/content/f" "abc" ∷ []
 
 -- ---- digests (FIPS 180-4, RFC 1321)
@@ -152,19 +152,19 @@ lists_f = key abc.sha256 "[\"v1/content/f\"]" ∷ []
 -- ---- trees of several cases
 
 -- a file for each digest of the manifest: `a` and `c` of three bytes, `b` of none
-abbrev pub three_files : Tree
+abbrev pub three_files : StorageRoot
 three_files = sha256_object (listing (key abc.sha256 "[\"v1/content/a\",\"v1/content/c\"]" ∷ key no_bytes.sha256 "[\"v1/content/b\"]" ∷ [])) (text_at "o/v1/content/a" "abc" ∷ text_at "o/v1/content/b" "" ∷ text_at "o/v1/content/c" "abc" ∷ [])
 
 -- `a` is listed twice and not there, `b` is right
-abbrev pub missing_and_right : Tree
+abbrev pub missing_and_right : StorageRoot
 missing_and_right = sha256_object (listing_with (key no_bytes.sha256 "[\"v1/content/a\"]" ∷ key abc.sha256 "[\"v1/content/b\"]" ∷ []) (codes "{\"sha1\":" ++ keys (key no_bytes.sha1 "[\"v1/content/a\"]" ∷ []) ++ codes "}")) (text_at "o/v1/content/b" "abc" ∷ [])
 
 -- one file, by sha512
-abbrev pub sha512_file : Tree
+abbrev pub sha512_file : StorageRoot
 sha512_file = sha512_object (inventory "sha512" (keys (key abc.sha512 "[\"v1/content/f\"]" ∷ [])) (codes "{}")) f_is_abc
 
 -- three objects, each with one file
-abbrev pub three_objects : Tree
+abbrev pub three_objects : StorageRoot
 three_objects = storage_root (
     object_in "o1" (listing lists_f) (folder "o1/v1" ∷ folder "o1/v1/content" ∷ text_at "o1/v1/content/f" "abc" ∷
     object_in "o2" (listing lists_f) (folder "o2/v1" ∷ folder "o2/v1/content" ∷ text_at "o2/v1/content/f" "abc" ∷

@@ -2,7 +2,7 @@
 use Rattle.std.proofs.Common.{◌≡◌, [], ◌∷◌, ◌++◌, codes, refl, true, map}
 use Prim.Native.String.{String}
 use Rattle.ocfl_tree.specs.Place.{Text}
-use Rattle.ocfl_tree.specs.Tree.{Tree, file}
+use Rattle.ocfl_tree.specs.StorageRoot.{StorageRoot, file}
 use Rattle.ocfl_report.specs.Line.{found}
 use Rattle.ocfl_report.specs.Text.{text}
 use Rattle.ocfl_digest.specs.declared.algorithm.Algorithm.TheVariants.{Md5, Sha1, Sha256, Sha512, Sha512_256}
@@ -35,7 +35,7 @@ unfolding audit_on_literals
 cost_of_right_file = refl
 
 -- an empty file that all algorithms name
-abbrev empty_file : Tree
+abbrev empty_file : StorageRoot
 empty_file = sha256_object (listing_with (key no_bytes.sha256 "[\"v1/content/f\"]" ∷ []) (keys (
     key "md5" "{\"d41d8cd98f00b204e9800998ecf8427e\":[\"v1/content/f\"]}"
     ∷ key "sha1" "{\"da39a3ee5e6b4b0d3255bfef95601890afd80709\":[\"v1/content/f\"]}"
@@ -48,7 +48,7 @@ unfolding audit_on_literals hashed_among item_places
 empty_file_is_hashed_once = (refl, refl)
 
 -- `f` is right in the manifest, and wrong in the fixity block
-abbrev wrong_in_fixity : Tree
+abbrev wrong_in_fixity : StorageRoot
 wrong_in_fixity = sha256_object (listing_with lists_f (codes "{\"md5\":{\"d41d8cd98f00b204e9800998ecf8427e\":[\"v1/content/f\"]}}")) f_is_abc
 
 cost_of_fixity_mismatch : (total_cost (audit wrong_in_fixity []) ≡ 4) × (found (audit wrong_in_fixity []) ≡ true)
@@ -85,7 +85,7 @@ files_and_digests = refl
 -- ---- the fifth algorithm
 
 -- `f` is named by it alone
-abbrev fifth_alone : Tree
+abbrev fifth_alone : StorageRoot
 fifth_alone = sha256_object (listing_with [] (codes "{\"sha512/256\":{\"53048e2681941ef99b2e29b76b4c7dabe4c2d0c634fc6d46e0e2f13107e7af23\":[\"v1/content/f\"]}}")) f_is_abc
 
 fifth_algorithm : AllAre (
@@ -103,11 +103,11 @@ cost_of_fifth_algorithm = (refl, refl)
 -- ---- the item at one place
 
 -- the lines of one place
-abbrev shows : String → Tree → String → String → Case
+abbrev shows : String → StorageRoot → String → String → Case
 shows name root p t = record { name = name; shown = text (item_at root [] (place p)); wanted = codes t }
 
 -- the same with an unlisted file
-abbrev with_unlisted : Tree
+abbrev with_unlisted : StorageRoot
 with_unlisted = sha512_file ++ text_at "o/v1/content/g" "abc" ∷ []
 
 unlisted_file_is_not_hashed : hashed_among with_unlisted (item_places with_unlisted) ≡ place "o/v1/content/f" ∷ []
@@ -175,7 +175,7 @@ directories_and_links_in_content = refl
 -- ---- entries of an object root
 
 -- an object that lists `f`, and more in its root
-abbrev around_f : Tree → Tree
+abbrev around_f : StorageRoot → StorageRoot
 around_f more = sha256_object (listing lists_f) (f_is_abc ++ more)
 
 entries_of_objects : AllAre (

@@ -3,7 +3,7 @@ use Rattle.std.proofs.Common.{◌≡◌, ℕ, List, [], ◌∷◌, refl, sym, �
 use Rattle.std.specs.Ordering.{is_lt}
 use Rattle.ocfl_tree.specs.Place.{Place, place_cmp}
 use Rattle.ocfl_tree.specs.Ascending.{ascending}
-use Rattle.ocfl_tree.specs.Tree.{Tree}
+use Rattle.ocfl_tree.specs.StorageRoot.{StorageRoot}
 use Rattle.ocfl_report.specs.Line.{Note, lines_at, Item}
 use Rattle.ocfl_audit.specs.Audit.{Unread, candidates, given_by, item_of, has_lines, audit, after}
 use Rattle.ocfl_audit.specs.Lines.{notes, is_empty, cost}
@@ -23,7 +23,7 @@ empty_lines : (p : Place) (ns : List Note) → is_empty (lines_at p ns) ≡ is_e
 empty_lines p [] = refl
 empty_lines p (n ∷ ns) = refl
 
-pub audit_by_places : (root : Tree) (unread : Unread) → audit root unread ≡ map (item_of root unread) (item_places root)
+pub audit_by_places : (root : StorageRoot) (unread : Unread) → audit root unread ≡ map (item_of root unread) (item_places root)
 unfolding item_places
 audit_by_places root unread = map_filter has_lines (item_of root unread) places ∙ ap (map (item_of root unread)) (filter_same _ _ same places)
   where
@@ -34,7 +34,7 @@ audit_by_places root unread = map_filter has_lines (item_of root unread) places 
     same p = ap not (empty_lines p (notes root (given_by unread p) p) ∙ notes_alike root (given_by unread p) None p)
 
 -- what is above a place in the audit is the items of what is due
-pub after_is_due : (root : Tree) (trail : List Opening) (last : Option Place) → after (audit root (unread_of root trail)) last ≡ items_at root trail (due root last)
+pub after_is_due : (root : StorageRoot) (trail : List Opening) (last : Option Place) → after (audit root (unread_of root trail)) last ≡ items_at root trail (due root last)
 unfolding due items_at
 after_is_due root trail None = audit_by_places root (unread_of root trail)
 after_is_due root trail (Some p) =
@@ -46,15 +46,15 @@ no_notes : (xs ys : List Note) → is_empty xs ≡ is_empty ys → xs ≡ [] →
 no_notes xs [] e h = refl
 no_notes xs (y ∷ ys) e h = absurd (true_not_false (sym (ap is_empty h) ∙ e))
 
-pub lines_alike : (root : Tree) (u v : Option ℕ) (p : Place) → notes root u p ≡ [] → notes root v p ≡ []
+pub lines_alike : (root : StorageRoot) (u v : Option ℕ) (p : Place) → notes root u p ≡ [] → notes root v p ≡ []
 lines_alike root u v p h = no_notes (notes root u p) (notes root v p) (notes_alike root u v p) h
 
 -- where two sets of unread files agree at a place, so do the audits there
 -- the item of a place, where this was read of it
-item_read : Tree → Place → Option ℕ → Item
+item_read : StorageRoot → Place → Option ℕ → Item
 item_read root p g = record { place = p; lines = lines_at p (notes root g p); cost = cost root g p }
 
-pub items_agree : (root : Tree) (u v : Unread) (p : Place) → given_by u p ≡ given_by v p → items_of_place p (audit root u) ≡ items_of_place p (audit root v)
+pub items_agree : (root : StorageRoot) (u v : Unread) (p : Place) → given_by u p ≡ given_by v p → items_of_place p (audit root u) ≡ items_of_place p (audit root v)
 unfolding item_read
 items_agree root u v p e =
     item_here root u p ∙ ap (λ g. on (has_lines (item_read root p g)) (item_read root p g)) e ∙ sym (item_here root v p)

@@ -3,7 +3,7 @@ use Rattle.std.proofs.Common.{◌≡◌, [], ◌∷◌, ◌++◌, codes, refl, t
 use Prim.Native.String.{String}
 use Rattle.serde_json.specs.Data.{null, no_members, member}
 use Rattle.ocfl_tree.specs.Place.{Text, Place}
-use Rattle.ocfl_tree.specs.Tree.{Tree}
+use Rattle.ocfl_tree.specs.StorageRoot.{StorageRoot}
 use Rattle.ocfl_report.specs.Line.{found, plain}
 use Rattle.ocfl_report.specs.declared.code.Code.TheVariants.{S02}
 use Rattle.ocfl_digest.specs.declared.algorithm.Algorithm.TheVariants.{Md5, Sha1, Sha256, Sha512_256}
@@ -20,7 +20,7 @@ use Rattle.ocfl_audit.proofs.CaseTrees.{AllAre, reports, text_at, bytes_at, fold
 -- ---- the declaration
 
 -- an object that lists `f`, with these declarations
-abbrev declared_by : Tree → Tree
+abbrev declared_by : StorageRoot → StorageRoot
 declared_by declarations = storage_root (folder "o" ∷ declarations ++ bytes_at "o/inventory.json" (listing lists_f) ∷ bytes_at "o/inventory.json.sha256" (right_sidecar_256 (listing lists_f)) ∷ folder "o/v1" ∷ folder "o/v1/content" ∷ f_is_abc)
 
 object_declarations : AllAre (
@@ -48,21 +48,21 @@ objects_without_inventory : AllAre (
 unfolding audit_on_literals
 objects_without_inventory = refl
 
-inventory_too_long : (root : Tree) (o : Place) (bytes : Text) → nat_le (length bytes) 268435456 ≡ false → inventory_file_notes root o (Some bytes) ≡ plain S02 ∷ []
+inventory_too_long : (root : StorageRoot) (o : Place) (bytes : Text) → nat_le (length bytes) 268435456 ≡ false → inventory_file_notes root o (Some bytes) ≡ plain S02 ∷ []
 inventory_too_long root o bytes long = rw long
 
 -- and nothing of the object's insides
-no_table_of_an_inventory_too_long : (root : Tree) (o : Place) (bytes : Text) → inventory_at root o ≡ Some bytes → nat_le (length bytes) 268435456 ≡ false → table_at root o ≡ None
+no_table_of_an_inventory_too_long : (root : StorageRoot) (o : Place) (bytes : Text) → inventory_at root o ≡ Some bytes → nat_le (length bytes) 268435456 ≡ false → table_at root o ≡ None
 no_table_of_an_inventory_too_long root o bytes there long = rw (there, long)
 
 -- an inventory of the limit is read
-longest_inventory : (root : Tree) (o : Place) (bytes : Text) → inventory_at root o ≡ Some bytes → nat_le (length bytes) 268435456 ≡ true → table_at root o ≡ table_of bytes
+longest_inventory : (root : StorageRoot) (o : Place) (bytes : Text) → inventory_at root o ≡ Some bytes → nat_le (length bytes) 268435456 ≡ true → table_at root o ≡ table_of bytes
 longest_inventory root o bytes there short = rw (there, short)
 
 -- ---- sidecars
 
 -- an object that lists `f`, with a sidecar of these bytes
-abbrev beside : Text → Tree
+abbrev beside : Text → StorageRoot
 beside sidecar = object_beside sidecar (listing lists_f) (folder "o/v1" ∷ folder "o/v1/content" ∷ f_is_abc)
 
 -- the digits of the right one

@@ -5,7 +5,7 @@ use Rattle.std.specs.Ordering.{is_lt}
 use Rattle.std.specs.declared.cmp.Ordering.TheVariants.{Less}
 use Rattle.ocfl_tree.specs.Place.{Place, Text, text_cmp, place_cmp}
 use Rattle.ocfl_tree.specs.Ascending.{ascending, IsBeforeAll, IsAscending, IsAmong}
-use Rattle.ocfl_tree.specs.Tree.{Tree, Leaf}
+use Rattle.ocfl_tree.specs.StorageRoot.{StorageRoot, Leaf}
 use Rattle.ocfl_inventory.specs.Table.{Table, paths_of}
 use Rattle.ocfl_audit.specs.Zone.{Zone, skipped, hierarchy, inside, zone, table_at, seen}
 use Rattle.ocfl_audit.specs.Audit.{Unread, candidates, audit, after}
@@ -45,7 +45,7 @@ fewer (p ∷ ps) last x l i = by (above x p) (above last p) refl refl i (fewer_o
     by false false e f (inl g) h k = absurd (true_not_false (sym (ap is_lt (ap (place_cmp last) (sym g) ∙ l)) ∙ f))
     by false false e f (inr j) h k = k j
 
-module _ (root : Tree) (closed : IsClosed root) where
+module _ (root : StorageRoot) (closed : IsClosed root) where
   -- ---- entries
 
   record IsEntry (last : Place) (k : Place × List Frame) : Type 0 where

@@ -6,7 +6,7 @@ use Rattle.std.specs.declared.cmp.Ordering.{Ordering}
 use Rattle.std.specs.declared.cmp.Ordering.TheVariants.{Less, Equal, Greater}
 use Rattle.ocfl_tree.specs.Place.{Place, Text, text_cmp, place_cmp, place_eq, child_name, begins}
 use Rattle.ocfl_tree.specs.Ascending.{ascending, IsAscending, IsBeforeAll, IsAmong}
-use Rattle.ocfl_tree.specs.Tree.{Tree, Leaf, dir, names_in}
+use Rattle.ocfl_tree.specs.StorageRoot.{StorageRoot, Leaf, dir, names_in}
 use Rattle.ocfl_inventory.specs.Table.{Table, paths_of}
 use Rattle.ocfl_audit.specs.Zone.{skipped, inside, zone, table_at, seen}
 use Rattle.ocfl_audit.specs.Audit.{Unread, given_by, item_of, has_lines, candidates, audit, after}
@@ -70,7 +70,7 @@ module _ (ps : List Place) (ascends : IsAscending place_cmp ps) where
 
 -- ---- the same of items
 
-module _ (root : Tree) (unread : Unread) where
+module _ (root : StorageRoot) (unread : Unread) where
   after_kept : (p : Place) → after (audit root unread) (Some p) ≡ map (item_of root unread) (filter (above p) (item_places root unread))
   after_kept p = ap (λ xs. after xs (Some p)) (audit_places root unread) ∙ filter_items root unread (above p) (item_places root unread)
 
@@ -95,7 +95,7 @@ is_some_from : (o : Option Leaf) → is_some o ≡ true → (l : Leaf) × (o ≡
 is_some_from None h = absurd (true_not_false (sym h))
 is_some_from (Some l) h = (l, refl)
 
-module _ (root : Tree) where
+module _ (root : StorageRoot) where
   pub seen_ascend : IsAscending place_cmp (seen_places root)
   seen_ascend = ascends_filter place_cmp (λ p. is_some (seen root p)) _ (ascends_ascending place_cmp_total (candidates root))
 
@@ -131,7 +131,7 @@ module _ (root : Tree) where
       from z (Some l) h (inr i) = absurd i
       from z None h i = absurd i
 
-module _ (root : Tree) (closed : IsClosed root) where
+module _ (root : StorageRoot) (closed : IsClosed root) where
   cover_seen : (d : Place) (n : Text) (r : Place) → IsAmong (seen_places root) (d ++ n ∷ r) → IsAmong (seen_names root d) n
   cover_seen d n r i = let l = seen_from root (d ++ n ∷ r) i in seen_way root closed d n r l.0 l.1
 
@@ -238,7 +238,7 @@ module _ (root : Tree) (closed : IsClosed root) where
       by (in_table o s q t z h i e) = path o s q t z h i (ap (place_cmp last) (sym e) ∙ l)
       by (in_later o q h k e) = sight o dir h k
 
-module _ (root : Tree) (closed : IsClosed root) (unread : Unread) where
+module _ (root : StorageRoot) (closed : IsClosed root) (unread : Unread) where
   lined_notes : (y : Place) → has_lines (item_of root unread y) ≡ true → notes root (given_by unread y) y ≢ []
   lined_notes y h = place_has root unread y (has_place root unread y h)
 

@@ -1,13 +1,13 @@
 -- Worked cases: whose inventories are read, and which directories are looked into.
 use Rattle.std.proofs.Common.{◌≡◌, [], ◌∷◌, codes, refl, Some, None}
-use Rattle.ocfl_tree.specs.Tree.{Tree}
+use Rattle.ocfl_tree.specs.StorageRoot.{StorageRoot}
 use Rattle.ocfl_audit.specs.Trail.{inventories}
 use Rattle.ocfl_audit.specs.Between.{looked_between, read_between}
 use Rattle.ocfl_audit.proofs.OnLiterals.{audit_on_literals}
 use Rattle.ocfl_audit.proofs.CaseTrees.{place, text_at, folder, storage_root, object_in, listing, lists_f}
 
 -- objects `bare` with no inventory, `two` with two declarations, `u` of unknown version, one in the extensions, one in the content of `o`, and `h/q` whose head stops at what its inventory says
-abbrev some_count : Tree
+abbrev some_count : StorageRoot
 some_count = storage_root (
     folder "bare" ∷ text_at "bare/0=ocfl_object_1.1" "ocfl_object_1.1\n" ∷ folder "bare/v1" ∷
     folder "extensions" ∷ object_in "extensions/e" (listing lists_f) (
@@ -42,7 +42,7 @@ unfolding audit_on_literals looked_between read_between
 up_to_nothing = (refl, refl)
 
 -- a storage root of unknown version
-abbrev unknown_root : Tree
+abbrev unknown_root : StorageRoot
 unknown_root = text_at "0=ocfl_2.0" "ocfl_2.0\n" ∷ object_in "o" (listing lists_f) []
 
 nothing_of_an_unknown_root : (inventories unknown_root ≡ []) × (looked_between unknown_root None None ≡ [] ∷ [])

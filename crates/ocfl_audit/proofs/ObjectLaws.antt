@@ -6,7 +6,7 @@ use Rattle.std.specs.declared.cmp.Ordering.{Ordering}
 use Rattle.std.specs.declared.cmp.Ordering.TheVariants.{Less, Equal, Greater}
 use Rattle.ocfl_tree.specs.Place.{Place, Text, place_cmp, text_cmp}
 use Rattle.ocfl_tree.specs.Ascending.{IsAmong, IsAscending, IsBeforeAll}
-use Rattle.ocfl_tree.specs.Tree.{Tree, dir, file_at, files_in, is_dir}
+use Rattle.ocfl_tree.specs.StorageRoot.{StorageRoot, dir, file_at, files_in, is_dir}
 use Rattle.ocfl_tree.proofs.Orders.{true_not_false, among_map}
 use Rattle.ocfl_inventory.specs.Declaration.{Declared, undeclared, known, unknown, several, is_declaration, declared_by, is_known, is_declared}
 use Rattle.ocfl_inventory.specs.declared.declaration.Level.TheVariants.{Object}
@@ -46,7 +46,7 @@ still_less (n ∷ a) (m ∷ b) s t h apart = by (text_cmp n m) refl h (still_les
 
 -- ---- an object's root
 
-module _ (root : Tree) where
+module _ (root : StorageRoot) where
   zone_parts : (p o q : Place) → zone root p ≡ inside o q → (is_known (root_declared root) ≡ true) × ((is_in_extensions root p ≡ false) × (object_zone root [] p ≡ inside o q))
   zone_parts p o q h = by (is_known (root_declared root)) (is_in_extensions root p) refl refl h
     where

@@ -3,7 +3,7 @@ use Rattle.std.proofs.Common.{◌≡◌, List, [], ◌∷◌, ◌++◌, codes, r
 use Prim.Native.String.{String}
 use Rattle.std.specs.List.{join_with_byte}
 use Rattle.ocfl_tree.specs.Place.{Text}
-use Rattle.ocfl_tree.specs.Tree.{Tree}
+use Rattle.ocfl_tree.specs.StorageRoot.{StorageRoot}
 use Rattle.ocfl_report.specs.Text.{text}
 use Rattle.ocfl_report.specs.declared.code.Code.{Code}
 use Rattle.ocfl_report.specs.declared.code.Code.TheVariants.{E099, E100, S06}
@@ -99,7 +99,7 @@ element_with_nul = refl
 -- the same in whole audits: a kept path has its line, and a bad one is in the head
 
 -- a manifest that lists one path
-abbrev lists_one : Text → Tree
+abbrev lists_one : Text → StorageRoot
 lists_one path = sha256_object (inventory "sha256" (codes "{\"x\":[\"" ++ path ++ codes "\"]}") (codes "{}")) []
 
 abbrev keeps : String → Text → Case

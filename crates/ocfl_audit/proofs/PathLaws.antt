@@ -6,7 +6,7 @@ use Rattle.std.specs.declared.cmp.Ordering.{Ordering}
 use Rattle.std.specs.declared.cmp.Ordering.TheVariants.{Less, Equal, Greater}
 use Rattle.ocfl_tree.specs.Place.{Place, Text, place_eq}
 use Rattle.ocfl_tree.specs.Ascending.{insert_once, ascending, IsAmong}
-use Rattle.ocfl_tree.specs.Tree.{Tree, Leaf, file, dir, other}
+use Rattle.ocfl_tree.specs.StorageRoot.{StorageRoot, Leaf, file, dir, other}
 use Rattle.ocfl_report.specs.Line.{note}
 use Rattle.ocfl_digest.specs.Algorithm.{algorithm_name}
 use Rattle.ocfl_inventory.specs.Table.{Table, Triple, Named, named, paths_of}
@@ -62,13 +62,13 @@ missing_filled ns h = by (ascending block_cmp ns) (ascending_filled block_cmp ns
     by [] k = absurd (k refl)
     by (m ∷ ms) k = filled _ _
 
-content_filled : (root : Tree) (p : Place) (ns : List Named) (u : Option ℕ) (leaf : Option Leaf) → ns ≢ [] → content_notes root p ns u leaf ≢ []
+content_filled : (root : StorageRoot) (p : Place) (ns : List Named) (u : Option ℕ) (leaf : Option Leaf) → ns ≢ [] → content_notes root p ns u leaf ≢ []
 content_filled root p ns u None h = missing_filled ns h
 content_filled root p ns u (Some (file bytes)) h = not_filled (file_notes bytes ns u) (file_some bytes ns u)
 content_filled root p ns u (Some dir) h = append_filled (listed_dir_notes root p _) (missing_notes ns) (missing_filled ns h)
 content_filled root p ns u (Some other) h = filled _ _
 
-pub notes_at : (root : Tree) (u : Option ℕ) (p : Place) → p ≢ [] → notes root u p ≡ notes_in root p u (zone root p)
+pub notes_at : (root : StorageRoot) (u : Option ℕ) (p : Place) → p ≢ [] → notes root u p ≡ notes_in root p u (zone root p)
 notes_at root u [] h = absurd (h refl)
 notes_at root u (n ∷ p) h = refl
 
@@ -78,7 +78,7 @@ deep_path content (v ∷ []) h = absurd (true_not_false (sym h))
 deep_path content (v ∷ c ∷ []) h = absurd (true_not_false (sym h))
 deep_path content (v ∷ c ∷ n ∷ r) h = (v, (c, (n, (r, refl))))
 
-pub path_lines : (root : Tree) (u : Option ℕ) (p o q : Place) (t : Table) → zone root p ≡ inside o q → table_at root o ≡ Some t → IsAmong (paths_of t) q → notes root u p ≢ []
+pub path_lines : (root : StorageRoot) (u : Option ℕ) (p o q : Place) (t : Table) → zone root p ≡ inside o q → table_at root o ≡ Some t → IsAmong (paths_of t) q → notes root u p ≢ []
 path_lines root u p o q t z h i =
     let k = table_from_inventory root o t h in
     let m = kept_paths k.0 q (subst (λ x. IsAmong (paths_of x) q) k.1 i) in
@@ -115,7 +115,7 @@ hashed_named : (ns : List Named) (leaf : Option Leaf) → nat_lt 0 (cost_of ns N
 hashed_named ns leaf h e = true_not_false (sym h ∙ ap (nat_lt 0) (free_unnamed ns leaf e))
 
 -- a place with a named digest is a content path of the table of the object that it lies in
-pub record IsPath (root : Tree) (p : Place) : Type 0 where
+pub record IsPath (root : StorageRoot) (p : Place) : Type 0 where
   pub object : Place
   pub table : Table
   pub version : Text
@@ -126,7 +126,7 @@ pub record IsPath (root : Tree) (p : Place) : Type 0 where
   pub has : table_at root object ≡ Some table
   pub among : IsAmong (paths_of table) (version ∷ content ∷ name ∷ rest)
 
-pub named_path : (root : Tree) (p : Place) → named_at root p ≢ [] → IsPath root p
+pub named_path : (root : StorageRoot) (p : Place) → named_at root p ≢ [] → IsPath root p
 named_path root p some = by (zone root p) refl some
   where
     in_table : (o q : Place) (t : Table) → zone root p ≡ inside o q → table_at root o ≡ Some t → named t q ≢ [] → IsPath root p
@@ -156,10 +156,10 @@ named_path root p some = by (zone root p) refl some
         go None e l = absurd (l refl)
         go (Some t) e l = in_table o q t z e l
 
-pub hashed_path : (root : Tree) (p : Place) → is_hashed root p ≡ true → IsPath root p
+pub hashed_path : (root : StorageRoot) (p : Place) → is_hashed root p ≡ true → IsPath root p
 hashed_path root p h = named_path root p (hashed_named (named_at root p) (seen root p) h)
 
-pub hashed_no_meta : (root : Tree) (p : Place) → is_hashed root p ≡ true → is_meta root p ≡ false
+pub hashed_no_meta : (root : StorageRoot) (p : Place) → is_hashed root p ≡ true → is_meta root p ≡ false
 hashed_no_meta root p h = by (hashed_path root p h)
   where
     by : IsPath root p → is_meta root p ≡ false
@@ -169,5 +169,5 @@ hashed_no_meta root p h = by (hashed_path root p h)
         (λ i. is_root_meta (whole i) || is_meta_zone (k.lies i)) ∙ ap (λ b. b || false) (no_root_meta k.object k.version k.content k.name k.rest)
 
 -- and so it has lines
-pub hashed_lines : (root : Tree) (u : Option ℕ) (p : Place) → is_hashed root p ≡ true → notes root u p ≢ []
+pub hashed_lines : (root : StorageRoot) (u : Option ℕ) (p : Place) → is_hashed root p ≡ true → notes root u p ≢ []
 hashed_lines root u p h = let k = hashed_path root p h in path_lines root u p k.object _ k.table k.lies k.has k.among

@@ -2,7 +2,7 @@
 use Rattle.std.proofs.Common.{◌≡◌, ◌<◌, arith, ℕ, [], ◌∷◌, ◌++◌, codes, refl, Bool, true, false, ◌&&◌, nat_le, if◌then◌else◌, length, replicate, Some, None}
 use Rattle.std.specs.declared.cmp.Ordering.TheVariants.{Less}
 use Rattle.ocfl_tree.specs.Place.{Text, Place, place_cmp, text_cmp}
-use Rattle.ocfl_tree.specs.Tree.{Tree, file, dir, other, is_dir, files_in}
+use Rattle.ocfl_tree.specs.StorageRoot.{StorageRoot, file, dir, other, is_dir, files_in}
 use Rattle.ocfl_tree.specs.Name.{IsPlace}
 use Rattle.ocfl_report.specs.Line.{found, plain}
 use Rattle.ocfl_report.specs.Text.{escape, place_text}
@@ -118,20 +118,20 @@ no_place_has_an_empty_name p = let h : 1 < 3 = omega arith in (p 1 [] h).fits.no
 abbrev deep : ℕ → Place
 deep n = replicate n (codes "d")
 
-deepest_entered : (root : Tree) → is_entered root (deep 127) ≡ is_dir root (deep 127) && is_listed_zone root (zone root (deep 127))
+deepest_entered : (root : StorageRoot) → is_entered root (deep 127) ≡ is_dir root (deep 127) && is_listed_zone root (zone root (deep 127))
 deepest_entered root = refl
 
-too_deep_to_be_entered : (root : Tree) → is_entered root (deep 128) ≡ false
+too_deep_to_be_entered : (root : StorageRoot) → is_entered root (deep 128) ≡ false
 too_deep_to_be_entered root = refl
 
-object_too_deep : (root : Tree) → object_declared root (deep 128) ≡ undeclared
+object_too_deep : (root : StorageRoot) → object_declared root (deep 128) ≡ undeclared
 object_too_deep root = never (is_dir root (deep 128))
   where
     never : (b : Bool) → (if b && nat_le (length (deep 128)) 127 then declared Object (files_in root (deep 128)) else undeclared) ≡ undeclared
     never true = refl
     never false = refl
 
-deepest_object : (root : Tree) → object_declared root (deep 127) ≡ (if is_dir root (deep 127) then declared Object (files_in root (deep 127)) else undeclared)
+deepest_object : (root : StorageRoot) → object_declared root (deep 127) ≡ (if is_dir root (deep 127) then declared Object (files_in root (deep 127)) else undeclared)
 deepest_object root = by_directory (is_dir root (deep 127))
   where
     by_directory : (b : Bool) → (if b && nat_le (length (deep 127)) 127 then declared Object (files_in root (deep 127)) else undeclared) ≡ (if b then declared Object (files_in root (deep 127)) else undeclared)
@@ -141,30 +141,30 @@ deepest_object root = by_directory (is_dir root (deep 127))
 deepest_empty_directory : hierarchy_notes [] (deep 127) (Some dir) ≡ plain E073 ∷ []
 deepest_empty_directory = refl
 
-directory_too_deep : (root : Tree) → hierarchy_notes root (deep 128) (Some dir) ≡ plain S05 ∷ []
+directory_too_deep : (root : StorageRoot) → hierarchy_notes root (deep 128) (Some dir) ≡ plain S05 ∷ []
 directory_too_deep root = refl
 
 -- also in the audit, wherever one is seen in the hierarchy
-seen_directory_too_deep : (root : Tree) → zone root (deep 128) ≡ hierarchy → seen root (deep 128) ≡ Some dir → notes root None (deep 128) ≡ plain S05 ∷ []
+seen_directory_too_deep : (root : StorageRoot) → zone root (deep 128) ≡ hierarchy → seen root (deep 128) ≡ Some dir → notes root None (deep 128) ≡ plain S05 ∷ []
 seen_directory_too_deep root where_it_lies is_seen = rw (where_it_lies, is_seen)
 
 -- files and links there have their lines
-deepest_file_and_link : (root : Tree) (bytes : Text) → (hierarchy_notes root (deep 128) (Some (file bytes)) ≡ plain E072 ∷ []) × (hierarchy_notes root (deep 128) (Some other) ≡ plain S04 ∷ [])
+deepest_file_and_link : (root : StorageRoot) (bytes : Text) → (hierarchy_notes root (deep 128) (Some (file bytes)) ≡ plain E072 ∷ []) × (hierarchy_notes root (deep 128) (Some other) ≡ plain S04 ∷ [])
 deepest_file_and_link root bytes = (refl, refl)
 
-version_too_deep : (root : Tree) → object_entry_notes root (deep 128) (codes "v1") (Some dir) ≡ plain S05 ∷ []
+version_too_deep : (root : StorageRoot) → object_entry_notes root (deep 128) (codes "v1") (Some dir) ≡ plain S05 ∷ []
 version_too_deep root = refl
 
 -- what would not be listed is not too deep
-stray_directory_at_the_depth : (root : Tree) → (object_entry_notes root (deep 128) (codes "junk") (Some dir) ≡ plain E001 ∷ []) × (object_entry_notes root (deep 128) (codes "logs") (Some dir) ≡ [])
+stray_directory_at_the_depth : (root : StorageRoot) → (object_entry_notes root (deep 128) (codes "junk") (Some dir) ≡ plain E001 ∷ []) × (object_entry_notes root (deep 128) (codes "logs") (Some dir) ≡ [])
 stray_directory_at_the_depth root = (refl, refl)
 
 abbrev bare_table : Table
 bare_table = record { algorithm = Sha256; content = codes "content"; triples = [] }
 
-content_directory_too_deep : (root : Tree) → (version_entry_notes root bare_table (deep 128) (codes "content") (Some dir) ≡ plain S05 ∷ []) × (version_entry_notes root bare_table (deep 128) (codes "other") (Some dir) ≡ [])
+content_directory_too_deep : (root : StorageRoot) → (version_entry_notes root bare_table (deep 128) (codes "content") (Some dir) ≡ plain S05 ∷ []) × (version_entry_notes root bare_table (deep 128) (codes "other") (Some dir) ≡ [])
 content_directory_too_deep root = (refl, refl)
 
 -- in place of the line for an empty one
-directory_in_content_too_deep : (root : Tree) → (content_notes root (deep 128) [] (Some 0) (Some dir) ≡ plain S05 ∷ []) × (content_notes [] (deep 127) [] (Some 0) (Some dir) ≡ plain E024 ∷ [])
+directory_in_content_too_deep : (root : StorageRoot) → (content_notes root (deep 128) [] (Some 0) (Some dir) ≡ plain S05 ∷ []) × (content_notes [] (deep 127) [] (Some 0) (Some dir) ≡ plain E024 ∷ [])
 directory_in_content_too_deep root = (refl, refl)

@@ -2,7 +2,7 @@
 use Rattle.std.proofs.Common.{◌≡◌, ℕ, List, [], ◌∷◌, ◌++◌, codes, refl, Some, None, true, false, map, replicate, take}
 use Prim.Native.String.{String}
 use Rattle.ocfl_tree.specs.Place.{Text}
-use Rattle.ocfl_tree.specs.Tree.{Tree}
+use Rattle.ocfl_tree.specs.StorageRoot.{StorageRoot}
 use Rattle.ocfl_report.specs.Line.{found}
 use Rattle.ocfl_report.specs.Text.{text, place_text}
 use Rattle.ocfl_audit.specs.Audit.{audit, after, total_cost}
@@ -12,11 +12,11 @@ use Rattle.ocfl_audit.proofs.OnLiterals.{audit_on_literals}
 use Rattle.ocfl_audit.proofs.CaseTrees.{Case, AllAre, Behind, behind, behind_each, place, text_at, folder, storage_root, sha256_object, f_is_abc, key, listing, lists_f, three_files, three_objects, missing_and_right, sha512_file, abc}
 
 -- the texts of the runs that these budgets make
-abbrev texts : Tree → List ℕ → List Text
+abbrev texts : StorageRoot → List ℕ → List Text
 texts root budgets = map text (runs (audit root []) (map of_budget budgets))
 
 -- and what each spends
-abbrev costs : Tree → List ℕ → List ℕ
+abbrev costs : StorageRoot → List ℕ → List ℕ
 costs root budgets = map total_cost (runs (audit root []) (map of_budget budgets))
 
 -- ---- a storage root alone
@@ -87,11 +87,11 @@ no_budgets = refl
 -- ---- a budget, and a limit on files
 
 -- what each run spends under so many limits, each of this budget and so many files
-abbrev costs_under : Tree → ℕ → Limits → List ℕ
+abbrev costs_under : StorageRoot → ℕ → Limits → List ℕ
 costs_under root n limits = map total_cost (runs (audit root []) (replicate n limits))
 
 -- and how many files it starts
-abbrev files_under : Tree → ℕ → Limits → List ℕ
+abbrev files_under : StorageRoot → ℕ → Limits → List ℕ
 files_under root n limits = map total_files (runs (audit root []) (replicate n limits))
 
 abbrev limits_of : ℕ → ℕ → Limits
@@ -126,7 +126,7 @@ places_of_the_first_run = (refl, refl)
 -- ---- behind a place
 
 -- what is left behind a place, by a budget of nine
-abbrev resumes : Tree → Behind → Case
+abbrev resumes : StorageRoot → Behind → Case
 resumes root b = record { name = b.name; shown = text (cut (after (audit root []) (Some (place b.place))) (of_budget 9)); wanted = codes b.lines }
 
 behind_places_of_three_files : AllAre (
@@ -148,7 +148,7 @@ behind_no_place = refl
 
 -- ---- what costs nothing is taken although the budget is spent
 
-abbrev listed_and_unlisted : Tree
+abbrev listed_and_unlisted : StorageRoot
 listed_and_unlisted = sha256_object (listing lists_f) (f_is_abc ++ text_at "o/v1/content/z" "abc" ∷ [])
 
 unlisted_file_behind_the_budget : (texts listed_and_unlisted (4 ∷ 4 ∷ []) ≡ codes "ok\t.\t-\nok\to\t-\nok\to/v1/content/f\t3\nE023\to/v1/content/z\t-\n" ∷ []) × (costs listed_and_unlisted (4 ∷ 4 ∷ []) ≡ 4 ∷ []) × (left (audit listed_and_unlisted []) (of_budget 4) ≡ [])
@@ -167,7 +167,7 @@ finding_of_one_run = refl
 
 -- ---- a slash before a dash
 
-abbrev slash_and_dash : Tree
+abbrev slash_and_dash : StorageRoot
 slash_and_dash = sha256_object (listing (key abc.sha256 "[\"v1/content/a-b\",\"v1/content/a/b\"]" ∷ [])) (text_at "o/v1/content/a-b" "abc" ∷ folder "o/v1/content/a" ∷ text_at "o/v1/content/a/b" "abc" ∷ [])
 
 slash_before_dash_in_runs : texts slash_and_dash (1 ∷ 1 ∷ 1 ∷ []) ≡ codes "ok\t.\t-\nok\to\t-\nok\to/v1/content/a/b\t3\n" ∷ codes "ok\to/v1/content/a-b\t3\n" ∷ []

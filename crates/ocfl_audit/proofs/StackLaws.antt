@@ -7,7 +7,7 @@ use Rattle.std.specs.declared.cmp.Ordering.{Ordering}
 use Rattle.std.specs.declared.cmp.Ordering.TheVariants.{Less, Equal, Greater}
 use Rattle.ocfl_tree.specs.Place.{Place, Text, text_cmp, text_eq, place_cmp, place_eq, beginnings, child_name}
 use Rattle.ocfl_tree.specs.Ascending.{IsAscending, IsAmong}
-use Rattle.ocfl_tree.specs.Tree.{Tree, Leaf, lookup, at, is_dir, is_dir_leaf, names_in}
+use Rattle.ocfl_tree.specs.StorageRoot.{StorageRoot, Leaf, lookup, at, is_dir, is_dir_leaf, names_in}
 use Rattle.ocfl_inventory.specs.Table.{Table, paths_of}
 use Rattle.ocfl_audit.specs.Zone.{hierarchy, inside, zone, table_at, seen, is_entered, is_listed_zone, max_listed_depth}
 use Rattle.ocfl_audit.specs.Walk.{is_reached, seen_names, IsClosed}
@@ -32,7 +32,7 @@ child_whole (a ∷ d) (m ∷ p) n h = by (text_eq a m) refl h (child_whole d p n
     by true e g k = λ i. sym (text_from_test a m e) i ∷ k g i
     by false e g k = cc
 
-key_from_entry : (d : Place) (n : Text) (root : Tree) → IsAmong (filter_map (λ e. child_name d e.0) root) n → IsAmong (map (λ e. e.0) root) (d ++ n ∷ [])
+key_from_entry : (d : Place) (n : Text) (root : StorageRoot) → IsAmong (filter_map (λ e. child_name d e.0) root) n → IsAmong (map (λ e. e.0) root) (d ++ n ∷ [])
 key_from_entry d n [] i = absurd i
 key_from_entry d n (e ∷ root) i = by (child_name d e.0) refl i (key_from_entry d n root)
   where
@@ -41,7 +41,7 @@ key_from_entry d n (e ∷ root) i = by (child_name d e.0) refl i (key_from_entry
     by (Some m) f (inl g) k = inl (sym (child_whole d e.0 n (f ∙ ap (λ x. Some x) (sym g))))
     by (Some m) f (inr j) k = inr (k j)
 
-key_lookup : (root : Tree) (p : Place) → IsAmong (map (λ e. e.0) root) p → (leaf : Leaf) × (lookup root p ≡ Some leaf)
+key_lookup : (root : StorageRoot) (p : Place) → IsAmong (map (λ e. e.0) root) p → (leaf : Leaf) × (lookup root p ≡ Some leaf)
 key_lookup [] p i = absurd i
 key_lookup (e ∷ root) p i = by (place_eq e.0 p) refl i (key_lookup root p)
   where
@@ -50,7 +50,7 @@ key_lookup (e ∷ root) p i = by (place_eq e.0 p) refl i (key_lookup root p)
     by false f (inl g) k = absurd (true_not_false (sym (place_same p) ∙ ap (λ x. place_eq x p) g ∙ f))
     by false f (inr j) k = k j
 
-entered_dir : (root : Tree) (d : Place) → is_reached root d ≡ true → is_dir_leaf (at root d) ≡ true
+entered_dir : (root : StorageRoot) (d : Place) → is_reached root d ≡ true → is_dir_leaf (at root d) ≡ true
 entered_dir root d h = by (list_all (is_entered root) (beginnings d)) (nat_le (length d) max_listed_depth) (is_dir root d) h
   where
     by : (a b c : Bool) → a && (b && (c && is_listed_zone root (zone root d))) ≡ true → c ≡ true
@@ -59,7 +59,7 @@ entered_dir root d h = by (list_all (is_entered root) (beginnings d)) (nat_le (l
     by true false c k = absurd (true_not_false (sym k))
     by false b c k = absurd (true_not_false (sym k))
 
-pub entry_seen : (root : Tree) (d : Place) (n : Text) → IsAmong (seen_names root d) n → (leaf : Leaf) × (seen root (d ++ n ∷ []) ≡ Some leaf)
+pub entry_seen : (root : StorageRoot) (d : Place) (n : Text) → IsAmong (seen_names root d) n → (leaf : Leaf) × (seen root (d ++ n ∷ []) ≡ Some leaf)
 entry_seen root d n i = by (is_reached root d) refl i
   where
     there : (leaf : Leaf) × (lookup root (d ++ n ∷ []) ≡ Some leaf) → is_reached root d ≡ true → (leaf : Leaf) × (seen root (d ++ n ∷ []) ≡ Some leaf)
@@ -92,7 +92,7 @@ first_least ps ascends last x rest h =
     tail : filter (above last) ps ≡ x ∷ rest → place_cmp last x ≡ Less → IsAmong ps x → rest ≡ filter (above x) ps
     tail g l i = let both : x ∷ rest ≡ x ∷ filter (above x) ps = h ∙ least_above ps ascends last x i l least in cc
 
-module _ (root : Tree) (closed : IsClosed root) where
+module _ (root : StorageRoot) (closed : IsClosed root) where
   pub stack_starts : (q : Place) → IsStack root q (listed_at root [] q [])
   stack_starts q = listed_is root closed q
 
@@ -123,7 +123,7 @@ module _ (root : Tree) (closed : IsClosed root) where
 
 -- ---- the table
 
-module _ (root : Tree) (last o s : Place) (t : Table) (z : zone root last ≡ inside o s) (h : table_at root o ≡ Some t) where
+module _ (root : StorageRoot) (last o s : Place) (t : Table) (z : zone root last ≡ inside o s) (h : table_at root o ≡ Some t) where
   whole : last ≡ o ++ s
   whole = (zone_is root last o s z).whole
 
@@ -148,20 +148,20 @@ module _ (root : Tree) (last o s : Place) (t : Table) (z : zone root last ≡ in
       let e = same_table o' s' t' y g in
       none q (subst (λ v. IsAmong (paths_of v) q) e.1 i) (sym (cmp_behind o s q) ∙ (λ k. place_cmp (sym whole k) (sym e.0 k ++ q)) ∙ l)
 
-pub path_off : (root : Tree) (last x : Place) → NoPathAbove root last → NoPathBetween root last x
+pub path_off : (root : StorageRoot) (last x : Place) → NoPathAbove root last → NoPathBetween root last x
 path_off root last x h o s q t y g i l m = h o s q t y g i l
 
-pub path_hierarchy : (root : Tree) (last : Place) → zone root last ≡ hierarchy → NoPathAbove root last
+pub path_hierarchy : (root : StorageRoot) (last : Place) → zone root last ≡ hierarchy → NoPathAbove root last
 path_hierarchy root last z o s q t y g i l = cc
 
 -- ---- what the program holds
 
 -- a listing, sorted, is what the definition names
-pub names_sorted : (root : Tree) (d : Place) (ns : List Text) → IsAscending text_cmp ns → ((n : Text) → IsAmong ns n ↔ IsAmong (names_in root d) n) → ns ≡ names_in root d
+pub names_sorted : (root : StorageRoot) (d : Place) (ns : List Text) → IsAscending text_cmp ns → ((n : Text) → IsAmong ns n ↔ IsAmong (names_in root d) n) → ns ≡ names_in root d
 names_sorted root d ns h same = ascending_unique text_cmp_total text_cmp_exact ns (names_in root d) h (ascends_ascending text_cmp_total (filter_map (λ e. child_name d e.0) root)) same
 
 -- below a directory that is not reached no listing leads to anything, so the entry at a place may end there
-pub start_stops : (root : Tree) (ps : List Place) (d q : Place) (fs : List Frame) → is_reached root d ≡ false → seen_left ps (listed_at root d q fs) ≡ seen_left ps fs
+pub start_stops : (root : StorageRoot) (ps : List Place) (d q : Place) (fs : List Frame) → is_reached root d ≡ false → seen_left ps (listed_at root d q fs) ≡ seen_left ps fs
 start_stops root ps d [] fs h = ap (λ b. seen_in ps (d, cond b (names_in root d) []) ++ seen_left ps fs) h
 start_stops root ps d (n ∷ q) fs h =
     start_stops root ps (d ++ n ∷ []) q ((d, filter (λ m. is_lt (text_cmp n m)) (seen_names root d)) ∷ fs) (reached_step root d n ∙ ap (λ b. b && is_entered root (d ++ n ∷ [])) h)

@@ -3,7 +3,7 @@ use Rattle.std.proofs.Common.{◌≡◌, List, [], ◌∷◌, ◌++◌, refl, sy
 use Rattle.std.specs.Prelude.{cond, if◌then◌else◌, ◌&&◌, ◌||◌, not, nat_le, suc, length, None}
 use Rattle.std.specs.List.{list_all}
 use Rattle.ocfl_tree.specs.Place.{Place, Text, beginnings}
-use Rattle.ocfl_tree.specs.Tree.{Tree, at, is_dir}
+use Rattle.ocfl_tree.specs.StorageRoot.{StorageRoot, at, is_dir}
 use Rattle.ocfl_inventory.specs.Declaration.{is_declared, is_known}
 use Rattle.ocfl_inventory.specs.Table.{Table}
 use Rattle.ocfl_audit.specs.Zone.{skipped, hierarchy, inside, object_zone, object_declared, zone, root_declared, is_in_extensions, is_entered, is_listed_zone, is_listed_within, seen, max_listed_depth}
@@ -17,7 +17,7 @@ append_one : (front rest : Place) (n : Text) → (front ++ n ∷ []) ++ rest ≡
 append_one [] rest n = refl
 append_one (m ∷ front) rest n = ap (λ p. m ∷ p) (append_one front rest n)
 
-pub object_zone_step : (root : Tree) (front d : Place) (n : Text) → object_zone root front (d ++ n ∷ []) ≡ step_zone root (front ++ d) n (object_zone root front d)
+pub object_zone_step : (root : StorageRoot) (front d : Place) (n : Text) → object_zone root front (d ++ n ∷ []) ≡ step_zone root (front ++ d) n (object_zone root front d)
 object_zone_step root front [] n = ap (λ x. step_zone root x n hierarchy) (sym (append_nothing front))
 object_zone_step root front (m ∷ d) n = by (is_declared (object_declared root (front ++ m ∷ []))) (object_zone_step root (front ++ m ∷ []) d n)
   where
@@ -47,7 +47,7 @@ all_beginnings_step test (m ∷ d) n =
 
 -- ---- one name further
 
-pub zone_step : (root : Tree) (d : Place) (n : Text) → zone root (d ++ n ∷ []) ≡ (if is_extensions root d n then skipped else step_zone root d n (zone root d))
+pub zone_step : (root : StorageRoot) (d : Place) (n : Text) → zone root (d ++ n ∷ []) ≡ (if is_extensions root d n then skipped else step_zone root d n (zone root d))
 zone_step root [] n = by (not (is_known (root_declared root))) (is_in_extensions root (n ∷ []))
   where
     by : (x y : Bool) → cond (x || y) skipped (object_zone root [] (n ∷ [])) ≡ cond y skipped (step_zone root [] n (cond (x || false) skipped hierarchy))
@@ -65,14 +65,14 @@ length_step : (d : Place) (n : Text) → length (d ++ n ∷ []) ≡ suc (length 
 length_step [] n = refl
 length_step (m ∷ d) n = ap suc (length_step d n)
 
-pub entered_step : (root : Tree) (d : Place) (n : Text) → is_entered root (d ++ n ∷ [])
+pub entered_step : (root : StorageRoot) (d : Place) (n : Text) → is_entered root (d ++ n ∷ [])
     ≡ nat_le (suc (length d)) max_listed_depth && (is_dir root (d ++ n ∷ []) && is_listed_zone root (if is_extensions root d n then skipped else step_zone root d n (zone root d)))
 entered_step root d n = λ i. nat_le (length_step d n i) max_listed_depth && (is_dir root (d ++ n ∷ []) && is_listed_zone root (zone_step root d n i))
 
-pub reached_step : (root : Tree) (d : Place) (n : Text) → is_reached root (d ++ n ∷ []) ≡ is_reached root d && is_entered root (d ++ n ∷ [])
+pub reached_step : (root : StorageRoot) (d : Place) (n : Text) → is_reached root (d ++ n ∷ []) ≡ is_reached root d && is_entered root (d ++ n ∷ [])
 reached_step root d n = ap (λ b. b && is_entered root (d ++ n ∷ [])) (all_beginnings_step (is_entered root) d n)
 
-pub seen_step : (root : Tree) (d : Place) (n : Text) → seen root (d ++ n ∷ []) ≡ (if is_reached root d then at root (d ++ n ∷ []) else None)
+pub seen_step : (root : StorageRoot) (d : Place) (n : Text) → seen root (d ++ n ∷ []) ≡ (if is_reached root d then at root (d ++ n ∷ []) else None)
 seen_step root d n = ap (λ b. cond b (at root (d ++ n ∷ [])) None) (all_beginnings_step (is_entered root) d n)
 
 pub listed_step : (t : Table) (q : Place) (n : Text) → is_listed_within t (q ++ n ∷ []) ≡ step_listed t q n

@@ -3,7 +3,7 @@ use Rattle.std.proofs.Common.{◌≡◌, ℕ, zero, suc, ◌<◌, length, get_or
 use Rattle.std.specs.Prelude.{cond}
 use Rattle.std.specs.List.{AllByRecursion}
 use Rattle.std.proofs.lemmas.List.Elements.{filter-append}
-use Rattle.ocfl_tree.specs.Tree.{Tree}
+use Rattle.ocfl_tree.specs.StorageRoot.{StorageRoot}
 use Rattle.ocfl_tree.specs.declared.store.Opening.{Opening}
 use Rattle.ocfl_audit.specs.Trail.{is_meta, content_openings, content_trail, unread_of}
 
@@ -15,20 +15,20 @@ none_mapped [] h = refl
 none_mapped (o ∷ os) h = absurd cc
 
 -- openings of metadata alone add nothing to those of content
-pub meta_before : (root : Tree) (front trail : List Opening) → content_trail root front ≡ [] → content_openings root (front ++ trail) ≡ content_openings root trail
+pub meta_before : (root : StorageRoot) (front trail : List Opening) → content_trail root front ≡ [] → content_openings root (front ++ trail) ≡ content_openings root trail
 meta_before root front trail h = filter_append (λ o. not (is_meta root o.place)) front trail ∙ ap (λ os. os ++ content_openings root trail) (none_mapped (content_openings root front) h)
 
-pub content_behind : (root : Tree) (front trail : List Opening) → content_trail root front ≡ [] → content_trail root (front ++ trail) ≡ content_trail root trail
+pub content_behind : (root : StorageRoot) (front trail : List Opening) → content_trail root front ≡ [] → content_trail root (front ++ trail) ≡ content_trail root trail
 content_behind root front trail h = ap (map (λ o. o.place)) (meta_before root front trail h)
 
-pub unread_behind : (root : Tree) (front trail : List Opening) → content_trail root front ≡ [] → unread_of root (front ++ trail) ≡ unread_of root trail
+pub unread_behind : (root : StorageRoot) (front trail : List Opening) → content_trail root front ≡ [] → unread_of root (front ++ trail) ≡ unread_of root trail
 unread_behind root front trail h = ap (λ os. map (λ o. (o.place, o.given)) (filter (λ o. o.failed) os)) (meta_before root front trail h)
 
-pub none_unread : (root : Tree) (trail : List Opening) → content_trail root trail ≡ [] → unread_of root trail ≡ []
+pub none_unread : (root : StorageRoot) (trail : List Opening) → content_trail root trail ≡ [] → unread_of root trail ≡ []
 none_unread root trail h = ap (λ os. map (λ o. (o.place, o.given)) (filter (λ o. o.failed) os)) (none_mapped (content_openings root trail) h)
 
 -- where nothing is content, all is metadata
-pub all_meta : (root : Tree) (trail : List Opening) → content_trail root trail ≡ [] → AllByRecursion (λ o. is_meta root o.place ≡ true) trail
+pub all_meta : (root : StorageRoot) (trail : List Opening) → content_trail root trail ≡ [] → AllByRecursion (λ o. is_meta root o.place ≡ true) trail
 all_meta root [] h = tt
 all_meta root (o ∷ trail) h = by (is_meta root o.place) refl h (all_meta root trail)
   where
@@ -37,7 +37,7 @@ all_meta root (o ∷ trail) h = by (is_meta root o.place) refl h (all_meta root 
     by true e k rest = (e, rest k)
     by false e k rest = absurd cc
 
-pub meta_at : (root : Tree) (trail : List Opening) (i : ℕ) (d : Opening) → i < length trail → AllByRecursion (λ o. is_meta root o.place ≡ true) trail → is_meta root (get_or trail i d).place ≡ true
+pub meta_at : (root : StorageRoot) (trail : List Opening) (i : ℕ) (d : Opening) → i < length trail → AllByRecursion (λ o. is_meta root o.place ≡ true) trail → is_meta root (get_or trail i d).place ≡ true
 meta_at root [] i d l h = absurd (omega (arith, l))
 meta_at root (o ∷ trail) zero d l h = h.0
 meta_at root (o ∷ trail) (suc i) d l h = meta_at root trail i d (omega (arith, l)) h.1

@@ -1,7 +1,7 @@
 -- Worked cases: content that can't be read.
 use Rattle.std.proofs.Common.{◌≡◌, ℕ, List, [], ◌∷◌, codes, refl, Bool, true, false, map, replicate}
 use Prim.Native.String.{String}
-use Rattle.ocfl_tree.specs.Tree.{Tree}
+use Rattle.ocfl_tree.specs.StorageRoot.{StorageRoot}
 use Rattle.ocfl_tree.specs.declared.store.Opening.{Opening}
 use Rattle.ocfl_report.specs.Line.{found}
 use Rattle.ocfl_report.specs.Text.{text}
@@ -13,12 +13,12 @@ use Rattle.ocfl_audit.proofs.OnLiterals.{audit_on_literals}
 use Rattle.ocfl_audit.proofs.CaseTrees.{Case, AllAre, place, text_at, bytes_at, folder, sha256_object, f_is_abc, key, listing, listing_with, lists_f, three_files, abc}
 
 -- the text of the audit where one file gave only so many bytes
-abbrev reports_unread : String → Tree → String → ℕ → String → Case
+abbrev reports_unread : String → StorageRoot → String → ℕ → String → Case
 reports_unread name root p given t = record { name = name; shown = text (audit root ((place p, given) ∷ [])); wanted = codes t }
 
 -- ---- a long file `f` whose read fails behind 65,536 bytes, and a short one
 
-abbrev long_and_short : Tree
+abbrev long_and_short : StorageRoot
 long_and_short = sha256_object (listing (key abc.sha256 "[\"v1/content/f\",\"v1/content/g\"]" ∷ [])) (bytes_at "o/v1/content/f" (replicate 65537 97) ∷ text_at "o/v1/content/g" "abc" ∷ [])
 
 long_file_unread : AllAre (
@@ -77,7 +77,7 @@ cost_where_first_gave_all = refl
 -- ---- what gives way, and what stays
 
 -- `f` is named by fixity alone
-abbrev fixity_alone : Tree
+abbrev fixity_alone : StorageRoot
 fixity_alone = sha256_object (listing_with [] (codes "{\"md5\":{\"900150983cd24fb0d6963f7d28e17f72\":[\"v1/content/f\"]}}")) f_is_abc
 
 other_lines_of_unread_files : AllAre (

@@ -1,7 +1,7 @@
 -- Worked cases: the walk over a stack of listings and the table of one object.
 use Rattle.std.proofs.Common.{◌≡◌, ℕ, List, [], ◌∷◌, codes, refl, map}
 use Rattle.ocfl_tree.specs.Place.{Text, Place}
-use Rattle.ocfl_tree.specs.Tree.{Tree}
+use Rattle.ocfl_tree.specs.StorageRoot.{StorageRoot}
 use Rattle.ocfl_report.specs.Text.{text}
 use Rattle.ocfl_audit.specs.Walk.{walk}
 use Rattle.ocfl_audit.specs.Stack.{taken, lists, listed_at}
@@ -9,7 +9,7 @@ use Rattle.ocfl_audit.proofs.OnLiterals.{audit_on_literals}
 use Rattle.ocfl_audit.proofs.CaseTrees.{Case, AllAre, Behind, behind, behind_each, place, text_at, folder, storage_root, missing_and_right, three_objects, sha512_file}
 
 -- what a walk that enters a tree at a place takes from there on
-abbrev takes : Tree → Behind → Case
+abbrev takes : StorageRoot → Behind → Case
 takes root b = record { name = b.name; shown = text (taken 12 root [] (place b.place) (listed_at root [] (place b.place) [])); wanted = codes b.lines }
 
 -- ---- a file that is missing, and one that is right
@@ -57,7 +57,7 @@ listed_behind_the_second_head = refl
 
 -- ---- a walk through the whole tree
 
-abbrev plain_tree : Tree
+abbrev plain_tree : StorageRoot
 plain_tree = storage_root (folder "x" ∷ folder "y" ∷ text_at "y/z" "z" ∷ [])
 
 walk_through_the_hierarchy : text (walk 4 plain_tree [] []) ≡ codes "ok\t.\t-\nE073\tx\t-\nE072\ty/z\t-\n"

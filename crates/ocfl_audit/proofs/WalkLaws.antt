@@ -4,7 +4,7 @@ use Rattle.std.specs.Prelude.{cond, flat_map}
 use Rattle.std.specs.Ordering.{is_lt}
 use Rattle.ocfl_tree.specs.Place.{Place, Text, text_cmp, place_cmp, place_eq, begins}
 use Rattle.ocfl_tree.specs.Ascending.{ascending, IsAscending, IsAmong}
-use Rattle.ocfl_tree.specs.Tree.{Tree}
+use Rattle.ocfl_tree.specs.StorageRoot.{StorageRoot}
 use Rattle.ocfl_report.specs.Line.{Item}
 use Rattle.ocfl_audit.specs.Audit.{Unread, given_by, item_of, has_lines, candidates, audit, after}
 use Rattle.ocfl_audit.specs.Head.{on}
@@ -34,12 +34,12 @@ none_among : (xs : List Place) → ((z : Place) → IsAmong xs z → ⊥) → xs
 none_among [] h = refl
 none_among (x ∷ xs) h = absurd (h x (inl refl))
 
-pub names_ascend : (root : Tree) (d : Place) → IsAscending text_cmp (names_below root d)
+pub names_ascend : (root : StorageRoot) (d : Place) → IsAscending text_cmp (names_below root d)
 names_ascend root d = ascends_ascending text_cmp_total (seen_names root d ++ path_names root d)
 
 -- ---- items and their places
 
-module _ (root : Tree) (unread : Unread) where
+module _ (root : StorageRoot) (unread : Unread) where
   abbrev pub item_places : List Place
   item_places = filter (λ p. has_lines (item_of root unread p)) (ascending place_cmp (candidates root))
 
@@ -117,7 +117,7 @@ module _ (root : Tree) (unread : Unread) where
 
 -- ---- the laws
 
-module _ (root : Tree) (closed : IsClosed root) (unread : Unread) where
+module _ (root : StorageRoot) (closed : IsClosed root) (unread : Unread) where
   cover : (d : Place) (n : Text) (r : Place) → IsAmong (item_places root unread) (d ++ n ∷ r) → IsAmong (names_below root d) n
   cover d n r i = item_way root closed (given_by unread (d ++ n ∷ r)) d n r (place_has root unread (d ++ n ∷ r) i)
 

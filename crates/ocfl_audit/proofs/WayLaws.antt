@@ -6,7 +6,7 @@ use Rattle.std.specs.Prelude.{cond, ◌&&◌, ◌||◌, not, nat_le, filter_map,
 use Rattle.std.specs.List.{list_all, cons_option}
 use Rattle.ocfl_tree.specs.Place.{Place, Text, beginnings, child_name}
 use Rattle.ocfl_tree.specs.Ascending.{IsAmong}
-use Rattle.ocfl_tree.specs.Tree.{Tree, Leaf, file, dir, other, lookup, at_below, at, is_dir, is_dir_leaf, names_in, files_in}
+use Rattle.ocfl_tree.specs.StorageRoot.{StorageRoot, Leaf, file, dir, other, lookup, at_below, at, is_dir, is_dir_leaf, names_in, files_in}
 use Rattle.ocfl_inventory.specs.Declaration.{undeclared, declared, is_declared, is_known}
 use Rattle.ocfl_inventory.specs.Table.{Table, paths_of}
 use Rattle.ocfl_inventory.specs.declared.declaration.Level.TheVariants.{Object}
@@ -29,7 +29,7 @@ all_beginnings_append test (m ∷ d) r =
     ∙ sym (and_assoc (test []) (list_all test (map (λ q. m ∷ q) (beginnings d))) (list_all (λ q. test (m ∷ (d ++ q))) (beginnings r)))
 
 -- what lies on an entered way is entered
-pub reached_front : (root : Tree) (d : Place) (n : Text) (r : Place) → list_all (is_entered root) (beginnings (d ++ n ∷ r)) ≡ true → is_reached root d ≡ true
+pub reached_front : (root : StorageRoot) (d : Place) (n : Text) (r : Place) → list_all (is_entered root) (beginnings (d ++ n ∷ r)) ≡ true → is_reached root d ≡ true
 reached_front root d n r h =
     let both : list_all (is_entered root) (beginnings d) && list_all (λ q. is_entered root (d ++ q)) (beginnings (n ∷ r)) ≡ true = sym (all_beginnings_append (is_entered root) d (n ∷ r)) ∙ h in
     let later : is_entered root (d ++ []) ≡ true = and_first (is_entered root (d ++ [])) _ (and_second (list_all (is_entered root) (beginnings d)) _ both) in
@@ -54,11 +54,11 @@ next_is : (d : Place) (n : Text) (r : Place) → next_name d (d ++ n ∷ r) ≡ 
 next_is [] n r = refl
 next_is (m ∷ d) n r = ap (λ b. cond b (next_name d (d ++ n ∷ r)) None) (text_same m) ∙ next_is d n r
 
-at_key : (root : Tree) (p : Place) (leaf : Leaf) → p ≢ [] → at root p ≡ Some leaf → IsAmong (map (λ e. e.0) root) p
+at_key : (root : StorageRoot) (p : Place) (leaf : Leaf) → p ≢ [] → at root p ≡ Some leaf → IsAmong (map (λ e. e.0) root) p
 at_key root [] leaf some h = absurd (some refl)
 at_key root (n ∷ p) leaf some h = among_keys root (n ∷ p) leaf (at_lookup root n p leaf h)
 
-entry_from_key : (d : Place) (n : Text) (root : Tree) → IsAmong (map (λ e. e.0) root) (d ++ n ∷ []) → IsAmong (filter_map (λ e. child_name d e.0) root) n
+entry_from_key : (d : Place) (n : Text) (root : StorageRoot) → IsAmong (map (λ e. e.0) root) (d ++ n ∷ []) → IsAmong (filter_map (λ e. child_name d e.0) root) n
 entry_from_key d n [] i = absurd i
 entry_from_key d n (e ∷ root) (inl f) = subst (λ o. IsAmong (cons_option o (filter_map (λ x. child_name d x.0) root)) n) (sym (child_is d n) ∙ ap (child_name d) f) (inl refl)
 entry_from_key d n (e ∷ root) (inr i) = by (child_name d e.0) (entry_from_key d n root i)
@@ -68,12 +68,12 @@ entry_from_key d n (e ∷ root) (inr i) = by (child_name d e.0) (entry_from_key 
     by (Some w) k = inr k
 
 -- what lies in a directory is named there
-pub entry_named : (root : Tree) (d : Place) (n : Text) (leaf : Leaf) → at root (d ++ n ∷ []) ≡ Some leaf → IsAmong (names_in root d) n
+pub entry_named : (root : StorageRoot) (d : Place) (n : Text) (leaf : Leaf) → at root (d ++ n ∷ []) ≡ Some leaf → IsAmong (names_in root d) n
 entry_named root d n leaf h = (among_ascending text_cmp_exact (filter_map (λ e. child_name d e.0) root) n).0 (entry_from_key d n root (at_key root (d ++ n ∷ []) leaf (not_empty d n) h))
 
 -- ---- what lies one name further
 
-at_below_step : (root : Tree) (front : Place) (m : Text) (p : Place) (n : Text) → at_below root front m (p ++ n ∷ []) ≡ (if is_dir_leaf (at_below root front m p) then lookup root (front ++ m ∷ p ++ n ∷ []) else None)
+at_below_step : (root : StorageRoot) (front : Place) (m : Text) (p : Place) (n : Text) → at_below root front m (p ++ n ∷ []) ≡ (if is_dir_leaf (at_below root front m p) then lookup root (front ++ m ∷ p ++ n ∷ []) else None)
 at_below_step root front m [] n = refl
 at_below_step root front m (k ∷ p) n = by (is_dir_leaf (lookup root (front ++ m ∷ []))) (at_below_step root (front ++ m ∷ []) k p n)
   where
@@ -82,7 +82,7 @@ at_below_step root front m (k ∷ p) n = by (is_dir_leaf (lookup root (front ++ 
     by true h = h ∙ ap (λ x. cond (is_dir_leaf (at_below root (front ++ m ∷ []) k p)) (lookup root x) None) (ap (λ x. x ++ n ∷ []) (append_one front (k ∷ p) m))
     by false h = refl
 
-pub at_step : (root : Tree) (d : Place) (n : Text) → at root (d ++ n ∷ []) ≡ (if is_dir_leaf (at root d) then lookup root (d ++ n ∷ []) else None)
+pub at_step : (root : StorageRoot) (d : Place) (n : Text) → at root (d ++ n ∷ []) ≡ (if is_dir_leaf (at root d) then lookup root (d ++ n ∷ []) else None)
 at_step root [] n = refl
 at_step root (m ∷ d) n = at_below_step root [] m d n
 
@@ -93,7 +93,7 @@ dir_from (Some dir) h = refl
 dir_from (Some other) h = absurd (true_not_false (sym h))
 
 -- above each place lies a directory
-pub is_closed : (root : Tree) → IsClosed root
+pub is_closed : (root : StorageRoot) → IsClosed root
 is_closed root d n leaf h = by (is_dir_leaf (at root d)) refl (sym (at_step root d n) ∙ h)
   where
     by : (b : Bool) → is_dir_leaf (at root d) ≡ b → cond b (lookup root (d ++ n ∷ [])) None ≡ Some leaf → at root d ≡ Some dir
@@ -102,7 +102,7 @@ is_closed root d n leaf h = by (is_dir_leaf (at root d)) refl (sym (at_step root
 
 -- ---- closed trees
 
-module _ (root : Tree) (closed : IsClosed root) where
+module _ (root : StorageRoot) (closed : IsClosed root) where
   pub way_dir : (d : Place) (n : Text) (r : Place) (leaf : Leaf) → at root (d ++ n ∷ r) ≡ Some leaf → at root d ≡ Some dir
   way_dir d n [] leaf h = closed d n leaf h
   way_dir d n (m ∷ r) leaf h = closed d n dir (way_dir (d ++ n ∷ []) m r leaf (ap (at root) (append_one d (m ∷ r) n) ∙ h))
@@ -250,7 +250,7 @@ split_append (a ∷ d) n r (m ∷ o) q h = let e : a ≡ m = cc in let f : d ++ 
 
 -- ---- every item is on a way of names
 
-module _ (root : Tree) (closed : IsClosed root) where
+module _ (root : StorageRoot) (closed : IsClosed root) where
   seen_below : (d : Place) (n : Text) → IsAmong (seen_names root d) n → IsAmong (names_below root d) n
   seen_below d n i = (among_ascending text_cmp_exact (seen_names root d ++ path_names root d) n).0 (among_left (seen_names root d) (path_names root d) n i)
 

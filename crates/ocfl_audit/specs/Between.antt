@@ -5,21 +5,21 @@ use Rattle.std.specs.Ordering.{is_lt}
 use Rattle.std.specs.declared.cmp.Ordering.TheVariants.{Less}
 use Rattle.ocfl_tree.specs.Place.{Place, place_cmp, beginnings}
 use Rattle.ocfl_tree.specs.Ascending.{ascending}
-use Rattle.ocfl_tree.specs.Tree.{Tree, is_dir}
+use Rattle.ocfl_tree.specs.StorageRoot.{StorageRoot, is_dir}
 use Rattle.ocfl_audit.specs.Zone.{Zone, skipped, hierarchy, inside, zone, table_at, is_entered, is_listed_in_object, max_listed_depth}
 use Rattle.ocfl_audit.specs.Audit.{candidates}
 use Rattle.ocfl_audit.specs.Due.{places_after}
 use Rattle.ocfl_audit.specs.Trail.{reads_inventory}
 
 -- a directory of the storage hierarchy, an object's root, also where its head stops, since its entries declare it, or a directory of an object that is listed
-abbrev pub shows_entries : Tree → Zone → Bool
+abbrev pub shows_entries : StorageRoot → Zone → Bool
 shows_entries root skipped = false
 shows_entries root hierarchy = true
 shows_entries root (inside o []) = true
 shows_entries root (inside o (n ∷ q)) = is_listed_in_object (table_at root o) (n ∷ q)
 
 -- the storage root, and each such directory of at most 127 names above which all is entered
-abbrev pub is_looked_into : Tree → Place → Bool
+abbrev pub is_looked_into : StorageRoot → Place → Bool
 is_looked_into root [] = true
 is_looked_into root (n ∷ d) =
     list_all (is_entered root) (beginnings (n ∷ d)) && (nat_le (length (n ∷ d)) max_listed_depth && (is_dir root (n ∷ d) && shows_entries root (zone root (n ∷ d))))
@@ -42,9 +42,9 @@ abbrev pub between : List Place → Option Place → Option Place → List Place
 between ps from to = up_to (places_after ps from) to
 
 -- the directories that are looked into between two places, ascending
-unfoldable pub looked_between : Tree → Option Place → Option Place → List Place
+unfoldable pub looked_between : StorageRoot → Option Place → Option Place → List Place
 looked_between root from to = between (filter (is_looked_into root) (ascending place_cmp (candidates root))) from to
 
 -- the objects between two places whose inventories are read, ascending
-unfoldable pub read_between : Tree → Option Place → Option Place → List Place
+unfoldable pub read_between : StorageRoot → Option Place → Option Place → List Place
 read_between root from to = between (filter (reads_inventory root) (ascending place_cmp (map (λ e. e.0) root))) from to

@@ -2,7 +2,7 @@
 use Rattle.std.specs.Prelude.{ℕ, ◌&&◌, nat_le, List, [], ◌∷◌, ◌++◌, Bool, false, not, length, if◌then◌else◌, Option, Some, None, is_some, Ok, Err}
 use Rattle.hex.specs.Hex.{encode_lower}
 use Rattle.ocfl_tree.specs.Place.{Text, Place, text_eq}
-use Rattle.ocfl_tree.specs.Tree.{Tree, file_at}
+use Rattle.ocfl_tree.specs.StorageRoot.{StorageRoot, file_at}
 use Rattle.ocfl_report.specs.Line.{Note, note, plain}
 use Rattle.ocfl_report.specs.declared.code.Code.{Code}
 use Rattle.ocfl_report.specs.declared.code.Code.TheVariants.{Clean, E003, E007, E058, E060, E061, E063, E069, E076, E080, S01, S02}
@@ -28,7 +28,7 @@ abbrev pub or_clean : List Note → List Note
 or_clean [] = plain Clean ∷ []
 or_clean (n ∷ ns) = n ∷ ns
 
-abbrev pub is_exact_declaration : Tree → Place → Level → Version → Bool
+abbrev pub is_exact_declaration : StorageRoot → Place → Level → Version → Bool
 is_exact_declaration root d level v = is_bytes (file_at root (d ++ declaration_name level v ∷ []))
   where
     is_bytes : Option Text → Bool
@@ -37,7 +37,7 @@ is_exact_declaration root d level v = is_bytes (file_at root (d ++ declaration_n
 
 -- ---- the storage root
 
-abbrev pub root_notes_by : Tree → Declared → List Note
+abbrev pub root_notes_by : StorageRoot → Declared → List Note
 root_notes_by root undeclared = plain E069 ∷ []
 root_notes_by root several = plain E076 ∷ []
 root_notes_by root (unknown t) = note S01 t ∷ []
@@ -48,13 +48,13 @@ root_notes_by root (known v) = or_clean (on (not (is_exact_declaration root [] R
 abbrev pub sidecar_name : Algorithm → Text
 sidecar_name a = inventory_name ++ 46 ∷ algorithm_name a
 
-abbrev pub sidecar_at : Tree → Place → Algorithm → Option Text
+abbrev pub sidecar_at : StorageRoot → Place → Algorithm → Option Text
 sidecar_at root o a = file_at root (o ++ sidecar_name a ∷ [])
 
-abbrev pub is_sidecar_missing : Tree → Place → Algorithm → Bool
+abbrev pub is_sidecar_missing : StorageRoot → Place → Algorithm → Bool
 is_sidecar_missing root o a = not (is_some (sidecar_at root o a))
 
-abbrev pub are_sidecars_missing : Tree → Place → Bool
+abbrev pub are_sidecars_missing : StorageRoot → Place → Bool
 are_sidecars_missing root o = is_sidecar_missing root o Sha256 && is_sidecar_missing root o Sha512
 
 -- a digest that was wanted, and the one that was found
@@ -70,29 +70,29 @@ sidecar_notes a bytes (Some s) = against (sidecar_of a s)
     against None = note E061 (algorithm_name a) ∷ []
     against (Some d) = on (not (text_eq d (digest_bytes_of a bytes))) (mismatch E060 a (encode_lower d) (digest_of a bytes))
 
-abbrev pub sidecars_notes : Tree → Place → Text → List Note
+abbrev pub sidecars_notes : StorageRoot → Place → Text → List Note
 sidecars_notes root o bytes =
     on (are_sidecars_missing root o) (plain E058)
     ++ sidecar_notes Sha256 bytes (sidecar_at root o Sha256) ++ sidecar_notes Sha512 bytes (sidecar_at root o Sha512)
 
 -- the sidecar of the inventory's algorithm is missing while the other is there
-abbrev pub other_sidecar_notes : Tree → Place → Algorithm → List Note
+abbrev pub other_sidecar_notes : StorageRoot → Place → Algorithm → List Note
 other_sidecar_notes root o a = on (is_sidecar_missing root o a && not (are_sidecars_missing root o)) (note E058 (algorithm_name a))
 
 -- ---- the head
 
 -- the missing sidecar stands before all lines but those that leave no algorithm
-abbrev pub inventory_part : Tree → Place → Text → Reading Algorithm → List Note
+abbrev pub inventory_part : StorageRoot → Place → Text → Reading Algorithm → List Note
 inventory_part root o bytes (Err n) = n ∷ []
 inventory_part root o bytes (Ok a) = other_sidecar_notes root o a ++ notes_of bytes
 
-abbrev pub inventory_file_notes : Tree → Place → Option Text → List Note
+abbrev pub inventory_file_notes : StorageRoot → Place → Option Text → List Note
 inventory_file_notes root o None = plain E063 ∷ []
 inventory_file_notes root o (Some bytes) =
     if nat_le (length bytes) inventory_limit then sidecars_notes root o bytes ++ inventory_part root o bytes (algorithm_of bytes)
     else plain S02 ∷ []
 
-abbrev pub head_notes_by : Tree → Place → Declared → List Note
+abbrev pub head_notes_by : StorageRoot → Place → Declared → List Note
 head_notes_by root o undeclared = []
 head_notes_by root o several = plain E003 ∷ []
 head_notes_by root o (unknown t) = note S01 t ∷ []

@@ -5,7 +5,7 @@ use Rattle.std.specs.Ordering.{bool_cmp, ordering_then}
 use Rattle.std.specs.declared.cmp.Ordering.{Ordering}
 use Rattle.ocfl_tree.specs.Place.{Text, Place, text_eq}
 use Rattle.ocfl_tree.specs.Ascending.{ascending}
-use Rattle.ocfl_tree.specs.Tree.{Tree, Leaf, file, dir, other, names_in}
+use Rattle.ocfl_tree.specs.StorageRoot.{StorageRoot, Leaf, file, dir, other, names_in}
 use Rattle.ocfl_report.specs.Line.{Note, note, plain}
 use Rattle.ocfl_report.specs.declared.code.Code.{Code}
 use Rattle.ocfl_report.specs.declared.code.Code.TheVariants.{Clean, E001, E015, E023, E024, E072, E073, E092, E093, S04, S05, S08}
@@ -26,13 +26,13 @@ is_empty (x ∷ xs) = false
 -- ---- the entries of listed directories
 
 -- a directory that would be listed: too deep, or with no entries, where if_empty says what that is
-abbrev pub listed_dir_notes : Tree → Place → List Note → List Note
+abbrev pub listed_dir_notes : StorageRoot → Place → List Note → List Note
 listed_dir_notes root p if_empty =
     if nat_lt max_listed_depth (length p) then plain S05 ∷ []
     else (if is_empty (names_in root p) then if_empty else [])
 
 -- OCFL 1.1, 4.3 Storage Hierarchies; files in the storage root itself have no lines
-abbrev pub hierarchy_notes : Tree → Place → Option Leaf → List Note
+abbrev pub hierarchy_notes : StorageRoot → Place → Option Leaf → List Note
 hierarchy_notes root p None = []
 hierarchy_notes root p (Some (file bytes)) = on (nat_lt 1 (length p)) (plain E072)
 hierarchy_notes root p (Some dir) = listed_dir_notes root p (plain E073 ∷ [])
@@ -42,7 +42,7 @@ abbrev pub is_inventory_or_sidecar : Text → Bool
 is_inventory_or_sidecar n = text_eq n inventory_name || text_eq n (sidecar_name Sha256) || text_eq n (sidecar_name Sha512)
 
 -- an entry n of an object root (OCFL 1.1, 3.1 Object Structure, 3.8 Logs Directory and 3.9 Object Extensions)
-abbrev pub object_entry_notes : Tree → Place → Text → Option Leaf → List Note
+abbrev pub object_entry_notes : StorageRoot → Place → Text → Option Leaf → List Note
 object_entry_notes root p n None = []
 object_entry_notes root p n (Some (file bytes)) = on (not (is_declaration Object n || is_inventory_or_sidecar n)) (plain E001)
 object_entry_notes root p n (Some dir) =
@@ -50,7 +50,7 @@ object_entry_notes root p n (Some dir) =
 object_entry_notes root p n (Some other) = plain S04 ∷ []
 
 -- an entry n of a version directory (OCFL 1.1, 3.3 Version Directories)
-abbrev pub version_entry_notes : Tree → Table → Place → Text → Option Leaf → List Note
+abbrev pub version_entry_notes : StorageRoot → Table → Place → Text → Option Leaf → List Note
 version_entry_notes root t p n None = []
 version_entry_notes root t p n (Some (file bytes)) = on (not (is_inventory_or_sidecar n)) (plain E015)
 version_entry_notes root t p n (Some dir) = if text_eq n t.content then listed_dir_notes root p [] else []
@@ -94,7 +94,7 @@ file_notes bytes (n ∷ ns) None = or_bytes bytes (unnamed_notes (n ∷ ns) ++ w
 file_notes bytes (n ∷ ns) (Some given) = unnamed_notes (n ∷ ns) ++ plain S08 ∷ []
 
 -- a place within a content directory (OCFL 1.1, 3.3.1 Content Directory)
-abbrev pub content_notes : Tree → Place → List Named → Option ℕ → Option Leaf → List Note
+abbrev pub content_notes : StorageRoot → Place → List Named → Option ℕ → Option Leaf → List Note
 content_notes root p ns u None = missing_notes ns
 content_notes root p ns u (Some (file bytes)) = file_notes bytes ns u
 content_notes root p ns u (Some dir) = listed_dir_notes root p (plain E024 ∷ []) ++ missing_notes ns
@@ -102,31 +102,31 @@ content_notes root p ns u (Some other) = plain S04 ∷ missing_notes ns
 
 -- ---- each place
 
-abbrev pub within_notes : Tree → Place → Option ℕ → Option Leaf → Table → Place → List Note
+abbrev pub within_notes : StorageRoot → Place → Option ℕ → Option Leaf → Table → Place → List Note
 within_notes root p u leaf t [] = []
 within_notes root p u leaf t (n ∷ []) = object_entry_notes root p n leaf
 within_notes root p u leaf t (v ∷ n ∷ []) = version_entry_notes root t p n leaf
 within_notes root p u leaf t (v ∷ c ∷ n ∷ q) = content_notes root p (named t (v ∷ c ∷ n ∷ q)) u leaf
 
 -- where the head stops, nothing below it has lines
-abbrev pub object_notes : Tree → Place → Option ℕ → Option Table → Place → List Note
+abbrev pub object_notes : StorageRoot → Place → Option ℕ → Option Table → Place → List Note
 object_notes root p u None q = []
 object_notes root p u (Some t) q = within_notes root p u (seen root p) t q
 
-abbrev pub notes_in : Tree → Place → Option ℕ → Zone → List Note
+abbrev pub notes_in : StorageRoot → Place → Option ℕ → Zone → List Note
 notes_in root p u skipped = []
 notes_in root p u hierarchy = hierarchy_notes root p (seen root p)
 notes_in root p u (inside o []) = head_notes_by root o (object_declared root o)
 notes_in root p u (inside o (n ∷ q)) = object_notes root p u (table_at root o) (n ∷ q)
 
 -- the lines of a place
-abbrev pub notes : Tree → Option ℕ → Place → List Note
+abbrev pub notes : StorageRoot → Option ℕ → Place → List Note
 notes root u [] = root_notes_by root (root_declared root)
 notes root u (n ∷ p) = notes_in root (n ∷ p) u (zone root (n ∷ p))
 
 -- ---- what is hashed
 
-abbrev pub named_in : Tree → Zone → List Named
+abbrev pub named_in : StorageRoot → Zone → List Named
 named_in root skipped = []
 named_in root hierarchy = []
 named_in root (inside o q) = named_by (table_at root o)
@@ -136,7 +136,7 @@ named_in root (inside o q) = named_by (table_at root o)
     named_by (Some t) = named t q
 
 -- the digests that are named for a place
-abbrev pub named_at : Tree → Place → List Named
+abbrev pub named_at : StorageRoot → Place → List Named
 named_at root p = named_in root (zone root p)
 
 abbrev pub cost_of : List Named → Option ℕ → Option Leaf → ℕ
@@ -148,9 +148,9 @@ cost_of (n ∷ ns) u (Some dir) = 0
 cost_of (n ∷ ns) u (Some other) = 0
 
 -- what auditing a place costs: one more than the bytes that were delivered, if its file is hashed, and else nothing
-abbrev pub cost : Tree → Option ℕ → Place → ℕ
+abbrev pub cost : StorageRoot → Option ℕ → Place → ℕ
 cost root u p = cost_of (named_at root p) u (seen root p)
 
 -- a file is seen there, and some digest is named for it
-abbrev pub is_hashed : Tree → Place → Bool
+abbrev pub is_hashed : StorageRoot → Place → Bool
 is_hashed root p = nat_lt 0 (cost root None p)

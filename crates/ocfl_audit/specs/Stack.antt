@@ -3,7 +3,7 @@ use Rattle.std.specs.Prelude.{◌≡◌, ℕ, zero, suc, is_some, option_map, �
 use Rattle.std.specs.Ordering.{is_lt}
 use Rattle.ocfl_tree.specs.Place.{Text, Place, text_cmp, place_cmp, begins}
 use Rattle.ocfl_tree.specs.Ascending.{ascending, IsAmong}
-use Rattle.ocfl_tree.specs.Tree.{Tree, Leaf, dir}
+use Rattle.ocfl_tree.specs.StorageRoot.{StorageRoot, Leaf, dir}
 use Rattle.ocfl_report.specs.Line.{Item}
 use Rattle.ocfl_inventory.specs.Table.{Table, paths_of}
 use Rattle.ocfl_audit.specs.Zone.{Zone, skipped, hierarchy, inside, zone, seen, table_at}
@@ -25,14 +25,14 @@ abbrev pub left_of : List Item → List Frame → List Item
 left_of items fs = flat_map (left_in items) fs
 
 -- the stack at d ++ q: on the way only greater names are left
-abbrev pub entered_at : Tree → Place → Place → List Frame → List Frame
+abbrev pub entered_at : StorageRoot → Place → Place → List Frame → List Frame
 entered_at root d [] fs = (d, names_below root d) ∷ fs
 entered_at root d (n ∷ q) fs = entered_at root (d ++ n ∷ []) q ((d, filter (λ m. is_lt (text_cmp n m)) (names_below root d)) ∷ fs)
 
 -- ---- what is seen, and a stack of listings
 
 -- the places that are seen, in order
-abbrev pub seen_places : Tree → List Place
+abbrev pub seen_places : StorageRoot → List Place
 seen_places root = filter (λ p. is_some (seen root p)) (ascending place_cmp (candidates root))
 
 -- what the listings of a stack still lead to
@@ -43,32 +43,32 @@ abbrev pub seen_left : List Place → List Frame → List Place
 seen_left ps fs = flat_map (seen_in ps) fs
 
 -- the listings at d ++ q: on the way only greater names are left
-abbrev pub listed_at : Tree → Place → Place → List Frame → List Frame
+abbrev pub listed_at : StorageRoot → Place → Place → List Frame → List Frame
 listed_at root d [] fs = (d, seen_names root d) ∷ fs
 listed_at root d (n ∷ q) fs = listed_at root (d ++ n ∷ []) q ((d, filter (λ m. is_lt (text_cmp n m)) (seen_names root d)) ∷ fs)
 
 -- why a place above last may have lines: it is seen, the table of the object that holds last names it, or it lies in an object that is seen above last
-pub data Ahead (root : Tree) (last p : Place) : Type 0 where
+pub data Ahead (root : StorageRoot) (last p : Place) : Type 0 where
   in_sight : (leaf : Leaf) → seen root p ≡ Some leaf → Ahead root last p
   in_table : (o s q : Place) (t : Table) → zone root last ≡ inside o s → table_at root o ≡ Some t → IsAmong (paths_of t) q → p ≡ o ++ q → Ahead root last p
   in_later : (o q : Place) → seen root o ≡ Some dir → place_cmp last o ≡ Less → p ≡ o ++ q → Ahead root last p
 
 -- no place that is seen lies between last and x
-abbrev pub NoneSeenBetween : Tree → Place → Place → Type 0
+abbrev pub NoneSeenBetween : StorageRoot → Place → Place → Type 0
 NoneSeenBetween root last x = (p : Place) (leaf : Leaf) → seen root p ≡ Some leaf → place_cmp last p ≡ Less → place_cmp p x ≡ Less → ⊥
 
 -- nor a path that the table of the object that holds last names
-abbrev pub NoPathBetween : Tree → Place → Place → Type 0
+abbrev pub NoPathBetween : StorageRoot → Place → Place → Type 0
 NoPathBetween root last x = (o s q : Place) (t : Table) → zone root last ≡ inside o s → table_at root o ≡ Some t → IsAmong (paths_of t) q → place_cmp last (o ++ q) ≡ Less → place_cmp (o ++ q) x ≡ Less → ⊥
 
-abbrev pub NoneSeenAbove : Tree → Place → Type 0
+abbrev pub NoneSeenAbove : StorageRoot → Place → Type 0
 NoneSeenAbove root last = (p : Place) (leaf : Leaf) → seen root p ≡ Some leaf → place_cmp last p ≡ Less → ⊥
 
-abbrev pub NoPathAbove : Tree → Place → Type 0
+abbrev pub NoPathAbove : StorageRoot → Place → Type 0
 NoPathAbove root last = (o s q : Place) (t : Table) → zone root last ≡ inside o s → table_at root o ≡ Some t → IsAmong (paths_of t) q → place_cmp last (o ++ q) ≡ Less → ⊥
 
 -- a stack of listings leads to just what is seen above last
-abbrev pub IsStack : Tree → Place → List Frame → Type 0
+abbrev pub IsStack : StorageRoot → Place → List Frame → Type 0
 IsStack root last fs = seen_left (seen_places root) fs ≡ filter (λ p. is_lt (place_cmp last p)) (seen_places root)
 
 -- b is the least path of the table above s
@@ -80,16 +80,16 @@ pub record IsNextPath (t : Table) (s b : Place) : Type 0 where
 -- ---- the walk over a stack of listings and the table of one object, as the program takes it
 
 -- each name in a stack is one of its directory's listing
-abbrev pub IsListed : Tree → List Frame → Type 0
+abbrev pub IsListed : StorageRoot → List Frame → Type 0
 IsListed root [] = ⊤
 IsListed root (f ∷ fs) = ((n : Text) → IsAmong f.1 n → IsAmong (seen_names root f.0) n) × IsListed root fs
 
 -- the next entry of a stack, and the stack behind it: with its own listing on top, empty where it is not entered
-abbrev pub entry_of : Tree → Place → List Text → List Frame → Option (Place × List Frame) → Option (Place × List Frame)
+abbrev pub entry_of : StorageRoot → Place → List Text → List Frame → Option (Place × List Frame) → Option (Place × List Frame)
 entry_of root d [] fs later = later
 entry_of root d (n ∷ ns) fs later = Some (d ++ n ∷ [], (d ++ n ∷ [], seen_names root (d ++ n ∷ [])) ∷ (d, ns) ∷ fs)
 
-abbrev pub next_entry : Tree → List Frame → Option (Place × List Frame)
+abbrev pub next_entry : StorageRoot → List Frame → Option (Place × List Frame)
 next_entry root [] = None
 next_entry root (f ∷ fs) = entry_of root f.0 f.1 fs (next_entry root fs)
 
@@ -106,12 +106,12 @@ abbrev pub next_path_of : Place → Place → Option Table → Option Place
 next_path_of o s None = None
 next_path_of o s (Some t) = option_map (λ q. o ++ q) (least_path s (paths_of t))
 
-abbrev pub next_path_in : Tree → Zone → Option Place
+abbrev pub next_path_in : StorageRoot → Zone → Option Place
 next_path_in root skipped = None
 next_path_in root hierarchy = None
 next_path_in root (inside o s) = next_path_of o s (table_at root o)
 
-abbrev pub next_path : Tree → Place → Option Place
+abbrev pub next_path : StorageRoot → Place → Option Place
 next_path root last = next_path_in root (zone root last)
 
 -- the lesser of an entry and a path: a path below the entry leaves the stack as it is
@@ -120,23 +120,23 @@ lesser fs e None = e
 lesser fs None (Some b) = Some (b, fs)
 lesser fs (Some e) (Some b) = if is_lt (place_cmp b e.0) then Some (b, fs) else Some e
 
-abbrev pub next_place : Tree → Place → List Frame → Option (Place × List Frame)
+abbrev pub next_place : StorageRoot → Place → List Frame → Option (Place × List Frame)
 next_place root last fs = lesser fs (next_entry root fs) (next_path root last)
 
 -- the items of the next k places
-abbrev pub taken_with : Tree → Unread → (Place → List Frame → List Item) → Option (Place × List Frame) → List Item
+abbrev pub taken_with : StorageRoot → Unread → (Place → List Frame → List Item) → Option (Place × List Frame) → List Item
 taken_with root unread more None = []
 taken_with root unread more (Some x) = item_at root unread x.0 ++ more x.0 x.1
 
-abbrev pub taken : ℕ → Tree → Unread → Place → List Frame → List Item
+abbrev pub taken : ℕ → StorageRoot → Unread → Place → List Frame → List Item
 taken zero root unread last fs = []
 taken (suc k) root unread last fs = taken_with root unread (taken k root unread) (next_place root last fs)
 
 -- the directories that the next k places make the walk list
-abbrev pub lists_with : Tree → (Place → List Frame → List Place) → Option (Place × List Frame) → List Place
+abbrev pub lists_with : StorageRoot → (Place → List Frame → List Place) → Option (Place × List Frame) → List Place
 lists_with root more None = []
 lists_with root more (Some x) = on (is_reached root x.0) x.0 ++ more x.0 x.1
 
-abbrev pub lists : ℕ → Tree → Place → List Frame → List Place
+abbrev pub lists : ℕ → StorageRoot → Place → List Frame → List Place
 lists zero root last fs = []
 lists (suc k) root last fs = lists_with root (lists k root) (next_place root last fs)

@@ -4,7 +4,7 @@ use Rattle.std.specs.List.{list_all}
 use Rattle.std.specs.Ordering.{is_lt}
 use Rattle.ocfl_tree.specs.Place.{Text, Place, text_cmp, text_eq, place_eq, beginnings, begins}
 use Rattle.ocfl_tree.specs.Ascending.{ascending}
-use Rattle.ocfl_tree.specs.Tree.{Tree, Leaf, dir, at, names_in}
+use Rattle.ocfl_tree.specs.StorageRoot.{StorageRoot, Leaf, dir, at, names_in}
 use Rattle.ocfl_report.specs.Line.{Item}
 use Rattle.ocfl_inventory.specs.Declaration.{is_declared}
 use Rattle.ocfl_inventory.specs.Table.{Table, paths_of}
@@ -22,11 +22,11 @@ abbrev pub items_of_place : Place → List Item → List Item
 items_of_place d items = filter (λ i. place_eq d i.place) items
 
 -- d is entered, and so is all above it
-abbrev pub is_reached : Tree → Place → Bool
+abbrev pub is_reached : StorageRoot → Place → Bool
 is_reached root d = list_all (is_entered root) (beginnings d) && is_entered root d
 
 -- the names that a listing of d shows to the walk
-abbrev pub seen_names : Tree → Place → List Text
+abbrev pub seen_names : StorageRoot → Place → List Text
 seen_names root d = if is_reached root d then names_in root d else []
 
 -- the name that leads from d on to p, where p lies below
@@ -41,47 +41,47 @@ names_of_table None q = []
 names_of_table (Some t) q = filter_map (next_name q) (paths_of t)
 
 -- the names by which a table's paths go on
-abbrev pub path_names_in : Tree → Zone → List Text
+abbrev pub path_names_in : StorageRoot → Zone → List Text
 path_names_in root skipped = []
 path_names_in root hierarchy = []
 path_names_in root (inside o q) = names_of_table (table_at root o) q
 
-abbrev pub path_names : Tree → Place → List Text
+abbrev pub path_names : StorageRoot → Place → List Text
 path_names root d = path_names_in root (zone root d)
 
 -- the names below d that may lead to items, ascending
-abbrev pub names_below : Tree → Place → List Text
+abbrev pub names_below : StorageRoot → Place → List Text
 names_below root d = ascending text_cmp (seen_names root d ++ path_names root d)
 
 -- ---- the walk
 
-abbrev pub item_at : Tree → Unread → Place → List Item
+abbrev pub item_at : StorageRoot → Unread → Place → List Item
 item_at root unread d = on (has_lines (item_of root unread d)) (item_of root unread d)
 
 -- the items at d and below it, k levels deep
-abbrev pub walk : ℕ → Tree → Unread → Place → List Item
+abbrev pub walk : ℕ → StorageRoot → Unread → Place → List Item
 walk zero root unread d = []
 walk (suc k) root unread d = item_at root unread d ++ flat_map (λ n. walk k root unread (d ++ n ∷ [])) (names_below root d)
 
 -- those of them above d ++ q
-abbrev pub walk_after : ℕ → Tree → Unread → Place → Place → List Item
+abbrev pub walk_after : ℕ → StorageRoot → Unread → Place → Place → List Item
 walk_after zero root unread d q = []
 walk_after (suc k) root unread d [] = flat_map (λ n. walk k root unread (d ++ n ∷ [])) (names_below root d)
 walk_after (suc k) root unread d (n ∷ q) = walk_after k root unread (d ++ n ∷ []) q ++ flat_map (λ m. walk k root unread (d ++ m ∷ [])) (filter (λ m. is_lt (text_cmp n m)) (names_below root d))
 
 -- ---- what a folder keeps: above each place lies a directory
-abbrev pub IsClosed : Tree → Type 0
+abbrev pub IsClosed : StorageRoot → Type 0
 IsClosed root = (d : Place) (n : Text) (leaf : Leaf) → at root (d ++ n ∷ []) ≡ Some leaf → at root d ≡ Some dir
 
 -- ---- one name further
 
 -- the zone under d by the name n, where d is not the root or n leads to no extensions
-abbrev pub step_zone : Tree → Place → Text → Zone → Zone
+abbrev pub step_zone : StorageRoot → Place → Text → Zone → Zone
 step_zone root d n skipped = skipped
 step_zone root d n hierarchy = if is_declared (object_declared root (d ++ n ∷ [])) then inside (d ++ n ∷ []) [] else hierarchy
 step_zone root d n (inside o q) = inside o (q ++ n ∷ [])
 
-abbrev pub is_extensions : Tree → Place → Text → Bool
+abbrev pub is_extensions : StorageRoot → Place → Text → Bool
 is_extensions root [] n = is_in_extensions root (n ∷ [])
 is_extensions root (m ∷ d) n = false
 

@@ -5,7 +5,7 @@ ghost use Rattle.std.specs.Prelude.{replicate};
 ghost use Rattle.std.specs.Ordering.{is_lt};
 ghost use Rattle.std.specs.declared.cmp.Ordering.TheVariants.{Less};
 ghost use Rattle.ocfl_tree.specs.Ascending.{IsAmong, IsAscending, IsBeforeAll};
-ghost use Rattle.ocfl_tree.specs.Tree.{Leaf, Tree, at, dir, is_dir, file_at, files_in};
+ghost use Rattle.ocfl_tree.specs.StorageRoot.{Leaf, StorageRoot, at, dir, is_dir, file_at, files_in};
 ghost use Rattle.ocfl_tree.specs.Place.{Place, Text, begins, place_cmp, text_cmp};
 ghost use Rattle.ocfl_report.specs.Line.{Item};
 ghost use Rattle.ocfl_inventory.specs.Table.{Table, paths_of};
@@ -38,13 +38,13 @@ ghost use Rattle.ocfl_audit.specs.Runs.{budget_runs};
 /// The audit is the one list that its description fits.
 #[tactic(auto, using(crate::proofs::AuditLaws::audit_unique))]
 pub fn audit_is_unique()
-    ensures { (root : Tree) (unread : Unread) (xs ys : List Item) → IsAudit root unread xs
+    ensures { (root : StorageRoot) (unread : Unread) (xs ys : List Item) → IsAudit root unread xs
         → IsAudit root unread ys → xs ≡ ys }
 {}
 
 /// The audit fits its description.
 pub fn audit_is_there()
-    ensures { (root : Tree) (unread : Unread) → IsAudit root unread (audit root unread) }
+    ensures { (root : StorageRoot) (unread : Unread) → IsAudit root unread (audit root unread) }
 {}
 
 /// What is above a place is an end of the audit.
@@ -57,11 +57,11 @@ pub fn after_is_an_end()
 /// The items at a place and below it: its own, and then those under each name, ascending.
 #[tactic(auto, using(crate::proofs::PublicLaws::by_name, crate::proofs::WalkLaws::item_here, crate::proofs::WalkLaws::names_ascend))]
 pub fn items_go_by_name()
-    ensures by_name { (root : Tree) (unread : Unread) (d : Place)
+    ensures by_name { (root : StorageRoot) (unread : Unread) (d : Place)
         → items_under d (audit root unread) ≡ item_at root unread d
         ++ flat_map (λ n. items_under (d ++ n ∷ []) (audit root unread)) (names_below root d) }
-    ensures names { (root : Tree) (d : Place) → IsAscending text_cmp (names_below root d) }
-    ensures here { (root : Tree) (unread : Unread) (d : Place)
+    ensures names { (root : StorageRoot) (d : Place) → IsAscending text_cmp (names_below root d) }
+    ensures here { (root : StorageRoot) (unread : Unread) (d : Place)
         → items_of_place d (audit root unread) ≡ item_at root unread d }
 {}
 
@@ -69,10 +69,10 @@ pub fn items_go_by_name()
 /// greater names.
 #[tactic(auto, using(crate::proofs::PublicLaws::at_itself, crate::proofs::PublicLaws::further))]
 pub fn items_go_on()
-    ensures at_itself { (root : Tree) (unread : Unread) (d : Place)
+    ensures at_itself { (root : StorageRoot) (unread : Unread) (d : Place)
         → after (items_under d (audit root unread)) (Some d)
         ≡ flat_map (λ n. items_under (d ++ n ∷ []) (audit root unread)) (names_below root d) }
-    ensures further { (root : Tree) (unread : Unread) (d q : Place) (n : Text)
+    ensures further { (root : StorageRoot) (unread : Unread) (d q : Place) (n : Text)
         → after (items_under d (audit root unread)) (Some (d ++ n ∷ q))
         ≡ after (items_under (d ++ n ∷ []) (audit root unread)) (Some (d ++ n ∷ q))
         ++ flat_map (λ m. items_under (d ++ m ∷ []) (audit root unread))
@@ -82,23 +82,23 @@ pub fn items_go_on()
 /// Above each place at which something lies, a directory lies.
 #[tactic(auto, using(crate::proofs::WayLaws::is_closed))]
 pub fn directories_lie_above()
-    ensures { (root : Tree) (d : Place) (n : Text) (leaf : Leaf) → at root (d ++ n ∷ []) ≡ Some leaf
+    ensures { (root : StorageRoot) (d : Place) (n : Text) (leaf : Leaf) → at root (d ++ n ∷ []) ≡ Some leaf
         → at root d ≡ Some dir }
 {}
 
 /// Zone, entered and seen, one name further.
 #[tactic(auto, using(crate::proofs::StepLaws::zone_step, crate::proofs::StepLaws::entered_step, crate::proofs::StepLaws::reached_step, crate::proofs::StepLaws::seen_step, crate::proofs::StepLaws::listed_step))]
 pub fn a_name_is_one_step()
-    ensures zone { (root : Tree) (d : Place) (n : Text)
+    ensures zone { (root : StorageRoot) (d : Place) (n : Text)
         → zone root (d ++ n ∷ []) ≡ (if is_extensions root d n then skipped else step_zone root d n
         (zone root d)) }
-    ensures entered { (root : Tree) (d : Place) (n : Text)
+    ensures entered { (root : StorageRoot) (d : Place) (n : Text)
         → is_entered root (d ++ n ∷ []) ≡ nat_le (suc (length d)) max_listed_depth &&
         (is_dir root (d ++ n ∷ []) && is_listed_zone root
         (if is_extensions root d n then skipped else step_zone root d n (zone root d))) }
-    ensures reached { (root : Tree) (d : Place) (n : Text)
+    ensures reached { (root : StorageRoot) (d : Place) (n : Text)
         → is_reached root (d ++ n ∷ []) ≡ is_reached root d && is_entered root (d ++ n ∷ []) }
-    ensures seen { (root : Tree) (d : Place) (n : Text)
+    ensures seen { (root : StorageRoot) (d : Place) (n : Text)
         → seen root (d ++ n ∷ []) ≡ (if is_reached root d then at root (d ++ n ∷ []) else None) }
     ensures listed { (t : Table) (q : Place) (n : Text)
         → is_listed_within t (q ++ n ∷ []) ≡ step_listed t q n }
@@ -106,39 +106,39 @@ pub fn a_name_is_one_step()
 
 /// The walk gives the audit, and resumed at a place what is above it.
 pub fn walk_gives_the_audit()
-    ensures whole { (root : Tree) (unread : Unread) (k : ℕ) → 255 < k
+    ensures whole { (root : StorageRoot) (unread : Unread) (k : ℕ) → 255 < k
         → walk k root unread [] ≡ audit root unread }
-    ensures resumed { (root : Tree) (unread : Unread) (k : ℕ) (q : Place) → 255 < k
+    ensures resumed { (root : StorageRoot) (unread : Unread) (k : ℕ) (q : Place) → 255 < k
         → walk_after k root unread [] q ≡ after (audit root unread) (Some q) }
-    ensures short { (root : Tree) (u : Option ℕ) (p : Place) → notes root u p ≢ []
+    ensures short { (root : StorageRoot) (u : Option ℕ) (p : Place) → notes root u p ≢ []
         → length p < 256 }
-    ensures stacked { (root : Tree) (unread : Unread) (q : Place)
+    ensures stacked { (root : StorageRoot) (unread : Unread) (q : Place)
         → left_of (audit root unread) (entered_at root [] q [])
         ≡ after (audit root unread) (Some q) }
 {}
 
 /// A step of a walk over a stack of listings and one table.
 pub fn walk_goes_on()
-    ensures takes { (root : Tree) (unread : Unread) (last x : Place) → place_cmp last x ≡ Less
+    ensures takes { (root : StorageRoot) (unread : Unread) (last x : Place) → place_cmp last x ≡ Less
         → NoneSeenBetween root last x → NoPathBetween root last x
         → after (audit root unread) (Some last)
         ≡ item_at root unread x ++ after (audit root unread) (Some x) }
-    ensures ends { (root : Tree) (unread : Unread) (last : Place) → NoneSeenAbove root last
+    ensures ends { (root : StorageRoot) (unread : Unread) (last : Place) → NoneSeenAbove root last
         → NoPathAbove root last → after (audit root unread) (Some last) ≡ [] }
-    ensures starts { (root : Tree) (q : Place) → IsStack root q (listed_at root [] q []) }
-    ensures way { (root : Tree) (q e : Place) → IsAmong (map (λ f. f.0) (listed_at root [] q [])) e
+    ensures starts { (root : StorageRoot) (q : Place) → IsStack root q (listed_at root [] q []) }
+    ensures way { (root : StorageRoot) (q e : Place) → IsAmong (map (λ f. f.0) (listed_at root [] q [])) e
         → begins e q ≡ true }
 {}
 
 /// The walk over a stack of listings and the table of one object gives what is above the place at
 /// which it starts.
 pub fn walk_over_a_stack()
-    ensures first { (root : Tree) (unread : Unread)
+    ensures first { (root : StorageRoot) (unread : Unread)
         → audit root unread ≡ item_at root unread [] ++ after (audit root unread) (Some []) }
-    ensures lists { (root : Tree) (k : ℕ) (q : Place)
+    ensures lists { (root : StorageRoot) (k : ℕ) (q : Place)
         → IsBeforeAll place_cmp q (lists k root q (listed_at root [] q []))
         × IsAscending place_cmp (lists k root q (listed_at root [] q [])) }
-    ensures rest { (root : Tree) (unread : Unread) (k : ℕ) (q : Place)
+    ensures rest { (root : StorageRoot) (unread : Unread) (k : ℕ) (q : Place)
         → length (candidates root) < k → taken k root unread q (listed_at root [] q [])
         ≡ after (audit root unread) (Some q) }
 {}
@@ -147,26 +147,26 @@ pub fn walk_over_a_stack()
 /// item at its own place alone.
 #[tactic(auto, using(crate::proofs::DueLaws::lines_alike, crate::proofs::DueLaws::items_agree, crate::proofs::DueLaws::audit_by_places, crate::proofs::DueLaws::after_is_due))]
 pub fn reading_moves_no_lines()
-    ensures places { (root : Tree) (u v : Option ℕ) (p : Place) → notes root u p ≡ []
+    ensures places { (root : StorageRoot) (u v : Option ℕ) (p : Place) → notes root u p ≡ []
         → notes root v p ≡ [] }
-    ensures items { (root : Tree) (u v : Unread) (p : Place) → given_by u p ≡ given_by v p
+    ensures items { (root : StorageRoot) (u v : Unread) (p : Place) → given_by u p ≡ given_by v p
         → items_of_place p (audit root u) ≡ items_of_place p (audit root v) }
-    ensures by_places { (root : Tree) (u : Unread)
+    ensures by_places { (root : StorageRoot) (u : Unread)
         → audit root u ≡ map (item_of root u) (item_places root) }
-    ensures due { (root : Tree) (trail : List Opening) (last : Option Place)
+    ensures due { (root : StorageRoot) (trail : List Opening) (last : Option Place)
         → after (audit root (unread_of root trail)) last ≡ items_at root trail (due root last) }
 {}
 
 /// No hashed file is a declaration, an inventory or a sidecar.
 #[tactic(auto, using(crate::proofs::PathLaws::hashed_no_meta))]
 pub fn content_is_no_meta()
-    ensures { (root : Tree) (p : Place) → is_hashed root p ≡ true → is_meta root p ≡ false }
+    ensures { (root : StorageRoot) (p : Place) → is_hashed root p ≡ true → is_meta root p ≡ false }
 {}
 
 /// Each path that an object's table names has lines.
 #[tactic(auto, using(crate::proofs::PathLaws::path_lines))]
 pub fn named_paths_have_lines()
-    ensures { (root : Tree) (u : Option ℕ) (p o q : Place) (t : Table) → zone root p ≡ inside o q
+    ensures { (root : StorageRoot) (u : Option ℕ) (p o q : Place) (t : Table) → zone root p ≡ inside o q
         → table_at root o ≡ Some t → IsAmong (paths_of t) q → notes root u p ≢ [] }
 {}
 
@@ -174,10 +174,10 @@ pub fn named_paths_have_lines()
 /// where both ends are open.
 #[tactic(auto, using(crate::proofs::BetweenLaws::looked_on, crate::proofs::BetweenLaws::read_on))]
 pub fn ways_add_up()
-    ensures looked { (root : Tree) (from to : Option Place) (b : Place) → IsBeyond from b
+    ensures looked { (root : StorageRoot) (from to : Option Place) (b : Place) → IsBeyond from b
         → IsWithin to b → looked_between root from (Some b) ++ looked_between root (Some b) to
         ≡ looked_between root from to }
-    ensures read { (root : Tree) (from to : Option Place) (b : Place) → IsBeyond from b
+    ensures read { (root : StorageRoot) (from to : Option Place) (b : Place) → IsBeyond from b
         → IsWithin to b → read_between root from (Some b) ++ read_between root (Some b) to
         ≡ read_between root from to }
 {}
@@ -186,19 +186,19 @@ pub fn ways_add_up()
 /// Those objects are seen by the audit.
 #[tactic(auto, using(crate::proofs::ObjectLaws::inventories_read, crate::proofs::ObjectLaws::inventories_which, crate::proofs::ObjectLaws::inventories_ascend, crate::proofs::ObjectLaws::object_seen))]
 pub fn inventories_are_of_objects()
-    ensures of_objects { (root : Tree) → inventories root
+    ensures of_objects { (root : StorageRoot) → inventories root
         ≡ map (λ o. o ++ inventory_name ∷ []) (read_between root None None) }
-    ensures which { (root : Tree) (p : Place)
+    ensures which { (root : StorageRoot) (p : Place)
         → IsAmong (inventories root) p ↔ ((o : Place)
         × ((p ≡ o ++ inventory_name ∷ []) × HasInventory root o)) }
-    ensures ascending { (root : Tree) → IsAscending place_cmp (inventories root) }
-    ensures seen { (root : Tree) (o : Place) → HasInventory root o → seen root o ≡ Some dir }
+    ensures ascending { (root : StorageRoot) → IsAscending place_cmp (inventories root) }
+    ensures seen { (root : StorageRoot) (o : Place) → HasInventory root o → seen root o ≡ Some dir }
 {}
 
 /// The zone of an object's root begins at itself.
 #[tactic(auto, using(crate::proofs::ObjectLaws::object_by_zone))]
 pub fn objects_have_their_zone()
-    ensures { (root : Tree) (o : Place) → IsObjectRoot root o ↔ (zone root o ≡ inside o []) }
+    ensures { (root : StorageRoot) (o : Place) → IsObjectRoot root o ↔ (zone root o ≡ inside o []) }
 {}
 
 /// The objects whose inventories are read between two places are those between them that have one,
@@ -206,14 +206,14 @@ pub fn objects_have_their_zone()
 /// once, in order.
 #[tactic(auto, using(crate::proofs::ObjectLaws::read_part, crate::proofs::ObjectLaws::read_ascends, crate::proofs::ObjectLaws::looked_which, crate::proofs::ObjectLaws::looked_ascends))]
 pub fn ways_are_parts()
-    ensures read { (root : Tree) (from to : Option Place) (o : Place)
+    ensures read { (root : StorageRoot) (from to : Option Place) (o : Place)
         → IsAmong (read_between root from to) o
         ↔ (IsBeyond from o × (IsWithin to o × HasInventory root o)) }
-    ensures read_in_order { (root : Tree) → IsAscending place_cmp (read_between root None None) }
-    ensures looked { (root : Tree) (from to : Option Place) (d : Place)
+    ensures read_in_order { (root : StorageRoot) → IsAscending place_cmp (read_between root None None) }
+    ensures looked { (root : StorageRoot) (from to : Option Place) (d : Place)
         → IsAmong (looked_between root from to) d
         ↔ (IsBeyond from d × (IsWithin to d × (is_looked_into root d ≡ true))) }
-    ensures looked_in_order { (root : Tree) → IsAscending place_cmp
+    ensures looked_in_order { (root : StorageRoot) → IsAscending place_cmp
         (looked_between root None None) }
 {}
 
@@ -222,24 +222,24 @@ pub fn ways_are_parts()
 /// that is not of known version.
 #[tactic(auto, using(crate::proofs::ObjectLaws::none_without_file, crate::proofs::ObjectLaws::none_of_unknown, crate::proofs::ObjectLaws::one_declaration, crate::proofs::ObjectLaws::none_of_several, crate::proofs::ObjectLaws::none_in_extensions, crate::proofs::ObjectLaws::none_inside, crate::proofs::ObjectLaws::none_in_unknown_root))]
 pub fn other_inventories_are_not_read()
-    ensures without_file { (root : Tree) (o : Place)
+    ensures without_file { (root : StorageRoot) (o : Place)
         → file_at root (o ++ inventory_name ∷ []) ≡ None
         → IsAmong (inventories root) (o ++ inventory_name ∷ []) → ⊥ }
-    ensures of_unknown_version { (root : Tree) (o : Place)
+    ensures of_unknown_version { (root : StorageRoot) (o : Place)
         → is_known (object_declared root o) ≡ false
         → IsAmong (inventories root) (o ++ inventory_name ∷ []) → ⊥ }
-    ensures one_declaration { (root : Tree) (o : Place)
+    ensures one_declaration { (root : StorageRoot) (o : Place)
         → IsAmong (inventories root) (o ++ inventory_name ∷ [])
         → (n : Text) × (filter (is_declaration Object) (files_in root o) ≡ n ∷ []) }
-    ensures of_several_declarations { (root : Tree) (o : Place) (n m : Text) (ns : List Text)
+    ensures of_several_declarations { (root : StorageRoot) (o : Place) (n m : Text) (ns : List Text)
         → filter (is_declaration Object) (files_in root o) ≡ n ∷ m ∷ ns
         → IsAmong (inventories root) (o ++ inventory_name ∷ []) → ⊥ }
-    ensures in_extensions { (root : Tree) (o : Place) → is_in_extensions root o ≡ true
+    ensures in_extensions { (root : StorageRoot) (o : Place) → is_in_extensions root o ≡ true
         → IsAmong (inventories root) (o ++ inventory_name ∷ []) → ⊥ }
-    ensures inside_an_object { (root : Tree) (o : Place) (n : Text) (q : Place) → o ≢ []
+    ensures inside_an_object { (root : StorageRoot) (o : Place) (n : Text) (q : Place) → o ≢ []
         → is_declared (object_declared root o) ≡ true
         → IsAmong (inventories root) ((o ++ n ∷ q) ++ inventory_name ∷ []) → ⊥ }
-    ensures in_an_unknown_root { (root : Tree) (p : Place) → is_known (root_declared root) ≡ false
+    ensures in_an_unknown_root { (root : StorageRoot) (p : Place) → is_known (root_declared root) ≡ false
         → IsAmong (inventories root) p → ⊥ }
 {}
 

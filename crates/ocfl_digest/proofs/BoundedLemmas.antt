@@ -2,7 +2,7 @@
 use Rattle.std.proofs.Common.{◌≡◌, ◌≢◌, ℕ, ◌+◌, ◌-◌, ◌*◌, ◌<◌, ◌≤◌, min, max, Bool, false, [], ◌∷◌, ◌++◌, length, inl, inr, sym, ◌∙◌, subst, refl, append-nil, length-append, arith}
 use Rattle.std.specs.Prelude.{IsTrue}
 use Rattle.ocfl_tree.specs.Place.{Text, Place}
-use Rattle.ocfl_tree.specs.Tree.{Tree}
+use Rattle.ocfl_tree.specs.StorageRoot.{StorageRoot}
 use Rattle.ocfl_tree.specs.Store.{Store, Did}
 use Rattle.ocfl_tree.specs.Calls.{Opens, OpenFails, Reads, ReadFails, Closes, opening}
 use Rattle.ocfl_tree.specs.Reading.{IsReading}
@@ -52,7 +52,7 @@ bounding_reads told s t u p limit room bytes piece is_room before reads largest 
           (asks_more limit (length bytes) room s.largest t.largest u.largest within is_room (before.asks is) (largest is)) (omega (arith, both));
     }
 
-pub bounding_ends : (told : Bool) (root : Tree) (s t u v : Store) (p : Place) (limit room : ℕ) (bytes piece : Text) (b : Bounded)
+pub bounding_ends : (told : Bool) (root : StorageRoot) (s t u v : Store) (p : Place) (limit room : ℕ) (bytes piece : Text) (b : Bounded)
     → IsRoom limit (length bytes) room → IsBounding told s t p limit bytes → Reads t u piece room → piece ≡ []
     → u.largest ≡ max t.largest room → Closes u v → IsBoundedTo limit bytes b
     → IsTrue told → s.tree ≡ root → ReadsBounded root s v p limit b
@@ -71,7 +71,7 @@ bounding_ends told root s t u v p limit room bytes piece b is_room before reads 
     }
 
 -- a read went past the limit
-pub bounding_passes : (told : Bool) (root : Tree) (s t u v : Store) (p : Place) (limit room : ℕ) (bytes piece : Text) (b : Bounded)
+pub bounding_passes : (told : Bool) (root : StorageRoot) (s t u v : Store) (p : Place) (limit room : ℕ) (bytes piece : Text) (b : Bounded)
     → IsRoom limit (length bytes) room → IsBounding told s t p limit bytes → Reads t u piece room → length piece ≤ room → limit - length bytes < length piece
     → u.largest ≡ max t.largest room → Closes u v → ((all : Text) → limit < length all → IsBoundedTo limit all b)
     → IsTrue told → s.tree ≡ root → ReadsBounded root s v p limit b
@@ -90,12 +90,12 @@ bounding_passes told root s t u v p limit room bytes piece b is_room before read
       largest = closes.largest ∙ asks_more limit (length bytes) room s.largest t.largest u.largest within is_room (before.asks is) largest;
     }
 
-pub open_stops : (root : Tree) (s t : Store) (p : Place) (limit : ℕ) (trouble : Trouble) → OpenFails s t p trouble → s.tree ≡ root → StopsReading root s t p limit trouble
+pub open_stops : (root : StorageRoot) (s t : Store) (p : Place) (limit : ℕ) (trouble : Trouble) → OpenFails s t p trouble → s.tree ≡ root → StopsReading root s t p limit trouble
 open_stops root s t p limit Device h same = record { openings = _; opened = (0, omega arith, refl); did = h.fails.did; absent = λ e. absurd cc; closed = h.fails.closed; largest = let e = h.fails.largest in omega (arith, e) }
 open_stops root s t p limit Absent h same = record { openings = _; opened = refl; did = h.fails.did; absent = λ e. file_at-none s root p same (h.absent refl); closed = h.fails.closed; largest = let e = h.fails.largest in omega (arith, e) }
 open_stops root s t p limit Memory h same = record { openings = _; opened = inl refl; did = h.fails.did; absent = λ e. absurd cc; closed = h.fails.closed; largest = let e = h.fails.largest in omega (arith, e) }
 
-pub read_stops : (told : Bool) (root : Tree) (s t u : Store) (p : Place) (limit room : ℕ) (bytes : Text) (trouble : Trouble)
+pub read_stops : (told : Bool) (root : StorageRoot) (s t u : Store) (p : Place) (limit room : ℕ) (bytes : Text) (trouble : Trouble)
     → IsRoom limit (length bytes) room → IsBounding told s t p limit bytes → ReadFails t u trouble → trouble ≢ Memory → u.largest ≡ max t.largest room
     → IsTrue told → StopsReading root s u p limit trouble
 read_stops told root s t u p limit room bytes Device is_room before fails other largest is =
@@ -116,7 +116,7 @@ read_stops told root s t u p limit room bytes Absent is_room before fails other 
 read_stops told root s t u p limit room bytes Memory is_room before fails other largest is = absurd (other refl)
 
 -- the bytes that were read found no room
-pub memory_stops : (told : Bool) (root : Tree) (s t u v : Store) (p : Place) (limit room : ℕ) (bytes piece : Text)
+pub memory_stops : (told : Bool) (root : StorageRoot) (s t u v : Store) (p : Place) (limit room : ℕ) (bytes piece : Text)
     → IsRoom limit (length bytes) room → IsBounding told s t p limit bytes → Reads t u piece room → length piece ≤ limit - length bytes
     → u.largest ≡ max t.largest room → Closes u v → IsTrue told → StopsReading root s v p limit Memory
 memory_stops told root s t u v p limit room bytes piece is_room before reads fits largest closes is =

@@ -2,7 +2,7 @@
 use Rattle.std.proofs.Common.{◌≡◌, ◌≢◌, ℕ, ◌+◌, ◌-◌, ◌*◌, ◌^◌, ◌<◌, ◌≤◌, min, max, Bool, false, true, List, [], ◌∷◌, ◌++◌, length, Some, sym, ◌∙◌, ap, subst, refl, append-nil, length-append, arith}
 use Rattle.std.specs.Prelude.{IsTrue}
 use Rattle.ocfl_tree.specs.Place.{Text, Place}
-use Rattle.ocfl_tree.specs.Tree.{Tree, file_at}
+use Rattle.ocfl_tree.specs.StorageRoot.{StorageRoot, file_at}
 use Rattle.ocfl_tree.specs.Store.{Store, Did}
 use Rattle.ocfl_tree.specs.Calls.{Opens, OpenFails, Reads, ReadFails, Closes, opening}
 use Rattle.ocfl_tree.specs.Reading.{IsReading}
@@ -74,7 +74,7 @@ hashing_feeds told s t u p w h k n room count is_room before short piece within 
       asks = λ is. asks_still (n + count) s.largest u.largest (asks_more n room s.largest t.largest u.largest is_room (before.asks is) (largest is) short) (omega arith);
     }
 
-pub hashing_ends : (told : Bool) (s t u v : Store) (root : Tree) (p : Place) (w : Wanted) (h k : Hashers) (d : Digests) (n room count : ℕ)
+pub hashing_ends : (told : Bool) (s t u v : Store) (root : StorageRoot) (p : Place) (w : Wanted) (h k : Hashers) (d : Digests) (n room count : ℕ)
     → room ≡ room_after n → IsHashing told s t p w h n → n < 2 ^ 62 → FeedsPiece told t u h k room count → count ≡ 0
     → (IsTrue told → u.largest ≡ max t.largest room) → (IsTrue told → Closes u v)
     → ((bytes : Text) → AreFed w bytes k → AreDigests w bytes d)
@@ -103,18 +103,18 @@ hashing_digests told s t u p w h k d n room count before piece empty digests =
     let fed : AreFed w before.bytes k = subst (λ xs. AreFed w xs k) (ap (λ xs. before.bytes ++ xs) none ∙ append-nil before.bytes) (piece.fed w before.bytes before.fed) in
     record { bytes = before.bytes; length_is = before.length_is; digests = digests before.bytes fed }
 
-pub open_stops : (root : Tree) (s t : Store) (p : Place) (trouble : Trouble) → s.tree ≡ root → OpenFails s t p trouble → StopsHashing root s t p 0 (cause_of trouble)
+pub open_stops : (root : StorageRoot) (s t : Store) (p : Place) (trouble : Trouble) → s.tree ≡ root → OpenFails s t p trouble → StopsHashing root s t p 0 (cause_of trouble)
 open_stops root s t p Device same h = record { fits = λ bytes is. omega arith; did = h.fails.did; closed = h.fails.closed; largest = let e = h.fails.largest in omega (arith, e) }
 open_stops root s t p Absent same h = record { fits = (file_at-none s root p same (h.absent refl), refl); did = h.fails.did; closed = h.fails.closed; largest = let e = h.fails.largest in omega (arith, e) }
 open_stops root s t p Memory same h = record { fits = refl; did = h.fails.did; closed = h.fails.closed; largest = let e = h.fails.largest in omega (arith, e) }
 
 -- what was given is no longer than the file
-given_within : (s t : Store) (root : Tree) (p : Place) (xs : Text) → s.tree ≡ root → IsReading s t p xs → (bytes : Text) → file_at root p ≡ Some bytes → length xs ≤ length bytes
+given_within : (s t : Store) (root : StorageRoot) (p : Place) (xs : Text) → s.tree ≡ root → IsReading s t p xs → (bytes : Text) → file_at root p ≡ Some bytes → length xs ≤ length bytes
 given_within s t root p xs same h bytes is =
     let all : bytes ≡ xs ++ h.left = same_some _ _ (sym is ∙ file_at-at s root p (xs ++ h.left) same h.is_file) in
     omega (arith, ap length all, length-append xs h.left)
 
-pub read_stops : (told : Bool) (root : Tree) (s t u : Store) (p : Place) (w : Wanted) (h : Hashers) (n room : ℕ) (trouble : Trouble)
+pub read_stops : (told : Bool) (root : StorageRoot) (s t u : Store) (p : Place) (w : Wanted) (h : Hashers) (n room : ℕ) (trouble : Trouble)
     → room ≡ room_after n → IsHashing told s t p w h n → n < 2 ^ 62 → ReadFails t u trouble → trouble ≢ Memory → u.largest ≡ max t.largest room
     → IsTrue told → s.tree ≡ root → StopsHashing root s u p n (cause_of trouble)
 read_stops told root s t u p w h n room Device is_room before short fails other largest is same =
@@ -131,7 +131,7 @@ read_stops told root s t u p w h n room Absent is_room before short fails other 
     absurd cc
 read_stops told root s t u p w h n room Memory is_room before short fails other largest is same = absurd (other refl)
 
-pub too_long_stops : (told : Bool) (root : Tree) (s t u : Store) (p : Place) (w : Wanted) (h : Hashers) (n : ℕ)
+pub too_long_stops : (told : Bool) (root : StorageRoot) (s t u : Store) (p : Place) (w : Wanted) (h : Hashers) (n : ℕ)
     → IsHashing told s t p w h n → 2 ^ 62 ≤ n → (IsTrue told → Closes t u) → IsTrue told → s.tree ≡ root → StopsHashing root s u p n TooLong
 too_long_stops told root s t u p w h n before long closes is same =
     let now = before.reading is in

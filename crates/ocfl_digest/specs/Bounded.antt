@@ -1,7 +1,7 @@
 -- What reading a file within a limit does to a store that tells its tree, and what it answers.
 use Rattle.std.specs.Prelude.{◌≡◌, ℕ, ◌+◌, ◌<◌, ◌≤◌, ◌⊎◌, min, max, false, true, List, [], ◌∷◌, length, Some, None, ⊤}
 use Rattle.ocfl_tree.specs.Place.{Text, Place}
-use Rattle.ocfl_tree.specs.Tree.{Tree, file_at}
+use Rattle.ocfl_tree.specs.StorageRoot.{StorageRoot, file_at}
 use Rattle.ocfl_tree.specs.Store.{Store, Did}
 use Rattle.ocfl_tree.specs.Calls.{opening, failures_of}
 use Rattle.ocfl_tree.specs.declared.store.Opening.{Opening}
@@ -21,7 +21,7 @@ IsBoundedTo limit bytes (Whole v) = (v.items ≡ bytes) × (length bytes ≤ lim
 IsBoundedTo limit bytes Over = limit < length bytes
 
 -- the file at p was read within the limit, by one opening
-pub record ReadsBounded (root : Tree) (s t : Store) (p : Place) (limit : ℕ) (b : Bounded) : Type 0 where
+pub record ReadsBounded (root : StorageRoot) (s t : Store) (p : Place) (limit : ℕ) (b : Bounded) : Type 0 where
   pub bytes : Text
   pub is_file : file_at root p ≡ Some bytes
   pub is_bounded : IsBoundedTo limit bytes b
@@ -36,7 +36,7 @@ IsStopTrail p limit Absent os = os ≡ []
 IsStopTrail p limit Memory os = (os ≡ []) ⊎ ((given : ℕ) × (given ≤ limit) × (os ≡ opening p given false ∷ []))
 
 -- reading the file at p stopped
-pub record StopsReading (root : Tree) (s t : Store) (p : Place) (limit : ℕ) (trouble : Trouble) : Type 0 where
+pub record StopsReading (root : StorageRoot) (s t : Store) (p : Place) (limit : ℕ) (trouble : Trouble) : Type 0 where
   pub openings : List Opening
   pub opened : IsStopTrail p limit trouble openings
   pub did : Did s t openings [] (failures_of trouble)

@@ -1,5 +1,5 @@
 ghost use Rattle.std.specs.Prelude.{◌≡◌, IsTrue, IfOk, MatchResult};
-ghost use Rattle.ocfl_tree.specs.Tree.{Tree as Root};
+ghost use Rattle.ocfl_tree.specs.StorageRoot.{StorageRoot};
 ghost use Rattle.ocfl_digest.specs.Bounded.{IsWithin, ReadsBounded, StopsReading};
 
 use crate::pieces::read_piece;
@@ -32,7 +32,7 @@ pub fn read_bounded<T: Tree>(
     ensures within { IfOk result (IsWithin limit) }
 
     // Of a store that tells its tree.
-    ensures reads { IsTrue T.told → (root : Root) → (T.state store.old).tree ≡ root
+    ensures reads { IsTrue T.told → (root : StorageRoot) → (T.state store.old).tree ≡ root
         → MatchResult result
         (ReadsBounded root (T.state store.old) (T.state store.new) place.now limit)
         (StopsReading root (T.state store.old) (T.state store.new) place.now limit) }

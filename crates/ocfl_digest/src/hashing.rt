@@ -1,5 +1,5 @@
 ghost use Rattle.std.specs.Prelude.{◌≡◌, ◌<◌, ◌≤◌, ◌^◌, ◌↔◌, IsTrue, IfOk, IfErr, MatchResult};
-ghost use Rattle.ocfl_tree.specs.Tree.{Tree as Root};
+ghost use Rattle.ocfl_tree.specs.StorageRoot.{StorageRoot};
 ghost use Rattle.ocfl_digest.specs.Digests.{AreDigestsOfSome};
 ghost use Rattle.ocfl_digest.specs.Hashing.{HashesFile, StopsHashing};
 
@@ -38,7 +38,7 @@ pub fn hash_open<T: Tree>(
     ensures memory { IfErr result (λ stop. stop.cause ≡ Cause.Memory → stop.bytes ≡ 0) }
 
     // Of a store that tells its tree.
-    ensures hashes { IsTrue T.told → (root : Root) → (T.state store.old).tree ≡ root
+    ensures hashes { IsTrue T.told → (root : StorageRoot) → (T.state store.old).tree ≡ root
         → MatchResult result
         (λ hashed. HashesFile root (T.state store.old)
         (T.state store.new) place.now wanted hashed.0 hashed.1)

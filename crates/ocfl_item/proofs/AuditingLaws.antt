@@ -3,7 +3,7 @@ use Rattle.std.proofs.Common.{◌≡◌, ◌+◌, List, [], ◌∷◌, ◌++◌,
 use Rattle.std.proofs.lemmas.List.{append-nil, length-append, map-append}
 use Rattle.std.specs.Prelude.{not, AllPairs}
 use Rattle.ocfl_tree.specs.Place.{Place}
-use Rattle.ocfl_tree.specs.Tree.{Tree}
+use Rattle.ocfl_tree.specs.StorageRoot.{StorageRoot}
 use Rattle.ocfl_tree.specs.Store.{Store, Did}
 use Rattle.ocfl_tree.specs.declared.store.Opening.{Opening}
 use Rattle.ocfl_tree.proofs.Stores.{did_both}
@@ -39,32 +39,32 @@ none_once i j d l k = absurd (omega (arith, l, k))
 
 -- ---- trails
 
-pub heads_append : (root : Tree) (xs ys : List Opening) → heads_of root (xs ++ ys) ≡ heads_of root xs ++ heads_of root ys
+pub heads_append : (root : StorageRoot) (xs ys : List Opening) → heads_of root (xs ++ ys) ≡ heads_of root xs ++ heads_of root ys
 heads_append root [] ys = refl
 heads_append root (x ∷ xs) ys = ap (λ zs. inventory_of (zone root x.place) ++ zs) (heads_append root xs ys) ∙ sym (append_assoc (inventory_of (zone root x.place)) (heads_of root xs) (heads_of root ys))
 
-content_append : (root : Tree) (xs ys : List Opening) → content_openings root (xs ++ ys) ≡ content_openings root xs ++ content_openings root ys
+content_append : (root : StorageRoot) (xs ys : List Opening) → content_openings root (xs ++ ys) ≡ content_openings root xs ++ content_openings root ys
 content_append root xs ys = filter_append (λ o. not (is_meta root o.place)) xs ys
 
-pub trail_append : (root : Tree) (xs ys : List Opening) → content_trail root (xs ++ ys) ≡ content_trail root xs ++ content_trail root ys
+pub trail_append : (root : StorageRoot) (xs ys : List Opening) → content_trail root (xs ++ ys) ≡ content_trail root xs ++ content_trail root ys
 trail_append root xs ys = ap (map (λ o. o.place)) (content_append root xs ys) ∙ map-append (λ o. o.place) (content_openings root xs) (content_openings root ys)
 
-pub unread_append : (root : Tree) (xs ys : List Opening) → unread_of root (xs ++ ys) ≡ unread_of root xs ++ unread_of root ys
+pub unread_append : (root : StorageRoot) (xs ys : List Opening) → unread_of root (xs ++ ys) ≡ unread_of root xs ++ unread_of root ys
 unread_append root xs ys =
     ap (λ os. map (λ o. (o.place, o.given)) (filter (λ o. o.failed) os)) (content_append root xs ys)
     ∙ ap (map (λ o. (o.place, o.given))) (filter_append (λ o. o.failed) (content_openings root xs) (content_openings root ys))
     ∙ map-append (λ o. (o.place, o.given)) (filter (λ o. o.failed) (content_openings root xs)) (filter (λ o. o.failed) (content_openings root ys))
 
-unread_count : (root : Tree) (xs ys : List Opening) → length (unread_of root (xs ++ ys)) ≡ length (unread_of root xs) + length (unread_of root ys)
+unread_count : (root : StorageRoot) (xs ys : List Opening) → length (unread_of root (xs ++ ys)) ≡ length (unread_of root xs) + length (unread_of root ys)
 unread_count root xs ys = ap length (unread_append root xs ys) ∙ length-append (unread_of root xs) (unread_of root ys)
 
-pub hashed_append : (root : Tree) (ps qs : List Place) → hashed_among root (ps ++ qs) ≡ hashed_among root ps ++ hashed_among root qs
+pub hashed_append : (root : StorageRoot) (ps qs : List Place) → hashed_among root (ps ++ qs) ≡ hashed_among root ps ++ hashed_among root qs
 unfolding hashed_among
 hashed_append root ps qs = filter_append (is_hashed root) ps qs
 
 -- ---- one call after the other
 
-module _ (root : Tree) (s t u : Store) where
+module _ (root : StorageRoot) (s t u : Store) where
   pub audits_on : (ps qs ls ls' hs hs' : List Place) (os os' : List Opening) → Audits root s t ps ls hs os → Audits root t u qs ls' hs' os' → Audits root s u (ps ++ qs) (ls ++ ls') (hs ++ hs') (os ++ os')
   audits_on ps qs ls ls' hs hs' os os' h k = record {
     over = h.over;
@@ -91,20 +91,20 @@ module _ (root : Tree) (s t u : Store) where
 pub did_nothing : (s : Store) → Did s s [] [] 0
 did_nothing s = record { tree = refl; openings_are = sym (append-nil s.openings); listings_are = sym (append-nil s.listings); failures_are = omega arith }
 
-pub audits_nothing : (root : Tree) (s : Store) → s.tree ≡ root → Audits root s s [] [] [] []
+pub audits_nothing : (root : StorageRoot) (s : Store) → s.tree ≡ root → Audits root s s [] [] [] []
 unfolding hashed_among
 audits_nothing root s over = record { over = over; did = did_nothing s; opened = refl; heads_are = refl }
 
-pub fails_nothing : (root : Tree) (s : Store) (why : Fault) → s.tree ≡ root → failures_by why ≡ 0 → ((q : Place) → why ≡ fault.Store q → ⊥) → Fails root s s [] [] [] [] why
+pub fails_nothing : (root : StorageRoot) (s : Store) (why : Fault) → s.tree ≡ root → failures_by why ≡ 0 → ((q : Place) → why ≡ fault.Store q → ⊥) → Fails root s s [] [] [] [] why
 unfolding hashed_among
 fails_nothing root s why over none not = record { over = over; did = (let same : 0 ≡ 0 + failures_by why = omega (arith, none) in subst (Did s s [] []) same (did_nothing s)); opened = refl; heads_are = refl; store = λ q e. absurd (not q e) }
 
 -- where only metadata was read
-pub audits_meta : (root : Tree) (s t : Store) (ls hs : List Place) (os : List Opening) → s.tree ≡ root → Did s t os ls 0 → content_trail root os ≡ [] → heads_of root os ≡ hs → Audits root s t [] ls hs os
+pub audits_meta : (root : StorageRoot) (s t : Store) (ls hs : List Place) (os : List Opening) → s.tree ≡ root → Did s t os ls 0 → content_trail root os ≡ [] → heads_of root os ≡ hs → Audits root s t [] ls hs os
 unfolding hashed_among
 audits_meta root s t ls hs os over did meta heads = record { over = over; did = subst (Did s t os ls) (sym (ap length (none_unread root os meta))) did; opened = meta; heads_are = heads }
 
-pub fails_meta : (root : Tree) (s t : Store) (ls hs : List Place) (os : List Opening) (why : Fault) → s.tree ≡ root → Did s t os ls (failures_by why) → content_trail root os ≡ [] → heads_of root os ≡ hs
+pub fails_meta : (root : StorageRoot) (s t : Store) (ls hs : List Place) (os : List Opening) (why : Fault) → s.tree ≡ root → Did s t os ls (failures_by why) → content_trail root os ≡ [] → heads_of root os ≡ hs
     → ((q : Place) → why ≡ fault.Store q → (is_hashed root q ≡ false) × FailedAt ls os q) → Fails root s t [] ls hs os why
 unfolding hashed_among
 fails_meta root s t ls hs os why over did meta heads store = record {

@@ -5,7 +5,7 @@ use Rattle.std.specs.List.{AllByRecursion}
 use Rattle.std.proofs.lemmas.List.{append-nil, length-map}
 use Rattle.std.proofs.lemmas.List.Prefix.{front_fits}
 use Rattle.ocfl_tree.specs.Place.{Place, Text}
-use Rattle.ocfl_tree.specs.Tree.{Tree, file_at, names_in}
+use Rattle.ocfl_tree.specs.StorageRoot.{StorageRoot, file_at, names_in}
 use Rattle.ocfl_tree.specs.Store.{Store}
 use Rattle.ocfl_tree.specs.Listing.{IsListing, IsOrdinary}
 use Rattle.ocfl_tree.specs.declared.store.Entry.{Entry}
@@ -48,26 +48,26 @@ use Rattle.ocfl_audit.proofs.Trails.{content_behind}
 
 -- ---- its lines
 
-some_notes : (root : Tree) (d : Declared) → root_notes_by root d ≢ []
+some_notes : (root : StorageRoot) (d : Declared) → root_notes_by root d ≢ []
 some_notes root undeclared e = cc
 some_notes root several e = cc
 some_notes root (unknown t) e = cc
 some_notes root (known v) e = clean_some _ e
 
-pub root_some : (root : Tree) → notes root None [] ≢ []
+pub root_some : (root : StorageRoot) → notes root None [] ≢ []
 root_some root = some_notes root (root_declared root)
 
-root_unnamed : (root : Tree) → named_at root [] ≡ []
+root_unnamed : (root : StorageRoot) → named_at root [] ≡ []
 root_unnamed root = by (not (is_known (root_declared root)))
   where
     by : (b : Bool) → named_in root (cond (b || false) skipped hierarchy) ≡ []
     by true = refl
     by false = refl
 
-pub root_not_hashed : (root : Tree) → is_hashed root [] ≡ false
+pub root_not_hashed : (root : StorageRoot) → is_hashed root [] ≡ false
 root_not_hashed root = ap (λ ns. nat_lt 0 (cost_of ns None (seen root []))) (root_unnamed root)
 
-pub root_pending : (root : Tree) (p : Place) (made : Pending) → p ≡ [] → made.place ≡ p → made.hashed ≡ false → made.named.items ≡ [] → map line_of made.lines.items ≡ lines_at [] (notes root None []) → IsPending root made
+pub root_pending : (root : StorageRoot) (p : Place) (made : Pending) → p ≡ [] → made.place ≡ p → made.hashed ≡ false → made.named.items ≡ [] → map line_of made.lines.items ≡ lines_at [] (notes root None []) → IsPending root made
 root_pending root p made none there unhashed unnamed lines =
     let place : made.place ≡ [] = there ∙ none in
     record {
@@ -77,7 +77,7 @@ root_pending root p made none there unhashed unnamed lines =
       lines = λ h. subst (λ x. map line_of made.lines.items ≡ lines_at x (notes root None x)) (sym place) lines;
     }
 
-pub declaration_at_root : (root : Tree) (p : Place) (n : Text) (v : Version) → p ≡ [] → n ≡ declaration_name Root v → is_meta root (p ++ n ∷ []) ≡ true
+pub declaration_at_root : (root : StorageRoot) (p : Place) (n : Text) (v : Version) → p ≡ [] → n ≡ declaration_name Root v → is_meta root (p ++ n ∷ []) ≡ true
 declaration_at_root root p n v e f = (λ i. is_meta root (e i ++ f i ∷ [])) ∙ by v
   where
     by : (v : Version) → is_meta root (declaration_name Root v ∷ []) ≡ true
@@ -85,13 +85,13 @@ declaration_at_root root p n v e f = (λ i. is_meta root (e i ++ f i ∷ [])) �
     by V1_1 = refl
 
 -- lines that were put behind none
-pub root_lines : (root : Tree) (old new : List MadeLine) (p : Place) (d : Declared) → old ≡ [] → p ≡ [] → Adds old new p (root_notes_by root d) → d ≡ root_declared root → map line_of new ≡ lines_at [] (notes root None [])
+pub root_lines : (root : StorageRoot) (old new : List MadeLine) (p : Place) (d : Declared) → old ≡ [] → p ≡ [] → Adds old new p (root_notes_by root d) → d ≡ root_declared root → map line_of new ≡ lines_at [] (notes root None [])
 root_lines root old new p d none top h same =
     subst (λ x. map line_of new ≡ map line_of x ++ lines_at p (root_notes_by root d)) none h ∙ (λ i. lines_at (top i) (root_notes_by root (same i)))
 
 -- ---- what was done
 
-module _ (root : Tree) where
+module _ (root : StorageRoot) where
   no_heads : (q : Text) → inventory_of (zone root (q ∷ [])) ≡ []
   no_heads q = by (not (is_known (root_declared root)) || is_in_extensions root (q ∷ [])) (is_declared (object_declared root (q ∷ [])))
     where
@@ -229,12 +229,12 @@ module _ (root : Tree) where
   base_now_known v e = ap is_known (sym e)
 
 -- a storage root that is not of one known version
-pub record IsStopped (root : Tree) (es : List Entry) (m : MadeDeclared) : Type 0 where
+pub record IsStopped (root : StorageRoot) (es : List Entry) (m : MadeDeclared) : Type 0 where
   pub says : meaning Root es m ≡ root_declared root
   pub stops : is_known (meaning Root es m) ≡ false
   pub points : PointsAtOne Root es m
 
-pub base_stops : (root : Tree) (es given later : List Entry) (m n : MadeDeclared) → given ≡ es → later ≡ es → n ≡ m → IsOrdinary es → IsListing root [] es → meaning Root given m ≡ declared Root (file_names given) → PointsAtOne Root given m → ((v : Version) → m ≡ made.One v → ⊥)
+pub base_stops : (root : StorageRoot) (es given later : List Entry) (m n : MadeDeclared) → given ≡ es → later ≡ es → n ≡ m → IsOrdinary es → IsListing root [] es → meaning Root given m ≡ declared Root (file_names given) → PointsAtOne Root given m → ((v : Version) → m ≡ made.One v → ⊥)
     → IsStopped root later n
 base_stops root es given later m n e f same ordinary h says points none =
     let k : IsStopped root given m = record { says = root_is root es given (meaning Root given m) e ordinary h says; stops = unknown_stops Root given m none points; points = points } in

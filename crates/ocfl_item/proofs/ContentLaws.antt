@@ -5,7 +5,7 @@ use Rattle.std.specs.Prelude.{option_map, nat_lt}
 use Rattle.std.specs.List.{list_all}
 use Rattle.ocfl_tree.specs.Place.{Place, Text, beginnings}
 use Rattle.ocfl_tree.specs.Ascending.{IsAscending, IsAmong}
-use Rattle.ocfl_tree.specs.Tree.{Tree, Leaf, file, dir, other, at}
+use Rattle.ocfl_tree.specs.StorageRoot.{StorageRoot, Leaf, file, dir, other, at}
 use Rattle.ocfl_inventory.specs.ListedPath.{is_content_path}
 use Rattle.ocfl_inventory.specs.Table.{Table, Named, named_cmp, named, paths_of}
 use Rattle.ocfl_audit.specs.Zone.{Zone, skipped, hierarchy, inside, zone, seen, table_at, is_entered}
@@ -20,7 +20,7 @@ use Rattle.ocfl_audit.proofs.BoundLaws.{table_from_inventory, kept_paths, kept_s
 use Rattle.ocfl_item.proofs.NamedLaws.{named_ascend}
 use Rattle.ocfl_audit.proofs.PathLaws.{deep_path}
 
-pub record IsContent (root : Tree) (p : Place) (ns : List Named) : Type 0 where
+pub record IsContent (root : StorageRoot) (p : Place) (ns : List Named) : Type 0 where
   pub lines : (u : Option ℕ) → notes root u p ≡ content_notes root p ns u (seen root p)
   pub digests : named_at root p ≡ ns
   pub ascend : IsAscending named_cmp ns
@@ -29,15 +29,15 @@ filled_front : (o q : Place) → [] ≡ o ++ q → o ≡ []
 filled_front [] q e = refl
 filled_front (n ∷ o) q e = absurd cc
 
-notes_by_zone : (root : Tree) (u : Option ℕ) (p : Place) → p ≢ [] → notes root u p ≡ notes_in root p u (zone root p)
+notes_by_zone : (root : StorageRoot) (u : Option ℕ) (p : Place) → p ≢ [] → notes root u p ≡ notes_in root p u (zone root p)
 notes_by_zone root u [] h = absurd (h refl)
 notes_by_zone root u (n ∷ p) h = refl
 
-not_root : (root : Tree) (p o q : Place) → zone root p ≡ inside o q → p ≢ []
+not_root : (root : StorageRoot) (p o q : Place) → zone root p ≡ inside o q → p ≢ []
 not_root root p o q z e = let is = zone_is root p o q z in is.below (filled_front o q (sym e ∙ is.whole))
 
 -- the lines of a place that a table may name
-pub content_by_table : (root : Tree) (p o : Place) (v c n : Text) (r : Place) (t : Table) → zone root p ≡ inside o (v ∷ c ∷ n ∷ r) → table_at root o ≡ Some t → IsContent root p (named t (v ∷ c ∷ n ∷ r))
+pub content_by_table : (root : StorageRoot) (p o : Place) (v c n : Text) (r : Place) (t : Table) → zone root p ≡ inside o (v ∷ c ∷ n ∷ r) → table_at root o ≡ Some t → IsContent root p (named t (v ∷ c ∷ n ∷ r))
 content_by_table root p o v c n r t z h = record {
   lines = λ u. notes_by_zone root u p (not_root root p o _ z) ∙ ap (notes_in root p u) z ∙ ap (λ y. object_notes root p u y (v ∷ c ∷ n ∷ r)) h;
   digests = ap (named_in root) z ∙ ap named_of h;
@@ -51,7 +51,7 @@ content_by_table root p o v c n r t z h = record {
 same_pair : {A B : Type 0} (x y : A × B) → Some x ≡ Some y → (x.0 ≡ y.0) × (x.1 ≡ y.1)
 same_pair x y e = let pairs : x ≡ y = cc in (ap (λ k. k.0) pairs, ap (λ k. k.1) pairs)
 
-pub content_is : (root : Tree) (p q : Place) (t : Table) → content_at root p ≡ Some (t, q) → IsContent root p (named t q)
+pub content_is : (root : StorageRoot) (p q : Place) (t : Table) → content_at root p ≡ Some (t, q) → IsContent root p (named t q)
 content_is root p q t h = by (zone root p) refl h
   where
     by : (z : Zone) → zone root p ≡ z → content_in root z ≡ Some (t, q) → IsContent root p (named t q)
@@ -70,7 +70,7 @@ content_is root p q t h = by (zone root p) refl h
 
 -- ---- a file that is hashed
 
-pub record IsHashedFile (root : Tree) (p : Place) : Type 0 where
+pub record IsHashedFile (root : StorageRoot) (p : Place) : Type 0 where
   pub bytes : Text
   pub is_file : at root p ≡ Some (file bytes)
   pub digests : named_at root p ≢ []
@@ -79,7 +79,7 @@ pub record IsHashedFile (root : Tree) (p : Place) : Type 0 where
   pub part : (given : ℕ) → cost root (Some given) p ≡ given + 1
 
 -- what is seen lies there
-there : (root : Tree) (p : Place) (leaf : Leaf) → seen root p ≡ Some leaf → at root p ≡ Some leaf
+there : (root : StorageRoot) (p : Place) (leaf : Leaf) → seen root p ≡ Some leaf → at root p ≡ Some leaf
 there root p leaf h = by (list_all (is_entered root) (beginnings p)) h
   where
     by : (b : Bool) → cond b (at root p) None ≡ Some leaf → at root p ≡ Some leaf
@@ -101,7 +101,7 @@ read_file (n ∷ ns) (Some dir) h = absurd (true_not_false (sym h))
 read_file (n ∷ ns) (Some other) h = absurd (true_not_false (sym h))
 
 -- a place that some digest is named for is one of content
-named_content : (root : Tree) (p : Place) → named_at root p ≢ [] → IsContent root p (named_at root p)
+named_content : (root : StorageRoot) (p : Place) → named_at root p ≢ [] → IsContent root p (named_at root p)
 named_content root p some = by (zone root p) refl some
   where
     in_table : (o q : Place) (t : Table) → zone root p ≡ inside o q → table_at root o ≡ Some t → named t q ≢ [] → IsContent root p (named_at root p)
@@ -121,7 +121,7 @@ named_content root p some = by (zone root p) refl some
         go None e l = absurd (l refl)
         go (Some t) e l = in_table o q t z e l
 
-pub hashed_file : (root : Tree) (p : Place) → is_hashed root p ≡ true → IsHashedFile root p
+pub hashed_file : (root : StorageRoot) (p : Place) → is_hashed root p ≡ true → IsHashedFile root p
 hashed_file root p h =
     let r = read_file (named_at root p) (seen root p) h in
     let c = named_content root p r.some in
@@ -134,7 +134,7 @@ hashed_file root p h =
       part = r.part;
     }
 
-pub unhashed_cost : (root : Tree) (p : Place) → is_hashed root p ≡ false → cost root None p ≡ 0
+pub unhashed_cost : (root : StorageRoot) (p : Place) → is_hashed root p ≡ false → cost root None p ≡ 0
 unhashed_cost root p h = by (cost root None p) h
   where
     by : (n : ℕ) → nat_lt 0 n ≡ false → n ≡ 0
@@ -142,7 +142,7 @@ unhashed_cost root p h = by (cost root None p) h
 
 -- ---- what is known by sight
 
-pub known_by_sight : (root : Tree) (p : Place) (ns : List Named) (u : Option ℕ) (s : Sight) → IsSight root p s → is_read s ns ≡ false → content_notes root p ns u (seen root p) ≡ sight_notes s ++ missing_notes ns
+pub known_by_sight : (root : StorageRoot) (p : Place) (ns : List Named) (u : Option ℕ) (s : Sight) → IsSight root p s → is_read s ns ≡ false → content_notes root p ns u (seen root p) ≡ sight_notes s ++ missing_notes ns
 known_by_sight root p ns u sight.Nothing h e = ap (content_notes root p ns u) h
 known_by_sight root p [] u sight.File h e = ap (content_notes root p [] u) h.1
 known_by_sight root p (n ∷ ns) u sight.File h e = absurd (true_not_false e)
@@ -151,7 +151,7 @@ known_by_sight root p ns u sight.EmptyDir h e = ap (content_notes root p ns u) h
 known_by_sight root p ns u sight.DeepDir h e = ap (content_notes root p ns u) h.0 ∙ ap (λ xs. xs ++ missing_notes ns) h.1
 known_by_sight root p ns u sight.Other h e = ap (content_notes root p ns u) h
 
-pub hashed_by_sight : (root : Tree) (p : Place) (ns : List Named) (s : Sight) → IsSight root p s → nat_lt 0 (cost_of ns None (seen root p)) ≡ is_read s ns
+pub hashed_by_sight : (root : StorageRoot) (p : Place) (ns : List Named) (s : Sight) → IsSight root p s → nat_lt 0 (cost_of ns None (seen root p)) ≡ is_read s ns
 hashed_by_sight root p [] sight.Nothing h = refl
 hashed_by_sight root p [] sight.File h = refl
 hashed_by_sight root p [] sight.Dir h = refl

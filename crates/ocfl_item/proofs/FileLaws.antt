@@ -6,7 +6,7 @@ use Rattle.std.proofs.lemmas.List.Kept.{AllPairs-filter}
 use Rattle.std.specs.Prelude.{cond, ◌||◌, ◌&&◌, not, min, AllPairs, Ok, Err, option_and_then}
 use Rattle.std.specs.List.{list_all}
 use Rattle.ocfl_tree.specs.Place.{Text, Place}
-use Rattle.ocfl_tree.specs.Tree.{Tree, file_at, bytes_of}
+use Rattle.ocfl_tree.specs.StorageRoot.{StorageRoot, file_at, bytes_of}
 use Rattle.ocfl_tree.specs.Store.{Store}
 use Rattle.ocfl_tree.specs.Calls.{opening}
 use Rattle.ocfl_tree.specs.Listing.{IsListing, kind_in}
@@ -36,7 +36,7 @@ use Rattle.ocfl_item.proofs.LooksCalls.{did_nothing, store_place, memory_no_stor
 
 -- ---- one file
 
-module _ (root : Tree) (o : Place) (n : Text) (z : zone root o ≡ inside o []) (meta : is_object_meta (n ∷ []) ≡ true) where
+module _ (root : StorageRoot) (o : Place) (n : Text) (z : zone root o ≡ inside o []) (meta : is_object_meta (n ∷ []) ≡ true) where
   pub file_is_meta : is_meta root (o ++ n ∷ []) ≡ true
   file_is_meta = ap (λ x. is_root_meta (o ++ n ∷ []) || is_meta_zone x) (inside_on root o o [] (n ∷ []) z) ∙ ap (λ b. is_root_meta (o ++ n ∷ []) || b) meta ∙ or_true (is_root_meta (o ++ n ∷ []))
     where
@@ -44,7 +44,7 @@ module _ (root : Tree) (o : Place) (n : Text) (z : zone root o ≡ inside o []) 
       or_true true = refl
       or_true false = refl
 
-module _ (root : Tree) (o : Place) (n : Text) (meta : is_meta root (o ++ n ∷ []) ≡ true) where
+module _ (root : StorageRoot) (o : Place) (n : Text) (meta : is_meta root (o ++ n ∷ []) ≡ true) where
   file_not_hashed : is_hashed root (o ++ n ∷ []) ≡ false
   file_not_hashed = by (is_hashed root (o ++ n ∷ [])) refl
     where
@@ -104,7 +104,7 @@ module _ (root : Tree) (o : Place) (n : Text) (meta : is_meta root (o ++ n ∷ [
       }
 
 -- want of memory before the store is asked
-pub file_memory : (root : Tree) (s : Store) (o : Place) (n : Text) (limit : ℕ) → s.tree ≡ root → ReadsFile root s s o n limit (Err fault.Memory)
+pub file_memory : (root : StorageRoot) (s : Store) (o : Place) (n : Text) (limit : ℕ) → s.tree ≡ root → ReadsFile root s s o n limit (Err fault.Memory)
 file_memory root s o n limit over = record {
   gives = record {
     trail = [];
@@ -115,7 +115,7 @@ file_memory root s o n limit over = record {
 
 -- ---- one after the other
 
-module _ (root : Tree) (o : Place) where
+module _ (root : StorageRoot) (o : Place) where
   pub there_then : (ns ms : List Text) → files_there root o (ns ++ ms) ≡ files_there root o ns ++ files_there root o ms
   there_then ns ms =
       ap (map (λ n. o ++ n ∷ [])) (filter-append (λ n. is_some (file_at root (o ++ n ∷ []))) ns ms)
@@ -220,7 +220,7 @@ last_same (x ∷ o) n m e = last_same o n m (tail_same e)
     tail_same : x ∷ (o ++ n ∷ []) ≡ x ∷ (o ++ m ∷ []) → o ++ n ∷ [] ≡ o ++ m ∷ []
     tail_same e = cc
 
-module _ (root : Tree) (o : Place) (z : zone root o ≡ inside o []) (ns : List Text) (meta : list_all (λ n. is_object_meta (n ∷ [])) ns ≡ true) (apart : AllPairs (λ n m. n ≢ m) ns) where
+module _ (root : StorageRoot) (o : Place) (z : zone root o ≡ inside o []) (ns : List Text) (meta : list_all (λ n. is_object_meta (n ∷ [])) ns ≡ true) (apart : AllPairs (λ n m. n ≢ m) ns) where
   there_apart : AllPairs (λ p q. p ≢ q) (files_there root o ns)
   there_apart =
       map_pairs (λ n. o ++ n ∷ []) (λ p q. p ≢ q) (filter (λ n. is_some (file_at root (o ++ n ∷ []))) ns)

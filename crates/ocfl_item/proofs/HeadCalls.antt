@@ -7,7 +7,7 @@ use Rattle.ocfl_tree.proofs.Places.{text_eq-Decides}
 use Rattle.std.specs.Prelude.{cond, ◌||◌, not, nat_le, AllPairs, Result, Ok, Err, Vec, option_and_then}
 use Rattle.std.specs.declared.alloc.Global.{Global}
 use Rattle.ocfl_tree.specs.Place.{Text, Place, text_eq}
-use Rattle.ocfl_tree.specs.Tree.{Tree, file_at}
+use Rattle.ocfl_tree.specs.StorageRoot.{StorageRoot, file_at}
 use Rattle.ocfl_tree.specs.Store.{Store}
 use Rattle.ocfl_tree.specs.declared.store.Entry.{Entry}
 use Rattle.ocfl_report.specs.Line.{Note, line_of, lines_at, plain}
@@ -52,7 +52,7 @@ not_within a b l = by (nat_le a b) refl
     by false e = refl
     by true e = let le = leb-true a b e in absurd (omega (arith, l, le))
 
-module _ (root : Tree) (o : Place) (es : List Entry) (h : IsObject root o es) where
+module _ (root : StorageRoot) (o : Place) (es : List Entry) (h : IsObject root o es) where
   table_here : table_at root o ≡ option_and_then (λ b. cond (nat_le (length b) inventory_limit) (table_of b) None) (file_at root (o ++ inventory_name ∷ []))
   table_here = ap (option_and_then (λ b. cond (nat_le (length b) inventory_limit) (table_of b) None)) (ap (λ b. cond b (file_at root (o ++ inventory_name ∷ [])) None) h.known)
 
@@ -97,7 +97,7 @@ module _ (root : Tree) (o : Place) (es : List Entry) (h : IsObject root o es) wh
 
 -- ---- one file after the other
 
-module _ (root : Tree) (o : Place) where
+module _ (root : StorageRoot) (o : Place) where
   pub over_file : (s t : Store) (n : Text) (limit : ℕ) (f : Option Bounded) → ReadsFile root s t o n limit (Ok f) → t.tree ≡ root
   over_file s t n limit f h = h.gives.0.did.tree ∙ h.gives.0.over
 
@@ -164,14 +164,14 @@ module _ (root : Tree) (o : Place) where
 
 -- ---- the head
 
-pub inside_not_root : (root : Tree) (o q : Place) → zone root [] ≡ inside o q → ⊥
+pub inside_not_root : (root : StorageRoot) (o q : Place) → zone root [] ≡ inside o q → ⊥
 inside_not_root root o q z = by (not (is_known (root_declared root))) z
   where
     by : (b : Bool) → cond (b || false) skipped hierarchy ≡ inside o q → ⊥
     by true e = cc
     by false e = cc
 
-pub head_notes_are : (root : Tree) (o : Place) → zone root o ≡ inside o [] → notes root None o ≡ head_notes_by root o (object_declared root o)
+pub head_notes_are : (root : StorageRoot) (o : Place) → zone root o ≡ inside o [] → notes root None o ≡ head_notes_by root o (object_declared root o)
 head_notes_are root o z = notes_at root None o (λ e. inside_not_root root o [] (ap (zone root) (sym e) ∙ z)) ∙ ap (notes_in root o None) z
 
 names_distinct : (v : Version) → IsDistinct text_eq (head_names v)
@@ -193,13 +193,13 @@ declaration_is_meta n v e = ap (λ m. is_object_meta (m ∷ [])) e ∙ by v
     by V1_0 = refl
     by V1_1 = refl
 
-pub head_declaration : (root : Tree) (o : Place) (s t : Store) (n m : Text) (limit : ℕ) (r : Result (Option Bounded) Fault) → n ≡ m → ReadsFile root s t o n limit r → ReadsFile root s t o m limit r
+pub head_declaration : (root : StorageRoot) (o : Place) (s t : Store) (n m : Text) (limit : ℕ) (r : Result (Option Bounded) Fault) → n ≡ m → ReadsFile root s t o n limit r → ReadsFile root s t o m limit r
 head_declaration root o s t n m limit r e h = subst (λ x. ReadsFile root s t o x limit r) e h
 
 pub first_added : (old new : List MadeLine) (p : Place) (ns : List Note) → old ≡ [] → Adds old new p ns → Adds [] new p ns
 first_added old new p ns none h = subst (λ x. Adds x new p ns) none h
 
-module _ (root : Tree) (o : Place) (z : zone root o ≡ inside o []) (v : Version) where
+module _ (root : StorageRoot) (o : Place) (z : zone root o ≡ inside o []) (v : Version) where
   pub head_stops : (s t : Store) (why : Fault) → FilesStop root s t o (head_names v) why → ReadsHead root s t o (Err why)
   head_stops s t why h = record { gives = record { stops = stop_is_meta root o z (head_names v) (names_meta v) (names_apart v) s t why h; heads = head_opened root o z v h.trail h.opened } }
 
@@ -219,7 +219,7 @@ module _ (root : Tree) (o : Place) (z : zone root o ≡ inside o []) (v : Versio
       clean (on (not (is_exact_declaration root o level.Object v)) (plain E007) ++ inventory_file_notes root o (file_at root (o ++ inventory_name ∷ []))) (adds_both [] a b o _ _ h k)
       ∙ ap (lines_at o) (sym (head_notes_are root o z ∙ ap (head_notes_by root o) is))
 
-pub stopped_head : (root : Tree) (o : Place) (es : List Entry) (m : MadeDeclared) (s : Store) (lines : Vec MadeLine Global) → s.tree ≡ root → IsDeclared root o es m → is_known (meaning level.Object es m) ≡ false → Adds [] lines.items o (head_notes_by root o (meaning level.Object es m))
+pub stopped_head : (root : StorageRoot) (o : Place) (es : List Entry) (m : MadeDeclared) (s : Store) (lines : Vec MadeLine Global) → s.tree ≡ root → IsDeclared root o es m → is_known (meaning level.Object es m) ≡ false → Adds [] lines.items o (head_notes_by root o (meaning level.Object es m))
     → ReadsHead root s s o (Ok (lines, None))
 stopped_head root o es m s lines over h stops k = record {
   gives = (
@@ -229,10 +229,10 @@ stopped_head root o es m s lines over h stops k = record {
   );
 }
 
-pub stopped_memory : (root : Tree) (o : Place) (s : Store) → s.tree ≡ root → ReadsHead root s s o (Err fault.Memory)
+pub stopped_memory : (root : StorageRoot) (o : Place) (s : Store) → s.tree ≡ root → ReadsHead root s s o (Err fault.Memory)
 stopped_memory root o s over = record { gives = record { stops = memory_stops root s s [] (reads_nothing root s over); heads = (o ∷ [], refl) } }
 
-pub stop_added : (root : Tree) (o : Place) (es : List Entry) (m : MadeDeclared) (old new : List MadeLine) (given : List Entry) → given ≡ es → old ≡ [] → is_known (meaning level.Object es m) ≡ false → PointsAtOne level.Object es m
+pub stop_added : (root : StorageRoot) (o : Place) (es : List Entry) (m : MadeDeclared) (old new : List MadeLine) (given : List Entry) → given ≡ es → old ≡ [] → is_known (meaning level.Object es m) ≡ false → PointsAtOne level.Object es m
     → (is_known (meaning level.Object given m) ≡ false → PointsAtOne level.Object given m → Adds old new o (head_notes_by root o (meaning level.Object given m))) → Adds [] new o (head_notes_by root o (meaning level.Object es m))
 stop_added root o es m old new given same none h k adds =
     first_added old new o (head_notes_by root o (meaning level.Object es m)) none

@@ -7,7 +7,7 @@ use Rattle.std.proofs.lemmas.Slice.Eq.{starts_is}
 use Rattle.std.proofs.lemmas.Bool.Decides.{Decides-eqb}
 use Rattle.std.proofs.lemmas.List.{append-nil}
 use Rattle.ocfl_tree.specs.Place.{Place, Text, text_eq}
-use Rattle.ocfl_tree.specs.Tree.{Tree, file_at}
+use Rattle.ocfl_tree.specs.StorageRoot.{StorageRoot, file_at}
 use Rattle.ocfl_tree.specs.declared.store.Entry.{Entry}
 use Rattle.ocfl_tree.specs.declared.store.Kind.{Kind}
 use Rattle.ocfl_tree.specs.declared.store.Kind.TheVariants.{File, Dir, Other}
@@ -67,7 +67,7 @@ long_is_other text bytes limit long short = by (text_eq text bytes) refl
     by true e = absurd (omega (arith, ap length (text_from_test text bytes e)))
     by false e = refl
 
-pub exact_by : (root : Tree) (o : Place) (l : Level) (v : Version) (f : Option Bounded) (b : Bounded) (exact : Text) (r : Bool) → f ≡ Some b → exact ≡ declaration_bytes l v
+pub exact_by : (root : StorageRoot) (o : Place) (l : Level) (v : Version) (f : Option Bounded) (b : Bounded) (exact : Text) (r : Bool) → f ≡ Some b → exact ≡ declaration_bytes l v
     → ((text : Text) → IsBoundedTo 4096 text b → length exact ≤ 4096 → r ≡ text_eq text exact)
     → IsFileAt root (o ++ declaration_name l v ∷ []) 4096 f → r ≡ is_exact_declaration root o l v
 exact_by root o l v f b exact r is same told h =
@@ -92,15 +92,15 @@ counted_begins l e h = by e.kind h
     by Other g = absurd (true_not_false (sym g))
 
 -- the name of a declaration whose version is not known
-pub record IsUnknown (root : Tree) (o : Place) (l : Level) (d : Declared) (name : Text) : Type 0 where
+pub record IsUnknown (root : StorageRoot) (o : Place) (l : Level) (d : Declared) (name : Text) : Type 0 where
   pub begins : name ≡ prefix l ++ after_prefix l name
   pub lines : declared_notes root o l d ≡ note S01 (after_prefix l name) ∷ []
 
-unknown_lines : (root : Tree) (o : Place) (l : Level) (t : Text) → declared_notes root o l (unknown t) ≡ note S01 t ∷ []
+unknown_lines : (root : StorageRoot) (o : Place) (l : Level) (t : Text) → declared_notes root o l (unknown t) ≡ note S01 t ∷ []
 unknown_lines root o Root t = refl
 unknown_lines root o Object t = refl
 
-pub unknown_name : (root : Tree) (o : Place) (l : Level) (es : List Entry) (d : MadeDeclared) (i : ℕ) (e : Entry) → d ≡ made.Unknown i → slice_get es i ≡ Some e → PointsAtOne l es d → IsUnknown root o l (meaning l es d) e.name
+pub unknown_name : (root : StorageRoot) (o : Place) (l : Level) (es : List Entry) (d : MadeDeclared) (i : ℕ) (e : Entry) → d ≡ made.Unknown i → slice_get es i ≡ Some e → PointsAtOne l es d → IsUnknown root o l (meaning l es d) e.name
 unknown_name root o l es d i e is at points =
     let one : PointsAtOne l es (made.Unknown i) = subst (PointsAtOne l es) is points in
     let same : Some one.0 ≡ Some e = sym one.1 ∙ at in
@@ -144,14 +144,14 @@ notes_back p ls ns h = each ls ∙ ap (map note_in) h ∙ back ns
     back [] = refl
     back (n ∷ ns) = ap (λ ms. n ∷ ms) (back ns)
 
-part_is : (root : Tree) (o : Place) (bytes : Text) → named_notes root o (result_ok (algorithm_of bytes)) ++ notes_of bytes ≡ inventory_part root o bytes (algorithm_of bytes)
+part_is : (root : StorageRoot) (o : Place) (bytes : Text) → named_notes root o (result_ok (algorithm_of bytes)) ++ notes_of bytes ≡ inventory_part root o bytes (algorithm_of bytes)
 part_is root o bytes = by (algorithm_of bytes) refl
   where
     by : (r : Reading Algorithm) → algorithm_of bytes ≡ r → named_notes root o (result_ok r) ++ notes_of bytes ≡ inventory_part root o bytes r
     by (Ok a) e = refl
     by (Err n) e = stopped_notes bytes n e
 
-pub read_part : (root : Tree) (o : Place) (bytes : Text) (a : Option Algorithm) (ls : List MadeLine) → a ≡ result_ok (algorithm_of bytes) → map line_of ls ≡ lines_at [] (notes_of bytes)
+pub read_part : (root : StorageRoot) (o : Place) (bytes : Text) (a : Option Algorithm) (ls : List MadeLine) → a ≡ result_ok (algorithm_of bytes) → map line_of ls ≡ lines_at [] (notes_of bytes)
     → named_notes root o a ++ map note_of ls ≡ inventory_part root o bytes (algorithm_of bytes)
 read_part root o bytes a ls is read = (λ i. named_notes root o (is i) ++ notes_back [] ls (notes_of bytes) read i) ∙ part_is root o bytes
 

@@ -4,7 +4,7 @@ use Rattle.std.proofs.lemmas.Bool.{le-leb}
 use Rattle.std.specs.Prelude.{cond, Result, Ok, Vec}
 use Rattle.std.specs.declared.alloc.Global.{Global}
 use Rattle.ocfl_tree.specs.Place.{Text, Place}
-use Rattle.ocfl_tree.specs.Tree.{Tree, file_at}
+use Rattle.ocfl_tree.specs.StorageRoot.{StorageRoot, file_at}
 use Rattle.ocfl_tree.specs.Store.{Store}
 use Rattle.ocfl_tree.specs.declared.store.Entry.{Entry}
 use Rattle.ocfl_digest.specs.declared.algorithm.Algorithm.TheVariants.{Sha256, Sha512}
@@ -29,7 +29,7 @@ use Rattle.ocfl_item.proofs.LooksCalls.{did_nothing, memory_no_store}
 abbrev both : List Text
 both = sidecar_name Sha256 ∷ sidecar_name Sha512 ∷ []
 
-module _ (root : Tree) (o : Place) where
+module _ (root : StorageRoot) (o : Place) where
   -- ---- which sidecars are read
 
   pub sidecars_none : file_at root (o ++ inventory_name ∷ []) ≡ None → sidecars_for (file_at root (o ++ inventory_name ∷ [])) ≡ []

@@ -4,7 +4,7 @@ use Rattle.std.proofs.Common.{◌≡◌, ℕ, List, [], ◌∷◌, ◌++◌, ref
 use Rattle.std.specs.Prelude.{Result, Ok, Err, Vec}
 use Rattle.std.proofs.lemmas.List.{append_cancel_left}
 use Rattle.ocfl_tree.specs.Place.{Place}
-use Rattle.ocfl_tree.specs.Tree.{Tree}
+use Rattle.ocfl_tree.specs.StorageRoot.{StorageRoot}
 use Rattle.ocfl_tree.specs.Store.{Store, Did}
 use Rattle.ocfl_report.specs.declared.line.Line.{Line as MadeLine}
 use Rattle.ocfl_inventory.specs.Table.{Table}
@@ -31,7 +31,7 @@ nothing_listed (l ∷ ls) h = absurd (filled h.1)
 same_trail : (s t : Store) (os ps : List Opening) (ls ms : List Place) (f g : ℕ) → Did s t os ls f → Did s t ps ms g → os ≡ ps
 same_trail s t os ps ls ms f g h k = append_cancel_left s.openings os ps (sym h.openings_are ∙ k.openings_are)
 
-pub head_read_from : (root : Tree) (s t : Store) (o : Place) (r : Result (Vec MadeLine Global × Option Table) Fault) → zone root o ≡ inside o [] → ReadsHead root s t o r
+pub head_read_from : (root : StorageRoot) (s t : Store) (o : Place) (r : Result (Vec MadeLine Global × Option Table) Fault) → zone root o ≡ inside o [] → ReadsHead root s t o r
     → OpensJust root s t o (head_files root o (object_declared root o)) r → HeadRead root s t o r
 head_read_from root s t o (Ok p) z h k = record {
   gives = (

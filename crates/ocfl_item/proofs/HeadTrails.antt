@@ -4,7 +4,7 @@ use Rattle.std.specs.Prelude.{None, Option, Some, nat_le, cond, ◌&&◌, not}
 use Rattle.std.proofs.lemmas.List.{length-map}
 use Rattle.std.specs.List.{list_all, AllByRecursion}
 use Rattle.ocfl_tree.specs.Place.{Text, Place, text_eq}
-use Rattle.ocfl_tree.specs.Tree.{Tree, file_at}
+use Rattle.ocfl_tree.specs.StorageRoot.{StorageRoot, file_at}
 use Rattle.ocfl_tree.specs.declared.store.Opening.{Opening}
 use Rattle.ocfl_digest.specs.declared.algorithm.Algorithm.TheVariants.{Sha256, Sha512}
 use Rattle.ocfl_inventory.specs.Declaration.{declaration_name}
@@ -25,15 +25,15 @@ use Rattle.ocfl_item.specs.HeadFiles.{files_there, head_files, head_names, sidec
 use Rattle.ocfl_item.proofs.FileLaws.{there_then}
 use Rattle.ocfl_item.proofs.LooksZones.{inside_on}
 
-abbrev pub heads_at : Tree → List Place → List Place
+abbrev pub heads_at : StorageRoot → List Place → List Place
 heads_at root [] = []
 heads_at root (p ∷ ps) = inventory_of (zone root p) ++ heads_at root ps
 
-pub heads_are : (root : Tree) (trail : List Opening) → heads_of root trail ≡ heads_at root (places_of trail)
+pub heads_are : (root : StorageRoot) (trail : List Opening) → heads_of root trail ≡ heads_at root (places_of trail)
 heads_are root [] = refl
 heads_are root (x ∷ trail) = ap (λ zs. inventory_of (zone root x.place) ++ zs) (heads_are root trail)
 
-pub heads_append : (root : Tree) (ps qs : List Place) → heads_at root (ps ++ qs) ≡ heads_at root ps ++ heads_at root qs
+pub heads_append : (root : StorageRoot) (ps qs : List Place) → heads_at root (ps ++ qs) ≡ heads_at root ps ++ heads_at root qs
 heads_append root [] qs = refl
 heads_append root (p ∷ ps) qs = ap (λ zs. inventory_of (zone root p) ++ zs) (heads_append root ps qs) ∙ sym (append_assoc (inventory_of (zone root p)) (heads_at root ps) (heads_at root qs))
 
@@ -43,7 +43,7 @@ front_front xs ys zs h k = (h.0 ++ k.0, k.1 ∙ ap (λ l. l ++ k.0) h.1 ∙ appe
 abbrev is_other : Text → Bool
 is_other n = not (text_eq n inventory_name)
 
-module _ (root : Tree) (o : Place) (z : zone root o ≡ inside o []) where
+module _ (root : StorageRoot) (o : Place) (z : zone root o ≡ inside o []) where
   heads_none : (ns : List Text) → list_all is_other ns ≡ true → heads_at root (files_there root o ns) ≡ []
   heads_none [] h = refl
   heads_none (n ∷ ns) h = by (text_eq n inventory_name) refl h (is_some (file_at root (o ++ n ∷ []))) (heads_none ns)

@@ -2,7 +2,7 @@
 use Rattle.std.proofs.Common.{arith, ◌≡◌, ◌≢◌, List, [], subst, ◌∷◌, refl, sym, ◌∙◌, ap, true, false, None, map}
 use Rattle.std.specs.Prelude.{nat_lt}
 use Rattle.ocfl_tree.specs.Place.{Place}
-use Rattle.ocfl_tree.specs.Tree.{Tree}
+use Rattle.ocfl_tree.specs.StorageRoot.{StorageRoot}
 use Rattle.ocfl_report.specs.Line.{Note, line_of, lines_at}
 use Rattle.ocfl_inventory.specs.TripleView.{named_view}
 use Rattle.ocfl_audit.specs.Zone.{Zone, skipped, hierarchy, inside, zone, seen, object_declared}
@@ -21,13 +21,13 @@ pub clean_some : (ns : List Note) → or_clean ns ≢ []
 clean_some [] e = cc
 clean_some (n ∷ ns) e = cc
 
-head_some : (root : Tree) (o : Place) (d : Declared) → is_declared d ≡ true → head_notes_by root o d ≢ []
+head_some : (root : StorageRoot) (o : Place) (d : Declared) → is_declared d ≡ true → head_notes_by root o d ≢ []
 head_some root o undeclared h e = true_not_false (sym h)
 head_some root o (known v) h e = clean_some _ e
 head_some root o (unknown t) h e = cc
 head_some root o several h e = cc
 
-pub head_zone : (root : Tree) (p : Place) → is_head (zone root p) ≡ true → zone root p ≡ inside p []
+pub head_zone : (root : StorageRoot) (p : Place) → is_head (zone root p) ≡ true → zone root p ≡ inside p []
 head_zone root p e = by (zone root p) refl e
   where
     by : (z : Zone) → zone root p ≡ z → is_head z ≡ true → zone root p ≡ inside p []
@@ -37,7 +37,7 @@ head_zone root p e = by (zone root p) refl e
     by (inside o (n ∷ q)) h g = absurd (true_not_false (sym g))
 
 -- an object's head has lines, and nothing is hashed there
-pub head_pending : (root : Tree) (p : Place) (made : Pending) → is_head (zone root p) ≡ true → made.place ≡ p → made.hashed ≡ false → made.named.items ≡ [] → map line_of made.lines.items ≡ lines_at p (notes root None p) → IsPending root made
+pub head_pending : (root : StorageRoot) (p : Place) (made : Pending) → is_head (zone root p) ≡ true → made.place ≡ p → made.hashed ≡ false → made.named.items ≡ [] → map line_of made.lines.items ≡ lines_at p (notes root None p) → IsPending root made
 head_pending root p made e place unhashed unnamed lines =
     let z : zone root p ≡ inside p [] = head_zone root p e in
     let none : named_at root p ≡ [] = named_short root p p [] z (omega arith) in

@@ -3,7 +3,7 @@ use Rattle.std.proofs.Common.{◌≡◌, ◌≢◌, ℕ, ◌+◌, ◌<◌, ◌�
 use Rattle.std.specs.Prelude.{option_and_then}
 use Rattle.ocfl_tree.specs.Place.{Place, Text}
 use Rattle.ocfl_tree.specs.Ascending.{IsAmong}
-use Rattle.ocfl_tree.specs.Tree.{Tree, file_at, bytes_of}
+use Rattle.ocfl_tree.specs.StorageRoot.{StorageRoot, file_at, bytes_of}
 use Rattle.ocfl_tree.specs.Store.{Store, Did}
 use Rattle.ocfl_tree.specs.Calls.{opening}
 use Rattle.ocfl_tree.specs.declared.store.Opening.{Opening}
@@ -47,19 +47,19 @@ file_part bytes (n ∷ ns) given h = refl
 
 -- ---- one place and a trail
 
-item_is : (root : Tree) (p : Place) (trail : List Opening) (u : Option ℕ) (lines : List MadeLine) (c : ℕ) → given_by (unread_of root trail) p ≡ u → lines_at p (notes root u p) ≡ map line_of lines → cost root u p ≡ c
+item_is : (root : StorageRoot) (p : Place) (trail : List Opening) (u : Option ℕ) (lines : List MadeLine) (c : ℕ) → given_by (unread_of root trail) p ≡ u → lines_at p (notes root u p) ≡ map line_of lines → cost root u p ≡ c
     → items_at root trail (p ∷ []) ≡ record { place = p; lines = map line_of lines; cost = c } ∷ []
 unfolding items_at
 item_is root p trail u lines c e f k =
     ap (λ g. record { place = p; lines = lines_at p (notes root g p); cost = cost root g p } ∷ []) e ∙ (λ i. record { place = p; lines = f i; cost = k i } ∷ [])
 
-hashed_alone : (root : Tree) (p : Place) (b : Bool) → is_hashed root p ≡ b → hashed_among root (p ∷ []) ≡ cond b (p ∷ []) []
+hashed_alone : (root : StorageRoot) (p : Place) (b : Bool) → is_hashed root p ≡ b → hashed_among root (p ∷ []) ≡ cond b (p ∷ []) []
 unfolding hashed_among
 hashed_alone root p b h = ap (λ x. cond x (p ∷ []) []) h
 
 -- ---- an item whose file is not hashed
 
-pub judged_known : (root : Tree) (s : Store) (made : Pending) (lines : List MadeLine) → s.tree ≡ root → IsPending root made → made.hashed ≡ false → map line_of lines ≡ map line_of made.lines.items → Judges root s s made.place lines 0
+pub judged_known : (root : StorageRoot) (s : Store) (made : Pending) (lines : List MadeLine) → s.tree ≡ root → IsPending root made → made.hashed ≡ false → map line_of lines ≡ map line_of made.lines.items → Judges root s s made.place lines 0
 judged_known root s made lines over pending unhashed same =
     let free : is_hashed root made.place ≡ false = sym pending.hashed ∙ unhashed in
     record {
@@ -72,7 +72,7 @@ judged_known root s made lines over pending unhashed same =
 not_the_store : (q : Place) → fault.Memory ≡ fault.Store q → ⊥
 not_the_store q e = absurd cc
 
-pub nothing_judged : (root : Tree) (s t : Store) (p : Place) → s.tree ≡ root → Did s t [] [] 0 → JudgeFails root s t p
+pub nothing_judged : (root : StorageRoot) (s t : Store) (p : Place) → s.tree ≡ root → Did s t [] [] 0 → JudgeFails root s t p
 unfolding hashed_among
 nothing_judged root s t p over did = record {
   trail = [];
@@ -86,7 +86,7 @@ nothing_judged root s t p over did = record {
 some_same : {A : Type 0} (x y : A) → Some x ≡ Some y → x ≡ y
 some_same x y e = cc
 
-module _ (root : Tree) (p : Place) (hashed : is_hashed root p ≡ true) where
+module _ (root : StorageRoot) (p : Place) (hashed : is_hashed root p ≡ true) where
   opened_content : (n : ℕ) (failed : Bool) → content_openings root (opening p n failed ∷ []) ≡ opening p n failed ∷ []
   opened_content n failed = ap (λ b. cond (not b) (opening p n failed ∷ []) []) (hashed_no_meta root p hashed)
 
@@ -168,7 +168,7 @@ module _ (root : Tree) (p : Place) (hashed : is_hashed root p ≡ true) where
 
 -- ---- the same, from what was made
 
-module _ (root : Tree) (s t : Store) (made : Pending) (over : s.tree ≡ root) (pending : IsPending root made) (hashed : made.hashed ≡ true) where
+module _ (root : StorageRoot) (s t : Store) (made : Pending) (over : s.tree ≡ root) (pending : IsPending root made) (hashed : made.hashed ≡ true) where
   file_is : is_hashed root made.place ≡ true
   file_is = sym pending.hashed ∙ hashed
 
@@ -201,7 +201,7 @@ module _ (root : Tree) (s t : Store) (made : Pending) (over : s.tree ≡ root) (
       (f.part n)
 
 -- where memory was refused the file was not opened
-pub refused : (root : Tree) (s t : Store) (p : Place) (n : ℕ) (cause : Cause) → s.tree ≡ root → StopsHashing root s t p n cause → cause ≡ Memory → JudgeFails root s t p
+pub refused : (root : StorageRoot) (s t : Store) (p : Place) (n : ℕ) (cause : Cause) → s.tree ≡ root → StopsHashing root s t p n cause → cause ≡ Memory → JudgeFails root s t p
 refused root s t p n cause over stops e = by (subst (StopsHashing root s t p n) e stops)
   where
     by : StopsHashing root s t p n Memory → JudgeFails root s t p

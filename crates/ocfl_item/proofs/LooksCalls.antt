@@ -3,7 +3,7 @@ use Rattle.std.proofs.Common.{◌≡◌, ◌⊎◌, inl, inr, ℕ, List, [], ◌
 use Rattle.std.proofs.lemmas.List.{append-nil}
 use Rattle.std.specs.Prelude.{cond, nat_lt, map, Ok}
 use Rattle.ocfl_tree.specs.Place.{Text, Place, beginnings}
-use Rattle.ocfl_tree.specs.Tree.{Tree, Leaf, dir, at}
+use Rattle.ocfl_tree.specs.StorageRoot.{StorageRoot, Leaf, dir, at}
 use Rattle.ocfl_tree.specs.Store.{Store, Did}
 use Rattle.ocfl_tree.specs.Listing.{IsOrdinary}
 use Rattle.ocfl_tree.specs.Calls.{ListFails}
@@ -37,7 +37,7 @@ use Rattle.ocfl_item.proofs.LooksZones.{listable_dir, declared_object, declared_
 pub front_more : (ls way more : List Place) → IsFront ls way → IsFront ls (way ++ more)
 front_more ls way more h = (h.0 ++ more, ap (λ x. x ++ more) h.1 ∙ append_assoc ls h.0 more)
 
-module _ (root : Tree) where
+module _ (root : StorageRoot) where
   pub none_meta : AreMeta root []
   none_meta = record { meta = refl; once = λ i j d l k. absurd (omega (arith, l, k)) }
 
@@ -53,7 +53,7 @@ cost_of_none [] u = refl
 cost_of_none (n ∷ ns) None = refl
 cost_of_none (n ∷ ns) (Some given) = refl
 
-pub dir_not_hashed : (root : Tree) (d : Place) → at root d ≡ Some dir → is_hashed root d ≡ false
+pub dir_not_hashed : (root : StorageRoot) (d : Place) → at root d ≡ Some dir → is_hashed root d ≡ false
 dir_not_hashed root d h = ap (nat_lt 0) (by (seen root d) (seen_as _ (at root d)))
   where
     seen_as : (b : Bool) (leaf : Option Leaf) → (cond b leaf None ≡ leaf) ⊎ (cond b leaf None ≡ None)
@@ -70,7 +70,7 @@ store_place p q e = cc
 pub memory_no_store : (q : Place) → fault.Memory ≡ fault.Store q → ⊥
 memory_no_store q e = cc
 
-pub list_stops : (root : Tree) (s t : Store) (p : Place) (trouble : Trouble) → s.tree ≡ root → is_listable root p ≡ true → ListFails s t p trouble → Stops root s t (p ∷ []) [] (fault_by p trouble)
+pub list_stops : (root : StorageRoot) (s t : Store) (p : Place) (trouble : Trouble) → s.tree ≡ root → is_listable root p ≡ true → ListFails s t p trouble → Stops root s t (p ∷ []) [] (fault_by p trouble)
 list_stops root s t p Device over l h = record {
   goes = record { over = over; listings = p ∷ []; did = h.fails.did; listed = ([], refl) };
   store = λ q e. (ap (is_hashed root) (sym (store_place p q e)) ∙ dir_not_hashed root p (listable_dir root p l), failed_listing p q (store_place p q e));
@@ -91,7 +91,7 @@ fault_on_way p Memory = (λ e. cc, λ e. cc)
 pub did_nothing : (s : Store) → Did s s [] [] 0
 did_nothing s = record { tree = refl; openings_are = sym (append-nil s.openings); listings_are = sym (append-nil s.listings); failures_are = omega arith }
 
-module _ (root : Tree) where
+module _ (root : StorageRoot) where
   pub enters_at : (s t : Store) (p q e : Place) (es : List Entry) → p ≡ q → Enters root s t p e es → Enters root s t q e es
   enters_at s t p q e es same h = subst (λ x. Enters root s t x e es) same h
 
@@ -109,7 +109,7 @@ kind_is_file (Some kind.Other) h = absurd (true_not_false (sym h))
 pub kind_is_no_file : (k : Option Kind) → is_file_kind k ≡ false → Some kind.File ≡ k → ⊥
 kind_is_no_file k h e = true_not_false (ap is_file_kind e ∙ h)
 
-module _ (root : Tree) where
+module _ (root : StorageRoot) where
   abbrev pub reads_nothing : (s : Store) → s.tree ≡ root → ReadsMeta root s s
   reads_nothing s over = record { over = over; trail = []; did = did_nothing s; meta = none_meta root }
 
@@ -166,7 +166,7 @@ declares_one es (made.One v) k some = refl
 declares_one es (made.Unknown i) k some = ap (λ e. is_declared (unknown_by level.Object e)) k.1
 declares_one es made.Several k some = refl
 
-module _ (root : Tree) where
+module _ (root : StorageRoot) where
   pub hierarchy_entered : (s t : Store) (d e : Place) (n : Text) (old es : List Entry) → InHierarchy root d old → is_extensions_name d n ≡ false → IsOrdinary es → Enters root s t (d ++ n ∷ []) e es
       → is_declared (declared level.Object (file_names es)) ≡ false → InHierarchy root e es
   hierarchy_entered s t d e n old es h out ordinary k none =
@@ -223,5 +223,5 @@ module _ (root : Tree) where
       subst (λ x. InHierarchy root x es) (sym k.is) (at_root root es (ap is_known (declared_root root es ordinary k.listing) ∙ says.1) k.listing)
 
 -- the storage root can be listed
-pub root_listable : (root : Tree) (p : Place) → p ≡ [] → is_listable root p ≡ true
+pub root_listable : (root : StorageRoot) (p : Place) → p ≡ [] → is_listable root p ≡ true
 root_listable root p top = subst (λ q. is_listable root q ≡ true) (sym top) refl

@@ -8,7 +8,7 @@ use Rattle.std.proofs.lemmas.Bool.{eqb-true}
 use Rattle.std.specs.Option.{option_map}
 use Rattle.ocfl_tree.specs.Place.{Text, Place, text_cmp, text_eq, place_eq, child_name}
 use Rattle.ocfl_tree.specs.Ascending.{IsAmong, IsAscending}
-use Rattle.ocfl_tree.specs.Tree.{Tree, Leaf, file, dir, other, at, bytes_of, file_at, is_dir, is_dir_leaf, lookup, names_in, files_in}
+use Rattle.ocfl_tree.specs.StorageRoot.{StorageRoot, Leaf, file, dir, other, at, bytes_of, file_at, is_dir, is_dir_leaf, lookup, names_in, files_in}
 use Rattle.ocfl_tree.specs.Listing.{kind_of, kind_in, AreApart, IsOrdinary, IsListing}
 use Rattle.ocfl_tree.specs.declared.store.Entry.{Entry}
 use Rattle.ocfl_tree.specs.declared.store.Kind.{Kind}
@@ -87,7 +87,7 @@ kind_other (Some other) h = refl
 
 -- ---- what lies at a name of a listed directory
 
-module _ (root : Tree) (d : Place) (n : Text) (es : List Entry) (h : IsListing root d es) where
+module _ (root : StorageRoot) (d : Place) (n : Text) (es : List Entry) (h : IsListing root d es) where
   pub nothing_there : None ≡ kind_in es n → at root (d ++ n ∷ []) ≡ None
   nothing_there is = kind_none (at root (d ++ n ∷ [])) (is ∙ h.each n)
 
@@ -110,7 +110,7 @@ length_step : (d : Place) (n : Text) → length (d ++ n ∷ []) ≡ suc (length 
 length_step [] n = refl
 length_step (m ∷ d) n = ap suc (length_step d n)
 
-pub listable_is : (root : Tree) (d : Place) (n : Text) (es : List Entry) → IsListing root d es → nat_le (suc (length d)) max_listed_depth && is_dir_kind (kind_in es n) ≡ is_listable root (d ++ n ∷ [])
+pub listable_is : (root : StorageRoot) (d : Place) (n : Text) (es : List Entry) → IsListing root d es → nat_le (suc (length d)) max_listed_depth && is_dir_kind (kind_in es n) ≡ is_listable root (d ++ n ∷ [])
 listable_is root d n es h = λ i. nat_le (sym (length_step d n) i) max_listed_depth && dir_there root d n es h i
 
 -- ---- whether a listing is empty
@@ -126,7 +126,7 @@ child_place (a ∷ d) (m ∷ p) n h = by (text_eq a m) refl h (child_place d p n
     by true e f k = λ i. sym (text_from_test a m e) i ∷ k f i
     by false e f k = absurd (some_not_none n f)
 
-named_from : (root : Tree) (d : Place) (n : Text) → IsAmong (filter_map (λ e. child_name d e.0) root) n → (leaf : Leaf) × (lookup root (d ++ n ∷ []) ≡ Some leaf)
+named_from : (root : StorageRoot) (d : Place) (n : Text) → IsAmong (filter_map (λ e. child_name d e.0) root) n → (leaf : Leaf) × (lookup root (d ++ n ∷ []) ≡ Some leaf)
 named_from [] d n i = absurd i
 named_from (e ∷ root) d n i = by (child_name d e.0) refl i (named_from root d n)
   where
@@ -145,12 +145,12 @@ named_from (e ∷ root) d n i = by (child_name d e.0) refl i (named_from root d 
         (e.1, ap (λ b. cond b (Some e.1) (lookup root (d ++ n ∷ []))) (ap (λ x. place_eq x (d ++ n ∷ [])) there ∙ place_same (d ++ n ∷ [])))
     by (Some m) f (inr j) k = later (k j)
 
-pub name_there : (root : Tree) (d : Place) (n : Text) → at root d ≡ Some dir → IsAmong (names_in root d) n → (leaf : Leaf) × (at root (d ++ n ∷ []) ≡ Some leaf)
+pub name_there : (root : StorageRoot) (d : Place) (n : Text) → at root d ≡ Some dir → IsAmong (names_in root d) n → (leaf : Leaf) × (at root (d ++ n ∷ []) ≡ Some leaf)
 name_there root d n is i =
     let k = named_from root d n ((among_ascending text_cmp_exact (filter_map (λ e. child_name d e.0) root) n).1 i) in
     (k.0, at_step root d n ∙ ap (λ x. cond (is_dir_leaf x) (lookup root (d ++ n ∷ [])) None) is ∙ k.1)
 
-pub emptied : (root : Tree) (d : Place) (es : List Entry) → IsListing root d es → es ≡ [] → is_empty (names_in root d) ≡ true
+pub emptied : (root : StorageRoot) (d : Place) (es : List Entry) → IsListing root d es → es ≡ [] → is_empty (names_in root d) ≡ true
 emptied root d es h e = by (names_in root d) refl
   where
     by : (ns : List Text) → names_in root d ≡ ns → is_empty ns ≡ true
@@ -159,7 +159,7 @@ emptied root d es h e = by (names_in root d) refl
         let k = name_there root d n h.directory (subst (λ xs. IsAmong xs n) (sym f) (inl refl)) in
         absurd (some_not_none (kind_of k.0) (sym (ap (λ xs. kind_in xs n) e) ∙ h.each n ∙ ap (option_map kind_of) k.1))
 
-pub not_emptied : (root : Tree) (d : Place) (es : List Entry) → IsListing root d es → es ≢ [] → is_empty (names_in root d) ≡ false
+pub not_emptied : (root : StorageRoot) (d : Place) (es : List Entry) → IsListing root d es → es ≢ [] → is_empty (names_in root d) ≡ false
 not_emptied root d [] h some = absurd (some refl)
 not_emptied root d (e ∷ es) h some =
     let k = kind_some e.kind (at root (d ++ e.name ∷ [])) (sym (ap (λ b. cond b (Some e.kind) (kind_in es e.name)) (text_same e.name)) ∙ h.each e.name) in
@@ -251,7 +251,7 @@ same_declared level (x ∷ v ∷ xs) (y ∷ []) h k to from = absurd (by (to x (
     by (inr i) j = i
 same_declared level (x ∷ v ∷ xs) (y ∷ w ∷ ys) h k to from = refl
 
-module _ (root : Tree) (d : Place) (es : List Entry) (ordinary : IsOrdinary es) (h : IsListing root d es) where
+module _ (root : StorageRoot) (d : Place) (es : List Entry) (ordinary : IsOrdinary es) (h : IsListing root d es) where
   tested_file : (z : Text) (leaf : Option Leaf) → at root (d ++ z ∷ []) ≡ leaf → is_some (file_at root (d ++ z ∷ [])) ≡ true → (bytes : Text) × (leaf ≡ Some (file bytes))
   tested_file z None e f = absurd (true_not_false (sym f ∙ ap (λ x. is_some (option_and_then bytes_of x)) e))
   tested_file z (Some (file bytes)) e f = (bytes, refl)

@@ -5,7 +5,7 @@ use Rattle.std.proofs.lemmas.List.{length-append}
 use Rattle.std.specs.Prelude.{cond, ◌&&◌, ◌||◌, not, nat_le, option_and_then, codes}
 use Rattle.std.specs.List.{list_all}
 use Rattle.ocfl_tree.specs.Place.{Text, Place, text_eq, beginnings}
-use Rattle.ocfl_tree.specs.Tree.{Tree, Leaf, file, dir, other, at, file_at, is_dir, is_dir_leaf, files_in}
+use Rattle.ocfl_tree.specs.StorageRoot.{StorageRoot, Leaf, file, dir, other, at, file_at, is_dir, is_dir_leaf, files_in}
 use Rattle.ocfl_tree.specs.Listing.{kind_in, IsOrdinary, IsListing}
 use Rattle.ocfl_tree.specs.declared.store.Entry.{Entry}
 use Rattle.ocfl_inventory.specs.Declaration.{undeclared, declared, is_declared, is_known}
@@ -39,20 +39,20 @@ leaf_dir (Some (file bytes)) h = absurd (true_not_false (sym h))
 leaf_dir (Some dir) h = refl
 leaf_dir (Some other) h = absurd (true_not_false (sym h))
 
-pub listable_dir : (root : Tree) (d : Place) → is_listable root d ≡ true → at root d ≡ Some dir
+pub listable_dir : (root : StorageRoot) (d : Place) → is_listable root d ≡ true → at root d ≡ Some dir
 listable_dir root d h = leaf_dir (at root d) (and_second (nat_le (length d) max_listed_depth) (is_dir root d) h)
 
-pub listable_object : (root : Tree) (d : Place) → is_listable root d ≡ true → object_declared root d ≡ declared level.Object (files_in root d)
+pub listable_object : (root : StorageRoot) (d : Place) → is_listable root d ≡ true → object_declared root d ≡ declared level.Object (files_in root d)
 listable_object root d h =
     ap (λ b. cond b (declared level.Object (files_in root d)) undeclared)
     (and_both (is_dir root d) (nat_le (length d) max_listed_depth) (and_second (nat_le (length d) max_listed_depth) (is_dir root d) h) (and_first (nat_le (length d) max_listed_depth) (is_dir root d) h))
 
 -- what a listing declares an object to be
-pub declared_object : (root : Tree) (d : Place) (es : List Entry) → is_listable root d ≡ true → IsOrdinary es → IsListing root d es → object_declared root d ≡ declared level.Object (file_names es)
+pub declared_object : (root : StorageRoot) (d : Place) (es : List Entry) → is_listable root d ≡ true → IsOrdinary es → IsListing root d es → object_declared root d ≡ declared level.Object (file_names es)
 declared_object root d es l ordinary h = listable_object root d l ∙ sym (declared_listing root d es ordinary h level.Object)
 
 -- below what is not listed no object lies
-undeclared_below : (root : Tree) (e : Place) → is_listable root e ≡ false → (b : Place) → is_declared (object_declared root (e ++ b)) ≡ false
+undeclared_below : (root : StorageRoot) (e : Place) → is_listable root e ≡ false → (b : Place) → is_declared (object_declared root (e ++ b)) ≡ false
 undeclared_below root e h b = false_from (is_declared (object_declared root (e ++ b))) (λ d. true_not_false (sym (open_ d) ∙ h))
   where
     above : (c : Place) → at root (e ++ c) ≡ Some dir → at root e ≡ Some dir
@@ -72,7 +72,7 @@ is_plain skipped = true
 is_plain hierarchy = true
 is_plain (inside o q) = false
 
-plain_step : (root : Tree) (e : Place) (n : Text) → is_plain (zone root e) ≡ true → is_declared (object_declared root (e ++ n ∷ [])) ≡ false → is_plain (zone root (e ++ n ∷ [])) ≡ true
+plain_step : (root : StorageRoot) (e : Place) (n : Text) → is_plain (zone root e) ≡ true → is_declared (object_declared root (e ++ n ∷ [])) ≡ false → is_plain (zone root (e ++ n ∷ [])) ≡ true
 plain_step root e n h k = ap is_plain (zone_step root e n) ∙ by (is_extensions root e n) (zone root e) h
   where
     by : (x : Bool) (z : Zone) → is_plain z ≡ true → is_plain (cond x skipped (step_zone root e n z)) ≡ true
@@ -81,21 +81,21 @@ plain_step root e n h k = ap is_plain (zone_step root e n) ∙ by (is_extensions
     by false hierarchy g = ap (λ b. is_plain (cond b (inside (e ++ n ∷ []) []) hierarchy)) k
     by false (inside o q) g = absurd (true_not_false (sym g))
 
-plain_from : (root : Tree) (e r : Place) → is_plain (zone root e) ≡ true → ((b : Place) → is_declared (object_declared root (e ++ b)) ≡ false) → is_plain (zone root (e ++ r)) ≡ true
+plain_from : (root : StorageRoot) (e r : Place) → is_plain (zone root e) ≡ true → ((b : Place) → is_declared (object_declared root (e ++ b)) ≡ false) → is_plain (zone root (e ++ r)) ≡ true
 plain_from root e [] z h = ap (λ x. is_plain (zone root x)) (append_nothing e) ∙ z
 plain_from root e (n ∷ r) z h =
     ap (λ x. is_plain (zone root x)) (sym (append_one e r n))
     ∙ plain_from root (e ++ n ∷ []) r (plain_step root e n z (h (n ∷ []))) (λ b. ap (λ x. is_declared (object_declared root x)) (append_one e b n) ∙ h (n ∷ b))
 
 -- below what is not listed in the hierarchy there is none
-pub plain_below : (root : Tree) (d r : Place) (n : Text) → zone root d ≡ hierarchy → is_listable root (d ++ n ∷ []) ≡ false → is_plain (zone root (d ++ n ∷ r)) ≡ true
+pub plain_below : (root : StorageRoot) (d r : Place) (n : Text) → zone root d ≡ hierarchy → is_listable root (d ++ n ∷ []) ≡ false → is_plain (zone root (d ++ n ∷ r)) ≡ true
 plain_below root d r n z h =
     let none = undeclared_below root (d ++ n ∷ []) h in
     ap (λ x. is_plain (zone root x)) (sym (append_one d r n))
     ∙ plain_from root (d ++ n ∷ []) r (plain_step root d n (ap is_plain z) (ap (λ x. is_declared (object_declared root x)) (sym (append_nothing (d ++ n ∷ []))) ∙ none [])) none
 
 -- nor in extensions of the storage root
-pub plain_extensions : (root : Tree) (d r : Place) (n : Text) → zone root d ≡ hierarchy → is_extensions_name d n ≡ true → is_plain (zone root (d ++ n ∷ r)) ≡ true
+pub plain_extensions : (root : StorageRoot) (d r : Place) (n : Text) → zone root d ≡ hierarchy → is_extensions_name d n ≡ true → is_plain (zone root (d ++ n ∷ r)) ≡ true
 plain_extensions root [] r n z h = by (is_dir root (n ∷ [])) refl
   where
     out : (x : Bool) → cond (x || true) skipped (object_zone root [] (n ∷ r)) ≡ skipped
@@ -110,12 +110,12 @@ plain_extensions root [] r n z h = by (is_dir root (n ∷ [])) refl
 plain_extensions root (m ∷ d) r n z h = absurd (true_not_false (sym h))
 
 -- nor where the root's version is not known
-pub plain_unknown : (root : Tree) (p : Place) → is_known (root_declared root) ≡ false → is_plain (zone root p) ≡ true
+pub plain_unknown : (root : StorageRoot) (p : Place) → is_known (root_declared root) ≡ false → is_plain (zone root p) ≡ true
 plain_unknown root p h = ap (λ b. is_plain (cond (not b || is_in_extensions root p) skipped (object_zone root [] p))) h
 
 -- ---- places of an object
 
-pub inside_step : (root : Tree) (d o s : Place) (n : Text) → zone root d ≡ inside o s → zone root (d ++ n ∷ []) ≡ inside o (s ++ n ∷ [])
+pub inside_step : (root : StorageRoot) (d o s : Place) (n : Text) → zone root d ≡ inside o s → zone root (d ++ n ∷ []) ≡ inside o (s ++ n ∷ [])
 inside_step root [] o s n z = absurd (by (not (is_known (root_declared root))) z)
   where
     by : (b : Bool) → cond (b || false) skipped hierarchy ≡ inside o s → ⊥
@@ -123,17 +123,17 @@ inside_step root [] o s n z = absurd (by (not (is_known (root_declared root))) z
     by false e = cc
 inside_step root (m ∷ d) o s n z = zone_step root (m ∷ d) n ∙ ap (step_zone root (m ∷ d) n) z
 
-pub inside_on : (root : Tree) (d o s q : Place) → zone root d ≡ inside o s → zone root (d ++ q) ≡ inside o (s ++ q)
+pub inside_on : (root : StorageRoot) (d o s q : Place) → zone root d ≡ inside o s → zone root (d ++ q) ≡ inside o (s ++ q)
 inside_on root d o s [] z = ap (zone root) (append_nothing d) ∙ z ∙ ap (inside o) (sym (append_nothing s))
 inside_on root d o s (n ∷ q) z =
     ap (zone root) (sym (append_one d q n)) ∙ inside_on root (d ++ n ∷ []) o (s ++ n ∷ []) q (inside_step root d o s n z) ∙ ap (inside o) (append_one s q n)
 
-pub unknown_no_table : (root : Tree) (o : Place) → is_known (object_declared root o) ≡ false → table_at root o ≡ None
+pub unknown_no_table : (root : StorageRoot) (o : Place) → is_known (object_declared root o) ≡ false → table_at root o ≡ None
 unknown_no_table root o h = ap (λ b. option_and_then (λ bytes. cond (nat_le (length bytes) inventory_limit) (table_of bytes) None) (cond b (file_at root (o ++ inventory_name ∷ [])) None)) h
 
 -- ---- entered directories
 
-pub entered_from : (root : Tree) (d : Place) → is_listable root d ≡ true → is_listed_zone root (zone root d) ≡ true → is_entered root d ≡ true
+pub entered_from : (root : StorageRoot) (d : Place) → is_listable root d ≡ true → is_listed_zone root (zone root d) ≡ true → is_entered root d ≡ true
 entered_from root d h k = by (nat_le (length d) max_listed_depth) (is_dir root d) h
   where
     by : (a b : Bool) → a && b ≡ true → a && (b && is_listed_zone root (zone root d)) ≡ true
@@ -141,7 +141,7 @@ entered_from root d h k = by (nat_le (length d) max_listed_depth) (is_dir root d
     by true false g = absurd (true_not_false (sym g))
     by false b g = absurd (true_not_false (sym g))
 
-pub not_entered : (root : Tree) (d : Place) → is_listable root d ≡ false → is_entered root d ≡ false
+pub not_entered : (root : StorageRoot) (d : Place) → is_listable root d ≡ false → is_entered root d ≡ false
 not_entered root d h = by (nat_le (length d) max_listed_depth) (is_dir root d) h
   where
     by : (a b : Bool) → a && b ≡ false → a && (b && is_listed_zone root (zone root d)) ≡ false
@@ -149,7 +149,7 @@ not_entered root d h = by (nat_le (length d) max_listed_depth) (is_dir root d) h
     by true false g = refl
     by false b g = refl
 
-pub out_of_zone : (root : Tree) (d : Place) → is_listed_zone root (zone root d) ≡ false → is_entered root d ≡ false
+pub out_of_zone : (root : StorageRoot) (d : Place) → is_listed_zone root (zone root d) ≡ false → is_entered root d ≡ false
 out_of_zone root d h = by (nat_le (length d) max_listed_depth) (is_dir root d)
   where
     by : (a b : Bool) → a && (b && is_listed_zone root (zone root d)) ≡ false
@@ -158,41 +158,41 @@ out_of_zone root d h = by (nat_le (length d) max_listed_depth) (is_dir root d)
     by false b = refl
 
 -- behind what is not reached nothing is seen
-pub unseen_behind : (root : Tree) (e r : Place) (m : Text) → is_reached root e ≡ false → seen root (e ++ m ∷ r) ≡ None
+pub unseen_behind : (root : StorageRoot) (e r : Place) (m : Text) → is_reached root e ≡ false → seen root (e ++ m ∷ r) ≡ None
 unseen_behind root e r m h = by (list_all (is_entered root) (beginnings (e ++ m ∷ r))) refl
   where
     by : (b : Bool) → list_all (is_entered root) (beginnings (e ++ m ∷ r)) ≡ b → cond b (at root (e ++ m ∷ r)) None ≡ None
     by false k = refl
     by true k = absurd (true_not_false (sym (reached_front root e m r k) ∙ h))
 
-pub reach_on : (root : Tree) (d : Place) (n : Text) → is_reached root d ≡ true → is_entered root (d ++ n ∷ []) ≡ true → is_reached root (d ++ n ∷ []) ≡ true
+pub reach_on : (root : StorageRoot) (d : Place) (n : Text) → is_reached root d ≡ true → is_entered root (d ++ n ∷ []) ≡ true → is_reached root (d ++ n ∷ []) ≡ true
 reach_on root d n h k = reached_step root d n ∙ and_both (is_reached root d) (is_entered root (d ++ n ∷ [])) h k
 
 -- ---- the storage root
 
-pub root_hierarchy : (root : Tree) → is_known (root_declared root) ≡ true → zone root [] ≡ hierarchy
+pub root_hierarchy : (root : StorageRoot) → is_known (root_declared root) ≡ true → zone root [] ≡ hierarchy
 root_hierarchy root h = ap (λ b. cond (not b || false) skipped hierarchy) h
 
-pub at_root : (root : Tree) (es : List Entry) → is_known (root_declared root) ≡ true → IsListing root [] es → InHierarchy root [] es
+pub at_root : (root : StorageRoot) (es : List Entry) → is_known (root_declared root) ≡ true → IsListing root [] es → InHierarchy root [] es
 at_root root es h listing = record {
   here = record { listing = listing; reached = entered_from root [] refl (ap (is_listed_zone root) (root_hierarchy root h)) };
   zone = root_hierarchy root h;
 }
 
-pub declared_root : (root : Tree) (es : List Entry) → IsOrdinary es → IsListing root [] es → root_declared root ≡ declared level.Root (file_names es)
+pub declared_root : (root : StorageRoot) (es : List Entry) → IsOrdinary es → IsListing root [] es → root_declared root ≡ declared level.Root (file_names es)
 declared_root root es ordinary h = sym (declared_listing root [] es ordinary h level.Root)
 
 -- ---- one name further in the hierarchy
 
-extensions_passed : (root : Tree) (d : Place) (n : Text) → is_extensions_name d n ≡ false → is_extensions root d n ≡ false
+extensions_passed : (root : StorageRoot) (d : Place) (n : Text) → is_extensions_name d n ≡ false → is_extensions root d n ≡ false
 extensions_passed root [] n h = ap (λ b. b && is_dir root (n ∷ [])) h
 extensions_passed root (m ∷ d) n h = refl
 
-hierarchy_step : (root : Tree) (d : Place) (n : Text) → zone root d ≡ hierarchy → is_extensions_name d n ≡ false → zone root (d ++ n ∷ []) ≡ cond (is_declared (object_declared root (d ++ n ∷ []))) (inside (d ++ n ∷ []) []) hierarchy
+hierarchy_step : (root : StorageRoot) (d : Place) (n : Text) → zone root d ≡ hierarchy → is_extensions_name d n ≡ false → zone root (d ++ n ∷ []) ≡ cond (is_declared (object_declared root (d ++ n ∷ []))) (inside (d ++ n ∷ []) []) hierarchy
 hierarchy_step root d n z h =
     zone_step root d n ∙ ap (λ b. cond b skipped (step_zone root d n (zone root d))) (extensions_passed root d n h) ∙ ap (step_zone root d n) z
 
-pub hierarchy_on : (root : Tree) (d : Place) (n : Text) (old es : List Entry) → InHierarchy root d old → is_extensions_name d n ≡ false → is_listable root (d ++ n ∷ []) ≡ true → IsListing root (d ++ n ∷ []) es → is_declared (object_declared root (d ++ n ∷ [])) ≡ false → InHierarchy root (d ++ n ∷ []) es
+pub hierarchy_on : (root : StorageRoot) (d : Place) (n : Text) (old es : List Entry) → InHierarchy root d old → is_extensions_name d n ≡ false → is_listable root (d ++ n ∷ []) ≡ true → IsListing root (d ++ n ∷ []) es → is_declared (object_declared root (d ++ n ∷ [])) ≡ false → InHierarchy root (d ++ n ∷ []) es
 hierarchy_on root d n old es h e l listing none =
     let z : zone root (d ++ n ∷ []) ≡ hierarchy = hierarchy_step root d n h.zone e ∙ ap (λ b. cond b (inside (d ++ n ∷ []) []) hierarchy) none in
     record {
@@ -200,12 +200,12 @@ hierarchy_on root d n old es h e l listing none =
       zone = z;
     }
 
-pub object_zone_here : (root : Tree) (d : Place) (n : Text) (old : List Entry) → InHierarchy root d old → is_extensions_name d n ≡ false → is_declared (object_declared root (d ++ n ∷ [])) ≡ true → zone root (d ++ n ∷ []) ≡ inside (d ++ n ∷ []) []
+pub object_zone_here : (root : StorageRoot) (d : Place) (n : Text) (old : List Entry) → InHierarchy root d old → is_extensions_name d n ≡ false → is_declared (object_declared root (d ++ n ∷ [])) ≡ true → zone root (d ++ n ∷ []) ≡ inside (d ++ n ∷ []) []
 object_zone_here root d n old h e some = hierarchy_step root d n h.zone e ∙ ap (λ b. cond b (inside (d ++ n ∷ []) []) hierarchy) some
 
 -- ---- and in an object
 
-pub open_object : (root : Tree) (o : Place) (es : List Entry) (t : Table) → IsObject root o es → table_at root o ≡ Some t → IsOpenObject root o es t
+pub open_object : (root : StorageRoot) (o : Place) (es : List Entry) (t : Table) → IsObject root o es → table_at root o ≡ Some t → IsOpenObject root o es t
 open_object root o es t h is = record {
   here = record {
     listing = h.listing;
@@ -219,12 +219,12 @@ open_object root o es t h is = record {
 version_content : (v c content : Text) → is_version_name v ≡ true → (b : Bool) → text_eq c content ≡ b → is_version_name v && text_eq c content ≡ b
 version_content v c content h b k = ap (λ x. x && text_eq c content) h ∙ k
 
-pub zone_of_entered : (root : Tree) (d : Place) → is_entered root d ≡ true → is_listed_zone root (zone root d) ≡ true
+pub zone_of_entered : (root : StorageRoot) (d : Place) → is_entered root d ≡ true → is_listed_zone root (zone root d) ≡ true
 zone_of_entered root d h = and_second (is_dir root d) (is_listed_zone root (zone root d)) (and_second (nat_le (length d) max_listed_depth) (is_dir root d && is_listed_zone root (zone root d)) h)
 
 -- ---- what is seen
 
-module _ (root : Tree) (d : Place) (n : Text) (es : List Entry) (h : IsAt root d es) where
+module _ (root : StorageRoot) (d : Place) (n : Text) (es : List Entry) (h : IsAt root d es) where
   seen_here : seen root (d ++ n ∷ []) ≡ at root (d ++ n ∷ [])
   seen_here = seen_step root d n ∙ ap (λ b. cond b (at root (d ++ n ∷ [])) None) h.reached
 

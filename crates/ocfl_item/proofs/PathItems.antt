@@ -1,7 +1,7 @@
 -- The item at a place at which nothing is seen.
 use Rattle.std.proofs.Common.{◌≡◌, ◌≢◌, List, [], ◌∷◌, refl, sym, ◌∙◌, ap, Option, Some, None, length, drop, map}
 use Rattle.ocfl_tree.specs.Place.{Place, Text}
-use Rattle.ocfl_tree.specs.Tree.{Tree, dir}
+use Rattle.ocfl_tree.specs.StorageRoot.{StorageRoot, dir}
 use Rattle.ocfl_inventory.specs.Table.{Table, Named, named}
 use Rattle.ocfl_inventory.specs.TripleView.{named_view}
 use Rattle.ocfl_inventory.specs.declared.triple.Named.{Named as MadeNamed}
@@ -23,7 +23,7 @@ pub some_named : (ns : List MadeNamed) → ns ≢ [] → map named_view ns ≢ [
 some_named [] h e = h refl
 some_named (n ∷ ns) h e = absurd cc
 
-module _ (root : Tree) (p : Place) where
+module _ (root : StorageRoot) (p : Place) where
   inside_named : (o q : Place) (x : Option Table) → zone root p ≡ inside o q → table_at root o ≡ x → named_at root p ≡ named_of q x
   inside_named o q x z e = ap (named_in root) z ∙ ap (λ y. elim y as (λ _. List Named) [ None ↦ [] | Some t ↦ named t q ]) e
 

@@ -1,7 +1,7 @@
 -- The items at content places.
 use Rattle.std.proofs.Common.{◌≡◌, ◌≢◌, List, [], ◌∷◌, ◌++◌, map, refl, sym, ◌∙◌, ap, subst, true, false, Some, None}
 use Rattle.ocfl_tree.specs.Place.{Place}
-use Rattle.ocfl_tree.specs.Tree.{Tree}
+use Rattle.ocfl_tree.specs.StorageRoot.{StorageRoot}
 use Rattle.ocfl_tree.proofs.Orders.{true_not_false}
 use Rattle.ocfl_report.specs.Line.{Note, line_of, lines_at}
 use Rattle.ocfl_report.specs.declared.line.Line.{Line as MadeLine}
@@ -26,12 +26,12 @@ no_notes p [] e = refl
 no_notes p (n ∷ ns) e = absurd cc
 
 -- what is told of a content place
-pub record IsTold (root : Tree) (p : Place) (t : Table) (q : Place) (ns : List MadeNamed) (s : Sight) : Type 0 where
+pub record IsTold (root : StorageRoot) (p : Place) (t : Table) (q : Place) (ns : List MadeNamed) (s : Sight) : Type 0 where
   pub content : content_at root p ≡ Some (t, q)
   pub digests : map named_view ns ≡ named t q
   pub sight : IsSight root p s
 
-module _ (root : Tree) (p q : Place) (t : Table) (ns : List MadeNamed) (s : Sight) (told : IsTold root p t q ns s) where
+module _ (root : StorageRoot) (p q : Place) (t : Table) (ns : List MadeNamed) (s : Sight) (told : IsTold root p t q ns s) where
   names : map named_view ns ≡ named_at root p
   names = told.digests ∙ sym (content_is root p q t told.content).digests
 

@@ -4,11 +4,11 @@ use Rattle.std.specs.Prelude.{cond, ◌&&◌, is_some, nat_le}
 use Rattle.std.specs.List.{list_all}
 use Rattle.std.proofs.lemmas.Bool.{lt-leb}
 use Rattle.ocfl_tree.specs.Place.{Place, Text, beginnings}
-use Rattle.ocfl_tree.specs.Tree.{Tree, dir, file_at, is_dir, names_in}
+use Rattle.ocfl_tree.specs.StorageRoot.{StorageRoot, dir, file_at, is_dir, names_in}
 use Rattle.ocfl_tree.proofs.Orders.{true_not_false}
 use Rattle.ocfl_inventory.specs.Declaration.{declared, is_known, undeclared}
 use Rattle.ocfl_inventory.specs.declared.declaration.Level.TheVariants as level
-use Rattle.ocfl_tree.specs.Tree.{files_in}
+use Rattle.ocfl_tree.specs.StorageRoot.{files_in}
 use Rattle.ocfl_audit.specs.Zone.{Zone, skipped, hierarchy, inside, zone, is_entered, is_listed_zone, inventory_at, inventory_name, max_listed_depth, seen}
 use Rattle.ocfl_audit.specs.Walk.{is_reached, seen_names}
 use Rattle.ocfl_audit.specs.Trail.{is_head, reads_inventory}
@@ -17,13 +17,13 @@ use Rattle.ocfl_audit.proofs.BetweenLaws.{looked_seen, read_seen, seen_reached}
 use Rattle.ocfl_item.specs.Ways.{is_listable}
 use Rattle.ocfl_item.proofs.LooksZones.{not_entered, out_of_zone}
 
-pub record IsShut (root : Tree) (e : Place) : Type 0 where
+pub record IsShut (root : StorageRoot) (e : Place) : Type 0 where
   pub looked : is_looked_into root e ≡ false
   pub read : reads_inventory root e ≡ false
   pub names : seen_names root e ≡ []
 
 -- what is not entered shows no names
-pub hidden : (root : Tree) (e : Place) → is_entered root e ≡ false → seen_names root e ≡ []
+pub hidden : (root : StorageRoot) (e : Place) → is_entered root e ≡ false → seen_names root e ≡ []
 hidden root e h = by (list_all (is_entered root) (beginnings e)) (is_entered root e) h
   where
     by : (a b : Bool) → b ≡ false → cond (a && b) (names_in root e) [] ≡ []
@@ -31,7 +31,7 @@ hidden root e h = by (list_all (is_entered root) (beginnings e)) (is_entered roo
     by false b k = refl
 
 -- where neither a place nor a directory of the hierarchy or an object is
-module _ (root : Tree) (e : Place) (some : e ≢ []) where
+module _ (root : StorageRoot) (e : Place) (some : e ≢ []) where
   looked_false : (way short there shows : Bool) → (short && there ≡ false) → way && (short && (there && shows)) ≡ false
   looked_false true true true shows h = absurd (true_not_false h)
   looked_false true true false shows h = refl
@@ -89,7 +89,7 @@ module _ (root : Tree) (e : Place) (some : e ≢ []) where
       unlisted (inside o []) k = absurd (true_not_false k)
       unlisted (inside o (n ∷ q)) k = k
 
-pub shut_no_dir : (root : Tree) (e : Place) → is_dir root e ≡ false → IsShut root e
+pub shut_no_dir : (root : StorageRoot) (e : Place) → is_dir root e ≡ false → IsShut root e
 shut_no_dir root e h = shut_unlistable root e (some e h) (by (nat_le (length e) max_listed_depth) (is_dir root e) h)
   where
     some : (e : Place) → is_dir root e ≡ false → e ≢ []
@@ -100,7 +100,7 @@ shut_no_dir root e h = shut_unlistable root e (some e h) (by (nat_le (length e) 
     by true b g = g
     by false b g = refl
 
-pub shut_deep : (root : Tree) (e : Place) → 127 < length e → IsShut root e
+pub shut_deep : (root : StorageRoot) (e : Place) → 127 < length e → IsShut root e
 shut_deep root e h = shut_unlistable root e (some e h) (ap (λ b. b && is_dir root e) (lt-leb (length e) 127 h))
   where
     some : (e : Place) → 127 < length e → e ≢ []
@@ -108,7 +108,7 @@ shut_deep root e h = shut_unlistable root e (some e h) (ap (λ b. b && is_dir ro
     some (n ∷ d) k g = cc
 
 -- at a place that is not seen
-pub shut_unseen : (root : Tree) (e : Place) → seen root e ≡ None → IsShut root e
+pub shut_unseen : (root : StorageRoot) (e : Place) → seen root e ≡ None → IsShut root e
 shut_unseen root e h = record {
   looked = by (is_looked_into root e) (λ k. clash (sym h ∙ looked_seen root e k));
   read = by (reads_inventory root e) (λ k. clash (sym h ∙ (read_seen root e k).0));
@@ -130,16 +130,16 @@ and_three true true false d h k l = absurd (true_not_false (sym k))
 and_three true false c d h k l = absurd (true_not_false (sym k))
 and_three false b c d h k l = absurd (true_not_false (sym h))
 
-pub looked_at : (root : Tree) (e : Place) → list_all (is_entered root) (beginnings e) ≡ true → is_listable root e ≡ true → shows_entries root (zone root e) ≡ true → is_looked_into root e ≡ true
+pub looked_at : (root : StorageRoot) (e : Place) → list_all (is_entered root) (beginnings e) ≡ true → is_listable root e ≡ true → shows_entries root (zone root e) ≡ true → is_looked_into root e ≡ true
 looked_at root [] way listable shows = refl
 looked_at root (n ∷ d) way listable shows = and_three (list_all (is_entered root) (beginnings (n ∷ d))) (nat_le (length (n ∷ d)) max_listed_depth) (is_dir root (n ∷ d)) (shows_entries root (zone root (n ∷ d))) way listable shows
 
 -- what is listed shows its entries
-pub listed_shows : (root : Tree) (z : Zone) → is_listed_zone root z ≡ true → shows_entries root z ≡ true
+pub listed_shows : (root : StorageRoot) (z : Zone) → is_listed_zone root z ≡ true → shows_entries root z ≡ true
 listed_shows root skipped h = h
 listed_shows root hierarchy h = h
 listed_shows root (inside o []) h = refl
 listed_shows root (inside o (n ∷ q)) h = h
 
-pub no_head_unread : (root : Tree) (e : Place) → is_head (zone root e) ≡ false → reads_inventory root e ≡ false
+pub no_head_unread : (root : StorageRoot) (e : Place) → is_head (zone root e) ≡ false → reads_inventory root e ≡ false
 no_head_unread root e h = ap (λ b. b && is_some (inventory_at root e)) h

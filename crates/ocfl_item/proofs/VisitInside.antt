@@ -4,7 +4,7 @@ use Rattle.std.specs.Prelude.{option_map}
 use Rattle.std.specs.List.{list_all}
 use Rattle.std.proofs.lemmas.List.{length-append}
 use Rattle.ocfl_tree.specs.Place.{Place, Text, beginnings}
-use Rattle.ocfl_tree.specs.Tree.{Tree}
+use Rattle.ocfl_tree.specs.StorageRoot.{StorageRoot}
 use Rattle.ocfl_tree.specs.declared.store.Entry.{Entry}
 use Rattle.ocfl_inventory.specs.ListedPath.{is_version_name}
 use Rattle.ocfl_audit.specs.Zone.{inside, zone, is_entered, is_listed_in_object, is_listed_zone}
@@ -17,17 +17,17 @@ use Rattle.ocfl_item.proofs.LooksZones.{inside_step, zone_of_entered}
 use Rattle.std.proofs.Math.Seq.{drop-append_seam}
 
 -- an entry of a version directory
-pub record IsInVersion (root : Tree) (o e : Place) (n : Text) : Type 0 where
+pub record IsInVersion (root : StorageRoot) (o e : Place) (n : Text) : Type 0 where
   pub version : Text
   pub zone : zone root e ≡ inside o (version ∷ n ∷ [])
   pub named : is_version_name version ≡ true
 
 -- one within a content directory
-pub record IsInContent (root : Tree) (a : Around) (e : Place) : Type 0 where
+pub record IsInContent (root : StorageRoot) (a : Around) (e : Place) : Type 0 where
   pub content : content_at root e ≡ Some (a.table, drop (length a.place) e)
   pub listed : is_listed_zone root (zone root e) ≡ true
 
-module _ (root : Tree) (d e : Place) (a : Around) (entry : Entry) (m : IsMet root d (Some a) entry e) where
+module _ (root : StorageRoot) (d e : Place) (a : Around) (entry : Entry) (m : IsMet root d (Some a) entry e) where
   way : Place
   way = m.part.0
 
@@ -83,18 +83,18 @@ two_more zero r h n m = absurd (n (omega (arith, h)))
 two_more (suc zero) r h n m = absurd (m (omega (arith, h)))
 two_more (suc (suc s)) r h n m = omega arith
 
-pub far_below : (root : Tree) (d e : Place) (a : Around) (entry : Entry) (m : IsMet root d (Some a) entry e) (r : ℕ) → r ≡ length e - length a.place → (r ≡ 1 → ⊥) → (r ≡ 2 → ⊥) → length a.place + 2 < length e
+pub far_below : (root : StorageRoot) (d e : Place) (a : Around) (entry : Entry) (m : IsMet root d (Some a) entry e) (r : ℕ) → r ≡ length e - length a.place → (r ≡ 1 → ⊥) → (r ≡ 2 → ⊥) → length a.place + 2 < length e
 far_below root d e a entry m r is n k =
     let l = long root d e a entry m in
     let s = two_more (length m.part.0) r (omega (arith, l, is)) n k in
     omega (arith, l, s)
 
-pub one_below : (root : Tree) (d e : Place) (a : Around) (entry : Entry) (m : IsMet root d (Some a) entry e) (r : ℕ) → r ≡ length e - length a.place → r ≡ 1 → length e ≡ length a.place + 1
+pub one_below : (root : StorageRoot) (d e : Place) (a : Around) (entry : Entry) (m : IsMet root d (Some a) entry e) (r : ℕ) → r ≡ length e - length a.place → r ≡ 1 → length e ≡ length a.place + 1
 one_below root d e a entry m r is k = let l = long root d e a entry m in omega (arith, l, is, k)
 
-pub two_below : (root : Tree) (d e : Place) (a : Around) (entry : Entry) (m : IsMet root d (Some a) entry e) (r : ℕ) → r ≡ length e - length a.place → r ≡ 2 → length e ≡ length a.place + 2
+pub two_below : (root : StorageRoot) (d e : Place) (a : Around) (entry : Entry) (m : IsMet root d (Some a) entry e) (r : ℕ) → r ≡ length e - length a.place → r ≡ 2 → length e ≡ length a.place + 2
 two_below root d e a entry m r is k = let l = long root d e a entry m in omega (arith, l, is, k)
 
 -- an entry that is met within an object, where that object is the one at hand
-pub met_within : (root : Tree) (d e : Place) (around : Option Around) (a : Around) (entry : Entry) → around ≡ Some a → IsMet root d around entry e → IsMet root d (Some a) entry e
+pub met_within : (root : StorageRoot) (d e : Place) (around : Option Around) (a : Around) (entry : Entry) → around ≡ Some a → IsMet root d around entry e → IsMet root d (Some a) entry e
 met_within root d e around a entry is met = subst (λ x. IsMet root d x entry e) is met

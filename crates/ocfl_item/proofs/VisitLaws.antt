@@ -4,7 +4,7 @@ use Rattle.std.specs.Prelude.{cond, nat_lt, nat_le, option_map, Result, Ok, Err,
 use Rattle.std.specs.List.{list_all}
 use Rattle.std.proofs.lemmas.Bool.{le-leb, lt-ltb, le-ltb, lt-leb}
 use Rattle.ocfl_tree.specs.Place.{Place, Text, text_eq, beginnings}
-use Rattle.ocfl_tree.specs.Tree.{Tree, Leaf, file, dir, other, at, is_dir, is_dir_leaf, names_in}
+use Rattle.ocfl_tree.specs.StorageRoot.{StorageRoot, Leaf, file, dir, other, at, is_dir, is_dir_leaf, names_in}
 use Rattle.ocfl_tree.specs.Store.{Store, Did}
 use Rattle.ocfl_tree.specs.Listing.{kind_of, IsListing}
 use Rattle.ocfl_tree.specs.declared.store.Entry.{Entry}
@@ -46,7 +46,7 @@ use Rattle.ocfl_audit.proofs.AuditExists.{IsInside, zone_is}
 
 -- ---- the item of one line
 
-pub plain_pending : (root : Tree) (e : Place) (code : Code) (made : Pending) → IsPlainAt root e (plain code ∷ []) → made.place ≡ e → made.hashed ≡ false → made.named.items ≡ []
+pub plain_pending : (root : StorageRoot) (e : Place) (code : Code) (made : Pending) → IsPlainAt root e (plain code ∷ []) → made.place ≡ e → made.hashed ≡ false → made.named.items ≡ []
     → map line_of made.lines.items ≡ lines_at e (plain code ∷ []) → IsPending root made × (made.place ≡ e)
 plain_pending root e code made h place unhashed unnamed lines = (
   record {
@@ -63,44 +63,44 @@ plain_pending root e code made h place unhashed unnamed lines = (
 
 -- ---- directories
 
-pub deep_unlistable : (root : Tree) (e : Place) → 127 < length e → is_listable root e ≡ false
+pub deep_unlistable : (root : StorageRoot) (e : Place) → 127 < length e → is_listable root e ≡ false
 deep_unlistable root e h = ap (λ b. b && is_dir root e) (lt-leb (length e) 127 h)
 
-pub reached_here : (root : Tree) (e : Place) → IsListedAt root e → length e ≤ 127 → is_reached root e ≡ true
+pub reached_here : (root : StorageRoot) (e : Place) → IsListedAt root e → length e ≤ 127 → is_reached root e ≡ true
 reached_here root e h short = and_both (list_all (is_entered root) (beginnings e)) (is_entered root e) h.way (entered_from root e (listable_here root e h short) h.listed)
   where
-    listable_here : (root : Tree) (e : Place) → IsListedAt root e → length e ≤ 127 → is_listable root e ≡ true
+    listable_here : (root : StorageRoot) (e : Place) → IsListedAt root e → length e ≤ 127 → is_listable root e ≡ true
     listable_here root e h short = and_both (nat_le (length e) max_listed_depth) (is_dir root e) (le-leb (length e) 127 short) h.directory
 
-pub listable : (root : Tree) (e : Place) → IsListedAt root e → length e ≤ 127 → is_listable root e ≡ true
+pub listable : (root : StorageRoot) (e : Place) → IsListedAt root e → length e ≤ 127 → is_listable root e ≡ true
 listable root e h short = and_both (nat_le (length e) max_listed_depth) (is_dir root e) (le-leb (length e) 127 short) h.directory
 
 -- ---- the lines of a directory
 
-pub deep_notes : (root : Tree) (e : Place) (ns : List Note) → 127 < length e → listed_dir_notes root e ns ≡ plain S05 ∷ []
+pub deep_notes : (root : StorageRoot) (e : Place) (ns : List Note) → 127 < length e → listed_dir_notes root e ns ≡ plain S05 ∷ []
 deep_notes root e ns h = ap (λ b. cond b (plain S05 ∷ []) (cond (is_empty (names_in root e)) ns [])) (lt-ltb 127 (length e) h)
 
-pub short_notes : (root : Tree) (e : Place) (ns : List Note) → length e ≤ 127 → listed_dir_notes root e ns ≡ cond (is_empty (names_in root e)) ns []
+pub short_notes : (root : StorageRoot) (e : Place) (ns : List Note) → length e ≤ 127 → listed_dir_notes root e ns ≡ cond (is_empty (names_in root e)) ns []
 short_notes root e ns h = ap (λ b. cond b (plain S05 ∷ []) (cond (is_empty (names_in root e)) ns [])) (le-ltb 127 (length e) h)
 
 same_either : (b : Bool) → cond {A = List Note} b [] [] ≡ []
 same_either true = refl
 same_either false = refl
 
-pub no_notes : (root : Tree) (e : Place) → length e ≤ 127 → listed_dir_notes root e [] ≡ []
+pub no_notes : (root : StorageRoot) (e : Place) → length e ≤ 127 → listed_dir_notes root e [] ≡ []
 no_notes root e h = short_notes root e [] h ∙ same_either (is_empty (names_in root e))
 
 -- ---- what was done
 
 -- nothing, at a place that is shut
-pub meets_shut : (root : Tree) (s : Store) (e : Place) → s.tree ≡ root → IsShut root e → Meets root s s e
+pub meets_shut : (root : StorageRoot) (s : Store) (e : Place) → s.tree ≡ root → IsShut root e → Meets root s s e
 meets_shut root s e over h = record { over = over; trail = []; listings = []; did = did_nothing s; meta = refl; once = none_once; elsewhere = λ g k. refl; listed = sym (ap (λ b. on b e) h.looked); heads = sym (ap (λ b. on b e) h.read) }
 
 -- a directory that is no object was listed
-pub meets_listing : (root : Tree) (s t : Store) (e : Place) → s.tree ≡ root → Did s t [] (e ∷ []) 0 → is_looked_into root e ≡ true → reads_inventory root e ≡ false → Meets root s t e
+pub meets_listing : (root : StorageRoot) (s t : Store) (e : Place) → s.tree ≡ root → Did s t [] (e ∷ []) 0 → is_looked_into root e ≡ true → reads_inventory root e ≡ false → Meets root s t e
 meets_listing root s t e over did looked read = record { over = over; trail = []; listings = e ∷ []; did = did; meta = refl; once = none_once; elsewhere = λ g k. refl; listed = sym (ap (λ b. on b e) looked); heads = sym (ap (λ b. on b e) read) }
 
-pub meet_stop : (root : Tree) (s t : Store) (e : Place) (why : Fault) → is_looked_into root e ≡ true → Stops root s t (e ∷ []) [] why → MeetFails root s t e why
+pub meet_stop : (root : StorageRoot) (s t : Store) (e : Place) (why : Fault) → is_looked_into root e ≡ true → Stops root s t (e ∷ []) [] why → MeetFails root s t e why
 meet_stop root s t e why looked h = record {
   over = h.goes.over;
   trail = [];
@@ -114,7 +114,7 @@ meet_stop root s t e why looked h = record {
   store = h.store;
 }
 
-pub meet_out : (root : Tree) (s t : Store) (e : Place) (why : Fault) → Meets root s t e → why ≡ fault.Memory → MeetFails root s t e why
+pub meet_out : (root : StorageRoot) (s t : Store) (e : Place) (why : Fault) → Meets root s t e → why ≡ fault.Memory → MeetFails root s t e why
 meet_out root s t e why h is = subst (MeetFails root s t e) (sym is) (record {
   over = h.over;
   trail = h.trail;
@@ -129,7 +129,7 @@ meet_out root s t e why h is = subst (MeetFails root s t e) (sym is) (record {
 })
 
 -- nothing was done, and memory was refused
-pub meet_nothing : (root : Tree) (s : Store) (e : Place) → s.tree ≡ root → MeetFails root s s e fault.Memory
+pub meet_nothing : (root : StorageRoot) (s : Store) (e : Place) → s.tree ≡ root → MeetFails root s s e fault.Memory
 meet_nothing root s e over = record {
   over = over;
   trail = [];
@@ -144,17 +144,17 @@ meet_nothing root s e over = record {
 }
 
 -- what is told of what was met, or memory was refused
-pub visits_by : (root : Tree) (s t : Store) (e : Place) (r : Result Visit Fault) → Meets root s t e → IfErr r (λ why. why ≡ fault.Memory) → IfOk r (λ v. IsVisit root e v) → Visits root s t e r
+pub visits_by : (root : StorageRoot) (s t : Store) (e : Place) (r : Result Visit Fault) → Meets root s t e → IfErr r (λ why. why ≡ fault.Memory) → IfOk r (λ v. IsVisit root e v) → Visits root s t e r
 visits_by root s t e (Ok v) h only told = record { gives = (h, told) }
 visits_by root s t e (Err why) h only told = record { gives = meet_out root s t e why h only }
 
-pub visits_stop : (root : Tree) (s t : Store) (e : Place) (why : Fault) → is_looked_into root e ≡ true → Stops root s t (e ∷ []) [] why → Visits root s t e (Err why)
+pub visits_stop : (root : StorageRoot) (s t : Store) (e : Place) (why : Fault) → is_looked_into root e ≡ true → Stops root s t (e ∷ []) [] why → Visits root s t e (Err why)
 visits_stop root s t e why looked h = record { gives = meet_stop root s t e why looked h }
 
 -- ---- a directory that is listed
 
 -- its listing, and no table
-pub visit_of_folder : (root : Tree) (e : Place) (v : Visit) (f : Folder) → IsItemAt root e v.item → v.folder ≡ Some f → v.table ≡ None → is_head (zone root e) ≡ false → f.place ≡ e → is_reached root e ≡ true → IsListing root e f.entries.items → IsVisit root e v
+pub visit_of_folder : (root : StorageRoot) (e : Place) (v : Visit) (f : Folder) → IsItemAt root e v.item → v.folder ≡ Some f → v.table ≡ None → is_head (zone root e) ≡ false → f.place ≡ e → is_reached root e ≡ true → IsListing root e f.entries.items → IsVisit root e v
 visit_of_folder root e v f item folder table head place reached listing = record {
   item = item;
   folder = subst (IsFolderAt root e) (sym folder) (place, reached, listing);
@@ -162,7 +162,7 @@ visit_of_folder root e v f item folder table head place reached listing = record
 }
 
 -- an item, and nothing else
-pub visit_of_item : (root : Tree) (e : Place) (v : Visit) → IsItemAt root e v.item → v.folder ≡ None → v.table ≡ None → is_head (zone root e) ≡ false → seen_names root e ≡ [] → IsVisit root e v
+pub visit_of_item : (root : StorageRoot) (e : Place) (v : Visit) → IsItemAt root e v.item → v.folder ≡ None → v.table ≡ None → is_head (zone root e) ≡ false → seen_names root e ≡ [] → IsVisit root e v
 visit_of_item root e v item folder table head none = record {
   item = item;
   folder = subst (IsFolderAt root e) (sym folder) none;
@@ -171,7 +171,7 @@ visit_of_item root e v item folder table head none = record {
 
 -- ---- content
 
-pub content_no_head : (root : Tree) (e : Place) (x : Table × Place) → content_at root e ≡ Some x → is_head (zone root e) ≡ false
+pub content_no_head : (root : StorageRoot) (e : Place) (x : Table × Place) → content_at root e ≡ Some x → is_head (zone root e) ≡ false
 content_no_head root e x h = by (zone root e) h
   where
     by : (z : Zone) → content_in root z ≡ Some x → is_head z ≡ false
@@ -180,7 +180,7 @@ content_no_head root e x h = by (zone root e) h
     by (inside o []) k = absurd cc
     by (inside o (n ∷ q)) k = refl
 
-pub seen_entry : (root : Tree) (e : Place) → list_all (is_entered root) (beginnings e) ≡ true → seen root e ≡ at root e
+pub seen_entry : (root : StorageRoot) (e : Place) → list_all (is_entered root) (beginnings e) ≡ true → seen root e ≡ at root e
 seen_entry root e h = ap (λ b. cond b (at root e) None) h
 
 kind_file : (leaf : Option Leaf) → option_map kind_of leaf ≡ Some kind.File → (bytes : Text) × (leaf ≡ Some (file bytes))
@@ -201,20 +201,20 @@ kind_other (Some (file bytes)) h = absurd cc
 kind_other (Some dir) h = absurd cc
 kind_other (Some other) h = refl
 
-pub entry_file : (root : Tree) (e : Place) (k : Kind) → IsEntryAt root e k → k ≡ kind.File → (bytes : Text) × (seen root e ≡ Some (file bytes))
+pub entry_file : (root : StorageRoot) (e : Place) (k : Kind) → IsEntryAt root e k → k ≡ kind.File → (bytes : Text) × (seen root e ≡ Some (file bytes))
 entry_file root e k h is = let w = kind_file (at root e) (h.kind ∙ ap Some is) in (w.0, seen_entry root e h.way ∙ w.1)
 
-pub entry_dir : (root : Tree) (e : Place) (k : Kind) → IsEntryAt root e k → k ≡ kind.Dir → seen root e ≡ Some dir
+pub entry_dir : (root : StorageRoot) (e : Place) (k : Kind) → IsEntryAt root e k → k ≡ kind.Dir → seen root e ≡ Some dir
 entry_dir root e k h is = seen_entry root e h.way ∙ kind_dir (at root e) (h.kind ∙ ap Some is)
 
-pub entry_other : (root : Tree) (e : Place) (k : Kind) → IsEntryAt root e k → k ≡ kind.Other → seen root e ≡ Some other
+pub entry_other : (root : StorageRoot) (e : Place) (k : Kind) → IsEntryAt root e k → k ≡ kind.Other → seen root e ≡ Some other
 entry_other root e k h is = seen_entry root e h.way ∙ kind_other (at root e) (h.kind ∙ ap Some is)
 
-pub dir_here : (root : Tree) (e : Place) (k : Kind) → IsEntryAt root e k → k ≡ kind.Dir → is_dir root e ≡ true
+pub dir_here : (root : StorageRoot) (e : Place) (k : Kind) → IsEntryAt root e k → k ≡ kind.Dir → is_dir root e ≡ true
 dir_here root e k h is = ap is_dir_leaf (kind_dir (at root e) (h.kind ∙ ap Some is))
 
 -- what is no directory is not entered
-pub no_dir : (root : Tree) (e : Place) (k : Kind) → IsEntryAt root e k → k ≢ kind.Dir → is_dir root e ≡ false
+pub no_dir : (root : StorageRoot) (e : Place) (k : Kind) → IsEntryAt root e k → k ≢ kind.Dir → is_dir root e ≡ false
 no_dir root e k h not = by (at root e) h.kind
   where
     by : (leaf : Option Leaf) → option_map kind_of leaf ≡ Some k → is_dir_leaf leaf ≡ false
@@ -223,10 +223,10 @@ no_dir root e k h not = by (at root e) h.kind
     by (Some dir) g = absurd (not cc)
     by (Some other) g = refl
 
-pub no_dir_shut : (root : Tree) (e : Place) (k : Kind) → IsEntryAt root e k → k ≢ kind.Dir → IsShut root e
+pub no_dir_shut : (root : StorageRoot) (e : Place) (k : Kind) → IsEntryAt root e k → k ≢ kind.Dir → IsShut root e
 no_dir_shut root e k h not = shut_no_dir root e (no_dir root e k h not)
 
-module _ (root : Tree) (e : Place) (h : IsListedAt root e) where
+module _ (root : StorageRoot) (e : Place) (h : IsListedAt root e) where
   seen_dir : seen root e ≡ Some dir
   seen_dir = seen_entry root e h.way ∙ leaf_dir (at root e) h.directory
 
@@ -241,40 +241,40 @@ module _ (root : Tree) (e : Place) (h : IsListedAt root e) where
 
 -- ---- answers
 
-pub relined : (root : Tree) (e : Place) (ns ms : List Note) → ns ≡ ms → IsPlainAt root e ns → IsPlainAt root e ms
+pub relined : (root : StorageRoot) (e : Place) (ns ms : List Note) → ns ≡ ms → IsPlainAt root e ns → IsPlainAt root e ms
 relined root e ns ms is h = record { lines = h.lines ∙ is; named = h.named; head = h.head }
 
-pub visits_memory : (root : Tree) (s t : Store) (e : Place) → Meets root s t e → Visits root s t e (Err fault.Memory)
+pub visits_memory : (root : StorageRoot) (s t : Store) (e : Place) → Meets root s t e → Visits root s t e (Err fault.Memory)
 visits_memory root s t e h = record { gives = meet_out root s t e fault.Memory h refl }
 
-pub visits_told : (root : Tree) (s t : Store) (e : Place) (v : Visit) → Meets root s t e → IsVisit root e v → Visits root s t e (Ok v)
+pub visits_told : (root : StorageRoot) (s t : Store) (e : Place) (v : Visit) → Meets root s t e → IsVisit root e v → Visits root s t e (Ok v)
 visits_told root s t e v h told = record { gives = (h, told) }
 
 -- nothing was done, and memory was refused
-pub visits_nothing : (root : Tree) (s : Store) (e : Place) → s.tree ≡ root → Visits root s s e (Err fault.Memory)
+pub visits_nothing : (root : StorageRoot) (s : Store) (e : Place) → s.tree ≡ root → Visits root s s e (Err fault.Memory)
 visits_nothing root s e over = record { gives = meet_nothing root s e over }
 
 -- a directory that is no object was listed
-pub entered_meets : (root : Tree) (s t : Store) (e d : Place) (es : List Entry) → s.tree ≡ root → Enters root s t e d es → is_looked_into root e ≡ true → is_head (zone root e) ≡ false → Meets root s t e
+pub entered_meets : (root : StorageRoot) (s t : Store) (e d : Place) (es : List Entry) → s.tree ≡ root → Enters root s t e d es → is_looked_into root e ≡ true → is_head (zone root e) ≡ false → Meets root s t e
 entered_meets root s t e d es over h looked head = meets_listing root s t e over h.did looked (no_head_unread root e head)
 
 -- one that is listed
-pub looked_listed : (root : Tree) (e : Place) → IsListedAt root e → length e ≤ 127 → is_looked_into root e ≡ true
+pub looked_listed : (root : StorageRoot) (e : Place) → IsListedAt root e → length e ≤ 127 → is_looked_into root e ≡ true
 looked_listed root e h short = looked_at root e h.way (listable root e h short) (listed_shows root (zone root e) h.listed)
 
-pub file_shut : (root : Tree) (e : Place) (k : Kind) → IsEntryAt root e k → k ≡ kind.File → IsShut root e
+pub file_shut : (root : StorageRoot) (e : Place) (k : Kind) → IsEntryAt root e k → k ≡ kind.File → IsShut root e
 file_shut root e k h is = no_dir_shut root e k h (λ g. clash (sym is ∙ g))
   where
     clash : kind.File ≡ kind.Dir → ⊥
     clash g = cc
 
-pub other_shut : (root : Tree) (e : Place) (k : Kind) → IsEntryAt root e k → k ≡ kind.Other → IsShut root e
+pub other_shut : (root : StorageRoot) (e : Place) (k : Kind) → IsEntryAt root e k → k ≡ kind.Other → IsShut root e
 other_shut root e k h is = no_dir_shut root e k h (λ g. clash (sym is ∙ g))
   where
     clash : kind.Other ≡ kind.Dir → ⊥
     clash g = cc
 
-pub listed_entry : (root : Tree) (e : Place) (k : Kind) → IsEntryAt root e k → k ≡ kind.Dir → is_listed_zone root (zone root e) ≡ true → IsListedAt root e
+pub listed_entry : (root : StorageRoot) (e : Place) (k : Kind) → IsEntryAt root e k → k ≡ kind.Dir → is_listed_zone root (zone root e) ≡ true → IsListedAt root e
 listed_entry root e k h is listed = record { way = h.way; directory = dir_here root e k h is; listed = listed }
 
 -- ---- entries of an object's root and of its versions
@@ -285,7 +285,7 @@ path_in hierarchy = []
 path_in (inside o q) = q
 
 -- no digest is named for a place of fewer than three names more
-pub named_short : (root : Tree) (e o q : Place) → zone root e ≡ inside o q → length q ≤ 2 → named_at root e ≡ []
+pub named_short : (root : StorageRoot) (e o q : Place) → zone root e ≡ inside o q → length q ≤ 2 → named_at root e ≡ []
 named_short root e o q z short = by (named_at root e) refl
   where
     filled : (n : Named) (ns : List Named) → n ∷ ns ≢ []
@@ -298,7 +298,7 @@ named_short root e o q z short = by (named_at root e) refl
         let long : length q ≡ length (k.version ∷ k.content ∷ k.name ∷ k.rest) = ap (λ x. length (path_in x)) (sym z ∙ k.lies) in
         absurd (omega (arith, long, short))
 
-not_root : (root : Tree) (p o q : Place) → zone root p ≡ inside o q → p ≢ []
+not_root : (root : StorageRoot) (p o q : Place) → zone root p ≡ inside o q → p ≢ []
 not_root root p o q z e = filled (zone_is root p o q z)
   where
     front : (o q : Place) → [] ≡ o ++ q → o ≡ []
@@ -308,14 +308,14 @@ not_root root p o q z e = filled (zone_is root p o q z)
     filled : IsInside root p o q → ⊥
     filled is = is.below (front o q (sym e ∙ is.whole))
 
-pub object_plain : (root : Tree) (e o : Place) (n : Text) (t : Table) → zone root e ≡ inside o (n ∷ []) → table_at root o ≡ Some t → IsPlainAt root e (object_entry_notes root e n (seen root e))
+pub object_plain : (root : StorageRoot) (e o : Place) (n : Text) (t : Table) → zone root e ≡ inside o (n ∷ []) → table_at root o ≡ Some t → IsPlainAt root e (object_entry_notes root e n (seen root e))
 object_plain root e o n t z h = record {
   lines = notes_at root None e (not_root root e o (n ∷ []) z) ∙ ap (notes_in root e None) z ∙ ap (λ y. object_notes root e None y (n ∷ [])) h;
   named = named_short root e o (n ∷ []) z (omega arith);
   head = ap is_head z;
 }
 
-pub version_plain : (root : Tree) (e o : Place) (v n : Text) (t : Table) → zone root e ≡ inside o (v ∷ n ∷ []) → table_at root o ≡ Some t → IsPlainAt root e (version_entry_notes root t e n (seen root e))
+pub version_plain : (root : StorageRoot) (e o : Place) (v n : Text) (t : Table) → zone root e ≡ inside o (v ∷ n ∷ []) → table_at root o ≡ Some t → IsPlainAt root e (version_entry_notes root t e n (seen root e))
 version_plain root e o v n t z h = record {
   lines = notes_at root None e (not_root root e o (v ∷ n ∷ []) z) ∙ ap (notes_in root e None) z ∙ ap (λ y. object_notes root e None y (v ∷ n ∷ [])) h;
   named = named_short root e o (v ∷ n ∷ []) z (omega arith);
@@ -323,12 +323,12 @@ version_plain root e o v n t z h = record {
 }
 
 -- a place without lines, and not entered
-visit_of_nothing : (root : Tree) (e : Place) (v : Visit) → IsPlainAt root e [] → IsShut root e → v.item ≡ None → v.folder ≡ None → v.table ≡ None → IsVisit root e v
+visit_of_nothing : (root : StorageRoot) (e : Place) (v : Visit) → IsPlainAt root e [] → IsShut root e → v.item ≡ None → v.folder ≡ None → v.table ≡ None → IsVisit root e v
 visit_of_nothing root e v plain none item folder table = visit_of_item root e v (subst (IsItemAt root e) (sym item) plain.lines) folder table plain.head none.names
 
 -- ---- at a place that is not entered
 
-module _ (root : Tree) (s : Store) (e : Place) (over : s.tree ≡ root) (shut : IsShut root e) where
+module _ (root : StorageRoot) (s : Store) (e : Place) (over : s.tree ≡ root) (shut : IsShut root e) where
   pub nothing_visits : (v : Visit) → IsPlainAt root e [] → v.item ≡ None → v.folder ≡ None → v.table ≡ None → Visits root s s e (Ok v)
   nothing_visits v plain item folder table = visits_told root s s e v (meets_shut root s e over shut) (visit_of_nothing root e v plain shut item folder table)
 
@@ -338,7 +338,7 @@ module _ (root : Tree) (s : Store) (e : Place) (over : s.tree ≡ root) (shut : 
   pub item_visits : (v : Visit) (o : Option Pending) → is_head (zone root e) ≡ false → IsItemAt root e o → v.item ≡ o → v.folder ≡ None → v.table ≡ None → Visits root s s e (Ok v)
   item_visits v o no_head there item folder table = visits_told root s s e v (meets_shut root s e over shut) (visit_of_item root e v (subst (IsItemAt root e) (sym item) there) folder table no_head shut.names)
 
-module _ (root : Tree) (e o : Place) (n : Text) (t : Table) (k : Kind) (h : IsEntryAt root e k) (z : zone root e ≡ inside o (n ∷ [])) (table : table_at root o ≡ Some t) where
+module _ (root : StorageRoot) (e o : Place) (n : Text) (t : Table) (k : Kind) (h : IsEntryAt root e k) (z : zone root e ≡ inside o (n ∷ [])) (table : table_at root o ≡ Some t) where
   of_object : (leaf : Leaf) (ns : List Note) → seen root e ≡ Some leaf → object_entry_notes root e n (Some leaf) ≡ ns → IsPlainAt root e ns
   of_object leaf ns s is = relined root e (object_entry_notes root e n (seen root e)) ns (ap (object_entry_notes root e n) s ∙ is) (object_plain root e o n t z table)
 
@@ -369,7 +369,7 @@ module _ (root : Tree) (e o : Place) (n : Text) (t : Table) (k : Kind) (h : IsEn
   pub object_dir_shut : is_version_name n ≡ false → IsShut root e
   object_dir_shut b = shut_zone root e (not_root root e o (n ∷ []) z) (ap (shows_entries root) z ∙ ap (λ x. is_listed_in_object x (n ∷ [])) table ∙ b)
 
-module _ (root : Tree) (e o : Place) (v n : Text) (t : Table) (k : Kind) (h : IsEntryAt root e k) (z : zone root e ≡ inside o (v ∷ n ∷ [])) (table : table_at root o ≡ Some t) where
+module _ (root : StorageRoot) (e o : Place) (v n : Text) (t : Table) (k : Kind) (h : IsEntryAt root e k) (z : zone root e ≡ inside o (v ∷ n ∷ [])) (table : table_at root o ≡ Some t) where
   of_version : (leaf : Leaf) (ns : List Note) → seen root e ≡ Some leaf → version_entry_notes root t e n (Some leaf) ≡ ns → IsPlainAt root e ns
   of_version leaf ns s is = relined root e (version_entry_notes root t e n (seen root e)) ns (ap (version_entry_notes root t e n) s ∙ is) (version_plain root e o v n t z table)
 

@@ -5,7 +5,7 @@ use Rattle.std.specs.List.{list_all}
 use Rattle.std.proofs.lemmas.List.{length-append}
 use Rattle.std.proofs.lemmas.Bool.{eqb-true, le-leb, lt-ltb, le-ltb, lt-leb}
 use Rattle.ocfl_tree.specs.Place.{Place, Text, text_eq, beginnings}
-use Rattle.ocfl_tree.specs.Tree.{Tree, Leaf, file, other, at, is_dir, names_in, files_in}
+use Rattle.ocfl_tree.specs.StorageRoot.{StorageRoot, Leaf, file, other, at, is_dir, names_in, files_in}
 use Rattle.ocfl_tree.specs.Store.{Store, Did}
 use Rattle.ocfl_tree.specs.Listing.{kind_of, IsListing, IsOrdinary}
 use Rattle.ocfl_tree.specs.declared.store.Entry.{Entry}
@@ -52,7 +52,7 @@ use Rattle.ocfl_item.proofs.VisitLaws.{deep_notes, entry_dir, entry_file, entry_
 
 -- ---- an entry that is next
 
-pub entry_met : (root : Tree) (d e : Place) (a : Option Around) (entry : Entry) → IsMet root d a entry e → IsEntryAt root e entry.kind
+pub entry_met : (root : StorageRoot) (d e : Place) (a : Option Around) (entry : Entry) → IsMet root d a entry e → IsEntryAt root e entry.kind
 entry_met root d e a entry m = record {
   way = ap (λ x. list_all (is_entered root) (beginnings x)) m.is ∙ all_beginnings_step (is_entered root) d entry.name ∙ m.reached;
   kind = ap (λ x. option_map kind_of (at root x)) m.is ∙ m.kind;
@@ -65,27 +65,27 @@ and_false : (a b : Bool) → b ≡ false → a && b ≡ false
 and_false true b h = h
 and_false false b h = refl
 
-pub hierarchy_plain : (root : Tree) (e : Place) → e ≢ [] → zone root e ≡ hierarchy → IsPlainAt root e (hierarchy_notes root e (seen root e))
+pub hierarchy_plain : (root : StorageRoot) (e : Place) → e ≢ [] → zone root e ≡ hierarchy → IsPlainAt root e (hierarchy_notes root e (seen root e))
 hierarchy_plain root e some z = record {
   lines = notes_at root None e some ∙ ap (notes_in root e None) z;
   named = ap (named_in root) z;
   head = ap is_head z;
 }
 
-pub skipped_plain : (root : Tree) (e : Place) → e ≢ [] → zone root e ≡ skipped → IsPlainAt root e []
+pub skipped_plain : (root : StorageRoot) (e : Place) → e ≢ [] → zone root e ≡ skipped → IsPlainAt root e []
 skipped_plain root e some z = record {
   lines = notes_at root None e some ∙ ap (notes_in root e None) z;
   named = ap (named_in root) z;
   head = ap is_head z;
 }
 
-undeclared_no_dir : (root : Tree) (e : Place) → is_dir root e ≡ false → object_declared root e ≡ undeclared
+undeclared_no_dir : (root : StorageRoot) (e : Place) → is_dir root e ≡ false → object_declared root e ≡ undeclared
 undeclared_no_dir root e h = ap (λ b. cond (b && nat_le (length e) max_listed_depth) (declared level.Object (files_in root e)) undeclared) h
 
-pub undeclared_deep : (root : Tree) (e : Place) → 127 < length e → object_declared root e ≡ undeclared
+pub undeclared_deep : (root : StorageRoot) (e : Place) → 127 < length e → object_declared root e ≡ undeclared
 undeclared_deep root e h = ap (λ b. cond b (declared level.Object (files_in root e)) undeclared) (and_false (is_dir root e) (nat_le (length e) max_listed_depth) (lt-leb (length e) 127 h))
 
-module _ (root : Tree) (e d : Place) (n : Text) (is : e ≡ d ++ n ∷ []) (part : zone root d ≡ hierarchy) where
+module _ (root : StorageRoot) (e d : Place) (n : Text) (is : e ≡ d ++ n ∷ []) (part : zone root d ≡ hierarchy) where
   zone_next : zone root e ≡ cond (is_extensions root d n) skipped (cond (is_declared (object_declared root e)) (inside e []) hierarchy)
   zone_next =
       ap (zone root) is ∙ zone_step root d n ∙ ap (λ z. cond (is_extensions root d n) skipped (step_zone root d n z)) part
@@ -163,7 +163,7 @@ module _ (root : Tree) (e d : Place) (n : Text) (is : e ≡ d ++ n ∷ []) (part
 
 -- ---- a directory of the hierarchy, or an object
 
-module _ (root : Tree) (e : Place) (h : IsEntryAt root e kind.Dir) (some : e ≢ []) (z : zone root e ≡ cond (is_declared (object_declared root e)) (inside e []) hierarchy) where
+module _ (root : StorageRoot) (e : Place) (h : IsEntryAt root e kind.Dir) (some : e ≢ []) (z : zone root e ≡ cond (is_declared (object_declared root e)) (inside e []) hierarchy) where
   undeclared_zone : object_declared root e ≡ undeclared → zone root e ≡ hierarchy
   undeclared_zone g = z ∙ ap (λ x. cond (is_declared x) (inside e []) hierarchy) g
 
@@ -228,7 +228,7 @@ module _ (root : Tree) (e : Place) (h : IsEntryAt root e kind.Dir) (some : e ≢
     }
 
 -- the listing, and then what the head reads
-pub listed_then : (root : Tree) (s t u : Store) (e : Place) → is_head (zone root e) ≡ true → s.tree ≡ root → Did s t [] (e ∷ []) 0 → is_looked_into root e ≡ true → ReadsOne root t u e → Meets root s u e
+pub listed_then : (root : StorageRoot) (s t u : Store) (e : Place) → is_head (zone root e) ≡ true → s.tree ≡ root → Did s t [] (e ∷ []) 0 → is_looked_into root e ≡ true → ReadsOne root t u e → Meets root s u e
 listed_then root s t u e head over did looked h = record {
   over = over;
   trail = h.trail;
@@ -241,7 +241,7 @@ listed_then root s t u e head over did looked h = record {
   heads = h.heads;
 }
 
-listed_fails : (root : Tree) (s t u : Store) (e : Place) (why : Fault) → is_head (zone root e) ≡ true → s.tree ≡ root → Did s t [] (e ∷ []) 0 → is_looked_into root e ≡ true → ReadOneFails root t u e why → MeetFails root s u e why
+listed_fails : (root : StorageRoot) (s t u : Store) (e : Place) (why : Fault) → is_head (zone root e) ≡ true → s.tree ≡ root → Did s t [] (e ∷ []) 0 → is_looked_into root e ≡ true → ReadOneFails root t u e why → MeetFails root s u e why
 listed_fails root s t u e why head over did looked h = record {
   over = over;
   trail = h.trail;
@@ -255,25 +255,25 @@ listed_fails root s t u e why head over did looked h = record {
   store = λ q g. let w = h.store q g in (w.0, failed_behind (e ∷ []) [] [] h.trail q w.1);
 }
 
-pub visits_then : (root : Tree) (s t u : Store) (e : Place) (r : Result Visit Fault) → is_head (zone root e) ≡ true → s.tree ≡ root → Did s t [] (e ∷ []) 0 → is_looked_into root e ≡ true → VisitsHead root t u e r → Visits root s u e r
+pub visits_then : (root : StorageRoot) (s t u : Store) (e : Place) (r : Result Visit Fault) → is_head (zone root e) ≡ true → s.tree ≡ root → Did s t [] (e ∷ []) 0 → is_looked_into root e ≡ true → VisitsHead root t u e r → Visits root s u e r
 visits_then root s t u e (Ok v) head over did looked h = record { gives = (listed_then root s t u e head over did looked h.gives.0, h.gives.1) }
 visits_then root s t u e (Err why) head over did looked h = record { gives = listed_fails root s t u e why head over did looked h.gives }
 
 -- an object's root is looked into
-pub object_looked : (root : Tree) (o : Place) (es : List Entry) (m : MadeDeclared) → IsDeclared root o es m → is_looked_into root o ≡ true
+pub object_looked : (root : StorageRoot) (o : Place) (es : List Entry) (m : MadeDeclared) → IsDeclared root o es m → is_looked_into root o ≡ true
 object_looked root o es m h = looked_at root o h.way h.listable (ap (shows_entries root) h.zone)
 
 -- ---- an object
 
-pub head_memory : (root : Tree) (s t : Store) (o : Place) → ReadsOne root s t o → VisitsHead root s t o (Err fault.Memory)
+pub head_memory : (root : StorageRoot) (s t : Store) (o : Place) → ReadsOne root s t o → VisitsHead root s t o (Err fault.Memory)
 head_memory root s t o h = record {
   gives = record { over = h.over; trail = h.trail; did = h.did; meta = h.meta; once = h.once; heads = subst (IsFront (heads_of root h.trail)) h.heads (front_all (heads_of root h.trail)); store = λ q g. absurd cc };
 }
 
-pub head_stop : (root : Tree) (s t : Store) (o : Place) (why : Fault) → HeadRead root s t o (Err why) → VisitsHead root s t o (Err why)
+pub head_stop : (root : StorageRoot) (s t : Store) (o : Place) (why : Fault) → HeadRead root s t o (Err why) → VisitsHead root s t o (Err why)
 head_stop root s t o why h = record { gives = h.gives }
 
-module _ (root : Tree) (o : Place) (es : List Entry) (m : MadeDeclared) (h : IsDeclared root o es m) where
+module _ (root : StorageRoot) (o : Place) (es : List Entry) (m : MadeDeclared) (h : IsDeclared root o es m) where
   pub head_here : is_head (zone root o) ≡ true
   head_here = ap is_head h.zone
 
@@ -291,12 +291,12 @@ module _ (root : Tree) (o : Place) (es : List Entry) (m : MadeDeclared) (h : IsD
     table = subst (IsTableAt root o) (sym table) (h.zone, is);
   }
 
-pub unread_memory : (root : Tree) (s : Store) (o : Place) → s.tree ≡ root → HeadRead root s s o (Err fault.Memory)
+pub unread_memory : (root : StorageRoot) (s : Store) (o : Place) → s.tree ≡ root → HeadRead root s s o (Err fault.Memory)
 unread_memory root s o over = record {
   gives = record { over = over; trail = []; did = did_nothing s; meta = refl; once = none_once; heads = front_none (on (reads_inventory root o) o); store = λ q g. absurd cc };
 }
 
-pub plain_by : (root : Tree) (e d : Place) (ns : List Note) (r : Result Visit Fault) → d ≡ e → (IsPlainAt root d ns → seen_names root d ≡ [] → IfOk r (λ v. IsVisit root d v)) → IsPlainAt root e ns → seen_names root e ≡ [] → IfOk r (λ v. IsVisit root e v)
+pub plain_by : (root : StorageRoot) (e d : Place) (ns : List Note) (r : Result Visit Fault) → d ≡ e → (IsPlainAt root d ns → seen_names root d ≡ [] → IfOk r (λ v. IsVisit root d v)) → IsPlainAt root e ns → seen_names root e ≡ [] → IfOk r (λ v. IsVisit root e v)
 plain_by root e d ns r is told = subst (λ x. IsPlainAt root x ns → seen_names root x ≡ [] → IfOk r (λ v. IsVisit root x v)) is told
 
 pub directory_over : (e d : Place) (r : Result Visit Fault) → d ≡ e → IfOk r (λ v. IsFairVisit d v) → IfOk r (λ v. IsFairVisit e v)

@@ -1,7 +1,7 @@
 -- What calls above the store did to a store that tells its tree: one record where they succeed, and one for a fault.
 use Rattle.std.specs.Prelude.{◌≡◌, ℕ, ◌+◌, List, [], ◌∷◌, ◌++◌, true, false, length}
 use Rattle.ocfl_tree.specs.Place.{Place}
-use Rattle.ocfl_tree.specs.Tree.{Tree}
+use Rattle.ocfl_tree.specs.StorageRoot.{StorageRoot}
 use Rattle.ocfl_tree.specs.Store.{Store, Did}
 use Rattle.ocfl_tree.specs.Calls.{opening}
 use Rattle.ocfl_tree.specs.declared.store.Opening.{Opening}
@@ -13,7 +13,7 @@ use Rattle.ocfl_item.specs.declared.fault.Fault.{Fault}
 use Rattle.ocfl_item.specs.declared.fault.Fault.TheVariants as fault
 
 -- from s to t these places were audited: the content files of those that are hashed were opened, in order, and nothing failed but these openings; these directories were listed, and the inventories of these objects opened, in order
-pub record Audits (root : Tree) (s t : Store) (places listed heads : List Place) (trail : List Opening) : Type 0 where
+pub record Audits (root : StorageRoot) (s t : Store) (places listed heads : List Place) (trail : List Opening) : Type 0 where
   pub over : s.tree ≡ root
   pub did : Did s t trail listed (length (unread_of root trail))
   pub opened : content_trail root trail ≡ hashed_among root places
@@ -25,7 +25,7 @@ pub data FailedAt (listed : List Place) (trail : List Opening) (q : Place) : Typ
   in_opening : (before : List Opening) (given : ℕ) → trail ≡ before ++ opening q given true ∷ [] → FailedAt listed trail q
 
 -- the same, and then there was a fault; one of the store names the place at which it failed, which is no hashed file's
-pub record Fails (root : Tree) (s t : Store) (places listed heads : List Place) (trail : List Opening) (why : Fault) : Type 0 where
+pub record Fails (root : StorageRoot) (s t : Store) (places listed heads : List Place) (trail : List Opening) (why : Fault) : Type 0 where
   pub over : s.tree ≡ root
   pub did : Did s t trail listed (length (unread_of root trail) + failures_by why)
   pub opened : content_trail root trail ≡ hashed_among root places

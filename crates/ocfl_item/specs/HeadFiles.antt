@@ -1,7 +1,7 @@
 -- The files that an object's head is made of: its declaration, its inventory and the sidecars.
 use Rattle.std.specs.Prelude.{◌≡◌, ℕ, List, [], ◌∷◌, ◌++◌, Option, Some, None, Result, MatchResult, is_some, map, filter, option_and_then, if◌then◌else◌, nat_le, length}
 use Rattle.ocfl_tree.specs.Place.{Text, Place}
-use Rattle.ocfl_tree.specs.Tree.{Tree, file_at}
+use Rattle.ocfl_tree.specs.StorageRoot.{StorageRoot, file_at}
 use Rattle.ocfl_tree.specs.Store.{Store, Did}
 use Rattle.ocfl_tree.specs.declared.store.Opening.{Opening}
 use Rattle.ocfl_digest.specs.Bounded.{IsBoundedTo}
@@ -19,33 +19,33 @@ use Rattle.ocfl_item.specs.Ways.{Stops}
 use Rattle.ocfl_item.specs.declared.fault.Fault.{Fault}
 
 -- what was read of a file within a limit, and nothing where no file is there
-abbrev pub IsFileAt : Tree → Place → ℕ → Option Bounded → Type 0
+abbrev pub IsFileAt : StorageRoot → Place → ℕ → Option Bounded → Type 0
 IsFileAt root p limit None = file_at root p ≡ None
 IsFileAt root p limit (Some b) = (bytes : Text) × (file_at root p ≡ Some bytes) × IsBoundedTo limit bytes b
 
 -- the files of these names that are there in o
-abbrev pub files_there : Tree → Place → List Text → List Place
+abbrev pub files_there : StorageRoot → Place → List Text → List Place
 files_there root o names = map (λ n. o ++ n ∷ []) (filter (λ n. is_some (file_at root (o ++ n ∷ []))) names)
 
 -- from s to t these of them were opened, in order, and nothing was listed
-pub record ReadsFiles (root : Tree) (s t : Store) (o : Place) (names : List Text) : Type 0 where
+pub record ReadsFiles (root : StorageRoot) (s t : Store) (o : Place) (names : List Text) : Type 0 where
   pub over : s.tree ≡ root
   pub trail : List Opening
   pub did : Did s t trail [] 0
   pub opened : places_of trail ≡ files_there root o names
 
 -- the first of them were opened, and then there was a fault
-pub record FilesStop (root : Tree) (s t : Store) (o : Place) (names : List Text) (why : Fault) : Type 0 where
+pub record FilesStop (root : StorageRoot) (s t : Store) (o : Place) (names : List Text) (why : Fault) : Type 0 where
   pub trail : List Opening
   pub stops : Stops root s t [] trail why
   pub opened : IsFront (places_of trail) (files_there root o names)
 
 -- the file of one name was read
-pub record ReadsFile (root : Tree) (s t : Store) (o : Place) (name : Text) (limit : ℕ) (r : Result (Option Bounded) Fault) : Type 0 where
+pub record ReadsFile (root : StorageRoot) (s t : Store) (o : Place) (name : Text) (limit : ℕ) (r : Result (Option Bounded) Fault) : Type 0 where
   pub gives : MatchResult r (λ f. ReadsFiles root s t o (name ∷ []) × IsFileAt root (o ++ name ∷ []) limit f) (FilesStop root s t o (name ∷ []))
 
 -- the first of them were opened, and nothing else
-pub record ReadsSome (root : Tree) (s t : Store) (o : Place) (names : List Text) : Type 0 where
+pub record ReadsSome (root : StorageRoot) (s t : Store) (o : Place) (names : List Text) : Type 0 where
   pub over : s.tree ≡ root
   pub trail : List Opening
   pub did : Did s t trail [] 0
@@ -64,18 +64,18 @@ sidecars_for None = []
 sidecars_for (Some bytes) = if nat_le (length bytes) inventory_limit then sidecar_name Sha256 ∷ sidecar_name Sha512 ∷ [] else []
 
 -- what is read about the inventory of o
-abbrev pub inventory_files : Tree → Place → List Text
+abbrev pub inventory_files : StorageRoot → Place → List Text
 inventory_files root o = inventory_name ∷ sidecars_for (file_at root (o ++ inventory_name ∷ []))
 
 -- what is read for the head of o by what it declares: nothing where it stops at that
-abbrev pub head_files : Tree → Place → Declared → List Text
+abbrev pub head_files : StorageRoot → Place → Declared → List Text
 head_files root o undeclared = []
 head_files root o (known v) = declaration_name Object v ∷ inventory_files root o
 head_files root o (unknown t) = []
 head_files root o several = []
 
 -- of these files those that are there were opened, in order, and none else; before a fault the first of them
-abbrev pub OpensJust : {A : Type 0} → Tree → Store → Store → Place → List Text → Result A Fault → Type 0
+abbrev pub OpensJust : {A : Type 0} → StorageRoot → Store → Store → Place → List Text → Result A Fault → Type 0
 OpensJust root s t o names r = MatchResult r (λ x. ReadsFiles root s t o names) (FilesStop root s t o names)
 
 -- the table of an inventory that was read, and none where the head stops

@@ -1,7 +1,7 @@
 -- The lines of an object's head, beside the definition.
 use Rattle.std.specs.Prelude.{◌&&◌, List, [], ◌∷◌, ◌++◌, Bool, not, Option, Some, None, string_bytes}
 use Rattle.ocfl_tree.specs.Place.{Place}
-use Rattle.ocfl_tree.specs.Tree.{Tree}
+use Rattle.ocfl_tree.specs.StorageRoot.{StorageRoot}
 use Rattle.ocfl_report.specs.Line.{Note, note}
 use Rattle.ocfl_report.specs.declared.line.Line.{Line as MadeLine}
 use Rattle.ocfl_digest.specs.declared.algorithm.Algorithm.{Algorithm}
@@ -14,12 +14,12 @@ use Rattle.ocfl_inventory.specs.declared.declaration.Level.TheVariants.{Root, Ob
 use Rattle.ocfl_audit.specs.Head.{root_notes_by, head_notes_by, sidecar_name, is_sidecar_missing, are_sidecars_missing, other_sidecar_notes}
 
 -- the lines of the storage root, or of an object at d, by what is declared there
-abbrev pub declared_notes : Tree → Place → Level → Declared → List Note
+abbrev pub declared_notes : StorageRoot → Place → Level → Declared → List Note
 declared_notes root d Root declared = root_notes_by root declared
 declared_notes root d Object declared = head_notes_by root d declared
 
 -- these were read of the sidecars of o
-abbrev pub AreSidecars : Tree → Place → Sidecars → Type 0
+abbrev pub AreSidecars : StorageRoot → Place → Sidecars → Type 0
 AreSidecars root o s = IsFileAt root (o ++ sidecar_name Sha256 ∷ []) 4096 s.short × IsFileAt root (o ++ sidecar_name Sha512 ∷ []) 4096 s.long
 
 -- what a line says, of any place
@@ -27,10 +27,10 @@ abbrev pub note_of : MadeLine → Note
 note_of l = note l.code (string_bytes l.detail)
 
 -- whether the sidecar of an algorithm is missing while there is one
-abbrev pub is_other_there : Tree → Place → Algorithm → Bool
+abbrev pub is_other_there : StorageRoot → Place → Algorithm → Bool
 is_other_there root o a = is_sidecar_missing root o a && not (are_sidecars_missing root o)
 
 -- the line of the missing sidecar of an algorithm, where one is named
-abbrev pub named_notes : Tree → Place → Option Algorithm → List Note
+abbrev pub named_notes : StorageRoot → Place → Option Algorithm → List Note
 named_notes root o None = []
 named_notes root o (Some a) = other_sidecar_notes root o a

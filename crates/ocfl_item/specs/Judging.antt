@@ -1,7 +1,7 @@
 -- What judging an item does: a content file that is hashed is opened once.
 use Rattle.std.specs.Prelude.{◌≡◌, ◌<◌, ◌≤◌, ◌^◌, ◌+◌, if◌then◌else◌, ℕ, List, [], ◌∷◌, Bool, true, false, length, map, Some}
 use Rattle.ocfl_tree.specs.Place.{Text, Place}
-use Rattle.ocfl_tree.specs.Tree.{Tree, file, at}
+use Rattle.ocfl_tree.specs.StorageRoot.{StorageRoot, file, at}
 use Rattle.ocfl_tree.specs.Store.{Store}
 use Rattle.ocfl_tree.specs.declared.store.Opening.{Opening}
 use Rattle.ocfl_report.specs.Line.{line_of}
@@ -12,18 +12,18 @@ use Rattle.ocfl_item.specs.Auditing.{Audits, Fails}
 use Rattle.ocfl_item.specs.declared.fault.Fault.TheVariants as fault
 
 -- each file has fewer than 2^62 bytes
-abbrev pub HasShortFiles : Tree → Type 0
+abbrev pub HasShortFiles : StorageRoot → Type 0
 HasShortFiles root = (p : Place) (bytes : Text) → at root p ≡ Some (file bytes) → length bytes < 2 ^ 62
 
 -- from s to t the item at p was judged: its file was opened if it is hashed, and else nothing; nothing was listed
-pub record Judges (root : Tree) (s t : Store) (p : Place) (lines : List MadeLine) (cost : ℕ) : Type 0 where
+pub record Judges (root : StorageRoot) (s t : Store) (p : Place) (lines : List MadeLine) (cost : ℕ) : Type 0 where
   pub trail : List Opening
   pub audits : Audits root s t (p ∷ []) [] [] trail
   pub alone : places_of trail ≡ hashed_among root (p ∷ [])
   pub item : items_at root trail (p ∷ []) ≡ record { place = p; lines = map line_of lines; cost = cost } ∷ []
 
 -- from s to t the item at p was not judged: its file was opened once, or not at all
-pub record JudgeFails (root : Tree) (s t : Store) (p : Place) : Type 0 where
+pub record JudgeFails (root : StorageRoot) (s t : Store) (p : Place) : Type 0 where
   pub trail : List Opening
   pub part : Bool
   pub fails : Fails root s t (if part then p ∷ [] else []) [] [] trail fault.Memory

@@ -1,7 +1,7 @@
 -- The way to a place; content places, and what is seen there.
 use Rattle.std.specs.Prelude.{◌≡◌, ℕ, List, [], ◌∷◌, ◌++◌, Option, Some, None, option_map}
 use Rattle.ocfl_tree.specs.Place.{Place, beginnings}
-use Rattle.ocfl_tree.specs.Tree.{Tree, file, dir, other}
+use Rattle.ocfl_tree.specs.StorageRoot.{StorageRoot, file, dir, other}
 use Rattle.ocfl_report.specs.Line.{plain}
 use Rattle.ocfl_report.specs.declared.code.Code.TheVariants.{E024, S05}
 use Rattle.ocfl_inventory.specs.Table.{Table}
@@ -29,7 +29,7 @@ failures_by fault.Broken = 0
 
 -- ---- content places
 
-abbrev pub content_in : Tree → Zone → Option (Table × Place)
+abbrev pub content_in : StorageRoot → Zone → Option (Table × Place)
 content_in root skipped = None
 content_in root hierarchy = None
 content_in root (inside o []) = None
@@ -38,12 +38,12 @@ content_in root (inside o (v ∷ n ∷ [])) = None
 content_in root (inside o (v ∷ c ∷ n ∷ q)) = option_map (λ t. (t, v ∷ c ∷ n ∷ q)) (table_at root o)
 
 -- the table of the object that a place of at least three names more lies in, and the place as a path of it
-abbrev pub content_at : Tree → Place → Option (Table × Place)
+abbrev pub content_at : StorageRoot → Place → Option (Table × Place)
 content_at root p = content_in root (zone root p)
 
 -- ---- what is seen at a content place
 
-abbrev pub IsSight : Tree → Place → Sight → Type 0
+abbrev pub IsSight : StorageRoot → Place → Sight → Type 0
 IsSight root p sight.Nothing = seen root p ≡ None
 IsSight root p sight.File = (bytes : List ℕ) × (seen root p ≡ Some (file bytes))
 IsSight root p sight.Dir = (seen root p ≡ Some dir) × (listed_dir_notes root p (plain E024 ∷ []) ≡ [])

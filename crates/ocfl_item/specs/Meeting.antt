@@ -1,7 +1,7 @@
 -- What is met at one place of a store that tells its tree.
 use Rattle.std.specs.Prelude.{AllPairs, ◌≡◌, ◌≢◌, ◌≤◌, List, [], true, false, Option, Some, None, MatchOption, MatchResult, IfSome, Result, length}
 use Rattle.ocfl_tree.specs.Place.{Place}
-use Rattle.ocfl_tree.specs.Tree.{Tree}
+use Rattle.ocfl_tree.specs.StorageRoot.{StorageRoot}
 use Rattle.ocfl_tree.specs.Store.{Store, Did}
 use Rattle.ocfl_tree.specs.Listing.{IsListing, IsOrdinary}
 use Rattle.ocfl_tree.specs.declared.store.Opening.{Opening}
@@ -22,7 +22,7 @@ use Rattle.ocfl_item.specs.declared.pending.Pending.{Pending}
 use Rattle.ocfl_item.specs.declared.visit.Visit.{Visit}
 
 -- from s to t just what is looked into and read at one place was listed and read: this directory, and the inventory of this object; no file was opened twice, and none where neither an object nor the storage root is
-pub record Meets (root : Tree) (s t : Store) (e : Place) : Type 0 where
+pub record Meets (root : StorageRoot) (s t : Store) (e : Place) : Type 0 where
   pub over : s.tree ≡ root
   pub trail : List Opening
   pub listings : List Place
@@ -34,7 +34,7 @@ pub record Meets (root : Tree) (s t : Store) (e : Place) : Type 0 where
   pub heads : heads_of root trail ≡ on (reads_inventory root e) e
 
 -- at most this, and then there was a fault
-pub record MeetFails (root : Tree) (s t : Store) (e : Place) (why : Fault) : Type 0 where
+pub record MeetFails (root : StorageRoot) (s t : Store) (e : Place) (why : Fault) : Type 0 where
   pub over : s.tree ≡ root
   pub trail : List Opening
   pub listings : List Place
@@ -47,23 +47,23 @@ pub record MeetFails (root : Tree) (s t : Store) (e : Place) (why : Fault) : Typ
   pub store : (q : Place) → why ≡ fault.Store q → (is_hashed root q ≡ false) × FailedAt listings trail q
 
 -- the item of a place, if it has lines
-abbrev pub IsItemAt : Tree → Place → Option Pending → Type 0
+abbrev pub IsItemAt : StorageRoot → Place → Option Pending → Type 0
 IsItemAt root e o = MatchOption o (notes root None e ≡ []) (λ p. IsPending root p × (p.place ≡ e))
 
 -- its listing, if it is entered
-abbrev pub IsFolderAt : Tree → Place → Option Folder → Type 0
+abbrev pub IsFolderAt : StorageRoot → Place → Option Folder → Type 0
 IsFolderAt root e o = MatchOption o (seen_names root e ≡ []) (λ f. (f.place ≡ e) × (is_reached root e ≡ true) × IsListing root e f.entries.items)
 
 -- its table, if it is an object whose head does not stop
-abbrev pub IsTableAt : Tree → Place → Option Table → Type 0
+abbrev pub IsTableAt : StorageRoot → Place → Option Table → Type 0
 IsTableAt root e o = MatchOption o ((is_head (zone root e) ≡ true) → table_at root e ≡ None) (λ t. (zone root e ≡ inside e []) × (table_at root e ≡ Some t))
 
-pub record IsVisit (root : Tree) (e : Place) (v : Visit) : Type 0 where
+pub record IsVisit (root : StorageRoot) (e : Place) (v : Visit) : Type 0 where
   pub item : IsItemAt root e v.item
   pub folder : IsFolderAt root e v.folder
   pub table : IsTableAt root e v.table
 
-pub record Visits (root : Tree) (s t : Store) (e : Place) (r : Result Visit Fault) : Type 0 where
+pub record Visits (root : StorageRoot) (s t : Store) (e : Place) (r : Result Visit Fault) : Type 0 where
   pub gives : MatchResult r (λ v. Meets root s t e × IsVisit root e v) (λ why. MeetFails root s t e why)
 
 pub record IsFairFolder (e : Place) (f : Folder) : Type 0 where

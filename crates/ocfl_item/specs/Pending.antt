@@ -2,7 +2,7 @@
 use Rattle.std.specs.Prelude.{◌≡◌, ◌≢◌, List, [], ◌∷◌, ◌++◌, Bool, false, not, Option, Some, None, map, codes}
 use Rattle.std.specs.Ordering.{is_eq}
 use Rattle.ocfl_tree.specs.Place.{Place}
-use Rattle.ocfl_tree.specs.Tree.{Tree}
+use Rattle.ocfl_tree.specs.StorageRoot.{StorageRoot}
 use Rattle.ocfl_report.specs.Line.{Note, note, plain, line_of, lines_at}
 use Rattle.ocfl_report.specs.declared.code.Code.TheVariants.{E023, E024, S04, S05}
 use Rattle.ocfl_report.specs.declared.line.Line.{Line as MadeLine}
@@ -15,7 +15,7 @@ use Rattle.ocfl_item.specs.declared.sight.Sight.TheVariants as sight
 use Rattle.ocfl_audit.specs.Lines.{notes, named_at, is_empty, is_hashed, block_cmp, block_code}
 
 -- this is an item, its lines known where its file is not hashed
-pub record IsPending (root : Tree) (p : Pending) : Type 0 where
+pub record IsPending (root : StorageRoot) (p : Pending) : Type 0 where
   pub some : notes root None p.place ≢ []
   pub hashed : p.hashed ≡ is_hashed root p.place
   pub named : map named_view p.named.items ≡ named_at root p.place

@@ -3,7 +3,7 @@ use Rattle.std.specs.declared.alloc.Global.{Global}
 use Rattle.std.specs.Prelude.{AllPairs, ◌≢◌, ◌≡◌, List, [], Result, MatchResult, Vec, map, true, false, Option, Some, None, option_map}
 use Rattle.std.specs.List.{list_all}
 use Rattle.ocfl_tree.specs.Place.{Place, beginnings}
-use Rattle.ocfl_tree.specs.Tree.{Tree, at, is_dir}
+use Rattle.ocfl_tree.specs.StorageRoot.{StorageRoot, at, is_dir}
 use Rattle.ocfl_tree.specs.Listing.{kind_of}
 use Rattle.ocfl_tree.specs.declared.store.Kind.{Kind}
 use Rattle.ocfl_report.specs.Line.{Note}
@@ -26,18 +26,18 @@ use Rattle.ocfl_item.specs.declared.fault.Fault.TheVariants as fault
 use Rattle.ocfl_item.specs.declared.visit.Visit.{Visit}
 
 -- all above it is entered, and what lies there is of this kind
-pub record IsEntryAt (root : Tree) (e : Place) (k : Kind) : Type 0 where
+pub record IsEntryAt (root : StorageRoot) (e : Place) (k : Kind) : Type 0 where
   pub way : list_all (is_entered root) (beginnings e) ≡ true
   pub kind : option_map kind_of (at root e) ≡ Some k
 
 -- no object, with no digest named for it, and these lines
-pub record IsPlainAt (root : Tree) (e : Place) (ns : List Note) : Type 0 where
+pub record IsPlainAt (root : StorageRoot) (e : Place) (ns : List Note) : Type 0 where
   pub lines : notes root None e ≡ ns
   pub named : named_at root e ≡ []
   pub head : is_head (zone root e) ≡ false
 
 -- a directory that is entered where it does not lie too deep
-pub record IsListedAt (root : Tree) (e : Place) : Type 0 where
+pub record IsListedAt (root : StorageRoot) (e : Place) : Type 0 where
   pub way : list_all (is_entered root) (beginnings e) ≡ true
   pub directory : is_dir root e ≡ true
   pub listed : is_listed_zone root (zone root e) ≡ true
@@ -45,7 +45,7 @@ pub record IsListedAt (root : Tree) (e : Place) : Type 0 where
 -- ---- an object's head
 
 -- from s to t metadata was read, each file once, of inventories just that of o where it has one, and nothing was listed
-pub record ReadsOne (root : Tree) (s t : Store) (o : Place) : Type 0 where
+pub record ReadsOne (root : StorageRoot) (s t : Store) (o : Place) : Type 0 where
   pub over : s.tree ≡ root
   pub trail : List Opening
   pub did : Did s t trail [] 0
@@ -54,7 +54,7 @@ pub record ReadsOne (root : Tree) (s t : Store) (o : Place) : Type 0 where
   pub heads : heads_of root trail ≡ on (reads_inventory root o) o
 
 -- at most this, and then there was a fault
-pub record ReadOneFails (root : Tree) (s t : Store) (o : Place) (why : Fault) : Type 0 where
+pub record ReadOneFails (root : StorageRoot) (s t : Store) (o : Place) (why : Fault) : Type 0 where
   pub over : s.tree ≡ root
   pub trail : List Opening
   pub did : Did s t trail [] (failures_by why)
@@ -64,8 +64,8 @@ pub record ReadOneFails (root : Tree) (s t : Store) (o : Place) (why : Fault) : 
   pub store : (q : Place) → why ≡ fault.Store q → (is_hashed root q ≡ false) × FailedAt [] trail q
 
 -- the lines of an object's head and its table
-pub record HeadRead (root : Tree) (s t : Store) (o : Place) (r : Result (Vec MadeLine Global × Option Table) Fault) : Type 0 where
+pub record HeadRead (root : StorageRoot) (s t : Store) (o : Place) (r : Result (Vec MadeLine Global × Option Table) Fault) : Type 0 where
   pub gives : MatchResult r (λ p. ReadsOne root s t o × (map line_of p.0.items ≡ lines_at o (notes root None o)) × (p.1 ≡ table_at root o)) (λ why. ReadOneFails root s t o why)
 
-pub record VisitsHead (root : Tree) (s t : Store) (o : Place) (r : Result Visit Fault) : Type 0 where
+pub record VisitsHead (root : StorageRoot) (s t : Store) (o : Place) (r : Result Visit Fault) : Type 0 where
   pub gives : MatchResult r (λ v. ReadsOne root s t o × IsVisit root o v) (λ why. ReadOneFails root s t o why)

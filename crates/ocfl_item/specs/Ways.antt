@@ -3,7 +3,7 @@ use Rattle.std.specs.Prelude.{◌≡◌, ◌≢◌, ℕ, ◌&&◌, nat_le, lengt
 use Rattle.std.specs.declared.alloc.Global.{Global}
 use Rattle.std.specs.List.{list_all}
 use Rattle.ocfl_tree.specs.Place.{Text, Place, text_eq, beginnings}
-use Rattle.ocfl_tree.specs.Tree.{Tree, is_dir}
+use Rattle.ocfl_tree.specs.StorageRoot.{StorageRoot, is_dir}
 use Rattle.ocfl_tree.specs.Store.{Store, Did}
 use Rattle.ocfl_tree.specs.Listing.{IsListing}
 use Rattle.ocfl_tree.specs.declared.store.Entry.{Entry}
@@ -49,41 +49,41 @@ fault_by p trouble.Absent = fault.Store p
 fault_by p trouble.Memory = fault.Memory
 
 -- from s to t the first directories of a way were listed, and these files were opened
-pub record Goes (root : Tree) (s t : Store) (way : List Place) (trail : List Opening) (failures : ℕ) : Type 0 where
+pub record Goes (root : StorageRoot) (s t : Store) (way : List Place) (trail : List Opening) (failures : ℕ) : Type 0 where
   pub over : s.tree ≡ root
   pub listings : List Place
   pub did : Did s t trail listings failures
   pub listed : IsFront listings way
 
 -- and then there was a fault; one of the store names the place at which it failed
-pub record Stops (root : Tree) (s t : Store) (way : List Place) (trail : List Opening) (why : Fault) : Type 0 where
+pub record Stops (root : StorageRoot) (s t : Store) (way : List Place) (trail : List Opening) (why : Fault) : Type 0 where
   pub goes : Goes root s t way trail (failures_by why)
   pub store : (q : Place) → why ≡ fault.Store q → (is_hashed root q ≡ false) × FailedAt goes.listings trail q
 
 -- openings of metadata, each file once
-pub record AreMeta (root : Tree) (trail : List Opening) : Type 0 where
+pub record AreMeta (root : StorageRoot) (trail : List Opening) : Type 0 where
   pub meta : content_trail root trail ≡ []
   pub once : AllPairs (λ a b. a.place ≢ b.place) trail
 
-pub record SeekStops (root : Tree) (s t : Store) (way : List Place) (why : Fault) : Type 0 where
+pub record SeekStops (root : StorageRoot) (s t : Store) (way : List Place) (why : Fault) : Type 0 where
   pub trail : List Opening
   pub stops : Stops root s t way trail why
   pub meta : AreMeta root trail
 
 -- from s to t metadata was read, and nothing was listed
-pub record ReadsMeta (root : Tree) (s t : Store) : Type 0 where
+pub record ReadsMeta (root : StorageRoot) (s t : Store) : Type 0 where
   pub over : s.tree ≡ root
   pub trail : List Opening
   pub did : Did s t trail [] 0
   pub meta : AreMeta root trail
 
 -- and of inventories at most that of o
-pub record Opens (root : Tree) (s t : Store) (o : Place) : Type 0 where
+pub record Opens (root : StorageRoot) (s t : Store) (o : Place) : Type 0 where
   pub reads : ReadsMeta root s t
   pub heads : IsFront (heads_of root reads.trail) (o ∷ [])
 
 -- and then there was a fault
-pub record OpensStop (root : Tree) (s t : Store) (o : Place) (why : Fault) : Type 0 where
+pub record OpensStop (root : StorageRoot) (s t : Store) (o : Place) (why : Fault) : Type 0 where
   pub stops : SeekStops root s t [] why
   pub heads : IsFront (heads_of root stops.trail) (o ∷ [])
 
@@ -102,7 +102,7 @@ is_file_kind (Some kind.Dir) = false
 is_file_kind (Some kind.Other) = false
 
 -- a directory of at most 127 names
-abbrev pub is_listable : Tree → Place → Bool
+abbrev pub is_listable : StorageRoot → Place → Bool
 is_listable root d = nat_le (length d) max_listed_depth && is_dir root d
 
 -- a name in the storage root that leads to no object where it is a directory's (OCFL 1.1, 4.4 Storage Root Extensions)
@@ -111,27 +111,27 @@ is_extensions_name [] n = text_eq n (codes "extensions")
 is_extensions_name (m ∷ d) n = false
 
 -- it was not listed since it cannot be
-pub record StaysOut (root : Tree) (s t : Store) (d : Place) : Type 0 where
+pub record StaysOut (root : StorageRoot) (s t : Store) (d : Place) : Type 0 where
   pub did : Did s t [] [] 0
   pub closed : is_listable root d ≡ false
 
 -- the directory at d was listed, with these entries
-pub record Enters (root : Tree) (s t : Store) (d e : Place) (es : List Entry) : Type 0 where
+pub record Enters (root : StorageRoot) (s t : Store) (d e : Place) (es : List Entry) : Type 0 where
   pub is : e ≡ d
   pub did : Did s t [] (d ∷ []) 0
   pub listable : is_listable root d ≡ true
   pub listing : IsListing root d es
 
 -- each opening is that of an inventory
-abbrev pub AreInventories : Tree → List Opening → Type 0
+abbrev pub AreInventories : StorageRoot → List Opening → Type 0
 AreInventories root trail = length trail ≡ length (heads_of root trail)
 
 -- an object's table, with its inventory read for it, and no other file
-pub record ReadsTable (root : Tree) (s t : Store) (o : Place) (r : Result (Option Table) Fault) : Type 0 where
+pub record ReadsTable (root : StorageRoot) (s t : Store) (o : Place) (r : Result (Option Table) Fault) : Type 0 where
   pub gives : MatchResult r (λ table. (opens : Opens root s t o) × (table ≡ table_at root o) × AreInventories root opens.reads.trail) (λ why. (stop : OpensStop root s t o why) × AreInventories root stop.stops.trail)
 
 -- the lines of an object's head and its table, with its files read for them
-pub record ReadsHead (root : Tree) (s t : Store) (o : Place) (r : Result (Vec MadeLine Global × Option Table) Fault) : Type 0 where
+pub record ReadsHead (root : StorageRoot) (s t : Store) (o : Place) (r : Result (Vec MadeLine Global × Option Table) Fault) : Type 0 where
   pub gives : MatchResult r (λ p. Opens root s t o × (map line_of p.0.items ≡ lines_at o (notes root None o)) × (p.1 ≡ table_at root o)) (λ why. OpensStop root s t o why)
 
 -- ---- what declarations say
@@ -151,16 +151,16 @@ IsHead d head.Stops = (is_declared d ≡ true) × (is_known d ≡ false)
 -- ---- where one has come to
 
 -- a directory that is entered, and its entries
-pub record IsAt (root : Tree) (d : Place) (es : List Entry) : Type 0 where
+pub record IsAt (root : StorageRoot) (d : Place) (es : List Entry) : Type 0 where
   pub listing : IsListing root d es
   pub reached : is_reached root d ≡ true
 
-pub record InHierarchy (root : Tree) (d : Place) (es : List Entry) : Type 0 where
+pub record InHierarchy (root : StorageRoot) (d : Place) (es : List Entry) : Type 0 where
   pub here : IsAt root d es
   pub zone : zone root d ≡ hierarchy
 
 -- an object, and what its declarations were read to be
-pub record IsDeclared (root : Tree) (o : Place) (es : List Entry) (d : MadeDeclared) : Type 0 where
+pub record IsDeclared (root : StorageRoot) (o : Place) (es : List Entry) (d : MadeDeclared) : Type 0 where
   pub listing : IsListing root o es
   pub way : list_all (is_entered root) (beginnings o) ≡ true
   pub listable : is_listable root o ≡ true
@@ -169,7 +169,7 @@ pub record IsDeclared (root : Tree) (o : Place) (es : List Entry) (d : MadeDecla
   pub points : PointsAtOne level.Object es d
 
 -- an object of known version
-pub record IsObject (root : Tree) (o : Place) (es : List Entry) : Type 0 where
+pub record IsObject (root : StorageRoot) (o : Place) (es : List Entry) : Type 0 where
   pub listing : IsListing root o es
   pub way : list_all (is_entered root) (beginnings o) ≡ true
   pub listable : is_listable root o ≡ true
@@ -177,7 +177,7 @@ pub record IsObject (root : Tree) (o : Place) (es : List Entry) : Type 0 where
   pub known : is_known (object_declared root o) ≡ true
 
 -- an object whose head does not stop
-pub record IsOpenObject (root : Tree) (o : Place) (es : List Entry) (t : Table) : Type 0 where
+pub record IsOpenObject (root : StorageRoot) (o : Place) (es : List Entry) (t : Table) : Type 0 where
   pub here : IsAt root o es
   pub zone : zone root o ≡ inside o []
   pub table : table_at root o ≡ Some t

@@ -1,7 +1,7 @@
 //! The storage root: its lines, and its listing where it is entered.
 ghost use Rattle.std.specs.Prelude.{◌≡◌, ◌∷◌, [], None, false, IsTrue, IfOk, IfErr};
 ghost use Rattle.std.specs.Prelude.{OnOk, map};
-ghost use Rattle.ocfl_tree.specs.Tree.{Tree as Root};
+ghost use Rattle.ocfl_tree.specs.StorageRoot.{StorageRoot};
 ghost use Rattle.ocfl_report.specs.Line.{line_of, lines_at};
 ghost use Rattle.ocfl_inventory.specs.Declaration.{declaration_name as declaration_name_of};
 ghost use Rattle.ocfl_inventory.specs.Declaration.{known};
@@ -36,7 +36,7 @@ fn add_known(
     version: Version,
     declaration: &Option<Bounded>,
 ) -> Result<(), AllocError>
-    ensures { (root : Root) → IsFileAt root (declaration_name_of level.Root version
+    ensures { (root : StorageRoot) → IsFileAt root (declaration_name_of level.Root version
         ∷ []) 4096 declaration.now
         → OnOk result (Adds lines.old.items lines.new.items place.now
         (root_notes_by root (known version))) }
@@ -49,7 +49,7 @@ fn add_known(
 
 fn item_of(alloc: Global, place: &Place, lines: Vec<Line>) -> Result<Pending, AllocError>
     ensures place { IfOk result (λ item. item.place ≡ place.now) }
-    ensures told { (root : Root) → place.now ≡ []
+    ensures told { (root : StorageRoot) → place.now ≡ []
         → map line_of lines.items ≡ lines_at [] (notes root None [])
         → IfOk result (λ item. IsPending root item) }
 {
@@ -65,7 +65,7 @@ fn item_of(alloc: Global, place: &Place, lines: Vec<Line>) -> Result<Pending, Al
 pub fn visit_base<T: Tree>(alloc: Global, store: &mut T) -> Result<Visit, Fault>
     ensures only { IfErr result (λ why. IsWayFault why) }
     ensures fair { IfOk result (λ v. IsFairVisit [] v) }
-    ensures told { IsTrue T.told → (root : Root) → (T.state store.old).tree ≡ root
+    ensures told { IsTrue T.told → (root : StorageRoot) → (T.state store.old).tree ≡ root
         → Visits root (T.state store.old) (T.state store.new) [] result }
 {
     let folder = list(store, Place::root(alloc))?;

@@ -2,7 +2,7 @@ ghost use Rattle.std.specs.Prelude.{◌≡◌, ◌++◌, [], IfOk, IfSome, Match
 ghost use Rattle.std.specs.Prelude.{map};
 ghost use Rattle.ocfl_tree.specs.Ascending.{IsAscending};
 ghost use Rattle.ocfl_tree.specs.Place.{Place as Spot};
-ghost use Rattle.ocfl_tree.specs.Tree.{Tree as Root};
+ghost use Rattle.ocfl_tree.specs.StorageRoot.{StorageRoot};
 ghost use Rattle.ocfl_report.specs.Line.{line_of, lines_at};
 ghost use Rattle.ocfl_inventory.specs.Table.{Table, named as digests_of, named_cmp};
 ghost use Rattle.ocfl_audit.specs.Lines.{missing_notes, notes};
@@ -73,7 +73,7 @@ pub(crate) fn content_item(
     sight: Sight,
 ) -> Result<Option<Pending>, AllocError>
     ensures place { IfOk result (λ item. IfSome item (λ pending. pending.place ≡ place.now)) }
-    ensures told { (root : Root) (t : Table) (q : Spot) → content_at root place.now ≡ Some (t, q)
+    ensures told { (root : StorageRoot) (t : Table) (q : Spot) → content_at root place.now ≡ Some (t, q)
         → map named_view named.items ≡ digests_of t q → IsSight root place.now sight
         → IfOk result (λ item. MatchOption item (notes root None place.now ≡ [])
         (λ pending. IsPending root pending × (pending.place ≡ place.now))) }

@@ -2,7 +2,7 @@
 //! whether a declaration has the bytes that it must have.
 ghost use Rattle.std.specs.Prelude.{◌≡◌, ◌≤◌, ◌++◌, ◌∷◌, [], false, length, OnOk};
 ghost use Rattle.ocfl_tree.specs.Place.{Place as Names, Text, text_eq};
-ghost use Rattle.ocfl_tree.specs.Tree.{Tree as Root};
+ghost use Rattle.ocfl_tree.specs.StorageRoot.{StorageRoot};
 ghost use Rattle.ocfl_report.specs.Line.{note};
 ghost use Rattle.ocfl_digest.specs.Bounded.{IsBoundedTo};
 ghost use Rattle.ocfl_inventory.specs.Declaration.{after_prefix, is_known};
@@ -34,7 +34,7 @@ fn is_file(bytes: &[u8], file: &Bounded) -> bool
 
 /// Whether the file of a declaration has just the bytes of that version's.
 pub(crate) fn is_exact(level: Level, version: Version, declaration: &Option<Bounded>) -> bool
-    ensures { (root : Root) (d : Names) → IsFileAt root
+    ensures { (root : StorageRoot) (d : Names) → IsFileAt root
         (d ++ name_of_declaration level version ∷ []) 4096 declaration.now
         → result ≡ is_exact_declaration root d level version }
 {
@@ -75,7 +75,7 @@ pub(crate) fn add_stop(
     entries: &[Entry],
     declared: Declared,
 ) -> Result<(), AllocError>
-    ensures { (root : Root) → is_known (meaning level entries.now declared) ≡ false
+    ensures { (root : StorageRoot) → is_known (meaning level entries.now declared) ≡ false
         → PointsAtOne level entries.now declared
         → OnOk result (Adds lines.old.items lines.new.items place.now
         (declared_notes root place.now level (meaning level entries.now declared))) }

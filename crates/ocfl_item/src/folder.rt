@@ -1,7 +1,7 @@
 //! Directories as a store lists them, from the storage root down.
 ghost use Rattle.std.specs.Prelude.{◌≡◌, ◌&&◌, ◌∷◌, [], nat_le, suc, length, true, IsTrue};
 ghost use Rattle.std.specs.Prelude.{IfOk, IfErr, MatchResult};
-ghost use Rattle.ocfl_tree.specs.Tree.{Tree as Root};
+ghost use Rattle.ocfl_tree.specs.StorageRoot.{StorageRoot};
 ghost use Rattle.ocfl_tree.specs.Listing.{IsOrdinary, kind_in};
 ghost use Rattle.ocfl_inventory.specs.Declaration.{declared as declared_by_files};
 ghost use Rattle.ocfl_inventory.specs.Entries.{file_names};
@@ -73,7 +73,7 @@ pub fn list<T: Tree>(store: &mut T, place: Place) -> Result<Folder, Fault>
     ensures only { IfErr result (λ why. IsWayFault why) }
     ensures place { IfOk result (λ folder. folder.place ≡ place) }
     ensures ordinary { IfOk result (λ folder. IsOrdinary folder.entries.items) }
-    ensures told { IsTrue T.told → (root : Root) → (T.state store.old).tree ≡ root
+    ensures told { IsTrue T.told → (root : StorageRoot) → (T.state store.old).tree ≡ root
         → is_listable root place ≡ true → MatchResult result
         (λ folder. Enters root (T.state store.old) (T.state store.new) place
         folder.place folder.entries.items)

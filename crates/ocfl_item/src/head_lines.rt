@@ -3,7 +3,7 @@ ghost use Rattle.std.specs.Prelude.{◌≡◌, ◌++◌, ◌∷◌, [], List, tr
 ghost use Rattle.std.specs.Prelude.{is_some, map, option_map, Some, IfSome, IfOk, OnOk};
 ghost use Rattle.hex.specs.Hex.{encode_lower};
 ghost use Rattle.ocfl_tree.specs.Place.{Place as Names, Text, text_eq};
-ghost use Rattle.ocfl_tree.specs.Tree.{Tree as Root};
+ghost use Rattle.ocfl_tree.specs.StorageRoot.{StorageRoot};
 ghost use Rattle.ocfl_report.specs.Line.{Note, plain};
 ghost use Rattle.ocfl_digest.specs.Bounded.{IsBoundedTo};
 ghost use Rattle.ocfl_digest.specs.Digest.{digest_bytes_of};
@@ -47,7 +47,7 @@ pub(crate) fn add_declaration(
     version: Version,
     declaration: &Option<Bounded>,
 ) -> Result<(), AllocError>
-    ensures { (root : Root) → IsFileAt root (place.now
+    ensures { (root : StorageRoot) → IsFileAt root (place.now
         ++ name_of_declaration level.Object version ∷ []) 4096 declaration.now
         → OnOk result (Adds lines.old.items lines.new.items place.now
         (on (not (is_exact_declaration root place.now level.Object version))
@@ -123,7 +123,7 @@ fn add_sidecar(
     algorithm: Algorithm,
     file: &Option<Bounded>,
 ) -> Result<(), AllocError>
-    ensures { (root : Root) → IsFileAt root (place.now ++ sidecar_name algorithm ∷ []) 4096 file.now
+    ensures { (root : StorageRoot) → IsFileAt root (place.now ++ sidecar_name algorithm ∷ []) 4096 file.now
         → OnOk result (Adds lines.old.items lines.new.items place.now
         (sidecar_notes algorithm inventory.now (sidecar_at root place.now algorithm))) }
 {
@@ -146,7 +146,7 @@ fn add_unless_any(
     place: &Place,
     sidecars: &Sidecars,
 ) -> Result<(), AllocError>
-    ensures { (root : Root) → AreSidecars root place.now sidecars.now
+    ensures { (root : StorageRoot) → AreSidecars root place.now sidecars.now
         → OnOk result (Adds lines.old.items lines.new.items place.now
         (on (are_sidecars_missing root place.now) (plain Code.E058))) }
 {
@@ -165,7 +165,7 @@ fn add_sidecars(
     inventory: &[u8],
     sidecars: &Sidecars,
 ) -> Result<(), AllocError>
-    ensures { (root : Root) → AreSidecars root place.now sidecars.now
+    ensures { (root : StorageRoot) → AreSidecars root place.now sidecars.now
         → OnOk result (Adds lines.old.items lines.new.items place.now
         (sidecars_notes root place.now inventory.now)) }
 {
@@ -190,7 +190,7 @@ fn add_sidecars(
 
 /// Whether the sidecar of an inventory's algorithm is missing while the other is there.
 fn has_other(algorithm: Algorithm, sidecars: &Sidecars) -> bool
-    ensures { (root : Root) (o : Names) → AreSidecars root o sidecars.now
+    ensures { (root : StorageRoot) (o : Names) → AreSidecars root o sidecars.now
         → is_some (sidecar_digits algorithm) ≡ true
         → result ≡ is_other_there root o algorithm }
 {
@@ -210,7 +210,7 @@ fn add_missing_sidecar(
     algorithm: Option<Algorithm>,
     sidecars: &Sidecars,
 ) -> Result<(), AllocError>
-    ensures { (root : Root) → AreSidecars root place.now sidecars.now
+    ensures { (root : StorageRoot) → AreSidecars root place.now sidecars.now
         → IfSome algorithm (λ a. is_some (sidecar_digits a) ≡ true)
         → OnOk result (Adds lines.old.items lines.new.items place.now
         (named_notes root place.now algorithm)) }
@@ -245,7 +245,7 @@ fn add_read(
     inventory: &[u8],
     sidecars: &Sidecars,
 ) -> Result<Option<Table>, AllocError>
-    ensures lines { (root : Root) → AreSidecars root place.now sidecars.now
+    ensures lines { (root : StorageRoot) → AreSidecars root place.now sidecars.now
         → OnOk result (Adds lines.old.items lines.new.items place.now
         (inventory_part root place.now inventory.now (algorithm_in inventory.now))) }
     ensures table { IfOk result (λ table. table ≡ table_of inventory.now) }
@@ -269,7 +269,7 @@ pub(crate) fn add_inventory(
 ) -> Result<Option<Table>, AllocError>
     ensures table { IfOk result (λ table. table ≡ table_of bytes.now) }
     ensures fit { IfOk result (λ table. IfSome table (λ t. IsFit t)) }
-    ensures lines { (root : Root) → IsFileAt root
+    ensures lines { (root : StorageRoot) → IsFileAt root
         (place.now ++ sidecar_name Sha256 ∷ []) 4096 sidecars.now.short
         → IsFileAt root (place.now ++ sidecar_name Sha512 ∷ []) 4096 sidecars.now.long
         → OnOk result (Adds lines.old.items lines.new.items place.now

@@ -1,6 +1,6 @@
 ghost use Rattle.std.specs.Prelude.{◌≡◌, ◌≤◌, IfErr, IfOk, IsTrue, MatchResult, None, false, map};
 ghost use Rattle.std.specs.Prelude.{max, true};
-ghost use Rattle.ocfl_tree.specs.Tree.{Tree as Root};
+ghost use Rattle.ocfl_tree.specs.StorageRoot.{StorageRoot};
 ghost use Rattle.ocfl_report.specs.Line.{line_of};
 ghost use Rattle.ocfl_item.specs.Judging.{CostFits, HasShortFiles, JudgeFails, Judges};
 ghost use Rattle.ocfl_item.specs.Pending.{IsPending};
@@ -47,7 +47,7 @@ pub fn judge<T: Tree>(
     ensures closed { IsTrue T.told → pending.now.hashed ≡ true → (T.state store.new).rest ≡ None }
     ensures largest { IsTrue T.told → (T.state store.new).largest
         ≤ max (T.state store.old).largest 65536 }
-    ensures told { IsTrue T.told → (root : Root) → (T.state store.old).tree ≡ root
+    ensures told { IsTrue T.told → (root : StorageRoot) → (T.state store.old).tree ≡ root
         → HasShortFiles root → IsPending root pending.now → MatchResult result
         (λ judged. Judges root (T.state store.old)
         (T.state store.new) pending.now.place judged.0.items judged.1)

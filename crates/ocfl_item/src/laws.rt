@@ -2,7 +2,7 @@
 ghost use Rattle.std.specs.Prelude.{◌++◌, List};
 ghost use Rattle.ocfl_tree.specs.Place.{Place};
 ghost use Rattle.ocfl_tree.specs.Store.{Store};
-ghost use Rattle.ocfl_tree.specs.Tree.{Tree};
+ghost use Rattle.ocfl_tree.specs.StorageRoot.{StorageRoot};
 ghost use Rattle.ocfl_tree.specs.declared.store.Opening.{Opening};
 ghost use Rattle.ocfl_item.specs.Auditing.{Audits, Fails};
 ghost use Rattle.ocfl_item.specs.declared.fault.Fault.{Fault};
@@ -10,10 +10,10 @@ ghost use Rattle.ocfl_item.specs.declared.fault.Fault.{Fault};
 /// What calls did adds up, one after the other, up to a fault.
 #[tactic(auto, using(crate::proofs::AuditingLaws::audits_on, crate::proofs::AuditingLaws::audits_fail))]
 pub fn calls_add_up()
-    ensures on { (root : Tree) (s t u : Store) (ps qs ls ms hs gs : List Place)
+    ensures on { (root : StorageRoot) (s t u : Store) (ps qs ls ms hs gs : List Place)
         (os rs : List Opening) → Audits root s t ps ls hs os → Audits root t u qs ms gs rs
         → Audits root s u (ps ++ qs) (ls ++ ms) (hs ++ gs) (os ++ rs) }
-    ensures fail { (root : Tree) (s t u : Store) (ps qs ls ms hs gs : List Place)
+    ensures fail { (root : StorageRoot) (s t u : Store) (ps qs ls ms hs gs : List Place)
         (os rs : List Opening) (why : Fault) → Audits root s t ps ls hs os
         → Fails root t u qs ms gs rs why → Fails root s u (ps ++ qs) (ls ++ ms) (hs ++ gs)
         (os ++ rs) why }

@@ -1,7 +1,7 @@
 //! What is met at a place below the storage root, by the part of the root that it lies in.
 ghost use Rattle.std.specs.Prelude.{◌≡◌, None, IsTrue, IfErr, IfOk, IfSome};
 ghost use Rattle.ocfl_tree.specs.Place.{Place as Spot};
-ghost use Rattle.ocfl_tree.specs.Tree.{Tree as Root};
+ghost use Rattle.ocfl_tree.specs.StorageRoot.{StorageRoot};
 ghost use Rattle.ocfl_audit.specs.Zone.{seen};
 ghost use Rattle.ocfl_item.specs.Around.{IsMet, IsTableAround};
 ghost use Rattle.ocfl_item.specs.Meeting.{IsFairVisit, IsItemAt, Visits};
@@ -35,7 +35,7 @@ pub fn visit_entry<T: Tree>(
 ) -> Result<Visit, Fault>
     ensures only { IfErr result (λ why. IsWayFault why) }
     ensures fair { IfOk result (λ v. IsFairVisit place v) }
-    ensures told { IsTrue T.told → (root : Root) → (T.state store.old).tree ≡ root
+    ensures told { IsTrue T.told → (root : StorageRoot) → (T.state store.old).tree ≡ root
         → (d : Spot) → IsMet root d around.now entry.now place
         → Visits root (T.state store.old) (T.state store.new) place result }
 {
@@ -62,7 +62,7 @@ pub fn visit_path(
 ) -> Result<Option<Pending>, Fault>
     ensures only { IfErr result (λ why. why ≡ Fault.Memory) }
     ensures fair { IfOk result (λ o. IfSome o (λ p. p.place ≡ place.now)) }
-    ensures told { (root : Root) → IsTableAround root place.now around.now
+    ensures told { (root : StorageRoot) → IsTableAround root place.now around.now
         → seen root place.now ≡ None
         → IfOk result (λ o. IsItemAt root place.now o) }
 {

@@ -2,7 +2,7 @@
 //! head with its table, or for the table alone; a file of the storage root is read in the same way.
 ghost use Rattle.std.specs.Prelude.{◌≡◌, ◌∷◌, ◌++◌, [], true, false, IsTrue, IfErr, IfOk, IfSome};
 ghost use Rattle.std.specs.Prelude.{MatchOption, MatchResult};
-ghost use Rattle.ocfl_tree.specs.Tree.{Tree as Root, file_at};
+ghost use Rattle.ocfl_tree.specs.StorageRoot.{StorageRoot, file_at};
 ghost use Rattle.ocfl_tree.specs.Listing.{IsListing, kind_in};
 ghost use Rattle.ocfl_digest.specs.declared.algorithm.Algorithm.TheVariants.{Sha256, Sha512};
 ghost use Rattle.ocfl_inventory.specs.Declaration.{known};
@@ -75,7 +75,7 @@ pub(crate) fn read_file<T: Tree>(
     limit: usize,
 ) -> Result<Option<Bounded>, Fault>
     ensures only { IfErr result (λ why. IsWayFault why) }
-    ensures told { IsTrue T.told → (root : Root) → (T.state store.old).tree ≡ root
+    ensures told { IsTrue T.told → (root : StorageRoot) → (T.state store.old).tree ≡ root
         → IsListing root folder.now.place folder.now.entries.items
         → is_meta root (folder.now.place ++ name.now ∷ []) ≡ true
         → ReadsFile root (T.state store.old) (T.state store.new) folder.now.place name.now limit
@@ -92,7 +92,7 @@ pub(crate) fn read_file<T: Tree>(
 
 fn read_sidecars<T: Tree>(alloc: Global, store: &mut T, folder: &Folder) -> Result<Sidecars, Fault>
     ensures only { IfErr result (λ why. IsWayFault why) }
-    ensures told { IsTrue T.told → (root : Root) → (T.state store.old).tree ≡ root
+    ensures told { IsTrue T.told → (root : StorageRoot) → (T.state store.old).tree ≡ root
         → IsListing root folder.now.place folder.now.entries.items
         → zone root folder.now.place ≡ inside folder.now.place []
         → MatchResult result
@@ -117,7 +117,7 @@ fn add_inventory_file<T: Tree>(
 ) -> Result<Option<Table>, Fault>
     ensures only { IfErr result (λ why. IsWayFault why) }
     ensures fit { IfOk result (λ table. IfSome table (λ t. IsFit t)) }
-    ensures told { IsTrue T.told → (root : Root) → (T.state store.old).tree ≡ root
+    ensures told { IsTrue T.told → (root : StorageRoot) → (T.state store.old).tree ≡ root
         → IsListing root folder.now.place folder.now.entries.items
         → zone root folder.now.place ≡ inside folder.now.place []
         → MatchResult result
@@ -129,7 +129,7 @@ fn add_inventory_file<T: Tree>(
         (file_at root (folder.now.place ++ inventory_name ∷ []))))
         (λ why. FilesStop root (T.state store.old)
         (T.state store.new) folder.now.place inventory_names why) }
-    ensures opened { IsTrue T.told → (root : Root) → (T.state store.old).tree ≡ root
+    ensures opened { IsTrue T.told → (root : StorageRoot) → (T.state store.old).tree ≡ root
         → IsListing root folder.now.place folder.now.entries.items
         → zone root folder.now.place ≡ inside folder.now.place []
         → OpensJust root (T.state store.old) (T.state store.new) folder.now.place
@@ -160,11 +160,11 @@ fn known_head<T: Tree>(
 ) -> Result<(Vec<Line>, Option<Table>), Fault>
     ensures only { IfErr result (λ why. IsWayFault why) }
     ensures fit { IfOk result (λ p. IfSome p.1 (λ t. IsFit t)) }
-    ensures told { IsTrue T.told → (root : Root) → (T.state store.old).tree ≡ root
+    ensures told { IsTrue T.told → (root : StorageRoot) → (T.state store.old).tree ≡ root
         → IsObject root folder.now.place folder.now.entries.items
         → object_declared root folder.now.place ≡ known version
         → ReadsHead root (T.state store.old) (T.state store.new) folder.now.place result }
-    ensures opened { IsTrue T.told → (root : Root) → (T.state store.old).tree ≡ root
+    ensures opened { IsTrue T.told → (root : StorageRoot) → (T.state store.old).tree ≡ root
         → IsObject root folder.now.place folder.now.entries.items
         → OpensJust root (T.state store.old) (T.state store.new) folder.now.place
         (head_files root folder.now.place (known version)) result }
@@ -190,13 +190,13 @@ pub(crate) fn head_lines<T: Tree>(
 ) -> Result<(Vec<Line>, Option<Table>), Fault>
     ensures only { IfErr result (λ why. IsWayFault why) }
     ensures fit { IfOk result (λ p. IfSome p.1 (λ t. IsFit t)) }
-    ensures told { IsTrue T.told → (root : Root) → (T.state store.old).tree ≡ root
+    ensures told { IsTrue T.told → (root : StorageRoot) → (T.state store.old).tree ≡ root
         → IsDeclared root folder.now.place folder.now.entries.items declared
         → ReadsHead root (T.state store.old) (T.state store.new) folder.now.place result }
-    ensures heads { IsTrue T.told → (root : Root) → (T.state store.old).tree ≡ root
+    ensures heads { IsTrue T.told → (root : StorageRoot) → (T.state store.old).tree ≡ root
         → IsDeclared root folder.now.place folder.now.entries.items declared
         → HeadRead root (T.state store.old) (T.state store.new) folder.now.place result }
-    ensures opened { IsTrue T.told → (root : Root) → (T.state store.old).tree ≡ root
+    ensures opened { IsTrue T.told → (root : StorageRoot) → (T.state store.old).tree ≡ root
         → IsDeclared root folder.now.place folder.now.entries.items declared
         → OpensJust root (T.state store.old) (T.state store.new) folder.now.place
         (head_files root folder.now.place (object_declared root folder.now.place)) result }
@@ -224,10 +224,10 @@ pub fn table_of_object<T: Tree>(
     folder: &Folder,
 ) -> Result<Option<Table>, Fault>
     ensures only { IfErr result (λ why. IsWayFault why) }
-    ensures told { IsTrue T.told → (root : Root) → (T.state store.old).tree ≡ root
+    ensures told { IsTrue T.told → (root : StorageRoot) → (T.state store.old).tree ≡ root
         → IsObject root folder.now.place folder.now.entries.items
         → ReadsTable root (T.state store.old) (T.state store.new) folder.now.place result }
-    ensures opened { IsTrue T.told → (root : Root) → (T.state store.old).tree ≡ root
+    ensures opened { IsTrue T.told → (root : StorageRoot) → (T.state store.old).tree ≡ root
         → IsObject root folder.now.place folder.now.entries.items
         → OpensJust root (T.state store.old) (T.state store.new) folder.now.place
         (inventory_name ∷ []) result }

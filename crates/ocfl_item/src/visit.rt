@@ -2,7 +2,7 @@
 ghost use Rattle.std.specs.Prelude.{◌≡◌, ◌≢◌, ◌≤◌, ◌∷◌, ◌&&◌, ◌||◌, nat_eq, codes, [], None, Some};
 ghost use Rattle.std.specs.Prelude.{true, false, IsTrue, IfErr, IfOk, cond, map, length};
 ghost use Rattle.ocfl_tree.specs.Place.{Place as Spot, Text, text_eq};
-ghost use Rattle.ocfl_tree.specs.Tree.{Tree as Root};
+ghost use Rattle.ocfl_tree.specs.StorageRoot.{StorageRoot};
 ghost use Rattle.ocfl_tree.specs.Listing.{IsOrdinary};
 ghost use Rattle.ocfl_tree.specs.declared.store.Kind.TheVariants as kind;
 ghost use Rattle.ocfl_report.specs.Line.{line_of, lines_at, plain};
@@ -65,7 +65,7 @@ impl Visit {
 /// The item with one line, whose detail is a dash.
 fn plain_item(alloc: Global, place: Place, code: Code) -> Result<Pending, AllocError>
     ensures place { IfOk result (λ p. p.place ≡ place) }
-    ensures told { (root : Root) → IsPlainAt root place (plain code ∷ [])
+    ensures told { (root : StorageRoot) → IsPlainAt root place (plain code ∷ [])
         → IfOk result (λ p. IsPending root p × (p.place ≡ place)) }
 {
     let mut lines = Vec::new(alloc);
@@ -81,7 +81,7 @@ fn plain_item(alloc: Global, place: Place, code: Code) -> Result<Pending, AllocE
 /// The item of an object's head.
 fn head_item(alloc: Global, place: &Place, lines: Vec<Line>) -> Result<Pending, AllocError>
     ensures place { IfOk result (λ pending. pending.place ≡ place.now) }
-    ensures told { (root : Root) → is_head (zone root place.now) ≡ true
+    ensures told { (root : StorageRoot) → is_head (zone root place.now) ≡ true
         → map line_of lines.items ≡ lines_at place.now (notes root None place.now)
         → IfOk result (λ pending. IsPending root pending × (pending.place ≡ place.now)) }
 {
@@ -96,7 +96,7 @@ fn head_item(alloc: Global, place: &Place, lines: Vec<Line>) -> Result<Pending, 
 fn visit_plain(alloc: Global, place: Place, code: Code) -> Result<Visit, Fault>
     ensures only { IfErr result (λ why. why ≡ Fault.Memory) }
     ensures fair { IfOk result (λ v. IsFairVisit place v) }
-    ensures told { (root : Root) → IsPlainAt root place (plain code ∷ [])
+    ensures told { (root : StorageRoot) → IsPlainAt root place (plain code ∷ [])
         → seen_names root place ≡ [] → IfOk result (λ v. IsVisit root place v) }
 {
     Ok(Visit::of_item(Some(plain_item(alloc, place, code)?)))
@@ -106,7 +106,7 @@ fn visit_plain(alloc: Global, place: Place, code: Code) -> Result<Visit, Fault>
 fn visit_listed<T: Tree>(alloc: Global, store: &mut T, place: Place) -> Result<Visit, Fault>
     ensures only { IfErr result (λ why. IsWayFault why) }
     ensures fair { IfOk result (λ v. IsFairVisit place v) }
-    ensures told { IsTrue T.told → (root : Root) → (T.state store.old).tree ≡ root
+    ensures told { IsTrue T.told → (root : StorageRoot) → (T.state store.old).tree ≡ root
         → IsListedAt root place → IsPlainAt root place (listed_dir_notes root place [])
         → Visits root (T.state store.old) (T.state store.new) place result }
 {
@@ -131,7 +131,7 @@ fn visit_object<T: Tree>(
     ensures only { IfErr result (λ why. IsWayFault why) }
     ensures fair { length folder.place ≤ 127 → IsOrdinary folder.entries.items
         → IfOk result (λ v. IsFairVisit folder.place v) }
-    ensures told { IsTrue T.told → (root : Root) → (T.state store.old).tree ≡ root
+    ensures told { IsTrue T.told → (root : StorageRoot) → (T.state store.old).tree ≡ root
         → IsDeclared root folder.place folder.entries.items declared
         → VisitsHead root (T.state store.old) (T.state store.new) folder.place result }
 {
@@ -151,7 +151,7 @@ fn visit_object<T: Tree>(
 fn visit_directory<T: Tree>(alloc: Global, store: &mut T, place: Place) -> Result<Visit, Fault>
     ensures only { IfErr result (λ why. IsWayFault why) }
     ensures fair { IfOk result (λ v. IsFairVisit place v) }
-    ensures told { IsTrue T.told → (root : Root) → (T.state store.old).tree ≡ root
+    ensures told { IsTrue T.told → (root : StorageRoot) → (T.state store.old).tree ≡ root
         → IsEntryAt root place kind.Dir → place ≢ []
         → zone root place ≡ cond (is_declared (object_declared root place))
         (inside place []) hierarchy
@@ -192,7 +192,7 @@ pub(crate) fn visit_in_hierarchy<T: Tree>(
 ) -> Result<Visit, Fault>
     ensures only { IfErr result (λ why. IsWayFault why) }
     ensures fair { IfOk result (λ v. IsFairVisit place v) }
-    ensures told { IsTrue T.told → (root : Root) → (T.state store.old).tree ≡ root
+    ensures told { IsTrue T.told → (root : StorageRoot) → (T.state store.old).tree ≡ root
         → (d : Spot) → IsMet root d None entry.now place
         → Visits root (T.state store.old) (T.state store.new) place result }
 {
@@ -244,7 +244,7 @@ pub(crate) fn visit_in_object<T: Tree>(
 ) -> Result<Visit, Fault>
     ensures only { IfErr result (λ why. IsWayFault why) }
     ensures fair { IfOk result (λ v. IsFairVisit place v) }
-    ensures told { IsTrue T.told → (root : Root) → (T.state store.old).tree ≡ root
+    ensures told { IsTrue T.told → (root : StorageRoot) → (T.state store.old).tree ≡ root
         → IsEntryAt root place entry.now.kind → (o : Spot) (t : TableOf)
         → zone root place ≡ inside o (entry.now.name ∷ []) → table_at root o ≡ Some t
         → Visits root (T.state store.old) (T.state store.new) place result }
@@ -280,7 +280,7 @@ pub(crate) fn visit_in_version<T: Tree>(
 ) -> Result<Visit, Fault>
     ensures only { IfErr result (λ why. IsWayFault why) }
     ensures fair { IfOk result (λ v. IsFairVisit place v) }
-    ensures told { IsTrue T.told → (root : Root) → (T.state store.old).tree ≡ root
+    ensures told { IsTrue T.told → (root : StorageRoot) → (T.state store.old).tree ≡ root
         → IsEntryAt root place entry.now.kind → (o : Spot) (version : Text)
         → zone root place ≡ inside o (version ∷ entry.now.name ∷ [])
         → table_at root o ≡ Some table.now
@@ -314,7 +314,7 @@ fn visit_content_directory<T: Tree>(
 ) -> Result<Visit, Fault>
     ensures only { IfErr result (λ why. IsWayFault why) }
     ensures fair { IfOk result (λ v. IsFairVisit place v) }
-    ensures told { IsTrue T.told → (root : Root) → (T.state store.old).tree ≡ root
+    ensures told { IsTrue T.told → (root : StorageRoot) → (T.state store.old).tree ≡ root
         → IsListedAt root place → (t : TableOf) (q : Spot) → content_at root place ≡ Some (t, q)
         → map named_view named.items ≡ digests_of t q
         → Visits root (T.state store.old) (T.state store.new) place result }
@@ -347,7 +347,7 @@ pub(crate) fn visit_in_content<T: Tree>(
 ) -> Result<Visit, Fault>
     ensures only { IfErr result (λ why. IsWayFault why) }
     ensures fair { IfOk result (λ v. IsFairVisit place v) }
-    ensures told { IsTrue T.told → (root : Root) → (T.state store.old).tree ≡ root
+    ensures told { IsTrue T.told → (root : StorageRoot) → (T.state store.old).tree ≡ root
         → IsEntryAt root place entry.now.kind → is_listed_zone root (zone root place) ≡ true
         → (t : TableOf) (q : Spot) → content_at root place ≡ Some (t, q)
         → map named_view named.items ≡ digests_of t q

@@ -3,7 +3,7 @@ use Rattle.std.proofs.Common.{◌≡◌, ◌≢◌, ℕ, zero, suc, ◌+◌, Lis
 use Rattle.std.specs.Io.KnownBytes.{Appends}
 use Rattle.std.proofs.KnownBytes.{Appends-nil}
 use Rattle.ocfl_tree.specs.Place.{Place}
-use Rattle.ocfl_tree.specs.Tree.{Tree}
+use Rattle.ocfl_tree.specs.StorageRoot.{StorageRoot}
 use Rattle.ocfl_tree.specs.Store.{Store}
 use Rattle.ocfl_tree.specs.declared.store.Opening.{Opening}
 use Rattle.ocfl_report.specs.Line.{Item, found}
@@ -28,16 +28,16 @@ use Rattle.ocfl_scrub.specs.declared.checking.End.TheVariants.{Ended, Stopped}
 use Rattle.ocfl_scrub.proofs.AuditsJoined.{items_append}
 use Rattle.ocfl_scrub.proofs.TakeLaws.{nothing_of}
 
-pub due_all : (root : Tree) → due root None ≡ item_places root
+pub due_all : (root : StorageRoot) → due root None ≡ item_places root
 unfolding due
 due_all root = refl
 
-pub places_of_items : (root : Tree) (os : List Opening) (ps : List Place) → places (items_at root os ps) ≡ ps
+pub places_of_items : (root : StorageRoot) (os : List Opening) (ps : List Place) → places (items_at root os ps) ≡ ps
 unfolding items_at
 places_of_items root os [] = refl
 places_of_items root os (p ∷ ps) = ap (λ qs. p ∷ qs) (places_of_items root os ps)
 
-pub take_items : (root : Tree) (os : List Opening) (n : ℕ) (ps : List Place) → take n (items_at root os ps) ≡ items_at root os (take n ps)
+pub take_items : (root : StorageRoot) (os : List Opening) (n : ℕ) (ps : List Place) → take n (items_at root os ps) ≡ items_at root os (take n ps)
 unfolding items_at
 take_items root os zero [] = refl
 take_items root os zero (p ∷ ps) = refl
@@ -51,7 +51,7 @@ nothing_front (x ∷ xs) f = absurd (let e = f.1 in cc)
 any_front : {A : Type 0} (xs ys : List A) → IsFront xs [] → IsFront xs ys
 any_front xs ys f = subst (λ zs. IsFront zs ys) (sym (nothing_front xs f)) (ys, refl)
 
-module _ {root : Tree} {s t : Store} {old new : Option (List ℕ)} {last : Option Place} {finding : Bool} where
+module _ {root : StorageRoot} {s t : Store} {old new : Option (List ℕ)} {last : Option Place} {finding : Bool} where
   pub finish_all : Finishes root s t old new None last finding → AuditsAll root s t old new last finding
   finish_all h =
       let items : items_at root h.trail (due root None) ≡ audit root (unread_of root h.trail) = sym (after_is_due root h.trail None) in
@@ -103,7 +103,7 @@ nothing_out items old last why other = record {
 }
 
 -- no walk was started
-pub unstarted : (root : Tree) (s t : Store) (old : Option (List ℕ)) (why : Fault) → IsWayFault why → GoDownFails root s t None why → AuditStops root s t old old None false why
+pub unstarted : (root : StorageRoot) (s t : Store) (old : Option (List ℕ)) (why : Fault) → IsWayFault why → GoDownFails root s t None why → AuditStops root s t old old None false why
 unfolding nothing_out
 unstarted root s t old why only g = record {
   trail = g.trail;
@@ -123,7 +123,7 @@ none_left [] n e = refl
 none_left (x ∷ xs) n e = absurd (omega (arith, e))
 
 -- what was written is the text of the audit of files that can all be read
-pub nothing_unread : (root : Tree) (s t : Store) (old new : Option (List ℕ)) (last : Option Place) (finding : Bool) (end : End) → AuditEnds root s t old new last finding end → end ≡ Ended → t.failures ≡ s.failures
+pub nothing_unread : (root : StorageRoot) (s t : Store) (old new : Option (List ℕ)) (last : Option Place) (finding : Bool) (end : End) → AuditEnds root s t old new last finding end → end ≡ Ended → t.failures ≡ s.failures
     → Appends old new (text (audit root [])) × (finding ≡ found (audit root []))
 nothing_unread root s t old new last finding Ended h e same =
     let none : unread_of root h.trail ≡ [] = none_left (unread_of root h.trail) s.failures (sym same ∙ h.audits.did.failures_are) in

@@ -2,7 +2,7 @@
 use Rattle.std.proofs.Common.{◌≡◌, ℕ, List, sym, subst, false, Bool, Some, None, Option}
 use Rattle.std.specs.Prelude.{◌||◌}
 use Rattle.ocfl_tree.specs.Place.{Place}
-use Rattle.ocfl_tree.specs.Tree.{Tree}
+use Rattle.ocfl_tree.specs.StorageRoot.{StorageRoot}
 use Rattle.ocfl_tree.specs.Store.{Store}
 use Rattle.ocfl_walk.specs.WalkCalls.{WalkFails}
 use Rattle.ocfl_item.specs.Pending.{IsPending}
@@ -19,18 +19,18 @@ use Rattle.ocfl_scrub.proofs.PassLaws.{passes_none, passes_over, passes_took, pa
 use Rattle.ocfl_scrub.proofs.LoopLaws.{IsUnderWay, next_above, GivesNext, walked_over}
 
 -- from s to t the items up to last were taken, and the walk stands there
-pub record HasTaken (root : Tree) (s t : Store) (old new : Option (List ℕ)) (walk : Walk) (last : Option Place) (finding : Bool) : Type 0 where
+pub record HasTaken (root : StorageRoot) (s t : Store) (old new : Option (List ℕ)) (walk : Walk) (last : Option Place) (finding : Bool) : Type 0 where
   pub stands : Stands root walk last
   pub passes : Passes root s t old new None last finding
 
 -- the walk begins without a call
-pub nothing_taken : {S : Type 0} (state : S → Store) (a b : S) (root : Tree) (old : Option (List ℕ)) (walk : Walk) → b ≡ a → (state a).tree ≡ root → Stands root walk None → HasTaken root (state a) (state b) old old walk None false
+pub nothing_taken : {S : Type 0} (state : S → Store) (a b : S) (root : StorageRoot) (old : Option (List ℕ)) (walk : Walk) → b ≡ a → (state a).tree ≡ root → Stands root walk None → HasTaken root (state a) (state b) old old walk None false
 nothing_taken state a b root old walk e over stands = record {
   stands = stands;
   passes = subst (λ x. Passes root (state a) (state x) old old None None false) (sym e) (passes_none root (state a) old None over);
 }
 
-module _ {root : Tree} {s t : Store} {old mid : Option (List ℕ)} {walk : Walk} {last : Option Place} {finding : Bool}
+module _ {root : StorageRoot} {s t : Store} {old mid : Option (List ℕ)} {walk : Walk} {last : Option Place} {finding : Bool}
     (way : IsUnderWay walk None last old mid finding) (h : HasTaken root s t old mid walk last finding) (u : Store) where
   module _ {o : Option Pending} (next : Walk) (gave : GivesNext root t u walk next o) where
     -- nothing is left

@@ -4,7 +4,7 @@ use Rattle.std.specs.Ordering.{is_lt}
 use Rattle.std.specs.declared.cmp.Ordering.{Ordering}
 use Rattle.std.specs.declared.cmp.Ordering.TheVariants.{Less, Equal, Greater}
 use Rattle.ocfl_tree.specs.Place.{Place, place_cmp}
-use Rattle.ocfl_tree.specs.Tree.{Tree}
+use Rattle.ocfl_tree.specs.StorageRoot.{StorageRoot}
 use Rattle.ocfl_tree.proofs.Orders.{place_cmp_total, not_below_itself}
 use Rattle.ocfl_audit.specs.Between.{IsBeyond, IsWithin, between, looked_between, read_between}
 use Rattle.ocfl_audit.proofs.BetweenLaws.{looked_on, read_on}
@@ -59,7 +59,7 @@ module _ (f : Option Place → Option Place → List Place) (joins : (from to : 
 between_self : (ps : List Place) (p : Place) → between ps (Some p) (Some p) ≡ []
 between_self ps p = filter_none (λ q. is_lt (place_cmp p q)) ps
 
-module _ (root : Tree) where
+module _ (root : StorageRoot) where
   looked_none : (p : Place) → looked_between root (Some p) (Some p) ≡ []
   unfolding looked_between
   looked_none p = between_self _ p

@@ -5,7 +5,7 @@ use Rattle.std.specs.Io.KnownBytes.{Appends}
 use Rattle.std.proofs.KnownBytes.{Appends-nil}
 use Rattle.std.proofs.lemmas.List.Quantifiers.{all_pairs_push}
 use Rattle.ocfl_tree.specs.Place.{Place}
-use Rattle.ocfl_tree.specs.Tree.{Tree}
+use Rattle.ocfl_tree.specs.StorageRoot.{StorageRoot}
 use Rattle.ocfl_tree.specs.Store.{Store}
 use Rattle.ocfl_tree.specs.declared.store.Opening.{Opening}
 use Rattle.ocfl_tree.proofs.Orders.{true_not_false}
@@ -37,33 +37,33 @@ use Rattle.ocfl_scrub.proofs.TakeLaws.{nothing_of}
 
 -- ---- the item of a place
 
-has_item : (root : Tree) (u : Unread) (p : Place) → notes root None p ≢ [] → has_lines (item_of root u p) ≡ true
+has_item : (root : StorageRoot) (u : Unread) (p : Place) → notes root None p ≢ [] → has_lines (item_of root u p) ≡ true
 has_item root u p some = (lines_from_notes root u p _).1 (λ e. some (lines_alike root (given_by u p) None p e))
 
-no_item : (root : Tree) (u : Unread) (p : Place) → notes root None p ≡ [] → has_lines (item_of root u p) ≡ false
+no_item : (root : StorageRoot) (u : Unread) (p : Place) → notes root None p ≡ [] → has_lines (item_of root u p) ≡ false
 no_item root u p none = ap (λ ns. not (is_empty (lines_at p ns))) (lines_alike root None (given_by u p) p none)
 
-one_item : (root : Tree) (trail : List Opening) (p : Place) → items_at root trail (p ∷ []) ≡ item_of root (unread_of root trail) p ∷ []
+one_item : (root : StorageRoot) (trail : List Opening) (p : Place) → items_at root trail (p ∷ []) ≡ item_of root (unread_of root trail) p ∷ []
 unfolding items_at
 one_item root trail p = refl
 
 -- where the place has lines, its item is the one
-some_item : (root : Tree) (trail : List Opening) (p : Place) → notes root None p ≢ [] → checked_item root trail p ≡ items_at root trail (p ∷ [])
+some_item : (root : StorageRoot) (trail : List Opening) (p : Place) → notes root None p ≢ [] → checked_item root trail p ≡ items_at root trail (p ∷ [])
 some_item root trail p some = ap (λ b. on b (item_of root (unread_of root trail) p)) (has_item root (unread_of root trail) p some) ∙ sym (one_item root trail p)
 
-none_item : (root : Tree) (trail : List Opening) (p : Place) → notes root None p ≡ [] → checked_item root trail p ≡ []
+none_item : (root : StorageRoot) (trail : List Opening) (p : Place) → notes root None p ≡ [] → checked_item root trail p ≡ []
 none_item root trail p none = ap (λ b. on b (item_of root (unread_of root trail) p)) (no_item root (unread_of root trail) p none)
 
-items_alike : (root : Tree) (p : Place) (a b : List Opening) → unread_of root a ≡ unread_of root b → items_at root a (p ∷ []) ≡ items_at root b (p ∷ [])
+items_alike : (root : StorageRoot) (p : Place) (a b : List Opening) → unread_of root a ≡ unread_of root b → items_at root a (p ∷ []) ≡ items_at root b (p ∷ [])
 unfolding items_at
 items_alike root p a b e = ap (λ v. item_of root v p ∷ []) e
 
 -- what was read on the way down has no part in it
-joined_item : (root : Tree) (front trail : List Opening) (p : Place) → content_trail root front ≡ [] → notes root None p ≢ [] → checked_item root (front ++ trail) p ≡ items_at root trail (p ∷ [])
+joined_item : (root : StorageRoot) (front trail : List Opening) (p : Place) → content_trail root front ≡ [] → notes root None p ≢ [] → checked_item root (front ++ trail) p ≡ items_at root trail (p ∷ [])
 joined_item root front trail p meta some = some_item root (front ++ trail) p some ∙ items_alike root p (front ++ trail) trail (unread_behind root front trail meta)
 
 -- nothing is hashed where there are no lines
-lines_free : (root : Tree) (p : Place) → notes root None p ≡ [] → hashed_among root (p ∷ []) ≡ []
+lines_free : (root : StorageRoot) (p : Place) → notes root None p ≡ [] → hashed_among root (p ∷ []) ≡ []
 unfolding hashed_among
 lines_free root p none = by (is_hashed root p) refl
   where
@@ -74,21 +74,21 @@ lines_free root p none = by (is_hashed root p) refl
 -- ---- each file once
 
 -- what was opened is nothing, or the file of a hashed place
-abbrev IsOne : Tree → Place → List Opening → Type 0
+abbrev IsOne : StorageRoot → Place → List Opening → Type 0
 IsOne root p trail = (trail ≡ []) ⊎ ((x : Opening) × ((trail ≡ x ∷ []) × ((x.place ≡ p) × (is_hashed root p ≡ true))))
 
 filled : {A : Type 0} (x : A) (xs : List A) → x ∷ xs ≢ []
 filled x xs e = cc
 
-hashed_places : (root : Tree) (p : Place) (b : Bool) → is_hashed root p ≡ b → hashed_among root (p ∷ []) ≡ cond b (p ∷ []) []
+hashed_places : (root : StorageRoot) (p : Place) (b : Bool) → is_hashed root p ≡ b → hashed_among root (p ∷ []) ≡ cond b (p ∷ []) []
 unfolding hashed_among
 hashed_places root p b h = ap (λ x. cond x (p ∷ []) []) h
 
-alone : (root : Tree) (p : Place) (x : Opening) (trail : List Opening) → places_of (x ∷ trail) ≡ p ∷ [] → is_hashed root p ≡ true → IsOne root p (x ∷ trail)
+alone : (root : StorageRoot) (p : Place) (x : Opening) (trail : List Opening) → places_of (x ∷ trail) ≡ p ∷ [] → is_hashed root p ≡ true → IsOne root p (x ∷ trail)
 alone root p x [] h e = inr (x, (refl, (cc, e)))
 alone root p x (y ∷ trail) h e = absurd cc
 
-one_or_none : (root : Tree) (p : Place) (trail : List Opening) → places_of trail ≡ hashed_among root (p ∷ []) → IsOne root p trail
+one_or_none : (root : StorageRoot) (p : Place) (trail : List Opening) → places_of trail ≡ hashed_among root (p ∷ []) → IsOne root p trail
 one_or_none root p [] h = inl refl
 one_or_none root p (x ∷ trail) h = by (is_hashed root p) refl
   where
@@ -101,13 +101,13 @@ none_opened [] h = refl
 none_opened (x ∷ trail) h = absurd cc
 
 -- of a front of one place
-one_of_front : (root : Tree) (p : Place) (begun rest : List Place) (trail : List Opening) → p ∷ [] ≡ begun ++ rest → places_of trail ≡ hashed_among root begun → IsOne root p trail
+one_of_front : (root : StorageRoot) (p : Place) (begun rest : List Place) (trail : List Opening) → p ∷ [] ≡ begun ++ rest → places_of trail ≡ hashed_among root begun → IsOne root p trail
 one_of_front root p [] rest trail e h = inl (none_opened trail (h ∙ nothing_hashed root))
 one_of_front root p (q ∷ []) rest trail e h = one_or_none root p trail (h ∙ ap (λ x. hashed_among root (x ∷ [])) (let f : q ≡ p = cc in f))
 one_of_front root p (q ∷ r ∷ begun) rest trail e h = absurd cc
 
 -- a content file behind metadata is another file
-then_one : (root : Tree) (p : Place) (front trail : List Opening) → content_trail root front ≡ [] → AreOnce front → IsOne root p trail → AreOnce (front ++ trail)
+then_one : (root : StorageRoot) (p : Place) (front trail : List Opening) → content_trail root front ≡ [] → AreOnce front → IsOne root p trail → AreOnce (front ++ trail)
 then_one root p front trail meta once (inl e) = subst AreOnce (sym (append-nil front) ∙ ap (λ os. front ++ os) (sym e)) once
 then_one root p front trail meta once (inr k) =
     subst (λ os. AreOnce (front ++ os)) (sym k.1.0)
@@ -115,7 +115,7 @@ then_one root p front trail meta once (inr k) =
 
 -- ---- the way down, and then the item
 
-module _ (root : Tree) (p : Place) where
+module _ (root : StorageRoot) (p : Place) where
   -- the place of the lines that were found
   pub place_there : (o : Option Pending) (q : Pending) → o ≡ Some q → IsItemAt root p o → (notes root None p ≢ []) × IsPending root q × (q.place ≡ p)
   place_there o q e h =
@@ -197,14 +197,14 @@ module _ (root : Tree) (p : Place) where
 
 -- ---- at the ends that a call gives
 
-pub check_stopped : (root : Tree) (s t : Store) (old new : Option (List ℕ)) (p : Place) (item finding : Bool) (why : Fault) (end : End) → end ≡ Stopped why → CheckStops root s t old new p why → CheckEnds root s t old new p item finding end
+pub check_stopped : (root : StorageRoot) (s t : Store) (old new : Option (List ℕ)) (p : Place) (item finding : Bool) (why : Fault) (end : End) → end ≡ Stopped why → CheckStops root s t old new p why → CheckEnds root s t old new p item finding end
 check_stopped root s t old new p item finding why end e w = subst (λ x. CheckEnds root s t old new p item finding x) (sym e) w
 
-pub check_took : (root : Tree) (s t u : Store) (old new : Option (List ℕ)) (p q : Place) (cost : ℕ) (finding : Bool) → q ≡ p → GoesDown root s t (Some p) → notes root None p ≢ [] → Takes root t u old new q cost finding
+pub check_took : (root : StorageRoot) (s t u : Store) (old new : Option (List ℕ)) (p q : Place) (cost : ℕ) (finding : Bool) → q ≡ p → GoesDown root s t (Some p) → notes root None p ≢ [] → Takes root t u old new q cost finding
     → Checks root s u old new p true finding
 check_took root s t u old new p q cost finding e g some k = down_and_taken root p s t u old new g some cost finding (subst (λ x. Takes root t u old new x cost finding) e k)
 
-pub check_missed : (root : Tree) (s t u : Store) (old new : Option (List ℕ)) (p q : Place) (item finding : Bool) (why : Fault) (end : End) → end ≡ Stopped why → q ≡ p → GoesDown root s t (Some p) → notes root None p ≢ []
+pub check_missed : (root : StorageRoot) (s t u : Store) (old new : Option (List ℕ)) (p q : Place) (item finding : Bool) (why : Fault) (end : End) → end ≡ Stopped why → q ≡ p → GoesDown root s t (Some p) → notes root None p ≢ []
     → Misses root t u old new q why → CheckEnds root s u old new p item finding end
 check_missed root s t u old new p q item finding why end f e g some k =
     check_stopped root s u old new p item finding why end f (down_and_missed root p s t u old new g some why (subst (λ x. Misses root t u old new x why) e k))

@@ -3,7 +3,7 @@ use Rattle.std.proofs.Common.{◌≡◌, ℕ, zero, suc, ◌+◌, ◌<◌, ◌�
 use Rattle.std.proofs.lemmas.Bool.{eqb-false, lt-ltb}
 use Rattle.std.specs.Prelude.{cond, ◌==◌, ◌||◌, ◌&&◌, nat_lt}
 use Rattle.ocfl_tree.specs.Place.{Place}
-use Rattle.ocfl_tree.specs.Tree.{Tree, Leaf, file, dir, other}
+use Rattle.ocfl_tree.specs.StorageRoot.{StorageRoot, Leaf, file, dir, other}
 use Rattle.ocfl_report.specs.Line.{Item}
 use Rattle.ocfl_inventory.specs.Table.{Named}
 use Rattle.ocfl_audit.specs.Zone.{seen}
@@ -136,13 +136,13 @@ cost_is (n ∷ ns) (Some g) (Some dir) = refl
 cost_is (n ∷ ns) (Some g) (Some other) = refl
 
 -- a hashed item costs something, whatever could be read, and another nothing
-cost_read_or_not : (root : Tree) (u : Option ℕ) (p : Place) → is_hashed root p ≡ nat_lt 0 (cost root u p)
+cost_read_or_not : (root : StorageRoot) (u : Option ℕ) (p : Place) → is_hashed root p ≡ nat_lt 0 (cost root u p)
 cost_read_or_not root u p = cost_is (named_at root p) u (seen root p)
 
-pub hashed_costs : (root : Tree) (u : Option ℕ) (p : Place) → is_hashed root p ≡ true → 0 < cost root u p
+pub hashed_costs : (root : StorageRoot) (u : Option ℕ) (p : Place) → is_hashed root p ≡ true → 0 < cost root u p
 hashed_costs root u p h = ltb-true 0 (cost root u p) (sym (cost_read_or_not root u p) ∙ h)
 
-pub free_costs : (root : Tree) (u : Option ℕ) (p : Place) → is_hashed root p ≡ false → cost root u p ≡ 0
+pub free_costs : (root : StorageRoot) (u : Option ℕ) (p : Place) → is_hashed root p ≡ false → cost root u p ≡ 0
 free_costs root u p h = let l : cost root u p ≤ 0 = ltb-false 0 (cost root u p) (sym (cost_read_or_not root u p) ∙ h) in omega (arith, l)
 
 -- ---- by how much what was spent passes the budget

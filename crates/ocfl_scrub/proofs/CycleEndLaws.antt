@@ -3,7 +3,7 @@ use Rattle.std.proofs.Common.{◌≡◌, ℕ, zero, suc, ◌+◌, ◌<◌, ◌�
 use Rattle.std.proofs.lemmas.List.{length-map}
 use Rattle.std.specs.Io.KnownBytes.{Appends}
 use Rattle.ocfl_tree.specs.Place.{Place}
-use Rattle.ocfl_tree.specs.Tree.{Tree}
+use Rattle.ocfl_tree.specs.StorageRoot.{StorageRoot}
 use Rattle.ocfl_tree.specs.Store.{Store}
 use Rattle.ocfl_tree.specs.declared.store.Opening.{Opening}
 use Rattle.ocfl_report.specs.Line.{Item}
@@ -34,17 +34,17 @@ nothing : {A : Type 0} (xs : List A) → is_empty xs ≡ true → xs ≡ []
 nothing [] e = refl
 nothing (x ∷ xs) e = absurd cc
 
-none_due : (root : Tree) (os : List Opening) (ps qs : List Place) → items_at root os ps ≡ items_at root os (ps ++ qs) → is_empty qs ≡ true
+none_due : (root : StorageRoot) (os : List Opening) (ps qs : List Place) → items_at root os ps ≡ items_at root os (ps ++ qs) → is_empty qs ≡ true
 none_due root os ps [] e = refl
 none_due root os ps (q ∷ qs) e =
     let n : length ps ≡ length (ps ++ q ∷ qs) = ap length (sym (places_of_items root os ps) ∙ ap places e ∙ places_of_items root os (ps ++ q ∷ qs)) in
     let m = length-append ps (q ∷ qs) in
     absurd (omega (arith, n, m))
 
-inventory_count : (root : Tree) → length (inventories root) ≡ length (read_between root None None)
+inventory_count : (root : StorageRoot) → length (inventories root) ≡ length (read_between root None None)
 inventory_count root = ap length (inventories_read root) ∙ length-map (read_between root None None) (λ o. o ++ inventory_name ∷ [])
 
-few_inventories : (root : Tree) (heads : List Place) (count : ℕ) → ReadFew root None heads count → 1 ≤ count → length heads < length (inventories root) + count
+few_inventories : (root : StorageRoot) (heads : List Place) (count : ℕ) → ReadFew root None heads count → 1 ≤ count → length heads < length (inventories root) + count
 few_inventories root heads count h some = let m = h.some some in let n = inventory_count root in omega (arith, m, n)
 
 -- ---- sums of budgets
@@ -60,7 +60,7 @@ sum_front (suc k) (b ∷ bs) = let m = sum_front k bs in omega (arith, m)
 
 -- ---- a cycle
 
-module _ (root : Tree) (s t : Store) (old new : Option (List ℕ)) (last : Option Place) (limits : List Limits) (spent files : ℕ) (finding : Bool) (count : ℕ) where
+module _ (root : StorageRoot) (s t : Store) (old new : Option (List ℕ)) (last : Option Place) (limits : List Limits) (spent files : ℕ) (finding : Bool) (count : ℕ) where
   whole_is : (os : List Opening) → audit_of root os ≡ items_at root os (due root None)
   whole_is os = after_is_due root os None
 
@@ -145,7 +145,7 @@ module _ (root : Tree) (s t : Store) (old new : Option (List ℕ)) (last : Optio
   headline_ends Spent h same = headline false h same
   headline_ends (Stopped why) h same = tt
 
-pub headline_of : (root : Tree) (s t : Store) (old new : Option (List ℕ)) (limits : List Limits) (c : Cursor) (finding : Bool) (end : CycleStatus) (count : ℕ) → count ≡ c.runs → CyclesTo root s t old new limits c finding end → t.failures ≡ s.failures
+pub headline_of : (root : StorageRoot) (s t : Store) (old new : Option (List ℕ)) (limits : List Limits) (c : Cursor) (finding : Bool) (end : CycleStatus) (count : ℕ) → count ≡ c.runs → CyclesTo root s t old new limits c finding end → t.failures ≡ s.failures
     → HeadlineOf root s t old new limits count end
 headline_of root s t old new limits c finding end count is h same =
     subst (λ n. HeadlineOf root s t old new limits n end) (sym is) (headline_ends root s t old new h.last limits c.spent c.files finding c.runs end h.cycle same)

@@ -2,7 +2,7 @@
 use Rattle.std.proofs.Common.{◌≡◌, ◌≢◌, ◌<◌, ◌≤◌, ℕ, ◌+◌, List, [], ◌∷◌, refl, sym, ◌∙◌, ap, subst, Bool, Some, None, Option, map, drop, length, get_or}
 use Rattle.std.proofs.Math.ListN.{drop_of_length-le}
 use Rattle.ocfl_tree.specs.Place.{Place}
-use Rattle.ocfl_tree.specs.Tree.{Tree}
+use Rattle.ocfl_tree.specs.StorageRoot.{StorageRoot}
 use Rattle.ocfl_tree.specs.Store.{Store}
 use Rattle.ocfl_tree.proofs.Lists.{drop_item}
 use Rattle.ocfl_audit.specs.Runs.{Limits}
@@ -83,7 +83,7 @@ module _ (c now reached : Cursor) (cost opened : ℕ) (end : RunStatus) (last : 
 pub lines_said : (old new : Option (List ℕ)) (finding reported : Bool) → reported ≡ finding → WritesLines old new finding → WritesLines old new reported
 lines_said old new finding reported e h = subst (WritesLines old new) (sym e) h
 
-pub cycle_said : (root : Tree) (s t : Store) (old new : Option (List ℕ)) (all : List Limits) (c d : Cursor) (finding reported : Bool) (end last_end : CycleStatus) → d ≡ c → reported ≡ finding → last_end ≡ end
+pub cycle_said : (root : StorageRoot) (s t : Store) (old new : Option (List ℕ)) (all : List Limits) (c d : Cursor) (finding reported : Bool) (end last_end : CycleStatus) → d ≡ c → reported ≡ finding → last_end ≡ end
     → CyclesTo root s t old new all c finding end → CyclesTo root s t old new all d reported last_end
 cycle_said root s t old new all c d finding reported end last_end e f g h =
     subst (CyclesTo root s t old new all d reported) (sym g) (subst (λ v. CyclesTo root s t old new all d v end) (sym f) (subst (λ x. CyclesTo root s t old new all x finding end) (sym e) h))

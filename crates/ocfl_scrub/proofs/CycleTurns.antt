@@ -2,7 +2,7 @@
 use Rattle.std.proofs.Common.{◌≡◌, ℕ, ◌+◌, List, [], ◌∷◌, refl, sym, ◌∙◌, ap, subst, true, false, Bool, Some, None, Option, arith}
 use Rattle.std.specs.Prelude.{◌||◌}
 use Rattle.ocfl_tree.specs.Place.{Place}
-use Rattle.ocfl_tree.specs.Tree.{Tree}
+use Rattle.ocfl_tree.specs.StorageRoot.{StorageRoot}
 use Rattle.ocfl_tree.specs.Store.{Store}
 use Rattle.ocfl_audit.specs.Lines.{is_empty}
 use Rattle.ocfl_audit.specs.Due.{due}
@@ -25,14 +25,14 @@ use Rattle.ocfl_scrub.proofs.RunsJoined.{Parts, PartsStop, PartsEnd, parts_none,
 use Rattle.ocfl_scrub.proofs.CycleEndLaws.{cycle_ends}
 
 -- where a cycle of all limits has come: whatever the runs of the limits that are left do from here, with them the cycle is whole
-pub record GoesOn (root : Tree) (s t : Store) (old mid : Option (List ℕ)) (last : Option Place) (limits all : List Limits) (spent files : ℕ) (finding : Bool) (count : ℕ) : Type 0 where
+pub record GoesOn (root : StorageRoot) (s t : Store) (old mid : Option (List ℕ)) (last : Option Place) (limits all : List Limits) (spent files : ℕ) (finding : Bool) (count : ℕ) : Type 0 where
   pub over : t.tree ≡ root
   pub some : is_empty (due root last) ≡ false
   pub go : (u : Store) (new : Option (List ℕ)) (last' : Option Place) (spent' files' : ℕ) (finding' : Bool) (n : ℕ) (end : CycleStatus) → PartsEnd root t u mid new last last' limits spent' files' finding' n end
       → PartsEnd root s u old new None last' all (spent + spent') (files + files') (finding || finding') (count + n) end
 
 -- the same of a cursor
-pub record CycleGoes (root : Tree) (s t : Store) (old mid : Option (List ℕ)) (limits all : List Limits) (c : Cursor) (finding : Bool) : Type 0 where
+pub record CycleGoes (root : StorageRoot) (s t : Store) (old mid : Option (List ℕ)) (limits all : List Limits) (c : Cursor) (finding : Bool) : Type 0 where
   pub last : Option Place
   pub cursor_is : c ≡ cycle_cursor c.runs c.spent c.files (state_at last)
   pub goes : GoesOn root s t old mid last limits all c.spent c.files finding c.runs
@@ -53,7 +53,7 @@ or_assoc true b c = refl
 or_assoc false b c = refl
 
 -- the figures of some runs, said another way
-module _ (root : Tree) (s t : Store) (old new : Option (List ℕ)) (last : Option Place) (all : List Limits) where
+module _ (root : StorageRoot) (s t : Store) (old new : Option (List ℕ)) (last : Option Place) (all : List Limits) where
   figures : (end : CycleStatus) (a a' b b' n n' : ℕ) (v v' : Bool) → a ≡ a' → b ≡ b' → v ≡ v' → n ≡ n' → PartsEnd root s t old new None last all a b v n end → PartsEnd root s t old new None last all a' b' v' n' end
   figures end a a' b b' n n' v v' e f g h k =
       subst (λ m. PartsEnd root s t old new None last all a' b' v' m end) h
@@ -63,14 +63,14 @@ module _ (root : Tree) (s t : Store) (old new : Option (List ℕ)) (last : Optio
 
 -- ---- a cycle begins, goes on and ends
 
-goes_start : (root : Tree) (s : Store) (old : Option (List ℕ)) (all : List Limits) → s.tree ≡ root → GoesOn root s s old old None all all 0 0 false 0
+goes_start : (root : StorageRoot) (s : Store) (old : Option (List ℕ)) (all : List Limits) → s.tree ≡ root → GoesOn root s s old old None all all 0 0 false 0
 goes_start root s old all over = record {
   over = over;
   some = root_is_due root;
   go = λ u new last' spent' files' finding' n end k. figures root s u old new last' all end _ _ _ _ _ _ _ _ (more_none spent') (more_none files') refl (more_none n) k;
 }
 
-module _ (root : Tree) (s t u : Store) (old mid new : Option (List ℕ)) (last next_last : Option Place) (l : Limits) (ls all : List Limits) (spent files cost opened : ℕ) (finding more : Bool) (count : ℕ) (g : GoesOn root s t old mid last (l ∷ ls) all spent files finding count) where
+module _ (root : StorageRoot) (s t u : Store) (old mid new : Option (List ℕ)) (last next_last : Option Place) (l : Limits) (ls all : List Limits) (spent files cost opened : ℕ) (finding more : Bool) (count : ℕ) (g : GoesOn root s t old mid last (l ∷ ls) all spent files finding count) where
   goes_run : (next : Place) → Runs root t u mid new last next_last l cost opened more (Some next) → GoesOn root s u old new next_last ls all (spent + cost) (files + opened) (finding || more) (count + 1)
   goes_run next h =
       let turn = turn_of root t u mid new last next_last l cost opened more (Some next) h in
@@ -91,7 +91,7 @@ module _ (root : Tree) (s t u : Store) (old mid new : Option (List ℕ)) (last n
 
 -- ---- the same, of cursors
 
-module _ (root : Tree) (s t : Store) (old new : Option (List ℕ)) (all : List Limits) where
+module _ (root : StorageRoot) (s t : Store) (old new : Option (List ℕ)) (all : List Limits) where
   cycles_to : (last : Option Place) (count spent files : ℕ) (finding : Bool) (end : CycleStatus) → PartsEnd root s t old new None last all spent files finding count end
       → CyclesTo root s t old new all (cycle_cursor count spent files (cycle_state end last)) finding end
   cycles_to last count spent files finding end k = record { last = last; cycle = cycle_ends root s t old new last all spent files finding count end k; cursor_is = refl }
@@ -104,11 +104,11 @@ begun_there : (c : Cursor) (last : Option Place) → begun_in c (state_at last) 
 begun_there c None = refl
 begun_there c (Some p) = refl
 
-pub cycle_begins : (root : Tree) (s : Store) (old : Option (List ℕ)) (all : List Limits) (c : Cursor) → c ≡ new_cursor → s.tree ≡ root → CycleGoes root s s old old all all c false
+pub cycle_begins : (root : StorageRoot) (s : Store) (old : Option (List ℕ)) (all : List Limits) (c : Cursor) → c ≡ new_cursor → s.tree ≡ root → CycleGoes root s s old old all all c false
 cycle_begins root s old all c is over =
     subst (λ x. CycleGoes root s s old old all all x false) (sym is) (record { last = None; cursor_is = refl; goes = goes_start root s old all over })
 
-module _ (root : Tree) (s t : Store) (old mid : Option (List ℕ)) (limits all : List Limits) (c : Cursor) (finding : Bool) (g : CycleGoes root s t old mid limits all c finding) where
+module _ (root : StorageRoot) (s t : Store) (old mid : Option (List ℕ)) (limits all : List Limits) (c : Cursor) (finding : Bool) (g : CycleGoes root s t old mid limits all c finding) where
   pub goes_over : t.tree ≡ root
   goes_over = g.goes.over
 

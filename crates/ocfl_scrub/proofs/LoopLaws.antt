@@ -2,7 +2,7 @@
 use Rattle.std.proofs.Common.{◌≡◌, ℕ, List, sym, ◌∙◌, ap, subst, false, Bool, Some, Option}
 use Rattle.std.specs.Prelude.{◌||◌}
 use Rattle.ocfl_tree.specs.Place.{Place}
-use Rattle.ocfl_tree.specs.Tree.{Tree}
+use Rattle.ocfl_tree.specs.StorageRoot.{StorageRoot}
 use Rattle.ocfl_tree.specs.Store.{Store}
 use Rattle.ocfl_audit.specs.Between.{IsBeyond}
 use Rattle.ocfl_walk.specs.WalkCalls.{Walks}
@@ -50,8 +50,8 @@ module _ {walk : Walk} {from last : Option Place} {old mid : Option (List ℕ)} 
 -- ---- on a store that tells its tree
 
 -- what a walk gives that stands over the tree
-abbrev pub GivesNext : Tree → Store → Store → Walk → Walk → Option Pending → Type 0
+abbrev pub GivesNext : StorageRoot → Store → Store → Walk → Walk → Option Pending → Type 0
 GivesNext root t u walk next o = t.tree ≡ root → IsLive walk → (last : Option Place) → Stands root walk last → Gives root t u last next o
 
-pub walked_over : {root : Tree} {s t : Store} {from to : Option Place} → Walks root s t from to → t.tree ≡ root
+pub walked_over : {root : StorageRoot} {s t : Store} {from to : Option Place} → Walks root s t from to → t.tree ≡ root
 walked_over w = w.audits.did.tree ∙ w.audits.over

@@ -4,7 +4,7 @@ use Rattle.std.specs.Prelude.{nat_lt}
 use Rattle.std.specs.Ordering.{is_lt}
 use Rattle.ocfl_tree.specs.Place.{Place, place_cmp}
 use Rattle.ocfl_tree.specs.Ascending.{IsAmong, IsAscending}
-use Rattle.ocfl_tree.specs.Tree.{Tree, dir}
+use Rattle.ocfl_tree.specs.StorageRoot.{StorageRoot, dir}
 use Rattle.ocfl_tree.proofs.Orders.{true_not_false, before_each, among_filter, among_from_filter}
 use Rattle.ocfl_report.specs.Line.{Note}
 use Rattle.ocfl_inventory.specs.Table.{Named}
@@ -27,7 +27,7 @@ clean_some : (ns : List Note) → or_clean ns ≢ []
 clean_some [] e = cc
 clean_some (n ∷ ns) e = cc
 
-root_some : (root : Tree) (d : Declared) → root_notes_by root d ≢ []
+root_some : (root : StorageRoot) (d : Declared) → root_notes_by root d ≢ []
 root_some root undeclared e = cc
 root_some root several e = cc
 root_some root (unknown t) e = cc
@@ -38,11 +38,11 @@ some_among [] p i = absurd i
 some_among (q ∷ ps) p i = refl
 
 -- so an item is due at the start
-pub root_is_due : (root : Tree) → is_empty (due root None) ≡ false
+pub root_is_due : (root : StorageRoot) → is_empty (due root None) ≡ false
 unfolding due
 root_is_due root = some_among (item_places root) [] (item_among root [] (root_some root (root_declared root)))
 
-object_lines : (root : Tree) (o : Place) → HasInventory root o → notes root None o ≢ []
+object_lines : (root : StorageRoot) (o : Place) → HasInventory root o → notes root None o ≢ []
 object_lines root [] h = absurd (h.object.below_root refl)
 object_lines root (n ∷ p) h =
     let whole : zone root (n ∷ p) ≡ inside (n ∷ p) [] = (object_by_zone root (n ∷ p)).0 h.object in
@@ -53,23 +53,23 @@ directory_free : (ns : List Named) → cost_of ns None (Some dir) ≡ 0
 directory_free [] = refl
 directory_free (n ∷ ns) = refl
 
-object_not_hashed : (root : Tree) (o : Place) → HasInventory root o → is_hashed root o ≡ true → ⊥
+object_not_hashed : (root : StorageRoot) (o : Place) → HasInventory root o → is_hashed root o ≡ true → ⊥
 object_not_hashed root o h e =
     true_not_false (sym e ∙ ap (λ leaf. nat_lt 0 (cost_of (named_at root o) None leaf)) (object_seen root o h) ∙ ap (nat_lt 0) (directory_free (named_at root o)))
 
 -- ---- from the last item to the next
 
-due_among : (root : Tree) (last : Option Place) (p : Place) → IsAmong (item_places root) p → IsBeyond last p → IsAmong (due root last) p
+due_among : (root : StorageRoot) (last : Option Place) (p : Place) → IsAmong (item_places root) p → IsBeyond last p → IsAmong (due root last) p
 unfolding due
 due_among root None p i b = i
 due_among root (Some a) p i b = among_filter (λ q. is_lt (place_cmp a q)) (item_places root) p i (ap is_lt b)
 
-due_beyond : (root : Tree) (last : Option Place) (p : Place) → IsAmong (due root last) p → IsBeyond last p
+due_beyond : (root : StorageRoot) (last : Option Place) (p : Place) → IsAmong (due root last) p → IsBeyond last p
 unfolding due
 due_beyond root None p i = tt
 due_beyond root (Some a) p i = less_from (place_cmp a p) (among_from_filter (λ q. is_lt (place_cmp a q)) (item_places root) p i).1
 
-module _ (root : Tree) (last : Option Place) (next : Place) (rest : List Place) (least : due root last ≡ next ∷ rest) (hashed : is_hashed root next ≡ true) where
+module _ (root : StorageRoot) (last : Option Place) (next : Place) (rest : List Place) (least : due root last ≡ next ∷ rest) (hashed : is_hashed root next ≡ true) where
   no_object : (o : Place) → IsBeyond last o → is_lt (place_cmp next o) ≡ false → HasInventory root o → ⊥
   no_object o b w h = by (subst (λ ps. IsAmong ps o) least (due_among root last o (item_among root o (object_lines root o h)) b))
     where

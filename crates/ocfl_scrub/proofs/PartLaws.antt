@@ -2,7 +2,7 @@
 use Rattle.std.proofs.Common.{◌≡◌, ℕ, suc, ◌+◌, ◌<◌, List, [], ◌∷◌, refl, sym, ◌∙◌, ap, subst, true, false, Bool, take, drop, arith, eqb-true}
 use Rattle.std.specs.Prelude.{cond, ◌==◌, ◌||◌, ◌&&◌, nat_lt}
 use Rattle.ocfl_tree.specs.Place.{Place}
-use Rattle.ocfl_tree.specs.Tree.{Tree}
+use Rattle.ocfl_tree.specs.StorageRoot.{StorageRoot}
 use Rattle.ocfl_tree.specs.declared.store.Opening.{Opening}
 use Rattle.ocfl_tree.proofs.Orders.{true_not_false}
 use Rattle.ocfl_report.specs.Line.{Item}
@@ -57,7 +57,7 @@ module _ (l : Limits) where
 -- ---- whatever could be read
 
 -- what is not paid for is a hashed file
-pub stop_hashed : (root : Tree) (os : List Opening) (l : Limits) (s f : ℕ) (p : Place) (ps : List Place) → IsStop l s f (items_at root os (p ∷ ps)) → is_hashed root p ≡ true
+pub stop_hashed : (root : StorageRoot) (os : List Opening) (l : Limits) (s f : ℕ) (p : Place) (ps : List Place) → IsStop l s f (items_at root os (p ∷ ps)) → is_hashed root p ≡ true
 unfolding items_at
 stop_hashed root os l s f p ps h = by (is_hashed root p) refl
   where
@@ -75,7 +75,7 @@ some_cost c h = by (c == 0) refl
 same_test : (l : Limits) (s f c d : ℕ) → 0 < c → 0 < d → may_take l s f c ≡ may_take l s f d
 same_test l s f c d h k = ap (λ b. b || (nat_lt s l.budget && nat_lt f l.files)) (some_cost c h ∙ sym (some_cost d k))
 
-pub stop_alike : (root : Tree) (os os' : List Opening) (l : Limits) (s f : ℕ) (ps : List Place) → IsStop l s f (items_at root os ps) → IsStop l s f (items_at root os' ps)
+pub stop_alike : (root : StorageRoot) (os os' : List Opening) (l : Limits) (s f : ℕ) (ps : List Place) → IsStop l s f (items_at root os ps) → IsStop l s f (items_at root os' ps)
 unfolding items_at
 stop_alike root os os' l s f [] h = tt
 stop_alike root os os' l s f (p ∷ ps) h =

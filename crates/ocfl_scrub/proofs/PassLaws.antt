@@ -7,7 +7,7 @@ use Rattle.std.specs.Io.KnownBytes.{Appends}
 use Rattle.std.proofs.KnownBytes.{Appends-nil, Appends-trans}
 use Rattle.ocfl_tree.specs.Place.{Place, place_cmp}
 use Rattle.ocfl_tree.specs.Ascending.{ascending, IsAscending}
-use Rattle.ocfl_tree.specs.Tree.{Tree}
+use Rattle.ocfl_tree.specs.StorageRoot.{StorageRoot}
 use Rattle.ocfl_tree.specs.Store.{Store}
 use Rattle.ocfl_tree.specs.declared.store.Opening.{Opening}
 use Rattle.ocfl_tree.proofs.Orders.{place_cmp_total, ascends_filter, ascends_ascending}
@@ -59,16 +59,16 @@ lines_then old mid new a b either h k e =
 
 -- ---- what is due
 
-items_ascend : (root : Tree) → IsAscending place_cmp (item_places root)
+items_ascend : (root : StorageRoot) → IsAscending place_cmp (item_places root)
 unfolding item_places
 items_ascend root = ascends_filter place_cmp (λ p. not (is_empty (notes root None p))) (ascending place_cmp (candidates root)) (ascends_ascending place_cmp_total (candidates root))
 
-pub due_ascends : (root : Tree) (last : Option Place) → IsAscending place_cmp (due root last)
+pub due_ascends : (root : StorageRoot) (last : Option Place) → IsAscending place_cmp (due root last)
 unfolding due
 due_ascends root None = items_ascend root
 due_ascends root (Some p) = ascends_filter place_cmp (λ q. is_lt (place_cmp p q)) (item_places root) (items_ascend root)
 
-pub front_ascends : (root : Tree) (from : Option Place) (ps qs rest : List Place) → due root from ≡ ps ++ (qs ++ rest) → IsAscending place_cmp (ps ++ qs)
+pub front_ascends : (root : StorageRoot) (from : Option Place) (ps qs rest : List Place) → due root from ≡ ps ++ (qs ++ rest) → IsAscending place_cmp (ps ++ qs)
 front_ascends root from ps qs rest e =
     ascends_left place_cmp (ps ++ qs) rest (subst (IsAscending place_cmp) (e ∙ sym (append_assoc ps qs rest)) (due_ascends root from))
 
@@ -76,7 +76,7 @@ pub last_append : (from : Option Place) (ps : List Place) (p : Place) → last_o
 last_append from [] p = refl
 last_append from (q ∷ ps) p = last_append (Some q) ps p
 
-pub no_items : (root : Tree) (os : List Opening) → items_at root os [] ≡ []
+pub no_items : (root : StorageRoot) (os : List Opening) → items_at root os [] ≡ []
 unfolding items_at
 no_items root os = refl
 
@@ -86,12 +86,12 @@ take_nothing (x ∷ xs) = refl
 
 -- ---- a walk to a place, and then what was done there
 
-module _ (root : Tree) (p : Place) (w : List Opening) (meta : content_trail root w ≡ hashed_among root []) where
+module _ (root : StorageRoot) (p : Place) (w : List Opening) (meta : content_trail root w ≡ hashed_among root []) where
   -- a walk has no part in the items
   pub walked_items : (os : List Opening) → items_at root (w ++ os) (p ∷ []) ≡ items_at root os (p ∷ [])
   walked_items os = items_behind root w os [] (p ∷ []) (tt, tt) meta
 
-module _ (root : Tree) (t u v : Store) (last to : Option Place) (w : Walks root t u last to) where
+module _ (root : StorageRoot) (t u v : Store) (last to : Option Place) (w : Walks root t u last to) where
   walk_then : (qs : List Place) (os : List Opening) → Audits root u v qs [] [] os → Audits root t v qs (looked_between root last to) (read_between root last to) (w.trail ++ os)
   walk_then qs os k =
       subst (λ hs. Audits root t v qs (looked_between root last to) hs (w.trail ++ os)) (append-nil (read_between root last to))
@@ -106,7 +106,7 @@ module _ (root : Tree) (t u v : Store) (last to : Option Place) (w : Walks root 
 
 -- ---- a pass begins
 
-unfoldable pub passes_none : (root : Tree) (s : Store) (old : Option (List ℕ)) (from : Option Place) → s.tree ≡ root → Passes root s s old old from from false
+unfoldable pub passes_none : (root : StorageRoot) (s : Store) (old : Option (List ℕ)) (from : Option Place) → s.tree ≡ root → Passes root s s old old from from false
 passes_none root s old from over = record {
   done = [];
   trail = [];
@@ -118,12 +118,12 @@ passes_none root s old from over = record {
   found_is = sym (ap found (no_items root []));
 }
 
-pub passes_over : {root : Tree} {s t : Store} {old new : Option (List ℕ)} {from last : Option Place} {finding : Bool} → Passes root s t old new from last finding → t.tree ≡ root
+pub passes_over : {root : StorageRoot} {s t : Store} {old new : Option (List ℕ)} {from last : Option Place} {finding : Bool} → Passes root s t old new from last finding → t.tree ≡ root
 passes_over h = h.audits.did.tree ∙ h.audits.over
 
 -- ---- a pass goes on
 
-module _ (root : Tree) (s t u : Store) (old mid : Option (List ℕ)) (from last : Option Place) (finding : Bool) (low : HasGoneOn from last) (h : Passes root s t old mid from last finding) where
+module _ (root : StorageRoot) (s t u : Store) (old mid : Option (List ℕ)) (from last : Option Place) (finding : Bool) (low : HasGoneOn from last) (h : Passes root s t old mid from last finding) where
   module _ (p : Place) (up : IsBeyond last p) (least : due root last ≡ p ∷ due root (Some p)) (w : Walks root t u last (Some p)) (v : Store) (new : Option (List ℕ)) where
     pub due_with : due root from ≡ h.done ++ ((p ∷ []) ++ due root (Some p))
     due_with = h.due_are ∙ ap (λ ps. h.done ++ ps) least

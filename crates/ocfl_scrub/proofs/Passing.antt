@@ -2,7 +2,7 @@
 use Rattle.std.specs.Prelude.{◌≡◌, ℕ, List, [], ◌++◌, Bool, Option, Some, None, take}
 use Rattle.std.specs.Io.KnownBytes.{Appends}
 use Rattle.ocfl_tree.specs.Place.{Text, Place}
-use Rattle.ocfl_tree.specs.Tree.{Tree}
+use Rattle.ocfl_tree.specs.StorageRoot.{StorageRoot}
 use Rattle.ocfl_tree.specs.Store.{Store}
 use Rattle.ocfl_tree.specs.declared.store.Opening.{Opening}
 use Rattle.ocfl_report.specs.Line.{found}
@@ -21,7 +21,7 @@ up_to_last between from None = []
 up_to_last between from (Some p) = between from (Some p)
 
 -- from s to t the items above from were taken up to last, each whole
-pub record Passes (root : Tree) (s t : Store) (old new : Option (List ℕ)) (from last : Option Place) (finding : Bool) : Type 0 where
+pub record Passes (root : StorageRoot) (s t : Store) (old new : Option (List ℕ)) (from last : Option Place) (finding : Bool) : Type 0 where
   pub done : List Place
   pub trail : List Opening
   pub audits : Audits root s t done (up_to_last (looked_between root) from last) (up_to_last (read_between root) from last) trail
@@ -31,7 +31,7 @@ pub record Passes (root : Tree) (s t : Store) (old new : Option (List ℕ)) (fro
   pub found_is : finding ≡ found (items_at root trail done)
 
 -- from s to t all items above from were taken
-pub record Finishes (root : Tree) (s t : Store) (old new : Option (List ℕ)) (from last : Option Place) (finding : Bool) : Type 0 where
+pub record Finishes (root : StorageRoot) (s t : Store) (old new : Option (List ℕ)) (from last : Option Place) (finding : Bool) : Type 0 where
   pub trail : List Opening
   pub audits : Audits root s t (due root from) (looked_between root from None) (read_between root from None) trail
   pub last_is : last ≡ last_of from (due root from)
@@ -39,7 +39,7 @@ pub record Finishes (root : Tree) (s t : Store) (old new : Option (List ℕ)) (f
   pub found_is : finding ≡ found (items_at root trail (due root from))
 
 -- from s to t the items above from were taken up to last, and then there was a fault: of the next item at most a proper beginning went out
-pub record Halts (root : Tree) (s t : Store) (old new : Option (List ℕ)) (from last : Option Place) (finding : Bool) (why : Fault) : Type 0 where
+pub record Halts (root : StorageRoot) (s t : Store) (old new : Option (List ℕ)) (from last : Option Place) (finding : Bool) (why : Fault) : Type 0 where
   pub done : List Place
   pub begun : List Place
   pub trail : List Opening

@@ -2,7 +2,7 @@
 use Rattle.std.proofs.Common.{◌≡◌, ◌≢◌, inl, inr, ℕ, ◌+◌, List, [], ◌∷◌, ◌++◌, refl, sym, ◌∙◌, ap, subst, true, false, Bool, Some, None, Option, append-nil, take, arith}
 use Rattle.std.specs.Prelude.{◌||◌}
 use Rattle.ocfl_tree.specs.Place.{Place}
-use Rattle.ocfl_tree.specs.Tree.{Tree}
+use Rattle.ocfl_tree.specs.StorageRoot.{StorageRoot}
 use Rattle.ocfl_tree.specs.Store.{Store}
 use Rattle.ocfl_tree.specs.declared.store.Opening.{Opening}
 use Rattle.ocfl_report.specs.Line.{Item, found}
@@ -29,7 +29,7 @@ use Rattle.ocfl_scrub.proofs.PassLaws.{no_items, passes_none, passes_took, took_
 -- ---- what items cost
 
 -- a hashed item is paid for below both limits, and another is free
-pub payable : (root : Tree) (p : Place) (l : Limits) (spent files : ℕ) (os : List Opening) → (is_hashed root p ≡ true → IsWithinBoth l spent files) → Paid l spent files (items_at root os (p ∷ []))
+pub payable : (root : StorageRoot) (p : Place) (l : Limits) (spent files : ℕ) (os : List Opening) → (is_hashed root p ≡ true → IsWithinBoth l spent files) → Paid l spent files (items_at root os (p ∷ []))
 unfolding items_at
 payable root p l spent files os h = (by (is_hashed root p) refl h, tt)
   where
@@ -37,7 +37,7 @@ payable root p l spent files os h = (by (is_hashed root p) refl h, tt)
     by true e k = test_paid l spent files _ (k refl).0 (k refl).1
     by false e k = test_free l spent files _ (free_costs root _ p e)
 
-files_of_one : (root : Tree) (p : Place) (os : List Opening) → total_files (items_at root os (p ∷ [])) ≡ files_of (total_cost (items_at root os (p ∷ [])))
+files_of_one : (root : StorageRoot) (p : Place) (os : List Opening) → total_files (items_at root os (p ∷ [])) ≡ files_of (total_cost (items_at root os (p ∷ [])))
 unfolding items_at
 files_of_one root p os =
     let c : ℕ = cost root (given_by (unread_of root os) p) p in
@@ -67,19 +67,19 @@ counts_same l spent files xs ys e h = subst (Counts l spent files) (sym e) h
 
 -- ---- a pass begins
 
-pub pays_none : (root : Tree) (s : Store) (old : Option (List ℕ)) (from : Option Place) (l : Limits) (spent files : ℕ) → s.tree ≡ root → spent ≡ 0 → files ≡ 0 → Pays root s s old old from from l spent files false
+pub pays_none : (root : StorageRoot) (s : Store) (old : Option (List ℕ)) (from : Option Place) (l : Limits) (spent files : ℕ) → s.tree ≡ root → spent ≡ 0 → files ≡ 0 → Pays root s s old old from from l spent files false
 unfolding passes_none
 pays_none root s old from l spent files over e f = record {
   passes = passes_none root s old from over;
   counts = counts_same l spent files _ [] (no_items root []) (counts_none l spent files e f);
 }
 
-pub pays_over : {root : Tree} {s t : Store} {old new : Option (List ℕ)} {from last : Option Place} {l : Limits} {spent files : ℕ} {finding : Bool} → Pays root s t old new from last l spent files finding → t.tree ≡ root
+pub pays_over : {root : StorageRoot} {s t : Store} {old new : Option (List ℕ)} {from last : Option Place} {l : Limits} {spent files : ℕ} {finding : Bool} → Pays root s t old new from last l spent files finding → t.tree ≡ root
 pays_over h = h.passes.audits.did.tree ∙ h.passes.audits.over
 
 -- ---- a pass goes on
 
-module _ (root : Tree) (s t u : Store) (old mid : Option (List ℕ)) (from last : Option Place) (l : Limits) (spent files : ℕ) (finding : Bool) (low : HasGoneOn from last) (h : Pays root s t old mid from last l spent files finding) where
+module _ (root : StorageRoot) (s t u : Store) (old mid : Option (List ℕ)) (from last : Option Place) (l : Limits) (spent files : ℕ) (finding : Bool) (low : HasGoneOn from last) (h : Pays root s t old mid from last l spent files finding) where
   module _ (p : Place) (up : IsBeyond last p) (least : due root last ≡ p ∷ due root (Some p)) (w : Walks root t u last (Some p)) where
     module _ (v : Store) (new : Option (List ℕ)) (may : is_hashed root p ≡ true → IsWithinBoth l spent files) where
       pub pays_took : (cost charged started : ℕ) (more either : Bool) → Takes root u v mid new p cost more → charged ≡ spent + cost → started ≡ files + files_of cost → either ≡ (finding || more)

@@ -2,7 +2,7 @@
 use Rattle.std.specs.Prelude.{◌≡◌, ◌≢◌, ◌⊎◌, ◌<◌, ◌+◌, ℕ, List, [], ◌∷◌, ◌++◌, Bool, true, Option, Some, take, ⊤}
 use Rattle.std.specs.Io.KnownBytes.{Appends}
 use Rattle.ocfl_tree.specs.Place.{Place}
-use Rattle.ocfl_tree.specs.Tree.{Tree}
+use Rattle.ocfl_tree.specs.StorageRoot.{StorageRoot}
 use Rattle.ocfl_tree.specs.Store.{Store}
 use Rattle.ocfl_tree.specs.declared.store.Opening.{Opening}
 use Rattle.ocfl_report.specs.Line.{Item, found}
@@ -34,17 +34,17 @@ abbrev pub IsWithinBoth : Limits → ℕ → ℕ → Type 0
 IsWithinBoth limits spent files = (spent < limits.budget) × (files < limits.files)
 
 -- from s to t the items above from were taken up to last, each whole and paid for
-pub record Pays (root : Tree) (s t : Store) (old new : Option (List ℕ)) (from last : Option Place) (limits : Limits) (spent files : ℕ) (finding : Bool) : Type 0 where
+pub record Pays (root : StorageRoot) (s t : Store) (old new : Option (List ℕ)) (from last : Option Place) (limits : Limits) (spent files : ℕ) (finding : Bool) : Type 0 where
   pub passes : Passes root s t old new from last finding
   pub counts : Counts limits spent files (items_at root passes.trail passes.done)
 
 -- from s to t all of them were
-pub record PaysAll (root : Tree) (s t : Store) (old new : Option (List ℕ)) (from last : Option Place) (limits : Limits) (spent files : ℕ) (finding : Bool) : Type 0 where
+pub record PaysAll (root : StorageRoot) (s t : Store) (old new : Option (List ℕ)) (from last : Option Place) (limits : Limits) (spent files : ℕ) (finding : Bool) : Type 0 where
   pub finishes : Finishes root s t old new from last finding
   pub counts : Counts limits spent files (items_at root finishes.trail (due root from))
 
 -- from s to t those before a hashed item were, at which a limit is reached; the walk has gone on to it
-pub record PaysUpTo (root : Tree) (s t : Store) (old new : Option (List ℕ)) (from last : Option Place) (limits : Limits) (spent files : ℕ) (finding : Bool) : Type 0 where
+pub record PaysUpTo (root : StorageRoot) (s t : Store) (old new : Option (List ℕ)) (from last : Option Place) (limits : Limits) (spent files : ℕ) (finding : Bool) : Type 0 where
   pub next : Place
   pub done : List Place
   pub trail : List Opening
@@ -58,7 +58,7 @@ pub record PaysUpTo (root : Tree) (s t : Store) (old new : Option (List ℕ)) (f
   pub reached : IsWithinBoth limits spent files → ⊥
 
 -- from s to t there was a fault behind the last of them: the next one is paid for, or it was not begun
-pub record PaysHalting (root : Tree) (s t : Store) (old new : Option (List ℕ)) (from last : Option Place) (limits : Limits) (spent files : ℕ) (finding : Bool) (why : Fault) : Type 0 where
+pub record PaysHalting (root : StorageRoot) (s t : Store) (old new : Option (List ℕ)) (from last : Option Place) (limits : Limits) (spent files : ℕ) (finding : Bool) (why : Fault) : Type 0 where
   pub halts : Halts root s t old new from last finding why
   pub counts : Counts limits spent files (items_at root halts.trail halts.done)
   pub next : Paid limits spent files (items_at root halts.trail (take 1 (due root last))) ⊎ ((why ≢ fault.Output) × (halts.begun ≡ []))

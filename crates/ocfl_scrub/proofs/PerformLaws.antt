@@ -3,7 +3,7 @@ use Rattle.std.proofs.Common.{◌≡◌, refl, ℕ, List, Option, Some, None, Ve
 use Rattle.std.specs.Prelude.{◌≢◌, IsNone, IfSome, ◌⊎◌, String, string_bytes}
 use Rattle.std.specs.declared.alloc.Global.{Global}
 use Rattle.ocfl_tree.specs.Place.{Text, Place}
-use Rattle.ocfl_tree.specs.Tree.{Tree}
+use Rattle.ocfl_tree.specs.StorageRoot.{StorageRoot}
 use Rattle.ocfl_tree.specs.Store.{Store}
 use Rattle.ocfl_audit.specs.Runs.{Limits}
 use Rattle.ocfl_cursor.specs.Cursor.{Cursor}
@@ -58,7 +58,7 @@ module _ (known : Option (Option Text)) (limits : Limits) (from : Cursor) (ran :
           }
 
   -- the same run on a store that tells its tree
-  module _ (root : Tree) (s t : Store) (old new : Option (List ℕ)) (h : Made known limits from ran said) where
+  module _ (root : StorageRoot) (s t : Store) (old new : Option (List ℕ)) (h : Made known limits from ran said) where
     pub run_performed : (ran.end ≡ run.Worn → (t ≡ s) × (new ≡ old)) → (ran.end ≢ run.Worn → RunsFrom root s t old new from limits ran.cursor ran.spent ran.files ran.found ran.end)
         → (t.failures ≡ s.failures → RunsCleanly root old new from limits ran.spent ran.files ran.found ran.end) → RunPerformed known root s t old new limits said.status said.note said.cursor
     run_performed silent runs clean = by (worn_or_not ran.end)

@@ -4,7 +4,7 @@ use Rattle.std.specs.Prelude.{cond}
 use Rattle.std.specs.Option.{option_map, option_copied}
 use Rattle.std.specs.Io.KnownBytes.{Appends}
 use Rattle.ocfl_tree.specs.Place.{Text, Place}
-use Rattle.ocfl_tree.specs.Tree.{Tree}
+use Rattle.ocfl_tree.specs.StorageRoot.{StorageRoot}
 use Rattle.ocfl_tree.specs.Store.{Store}
 use Rattle.ocfl_tree.specs.declared.store.Opening.{Opening}
 use Rattle.ocfl_report.specs.Line.{Item, found}
@@ -43,20 +43,20 @@ use Rattle.ocfl_scrub.proofs.CutLaws.{IsStop, paid_begins, cut_of_paid, left_of_
 
 -- ---- where a cut ends
 
-nothing_stops : (root : Tree) (os : List Opening) (l : Limits) (spent files : ℕ) → IsStop l spent files (items_at root os [])
+nothing_stops : (root : StorageRoot) (os : List Opening) (l : Limits) (spent files : ℕ) → IsStop l spent files (items_at root os [])
 unfolding items_at
 nothing_stops root os l spent files = tt
 
 -- the limits do not pay what is next, whatever could be read
-unpaid_stops : (root : Tree) (os : List Opening) (l : Limits) (spent files : ℕ) (p : Place) (ps : List Place) → is_hashed root p ≡ true → (IsWithinBoth l spent files → ⊥) → IsStop l spent files (items_at root os (p ∷ ps))
+unpaid_stops : (root : StorageRoot) (os : List Opening) (l : Limits) (spent files : ℕ) (p : Place) (ps : List Place) → is_hashed root p ≡ true → (IsWithinBoth l spent files → ⊥) → IsStop l spent files (items_at root os (p ∷ ps))
 unfolding items_at
 unpaid_stops root os l spent files p ps h k = test_unpaid l spent files _ (hashed_costs root (given_by (unread_of root os) p) p h) k
 
-none_first : (root : Tree) (os : List Opening) → None ≡ first_of (items_at root os [])
+none_first : (root : StorageRoot) (os : List Opening) → None ≡ first_of (items_at root os [])
 unfolding items_at
 none_first root os = refl
 
-some_first : (root : Tree) (os : List Opening) (p : Place) (ps : List Place) → Some p ≡ first_of (items_at root os (p ∷ ps))
+some_first : (root : StorageRoot) (os : List Opening) (p : Place) (ps : List Place) → Some p ≡ first_of (items_at root os (p ∷ ps))
 unfolding items_at
 some_first root os p ps = refl
 
@@ -74,7 +74,7 @@ no_part : (why : Fault) → why ≢ Output → (whole part : Text) → PartOf wh
 no_part why other whole part h = h.is ∙ ap (λ n. take n whole) (h.none other) ∙ take_nothing whole
 
 -- what was begun and written of the next item is a beginning of the first that the cut has left
-ends_at : (root : Tree) (os : List Opening) (why : Fault) (begun : List Place) (part : Text) (nexts : List Place) (first : List Item) → (first ≡ items_at root os nexts) ⊎ ((why ≢ Output) × (begun ≡ []))
+ends_at : (root : StorageRoot) (os : List Opening) (why : Fault) (begun : List Place) (part : Text) (nexts : List Place) (first : List Item) → (first ≡ items_at root os nexts) ⊎ ((why ≢ Output) × (begun ≡ []))
     → IsFront begun nexts → PartOf why (text (items_at root os nexts)) part → IsFront begun (places first) × PartOf why (text first) part
 ends_at root os why begun part nexts first (inl e) one h =
     (subst (IsFront begun) (sym (places_of_items root os nexts) ∙ ap places (sym e)) one, subst (λ is. PartOf why (text is) part) (sym e) h)
@@ -87,7 +87,7 @@ next_of (inr c) f = inr c
 
 -- ---- behind a walk that went down to where the pass begins
 
-module _ (root : Tree) (s t u : Store) (old new : Option (List ℕ)) (from last : Option Place) (l : Limits) (spent files : ℕ) (finding : Bool) (g : GoesDown root s t from) where
+module _ (root : StorageRoot) (s t u : Store) (old new : Option (List ℕ)) (from last : Option Place) (l : Limits) (spent files : ℕ) (finding : Bool) (g : GoesDown root s t from) where
   meta : content_trail root g.trail ≡ []
   meta = g.audits.opened ∙ nothing_hashed root
 
@@ -201,7 +201,7 @@ lent_place None from e = e
 lent_place (Some p) from e = e
 
 -- no walk was started
-pub not_run : (root : Tree) (s t : Store) (old : Option (List ℕ)) (from : Option Place) (l : Limits) (why : Fault) → IsWayFault why → GoDownFails root s t from why → RunStops root s t old old from from l 0 0 false why
+pub not_run : (root : StorageRoot) (s t : Store) (old : Option (List ℕ)) (from : Option Place) (l : Limits) (why : Fault) → IsWayFault why → GoDownFails root s t from why → RunStops root s t old old from from l 0 0 false why
 unfolding nothing_out
 not_run root s t old from l why only g = record {
   trail = g.trail;
@@ -230,7 +230,7 @@ a_first : (items : List Item) (p : Place) → Some p ≡ first_of items → item
 a_first [] p e f = absurd cc
 a_first (i ∷ items) p e f = cc
 
-module _ (root : Tree) (s t : Store) (old new : Option (List ℕ)) (c : Cursor) (last : Option Place) (l : Limits) (spent files : ℕ) (finding : Bool) (same : t.failures ≡ s.failures) where
+module _ (root : StorageRoot) (s t : Store) (old new : Option (List ℕ)) (c : Cursor) (last : Option Place) (l : Limits) (spent files : ℕ) (finding : Bool) (same : t.failures ≡ s.failures) where
   all_read : (next : Option Place) (h : Runs root s t old new (place_in c.state) last l spent files finding next) → unread_of root h.trail ≡ []
   all_read next h = none_left (unread_of root h.trail) s.failures (sym same ∙ h.audits.did.failures_are)
 
@@ -265,7 +265,7 @@ run_counted b l spent files state h room fits p short =
       place = short;
     }
 
-module _ (root : Tree) (s t : Store) (old new : Option (List ℕ)) (c b : Cursor) (from last : Option Place) (l : Limits) (spent files : ℕ) (finding : Bool) (end : RunStatus) (h : Begins c b from)
+module _ (root : StorageRoot) (s t : Store) (old new : Option (List ℕ)) (c b : Cursor) (from last : Option Place) (l : Limits) (spent files : ℕ) (finding : Bool) (end : RunStatus) (h : Begins c b from)
     (run : RunEnds root s t old new from last l spent files finding end) where
   begun_there : RunEnds root s t old new (place_in c.state) last l spent files finding end
   begun_there = subst (λ x. RunEnds root s t old new x last l spent files finding end) h.from_is run

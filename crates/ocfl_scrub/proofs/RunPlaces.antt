@@ -3,7 +3,7 @@ use Rattle.std.proofs.Common.{◌≡◌, ℕ, ◌+◌, ◌≤◌, List, [], ◌�
 use Rattle.std.specs.Io.KnownBytes.{Appends}
 use Rattle.ocfl_tree.specs.Place.{Place, place_cmp}
 use Rattle.ocfl_tree.specs.Ascending.{IsAscending}
-use Rattle.ocfl_tree.specs.Tree.{Tree}
+use Rattle.ocfl_tree.specs.StorageRoot.{StorageRoot}
 use Rattle.ocfl_tree.specs.Store.{Store}
 use Rattle.ocfl_tree.specs.declared.store.Opening.{Opening}
 use Rattle.ocfl_report.specs.Line.{Item}
@@ -35,7 +35,7 @@ heads_same x y xs ys e = cc
 tails_same : {A : Type 0} (x y : A) (xs ys : List A) → x ∷ xs ≡ y ∷ ys → xs ≡ ys
 tails_same x y xs ys e = cc
 
-module _ (root : Tree) (unread : Unread) where
+module _ (root : StorageRoot) (unread : Unread) where
   after_next : (front : List Item) (x : Item) (rest : List Item) → audit root unread ≡ front ++ x ∷ rest → after (audit root unread) (Some x.place) ≡ rest
   after_next front x rest e =
       ap (λ is. after is (Some x.place)) e ∙ after_item front x rest (subst (λ is. IsAscending place_cmp (places is)) e (audit_is root unread).ascends)
@@ -51,7 +51,7 @@ module _ (root : Tree) (unread : Unread) where
   after_front from [] ys e = e
   after_front from (x ∷ xs) ys e = after_front (Some x.place) xs ys (after_one from x (xs ++ ys) e)
 
-module _ (root : Tree) (os : List Opening) where
+module _ (root : StorageRoot) (os : List Opening) where
   front_items : (ps : List Place) (xs ys : List Item) → items_at root os ps ≡ xs ++ ys → items_at root os (places xs) ≡ xs
   unfolding items_at
   front_items ps [] ys e = refl
@@ -86,7 +86,7 @@ first_place [] = None
 first_place (p ∷ ps) = Some p
 
 -- from s to t the places above from were audited up to last, and their items went out, with these figures
-pub record Took (root : Tree) (s t : Store) (old new : Option (List ℕ)) (from last : Option Place) (spent files : ℕ) (finding : Bool) : Type 0 where
+pub record Took (root : StorageRoot) (s t : Store) (old new : Option (List ℕ)) (from last : Option Place) (spent files : ℕ) (finding : Bool) : Type 0 where
   pub done : List Place
   pub trail : List Opening
   pub listed : List Place
@@ -98,7 +98,7 @@ pub record Took (root : Tree) (s t : Store) (old new : Option (List ℕ)) (from 
   pub figures : Figures (items_at root trail done) spent files finding
 
 -- a run took them: its limits allow these places, and not what is next
-pub record Turn (root : Tree) (s t : Store) (old new : Option (List ℕ)) (from last : Option Place) (limits : Limits) (spent files : ℕ) (finding : Bool) (next : Option Place) : Type 0 where
+pub record Turn (root : StorageRoot) (s t : Store) (old new : Option (List ℕ)) (from last : Option Place) (limits : Limits) (spent files : ℕ) (finding : Bool) (next : Option Place) : Type 0 where
   pub took : Took root s t old new from last spent files finding
   pub next_is : next ≡ first_place (due root last)
   pub paid : Paid limits 0 0 (items_at root took.trail took.done)
@@ -112,7 +112,7 @@ first_places : (items : List Item) → first_of items ≡ first_place (places it
 first_places [] = refl
 first_places (i ∷ items) = refl
 
-module _ (root : Tree) (s t : Store) (old new : Option (List ℕ)) (from last : Option Place) (limits : Limits) (spent files : ℕ) (finding : Bool) where
+module _ (root : StorageRoot) (s t : Store) (old new : Option (List ℕ)) (from last : Option Place) (limits : Limits) (spent files : ℕ) (finding : Bool) where
   pub turn_of : (next : Option Place) → Runs root s t old new from last limits spent files finding next → Turn root s t old new from last limits spent files finding next
   turn_of next h =
       let cut_items : List Item = taken root h.trail from limits in

@@ -2,7 +2,7 @@
 use Rattle.std.proofs.Common.{◌≡◌, ℕ, ◌+◌, List, sym, ◌∙◌, subst, true, false, Bool, Some, None, Option}
 use Rattle.std.specs.Prelude.{◌||◌}
 use Rattle.ocfl_tree.specs.Place.{Place}
-use Rattle.ocfl_tree.specs.Tree.{Tree}
+use Rattle.ocfl_tree.specs.StorageRoot.{StorageRoot}
 use Rattle.ocfl_tree.specs.Store.{Store}
 use Rattle.ocfl_audit.specs.Between.{IsBeyond}
 use Rattle.ocfl_audit.specs.Lines.{is_hashed}
@@ -43,13 +43,13 @@ charged_item limits m cost charged started hashed e h c may f g = paid_item (lim
 -- ---- on a store that tells its tree
 
 -- from s to t a walk went down to where a run begins, the items from there up to last were taken and paid for, and the walk stands there
-pub record HasPaid (root : Tree) (s t : Store) (old new : Option (List ℕ)) (walk : Walk) (from last : Option Place) (l : Limits) (spent files : ℕ) (finding : Bool) : Type 0 where
+pub record HasPaid (root : StorageRoot) (s t : Store) (old new : Option (List ℕ)) (walk : Walk) (from last : Option Place) (l : Limits) (spent files : ℕ) (finding : Bool) : Type 0 where
   pub begun : Store
   pub down : GoesDown root s begun from
   pub stands : Stands root walk last
   pub pays : Pays root begun t old new from last l spent files finding
 
-pub nothing_paid : (root : Tree) (s t : Store) (old : Option (List ℕ)) (walk : Walk) (from : Option Place) (l : Limits) (spent files : ℕ) → spent ≡ 0 → files ≡ 0 → GoesDown root s t from × Stands root walk from → HasPaid root s t old old walk from from l spent files false
+pub nothing_paid : (root : StorageRoot) (s t : Store) (old : Option (List ℕ)) (walk : Walk) (from : Option Place) (l : Limits) (spent files : ℕ) → spent ≡ 0 → files ≡ 0 → GoesDown root s t from × Stands root walk from → HasPaid root s t old old walk from from l spent files false
 nothing_paid root s t old walk from l spent files e f there = record {
   begun = t;
   down = there.0;
@@ -57,7 +57,7 @@ nothing_paid root s t old walk from l spent files e f there = record {
   pays = pays_none root t old from l spent files (audits_over there.0.audits) e f;
 }
 
-module _ {root : Tree} {s t : Store} {old mid : Option (List ℕ)} {walk : Walk} {from last : Option Place} {l : Limits} {spent files : ℕ} {finding : Bool}
+module _ {root : StorageRoot} {s t : Store} {old mid : Option (List ℕ)} {walk : Walk} {from last : Option Place} {l : Limits} {spent files : ℕ} {finding : Bool}
     (way : IsUnderWay walk from last old mid finding) (h : HasPaid root s t old mid walk from last l spent files finding) (u : Store) where
   module _ {o : Option Pending} (next : Walk) (gave : GivesNext root t u walk next o) where
     -- nothing is left

@@ -6,7 +6,7 @@ use Rattle.std.specs.Io.KnownBytes.{Appends}
 use Rattle.std.proofs.KnownBytes.{Appends-nil, Appends-trans}
 use Rattle.ocfl_tree.specs.Place.{Text, Place, place_cmp}
 use Rattle.ocfl_tree.specs.Ascending.{IsAscending, IsAmong}
-use Rattle.ocfl_tree.specs.Tree.{Tree}
+use Rattle.ocfl_tree.specs.StorageRoot.{StorageRoot}
 use Rattle.ocfl_tree.specs.Store.{Store}
 use Rattle.ocfl_tree.specs.declared.store.Opening.{Opening}
 use Rattle.ocfl_report.specs.Line.{Item, found}
@@ -43,12 +43,12 @@ use Rattle.ocfl_scrub.proofs.RunPlaces.{Took, Turn, first_place, front_is, rest_
 -- ---- some runs
 
 -- how many inventories runs read that begin above a place: none where there is no run, and else those from there on and one more for each run, but for the first where nothing holds that place
-pub record ReadFew (root : Tree) (from : Option Place) (heads : List Place) (count : ℕ) : Type 0 where
+pub record ReadFew (root : StorageRoot) (from : Option Place) (heads : List Place) (count : ℕ) : Type 0 where
   pub none : count ≡ 0 → length heads ≡ 0
   pub some : 1 ≤ count → length heads < length (holder root from) + length (read_between root from None) + count
 
 -- from s to t the runs of the limits took the items above from up to last
-pub record Parts (root : Tree) (s t : Store) (old new : Option (List ℕ)) (from last : Option Place) (limits : List Limits) (spent files : ℕ) (finding : Bool) (count : ℕ) (ended : Bool) : Type 0 where
+pub record Parts (root : StorageRoot) (s t : Store) (old new : Option (List ℕ)) (from last : Option Place) (limits : List Limits) (spent files : ℕ) (finding : Bool) (count : ℕ) (ended : Bool) : Type 0 where
   pub took : Took root s t old new from last spent files finding
   pub runs_are : joined (runs (items_at root took.trail (due root from)) limits) ≡ items_at root took.trail took.done
   pub count_is : count ≡ length (runs (items_at root took.trail (due root from)) limits)
@@ -56,7 +56,7 @@ pub record Parts (root : Tree) (s t : Store) (old new : Option (List ℕ)) (from
   pub ended_is : ended ≡ is_empty (due root last)
 
 -- from s to t they took the items above from up to last, and then there was a fault
-pub record PartsStop (root : Tree) (s t : Store) (old new : Option (List ℕ)) (from last : Option Place) (limits : List Limits) (spent files : ℕ) (finding : Bool) (count : ℕ) (why : Fault) : Type 0 where
+pub record PartsStop (root : StorageRoot) (s t : Store) (old new : Option (List ℕ)) (from last : Option Place) (limits : List Limits) (spent files : ℕ) (finding : Bool) (count : ℕ) (why : Fault) : Type 0 where
   pub done : List Place
   pub begun : List Place
   pub rest : List Place
@@ -76,7 +76,7 @@ pub record PartsStop (root : Tree) (s t : Store) (old new : Option (List ℕ)) (
   pub figures : Figures (items_at root trail done) spent files finding
   pub read : ReadFew root from heads count
 
-abbrev pub PartsEnd : Tree → Store → Store → Option (List ℕ) → Option (List ℕ) → Option Place → Option Place → List Limits → ℕ → ℕ → Bool → ℕ → CycleStatus → Type 0
+abbrev pub PartsEnd : StorageRoot → Store → Store → Option (List ℕ) → Option (List ℕ) → Option Place → Option Place → List Limits → ℕ → ℕ → Bool → ℕ → CycleStatus → Type 0
 PartsEnd root s t old new from last limits spent files finding count Ended = Parts root s t old new from last limits spent files finding count true
 PartsEnd root s t old new from last limits spent files finding count Spent = Parts root s t old new from last limits spent files finding count false
 PartsEnd root s t old new from last limits spent files finding count (Stopped why) = PartsStop root s t old new from last limits spent files finding count why
@@ -91,7 +91,7 @@ none_empty : (ps : List Place) → ps ≡ [] → is_empty ps ≡ true
 none_empty [] h = refl
 none_empty (p ∷ ps) h = absurd cc
 
-some_items : (root : Tree) (os : List Opening) (p : Place) (ps : List Place) → is_empty (items_at root os (p ∷ ps)) ≡ false
+some_items : (root : StorageRoot) (os : List Opening) (p : Place) (ps : List Place) → is_empty (items_at root os (p ∷ ps)) ≡ false
 unfolding items_at
 some_items root os p ps = refl
 
@@ -130,7 +130,7 @@ runs_end [] = refl
 runs_end (l ∷ ls) = refl
 
 -- no limits are left
-pub parts_none : (root : Tree) (s : Store) (old : Option (List ℕ)) (last : Option Place) → s.tree ≡ root → is_empty (due root last) ≡ false → Parts root s s old old last last [] 0 0 false 0 false
+pub parts_none : (root : StorageRoot) (s : Store) (old : Option (List ℕ)) (last : Option Place) → s.tree ≡ root → is_empty (due root last) ≡ false → Parts root s s old old last last [] 0 0 false 0 false
 unfolding items_at
 parts_none root s old last over some = record {
   took = record {
@@ -154,7 +154,7 @@ not_of_store : (p : Place) → Memory ≡ AtStore p → ⊥
 not_of_store p e = cc
 
 -- want of memory before a run
-pub parts_unbegun : (root : Tree) (s : Store) (old : Option (List ℕ)) (last : Option Place) (limits : List Limits) → s.tree ≡ root → PartsStop root s s old old last last limits 0 0 false 0 Memory
+pub parts_unbegun : (root : StorageRoot) (s : Store) (old : Option (List ℕ)) (last : Option Place) (limits : List Limits) → s.tree ≡ root → PartsStop root s s old old last last limits 0 0 false 0 Memory
 unfolding items_at
 parts_unbegun root s old last limits over =
     let none = audits_nothing root s over in
@@ -186,7 +186,7 @@ first_none : (ps : List Place) → None ≡ first_place ps → ps ≡ []
 first_none [] e = refl
 first_none (p ∷ ps) e = absurd cc
 
-module _ (root : Tree) (s t : Store) (old mid : Option (List ℕ)) (from mid_last : Option Place) (l : Limits) (spent files : ℕ) (finding : Bool) (ls : List Limits) where
+module _ (root : StorageRoot) (s t : Store) (old mid : Option (List ℕ)) (from mid_last : Option Place) (l : Limits) (spent files : ℕ) (finding : Bool) (ls : List Limits) where
   -- it took all that was left
   pub parts_ended : Turn root s t old mid from mid_last l spent files finding None → Parts root s t old mid from mid_last (l ∷ ls) spent files finding 1 true
   parts_ended h =
@@ -251,7 +251,7 @@ module _ (root : Tree) (s t : Store) (old mid : Option (List ℕ)) (from mid_las
 
 -- ---- a run that left something, and those that follow
 
-holder_one : (root : Tree) (last : Option Place) → length (holder root last) ≤ 1
+holder_one : (root : StorageRoot) (last : Option Place) → length (holder root last) ≤ 1
 holder_one root None = omega arith
 holder_one root (Some p) = by (zone root p)
   where
@@ -268,7 +268,7 @@ among_behind : (ps : List Place) (p : Place) (qs : List Place) → IsAmong (ps +
 among_behind [] p qs = inl refl
 among_behind (x ∷ ps) p qs = inr (among_behind ps p qs)
 
-module _ (root : Tree) (s t : Store) (old mid : Option (List ℕ)) (from mid_last : Option Place) (l : Limits) (spent files : ℕ) (finding : Bool) (ls : List Limits) (next : Place) (h : Turn root s t old mid from mid_last l spent files finding (Some next)) where
+module _ (root : StorageRoot) (s t : Store) (old mid : Option (List ℕ)) (from mid_last : Option Place) (l : Limits) (spent files : ℕ) (finding : Bool) (ls : List Limits) (next : Place) (h : Turn root s t old mid from mid_last l spent files finding (Some next)) where
   -- what is next is a hashed file
   pub record IsNext : Type 0 where
     pub behind : List Place

@@ -5,7 +5,7 @@ use Rattle.std.specs.List.{list_any}
 use Rattle.std.specs.Io.KnownBytes.{Appends}
 use Rattle.std.proofs.KnownBytes.{Appends-nil}
 use Rattle.ocfl_tree.specs.Place.{Text, Place}
-use Rattle.ocfl_tree.specs.Tree.{Tree}
+use Rattle.ocfl_tree.specs.StorageRoot.{StorageRoot}
 use Rattle.ocfl_tree.specs.Store.{Store, Did}
 use Rattle.ocfl_report.specs.Line.{Line, line_of, is_finding_code, found}
 use Rattle.ocfl_report.specs.Text.{lines_text, text}
@@ -53,7 +53,7 @@ take_none (x ∷ xs) = refl
 pub nothing_of : (why : Fault) → why ≢ Output → (whole : Text) → PartOf why whole []
 nothing_of why other whole = record { gone = 0; is = take_none whole; proper = λ e. absurd (other e); none = λ _. refl }
 
-module _ (root : Tree) (s t : Store) (p : Place) (lines : List MadeLine) (cost : ℕ) (j : Judges root s t p lines cost) where
+module _ (root : StorageRoot) (s t : Store) (p : Place) (lines : List MadeLine) (cost : ℕ) (j : Judges root s t p lines cost) where
   judged_text : lines_text (map line_of lines) ≡ text (items_at root j.trail (p ∷ []))
   judged_text = sym (ap text j.item ∙ append-nil (lines_text (map line_of lines)))
 
@@ -97,12 +97,12 @@ front_of_one : (p : Place) (part : Bool) → IsFront (cond part (p ∷ []) []) (
 front_of_one p true = ([], refl)
 front_of_one p false = (p ∷ [], refl)
 
-none_or_hashed : (root : Tree) (p : Place) (part : Bool) → cond part (hashed_among root (p ∷ [])) [] ≡ hashed_among root (cond part (p ∷ []) [])
+none_or_hashed : (root : StorageRoot) (p : Place) (part : Bool) → cond part (hashed_among root (p ∷ [])) [] ≡ hashed_among root (cond part (p ∷ []) [])
 none_or_hashed root p true = refl
 none_or_hashed root p false = sym (nothing_hashed root)
 
 -- the item was not judged
-pub unjudged : (root : Tree) (s t : Store) (old : Option (List ℕ)) (p : Place) → JudgeFails root s t p → Misses root s t old old p Memory
+pub unjudged : (root : StorageRoot) (s t : Store) (old : Option (List ℕ)) (p : Place) → JudgeFails root s t p → Misses root s t old old p Memory
 unjudged root s t old p j = record {
   trail = j.trail;
   begun = cond j.part (p ∷ []) [];
@@ -115,7 +115,7 @@ unjudged root s t old p j = record {
 }
 
 -- nothing was done
-pub unbegun : (root : Tree) (s : Store) (old : Option (List ℕ)) (p : Place) → s.tree ≡ root → Misses root s s old old p Memory
+pub unbegun : (root : StorageRoot) (s : Store) (old : Option (List ℕ)) (p : Place) → s.tree ≡ root → Misses root s s old old p Memory
 unbegun root s old p over =
     let none = audits_nothing root s over in
     record {

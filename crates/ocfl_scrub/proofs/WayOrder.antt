@@ -3,7 +3,7 @@ use Rattle.std.proofs.Common.{◌≡◌, ◌⊎◌, inl, inr, List, [], ◌∷�
 use Rattle.ocfl_tree.specs.Place.{Text, Place, place_cmp, beginnings}
 use Rattle.ocfl_tree.specs.Ascending.{IsAscending, IsAmong, IsBeforeAll}
 use Rattle.std.specs.declared.cmp.Ordering.TheVariants.{Less}
-use Rattle.ocfl_tree.specs.Tree.{Tree}
+use Rattle.ocfl_tree.specs.StorageRoot.{StorageRoot}
 use Rattle.ocfl_tree.proofs.Orders.{place_cmp_total}
 use Rattle.ocfl_audit.specs.Zone.{Zone, skipped, hierarchy, inside, zone}
 use Rattle.ocfl_audit.specs.Between.{IsBeyond, looked_between, read_between}
@@ -55,7 +55,7 @@ before_beyond p x y (inr k) l = place_cmp_total.trans x p y k l
 
 -- ---- the object that holds a place
 
-object_up_to : (root : Tree) (p o q : Place) → zone root p ≡ inside o q → IsUpTo p o
+object_up_to : (root : StorageRoot) (p o q : Place) → zone root p ≡ inside o q → IsUpTo p o
 object_up_to root p o q e = by q (zone_is root p o q e).whole
   where
     nothing_more : (o : Place) → o ++ [] ≡ o
@@ -66,12 +66,12 @@ object_up_to root p o q e = by q (zone_is root p o q e).whole
     by [] f = inl (sym (f ∙ nothing_more o))
     by (n ∷ q) f = inr (subst (λ x. place_cmp o x ≡ Less) (sym f) (above_self o n q))
 
-holder_ascends : (root : Tree) (p : Place) (z : Zone) → IsAscending place_cmp (holder_of z)
+holder_ascends : (root : StorageRoot) (p : Place) (z : Zone) → IsAscending place_cmp (holder_of z)
 holder_ascends root p skipped = tt
 holder_ascends root p hierarchy = tt
 holder_ascends root p (inside o q) = (tt, tt)
 
-holder_up_to : (root : Tree) (p x : Place) → IsAmong (holder_of (zone root p)) x → IsUpTo p x
+holder_up_to : (root : StorageRoot) (p x : Place) → IsAmong (holder_of (zone root p)) x → IsUpTo p x
 holder_up_to root p x i = by (zone root p) refl i
   where
     by : (z : Zone) → zone root p ≡ z → IsAmong (holder_of z) x → IsUpTo p x
@@ -82,11 +82,11 @@ holder_up_to root p x i = by (zone root p) refl i
 
 -- ---- and what lies above it
 
-looked_beyond : (root : Tree) (from to : Option Place) (y : Place) → IsAmong (looked_between root from to) y → IsBeyond from y
+looked_beyond : (root : StorageRoot) (from to : Option Place) (y : Place) → IsAmong (looked_between root from to) y → IsBeyond from y
 unfolding looked_between
 looked_beyond root from to y i = (from_between _ from to y i).1
 
-read_beyond : (root : Tree) (from to : Option Place) (y : Place) → IsAmong (read_between root from to) y → IsBeyond from y
+read_beyond : (root : StorageRoot) (from to : Option Place) (y : Place) → IsAmong (read_between root from to) y → IsBeyond from y
 unfolding read_between
 read_beyond root from to y i = (from_between _ from to y i).1
 
@@ -108,7 +108,7 @@ joined_ascends p front way rest f up low k far =
 front_ascends : (whole xs : List Place) → IsFront xs whole → IsAscending place_cmp whole → IsAscending place_cmp xs
 front_ascends whole xs f h = ascends_left place_cmp xs f.0 (subst (IsAscending place_cmp) f.1 h)
 
-module _ (root : Tree) where
+module _ (root : StorageRoot) where
   -- the directories on the way to a place, and then those above it
   pub listed_once : (from to : Option Place) (down listed : List Place) → IsFront down (way_of from) → IsFront listed (looked_between root from to) → IsAscending place_cmp (down ++ listed)
   listed_once None to down listed f g = subst (λ xs. IsAscending place_cmp (xs ++ listed)) (sym (front_of_none down f)) (front_ascends _ listed g (looked_ascend root None to))

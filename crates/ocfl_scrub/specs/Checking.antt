@@ -2,7 +2,7 @@
 use Rattle.std.specs.Prelude.{◌≡◌, ◌≢◌, ℕ, List, [], ◌∷◌, Bool, not, Option, AllPairs}
 use Rattle.std.specs.Io.KnownBytes.{Appends}
 use Rattle.ocfl_tree.specs.Place.{Text, Place}
-use Rattle.ocfl_tree.specs.Tree.{Tree}
+use Rattle.ocfl_tree.specs.StorageRoot.{StorageRoot}
 use Rattle.ocfl_tree.specs.Store.{Store}
 use Rattle.ocfl_tree.specs.declared.store.Opening.{Opening}
 use Rattle.ocfl_report.specs.Line.{Item, found}
@@ -20,7 +20,7 @@ use Rattle.ocfl_scrub.specs.declared.checking.End.{End}
 use Rattle.ocfl_scrub.specs.declared.checking.End.TheVariants as end
 
 -- the item at a place, where a trail shows what could not be read
-abbrev pub checked_item : Tree → List Opening → Place → List Item
+abbrev pub checked_item : StorageRoot → List Opening → Place → List Item
 checked_item root trail p = item_at root (unread_of root trail) p
 
 -- each file was opened at most once
@@ -28,13 +28,13 @@ abbrev pub AreOnce : List Opening → Type 0
 AreOnce trail = AllPairs (λ a b. a.place ≢ b.place) trail
 
 -- only directories on the way to a place were listed, at most the inventory of its object was read, and no file was opened twice
-pub record IsJustFor (root : Tree) (p : Place) (listed heads : List Place) (trail : List Opening) : Type 0 where
+pub record IsJustFor (root : StorageRoot) (p : Place) (listed heads : List Place) (trail : List Opening) : Type 0 where
   pub listed_front : IsFront listed (way_to p)
   pub heads_front : IsFront heads (holder_of (zone root p))
   pub once : AreOnce trail
 
 -- from s to t the place was checked: its lines were written, its file was opened if it is hashed and no other content, only directories on the way to it were listed, each once, and at most the inventory of its object was read
-pub record Checks (root : Tree) (s t : Store) (old new : Option (List ℕ)) (p : Place) (item finding : Bool) : Type 0 where
+pub record Checks (root : StorageRoot) (s t : Store) (old new : Option (List ℕ)) (p : Place) (item finding : Bool) : Type 0 where
   pub trail : List Opening
   pub listed : List Place
   pub heads : List Place
@@ -45,7 +45,7 @@ pub record Checks (root : Tree) (s t : Store) (old new : Option (List ℕ)) (p :
   pub found_is : finding ≡ found (checked_item root trail p)
 
 -- from s to t checking the place stopped: at most a proper beginning of its text went out, and nothing where it was not the output that failed
-pub record CheckStops (root : Tree) (s t : Store) (old new : Option (List ℕ)) (p : Place) (why : Fault) : Type 0 where
+pub record CheckStops (root : StorageRoot) (s t : Store) (old new : Option (List ℕ)) (p : Place) (why : Fault) : Type 0 where
   pub trail : List Opening
   pub begun : List Place
   pub one : IsFront begun (p ∷ [])
@@ -57,6 +57,6 @@ pub record CheckStops (root : Tree) (s t : Store) (old new : Option (List ℕ)) 
   pub wrote : Appends old new part
   pub part_of : PartOf why (text (checked_item root trail p)) part
 
-abbrev pub CheckEnds : Tree → Store → Store → Option (List ℕ) → Option (List ℕ) → Place → Bool → Bool → End → Type 0
+abbrev pub CheckEnds : StorageRoot → Store → Store → Option (List ℕ) → Option (List ℕ) → Place → Bool → Bool → End → Type 0
 CheckEnds root s t old new p item finding end.Ended = Checks root s t old new p item finding
 CheckEnds root s t old new p item finding (end.Stopped why) = CheckStops root s t old new p why

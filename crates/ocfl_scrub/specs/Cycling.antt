@@ -2,7 +2,7 @@
 use Rattle.std.specs.Prelude.{◌≡◌, ◌<◌, ◌≤◌, ◌+◌, ◌/◌, ◌↔◌, ℕ, List, [], ◌++◌, Bool, true, false, Option, None, All, map, take, length, ⊤}
 use Rattle.std.specs.Io.KnownBytes.{Appends}
 use Rattle.ocfl_tree.specs.Place.{Place}
-use Rattle.ocfl_tree.specs.Tree.{Tree}
+use Rattle.ocfl_tree.specs.StorageRoot.{StorageRoot}
 use Rattle.ocfl_tree.specs.Store.{Store}
 use Rattle.ocfl_tree.specs.declared.store.Opening.{Opening}
 use Rattle.ocfl_report.specs.Line.{Item}
@@ -20,14 +20,14 @@ use Rattle.ocfl_scrub.specs.declared.cycling.CycleStatus.{CycleStatus}
 use Rattle.ocfl_scrub.specs.declared.cycling.CycleStatus.TheVariants as status
 
 -- the runs of the whole audit, where a trail shows what could not be read
-abbrev pub audit_of : Tree → List Opening → List Item
+abbrev pub audit_of : StorageRoot → List Opening → List Item
 audit_of root trail = audit root (unread_of root trail)
 
-abbrev pub all_runs : Tree → List Opening → List Limits → List (List Item)
+abbrev pub all_runs : StorageRoot → List Opening → List Limits → List (List Item)
 all_runs root trail limits = runs (audit_of root trail) limits
 
 -- what they take together
-abbrev pub all_taken : Tree → List Opening → List Limits → List Item
+abbrev pub all_taken : StorageRoot → List Opening → List Limits → List Item
 all_taken root trail limits = joined (all_runs root trail limits)
 
 -- how many runs are enough for limits that are each at least so large
@@ -35,7 +35,7 @@ abbrev pub enough : List Item → ℕ → ℕ → ℕ
 enough items b n = total_cost items / b + total_files items / n + 1
 
 -- from s to t a cycle made the runs of the limits: what they take together was written, and each hashed file of it was opened once, in order; inventories were read at most as often as there are any, and once more for each run behind the first
-pub record Cycles (root : Tree) (s t : Store) (old new : Option (List ℕ)) (last : Option Place) (limits : List Limits) (spent files : ℕ) (finding : Bool) (count : ℕ) (whole : Bool) : Type 0 where
+pub record Cycles (root : StorageRoot) (s t : Store) (old new : Option (List ℕ)) (last : Option Place) (limits : List Limits) (spent files : ℕ) (finding : Bool) (count : ℕ) (whole : Bool) : Type 0 where
   pub trail : List Opening
   pub listed : List Place
   pub heads : List Place
@@ -51,7 +51,7 @@ pub record Cycles (root : Tree) (s t : Store) (old new : Option (List ℕ)) (las
   pub by_sum : (k : ℕ) → 1 ≤ k → k ≤ length limits → FilesFit (audit_of root trail) limits → total_cost (audit_of root trail) ≤ sum_of (take k (map (λ l. l.budget) limits)) → (whole ≡ true) × (count ≤ k)
 
 -- from s to t a cycle stopped: the first items that its runs take went out whole, and of the next at most a proper beginning
-pub record CycleStops (root : Tree) (s t : Store) (old new : Option (List ℕ)) (last : Option Place) (limits : List Limits) (spent files : ℕ) (finding : Bool) (count : ℕ) (why : Fault) : Type 0 where
+pub record CycleStops (root : StorageRoot) (s t : Store) (old new : Option (List ℕ)) (last : Option Place) (limits : List Limits) (spent files : ℕ) (finding : Bool) (count : ℕ) (why : Fault) : Type 0 where
   pub trail : List Opening
   pub stops : StopsWithin (all_taken root trail limits) old new None last why
   pub figures : Figures stops.whole spent files finding
@@ -61,7 +61,7 @@ pub record CycleStops (root : Tree) (s t : Store) (old new : Option (List ℕ)) 
   pub inventories_read : 1 ≤ count → length heads < length (inventories root) + count
   pub count_fits : count ≤ length (all_runs root trail limits)
 
-abbrev pub CycleEnds : Tree → Store → Store → Option (List ℕ) → Option (List ℕ) → Option Place → List Limits → ℕ → ℕ → Bool → ℕ → CycleStatus → Type 0
+abbrev pub CycleEnds : StorageRoot → Store → Store → Option (List ℕ) → Option (List ℕ) → Option Place → List Limits → ℕ → ℕ → Bool → ℕ → CycleStatus → Type 0
 CycleEnds root s t old new last limits spent files finding count status.Ended = Cycles root s t old new last limits spent files finding count true
 CycleEnds root s t old new last limits spent files finding count status.Spent = Cycles root s t old new last limits spent files finding count false
 CycleEnds root s t old new last limits spent files finding count (status.Stopped why) = CycleStops root s t old new last limits spent files finding count why
@@ -76,7 +76,7 @@ abbrev pub cycle_cursor : ℕ → ℕ → ℕ → State → Cursor
 cycle_cursor count spent files state = record { cycle = 1; runs = count; spent = spent; files = files; state = state }
 
 -- from s to t a cycle led to a cursor
-pub record CyclesTo (root : Tree) (s t : Store) (old new : Option (List ℕ)) (limits : List Limits) (c : Cursor) (finding : Bool) (end : CycleStatus) : Type 0 where
+pub record CyclesTo (root : StorageRoot) (s t : Store) (old new : Option (List ℕ)) (limits : List Limits) (c : Cursor) (finding : Bool) (end : CycleStatus) : Type 0 where
   pub last : Option Place
   pub cycle : CycleEnds root s t old new last limits c.spent c.files finding c.runs end
   pub cursor_is : c ≡ cycle_cursor c.runs c.spent c.files (cycle_state end last)
@@ -84,7 +84,7 @@ pub record CyclesTo (root : Tree) (s t : Store) (old new : Option (List ℕ)) (l
 -- ---- the headline: where no failure was counted
 
 -- While the root stays unchanged and every call succeeds: the reports of the runs, joined, are the cuts of the audit by their limits, so that each run starts a file only while its cost is below its budget and its files below their limit; where the cycle has ended they are exactly the whole audit, and each hashed file was opened once, in order; and it has ended within as many runs as the cost by the budget and the files by their limit, each rounded down, and one more
-pub record Headline (root : Tree) (s t : Store) (old new : Option (List ℕ)) (limits : List Limits) (count : ℕ) (whole : Bool) : Type 0 where
+pub record Headline (root : StorageRoot) (s t : Store) (old new : Option (List ℕ)) (limits : List Limits) (count : ℕ) (whole : Bool) : Type 0 where
   pub trail : List Opening
   pub opened : t.openings ≡ s.openings ++ trail
   pub reports : Appends old new (text (joined (runs (audit root []) limits)))
@@ -93,7 +93,7 @@ pub record Headline (root : Tree) (s t : Store) (old new : Option (List ℕ)) (l
   pub opened_once : whole ≡ true → content_trail root trail ≡ hashed_among root (item_places root)
   pub ends_within : (b n : ℕ) → 1 ≤ b → 1 ≤ n → All (IsAtLeast b n) limits → enough (audit root []) b n ≤ length limits → (whole ≡ true) × (count ≤ enough (audit root []) b n)
 
-abbrev pub HeadlineOf : Tree → Store → Store → Option (List ℕ) → Option (List ℕ) → List Limits → ℕ → CycleStatus → Type 0
+abbrev pub HeadlineOf : StorageRoot → Store → Store → Option (List ℕ) → Option (List ℕ) → List Limits → ℕ → CycleStatus → Type 0
 HeadlineOf root s t old new limits count status.Ended = Headline root s t old new limits count true
 HeadlineOf root s t old new limits count status.Spent = Headline root s t old new limits count false
 HeadlineOf root s t old new limits count (status.Stopped why) = ⊤

@@ -2,7 +2,7 @@
 use Rattle.std.specs.Prelude.{◌≡◌, ◌≢◌, ◌⊎◌, ℕ, List, Bool, true, false, Option, Some, None, Vec, ⊤}
 use Rattle.std.specs.declared.alloc.Global.{Global}
 use Rattle.ocfl_tree.specs.Place.{Place}
-use Rattle.ocfl_tree.specs.Tree.{Tree}
+use Rattle.ocfl_tree.specs.StorageRoot.{StorageRoot}
 use Rattle.ocfl_tree.specs.Store.{Store}
 use Rattle.ocfl_cursor.specs.Cursor.{Cursor, cursor_text}
 use Rattle.ocfl_cursor.specs.declared.reading.CursorStop.{CursorStop}
@@ -162,13 +162,13 @@ IsUnreadNote (stop.Refused refused.Damaged) status n = (status ≡ 4) × (n ≡ 
 IsUnreadNote (stop.Refused refused.Malformed) status n = (status ≡ 4) × (n ≡ note.CursorRefused refused.Malformed)
 
 -- the place was checked, and the status and the text are those of the check
-pub record ChecksWithNote (root : Tree) (s t : Store) (old new : Option (List ℕ)) (p : Place) (status : ℕ) (n : Note) : Type 0 where
+pub record ChecksWithNote (root : StorageRoot) (s t : Store) (old new : Option (List ℕ)) (p : Place) (status : ℕ) (n : Note) : Type 0 where
   pub ran : CheckEnd
   pub checks : CheckEnds root s t old new p ran.item ran.found ran.end
   pub says : IsCheckNote ran.item ran.found ran.end status n
 
 -- the root was audited, and the status and the text are those of the audit
-pub record AuditsWithNote (root : Tree) (s t : Store) (old new : Option (List ℕ)) (status : ℕ) (n : Note) : Type 0 where
+pub record AuditsWithNote (root : StorageRoot) (s t : Store) (old new : Option (List ℕ)) (status : ℕ) (n : Note) : Type 0 where
   pub ran : AuditEnd
   pub audits : AuditEnds root s t old new ran.last ran.found ran.end
   pub says : IsAuditNote ran.found ran.end status n
@@ -179,14 +179,14 @@ IsStoredNote c spent finding how status n None = (status ≡ 3) × (n ≡ note.O
 IsStoredNote c spent finding how status n (Some stored) = (stored.items ≡ cursor_text c) × IsRunNote c spent finding how status n
 
 -- a run was made from a cursor, and the status, the text and what is handed back are those of the run
-pub record RunsWithNote (root : Tree) (s t : Store) (old new : Option (List ℕ)) (c : Cursor) (limits : Limits) (status : ℕ) (n : Note) (stored : Option (Vec ℕ Global)) : Type 0 where
+pub record RunsWithNote (root : StorageRoot) (s t : Store) (old new : Option (List ℕ)) (c : Cursor) (limits : Limits) (status : ℕ) (n : Note) (stored : Option (Vec ℕ Global)) : Type 0 where
   pub ran : RunEnd
   pub runs : RunsFrom root s t old new c limits ran.cursor ran.spent ran.files ran.found ran.end
   pub clean : t.failures ≡ s.failures → RunsCleanly root old new c limits ran.spent ran.files ran.found ran.end
   pub says : IsStoredNote ran.cursor ran.spent ran.found ran.end status n stored
 
 -- a cycle was made, and the status and the text are those of the cycle
-pub record CyclesWithNote (root : Tree) (s t : Store) (old new : Option (List ℕ)) (limits : List Limits) (status : ℕ) (n : Note) : Type 0 where
+pub record CyclesWithNote (root : StorageRoot) (s t : Store) (old new : Option (List ℕ)) (limits : List Limits) (status : ℕ) (n : Note) : Type 0 where
   pub ran : CycleEnd
   pub cycles : CyclesTo root s t old new limits ran.cursor ran.found ran.end
   pub headline : t.failures ≡ s.failures → HeadlineOf root s t old new limits ran.runs ran.end

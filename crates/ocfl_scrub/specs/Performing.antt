@@ -5,7 +5,7 @@ use Rattle.std.specs.Borrow.{MutBor}
 use Rattle.std.specs.Io.KnownBytes.{Appends}
 use Rattle.ocfl_tree.specs.Place.{Text, Place}
 use Rattle.ocfl_tree.specs.Name.{IsPlace}
-use Rattle.ocfl_tree.specs.Tree.{Tree}
+use Rattle.ocfl_tree.specs.StorageRoot.{StorageRoot}
 use Rattle.ocfl_tree.specs.Store.{Store}
 use Rattle.ocfl_report.specs.Line.{found}
 use Rattle.ocfl_report.specs.Text.{place_text, text}
@@ -146,7 +146,7 @@ WritesBy known deed status n old new = IsWhole n → WritesWithStatus old new st
 -- ---- of a store that tells its tree
 
 -- where no failure was counted, the whole audit went out
-pub record AuditPerformed (root : Tree) (s t : Store) (old new : Option (List ℕ)) (status : ℕ) (n : Note) : Type 0 where
+pub record AuditPerformed (root : StorageRoot) (s t : Store) (old new : Option (List ℕ)) (status : ℕ) (n : Note) : Type 0 where
   pub audits : AuditsWithNote root s t old new status n
   pub clean : n ≡ note.Nothing → t.failures ≡ s.failures → Appends old new (text (audit root [])) × (status ≡ status_of (found (audit root [])))
 
@@ -157,7 +157,7 @@ pub record OutOfMemoryFirst (s t : Store) (old new : Option (List ℕ)) (status 
   pub uncalled : t ≡ s
   pub unwritten : new ≡ old
 
-abbrev pub CheckPerformed : Tree → Store → Store → Option (List ℕ) → Option (List ℕ) → Text → ℕ → Note → Type 0
+abbrev pub CheckPerformed : StorageRoot → Store → Store → Option (List ℕ) → Option (List ℕ) → Text → ℕ → Note → Type 0
 CheckPerformed root s t old new path status n = (p : Place) → IsPlace p → path ≡ place_text p →
     ChecksWithNote root s t old new p status n ⊎ OutOfMemoryFirst s t old new status n
 
@@ -183,12 +183,12 @@ pub record RunUnmade (known : Option (Option Text)) (s t : Store) (old new : Opt
   pub unkept : IsNone stored
 
 -- a run was made from the cursor that was read
-pub record RunMade (known : Option (Option Text)) (root : Tree) (s t : Store) (old new : Option (List ℕ)) (limits : Limits) (status : ℕ) (n : Note) (stored : Option (Vec ℕ Global)) : Type 0 where
+pub record RunMade (known : Option (Option Text)) (root : StorageRoot) (s t : Store) (old new : Option (List ℕ)) (limits : Limits) (status : ℕ) (n : Note) (stored : Option (Vec ℕ Global)) : Type 0 where
   pub from : Cursor
   pub begins : BeginsWith known from
   pub runs : RunsWithNote root s t old new from limits status n stored
 
-abbrev pub RunPerformed : Option (Option Text) → Tree → Store → Store → Option (List ℕ) → Option (List ℕ) → Limits → ℕ → Note → Option (Vec ℕ Global) → Type 0
+abbrev pub RunPerformed : Option (Option Text) → StorageRoot → Store → Store → Option (List ℕ) → Option (List ℕ) → Limits → ℕ → Note → Option (Vec ℕ Global) → Type 0
 RunPerformed known root s t old new limits status n stored =
     RunMade known root s t old new limits status n stored ⊎ RunUnmade known s t old new status n stored
 
@@ -196,11 +196,11 @@ RunPerformed known root s t old new limits status n stored =
 abbrev pub equal_limits : MadeLimits → ℕ → List Limits
 equal_limits limits count = map limits_of (replicate count limits)
 
-abbrev pub CyclePerformed : Tree → Store → Store → Option (List ℕ) → Option (List ℕ) → List Limits → ℕ → Note → Type 0
+abbrev pub CyclePerformed : StorageRoot → Store → Store → Option (List ℕ) → Option (List ℕ) → List Limits → ℕ → Note → Type 0
 CyclePerformed root s t old new limits status n = CyclesWithNote root s t old new limits status n ⊎ OutOfMemoryFirst s t old new status n
 
 -- from s to t the deed was done
-abbrev pub Performs : Option (Option Text) → Tree → Store → Store → Option (List ℕ) → Option (List ℕ) → Deed → ℕ → Note → Option (Vec ℕ Global) → Type 0
+abbrev pub Performs : Option (Option Text) → StorageRoot → Store → Store → Option (List ℕ) → Option (List ℕ) → Deed → ℕ → Note → Option (Vec ℕ Global) → Type 0
 Performs known root s t old new deed.Audit status n stored = AuditPerformed root s t old new status n
 Performs known root s t old new (deed.Check path) status n stored = CheckPerformed root s t old new (string_bytes path) status n
 Performs known root s t old new (deed.Run limits) status n stored = RunPerformed known root s t old new (limits_of limits) status n stored

@@ -3,7 +3,7 @@ use Rattle.std.specs.Prelude.{◌≡◌, ◌≢◌, ◌<◌, ◌≤◌, ◌+◌,
 use Rattle.std.specs.Io.KnownBytes.{Appends}
 use Rattle.ocfl_tree.specs.Place.{Place, place_cmp}
 use Rattle.ocfl_tree.specs.Ascending.{IsAscending}
-use Rattle.ocfl_tree.specs.Tree.{Tree}
+use Rattle.ocfl_tree.specs.StorageRoot.{StorageRoot}
 use Rattle.ocfl_tree.specs.Store.{Store}
 use Rattle.ocfl_tree.specs.declared.store.Opening.{Opening}
 use Rattle.ocfl_report.specs.Line.{Item}
@@ -83,14 +83,14 @@ pub record IsPaid (limits : Limits) (spent files : ℕ) : Type 0 where
 -- ---- of a store that tells its tree
 
 -- the items above a place, where a trail shows what could not be read
-abbrev pub items_above : Tree → List Opening → Option Place → List Item
+abbrev pub items_above : StorageRoot → List Opening → Option Place → List Item
 items_above root trail from = after (audit root (unread_of root trail)) from
 
 -- those of them that the limits allow, and those that they leave
-abbrev pub taken : Tree → List Opening → Option Place → Limits → List Item
+abbrev pub taken : StorageRoot → List Opening → Option Place → Limits → List Item
 taken root trail from limits = cut (items_above root trail from) limits
 
-abbrev pub rest : Tree → List Opening → Option Place → Limits → List Item
+abbrev pub rest : StorageRoot → List Opening → Option Place → Limits → List Item
 rest root trail from limits = left (items_above root trail from) limits
 
 abbrev pub first_of : List Item → Option Place
@@ -103,7 +103,7 @@ last_cost [] = 0
 last_cost (i ∷ items) = if last_cost items == 0 then i.cost else last_cost items
 
 -- from s to t a run took the cut of its limits. Each hashed file of it was opened once, in order. Listed were the first directories on the way to the place above which it began, and those from there to the first item that is left; read were at most the inventory of the object that holds that place, and those from there on. What was spent passes the budget by less than the last file's cost
-pub record Runs (root : Tree) (s t : Store) (old new : Option (List ℕ)) (from last : Option Place) (limits : Limits) (spent files : ℕ) (finding : Bool) (next : Option Place) : Type 0 where
+pub record Runs (root : StorageRoot) (s t : Store) (old new : Option (List ℕ)) (from last : Option Place) (limits : Limits) (spent files : ℕ) (finding : Bool) (next : Option Place) : Type 0 where
   pub trail : List Opening
   pub down : List Place
   pub held : List Place
@@ -119,7 +119,7 @@ pub record Runs (root : Tree) (s t : Store) (old new : Option (List ℕ)) (from 
   pub overrun : 0 < spent → spent < limits.budget + last_cost (taken root trail from limits)
 
 -- from s to t a run stopped: the first items of the cut went out whole, and of the next at most a proper beginning
-pub record RunStops (root : Tree) (s t : Store) (old new : Option (List ℕ)) (from last : Option Place) (limits : Limits) (spent files : ℕ) (finding : Bool) (why : Fault) : Type 0 where
+pub record RunStops (root : StorageRoot) (s t : Store) (old new : Option (List ℕ)) (from last : Option Place) (limits : Limits) (spent files : ℕ) (finding : Bool) (why : Fault) : Type 0 where
   pub trail : List Opening
   pub stops : StopsWithin (taken root trail from limits) old new from last why
   pub figures : Figures stops.whole spent files finding
@@ -135,14 +135,14 @@ pub record RunStops (root : Tree) (s t : Store) (old new : Option (List ℕ)) (f
   pub lists_once : IsAscending place_cmp (down ++ listed)
   pub reads_once : IsAscending place_cmp (held ++ heads)
 
-abbrev pub RunEnds : Tree → Store → Store → Option (List ℕ) → Option (List ℕ) → Option Place → Option Place → Limits → ℕ → ℕ → Bool → RunStatus → Type 0
+abbrev pub RunEnds : StorageRoot → Store → Store → Option (List ℕ) → Option (List ℕ) → Option Place → Option Place → Limits → ℕ → ℕ → Bool → RunStatus → Type 0
 RunEnds root s t old new from last limits spent files finding status.Ended = Runs root s t old new from last limits spent files finding None
 RunEnds root s t old new from last limits spent files finding status.Spent = (next : Place) × Runs root s t old new from last limits spent files finding (Some next)
 RunEnds root s t old new from last limits spent files finding (status.Stopped why) = RunStops root s t old new from last limits spent files finding why
 RunEnds root s t old new from last limits spent files finding status.Worn = ⊥
 
 -- from s to t a run from one cursor led to another
-pub record RunsFrom (root : Tree) (s t : Store) (old new : Option (List ℕ)) (c : Cursor) (limits : Limits) (reached : Cursor) (spent files : ℕ) (finding : Bool) (end : RunStatus) : Type 0 where
+pub record RunsFrom (root : StorageRoot) (s t : Store) (old new : Option (List ℕ)) (c : Cursor) (limits : Limits) (reached : Cursor) (spent files : ℕ) (finding : Bool) (end : RunStatus) : Type 0 where
   pub last : Option Place
   pub run : RunEnds root s t old new (place_in c.state) last limits spent files finding end
   pub cursor_is : reached ≡ after_run (begun c) spent files (state_after end last)
@@ -150,12 +150,12 @@ pub record RunsFrom (root : Tree) (s t : Store) (old new : Option (List ℕ)) (c
 -- ---- where no failure was counted
 
 -- the text and the figures of a run are those of the cut of the audit of files that can all be read
-pub record RunsClean (root : Tree) (old new : Option (List ℕ)) (from : Option Place) (limits : Limits) (spent files : ℕ) (finding : Bool) : Type 0 where
+pub record RunsClean (root : StorageRoot) (old new : Option (List ℕ)) (from : Option Place) (limits : Limits) (spent files : ℕ) (finding : Bool) : Type 0 where
   pub wrote : Appends old new (text (cut (after (audit root []) from) limits))
   pub figures : Figures (cut (after (audit root []) from) limits) spent files finding
 
 -- and it ended with the cycle exactly where it left nothing
-abbrev pub RunsCleanly : Tree → Option (List ℕ) → Option (List ℕ) → Cursor → Limits → ℕ → ℕ → Bool → RunStatus → Type 0
+abbrev pub RunsCleanly : StorageRoot → Option (List ℕ) → Option (List ℕ) → Cursor → Limits → ℕ → ℕ → Bool → RunStatus → Type 0
 RunsCleanly root old new c limits spent files finding status.Ended = RunsClean root old new (place_in c.state) limits spent files finding × (left (after (audit root []) (place_in c.state)) limits ≡ [])
 RunsCleanly root old new c limits spent files finding status.Spent = RunsClean root old new (place_in c.state) limits spent files finding × (left (after (audit root []) (place_in c.state)) limits ≢ [])
 RunsCleanly root old new c limits spent files finding (status.Stopped why) = ⊤

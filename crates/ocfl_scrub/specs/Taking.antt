@@ -3,7 +3,7 @@ use Rattle.std.specs.Prelude.{◌≡◌, ◌≢◌, ◌<◌, ℕ, List, [], ◌�
 use Rattle.std.specs.List.{list_any}
 use Rattle.std.specs.Io.KnownBytes.{Appends}
 use Rattle.ocfl_tree.specs.Place.{Text, Place}
-use Rattle.ocfl_tree.specs.Tree.{Tree}
+use Rattle.ocfl_tree.specs.StorageRoot.{StorageRoot}
 use Rattle.ocfl_tree.specs.Store.{Store}
 use Rattle.ocfl_tree.specs.declared.store.Opening.{Opening}
 use Rattle.ocfl_report.specs.Line.{Line, is_finding_code, found}
@@ -28,7 +28,7 @@ pub record PartOf (why : Fault) (whole part : Text) : Type 0 where
   pub none : why ≢ fault.Output → gone ≡ 0
 
 -- from s to t the item at p was judged, its file alone was opened if it is hashed, and its lines went out whole
-pub record Takes (root : Tree) (s t : Store) (old new : Option (List ℕ)) (p : Place) (cost : ℕ) (finding : Bool) : Type 0 where
+pub record Takes (root : StorageRoot) (s t : Store) (old new : Option (List ℕ)) (p : Place) (cost : ℕ) (finding : Bool) : Type 0 where
   pub trail : List Opening
   pub audits : Audits root s t (p ∷ []) [] [] trail
   pub alone : places_of trail ≡ hashed_among root (p ∷ [])
@@ -37,7 +37,7 @@ pub record Takes (root : Tree) (s t : Store) (old new : Option (List ℕ)) (p : 
   pub found_is : finding ≡ found (items_at root trail (p ∷ []))
 
 -- from s to t it was judged, or not even begun, and its lines did not go out whole
-pub record Misses (root : Tree) (s t : Store) (old new : Option (List ℕ)) (p : Place) (why : Fault) : Type 0 where
+pub record Misses (root : StorageRoot) (s t : Store) (old new : Option (List ℕ)) (p : Place) (why : Fault) : Type 0 where
   pub trail : List Opening
   pub begun : List Place
   pub one : IsFront begun (p ∷ [])

@@ -3,7 +3,7 @@ ghost use Rattle.std.specs.Prelude.{◌≡◌, ◌≢◌, ◌||◌, [], None, fa
 ghost use Rattle.std.specs.Io.KnownBytes.{Appends};
 ghost use Rattle.ocfl_report.specs.Line.{found as found_in};
 ghost use Rattle.ocfl_report.specs.Text.{text};
-ghost use Rattle.ocfl_tree.specs.Tree.{Tree as Root};
+ghost use Rattle.ocfl_tree.specs.StorageRoot.{StorageRoot};
 ghost use Rattle.ocfl_audit.specs.Audit.{audit as whole_audit};
 ghost use Rattle.ocfl_item.specs.Judging.{HasShortFiles};
 ghost use Rattle.ocfl_scrub.specs.Taking.{WritesLines};
@@ -49,11 +49,11 @@ pub fn audit<T: Tree, W: Write>(
     ensures none_found { result.last ≡ None → result.found ≡ false }
 
     // Of a store that tells its tree.
-    ensures told { IsTrue T.told → (root : Root) → (T.state store.old).tree ≡ root
+    ensures told { IsTrue T.told → (root : StorageRoot) → (T.state store.old).tree ≡ root
         → HasShortFiles root →
         AuditEnds root (T.state store.old) (T.state store.new) (W.contents out.old)
         (W.contents out.new) result.last result.found result.end }
-    ensures unfailing { IsTrue T.told → (root : Root) → (T.state store.old).tree ≡ root
+    ensures unfailing { IsTrue T.told → (root : StorageRoot) → (T.state store.old).tree ≡ root
         → HasShortFiles root → result.end ≡ End.Ended
         → (T.state store.new).failures ≡ (T.state store.old).failures
         → Appends (W.contents out.old) (W.contents out.new) (text (whole_audit root []))

@@ -5,7 +5,7 @@ ghost use Rattle.ocfl_tree.specs.Name.{IsPlace};
 ghost use Rattle.ocfl_report.specs.Line.{found as found_in};
 ghost use Rattle.ocfl_report.specs.Text.{place_text, text};
 ghost use Rattle.ocfl_audit.specs.Audit.{audit as whole_audit};
-ghost use Rattle.ocfl_tree.specs.Tree.{Tree as Root};
+ghost use Rattle.ocfl_tree.specs.StorageRoot.{StorageRoot};
 ghost use Rattle.ocfl_item.specs.Judging.{HasShortFiles};
 ghost use Rattle.ocfl_scrub.specs.Noting.{status_of, IsAuditNote, IsAuditSaid, IsCheckNote};
 ghost use Rattle.ocfl_scrub.specs.Noting.{IsCheckSaid, IsRefused, IsStatus, IsStopNote, IsStopSaid};
@@ -46,7 +46,7 @@ pub fn checked<T: Tree, W: Write>(
     ensures silent { result.1 ≢ Note.Nothing → result.1 ≢ Note.OutputFailed → out.new ≡ out.old }
 
     // Of a store that tells its tree.
-    ensures told { IsTrue T.told → (root : Root) → (T.state store.old).tree ≡ root
+    ensures told { IsTrue T.told → (root : StorageRoot) → (T.state store.old).tree ≡ root
         → HasShortFiles root → (p : ModelPlace) → IsPlace p → path.now ≡ place_text p
         → ChecksWithNote root (T.state store.old) (T.state store.new) (W.contents out.old)
         (W.contents out.new) p result.0 result.1
@@ -77,11 +77,11 @@ pub fn audited<T: Tree, W: Write>(
         → WritesWhole (W.contents out.old) (W.contents out.new) }
 
     // Of a store that tells its tree.
-    ensures told { IsTrue T.told → (root : Root) → (T.state store.old).tree ≡ root
+    ensures told { IsTrue T.told → (root : StorageRoot) → (T.state store.old).tree ≡ root
         → HasShortFiles root →
         AuditsWithNote root (T.state store.old) (T.state store.new) (W.contents out.old)
         (W.contents out.new) result.0 result.1 }
-    ensures unfailing { IsTrue T.told → (root : Root) → (T.state store.old).tree ≡ root
+    ensures unfailing { IsTrue T.told → (root : StorageRoot) → (T.state store.old).tree ≡ root
         → HasShortFiles root → result.1 ≡ Note.Nothing
         → (T.state store.new).failures ≡ (T.state store.old).failures
         → Appends (W.contents out.old) (W.contents out.new) (text (whole_audit root []))

@@ -1,7 +1,7 @@
 //! A cycle of runs from the first item, each with limits of its own.
 ghost use Rattle.std.specs.Prelude.{◌≡◌, ◌≢◌, ◌↔◌, ◌≤◌, [], false, map, length, IfOk, IsTrue};
 ghost use Rattle.ocfl_cursor.specs.Cursor.{ended, new_cursor};
-ghost use Rattle.ocfl_tree.specs.Tree.{Tree as Root};
+ghost use Rattle.ocfl_tree.specs.StorageRoot.{StorageRoot};
 ghost use Rattle.ocfl_item.specs.Judging.{HasShortFiles};
 ghost use Rattle.ocfl_scrub.specs.Cycling.{CyclesTo, HeadlineOf};
 ghost use Rattle.ocfl_scrub.specs.Running.{limits_of};
@@ -72,11 +72,11 @@ pub fn cycle<T: Tree, W: Write>(
         WritesLines (W.contents out.old) (W.contents out.new) result.found }
 
     // Of a store that tells its tree.
-    ensures told { IsTrue T.told → (root : Root) → (T.state store.old).tree ≡ root →
+    ensures told { IsTrue T.told → (root : StorageRoot) → (T.state store.old).tree ≡ root →
         HasShortFiles root →
         CyclesTo root (T.state store.old) (T.state store.new) (W.contents out.old)
         (W.contents out.new) (map limits_of limits.now) result.cursor result.found result.end }
-    ensures headline { IsTrue T.told → (root : Root) → (T.state store.old).tree ≡ root →
+    ensures headline { IsTrue T.told → (root : StorageRoot) → (T.state store.old).tree ≡ root →
         HasShortFiles root → (T.state store.new).failures ≡ (T.state store.old).failures →
         HeadlineOf root (T.state store.old) (T.state store.new) (W.contents out.old)
         (W.contents out.new) (map limits_of limits.now) result.runs result.end }

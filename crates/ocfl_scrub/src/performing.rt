@@ -2,7 +2,7 @@
 ghost use Rattle.std.specs.Prelude.{◌≡◌, ◌≢◌, ◌↔◌, ℕ, IfErr, IfOk, IsNone, IsTrue, Some, Vec};
 ghost use Rattle.std.specs.Prelude.{replicate};
 ghost use Rattle.std.specs.declared.alloc.Global.{Global};
-ghost use Rattle.ocfl_tree.specs.Tree.{Tree as Root};
+ghost use Rattle.ocfl_tree.specs.StorageRoot.{StorageRoot};
 ghost use Rattle.ocfl_item.specs.Judging.{HasShortFiles};
 ghost use Rattle.ocfl_scrub.specs.Running.{limits_of};
 ghost use Rattle.ocfl_scrub.specs.Noting.{IsCycleNote, IsCycleSaid, IsRanSaid, IsRunNote};
@@ -74,7 +74,7 @@ pub fn perform<T: Tree, R: Read, W: Write>(
         (W.contents out.old) (W.contents out.new) }
 
     // Of a store that tells its tree.
-    ensures told { IsTrue T.told → (root : Root) → (T.state store.old).tree ≡ root →
+    ensures told { IsTrue T.told → (root : StorageRoot) → (T.state store.old).tree ≡ root →
         HasShortFiles root →
         Performs (bytes_of R.remaining reader.entry) root (T.state store.old) (T.state store.new)
         (W.contents out.old) (W.contents out.new) deed.now result.status result.note result.cursor }
@@ -151,7 +151,7 @@ fn performed_run<T: Tree, R: Read, W: Write>(
         WritesWithStatus (W.contents out.old) (W.contents out.new) result.status }
 
     // Of a store that tells its tree.
-    ensures told { IsTrue T.told → (root : Root) → (T.state store.old).tree ≡ root →
+    ensures told { IsTrue T.told → (root : StorageRoot) → (T.state store.old).tree ≡ root →
         HasShortFiles root →
         RunPerformed (bytes_of R.remaining reader.entry) root (T.state store.old)
         (T.state store.new) (W.contents out.old) (W.contents out.new) (limits_of limits)
@@ -246,7 +246,7 @@ fn performed_cycle<T: Tree, W: Write>(
         WritesWithStatus (W.contents out.old) (W.contents out.new) result.0 }
 
     // Of a store that tells its tree.
-    ensures told { IsTrue T.told → (root : Root) → (T.state store.old).tree ≡ root →
+    ensures told { IsTrue T.told → (root : StorageRoot) → (T.state store.old).tree ≡ root →
         HasShortFiles root →
         CyclePerformed root (T.state store.old) (T.state store.new) (W.contents out.old)
         (W.contents out.new) (limits_of_each limits count) result.0 result.1 }

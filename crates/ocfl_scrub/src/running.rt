@@ -7,7 +7,7 @@ ghost use Rattle.ocfl_cursor.specs.Moves.{after_run};
 ghost use Rattle.ocfl_cursor.specs.State.{state_of};
 ghost use Rattle.ocfl_tree.specs.Name.{IsPlace};
 ghost use Rattle.ocfl_tree.specs.Place.{Place as Spot};
-ghost use Rattle.ocfl_tree.specs.Tree.{Tree as Root};
+ghost use Rattle.ocfl_tree.specs.StorageRoot.{StorageRoot};
 ghost use Rattle.ocfl_item.specs.Judging.{HasShortFiles};
 ghost use Rattle.ocfl_scrub.specs.Taking.{WritesLines};
 ghost use Rattle.ocfl_scrub.specs.Beginning.{Begins, IsShort};
@@ -85,12 +85,12 @@ pub fn run<T: Tree, W: Write>(
         → WritesLines (W.contents out.old) (W.contents out.new) result.found }
 
     // Of a store that tells its tree.
-    ensures told { IsTrue T.told → (root : Root) → (T.state store.old).tree ≡ root
+    ensures told { IsTrue T.told → (root : StorageRoot) → (T.state store.old).tree ≡ root
         → HasShortFiles root → result.end ≢ RunStatus.Worn →
         RunsFrom root (T.state store.old) (T.state store.new) (W.contents out.old)
         (W.contents out.new) cursor (limits_of limits) result.cursor result.spent result.files
         result.found result.end }
-    ensures unfailing { IsTrue T.told → (root : Root) → (T.state store.old).tree ≡ root
+    ensures unfailing { IsTrue T.told → (root : StorageRoot) → (T.state store.old).tree ≡ root
         → HasShortFiles root → (T.state store.new).failures ≡ (T.state store.old).failures →
         RunsCleanly root (W.contents out.old) (W.contents out.new) cursor
         (limits_of limits) result.spent result.files result.found result.end }
@@ -200,7 +200,7 @@ fn pass_from<T: Tree, W: Write>(
     ensures fits { result.spent ≤ 2 ^ 63 }
     ensures lines { result.end ≢ RunStatus.Stopped Fault.Output
         → WritesLines (W.contents out.old) (W.contents out.new) result.found }
-    ensures told { IsTrue T.told → (root : Root) → (T.state store.old).tree ≡ root
+    ensures told { IsTrue T.told → (root : StorageRoot) → (T.state store.old).tree ≡ root
         → HasShortFiles root →
         RunEnds root (T.state store.old) (T.state store.new) (W.contents out.old)
         (W.contents out.new) from result.last

@@ -3,7 +3,7 @@ ghost use Rattle.std.specs.Prelude.{◌≡◌, ◌≢◌, ◌⊎◌, ◌||◌, �
 ghost use Rattle.std.specs.List.{list_any};
 ghost use Rattle.ocfl_report.specs.Line.{line_of, is_finding_code};
 ghost use Rattle.ocfl_report.specs.Text.{lines_text};
-ghost use Rattle.ocfl_tree.specs.Tree.{Tree as Root};
+ghost use Rattle.ocfl_tree.specs.StorageRoot.{StorageRoot};
 ghost use Rattle.ocfl_item.specs.Judging.{CostFits, HasShortFiles};
 ghost use Rattle.ocfl_item.specs.Pending.{IsPending};
 ghost use Rattle.ocfl_scrub.specs.Taking.{Misses, Takes, WritesLines};
@@ -45,7 +45,7 @@ pub(crate) fn take_item<T: Tree, W: Write>(
     ensures unwritten { IfErr result (λ why. why ≢ Fault.Output → out.new ≡ out.old) }
 
     // Of a store that tells its tree.
-    ensures told { IsTrue T.told → (root : Root) → (T.state store.old).tree ≡ root
+    ensures told { IsTrue T.told → (root : StorageRoot) → (T.state store.old).tree ≡ root
         → HasShortFiles root → IsPending root pending.now → MatchResult result
         (λ taken. Takes root (T.state store.old) (T.state store.new) (W.contents out.old)
         (W.contents out.new) pending.now.place taken.cost taken.found)

@@ -4,7 +4,7 @@ use Rattle.std.specs.Prelude.{is_some, MatchOption, ⊤, Result, Ok, Err}
 use Rattle.std.proofs.lemmas.Bool.{leb-false}
 use Rattle.std.proofs.lemmas.List.{same_from_push}
 use Rattle.ocfl_tree.specs.Place.{Text, Place, begins, child_name}
-use Rattle.ocfl_tree.specs.Tree.{Tree, Leaf, dir, lookup, is_dir_leaf, at, is_dir, names_in}
+use Rattle.ocfl_tree.specs.StorageRoot.{StorageRoot, Leaf, dir, lookup, is_dir_leaf, at, is_dir, names_in}
 use Rattle.ocfl_tree.specs.Faults.{Faults}
 use Rattle.ocfl_tree.specs.Internal.Nodes.{with_entry, kept_in, AreOnce, stands_at, kept_refusal}
 use Rattle.ocfl_tree.specs.MemTree.{parent, put_refusal, after_put, Puts, Removes}
@@ -19,11 +19,11 @@ use Rattle.ocfl_tree.proofs.Listings.{length-names_in}
 use Rattle.ocfl_tree.proofs.Trees.{some_not_none, dir_from_leaf, front_last, parent-append, at_in_dir, rooted_from_above, rooted_push, put_leaves, once_push, is_left, removal_leaves, rooted_left, once_left}
 
 -- no file is open any more
-pub kept_closed : (nodes : Tree) (os os' : List Opening) (o : Option OpenFile) → IsKept nodes os o → IsKept nodes os' None
+pub kept_closed : (nodes : StorageRoot) (os os' : List Opening) (o : Option OpenFile) → IsKept nodes os o → IsKept nodes os' None
 kept_closed nodes os os' o k = record { once = k.once; rooted = k.rooted; few = k.few; reading = tt }
 
 -- the refusal that was found is that of the tree
-pub refusal_found : (nodes : Tree) (os : List Opening) (o : Option OpenFile) (p : Place) → IsKept nodes os o → kept_refusal nodes p ≡ put_refusal nodes p
+pub refusal_found : (nodes : StorageRoot) (os : List Opening) (o : Option OpenFile) (p : Place) → IsKept nodes os o → kept_refusal nodes p ≡ put_refusal nodes p
 refusal_found nodes os o p k =
     let here = k.rooted p in
     let above = k.rooted (parent p) in
@@ -31,7 +31,7 @@ refusal_found nodes os o p k =
     λ i. cond (is_some (sym here i)) (Some Exists) (cond (not (is_dir_leaf (sym above i))) (Some NoParent) (cond (leb 1000000 (sym many i)) (Some Full) None))
 
 -- what is known where nothing is refused
-record IsFree (nodes : Tree) (p : Place) : Type 0 where
+record IsFree (nodes : StorageRoot) (p : Place) : Type 0 where
   d : Place
   n : Text
   below : p ≡ d ++ n ∷ []
@@ -39,7 +39,7 @@ record IsFree (nodes : Tree) (p : Place) : Type 0 where
   directory : at nodes d ≡ Some dir
   room : length (names_in nodes d) < 1000000
 
-no_refusal : (nodes : Tree) (p : Place) → put_refusal nodes p ≡ None → IsFree nodes p
+no_refusal : (nodes : StorageRoot) (p : Place) → put_refusal nodes p ≡ None → IsFree nodes p
 no_refusal nodes [] h = absurd cc
 no_refusal nodes (k ∷ p) h =
     let e = front_last k p in
@@ -65,11 +65,11 @@ with_entry-append : (o : Option Text) (x : Leaf) (es fs : List Entry) → with_e
 with_entry-append None x es fs = refl
 with_entry-append (Some n) x es fs = refl
 
-kept_in-push : (nodes : Tree) (p : Place) (x : Leaf) (d : Place) → kept_in (nodes ++ (p, x) ∷ []) d ≡ kept_in nodes d ++ with_entry (child_name d p) x []
+kept_in-push : (nodes : StorageRoot) (p : Place) (x : Leaf) (d : Place) → kept_in (nodes ++ (p, x) ∷ []) d ≡ kept_in nodes d ++ with_entry (child_name d p) x []
 kept_in-push [] p x d = refl
 kept_in-push (e ∷ nodes) p x d = ap (with_entry (child_name d e.0) e.1) (kept_in-push nodes p x d) ∙ with_entry-append (child_name d e.0) e.1 (kept_in nodes d) (with_entry (child_name d p) x [])
 
-few_push : (nodes : Tree) (p : Place) (x : Leaf) → AreOnce nodes → IsFree nodes p → ((d : Place) → length (kept_in nodes d) ≤ 1000000) → (d : Place) → length (kept_in (nodes ++ (p, x) ∷ []) d) ≤ 1000000
+few_push : (nodes : StorageRoot) (p : Place) (x : Leaf) → AreOnce nodes → IsFree nodes p → ((d : Place) → length (kept_in nodes d) ≤ 1000000) → (d : Place) → length (kept_in (nodes ++ (p, x) ∷ []) d) ≤ 1000000
 few_push nodes p x once free few d = rw (kept_in-push nodes p x d) (by (child_name d p) refl)
   where
     by : (o : Option Text) → child_name d p ≡ o → length (kept_in nodes d ++ with_entry o x []) ≤ 1000000
@@ -80,7 +80,7 @@ few_push nodes p x once free few d = rw (kept_in-push nodes p x d) (by (child_na
         let many = length-names_in nodes d once in
         omega (arith, length-append (kept_in nodes d) (with_entry (Some m) x []))
 
-pub kept_push : (nodes new : Tree) (p : Place) (x : Leaf) (os : List Opening) (o : Option OpenFile) → put_refusal nodes p ≡ None → new ≡ nodes ++ (p, x) ∷ [] → IsKept nodes os o → IsKept new os None
+pub kept_push : (nodes new : StorageRoot) (p : Place) (x : Leaf) (os : List Opening) (o : Option OpenFile) → put_refusal nodes p ≡ None → new ≡ nodes ++ (p, x) ∷ [] → IsKept nodes os o → IsKept new os None
 kept_push nodes new p x os o none added k =
     let free = no_refusal nodes p none in
     let absent : lookup nodes p ≡ None = ap (lookup nodes) free.below ∙ sym (at_in_dir nodes free.d free.n free.directory) ∙ ap (at nodes) (sym free.below) ∙ free.free in
@@ -91,7 +91,7 @@ kept_push nodes new p x os o none added k =
       reading = tt;
     })
 
-pub puts : (nodes new : Tree) (p : Place) (x : Leaf) (o : Option OpenFile) (os : List Opening) (ls : List Place) (f l : ℕ) (faults : Faults) → put_refusal nodes p ≡ None → new ≡ nodes ++ (p, x) ∷ [] → IsKept nodes os o
+pub puts : (nodes new : StorageRoot) (p : Place) (x : Leaf) (o : Option OpenFile) (os : List Opening) (ls : List Place) (f l : ℕ) (faults : Faults) → put_refusal nodes p ≡ None → new ≡ nodes ++ (p, x) ∷ [] → IsKept nodes os o
     → Puts (seen nodes o os ls f l faults).store (seen new None os ls f l faults).store p x
 puts nodes new p x o os ls f l faults none added k =
     let free = no_refusal nodes p none in
@@ -103,7 +103,7 @@ puts nodes new p x o os ls f l faults none added k =
 
 -- ---- a removal
 
-few_left : (nodes : Tree) (p d : Place) → length (kept_in (filter (is_left p) nodes) d) ≤ length (kept_in nodes d)
+few_left : (nodes : StorageRoot) (p d : Place) → length (kept_in (filter (is_left p) nodes) d) ≤ length (kept_in nodes d)
 few_left [] p d = omega arith
 few_left (e ∷ nodes) p d = by (not (begins p e.0)) (few_left nodes p d)
   where
@@ -119,7 +119,7 @@ few_left (e ∷ nodes) p d = by (not (begins p e.0)) (few_left nodes p d)
     by true h = both (child_name d e.0) _ _ h
     by false h = more (child_name d e.0) _ _ h
 
-pub kept_left : (nodes new : Tree) (p : Place) (os : List Opening) (o : Option OpenFile) → p ≢ [] → new ≡ filter (is_left p) nodes → IsKept nodes os o → IsKept new os None
+pub kept_left : (nodes new : StorageRoot) (p : Place) (os : List Opening) (o : Option OpenFile) → p ≢ [] → new ≡ filter (is_left p) nodes → IsKept nodes os o → IsKept new os None
 kept_left nodes new p os o h is k = rw is (record {
   once = once_left nodes p k.once;
   rooted = rooted_left nodes p h k.rooted;
@@ -127,7 +127,7 @@ kept_left nodes new p os o h is k = rw is (record {
   reading = tt;
 })
 
-pub removes : (nodes new : Tree) (p : Place) (o : Option OpenFile) (os : List Opening) (ls : List Place) (f l : ℕ) (faults : Faults) → p ≢ [] → new ≡ filter (is_left p) nodes → Removes (seen nodes o os ls f l faults).store (seen new None os ls f l faults).store p
+pub removes : (nodes new : StorageRoot) (p : Place) (o : Option OpenFile) (os : List Opening) (ls : List Place) (f l : ℕ) (faults : Faults) → p ≢ [] → new ≡ filter (is_left p) nodes → Removes (seen nodes o os ls f l faults).store (seen new None os ls f l faults).store p
 removes nodes new p o os ls f l faults h is = rw is (record {
   tree = removal_leaves nodes p h;
   changes = record { closed = refl; openings_are = refl; listings_are = refl; failures_are = refl; largest = refl };

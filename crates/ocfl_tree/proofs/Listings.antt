@@ -11,7 +11,7 @@ use Rattle.std.proofs.lemmas.List.{same_from_push}
 use Rattle.std.proofs.lemmas.List.Sorted.{IsPermutation-refl, IsPermutation-sym, IsPermutation-cons, IsPermutation-trans, IsPermutation-middle}
 use Rattle.ocfl_tree.specs.Place.{Text, Place, text_cmp, text_eq, place_eq, child_name}
 use Rattle.ocfl_tree.specs.Ascending.{insert_once, ascending, IsAmong, IsBeforeAll, IsAscending}
-use Rattle.ocfl_tree.specs.Tree.{Tree, Leaf, dir, lookup, at, names_in}
+use Rattle.ocfl_tree.specs.StorageRoot.{StorageRoot, Leaf, dir, lookup, at, names_in}
 use Rattle.ocfl_tree.specs.Listing.{kind_of, kind_at, entry_at, entries_in, kind_in, AreApart, IsOrdinary, IsListing}
 use Rattle.ocfl_tree.specs.Internal.Nodes.{with_entry, kept_in, AreOnce}
 use Rattle.ocfl_tree.specs.declared.store.Kind.{Kind}
@@ -24,7 +24,7 @@ use Rattle.ocfl_tree.proofs.Trees.{some_not_none, at_in_dir}
 abbrev entry_of : Text → Kind → Entry
 entry_of n k = record { name = n; kind = k }
 
-pub kind_in-kept_in : (root : Tree) (d : Place) (n : Text) → kind_in (kept_in root d) n ≡ option_map kind_of (lookup root (d ++ n ∷ []))
+pub kind_in-kept_in : (root : StorageRoot) (d : Place) (n : Text) → kind_in (kept_in root d) n ≡ option_map kind_of (lookup root (d ++ n ∷ []))
 kind_in-kept_in [] d n = refl
 kind_in-kept_in (e ∷ root) d n = by (child_name d e.0) refl (kind_in-kept_in root d n)
   where
@@ -37,7 +37,7 @@ kind_in-kept_in (e ∷ root) d n = by (child_name d e.0) refl (kind_in-kept_in r
     by (Some m) is more = here m (text_eq m n) refl (append-child_name d e.0 m is) more
 
 -- where each place stands once, each name does
-pub apart_kept : (root : Tree) (d : Place) → AreOnce root → AreApart (kept_in root d)
+pub apart_kept : (root : StorageRoot) (d : Place) → AreOnce root → AreApart (kept_in root d)
 apart_kept [] d h = tt
 apart_kept (e ∷ root) d h = by (child_name d e.0) refl (apart_kept root d h.1)
   where
@@ -47,7 +47,7 @@ apart_kept (e ∷ root) d h = by (child_name d e.0) refl (apart_kept root d h.1)
         let there : e.0 ≡ d ++ m ∷ [] = append-child_name d e.0 m is in
         (kind_in-kept_in root d m ∙ ap (λ p. option_map kind_of (lookup root p)) (sym there) ∙ ap (option_map kind_of) h.0, more)
 
-pub kept_is_listing : (root : Tree) (d : Place) → at root d ≡ Some dir → IsListing root d (kept_in root d)
+pub kept_is_listing : (root : StorageRoot) (d : Place) → at root d ≡ Some dir → IsListing root d (kept_in root d)
 kept_is_listing root d is = record {
   directory = is;
   each = λ n. kind_in-kept_in root d n ∙ ap (option_map kind_of) (sym (at_in_dir root d n is));
@@ -58,7 +58,7 @@ kept_is_listing root d is = record {
 abbrev names_of : List Entry → List Text
 names_of es = map (λ e. e.name) es
 
-names_of-kept_in : (root : Tree) (d : Place) → names_of (kept_in root d) ≡ filter_map (λ e. child_name d e.0) root
+names_of-kept_in : (root : StorageRoot) (d : Place) → names_of (kept_in root d) ≡ filter_map (λ e. child_name d e.0) root
 names_of-kept_in [] d = refl
 names_of-kept_in (e ∷ root) d = by (child_name d e.0) (names_of-kept_in root d)
   where
@@ -90,7 +90,7 @@ length-ascending (e ∷ es) h =
     length-insert_once e.name (ascending text_cmp (names_of es)) (λ i. not_among_names es e.name h.0 ((among_ascending text_cmp_exact (names_of es) e.name).1 i))
     ∙ ap suc (length-ascending es h.1)
 
-pub length-names_in : (root : Tree) (d : Place) → AreOnce root → length (names_in root d) ≡ length (kept_in root d)
+pub length-names_in : (root : StorageRoot) (d : Place) → AreOnce root → length (names_in root d) ≡ length (kept_in root d)
 length-names_in root d once = ap (λ ns. length (ascending text_cmp ns)) (sym (names_of-kept_in root d)) ∙ length-ascending (kept_in root d) (apart_kept root d once)
 
 -- ---- a listing is a permutation of the model's entries
@@ -170,7 +170,7 @@ same_kinds (x ∷ xs) ys h k same =
     by n true t s = ap (kind_in xs) (sym ((text_eq-Decides x.name n).0 t)) ∙ h.0 ∙ sym (ap (λ b. cond b None (kind_in ys n)) t)
     by n false t s = sym (ap (λ b. cond b (Some x.kind) (kind_in xs n)) t) ∙ s ∙ sym (ap (λ b. cond b None (kind_in ys n)) t)
 
-module _ (root : Tree) (d : Place) where
+module _ (root : StorageRoot) (d : Place) where
   entries_of : List Text → List Entry
   entries_of ns = filter_map (entry_at root d) ns
 
@@ -196,7 +196,7 @@ module _ (root : Tree) (d : Place) where
       by (Some k) is false t (inl same) more = absurd (differ _ _ (text_eq-Decides m n) t (sym same))
       by (Some k) is false t (inr j) more = ap (λ b. cond b (Some k) (kind_in (filter_map (entry_at root d) ns) n)) t ∙ more j
 
-among_names : (root : Tree) (d : Place) (n : Text) (x : Leaf) → lookup root (d ++ n ∷ []) ≡ Some x → IsAmong (filter_map (λ e. child_name d e.0) root) n
+among_names : (root : StorageRoot) (d : Place) (n : Text) (x : Leaf) → lookup root (d ++ n ∷ []) ≡ Some x → IsAmong (filter_map (λ e. child_name d e.0) root) n
 among_names [] d n x h = absurd (some_not_none x (sym h))
 among_names (e ∷ root) d n x h = by (place_eq e.0 (d ++ n ∷ [])) refl h (among_names root d n x)
   where
@@ -211,14 +211,14 @@ among_names (e ∷ root) d n x h = by (place_eq e.0 (d ++ n ∷ [])) refl h (amo
         subst (λ o. IsAmong (cons_option o (filter_map (λ e. child_name d e.0) root)) n) (sym name) (inl refl)
     by false t k more = further (child_name d e.0) (more k)
 
-pub kind_in-entries_in : (root : Tree) (d : Place) (n : Text) → at root d ≡ Some dir → kind_in (entries_in root d) n ≡ kind_at root d n
+pub kind_in-entries_in : (root : StorageRoot) (d : Place) (n : Text) → at root d ≡ Some dir → kind_in (entries_in root d) n ≡ kind_at root d n
 kind_in-entries_in root d n is = by (lookup root (d ++ n ∷ [])) refl
   where
     by : (o : Option Leaf) → lookup root (d ++ n ∷ []) ≡ o → kind_in (entries_in root d) n ≡ kind_at root d n
     by None h = let none : kind_at root d n ≡ None = ap (option_map kind_of) (at_in_dir root d n is ∙ h) in kind_in_none root d (names_in root d) n none ∙ sym none
     by (Some x) h = kind_in_some root d (names_in root d) n ((among_ascending text_cmp_exact (filter_map (λ e. child_name d e.0) root) n).0 (among_names root d n x h))
 
-apart_entries : (root : Tree) (d : Place) (ns : List Text) → IsAscending text_cmp ns → AreApart (filter_map (entry_at root d) ns)
+apart_entries : (root : StorageRoot) (d : Place) (ns : List Text) → IsAscending text_cmp ns → AreApart (filter_map (entry_at root d) ns)
 apart_entries root d [] h = tt
 apart_entries root d (n ∷ ns) h = by (kind_at root d n) (apart_entries root d ns h.1)
   where
@@ -237,7 +237,7 @@ apart_entries root d (n ∷ ns) h = by (kind_at root d n) (apart_entries root d 
     by (Some k) more = (none ns h.0, more)
 
 -- a listing of distinct names is the model's entries, in some order
-pub listing_permutes : (root : Tree) (d : Place) (es : List Entry) → IsOrdinary es → IsListing root d es → IsPermutation es (entries_in root d)
+pub listing_permutes : (root : StorageRoot) (d : Place) (es : List Entry) → IsOrdinary es → IsListing root d es → IsPermutation es (entries_in root d)
 listing_permutes root d es ordinary h =
     same_kinds es (entries_in root d) ordinary.once (apart_entries root d (names_in root d) (ascends_ascending text_cmp_total (filter_map (λ e. child_name d e.0) root)))
     (λ n. h.each n ∙ sym (kind_in-entries_in root d n h.directory))

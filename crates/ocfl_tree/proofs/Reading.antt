@@ -2,7 +2,7 @@
 use Rattle.std.specs.Prelude.{option_and_then}
 use Rattle.std.proofs.Common.{◌≡◌, ◌≢◌, Option, None, ℕ, ◌+◌, true, false, [], ◌∷◌, ◌++◌, length, Some, sym, ◌∙◌, ap, refl, append_assoc, append-nil, length-append, arith, add-zero, ◌<◌}
 use Rattle.ocfl_tree.specs.Place.{Text, Place}
-use Rattle.ocfl_tree.specs.Tree.{Tree, Leaf, file, dir, other, at, bytes_of, file_at}
+use Rattle.ocfl_tree.specs.StorageRoot.{StorageRoot, Leaf, file, dir, other, at, bytes_of, file_at}
 use Rattle.ocfl_tree.specs.Store.{Store, Did}
 use Rattle.ocfl_tree.specs.Calls.{Opens, Reads, ReadFails, Closes, opening, change_last, with_given, with_failure}
 use Rattle.ocfl_tree.specs.Reading.{IsReading}
@@ -56,7 +56,7 @@ reading_stays_open s t u p given h r = some_not_none h.left (sym h.rest ∙ (r.a
 
 -- ---- what `at` gives, as the bytes of a file
 
-pub file_at-at : (s : Store) (root : Tree) (p : Place) (bytes : Text) → s.tree ≡ root → at s.tree p ≡ Some (file bytes) → file_at root p ≡ Some bytes
+pub file_at-at : (s : Store) (root : StorageRoot) (p : Place) (bytes : Text) → s.tree ≡ root → at s.tree p ≡ Some (file bytes) → file_at root p ≡ Some bytes
 file_at-at s root p bytes same is = rw (← same, is) refl
 
 no_bytes : (leaf : Option Leaf) → ((bytes : Text) → leaf ≢ Some (file bytes)) → option_and_then bytes_of leaf ≡ None
@@ -65,5 +65,5 @@ no_bytes (Some (file bytes)) h = absurd (h bytes refl)
 no_bytes (Some dir) h = refl
 no_bytes (Some other) h = refl
 
-pub file_at-none : (s : Store) (root : Tree) (p : Place) → s.tree ≡ root → ((bytes : Text) → at s.tree p ≢ Some (file bytes)) → file_at root p ≡ None
+pub file_at-none : (s : Store) (root : StorageRoot) (p : Place) → s.tree ≡ root → ((bytes : Text) → at s.tree p ≢ Some (file bytes)) → file_at root p ≡ None
 file_at-none s root p same h = rw (← same) (no_bytes (at s.tree p) h)

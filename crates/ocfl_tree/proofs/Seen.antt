@@ -3,7 +3,7 @@ use Rattle.std.proofs.Common.{◌≡◌, ◌≢◌, ℕ, zero, suc, ◌+◌, ◌
 use Rattle.std.proofs.Math.Seq.{take-length}
 use Rattle.std.proofs.lemmas.List.{length-take-le, take-append-drop, drop-drop, nil_from_length}
 use Rattle.ocfl_tree.specs.Place.{Text, Place}
-use Rattle.ocfl_tree.specs.Tree.{Tree, file, dir}
+use Rattle.ocfl_tree.specs.StorageRoot.{StorageRoot, file, dir}
 use Rattle.std.specs.Prelude.{slice_get, nat_lt, ◌&&◌, ◌^◌, Bool}
 use Rattle.std.specs.Option.{option_map_or}
 use Rattle.ocfl_tree.specs.Faults.{Faults, is_struck}
@@ -25,7 +25,7 @@ change_last-append f [] x = refl
 change_last-append f (y ∷ []) x = refl
 change_last-append f (y ∷ z ∷ xs) x = ap (λ ys. y ∷ ys) (change_last-append f (z ∷ xs) x)
 
-module _ (nodes : Tree) (o : Option OpenFile) (os : List Opening) (ls : List Place) (f l : ℕ) (g h : Faults) where
+module _ (nodes : StorageRoot) (o : Option OpenFile) (os : List Opening) (ls : List Place) (f l : ℕ) (g h : Faults) where
   pub lists_seen : (ls' : List Place) (p : Place) (es : List Entry) → IsKept nodes os o → stands_at nodes p ≡ Some dir → es ≡ kept_in nodes p → ls' ≡ ls ++ p ∷ []
       → Lists (seen nodes o os ls f l g).store (seen nodes o os ls' f l h).store p es
   lists_seen ls' p es k is same added = record {
@@ -93,7 +93,7 @@ module _ (nodes : Tree) (o : Option OpenFile) (os : List Opening) (ls : List Pla
   }
 
 -- the open file's index is one of a file that is open
-pub kept_open : (nodes : Tree) (os : List Opening) (i : ℕ) (o : Option OpenFile) (os' : List Opening) (p : Place) → IsKept nodes os o → i < length nodes → os' ≡ os ++ opening p 0 false ∷ [] → IsKept nodes os' (Some (record { index = i; offset = 0 }))
+pub kept_open : (nodes : StorageRoot) (os : List Opening) (i : ℕ) (o : Option OpenFile) (os' : List Opening) (p : Place) → IsKept nodes os o → i < length nodes → os' ≡ os ++ opening p 0 false ∷ [] → IsKept nodes os' (Some (record { index = i; offset = 0 }))
 kept_open nodes os i o os' p k h added = record {
   once = k.once;
   rooted = k.rooted;
@@ -103,7 +103,7 @@ kept_open nodes os i o os' p k h added = record {
 
 -- ---- reads
 
-pub is_open : (nodes : Tree) (os : List Opening) (o : Option OpenFile) (r : OpenFile) → o ≡ Some r → IfOpen nodes os o → IsOpen nodes os r
+pub is_open : (nodes : StorageRoot) (os : List Opening) (o : Option OpenFile) (r : OpenFile) → o ≡ Some r → IfOpen nodes os o → IsOpen nodes os r
 is_open nodes os o r is h = subst (IfOpen nodes os) is h
 
 last_at : (front : List Opening) (last : Opening) → slice_get (front ++ last ∷ []) (length front) ≡ Some last
@@ -116,7 +116,7 @@ last_is front last =
     ap (slice_get (front ++ last ∷ [])) place ∙ last_at front last
 
 -- whether the device fails in a read of the open file
-pub read_fails_is : (nodes : Tree) (o : Option OpenFile) (r : OpenFile) (os : List Opening) (ls : List Place) (f l : ℕ) (g : Faults) (struck : Bool) → o ≡ Some r → IfOpen nodes os o
+pub read_fails_is : (nodes : StorageRoot) (o : Option OpenFile) (r : OpenFile) (os : List Opening) (ls : List Place) (f l : ℕ) (g : Faults) (struck : Bool) → o ≡ Some r → IfOpen nodes os o
     → ((front : List Opening) (last : Opening) → os ≡ front ++ last ∷ [] → struck ≡ is_struck g last.place (point.Read last.given))
     → read_fails (seen nodes o os ls f l g) ≡ (nat_lt (f + 1) (2 ^ 64) && struck)
 read_fails_is nodes o r os ls f l g struck is h told =
@@ -125,10 +125,10 @@ read_fails_is nodes o r os ls f l g struck is h told =
     ap (λ x. option_map_or (λ y. fails (seen nodes o os ls f l g) y.place (point.Read y.given)) x false) last
     ∙ ap (λ b. nat_lt (f + 1) (2 ^ 64) && b) (sym (told open_file.front open_file.last open_file.is_last))
 
-pub some_rest : (nodes : Tree) (o : Option OpenFile) (r : OpenFile) → o ≡ Some r → rest_of nodes o ≡ Some (drop r.offset (bytes_in (leaf_at nodes r.index)))
+pub some_rest : (nodes : StorageRoot) (o : Option OpenFile) (r : OpenFile) → o ≡ Some r → rest_of nodes o ≡ Some (drop r.offset (bytes_in (leaf_at nodes r.index)))
 some_rest nodes o r is = ap (rest_of nodes) is
 
-pub read_breaks : (nodes : Tree) (o : Option OpenFile) (r : OpenFile) (os os' : List Opening) (ls : List Place) (f l l' : ℕ) (g h : Faults) → o ≡ Some r → IfOpen nodes os o
+pub read_breaks : (nodes : StorageRoot) (o : Option OpenFile) (r : OpenFile) (os os' : List Opening) (ls : List Place) (f l l' : ℕ) (g h : Faults) → o ≡ Some r → IfOpen nodes os o
     → ((front : List Opening) (last : Opening) → os ≡ front ++ last ∷ [] → os' ≡ front ++ with_failure last ∷ [])
     → ReadFails (seen nodes o os ls f l g).store (seen nodes None os' ls (f + 1) l' h).store Device
 read_breaks nodes o r os os' ls f l l' g h is k noted =
@@ -150,7 +150,7 @@ by_length zero n room x y e filled some whole = omega arith
 by_length (suc m) n room x y e filled some whole = absurd (omega (arith, some (omega arith) filled))
 
 -- a read of n bytes
-pub reads_seen : (nodes : Tree) (o : Option OpenFile) (r : OpenFile) (os os' : List Opening) (ls : List Place) (f l l' n room : ℕ) (g h : Faults) (given all : Text) → o ≡ Some r → IfOpen nodes os o
+pub reads_seen : (nodes : StorageRoot) (o : Option OpenFile) (r : OpenFile) (os os' : List Opening) (ls : List Place) (f l l' n room : ℕ) (g h : Faults) (given all : Text) → o ≡ Some r → IfOpen nodes os o
     → all ≡ drop r.offset (bytes_in (leaf_at nodes r.index))
     → n ≤ length all
     → (0 < length all → 0 < room → 0 < n)

@@ -2,7 +2,7 @@
 use Rattle.std.proofs.Common.{◌≡◌, ◌≢◌, Bool, true, false, cond, not, [], ◌∷◌, ◌++◌, Option, Some, None, sym, ◌∙◌, ap, refl, append_assoc, filter}
 use Rattle.std.proofs.lemmas.List.{same_from_push}
 use Rattle.ocfl_tree.specs.Place.{Text, Place, place_eq, begins}
-use Rattle.ocfl_tree.specs.Tree.{Tree, Leaf, file, dir, other, lookup, is_dir_leaf, at_below, at}
+use Rattle.ocfl_tree.specs.StorageRoot.{StorageRoot, Leaf, file, dir, other, lookup, is_dir_leaf, at_below, at}
 use Rattle.ocfl_tree.specs.MemTree.{parent, after_put, after_removal}
 use Rattle.ocfl_tree.specs.Internal.Nodes.{stands_at, AreOnce}
 use Rattle.ocfl_tree.proofs.Places.{place_eq-Decides, differ, begins-longer}
@@ -28,7 +28,7 @@ parent-append (m ∷ []) n = refl
 parent-append (m ∷ k ∷ d) n = ap (λ q. m ∷ q) (parent-append (k ∷ d) n)
 
 -- what is right below a directory is what is looked up there
-at_below-append : (root : Tree) (front : Place) (n : Text) (p : Place) (m : Text) → at_below root front n (p ++ m ∷ []) ≡ cond (is_dir_leaf (at_below root front n p)) (lookup root (front ++ n ∷ (p ++ m ∷ []))) None
+at_below-append : (root : StorageRoot) (front : Place) (n : Text) (p : Place) (m : Text) → at_below root front n (p ++ m ∷ []) ≡ cond (is_dir_leaf (at_below root front n p)) (lookup root (front ++ n ∷ (p ++ m ∷ []))) None
 at_below-append root front n [] m = ap (λ q. cond (is_dir_leaf (lookup root (front ++ n ∷ []))) (lookup root q) None) (append_assoc front (n ∷ []) (m ∷ []))
 at_below-append root front n (k ∷ p) m = by (is_dir_leaf (lookup root (front ++ n ∷ []))) (at_below-append root (front ++ n ∷ []) k p m)
   where
@@ -37,29 +37,29 @@ at_below-append root front n (k ∷ p) m = by (is_dir_leaf (lookup root (front +
     by true more = more ∙ ap (λ q. cond (is_dir_leaf (at_below root (front ++ n ∷ []) k p)) (lookup root q) None) (append_assoc front (n ∷ []) (k ∷ (p ++ m ∷ [])))
     by false more = refl
 
-pub at-append : (root : Tree) (d : Place) (n : Text) → at root (d ++ n ∷ []) ≡ cond (is_dir_leaf (at root d)) (lookup root (d ++ n ∷ [])) None
+pub at-append : (root : StorageRoot) (d : Place) (n : Text) → at root (d ++ n ∷ []) ≡ cond (is_dir_leaf (at root d)) (lookup root (d ++ n ∷ [])) None
 at-append root [] n = refl
 at-append root (m ∷ d) n = at_below-append root [] m d n
 
-pub at_in_dir : (root : Tree) (d : Place) (n : Text) → at root d ≡ Some dir → at root (d ++ n ∷ []) ≡ lookup root (d ++ n ∷ [])
+pub at_in_dir : (root : StorageRoot) (d : Place) (n : Text) → at root d ≡ Some dir → at root (d ++ n ∷ []) ≡ lookup root (d ++ n ∷ [])
 at_in_dir root d n h = at-append root d n ∙ ap (λ o. cond (is_dir_leaf o) (lookup root (d ++ n ∷ [])) None) h
 
-pub stands_at-append : (root : Tree) (d : Place) (n : Text) → stands_at root (d ++ n ∷ []) ≡ lookup root (d ++ n ∷ [])
+pub stands_at-append : (root : StorageRoot) (d : Place) (n : Text) → stands_at root (d ++ n ∷ []) ≡ lookup root (d ++ n ∷ [])
 stands_at-append root [] n = refl
 stands_at-append root (m ∷ d) n = refl
 
 -- each place that is kept lies in a directory
-abbrev pub IsRooted : Tree → Type 0
+abbrev pub IsRooted : StorageRoot → Type 0
 IsRooted root = (p : Place) → at root p ≡ stands_at root p
 
-pub dir_above : (root : Tree) (d : Place) (n : Text) (x : Leaf) → IsRooted root → lookup root (d ++ n ∷ []) ≡ Some x → at root d ≡ Some dir
+pub dir_above : (root : StorageRoot) (d : Place) (n : Text) (x : Leaf) → IsRooted root → lookup root (d ++ n ∷ []) ≡ Some x → at root d ≡ Some dir
 dir_above root d n x rooted is = dir_from_leaf (at root d) (by (is_dir_leaf (at root d)) refl)
   where
     by : (b : Bool) → is_dir_leaf (at root d) ≡ b → is_dir_leaf (at root d) ≡ true
     by true e = e
     by false e = absurd (some_not_none x (sym (sym (ap (λ b. cond b (lookup root (d ++ n ∷ [])) None) e) ∙ sym (at-append root d n) ∙ rooted (d ++ n ∷ []) ∙ stands_at-append root d n ∙ is)))
 
-pub rooted_from_above : (root : Tree) → ((d : Place) (n : Text) (x : Leaf) → lookup root (d ++ n ∷ []) ≡ Some x → at root d ≡ Some dir) → IsRooted root
+pub rooted_from_above : (root : StorageRoot) → ((d : Place) (n : Text) (x : Leaf) → lookup root (d ++ n ∷ []) ≡ Some x → at root d ≡ Some dir) → IsRooted root
 rooted_from_above root above [] = refl
 rooted_from_above root above (n ∷ p) =
     let e = front_last n p in
@@ -75,7 +75,7 @@ rooted_from_above root above (n ∷ p) =
 
 -- ---- a put
 
-pub lookup_push_some : (root : Tree) (p q : Place) (x y : Leaf) → lookup root q ≡ Some y → lookup (root ++ (p, x) ∷ []) q ≡ Some y
+pub lookup_push_some : (root : StorageRoot) (p q : Place) (x y : Leaf) → lookup root q ≡ Some y → lookup (root ++ (p, x) ∷ []) q ≡ Some y
 lookup_push_some [] p q x y h = absurd (some_not_none y (sym h))
 lookup_push_some (e ∷ root) p q x y h = by (place_eq e.0 q) h (lookup_push_some root p q x y)
   where
@@ -83,7 +83,7 @@ lookup_push_some (e ∷ root) p q x y h = by (place_eq e.0 q) h (lookup_push_som
     by true k more = k
     by false k more = more k
 
-pub lookup_push_here : (root : Tree) (p : Place) (x : Leaf) → lookup root p ≡ None → lookup (root ++ (p, x) ∷ []) p ≡ Some x
+pub lookup_push_here : (root : StorageRoot) (p : Place) (x : Leaf) → lookup root p ≡ None → lookup (root ++ (p, x) ∷ []) p ≡ Some x
 lookup_push_here [] p x h = lookup_here [] (p, x) p refl
 lookup_push_here (e ∷ root) p x h = by (place_eq e.0 p) h (lookup_push_here root p x)
   where
@@ -91,15 +91,15 @@ lookup_push_here (e ∷ root) p x h = by (place_eq e.0 p) h (lookup_push_here ro
     by true k more = absurd (some_not_none e.1 k)
     by false k more = more k
 
-pub lookup_push_other : (root : Tree) (p q : Place) (x : Leaf) → p ≢ q → lookup (root ++ (p, x) ∷ []) q ≡ lookup root q
+pub lookup_push_other : (root : StorageRoot) (p q : Place) (x : Leaf) → p ≢ q → lookup (root ++ (p, x) ∷ []) q ≡ lookup root q
 lookup_push_other [] p q x apart = lookup_other [] (p, x) q apart
 lookup_push_other (e ∷ root) p q x apart = ap (λ o. cond (place_eq e.0 q) (Some e.1) o) (lookup_push_other root p q x apart)
 
-at_below_push : (root : Tree) (p : Place) (x y : Leaf) (front : Place) (n : Text) (q : Place) → at_below root front n q ≡ Some y → at_below (root ++ (p, x) ∷ []) front n q ≡ Some y
+at_below_push : (root : StorageRoot) (p : Place) (x y : Leaf) (front : Place) (n : Text) (q : Place) → at_below root front n q ≡ Some y → at_below (root ++ (p, x) ∷ []) front n q ≡ Some y
 at_below_push root p x y front n [] h = lookup_push_some root p (front ++ n ∷ []) x y h
 at_below_push root p x y front n (m ∷ q) h = by (is_dir_leaf (lookup root (front ++ n ∷ []))) refl h (at_below_push root p x y (front ++ n ∷ []) m q)
   where
-    new : Tree
+    new : StorageRoot
     new = root ++ (p, x) ∷ []
 
     by : (b : Bool) → is_dir_leaf (lookup root (front ++ n ∷ [])) ≡ b → cond b (at_below root (front ++ n ∷ []) m q) None ≡ Some y → (at_below root (front ++ n ∷ []) m q ≡ Some y → at_below (root ++ (p, x) ∷ []) (front ++ n ∷ []) m q ≡ Some y)
@@ -109,11 +109,11 @@ at_below_push root p x y front n (m ∷ q) h = by (is_dir_leaf (lookup root (fro
         (lookup_push_some root p (front ++ n ∷ []) x dir (dir_from_leaf _ e)) ∙ more k
     by false e k more = absurd (some_not_none y (sym k))
 
-pub at_push : (root : Tree) (p q : Place) (x y : Leaf) → at root q ≡ Some y → at (root ++ (p, x) ∷ []) q ≡ Some y
+pub at_push : (root : StorageRoot) (p q : Place) (x y : Leaf) → at root q ≡ Some y → at (root ++ (p, x) ∷ []) q ≡ Some y
 at_push root p [] x y h = h
 at_push root p (n ∷ q) x y h = at_below_push root p x y [] n q h
 
-pub rooted_push : (root : Tree) (d : Place) (n : Text) (x : Leaf) → IsRooted root → at root d ≡ Some dir → IsRooted (root ++ (d ++ n ∷ [], x) ∷ [])
+pub rooted_push : (root : StorageRoot) (d : Place) (n : Text) (x : Leaf) → IsRooted root → at root d ≡ Some dir → IsRooted (root ++ (d ++ n ∷ [], x) ∷ [])
 rooted_push root d n x rooted is = rooted_from_above (root ++ (d ++ n ∷ [], x) ∷ []) (λ e m y there. above e m y there (place_eq (d ++ n ∷ []) (e ++ m ∷ [])) refl)
   where
     above : (e : Place) (m : Text) (y : Leaf) → lookup (root ++ (d ++ n ∷ [], x) ∷ []) (e ++ m ∷ []) ≡ Some y → (b : Bool) → place_eq (d ++ n ∷ []) (e ++ m ∷ []) ≡ b → at (root ++ (d ++ n ∷ [], x) ∷ []) e ≡ Some dir
@@ -124,10 +124,10 @@ rooted_push root d n x rooted is = rooted_from_above (root ++ (d ++ n ∷ [], x)
         let old = sym (lookup_push_other root (d ++ n ∷ []) (e ++ m ∷ []) x (differ _ _ (place_eq-Decides (d ++ n ∷ []) (e ++ m ∷ [])) t)) ∙ there in
         at_push root (d ++ n ∷ []) e x dir (dir_above root e m y rooted old)
 
-pub put_leaves : (root : Tree) (d : Place) (n : Text) (x : Leaf) → IsRooted root → at root d ≡ Some dir → at root (d ++ n ∷ []) ≡ None → (q : Place) → at (root ++ (d ++ n ∷ [], x) ∷ []) q ≡ after_put root (d ++ n ∷ []) x q
+pub put_leaves : (root : StorageRoot) (d : Place) (n : Text) (x : Leaf) → IsRooted root → at root d ≡ Some dir → at root (d ++ n ∷ []) ≡ None → (q : Place) → at (root ++ (d ++ n ∷ [], x) ∷ []) q ≡ after_put root (d ++ n ∷ []) x q
 put_leaves root d n x rooted is free q = by (place_eq q (d ++ n ∷ [])) refl
   where
-    new : Tree
+    new : StorageRoot
     new = root ++ (d ++ n ∷ [], x) ∷ []
 
     none : lookup root (d ++ n ∷ []) ≡ None
@@ -143,7 +143,7 @@ put_leaves root d n x rooted is free q = by (place_eq q (d ++ n ∷ [])) refl
         ∙ stands_at-append (root ++ (d ++ n ∷ [], x) ∷ []) d n ∙ lookup_push_here root (d ++ n ∷ []) x none
     by false e = apart q (λ same. differ _ _ (place_eq-Decides q (d ++ n ∷ [])) e (sym same))
 
-pub once_push : (root : Tree) (p : Place) (x : Leaf) → lookup root p ≡ None → AreOnce root → AreOnce (root ++ (p, x) ∷ [])
+pub once_push : (root : StorageRoot) (p : Place) (x : Leaf) → lookup root p ≡ None → AreOnce root → AreOnce (root ++ (p, x) ∷ [])
 once_push [] p x none h = (refl, tt)
 once_push (e ∷ root) p x none h =
     let apart : e.0 ≢ p = λ is. some_not_none e.1 (sym (lookup_here root e p is) ∙ none) in
@@ -155,7 +155,7 @@ once_push (e ∷ root) p x none h =
 abbrev pub is_left : Place → Place × Leaf → Bool
 is_left p e = not (begins p e.0)
 
-pub lookup_left : (root : Tree) (p q : Place) → lookup (filter (is_left p) root) q ≡ cond (begins p q) None (lookup root q)
+pub lookup_left : (root : StorageRoot) (p q : Place) → lookup (filter (is_left p) root) q ≡ cond (begins p q) None (lookup root q)
 lookup_left [] p q = none (begins p q)
   where
     none : (b : Bool) → ◌≡◌ {A = Option Leaf} None (cond b None None)
@@ -163,7 +163,7 @@ lookup_left [] p q = none (begins p q)
     none false = refl
 lookup_left (e ∷ root) p q = by (begins p e.0) (place_eq e.0 q) refl refl (lookup_left root p q)
   where
-    left : Tree
+    left : StorageRoot
     left = filter (is_left p) root
 
     by : (b c : Bool) → begins p e.0 ≡ b → place_eq e.0 q ≡ c → lookup (filter (is_left p) root) q ≡ cond (begins p q) None (lookup root q)
@@ -177,7 +177,7 @@ lookup_left (e ∷ root) p q = by (begins p e.0) (place_eq e.0 q) refl refl (loo
         ap (λ b. cond b (Some e.1) (lookup (filter (is_left p) root) q)) k ∙ sym (ap (λ b. cond b None (Some e.1)) here)
     by false false h k more = ap (λ b. cond b (Some e.1) (lookup (filter (is_left p) root) q)) k ∙ more
 
-at_below_left : (root : Tree) (p front : Place) (n : Text) (q : Place) → at_below (filter (is_left p) root) front n q ≡ cond (begins p (front ++ n ∷ q)) None (at_below root front n q)
+at_below_left : (root : StorageRoot) (p front : Place) (n : Text) (q : Place) → at_below (filter (is_left p) root) front n q ≡ cond (begins p (front ++ n ∷ q)) None (at_below root front n q)
 at_below_left root p front n [] = lookup_left root p (front ++ n ∷ [])
 at_below_left root p front n (m ∷ q) =
     ap (λ o. cond (is_dir_leaf o) (at_below (filter (is_left p) root) (front ++ n ∷ []) m q) None) (lookup_left root p (front ++ n ∷ []))
@@ -197,12 +197,12 @@ at_below_left root p front n (m ∷ q) =
     by false h more = ap (λ o. cond (is_dir_leaf (lookup root (front ++ n ∷ []))) o None) more ∙ both (is_dir_leaf (lookup root (front ++ n ∷ []))) _ _
 
 -- what a removal leaves; the root is never taken away
-pub removal_leaves : (root : Tree) (p : Place) → p ≢ [] → (q : Place) → at (filter (is_left p) root) q ≡ after_removal root p q
+pub removal_leaves : (root : StorageRoot) (p : Place) → p ≢ [] → (q : Place) → at (filter (is_left p) root) q ≡ after_removal root p q
 removal_leaves root [] h q = absurd (h refl)
 removal_leaves root (k ∷ p) h [] = refl
 removal_leaves root (k ∷ p) h (n ∷ q) = at_below_left root (k ∷ p) [] n q
 
-pub rooted_left : (root : Tree) (p : Place) → p ≢ [] → IsRooted root → IsRooted (filter (is_left p) root)
+pub rooted_left : (root : StorageRoot) (p : Place) → p ≢ [] → IsRooted root → IsRooted (filter (is_left p) root)
 rooted_left root p h rooted = rooted_from_above (filter (is_left p) root) (λ d n x there. above d n x (begins p (d ++ n ∷ [])) (begins p d) refl refl (sym (lookup_left root p (d ++ n ∷ [])) ∙ there))
   where
     above : (d : Place) (n : Text) (x : Leaf) (b c : Bool) → begins p (d ++ n ∷ []) ≡ b → begins p d ≡ c → cond (begins p (d ++ n ∷ [])) None (lookup root (d ++ n ∷ [])) ≡ Some x → at (filter (is_left p) root) d ≡ Some dir
@@ -212,7 +212,7 @@ rooted_left root p h rooted = rooted_from_above (filter (is_left p) root) (λ d 
         let old = sym (ap (λ b. cond b None (lookup root (d ++ n ∷ []))) e) ∙ there in
         removal_leaves root p h d ∙ ap (λ b. cond b None (at root d)) f ∙ dir_above root d n x rooted old
 
-pub once_left : (root : Tree) (p : Place) → AreOnce root → AreOnce (filter (is_left p) root)
+pub once_left : (root : StorageRoot) (p : Place) → AreOnce root → AreOnce (filter (is_left p) root)
 once_left [] p h = tt
 once_left (e ∷ root) p h = by (begins p e.0) refl (once_left root p h.1)
   where

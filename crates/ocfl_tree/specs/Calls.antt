@@ -1,7 +1,7 @@
 -- What each call does to what a store tells.
 use Rattle.std.specs.Prelude.{◌≡◌, ◌≢◌, ℕ, ◌+◌, ◌<◌, Bool, true, false, List, [], ◌∷◌, ◌++◌, length, Some, None}
 use Rattle.ocfl_tree.specs.Place.{Text, Place}
-use Rattle.ocfl_tree.specs.Tree.{file, dir, at}
+use Rattle.ocfl_tree.specs.StorageRoot.{file, dir, at}
 use Rattle.ocfl_tree.specs.Listing.{IsListing}
 use Rattle.ocfl_tree.specs.Store.{Store, Did}
 use Rattle.ocfl_tree.specs.declared.store.Entry.{Entry}

@@ -2,7 +2,7 @@ pub mod Place
 pub mod Ascending
 pub mod Name
 pub mod Path
-pub mod Tree
+pub mod StorageRoot
 pub mod Store
 pub mod Listing
 pub mod Calls

@@ -2,7 +2,7 @@
 use Rattle.std.specs.Prelude.{◌≡◌, ◌≤◌, List, [], ◌∷◌, ◌++◌, length, filter_map, if◌then◌else◌, Option, Some, None, ⊤}
 use Rattle.std.specs.Option.{option_map}
 use Rattle.ocfl_tree.specs.Place.{Text, Place, text_eq}
-use Rattle.ocfl_tree.specs.Tree.{Tree, Leaf, file, dir, other, at, names_in}
+use Rattle.ocfl_tree.specs.StorageRoot.{StorageRoot, Leaf, file, dir, other, at, names_in}
 use Rattle.ocfl_tree.specs.declared.store.Kind.{Kind}
 use Rattle.ocfl_tree.specs.declared.store.Kind.TheVariants as kind
 use Rattle.ocfl_tree.specs.declared.store.Entry.{Entry}
@@ -13,14 +13,14 @@ kind_of dir = kind.Dir
 kind_of other = kind.Other
 
 -- the kind of what a name leads to from a place
-abbrev pub kind_at : Tree → Place → Text → Option Kind
+abbrev pub kind_at : StorageRoot → Place → Text → Option Kind
 kind_at root d n = option_map kind_of (at root (d ++ n ∷ []))
 
-abbrev pub entry_at : Tree → Place → Text → Option Entry
+abbrev pub entry_at : StorageRoot → Place → Text → Option Entry
 entry_at root d n = option_map (λ k. record { name = n; kind = k }) (kind_at root d n)
 
 -- the entries of the directory at a place, by ascending names
-abbrev pub entries_in : Tree → Place → List Entry
+abbrev pub entries_in : StorageRoot → Place → List Entry
 entries_in root d = filter_map (entry_at root d) (names_in root d)
 
 -- the kind that a listing gives a name
@@ -39,6 +39,6 @@ pub record IsOrdinary (es : List Entry) : Type 0 where
   pub few : length es ≤ 1000000
 
 -- these are the entries of the directory at d, in any order
-pub record IsListing (root : Tree) (d : Place) (es : List Entry) : Type 0 where
+pub record IsListing (root : StorageRoot) (d : Place) (es : List Entry) : Type 0 where
   pub directory : at root d ≡ Some dir
   pub each : (n : Text) → kind_in es n ≡ kind_at root d n

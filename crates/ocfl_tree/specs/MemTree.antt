@@ -2,7 +2,7 @@
 use Rattle.std.specs.Prelude.{◌≡◌, ℕ, ◌+◌, ◌-◌, ◌^◌, Bool, false, not, ◌&&◌, nat_lt, nat_le, [], ◌∷◌, ◌++◌, Option, Some, None, is_some, length, min, if◌then◌else◌, slice_get}
 use Rattle.std.specs.Option.{option_map_or}
 use Rattle.ocfl_tree.specs.Place.{Text, Place, place_eq, begins}
-use Rattle.ocfl_tree.specs.Tree.{Tree, Leaf, at, is_dir, names_in}
+use Rattle.ocfl_tree.specs.StorageRoot.{StorageRoot, Leaf, at, is_dir, names_in}
 use Rattle.ocfl_tree.specs.Store.{Store}
 use Rattle.ocfl_tree.specs.Faults.{Faults, no_faults, is_struck, within_step}
 use Rattle.ocfl_tree.specs.declared.store.Opening.{Opening}
@@ -55,7 +55,7 @@ parent (n ∷ []) = []
 parent (n ∷ m ∷ p) = n ∷ parent (m ∷ p)
 
 -- why nothing is put at a place: the first reason that applies
-abbrev pub put_refusal : Tree → Place → Option BuildStop
+abbrev pub put_refusal : StorageRoot → Place → Option BuildStop
 put_refusal root p =
     if is_some (at root p) then Some Exists
     else (if not (is_dir root (parent p)) then Some NoParent
@@ -70,11 +70,11 @@ pub record Changes (s t : Store) : Type 0 where
   pub largest : t.largest ≡ s.largest
 
 -- after a put at p: this leaf there, and else what was
-abbrev pub after_put : Tree → Place → Leaf → Place → Option Leaf
+abbrev pub after_put : StorageRoot → Place → Leaf → Place → Option Leaf
 after_put root p leaf q = if place_eq q p then Some leaf else at root q
 
 -- after p is taken away: nothing there and below it, and else what was
-abbrev pub after_removal : Tree → Place → Place → Option Leaf
+abbrev pub after_removal : StorageRoot → Place → Place → Option Leaf
 after_removal root p q = if begins p q then None else at root q
 
 pub record Puts (s t : Store) (p : Place) (leaf : Leaf) : Type 0 where

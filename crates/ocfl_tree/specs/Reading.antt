@@ -1,7 +1,7 @@
 -- A file that is read piece by piece.
 use Rattle.std.specs.Prelude.{◌≡◌, ◌++◌, length, Some, [], ◌∷◌, false}
 use Rattle.ocfl_tree.specs.Place.{Text, Place}
-use Rattle.ocfl_tree.specs.Tree.{file, at}
+use Rattle.ocfl_tree.specs.StorageRoot.{file, at}
 use Rattle.ocfl_tree.specs.Store.{Store, Did}
 use Rattle.ocfl_tree.specs.Calls.{opening}
 

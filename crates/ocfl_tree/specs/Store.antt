@@ -1,11 +1,11 @@
 -- What a store that tells its tree tells, and what a call did to that.
 use Rattle.std.specs.Prelude.{◌≡◌, ℕ, ◌+◌, List, ◌++◌, Option}
 use Rattle.ocfl_tree.specs.Place.{Text, Place}
-use Rattle.ocfl_tree.specs.Tree.{Tree}
+use Rattle.ocfl_tree.specs.StorageRoot.{StorageRoot}
 use Rattle.ocfl_tree.specs.declared.store.Opening.{Opening}
 
 pub record Store : Type 0 where
-  pub tree : Tree
+  pub tree : StorageRoot
   -- what is left of the open file
   pub rest : Option Text
   -- each opening of a file, with what it gave

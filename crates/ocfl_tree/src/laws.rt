@@ -3,7 +3,7 @@ ghost use Rattle.std.specs.Prelude.{◌≡◌, ℕ, ◌+◌, ◌<◌, ◌++◌, 
 ghost use Rattle.std.specs.Prelude.{false, Some};
 ghost use Rattle.std.specs.List.Sorted.{IsPermutation};
 ghost use Rattle.ocfl_tree.specs.Place.{Text, Place};
-ghost use Rattle.ocfl_tree.specs.Tree.{Tree, file, at};
+ghost use Rattle.ocfl_tree.specs.StorageRoot.{StorageRoot, file, at};
 ghost use Rattle.ocfl_tree.specs.Listing.{entries_in, IsOrdinary, IsListing};
 ghost use Rattle.ocfl_tree.specs.Store.{Store, Did};
 ghost use Rattle.ocfl_tree.specs.Calls.{opening, Opens, Reads, ReadFails, Closes};
@@ -38,6 +38,6 @@ pub fn reads_are_one_opening()
 /// A listing that has each name once is the entries of the directory, in some order.
 #[tactic(auto, using(crate::proofs::Listings::listing_permutes))]
 pub fn listing_is_complete()
-    ensures { (root : Tree) (d : Place) (es : List Entry) → IsOrdinary es → IsListing root d es
+    ensures { (root : StorageRoot) (d : Place) (es : List Entry) → IsOrdinary es → IsListing root d es
         → IsPermutation es (entries_in root d) }
 {}

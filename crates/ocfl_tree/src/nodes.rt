@@ -3,7 +3,7 @@ ghost use Rattle.std.specs.Prelude.{IfOk, OnOk, OnErr, IfSome, IsNone, IsOkUnles
 ghost use Rattle.std.specs.Prelude.{None, Some, Err, length, not, is_some};
 ghost use Rattle.std.specs.List.{filter};
 ghost use Rattle.ocfl_tree.specs.Place.{begins, child_name};
-ghost use Rattle.ocfl_tree.specs.Tree.{file, dir, lookup};
+ghost use Rattle.ocfl_tree.specs.StorageRoot.{file, dir, lookup};
 ghost use Rattle.ocfl_tree.specs.Listing.{kind_of};
 ghost use Rattle.ocfl_tree.specs.MemTree.{parent};
 ghost use Rattle.ocfl_tree.specs.Name.{IsName};
@@ -33,7 +33,7 @@ pub(crate) struct Stored {
 }
 
 impl Model for Stored {
-    ghost use Rattle.ocfl_tree.specs.Tree.{Leaf};
+    ghost use Rattle.ocfl_tree.specs.StorageRoot.{Leaf};
     ghost use Rattle.ocfl_tree.specs.Name.{IsName};
     ghost use Rattle.ocfl_tree.specs.Path.{names_of};
     ghost use Rattle.ocfl_tree.specs.Internal.Nodes.{leaf_of};

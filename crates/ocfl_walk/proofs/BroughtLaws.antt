@@ -4,7 +4,7 @@ use Rattle.std.specs.Prelude.{cond, Result, Ok, Err, IfOk, MatchResult}
 use Rattle.std.specs.Ordering.{is_lt}
 use Rattle.ocfl_tree.specs.Place.{Text, Place, text_cmp, place_cmp}
 use Rattle.ocfl_tree.specs.Ascending.{IsAscending, IsBeforeAll}
-use Rattle.ocfl_tree.specs.Tree.{Tree, names_in}
+use Rattle.ocfl_tree.specs.StorageRoot.{StorageRoot, names_in}
 use Rattle.ocfl_tree.specs.Store.{Store}
 use Rattle.ocfl_tree.specs.declared.store.Entry.{Entry}
 use Rattle.ocfl_audit.specs.Zone.{hierarchy, inside, zone}
@@ -119,7 +119,7 @@ orderly_at d e r q n ps a (Err why) same is h = tt
 
 -- ---- on a store that tells its tree
 
-module _ (root : Tree) (d : Place) (es : List Entry) (fs gs : List Folder) (f : Folder) (push : gs ≡ fs ++ f ∷ []) (place : f.place ≡ d) (at : IsAt root d es) where
+module _ (root : StorageRoot) (d : Place) (es : List Entry) (fs gs : List Folder) (f : Folder) (push : gs ≡ fs ++ f ∷ []) (place : f.place ≡ d) (at : IsAt root d es) where
   told_piles : piles_of gs ≡ (d, left_of_folder f) ∷ piles_of fs
   told_piles = piles_push fs gs f push ∙ ap (λ p. (p, left_of_folder f) ∷ piles_of fs) place
 
@@ -217,5 +217,5 @@ module _ (root : Tree) (d : Place) (es : List Entry) (fs gs : List Folder) (f : 
             (λ _. Descends root t u (way_below e r) [] (may_open new (zone root (e ++ r))) [] 0 × IsBrought root e r (piles_of gs) (piles_of hs) a)
             (λ why. DescendFails root t u (way_below e r) (may_open new (zone root (e ++ r))) why)) h.gives.1.place k))
 
-pub came_fails : (root : Tree) (s t : Store) (d q r : Place) (n : Text) (old new : Option Around) (why : Fault) → q ≡ n ∷ r → Leads root s t d n r old new (Err why) → DescendFails root s t (way_below d q) (may_open old (zone root (d ++ q))) why
+pub came_fails : (root : StorageRoot) (s t : Store) (d q r : Place) (n : Text) (old new : Option Around) (why : Fault) → q ≡ n ∷ r → Leads root s t d n r old new (Err why) → DescendFails root s t (way_below d q) (may_open old (zone root (d ++ q))) why
 came_fails root s t d q r n old new why is h = subst (λ x. DescendFails root s t (way_below d x) (may_open old (zone root (d ++ x))) why) (sym is) h.gives

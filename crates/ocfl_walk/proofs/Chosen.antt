@@ -4,7 +4,7 @@ use Rattle.std.specs.Prelude.{cond, IfOk}
 use Rattle.std.specs.Ordering.{is_lt}
 use Rattle.std.specs.declared.cmp.Ordering.TheVariants.{Less}
 use Rattle.ocfl_tree.specs.Place.{Place, place_cmp}
-use Rattle.ocfl_tree.specs.Tree.{Tree}
+use Rattle.ocfl_tree.specs.StorageRoot.{StorageRoot}
 use Rattle.ocfl_tree.specs.Store.{Store}
 use Rattle.ocfl_tree.specs.declared.store.Entry.{Entry}
 use Rattle.ocfl_walk.specs.Standing.{IsBelowNext, IsOrderlyIf, IsStanding, Pile, StandsAt, TurnIs, next_of, path_from, size_of, stand_size, piles_in, trimmed, trimmed_from, turn_of}
@@ -91,10 +91,10 @@ module _ (ps qs : List Pile) (a : Option Around) (is : qs ≡ trimmed ps) where
   pub mid_size : (last : Option Place) → size_of last qs a ≡ size_of last ps a
   mid_size last = ap (λ xs. size_of last xs a) is ∙ size_trimmed last ps a
 
-  pub mid_stands : (root : Tree) (p : Place) → IsStanding root p ps a → IsStanding root p qs a
+  pub mid_stands : (root : StorageRoot) (p : Place) → IsStanding root p ps a → IsStanding root p qs a
   mid_stands root p h = subst (λ xs. IsStanding root p xs a) (sym is) (standing_trimmed root p ps a h)
 
-  pub chosen_turn : (root : Tree) (last : Option Place) (p : Place) (t : Turn) → last ≡ Some p → IsOrderlyIf last ps a → IsStanding root p ps a → t ≡ turn_of (next_of qs) (path_from p a) → TurnIs root p qs t
+  pub chosen_turn : (root : StorageRoot) (last : Option Place) (p : Place) (t : Turn) → last ≡ Some p → IsOrderlyIf last ps a → IsStanding root p ps a → t ≡ turn_of (next_of qs) (path_from p a) → TurnIs root p qs t
   chosen_turn root last p t l o h e =
       let fit = fit_of p ps a (subst (λ x. IsOrderlyIf x ps a) l o) in
       subst (λ xs. TurnIs root p xs t) (sym is)
@@ -114,13 +114,13 @@ goes_from old mid new l z (Ok s) g = by s g
     by step.End g = tt
 
 -- where the last place is there, the walk stands at it
-pub at_last : (root : Tree) (old : Stand) (X : Option Place → Type 0) (last : Option Place) → StandsAt root old last → (old.last ≡ None → ⊥) → ((p : Place) → old.last ≡ Some p → IsStanding root p (piles_in old.last old.listings.items) old.around → X (Some p)) → X last
+pub at_last : (root : StorageRoot) (old : Stand) (X : Option Place → Type 0) (last : Option Place) → StandsAt root old last → (old.last ≡ None → ⊥) → ((p : Place) → old.last ≡ Some p → IsStanding root p (piles_in old.last old.listings.items) old.around → X (Some p)) → X last
 at_last root old X None st n k = absurd (n st)
 at_last root old X (Some p) st n k = k p st.0 st.1
 
-pub at_first : (root : Tree) (old : Stand) (X : Option Place → Type 0) (last : Option Place) → StandsAt root old last → old.last ≡ None → X None → X last
+pub at_first : (root : StorageRoot) (old : Stand) (X : Option Place → Type 0) (last : Option Place) → StandsAt root old last → old.last ≡ None → X None → X last
 at_first root old X None st n k = k
 at_first root old X (Some p) st n k = absurd (let e : None ≡ Some p = sym n ∙ st.0 in cc)
 
-pub no_memory : (root : Tree) (s : Store) (last : Option Place) → s.tree ≡ root → WalkFails root s s last fault.Memory
+pub no_memory : (root : StorageRoot) (s : Store) (last : Option Place) → s.tree ≡ root → WalkFails root s s last fault.Memory
 no_memory root s last over = walk_fails_nothing root s last fault.Memory over refl (λ q e. cc)

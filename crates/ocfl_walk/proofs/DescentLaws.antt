@@ -3,7 +3,7 @@ use Rattle.std.proofs.Common.{true, ◌≡◌, ℕ, List, [], ◌∷◌, ◌++�
 use Rattle.std.proofs.lemmas.List.{append-nil, length-append}
 use Rattle.std.specs.Prelude.{Ok, Err}
 use Rattle.ocfl_tree.specs.Place.{Place}
-use Rattle.ocfl_tree.specs.Tree.{Tree}
+use Rattle.ocfl_tree.specs.StorageRoot.{StorageRoot}
 use Rattle.ocfl_tree.specs.Store.{Store, Did}
 use Rattle.ocfl_tree.specs.declared.store.Opening.{Opening}
 use Rattle.ocfl_inventory.specs.Table.{Table}
@@ -33,7 +33,7 @@ front_on a m w b k h g = (
       ∙ sym (append_assoc a (b ++ k) (g.0 ++ h.0)) ∙ ap (λ x. x ++ (g.0 ++ h.0)) (sym (append_assoc a b k)),
 )
 
-module _ (root : Tree) where
+module _ (root : StorageRoot) where
   pub both_inventories : (os os' : List Opening) → AreInventories root os → AreInventories root os' → AreInventories root (os ++ os')
   both_inventories os os' h k =
       let all = ap length (heads_append root os os') in

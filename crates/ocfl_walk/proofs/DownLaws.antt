@@ -2,7 +2,7 @@
 use Rattle.std.proofs.Common.{◌≡◌, ℕ, List, [], ◌∷◌, ◌++◌, refl, sym, ◌∙◌, ap, subst, true, false, Bool, Option, Some, None}
 use Rattle.std.specs.Prelude.{cond, ◌&&◌, ◌||◌, not, Result, Ok, Err, ⊤}
 use Rattle.ocfl_tree.specs.Place.{Text, Place}
-use Rattle.ocfl_tree.specs.Tree.{Tree, is_dir}
+use Rattle.ocfl_tree.specs.StorageRoot.{StorageRoot, is_dir}
 use Rattle.ocfl_tree.specs.Store.{Store, Did}
 use Rattle.ocfl_tree.specs.declared.store.Entry.{Entry}
 use Rattle.ocfl_inventory.specs.Declaration.{is_known}
@@ -36,7 +36,7 @@ IsFair new inner (Ok None) = new ≡ None
 IsFair new inner (Ok (Some f)) = f ≡ inner
 IsFair new inner (Err why) = ⊤
 
-module _ (root : Tree) where
+module _ (root : StorageRoot) where
   shut_out : (d : Place) (n : Text) → is_entered root (d ++ n ∷ []) ≡ false → is_reached root (d ++ n ∷ []) ≡ false
   shut_out d n h = reached_step root d n ∙ and_false (is_reached root d) (is_entered root (d ++ n ∷ [])) h
 

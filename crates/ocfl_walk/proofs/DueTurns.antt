@@ -4,7 +4,7 @@ use Rattle.std.specs.Ordering.{is_lt}
 use Rattle.std.specs.declared.cmp.Ordering.TheVariants.{Less}
 use Rattle.ocfl_tree.specs.Place.{Place, place_cmp}
 use Rattle.ocfl_tree.specs.Ascending.{IsAmong}
-use Rattle.ocfl_tree.specs.Tree.{Tree, Leaf}
+use Rattle.ocfl_tree.specs.StorageRoot.{StorageRoot, Leaf}
 use Rattle.ocfl_tree.proofs.Orders.{place_cmp_total, not_below_itself, among_filter, among_from_filter}
 use Rattle.ocfl_report.specs.Line.{Note, Item, lines_at}
 use Rattle.ocfl_audit.specs.Audit.{Unread, item_of, audit, after}
@@ -33,12 +33,12 @@ use Rattle.ocfl_item.proofs.AuditingLaws.{audits_nothing}
 use Rattle.ocfl_walk.proofs.TurnLaws.{standing_trimmed, turn_is_next}
 use Rattle.ocfl_audit.proofs.WayLaws.{is_closed}
 
-places_at : (root : Tree) (u : Unread) (ps : List Place) → map (λ i. i.place) (map (item_of root u) ps) ≡ ps
+places_at : (root : StorageRoot) (u : Unread) (ps : List Place) → map (λ i. i.place) (map (item_of root u) ps) ≡ ps
 places_at root u [] = refl
 places_at root u (p ∷ ps) = ap (λ qs. p ∷ qs) (places_at root u ps)
 
 -- what is due, by the audit's items
-due_places : (root : Tree) (last : Option Place) → due root last ≡ map (λ i. i.place) (after (audit root []) last)
+due_places : (root : StorageRoot) (last : Option Place) → due root last ≡ map (λ i. i.place) (after (audit root []) last)
 unfolding items_at
 due_places root last = sym (ap (map (λ i. i.place)) (after_is_due root [] last) ∙ places_at root [] (due root last))
 
@@ -46,14 +46,14 @@ places_append : (xs ys : List Item) → map (λ i. i.place) (xs ++ ys) ≡ map (
 places_append [] ys = refl
 places_append (x ∷ xs) ys = ap (λ zs. x.place ∷ zs) (places_append xs ys)
 
-item_some : (root : Tree) (x : Place) (ns : List Note) → notes root None x ≡ ns → ns ≢ [] → map (λ i. i.place) (item_at root [] x) ≡ x ∷ []
+item_some : (root : StorageRoot) (x : Place) (ns : List Note) → notes root None x ≡ ns → ns ≢ [] → map (λ i. i.place) (item_at root [] x) ≡ x ∷ []
 item_some root x [] e n = absurd (n refl)
 item_some root x (m ∷ ns) e n = ap (λ ks. map (λ i. i.place) (on (not (is_empty (lines_at x ks))) (item_of root [] x))) e
 
-item_none : (root : Tree) (x : Place) → notes root None x ≡ [] → map (λ i. i.place) (item_at root [] x) ≡ []
+item_none : (root : StorageRoot) (x : Place) → notes root None x ≡ [] → map (λ i. i.place) (item_at root [] x) ≡ []
 item_none root x e = ap (λ ks. map (λ i. i.place) (on (not (is_empty (lines_at x ks))) (item_of root [] x))) e
 
-module _ (root : Tree) where
+module _ (root : StorageRoot) where
   due_steps : (last x : Place) → after (audit root []) (Some last) ≡ item_at root [] x ++ after (audit root []) (Some x) → due root (Some last) ≡ map (λ i. i.place) (item_at root [] x) ++ due root (Some x)
   due_steps last x h =
       due_places root (Some last) ∙ ap (map (λ i. i.place)) h ∙ places_append (item_at root [] x) (after (audit root []) (Some x))

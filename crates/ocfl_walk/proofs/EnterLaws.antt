@@ -2,7 +2,7 @@
 use Rattle.std.proofs.Common.{◌≡◌, List, [], ◌∷◌, ◌++◌, sym, ◌∙◌, ap, subst, false, Option, Some, None, length, arith}
 use Rattle.std.specs.Prelude.{cond, ◌||◌, not}
 use Rattle.ocfl_tree.specs.Place.{Place}
-use Rattle.ocfl_tree.specs.Tree.{Tree}
+use Rattle.ocfl_tree.specs.StorageRoot.{StorageRoot}
 use Rattle.ocfl_tree.specs.Store.{Store, Did}
 use Rattle.ocfl_tree.specs.Listing.{IsOrdinary}
 use Rattle.ocfl_tree.specs.declared.store.Entry.{Entry}
@@ -42,7 +42,7 @@ pub coming_root : (d : Place) (es : List Entry) (fs : List Folder) → d ≡ [] 
 coming_root d es fs e none ordinary =
     subst (λ x. IsComing d es (piles_of x) None) (sym none) (record { chain = tt; short = (let l : length d ≡ 0 = ap length e in omega (arith, l)); ordinary = ordinary; few = tt; object = tt })
 
-module _ (root : Tree) where
+module _ (root : StorageRoot) where
   start_memory_ : (s : Store) (p : Place) → s.tree ≡ root → StartFails root s s p fault.Memory
   start_memory_ s p over = descent_memory root s (way_to p) (holder_of (zone root p)) over
 

@@ -6,7 +6,7 @@ use Rattle.std.specs.List.{list_all}
 use Rattle.std.specs.declared.cmp.Ordering.TheVariants.{Less}
 use Rattle.ocfl_tree.specs.Place.{Place, Text, place_cmp, begins, text_eq, beginnings}
 use Rattle.ocfl_tree.specs.Ascending.{IsAmong}
-use Rattle.ocfl_tree.specs.Tree.{Tree, is_dir, names_in}
+use Rattle.ocfl_tree.specs.StorageRoot.{StorageRoot, is_dir, names_in}
 use Rattle.ocfl_tree.specs.Store.{Store}
 use Rattle.ocfl_tree.specs.declared.store.Entry.{Entry}
 use Rattle.ocfl_tree.proofs.Orders.{place_cmp_total, not_below_itself, true_not_false}
@@ -56,7 +56,7 @@ begins_last (m ∷ o) (a ∷ d) n h = by (text_eq m a) refl h (begins_last o d n
         go (inr u) = inr (λ i. text_from_test m a e i ∷ u i)
     by false e g k = absurd (true_not_false (sym g))
 
-module _ (root : Tree) where
+module _ (root : StorageRoot) where
   reached_entered : (d : Place) → is_reached root d ≡ true → is_listed_zone root (zone root d) ≡ true
   reached_entered d h = by (list_all (is_entered root) (beginnings d)) (nat_le (length d) max_listed_depth) (is_dir root d) (is_listed_zone root (zone root d)) h
     where

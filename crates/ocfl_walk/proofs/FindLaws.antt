@@ -3,7 +3,7 @@ use Rattle.std.proofs.Common.{◌≡◌, ◌≢◌, ℕ, ◌+◌, ◌≤◌, Lis
 use Rattle.std.proofs.lemmas.List.{append-nil, length-append}
 use Rattle.std.specs.Prelude.{AllPairs, Result, Ok, Err, IfErr, IfOk}
 use Rattle.ocfl_tree.specs.Place.{Text, Place}
-use Rattle.ocfl_tree.specs.Tree.{Tree, dir}
+use Rattle.ocfl_tree.specs.StorageRoot.{StorageRoot, dir}
 use Rattle.ocfl_tree.specs.Store.{Store, Did}
 use Rattle.ocfl_tree.specs.Listing.{kind_at, kind_in}
 use Rattle.ocfl_tree.specs.declared.store.Entry.{Entry}
@@ -74,7 +74,7 @@ front_within e false (x ∷ xs) h = absurd cc
 pub front_own : (e : Place) (b : Bool) (xs : List Place) → xs ≡ on b e → IsFront xs (e ∷ [])
 front_own e b xs is = front_within e b xs ([], sym is ∙ sym (append-nil xs))
 
-module _ (root : Tree) where
+module _ (root : StorageRoot) where
   -- ---- what was done
 
   pub few_openings : (trail : List Opening) (left may : List Place) → AreInventories root trail → IsFront (heads_of root trail ++ left) may → length trail + length left ≤ length may

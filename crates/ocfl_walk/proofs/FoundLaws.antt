@@ -2,7 +2,7 @@
 use Rattle.std.proofs.Common.{◌≡◌, ◌≢◌, ℕ, ◌+◌, List, [], ◌∷◌, ◌++◌, refl, sym, ◌∙◌, ap, subst, true, false, Bool, Option, Some, None, arith, length, map, filter}
 use Rattle.std.specs.Prelude.{AllPairs, cond, ◌||◌, not, Result, Ok, Err, MatchResult}
 use Rattle.ocfl_tree.specs.Place.{Text, Place, text_eq}
-use Rattle.ocfl_tree.specs.Tree.{Tree}
+use Rattle.ocfl_tree.specs.StorageRoot.{StorageRoot}
 use Rattle.ocfl_tree.specs.Store.{Store, Did}
 use Rattle.ocfl_tree.specs.Listing.{IsOrdinary}
 use Rattle.ocfl_tree.specs.declared.store.Entry.{Entry}
@@ -49,11 +49,11 @@ none_mapped : {A B : Type 0} (f : A → B) (xs : List A) → map f xs ≡ [] →
 none_mapped f [] h = refl
 none_mapped f (x ∷ xs) h = absurd cc
 
-none_hashed : (root : Tree) → hashed_among root [] ≡ []
+none_hashed : (root : StorageRoot) → hashed_among root [] ≡ []
 unfolding hashed_among
 none_hashed root = refl
 
-module _ (root : Tree) where
+module _ (root : StorageRoot) where
   -- where no content was opened none was unreadable
   none_unread : (trail : List Opening) → content_trail root trail ≡ [] → length (unread_of root trail) ≡ 0
   none_unread trail h = ap (λ os. length {A = Place × ℕ} (map (λ o. (o.place, o.given)) (filter (λ o. o.failed) os))) (none_mapped (λ o. o.place) (content_openings root trail) h)
@@ -173,7 +173,7 @@ module _ (root : Tree) where
   answered_memory s p over = go_down_fails s s p fault.Memory (item_memory root s (way_to p) (holder_of (zone root p)) p over).gives
 
 -- with no place given nothing is done
-pub start_at_none : (root : Tree) (s : Store) → s.tree ≡ root → GoesDown root s s None
+pub start_at_none : (root : StorageRoot) (s : Store) → s.tree ≡ root → GoesDown root s s None
 start_at_none root s over = record {
   trail = [];
   listed = [];

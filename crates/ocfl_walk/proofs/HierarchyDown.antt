@@ -2,7 +2,7 @@
 use Rattle.std.proofs.Common.{◌≡◌, ◌⊎◌, inl, inr, ℕ, ◌≤◌, List, [], ◌∷◌, ◌++◌, sym, ◌∙◌, ap, subst, true, false, Option, Some, None, length}
 use Rattle.std.specs.Prelude.{Result, Ok, Err, IfOk, MatchOption}
 use Rattle.ocfl_tree.specs.Place.{Text, Place, begins}
-use Rattle.ocfl_tree.specs.Tree.{Tree}
+use Rattle.ocfl_tree.specs.StorageRoot.{StorageRoot}
 use Rattle.ocfl_tree.specs.Store.{Store}
 use Rattle.ocfl_tree.specs.Listing.{IsOrdinary}
 use Rattle.ocfl_tree.specs.declared.store.Entry.{Entry}
@@ -55,7 +55,7 @@ not_none m (inr f) e = let two : made.Several ≡ made.None = sym f ∙ e in cc
 
 -- ---- on a store that tells its tree
 
-module _ (root : Tree) (s : Store) (d : Place) (n : Text) (r : Place) (a : Option Around) (none : a ≡ None) (over : s.tree ≡ root) (es : List Entry) (at : IsAt root d es) (part : IsPart root d a) where
+module _ (root : StorageRoot) (s : Store) (d : Place) (n : Text) (r : Place) (a : Option Around) (none : a ≡ None) (over : s.tree ≡ root) (es : List Entry) (at : IsAt root d es) (part : IsPart root d a) where
   here : zone root d ≡ hierarchy
   here = subst (IsPart root d) none part
 

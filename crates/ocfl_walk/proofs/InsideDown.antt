@@ -3,7 +3,7 @@ use Rattle.std.proofs.Common.{◌≡◌, ◌≤◌, List, [], ◌∷◌, ◌++�
 use Rattle.std.proofs.lemmas.List.{length-append}
 use Rattle.std.specs.Prelude.{Bool, Result, Ok, Err, IfOk, IfSome, MatchOption, MatchResult}
 use Rattle.ocfl_tree.specs.Place.{Text, Place}
-use Rattle.ocfl_tree.specs.Tree.{Tree}
+use Rattle.ocfl_tree.specs.StorageRoot.{StorageRoot}
 use Rattle.ocfl_tree.specs.Store.{Store}
 use Rattle.ocfl_tree.specs.declared.store.Entry.{Entry}
 use Rattle.ocfl_audit.specs.Zone.{inside, table_at, zone}
@@ -36,7 +36,7 @@ fair_listed d n x a is h (Ok (Some f)) k =
     (k, record { holds = begins_on a.place d (d ++ n ∷ []) i.holds (begins_front d (n ∷ [])); depth = i.depth; fit = i.fit })
 fair_listed d n x a is h (Err why) k = tt
 
-module _ (root : Tree) (s : Store) (d : Place) (n : Text) (r : Place) (x : Option Around) (a : Around) (is : x ≡ Some a) (over : s.tree ≡ root) (es : List Entry) (at : IsAt root d es) (part : IsPart root d x)
+module _ (root : StorageRoot) (s : Store) (d : Place) (n : Text) (r : Place) (x : Option Around) (a : Around) (is : x ≡ Some a) (over : s.tree ≡ root) (es : List Entry) (at : IsAt root d es) (part : IsPart root d x)
     (b : Bool) (test : (p : Place) → zone root d ≡ inside a.place p → table_at root a.place ≡ Some a.table → b ≡ step_listed a.table p n) where
   within : IsPart root d (Some a)
   within = subst (IsPart root d) is part

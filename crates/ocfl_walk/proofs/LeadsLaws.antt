@@ -5,7 +5,7 @@ use Rattle.std.proofs.lemmas.List.{length-append}
 use Rattle.std.specs.Prelude.{◌&&◌, nat_le}
 use Rattle.std.specs.List.{list_all}
 use Rattle.ocfl_tree.specs.Place.{Text, Place, text_eq, beginnings}
-use Rattle.ocfl_tree.specs.Tree.{Tree, is_dir}
+use Rattle.ocfl_tree.specs.StorageRoot.{StorageRoot, is_dir}
 use Rattle.ocfl_tree.specs.declared.store.Entry.{Entry}
 use Rattle.ocfl_inventory.specs.ListedPath.{is_version_name}
 use Rattle.ocfl_audit.specs.Zone.{inside, zone, table_at, is_entered, is_listed_zone, is_listed_in_object, is_listed_within, max_listed_depth}
@@ -20,7 +20,7 @@ may_depth d n b h =
     let k : suc (length d) ≤ 127 = leb-true (suc (length d)) 127 (and_first (nat_le (suc (length d)) max_listed_depth) b h) in
     omega (arith, k, length-append d (n ∷ []))
 
-module _ (root : Tree) (d : Place) (n : Text) (es : List Entry) (a : Around) (at : IsAt root d es) (s : Place) (z : zone root d ≡ inside a.place s) (t : table_at root a.place ≡ Some a.table) where
+module _ (root : StorageRoot) (d : Place) (n : Text) (es : List Entry) (a : Around) (at : IsAt root d es) (s : Place) (z : zone root d ≡ inside a.place s) (t : table_at root a.place ≡ Some a.table) where
   listed_here : is_listed_within a.table s ≡ true
   listed_here =
       let entered : is_entered root d ≡ true = and_second (list_all (is_entered root) (beginnings d)) (is_entered root d) at.reached in

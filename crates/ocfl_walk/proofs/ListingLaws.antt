@@ -11,7 +11,7 @@ use Rattle.std.proofs.lemmas.List.Sorted.{All-permutation, IsPermutation-map, Is
 use Rattle.std.proofs.lemmas.Map.Keys.{IsDistinct-IsPermutation}
 use Rattle.ocfl_tree.specs.Place.{Place, Text, text_cmp, text_eq}
 use Rattle.ocfl_tree.specs.Ascending.{IsAscending, IsAmong, IsBeforeAll}
-use Rattle.ocfl_tree.specs.Tree.{Tree, Leaf, at, names_in}
+use Rattle.ocfl_tree.specs.StorageRoot.{StorageRoot, Leaf, at, names_in}
 use Rattle.ocfl_tree.specs.Listing.{AreApart, IsListing, IsOrdinary, kind_at, kind_in, kind_of}
 use Rattle.ocfl_tree.specs.declared.store.Entry.{Entry}
 use Rattle.ocfl_tree.specs.declared.store.Kind.{Kind}
@@ -142,15 +142,15 @@ own_kinds (e ∷ es) h = (ap (λ b. cond b (Some e.kind) (kind_in es e.name)) (t
         let apart : text_eq e.name f.name ≡ false = not_decided _ _ (text_eq-Decides e.name f.name) (λ same. some_not_none f.kind (sym h.0 ∙ ap (kind_in es) same ∙ k.0)) in
         (ap (λ b. cond b (Some e.kind) (kind_in es f.name)) apart ∙ k.0, more fs k.1)
 
-told_kinds : (root : Tree) (d : Place) (es fs : List Entry) → IsListing root d es → AllByRecursion (λ e. kind_in es e.name ≡ Some e.kind) fs → AreEntries root d fs
+told_kinds : (root : StorageRoot) (d : Place) (es fs : List Entry) → IsListing root d es → AllByRecursion (λ e. kind_in es e.name ≡ Some e.kind) fs → AreEntries root d fs
 told_kinds root d es [] h k = tt
 told_kinds root d es (f ∷ fs) h k = (sym (h.each f.name) ∙ k.0, told_kinds root d es fs h k.1)
 
-pub entries_back : (root : Tree) (d : Place) (es fs : List Entry) → IsOrdinary es → IsListing root d es → IsPermutation es fs → AreEntries root d (back (λ e. e) fs)
+pub entries_back : (root : StorageRoot) (d : Place) (es fs : List Entry) → IsOrdinary es → IsListing root d es → IsPermutation es fs → AreEntries root d (back (λ e. e) fs)
 entries_back root d es fs ordinary h moved =
     all_back (λ e. kind_at root d e.name ≡ Some e.kind) fs (all_moved (λ e. kind_at root d e.name ≡ Some e.kind) es fs moved (told_kinds root d es es h (own_kinds es ordinary.once)))
 
-name_leads : (root : Tree) (d : Place) (es : List Entry) (n : Text) → AreEntries root d es → IsAmong (names_of es) n → IsAmong (names_in root d) n
+name_leads : (root : StorageRoot) (d : Place) (es : List Entry) (n : Text) → AreEntries root d es → IsAmong (names_of es) n → IsAmong (names_in root d) n
 name_leads root d [] n h i = absurd i
 name_leads root d (e ∷ es) n h (inr j) = name_leads root d es n h.1 j
 name_leads root d (e ∷ es) n h (inl same) = by (at root (d ++ n ∷ [])) refl (ap (kind_at root d) same ∙ h.0)
@@ -175,7 +175,7 @@ kind_among ns (e ∷ es) n k h is = by (text_eq e.name n) refl is (kind_among ns
     by true t j more = subst (IsAmong ns) ((text_eq-Decides e.name n).0 t) h.0
     by false t j more = more j
 
-pub names_back : (root : Tree) (d : Place) (es fs : List Entry) → IsOrdinary es → IsListing root d es → IsPermutation es fs → IsSorted (λ e f. text_cmp f.name e.name) fs → names_of (back (λ e. e) fs) ≡ names_in root d
+pub names_back : (root : StorageRoot) (d : Place) (es fs : List Entry) → IsOrdinary es → IsListing root d es → IsPermutation es fs → IsSorted (λ e f. text_cmp f.name e.name) fs → names_of (back (λ e. e) fs) ≡ names_in root d
 names_back root d es fs ordinary h moved sorted =
     names_sorted root d (names_of (back (λ e. e) fs)) (rises_back es fs ordinary moved sorted)
     (λ n. (name_leads root d (back (λ e. e) fs) n (entries_back root d es fs ordinary h moved), named n))

@@ -2,7 +2,7 @@
 use Rattle.std.proofs.Common.{◌≡◌, [], ◌∷◌, ◌++◌, sym, ◌∙◌, ap, true, false, Bool, Option, Some, None, ◌≤◌, length}
 use Rattle.std.specs.Prelude.{cond, IfSome}
 use Rattle.ocfl_tree.specs.Place.{Place, Text}
-use Rattle.ocfl_tree.specs.Tree.{Tree}
+use Rattle.ocfl_tree.specs.StorageRoot.{StorageRoot}
 use Rattle.ocfl_tree.specs.declared.store.Entry.{Entry}
 use Rattle.ocfl_inventory.specs.Declaration.{is_declared}
 use Rattle.ocfl_inventory.specs.Table.{IsFit, Table}
@@ -20,7 +20,7 @@ use Rattle.ocfl_item.proofs.LooksZones.{inside_on}
 use Rattle.ocfl_audit.proofs.StepLaws.{zone_step}
 
 -- below the hierarchy an object begins at its own place
-pub own_head : (root : Tree) (d : Place) (n : Text) → zone root d ≡ hierarchy → (o s : Place) → zone root (d ++ n ∷ []) ≡ inside o s → (o ≡ d ++ n ∷ []) × (s ≡ [])
+pub own_head : (root : StorageRoot) (d : Place) (n : Text) → zone root d ≡ hierarchy → (o s : Place) → zone root (d ++ n ∷ []) ≡ inside o s → (o ≡ d ++ n ∷ []) × (s ≡ [])
 own_head root d n h o s e = by (is_extensions root d n) (is_declared (object_declared root (d ++ n ∷ []))) (sym (zone_step root d n ∙ ap (λ z. cond (is_extensions root d n) skipped (step_zone root d n z)) h) ∙ e)
   where
     by : (a b : Bool) → cond a skipped (cond b (inside (d ++ n ∷ []) []) hierarchy) ≡ inside o s → (o ≡ d ++ n ∷ []) × (s ≡ [])
@@ -28,7 +28,7 @@ own_head root d n h o s e = by (is_extensions root d n) (is_declared (object_dec
     by false true f = (cc, cc)
     by false false f = absurd cc
 
-pub table_met : (root : Tree) (d x : Place) (entry : Entry) (a : Option Around) (table : Option Table) → IsMet root d a entry x → IsTableAt root x table → IsTableAround root x (around_of a x table)
+pub table_met : (root : StorageRoot) (d x : Place) (entry : Entry) (a : Option Around) (table : Option Table) → IsMet root d a entry x → IsTableAt root x table → IsTableAround root x (around_of a x table)
 table_met root d x entry a (Some t) m h = ([], h.0, h.1)
 table_met root d x entry None None m h = λ o s e.
     let own = own_head root d entry.name m.part o s (sym (ap (zone root) m.is) ∙ e) in
@@ -41,6 +41,6 @@ pub around_fair : (x : Place) (a : Option Around) (table : Option Table) → IsA
 around_fair x a None h k = h
 around_fair x a (Some t) h k = record { holds = begins_own x; depth = k.1; fit = k.0 }
 
-pub ordinary : (root : Tree) (x : Place) (f : Option Folder) → IfSome f (λ g. IsFairFolder x g) → IfSome f (λ g. IsOrdinary g.entries.items)
+pub ordinary : (root : StorageRoot) (x : Place) (f : Option Folder) → IfSome f (λ g. IsFairFolder x g) → IfSome f (λ g. IsOrdinary g.entries.items)
 ordinary root x None h = h
 ordinary root x (Some g) h = h.entries

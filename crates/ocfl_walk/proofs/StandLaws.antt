@@ -6,7 +6,7 @@ use Rattle.std.specs.Ordering.{is_lt}
 use Rattle.std.specs.declared.cmp.Ordering.{Ordering}
 use Rattle.std.specs.declared.cmp.Ordering.TheVariants.{Less, Equal, Greater}
 use Rattle.ocfl_tree.specs.Place.{Place, Text, place_cmp}
-use Rattle.ocfl_tree.specs.Tree.{Tree}
+use Rattle.ocfl_tree.specs.StorageRoot.{StorageRoot}
 use Rattle.ocfl_tree.specs.Store.{Store}
 use Rattle.ocfl_tree.specs.declared.store.Entry.{Entry}
 use Rattle.ocfl_tree.proofs.Orders.{place_cmp_total, not_both_below}
@@ -46,7 +46,7 @@ after_on (Some a) x y h k = place_cmp_total.trans a x y h k
 
 -- ---- the stack after a step
 
-module _ (root : Tree) where
+module _ (root : StorageRoot) where
   -- at an entry, its listing on top where it is entered
   pub entry_stands : (last x : Place) (ps new : List Pile) (entry : Entry) (f : Option Folder) (a a' : Option Around) → IsStanding root last ps a → IsTurn root last x ((x, seen_names root x) ∷ popped ps)
       → IsTaken ps new entry → IsPileAt root x f → IsTableAround root x a' → IsStanding root x (pushed f new) a'
@@ -106,7 +106,7 @@ pub onward_item : (old mid new : Stand) (p : Pending) → Onward old mid → Goe
 onward_item old mid new p (inl e) g = (g.0, subst (λ m. IsBeyond m.last p.place) e g.1, subst (λ m. stand_size new < stand_size m) e g.2, g.3)
 onward_item old mid new p (inr h) g = (g.0, after_on old.last h.0 p.place h.2 (subst (λ l. IsBeyond l p.place) h.1 g.1), omega (arith, g.2, h.3), g.3)
 
-module _ (root : Tree) (s t u : Store) (last : Option Place) (mid new : Stand) where
+module _ (root : StorageRoot) (s t u : Store) (last : Option Place) (mid new : Stand) where
   pub so_far_step : SoFar root s t last mid → ((l : Option Place) → StandsAt root mid l → Steps root t u l new step.Nothing) → SoFar root s u last new
   so_far_step (inl h) k = let g = k last h.1 in inr (subst (λ x. (y : Place) × Walks root x u last (Some y) × StandsAt root new (Some y) × IsBeyond last y × (due root last ≡ due root (Some y))) h.0 g)
   so_far_step (inr h) k =

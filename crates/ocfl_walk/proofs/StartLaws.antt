@@ -6,7 +6,7 @@ use Rattle.std.specs.Prelude.{IfSome, Vec}
 use Rattle.ocfl_tree.specs.declared.store.Entry.{Entry}
 use Rattle.ocfl_tree.specs.Place.{Place, Text, begins, place_cmp}
 use Rattle.ocfl_tree.specs.Ascending.{IsAmong, IsBeforeAll}
-use Rattle.ocfl_tree.specs.Tree.{Tree}
+use Rattle.ocfl_tree.specs.StorageRoot.{StorageRoot}
 use Rattle.ocfl_tree.specs.Store.{Store}
 use Rattle.ocfl_audit.specs.Due.{due}
 use Rattle.ocfl_audit.specs.Walk.{seen_names}
@@ -96,7 +96,7 @@ pub item_first : (x : Place) (item : Option Pending) → x ≡ [] → IfSome ite
 item_first x None e h = h
 item_first x (Some p) e h = h ∙ sym e
 
-module _ (root : Tree) where
+module _ (root : StorageRoot) where
   pub first_stands : (x : Place) (f : Option Folder) (ps : List Pile) (a : Option Around) → x ≡ [] → ps ≡ [] → a ≡ None → IsPileAt root [] f → IsStanding root x (pushed f ps) a
   first_stands x f ps a e none alone h = subst (λ b. IsStanding root x (pushed f ps) b) (sym alone) (subst (λ qs. IsStanding root x (pushed f qs) None) (sym none) (subst (λ y. IsStanding root y (pushed f []) None) (sym e) (by f h)))
     where

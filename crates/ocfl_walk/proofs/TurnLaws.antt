@@ -7,7 +7,7 @@ use Rattle.std.specs.declared.cmp.Ordering.TheVariants.{Less, Equal, Greater}
 use Rattle.std.proofs.Math.Seq.{drop-append_seam}
 use Rattle.ocfl_tree.specs.Place.{Place, place_cmp}
 use Rattle.ocfl_tree.specs.Ascending.{ascending, insert_once, IsAscending}
-use Rattle.ocfl_tree.specs.Tree.{Tree}
+use Rattle.ocfl_tree.specs.StorageRoot.{StorageRoot}
 use Rattle.ocfl_tree.specs.declared.store.Entry.{Entry}
 use Rattle.ocfl_tree.proofs.Orders.{place_cmp_exact}
 use Rattle.ocfl_inventory.specs.Table.{Table, Triple, paths_of, triple_cmp}
@@ -92,7 +92,7 @@ least_first s (p ∷ q ∷ ps) h = let k = ascending_from q ps h.1 in by k.0 k.1
 next_same : (t : Table) (s : Place) → IsAscending triple_cmp t.triples → least_path s (paths_of t) ≡ table.next_path t (Some s)
 next_same t s h = least_first s (paths_of t) (rises_triples t.triples h) ∙ sym (find_first (above s) (paths_of t))
 
-pub path_same : (root : Tree) (last : Place) (a : Option Around) → IsTableAround root last a → IsFitIf a → next_path root last ≡ path_from last a
+pub path_same : (root : StorageRoot) (last : Place) (a : Option Around) → IsTableAround root last a → IsFitIf a → next_path root last ≡ path_from last a
 path_same root last None h fit = by (zone root last) refl
   where
     none : (o s : Place) → (table : Option Table) → table ≡ None → next_path_of o s table ≡ None
@@ -111,7 +111,7 @@ path_same root last (Some a) h fit =
 
 -- ---- listings of which nothing is left
 
-module _ (root : Tree) where
+module _ (root : StorageRoot) where
   left_trimmed : (xs : List Place) (ps : List Pile) → seen_left xs (frames_of (trimmed ps)) ≡ seen_left xs (frames_of ps)
   left_trimmed xs [] = refl
   left_trimmed xs (p ∷ ps) = by p.0 p.1 (left_trimmed xs ps)

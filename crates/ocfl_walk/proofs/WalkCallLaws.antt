@@ -2,7 +2,7 @@
 use Rattle.std.proofs.Common.{◌≡◌, [], ◌++◌, refl, sym, ◌∙◌, ap, subst, Option, Some, None}
 use Rattle.std.specs.Prelude.{not}
 use Rattle.ocfl_tree.specs.Place.{Place}
-use Rattle.ocfl_tree.specs.Tree.{Tree}
+use Rattle.ocfl_tree.specs.StorageRoot.{StorageRoot}
 use Rattle.ocfl_tree.specs.Store.{Store, Did}
 use Rattle.ocfl_audit.specs.Head.{on}
 use Rattle.ocfl_audit.specs.Trail.{heads_of, reads_inventory}
@@ -17,12 +17,12 @@ use Rattle.ocfl_item.specs.declared.fault.Fault.{Fault}
 use Rattle.ocfl_item.specs.declared.fault.Fault.TheVariants as fault
 
 -- from one place to the next just what lies at that one is looked into and read
-pub record IsNear (root : Tree) (from : Option Place) (x : Place) : Type 0 where
+pub record IsNear (root : StorageRoot) (from : Option Place) (x : Place) : Type 0 where
   pub beyond : IsBeyond from x
   pub looked : looked_between root from (Some x) ≡ on (is_looked_into root x) x
   pub read : read_between root from (Some x) ≡ on (reads_inventory root x) x
 
-module _ (root : Tree) (s t : Store) (from : Option Place) (x : Place) (near : IsNear root from x) where
+module _ (root : StorageRoot) (s t : Store) (from : Option Place) (x : Place) (near : IsNear root from x) where
   pub meets_walks : Meets root s t x → Walks root s t from (Some x)
   meets_walks m = record {
     trail = m.trail;
@@ -41,7 +41,7 @@ module _ (root : Tree) (s t : Store) (from : Option Place) (x : Place) (near : I
         (ap (λ l. l ++ read_between root (Some x) None) (sym near.read) ∙ read_on root from None x near.beyond tt) m.heads;
   }
 
-module _ (root : Tree) (s t u : Store) (from : Option Place) (b : Place) (beyond : IsBeyond from b) where
+module _ (root : StorageRoot) (s t u : Store) (from : Option Place) (b : Place) (beyond : IsBeyond from b) where
   pub walks_on : (to : Option Place) → IsWithin to b → Walks root s t from (Some b) → Walks root t u (Some b) to → Walks root s u from to
   walks_on to within v w = record {
     trail = v.trail ++ w.trail;
@@ -62,10 +62,10 @@ module _ (root : Tree) (s t u : Store) (from : Option Place) (b : Place) (beyond
   }
 
 -- the tree stays
-pub walks_over : (root : Tree) (s t : Store) (from to : Option Place) → Walks root s t from to → t.tree ≡ root
+pub walks_over : (root : StorageRoot) (s t : Store) (from to : Option Place) → Walks root s t from to → t.tree ≡ root
 walks_over root s t from to w = w.audits.did.tree ∙ w.audits.over
 
-pub walk_fails_nothing : (root : Tree) (s : Store) (from : Option Place) (why : Fault) → s.tree ≡ root → failures_by why ≡ 0 → ((q : Place) → why ≡ fault.Store q → ⊥) → WalkFails root s s from why
+pub walk_fails_nothing : (root : StorageRoot) (s : Store) (from : Option Place) (why : Fault) → s.tree ≡ root → failures_by why ≡ 0 → ((q : Place) → why ≡ fault.Store q → ⊥) → WalkFails root s s from why
 walk_fails_nothing root s from why over none not = record {
   trail = [];
   listed = [];

@@ -2,7 +2,7 @@
 use Rattle.std.specs.Prelude.{◌≡◌, ◌≤◌, ℕ, List, [], ◌∷◌, ◌++◌, false, Option, Some, None, Result, MatchOption, MatchResult, length}
 use Rattle.std.specs.List.{AllByRecursion}
 use Rattle.ocfl_tree.specs.Place.{Text, Place}
-use Rattle.ocfl_tree.specs.Tree.{Tree}
+use Rattle.ocfl_tree.specs.StorageRoot.{StorageRoot}
 use Rattle.ocfl_tree.specs.Store.{Store, Did}
 use Rattle.ocfl_tree.specs.Listing.{IsOrdinary}
 use Rattle.ocfl_tree.specs.declared.store.Entry.{Entry}
@@ -35,7 +35,7 @@ may_open None z = holder_of z
 may_open (Some a) z = []
 
 -- from s to t directories of a way were listed in order, with more of it left, and the inventories of some objects were read in order, with more of them left
-pub record Descends (root : Tree) (s t : Store) (way more may left : List Place) (failures : ℕ) : Type 0 where
+pub record Descends (root : StorageRoot) (s t : Store) (way more may left : List Place) (failures : ℕ) : Type 0 where
   pub over : s.tree ≡ root
   pub trail : List Opening
   pub listings : List Place
@@ -46,7 +46,7 @@ pub record Descends (root : Tree) (s t : Store) (way more may left : List Place)
   pub heads : IsFront (heads_of root trail ++ left) may
 
 -- and then there was a fault
-pub record DescendFails (root : Tree) (s t : Store) (way may : List Place) (why : Fault) : Type 0 where
+pub record DescendFails (root : StorageRoot) (s t : Store) (way may : List Place) (why : Fault) : Type 0 where
   pub goes : Descends root s t way [] may [] (failures_by why)
   pub store : (q : Place) → why ≡ fault.Store q → (is_hashed root q ≡ false) × FailedAt goes.listings goes.trail q
 
@@ -57,12 +57,12 @@ abbrev pub IsKept : Place → Option Around → Type 0
 IsKept p None = ⊥
 IsKept p (Some a) = (a.place ≡ p) × IsFit a.table
 
-abbrev pub HoldsTable : Tree → Place → Option Around → Type 0
+abbrev pub HoldsTable : StorageRoot → Place → Option Around → Type 0
 HoldsTable root p None = ⊥
 HoldsTable root p (Some a) = (a.place ≡ p) × (table_at root p ≡ Some a.table)
 
 -- into an object, where it has a table
-pub record GoesInto (root : Tree) (s t : Store) (o : Place) (around : Option Around) (r : Result (Option Folder) Fault) : Type 0 where
+pub record GoesInto (root : StorageRoot) (s t : Store) (o : Place) (around : Option Around) (r : Result (Option Folder) Fault) : Type 0 where
   pub gives : MatchResult r
       (λ next. MatchOption next
       (Descends root s t [] [] (o ∷ []) [] 0 × (table_at root o ≡ None))
@@ -76,18 +76,18 @@ abbrev pub IsFairWay : Place → Text → Option Around → Option Around → Op
 IsFairWay d n old new o = MatchOption o (new ≡ old) (λ f. IsFairFolder (d ++ n ∷ []) f × IsAroundIf (d ++ n ∷ []) new)
 
 -- where it is not entered, all below it has the table of what is around it, if there is one
-pub record IsShut (root : Tree) (d : Place) (n : Text) (r : Place) (around : Option Around) : Type 0 where
+pub record IsShut (root : StorageRoot) (d : Place) (n : Text) (r : Place) (around : Option Around) : Type 0 where
   pub out : is_reached root (d ++ n ∷ []) ≡ false
   pub table : IsTableAround root (d ++ n ∷ r) around
 
 -- where it is entered
-pub record IsIn (root : Tree) (e : Place) (f : Folder) (around : Option Around) : Type 0 where
+pub record IsIn (root : StorageRoot) (e : Place) (f : Folder) (around : Option Around) : Type 0 where
   pub place : f.place ≡ e
   pub here : IsAt root e f.entries.items
   pub part : IsPart root e around
 
 -- from d by the name n, on the way to d ++ n ∷ r
-pub record Leads (root : Tree) (s t : Store) (d : Place) (n : Text) (r : Place) (old new : Option Around) (x : Result (Option Folder) Fault) : Type 0 where
+pub record Leads (root : StorageRoot) (s t : Store) (d : Place) (n : Text) (r : Place) (old new : Option Around) (x : Result (Option Folder) Fault) : Type 0 where
   pub gives : MatchResult x
       (λ next. MatchOption next
       (Descends root s t (way_below d (n ∷ r)) [] (may_open old (zone root (d ++ n ∷ r))) [] 0 × IsShut root d n r new)
@@ -105,15 +105,15 @@ pub record IsComing (d : Place) (es : List Entry) (ps : List Pile) (around : Opt
   pub object : IsAroundIf d around
 
 -- the listings from d to d ++ q, on top of others
-pub record IsBrought (root : Tree) (d q : Place) (old new : List Pile) (around : Option Around) : Type 0 where
+pub record IsBrought (root : StorageRoot) (d q : Place) (old new : List Pile) (around : Option Around) : Type 0 where
   pub stack : seen_left (seen_places root) (frames_of new) ≡ seen_left (seen_places root) (listed_at root d q (frames_of old))
   pub listed : IsListed root (frames_of old) → IsListed root (frames_of new)
   pub entries : HaveEntries root old → HaveEntries root new
   pub table : IsTableAround root (d ++ q) around
 
 -- the start of a walk: at most the directories on the way to p were listed, each once, and at most the inventory of the object that holds p was opened, once
-abbrev pub Starts : Tree → Store → Store → Place → ℕ → Type 0
+abbrev pub Starts : StorageRoot → Store → Store → Place → ℕ → Type 0
 Starts root s t p failures = Descends root s t (way_to p) [] (holder_of (zone root p)) [] failures
 
-abbrev pub StartFails : Tree → Store → Store → Place → Fault → Type 0
+abbrev pub StartFails : StorageRoot → Store → Store → Place → Fault → Type 0
 StartFails root s t p why = DescendFails root s t (way_to p) (holder_of (zone root p)) why

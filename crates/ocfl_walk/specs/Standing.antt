@@ -6,7 +6,7 @@ use Rattle.std.specs.List.{AllByRecursion}
 use Rattle.std.specs.declared.cmp.Ordering.TheVariants.{Less}
 use Rattle.ocfl_tree.specs.Place.{Text, Place, text_cmp, place_cmp, begins}
 use Rattle.ocfl_tree.specs.Ascending.{IsAscending, IsBeforeAll}
-use Rattle.ocfl_tree.specs.Tree.{Tree}
+use Rattle.ocfl_tree.specs.StorageRoot.{StorageRoot}
 use Rattle.ocfl_tree.specs.Listing.{kind_at}
 use Rattle.ocfl_tree.specs.declared.store.Entry.{Entry}
 use Rattle.ocfl_inventory.specs.Table.{IsFit, Table, paths_of}
@@ -134,20 +134,20 @@ stand_size s = size_of s.last (piles_in s.last s.listings.items) s.around
 -- ---- on a store that tells its tree
 
 -- each entry that is left is what its name leads to
-abbrev pub AreEntries : Tree → Place → List Entry → Type 0
+abbrev pub AreEntries : StorageRoot → Place → List Entry → Type 0
 AreEntries root d es = AllByRecursion (λ e. kind_at root d e.name ≡ Some e.kind) es
 
-abbrev pub HaveEntries : Tree → List Pile → Type 0
+abbrev pub HaveEntries : StorageRoot → List Pile → Type 0
 HaveEntries root ps = AllByRecursion (λ p. AreEntries root p.0 p.1) ps
 
-pub record IsStanding (root : Tree) (last : Place) (ps : List Pile) (around : Option Around) : Type 0 where
+pub record IsStanding (root : StorageRoot) (last : Place) (ps : List Pile) (around : Option Around) : Type 0 where
   pub stack : IsStack root last (frames_of ps)
   pub listed : IsListed root (frames_of ps)
   pub entries : HaveEntries root ps
   pub table : IsTableAround root last around
 
 -- the walk stands over this tree, with this last place
-abbrev pub StandsAt : Tree → Stand → Option Place → Type 0
+abbrev pub StandsAt : StorageRoot → Stand → Option Place → Type 0
 StandsAt root s None = s.last ≡ None
 StandsAt root s (Some p) = (s.last ≡ Some p) × IsStanding root p (piles_in s.last s.listings.items) s.around
 
@@ -192,7 +192,7 @@ popped [] = []
 popped (p ∷ ps) = popped_from p.0 p.1 ps
 
 -- where the walk comes to by a turn: at an entry with its own listing on top
-abbrev pub place_by : Tree → List Pile → Turn → Option (Place × List Frame)
+abbrev pub place_by : StorageRoot → List Pile → Turn → Option (Place × List Frame)
 place_by root ps turn.Base = None
 place_by root ps (turn.Entry e) = Some (e, (e, seen_names root e) ∷ popped ps)
 place_by root ps (turn.Path b) = Some (b, frames_of ps)
@@ -213,7 +213,7 @@ IsBelowNext b None = ⊤
 IsBelowNext b (Some e) = place_cmp b e ≡ Less
 
 -- where the walk stood at last it goes on to x, with these listings left
-pub record IsTurn (root : Tree) (last x : Place) (fs : List Frame) : Type 0 where
+pub record IsTurn (root : StorageRoot) (last x : Place) (fs : List Frame) : Type 0 where
   pub above : place_cmp last x ≡ Less
   pub none_seen : NoneSeenBetween root last x
   pub stack : IsStack root x fs
@@ -222,7 +222,7 @@ pub record IsTurn (root : Tree) (last x : Place) (fs : List Frame) : Type 0 wher
   pub none : notes root None x ≡ [] → due root (Some last) ≡ due root (Some x)
 
 -- what a turn comes to
-abbrev pub TurnIs : Tree → Place → List Pile → Turn → Type 0
+abbrev pub TurnIs : StorageRoot → Place → List Pile → Turn → Type 0
 TurnIs root last ps turn.Base = ⊥
 TurnIs root last ps (turn.Entry e) = IsTurn root last e ((e, seen_names root e) ∷ popped ps)
 TurnIs root last ps (turn.Path b) = IsTurn root last b (frames_of ps) × (seen root b ≡ None)

@@ -1,7 +1,7 @@
 -- What the calls of a walk did to a store that tells its tree: from one place on to another, and down to one place.
 use Rattle.std.specs.Prelude.{List, [], ◌∷◌, Option, Some, None, AllPairs, ◌≢◌}
 use Rattle.ocfl_tree.specs.Place.{Place}
-use Rattle.ocfl_tree.specs.Tree.{Tree}
+use Rattle.ocfl_tree.specs.StorageRoot.{StorageRoot}
 use Rattle.ocfl_tree.specs.Store.{Store}
 use Rattle.ocfl_tree.specs.declared.store.Opening.{Opening}
 use Rattle.ocfl_audit.specs.Zone.{Zone, skipped, hierarchy, inside, zone}
@@ -13,12 +13,12 @@ use Rattle.ocfl_item.specs.declared.fault.Fault.{Fault}
 -- ---- from one place on to another
 
 -- the directories between two places were listed, and the inventories between them read
-pub record Walks (root : Tree) (s t : Store) (from to : Option Place) : Type 0 where
+pub record Walks (root : StorageRoot) (s t : Store) (from to : Option Place) : Type 0 where
   pub trail : List Opening
   pub audits : Audits root s t [] (looked_between root from to) (read_between root from to) trail
 
 -- the first of those above a place, and then there was a fault
-pub record WalkFails (root : Tree) (s t : Store) (from : Option Place) (why : Fault) : Type 0 where
+pub record WalkFails (root : StorageRoot) (s t : Store) (from : Option Place) (why : Fault) : Type 0 where
   pub trail : List Opening
   pub listed : List Place
   pub heads : List Place
@@ -38,12 +38,12 @@ abbrev pub way_of : Option Place → List Place
 way_of None = []
 way_of (Some p) = way_to p
 
-abbrev pub holder : Tree → Option Place → List Place
+abbrev pub holder : StorageRoot → Option Place → List Place
 holder root None = []
 holder root (Some p) = holder_of (zone root p)
 
 -- the first directories on the way to a place were listed, and at most the inventory of the object that holds it was read
-pub record GoesDown (root : Tree) (s t : Store) (p : Option Place) : Type 0 where
+pub record GoesDown (root : StorageRoot) (s t : Store) (p : Option Place) : Type 0 where
   pub trail : List Opening
   pub listed : List Place
   pub heads : List Place
@@ -52,7 +52,7 @@ pub record GoesDown (root : Tree) (s t : Store) (p : Option Place) : Type 0 wher
   pub heads_front : IsFront heads (holder root p)
   pub once : AllPairs (λ a b. a.place ≢ b.place) trail
 
-pub record GoDownFails (root : Tree) (s t : Store) (p : Option Place) (why : Fault) : Type 0 where
+pub record GoDownFails (root : StorageRoot) (s t : Store) (p : Option Place) (why : Fault) : Type 0 where
   pub trail : List Opening
   pub listed : List Place
   pub heads : List Place

@@ -1,7 +1,7 @@
 -- What a walk does to a store that tells its tree.
 use Rattle.std.specs.Prelude.{◌≡◌, ◌⊎◌, ◌≤◌, [], ◌∷◌, Option, Some, None, MatchOption, IfSome, length, ◌<◌, ⊤}
 use Rattle.ocfl_tree.specs.Place.{Place}
-use Rattle.ocfl_tree.specs.Tree.{Tree}
+use Rattle.ocfl_tree.specs.StorageRoot.{StorageRoot}
 use Rattle.ocfl_tree.specs.Store.{Store}
 use Rattle.ocfl_audit.specs.Due.{due}
 use Rattle.ocfl_audit.specs.Between.{IsBeyond}
@@ -21,11 +21,11 @@ use Rattle.ocfl_walk.specs.declared.stand.Step.TheVariants as step
 -- ---- at one place
 
 -- the same, put in order
-abbrev pub IsPileAt : Tree → Place → Option Folder → Type 0
+abbrev pub IsPileAt : StorageRoot → Place → Option Folder → Type 0
 IsPileAt root e o = MatchOption o (seen_names root e ≡ []) (λ f. (f.place ≡ e) × (left_names f ≡ seen_names root e) × AreEntries root e (left_of_folder f))
 
 -- what was met at an entry, with the object that holds it
-pub record IsMeeting (root : Tree) (e : Place) (m : Met) : Type 0 where
+pub record IsMeeting (root : StorageRoot) (e : Place) (m : Met) : Type 0 where
   pub item : IsItemAt root e m.item
   pub folder : IsPileAt root e m.folder
   pub table : IsTableAround root e m.around
@@ -40,7 +40,7 @@ pub record IsFairMet (e : Place) (m : Met) : Type 0 where
 -- ---- an answer of a walk
 
 -- the next item: the first that is due
-pub record IsNext (root : Tree) (last : Option Place) (p : Pending) : Type 0 where
+pub record IsNext (root : StorageRoot) (last : Option Place) (p : Pending) : Type 0 where
   pub pending : IsPending root p
   pub due_are : due root last ≡ p.place ∷ due root (Some p.place)
 
@@ -49,7 +49,7 @@ step_from None = step.Nothing
 step_from (Some p) = step.Item p
 
 -- one step
-abbrev pub Steps : Tree → Store → Store → Option Place → Stand → Step → Type 0
+abbrev pub Steps : StorageRoot → Store → Store → Option Place → Stand → Step → Type 0
 Steps root s t last new (step.Item p) = Walks root s t last (Some p.place) × StandsAt root new (Some p.place) × IsBeyond last p.place × IsNext root last p
 Steps root s t last new step.Nothing = (x : Place) × Walks root s t last (Some x) × StandsAt root new (Some x) × IsBeyond last x × (due root last ≡ due root (Some x))
 Steps root s t last new step.End = Walks root s t last None × (due root last ≡ []) × StandsAt root new last
@@ -61,11 +61,11 @@ GoesOn old new step.Nothing = (x : Place) × (new.last ≡ Some x) × IsBeyond o
 GoesOn old new step.End = ⊤
 
 -- nothing is left where it stands
-abbrev pub HasEnded : Tree → Stand → Type 0
+abbrev pub HasEnded : StorageRoot → Stand → Type 0
 HasEnded root new = (x : Option Place) × StandsAt root new x × (due root x ≡ [])
 
 -- the next item
-abbrev pub NextTold : Tree → Store → Store → Option Place → Stand → Option Pending → Type 0
+abbrev pub NextTold : StorageRoot → Store → Store → Option Place → Stand → Option Pending → Type 0
 NextTold root s t last new None = Walks root s t last None × (due root last ≡ []) × HasEnded root new
 NextTold root s t last new (Some p) = Walks root s t last (Some p.place) × StandsAt root new (Some p.place) × IsNext root last p
 
@@ -77,5 +77,5 @@ NextGoesOn old new (Some p) = (new.last ≡ Some p.place) × IsBeyond old.last p
 abbrev pub Onward : Stand → Stand → Type 0
 Onward old new = (new ≡ old) ⊎ ((x : Place) × (new.last ≡ Some x) × IsBeyond old.last x × (stand_size new < stand_size old))
 
-abbrev pub SoFar : Tree → Store → Store → Option Place → Stand → Type 0
+abbrev pub SoFar : StorageRoot → Store → Store → Option Place → Stand → Type 0
 SoFar root s t last stand = ((t ≡ s) × StandsAt root stand last) ⊎ ((x : Place) × Walks root s t last (Some x) × StandsAt root stand (Some x) × IsBeyond last x × (due root last ≡ due root (Some x)))

@@ -1,7 +1,7 @@
 -- A walk as those above it see it.
 use Rattle.std.specs.Prelude.{◌≡◌, ◌<◌, ◌≤◌, ℕ, ◌∷◌, ◌++◌, List, [], true, false, Option, Some, None, length, ⊤}
 use Rattle.ocfl_tree.specs.Place.{Place}
-use Rattle.ocfl_tree.specs.Tree.{Tree}
+use Rattle.ocfl_tree.specs.StorageRoot.{StorageRoot}
 use Rattle.ocfl_tree.specs.Store.{Store}
 use Rattle.ocfl_tree.specs.declared.store.Opening.{Opening}
 use Rattle.ocfl_audit.specs.Due.{due}
@@ -29,11 +29,11 @@ unfoldable pub walk_size : Walk → ℕ
 walk_size walk = stand_size walk.stand
 
 -- it stands over this tree, behind this place
-abbrev pub Stands : Tree → Walk → Option Place → Type 0
+abbrev pub Stands : StorageRoot → Walk → Option Place → Type 0
 Stands root walk last = StandsAt root walk.stand last
 
 -- from s to t no file was opened but inventories
-pub record OpensInventories (root : Tree) (s t : Store) : Type 0 where
+pub record OpensInventories (root : StorageRoot) (s t : Store) : Type 0 where
   pub trail : List Opening
   pub opened : t.openings ≡ s.openings ++ trail
   pub only : AreInventories root trail
@@ -44,11 +44,11 @@ GoesOn old new None = ⊤
 GoesOn old new (Some p) = (last_of new ≡ Some p.place) × IsBeyond (last_of old) p.place × (walk_size new < walk_size old) × (length p.place ≤ 255)
 
 -- nothing is left above the place behind which it stands
-abbrev pub HasEnded : Tree → Walk → Type 0
+abbrev pub HasEnded : StorageRoot → Walk → Type 0
 HasEnded root walk = (x : Option Place) × Stands root walk x × (due root x ≡ [])
 
 -- the first of what is due, or none where nothing is, then and from then on
-abbrev pub Gives : Tree → Store → Store → Option Place → Walk → Option Pending → Type 0
+abbrev pub Gives : StorageRoot → Store → Store → Option Place → Walk → Option Pending → Type 0
 Gives root s t last new None = Walks root s t last None × (due root last ≡ []) × HasEnded root new
 Gives root s t last new (Some p) =
     Walks root s t last (Some p.place) × Stands root new (Some p.place) × IsPending root p × (due root last ≡ p.place ∷ due root (Some p.place))

@@ -1,7 +1,7 @@
 //! Where a walk begins: the listings on the way to a place, of each what lies above that place.
 ghost use Rattle.std.specs.Prelude.{◌≡◌, ◌≤◌, ◌∷◌, ◌++◌, [], length, true, None, Some};
 ghost use Rattle.std.specs.Prelude.{IsTrue, IfOk, IfErr, IfSome, MatchOption, MatchResult};
-ghost use Rattle.ocfl_tree.specs.Tree.{Tree as Root};
+ghost use Rattle.ocfl_tree.specs.StorageRoot.{StorageRoot};
 ghost use Rattle.ocfl_tree.specs.Place.{Place as Spot};
 ghost use Rattle.ocfl_tree.specs.Listing.{IsListing};
 ghost use Rattle.ocfl_walk.specs.Entering.{Descends, DescendFails, GoesInto, IsBrought, IsComing};
@@ -31,7 +31,7 @@ fn listed<T: Tree>(store: &mut T, folder: &Folder, name: &Name) -> Result<Option
     ensures only { IfErr result (λ why. IsWayFault why) }
     ensures fair { IfOk result (λ next. IfSome next
         (λ inner. IsFairFolder (folder.now.place ++ name.now ∷ []) inner)) }
-    ensures told { IsTrue T.told → (root : Root) → (T.state store.old).tree ≡ root
+    ensures told { IsTrue T.told → (root : StorageRoot) → (T.state store.old).tree ≡ root
         → IsListing root folder.now.place folder.now.entries.items
         → let below = folder.now.place ++ name.now ∷ [] in MatchResult result
         (λ next. MatchOption next
@@ -57,7 +57,7 @@ fn into_object<T: Tree>(
     ensures only { IfErr result (λ why. IsWayFault why) }
     ensures fair { IfOk result (λ o. MatchOption o (object.new ≡ object.old)
         (λ f. (f ≡ folder) × IsKept folder.place object.new)) }
-    ensures told { IsTrue T.told → (root : Root) → (T.state store.old).tree ≡ root
+    ensures told { IsTrue T.told → (root : StorageRoot) → (T.state store.old).tree ≡ root
         → IsObject root folder.place folder.entries.items
         → GoesInto root (T.state store.old) (T.state store.new) folder.place object.new result }
 {
@@ -81,7 +81,7 @@ fn down_in_hierarchy<T: Tree>(
     requires { object.old ≡ None }
     ensures only { IfErr result (λ why. IsWayFault why) }
     ensures fair { IfOk result (λ o. IsFairWay folder.now.place name.now object.old object.new o) }
-    ensures told { IsTrue T.told → (root : Root) → (T.state store.old).tree ≡ root
+    ensures told { IsTrue T.told → (root : StorageRoot) → (T.state store.old).tree ≡ root
         → IsAt root folder.now.place folder.now.entries.items
         → IsPart root folder.now.place object.old → (r : Spot)
         → Leads root (T.state store.old) (T.state store.new) folder.now.place name.now r object.old
@@ -103,7 +103,7 @@ fn down_in_hierarchy<T: Tree>(
 /// Whether a name leads from a directory of an object to another that is listed.
 fn leads_on(object: &Around, folder: &Folder, name: &Name) -> bool
     requires { length object.now.place ≤ length folder.now.place }
-    ensures told { (root : Root) → IsAt root folder.now.place folder.now.entries.items → (s : Spot)
+    ensures told { (root : StorageRoot) → IsAt root folder.now.place folder.now.entries.items → (s : Spot)
         → zone root folder.now.place ≡ inside object.now.place s
         → table_at root object.now.place ≡ Some object.now.table
         → result ≡ step_listed object.now.table s name.now }
@@ -129,7 +129,7 @@ pub(crate) fn down<T: Tree>(
     requires { IsAroundIf folder.now.place object.old }
     ensures only { IfErr result (λ why. IsWayFault why) }
     ensures fair { IfOk result (λ o. IsFairWay folder.now.place name.now object.old object.new o) }
-    ensures told { IsTrue T.told → (root : Root) → (T.state store.old).tree ≡ root
+    ensures told { IsTrue T.told → (root : StorageRoot) → (T.state store.old).tree ≡ root
         → IsAt root folder.now.place folder.now.entries.items
         → IsPart root folder.now.place object.old → (r : Spot)
         → Leads root (T.state store.old) (T.state store.new) folder.now.place name.now r object.old
@@ -163,7 +163,7 @@ fn go_down<T: Tree>(
     ensures last { stand.new.last ≡ stand.old.last }
     ensures orderly { IfOk result (λ _. IsOrderly (folder.place ++ names.now)
         (piles_in stand.new.last stand.new.listings.items) stand.new.around) }
-    ensures told { IsTrue T.told → (root : Root) → (T.state store.old).tree ≡ root
+    ensures told { IsTrue T.told → (root : StorageRoot) → (T.state store.old).tree ≡ root
         → IsAt root folder.place folder.entries.items → IsPart root folder.place stand.old.around
         → let may = may_open stand.old.around
         (zone root (folder.place ++ names.now)) in MatchResult result
@@ -193,7 +193,7 @@ pub(crate) fn stand_at<T: Tree>(alloc: Global, store: &mut T, after: &Place) -> 
     ensures only { IfErr result (λ why. IsWayFault why) }
     ensures last { IfOk result (λ stand. stand.last ≡ Some after.now) }
     ensures orderly { IfOk result (λ stand. IsOrderlyStand stand) }
-    ensures told { IsTrue T.told → (root : Root) → (T.state store.old).tree ≡ root
+    ensures told { IsTrue T.told → (root : StorageRoot) → (T.state store.old).tree ≡ root
         → MatchResult result
         (λ stand. Starts root (T.state store.old) (T.state store.new) after.now 0
         × StandsAt root stand (Some after.now))

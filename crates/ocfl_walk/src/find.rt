@@ -1,6 +1,6 @@
 //! One place, looked up in the listings on the way down to it.
 ghost use Rattle.std.specs.Prelude.{◌≡◌, ◌∷◌, ◌++◌, [], None, Some, IsTrue, IfErr, MatchOption};
-ghost use Rattle.ocfl_tree.specs.Tree.{Tree as Root};
+ghost use Rattle.ocfl_tree.specs.StorageRoot.{StorageRoot};
 ghost use Rattle.ocfl_tree.specs.Listing.{kind_in};
 ghost use Rattle.ocfl_audit.specs.Zone.{zone};
 ghost use Rattle.ocfl_walk.specs.Entering.{may_open};
@@ -37,7 +37,7 @@ fn item_in<T: Tree>(
     name: &Name,
 ) -> Result<Option<Pending>, Fault>
     ensures only { IfErr result (λ why. IsWayFault why) }
-    ensures told { IsTrue T.told → (root : Root) → (T.state store.old).tree ≡ root
+    ensures told { IsTrue T.told → (root : StorageRoot) → (T.state store.old).tree ≡ root
         → IsAt root folder.now.place folder.now.entries.items
         → IsPart root folder.now.place around.now
         → place.now ≡ folder.now.place ++ name.now ∷ []
@@ -62,7 +62,7 @@ pub(crate) fn find_below<T: Tree>(
 ) -> Result<Option<Pending>, Fault>
     requires { IsAroundIf folder.place around }
     ensures only { IfErr result (λ why. IsWayFault why) }
-    ensures told { IsTrue T.told → (root : Root) → (T.state store.old).tree ≡ root
+    ensures told { IsTrue T.told → (root : StorageRoot) → (T.state store.old).tree ≡ root
         → IsAt root folder.place folder.entries.items → IsPart root folder.place around
         → place.now ≡ folder.place ++ name.now ∷ rest.now
         → FindsItem root (T.state store.old) (T.state store.new)

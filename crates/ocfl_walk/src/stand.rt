@@ -3,7 +3,7 @@ ghost use Rattle.std.specs.Prelude.{◌≡◌, ◌≢◌, ◌<◌, ◌∷◌, []
 ghost use Rattle.std.specs.Prelude.{IsTrue, IfOk, IfErr, IfSome, MatchOption};
 ghost use Rattle.std.specs.Prelude.{MatchResult, length};
 ghost use Rattle.ocfl_tree.specs.Place.{Place as Spot};
-ghost use Rattle.ocfl_tree.specs.Tree.{Tree as Root};
+ghost use Rattle.ocfl_tree.specs.StorageRoot.{StorageRoot};
 ghost use Rattle.ocfl_item.specs.Ways.{IsWayFault};
 ghost use Rattle.arrayvec.specs.ArrayVec.{array_vec_len};
 ghost use Rattle.ocfl_tree.specs.Store.{Store};
@@ -200,7 +200,7 @@ fn meet<T: Tree>(
     ensures only { IfErr result (λ why. IsWayFault why) }
     ensures fair { IsAroundIf place.now (still around place.now)
         → IfOk result (λ m. IsFairMet place.now m) }
-    ensures told { IsTrue T.told → (root : Root) → (T.state store.old).tree ≡ root
+    ensures told { IsTrue T.told → (root : StorageRoot) → (T.state store.old).tree ≡ root
         → (d : Spot) → IsMet root d (still around place.now) entry.now place.now
         → MatchResult result
         (λ m. Meets root (T.state store.old) (T.state store.new) place.now
@@ -251,7 +251,7 @@ impl Stand {
         ensures orderly { IsOrderlyStand self.new }
         ensures only { IfErr result (λ why. IsWayFault why) }
         ensures goes_on { IfOk result (λ step. GoesOn self.old self.new step) }
-        ensures told { IsTrue T.told → (root : Root) → (T.state store.old).tree ≡ root
+        ensures told { IsTrue T.told → (root : StorageRoot) → (T.state store.old).tree ≡ root
             → MatchResult result
             (λ step. Steps root (T.state store.old) (T.state store.new) None self.new step)
             (λ why. WalkFails root (T.state store.old) (T.state store.new) None why) }
@@ -274,7 +274,7 @@ impl Stand {
         ensures orderly { IsOrderlyStand self.new }
         ensures only { IfErr result (λ why. IsWayFault why) }
         ensures goes_on { IfOk result (λ step. GoesOn self.old self.new step) }
-        ensures told { IsTrue T.told → (root : Root) → (T.state store.old).tree ≡ root
+        ensures told { IsTrue T.told → (root : StorageRoot) → (T.state store.old).tree ≡ root
             → (last : Spot) → self.old.last ≡ Some last
             → IsStanding root last (piles_in self.old.last self.old.listings.items)
             self.old.around
@@ -310,7 +310,7 @@ impl Stand {
         ensures orderly { IsOrderlyStand self.new }
         ensures only { IfErr result (λ why. IsWayFault why) }
         ensures goes_on { IfOk result (λ step. GoesOn self.old self.new step) }
-        ensures told { (s : Store) (root : Root) → s.tree ≡ root
+        ensures told { (s : Store) (root : StorageRoot) → s.tree ≡ root
             → (last : Spot) → self.old.last ≡ Some last
             → IsStanding root last (piles_in self.old.last self.old.listings.items)
             self.old.around
@@ -330,7 +330,7 @@ impl Stand {
         ensures orderly { IsOrderlyStand self.new }
         ensures only { IfErr result (λ why. IsWayFault why) }
         ensures goes_on { IfOk result (λ step. GoesOn self.old self.new step) }
-        ensures told { IsTrue T.told → (root : Root) → (T.state store.old).tree ≡ root
+        ensures told { IsTrue T.told → (root : StorageRoot) → (T.state store.old).tree ≡ root
             → (last : Option Spot) → StandsAt root self.old last → MatchResult result
             (λ step. Steps root (T.state store.old) (T.state store.new) last self.new step)
             (λ why. WalkFails root (T.state store.old) (T.state store.new) last why) }
@@ -354,7 +354,7 @@ impl Stand {
         ensures orderly { IsOrderlyStand self.new }
         ensures only { IfErr result (λ why. IsWayFault why) }
         ensures goes_on { IfOk result (λ o. NextGoesOn self.old self.new o) }
-        ensures told { IsTrue T.told → (root : Root) → (T.state store.old).tree ≡ root
+        ensures told { IsTrue T.told → (root : StorageRoot) → (T.state store.old).tree ≡ root
             → (last : Option Spot) → StandsAt root self.old last → MatchResult result
             (λ o. NextTold root (T.state store.old) (T.state store.new) last self.new o)
             (λ why. WalkFails root (T.state store.old) (T.state store.new) last why) }

@@ -2,7 +2,7 @@
 ghost use Rattle.std.specs.Prelude.{◌≡◌, Option, option_map, true, None, Some, IsTrue, IfOk, IfErr};
 ghost use Rattle.std.specs.Prelude.{Err, MatchResult};
 ghost use Rattle.ocfl_tree.specs.Place.{Place as Spot};
-ghost use Rattle.ocfl_tree.specs.Tree.{Tree as Root};
+ghost use Rattle.ocfl_tree.specs.StorageRoot.{StorageRoot};
 ghost use Rattle.ocfl_walk.specs.WalkCalls.{GoDownFails, GoesDown, WalkFails};
 ghost use Rattle.ocfl_walk.specs.Orderly.{is_orderly};
 ghost use Rattle.ocfl_item.specs.Ways.{IsWayFault};
@@ -45,9 +45,9 @@ impl Walk {
         ensures last { IfOk result (λ walk. last_of walk ≡ option_map (λ p. p.now) after.entry) }
         ensures untouched { after.entry ≡ None → store.new ≡ store.old }
         ensures ready { after.entry ≡ None → IfErr result (λ _. ⊥) }
-        ensures inventories { IsTrue T.told → (root : Root) → (T.state store.old).tree ≡ root
+        ensures inventories { IsTrue T.told → (root : StorageRoot) → (T.state store.old).tree ≡ root
             → OpensInventories root (T.state store.old) (T.state store.new) }
-        ensures told { IsTrue T.told → (root : Root) → (T.state store.old).tree ≡ root
+        ensures told { IsTrue T.told → (root : StorageRoot) → (T.state store.old).tree ≡ root
             → let p = option_map (λ p. p.now) after.entry in MatchResult result
             (λ walk. GoesDown root (T.state store.old) (T.state store.new) p × Stands root walk p)
             (λ why. GoDownFails root (T.state store.old) (T.state store.new) p why) }
@@ -83,7 +83,7 @@ impl Walk {
         ensures stays { IsBroken self.old → (result ≡ Err Fault.Broken) × (store.new ≡ store.old) }
         ensures goes_on { IsLive self.old → IfOk result
             (λ o. IsLive self.new × GoesOn self.old self.new o) }
-        ensures told { IsTrue T.told → (root : Root) → (T.state store.old).tree ≡ root
+        ensures told { IsTrue T.told → (root : StorageRoot) → (T.state store.old).tree ≡ root
             → IsLive self.old
             → (last : Option Spot) → Stands root self.old last → MatchResult result
             (λ o. Gives root (T.state store.old) (T.state store.new) last self.new o)

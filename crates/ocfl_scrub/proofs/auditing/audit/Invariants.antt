@@ -1,6 +1,6 @@
 use Rattle.std.proofs.Common.{◌≡◌, None, false}
 use Rattle.std.specs.Prelude.{IsTrue}
-use Rattle.ocfl_tree.specs.Tree.{Tree as Root}
+use Rattle.ocfl_tree.specs.StorageRoot.{StorageRoot}
 use Rattle.ocfl_item.specs.Judging.{HasShortFiles}
 use Rattle.ocfl_walk.specs.Walks.{walk_size}
 use Rattle.ocfl_scrub.proofs.AuditTurns.{HasTaken}
@@ -15,7 +15,7 @@ invariant-loop-pending g l =
       way : IsUnderWay l.walk None l.last (Write.contents l.fn.out) (Write.contents l.out) l.found;
       silent : l.last ≡ None → l.out ≡ l.fn.out;
       none_found : l.last ≡ None → l.found ≡ false;
-      told : IsTrue Tree.told → (root : Root) → (Tree.state l.fn.store).tree ≡ root → HasShortFiles root →
+      told : IsTrue Tree.told → (root : StorageRoot) → (Tree.state l.fn.store).tree ≡ root → HasShortFiles root →
           HasTaken root (Tree.state l.fn.store) (Tree.state l.store) (Write.contents l.fn.out) (Write.contents l.out) l.walk l.last l.found;
     }
 

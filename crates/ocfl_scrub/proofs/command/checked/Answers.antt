@@ -1,6 +1,6 @@
 use Rattle.std.proofs.Common.{◌≡◌, sym, ◌∙◌, subst, inl}
 use Rattle.ocfl_tree.specs.Place.{Place}
-use Rattle.ocfl_tree.specs.Tree.{Tree}
+use Rattle.ocfl_tree.specs.StorageRoot.{StorageRoot}
 use Rattle.ocfl_tree.specs.Store.{Store}
 use Rattle.std.specs.Prelude.{List, ℕ, Option}
 use Rattle.ocfl_report.specs.Text.{place_text}
@@ -12,7 +12,7 @@ use Rattle.ocfl_scrub.specs.declared.note.Note.{Note}
 use Rattle.ocfl_scrub.proofs.command.checked.Goals as goal
 
 -- a check of the place that was read is one of the place that was meant
-checked_there : (root : Tree) (s t : Store) (old new : Option (List ℕ)) (p q : Place) (ran : CheckEnd) (status : ℕ) (n : Note)
+checked_there : (root : StorageRoot) (s t : Store) (old new : Option (List ℕ)) (p q : Place) (ran : CheckEnd) (status : ℕ) (n : Note)
     → q ≡ p → CheckEnds root s t old new q ran.item ran.found ran.end → IsCheckNote ran.item ran.found ran.end status n → ChecksWithNote root s t old new p status n
 checked_there root s t old new p q ran status n e checks says = record {
   ran = ran;

@@ -1,7 +1,7 @@
 use Rattle.std.proofs.Common.{◌≡◌, ◌≢◌, drop, map, false}
 use Rattle.std.specs.Prelude.{IsTrue}
 use Rattle.ocfl_cursor.specs.Cursor.{ended, new_cursor}
-use Rattle.ocfl_tree.specs.Tree.{Tree as Root}
+use Rattle.ocfl_tree.specs.StorageRoot.{StorageRoot}
 use Rattle.ocfl_item.specs.Judging.{HasShortFiles}
 use Rattle.ocfl_scrub.specs.Running.{limits_of}
 use Rattle.ocfl_scrub.specs.Taking.{WritesLines}
@@ -22,6 +22,6 @@ invariant-loop-one g l =
       silent : l.runs ≡ 0 → l.out ≡ l.fn.out;
       untouched : l.runs ≡ 0 → l.store ≡ l.fn.store;
       lines : WritesLines (Write.contents l.fn.out) (Write.contents l.out) l.found;
-      told : IsTrue Tree.told → (root : Root) → (Tree.state l.fn.store).tree ≡ root → HasShortFiles root →
+      told : IsTrue Tree.told → (root : StorageRoot) → (Tree.state l.fn.store).tree ≡ root → HasShortFiles root →
           CycleGoes root (Tree.state l.fn.store) (Tree.state l.store) (Write.contents l.fn.out) (Write.contents l.out) (map limits_of (drop l.one-index l.limits)) (map limits_of l.limits) l.cursor l.found;
     }

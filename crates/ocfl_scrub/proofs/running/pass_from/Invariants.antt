@@ -1,6 +1,6 @@
 use Rattle.std.proofs.Common.{◌≡◌}
 use Rattle.std.specs.Prelude.{IsTrue}
-use Rattle.ocfl_tree.specs.Tree.{Tree as Root}
+use Rattle.ocfl_tree.specs.StorageRoot.{StorageRoot}
 use Rattle.ocfl_item.specs.Judging.{HasShortFiles}
 use Rattle.ocfl_walk.specs.Walks.{walk_size}
 use Rattle.ocfl_scrub.specs.Running.{limits_of, IsPaid}
@@ -18,7 +18,7 @@ invariant-loop-pending g l =
       short : IsShort l.last;
       limits : l.meter.limits ≡ l.fn.limits;
       paid : IsPaid (limits_of l.fn.limits) l.meter.spent l.meter.files;
-      told : IsTrue Tree.told → (root : Root) → (Tree.state l.fn.store).tree ≡ root → HasShortFiles root →
+      told : IsTrue Tree.told → (root : StorageRoot) → (Tree.state l.fn.store).tree ≡ root → HasShortFiles root →
           HasPaid root (Tree.state l.fn.store) (Tree.state l.store) (Write.contents l.fn.out) (Write.contents l.out) l.walk l.fn.from l.last (limits_of l.fn.limits) l.meter.spent l.meter.files l.found;
     }
 

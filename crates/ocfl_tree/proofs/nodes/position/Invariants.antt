@@ -1,6 +1,6 @@
 use Rattle.std.proofs.Common.{◌≡◌, drop}
 use Rattle.ocfl_tree.specs.Path.{names_of}
-use Rattle.ocfl_tree.specs.Tree.{lookup}
+use Rattle.ocfl_tree.specs.StorageRoot.{lookup}
 use Rattle.ocfl_tree.proofs.nodes.position.Given as goal
 
 abbrev pub invariant-loop-i : goal.invariant-loop-i

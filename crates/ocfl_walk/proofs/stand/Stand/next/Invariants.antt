@@ -1,6 +1,6 @@
 use Rattle.std.proofs.Common.{◌≡◌, IsTrue, Option}
 use Rattle.ocfl_tree.specs.Place.{Place}
-use Rattle.ocfl_tree.specs.Tree.{Tree}
+use Rattle.ocfl_tree.specs.StorageRoot.{StorageRoot}
 use Rattle.ocfl_walk.specs.Standing.{IsOrderlyStand, StandsAt, stand_size}
 use Rattle.ocfl_walk.specs.Walking.{Onward, SoFar}
 use Rattle.ocfl_walk.proofs.stand.Stand.next.Given as goal
@@ -9,7 +9,7 @@ abbrev pub invariant-loop-item : goal.invariant-loop-item
 invariant-loop-item g l = record {
   orderly : IsOrderlyStand l.self;
   onward : Onward l.initial.self l.self;
-  told : IsTrue g.T.Tree.told → (root : Tree) → (g.T.Tree.state l.initial.store).tree ≡ root → (last : Option Place) → StandsAt root l.initial.self last → SoFar root (g.T.Tree.state l.initial.store) (g.T.Tree.state l.store) last l.self;
+  told : IsTrue g.T.Tree.told → (root : StorageRoot) → (g.T.Tree.state l.initial.store).tree ≡ root → (last : Option Place) → StandsAt root l.initial.self last → SoFar root (g.T.Tree.state l.initial.store) (g.T.Tree.state l.store) last l.self;
 }
 
 abbrev pub decreases-loop-item : goal.decreases-loop-item

@@ -9,10 +9,10 @@ pub data Leaf : Type 0 where
   dir : Leaf
   other : Leaf
 
-abbrev pub Tree : Type 0
-Tree = List (Place × Leaf)
+abbrev pub StorageRoot : Type 0
+StorageRoot = List (Place × Leaf)
 
-abbrev pub lookup : Tree → Place → Option Leaf
+abbrev pub lookup : StorageRoot → Place → Option Leaf
 lookup [] p = None
 lookup (e ∷ root) p = if place_eq e.0 p then Some e.1 else lookup root p
 
@@ -23,12 +23,12 @@ is_dir_leaf (Some dir) = true
 is_dir_leaf (Some other) = false
 
 -- what lies behind front at a name and the names below it: each but the last must lead to a directory
-abbrev pub at_below : Tree → Place → Text → Place → Option Leaf
+abbrev pub at_below : StorageRoot → Place → Text → Place → Option Leaf
 at_below root front n [] = lookup root (front ++ n ∷ [])
 at_below root front n (m ∷ p) = if is_dir_leaf (lookup root (front ++ n ∷ [])) then at_below root (front ++ n ∷ []) m p else None
 
 -- what lies at a place; the storage root is a directory
-abbrev pub at : Tree → Place → Option Leaf
+abbrev pub at : StorageRoot → Place → Option Leaf
 at root [] = Some dir
 at root (n ∷ p) = at_below root [] n p
 
@@ -38,16 +38,16 @@ bytes_of dir = None
 bytes_of other = None
 
 -- the bytes of the file at a place
-abbrev pub file_at : Tree → Place → Option Text
+abbrev pub file_at : StorageRoot → Place → Option Text
 file_at root p = option_and_then bytes_of (at root p)
 
-abbrev pub is_dir : Tree → Place → Bool
+abbrev pub is_dir : StorageRoot → Place → Bool
 is_dir root p = is_dir_leaf (at root p)
 
 -- the names of the entries right below a place, ascending
-abbrev pub names_in : Tree → Place → List Text
+abbrev pub names_in : StorageRoot → Place → List Text
 names_in root d = ascending text_cmp (filter_map (λ e. child_name d e.0) root)
 
 -- those of them that lead to files
-abbrev pub files_in : Tree → Place → List Text
+abbrev pub files_in : StorageRoot → Place → List Text
 files_in root d = filter (λ n. is_some (file_at root (d ++ n ∷ []))) (names_in root d)

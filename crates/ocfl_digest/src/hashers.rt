@@ -1,6 +1,6 @@
 ghost use Rattle.std.specs.Prelude.{◌≡◌, ◌++◌, [], Bool, if◌then◌else◌, Some, None};
-ghost use Rattle.md5.specs.Md5 as md5;
 ghost use Rattle.sha1.specs.Sha1 as sha1;
+ghost use Rattle.md5.specs.Md5 as md5;
 ghost use Rattle.ocfl_tree.specs.Place.{Text};
 ghost use Rattle.ocfl_digest.specs.Hashers.{IsFed, AreFed};
 ghost use Rattle.ocfl_digest.specs.Digests.{AreDigests};

@@ -3,8 +3,8 @@ ghost use Rattle.std.specs.Prelude.{◌≡◌, ◌++◌, ◌∷◌, [], OnOk, ma
 ghost use Rattle.std.specs.Prelude.{string_bytes, IfOk, IsPermutation};
 ghost use Rattle.std.specs.List.Sorted.{IsSorted};
 ghost use Rattle.ocfl_inventory.specs.Table.{triples_of, triple_cmp};
-ghost use Rattle.ocfl_inventory.specs.Internal.Parts.{block_view, listing_view};
-ghost use Rattle.ocfl_inventory.specs.Internal.Parts.{supported_view, text_in, texts_among};
+ghost use Rattle.ocfl_inventory.specs.Internal.Parts.{block_view, listing_view, supported_view};
+ghost use Rattle.ocfl_inventory.specs.Internal.Parts.{text_in, texts_among};
 ghost use Rattle.ocfl_inventory.specs.Internal.ListsOf.{all_triples, AreListed};
 ghost use Rattle.ocfl_inventory.specs.DigestText.{folded};
 ghost use Rattle.ocfl_inventory.specs.TripleView.{named_view};

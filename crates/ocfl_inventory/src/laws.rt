@@ -1,11 +1,11 @@
 ghost use Rattle.std.specs.Prelude.{◌≡◌, ◌↔◌, Some, ℕ, List, IsPermutation};
 ghost use Rattle.ocfl_tree.specs.Place.{Text};
 ghost use Rattle.ocfl_tree.specs.declared.store.Entry.{Entry};
+ghost use Rattle.ocfl_digest.specs.declared.algorithm.Algorithm.{Algorithm};
 ghost use Rattle.ocfl_inventory.specs.Declaration.{declared};
 ghost use Rattle.ocfl_inventory.specs.Entries.{file_names};
 ghost use Rattle.ocfl_inventory.specs.declared.declaration.Level.{Level};
 ghost use Rattle.ocfl_inventory.specs.Sidecar.{IsSidecar, sidecar_of};
-ghost use Rattle.ocfl_digest.specs.declared.algorithm.Algorithm.{Algorithm};
 
 /// The computed digest of a sidecar is that of the grammar, and there is one exactly where the
 /// grammar holds.

@@ -4,10 +4,10 @@ ghost use Rattle.std.specs.Prelude.{true, false, length, slice_get, string_bytes
 ghost use Rattle.std.specs.Ordering.{is_lt};
 ghost use Rattle.std.specs.Result.{result_ok};
 ghost use Rattle.std.specs.List.Sorted.{IsPartitionPoint, IsSorted};
+ghost use Rattle.serde_json.specs.View.{members_view};
 ghost use Rattle.ocfl_tree.specs.Place.{place_cmp};
 ghost use Rattle.ocfl_tree.specs.Ascending.{IsAscending, ascending};
 ghost use Rattle.ocfl_report.specs.Line.{line_of, lines_at};
-ghost use Rattle.serde_json.specs.View.{members_view};
 ghost use Rattle.ocfl_inventory.specs.Reading.{algorithm_in, algorithm_of, inventory_in};
 ghost use Rattle.ocfl_inventory.specs.Reading.{inventory_of};
 ghost use Rattle.ocfl_inventory.specs.Notes.{inventory_notes, notes_of, reading_notes};

@@ -1,14 +1,12 @@
 //! The storage root: its lines, and its listing where it is entered.
-ghost use Rattle.std.specs.Prelude.{◌≡◌, ◌∷◌, [], None, false, IsTrue, IfOk, IfErr};
-ghost use Rattle.std.specs.Prelude.{OnOk, map};
+ghost use Rattle.std.specs.Prelude.{◌≡◌, ◌∷◌, [], None, false, IsTrue, IfOk, IfErr, OnOk, map};
 ghost use Rattle.ocfl_tree.specs.StorageRoot.{StorageRoot};
 ghost use Rattle.ocfl_report.specs.Line.{line_of, lines_at};
-ghost use Rattle.ocfl_inventory.specs.Declaration.{declaration_name as declaration_name_of};
-ghost use Rattle.ocfl_inventory.specs.Declaration.{known};
+ghost use Rattle.ocfl_inventory.specs.Declaration.{declaration_name as declaration_name_of, known};
 ghost use Rattle.ocfl_inventory.specs.declared.declaration.Level.TheVariants as level;
 ghost use Rattle.ocfl_audit.specs.Head.{root_notes_by};
-ghost use Rattle.ocfl_item.specs.HeadFiles.{IsFileAt};
 ghost use Rattle.ocfl_audit.specs.Lines.{notes};
+ghost use Rattle.ocfl_item.specs.HeadFiles.{IsFileAt};
 ghost use Rattle.ocfl_item.specs.Pending.{Adds, IsPending};
 ghost use Rattle.ocfl_item.specs.Meeting.{IsFairVisit, Visits};
 ghost use Rattle.ocfl_item.specs.Ways.{IsWayFault};

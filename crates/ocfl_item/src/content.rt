@@ -5,9 +5,9 @@ ghost use Rattle.ocfl_tree.specs.Place.{Place as Spot};
 ghost use Rattle.ocfl_tree.specs.StorageRoot.{StorageRoot};
 ghost use Rattle.ocfl_report.specs.Line.{line_of, lines_at};
 ghost use Rattle.ocfl_inventory.specs.Table.{Table, named as digests_of, named_cmp};
+ghost use Rattle.ocfl_inventory.specs.TripleView.{named_view};
 ghost use Rattle.ocfl_audit.specs.Lines.{missing_notes, notes};
 ghost use Rattle.ocfl_item.specs.Looking.{IsSight, content_at};
-ghost use Rattle.ocfl_inventory.specs.TripleView.{named_view};
 ghost use Rattle.ocfl_item.specs.Pending.{Adds, IsPending, is_read, sight_notes};
 
 use crate::lines::add_plain;

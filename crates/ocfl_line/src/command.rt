@@ -1,6 +1,6 @@
 ghost use Rattle.std.specs.Prelude.{IfOk, map};
-ghost use Rattle.ocfl_line.specs.Line.{IsArg, IsCommand, app_with, bare_app, line_app};
-ghost use Rattle.ocfl_line.specs.Line.{needed_rule, rule_for};
+ghost use Rattle.ocfl_line.specs.Line.{IsArg, IsCommand, app_with, bare_app, line_app, needed_rule};
+ghost use Rattle.ocfl_line.specs.Line.{rule_for};
 
 use crate::command::Argument::{Budget, Cursor, File, Files, Path, Quiet, Root, Runs};
 use clap::{Arg, ArgAction, Command, value_parser};

@@ -2,10 +2,10 @@ ghost use Rattle.std.specs.Prelude.{◌≡◌, ◌≢◌, ◌⊎◌, [], false, 
 ghost use Rattle.std.specs.Io.KnownBytes.{Appends};
 ghost use Rattle.ocfl_tree.specs.Place.{Place as ModelPlace};
 ghost use Rattle.ocfl_tree.specs.Name.{IsPlace};
+ghost use Rattle.ocfl_tree.specs.StorageRoot.{StorageRoot};
 ghost use Rattle.ocfl_report.specs.Line.{found as found_in};
 ghost use Rattle.ocfl_report.specs.Text.{place_text, text};
 ghost use Rattle.ocfl_audit.specs.Audit.{audit as whole_audit};
-ghost use Rattle.ocfl_tree.specs.StorageRoot.{StorageRoot};
 ghost use Rattle.ocfl_item.specs.Judging.{HasShortFiles};
 ghost use Rattle.ocfl_scrub.specs.Noting.{status_of, IsAuditNote, IsAuditSaid, IsCheckNote};
 ghost use Rattle.ocfl_scrub.specs.Noting.{IsCheckSaid, IsRefused, IsStatus, IsStopNote, IsStopSaid};

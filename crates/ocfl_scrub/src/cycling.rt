@@ -1,8 +1,8 @@
 //! A cycle of runs from the first item, each with limits of its own.
 ghost use Rattle.std.specs.Prelude.{◌≡◌, ◌≢◌, ◌↔◌, ◌≤◌, [], false, map, length, IfOk, IsTrue};
-ghost use Rattle.ocfl_cursor.specs.Cursor.{ended, new_cursor};
 ghost use Rattle.ocfl_tree.specs.StorageRoot.{StorageRoot};
 ghost use Rattle.ocfl_item.specs.Judging.{HasShortFiles};
+ghost use Rattle.ocfl_cursor.specs.Cursor.{ended, new_cursor};
 ghost use Rattle.ocfl_scrub.specs.Cycling.{CyclesTo, HeadlineOf};
 ghost use Rattle.ocfl_scrub.specs.Running.{limits_of};
 ghost use Rattle.ocfl_scrub.specs.Taking.{WritesLines};

@@ -1,14 +1,14 @@
 //! One run: what lies above its cursor's place, as far as its limits allow.
 ghost use Rattle.std.specs.Prelude.{◌≡◌, ◌≢◌, ◌↔◌, ◌+◌, ◌≤◌, ◌^◌, Option, true, false, IsTrue};
 ghost use Rattle.std.specs.Prelude.{IfErr, IfOk};
-ghost use Rattle.ocfl_cursor.specs.Cursor.{IsShortPlace};
-ghost use Rattle.ocfl_cursor.specs.Meter.{IsMeter, MayStart};
-ghost use Rattle.ocfl_cursor.specs.Moves.{after_run};
-ghost use Rattle.ocfl_cursor.specs.State.{state_of};
 ghost use Rattle.ocfl_tree.specs.Name.{IsPlace};
 ghost use Rattle.ocfl_tree.specs.Place.{Place as Spot};
 ghost use Rattle.ocfl_tree.specs.StorageRoot.{StorageRoot};
 ghost use Rattle.ocfl_item.specs.Judging.{HasShortFiles};
+ghost use Rattle.ocfl_cursor.specs.Cursor.{IsShortPlace};
+ghost use Rattle.ocfl_cursor.specs.Meter.{IsMeter, MayStart};
+ghost use Rattle.ocfl_cursor.specs.Moves.{after_run};
+ghost use Rattle.ocfl_cursor.specs.State.{state_of};
 ghost use Rattle.ocfl_scrub.specs.Taking.{WritesLines};
 ghost use Rattle.ocfl_scrub.specs.Beginning.{Begins, IsShort};
 ghost use Rattle.ocfl_scrub.specs.Running.{IsPaid, IsWorn, RunEnds, RunsCleanly, RunsFrom, begun};

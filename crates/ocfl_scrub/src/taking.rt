@@ -1,9 +1,9 @@
 //! One item: it is judged, and its lines go out as one piece.
 ghost use Rattle.std.specs.Prelude.{◌≡◌, ◌≢◌, ◌⊎◌, ◌||◌, ℕ, IsTrue, IfErr, IfOk, map, MatchResult};
 ghost use Rattle.std.specs.List.{list_any};
+ghost use Rattle.ocfl_tree.specs.StorageRoot.{StorageRoot};
 ghost use Rattle.ocfl_report.specs.Line.{line_of, is_finding_code};
 ghost use Rattle.ocfl_report.specs.Text.{lines_text};
-ghost use Rattle.ocfl_tree.specs.StorageRoot.{StorageRoot};
 ghost use Rattle.ocfl_item.specs.Judging.{CostFits, HasShortFiles};
 ghost use Rattle.ocfl_item.specs.Pending.{IsPending};
 ghost use Rattle.ocfl_scrub.specs.Taking.{Misses, Takes, WritesLines};

@@ -1,6 +1,6 @@
 //! What callers of a store need once, as contracts of functions that do nothing.
-ghost use Rattle.std.specs.Prelude.{◌≡◌, ℕ, ◌+◌, ◌<◌, ◌++◌, [], ◌∷◌, List, length, true};
-ghost use Rattle.std.specs.Prelude.{false, Some};
+ghost use Rattle.std.specs.Prelude.{◌≡◌, ℕ, ◌+◌, ◌<◌, ◌++◌, [], ◌∷◌, List, length, true, false};
+ghost use Rattle.std.specs.Prelude.{Some};
 ghost use Rattle.std.specs.List.Sorted.{IsPermutation};
 ghost use Rattle.ocfl_tree.specs.Place.{Text, Place};
 ghost use Rattle.ocfl_tree.specs.StorageRoot.{StorageRoot, file, at};

@@ -1,7 +1,7 @@
-ghost use Rattle.std.specs.Prelude.{◌≡◌, ◌≢◌, ◌↔◌, ◌<◌, ◌≤◌, ◌+◌, ◌^◌, [], true, IsTrue};
-ghost use Rattle.std.specs.Prelude.{◌&&◌, nat_lt, IfOk, IfErr, OnOk, OnErr, IsOk, IsErr};
-ghost use Rattle.std.specs.Prelude.{IsOkUnless, MatchOption, MatchResult, Err, length};
-ghost use Rattle.std.specs.Prelude.{take, max, is_some, IsSome, if◌then◌else◌};
+ghost use Rattle.std.specs.Prelude.{◌≡◌, ◌≢◌, ◌↔◌, ◌<◌, ◌≤◌, ◌+◌, ◌^◌, [], true, IsTrue, ◌&&◌};
+ghost use Rattle.std.specs.Prelude.{nat_lt, IfOk, IfErr, OnOk, OnErr, IsOk, IsErr, IsOkUnless};
+ghost use Rattle.std.specs.Prelude.{MatchOption, MatchResult, Err, length, take, max, is_some};
+ghost use Rattle.std.specs.Prelude.{IsSome, if◌then◌else◌};
 ghost use Rattle.ocfl_tree.specs.StorageRoot.{file, dir, other, at};
 ghost use Rattle.ocfl_tree.specs.Listing.{IsOrdinary};
 ghost use Rattle.ocfl_tree.specs.Calls.{Lists, ListFails, Opens, OpenFails, Reads, ReadFails};

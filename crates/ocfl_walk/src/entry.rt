@@ -1,19 +1,19 @@
 //! Where a walk begins: the listings on the way to a place, of each what lies above that place.
-ghost use Rattle.std.specs.Prelude.{◌≡◌, ◌≤◌, ◌∷◌, ◌++◌, [], length, true, None, Some};
-ghost use Rattle.std.specs.Prelude.{IsTrue, IfOk, IfErr, IfSome, MatchOption, MatchResult};
+ghost use Rattle.std.specs.Prelude.{◌≡◌, ◌≤◌, ◌∷◌, ◌++◌, [], length, true, None, Some, IsTrue};
+ghost use Rattle.std.specs.Prelude.{IfOk, IfErr, IfSome, MatchOption, MatchResult};
 ghost use Rattle.ocfl_tree.specs.StorageRoot.{StorageRoot};
 ghost use Rattle.ocfl_tree.specs.Place.{Place as Spot};
 ghost use Rattle.ocfl_tree.specs.Listing.{IsListing};
-ghost use Rattle.ocfl_walk.specs.Entering.{Descends, DescendFails, GoesInto, IsBrought, IsComing};
-ghost use Rattle.ocfl_walk.specs.Entering.{IsFairWay, IsKept, Leads, Starts, StartFails, may_open};
-ghost use Rattle.ocfl_walk.specs.Standing.{IsAroundIf, IsOrderly, IsOrderlyStand};
-ghost use Rattle.ocfl_item.specs.Around.{IsPart};
-ghost use Rattle.ocfl_walk.specs.Standing.{StandsAt, piles_in};
 ghost use Rattle.ocfl_audit.specs.Walk.{step_listed};
+ghost use Rattle.ocfl_audit.specs.Zone.{inside, table_at, zone};
+ghost use Rattle.ocfl_item.specs.Around.{IsPart};
 ghost use Rattle.ocfl_item.specs.Meeting.{IsFairFolder};
 ghost use Rattle.ocfl_item.specs.Ways.{Enters, IsAt, IsObject, IsWayFault, StaysOut, Stops};
 ghost use Rattle.ocfl_item.specs.Ways.{way_below};
-ghost use Rattle.ocfl_audit.specs.Zone.{inside, table_at, zone};
+ghost use Rattle.ocfl_walk.specs.Entering.{Descends, DescendFails, GoesInto, IsBrought, IsComing};
+ghost use Rattle.ocfl_walk.specs.Entering.{IsFairWay, IsKept, Leads, Starts, StartFails, may_open};
+ghost use Rattle.ocfl_walk.specs.Standing.{IsAroundIf, IsOrderly, IsOrderlyStand, StandsAt};
+ghost use Rattle.ocfl_walk.specs.Standing.{piles_in};
 
 use crate::listing::{keep_above, sorted};
 use crate::stand::Stand;

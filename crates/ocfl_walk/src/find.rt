@@ -3,11 +3,11 @@ ghost use Rattle.std.specs.Prelude.{◌≡◌, ◌∷◌, ◌++◌, [], None, So
 ghost use Rattle.ocfl_tree.specs.StorageRoot.{StorageRoot};
 ghost use Rattle.ocfl_tree.specs.Listing.{kind_in};
 ghost use Rattle.ocfl_audit.specs.Zone.{zone};
+ghost use Rattle.ocfl_item.specs.Around.{IsPart};
+ghost use Rattle.ocfl_item.specs.Ways.{IsAt, IsWayFault, way_below};
 ghost use Rattle.ocfl_walk.specs.Entering.{may_open};
 ghost use Rattle.ocfl_walk.specs.Finding.{FindsItem};
 ghost use Rattle.ocfl_walk.specs.Standing.{IsAroundIf};
-ghost use Rattle.ocfl_item.specs.Around.{IsPart};
-ghost use Rattle.ocfl_item.specs.Ways.{IsAt, IsWayFault, way_below};
 
 use crate::entry::down;
 use ocfl_item::{Around, Fault, Folder, Pending, visit_entry, visit_path};

@@ -1,8 +1,8 @@
 ghost use Rattle.std.specs.Prelude.{◌≡◌, None, Some, IsTrue, IfErr, MatchResult};
 ghost use Rattle.ocfl_tree.specs.StorageRoot.{StorageRoot};
-ghost use Rattle.ocfl_walk.specs.WalkCalls.{GoDownFails, GoesDown};
 ghost use Rattle.ocfl_item.specs.Meeting.{IsItemAt};
 ghost use Rattle.ocfl_item.specs.Ways.{IsWayFault};
+ghost use Rattle.ocfl_walk.specs.WalkCalls.{GoDownFails, GoesDown};
 
 use crate::find::find_below;
 use ocfl_inventory::Level;

@@ -4,8 +4,8 @@ ghost use Rattle.ocfl_tree.specs.Place.{Place};
 ghost use Rattle.ocfl_tree.specs.Store.{Store};
 ghost use Rattle.ocfl_tree.specs.StorageRoot.{StorageRoot};
 ghost use Rattle.ocfl_audit.specs.Between.{IsBeyond, IsWithin};
-ghost use Rattle.ocfl_walk.specs.WalkCalls.{Walks, WalkFails};
 ghost use Rattle.ocfl_item.specs.declared.fault.Fault.{Fault};
+ghost use Rattle.ocfl_walk.specs.WalkCalls.{Walks, WalkFails};
 
 /// What a walk did from one place to another, and from there on, it did all the way.
 #[tactic(auto, using(crate::proofs::WalkCallLaws::walks_on, crate::proofs::WalkCallLaws::walks_fail))]

@@ -1,22 +1,20 @@
 //! Where a walk stands, and its steps.
-ghost use Rattle.std.specs.Prelude.{◌≡◌, ◌≢◌, ◌<◌, ◌∷◌, [], Option, Some, None};
-ghost use Rattle.std.specs.Prelude.{IsTrue, IfOk, IfErr, IfSome, MatchOption};
-ghost use Rattle.std.specs.Prelude.{MatchResult, length};
+ghost use Rattle.std.specs.Prelude.{◌≡◌, ◌≢◌, ◌<◌, ◌∷◌, [], Option, Some, None, IsTrue, IfOk};
+ghost use Rattle.std.specs.Prelude.{IfErr, IfSome, MatchOption, MatchResult, length};
+ghost use Rattle.arrayvec.specs.ArrayVec.{array_vec_len};
 ghost use Rattle.ocfl_tree.specs.Place.{Place as Spot};
 ghost use Rattle.ocfl_tree.specs.StorageRoot.{StorageRoot};
-ghost use Rattle.ocfl_item.specs.Ways.{IsWayFault};
-ghost use Rattle.arrayvec.specs.ArrayVec.{array_vec_len};
 ghost use Rattle.ocfl_tree.specs.Store.{Store};
 ghost use Rattle.ocfl_audit.specs.Walk.{seen_names};
-ghost use Rattle.ocfl_walk.specs.Standing.{IsBelowNext, IsStanding, IsTurn, frames_of, popped};
-ghost use Rattle.ocfl_walk.specs.Standing.{pushed, IsAroundIf, IsOrderlyStand};
-ghost use Rattle.ocfl_item.specs.Around.{IsMet};
-ghost use Rattle.ocfl_walk.specs.Standing.{IsTaken, StandsAt, next_of, path_from};
-ghost use Rattle.ocfl_walk.specs.Standing.{piles_at, piles_in, still, trimmed, turn_of, around_of};
 ghost use Rattle.ocfl_audit.specs.Zone.{seen};
-ghost use Rattle.ocfl_walk.specs.Walking.{step_from, GoesOn, IsFairMet};
-ghost use Rattle.ocfl_walk.specs.Walking.{IsMeeting, NextGoesOn};
+ghost use Rattle.ocfl_item.specs.Ways.{IsWayFault};
+ghost use Rattle.ocfl_item.specs.Around.{IsMet};
 ghost use Rattle.ocfl_item.specs.Meeting.{MeetFails, Meets};
+ghost use Rattle.ocfl_walk.specs.Standing.{IsBelowNext, IsStanding, IsTurn, frames_of, popped};
+ghost use Rattle.ocfl_walk.specs.Standing.{pushed, IsAroundIf, IsOrderlyStand, IsTaken, StandsAt};
+ghost use Rattle.ocfl_walk.specs.Standing.{next_of, path_from, piles_at, piles_in, still, trimmed};
+ghost use Rattle.ocfl_walk.specs.Standing.{turn_of, around_of};
+ghost use Rattle.ocfl_walk.specs.Walking.{step_from, GoesOn, IsFairMet, IsMeeting, NextGoesOn};
 ghost use Rattle.ocfl_walk.specs.Walking.{NextTold, Steps};
 ghost use Rattle.ocfl_walk.specs.WalkCalls.{WalkFails};
 

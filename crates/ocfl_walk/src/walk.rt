@@ -3,9 +3,9 @@ ghost use Rattle.std.specs.Prelude.{◌≡◌, Option, option_map, true, None, S
 ghost use Rattle.std.specs.Prelude.{Err, MatchResult};
 ghost use Rattle.ocfl_tree.specs.Place.{Place as Spot};
 ghost use Rattle.ocfl_tree.specs.StorageRoot.{StorageRoot};
+ghost use Rattle.ocfl_item.specs.Ways.{IsWayFault};
 ghost use Rattle.ocfl_walk.specs.WalkCalls.{GoDownFails, GoesDown, WalkFails};
 ghost use Rattle.ocfl_walk.specs.Orderly.{is_orderly};
-ghost use Rattle.ocfl_item.specs.Ways.{IsWayFault};
 
 use crate::entry::stand_at;
 use crate::stand::Stand;

@@ -13,7 +13,7 @@ pub fn text_determines_the_cursor()
     ensures { (b : List ℕ) (c d : ModelCursor) → IsTextOf b c → IsTextOf b d → c ≡ d }
 {}
 
-/// What is written of a cursor is read as that cursor, want of memory aside.
+/// What is written of a cursor is read as that cursor, unless memory runs out.
 pub fn cursor_reads_back(alloc: Global, cursor: &Cursor) -> Result<Cursor, Refused>
     ensures same { IfOk result (λ read. read ≡ cursor.now) }
     ensures not_refused { IfErr result (λ refused. refused ≡ Refused.Memory) }

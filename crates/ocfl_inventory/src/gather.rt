@@ -72,7 +72,7 @@ fn small(mut text: String) -> String
     text
 }
 
-/// Puts a listed path with its digest, or its text where it is bad, at the end.
+/// Appends a listed path with its digest, or its text where it is bad.
 fn gather_text(
     alloc: Global,
     source: &Source,

@@ -20,7 +20,7 @@ use ocfl_report::Code;
 use ocfl_tree::Place;
 use std::alloc::{AllocError, Global};
 
-/// Puts a line at the end.
+/// Appends a line.
 fn add(alloc: Global, code: Code, detail: &str, out: &mut Vec<Remark>) -> Result<(), AllocError>
     ensures { OnOk result (map remark_view out.new.items
         ≡ map remark_view out.old.items ++ note code detail.now ∷ []) }
@@ -30,7 +30,7 @@ fn add(alloc: Global, code: Code, detail: &str, out: &mut Vec<Remark>) -> Result
     Ok(())
 }
 
-/// Puts the line of a bad path at the end.
+/// Appends the line of a bad path.
 fn add_fault(
     alloc: Global,
     content: &str,
@@ -46,7 +46,7 @@ fn add_fault(
     }
 }
 
-/// Puts the lines of the bad paths among the texts at the end, in order, each once.
+/// Appends the lines of the bad paths among the texts, in order, each once.
 fn add_faults(
     alloc: Global,
     content: &str,
@@ -64,7 +64,7 @@ fn add_faults(
     Ok(())
 }
 
-/// Puts the lines of the paths that conflict at the end.
+/// Appends the lines of the paths that conflict.
 fn add_conflicts(alloc: Global, places: &[Place], out: &mut Vec<Remark>) -> Result<(), AllocError>
     ensures { OnOk result (map remark_view out.new.items ≡ map remark_view out.old.items
         ++ map (λ p. note Code.E101 (slashed p)) places.now) }
@@ -75,7 +75,7 @@ fn add_conflicts(alloc: Global, places: &[Place], out: &mut Vec<Remark>) -> Resu
     Ok(())
 }
 
-/// Puts the lines of the algorithms of fixity that are not computed at the end.
+/// Appends the lines of the algorithms of fixity that are not computed.
 fn add_unsupported(alloc: Global, keys: &[String], out: &mut Vec<Remark>) -> Result<(), AllocError>
     ensures { OnOk result (map remark_view out.new.items ≡ map remark_view out.old.items
         ++ map (note Code.S07) (map string_bytes keys.now)) }
@@ -97,7 +97,7 @@ fn keys<'t>(alloc: Global, block: &'t [Listing]) -> Result<Vec<Key<'t>>, AllocEr
     Ok(found)
 }
 
-/// Puts the lines of the manifest's repeated digests at the end.
+/// Appends the lines of the manifest's repeated digests.
 fn add_repeated(alloc: Global, block: &[Listing], out: &mut Vec<Remark>) -> Result<(), AllocError>
     ensures { OnOk result (map remark_view out.new.items ≡ map remark_view out.old.items
         ++ map (note Code.E096) (repeated_digests (block_view block.now))) }
@@ -122,7 +122,7 @@ fn beside(alloc: Global, algorithm: Algorithm, key: &Key) -> Result<String, Allo
     Ok(detail)
 }
 
-/// Puts the lines of the digests that are repeated in an algorithm's block at the end.
+/// Appends the lines of the digests that are repeated in an algorithm's block.
 fn add_repeated_in(
     alloc: Global,
     supported: &Supported,
@@ -171,7 +171,7 @@ pub(crate) fn repeated_lines(
     Ok(lines)
 }
 
-/// Puts the other lines of an inventory that does not stop at the end, from what it lists.
+/// Appends the other lines of an inventory that does not stop, from what it lists.
 pub(crate) fn add_others(
     alloc: Global,
     content: &str,

@@ -310,7 +310,7 @@ pub(crate) fn stated_algorithm(
 ///
 /// The bytes are those of an `inventory.json`. `None` is answered where they are no JSON object in
 /// UTF-8 (RFC 8259), and where `digestAlgorithm` is missing, is no text, or is neither `sha256` nor
-/// `sha512`. The error is want of memory.
+/// `sha512`. The error is running out of memory.
 pub fn algorithm_of(alloc: Global, bytes: &[u8]) -> Result<Option<Algorithm>, AllocError>
     ensures { IfOk result (λ a. a ≡ result_ok (algorithm_stated bytes.now)) }
 {

@@ -12,7 +12,7 @@ pub struct Remark {
     pub detail: String,
 }
 
-/// Why a reading stopped: for want of memory, or because of what its only line says.
+/// Why a reading stopped: memory ran out, or what its only line says.
 #[derive(Debug, Drop)]
 pub enum Stop {
     Memory,

@@ -269,7 +269,7 @@ fn reading_of_members(
 /// is a table, and the lines are, in this order: digests that several keys have (E096, E097), bad
 /// paths (E100, E099, S06), paths that conflict (E101), and algorithms of fixity that are not
 /// computed (S07). The algorithm is that of `algorithm_of`, also where a later key stops. The error
-/// is want of memory.
+/// is running out of memory.
 pub fn read_inventory(alloc: Global, bytes: &[u8]) -> Result<InventoryReading, AllocError>
     ensures algorithm { IfOk result (λ r. r.algorithm ≡ result_ok (algorithm_of bytes.now)) }
     ensures lines { IfOk result (λ r. map line_of r.lines.items
@@ -286,7 +286,7 @@ pub fn read_inventory(alloc: Global, bytes: &[u8]) -> Result<InventoryReading, A
 impl Table {
     /// Reads the bytes of an `inventory.json`: the lines about it and its table, as
     /// `read_inventory` gives them. On any bytes the table's paths have at most 128 names, and
-    /// ascend. The error is want of memory.
+    /// ascend. The error is running out of memory.
     pub fn read(alloc: Global, bytes: &[u8]) -> Result<(Vec<Line>, Option<Table>), AllocError>
         ensures lines { IfOk result (λ r. map line_of r.0.items
             ≡ lines_at [] (notes_of bytes.now)) }
@@ -298,7 +298,7 @@ impl Table {
     }
 
     /// Reads the bytes of an `inventory.json` for its table alone, and makes no lines: none where
-    /// one of the faults of `read_inventory` stops. The error is want of memory.
+    /// one of the faults of `read_inventory` stops. The error is running out of memory.
     pub fn read_alone(alloc: Global, bytes: &[u8]) -> Result<Option<Table>, AllocError>
         ensures table { IfOk result (λ table. table ≡ table_of bytes.now) }
         ensures fit { IfOk result (λ table. IfSome table (λ t. IsFit t)) }
@@ -327,7 +327,7 @@ impl Table {
 
     /// The digests that are named for a path of the object, from the object's root down: those of
     /// the manifest before those of fixity, then by the algorithm's name, then by the digest's
-    /// text, each once; none for a path that is not named. The error is want of memory.
+    /// text, each once; none for a path that is not named. The error is running out of memory.
     pub fn named(&self, alloc: Global, place: &Place) -> Result<Vec<Named>, AllocError>
         ensures { IfOk result (λ v. map named_view v.items ≡ named_in self.now place.now) }
     {

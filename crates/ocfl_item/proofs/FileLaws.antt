@@ -103,7 +103,7 @@ module _ (root : StorageRoot) (o : Place) (n : Text) (meta : is_meta root (o ++ 
         );
       }
 
--- want of memory before the store is asked
+-- out of memory before the store is asked
 pub file_memory : (root : StorageRoot) (s : Store) (o : Place) (n : Text) (limit : ℕ) → s.tree ≡ root → ReadsFile root s s o n limit (Err fault.Memory)
 file_memory root s o n limit over = record {
   gives = record {

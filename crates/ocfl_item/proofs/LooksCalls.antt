@@ -113,7 +113,7 @@ module _ (root : StorageRoot) where
   abbrev pub reads_nothing : (s : Store) → s.tree ≡ root → ReadsMeta root s s
   reads_nothing s over = record { over = over; trail = []; did = did_nothing s; meta = none_meta root }
 
-  -- want of memory afterwards
+  -- out of memory afterwards
   abbrev pub memory_stops : (s t : Store) (way : List Place) → ReadsMeta root s t → SeekStops root s t way fault.Memory
   memory_stops s t way h = record {
     trail = h.trail;

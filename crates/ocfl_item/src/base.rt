@@ -25,7 +25,7 @@ use ocfl_report::{Code, Line};
 use ocfl_tree::{Place, Tree};
 use std::alloc::{AllocError, Global};
 
-/// Puts the line of a storage root of known version at the end (OCFL 1.1, 4.2 Root Conformance
+/// Appends the line of a storage root of known version (OCFL 1.1, 4.2 Root Conformance
 /// Declaration).
 fn add_known(
     alloc: Global,

@@ -19,7 +19,7 @@ use ocfl_report::{Code, Line};
 use ocfl_tree::Place;
 use std::alloc::{AllocError, Global};
 
-/// Puts the line for what is seen at the end, if it has one.
+/// Appends the line for what is seen, if it has one.
 fn add_sight(
     alloc: Global,
     lines: &mut Vec<Line>,

@@ -43,7 +43,7 @@ pub(crate) fn is_exact(level: Level, version: Version, declaration: &Option<Boun
     }
 }
 
-/// Puts the line of a version that is not known at the end.
+/// Appends the line of a version that is not known.
 fn add_unknown(
     alloc: Global,
     lines: &mut Vec<Line>,
@@ -64,8 +64,8 @@ fn add_unknown(
     }
 }
 
-/// Puts the line of a storage root or of an object at the end that declares nothing, several
-/// versions, or one that is not known.
+/// Appends the line of a storage root or of an object that declares nothing, several versions, or
+/// one that is not known.
 pub(crate) fn add_stop(
     alloc: Global,
     lines: &mut Vec<Line>,

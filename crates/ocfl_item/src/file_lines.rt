@@ -28,7 +28,7 @@ fn is_in_manifest(named: &[Named]) -> bool
     false
 }
 
-/// Puts the line of a content file that the manifest does not name at the end.
+/// Appends the line of a content file that the manifest does not name.
 pub(crate) fn add_unnamed(
     alloc: Global,
     lines: &mut Vec<Line>,
@@ -44,7 +44,7 @@ pub(crate) fn add_unnamed(
     add_plain(alloc, lines, place, Code::E023)
 }
 
-/// Puts the line of a named digest at the end, unless it is the one that was found.
+/// Appends the line of a named digest, unless it is the one that was found.
 fn add_unless_found(
     alloc: Global,
     lines: &mut Vec<Line>,
@@ -63,7 +63,7 @@ fn add_unless_found(
     add_line(lines, place, code_of(named), detail)
 }
 
-/// Puts the line of a named digest at the end, unless it is the file's.
+/// Appends the line of a named digest, unless it is the file's.
 fn add_wrong(
     alloc: Global,
     lines: &mut Vec<Line>,
@@ -82,7 +82,7 @@ fn add_wrong(
     }
 }
 
-/// Puts a line for each named digest that is not the file's at the end.
+/// Appends a line for each named digest that is not the file's.
 fn add_each_wrong(
     alloc: Global,
     lines: &mut Vec<Line>,

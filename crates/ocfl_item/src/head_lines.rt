@@ -38,8 +38,8 @@ pub(crate) struct Sidecars {
     pub(crate) long: Option<Bounded>,
 }
 
-/// Puts the line of a declaration whose bytes are not exact at the end (OCFL 1.1, 3.2 Object
-/// Conformance Declaration).
+/// Appends the line of a declaration whose bytes are not exact (OCFL 1.1, 3.2 Object Conformance
+/// Declaration).
 pub(crate) fn add_declaration(
     alloc: Global,
     lines: &mut Vec<Line>,
@@ -59,7 +59,7 @@ pub(crate) fn add_declaration(
     add_plain(alloc, lines, place, Code::E007)
 }
 
-/// Puts the line of a sidecar whose digest is not the one that was found at the end.
+/// Appends the line of a sidecar whose digest is not the one that was found.
 fn add_unless_found(
     alloc: Global,
     lines: &mut Vec<Line>,
@@ -81,7 +81,7 @@ fn add_unless_found(
     add_line(lines, place, Code::E060, detail)
 }
 
-/// Puts the line of a sidecar whose digest is not that of the inventory at the end.
+/// Appends the line of a sidecar whose digest is not that of the inventory.
 fn add_unless_equal(
     alloc: Global,
     lines: &mut Vec<Line>,
@@ -113,7 +113,7 @@ fn sum_of(algorithm: Algorithm, file: &Bounded) -> Option<Sum>
     }
 }
 
-/// Puts the line of a sidecar at the end: it is not of the form, or does not have the digest of the
+/// Appends the line of a sidecar: it is not of the form, or does not have the digest of the
 /// inventory.
 fn add_sidecar(
     alloc: Global,
@@ -139,7 +139,7 @@ fn add_sidecar(
     }
 }
 
-/// Puts the line of an inventory without sidecars at the end.
+/// Appends the line of an inventory without sidecars.
 fn add_unless_any(
     alloc: Global,
     lines: &mut Vec<Line>,
@@ -156,8 +156,7 @@ fn add_unless_any(
     add_plain(alloc, lines, place, Code::E058)
 }
 
-/// Puts the lines of the sidecars at the end: neither is there, or what is wrong with those that
-/// are.
+/// Appends the lines of the sidecars: neither is there, or what is wrong with those that are.
 fn add_sidecars(
     alloc: Global,
     lines: &mut Vec<Line>,
@@ -201,8 +200,8 @@ fn has_other(algorithm: Algorithm, sidecars: &Sidecars) -> bool
     }
 }
 
-/// Puts the line of a sidecar that is missing while the other is there at the end, where an
-/// algorithm is named.
+/// Appends the line of a sidecar that is missing while the other is there, where an algorithm is
+/// named.
 fn add_missing_sidecar(
     alloc: Global,
     lines: &mut Vec<Line>,
@@ -225,7 +224,7 @@ fn add_missing_sidecar(
     add_line(lines, place, Code::E058, detail)
 }
 
-/// Puts lines that carry the root at the end, as lines of the place.
+/// Appends lines that carry the root, as lines of the place.
 fn add_moved(lines: &mut Vec<Line>, place: &Place, read: Vec<Line>) -> Result<(), AllocError>
     ensures { OnOk result (Adds lines.old.items lines.new.items place.now
         (map note_of read.items)) }
@@ -236,8 +235,8 @@ fn add_moved(lines: &mut Vec<Line>, place: &Place, read: Vec<Line>) -> Result<()
     Ok(())
 }
 
-/// Puts the lines of what an inventory says at the end, behind that of the sidecar of its
-/// algorithm, and gives its table.
+/// Appends the lines of what an inventory says, behind that of the sidecar of its algorithm, and
+/// gives its table.
 fn add_read(
     alloc: Global,
     lines: &mut Vec<Line>,
@@ -257,9 +256,8 @@ fn add_read(
     Ok(read.table)
 }
 
-/// Puts the lines of an object's inventory, and of its sidecars, at the end (OCFL 1.1, 3.5
-/// Inventory and 3.6 Inventory Digest), and gives its table. The bytes are all that the inventory
-/// has.
+/// Appends the lines of an object's inventory, and of its sidecars (OCFL 1.1, 3.5 Inventory and 3.6
+/// Inventory Digest), and gives its table. The bytes are all that the inventory has.
 pub(crate) fn add_inventory(
     alloc: Global,
     lines: &mut Vec<Line>,
@@ -280,7 +278,7 @@ pub(crate) fn add_inventory(
     add_read(alloc, lines, place, bytes, sidecars)
 }
 
-/// Puts the line of a clean head at the end, where there is no line.
+/// Appends the line of a clean head, where there is no line.
 pub(crate) fn add_clean(
     alloc: Global,
     lines: &mut Vec<Line>,

@@ -31,7 +31,7 @@ fn clone_lines(alloc: Global, lines: &[Line]) -> Result<Vec<Line>, AllocError>
 ///
 /// A hashed file is opened once, read to its end, and costs one more than the bytes that it gave;
 /// where it cannot be read on, a line says so. Every other item costs 0, and the store is not
-/// asked. The only fault is want of memory.
+/// asked. The only fault is running out of memory.
 pub fn judge<T: Tree>(
     alloc: Global,
     store: &mut T,

@@ -9,7 +9,7 @@ use ocfl_report::{Code, Line};
 use ocfl_tree::Place;
 use std::alloc::{AllocError, Global};
 
-/// Puts a line of the place at the end.
+/// Appends a line of the place.
 pub(crate) fn add_line(
     lines: &mut Vec<Line>,
     place: &Place,
@@ -28,7 +28,7 @@ pub(crate) fn add_line(
     Ok(())
 }
 
-/// Puts a line whose detail is a dash at the end.
+/// Appends a line whose detail is a dash.
 pub(crate) fn add_plain(
     alloc: Global,
     lines: &mut Vec<Line>,

@@ -43,7 +43,7 @@ fn is_repetition(before: Option<&Named>, named: &Named) -> bool
     }
 }
 
-/// Puts the line for a missing file's block and algorithm at the end, unless the one before has it.
+/// Appends the line for a missing file's block and algorithm, unless the one before has it.
 fn add_next_missing(
     alloc: Global,
     lines: &mut Vec<Line>,
@@ -61,7 +61,7 @@ fn add_next_missing(
     add_missing_line(alloc, lines, place, named)
 }
 
-/// Puts the lines for a missing file at the end, one for each block and algorithm that names it.
+/// Appends the lines for a missing file, one for each block and algorithm that names it.
 pub(crate) fn add_missing(
     alloc: Global,
     lines: &mut Vec<Line>,

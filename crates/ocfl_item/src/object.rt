@@ -108,7 +108,7 @@ fn read_sidecars<T: Tree>(alloc: Global, store: &mut T, folder: &Folder) -> Resu
     Ok(Sidecars { short, long })
 }
 
-/// Puts the lines of an object's inventory and its sidecars at the end.
+/// Appends the lines of an object's inventory and its sidecars.
 fn add_inventory_file<T: Tree>(
     alloc: Global,
     store: &mut T,

@@ -15,7 +15,7 @@ pub fn text_determines_the_place()
     ensures { (p q : ModelPlace) → IsPlace p → IsPlace q → place_text p ≡ place_text q → p ≡ q }
 {}
 
-/// What is written of a place is read as that place, want of memory aside.
+/// What is written of a place is read as that place, unless memory runs out.
 pub fn place_reads_back(alloc: Global, place: &Place) -> Result<Place, PlaceStop>
     ensures same { IfOk result (λ read. read ≡ place.now) }
     ensures never_bad { result ≢ Err PlaceStop.Bad }

@@ -26,8 +26,8 @@ impl Line {
     /// line feed. The place is written as by [`put_place`](crate::put_place), and the detail is
     /// escaped whole by the same rule: spaces and slashes in it stand as they are.
     ///
-    /// The only error is want of memory, which comes only where `out` has too little room. Then
-    /// `out` is as it was.
+    /// The only error is running out of memory, which happens only where `out` has too little room.
+    /// Then `out` is as it was.
     pub fn put(&self, out: &mut Vec<u8>) -> Result<(), AllocError>
         ensures ok { OnOk result (out.new.items ≡ out.old.items ++ line_text (line_of self.now)) }
         ensures err { OnErr result (out.new.items ≡ out.old.items) }

@@ -34,8 +34,8 @@ impl From<AllocError> for PlaceStop {
 /// a name each control, `%`, DEL and byte outside ASCII stands as `%` and two capital hexadecimal
 /// digits (RFC 3986, 2.1); all else stands as it is, spaces too.
 ///
-/// The only error is want of memory, which comes only where `out` has too little room. Then `out`
-/// is as it was.
+/// The only error is running out of memory, which happens only where `out` has too little room.
+/// Then `out` is as it was.
 pub fn put_place(place: &Place, out: &mut Vec<u8>) -> Result<(), AllocError>
     ensures ok { OnOk result (out.new.items ≡ out.old.items ++ place_text place.now) }
     ensures err { OnErr result (out.new.items ≡ out.old.items) }

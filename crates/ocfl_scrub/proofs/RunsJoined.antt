@@ -153,7 +153,7 @@ parts_none root s old last over some = record {
 not_of_store : (p : Place) → Memory ≡ AtStore p → ⊥
 not_of_store p e = cc
 
--- want of memory before a run
+-- out of memory before a run
 pub parts_unbegun : (root : StorageRoot) (s : Store) (old : Option (List ℕ)) (last : Option Place) (limits : List Limits) → s.tree ≡ root → PartsStop root s s old old last last limits 0 0 false 0 Memory
 unfolding items_at
 parts_unbegun root s old last limits over =

@@ -99,7 +99,7 @@ IsShowSaid note.Nothing = ⊤
 IsShowSaid note.OutputFailed = ⊤
 IsShowSaid n = IsUnreadSaid n
 
--- a path that is no place's, or one that could not be read for want of memory
+-- a path that is no place's, or one that could not be read because memory ran out
 abbrev pub IsRefused : ℕ → Note → Type 0
 IsRefused status n = ((status ≡ 2) × (n ≡ note.BadPath)) ⊎ ((status ≡ 3) × (n ≡ note.OutOfMemory))
 

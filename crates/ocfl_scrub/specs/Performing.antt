@@ -76,7 +76,7 @@ IsWhole (note.RunMade cycle runs cost ended) = ⊤
 IsWhole (note.CycleMade runs cost ended) = ⊤
 IsWhole n = ⊥
 
--- whether a run hands a cursor back: after a want of memory it depends on which
+-- whether a run hands a cursor back: after memory ran out it depends on which
 abbrev pub IsKept : Note → Option (Vec ℕ Global) → Type 0
 IsKept (note.RunMade cycle runs cost ended) stored = IsSome stored
 IsKept (note.StoppedAt p) stored = IsSome stored
@@ -150,7 +150,7 @@ pub record AuditPerformed (root : StorageRoot) (s t : Store) (old new : Option (
   pub audits : AuditsWithNote root s t old new status n
   pub clean : n ≡ note.Nothing → t.failures ≡ s.failures → Appends old new (text (audit root [])) × (status ≡ status_of (found (audit root [])))
 
--- nothing was done for want of memory
+-- nothing was done because memory ran out
 pub record OutOfMemoryFirst (s t : Store) (old new : Option (List ℕ)) (status : ℕ) (n : Note) : Type 0 where
   pub status_is : status ≡ 3
   pub says : n ≡ note.OutOfMemory

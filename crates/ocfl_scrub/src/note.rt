@@ -44,7 +44,7 @@ pub enum Note {
     CursorWorn,
     /// The cursor could not be read, or not be stored.
     CursorFileFailed,
-    /// The bytes are those of no cursor, for this reason, which is not want of memory.
+    /// The bytes are those of no cursor, for this reason, which is not that memory ran out.
     CursorRefused(Refused),
 }
 

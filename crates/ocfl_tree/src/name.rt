@@ -61,7 +61,7 @@ impl Name {
         }
     }
 
-    /// The name of a text that is one. The only error is want of memory.
+    /// The name of a text that is one. The only error is running out of memory.
     pub(crate) fn of(alloc: Global, text: &str) -> Result<Name, AllocError>
         requires { IsName text.now }
         ensures { IfOk result (λ name. name ≡ text.now) }
@@ -79,7 +79,7 @@ impl Name {
         self.text.as_str()
     }
 
-    /// The same name again. The only error is want of memory.
+    /// The same name again. The only error is running out of memory.
     pub fn try_clone(&self) -> Result<Name, AllocError>
         ensures { IfOk result (λ name. name ≡ self.now) }
     {

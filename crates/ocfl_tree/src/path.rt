@@ -68,8 +68,8 @@ pub(crate) fn names(alloc: Global, path: &str) -> Result<Vec<Name>, AllocError>
     Ok(names)
 }
 
-/// Adds a name at the end of a path. The only error is want of memory, which leaves the path as it
-/// was.
+/// Appends a name to a path. The only error is running out of memory, which leaves the path
+/// as it was.
 pub(crate) fn push(path: &mut String, name: &str) -> Result<(), AllocError>
     requires { length name.now ≤ 255 }
     ensures ok { OnOk result (string_bytes path.new ≡ below (string_bytes path.old) name.now) }

@@ -59,7 +59,8 @@ impl Place {
         }
     }
 
-    /// Adds a name at the end. The only error is want of memory, which leaves the place as it was.
+    /// Appends a name. The only error is running out of memory, which leaves the place as
+    /// it was.
     pub fn push(&mut self, name: Name) -> Result<(), AllocError>
         ensures ok { OnOk result (self.new ≡ self.old ++ name ∷ []) }
         ensures err { OnErr result (self.new ≡ self.old) }
@@ -67,7 +68,7 @@ impl Place {
         path::push(&mut self.path, name.as_str())
     }
 
-    /// The names, from the root down. The only error is want of memory.
+    /// The names, from the root down. The only error is running out of memory.
     pub fn names(&self) -> Result<Vec<Name>, AllocError>
         ensures { IfOk result (λ names. names.items ≡ self.now) }
     {
@@ -98,7 +99,7 @@ impl Place {
         order::begins(base.path.as_str(), self.path.as_str())
     }
 
-    /// The place of a name in this directory. The only error is want of memory.
+    /// The place of a name in this directory. The only error is running out of memory.
     #[tactic(auto, using(crate::proofs::Paths::names_child))]
     pub fn child(&self, name: &Name) -> Result<Place, AllocError>
         ensures { IfOk result (λ place. place ≡ self.now ++ name.now ∷ []) }
@@ -109,7 +110,7 @@ impl Place {
         })
     }
 
-    /// The place that another leads to from this one. The only error is want of memory.
+    /// The place that another leads to from this one. The only error is running out of memory.
     #[tactic(auto, using(crate::proofs::Paths::names_joined))]
     pub fn join(&self, more: &Place) -> Result<Place, AllocError>
         ensures { IfOk result (λ place. place ≡ self.now ++ more.now) }
@@ -121,7 +122,7 @@ impl Place {
     }
 
     /// What leads on from behind the first so many names: the root where there are no more. The
-    /// only error is want of memory.
+    /// only error is running out of memory.
     pub fn behind(&self, names: usize) -> Result<Place, AllocError>
         ensures { IfOk result (λ place. place ≡ drop names self.now) }
     {
@@ -132,7 +133,7 @@ impl Place {
     }
 
     /// The place of the first so many names: the same place where there are no more. The only error
-    /// is want of memory.
+    /// is running out of memory.
     pub fn first(&self, names: usize) -> Result<Place, AllocError>
         ensures { IfOk result (λ place. place ≡ take names self.now) }
     {
@@ -151,7 +152,7 @@ impl Place {
         path::split_last(self.path.as_str())
     }
 
-    /// The same place again. The only error is want of memory.
+    /// The same place again. The only error is running out of memory.
     pub fn try_clone(&self) -> Result<Place, AllocError>
         ensures { IfOk result (λ place. place ≡ self.now) }
     {

@@ -3,6 +3,7 @@ ghost use Rattle.ocfl_cursor.specs.Cursor.{IsShortPlace};
 ghost use Rattle.ocfl_cursor.specs.State.{state_of};
 
 use ocfl_tree::Place;
+use ocfl_tree::laws::every_place_has_names;
 
 /// How many names the place of a cursor has at most.
 pub(crate) const MAX_NAMES: usize = 255;
@@ -24,8 +25,7 @@ pub(crate) fn is_short(state: &State) -> bool
 {
     match state {
         State::After(place) => {
-            // A place has names alone, which its path tells.
-            let _ = place.path();
+            every_place_has_names(place);
             place.depth() <= MAX_NAMES
         }
         State::Start | State::Ended => true,

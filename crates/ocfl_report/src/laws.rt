@@ -7,6 +7,7 @@ ghost use Rattle.ocfl_report.specs.Text.{place_text, line_text, lines_text, text
 use crate::line::Line;
 use crate::path::{PlaceStop, put_place, read_place};
 use ocfl_tree::Place;
+use ocfl_tree::laws::every_place_has_names;
 use std::alloc::Global;
 
 /// The text of a place determines the place.
@@ -20,8 +21,7 @@ pub fn place_reads_back(alloc: Global, place: &Place) -> Result<Place, PlaceStop
     ensures same { IfOk result (λ read. read ≡ place.now) }
     ensures never_bad { result ≢ Err PlaceStop.Bad }
 {
-    // A place has names alone, which its path tells.
-    let _ = place.path();
+    every_place_has_names(place);
     let mut written = Vec::new(alloc);
     put_place(place, &mut written)?;
     read_place(alloc, written.as_slice())
@@ -37,7 +37,7 @@ pub fn text_determines_the_line()
 pub fn every_line_fits(line: &Line)
     ensures { IsLine (line_of line.now) }
 {
-    let _ = line.place.path();
+    every_place_has_names(&line.place);
     let _ = line.detail.as_str();
 }
 

@@ -1,5 +1,5 @@
 -- What a tree in memory tells, and what its builders do.
-use Rattle.std.specs.Prelude.{◌≡◌, ℕ, ◌+◌, ◌-◌, ◌^◌, Bool, false, not, ◌&&◌, nat_lt, nat_le, [], ◌∷◌, ◌++◌, Option, Some, None, is_some, length, min, if◌then◌else◌, slice_get}
+use Rattle.std.specs.Prelude.{◌≡◌, ℕ, ◌+◌, ◌-◌, ◌^◌, Bool, false, not, ◌&&◌, nat_lt, nat_le, [], ◌∷◌, ◌++◌, Option, Some, None, is_some, IsOkUnless, MatchOption, OnErr, OnOk, Result, Err, length, min, if◌then◌else◌, slice_get}
 use Rattle.std.specs.Option.{option_map_or}
 use Rattle.ocfl_tree.specs.Place.{Text, Place, place_eq, begins}
 use Rattle.ocfl_tree.specs.StorageRoot.{StorageRoot, Leaf, at, is_dir, names_in}
@@ -9,7 +9,7 @@ use Rattle.ocfl_tree.specs.declared.store.Opening.{Opening}
 use Rattle.ocfl_tree.specs.declared.plan.Point.{Point}
 use Rattle.ocfl_tree.specs.declared.plan.Point.TheVariants as point
 use Rattle.ocfl_tree.specs.declared.build.BuildStop.{BuildStop}
-use Rattle.ocfl_tree.specs.declared.build.BuildStop.TheVariants.{Exists, NoParent, Full}
+use Rattle.ocfl_tree.specs.declared.build.BuildStop.TheVariants.{Exists, NoParent, Full, Memory}
 
 -- a store that tells its tree, and which of its calls are made to fail
 pub record Held : Type 0 where
@@ -80,6 +80,13 @@ after_removal root p q = if begins p q then None else at root q
 pub record Puts (s t : Store) (p : Place) (leaf : Leaf) : Type 0 where
   pub tree : (q : Place) → at t.tree q ≡ after_put s.tree p leaf q
   pub changes : Changes s t
+
+-- what a call does that is to put this leaf at p, and what it answers
+pub record Putting {A : Type 0} (h k : Held) (p : Place) (leaf : Leaf) (r : Result A BuildStop) : Type 0 where
+  pub ok : OnOk r (Puts h.store k.store p leaf)
+  pub faults : k.faults ≡ h.faults
+  pub err : OnErr r (k ≡ h)
+  pub refused : MatchOption (put_refusal h.store.tree p) (IsOkUnless r Memory) (λ stop. r ≡ Err stop)
 
 pub record Removes (s t : Store) (p : Place) : Type 0 where
   pub tree : (q : Place) → at t.tree q ≡ after_removal s.tree p q

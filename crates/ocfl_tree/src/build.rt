@@ -1,8 +1,3 @@
-ghost use Rattle.std.specs.Prelude.{◌≡◌};
-ghost use Rattle.ocfl_tree.specs.declared.build.BuildStop.TheVariants.{Memory};
-
-use std::alloc::{AllocError, AllocFailed};
-
 /// Why a tree in memory is not changed.
 #[derive(Clone, Copy, Debug, PartialEq, Eq)]
 pub enum BuildStop {
@@ -16,20 +11,4 @@ pub enum BuildStop {
     Absent,
     /// Memory was refused.
     Memory,
-}
-
-impl From<AllocError> for BuildStop {
-    ghost from_gives = { λ _ e. e ≡ Memory };
-
-    fn from(_error: AllocError) -> BuildStop {
-        BuildStop::Memory
-    }
-}
-
-impl<T: Drop> From<AllocFailed<T>> for BuildStop {
-    ghost from_gives = { λ _ e. e ≡ Memory };
-
-    fn from(_error: AllocFailed<T>) -> BuildStop {
-        BuildStop::Memory
-    }
 }

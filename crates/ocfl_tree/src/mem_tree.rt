@@ -8,7 +8,8 @@ ghost use Rattle.ocfl_tree.specs.Calls.{Lists, ListFails, Opens, OpenFails, Read
 ghost use Rattle.ocfl_tree.specs.Calls.{Closes};
 ghost use Rattle.ocfl_tree.specs.Faults.{after_call};
 ghost use Rattle.ocfl_tree.specs.MemTree.{nothing_held, with_step, with_call, with_point, fails};
-ghost use Rattle.ocfl_tree.specs.MemTree.{read_fails, given_of, put_refusal, Puts, Removes};
+ghost use Rattle.ocfl_tree.specs.MemTree.{read_fails, given_of, put_refusal, Puts, Putting};
+ghost use Rattle.ocfl_tree.specs.MemTree.{Removes};
 
 use crate::build::BuildStop;
 use crate::nodes::{self, Node, Stored};
@@ -99,33 +100,21 @@ impl MemTree {
 
     /// Puts a file of these bytes at a place, and closes the open file.
     pub fn put_file(&mut self, place: &Place, bytes: Vec<u8>) -> Result<(), BuildStop>
-        ensures ok { OnOk result (Puts self.old.store self.new.store place.now (file bytes.items)) }
-        ensures faults { self.new.faults ≡ self.old.faults }
-        ensures err { OnErr result (self.new ≡ self.old) }
-        ensures refused { MatchOption (put_refusal self.old.store.tree place.now)
-            (IsOkUnless result BuildStop.Memory) (λ stop. result ≡ Err stop) }
+        ensures { Putting self.old self.new place.now (file bytes.items) result }
     {
         self.put(place, Stored::new(Node::File(bytes)))
     }
 
     /// Puts an empty directory at a place, and closes the open file.
     pub fn put_dir(&mut self, place: &Place) -> Result<(), BuildStop>
-        ensures ok { OnOk result (Puts self.old.store self.new.store place.now dir) }
-        ensures faults { self.new.faults ≡ self.old.faults }
-        ensures err { OnErr result (self.new ≡ self.old) }
-        ensures refused { MatchOption (put_refusal self.old.store.tree place.now)
-            (IsOkUnless result BuildStop.Memory) (λ stop. result ≡ Err stop) }
+        ensures { Putting self.old self.new place.now dir result }
     {
         self.put(place, Stored::new(Node::Dir))
     }
 
     /// Puts at a place what is neither a file nor a directory, as a link, and closes the open file.
     pub fn put_other(&mut self, place: &Place) -> Result<(), BuildStop>
-        ensures ok { OnOk result (Puts self.old.store self.new.store place.now other) }
-        ensures faults { self.new.faults ≡ self.old.faults }
-        ensures err { OnErr result (self.new ≡ self.old) }
-        ensures refused { MatchOption (put_refusal self.old.store.tree place.now)
-            (IsOkUnless result BuildStop.Memory) (λ stop. result ≡ Err stop) }
+        ensures { Putting self.old self.new place.now other result }
     {
         self.put(place, Stored::new(Node::Other))
     }
@@ -173,8 +162,10 @@ impl MemTree {
         ensures err { OnErr result (self.new ≡ self.old) }
         ensures only_memory { IsOkUnless result BuildStop.Memory }
     {
-        self.plan.add(place, point)?;
-        Ok(())
+        match self.plan.add(place, point) {
+            Ok(()) => Ok(()),
+            Err(_) => Err(BuildStop::Memory),
+        }
     }
 
     /// Each opening of a file since `new`, oldest first.

@@ -211,8 +211,13 @@ pub(crate) fn put(
     if count(nodes, parent) >= 1_000_000 {
         return Err(BuildStop::Full);
     }
-    nodes.push((place.try_clone()?, stored))?;
-    Ok(())
+    let Ok(place) = place.try_clone() else {
+        return Err(BuildStop::Memory);
+    };
+    match nodes.push((place, stored)) {
+        Ok(()) => Ok(()),
+        Err(_) => Err(BuildStop::Memory),
+    }
 }
 
 /// The path of the directory that a place lies in, and for the root its own.

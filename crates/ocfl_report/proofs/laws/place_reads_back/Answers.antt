@@ -13,4 +13,4 @@ same_place (Err e) t p names is read read_names = tt
 pub returns-clause-same : goal.returns-clause-same
 returns-clause-same c =
     let text : c.as_slice.result.now ≡ place_text c.args.place.now = rw (c.as_slice.ensures.value, c.in_ok-put_place.ensures.ok, c.new-written.ensures.items) in
-    same_place c.read_place.result c.as_slice.result.now c.args.place.now c.path.ensures.names text c.read_place.ensures.ok c.read_place.ensures.names
+    same_place c.read_place.result c.as_slice.result.now c.args.place.now c.every_place_has_names.ensures text c.read_place.ensures.ok c.read_place.ensures.names

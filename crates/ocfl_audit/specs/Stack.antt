@@ -17,9 +17,15 @@ use Rattle.std.specs.declared.cmp.Ordering.TheVariants.{Less}
 abbrev pub Frame : Type 0
 Frame = Place × List Text
 
+abbrev pub place_of_frame : Frame → Place
+place_of_frame f = f.0
+
+abbrev pub names_left : Frame → List Text
+names_left f = f.1
+
 -- the items that a stack still leads to
 abbrev pub left_in : List Item → Frame → List Item
-left_in items f = flat_map (λ n. items_under (f.0 ++ n ∷ []) items) f.1
+left_in items f = flat_map (λ n. items_under (place_of_frame f ++ n ∷ []) items) (names_left f)
 
 abbrev pub left_of : List Item → List Frame → List Item
 left_of items fs = flat_map (left_in items) fs
@@ -37,7 +43,7 @@ seen_places root = filter (λ p. is_some (seen root p)) (ascending place_cmp (ca
 
 -- what the listings of a stack still lead to
 abbrev pub seen_in : List Place → Frame → List Place
-seen_in ps f = flat_map (λ n. filter (begins (f.0 ++ n ∷ [])) ps) f.1
+seen_in ps f = flat_map (λ n. filter (begins (place_of_frame f ++ n ∷ [])) ps) (names_left f)
 
 abbrev pub seen_left : List Place → List Frame → List Place
 seen_left ps fs = flat_map (seen_in ps) fs
@@ -82,16 +88,20 @@ pub record IsNextPath (t : Table) (s b : Place) : Type 0 where
 -- each name in a stack is one of its directory's listing
 abbrev pub IsListed : StorageRoot → List Frame → Type 0
 IsListed root [] = ⊤
-IsListed root (f ∷ fs) = ((n : Text) → IsAmong f.1 n → IsAmong (seen_names root f.0) n) × IsListed root fs
+IsListed root (f ∷ fs) = ((n : Text) → IsAmong (names_left f) n → IsAmong (seen_names root (place_of_frame f)) n) × IsListed root fs
 
--- the next entry of a stack, and the stack behind it: with its own listing on top, empty where it is not entered
-abbrev pub entry_of : StorageRoot → Place → List Text → List Frame → Option (Place × List Frame) → Option (Place × List Frame)
+-- a place that comes next, and the stack behind it
+abbrev pub Next : Type 0
+Next = Place × List Frame
+
+-- the next entry of a stack; behind it its own listing is on top, empty where it is not entered
+abbrev pub entry_of : StorageRoot → Place → List Text → List Frame → Option Next → Option Next
 entry_of root d [] fs later = later
 entry_of root d (n ∷ ns) fs later = Some (d ++ n ∷ [], (d ++ n ∷ [], seen_names root (d ++ n ∷ [])) ∷ (d, ns) ∷ fs)
 
-abbrev pub next_entry : StorageRoot → List Frame → Option (Place × List Frame)
+abbrev pub next_entry : StorageRoot → List Frame → Option Next
 next_entry root [] = None
-next_entry root (f ∷ fs) = entry_of root f.0 f.1 fs (next_entry root fs)
+next_entry root (f ∷ fs) = entry_of root (place_of_frame f) (names_left f) fs (next_entry root fs)
 
 abbrev pub first_of_list : List Place → Option Place
 first_of_list [] = None
@@ -115,16 +125,16 @@ abbrev pub next_path : StorageRoot → Place → Option Place
 next_path root last = next_path_in root (zone root last)
 
 -- the lesser of an entry and a path: a path below the entry leaves the stack as it is
-abbrev pub lesser : List Frame → Option (Place × List Frame) → Option Place → Option (Place × List Frame)
+abbrev pub lesser : List Frame → Option Next → Option Place → Option Next
 lesser fs e None = e
 lesser fs None (Some b) = Some (b, fs)
 lesser fs (Some e) (Some b) = if is_lt (place_cmp b e.0) then Some (b, fs) else Some e
 
-abbrev pub next_place : StorageRoot → Place → List Frame → Option (Place × List Frame)
+abbrev pub next_place : StorageRoot → Place → List Frame → Option Next
 next_place root last fs = lesser fs (next_entry root fs) (next_path root last)
 
 -- the items of the next k places
-abbrev pub taken_with : StorageRoot → Unread → (Place → List Frame → List Item) → Option (Place × List Frame) → List Item
+abbrev pub taken_with : StorageRoot → Unread → (Place → List Frame → List Item) → Option Next → List Item
 taken_with root unread more None = []
 taken_with root unread more (Some x) = item_at root unread x.0 ++ more x.0 x.1
 
@@ -133,7 +143,7 @@ taken zero root unread last fs = []
 taken (suc k) root unread last fs = taken_with root unread (taken k root unread) (next_place root last fs)
 
 -- the directories that the next k places make the walk list
-abbrev pub lists_with : StorageRoot → (Place → List Frame → List Place) → Option (Place × List Frame) → List Place
+abbrev pub lists_with : StorageRoot → (Place → List Frame → List Place) → Option Next → List Place
 lists_with root more None = []
 lists_with root more (Some x) = on (is_reached root x.0) x.0 ++ more x.0 x.1
 

@@ -12,6 +12,13 @@ use Rattle.ocfl_inventory.specs.Reading.{Reading, Block, Inventory, inventory_of
 use Rattle.ocfl_tree.specs.Path.{elements}
 use Rattle.ocfl_inventory.specs.ListedPath.{is_kept}
 
+-- which block of an inventory names a digest
+abbrev pub by_manifest : Bool
+by_manifest = false
+
+abbrev pub by_fixity : Bool
+by_fixity = true
+
 -- a digest that an inventory names for a path, folded
 pub record Named : Type 0 where
   pub fixity : Bool
@@ -48,7 +55,7 @@ abbrev pub table_from : Inventory → Table
 table_from i = record {
   algorithm = i.algorithm;
   content = i.content;
-  triples = ascending triple_cmp (triples_of false i.content i.algorithm i.manifest ++ flat_map (λ e. triples_of true i.content e.0 e.1) i.fixity);
+  triples = ascending triple_cmp (triples_of by_manifest i.content i.algorithm i.manifest ++ flat_map (λ e. triples_of by_fixity i.content e.0 e.1) i.fixity);
 }
 
 abbrev pub table_from_reading : Reading Inventory → Option Table

@@ -7,13 +7,13 @@ use Rattle.ocfl_report.specs.declared.code.Code.TheVariants.{E096, E101, S07}
 use Rattle.ocfl_digest.specs.declared.algorithm.Algorithm.{Algorithm}
 use Rattle.ocfl_inventory.specs.Reading.{Block}
 use Rattle.ocfl_inventory.specs.Notes.{kept_paths, conflicts, fault_notes, repeated_digests, repeated_notes}
-use Rattle.ocfl_inventory.specs.Table.{Triple, triples_of}
+use Rattle.ocfl_inventory.specs.Table.{Triple, by_fixity, by_manifest, triples_of}
 use Rattle.ocfl_inventory.specs.Internal.Gathered.{bad_texts}
 use Rattle.ocfl_inventory.specs.declared.gather.Listed.{Listed}
 
 -- all triples of a manifest and of a fixity block, as often as they are listed
 abbrev pub all_triples : Text → Algorithm → Block → List (Algorithm × Block) → List Triple
-all_triples content a m fs = triples_of false content a m ++ flat_map (λ e. triples_of true content e.0 e.1) fs
+all_triples content a m fs = triples_of by_manifest content a m ++ flat_map (λ e. triples_of by_fixity content e.0 e.1) fs
 
 -- the texts of listed paths that have lines
 pub record AreListed (content : Text) (m : Block) (fs : List (Algorithm × Block)) (l : Listed) : Type 0 where

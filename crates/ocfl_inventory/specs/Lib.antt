@@ -8,4 +8,5 @@ pub mod Table
 pub mod TripleView
 pub mod NextPath
 pub mod Notes
+pub mod Remark
 pub mod Internal

@@ -25,6 +25,7 @@ pub use declaration::{
 };
 pub use paths::is_version_name;
 pub use reading::algorithm_of;
+pub use remark::Remark;
 pub use sidecar_text::{Sum, sidecar};
 pub use table::{InventoryReading, Table, read_inventory};
 pub use triple::Named;

@@ -6,7 +6,8 @@ ghost use Rattle.ocfl_report.specs.Line.{note};
 ghost use Rattle.ocfl_digest.specs.Algorithm.{algorithm_name};
 ghost use Rattle.ocfl_inventory.specs.Notes.{fault_note, fault_notes, folded_keys};
 ghost use Rattle.ocfl_inventory.specs.Notes.{repeated_digests, repeated_notes};
-ghost use Rattle.ocfl_inventory.specs.Internal.Parts.{remark_view, block_view, supported_view};
+ghost use Rattle.ocfl_inventory.specs.Internal.Parts.{block_view, supported_view};
+ghost use Rattle.ocfl_inventory.specs.Remark.{remark_view};
 ghost use Rattle.ocfl_inventory.specs.Internal.ListsOf.{all_repeated, other_notes};
 
 use crate::gather::Listed;

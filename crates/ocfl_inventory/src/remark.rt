@@ -5,7 +5,7 @@ ghost use Rattle.ocfl_inventory.specs.declared.remark.Stop.TheVariants.{Memory};
 use ocfl_report::Code;
 use std::alloc::AllocError;
 
-/// The code and the detail of a line.
+/// What a line says beside its place: its code and its detail.
 #[derive(Debug, Drop)]
 pub struct Remark {
     pub code: Code,

@@ -11,12 +11,13 @@ ghost use Rattle.ocfl_report.specs.Line.{line_of, lines_at};
 ghost use Rattle.ocfl_inventory.specs.Reading.{algorithm_in, algorithm_of, inventory_in};
 ghost use Rattle.ocfl_inventory.specs.Reading.{inventory_of};
 ghost use Rattle.ocfl_inventory.specs.Notes.{inventory_notes, notes_of, reading_notes};
-ghost use Rattle.ocfl_inventory.specs.Internal.Parts.{remark_view, inventory_view};
+ghost use Rattle.ocfl_inventory.specs.Internal.Parts.{inventory_view};
+ghost use Rattle.ocfl_inventory.specs.Remark.{remark_view};
 ghost use Rattle.ocfl_inventory.specs.Table.{IsFit, triple_cmp, table_from, table_from_reading};
 ghost use Rattle.ocfl_inventory.specs.Table.{table_of, named as named_in};
 ghost use Rattle.ocfl_inventory.specs.NextPath.{next_path};
 ghost use Rattle.ocfl_inventory.specs.TripleView.{named_view, named_among};
-ghost use Rattle.ocfl_inventory.specs.Internal.ReadInventory.{IsReading, IsTableReading, SaysLines};
+ghost use Rattle.ocfl_inventory.specs.Internal.ReadInventory.{IsReading, IsTableReading, SaysAlone};
 ghost use Rattle.ocfl_inventory.specs.Internal.ReadInventory.{note_line};
 
 use crate::gather::{gather, gather_kept};
@@ -204,45 +205,45 @@ fn to_lines(alloc: Global, remarks: Vec<Remark>) -> Result<Vec<Line>, AllocError
 pub struct InventoryReading {
     /// The digest algorithm that it names, `sha256` or `sha512`, where it names one of these.
     pub algorithm: Option<Algorithm>,
-    /// The lines about it, at the root.
-    pub lines: Vec<Line>,
+    /// What the lines about it say.
+    pub remarks: Vec<Remark>,
     /// Its table, where nothing stops.
     pub table: Option<Table>,
 }
 
-/// An inventory that stops: its line is the only one.
+/// An inventory that stops: what its line says is all.
 fn stopped(
     alloc: Global,
     algorithm: Option<Algorithm>,
     stop: Stop,
 ) -> Result<InventoryReading, AllocError>
     ensures algorithm { IfOk result (λ r. r.algorithm ≡ algorithm) }
-    ensures lines { IfOk result (λ r. SaysLines stop (map line_of r.lines.items)) }
+    ensures remarks { IfOk result (λ r. SaysAlone stop (map remark_view r.remarks.items)) }
     ensures table { IfOk result (λ r. r.table ≡ None) }
 {
     match stop {
         Stop::Memory => Err(AllocError),
         Stop::Because(remark) => {
-            let mut lines = Vec::new(alloc);
-            lines.push(to_line(alloc, remark))?;
+            let mut remarks = Vec::new(alloc);
+            remarks.push(remark)?;
             Ok(InventoryReading {
                 algorithm,
-                lines,
+                remarks,
                 table: None,
             })
         }
     }
 }
 
-/// The lines, the table and the algorithm of the members of an inventory.
+/// What the members of an inventory say: remarks, table and algorithm.
 fn reading_of_members(
     alloc: Global,
     members: Map<String, Value>,
 ) -> Result<InventoryReading, AllocError>
     ensures algorithm { IfOk result (λ r. r.algorithm
         ≡ result_ok (algorithm_in (members_view members.entries))) }
-    ensures lines { IfOk result (λ r. map line_of r.lines.items
-        ≡ lines_at [] (reading_notes (inventory_in (members_view members.entries)))) }
+    ensures remarks { IfOk result (λ r. map remark_view r.remarks.items
+        ≡ reading_notes (inventory_in (members_view members.entries))) }
     ensures table { IfOk result (λ r. r.table
         ≡ table_from_reading (inventory_in (members_view members.entries))) }
     ensures fit { IfOk result (λ r. IfSome r.table (λ t. IsFit t)) }
@@ -251,7 +252,7 @@ fn reading_of_members(
     match read_members(alloc, members) {
         Ok((remarks, table)) => Ok(InventoryReading {
             algorithm,
-            lines: to_lines(alloc, remarks)?,
+            remarks,
             table: Some(table),
         }),
         Err(stop) => stopped(alloc, algorithm, stop),
@@ -260,20 +261,18 @@ fn reading_of_members(
 
 /// Reads the bytes of an `inventory.json` by one parse (OCFL 1.1, 3.5 Inventory; RFC 8259).
 ///
-/// The lines carry the root as their place: the caller puts the object's in. They are those about
-/// the inventory, but for those on its sidecars. The first of these faults is the only line, and
-/// there is no table: bytes that are no JSON object in UTF-8, or that nest too deep (E033);
-/// `digestAlgorithm` missing (E036), no text (S03), or neither `sha256` nor `sha512` (E025);
-/// `contentDirectory` no text or empty (S03), with a slash (E017), or `.` or `..` (E018);
-/// `manifest` missing (E041) or of a wrong form (S03); `fixity` of a wrong form (S03). Else there
-/// is a table, and the lines are, in this order: digests that several keys have (E096, E097), bad
-/// paths (E100, E099, S06), paths that conflict (E101), and algorithms of fixity that are not
-/// computed (S07). The algorithm is that of `algorithm_of`, also where a later key stops. The error
-/// is running out of memory.
+/// The remarks are what the lines about the inventory say, but for those on its sidecars: a caller
+/// puts the object's place in. The first of these faults is the only line, and there is no table:
+/// bytes that are no JSON object in UTF-8, or that nest too deep (E033); `digestAlgorithm` missing
+/// (E036), no text (S03), or neither `sha256` nor `sha512` (E025); `contentDirectory` no text or
+/// empty (S03), with a slash (E017), or `.` or `..` (E018); `manifest` missing (E041) or of a wrong
+/// form (S03); `fixity` of a wrong form (S03). Else there is a table, and the lines are, in this
+/// order: digests that several keys have (E096, E097), bad paths (E100, E099, S06), paths that
+/// conflict (E101), and algorithms of fixity that are not computed (S07). The algorithm is that of
+/// `algorithm_of`, also where a later key stops. The error is running out of memory.
 pub fn read_inventory(alloc: Global, bytes: &[u8]) -> Result<InventoryReading, AllocError>
     ensures algorithm { IfOk result (λ r. r.algorithm ≡ result_ok (algorithm_of bytes.now)) }
-    ensures lines { IfOk result (λ r. map line_of r.lines.items
-        ≡ lines_at [] (notes_of bytes.now)) }
+    ensures remarks { IfOk result (λ r. map remark_view r.remarks.items ≡ notes_of bytes.now) }
     ensures table { IfOk result (λ r. r.table ≡ table_of bytes.now) }
     ensures fit { IfOk result (λ r. IfSome r.table (λ t. IsFit t)) }
 {
@@ -284,9 +283,9 @@ pub fn read_inventory(alloc: Global, bytes: &[u8]) -> Result<InventoryReading, A
 }
 
 impl Table {
-    /// Reads the bytes of an `inventory.json`: the lines about it and its table, as
-    /// `read_inventory` gives them. On any bytes the table's paths have at most 128 names, and
-    /// ascend. The error is running out of memory.
+    /// Reads the bytes of an `inventory.json`: its table, and the lines that `read_inventory`
+    /// remarks, with the root as their place. On any bytes the table's paths have at most 128
+    /// names, and ascend. The error is running out of memory.
     pub fn read(alloc: Global, bytes: &[u8]) -> Result<(Vec<Line>, Option<Table>), AllocError>
         ensures lines { IfOk result (λ r. map line_of r.0.items
             ≡ lines_at [] (notes_of bytes.now)) }
@@ -294,7 +293,7 @@ impl Table {
         ensures fit { IfOk result (λ r. IfSome r.1 (λ t. IsFit t)) }
     {
         let read = read_inventory(alloc, bytes)?;
-        Ok((read.lines, read.table))
+        Ok((to_lines(alloc, read.remarks)?, read.table))
     }
 
     /// Reads the bytes of an `inventory.json` for its table alone, and makes no lines: none where

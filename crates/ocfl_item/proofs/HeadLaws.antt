@@ -31,7 +31,7 @@ use Rattle.ocfl_inventory.specs.declared.declaration.Version.{Version}
 use Rattle.ocfl_inventory.specs.declared.declaration.Version.TheVariants.{V1_0, V1_1}
 use Rattle.ocfl_audit.specs.Head.{on, is_exact_declaration, inventory_part}
 use Rattle.ocfl_item.specs.HeadFiles.{IsFileAt}
-use Rattle.ocfl_item.specs.HeadLines.{declared_notes, note_of, named_notes}
+use Rattle.ocfl_item.specs.HeadLines.{declared_notes, named_notes}
 use Rattle.ocfl_item.specs.Pending.{Adds}
 use Rattle.ocfl_audit.proofs.BelowLaws.{text_from_test}
 use Rattle.ocfl_item.proofs.WrongLaws.{adds_both}
@@ -130,20 +130,6 @@ unknown_stops l es made.Several none k = refl
 
 -- ---- what an inventory says
 
-notes_back : (p : Place) (ls : List MadeLine) (ns : List Note) → map line_of ls ≡ lines_at p ns → map note_of ls ≡ ns
-notes_back p ls ns h = each ls ∙ ap (map note_in) h ∙ back ns
-  where
-    note_in : Line → Note
-    note_in l = note l.code l.detail
-
-    each : (ls : List MadeLine) → map note_of ls ≡ map note_in (map line_of ls)
-    each [] = refl
-    each (l ∷ ls) = ap (λ ns. note_of l ∷ ns) (each ls)
-
-    back : (ns : List Note) → map note_in (lines_at p ns) ≡ ns
-    back [] = refl
-    back (n ∷ ns) = ap (λ ms. n ∷ ms) (back ns)
-
 part_is : (root : StorageRoot) (o : Place) (bytes : Text) → named_notes root o (result_ok (algorithm_of bytes)) ++ notes_of bytes ≡ inventory_part root o bytes (algorithm_of bytes)
 part_is root o bytes = by (algorithm_of bytes) refl
   where
@@ -151,9 +137,9 @@ part_is root o bytes = by (algorithm_of bytes) refl
     by (Ok a) e = refl
     by (Err n) e = stopped_notes bytes n e
 
-pub read_part : (root : StorageRoot) (o : Place) (bytes : Text) (a : Option Algorithm) (ls : List MadeLine) → a ≡ result_ok (algorithm_of bytes) → map line_of ls ≡ lines_at [] (notes_of bytes)
-    → named_notes root o a ++ map note_of ls ≡ inventory_part root o bytes (algorithm_of bytes)
-read_part root o bytes a ls is read = (λ i. named_notes root o (is i) ++ notes_back [] ls (notes_of bytes) read i) ∙ part_is root o bytes
+pub read_part : (root : StorageRoot) (o : Place) (bytes : Text) (a : Option Algorithm) (said : List Note) → a ≡ result_ok (algorithm_of bytes) → said ≡ notes_of bytes
+    → named_notes root o a ++ said ≡ inventory_part root o bytes (algorithm_of bytes)
+read_part root o bytes a said is read = (λ i. named_notes root o (is i) ++ read i) ∙ part_is root o bytes
 
 pub named_have_sidecars : (bytes : Text) (a : Option Algorithm) → a ≡ result_ok (algorithm_of bytes) → IfSome a (λ x. is_some (sidecar_digits x) ≡ true)
 named_have_sidecars bytes a is = subst (λ o. IfSome o (λ x. is_some (sidecar_digits x) ≡ true)) (sym is) (by (algorithm_of bytes) refl)

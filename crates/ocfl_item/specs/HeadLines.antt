@@ -1,9 +1,8 @@
 -- The lines of an object's head, beside the definition.
-use Rattle.std.specs.Prelude.{◌&&◌, List, [], ◌∷◌, ◌++◌, Bool, not, Option, Some, None, string_bytes}
+use Rattle.std.specs.Prelude.{◌&&◌, List, [], ◌∷◌, ◌++◌, Bool, not, Option, Some, None}
 use Rattle.ocfl_tree.specs.Place.{Place}
 use Rattle.ocfl_tree.specs.StorageRoot.{StorageRoot}
-use Rattle.ocfl_report.specs.Line.{Note, note}
-use Rattle.ocfl_report.specs.declared.line.Line.{Line as MadeLine}
+use Rattle.ocfl_report.specs.Line.{Note}
 use Rattle.ocfl_digest.specs.declared.algorithm.Algorithm.{Algorithm}
 use Rattle.ocfl_digest.specs.declared.algorithm.Algorithm.TheVariants.{Sha256, Sha512}
 use Rattle.ocfl_item.specs.HeadFiles.{IsFileAt}
@@ -21,10 +20,6 @@ declared_notes root d Object declared = head_notes_by root d declared
 -- these were read of the sidecars of o
 abbrev pub AreSidecars : StorageRoot → Place → Sidecars → Type 0
 AreSidecars root o s = IsFileAt root (o ++ sidecar_name Sha256 ∷ []) 4096 s.short × IsFileAt root (o ++ sidecar_name Sha512 ∷ []) 4096 s.long
-
--- what a line says, of any place
-abbrev pub note_of : MadeLine → Note
-note_of l = note l.code (string_bytes l.detail)
 
 -- whether the sidecar of an algorithm is missing while there is one
 abbrev pub is_other_there : StorageRoot → Place → Algorithm → Bool

@@ -11,6 +11,7 @@ ghost use Rattle.ocfl_digest.specs.declared.algorithm.Algorithm.TheVariants.{Sha
 ghost use Rattle.ocfl_inventory.specs.Declaration.{declaration_name as name_of_declaration};
 ghost use Rattle.ocfl_inventory.specs.DigestText.{digest_of};
 ghost use Rattle.ocfl_inventory.specs.Reading.{algorithm_of as algorithm_in};
+ghost use Rattle.ocfl_inventory.specs.Remark.{remark_view};
 ghost use Rattle.ocfl_inventory.specs.Sidecar.{sidecar_digits, sidecar_of, sum_view};
 ghost use Rattle.ocfl_inventory.specs.Table.{IsFit, table_of};
 ghost use Rattle.ocfl_inventory.specs.declared.declaration.Level.TheVariants as level;
@@ -18,13 +19,13 @@ ghost use Rattle.ocfl_audit.specs.Head.{on, or_clean, is_exact_declaration, side
 ghost use Rattle.ocfl_audit.specs.Head.{sidecar_at, mismatch, sidecar_notes, are_sidecars_missing};
 ghost use Rattle.ocfl_audit.specs.Head.{sidecars_notes, inventory_part};
 ghost use Rattle.ocfl_item.specs.HeadFiles.{IsFileAt};
-ghost use Rattle.ocfl_item.specs.HeadLines.{AreSidecars, note_of, is_other_there, named_notes};
+ghost use Rattle.ocfl_item.specs.HeadLines.{AreSidecars, is_other_there, named_notes};
 ghost use Rattle.ocfl_item.specs.Pending.{Adds};
 
 use crate::declarations::is_exact;
 use crate::lines::{add_line, add_plain};
 use ocfl_digest::{Algorithm, Bounded, Wanted, hash_bytes};
-use ocfl_inventory::{Level, Sum, Table, Version, read_inventory, sidecar};
+use ocfl_inventory::{Level, Remark, Sum, Table, Version, read_inventory, sidecar};
 use ocfl_report::{Code, Line};
 use ocfl_tree::{Place, is_bytes};
 use std::alloc::{AllocError, Global};
@@ -224,13 +225,17 @@ fn add_missing_sidecar(
     add_line(lines, place, Code::E058, detail)
 }
 
-/// Appends lines that carry the root, as lines of the place.
-fn add_moved(lines: &mut Vec<Line>, place: &Place, read: Vec<Line>) -> Result<(), AllocError>
+/// Appends the lines of what is remarked of a place.
+fn add_remarks(
+    lines: &mut Vec<Line>,
+    place: &Place,
+    remarks: Vec<Remark>,
+) -> Result<(), AllocError>
     ensures { OnOk result (Adds lines.old.items lines.new.items place.now
-        (map note_of read.items)) }
+        (map remark_view remarks.items)) }
 {
-    for line in read {
-        add_line(lines, place, line.code, line.detail)?;
+    for remark in remarks {
+        add_line(lines, place, remark.code, remark.detail)?;
     }
     Ok(())
 }
@@ -252,7 +257,7 @@ fn add_read(
 {
     let read = read_inventory(alloc, inventory)?;
     add_missing_sidecar(alloc, lines, place, read.algorithm, sidecars)?;
-    add_moved(lines, place, read.lines)?;
+    add_remarks(lines, place, read.remarks)?;
     Ok(read.table)
 }
 

@@ -503,7 +503,7 @@ fn reads_as_its_parts(rt: &impl Abort, alloc: Global, bytes: &[u8]) -> Result<()
     let (lines, table) = Table::read(alloc, bytes)?;
     let alone = Table::read_alone(alloc, bytes)?;
     assert_eq!(rt; read.algorithm, algorithm_of(alloc, bytes)?);
-    assert_eq!(rt; read.lines.len(), lines.len());
+    assert_eq!(rt; read.remarks.len(), lines.len());
     assert_eq!(rt; read.table.is_some(), table.is_some());
     assert_eq!(rt; alone.is_some(), table.is_some());
     if let (Some(alone), Some(table)) = (&alone, &table) {
@@ -531,7 +531,7 @@ fn one_parse_gives_algorithm_lines_and_table(rt: HostRuntime) -> Result<(), Fail
     reads_as_its_parts(&rt, alloc, stopped.as_str().as_bytes())?;
     let read = read_inventory(alloc, stopped.as_str().as_bytes())?;
     assert_eq!(rt; read.algorithm, Some(Algorithm::Sha256));
-    assert!(rt; read.table.is_none() && read.lines.len() == 1);
+    assert!(rt; read.table.is_none() && read.remarks.len() == 1);
     for bytes in ["", "[]", "{}", "{\"digestAlgorithm\":\"md5\"}"] {
         reads_as_its_parts(&rt, alloc, bytes.as_bytes())?;
     }

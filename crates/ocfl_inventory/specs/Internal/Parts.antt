@@ -9,21 +9,18 @@ use Rattle.serde_json.specs.declared.value.Value.{Value}
 use Rattle.serde_json.specs.Data.{Data, Members, no_members}
 use Rattle.serde_json.specs.Find.{as_str, get_member}
 use Rattle.ocfl_tree.specs.Place.{Text}
-use Rattle.ocfl_report.specs.Line.{Note, note}
+use Rattle.ocfl_report.specs.Line.{Note}
 use Rattle.ocfl_digest.specs.Algorithm.{algorithm_name}
 use Rattle.ocfl_inventory.specs.Reading.{Reading, Block, Inventory, block_of}
 use Rattle.ocfl_digest.specs.declared.algorithm.Algorithm.{Algorithm}
 use Rattle.ocfl_digest.specs.declared.algorithm.Algorithm.TheVariants.{Md5, Sha1, Sha256, Sha512, Sha512_256}
-use Rattle.ocfl_inventory.specs.declared.remark.Remark.{Remark}
+use Rattle.ocfl_inventory.specs.Remark.{remark_view}
 use Rattle.ocfl_inventory.specs.declared.remark.Stop.{Stop}
 use Rattle.ocfl_inventory.specs.declared.remark.Stop.TheVariants as stops
 use Rattle.ocfl_inventory.specs.declared.inventory.Listing.{Listing}
 use Rattle.ocfl_inventory.specs.declared.inventory.Supported.{Supported}
 use Rattle.ocfl_inventory.specs.declared.reading.Values.{Values}
 use Rattle.ocfl_inventory.specs.declared.inventory.Inventory.{Inventory as MadeInventory}
-
-abbrev pub remark_view : Remark → Note
-remark_view r = note r.code (string_bytes r.detail)
 
 -- what stopped, unless memory ran out, is the line
 abbrev pub Says : Stop → Note → Type 0

@@ -1,11 +1,12 @@
 -- What reading an inventory gives, beside the definitions.
 use Rattle.std.specs.Prelude.{◌≡◌, List, [], ◌∷◌, Result, Ok, Err, Vec, map}
 use Rattle.std.specs.declared.alloc.Global.{Global}
-use Rattle.ocfl_report.specs.Line.{Note, Line, lines_at}
+use Rattle.ocfl_report.specs.Line.{Note, Line}
 use Rattle.ocfl_inventory.specs.Reading.{Reading, Inventory}
 use Rattle.ocfl_inventory.specs.Notes.{inventory_notes}
 use Rattle.ocfl_inventory.specs.Table.{Table, table_from}
-use Rattle.ocfl_inventory.specs.Internal.Parts.{Fails, remark_view}
+use Rattle.ocfl_inventory.specs.Internal.Parts.{Fails}
+use Rattle.ocfl_inventory.specs.Remark.{remark_view}
 use Rattle.ocfl_inventory.specs.declared.remark.Remark.{Remark}
 use Rattle.ocfl_inventory.specs.declared.remark.Stop.{Stop}
 use Rattle.ocfl_inventory.specs.declared.remark.Stop.TheVariants as stops
@@ -24,7 +25,7 @@ abbrev pub IsTableReading : Result Table Stop → Reading Inventory → Type 0
 IsTableReading (Ok t) read = (i : Inventory) × (read ≡ Ok i) × (t ≡ table_from i)
 IsTableReading (Err e) read = Fails e read
 
--- these are the line of what stopped, which want of memory has not
-abbrev pub SaysLines : Stop → List Line → Type 0
-SaysLines stops.Memory ls = ⊥
-SaysLines (stops.Because r) ls = ls ≡ lines_at [] (remark_view r ∷ [])
+-- what stopped is all that is said, and memory did not run out
+abbrev pub SaysAlone : Stop → List Note → Type 0
+SaysAlone stops.Memory ns = ⊥
+SaysAlone (stops.Because r) ns = ns ≡ remark_view r ∷ []

@@ -1,5 +1,5 @@
 use Rattle.std.proofs.Common.{map, []}
-use Rattle.ocfl_inventory.specs.Internal.Parts.{remark_view}
+use Rattle.ocfl_inventory.specs.Remark.{remark_view}
 use Rattle.ocfl_inventory.proofs.PathTexts.{faults_step}
 use Rattle.ocfl_inventory.proofs.notes.add_faults.Goals as goal
 

@@ -1,5 +1,5 @@
 use Rattle.std.proofs.Common.{◌≡◌, ◌++◌, map, drop, filter_map}
-use Rattle.ocfl_inventory.specs.Internal.Parts.{remark_view}
+use Rattle.ocfl_inventory.specs.Remark.{remark_view}
 use Rattle.ocfl_inventory.specs.Notes.{fault_note}
 use Rattle.ocfl_inventory.proofs.notes.add_faults.Given as goal
 

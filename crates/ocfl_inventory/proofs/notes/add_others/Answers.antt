@@ -5,7 +5,7 @@ use Rattle.ocfl_tree.specs.Path.{slashed}
 use Rattle.ocfl_report.specs.Line.{Note, note}
 use Rattle.ocfl_report.specs.declared.code.Code.TheVariants.{E101}
 use Rattle.ocfl_inventory.specs.Notes.{fault_notes}
-use Rattle.ocfl_inventory.specs.Internal.Parts.{remark_view}
+use Rattle.ocfl_inventory.specs.Remark.{remark_view}
 use Rattle.ocfl_inventory.specs.declared.remark.Remark.{Remark}
 use Rattle.ocfl_inventory.proofs.Inventories.{others_joined}
 use Rattle.ocfl_inventory.proofs.notes.add_others.Goals as goal

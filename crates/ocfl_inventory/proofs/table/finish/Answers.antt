@@ -1,7 +1,8 @@
 use Rattle.std.proofs.Common.{◌≡◌, subst, ◌∙◌, ◌++◌, map, string_bytes}
 use Rattle.ocfl_tree.specs.Place.{Text}
 use Rattle.ocfl_inventory.specs.Internal.ListsOf.{AreListed, all_repeated, other_notes}
-use Rattle.ocfl_inventory.specs.Internal.Parts.{block_view, inventory_view, remark_view, supported_view}
+use Rattle.ocfl_inventory.specs.Internal.Parts.{block_view, inventory_view, supported_view}
+use Rattle.ocfl_inventory.specs.Remark.{remark_view}
 use Rattle.ocfl_inventory.proofs.Inventories.{lines_of_listed, table_gathered}
 use Rattle.ocfl_inventory.proofs.table.finish.Goals as goal
 

@@ -1,14 +1,14 @@
 use Rattle.serde_json.specs.View.{members_view}
 use Rattle.ocfl_inventory.specs.Reading.{inventory_in}
 use Rattle.ocfl_inventory.proofs.Fits.{read_fits}
-use Rattle.ocfl_inventory.proofs.Stopped.{stopped_lines, stopped_table}
+use Rattle.ocfl_inventory.proofs.Stopped.{stopped_remarks, stopped_table}
 use Rattle.ocfl_inventory.proofs.table.reading_of_members.Goals as goal
 
-pub returns-in_ok-to_lines-in-Ok-clause-fit : goal.returns-in_ok-to_lines-in-Ok-clause-fit
-returns-in_ok-to_lines-in-Ok-clause-fit c = read_fits c.in-Ok.ensures.reading.0 c.in-Ok.table c.in-Ok.ensures.reading.3 c.in-Ok.ensures.few
+pub returns-in-Ok-clause-fit : goal.returns-in-Ok-clause-fit
+returns-in-Ok-clause-fit c = read_fits c.in-Ok.ensures.reading.0 c.in-Ok.table c.in-Ok.ensures.reading.3 c.in-Ok.ensures.few
 
-pub returns-in-Err-clause-lines : goal.returns-in-Err-clause-lines
-returns-in-Err-clause-lines c = stopped_lines c.stopped.result c.in-Err.stop (inventory_in (members_view c.args.members.entries)) c.stopped.ensures.lines c.in-Err.ensures.reading
+pub returns-in-Err-clause-remarks : goal.returns-in-Err-clause-remarks
+returns-in-Err-clause-remarks c = stopped_remarks c.stopped.result c.in-Err.stop (inventory_in (members_view c.args.members.entries)) c.stopped.ensures.remarks c.in-Err.ensures.reading
 
 pub returns-in-Err-clause-table : goal.returns-in-Err-clause-table
-returns-in-Err-clause-table c = stopped_table c.stopped.result c.in-Err.stop (inventory_in (members_view c.args.members.entries)) c.stopped.ensures.lines c.stopped.ensures.table c.in-Err.ensures.reading
+returns-in-Err-clause-table c = stopped_table c.stopped.result c.in-Err.stop (inventory_in (members_view c.args.members.entries)) c.stopped.ensures.remarks c.stopped.ensures.table c.in-Err.ensures.reading

@@ -1,6 +1,7 @@
 use Rattle.std.proofs.Common.{List, map, subst}
 use Rattle.ocfl_report.specs.Line.{Note}
-use Rattle.ocfl_item.specs.HeadLines.{note_of, named_notes}
+use Rattle.ocfl_inventory.specs.Remark.{remark_view}
+use Rattle.ocfl_item.specs.HeadLines.{named_notes}
 use Rattle.ocfl_item.specs.Pending.{Adds}
 use Rattle.ocfl_item.proofs.HeadLaws.{named_have_sidecars, read_part}
 use Rattle.ocfl_item.proofs.WrongLaws.{adds_both}
@@ -9,9 +10,9 @@ use Rattle.ocfl_item.proofs.head_lines.add_read.Goals as goal
 pub returns-clause-lines : goal.returns-clause-lines
 returns-clause-lines c = λ root files.
     let algorithm = c.in_ok-read.read.algorithm in
-    let read = c.in_ok-read.read.lines.items in
+    let read = map remark_view c.in_ok-read.read.remarks.items in
     let stated = c.in_ok-read.ensures.algorithm in
     let missing = c.in_ok-add_missing_sidecar.ensures root files (named_have_sidecars c.args.inventory.now algorithm stated) in
-    let both = adds_both c.args.lines.now.items c.add_missing_sidecar.new.lines.items c.add_moved.new.lines.items c.args.place.now (named_notes root c.args.place.now algorithm) (map note_of read) missing c.in_ok-add_moved.ensures in
-    let Lines : List Note → Type 0 = λ ns. Adds c.args.lines.now.items c.add_moved.new.lines.items c.args.place.now ns in
-    subst Lines (read_part root c.args.place.now c.args.inventory.now algorithm read stated c.in_ok-read.ensures.lines) both
+    let both = adds_both c.args.lines.now.items c.add_missing_sidecar.new.lines.items c.add_remarks.new.lines.items c.args.place.now (named_notes root c.args.place.now algorithm) read missing c.in_ok-add_remarks.ensures in
+    let Lines : List Note → Type 0 = λ ns. Adds c.args.lines.now.items c.add_remarks.new.lines.items c.args.place.now ns in
+    subst Lines (read_part root c.args.place.now c.args.inventory.now algorithm read stated c.in_ok-read.ensures.remarks) both

@@ -71,7 +71,7 @@ pub fn audit<T: Tree, W: Write>(
             Ok(None) => return audit_end(last, found, End::Ended),
             Err(why) => return audit_end(last, found, End::Stopped(why)),
         };
-        match take_item(alloc, store, &pending, block, out) {
+        match take_item(alloc, store, pending, block, out) {
             Ok(taken) => {
                 found = either(found, taken.found);
                 last = Some(taken.place);

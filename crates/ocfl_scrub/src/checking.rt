@@ -66,7 +66,7 @@ pub fn check<T: Tree, W: Write>(
         }
         Err(why) => return stopped(why),
     };
-    match take_item(alloc, store, &pending, block, out) {
+    match take_item(alloc, store, pending, block, out) {
         Ok(taken) => CheckEnd {
             found: taken.found,
             item: true,

@@ -1,7 +1,6 @@
 //! One run: what lies above its cursor's place, as far as its limits allow.
 ghost use Rattle.std.specs.Prelude.{◌≡◌, ◌≢◌, ◌↔◌, ◌+◌, ◌≤◌, ◌^◌, Option, true, false, IsTrue};
 ghost use Rattle.std.specs.Prelude.{IfErr, IfOk};
-ghost use Rattle.ocfl_tree.specs.Name.{IsPlace};
 ghost use Rattle.ocfl_tree.specs.Place.{Place as Spot};
 ghost use Rattle.ocfl_tree.specs.StorageRoot.{StorageRoot};
 ghost use Rattle.ocfl_item.specs.Judging.{HasShortFiles};
@@ -17,6 +16,7 @@ ghost use Rattle.ocfl_scrub.specs.Running.{limits_of, state_after};
 use crate::taking::{either, take_item};
 use ocfl_cursor::{Cursor, Limits, Meter, State};
 use ocfl_digest::Block;
+use ocfl_tree::laws::every_place_has_names;
 use ocfl_tree::{Place, Tree};
 use ocfl_walk::{Fault, Pending, Walk};
 use std::alloc::Global;
@@ -159,18 +159,11 @@ fn left_state(end: &RunStatus, last: Option<Place>) -> State
     }
     match last {
         Some(place) => {
-            has_names(&place);
+            every_place_has_names(&place);
             State::After(place)
         }
         None => State::Start,
     }
-}
-
-// A place has names alone, which its path tells.
-fn has_names(place: &Place)
-    ensures { IsPlace place.now }
-{
-    let _ = place.path();
 }
 
 // What a pass over the items above a place did.
@@ -223,7 +216,7 @@ fn pass_from<T: Tree, W: Write>(
         if !paid {
             return pass_end(&meter, last, found, RunStatus::Spent);
         }
-        match take_item(alloc, store, &pending, block, out) {
+        match take_item(alloc, store, pending, block, out) {
             Ok(taken) => {
                 meter.charge(taken.cost);
                 found = either(found, taken.found);

@@ -32,13 +32,13 @@ pub(crate) struct Taken {
 pub(crate) fn take_item<T: Tree, W: Write>(
     alloc: Global,
     store: &mut T,
-    pending: &Pending,
+    pending: Pending,
     block: &mut Block,
     out: &mut W,
 ) -> Result<Taken, Fault>
     // Of every store.
-    ensures place { IfOk result (λ taken. taken.place ≡ pending.now.place) }
-    ensures cost { IfOk result (λ taken. CostFits pending.now.hashed taken.cost) }
+    ensures place { IfOk result (λ taken. taken.place ≡ pending.place) }
+    ensures cost { IfOk result (λ taken. CostFits pending.hashed taken.cost) }
     ensures lines { IfOk result (λ taken. WritesLines (W.contents out.old)
         (W.contents out.new) taken.found) }
     ensures only { IfErr result (λ why. (why ≡ Fault.Memory) ⊎ (why ≡ Fault.Output)) }
@@ -46,11 +46,11 @@ pub(crate) fn take_item<T: Tree, W: Write>(
 
     // Of a store that tells its tree.
     ensures told { IsTrue T.told → (root : StorageRoot) → (T.state store.old).tree ≡ root
-        → HasShortFiles root → IsPending root pending.now → MatchResult result
+        → HasShortFiles root → IsPending root pending → MatchResult result
         (λ taken. Takes root (T.state store.old) (T.state store.new) (W.contents out.old)
-        (W.contents out.new) pending.now.place taken.cost taken.found)
+        (W.contents out.new) pending.place taken.cost taken.found)
         (λ why. Misses root (T.state store.old) (T.state store.new) (W.contents out.old)
-        (W.contents out.new) pending.now.place why) }
+        (W.contents out.new) pending.place why) }
 {
     // A place that is kept first cannot be wanting once the lines have gone out.
     let Ok(place) = pending.place().try_clone() else {

@@ -47,7 +47,7 @@ pub(crate) fn item<T: Tree>(
 pub(crate) fn judged<T: Tree>(
     alloc: Global,
     store: &mut T,
-    pending: &Pending,
+    pending: Pending,
 ) -> Result<(String, u64), Fail> {
     let mut block = Block::new(alloc)?;
     let (lines, cost) = judge(alloc, store, pending, &mut block).map_err(said)?;
@@ -73,7 +73,7 @@ pub(crate) fn expect_item<T: Tree>(
         return Ok(());
     };
     assert_eq!(rt; pending.hashed(), cost > 0, "{path}");
-    let (text, spent) = judged(alloc, store, &pending)?;
+    let (text, spent) = judged(alloc, store, pending)?;
     assert_eq!(rt; text.as_str(), lines_of(alloc, want)?.as_str(), "{path}");
     assert_eq!(rt; spent, cost, "{path}");
     Ok(())
@@ -111,10 +111,10 @@ fn walked(alloc: Global, store: &mut MemTree, after: &str) -> Result<Gathered, F
         let Some(pending) = walk.next(store).map_err(said)? else {
             return Ok(all);
         };
-        let (text, cost) = judged(alloc, store, &pending)?;
+        all.hashed = all.hashed.saturating_add(usize::from(pending.hashed()));
+        let (text, cost) = judged(alloc, store, pending)?;
         all.text.push_str(text.as_str())?;
         all.cost = all.cost.saturating_add(cost);
-        all.hashed = all.hashed.saturating_add(usize::from(pending.hashed()));
     }
     Err("too many items".into())
 }

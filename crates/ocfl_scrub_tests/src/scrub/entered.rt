@@ -42,13 +42,14 @@ fn items_above(
         if before.is_some_and(|place| pending.place() <= place) {
             return Err("an item is not above the one before".into());
         }
-        let (lines, _) = judge(alloc, store, &pending, block).map_err(said)?;
+        let place = pending.place().try_clone()?;
+        let (lines, _) = judge(alloc, store, pending, block).map_err(said)?;
         let mut text = Vec::new(alloc);
         for line in &lines {
             line.put(&mut text)?;
         }
         items.push(Passage {
-            place: pending.place().try_clone()?,
+            place,
             text: String::from_utf8(text)?,
         })?;
     }

@@ -52,7 +52,7 @@ fn text_at(store: &mut MemTree, alloc: Global, text: &str) -> Result<String, Fai
     if pending.hashed() {
         return Ok(String::from_str(alloc, "hashed")?);
     }
-    let (lines, _) = judged(alloc, store, &pending)?;
+    let (lines, _) = judged(alloc, store, pending)?;
     Ok(lines)
 }
 

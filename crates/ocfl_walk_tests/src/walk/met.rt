@@ -67,9 +67,9 @@ fn met(
 }
 
 /// What was met, in one text: the lines of its item, and whether there are a listing and a table.
-fn text_of(alloc: Global, store: &mut MemTree, visit: &Visit) -> Result<String, Fail> {
+fn text_of(alloc: Global, store: &mut MemTree, visit: Visit) -> Result<String, Fail> {
     let mut text = String::new(alloc);
-    if let Some(pending) = &visit.item {
+    if let Some(pending) = visit.item {
         let (lines, _) = judged(alloc, store, pending)?;
         text.push_str(lines.as_str())?;
     }
@@ -109,7 +109,7 @@ fn entries_are_met_by_the_part_that_they_lie_in(rt: HostRuntime) -> Result<(), F
             false => None,
         };
         let visit = met(alloc, &mut store, &around, directory, name)?;
-        let text = text_of(alloc, &mut store, &visit)?;
+        let text = text_of(alloc, &mut store, visit)?;
         assert_eq!(rt;
             text.as_str(),
             lines_of(alloc, want)?.as_str(),
@@ -150,7 +150,7 @@ fn the_storage_root_is_met_with_its_listing(rt: HostRuntime) -> Result<(), Fail>
             opened,
             "{path}"
         );
-        let text = text_of(alloc, &mut store, &visit)?;
+        let text = text_of(alloc, &mut store, visit)?;
         assert_eq!(rt; text.as_str(), lines_of(alloc, want)?.as_str(), "{path}");
     }
     Ok(())
@@ -178,7 +178,7 @@ fn a_path_that_is_not_seen_is_missing_where_the_table_names_it(
             folder: None,
             table: None,
         };
-        let text = text_of(alloc, &mut store, &visit)?;
+        let text = text_of(alloc, &mut store, visit)?;
         assert_eq!(rt; text.as_str(), lines_of(alloc, want)?.as_str(), "{path}");
     }
     Ok(())

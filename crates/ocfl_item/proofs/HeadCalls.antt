@@ -4,7 +4,7 @@ use Rattle.std.proofs.lemmas.Bool.{le-leb, leb-true}
 use Rattle.std.proofs.lemmas.Map.Made.{AllPairs-from_IsDistinct}
 use Rattle.std.specs.List.{IsDistinct, list_all}
 use Rattle.ocfl_tree.proofs.Places.{text_eq-Decides}
-use Rattle.std.specs.Prelude.{cond, ◌||◌, not, nat_le, AllPairs, Result, Ok, Err, Vec, option_and_then}
+use Rattle.std.specs.Prelude.{cond, IfOk, ◌||◌, not, nat_le, AllPairs, Result, Ok, Err, Vec, option_and_then}
 use Rattle.std.specs.declared.alloc.Global.{Global}
 use Rattle.ocfl_tree.specs.Place.{Text, Place, text_eq}
 use Rattle.ocfl_tree.specs.StorageRoot.{StorageRoot, file_at}
@@ -15,7 +15,8 @@ use Rattle.ocfl_report.specs.declared.line.Line.{Line as MadeLine}
 use Rattle.ocfl_report.specs.declared.code.Code.TheVariants.{E007, E063, S02}
 use Rattle.ocfl_digest.specs.declared.bounded.Bounded.{Bounded}
 use Rattle.ocfl_digest.specs.declared.bounded.Bounded.TheVariants as bounded
-use Rattle.ocfl_inventory.specs.Declaration.{known, declaration_name, is_known}
+use Rattle.ocfl_digest.specs.declared.algorithm.Algorithm.TheVariants.{Sha256, Sha512}
+use Rattle.ocfl_inventory.specs.Declaration.{Declared, undeclared, known, unknown, several, declaration_name, is_known}
 use Rattle.ocfl_inventory.specs.Entries.{meaning, PointsAtOne}
 use Rattle.ocfl_inventory.specs.Reading.{algorithm_of}
 use Rattle.ocfl_inventory.specs.Table.{Table, table_of}
@@ -24,12 +25,12 @@ use Rattle.ocfl_inventory.specs.declared.declaration.Level.TheVariants as level
 use Rattle.ocfl_inventory.specs.declared.declaration.Version.{Version}
 use Rattle.ocfl_inventory.specs.declared.declaration.Version.TheVariants.{V1_0, V1_1}
 use Rattle.ocfl_audit.specs.Zone.{skipped, hierarchy, inside, zone, root_declared, object_declared, inventory_name, inventory_limit, table_at}
-use Rattle.ocfl_audit.specs.Head.{on, or_clean, is_exact_declaration, sidecars_notes, inventory_part, inventory_file_notes, head_notes_by}
+use Rattle.ocfl_audit.specs.Head.{on, or_clean, is_exact_declaration, sidecar_name, sidecars_notes, inventory_part, inventory_file_notes, head_notes_by}
 use Rattle.ocfl_audit.specs.Lines.{notes, notes_in}
 use Rattle.ocfl_audit.specs.Trail.{is_object_meta}
 use Rattle.ocfl_item.specs.Pending.{Adds}
-use Rattle.ocfl_item.specs.Ways.{Opens, ReadsTable, IsObject, IsDeclared, ReadsHead}
-use Rattle.ocfl_item.specs.HeadFiles.{IsFileAt, ReadsFiles, FilesStop, ReadsFile, ReadsSome, head_names, table_in}
+use Rattle.ocfl_item.specs.Ways.{Opens, ReadsTable, IsObject, IsDeclared, IsHeadOf}
+use Rattle.ocfl_item.specs.HeadFiles.{IsFileAt, OpensJust, ReadsFiles, FilesStop, ReadsFile, ReadsSome, head_files, head_names, sidecars_for, table_in}
 use Rattle.ocfl_item.specs.declared.fault.Fault.{Fault}
 use Rattle.ocfl_item.specs.declared.fault.Fault.TheVariants as fault
 use Rattle.ocfl_item.proofs.HeadTrails.{head_opened, inventory_alone, inventory_opened}
@@ -67,33 +68,25 @@ module _ (root : StorageRoot) (o : Place) (es : List Entry) (h : IsObject root o
   one_apart : AllPairs (λ n m. n ≢ m) (inventory_name ∷ [])
   one_apart i j d l k = absurd (omega (arith, l, k))
 
-  abbrev table_opens : (s t : Store) (f : Option Bounded) → ReadsFile root s t o inventory_name inventory_limit (Ok f) → Opens root s t o
-  table_opens s t f k =
-      let some = some_of root o s t (inventory_name ∷ []) k.gives.0 in
-      record { reads = some_is_meta root o h.zone (inventory_name ∷ []) refl one_apart s t some; heads = inventory_opened root o h.zone some.trail some.opened }
-
-  pub table_reads : (s t : Store) (f : Option Bounded) (table : Option Table) → ReadsFile root s t o inventory_name inventory_limit (Ok f) → table ≡ table_given f → ReadsTable root s t o (Ok table)
-  table_reads s t f table k e = record { gives = (table_opens s t f k, e ∙ sym (table_is_given f k.gives.1), inventory_alone root o h.zone k.gives.0.trail (some_of root o s t (inventory_name ∷ []) k.gives.0).opened) }
-
-  pub table_memory : (s t : Store) (f : Option Bounded) → ReadsFile root s t o inventory_name inventory_limit (Ok f) → ReadsTable root s t o (Err fault.Memory)
-  table_memory s t f k = let opens = table_opens s t f k in record { gives = (record { stops = memory_stops root s t [] opens.reads; heads = opens.heads }, inventory_alone root o h.zone k.gives.0.trail (some_of root o s t (inventory_name ∷ []) k.gives.0).opened) }
-
-  pub table_fails : (s t : Store) (why : Fault) → ReadsFile root s t o inventory_name inventory_limit (Err why) → ReadsTable root s t o (Err why)
-  table_fails s t why k = record {
+  pub table_read_from : (s t : Store) (r : Result (Option Table) Fault) → OpensJust root s t o (inventory_name ∷ []) r → IfOk r (λ table. table ≡ table_at root o) → ReadsTable root s t o r
+  table_read_from s t (Ok table) k is =
+      let some = some_of root o s t (inventory_name ∷ []) k in
+      record { gives = (record { reads = some_is_meta root o h.zone (inventory_name ∷ []) refl one_apart s t some; heads = inventory_opened root o h.zone some.trail some.opened }, is, inventory_alone root o h.zone k.trail some.opened) }
+  table_read_from s t (Err why) k is = record {
     gives = (
-      record { stops = stop_is_meta root o h.zone (inventory_name ∷ []) refl one_apart s t why k.gives; heads = inventory_opened root o h.zone k.gives.trail k.gives.opened },
-      inventory_alone root o h.zone k.gives.trail k.gives.opened,
+      record { stops = stop_is_meta root o h.zone (inventory_name ∷ []) refl one_apart s t why k; heads = inventory_opened root o h.zone k.trail k.opened },
+      inventory_alone root o h.zone k.trail k.opened,
     );
   }
 
-  pub table_whole : (s t : Store) (v : Vec ℕ Global) (table : Option Table) (bytes : Text) → ReadsFile root s t o inventory_name inventory_limit (Ok (Some (bounded.Whole v))) → bytes ≡ v.items → table ≡ table_of bytes → ReadsTable root s t o (Ok table)
-  table_whole s t v table bytes k same e = table_reads s t (Some (bounded.Whole v)) table k (e ∙ ap table_of same)
+  pub table_whole : (s t : Store) (v : Vec ℕ Global) (table : Option Table) (bytes : Text) → ReadsFile root s t o inventory_name inventory_limit (Ok (Some (bounded.Whole v))) → bytes ≡ v.items → table ≡ table_of bytes → table ≡ table_at root o
+  table_whole s t v table bytes k same e = e ∙ ap table_of same ∙ sym (table_is_given (Some (bounded.Whole v)) k.gives.1)
 
-  pub table_over : (s t : Store) → ReadsFile root s t o inventory_name inventory_limit (Ok (Some bounded.Over)) → ReadsTable root s t o (Ok None)
-  table_over s t k = table_reads s t (Some bounded.Over) None k refl
+  pub table_over : (s t : Store) → ReadsFile root s t o inventory_name inventory_limit (Ok (Some bounded.Over)) → None ≡ table_at root o
+  table_over s t k = sym (table_is_given (Some bounded.Over) k.gives.1)
 
-  pub table_absent : (s t : Store) → ReadsFile root s t o inventory_name inventory_limit (Ok None) → ReadsTable root s t o (Ok None)
-  table_absent s t k = table_reads s t None None k refl
+  pub table_absent : (s t : Store) → ReadsFile root s t o inventory_name inventory_limit (Ok None) → None ≡ table_at root o
+  table_absent s t k = sym (table_is_given None k.gives.1)
 
 -- ---- one file after the other
 
@@ -186,6 +179,47 @@ names_meta : (v : Version) → list_all (λ n. is_object_meta (n ∷ [])) (head_
 names_meta V1_0 = refl
 names_meta V1_1 = refl
 
+-- the declaration and the inventory alone
+two_distinct : (v : Version) → IsDistinct text_eq (declaration_name level.Object v ∷ inventory_name ∷ [])
+unfolding IsDistinct
+two_distinct V1_0 = ((refl, tt), (tt, tt))
+two_distinct V1_1 = ((refl, tt), (tt, tt))
+
+two_meta : (v : Version) → list_all (λ n. is_object_meta (n ∷ [])) (declaration_name level.Object v ∷ inventory_name ∷ []) ≡ true
+two_meta V1_0 = refl
+two_meta V1_1 = refl
+
+none_apart : AllPairs (λ (n m : Text). n ≢ m) []
+none_apart i j d l k = absurd (omega (arith, l, k))
+
+pub head_files_apart : (root : StorageRoot) (o : Place) (d : Declared) → AllPairs (λ n m. n ≢ m) (head_files root o d)
+head_files_apart root o undeclared = none_apart
+head_files_apart root o (unknown t) = none_apart
+head_files_apart root o several = none_apart
+head_files_apart root o (known v) = by (file_at root (o ++ inventory_name ∷ []))
+  where
+    bounded_by : (b : Bool) → AllPairs (λ n m. n ≢ m) (declaration_name level.Object v ∷ inventory_name ∷ cond b (sidecar_name Sha256 ∷ sidecar_name Sha512 ∷ []) [])
+    bounded_by true = names_apart v
+    bounded_by false = AllPairs-from_IsDistinct text_eq-Decides (declaration_name level.Object v ∷ inventory_name ∷ []) (two_distinct v)
+
+    by : (f : Option Text) → AllPairs (λ n m. n ≢ m) (declaration_name level.Object v ∷ inventory_name ∷ sidecars_for f)
+    by None = bounded_by false
+    by (Some bytes) = bounded_by (nat_le (length bytes) inventory_limit)
+
+pub head_files_meta : (root : StorageRoot) (o : Place) (d : Declared) → list_all (λ n. is_object_meta (n ∷ [])) (head_files root o d) ≡ true
+head_files_meta root o undeclared = refl
+head_files_meta root o (unknown t) = refl
+head_files_meta root o several = refl
+head_files_meta root o (known v) = by (file_at root (o ++ inventory_name ∷ []))
+  where
+    bounded_by : (b : Bool) → list_all (λ n. is_object_meta (n ∷ [])) (declaration_name level.Object v ∷ inventory_name ∷ cond b (sidecar_name Sha256 ∷ sidecar_name Sha512 ∷ []) []) ≡ true
+    bounded_by true = names_meta v
+    bounded_by false = two_meta v
+
+    by : (f : Option Text) → list_all (λ n. is_object_meta (n ∷ [])) (declaration_name level.Object v ∷ inventory_name ∷ sidecars_for f) ≡ true
+    by None = bounded_by false
+    by (Some bytes) = bounded_by (nat_le (length bytes) inventory_limit)
+
 pub declaration_is_meta : (n : Text) (v : Version) → n ≡ declaration_name level.Object v → is_object_meta (n ∷ []) ≡ true
 declaration_is_meta n v e = ap (λ m. is_object_meta (m ∷ [])) e ∙ by v
   where
@@ -200,37 +234,21 @@ pub first_added : (old new : List MadeLine) (p : Place) (ns : List Note) → old
 first_added old new p ns none h = subst (λ x. Adds x new p ns) none h
 
 module _ (root : StorageRoot) (o : Place) (z : zone root o ≡ inside o []) (v : Version) where
-  pub head_stops : (s t : Store) (why : Fault) → FilesStop root s t o (head_names v) why → ReadsHead root s t o (Err why)
-  head_stops s t why h = record { gives = record { stops = stop_is_meta root o z (head_names v) (names_meta v) (names_apart v) s t why h; heads = head_opened root o z v h.trail h.opened } }
-
-  pub head_read : (s t : Store) (lines : Vec MadeLine Global) (table : Option Table) → object_declared root o ≡ known v → ReadsSome root s t o (head_names v) → map line_of lines.items ≡ lines_at o (notes root None o)
-      → table ≡ table_in (file_at root (o ++ inventory_name ∷ [])) → ReadsHead root s t o (Ok (lines, table))
-  head_read s t lines table same h is given = record {
-    gives = (
-      record { reads = some_is_meta root o z (head_names v) (names_meta v) (names_apart v) s t h; heads = head_opened root o z v h.trail h.opened },
-      is,
-      given ∙ sym (ap (λ d. table_in (cond (is_known d) (file_at root (o ++ inventory_name ∷ [])) None)) same),
-    );
-  }
-
   pub known_lines : (a b c : List MadeLine) → object_declared root o ≡ known v → Adds [] a o (on (not (is_exact_declaration root o level.Object v)) (plain E007)) → Adds a b o (inventory_file_notes root o (file_at root (o ++ inventory_name ∷ [])))
       → ((ns : List Note) → Adds [] b o ns → Adds [] c o (or_clean ns)) → map line_of c ≡ lines_at o (notes root None o)
   known_lines a b c is h k clean =
       clean (on (not (is_exact_declaration root o level.Object v)) (plain E007) ++ inventory_file_notes root o (file_at root (o ++ inventory_name ∷ []))) (adds_both [] a b o _ _ h k)
       ∙ ap (lines_at o) (sym (head_notes_are root o z ∙ ap (head_notes_by root o) is))
 
-pub stopped_head : (root : StorageRoot) (o : Place) (es : List Entry) (m : MadeDeclared) (s : Store) (lines : Vec MadeLine Global) → s.tree ≡ root → IsDeclared root o es m → is_known (meaning level.Object es m) ≡ false → Adds [] lines.items o (head_notes_by root o (meaning level.Object es m))
-    → ReadsHead root s s o (Ok (lines, None))
-stopped_head root o es m s lines over h stops k = record {
-  gives = (
-    record { reads = reads_nothing root s over; heads = (o ∷ [], refl) },
-    k ∙ ap (lines_at o) (sym (head_notes_are root o h.zone ∙ ap (head_notes_by root o) (sym h.says))),
-    sym (ap (λ b. table_in (cond b (file_at root (o ++ inventory_name ∷ [])) None)) (ap is_known (sym h.says) ∙ stops)),
-  );
-}
+pub known_table : (root : StorageRoot) (o : Place) (v : Version) (table : Option Table) → object_declared root o ≡ known v → table ≡ table_in (file_at root (o ++ inventory_name ∷ [])) → table ≡ table_at root o
+known_table root o v table same given = given ∙ sym (ap (λ d. table_in (cond (is_known d) (file_at root (o ++ inventory_name ∷ [])) None)) same)
 
-pub stopped_memory : (root : StorageRoot) (o : Place) (s : Store) → s.tree ≡ root → ReadsHead root s s o (Err fault.Memory)
-stopped_memory root o s over = record { gives = record { stops = memory_stops root s s [] (reads_nothing root s over); heads = (o ∷ [], refl) } }
+pub stopped_head : (root : StorageRoot) (o : Place) (es : List Entry) (m : MadeDeclared) (lines : Vec MadeLine Global) → IsDeclared root o es m → is_known (meaning level.Object es m) ≡ false → Adds [] lines.items o (head_notes_by root o (meaning level.Object es m))
+    → IsHeadOf root o (lines, None)
+stopped_head root o es m lines h stops k = (
+  k ∙ ap (lines_at o) (sym (head_notes_are root o h.zone ∙ ap (head_notes_by root o) (sym h.says))),
+  sym (ap (λ b. table_in (cond b (file_at root (o ++ inventory_name ∷ [])) None)) (ap is_known (sym h.says) ∙ stops)),
+)
 
 pub stop_added : (root : StorageRoot) (o : Place) (es : List Entry) (m : MadeDeclared) (old new : List MadeLine) (given : List Entry) → given ≡ es → old ≡ [] → is_known (meaning level.Object es m) ≡ false → PointsAtOne level.Object es m
     → (is_known (meaning level.Object given m) ≡ false → PointsAtOne level.Object given m → Adds old new o (head_notes_by root o (meaning level.Object given m))) → Adds [] new o (head_notes_by root o (meaning level.Object es m))

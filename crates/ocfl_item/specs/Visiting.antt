@@ -1,6 +1,6 @@
 -- What is known of an entry that the walk comes to.
 use Rattle.std.specs.declared.alloc.Global.{Global}
-use Rattle.std.specs.Prelude.{AllPairs, ◌≢◌, ◌≡◌, List, [], Result, MatchResult, Vec, map, true, false, Option, Some, None, option_map}
+use Rattle.std.specs.Prelude.{AllPairs, ◌≢◌, ◌≡◌, List, [], Result, MatchResult, Vec, true, false, Option, Some, None, option_map}
 use Rattle.std.specs.List.{list_all}
 use Rattle.ocfl_tree.specs.Place.{Place, beginnings}
 use Rattle.ocfl_tree.specs.StorageRoot.{StorageRoot, at, is_dir}
@@ -11,14 +11,13 @@ use Rattle.ocfl_audit.specs.Zone.{zone, is_entered, is_listed_zone}
 use Rattle.ocfl_audit.specs.Lines.{notes, named_at}
 use Rattle.ocfl_tree.specs.Store.{Store, Did}
 use Rattle.ocfl_tree.specs.declared.store.Opening.{Opening}
-use Rattle.ocfl_report.specs.Line.{line_of, lines_at}
 use Rattle.ocfl_report.specs.declared.line.Line.{Line as MadeLine}
 use Rattle.ocfl_inventory.specs.Table.{Table}
 use Rattle.ocfl_audit.specs.Head.{on}
 use Rattle.ocfl_audit.specs.Trail.{content_trail, is_head, heads_of, reads_inventory}
 use Rattle.ocfl_item.specs.Auditing.{FailedAt}
-use Rattle.ocfl_audit.specs.Zone.{table_at}
 use Rattle.ocfl_item.specs.Looking.{IsFront, failures_by}
+use Rattle.ocfl_item.specs.Ways.{IsHeadOf}
 use Rattle.ocfl_audit.specs.Lines.{is_hashed}
 use Rattle.ocfl_item.specs.Meeting.{IsVisit}
 use Rattle.ocfl_item.specs.declared.fault.Fault.{Fault}
@@ -65,7 +64,7 @@ pub record ReadOneFails (root : StorageRoot) (s t : Store) (o : Place) (why : Fa
 
 -- the lines of an object's head and its table
 pub record HeadRead (root : StorageRoot) (s t : Store) (o : Place) (r : Result (Vec MadeLine Global × Option Table) Fault) : Type 0 where
-  pub gives : MatchResult r (λ p. ReadsOne root s t o × (map line_of p.0.items ≡ lines_at o (notes root None o)) × (p.1 ≡ table_at root o)) (λ why. ReadOneFails root s t o why)
+  pub gives : MatchResult r (λ p. ReadsOne root s t o × IsHeadOf root o p) (λ why. ReadOneFails root s t o why)
 
 pub record VisitsHead (root : StorageRoot) (s t : Store) (o : Place) (r : Result Visit Fault) : Type 0 where
   pub gives : MatchResult r (λ v. ReadsOne root s t o × IsVisit root o v) (λ why. ReadOneFails root s t o why)

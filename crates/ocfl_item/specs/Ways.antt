@@ -130,9 +130,9 @@ AreInventories root trail = length trail ≡ length (heads_of root trail)
 pub record ReadsTable (root : StorageRoot) (s t : Store) (o : Place) (r : Result (Option Table) Fault) : Type 0 where
   pub gives : MatchResult r (λ table. (opens : Opens root s t o) × (table ≡ table_at root o) × AreInventories root opens.reads.trail) (λ why. (stop : OpensStop root s t o why) × AreInventories root stop.stops.trail)
 
--- the lines of an object's head and its table, with its files read for them
-pub record ReadsHead (root : StorageRoot) (s t : Store) (o : Place) (r : Result (Vec MadeLine Global × Option Table) Fault) : Type 0 where
-  pub gives : MatchResult r (λ p. Opens root s t o × (map line_of p.0.items ≡ lines_at o (notes root None o)) × (p.1 ≡ table_at root o)) (λ why. OpensStop root s t o why)
+-- the lines of an object's head, and its table
+abbrev pub IsHeadOf : StorageRoot → Place → Vec MadeLine Global × Option Table → Type 0
+IsHeadOf root o p = (map line_of p.0.items ≡ lines_at o (notes root None o)) × (p.1 ≡ table_at root o)
 
 -- ---- what declarations say
 

@@ -9,13 +9,12 @@ ghost use Rattle.ocfl_inventory.specs.Declaration.{known};
 ghost use Rattle.ocfl_inventory.specs.Table.{IsFit};
 ghost use Rattle.ocfl_audit.specs.Head.{inventory_file_notes, sidecar_name};
 ghost use Rattle.ocfl_audit.specs.Trail.{is_meta};
-ghost use Rattle.ocfl_audit.specs.Zone.{inside, inventory_name, object_declared, zone};
+ghost use Rattle.ocfl_audit.specs.Zone.{inside, inventory_name, object_declared, table_at, zone};
 ghost use Rattle.ocfl_item.specs.HeadFiles.{FilesStop, IsFileAt, OpensJust, ReadsFile, ReadsFiles};
-ghost use Rattle.ocfl_item.specs.HeadFiles.{ReadsSome, head_files, inventory_files};
-ghost use Rattle.ocfl_item.specs.HeadFiles.{inventory_names, table_in};
+ghost use Rattle.ocfl_item.specs.HeadFiles.{head_files, inventory_files, table_in};
 ghost use Rattle.ocfl_item.specs.Pending.{Adds};
 ghost use Rattle.ocfl_item.specs.Visiting.{HeadRead};
-ghost use Rattle.ocfl_item.specs.Ways.{IsDeclared, IsObject, IsWayFault, ReadsHead, ReadsTable};
+ghost use Rattle.ocfl_item.specs.Ways.{IsDeclared, IsObject, IsHeadOf, IsWayFault};
 ghost use Rattle.ocfl_item.specs.Ways.{is_file_kind};
 
 use crate::declarations::add_stop;
@@ -120,15 +119,11 @@ fn add_inventory_file<T: Tree>(
     ensures told { IsTrue T.told → (root : StorageRoot) → (T.state store.old).tree ≡ root
         → IsListing root folder.now.place folder.now.entries.items
         → zone root folder.now.place ≡ inside folder.now.place []
-        → MatchResult result
-        (λ table. ReadsSome root (T.state store.old)
-        (T.state store.new) folder.now.place inventory_names
-        × (table ≡ table_in (file_at root (folder.now.place ++ inventory_name ∷ [])))
+        → IfOk result
+        (λ table. (table ≡ table_in (file_at root (folder.now.place ++ inventory_name ∷ [])))
         × Adds lines.old.items lines.new.items folder.now.place
         (inventory_file_notes root folder.now.place
-        (file_at root (folder.now.place ++ inventory_name ∷ []))))
-        (λ why. FilesStop root (T.state store.old)
-        (T.state store.new) folder.now.place inventory_names why) }
+        (file_at root (folder.now.place ++ inventory_name ∷ [])))) }
     ensures opened { IsTrue T.told → (root : StorageRoot) → (T.state store.old).tree ≡ root
         → IsListing root folder.now.place folder.now.entries.items
         → zone root folder.now.place ≡ inside folder.now.place []
@@ -163,7 +158,7 @@ fn known_head<T: Tree>(
     ensures told { IsTrue T.told → (root : StorageRoot) → (T.state store.old).tree ≡ root
         → IsObject root folder.now.place folder.now.entries.items
         → object_declared root folder.now.place ≡ known version
-        → ReadsHead root (T.state store.old) (T.state store.new) folder.now.place result }
+        → IfOk result (IsHeadOf root folder.now.place) }
     ensures opened { IsTrue T.told → (root : StorageRoot) → (T.state store.old).tree ≡ root
         → IsObject root folder.now.place folder.now.entries.items
         → OpensJust root (T.state store.old) (T.state store.new) folder.now.place
@@ -191,9 +186,6 @@ pub(crate) fn head_lines<T: Tree>(
     ensures only { IfErr result (λ why. IsWayFault why) }
     ensures fit { IfOk result (λ p. IfSome p.1 (λ t. IsFit t)) }
     ensures told { IsTrue T.told → (root : StorageRoot) → (T.state store.old).tree ≡ root
-        → IsDeclared root folder.now.place folder.now.entries.items declared
-        → ReadsHead root (T.state store.old) (T.state store.new) folder.now.place result }
-    ensures heads { IsTrue T.told → (root : StorageRoot) → (T.state store.old).tree ≡ root
         → IsDeclared root folder.now.place folder.now.entries.items declared
         → HeadRead root (T.state store.old) (T.state store.new) folder.now.place result }
     ensures opened { IsTrue T.told → (root : StorageRoot) → (T.state store.old).tree ≡ root
@@ -226,7 +218,7 @@ pub fn table_of_object<T: Tree>(
     ensures only { IfErr result (λ why. IsWayFault why) }
     ensures told { IsTrue T.told → (root : StorageRoot) → (T.state store.old).tree ≡ root
         → IsObject root folder.now.place folder.now.entries.items
-        → ReadsTable root (T.state store.old) (T.state store.new) folder.now.place result }
+        → IfOk result (λ table. table ≡ table_at root folder.now.place) }
     ensures opened { IsTrue T.told → (root : StorageRoot) → (T.state store.old).tree ≡ root
         → IsObject root folder.now.place folder.now.entries.items
         → OpensJust root (T.state store.old) (T.state store.new) folder.now.place

@@ -1,59 +1,26 @@
 use Rattle.std.proofs.Common.{refl}
 use Rattle.std.proofs.lemmas.Result.{err_from_is_err_and}
-use Rattle.ocfl_item.proofs.HeadCalls.{first_stops, later_stops, first_memory, all_memory, first_some, all_some, over_file, no_inventory_lines, long_inventory_lines, inventory_lines, no_inventory_table, long_inventory_table, inventory_table}
+use Rattle.ocfl_item.proofs.HeadCalls.{first_stops, first_memory, over_file, no_inventory_lines, long_inventory_lines, inventory_lines, no_inventory_table, long_inventory_table, inventory_table}
 use Rattle.ocfl_item.proofs.FileLaws.{file_is_meta}
 use Rattle.ocfl_item.proofs.HeadOpens.{inventory_alone, sidecars_memory, sidecars_none, sidecars_over, sidecars_stop, sidecars_within, with_sidecars}
 use Rattle.ocfl_item.proofs.object.add_inventory_file.Goals as goal
 
-pub returns-in_err-read_file-clause-told : goal.returns-in_err-read_file-clause-told
-returns-in_err-read_file-clause-told g c = λ h root over listing z.
-    let p = err_from_is_err_and c.from_residual.result c.from_residual.ensures.1 in
-    rw (p.1, p.2) (first_stops root _ _ _ _ _ _ _ (c.in_err-read_file.ensures.told h root over listing (file_is_meta root _ _ z refl)))
-
-pub returns-in_err-add_plain-in-None-clause-told :
-    goal.returns-in_err-add_plain-in-None-clause-told
-returns-in_err-add_plain-in-None-clause-told g c = λ h root over listing z.
-    let p = err_from_is_err_and c.from_residual-in_err-add_plain-in-None.result c.from_residual-in_err-add_plain-in-None.ensures.1 in
-    rw (p.1, p.2) (first_memory root _ _ _ _ _ _ _ (c.in_ok-read_file.ensures.told h root over listing (file_is_meta root _ _ z refl)))
-
-pub returns-in_err-add_plain-in-Some-Over-clause-told :
-    goal.returns-in_err-add_plain-in-Some-Over-clause-told
-returns-in_err-add_plain-in-Some-Over-clause-told g c = λ h root over listing z.
-    let p = err_from_is_err_and c.from_residual-in_err-add_plain-in-Some-Over.result c.from_residual-in_err-add_plain-in-Some-Over.ensures.1 in
-    rw (p.1, p.2) (first_memory root _ _ _ _ _ _ _ (c.in_ok-read_file.ensures.told h root over listing (file_is_meta root _ _ z refl)))
-
-pub returns-in_err-sidecars-in-Some-Whole-clause-told :
-    goal.returns-in_err-sidecars-in-Some-Whole-clause-told
-returns-in_err-sidecars-in-Some-Whole-clause-told g c = λ h root over listing z.
-    let p = err_from_is_err_and c.from_residual-in_err-sidecars-in-Some-Whole.result c.from_residual-in_err-sidecars-in-Some-Whole.ensures.1 in
-    let read = c.in_ok-read_file.ensures.told h root over listing (file_is_meta root _ _ z refl) in
-    rw (p.1, p.2) (later_stops root _ _ _ _ _ _ _ _ _ read (c.in_err-sidecars-in-Some-Whole.ensures.told h root (over_file root _ _ _ _ _ _ read) listing z))
-
-pub returns-in_err-add_inventory-in-Some-Whole-clause-told :
-    goal.returns-in_err-add_inventory-in-Some-Whole-clause-told
-returns-in_err-add_inventory-in-Some-Whole-clause-told g c = λ h root over listing z.
-    let p = err_from_is_err_and c.from_residual-in_err-add_inventory-in-Some-Whole.result c.from_residual-in_err-add_inventory-in-Some-Whole.ensures.1 in
-    let read = c.in_ok-read_file.ensures.told h root over listing (file_is_meta root _ _ z refl) in
-    let sides = c.in_ok-sidecars-in-Some-Whole.ensures.told h root (over_file root _ _ _ _ _ _ read) listing z in
-    rw (p.1, p.2) (all_memory root _ _ _ _ _ _ _ _ read sides.0)
-
 pub returns-in_ok-add_plain-in-None-clause-told : goal.returns-in_ok-add_plain-in-None-clause-told
 returns-in_ok-add_plain-in-None-clause-told g c = λ h root over listing z.
     let read = rw c.in-None.is at c.in_ok-read_file.ensures.told h root over listing (file_is_meta root _ _ z refl) in
-    (first_some root _ _ _ _ _ _ _ read, no_inventory_table root _ read.gives.1, no_inventory_lines root _ _ _ read.gives.1 c.in_ok-add_plain-in-None.ensures)
+    (no_inventory_table root _ read.gives.1, no_inventory_lines root _ _ _ read.gives.1 c.in_ok-add_plain-in-None.ensures)
 
 pub returns-in_ok-add_plain-in-Some-Over-clause-told :
     goal.returns-in_ok-add_plain-in-Some-Over-clause-told
 returns-in_ok-add_plain-in-Some-Over-clause-told g c = λ h root over listing z.
     let read = rw (c.in-Some-Over.is, c.in-Some-Over.field-0-is) at c.in_ok-read_file.ensures.told h root over listing (file_is_meta root _ _ z refl) in
-    (first_some root _ _ _ _ _ _ _ read, long_inventory_table root _ read.gives.1, long_inventory_lines root _ _ _ read.gives.1 c.in_ok-add_plain-in-Some-Over.ensures)
+    (long_inventory_table root _ read.gives.1, long_inventory_lines root _ _ _ read.gives.1 c.in_ok-add_plain-in-Some-Over.ensures)
 
 pub returns-in_ok-add_inventory-in-Some-Whole-clause-told :
     goal.returns-in_ok-add_inventory-in-Some-Whole-clause-told
 returns-in_ok-add_inventory-in-Some-Whole-clause-told g c = λ h root over listing z.
     let read = rw (c.in-Some-Whole.is, c.in-Some-Whole.field-0-is) at c.in_ok-read_file.ensures.told h root over listing (file_is_meta root _ _ z refl) in
     let sides = c.in_ok-sidecars-in-Some-Whole.ensures.told h root (over_file root _ _ _ _ _ _ read) listing z in (
-      all_some root _ _ _ _ _ _ _ _ read sides.0,
       inventory_table root _ c.in-Some-Whole.bytes _ _ read.gives.1 c.deref.ensures.value c.in_ok-add_inventory-in-Some-Whole.ensures.table,
       inventory_lines root _ _ _ c.in-Some-Whole.bytes _ read.gives.1 c.deref.ensures.value (c.in_ok-add_inventory-in-Some-Whole.ensures.lines root sides.1 sides.2),
     )

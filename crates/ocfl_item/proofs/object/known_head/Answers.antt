@@ -1,42 +1,17 @@
 use Rattle.std.proofs.lemmas.Result.{err_from_is_err_and}
-use Rattle.ocfl_item.proofs.HeadCalls.{all_memory, head_declaration, declaration_is_meta, head_stops, head_read, known_lines, first_stops, first_memory, over_file, later_stops, later_some, later_memory, first_added}
+use Rattle.ocfl_item.proofs.HeadCalls.{all_memory, declaration_is_meta, first_added, first_memory, first_stops, head_declaration, known_lines, known_table, later_stops, over_file}
 use Rattle.ocfl_item.proofs.FileLaws.{file_is_meta}
 use Rattle.ocfl_item.proofs.HeadOpens.{then_all}
 use Rattle.ocfl_item.proofs.object.known_head.Goals as goal
-
-pub returns-in_err-declaration-clause-told : goal.returns-in_err-declaration-clause-told
-returns-in_err-declaration-clause-told g c = λ h root over here known.
-    let p = err_from_is_err_and c.from_residual.result c.from_residual.ensures.1 in
-    let read = c.in_err-declaration.ensures.told h root over here.listing (file_is_meta root _ _ here.zone (declaration_is_meta _ _ c.declaration_name-name.ensures)) in
-    rw (p.1, p.2) (head_stops root _ here.zone c.args.version _ _ _ (first_stops root _ _ _ _ _ _ _ (head_declaration root _ _ _ _ _ _ _ c.declaration_name-name.ensures read)))
-
-pub returns-in_err-add_declaration-clause-told : goal.returns-in_err-add_declaration-clause-told
-returns-in_err-add_declaration-clause-told g c = λ h root over here known.
-    let p = err_from_is_err_and c.from_residual-in_err-add_declaration.result c.from_residual-in_err-add_declaration.ensures.1 in
-    let read = c.in_ok-declaration.ensures.told h root over here.listing (file_is_meta root _ _ here.zone (declaration_is_meta _ _ c.declaration_name-name.ensures)) in
-    rw (p.1, p.2) (head_stops root _ here.zone c.args.version _ _ _ (first_memory root _ _ _ _ _ _ _ (head_declaration root _ _ _ _ _ _ _ c.declaration_name-name.ensures read)))
-
-pub returns-in_err-table-clause-told :
-    goal.returns-in_err-table-clause-told
-returns-in_err-table-clause-told g c = λ h root over here known.
-    let p = err_from_is_err_and c.from_residual-in_err-table.result c.from_residual-in_err-table.ensures.1 in
-    let read = head_declaration root _ _ _ _ _ _ _ c.declaration_name-name.ensures (c.in_ok-declaration.ensures.told h root over here.listing (file_is_meta root _ _ here.zone (declaration_is_meta _ _ c.declaration_name-name.ensures))) in
-    rw (p.1, p.2) (head_stops root _ here.zone c.args.version _ _ _ (later_stops root _ _ _ _ _ _ _ _ _ read (c.in_err-table.ensures.told h root (over_file root _ _ _ _ _ _ read) here.listing here.zone)))
-
-pub returns-in_err-add_clean-clause-told : goal.returns-in_err-add_clean-clause-told
-returns-in_err-add_clean-clause-told g c = λ h root over here known.
-    let p = err_from_is_err_and c.from_residual-in_err-add_clean.result c.from_residual-in_err-add_clean.ensures.1 in
-    let read = head_declaration root _ _ _ _ _ _ _ c.declaration_name-name.ensures (c.in_ok-declaration.ensures.told h root over here.listing (file_is_meta root _ _ here.zone (declaration_is_meta _ _ c.declaration_name-name.ensures))) in
-    let more = c.in_ok-table.ensures.told h root (over_file root _ _ _ _ _ _ read) here.listing here.zone in
-    rw (p.1, p.2) (head_stops root _ here.zone c.args.version _ _ _ (later_memory root _ _ _ _ _ _ _ _ read more.0))
 
 pub returns-clause-told : goal.returns-clause-told
 returns-clause-told g c = λ h root over here known.
     let read = head_declaration root _ _ _ _ _ _ _ c.declaration_name-name.ensures (c.in_ok-declaration.ensures.told h root over here.listing (file_is_meta root _ _ here.zone (declaration_is_meta _ _ c.declaration_name-name.ensures))) in
     let more = c.in_ok-table.ensures.told h root (over_file root _ _ _ _ _ _ read) here.listing here.zone in
-    head_read root _ here.zone c.args.version _ _ _ _ known (later_some root _ _ _ _ _ _ _ _ read more.0)
-    (known_lines root _ here.zone c.args.version _ _ _ known (first_added c.new-lines.result.items _ _ _ c.new-lines.ensures.items (c.in_ok-add_declaration.ensures root read.gives.1)) more.2 c.in_ok-add_clean.ensures)
-    more.1
+    (
+      known_lines root _ here.zone c.args.version _ _ _ known (first_added c.new-lines.result.items _ _ _ c.new-lines.ensures.items (c.in_ok-add_declaration.ensures root read.gives.1)) more.1 c.in_ok-add_clean.ensures,
+      known_table root _ c.args.version _ known more.0,
+    )
 
 pub returns-in_err-declaration-clause-opened : goal.returns-in_err-declaration-clause-opened
 returns-in_err-declaration-clause-opened g c = λ h root over here.

@@ -1,20 +1,9 @@
 use Rattle.std.proofs.Common.{refl}
 use Rattle.std.proofs.lemmas.Result.{err_from_is_err_and}
-use Rattle.ocfl_item.proofs.HeadCalls.{table_memory, table_fails, table_whole, table_over, table_absent}
+use Rattle.ocfl_item.proofs.HeadCalls.{table_absent, table_over, table_whole}
 use Rattle.ocfl_item.proofs.FileLaws.{file_is_meta}
 use Rattle.ocfl_item.proofs.HeadOpens.{one_memory}
 use Rattle.ocfl_item.proofs.object.table_of_object.Goals as goal
-
-pub returns-in_err-bytes-clause-told : goal.returns-in_err-bytes-clause-told
-returns-in_err-bytes-clause-told g c = λ h root over here.
-    let p = err_from_is_err_and c.from_residual.result c.from_residual.ensures.1 in
-    rw (p.1, p.2) (table_fails root _ _ here _ _ _ (c.in_err-bytes.ensures.told h root over here.listing (file_is_meta root _ _ here.zone refl)))
-
-pub returns-in_err-read_alone-in-Some-Whole-clause-told :
-    goal.returns-in_err-read_alone-in-Some-Whole-clause-told
-returns-in_err-read_alone-in-Some-Whole-clause-told g c = λ h root over here.
-    let p = err_from_is_err_and c.from_residual-in_err-read_alone-in-Some-Whole.result c.from_residual-in_err-read_alone-in-Some-Whole.ensures.1 in
-    rw (p.1, p.2) (table_memory root _ _ here _ _ _ (c.in_ok-bytes.ensures.told h root over here.listing (file_is_meta root _ _ here.zone refl)))
 
 pub returns-in_ok-read_alone-in-Some-Whole-clause-told :
     goal.returns-in_ok-read_alone-in-Some-Whole-clause-told

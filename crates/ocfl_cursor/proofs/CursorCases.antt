@@ -163,42 +163,19 @@ whole = codes "ocfl-scrub cursor 1\ncycle 3\nruns 2\nspent 9\nafter o/v1/content
 abbrev cut_to : ℕ → Refusal
 cut_to n = refusal (take n whole)
 
-cut_within_the_front : map cut_to (upward 0 18) ≡ replicate 18 not_cursor
+-- within the first line, in front of the version, and anywhere behind it
+cut_anywhere : map cut_to (upward 0 136) ≡ replicate 18 not_cursor ++ version ∷ replicate 117 damaged
 unfolding cursor_on_literals
-cut_within_the_front = refl
-
-cut_before_the_version : cut_to 18 ≡ version
-unfolding cursor_on_literals
-cut_before_the_version = refl
-
-cut_within_the_body : map cut_to (upward 19 45) ≡ replicate 45 damaged
-unfolding cursor_on_literals
-cut_within_the_body = refl
-
-cut_within_the_last_line : map cut_to (upward 64 72) ≡ replicate 72 damaged
-unfolding cursor_on_literals
-cut_within_the_last_line = refl
+cut_anywhere = refl
 
 -- the byte at n made another
 abbrev changed_at : ℕ → Refusal
 changed_at n = refusal (take n whole ++ 33 ∷ drop (n + 1) whole)
 
-changed_in_the_front : map changed_at (upward 0 18) ≡ replicate 18 not_cursor
+-- in the first line, in the version or the line feed behind it, and anywhere else
+changed_anywhere : map changed_at (upward 0 136) ≡ replicate 18 not_cursor ++ version ∷ version ∷ replicate 116 damaged
 unfolding cursor_on_literals
-changed_in_the_front = refl
-
--- the version, and the line feed behind it
-changed_in_the_version : map changed_at (18 ∷ 19 ∷ []) ≡ version ∷ version ∷ []
-unfolding cursor_on_literals
-changed_in_the_version = refl
-
-changed_in_the_body : map changed_at (upward 20 44) ≡ replicate 44 damaged
-unfolding cursor_on_literals
-changed_in_the_body = refl
-
-changed_in_the_last_line : map changed_at (upward 64 72) ≡ replicate 72 damaged
-unfolding cursor_on_literals
-changed_in_the_last_line = refl
+changed_anywhere = refl
 
 byte_behind_the_text : refusal (whole ++ 10 ∷ []) ≡ damaged
 unfolding cursor_on_literals

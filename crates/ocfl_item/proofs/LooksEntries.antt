@@ -73,18 +73,6 @@ kind_file (Some other) h = absurd (no h)
     no : Some File ≡ Some Other → ⊥
     no e = cc
 
-kind_other : (leaf : Option Leaf) → Some Other ≡ option_map kind_of leaf → leaf ≡ Some other
-kind_other None h = absurd (some_not_none Other (sym h))
-kind_other (Some (file bytes)) h = absurd (no h)
-  where
-    no : Some Other ≡ Some File → ⊥
-    no e = cc
-kind_other (Some dir) h = absurd (no h)
-  where
-    no : Some Other ≡ Some Dir → ⊥
-    no e = cc
-kind_other (Some other) h = refl
-
 -- ---- what lies at a name of a listed directory
 
 module _ (root : StorageRoot) (d : Place) (n : Text) (es : List Entry) (h : IsListing root d es) where

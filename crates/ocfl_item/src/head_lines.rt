@@ -226,11 +226,7 @@ fn add_missing_sidecar(
 }
 
 /// Appends the lines of what is remarked of a place.
-fn add_remarks(
-    lines: &mut Vec<Line>,
-    place: &Place,
-    remarks: Vec<Remark>,
-) -> Result<(), AllocError>
+fn add_remarks(lines: &mut Vec<Line>, place: &Place, remarks: Vec<Remark>) -> Result<(), AllocError>
     ensures { OnOk result (Adds lines.old.items lines.new.items place.now
         (map remark_view remarks.items)) }
 {

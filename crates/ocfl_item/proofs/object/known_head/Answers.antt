@@ -7,8 +7,7 @@ use Rattle.ocfl_item.proofs.object.known_head.Goals as goal
 pub returns-clause-told : goal.returns-clause-told
 returns-clause-told g c = λ h root over here known.
     let read = head_declaration root _ _ _ _ _ _ _ c.declaration_name-name.ensures (c.in_ok-declaration.ensures.told h root over here.listing (file_is_meta root _ _ here.zone (declaration_is_meta _ _ c.declaration_name-name.ensures))) in
-    let more = c.in_ok-table.ensures.told h root (over_file root _ _ _ _ _ _ read) here.listing here.zone in
-    (
+    let more = c.in_ok-table.ensures.told h root (over_file root _ _ _ _ _ _ read) here.listing here.zone in (
       known_lines root _ here.zone c.args.version _ _ _ known (first_added c.new-lines.result.items _ _ _ c.new-lines.ensures.items (c.in_ok-add_declaration.ensures root read.gives.1)) more.1 c.in_ok-add_clean.ensures,
       known_table root _ c.args.version _ known more.0,
     )

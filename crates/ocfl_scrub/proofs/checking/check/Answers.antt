@@ -19,8 +19,8 @@ returns-in-Ok-clause-told g c told root e short =
     let takes = c.in-Ok.ensures.told told root (audits_over went.0.audits) short there.1 in
     check_took root _ _ _ _ _ c.args.place.now c.in-Ok-Some.pending.place _ _ there.2 went.0 there.0 takes
 
-pub returns-clause-told : goal.returns-clause-told
-returns-clause-told g c told root e short =
+pub returns-in-Err-take_item-clause-told : goal.returns-in-Err-take_item-clause-told
+returns-in-Err-take_item-clause-told g c told root e short =
     let went = c.in-Ok-Some.ensures.told told root e in
     let there = place_there root c.args.place.now _ _ c.in-Ok-Some.field-0-is went.1 in
     let misses = c.in-Err-take_item.ensures.told told root (audits_over went.0.audits) short there.1 in

@@ -83,7 +83,8 @@ pub fn items_go_on()
 /// Above each place at which something lies, a directory lies.
 #[tactic(auto, using(crate::proofs::WayLaws::is_closed))]
 pub fn directories_lie_above()
-    ensures { (root : StorageRoot) (d : Place) (n : Text) (leaf : Leaf) → at root (d ++ n ∷ []) ≡ Some leaf
+    ensures { (root : StorageRoot) (d : Place) (n : Text) (leaf : Leaf)
+        → at root (d ++ n ∷ []) ≡ Some leaf
         → at root d ≡ Some dir }
 {}
 
@@ -120,14 +121,16 @@ pub fn walk_gives_the_audit()
 
 /// A step of a walk over a stack of listings and one table.
 pub fn walk_goes_on()
-    ensures takes { (root : StorageRoot) (unread : Unread) (last x : Place) → place_cmp last x ≡ Less
+    ensures takes { (root : StorageRoot) (unread : Unread) (last x : Place)
+        → place_cmp last x ≡ Less
         → NoneSeenBetween root last x → NoPathBetween root last x
         → after (audit root unread) (Some last)
         ≡ item_at root unread x ++ after (audit root unread) (Some x) }
     ensures ends { (root : StorageRoot) (unread : Unread) (last : Place) → NoneSeenAbove root last
         → NoPathAbove root last → after (audit root unread) (Some last) ≡ [] }
     ensures starts { (root : StorageRoot) (q : Place) → IsStack root q (listed_at root [] q []) }
-    ensures way { (root : StorageRoot) (q e : Place) → IsAmong (map (λ f. f.0) (listed_at root [] q [])) e
+    ensures way { (root : StorageRoot) (q e : Place)
+        → IsAmong (map (λ f. f.0) (listed_at root [] q [])) e
         → begins e q ≡ true }
 {}
 
@@ -167,7 +170,8 @@ pub fn content_is_no_meta()
 /// Each path that an object's table names has lines.
 #[tactic(auto, using(crate::proofs::PathLaws::path_lines))]
 pub fn named_paths_have_lines()
-    ensures { (root : StorageRoot) (u : Option ℕ) (p o q : Place) (t : Table) → zone root p ≡ inside o q
+    ensures { (root : StorageRoot) (u : Option ℕ) (p o q : Place) (t : Table)
+        → zone root p ≡ inside o q
         → table_at root o ≡ Some t → IsAmong (paths_of t) q → notes root u p ≢ [] }
 {}
 
@@ -210,7 +214,8 @@ pub fn ways_are_parts()
     ensures read { (root : StorageRoot) (from to : Option Place) (o : Place)
         → IsAmong (read_between root from to) o
         ↔ (IsBeyond from o × (IsWithin to o × HasInventory root o)) }
-    ensures read_in_order { (root : StorageRoot) → IsAscending place_cmp (read_between root None None) }
+    ensures read_in_order { (root : StorageRoot)
+        → IsAscending place_cmp (read_between root None None) }
     ensures looked { (root : StorageRoot) (from to : Option Place) (d : Place)
         → IsAmong (looked_between root from to) d
         ↔ (IsBeyond from d × (IsWithin to d × (is_looked_into root d ≡ true))) }
@@ -240,7 +245,8 @@ pub fn other_inventories_are_not_read()
     ensures inside_an_object { (root : StorageRoot) (o : Place) (n : Text) (q : Place) → o ≢ []
         → is_declared (object_declared root o) ≡ true
         → IsAmong (inventories root) ((o ++ n ∷ q) ++ inventory_name ∷ []) → ⊥ }
-    ensures in_an_unknown_root { (root : StorageRoot) (p : Place) → is_known (root_declared root) ≡ false
+    ensures in_an_unknown_root { (root : StorageRoot) (p : Place)
+        → is_known (root_declared root) ≡ false
         → IsAmong (inventories root) p → ⊥ }
 {}
 

@@ -73,7 +73,8 @@ pub(crate) fn content_item(
     sight: Sight,
 ) -> Result<Option<Pending>, AllocError>
     ensures place { IfOk result (λ item. IfSome item (λ pending. pending.place ≡ place.now)) }
-    ensures told { (root : StorageRoot) (t : Table) (q : Spot) → content_at root place.now ≡ Some (t, q)
+    ensures told { (root : StorageRoot) (t : Table) (q : Spot)
+        → content_at root place.now ≡ Some (t, q)
         → map named_view named.items ≡ digests_of t q → IsSight root place.now sight
         → IfOk result (λ item. MatchOption item (notes root None place.now ≡ [])
         (λ pending. IsPending root pending × (pending.place ≡ place.now))) }

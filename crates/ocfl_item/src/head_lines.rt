@@ -124,7 +124,8 @@ fn add_sidecar(
     algorithm: Algorithm,
     file: &Option<Bounded>,
 ) -> Result<(), AllocError>
-    ensures { (root : StorageRoot) → IsFileAt root (place.now ++ sidecar_name algorithm ∷ []) 4096 file.now
+    ensures { (root : StorageRoot)
+        → IsFileAt root (place.now ++ sidecar_name algorithm ∷ []) 4096 file.now
         → OnOk result (Adds lines.old.items lines.new.items place.now
         (sidecar_notes algorithm inventory.now (sidecar_at root place.now algorithm))) }
 {

@@ -10,7 +10,8 @@ ghost use Rattle.ocfl_audit.specs.Lines.{is_hashed};
 /// The hashed places among the audit's are all that there are, in order, each once.
 #[tactic(auto, using(crate::proofs::OrderLaws::hashed_ascend, crate::proofs::OrderLaws::hashed_all))]
 pub fn hashed_places_are_those_of_the_audit()
-    ensures ascends { (root : StorageRoot) → IsAscending place_cmp (hashed_among root (item_places root)) }
+    ensures ascends { (root : StorageRoot)
+        → IsAscending place_cmp (hashed_among root (item_places root)) }
     ensures all { (root : StorageRoot) (p : Place) → (is_hashed root p ≡ true)
         ↔ IsAmong (hashed_among root (item_places root)) p }
 {}

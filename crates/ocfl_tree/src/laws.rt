@@ -48,6 +48,7 @@ pub fn reads_are_one_opening()
 /// A listing that has each name once is the entries of the directory, in some order.
 #[tactic(auto, using(crate::proofs::Listings::listing_permutes))]
 pub fn listing_is_complete()
-    ensures { (root : StorageRoot) (d : Spot) (es : List Entry) → IsOrdinary es → IsListing root d es
+    ensures { (root : StorageRoot) (d : Spot) (es : List Entry) → IsOrdinary es
+        → IsListing root d es
         → IsPermutation es (entries_in root d) }
 {}

@@ -103,7 +103,8 @@ fn down_in_hierarchy<T: Tree>(
 /// Whether a name leads from a directory of an object to another that is listed.
 fn leads_on(object: &Around, folder: &Folder, name: &Name) -> bool
     requires { length object.now.place ≤ length folder.now.place }
-    ensures told { (root : StorageRoot) → IsAt root folder.now.place folder.now.entries.items → (s : Spot)
+    ensures told { (root : StorageRoot) → IsAt root folder.now.place folder.now.entries.items
+        → (s : Spot)
         → zone root folder.now.place ≡ inside object.now.place s
         → table_at root object.now.place ≡ Some object.now.table
         → result ≡ step_listed object.now.table s name.now }

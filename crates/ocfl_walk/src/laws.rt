@@ -13,7 +13,8 @@ pub fn walks_add_up()
     ensures on { (root : StorageRoot) (s t u : Store) (from to : Option Place) (b : Place)
         → IsBeyond from b → IsWithin to b → Walks root s t from (Some b)
         → Walks root t u (Some b) to → Walks root s u from to }
-    ensures fail { (root : StorageRoot) (s t u : Store) (from : Option Place) (b : Place) (why : Fault)
+    ensures fail { (root : StorageRoot) (s t u : Store) (from : Option Place) (b : Place)
+        (why : Fault)
         → IsBeyond from b → Walks root s t from (Some b) → WalkFails root t u (Some b) why
         → WalkFails root s u from why }
 {}

@@ -29,14 +29,13 @@ use Rattle.ocfl_audit.specs.Head.{on, or_clean, is_exact_declaration, sidecar_na
 use Rattle.ocfl_audit.specs.Lines.{notes, notes_in}
 use Rattle.ocfl_audit.specs.Trail.{is_object_meta}
 use Rattle.ocfl_item.specs.Pending.{Adds}
-use Rattle.ocfl_item.specs.Ways.{Opens, ReadsTable, IsObject, IsDeclared, IsHeadOf}
+use Rattle.ocfl_item.specs.Ways.{ReadsTable, IsObject, IsDeclared, IsHeadOf}
 use Rattle.ocfl_item.specs.HeadFiles.{IsFileAt, OpensJust, ReadsFiles, FilesStop, ReadsFile, ReadsSome, head_files, head_names, sidecars_for, table_in}
 use Rattle.ocfl_item.specs.declared.fault.Fault.{Fault}
 use Rattle.ocfl_item.specs.declared.fault.Fault.TheVariants as fault
-use Rattle.ocfl_item.proofs.HeadTrails.{head_opened, inventory_alone, inventory_opened}
+use Rattle.ocfl_item.proofs.HeadTrails.{inventory_alone, inventory_opened}
 use Rattle.ocfl_audit.proofs.PathLaws.{notes_at}
 use Rattle.ocfl_item.proofs.WrongLaws.{adds_both}
-use Rattle.ocfl_item.proofs.LooksCalls.{reads_nothing, memory_stops}
 use Rattle.ocfl_item.proofs.FileLaws.{files_then, some_then, some_of, some_more, stop_more, stop_then, memory_after, some_is_meta, stop_is_meta}
 
 -- ---- the table

@@ -12,7 +12,7 @@ use Rattle.ocfl_tree.specs.declared.store.Entry.{Entry}
 use Rattle.ocfl_tree.specs.declared.store.Kind.{Kind}
 use Rattle.ocfl_tree.specs.declared.store.Kind.TheVariants.{File, Dir, Other}
 use Rattle.ocfl_tree.proofs.Orders.{true_not_false}
-use Rattle.ocfl_report.specs.Line.{Note, Line, note, line_of, lines_at}
+use Rattle.ocfl_report.specs.Line.{Note, note, line_of}
 use Rattle.ocfl_report.specs.declared.code.Code.TheVariants.{S01}
 use Rattle.ocfl_report.specs.declared.line.Line.{Line as MadeLine}
 use Rattle.ocfl_digest.specs.Bounded.{IsBoundedTo}

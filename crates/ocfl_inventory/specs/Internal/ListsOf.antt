@@ -1,5 +1,5 @@
 -- What an inventory lists.
-use Rattle.std.specs.Prelude.{◌≡◌, List, ◌++◌, false, true, map, flat_map, string_bytes}
+use Rattle.std.specs.Prelude.{◌≡◌, List, ◌++◌, map, flat_map, string_bytes}
 use Rattle.ocfl_tree.specs.Place.{Text}
 use Rattle.ocfl_tree.specs.Path.{slashed}
 use Rattle.ocfl_report.specs.Line.{Note, note}

@@ -1,12 +1,10 @@
-use Rattle.std.proofs.Common.{◌≢◌, ap, arith, map, refl, rules, sym, ◌∙◌}
+use Rattle.std.proofs.Common.{◌≢◌, arith, refl, rules, sym, ◌∙◌}
 use Rattle.std.proofs.lemmas.Result.{err_from_is_err_and}
 use denote.Enum.Bare.{same_true}
 use Rattle.ocfl_digest.specs.contracts.stop.Cause as cause
 use Rattle.ocfl_digest.specs.declared.stop.Cause.TheVariants.{Memory}
-use Rattle.ocfl_report.specs.Line.{line_of}
 use Rattle.ocfl_tree.proofs.Orders.{true_not_false}
-use Rattle.ocfl_item.proofs.AuditingLaws.{did_nothing}
-use Rattle.ocfl_item.proofs.JudgeLaws.{failed_part, failed_whole, judged_known, judged_part, judged_whole, nothing_judged, refused}
+use Rattle.ocfl_item.proofs.JudgeLaws.{failed_part, failed_whole, judged_known, judged_part, judged_whole, refused}
 use Rattle.ocfl_item.proofs.judging.judge.Goals as goal
 
 pub returns-then-not-pending-clause-told : goal.returns-then-not-pending-clause-told

@@ -16,21 +16,26 @@ from common import end, is_so, note, ran, start
 # More than the program reads from one showing to the next.
 LARGE = 300 << 20
 FILES = {"v1/content/a": b"abc", "v1/content/z": b""}
+# An object whose name has a tab, and is longer than what is shown of a place.
+OBJECT = "n" * 70 + "\to"
+LARGE_PLACE = "n" * 70 + "%09o/v1/content/large"
+SHOWN = LARGE_PLACE[-40:]
 SUMMARY = "cycle 1, run 1, cost %d, ended" % (LARGE + 1 + 4 + 1)
 
 
 def make(folder):
-    """A root with a large file between two small ones, and a folder whose name has a tab."""
+    """A root with a large file between two small ones."""
     root = os.path.join(folder, "root")
     common.make_root(root, {})
-    large = os.path.join(root, "o/v1/content/large")
+    folder = os.path.join(root, OBJECT)
+    large = os.path.join(folder, "v1/content/large")
     os.makedirs(os.path.dirname(large))
     with open(large, "wb") as file:
         file.truncate(LARGE)
     with open(large, "rb") as file:
-        common.make_object(os.path.join(root, "o"), FILES, listed={})
+        common.make_object(folder, FILES, listed={})
         listed = {**FILES, "v1/content/large": file.read()}
-    common.make_object(os.path.join(root, "o"), FILES, listed=listed)
+    common.make_object(folder, FILES, listed=listed)
     return root
 
 
@@ -76,7 +81,8 @@ def on_standard_error(folder, root, report):
         terminal = Terminal()
         status, out, _ = terminal.ran(words, stderr=True)
         is_so(words[0] + ": the report", (status, out), (0, report))
-        shows = re.search(rb"\r\d+ files, 2\d\d MiB, at o/v1/content/large ", terminal.sent)
+        # Three files of the object, one of the root, and two of content were opened by then.
+        shows = re.search(r"\r6 files, 255 MiB, at %s +\r" % SHOWN, terminal.sent.decode())
         is_so(words[0] + ": progress is shown", shows is not None, True)
         is_so(words[0] + ": what is left on the terminal", terminal.text(), said)
         widest = max(len(part) for part in terminal.sent.decode().split("\r"))
@@ -88,9 +94,9 @@ def quietly(folder, root, report):
     is_so("quiet: the report", terminal.ran(["audit", "--quiet", root], stderr=True)[:2], (0, report))
     is_so("quiet: nothing is shown", terminal.sent, b"")
     terminal = Terminal()
-    place = "o/v1/content/large"
-    checked = common.line("ok", place, LARGE)
-    is_so("check: the line", terminal.ran(["check", root, place], stderr=True)[:2], (0, checked))
+    checked = common.line("ok", LARGE_PLACE, LARGE)
+    status, out, _ = terminal.ran(["check", root, LARGE_PLACE], stderr=True)
+    is_so("check: the line", (status, out), (0, checked))
     is_so("check: nothing is shown", terminal.sent, b"")
     is_so("no terminal", ran(["audit", root]), (0, report, ""))
     with open(os.devnull, "wb") as null:

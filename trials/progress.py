@@ -101,6 +101,10 @@ def quietly(folder, root, report):
     is_so("no terminal", ran(["audit", root]), (0, report, ""))
     with open(os.devnull, "wb") as null:
         is_so("no terminal, but a device", ran(["audit", root], stderr=null)[:2], (0, report))
+    said = os.path.join(folder, "said")
+    with open(said, "wb") as file:
+        is_so("no terminal, but a file", ran(["audit", root], stderr=file)[:2], (0, report))
+    is_so("no terminal, but a file: nothing is shown", common.read(said), b"")
     process = start(["audit", root], stderr=subprocess.STDOUT)
     is_so("one pipe for both", end(process)[:2], (0, report))
 

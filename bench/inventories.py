@@ -1,7 +1,7 @@
 #!/usr/bin/env python3
 """Times `Table::read` beside reading the same JSON alone, over inventories that it makes.
 
-    bench/inventories.py [PAIRS]
+    bench/inventories.py [PAIRS [CHECKOUT]]
 
 Makes a copy of the crates with one program over them (`inventory_bench.txt`) in a new folder,
 proves and builds it (a few minutes where no earlier check is kept in `out/`), and prints a table.
@@ -9,7 +9,8 @@ A pair is one run that reads the JSON alone and one that reads the table right a
 processor, from the page cache; its ratio is that of their user and system times. The table has the
 median of the ratios (of 9 pairs where PAIRS is not given), and the peaks of memory of both, in
 times the bytes of the inventory. It needs `rt` and 1 GB of memory, and takes the new folder away
-again.
+again. Where another checkout of this repository is named, its table is read right after this one,
+and a last column has the median of this one's time to its.
 """
 import hashlib
 import json
@@ -92,16 +93,16 @@ CASES = [
 ]
 
 
-def build(folder):
+def build(folder, top):
     """The bench program, proved and compiled over copies of the crates that it stands on."""
     crates = folder / "crates"
     for name in BELOW:
-        shutil.copytree(TOP / "crates" / name, crates / name)
+        shutil.copytree(top / "crates" / name, crates / name)
     source = crates / "inventory_bench" / "src"
     source.mkdir(parents=True)
     shutil.copy(HERE / "inventory_bench.txt", source / "main.rt")
-    shutil.copy(TOP / "HANDLES", folder)
-    lines = (TOP / "crates.txt").read_text().splitlines()
+    shutil.copy(top / "HANDLES", folder)
+    lines = (top / "crates.txt").read_text().splitlines()
     kept = [line for line in lines if line.split(":")[0] in BELOW]
     kept.append("inventory_bench: ocfl_inventory serde_json\n")
     (folder / "crates.txt").write_text("\n".join(kept))
@@ -134,27 +135,39 @@ def run(program, mode, file):
     return usage.ru_utime + usage.ru_stime, usage.ru_maxrss * 1024
 
 
-def measure(title, program, file):
-    """Prints the row of a case, and answers the median of the table's seconds."""
-    pairs = [[run(program, mode, file) for mode in ("json", "table")] for _ in range(PAIRS)]
-    ratio = statistics.median(table[0] / alone[0] for alone, table in pairs)
+def measure(title, programs, file):
+    """Prints the row of a case, and answers the median of the table's seconds.
+
+    The first program is this one; a second one is run right after it.
+    """
+    rounds = []
+    for _ in range(PAIRS):
+        alone = run(programs[0], "json", file)
+        rounds.append([alone, *(run(program, "table", file) for program in programs)])
+    ratio = statistics.median(table[0] / alone[0] for alone, table, *_ in rounds)
     size = file.stat().st_size
-    peaks = [max(pair[which][1] for pair in pairs) / size for which in (1, 0)]
-    print("| %s | %.2f | %.2f | %.2f |" % (title, ratio, *peaks), flush=True)
-    return statistics.median(table[0] for _, table in pairs)
+    peaks = [max(row[which][1] for row in rounds) / size for which in (1, 0)]
+    said = "| %s | %.2f | %.2f | %.2f |" % (title, ratio, *peaks)
+    for other in range(2, 1 + len(programs)):
+        said += " %.2f |" % statistics.median(row[1][0] / row[other][0] for row in rounds)
+    print(said, flush=True)
+    return statistics.median(row[1][0] for row in rounds)
 
 
 def main():
+    tops = [TOP, *(pathlib.Path(word).resolve() for word in sys.argv[2:3])]
     folder = pathlib.Path(tempfile.mkdtemp(prefix="inventory_bench_"))
     try:
-        program = build(folder)
+        programs = [build(folder / str(number), top) for number, top in enumerate(tops)]
         os.sched_setaffinity(0, {max(os.sched_getaffinity(0))})
-        print("| inventory | CPU, table to JSON | peak, times the bytes | peak of the JSON alone |")
-        print("|---|---|---|---|")
+        other = " to the other table |" * (len(tops) - 1)
+        print("| inventory | CPU, table to JSON | peak, times the bytes | peak of the JSON alone |"
+              + other)
+        print("|---|---|---|---|" + "---|" * (len(tops) - 1))
         seconds = []
         for title, case in CASES:
             make(case, folder / "inventory.json")
-            seconds.append(measure(title, program, folder / "inventory.json"))
+            seconds.append(measure(title, programs, folder / "inventory.json"))
         print("200,000 files take %.2f times as long as 100,000" % (seconds[1] / seconds[0]))
     finally:
         shutil.rmtree(folder)

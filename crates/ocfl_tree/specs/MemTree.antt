@@ -81,8 +81,8 @@ pub record Puts (s t : Store) (p : Place) (leaf : Leaf) : Type 0 where
   pub tree : (q : Place) → at t.tree q ≡ after_put s.tree p leaf q
   pub changes : Changes s t
 
--- what a call does that is to put this leaf at p, and what it answers
-pub record Putting {A : Type 0} (h k : Held) (p : Place) (leaf : Leaf) (r : Result A BuildStop) : Type 0 where
+-- what a call that puts this leaf at p does and answers
+pub record PutAnswer {A : Type 0} (h k : Held) (p : Place) (leaf : Leaf) (r : Result A BuildStop) : Type 0 where
   pub ok : OnOk r (Puts h.store k.store p leaf)
   pub faults : k.faults ≡ h.faults
   pub err : OnErr r (k ≡ h)

@@ -8,7 +8,7 @@ ghost use Rattle.ocfl_tree.specs.Calls.{Lists, ListFails, Opens, OpenFails, Read
 ghost use Rattle.ocfl_tree.specs.Calls.{Closes};
 ghost use Rattle.ocfl_tree.specs.Faults.{after_call};
 ghost use Rattle.ocfl_tree.specs.MemTree.{nothing_held, with_step, with_call, with_point, fails};
-ghost use Rattle.ocfl_tree.specs.MemTree.{read_fails, given_of, put_refusal, Puts, Putting};
+ghost use Rattle.ocfl_tree.specs.MemTree.{read_fails, given_of, put_refusal, Puts, PutAnswer};
 ghost use Rattle.ocfl_tree.specs.MemTree.{Removes};
 
 use crate::build::BuildStop;
@@ -100,21 +100,21 @@ impl MemTree {
 
     /// Puts a file of these bytes at a place, and closes the open file.
     pub fn put_file(&mut self, place: &Place, bytes: Vec<u8>) -> Result<(), BuildStop>
-        ensures { Putting self.old self.new place.now (file bytes.items) result }
+        ensures { PutAnswer self.old self.new place.now (file bytes.items) result }
     {
         self.put(place, Stored::new(Node::File(bytes)))
     }
 
     /// Puts an empty directory at a place, and closes the open file.
     pub fn put_dir(&mut self, place: &Place) -> Result<(), BuildStop>
-        ensures { Putting self.old self.new place.now dir result }
+        ensures { PutAnswer self.old self.new place.now dir result }
     {
         self.put(place, Stored::new(Node::Dir))
     }
 
     /// Puts at a place what is neither a file nor a directory, as a link, and closes the open file.
     pub fn put_other(&mut self, place: &Place) -> Result<(), BuildStop>
-        ensures { Putting self.old self.new place.now other result }
+        ensures { PutAnswer self.old self.new place.now other result }
     {
         self.put(place, Stored::new(Node::Other))
     }

@@ -118,12 +118,6 @@ module _ (root : StorageRoot) (o : Place) where
   pub all_memory : (s t u : Store) (n : Text) (ns : List Text) (limit : ℕ) (f : Option Bounded) → ReadsFile root s t o n limit (Ok f) → ReadsFiles root t u o ns → FilesStop root s u o (n ∷ ns) fault.Memory
   all_memory s t u n ns limit f h k = memory_after root o s u (n ∷ ns) (all_some s t u n ns limit f h k)
 
-  pub later_some : (s t u : Store) (n : Text) (ns : List Text) (limit : ℕ) (f : Option Bounded) → ReadsFile root s t o n limit (Ok f) → ReadsSome root t u o ns → ReadsSome root s u o (n ∷ ns)
-  later_some s t u n ns limit f h k = some_then root o s t u (n ∷ []) ns h.gives.0 k
-
-  pub later_memory : (s t u : Store) (n : Text) (ns : List Text) (limit : ℕ) (f : Option Bounded) → ReadsFile root s t o n limit (Ok f) → ReadsSome root t u o ns → FilesStop root s u o (n ∷ ns) fault.Memory
-  later_memory s t u n ns limit f h k = memory_after root o s u (n ∷ ns) (later_some s t u n ns limit f h k)
-
   -- ---- the table of an inventory
 
   pub no_inventory_table : file_at root (o ++ inventory_name ∷ []) ≡ None → None ≡ table_in (file_at root (o ++ inventory_name ∷ []))

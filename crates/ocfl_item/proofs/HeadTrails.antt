@@ -21,7 +21,7 @@ use Rattle.ocfl_inventory.specs.Declaration.{Declared, undeclared, known, unknow
 use Rattle.ocfl_audit.specs.Head.{on}
 use Rattle.ocfl_audit.specs.Trail.{is_head, reads_inventory}
 use Rattle.ocfl_audit.specs.Zone.{inventory_at, inventory_limit, object_declared}
-use Rattle.ocfl_item.specs.HeadFiles.{files_there, head_files, head_names, sidecars_for}
+use Rattle.ocfl_item.specs.HeadFiles.{files_there, head_files, sidecars_for}
 use Rattle.ocfl_item.proofs.FileLaws.{there_then}
 use Rattle.ocfl_item.proofs.LooksZones.{inside_on}
 
@@ -61,26 +61,12 @@ module _ (root : StorageRoot) (o : Place) (z : zone root o ≡ inside o []) wher
       by false = (o ∷ [], sym (ap (λ l. l ++ o ∷ []) (heads_none ns h)))
       by true = ([], sym (λ i. (inventory_of (inside_on root o o [] (inventory_name ∷ []) z i) ++ heads_none ns h i) ++ []))
 
-  heads_behind : (n : Text) (ns : List Text) → is_other n ≡ true → list_all is_other ns ≡ true → IsFront (heads_at root (files_there root o (n ∷ inventory_name ∷ ns))) (o ∷ [])
-  heads_behind n ns e h =
-      let all : heads_at root (files_there root o (n ∷ inventory_name ∷ ns)) ≡ heads_at root (files_there root o (inventory_name ∷ ns)) =
-      ap (heads_at root) (there_then root o (n ∷ []) (inventory_name ∷ ns)) ∙ heads_append root (files_there root o (n ∷ [])) (files_there root o (inventory_name ∷ ns))
-      ∙ ap (λ l. l ++ heads_at root (files_there root o (inventory_name ∷ ns))) (heads_none (n ∷ []) (ap (λ b. b && true) e)) in
-      subst (λ l. IsFront l (o ∷ [])) (sym all) (heads_one ns h)
-
-  heads_of_head : (v : Version) → IsFront (heads_at root (files_there root o (head_names v))) (o ∷ [])
-  heads_of_head V1_0 = heads_behind (declaration_name Object V1_0) (sidecar_name Sha256 ∷ sidecar_name Sha512 ∷ []) refl refl
-  heads_of_head V1_1 = heads_behind (declaration_name Object V1_1) (sidecar_name Sha256 ∷ sidecar_name Sha512 ∷ []) refl refl
-
   opened_front : (ns : List Text) (trail : List Opening) → IsFront (heads_at root (files_there root o ns)) (o ∷ []) → IsFront (places_of trail) (files_there root o ns) → IsFront (heads_of root trail) (o ∷ [])
   opened_front ns trail one h =
       let front : IsFront (heads_at root (places_of trail)) (heads_at root (files_there root o ns)) = (heads_at root h.0, ap (heads_at root) h.1 ∙ heads_append root (places_of trail) h.0) in
       subst (λ l. IsFront l (o ∷ [])) (sym (heads_are root trail)) (front_front _ _ _ front one)
 
   -- of the files of a head at most the inventory of its object
-  pub head_opened : (v : Version) (trail : List Opening) → IsFront (places_of trail) (files_there root o (head_names v)) → IsFront (heads_of root trail) (o ∷ [])
-  head_opened v trail h = opened_front (head_names v) trail (heads_of_head v) h
-
   abbrev IsOwn : Place → Type 0
   IsOwn p = p ≡ o ++ inventory_name ∷ []
 

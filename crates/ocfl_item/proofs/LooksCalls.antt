@@ -25,7 +25,7 @@ use Rattle.ocfl_inventory.specs.Table.{Table, Named}
 use Rattle.ocfl_audit.specs.Zone.{is_entered, object_declared, seen}
 use Rattle.ocfl_audit.specs.Lines.{cost_of, named_at, is_hashed}
 use Rattle.ocfl_item.specs.Looking.{way_to, IsFront}
-use Rattle.ocfl_item.specs.Ways.{fault_by, IsWayFault, Stops, AreMeta, SeekStops, ReadsMeta, ReadsTable, is_file_kind, is_listable, Enters, IsDeclared, IsHead, head_by, InHierarchy, IsObject, IsOpenObject, is_extensions_name, way_below}
+use Rattle.ocfl_item.specs.Ways.{fault_by, IsWayFault, Stops, SeekStops, ReadsMeta, ReadsTable, is_file_kind, is_listable, Enters, IsDeclared, IsHead, head_by, InHierarchy, IsObject, IsOpenObject, is_extensions_name, way_below}
 use Rattle.ocfl_item.specs.declared.fault.Fault.TheVariants as fault
 use Rattle.ocfl_tree.proofs.Orders.{true_not_false}
 use Rattle.ocfl_item.proofs.AuditingLaws.{failed_listing}
@@ -36,10 +36,6 @@ use Rattle.ocfl_item.proofs.LooksZones.{listable_dir, declared_object, declared_
 
 pub front_more : (ls way more : List Place) → IsFront ls way → IsFront ls (way ++ more)
 front_more ls way more h = (h.0 ++ more, ap (λ x. x ++ more) h.1 ∙ append_assoc ls h.0 more)
-
-module _ (root : StorageRoot) where
-  pub none_meta : AreMeta root []
-  none_meta = record { meta = refl; once = λ i j d l k. absurd (omega (arith, l, k)) }
 
 -- ---- a listing that fails
 
@@ -110,9 +106,6 @@ pub kind_is_no_file : (k : Option Kind) → is_file_kind k ≡ false → Some ki
 kind_is_no_file k h e = true_not_false (ap is_file_kind e ∙ h)
 
 module _ (root : StorageRoot) where
-  abbrev pub reads_nothing : (s : Store) → s.tree ≡ root → ReadsMeta root s s
-  reads_nothing s over = record { over = over; trail = []; did = did_nothing s; meta = none_meta root }
-
   -- out of memory afterwards
   abbrev pub memory_stops : (s t : Store) (way : List Place) → ReadsMeta root s t → SeekStops root s t way fault.Memory
   memory_stops s t way h = record {

@@ -1,5 +1,5 @@
 -- Worked cases: cursors, their text, and why bytes are none.
-use Rattle.std.proofs.Common.{◌≡◌, ◌==◌, ◌≤◌, ◌+◌, ℕ, zero, suc, List, [], ◌∷◌, ◌++◌, codes, refl, sym, inr, arith, length, map, replicate, take, drop}
+use Rattle.std.proofs.Common.{◌≡◌, ◌==◌, ◌+◌, ℕ, zero, suc, List, [], ◌∷◌, ◌++◌, codes, refl, sym, inr, arith, length, map, replicate, take, drop}
 use Rattle.std.specs.List.{slice_split}
 use Prim.Native.String.{String}
 use Rattle.ocfl_tree.specs.Place.{Text, Place}
@@ -108,38 +108,28 @@ longest_bodies = (refl, refl)
 abbrev counted : ℕ → ℕ → ℕ → Cursor
 counted cycle runs spent = record { cycle = cycle; runs = runs; spent = spent; files = 0; state = start }
 
-new_cursor_keeps_the_rule : IsCursor new_cursor
-new_cursor_keeps_the_rule = record { first = omega arith; cycle = omega arith; runs = omega arith; spent = omega arith; files = omega arith; place = tt }
+-- these are cursors
+record KeepTheRule : Type 0 where
+  a_new_cursor : IsCursor new_cursor
+  most_spent_in_one_run : IsCursor (counted 1 1 9223372036854775808)
+  last_cycle_and_run : IsCursor (counted 18446744073709551615 18446744073709551615 0)
+  as_many_files_as_spent : IsCursor (record (counted 1 1 9) { files = 9 })
 
-most_spent_in_one_run : IsCursor (counted 1 1 9223372036854775808)
-most_spent_in_one_run = record { first = omega arith; cycle = omega arith; runs = omega arith; spent = omega arith; files = omega arith; place = tt }
+they_keep_the_rule : KeepTheRule
+they_keep_the_rule = search arith
 
-more_spent_than_runs_can : IsCursor (counted 1 1 9223372036854775809) → ⊥
-more_spent_than_runs_can c = let h = c.spent in absurd (omega (arith, h))
+-- and these are none
+record BreakTheRule : Type 0 where
+  no_cycle : IsCursor (counted 0 1 0) → ⊥
+  cycle_too_large : IsCursor (counted 18446744073709551616 1 0) → ⊥
+  runs_too_large : IsCursor (counted 1 18446744073709551616 0) → ⊥
+  spent_without_a_run : IsCursor (counted 1 0 1) → ⊥
+  more_spent_than_runs_can : IsCursor (counted 1 1 9223372036854775809) → ⊥
+  more_files_than_spent : IsCursor (record (counted 1 1 9) { files = 10 }) → ⊥
+  place_of_256_names : IsCursor (record new_cursor { state = behind (replicate 256 (1 ∷ [])) }) → ⊥
 
-spent_without_a_run : IsCursor (counted 1 0 1) → ⊥
-spent_without_a_run c = let h = c.spent in absurd (omega (arith, h))
-
-last_cycle_and_run : IsCursor (counted 18446744073709551615 18446744073709551615 0)
-last_cycle_and_run = record { first = omega arith; cycle = omega arith; runs = omega arith; spent = omega arith; files = omega arith; place = tt }
-
-cycle_too_large : IsCursor (counted 18446744073709551616 1 0) → ⊥
-cycle_too_large c = let h = c.cycle in absurd (omega (arith, h))
-
-runs_too_large : IsCursor (counted 1 18446744073709551616 0) → ⊥
-runs_too_large c = let h = c.runs in absurd (omega (arith, h))
-
-no_cycle : IsCursor (counted 0 1 0) → ⊥
-no_cycle c = let h = c.first in absurd (omega (arith, h))
-
-as_many_files_as_spent : IsCursor (record (counted 1 1 9) { files = 9 })
-as_many_files_as_spent = record { first = omega arith; cycle = omega arith; runs = omega arith; spent = omega arith; files = omega arith; place = tt }
-
-more_files_than_spent : IsCursor (record (counted 1 1 9) { files = 10 }) → ⊥
-more_files_than_spent c = let h = c.files in absurd (omega (arith, h))
-
-place_of_256_names : IsCursor (record new_cursor { state = behind (replicate 256 (1 ∷ [])) }) → ⊥
-place_of_256_names c = let h : 256 ≤ 255 = c.place.1 in absurd (omega (arith, h))
+they_break_the_rule : BreakTheRule
+they_break_the_rule = search arith
 
 -- ---- refusals
 

@@ -8,8 +8,8 @@ ghost use Rattle.ocfl_inventory.specs.Internal.Parts.{text_in, texts_among};
 ghost use Rattle.ocfl_inventory.specs.Internal.ListsOf.{all_triples, AreListed};
 ghost use Rattle.ocfl_inventory.specs.DigestText.{folded};
 ghost use Rattle.ocfl_inventory.specs.TripleView.{named_view};
-ghost use Rattle.ocfl_inventory.specs.Internal.Gathered.{kept_from, bad_from, bad_texts};
-ghost use Rattle.ocfl_inventory.specs.Internal.Gathered.{key_triples};
+ghost use Rattle.ocfl_inventory.specs.Internal.Gathered.{Gathers, kept_from, bad_from};
+ghost use Rattle.ocfl_inventory.specs.Internal.Gathered.{key_triples, bad_texts};
 
 use crate::conflicts::conflicts;
 use crate::inventory::{Listing, Supported};
@@ -72,27 +72,7 @@ fn small(mut text: String) -> String
     text
 }
 
-/// Appends a listed path with its digest, or its text where it is bad.
-fn gather_text(
-    alloc: Global,
-    source: &Source,
-    digest: String,
-    text: String,
-    found: &mut Gathered,
-) -> Result<(), AllocError>
-    ensures triples { OnOk result (found.new.triples.items ≡ found.old.triples.items
-        ++ kept_from source.now (string_bytes digest) (string_bytes text ∷ [])) }
-    ensures bad { OnOk result (map string_bytes found.new.bad.items
-        ≡ map string_bytes found.old.bad.items ++ bad_from source.now (string_bytes text ∷ [])) }
-{
-    match kept_place(alloc, source.content, text.as_str())? {
-        Some(path) => found.triples.push(Triple::new(path, source.name(digest)))?,
-        None => found.bad.push(text)?,
-    }
-    Ok(())
-}
-
-/// Gathers the text of a value, if it is one.
+/// Appends the path that a value lists, with its digest, or its text where it is bad.
 fn gather_value(
     alloc: Global,
     source: &Source,
@@ -100,15 +80,18 @@ fn gather_value(
     value: Value,
     found: &mut Gathered,
 ) -> Result<(), AllocError>
-    ensures triples { OnOk result (found.new.triples.items ≡ found.old.triples.items
-        ++ kept_from source.now (string_bytes digest) (text_in value)) }
-    ensures bad { OnOk result (map string_bytes found.new.bad.items
-        ≡ map string_bytes found.old.bad.items ++ bad_from source.now (text_in value)) }
+    ensures { OnOk result (Gathers found.old found.new
+        (kept_from source.now (string_bytes digest) (text_in value))
+        (bad_from source.now (text_in value))) }
 {
-    match value {
-        Value::String(text) => gather_text(alloc, source, digest, text, found),
-        _ => Ok(()),
+    let Value::String(text) = value else {
+        return Ok(());
+    };
+    match kept_place(alloc, source.content, text.as_str())? {
+        Some(path) => found.triples.push(Triple::new(path, source.name(digest)))?,
+        None => found.bad.push(text)?,
     }
+    Ok(())
 }
 
 fn gather_values(
@@ -118,10 +101,9 @@ fn gather_values(
     values: Vec<Value>,
     found: &mut Gathered,
 ) -> Result<(), AllocError>
-    ensures triples { OnOk result (found.new.triples.items ≡ found.old.triples.items
-        ++ kept_from source.now (string_bytes digest.now) (texts_among values.items)) }
-    ensures bad { OnOk result (map string_bytes found.new.bad.items
-        ≡ map string_bytes found.old.bad.items ++ bad_from source.now (texts_among values.items)) }
+    ensures { OnOk result (Gathers found.old found.new
+        (kept_from source.now (string_bytes digest.now) (texts_among values.items))
+        (bad_from source.now (texts_among values.items))) }
 {
     for value in values {
         gather_value(alloc, source, digest.clone()?, value, found)?;
@@ -136,11 +118,9 @@ fn gather_listing(
     listing: Listing,
     found: &mut Gathered,
 ) -> Result<(), AllocError>
-    ensures triples { OnOk result (found.new.triples.items
-        ≡ found.old.triples.items ++ key_triples source.now.fixity source.now.content.now
-        source.now.algorithm (listing_view listing)) }
-    ensures bad { OnOk result (map string_bytes found.new.bad.items
-        ≡ map string_bytes found.old.bad.items ++ bad_from source.now (listing_view listing).1) }
+    ensures { let listed = listing_view listing in OnOk result (Gathers found.old found.new
+        (key_triples source.now.fixity source.now.content.now source.now.algorithm listed)
+        (bad_from source.now listed.1)) }
 {
     let Listing { key, mut values } = listing;
     let digest = small(key);
@@ -158,12 +138,9 @@ fn gather_block(
     block: Vec<Listing>,
     found: &mut Gathered,
 ) -> Result<(), AllocError>
-    ensures triples { OnOk result (found.new.triples.items
-        ≡ found.old.triples.items ++ triples_of source.now.fixity source.now.content.now
-        source.now.algorithm (block_view block.items)) }
-    ensures bad { OnOk result (map string_bytes found.new.bad.items
-        ≡ map string_bytes found.old.bad.items
-        ++ bad_texts source.now.content.now (block_view block.items)) }
+    ensures { let listed = block_view block.items in OnOk result (Gathers found.old found.new
+        (triples_of source.now.fixity source.now.content.now source.now.algorithm listed)
+        (bad_texts source.now.content.now listed)) }
 {
     for listing in block {
         gather_listing(alloc, source, listing, found)?;
@@ -178,12 +155,9 @@ fn gather_fixity(
     fixity: Vec<Supported>,
     found: &mut Gathered,
 ) -> Result<(), AllocError>
-    ensures triples { OnOk result (found.new.triples.items
-        ≡ found.old.triples.items ++ flat_map (λ e. triples_of true content.now e.0 e.1)
-        (supported_view fixity.items)) }
-    ensures bad { OnOk result (map string_bytes found.new.bad.items
-        ≡ map string_bytes found.old.bad.items
-        ++ flat_map (λ e. bad_texts content.now e.1) (supported_view fixity.items)) }
+    ensures { OnOk result (Gathers found.old found.new
+        (flat_map (λ e. triples_of true content.now e.0 e.1) (supported_view fixity.items))
+        (flat_map (λ e. bad_texts content.now e.1) (supported_view fixity.items))) }
 {
     for supported in fixity {
         let source = Source {

@@ -1,5 +1,5 @@
 -- Gathering the listed paths of a block: kept ones with their digest, bad ones as their texts.
-use Rattle.std.specs.Prelude.{List, Bool, map, filter, flat_map, is_some}
+use Rattle.std.specs.Prelude.{◌≡◌, List, ◌++◌, Bool, map, filter, flat_map, is_some, string_bytes}
 use Rattle.ocfl_tree.specs.Place.{Text}
 use Rattle.ocfl_digest.specs.declared.algorithm.Algorithm.{Algorithm}
 use Rattle.ocfl_inventory.specs.DigestText.{folded}
@@ -8,6 +8,7 @@ use Rattle.ocfl_tree.specs.Path.{elements}
 use Rattle.ocfl_inventory.specs.ListedPath.{is_kept, path_fault}
 use Rattle.ocfl_inventory.specs.Table.{Triple}
 use Rattle.ocfl_inventory.specs.declared.gather.Source.{Source}
+use Rattle.ocfl_inventory.specs.declared.gather.Gathered.{Gathered}
 
 abbrev pub is_bad : Text → Text → Bool
 is_bad content t = is_some (path_fault content t)
@@ -32,3 +33,8 @@ kept_from source digest ts = triples_in source.fixity source.content.now source.
 
 abbrev pub bad_from : Source → List Text → List Text
 bad_from source ts = filter (is_bad source.content.now) ts
+
+-- the kept paths and the bad texts that are found further
+pub record Gathers (old new : Gathered) (kept : List Triple) (texts : List Text) : Type 0 where
+  pub triples : new.triples.items ≡ old.triples.items ++ kept
+  pub bad : map string_bytes new.bad.items ≡ map string_bytes old.bad.items ++ texts

@@ -1,5 +1,5 @@
 -- Entries within an object whose head does not stop, by how many names they lie below it.
-use Rattle.std.proofs.Common.{◌≡◌, ℕ, zero, suc, ◌-◌, ◌+◌, ◌<◌, ◌≤◌, [], ◌∷◌, ◌++◌, sym, ◌∙◌, ap, true, Some, Option, subst, arith, length, drop, append_assoc}
+use Rattle.std.proofs.Common.{◌≡◌, ℕ, zero, suc, ◌-◌, ◌+◌, ◌≤◌, [], ◌∷◌, ◌++◌, sym, ◌∙◌, ap, true, Some, Option, subst, arith, length, drop, append_assoc}
 use Rattle.std.specs.Prelude.{option_map}
 use Rattle.std.specs.List.{list_all}
 use Rattle.std.proofs.lemmas.List.{length-append}
@@ -27,14 +27,16 @@ pub record IsInContent (root : StorageRoot) (a : Around) (e : Place) : Type 0 wh
   pub content : content_at root e ≡ Some (a.table, drop (length a.place) e)
   pub listed : is_listed_zone root (zone root e) ≡ true
 
-module _ (root : StorageRoot) (d e : Place) (a : Around) (entry : Entry) (m : IsMet root d (Some a) entry e) where
-  way : Place
-  way = m.part.0
+two_more : (s r : ℕ) → r ≡ s + 1 → (r ≡ 1 → ⊥) → (r ≡ 2 → ⊥) → 2 ≤ s
+two_more zero r h n m = absurd (n (omega (arith, h)))
+two_more (suc zero) r h n m = absurd (m (omega (arith, h)))
+two_more (suc (suc s)) r h n m = omega arith
 
-  pub whole : e ≡ a.place ++ (m.part.0 ++ entry.name ∷ [])
+module _ (root : StorageRoot) (d e : Place) (a : Around) (entry : Entry) (m : IsMet root d (Some a) entry e) (r : ℕ) (sub : r ≡ length e - length a.place) where
+  whole : e ≡ a.place ++ (m.part.0 ++ entry.name ∷ [])
   whole = m.is ∙ ap (λ x. x ++ entry.name ∷ []) (zone_is root d a.place m.part.0 m.part.1).whole ∙ append_assoc a.place m.part.0 (entry.name ∷ [])
 
-  pub long : length e ≡ length a.place + (length m.part.0 + 1)
+  long : length e ≡ length a.place + (length m.part.0 + 1)
   long = ap length whole ∙ length-append a.place (m.part.0 ++ entry.name ∷ []) ∙ ap (λ k. length a.place + k) (length-append m.part.0 (entry.name ∷ []))
 
   zone_here : zone root e ≡ inside a.place (m.part.0 ++ entry.name ∷ [])
@@ -43,26 +45,26 @@ module _ (root : StorageRoot) (d e : Place) (a : Around) (entry : Entry) (m : Is
   listed_here : is_listed_in_object (Some a.table) m.part.0 ≡ true
   listed_here = ap (λ x. is_listed_in_object x m.part.0) (sym m.part.2) ∙ ap (is_listed_zone root) (sym m.part.1) ∙ zone_of_entered root d (and_second (list_all (is_entered root) (beginnings d)) (is_entered root d) m.reached)
 
-  pub in_object : length e ≡ length a.place + 1 → zone root e ≡ inside a.place (entry.name ∷ [])
-  in_object h = by m.part.0 (let l = long in omega (arith, l, h)) zone_here
+  pub in_object : r ≡ 1 → zone root e ≡ inside a.place (entry.name ∷ [])
+  in_object h = by m.part.0 (let l = long in omega (arith, l, sub, h)) zone_here
     where
       by : (s : Place) → length s ≡ 0 → zone root e ≡ inside a.place (s ++ entry.name ∷ []) → zone root e ≡ inside a.place (entry.name ∷ [])
       by [] k z = z
       by (v ∷ s) k z = absurd (omega (arith, k))
 
-  pub in_version : length e ≡ length a.place + 2 → IsInVersion root a.place e entry.name
-  in_version h = by m.part.0 (let l = long in omega (arith, l, h)) zone_here listed_here
+  pub in_version : r ≡ 2 → IsInVersion root a.place e entry.name
+  in_version h = by m.part.0 (let l = long in omega (arith, l, sub, h)) zone_here listed_here
     where
       by : (s : Place) → length s ≡ 1 → zone root e ≡ inside a.place (s ++ entry.name ∷ []) → is_listed_in_object (Some a.table) s ≡ true → IsInVersion root a.place e entry.name
       by [] k z l = absurd (omega (arith, k))
       by (v ∷ []) k z l = record { version = v; zone = z; named = l }
       by (v ∷ c ∷ s) k z l = absurd (omega (arith, k))
 
-  pub in_content : length a.place + 2 < length e → IsInContent root a e
-  in_content h = record { content = by m.part.0 few zone_here ∙ ap (λ q. Some (a.table, q)) (sym inner); listed = deep m.part.0 few zone_here listed_here }
+  pub in_content : (r ≡ 1 → ⊥) → (r ≡ 2 → ⊥) → IsInContent root a e
+  in_content n k = record { content = by m.part.0 few zone_here ∙ ap (λ q. Some (a.table, q)) (sym inner); listed = deep m.part.0 few zone_here listed_here }
     where
       few : 2 ≤ length m.part.0
-      few = let l = long in omega (arith, l, h)
+      few = two_more (length m.part.0) r (let l = long in omega (arith, l, sub)) n k
 
       inner : drop (length a.place) e ≡ m.part.0 ++ entry.name ∷ []
       inner = ap (drop (length a.place)) whole ∙ drop-append_seam a.place (m.part.0 ++ entry.name ∷ [])
@@ -77,23 +79,6 @@ module _ (root : StorageRoot) (d e : Place) (a : Around) (entry : Entry) (m : Is
       deep [] k z l = absurd (omega (arith, k))
       deep (v ∷ []) k z l = absurd (omega (arith, k))
       deep (v ∷ c ∷ s) k z l = ap (is_listed_zone root) z ∙ ap (λ x. is_listed_in_object x (v ∷ c ∷ (s ++ entry.name ∷ []))) m.part.2 ∙ l
-
-two_more : (s r : ℕ) → r ≡ s + 1 → (r ≡ 1 → ⊥) → (r ≡ 2 → ⊥) → 2 ≤ s
-two_more zero r h n m = absurd (n (omega (arith, h)))
-two_more (suc zero) r h n m = absurd (m (omega (arith, h)))
-two_more (suc (suc s)) r h n m = omega arith
-
-pub far_below : (root : StorageRoot) (d e : Place) (a : Around) (entry : Entry) (m : IsMet root d (Some a) entry e) (r : ℕ) → r ≡ length e - length a.place → (r ≡ 1 → ⊥) → (r ≡ 2 → ⊥) → length a.place + 2 < length e
-far_below root d e a entry m r is n k =
-    let l = long root d e a entry m in
-    let s = two_more (length m.part.0) r (omega (arith, l, is)) n k in
-    omega (arith, l, s)
-
-pub one_below : (root : StorageRoot) (d e : Place) (a : Around) (entry : Entry) (m : IsMet root d (Some a) entry e) (r : ℕ) → r ≡ length e - length a.place → r ≡ 1 → length e ≡ length a.place + 1
-one_below root d e a entry m r is k = let l = long root d e a entry m in omega (arith, l, is, k)
-
-pub two_below : (root : StorageRoot) (d e : Place) (a : Around) (entry : Entry) (m : IsMet root d (Some a) entry e) (r : ℕ) → r ≡ length e - length a.place → r ≡ 2 → length e ≡ length a.place + 2
-two_below root d e a entry m r is k = let l = long root d e a entry m in omega (arith, l, is, k)
 
 -- an entry that is met within an object, where that object is the one at hand
 pub met_within : (root : StorageRoot) (d e : Place) (around : Option Around) (a : Around) (entry : Entry) → around ≡ Some a → IsMet root d around entry e → IsMet root d (Some a) entry e

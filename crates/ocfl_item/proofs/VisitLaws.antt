@@ -29,18 +29,19 @@ use Rattle.ocfl_item.specs.Looking.{IsFront, IsSight, content_in, content_at}
 use Rattle.ocfl_item.specs.Pending.{IsPending}
 use Rattle.ocfl_item.specs.Ways.{Enters, Stops, is_listable}
 use Rattle.ocfl_item.specs.Meeting.{IsFolderAt, IsItemAt, IsTableAt, IsVisit, Meets, MeetFails, Visits}
-use Rattle.ocfl_item.specs.Visiting.{IsEntryAt, IsListedAt, IsPlainAt}
+use Rattle.ocfl_item.specs.Visiting.{HasRole, IsEntryAt, IsListedAt, IsPlainAt, IsShut}
 use Rattle.ocfl_item.specs.declared.fault.Fault.{Fault}
 use Rattle.ocfl_item.specs.declared.fault.Fault.TheVariants as fault
 use Rattle.ocfl_item.specs.declared.folder.Folder.{Folder}
 use Rattle.ocfl_item.specs.declared.pending.Pending.{Pending}
+use Rattle.ocfl_item.specs.declared.role.Role.TheVariants as role
 use Rattle.ocfl_item.specs.declared.visit.Visit.{Visit}
 use Rattle.ocfl_item.specs.declared.sight.Sight.TheVariants as sight
 use Rattle.ocfl_tree.proofs.Bools.{and_both}
 use Rattle.ocfl_item.proofs.LooksZones.{leaf_dir, entered_from}
 use Rattle.ocfl_item.proofs.LooksEntries.{emptied, not_emptied}
 use Rattle.ocfl_item.proofs.AuditingLaws.{did_nothing, front_all, front_none, none_once}
-use Rattle.ocfl_item.proofs.ShutLaws.{IsShut, listed_shows, looked_at, no_head_unread, shut_no_dir, shut_zone}
+use Rattle.ocfl_item.proofs.ShutLaws.{listed_shows, looked_at, no_head_unread, shut_no_dir, shut_zone}
 use Rattle.ocfl_audit.proofs.PathLaws.{named_path, notes_at}
 use Rattle.ocfl_audit.proofs.AuditExists.{IsInside, zone_is}
 
@@ -332,67 +333,64 @@ module _ (root : StorageRoot) (s : Store) (e : Place) (over : s.tree ≡ root) (
   pub nothing_visits : (v : Visit) → IsPlainAt root e [] → v.item ≡ None → v.folder ≡ None → v.table ≡ None → Visits root s s e (Ok v)
   nothing_visits v plain item folder table = visits_told root s s e v (meets_shut root s e over shut) (visit_of_nothing root e v plain shut item folder table)
 
-  pub plain_visits : (ns : List Note) (r : Result Visit Fault) → IsPlainAt root e ns → IfErr r (λ why. why ≡ fault.Memory) → (IsPlainAt root e ns → seen_names root e ≡ [] → IfOk r (λ v. IsVisit root e v)) → Visits root s s e r
-  plain_visits ns r plain only told = visits_by root s s e r (meets_shut root s e over shut) only (told plain shut.names)
-
-  pub item_visits : (v : Visit) (o : Option Pending) → is_head (zone root e) ≡ false → IsItemAt root e o → v.item ≡ o → v.folder ≡ None → v.table ≡ None → Visits root s s e (Ok v)
-  item_visits v o no_head there item folder table = visits_told root s s e v (meets_shut root s e over shut) (visit_of_item root e v (subst (IsItemAt root e) (sym item) there) folder table no_head shut.names)
+  pub shut_visits : (r : Result Visit Fault) → IfErr r (λ why. why ≡ fault.Memory) → (seen_names root e ≡ [] → IfOk r (λ v. IsVisit root e v)) → Visits root s s e r
+  shut_visits r only told = visits_by root s s e r (meets_shut root s e over shut) only (told shut.names)
 
 module _ (root : StorageRoot) (e o : Place) (n : Text) (t : Table) (k : Kind) (h : IsEntryAt root e k) (z : zone root e ≡ inside o (n ∷ [])) (table : table_at root o ≡ Some t) where
   of_object : (leaf : Leaf) (ns : List Note) → seen root e ≡ Some leaf → object_entry_notes root e n (Some leaf) ≡ ns → IsPlainAt root e ns
   of_object leaf ns s is = relined root e (object_entry_notes root e n (seen root e)) ns (ap (object_entry_notes root e n) s ∙ is) (object_plain root e o n t z table)
 
-  pub object_file_known : k ≡ kind.File → is_declaration level.Object n || is_inventory_or_sidecar n ≡ true → IsPlainAt root e []
-  object_file_known is b = let f = entry_file root e k h is in of_object (file f.0) [] f.1 (ap (λ x. on (not x) (plain E001)) b)
+  pub object_file_known : k ≡ kind.File → is_declaration level.Object n || is_inventory_or_sidecar n ≡ true → HasRole root e role.LeftAlone
+  object_file_known is b = let f = entry_file root e k h is in (of_object (file f.0) [] f.1 (ap (λ x. on (not x) (plain E001)) b), file_shut root e k h is)
 
-  pub object_file_other : k ≡ kind.File → is_declaration level.Object n || is_inventory_or_sidecar n ≡ false → IsPlainAt root e (plain E001 ∷ [])
-  object_file_other is b = let f = entry_file root e k h is in of_object (file f.0) (plain E001 ∷ []) f.1 (ap (λ x. on (not x) (plain E001)) b)
+  pub object_file_other : k ≡ kind.File → is_declaration level.Object n || is_inventory_or_sidecar n ≡ false → HasRole root e (role.Plain E001)
+  object_file_other is b = let f = entry_file root e k h is in (of_object (file f.0) (plain E001 ∷ []) f.1 (ap (λ x. on (not x) (plain E001)) b), file_shut root e k h is)
 
-  pub object_other : k ≡ kind.Other → IsPlainAt root e (plain S04 ∷ [])
-  object_other is = of_object other (plain S04 ∷ []) (entry_other root e k h is) refl
+  pub object_other : k ≡ kind.Other → HasRole root e (role.Plain S04)
+  object_other is = (of_object other (plain S04 ∷ []) (entry_other root e k h is) refl, other_shut root e k h is)
 
-  pub object_version : k ≡ kind.Dir → is_version_name n ≡ true → IsPlainAt root e (listed_dir_notes root e [])
-  object_version is b = of_object dir (listed_dir_notes root e []) (entry_dir root e k h is) (ap (λ x. cond x (listed_dir_notes root e []) (on (not (text_eq n (codes "extensions") || text_eq n (codes "logs"))) (plain E001))) b)
-
-  pub object_version_listed : k ≡ kind.Dir → is_version_name n ≡ true → IsListedAt root e
-  object_version_listed is b = listed_entry root e k h is (ap (is_listed_zone root) z ∙ ap (λ x. is_listed_in_object x (n ∷ [])) table ∙ b)
+  pub object_version : k ≡ kind.Dir → is_version_name n ≡ true → HasRole root e role.Listed
+  object_version is b = (
+    listed_entry root e k h is (ap (is_listed_zone root) z ∙ ap (λ x. is_listed_in_object x (n ∷ [])) table ∙ b),
+    of_object dir (listed_dir_notes root e []) (entry_dir root e k h is) (ap (λ x. cond x (listed_dir_notes root e []) (on (not (text_eq n (codes "extensions") || text_eq n (codes "logs"))) (plain E001))) b),
+  )
 
   dir_else : k ≡ kind.Dir → is_version_name n ≡ false → object_entry_notes root e n (Some dir) ≡ on (not (text_eq n (codes "extensions") || text_eq n (codes "logs"))) (plain E001)
   dir_else is b = ap (λ x. cond x (listed_dir_notes root e []) (on (not (text_eq n (codes "extensions") || text_eq n (codes "logs"))) (plain E001))) b
 
-  pub object_dir_known : k ≡ kind.Dir → is_version_name n ≡ false → text_eq n (codes "extensions") || text_eq n (codes "logs") ≡ true → IsPlainAt root e []
-  object_dir_known is b a = of_object dir [] (entry_dir root e k h is) (dir_else is b ∙ ap (λ x. on (not x) (plain E001)) a)
+  dir_shut : is_version_name n ≡ false → IsShut root e
+  dir_shut b = shut_zone root e (not_root root e o (n ∷ []) z) (ap (shows_entries root) z ∙ ap (λ x. is_listed_in_object x (n ∷ [])) table ∙ b)
 
-  pub object_dir_other : k ≡ kind.Dir → is_version_name n ≡ false → text_eq n (codes "extensions") || text_eq n (codes "logs") ≡ false → IsPlainAt root e (plain E001 ∷ [])
-  object_dir_other is b a = of_object dir (plain E001 ∷ []) (entry_dir root e k h is) (dir_else is b ∙ ap (λ x. on (not x) (plain E001)) a)
+  pub object_dir_known : k ≡ kind.Dir → is_version_name n ≡ false → text_eq n (codes "extensions") || text_eq n (codes "logs") ≡ true → HasRole root e role.LeftAlone
+  object_dir_known is b a = (of_object dir [] (entry_dir root e k h is) (dir_else is b ∙ ap (λ x. on (not x) (plain E001)) a), dir_shut b)
 
-  pub object_dir_shut : is_version_name n ≡ false → IsShut root e
-  object_dir_shut b = shut_zone root e (not_root root e o (n ∷ []) z) (ap (shows_entries root) z ∙ ap (λ x. is_listed_in_object x (n ∷ [])) table ∙ b)
+  pub object_dir_other : k ≡ kind.Dir → is_version_name n ≡ false → text_eq n (codes "extensions") || text_eq n (codes "logs") ≡ false → HasRole root e (role.Plain E001)
+  object_dir_other is b a = (of_object dir (plain E001 ∷ []) (entry_dir root e k h is) (dir_else is b ∙ ap (λ x. on (not x) (plain E001)) a), dir_shut b)
 
 module _ (root : StorageRoot) (e o : Place) (v n : Text) (t : Table) (k : Kind) (h : IsEntryAt root e k) (z : zone root e ≡ inside o (v ∷ n ∷ [])) (table : table_at root o ≡ Some t) where
   of_version : (leaf : Leaf) (ns : List Note) → seen root e ≡ Some leaf → version_entry_notes root t e n (Some leaf) ≡ ns → IsPlainAt root e ns
   of_version leaf ns s is = relined root e (version_entry_notes root t e n (seen root e)) ns (ap (version_entry_notes root t e n) s ∙ is) (version_plain root e o v n t z table)
 
-  pub version_file_known : k ≡ kind.File → is_inventory_or_sidecar n ≡ true → IsPlainAt root e []
-  version_file_known is b = let f = entry_file root e k h is in of_version (file f.0) [] f.1 (ap (λ x. on (not x) (plain E015)) b)
+  pub version_file_known : k ≡ kind.File → is_inventory_or_sidecar n ≡ true → HasRole root e role.LeftAlone
+  version_file_known is b = let f = entry_file root e k h is in (of_version (file f.0) [] f.1 (ap (λ x. on (not x) (plain E015)) b), file_shut root e k h is)
 
-  pub version_file_other : k ≡ kind.File → is_inventory_or_sidecar n ≡ false → IsPlainAt root e (plain E015 ∷ [])
-  version_file_other is b = let f = entry_file root e k h is in of_version (file f.0) (plain E015 ∷ []) f.1 (ap (λ x. on (not x) (plain E015)) b)
+  pub version_file_other : k ≡ kind.File → is_inventory_or_sidecar n ≡ false → HasRole root e (role.Plain E015)
+  version_file_other is b = let f = entry_file root e k h is in (of_version (file f.0) (plain E015 ∷ []) f.1 (ap (λ x. on (not x) (plain E015)) b), file_shut root e k h is)
 
-  pub version_other : k ≡ kind.Other → IsPlainAt root e (plain S04 ∷ [])
-  version_other is = of_version other (plain S04 ∷ []) (entry_other root e k h is) refl
+  pub version_other : k ≡ kind.Other → HasRole root e (role.Plain S04)
+  version_other is = (of_version other (plain S04 ∷ []) (entry_other root e k h is) refl, other_shut root e k h is)
 
-  pub version_content : k ≡ kind.Dir → text_eq n t.content ≡ true → IsPlainAt root e (listed_dir_notes root e [])
-  version_content is b = of_version dir (listed_dir_notes root e []) (entry_dir root e k h is) (ap (λ x. cond x (listed_dir_notes root e []) []) b)
+  in_version : (b : Bool) → is_version_name v ≡ true → text_eq n t.content ≡ b → is_listed_in_object (table_at root o) (v ∷ n ∷ []) ≡ b
+  in_version b named is = ap (λ x. is_listed_in_object x (v ∷ n ∷ [])) table ∙ ap (λ x. x && text_eq n t.content) named ∙ is
 
-  in_version : (b : Bool) → is_version_name v ≡ true → text_eq n t.content ≡ b → is_listed_zone root (zone root e) ≡ b
-  in_version b named is = ap (is_listed_zone root) z ∙ ap (λ x. is_listed_in_object x (v ∷ n ∷ [])) table ∙ ap (λ x. x && text_eq n t.content) named ∙ is
+  pub version_content : k ≡ kind.Dir → is_version_name v ≡ true → text_eq n t.content ≡ true → HasRole root e role.Listed
+  version_content is named b = (
+    listed_entry root e k h is (ap (is_listed_zone root) z ∙ in_version true named b),
+    of_version dir (listed_dir_notes root e []) (entry_dir root e k h is) (ap (λ x. cond x (listed_dir_notes root e []) []) b),
+  )
 
-  pub version_content_listed : k ≡ kind.Dir → is_version_name v ≡ true → text_eq n t.content ≡ true → IsListedAt root e
-  version_content_listed is named b = listed_entry root e k h is (in_version true named b)
-
-  pub version_dir : k ≡ kind.Dir → text_eq n t.content ≡ false → IsPlainAt root e []
-  version_dir is b = of_version dir [] (entry_dir root e k h is) (ap (λ x. cond x (listed_dir_notes root e []) []) b)
-
-  pub version_dir_shut : is_version_name v ≡ true → text_eq n t.content ≡ false → IsShut root e
-  version_dir_shut named b = shut_zone root e (not_root root e o (v ∷ n ∷ []) z) (ap (shows_entries root) z ∙ ap (λ x. is_listed_in_object x (v ∷ n ∷ [])) table ∙ ap (λ x. x && text_eq n t.content) named ∙ b)
+  pub version_dir : k ≡ kind.Dir → is_version_name v ≡ true → text_eq n t.content ≡ false → HasRole root e role.LeftAlone
+  version_dir is named b = (
+    of_version dir [] (entry_dir root e k h is) (ap (λ x. cond x (listed_dir_notes root e []) []) b),
+    shut_zone root e (not_root root e o (v ∷ n ∷ []) z) (ap (shows_entries root) z ∙ in_version false named b),
+  )

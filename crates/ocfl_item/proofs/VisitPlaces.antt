@@ -1,6 +1,6 @@
 -- Entries of the storage hierarchy: what lies outside objects, and objects.
 use Rattle.std.proofs.Common.{◌≡◌, ◌≢◌, suc, ◌+◌, ◌<◌, ◌≤◌, List, [], ◌∷◌, ◌++◌, refl, sym, ◌∙◌, ap, subst, true, false, Bool, Option, Some, None, arith, length}
-use Rattle.std.specs.Prelude.{cond, nat_eq, nat_le, option_map, codes, ◌&&◌, Result, Ok, Err, IfOk}
+use Rattle.std.specs.Prelude.{cond, nat_eq, nat_le, option_map, codes, ◌&&◌, Result, Ok, Err, IfErr, IfOk}
 use Rattle.std.specs.List.{list_all}
 use Rattle.std.proofs.lemmas.List.{length-append}
 use Rattle.std.proofs.lemmas.Bool.{eqb-true, le-leb, lt-ltb, le-ltb, lt-leb}
@@ -27,15 +27,16 @@ use Rattle.ocfl_audit.specs.Walk.{is_extensions, is_reached, seen_names, step_zo
 use Rattle.ocfl_audit.specs.Trail.{is_head}
 use Rattle.ocfl_item.specs.Looking.{IsFront, failures_by}
 use Rattle.ocfl_item.specs.Pending.{IsPending}
-use Rattle.ocfl_item.specs.Ways.{IsDeclared, is_listable}
+use Rattle.ocfl_item.specs.Ways.{Enters, IsDeclared, is_listable}
 use Rattle.ocfl_item.specs.Meeting.{IsFairVisit, IsFolderAt, IsItemAt, IsTableAt, IsVisit, Meets, MeetFails, Visits}
 use Rattle.ocfl_item.specs.Around.{IsMet}
-use Rattle.ocfl_item.specs.Visiting.{HeadRead, IsEntryAt, IsPlainAt, ReadsOne, ReadOneFails, VisitsHead}
+use Rattle.ocfl_item.specs.Visiting.{HasRole, HeadRead, IsDirectoryAt, IsEntryAt, IsPlainAt, IsUndeclaredAt, ReadsOne, ReadOneFails, VisitsHead}
 use Rattle.ocfl_item.specs.declared.fault.Fault.{Fault}
 use Rattle.ocfl_item.specs.declared.fault.Fault.TheVariants as fault
 use Rattle.ocfl_item.specs.declared.folder.Folder.{Folder}
 use Rattle.ocfl_item.specs.declared.pending.Pending.{Pending}
 use Rattle.ocfl_item.specs.declared.meeting.Around.{Around}
+use Rattle.ocfl_item.specs.declared.role.Role.TheVariants as role
 use Rattle.ocfl_item.specs.declared.visit.Visit.{Visit}
 use Rattle.ocfl_audit.proofs.AuditExists.{not_empty}
 use Rattle.ocfl_item.proofs.AuditingLaws.{failed_behind, none_once, did_nothing, front_all, front_none}
@@ -47,8 +48,8 @@ use Rattle.ocfl_audit.proofs.PathLaws.{notes_at}
 use Rattle.ocfl_audit.proofs.StepLaws.{all_beginnings_step, zone_step}
 use Rattle.ocfl_audit.specs.Trail.{heads_of, reads_inventory}
 use Rattle.ocfl_audit.specs.Between.{is_looked_into, shows_entries}
-use Rattle.ocfl_item.proofs.ShutLaws.{IsShut, hidden, looked_at, shut_zone}
-use Rattle.ocfl_item.proofs.VisitLaws.{deep_notes, entry_dir, entry_file, entry_other, no_dir, relined, short_notes, dir_here}
+use Rattle.ocfl_item.proofs.ShutLaws.{hidden, looked_at, shut_zone}
+use Rattle.ocfl_item.proofs.VisitLaws.{deep_notes, entered_meets, entry_dir, entry_file, entry_other, file_shut, no_dir, other_shut, relined, short_notes, dir_here, visit_of_folder, visits_by}
 
 -- ---- an entry that is next
 
@@ -142,90 +143,70 @@ module _ (root : StorageRoot) (e d : Place) (n : Text) (is : e ≡ d ++ n ∷ []
         clash : kind.Other ≡ kind.Dir → ⊥
         clash x = cc
 
-    pub file_deeper : k ≡ kind.File → 1 < length e → IsPlainAt root e (plain E072 ∷ [])
-    file_deeper g deep = let f = entry_file root e k h g in in_hierarchy (file f.0) (plain E072 ∷ []) (no_file_dir g) f.1 (ap (λ b. on b (plain E072)) (lt-ltb 1 (length e) deep))
+    pub file_deeper : k ≡ kind.File → 1 < length e → HasRole root e (role.Plain E072)
+    file_deeper g deep = let f = entry_file root e k h g in (in_hierarchy (file f.0) (plain E072 ∷ []) (no_file_dir g) f.1 (ap (λ b. on b (plain E072)) (lt-ltb 1 (length e) deep)), file_shut root e k h g)
 
-    pub file_in_root : k ≡ kind.File → length e ≤ 1 → IsPlainAt root e []
-    file_in_root g short = let f = entry_file root e k h g in in_hierarchy (file f.0) [] (no_file_dir g) f.1 (ap (λ b. on b (plain E072)) (le-ltb 1 (length e) short))
+    pub file_in_root : k ≡ kind.File → length e ≤ 1 → HasRole root e role.LeftAlone
+    file_in_root g short = let f = entry_file root e k h g in (in_hierarchy (file f.0) [] (no_file_dir g) f.1 (ap (λ b. on b (plain E072)) (le-ltb 1 (length e) short)), file_shut root e k h g)
 
-    pub other_in_hierarchy : k ≡ kind.Other → IsPlainAt root e (plain S04 ∷ [])
-    other_in_hierarchy g = in_hierarchy other (plain S04 ∷ []) (no_other_dir g) (entry_other root e k h g) refl
+    pub other_in_hierarchy : k ≡ kind.Other → HasRole root e (role.Plain S04)
+    other_in_hierarchy g = (in_hierarchy other (plain S04 ∷ []) (no_other_dir g) (entry_other root e k h g) refl, other_shut root e k h g)
 
-    module _ (g : k ≡ kind.Dir) (x : nat_eq (length e) 1 && text_eq n (codes "extensions") ≡ true) where
-      in_extensions : zone root e ≡ skipped
-      in_extensions = zone_skipped (extensions_from x (dir_here root e k h g))
+    pub extensions_alone : k ≡ kind.Dir → nat_eq (length e) 1 && text_eq n (codes "extensions") ≡ true → HasRole root e role.LeftAlone
+    extensions_alone g x =
+        let z : zone root e ≡ skipped = zone_skipped (extensions_from x (dir_here root e k h g)) in
+        (skipped_plain root e (filled_by e d n is) z, shut_zone root e (filled_by e d n is) (ap (shows_entries root) z))
 
-      pub extensions_plain : IsPlainAt root e []
-      extensions_plain = skipped_plain root e (filled_by e d n is) in_extensions
-
-      pub extensions_shut : IsShut root e
-      extensions_shut = shut_zone root e (filled_by e d n is) (ap (shows_entries root) in_extensions)
+    pub other_directory : k ≡ kind.Dir → nat_eq (length e) 1 && text_eq n (codes "extensions") ≡ false → HasRole root e role.Directory
+    other_directory g x = record { here = subst (IsEntryAt root e) g h; below = filled_by e d n is; zone = zone_passed (extensions_not x) }
 
 -- ---- a directory of the hierarchy, or an object
 
-module _ (root : StorageRoot) (e : Place) (h : IsEntryAt root e kind.Dir) (some : e ≢ []) (z : zone root e ≡ cond (is_declared (object_declared root e)) (inside e []) hierarchy) where
+module _ (root : StorageRoot) (e : Place) (h : IsDirectoryAt root e) where
   undeclared_zone : object_declared root e ≡ undeclared → zone root e ≡ hierarchy
-  undeclared_zone g = z ∙ ap (λ x. cond (is_declared x) (inside e []) hierarchy) g
+  undeclared_zone g = h.zone ∙ ap (λ x. cond (is_declared x) (inside e []) hierarchy) g
 
   directory_plain : (ns : List Note) → object_declared root e ≡ undeclared → listed_dir_notes root e (plain E073 ∷ []) ≡ ns → IsPlainAt root e ns
-  directory_plain ns g k = relined root e (hierarchy_notes root e (seen root e)) ns (ap (hierarchy_notes root e) (entry_dir root e kind.Dir h refl) ∙ k) (hierarchy_plain root e some (undeclared_zone g))
+  directory_plain ns g k = relined root e (hierarchy_notes root e (seen root e)) ns (ap (hierarchy_notes root e) (entry_dir root e kind.Dir h.here refl) ∙ k) (hierarchy_plain root e h.below (undeclared_zone g))
 
   pub deep_plain : 127 < length e → IsPlainAt root e (plain S05 ∷ [])
   deep_plain deep = directory_plain (plain S05 ∷ []) (undeclared_deep root e deep) (deep_notes root e (plain E073 ∷ []) deep)
 
   pub short_listable : length e ≤ 127 → is_listable root e ≡ true
-  short_listable short = and_both (nat_le (length e) max_listed_depth) (is_dir root e) (le-leb (length e) 127 short) (dir_here root e kind.Dir h refl)
+  short_listable short = and_both (nat_le (length e) max_listed_depth) (is_dir root e) (le-leb (length e) 127 short) (dir_here root e kind.Dir h.here refl)
 
   -- it is looked into, an object or not
   pub looked_either : length e ≤ 127 → is_looked_into root e ≡ true
-  looked_either short = looked_at root e h.way (short_listable short) (ap (shows_entries root) z ∙ by (is_declared (object_declared root e)))
+  looked_either short = looked_at root e h.here.way (short_listable short) (ap (shows_entries root) h.zone ∙ by (is_declared (object_declared root e)))
     where
       by : (b : Bool) → shows_entries root (cond b (inside e []) hierarchy) ≡ true
       by true = refl
       by false = refl
 
-  module _ (es : List Entry) (short : length e ≤ 127) (ordinary : IsOrdinary es) (listing : IsListing root e es) where
-    declares : object_declared root e ≡ declared level.Object (file_names es)
-    declares = declared_object root e es (short_listable short) ordinary listing
+  pub directory_reached : length e ≤ 127 → object_declared root e ≡ undeclared → is_reached root e ≡ true
+  directory_reached short g = and_both (list_all (is_entered root) (beginnings e)) (is_entered root e) h.here.way (entered_from root e (short_listable short) (ap (is_listed_zone root) (undeclared_zone g)))
 
-    pub none_declared : (m : MadeDeclared) → meaning level.Object es m ≡ declared level.Object (file_names es) → m ≡ made.None → object_declared root e ≡ undeclared
-    none_declared m says none = declares ∙ sym says ∙ ap (meaning level.Object es) none
+-- ---- one that was listed, and declares nothing
 
-    pub empty_plain : object_declared root e ≡ undeclared → es ≡ [] → IsPlainAt root e (plain E073 ∷ [])
-    empty_plain g none = directory_plain (plain E073 ∷ []) g (short_notes root e (plain E073 ∷ []) short ∙ ap (λ b. cond b (plain E073 ∷ []) []) (emptied root e es listing none))
+module _ (root : StorageRoot) (e : Place) (es : List Entry) (h : IsUndeclaredAt root e es) where
+  listed_plain : (ns : List Note) (b : Bool) → is_empty (names_in root e) ≡ b → cond b (plain E073 ∷ []) [] ≡ ns → IsPlainAt root e ns
+  listed_plain ns b is k = directory_plain root e h.directory ns h.none (short_notes root e (plain E073 ∷ []) h.short ∙ ap (λ x. cond x (plain E073 ∷ []) []) is ∙ k)
 
-    pub full_plain : object_declared root e ≡ undeclared → es ≢ [] → IsPlainAt root e []
-    full_plain g full = directory_plain [] g (short_notes root e (plain E073 ∷ []) short ∙ ap (λ b. cond b (plain E073 ∷ []) []) (not_emptied root e es listing full))
+  pub empty_plain : es ≡ [] → IsPlainAt root e (plain E073 ∷ [])
+  empty_plain none = listed_plain (plain E073 ∷ []) true (emptied root e es h.listing none) refl
 
-    pub empty_names : es ≡ [] → seen_names root e ≡ []
-    empty_names none = by (is_reached root e) (names_in root e) (emptied root e es listing none)
-      where
-        by : (b : Bool) (ns : List Text) → is_empty ns ≡ true → cond b ns [] ≡ []
-        by true [] g = refl
-        by true (n ∷ ns) g = absurd (true_not_false (sym g))
-        by false ns g = refl
+  pub empty_names : es ≡ [] → seen_names root e ≡ []
+  empty_names none = by (is_reached root e) (names_in root e) (emptied root e es h.listing none)
+    where
+      by : (b : Bool) (ns : List Text) → is_empty ns ≡ true → cond b ns [] ≡ []
+      by true [] g = refl
+      by true (n ∷ ns) g = absurd (true_not_false (sym g))
+      by false ns g = refl
 
-    pub reached_hierarchy : object_declared root e ≡ undeclared → is_reached root e ≡ true
-    reached_hierarchy g = and_both (list_all (is_entered root) (beginnings e)) (is_entered root e) h.way (entered_from root e (short_listable short) (ap (is_listed_zone root) (undeclared_zone g)))
-
-    pub looked_hierarchy : object_declared root e ≡ undeclared → (is_looked_into root e ≡ true) × (is_head (zone root e) ≡ false)
-    looked_hierarchy g = (looked_either short, ap is_head (undeclared_zone g))
-
-    some_declared : (m : MadeDeclared) → PointsAtOne level.Object es m → m ≢ made.None → is_declared (meaning level.Object es m) ≡ true
-    some_declared made.None p not = absurd (not refl)
-    some_declared (made.One v) p not = refl
-    some_declared (made.Unknown i) p not = ap (λ o. is_declared (unknown_by level.Object o)) p.1
-    some_declared made.Several p not = refl
-
-    pub is_object : (m : MadeDeclared) → meaning level.Object es m ≡ declared level.Object (file_names es) → PointsAtOne level.Object es m → m ≢ made.None → IsDeclared root e es m
-    is_object m says points not = record {
-      listing = listing;
-      way = h.way;
-      listable = short_listable short;
-      zone = z ∙ ap (λ b. cond b (inside e []) hierarchy) (ap is_declared (declares ∙ sym says) ∙ some_declared m points not);
-      says = says ∙ sym declares;
-      points = points;
-    }
+  pub full_visit : (v : Visit) (f : Folder) → es ≢ [] → v.item ≡ None → v.folder ≡ Some f → v.table ≡ None → f.place ≡ e → f.entries.items ≡ es → IsVisit root e v
+  full_visit v f full item folder table place entries =
+      let k = listed_plain [] false (not_emptied root e es h.listing full) refl in
+      visit_of_folder root e v f (subst (IsItemAt root e) (sym item) k.lines) folder table k.head place (directory_reached root e h.directory h.short h.none) (subst (IsListing root e) (sym entries) h.listing)
 
 -- the listing, and then what the head reads
 pub listed_then : (root : StorageRoot) (s t u : Store) (e : Place) → is_head (zone root e) ≡ true → s.tree ≡ root → Did s t [] (e ∷ []) 0 → is_looked_into root e ≡ true → ReadsOne root t u e → Meets root s u e
@@ -259,9 +240,56 @@ pub visits_then : (root : StorageRoot) (s t u : Store) (e : Place) (r : Result V
 visits_then root s t u e (Ok v) head over did looked h = record { gives = (listed_then root s t u e head over did looked h.gives.0, h.gives.1) }
 visits_then root s t u e (Err why) head over did looked h = record { gives = listed_fails root s t u e why head over did looked h.gives }
 
--- an object's root is looked into
-pub object_looked : (root : StorageRoot) (o : Place) (es : List Entry) (m : MadeDeclared) → IsDeclared root o es m → is_looked_into root o ≡ true
-object_looked root o es m h = looked_at root o h.way h.listable (ap (shows_entries root) h.zone)
+-- ---- one that was listed, by what it declares
+
+some_declared : (es : List Entry) (m : MadeDeclared) → PointsAtOne level.Object es m → m ≢ made.None → is_declared (meaning level.Object es m) ≡ true
+some_declared es made.None p not = absurd (not refl)
+some_declared es (made.One v) p not = refl
+some_declared es (made.Unknown i) p not = ap (λ o. is_declared (unknown_by level.Object o)) p.1
+some_declared es made.Several p not = refl
+
+-- a directory that was listed, and what its declarations were read to be
+pub record IsListedAs (root : StorageRoot) (s t : Store) (e : Place) (f : Folder) (m : MadeDeclared) : Type 0 where
+  pub over : s.tree ≡ root
+  pub directory : IsDirectoryAt root e
+  pub short : length e ≤ 127
+  pub there : Enters root s t e f.place f.entries.items
+  pub ordinary : IsOrdinary f.entries.items
+  pub says : meaning level.Object f.entries.items m ≡ declared level.Object (file_names f.entries.items)
+  pub points : PointsAtOne level.Object f.entries.items m
+
+pub listed_as : (root : StorageRoot) (s t : Store) (e : Place) (f : Folder) (m : MadeDeclared) (given : List Entry) → s.tree ≡ root → IsDirectoryAt root e → length e ≤ 127 → (is_listable root e ≡ true → Enters root s t e f.place f.entries.items) → IsOrdinary f.entries.items → given ≡ f.entries.items
+    → meaning level.Object given m ≡ declared level.Object (file_names given) → PointsAtOne level.Object given m → IsListedAs root s t e f m
+listed_as root s t e f m given over h short told ordinary same says points = record {
+  over = over;
+  directory = h;
+  short = short;
+  there = told (short_listable root e h short);
+  ordinary = ordinary;
+  says = subst (λ xs. meaning level.Object xs m ≡ declared level.Object (file_names xs)) same says;
+  points = subst (λ xs. PointsAtOne level.Object xs m) same points;
+}
+
+module _ (root : StorageRoot) (s t : Store) (e : Place) (f : Folder) (m : MadeDeclared) (h : IsListedAs root s t e f m) where
+  looked : is_looked_into root e ≡ true
+  looked = looked_either root e h.directory h.short
+
+  says : object_declared root e ≡ meaning level.Object f.entries.items m
+  says = declared_object root e f.entries.items (short_listable root e h.directory h.short) h.ordinary h.there.listing ∙ sym h.says
+
+  pub undeclared_visits : (r : Result Visit Fault) → m ≡ made.None → IfErr r (λ why. why ≡ fault.Memory) → (IsUndeclaredAt root f.place f.entries.items → IfOk r (λ v. IsVisit root f.place v)) → Visits root s t e r
+  undeclared_visits r is only told =
+      let none : object_declared root e ≡ undeclared = says ∙ ap (meaning level.Object f.entries.items) is in
+      let here : IsUndeclaredAt root e f.entries.items = record { directory = h.directory; short = h.short; listing = h.there.listing; none = none } in
+      visits_by root s t e r (entered_meets root s t e f.place f.entries.items h.over h.there looked (ap is_head (undeclared_zone root e h.directory none))) only
+      (subst (λ x. IfOk r (λ v. IsVisit root x v)) h.there.is (told (subst (λ x. IsUndeclaredAt root x f.entries.items) (sym h.there.is) here)))
+
+  pub object_visits : (u : Store) (r : Result Visit Fault) → m ≢ made.None → (t.tree ≡ root → IsDeclared root f.place f.entries.items m → VisitsHead root t u f.place r) → Visits root s u e r
+  object_visits u r not told =
+      let z : zone root e ≡ inside e [] = h.directory.zone ∙ ap (λ b. cond b (inside e []) hierarchy) (ap is_declared says ∙ some_declared f.entries.items m h.points not) in
+      let object : IsDeclared root e f.entries.items m = record { listing = h.there.listing; way = h.directory.here.way; listable = short_listable root e h.directory h.short; zone = z; says = sym says; points = h.points } in
+      visits_then root s t u e r (ap is_head z) h.over h.there.did looked
+      (subst (λ x. VisitsHead root t u x r) h.there.is (told (h.there.did.tree ∙ h.over) (subst (λ x. IsDeclared root x f.entries.items m) (sym h.there.is) object)))
 
 -- ---- an object
 
@@ -296,8 +324,6 @@ unread_memory root s o over = record {
   gives = record { over = over; trail = []; did = did_nothing s; meta = refl; once = none_once; heads = front_none (on (reads_inventory root o) o); store = λ q g. absurd cc };
 }
 
-pub plain_by : (root : StorageRoot) (e d : Place) (ns : List Note) (r : Result Visit Fault) → d ≡ e → (IsPlainAt root d ns → seen_names root d ≡ [] → IfOk r (λ v. IsVisit root d v)) → IsPlainAt root e ns → seen_names root e ≡ [] → IfOk r (λ v. IsVisit root e v)
-plain_by root e d ns r is told = subst (λ x. IsPlainAt root x ns → seen_names root x ≡ [] → IfOk r (λ v. IsVisit root x v)) is told
-
-pub directory_over : (e d : Place) (r : Result Visit Fault) → d ≡ e → IfOk r (λ v. IsFairVisit d v) → IfOk r (λ v. IsFairVisit e v)
-directory_over e d r is h = subst (λ x. IfOk r (λ v. IsFairVisit x v)) is h
+-- what is fair of a directory that was listed
+pub fair_over : (e : Place) (f : Folder) (r : Result Visit Fault) → f.place ≡ e → length e ≤ 127 → (length f.place ≤ 127 → IfOk r (λ v. IsFairVisit f.place v)) → IfOk r (λ v. IsFairVisit e v)
+fair_over e f r is short fair = subst (λ x. IfOk r (λ v. IsFairVisit x v)) is (fair (subst (λ x. length x ≤ 127) (sym is) short))

@@ -1,14 +1,22 @@
 -- What is known of an entry that the walk comes to.
 use Rattle.std.specs.declared.alloc.Global.{Global}
-use Rattle.std.specs.Prelude.{AllPairs, ◌≢◌, ◌≡◌, List, [], Result, MatchResult, Vec, true, false, Option, Some, None, option_map}
+use Rattle.std.specs.Prelude.{AllPairs, ◌≢◌, ◌≡◌, ◌≤◌, List, [], ◌∷◌, cond, length, Result, MatchResult, Vec, true, false, Option, Some, None, option_map}
 use Rattle.std.specs.List.{list_all}
 use Rattle.ocfl_tree.specs.Place.{Place, beginnings}
 use Rattle.ocfl_tree.specs.StorageRoot.{StorageRoot, at, is_dir}
-use Rattle.ocfl_tree.specs.Listing.{kind_of}
+use Rattle.ocfl_tree.specs.Listing.{kind_of, IsListing}
+use Rattle.ocfl_tree.specs.declared.store.Entry.{Entry}
 use Rattle.ocfl_tree.specs.declared.store.Kind.{Kind}
-use Rattle.ocfl_report.specs.Line.{Note}
-use Rattle.ocfl_audit.specs.Zone.{zone, is_entered, is_listed_zone}
-use Rattle.ocfl_audit.specs.Lines.{notes, named_at}
+use Rattle.ocfl_tree.specs.declared.store.Kind.TheVariants as kind
+use Rattle.ocfl_report.specs.Line.{Note, plain}
+use Rattle.ocfl_inventory.specs.Declaration.{is_declared, undeclared}
+use Rattle.ocfl_inventory.specs.Entries.{meaning, PointsAtOne}
+use Rattle.ocfl_inventory.specs.declared.declaration.Declared.{Declared as MadeDeclared}
+use Rattle.ocfl_inventory.specs.declared.declaration.Level.TheVariants as level
+use Rattle.ocfl_audit.specs.Zone.{hierarchy, inside, zone, is_entered, is_listed_zone, object_declared, root_declared}
+use Rattle.ocfl_audit.specs.Lines.{listed_dir_notes, notes, named_at}
+use Rattle.ocfl_audit.specs.Between.{is_looked_into}
+use Rattle.ocfl_audit.specs.Walk.{seen_names}
 use Rattle.ocfl_tree.specs.Store.{Store, Did}
 use Rattle.ocfl_tree.specs.declared.store.Opening.{Opening}
 use Rattle.ocfl_report.specs.declared.line.Line.{Line as MadeLine}
@@ -22,6 +30,8 @@ use Rattle.ocfl_audit.specs.Lines.{is_hashed}
 use Rattle.ocfl_item.specs.Meeting.{IsVisit}
 use Rattle.ocfl_item.specs.declared.fault.Fault.{Fault}
 use Rattle.ocfl_item.specs.declared.fault.Fault.TheVariants as fault
+use Rattle.ocfl_item.specs.declared.role.Role.{Role}
+use Rattle.ocfl_item.specs.declared.role.Role.TheVariants as role
 use Rattle.ocfl_item.specs.declared.visit.Visit.{Visit}
 
 -- all above it is entered, and what lies there is of this kind
@@ -40,6 +50,39 @@ pub record IsListedAt (root : StorageRoot) (e : Place) : Type 0 where
   pub way : list_all (is_entered root) (beginnings e) ≡ true
   pub directory : is_dir root e ≡ true
   pub listed : is_listed_zone root (zone root e) ≡ true
+
+-- not looked into, no inventory is read here, and no names are seen
+pub record IsShut (root : StorageRoot) (e : Place) : Type 0 where
+  pub looked : is_looked_into root e ≡ false
+  pub read : reads_inventory root e ≡ false
+  pub names : seen_names root e ≡ []
+
+-- a directory of the storage hierarchy, or an object in it
+pub record IsDirectoryAt (root : StorageRoot) (e : Place) : Type 0 where
+  pub here : IsEntryAt root e kind.Dir
+  pub below : e ≢ []
+  pub zone : zone root e ≡ cond (is_declared (object_declared root e)) (inside e []) hierarchy
+
+-- one that was listed, and declares nothing
+pub record IsUndeclaredAt (root : StorageRoot) (e : Place) (es : List Entry) : Type 0 where
+  pub directory : IsDirectoryAt root e
+  pub short : length e ≤ 127
+  pub listing : IsListing root e es
+  pub none : object_declared root e ≡ undeclared
+
+-- what an entry is to the walk
+abbrev pub HasRole : StorageRoot → Place → Role → Type 0
+HasRole root e role.LeftAlone = IsPlainAt root e [] × IsShut root e
+HasRole root e (role.Plain code) = IsPlainAt root e (plain code ∷ []) × IsShut root e
+HasRole root e role.Listed = IsListedAt root e × IsPlainAt root e (listed_dir_notes root e [])
+HasRole root e role.Directory = IsDirectoryAt root e
+
+-- the storage root, as it was listed, and what its declarations were read to be
+pub record IsBase (root : StorageRoot) (d : Place) (es : List Entry) (m : MadeDeclared) : Type 0 where
+  pub top : d ≡ []
+  pub listing : IsListing root d es
+  pub says : meaning level.Root es m ≡ root_declared root
+  pub points : PointsAtOne level.Root es m
 
 -- ---- an object's head
 

@@ -16,6 +16,7 @@ mod meeting;
 mod missing;
 mod object;
 mod pending;
+mod role;
 mod sight;
 mod visit;
 

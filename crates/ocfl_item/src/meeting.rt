@@ -1,7 +1,9 @@
 //! What is met at a place below the storage root, by the part of the root that it lies in.
-ghost use Rattle.std.specs.Prelude.{◌≡◌, None, IsTrue, IfErr, IfOk, IfSome};
+ghost use Rattle.std.specs.Prelude.{◌≡◌, None, IsTrue, IfErr, IfOk, IfSome, drop, length, map};
 ghost use Rattle.ocfl_tree.specs.Place.{Place as Spot};
 ghost use Rattle.ocfl_tree.specs.StorageRoot.{StorageRoot};
+ghost use Rattle.ocfl_inventory.specs.Table.{named as digests_of};
+ghost use Rattle.ocfl_inventory.specs.TripleView.{named_view};
 ghost use Rattle.ocfl_audit.specs.Zone.{seen};
 ghost use Rattle.ocfl_item.specs.Around.{IsMet, IsTableAround};
 ghost use Rattle.ocfl_item.specs.Meeting.{IsFairVisit, IsItemAt, Visits};
@@ -10,19 +12,29 @@ ghost use Rattle.ocfl_item.specs.Ways.{IsWayFault};
 use crate::content::content_item;
 use crate::fault::Fault;
 use crate::pending::Pending;
+use crate::role::{role_in_hierarchy, role_in_object, role_in_version};
 use crate::sight::Sight;
-use crate::visit::{
-    Visit, visit_in_content, visit_in_hierarchy, visit_in_object, visit_in_version,
-};
-use ocfl_inventory::Table;
+use crate::visit::{Visit, visit_by_role, visit_in_content};
+use ocfl_inventory::{Named, Table};
 use ocfl_tree::{Entry, Place, Tree};
-use std::alloc::Global;
+use std::alloc::{AllocError, Global};
 
 /// The object that a place lies in, where its head does not stop.
 #[derive(Debug, Drop)]
 pub struct Around {
     pub place: Place,
     pub table: Table,
+}
+
+impl Around {
+    /// The digests that the object's table names for a place in it.
+    fn named_at(&self, alloc: Global, place: &Place) -> Result<Vec<Named>, AllocError>
+        ensures { IfOk result (λ named. map named_view named.items
+            ≡ digests_of self.now.table (drop (length self.now.place) place.now)) }
+    {
+        let inner = place.behind(self.place.depth())?;
+        self.table.named(alloc, &inner)
+    }
 }
 
 /// What is met at an entry, by the part of the storage root that it lies in.
@@ -40,15 +52,14 @@ pub fn visit_entry<T: Tree>(
         → Visits root (T.state store.old) (T.state store.new) place result }
 {
     let Some(around) = around else {
-        return visit_in_hierarchy(alloc, store, place, entry);
+        let role = role_in_hierarchy(&place, entry);
+        return visit_by_role(alloc, store, place, role);
     };
-    let depth = around.place.depth();
-    match place.depth().saturating_sub(depth) {
-        1 => visit_in_object(alloc, store, place, entry),
-        2 => visit_in_version(alloc, store, &around.table, place, entry),
+    match place.depth().saturating_sub(around.place.depth()) {
+        1 => visit_by_role(alloc, store, place, role_in_object(entry)),
+        2 => visit_by_role(alloc, store, place, role_in_version(entry, &around.table)),
         _ => {
-            let inner = place.behind(depth)?;
-            let named = around.table.named(alloc, &inner)?;
+            let named = around.named_at(alloc, &place)?;
             visit_in_content(alloc, store, place, entry, named)
         }
     }
@@ -69,8 +80,7 @@ pub fn visit_path(
     let Some(around) = around else {
         return Ok(None);
     };
-    let inner = place.behind(around.place.depth())?;
-    let named = around.table.named(alloc, &inner)?;
+    let named = around.named_at(alloc, place)?;
     if named.is_empty() {
         return Ok(None);
     }

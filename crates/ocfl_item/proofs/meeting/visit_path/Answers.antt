@@ -1,5 +1,4 @@
 use Rattle.std.proofs.Common.{◌≡◌, ◌∙◌, ap, sym, subst, [], length, drop, map}
-use Rattle.ocfl_inventory.specs.Table.{named}
 use Rattle.ocfl_inventory.specs.TripleView.{named_view}
 use Rattle.ocfl_item.specs.Around.{IsTableAround}
 use Rattle.ocfl_item.proofs.LooksEntries.{no_entries, some_entries}
@@ -15,19 +14,16 @@ returns-then-is_empty-clause-told c = λ root h unseen.
     let p = c.args.place.now in
     let a = c.in-Some.around in
     let around = subst (IsTableAround root p) c.in-Some.is h in
-    let inner = c.in_ok-inner.ensures ∙ ap (λ n. drop n p) c.depth.ensures in
     let items = c.in_ok-named.named.items in
     let none : items ≡ [] = no_entries items c.in_ok-named.named.len c.in_ok-named.named.ok.0 (sym c.if-is_empty.true ∙ c.is_empty.ensures) in
-    unseen_notes root p unseen (named_around root p a around ∙ sym (c.in_ok-named.ensures ∙ ap (named a.table) inner) ∙ ap (map named_view) none)
+    unseen_notes root p unseen (named_around root p a around ∙ sym c.in_ok-named.ensures ∙ ap (map named_view) none)
 
 pub returns-clause-told : goal.returns-clause-told
 returns-clause-told c = λ root h unseen.
     let p = c.args.place.now in
     let a = c.in-Some.around in
     let around = subst (IsTableAround root p) c.in-Some.is h in
-    let inner = c.in_ok-inner.ensures ∙ ap (λ n. drop n p) c.depth.ensures in
     let items = c.in_ok-named.named.items in
-    let digests = c.in_ok-named.ensures ∙ ap (named a.table) inner in
     let some = some_named items (some_entries items c.in_ok-named.named.len c.in_ok-named.named.ok.0 (sym c.if-is_empty.false ∙ c.is_empty.ensures)) in
-    let content = named_content root p a around (λ e. some (digests ∙ sym (named_around root p a around) ∙ e)) in
-    c.in_ok-content_item.ensures.told root a.table (drop (length a.place) p) content digests unseen
+    let content = named_content root p a around (λ e. some (c.in_ok-named.ensures ∙ sym (named_around root p a around) ∙ e)) in
+    c.in_ok-content_item.ensures.told root a.table (drop (length a.place) p) content c.in_ok-named.ensures unseen

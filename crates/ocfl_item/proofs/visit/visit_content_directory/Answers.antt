@@ -1,32 +1,26 @@
-use Rattle.std.proofs.Common.{◌≡◌, ◌<◌, ◌≤◌, ◌∙◌, sym, subst, refl, Some, length, rules}
+use Rattle.std.proofs.Common.{◌≡◌, ◌<◌, ◌≤◌, ◌∙◌, sym, subst, Some, length, rules}
 use Rattle.std.proofs.lemmas.Result.{err_from_is_err_and}
 use Rattle.ocfl_item.specs.Looking.{IsSight, content_at}
 use Rattle.ocfl_item.specs.Meeting.{IsItemAt}
 use Rattle.ocfl_item.proofs.LooksEntries.{no_entries, some_entries}
 use Rattle.ocfl_item.proofs.ShutLaws.{shut_deep}
-use Rattle.ocfl_item.proofs.VisitLaws.{content_no_head, deep_sight, dir_sight, empty_sight, entered_meets, item_visits, listable, looked_listed, reached_here, visit_of_folder, visits_memory, visits_nothing, visits_told, visits_stop}
+use Rattle.ocfl_item.proofs.VisitLaws.{content_no_head, deep_sight, dir_sight, empty_sight, entered_meets, listable, looked_listed, reached_here, shut_visits, visit_of_folder, visits_memory, visits_told, visits_stop}
 use Rattle.ocfl_item.proofs.visit.visit_content_directory.Goals as goal
 use Rattle.ocfl_item.proofs.visit.visit_content_directory.Goals.{then-is_empty, else-is_empty}
-
-pub returns-in_err-item-clause-told : goal.returns-in_err-item-clause-told
-returns-in_err-item-clause-told g c = λ h root over here t q content digests.
-    let p = err_from_is_err_and c.from_residual.result c.from_residual.ensures.1 in
-    rw (p.1, p.2) (visits_nothing root _ c.args.place over)
 
 pub returns-then-depth-gt-MAX_LISTED_DEPTH-clause-told :
     goal.returns-then-depth-gt-MAX_LISTED_DEPTH-clause-told
 returns-then-depth-gt-MAX_LISTED_DEPTH-clause-told g c = λ h root over here t q content digests.
     let e = c.args.place in
     let deep : 127 < length e = search rules in
-    let item = c.in_ok-item.ensures.told root t q content digests (deep_sight root e here deep) in
-    item_visits root _ e over (shut_deep root e deep) c.of_item.result _ (content_no_head root e (t, q) content) item c.of_item.ensures.item c.of_item.ensures.folder c.of_item.ensures.table
+    shut_visits root _ e over (shut_deep root e deep) c.visit_unentered.result c.visit_unentered.ensures.only (c.visit_unentered.ensures.told root t q content digests (deep_sight root e here deep))
 
-pub returns-in_err-item-2-clause-told : goal.returns-in_err-item-2-clause-told
-returns-in_err-item-2-clause-told g c = λ h root over here t q content digests.
+pub returns-in_err-item-clause-told : goal.returns-in_err-item-clause-told
+returns-in_err-item-clause-told g c = λ h root over here t q content digests.
     let e = c.args.place in
     let short : length e ≤ 127 = search rules in
     let inner = c.in_ok-folder.ensures.told h root over (listable root e here short) in
-    let p = err_from_is_err_and c.from_residual-in_err-item-2.result c.from_residual-in_err-item-2.ensures.1 in
+    let p = err_from_is_err_and c.from_residual-in_err-item.result c.from_residual-in_err-item.ensures.1 in
     rw (p.1, p.2) (visits_memory root _ _ e (entered_meets root _ _ e _ _ over inner (looked_listed root e here short) (content_no_head root e (t, q) content)))
 
 pub returns-clause-told : goal.returns-clause-told
@@ -40,13 +34,13 @@ returns-clause-told g c = λ h root over here t q content digests.
       | then-is_empty w ↦ subst (IsSight root e) (sym w.sight-is) (empty_sight root e here f.entries.items short inner.listing (no_entries f.entries.items f.entries.len f.entries.ok.0 (sym w.if-is_empty.true ∙ c.is_empty.ensures)))
       | else-is_empty w ↦ subst (IsSight root e) (sym w.sight-is) (dir_sight root e here f.entries.items short inner.listing (some_entries f.entries.items f.entries.len f.entries.ok.0 (sym w.if-is_empty.false ∙ c.is_empty.ensures)))
     ] in
-    let item = c.in_ok-item-2.ensures.told root t q (subst (λ x. content_at root x ≡ Some (t, q)) (sym inner.is) content) digests (subst (λ x. IsSight root x c.if-is_empty.sight) (sym inner.is) sight) in
+    let item = c.in_ok-item.ensures.told root t q (subst (λ x. content_at root x ≡ Some (t, q)) (sym inner.is) content) digests (subst (λ x. IsSight root x c.if-is_empty.sight) (sym inner.is) sight) in
     visits_told root _ _ e _ (entered_meets root _ _ e _ _ over inner (looked_listed root e here short) (content_no_head root e (t, q) content))
-    (visit_of_folder root e _ f (subst (λ x. IsItemAt root x c.in_ok-item-2.item) inner.is item) refl refl (content_no_head root e (t, q) content) inner.is (reached_here root e here short) inner.listing)
+    (visit_of_folder root e c.of_folder.result f (subst (IsItemAt root e) (sym c.of_folder.ensures.item) (subst (λ x. IsItemAt root x c.in_ok-item.item) inner.is item)) c.of_folder.ensures.folder c.of_folder.ensures.table (content_no_head root e (t, q) content) inner.is (reached_here root e here short) inner.listing)
 
 pub returns-in_err-folder-clause-told : goal.returns-in_err-folder-clause-told
 returns-in_err-folder-clause-told g c = λ h root over here t q content digests.
     let e = c.args.place in
     let short : length e ≤ 127 = search rules in
-    let p = err_from_is_err_and c.from_residual-in_err-folder.result c.from_residual-in_err-folder.ensures.1 in
+    let p = err_from_is_err_and c.from_residual.result c.from_residual.ensures.1 in
     rw (p.1, p.2) (visits_stop root _ _ e _ (looked_listed root e here short) (c.in_err-folder.ensures.told h root over (listable root e here short)))

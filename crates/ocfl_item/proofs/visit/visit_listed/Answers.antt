@@ -1,7 +1,8 @@
-use Rattle.std.proofs.Common.{◌<◌, ◌≤◌, ◌∙◌, refl, [], length, rules}
+use Rattle.std.proofs.Common.{◌<◌, ◌≤◌, ◌∙◌, sym, subst, [], length, rules}
 use Rattle.std.proofs.lemmas.Result.{err_from_is_err_and}
+use Rattle.ocfl_item.specs.Meeting.{IsItemAt}
 use Rattle.ocfl_item.proofs.ShutLaws.{shut_deep}
-use Rattle.ocfl_item.proofs.VisitLaws.{deep_notes, entered_meets, listable, looked_listed, no_notes, plain_visits, reached_here, relined, visit_of_folder, visits_stop, visits_told}
+use Rattle.ocfl_item.proofs.VisitLaws.{deep_notes, entered_meets, listable, looked_listed, no_notes, reached_here, relined, shut_visits, visit_of_folder, visits_stop, visits_told}
 use Rattle.ocfl_item.proofs.visit.visit_listed.Goals as goal
 
 pub returns-then-depth-gt-MAX_LISTED_DEPTH-clause-told :
@@ -9,7 +10,7 @@ pub returns-then-depth-gt-MAX_LISTED_DEPTH-clause-told :
 returns-then-depth-gt-MAX_LISTED_DEPTH-clause-told g c = λ h root over here plain.
     let e = c.args.place in
     let deep : 127 < length e = search rules in
-    plain_visits root _ e over (shut_deep root e deep) _ c.visit_plain.result (relined root e _ _ (deep_notes root e [] deep) plain) c.visit_plain.ensures.only (c.visit_plain.ensures.told root)
+    shut_visits root _ e over (shut_deep root e deep) c.visit_plain.result c.visit_plain.ensures.only (c.visit_plain.ensures.told root (relined root e _ _ (deep_notes root e [] deep) plain))
 
 pub returns-clause-told : goal.returns-clause-told
 returns-clause-told g c = λ h root over here plain.
@@ -18,7 +19,7 @@ returns-clause-told g c = λ h root over here plain.
     let short : length e ≤ 127 = search rules in
     let inner = c.in_ok-folder.ensures.told h root over (listable root e here short) in
     visits_told root _ _ e _ (entered_meets root _ _ e _ _ over inner (looked_listed root e here short) plain.head)
-    (visit_of_folder root e _ f (plain.lines ∙ no_notes root e short) refl refl plain.head inner.is (reached_here root e here short) inner.listing)
+    (visit_of_folder root e c.of_folder.result f (subst (IsItemAt root e) (sym c.of_folder.ensures.item) (plain.lines ∙ no_notes root e short)) c.of_folder.ensures.folder c.of_folder.ensures.table plain.head inner.is (reached_here root e here short) inner.listing)
 
 pub returns-in_err-folder-clause-told : goal.returns-in_err-folder-clause-told
 returns-in_err-folder-clause-told g c = λ h root over here plain.

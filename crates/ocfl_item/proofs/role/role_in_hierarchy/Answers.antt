@@ -1,0 +1,24 @@
+use Rattle.std.proofs.Common.{◌<◌, ◌≤◌, ◌∙◌, sym, length, rules}
+use Rattle.ocfl_item.proofs.VisitPlaces.{entry_met, extensions_alone, file_deeper, file_in_root, other_directory, other_in_hierarchy}
+use Rattle.ocfl_item.proofs.role.role_in_hierarchy.Goals as goal
+
+pub returns-in-File : goal.returns-in-File
+returns-in-File c = λ root d met.
+    let deep : 1 < length c.args.place.now = search rules in
+    file_deeper root _ d _ met.is met.part _ (entry_met root d _ _ c.args.entry.now met) c.in-File.is deep
+
+pub returns-in-File-2 : goal.returns-in-File-2
+returns-in-File-2 c = λ root d met.
+    let short : length c.args.place.now ≤ 1 = search rules in
+    file_in_root root _ d _ met.is met.part _ (entry_met root d _ _ c.args.entry.now met) c.in-File-2.is short
+
+pub returns-in-Other : goal.returns-in-Other
+returns-in-Other c = λ root d met. other_in_hierarchy root _ d _ met.is met.part _ (entry_met root d _ _ c.args.entry.now met) c.in-Other.is
+
+pub returns-in-Dir : goal.returns-in-Dir
+returns-in-Dir c = λ root d met.
+    extensions_alone root _ d _ met.is met.part _ (entry_met root d _ _ c.args.entry.now met) c.in-Dir.is (sym c.is_extensions_entry.ensures ∙ c.if-is_extensions_entry.true)
+
+pub returns-in-Dir-2 : goal.returns-in-Dir-2
+returns-in-Dir-2 c = λ root d met.
+    other_directory root _ d _ met.is met.part _ (entry_met root d _ _ c.args.entry.now met) c.in-Dir-2.is (sym c.is_extensions_entry.ensures ∙ c.if-is_extensions_entry.false)

@@ -1,0 +1,108 @@
+//! What an entry is to the walk, by its kind and its name, in each part of the storage root.
+ghost use Rattle.std.specs.Prelude.{◌≡◌, ◌∷◌, ◌&&◌, ◌||◌, nat_eq, codes, length, [], None, Some};
+ghost use Rattle.std.specs.Prelude.{true};
+ghost use Rattle.ocfl_tree.specs.Place.{Place as Spot, Text, text_eq};
+ghost use Rattle.ocfl_tree.specs.StorageRoot.{StorageRoot};
+ghost use Rattle.ocfl_inventory.specs.Declaration.{is_declaration};
+ghost use Rattle.ocfl_inventory.specs.ListedPath.{is_version_name as is_version_text};
+ghost use Rattle.ocfl_inventory.specs.Table.{Table as TableOf};
+ghost use Rattle.ocfl_inventory.specs.declared.declaration.Level.TheVariants as level;
+ghost use Rattle.ocfl_audit.specs.Zone.{inside, table_at, zone};
+ghost use Rattle.ocfl_audit.specs.Lines.{is_inventory_or_sidecar as is_beside_inventory};
+ghost use Rattle.ocfl_item.specs.Around.{IsMet};
+ghost use Rattle.ocfl_item.specs.Visiting.{HasRole, IsEntryAt};
+
+use ocfl_inventory::{Level, Table, is_declaration_name, is_version_name};
+use ocfl_report::Code;
+use ocfl_tree::{Entry, Kind, Name, Place, is_text};
+
+/// What an entry is to the walk.
+#[derive(Clone, Copy, Debug, PartialEq, Eq)]
+pub(crate) enum Role {
+    /// It has no lines and is not entered.
+    LeftAlone,
+    /// It has one line, whose detail is a dash, and is not entered.
+    Plain(Code),
+    /// A directory that is listed, whether it is empty or not.
+    Listed,
+    /// A directory of the storage hierarchy, or an object in it.
+    Directory,
+}
+
+/// Whether an entry is that of the storage root's extensions.
+fn is_extensions_entry(place: &Place, name: &Name) -> bool
+    ensures { result ≡ (nat_eq (length place.now) 1 && text_eq name.now (codes "extensions")) }
+{
+    place.depth() == 1 && is_text(name.as_str(), "extensions")
+}
+
+/// The role of an entry of a directory of the storage hierarchy (OCFL 1.1, 4.3 Storage
+/// Hierarchies).
+pub(crate) fn role_in_hierarchy(place: &Place, entry: &Entry) -> Role
+    ensures { (root : StorageRoot) (d : Spot) → IsMet root d None entry.now place.now
+        → HasRole root place.now result }
+{
+    match entry.kind {
+        Kind::File if place.depth() > 1 => Role::Plain(Code::E072),
+        Kind::File => Role::LeftAlone,
+        Kind::Other => Role::Plain(Code::S04),
+        Kind::Dir if is_extensions_entry(place, &entry.name) => Role::LeftAlone,
+        Kind::Dir => Role::Directory,
+    }
+}
+
+fn is_inventory_or_sidecar(name: &str) -> bool
+    ensures { result ≡ is_beside_inventory name.now }
+{
+    is_text(name, "inventory.json")
+        || is_text(name, "inventory.json.sha256")
+        || is_text(name, "inventory.json.sha512")
+}
+
+/// Whether an object's root may hold a file of this name.
+fn is_file_of_object(name: &str) -> bool
+    ensures { result ≡ (is_declaration level.Object name.now || is_beside_inventory name.now) }
+{
+    is_declaration_name(Level::Object, name) || is_inventory_or_sidecar(name)
+}
+
+/// Whether a directory of an object's root is left alone.
+fn is_left_alone(name: &str) -> bool
+    ensures { result ≡ (text_eq name.now (codes "extensions") || text_eq name.now (codes "logs")) }
+{
+    is_text(name, "extensions") || is_text(name, "logs")
+}
+
+/// The role of an entry of an object's root (OCFL 1.1, 3.1 Object Structure).
+pub(crate) fn role_in_object(entry: &Entry) -> Role
+    ensures { (root : StorageRoot) (e : Spot) → IsEntryAt root e entry.now.kind
+        → (o : Spot) (t : TableOf) → zone root e ≡ inside o (entry.now.name ∷ [])
+        → table_at root o ≡ Some t → HasRole root e result }
+{
+    let name = entry.name.as_str();
+    match entry.kind {
+        Kind::File if is_file_of_object(name) => Role::LeftAlone,
+        Kind::File => Role::Plain(Code::E001),
+        Kind::Other => Role::Plain(Code::S04),
+        Kind::Dir if is_version_name(name) => Role::Listed,
+        Kind::Dir if is_left_alone(name) => Role::LeftAlone,
+        Kind::Dir => Role::Plain(Code::E001),
+    }
+}
+
+/// The role of an entry of a version directory (OCFL 1.1, 3.3 Version Directories).
+pub(crate) fn role_in_version(entry: &Entry, table: &Table) -> Role
+    ensures { (root : StorageRoot) (e : Spot) → IsEntryAt root e entry.now.kind
+        → (o : Spot) (version : Text) → zone root e ≡ inside o (version ∷ entry.now.name ∷ [])
+        → table_at root o ≡ Some table.now → is_version_text version ≡ true
+        → HasRole root e result }
+{
+    let name = entry.name.as_str();
+    match entry.kind {
+        Kind::File if is_inventory_or_sidecar(name) => Role::LeftAlone,
+        Kind::File => Role::Plain(Code::E015),
+        Kind::Other => Role::Plain(Code::S04),
+        Kind::Dir if is_text(name, table.content_directory()) => Role::Listed,
+        Kind::Dir => Role::LeftAlone,
+    }
+}

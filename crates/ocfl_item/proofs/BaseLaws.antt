@@ -1,6 +1,6 @@
 -- The storage root: its lines, what is read for them, and its listing.
 use Rattle.std.proofs.Common.{◌≡◌, ◌≢◌, ◌≤◌, ℕ, List, [], ◌∷◌, ◌++◌, refl, sym, ◌∙◌, ap, subst, true, false, Bool, Option, Some, None, arith, length, map}
-use Rattle.std.specs.Prelude.{AllPairs, cond, ◌||◌, not, nat_lt, Result, Ok, Err, is_some, filter}
+use Rattle.std.specs.Prelude.{AllPairs, cond, ◌||◌, not, nat_lt, Result, is_some, filter}
 use Rattle.std.specs.List.{AllByRecursion}
 use Rattle.std.proofs.lemmas.List.{append-nil, length-map}
 use Rattle.std.proofs.lemmas.List.Prefix.{front_fits}
@@ -21,29 +21,29 @@ use Rattle.ocfl_inventory.specs.declared.declaration.Level.TheVariants.{Root}
 use Rattle.ocfl_inventory.specs.declared.declaration.Version.{Version}
 use Rattle.ocfl_inventory.specs.declared.declaration.Version.TheVariants.{V1_0, V1_1}
 use Rattle.ocfl_digest.specs.declared.bounded.Bounded.{Bounded}
-use Rattle.ocfl_audit.specs.Zone.{skipped, hierarchy, inside, zone, root_declared, object_declared, table_at, seen, is_in_extensions, is_listed_zone}
+use Rattle.ocfl_audit.specs.Zone.{skipped, hierarchy, inside, zone, root_declared, object_declared, seen, is_in_extensions, is_listed_zone}
 use Rattle.ocfl_audit.specs.Head.{root_notes_by}
-use Rattle.ocfl_item.specs.HeadFiles.{ReadsFile, files_there}
+use Rattle.ocfl_item.specs.HeadFiles.{FilesStop, ReadsFile, ReadsFiles, files_there}
 use Rattle.ocfl_audit.specs.Lines.{cost_of, is_hashed, named_at, named_in, notes}
 use Rattle.ocfl_item.specs.Looking.{IsFront, failures_by}
 use Rattle.ocfl_item.specs.Pending.{Adds, IsPending}
 use Rattle.ocfl_audit.specs.Trail.{reads_inventory, content_trail, heads_of, inventory_of, is_head, is_meta, places_of}
-use Rattle.ocfl_item.specs.Meeting.{IsVisit, MeetFails, Meets}
+use Rattle.ocfl_item.specs.Meeting.{IsItemAt, IsVisit, MeetFails, Meets}
+use Rattle.ocfl_item.specs.Visiting.{IsBase}
 use Rattle.ocfl_item.specs.Ways.{Enters, Stops}
 use Rattle.ocfl_item.specs.declared.fault.Fault.{Fault}
 use Rattle.ocfl_item.specs.declared.fault.Fault.TheVariants as fault
 use Rattle.ocfl_item.specs.declared.folder.Folder.{Folder}
 use Rattle.ocfl_item.specs.declared.pending.Pending.{Pending}
-use Rattle.ocfl_tree.proofs.Orders.{true_not_false}
+use Rattle.ocfl_item.specs.declared.visit.Visit.{Visit}
 use Rattle.ocfl_item.proofs.HeadLaws.{unknown_stops}
 use Rattle.ocfl_item.proofs.ItemLaws.{clean_some}
 use Rattle.ocfl_tree.proofs.Stores.{did_then}
-use Rattle.ocfl_item.proofs.LooksCalls.{over_then}
 use Rattle.ocfl_item.proofs.LooksZones.{at_root, declared_root}
 use Rattle.ocfl_audit.specs.Head.{on}
 use Rattle.ocfl_audit.proofs.BetweenLaws.{root_unread}
 use Rattle.ocfl_item.proofs.AuditingLaws.{failed_behind, few_once, none_once, front_all, heads_append}
-use Rattle.ocfl_item.proofs.VisitLaws.{meet_out, meet_stop}
+use Rattle.ocfl_item.proofs.VisitLaws.{meet_out, meet_stop, visit_of_folder, visit_of_item}
 use Rattle.ocfl_audit.proofs.Trails.{content_behind}
 
 -- ---- its lines
@@ -144,9 +144,8 @@ module _ (root : StorageRoot) where
   pub base_memory : (s t : Store) → Meets root s t [] → MeetFails root s t [] fault.Memory
   base_memory s t m = meet_out root s t [] fault.Memory m refl
 
-  pub base_read : (s t u : Store) (n : Text) (limit : ℕ) (f : Option Bounded) → is_meta root (n ∷ []) ≡ true → (m : Meets root s t []) → m.trail ≡ [] → ReadsFile root t u [] n limit (Ok f) → Meets root s u []
-  base_read s t u n limit f meta m none h =
-      let k = h.gives.0 in
+  base_read : (s t u : Store) (n : Text) → is_meta root (n ∷ []) ≡ true → (m : Meets root s t []) → m.trail ≡ [] → ReadsFiles root t u [] (n ∷ []) → Meets root s u []
+  base_read s t u n meta m none k =
       let quiet = trail_quiet n k.trail meta ([], sym k.opened ∙ sym (append-nil (places_of k.trail))) in
       record {
         over = m.over;
@@ -160,9 +159,8 @@ module _ (root : StorageRoot) where
         heads = heads_append root m.trail k.trail ∙ ap (λ l. heads_of root m.trail ++ l) quiet.1 ∙ append-nil (heads_of root m.trail) ∙ m.heads;
       }
 
-  pub base_unread : (s t u : Store) (n : Text) (limit : ℕ) (why : Fault) → is_meta root (n ∷ []) ≡ true → (m : Meets root s t []) → m.trail ≡ [] → ReadsFile root t u [] n limit (Err why) → MeetFails root s u [] why
-  base_unread s t u n limit why meta m none h =
-      let k = h.gives in
+  base_unread : (s t u : Store) (n : Text) (why : Fault) → is_meta root (n ∷ []) ≡ true → (m : Meets root s t []) → m.trail ≡ [] → FilesStop root t u [] (n ∷ []) why → MeetFails root s u [] why
+  base_unread s t u n why meta m none k =
       let quiet = trail_quiet n k.trail meta k.opened in
       let no_listing : k.stops.goes.listings ≡ [] = nothing_listed k.stops.goes.listings k.stops.goes.listed.0 k.stops.goes.listed.1 in
       record {
@@ -184,58 +182,60 @@ module _ (root : StorageRoot) where
 
   -- ---- what was met
 
-  no_table : is_head (zone root []) ≡ true → table_at root [] ≡ None
-  no_table e = by (not (is_known (root_declared root))) e
+  no_head : is_head (zone root []) ≡ false
+  no_head = by (not (is_known (root_declared root)))
     where
-      by : (b : Bool) → is_head (cond (b || false) skipped hierarchy) ≡ true → table_at root [] ≡ None
-      by true f = absurd (true_not_false (sym f))
-      by false f = absurd (true_not_false (sym f))
+      by : (b : Bool) → is_head (cond (b || false) skipped hierarchy) ≡ false
+      by true = refl
+      by false = refl
 
-  pub base_known : (p : Pending) (f : Folder) → f.place ≡ [] → IsListing root [] f.entries.items → is_known (root_declared root) ≡ true → IsPending root p → p.place ≡ [] → IsVisit root [] (record { item = Some p; folder = Some f; table = None })
-  base_known p f top h is pending at = record { item = (pending, at); folder = (top, (at_root root f.entries.items is h).here.reached, h); table = no_table }
+  module _ (e : Place) (es : List Entry) (m : MadeDeclared) (h : IsBase root e es m) (v : Visit) (p : Pending) (item : v.item ≡ Some p) (table : v.table ≡ None) (pending : IsPending root p) (at : p.place ≡ e) where
+    there : IsItemAt root [] v.item
+    there = subst (IsItemAt root []) (sym item) (pending, at ∙ h.top)
 
-  pub base_stopped : (p : Pending) → is_known (root_declared root) ≡ false → IsPending root p → p.place ≡ [] → IsVisit root [] (record { item = Some p; folder = None; table = None })
-  base_stopped p is pending at = record {
-    item = (pending, at);
-    folder = ap (λ b. cond (is_listed_zone root (cond (not b || false) skipped hierarchy)) (names_in root []) []) is;
-    table = no_table;
-  }
+    known_is : (b : Bool) → is_known (meaning Root es m) ≡ b → is_known (root_declared root) ≡ b
+    known_is b is = ap is_known (sym h.says) ∙ is
+
+    pub base_known : (f : Folder) → f.place ≡ e → f.entries.items ≡ es → v.folder ≡ Some f → is_known (meaning Root es m) ≡ true → IsVisit root [] v
+    base_known f place entries folder is =
+        let listing : IsListing root [] f.entries.items = subst (IsListing root []) (sym entries) (subst (λ x. IsListing root x es) h.top h.listing) in
+        visit_of_folder root [] v f there folder table no_head (place ∙ h.top) (at_root root f.entries.items (known_is true is) listing).here.reached listing
+
+    pub base_stopped : v.folder ≡ None → is_known (meaning Root es m) ≡ false → IsVisit root [] v
+    base_stopped folder is = visit_of_item root [] v there folder table no_head (ap (λ b. cond (is_listed_zone root (cond (not b || false) skipped hierarchy)) (names_in root []) []) (known_is false is))
 
   -- ---- what the declarations say
 
-  pub at_base : (t u : Store) (p : Place) (n m : Text) (limit : ℕ) (r : Result (Option Bounded) Fault) → p ≡ [] → n ≡ m → ReadsFile root t u p n limit r → ReadsFile root t u [] m limit r
-  at_base t u p n m limit r top same h = subst (λ x. ReadsFile root t u [] x limit r) same (subst (λ x. ReadsFile root t u x n limit r) top h)
-
-  pub listing_there : (s t : Store) (d e : Place) (es : List Entry) → Enters root s t d e es → IsListing root e es
+  listing_there : (s t : Store) (d e : Place) (es : List Entry) → Enters root s t d e es → IsListing root e es
   listing_there s t d e es h = subst (λ x. IsListing root x es) (sym h.is) h.listing
+
+  module _ (s t : Store) (p e : Place) (es given : List Entry) (m : MadeDeclared) (top : p ≡ []) (there : Enters root s t p e es) (same : given ≡ es) (ordinary : IsOrdinary es) (says : meaning Root given m ≡ declared Root (file_names given)) (points : PointsAtOne Root given m) where
+    pub base_is : IsBase root e es m
+    base_is = record {
+      top = there.is ∙ top;
+      listing = listing_there s t p e es there;
+      says = ap (λ xs. meaning Root xs m) (sym same) ∙ says ∙ ap (λ xs. declared Root (file_names xs)) same ∙ sym (declared_root root es ordinary (subst (λ x. IsListing root x es) top there.listing));
+      points = subst (λ xs. PointsAtOne Root xs m) same points;
+    }
+
+  pub base_stops : (e : Place) (es : List Entry) (m : MadeDeclared) → IsBase root e es m → ((v : Version) → m ≡ made.One v → ⊥) → is_known (meaning Root es m) ≡ false
+  base_stops e es m h none = unknown_stops Root es m none h.points
 
   -- ---- its declaration
 
-  module _ (s t u : Store) (p e : Place) (es : List Entry) (top : p ≡ []) (over : s.tree ≡ root) (there : Enters root s t p e es) (v : Version) (limit : ℕ) where
-    -- it was read at the place that was listed, and that is the root's
-    pub declaration_read : (n : Text) (r : Result (Option Bounded) Fault) → n ≡ declaration_name Root v → (t.tree ≡ root → IsListing root e es → is_meta root (e ++ n ∷ []) ≡ true → ReadsFile root t u e n limit r) → ReadsFile root t u [] (declaration_name Root v) limit r
-    declaration_read n r same told = at_base t u e n (declaration_name Root v) limit r (there.is ∙ top) same (told (over_then root s t p e es over there) (listing_there s t p e es there) (declaration_at_root root e n v (there.is ∙ top) same))
+  -- it is read at the place that was listed
+  pub declaration_read : (t u : Store) (e : Place) (es : List Entry) (m : MadeDeclared) (v : Version) (limit : ℕ) (n : Text) (r : Result (Option Bounded) Fault) → IsBase root e es m → n ≡ declaration_name Root v → (IsListing root e es → is_meta root (e ++ n ∷ []) ≡ true → ReadsFile root t u e n limit r) → ReadsFile root t u e (declaration_name Root v) limit r
+  declaration_read t u e es m v limit n r h same told = subst (λ x. ReadsFile root t u e x limit r) same (told h.listing (declaration_at_root root e n v h.top same))
 
-    pub declared_meets : (f : Option Bounded) → ReadsFile root t u [] (declaration_name Root v) limit (Ok f) → Meets root s u []
-    declared_meets f read = base_read s t u (declaration_name Root v) limit f (declaration_at_root root [] (declaration_name Root v) v refl refl) (base_listed s t p e es top over there) refl read
+  module _ (s t u : Store) (p e : Place) (es : List Entry) (top : p ≡ []) (over : s.tree ≡ root) (there : Enters root s t p e es) (v : Version) where
+    abbrev name : Text
+    name = declaration_name Root v
 
-    pub declared_fails : (why : Fault) → ReadsFile root t u [] (declaration_name Root v) limit (Err why) → MeetFails root s u [] why
-    declared_fails why read = base_unread s t u (declaration_name Root v) limit why (declaration_at_root root [] (declaration_name Root v) v refl refl) (base_listed s t p e es top over there) refl read
+    at_base : e ≡ []
+    at_base = there.is ∙ top
 
-  pub root_is : (es given : List Entry) (d : Declared) → given ≡ es → IsOrdinary es → IsListing root [] es → d ≡ declared Root (file_names given) → d ≡ root_declared root
-  root_is es given d same ordinary h is = is ∙ ap (λ xs. declared Root (file_names xs)) same ∙ sym (declared_root root es ordinary h)
+    pub declared_meets : ReadsFiles root t u e (declaration_name Root v ∷ []) → Meets root s u []
+    declared_meets read = base_read s t u name (declaration_at_root root [] name v refl refl) (base_listed s t p e es top over there) refl (subst (λ x. ReadsFiles root t u x (name ∷ [])) at_base read)
 
-  pub base_now_known : (v : Version) → known v ≡ root_declared root → is_known (root_declared root) ≡ true
-  base_now_known v e = ap is_known (sym e)
-
--- a storage root that is not of one known version
-pub record IsStopped (root : StorageRoot) (es : List Entry) (m : MadeDeclared) : Type 0 where
-  pub says : meaning Root es m ≡ root_declared root
-  pub stops : is_known (meaning Root es m) ≡ false
-  pub points : PointsAtOne Root es m
-
-pub base_stops : (root : StorageRoot) (es given later : List Entry) (m n : MadeDeclared) → given ≡ es → later ≡ es → n ≡ m → IsOrdinary es → IsListing root [] es → meaning Root given m ≡ declared Root (file_names given) → PointsAtOne Root given m → ((v : Version) → m ≡ made.One v → ⊥)
-    → IsStopped root later n
-base_stops root es given later m n e f same ordinary h says points none =
-    let k : IsStopped root given m = record { says = root_is root es given (meaning Root given m) e ordinary h says; stops = unknown_stops Root given m none points; points = points } in
-    subst (IsStopped root later) (sym same) (subst (λ xs. IsStopped root xs m) (e ∙ sym f) k)
+    pub declared_fails : (why : Fault) → FilesStop root t u e (declaration_name Root v ∷ []) why → MeetFails root s u [] why
+    declared_fails why read = base_unread s t u name why (declaration_at_root root [] name v refl refl) (base_listed s t p e es top over there) refl (subst (λ x. FilesStop root t u x (name ∷ []) why) at_base read)

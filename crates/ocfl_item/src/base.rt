@@ -2,18 +2,21 @@
 ghost use Rattle.std.specs.Prelude.{◌≡◌, ◌∷◌, [], None, false, IsTrue, IfOk, IfErr, OnOk, map};
 ghost use Rattle.ocfl_tree.specs.StorageRoot.{StorageRoot};
 ghost use Rattle.ocfl_report.specs.Line.{line_of, lines_at};
-ghost use Rattle.ocfl_inventory.specs.Declaration.{declaration_name as declaration_name_of, known};
+ghost use Rattle.ocfl_inventory.specs.Declaration.{declaration_name as declaration_name_of};
+ghost use Rattle.ocfl_inventory.specs.Declaration.{is_known, known};
+ghost use Rattle.ocfl_inventory.specs.Entries.{meaning};
 ghost use Rattle.ocfl_inventory.specs.declared.declaration.Level.TheVariants as level;
 ghost use Rattle.ocfl_audit.specs.Head.{root_notes_by};
 ghost use Rattle.ocfl_audit.specs.Lines.{notes};
-ghost use Rattle.ocfl_item.specs.HeadFiles.{IsFileAt};
+ghost use Rattle.ocfl_item.specs.HeadFiles.{IsFileAt, OpensJust};
 ghost use Rattle.ocfl_item.specs.Pending.{Adds, IsPending};
 ghost use Rattle.ocfl_item.specs.Meeting.{IsFairVisit, Visits};
+ghost use Rattle.ocfl_item.specs.Visiting.{IsBase};
 ghost use Rattle.ocfl_item.specs.Ways.{IsWayFault};
 
 use crate::declarations::{add_stop, is_exact};
 use crate::fault::Fault;
-use crate::folder::list;
+use crate::folder::{Folder, list};
 use crate::lines::add_plain;
 use crate::object::{SIDE_LIMIT, read_file};
 use crate::pending::Pending;
@@ -59,6 +62,50 @@ fn item_of(alloc: Global, place: &Place, lines: Vec<Line>) -> Result<Pending, Al
     })
 }
 
+/// The item of a storage root of known version.
+fn known_item<T: Tree>(
+    alloc: Global,
+    store: &mut T,
+    folder: &Folder,
+    version: Version,
+) -> Result<Pending, Fault>
+    ensures only { IfErr result (λ why. IsWayFault why) }
+    ensures place { IfOk result (λ item. item.place ≡ folder.now.place) }
+    ensures told { IsTrue T.told → (root : StorageRoot) → (T.state store.old).tree ≡ root
+        → IsBase root folder.now.place folder.now.entries.items (Declared.One version)
+        → IfOk result (λ item. IsPending root item) }
+    ensures opened { IsTrue T.told → (root : StorageRoot) → (T.state store.old).tree ≡ root
+        → IsBase root folder.now.place folder.now.entries.items (Declared.One version)
+        → OpensJust root (T.state store.old) (T.state store.new) folder.now.place
+        (declaration_name_of level.Root version ∷ []) result }
+{
+    let name = declaration_name(Level::Root, version);
+    let file = read_file(alloc, store, folder, name, SIDE_LIMIT)?;
+    let mut lines = Vec::new(alloc);
+    add_known(alloc, &mut lines, &folder.place, version, &file)?;
+    Ok(item_of(alloc, &folder.place, lines)?)
+}
+
+/// The item of a storage root that is not of one known version.
+fn stopped_item(alloc: Global, folder: &Folder, declared: Declared) -> Result<Pending, AllocError>
+    ensures place { IfOk result (λ item. item.place ≡ folder.now.place) }
+    ensures told { (root : StorageRoot)
+        → IsBase root folder.now.place folder.now.entries.items declared
+        → is_known (meaning level.Root folder.now.entries.items declared) ≡ false
+        → IfOk result (λ item. IsPending root item) }
+{
+    let mut lines = Vec::new(alloc);
+    add_stop(
+        alloc,
+        &mut lines,
+        &folder.place,
+        Level::Root,
+        &folder.entries,
+        declared,
+    )?;
+    item_of(alloc, &folder.place, lines)
+}
+
 /// The storage root as the walk meets it (OCFL 1.1, 4 OCFL Storage Root).
 pub fn visit_base<T: Tree>(alloc: Global, store: &mut T) -> Result<Visit, Fault>
     ensures only { IfErr result (λ why. IsWayFault why) }
@@ -67,34 +114,14 @@ pub fn visit_base<T: Tree>(alloc: Global, store: &mut T) -> Result<Visit, Fault>
         → Visits root (T.state store.old) (T.state store.new) [] result }
 {
     let folder = list(store, Place::root(alloc))?;
-    let mut lines = Vec::new(alloc);
     match declaration(&folder.entries, Level::Root) {
         Declared::One(version) => {
-            let name = declaration_name(Level::Root, version);
-            let file = read_file(alloc, store, &folder, name, SIDE_LIMIT)?;
-            add_known(alloc, &mut lines, &folder.place, version, &file)?;
-            let item = item_of(alloc, &folder.place, lines)?;
-            Ok(Visit {
-                item: Some(item),
-                folder: Some(folder),
-                table: None,
-            })
+            let item = known_item(alloc, store, &folder, version)?;
+            Ok(Visit::of_folder(Some(item), folder))
         }
         declared => {
-            add_stop(
-                alloc,
-                &mut lines,
-                &folder.place,
-                Level::Root,
-                &folder.entries,
-                declared,
-            )?;
-            let item = item_of(alloc, &folder.place, lines)?;
-            Ok(Visit {
-                item: Some(item),
-                folder: None,
-                table: None,
-            })
+            let item = stopped_item(alloc, &folder, declared)?;
+            Ok(Visit::of_item(Some(item)))
         }
     }
 }

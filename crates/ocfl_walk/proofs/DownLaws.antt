@@ -10,7 +10,7 @@ use Rattle.ocfl_audit.specs.Zone.{skipped, hierarchy, inside, object_zone, root_
 use Rattle.ocfl_audit.specs.Walk.{is_reached, step_listed}
 use Rattle.ocfl_item.specs.Ways.{Enters, Stops, way_below, is_listable, is_extensions_name, IsAt, IsObject}
 use Rattle.ocfl_item.specs.Around.{IsPart, IsTableAround}
-use Rattle.ocfl_walk.specs.Entering.{Descends, GoesInto, IsIn, IsShut, Leads, may_open}
+use Rattle.ocfl_walk.specs.Entering.{Descends, GoesInto, IsIn, IsShut, Leads, LeadsOn, may_open}
 use Rattle.ocfl_walk.specs.WalkCalls.{holder_of}
 use Rattle.ocfl_item.specs.Auditing.{FailedAt}
 use Rattle.ocfl_item.specs.declared.fault.Fault.{Fault}
@@ -21,6 +21,10 @@ use Rattle.ocfl_audit.proofs.AuditExists.{append_one}
 use Rattle.ocfl_audit.proofs.StepLaws.{reached_step, listed_step}
 use Rattle.ocfl_item.proofs.LooksZones.{inside_on, inside_step, not_entered, out_of_zone, open_object, reach_on, entered_from, is_plain, plain_below, plain_extensions}
 use Rattle.ocfl_walk.proofs.DescentLaws.{descends_on, descent_fails_on, descends_not, descends_one, descends_end, listing_fails, plain_table}
+
+is_not : (b : Bool) → false ≡ not b → b ≡ true
+is_not true h = refl
+is_not false h = absurd (true_not_false (sym h))
 
 and_false : (a b : Bool) → b ≡ false → a && b ≡ false
 and_false true b h = h
@@ -44,9 +48,6 @@ module _ (root : StorageRoot) where
   shut_plain : (d : Place) (n : Text) (r : Place) → is_entered root (d ++ n ∷ []) ≡ false → is_plain (zone root (d ++ n ∷ r)) ≡ true → IsShut root d n r None
   shut_plain d n r h plain = record { out = shut_out d n h; table = plain_table root (d ++ n ∷ r) plain }
 
-  pub shut_unlisted : (d : Place) (n : Text) (r : Place) → zone root d ≡ hierarchy → is_listable root (d ++ n ∷ []) ≡ false → IsShut root d n r None
-  shut_unlisted d n r z h = shut_plain d n r (not_entered root (d ++ n ∷ []) h) (plain_below root d r n z h)
-
   extensions_out : (d : Place) (n : Text) → is_extensions_name d n ≡ true → is_entered root (d ++ n ∷ []) ≡ false
   extensions_out [] n h = by (is_dir root (n ∷ [])) refl
     where
@@ -61,9 +62,6 @@ module _ (root : StorageRoot) where
       by false e = not_entered root (n ∷ []) e
   extensions_out (m ∷ d) n h = absurd (true_not_false (sym h))
 
-  pub shut_extensions : (d : Place) (n : Text) (r : Place) → zone root d ≡ hierarchy → is_extensions_name d n ≡ true → IsShut root d n r None
-  shut_extensions d n r z h = shut_plain d n r (extensions_out d n h) (plain_extensions root d r n z h)
-
   object_below : (d : Place) (n : Text) (r : Place) → zone root (d ++ n ∷ []) ≡ inside (d ++ n ∷ []) [] → zone root (d ++ n ∷ r) ≡ inside (d ++ n ∷ []) r
   object_below d n r z = ap (zone root) (sym (append_one d r n)) ∙ inside_on root (d ++ n ∷ []) (d ++ n ∷ []) [] r z
 
@@ -76,25 +74,35 @@ module _ (root : StorageRoot) where
 
   -- ---- within an object
 
-  module _ (d : Place) (n : Text) (r : Place) (a : Around) (p : IsPart root d (Some a)) where
-    table_below : IsTableAround root (d ++ n ∷ r) (Some a)
-    table_below = (p.0 ++ n ∷ r, inside_on root d a.place p.0 (n ∷ r) p.1, p.2)
+  module _ (d : Place) (n : Text) (a : Around) (p : IsPart root d (Some a)) where
+    table_below : (r : Place) → IsTableAround root (d ++ n ∷ r) (Some a)
+    table_below r = (p.0 ++ n ∷ r, inside_on root d a.place p.0 (n ∷ r) p.1, p.2)
 
-    zone_next : is_listed_zone root (zone root (d ++ n ∷ [])) ≡ step_listed a.table p.0 n
-    zone_next = ap (is_listed_zone root) (inside_step root d a.place p.0 n p.1) ∙ ap (λ x. is_listed_in_object x (p.0 ++ n ∷ [])) p.2 ∙ listed_step a.table p.0 n
+    zone_next : (on : Bool) → LeadsOn root d n (Some a) on → is_listed_zone root (zone root (d ++ n ∷ [])) ≡ on
+    zone_next on h = ap (is_listed_zone root) (inside_step root d a.place p.0 n p.1) ∙ ap (λ x. is_listed_in_object x (p.0 ++ n ∷ [])) p.2 ∙ listed_step a.table p.0 n ∙ sym (h p.0 p.1 p.2)
 
-    pub shut_off : step_listed a.table p.0 n ≡ false → IsShut root d n r (Some a)
-    shut_off h = record { out = shut_out d n (out_of_zone root (d ++ n ∷ []) (zone_next ∙ h)); table = table_below }
+  pub in_object : (d : Place) (n : Text) (x : Option Around) (a : Around) → x ≡ Some a → IsPart root d x → LeadsOn root d n x true → (old : List Entry) (s t : Store) (f : Folder) → IsAt root d old → Enters root s t (d ++ n ∷ []) f.place f.entries.items
+      → IsIn root (d ++ n ∷ []) f x
+  in_object d n None a is p on old s t f at k = absurd cc
+  in_object d n (Some b) a is p on old s t f at k = record {
+    place = k.is;
+    here = record { listing = k.listing; reached = reach_on root d n at.reached (entered_from root (d ++ n ∷ []) k.listable (zone_next d n b p true on)) };
+    part = (p.0 ++ n ∷ [], inside_step root d b.place p.0 n p.1, p.2);
+  }
 
-    pub shut_deep : is_listable root (d ++ n ∷ []) ≡ false → IsShut root d n r (Some a)
-    shut_deep h = record { out = shut_out d n (not_entered root (d ++ n ∷ []) h); table = table_below }
+  -- ---- what is shut
 
-    pub in_object : (old : List Entry) (s t : Store) (f : Folder) → IsAt root d old → step_listed a.table p.0 n ≡ true → Enters root s t (d ++ n ∷ []) f.place f.entries.items → IsIn root (d ++ n ∷ []) f (Some a)
-    in_object old s t f at h k = record {
-      place = k.is;
-      here = record { listing = k.listing; reached = reach_on root d n at.reached (entered_from root (d ++ n ∷ []) k.listable (zone_next ∙ h)) };
-      part = (p.0 ++ n ∷ [], inside_step root d a.place p.0 n p.1, p.2);
-    }
+  -- where a name does not lead on
+  pub shut_off : (d : Place) (n : Text) (r : Place) (x : Option Around) → IsPart root d x → LeadsOn root d n x false → IsShut root d n r x
+  shut_off d n r None z h =
+      let e : is_extensions_name d n ≡ true = is_not (is_extensions_name d n) h in
+      shut_plain d n r (extensions_out d n e) (plain_extensions root d r n z e)
+  shut_off d n r (Some a) p h = record { out = shut_out d n (out_of_zone root (d ++ n ∷ []) (zone_next d n a p false h)); table = table_below d n a p r }
+
+  -- where no directory of it is listed
+  pub shut_unlisted : (d : Place) (n : Text) (r : Place) (x : Option Around) → IsPart root d x → is_listable root (d ++ n ∷ []) ≡ false → IsShut root d n r x
+  shut_unlisted d n r None z h = shut_plain d n r (not_entered root (d ++ n ∷ []) h) (plain_below root d r n z h)
+  shut_unlisted d n r (Some a) p h = record { out = shut_out d n (not_entered root (d ++ n ∷ []) h); table = table_below d n a p r }
 
   -- ---- what a name leads to
 

@@ -1,4 +1,4 @@
--- One name further down in the storage hierarchy.
+-- Into a directory of the storage hierarchy that was listed.
 use Rattle.std.proofs.Common.{◌≡◌, ◌⊎◌, inl, inr, ℕ, ◌≤◌, List, [], ◌∷◌, ◌++◌, sym, ◌∙◌, ap, subst, true, false, Option, Some, None, length}
 use Rattle.std.specs.Prelude.{Result, Ok, Err, IfOk, MatchOption}
 use Rattle.ocfl_tree.specs.Place.{Text, Place, begins}
@@ -17,14 +17,15 @@ use Rattle.ocfl_audit.specs.Zone.{hierarchy, inside, table_at, zone}
 use Rattle.ocfl_item.specs.Ways.{Enters, StaysOut, is_extensions_name, IsAt, InHierarchy, IsDeclared, IsObject}
 use Rattle.ocfl_item.specs.Around.{IsPart}
 use Rattle.ocfl_item.specs.Meeting.{IsFairFolder}
-use Rattle.ocfl_walk.specs.Entering.{GoesInto, IsFairWay, IsKept, Leads}
+use Rattle.ocfl_walk.specs.Standing.{IsAroundIf}
+use Rattle.ocfl_walk.specs.Entering.{GoesInto, IsFairWay, IsKept, Leads, ListsBelow}
 use Rattle.ocfl_item.specs.declared.fault.Fault.{Fault}
 use Rattle.ocfl_item.specs.declared.folder.Folder.{Folder}
 use Rattle.ocfl_item.specs.declared.meeting.Around.{Around}
 use Rattle.ocfl_item.proofs.LooksCalls.{declared_entered, did_nothing, finds_object, no_known, undeclared_entered}
 use Rattle.ocfl_item.proofs.LooksZones.{unknown_no_table}
 use Rattle.ocfl_walk.proofs.OrderlyLaws.{begins_own}
-use Rattle.ocfl_walk.proofs.DownLaws.{IsFair, leads_by_object, leads_in, leads_listed, leads_shut, shut_extensions, shut_object, shut_unlisted}
+use Rattle.ocfl_walk.proofs.DownLaws.{IsFair, leads_by_object, leads_in, leads_listed, shut_object}
 
 -- ---- on any store
 
@@ -44,6 +45,9 @@ fair_object d n old (Some a) inner (Ok (Some f)) h k = (
 )
 fair_object d n old new inner (Err why) h k = tt
 
+pub fair_in : (e : Place) (f : Folder) (a : Option Around) → a ≡ None → IsFairFolder e f → IsFairFolder e f × IsAroundIf e a
+fair_in e f a none h = (h, subst (IsAroundIf e) (sym none) tt)
+
 fair_of : (old new : Option Around) (inner : Folder) (x : Result (Option Folder) Fault) → old ≡ None → IfOk x (IsKeptOr old new inner) → IsFair new inner x
 fair_of old new inner (Ok None) e k = k ∙ e
 fair_of old new inner (Ok (Some f)) e k = k.0
@@ -55,44 +59,30 @@ not_none m (inr f) e = let two : made.Several ≡ made.None = sym f ∙ e in cc
 
 -- ---- on a store that tells its tree
 
-module _ (root : StorageRoot) (s : Store) (d : Place) (n : Text) (r : Place) (a : Option Around) (none : a ≡ None) (over : s.tree ≡ root) (es : List Entry) (at : IsAt root d es) (part : IsPart root d a) where
-  here : zone root d ≡ hierarchy
-  here = subst (IsPart root d) none part
+module _ (root : StorageRoot) (s t : Store) (d : Place) (n : Text) (inner : Folder) (k : ListsBelow root s t d n inner) (r : Place) (a : Option Around) (none : a ≡ None) (given : List Entry) (m : MadeDeclared) (same : given ≡ inner.entries.items)
+    (said : meaning level.Object given m ≡ declared level.Object (file_names given)) where
+  pub hier_in : m ≡ made.None → Leads root s t d n r a a (Ok (Some inner))
+  hier_in e =
+      let h = subst (λ x. InHierarchy root x inner.entries.items) k.enters.is (undeclared_entered root s t d inner.place n k.entries inner.entries.items given m k.above k.on k.ordinary k.enters same said e) in
+      subst (λ x. Leads root s t d n r x x (Ok (Some inner))) (sym none) (leads_in root s t d n r None k.over inner k.enters.did (record { place = k.enters.is; here = h.here; part = h.zone }))
 
-  hier : InHierarchy root d es
-  hier = record { here = at; zone = here }
+  module _ (points : PointsAtOne level.Object given m) where
+    says : (m ≡ made.None → ⊥) → IsDeclared root inner.place inner.entries.items m
+    says some = declared_entered root s t d inner.place n k.entries inner.entries.items given m k.above k.on k.ordinary k.enters same said points some
 
-  pub hier_extensions : is_extensions_name d n ≡ true → Leads root s s d n r a a (Ok None)
-  hier_extensions h = subst (λ x. Leads root s s d n r x x (Ok None)) (sym none) (leads_shut root s s d n r None over (did_nothing s) (shut_extensions root d n r here h))
+    zone_here : (m ≡ made.None → ⊥) → zone root (d ++ n ∷ []) ≡ inside (d ++ n ∷ []) []
+    zone_here some = subst (λ x. zone root x ≡ inside x []) k.enters.is (says some).zone
 
-  module _ (t : Store) where
-    pub hier_unlisted : StaysOut root s t (d ++ n ∷ []) → Leads root s t d n r a a (Ok None)
-    hier_unlisted h = subst (λ x. Leads root s t d n r x x (Ok None)) (sym none) (leads_shut root s t d n r None over h.did (shut_unlisted root d n r here h.closed))
+    pub hier_stopped : ((x : ℕ) × (m ≡ made.Unknown x)) ⊎ (m ≡ made.Several) → Leads root s t d n r a a (Ok None)
+    hier_stopped e =
+        let some = not_none m e in
+        let h = says some in
+        let table = unknown_no_table root inner.place (ap is_known (sym h.says) ∙ no_known root inner.place inner.entries.items m h (inr e)) in
+        subst (λ x. Leads root s t d n r x x (Ok None)) (sym none) (leads_listed root s t d n r None k.over k.enters.did (shut_object root d n r (zone_here some) (ap (table_at root) (sym k.enters.is) ∙ table)))
 
-    module _ (out : is_extensions_name d n ≡ false) (inner : Folder) (given : List Entry) (m : MadeDeclared) (ordinary : IsOrdinary inner.entries.items) (k : Enters root s t (d ++ n ∷ []) inner.place inner.entries.items) (same : given ≡ inner.entries.items)
-        (said : meaning level.Object given m ≡ declared level.Object (file_names given)) where
-      pub hier_in : m ≡ made.None → Leads root s t d n r a a (Ok (Some inner))
-      hier_in e =
-          let h = subst (λ x. InHierarchy root x inner.entries.items) k.is (undeclared_entered root s t d inner.place n es inner.entries.items given m hier out ordinary k same said e) in
-          subst (λ x. Leads root s t d n r x x (Ok (Some inner))) (sym none) (leads_in root s t d n r None over inner k.did (record { place = k.is; here = h.here; part = h.zone }))
-
-      module _ (points : PointsAtOne level.Object given m) where
-        says : (m ≡ made.None → ⊥) → IsDeclared root inner.place inner.entries.items m
-        says some = declared_entered root s t d inner.place n es inner.entries.items given m hier out ordinary k same said points some
-
-        zone_here : (m ≡ made.None → ⊥) → zone root (d ++ n ∷ []) ≡ inside (d ++ n ∷ []) []
-        zone_here some = subst (λ x. zone root x ≡ inside x []) k.is (says some).zone
-
-        pub hier_stopped : ((x : ℕ) × (m ≡ made.Unknown x)) ⊎ (m ≡ made.Several) → Leads root s t d n r a a (Ok None)
-        hier_stopped e =
-            let some = not_none m e in
-            let h = says some in
-            let table = unknown_no_table root inner.place (ap is_known (sym h.says) ∙ no_known root inner.place inner.entries.items m h (inr e)) in
-            subst (λ x. Leads root s t d n r x x (Ok None)) (sym none) (leads_listed root s t d n r None over k.did (shut_object root d n r (zone_here some) (ap (table_at root) (sym k.is) ∙ table)))
-
-        pub hier_object : (v : Version) → m ≡ made.One v → (u : Store) (new : Option Around) (x : Result (Option Folder) Fault) → (t.tree ≡ root → IsObject root inner.place inner.entries.items → GoesInto root t u inner.place new x) → IfOk x (IsKeptOr a new inner) → Leads root s u d n r a new x
-        hier_object v e u new x into fair =
-            let some : m ≡ made.None → ⊥ = λ f. let two : made.One v ≡ made.None = sym e ∙ f in cc in
-            let is = finds_object root inner.place inner.entries.items m v (says some) e in
-            subst (λ y. Leads root s u d n r y new x) (sym none)
-            (leads_by_object root s t u d n r over k.did (zone_here some) new inner x k.is is (into (k.did.tree ∙ over) is) (fair_of a new inner x none fair))
+    pub hier_object : (v : Version) → m ≡ made.One v → (u : Store) (new : Option Around) (x : Result (Option Folder) Fault) → (IsObject root inner.place inner.entries.items → GoesInto root t u inner.place new x) → IfOk x (IsKeptOr a new inner) → Leads root s u d n r a new x
+    hier_object v e u new x into fair =
+        let some : m ≡ made.None → ⊥ = λ f. let two : made.One v ≡ made.None = sym e ∙ f in cc in
+        let is = finds_object root inner.place inner.entries.items m v (says some) e in
+        subst (λ y. Leads root s u d n r y new x) (sym none)
+        (leads_by_object root s t u d n r k.over k.enters.did (zone_here some) new inner x k.enters.is is (into is) (fair_of a new inner x none fair))

@@ -1,5 +1,5 @@
 -- Which names lead on, by how deep a directory lies in its object.
-use Rattle.std.proofs.Common.{◌≡◌, ◌≢◌, suc, ◌+◌, ◌-◌, ◌≤◌, List, [], ◌∷◌, ◌++◌, refl, sym, ◌∙◌, ap, true, Bool, Some, arith, length}
+use Rattle.std.proofs.Common.{◌≡◌, ◌≢◌, suc, ◌+◌, ◌-◌, ◌≤◌, List, [], ◌∷◌, ◌++◌, refl, sym, ◌∙◌, ap, subst, true, Bool, Option, None, Some, arith, length}
 use Rattle.std.proofs.lemmas.Bool.{leb-true}
 use Rattle.std.proofs.lemmas.List.{length-append}
 use Rattle.std.specs.Prelude.{◌&&◌, nat_le}
@@ -11,6 +11,9 @@ use Rattle.ocfl_inventory.specs.ListedPath.{is_version_name}
 use Rattle.ocfl_audit.specs.Zone.{inside, zone, table_at, is_entered, is_listed_zone, is_listed_in_object, is_listed_within, max_listed_depth}
 use Rattle.ocfl_audit.specs.Walk.{step_listed}
 use Rattle.ocfl_item.specs.Ways.{IsAt}
+use Rattle.ocfl_walk.specs.Standing.{IsAround, IsAroundIf}
+use Rattle.ocfl_audit.proofs.BelowLaws.{begins_front, begins_rest}
+use Rattle.ocfl_walk.proofs.OrderlyLaws.{begins_on}
 use Rattle.ocfl_item.specs.declared.meeting.Around.{Around}
 use Rattle.ocfl_tree.proofs.Bools.{and_first, and_second}
 use Rattle.ocfl_audit.proofs.AuditExists.{zone_is}
@@ -19,6 +22,19 @@ pub may_depth : (d : Place) (n : Text) (b : Bool) → nat_le (suc (length d)) ma
 may_depth d n b h =
     let k : suc (length d) ≤ 127 = leb-true (suc (length d)) 127 (and_first (nat_le (suc (length d)) max_listed_depth) b h) in
     omega (arith, k, length-append d (n ∷ []))
+
+around_here : (d : Place) (x : Option Around) (a : Around) → x ≡ Some a → IsAroundIf d x → IsAround d a
+around_here d x a is h = subst (IsAroundIf d) is h
+
+pub not_deeper : (d : Place) (x : Option Around) (a : Around) → x ≡ Some a → IsAroundIf d x → length a.place ≤ length d
+not_deeper d x a is h =
+    let r = begins_rest a.place d (around_here d x a is h).holds in
+    omega (arith, ap length r.1, length-append a.place r.0)
+
+-- an object that holds a directory holds what lies in it
+pub around_on : (d : Place) (n : Text) (x : Option Around) → IsAroundIf d x → IsAroundIf (d ++ n ∷ []) x
+around_on d n None h = tt
+around_on d n (Some a) h = record { holds = begins_on a.place d (d ++ n ∷ []) h.holds (begins_front d (n ∷ [])); depth = h.depth; fit = h.fit }
 
 module _ (root : StorageRoot) (d : Place) (n : Text) (es : List Entry) (a : Around) (at : IsAt root d es) (s : Place) (z : zone root d ≡ inside a.place s) (t : table_at root a.place ≡ Some a.table) where
   listed_here : is_listed_within a.table s ≡ true

@@ -16,7 +16,6 @@ pub mod DescentLaws
 pub mod DownLaws
 pub mod HierarchyDown
 pub mod LeadsLaws
-pub mod InsideDown
 pub mod BroughtLaws
 pub mod EnterLaws
 pub mod WalkCallLaws

@@ -1,5 +1,5 @@
 -- The entry at a place: the listings on the way to it, of each what lies above it.
-use Rattle.std.specs.Prelude.{◌≡◌, ◌≤◌, ℕ, List, [], ◌∷◌, ◌++◌, false, Option, Some, None, Result, MatchOption, MatchResult, length}
+use Rattle.std.specs.Prelude.{◌≡◌, ◌≤◌, ℕ, List, [], ◌∷◌, ◌++◌, Bool, not, false, Option, Some, None, Result, MatchOption, MatchResult, length}
 use Rattle.std.specs.List.{AllByRecursion}
 use Rattle.ocfl_tree.specs.Place.{Text, Place}
 use Rattle.ocfl_tree.specs.StorageRoot.{StorageRoot}
@@ -7,14 +7,14 @@ use Rattle.ocfl_tree.specs.Store.{Store, Did}
 use Rattle.ocfl_tree.specs.Listing.{IsOrdinary}
 use Rattle.ocfl_tree.specs.declared.store.Entry.{Entry}
 use Rattle.ocfl_tree.specs.declared.store.Opening.{Opening}
-use Rattle.ocfl_audit.specs.Zone.{Zone, zone, table_at}
+use Rattle.ocfl_audit.specs.Zone.{Zone, inside, zone, table_at}
 use Rattle.ocfl_audit.specs.Lines.{is_hashed}
 use Rattle.ocfl_audit.specs.Trail.{content_trail}
 use Rattle.ocfl_item.specs.Looking.{way_to, IsFront, failures_by}
 use Rattle.ocfl_item.specs.Auditing.{FailedAt}
 use Rattle.ocfl_walk.specs.WalkCalls.{holder_of}
-use Rattle.ocfl_item.specs.Ways.{way_below, AreInventories, IsAt}
-use Rattle.ocfl_audit.specs.Walk.{is_reached}
+use Rattle.ocfl_item.specs.Ways.{way_below, is_extensions_name, AreInventories, Enters, InHierarchy, IsAt}
+use Rattle.ocfl_audit.specs.Walk.{is_reached, step_listed}
 use Rattle.ocfl_audit.specs.Stack.{seen_places, seen_left, listed_at, IsListed}
 use Rattle.ocfl_inventory.specs.Table.{IsFit}
 use Rattle.ocfl_walk.specs.Standing.{Pile, frames_of, IsChain, IsAroundIf, HaveEntries}
@@ -70,6 +70,20 @@ pub record GoesInto (root : StorageRoot) (s t : Store) (o : Place) (around : Opt
       (λ why. DescendFails root s t [] (o ∷ []) why)
 
 -- ---- one name further
+
+-- whether a name leads on from d: in an object by its table, else unless it is the storage root's extensions
+abbrev pub LeadsOn : StorageRoot → Place → Text → Option Around → Bool → Type 0
+LeadsOn root d n None on = on ≡ not (is_extensions_name d n)
+LeadsOn root d n (Some a) on = (s : Place) → zone root d ≡ inside a.place s → table_at root a.place ≡ Some a.table → on ≡ step_listed a.table s n
+
+-- from d, of the storage hierarchy, the directory of a name that leads on was listed
+pub record ListsBelow (root : StorageRoot) (s t : Store) (d : Place) (n : Text) (f : Folder) : Type 0 where
+  pub over : s.tree ≡ root
+  pub entries : List Entry
+  pub above : InHierarchy root d entries
+  pub on : is_extensions_name d n ≡ false
+  pub enters : Enters root s t (d ++ n ∷ []) f.place f.entries.items
+  pub ordinary : IsOrdinary f.entries.items
 
 -- on any store: the directory that was listed, and the object around it, which else stays
 abbrev pub IsFairWay : Place → Text → Option Around → Option Around → Option Folder → Type 0

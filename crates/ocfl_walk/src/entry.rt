@@ -1,17 +1,18 @@
 //! Where a walk begins: the listings on the way to a place, of each what lies above that place.
-ghost use Rattle.std.specs.Prelude.{◌≡◌, ◌≤◌, ◌∷◌, ◌++◌, [], length, true, None, Some, IsTrue};
+ghost use Rattle.std.specs.Prelude.{◌≡◌, ◌∷◌, ◌++◌, [], length, None, Some, IsTrue};
 ghost use Rattle.std.specs.Prelude.{IfOk, IfErr, IfSome, MatchOption, MatchResult};
 ghost use Rattle.ocfl_tree.specs.StorageRoot.{StorageRoot};
-ghost use Rattle.ocfl_tree.specs.Place.{Place as Spot};
+ghost use Rattle.ocfl_tree.specs.Store.{Store};
+ghost use Rattle.ocfl_tree.specs.Place.{Place as Spot, Text};
 ghost use Rattle.ocfl_tree.specs.Listing.{IsListing};
-ghost use Rattle.ocfl_audit.specs.Walk.{step_listed};
-ghost use Rattle.ocfl_audit.specs.Zone.{inside, table_at, zone};
+ghost use Rattle.ocfl_audit.specs.Zone.{zone};
 ghost use Rattle.ocfl_item.specs.Around.{IsPart};
 ghost use Rattle.ocfl_item.specs.Meeting.{IsFairFolder};
 ghost use Rattle.ocfl_item.specs.Ways.{Enters, IsAt, IsObject, IsWayFault, StaysOut, Stops};
 ghost use Rattle.ocfl_item.specs.Ways.{way_below};
 ghost use Rattle.ocfl_walk.specs.Entering.{Descends, DescendFails, GoesInto, IsBrought, IsComing};
-ghost use Rattle.ocfl_walk.specs.Entering.{IsFairWay, IsKept, Leads, Starts, StartFails, may_open};
+ghost use Rattle.ocfl_walk.specs.Entering.{IsFairWay, IsKept, Leads, LeadsOn, ListsBelow, Starts};
+ghost use Rattle.ocfl_walk.specs.Entering.{StartFails, may_open};
 ghost use Rattle.ocfl_walk.specs.Standing.{IsAroundIf, IsOrderly, IsOrderlyStand, StandsAt};
 ghost use Rattle.ocfl_walk.specs.Standing.{piles_in};
 
@@ -69,30 +70,22 @@ fn into_object<T: Tree>(
     Ok(Some(folder))
 }
 
-/// The directory of the storage hierarchy, or the object, that a name leads to, where it is
-/// entered.
-fn down_in_hierarchy<T: Tree>(
+/// What lies below a directory of the storage hierarchy, or below an object, that was listed, where
+/// it is entered.
+fn into_directory<T: Tree>(
     alloc: Global,
     store: &mut T,
     object: &mut Option<Around>,
-    folder: &Folder,
-    name: &Name,
+    inner: Folder,
 ) -> Result<Option<Folder>, Fault>
     requires { object.old ≡ None }
     ensures only { IfErr result (λ why. IsWayFault why) }
-    ensures fair { IfOk result (λ o. IsFairWay folder.now.place name.now object.old object.new o) }
+    ensures fair { (d : Spot) (n : Text) → IsFairFolder (d ++ n ∷ []) inner
+        → IfOk result (λ o. IsFairWay d n object.old object.new o) }
     ensures told { IsTrue T.told → (root : StorageRoot) → (T.state store.old).tree ≡ root
-        → IsAt root folder.now.place folder.now.entries.items
-        → IsPart root folder.now.place object.old → (r : Spot)
-        → Leads root (T.state store.old) (T.state store.new) folder.now.place name.now r object.old
-        object.new result }
+        → (s : Store) (d : Spot) (n : Text) → ListsBelow root s (T.state store.old) d n inner
+        → (r : Spot) → Leads root s (T.state store.new) d n r object.old object.new result }
 {
-    if is_extensions(folder, name) {
-        return Ok(None);
-    }
-    let Some(inner) = listed(store, folder, name)? else {
-        return Ok(None);
-    };
     match declaration(&inner.entries, Level::Object) {
         Declared::None => Ok(Some(inner)),
         Declared::One(_) => into_object(alloc, store, object, inner),
@@ -100,15 +93,16 @@ fn down_in_hierarchy<T: Tree>(
     }
 }
 
-/// Whether a name leads from a directory of an object to another that is listed.
-fn leads_on(object: &Around, folder: &Folder, name: &Name) -> bool
-    requires { length object.now.place ≤ length folder.now.place }
-    ensures told { (root : StorageRoot) → IsAt root folder.now.place folder.now.entries.items
-        → (s : Spot)
-        → zone root folder.now.place ≡ inside object.now.place s
-        → table_at root object.now.place ≡ Some object.now.table
-        → result ≡ step_listed object.now.table s name.now }
+/// Whether a name leads from a directory to another that is listed: in an object by its table, in
+/// the storage hierarchy unless it is the storage root's extensions.
+fn leads_on(object: &Option<Around>, folder: &Folder, name: &Name) -> bool
+    requires { IsAroundIf folder.now.place object.now }
+    ensures { (root : StorageRoot) → IsAt root folder.now.place folder.now.entries.items
+        → LeadsOn root folder.now.place name.now object.now result }
 {
+    let Some(object) = object else {
+        return !is_extensions(folder, name);
+    };
     let depth = folder.place.depth() - object.place.depth();
     if depth == 0 {
         is_version_name(name.as_str())
@@ -136,15 +130,15 @@ pub(crate) fn down<T: Tree>(
         → Leads root (T.state store.old) (T.state store.new) folder.now.place name.now r object.old
         object.new result }
 {
+    if !leads_on(object, folder, name) {
+        return Ok(None);
+    }
+    let Some(inner) = listed(store, folder, name)? else {
+        return Ok(None);
+    };
     match object {
-        None => down_in_hierarchy(alloc, store, object, folder, name),
-        Some(around) => {
-            if leads_on(around, folder, name) {
-                listed(store, folder, name)
-            } else {
-                Ok(None)
-            }
-        }
+        None => into_directory(alloc, store, object, inner),
+        Some(_) => Ok(Some(inner)),
     }
 }
 

@@ -1,17 +1,35 @@
-use Rattle.ocfl_walk.proofs.InsideDown.{not_deeper, fair_listed, inside_off, inside_listed}
+use Rattle.std.proofs.Common.{subst}
+use Rattle.std.proofs.lemmas.Result.{err_from_is_err_and}
+use Rattle.ocfl_item.proofs.LooksCalls.{did_nothing}
+use Rattle.ocfl_walk.specs.Entering.{LeadsOn}
+use Rattle.ocfl_walk.proofs.LeadsLaws.{around_on}
+use Rattle.ocfl_walk.proofs.DownLaws.{in_object, leads_in, leads_shut, leads_stop, shut_off, shut_unlisted}
 use Rattle.ocfl_walk.proofs.entry.down.Goals as goal
 
-pub leads_on-requires : goal.leads_on-requires
-leads_on-requires g c = not_deeper c.args.folder.now.place c.args.object.now c.in-Some.around c.in-Some.is c.requires
+pub returns-then-not-leads_on-clause-told : goal.returns-then-not-leads_on-clause-told
+returns-then-not-leads_on-clause-told g c = λ h root over at part r.
+    leads_shut root (g.T.Tree.state c.args.store.now) (g.T.Tree.state c.args.store.now) c.args.folder.now.place c.args.name.now r c.args.object.now over (did_nothing _)
+    (shut_off root c.args.folder.now.place c.args.name.now r c.args.object.now part (subst (LeadsOn root c.args.folder.now.place c.args.name.now c.args.object.now) c.if-not-leads_on.true (c.leads_on.ensures root at)))
 
-pub returns-then-leads_on-clause-fair : goal.returns-then-leads_on-clause-fair
-returns-then-leads_on-clause-fair g c = fair_listed c.args.folder.now.place c.args.name.now c.args.object.now c.in-Some.around c.in-Some.is c.requires c.listed.result c.listed.ensures.fair
+pub returns-in_err-inner-clause-told : goal.returns-in_err-inner-clause-told
+returns-in_err-inner-clause-told g c = λ h root over at part r.
+    let p = err_from_is_err_and c.from_residual.result c.from_residual.ensures.1 in
+    rw (p.1, p.2) (leads_stop root (g.T.Tree.state c.args.store.now) (g.T.Tree.state c.listed.new.store) c.args.folder.now.place c.args.name.now r c.args.object.now c.args.object.now _ (c.in_err-inner.ensures.told h root over at.listing))
 
-pub returns-then-leads_on-clause-told : goal.returns-then-leads_on-clause-told
-returns-then-leads_on-clause-told g c = λ h root over at part r.
-    inside_listed root (g.T.Tree.state c.args.store.now) c.args.folder.now.place c.args.name.now r c.args.object.now c.in-Some.around c.in-Some.is over _ at part c.leads_on.result (λ p z t. c.leads_on.ensures.told root at p z t)
-    (g.T.Tree.state c.listed.new.store) c.if-leads_on.true c.listed.result (c.listed.ensures.told h root over at.listing)
+pub returns-in_default-clause-told : goal.returns-in_default-clause-told
+returns-in_default-clause-told g c = λ h root over at part r.
+    let k = rw c.in_default.is at c.in_ok-inner.ensures.told h root over at.listing in
+    leads_shut root (g.T.Tree.state c.args.store.now) (g.T.Tree.state c.listed.new.store) c.args.folder.now.place c.args.name.now r c.args.object.now over k.did
+    (shut_unlisted root c.args.folder.now.place c.args.name.now r c.args.object.now part k.closed)
 
-pub returns-else-leads_on-clause-told : goal.returns-else-leads_on-clause-told
-returns-else-leads_on-clause-told g c = λ h root over at part r.
-    inside_off root (g.T.Tree.state c.args.store.now) c.args.folder.now.place c.args.name.now r c.args.object.now c.in-Some.around c.in-Some.is over _ at part c.leads_on.result (λ p z t. c.leads_on.ensures.told root at p z t) c.if-leads_on.false
+pub returns-in-None-clause-fair : goal.returns-in-None-clause-fair
+returns-in-None-clause-fair g c = c.into_directory.ensures.fair c.args.folder.now.place c.args.name.now (rw c.in-Some.is at c.in_ok-inner.ensures.fair)
+
+pub returns-in-Some-object-clause-fair : goal.returns-in-Some-object-clause-fair
+returns-in-Some-object-clause-fair g c = (rw c.in-Some.is at c.in_ok-inner.ensures.fair, around_on c.args.folder.now.place c.args.name.now c.args.object.now c.requires)
+
+pub returns-in-Some-object-clause-told : goal.returns-in-Some-object-clause-told
+returns-in-Some-object-clause-told g c = λ h root over at part r.
+    let k = rw c.in-Some.is at c.in_ok-inner.ensures.told h root over at.listing in
+    leads_in root (g.T.Tree.state c.args.store.now) (g.T.Tree.state c.listed.new.store) c.args.folder.now.place c.args.name.now r c.args.object.now over c.in-Some.inner k.did
+    (in_object root c.args.folder.now.place c.args.name.now c.args.object.now _ c.in-Some-object.is part (subst (LeadsOn root c.args.folder.now.place c.args.name.now c.args.object.now) c.if-not-leads_on.false (c.leads_on.ensures root at)) _ _ _ c.in-Some.inner at k)

@@ -1,6 +1,6 @@
 -- The start of a walk at a place.
 use Rattle.std.proofs.Common.{◌≡◌, List, [], ◌∷◌, ◌++◌, sym, ◌∙◌, ap, subst, false, Option, Some, None, length, arith}
-use Rattle.std.specs.Prelude.{cond, ◌||◌, not}
+use Rattle.std.specs.Prelude.{cond, ◌||◌, not, Ok, Err}
 use Rattle.ocfl_tree.specs.Place.{Place}
 use Rattle.ocfl_tree.specs.StorageRoot.{StorageRoot}
 use Rattle.ocfl_tree.specs.Store.{Store, Did}
@@ -16,7 +16,7 @@ use Rattle.ocfl_item.specs.Looking.{way_to}
 use Rattle.ocfl_item.specs.Ways.{Enters, IsHead, Stops, way_below}
 use Rattle.ocfl_walk.specs.Standing.{IsOrderly, IsOrderlyIf, IsStanding, Pile, piles_of}
 use Rattle.ocfl_walk.specs.WalkCalls.{holder_of}
-use Rattle.ocfl_walk.specs.Entering.{Descends, DescendFails, IsBrought, IsComing, Starts, StartFails}
+use Rattle.ocfl_walk.specs.Entering.{Descends, DescendFails, IsBrought, IsComing, ListsRoot, Starts, StartFails}
 use Rattle.ocfl_walk.specs.WalkCalls.{holder_of}
 use Rattle.ocfl_item.specs.declared.fault.Fault.{Fault}
 use Rattle.ocfl_item.specs.declared.fault.Fault.TheVariants as fault
@@ -25,7 +25,7 @@ use Rattle.ocfl_item.specs.declared.folder.Head.{Head}
 use Rattle.ocfl_item.specs.declared.folder.Head.TheVariants as head
 use Rattle.ocfl_item.specs.declared.meeting.Around.{Around}
 use Rattle.ocfl_walk.proofs.DescentLaws.{descends_end, descends_on, descends_one, descent_fails_on, descent_memory, listing_fails, plain_table}
-use Rattle.ocfl_item.proofs.LooksCalls.{head_unknown, way_is}
+use Rattle.ocfl_item.proofs.LooksCalls.{head_unknown, root_entered, way_is}
 use Rattle.ocfl_item.proofs.LooksZones.{declared_root, out_of_zone, plain_unknown}
 use Rattle.ocfl_audit.proofs.StackLaws.{stack_starts, start_stops}
 use Rattle.ocfl_audit.proofs.WayLaws.{is_closed}
@@ -43,15 +43,25 @@ coming_root d es fs e none ordinary =
     subst (λ x. IsComing d es (piles_of x) None) (sym none) (record { chain = tt; short = (let l : length d ≡ 0 = ap length e in omega (arith, l)); ordinary = ordinary; few = tt; object = tt })
 
 module _ (root : StorageRoot) where
-  start_memory_ : (s : Store) (p : Place) → s.tree ≡ root → StartFails root s s p fault.Memory
-  start_memory_ s p over = descent_memory root s (way_to p) (holder_of (zone root p)) over
+  -- ---- the storage root
+
+  pub root_stops : (s t : Store) (d : Place) (why : Fault) → d ≡ [] → Stops root s t (d ∷ []) [] why → ListsRoot root s t (Err why)
+  root_stops s t d why e h = record { gives = subst (λ x. Stops root s t (x ∷ []) [] why) e h }
+
+  module _ (s t : Store) (base : Folder) (m : Head) (ordinary : IsOrdinary base.entries.items) (says : IsHead (declared level.Root (file_names base.entries.items)) m) (k : Enters root s t [] base.place base.entries.items) where
+    pub root_unknown : (m ≡ head.Known → ⊥) → ListsRoot root s t (Ok None)
+    root_unknown unknown = record { gives = (k.did, ap is_known (declared_root root base.entries.items ordinary k.listing) ∙ head_unknown (declared level.Root (file_names base.entries.items)) m says unknown) }
+
+    pub root_known : m ≡ head.Known → ListsRoot root s t (Ok (Some base))
+    root_known known = record { gives = (k.did, root_entered root s t base.place base.entries.items ordinary k (subst (IsHead (declared level.Root (file_names base.entries.items))) known says)) }
+
+  -- ---- the start
 
   pub start_memory : (s : Store) (p : Place) → s.tree ≡ root → StartFails root s s p fault.Memory
-  start_memory s p over = start_memory_ s p over
+  start_memory s p over = descent_memory root s (way_to p) (holder_of (zone root p)) over
 
-  pub start_unlisted : (s t : Store) (p d : Place) (why : Fault) → d ≡ [] → Stops root s t (d ∷ []) [] why → StartFails root s t p why
-  start_unlisted s t p d why e h =
-      subst (λ w. DescendFails root s t w (holder_of (zone root p)) why) (sym (way_is p)) (listing_fails root s t [] (way_below [] p) (holder_of (zone root p)) why (subst (λ x. Stops root s t (x ∷ []) [] why) e h))
+  pub start_unlisted : (s t : Store) (p : Place) (why : Fault) → Stops root s t ([] ∷ []) [] why → StartFails root s t p why
+  start_unlisted s t p why h = subst (λ w. DescendFails root s t w (holder_of (zone root p)) why) (sym (way_is p)) (listing_fails root s t [] (way_below [] p) (holder_of (zone root p)) why h)
 
   module _ (s t : Store) (p : Place) (over : s.tree ≡ root) (did : Did s t [] ([] ∷ []) 0) where
     came : Descends root s t (way_to p) (way_below [] p) (holder_of (zone root p)) (holder_of (zone root p)) 0
@@ -86,10 +96,8 @@ module _ (root : StorageRoot) where
     table = plain_table root p (plain_unknown root p h);
   }
 
-  pub stands_nothing : (p : Place) (fs : List Folder) (es : List Entry) (m : Head) (e : Place) (s t : Store) → fs ≡ [] → IsOrdinary es → Enters root s t [] e es → IsHead (declared level.Root (file_names es)) m → (m ≡ head.Known → ⊥) → IsStanding root p (piles_of fs) None
-  stands_nothing p fs es m e s t none ordinary k says unknown =
-      subst (λ x. IsStanding root p (piles_of x) None) (sym none)
-      (standing_nothing p (ap is_known (declared_root root es ordinary k.listing) ∙ head_unknown (declared level.Root (file_names es)) m says unknown))
+  pub stands_nothing : (p : Place) (fs : List Folder) → fs ≡ [] → is_known (root_declared root) ≡ false → IsStanding root p (piles_of fs) None
+  stands_nothing p fs none h = subst (λ x. IsStanding root p (piles_of x) None) (sym none) (standing_nothing p h)
 
   -- and where it is
   pub stands_brought : (p d q : Place) (fs : List Folder) (new : List Pile) (a : Option Around) → fs ≡ [] → d ≡ [] → q ≡ p → IsBrought root d q (piles_of fs) new a → IsStanding root p new a

@@ -32,7 +32,7 @@ use Rattle.ocfl_audit.proofs.AuditExists.{zone_is}
 use Rattle.ocfl_audit.proofs.PathLaws.{notes_at}
 use Rattle.ocfl_item.proofs.AuditingLaws.{audits_nothing, front_all, none_once}
 use Rattle.ocfl_walk.proofs.DescentLaws.{descends_one}
-use Rattle.ocfl_walk.proofs.EnterLaws.{start_unlisted}
+use Rattle.ocfl_walk.proofs.EnterLaws.{start_listed, start_unlisted}
 use Rattle.ocfl_walk.proofs.FindLaws.{front_own, front_within, finds_descended, finds_stopped, item_memory, item_on, may_few}
 use Rattle.ocfl_item.proofs.LooksCalls.{head_unknown, way_is}
 use Rattle.ocfl_item.proofs.LooksZones.{declared_root}
@@ -110,8 +110,8 @@ module _ (root : StorageRoot) where
 
   -- ---- below the storage root
 
-  pub answered_unlisted : (s t : Store) (p d : Place) (why : Fault) → d ≡ [] → Stops root s t (d ∷ []) [] why → GoDownFails root s t (Some p) why
-  answered_unlisted s t p d why e h = start_fails_down s t p why (start_unlisted root s t p d why e h)
+  pub answered_unlisted : (s t : Store) (p : Place) (why : Fault) → Stops root s t ([] ∷ []) [] why → GoDownFails root s t (Some p) why
+  answered_unlisted s t p why h = start_fails_down s t p why (start_unlisted root s t p why h)
 
   module _ (s t : Store) (p : Place) (over : s.tree ≡ root) (did : Did s t [] ([] ∷ []) 0) where
     pub answered_below : (u : Store) (d q : Place) (r : Result (Option Pending) Fault) → d ≡ [] → q ≡ p → FindsItem root t u (way_below d q) (holder_of (zone root p)) p r → IsAnswer s u p r
@@ -125,13 +125,8 @@ module _ (root : StorageRoot) where
     skipped_notes q some h = notes_at root None q some ∙ ap (λ b. notes_in root q None (cond (not b || is_in_extensions root q) skipped (object_zone root [] q))) h
 
     -- where the root's version is not known nothing else has lines
-    pub answered_unknown : (es : List Entry) (m : Head) (e : Place) → p ≢ [] → IsOrdinary es → Enters root s t [] e es → IsHead (declared level.Root (file_names es)) m → (m ≡ head.Known → ⊥) → GoesDown root s t (Some p) × IsItemAt root p None
-    answered_unknown es m e some ordinary k says unknown =
-        let none : is_known (root_declared root) ≡ false = ap is_known (declared_root root es ordinary k.listing) ∙ head_unknown (declared level.Root (file_names es)) m says unknown in (
-          goes_down s t p (subst (λ w. Finds root s t w (holder_of (zone root p)) 0) (sym (way_is p))
-              (finds_descended root s t ([] ∷ way_below [] p) (way_below [] p) (holder_of (zone root p)) (holder_of (zone root p)) 0 (may_few None (zone root p)) (descends_one root s t [] (way_below [] p) (holder_of (zone root p)) over did))),
-          skipped_notes p some none,
-        )
+    pub answered_unknown : p ≢ [] → is_known (root_declared root) ≡ false → GoesDown root s t (Some p) × IsItemAt root p None
+    answered_unknown some none = (start_goes_down s t p (start_listed root s t p over did), skipped_notes p some none)
 
   -- ---- the storage root
 

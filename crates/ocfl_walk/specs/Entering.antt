@@ -7,15 +7,16 @@ use Rattle.ocfl_tree.specs.Store.{Store, Did}
 use Rattle.ocfl_tree.specs.Listing.{IsOrdinary}
 use Rattle.ocfl_tree.specs.declared.store.Entry.{Entry}
 use Rattle.ocfl_tree.specs.declared.store.Opening.{Opening}
-use Rattle.ocfl_audit.specs.Zone.{Zone, inside, zone, table_at}
+use Rattle.ocfl_audit.specs.Zone.{Zone, inside, root_declared, zone, table_at}
 use Rattle.ocfl_audit.specs.Lines.{is_hashed}
 use Rattle.ocfl_audit.specs.Trail.{content_trail}
 use Rattle.ocfl_item.specs.Looking.{way_to, IsFront, failures_by}
 use Rattle.ocfl_item.specs.Auditing.{FailedAt}
 use Rattle.ocfl_walk.specs.WalkCalls.{holder_of}
-use Rattle.ocfl_item.specs.Ways.{way_below, is_extensions_name, AreInventories, Enters, InHierarchy, IsAt}
+use Rattle.ocfl_item.specs.Ways.{way_below, is_extensions_name, AreInventories, Enters, InHierarchy, IsAt, Stops}
 use Rattle.ocfl_audit.specs.Walk.{is_reached, step_listed}
 use Rattle.ocfl_audit.specs.Stack.{seen_places, seen_left, listed_at, IsListed}
+use Rattle.ocfl_inventory.specs.Declaration.{is_known}
 use Rattle.ocfl_inventory.specs.Table.{IsFit}
 use Rattle.ocfl_walk.specs.Standing.{Pile, frames_of, IsChain, IsAroundIf, HaveEntries}
 use Rattle.ocfl_item.specs.Around.{IsTableAround, IsPart}
@@ -49,6 +50,15 @@ pub record Descends (root : StorageRoot) (s t : Store) (way more may left : List
 pub record DescendFails (root : StorageRoot) (s t : Store) (way may : List Place) (why : Fault) : Type 0 where
   pub goes : Descends root s t way [] may [] (failures_by why)
   pub store : (q : Place) → why ≡ fault.Store q → (is_hashed root q ≡ false) × FailedAt goes.listings goes.trail q
+
+-- ---- the storage root
+
+-- it was listed, and its version is known or not
+pub record ListsRoot (root : StorageRoot) (s t : Store) (r : Result (Option Folder) Fault) : Type 0 where
+  pub gives : MatchResult r
+      (λ next. Did s t [] ([] ∷ []) 0
+      × MatchOption next (is_known (root_declared root) ≡ false) (λ base. InHierarchy root base.place base.entries.items))
+      (λ why. Stops root s t ([] ∷ []) [] why)
 
 -- ---- the table of an object
 

@@ -11,8 +11,8 @@ ghost use Rattle.ocfl_item.specs.Meeting.{IsFairFolder};
 ghost use Rattle.ocfl_item.specs.Ways.{Enters, IsAt, IsObject, IsWayFault, StaysOut, Stops};
 ghost use Rattle.ocfl_item.specs.Ways.{way_below};
 ghost use Rattle.ocfl_walk.specs.Entering.{Descends, DescendFails, GoesInto, IsBrought, IsComing};
-ghost use Rattle.ocfl_walk.specs.Entering.{IsFairWay, IsKept, Leads, LeadsOn, ListsBelow, Starts};
-ghost use Rattle.ocfl_walk.specs.Entering.{StartFails, may_open};
+ghost use Rattle.ocfl_walk.specs.Entering.{IsFairWay, IsKept, Leads, LeadsOn, ListsBelow};
+ghost use Rattle.ocfl_walk.specs.Entering.{ListsRoot, Starts, StartFails, may_open};
 ghost use Rattle.ocfl_walk.specs.Standing.{IsAroundIf, IsOrderly, IsOrderlyStand, StandsAt};
 ghost use Rattle.ocfl_walk.specs.Standing.{piles_in};
 
@@ -46,6 +46,20 @@ fn listed<T: Tree>(store: &mut T, folder: &Folder, name: &Name) -> Result<Option
     }
     let place = folder.place.child(name)?;
     Ok(Some(list(store, place)?))
+}
+
+/// The storage root, listed, where its version is known.
+pub(crate) fn known_root<T: Tree>(alloc: Global, store: &mut T) -> Result<Option<Folder>, Fault>
+    ensures only { IfErr result (λ why. IsWayFault why) }
+    ensures fair { IfOk result (λ next. IfSome next (λ base. IsFairFolder [] base)) }
+    ensures told { IsTrue T.told → (root : StorageRoot) → (T.state store.old).tree ≡ root
+        → ListsRoot root (T.state store.old) (T.state store.new) result }
+{
+    let base = list(store, Place::root(alloc))?;
+    let Head::Known = head_of(&base, Level::Root) else {
+        return Ok(None);
+    };
+    Ok(Some(base))
 }
 
 /// What lies below an object, where its head does not stop: its table is kept.
@@ -199,8 +213,7 @@ pub(crate) fn stand_at<T: Tree>(alloc: Global, store: &mut T, after: &Place) -> 
         around: None,
         last: Some(after.try_clone()?),
     };
-    let base = list(store, Place::root(alloc))?;
-    let Head::Known = head_of(&base, Level::Root) else {
+    let Some(base) = known_root(alloc, store)? else {
         return Ok(stand);
     };
     let names = after.names()?;

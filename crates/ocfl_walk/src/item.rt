@@ -4,9 +4,9 @@ ghost use Rattle.ocfl_item.specs.Meeting.{IsItemAt};
 ghost use Rattle.ocfl_item.specs.Ways.{IsWayFault};
 ghost use Rattle.ocfl_walk.specs.WalkCalls.{GoDownFails, GoesDown};
 
+use crate::entry::known_root;
 use crate::find::find_below;
-use ocfl_inventory::Level;
-use ocfl_item::{Fault, Head, Pending, head_of, list, visit_base};
+use ocfl_item::{Fault, Pending, visit_base};
 use ocfl_report::Line;
 use ocfl_tree::{Place, Tree};
 use std::alloc::{AllocError, Global};
@@ -35,8 +35,7 @@ pub fn item_at<T: Tree>(
     let Some((name, rest)) = names.split_first() else {
         return Ok(visit_base(alloc, store)?.item);
     };
-    let base = list(store, Place::root(alloc))?;
-    let Head::Known = head_of(&base, Level::Root) else {
+    let Some(base) = known_root(alloc, store)? else {
         return Ok(None);
     };
     find_below(alloc, store, place, None, base, name, rest)

@@ -23,3 +23,4 @@ pub mod OrderlyTests
 pub mod WalkWords
 pub mod FindLaws
 pub mod FoundLaws
+pub mod StandSteps

@@ -22,6 +22,7 @@ use Rattle.ocfl_item.specs.declared.meeting.Around.{Around}
 use Rattle.ocfl_audit.specs.Due.{due}
 use Rattle.ocfl_item.specs.declared.pending.Pending.{Pending}
 use Rattle.ocfl_walk.specs.declared.stand.Stand.{Stand}
+use Rattle.ocfl_walk.specs.declared.stand.Step.{Step}
 use Rattle.ocfl_walk.specs.declared.stand.Step.TheVariants as step
 use Rattle.ocfl_item.proofs.LooksZones.{inside_on}
 use Rattle.ocfl_audit.specs.Between.{IsBeyond}
@@ -106,31 +107,48 @@ pub onward_item : (old mid new : Stand) (p : Pending) → Onward old mid → Goe
 onward_item old mid new p (inl e) g = (g.0, subst (λ m. IsBeyond m.last p.place) e g.1, subst (λ m. stand_size new < stand_size m) e g.2, g.3)
 onward_item old mid new p (inr h) g = (g.0, after_on old.last h.0 p.place h.2 (subst (λ l. IsBeyond l p.place) h.1 g.1), omega (arith, g.2, h.3), g.3)
 
-module _ (root : StorageRoot) (s t u : Store) (last : Option Place) (mid new : Stand) where
-  pub so_far_step : SoFar root s t last mid → ((l : Option Place) → StandsAt root mid l → Steps root t u l new step.Nothing) → SoFar root s u last new
-  so_far_step (inl h) k = let g = k last h.1 in inr (subst (λ x. (y : Place) × Walks root x u last (Some y) × StandsAt root new (Some y) × IsBeyond last y × (due root last ≡ due root (Some y))) h.0 g)
-  so_far_step (inr h) k =
-      let g = k (Some h.0) h.2 in
-      inr (g.0, walks_on root s t u last h.0 h.3 (Some g.0) (not_below h.0 g.0 g.3) h.1 g.1, g.2, after_on last h.0 g.0 h.3 g.3, h.4 ∙ g.4)
+module _ (root : StorageRoot) (s t u : Store) (last : Option Place) (mid new : Stand) (over : s.tree ≡ root) (f : SoFar root s t last mid) where
+  stays : t.tree ≡ root
+  stays = by f
+    where
+      by : SoFar root s t last mid → t.tree ≡ root
+      by (inl h) = ap (λ x. x.tree) h.0 ∙ over
+      by (inr h) = walks_over root s t last (Some h.0) h.1
 
-  pub so_far_item : (p : Pending) → SoFar root s t last mid → ((l : Option Place) → StandsAt root mid l → Steps root t u l new (step.Item p)) → NextTold root s u last new (Some p)
-  so_far_item p (inl h) k = let g = k last h.1 in (subst (λ x. Walks root x u last (Some p.place)) h.0 g.0, g.1, g.3)
-  so_far_item p (inr h) k =
-      let g = k (Some h.0) h.2 in
-      (walks_on root s t u last h.0 h.3 (Some p.place) (not_below h.0 p.place g.2) h.1 g.0, g.1, record { pending = g.3.pending; due_are = h.4 ∙ g.3.due_are })
+  pub so_far_fails : (why : Fault) → (t.tree ≡ root → (l : Option Place) → StandsAt root mid l → WalkFails root t u l why) → WalkFails root s u last why
+  so_far_fails why k = by f
+    where
+      by : SoFar root s t last mid → WalkFails root s u last why
+      by (inl h) = subst (λ x. WalkFails root x u last why) h.0 (k stays last h.1)
+      by (inr h) = walks_fail root s t u last h.0 h.3 why h.1 (k stays (Some h.0) h.2)
 
-  pub so_far_end : SoFar root s t last mid → ((l : Option Place) → StandsAt root mid l → Steps root t u l new step.End) → NextTold root s u last new None
-  so_far_end (inl h) k = let g = k last h.1 in (subst (λ x. Walks root x u last None) h.0 g.0, g.1, (last, g.2, g.1))
-  so_far_end (inr h) k =
-      let g = k (Some h.0) h.2 in
-      (walks_on root s t u last h.0 h.3 None tt h.1 g.0, h.4 ∙ g.1, (Some h.0, g.2, g.1))
+  module _ (r : Step) (k : t.tree ≡ root → (l : Option Place) → StandsAt root mid l → Steps root t u l new r) where
+    next_step : (q : Step) → r ≡ q → (l : Option Place) → StandsAt root mid l → Steps root t u l new q
+    next_step q e l st = subst (Steps root t u l new) e (k stays l st)
 
-  pub so_far_fails : (why : Fault) → SoFar root s t last mid → ((l : Option Place) → StandsAt root mid l → WalkFails root t u l why) → WalkFails root s u last why
-  so_far_fails why (inl h) k = subst (λ x. WalkFails root x u last why) h.0 (k last h.1)
-  so_far_fails why (inr h) k =
-      let g = k (Some h.0) h.2 in
-      walks_fail root s t u last h.0 h.3 why h.1 g
+    pub so_far_step : r ≡ step.Nothing → SoFar root s u last new
+    so_far_step e = by f
+      where
+        by : SoFar root s t last mid → SoFar root s u last new
+        by (inl h) = inr (subst (λ x. (y : Place) × Walks root x u last (Some y) × StandsAt root new (Some y) × IsBeyond last y × (due root last ≡ due root (Some y))) h.0 (next_step step.Nothing e last h.1))
+        by (inr h) =
+            let g = next_step step.Nothing e (Some h.0) h.2 in
+            inr (g.0, walks_on root s t u last h.0 h.3 (Some g.0) (not_below h.0 g.0 g.3) h.1 g.1, g.2, after_on last h.0 g.0 h.3 g.3, h.4 ∙ g.4)
 
-  pub so_far_over : SoFar root s t last mid → s.tree ≡ root → t.tree ≡ root
-  so_far_over (inl h) o = ap (λ x. x.tree) h.0 ∙ o
-  so_far_over (inr h) o = walks_over root s t last (Some h.0) h.1
+    pub so_far_item : (p : Pending) → r ≡ step.Item p → NextTold root s u last new (Some p)
+    so_far_item p e = by f
+      where
+        by : SoFar root s t last mid → NextTold root s u last new (Some p)
+        by (inl h) = let g = next_step (step.Item p) e last h.1 in (subst (λ x. Walks root x u last (Some p.place)) h.0 g.0, g.1, g.3)
+        by (inr h) =
+            let g = next_step (step.Item p) e (Some h.0) h.2 in
+            (walks_on root s t u last h.0 h.3 (Some p.place) (not_below h.0 p.place g.2) h.1 g.0, g.1, record { pending = g.3.pending; due_are = h.4 ∙ g.3.due_are })
+
+    pub so_far_end : r ≡ step.End → NextTold root s u last new None
+    so_far_end e = by f
+      where
+        by : SoFar root s t last mid → NextTold root s u last new None
+        by (inl h) = let g = next_step step.End e last h.1 in (subst (λ x. Walks root x u last None) h.0 g.0, g.1, (last, g.2, g.1))
+        by (inr h) =
+            let g = next_step step.End e (Some h.0) h.2 in
+            (walks_on root s t u last h.0 h.3 None tt h.1 g.0, h.4 ∙ g.1, (Some h.0, g.2, g.1))

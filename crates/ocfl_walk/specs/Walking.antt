@@ -1,16 +1,17 @@
 -- What a walk does to a store that tells its tree.
-use Rattle.std.specs.Prelude.{◌≡◌, ◌⊎◌, ◌≤◌, [], ◌∷◌, Option, Some, None, MatchOption, IfSome, length, ◌<◌, ⊤}
+use Rattle.std.specs.Prelude.{◌≡◌, ◌⊎◌, ◌≤◌, [], ◌∷◌, Option, Some, None, Result, MatchOption, MatchResult, IfSome, length, ◌<◌, ⊤}
 use Rattle.ocfl_tree.specs.Place.{Place}
 use Rattle.ocfl_tree.specs.StorageRoot.{StorageRoot}
 use Rattle.ocfl_tree.specs.Store.{Store}
 use Rattle.ocfl_audit.specs.Due.{due}
 use Rattle.ocfl_audit.specs.Between.{IsBeyond}
 use Rattle.ocfl_item.specs.Meeting.{IsItemAt}
-use Rattle.ocfl_walk.specs.WalkCalls.{Walks}
+use Rattle.ocfl_walk.specs.WalkCalls.{Walks, WalkFails}
 use Rattle.ocfl_item.specs.Pending.{IsPending}
 use Rattle.ocfl_audit.specs.Walk.{seen_names}
 use Rattle.ocfl_walk.specs.Standing.{AreEntries, IsFairPile, left_names, left_of_folder, IsAroundIf, StandsAt, stand_size}
 use Rattle.ocfl_item.specs.Around.{IsTableAround}
+use Rattle.ocfl_item.specs.declared.fault.Fault.{Fault}
 use Rattle.ocfl_item.specs.declared.folder.Folder.{Folder}
 use Rattle.ocfl_item.specs.declared.pending.Pending.{Pending}
 use Rattle.ocfl_walk.specs.declared.stand.Met.{Met}
@@ -53,6 +54,10 @@ abbrev pub Steps : StorageRoot → Store → Store → Option Place → Stand �
 Steps root s t last new (step.Item p) = Walks root s t last (Some p.place) × StandsAt root new (Some p.place) × IsBeyond last p.place × IsNext root last p
 Steps root s t last new step.Nothing = (x : Place) × Walks root s t last (Some x) × StandsAt root new (Some x) × IsBeyond last x × (due root last ≡ due root (Some x))
 Steps root s t last new step.End = Walks root s t last None × (due root last ≡ []) × StandsAt root new last
+
+-- what a step comes to, or the fault that it meets
+abbrev pub StepsTo : StorageRoot → Store → Store → Option Place → Stand → Result Step Fault → Type 0
+StepsTo root s t last new r = MatchResult r (λ step. Steps root s t last new step) (λ why. WalkFails root s t last why)
 
 -- on any store it goes on to a greater place, and what is left gets less
 abbrev pub GoesOn : Stand → Stand → Step → Type 0

@@ -15,7 +15,7 @@ ghost use Rattle.ocfl_walk.specs.Standing.{pushed, IsAroundIf, IsOrderlyStand, I
 ghost use Rattle.ocfl_walk.specs.Standing.{next_of, path_from, piles_at, piles_in, still, trimmed};
 ghost use Rattle.ocfl_walk.specs.Standing.{turn_of, around_of};
 ghost use Rattle.ocfl_walk.specs.Walking.{step_from, GoesOn, IsFairMet, IsMeeting, NextGoesOn};
-ghost use Rattle.ocfl_walk.specs.Walking.{NextTold, Steps};
+ghost use Rattle.ocfl_walk.specs.Walking.{NextTold, StepsTo};
 ghost use Rattle.ocfl_walk.specs.WalkCalls.{WalkFails};
 
 use crate::listing::sorted_if;
@@ -250,9 +250,7 @@ impl Stand {
         ensures only { IfErr result (λ why. IsWayFault why) }
         ensures goes_on { IfOk result (λ step. GoesOn self.old self.new step) }
         ensures told { IsTrue T.told → (root : StorageRoot) → (T.state store.old).tree ≡ root
-            → MatchResult result
-            (λ step. Steps root (T.state store.old) (T.state store.new) None self.new step)
-            (λ why. WalkFails root (T.state store.old) (T.state store.new) None why) }
+            → StepsTo root (T.state store.old) (T.state store.new) None self.new result }
     {
         let Visit { item, folder, .. } = visit_base(alloc, store)?;
         push_if(&mut self.listings, sorted_if(folder));
@@ -277,9 +275,8 @@ impl Stand {
             → IsStanding root last (piles_in self.old.last self.old.listings.items)
             self.old.around
             → IsTurn root last place ((place, seen_names root place)
-            ∷ popped (piles_in self.old.last self.old.listings.items)) → MatchResult result
-            (λ step. Steps root (T.state store.old) (T.state store.new) (Some last) self.new step)
-            (λ why. WalkFails root (T.state store.old) (T.state store.new) (Some last) why) }
+            ∷ popped (piles_in self.old.last self.old.listings.items))
+            → StepsTo root (T.state store.old) (T.state store.new) (Some last) self.new result }
     {
         let Some(entry) = take_entry(&mut self.listings) else {
             return Ok(Step::End);
@@ -313,9 +310,7 @@ impl Stand {
             → IsStanding root last (piles_in self.old.last self.old.listings.items)
             self.old.around
             → IsTurn root last place (frames_of (piles_in self.old.last self.old.listings.items))
-            → seen root place ≡ None → MatchResult result
-            (λ step. Steps root s s (Some last) self.new step)
-            (λ why. WalkFails root s s (Some last) why) }
+            → seen root place ≡ None → StepsTo root s s (Some last) self.new result }
     {
         let item = visit_path(alloc, &self.around, &place)?;
         self.last = Some(place);
@@ -329,9 +324,8 @@ impl Stand {
         ensures only { IfErr result (λ why. IsWayFault why) }
         ensures goes_on { IfOk result (λ step. GoesOn self.old self.new step) }
         ensures told { IsTrue T.told → (root : StorageRoot) → (T.state store.old).tree ≡ root
-            → (last : Option Spot) → StandsAt root self.old last → MatchResult result
-            (λ step. Steps root (T.state store.old) (T.state store.new) last self.new step)
-            (λ why. WalkFails root (T.state store.old) (T.state store.new) last why) }
+            → (last : Option Spot) → StandsAt root self.old last
+            → StepsTo root (T.state store.old) (T.state store.new) last self.new result }
     {
         drop_empty(&mut self.listings);
         match choose(&self.listings, &self.around, &self.last)? {

@@ -1,0 +1,177 @@
+-- What a stand is after each of its steps.
+use Rattle.std.proofs.Common.{◌≡◌, ◌≢◌, ◌<◌, List, [], ◌∷◌, ◌++◌, refl, sym, ap, subst, Option, Some, None, length}
+use Rattle.std.specs.declared.alloc.Global.{Global}
+use Rattle.std.specs.Prelude.{IfSome, Vec}
+use Rattle.std.specs.declared.cmp.Ordering.TheVariants.{Less}
+use Rattle.arrayvec.specs.ArrayVec.{ArrayVec}
+use Rattle.ocfl_tree.specs.Place.{Place, place_cmp}
+use Rattle.ocfl_tree.specs.StorageRoot.{StorageRoot}
+use Rattle.ocfl_tree.specs.Store.{Store}
+use Rattle.ocfl_tree.specs.declared.store.Entry.{Entry}
+use Rattle.ocfl_audit.specs.Between.{IsBeyond}
+use Rattle.ocfl_audit.specs.Walk.{seen_names}
+use Rattle.ocfl_audit.specs.Zone.{seen}
+use Rattle.ocfl_item.specs.Around.{IsMet, IsTableAround}
+use Rattle.ocfl_item.specs.Meeting.{IsItemAt, Meets}
+use Rattle.ocfl_item.specs.declared.folder.Folder.{Folder}
+use Rattle.ocfl_item.specs.declared.meeting.Around.{Around}
+use Rattle.ocfl_item.specs.declared.pending.Pending.{Pending}
+use Rattle.ocfl_item.proofs.ShutLaws.{shut_unseen}
+use Rattle.ocfl_item.proofs.VisitLaws.{meets_shut}
+use Rattle.ocfl_walk.specs.Standing.{IsAroundIf, IsBelowNext, IsFairPile, IsOrderly, IsOrderlyIf, IsOrderlyStand, IsStanding, IsTaken, IsTurn, StandsAt, TurnIs, frames_of, next_of, path_from, piles_at, piles_in, popped, pushed, spot_of, still, trimmed, turn_of}
+use Rattle.ocfl_walk.specs.Walking.{GoesOn, IsFairMet, IsMeeting, IsPileAt, Steps, step_from}
+use Rattle.ocfl_walk.specs.declared.stand.Met.{Met}
+use Rattle.ocfl_walk.specs.declared.stand.Stand.{Stand}
+use Rattle.ocfl_walk.specs.declared.stand.Step.{Step}
+use Rattle.ocfl_walk.specs.declared.stand.Turn.{Turn}
+use Rattle.ocfl_walk.specs.declared.stand.Turn.TheVariants as turn
+use Rattle.ocfl_walk.proofs.Chosen.{at_last, chosen_turn, mid_stands}
+use Rattle.ocfl_walk.proofs.DueTurns.{near_turn}
+use Rattle.ocfl_walk.proofs.EntrySteps.{entry_met, step_to, still_around, taken_place}
+use Rattle.ocfl_walk.proofs.OrderlyLaws.{entry_after, entry_short, orderly_entry}
+use Rattle.ocfl_walk.proofs.PathSteps.{orderly_path, path_above, path_short, size_path}
+use Rattle.ocfl_walk.proofs.PlacedLaws.{begun, begun_if, entry_pushed, entry_room, path_shared}
+use Rattle.ocfl_walk.proofs.SizeLaws.{goes_to, size_entry, sizes_fall}
+use Rattle.ocfl_walk.proofs.StandLaws.{entry_stands, path_stands}
+use Rattle.ocfl_walk.proofs.StartLaws.{first_pushed, first_room, first_stands, item_first, not_begun, orderly_first, root_short, size_begins, size_first, step_first}
+
+abbrev Listings : Type 0
+Listings = ArrayVec (Vec Entry Global)
+
+-- the listing of a place goes on top
+abbrev Pushes : Listings → Listings → Option Folder → Type 0
+Pushes old new f = (p : Place) → IfSome f (λ g. (g.place ≡ p) × (length p ≡ length old.items)) → piles_at p new.items ≡ pushed f (piles_at p old.items)
+
+-- ---- to the storage root
+
+module _ (old : Stand) (orderly : IsOrderlyStand old) (first : old.last ≡ None) where
+  nothing : (piles_at [] old.listings.items ≡ []) × (old.around ≡ None)
+  nothing = subst (λ l. IsOrderlyIf l (piles_in l old.listings.items) old.around) first orderly
+
+  pub base_room : (f : Option Folder) → IfSome f (λ _. length old.listings.items < 128)
+  base_room f = first_room old.listings.items f nothing.0
+
+  module _ (new : Listings) (x : Place) (f : Option Folder) (top : x ≡ []) (fair : IfSome f (λ g. IsFairPile [] g)) (push : Pushes old.listings new f) where
+    abbrev base : Stand
+    base = record { listings = new; around = old.around; last = Some x }
+
+    base_piles : piles_at x new.items ≡ pushed f (piles_at [] old.listings.items)
+    base_piles = first_pushed x old.listings.items new.items f top nothing.0 fair push
+
+    pub base_orderly : IsOrderlyStand base
+    base_orderly = subst (λ ps. IsOrderly x ps old.around) (sym base_piles) (orderly_first x f (piles_at [] old.listings.items) old.around top nothing.0 nothing.1 fair)
+
+    module _ (item : Option Pending) (r : Step) (is : r ≡ step_from item) where
+      pub base_goes_on : IfSome item (λ p. p.place ≡ []) → GoesOn old base r
+      base_goes_on i =
+          subst (GoesOn old base) (sym is)
+          (goes_to old base x item (item_first x item top i) refl (subst (λ y. IsBeyond y x) (sym first) tt)
+          (size_begins old base x (piles_at [] old.listings.items) _ old.around old.around first (ap (λ l. piles_in l old.listings.items) first) refl refl base_piles refl (size_first x f (piles_at [] old.listings.items) old.around nothing.0 nothing.1 fair))
+          (root_short x top))
+
+      pub base_told : (root : StorageRoot) (s t : Store) → Meets root s t [] → IsItemAt root [] item → IsPileAt root [] f → Steps root s t None base r
+      base_told root s t m i pile =
+          let st = first_stands root x f (piles_at [] old.listings.items) old.around top nothing.0 nothing.1 pile in
+          subst (Steps root s t None base) (sym is) (step_first root s t x base item top m i (refl, subst (λ ps. IsStanding root x ps old.around) (sym base_piles) st))
+
+-- ---- to an entry
+
+module _ (old : Stand) (entry : Entry) (x : Place) (mid : Listings) (orderly : IsOrderlyStand old) (next : next_of (piles_in old.last old.listings.items) ≡ Some x) (taken : (p : Place) → IsTaken (piles_at p old.listings.items) (piles_at p mid.items) entry) where
+  there : (old.last ≡ Some (spot_of old.last)) × IsOrderly (spot_of old.last) (piles_in old.last old.listings.items) old.around
+  there = begun old.last (piles_in old.last old.listings.items) old.around x orderly next
+
+  own : x ≡ (taken (spot_of old.last)).place ++ entry.name ∷ []
+  own = taken_place (piles_in old.last old.listings.items) (piles_in old.last mid.items) entry x (taken (spot_of old.last)) next
+
+  -- the object that was around is taken with it
+  module _ (a : Option Around) (same : a ≡ old.around) where
+    pub entry_around : IsAroundIf x (still a x)
+    entry_around = subst (λ y. IsAroundIf x (still y x)) (sym same) (still_around (spot_of old.last) x old.around there.1.object)
+
+    pub entry_is_met : (root : StorageRoot) (l : Place) → old.last ≡ Some l → IsStanding root l (piles_in old.last old.listings.items) old.around → IsMet root (taken (spot_of old.last)).place (still a x) entry x
+    entry_is_met root l e st =
+        let o = subst (λ y. IsOrderlyIf y (piles_in old.last old.listings.items) old.around) e orderly in
+        subst (λ y. IsMet root (taken (spot_of old.last)).place (still y x) entry x) (sym same) (entry_met root l (piles_in old.last old.listings.items) (piles_in old.last mid.items) entry x old.around o st (taken (spot_of old.last)) own)
+
+  module _ (count : length mid.items ≡ length old.listings.items) (m : Met) (fair : IsFairMet x m) where
+    pub entry_fits : IfSome m.folder (λ _. length mid.items < 128)
+    entry_fits = entry_room (spot_of old.last) x old.listings.items mid.items entry old.around there.1 (taken (spot_of old.last)) count own m.folder fair.folder
+
+    module _ (new : Listings) (push : Pushes mid new m.folder) where
+      abbrev at_entry : Stand
+      at_entry = record { listings = new; around = m.around; last = Some x }
+
+      entry_piles : piles_at x new.items ≡ pushed m.folder (piles_in old.last mid.items)
+      entry_piles = entry_pushed (spot_of old.last) x old.listings.items mid.items entry old.around there.1 (taken (spot_of old.last)) count own new.items m.folder fair.folder push
+
+      pub entry_orderly : IsOrderlyStand at_entry
+      entry_orderly =
+          subst (λ ps. IsOrderly x ps m.around) (sym entry_piles)
+          (orderly_entry (spot_of old.last) (piles_in old.last old.listings.items) (piles_in old.last mid.items) entry old.around there.1 (taken (spot_of old.last)) x own m.folder fair.folder m.around fair.table)
+
+      module _ (r : Step) (is : r ≡ step_from m.item) where
+        pub entry_goes_on : GoesOn old at_entry r
+        entry_goes_on =
+            let above = subst (λ y. place_cmp (spot_of old.last) y ≡ Less) (sym own) (entry_after (spot_of old.last) (piles_in old.last old.listings.items) (piles_in old.last mid.items) entry old.around there.1 (taken (spot_of old.last))) in
+            let small = size_entry (spot_of old.last) x (piles_in old.last old.listings.items) (piles_in old.last mid.items) entry old.around m.around m.folder there.1 (taken (spot_of old.last)) fair.table fair.folder in
+            subst (GoesOn old at_entry) (sym is)
+            (goes_to old at_entry x m.item fair.item refl (subst (λ y. IsBeyond y x) (sym there.0) above)
+            (sizes_fall old at_entry (spot_of old.last) x _ _ old.around m.around there.0 refl refl refl entry_piles refl small)
+            (entry_short (spot_of old.last) (piles_in old.last old.listings.items) (piles_in old.last mid.items) entry old.around there.1 (taken (spot_of old.last)) x own))
+
+        pub entry_told : (root : StorageRoot) (s u : Store) (l : Place) → IsStanding root l (piles_in old.last old.listings.items) old.around → IsTurn root l x ((x, seen_names root x) ∷ popped (piles_in old.last old.listings.items)) → Meets root s u x → IsMeeting root x m
+            → Steps root s u (Some l) at_entry r
+        entry_told root s u l st go meets met =
+            let here = entry_stands root l x (piles_in old.last old.listings.items) (piles_in old.last mid.items) entry m.folder old.around m.around st go (taken (spot_of old.last)) met.folder met.table in
+            subst (Steps root s u (Some l) at_entry) (sym is)
+            (step_to root s u l x at_entry m.item meets met.item (near_turn root l x _ go) (refl, subst (λ ps. IsStanding root x ps m.around) (sym entry_piles) here) go.some go.none)
+
+-- ---- to a path of the table
+
+module _ (old : Stand) (x : Place) (orderly : IsOrderlyStand old) (some : old.last ≢ None) (trim : trimmed (piles_in old.last old.listings.items) ≡ piles_in old.last old.listings.items)
+    (next : (l : Place) → old.last ≡ Some l → (path_from l old.around ≡ Some x) × IsBelowNext x (next_of (piles_in old.last old.listings.items))) where
+  abbrev at_path : Stand
+  at_path = record { listings = old.listings; around = old.around; last = Some x }
+
+  gone : (old.last ≡ Some (spot_of old.last)) × IsOrderly (spot_of old.last) (piles_in old.last old.listings.items) old.around
+  gone = begun_if old.last (piles_in old.last old.listings.items) old.around orderly some
+
+  path : (path_from (spot_of old.last) old.around ≡ Some x) × IsBelowNext x (next_of (piles_in old.last old.listings.items))
+  path = next (spot_of old.last) gone.0
+
+  beside : IsOrderly x (piles_in old.last old.listings.items) old.around
+  beside = orderly_path (spot_of old.last) x (piles_in old.last old.listings.items) old.around gone.1 path.0 trim path.1
+
+  path_piles : piles_at x old.listings.items ≡ piles_in old.last old.listings.items
+  path_piles = path_shared (spot_of old.last) x old.listings.items old.around gone.1 beside
+
+  pub path_orderly : IsOrderlyStand at_path
+  path_orderly = subst (λ ps. IsOrderly x ps old.around) (sym path_piles) beside
+
+  module _ (item : Option Pending) (r : Step) (is : r ≡ step_from item) where
+    pub path_goes_on : IfSome item (λ p. p.place ≡ x) → GoesOn old at_path r
+    path_goes_on i =
+        let above = path_above (spot_of old.last) x (piles_in old.last old.listings.items) old.around gone.1 path.0 in
+        let small = size_path (spot_of old.last) x (piles_in old.last old.listings.items) old.around gone.1 path.0 in
+        subst (GoesOn old at_path) (sym is)
+        (goes_to old at_path x item i refl (subst (λ y. IsBeyond y x) (sym gone.0) above)
+        (sizes_fall old at_path (spot_of old.last) x _ _ old.around old.around gone.0 refl refl refl path_piles refl small)
+        (path_short (spot_of old.last) x (piles_in old.last old.listings.items) old.around gone.1 path.0))
+
+    pub path_told : (root : StorageRoot) (s : Store) (l : Place) → s.tree ≡ root → old.last ≡ Some l → IsStanding root l (piles_in old.last old.listings.items) old.around → IsTurn root l x (frames_of (piles_in old.last old.listings.items)) → seen root x ≡ None
+        → (IsTableAround root x old.around → IsItemAt root x item) → Steps root s s (Some l) at_path r
+    path_told root s l over e st go unseen i =
+        let here = path_stands root l x (piles_in old.last old.listings.items) old.around st go (next l e).0 in
+        subst (Steps root s s (Some l) at_path) (sym is)
+        (step_to root s s l x at_path item (meets_shut root s x over (shut_unseen root x unseen)) (i here.table) (near_turn root l x _ go) (refl, subst (λ ps. IsStanding root x ps old.around) (sym path_piles) here) go.some go.none)
+
+-- ---- by the turn that is chosen
+
+-- what is so of each place that a walk that has begun stands behind, and of what its turn comes to, is so of where it stands
+pub by_turn : (root : StorageRoot) (old : Stand) (mid : Listings) → piles_in old.last mid.items ≡ trimmed (piles_in old.last old.listings.items) → (t u : Turn) → t ≡ u → (u ≡ turn.Base → ⊥) → (old.last ≡ None → t ≡ turn.Base)
+    → ((p : Place) → old.last ≡ Some p → t ≡ turn_of (next_of (piles_in old.last mid.items)) (path_from p old.around)) → IsOrderlyStand old → (X : Option Place → Type 0) (last : Option Place) → StandsAt root old last
+    → ((p : Place) → old.last ≡ Some p → IsStanding root p (piles_in old.last mid.items) old.around → TurnIs root p (piles_in old.last mid.items) u → X (Some p)) → X last
+by_turn root old mid is t u same some base next orderly X last st k =
+    at_last root old X last st (λ e. some (subst (λ y. y ≡ turn.Base) same (base e)))
+    (λ p e h. k p e (mid_stands (piles_in old.last old.listings.items) (piles_in old.last mid.items) old.around is root p h)
+    (subst (TurnIs root p (piles_in old.last mid.items)) same (chosen_turn (piles_in old.last old.listings.items) (piles_in old.last mid.items) old.around is root old.last p t e orderly h (next p e))))

@@ -1,4 +1,4 @@
-ghost use Rattle.std.specs.Prelude.{◌≡◌, ◌≢◌, ◌≤◌, ◌↔◌, IsTrue, true, false, IfOk, OnOk, OnErr};
+ghost use Rattle.std.specs.Prelude.{◌≡◌, ◌≢◌, ◌≤◌, ◌↔◌, IsTrue, true, false, IfOk, Ok, OnOk, OnErr};
 ghost use Rattle.std.specs.Prelude.{MatchOption, length, string_bytes, Err};
 ghost use Rattle.std.specs.Fs.{IsDir, IsFile, file_type};
 ghost use Rattle.std.specs.IoError.{error_kind};
@@ -82,6 +82,21 @@ fn fault_of(error: &io::Error) -> Fault
         ErrorKind::OutOfMemory => Fault::Trouble(Trouble::Memory),
         _ => Fault::Trouble(Trouble::Device),
     }
+}
+
+/// What a call gives where it is not interrupted too often.
+fn retried<T, F: Fn() -> Result<T, Fault>>(call: F) -> Result<T, Trouble>
+    requires { F.IsAlwaysCallable call }
+    ensures { IfOk result (λ value. F.post call (Ok value)) }
+{
+    for _ in 0..TRIES {
+        match call() {
+            Ok(value) => return Ok(value),
+            Err(Fault::Interrupted) => {}
+            Err(Fault::Trouble(trouble)) => return Err(trouble),
+        }
+    }
+    Err(Trouble::Device)
 }
 
 /// The fault of an entry that was listed, or of a file that is open: that it is not there is the
@@ -279,14 +294,7 @@ impl<R: Files + AllocGlobal + Clone + Drop> FsTree<R> {
     fn listed(&self, place: &Place) -> Result<Vec<Entry>, Trouble>
         ensures { IfOk result (λ entries. IsOrdinary entries.items) }
     {
-        for _ in 0..TRIES {
-            match self.entries(place) {
-                Ok(entries) => return once(entries),
-                Err(Fault::Interrupted) => {}
-                Err(Fault::Trouble(trouble)) => return Err(trouble),
-            }
-        }
-        Err(Trouble::Device)
+        once(retried(|| self.entries(place))?)
     }
 
     /// The file at a place, where it is the one that was looked at right before.
@@ -305,14 +313,7 @@ impl<R: Files + AllocGlobal + Clone + Drop> FsTree<R> {
 
     /// The file at a place, where the call is not interrupted too often.
     fn opened(&self, place: &Place) -> Result<R::File, Trouble> {
-        for _ in 0..TRIES {
-            match self.file(place) {
-                Ok(file) => return Ok(file),
-                Err(Fault::Interrupted) => {}
-                Err(Fault::Trouble(trouble)) => return Err(trouble),
-            }
-        }
-        Err(Trouble::Device)
+        retried(|| self.file(place))
     }
 }
 

@@ -21,10 +21,6 @@ text_of_a_cursor : cursor_text third_cycle ≡ codes "ocfl-scrub cursor 2\ncycle
 unfolding cursor_on_literals
 text_of_a_cursor = refl
 
-lengths_of_a_cursor : (length (cursor_text third_cycle) ≡ 144) × (length (cursor_body third_cycle) ≡ 72) × (length (digest_line (cursor_body third_cycle)) ≡ 72)
-unfolding cursor_on_literals
-lengths_of_a_cursor = (refl, refl, refl)
-
 -- the first line has 20 bytes, and the last one 72
 cursor_as_shown : (cursor_lines third_cycle ≡ codes "cycle 3\nruns 2\nspent 9\nfiles 3\nafter o/v1/content/c\n") × (take 52 (drop 20 (cursor_text third_cycle)) ≡ cursor_lines third_cycle)
 unfolding cursor_on_literals
@@ -53,10 +49,6 @@ version_one_as_shown : cursor_lines without_files ≡ codes "cycle 3\nruns 2\nsp
 unfolding cursor_on_literals
 version_one_as_shown = refl
 
-lengths_of_version_one : (length (version_one_text without_files) ≡ 136) × (length (version_one_body without_files) ≡ 64) × (length (digest_line (version_one_body without_files)) ≡ 72)
-unfolding cursor_on_literals
-lengths_of_version_one = (refl, refl, refl)
-
 version_one_of_a_new_cursor : version_one_text new_cursor ≡ codes "ocfl-scrub cursor 1\ncycle 1\nruns 0\nspent 0\nstart\ndigest eec5ed22301f28c448cd6ef3e3f29ee5aef8b762c091f1384e735a1c51cad9b7\n"
 unfolding cursor_on_literals
 version_one_of_a_new_cursor = refl
@@ -70,9 +62,17 @@ behind_the_root = record new_cursor { state = behind [] }
 abbrev lengths : Cursor → ℕ × ℕ
 lengths c = (length (cursor_text c), length (version_one_text c))
 
-lengths_of_short_texts : (lengths new_cursor ≡ (129, 121)) × (lengths behind_the_root ≡ (131, 123))
+lengths_of_texts : (lengths new_cursor ≡ (129, 121)) × (lengths behind_the_root ≡ (131, 123)) × (lengths third_cycle ≡ (144, 136))
 unfolding cursor_on_literals
-lengths_of_short_texts = (refl, refl)
+lengths_of_texts = (refl, refl, refl)
+
+-- and how many before the last line, and in it
+abbrev lengths_around : Text → ℕ × ℕ
+lengths_around body = (length body, length (digest_line body))
+
+last_lines : (lengths_around (cursor_body third_cycle) ≡ (72, 72)) × (lengths_around (version_one_body third_cycle) ≡ (64, 72))
+unfolding cursor_on_literals
+last_lines = (refl, refl)
 
 -- the text before the last line in version 2, and in version 1 that of the cursor without files
 abbrev bodies : Cursor → Text × Text

@@ -68,34 +68,22 @@ module _ (root : StorageRoot) where
   pub descends_one : (s t : Store) (d : Place) (way may : List Place) → s.tree ≡ root → Did s t [] (d ∷ []) 0 → Descends root s t (d ∷ way) way may may 0
   descends_one s t d way may over did = record { over = over; trail = []; listings = d ∷ []; did = did; meta = refl; only = refl; listed = ([], sym (append-nil (d ∷ way))); heads = ([], sym (append-nil may)) }
 
+  -- what was done, on another way
+  abbrev pub descends_as : (s t : Store) (way more may left way' more' may' left' : List Place) (f : ℕ) (h : Descends root s t way more may left f) → IsFront (h.listings ++ more') way' → IsFront (heads_of root h.trail ++ left') may' → Descends root s t way' more' may' left' f
+  descends_as s t way more may left way' more' may' left' f h listed heads = record { over = h.over; trail = h.trail; listings = h.listings; did = h.did; meta = h.meta; only = h.only; listed = listed; heads = heads }
+
   -- no more is done
   abbrev pub descends_end : (s t : Store) (way more may left : List Place) (f : ℕ) → Descends root s t way more may left f → Descends root s t way [] may [] f
-  descends_end s t way more may left f h = record {
-    over = h.over;
-    trail = h.trail;
-    listings = h.listings;
-    did = h.did;
-    meta = h.meta;
-    only = h.only;
-    listed = (more ++ h.listed.0, h.listed.1 ∙ append_assoc h.listings more h.listed.0 ∙ ap (λ x. x ++ (more ++ h.listed.0)) (sym (append-nil h.listings)));
-    heads = (left ++ h.heads.0, h.heads.1 ∙ append_assoc (heads_of root h.trail) left h.heads.0 ∙ ap (λ x. x ++ (left ++ h.heads.0)) (sym (append-nil (heads_of root h.trail))));
-  }
+  descends_end s t way more may left f h =
+      descends_as s t way more may left way [] may [] f h
+      (more ++ h.listed.0, h.listed.1 ∙ append_assoc h.listings more h.listed.0 ∙ ap (λ x. x ++ (more ++ h.listed.0)) (sym (append-nil h.listings)))
+      (left ++ h.heads.0, h.heads.1 ∙ append_assoc (heads_of root h.trail) left h.heads.0 ∙ ap (λ x. x ++ (left ++ h.heads.0)) (sym (append-nil (heads_of root h.trail))))
 
   -- a listing that failed
   pub listing_fails : (s t : Store) (d : Place) (way may : List Place) (why : Fault) → Stops root s t (d ∷ []) [] why → DescendFails root s t (d ∷ way) may why
-  listing_fails s t d way may why h = record {
-    goes = record {
-      over = h.goes.over;
-      trail = [];
-      listings = h.goes.listings;
-      did = h.goes.did;
-      meta = refl;
-      only = refl;
-      listed = (h.goes.listed.0 ++ way, ap (λ x. x ++ way) h.goes.listed.1 ∙ append_assoc h.goes.listings h.goes.listed.0 way ∙ ap (λ x. x ++ (h.goes.listed.0 ++ way)) (sym (append-nil h.goes.listings)));
-      heads = (may, refl);
-    };
-    store = h.store;
-  }
+  listing_fails s t d way may why h =
+      let listed : IsFront (h.goes.listings ++ []) (d ∷ way) = (h.goes.listed.0 ++ way, ap (λ x. x ++ way) h.goes.listed.1 ∙ append_assoc h.goes.listings h.goes.listed.0 way ∙ ap (λ x. x ++ (h.goes.listed.0 ++ way)) (sym (append-nil h.goes.listings))) in
+      record { goes = record { over = h.goes.over; trail = []; listings = h.goes.listings; did = h.goes.did; meta = refl; only = refl; listed = listed; heads = (may, refl) }; store = h.store }
 
   -- ---- an object's inventory
 

@@ -1,5 +1,6 @@
 -- One name further down, on the way to a place.
 use Rattle.std.proofs.Common.{◌≡◌, ℕ, List, [], ◌∷◌, ◌++◌, refl, sym, ◌∙◌, ap, subst, true, false, Bool, Option, Some, None}
+use Rattle.std.proofs.lemmas.List.{append-nil}
 use Rattle.std.specs.Prelude.{cond, ◌&&◌, ◌||◌, not, Result, Ok, Err, ⊤}
 use Rattle.ocfl_tree.specs.Place.{Text, Place}
 use Rattle.ocfl_tree.specs.StorageRoot.{StorageRoot, is_dir}
@@ -12,7 +13,7 @@ use Rattle.ocfl_item.specs.Ways.{Enters, Stops, way_below, is_listable, is_exten
 use Rattle.ocfl_item.specs.Around.{IsPart, IsTableAround}
 use Rattle.ocfl_walk.specs.Entering.{Descends, GoesInto, IsIn, IsShut, Leads, LeadsOn, may_open}
 use Rattle.ocfl_walk.specs.WalkCalls.{holder_of}
-use Rattle.ocfl_item.specs.Auditing.{FailedAt}
+use Rattle.ocfl_item.specs.Looking.{IsFront}
 use Rattle.ocfl_item.specs.declared.fault.Fault.{Fault}
 use Rattle.ocfl_item.specs.declared.folder.Folder.{Folder}
 use Rattle.ocfl_item.specs.declared.meeting.Around.{Around}
@@ -20,7 +21,7 @@ use Rattle.ocfl_tree.proofs.Orders.{true_not_false}
 use Rattle.ocfl_audit.proofs.AuditExists.{append_one}
 use Rattle.ocfl_audit.proofs.StepLaws.{reached_step, listed_step}
 use Rattle.ocfl_item.proofs.LooksZones.{inside_on, inside_step, not_entered, out_of_zone, open_object, reach_on, entered_from, is_plain, plain_below, plain_extensions}
-use Rattle.ocfl_walk.proofs.DescentLaws.{descends_on, descent_fails_on, descends_not, descends_one, descends_end, listing_fails, plain_table}
+use Rattle.ocfl_walk.proofs.DescentLaws.{descends_as, descends_on, descent_fails_on, descends_not, descends_one, descends_end, listing_fails, plain_table}
 
 is_not : (b : Bool) → false ≡ not b → b ≡ true
 is_not true h = refl
@@ -130,20 +131,7 @@ module _ (root : StorageRoot) where
   abbrev descends_beside : (s t : Store) (way may left : List Place) (f : ℕ) → Descends root s t [] [] may left f → Descends root s t way way may left f
   descends_beside s t way may left f h =
       let none : h.listings ≡ [] = nothing_more h.listings h.listed.0 h.listed.1 in
-      record {
-        over = h.over;
-        trail = h.trail;
-        listings = [];
-        did = subst (λ ls. Did s t h.trail ls f) none h.did;
-        meta = h.meta;
-        only = h.only;
-        listed = ([], sym (append_nothing way));
-        heads = h.heads;
-      }
-    where
-      append_nothing : (xs : List Place) → xs ++ [] ≡ xs
-      append_nothing [] = refl
-      append_nothing (x ∷ xs) = ap (λ ys. x ∷ ys) (append_nothing xs)
+      descends_as root s t [] [] may left way way may left f h (subst (λ ls. IsFront (ls ++ way) way) (sym none) ([], sym (append-nil way))) h.heads
 
   module _ (s t u : Store) (d : Place) (n : Text) (r : Place) (over : s.tree ≡ root) (did : Did s t [] ((d ++ n ∷ []) ∷ []) 0) (z : zone root (d ++ n ∷ []) ≡ inside (d ++ n ∷ []) []) where
     abbrev rest : List Place
@@ -182,12 +170,7 @@ module _ (root : StorageRoot) where
     leads_object_stop new why h =
         record {
           gives = descent_fails_on root s t u (way_below d (n ∷ r)) rest (may_open None (zone root (d ++ n ∷ r))) ((d ++ n ∷ []) ∷ []) why came
-              (record {
-                goes = descends_end root t u rest rest ((d ++ n ∷ []) ∷ []) [] _ (descends_beside t u rest ((d ++ n ∷ []) ∷ []) [] _ h.gives.goes);
-                store = λ q e.
-                    let k = h.gives.store q e in
-                    (k.0, subst (λ ls. FailedAt ls h.gives.goes.trail q) (nothing_more h.gives.goes.listings h.gives.goes.listed.0 h.gives.goes.listed.1) k.1);
-              });
+              (record { goes = descends_end root t u rest rest ((d ++ n ∷ []) ∷ []) [] _ (descends_beside t u rest ((d ++ n ∷ []) ∷ []) [] _ h.gives.goes); store = h.gives.store });
         }
 
     pub leads_by_object : (new : Option Around) (inner : Folder) (x : Result (Option Folder) Fault) → inner.place ≡ d ++ n ∷ [] → IsObject root inner.place inner.entries.items → GoesInto root t u inner.place new x

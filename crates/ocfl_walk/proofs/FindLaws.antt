@@ -235,13 +235,19 @@ module _ (root : StorageRoot) where
 
   -- ---- an entry that is there, or not
 
-  pub listed_met : (d e : Place) (n : Text) (es : List Entry) (a : Option Around) (entry : Entry) → IsAt root d es → IsPart root d a → e ≡ d ++ n ∷ [] → entry.name ≡ n → kind_in es n ≡ Some entry.kind → IsMet root d a entry e
+  listed_met : (d e : Place) (n : Text) (es : List Entry) (a : Option Around) (entry : Entry) → IsAt root d es → IsPart root d a → e ≡ d ++ n ∷ [] → entry.name ≡ n → kind_in es n ≡ Some entry.kind → IsMet root d a entry e
   listed_met d e n es a entry at part is name there = record {
     is = is ∙ ap (λ x. d ++ x ∷ []) (sym name);
     reached = at.reached;
     part = part;
     kind = ap (kind_at root d) name ∙ sym (at.listing.each n) ∙ there;
   }
+
+  pub visits_listed : (d e x : Place) (n : Text) (es given : List Entry) (a : Option Around) (entry : Entry) (s t : Store) (r : Result Visit Fault) → IsAt root d es → IsPart root d a → e ≡ d ++ n ∷ [] → x ≡ e → given ≡ es → entry.name ≡ n → kind_in given n ≡ Some entry.kind
+      → ((c : Place) → IsMet root c a entry x → Visits root s t x r) → Visits root s t e r
+  visits_listed d e x n es given a entry s t r at part is place same name there told =
+      let met = listed_met d e n es a entry at part is name (subst (λ ys. kind_in ys n ≡ Some entry.kind) same there) in
+      subst (λ y. Visits root s t y r) place (told d (subst (IsMet root d a entry) (sym place) met))
 
   module _ (d e : Place) (n : Text) (es : List Entry) (at : IsAt root d es) (is : e ≡ d ++ n ∷ []) (none : kind_in es n ≡ None) where
     pub missing_unseen : seen root e ≡ None

@@ -1,10 +1,8 @@
-use Rattle.std.proofs.Common.{◌≡◌, sym, subst, Some, None}
+use Rattle.std.proofs.Common.{◌≡◌, subst, None}
 use Rattle.std.proofs.lemmas.Result.{err_from_is_err_and}
 use Rattle.std.specs.Prelude.{Ok, Err}
 use Rattle.ocfl_tree.specs.Listing.{kind_in}
-use Rattle.ocfl_item.specs.Around.{IsMet}
-use Rattle.ocfl_item.specs.Meeting.{Visits}
-use Rattle.ocfl_walk.proofs.FindLaws.{item_known, item_memory, item_met, item_unmet, finds_nothing, listed_met, missing_table, missing_unseen}
+use Rattle.ocfl_walk.proofs.FindLaws.{item_known, item_memory, item_met, item_unmet, finds_nothing, missing_table, missing_unseen, visits_listed}
 use Rattle.ocfl_walk.proofs.find.item_in.Goals as goal
 
 pub returns-in_err-try_clone-in-Some-clause-told : goal.returns-in_err-try_clone-in-Some-clause-told
@@ -14,24 +12,14 @@ returns-in_err-try_clone-in-Some-clause-told g c = λ h root over at part is.
 
 pub returns-in_err-visit_entry-in-Some-clause-told : goal.returns-in_err-visit_entry-in-Some-clause-told
 returns-in_err-visit_entry-in-Some-clause-told g c = λ h root over at part is.
-    let entry = c.in-Some.entry.now in
-    let there : kind_in c.args.folder.now.entries.items c.args.name.now ≡ Some entry.kind = subst (λ es. kind_in es c.args.name.now ≡ Some entry.kind) c.deref.ensures.value c.in-Some.ensures.1 in
-    let met = listed_met root c.args.folder.now.place c.args.place.now c.args.name.now c.args.folder.now.entries.items c.args.around.now entry at part is c.in-Some.ensures.0 there in
-    let place = c.in_ok-try_clone-in-Some.ensures in
     let p = err_from_is_err_and c.from_residual-in_err-visit_entry-in-Some.result c.from_residual-in_err-visit_entry-in-Some.ensures.1 in
-    rw (p.1, p.2) (item_unmet root c.args.folder.now.place c.args.place.now c.args.name.now c.args.around.now is part (g.T.Tree.state c.args.store.now) (g.T.Tree.state c.visit_entry.new.store) c.in_err-visit_entry-in-Some.field-0.0
-    (subst (λ x. Visits root (g.T.Tree.state c.args.store.now) (g.T.Tree.state c.visit_entry.new.store) x (Err c.in_err-visit_entry-in-Some.field-0.0)) place
-    (c.in_err-visit_entry-in-Some.ensures.told h root over c.args.folder.now.place (subst (λ x. IsMet root c.args.folder.now.place c.args.around.now entry x) (sym place) met))))
+    let v = visits_listed root c.args.folder.now.place c.args.place.now _ c.args.name.now c.args.folder.now.entries.items _ c.args.around.now c.in-Some.entry.now (g.T.Tree.state c.args.store.now) (g.T.Tree.state c.visit_entry.new.store) (Err c.in_err-visit_entry-in-Some.field-0.0) at part is c.in_ok-try_clone-in-Some.ensures c.deref.ensures.value c.in-Some.ensures.0 c.in-Some.ensures.1 (c.in_err-visit_entry-in-Some.ensures.told h root over) in
+    rw (p.1, p.2) (item_unmet root c.args.folder.now.place c.args.place.now c.args.name.now c.args.around.now is part (g.T.Tree.state c.args.store.now) (g.T.Tree.state c.visit_entry.new.store) c.in_err-visit_entry-in-Some.field-0.0 v)
 
 pub returns-in_ok-visit_entry-in-Some-clause-told : goal.returns-in_ok-visit_entry-in-Some-clause-told
 returns-in_ok-visit_entry-in-Some-clause-told g c = λ h root over at part is.
-    let entry = c.in-Some.entry.now in
-    let there : kind_in c.args.folder.now.entries.items c.args.name.now ≡ Some entry.kind = subst (λ es. kind_in es c.args.name.now ≡ Some entry.kind) c.deref.ensures.value c.in-Some.ensures.1 in
-    let met = listed_met root c.args.folder.now.place c.args.place.now c.args.name.now c.args.folder.now.entries.items c.args.around.now entry at part is c.in-Some.ensures.0 there in
-    let place = c.in_ok-try_clone-in-Some.ensures in
-    item_met root c.args.folder.now.place c.args.place.now c.args.name.now c.args.around.now is part (g.T.Tree.state c.args.store.now) (g.T.Tree.state c.visit_entry.new.store) c.in_ok-visit_entry-in-Some.field-0
-    (subst (λ x. Visits root (g.T.Tree.state c.args.store.now) (g.T.Tree.state c.visit_entry.new.store) x (Ok c.in_ok-visit_entry-in-Some.field-0)) place
-    (c.in_ok-visit_entry-in-Some.ensures.told h root over c.args.folder.now.place (subst (λ x. IsMet root c.args.folder.now.place c.args.around.now entry x) (sym place) met)))
+    let v = visits_listed root c.args.folder.now.place c.args.place.now _ c.args.name.now c.args.folder.now.entries.items _ c.args.around.now c.in-Some.entry.now (g.T.Tree.state c.args.store.now) (g.T.Tree.state c.visit_entry.new.store) (Ok c.in_ok-visit_entry-in-Some.field-0) at part is c.in_ok-try_clone-in-Some.ensures c.deref.ensures.value c.in-Some.ensures.0 c.in-Some.ensures.1 (c.in_ok-visit_entry-in-Some.ensures.told h root over) in
+    item_met root c.args.folder.now.place c.args.place.now c.args.name.now c.args.around.now is part (g.T.Tree.state c.args.store.now) (g.T.Tree.state c.visit_entry.new.store) c.in_ok-visit_entry-in-Some.field-0 v
 
 pub returns-in-None-clause-told : goal.returns-in-None-clause-told
 returns-in-None-clause-told g c = λ h root over at part is.

@@ -1,10 +1,12 @@
 -- Words to write the trees of worked cases with, and the digests that they name.
-use Rattle.std.proofs.Common.{◌≡◌, ◌==◌, List, [], ◌∷◌, ◌++◌, codes, map}
+use Rattle.std.proofs.Common.{◌≡◌, ◌==◌, ℕ, List, [], ◌∷◌, ◌++◌, codes, map}
 use Rattle.std.specs.List.{join_with_byte, slice_split}
 use Prim.Native.String.{String}
 use Rattle.ocfl_tree.specs.Place.{Text, Place}
 use Rattle.ocfl_tree.specs.StorageRoot.{StorageRoot, Leaf, file, dir, other}
+use Rattle.ocfl_report.specs.Line.{Note, Item, note, plain, lines_at}
 use Rattle.ocfl_report.specs.Text.{text}
+use Rattle.ocfl_report.specs.declared.code.Code.TheVariants.{Clean}
 use Rattle.ocfl_digest.specs.declared.algorithm.Algorithm.TheVariants.{Sha256, Sha512}
 use Rattle.ocfl_inventory.specs.DigestText.{digest_of}
 use Rattle.ocfl_audit.specs.Audit.{audit}
@@ -169,6 +171,23 @@ three_objects = storage_root (
     object_in "o1" (listing lists_f) (folder "o1/v1" ∷ folder "o1/v1/content" ∷ text_at "o1/v1/content/f" "abc" ∷
     object_in "o2" (listing lists_f) (folder "o2/v1" ∷ folder "o2/v1/content" ∷ text_at "o2/v1/content/f" "abc" ∷
     object_in "o3" (listing lists_f) (folder "o3/v1" ∷ folder "o3/v1/content" ∷ text_at "o3/v1/content/f" "abc" ∷ []))))
+
+-- ---- items, as audits give them
+
+-- at a place, with what it costs and its lines
+abbrev pub item : String → ℕ → List Note → Item
+item p cost ns = record { place = place p; lines = lines_at (place p) ns; cost = cost }
+
+-- with nothing to say
+abbrev pub clean : String → Item
+clean p = item p 0 (plain Clean ∷ [])
+
+abbrev pub the_root : Item
+the_root = record { place = []; lines = lines_at [] (plain Clean ∷ []); cost = 0 }
+
+-- a right file, by what it costs and the number of its bytes
+abbrev pub right : String → ℕ → String → Item
+right p cost bytes = item p cost (note Clean (codes bytes) ∷ [])
 
 -- ---- what is left behind places, for runs and for walks
 

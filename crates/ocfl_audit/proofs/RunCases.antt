@@ -1,67 +1,69 @@
--- Worked cases: runs by budgets, and what is left behind a place.
+-- Worked cases: runs by budgets, and what is left behind a place. An audit of several cases is computed once, and its runs over its items.
 use Rattle.std.proofs.Common.{◌≡◌, ℕ, List, [], ◌∷◌, ◌++◌, codes, refl, Some, None, true, false, map, replicate, take}
 use Prim.Native.String.{String}
 use Rattle.ocfl_tree.specs.Place.{Text}
 use Rattle.ocfl_tree.specs.StorageRoot.{StorageRoot}
-use Rattle.ocfl_report.specs.Line.{found}
+use Rattle.ocfl_report.specs.Line.{Item, note, plain, found}
+use Rattle.ocfl_report.specs.declared.code.Code.TheVariants.{E023, E092, E093}
 use Rattle.ocfl_report.specs.Text.{text, place_text}
 use Rattle.ocfl_audit.specs.Audit.{audit, after, total_cost}
 use Rattle.ocfl_audit.specs.Trail.{inventories}
 use Rattle.ocfl_audit.specs.Runs.{Limits, cut, left, runs, joined, total_files, of_budget}
 use Rattle.ocfl_audit.proofs.OnLiterals.{audit_on_literals}
-use Rattle.ocfl_audit.proofs.CaseTrees.{Case, AllAre, Behind, behind, behind_each, place, text_at, folder, storage_root, sha256_object, f_is_abc, key, listing, lists_f, three_files, three_objects, missing_and_right, sha512_file, abc}
+use Rattle.ocfl_audit.proofs.CaseTrees.{Case, AllAre, Behind, behind, behind_each, place, text_at, folder, storage_root, sha256_object, f_is_abc, key, listing, lists_f, three_files, three_objects, missing_and_right, sha512_file, abc, item, the_root, clean, right}
 
--- the texts of the runs that these budgets make
-abbrev texts : StorageRoot → List ℕ → List Text
-texts root budgets = map text (runs (audit root []) (map of_budget budgets))
+-- the texts of the runs that these budgets make of some items
+abbrev texts : List Item → List ℕ → List Text
+texts items budgets = map text (runs items (map of_budget budgets))
 
 -- and what each spends
-abbrev costs : StorageRoot → List ℕ → List ℕ
-costs root budgets = map total_cost (runs (audit root []) (map of_budget budgets))
+abbrev costs : List Item → List ℕ → List ℕ
+costs items budgets = map total_cost (runs items (map of_budget budgets))
 
 -- ---- a storage root alone
 
-one_run_of_a_bare_root : (texts (storage_root []) (1 ∷ []) ≡ codes "ok\t.\t-\n" ∷ []) × (costs (storage_root []) (1 ∷ []) ≡ 0 ∷ []) × (left (audit (storage_root []) []) (of_budget 1) ≡ [])
+items_of_a_bare_root : audit (storage_root []) [] ≡ the_root ∷ []
 unfolding audit_on_literals
+items_of_a_bare_root = refl
+
+one_run_of_a_bare_root : (texts (the_root ∷ []) (1 ∷ []) ≡ codes "ok\t.\t-\n" ∷ []) × (costs (the_root ∷ []) (1 ∷ []) ≡ 0 ∷ []) × (left (the_root ∷ []) (of_budget 1) ≡ [])
 one_run_of_a_bare_root = (refl, refl, refl)
 
 -- what costs nothing takes one run, however many budgets there are
-one_run_where_nothing_costs : texts (storage_root (folder "x" ∷ [])) (1 ∷ 1 ∷ 1 ∷ []) ≡ codes "ok\t.\t-\nE073\tx\t-\n" ∷ []
+one_run_where_nothing_costs : texts (audit (storage_root (folder "x" ∷ [])) []) (1 ∷ 1 ∷ 1 ∷ []) ≡ codes "ok\t.\t-\nE073\tx\t-\n" ∷ []
 unfolding audit_on_literals
 one_run_where_nothing_costs = refl
 
 -- ---- three files, of cost 4, 1 and 4
 
-costs_of_three_files : map (λ i. i.cost) (audit three_files []) ≡ 0 ∷ 0 ∷ 4 ∷ 1 ∷ 4 ∷ []
-unfolding audit_on_literals
-costs_of_three_files = refl
+abbrev three_items : List Item
+three_items = the_root ∷ clean "o" ∷ right "o/v1/content/a" 4 "3" ∷ right "o/v1/content/b" 1 "0" ∷ right "o/v1/content/c" 4 "3" ∷ []
 
-budgets_of_five : (costs three_files (replicate 4 5) ≡ 5 ∷ 4 ∷ []) × (texts three_files (replicate 4 5) ≡ codes "ok\t.\t-\nok\to\t-\nok\to/v1/content/a\t3\nok\to/v1/content/b\t0\n" ∷ codes "ok\to/v1/content/c\t3\n" ∷ [])
+items_of_three_files : audit three_files [] ≡ three_items
 unfolding audit_on_literals
+items_of_three_files = refl
+
+budgets_of_five : (costs three_items (replicate 4 5) ≡ 5 ∷ 4 ∷ []) × (texts three_items (replicate 4 5) ≡ codes "ok\t.\t-\nok\to\t-\nok\to/v1/content/a\t3\nok\to/v1/content/b\t0\n" ∷ codes "ok\to/v1/content/c\t3\n" ∷ [])
 budgets_of_five = (refl, refl)
 
 -- a file is started while less than the budget is spent, and not at the budget
-budgets_of_four : (costs three_files (replicate 4 4) ≡ 4 ∷ 5 ∷ []) × (texts three_files (replicate 4 4) ≡ codes "ok\t.\t-\nok\to\t-\nok\to/v1/content/a\t3\n" ∷ codes "ok\to/v1/content/b\t0\nok\to/v1/content/c\t3\n" ∷ [])
-unfolding audit_on_literals
+budgets_of_four : (costs three_items (replicate 4 4) ≡ 4 ∷ 5 ∷ []) × (texts three_items (replicate 4 4) ≡ codes "ok\t.\t-\nok\to\t-\nok\to/v1/content/a\t3\n" ∷ codes "ok\to/v1/content/b\t0\nok\to/v1/content/c\t3\n" ∷ [])
 budgets_of_four = (refl, refl)
 
 -- a file larger than the budget is taken all the same
-budgets_of_one : (costs three_files (replicate 4 1) ≡ 4 ∷ 1 ∷ 4 ∷ []) × (texts three_files (replicate 4 1) ≡ codes "ok\t.\t-\nok\to\t-\nok\to/v1/content/a\t3\n" ∷ codes "ok\to/v1/content/b\t0\n" ∷ codes "ok\to/v1/content/c\t3\n" ∷ [])
-unfolding audit_on_literals
+budgets_of_one : (costs three_items (replicate 4 1) ≡ 4 ∷ 1 ∷ 4 ∷ []) × (texts three_items (replicate 4 1) ≡ codes "ok\t.\t-\nok\to\t-\nok\to/v1/content/a\t3\n" ∷ codes "ok\to/v1/content/b\t0\n" ∷ codes "ok\to/v1/content/c\t3\n" ∷ [])
 budgets_of_one = (refl, refl)
 
-budget_of_nine : (costs three_files (replicate 4 9) ≡ 9 ∷ []) × (texts three_files (replicate 4 9) ≡ codes "ok\t.\t-\nok\to\t-\nok\to/v1/content/a\t3\nok\to/v1/content/b\t0\nok\to/v1/content/c\t3\n" ∷ [])
-unfolding audit_on_literals
+budget_of_nine : (costs three_items (replicate 4 9) ≡ 9 ∷ []) × (texts three_items (replicate 4 9) ≡ codes "ok\t.\t-\nok\to\t-\nok\to/v1/content/a\t3\nok\to/v1/content/b\t0\nok\to/v1/content/c\t3\n" ∷ [])
 budget_of_nine = (refl, refl)
 
 -- one more than what is spent before the last file
-budget_of_six : costs three_files (replicate 4 6) ≡ 9 ∷ []
-unfolding audit_on_literals
+budget_of_six : costs three_items (replicate 4 6) ≡ 9 ∷ []
 budget_of_six = refl
 
 -- the runs, joined
 abbrev joins : String → List ℕ → String → Case
-joins name budgets t = record { name = name; shown = text (joined (runs (audit three_files []) (map of_budget budgets))); wanted = codes t }
+joins name budgets t = record { name = name; shown = text (joined (runs three_items (map of_budget budgets))); wanted = codes t }
 
 joined_reports : AllAre (
     joins "joined_reports_of_five" (replicate 4 5) "ok\t.\t-\nok\to\t-\nok\to/v1/content/a\t3\nok\to/v1/content/b\t0\nok\to/v1/content/c\t3\n" ∷
@@ -70,80 +72,75 @@ joined_reports : AllAre (
     joins "joined_reports_of_nine" (replicate 4 9) "ok\t.\t-\nok\to\t-\nok\to/v1/content/a\t3\nok\to/v1/content/b\t0\nok\to/v1/content/c\t3\n" ∷
     joins "budgets_that_run_out" (1 ∷ 1 ∷ []) "ok\t.\t-\nok\to\t-\nok\to/v1/content/a\t3\nok\to/v1/content/b\t0\n" ∷
     [])
-unfolding audit_on_literals
 joined_reports = refl
 
-costs_of_budgets_that_run_out : costs three_files (1 ∷ 1 ∷ []) ≡ 4 ∷ 1 ∷ []
-unfolding audit_on_literals
+costs_of_budgets_that_run_out : costs three_items (1 ∷ 1 ∷ []) ≡ 4 ∷ 1 ∷ []
 costs_of_budgets_that_run_out = refl
 
-budgets_of_several_sizes : costs three_files (4 ∷ 1 ∷ 4 ∷ []) ≡ 4 ∷ 1 ∷ 4 ∷ []
-unfolding audit_on_literals
+budgets_of_several_sizes : costs three_items (4 ∷ 1 ∷ 4 ∷ []) ≡ 4 ∷ 1 ∷ 4 ∷ []
 budgets_of_several_sizes = refl
 
-no_budgets : runs (audit three_files []) [] ≡ []
+no_budgets : runs three_items [] ≡ []
 no_budgets = refl
 
 -- ---- a budget, and a limit on files
 
 -- what each run spends under so many limits, each of this budget and so many files
-abbrev costs_under : StorageRoot → ℕ → Limits → List ℕ
-costs_under root n limits = map total_cost (runs (audit root []) (replicate n limits))
+abbrev costs_under : List Item → ℕ → Limits → List ℕ
+costs_under items n limits = map total_cost (runs items (replicate n limits))
 
 -- and how many files it starts
-abbrev files_under : StorageRoot → ℕ → Limits → List ℕ
-files_under root n limits = map total_files (runs (audit root []) (replicate n limits))
+abbrev files_under : List Item → ℕ → Limits → List ℕ
+files_under items n limits = map total_files (runs items (replicate n limits))
 
 abbrev limits_of : ℕ → ℕ → Limits
 limits_of budget files = record { budget = budget; files = files }
 
-one_file_a_run : (costs_under three_files 5 (limits_of 9 1) ≡ 4 ∷ 1 ∷ 4 ∷ []) × (files_under three_files 5 (limits_of 9 1) ≡ 1 ∷ 1 ∷ 1 ∷ [])
-unfolding audit_on_literals
+one_file_a_run : (costs_under three_items 5 (limits_of 9 1) ≡ 4 ∷ 1 ∷ 4 ∷ []) × (files_under three_items 5 (limits_of 9 1) ≡ 1 ∷ 1 ∷ 1 ∷ [])
 one_file_a_run = (refl, refl)
 
-two_files_a_run : (costs_under three_files 5 (limits_of 9 2) ≡ 5 ∷ 4 ∷ []) × (files_under three_files 5 (limits_of 9 2) ≡ 2 ∷ 1 ∷ [])
-unfolding audit_on_literals
+two_files_a_run : (costs_under three_items 5 (limits_of 9 2) ≡ 5 ∷ 4 ∷ []) × (files_under three_items 5 (limits_of 9 2) ≡ 2 ∷ 1 ∷ [])
 two_files_a_run = (refl, refl)
 
-two_files_and_a_budget_of_five : costs_under three_files 5 (limits_of 5 2) ≡ 5 ∷ 4 ∷ []
-unfolding audit_on_literals
+two_files_and_a_budget_of_five : costs_under three_items 5 (limits_of 5 2) ≡ 5 ∷ 4 ∷ []
 two_files_and_a_budget_of_five = refl
 
 -- the budget is spent before the limit on files is reached
-two_files_and_a_budget_of_four : costs_under three_files 5 (limits_of 4 2) ≡ 4 ∷ 5 ∷ []
-unfolding audit_on_literals
+two_files_and_a_budget_of_four : costs_under three_items 5 (limits_of 4 2) ≡ 4 ∷ 5 ∷ []
 two_files_and_a_budget_of_four = refl
 
-as_many_files_as_there_are : (costs_under three_files 5 (limits_of 9 3) ≡ 9 ∷ []) × (files_under three_files 5 (limits_of 9 3) ≡ 3 ∷ [])
-unfolding audit_on_literals
+as_many_files_as_there_are : (costs_under three_items 5 (limits_of 9 3) ≡ 9 ∷ []) × (files_under three_items 5 (limits_of 9 3) ≡ 3 ∷ [])
 as_many_files_as_there_are = (refl, refl)
 
 -- the last place of the first run, and what it leaves
-places_of_the_first_run : (map (λ i. i.place) (cut (audit three_files []) (of_budget 4)) ≡ [] ∷ place "o" ∷ place "o/v1/content/a" ∷ []) × (map (λ i. i.place) (left (audit three_files []) (of_budget 4)) ≡ place "o/v1/content/b" ∷ place "o/v1/content/c" ∷ [])
-unfolding audit_on_literals
+places_of_the_first_run : (map (λ i. i.place) (cut three_items (of_budget 4)) ≡ [] ∷ place "o" ∷ place "o/v1/content/a" ∷ []) × (map (λ i. i.place) (left three_items (of_budget 4)) ≡ place "o/v1/content/b" ∷ place "o/v1/content/c" ∷ [])
 places_of_the_first_run = (refl, refl)
 
 -- ---- behind a place
 
+abbrev missing_items : List Item
+missing_items = the_root ∷ clean "o" ∷ item "o/v1/content/a" 0 (note E092 (codes "sha256 missing") ∷ note E093 (codes "sha1 missing") ∷ []) ∷ right "o/v1/content/b" 4 "3" ∷ []
+
+items_around_a_missing_file : audit missing_and_right [] ≡ missing_items
+unfolding audit_on_literals
+items_around_a_missing_file = refl
+
 -- what is left behind a place, by a budget of nine
-abbrev resumes : StorageRoot → Behind → Case
-resumes root b = record { name = b.name; shown = text (cut (after (audit root []) (Some (place b.place))) (of_budget 9)); wanted = codes b.lines }
+abbrev resumes : List Item → Behind → Case
+resumes items b = record { name = b.name; shown = text (cut (after items (Some (place b.place))) (of_budget 9)); wanted = codes b.lines }
 
 behind_places_of_three_files : AllAre (
-    resumes three_files (behind "behind_a_head" "o" "ok\to/v1/content/a\t3\nok\to/v1/content/b\t0\nok\to/v1/content/c\t3\n") ∷
-    resumes three_files (behind "behind_a_place_that_is_not_there" "o/v1/content/aa" "ok\to/v1/content/b\t0\nok\to/v1/content/c\t3\n") ∷
-    resumes three_files (behind "behind_the_last_place" "o/v1/content/c" "") ∷
+    resumes three_items (behind "behind_a_head" "o" "ok\to/v1/content/a\t3\nok\to/v1/content/b\t0\nok\to/v1/content/c\t3\n") ∷
+    resumes three_items (behind "behind_a_place_that_is_not_there" "o/v1/content/aa" "ok\to/v1/content/b\t0\nok\to/v1/content/c\t3\n") ∷
+    resumes three_items (behind "behind_the_last_place" "o/v1/content/c" "") ∷
     [])
-unfolding audit_on_literals
 behind_places_of_three_files = refl
 
-behind_places_around_a_missing_file : AllAre (map (resumes missing_and_right) behind_each)
-unfolding audit_on_literals
+behind_places_around_a_missing_file : AllAre (map (resumes missing_items) behind_each)
 behind_places_around_a_missing_file = refl
 
 -- all of it, as for a new cycle
-behind_no_place : cut (after (audit three_files []) None) (of_budget 9) ≡ audit three_files []
-unfolding audit_on_literals
+behind_no_place : cut (after three_items None) (of_budget 9) ≡ three_items
 behind_no_place = refl
 
 -- ---- what costs nothing is taken although the budget is spent
@@ -151,13 +148,18 @@ behind_no_place = refl
 abbrev listed_and_unlisted : StorageRoot
 listed_and_unlisted = sha256_object (listing lists_f) (f_is_abc ++ text_at "o/v1/content/z" "abc" ∷ [])
 
-unlisted_file_behind_the_budget : (texts listed_and_unlisted (4 ∷ 4 ∷ []) ≡ codes "ok\t.\t-\nok\to\t-\nok\to/v1/content/f\t3\nE023\to/v1/content/z\t-\n" ∷ []) × (costs listed_and_unlisted (4 ∷ 4 ∷ []) ≡ 4 ∷ []) × (left (audit listed_and_unlisted []) (of_budget 4) ≡ [])
+abbrev unlisted_items : List Item
+unlisted_items = the_root ∷ clean "o" ∷ right "o/v1/content/f" 4 "3" ∷ item "o/v1/content/z" 0 (plain E023 ∷ []) ∷ []
+
+items_beside_an_unlisted_file : audit listed_and_unlisted [] ≡ unlisted_items
 unfolding audit_on_literals
+items_beside_an_unlisted_file = refl
+
+unlisted_file_behind_the_budget : (texts unlisted_items (4 ∷ 4 ∷ []) ≡ codes "ok\t.\t-\nok\to\t-\nok\to/v1/content/f\t3\nE023\to/v1/content/z\t-\n" ∷ []) × (costs unlisted_items (4 ∷ 4 ∷ []) ≡ 4 ∷ []) × (left unlisted_items (of_budget 4) ≡ [])
 unlisted_file_behind_the_budget = (refl, refl, refl)
 
 -- nor is it one of the files that a run may start
-unlisted_file_behind_the_file_limit : (map text (runs (audit listed_and_unlisted []) (replicate 2 (limits_of 9 1))) ≡ codes "ok\t.\t-\nok\to\t-\nok\to/v1/content/f\t3\nE023\to/v1/content/z\t-\n" ∷ []) × (files_under listed_and_unlisted 2 (limits_of 9 1) ≡ 1 ∷ []) × (left (audit listed_and_unlisted []) (limits_of 9 1) ≡ [])
-unfolding audit_on_literals
+unlisted_file_behind_the_file_limit : (map text (runs unlisted_items (replicate 2 (limits_of 9 1))) ≡ codes "ok\t.\t-\nok\to\t-\nok\to/v1/content/f\t3\nE023\to/v1/content/z\t-\n" ∷ []) × (files_under unlisted_items 2 (limits_of 9 1) ≡ 1 ∷ []) × (left unlisted_items (limits_of 9 1) ≡ [])
 unlisted_file_behind_the_file_limit = (refl, refl, refl)
 
 -- a run has a finding where its own items have one
@@ -170,19 +172,24 @@ finding_of_one_run = refl
 abbrev slash_and_dash : StorageRoot
 slash_and_dash = sha256_object (listing (key abc.sha256 "[\"v1/content/a-b\",\"v1/content/a/b\"]" ∷ [])) (text_at "o/v1/content/a-b" "abc" ∷ folder "o/v1/content/a" ∷ text_at "o/v1/content/a/b" "abc" ∷ [])
 
-slash_before_dash_in_runs : texts slash_and_dash (1 ∷ 1 ∷ 1 ∷ []) ≡ codes "ok\t.\t-\nok\to\t-\nok\to/v1/content/a/b\t3\n" ∷ codes "ok\to/v1/content/a-b\t3\n" ∷ []
+abbrev slash_items : List Item
+slash_items = the_root ∷ clean "o" ∷ right "o/v1/content/a/b" 4 "3" ∷ right "o/v1/content/a-b" 4 "3" ∷ []
+
+items_of_slash_and_dash : audit slash_and_dash [] ≡ slash_items
 unfolding audit_on_literals
+items_of_slash_and_dash = refl
+
+slash_before_dash_in_runs : texts slash_items (1 ∷ 1 ∷ 1 ∷ []) ≡ codes "ok\t.\t-\nok\to\t-\nok\to/v1/content/a/b\t3\n" ∷ codes "ok\to/v1/content/a-b\t3\n" ∷ []
 slash_before_dash_in_runs = refl
 
 -- the second run, from where the first one ended
-behind_the_slash : map (λ i. i.place) (after (audit slash_and_dash []) (Some (place "o/v1/content/a/b"))) ≡ place "o/v1/content/a-b" ∷ []
-unfolding audit_on_literals
+behind_the_slash : map (λ i. i.place) (after slash_items (Some (place "o/v1/content/a/b"))) ≡ place "o/v1/content/a-b" ∷ []
 behind_the_slash = refl
 
 -- ---- three objects
 
 -- a run goes on to the head of the next object
-runs_over_three_objects : texts three_objects (replicate 4 1) ≡ codes "ok\t.\t-\nok\to1\t-\nok\to1/v1/content/f\t3\nok\to2\t-\n" ∷ codes "ok\to2/v1/content/f\t3\nok\to3\t-\n" ∷ codes "ok\to3/v1/content/f\t3\n" ∷ []
+runs_over_three_objects : texts (audit three_objects []) (replicate 4 1) ≡ codes "ok\t.\t-\nok\to1\t-\nok\to1/v1/content/f\t3\nok\to2\t-\n" ∷ codes "ok\to2/v1/content/f\t3\nok\to3\t-\n" ∷ codes "ok\to3/v1/content/f\t3\n" ∷ []
 unfolding audit_on_literals
 runs_over_three_objects = refl
 
@@ -197,19 +204,23 @@ inventories_of_a_stopped_object = refl
 
 -- ---- what a stop leaves
 
--- an output that takes 10 bytes
-ten_bytes_of_the_report : take 10 (text (audit sha512_file [])) ≡ codes "ok\t.\t-\nok\t"
+abbrev one_items : List Item
+one_items = the_root ∷ clean "o" ∷ right "o/v1/content/f" 4 "3" ∷ []
+
+items_of_one_file : audit sha512_file [] ≡ one_items
 unfolding audit_on_literals
+items_of_one_file = refl
+
+-- an output that takes 10 bytes
+ten_bytes_of_the_report : take 10 (text one_items) ≡ codes "ok\t.\t-\nok\t"
 ten_bytes_of_the_report = refl
 
 -- the only item that went out whole is the root
-behind_the_root : text (cut (after (audit sha512_file []) (Some [])) (of_budget 9)) ≡ codes "ok\to\t-\nok\to/v1/content/f\t3\n"
-unfolding audit_on_literals
+behind_the_root : text (cut (after one_items (Some [])) (of_budget 9)) ≡ codes "ok\to\t-\nok\to/v1/content/f\t3\n"
 behind_the_root = refl
 
 -- where the object can't be listed
-report_before_the_object : text (take 1 (audit sha512_file [])) ≡ codes "ok\t.\t-\n"
-unfolding audit_on_literals
+report_before_the_object : text (take 1 one_items) ≡ codes "ok\t.\t-\n"
 report_before_the_object = refl
 
 place_of_a_stop : (place_text (place "o") ≡ codes "o") × (place_text (place "o/inventory.json") ≡ codes "o/inventory.json")

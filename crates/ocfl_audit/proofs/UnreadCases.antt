@@ -3,76 +3,76 @@ use Rattle.std.proofs.Common.{◌≡◌, ℕ, List, [], ◌∷◌, codes, refl, 
 use Prim.Native.String.{String}
 use Rattle.ocfl_tree.specs.StorageRoot.{StorageRoot}
 use Rattle.ocfl_tree.specs.declared.store.Opening.{Opening}
-use Rattle.ocfl_report.specs.Line.{found}
+use Rattle.ocfl_report.specs.Line.{Item, plain, found}
+use Rattle.ocfl_report.specs.declared.code.Code.TheVariants.{S08}
 use Rattle.ocfl_report.specs.Text.{text}
 use Rattle.ocfl_audit.specs.Audit.{Unread, audit, total_cost}
 use Rattle.ocfl_audit.specs.Due.{item_places, items_at, hashed_among}
 use Rattle.ocfl_audit.specs.Trail.{unread_of, content_trail}
 use Rattle.ocfl_audit.specs.Runs.{runs, of_budget}
 use Rattle.ocfl_audit.proofs.OnLiterals.{audit_on_literals}
-use Rattle.ocfl_audit.proofs.CaseTrees.{Case, AllAre, place, text_at, bytes_at, folder, sha256_object, f_is_abc, key, listing, listing_with, lists_f, three_files, abc}
+use Rattle.ocfl_audit.proofs.CaseTrees.{Case, AllAre, place, text_at, bytes_at, folder, sha256_object, f_is_abc, key, listing, listing_with, lists_f, three_files, abc, item, the_root, clean, right}
 
 -- the text of the audit where one file gave only so many bytes
 abbrev reports_unread : String → StorageRoot → String → ℕ → String → Case
 reports_unread name root p given t = record { name = name; shown = text (audit root ((place p, given) ∷ [])); wanted = codes t }
+
+-- the item of a file that could not be read, by its cost
+abbrev unread : String → ℕ → Item
+unread p cost = item p cost (plain S08 ∷ [])
 
 -- ---- a long file `f` whose read fails behind 65,536 bytes, and a short one
 
 abbrev long_and_short : StorageRoot
 long_and_short = sha256_object (listing (key abc.sha256 "[\"v1/content/f\",\"v1/content/g\"]" ∷ [])) (bytes_at "o/v1/content/f" (replicate 65537 97) ∷ text_at "o/v1/content/g" "abc" ∷ [])
 
-long_file_unread : AllAre (
-    reports_unread "read_fails" long_and_short "o/v1/content/f" 65536 "ok\t.\t-\nok\to\t-\nS08\to/v1/content/f\t-\nok\to/v1/content/g\t3\n" ∷
-    reports_unread "open_fails" long_and_short "o/v1/content/f" 0 "ok\t.\t-\nok\to\t-\nS08\to/v1/content/f\t-\nok\to/v1/content/g\t3\n" ∷
-    [])
-unfolding audit_on_literals
-long_file_unread = refl
+-- where `f` gave this many bytes
+abbrev f_gave : ℕ → Unread
+f_gave given = (place "o/v1/content/f", given) ∷ []
 
-cost_where_read_fails : map (λ i. i.cost) (audit long_and_short ((place "o/v1/content/f", 65536) ∷ [])) ≡ 0 ∷ 0 ∷ 65537 ∷ 4 ∷ []
+-- what is left is the other file, and a finding
+read_fails : audit long_and_short (f_gave 65536) ≡ the_root ∷ clean "o" ∷ unread "o/v1/content/f" 65537 ∷ right "o/v1/content/g" 4 "3" ∷ []
 unfolding audit_on_literals
-cost_where_read_fails = refl
+read_fails = refl
 
-cost_where_open_fails : map (λ i. i.cost) (audit long_and_short ((place "o/v1/content/f", 0) ∷ [])) ≡ 0 ∷ 0 ∷ 1 ∷ 4 ∷ []
+open_fails : audit long_and_short (f_gave 0) ≡ the_root ∷ clean "o" ∷ unread "o/v1/content/f" 1 ∷ right "o/v1/content/g" 4 "3" ∷ []
 unfolding audit_on_literals
-cost_where_open_fails = refl
+open_fails = refl
+
+unread_file_is_finding : found (unread "o/v1/content/f" 1 ∷ []) ≡ true
+unread_file_is_finding = refl
 
 each_is_opened_once : hashed_among long_and_short ([] ∷ place "o" ∷ place "o/v1/content/f" ∷ place "o/v1/content/g" ∷ []) ≡ place "o/v1/content/f" ∷ place "o/v1/content/g" ∷ []
 unfolding audit_on_literals hashed_among
 each_is_opened_once = refl
 
-unread_file_is_finding : found (audit long_and_short ((place "o/v1/content/f", 0) ∷ [])) ≡ true
-unfolding audit_on_literals
-unread_file_is_finding = refl
-
 -- ---- three files, of which the first fails
-
-first_file_unread : AllAre (
-    reports_unread "first_of_three_fails" three_files "o/v1/content/a" 2 "ok\t.\t-\nok\to\t-\nS08\to/v1/content/a\t-\nok\to/v1/content/b\t0\nok\to/v1/content/c\t3\n" ∷
-    reports_unread "first_gave_all" three_files "o/v1/content/a" 3 "ok\t.\t-\nok\to\t-\nS08\to/v1/content/a\t-\nok\to/v1/content/b\t0\nok\to/v1/content/c\t3\n" ∷
-    [])
-unfolding audit_on_literals
-first_file_unread = refl
 
 -- where it gave this many bytes
 abbrev first_gave : ℕ → Unread
 first_gave given = (place "o/v1/content/a", given) ∷ []
 
-cost_where_first_gave_two : total_cost (audit three_files (first_gave 2)) ≡ 8
-unfolding audit_on_literals
-cost_where_first_gave_two = refl
+-- what the audit then gives, by the cost of the first
+abbrev others_right : ℕ → List Item
+others_right cost = the_root ∷ clean "o" ∷ unread "o/v1/content/a" cost ∷ right "o/v1/content/b" 1 "0" ∷ right "o/v1/content/c" 4 "3" ∷ []
 
-runs_of_three_where_first_gave_two : map total_cost (runs (audit three_files (first_gave 2)) (map of_budget (replicate 5 3))) ≡ 3 ∷ 5 ∷ []
+first_gave_two : audit three_files (first_gave 2) ≡ others_right 3
 unfolding audit_on_literals
-runs_of_three_where_first_gave_two = refl
-
-runs_of_four_where_first_gave_two : map total_cost (runs (audit three_files (first_gave 2)) (map of_budget (replicate 5 4))) ≡ 4 ∷ 4 ∷ []
-unfolding audit_on_literals
-runs_of_four_where_first_gave_two = refl
+first_gave_two = refl
 
 -- all bytes, and then the device failed
-cost_where_first_gave_all : map (λ i. i.cost) (audit three_files (first_gave 3)) ≡ 0 ∷ 0 ∷ 4 ∷ 1 ∷ 4 ∷ []
+first_gave_all : audit three_files (first_gave 3) ≡ others_right 4
 unfolding audit_on_literals
-cost_where_first_gave_all = refl
+first_gave_all = refl
+
+text_where_first_is_unread : (text (others_right 3) ≡ codes "ok\t.\t-\nok\to\t-\nS08\to/v1/content/a\t-\nok\to/v1/content/b\t0\nok\to/v1/content/c\t3\n") × (text (others_right 4) ≡ text (others_right 3))
+text_where_first_is_unread = (refl, refl)
+
+cost_where_first_gave_two : total_cost (others_right 3) ≡ 8
+cost_where_first_gave_two = refl
+
+runs_where_first_gave_two : (map total_cost (runs (others_right 3) (map of_budget (replicate 5 3))) ≡ 3 ∷ 5 ∷ []) × (map total_cost (runs (others_right 3) (map of_budget (replicate 5 4))) ≡ 4 ∷ 4 ∷ [])
+runs_where_first_gave_two = (refl, refl)
 
 -- ---- what gives way, and what stays
 

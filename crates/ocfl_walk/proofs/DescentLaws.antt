@@ -13,7 +13,7 @@ use Rattle.ocfl_item.specs.Looking.{IsFront, failures_by}
 use Rattle.ocfl_item.specs.Ways.{AreInventories, Stops, Opens, ReadsTable}
 use Rattle.ocfl_item.specs.Around.{IsTableAround}
 use Rattle.ocfl_audit.specs.Trail.{heads_of}
-use Rattle.ocfl_walk.specs.Entering.{Descends, DescendFails, GoesInto}
+use Rattle.ocfl_walk.specs.Entering.{Descends, DescendFails, Opens as Opened}
 use Rattle.ocfl_item.proofs.AuditingLaws.{failed_behind, heads_append}
 use Rattle.ocfl_item.specs.declared.fault.Fault.{Fault}
 use Rattle.ocfl_item.specs.declared.fault.Fault.TheVariants as fault
@@ -93,8 +93,8 @@ module _ (root : StorageRoot) where
   descends_read : (s t : Store) (o : Place) (m : Opens root s t o) → AreInventories root m.reads.trail → Descends root s t [] [] (o ∷ []) [] 0
   descends_read s t o m only = record { over = m.reads.over; trail = m.reads.trail; listings = []; did = m.reads.did; meta = m.reads.meta.meta; only = only; listed = ([], refl); heads = opens_front o m.reads.trail m.heads }
 
-  pub into_stops : (s t : Store) (o : Place) (around : Option Around) (why : Fault) → ReadsTable root s t o (Err why) → GoesInto root s t o around (Err why)
-  into_stops s t o around why r =
+  pub opened_stops : (s t : Store) (o : Place) (why : Fault) → ReadsTable root s t o (Err why) → Opened root s t o (Err why)
+  opened_stops s t o why r =
       let k = r.gives.0.stops in
       record {
         gives = record {
@@ -112,14 +112,14 @@ module _ (root : StorageRoot) where
         };
       }
 
-  pub into_none : (s t : Store) (o : Place) (around : Option Around) → ReadsTable root s t o (Ok None) → GoesInto root s t o around (Ok None)
-  into_none s t o around r = record { gives = (descends_read s t o r.gives.0 r.gives.2, sym r.gives.1) }
+  pub opened_none : (s t : Store) (o : Place) → ReadsTable root s t o (Ok None) → Opened root s t o (Ok None)
+  opened_none s t o r = record { gives = (descends_read s t o r.gives.0 r.gives.2, sym r.gives.1) }
 
-  pub into_memory : (s t : Store) (o : Place) (around : Option Around) (table : Table) → ReadsTable root s t o (Ok (Some table)) → GoesInto root s t o around (Err fault.Memory)
-  into_memory s t o around table r = record { gives = record { goes = descends_read s t o r.gives.0 r.gives.2; store = λ q e. absurd (memory_no_store q e) } }
+  pub opened_memory : (s t : Store) (o : Place) (table : Table) → ReadsTable root s t o (Ok (Some table)) → Opened root s t o (Err fault.Memory)
+  opened_memory s t o table r = record { gives = record { goes = descends_read s t o r.gives.0 r.gives.2; store = λ q e. absurd (memory_no_store q e) } }
 
-  pub into_table : (s t : Store) (o p : Place) (table : Table) (f : Folder) → ReadsTable root s t o (Ok (Some table)) → p ≡ o → GoesInto root s t o (Some (record { place = p; table = table })) (Ok (Some f))
-  into_table s t o p table f r e = record { gives = (descends_read s t o r.gives.0 r.gives.2, (e, sym r.gives.1)) }
+  pub opened_table : (s t : Store) (o p : Place) (table : Table) → ReadsTable root s t o (Ok (Some table)) → p ≡ o → Opened root s t o (Ok (Some (record { place = p; table = table })))
+  opened_table s t o p table r e = record { gives = (descends_read s t o r.gives.0 r.gives.2, (e, sym r.gives.1)) }
 
   -- ---- what is shut
 

@@ -11,7 +11,7 @@ use Rattle.ocfl_audit.specs.Zone.{skipped, hierarchy, inside, object_zone, root_
 use Rattle.ocfl_audit.specs.Walk.{is_reached, step_listed}
 use Rattle.ocfl_item.specs.Ways.{Enters, Stops, way_below, is_listable, is_extensions_name, IsAt, IsObject}
 use Rattle.ocfl_item.specs.Around.{IsPart, IsTableAround}
-use Rattle.ocfl_walk.specs.Entering.{Descends, GoesInto, IsIn, IsShut, Leads, LeadsOn, may_open}
+use Rattle.ocfl_walk.specs.Entering.{Descends, IsIn, IsShut, Leads, LeadsOn, Opens, may_open}
 use Rattle.ocfl_walk.specs.WalkCalls.{holder_of}
 use Rattle.ocfl_item.specs.Looking.{IsFront}
 use Rattle.ocfl_item.specs.declared.fault.Fault.{Fault}
@@ -34,12 +34,6 @@ and_false false b h = refl
 nothing_more : (xs : List Place) → (rest : List Place) → [] ≡ (xs ++ []) ++ rest → xs ≡ []
 nothing_more [] rest h = refl
 nothing_more (x ∷ xs) rest h = absurd cc
-
--- what is known of an answer on any store
-abbrev pub IsFair : Option Around → Folder → Result (Option Folder) Fault → Type 0
-IsFair new inner (Ok None) = new ≡ None
-IsFair new inner (Ok (Some f)) = f ≡ inner
-IsFair new inner (Err why) = ⊤
 
 module _ (root : StorageRoot) where
   shut_out : (d : Place) (n : Text) → is_entered root (d ++ n ∷ []) ≡ false → is_reached root (d ++ n ∷ []) ≡ false
@@ -146,36 +140,18 @@ module _ (root : StorageRoot) where
     then : Descends root t u [] [] ((d ++ n ∷ []) ∷ []) [] 0 → Descends root s u (way_below d (n ∷ r)) rest (may_open None (zone root (d ++ n ∷ r))) [] 0
     then h = descends_on root s t u (way_below d (n ∷ r)) rest rest (may_open None (zone root (d ++ n ∷ r))) ((d ++ n ∷ []) ∷ []) [] 0 came (descends_beside t u rest ((d ++ n ∷ []) ∷ []) [] 0 h)
 
-    pub leads_object_none : (new : Option Around) → new ≡ None → GoesInto root t u (d ++ n ∷ []) new (Ok None) → Leads root s u d n r None new (Ok None)
-    leads_object_none new e h = subst (λ x. Leads root s u d n r None x (Ok None)) (sym e) (record {
-      gives = (descends_end root s u (way_below d (n ∷ r)) rest (may_open None (zone root (d ++ n ∷ r))) [] 0 (then h.gives.0), shut_object d n r z h.gives.1);
-    })
+    pub leads_object_none : Opens root t u (d ++ n ∷ []) (Ok None) → Leads root s u d n r None None (Ok None)
+    leads_object_none h = record { gives = (descends_end root s u (way_below d (n ∷ r)) rest (may_open None (zone root (d ++ n ∷ r))) [] 0 (then h.gives.0), shut_object d n r z h.gives.1) }
 
-    pub leads_object : (new : Option Around) (f : Folder) → f.place ≡ d ++ n ∷ [] → IsObject root (d ++ n ∷ []) f.entries.items → GoesInto root t u (d ++ n ∷ []) new (Ok (Some f)) → Leads root s u d n r None new (Ok (Some f))
-    leads_object None f e is h = absurd h.gives.1
-    leads_object (Some a) f e is h =
+    pub leads_object : (a : Around) (f : Folder) → f.place ≡ d ++ n ∷ [] → IsObject root (d ++ n ∷ []) f.entries.items → Opens root t u (d ++ n ∷ []) (Ok (Some a)) → Leads root s u d n r None (Some a) (Ok (Some f))
+    leads_object a f e is h =
         let open_ = open_object root (d ++ n ∷ []) f.entries.items a.table is h.gives.1.1 in
-        record {
-          gives = (
-            then h.gives.0,
-            record {
-              place = e;
-              here = open_.here;
-              part = ([], z ∙ ap (λ x. inside x []) (sym h.gives.1.0), ap (table_at root) h.gives.1.0 ∙ h.gives.1.1);
-            },
-          );
-        }
+        let part : IsPart root (d ++ n ∷ []) (Some a) = ([], z ∙ ap (λ x. inside x []) (sym h.gives.1.0), ap (table_at root) h.gives.1.0 ∙ h.gives.1.1) in
+        record { gives = (then h.gives.0, record { place = e; here = open_.here; part = part }) }
 
-    pub leads_object_stop : (new : Option Around) (why : Fault) → GoesInto root t u (d ++ n ∷ []) new (Err why) → Leads root s u d n r None new (Err why)
-    leads_object_stop new why h =
+    pub leads_object_stop : (why : Fault) → Opens root t u (d ++ n ∷ []) (Err why) → Leads root s u d n r None None (Err why)
+    leads_object_stop why h =
         record {
           gives = descent_fails_on root s t u (way_below d (n ∷ r)) rest (may_open None (zone root (d ++ n ∷ r))) ((d ++ n ∷ []) ∷ []) why came
               (record { goes = descends_end root t u rest rest ((d ++ n ∷ []) ∷ []) [] _ (descends_beside t u rest ((d ++ n ∷ []) ∷ []) [] _ h.gives.goes); store = h.gives.store });
         }
-
-    pub leads_by_object : (new : Option Around) (inner : Folder) (x : Result (Option Folder) Fault) → inner.place ≡ d ++ n ∷ [] → IsObject root inner.place inner.entries.items → GoesInto root t u inner.place new x
-        → IsFair new inner x → Leads root s u d n r None new x
-    leads_by_object new inner (Ok None) e is h k = leads_object_none new k (subst (λ o. GoesInto root t u o new (Ok None)) e h)
-    leads_by_object new inner (Ok (Some f)) e is h k =
-        leads_object new f (ap (λ g. g.place) k ∙ e) (subst (λ o. IsObject root o f.entries.items) e (subst (λ es. IsObject root inner.place es) (ap (λ g. g.entries.items) (sym k)) is)) (subst (λ o. GoesInto root t u o new (Ok (Some f))) e h)
-    leads_by_object new inner (Err why) e is h k = leads_object_stop new why (subst (λ o. GoesInto root t u o new (Err why)) e h)

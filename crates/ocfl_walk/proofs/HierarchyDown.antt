@@ -7,6 +7,7 @@ use Rattle.ocfl_tree.specs.Store.{Store}
 use Rattle.ocfl_tree.specs.Listing.{IsOrdinary}
 use Rattle.ocfl_tree.specs.declared.store.Entry.{Entry}
 use Rattle.ocfl_inventory.specs.Declaration.{declared}
+use Rattle.ocfl_inventory.specs.Table.{IsFit}
 use Rattle.ocfl_inventory.specs.Entries.{file_names, meaning, PointsAtOne}
 use Rattle.ocfl_inventory.specs.declared.declaration.Declared.{Declared as MadeDeclared}
 use Rattle.ocfl_inventory.specs.declared.declaration.Declared.TheVariants as made
@@ -18,40 +19,29 @@ use Rattle.ocfl_item.specs.Ways.{Enters, StaysOut, is_extensions_name, IsAt, InH
 use Rattle.ocfl_item.specs.Around.{IsPart}
 use Rattle.ocfl_item.specs.Meeting.{IsFairFolder}
 use Rattle.ocfl_walk.specs.Standing.{IsAroundIf}
-use Rattle.ocfl_walk.specs.Entering.{GoesInto, IsFairWay, IsKept, Leads, ListsBelow}
+use Rattle.ocfl_walk.specs.Entering.{Leads, ListsBelow, Opens}
 use Rattle.ocfl_item.specs.declared.fault.Fault.{Fault}
 use Rattle.ocfl_item.specs.declared.folder.Folder.{Folder}
 use Rattle.ocfl_item.specs.declared.meeting.Around.{Around}
 use Rattle.ocfl_item.proofs.LooksCalls.{declared_entered, did_nothing, finds_object, no_known, undeclared_entered}
 use Rattle.ocfl_item.proofs.LooksZones.{unknown_no_table}
 use Rattle.ocfl_walk.proofs.OrderlyLaws.{begins_own}
-use Rattle.ocfl_walk.proofs.DownLaws.{IsFair, leads_by_object, leads_in, leads_listed, shut_object}
+use Rattle.ocfl_walk.proofs.DownLaws.{leads_in, leads_listed, leads_object, leads_object_none, leads_object_stop, shut_object}
 
 -- ---- on any store
 
-abbrev pub IsKeptOr : Option Around → Option Around → Folder → Option Folder → Type 0
-IsKeptOr old new inner o = MatchOption o (new ≡ old) (λ f. (f ≡ inner) × IsKept inner.place new)
-
-pub fair_object : (d : Place) (n : Text) (old new : Option Around) (inner : Folder) (x : Result (Option Folder) Fault) → IsFairFolder (d ++ n ∷ []) inner → IfOk x (IsKeptOr old new inner) → IfOk x (IsFairWay d n old new)
-fair_object d n old new inner (Ok None) h k = k
-fair_object d n old None inner (Ok (Some f)) h k = absurd k.1
-fair_object d n old (Some a) inner (Ok (Some f)) h k = (
-  subst (IsFairFolder (d ++ n ∷ [])) (sym k.0) h,
+pub fair_object : (e : Place) (f : Folder) (a : Around) → (a.place ≡ f.place) × IsFit a.table → IsFairFolder e f → IsFairFolder e f × IsAroundIf e (Some a)
+fair_object e f a k h = (
+  h,
   record {
-    holds = subst (λ p. begins p (d ++ n ∷ []) ≡ true) (sym (k.1.0 ∙ h.place)) (begins_own (d ++ n ∷ []));
-    depth = subst (λ p. length p ≤ 127) (sym (k.1.0 ∙ h.place)) h.depth;
-    fit = k.1.1;
+    holds = subst (λ p. begins p e ≡ true) (sym (k.0 ∙ h.place)) (begins_own e);
+    depth = subst (λ p. length p ≤ 127) (sym (k.0 ∙ h.place)) h.depth;
+    fit = k.1;
   },
 )
-fair_object d n old new inner (Err why) h k = tt
 
 pub fair_in : (e : Place) (f : Folder) (a : Option Around) → a ≡ None → IsFairFolder e f → IsFairFolder e f × IsAroundIf e a
 fair_in e f a none h = (h, subst (IsAroundIf e) (sym none) tt)
-
-fair_of : (old new : Option Around) (inner : Folder) (x : Result (Option Folder) Fault) → old ≡ None → IfOk x (IsKeptOr old new inner) → IsFair new inner x
-fair_of old new inner (Ok None) e k = k ∙ e
-fair_of old new inner (Ok (Some f)) e k = k.0
-fair_of old new inner (Err why) e k = tt
 
 not_none : (m : MadeDeclared) → ((x : ℕ) × (m ≡ made.Unknown x)) ⊎ (m ≡ made.Several) → m ≡ made.None → ⊥
 not_none m (inl k) e = let two : made.Unknown k.0 ≡ made.None = sym k.1 ∙ e in cc
@@ -80,9 +70,23 @@ module _ (root : StorageRoot) (s t : Store) (d : Place) (n : Text) (inner : Fold
         let table = unknown_no_table root inner.place (ap is_known (sym h.says) ∙ no_known root inner.place inner.entries.items m h (inr e)) in
         subst (λ x. Leads root s t d n r x x (Ok None)) (sym none) (leads_listed root s t d n r None k.over k.enters.did (shut_object root d n r (zone_here some) (ap (table_at root) (sym k.enters.is) ∙ table)))
 
-    pub hier_object : (v : Version) → m ≡ made.One v → (u : Store) (new : Option Around) (x : Result (Option Folder) Fault) → (IsObject root inner.place inner.entries.items → GoesInto root t u inner.place new x) → IfOk x (IsKeptOr a new inner) → Leads root s u d n r a new x
-    hier_object v e u new x into fair =
-        let some : m ≡ made.None → ⊥ = λ f. let two : made.One v ≡ made.None = sym e ∙ f in cc in
-        let is = finds_object root inner.place inner.entries.items m v (says some) e in
-        subst (λ y. Leads root s u d n r y new x) (sym none)
-        (leads_by_object root s t u d n r k.over k.enters.did (zone_here some) new inner x k.enters.is is (into is) (fair_of a new inner x none fair))
+    module _ (v : Version) (e : m ≡ made.One v) (u : Store) where
+      some : m ≡ made.None → ⊥
+      some f = let two : made.One v ≡ made.None = sym e ∙ f in cc
+
+      object : IsObject root inner.place inner.entries.items
+      object = finds_object root inner.place inner.entries.items m v (says some) e
+
+      opens : (x : Result (Option Around) Fault) → (IsObject root inner.place inner.entries.items → Opens root t u inner.place x) → Opens root t u (d ++ n ∷ []) x
+      opens x into = subst (λ o. Opens root t u o x) k.enters.is (into object)
+
+      pub hier_closed : (IsObject root inner.place inner.entries.items → Opens root t u inner.place (Ok None)) → Leads root s u d n r a a (Ok None)
+      hier_closed into = subst (λ y. Leads root s u d n r y y (Ok None)) (sym none) (leads_object_none root s t u d n r k.over k.enters.did (zone_here some) (opens (Ok None) into))
+
+      pub hier_object : (b : Around) → (IsObject root inner.place inner.entries.items → Opens root t u inner.place (Ok (Some b))) → Leads root s u d n r a (Some b) (Ok (Some inner))
+      hier_object b into =
+          subst (λ y. Leads root s u d n r y (Some b) (Ok (Some inner))) (sym none)
+          (leads_object root s t u d n r k.over k.enters.did (zone_here some) b inner k.enters.is (subst (λ o. IsObject root o inner.entries.items) k.enters.is object) (opens (Ok (Some b)) into))
+
+      pub hier_fails : (why : Fault) → (IsObject root inner.place inner.entries.items → Opens root t u inner.place (Err why)) → Leads root s u d n r a a (Err why)
+      hier_fails why into = subst (λ y. Leads root s u d n r y y (Err why)) (sym none) (leads_object_stop root s t u d n r k.over k.enters.did (zone_here some) why (opens (Err why) into))

@@ -62,21 +62,11 @@ pub record ListsRoot (root : StorageRoot) (s t : Store) (r : Result (Option Fold
 
 -- ---- the table of an object
 
--- the object's table is kept
-abbrev pub IsKept : Place → Option Around → Type 0
-IsKept p None = ⊥
-IsKept p (Some a) = (a.place ≡ p) × IsFit a.table
-
-abbrev pub HoldsTable : StorageRoot → Place → Option Around → Type 0
-HoldsTable root p None = ⊥
-HoldsTable root p (Some a) = (a.place ≡ p) × (table_at root p ≡ Some a.table)
-
--- into an object, where it has a table
-pub record GoesInto (root : StorageRoot) (s t : Store) (o : Place) (around : Option Around) (r : Result (Option Folder) Fault) : Type 0 where
+-- an object was opened, and has a table or not
+pub record Opens (root : StorageRoot) (s t : Store) (o : Place) (r : Result (Option Around) Fault) : Type 0 where
   pub gives : MatchResult r
-      (λ next. MatchOption next
-      (Descends root s t [] [] (o ∷ []) [] 0 × (table_at root o ≡ None))
-      (λ f. Descends root s t [] [] (o ∷ []) [] 0 × HoldsTable root o around))
+      (λ next. Descends root s t [] [] (o ∷ []) [] 0
+      × MatchOption next (table_at root o ≡ None) (λ a. (a.place ≡ o) × (table_at root o ≡ Some a.table)))
       (λ why. DescendFails root s t [] (o ∷ []) why)
 
 -- ---- one name further

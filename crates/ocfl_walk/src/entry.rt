@@ -5,13 +5,14 @@ ghost use Rattle.ocfl_tree.specs.StorageRoot.{StorageRoot};
 ghost use Rattle.ocfl_tree.specs.Store.{Store};
 ghost use Rattle.ocfl_tree.specs.Place.{Place as Spot, Text};
 ghost use Rattle.ocfl_tree.specs.Listing.{IsListing};
+ghost use Rattle.ocfl_inventory.specs.Table.{IsFit};
 ghost use Rattle.ocfl_audit.specs.Zone.{zone};
 ghost use Rattle.ocfl_item.specs.Around.{IsPart};
 ghost use Rattle.ocfl_item.specs.Meeting.{IsFairFolder};
 ghost use Rattle.ocfl_item.specs.Ways.{Enters, IsAt, IsObject, IsWayFault, StaysOut, Stops};
 ghost use Rattle.ocfl_item.specs.Ways.{way_below};
-ghost use Rattle.ocfl_walk.specs.Entering.{Descends, DescendFails, GoesInto, IsBrought, IsComing};
-ghost use Rattle.ocfl_walk.specs.Entering.{IsFairWay, IsKept, Leads, LeadsOn, ListsBelow};
+ghost use Rattle.ocfl_walk.specs.Entering.{Descends, DescendFails, IsBrought, IsComing, Opens};
+ghost use Rattle.ocfl_walk.specs.Entering.{IsFairWay, Leads, LeadsOn, ListsBelow};
 ghost use Rattle.ocfl_walk.specs.Entering.{ListsRoot, Starts, StartFails, may_open};
 ghost use Rattle.ocfl_walk.specs.Standing.{IsAroundIf, IsOrderly, IsOrderlyStand, StandsAt};
 ghost use Rattle.ocfl_walk.specs.Standing.{piles_in};
@@ -62,26 +63,20 @@ pub(crate) fn known_root<T: Tree>(alloc: Global, store: &mut T) -> Result<Option
     Ok(Some(base))
 }
 
-/// What lies below an object, where its head does not stop: its table is kept.
-fn into_object<T: Tree>(
-    alloc: Global,
-    store: &mut T,
-    object: &mut Option<Around>,
-    folder: Folder,
-) -> Result<Option<Folder>, Fault>
+/// An object with its table, where its head does not stop.
+fn opened<T: Tree>(alloc: Global, store: &mut T, folder: &Folder) -> Result<Option<Around>, Fault>
     ensures only { IfErr result (λ why. IsWayFault why) }
-    ensures fair { IfOk result (λ o. MatchOption o (object.new ≡ object.old)
-        (λ f. (f ≡ folder) × IsKept folder.place object.new)) }
+    ensures kept { IfOk result (λ next. IfSome next
+        (λ object. (object.place ≡ folder.now.place) × IsFit object.table)) }
     ensures told { IsTrue T.told → (root : StorageRoot) → (T.state store.old).tree ≡ root
-        → IsObject root folder.place folder.entries.items
-        → GoesInto root (T.state store.old) (T.state store.new) folder.place object.new result }
+        → IsObject root folder.now.place folder.now.entries.items
+        → Opens root (T.state store.old) (T.state store.new) folder.now.place result }
 {
-    let Some(table) = table_of_object(alloc, store, &folder)? else {
+    let Some(table) = table_of_object(alloc, store, folder)? else {
         return Ok(None);
     };
     let place = folder.place.try_clone()?;
-    *object = Some(Around { place, table });
-    Ok(Some(folder))
+    Ok(Some(Around { place, table }))
 }
 
 /// What lies below a directory of the storage hierarchy, or below an object, that was listed, where
@@ -102,7 +97,13 @@ fn into_directory<T: Tree>(
 {
     match declaration(&inner.entries, Level::Object) {
         Declared::None => Ok(Some(inner)),
-        Declared::One(_) => into_object(alloc, store, object, inner),
+        Declared::One(_) => {
+            let Some(around) = opened(alloc, store, &inner)? else {
+                return Ok(None);
+            };
+            *object = Some(around);
+            Ok(Some(inner))
+        }
         Declared::Unknown(_) | Declared::Several => Ok(None),
     }
 }

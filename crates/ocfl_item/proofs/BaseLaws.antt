@@ -1,6 +1,6 @@
 -- The storage root: its lines, what is read for them, and its listing.
 use Rattle.std.proofs.Common.{◌≡◌, ◌≢◌, ◌≤◌, ℕ, List, [], ◌∷◌, ◌++◌, refl, sym, ◌∙◌, ap, subst, true, false, Bool, Option, Some, None, arith, length, map}
-use Rattle.std.specs.Prelude.{AllPairs, cond, ◌||◌, not, nat_lt, Result, is_some, filter}
+use Rattle.std.specs.Prelude.{AllPairs, cond, ◌||◌, not, Result, is_some, filter}
 use Rattle.std.specs.List.{AllByRecursion}
 use Rattle.std.proofs.lemmas.List.{append-nil, length-map}
 use Rattle.std.proofs.lemmas.List.Prefix.{front_fits}
@@ -14,19 +14,18 @@ use Rattle.ocfl_report.specs.Line.{line_of, lines_at}
 use Rattle.ocfl_report.specs.declared.line.Line.{Line as MadeLine}
 use Rattle.ocfl_inventory.specs.Declaration.{Declared, undeclared, known, unknown, several, declaration_name, declared, is_declared, is_known}
 use Rattle.ocfl_inventory.specs.Entries.{PointsAtOne, file_names, meaning}
-use Rattle.ocfl_inventory.specs.TripleView.{named_view}
 use Rattle.ocfl_inventory.specs.declared.declaration.Declared.{Declared as MadeDeclared}
 use Rattle.ocfl_inventory.specs.declared.declaration.Declared.TheVariants as made
 use Rattle.ocfl_inventory.specs.declared.declaration.Level.TheVariants.{Root}
 use Rattle.ocfl_inventory.specs.declared.declaration.Version.{Version}
 use Rattle.ocfl_inventory.specs.declared.declaration.Version.TheVariants.{V1_0, V1_1}
 use Rattle.ocfl_digest.specs.declared.bounded.Bounded.{Bounded}
-use Rattle.ocfl_audit.specs.Zone.{skipped, hierarchy, inside, zone, root_declared, object_declared, seen, is_in_extensions, is_listed_zone}
+use Rattle.ocfl_audit.specs.Zone.{skipped, hierarchy, inside, zone, root_declared, object_declared, is_in_extensions, is_listed_zone}
 use Rattle.ocfl_audit.specs.Head.{root_notes_by}
 use Rattle.ocfl_item.specs.HeadFiles.{FilesStop, ReadsFile, ReadsFiles, files_there}
-use Rattle.ocfl_audit.specs.Lines.{cost_of, is_hashed, named_at, named_in, notes}
+use Rattle.ocfl_audit.specs.Lines.{named_at, named_in, notes}
 use Rattle.ocfl_item.specs.Looking.{IsFront, failures_by}
-use Rattle.ocfl_item.specs.Pending.{Adds, IsPending}
+use Rattle.ocfl_item.specs.Pending.{IsPending, IsUnhashed}
 use Rattle.ocfl_audit.specs.Trail.{reads_inventory, content_trail, heads_of, inventory_of, is_head, is_meta, places_of}
 use Rattle.ocfl_item.specs.Meeting.{IsItemAt, IsVisit, MeetFails, Meets}
 use Rattle.ocfl_item.specs.Visiting.{IsBase}
@@ -64,19 +63,6 @@ root_unnamed root = by (not (is_known (root_declared root)))
     by true = refl
     by false = refl
 
-pub root_not_hashed : (root : StorageRoot) → is_hashed root [] ≡ false
-root_not_hashed root = ap (λ ns. nat_lt 0 (cost_of ns None (seen root []))) (root_unnamed root)
-
-pub root_pending : (root : StorageRoot) (p : Place) (made : Pending) → p ≡ [] → made.place ≡ p → made.hashed ≡ false → made.named.items ≡ [] → map line_of made.lines.items ≡ lines_at [] (notes root None []) → IsPending root made
-root_pending root p made none there unhashed unnamed lines =
-    let place : made.place ≡ [] = there ∙ none in
-    record {
-      some = subst (λ x. notes root None x ≢ []) (sym place) (root_some root);
-      hashed = unhashed ∙ sym (ap (is_hashed root) place ∙ root_not_hashed root);
-      named = ap (map named_view) unnamed ∙ sym (ap (named_at root) place ∙ root_unnamed root);
-      lines = λ h. subst (λ x. map line_of made.lines.items ≡ lines_at x (notes root None x)) (sym place) lines;
-    }
-
 pub declaration_at_root : (root : StorageRoot) (p : Place) (n : Text) (v : Version) → p ≡ [] → n ≡ declaration_name Root v → is_meta root (p ++ n ∷ []) ≡ true
 declaration_at_root root p n v e f = (λ i. is_meta root (e i ++ f i ∷ [])) ∙ by v
   where
@@ -84,10 +70,13 @@ declaration_at_root root p n v e f = (λ i. is_meta root (e i ++ f i ∷ [])) �
     by V1_0 = refl
     by V1_1 = refl
 
--- lines that were put behind none
-pub root_lines : (root : StorageRoot) (old new : List MadeLine) (p : Place) (d : Declared) → old ≡ [] → p ≡ [] → Adds old new p (root_notes_by root d) → d ≡ root_declared root → map line_of new ≡ lines_at [] (notes root None [])
-root_lines root old new p d none top h same =
-    subst (λ x. map line_of new ≡ map line_of x ++ lines_at p (root_notes_by root d)) none h ∙ (λ i. lines_at (top i) (root_notes_by root (same i)))
+-- the storage root has lines, and nothing is hashed there
+pub root_unhashed : (root : StorageRoot) (p : Place) (d : Declared) (lines : List MadeLine) → p ≡ [] → d ≡ root_declared root → map line_of lines ≡ lines_at p (root_notes_by root d) → IsUnhashed root p lines
+root_unhashed root p d lines top same are = subst (λ x. IsUnhashed root x lines) (sym top) (record {
+  some = root_some root;
+  named = root_unnamed root;
+  lines = are ∙ (λ i. lines_at (top i) (root_notes_by root (same i)));
+})
 
 -- ---- what was done
 

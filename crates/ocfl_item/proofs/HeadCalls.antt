@@ -17,7 +17,7 @@ use Rattle.ocfl_digest.specs.declared.bounded.Bounded.{Bounded}
 use Rattle.ocfl_digest.specs.declared.bounded.Bounded.TheVariants as bounded
 use Rattle.ocfl_digest.specs.declared.algorithm.Algorithm.TheVariants.{Sha256, Sha512}
 use Rattle.ocfl_inventory.specs.Declaration.{Declared, undeclared, known, unknown, several, declaration_name, is_known}
-use Rattle.ocfl_inventory.specs.Entries.{meaning, PointsAtOne}
+use Rattle.ocfl_inventory.specs.Entries.{meaning}
 use Rattle.ocfl_inventory.specs.Reading.{algorithm_of}
 use Rattle.ocfl_inventory.specs.Table.{Table, table_of}
 use Rattle.ocfl_inventory.specs.declared.declaration.Declared.{Declared as MadeDeclared}
@@ -242,9 +242,3 @@ stopped_head root o es m lines h stops k = (
   k ∙ ap (lines_at o) (sym (head_notes_are root o h.zone ∙ ap (head_notes_by root o) (sym h.says))),
   sym (ap (λ b. table_in (cond b (file_at root (o ++ inventory_name ∷ [])) None)) (ap is_known (sym h.says) ∙ stops)),
 )
-
-pub stop_added : (root : StorageRoot) (o : Place) (es : List Entry) (m : MadeDeclared) (old new : List MadeLine) (given : List Entry) → given ≡ es → old ≡ [] → is_known (meaning level.Object es m) ≡ false → PointsAtOne level.Object es m
-    → (is_known (meaning level.Object given m) ≡ false → PointsAtOne level.Object given m → Adds old new o (head_notes_by root o (meaning level.Object given m))) → Adds [] new o (head_notes_by root o (meaning level.Object es m))
-stop_added root o es m old new given same none h k adds =
-    first_added old new o (head_notes_by root o (meaning level.Object es m)) none
-    (subst (λ xs. is_known (meaning level.Object xs m) ≡ false → PointsAtOne level.Object xs m → Adds old new o (head_notes_by root o (meaning level.Object xs m))) same adds h k)

@@ -1,15 +1,13 @@
 -- The item at a place, from what was looked at.
-use Rattle.std.proofs.Common.{arith, ◌≡◌, ◌≢◌, List, [], subst, ◌∷◌, refl, sym, ◌∙◌, ap, true, false, None, map}
-use Rattle.std.specs.Prelude.{nat_lt}
+use Rattle.std.proofs.Common.{arith, ◌≡◌, ◌≢◌, List, [], ◌∷◌, refl, sym, ◌∙◌, ap, true, None, map}
 use Rattle.ocfl_tree.specs.Place.{Place}
 use Rattle.ocfl_tree.specs.StorageRoot.{StorageRoot}
 use Rattle.ocfl_report.specs.Line.{Note, line_of, lines_at}
-use Rattle.ocfl_inventory.specs.TripleView.{named_view}
-use Rattle.ocfl_audit.specs.Zone.{Zone, skipped, hierarchy, inside, zone, seen, object_declared}
-use Rattle.ocfl_audit.specs.Lines.{notes, named_at, cost_of, is_hashed}
+use Rattle.ocfl_report.specs.declared.line.Line.{Line as MadeLine}
+use Rattle.ocfl_audit.specs.Zone.{Zone, skipped, hierarchy, inside, zone, object_declared}
+use Rattle.ocfl_audit.specs.Lines.{notes}
 use Rattle.ocfl_audit.specs.Trail.{is_head}
-use Rattle.ocfl_item.specs.Pending.{IsPending}
-use Rattle.ocfl_item.specs.declared.pending.Pending.{Pending}
+use Rattle.ocfl_item.specs.Pending.{IsUnhashed}
 use Rattle.ocfl_inventory.specs.Declaration.{Declared, undeclared, known, unknown, several, is_declared}
 use Rattle.ocfl_audit.specs.Head.{or_clean, head_notes_by}
 use Rattle.ocfl_tree.proofs.Orders.{true_not_false}
@@ -37,14 +35,11 @@ head_zone root p e = by (zone root p) refl e
     by (inside o (n ∷ q)) h g = absurd (true_not_false (sym g))
 
 -- an object's head has lines, and nothing is hashed there
-pub head_pending : (root : StorageRoot) (p : Place) (made : Pending) → is_head (zone root p) ≡ true → made.place ≡ p → made.hashed ≡ false → made.named.items ≡ [] → map line_of made.lines.items ≡ lines_at p (notes root None p) → IsPending root made
-head_pending root p made e place unhashed unnamed lines =
+pub head_unhashed : (root : StorageRoot) (p : Place) (lines : List MadeLine) → is_head (zone root p) ≡ true → map line_of lines ≡ lines_at p (notes root None p) → IsUnhashed root p lines
+head_unhashed root p lines e are =
     let z : zone root p ≡ inside p [] = head_zone root p e in
-    let none : named_at root p ≡ [] = named_short root p p [] z (omega arith) in
-    let some : notes root None p ≢ [] = λ g. head_some root p (object_declared root p) (zone_is root p p [] z).declares (sym (head_notes_are root p z) ∙ g) in
     record {
-      some = subst (λ x. notes root None x ≢ []) (sym place) some;
-      hashed = unhashed ∙ sym (ap (is_hashed root) place ∙ ap (λ ns. nat_lt 0 (cost_of ns None (seen root p))) none);
-      named = ap (map named_view) unnamed ∙ sym (ap (named_at root) place ∙ none);
-      lines = λ h. subst (λ x. map line_of made.lines.items ≡ lines_at x (notes root None x)) (sym place) lines;
+      some = λ g. head_some root p (object_declared root p) (zone_is root p p [] z).declares (sym (head_notes_are root p z) ∙ g);
+      named = named_short root p p [] z (omega arith);
+      lines = are;
     }

@@ -13,6 +13,7 @@ use Rattle.ocfl_tree.specs.declared.store.Kind.TheVariants as kind
 use Rattle.ocfl_tree.proofs.Orders.{true_not_false}
 use Rattle.ocfl_report.specs.Line.{Note, plain, line_of, lines_at}
 use Rattle.ocfl_report.specs.declared.code.Code.{Code}
+use Rattle.ocfl_report.specs.declared.line.Line.{Line as MadeLine}
 use Rattle.ocfl_report.specs.declared.code.Code.TheVariants.{E001, E015, E024, S04, S05}
 use Rattle.ocfl_inventory.specs.Table.{Table, Named, named}
 use Rattle.ocfl_inventory.specs.TripleView.{named_view}
@@ -26,7 +27,7 @@ use Rattle.ocfl_audit.specs.Walk.{is_reached, seen_names}
 use Rattle.ocfl_audit.specs.Trail.{heads_of, is_head, reads_inventory}
 use Rattle.ocfl_audit.specs.Between.{is_looked_into, shows_entries}
 use Rattle.ocfl_item.specs.Looking.{IsFront, IsSight, content_in, content_at}
-use Rattle.ocfl_item.specs.Pending.{IsPending}
+use Rattle.ocfl_item.specs.Pending.{Adds, IsPending, IsUnhashed}
 use Rattle.ocfl_item.specs.Ways.{Enters, Stops, is_listable}
 use Rattle.ocfl_item.specs.Meeting.{IsFolderAt, IsItemAt, IsTableAt, IsVisit, Meets, MeetFails, Visits}
 use Rattle.ocfl_item.specs.Visiting.{HasRole, IsEntryAt, IsListedAt, IsPlainAt, IsShut}
@@ -42,22 +43,26 @@ use Rattle.ocfl_item.proofs.LooksZones.{leaf_dir, entered_from}
 use Rattle.ocfl_item.proofs.LooksEntries.{emptied, not_emptied}
 use Rattle.ocfl_item.proofs.AuditingLaws.{did_nothing, front_all, front_none, none_once}
 use Rattle.ocfl_item.proofs.ShutLaws.{listed_shows, looked_at, no_head_unread, shut_no_dir, shut_zone}
+use Rattle.ocfl_item.proofs.WrongLaws.{first_lines}
 use Rattle.ocfl_audit.proofs.PathLaws.{named_path, notes_at}
 use Rattle.ocfl_audit.proofs.AuditExists.{IsInside, zone_is}
 
 -- ---- the item of one line
 
-pub plain_pending : (root : StorageRoot) (e : Place) (code : Code) (made : Pending) → IsPlainAt root e (plain code ∷ []) → made.place ≡ e → made.hashed ≡ false → made.named.items ≡ []
-    → map line_of made.lines.items ≡ lines_at e (plain code ∷ []) → IsPending root made × (made.place ≡ e)
-plain_pending root e code made h place unhashed unnamed lines = (
-  record {
-    some = subst (λ x. notes root None x ≢ []) (sym place) (λ g. filled (sym h.lines ∙ g));
-    hashed = unhashed ∙ sym (ap (is_hashed root) place ∙ ap (λ ns. nat_lt 0 (cost_of ns None (seen root e))) h.named);
-    named = ap (map named_view) unnamed ∙ sym (ap (named_at root) place ∙ h.named);
-    lines = λ g. subst (λ x. map line_of made.lines.items ≡ lines_at x (notes root None x)) (sym place) (lines ∙ ap (lines_at e) (sym h.lines));
-  },
-  place,
-)
+pub unhashed_pending : (root : StorageRoot) (e : Place) (made : Pending) → IsUnhashed root e made.lines.items → made.place ≡ e → made.hashed ≡ false → made.named.items ≡ [] → IsPending root made
+unhashed_pending root e made h place unhashed unnamed = record {
+  some = subst (λ x. notes root None x ≢ []) (sym place) h.some;
+  hashed = unhashed ∙ sym (ap (is_hashed root) place ∙ ap (λ ns. nat_lt 0 (cost_of ns None (seen root e))) h.named);
+  named = ap (map named_view) unnamed ∙ sym (ap (named_at root) place ∙ h.named);
+  lines = λ g. subst (λ x. map line_of made.lines.items ≡ lines_at x (notes root None x)) (sym place) h.lines;
+}
+
+pub plain_unhashed : (root : StorageRoot) (e : Place) (code : Code) (old new : List MadeLine) → IsPlainAt root e (plain code ∷ []) → old ≡ [] → Adds old new e (plain code ∷ []) → IsUnhashed root e new
+plain_unhashed root e code old new h none adds = record {
+  some = λ g. filled (sym h.lines ∙ g);
+  named = h.named;
+  lines = first_lines old new e (plain code ∷ []) (notes root None e) none adds (sym h.lines);
+}
   where
     filled : plain code ∷ [] ≡ [] → ⊥
     filled g = cc

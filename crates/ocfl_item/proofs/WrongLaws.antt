@@ -23,6 +23,10 @@ pub adds_both : (old mid new : List MadeLine) (p : Place) (ms ns : List Note) �
 adds_both old mid new p ms ns h k =
     k ∙ ap (λ ls. ls ++ lines_at p ns) h ∙ append_assoc (map line_of old) (lines_at p ms) (lines_at p ns) ∙ ap (λ ls. map line_of old ++ ls) (sym (map-append _ ms ns))
 
+-- lines that were put behind none
+pub first_lines : (old new : List MadeLine) (p : Place) (ms ns : List Note) → old ≡ [] → Adds old new p ms → ms ≡ ns → map line_of new ≡ lines_at p ns
+first_lines old new p ms ns none h is = subst (λ x. map line_of new ≡ map line_of x ++ lines_at p ms) none h ∙ ap (lines_at p) is
+
 among_at : {A : Type 0} (xs : List A) (i : ℕ) (d : A) → i < length xs → IsAmong xs (get_or xs i d)
 among_at [] i d l = absurd (omega arith)
 among_at (x ∷ xs) zero d l = inl refl

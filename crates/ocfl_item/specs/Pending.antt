@@ -21,6 +21,12 @@ pub record IsPending (root : StorageRoot) (p : Pending) : Type 0 where
   pub named : map named_view p.named.items ≡ named_at root p.place
   pub lines : p.hashed ≡ false → map line_of p.lines.items ≡ lines_at p.place (notes root None p.place)
 
+-- a place with these lines, at which no file is hashed and for which no digest is named
+pub record IsUnhashed (root : StorageRoot) (p : Place) (made : List MadeLine) : Type 0 where
+  pub some : notes root None p ≢ []
+  pub named : named_at root p ≡ []
+  pub lines : map line_of made ≡ lines_at p (notes root None p)
+
 -- behind the old lines stand these of the place
 abbrev pub Adds : List MadeLine → List MadeLine → Place → List Note → Type 0
 Adds old new p ns = map line_of new ≡ map line_of old ++ lines_at p ns

@@ -1,20 +1,18 @@
 //! The storage root: its lines, and its listing where it is entered.
-ghost use Rattle.std.specs.Prelude.{◌≡◌, ◌∷◌, [], None, false, IsTrue, IfOk, IfErr, OnOk, map};
+ghost use Rattle.std.specs.Prelude.{◌≡◌, ◌∷◌, [], false, IsTrue, IfOk, IfErr, OnOk};
 ghost use Rattle.ocfl_tree.specs.StorageRoot.{StorageRoot};
-ghost use Rattle.ocfl_report.specs.Line.{line_of, lines_at};
 ghost use Rattle.ocfl_inventory.specs.Declaration.{declaration_name as declaration_name_of};
 ghost use Rattle.ocfl_inventory.specs.Declaration.{is_known, known};
 ghost use Rattle.ocfl_inventory.specs.Entries.{meaning};
 ghost use Rattle.ocfl_inventory.specs.declared.declaration.Level.TheVariants as level;
 ghost use Rattle.ocfl_audit.specs.Head.{root_notes_by};
-ghost use Rattle.ocfl_audit.specs.Lines.{notes};
 ghost use Rattle.ocfl_item.specs.HeadFiles.{IsFileAt, OpensJust};
 ghost use Rattle.ocfl_item.specs.Pending.{Adds, IsPending};
 ghost use Rattle.ocfl_item.specs.Meeting.{IsFairVisit, Visits};
 ghost use Rattle.ocfl_item.specs.Visiting.{IsBase};
 ghost use Rattle.ocfl_item.specs.Ways.{IsWayFault};
 
-use crate::declarations::{add_stop, is_exact};
+use crate::declarations::{is_exact, stopped_lines};
 use crate::fault::Fault;
 use crate::folder::{Folder, list};
 use crate::lines::add_plain;
@@ -48,20 +46,6 @@ fn add_known(
     add_plain(alloc, lines, place, Code::E080)
 }
 
-fn item_of(alloc: Global, place: &Place, lines: Vec<Line>) -> Result<Pending, AllocError>
-    ensures place { IfOk result (λ item. item.place ≡ place.now) }
-    ensures told { (root : StorageRoot) → place.now ≡ []
-        → map line_of lines.items ≡ lines_at [] (notes root None [])
-        → IfOk result (λ item. IsPending root item) }
-{
-    Ok(Pending {
-        place: place.try_clone()?,
-        hashed: false,
-        named: Vec::new(alloc),
-        lines,
-    })
-}
-
 /// The item of a storage root of known version.
 fn known_item<T: Tree>(
     alloc: Global,
@@ -83,7 +67,8 @@ fn known_item<T: Tree>(
     let file = read_file(alloc, store, folder, name, SIDE_LIMIT)?;
     let mut lines = Vec::new(alloc);
     add_known(alloc, &mut lines, &folder.place, version, &file)?;
-    Ok(item_of(alloc, &folder.place, lines)?)
+    let place = folder.place.try_clone()?;
+    Ok(Pending::of_lines(alloc, place, lines))
 }
 
 /// The item of a storage root that is not of one known version.
@@ -94,16 +79,9 @@ fn stopped_item(alloc: Global, folder: &Folder, declared: Declared) -> Result<Pe
         → is_known (meaning level.Root folder.now.entries.items declared) ≡ false
         → IfOk result (λ item. IsPending root item) }
 {
-    let mut lines = Vec::new(alloc);
-    add_stop(
-        alloc,
-        &mut lines,
-        &folder.place,
-        Level::Root,
-        &folder.entries,
-        declared,
-    )?;
-    item_of(alloc, &folder.place, lines)
+    let lines = stopped_lines(alloc, folder, Level::Root, declared)?;
+    let place = folder.place.try_clone()?;
+    Ok(Pending::of_lines(alloc, place, lines))
 }
 
 /// The storage root as the walk meets it (OCFL 1.1, 4 OCFL Storage Root).

@@ -1,9 +1,9 @@
 //! The line of what a directory declares, where that is not one declaration of a known version; and
 //! whether a declaration has the bytes that it must have.
-ghost use Rattle.std.specs.Prelude.{◌≡◌, ◌≤◌, ◌++◌, ◌∷◌, [], false, length, OnOk};
+ghost use Rattle.std.specs.Prelude.{◌≡◌, ◌≤◌, ◌++◌, ◌∷◌, [], false, length, map, IfOk, OnOk};
 ghost use Rattle.ocfl_tree.specs.Place.{Place as Names, Text, text_eq};
 ghost use Rattle.ocfl_tree.specs.StorageRoot.{StorageRoot};
-ghost use Rattle.ocfl_report.specs.Line.{note};
+ghost use Rattle.ocfl_report.specs.Line.{line_of, lines_at, note};
 ghost use Rattle.ocfl_digest.specs.Bounded.{IsBoundedTo};
 ghost use Rattle.ocfl_inventory.specs.Declaration.{after_prefix, is_known};
 ghost use Rattle.ocfl_inventory.specs.Declaration.{declaration_name as name_of_declaration, prefix};
@@ -13,6 +13,7 @@ ghost use Rattle.ocfl_item.specs.HeadFiles.{IsFileAt};
 ghost use Rattle.ocfl_item.specs.HeadLines.{declared_notes};
 ghost use Rattle.ocfl_item.specs.Pending.{Adds};
 
+use crate::folder::Folder;
 use crate::lines::{add_line, add_plain};
 use ocfl_digest::Bounded;
 use ocfl_inventory::{Declared, Level, Version, declaration_bytes, version_in_name};
@@ -66,7 +67,7 @@ fn add_unknown(
 
 /// Appends the line of a storage root or of an object that declares nothing, several versions, or
 /// one that is not known.
-pub(crate) fn add_stop(
+fn add_stop(
     alloc: Global,
     lines: &mut Vec<Line>,
     place: &Place,
@@ -94,4 +95,31 @@ pub(crate) fn add_stop(
         },
         Declared::One(_) => Ok(()),
     }
+}
+
+/// The lines of a storage root or of an object that declares nothing, several versions, or one that
+/// is not known.
+pub(crate) fn stopped_lines(
+    alloc: Global,
+    folder: &Folder,
+    level: Level,
+    declared: Declared,
+) -> Result<Vec<Line>, AllocError>
+    ensures { (root : StorageRoot)
+        → is_known (meaning level folder.now.entries.items declared) ≡ false
+        → PointsAtOne level folder.now.entries.items declared
+        → IfOk result (λ lines. map line_of lines.items ≡ lines_at folder.now.place
+        (declared_notes root folder.now.place level
+        (meaning level folder.now.entries.items declared))) }
+{
+    let mut lines = Vec::new(alloc);
+    add_stop(
+        alloc,
+        &mut lines,
+        &folder.place,
+        level,
+        &folder.entries,
+        declared,
+    )?;
+    Ok(lines)
 }

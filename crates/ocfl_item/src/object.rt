@@ -17,7 +17,7 @@ ghost use Rattle.ocfl_item.specs.Visiting.{HeadRead};
 ghost use Rattle.ocfl_item.specs.Ways.{IsDeclared, IsObject, IsHeadOf, IsWayFault};
 ghost use Rattle.ocfl_item.specs.Ways.{is_file_kind};
 
-use crate::declarations::add_stop;
+use crate::declarations::stopped_lines;
 use crate::fault::Fault;
 use crate::folder::{Folder, fault_at};
 use crate::head_lines::{Sidecars, add_clean, add_declaration, add_inventory};
@@ -196,15 +196,7 @@ pub(crate) fn head_lines<T: Tree>(
     if let Declared::One(version) = declared {
         return known_head(alloc, store, folder, version);
     }
-    let mut lines = Vec::new(alloc);
-    add_stop(
-        alloc,
-        &mut lines,
-        &folder.place,
-        Level::Object,
-        &folder.entries,
-        declared,
-    )?;
+    let lines = stopped_lines(alloc, folder, Level::Object, declared)?;
     Ok((lines, None))
 }
 

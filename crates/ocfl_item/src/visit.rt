@@ -1,19 +1,17 @@
 //! What is met at an entry of a directory.
-ghost use Rattle.std.specs.Prelude.{◌≡◌, ◌≤◌, ◌∷◌, [], None, Some, true, false};
+ghost use Rattle.std.specs.Prelude.{◌≡◌, ◌≤◌, ◌∷◌, [], None, Some, true};
 ghost use Rattle.std.specs.Prelude.{IsTrue, IfErr, IfOk, map, length};
 ghost use Rattle.ocfl_tree.specs.Place.{Place as Spot};
 ghost use Rattle.ocfl_tree.specs.StorageRoot.{StorageRoot};
 ghost use Rattle.ocfl_tree.specs.Listing.{IsOrdinary};
-ghost use Rattle.ocfl_report.specs.Line.{line_of, lines_at, plain};
+ghost use Rattle.ocfl_report.specs.Line.{plain};
 ghost use Rattle.ocfl_inventory.specs.Table.{Table as TableOf, named as digests_of};
 ghost use Rattle.ocfl_inventory.specs.TripleView.{named_view};
 ghost use Rattle.ocfl_audit.specs.Zone.{is_listed_zone, zone};
-ghost use Rattle.ocfl_audit.specs.Lines.{listed_dir_notes, notes};
-ghost use Rattle.ocfl_audit.specs.Trail.{is_head};
+ghost use Rattle.ocfl_audit.specs.Lines.{listed_dir_notes};
 ghost use Rattle.ocfl_audit.specs.Walk.{seen_names};
 ghost use Rattle.ocfl_item.specs.Ways.{IsDeclared, IsWayFault};
 ghost use Rattle.ocfl_item.specs.Looking.{IsSight, content_at};
-ghost use Rattle.ocfl_item.specs.Pending.{IsPending};
 ghost use Rattle.ocfl_item.specs.Meeting.{IsFairVisit, IsVisit, Visits};
 ghost use Rattle.ocfl_item.specs.Visiting.{HasRole, IsDirectoryAt, IsEntryAt, IsListedAt};
 ghost use Rattle.ocfl_item.specs.Visiting.{IsPlainAt, IsUndeclaredAt, VisitsHead};
@@ -28,9 +26,9 @@ use crate::role::Role;
 use crate::sight::Sight;
 use ocfl_inventory::declaration::declaration;
 use ocfl_inventory::{Declared, Level, Named, Table};
-use ocfl_report::{Code, Line};
+use ocfl_report::Code;
 use ocfl_tree::{Entry, Kind, Place, Tree};
-use std::alloc::{AllocError, Global};
+use std::alloc::Global;
 
 /// What was met at a place.
 #[derive(Debug, Drop)]
@@ -71,44 +69,16 @@ impl Visit {
     }
 }
 
-/// The item with one line, whose detail is a dash.
-fn plain_item(alloc: Global, place: Place, code: Code) -> Result<Pending, AllocError>
-    ensures place { IfOk result (λ p. p.place ≡ place) }
-    ensures told { (root : StorageRoot) → IsPlainAt root place (plain code ∷ [])
-        → IfOk result (λ p. IsPending root p × (p.place ≡ place)) }
-{
-    let mut lines = Vec::new(alloc);
-    add_plain(alloc, &mut lines, &place, code)?;
-    Ok(Pending {
-        place,
-        hashed: false,
-        named: Vec::new(alloc),
-        lines,
-    })
-}
-
-/// The item of an object's head.
-fn head_item(alloc: Global, place: &Place, lines: Vec<Line>) -> Result<Pending, AllocError>
-    ensures place { IfOk result (λ pending. pending.place ≡ place.now) }
-    ensures told { (root : StorageRoot) → is_head (zone root place.now) ≡ true
-        → map line_of lines.items ≡ lines_at place.now (notes root None place.now)
-        → IfOk result (λ pending. IsPending root pending × (pending.place ≡ place.now)) }
-{
-    Ok(Pending {
-        place: place.try_clone()?,
-        hashed: false,
-        named: Vec::new(alloc),
-        lines,
-    })
-}
-
+/// A place that has one line, whose detail is a dash.
 fn visit_plain(alloc: Global, place: Place, code: Code) -> Result<Visit, Fault>
     ensures only { IfErr result (λ why. why ≡ Fault.Memory) }
     ensures fair { IfOk result (λ v. IsFairVisit place v) }
     ensures told { (root : StorageRoot) → IsPlainAt root place (plain code ∷ [])
         → seen_names root place ≡ [] → IfOk result (λ v. IsVisit root place v) }
 {
-    Ok(Visit::of_item(Some(plain_item(alloc, place, code)?)))
+    let mut lines = Vec::new(alloc);
+    add_plain(alloc, &mut lines, &place, code)?;
+    Ok(Visit::of_item(Some(Pending::of_lines(alloc, place, lines))))
 }
 
 /// A directory that is listed, whether it is empty or not.
@@ -141,7 +111,8 @@ fn visit_object<T: Tree>(
         → VisitsHead root (T.state store.old) (T.state store.new) folder.place result }
 {
     let (lines, table) = head_lines(alloc, store, &folder, declared)?;
-    let item = Some(head_item(alloc, &folder.place, lines)?);
+    let place = folder.place.try_clone()?;
+    let item = Some(Pending::of_lines(alloc, place, lines));
     match table {
         Some(table) => Ok(Visit {
             item,

@@ -1,0 +1,6 @@
+use Rattle.std.proofs.Common.{refl}
+use Rattle.ocfl_item.proofs.VisitLaws.{unhashed_pending}
+use Rattle.ocfl_item.proofs.pending.Pending.of_lines.Goals as goal
+
+pub returns-clause-told : goal.returns-clause-told
+returns-clause-told c = λ root h. unhashed_pending root c.args.place _ h refl refl c.new.ensures.items

@@ -1,13 +1,14 @@
 //! The storage root: its lines, and its listing where it is entered.
-ghost use Rattle.std.specs.Prelude.{◌≡◌, ◌∷◌, [], false, IsTrue, IfOk, IfErr, OnOk};
+ghost use Rattle.std.specs.Prelude.{◌≡◌, ◌∷◌, [], false, IsTrue, IfOk, IfErr};
 ghost use Rattle.ocfl_tree.specs.StorageRoot.{StorageRoot};
+ghost use Rattle.ocfl_report.specs.Line.{plain};
 ghost use Rattle.ocfl_inventory.specs.Declaration.{declaration_name as declaration_name_of};
 ghost use Rattle.ocfl_inventory.specs.Declaration.{is_known, known};
 ghost use Rattle.ocfl_inventory.specs.Entries.{meaning};
 ghost use Rattle.ocfl_inventory.specs.declared.declaration.Level.TheVariants as level;
 ghost use Rattle.ocfl_audit.specs.Head.{root_notes_by};
 ghost use Rattle.ocfl_item.specs.HeadFiles.{IsFileAt, OpensJust};
-ghost use Rattle.ocfl_item.specs.Pending.{Adds, IsPending};
+ghost use Rattle.ocfl_item.specs.Pending.{IsPending};
 ghost use Rattle.ocfl_item.specs.Meeting.{IsFairVisit, Visits};
 ghost use Rattle.ocfl_item.specs.Visiting.{IsBase};
 ghost use Rattle.ocfl_item.specs.Ways.{IsWayFault};
@@ -22,28 +23,20 @@ use crate::visit::Visit;
 use ocfl_digest::Bounded;
 use ocfl_inventory::declaration::declaration;
 use ocfl_inventory::{Declared, Level, Version, declaration_name};
-use ocfl_report::{Code, Line};
+use ocfl_report::Code;
 use ocfl_tree::{Place, Tree};
 use std::alloc::{AllocError, Global};
 
-/// Appends the line of a storage root of known version (OCFL 1.1, 4.2 Root Conformance
-/// Declaration).
-fn add_known(
-    alloc: Global,
-    lines: &mut Vec<Line>,
-    place: &Place,
-    version: Version,
-    declaration: &Option<Bounded>,
-) -> Result<(), AllocError>
+/// The code of a storage root of known version (OCFL 1.1, 4.2 Root Conformance Declaration).
+fn known_code(version: Version, declaration: &Option<Bounded>) -> Code
     ensures { (root : StorageRoot) → IsFileAt root (declaration_name_of level.Root version
         ∷ []) 4096 declaration.now
-        → OnOk result (Adds lines.old.items lines.new.items place.now
-        (root_notes_by root (known version))) }
+        → plain result ∷ [] ≡ root_notes_by root (known version) }
 {
     if is_exact(Level::Root, version, declaration) {
-        return add_plain(alloc, lines, place, Code::Clean);
+        return Code::Clean;
     }
-    add_plain(alloc, lines, place, Code::E080)
+    Code::E080
 }
 
 /// The item of a storage root of known version.
@@ -66,7 +59,7 @@ fn known_item<T: Tree>(
     let name = declaration_name(Level::Root, version);
     let file = read_file(alloc, store, folder, name, SIDE_LIMIT)?;
     let mut lines = Vec::new(alloc);
-    add_known(alloc, &mut lines, &folder.place, version, &file)?;
+    add_plain(alloc, &mut lines, &folder.place, known_code(version, &file))?;
     let place = folder.place.try_clone()?;
     Ok(Pending::of_lines(alloc, place, lines))
 }

@@ -1,4 +1,4 @@
-use Rattle.std.proofs.Common.{[], ◌∷◌, ◌++◌, refl, sym, subst}
+use Rattle.std.proofs.Common.{[], ◌∷◌, ◌++◌, sym, subst}
 use Rattle.std.proofs.lemmas.Result.{err_from_is_err_and}
 use Rattle.ocfl_inventory.specs.Declaration.{declaration_name}
 use Rattle.ocfl_inventory.specs.declared.declaration.Level.TheVariants.{Root}
@@ -13,8 +13,8 @@ pub returns-clause-told : goal.returns-clause-told
 returns-clause-told g c = λ h root over base.
     let read = declaration_read root _ _ _ _ _ c.args.version _ _ _ base c.declaration_name-name.ensures (c.in_ok-file.ensures.told h root over) in
     let file = subst (λ x. IsFileAt root (x ++ declaration_name Root c.args.version ∷ []) 4096 c.in_ok-file.file) base.top read.gives.1 in
-    let lines = c.add_known.new.lines.items in
-    let made = first_lines c.new-lines.result.items lines c.args.folder.now.place _ _ c.new-lines.ensures.items (c.in_ok-add_known.ensures root file) refl in
+    let lines = c.add_plain.new.lines.items in
+    let made = first_lines c.new-lines.result.items lines c.args.folder.now.place _ _ c.new-lines.ensures.items c.in_ok-add_plain.ensures (c.known_code.ensures root file) in
     let unhashed = root_unhashed root c.args.folder.now.place _ lines base.top base.says made in
     c.of_lines.ensures.told root (subst (λ x. IsUnhashed root x lines) (sym c.in_ok-place.ensures) unhashed)
 
@@ -23,9 +23,9 @@ returns-in_err-file-clause-opened g c = λ h root over base.
     let p = err_from_is_err_and c.from_residual.result c.from_residual.ensures.1 in
     rw (p.1, p.2) (declaration_read root _ _ _ _ _ c.args.version _ _ _ base c.declaration_name-name.ensures (c.in_err-file.ensures.told h root over)).gives
 
-pub returns-in_err-add_known-clause-opened : goal.returns-in_err-add_known-clause-opened
-returns-in_err-add_known-clause-opened g c = λ h root over base.
-    let p = err_from_is_err_and c.from_residual-in_err-add_known.result c.from_residual-in_err-add_known.ensures.1 in
+pub returns-in_err-add_plain-clause-opened : goal.returns-in_err-add_plain-clause-opened
+returns-in_err-add_plain-clause-opened g c = λ h root over base.
+    let p = err_from_is_err_and c.from_residual-in_err-add_plain.result c.from_residual-in_err-add_plain.ensures.1 in
     rw (p.1, p.2) (one_memory root _ _ _ _ _ _ (declaration_read root _ _ _ _ _ c.args.version _ _ _ base c.declaration_name-name.ensures (c.in_ok-file.ensures.told h root over)))
 
 pub returns-in_err-place-clause-opened : goal.returns-in_err-place-clause-opened

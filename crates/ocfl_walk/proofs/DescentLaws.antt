@@ -1,5 +1,5 @@
 -- What was done on the way down to a place, and where that leads.
-use Rattle.std.proofs.Common.{true, ◌≡◌, ℕ, List, [], ◌∷◌, ◌++◌, refl, sym, ◌∙◌, ap, subst, Option, Some, None, arith, length, append_assoc}
+use Rattle.std.proofs.Common.{true, ◌≡◌, ℕ, List, [], ◌∷◌, ◌++◌, refl, sym, ◌∙◌, ap, subst, Some, None, arith, length, append_assoc}
 use Rattle.std.proofs.lemmas.List.{append-nil, length-append}
 use Rattle.std.specs.Prelude.{Ok, Err}
 use Rattle.ocfl_tree.specs.Place.{Place}
@@ -17,8 +17,6 @@ use Rattle.ocfl_walk.specs.Entering.{Descends, DescendFails, Opens as Opened}
 use Rattle.ocfl_item.proofs.AuditingLaws.{failed_behind, heads_append}
 use Rattle.ocfl_item.specs.declared.fault.Fault.{Fault}
 use Rattle.ocfl_item.specs.declared.fault.Fault.TheVariants as fault
-use Rattle.ocfl_item.specs.declared.folder.Folder.{Folder}
-use Rattle.ocfl_item.specs.declared.meeting.Around.{Around}
 use Rattle.ocfl_tree.proofs.Stores.{did_then}
 use Rattle.ocfl_item.proofs.LooksCalls.{did_nothing, memory_no_store}
 use Rattle.ocfl_item.proofs.LooksZones.{is_plain}

@@ -4,12 +4,8 @@ use Rattle.std.specs.Prelude.{AllPairs, cond, ◌||◌, not, Result, Ok, Err, Ma
 use Rattle.ocfl_tree.specs.Place.{Text, Place, text_eq}
 use Rattle.ocfl_tree.specs.StorageRoot.{StorageRoot}
 use Rattle.ocfl_tree.specs.Store.{Store, Did}
-use Rattle.ocfl_tree.specs.Listing.{IsOrdinary}
-use Rattle.ocfl_tree.specs.declared.store.Entry.{Entry}
 use Rattle.ocfl_tree.specs.declared.store.Opening.{Opening}
-use Rattle.ocfl_inventory.specs.Declaration.{declared, is_known}
-use Rattle.ocfl_inventory.specs.Entries.{file_names}
-use Rattle.ocfl_inventory.specs.declared.declaration.Level.TheVariants as level
+use Rattle.ocfl_inventory.specs.Declaration.{is_known}
 use Rattle.ocfl_audit.specs.Zone.{Zone, skipped, hierarchy, inside, inventory_name, is_in_extensions, object_zone, root_declared, zone}
 use Rattle.ocfl_audit.specs.Due.{hashed_among}
 use Rattle.ocfl_audit.specs.Lines.{is_hashed, notes, notes_in}
@@ -21,11 +17,9 @@ use Rattle.ocfl_walk.specs.Entering.{Starts, StartFails}
 use Rattle.ocfl_walk.specs.Finding.{Finds, FindFails, FindsItem}
 use Rattle.ocfl_item.specs.Looking.{IsFront, failures_by, way_to}
 use Rattle.ocfl_item.specs.Meeting.{IsItemAt, Visits}
-use Rattle.ocfl_item.specs.Ways.{Enters, IsHead, Stops, way_below}
+use Rattle.ocfl_item.specs.Ways.{Stops, way_below}
 use Rattle.ocfl_item.specs.declared.fault.Fault.{Fault}
 use Rattle.ocfl_item.specs.declared.fault.Fault.TheVariants as fault
-use Rattle.ocfl_item.specs.declared.folder.Head.{Head}
-use Rattle.ocfl_item.specs.declared.folder.Head.TheVariants as head
 use Rattle.ocfl_item.specs.declared.pending.Pending.{Pending}
 use Rattle.ocfl_item.specs.declared.visit.Visit.{Visit}
 use Rattle.ocfl_audit.proofs.AuditExists.{zone_is}
@@ -34,8 +28,7 @@ use Rattle.ocfl_item.proofs.AuditingLaws.{audits_nothing, front_all, none_once}
 use Rattle.ocfl_walk.proofs.DescentLaws.{descends_one}
 use Rattle.ocfl_walk.proofs.EnterLaws.{start_listed, start_unlisted}
 use Rattle.ocfl_walk.proofs.FindLaws.{front_own, front_within, finds_descended, finds_stopped, item_memory, item_on, may_few}
-use Rattle.ocfl_item.proofs.LooksCalls.{head_unknown, way_is}
-use Rattle.ocfl_item.proofs.LooksZones.{declared_root}
+use Rattle.ocfl_item.proofs.LooksCalls.{way_is}
 
 -- ---- as it is told
 

@@ -1,10 +1,9 @@
 -- Into a directory of the storage hierarchy that was listed.
-use Rattle.std.proofs.Common.{◌≡◌, ◌⊎◌, inl, inr, ℕ, ◌≤◌, List, [], ◌∷◌, ◌++◌, sym, ◌∙◌, ap, subst, true, false, Option, Some, None, length}
-use Rattle.std.specs.Prelude.{Result, Ok, Err, IfOk, MatchOption}
+use Rattle.std.proofs.Common.{◌≡◌, ◌⊎◌, inl, inr, ℕ, ◌≤◌, List, [], ◌∷◌, ◌++◌, sym, ◌∙◌, ap, subst, true, Option, Some, None, length}
+use Rattle.std.specs.Prelude.{Result, Ok, Err}
 use Rattle.ocfl_tree.specs.Place.{Text, Place, begins}
 use Rattle.ocfl_tree.specs.StorageRoot.{StorageRoot}
 use Rattle.ocfl_tree.specs.Store.{Store}
-use Rattle.ocfl_tree.specs.Listing.{IsOrdinary}
 use Rattle.ocfl_tree.specs.declared.store.Entry.{Entry}
 use Rattle.ocfl_inventory.specs.Declaration.{declared}
 use Rattle.ocfl_inventory.specs.Table.{IsFit}
@@ -14,16 +13,15 @@ use Rattle.ocfl_inventory.specs.declared.declaration.Declared.TheVariants as mad
 use Rattle.ocfl_inventory.specs.declared.declaration.Version.{Version}
 use Rattle.ocfl_inventory.specs.declared.declaration.Level.TheVariants as level
 use Rattle.ocfl_inventory.specs.Declaration.{is_known}
-use Rattle.ocfl_audit.specs.Zone.{hierarchy, inside, table_at, zone}
-use Rattle.ocfl_item.specs.Ways.{Enters, StaysOut, is_extensions_name, IsAt, InHierarchy, IsDeclared, IsObject}
-use Rattle.ocfl_item.specs.Around.{IsPart}
+use Rattle.ocfl_audit.specs.Zone.{inside, table_at, zone}
+use Rattle.ocfl_item.specs.Ways.{InHierarchy, IsDeclared, IsObject}
 use Rattle.ocfl_item.specs.Meeting.{IsFairFolder}
 use Rattle.ocfl_walk.specs.Standing.{IsAroundIf}
 use Rattle.ocfl_walk.specs.Entering.{Leads, ListsBelow, Opens}
 use Rattle.ocfl_item.specs.declared.fault.Fault.{Fault}
 use Rattle.ocfl_item.specs.declared.folder.Folder.{Folder}
 use Rattle.ocfl_item.specs.declared.meeting.Around.{Around}
-use Rattle.ocfl_item.proofs.LooksCalls.{declared_entered, did_nothing, finds_object, no_known, undeclared_entered}
+use Rattle.ocfl_item.proofs.LooksCalls.{declared_entered, finds_object, no_known, undeclared_entered}
 use Rattle.ocfl_item.proofs.LooksZones.{unknown_no_table}
 use Rattle.ocfl_walk.proofs.OrderlyLaws.{begins_own}
 use Rattle.ocfl_walk.proofs.DownLaws.{leads_in, leads_listed, leads_object, leads_object_none, leads_object_stop, shut_object}

@@ -112,14 +112,6 @@ module _ (last : Place) (ps new : List Pile) (entry : Entry) (a : Option Around)
   new_few : AllByRecursion (λ p. length p.1 ≤ 1000000) new
   new_few = let f = subst (AllByRecursion (λ p. length p.1 ≤ 1000000)) t.old_is h.few in let n : length t.rest ≤ 1000000 = omega (arith, f.0) in subst (AllByRecursion (λ p. length p.1 ≤ 1000000)) (sym t.new_is) (n, f.1)
 
-  -- with the entry taken off, before anything else is done
-  pub orderly_left : IsOrderly last new None
-  orderly_left = record {
-    chain = subst (λ qs. IsChain last 128 (frames_of qs)) (sym t.new_is) (old_chain.0, old_chain.1, old_chain.2.1, old_chain.3.1, old_chain.4);
-    few = new_few;
-    object = tt;
-  }
-
   chain_at_entry : (k : ℕ) → length t.place < k → IsChain (t.place ++ entry.name ∷ []) k (frames_of new)
   chain_at_entry k l = subst (λ qs. IsChain (t.place ++ entry.name ∷ []) k (frames_of qs)) (sym t.new_is) (begins_front t.place (entry.name ∷ []), l, before_names t.place entry.name (map (λ e. e.name) t.rest) old_chain.3.0, old_chain.3.1, old_chain.4)
 

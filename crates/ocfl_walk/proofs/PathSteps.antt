@@ -1,5 +1,5 @@
 -- A step to a path of the table at which nothing is seen.
-use Rattle.std.proofs.Common.{◌≡◌, ◌≢◌, inl, inr, ◌+◌, ◌<◌, ◌≤◌, List, [], ◌∷◌, ◌++◌, refl, sym, ◌∙◌, ap, subst, true, false, Bool, map, filter, Option, Some, None, length, drop, arith}
+use Rattle.std.proofs.Common.{◌≡◌, inl, inr, ◌+◌, ◌<◌, ◌≤◌, List, [], ◌∷◌, ◌++◌, refl, sym, ◌∙◌, ap, subst, true, false, Bool, map, filter, Option, Some, None, length, drop, arith}
 use Rattle.std.proofs.lemmas.List.{length-append}
 use Rattle.std.specs.Prelude.{cond, find, option_map, ◌&&◌}
 use Rattle.std.specs.List.{AllByRecursion}
@@ -175,7 +175,3 @@ module _ (last b : Place) (ps : List Pile) (a : Option Around) (h : IsOrderly la
             where
               names : (d : Place) (n : Text) (ns : List Text) → IsBeforeAll text_cmp n ns → IsBeforeAll place_cmp (d ++ n ∷ []) (map (λ m. d ++ m ∷ []) ns)
               names d n ns g = before_names d n ns g
-
-pub last_is : (l : Option Place) → l ≢ None → (p : Place) × (l ≡ Some p)
-last_is None n = absurd (n refl)
-last_is (Some p) n = (p, refl)

@@ -1,5 +1,5 @@
 -- What a stand is after each of its steps.
-use Rattle.std.proofs.Common.{◌≡◌, ◌≢◌, ◌<◌, List, [], ◌∷◌, ◌++◌, refl, sym, ap, subst, Option, Some, None, length}
+use Rattle.std.proofs.Common.{◌≡◌, ◌≢◌, ◌<◌, [], ◌∷◌, ◌++◌, refl, sym, ap, subst, Option, Some, None, length}
 use Rattle.std.specs.declared.alloc.Global.{Global}
 use Rattle.std.specs.Prelude.{IfSome, Vec}
 use Rattle.std.specs.declared.cmp.Ordering.TheVariants.{Less}
@@ -33,7 +33,7 @@ use Rattle.ocfl_walk.proofs.PathSteps.{orderly_path, path_above, path_short, siz
 use Rattle.ocfl_walk.proofs.PlacedLaws.{begun, begun_if, entry_pushed, entry_room, path_shared}
 use Rattle.ocfl_walk.proofs.SizeLaws.{goes_to, size_entry, sizes_fall}
 use Rattle.ocfl_walk.proofs.StandLaws.{entry_stands, path_stands}
-use Rattle.ocfl_walk.proofs.StartLaws.{first_pushed, first_room, first_stands, item_first, not_begun, orderly_first, root_short, size_begins, size_first, step_first}
+use Rattle.ocfl_walk.proofs.StartLaws.{first_pushed, first_room, first_stands, item_first, orderly_first, root_short, size_begins, size_first, step_first}
 
 abbrev Listings : Type 0
 Listings = ArrayVec (Vec Entry Global)

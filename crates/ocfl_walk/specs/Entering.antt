@@ -17,7 +17,6 @@ use Rattle.ocfl_item.specs.Ways.{way_below, is_extensions_name, AreInventories, 
 use Rattle.ocfl_audit.specs.Walk.{is_reached, step_listed}
 use Rattle.ocfl_audit.specs.Stack.{seen_places, seen_left, listed_at, IsListed}
 use Rattle.ocfl_inventory.specs.Declaration.{is_known}
-use Rattle.ocfl_inventory.specs.Table.{IsFit}
 use Rattle.ocfl_walk.specs.Standing.{Pile, frames_of, IsChain, IsAroundIf, HaveEntries}
 use Rattle.ocfl_item.specs.Around.{IsTableAround, IsPart}
 use Rattle.ocfl_audit.specs.Trail.{heads_of}

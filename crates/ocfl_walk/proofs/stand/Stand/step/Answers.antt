@@ -1,4 +1,4 @@
-use Rattle.std.proofs.Common.{◌∙◌, sym, refl, subst}
+use Rattle.std.proofs.Common.{refl}
 use Rattle.std.proofs.lemmas.Result.{err_from_is_err_and}
 use Rattle.ocfl_walk.specs.Standing.{piles_in, spot_of}
 use Rattle.ocfl_walk.specs.Walking.{Steps, StepsTo}

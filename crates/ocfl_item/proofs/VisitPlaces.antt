@@ -1,5 +1,5 @@
 -- Entries of the storage hierarchy: what lies outside objects, and objects.
-use Rattle.std.proofs.Common.{◌≡◌, ◌≢◌, suc, ◌+◌, ◌<◌, ◌≤◌, List, [], ◌∷◌, ◌++◌, refl, sym, ◌∙◌, ap, subst, true, false, Bool, Option, Some, None, arith, length, map}
+use Rattle.std.proofs.Common.{◌≡◌, ◌≢◌, suc, ◌+◌, ◌-◌, ◌<◌, ◌≤◌, List, [], ◌∷◌, ◌++◌, refl, sym, ◌∙◌, ap, subst, true, false, Bool, Option, Some, None, arith, length, map}
 use Rattle.std.specs.Prelude.{cond, nat_eq, nat_le, option_map, codes, ◌&&◌, Result, Ok, Err, IfErr, IfOk}
 use Rattle.std.specs.List.{list_all}
 use Rattle.std.proofs.lemmas.List.{length-append}
@@ -107,22 +107,22 @@ module _ (root : StorageRoot) (e d : Place) (n : Text) (is : e ≡ d ++ n ∷ []
       by [] g = and_false (text_eq n (codes "extensions")) (is_dir root (n ∷ [])) (ap (is_dir root) (sym g) ∙ h)
       by (m ∷ d) g = refl
 
-  pub extensions_from : nat_eq (length e) 1 && text_eq n (codes "extensions") ≡ true → is_dir root e ≡ true → is_extensions root d n ≡ true
+  pub extensions_from : nat_eq (length e - 1) 0 && text_eq n (codes "extensions") ≡ true → is_dir root e ≡ true → is_extensions root d n ≡ true
   extensions_from h there = by d is
     where
       by : (d : Place) → e ≡ d ++ n ∷ [] → is_extensions root d n ≡ true
-      by [] g = and_both (text_eq n (codes "extensions")) (is_dir root (n ∷ [])) (ap (λ k. nat_eq k 1 && text_eq n (codes "extensions")) (sym (ap length g)) ∙ h) (ap (is_dir root) (sym g) ∙ there)
+      by [] g = and_both (text_eq n (codes "extensions")) (is_dir root (n ∷ [])) (ap (λ k. nat_eq (k - 1) 0 && text_eq n (codes "extensions")) (sym (ap length g)) ∙ h) (ap (is_dir root) (sym g) ∙ there)
       by (m ∷ d) g =
-          let one : length e ≡ 1 = eqb-true (length e) 1 (and_first (nat_eq (length e) 1) (text_eq n (codes "extensions")) h) in
+          let one : length e - 1 ≡ 0 = eqb-true (length e - 1) 0 (and_first (nat_eq (length e - 1) 0) (text_eq n (codes "extensions")) h) in
           let long : length e ≡ suc (length (d ++ n ∷ [])) = ap length g in
           let inner : length (d ++ n ∷ []) ≡ length d + 1 = length-append d (n ∷ []) in
           absurd (omega (arith, one, long, inner))
 
-  pub extensions_not : nat_eq (length e) 1 && text_eq n (codes "extensions") ≡ false → is_extensions root d n ≡ false
+  pub extensions_not : nat_eq (length e - 1) 0 && text_eq n (codes "extensions") ≡ false → is_extensions root d n ≡ false
   extensions_not h = by d is
     where
       by : (d : Place) → e ≡ d ++ n ∷ [] → is_extensions root d n ≡ false
-      by [] g = ap (λ b. b && is_dir root (n ∷ [])) (ap (λ k. nat_eq k 1 && text_eq n (codes "extensions")) (sym (ap length g)) ∙ h)
+      by [] g = ap (λ b. b && is_dir root (n ∷ [])) (ap (λ k. nat_eq (k - 1) 0 && text_eq n (codes "extensions")) (sym (ap length g)) ∙ h)
       by (m ∷ d) g = refl
 
   -- what is no directory lies in the hierarchy
@@ -154,12 +154,12 @@ module _ (root : StorageRoot) (e d : Place) (n : Text) (is : e ≡ d ++ n ∷ []
     pub other_in_hierarchy : k ≡ kind.Other → HasRole root e (role.Plain S04)
     other_in_hierarchy g = (in_hierarchy other (plain S04 ∷ []) (no_other_dir g) (entry_other root e k h g) refl, other_shut root e k h g)
 
-    pub extensions_alone : k ≡ kind.Dir → nat_eq (length e) 1 && text_eq n (codes "extensions") ≡ true → HasRole root e role.LeftAlone
+    pub extensions_alone : k ≡ kind.Dir → nat_eq (length e - 1) 0 && text_eq n (codes "extensions") ≡ true → HasRole root e role.LeftAlone
     extensions_alone g x =
         let z : zone root e ≡ skipped = zone_skipped (extensions_from x (dir_here root e k h g)) in
         (skipped_plain root e (filled_by e d n is) z, shut_zone root e (filled_by e d n is) (ap (shows_entries root) z))
 
-    pub other_directory : k ≡ kind.Dir → nat_eq (length e) 1 && text_eq n (codes "extensions") ≡ false → HasRole root e role.Directory
+    pub other_directory : k ≡ kind.Dir → nat_eq (length e - 1) 0 && text_eq n (codes "extensions") ≡ false → HasRole root e role.Directory
     other_directory g x = record { here = subst (IsEntryAt root e) g h; below = filled_by e d n is; zone = zone_passed (extensions_not x) }
 
 -- ---- a directory of the hierarchy, or an object

@@ -1,6 +1,7 @@
 //! Directories as a store lists them, from the storage root down.
 ghost use Rattle.std.specs.Prelude.{◌≡◌, ◌&&◌, ◌∷◌, [], nat_le, suc, length, true, IsTrue, IfOk};
-ghost use Rattle.std.specs.Prelude.{IfErr, MatchResult};
+ghost use Rattle.std.specs.Prelude.{IfErr, MatchResult, codes, nat_eq};
+ghost use Rattle.ocfl_tree.specs.Place.{text_eq};
 ghost use Rattle.ocfl_tree.specs.StorageRoot.{StorageRoot};
 ghost use Rattle.ocfl_tree.specs.Listing.{IsOrdinary, kind_in};
 ghost use Rattle.ocfl_inventory.specs.Declaration.{declared as declared_by_files};
@@ -112,9 +113,16 @@ pub fn head_of(folder: &Folder, level: Level) -> Head
     head_by(declaration(&folder.entries, level))
 }
 
+/// Whether a name in a directory of so many names is that of the storage root's extensions.
+pub(crate) fn names_extensions(depth: usize, name: &Name) -> bool
+    ensures { result ≡ (nat_eq depth 0 && text_eq name.now (codes "extensions")) }
+{
+    depth == 0 && is_text(name.as_str(), "extensions")
+}
+
 /// Whether a name leads to the extensions of the storage root.
 pub fn is_extensions(folder: &Folder, name: &Name) -> bool
     ensures { result ≡ is_extensions_name folder.now.place name.now }
 {
-    folder.place.depth() == 0 && is_text(name.as_str(), "extensions")
+    names_extensions(folder.place.depth(), name)
 }

@@ -1,5 +1,5 @@
 //! What an entry is to the walk, by its kind and its name, in each part of the storage root.
-ghost use Rattle.std.specs.Prelude.{◌≡◌, ◌∷◌, ◌&&◌, ◌||◌, nat_eq, codes, length, [], None, Some};
+ghost use Rattle.std.specs.Prelude.{◌≡◌, ◌∷◌, ◌||◌, codes, [], None, Some};
 ghost use Rattle.std.specs.Prelude.{true};
 ghost use Rattle.ocfl_tree.specs.Place.{Place as Spot, Text, text_eq};
 ghost use Rattle.ocfl_tree.specs.StorageRoot.{StorageRoot};
@@ -12,9 +12,10 @@ ghost use Rattle.ocfl_audit.specs.Lines.{is_inventory_or_sidecar as is_beside_in
 ghost use Rattle.ocfl_item.specs.Around.{IsMet};
 ghost use Rattle.ocfl_item.specs.Visiting.{HasRole, IsEntryAt};
 
+use crate::folder::names_extensions;
 use ocfl_inventory::{Level, Table, is_declaration_name, is_version_name};
 use ocfl_report::Code;
-use ocfl_tree::{Entry, Kind, Name, Place, is_text};
+use ocfl_tree::{Entry, Kind, Place, is_text};
 
 /// What an entry is to the walk.
 #[derive(Clone, Copy, Debug, PartialEq, Eq)]
@@ -29,24 +30,18 @@ pub(crate) enum Role {
     Directory,
 }
 
-/// Whether an entry is that of the storage root's extensions.
-fn is_extensions_entry(place: &Place, name: &Name) -> bool
-    ensures { result ≡ (nat_eq (length place.now) 1 && text_eq name.now (codes "extensions")) }
-{
-    place.depth() == 1 && is_text(name.as_str(), "extensions")
-}
-
 /// The role of an entry of a directory of the storage hierarchy (OCFL 1.1, 4.3 Storage
 /// Hierarchies).
 pub(crate) fn role_in_hierarchy(place: &Place, entry: &Entry) -> Role
     ensures { (root : StorageRoot) (d : Spot) → IsMet root d None entry.now place.now
         → HasRole root place.now result }
 {
+    let above = place.depth().saturating_sub(1);
     match entry.kind {
-        Kind::File if place.depth() > 1 => Role::Plain(Code::E072),
+        Kind::File if above > 0 => Role::Plain(Code::E072),
         Kind::File => Role::LeftAlone,
         Kind::Other => Role::Plain(Code::S04),
-        Kind::Dir if is_extensions_entry(place, &entry.name) => Role::LeftAlone,
+        Kind::Dir if names_extensions(above, &entry.name) => Role::LeftAlone,
         Kind::Dir => Role::Directory,
     }
 }

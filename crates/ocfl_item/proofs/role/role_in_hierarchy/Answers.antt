@@ -1,4 +1,6 @@
-use Rattle.std.proofs.Common.{◌<◌, ◌≤◌, ◌∙◌, sym, length, rules}
+use Rattle.std.proofs.Common.{◌≡◌, ◌-◌, ◌<◌, ◌≤◌, ◌∙◌, ap, sym, length, rules}
+use Rattle.std.specs.Prelude.{◌&&◌, codes, nat_eq}
+use Rattle.ocfl_tree.specs.Place.{text_eq}
 use Rattle.ocfl_item.proofs.VisitPlaces.{entry_met, extensions_alone, file_deeper, file_in_root, other_directory, other_in_hierarchy}
 use Rattle.ocfl_item.proofs.role.role_in_hierarchy.Goals as goal
 
@@ -17,8 +19,12 @@ returns-in-Other c = λ root d met. other_in_hierarchy root _ d _ met.is met.par
 
 pub returns-in-Dir : goal.returns-in-Dir
 returns-in-Dir c = λ root d met.
-    extensions_alone root _ d _ met.is met.part _ (entry_met root d _ _ c.args.entry.now met) c.in-Dir.is (sym c.is_extensions_entry.ensures ∙ c.if-is_extensions_entry.true)
+    let above : length c.args.place.now - 1 ≡ c.saturating_sub-above.result = search rules in
+    let named = ap (λ k. nat_eq k 0 && text_eq c.args.entry.now.name (codes "extensions")) above ∙ sym c.names_extensions.ensures ∙ c.if-names_extensions.true in
+    extensions_alone root _ d _ met.is met.part _ (entry_met root d _ _ c.args.entry.now met) c.in-Dir.is named
 
 pub returns-in-Dir-2 : goal.returns-in-Dir-2
 returns-in-Dir-2 c = λ root d met.
-    other_directory root _ d _ met.is met.part _ (entry_met root d _ _ c.args.entry.now met) c.in-Dir-2.is (sym c.is_extensions_entry.ensures ∙ c.if-is_extensions_entry.false)
+    let above : length c.args.place.now - 1 ≡ c.saturating_sub-above.result = search rules in
+    let other = ap (λ k. nat_eq k 0 && text_eq c.args.entry.now.name (codes "extensions")) above ∙ sym c.names_extensions.ensures ∙ c.if-names_extensions.false in
+    other_directory root _ d _ met.is met.part _ (entry_met root d _ _ c.args.entry.now met) c.in-Dir-2.is other

@@ -30,14 +30,20 @@ long_and_short = sha256_object (listing (key abc.sha256 "[\"v1/content/f\",\"v1/
 abbrev f_gave : ℕ → Unread
 f_gave given = (place "o/v1/content/f", given) ∷ []
 
--- what is left is the other file, and a finding
-read_fails : audit long_and_short (f_gave 65536) ≡ the_root ∷ clean "o" ∷ unread "o/v1/content/f" 65537 ∷ right "o/v1/content/g" 4 "3" ∷ []
-unfolding audit_on_literals
-read_fails = refl
+-- what the audit then gives, by the cost of `f`
+abbrev other_right : ℕ → List Item
+other_right cost = the_root ∷ clean "o" ∷ unread "o/v1/content/f" cost ∷ right "o/v1/content/g" 4 "3" ∷ []
 
-open_fails : audit long_and_short (f_gave 0) ≡ the_root ∷ clean "o" ∷ unread "o/v1/content/f" 1 ∷ right "o/v1/content/g" 4 "3" ∷ []
+cost_where_read_fails : audit long_and_short (f_gave 65536) ≡ other_right 65537
 unfolding audit_on_literals
-open_fails = refl
+cost_where_read_fails = refl
+
+cost_where_open_fails : audit long_and_short (f_gave 0) ≡ other_right 1
+unfolding audit_on_literals
+cost_where_open_fails = refl
+
+text_where_a_long_file_is_unread : (text (other_right 65537) ≡ codes "ok\t.\t-\nok\to\t-\nS08\to/v1/content/f\t-\nok\to/v1/content/g\t3\n") × (text (other_right 1) ≡ text (other_right 65537))
+text_where_a_long_file_is_unread = (refl, refl)
 
 unread_file_is_finding : found (unread "o/v1/content/f" 1 ∷ []) ≡ true
 unread_file_is_finding = refl

@@ -10,8 +10,7 @@ use Rattle.ocfl_tree.specs.Store.{Store}
 use Rattle.ocfl_tree.specs.Listing.{IsListing, IsOrdinary}
 use Rattle.ocfl_tree.specs.declared.store.Entry.{Entry}
 use Rattle.ocfl_tree.specs.declared.store.Opening.{Opening}
-use Rattle.ocfl_report.specs.Line.{line_of, lines_at}
-use Rattle.ocfl_report.specs.declared.line.Line.{Line as MadeLine}
+use Rattle.ocfl_report.specs.Line.{lines_at}
 use Rattle.ocfl_inventory.specs.Declaration.{Declared, undeclared, known, unknown, several, declaration_name, declared, is_declared, is_known}
 use Rattle.ocfl_inventory.specs.Entries.{PointsAtOne, file_names, meaning}
 use Rattle.ocfl_inventory.specs.declared.declaration.Declared.{Declared as MadeDeclared}
@@ -25,7 +24,7 @@ use Rattle.ocfl_audit.specs.Head.{root_notes_by}
 use Rattle.ocfl_item.specs.HeadFiles.{FilesStop, ReadsFile, ReadsFiles, files_there}
 use Rattle.ocfl_audit.specs.Lines.{named_at, named_in, notes}
 use Rattle.ocfl_item.specs.Looking.{IsFront, failures_by}
-use Rattle.ocfl_item.specs.Pending.{IsPending, IsUnhashed}
+use Rattle.ocfl_item.specs.Pending.{HasLines, IsPending, IsUnhashed}
 use Rattle.ocfl_audit.specs.Trail.{reads_inventory, content_trail, heads_of, inventory_of, is_head, is_meta, places_of}
 use Rattle.ocfl_item.specs.Meeting.{IsItemAt, IsVisit, MeetFails, Meets}
 use Rattle.ocfl_item.specs.Visiting.{IsBase}
@@ -33,10 +32,12 @@ use Rattle.ocfl_item.specs.Ways.{Enters, Stops}
 use Rattle.ocfl_item.specs.declared.fault.Fault.{Fault}
 use Rattle.ocfl_item.specs.declared.fault.Fault.TheVariants as fault
 use Rattle.ocfl_item.specs.declared.folder.Folder.{Folder}
+use Rattle.ocfl_item.specs.declared.lines.PlaceLines.{PlaceLines}
 use Rattle.ocfl_item.specs.declared.pending.Pending.{Pending}
 use Rattle.ocfl_item.specs.declared.visit.Visit.{Visit}
 use Rattle.ocfl_item.proofs.HeadLaws.{unknown_stops}
 use Rattle.ocfl_item.proofs.ItemLaws.{clean_some}
+use Rattle.ocfl_item.proofs.LinesLaws.{unhashed_at}
 use Rattle.ocfl_tree.proofs.Stores.{did_then}
 use Rattle.ocfl_item.proofs.LooksZones.{at_root, declared_root}
 use Rattle.ocfl_audit.specs.Head.{on}
@@ -71,12 +72,8 @@ declaration_at_root root p n v e f = (λ i. is_meta root (e i ++ f i ∷ [])) �
     by V1_1 = refl
 
 -- the storage root has lines, and nothing is hashed there
-pub root_unhashed : (root : StorageRoot) (p : Place) (d : Declared) (lines : List MadeLine) → p ≡ [] → d ≡ root_declared root → map line_of lines ≡ lines_at p (root_notes_by root d) → IsUnhashed root p lines
-root_unhashed root p d lines top same are = subst (λ x. IsUnhashed root x lines) (sym top) (record {
-  some = root_some root;
-  named = root_unnamed root;
-  lines = are ∙ (λ i. lines_at (top i) (root_notes_by root (same i)));
-})
+pub root_unhashed : (root : StorageRoot) (d : Declared) (l : PlaceLines) → l.place ≡ [] → d ≡ root_declared root → HasLines l (root_notes_by root d) → IsUnhashed root l
+root_unhashed root d l top same are = unhashed_at root l [] top (root_some root) (root_unnamed root) (are ∙ ap (λ x. lines_at l.place (root_notes_by root x)) same)
 
 -- ---- what was done
 

@@ -1,5 +1,5 @@
 -- What reading an object's inventory, and its head, did.
-use Rattle.std.proofs.Common.{◌≡◌, ◌≢◌, ℕ, ◌<◌, List, [], ◌∷◌, ◌++◌, refl, sym, ◌∙◌, ap, subst, true, false, Bool, Option, Some, None, arith, length, map}
+use Rattle.std.proofs.Common.{◌≡◌, ◌≢◌, ℕ, ◌<◌, List, [], ◌∷◌, ◌++◌, refl, sym, ◌∙◌, ap, subst, true, false, Bool, Option, Some, None, arith, length}
 use Rattle.std.proofs.lemmas.Bool.{le-leb, leb-true}
 use Rattle.std.proofs.lemmas.Map.Made.{AllPairs-from_IsDistinct}
 use Rattle.std.specs.List.{IsDistinct, list_all}
@@ -10,8 +10,7 @@ use Rattle.ocfl_tree.specs.Place.{Text, Place, text_eq}
 use Rattle.ocfl_tree.specs.StorageRoot.{StorageRoot, file_at}
 use Rattle.ocfl_tree.specs.Store.{Store}
 use Rattle.ocfl_tree.specs.declared.store.Entry.{Entry}
-use Rattle.ocfl_report.specs.Line.{Note, line_of, lines_at, plain}
-use Rattle.ocfl_report.specs.declared.line.Line.{Line as MadeLine}
+use Rattle.ocfl_report.specs.Line.{Note, lines_at, plain}
 use Rattle.ocfl_report.specs.declared.code.Code.TheVariants.{E007, E063, S02}
 use Rattle.ocfl_digest.specs.declared.bounded.Bounded.{Bounded}
 use Rattle.ocfl_digest.specs.declared.bounded.Bounded.TheVariants as bounded
@@ -28,14 +27,15 @@ use Rattle.ocfl_audit.specs.Zone.{skipped, hierarchy, inside, zone, root_declare
 use Rattle.ocfl_audit.specs.Head.{on, or_clean, is_exact_declaration, sidecar_name, sidecars_notes, inventory_part, inventory_file_notes, head_notes_by}
 use Rattle.ocfl_audit.specs.Lines.{notes, notes_in}
 use Rattle.ocfl_audit.specs.Trail.{is_object_meta}
-use Rattle.ocfl_item.specs.Pending.{Adds}
+use Rattle.ocfl_item.specs.Pending.{Adds, HasLines}
 use Rattle.ocfl_item.specs.Ways.{ReadsTable, IsObject, IsDeclared, IsHeadOf}
 use Rattle.ocfl_item.specs.HeadFiles.{IsFileAt, OpensJust, ReadsFiles, FilesStop, ReadsFile, ReadsSome, head_files, head_names, sidecars_for, table_in}
 use Rattle.ocfl_item.specs.declared.fault.Fault.{Fault}
 use Rattle.ocfl_item.specs.declared.fault.Fault.TheVariants as fault
+use Rattle.ocfl_item.specs.declared.lines.PlaceLines.{PlaceLines}
 use Rattle.ocfl_item.proofs.HeadTrails.{inventory_alone, inventory_opened}
 use Rattle.ocfl_audit.proofs.PathLaws.{notes_at}
-use Rattle.ocfl_item.proofs.WrongLaws.{adds_both}
+use Rattle.ocfl_item.proofs.LinesLaws.{adds_both, has_more}
 use Rattle.ocfl_item.proofs.FileLaws.{files_then, some_then, some_of, some_more, stop_more, stop_then, memory_after, some_is_meta, stop_is_meta}
 
 -- ---- the table
@@ -133,20 +133,20 @@ module _ (root : StorageRoot) (o : Place) where
 
   -- ---- the lines about an inventory
 
-  pub no_inventory_lines : (old new : List MadeLine) → file_at root (o ++ inventory_name ∷ []) ≡ None → Adds old new o (plain E063 ∷ []) → Adds old new o (inventory_file_notes root o (file_at root (o ++ inventory_name ∷ [])))
-  no_inventory_lines old new none h = subst (λ f. Adds old new o (inventory_file_notes root o f)) (sym none) h
+  pub no_inventory_lines : (old new : PlaceLines) → file_at root (o ++ inventory_name ∷ []) ≡ None → Adds old new (plain E063 ∷ []) → Adds old new (inventory_file_notes root o (file_at root (o ++ inventory_name ∷ [])))
+  no_inventory_lines old new none h = subst (λ f. Adds old new (inventory_file_notes root o f)) (sym none) h
 
-  pub long_inventory_lines : (old new : List MadeLine) → IsFileAt root (o ++ inventory_name ∷ []) inventory_limit (Some bounded.Over) → Adds old new o (plain S02 ∷ []) → Adds old new o (inventory_file_notes root o (file_at root (o ++ inventory_name ∷ [])))
+  pub long_inventory_lines : (old new : PlaceLines) → IsFileAt root (o ++ inventory_name ∷ []) inventory_limit (Some bounded.Over) → Adds old new (plain S02 ∷ []) → Adds old new (inventory_file_notes root o (file_at root (o ++ inventory_name ∷ [])))
   long_inventory_lines old new is h =
-      subst (λ f. Adds old new o (inventory_file_notes root o f)) (sym is.1)
-      (subst (λ b. Adds old new o (cond b (sidecars_notes root o is.0 ++ inventory_part root o is.0 (algorithm_of is.0)) (plain S02 ∷ []))) (sym (not_within (length is.0) inventory_limit is.2)) h)
+      subst (λ f. Adds old new (inventory_file_notes root o f)) (sym is.1)
+      (subst (λ b. Adds old new (cond b (sidecars_notes root o is.0 ++ inventory_part root o is.0 (algorithm_of is.0)) (plain S02 ∷ []))) (sym (not_within (length is.0) inventory_limit is.2)) h)
 
-  pub inventory_lines : (old new : List MadeLine) (v : Vec ℕ Global) (bytes : Text) → IsFileAt root (o ++ inventory_name ∷ []) inventory_limit (Some (bounded.Whole v)) → bytes ≡ v.items → Adds old new o (sidecars_notes root o bytes ++ inventory_part root o bytes (algorithm_of bytes))
-      → Adds old new o (inventory_file_notes root o (file_at root (o ++ inventory_name ∷ [])))
+  pub inventory_lines : (old new : PlaceLines) (v : Vec ℕ Global) (bytes : Text) → IsFileAt root (o ++ inventory_name ∷ []) inventory_limit (Some (bounded.Whole v)) → bytes ≡ v.items → Adds old new (sidecars_notes root o bytes ++ inventory_part root o bytes (algorithm_of bytes))
+      → Adds old new (inventory_file_notes root o (file_at root (o ++ inventory_name ∷ [])))
   inventory_lines old new v bytes is same h =
-      let k : Adds old new o (sidecars_notes root o is.0 ++ inventory_part root o is.0 (algorithm_of is.0)) = subst (λ b. Adds old new o (sidecars_notes root o b ++ inventory_part root o b (algorithm_of b))) (same ∙ is.2.0) h in
-      subst (λ f. Adds old new o (inventory_file_notes root o f)) (sym is.1)
-      (subst (λ b. Adds old new o (cond b (sidecars_notes root o is.0 ++ inventory_part root o is.0 (algorithm_of is.0)) (plain S02 ∷ []))) (sym (le-leb (length is.0) inventory_limit is.2.1)) k)
+      let k : Adds old new (sidecars_notes root o is.0 ++ inventory_part root o is.0 (algorithm_of is.0)) = subst (λ b. Adds old new (sidecars_notes root o b ++ inventory_part root o b (algorithm_of b))) (same ∙ is.2.0) h in
+      subst (λ f. Adds old new (inventory_file_notes root o f)) (sym is.1)
+      (subst (λ b. Adds old new (cond b (sidecars_notes root o is.0 ++ inventory_part root o is.0 (algorithm_of is.0)) (plain S02 ∷ []))) (sym (le-leb (length is.0) inventory_limit is.2.1)) k)
 
 -- ---- the head
 
@@ -223,22 +223,19 @@ declaration_is_meta n v e = ap (λ m. is_object_meta (m ∷ [])) e ∙ by v
 pub head_declaration : (root : StorageRoot) (o : Place) (s t : Store) (n m : Text) (limit : ℕ) (r : Result (Option Bounded) Fault) → n ≡ m → ReadsFile root s t o n limit r → ReadsFile root s t o m limit r
 head_declaration root o s t n m limit r e h = subst (λ x. ReadsFile root s t o x limit r) e h
 
-pub first_added : (old new : List MadeLine) (p : Place) (ns : List Note) → old ≡ [] → Adds old new p ns → Adds [] new p ns
-first_added old new p ns none h = subst (λ x. Adds x new p ns) none h
-
 module _ (root : StorageRoot) (o : Place) (z : zone root o ≡ inside o []) (v : Version) where
-  pub known_lines : (a b c : List MadeLine) → object_declared root o ≡ known v → Adds [] a o (on (not (is_exact_declaration root o level.Object v)) (plain E007)) → Adds a b o (inventory_file_notes root o (file_at root (o ++ inventory_name ∷ [])))
-      → ((ns : List Note) → Adds [] b o ns → Adds [] c o (or_clean ns)) → map line_of c ≡ lines_at o (notes root None o)
-  known_lines a b c is h k clean =
-      clean (on (not (is_exact_declaration root o level.Object v)) (plain E007) ++ inventory_file_notes root o (file_at root (o ++ inventory_name ∷ []))) (adds_both [] a b o _ _ h k)
-      ∙ ap (lines_at o) (sym (head_notes_are root o z ∙ ap (head_notes_by root o) is))
+  pub known_lines : (none a b c : PlaceLines) → object_declared root o ≡ known v → HasLines none [] → Adds none a (on (not (is_exact_declaration root o level.Object v)) (plain E007)) → Adds a b (inventory_file_notes root o (file_at root (o ++ inventory_name ∷ [])))
+      → ((ns : List Note) → HasLines b ns → HasLines c (or_clean ns)) → HasLines c (notes root None o)
+  known_lines none a b c is has h k clean =
+      clean (on (not (is_exact_declaration root o level.Object v)) (plain E007) ++ inventory_file_notes root o (file_at root (o ++ inventory_name ∷ []))) (has_more none b [] _ has (adds_both none a b _ _ h k))
+      ∙ ap (lines_at c.place) (sym (head_notes_are root o z ∙ ap (head_notes_by root o) is))
 
 pub known_table : (root : StorageRoot) (o : Place) (v : Version) (table : Option Table) → object_declared root o ≡ known v → table ≡ table_in (file_at root (o ++ inventory_name ∷ [])) → table ≡ table_at root o
 known_table root o v table same given = given ∙ sym (ap (λ d. table_in (cond (is_known d) (file_at root (o ++ inventory_name ∷ [])) None)) same)
 
-pub stopped_head : (root : StorageRoot) (o : Place) (es : List Entry) (m : MadeDeclared) (lines : Vec MadeLine Global) → IsDeclared root o es m → is_known (meaning level.Object es m) ≡ false → Adds [] lines.items o (head_notes_by root o (meaning level.Object es m))
+pub stopped_head : (root : StorageRoot) (o : Place) (es : List Entry) (m : MadeDeclared) (lines : PlaceLines) → IsDeclared root o es m → is_known (meaning level.Object es m) ≡ false → HasLines lines (head_notes_by root o (meaning level.Object es m))
     → IsHeadOf root o (lines, None)
 stopped_head root o es m lines h stops k = (
-  k ∙ ap (lines_at o) (sym (head_notes_are root o h.zone ∙ ap (head_notes_by root o) (sym h.says))),
+  k ∙ ap (lines_at lines.place) (sym (head_notes_are root o h.zone ∙ ap (head_notes_by root o) (sym h.says))),
   sym (ap (λ b. table_in (cond b (file_at root (o ++ inventory_name ∷ [])) None)) (ap is_known (sym h.says) ∙ stops)),
 )

@@ -1,20 +1,18 @@
 -- The lines of an object's head, from files that were read before.
-use Rattle.std.proofs.Common.{◌≡◌, ℕ, ◌<◌, ◌≤◌, List, [], ◌∷◌, ◌++◌, Bool, true, false, Option, Some, None, Result, Ok, Err, OnOk, length, map, refl, sym, ◌∙◌, ap, subst, arith}
+use Rattle.std.proofs.Common.{◌≡◌, ℕ, ◌<◌, ◌≤◌, List, [], ◌∷◌, ◌++◌, Bool, true, false, Option, Some, None, Ok, Err, length, refl, sym, ◌∙◌, ap, subst, arith}
 use Rattle.std.specs.Prelude.{◌&&◌, nat_eq, is_some, slice_get, IfSome}
 use Rattle.std.specs.List.{starts_with}
 use Rattle.std.specs.Result.{result_ok}
 use Rattle.std.proofs.lemmas.Slice.Eq.{starts_is}
 use Rattle.std.proofs.lemmas.Bool.Decides.{Decides-eqb}
-use Rattle.std.proofs.lemmas.List.{append-nil}
 use Rattle.ocfl_tree.specs.Place.{Place, Text, text_eq}
 use Rattle.ocfl_tree.specs.StorageRoot.{StorageRoot, file_at}
 use Rattle.ocfl_tree.specs.declared.store.Entry.{Entry}
 use Rattle.ocfl_tree.specs.declared.store.Kind.{Kind}
 use Rattle.ocfl_tree.specs.declared.store.Kind.TheVariants.{File, Dir, Other}
 use Rattle.ocfl_tree.proofs.Orders.{true_not_false}
-use Rattle.ocfl_report.specs.Line.{Note, note, line_of}
+use Rattle.ocfl_report.specs.Line.{Note, note}
 use Rattle.ocfl_report.specs.declared.code.Code.TheVariants.{S01}
-use Rattle.ocfl_report.specs.declared.line.Line.{Line as MadeLine}
 use Rattle.ocfl_digest.specs.Bounded.{IsBoundedTo}
 use Rattle.ocfl_digest.specs.declared.algorithm.Algorithm.{Algorithm}
 use Rattle.ocfl_digest.specs.declared.bounded.Bounded.{Bounded}
@@ -29,28 +27,11 @@ use Rattle.ocfl_inventory.specs.declared.declaration.Declared.{Declared as MadeD
 use Rattle.ocfl_inventory.specs.declared.declaration.Declared.TheVariants as made
 use Rattle.ocfl_inventory.specs.declared.declaration.Version.{Version}
 use Rattle.ocfl_inventory.specs.declared.declaration.Version.TheVariants.{V1_0, V1_1}
-use Rattle.ocfl_audit.specs.Head.{on, is_exact_declaration, inventory_part}
+use Rattle.ocfl_audit.specs.Head.{is_exact_declaration, inventory_part}
 use Rattle.ocfl_item.specs.HeadFiles.{IsFileAt}
 use Rattle.ocfl_item.specs.HeadLines.{declared_notes, named_notes}
-use Rattle.ocfl_item.specs.Pending.{Adds}
 use Rattle.ocfl_audit.proofs.BelowLaws.{text_from_test}
-use Rattle.ocfl_item.proofs.WrongLaws.{adds_both}
 use Rattle.ocfl_item.proofs.InventoryLaws.{stopped_notes, stated_has_sidecar}
-
--- ---- lines that are there or not
-
-pub adds_none : (old : List MadeLine) (p : Place) → Adds old old p []
-adds_none old p = sym (append-nil (map line_of old))
-
-pub adds_not : (old : List MadeLine) (p : Place) (b : Bool) (n : Note) → b ≡ false → Adds old old p (on b n)
-adds_not old p b n h = subst (λ c. Adds old old p (on c n)) (sym h) (adds_none old p)
-
-pub adds_two : {X E : Type 0} (old mid new : List MadeLine) (p : Place) (r : Result X E) (ms ns : List Note) → Adds old mid p ms → OnOk r (Adds mid new p ns) → OnOk r (Adds old new p (ms ++ ns))
-adds_two old mid new p (Ok _) ms ns h k = adds_both old mid new p ms ns h k
-adds_two old mid new p (Err e) ms ns h k = tt
-
-pub adds_three : {E : Type 0} (old one two new : List MadeLine) (p : Place) (r : Result (Unit {0}) E) (ls ms ns : List Note) → Adds old one p ls → Adds one two p ms → OnOk r (Adds two new p ns) → OnOk r (Adds old new p (ls ++ ms ++ ns))
-adds_three old one two new p r ls ms ns h k l = adds_two old two new p r (ls ++ ms) ns (adds_both old one two p ls ms h k) l
 
 -- ---- declarations
 

@@ -1,12 +1,10 @@
 -- What reading an object's head did, as a visit says it.
-use Rattle.std.specs.declared.alloc.Global.{Global}
 use Rattle.std.proofs.Common.{◌≡◌, ℕ, List, [], ◌∷◌, ◌++◌, refl, sym, ◌∙◌, ap, subst, Option}
-use Rattle.std.specs.Prelude.{IfOk, Result, Ok, Err, Vec}
+use Rattle.std.specs.Prelude.{IfOk, Result, Ok, Err}
 use Rattle.std.proofs.lemmas.List.{append_cancel_left}
 use Rattle.ocfl_tree.specs.Place.{Place}
 use Rattle.ocfl_tree.specs.StorageRoot.{StorageRoot}
 use Rattle.ocfl_tree.specs.Store.{Store, Did}
-use Rattle.ocfl_report.specs.declared.line.Line.{Line as MadeLine}
 use Rattle.ocfl_inventory.specs.Table.{Table}
 use Rattle.ocfl_item.specs.Looking.{IsFront, failures_by}
 use Rattle.ocfl_item.specs.Auditing.{FailedAt}
@@ -18,6 +16,7 @@ use Rattle.ocfl_item.specs.HeadFiles.{OpensJust, files_there, head_files}
 use Rattle.ocfl_item.specs.Ways.{IsHeadOf}
 use Rattle.ocfl_item.specs.Visiting.{HeadRead}
 use Rattle.ocfl_item.specs.declared.fault.Fault.{Fault}
+use Rattle.ocfl_item.specs.declared.lines.PlaceLines.{PlaceLines}
 use Rattle.ocfl_item.proofs.FileLaws.{some_is_meta, some_of, stop_is_meta}
 use Rattle.ocfl_item.proofs.HeadCalls.{head_files_apart, head_files_meta}
 use Rattle.ocfl_item.proofs.HeadTrails.{heads_append, heads_are, heads_at, heads_exact}
@@ -33,7 +32,7 @@ nothing_listed (l ∷ ls) h = absurd (filled h.1)
 same_trail : (s t : Store) (os ps : List Opening) (ls ms : List Place) (f g : ℕ) → Did s t os ls f → Did s t ps ms g → os ≡ ps
 same_trail s t os ps ls ms f g h k = append_cancel_left s.openings os ps (sym h.openings_are ∙ k.openings_are)
 
-pub head_read_from : (root : StorageRoot) (s t : Store) (o : Place) (r : Result (Vec MadeLine Global × Option Table) Fault) → zone root o ≡ inside o []
+pub head_read_from : (root : StorageRoot) (s t : Store) (o : Place) (r : Result (PlaceLines × Option Table) Fault) → zone root o ≡ inside o []
     → OpensJust root s t o (head_files root o (object_declared root o)) r → IfOk r (IsHeadOf root o) → HeadRead root s t o r
 head_read_from root s t o (Ok p) z k is =
     let names = head_files root o (object_declared root o) in

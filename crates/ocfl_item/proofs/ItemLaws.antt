@@ -1,18 +1,19 @@
 -- The item at a place, from what was looked at.
-use Rattle.std.proofs.Common.{arith, ◌≡◌, ◌≢◌, List, [], ◌∷◌, refl, sym, ◌∙◌, ap, true, None, map}
+use Rattle.std.proofs.Common.{arith, ◌≡◌, ◌≢◌, List, [], ◌∷◌, refl, sym, ◌∙◌, ap, true, None}
 use Rattle.ocfl_tree.specs.Place.{Place}
 use Rattle.ocfl_tree.specs.StorageRoot.{StorageRoot}
-use Rattle.ocfl_report.specs.Line.{Note, line_of, lines_at}
-use Rattle.ocfl_report.specs.declared.line.Line.{Line as MadeLine}
+use Rattle.ocfl_report.specs.Line.{Note}
 use Rattle.ocfl_audit.specs.Zone.{Zone, skipped, hierarchy, inside, zone, object_declared}
 use Rattle.ocfl_audit.specs.Lines.{notes}
 use Rattle.ocfl_audit.specs.Trail.{is_head}
-use Rattle.ocfl_item.specs.Pending.{IsUnhashed}
+use Rattle.ocfl_item.specs.Pending.{HasLines, IsUnhashed}
+use Rattle.ocfl_item.specs.declared.lines.PlaceLines.{PlaceLines}
 use Rattle.ocfl_inventory.specs.Declaration.{Declared, undeclared, known, unknown, several, is_declared}
 use Rattle.ocfl_audit.specs.Head.{or_clean, head_notes_by}
 use Rattle.ocfl_tree.proofs.Orders.{true_not_false}
 use Rattle.ocfl_audit.proofs.AuditExists.{zone_is, append_nothing}
 use Rattle.ocfl_item.proofs.HeadCalls.{head_notes_are}
+use Rattle.ocfl_item.proofs.LinesLaws.{unhashed_at}
 use Rattle.ocfl_item.proofs.VisitLaws.{named_short}
 
 pub clean_some : (ns : List Note) → or_clean ns ≢ []
@@ -35,11 +36,7 @@ head_zone root p e = by (zone root p) refl e
     by (inside o (n ∷ q)) h g = absurd (true_not_false (sym g))
 
 -- an object's head has lines, and nothing is hashed there
-pub head_unhashed : (root : StorageRoot) (p : Place) (lines : List MadeLine) → is_head (zone root p) ≡ true → map line_of lines ≡ lines_at p (notes root None p) → IsUnhashed root p lines
-head_unhashed root p lines e are =
+pub head_unhashed : (root : StorageRoot) (p : Place) (l : PlaceLines) → is_head (zone root p) ≡ true → l.place ≡ p → HasLines l (notes root None p) → IsUnhashed root l
+head_unhashed root p l e at are =
     let z : zone root p ≡ inside p [] = head_zone root p e in
-    record {
-      some = λ g. head_some root p (object_declared root p) (zone_is root p p [] z).declares (sym (head_notes_are root p z) ∙ g);
-      named = named_short root p p [] z (omega arith);
-      lines = are;
-    }
+    unhashed_at root l p at (λ g. head_some root p (object_declared root p) (zone_is root p p [] z).declares (sym (head_notes_are root p z) ∙ g)) (named_short root p p [] z (omega arith)) are

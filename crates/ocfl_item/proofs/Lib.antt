@@ -8,6 +8,7 @@ pub mod MissingLaws
 pub mod WantedLaws
 pub mod ContentLaws
 pub mod PendingLaws
+pub mod LinesLaws
 pub mod WrongLaws
 pub mod JudgeLaws
 pub mod InventoryLaws

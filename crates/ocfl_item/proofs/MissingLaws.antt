@@ -8,16 +8,16 @@ use Rattle.std.specs.Prelude.{codes, if◌then◌else◌}
 use Rattle.ocfl_report.specs.declared.code.Code.TheVariants.{E092, E093}
 use Rattle.std.specs.declared.cmp.Ordering.{Ordering}
 use Rattle.std.specs.declared.cmp.Ordering.TheVariants.{Less, Equal, Greater}
-use Rattle.ocfl_tree.specs.Place.{Text, Place, text_cmp}
+use Rattle.ocfl_tree.specs.Place.{Text, text_cmp}
 use Rattle.ocfl_tree.specs.Ascending.{IsAscending, insert_once, ascending}
 use Rattle.ocfl_report.specs.Line.{Note, note, line_of, lines_at}
-use Rattle.ocfl_report.specs.declared.line.Line.{Line as MadeLine}
 use Rattle.ocfl_digest.specs.Algorithm.{algorithm_name, algorithm_cmp}
 use Rattle.ocfl_inventory.specs.Table.{Named, named_cmp}
 use Rattle.ocfl_audit.specs.Head.{on}
 use Rattle.ocfl_audit.specs.Lines.{block_cmp, missing_notes}
 use Rattle.ocfl_inventory.specs.TripleView.{named_view}
 use Rattle.ocfl_item.specs.Pending.{Adds, is_repeated, missing_note}
+use Rattle.ocfl_item.specs.declared.lines.PlaceLines.{PlaceLines}
 use Rattle.ocfl_inventory.specs.declared.triple.Named.{Named as MadeNamed}
 use Rattle.ocfl_item.proofs.NamedLaws.{algorithm_cmp_total}
 
@@ -103,9 +103,11 @@ missing_in_order (m ∷ ms) h = let b = blocks m ms h in ap (map missing_note) b
 
 -- ---- the loop over the digests
 
-pub missing_done : (old new : List MadeLine) (p : Place) (ns : List MadeNamed) (i : ℕ) (before : Option Named) → length ns ≤ i
-    → map line_of new ++ lines_at p (notes_behind before (map named_view (drop i ns))) ≡ map line_of old ++ lines_at p (notes_behind None (map named_view ns))
-    → IsAscending named_cmp (map named_view ns) → Adds old new p (missing_notes (map named_view ns))
-missing_done old new p ns i before l so_far ascend =
-    sym (append-nil (map line_of new)) ∙ sym (at_drop_all (λ ms. map line_of new ++ lines_at p (notes_behind before (map named_view ms))) ns i l) ∙ so_far
-    ∙ ap (λ ms. map line_of old ++ lines_at p ms) (sym (missing_in_order (map named_view ns) ascend))
+pub missing_done : (old new : PlaceLines) (ns : List MadeNamed) (i : ℕ) (before : Option Named) → length ns ≤ i
+    → (new.place ≡ old.place) × (map line_of new.lines.items ++ lines_at old.place (notes_behind before (map named_view (drop i ns))) ≡ map line_of old.lines.items ++ lines_at old.place (notes_behind None (map named_view ns)))
+    → IsAscending named_cmp (map named_view ns) → Adds old new (missing_notes (map named_view ns))
+missing_done old new ns i before l so_far ascend = (
+  so_far.0,
+  sym (append-nil (map line_of new.lines.items)) ∙ sym (at_drop_all (λ ms. map line_of new.lines.items ++ lines_at old.place (notes_behind before (map named_view ms))) ns i l) ∙ so_far.1
+      ∙ ap (λ ms. map line_of old.lines.items ++ lines_at old.place ms) (sym (missing_in_order (map named_view ns) ascend)),
+)

@@ -10,8 +10,9 @@ use Rattle.ocfl_tree.specs.Ascending.{IsAscending}
 use Rattle.ocfl_audit.specs.Lines.{is_empty, notes, missing_notes, is_hashed, named_at}
 use Rattle.ocfl_item.specs.Looking.{IsSight, content_at}
 use Rattle.ocfl_inventory.specs.TripleView.{named_view}
-use Rattle.ocfl_item.specs.Pending.{IsPending, is_read, sight_notes}
+use Rattle.ocfl_item.specs.Pending.{HasLines, IsPending, is_read, sight_notes}
 use Rattle.ocfl_inventory.specs.declared.triple.Named.{Named as MadeNamed}
+use Rattle.ocfl_item.specs.declared.lines.PlaceLines.{PlaceLines}
 use Rattle.ocfl_item.specs.declared.pending.Pending.{Pending}
 use Rattle.ocfl_item.specs.declared.sight.Sight.{Sight}
 use Rattle.ocfl_item.proofs.ContentLaws.{content_is, hashed_by_sight, hashed_file, known_by_sight}
@@ -58,9 +59,9 @@ module _ (root : StorageRoot) (p q : Place) (t : Table) (ns : List MadeNamed) (s
       }
 
   -- the lines that were made, at the place itself
-  pub known_lines_are : (ms : List MadeNamed) (place : Place) (lines : List MadeLine) → ms ≡ ns → place ≡ p
-      → (IsAscending named_cmp (map named_view ms) → map line_of lines ≡ lines_at place (sight_notes s ++ missing_notes (map named_view ms))) → map line_of lines ≡ lines_at p (sight_notes s ++ missing_notes (map named_view ns))
-  known_lines_are ms place lines same at made =
+  pub known_lines_are : (ms : List MadeNamed) (l : PlaceLines) → ms ≡ ns → l.place ≡ p
+      → (IsAscending named_cmp (map named_view ms) → HasLines l (sight_notes s ++ missing_notes (map named_view ms))) → map line_of l.lines.items ≡ lines_at p (sight_notes s ++ missing_notes (map named_view ns))
+  known_lines_are ms l same at made =
       made (subst (λ xs. IsAscending named_cmp (map named_view xs)) (sym same) names_ascend) ∙ (λ i. lines_at (at i) (sight_notes s ++ missing_notes (map named_view (same i))))
 
   pub pending_known : (made : Pending) → made.place ≡ p → made.named.items ≡ ns → made.hashed ≡ false → is_read s (map named_view ns) ≡ false

@@ -13,7 +13,6 @@ use Rattle.ocfl_tree.specs.declared.store.Kind.TheVariants as kind
 use Rattle.ocfl_tree.proofs.Orders.{true_not_false}
 use Rattle.ocfl_report.specs.Line.{Note, plain, line_of, lines_at}
 use Rattle.ocfl_report.specs.declared.code.Code.{Code}
-use Rattle.ocfl_report.specs.declared.line.Line.{Line as MadeLine}
 use Rattle.ocfl_report.specs.declared.code.Code.TheVariants.{E001, E015, E024, S04, S05}
 use Rattle.ocfl_inventory.specs.Table.{Table, Named, named}
 use Rattle.ocfl_inventory.specs.TripleView.{named_view}
@@ -27,13 +26,14 @@ use Rattle.ocfl_audit.specs.Walk.{is_reached, seen_names}
 use Rattle.ocfl_audit.specs.Trail.{heads_of, is_head, reads_inventory}
 use Rattle.ocfl_audit.specs.Between.{is_looked_into, shows_entries}
 use Rattle.ocfl_item.specs.Looking.{IsFront, IsSight, content_in, content_at}
-use Rattle.ocfl_item.specs.Pending.{Adds, IsPending, IsUnhashed}
+use Rattle.ocfl_item.specs.Pending.{HasLines, IsPending, IsUnhashed}
 use Rattle.ocfl_item.specs.Ways.{Enters, Stops, is_listable}
 use Rattle.ocfl_item.specs.Meeting.{IsFolderAt, IsItemAt, IsTableAt, IsVisit, Meets, MeetFails, Visits}
 use Rattle.ocfl_item.specs.Visiting.{HasRole, IsEntryAt, IsListedAt, IsPlainAt, IsShut}
 use Rattle.ocfl_item.specs.declared.fault.Fault.{Fault}
 use Rattle.ocfl_item.specs.declared.fault.Fault.TheVariants as fault
 use Rattle.ocfl_item.specs.declared.folder.Folder.{Folder}
+use Rattle.ocfl_item.specs.declared.lines.PlaceLines.{PlaceLines}
 use Rattle.ocfl_item.specs.declared.pending.Pending.{Pending}
 use Rattle.ocfl_item.specs.declared.role.Role.TheVariants as role
 use Rattle.ocfl_item.specs.declared.visit.Visit.{Visit}
@@ -43,26 +43,22 @@ use Rattle.ocfl_item.proofs.LooksZones.{leaf_dir, entered_from}
 use Rattle.ocfl_item.proofs.LooksEntries.{emptied, not_emptied}
 use Rattle.ocfl_item.proofs.AuditingLaws.{did_nothing, front_all, front_none, none_once}
 use Rattle.ocfl_item.proofs.ShutLaws.{listed_shows, looked_at, no_head_unread, shut_no_dir, shut_zone}
-use Rattle.ocfl_item.proofs.WrongLaws.{first_lines}
+use Rattle.ocfl_item.proofs.LinesLaws.{unhashed_at}
 use Rattle.ocfl_audit.proofs.PathLaws.{named_path, notes_at}
 use Rattle.ocfl_audit.proofs.AuditExists.{IsInside, zone_is}
 
 -- ---- the item of one line
 
-pub unhashed_pending : (root : StorageRoot) (e : Place) (made : Pending) → IsUnhashed root e made.lines.items → made.place ≡ e → made.hashed ≡ false → made.named.items ≡ [] → IsPending root made
-unhashed_pending root e made h place unhashed unnamed = record {
+pub unhashed_pending : (root : StorageRoot) (l : PlaceLines) (made : Pending) → IsUnhashed root l → made.place ≡ l.place → made.lines ≡ l.lines → made.hashed ≡ false → made.named.items ≡ [] → IsPending root made
+unhashed_pending root l made h place lines unhashed unnamed = record {
   some = subst (λ x. notes root None x ≢ []) (sym place) h.some;
-  hashed = unhashed ∙ sym (ap (is_hashed root) place ∙ ap (λ ns. nat_lt 0 (cost_of ns None (seen root e))) h.named);
+  hashed = unhashed ∙ sym (ap (is_hashed root) place ∙ ap (λ ns. nat_lt 0 (cost_of ns None (seen root l.place))) h.named);
   named = ap (map named_view) unnamed ∙ sym (ap (named_at root) place ∙ h.named);
-  lines = λ g. subst (λ x. map line_of made.lines.items ≡ lines_at x (notes root None x)) (sym place) h.lines;
+  lines = λ g. ap (λ v. map line_of v.items) lines ∙ h.lines ∙ ap (λ x. lines_at x (notes root None x)) (sym place);
 }
 
-pub plain_unhashed : (root : StorageRoot) (e : Place) (code : Code) (old new : List MadeLine) → IsPlainAt root e (plain code ∷ []) → old ≡ [] → Adds old new e (plain code ∷ []) → IsUnhashed root e new
-plain_unhashed root e code old new h none adds = record {
-  some = λ g. filled (sym h.lines ∙ g);
-  named = h.named;
-  lines = first_lines old new e (plain code ∷ []) (notes root None e) none adds (sym h.lines);
-}
+pub plain_unhashed : (root : StorageRoot) (e : Place) (code : Code) (l : PlaceLines) → IsPlainAt root e (plain code ∷ []) → l.place ≡ e → HasLines l (plain code ∷ []) → IsUnhashed root l
+plain_unhashed root e code l h at are = unhashed_at root l e at (λ g. filled (sym h.lines ∙ g)) h.named (are ∙ ap (lines_at l.place) (sym h.lines))
   where
     filled : plain code ∷ [] ≡ [] → ⊥
     filled g = cc

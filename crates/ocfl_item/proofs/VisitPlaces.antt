@@ -1,5 +1,5 @@
 -- Entries of the storage hierarchy: what lies outside objects, and objects.
-use Rattle.std.proofs.Common.{◌≡◌, ◌≢◌, suc, ◌+◌, ◌-◌, ◌<◌, ◌≤◌, List, [], ◌∷◌, ◌++◌, refl, sym, ◌∙◌, ap, subst, true, false, Bool, Option, Some, None, arith, length, map}
+use Rattle.std.proofs.Common.{◌≡◌, ◌≢◌, suc, ◌+◌, ◌-◌, ◌<◌, ◌≤◌, List, [], ◌∷◌, ◌++◌, refl, sym, ◌∙◌, ap, subst, true, false, Bool, Option, Some, None, arith, length}
 use Rattle.std.specs.Prelude.{cond, nat_eq, nat_le, option_map, codes, ◌&&◌, Result, Ok, Err, IfErr, IfOk}
 use Rattle.std.specs.List.{list_all}
 use Rattle.std.proofs.lemmas.List.{length-append}
@@ -12,8 +12,7 @@ use Rattle.ocfl_tree.specs.declared.store.Entry.{Entry}
 use Rattle.ocfl_tree.specs.declared.store.Kind.{Kind}
 use Rattle.ocfl_tree.specs.declared.store.Kind.TheVariants as kind
 use Rattle.ocfl_tree.proofs.Orders.{true_not_false}
-use Rattle.ocfl_report.specs.Line.{Note, line_of, lines_at, plain}
-use Rattle.ocfl_report.specs.declared.line.Line.{Line as MadeLine}
+use Rattle.ocfl_report.specs.Line.{Note, plain}
 use Rattle.ocfl_report.specs.declared.code.Code.TheVariants.{E072, E073, S04, S05}
 use Rattle.ocfl_inventory.specs.Table.{Table}
 use Rattle.ocfl_inventory.specs.Declaration.{undeclared, declared, is_declared}
@@ -27,7 +26,7 @@ use Rattle.ocfl_audit.specs.Lines.{notes, notes_in, named_in, is_empty, listed_d
 use Rattle.ocfl_audit.specs.Walk.{is_extensions, is_reached, seen_names, step_zone}
 use Rattle.ocfl_audit.specs.Trail.{is_head}
 use Rattle.ocfl_item.specs.Looking.{IsFront, failures_by}
-use Rattle.ocfl_item.specs.Pending.{IsPending, IsUnhashed}
+use Rattle.ocfl_item.specs.Pending.{HasLines, IsPending, IsUnhashed}
 use Rattle.ocfl_item.specs.Ways.{Enters, IsDeclared, is_listable}
 use Rattle.ocfl_item.specs.Meeting.{IsFairVisit, IsFolderAt, IsItemAt, IsTableAt, IsVisit, Meets, MeetFails, Visits}
 use Rattle.ocfl_item.specs.Around.{IsMet}
@@ -35,6 +34,7 @@ use Rattle.ocfl_item.specs.Visiting.{HasRole, HeadRead, IsDirectoryAt, IsEntryAt
 use Rattle.ocfl_item.specs.declared.fault.Fault.{Fault}
 use Rattle.ocfl_item.specs.declared.fault.Fault.TheVariants as fault
 use Rattle.ocfl_item.specs.declared.folder.Folder.{Folder}
+use Rattle.ocfl_item.specs.declared.lines.PlaceLines.{PlaceLines}
 use Rattle.ocfl_item.specs.declared.pending.Pending.{Pending}
 use Rattle.ocfl_item.specs.declared.meeting.Around.{Around}
 use Rattle.ocfl_item.specs.declared.role.Role.TheVariants as role
@@ -307,8 +307,8 @@ module _ (root : StorageRoot) (o : Place) (es : List Entry) (m : MadeDeclared) (
   pub head_here : is_head (zone root o) ≡ true
   head_here = ap is_head h.zone
 
-  pub head_item : (lines : List MadeLine) (made : Pending) (place : Place) → map line_of lines ≡ lines_at o (notes root None o) → place ≡ o → made.place ≡ place → (IsUnhashed root place lines → IsPending root made) → IsPending root made × (made.place ≡ o)
-  head_item lines made place are at same told = (told (subst (λ x. IsUnhashed root x lines) (sym at) (head_unhashed root o lines head_here are)), same ∙ at)
+  pub head_item : (l : PlaceLines) (made : Pending) → HasLines l (notes root None o) → l.place ≡ o → made.place ≡ l.place → (IsUnhashed root l → IsPending root made) → IsPending root made × (made.place ≡ o)
+  head_item l made are at same told = (told (head_unhashed root o l head_here at are), same ∙ at)
 
   pub stopped_visit : (v : Visit) (p : Pending) → v.item ≡ Some p → v.folder ≡ None → v.table ≡ None → IsPending root p × (p.place ≡ o) → table_at root o ≡ None → IsVisit root o v
   stopped_visit v p item folder table pending none = record {

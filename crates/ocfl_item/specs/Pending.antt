@@ -1,14 +1,13 @@
 -- What is known of an item before its file is read.
 use Rattle.std.specs.Prelude.{◌≡◌, ◌≢◌, List, [], ◌∷◌, ◌++◌, Bool, false, not, Option, Some, None, map, codes}
 use Rattle.std.specs.Ordering.{is_eq}
-use Rattle.ocfl_tree.specs.Place.{Place}
 use Rattle.ocfl_tree.specs.StorageRoot.{StorageRoot}
 use Rattle.ocfl_report.specs.Line.{Note, note, plain, line_of, lines_at}
 use Rattle.ocfl_report.specs.declared.code.Code.TheVariants.{E023, E024, S04, S05}
-use Rattle.ocfl_report.specs.declared.line.Line.{Line as MadeLine}
 use Rattle.ocfl_digest.specs.Algorithm.{algorithm_name}
 use Rattle.ocfl_inventory.specs.Table.{Named}
 use Rattle.ocfl_inventory.specs.TripleView.{named_view}
+use Rattle.ocfl_item.specs.declared.lines.PlaceLines.{PlaceLines}
 use Rattle.ocfl_item.specs.declared.pending.Pending.{Pending}
 use Rattle.ocfl_item.specs.declared.sight.Sight.{Sight}
 use Rattle.ocfl_item.specs.declared.sight.Sight.TheVariants as sight
@@ -21,15 +20,19 @@ pub record IsPending (root : StorageRoot) (p : Pending) : Type 0 where
   pub named : map named_view p.named.items ≡ named_at root p.place
   pub lines : p.hashed ≡ false → map line_of p.lines.items ≡ lines_at p.place (notes root None p.place)
 
--- a place with these lines, at which no file is hashed and for which no digest is named
-pub record IsUnhashed (root : StorageRoot) (p : Place) (made : List MadeLine) : Type 0 where
-  pub some : notes root None p ≢ []
-  pub named : named_at root p ≡ []
-  pub lines : map line_of made ≡ lines_at p (notes root None p)
+-- these are the lines
+abbrev pub HasLines : PlaceLines → List Note → Type 0
+HasLines l ns = map line_of l.lines.items ≡ lines_at l.place ns
 
--- behind the old lines stand these of the place
-abbrev pub Adds : List MadeLine → List MadeLine → Place → List Note → Type 0
-Adds old new p ns = map line_of new ≡ map line_of old ++ lines_at p ns
+-- behind the old lines stand these, of the same place
+abbrev pub Adds : PlaceLines → PlaceLines → List Note → Type 0
+Adds old new ns = (new.place ≡ old.place) × (map line_of new.lines.items ≡ map line_of old.lines.items ++ lines_at old.place ns)
+
+-- the lines of a place at which no file is hashed and for which no digest is named
+pub record IsUnhashed (root : StorageRoot) (l : PlaceLines) : Type 0 where
+  pub some : notes root None l.place ≢ []
+  pub named : named_at root l.place ≡ []
+  pub lines : HasLines l (notes root None l.place)
 
 -- the line for one block and algorithm whose file is missing
 abbrev pub missing_note : Named → Note

@@ -1,6 +1,5 @@
 -- What is known of an entry that the walk comes to.
-use Rattle.std.specs.declared.alloc.Global.{Global}
-use Rattle.std.specs.Prelude.{AllPairs, ◌≢◌, ◌≡◌, ◌≤◌, List, [], ◌∷◌, cond, length, Result, MatchResult, Vec, true, false, Option, Some, None, option_map}
+use Rattle.std.specs.Prelude.{AllPairs, ◌≢◌, ◌≡◌, ◌≤◌, List, [], ◌∷◌, cond, length, Result, MatchResult, true, false, Option, Some, None, option_map}
 use Rattle.std.specs.List.{list_all}
 use Rattle.ocfl_tree.specs.Place.{Place, beginnings}
 use Rattle.ocfl_tree.specs.StorageRoot.{StorageRoot, at, is_dir}
@@ -19,7 +18,6 @@ use Rattle.ocfl_audit.specs.Between.{is_looked_into}
 use Rattle.ocfl_audit.specs.Walk.{seen_names}
 use Rattle.ocfl_tree.specs.Store.{Store, Did}
 use Rattle.ocfl_tree.specs.declared.store.Opening.{Opening}
-use Rattle.ocfl_report.specs.declared.line.Line.{Line as MadeLine}
 use Rattle.ocfl_inventory.specs.Table.{Table}
 use Rattle.ocfl_audit.specs.Head.{on}
 use Rattle.ocfl_audit.specs.Trail.{content_trail, is_head, heads_of, reads_inventory}
@@ -29,6 +27,7 @@ use Rattle.ocfl_item.specs.Ways.{IsHeadOf}
 use Rattle.ocfl_audit.specs.Lines.{is_hashed}
 use Rattle.ocfl_item.specs.Meeting.{IsVisit}
 use Rattle.ocfl_item.specs.declared.fault.Fault.{Fault}
+use Rattle.ocfl_item.specs.declared.lines.PlaceLines.{PlaceLines}
 use Rattle.ocfl_item.specs.declared.fault.Fault.TheVariants as fault
 use Rattle.ocfl_item.specs.declared.role.Role.{Role}
 use Rattle.ocfl_item.specs.declared.role.Role.TheVariants as role
@@ -106,7 +105,7 @@ pub record ReadOneFails (root : StorageRoot) (s t : Store) (o : Place) (why : Fa
   pub store : (q : Place) → why ≡ fault.Store q → (is_hashed root q ≡ false) × FailedAt [] trail q
 
 -- the lines of an object's head and its table
-pub record HeadRead (root : StorageRoot) (s t : Store) (o : Place) (r : Result (Vec MadeLine Global × Option Table) Fault) : Type 0 where
+pub record HeadRead (root : StorageRoot) (s t : Store) (o : Place) (r : Result (PlaceLines × Option Table) Fault) : Type 0 where
   pub gives : MatchResult r (λ p. ReadsOne root s t o × IsHeadOf root o p) (λ why. ReadOneFails root s t o why)
 
 pub record VisitsHead (root : StorageRoot) (s t : Store) (o : Place) (r : Result Visit Fault) : Type 0 where

@@ -1,6 +1,5 @@
 -- The way down to a place: what is known of a directory on it, and what was done to come there.
-use Rattle.std.specs.Prelude.{◌≡◌, ◌≢◌, ℕ, ◌&&◌, nat_le, length, List, [], ◌∷◌, ◌++◌, Bool, true, false, Option, Some, None, Result, MatchResult, AllPairs, Vec, map, codes}
-use Rattle.std.specs.declared.alloc.Global.{Global}
+use Rattle.std.specs.Prelude.{◌≡◌, ◌≢◌, ℕ, ◌&&◌, nat_le, length, List, [], ◌∷◌, ◌++◌, Bool, true, false, Option, Some, None, Result, MatchResult, AllPairs, codes}
 use Rattle.std.specs.List.{list_all}
 use Rattle.ocfl_tree.specs.Place.{Text, Place, text_eq, beginnings}
 use Rattle.ocfl_tree.specs.StorageRoot.{StorageRoot, is_dir}
@@ -12,8 +11,6 @@ use Rattle.ocfl_tree.specs.declared.store.Kind.TheVariants as kind
 use Rattle.ocfl_tree.specs.declared.store.Opening.{Opening}
 use Rattle.ocfl_tree.specs.declared.store.Trouble.{Trouble}
 use Rattle.ocfl_tree.specs.declared.store.Trouble.TheVariants as trouble
-use Rattle.ocfl_report.specs.Line.{line_of, lines_at}
-use Rattle.ocfl_report.specs.declared.line.Line.{Line as MadeLine}
 use Rattle.ocfl_inventory.specs.Declaration.{Declared, is_declared, is_known}
 use Rattle.ocfl_inventory.specs.Entries.{meaning, PointsAtOne}
 use Rattle.ocfl_inventory.specs.declared.declaration.Level.TheVariants as level
@@ -26,7 +23,9 @@ use Rattle.ocfl_audit.specs.Trail.{content_trail, heads_of}
 use Rattle.ocfl_audit.specs.Walk.{is_reached}
 use Rattle.ocfl_item.specs.Looking.{IsFront, failures_by}
 use Rattle.ocfl_item.specs.Auditing.{FailedAt}
+use Rattle.ocfl_item.specs.Pending.{HasLines}
 use Rattle.ocfl_item.specs.declared.fault.Fault.{Fault}
+use Rattle.ocfl_item.specs.declared.lines.PlaceLines.{PlaceLines}
 use Rattle.ocfl_item.specs.declared.fault.Fault.TheVariants as fault
 use Rattle.ocfl_item.specs.declared.folder.Head.{Head}
 use Rattle.ocfl_item.specs.declared.folder.Head.TheVariants as head
@@ -131,8 +130,8 @@ pub record ReadsTable (root : StorageRoot) (s t : Store) (o : Place) (r : Result
   pub gives : MatchResult r (λ table. (opens : Opens root s t o) × (table ≡ table_at root o) × AreInventories root opens.reads.trail) (λ why. (stop : OpensStop root s t o why) × AreInventories root stop.stops.trail)
 
 -- the lines of an object's head, and its table
-abbrev pub IsHeadOf : StorageRoot → Place → Vec MadeLine Global × Option Table → Type 0
-IsHeadOf root o p = (map line_of p.0.items ≡ lines_at o (notes root None o)) × (p.1 ≡ table_at root o)
+abbrev pub IsHeadOf : StorageRoot → Place → PlaceLines × Option Table → Type 0
+IsHeadOf root o p = HasLines p.0 (notes root None o) × (p.1 ≡ table_at root o)
 
 -- ---- what declarations say
 

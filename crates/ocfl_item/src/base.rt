@@ -16,7 +16,7 @@ ghost use Rattle.ocfl_item.specs.Ways.{IsWayFault};
 use crate::declarations::{is_exact, stopped_lines};
 use crate::fault::Fault;
 use crate::folder::{Folder, list};
-use crate::lines::add_plain;
+use crate::lines::PlaceLines;
 use crate::object::{SIDE_LIMIT, read_file};
 use crate::pending::Pending;
 use crate::visit::Visit;
@@ -58,10 +58,9 @@ fn known_item<T: Tree>(
 {
     let name = declaration_name(Level::Root, version);
     let file = read_file(alloc, store, folder, name, SIDE_LIMIT)?;
-    let mut lines = Vec::new(alloc);
-    add_plain(alloc, &mut lines, &folder.place, known_code(version, &file))?;
-    let place = folder.place.try_clone()?;
-    Ok(Pending::of_lines(alloc, place, lines))
+    let mut lines = PlaceLines::new(alloc, folder.place.try_clone()?);
+    lines.add_plain(known_code(version, &file))?;
+    Ok(Pending::of_lines(lines))
 }
 
 /// The item of a storage root that is not of one known version.
@@ -73,8 +72,7 @@ fn stopped_item(alloc: Global, folder: &Folder, declared: Declared) -> Result<Pe
         → IfOk result (λ item. IsPending root item) }
 {
     let lines = stopped_lines(alloc, folder, Level::Root, declared)?;
-    let place = folder.place.try_clone()?;
-    Ok(Pending::of_lines(alloc, place, lines))
+    Ok(Pending::of_lines(lines))
 }
 
 /// The storage root as the walk meets it (OCFL 1.1, 4 OCFL Storage Root).

@@ -3,54 +3,49 @@ ghost use Rattle.std.specs.Prelude.{map};
 ghost use Rattle.ocfl_tree.specs.Ascending.{IsAscending};
 ghost use Rattle.ocfl_tree.specs.Place.{Place as Spot};
 ghost use Rattle.ocfl_tree.specs.StorageRoot.{StorageRoot};
-ghost use Rattle.ocfl_report.specs.Line.{line_of, lines_at};
 ghost use Rattle.ocfl_inventory.specs.Table.{Table, named as digests_of, named_cmp};
 ghost use Rattle.ocfl_inventory.specs.TripleView.{named_view};
 ghost use Rattle.ocfl_audit.specs.Lines.{missing_notes, notes};
 ghost use Rattle.ocfl_item.specs.Looking.{IsSight, content_at};
-ghost use Rattle.ocfl_item.specs.Pending.{Adds, IsPending, is_read, sight_notes};
+ghost use Rattle.ocfl_item.specs.Pending.{Adds, HasLines, IsPending, is_read, sight_notes};
 
-use crate::lines::add_plain;
+use crate::lines::PlaceLines;
 use crate::missing::add_missing;
 use crate::pending::Pending;
 use crate::sight::Sight;
 use ocfl_inventory::Named;
-use ocfl_report::{Code, Line};
+use ocfl_report::Code;
 use ocfl_tree::Place;
 use std::alloc::{AllocError, Global};
 
 /// Appends the line for what is seen, if it has one.
-fn add_sight(
-    alloc: Global,
-    lines: &mut Vec<Line>,
-    place: &Place,
-    sight: Sight,
-) -> Result<(), AllocError>
-    ensures { OnOk result (Adds lines.old.items lines.new.items place.now (sight_notes sight)) }
+fn add_sight(lines: &mut PlaceLines, sight: Sight) -> Result<(), AllocError>
+    ensures { OnOk result (Adds lines.old lines.new (sight_notes sight)) }
 {
     match sight {
         Sight::Nothing | Sight::Dir => Ok(()),
-        Sight::File => add_plain(alloc, lines, place, Code::E023),
-        Sight::EmptyDir => add_plain(alloc, lines, place, Code::E024),
-        Sight::DeepDir => add_plain(alloc, lines, place, Code::S05),
-        Sight::Other => add_plain(alloc, lines, place, Code::S04),
+        Sight::File => lines.add_plain(Code::E023),
+        Sight::EmptyDir => lines.add_plain(Code::E024),
+        Sight::DeepDir => lines.add_plain(Code::S05),
+        Sight::Other => lines.add_plain(Code::S04),
     }
 }
 
 /// The lines of a content place whose file is not hashed.
 fn known_lines(
     alloc: Global,
-    place: &Place,
+    place: Place,
     named: &[Named],
     sight: Sight,
-) -> Result<Vec<Line>, AllocError>
-    ensures { IsAscending named_cmp (map named_view named.now)
-        → IfOk result (λ lines. map line_of lines.items
-        ≡ lines_at place.now (sight_notes sight ++ missing_notes (map named_view named.now))) }
+) -> Result<PlaceLines, AllocError>
+    ensures place { IfOk result (λ lines. lines.place ≡ place) }
+    ensures lines { IsAscending named_cmp (map named_view named.now)
+        → IfOk result (λ lines. HasLines lines
+        (sight_notes sight ++ missing_notes (map named_view named.now))) }
 {
-    let mut lines = Vec::new(alloc);
-    add_sight(alloc, &mut lines, place, sight)?;
-    add_missing(alloc, &mut lines, place, named)?;
+    let mut lines = PlaceLines::new(alloc, place);
+    add_sight(&mut lines, sight)?;
+    add_missing(alloc, &mut lines, named)?;
     Ok(lines)
 }
 
@@ -88,14 +83,14 @@ pub(crate) fn content_item(
             lines: Vec::new(alloc),
         }));
     }
-    let lines = known_lines(alloc, &place, &named, sight)?;
-    if lines.is_empty() {
+    let known = known_lines(alloc, place, &named, sight)?;
+    if known.lines.is_empty() {
         return Ok(None);
     }
     Ok(Some(Pending {
-        place,
+        place: known.place,
         hashed: false,
         named,
-        lines,
+        lines: known.lines,
     }))
 }

@@ -1,9 +1,9 @@
 //! The line of what a directory declares, where that is not one declaration of a known version; and
 //! whether a declaration has the bytes that it must have.
-ghost use Rattle.std.specs.Prelude.{◌≡◌, ◌≤◌, ◌++◌, ◌∷◌, [], false, length, map, IfOk, OnOk};
+ghost use Rattle.std.specs.Prelude.{◌≡◌, ◌≤◌, ◌++◌, ◌∷◌, [], false, length, IfOk, OnOk};
 ghost use Rattle.ocfl_tree.specs.Place.{Place as Names, Text, text_eq};
 ghost use Rattle.ocfl_tree.specs.StorageRoot.{StorageRoot};
-ghost use Rattle.ocfl_report.specs.Line.{line_of, lines_at, note};
+ghost use Rattle.ocfl_report.specs.Line.{note};
 ghost use Rattle.ocfl_digest.specs.Bounded.{IsBoundedTo};
 ghost use Rattle.ocfl_inventory.specs.Declaration.{after_prefix, is_known};
 ghost use Rattle.ocfl_inventory.specs.Declaration.{declaration_name as name_of_declaration, prefix};
@@ -11,14 +11,14 @@ ghost use Rattle.ocfl_inventory.specs.Entries.{meaning, PointsAtOne};
 ghost use Rattle.ocfl_audit.specs.Head.{is_exact_declaration};
 ghost use Rattle.ocfl_item.specs.HeadFiles.{IsFileAt};
 ghost use Rattle.ocfl_item.specs.HeadLines.{declared_notes};
-ghost use Rattle.ocfl_item.specs.Pending.{Adds};
+ghost use Rattle.ocfl_item.specs.Pending.{Adds, HasLines};
 
 use crate::folder::Folder;
-use crate::lines::{add_line, add_plain};
+use crate::lines::PlaceLines;
 use ocfl_digest::Bounded;
 use ocfl_inventory::{Declared, Level, Version, declaration_bytes, version_in_name};
-use ocfl_report::{Code, Line};
-use ocfl_tree::{Entry, Place, is_bytes};
+use ocfl_report::Code;
+use ocfl_tree::{Entry, is_bytes};
 use std::alloc::{AllocError, Global};
 
 /// Whether these few bytes are all that a file has.
@@ -47,19 +47,19 @@ pub(crate) fn is_exact(level: Level, version: Version, declaration: &Option<Boun
 /// Appends the line of a version that is not known.
 fn add_unknown(
     alloc: Global,
-    lines: &mut Vec<Line>,
-    place: &Place,
+    lines: &mut PlaceLines,
     level: Level,
     declaration: &str,
 ) -> Result<(), AllocError>
-    ensures { (rest : Text) → declaration.now ≡ prefix level ++ rest
-        → OnOk result (Adds lines.old.items lines.new.items place.now
+    ensures place { OnOk result (lines.new.place ≡ lines.old.place) }
+    ensures lines { (rest : Text) → declaration.now ≡ prefix level ++ rest
+        → OnOk result (Adds lines.old lines.new
         (note Code.S01 (after_prefix level declaration.now) ∷ [])) }
 {
     match version_in_name(level, declaration) {
         Some(version) => {
             let detail = String::from_str(alloc, version)?;
-            add_line(lines, place, Code::S01, detail)
+            lines.add(Code::S01, detail)
         }
         None => Ok(()),
     }
@@ -69,28 +69,29 @@ fn add_unknown(
 /// one that is not known.
 fn add_stop(
     alloc: Global,
-    lines: &mut Vec<Line>,
-    place: &Place,
+    lines: &mut PlaceLines,
     level: Level,
     entries: &[Entry],
     declared: Declared,
 ) -> Result<(), AllocError>
-    ensures { (root : StorageRoot) → is_known (meaning level entries.now declared) ≡ false
+    ensures place { OnOk result (lines.new.place ≡ lines.old.place) }
+    ensures lines { (root : StorageRoot) (o : Names)
+        → is_known (meaning level entries.now declared) ≡ false
         → PointsAtOne level entries.now declared
-        → OnOk result (Adds lines.old.items lines.new.items place.now
-        (declared_notes root place.now level (meaning level entries.now declared))) }
+        → OnOk result (Adds lines.old lines.new
+        (declared_notes root o level (meaning level entries.now declared))) }
 {
     match declared {
         Declared::None => match level {
-            Level::Root => add_plain(alloc, lines, place, Code::E069),
+            Level::Root => lines.add_plain(Code::E069),
             Level::Object => Ok(()),
         },
         Declared::Several => match level {
-            Level::Root => add_plain(alloc, lines, place, Code::E076),
-            Level::Object => add_plain(alloc, lines, place, Code::E003),
+            Level::Root => lines.add_plain(Code::E076),
+            Level::Object => lines.add_plain(Code::E003),
         },
         Declared::Unknown(index) => match entries.get(index) {
-            Some(entry) => add_unknown(alloc, lines, place, level, entry.name.as_str()),
+            Some(entry) => add_unknown(alloc, lines, level, entry.name.as_str()),
             None => Ok(()),
         },
         Declared::One(_) => Ok(()),
@@ -104,22 +105,16 @@ pub(crate) fn stopped_lines(
     folder: &Folder,
     level: Level,
     declared: Declared,
-) -> Result<Vec<Line>, AllocError>
-    ensures { (root : StorageRoot)
+) -> Result<PlaceLines, AllocError>
+    ensures place { IfOk result (λ lines. lines.place ≡ folder.now.place) }
+    ensures lines { (root : StorageRoot)
         → is_known (meaning level folder.now.entries.items declared) ≡ false
         → PointsAtOne level folder.now.entries.items declared
-        → IfOk result (λ lines. map line_of lines.items ≡ lines_at folder.now.place
+        → IfOk result (λ lines. HasLines lines
         (declared_notes root folder.now.place level
         (meaning level folder.now.entries.items declared))) }
 {
-    let mut lines = Vec::new(alloc);
-    add_stop(
-        alloc,
-        &mut lines,
-        &folder.place,
-        level,
-        &folder.entries,
-        declared,
-    )?;
+    let mut lines = PlaceLines::new(alloc, folder.place.try_clone()?);
+    add_stop(alloc, &mut lines, level, &folder.entries, declared)?;
     Ok(lines)
 }

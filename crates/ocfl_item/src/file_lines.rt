@@ -10,7 +10,7 @@ ghost use Rattle.ocfl_audit.specs.Lines.{unnamed_notes, wrong_notes};
 ghost use Rattle.ocfl_item.specs.FileLines.{HasDigests, wrong_by};
 ghost use Rattle.ocfl_item.specs.Pending.{Adds};
 
-use crate::lines::{add_line, add_plain, code_of};
+use crate::lines::{PlaceLines, code_of};
 use ocfl_digest::Digests;
 use ocfl_inventory::Named;
 use ocfl_report::{Code, Line};
@@ -29,30 +29,24 @@ fn is_in_manifest(named: &[Named]) -> bool
 }
 
 /// Appends the line of a content file that the manifest does not name.
-pub(crate) fn add_unnamed(
-    alloc: Global,
-    lines: &mut Vec<Line>,
-    place: &Place,
-    named: &[Named],
-) -> Result<(), AllocError>
-    ensures { OnOk result (Adds lines.old.items lines.new.items place.now
+pub(crate) fn add_unnamed(lines: &mut PlaceLines, named: &[Named]) -> Result<(), AllocError>
+    ensures { OnOk result (Adds lines.old lines.new
         (unnamed_notes (map named_view named.now))) }
 {
     if is_in_manifest(named) {
         return Ok(());
     }
-    add_plain(alloc, lines, place, Code::E023)
+    lines.add_plain(Code::E023)
 }
 
 /// Appends the line of a named digest, unless it is the one that was found.
 fn add_unless_found(
     alloc: Global,
-    lines: &mut Vec<Line>,
-    place: &Place,
+    lines: &mut PlaceLines,
     named: &Named,
     found: &[u8],
 ) -> Result<(), AllocError>
-    ensures { OnOk result (Adds lines.old.items lines.new.items place.now
+    ensures { OnOk result (Adds lines.old lines.new
         (wrong_by (encode_lower found.now) (named_view named.now))) }
 {
     let found = hex::encode(alloc, found)?;
@@ -60,24 +54,23 @@ fn add_unless_found(
         return Ok(());
     }
     let detail = format!(in alloc; "{} {} {}", named.algorithm.name(), named.digest, found)?;
-    add_line(lines, place, code_of(named), detail)
+    lines.add(code_of(named), detail)
 }
 
 /// Appends the line of a named digest, unless it is the file's.
 fn add_wrong(
     alloc: Global,
-    lines: &mut Vec<Line>,
-    place: &Place,
+    lines: &mut PlaceLines,
     named: &Named,
     digests: &Digests,
 ) -> Result<(), AllocError>
     ensures { (bytes : Text) → digest_in digests.now named.now.algorithm
         ≡ Some (digest_bytes_of named.now.algorithm bytes)
-        → OnOk result (Adds lines.old.items lines.new.items place.now
+        → OnOk result (Adds lines.old lines.new
         (wrong_notes bytes (named_view named.now ∷ []))) }
 {
     match digests.get(named.algorithm) {
-        Some(found) => add_unless_found(alloc, lines, place, named, found),
+        Some(found) => add_unless_found(alloc, lines, named, found),
         None => Ok(()),
     }
 }
@@ -85,17 +78,16 @@ fn add_wrong(
 /// Appends a line for each named digest that is not the file's.
 fn add_each_wrong(
     alloc: Global,
-    lines: &mut Vec<Line>,
-    place: &Place,
+    lines: &mut PlaceLines,
     named: &[Named],
     digests: &Digests,
 ) -> Result<(), AllocError>
     ensures { (bytes : Text) → HasDigests (map (λ n. n.algorithm) named.now) bytes digests.now
-        → OnOk result (Adds lines.old.items lines.new.items place.now
+        → OnOk result (Adds lines.old lines.new
         (wrong_notes bytes (map named_view named.now))) }
 {
     for entry in named {
-        add_wrong(alloc, lines, place, entry, digests)?;
+        add_wrong(alloc, lines, entry, digests)?;
     }
     Ok(())
 }
@@ -103,7 +95,7 @@ fn add_each_wrong(
 /// The lines of a content file that was read to its end: its digests, and how many bytes it has.
 pub(crate) fn hashed_lines(
     alloc: Global,
-    place: &Place,
+    place: Place,
     named: &[Named],
     digests: &Digests,
     count: u64,
@@ -111,31 +103,31 @@ pub(crate) fn hashed_lines(
     ensures { (bytes : Text) → HasDigests (map (λ n. n.algorithm) named.now) bytes digests.now
         → count ≡ length bytes
         → IfOk result (λ lines. map line_of lines.items
-        ≡ lines_at place.now (or_bytes bytes
+        ≡ lines_at place (or_bytes bytes
         (unnamed_notes (map named_view named.now)
         ++ wrong_notes bytes (map named_view named.now)))) }
 {
-    let mut lines = Vec::new(alloc);
-    add_unnamed(alloc, &mut lines, place, named)?;
-    add_each_wrong(alloc, &mut lines, place, named, digests)?;
-    if lines.is_empty() {
+    let mut lines = PlaceLines::new(alloc, place);
+    add_unnamed(&mut lines, named)?;
+    add_each_wrong(alloc, &mut lines, named, digests)?;
+    if lines.lines.is_empty() {
         let detail = count.to_string(alloc)?;
-        add_line(&mut lines, place, Code::Clean, detail)?;
+        lines.add(Code::Clean, detail)?;
     }
-    Ok(lines)
+    Ok(lines.lines)
 }
 
 /// The lines of a content file that could not be read.
 pub(crate) fn unread_lines(
     alloc: Global,
-    place: &Place,
+    place: Place,
     named: &[Named],
 ) -> Result<Vec<Line>, AllocError>
     ensures { IfOk result (λ lines. map line_of lines.items
-        ≡ lines_at place.now (unnamed_notes (map named_view named.now) ++ plain Code.S08 ∷ [])) }
+        ≡ lines_at place (unnamed_notes (map named_view named.now) ++ plain Code.S08 ∷ [])) }
 {
-    let mut lines = Vec::new(alloc);
-    add_unnamed(alloc, &mut lines, place, named)?;
-    add_plain(alloc, &mut lines, place, Code::S08)?;
-    Ok(lines)
+    let mut lines = PlaceLines::new(alloc, place);
+    add_unnamed(&mut lines, named)?;
+    lines.add_plain(Code::S08)?;
+    Ok(lines.lines)
 }

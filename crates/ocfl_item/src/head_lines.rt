@@ -20,14 +20,14 @@ ghost use Rattle.ocfl_audit.specs.Head.{sidecar_at, mismatch, sidecar_notes, are
 ghost use Rattle.ocfl_audit.specs.Head.{sidecars_notes, inventory_part};
 ghost use Rattle.ocfl_item.specs.HeadFiles.{IsFileAt};
 ghost use Rattle.ocfl_item.specs.HeadLines.{AreSidecars, is_other_there, named_notes};
-ghost use Rattle.ocfl_item.specs.Pending.{Adds};
+ghost use Rattle.ocfl_item.specs.Pending.{Adds, HasLines};
 
 use crate::declarations::is_exact;
-use crate::lines::{add_line, add_plain};
+use crate::lines::PlaceLines;
 use ocfl_digest::{Algorithm, Bounded, Wanted, hash_bytes};
 use ocfl_inventory::{Level, Remark, Sum, Table, Version, read_inventory, sidecar};
-use ocfl_report::{Code, Line};
-use ocfl_tree::{Place, is_bytes};
+use ocfl_report::Code;
+use ocfl_tree::is_bytes;
 use std::alloc::{AllocError, Global};
 
 /// What was read of the sidecars of an inventory, where they are there.
@@ -42,34 +42,32 @@ pub(crate) struct Sidecars {
 /// Appends the line of a declaration whose bytes are not exact (OCFL 1.1, 3.2 Object Conformance
 /// Declaration).
 pub(crate) fn add_declaration(
-    alloc: Global,
-    lines: &mut Vec<Line>,
-    place: &Place,
+    lines: &mut PlaceLines,
     version: Version,
     declaration: &Option<Bounded>,
 ) -> Result<(), AllocError>
-    ensures { (root : StorageRoot) → IsFileAt root (place.now
-        ++ name_of_declaration level.Object version ∷ []) 4096 declaration.now
-        → OnOk result (Adds lines.old.items lines.new.items place.now
-        (on (not (is_exact_declaration root place.now level.Object version))
+    ensures place { OnOk result (lines.new.place ≡ lines.old.place) }
+    ensures lines { (root : StorageRoot) (o : Names) → IsFileAt root
+        (o ++ name_of_declaration level.Object version ∷ []) 4096 declaration.now
+        → OnOk result (Adds lines.old lines.new
+        (on (not (is_exact_declaration root o level.Object version))
         (plain Code.E007))) }
 {
     if is_exact(Level::Object, version, declaration) {
         return Ok(());
     }
-    add_plain(alloc, lines, place, Code::E007)
+    lines.add_plain(Code::E007)
 }
 
 /// Appends the line of a sidecar whose digest is not the one that was found.
 fn add_unless_found(
     alloc: Global,
-    lines: &mut Vec<Line>,
-    place: &Place,
+    lines: &mut PlaceLines,
     algorithm: Algorithm,
     wanted: &[u8],
     found: &[u8],
 ) -> Result<(), AllocError>
-    ensures { OnOk result (Adds lines.old.items lines.new.items place.now
+    ensures { OnOk result (Adds lines.old lines.new
         (on (not (text_eq wanted.now found.now))
         (mismatch Code.E060 algorithm (encode_lower wanted.now) (encode_lower found.now)))) }
 {
@@ -79,26 +77,25 @@ fn add_unless_found(
     let wanted = hex::encode(alloc, wanted)?;
     let found = hex::encode(alloc, found)?;
     let detail = format!(in alloc; "{} {} {}", algorithm.name(), wanted, found)?;
-    add_line(lines, place, Code::E060, detail)
+    lines.add(Code::E060, detail)
 }
 
 /// Appends the line of a sidecar whose digest is not that of the inventory.
 fn add_unless_equal(
     alloc: Global,
-    lines: &mut Vec<Line>,
-    place: &Place,
+    lines: &mut PlaceLines,
     inventory: &[u8],
     algorithm: Algorithm,
     sum: &Sum,
 ) -> Result<(), AllocError>
-    ensures { OnOk result (Adds lines.old.items lines.new.items place.now
+    ensures { OnOk result (Adds lines.old lines.new
         (on (not (text_eq (sum_view sum.now) (digest_bytes_of algorithm inventory.now)))
         (mismatch Code.E060 algorithm (encode_lower (sum_view sum.now))
         (digest_of algorithm inventory.now)))) }
 {
     let digests = hash_bytes(inventory, Wanted::none().with(algorithm));
     match digests.get(algorithm) {
-        Some(found) => add_unless_found(alloc, lines, place, algorithm, sum.bytes(), found),
+        Some(found) => add_unless_found(alloc, lines, algorithm, sum.bytes(), found),
         None => Ok(()),
     }
 }
@@ -118,75 +115,57 @@ fn sum_of(algorithm: Algorithm, file: &Bounded) -> Option<Sum>
 /// inventory.
 fn add_sidecar(
     alloc: Global,
-    lines: &mut Vec<Line>,
-    place: &Place,
+    lines: &mut PlaceLines,
     inventory: &[u8],
     algorithm: Algorithm,
     file: &Option<Bounded>,
 ) -> Result<(), AllocError>
-    ensures { (root : StorageRoot)
-        → IsFileAt root (place.now ++ sidecar_name algorithm ∷ []) 4096 file.now
-        → OnOk result (Adds lines.old.items lines.new.items place.now
-        (sidecar_notes algorithm inventory.now (sidecar_at root place.now algorithm))) }
+    ensures place { OnOk result (lines.new.place ≡ lines.old.place) }
+    ensures lines { (root : StorageRoot) (o : Names)
+        → IsFileAt root (o ++ sidecar_name algorithm ∷ []) 4096 file.now
+        → OnOk result (Adds lines.old lines.new
+        (sidecar_notes algorithm inventory.now (sidecar_at root o algorithm))) }
 {
     let Some(file) = file else {
         return Ok(());
     };
     match sum_of(algorithm, file) {
-        Some(sum) => add_unless_equal(alloc, lines, place, inventory, algorithm, &sum),
+        Some(sum) => add_unless_equal(alloc, lines, inventory, algorithm, &sum),
         None => {
             let detail = String::from_str(alloc, algorithm.name())?;
-            add_line(lines, place, Code::E061, detail)
+            lines.add(Code::E061, detail)
         }
     }
 }
 
 /// Appends the line of an inventory without sidecars.
-fn add_unless_any(
-    alloc: Global,
-    lines: &mut Vec<Line>,
-    place: &Place,
-    sidecars: &Sidecars,
-) -> Result<(), AllocError>
-    ensures { (root : StorageRoot) → AreSidecars root place.now sidecars.now
-        → OnOk result (Adds lines.old.items lines.new.items place.now
-        (on (are_sidecars_missing root place.now) (plain Code.E058))) }
+fn add_unless_any(lines: &mut PlaceLines, sidecars: &Sidecars) -> Result<(), AllocError>
+    ensures place { OnOk result (lines.new.place ≡ lines.old.place) }
+    ensures lines { (root : StorageRoot) (o : Names) → AreSidecars root o sidecars.now
+        → OnOk result (Adds lines.old lines.new
+        (on (are_sidecars_missing root o) (plain Code.E058))) }
 {
     if sidecars.short.is_some() || sidecars.long.is_some() {
         return Ok(());
     }
-    add_plain(alloc, lines, place, Code::E058)
+    lines.add_plain(Code::E058)
 }
 
 /// Appends the lines of the sidecars: neither is there, or what is wrong with those that are.
 fn add_sidecars(
     alloc: Global,
-    lines: &mut Vec<Line>,
-    place: &Place,
+    lines: &mut PlaceLines,
     inventory: &[u8],
     sidecars: &Sidecars,
 ) -> Result<(), AllocError>
-    ensures { (root : StorageRoot) → AreSidecars root place.now sidecars.now
-        → OnOk result (Adds lines.old.items lines.new.items place.now
-        (sidecars_notes root place.now inventory.now)) }
+    ensures place { OnOk result (lines.new.place ≡ lines.old.place) }
+    ensures lines { (root : StorageRoot) (o : Names) → AreSidecars root o sidecars.now
+        → OnOk result (Adds lines.old lines.new
+        (sidecars_notes root o inventory.now)) }
 {
-    add_unless_any(alloc, lines, place, sidecars)?;
-    add_sidecar(
-        alloc,
-        lines,
-        place,
-        inventory,
-        Algorithm::Sha256,
-        &sidecars.short,
-    )?;
-    add_sidecar(
-        alloc,
-        lines,
-        place,
-        inventory,
-        Algorithm::Sha512,
-        &sidecars.long,
-    )
+    add_unless_any(lines, sidecars)?;
+    add_sidecar(alloc, lines, inventory, Algorithm::Sha256, &sidecars.short)?;
+    add_sidecar(alloc, lines, inventory, Algorithm::Sha512, &sidecars.long)
 }
 
 /// Whether the sidecar of an inventory's algorithm is missing while the other is there.
@@ -206,15 +185,15 @@ fn has_other(algorithm: Algorithm, sidecars: &Sidecars) -> bool
 /// named.
 fn add_missing_sidecar(
     alloc: Global,
-    lines: &mut Vec<Line>,
-    place: &Place,
+    lines: &mut PlaceLines,
     algorithm: Option<Algorithm>,
     sidecars: &Sidecars,
 ) -> Result<(), AllocError>
-    ensures { (root : StorageRoot) → AreSidecars root place.now sidecars.now
+    ensures place { OnOk result (lines.new.place ≡ lines.old.place) }
+    ensures lines { (root : StorageRoot) (o : Names) → AreSidecars root o sidecars.now
         → IfSome algorithm (λ a. is_some (sidecar_digits a) ≡ true)
-        → OnOk result (Adds lines.old.items lines.new.items place.now
-        (named_notes root place.now algorithm)) }
+        → OnOk result (Adds lines.old lines.new
+        (named_notes root o algorithm)) }
 {
     let Some(algorithm) = algorithm else {
         return Ok(());
@@ -223,16 +202,16 @@ fn add_missing_sidecar(
         return Ok(());
     }
     let detail = String::from_str(alloc, algorithm.name())?;
-    add_line(lines, place, Code::E058, detail)
+    lines.add(Code::E058, detail)
 }
 
 /// Appends the lines of what is remarked of a place.
-fn add_remarks(lines: &mut Vec<Line>, place: &Place, remarks: Vec<Remark>) -> Result<(), AllocError>
-    ensures { OnOk result (Adds lines.old.items lines.new.items place.now
+fn add_remarks(lines: &mut PlaceLines, remarks: Vec<Remark>) -> Result<(), AllocError>
+    ensures { OnOk result (Adds lines.old lines.new
         (map remark_view remarks.items)) }
 {
     for remark in remarks {
-        add_line(lines, place, remark.code, remark.detail)?;
+        lines.add(remark.code, remark.detail)?;
     }
     Ok(())
 }
@@ -241,20 +220,20 @@ fn add_remarks(lines: &mut Vec<Line>, place: &Place, remarks: Vec<Remark>) -> Re
 /// gives its table.
 fn add_read(
     alloc: Global,
-    lines: &mut Vec<Line>,
-    place: &Place,
+    lines: &mut PlaceLines,
     inventory: &[u8],
     sidecars: &Sidecars,
 ) -> Result<Option<Table>, AllocError>
-    ensures lines { (root : StorageRoot) → AreSidecars root place.now sidecars.now
-        → OnOk result (Adds lines.old.items lines.new.items place.now
-        (inventory_part root place.now inventory.now (algorithm_in inventory.now))) }
+    ensures place { OnOk result (lines.new.place ≡ lines.old.place) }
+    ensures lines { (root : StorageRoot) (o : Names) → AreSidecars root o sidecars.now
+        → OnOk result (Adds lines.old lines.new
+        (inventory_part root o inventory.now (algorithm_in inventory.now))) }
     ensures table { IfOk result (λ table. table ≡ table_of inventory.now) }
     ensures fit { IfOk result (λ table. IfSome table (λ t. IsFit t)) }
 {
     let read = read_inventory(alloc, inventory)?;
-    add_missing_sidecar(alloc, lines, place, read.algorithm, sidecars)?;
-    add_remarks(lines, place, read.remarks)?;
+    add_missing_sidecar(alloc, lines, read.algorithm, sidecars)?;
+    add_remarks(lines, read.remarks)?;
     Ok(read.table)
 }
 
@@ -262,35 +241,30 @@ fn add_read(
 /// Inventory Digest), and gives its table. The bytes are all that the inventory has.
 pub(crate) fn add_inventory(
     alloc: Global,
-    lines: &mut Vec<Line>,
-    place: &Place,
+    lines: &mut PlaceLines,
     bytes: &[u8],
     sidecars: &Sidecars,
 ) -> Result<Option<Table>, AllocError>
     ensures table { IfOk result (λ table. table ≡ table_of bytes.now) }
     ensures fit { IfOk result (λ table. IfSome table (λ t. IsFit t)) }
-    ensures lines { (root : StorageRoot) → IsFileAt root
-        (place.now ++ sidecar_name Sha256 ∷ []) 4096 sidecars.now.short
-        → IsFileAt root (place.now ++ sidecar_name Sha512 ∷ []) 4096 sidecars.now.long
-        → OnOk result (Adds lines.old.items lines.new.items place.now
-        (sidecars_notes root place.now bytes.now
-        ++ inventory_part root place.now bytes.now (algorithm_in bytes.now))) }
+    ensures place { OnOk result (lines.new.place ≡ lines.old.place) }
+    ensures lines { (root : StorageRoot) (o : Names) → AreSidecars root o sidecars.now
+        → OnOk result (Adds lines.old lines.new
+        (sidecars_notes root o bytes.now
+        ++ inventory_part root o bytes.now (algorithm_in bytes.now))) }
 {
-    add_sidecars(alloc, lines, place, bytes, sidecars)?;
-    add_read(alloc, lines, place, bytes, sidecars)
+    add_sidecars(alloc, lines, bytes, sidecars)?;
+    add_read(alloc, lines, bytes, sidecars)
 }
 
 /// Appends the line of a clean head, where there is no line.
-pub(crate) fn add_clean(
-    alloc: Global,
-    lines: &mut Vec<Line>,
-    place: &Place,
-) -> Result<(), AllocError>
-    ensures { (ns : List Note) → Adds [] lines.old.items place.now ns
-        → OnOk result (Adds [] lines.new.items place.now (or_clean ns)) }
+pub(crate) fn add_clean(lines: &mut PlaceLines) -> Result<(), AllocError>
+    ensures place { OnOk result (lines.new.place ≡ lines.old.place) }
+    ensures lines { (ns : List Note) → HasLines lines.old ns
+        → OnOk result (HasLines lines.new (or_clean ns)) }
 {
-    if !lines.is_empty() {
+    if !lines.lines.is_empty() {
         return Ok(());
     }
-    add_plain(alloc, lines, place, Code::Clean)
+    lines.add_plain(Code::Clean)
 }

@@ -43,12 +43,12 @@ pub fn judge<T: Tree>(
     }
     match hash_open(store, &pending.place, pending.wanted(), block) {
         Ok((digests, count)) => {
-            let lines = hashed_lines(alloc, &pending.place, &pending.named, &digests, count)?;
+            let lines = hashed_lines(alloc, pending.place, &pending.named, &digests, count)?;
             Ok((lines, count + 1))
         }
         Err(stop) if stop.cause == Cause::Memory => Err(Fault::Memory),
         Err(stop) => {
-            let lines = unread_lines(alloc, &pending.place, &pending.named)?;
+            let lines = unread_lines(alloc, pending.place, &pending.named)?;
             Ok((lines, stop.bytes + 1))
         }
     }

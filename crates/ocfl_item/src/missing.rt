@@ -7,10 +7,8 @@ ghost use Rattle.ocfl_audit.specs.Head.{on};
 ghost use Rattle.ocfl_audit.specs.Lines.{missing_notes};
 ghost use Rattle.ocfl_item.specs.Pending.{Adds, is_repeated, is_same_block, missing_note};
 
-use crate::lines::{add_line, code_of};
+use crate::lines::{PlaceLines, code_of};
 use ocfl_inventory::Named;
-use ocfl_report::Line;
-use ocfl_tree::Place;
 use std::alloc::{AllocError, Global};
 
 /// Whether two digests are named in one block and of one algorithm.
@@ -20,17 +18,12 @@ fn is_same(named: &Named, other: &Named) -> bool
     named.fixity == other.fixity && named.algorithm == other.algorithm
 }
 
-fn add_missing_line(
-    alloc: Global,
-    lines: &mut Vec<Line>,
-    place: &Place,
-    named: &Named,
-) -> Result<(), AllocError>
-    ensures { OnOk result (Adds lines.old.items lines.new.items place.now
+fn add_missing_line(alloc: Global, lines: &mut PlaceLines, named: &Named) -> Result<(), AllocError>
+    ensures { OnOk result (Adds lines.old lines.new
         (missing_note (named_view named.now) ∷ [])) }
 {
     let detail = format!(in alloc; "{} missing", named.algorithm.name())?;
-    add_line(lines, place, code_of(named), detail)
+    lines.add(code_of(named), detail)
 }
 
 fn is_repetition(before: Option<&Named>, named: &Named) -> bool
@@ -46,35 +39,34 @@ fn is_repetition(before: Option<&Named>, named: &Named) -> bool
 /// Appends the line for a missing file's block and algorithm, unless the one before has it.
 fn add_next_missing(
     alloc: Global,
-    lines: &mut Vec<Line>,
-    place: &Place,
+    lines: &mut PlaceLines,
     before: Option<&Named>,
     named: &Named,
 ) -> Result<(), AllocError>
-    ensures { OnOk result (Adds lines.old.items lines.new.items place.now
+    ensures { OnOk result (Adds lines.old lines.new
         (on (not (is_repeated (option_map named_view (option_copied before.entry))
         (named_view named.now))) (missing_note (named_view named.now)))) }
 {
     if is_repetition(before, named) {
         return Ok(());
     }
-    add_missing_line(alloc, lines, place, named)
+    add_missing_line(alloc, lines, named)
 }
 
 /// Appends the lines for a missing file, one for each block and algorithm that names it.
 pub(crate) fn add_missing(
     alloc: Global,
-    lines: &mut Vec<Line>,
-    place: &Place,
+    lines: &mut PlaceLines,
     named: &[Named],
 ) -> Result<(), AllocError>
-    ensures { IsAscending named_cmp (map named_view named.now)
-        → OnOk result (Adds lines.old.items lines.new.items place.now
+    ensures place { OnOk result (lines.new.place ≡ lines.old.place) }
+    ensures lines { IsAscending named_cmp (map named_view named.now)
+        → OnOk result (Adds lines.old lines.new
         (missing_notes (map named_view named.now))) }
 {
     let mut before = None;
     for entry in named {
-        add_next_missing(alloc, lines, place, before, entry)?;
+        add_next_missing(alloc, lines, before, entry)?;
         before = Some(entry);
     }
     Ok(())

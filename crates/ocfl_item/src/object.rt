@@ -1,7 +1,7 @@
 //! An object's own files: its declaration, its inventory and the sidecars. They are read for its
 //! head with its table, or for the table alone; a file of the storage root is read in the same way.
 ghost use Rattle.std.specs.Prelude.{◌≡◌, ◌∷◌, ◌++◌, [], true, false, IsTrue, IfErr, IfOk, IfSome};
-ghost use Rattle.std.specs.Prelude.{MatchOption, MatchResult};
+ghost use Rattle.std.specs.Prelude.{MatchOption, MatchResult, OnOk};
 ghost use Rattle.ocfl_tree.specs.StorageRoot.{StorageRoot, file_at};
 ghost use Rattle.ocfl_tree.specs.Listing.{IsListing, kind_in};
 ghost use Rattle.ocfl_digest.specs.declared.algorithm.Algorithm.TheVariants.{Sha256, Sha512};
@@ -21,10 +21,10 @@ use crate::declarations::stopped_lines;
 use crate::fault::Fault;
 use crate::folder::{Folder, fault_at};
 use crate::head_lines::{Sidecars, add_clean, add_declaration, add_inventory};
-use crate::lines::add_plain;
+use crate::lines::PlaceLines;
 use ocfl_digest::{Bounded, read_bounded};
 use ocfl_inventory::{Declared, Level, Table, Version, declaration_name};
-use ocfl_report::{Code, Line};
+use ocfl_report::Code;
 use ocfl_tree::{Entry, Kind, Name, Place, Tree, is_text};
 use std::alloc::{AllocError, Global};
 
@@ -112,16 +112,17 @@ fn add_inventory_file<T: Tree>(
     alloc: Global,
     store: &mut T,
     folder: &Folder,
-    lines: &mut Vec<Line>,
+    lines: &mut PlaceLines,
 ) -> Result<Option<Table>, Fault>
     ensures only { IfErr result (λ why. IsWayFault why) }
     ensures fit { IfOk result (λ table. IfSome table (λ t. IsFit t)) }
+    ensures place { OnOk result (lines.new.place ≡ lines.old.place) }
     ensures told { IsTrue T.told → (root : StorageRoot) → (T.state store.old).tree ≡ root
         → IsListing root folder.now.place folder.now.entries.items
         → zone root folder.now.place ≡ inside folder.now.place []
         → IfOk result
         (λ table. (table ≡ table_in (file_at root (folder.now.place ++ inventory_name ∷ [])))
-        × Adds lines.old.items lines.new.items folder.now.place
+        × Adds lines.old lines.new
         (inventory_file_notes root folder.now.place
         (file_at root (folder.now.place ++ inventory_name ∷ [])))) }
     ensures opened { IsTrue T.told → (root : StorageRoot) → (T.state store.old).tree ≡ root
@@ -132,16 +133,16 @@ fn add_inventory_file<T: Tree>(
 {
     match read_file(alloc, store, folder, INVENTORY_NAME, INVENTORY_LIMIT)? {
         None => {
-            add_plain(alloc, lines, &folder.place, Code::E063)?;
+            lines.add_plain(Code::E063)?;
             Ok(None)
         }
         Some(Bounded::Over) => {
-            add_plain(alloc, lines, &folder.place, Code::S02)?;
+            lines.add_plain(Code::S02)?;
             Ok(None)
         }
         Some(Bounded::Whole(bytes)) => {
             let sidecars = read_sidecars(alloc, store, folder)?;
-            Ok(add_inventory(alloc, lines, &folder.place, &bytes, &sidecars)?)
+            Ok(add_inventory(alloc, lines, &bytes, &sidecars)?)
         }
     }
 }
@@ -152,9 +153,10 @@ fn known_head<T: Tree>(
     store: &mut T,
     folder: &Folder,
     version: Version,
-) -> Result<(Vec<Line>, Option<Table>), Fault>
+) -> Result<(PlaceLines, Option<Table>), Fault>
     ensures only { IfErr result (λ why. IsWayFault why) }
     ensures fit { IfOk result (λ p. IfSome p.1 (λ t. IsFit t)) }
+    ensures place { IfOk result (λ p. p.0.place ≡ folder.now.place) }
     ensures told { IsTrue T.told → (root : StorageRoot) → (T.state store.old).tree ≡ root
         → IsObject root folder.now.place folder.now.entries.items
         → object_declared root folder.now.place ≡ known version
@@ -164,12 +166,12 @@ fn known_head<T: Tree>(
         → OpensJust root (T.state store.old) (T.state store.new) folder.now.place
         (head_files root folder.now.place (known version)) result }
 {
-    let mut lines = Vec::new(alloc);
+    let mut lines = PlaceLines::new(alloc, folder.place.try_clone()?);
     let name = declaration_name(Level::Object, version);
     let declaration = read_file(alloc, store, folder, name, SIDE_LIMIT)?;
-    add_declaration(alloc, &mut lines, &folder.place, version, &declaration)?;
+    add_declaration(&mut lines, version, &declaration)?;
     let table = add_inventory_file(alloc, store, folder, &mut lines)?;
-    add_clean(alloc, &mut lines, &folder.place)?;
+    add_clean(&mut lines)?;
     Ok((lines, table))
 }
 
@@ -182,9 +184,10 @@ pub(crate) fn head_lines<T: Tree>(
     store: &mut T,
     folder: &Folder,
     declared: Declared,
-) -> Result<(Vec<Line>, Option<Table>), Fault>
+) -> Result<(PlaceLines, Option<Table>), Fault>
     ensures only { IfErr result (λ why. IsWayFault why) }
     ensures fit { IfOk result (λ p. IfSome p.1 (λ t. IsFit t)) }
+    ensures place { IfOk result (λ p. p.0.place ≡ folder.now.place) }
     ensures told { IsTrue T.told → (root : StorageRoot) → (T.state store.old).tree ≡ root
         → IsDeclared root folder.now.place folder.now.entries.items declared
         → HeadRead root (T.state store.old) (T.state store.new) folder.now.place result }

@@ -19,7 +19,7 @@ ghost use Rattle.ocfl_item.specs.Visiting.{IsPlainAt, IsUndeclaredAt, VisitsHead
 use crate::content::content_item;
 use crate::fault::Fault;
 use crate::folder::{Folder, MAX_LISTED_DEPTH, list};
-use crate::lines::add_plain;
+use crate::lines::PlaceLines;
 use crate::object::head_lines;
 use crate::pending::Pending;
 use crate::role::Role;
@@ -76,9 +76,9 @@ fn visit_plain(alloc: Global, place: Place, code: Code) -> Result<Visit, Fault>
     ensures told { (root : StorageRoot) → IsPlainAt root place (plain code ∷ [])
         → seen_names root place ≡ [] → IfOk result (λ v. IsVisit root place v) }
 {
-    let mut lines = Vec::new(alloc);
-    add_plain(alloc, &mut lines, &place, code)?;
-    Ok(Visit::of_item(Some(Pending::of_lines(alloc, place, lines))))
+    let mut lines = PlaceLines::new(alloc, place);
+    lines.add_plain(code)?;
+    Ok(Visit::of_item(Some(Pending::of_lines(lines))))
 }
 
 /// A directory that is listed, whether it is empty or not.
@@ -111,8 +111,7 @@ fn visit_object<T: Tree>(
         → VisitsHead root (T.state store.old) (T.state store.new) folder.place result }
 {
     let (lines, table) = head_lines(alloc, store, &folder, declared)?;
-    let place = folder.place.try_clone()?;
-    let item = Some(Pending::of_lines(alloc, place, lines));
+    let item = Some(Pending::of_lines(lines));
     match table {
         Some(table) => Ok(Visit {
             item,

@@ -8,4 +8,4 @@ use Rattle.ocfl_item.proofs.file_lines.add_each_wrong.Given as goal
 
 abbrev pub invariant-loop-entry : goal.invariant-loop-entry
 invariant-loop-entry l =
-    (bytes : Text) → HasDigests (map (λ n. n.algorithm) l.named) bytes l.digests → Adds l.initial.lines.items l.lines.items l.place (wrong_notes bytes (map named_view (take l.entry-index l.named)))
+    (bytes : Text) → HasDigests (map (λ n. n.algorithm) l.named) bytes l.digests → Adds l.initial.lines l.lines (wrong_notes bytes (map named_view (take l.entry-index l.named)))

@@ -1,18 +1,16 @@
-use Rattle.std.proofs.Common.{List, map, subst}
-use Rattle.ocfl_report.specs.Line.{Note}
+use Rattle.std.proofs.Common.{map, subst}
 use Rattle.ocfl_inventory.specs.Remark.{remark_view}
 use Rattle.ocfl_item.specs.HeadLines.{named_notes}
 use Rattle.ocfl_item.specs.Pending.{Adds}
 use Rattle.ocfl_item.proofs.HeadLaws.{named_have_sidecars, read_part}
-use Rattle.ocfl_item.proofs.WrongLaws.{adds_both}
+use Rattle.ocfl_item.proofs.LinesLaws.{adds_both}
 use Rattle.ocfl_item.proofs.head_lines.add_read.Goals as goal
 
 pub returns-clause-lines : goal.returns-clause-lines
-returns-clause-lines c = λ root files.
+returns-clause-lines c = λ root o files.
     let algorithm = c.in_ok-read.read.algorithm in
     let read = map remark_view c.in_ok-read.read.remarks.items in
     let stated = c.in_ok-read.ensures.algorithm in
-    let missing = c.in_ok-add_missing_sidecar.ensures root files (named_have_sidecars c.args.inventory.now algorithm stated) in
-    let both = adds_both c.args.lines.now.items c.add_missing_sidecar.new.lines.items c.add_remarks.new.lines.items c.args.place.now (named_notes root c.args.place.now algorithm) read missing c.in_ok-add_remarks.ensures in
-    let Lines : List Note → Type 0 = λ ns. Adds c.args.lines.now.items c.add_remarks.new.lines.items c.args.place.now ns in
-    subst Lines (read_part root c.args.place.now c.args.inventory.now algorithm read stated c.in_ok-read.ensures.remarks) both
+    let missing = c.in_ok-add_missing_sidecar.ensures.lines root o files (named_have_sidecars c.args.inventory.now algorithm stated) in
+    let both = adds_both c.args.lines.now c.add_missing_sidecar.new.lines c.add_remarks.new.lines (named_notes root o algorithm) read missing c.in_ok-add_remarks.ensures in
+    subst (Adds c.args.lines.now c.add_remarks.new.lines) (read_part root o c.args.inventory.now algorithm read stated c.in_ok-read.ensures.remarks) both

@@ -4,4 +4,4 @@ use Rattle.ocfl_item.specs.Pending.{Adds}
 use Rattle.ocfl_item.proofs.head_lines.add_remarks.Given as goal
 
 abbrev pub invariant-loop-remark : goal.invariant-loop-remark
-invariant-loop-remark l = Adds l.initial.lines.items l.lines.items l.place (map remark_view l.yielded)
+invariant-loop-remark l = Adds l.initial.lines l.lines (map remark_view l.yielded)

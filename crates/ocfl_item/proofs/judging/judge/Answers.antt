@@ -23,14 +23,14 @@ returns-in_err-lines-in-Ok-clause-told g c =
     let p = err_from_is_err_and c.from_residual.result c.from_residual.ensures.1 in
     λ h root over short pending. rw p.1 (failed_whole root _ _ c.args.pending over pending c.if-not-pending.false _ _ _ (c.in-Ok.ensures.hashes h root over))
 
-pub returns-in-Ok-clause-closed : goal.returns-in-Ok-clause-closed
-returns-in-Ok-clause-closed g c = λ h hashed. (c.in-Ok.ensures.hashes h _ refl).closed
+pub returns-in_ok-lines-in-Ok-clause-closed : goal.returns-in_ok-lines-in-Ok-clause-closed
+returns-in_ok-lines-in-Ok-clause-closed g c = λ h hashed. (c.in-Ok.ensures.hashes h _ refl).closed
 
-pub returns-in-Ok-clause-largest : goal.returns-in-Ok-clause-largest
-returns-in-Ok-clause-largest g c = λ h. let file = c.in-Ok.ensures.hashes h _ refl in omega (arith, file.largest)
+pub returns-in_ok-lines-in-Ok-clause-largest : goal.returns-in_ok-lines-in-Ok-clause-largest
+returns-in_ok-lines-in-Ok-clause-largest g c = λ h. let file = c.in-Ok.ensures.hashes h _ refl in omega (arith, file.largest)
 
-pub returns-in-Ok-clause-told : goal.returns-in-Ok-clause-told
-returns-in-Ok-clause-told g c =
+pub returns-in_ok-lines-in-Ok-clause-told : goal.returns-in_ok-lines-in-Ok-clause-told
+returns-in_ok-lines-in-Ok-clause-told g c =
     λ h root over short pending.
     judged_whole root _ _ c.args.pending over pending c.if-not-pending.false c.wanted.result c.in-Ok.digests c.in-Ok.count c.deref.result.now c.in_ok-lines-in-Ok.lines.items c.deref.ensures.value c.wanted.ensures (c.in-Ok.ensures.hashes h root over) c.in_ok-lines-in-Ok.ensures
 
@@ -46,8 +46,8 @@ returns-in_err-lines-in-Err-2-clause-told g c =
     λ h root over short pending.
     rw p.1 (failed_part root _ _ c.args.pending over pending c.if-not-pending.false short c.in-Err.stop.bytes c.in-Err.stop.cause (c.in-Err.ensures.hashes h root over) kept)
 
-pub returns-clause-told : goal.returns-clause-told
-returns-clause-told g c =
+pub returns-in_ok-lines-in-Err-2-clause-told : goal.returns-in_ok-lines-in-Err-2-clause-told
+returns-in_ok-lines-in-Err-2-clause-told g c =
     let kept : c.in-Err.stop.cause ≢ Memory = λ e. true_not_false (sym (rw e at c.eq.ensures) ∙ c.if-eq.false) in
     λ h root over short pending.
     judged_part root _ _ c.args.pending over pending c.if-not-pending.false short c.in-Err.stop.bytes c.in-Err.stop.cause c.deref-in-Err-2.result.now c.in_ok-lines-in-Err-2.lines.items c.deref-in-Err-2.ensures.value (c.in-Err.ensures.hashes h root over) kept c.in_ok-lines-in-Err-2.ensures

@@ -6,4 +6,4 @@ use Rattle.ocfl_item.proofs.missing.add_missing_line.Goals as goal
 pub returns : goal.returns
 returns c =
     let detail = c.in_ok-detail.ensures.ok ∙ ap (λ name. name ++ codes " missing") c.name.ensures in
-    subst (λ n. OnOk c.add_line.result (Adds c.args.lines.now.items c.add_line.new.lines.items c.args.place.now (n ∷ []))) (λ i. note (c.code_of.ensures i) (detail i)) c.add_line.ensures
+    subst (λ n. OnOk c.add.result (Adds c.args.lines.now c.add.new.self (n ∷ []))) (λ i. note (c.code_of.ensures i) (detail i)) c.add.ensures

@@ -8,13 +8,13 @@ use Rattle.ocfl_item.proofs.object.add_inventory_file.Goals as goal
 pub returns-in_ok-add_plain-in-None-clause-told : goal.returns-in_ok-add_plain-in-None-clause-told
 returns-in_ok-add_plain-in-None-clause-told g c = λ h root over listing z.
     let read = rw c.in-None.is at c.in_ok-read_file.ensures.told h root over listing (file_is_meta root _ _ z refl) in
-    (no_inventory_table root _ read.gives.1, no_inventory_lines root _ _ _ read.gives.1 c.in_ok-add_plain-in-None.ensures)
+    (no_inventory_table root _ read.gives.1, no_inventory_lines root _ c.args.lines.now c.add_plain.new.self read.gives.1 c.in_ok-add_plain-in-None.ensures)
 
 pub returns-in_ok-add_plain-in-Some-Over-clause-told :
     goal.returns-in_ok-add_plain-in-Some-Over-clause-told
 returns-in_ok-add_plain-in-Some-Over-clause-told g c = λ h root over listing z.
     let read = rw (c.in-Some-Over.is, c.in-Some-Over.field-0-is) at c.in_ok-read_file.ensures.told h root over listing (file_is_meta root _ _ z refl) in
-    (long_inventory_table root _ read.gives.1, long_inventory_lines root _ _ _ read.gives.1 c.in_ok-add_plain-in-Some-Over.ensures)
+    (long_inventory_table root _ read.gives.1, long_inventory_lines root _ c.args.lines.now c.add_plain-in-Some-Over.new.self read.gives.1 c.in_ok-add_plain-in-Some-Over.ensures)
 
 pub returns-in_ok-add_inventory-in-Some-Whole-clause-told :
     goal.returns-in_ok-add_inventory-in-Some-Whole-clause-told
@@ -22,7 +22,7 @@ returns-in_ok-add_inventory-in-Some-Whole-clause-told g c = λ h root over listi
     let read = rw (c.in-Some-Whole.is, c.in-Some-Whole.field-0-is) at c.in_ok-read_file.ensures.told h root over listing (file_is_meta root _ _ z refl) in
     let sides = c.in_ok-sidecars-in-Some-Whole.ensures.told h root (over_file root _ _ _ _ _ _ read) listing z in (
       inventory_table root _ c.in-Some-Whole.bytes _ _ read.gives.1 c.deref.ensures.value c.in_ok-add_inventory-in-Some-Whole.ensures.table,
-      inventory_lines root _ _ _ c.in-Some-Whole.bytes _ read.gives.1 c.deref.ensures.value (c.in_ok-add_inventory-in-Some-Whole.ensures.lines root sides.1 sides.2),
+      inventory_lines root _ c.args.lines.now c.add_inventory.new.lines c.in-Some-Whole.bytes _ read.gives.1 c.deref.ensures.value (c.in_ok-add_inventory-in-Some-Whole.ensures.lines root _ (sides.1, sides.2)),
     )
 
 pub returns-in_err-read_file-clause-opened : goal.returns-in_err-read_file-clause-opened

@@ -1,20 +1,25 @@
 use Rattle.std.proofs.lemmas.Result.{err_from_is_err_and}
-use Rattle.ocfl_item.proofs.HeadCalls.{all_memory, declaration_is_meta, first_added, first_memory, first_stops, head_declaration, known_lines, known_table, later_stops, over_file}
+use Rattle.ocfl_item.proofs.HeadCalls.{all_memory, declaration_is_meta, first_memory, first_stops, head_declaration, known_lines, known_table, later_stops, over_file}
 use Rattle.ocfl_item.proofs.FileLaws.{file_is_meta}
-use Rattle.ocfl_item.proofs.HeadOpens.{then_all}
+use Rattle.ocfl_item.proofs.HeadOpens.{none_memory, then_all}
 use Rattle.ocfl_item.proofs.object.known_head.Goals as goal
 
 pub returns-clause-told : goal.returns-clause-told
 returns-clause-told g c = λ h root over here known.
     let read = head_declaration root _ _ _ _ _ _ _ c.declaration_name-name.ensures (c.in_ok-declaration.ensures.told h root over here.listing (file_is_meta root _ _ here.zone (declaration_is_meta _ _ c.declaration_name-name.ensures))) in
     let more = c.in_ok-table.ensures.told h root (over_file root _ _ _ _ _ _ read) here.listing here.zone in (
-      known_lines root _ here.zone c.args.version _ _ _ known (first_added c.new-lines.result.items _ _ _ c.new-lines.ensures.items (c.in_ok-add_declaration.ensures root read.gives.1)) more.1 c.in_ok-add_clean.ensures,
+      known_lines root _ here.zone c.args.version c.new-lines.result c.add_declaration.new.lines c.add_inventory_file.new.lines c.add_clean.new.lines known c.new-lines.ensures.lines (c.in_ok-add_declaration.ensures.lines root _ read.gives.1) more.1 c.in_ok-add_clean.ensures.lines,
       known_table root _ c.args.version _ known more.0,
     )
 
+pub returns-in_err-try_clone-clause-opened : goal.returns-in_err-try_clone-clause-opened
+returns-in_err-try_clone-clause-opened g c = λ h root over here.
+    let p = err_from_is_err_and c.from_residual.result c.from_residual.ensures.1 in
+    rw (p.1, p.2) (none_memory root _ _ _ over)
+
 pub returns-in_err-declaration-clause-opened : goal.returns-in_err-declaration-clause-opened
 returns-in_err-declaration-clause-opened g c = λ h root over here.
-    let p = err_from_is_err_and c.from_residual.result c.from_residual.ensures.1 in
+    let p = err_from_is_err_and c.from_residual-in_err-declaration.result c.from_residual-in_err-declaration.ensures.1 in
     let read = c.in_err-declaration.ensures.told h root over here.listing (file_is_meta root _ _ here.zone (declaration_is_meta _ _ c.declaration_name-name.ensures)) in
     rw (p.1, p.2) (first_stops root _ _ _ _ _ _ _ (head_declaration root _ _ _ _ _ _ _ c.declaration_name-name.ensures read))
 

@@ -48,8 +48,8 @@ pub struct CycleEnd {
 ///
 /// Each run takes the items behind those of the run before, and what they write, joined, begins the
 /// report of the whole audit; it is all of that where the cycle has ended. Without limits there is
-/// no run. Want of memory for a cursor's text is `Stopped(Fault::Memory)`, with the cursor of the
-/// last run.
+/// no run. Running out of memory for a cursor's text is `Stopped(Fault::Memory)`, with the cursor
+/// of the last run.
 pub fn cycle<T: Tree, W: Write>(
     alloc: Global,
     store: &mut T,

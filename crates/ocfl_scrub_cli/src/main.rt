@@ -98,46 +98,63 @@ fn is_shown<R: Files + AllocGlobal>(rt: &R, asked: &Asked) -> bool {
     is_long && !asked.quiet && is_terminal(rt, "/dev/stderr")
 }
 
-/// Does what is asked for over a folder, and gives the status with what is to be said.
-fn done<R>(rt: &R, asked: &Asked, is_shown: bool) -> (u8, Note)
+/// The cursor's file that the command line names, and `None` where it names none or there is no
+/// such file yet.
+fn cursor_file<R: Files>(rt: &R, asked: &Asked) -> Result<Option<R::File>, Note> {
+    match &asked.file {
+        Some(file) => opened(rt, file.as_str()).map_err(|error| file_note(&error)),
+        None => Ok(None),
+    }
+}
+
+/// Does what is asked for over a folder, or gives what is to be said where it cannot begin.
+fn performed<R>(rt: &R, asked: &Asked, is_shown: bool, block: &mut Block) -> Result<Performed, Note>
 where
     R: Files + AllocGlobal + Print + Eprint,
 {
-    let file = asked.file.as_ref().map(|file| file.as_str());
     let root = asked.root.as_ref().map_or(".", |root| root.as_str());
     let Ok(mut store) = Watched::at(rt, root, is_shown) else {
-        return (STOPPED, Note::OutOfMemory);
+        return Err(Note::OutOfMemory);
     };
-    let Ok(mut block) = Block::new(rt.alloc()) else {
-        return (STOPPED, Note::OutOfMemory);
-    };
-    let mut reader = match file.map_or(Ok(None), |file| opened(rt, file)) {
-        Ok(reader) => reader,
-        Err(error) => return (STOPPED, file_note(&error)),
-    };
+    let mut reader = cursor_file(rt, asked)?;
     let mut out = Clearing {
         rt,
         is_shared: is_shown && is_terminal(rt, "/dev/stdout"),
         out: io::writer(rt),
     };
-    let Performed {
-        status,
-        note,
-        cursor,
-    } = perform(
-        rt.alloc(),
+    let alloc = rt.alloc();
+    Ok(perform(
+        alloc,
         &mut store,
         &asked.deed,
         reader.as_mut(),
-        &mut block,
+        block,
         &mut out,
-    );
-    if let (Some(text), Some(file)) = (&cursor, file) {
-        if let Err(error) = put_in_place(rt, file, text) {
+    ))
+}
+
+/// Puts the cursor in the place of its file, and gives the status with what is to be said.
+fn kept<R: Files + AllocGlobal>(rt: &R, asked: &Asked, performed: Performed) -> (u8, Note) {
+    if let (Some(file), Some(text)) = (&asked.file, &performed.cursor) {
+        if let Err(error) = put_in_place(rt, file.as_str(), text) {
             return (STOPPED, file_note(&error));
         }
     }
-    (status, note)
+    (performed.status, performed.note)
+}
+
+/// Does what is asked for, and gives the status with what is to be said.
+fn done<R>(rt: &R, asked: &Asked, is_shown: bool) -> (u8, Note)
+where
+    R: Files + AllocGlobal + Print + Eprint,
+{
+    let Ok(mut block) = Block::new(rt.alloc()) else {
+        return (STOPPED, Note::OutOfMemory);
+    };
+    match performed(rt, asked, is_shown, &mut block) {
+        Ok(performed) => kept(rt, asked, performed),
+        Err(note) => (STOPPED, note),
+    }
 }
 
 /// Says one line on standard error. A standard error that cannot be written changes nothing.

@@ -65,20 +65,21 @@ pub fn audit<T: Tree, W: Write>(
     };
     let mut last = None;
     let mut found = false;
-    loop {
+    let end = loop {
         let pending = match walk.next(store) {
             Ok(Some(pending)) => pending,
-            Ok(None) => return audit_end(last, found, End::Ended),
-            Err(why) => return audit_end(last, found, End::Stopped(why)),
+            Ok(None) => break End::Ended,
+            Err(why) => break End::Stopped(why),
         };
         match take_item(alloc, store, pending, block, out) {
             Ok(taken) => {
                 found = either(found, taken.found);
                 last = Some(taken.place);
             }
-            Err(why) => return audit_end(last, found, End::Stopped(why)),
+            Err(why) => break End::Stopped(why),
         }
-    }
+    };
+    audit_end(last, found, end)
 }
 
 fn audit_end(last: Option<Place>, found: bool, end: End) -> AuditEnd

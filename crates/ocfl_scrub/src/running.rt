@@ -206,15 +206,15 @@ fn pass_from<T: Tree, W: Write>(
     };
     let mut last = from;
     let mut found = false;
-    loop {
+    let end = loop {
         let pending = match walk.next(store) {
             Ok(Some(pending)) => pending,
-            Ok(None) => return pass_end(&meter, last, found, RunStatus::Ended),
-            Err(why) => return pass_end(&meter, last, found, RunStatus::Stopped(why)),
+            Ok(None) => break RunStatus::Ended,
+            Err(why) => break RunStatus::Stopped(why),
         };
         let paid = pays(&meter, &pending);
         if !paid {
-            return pass_end(&meter, last, found, RunStatus::Spent);
+            break RunStatus::Spent;
         }
         match take_item(alloc, store, pending, block, out) {
             Ok(taken) => {
@@ -222,9 +222,10 @@ fn pass_from<T: Tree, W: Write>(
                 found = either(found, taken.found);
                 last = Some(taken.place);
             }
-            Err(why) => return pass_end(&meter, last, found, RunStatus::Stopped(why)),
+            Err(why) => break RunStatus::Stopped(why),
         }
-    }
+    };
+    pass_end(&meter, last, found, end)
 }
 
 // Whether an item is free, or the limits allow to start it.

@@ -3,6 +3,7 @@ use Rattle.ocfl_scrub.proofs.AuditLaws.{unstarted, nothing_unread}
 use Rattle.ocfl_scrub.proofs.AuditTurns.{nothing_taken, audit_ended, audit_took, audit_missed, audit_lost}
 use Rattle.ocfl_scrub.proofs.LoopLaws.{sets_out, goes_further}
 use Rattle.ocfl_scrub.proofs.auditing.audit.Goals as goal
+use Rattle.ocfl_scrub.proofs.auditing.audit.Goals.{in-Ok-None, in-Err-next, in-Ok-Some+in-Err-take_item}
 
 pub returns-in-Err-clause-told : goal.returns-in-Err-clause-told
 returns-in-Err-clause-told g c told root over short =
@@ -17,29 +18,6 @@ loop-pending-init g c = record {
   told = λ told root over short. nothing_taken g.T.Tree.state c.args.store.now c.start.new.store root _ _ (c.in-Ok.ensures.untouched refl) over (c.in-Ok.ensures.told told root over).1;
 }
 
-pub returns-in-Ok-None-clause-told : goal.returns-in-Ok-None-clause-told
-returns-in-Ok-None-clause-told g c told root over short =
-    let i = c.loop-pending.invariant in
-    let e = c.audit_end-in-Ok-None.ensures in
-    rw (e.last, e.found, e.end) (audit_ended i.way (i.told told root over short) _ c.next.new.self (c.in-Ok-None.ensures.told told root) c.in-Ok-None.field-0-is)
-
-pub returns-in-Ok-None-clause-unfailing : goal.returns-in-Ok-None-clause-unfailing
-returns-in-Ok-None-clause-unfailing g c told root over short ended same =
-    nothing_unread root _ _ _ _ _ _ _ (returns-in-Ok-None-clause-told g c told root over short) ended same
-
-pub returns-in-Err-next-clause-told : goal.returns-in-Err-next-clause-told
-returns-in-Err-next-clause-told g c told root over short =
-    let i = c.loop-pending.invariant in
-    let e = c.audit_end-in-Err-next.ensures in
-    rw (e.last, e.found, e.end) (audit_lost i.way (i.told told root over short) _ _ c.in-Err-next.ensures.only (c.in-Err-next.ensures.told told root))
-
-pub returns-in-Err-take_item-clause-told : goal.returns-in-Err-take_item-clause-told
-returns-in-Err-take_item-clause-told g c told root over short =
-    let i = c.loop-pending.invariant in
-    let e = c.audit_end-in-Err-take_item.ensures in
-    rw (e.last, e.found, e.end)
-    (audit_missed i.way (i.told told root over short) _ _ (c.in-Ok-Some.ensures.told told root) c.in-Ok-Some.field-0-is c.in-Ok-Some.ensures.goes_on _ _ _ (λ u q. c.in-Err-take_item.ensures.told told root u short q))
-
 pub loop-pending-preserved : goal.loop-pending-preserved
 loop-pending-preserved g c =
     let i = c.loop-pending.invariant in
@@ -52,3 +30,21 @@ loop-pending-preserved g c =
       told = λ told root over short.
           audit_took i.way (i.told told root over short) _ _ (given.ensures.told told root) given.field-0-is given.ensures.goes_on _ _ _ _ _ _ took.place c.either-found.ensures (λ u q. took.told told root u short q);
     }
+
+pub returns-clause-told : goal.returns-clause-told
+returns-clause-told g c told root over short =
+    let i = c.loop-pending.invariant in
+    let e = c.audit_end-2.ensures in
+    rw (e.last, e.found, e.end)
+    (elim c.match-next.branch [
+      | in-Ok-None w ↦ rw (w.store-is, w.out-is, w.end-is)
+          (audit_ended i.way (i.told told root over short) _ c.next.new.self (w.in-Ok-None.ensures.told told root) w.in-Ok-None.field-0-is)
+      | in-Err-next w ↦ rw (w.store-is, w.out-is, w.end-is)
+          (audit_lost i.way (i.told told root over short) _ _ w.in-Err-next.ensures.only (w.in-Err-next.ensures.told told root))
+      | in-Ok-Some+in-Err-take_item w ↦ rw (w.store-is, w.out-is, w.end-is)
+          (audit_missed i.way (i.told told root over short) _ _ (w.in-Ok-Some.ensures.told told root) w.in-Ok-Some.field-0-is w.in-Ok-Some.ensures.goes_on _ _ _ (λ u q. w.in-Err-take_item.ensures.told told root u short q))
+    ])
+
+pub returns-clause-unfailing : goal.returns-clause-unfailing
+returns-clause-unfailing g c told root over short ended same =
+    nothing_unread root _ _ _ _ _ _ _ (returns-clause-told g c told root over short) ended same

@@ -4,6 +4,7 @@ use Rattle.ocfl_scrub.proofs.RunTurns.{within_both, not_within, charged_item, no
 use Rattle.ocfl_scrub.proofs.RunLaws.{lent_place, not_run}
 use Rattle.ocfl_scrub.proofs.LoopLaws.{sets_out, next_short, goes_further}
 use Rattle.ocfl_scrub.proofs.running.pass_from.Goals as goal
+use Rattle.ocfl_scrub.proofs.running.pass_from.Goals.{in-Ok-None, in-Err-next, in-Ok-Some+then-not-paid, in-Ok-Some+else-not-paid+in-Err-take_item}
 
 pub returns-in-Err-clause-told : goal.returns-in-Err-clause-told
 returns-in-Err-clause-told g c told root over short =
@@ -23,34 +24,6 @@ loop-pending-init g c =
       told = λ told root over short. nothing_paid root _ _ _ _ c.args.from _ _ _ meter.spent meter.files (rw lent at (c.in-Ok.ensures.told told root over));
     }
 
-pub returns-in-Ok-None-clause-told : goal.returns-in-Ok-None-clause-told
-returns-in-Ok-None-clause-told g c told root over short =
-    let i = c.loop-pending.invariant in
-    let e = c.pass_end-in-Ok-None.ensures in
-    rw (e.last, e.spent, e.files, e.found, e.end) (run_ended i.way (i.told told root over short) _ c.next.new.self (c.in-Ok-None.ensures.told told root) c.in-Ok-None.field-0-is)
-
-pub returns-in-Err-next-clause-told : goal.returns-in-Err-next-clause-told
-returns-in-Err-next-clause-told g c told root over short =
-    let i = c.loop-pending.invariant in
-    let e = c.pass_end-in-Err-next.ensures in
-    rw (e.last, e.spent, e.files, e.found, e.end) (run_lost i.way (i.told told root over short) _ _ c.in-Err-next.ensures.only (c.in-Err-next.ensures.told told root))
-
-pub returns-then-not-paid-clause-told : goal.returns-then-not-paid-clause-told
-returns-then-not-paid-clause-told g c told root over short =
-    let i = c.loop-pending.invariant in
-    let e = c.pass_end-then-not-paid.ensures in
-    let unpaid = c.pays-paid.ensures.unpaid c.if-not-paid.true in
-    rw (e.last, e.spent, e.files, e.found, e.end)
-    (run_spent i.way (i.told told root over short) _ _ (c.in-Ok-Some.ensures.told told root) c.in-Ok-Some.field-0-is c.in-Ok-Some.ensures.goes_on unpaid.0 (not_within _ c.loop-pending.meter i.limits unpaid.1))
-
-pub returns-in-Err-take_item-clause-told : goal.returns-in-Err-take_item-clause-told
-returns-in-Err-take_item-clause-told g c told root over short =
-    let i = c.loop-pending.invariant in
-    let e = c.pass_end-in-Err-take_item.ensures in
-    rw (e.last, e.spent, e.files, e.found, e.end)
-    (run_missed i.way (i.told told root over short) _ _ (c.in-Ok-Some.ensures.told told root) c.in-Ok-Some.field-0-is c.in-Ok-Some.ensures.goes_on (λ h. within_both _ c.loop-pending.meter i.limits (c.pays-paid.ensures.paid c.if-not-paid.false h))
-    _ _ _ (λ u q. c.in-Err-take_item.ensures.told told root u short q))
-
 pub loop-pending-preserved : goal.loop-pending-preserved
 loop-pending-preserved g c =
     let i = c.loop-pending.invariant in
@@ -66,3 +39,21 @@ loop-pending-preserved g c =
           run_took i.way (i.told told root over short) _ _ (given.ensures.told told root) given.field-0-is given.ensures.goes_on (λ h. within_both _ c.loop-pending.meter i.limits (may h)) _ _ _ _ _ _ _ _ took.place
           c.charge.ensures.spent c.charge.ensures.files c.either-found.ensures (λ u q. took.told told root u short q);
     }
+
+pub returns-clause-told : goal.returns-clause-told
+returns-clause-told g c told root over short =
+    let i = c.loop-pending.invariant in
+    let e = c.pass_end-2.ensures in
+    rw (e.last, e.spent, e.files, e.found, e.end)
+    (elim c.match-next.branch [
+      | in-Ok-None w ↦ rw (w.store-is, w.out-is, w.end-is)
+          (run_ended i.way (i.told told root over short) _ c.next.new.self (w.in-Ok-None.ensures.told told root) w.in-Ok-None.field-0-is)
+      | in-Err-next w ↦ rw (w.store-is, w.out-is, w.end-is)
+          (run_lost i.way (i.told told root over short) _ _ w.in-Err-next.ensures.only (w.in-Err-next.ensures.told told root))
+      | in-Ok-Some+then-not-paid w ↦ let unpaid = w.pays-paid.ensures.unpaid w.if-not-paid.true in
+          rw (w.store-is, w.out-is, w.end-is)
+          (run_spent i.way (i.told told root over short) _ _ (w.in-Ok-Some.ensures.told told root) w.in-Ok-Some.field-0-is w.in-Ok-Some.ensures.goes_on unpaid.0 (not_within _ c.loop-pending.meter i.limits unpaid.1))
+      | in-Ok-Some+else-not-paid+in-Err-take_item w ↦ rw (w.store-is, w.out-is, w.end-is)
+          (run_missed i.way (i.told told root over short) _ _ (w.in-Ok-Some.ensures.told told root) w.in-Ok-Some.field-0-is w.in-Ok-Some.ensures.goes_on (λ h. within_both _ c.loop-pending.meter i.limits (w.pays-paid.ensures.paid w.if-not-paid.false h))
+          _ _ _ (λ u q. w.in-Err-take_item.ensures.told told root u short q))
+    ])

@@ -56,7 +56,6 @@ pub fn after_is_an_end()
 {}
 
 /// The items at a place and below it: its own, and then those under each name, ascending.
-#[tactic(auto, using(crate::proofs::PublicLaws::by_name, crate::proofs::WalkLaws::item_here, crate::proofs::WalkLaws::names_ascend))]
 pub fn items_go_by_name()
     ensures by_name { (root : StorageRoot) (unread : Unread) (d : Place)
         → items_under d (audit root unread) ≡ item_at root unread d
@@ -89,7 +88,6 @@ pub fn directories_lie_above()
 {}
 
 /// Zone, entered and seen, one name further.
-#[tactic(auto, using(crate::proofs::StepLaws::zone_step, crate::proofs::StepLaws::entered_step, crate::proofs::StepLaws::reached_step, crate::proofs::StepLaws::seen_step, crate::proofs::StepLaws::listed_step))]
 pub fn a_name_is_one_step()
     ensures zone { (root : StorageRoot) (d : Place) (n : Text)
         → zone root (d ++ n ∷ []) ≡ (if is_extensions root d n then skipped else step_zone root d n
@@ -226,7 +224,6 @@ pub fn ways_are_parts()
 /// No inventory is read of an object without one, or with no known version or several declarations;
 /// none in the storage root's extensions, none inside another object, and none in a storage root
 /// that is not of known version.
-#[tactic(auto, using(crate::proofs::ObjectLaws::none_without_file, crate::proofs::ObjectLaws::none_of_unknown, crate::proofs::ObjectLaws::one_declaration, crate::proofs::ObjectLaws::none_of_several, crate::proofs::ObjectLaws::none_in_extensions, crate::proofs::ObjectLaws::none_inside, crate::proofs::ObjectLaws::none_in_unknown_root))]
 pub fn other_inventories_are_not_read()
     ensures without_file { (root : StorageRoot) (o : Place)
         → file_at root (o ++ inventory_name ∷ []) ≡ None

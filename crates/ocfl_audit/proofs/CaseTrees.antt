@@ -1,5 +1,5 @@
 -- Words to write the trees of worked cases with, and the digests that they name.
-use Rattle.std.proofs.Common.{◌≡◌, ◌==◌, ℕ, List, [], ◌∷◌, ◌++◌, codes, map}
+use Rattle.std.proofs.Common.{◌≡◌, ◌==◌, ℕ, List, [], ◌∷◌, ◌++◌, codes, map, refl, ◌∙◌}
 use Rattle.std.specs.List.{join_with_byte, slice_split}
 use Prim.Native.String.{String}
 use Rattle.ocfl_tree.specs.Place.{Text, Place}
@@ -11,19 +11,36 @@ use Rattle.ocfl_digest.specs.declared.algorithm.Algorithm.TheVariants.{Sha256, S
 use Rattle.ocfl_inventory.specs.DigestText.{digest_of}
 use Rattle.ocfl_audit.specs.Audit.{audit}
 
--- a case by its name: a text, and what it is to be
+-- a case by its name: a text, and what it is to be; and a text that it is and that takes less to compute
 pub record Case : Type 0 where
   pub name : String
   pub shown : Text
+  pub quick : Text
+  pub is_quick : shown ≡ quick
   pub wanted : Text
 
 -- each case of a table has the text that is wanted
 abbrev pub AllAre : List Case → Type 0
 AllAre cases = map (λ c. c.shown) cases ≡ map (λ c. c.wanted) cases
 
+-- the same of the texts that take less
+abbrev pub AllAreQuick : List Case → Type 0
+AllAreQuick cases = map (λ c. c.quick) cases ≡ map (λ c. c.wanted) cases
+
+quick_texts : (cases : List Case) → map (λ c. c.shown) cases ≡ map (λ c. c.quick) cases
+quick_texts [] = refl
+quick_texts (c ∷ cases) = λ i. c.is_quick i ∷ quick_texts cases i
+
+pub quickly : (cases : List Case) → AllAreQuick cases → AllAre cases
+quickly cases e = quick_texts cases ∙ e
+
+-- a case whose text is computed as it stands
+abbrev pub case : String → Text → Text → Case
+case name shown wanted = record { name = name; shown = shown; quick = shown; is_quick = refl; wanted = wanted }
+
 -- the text of the audit of a tree in which each file can be read
 abbrev pub reports : String → StorageRoot → String → Case
-reports name root t = record { name = name; shown = text (audit root []); wanted = codes t }
+reports name root t = case name (text (audit root [])) (codes t)
 
 -- ---- what lies in a tree
 

@@ -1,5 +1,5 @@
 -- Worked cases: the content of objects, and what else lies in them.
-use Rattle.std.proofs.Common.{◌≡◌, [], ◌∷◌, ◌++◌, codes, refl, true, map}
+use Rattle.std.proofs.Common.{◌≡◌, List, [], ◌∷◌, ◌++◌, codes, refl, true, map}
 use Prim.Native.String.{String}
 use Rattle.ocfl_tree.specs.Place.{Text}
 use Rattle.ocfl_tree.specs.StorageRoot.{StorageRoot, file}
@@ -11,7 +11,8 @@ use Rattle.ocfl_audit.specs.Audit.{audit, total_cost}
 use Rattle.ocfl_audit.specs.Due.{item_places, hashed_among}
 use Rattle.ocfl_audit.specs.Walk.{item_at}
 use Rattle.ocfl_audit.proofs.OnLiterals.{audit_on_literals}
-use Rattle.ocfl_audit.proofs.CaseTrees.{Case, Digests, AllAre, reports, place, text_at, folder, link, storage_root, object_in, sha256_object, sha512_object, f_is_abc, key, keys, inventory, listing, listing_with, lists_f, missing_and_right, sha512_file, abc, abc_sha512_capitals, no_bytes}
+use Rattle.ocfl_audit.proofs.CaseTrees.{Case, case, Digests, AllAre, AllAreQuick, quickly, reports, place, text_at, folder, link, storage_root, object_in, sha256_object, sha512_object, f_is_abc, key, keys, inventory, listing, listing_with, lists_f, missing_and_right, sha512_file, abc, abc_sha512_capitals, no_bytes}
+use Rattle.ocfl_audit.proofs.QuietCases.{reports_256, reports_512}
 
 -- ---- digests
 
@@ -59,28 +60,34 @@ cost_of_named_by_fixity_alone : map (λ i. i.cost) (audit (sha256_object (listin
 unfolding audit_on_literals
 cost_of_named_by_fixity_alone = refl
 
-files_and_digests : AllAre (
+abbrev files_and_digests_cases : List Case
+files_and_digests_cases =
     reports "right_file" sha512_file "ok\t.\t-\nok\to\t-\nok\to/v1/content/f\t3\n" ∷
-    reports "capitals_in_manifest_key" (sha512_object (inventory "sha512" (keys (key abc_sha512_capitals "[\"v1/content/f\"]" ∷ [])) (codes "{}")) f_is_abc) "ok\t.\t-\nok\to\t-\nok\to/v1/content/f\t3\n" ∷
+    reports_512 "capitals_in_manifest_key" (inventory "sha512" (keys (key abc_sha512_capitals "[\"v1/content/f\"]" ∷ [])) (codes "{}")) f_is_abc "ok\t.\t-\nok\to\t-\nok\to/v1/content/f\t3\n" ∷
     reports "all_algorithms_on_an_empty_file" empty_file "ok\t.\t-\nok\to\t-\nok\to/v1/content/f\t0\n" ∷
     reports "fixity_mismatch" wrong_in_fixity "ok\t.\t-\nok\to\t-\nE093\to/v1/content/f\tmd5 d41d8cd98f00b204e9800998ecf8427e 900150983cd24fb0d6963f7d28e17f72\n" ∷
-    reports "fixity_match" (sha256_object (listing_with lists_f (codes "{\"md5\":{\"900150983CD24FB0D6963F7D28E17F72\":[\"v1/content/f\"]}}")) f_is_abc) "ok\t.\t-\nok\to\t-\nok\to/v1/content/f\t3\n" ∷
+    reports_256 "fixity_match" (listing_with lists_f (codes "{\"md5\":{\"900150983CD24FB0D6963F7D28E17F72\":[\"v1/content/f\"]}}")) f_is_abc "ok\t.\t-\nok\to\t-\nok\to/v1/content/f\t3\n" ∷
     -- by the algorithms' names, whatever the order of the block
-    reports "fixity_mismatch_in_each_algorithm" (sha256_object (listing_with lists_f (codes "{\"sha512/256\":{\"x\":[\"v1/content/f\"]},\"sha512\":{\"x\":[\"v1/content/f\"]},\"sha256\":{\"x\":[\"v1/content/f\"]},\"sha1\":{\"x\":[\"v1/content/f\"]},\"md5\":{\"x\":[\"v1/content/f\"]}}")) f_is_abc) "ok\t.\t-\nok\to\t-\nE093\to/v1/content/f\tmd5 x 900150983cd24fb0d6963f7d28e17f72\nE093\to/v1/content/f\tsha1 x a9993e364706816aba3e25717850c26c9cd0d89d\nE093\to/v1/content/f\tsha256 x ba7816bf8f01cfea414140de5dae2223b00361a396177a9cb410ff61f20015ad\nE093\to/v1/content/f\tsha512 x ddaf35a193617abacc417349ae20413112e6fa4e89a97ea20a9eeee64b55d39a2192992a274fc1a836ba3c23a3feebbd454d4423643ce80e2a9ac94fa54ca49f\nE093\to/v1/content/f\tsha512/256 x 53048e2681941ef99b2e29b76b4c7dabe4c2d0c634fc6d46e0e2f13107e7af23\n" ∷
+    reports_256 "fixity_mismatch_in_each_algorithm" (listing_with lists_f (codes "{\"sha512/256\":{\"x\":[\"v1/content/f\"]},\"sha512\":{\"x\":[\"v1/content/f\"]},\"sha256\":{\"x\":[\"v1/content/f\"]},\"sha1\":{\"x\":[\"v1/content/f\"]},\"md5\":{\"x\":[\"v1/content/f\"]}}")) f_is_abc "ok\t.\t-\nok\to\t-\nE093\to/v1/content/f\tmd5 x 900150983cd24fb0d6963f7d28e17f72\nE093\to/v1/content/f\tsha1 x a9993e364706816aba3e25717850c26c9cd0d89d\nE093\to/v1/content/f\tsha256 x ba7816bf8f01cfea414140de5dae2223b00361a396177a9cb410ff61f20015ad\nE093\to/v1/content/f\tsha512 x ddaf35a193617abacc417349ae20413112e6fa4e89a97ea20a9eeee64b55d39a2192992a274fc1a836ba3c23a3feebbd454d4423643ce80e2a9ac94fa54ca49f\nE093\to/v1/content/f\tsha512/256 x 53048e2681941ef99b2e29b76b4c7dabe4c2d0c634fc6d46e0e2f13107e7af23\n" ∷
     -- the manifest before the fixity block; the digest that is right has no line
-    reports "two_digests_and_fixity" (sha256_object (listing_with (key no_bytes.sha256 "[\"v1/content/f\"]" ∷ key abc.sha256 "[\"v1/content/f\"]" ∷ []) (codes "{\"md5\":{\"d41d8cd98f00b204e9800998ecf8427e\":[\"v1/content/f\"]}}")) f_is_abc) "ok\t.\t-\nE101\to\tv1/content/f\nE092\to/v1/content/f\tsha256 e3b0c44298fc1c149afbf4c8996fb92427ae41e4649b934ca495991b7852b855 ba7816bf8f01cfea414140de5dae2223b00361a396177a9cb410ff61f20015ad\nE093\to/v1/content/f\tmd5 d41d8cd98f00b204e9800998ecf8427e 900150983cd24fb0d6963f7d28e17f72\n" ∷
+    reports_256 "two_digests_and_fixity" (listing_with (key no_bytes.sha256 "[\"v1/content/f\"]" ∷ key abc.sha256 "[\"v1/content/f\"]" ∷ []) (codes "{\"md5\":{\"d41d8cd98f00b204e9800998ecf8427e\":[\"v1/content/f\"]}}")) f_is_abc "ok\t.\t-\nE101\to\tv1/content/f\nE092\to/v1/content/f\tsha256 e3b0c44298fc1c149afbf4c8996fb92427ae41e4649b934ca495991b7852b855 ba7816bf8f01cfea414140de5dae2223b00361a396177a9cb410ff61f20015ad\nE093\to/v1/content/f\tmd5 d41d8cd98f00b204e9800998ecf8427e 900150983cd24fb0d6963f7d28e17f72\n" ∷
     -- ascending, told folded and escaped
-    reports "two_wrong_digests" (sha256_object (listing (key "Y%" "[\"v1/content/f\"]" ∷ key "X y" "[\"v1/content/f\"]" ∷ [])) f_is_abc) "ok\t.\t-\nE101\to\tv1/content/f\nE092\to/v1/content/f\tsha256 x y ba7816bf8f01cfea414140de5dae2223b00361a396177a9cb410ff61f20015ad\nE092\to/v1/content/f\tsha256 y%25 ba7816bf8f01cfea414140de5dae2223b00361a396177a9cb410ff61f20015ad\n" ∷
+    reports_256 "two_wrong_digests" (listing (key "Y%" "[\"v1/content/f\"]" ∷ key "X y" "[\"v1/content/f\"]" ∷ [])) f_is_abc "ok\t.\t-\nE101\to\tv1/content/f\nE092\to/v1/content/f\tsha256 x y ba7816bf8f01cfea414140de5dae2223b00361a396177a9cb410ff61f20015ad\nE092\to/v1/content/f\tsha256 y%25 ba7816bf8f01cfea414140de5dae2223b00361a396177a9cb410ff61f20015ad\n" ∷
     -- as written, `B` stands before `a`
-    reports "wrong_digests_ascend_folded" (sha256_object (listing (key "B" "[\"v1/content/f\"]" ∷ key "a" "[\"v1/content/f\"]" ∷ [])) f_is_abc) "ok\t.\t-\nE101\to\tv1/content/f\nE092\to/v1/content/f\tsha256 a ba7816bf8f01cfea414140de5dae2223b00361a396177a9cb410ff61f20015ad\nE092\to/v1/content/f\tsha256 b ba7816bf8f01cfea414140de5dae2223b00361a396177a9cb410ff61f20015ad\n" ∷
+    reports_256 "wrong_digests_ascend_folded" (listing (key "B" "[\"v1/content/f\"]" ∷ key "a" "[\"v1/content/f\"]" ∷ [])) f_is_abc "ok\t.\t-\nE101\to\tv1/content/f\nE092\to/v1/content/f\tsha256 a ba7816bf8f01cfea414140de5dae2223b00361a396177a9cb410ff61f20015ad\nE092\to/v1/content/f\tsha256 b ba7816bf8f01cfea414140de5dae2223b00361a396177a9cb410ff61f20015ad\n" ∷
     -- one digest in either case of letters is one
-    reports "same_wrong_digest_twice" (sha256_object (listing (key "x" "[\"v1/content/f\"]" ∷ key "X" "[\"v1/content/f\"]" ∷ [])) f_is_abc) "ok\t.\t-\nE096\to\tx\nE101\to\tv1/content/f\nE092\to/v1/content/f\tsha256 x ba7816bf8f01cfea414140de5dae2223b00361a396177a9cb410ff61f20015ad\n" ∷
+    reports_256 "same_wrong_digest_twice" (listing (key "x" "[\"v1/content/f\"]" ∷ key "X" "[\"v1/content/f\"]" ∷ [])) f_is_abc "ok\t.\t-\nE096\to\tx\nE101\to\tv1/content/f\nE092\to/v1/content/f\tsha256 x ba7816bf8f01cfea414140de5dae2223b00361a396177a9cb410ff61f20015ad\n" ∷
     -- hashed, but no `ok`
-    reports "named_by_fixity_alone" (sha256_object (listing_with [] (codes "{\"md5\":{\"900150983cd24fb0d6963f7d28e17f72\":[\"v1/content/f\"]}}")) f_is_abc) "ok\t.\t-\nok\to\t-\nE023\to/v1/content/f\t-\n" ∷
-    reports "wrong_by_fixity_alone" (sha256_object (listing_with [] (codes "{\"md5\":{\"x\":[\"v1/content/f\"]}}")) f_is_abc) "ok\t.\t-\nok\to\t-\nE023\to/v1/content/f\t-\nE093\to/v1/content/f\tmd5 x 900150983cd24fb0d6963f7d28e17f72\n" ∷
-    [])
+    reports_256 "named_by_fixity_alone" (listing_with [] (codes "{\"md5\":{\"900150983cd24fb0d6963f7d28e17f72\":[\"v1/content/f\"]}}")) f_is_abc "ok\t.\t-\nok\to\t-\nE023\to/v1/content/f\t-\n" ∷
+    reports_256 "wrong_by_fixity_alone" (listing_with [] (codes "{\"md5\":{\"x\":[\"v1/content/f\"]}}")) f_is_abc "ok\t.\t-\nok\to\t-\nE023\to/v1/content/f\t-\nE093\to/v1/content/f\tmd5 x 900150983cd24fb0d6963f7d28e17f72\n" ∷
+    []
+
+quick_files_and_digests : AllAreQuick files_and_digests_cases
 unfolding audit_on_literals
-files_and_digests = refl
+quick_files_and_digests = refl
+
+files_and_digests : AllAre files_and_digests_cases
+files_and_digests = quickly files_and_digests_cases quick_files_and_digests
 
 -- ---- the fifth algorithm
 
@@ -88,13 +95,19 @@ files_and_digests = refl
 abbrev fifth_alone : StorageRoot
 fifth_alone = sha256_object (listing_with [] (codes "{\"sha512/256\":{\"53048e2681941ef99b2e29b76b4c7dabe4c2d0c634fc6d46e0e2f13107e7af23\":[\"v1/content/f\"]}}")) f_is_abc
 
-fifth_algorithm : AllAre (
-    reports "fifth_algorithm_match" (sha256_object (listing_with lists_f (codes "{\"sha512/256\":{\"53048e2681941ef99b2e29b76b4c7dabe4c2d0c634fc6d46e0e2f13107e7af23\":[\"v1/content/f\"]}}")) f_is_abc) "ok\t.\t-\nok\to\t-\nok\to/v1/content/f\t3\n" ∷
-    reports "fifth_algorithm_mismatch" (sha256_object (listing_with lists_f (codes "{\"sha512/256\":{\"ba7816bf8f01cfea414140de5dae2223b00361a396177a9cb410ff61f20015ad\":[\"v1/content/f\"]}}")) f_is_abc) "ok\t.\t-\nok\to\t-\nE093\to/v1/content/f\tsha512/256 ba7816bf8f01cfea414140de5dae2223b00361a396177a9cb410ff61f20015ad 53048e2681941ef99b2e29b76b4c7dabe4c2d0c634fc6d46e0e2f13107e7af23\n" ∷
+abbrev fifth_algorithm_cases : List Case
+fifth_algorithm_cases =
+    reports_256 "fifth_algorithm_match" (listing_with lists_f (codes "{\"sha512/256\":{\"53048e2681941ef99b2e29b76b4c7dabe4c2d0c634fc6d46e0e2f13107e7af23\":[\"v1/content/f\"]}}")) f_is_abc "ok\t.\t-\nok\to\t-\nok\to/v1/content/f\t3\n" ∷
+    reports_256 "fifth_algorithm_mismatch" (listing_with lists_f (codes "{\"sha512/256\":{\"ba7816bf8f01cfea414140de5dae2223b00361a396177a9cb410ff61f20015ad\":[\"v1/content/f\"]}}")) f_is_abc "ok\t.\t-\nok\to\t-\nE093\to/v1/content/f\tsha512/256 ba7816bf8f01cfea414140de5dae2223b00361a396177a9cb410ff61f20015ad 53048e2681941ef99b2e29b76b4c7dabe4c2d0c634fc6d46e0e2f13107e7af23\n" ∷
     reports "fifth_algorithm_without_manifest" fifth_alone "ok\t.\t-\nok\to\t-\nE023\to/v1/content/f\t-\n" ∷
-    [])
+    []
+
+quick_fifth_algorithm : AllAreQuick fifth_algorithm_cases
 unfolding audit_on_literals
-fifth_algorithm = refl
+quick_fifth_algorithm = refl
+
+fifth_algorithm : AllAre fifth_algorithm_cases
+fifth_algorithm = quickly fifth_algorithm_cases quick_fifth_algorithm
 
 cost_of_fifth_algorithm : (map (λ i. i.cost) (audit fifth_alone []) ≡ 0 ∷ 0 ∷ 4 ∷ []) × (hashed_among fifth_alone (item_places fifth_alone) ≡ place "o/v1/content/f" ∷ [])
 unfolding audit_on_literals hashed_among item_places
@@ -104,7 +117,7 @@ cost_of_fifth_algorithm = (refl, refl)
 
 -- the lines of one place
 abbrev shows : String → StorageRoot → String → String → Case
-shows name root p t = record { name = name; shown = text (item_at root [] (place p)); wanted = codes t }
+shows name root p t = case name (text (item_at root [] (place p))) (codes t)
 
 -- the same with an unlisted file
 abbrev with_unlisted : StorageRoot
@@ -129,13 +142,19 @@ items_at_one_place = refl
 
 -- ---- files that nothing names
 
-files_that_nothing_names : AllAre (
-    reports "unlisted_file" (sha256_object (listing lists_f) (text_at "o/v1/content/z" "abc" ∷ f_is_abc)) "ok\t.\t-\nok\to\t-\nok\to/v1/content/f\t3\nE023\to/v1/content/z\t-\n" ∷
+abbrev files_that_nothing_names_cases : List Case
+files_that_nothing_names_cases =
+    reports_256 "unlisted_file" (listing lists_f) (text_at "o/v1/content/z" "abc" ∷ f_is_abc) "ok\t.\t-\nok\to\t-\nok\to/v1/content/f\t3\nE023\to/v1/content/z\t-\n" ∷
     -- é, a tab, a percent sign and a space
-    reports "odd_letters_in_a_name" (sha256_object (listing []) ((place "o/v1/content" ++ (0xC3 ∷ 0xA9 ∷ 9 ∷ 37 ∷ 32 ∷ []) ∷ [], file []) ∷ [])) "ok\t.\t-\nok\to\t-\nE023\to/v1/content/%C3%A9%09%25 \t-\n" ∷
-    [])
+    reports_256 "odd_letters_in_a_name" (listing []) ((place "o/v1/content" ++ (0xC3 ∷ 0xA9 ∷ 9 ∷ 37 ∷ 32 ∷ []) ∷ [], file []) ∷ []) "ok\t.\t-\nok\to\t-\nE023\to/v1/content/%C3%A9%09%25 \t-\n" ∷
+    []
+
+quick_files_that_nothing_names : AllAreQuick files_that_nothing_names_cases
 unfolding audit_on_literals
-files_that_nothing_names = refl
+quick_files_that_nothing_names = refl
+
+files_that_nothing_names : AllAre files_that_nothing_names_cases
+files_that_nothing_names = quickly files_that_nothing_names_cases quick_files_that_nothing_names
 
 -- ---- paths where no file is
 
@@ -143,17 +162,23 @@ cost_of_missing_and_right_files : map (λ i. i.cost) (audit missing_and_right []
 unfolding audit_on_literals
 cost_of_missing_and_right_files = refl
 
-paths_without_file : AllAre (
+abbrev paths_without_file_cases : List Case
+paths_without_file_cases =
     reports "missing_and_right_files" missing_and_right "ok\t.\t-\nok\to\t-\nE092\to/v1/content/a\tsha256 missing\nE093\to/v1/content/a\tsha1 missing\nok\to/v1/content/b\t3\n" ∷
     -- one line for a block and algorithm, however many digests
-    reports "missing_under_several_digests" (sha256_object (listing_with (key "x" "[\"v1/content/f\"]" ∷ key "y" "[\"v1/content/f\"]" ∷ []) (codes "{\"sha1\":{\"z\":[\"v1/content/f\"]},\"md5\":{\"z\":[\"v1/content/f\"],\"w\":[\"v1/content/f\"]}}")) []) "ok\t.\t-\nE101\to\tv1/content/f\nE092\to/v1/content/f\tsha256 missing\nE093\to/v1/content/f\tmd5 missing\nE093\to/v1/content/f\tsha1 missing\n" ∷
-    reports "missing_by_fixity_alone" (sha256_object (listing_with [] (codes "{\"md5\":{\"x\":[\"v1/content/f\"]}}")) []) "ok\t.\t-\nok\to\t-\nE093\to/v1/content/f\tmd5 missing\n" ∷
+    reports_256 "missing_under_several_digests" (listing_with (key "x" "[\"v1/content/f\"]" ∷ key "y" "[\"v1/content/f\"]" ∷ []) (codes "{\"sha1\":{\"z\":[\"v1/content/f\"]},\"md5\":{\"z\":[\"v1/content/f\"],\"w\":[\"v1/content/f\"]}}")) [] "ok\t.\t-\nE101\to\tv1/content/f\nE092\to/v1/content/f\tsha256 missing\nE093\to/v1/content/f\tmd5 missing\nE093\to/v1/content/f\tsha1 missing\n" ∷
+    reports_256 "missing_by_fixity_alone" (listing_with [] (codes "{\"md5\":{\"x\":[\"v1/content/f\"]}}")) [] "ok\t.\t-\nok\to\t-\nE093\to/v1/content/f\tmd5 missing\n" ∷
     -- `v10` before `v2`, and no directory `v3`
-    reports "versions_in_order" (sha256_object (listing (key abc.sha256 "[\"v10/content/f\",\"v2/content/f\",\"v3/content/f\"]" ∷ [])) (folder "o/v10" ∷ folder "o/v10/content" ∷ text_at "o/v10/content/f" "abc" ∷ folder "o/v2" ∷ folder "o/v2/content" ∷ text_at "o/v2/content/f" "abc" ∷ [])) "ok\t.\t-\nok\to\t-\nok\to/v10/content/f\t3\nok\to/v2/content/f\t3\nE092\to/v3/content/f\tsha256 missing\n" ∷
-    reports "missing_directory" (sha256_object (listing (key abc.sha256 "[\"v1/content/x/y\"]" ∷ [])) []) "ok\t.\t-\nok\to\t-\nE092\to/v1/content/x/y\tsha256 missing\n" ∷
-    [])
+    reports_256 "versions_in_order" (listing (key abc.sha256 "[\"v10/content/f\",\"v2/content/f\",\"v3/content/f\"]" ∷ [])) (folder "o/v10" ∷ folder "o/v10/content" ∷ text_at "o/v10/content/f" "abc" ∷ folder "o/v2" ∷ folder "o/v2/content" ∷ text_at "o/v2/content/f" "abc" ∷ []) "ok\t.\t-\nok\to\t-\nok\to/v10/content/f\t3\nok\to/v2/content/f\t3\nE092\to/v3/content/f\tsha256 missing\n" ∷
+    reports_256 "missing_directory" (listing (key abc.sha256 "[\"v1/content/x/y\"]" ∷ [])) [] "ok\t.\t-\nok\to\t-\nE092\to/v1/content/x/y\tsha256 missing\n" ∷
+    []
+
+quick_paths_without_file : AllAreQuick paths_without_file_cases
 unfolding audit_on_literals
-paths_without_file = refl
+quick_paths_without_file = refl
+
+paths_without_file : AllAre paths_without_file_cases
+paths_without_file = quickly paths_without_file_cases quick_paths_without_file
 
 -- ---- directories and links in content
 
@@ -161,16 +186,22 @@ cost_of_listed_empty_directory : total_cost (audit (sha256_object (listing (key 
 unfolding audit_on_literals
 cost_of_listed_empty_directory = refl
 
-directories_and_links_in_content : AllAre (
-    reports "listed_empty_directory" (sha256_object (listing (key abc.sha256 "[\"v1/content/d\"]" ∷ [])) (folder "o/v1/content/d" ∷ [])) "ok\t.\t-\nok\to\t-\nE024\to/v1/content/d\t-\nE092\to/v1/content/d\tsha256 missing\n" ∷
-    reports "directories_in_content" (sha256_object (listing (key abc.sha256 "[\"v1/content/d\",\"v1/content/e/g\"]" ∷ [])) (folder "o/v1/content/d" ∷ folder "o/v1/content/d/x" ∷ folder "o/v1/content/e" ∷ text_at "o/v1/content/e/g" "abc" ∷ [])) "ok\t.\t-\nok\to\t-\nE092\to/v1/content/d\tsha256 missing\nE024\to/v1/content/d/x\t-\nok\to/v1/content/e/g\t3\n" ∷
+abbrev directories_and_links_in_content_cases : List Case
+directories_and_links_in_content_cases =
+    reports_256 "listed_empty_directory" (listing (key abc.sha256 "[\"v1/content/d\"]" ∷ [])) (folder "o/v1/content/d" ∷ []) "ok\t.\t-\nok\to\t-\nE024\to/v1/content/d\t-\nE092\to/v1/content/d\tsha256 missing\n" ∷
+    reports_256 "directories_in_content" (listing (key abc.sha256 "[\"v1/content/d\",\"v1/content/e/g\"]" ∷ [])) (folder "o/v1/content/d" ∷ folder "o/v1/content/d/x" ∷ folder "o/v1/content/e" ∷ text_at "o/v1/content/e/g" "abc" ∷ []) "ok\t.\t-\nok\to\t-\nE092\to/v1/content/d\tsha256 missing\nE024\to/v1/content/d/x\t-\nok\to/v1/content/e/g\t3\n" ∷
     -- the same digests as where `f` is a file
-    reports "listed_link" (sha256_object (listing_with (key no_bytes.sha256 "[\"v1/content/f\"]" ∷ key abc.sha256 "[\"v1/content/f\"]" ∷ []) (codes "{\"md5\":{\"d41d8cd98f00b204e9800998ecf8427e\":[\"v1/content/f\"]}}")) (link "o/v1/content/f" ∷ [])) "ok\t.\t-\nE101\to\tv1/content/f\nS04\to/v1/content/f\t-\nE092\to/v1/content/f\tsha256 missing\nE093\to/v1/content/f\tmd5 missing\n" ∷
-    reports "unlisted_link_in_content" (sha256_object (listing []) (link "o/v1/content/f" ∷ [])) "ok\t.\t-\nok\to\t-\nS04\to/v1/content/f\t-\n" ∷
-    reports "path_below_a_link" (sha256_object (listing (key abc.sha256 "[\"v1/content/f/g\"]" ∷ [])) (link "o/v1/content/f" ∷ [])) "ok\t.\t-\nok\to\t-\nS04\to/v1/content/f\t-\nE092\to/v1/content/f/g\tsha256 missing\n" ∷
-    [])
+    reports_256 "listed_link" (listing_with (key no_bytes.sha256 "[\"v1/content/f\"]" ∷ key abc.sha256 "[\"v1/content/f\"]" ∷ []) (codes "{\"md5\":{\"d41d8cd98f00b204e9800998ecf8427e\":[\"v1/content/f\"]}}")) (link "o/v1/content/f" ∷ []) "ok\t.\t-\nE101\to\tv1/content/f\nS04\to/v1/content/f\t-\nE092\to/v1/content/f\tsha256 missing\nE093\to/v1/content/f\tmd5 missing\n" ∷
+    reports_256 "unlisted_link_in_content" (listing []) (link "o/v1/content/f" ∷ []) "ok\t.\t-\nok\to\t-\nS04\to/v1/content/f\t-\n" ∷
+    reports_256 "path_below_a_link" (listing (key abc.sha256 "[\"v1/content/f/g\"]" ∷ [])) (link "o/v1/content/f" ∷ []) "ok\t.\t-\nok\to\t-\nS04\to/v1/content/f\t-\nE092\to/v1/content/f/g\tsha256 missing\n" ∷
+    []
+
+quick_directories_and_links_in_content : AllAreQuick directories_and_links_in_content_cases
 unfolding audit_on_literals
-directories_and_links_in_content = refl
+quick_directories_and_links_in_content = refl
+
+directories_and_links_in_content : AllAre directories_and_links_in_content_cases
+directories_and_links_in_content = quickly directories_and_links_in_content_cases quick_directories_and_links_in_content
 
 -- ---- entries of an object root
 
@@ -196,14 +227,20 @@ entries_of_objects = refl
 
 -- ---- entries of a version directory
 
-entries_of_versions : AllAre (
+abbrev entries_of_versions_cases : List Case
+entries_of_versions_cases =
     reports "entries_of_a_version" (around_f (text_at "o/v1/inventory.json" "" ∷ text_at "o/v1/inventory.json.sha256" "" ∷ text_at "o/v1/inventory.json.sha512" "" ∷ text_at "o/v1/inventory.json.md5" "" ∷ folder "o/v1/logs" ∷ link "o/v1/other" ∷ folder "o/v2" ∷ folder "o/v2/content" ∷ [])) "ok\t.\t-\nok\to\t-\nok\to/v1/content/f\t3\nE015\to/v1/inventory.json.md5\t-\nS04\to/v1/other\t-\n" ∷
-    reports "links_of_a_version" (sha256_object (listing (key abc.sha256 "[\"v2/content/f\"]" ∷ [])) (link "o/v1/inventory.json" ∷ folder "o/v2" ∷ link "o/v2/content" ∷ [])) "ok\t.\t-\nok\to\t-\nS04\to/v1/inventory.json\t-\nS04\to/v2/content\t-\nE092\to/v2/content/f\tsha256 missing\n" ∷
-    reports "version_is_a_link" (sha256_object (listing (key abc.sha256 "[\"v2/content/f\"]" ∷ [])) (link "o/v2" ∷ text_at "o/v2/content/f" "abc" ∷ [])) "ok\t.\t-\nok\to\t-\nS04\to/v2\t-\nE092\to/v2/content/f\tsha256 missing\n" ∷
-    reports "version_is_a_file" (sha256_object (listing (key abc.sha256 "[\"v2/content/f\"]" ∷ [])) (text_at "o/v2" "" ∷ [])) "ok\t.\t-\nok\to\t-\nE001\to/v2\t-\nE092\to/v2/content/f\tsha256 missing\n" ∷
-    reports "content_directory_is_a_file" (sha256_object (listing (key abc.sha256 "[\"v2/content/f\"]" ∷ [])) (folder "o/v2" ∷ text_at "o/v2/content" "" ∷ [])) "ok\t.\t-\nok\to\t-\nE015\to/v2/content\t-\nE092\to/v2/content/f\tsha256 missing\n" ∷
+    reports_256 "links_of_a_version" (listing (key abc.sha256 "[\"v2/content/f\"]" ∷ [])) (link "o/v1/inventory.json" ∷ folder "o/v2" ∷ link "o/v2/content" ∷ []) "ok\t.\t-\nok\to\t-\nS04\to/v1/inventory.json\t-\nS04\to/v2/content\t-\nE092\to/v2/content/f\tsha256 missing\n" ∷
+    reports_256 "version_is_a_link" (listing (key abc.sha256 "[\"v2/content/f\"]" ∷ [])) (link "o/v2" ∷ text_at "o/v2/content/f" "abc" ∷ []) "ok\t.\t-\nok\to\t-\nS04\to/v2\t-\nE092\to/v2/content/f\tsha256 missing\n" ∷
+    reports_256 "version_is_a_file" (listing (key abc.sha256 "[\"v2/content/f\"]" ∷ [])) (text_at "o/v2" "" ∷ []) "ok\t.\t-\nok\to\t-\nE001\to/v2\t-\nE092\to/v2/content/f\tsha256 missing\n" ∷
+    reports_256 "content_directory_is_a_file" (listing (key abc.sha256 "[\"v2/content/f\"]" ∷ [])) (folder "o/v2" ∷ text_at "o/v2/content" "" ∷ []) "ok\t.\t-\nok\to\t-\nE015\to/v2/content\t-\nE092\to/v2/content/f\tsha256 missing\n" ∷
     -- `content` is then a directory like others, and not entered
-    reports "content_directory_of_another_name" (sha256_object (codes "{\"digestAlgorithm\":\"sha256\",\"contentDirectory\":\"data\",\"manifest\":{\"ba7816bf8f01cfea414140de5dae2223b00361a396177a9cb410ff61f20015ad\":[\"v1/data/f\"]}}") (text_at "o/v1/content/x" "" ∷ folder "o/v1/data" ∷ text_at "o/v1/data/f" "abc" ∷ text_at "o/v1/data/g" "" ∷ [])) "ok\t.\t-\nok\to\t-\nok\to/v1/data/f\t3\nE023\to/v1/data/g\t-\n" ∷
-    [])
+    reports_256 "content_directory_of_another_name" (codes "{\"digestAlgorithm\":\"sha256\",\"contentDirectory\":\"data\",\"manifest\":{\"ba7816bf8f01cfea414140de5dae2223b00361a396177a9cb410ff61f20015ad\":[\"v1/data/f\"]}}") (text_at "o/v1/content/x" "" ∷ folder "o/v1/data" ∷ text_at "o/v1/data/f" "abc" ∷ text_at "o/v1/data/g" "" ∷ []) "ok\t.\t-\nok\to\t-\nok\to/v1/data/f\t3\nE023\to/v1/data/g\t-\n" ∷
+    []
+
+quick_entries_of_versions : AllAreQuick entries_of_versions_cases
 unfolding audit_on_literals
-entries_of_versions = refl
+quick_entries_of_versions = refl
+
+entries_of_versions : AllAre entries_of_versions_cases
+entries_of_versions = quickly entries_of_versions_cases quick_entries_of_versions

@@ -1,5 +1,5 @@
 -- Worked cases: the head of an object, but for the keys and paths of its inventory's tables.
-use Rattle.std.proofs.Common.{◌≡◌, [], ◌∷◌, ◌++◌, codes, refl, true, false, Some, None, take, replicate, length, nat_le}
+use Rattle.std.proofs.Common.{◌≡◌, List, [], ◌∷◌, ◌++◌, codes, refl, true, false, Some, None, take, replicate, length, nat_le}
 use Prim.Native.String.{String}
 use Rattle.serde_json.specs.Data.{null, no_members, member}
 use Rattle.ocfl_tree.specs.Place.{Text, Place}
@@ -15,7 +15,8 @@ use Rattle.ocfl_audit.specs.Zone.{inventory_at, table_at}
 use Rattle.ocfl_audit.specs.Head.{inventory_file_notes}
 use Rattle.ocfl_audit.specs.Audit.{audit}
 use Rattle.ocfl_audit.proofs.OnLiterals.{audit_on_literals}
-use Rattle.ocfl_audit.proofs.CaseTrees.{AllAre, reports, text_at, bytes_at, folder, link, storage_root, object, object_beside, right_sidecar_256, right_sidecar_512, sha256_object, sha512_object, f_is_abc, key, keys, inventory, inventory_with, listing, listing_with, lists_f, abc, abc_sha256_capitals}
+use Rattle.ocfl_audit.proofs.CaseTrees.{Case, AllAre, AllAreQuick, quickly, reports, text_at, bytes_at, folder, link, storage_root, object, object_beside, right_sidecar_256, right_sidecar_512, sha256_object, sha512_object, f_is_abc, key, keys, inventory, inventory_with, listing, listing_with, lists_f, abc, abc_sha256_capitals}
+use Rattle.ocfl_audit.proofs.QuietCases.{reports_256, reports_512}
 
 -- ---- the declaration
 
@@ -108,21 +109,27 @@ sidecars_and_inventories : AllAre (
 unfolding audit_on_literals
 sidecars_and_inventories = refl
 
-missing_sidecars : AllAre (
+abbrev missing_sidecars_cases : List Case
+missing_sidecars_cases =
     -- the sidecar that is there is the other algorithm's
-    reports "sidecar_of_sha512_missing" (sha256_object (inventory "sha512" (codes "{}") (codes "{}")) []) "ok\t.\t-\nE058\to\tsha512\n" ∷
-    reports "sidecar_of_sha256_missing" (sha512_object (listing []) []) "ok\t.\t-\nE058\to\tsha256\n" ∷
+    reports_256 "sidecar_of_sha512_missing" (inventory "sha512" (codes "{}") (codes "{}")) [] "ok\t.\t-\nE058\to\tsha512\n" ∷
+    reports_512 "sidecar_of_sha256_missing" (listing []) [] "ok\t.\t-\nE058\to\tsha256\n" ∷
     reports "other_sidecar_wrong_and_own_missing" (object_beside (codes "x") (inventory "sha512" (codes "{}") (codes "{}")) []) "ok\t.\t-\nE061\to\tsha256\nE058\to\tsha512\n" ∷
     -- before the lines of the keys
-    reports "missing_sidecar_before_content_directory" (sha256_object (codes "{\"digestAlgorithm\":\"sha512\",\"contentDirectory\":\"a/b\"}") []) "ok\t.\t-\nE058\to\tsha512\nE017\to\ta/b\n" ∷
+    reports_256 "missing_sidecar_before_content_directory" (codes "{\"digestAlgorithm\":\"sha512\",\"contentDirectory\":\"a/b\"}") [] "ok\t.\t-\nE058\to\tsha512\nE017\to\ta/b\n" ∷
     -- no algorithm, so none of its own is missing
-    reports "unknown_algorithm_has_no_sidecar" (sha512_object (codes "{\"digestAlgorithm\":\"SHA256\"}") []) "ok\t.\t-\nE025\to\tSHA256\n" ∷
+    reports_512 "unknown_algorithm_has_no_sidecar" (codes "{\"digestAlgorithm\":\"SHA256\"}") [] "ok\t.\t-\nE025\to\tSHA256\n" ∷
     reports "declaration_before_sidecar" (storage_root (folder "o" ∷ text_at "o/0=ocfl_object_1.1" "" ∷ bytes_at "o/inventory.json" (listing []) ∷ [])) "ok\t.\t-\nE007\to\t-\nE058\to\t-\n" ∷
     -- only sha256 and sha512 have sidecars
-    reports "sidecar_named_for_md5" (sha256_object (listing []) (text_at "o/inventory.json.md5" "" ∷ [])) "ok\t.\t-\nok\to\t-\nE001\to/inventory.json.md5\t-\n" ∷
-    [])
+    reports_256 "sidecar_named_for_md5" (listing []) (text_at "o/inventory.json.md5" "" ∷ []) "ok\t.\t-\nok\to\t-\nE001\to/inventory.json.md5\t-\n" ∷
+    []
+
+quick_missing_sidecars : AllAreQuick missing_sidecars_cases
 unfolding audit_on_literals
-missing_sidecars = refl
+quick_missing_sidecars = refl
+
+missing_sidecars : AllAre missing_sidecars_cases
+missing_sidecars = quickly missing_sidecars_cases quick_missing_sidecars
 
 -- only sha256 and sha512 have sidecars
 no_sidecar_for_others : (t : Text) → (sidecar_of Md5 t ≡ None) × (sidecar_of Sha1 t ≡ None) × (sidecar_of Sha512_256 t ≡ None)
@@ -130,47 +137,65 @@ no_sidecar_for_others t = (refl, refl, refl)
 
 -- ---- JSON
 
-inventories_without_json : AllAre (
-    reports "inventory_is_an_array" (sha256_object (codes "[]") f_is_abc) "ok\t.\t-\nE033\to\t-\n" ∷
-    reports "empty_inventory_file" (sha256_object [] []) "ok\t.\t-\nE033\to\t-\n" ∷
+abbrev inventories_without_json_cases : List Case
+inventories_without_json_cases =
+    reports_256 "inventory_is_an_array" (codes "[]") f_is_abc "ok\t.\t-\nE033\to\t-\n" ∷
+    reports_256 "empty_inventory_file" [] [] "ok\t.\t-\nE033\to\t-\n" ∷
     reports "broken_json_without_sidecar" (object (codes "{\"digestAlgorithm\":") []) "ok\t.\t-\nE058\to\t-\nE033\to\t-\n" ∷
-    reports "text_behind_the_json" (sha256_object (listing [] ++ codes "x") []) "ok\t.\t-\nE033\to\t-\n" ∷
-    [])
+    reports_256 "text_behind_the_json" (listing [] ++ codes "x") [] "ok\t.\t-\nE033\to\t-\n" ∷
+    []
+
+quick_inventories_without_json : AllAreQuick inventories_without_json_cases
 unfolding audit_on_literals
-inventories_without_json = refl
+quick_inventories_without_json = refl
+
+inventories_without_json : AllAre inventories_without_json_cases
+inventories_without_json = quickly inventories_without_json_cases quick_inventories_without_json
 
 -- an inventory that lists `f`, with a `state` of these bytes
 abbrev with_state : Text → Text
 with_state state = inventory_with (key "digestAlgorithm" "\"sha256\"" ∷ (codes "\"manifest\":" ++ keys lists_f) ∷ (codes "\"state\":" ++ state) ∷ [])
 
-values_in_json : AllAre (
-    reports "byte_that_is_no_utf8" (sha256_object (with_state (34 ∷ 0xFF ∷ 34 ∷ [])) f_is_abc) "ok\t.\t-\nE033\to\t-\n" ∷
-    reports "number_too_large" (sha256_object (with_state (codes "1e400")) []) "ok\t.\t-\nE033\to\t-\n" ∷
-    reports "lone_surrogate" (sha256_object (with_state (codes "\"\\ud800\"")) []) "ok\t.\t-\nE033\to\t-\n" ∷
-    reports "hundred_arrays" (sha256_object (with_state (replicate 100 91 ++ replicate 100 93)) f_is_abc) "ok\t.\t-\nok\to\t-\nok\to/v1/content/f\t3\n" ∷
+abbrev values_in_json_cases : List Case
+values_in_json_cases =
+    reports_256 "byte_that_is_no_utf8" (with_state (34 ∷ 0xFF ∷ 34 ∷ [])) f_is_abc "ok\t.\t-\nE033\to\t-\n" ∷
+    reports_256 "number_too_large" (with_state (codes "1e400")) [] "ok\t.\t-\nE033\to\t-\n" ∷
+    reports_256 "lone_surrogate" (with_state (codes "\"\\ud800\"")) [] "ok\t.\t-\nE033\to\t-\n" ∷
+    reports_256 "hundred_arrays" (with_state (replicate 100 91 ++ replicate 100 93)) f_is_abc "ok\t.\t-\nok\to\t-\nok\to/v1/content/f\t3\n" ∷
     -- with the inventory's own object 127
-    reports "deepest_nesting" (sha256_object (with_state (replicate 126 91 ++ replicate 126 93)) f_is_abc) "ok\t.\t-\nok\to\t-\nok\to/v1/content/f\t3\n" ∷
-    reports "nesting_too_deep" (sha256_object (with_state (replicate 127 91 ++ replicate 127 93)) f_is_abc) "ok\t.\t-\nE033\to\t-\n" ∷
-    reports "two_hundred_arrays" (sha256_object (with_state (replicate 200 91 ++ replicate 200 93)) f_is_abc) "ok\t.\t-\nE033\to\t-\n" ∷
-    [])
+    reports_256 "deepest_nesting" (with_state (replicate 126 91 ++ replicate 126 93)) f_is_abc "ok\t.\t-\nok\to\t-\nok\to/v1/content/f\t3\n" ∷
+    reports_256 "nesting_too_deep" (with_state (replicate 127 91 ++ replicate 127 93)) f_is_abc "ok\t.\t-\nE033\to\t-\n" ∷
+    reports_256 "two_hundred_arrays" (with_state (replicate 200 91 ++ replicate 200 93)) f_is_abc "ok\t.\t-\nE033\to\t-\n" ∷
+    []
+
+quick_values_in_json : AllAreQuick values_in_json_cases
 unfolding audit_on_literals
-values_in_json = refl
+quick_values_in_json = refl
+
+values_in_json : AllAre values_in_json_cases
+values_in_json = quickly values_in_json_cases quick_values_in_json
 
 -- ---- the algorithm
 
-inventory_algorithms : AllAre (
+abbrev inventory_algorithms_cases : List Case
+inventory_algorithms_cases =
     reports "empty_object_as_inventory" (object_beside (codes "44136fa355b3678a1146ad16f7e8649e94fb4fc21fe77e8310c060f61caaff8a inventory.json") (codes "{}") []) "ok\t.\t-\nE036\to\tdigestAlgorithm\n" ∷
-    reports "algorithm_is_a_number" (sha256_object (inventory_with (key "digestAlgorithm" "7" ∷ key "manifest" "{}" ∷ [])) []) "ok\t.\t-\nS03\to\tdigestAlgorithm\n" ∷
-    reports "algorithm_in_capitals" (sha256_object (inventory "SHA256" (codes "{}") (codes "{}")) f_is_abc) "ok\t.\t-\nE025\to\tSHA256\n" ∷
-    reports "algorithm_for_fixity_alone" (sha256_object (inventory "md5" (codes "{}") (codes "{}")) []) "ok\t.\t-\nE025\to\tmd5\n" ∷
-    reports "fifth_algorithm_is_no_inventory_algorithm" (sha256_object (inventory "sha512/256" (codes "{}") (codes "{}")) []) "ok\t.\t-\nE025\to\tsha512/256\n" ∷
+    reports_256 "algorithm_is_a_number" (inventory_with (key "digestAlgorithm" "7" ∷ key "manifest" "{}" ∷ [])) [] "ok\t.\t-\nS03\to\tdigestAlgorithm\n" ∷
+    reports_256 "algorithm_in_capitals" (inventory "SHA256" (codes "{}") (codes "{}")) f_is_abc "ok\t.\t-\nE025\to\tSHA256\n" ∷
+    reports_256 "algorithm_for_fixity_alone" (inventory "md5" (codes "{}") (codes "{}")) [] "ok\t.\t-\nE025\to\tmd5\n" ∷
+    reports_256 "fifth_algorithm_is_no_inventory_algorithm" (inventory "sha512/256" (codes "{}") (codes "{}")) [] "ok\t.\t-\nE025\to\tsha512/256\n" ∷
     -- a detail is escaped as a name is; its slashes and spaces stand
-    reports "algorithm_with_odd_letters" (sha256_object (codes "{\"digestAlgorithm\":\"% /" ++ 0xC3 ∷ 0xA9 ∷ codes "\\t\"}") []) "ok\t.\t-\nE025\to\t%25 /%C3%A9%09\n" ∷
+    reports_256 "algorithm_with_odd_letters" (codes "{\"digestAlgorithm\":\"% /" ++ 0xC3 ∷ 0xA9 ∷ codes "\\t\"}") [] "ok\t.\t-\nE025\to\t%25 /%C3%A9%09\n" ∷
     -- the last value is kept
-    reports "algorithm_twice" (sha256_object (codes "{\"digestAlgorithm\":\"md5\",\"manifest\":{},\"digestAlgorithm\":\"sha256\"}") []) "ok\t.\t-\nok\to\t-\n" ∷
-    [])
+    reports_256 "algorithm_twice" (codes "{\"digestAlgorithm\":\"md5\",\"manifest\":{},\"digestAlgorithm\":\"sha256\"}") [] "ok\t.\t-\nok\to\t-\n" ∷
+    []
+
+quick_inventory_algorithms : AllAreQuick inventory_algorithms_cases
 unfolding audit_on_literals
-inventory_algorithms = refl
+quick_inventory_algorithms = refl
+
+inventory_algorithms : AllAre inventory_algorithms_cases
+inventory_algorithms = quickly inventory_algorithms_cases quick_inventory_algorithms
 
 -- ---- the content directory
 
@@ -178,17 +203,23 @@ inventory_algorithms = refl
 abbrev with_content : String → Text
 with_content d = inventory_with (key "digestAlgorithm" "\"sha256\"" ∷ key "contentDirectory" d ∷ key "manifest" "{}" ∷ [])
 
-content_directories : AllAre (
-    reports "content_directory_with_slash" (sha256_object (with_content "\"a/b\"") []) "ok\t.\t-\nE017\to\ta/b\n" ∷
-    reports "content_directory_is_dots" (sha256_object (with_content "\"..\"") []) "ok\t.\t-\nE018\to\t..\n" ∷
-    reports "content_directory_is_a_dot" (sha256_object (with_content "\".\"") []) "ok\t.\t-\nE018\to\t.\n" ∷
+abbrev content_directories_cases : List Case
+content_directories_cases =
+    reports_256 "content_directory_with_slash" (with_content "\"a/b\"") [] "ok\t.\t-\nE017\to\ta/b\n" ∷
+    reports_256 "content_directory_is_dots" (with_content "\"..\"") [] "ok\t.\t-\nE018\to\t..\n" ∷
+    reports_256 "content_directory_is_a_dot" (with_content "\".\"") [] "ok\t.\t-\nE018\to\t.\n" ∷
     -- the slash is looked for first
-    reports "content_directory_of_dots_and_slash" (sha256_object (with_content "\"../\"") []) "ok\t.\t-\nE017\to\t../\n" ∷
-    reports "content_directory_is_empty" (sha256_object (with_content "\"\"") []) "ok\t.\t-\nS03\to\tcontentDirectory\n" ∷
-    reports "content_directory_is_a_number" (sha256_object (with_content "7") []) "ok\t.\t-\nS03\to\tcontentDirectory\n" ∷
-    [])
+    reports_256 "content_directory_of_dots_and_slash" (with_content "\"../\"") [] "ok\t.\t-\nE017\to\t../\n" ∷
+    reports_256 "content_directory_is_empty" (with_content "\"\"") [] "ok\t.\t-\nS03\to\tcontentDirectory\n" ∷
+    reports_256 "content_directory_is_a_number" (with_content "7") [] "ok\t.\t-\nS03\to\tcontentDirectory\n" ∷
+    []
+
+quick_content_directories : AllAreQuick content_directories_cases
 unfolding audit_on_literals
-content_directories = refl
+quick_content_directories = refl
+
+content_directories : AllAre content_directories_cases
+content_directories = quickly content_directories_cases quick_content_directories
 
 -- ---- the manifest and the fixity block as values
 
@@ -196,23 +227,29 @@ unsupported_fixity_is_no_finding : found (audit (sha256_object (listing_with lis
 unfolding audit_on_literals
 unsupported_fixity_is_no_finding = refl
 
-manifests_and_fixity_blocks : AllAre (
-    reports "no_manifest" (sha256_object (inventory_with (key "digestAlgorithm" "\"sha256\"" ∷ key "fixity" "7" ∷ [])) []) "ok\t.\t-\nE041\to\tmanifest\n" ∷
-    reports "content_directory_before_manifest" (sha256_object (codes "{\"digestAlgorithm\":\"sha256\",\"contentDirectory\":\"..\"}") []) "ok\t.\t-\nE018\to\t..\n" ∷
-    reports "path_in_place_of_a_list" (sha256_object (listing (key abc.sha256 "\"v1/content/f\"" ∷ [])) f_is_abc) "ok\t.\t-\nS03\to\tmanifest\n" ∷
-    reports "manifest_is_an_array" (sha256_object (inventory "sha256" (codes "[]") (codes "{}")) []) "ok\t.\t-\nS03\to\tmanifest\n" ∷
-    reports "number_among_the_paths" (sha256_object (listing (key abc.sha256 "[\"v1/content/f\",7]" ∷ [])) f_is_abc) "ok\t.\t-\nS03\to\tmanifest\n" ∷
-    reports "no_fixity_block" (sha256_object (codes "{\"digestAlgorithm\":\"sha256\",\"manifest\":{}}") []) "ok\t.\t-\nok\to\t-\n" ∷
-    reports "fixity_is_an_array" (sha256_object (listing_with [] (codes "[]")) []) "ok\t.\t-\nS03\to\tfixity\n" ∷
-    reports "supported_fixity_is_a_number" (sha256_object (listing_with [] (codes "{\"md5\":7}")) []) "ok\t.\t-\nS03\to\tfixity\n" ∷
-    reports "fifth_fixity_is_a_number" (sha256_object (listing_with lists_f (codes "{\"sha512/256\":7}")) f_is_abc) "ok\t.\t-\nS03\to\tfixity\n" ∷
+abbrev manifests_and_fixity_blocks_cases : List Case
+manifests_and_fixity_blocks_cases =
+    reports_256 "no_manifest" (inventory_with (key "digestAlgorithm" "\"sha256\"" ∷ key "fixity" "7" ∷ [])) [] "ok\t.\t-\nE041\to\tmanifest\n" ∷
+    reports_256 "content_directory_before_manifest" (codes "{\"digestAlgorithm\":\"sha256\",\"contentDirectory\":\"..\"}") [] "ok\t.\t-\nE018\to\t..\n" ∷
+    reports_256 "path_in_place_of_a_list" (listing (key abc.sha256 "\"v1/content/f\"" ∷ [])) f_is_abc "ok\t.\t-\nS03\to\tmanifest\n" ∷
+    reports_256 "manifest_is_an_array" (inventory "sha256" (codes "[]") (codes "{}")) [] "ok\t.\t-\nS03\to\tmanifest\n" ∷
+    reports_256 "number_among_the_paths" (listing (key abc.sha256 "[\"v1/content/f\",7]" ∷ [])) f_is_abc "ok\t.\t-\nS03\to\tmanifest\n" ∷
+    reports_256 "no_fixity_block" (codes "{\"digestAlgorithm\":\"sha256\",\"manifest\":{}}") [] "ok\t.\t-\nok\to\t-\n" ∷
+    reports_256 "fixity_is_an_array" (listing_with [] (codes "[]")) [] "ok\t.\t-\nS03\to\tfixity\n" ∷
+    reports_256 "supported_fixity_is_a_number" (listing_with [] (codes "{\"md5\":7}")) [] "ok\t.\t-\nS03\to\tfixity\n" ∷
+    reports_256 "fifth_fixity_is_a_number" (listing_with lists_f (codes "{\"sha512/256\":7}")) f_is_abc "ok\t.\t-\nS03\to\tfixity\n" ∷
     -- a note alone; its value is not examined
-    reports "unsupported_fixity" (sha256_object (listing_with lists_f (codes "{\"blake2b-512\":7}")) f_is_abc) "ok\t.\t-\nS07\to\tblake2b-512\nok\to/v1/content/f\t3\n" ∷
+    reports_256 "unsupported_fixity" (listing_with lists_f (codes "{\"blake2b-512\":7}")) f_is_abc "ok\t.\t-\nS07\to\tblake2b-512\nok\to/v1/content/f\t3\n" ∷
     -- ascending; capitals count in the name of an algorithm
-    reports "two_unsupported_fixities" (sha256_object (listing_with lists_f (codes "{\"sha3\":[],\"blake2b-512\":{\"x\":[\"/x\"]},\"MD5\":7}")) f_is_abc) "ok\t.\t-\nS07\to\tMD5\nS07\to\tblake2b-512\nS07\to\tsha3\nok\to/v1/content/f\t3\n" ∷
-    [])
+    reports_256 "two_unsupported_fixities" (listing_with lists_f (codes "{\"sha3\":[],\"blake2b-512\":{\"x\":[\"/x\"]},\"MD5\":7}")) f_is_abc "ok\t.\t-\nS07\to\tMD5\nS07\to\tblake2b-512\nS07\to\tsha3\nok\to/v1/content/f\t3\n" ∷
+    []
+
+quick_manifests_and_fixity_blocks : AllAreQuick manifests_and_fixity_blocks_cases
 unfolding audit_on_literals
-manifests_and_fixity_blocks = refl
+quick_manifests_and_fixity_blocks = refl
+
+manifests_and_fixity_blocks : AllAre manifests_and_fixity_blocks_cases
+manifests_and_fixity_blocks = quickly manifests_and_fixity_blocks_cases quick_manifests_and_fixity_blocks
 
 -- ascending of itself, in whatever order a reading has the keys; a supported one is left out
 unsupported_keys_in_another_order : unsupported_in (member (codes "sha3") null (member (codes "md5") null (member (codes "blake2b-512") null no_members))) ≡ codes "blake2b-512" ∷ codes "sha3" ∷ []

@@ -20,6 +20,9 @@ pub mod ObjectLaws
 pub mod RunLaws
 pub mod CaseTrees
 pub mod OnLiterals
+pub mod RightSidecars
+pub mod QuietHeads
+pub mod QuietCases
 pub mod RootCases
 pub mod HeadCases
 pub mod PathCases

@@ -10,44 +10,57 @@ use Rattle.ocfl_report.specs.declared.code.Code.TheVariants.{E099, E100, S06}
 use Rattle.ocfl_inventory.specs.ListedPath.{path_fault}
 use Rattle.ocfl_audit.specs.Audit.{audit}
 use Rattle.ocfl_audit.proofs.OnLiterals.{audit_on_literals}
-use Rattle.ocfl_audit.proofs.CaseTrees.{Case, AllAre, reports, sha256_object, f_is_abc, key, keys, inventory, listing, listing_with, lists_f, abc, abc_sha256_capitals, no_bytes, no_bytes_sha256_capitals}
+use Rattle.ocfl_audit.proofs.CaseTrees.{Case, case, AllAre, AllAreQuick, quickly, reports, sha256_object, f_is_abc, key, keys, inventory, listing, listing_with, lists_f, abc, abc_sha256_capitals, no_bytes, no_bytes_sha256_capitals}
+use Rattle.ocfl_audit.proofs.QuietCases.{reports_256, told_256}
 
 -- ---- keys
 
-keys_that_stand_twice : AllAre (
-    reports "digest_twice_in_the_manifest" (sha256_object (listing (key abc.sha256 "[\"v1/content/f\"]" ∷ key abc_sha256_capitals "[\"v1/content/f\"]" ∷ [])) f_is_abc) "ok\t.\t-\nE096\to\tba7816bf8f01cfea414140de5dae2223b00361a396177a9cb410ff61f20015ad\nE101\to\tv1/content/f\nok\to/v1/content/f\t3\n" ∷
+abbrev keys_that_stand_twice_cases : List Case
+keys_that_stand_twice_cases =
+    reports_256 "digest_twice_in_the_manifest" (listing (key abc.sha256 "[\"v1/content/f\"]" ∷ key abc_sha256_capitals "[\"v1/content/f\"]" ∷ [])) f_is_abc "ok\t.\t-\nE096\to\tba7816bf8f01cfea414140de5dae2223b00361a396177a9cb410ff61f20015ad\nE101\to\tv1/content/f\nok\to/v1/content/f\t3\n" ∷
     -- keys count, also where they list nothing
-    reports "digest_twice_with_empty_lists" (sha256_object (listing (key abc_sha256_capitals "[]" ∷ key abc.sha256 "[]" ∷ [])) []) "ok\t.\t-\nE096\to\tba7816bf8f01cfea414140de5dae2223b00361a396177a9cb410ff61f20015ad\n" ∷
-    reports "two_digests_twice_ascending" (sha256_object (listing (key no_bytes.sha256 "[]" ∷ key no_bytes_sha256_capitals "[]" ∷ key abc.sha256 "[]" ∷ key abc_sha256_capitals "[]" ∷ [])) []) "ok\t.\t-\nE096\to\tba7816bf8f01cfea414140de5dae2223b00361a396177a9cb410ff61f20015ad\nE096\to\te3b0c44298fc1c149afbf4c8996fb92427ae41e4649b934ca495991b7852b855\n" ∷
+    reports_256 "digest_twice_with_empty_lists" (listing (key abc_sha256_capitals "[]" ∷ key abc.sha256 "[]" ∷ [])) [] "ok\t.\t-\nE096\to\tba7816bf8f01cfea414140de5dae2223b00361a396177a9cb410ff61f20015ad\n" ∷
+    reports_256 "two_digests_twice_ascending" (listing (key no_bytes.sha256 "[]" ∷ key no_bytes_sha256_capitals "[]" ∷ key abc.sha256 "[]" ∷ key abc_sha256_capitals "[]" ∷ [])) [] "ok\t.\t-\nE096\to\tba7816bf8f01cfea414140de5dae2223b00361a396177a9cb410ff61f20015ad\nE096\to\te3b0c44298fc1c149afbf4c8996fb92427ae41e4649b934ca495991b7852b855\n" ∷
     -- as written, `BA` stands before `aB`
-    reports "repeated_digests_ascend_folded" (sha256_object (listing (key "BA" "[]" ∷ key "ba" "[]" ∷ key "aB" "[]" ∷ key "ab" "[]" ∷ [])) []) "ok\t.\t-\nE096\to\tab\nE096\to\tba\n" ∷
+    reports_256 "repeated_digests_ascend_folded" (listing (key "BA" "[]" ∷ key "ba" "[]" ∷ key "aB" "[]" ∷ key "ab" "[]" ∷ [])) [] "ok\t.\t-\nE096\to\tab\nE096\to\tba\n" ∷
     -- one line for a digest, whatever its letters are
-    reports "any_key_three_times" (sha256_object (listing (key "xy" "[]" ∷ key "xY" "[]" ∷ key "XY" "[]" ∷ [])) []) "ok\t.\t-\nE096\to\txy\n" ∷
+    reports_256 "any_key_three_times" (listing (key "xy" "[]" ∷ key "xY" "[]" ∷ key "XY" "[]" ∷ [])) [] "ok\t.\t-\nE096\to\txy\n" ∷
     -- the last value is kept
-    reports "key_twice_letter_for_letter" (sha256_object (listing (key abc.sha256 "[\"v1/content/a\"]" ∷ key abc.sha256 "[\"v1/content/f\"]" ∷ [])) f_is_abc) "ok\t.\t-\nok\to\t-\nok\to/v1/content/f\t3\n" ∷
-    reports "digest_twice_in_fixity" (sha256_object (listing_with lists_f (keys (key "md5" "{\"900150983cd24fb0d6963f7d28e17f72\":[\"v1/content/f\"],\"900150983CD24FB0D6963F7D28E17F72\":[\"v1/content/f\"]}" ∷ []))) f_is_abc) "ok\t.\t-\nE097\to\tmd5 900150983cd24fb0d6963f7d28e17f72\nok\to/v1/content/f\t3\n" ∷
+    reports_256 "key_twice_letter_for_letter" (listing (key abc.sha256 "[\"v1/content/a\"]" ∷ key abc.sha256 "[\"v1/content/f\"]" ∷ [])) f_is_abc "ok\t.\t-\nok\to\t-\nok\to/v1/content/f\t3\n" ∷
+    reports_256 "digest_twice_in_fixity" (listing_with lists_f (keys (key "md5" "{\"900150983cd24fb0d6963f7d28e17f72\":[\"v1/content/f\"],\"900150983CD24FB0D6963F7D28E17F72\":[\"v1/content/f\"]}" ∷ []))) f_is_abc "ok\t.\t-\nE097\to\tmd5 900150983cd24fb0d6963f7d28e17f72\nok\to/v1/content/f\t3\n" ∷
     -- by the algorithms' names, then by the digests
-    reports "digests_twice_in_fixity_ascending" (sha256_object (listing_with lists_f (codes "{\"sha512/256\":{\"e\":[],\"E\":[]},\"sha512\":{\"d\":[],\"D\":[]},\"sha256\":{\"c\":[],\"C\":[]},\"sha1\":{\"b\":[],\"B\":[]},\"md5\":{\"z\":[],\"Z\":[],\"a\":[],\"A\":[]}}")) f_is_abc) "ok\t.\t-\nE097\to\tmd5 a\nE097\to\tmd5 z\nE097\to\tsha1 b\nE097\to\tsha256 c\nE097\to\tsha512 d\nE097\to\tsha512/256 e\nok\to/v1/content/f\t3\n" ∷
-    reports "manifest_keys_before_fixity_keys" (sha256_object (listing_with (key abc.sha256 "[]" ∷ key abc_sha256_capitals "[]" ∷ []) (codes "{\"md5\":{\"a\":[],\"A\":[]}}")) []) "ok\t.\t-\nE096\to\tba7816bf8f01cfea414140de5dae2223b00361a396177a9cb410ff61f20015ad\nE097\to\tmd5 a\n" ∷
+    reports_256 "digests_twice_in_fixity_ascending" (listing_with lists_f (codes "{\"sha512/256\":{\"e\":[],\"E\":[]},\"sha512\":{\"d\":[],\"D\":[]},\"sha256\":{\"c\":[],\"C\":[]},\"sha1\":{\"b\":[],\"B\":[]},\"md5\":{\"z\":[],\"Z\":[],\"a\":[],\"A\":[]}}")) f_is_abc "ok\t.\t-\nE097\to\tmd5 a\nE097\to\tmd5 z\nE097\to\tsha1 b\nE097\to\tsha256 c\nE097\to\tsha512 d\nE097\to\tsha512/256 e\nok\to/v1/content/f\t3\n" ∷
+    reports_256 "manifest_keys_before_fixity_keys" (listing_with (key abc.sha256 "[]" ∷ key abc_sha256_capitals "[]" ∷ []) (codes "{\"md5\":{\"a\":[],\"A\":[]}}")) [] "ok\t.\t-\nE096\to\tba7816bf8f01cfea414140de5dae2223b00361a396177a9cb410ff61f20015ad\nE097\to\tmd5 a\n" ∷
     -- a digest may stand once in each block
-    reports "same_digest_in_other_blocks" (sha256_object (listing_with lists_f (codes "{\"md5\":{\"x\":[]},\"sha1\":{\"X\":[]}}")) f_is_abc) "ok\t.\t-\nok\to\t-\nok\to/v1/content/f\t3\n" ∷
-    [])
+    reports_256 "same_digest_in_other_blocks" (listing_with lists_f (codes "{\"md5\":{\"x\":[]},\"sha1\":{\"X\":[]}}")) f_is_abc "ok\t.\t-\nok\to\t-\nok\to/v1/content/f\t3\n" ∷
+    []
+
+quick_keys_that_stand_twice : AllAreQuick keys_that_stand_twice_cases
 unfolding audit_on_literals
-keys_that_stand_twice = refl
+quick_keys_that_stand_twice = refl
+
+keys_that_stand_twice : AllAre keys_that_stand_twice_cases
+keys_that_stand_twice = quickly keys_that_stand_twice_cases quick_keys_that_stand_twice
 
 -- ---- bad paths
 
-bad_paths : AllAre (
+abbrev bad_paths_cases : List Case
+bad_paths_cases =
     -- ascending by their bytes
-    reports "bad_paths_of_each_kind" (sha256_object (listing (key abc.sha256 "[\"x/content/a\",\"/a\",\"v1/content/f\",\"v1/content/../b\"]" ∷ [])) f_is_abc) "ok\t.\t-\nE100\to\t/a\nE099\to\tv1/content/../b\nS06\to\tx/content/a\nok\to/v1/content/f\t3\n" ∷
-    reports "bad_path_twice" (sha256_object (listing (key abc.sha256 "[\"/b\",\"/a\",\"/b\"]" ∷ key no_bytes.sha256 "[\"/b\"]" ∷ [])) []) "ok\t.\t-\nE100\to\t/a\nE100\to\t/b\n" ∷
+    reports_256 "bad_paths_of_each_kind" (listing (key abc.sha256 "[\"x/content/a\",\"/a\",\"v1/content/f\",\"v1/content/../b\"]" ∷ [])) f_is_abc "ok\t.\t-\nE100\to\t/a\nE099\to\tv1/content/../b\nS06\to\tx/content/a\nok\to/v1/content/f\t3\n" ∷
+    reports_256 "bad_path_twice" (listing (key abc.sha256 "[\"/b\",\"/a\",\"/b\"]" ∷ key no_bytes.sha256 "[\"/b\"]" ∷ [])) [] "ok\t.\t-\nE100\to\t/a\nE100\to\t/b\n" ∷
     -- once for the manifest, and once for the supported fixity algorithms together
-    reports "bad_path_in_manifest_and_fixity" (sha256_object (listing_with (key abc.sha256 "[\"v1/content/f\",\"/x\"]" ∷ []) (codes "{\"md5\":{\"900150983cd24fb0d6963f7d28e17f72\":[\"/x\"]},\"sha1\":{\"a9993e364706816aba3e25717850c26c9cd0d89d\":[\"/x\"]}}")) f_is_abc) "ok\t.\t-\nE100\to\t/x\nE100\to\t/x\nok\to/v1/content/f\t3\n" ∷
-    reports "manifest_paths_before_fixity_paths" (sha256_object (listing_with (key abc.sha256 "[\"/b\"]" ∷ []) (codes "{\"sha1\":{\"x\":[\"/a\"]},\"md5\":{\"y\":[\"/c\"]}}")) []) "ok\t.\t-\nE100\to\t/b\nE100\to\t/a\nE100\to\t/c\n" ∷
-    reports "empty_path" (sha256_object (listing (key abc.sha256 "[\"\"]" ∷ [])) []) "ok\t.\t-\nE099\to\t\n" ∷
-    [])
+    reports_256 "bad_path_in_manifest_and_fixity" (listing_with (key abc.sha256 "[\"v1/content/f\",\"/x\"]" ∷ []) (codes "{\"md5\":{\"900150983cd24fb0d6963f7d28e17f72\":[\"/x\"]},\"sha1\":{\"a9993e364706816aba3e25717850c26c9cd0d89d\":[\"/x\"]}}")) f_is_abc "ok\t.\t-\nE100\to\t/x\nE100\to\t/x\nok\to/v1/content/f\t3\n" ∷
+    reports_256 "manifest_paths_before_fixity_paths" (listing_with (key abc.sha256 "[\"/b\"]" ∷ []) (codes "{\"sha1\":{\"x\":[\"/a\"]},\"md5\":{\"y\":[\"/c\"]}}")) [] "ok\t.\t-\nE100\to\t/b\nE100\to\t/a\nE100\to\t/c\n" ∷
+    reports_256 "empty_path" (listing (key abc.sha256 "[\"\"]" ∷ [])) [] "ok\t.\t-\nE099\to\t\n" ∷
+    []
+
+quick_bad_paths : AllAreQuick bad_paths_cases
 unfolding audit_on_literals
-bad_paths = refl
+quick_bad_paths = refl
+
+bad_paths : AllAre bad_paths_cases
+bad_paths = quickly bad_paths_cases quick_bad_paths
 
 -- these paths have this fault, where the content directory is `content`
 abbrev HaveFault : Option Code → List String → Type 0
@@ -99,24 +112,30 @@ element_with_nul = refl
 -- the same in whole audits: a kept path has its line, and a bad one is in the head
 
 -- a manifest that lists one path
-abbrev lists_one : Text → StorageRoot
-lists_one path = sha256_object (inventory "sha256" (codes "{\"x\":[\"" ++ path ++ codes "\"]}") (codes "{}")) []
+abbrev lists_one : Text → Text
+lists_one path = inventory "sha256" (codes "{\"x\":[\"" ++ path ++ codes "\"]}") (codes "{}")
 
 abbrev keeps : String → Text → Case
-keeps name path = record { name = name; shown = text (audit (lists_one path) []); wanted = codes "ok\t.\t-\nok\to\t-\nE092\to/" ++ path ++ codes "\tsha256 missing\n" }
+keeps name path = told_256 name (lists_one path) [] (codes "ok\t.\t-\nok\to\t-\nE092\to/" ++ path ++ codes "\tsha256 missing\n")
 
 abbrev drops : String → Text → Case
-drops name path = record { name = name; shown = text (audit (lists_one path) []); wanted = codes "ok\t.\t-\nS06\to\t" ++ path ++ codes "\n" }
+drops name path = told_256 name (lists_one path) [] (codes "ok\t.\t-\nS06\to\t" ++ path ++ codes "\n")
 
-long_paths : AllAre (
+abbrev long_paths_cases : List Case
+long_paths_cases =
     keeps "longest_path_is_kept" (long_path (replicate 126 (codes "a"))) ∷
     drops "longer_path_is_told" (long_path (replicate 127 (codes "a"))) ∷
     keeps "longest_element_is_kept" (long_path (replicate 255 97 ∷ [])) ∷
     drops "longer_element_is_told" (long_path (replicate 256 97 ∷ [])) ∷
-    reports "nul_is_told_escaped" (lists_one (codes "v1/content/a\\u0000")) "ok\t.\t-\nS06\to\tv1/content/a%00\n" ∷
-    [])
+    reports_256 "nul_is_told_escaped" (lists_one (codes "v1/content/a\\u0000")) [] "ok\t.\t-\nS06\to\tv1/content/a%00\n" ∷
+    []
+
+quick_long_paths : AllAreQuick long_paths_cases
 unfolding audit_on_literals
-long_paths = refl
+quick_long_paths = refl
+
+long_paths : AllAre long_paths_cases
+long_paths = quickly long_paths_cases quick_long_paths
 
 -- ---- a content directory of another name
 
@@ -129,28 +148,40 @@ content_directory_longer_than_a_name : text (audit (sha256_object (with_content 
 unfolding audit_on_literals
 content_directory_longer_than_a_name = refl
 
-content_directory_with_nul : AllAre (reports "content_directory_with_nul" (sha256_object (with_content (codes "a\\u0000") (codes "v1/a\\u0000/f")) []) "ok\t.\t-\nS06\to\tv1/a%00/f\n" ∷ [])
+abbrev content_directory_with_nul_cases : List Case
+content_directory_with_nul_cases = reports_256 "content_directory_with_nul" (with_content (codes "a\\u0000") (codes "v1/a\\u0000/f")) [] "ok\t.\t-\nS06\to\tv1/a%00/f\n" ∷ []
+
+quick_content_directory_with_nul : AllAreQuick content_directory_with_nul_cases
 unfolding audit_on_literals
-content_directory_with_nul = refl
+quick_content_directory_with_nul = refl
+
+content_directory_with_nul : AllAre content_directory_with_nul_cases
+content_directory_with_nul = quickly content_directory_with_nul_cases quick_content_directory_with_nul
 
 -- ---- paths that are repeated or in each other's way
 
-paths_in_conflict : AllAre (
-    reports "path_below_a_path" (sha256_object (listing (key abc.sha256 "[\"v1/content/f\",\"v1/content/f/g\"]" ∷ [])) f_is_abc) "ok\t.\t-\nE101\to\tv1/content/f\nok\to/v1/content/f\t3\nE092\to/v1/content/f/g\tsha256 missing\n" ∷
-    reports "path_twice_in_one_list" (sha256_object (listing (key abc.sha256 "[\"v1/content/f\",\"v1/content/f\"]" ∷ [])) f_is_abc) "ok\t.\t-\nE101\to\tv1/content/f\nok\to/v1/content/f\t3\n" ∷
+abbrev paths_in_conflict_cases : List Case
+paths_in_conflict_cases =
+    reports_256 "path_below_a_path" (listing (key abc.sha256 "[\"v1/content/f\",\"v1/content/f/g\"]" ∷ [])) f_is_abc "ok\t.\t-\nE101\to\tv1/content/f\nok\to/v1/content/f\t3\nE092\to/v1/content/f/g\tsha256 missing\n" ∷
+    reports_256 "path_twice_in_one_list" (listing (key abc.sha256 "[\"v1/content/f\",\"v1/content/f\"]" ∷ [])) f_is_abc "ok\t.\t-\nE101\to\tv1/content/f\nok\to/v1/content/f\t3\n" ∷
     -- by elements: `a` is no beginning of `a-b` or of `ab`
-    reports "letters_are_no_beginning" (sha256_object (listing (key abc.sha256 "[\"v1/content/a-b\",\"v1/content/a\",\"v1/content/ab\"]" ∷ [])) []) "ok\t.\t-\nok\to\t-\nE092\to/v1/content/a\tsha256 missing\nE092\to/v1/content/a-b\tsha256 missing\nE092\to/v1/content/ab\tsha256 missing\n" ∷
+    reports_256 "letters_are_no_beginning" (listing (key abc.sha256 "[\"v1/content/a-b\",\"v1/content/a\",\"v1/content/ab\"]" ∷ [])) [] "ok\t.\t-\nok\to\t-\nE092\to/v1/content/a\tsha256 missing\nE092\to/v1/content/a-b\tsha256 missing\nE092\to/v1/content/ab\tsha256 missing\n" ∷
     -- although `a-b` stands between the two as texts
-    reports "path_between_as_text" (sha256_object (listing (key abc.sha256 "[\"v1/content/a-b\",\"v1/content/a\",\"v1/content/a/b\"]" ∷ [])) []) "ok\t.\t-\nE101\to\tv1/content/a\nE092\to/v1/content/a\tsha256 missing\nE092\to/v1/content/a/b\tsha256 missing\nE092\to/v1/content/a-b\tsha256 missing\n" ∷
+    reports_256 "path_between_as_text" (listing (key abc.sha256 "[\"v1/content/a-b\",\"v1/content/a\",\"v1/content/a/b\"]" ∷ [])) [] "ok\t.\t-\nE101\to\tv1/content/a\nE092\to/v1/content/a\tsha256 missing\nE092\to/v1/content/a/b\tsha256 missing\nE092\to/v1/content/a-b\tsha256 missing\n" ∷
     -- ascending as places
-    reports "repeated_paths_ascending" (sha256_object (listing (key abc.sha256 "[\"v1/content/a-b\",\"v1/content/a/b\"]" ∷ key no_bytes.sha256 "[\"v1/content/a-b\",\"v1/content/a/b\"]" ∷ [])) []) "ok\t.\t-\nE101\to\tv1/content/a/b\nE101\to\tv1/content/a-b\nE092\to/v1/content/a/b\tsha256 missing\nE092\to/v1/content/a-b\tsha256 missing\n" ∷
-    reports "each_proper_beginning" (sha256_object (listing (key abc.sha256 "[\"v1/content/a/b/c\",\"v1/content/a/b\",\"v1/content/a\"]" ∷ [])) []) "ok\t.\t-\nE101\to\tv1/content/a\nE101\to\tv1/content/a/b\nE092\to/v1/content/a\tsha256 missing\nE092\to/v1/content/a/b\tsha256 missing\nE092\to/v1/content/a/b/c\tsha256 missing\n" ∷
+    reports_256 "repeated_paths_ascending" (listing (key abc.sha256 "[\"v1/content/a-b\",\"v1/content/a/b\"]" ∷ key no_bytes.sha256 "[\"v1/content/a-b\",\"v1/content/a/b\"]" ∷ [])) [] "ok\t.\t-\nE101\to\tv1/content/a/b\nE101\to\tv1/content/a-b\nE092\to/v1/content/a/b\tsha256 missing\nE092\to/v1/content/a-b\tsha256 missing\n" ∷
+    reports_256 "each_proper_beginning" (listing (key abc.sha256 "[\"v1/content/a/b/c\",\"v1/content/a/b\",\"v1/content/a\"]" ∷ [])) [] "ok\t.\t-\nE101\to\tv1/content/a\nE101\to\tv1/content/a/b\nE092\to/v1/content/a\tsha256 missing\nE092\to/v1/content/a/b\tsha256 missing\nE092\to/v1/content/a/b/c\tsha256 missing\n" ∷
     -- dropped paths are in nobody's way
-    reports "bad_path_is_no_conflict" (sha256_object (listing (key abc.sha256 "[\"v1/content/f\",\"v1/content/f/\",\"v1/content/f//g\"]" ∷ [])) f_is_abc) "ok\t.\t-\nE100\to\tv1/content/f/\nE099\to\tv1/content/f//g\nok\to/v1/content/f\t3\n" ∷
+    reports_256 "bad_path_is_no_conflict" (listing (key abc.sha256 "[\"v1/content/f\",\"v1/content/f/\",\"v1/content/f//g\"]" ∷ [])) f_is_abc "ok\t.\t-\nE100\to\tv1/content/f/\nE099\to\tv1/content/f//g\nok\to/v1/content/f\t3\n" ∷
     -- a fixity block may repeat paths
-    reports "fixity_repeats_paths" (sha256_object (listing_with lists_f (codes "{\"md5\":{\"900150983cd24fb0d6963f7d28e17f72\":[\"v1/content/f\",\"v1/content/f\"]}}")) f_is_abc) "ok\t.\t-\nok\to\t-\nok\to/v1/content/f\t3\n" ∷
+    reports_256 "fixity_repeats_paths" (listing_with lists_f (codes "{\"md5\":{\"900150983cd24fb0d6963f7d28e17f72\":[\"v1/content/f\",\"v1/content/f\"]}}")) f_is_abc "ok\t.\t-\nok\to\t-\nok\to/v1/content/f\t3\n" ∷
     -- the lines of keys, of paths, of conflicts, and the note
-    reports "lines_of_a_head_in_order" (sha256_object (listing_with (key abc.sha256 "[\"v1/content/f\",\"/x\"]" ∷ key abc_sha256_capitals "[\"v1/content/f\"]" ∷ []) (codes "{\"blake2b-512\":7,\"md5\":{\"a\":[\"/w\"],\"A\":[]}}")) f_is_abc) "ok\t.\t-\nE096\to\tba7816bf8f01cfea414140de5dae2223b00361a396177a9cb410ff61f20015ad\nE097\to\tmd5 a\nE100\to\t/x\nE100\to\t/w\nE101\to\tv1/content/f\nS07\to\tblake2b-512\nok\to/v1/content/f\t3\n" ∷
-    [])
+    reports_256 "lines_of_a_head_in_order" (listing_with (key abc.sha256 "[\"v1/content/f\",\"/x\"]" ∷ key abc_sha256_capitals "[\"v1/content/f\"]" ∷ []) (codes "{\"blake2b-512\":7,\"md5\":{\"a\":[\"/w\"],\"A\":[]}}")) f_is_abc "ok\t.\t-\nE096\to\tba7816bf8f01cfea414140de5dae2223b00361a396177a9cb410ff61f20015ad\nE097\to\tmd5 a\nE100\to\t/x\nE100\to\t/w\nE101\to\tv1/content/f\nS07\to\tblake2b-512\nok\to/v1/content/f\t3\n" ∷
+    []
+
+quick_paths_in_conflict : AllAreQuick paths_in_conflict_cases
 unfolding audit_on_literals
-paths_in_conflict = refl
+quick_paths_in_conflict = refl
+
+paths_in_conflict : AllAre paths_in_conflict_cases
+paths_in_conflict = quickly paths_in_conflict_cases quick_paths_in_conflict

@@ -10,7 +10,7 @@ use Rattle.ocfl_audit.specs.Audit.{audit, after, total_cost}
 use Rattle.ocfl_audit.specs.Trail.{inventories}
 use Rattle.ocfl_audit.specs.Runs.{Limits, cut, left, runs, joined, total_files, of_budget}
 use Rattle.ocfl_audit.proofs.OnLiterals.{audit_on_literals}
-use Rattle.ocfl_audit.proofs.CaseTrees.{Case, AllAre, Behind, behind, behind_each, place, text_at, folder, storage_root, sha256_object, f_is_abc, key, listing, lists_f, three_files, three_objects, missing_and_right, sha512_file, abc, item, the_root, clean, right}
+use Rattle.ocfl_audit.proofs.CaseTrees.{Case, case, AllAre, Behind, behind, behind_each, place, text_at, folder, storage_root, sha256_object, f_is_abc, key, listing, lists_f, three_files, three_objects, missing_and_right, sha512_file, abc, item, the_root, clean, right}
 
 -- the texts of the runs that these budgets make of some items
 abbrev texts : List Item → List ℕ → List Text
@@ -63,7 +63,7 @@ budget_of_six = refl
 
 -- the runs, joined
 abbrev joins : String → List ℕ → String → Case
-joins name budgets t = record { name = name; shown = text (joined (runs three_items (map of_budget budgets))); wanted = codes t }
+joins name budgets t = case name (text (joined (runs three_items (map of_budget budgets)))) (codes t)
 
 joined_reports : AllAre (
     joins "joined_reports_of_five" (replicate 4 5) "ok\t.\t-\nok\to\t-\nok\to/v1/content/a\t3\nok\to/v1/content/b\t0\nok\to/v1/content/c\t3\n" ∷
@@ -127,7 +127,7 @@ items_around_a_missing_file = refl
 
 -- what is left behind a place, by a budget of nine
 abbrev resumes : List Item → Behind → Case
-resumes items b = record { name = b.name; shown = text (cut (after items (Some (place b.place))) (of_budget 9)); wanted = codes b.lines }
+resumes items b = case b.name (text (cut (after items (Some (place b.place))) (of_budget 9))) (codes b.lines)
 
 behind_places_of_three_files : AllAre (
     resumes three_items (behind "behind_a_head" "o" "ok\to/v1/content/a\t3\nok\to/v1/content/b\t0\nok\to/v1/content/c\t3\n") ∷

@@ -11,11 +11,11 @@ use Rattle.ocfl_audit.specs.Due.{item_places, items_at, hashed_among}
 use Rattle.ocfl_audit.specs.Trail.{unread_of, content_trail}
 use Rattle.ocfl_audit.specs.Runs.{runs, of_budget}
 use Rattle.ocfl_audit.proofs.OnLiterals.{audit_on_literals}
-use Rattle.ocfl_audit.proofs.CaseTrees.{Case, AllAre, place, text_at, bytes_at, folder, sha256_object, f_is_abc, key, listing, listing_with, lists_f, three_files, abc, item, the_root, clean, right}
+use Rattle.ocfl_audit.proofs.CaseTrees.{Case, case, AllAre, place, text_at, bytes_at, folder, sha256_object, f_is_abc, key, listing, listing_with, lists_f, three_files, abc, item, the_root, clean, right}
 
 -- the text of the audit where one file gave only so many bytes
 abbrev reports_unread : String → StorageRoot → String → ℕ → String → Case
-reports_unread name root p given t = record { name = name; shown = text (audit root ((place p, given) ∷ [])); wanted = codes t }
+reports_unread name root p given t = case name (text (audit root ((place p, given) ∷ []))) (codes t)
 
 -- the item of a file that could not be read, by its cost
 abbrev unread : String → ℕ → Item

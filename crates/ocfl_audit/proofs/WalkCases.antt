@@ -6,11 +6,11 @@ use Rattle.ocfl_report.specs.Text.{text}
 use Rattle.ocfl_audit.specs.Walk.{walk}
 use Rattle.ocfl_audit.specs.Stack.{taken, lists, listed_at}
 use Rattle.ocfl_audit.proofs.OnLiterals.{audit_on_literals}
-use Rattle.ocfl_audit.proofs.CaseTrees.{Case, AllAre, Behind, behind, behind_each, place, text_at, folder, storage_root, missing_and_right, three_objects, sha512_file}
+use Rattle.ocfl_audit.proofs.CaseTrees.{Case, case, AllAre, Behind, behind, behind_each, place, text_at, folder, storage_root, missing_and_right, three_objects, sha512_file}
 
 -- what a walk that enters a tree at a place takes from there on
 abbrev takes : StorageRoot → Behind → Case
-takes root b = record { name = b.name; shown = text (taken 12 root [] (place b.place) (listed_at root [] (place b.place) [])); wanted = codes b.lines }
+takes root b = case b.name (text (taken 12 root [] (place b.place) (listed_at root [] (place b.place) []))) (codes b.lines)
 
 -- ---- a file that is missing, and one that is right
 

@@ -1,0 +1,84 @@
+-- Worked cases of objects with a right sidecar, whose digest is not computed: it has no lines, whatever it is.
+use Rattle.std.proofs.Common.{◌≡◌, List, [], ◌∷◌, ◌++◌, codes, refl, ◌∙◌, ap, Bool, true, false, Some}
+use Rattle.std.specs.Prelude.{◌&&◌}
+use Prim.Native.String.{String}
+use Rattle.ocfl_tree.specs.Place.{Text, Place}
+use Rattle.ocfl_tree.specs.StorageRoot.{StorageRoot}
+use Rattle.ocfl_report.specs.Line.{Note, Item, plain}
+use Rattle.ocfl_report.specs.Text.{text}
+use Rattle.ocfl_report.specs.declared.code.Code.TheVariants.{E058}
+use Rattle.ocfl_digest.specs.declared.algorithm.Algorithm.TheVariants.{Sha256, Sha512}
+use Rattle.ocfl_audit.specs.Head.{on, sidecar_at, sidecar_notes, sidecars_notes, is_sidecar_missing}
+use Rattle.ocfl_audit.specs.Audit.{Unread, audit}
+use Rattle.ocfl_audit.proofs.RightSidecars.{right_256_is_quiet, right_512_is_quiet}
+use Rattle.ocfl_audit.proofs.QuietHeads.{audit_beside, audit_is}
+use Rattle.ocfl_audit.proofs.CaseTrees.{Case, sha256_object, sha512_object}
+
+-- the place of the object
+abbrev o : Place
+o = codes "o" ∷ []
+
+-- the lines of the other sidecar
+abbrev beside_256 : Text → StorageRoot → List Note
+beside_256 inventory root = sidecar_notes Sha512 inventory (sidecar_at root o Sha512)
+
+abbrev beside_512 : Text → StorageRoot → List Note
+beside_512 inventory root = sidecar_notes Sha256 inventory (sidecar_at root o Sha256)
+
+-- the items of such objects
+abbrev pub quick_256 : Text → StorageRoot → Unread → List Item
+quick_256 inventory more unread = let root = sha256_object inventory more in audit_beside (beside_256 inventory root) root unread o inventory
+
+abbrev pub quick_512 : Text → StorageRoot → Unread → List Item
+quick_512 inventory more unread = let root = sha512_object inventory more in audit_beside (beside_512 inventory root) root unread o inventory
+
+pub audit_256 : (inventory : Text) (more : StorageRoot) (unread : Unread) → audit (sha256_object inventory more) unread ≡ quick_256 inventory more unread
+audit_256 inventory more unread = audit_is root (codes "o") [] inventory (beside_256 inventory root) refl those unread
+  where
+    root : StorageRoot
+    root = sha256_object inventory more
+
+    those : sidecars_notes root o inventory ≡ beside_256 inventory root
+    those = ap (λ ns. ns ++ beside_256 inventory root) (right_256_is_quiet inventory)
+
+pub audit_512 : (inventory : Text) (more : StorageRoot) (unread : Unread) → audit (sha512_object inventory more) unread ≡ quick_512 inventory more unread
+audit_512 inventory more unread = audit_is root (codes "o") [] inventory (beside_512 inventory root) refl those unread
+  where
+    root : StorageRoot
+    root = sha512_object inventory more
+
+    one_is_there : (b : Bool) → on (b && false) (plain E058) ≡ []
+    one_is_there true = refl
+    one_is_there false = refl
+
+    at_end : (ns : List Note) → ns ++ [] ≡ ns
+    at_end [] = refl
+    at_end (n ∷ ns) = λ i. n ∷ at_end ns i
+
+    those : sidecars_notes root o inventory ≡ beside_512 inventory root
+    those =
+        ap (λ ns. (ns ++ beside_512 inventory root) ++ sidecar_notes Sha512 inventory (sidecar_at root o Sha512)) (one_is_there (is_sidecar_missing root o Sha256))
+        ∙ ap (λ ns. beside_512 inventory root ++ ns) (right_512_is_quiet inventory)
+        ∙ at_end (beside_512 inventory root)
+
+-- the text of the audit of such an object
+abbrev pub told_256 : String → Text → StorageRoot → Text → Case
+told_256 name inventory more wanted = record {
+  name = name;
+  shown = text (audit (sha256_object inventory more) []);
+  quick = text (quick_256 inventory more []);
+  is_quick = ap text (audit_256 inventory more []);
+  wanted = wanted;
+}
+
+abbrev pub reports_256 : String → Text → StorageRoot → String → Case
+reports_256 name inventory more t = told_256 name inventory more (codes t)
+
+abbrev pub reports_512 : String → Text → StorageRoot → String → Case
+reports_512 name inventory more t = record {
+  name = name;
+  shown = text (audit (sha512_object inventory more) []);
+  quick = text (quick_512 inventory more []);
+  is_quick = ap text (audit_512 inventory more []);
+  wanted = codes t;
+}

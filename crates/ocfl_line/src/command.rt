@@ -1,6 +1,8 @@
 ghost use Rattle.std.specs.Prelude.{IfOk, map};
-ghost use Rattle.ocfl_line.specs.Line.{IsArg, IsCommand, app_with, bare_app, line_app, needed_rule};
-ghost use Rattle.ocfl_line.specs.Line.{rule_for};
+ghost use Rattle.clap.specs.Words.{App, with_subcommand};
+ghost use Rattle.ocfl_line.specs.Line.{IsArg, IsCommand, app_with, bare_app, budget_rule};
+ghost use Rattle.ocfl_line.specs.Line.{cursor_rule, files_rule, line_app, needed_rule, quiet_rule};
+ghost use Rattle.ocfl_line.specs.Line.{rule_for, runs_rule};
 
 use crate::command::Argument::{Budget, Cursor, File, Files, Path, Quiet, Root, Runs};
 use clap::{Arg, ArgAction, Command, value_parser};
@@ -63,6 +65,51 @@ fn needed<'a>(alloc: Global, id: &'a str, value: &'a str, help: &'a str) -> Arg<
         .required(true)
 }
 
+/// The file of the cursor, as an option.
+fn cursor_option<'a>(alloc: Global) -> Arg<'a>
+    ensures { IsArg cursor_rule result }
+{
+    needed(alloc, "file", "FILE", CURSOR).long("cursor")
+}
+
+/// The budget of a run, whose text `clap` does not read.
+fn budget_option<'a>(alloc: Global) -> Arg<'a>
+    ensures { IsArg budget_rule result }
+{
+    needed(alloc, "budget", "N", BUDGET).long("budget")
+}
+
+/// The most files of a run.
+fn files_option<'a>(alloc: Global) -> Arg<'a>
+    ensures { IsArg files_rule result }
+{
+    Arg::new(alloc, "files")
+        .long("files")
+        .value_name("N")
+        .help(FILES)
+        .value_parser(value_parser!(u64).range(1..=4611686018427387904))
+        .default_value("4611686018427387904")
+}
+
+/// The most runs of a cycle.
+fn runs_option<'a>(alloc: Global) -> Arg<'a>
+    ensures { IsArg runs_rule result }
+{
+    needed(alloc, "runs", "COUNT", RUNS)
+        .long("runs")
+        .value_parser(value_parser!(u64).range(1..=100000))
+}
+
+/// The flag that shows no progress.
+fn quiet_flag<'a>(alloc: Global) -> Arg<'a>
+    ensures { IsArg quiet_rule result }
+{
+    Arg::new(alloc, "quiet")
+        .long("quiet")
+        .help(QUIET)
+        .action(ArgAction::SetTrue)
+}
+
 /// The argument as `clap` takes it.
 fn arg_of<'a>(alloc: Global, argument: Argument) -> Arg<'a>
     ensures { IsArg (rule_for argument) result }
@@ -71,21 +118,11 @@ fn arg_of<'a>(alloc: Global, argument: Argument) -> Arg<'a>
         Root => needed(alloc, "root", "ROOT", ROOT),
         Path => needed(alloc, "path", "PATH", PATH),
         File => needed(alloc, "file", "FILE", FILE),
-        Cursor => needed(alloc, "file", "FILE", CURSOR).long("cursor"),
-        Budget => needed(alloc, "budget", "N", BUDGET).long("budget"),
-        Files => Arg::new(alloc, "files")
-            .long("files")
-            .value_name("N")
-            .help(FILES)
-            .value_parser(value_parser!(u64).range(1..=4611686018427387904))
-            .default_value("4611686018427387904"),
-        Runs => needed(alloc, "runs", "COUNT", RUNS)
-            .long("runs")
-            .value_parser(value_parser!(u64).range(1..=100000)),
-        Quiet => Arg::new(alloc, "quiet")
-            .long("quiet")
-            .help(QUIET)
-            .action(ArgAction::SetTrue),
+        Cursor => cursor_option(alloc),
+        Budget => budget_option(alloc),
+        Files => files_option(alloc),
+        Runs => runs_option(alloc),
+        Quiet => quiet_flag(alloc),
     }
 }
 
@@ -105,6 +142,21 @@ fn deed_command<'a>(
     Ok(command)
 }
 
+/// The command with one more subcommand, which is for a deed.
+fn with_deed<'a>(
+    command: Command<'a>,
+    alloc: Global,
+    name: &'a str,
+    about: &'a str,
+    arguments: &[Argument],
+) -> Result<Command<'a>, AllocError>
+    // What `clap` reads the command as has the subcommand behind its others.
+    ensures { IfOk result (λ new. (app : App) → IsCommand app command.entry
+        → IsCommand (with_subcommand app (app_with name.now (map rule_for arguments.now)).top) new) }
+{
+    command.subcommand(deed_command(alloc, name, about, arguments)?)
+}
+
 // What help says of the subcommands.
 const AUDIT: &str = "Writes the report lines of the whole storage root";
 
@@ -115,6 +167,17 @@ const CYCLE: &str = "Writes the report lines of one run after the other, without
 const CHECK: &str = "Writes the report lines of one place";
 
 const SHOW: &str = "Writes what a cursor file says";
+
+// The arguments of the subcommands.
+const AUDIT_ARGUMENTS: &[Argument] = &[Quiet, Root];
+
+const RUN_ARGUMENTS: &[Argument] = &[Cursor, Budget, Files, Quiet, Root];
+
+const CYCLE_ARGUMENTS: &[Argument] = &[Budget, Files, Runs, Quiet, Root];
+
+const CHECK_ARGUMENTS: &[Argument] = &[Root, Path];
+
+const SHOW_ARGUMENTS: &[Argument] = &[File];
 
 // The program's own texts, without its subcommands.
 fn bare_command<'a>(alloc: Global) -> Command<'a>
@@ -131,10 +194,10 @@ fn bare_command<'a>(alloc: Global) -> Command<'a>
 pub(crate) fn line_command<'a>(alloc: Global) -> Result<Command<'a>, AllocError>
     ensures { IfOk result (IsCommand line_app) }
 {
-    bare_command(alloc)
-        .subcommand(deed_command(alloc, "audit", AUDIT, &[Quiet, Root])?)?
-        .subcommand(deed_command(alloc, "run", RUN, &[Cursor, Budget, Files, Quiet, Root])?)?
-        .subcommand(deed_command(alloc, "cycle", CYCLE, &[Budget, Files, Runs, Quiet, Root])?)?
-        .subcommand(deed_command(alloc, "check", CHECK, &[Root, Path])?)?
-        .subcommand(deed_command(alloc, "show", SHOW, &[File])?)
+    let command = bare_command(alloc);
+    let command = with_deed(command, alloc, "audit", AUDIT, AUDIT_ARGUMENTS)?;
+    let command = with_deed(command, alloc, "run", RUN, RUN_ARGUMENTS)?;
+    let command = with_deed(command, alloc, "cycle", CYCLE, CYCLE_ARGUMENTS)?;
+    let command = with_deed(command, alloc, "check", CHECK, CHECK_ARGUMENTS)?;
+    with_deed(command, alloc, "show", SHOW, SHOW_ARGUMENTS)
 }

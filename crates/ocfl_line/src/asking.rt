@@ -1,12 +1,13 @@
-ghost use Rattle.std.specs.Prelude.{◌≡◌, [], IfOk, IfErr, map};
+ghost use Rattle.std.specs.Prelude.{◌≡◌, [], IfOk, IfErr, IfSome, IsNone, map};
 ghost use Rattle.clap.specs.Words.{fault_of, subcommand_of};
-ghost use Rattle.ocfl_line.specs.Line.{line_app};
+ghost use Rattle.ocfl_line.specs.Line.{IsCommand, line_app};
 ghost use Rattle.ocfl_line.specs.Asks.{Asks};
-ghost use Rattle.ocfl_line.specs.Stop.{StopsRightly};
+ghost use Rattle.ocfl_line.specs.Stop.{AsksNothing, StopsRightly};
 
 use crate::command::line_command;
 use crate::deed::{Asked, LineStop};
 use crate::reading::asked_by;
+use clap::Command;
 use clap::error::ErrorKind;
 use std::alloc::Global;
 use std::convert::AsStr;
@@ -28,9 +29,39 @@ pub fn asked<'a, S: AsStr>(alloc: Global, words: &'a [S]) -> Result<Asked, LineS
     ensures stop { IfErr result (StopsRightly (map S.text words.entry.now)) }
 {
     let mut command = line_command(alloc)?;
-    let matches = command.try_get_matches_from_mut(words)?;
-    if let Some(asked) = asked_by(alloc, &matches)? {
+    asked_of(alloc, &mut command, words)
+}
+
+/// The same, of the command that reads the words.
+fn asked_of<'a, S: AsStr>(
+    alloc: Global,
+    command: &mut Command<'a>,
+    words: &'a [S],
+) -> Result<Asked, LineStop>
+    requires { IsCommand line_app command.old }
+    ensures asked { IfOk result (Asks (subcommand_of line_app (map S.text words.entry.now))) }
+    ensures faultless { IfOk result (λ _. fault_of line_app (map S.text words.entry.now) ≡ []) }
+    ensures stop { IfErr result (StopsRightly (map S.text words.entry.now)) }
+{
+    if let Some(asked) = read_words(alloc, command, words)? {
         return Ok(asked);
     }
     Err(LineStop::Usage(command.error(ErrorKind::ValueValidation, NO_BUDGET)?))
+}
+
+/// What the words ask for, or `None` where `clap` finds no fault in them and they ask for nothing.
+fn read_words<'a, S: AsStr>(
+    alloc: Global,
+    command: &mut Command<'a>,
+    words: &'a [S],
+) -> Result<Option<Asked>, LineStop>
+    requires { IsCommand line_app command.old }
+    ensures found { IfOk result (λ o.
+        IfSome o (Asks (subcommand_of line_app (map S.text words.entry.now)))) }
+    ensures missing { IfOk result (λ o. IsNone o → AsksNothing (map S.text words.entry.now)) }
+    ensures faultless { IfOk result (λ _. fault_of line_app (map S.text words.entry.now) ≡ []) }
+    ensures stop { IfErr result (StopsRightly (map S.text words.entry.now)) }
+{
+    let matches = command.try_get_matches_from_mut(words)?;
+    Ok(asked_by(alloc, &matches)?)
 }

@@ -1,5 +1,5 @@
 ghost use Rattle.std.specs.Prelude.{◌≡◌, ◌↔◌, ℕ, ◌<◌, ◌^◌, IfOk, IfSome, IsNone, IsTrue};
-ghost use Rattle.std.specs.Prelude.{option_map, string_bytes};
+ghost use Rattle.std.specs.Prelude.{codes, option_map, string_bytes};
 ghost use Rattle.clap.specs.Words.{found_of, first_of, rows_of, subcommand_rows_of};
 ghost use Rattle.ocfl_cursor.specs.declared.limits.Limits.{Limits as LimitsOf};
 ghost use Rattle.ocfl_line.specs.Asks.{Asks, HasLimits, HasNumber, HasRuns, IsDeed, IsGiven};
@@ -77,40 +77,52 @@ fn runs_of(inner: &ArgMatches<'_>) -> Option<usize>
     }
 }
 
+/// One run, or `None` where its limits are not given.
+fn run_of(inner: &ArgMatches<'_>) -> Option<Deed>
+    ensures found { IfSome result (IsDeed (codes "run") (rows_of (found_of inner.now))) }
+    ensures missing { IsNone result
+        → (d : DeedOf) → IsDeed (codes "run") (rows_of (found_of inner.now)) d → ⊥ }
+{
+    let limits = limits_of(inner)?;
+    Some(Deed::Run(limits))
+}
+
+/// A cycle, or `None` where its limits or its runs are not given.
+fn cycle_of(inner: &ArgMatches<'_>) -> Option<Deed>
+    ensures found { IfSome result (IsDeed (codes "cycle") (rows_of (found_of inner.now))) }
+    ensures missing { IsNone result
+        → (d : DeedOf) → IsDeed (codes "cycle") (rows_of (found_of inner.now)) d → ⊥ }
+{
+    Some(Deed::Cycle(limits_of(inner)?, runs_of(inner)?))
+}
+
+/// The check of a place, or `None` where its path is not given.
+fn check_of(alloc: Global, inner: &ArgMatches<'_>) -> Result<Option<Deed>, AllocError>
+    ensures found { IfOk result (λ o.
+        IfSome o (IsDeed (codes "check") (rows_of (found_of inner.now)))) }
+    ensures missing { IfOk result (λ o. IsNone o
+        → (d : DeedOf) → IsDeed (codes "check") (rows_of (found_of inner.now)) d → ⊥) }
+{
+    match copied(alloc, inner, "path")? {
+        Some(path) => Ok(Some(Deed::Check(path))),
+        None => Ok(None),
+    }
+}
+
 /// The deed of the subcommand with this name and these matches, or `None` where they ask for none.
 fn deed_of(alloc: Global, name: &str, inner: &ArgMatches<'_>) -> Result<Option<Deed>, AllocError>
     ensures found { IfOk result (λ o. IfSome o (IsDeed name.now (rows_of (found_of inner.now)))) }
     ensures missing { IfOk result (λ o. IsNone o
         → (d : DeedOf) → IsDeed name.now (rows_of (found_of inner.now)) d → ⊥) }
 {
-    if name == "audit" {
-        return Ok(Some(Deed::Audit));
+    match name {
+        "audit" => Ok(Some(Deed::Audit)),
+        "run" => Ok(run_of(inner)),
+        "cycle" => Ok(cycle_of(inner)),
+        "check" => check_of(alloc, inner),
+        "show" => Ok(Some(Deed::Show)),
+        _ => Ok(None),
     }
-    if name == "run" {
-        let Some(limits) = limits_of(inner) else {
-            return Ok(None);
-        };
-        return Ok(Some(Deed::Run(limits)));
-    }
-    if name == "cycle" {
-        let Some(limits) = limits_of(inner) else {
-            return Ok(None);
-        };
-        let Some(runs) = runs_of(inner) else {
-            return Ok(None);
-        };
-        return Ok(Some(Deed::Cycle(limits, runs)));
-    }
-    if name == "check" {
-        let Some(path) = text_of(inner, "path") else {
-            return Ok(None);
-        };
-        return Ok(Some(Deed::Check(String::from_str(alloc, path)?)));
-    }
-    if name == "show" {
-        return Ok(Some(Deed::Show));
-    }
-    Ok(None)
 }
 
 /// What is asked for by matches, or `None` where they ask for nothing.

@@ -16,7 +16,7 @@ use Rattle.ocfl_inventory.specs.Internal.Parts.{texts_among}
 abbrev pub with_front : {A : Type 0} → List A → Option (List A) → Option (List A)
 with_front front read = option_map (λ xs. front ++ xs) read
 
-with_front_one : {A : Type 0} (front : List A) (x : A) (read : Option (List A)) → with_front front (option_map (λ xs. x ∷ xs) read) ≡ with_front (front ++ x ∷ []) read
+pub with_front_one : {A : Type 0} (front : List A) (x : A) (read : Option (List A)) → with_front front (option_map (λ xs. x ∷ xs) read) ≡ with_front (front ++ x ∷ []) read
 with_front_one front x None = refl
 with_front_one front x (Some xs) = ap Some (sym (append_assoc front (x ∷ []) xs))
 

@@ -2,6 +2,7 @@ pub mod SidecarLaws
 pub mod Sidecars
 pub mod Declarations
 pub mod Blocks
+pub mod BlockChains
 pub mod Stops
 pub mod Stopped
 pub mod Runs

@@ -1,6 +1,6 @@
 //! The keys of an inventory, each of which may stop.
 ghost use Rattle.std.specs.Prelude.{◌≡◌, false, map, IfOk, Some, None, option_map, string_bytes};
-ghost use Rattle.std.specs.Prelude.{filter, not, is_some, if◌then◌else◌, codes};
+ghost use Rattle.std.specs.Prelude.{[], ◌∷◌, filter, not, is_some, if◌then◌else◌, codes};
 ghost use Rattle.std.specs.Result.{result_ok};
 ghost use Rattle.serde_json.specs.View.{view, members_view};
 ghost use Rattle.serde_json.specs.Find.{get_member};
@@ -14,7 +14,7 @@ ghost use Rattle.ocfl_inventory.specs.Reading.{blocks_for, keys_of, unsupported_
 ghost use Rattle.ocfl_inventory.specs.Reading.{algorithm_of as algorithm_stated, manifest_from};
 ghost use Rattle.ocfl_inventory.specs.Internal.Parts.{Gives, Says, AreValues, value_for};
 ghost use Rattle.ocfl_inventory.specs.Internal.Parts.{block_view, fixity_view, supported_view};
-ghost use Rattle.ocfl_inventory.specs.Internal.Parts.{with_block, inventory_view};
+ghost use Rattle.ocfl_inventory.specs.Internal.Parts.{with_block, with_blocks, inventory_view};
 
 use crate::block::{block, member, members, take_member};
 use crate::inventory::{Inventory, Listing, Supported};
@@ -155,6 +155,47 @@ fn take_block(
     Ok(true)
 }
 
+/// Puts the blocks of MD5 and SHA-1 behind those before them, and says whether they were of the
+/// form.
+fn take_older_blocks(
+    alloc: Global,
+    md5: Option<Value>,
+    sha1: Option<Value>,
+    found: &mut Vec<Supported>,
+) -> Result<bool, AllocError>
+    ensures { IfOk result (λ b. with_blocks (supported_view found.old.items)
+        ((option_map view md5, Algorithm.Md5) ∷ (option_map view sha1, Algorithm.Sha1) ∷ [])
+        ≡ (if b then Some (supported_view found.new.items) else None)) }
+{
+    if !take_block(alloc, md5, Algorithm::Md5, found)? {
+        return Ok(false);
+    }
+    take_block(alloc, sha1, Algorithm::Sha1, found)
+}
+
+/// Puts the blocks of the SHA-2 algorithms behind those before them, and says whether they were of
+/// the form.
+fn take_newer_blocks(
+    alloc: Global,
+    sha256: Option<Value>,
+    sha512: Option<Value>,
+    sha512_256: Option<Value>,
+    found: &mut Vec<Supported>,
+) -> Result<bool, AllocError>
+    ensures { IfOk result (λ b. with_blocks (supported_view found.old.items)
+        ((option_map view sha256, Algorithm.Sha256) ∷ (option_map view sha512, Algorithm.Sha512)
+        ∷ (option_map view sha512_256, Algorithm.Sha512_256) ∷ [])
+        ≡ (if b then Some (supported_view found.new.items) else None)) }
+{
+    if !take_block(alloc, sha256, Algorithm::Sha256, found)? {
+        return Ok(false);
+    }
+    if !take_block(alloc, sha512, Algorithm::Sha512, found)? {
+        return Ok(false);
+    }
+    take_block(alloc, sha512_256, Algorithm::Sha512_256, found)
+}
+
 /// The values of the supported algorithms' members.
 #[derive(Drop)]
 pub(crate) struct Values {
@@ -206,19 +247,10 @@ fn supported_blocks(
         sha512,
         sha512_256,
     } = take_values(map);
-    if !take_block(alloc, md5, Algorithm::Md5, &mut found)? {
+    if !take_older_blocks(alloc, md5, sha1, &mut found)? {
         return Ok(None);
     }
-    if !take_block(alloc, sha1, Algorithm::Sha1, &mut found)? {
-        return Ok(None);
-    }
-    if !take_block(alloc, sha256, Algorithm::Sha256, &mut found)? {
-        return Ok(None);
-    }
-    if !take_block(alloc, sha512, Algorithm::Sha512, &mut found)? {
-        return Ok(None);
-    }
-    if !take_block(alloc, sha512_256, Algorithm::Sha512_256, &mut found)? {
+    if !take_newer_blocks(alloc, sha256, sha512, sha512_256, &mut found)? {
         return Ok(None);
     }
     Ok(Some(found))

@@ -1,5 +1,5 @@
 -- What the functions of the reading give, beside the definitions.
-use Rattle.std.specs.Prelude.{◌≡◌, List, [], ◌∷◌, ◌++◌, option_map, Option, Some, None, Result, Ok, Err, map, flat_map, string_bytes}
+use Rattle.std.specs.Prelude.{◌≡◌, List, [], ◌∷◌, ◌++◌, option_map, option_and_then, Option, Some, None, Result, Ok, Err, map, flat_map, string_bytes}
 use Rattle.std.specs.Prelude.{String}
 use Rattle.std.specs.declared.alloc.Global.{Global}
 use Rattle.std.specs.BTreeMap.{BTreeMap}
@@ -73,6 +73,11 @@ supported_view = map (λ s. (s.algorithm, block_view s.block.items))
 abbrev pub with_block : List (Algorithm × Block) → Option Data → Algorithm → Option (List (Algorithm × Block))
 with_block front None a = Some front
 with_block front (Some d) a = option_map (λ b. front ++ (a, b) ∷ []) (block_of d)
+
+-- the blocks of the algorithms behind those before them, and none where one is not of the form
+abbrev pub with_blocks : List (Algorithm × Block) → List (Option Data × Algorithm) → Option (List (Algorithm × Block))
+with_blocks front [] = Some front
+with_blocks front (e ∷ more) = option_and_then (λ blocks. with_blocks blocks more) (with_block front e.0 e.1)
 
 abbrev pub inventory_view : MadeInventory → Inventory
 inventory_view i = record {

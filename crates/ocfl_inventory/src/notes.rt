@@ -98,17 +98,33 @@ fn keys<'t>(alloc: Global, block: &'t [Listing]) -> Result<Vec<Key<'t>>, AllocEr
     Ok(found)
 }
 
+/// The keys that stand twice or more in a block, once, in order.
+fn repeated_keys<'t>(alloc: Global, block: &'t [Listing]) -> Result<Vec<Key<'t>>, AllocError>
+    ensures { IfOk result (λ v. v.items ≡ repeated_digests (block_view block.now)) }
+{
+    repeated(alloc, keys(alloc, block)?)
+}
+
+/// Appends the line of a digest that is repeated in the manifest.
+fn add_key(alloc: Global, key: &Key, out: &mut Vec<Remark>) -> Result<(), AllocError>
+    ensures { OnOk result (map remark_view out.new.items
+        ≡ map remark_view out.old.items ++ note Code.E096 key.now ∷ []) }
+{
+    let detail = key.folded(alloc)?;
+    out.push(Remark {
+        code: Code::E096,
+        detail,
+    })?;
+    Ok(())
+}
+
 /// Appends the lines of the manifest's repeated digests.
 fn add_repeated(alloc: Global, block: &[Listing], out: &mut Vec<Remark>) -> Result<(), AllocError>
     ensures { OnOk result (map remark_view out.new.items ≡ map remark_view out.old.items
         ++ map (note Code.E096) (repeated_digests (block_view block.now))) }
 {
-    for key in &repeated(alloc, keys(alloc, block)?)? {
-        let detail = key.folded(alloc)?;
-        out.push(Remark {
-            code: Code::E096,
-            detail,
-        })?;
+    for key in &repeated_keys(alloc, block)? {
+        add_key(alloc, key, out)?;
     }
     Ok(())
 }
@@ -123,6 +139,24 @@ fn beside(alloc: Global, algorithm: Algorithm, key: &Key) -> Result<String, Allo
     Ok(detail)
 }
 
+/// Appends the line of a digest that is repeated in an algorithm's block.
+fn add_key_in(
+    alloc: Global,
+    algorithm: Algorithm,
+    key: &Key,
+    out: &mut Vec<Remark>,
+) -> Result<(), AllocError>
+    ensures { OnOk result (map remark_view out.new.items ≡ map remark_view out.old.items
+        ++ note Code.E097 (algorithm_name algorithm ++ 32 ∷ key.now) ∷ []) }
+{
+    let detail = beside(alloc, algorithm, key)?;
+    out.push(Remark {
+        code: Code::E097,
+        detail,
+    })?;
+    Ok(())
+}
+
 /// Appends the lines of the digests that are repeated in an algorithm's block.
 fn add_repeated_in(
     alloc: Global,
@@ -133,12 +167,8 @@ fn add_repeated_in(
         ≡ map remark_view out.old.items ++ repeated_notes
         (supported.now.algorithm, block_view supported.now.block.items)) }
 {
-    for key in &repeated(alloc, keys(alloc, &supported.block)?)? {
-        let detail = beside(alloc, supported.algorithm, key)?;
-        out.push(Remark {
-            code: Code::E097,
-            detail,
-        })?;
+    for key in &repeated_keys(alloc, &supported.block)? {
+        add_key_in(alloc, supported.algorithm, key, out)?;
     }
     Ok(())
 }

@@ -1,6 +1,6 @@
 //! The table of an inventory: the digests that it names for the paths of its object.
 ghost use Rattle.std.specs.Prelude.{◌≡◌, [], ◌≤◌, ◌<◌, ◌^◌, IfOk, IfSome, None, map, option_map};
-ghost use Rattle.std.specs.Prelude.{true, false, length, slice_get, string_bytes};
+ghost use Rattle.std.specs.Prelude.{◌++◌, ◌∷◌, OnOk, true, false, length, slice_get, string_bytes};
 ghost use Rattle.std.specs.Ordering.{is_lt};
 ghost use Rattle.std.specs.Result.{result_ok};
 ghost use Rattle.std.specs.List.Sorted.{IsPartitionPoint, IsSorted};
@@ -96,12 +96,22 @@ fn path_at(triples: &[Triple], index: usize) -> Option<&Place>
     Some(triple.path())
 }
 
+/// Appends a copy of a digest.
+fn add_copy(named: &Named, found: &mut Vec<Named>) -> Result<(), AllocError>
+    ensures { OnOk result (map named_view found.new.items
+        ≡ map named_view found.old.items ++ named_view named.now ∷ []) }
+{
+    found.push(named.try_clone()?)?;
+    Ok(())
+}
+
+/// Copies of the digests of triples, in order.
 fn clone_named(alloc: Global, triples: &[Triple]) -> Result<Vec<Named>, AllocError>
     ensures { IfOk result (λ v. map named_view v.items ≡ map (λ t. t.named) triples.now) }
 {
     let mut found = Vec::with_capacity(alloc, triples.len())?;
     for triple in triples {
-        found.push(triple.named().try_clone()?)?;
+        add_copy(triple.named(), &mut found)?;
     }
     Ok(found)
 }

@@ -1,5 +1,5 @@
-ghost use Rattle.std.specs.Prelude.{◌≡◌, ◌≢◌, ◌≤◌, ◌↔◌, IsTrue, true, false, IfOk, Ok, OnOk, OnErr};
-ghost use Rattle.std.specs.Prelude.{MatchOption, length, string_bytes, Err};
+ghost use Rattle.std.specs.Prelude.{◌≡◌, ◌≢◌, ◌≤◌, ◌+◌, ◌↔◌, IsTrue, true, false, IfOk, Ok, OnOk};
+ghost use Rattle.std.specs.Prelude.{OnErr, MatchOption, length, string_bytes, Err};
 ghost use Rattle.std.specs.Fs.{IsDir, IsFile, file_type};
 ghost use Rattle.std.specs.IoError.{error_kind};
 ghost use Rattle.ocfl_tree.specs.declared.fs_tree.Fault.TheVariants.{Trouble as Lasting};
@@ -69,6 +69,16 @@ impl From<AllocError> for Fault {
     }
 }
 
+/// A name that is none is the device's fault.
+impl From<NameStop> for Fault {
+    fn from(stop: NameStop) -> Fault {
+        match stop {
+            NameStop::Bad => Fault::Trouble(Trouble::Device),
+            NameStop::Memory => Fault::Trouble(Trouble::Memory),
+        }
+    }
+}
+
 fn fault_of(error: &io::Error) -> Fault
     ensures interrupted { (result ≡ Fault.Interrupted)
         ↔ (error_kind error.now ≡ ErrorKind.Interrupted) }
@@ -122,6 +132,35 @@ fn kind_of(metadata: &Metadata) -> Kind
     } else {
         Kind::Other
     }
+}
+
+/// What was found, where it is of this kind: another is the device's fault.
+fn of_kind(found: Metadata, kind: Kind) -> Result<Metadata, Fault> {
+    if kind_of(&found) == kind {
+        Ok(found)
+    } else {
+        Err(Fault::Trouble(Trouble::Device))
+    }
+}
+
+/// Refuses what is no directory.
+fn expect_dir(found: Result<Metadata, Fault>) -> Result<(), Fault> {
+    of_kind(found?, Kind::Dir)?;
+    Ok(())
+}
+
+/// Appends a slash and a name to a path.
+fn push_name(path: &mut String, name: &str) -> Result<(), AllocError> {
+    path.push('/')?;
+    path.push_str(name)
+}
+
+/// Appends an entry.
+fn push_entry(entry: Entry, entries: &mut Vec<Entry>) -> Result<(), AllocError>
+    ensures { OnOk result (length entries.new.items ≡ length entries.old.items + 1) }
+{
+    entries.push(entry)?;
+    Ok(())
 }
 
 /// Whether what was opened is the file that was looked at before.
@@ -197,45 +236,60 @@ impl<R: Files + AllocGlobal + Clone + Drop> FsTree<R> {
         }
     }
 
+    /// Appends a name to the path of a directory, where a directory lies there too.
+    fn enter(&self, path: &mut String, name: &str) -> Result<(), Fault> {
+        push_name(path, name)?;
+        expect_dir(self.look(path.as_str()))
+    }
+
+    /// The path of the folder, where that is a directory.
+    fn start(&self) -> Result<String, Fault> {
+        let path = self.root.clone()?;
+        expect_dir(self.look_at_root())?;
+        Ok(path)
+    }
+
+    /// Looks at the folder, at each name on the way to a directory, and at that.
+    fn walk(&self, dir: &str) -> Result<(), Fault> {
+        let mut path = self.start()?;
+        // Unlike `split`, it gives no name for the empty path of the root.
+        for name in dir.split_terminator('/') {
+            self.enter(&mut path, name)?;
+        }
+        Ok(())
+    }
+
     /// Looks at each name on the way to a directory that is not known, and at that.
     fn pass(&self, dir: &str) -> Result<(), Fault> {
         if is_known(&self.known, dir) {
-            return Ok(());
-        }
-        let mut path = self.root.clone()?;
-        let mut found = kind_of(&self.look_at_root()?);
-        // Unlike `split`, it gives no name for the empty path of the root.
-        for name in dir.split_terminator('/') {
-            if found != Kind::Dir {
-                return Err(Fault::Trouble(Trouble::Device));
-            }
-            path.push('/')?;
-            path.push_str(name)?;
-            found = kind_of(&self.look(path.as_str())?);
-        }
-        if found == Kind::Dir {
             Ok(())
         } else {
-            Err(Fault::Trouble(Trouble::Device))
+            self.walk(dir)
         }
+    }
+
+    /// What lies at a place with this path, where its names lead there through directories.
+    fn look_at(&self, place: &Place, path: &str) -> Result<Metadata, Fault> {
+        match place.split_last() {
+            Some((dir, _)) => {
+                self.pass(dir)?;
+                self.look(path)
+            }
+            None => self.look_at_root(),
+        }
+    }
+
+    /// What lies at a place with this path, where it is of this kind.
+    fn look_for(&self, place: &Place, path: &str, kind: Kind) -> Result<Metadata, Fault> {
+        of_kind(self.look_at(place, path)?, kind)
     }
 
     /// The path of a place and what lies there, where its names lead through directories to what is
     /// of this kind.
     fn path(&self, place: &Place, kind: Kind) -> Result<(String, Metadata), Fault> {
         let path = path::join(self.rt.alloc(), self.root.as_str(), place.path())?;
-        let metadata = match place.split_last() {
-            Some((dir, _)) => {
-                self.pass(dir)?;
-                self.look(path.as_str())?
-            }
-            None => self.look_at_root()?,
-        };
-        if kind_of(&metadata) == kind {
-            Ok((path, metadata))
-        } else {
-            Err(Fault::Trouble(Trouble::Device))
-        }
+        let metadata = self.look_for(place, path.as_str(), kind)?;
+        Ok((path, metadata))
     }
 
     /// Knows a directory from now on, or none where memory for it is refused.
@@ -256,36 +310,60 @@ impl<R: Files + AllocGlobal + Clone + Drop> FsTree<R> {
         }
     }
 
-    /// The entry of a directory; that it went away is the device's fault.
-    fn entry(&self, entry: &fs::DirEntry<R>) -> Result<Entry, Fault> {
-        let kind = match entry.metadata() {
-            Ok(metadata) => kind_of(&metadata),
-            Err(error) => return Err(entry_fault_of(&error)),
-        };
-        match Name::new(self.rt.alloc(), entry.file_name()) {
-            Ok(name) => Ok(Entry { name, kind }),
-            Err(NameStop::Memory) => Err(Fault::Trouble(Trouble::Memory)),
-            Err(NameStop::Bad) => Err(Fault::Trouble(Trouble::Device)),
+    /// What a directory's entry is; that it went away is the device's fault.
+    fn entry_kind(&self, entry: &fs::DirEntry<R>) -> Result<Kind, Fault> {
+        match entry.metadata() {
+            Ok(metadata) => Ok(kind_of(&metadata)),
+            Err(error) => Err(entry_fault_of(&error)),
         }
+    }
+
+    /// The entry of a directory: its name and what it is.
+    fn entry(&self, entry: &fs::DirEntry<R>) -> Result<Entry, Fault> {
+        let kind = self.entry_kind(entry)?;
+        let name = Name::new(self.rt.alloc(), entry.file_name())?;
+        Ok(Entry { name, kind })
+    }
+
+    /// The entry of a directory that a listing gives.
+    fn listed_entry(&self, listed: io::Result<fs::DirEntry<R>>) -> Result<Entry, Fault> {
+        match listed {
+            Ok(entry) => self.entry(&entry),
+            Err(error) => Err(entry_fault_of(&error)),
+        }
+    }
+
+    /// Opens the listing of the directory at a place.
+    fn listing(&self, place: &Place) -> Result<fs::ReadDir<R>, Fault> {
+        let (path, _) = self.path(place, Kind::Dir)?;
+        match fs::read_dir(&self.rt, path.as_str()) {
+            Ok(listing) => Ok(listing),
+            Err(error) => Err(fault_of(&error)),
+        }
+    }
+
+    /// Appends the entry that a listing gives, where there are not too many before it.
+    fn add_entry(
+        &self,
+        listed: io::Result<fs::DirEntry<R>>,
+        entries: &mut Vec<Entry>,
+    ) -> Result<(), Fault>
+        ensures { OnOk result (length entries.new.items ≤ 1000000) }
+    {
+        if entries.len() >= 1_000_000 {
+            return Err(Fault::Trouble(Trouble::Device));
+        }
+        push_entry(self.listed_entry(listed)?, entries)?;
+        Ok(())
     }
 
     fn entries(&self, place: &Place) -> Result<Vec<Entry>, Fault>
         ensures { IfOk result (λ entries. length entries.items ≤ 1000000) }
     {
-        let (path, _) = self.path(place, Kind::Dir)?;
-        let listing = match fs::read_dir(&self.rt, path.as_str()) {
-            Ok(listing) => listing,
-            Err(error) => return Err(fault_of(&error)),
-        };
+        let listing = self.listing(place)?;
         let mut entries = Vec::new(self.rt.alloc());
         for entry in listing {
-            if entries.len() >= 1_000_000 {
-                return Err(Fault::Trouble(Trouble::Device));
-            }
-            match entry {
-                Ok(entry) => entries.push(self.entry(&entry)?).map_err(AllocError::from)?,
-                Err(error) => return Err(entry_fault_of(&error)),
-            }
+            self.add_entry(entry, &mut entries)?;
         }
         Ok(entries)
     }
@@ -297,13 +375,18 @@ impl<R: Files + AllocGlobal + Clone + Drop> FsTree<R> {
         once(retried(|| self.entries(place))?)
     }
 
+    /// Opens the file at a path.
+    fn open_path(&self, path: &str) -> Result<R::File, Fault> {
+        match fs::open(&self.rt, path) {
+            Ok(file) => Ok(file),
+            Err(error) => Err(fault_of(&error)),
+        }
+    }
+
     /// The file at a place, where it is the one that was looked at right before.
     fn file(&self, place: &Place) -> Result<R::File, Fault> {
         let (path, before) = self.path(place, Kind::File)?;
-        let file = match fs::open(&self.rt, path.as_str()) {
-            Ok(file) => file,
-            Err(error) => return Err(fault_of(&error)),
-        };
+        let file = self.open_path(path.as_str())?;
         match file.metadata() {
             Ok(opened) if is_same_file(&before, &opened) => Ok(file),
             Ok(_) => Err(Fault::Trouble(Trouble::Device)),

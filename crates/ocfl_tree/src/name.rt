@@ -1,4 +1,4 @@
-ghost use Rattle.std.specs.Prelude.{◌≡◌, IsTrue, ◌↔◌, IfOk, OnOk, Some, nat_eq, refl};
+ghost use Rattle.std.specs.Prelude.{◌≡◌, ◌≢◌, All, IsTrue, ◌↔◌, IfOk, OnOk, Some, nat_eq, refl};
 ghost use Rattle.std.specs.Cmp.{partial_equiv_from_equiv};
 ghost use Rattle.std.specs.Cmp.Lexicographic.{pointwise, slice_cmp, nat_list_eq_equiv};
 ghost use Rattle.std.specs.Cmp.Lexicographic.{nat_list_cmp_total, texts_po, texts_ties};
@@ -34,15 +34,18 @@ pub enum NameStop {
     Memory,
 }
 
+/// Whether no byte is a slash or NUL.
+fn are_plain(bytes: &[u8]) -> bool
+    ensures { IsTrue result ↔ All (λ b. (b ≢ 47) × (b ≢ 0)) bytes.now }
+{
+    bytes.iter().all(|&b| b != b'/' && b != 0)
+}
+
 fn has_name_bytes(text: &str) -> bool
     ensures { IsTrue result ↔ HasNameBytes text.now }
 {
     let bytes = text.as_bytes();
-    !bytes.is_empty()
-        && bytes.len() <= 255
-        && bytes.iter().all(|&b| b != b'/' && b != 0)
-        && text != "."
-        && text != ".."
+    !bytes.is_empty() && bytes.len() <= 255 && are_plain(bytes) && text != "." && text != ".."
 }
 
 impl Name {

@@ -107,6 +107,17 @@ fn child<'a>(dir: &str, place: &'a Place) -> Option<&'a str>
     if parent == dir { Some(name) } else { None }
 }
 
+/// The entry with this name for what is stored.
+fn entry_of(alloc: Global, name: &str, stored: &Stored) -> Result<Entry, AllocError>
+    requires { IsName name.now }
+    ensures { IfOk result (λ entry. entry ≡ record { name = name.now; kind = kind_of stored.now }) }
+{
+    Ok(Entry {
+        name: Name::of(alloc, name)?,
+        kind: stored.kind(),
+    })
+}
+
 /// The entries of the directory with this path.
 pub(crate) fn entries(
     alloc: Global,
@@ -120,10 +131,7 @@ pub(crate) fn entries(
         let Some(name) = child(dir, place) else {
             continue;
         };
-        let entry = Entry {
-            name: Name::of(alloc, name)?,
-            kind: stored.kind(),
-        };
+        let entry = entry_of(alloc, name, stored)?;
         entries.push(entry)?;
     }
     Ok(entries)

@@ -171,16 +171,31 @@ lists_f = key abc.sha256 "[\"v1/content/f\"]" ∷ []
 -- ---- trees of several cases
 
 -- a file for each digest of the manifest: `a` and `c` of three bytes, `b` of none
+abbrev pub three_files_listing : Text
+three_files_listing = listing (key abc.sha256 "[\"v1/content/a\",\"v1/content/c\"]" ∷ key no_bytes.sha256 "[\"v1/content/b\"]" ∷ [])
+
+abbrev pub three_files_content : StorageRoot
+three_files_content = text_at "o/v1/content/a" "abc" ∷ text_at "o/v1/content/b" "" ∷ text_at "o/v1/content/c" "abc" ∷ []
+
 abbrev pub three_files : StorageRoot
-three_files = sha256_object (listing (key abc.sha256 "[\"v1/content/a\",\"v1/content/c\"]" ∷ key no_bytes.sha256 "[\"v1/content/b\"]" ∷ [])) (text_at "o/v1/content/a" "abc" ∷ text_at "o/v1/content/b" "" ∷ text_at "o/v1/content/c" "abc" ∷ [])
+three_files = sha256_object three_files_listing three_files_content
 
 -- `a` is listed twice and not there, `b` is right
+abbrev pub missing_and_right_listing : Text
+missing_and_right_listing = listing_with (key no_bytes.sha256 "[\"v1/content/a\"]" ∷ key abc.sha256 "[\"v1/content/b\"]" ∷ []) (codes "{\"sha1\":" ++ keys (key no_bytes.sha1 "[\"v1/content/a\"]" ∷ []) ++ codes "}")
+
+abbrev pub missing_and_right_content : StorageRoot
+missing_and_right_content = text_at "o/v1/content/b" "abc" ∷ []
+
 abbrev pub missing_and_right : StorageRoot
-missing_and_right = sha256_object (listing_with (key no_bytes.sha256 "[\"v1/content/a\"]" ∷ key abc.sha256 "[\"v1/content/b\"]" ∷ []) (codes "{\"sha1\":" ++ keys (key no_bytes.sha1 "[\"v1/content/a\"]" ∷ []) ++ codes "}")) (text_at "o/v1/content/b" "abc" ∷ [])
+missing_and_right = sha256_object missing_and_right_listing missing_and_right_content
 
 -- one file, by sha512
+abbrev pub sha512_file_listing : Text
+sha512_file_listing = inventory "sha512" (keys (key abc.sha512 "[\"v1/content/f\"]" ∷ [])) (codes "{}")
+
 abbrev pub sha512_file : StorageRoot
-sha512_file = sha512_object (inventory "sha512" (keys (key abc.sha512 "[\"v1/content/f\"]" ∷ [])) (codes "{}")) f_is_abc
+sha512_file = sha512_object sha512_file_listing f_is_abc
 
 -- three objects, each with one file
 abbrev pub three_objects : StorageRoot

@@ -1,5 +1,5 @@
 -- Worked cases: the content of objects, and what else lies in them.
-use Rattle.std.proofs.Common.{◌≡◌, List, [], ◌∷◌, ◌++◌, codes, refl, true, map}
+use Rattle.std.proofs.Common.{◌≡◌, ap, ◌∙◌, List, [], ◌∷◌, ◌++◌, codes, refl, true, map}
 use Prim.Native.String.{String}
 use Rattle.ocfl_tree.specs.Place.{Text}
 use Rattle.ocfl_tree.specs.StorageRoot.{StorageRoot, file}
@@ -11,8 +11,8 @@ use Rattle.ocfl_audit.specs.Audit.{audit, total_cost}
 use Rattle.ocfl_audit.specs.Due.{item_places, hashed_among}
 use Rattle.ocfl_audit.specs.Walk.{item_at}
 use Rattle.ocfl_audit.proofs.OnLiterals.{audit_on_literals}
-use Rattle.ocfl_audit.proofs.CaseTrees.{Case, case, Digests, AllAre, AllAreQuick, quickly, reports, place, text_at, folder, link, storage_root, object_in, sha256_object, sha512_object, f_is_abc, key, keys, inventory, listing, listing_with, lists_f, missing_and_right, sha512_file, abc, abc_sha512_capitals, no_bytes}
-use Rattle.ocfl_audit.proofs.QuietCases.{reports_256, reports_512}
+use Rattle.ocfl_audit.proofs.CaseTrees.{missing_and_right_content, missing_and_right_listing, sha512_file_listing, Case, case, Digests, AllAre, AllAreQuick, quickly, reports, place, text_at, folder, link, storage_root, object_in, sha256_object, sha512_object, f_is_abc, key, keys, inventory, listing, listing_with, lists_f, missing_and_right, sha512_file, abc, abc_sha512_capitals, no_bytes}
+use Rattle.ocfl_audit.proofs.QuietCases.{quick_256, audit_256, quick_512, audit_512, reports_256, reports_512}
 
 -- ---- digests
 
@@ -31,17 +31,26 @@ digests_of_no_bytes = (refl, refl, refl, refl, refl)
 
 -- ---- a file and its digests
 
-cost_of_right_file : map (λ i. i.cost) (audit sha512_file []) ≡ 0 ∷ 0 ∷ 4 ∷ []
+quick_cost_of_right_file : map (λ i. i.cost) (quick_512 sha512_file_listing f_is_abc []) ≡ 0 ∷ 0 ∷ 4 ∷ []
 unfolding audit_on_literals
-cost_of_right_file = refl
+quick_cost_of_right_file = refl
+
+cost_of_right_file : map (λ i. i.cost) (audit sha512_file []) ≡ 0 ∷ 0 ∷ 4 ∷ []
+cost_of_right_file = ap (map (λ i. i.cost)) (audit_512 sha512_file_listing f_is_abc []) ∙ quick_cost_of_right_file
 
 -- an empty file that all algorithms name
-abbrev empty_file : StorageRoot
-empty_file = sha256_object (listing_with (key no_bytes.sha256 "[\"v1/content/f\"]" ∷ []) (keys (
+abbrev empty_file_listing : Text
+empty_file_listing = listing_with (key no_bytes.sha256 "[\"v1/content/f\"]" ∷ []) (keys (
     key "md5" "{\"d41d8cd98f00b204e9800998ecf8427e\":[\"v1/content/f\"]}"
     ∷ key "sha1" "{\"da39a3ee5e6b4b0d3255bfef95601890afd80709\":[\"v1/content/f\"]}"
     ∷ key "sha512" "{\"cf83e1357eefb8bdf1542850d66d8007d620e4050b5715dc83f4a921d36ce9ce47d0d13c5d85f2b0ff8318d2877eec2f63b931bd47417a81a538327af927da3e\":[\"v1/content/f\"]}"
-    ∷ key "sha512/256" "{\"c672b8d1ef56ed28ab87c3622c5114069bdd3ad7b8f9737498d0c01ecef0967a\":[\"v1/content/f\"]}" ∷ []))) (text_at "o/v1/content/f" "" ∷ [])
+    ∷ key "sha512/256" "{\"c672b8d1ef56ed28ab87c3622c5114069bdd3ad7b8f9737498d0c01ecef0967a\":[\"v1/content/f\"]}" ∷ []))
+
+abbrev empty_file_content : StorageRoot
+empty_file_content = text_at "o/v1/content/f" "" ∷ []
+
+abbrev empty_file : StorageRoot
+empty_file = sha256_object empty_file_listing empty_file_content
 
 -- one file to be opened, of cost one
 empty_file_is_hashed_once : (hashed_among empty_file (item_places empty_file) ≡ place "o/v1/content/f" ∷ []) × (total_cost (audit empty_file []) ≡ 1)
@@ -49,8 +58,11 @@ unfolding audit_on_literals hashed_among item_places
 empty_file_is_hashed_once = (refl, refl)
 
 -- `f` is right in the manifest, and wrong in the fixity block
+abbrev wrong_in_fixity_listing : Text
+wrong_in_fixity_listing = listing_with lists_f (codes "{\"md5\":{\"d41d8cd98f00b204e9800998ecf8427e\":[\"v1/content/f\"]}}")
+
 abbrev wrong_in_fixity : StorageRoot
-wrong_in_fixity = sha256_object (listing_with lists_f (codes "{\"md5\":{\"d41d8cd98f00b204e9800998ecf8427e\":[\"v1/content/f\"]}}")) f_is_abc
+wrong_in_fixity = sha256_object wrong_in_fixity_listing f_is_abc
 
 cost_of_fixity_mismatch : (total_cost (audit wrong_in_fixity []) ≡ 4) × (found (audit wrong_in_fixity []) ≡ true)
 unfolding audit_on_literals
@@ -62,10 +74,10 @@ cost_of_named_by_fixity_alone = refl
 
 abbrev files_and_digests_cases : List Case
 files_and_digests_cases =
-    reports "right_file" sha512_file "ok\t.\t-\nok\to\t-\nok\to/v1/content/f\t3\n" ∷
+    reports_512 "right_file" sha512_file_listing f_is_abc "ok\t.\t-\nok\to\t-\nok\to/v1/content/f\t3\n" ∷
     reports_512 "capitals_in_manifest_key" (inventory "sha512" (keys (key abc_sha512_capitals "[\"v1/content/f\"]" ∷ [])) (codes "{}")) f_is_abc "ok\t.\t-\nok\to\t-\nok\to/v1/content/f\t3\n" ∷
-    reports "all_algorithms_on_an_empty_file" empty_file "ok\t.\t-\nok\to\t-\nok\to/v1/content/f\t0\n" ∷
-    reports "fixity_mismatch" wrong_in_fixity "ok\t.\t-\nok\to\t-\nE093\to/v1/content/f\tmd5 d41d8cd98f00b204e9800998ecf8427e 900150983cd24fb0d6963f7d28e17f72\n" ∷
+    reports_256 "all_algorithms_on_an_empty_file" empty_file_listing empty_file_content "ok\t.\t-\nok\to\t-\nok\to/v1/content/f\t0\n" ∷
+    reports_256 "fixity_mismatch" wrong_in_fixity_listing f_is_abc "ok\t.\t-\nok\to\t-\nE093\to/v1/content/f\tmd5 d41d8cd98f00b204e9800998ecf8427e 900150983cd24fb0d6963f7d28e17f72\n" ∷
     reports_256 "fixity_match" (listing_with lists_f (codes "{\"md5\":{\"900150983CD24FB0D6963F7D28E17F72\":[\"v1/content/f\"]}}")) f_is_abc "ok\t.\t-\nok\to\t-\nok\to/v1/content/f\t3\n" ∷
     -- by the algorithms' names, whatever the order of the block
     reports_256 "fixity_mismatch_in_each_algorithm" (listing_with lists_f (codes "{\"sha512/256\":{\"x\":[\"v1/content/f\"]},\"sha512\":{\"x\":[\"v1/content/f\"]},\"sha256\":{\"x\":[\"v1/content/f\"]},\"sha1\":{\"x\":[\"v1/content/f\"]},\"md5\":{\"x\":[\"v1/content/f\"]}}")) f_is_abc "ok\t.\t-\nok\to\t-\nE093\to/v1/content/f\tmd5 x 900150983cd24fb0d6963f7d28e17f72\nE093\to/v1/content/f\tsha1 x a9993e364706816aba3e25717850c26c9cd0d89d\nE093\to/v1/content/f\tsha256 x ba7816bf8f01cfea414140de5dae2223b00361a396177a9cb410ff61f20015ad\nE093\to/v1/content/f\tsha512 x ddaf35a193617abacc417349ae20413112e6fa4e89a97ea20a9eeee64b55d39a2192992a274fc1a836ba3c23a3feebbd454d4423643ce80e2a9ac94fa54ca49f\nE093\to/v1/content/f\tsha512/256 x 53048e2681941ef99b2e29b76b4c7dabe4c2d0c634fc6d46e0e2f13107e7af23\n" ∷
@@ -92,14 +104,17 @@ files_and_digests = quickly files_and_digests_cases quick_files_and_digests
 -- ---- the fifth algorithm
 
 -- `f` is named by it alone
+abbrev fifth_alone_listing : Text
+fifth_alone_listing = listing_with [] (codes "{\"sha512/256\":{\"53048e2681941ef99b2e29b76b4c7dabe4c2d0c634fc6d46e0e2f13107e7af23\":[\"v1/content/f\"]}}")
+
 abbrev fifth_alone : StorageRoot
-fifth_alone = sha256_object (listing_with [] (codes "{\"sha512/256\":{\"53048e2681941ef99b2e29b76b4c7dabe4c2d0c634fc6d46e0e2f13107e7af23\":[\"v1/content/f\"]}}")) f_is_abc
+fifth_alone = sha256_object fifth_alone_listing f_is_abc
 
 abbrev fifth_algorithm_cases : List Case
 fifth_algorithm_cases =
     reports_256 "fifth_algorithm_match" (listing_with lists_f (codes "{\"sha512/256\":{\"53048e2681941ef99b2e29b76b4c7dabe4c2d0c634fc6d46e0e2f13107e7af23\":[\"v1/content/f\"]}}")) f_is_abc "ok\t.\t-\nok\to\t-\nok\to/v1/content/f\t3\n" ∷
     reports_256 "fifth_algorithm_mismatch" (listing_with lists_f (codes "{\"sha512/256\":{\"ba7816bf8f01cfea414140de5dae2223b00361a396177a9cb410ff61f20015ad\":[\"v1/content/f\"]}}")) f_is_abc "ok\t.\t-\nok\to\t-\nE093\to/v1/content/f\tsha512/256 ba7816bf8f01cfea414140de5dae2223b00361a396177a9cb410ff61f20015ad 53048e2681941ef99b2e29b76b4c7dabe4c2d0c634fc6d46e0e2f13107e7af23\n" ∷
-    reports "fifth_algorithm_without_manifest" fifth_alone "ok\t.\t-\nok\to\t-\nE023\to/v1/content/f\t-\n" ∷
+    reports_256 "fifth_algorithm_without_manifest" fifth_alone_listing f_is_abc "ok\t.\t-\nok\to\t-\nE023\to/v1/content/f\t-\n" ∷
     []
 
 quick_fifth_algorithm : AllAreQuick fifth_algorithm_cases
@@ -158,13 +173,16 @@ files_that_nothing_names = quickly files_that_nothing_names_cases quick_files_th
 
 -- ---- paths where no file is
 
-cost_of_missing_and_right_files : map (λ i. i.cost) (audit missing_and_right []) ≡ 0 ∷ 0 ∷ 0 ∷ 4 ∷ []
+quick_cost_of_missing_and_right_files : map (λ i. i.cost) (quick_256 missing_and_right_listing missing_and_right_content []) ≡ 0 ∷ 0 ∷ 0 ∷ 4 ∷ []
 unfolding audit_on_literals
-cost_of_missing_and_right_files = refl
+quick_cost_of_missing_and_right_files = refl
+
+cost_of_missing_and_right_files : map (λ i. i.cost) (audit missing_and_right []) ≡ 0 ∷ 0 ∷ 0 ∷ 4 ∷ []
+cost_of_missing_and_right_files = ap (map (λ i. i.cost)) (audit_256 missing_and_right_listing missing_and_right_content []) ∙ quick_cost_of_missing_and_right_files
 
 abbrev paths_without_file_cases : List Case
 paths_without_file_cases =
-    reports "missing_and_right_files" missing_and_right "ok\t.\t-\nok\to\t-\nE092\to/v1/content/a\tsha256 missing\nE093\to/v1/content/a\tsha1 missing\nok\to/v1/content/b\t3\n" ∷
+    reports_256 "missing_and_right_files" missing_and_right_listing missing_and_right_content "ok\t.\t-\nok\to\t-\nE092\to/v1/content/a\tsha256 missing\nE093\to/v1/content/a\tsha1 missing\nok\to/v1/content/b\t3\n" ∷
     -- one line for a block and algorithm, however many digests
     reports_256 "missing_under_several_digests" (listing_with (key "x" "[\"v1/content/f\"]" ∷ key "y" "[\"v1/content/f\"]" ∷ []) (codes "{\"sha1\":{\"z\":[\"v1/content/f\"]},\"md5\":{\"z\":[\"v1/content/f\"],\"w\":[\"v1/content/f\"]}}")) [] "ok\t.\t-\nE101\to\tv1/content/f\nE092\to/v1/content/f\tsha256 missing\nE093\to/v1/content/f\tmd5 missing\nE093\to/v1/content/f\tsha1 missing\n" ∷
     reports_256 "missing_by_fixity_alone" (listing_with [] (codes "{\"md5\":{\"x\":[\"v1/content/f\"]}}")) [] "ok\t.\t-\nok\to\t-\nE093\to/v1/content/f\tmd5 missing\n" ∷

@@ -3,14 +3,13 @@ use Rattle.std.proofs.Common.{◌≡◌, List, [], ◌∷◌, ◌++◌, codes, r
 use Prim.Native.String.{String}
 use Rattle.std.specs.List.{join_with_byte}
 use Rattle.ocfl_tree.specs.Place.{Text}
-use Rattle.ocfl_tree.specs.StorageRoot.{StorageRoot}
 use Rattle.ocfl_report.specs.Text.{text}
 use Rattle.ocfl_report.specs.declared.code.Code.{Code}
 use Rattle.ocfl_report.specs.declared.code.Code.TheVariants.{E099, E100, S06}
 use Rattle.ocfl_inventory.specs.ListedPath.{path_fault}
 use Rattle.ocfl_audit.specs.Audit.{audit}
 use Rattle.ocfl_audit.proofs.OnLiterals.{audit_on_literals}
-use Rattle.ocfl_audit.proofs.CaseTrees.{Case, case, AllAre, AllAreQuick, quickly, reports, sha256_object, f_is_abc, key, keys, inventory, listing, listing_with, lists_f, abc, abc_sha256_capitals, no_bytes, no_bytes_sha256_capitals}
+use Rattle.ocfl_audit.proofs.CaseTrees.{Case, AllAre, AllAreQuick, quickly, sha256_object, f_is_abc, key, keys, inventory, listing, listing_with, lists_f, abc, abc_sha256_capitals, no_bytes, no_bytes_sha256_capitals}
 use Rattle.ocfl_audit.proofs.QuietCases.{reports_256, told_256}
 
 -- ---- keys

@@ -1,5 +1,5 @@
 -- Worked cases of objects with a right sidecar, whose digest is not computed: it has no lines, whatever it is.
-use Rattle.std.proofs.Common.{◌≡◌, List, [], ◌∷◌, ◌++◌, codes, refl, ◌∙◌, ap, Bool, true, false, Some}
+use Rattle.std.proofs.Common.{◌≡◌, List, [], ◌∷◌, ◌++◌, codes, refl, ◌∙◌, ap, Bool, true, false}
 use Rattle.std.specs.Prelude.{◌&&◌}
 use Prim.Native.String.{String}
 use Rattle.ocfl_tree.specs.Place.{Text, Place}

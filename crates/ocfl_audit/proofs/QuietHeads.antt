@@ -1,6 +1,6 @@
 -- The audit of a tree in which the lines of one object's sidecars are known.
-use Rattle.std.proofs.Common.{◌≡◌, ℕ, List, [], ◌∷◌, ◌++◌, length, refl, sym, ◌∙◌, ap, Bool, true, false, map, filter, Option, Some, None}
-use Rattle.std.specs.Prelude.{cond, ◌&&◌, not, nat_le, if◌then◌else◌}
+use Rattle.std.proofs.Common.{◌≡◌, ℕ, List, [], ◌∷◌, ◌++◌, length, refl, sym, ◌∙◌, ap, Bool, true, false, map, filter, Option, Some}
+use Rattle.std.specs.Prelude.{cond, not, nat_le, if◌then◌else◌}
 use Rattle.ocfl_tree.specs.Place.{Text, Place, place_cmp, place_eq}
 use Rattle.ocfl_tree.specs.Ascending.{ascending}
 use Rattle.ocfl_tree.specs.StorageRoot.{StorageRoot, file_at}

@@ -1,6 +1,5 @@
 -- A right sidecar has no lines, whatever its digest is: worked cases need not compute the digests of their inventories.
-use Rattle.std.proofs.Common.{◌≡◌, ℕ, zero, suc, ◌<◌, ◌≤◌, ◌*◌, List, [], ◌∷◌, ◌++◌, length, codes, refl, sym, ◌∙◌, ap, arith, length-append, Bool, true, false, Option, Some, None}
-use Rattle.std.specs.Prelude.{cond, ◌&&◌, not, nat_le}
+use Rattle.std.proofs.Common.{◌≡◌, ℕ, zero, suc, ◌<◌, ◌≤◌, ◌*◌, List, [], ◌∷◌, ◌++◌, length, codes, refl, sym, ◌∙◌, ap, arith, length-append, Some}
 use Rattle.std.specs.Int.{bytes_high_first, byte_at}
 use Rattle.hex.specs.Hex.{IsBytes, encode_lower, lower_digits}
 use Rattle.hex.proofs.HexLemmas.{decode_of-encode_lower, length-encode_with}
@@ -8,13 +7,11 @@ use Rattle.sha2.specs.Sha256 as s256
 use Rattle.sha2.specs.Sha512 as s512
 use Rattle.sha2.proofs.Facts256.{length-sha256}
 use Rattle.sha2.proofs.Facts512.{length-sha512}
-use Rattle.ocfl_tree.specs.Place.{Text, Place}
+use Rattle.ocfl_tree.specs.Place.{Text}
 use Rattle.ocfl_tree.proofs.Places.{text_eq-same}
-use Rattle.ocfl_report.specs.Line.{Note}
 use Rattle.ocfl_digest.specs.Digest.{digest_bytes_of}
 use Rattle.ocfl_digest.specs.declared.algorithm.Algorithm.{Algorithm}
 use Rattle.ocfl_digest.specs.declared.algorithm.Algorithm.TheVariants.{Sha256, Sha512}
-use Rattle.ocfl_inventory.specs.DigestText.{digest_of}
 use Rattle.ocfl_inventory.specs.Sidecar.{sidecar_digits, sidecar_of}
 use Rattle.ocfl_inventory.proofs.SidecarLaws.{sidecar_is}
 use Rattle.ocfl_audit.specs.Head.{sidecar_notes}

@@ -1,6 +1,7 @@
 -- Worked cases: content that can't be read.
-use Rattle.std.proofs.Common.{◌≡◌, ℕ, List, [], ◌∷◌, codes, refl, Bool, true, false, map, replicate}
+use Rattle.std.proofs.Common.{◌≡◌, ap, ◌∙◌, ℕ, List, [], ◌∷◌, codes, refl, Bool, true, false, map, replicate}
 use Prim.Native.String.{String}
+use Rattle.ocfl_tree.specs.Place.{Text}
 use Rattle.ocfl_tree.specs.StorageRoot.{StorageRoot}
 use Rattle.ocfl_tree.specs.declared.store.Opening.{Opening}
 use Rattle.ocfl_report.specs.Line.{Item, plain, found}
@@ -11,7 +12,8 @@ use Rattle.ocfl_audit.specs.Due.{item_places, items_at, hashed_among}
 use Rattle.ocfl_audit.specs.Trail.{unread_of, content_trail}
 use Rattle.ocfl_audit.specs.Runs.{runs, of_budget}
 use Rattle.ocfl_audit.proofs.OnLiterals.{audit_on_literals}
-use Rattle.ocfl_audit.proofs.CaseTrees.{Case, case, AllAre, place, text_at, bytes_at, folder, sha256_object, f_is_abc, key, listing, listing_with, lists_f, three_files, abc, item, the_root, clean, right}
+use Rattle.ocfl_audit.proofs.CaseTrees.{three_files_content, three_files_listing, Case, case, AllAre, place, text_at, bytes_at, folder, sha256_object, f_is_abc, key, listing, listing_with, lists_f, three_files, abc, item, the_root, clean, right}
+use Rattle.ocfl_audit.proofs.QuietCases.{quick_256, audit_256}
 
 -- the text of the audit where one file gave only so many bytes
 abbrev reports_unread : String → StorageRoot → String → ℕ → String → Case
@@ -23,8 +25,14 @@ unread p cost = item p cost (plain S08 ∷ [])
 
 -- ---- a long file `f` whose read fails behind 65,536 bytes, and a short one
 
+abbrev long_and_short_listing : Text
+long_and_short_listing = listing (key abc.sha256 "[\"v1/content/f\",\"v1/content/g\"]" ∷ [])
+
+abbrev long_and_short_content : StorageRoot
+long_and_short_content = bytes_at "o/v1/content/f" (replicate 65537 97) ∷ text_at "o/v1/content/g" "abc" ∷ []
+
 abbrev long_and_short : StorageRoot
-long_and_short = sha256_object (listing (key abc.sha256 "[\"v1/content/f\",\"v1/content/g\"]" ∷ [])) (bytes_at "o/v1/content/f" (replicate 65537 97) ∷ text_at "o/v1/content/g" "abc" ∷ [])
+long_and_short = sha256_object long_and_short_listing long_and_short_content
 
 -- where `f` gave this many bytes
 abbrev f_gave : ℕ → Unread
@@ -34,13 +42,19 @@ f_gave given = (place "o/v1/content/f", given) ∷ []
 abbrev other_right : ℕ → List Item
 other_right cost = the_root ∷ clean "o" ∷ unread "o/v1/content/f" cost ∷ right "o/v1/content/g" 4 "3" ∷ []
 
-cost_where_read_fails : audit long_and_short (f_gave 65536) ≡ other_right 65537
+quick_cost_where_read_fails : quick_256 long_and_short_listing long_and_short_content (f_gave 65536) ≡ other_right 65537
 unfolding audit_on_literals
-cost_where_read_fails = refl
+quick_cost_where_read_fails = refl
+
+cost_where_read_fails : audit long_and_short (f_gave 65536) ≡ other_right 65537
+cost_where_read_fails = audit_256 long_and_short_listing long_and_short_content (f_gave 65536) ∙ quick_cost_where_read_fails
+
+quick_cost_where_open_fails : quick_256 long_and_short_listing long_and_short_content (f_gave 0) ≡ other_right 1
+unfolding audit_on_literals
+quick_cost_where_open_fails = refl
 
 cost_where_open_fails : audit long_and_short (f_gave 0) ≡ other_right 1
-unfolding audit_on_literals
-cost_where_open_fails = refl
+cost_where_open_fails = audit_256 long_and_short_listing long_and_short_content (f_gave 0) ∙ quick_cost_where_open_fails
 
 text_where_a_long_file_is_unread : (text (other_right 65537) ≡ codes "ok\t.\t-\nok\to\t-\nS08\to/v1/content/f\t-\nok\to/v1/content/g\t3\n") × (text (other_right 1) ≡ text (other_right 65537))
 text_where_a_long_file_is_unread = (refl, refl)
@@ -62,14 +76,20 @@ first_gave given = (place "o/v1/content/a", given) ∷ []
 abbrev others_right : ℕ → List Item
 others_right cost = the_root ∷ clean "o" ∷ unread "o/v1/content/a" cost ∷ right "o/v1/content/b" 1 "0" ∷ right "o/v1/content/c" 4 "3" ∷ []
 
-first_gave_two : audit three_files (first_gave 2) ≡ others_right 3
+quick_first_gave_two : quick_256 three_files_listing three_files_content (first_gave 2) ≡ others_right 3
 unfolding audit_on_literals
-first_gave_two = refl
+quick_first_gave_two = refl
+
+first_gave_two : audit three_files (first_gave 2) ≡ others_right 3
+first_gave_two = audit_256 three_files_listing three_files_content (first_gave 2) ∙ quick_first_gave_two
 
 -- all bytes, and then the device failed
-first_gave_all : audit three_files (first_gave 3) ≡ others_right 4
+quick_first_gave_all : quick_256 three_files_listing three_files_content (first_gave 3) ≡ others_right 4
 unfolding audit_on_literals
-first_gave_all = refl
+quick_first_gave_all = refl
+
+first_gave_all : audit three_files (first_gave 3) ≡ others_right 4
+first_gave_all = audit_256 three_files_listing three_files_content (first_gave 3) ∙ quick_first_gave_all
 
 text_where_first_is_unread : (text (others_right 3) ≡ codes "ok\t.\t-\nok\to\t-\nS08\to/v1/content/a\t-\nok\to/v1/content/b\t0\nok\to/v1/content/c\t3\n") × (text (others_right 4) ≡ text (others_right 3))
 text_where_first_is_unread = (refl, refl)
@@ -83,8 +103,11 @@ runs_where_first_gave_two = (refl, refl)
 -- ---- what gives way, and what stays
 
 -- `f` is named by fixity alone
+abbrev fixity_alone_listing : Text
+fixity_alone_listing = listing_with [] (codes "{\"md5\":{\"900150983cd24fb0d6963f7d28e17f72\":[\"v1/content/f\"]}}")
+
 abbrev fixity_alone : StorageRoot
-fixity_alone = sha256_object (listing_with [] (codes "{\"md5\":{\"900150983cd24fb0d6963f7d28e17f72\":[\"v1/content/f\"]}}")) f_is_abc
+fixity_alone = sha256_object fixity_alone_listing f_is_abc
 
 other_lines_of_unread_files : AllAre (
     -- the lines of its digests give way
@@ -99,9 +122,12 @@ other_lines_of_unread_files : AllAre (
 unfolding audit_on_literals
 other_lines_of_unread_files = refl
 
-cost_of_unlisted_file_unread : map (λ i. i.cost) (audit fixity_alone ((place "o/v1/content/f", 0) ∷ [])) ≡ 0 ∷ 0 ∷ 1 ∷ []
+quick_cost_of_unlisted_file_unread : map (λ i. i.cost) (quick_256 fixity_alone_listing f_is_abc ((place "o/v1/content/f", 0) ∷ [])) ≡ 0 ∷ 0 ∷ 1 ∷ []
 unfolding audit_on_literals
-cost_of_unlisted_file_unread = refl
+quick_cost_of_unlisted_file_unread = refl
+
+cost_of_unlisted_file_unread : map (λ i. i.cost) (audit fixity_alone ((place "o/v1/content/f", 0) ∷ [])) ≡ 0 ∷ 0 ∷ 1 ∷ []
+cost_of_unlisted_file_unread = ap (map (λ i. i.cost)) (audit_256 fixity_alone_listing f_is_abc ((place "o/v1/content/f", 0) ∷ [])) ∙ quick_cost_of_unlisted_file_unread
 
 cost_of_unnamed_file : total_cost (audit (sha256_object (listing []) f_is_abc) ((place "o/v1/content/f", 2) ∷ [])) ≡ 0
 unfolding audit_on_literals

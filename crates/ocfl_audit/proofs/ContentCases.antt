@@ -224,30 +224,36 @@ directories_and_links_in_content = quickly directories_and_links_in_content_case
 -- ---- entries of an object root
 
 -- an object that lists `f`, and more in its root
-abbrev around_f : StorageRoot → StorageRoot
-around_f more = sha256_object (listing lists_f) (f_is_abc ++ more)
+abbrev around_f : String → StorageRoot → String → Case
+around_f name more t = reports_256 name (listing lists_f) (f_is_abc ++ more) t
 
-entries_of_objects : AllAre (
-    reports "entries_that_are_not_allowed" (around_f (text_at "o/junk" "" ∷ folder "o/logs" ∷ text_at "o/logs/l" "" ∷ text_at "o/v1/notes" "" ∷ folder "o/v1/other" ∷ text_at "o/v1/other/x" "" ∷ [])) "ok\t.\t-\nok\to\t-\nE001\to/junk\t-\nok\to/v1/content/f\t3\nE015\to/v1/notes\t-\n" ∷
-    reports "directories_of_an_object_root" (around_f (folder "o/extensions" ∷ text_at "o/extensions/k" "" ∷ folder "o/logs" ∷ folder "o/v0002" ∷ folder "o/V3" ∷ folder "o/v" ∷ folder "o/vx" ∷ text_at "o/vx/y" "" ∷ [])) "ok\t.\t-\nok\to\t-\nE001\to/V3\t-\nE001\to/v\t-\nok\to/v1/content/f\t3\nE001\to/vx\t-\n" ∷
-    reports "files_of_an_object_root" (around_f (text_at "o/0=ocfl_1.1" "" ∷ text_at "o/0=ocfl_object_x" "" ∷ text_at "o/extensions" "" ∷ text_at "o/logs" "" ∷ text_at "o/v2" "" ∷ [])) "ok\t.\t-\nok\to\t-\nE001\to/0=ocfl_1.1\t-\nE001\to/0=ocfl_object_x\t-\nE001\to/extensions\t-\nE001\to/logs\t-\nok\to/v1/content/f\t3\nE001\to/v2\t-\n" ∷
+abbrev entries_of_objects_cases : List Case
+entries_of_objects_cases =
+    around_f "entries_that_are_not_allowed" (text_at "o/junk" "" ∷ folder "o/logs" ∷ text_at "o/logs/l" "" ∷ text_at "o/v1/notes" "" ∷ folder "o/v1/other" ∷ text_at "o/v1/other/x" "" ∷ []) "ok\t.\t-\nok\to\t-\nE001\to/junk\t-\nok\to/v1/content/f\t3\nE015\to/v1/notes\t-\n" ∷
+    around_f "directories_of_an_object_root" (folder "o/extensions" ∷ text_at "o/extensions/k" "" ∷ folder "o/logs" ∷ folder "o/v0002" ∷ folder "o/V3" ∷ folder "o/v" ∷ folder "o/vx" ∷ text_at "o/vx/y" "" ∷ []) "ok\t.\t-\nok\to\t-\nE001\to/V3\t-\nE001\to/v\t-\nok\to/v1/content/f\t3\nE001\to/vx\t-\n" ∷
+    around_f "files_of_an_object_root" (text_at "o/0=ocfl_1.1" "" ∷ text_at "o/0=ocfl_object_x" "" ∷ text_at "o/extensions" "" ∷ text_at "o/logs" "" ∷ text_at "o/v2" "" ∷ []) "ok\t.\t-\nok\to\t-\nE001\to/0=ocfl_1.1\t-\nE001\to/0=ocfl_object_x\t-\nE001\to/extensions\t-\nE001\to/logs\t-\nok\to/v1/content/f\t3\nE001\to/v2\t-\n" ∷
     -- links have their line whatever their name
-    reports "links_of_an_object_root" (around_f (link "o/inventory.json.sha512" ∷ link "o/logs" ∷ link "o/v2" ∷ link "o/0=ocfl_object_1.0" ∷ [])) "ok\t.\t-\nok\to\t-\nS04\to/0=ocfl_object_1.0\t-\nS04\to/inventory.json.sha512\t-\nS04\to/logs\t-\nok\to/v1/content/f\t3\nS04\to/v2\t-\n" ∷
+    around_f "links_of_an_object_root" (link "o/inventory.json.sha512" ∷ link "o/logs" ∷ link "o/v2" ∷ link "o/0=ocfl_object_1.0" ∷ []) "ok\t.\t-\nok\to\t-\nS04\to/0=ocfl_object_1.0\t-\nS04\to/inventory.json.sha512\t-\nS04\to/logs\t-\nok\to/v1/content/f\t3\nS04\to/v2\t-\n" ∷
     -- an object in an object is no object of its own
-    reports "object_within_an_object" (around_f (object_in "o/sub" (listing []) [])) "ok\t.\t-\nok\to\t-\nE001\to/sub\t-\nok\to/v1/content/f\t3\n" ∷
-    reports "object_within_content" (around_f (folder "o/v1/content/p" ∷ text_at "o/v1/content/p/0=ocfl_object_1.1" "ocfl_object_1.1\n" ∷ [])) "ok\t.\t-\nok\to\t-\nok\to/v1/content/f\t3\nE023\to/v1/content/p/0=ocfl_object_1.1\t-\n" ∷
+    around_f "object_within_an_object" (object_in "o/sub" (listing []) []) "ok\t.\t-\nok\to\t-\nE001\to/sub\t-\nok\to/v1/content/f\t3\n" ∷
+    around_f "object_within_content" (folder "o/v1/content/p" ∷ text_at "o/v1/content/p/0=ocfl_object_1.1" "ocfl_object_1.1\n" ∷ []) "ok\t.\t-\nok\to\t-\nok\to/v1/content/f\t3\nE023\to/v1/content/p/0=ocfl_object_1.1\t-\n" ∷
     -- also where its head stops
     reports "object_within_a_stopped_object" (storage_root (folder "o" ∷ text_at "o/0=ocfl_object_2.0" "" ∷ object_in "o/sub" (listing []) [])) "ok\t.\t-\nS01\to\t2.0\n" ∷
     reports "object_in_the_hierarchy" (storage_root (folder "p" ∷ folder "p/x" ∷ object_in "p/q" (listing lists_f) (folder "p/q/v1" ∷ folder "p/q/v1/content" ∷ text_at "p/q/v1/content/f" "abc" ∷ []))) "ok\t.\t-\nok\tp/q\t-\nok\tp/q/v1/content/f\t3\nE073\tp/x\t-\n" ∷
-    [])
+    []
+
+quick_entries_of_objects : AllAreQuick entries_of_objects_cases
 unfolding audit_on_literals
-entries_of_objects = refl
+quick_entries_of_objects = refl
+
+entries_of_objects : AllAre entries_of_objects_cases
+entries_of_objects = quickly entries_of_objects_cases quick_entries_of_objects
 
 -- ---- entries of a version directory
 
 abbrev entries_of_versions_cases : List Case
 entries_of_versions_cases =
-    reports "entries_of_a_version" (around_f (text_at "o/v1/inventory.json" "" ∷ text_at "o/v1/inventory.json.sha256" "" ∷ text_at "o/v1/inventory.json.sha512" "" ∷ text_at "o/v1/inventory.json.md5" "" ∷ folder "o/v1/logs" ∷ link "o/v1/other" ∷ folder "o/v2" ∷ folder "o/v2/content" ∷ [])) "ok\t.\t-\nok\to\t-\nok\to/v1/content/f\t3\nE015\to/v1/inventory.json.md5\t-\nS04\to/v1/other\t-\n" ∷
+    around_f "entries_of_a_version" (text_at "o/v1/inventory.json" "" ∷ text_at "o/v1/inventory.json.sha256" "" ∷ text_at "o/v1/inventory.json.sha512" "" ∷ text_at "o/v1/inventory.json.md5" "" ∷ folder "o/v1/logs" ∷ link "o/v1/other" ∷ folder "o/v2" ∷ folder "o/v2/content" ∷ []) "ok\t.\t-\nok\to\t-\nok\to/v1/content/f\t3\nE015\to/v1/inventory.json.md5\t-\nS04\to/v1/other\t-\n" ∷
     reports_256 "links_of_a_version" (listing (key abc.sha256 "[\"v2/content/f\"]" ∷ [])) (link "o/v1/inventory.json" ∷ folder "o/v2" ∷ link "o/v2/content" ∷ []) "ok\t.\t-\nok\to\t-\nS04\to/v1/inventory.json\t-\nS04\to/v2/content\t-\nE092\to/v2/content/f\tsha256 missing\n" ∷
     reports_256 "version_is_a_link" (listing (key abc.sha256 "[\"v2/content/f\"]" ∷ [])) (link "o/v2" ∷ text_at "o/v2/content/f" "abc" ∷ []) "ok\t.\t-\nok\to\t-\nS04\to/v2\t-\nE092\to/v2/content/f\tsha256 missing\n" ∷
     reports_256 "version_is_a_file" (listing (key abc.sha256 "[\"v2/content/f\"]" ∷ [])) (text_at "o/v2" "" ∷ []) "ok\t.\t-\nok\to\t-\nE001\to/v2\t-\nE092\to/v2/content/f\tsha256 missing\n" ∷

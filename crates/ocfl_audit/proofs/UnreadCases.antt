@@ -12,12 +12,18 @@ use Rattle.ocfl_audit.specs.Due.{item_places, items_at, hashed_among}
 use Rattle.ocfl_audit.specs.Trail.{unread_of, content_trail}
 use Rattle.ocfl_audit.specs.Runs.{runs, of_budget}
 use Rattle.ocfl_audit.proofs.OnLiterals.{audit_on_literals}
-use Rattle.ocfl_audit.proofs.CaseTrees.{three_files_content, three_files_listing, Case, case, AllAre, place, text_at, bytes_at, folder, sha256_object, f_is_abc, key, listing, listing_with, lists_f, three_files, abc, item, the_root, clean, right}
+use Rattle.ocfl_audit.proofs.CaseTrees.{AllAreQuick, quickly, three_files_content, three_files_listing, Case, AllAre, place, text_at, bytes_at, folder, sha256_object, f_is_abc, key, listing, listing_with, lists_f, three_files, abc, item, the_root, clean, right}
 use Rattle.ocfl_audit.proofs.QuietCases.{quick_256, audit_256}
 
--- the text of the audit where one file gave only so many bytes
-abbrev reports_unread : String → StorageRoot → String → ℕ → String → Case
-reports_unread name root p given t = case name (text (audit root ((place p, given) ∷ []))) (codes t)
+-- the text of the audit where one file of an object with a right sidecar gave only so many bytes
+abbrev reports_unread : String → Text → StorageRoot → String → ℕ → String → Case
+reports_unread name inventory more p given t = let unread : Unread = (place p, given) ∷ [] in record {
+  name = name;
+  shown = text (audit (sha256_object inventory more) unread);
+  quick = text (quick_256 inventory more unread);
+  is_quick = ap text (audit_256 inventory more unread);
+  wanted = codes t;
+}
 
 -- the item of a file that could not be read, by its cost
 abbrev unread : String → ℕ → Item
@@ -109,18 +115,24 @@ fixity_alone_listing = listing_with [] (codes "{\"md5\":{\"900150983cd24fb0d6963
 abbrev fixity_alone : StorageRoot
 fixity_alone = sha256_object fixity_alone_listing f_is_abc
 
-other_lines_of_unread_files : AllAre (
+abbrev other_lines_of_unread_files_cases : List Case
+other_lines_of_unread_files_cases =
     -- the lines of its digests give way
-    reports_unread "wrong_file_unread" (sha256_object (listing_with lists_f (codes "{\"md5\":{\"x\":[\"v1/content/f\"]}}")) (text_at "o/v1/content/f" "" ∷ [])) "o/v1/content/f" 0 "ok\t.\t-\nok\to\t-\nS08\to/v1/content/f\t-\n" ∷
+    reports_unread "wrong_file_unread" (listing_with lists_f (codes "{\"md5\":{\"x\":[\"v1/content/f\"]}}")) (text_at "o/v1/content/f" "" ∷ []) "o/v1/content/f" 0 "ok\t.\t-\nok\to\t-\nS08\to/v1/content/f\t-\n" ∷
     -- that the manifest does not name it stays
-    reports_unread "unlisted_file_unread" fixity_alone "o/v1/content/f" 0 "ok\t.\t-\nok\to\t-\nE023\to/v1/content/f\t-\nS08\to/v1/content/f\t-\n" ∷
+    reports_unread "unlisted_file_unread" fixity_alone_listing f_is_abc "o/v1/content/f" 0 "ok\t.\t-\nok\to\t-\nE023\to/v1/content/f\t-\nS08\to/v1/content/f\t-\n" ∷
     -- a file that nothing names is never opened
-    reports_unread "unnamed_file_stays_unnamed" (sha256_object (listing []) f_is_abc) "o/v1/content/f" 2 "ok\t.\t-\nok\to\t-\nE023\to/v1/content/f\t-\n" ∷
+    reports_unread "unnamed_file_stays_unnamed" (listing []) f_is_abc "o/v1/content/f" 2 "ok\t.\t-\nok\to\t-\nE023\to/v1/content/f\t-\n" ∷
     -- nor is what is no file
-    reports_unread "missing_file_stays_missing" (sha256_object (listing lists_f) []) "o/v1/content/f" 2 "ok\t.\t-\nok\to\t-\nE092\to/v1/content/f\tsha256 missing\n" ∷
-    [])
+    reports_unread "missing_file_stays_missing" (listing lists_f) [] "o/v1/content/f" 2 "ok\t.\t-\nok\to\t-\nE092\to/v1/content/f\tsha256 missing\n" ∷
+    []
+
+quick_other_lines_of_unread_files : AllAreQuick other_lines_of_unread_files_cases
 unfolding audit_on_literals
-other_lines_of_unread_files = refl
+quick_other_lines_of_unread_files = refl
+
+other_lines_of_unread_files : AllAre other_lines_of_unread_files_cases
+other_lines_of_unread_files = quickly other_lines_of_unread_files_cases quick_other_lines_of_unread_files
 
 quick_cost_of_unlisted_file_unread : map (λ i. i.cost) (quick_256 fixity_alone_listing f_is_abc ((place "o/v1/content/f", 0) ∷ [])) ≡ 0 ∷ 0 ∷ 1 ∷ []
 unfolding audit_on_literals

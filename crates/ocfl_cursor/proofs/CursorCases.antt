@@ -1,10 +1,11 @@
 -- Worked cases: cursors, their text, and why bytes are none.
-use Rattle.std.proofs.Common.{◌≡◌, ◌==◌, ◌+◌, ℕ, zero, suc, List, [], ◌∷◌, ◌++◌, codes, refl, sym, inr, arith, length, map, replicate, take, drop}
+use Rattle.std.proofs.Common.{◌≡◌, ◌==◌, ◌+◌, ◌-◌, ◌∙◌, ℕ, zero, suc, List, [], ◌∷◌, ◌++◌, codes, refl, sym, ap, ap₂, inr, arith, length, map, replicate, take, drop, get_or}
+use Rattle.std.specs.Prelude.{◌&&◌, if◌then◌else◌, nat_le, not}
 use Rattle.std.specs.List.{slice_split}
 use Prim.Native.String.{String}
-use Rattle.ocfl_tree.specs.Place.{Text, Place}
+use Rattle.ocfl_tree.specs.Place.{Text, Place, text_eq}
 use Rattle.ocfl_cursor.specs.Cursor.{start, behind, ended, Cursor, IsCursor, new_cursor, cursor_lines, cursor_body, cursor_text, digest_line, version_one_body, version_one_text}
-use Rattle.ocfl_cursor.specs.Refusal.{Refusal, not_cursor, version, damaged, malformed, refusal, IsTextOf}
+use Rattle.ocfl_cursor.specs.Refusal.{Refusal, not_cursor, version, damaged, malformed, refusal, is_cursor_front, is_version, version_of, IsTextOf}
 use Rattle.ocfl_cursor.proofs.OnLiterals.{cursor_on_literals}
 
 -- a place by its text
@@ -162,10 +163,51 @@ cut_anywhere = refl
 abbrev changed_at : ℕ → Refusal
 changed_at n = refusal (take n whole ++ 33 ∷ drop (n + 1) whole)
 
+-- a text with a byte changed, and what its last line is to be the digest of
+abbrev changed : ℕ → Text
+changed n = take n whole ++ 33 ∷ drop (n + 1) whole
+
+abbrev front_of : Text → Text
+front_of b = take (length b - 72) b
+
+-- the last line of that cursor's text in version 1, which is computed once
+abbrev last_line : Text
+last_line = codes "digest 822836e04ff6618e0a7571237f0049f590a6f9890506f09338f0505902d351d7\n"
+
+last_line_is : digest_line (front_of whole) ≡ last_line
+unfolding cursor_on_literals
+last_line_is = refl
+
+-- the refusal of bytes where that is the line that they are to end with
+abbrev refusal_by : Text → Text → Refusal
+refusal_by line b = if not (is_cursor_front b) then not_cursor
+    else (if not (is_version (version_of b)) then version
+    else (if not (nat_le 72 (length b) && text_eq (drop (length b - 72) b) line) then damaged else malformed))
+
+same_refusal : (b : Text) → front_of b ≡ front_of whole → refusal b ≡ refusal_by last_line b
+same_refusal b e = ap (λ line. refusal_by line b) (ap digest_line e ∙ last_line_is)
+
+same_refusals : (ns : List ℕ) → map (λ n. front_of (changed n)) ns ≡ replicate (length ns) (front_of whole)
+    → map changed_at ns ≡ map (λ n. refusal_by last_line (changed n)) ns
+same_refusals [] e = refl
+same_refusals (n ∷ ns) e =
+    ap₂ (λ x xs. x ∷ xs) (same_refusal (changed n) (ap (λ xs. get_or xs 0 []) e)) (same_refusals ns (ap (drop 1) e))
+
+-- in the last line
+changed_in_last_line : map changed_at (upward 64 72) ≡ replicate 72 damaged
+changed_in_last_line = same_refusals (upward 64 72) refl ∙ refl
+
+-- and in front of it
+changed_in_front : map changed_at (upward 0 64) ≡ replicate 18 not_cursor ++ version ∷ version ∷ replicate 44 damaged
+unfolding cursor_on_literals
+changed_in_front = refl
+
+in_two : (f : ℕ → Refusal) → map f (upward 0 136) ≡ map f (upward 0 64) ++ map f (upward 64 72)
+in_two f = refl
+
 -- in the first line, in the version or the line feed behind it, and anywhere else
 changed_anywhere : map changed_at (upward 0 136) ≡ replicate 18 not_cursor ++ version ∷ version ∷ replicate 116 damaged
-unfolding cursor_on_literals
-changed_anywhere = refl
+changed_anywhere = in_two changed_at ∙ ap₂ ◌++◌ changed_in_front changed_in_last_line
 
 byte_behind_the_text : refusal (whole ++ 10 ∷ []) ≡ damaged
 unfolding cursor_on_literals

@@ -152,7 +152,8 @@ fn with_deed<'a>(
 ) -> Result<Command<'a>, AllocError>
     // What `clap` reads the command as has the subcommand behind its others.
     ensures { IfOk result (λ new. (app : App) → IsCommand app command.entry
-        → IsCommand (with_subcommand app (app_with name.now (map rule_for arguments.now)).top) new) }
+        → IsCommand (with_subcommand app (app_with name.now (map rule_for arguments.now)).top)
+        new) }
 {
     command.subcommand(deed_command(alloc, name, about, arguments)?)
 }

@@ -1,0 +1,491 @@
+use crate::common::tree::place_of;
+use ocfl_cursor::{
+    Budget, Cursor, CursorStop, FileLimit, Limits, Meter, Refused, State, cursor_lines,
+    cursor_reads_back, decode, encode, read_cursor, text_determines_the_cursor,
+};
+use ocfl_tree::{Name, Place};
+use sha2::{Digest, Sha256};
+use std::alloc::Global;
+use std::io::{self, ErrorKind, Read};
+use std::process::Abort;
+use std::test::Fail;
+
+/// A text of a cursor behind `o/v1/content/c`, before its digest line.
+const BODY: &str = "ocfl-scrub cursor 2\ncycle 3\nruns 2\nspent 9\nfiles 3\nafter o/v1/content/c\n";
+
+/// The SHA-256 of that, by `sha256sum`.
+const DIGEST: &str = "894422823bd158b8102505a5075ffb65b0f4cfeb1067789d3830a518ec8f4b26";
+
+/// The same of version 1, which does not tell the files.
+const OLD_BODY: &str = "ocfl-scrub cursor 1\ncycle 3\nruns 2\nspent 9\nafter o/v1/content/c\n";
+
+/// The SHA-256 of that, by `sha256sum`.
+const OLD_DIGEST: &str = "822836e04ff6618e0a7571237f0049f590a6f9890506f09338f0505902d351d7";
+
+/// The whole text.
+fn whole_text(alloc: Global) -> Result<Vec<u8>, Fail> {
+    let text = format!(in alloc; "{BODY}digest {DIGEST}\n")?;
+    Ok(Vec::from_slice(alloc, text.as_bytes())?)
+}
+
+/// The whole text of version 1.
+fn old_text(alloc: Global) -> Result<Vec<u8>, Fail> {
+    let text = format!(in alloc; "{OLD_BODY}digest {OLD_DIGEST}\n")?;
+    Ok(Vec::from_slice(alloc, text.as_bytes())?)
+}
+
+/// The text with its right digest line.
+fn seal(alloc: Global, body: &[u8]) -> Result<Vec<u8>, Fail> {
+    let mut text = Vec::from_slice(alloc, body)?;
+    text.extend_from_slice(b"digest ")?;
+    text.extend_from_slice(hex::encode(alloc, Sha256::digest(body))?.as_bytes())?;
+    text.extend_from_slice(b"\n")?;
+    Ok(text)
+}
+
+/// A place of so many names, each 255 bytes 0x01.
+fn long_place(alloc: Global, count: usize) -> Result<Place, Fail> {
+    let name = String::from_utf8(vec![in alloc; 1u8; 255]?)?;
+    let mut place = Place::root(alloc);
+    for _ in 0..count {
+        place.push(Name::new(alloc, name.as_str())?)?;
+    }
+    Ok(place)
+}
+
+fn cursor_behind(place: Place) -> Result<Cursor, Fail> {
+    Ok(Cursor::from_parts(1, 1, 0, 0, State::After(place)).ok_or("a place of at most 255 names")?)
+}
+
+fn refusal_of(alloc: Global, text: &[u8]) -> Option<Refused> {
+    decode(alloc, text).err()
+}
+
+#[test]
+fn texts_have_their_lengths(rt: HostRuntime) -> Result<(), Fail> {
+    let alloc = rt.alloc();
+    assert_eq!(rt; encode(alloc, &Cursor::new())?.len(), 129);
+    let root = Cursor::from_parts(1, 0, 0, 0, State::After(Place::root(alloc))).ok_or("the root")?;
+    assert_eq!(rt; encode(alloc, &root)?.len(), 131);
+    let long = cursor_behind(long_place(alloc, 255)?)?;
+    let text = encode(alloc, &long)?;
+    assert_eq!(rt; text.len(), 195_459);
+    assert_eq!(rt;
+        decode(alloc, &text)?.state(),
+        &State::After(long_place(alloc, 255)?)
+    );
+    Ok(())
+}
+
+#[test]
+fn writes_seven_lines(rt: HostRuntime) -> Result<(), Fail> {
+    let alloc = rt.alloc();
+    let state = State::After(place_of(alloc, "o/v1/content/c")?);
+    let cursor = Cursor::from_parts(3, 2, 9, 3, state).ok_or("a cursor")?;
+    let text = encode(alloc, &cursor)?;
+    assert_eq!(rt; text.len(), 144);
+    assert_eq!(rt; text, whole_text(alloc)?);
+    let shown = "cycle 3\nruns 2\nspent 9\nfiles 3\nafter o/v1/content/c\n";
+    assert_eq!(rt; cursor_lines(alloc, &cursor)?.as_slice(), shown.as_bytes());
+    Ok(())
+}
+
+#[test]
+fn reads_what_is_written(rt: HostRuntime) -> Result<(), Fail> {
+    let alloc = rt.alloc();
+    let cursor = decode(alloc, &whole_text(alloc)?)?;
+    assert_eq!(rt; (cursor.cycle(), cursor.runs()), (3, 2));
+    assert_eq!(rt; (cursor.spent(), cursor.files()), (9, 3));
+    let place = place_of(alloc, "o/v1/content/c")?;
+    assert_eq!(rt; cursor.into_state(), State::After(place));
+    for state in [State::Start, State::After(Place::root(alloc)), State::Ended] {
+        let cursor = Cursor::from_parts(u64::MAX, u64::MAX, 7, 7, state).ok_or("a cursor")?;
+        let read = cursor_reads_back(alloc, &cursor)?;
+        assert_eq!(rt; (read.cycle(), read.runs()), (u64::MAX, u64::MAX));
+        assert_eq!(rt; (read.spent(), read.files()), (7, 7));
+        assert_eq!(rt; read.state(), cursor.state());
+    }
+    text_determines_the_cursor();
+    Ok(())
+}
+
+#[test]
+fn reads_version_one(rt: HostRuntime) -> Result<(), Fail> {
+    let alloc = rt.alloc();
+    let text = old_text(alloc)?;
+    assert_eq!(rt; text.len(), 136);
+    let cursor = decode(alloc, &text)?;
+    assert_eq!(rt; (cursor.cycle(), cursor.runs()), (3, 2));
+    assert_eq!(rt; (cursor.spent(), cursor.files()), (9, 0));
+    let shown = "cycle 3\nruns 2\nspent 9\nfiles 0\nafter o/v1/content/c\n";
+    assert_eq!(rt; cursor_lines(alloc, &cursor)?.as_slice(), shown.as_bytes());
+    let place = place_of(alloc, "o/v1/content/c")?;
+    assert_eq!(rt; cursor.into_state(), State::After(place));
+    // As another version, it is not what its digest line seals.
+    let body = OLD_BODY.replace(alloc, "cursor 1", "cursor 2")?;
+    let changed = format!(in alloc; "{body}digest {OLD_DIGEST}\n")?;
+    assert_eq!(rt;
+        refusal_of(alloc, changed.as_bytes()),
+        Some(Refused::Damaged)
+    );
+    Ok(())
+}
+
+/// The longest text of version 1 has 195,451 bytes.
+#[test]
+fn reads_a_long_text_of_version_one(rt: HostRuntime) -> Result<(), Fail> {
+    let alloc = rt.alloc();
+    let place = long_place(alloc, 255)?;
+    let mut body = Vec::from_slice(
+        alloc,
+        b"ocfl-scrub cursor 1\ncycle 1\nruns 1\nspent 0\nafter ",
+    )?;
+    ocfl_report::put_place(&place, &mut body)?;
+    body.extend_from_slice(b"\n")?;
+    let text = seal(alloc, &body)?;
+    assert_eq!(rt; text.len(), 195_451);
+    assert_eq!(rt; decode(alloc, &text)?.into_state(), State::After(place));
+    Ok(())
+}
+
+/// The text is refused so where it is cut before this byte, and where this byte is changed.
+fn expect_damaged_at(
+    rt: &(impl Abort + AllocGlobal),
+    whole: &[u8],
+    place: usize,
+) -> Result<(), Fail> {
+    let (cut, changed) = match place {
+        0..18 => (Refused::NotCursor, Refused::NotCursor),
+        18 => (Refused::Version, Refused::Version),
+        // The line feed ends the version.
+        19 => (Refused::Damaged, Refused::Version),
+        _ => (Refused::Damaged, Refused::Damaged),
+    };
+    let got = refusal_of(rt.alloc(), &whole[..place]);
+    assert_eq!(rt; got, Some(cut), "cut to {place} bytes");
+    let mut other = whole.to_vec(rt.alloc())?;
+    // So that no version is made another one that is read.
+    *other.get_mut(place).ok_or("a byte of the text")? ^= 4;
+    let got = refusal_of(rt.alloc(), &other);
+    assert_eq!(rt; got, Some(changed), "byte {place} changed");
+    Ok(())
+}
+
+#[test]
+fn refuses_texts_that_are_cut_or_changed(rt: HostRuntime) -> Result<(), Fail> {
+    for whole in [whole_text(rt.alloc())?, old_text(rt.alloc())?] {
+        for place in 0..whole.len() {
+            expect_damaged_at(&rt, whole.as_slice(), place)?;
+        }
+    }
+    Ok(())
+}
+
+#[test]
+fn refuses_other_texts(rt: HostRuntime) -> Result<(), Fail> {
+    let alloc = rt.alloc();
+    let third = BODY.replace(alloc, "cursor 2", "cursor 3")?;
+    assert_eq!(rt;
+        refusal_of(alloc, &seal(alloc, third.as_bytes())?),
+        Some(Refused::Version)
+    );
+    // A carriage return in the first line is part of the version.
+    let returns = BODY.replace(alloc, "\n", "\r\n")?;
+    assert_eq!(rt;
+        refusal_of(alloc, &seal(alloc, returns.as_bytes())?),
+        Some(Refused::Version)
+    );
+    let capitals = format!(in alloc; "{BODY}digest {}\n", DIGEST.to_ascii_uppercase(alloc)?)?;
+    assert_eq!(rt;
+        refusal_of(alloc, capitals.as_bytes()),
+        Some(Refused::Damaged)
+    );
+    let mut long = whole_text(alloc)?;
+    long.resize(262_145, b'\n')?;
+    assert_eq!(rt; refusal_of(alloc, &long), Some(Refused::NotCursor));
+    long.truncate(262_144);
+    assert_eq!(rt; refusal_of(alloc, &long), Some(Refused::Damaged));
+    Ok(())
+}
+
+/// What is put for what in the body of either version, so that no cursor has it.
+const CHANGES: [(&str, &str); 26] = [
+    ("cycle 3\n", "cycle 03\n"),
+    ("cycle 3\n", "cycle 0\n"),
+    ("cycle 3\n", "cycle 18446744073709551616\n"),
+    ("cycle 3\n", "cycle \n"),
+    ("cycle 3\n", "cycle  3\n"),
+    ("cycle 3\n", "cycle 3 \n"),
+    ("cycle 3\n", ""),
+    ("cycle 3\nruns 2\n", "runs 2\ncycle 3\n"),
+    ("runs 2\n", "runs 00\n"),
+    ("runs 2\n", ""),
+    ("runs 2\n", "runs 18446744073709551616\n"),
+    ("spent 9\n", "spent +1\n"),
+    (
+        "spent 9\n",
+        "spent 340282366920938463463374607431768211456\n",
+    ),
+    ("spent 9\n", "spent 9\nspent 9\n"),
+    ("spent 9\n", ""),
+    ("after o/v1/content/c\n", ""),
+    ("after o/v1/content/c\n", "after\n"),
+    ("after o/v1/content/c\n", "after \n"),
+    ("after o/v1/content/c\n", "after a/\n"),
+    ("after o/v1/content/c\n", "after %61\n"),
+    ("after o/v1/content/c\n", "started\n"),
+    ("after o/v1/content/c\n", "after o/v1/content/c\n\n"),
+    ("after o/v1/content/c\n", "after o/v1/content/c\nended\n"),
+    ("/content/c\n", "/content/c"),
+    (
+        "cycle 3\nruns 2\nspent 9\n",
+        "cycle 3\r\nruns 2\r\nspent 9\r\n",
+    ),
+    ("/content/c\n", "/content/c\r\n"),
+];
+
+/// What is put for the line of the files, so that no cursor has it.
+const FILES_CHANGES: [(&str, &str); 8] = [
+    ("files 3\n", ""),
+    ("files 3\n", "files 10\n"),
+    ("files 3\n", "files 03\n"),
+    ("files 3\n", "files \n"),
+    ("files 3\n", "files 3\nfiles 3\n"),
+    ("spent 9\nfiles 3\n", "files 3\nspent 9\n"),
+    (
+        "files 3\n",
+        "files 340282366920938463463374607431768211456\n",
+    ),
+    ("cursor 2\n", "cursor 1\n"),
+];
+
+/// What the body of a text is refused for, where this is put for that in it.
+fn refusal_with(alloc: Global, body: &str, change: (&str, &str)) -> Result<Option<Refused>, Fail> {
+    let (from, to) = change;
+    let body = body.replace(alloc, from, to)?;
+    Ok(refusal_of(alloc, &seal(alloc, body.as_bytes())?))
+}
+
+#[test]
+fn refuses_forms_of_no_cursor(rt: HostRuntime) -> Result<(), Fail> {
+    let malformed = Some(Refused::Malformed);
+    for change in CHANGES {
+        for body in [BODY, OLD_BODY] {
+            assert_eq!(rt;
+                refusal_with(rt.alloc(), body, change)?,
+                malformed,
+                "{change:?}"
+            );
+        }
+    }
+    for change in FILES_CHANGES {
+        assert_eq!(rt;
+            refusal_with(rt.alloc(), BODY, change)?,
+            malformed,
+            "{change:?}"
+        );
+    }
+    // A text of version 1 has no such line, even of no files.
+    let none = ("spent 9\n", "spent 9\nfiles 0\n");
+    assert_eq!(rt; refusal_with(rt.alloc(), OLD_BODY, none)?, malformed);
+    let all = BODY.replace(rt.alloc(), "files 3\n", "files 9\n")?;
+    let cursor = decode(rt.alloc(), &seal(rt.alloc(), all.as_bytes())?)?;
+    assert_eq!(rt; cursor.files(), 9);
+    Ok(())
+}
+
+#[test]
+fn keeps_the_limits_of_a_cursor(rt: HostRuntime) -> Result<(), Fail> {
+    let alloc = rt.alloc();
+    for (spent, fits) in [
+        ("9223372036854775808", true),
+        ("9223372036854775809", false),
+    ] {
+        let counts = format!(in alloc; "runs 1\nspent {spent}\n")?;
+        for whole in [BODY, OLD_BODY] {
+            let body = whole.replace(alloc, "runs 2\nspent 9\n", counts.as_str())?;
+            let read = decode(alloc, &seal(alloc, body.as_bytes())?);
+            assert_eq!(rt; read.is_ok(), fits, "spent {spent}");
+            assert_eq!(rt;
+                read.err(),
+                (!fits).then_some(Refused::Malformed),
+                "spent {spent}"
+            );
+        }
+    }
+    let mut body = Vec::from_slice(
+        alloc,
+        b"ocfl-scrub cursor 2\ncycle 1\nruns 1\nspent 0\nfiles 0\nafter ",
+    )?;
+    ocfl_report::put_place(&long_place(alloc, 256)?, &mut body)?;
+    body.extend_from_slice(b"\n")?;
+    assert_eq!(rt;
+        refusal_of(alloc, &seal(alloc, &body)?),
+        Some(Refused::Malformed)
+    );
+    assert!(rt; Cursor::from_parts(0, 0, 0, 0, State::Start).is_none());
+    assert!(rt; Cursor::from_parts(1, 0, 1, 0, State::Start).is_none());
+    assert!(rt; Cursor::from_parts(1, 2, 1 << 64, 0, State::Ended).is_some());
+    assert!(rt; Cursor::from_parts(1, 2, (1 << 64) + 1, 0, State::Ended).is_none());
+    assert!(rt; Cursor::from_parts(1, 2, 9, 9, State::Ended).is_some());
+    assert!(rt; Cursor::from_parts(1, 2, 9, 10, State::Ended).is_none());
+    let too_deep = State::After(long_place(alloc, 256)?);
+    assert!(rt; Cursor::from_parts(1, 0, 0, 0, too_deep).is_none());
+    Ok(())
+}
+
+#[test]
+fn moves_on(rt: HostRuntime) -> Result<(), Fail> {
+    let behind = State::After(place_of(rt.alloc(), "a")?);
+    let one = Cursor::new().after_run(5, 2, behind).ok_or("a run")?;
+    let two = one.after_run(4, 1, State::Ended).ok_or("a second run")?;
+    assert_eq!(rt; (two.cycle(), two.runs()), (1, 2));
+    assert_eq!(rt; (two.spent(), two.files()), (9, 3));
+    assert_eq!(rt; two.state(), &State::Ended);
+    let mut taken = one;
+    let behind = State::After(place_of(rt.alloc(), "a")?);
+    assert_eq!(rt; taken.take_state(), behind);
+    assert_eq!(rt; taken.state(), &State::Start);
+    assert_eq!(rt; (taken.runs(), taken.spent(), taken.files()), (1, 5, 2));
+    let next = two.next_cycle().ok_or("a second cycle")?;
+    assert_eq!(rt; (next.cycle(), next.runs()), (2, 0));
+    assert_eq!(rt; (next.spent(), next.files()), (0, 0));
+    assert_eq!(rt; next.state(), &State::Start);
+    let last = Cursor::from_parts(u64::MAX, u64::MAX, 0, 0, State::Ended);
+    let last = last.ok_or("the last cursor")?;
+    assert!(rt; last.next_cycle().is_none());
+    assert!(rt; last.after_run(0, 0, State::Start).is_none());
+    let too_much = (1 << 63) + 1;
+    assert!(rt; Cursor::new().after_run(too_much, 1, State::Start).is_none());
+    assert!(rt; Cursor::new().after_run(4, 5, State::Start).is_none());
+    Ok(())
+}
+
+#[test]
+fn reasons_have_their_texts(rt: HostRuntime) -> Result<(), Fail> {
+    for (refused, text) in [
+        (Refused::NotCursor, "not a cursor"),
+        (Refused::Version, "version"),
+        (Refused::Damaged, "damaged"),
+        (Refused::Malformed, "malformed"),
+        (Refused::Memory, "out of memory"),
+    ] {
+        assert_eq!(rt; refused.to_string(rt.alloc())?.as_str(), text);
+    }
+    Ok(())
+}
+
+/// A meter of this budget, for a run that may start so many files.
+fn meter_of(budget: u64, files: u64) -> Result<Meter, Fail> {
+    let budget = Budget::new(budget).ok_or("a budget")?;
+    let files = FileLimit::new(files).ok_or("a limit on files")?;
+    Ok(Meter::new(Limits { budget, files }))
+}
+
+#[test]
+fn limits_have_their_ranges(rt: HostRuntime) {
+    for (number, is_limit) in [
+        (0, false),
+        (1, true),
+        (4_611_686_018_427_387_904, true),
+        (4_611_686_018_427_387_905, false),
+    ] {
+        assert_eq!(rt; Budget::new(number).is_some(), is_limit, "{number}");
+        assert_eq!(rt; FileLimit::new(number).is_some(), is_limit, "{number}");
+    }
+}
+
+#[test]
+fn meters_a_run(rt: HostRuntime) -> Result<(), Fail> {
+    let mut meter = meter_of(4_611_686_018_427_387_904, 3)?;
+    assert_eq!(rt; (meter.spent(), meter.files()), (0, 0));
+    assert!(rt; meter.may_start());
+    meter.charge(4_611_686_018_427_387_903);
+    assert!(rt; meter.may_start());
+    meter.charge(4_611_686_018_427_387_905);
+    assert_eq!(rt; (meter.spent(), meter.files()), (1 << 63, 2));
+    assert!(rt; !meter.may_start());
+    meter.charge(0);
+    assert_eq!(rt; (meter.spent(), meter.files()), (1 << 63, 2));
+    let mut least = meter_of(1, 4_611_686_018_427_387_904)?;
+    assert!(rt; least.may_start());
+    least.charge(1);
+    assert!(rt; !least.may_start());
+    Ok(())
+}
+
+#[test]
+fn meters_the_files_of_a_run(rt: HostRuntime) -> Result<(), Fail> {
+    let mut meter = meter_of(9, 2)?;
+    // What costs nothing is no file.
+    meter.charge(0);
+    assert!(rt; meter.may_start());
+    meter.charge(4);
+    meter.charge(0);
+    assert!(rt; meter.may_start());
+    meter.charge(1);
+    meter.charge(0);
+    assert_eq!(rt; (meter.spent(), meter.files()), (5, 2));
+    assert!(rt; !meter.may_start());
+    let mut one = meter_of(9, 1)?;
+    assert!(rt; one.may_start());
+    one.charge(4);
+    assert!(rt; !one.may_start());
+    Ok(())
+}
+
+/// A reader that gives at most seven bytes a call, and then fails or ends.
+#[derive(Drop)]
+struct Halting<'a> {
+    left: &'a [u8],
+    fails: Option<ErrorKind>,
+}
+
+impl Read for Halting<'_> {
+    fn read(&mut self, buf: &mut [u8]) -> io::Result<usize> {
+        if self.left.is_empty() {
+            return match self.fails {
+                Some(kind) => Err(io::Error::from(kind)),
+                None => Ok(0),
+            };
+        }
+        let count = self.left.len().min(buf.len()).min(7);
+        let (given, left) = self.left.split_at(count);
+        buf[..count].copy_from_slice(given);
+        self.left = left;
+        Ok(count)
+    }
+}
+
+/// What reading stops with, for a reader of these bytes that then fails or ends.
+fn stop_of(alloc: Global, left: &[u8], fails: Option<ErrorKind>) -> Option<CursorStop> {
+    read_cursor(alloc, &mut Halting { left, fails }).err()
+}
+
+#[test]
+fn reads_from_readers(rt: HostRuntime) -> Result<(), Fail> {
+    let alloc = rt.alloc();
+    let whole = whole_text(alloc)?;
+    assert_eq!(rt; stop_of(alloc, &whole, None), None);
+    let mut slice = whole.as_slice();
+    let cursor = read_cursor(alloc, &mut slice).ok().ok_or("a cursor")?;
+    assert_eq!(rt; encode(alloc, &cursor)?, whole);
+    let not_cursor = Some(CursorStop::Refused(Refused::NotCursor));
+    assert_eq!(rt; stop_of(alloc, b"", None), not_cursor);
+    let damaged = Some(CursorStop::Refused(Refused::Damaged));
+    assert_eq!(rt; stop_of(alloc, &whole[..whole.len() - 1], None), damaged);
+    let failing = Some(ErrorKind::PermissionDenied);
+    assert_eq!(rt; stop_of(alloc, &whole, failing), Some(CursorStop::Read));
+    let memory = Some(CursorStop::Refused(Refused::Memory));
+    assert_eq!(rt;
+        stop_of(alloc, &whole, Some(ErrorKind::OutOfMemory)),
+        memory
+    );
+    let mut long = whole_text(alloc)?;
+    long.resize(262_144, b'\n')?;
+    assert_eq!(rt; stop_of(alloc, &long, None), damaged);
+    // From one byte more on the reader is not asked for its end.
+    long.push(b'\n')?;
+    assert_eq!(rt; stop_of(alloc, &long, failing), not_cursor);
+    Ok(())
+}

@@ -1,0 +1,581 @@
+use crate::common::digests::{ABC_SHA256, with_digests};
+use crate::common::tree::place_of;
+use ocfl_digest::Algorithm;
+use ocfl_inventory::declaration::declaration;
+use ocfl_inventory::{
+    Declared, Level, Table, Version, algorithm_of, declaration_bytes, declaration_name,
+    is_declaration_name, is_version_name, read_inventory, sidecar, version_in_name,
+};
+use ocfl_tree::{Entry, Kind, Name, Place};
+use std::alloc::Global;
+use std::process::Abort;
+use std::test::Fail;
+
+/// The text of an inventory with a manifest and further members.
+fn inventory(alloc: Global, manifest: &str, further: &str) -> Result<String, Fail> {
+    Ok(format!(in alloc;
+        "{{\"id\":\"o\",\"digestAlgorithm\":\"sha256\",\"head\":\"v1\",\"manifest\":{manifest},\"versions\":{{}}{further}}}"
+    )?)
+}
+
+/// The lines of an inventory's bytes, each as its code, a blank, its detail and a line feed, and
+/// whether there is a table.
+fn lines(alloc: Global, bytes: &[u8]) -> Result<(String, bool), Fail> {
+    let (lines, table) = Table::read(alloc, bytes)?;
+    let mut text = String::new(alloc);
+    for line in &lines {
+        let one = format!(in alloc; "{:?} {}\n", line.code, line.detail)?;
+        text.push_str(one.as_str())?;
+    }
+    Ok((text, table.is_some()))
+}
+
+fn stops(rt: &impl Abort, alloc: Global, bytes: &[u8], wanted: &str) -> Result<(), Fail> {
+    let (text, table) = lines(alloc, bytes)?;
+    assert_eq!(rt; text.as_str(), wanted);
+    assert!(rt; !table, "a table beside {wanted}");
+    Ok(())
+}
+
+fn goes_on(rt: &impl Abort, alloc: Global, bytes: &[u8], wanted: &str) -> Result<(), Fail> {
+    let (text, table) = lines(alloc, bytes)?;
+    assert_eq!(rt; text.as_str(), wanted);
+    assert!(rt; table, "no table beside {wanted}");
+    Ok(())
+}
+
+/// An inventory with so many arrays within one another.
+fn nested(alloc: Global, arrays: usize) -> Result<String, Fail> {
+    let front = "[".repeat(alloc, arrays)?;
+    let back = "]".repeat(alloc, arrays)?;
+    let deep = format!(in alloc; ",\"deep\":{front}{back}")?;
+    inventory(alloc, "{}", deep.as_str())
+}
+
+#[test]
+fn inventories_nest_to_127(rt: HostRuntime) -> Result<(), Fail> {
+    let alloc = rt.alloc();
+    goes_on(&rt, alloc, nested(alloc, 126)?.as_bytes(), "")?;
+    stops(&rt, alloc, nested(alloc, 127)?.as_bytes(), "E033 -\n")
+}
+
+/// Inventories, each with the line that stops.
+const STOPS: [(&str, &str); 22] = [
+    // what is no object in JSON
+    ("[]", "E033 -\n"),
+    ("abc", "E033 -\n"),
+    ("", "E033 -\n"),
+    ("{\"digestAlgorithm\":", "E033 -\n"),
+    ("{\"a\":1e999}", "E033 -\n"),
+    ("{\"a\":\"\\ud800\"}", "E033 -\n"),
+    ("{} {}", "E033 -\n"),
+    // keys that stop
+    ("{}", "E036 digestAlgorithm\n"),
+    ("{\"digestAlgorithm\":\"SHA256\"}", "E025 SHA256\n"),
+    ("{\"digestAlgorithm\":\"sha512/256\"}", "E025 sha512/256\n"),
+    ("{\"digestAlgorithm\":7}", "S03 digestAlgorithm\n"),
+    (
+        "{\"digestAlgorithm\":\"sha512\",\"contentDirectory\":\"a/b\"}",
+        "E017 a/b\n",
+    ),
+    (
+        "{\"digestAlgorithm\":\"sha512\",\"contentDirectory\":\"..\"}",
+        "E018 ..\n",
+    ),
+    (
+        "{\"digestAlgorithm\":\"sha512\",\"contentDirectory\":\"\"}",
+        "S03 contentDirectory\n",
+    ),
+    (
+        "{\"digestAlgorithm\":\"sha512\",\"contentDirectory\":7}",
+        "S03 contentDirectory\n",
+    ),
+    ("{\"digestAlgorithm\":\"sha512\"}", "E041 manifest\n"),
+    (
+        "{\"digestAlgorithm\":\"sha512\",\"manifest\":[]}",
+        "S03 manifest\n",
+    ),
+    (
+        "{\"digestAlgorithm\":\"sha512\",\"manifest\":{\"a\":\"v1/content/f\"}}",
+        "S03 manifest\n",
+    ),
+    (
+        "{\"digestAlgorithm\":\"sha512\",\"manifest\":{\"a\":[7]}}",
+        "S03 manifest\n",
+    ),
+    (
+        "{\"digestAlgorithm\":\"sha512\",\"manifest\":{},\"fixity\":[]}",
+        "S03 fixity\n",
+    ),
+    (
+        "{\"digestAlgorithm\":\"sha512\",\"manifest\":{},\"fixity\":{\"md5\":7}}",
+        "S03 fixity\n",
+    ),
+    (
+        "{\"digestAlgorithm\":\"sha512\",\"manifest\":{},\"fixity\":{\"sha512/256\":7}}",
+        "S03 fixity\n",
+    ),
+];
+
+#[test]
+fn inventories_that_stop(rt: HostRuntime) -> Result<(), Fail> {
+    for (text, wanted) in STOPS {
+        stops(&rt, rt.alloc(), text.as_bytes(), wanted)?;
+    }
+    stops(&rt, rt.alloc(), b"{\"a\":\"\xFF\"}", "E033 -\n")
+}
+
+/// Manifests, each with what follows the manifest and the lines.
+const GO_ON: [(&str, &str, &str); 13] = [
+    // bad paths of each kind
+    (
+        "{\"a\":[\"x/content/a\",\"/a\",\"v1/content/f\",\"v1/content/../b\"]}",
+        "",
+        "E100 /a\nE099 v1/content/../b\nS06 x/content/a\n",
+    ),
+    (
+        "{\"a\":[\"\",\"v1/content/f/\",\"v1//f\",\"v1/content\",\"v/content/f\",\"v1/c/f\",\"v1a/content/f\"]}",
+        "",
+        "E099 \nS06 v/content/f\nE099 v1//f\nS06 v1/c/f\nS06 v1/content\nE100 v1/content/f/\nS06 v1a/content/f\n",
+    ),
+    // each bad text once in the manifest, and once in all of fixity
+    (
+        "{\"a\":[\"v1/content/f\",\"/x\"]}",
+        ",\"fixity\":{\"md5\":{\"b\":[\"/x\"]},\"sha1\":{\"c\":[\"/x\"]}}",
+        "E100 /x\nE100 /x\n",
+    ),
+    // a digest twice in different case, also with no paths
+    ("{\"ab\":[],\"AB\":[],\"aB\":[],\"b\":[]}", "", "E096 ab\n"),
+    (
+        "{\"a\":[\"v1/content/f\"],\"A\":[\"v1/content/f\"]}",
+        "",
+        "E096 a\nE101 v1/content/f\n",
+    ),
+    (
+        "{}",
+        ",\"fixity\":{\"sha1\":{\"a\":[],\"A\":[]},\"md5\":{\"x\":[],\"X\":[],\"W\":[],\"w\":[]}}",
+        "E097 md5 w\nE097 md5 x\nE097 sha1 a\n",
+    ),
+    // a path that another one begins with by elements, and no path of the fixity block
+    (
+        "{\"a\":[\"v1/content/f\",\"v1/content/f/g\",\"v1/content/f-g\"]}",
+        "",
+        "E101 v1/content/f\n",
+    ),
+    (
+        "{\"a\":[\"v1/content/f\",\"v1/content/f-g\",\"v1/content/ff\"]}",
+        "",
+        "",
+    ),
+    (
+        "{\"a\":[\"v1/content/a/b/c\",\"v1/content/a-b\",\"v1/content/a\",\"v1/content/a/b\"]}",
+        "",
+        "E101 v1/content/a\nE101 v1/content/a/b\n",
+    ),
+    (
+        "{\"a\":[\"v1/content/f\",\"v1/content/f\",\"v1/content/f\"]}",
+        "",
+        "E101 v1/content/f\n",
+    ),
+    (
+        "{}",
+        ",\"fixity\":{\"md5\":{\"a\":[\"v1/content/f\",\"v1/content/f\"]}}",
+        "",
+    ),
+    // algorithms that are not computed
+    (
+        "{}",
+        ",\"fixity\":{\"blake2b-512\":7,\"MD5\":[],\"md5\":{}}",
+        "S07 MD5\nS07 blake2b-512\n",
+    ),
+    // all of them, in order
+    (
+        "{\"a\":[\"v1/content/f\",\"/x\"],\"A\":[\"v1/content/f/g\"]}",
+        ",\"fixity\":{\"b\":0,\"md5\":{\"c\":[\"/a\"],\"C\":[]}}",
+        "E096 a\nE097 md5 c\nE100 /x\nE100 /a\nE101 v1/content/f\nS07 b\n",
+    ),
+];
+
+#[test]
+fn lines_that_do_not_stop(rt: HostRuntime) -> Result<(), Fail> {
+    let alloc = rt.alloc();
+    for (manifest, further, wanted) in GO_ON {
+        let text = inventory(alloc, manifest, further)?;
+        goes_on(&rt, alloc, text.as_bytes(), wanted)?;
+    }
+    Ok(())
+}
+
+#[test]
+fn listed_paths_have_limits(rt: HostRuntime) -> Result<(), Fail> {
+    let alloc = rt.alloc();
+    for (elements, letters, is_kept) in [(126, 255, true), (127, 1, false), (1, 256, false)] {
+        let rest = "/d".repeat(alloc, elements - 1)?;
+        let last = "f".repeat(alloc, letters)?;
+        let path = format!(in alloc; "v1/content{rest}/{last}")?;
+        let manifest = format!(in alloc; "{{\"a\":[\"{path}\"]}}")?;
+        let text = inventory(alloc, manifest.as_str(), "")?;
+        let wanted = if is_kept {
+            String::new(alloc)
+        } else {
+            format!(in alloc; "S06 {path}\n")?
+        };
+        goes_on(&rt, alloc, text.as_bytes(), wanted.as_str())?;
+    }
+    let text = inventory(alloc, "{\"a\":[\"v1/content/\\u0000\"]}", "")?;
+    goes_on(&rt, alloc, text.as_bytes(), "S06 v1/content/\0\n")
+}
+
+/// The texts of the numbers from 100 to 399, each between these two, with commas.
+fn three_hundred(alloc: Global, front: &str, back: &str) -> Result<String, Fail> {
+    let mut text = String::new(alloc);
+    for number in 100..400u64 {
+        let comma = if number > 100 { "," } else { "" };
+        text.push_str(format!(in alloc; "{comma}{front}{number}{back}")?.as_str())?;
+    }
+    Ok(text)
+}
+
+#[test]
+fn three_hundred_members_algorithms_and_keys(rt: HostRuntime) -> Result<(), Fail> {
+    let alloc = rt.alloc();
+    let members = format!(in alloc; ",{}", three_hundred(alloc, "\"member", "\":0")?)?;
+    let blocks = three_hundred(alloc, "\"x", "\":0")?;
+    let fixity = format!(in alloc; ",\"fixity\":{{{blocks}}}")?;
+    let keys = format!(in alloc; "{{{}}}", three_hundred(alloc, "\"", "\":[]")?)?;
+    // No algorithm of that fixity block is computed.
+    let mut notes = String::new(alloc);
+    for number in 100..400u64 {
+        notes.push_str(format!(in alloc; "S07 x{number}\n")?.as_str())?;
+    }
+    for (manifest, further, wanted) in [
+        ("{}", members.as_str(), ""),
+        ("{}", fixity.as_str(), notes.as_str()),
+        (keys.as_str(), "", ""),
+    ] {
+        let text = inventory(alloc, manifest, further)?;
+        goes_on(&rt, alloc, text.as_bytes(), wanted)?;
+        assert!(rt; Table::read_alone(alloc, text.as_bytes())?.is_some());
+    }
+    Ok(())
+}
+
+/// The digests that a table names for a path, each as `manifest` or `fixity`, the algorithm and the
+/// digest.
+fn named(alloc: Global, table: &Table, path: &str) -> Result<String, Fail> {
+    let mut text = String::new(alloc);
+    for named in &table.named(alloc, &place_of(alloc, path)?)? {
+        let block = if named.fixity { "fixity" } else { "manifest" };
+        let one = format!(in alloc; "{block} {} {}\n", named.algorithm.name(), named.digest)?;
+        text.push_str(one.as_str())?;
+    }
+    Ok(text)
+}
+
+/// The table names for each of three hundred paths one digest of the manifest and one of fixity.
+fn names_three_hundred(rt: &impl Abort, alloc: Global, table: Option<Table>) -> Result<(), Fail> {
+    let Some(table) = table else {
+        return Err(Fail::new("no table"));
+    };
+    for number in 100..400u64 {
+        let path = format!(in alloc; "v1/content/{number}")?;
+        let found = named(alloc, &table, path.as_str())?;
+        let wanted = format!(in alloc; "manifest sha256 a\nfixity md5 b{number}\n")?;
+        assert_eq!(rt; found.as_str(), wanted.as_str());
+    }
+    Ok(())
+}
+
+#[test]
+fn three_hundred_paths_and_three_hundred_digests(rt: HostRuntime) -> Result<(), Fail> {
+    let alloc = rt.alloc();
+    let paths = three_hundred(alloc, "\"v1/content/", "\"")?;
+    let manifest = format!(in alloc; "{{\"a\":[{paths}]}}")?;
+    let mut digests = String::new(alloc);
+    for number in 100..400u64 {
+        let comma = if number > 100 { "," } else { "" };
+        let one = format!(in alloc; "{comma}\"b{number}\":[\"v1/content/{number}\"]")?;
+        digests.push_str(one.as_str())?;
+    }
+    let further = format!(in alloc; ",\"fixity\":{{\"md5\":{{{digests}}}}}")?;
+    let text = inventory(alloc, manifest.as_str(), further.as_str())?;
+    goes_on(&rt, alloc, text.as_bytes(), "")?;
+    names_three_hundred(&rt, alloc, Table::read(alloc, text.as_bytes())?.1)?;
+    names_three_hundred(&rt, alloc, Table::read_alone(alloc, text.as_bytes())?)
+}
+
+/// The table of an inventory, in which digests may be named.
+fn table_of(alloc: Global, text: &str) -> Result<Table, Fail> {
+    let (_, table) = Table::read(alloc, with_digests(alloc, text)?.as_bytes())?;
+    Ok(table.ok_or("no table")?)
+}
+
+#[test]
+fn digests_are_named_in_order(rt: HostRuntime) -> Result<(), Fail> {
+    let manifest =
+        r#"{"ABC_CAPITALS":["v1/content/f"],"b":["v1/content/f","v1/content/g"],"ABC_SHA256":["v1/content/f"]}"#;
+    let fixity =
+        r#","fixity":{"sha512":{"ABC_SHA512":["v1/content/f"]},"sha1":{"ABC_SHA1":["v1/content/f"]},"md5":{"ABC_MD5":["v1/content/f"]},"x":0}"#;
+    let table = table_of(
+        rt.alloc(),
+        inventory(rt.alloc(), manifest, fixity)?.as_str(),
+    )?;
+    assert!(rt; table.algorithm() == Algorithm::Sha256);
+    assert_eq!(rt; table.content_directory(), "content");
+    for (path, wanted) in [
+        (
+            "v1/content/f",
+            "manifest sha256 b\nmanifest sha256 ABC_SHA256\nfixity md5 ABC_MD5\nfixity sha1 ABC_SHA1\nfixity sha512 ABC_SHA512\n",
+        ),
+        ("v1/content/g", "manifest sha256 b\n"),
+        ("v1/content", ""),
+    ] {
+        let found = named(rt.alloc(), &table, path)?;
+        assert_eq!(rt;
+            found.as_str(),
+            with_digests(rt.alloc(), wanted)?.as_str(),
+            "{path}"
+        );
+    }
+    Ok(())
+}
+
+/// Paths, each with the next one that the table of `paths_follow_as_places` lists.
+const NEXT: [(Option<&str>, Option<&str>); 5] = [
+    (None, Some("v1/c/a/b")),
+    (Some("v1/c/a"), Some("v1/c/a/b")),
+    (Some("v1/c/a/b"), Some("v1/c/a-b")),
+    (Some("v1/c/a-b"), Some("v10/c/a")),
+    (Some("v10/c/a"), None),
+];
+
+#[test]
+fn paths_follow_as_places(rt: HostRuntime) -> Result<(), Fail> {
+    let text =
+        "{\"digestAlgorithm\":\"sha512\",\"contentDirectory\":\"c\",\"manifest\":{\"b\":[\"v1/c/a-b\",\"v1/c/a/b\"],\"a\":[\"v1/c/a/b\",\"v10/c/a\"]}}";
+    let table = table_of(rt.alloc(), text)?;
+    assert_eq!(rt; table.content_directory(), "c");
+    for (after, wanted) in NEXT {
+        let place = place_of(rt.alloc(), after.unwrap_or(""))?;
+        let next = table.next_after(after.map(|_| &place));
+        assert!(rt; next.map(|place| place.path()) == wanted, "after {after:?}");
+    }
+    Ok(())
+}
+
+#[test]
+fn paths_that_share_long_beginnings_conflict_by_elements(rt: HostRuntime) -> Result<(), Fail> {
+    let alloc = rt.alloc();
+    let deep = "/some-long-directory".repeat(alloc, 60)?;
+    let manifest = format!(in alloc;
+        "{{\"c\":[\"v1/content{deep}/a/b\"],\"b\":[\"v1/content{deep}/a-b\"],\"a\":[\"v1/content{deep}/a\",\"v1/content{deep}/a-b/some-long-directory\"],\"d\":[\"v1/content{deep}/some-long-directory-b\"]}}"
+    )?;
+    let text = inventory(alloc, manifest.as_str(), "")?;
+    let wanted = format!(in alloc; "E101 v1/content{deep}/a\nE101 v1/content{deep}/a-b\n")?;
+    goes_on(&rt, alloc, text.as_bytes(), wanted.as_str())
+}
+
+#[test]
+fn an_algorithm_stands_where_no_table_does(rt: HostRuntime) -> Result<(), Fail> {
+    let alloc = rt.alloc();
+    let cases = [
+        (
+            "{\"digestAlgorithm\":\"sha512\",\"manifest\":7}",
+            Some(Algorithm::Sha512),
+        ),
+        ("{\"digestAlgorithm\":\"sha256\"}", Some(Algorithm::Sha256)),
+        ("{\"digestAlgorithm\":\"md5\"}", None),
+        ("{\"digestAlgorithm\":7}", None),
+        ("{}", None),
+        ("[]", None),
+    ];
+    for (text, wanted) in cases {
+        assert!(rt; algorithm_of(alloc, text.as_bytes())? == wanted, "{text}");
+    }
+    Ok(())
+}
+
+const SUM: [u8; 32] = [
+    0xba, 0x78, 0x16, 0xbf, 0x8f, 0x01, 0xcf, 0xea, 0x41, 0x41, 0x40, 0xde, 0x5d, 0xae, 0x22, 0x23,
+    0xb0, 0x03, 0x61, 0xa3, 0x96, 0x17, 0x7a, 0x9c, 0xb4, 0x10, 0xff, 0x61, 0xf2, 0x00, 0x15, 0xad,
+];
+
+/// The digest in a sidecar of this text, in which digests may be named.
+fn sum_of(alloc: Global, text: &str, algorithm: Algorithm) -> Result<Option<Vec<u8>>, Fail> {
+    let text = with_digests(alloc, text)?;
+    let sum = match sidecar(text.as_bytes(), algorithm) {
+        Some(sum) => Some(sum.bytes().to_vec(alloc)?),
+        None => None,
+    };
+    Ok(sum)
+}
+
+#[test]
+fn sidecars_are_read(rt: HostRuntime) -> Result<(), Fail> {
+    for text in [
+        "ABC_SHA256 inventory.json\n",
+        "ABC_CAPITALS inventory.json\n",
+        "ABC_SHA256  inventory.json",
+        "ABC_CAPITALS  inventory.json",
+        "ABC_SHA256\t inventory.json \t\r\n\n",
+        "ABC_CAPITALS\t inventory.json \t\r\n\n",
+    ] {
+        let sum = sum_of(rt.alloc(), text, Algorithm::Sha256)?;
+        assert!(rt; sum.as_deref() == Some(SUM.as_slice()), "{text}");
+    }
+    let long = sum_of(rt.alloc(), "ABC_SHA512 inventory.json\n", Algorithm::Sha512)?;
+    assert_eq!(rt; long.ok_or("not of the form")?.len(), 64);
+    Ok(())
+}
+
+/// Texts that are no sidecars of these algorithms.
+const NO_SIDECARS: [(&str, Algorithm); 14] = [
+    ("ABC_SHA256 *inventory.json\n", Algorithm::Sha256),
+    ("ABC_SHA256inventory.json", Algorithm::Sha256),
+    ("ABC_SHA256 inventory.jso", Algorithm::Sha256),
+    ("ABC_SHA256 inventory.json x", Algorithm::Sha256),
+    ("ABC_SHA256 Inventory.json", Algorithm::Sha256),
+    ("ABC_SHA256a inventory.json", Algorithm::Sha256),
+    ("ABC_SHA256\n inventory.json", Algorithm::Sha256),
+    ("ABC_SHA256", Algorithm::Sha256),
+    (
+        "ba7816bf8f01cfea414140de5dae2223b00361a396177a9cb410ff61f20015a inventory.json\n",
+        Algorithm::Sha256,
+    ),
+    ("ABC_SHA256 inventory.json\n", Algorithm::Md5),
+    ("ABC_SHA256 inventory.json\n", Algorithm::Sha1),
+    ("ABC_SHA256 inventory.json\n", Algorithm::Sha512),
+    ("ABC_SHA256 inventory.json\n", Algorithm::Sha512_256),
+    ("ABC_SHA512 inventory.json\n", Algorithm::Sha256),
+];
+
+#[test]
+fn other_sidecars_are_refused(rt: HostRuntime) -> Result<(), Fail> {
+    for (text, algorithm) in NO_SIDECARS {
+        let sum = sum_of(rt.alloc(), text, algorithm)?;
+        assert!(rt; sum.is_none(), "{text}, {algorithm:?}");
+    }
+    Ok(())
+}
+
+#[test]
+fn sidecars_have_at_most_4096_bytes(rt: HostRuntime) -> Result<(), Fail> {
+    let alloc = rt.alloc();
+    for (blanks, is_taken) in [(4096 - 79, true), (4097 - 79, false)] {
+        let end = " ".repeat(alloc, blanks)?;
+        let text = format!(in alloc; "{ABC_SHA256} inventory.json{end}")?;
+        assert!(rt; sidecar(text.as_bytes(), Algorithm::Sha256).is_some() == is_taken);
+    }
+    Ok(())
+}
+
+fn entry(alloc: Global, name: &str, kind: Kind) -> Result<Entry, Fail> {
+    Ok(Entry {
+        name: Name::new(alloc, name)?,
+        kind,
+    })
+}
+
+#[test]
+fn declarations_are_files_of_a_name(rt: HostRuntime) -> Result<(), Fail> {
+    let alloc = rt.alloc();
+    let mut entries = Vec::new(alloc);
+    entries.push(entry(alloc, "0=ocfl_1.0", Kind::Dir)?)?;
+    entries.push(entry(alloc, "0=ocfl_x1.0", Kind::File)?)?;
+    entries.push(entry(alloc, "0=ocfl_object_", Kind::File)?)?;
+    for level in [Level::Root, Level::Object] {
+        assert!(rt; declaration(&entries, level) == Declared::None);
+    }
+    entries.push(entry(alloc, "0=ocfl_1.1", Kind::File)?)?;
+    entries.push(entry(alloc, "0=ocfl_object_1.0", Kind::File)?)?;
+    assert!(rt; declaration(&entries, Level::Root) == Declared::One(Version::V1_1));
+    assert!(rt; declaration(&entries, Level::Object) == Declared::One(Version::V1_0));
+    entries.push(entry(alloc, "0=ocfl_2.0", Kind::File)?)?;
+    assert!(rt; declaration(&entries, Level::Root) == Declared::Several);
+    assert!(rt; declaration(&entries[5..], Level::Root) == Declared::Unknown(0));
+    assert!(rt; declaration(&entries[4..], Level::Root) == Declared::Unknown(1));
+    Ok(())
+}
+
+/// One reading gives what the calls for its parts give.
+fn reads_as_its_parts(rt: &impl Abort, alloc: Global, bytes: &[u8]) -> Result<(), Fail> {
+    let read = read_inventory(alloc, bytes)?;
+    let (lines, table) = Table::read(alloc, bytes)?;
+    let alone = Table::read_alone(alloc, bytes)?;
+    assert_eq!(rt; read.algorithm, algorithm_of(alloc, bytes)?);
+    assert_eq!(rt; read.remarks.len(), lines.len());
+    assert_eq!(rt; read.table.is_some(), table.is_some());
+    assert_eq!(rt; alone.is_some(), table.is_some());
+    if let (Some(alone), Some(table)) = (&alone, &table) {
+        assert_eq!(rt; alone.algorithm(), table.algorithm());
+        assert_eq!(rt; alone.content_directory(), table.content_directory());
+        for path in ["v1/content/a", "v2/content/b", "x"] {
+            let place = Place::from_path(String::from_str(alloc, path)?).expect(rt, "a path");
+            let named = alone.named(alloc, &place)?;
+            assert_eq!(rt; named.len(), table.named(alloc, &place)?.len());
+        }
+    }
+    Ok(())
+}
+
+#[test]
+fn one_parse_gives_algorithm_lines_and_table(rt: HostRuntime) -> Result<(), Fail> {
+    let alloc = rt.alloc();
+    let whole = inventory(
+        alloc,
+        "{\"ab\":[\"v1/content/a\",\"v2/content/b\",\"x\"]}",
+        "",
+    )?;
+    reads_as_its_parts(&rt, alloc, whole.as_str().as_bytes())?;
+    let stopped = inventory(alloc, "[]", "")?;
+    reads_as_its_parts(&rt, alloc, stopped.as_str().as_bytes())?;
+    let read = read_inventory(alloc, stopped.as_str().as_bytes())?;
+    assert_eq!(rt; read.algorithm, Some(Algorithm::Sha256));
+    assert!(rt; read.table.is_none() && read.remarks.len() == 1);
+    for bytes in ["", "[]", "{}", "{\"digestAlgorithm\":\"md5\"}"] {
+        reads_as_its_parts(&rt, alloc, bytes.as_bytes())?;
+    }
+    Ok(())
+}
+
+#[test]
+fn names_and_bytes_of_declarations(rt: HostRuntime) -> Result<(), Fail> {
+    let cases = [
+        (Level::Root, Version::V1_0, "0=ocfl_1.0", "ocfl_1.0\n"),
+        (Level::Root, Version::V1_1, "0=ocfl_1.1", "ocfl_1.1\n"),
+        (
+            Level::Object,
+            Version::V1_0,
+            "0=ocfl_object_1.0",
+            "ocfl_object_1.0\n",
+        ),
+        (
+            Level::Object,
+            Version::V1_1,
+            "0=ocfl_object_1.1",
+            "ocfl_object_1.1\n",
+        ),
+    ];
+    for (level, version, name, bytes) in cases {
+        assert_eq!(rt; declaration_name(level, version), name);
+        assert!(rt; declaration_bytes(level, version) == bytes.as_bytes());
+        assert!(rt; is_declaration_name(level, name));
+    }
+    assert!(rt; !is_declaration_name(Level::Object, "0=ocfl_1.1"));
+    assert!(rt; !is_declaration_name(Level::Object, "0=ocfl_object_x"));
+    assert_eq!(rt;
+        version_in_name(Level::Object, "0=ocfl_object_2.0"),
+        Some("2.0")
+    );
+    assert_eq!(rt; version_in_name(Level::Object, "0=ocfl_2.0"), None);
+    for (name, is_version) in [
+        ("v1", true),
+        ("v01", true),
+        ("v", false),
+        ("1", false),
+        ("v1a", false),
+    ] {
+        assert_eq!(rt; is_version_name(name), is_version);
+    }
+    Ok(())
+}

@@ -1,0 +1,21 @@
+//! Tests of the other crates by their public calls: no code.
+#![tactic(auto)]
+
+#[cfg(test)]
+mod common;
+#[cfg(test)]
+mod cursor;
+#[cfg(test)]
+mod digest;
+#[cfg(test)]
+mod inventory;
+#[cfg(test)]
+mod line;
+#[cfg(test)]
+mod report;
+#[cfg(test)]
+mod scrub;
+#[cfg(test)]
+mod tree;
+#[cfg(test)]
+mod walk;

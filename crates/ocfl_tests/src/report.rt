@@ -1,0 +1,279 @@
+use crate::common::tree::place_of;
+use ocfl_report::{Code, Line, OutStop, PlaceStop, put_place, read_place, write_all_of};
+use ocfl_tree::Place;
+use std::alloc::Global;
+use std::io::{self, ErrorKind, Write};
+use std::process::Abort;
+use std::test::Fail;
+
+/// What a call of `write` does.
+#[derive(Clone, Copy)]
+enum Answer {
+    /// Takes up to so many bytes.
+    Takes(usize),
+    Fails(ErrorKind),
+}
+
+/// A writer that keeps what it takes. It answers each call by the next of its answers, and by the
+/// last from then on.
+#[derive(Drop)]
+struct Scripted<'a> {
+    answers: &'a [Answer],
+    calls: usize,
+    taken: Vec<u8>,
+}
+
+impl<'a> Scripted<'a> {
+    fn new(alloc: Global, answers: &'a [Answer]) -> Scripted<'a> {
+        Scripted {
+            answers,
+            calls: 0,
+            taken: Vec::new(alloc),
+        }
+    }
+}
+
+impl Write for Scripted<'_> {
+    fn write(&mut self, buf: &[u8]) -> io::Result<usize> {
+        let answer = self.answers.get(self.calls).or(self.answers.last());
+        self.calls = self.calls.saturating_add(1);
+        match answer {
+            Some(Answer::Takes(count)) => {
+                let count = buf.len().min(*count);
+                self.taken.extend_from_slice(&buf[..count])?;
+                Ok(count)
+            }
+            Some(Answer::Fails(kind)) => Err(io::Error::from(*kind)),
+            None => Ok(0),
+        }
+    }
+
+    fn flush(&mut self) -> io::Result<()> {
+        Ok(())
+    }
+}
+
+const INTERRUPTED: Answer = Answer::Fails(ErrorKind::Interrupted);
+
+const FULL: Answer = Answer::Fails(ErrorKind::StorageFull);
+
+const CODES: [Code; 37] = [
+    Code::Clean,
+    Code::E001,
+    Code::E003,
+    Code::E007,
+    Code::E015,
+    Code::E017,
+    Code::E018,
+    Code::E023,
+    Code::E024,
+    Code::E025,
+    Code::E033,
+    Code::E036,
+    Code::E041,
+    Code::E058,
+    Code::E060,
+    Code::E061,
+    Code::E063,
+    Code::E069,
+    Code::E072,
+    Code::E073,
+    Code::E076,
+    Code::E080,
+    Code::E092,
+    Code::E093,
+    Code::E096,
+    Code::E097,
+    Code::E099,
+    Code::E100,
+    Code::E101,
+    Code::S01,
+    Code::S02,
+    Code::S03,
+    Code::S04,
+    Code::S05,
+    Code::S06,
+    Code::S07,
+    Code::S08,
+];
+
+fn line_text(alloc: Global, code: Code, path: &str, detail: &str) -> Result<Vec<u8>, Fail> {
+    let line = Line {
+        code,
+        place: place_of(alloc, path)?,
+        detail: String::from_str(alloc, detail)?,
+    };
+    let mut text = Vec::new(alloc);
+    line.put(&mut text)?;
+    Ok(text)
+}
+
+fn is_text_of(rt: &impl Abort, alloc: Global, text: &str, path: &str) -> Result<(), Fail> {
+    let place = place_of(alloc, path)?;
+    assert_eq!(rt;
+        read_place(alloc, text.as_bytes())?,
+        place,
+        "reading {text}"
+    );
+    let mut written = Vec::new(alloc);
+    put_place(&place, &mut written)?;
+    assert_eq!(rt; written.as_slice(), text.as_bytes(), "writing {text}");
+    assert_eq!(rt;
+        ocfl_report::laws::place_reads_back(alloc, &place)?,
+        place,
+        "both for {text}"
+    );
+    Ok(())
+}
+
+#[test]
+fn places_are_read(rt: HostRuntime) -> Result<(), Fail> {
+    let alloc = rt.alloc();
+    let longest = "\u{1}".repeat(alloc, 255)?;
+    let escaped = "%01".repeat(alloc, 255)?;
+    for (text, path) in [
+        (".", ""),
+        ("a%25/b", "a%/b"),
+        ("a/b-c/d e", "a/b-c/d e"),
+        ("...", "..."),
+        ("%C3%A9%09%25 %7F", "é\t% \u{7F}"),
+        (escaped.as_str(), longest.as_str()),
+    ] {
+        is_text_of(&rt, alloc, text, path)?;
+    }
+    Ok(())
+}
+
+#[test]
+fn other_texts_are_bad(rt: HostRuntime) -> Result<(), Fail> {
+    let alloc = rt.alloc();
+    let cases = [
+        "", "..", "a//b", "/a", "a/", "./a", "a/.", "a/../b", "%41", "%2F", "%00", "%c3%a9", "%C3",
+        "%", "%2", "é", "a\tb", "%0a", "%2e", "\u{7F}",
+    ];
+    for text in cases {
+        assert_eq!(rt;
+            read_place(alloc, text.as_bytes()).err(),
+            Some(PlaceStop::Bad),
+            "{text}"
+        );
+    }
+    let too_long = "a".repeat(alloc, 256)?;
+    assert_eq!(rt;
+        read_place(alloc, too_long.as_bytes()).err(),
+        Some(PlaceStop::Bad)
+    );
+    Ok(())
+}
+
+#[test]
+fn lines_are_escaped(rt: HostRuntime) -> Result<(), Fail> {
+    for (code, path, detail, want) in [
+        (
+            Code::E023,
+            "o/v1/content/é\t% ",
+            "-",
+            "E023\to/v1/content/%C3%A9%09%25 \t-\n",
+        ),
+        (
+            Code::E099,
+            "o",
+            "a\tb\nc\u{7F}é% d/",
+            "E099\to\ta%09b%0Ac%7F%C3%A9%25 d/\n",
+        ),
+        (Code::Clean, "", "-", "ok\t.\t-\n"),
+    ] {
+        let text = line_text(rt.alloc(), code, path, detail)?;
+        assert_eq!(rt; text.as_slice(), want.as_bytes(), "{want}");
+    }
+    Ok(())
+}
+
+#[test]
+fn a_line_goes_behind_what_is_there(rt: HostRuntime) -> Result<(), Fail> {
+    let alloc = rt.alloc();
+    let line = Line {
+        code: Code::S07,
+        place: place_of(alloc, "o")?,
+        detail: String::from_str(alloc, "blake2b-512")?,
+    };
+    ocfl_report::laws::every_line_fits(&line);
+    let mut text = Vec::from_slice(alloc, b"ok\t.\t-\n")?;
+    line.put(&mut text)?;
+    line.put(&mut text)?;
+    let wanted = b"ok\t.\t-\nS07\to\tblake2b-512\nS07\to\tblake2b-512\n";
+    assert_eq!(rt; text.as_slice(), wanted.as_slice());
+    Ok(())
+}
+
+#[test]
+fn codes_are_named_and_found(rt: HostRuntime) -> Result<(), Fail> {
+    let alloc = rt.alloc();
+    for code in CODES {
+        // The name of each code but the first is its text.
+        let name = format!(in alloc; "{code:?}")?;
+        let wanted = if name.as_str() == "Clean" {
+            "ok"
+        } else {
+            name.as_str()
+        };
+        assert_eq!(rt; code.text(), wanted);
+        let line = Line {
+            code,
+            place: Place::root(alloc),
+            detail: String::new(alloc),
+        };
+        let is_note = wanted == "ok" || wanted == "S07";
+        assert_eq!(rt; line.is_finding(), !is_note, "{wanted}");
+    }
+    Ok(())
+}
+
+#[test]
+fn all_bytes_are_written(rt: HostRuntime) -> Result<(), Fail> {
+    let alloc = rt.alloc();
+    let text = b"abcdefgh";
+    let scripts: [&[Answer]; 4] = [
+        &[Answer::Takes(8)],
+        &[Answer::Takes(1)],
+        &[
+            Answer::Takes(3),
+            INTERRUPTED,
+            INTERRUPTED,
+            Answer::Takes(100),
+        ],
+        &[INTERRUPTED, Answer::Takes(5), INTERRUPTED, Answer::Takes(2)],
+    ];
+    for answers in scripts {
+        let mut out = Scripted::new(alloc, answers);
+        assert_eq!(rt; write_all_of(&mut out, text), Ok(()));
+        assert_eq!(rt; out.taken.as_slice(), text.as_slice());
+    }
+    let mut out = Scripted::new(alloc, &[FULL]);
+    assert_eq!(rt; write_all_of(&mut out, b""), Ok(()));
+    assert_eq!(rt; out.calls, 0);
+    let mut out = Vec::from_slice(alloc, b"abc")?;
+    assert_eq!(rt; write_all_of(&mut out, text), Ok(()));
+    assert_eq!(rt; out.as_slice(), b"abcabcdefgh".as_slice());
+    Ok(())
+}
+
+#[test]
+fn output_stops(rt: HostRuntime) -> Result<(), Fail> {
+    let alloc = rt.alloc();
+    let cases: [(&[Answer], usize, usize); 5] = [
+        (&[Answer::Takes(3), Answer::Takes(3), FULL], 6, 3),
+        (&[Answer::Takes(0)], 0, 1),
+        (&[FULL], 0, 1),
+        (&[Answer::Takes(7), Answer::Takes(0)], 7, 2),
+        // After many interruptions in a row the output counts as stopped.
+        (&[Answer::Takes(2), INTERRUPTED], 2, 1_001),
+    ];
+    for (answers, gone, calls) in cases {
+        let mut out = Scripted::new(alloc, answers);
+        assert_eq!(rt; write_all_of(&mut out, b"abcdefgh"), Err(OutStop { gone }));
+        assert_eq!(rt; out.taken.as_slice(), &b"abcdefgh"[..gone]);
+        assert_eq!(rt; out.calls, calls);
+    }
+    Ok(())
+}

@@ -1,0 +1,267 @@
+//! Checks of content places.
+use super::roots::{FILE_IS_OK, expect};
+use crate::common::digests::with_digests;
+use crate::common::object::{FILE, inventory, long_sidecar, object_with};
+use crate::common::output::Narrow;
+use crate::common::roots::{right_object, under_four_algorithms};
+use crate::common::tree::{change, place_of, times_opened};
+use ocfl_digest::Block;
+use ocfl_scrub::checked;
+use ocfl_tree::{FsTree, Point};
+use std::fs;
+use std::test::Fail;
+
+const BY_SHA512: &str =
+    r#""digestAlgorithm":"sha512","manifest":{"ABC_SHA512":["v1/content/f"]},"fixity":{}"#;
+
+const DATA: &str =
+    r#""digestAlgorithm":"sha256","contentDirectory":"data","manifest":{"ABC_SHA256":["v1/data/f"]}"#;
+
+const TWO_DIGESTS_AND_FIXITY: &str =
+    r#""digestAlgorithm":"sha256","manifest":{"NOTHING_SHA256":["v1/content/f"],"ABC_SHA256":["v1/content/f"]},"fixity":{"md5":{"NOTHING_MD5":["v1/content/f"]}}"#;
+
+/// The members of an inventory, what is changed in the object with it and the file `f`, the path
+/// that is checked, its text, the status, and how often the path is opened. Where there is no text
+/// there is no item.
+type Check = (
+    &'static str,
+    &'static [(&'static str, &'static str)],
+    &'static str,
+    &'static str,
+    u8,
+    usize,
+);
+
+const CHECKS: [Check; 20] = [
+    (BY_SHA512, &[], FILE, FILE_IS_OK, 0, 1),
+    (
+        r#""digestAlgorithm":"sha512","manifest":{"ABC_LONG_CAPITALS":["v1/content/f"]}"#,
+        &[],
+        FILE,
+        FILE_IS_OK,
+        0,
+        1,
+    ),
+    (
+        BY_SHA512,
+        &[(FILE, "")],
+        FILE,
+        "E092|o/v1/content/f|sha512 ABC_SHA512 NOTHING_SHA512\n",
+        1,
+        1,
+    ),
+    // what nothing names
+    (
+        BY_SHA512,
+        &[("o/v1/content/g", "abc")],
+        "o/v1/content/g",
+        "E023|o/v1/content/g|-\n",
+        1,
+        0,
+    ),
+    (BY_SHA512, &[], "o/v1/content/h", "", 0, 0),
+    (BY_SHA512, &[("-o", "")], FILE, "", 0, 0),
+    // heads that stop, and a wrong sidecar, which does not matter
+    (BY_SHA512, &[("o/inventory.json", "abc")], FILE, "", 0, 0),
+    (BY_SHA512, &[("o/inventory.json", "{}")], FILE, "", 0, 0),
+    (BY_SHA512, &[("-o/inventory.json", "")], FILE, "", 0, 0),
+    (
+        BY_SHA512,
+        &[("o/inventory.json.sha512", "wrong")],
+        FILE,
+        FILE_IS_OK,
+        0,
+        1,
+    ),
+    // fixity is compared too
+    (
+        r#""digestAlgorithm":"sha512","manifest":{"ABC_SHA512":["v1/content/f"]},"fixity":{"md5":{"NOTHING_MD5":["v1/content/f"]},"sha512/256":{"ABC_SHA512/256":["v1/content/f"]}}"#,
+        &[],
+        FILE,
+        "E093|o/v1/content/f|md5 NOTHING_MD5 ABC_MD5\n",
+        1,
+        1,
+    ),
+    (
+        r#""digestAlgorithm":"sha256","manifest":{},"fixity":{"md5":{"ABC_MD5":["v1/content/f"]}}"#,
+        &[],
+        FILE,
+        "E023|o/v1/content/f|-\n",
+        1,
+        1,
+    ),
+    (
+        TWO_DIGESTS_AND_FIXITY,
+        &[],
+        FILE,
+        "E092|o/v1/content/f|sha256 NOTHING_SHA256 ABC_SHA256\nE093|o/v1/content/f|md5 NOTHING_MD5 ABC_MD5\n",
+        1,
+        1,
+    ),
+    // the fifth algorithm
+    (
+        r#""digestAlgorithm":"sha256","manifest":{"ABC_SHA256":["v1/content/f"]},"fixity":{"sha512/256":{"ABC_SHA512/256":["v1/content/f"]}}"#,
+        &[],
+        FILE,
+        FILE_IS_OK,
+        0,
+        1,
+    ),
+    (
+        r#""digestAlgorithm":"sha256","manifest":{"ABC_SHA256":["v1/content/f"]},"fixity":{"sha512/256":{"ABC_SHA256":["v1/content/f"]}}"#,
+        &[],
+        FILE,
+        "E093|o/v1/content/f|sha512/256 ABC_SHA256 ABC_SHA512/256\n",
+        1,
+        1,
+    ),
+    (
+        r#""digestAlgorithm":"sha256","manifest":{"NOTHING_SHA256":["v1/content/f"]},"fixity":{"md5":{"NOTHING_MD5":["v1/content/f"]},"sha1":{"NOTHING_SHA1":["v1/content/f"]},"sha512":{"NOTHING_SHA512":["v1/content/f"]},"sha512/256":{"NOTHING_SHA512/256":["v1/content/f"]}}"#,
+        &[(FILE, "")],
+        FILE,
+        "ok|o/v1/content/f|0\n",
+        0,
+        1,
+    ),
+    // another content directory
+    (DATA, &[], FILE, "", 0, 0),
+    (
+        DATA,
+        &[("o/v1/data/f", "abc")],
+        "o/v1/data/f",
+        "ok|o/v1/data/f|3\n",
+        0,
+        1,
+    ),
+    // an inventory without a sidecar, and a path of another kind of place
+    (
+        BY_SHA512,
+        &[("-o/inventory.json.sha256", "")],
+        FILE,
+        FILE_IS_OK,
+        0,
+        1,
+    ),
+    (BY_SHA512, &[], ".", "ok|.|-\n", 0, 0),
+];
+
+#[test]
+fn content_places(rt: HostRuntime) -> Result<(), Fail> {
+    for (members, changes, path, text, status, opened) in CHECKS {
+        let mut store = object_with(rt.alloc(), inventory(rt.alloc(), members)?.as_str())?;
+        change(rt.alloc(), &mut store, changes)?;
+        let note = if text.is_empty() { "no item" } else { "" };
+        expect(&rt, &mut store, path, text, status, note)?;
+        assert_eq!(rt;
+            times_opened(rt.alloc(), &store, path)?,
+            opened,
+            "{path}: {text}"
+        );
+    }
+    Ok(())
+}
+
+/// What else may lie where the file is listed, and the first line then.
+const NO_FILE: [(&[(&str, &str)], &str); 3] = [
+    (&[], ""),
+    (&[("o/v1/content/f@", "")], "S04|o/v1/content/f|-\n"),
+    (&[("o/v1/content/f/", "")], "E024|o/v1/content/f|-\n"),
+];
+
+#[test]
+fn what_is_no_file(rt: HostRuntime) -> Result<(), Fail> {
+    for (members, missing) in [
+        (BY_SHA512, "E092|o/v1/content/f|sha512 missing\n"),
+        (
+            TWO_DIGESTS_AND_FIXITY,
+            "E092|o/v1/content/f|sha256 missing\nE093|o/v1/content/f|md5 missing\n",
+        ),
+    ] {
+        for (changes, line) in NO_FILE {
+            let mut store = object_with(rt.alloc(), inventory(rt.alloc(), members)?.as_str())?;
+            store.remove(&place_of(rt.alloc(), FILE)?)?;
+            change(rt.alloc(), &mut store, changes)?;
+            let text = format!(in rt.alloc(); "{line}{missing}")?;
+            expect(&rt, &mut store, FILE, text.as_str(), 1, "")?;
+        }
+    }
+    Ok(())
+}
+
+#[test]
+fn calls_for_a_right_file(rt: HostRuntime) -> Result<(), Fail> {
+    for (mut store, text) in [
+        (right_object(rt.alloc())?, FILE_IS_OK),
+        (under_four_algorithms(rt.alloc())?, "ok|o/v1/content/f|0\n"),
+    ] {
+        expect(&rt, &mut store, FILE, text, 0, "")?;
+        assert_eq!(rt; store.listings().len(), 4, "{text}");
+        assert_eq!(rt; store.openings().len(), 2, "{text}");
+    }
+    Ok(())
+}
+
+#[test]
+fn bad_paths(rt: HostRuntime) -> Result<(), Fail> {
+    let mut store = right_object(rt.alloc())?;
+    let many = "o/".repeat(rt.alloc(), 100)?;
+    let long = "x".repeat(rt.alloc(), 256)?;
+    for path in ["o//f", "", "..", "%41", many.as_str(), long.as_str()] {
+        expect(&rt, &mut store, path, "", 2, "bad path")?;
+    }
+    assert!(rt; store.listings().is_empty() && store.openings().is_empty());
+    Ok(())
+}
+
+#[test]
+fn failing_store(rt: HostRuntime) -> Result<(), Fail> {
+    for (place, point, text, status, note) in [
+        ("o/v1", Point::List, "", 3, "stopped at o/v1"),
+        (FILE, Point::Read(0), "S08|o/v1/content/f|-\n", 1, ""),
+    ] {
+        let mut store = right_object(rt.alloc())?;
+        store.fail_at(&place_of(rt.alloc(), place)?, point)?;
+        expect(&rt, &mut store, FILE, text, status, note)?;
+    }
+    Ok(())
+}
+
+#[test]
+fn failing_output(rt: HostRuntime) -> Result<(), Fail> {
+    let alloc = rt.alloc();
+    let (mut block, mut out) = (Block::new(alloc)?, Narrow::new(alloc, 5));
+    let (status, note) = checked(alloc, &mut right_object(alloc)?, FILE, &mut block, &mut out);
+    assert_eq!(rt; status, 3);
+    assert_eq!(rt; format!(in alloc; "{note}")?.as_str(), "output failed");
+    Ok(())
+}
+
+#[test]
+fn over_a_folder(rt: HostRuntime) -> Result<(), Fail> {
+    let alloc = rt.alloc();
+    for digest in ["ABC_SHA512", "ABC_LONG_CAPITALS"] {
+        if fs::exists(&rt, "root")? {
+            fs::remove_dir_all(&rt, "root")?;
+        }
+        for folder in ["root", "root/o", "root/o/v1", "root/o/v1/content"] {
+            fs::create_dir(&rt, folder)?;
+        }
+        let inventory = format!(in alloc;
+            "{{\"digestAlgorithm\":\"sha512\",\"manifest\":{{\"{digest}\":[\"v1/content/f\"]}}}}"
+        )?;
+        let inventory = with_digests(alloc, inventory.as_str())?;
+        let sidecar = long_sidecar(alloc, inventory.as_str())?;
+        for (place, text) in [
+            ("root/0=ocfl_1.1", "ocfl_1.1\n"),
+            ("root/o/0=ocfl_object_1.1", "ocfl_object_1.1\n"),
+            ("root/o/inventory.json", inventory.as_str()),
+            ("root/o/inventory.json.sha512", sidecar.as_str()),
+            ("root/o/v1/content/f", "abc"),
+        ] {
+            fs::write(&rt, place, text)?;
+        }
+        expect(&rt, &mut FsTree::at(&rt, "root")?, FILE, FILE_IS_OK, 0, "")?;
+    }
+    fs::remove_dir_all(&rt, "root")?;
+    Ok(())
+}

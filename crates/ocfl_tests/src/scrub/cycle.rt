@@ -1,0 +1,185 @@
+//! Cycles: runs from the first item on, each with its limits.
+use super::roots::HEADS;
+use super::run_figures::{
+    A, ALL, B, C, MOST, budgets, cycle_says, due_of, equal_limits, expect_cycle, limits,
+};
+use super::stop::Tried;
+use crate::common::object::{bare_root, object_listing};
+use crate::common::output::Narrow;
+use crate::common::roots::{long_object, right_objects, three_files};
+use crate::common::tree::{opened_from, place_of, put, times_opened};
+use ocfl_cursor::Limits;
+use ocfl_digest::Block;
+use ocfl_scrub::{CycleEnd, CycleStatus, cycle};
+use ocfl_tree::{MemTree, Point};
+use std::alloc::Global;
+use std::process::Abort;
+use std::test::Fail;
+
+#[test]
+fn root_with_nothing_else(rt: HostRuntime) -> Result<(), Fail> {
+    let limits = budgets(rt.alloc(), &[1])?;
+    let said = "runs 1 spent 0 files 0 clean, ended; cycle 1 runs 1 spent 0 files 0 ended";
+    let mut store = bare_root(rt.alloc())?;
+    expect_cycle(&rt, &mut store, limits.as_slice(), &["ok|.|-\n"], said)
+}
+
+#[test]
+fn no_limits(rt: HostRuntime) -> Result<(), Fail> {
+    let mut store = three_files(rt.alloc())?;
+    let said = "runs 0 spent 0 files 0 clean, open; cycle 1 runs 0 spent 0 files 0 start";
+    expect_cycle(&rt, &mut store, &[], &[], said)?;
+    assert!(rt; store.openings().is_empty() && store.listings().is_empty());
+    Ok(())
+}
+
+#[test]
+fn same_report_whatever_the_limits(rt: HostRuntime) -> Result<(), Fail> {
+    let alloc = rt.alloc();
+    for (count, budget, files, runs) in [
+        (3, 5, MOST, 2),
+        (3, 4, MOST, 2),
+        (3, 1, MOST, 3),
+        (3, 9, MOST, 1),
+        (4, 9, 1, 3),
+        (4, 9, 2, 2),
+        (4, 5, 2, 2),
+        (4, 4, 2, 2),
+        (4, 9, 3, 1),
+    ] {
+        let limits = equal_limits(alloc, count, budget, files)?;
+        let said = format!(in alloc;
+            "runs {runs} spent 9 files 3 clean, ended; cycle 1 runs {runs} spent 9 files 3 ended"
+        )?;
+        let mut store = three_files(alloc)?;
+        expect_cycle(&rt, &mut store, limits.as_slice(), ALL, said.as_str())?;
+        for file in ["o/v1/content/a", "o/v1/content/b", "o/v1/content/c"] {
+            assert_eq!(rt; times_opened(alloc, &store, file)?, 1, "{file}, {said}");
+        }
+    }
+    Ok(())
+}
+
+/// The budgets of runs over three files, what their cycle writes, and what it says.
+const BUDGETS: [(&[u64], &[&str], &str); 2] = [
+    (
+        &[1, 1],
+        &[HEADS, A, B],
+        "runs 2 spent 5 files 2 clean, open; cycle 1 runs 2 spent 5 files 2 after o/v1/content/b",
+    ),
+    (
+        &[4, 1, 4],
+        ALL,
+        "runs 3 spent 9 files 3 clean, ended; cycle 1 runs 3 spent 9 files 3 ended",
+    ),
+];
+
+#[test]
+fn limits_that_run_out(rt: HostRuntime) -> Result<(), Fail> {
+    for (most, pieces, said) in BUDGETS {
+        let limits = budgets(rt.alloc(), most)?;
+        let mut store = three_files(rt.alloc())?;
+        expect_cycle(&rt, &mut store, limits.as_slice(), pieces, said)?;
+    }
+    Ok(())
+}
+
+#[test]
+fn finding_in_an_earlier_run(rt: HostRuntime) -> Result<(), Fail> {
+    let mut store = three_files(rt.alloc())?;
+    store.fail_at(&place_of(rt.alloc(), "o/v1/content/a")?, Point::Open)?;
+    let said = "runs 3 spent 6 files 3 found, ended; cycle 1 runs 3 spent 6 files 3 ended";
+    let pieces = [HEADS, "S08|o/v1/content/a|-\n", B, C];
+    expect_cycle(
+        &rt,
+        &mut store,
+        budgets(rt.alloc(), &[1, 1, 1])?.as_slice(),
+        &pieces,
+        said,
+    )
+}
+
+#[test]
+fn inventories_of_three_runs(rt: HostRuntime) -> Result<(), Fail> {
+    let mut store = right_objects(rt.alloc(), &["o1", "o2", "o3"])?;
+    let limits = budgets(rt.alloc(), &[1, 1, 1, 1])?;
+    let pieces = [
+        "ok|.|-\n",
+        "ok|o1|-\nok|o1/v1/content/f|3\n",
+        "ok|o2|-\nok|o2/v1/content/f|3\n",
+        "ok|o3|-\nok|o3/v1/content/f|3\n",
+    ];
+    let said = "runs 3 spent 12 files 3 clean, ended; cycle 1 runs 3 spent 12 files 3 ended";
+    expect_cycle(&rt, &mut store, limits.as_slice(), &pieces, said)?;
+    let paths = opened_from(rt.alloc(), &store, 0, "/inventory.json")?;
+    let want =
+        "o1/inventory.json;o2/inventory.json;o2/inventory.json;o3/inventory.json;o3/inventory.json;";
+    assert_eq!(rt; paths.as_str(), want);
+    Ok(())
+}
+
+#[test]
+fn three_hundred_runs(rt: HostRuntime) -> Result<(), Fail> {
+    let mut paths = String::new(rt.alloc());
+    let mut text = String::from_str(rt.alloc(), HEADS)?;
+    let mut all = Vec::new(rt.alloc());
+    for number in 100..400u64 {
+        let comma = if number > 100 { "," } else { "" };
+        paths.push_str(format!(in rt.alloc(); "{comma}\"v1/content/{number}\"")?.as_str())?;
+        text.push_str(format!(in rt.alloc(); "ok|o/v1/content/{number}|3\n")?.as_str())?;
+        all.push(limits(1, MOST)?)?;
+    }
+    let mut store = object_listing(rt.alloc(), paths.as_str())?;
+    for number in 100..400u64 {
+        let path = format!(in rt.alloc(); "o/v1/content/{number}")?;
+        put(rt.alloc(), &mut store, path.as_str(), b"abc")?;
+    }
+    let said =
+        "runs 300 spent 1200 files 300 clean, ended; cycle 1 runs 300 spent 1200 files 300 ended";
+    expect_cycle(&rt, &mut store, all.as_slice(), &[text.as_str()], said)
+}
+
+// ---- stops
+
+/// What a cycle with these limits writes to a narrow output, and what it says.
+fn cycle_into(
+    alloc: Global,
+    store: &mut MemTree,
+    limits: &[Limits],
+    out: &mut Narrow,
+) -> Result<CycleEnd, Fail> {
+    let mut block = Block::new(alloc)?;
+    Ok(cycle(alloc, store, limits, &mut block, out))
+}
+
+/// A cycle whose output takes so many bytes of the report says what the items cost that went out
+/// whole.
+pub(crate) fn expect_cut_cycle(
+    rt: &(impl Abort + AllocGlobal),
+    root: &mut Tried,
+    room: usize,
+) -> Result<(), Fail> {
+    let mut out = Narrow::new(rt.alloc(), room);
+    let limits = budgets(rt.alloc(), &[1, 1, 1, 1])?;
+    let stopped = cycle_into(rt.alloc(), &mut root.store, limits.as_slice(), &mut out)?;
+    assert!(rt; matches!(stopped.end, CycleStatus::Stopped(_)));
+    assert!(rt; root.begins_with(out.kept.as_slice(), room), "room {room}");
+    let (due, _) = due_of(root.all.as_str(), room)?;
+    assert_eq!(rt; stopped.spent, u128::from(due.spent), "after {room} bytes");
+    assert_eq!(rt; stopped.files, u128::from(due.files), "after {room} bytes");
+    assert_eq!(rt; stopped.found, due.found, "after {room} bytes");
+    Ok(())
+}
+
+#[test]
+fn output_of_ten_bytes(rt: HostRuntime) -> Result<(), Fail> {
+    let mut store = long_object(rt.alloc(), "ABC_SHA512")?;
+    let mut out = Narrow::new(rt.alloc(), 10);
+    let limits = budgets(rt.alloc(), &[9, 9])?;
+    let stopped = cycle_into(rt.alloc(), &mut store, limits.as_slice(), &mut out)?;
+    let said =
+        "runs 1 spent 0 files 0 clean, output failed; cycle 1 runs 1 spent 0 files 0 after .";
+    assert_eq!(rt; cycle_says(rt.alloc(), &stopped)?.as_str(), said);
+    assert!(rt; out.kept.as_slice() == b"ok\t.\t-\nok\t".as_slice());
+    Ok(())
+}

@@ -1,0 +1,407 @@
+//! Checks of an object as a whole: the lines of its head, and whether its content is checked behind
+//! them.
+use super::roots::{FILE_IS_OK, GOES_ON, STOPS, expect, expect_audit, expect_head, finds};
+use crate::common::object::{
+    DECLARATION, INVENTORY, LONG_SIDECAR, SHORT_SIDECAR, inventory, listing, long_sidecar,
+    object_with, short_digits,
+};
+use crate::common::roots::right_object;
+use crate::common::tree::{change, place_of, put, times_opened};
+use ocfl_tree::{MemTree, Point};
+use std::alloc::Global;
+use std::process::Abort;
+use std::test::Fail;
+
+#[test]
+fn right_object_without_reading_content(rt: HostRuntime) -> Result<(), Fail> {
+    let mut store = right_object(rt.alloc())?;
+    finds(&rt, &mut store, "ok|o|-\n")?;
+    for place in [DECLARATION, INVENTORY, SHORT_SIDECAR] {
+        assert_eq!(rt; times_opened(rt.alloc(), &store, place)?, 1, "{place}");
+    }
+    assert_eq!(rt; store.openings().len(), 3);
+    assert_eq!(rt; store.listings().len(), 2);
+    expect_head(&rt, &mut store, "ok|o|-\n", GOES_ON)
+}
+
+/// What is changed in the root of a right object, the lines of its head then, and what
+/// checking its content writes.
+type Head = (
+    &'static [(&'static str, &'static str)],
+    &'static str,
+    Option<&'static str>,
+);
+
+/// Heads of objects.
+const HEADS: [Head; 25] = [
+    // declarations that are not exact, and those of the older version
+    (&[(DECLARATION, "")], "E007|o|-\n", GOES_ON),
+    (&[(DECLARATION, "ocfl_object_1.1")], "E007|o|-\n", GOES_ON),
+    (&[(DECLARATION, "ocfl_object_1.0\n")], "E007|o|-\n", GOES_ON),
+    (
+        &[(DECLARATION, "ocfl_object_1.1\r\n")],
+        "E007|o|-\n",
+        GOES_ON,
+    ),
+    (
+        &[
+            ("-o/0=ocfl_object_1.1", ""),
+            ("o/0=ocfl_object_1.0", "ocfl_object_1.0\n"),
+        ],
+        "ok|o|-\n",
+        GOES_ON,
+    ),
+    (
+        &[
+            ("-o/0=ocfl_object_1.1", ""),
+            ("o/0=ocfl_object_1.0", "ocfl_object_1.0"),
+        ],
+        "E007|o|-\n",
+        GOES_ON,
+    ),
+    // only files declare a version
+    (
+        &[("o/0=ocfl_object_1.0/", ""), ("o/0=ocfl_object_2.0@", "")],
+        "ok|o|-\n",
+        GOES_ON,
+    ),
+    // no sidecar, and none of the named algorithm
+    (&[("-o/inventory.json.sha256", "")], "E058|o|-\n", GOES_ON),
+    (
+        &[
+            ("-o/inventory.json.sha256", ""),
+            ("o/inventory.json.sha256/", ""),
+            ("o/inventory.json.sha512@", ""),
+        ],
+        "E058|o|-\n",
+        GOES_ON,
+    ),
+    (
+        &[("-o/inventory.json.sha256", ""), (LONG_SIDECAR, "")],
+        "E061|o|sha512\nE058|o|sha256\n",
+        GOES_ON,
+    ),
+    // storage roots whose version is known
+    (&[("0=ocfl_1.1", "ocfl_1.1")], "ok|o|-\n", GOES_ON),
+    (
+        &[("-0=ocfl_1.1", ""), ("0=ocfl_1.0", "ocfl_1.0\n")],
+        "ok|o|-\n",
+        GOES_ON,
+    ),
+    // no file of the name of an inventory
+    (&[("-o/inventory.json", "")], "E063|o|-\n", STOPS),
+    (
+        &[("-o/inventory.json", ""), ("o/inventory.json/", "")],
+        "E063|o|-\n",
+        STOPS,
+    ),
+    (
+        &[("-o/inventory.json", ""), ("o/inventory.json@", "")],
+        "E063|o|-\n",
+        STOPS,
+    ),
+    (
+        &[
+            ("-o/inventory.json", ""),
+            ("o/inventory.json@", ""),
+            (DECLARATION, ""),
+        ],
+        "E007|o|-\nE063|o|-\n",
+        STOPS,
+    ),
+    // inventories that are none, with their sidecars
+    (
+        &[
+            ("-o/inventory.json.sha256", ""),
+            ("o/inventory.json.sha512@", ""),
+            (INVENTORY, "{\"digestAlgorithm\":"),
+        ],
+        "E058|o|-\nE033|o|-\n",
+        STOPS,
+    ),
+    (
+        &[
+            (INVENTORY, "abc"),
+            (SHORT_SIDECAR, "ZEROS inventory.json\n"),
+        ],
+        "E060|o|sha256 ZEROS ABC_SHA256\nE033|o|-\n",
+        STOPS,
+    ),
+    (
+        &[
+            (INVENTORY, "{}"),
+            (SHORT_SIDECAR, "BRACES_SHA256 inventory.json\n"),
+        ],
+        "E036|o|digestAlgorithm\n",
+        STOPS,
+    ),
+    (
+        &[
+            (INVENTORY, "{}"),
+            (SHORT_SIDECAR, "BRACES_CAPITALS inventory.json\n"),
+        ],
+        "E036|o|digestAlgorithm\n",
+        STOPS,
+    ),
+    (
+        &[
+            (INVENTORY, "{}"),
+            (SHORT_SIDECAR, "ABC_CAPITALS inventory.json\n"),
+        ],
+        "E060|o|sha256 ABC_SHA256 BRACES_SHA256\nE036|o|digestAlgorithm\n",
+        STOPS,
+    ),
+    (
+        &[
+            (INVENTORY, "abc"),
+            (SHORT_SIDECAR, "abc"),
+            (LONG_SIDECAR, "NOTHING_SHA512 inventory.json\n"),
+        ],
+        "E061|o|sha256\nE060|o|sha512 NOTHING_SHA512 ABC_SHA512\nE033|o|-\n",
+        STOPS,
+    ),
+    (
+        &[(INVENTORY, "{}"), ("-o/inventory.json.sha256", "")],
+        "E058|o|-\nE036|o|digestAlgorithm\n",
+        STOPS,
+    ),
+    // the short sidecar before the long one, and many lines in their order
+    (
+        &[
+            (
+                INVENTORY,
+                "{\"digestAlgorithm\":\"sha512\",\"manifest\":{}}",
+            ),
+            (SHORT_SIDECAR, "abc"),
+            (LONG_SIDECAR, "ABC_SHA512 inventory.json\n"),
+        ],
+        "E061|o|sha256\nE060|o|sha512 ABC_SHA512 1fee355098cee18e19b2a9beac6535bed2d76868179d693195ee0968527da477cff7765fa11a35489704a35e3964ff000b461f1fe4dbcbf7d7527ee4c01a2544\n",
+        None,
+    ),
+    (
+        &[
+            (
+                INVENTORY,
+                r#"{"digestAlgorithm":"sha512","manifest":{"ab":["v1/content/f","/x"],"AB":["v1//f","v1/content/f"]},"fixity":{"crc32":7,"md5":{"cd":["/a"],"CD":["v2"]}}}"#,
+            ),
+            (DECLARATION, "ocfl_object_1.1"),
+            (SHORT_SIDECAR, "ZEROS inventory.json\n"),
+        ],
+        "E007|o|-\nE060|o|sha256 ZEROS cd08aa9a85c70c89a256d6fc5e21547dfb0948b017a1dde65f187744033424d5\nE058|o|sha512\nE096|o|ab\nE097|o|md5 cd\nE100|o|/x\nE099|o|v1//f\nE100|o|/a\nS06|o|v2\nE101|o|v1/content/f\nS07|o|crc32\n",
+        None,
+    ),
+];
+
+#[test]
+fn heads_of_objects(rt: HostRuntime) -> Result<(), Fail> {
+    for (changes, lines, content) in HEADS {
+        let mut store = right_object(rt.alloc())?;
+        change(rt.alloc(), &mut store, changes)?;
+        expect_head(&rt, &mut store, lines, content)?;
+    }
+    let behind = "\n".repeat(rt.alloc(), 4081)?;
+    let long = format!(in rt.alloc(); "ocfl_object_1.1\n{behind}")?;
+    assert_eq!(rt; long.len(), 4097);
+    let mut store = right_object(rt.alloc())?;
+    put(rt.alloc(), &mut store, DECLARATION, long.as_bytes())?;
+    expect_head(&rt, &mut store, "E007|o|-\n", GOES_ON)
+}
+
+/// Further declarations, whether the right one is there too, and the line that the head stops at.
+const DECLARED: [(&str, bool, &str); 5] = [
+    ("o/0=ocfl_object_1.0", true, "E003|o|-\n"),
+    ("o/0=ocfl_object_2.0", true, "E003|o|-\n"),
+    ("o/0=ocfl_object_2.0", false, "S01|o|2.0\n"),
+    ("o/0=ocfl_object_1.0.1", false, "S01|o|1.0.1\n"),
+    ("o/0=ocfl_object_2.0\u{e9}", false, "S01|o|2.0%C3%A9\n"),
+];
+
+/// What else may be wrong then, and has no line.
+const NOT_LOOKED_AT: [&[(&str, &str)]; 4] = [
+    &[],
+    &[("o/inventory.json", "abc")],
+    &[("-o/inventory.json", "")],
+    &[("-o/inventory.json.sha256", ""), ("-o/inventory.json", "")],
+];
+
+#[test]
+fn heads_that_stop_at_declarations(rt: HostRuntime) -> Result<(), Fail> {
+    for (further, is_right_there, line) in DECLARED {
+        for changes in NOT_LOOKED_AT {
+            let mut store = right_object(rt.alloc())?;
+            put(rt.alloc(), &mut store, further, b"")?;
+            if !is_right_there {
+                store.remove(&place_of(rt.alloc(), DECLARATION)?)?;
+            } else if !changes.is_empty() {
+                put(rt.alloc(), &mut store, DECLARATION, b"")?;
+            }
+            change(rt.alloc(), &mut store, changes)?;
+            expect_head(&rt, &mut store, line, STOPS)?;
+            assert!(rt; store.openings().is_empty(), "{further}");
+        }
+    }
+    Ok(())
+}
+
+// ---- sidecars
+
+/// The root of a right object, its sidecar the right digits with this behind them.
+fn object_with_digits_and(alloc: Global, behind: &str) -> Result<MemTree, Fail> {
+    let inventory = listing(alloc, "\"ABC_SHA256\":[\"v1/content/f\"]", "")?;
+    let digits = short_digits(alloc, inventory.as_bytes())?;
+    let mut store = object_with(alloc, inventory.as_str())?;
+    let text = format!(in alloc; "{digits}{behind}")?;
+    put(alloc, &mut store, SHORT_SIDECAR, text.as_bytes())?;
+    Ok(store)
+}
+
+#[test]
+fn forms_of_sidecars(rt: HostRuntime) -> Result<(), Fail> {
+    let of_the_form = "ok|o|-\n";
+    let not_of_it = "E061|o|sha256\n";
+    // With the digits they have 4,096 bytes, and one more.
+    let longest = format!(in rt.alloc(); " inventory.json\n{}", " ".repeat(rt.alloc(), 4016)?)?;
+    let longer = format!(in rt.alloc(); "{longest} ")?;
+    assert_eq!(rt; longest.len(), 4096 - 64);
+    for (behind, lines) in [
+        (" inventory.json\n", of_the_form),
+        ("  inventory.json", of_the_form),
+        ("\t \tinventory.json \t\r\n\n", of_the_form),
+        (longest.as_str(), of_the_form),
+        (longer.as_str(), not_of_it),
+        (" *inventory.json\n", not_of_it),
+        ("inventory.json\n", not_of_it),
+        ("\ninventory.json\n", not_of_it),
+        (" inventory.json\nx", not_of_it),
+        (" inventory.jso\n", not_of_it),
+        ("0 inventory.json\n", not_of_it),
+        ("", not_of_it),
+    ] {
+        let mut store = object_with_digits_and(rt.alloc(), behind)?;
+        expect_head(&rt, &mut store, lines, GOES_ON)?;
+        let text = format!(in rt.alloc(); "ok|.|-\n{lines}{FILE_IS_OK}")?;
+        let status = u8::from(lines == not_of_it);
+        expect_audit(&rt, &mut store, text.as_str(), status, "")?;
+    }
+    Ok(())
+}
+
+#[test]
+fn no_sidecar_of_the_named_algorithm(rt: HostRuntime) -> Result<(), Fail> {
+    let members =
+        r#""digestAlgorithm":"sha512","manifest":{"ABC_SHA512":["v1/content/f"]},"fixity":{}"#;
+    let by_sha512 = inventory(rt.alloc(), members)?;
+    let right = long_sidecar(rt.alloc(), by_sha512.as_str())?;
+    let mut store = object_with(rt.alloc(), by_sha512.as_str())?;
+    expect_head(&rt, &mut store, "E058|o|sha512\n", GOES_ON)?;
+    for next in [
+        (LONG_SIDECAR, right.as_str()),
+        ("-o/inventory.json.sha256", ""),
+    ] {
+        change(rt.alloc(), &mut store, &[next])?;
+        expect_head(&rt, &mut store, "ok|o|-\n", GOES_ON)?;
+    }
+    Ok(())
+}
+
+// ---- stores that fail
+
+/// The root of a right object with both sidecars.
+fn object_with_both_sidecars(alloc: Global) -> Result<MemTree, Fail> {
+    let inventory = listing(alloc, "\"ABC_SHA256\":[\"v1/content/f\"]", "")?;
+    let long = long_sidecar(alloc, inventory.as_str())?;
+    let mut store = object_with(alloc, inventory.as_str())?;
+    put(alloc, &mut store, LONG_SIDECAR, long.as_bytes())?;
+    Ok(store)
+}
+
+/// With this call failing, the check of the object stops: it writes nothing, and opens no file
+/// after that one.
+fn stops_at(rt: &(impl Abort + AllocGlobal), place: &str, point: Point) -> Result<(), Fail> {
+    let mut store = object_with_both_sidecars(rt.alloc())?;
+    let failing = place_of(rt.alloc(), place)?;
+    store.fail_at(&failing, point)?;
+    let note = format!(in rt.alloc(); "stopped at {place}")?;
+    expect(rt, &mut store, "o", "", 3, note.as_str())?;
+    let [.., last] = store.openings() else {
+        return Err("no file was opened".into());
+    };
+    assert!(rt; last.place == failing && last.failed, "{place}");
+    assert_eq!(rt; store.failures(), 1);
+    Ok(())
+}
+
+#[test]
+fn files_of_the_head_that_fail(rt: HostRuntime) -> Result<(), Fail> {
+    finds(&rt, &mut object_with_both_sidecars(rt.alloc())?, "ok|o|-\n")?;
+    for place in [DECLARATION, INVENTORY, SHORT_SIDECAR, LONG_SIDECAR] {
+        stops_at(&rt, place, Point::Open)?;
+        stops_at(&rt, place, Point::Read(0))?;
+        stops_at(&rt, place, Point::Read(1))?;
+    }
+    Ok(())
+}
+
+#[test]
+fn directories_to_the_object_that_fail(rt: HostRuntime) -> Result<(), Fail> {
+    for (place, note) in [("o", "stopped at o"), (".", "stopped at .")] {
+        let mut store = right_object(rt.alloc())?;
+        store.fail_at(&place_of(rt.alloc(), place)?, Point::List)?;
+        expect(&rt, &mut store, "o", "", 3, note)?;
+        assert!(rt; store.openings().is_empty() || place == "o");
+    }
+    Ok(())
+}
+
+// ---- what is no object
+
+/// What is changed in the root of a right object, and places without an item then.
+const NO_ITEMS: [(&[(&str, &str)], &[&str]); 5] = [
+    (
+        &[
+            ("-o/0=ocfl_object_1.1", ""),
+            ("o/0=ocfl_object_1.0/", ""),
+            ("o/0=ocfl_object_2.0@", ""),
+        ],
+        &["o"],
+    ),
+    // above an object, where nothing is, where objects do not count, and within one
+    (
+        &[
+            ("h/p/0=ocfl_object_1.1", "ocfl_object_1.1\n"),
+            ("extensions/p/0=ocfl_object_1.1", "ocfl_object_1.1\n"),
+            ("o/extensions/p/0=ocfl_object_1.1", "ocfl_object_1.1\n"),
+        ],
+        &[
+            "h",
+            "i",
+            "extensions/p",
+            "o/extensions/p",
+            "o/v1",
+            "o/v1/content",
+        ],
+    ),
+    // storage roots whose version is not known
+    (
+        &[("0=ocfl_1.1", "ocfl_1.1"), ("0=ocfl_1.0", "ocfl_1.0\n")],
+        &["o"],
+    ),
+    (&[("-0=ocfl_1.1", "")], &["o"]),
+    (&[("-0=ocfl_1.1", ""), ("0=ocfl_2.0", "ocfl_2.0\n")], &["o"]),
+];
+
+#[test]
+fn places_without_an_item(rt: HostRuntime) -> Result<(), Fail> {
+    for (changes, places) in NO_ITEMS {
+        let mut store = right_object(rt.alloc())?;
+        change(rt.alloc(), &mut store, changes)?;
+        for place in places {
+            expect(&rt, &mut store, place, "", 0, "no item")?;
+        }
+        if places.len() > 1 {
+            expect(&rt, &mut store, "h/p", "E063|h/p|-\n", 1, "")?;
+            finds(&rt, &mut store, "ok|o|-\n")?;
+        }
+    }
+    Ok(())
+}

@@ -1,0 +1,157 @@
+//! Runs over content that cannot be read.
+use super::odd_store::forgetful;
+use super::roots::HEADS;
+use super::run_figures::{B, C, MOST, budgets, expect_cycle, expect_runs};
+use crate::common::object::FILE;
+use crate::common::roots::{
+    first_fails, long_file_fails, under_four_algorithms, unread_in_fixity_alone,
+};
+use crate::common::tree::{place_of, times_opened};
+use ocfl_tree::Point;
+use std::test::Fail;
+
+const A_FAILS: &str = "S08|o/v1/content/a|-\n";
+
+const F_FAILS: &str = "S08|o/v1/content/f|-\n";
+
+/// Whether three files, of which the first fails, come a byte a read; and of each run the budget,
+/// what it writes and what it says.
+const RUNS: [(bool, &[(u64, &[&str], &str)]); 3] = [
+    (
+        true,
+        &[
+            (
+                3,
+                &[HEADS, A_FAILS],
+                "spent 3 files 1 found, open; cycle 1 runs 1 spent 3 files 1 after o/v1/content/a",
+            ),
+            (
+                3,
+                &[B, C],
+                "spent 5 files 2 clean, ended; cycle 1 runs 2 spent 8 files 3 ended",
+            ),
+        ],
+    ),
+    (
+        true,
+        &[
+            (
+                4,
+                &[HEADS, A_FAILS, B],
+                "spent 4 files 2 found, open; cycle 1 runs 1 spent 4 files 2 after o/v1/content/b",
+            ),
+            (
+                4,
+                &[C],
+                "spent 4 files 1 clean, ended; cycle 1 runs 2 spent 8 files 3 ended",
+            ),
+        ],
+    ),
+    // One read delivers all of the file, which is paid for.
+    (
+        false,
+        &[
+            (
+                4,
+                &[HEADS, A_FAILS],
+                "spent 4 files 1 found, open; cycle 1 runs 1 spent 4 files 1 after o/v1/content/a",
+            ),
+            (
+                4,
+                &[B, C],
+                "spent 5 files 2 clean, ended; cycle 1 runs 2 spent 9 files 3 ended",
+            ),
+        ],
+    ),
+];
+
+#[test]
+fn delivered_bytes_are_paid_for(rt: HostRuntime) -> Result<(), Fail> {
+    for (by_bytes, runs) in RUNS {
+        expect_runs(&rt, &mut first_fails(rt.alloc(), by_bytes)?, MOST, runs)?;
+    }
+    Ok(())
+}
+
+#[test]
+fn cost_of_all_with_a_failure(rt: HostRuntime) -> Result<(), Fail> {
+    let limits = budgets(rt.alloc(), &[9])?;
+    for (by_bytes, said) in [
+        (
+            true,
+            "runs 1 spent 8 files 3 found, ended; cycle 1 runs 1 spent 8 files 3 ended",
+        ),
+        (
+            false,
+            "runs 1 spent 9 files 3 found, ended; cycle 1 runs 1 spent 9 files 3 ended",
+        ),
+    ] {
+        let mut store = first_fails(rt.alloc(), by_bytes)?;
+        expect_cycle(
+            &rt,
+            &mut store,
+            limits.as_slice(),
+            &[HEADS, A_FAILS, B, C],
+            said,
+        )?;
+        assert_eq!(rt; store.failures(), 1);
+    }
+    Ok(())
+}
+
+#[test]
+fn long_file_that_fails_at_its_last_byte(rt: HostRuntime) -> Result<(), Fail> {
+    for (point, cost, first, second) in [
+        (
+            Point::Read(65_536),
+            65_537,
+            "spent 65537 files 1 found, open; cycle 1 runs 1 spent 65537 files 1 after o/v1/content/f",
+            "spent 4 files 1 clean, ended; cycle 1 runs 2 spent 65541 files 2 ended",
+        ),
+        (
+            Point::Open,
+            1,
+            "spent 1 files 1 found, open; cycle 1 runs 1 spent 1 files 1 after o/v1/content/f",
+            "spent 4 files 1 clean, ended; cycle 1 runs 2 spent 5 files 2 ended",
+        ),
+    ] {
+        let mut store = long_file_fails(rt.alloc(), point)?;
+        let runs: [(u64, &[&str], &str); 2] = [
+            (cost, &[HEADS, F_FAILS], first),
+            (cost, &["ok|o/v1/content/g|3\n"], second),
+        ];
+        expect_runs(&rt, &mut store, MOST, &runs)?;
+        for file in [FILE, "o/v1/content/g"] {
+            assert_eq!(rt;
+                times_opened(rt.alloc(), &store, file)?,
+                1,
+                "{file}, {first}"
+            );
+        }
+        assert!(rt; store.largest_read() <= 65_536);
+    }
+    Ok(())
+}
+
+#[test]
+fn file_that_cannot_be_opened(rt: HostRuntime) -> Result<(), Fail> {
+    let said = "spent 1 files 1 found, ended; cycle 1 runs 1 spent 1 files 1 ended";
+    let text = "E023|o/v1/content/f|-\nS08|o/v1/content/f|-\n";
+    let mut store = unread_in_fixity_alone(rt.alloc())?;
+    expect_runs(&rt, &mut store, MOST, &[(1, &[HEADS, text], said)])?;
+    let mut store = forgetful(rt.alloc(), FILE)?;
+    expect_runs(&rt, &mut store, MOST, &[(1, &[HEADS, F_FAILS], said)])
+}
+
+#[test]
+fn file_under_four_algorithms_fails(rt: HostRuntime) -> Result<(), Fail> {
+    let said = "runs 1 spent 1 files 1 found, ended; cycle 1 runs 1 spent 1 files 1 ended";
+    for point in [Point::Open, Point::Read(0)] {
+        let mut store = under_four_algorithms(rt.alloc())?;
+        store.fail_at(&place_of(rt.alloc(), FILE)?, point)?;
+        let limits = budgets(rt.alloc(), &[1])?;
+        expect_cycle(&rt, &mut store, limits.as_slice(), &[HEADS, F_FAILS], said)?;
+        assert_eq!(rt; times_opened(rt.alloc(), &store, FILE)?, 1);
+    }
+    Ok(())
+}

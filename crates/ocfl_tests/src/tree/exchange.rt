@@ -1,0 +1,119 @@
+//! Files that are exchanged between the look and the opening.
+use crate::common::tree::place_of;
+use ocfl_tree::{FsTree, Tree, Trouble};
+use std::alloc::{Allocator, Global};
+use std::fs::{self, Metadata, OpenOptions};
+use std::io;
+use std::os::unix;
+use std::rt::Files;
+use std::test::Fail;
+
+/// The system's files, where something else is moved to the path that is opened next.
+#[derive(Clone, Drop)]
+struct Exchanging {
+    rt: HostRuntime,
+    spare: &'static str,
+}
+
+impl Alloc for Exchanging {
+    type A = Global;
+
+    fn alloc(&self) -> Global {
+        self.rt.alloc()
+    }
+}
+
+impl Files for Exchanging {
+    type File = <HostRuntime as Files>::File;
+
+    type Dir = <HostRuntime as Files>::Dir;
+
+    fn open_file(&self, how: &OpenOptions, path: &str) -> io::Result<Self::File> {
+        if !self.spare.is_empty() {
+            self.rt.remove_file(path)?;
+            self.rt.rename(self.spare, path)?;
+        }
+        self.rt.open_file(how, path)
+    }
+
+    fn open_dir(&self, path: &str) -> io::Result<Self::Dir> {
+        self.rt.open_dir(path)
+    }
+
+    fn metadata(&self, path: &str) -> io::Result<Metadata> {
+        self.rt.metadata(path)
+    }
+
+    fn symlink_metadata(&self, path: &str) -> io::Result<Metadata> {
+        self.rt.symlink_metadata(path)
+    }
+
+    fn copy(&self, from: &str, to: &str) -> io::Result<u64> {
+        self.rt.copy(from, to)
+    }
+
+    fn rename(&self, from: &str, to: &str) -> io::Result<()> {
+        self.rt.rename(from, to)
+    }
+
+    fn remove_file(&self, path: &str) -> io::Result<()> {
+        self.rt.remove_file(path)
+    }
+
+    fn create_dir(&self, path: &str) -> io::Result<()> {
+        self.rt.create_dir(path)
+    }
+
+    fn remove_dir(&self, path: &str) -> io::Result<()> {
+        self.rt.remove_dir(path)
+    }
+
+    fn remove_dir_all<B: Allocator>(&self, alloc: B, path: &str) -> io::Result<()> {
+        self.rt.remove_dir_all(alloc, path)
+    }
+}
+
+/// What the file `f` of a folder gives.
+fn read<R: Files + AllocGlobal + Clone + Drop>(
+    rt: R,
+    top: &str,
+) -> Result<Result<usize, Trouble>, Fail> {
+    let place = place_of(rt.alloc(), "f")?;
+    let mut store = FsTree::at(rt, top)?;
+    if let Err(trouble) = store.open(&place) {
+        return Ok(Err(trouble));
+    }
+    let mut buffer = [0; 9];
+    Ok(store.read(&mut buffer))
+}
+
+/// What a file gives where this is moved to its path right before it is opened.
+fn read_as(rt: &HostRuntime, spare: &'static str) -> Result<Result<usize, Trouble>, Fail> {
+    if fs::exists(rt, "exchange")? {
+        fs::remove_dir_all(rt, "exchange")?;
+    }
+    fs::create_dir(rt, "exchange")?;
+    fs::create_dir(rt, "exchange/dir")?;
+    for file in ["exchange/f", "exchange/other", "exchange/third"] {
+        fs::write(rt, file, "same")?;
+    }
+    unix::fs::symlink(rt, "third", "exchange/link")?;
+    let files = Exchanging {
+        rt: rt.clone()?,
+        spare,
+    };
+    let answer = read(files, "exchange")?;
+    fs::remove_dir_all(rt, "exchange")?;
+    Ok(answer)
+}
+
+#[test]
+fn an_exchanged_file_is_the_devices(rt: HostRuntime) -> Result<(), Fail> {
+    assert_eq!(rt; read_as(&rt, "")?, Ok(4));
+    for spare in ["exchange/other", "exchange/link", "exchange/dir"] {
+        assert_eq!(rt; read_as(&rt, spare)?, Err(Trouble::Device));
+    }
+    // It was looked at, and then went away.
+    assert_eq!(rt; read_as(&rt, "exchange/missing")?, Err(Trouble::Absent));
+    Ok(())
+}

@@ -1,0 +1,132 @@
+//! The lines of content places, and what they cost.
+use crate::common::object::{FILE, listing, object_listing, object_without_files};
+use crate::common::roots::unread_in_fixity_alone;
+use crate::common::tree::{change, place_of, put_dir, times_opened};
+use crate::walk::expect_item;
+use ocfl_tree::{MemTree, Point};
+use std::alloc::Global;
+use std::test::Fail;
+
+const LISTS_F: &str = r#""ABC_SHA256":["v1/content/f"]"#;
+
+/// What lists `f` twice in the manifest, and in fixity.
+const LISTS_F_TWICE: &str = r#""ABC_SHA256":["v1/content/f"],"no digest":["v1/content/f"]"#;
+
+const SHA1_OF_F: &str = r#""sha1":{"NOTHING_SHA1":["v1/content/f"]}"#;
+
+/// An object with this manifest and this fixity block, and with these changes.
+fn object(
+    alloc: Global,
+    manifest: &str,
+    fixity: &str,
+    changes: &[(&str, &str)],
+) -> Result<MemTree, Fail> {
+    let mut store = object_without_files(alloc, listing(alloc, manifest, fixity)?.as_str())?;
+    change(alloc, &mut store, changes)?;
+    Ok(store)
+}
+
+/// A manifest, a fixity block, what is changed, the lines of `f`, their cost, and how often `f` is
+/// opened.
+type Judged = (
+    &'static str,
+    &'static str,
+    &'static [(&'static str, &'static str)],
+    &'static str,
+    u64,
+    usize,
+);
+
+const JUDGED: [Judged; 9] = [
+    (LISTS_F, "", &[(FILE, "abc")], "ok|o/v1/content/f|3\n", 4, 1),
+    (
+        LISTS_F,
+        r#""md5":{"NOTHING_MD5":["v1/content/f"]}"#,
+        &[(FILE, "abc")],
+        "E093|o/v1/content/f|md5 NOTHING_MD5 ABC_MD5\n",
+        4,
+        1,
+    ),
+    // the manifest does not name the file
+    ("", "", &[(FILE, "abc")], "E023|o/v1/content/f|-\n", 0, 0),
+    (
+        "",
+        r#""md5":{"ABC_MD5":["v1/content/f"]}"#,
+        &[(FILE, "abc")],
+        "E023|o/v1/content/f|-\n",
+        4,
+        1,
+    ),
+    // no file is there
+    (
+        LISTS_F_TWICE,
+        SHA1_OF_F,
+        &[],
+        "E092|o/v1/content/f|sha256 missing\nE093|o/v1/content/f|sha1 missing\n",
+        0,
+        0,
+    ),
+    (
+        LISTS_F_TWICE,
+        SHA1_OF_F,
+        &[("o/v1/content/f/", "")],
+        "E024|o/v1/content/f|-\nE092|o/v1/content/f|sha256 missing\nE093|o/v1/content/f|sha1 missing\n",
+        0,
+        0,
+    ),
+    (
+        LISTS_F_TWICE,
+        SHA1_OF_F,
+        &[("o/v1/content/f/g/", "")],
+        "E092|o/v1/content/f|sha256 missing\nE093|o/v1/content/f|sha1 missing\n",
+        0,
+        0,
+    ),
+    (
+        LISTS_F_TWICE,
+        SHA1_OF_F,
+        &[("o/v1/content/f@", "")],
+        "S04|o/v1/content/f|-\nE092|o/v1/content/f|sha256 missing\nE093|o/v1/content/f|sha1 missing\n",
+        0,
+        0,
+    ),
+    // a directory that holds something is no item
+    ("", "", &[("o/v1/content/f/g/", "")], "", 0, 0),
+];
+
+#[test]
+fn lines_and_costs_of_a_content_place(rt: HostRuntime) -> Result<(), Fail> {
+    for (manifest, fixity, changes, want, cost, opened) in JUDGED {
+        let mut store = object(rt.alloc(), manifest, fixity, changes)?;
+        expect_item(&rt, &mut store, FILE, want, cost)?;
+        assert_eq!(rt; times_opened(rt.alloc(), &store, FILE)?, opened, "{want}");
+    }
+    Ok(())
+}
+
+#[test]
+fn directory_that_lies_too_deep(rt: HostRuntime) -> Result<(), Fail> {
+    let alloc = rt.alloc();
+    // With `o/v1/content` before them, 125 names more are 128.
+    let names = "/d".repeat(alloc, 125)?;
+    let mut store = object_listing(alloc, format!(in alloc; "\"v1/content{names}\"")?.as_str())?;
+    let place = format!(in alloc; "o/v1/content{names}")?;
+    put_dir(alloc, &mut store, place.as_str())?;
+    let want = format!(in alloc; "S05|{place}|-\nE092|{place}|sha256 missing\n")?;
+    expect_item(&rt, &mut store, place.as_str(), want.as_str(), 0)
+}
+
+#[test]
+fn file_cannot_be_read_on(rt: HostRuntime) -> Result<(), Fail> {
+    let alloc = rt.alloc();
+    let text = "x".repeat(alloc, 65_537)?;
+    let mut store = object(alloc, LISTS_F, "", &[(FILE, text.as_str())])?;
+    store.fail_at(&place_of(alloc, FILE)?, Point::Read(65_536))?;
+    expect_item(&rt, &mut store, FILE, "S08|o/v1/content/f|-\n", 65_537)?;
+    assert_eq!(rt; store.largest_read(), 65_536);
+    let mut store = unread_in_fixity_alone(alloc)?;
+    let want = "E023|o/v1/content/f|-\nS08|o/v1/content/f|-\n";
+    expect_item(&rt, &mut store, FILE, want, 1)?;
+    assert_eq!(rt; store.failures(), 1);
+    Ok(())
+}

@@ -1,7 +1,8 @@
 //! Progress: one line on a terminal, which is written over again while a command works.
 
+use ocfl_folder::FsTree;
 use ocfl_report::DisplayPlace;
-use ocfl_tree::{Entry, FsTree, Place, Tree, Trouble};
+use ocfl_tree::{Entry, Place, Tree, Trouble};
 use std::alloc::AllocError;
 use std::fs;
 use std::io::{self, Write};

@@ -4,7 +4,8 @@ use ocfl_digest::{
     Algorithm, Block, Bounded, Cause, Digests, ReadStop, Wanted, hash_bytes, hash_open,
     read_bounded,
 };
-use ocfl_tree::{FsTree, MemTree, Point, Tree, Trouble};
+use ocfl_folder::FsTree;
+use ocfl_tree::{MemTree, Point, Tree, Trouble};
 use std::alloc::Global;
 use std::fs;
 use std::process::Abort;

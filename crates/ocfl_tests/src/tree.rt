@@ -186,7 +186,10 @@ fn places_begin_with_what_lies_above_them(rt: HostRuntime) -> Result<(), Fail> {
     let beside = place_of(alloc, "ab")?;
     for place in [&root, &a, &below, &beside] {
         assert!(rt; place.starts_with(&root) && place.starts_with(place));
+        assert!(rt; place.starts_with_path("") && place.starts_with_path(place.path()));
     }
+    assert!(rt; below.starts_with_path("a") && !a.starts_with_path("a/b"));
+    assert!(rt; !beside.starts_with_path("a") && !root.starts_with_path("a"));
     assert!(rt; below.starts_with(&a) && !a.starts_with(&below));
     assert!(rt; !beside.starts_with(&a) && !root.starts_with(&a));
     Ok(())
@@ -212,6 +215,9 @@ fn places_are_joined_and_cut(rt: HostRuntime) -> Result<(), Fail> {
         );
     }
     let root = Place::root(alloc);
+    assert_eq!(rt; whole.split_last(), Some(("v1/content/é", "a-b")));
+    assert_eq!(rt; whole.first(1)?.split_last(), Some(("", "v1")));
+    assert_eq!(rt; root.split_last(), None);
     let name = Name::new(alloc, "a")?;
     assert_eq!(rt; root.child(&name)?.path(), "a");
     assert_eq!(rt; whole.child(&name)?.path(), "v1/content/é/a-b/a");

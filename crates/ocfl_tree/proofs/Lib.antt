@@ -9,7 +9,6 @@ pub mod Paths
 pub mod PathNames
 pub mod Places
 pub mod Reading
-pub mod Rising
 pub mod Seen
 pub mod Stores
 pub mod Trees

@@ -2,7 +2,6 @@
 #![tactic(auto)]
 
 mod build;
-mod fs_tree;
 pub mod laws;
 mod mem_tree;
 mod name;
@@ -17,7 +16,6 @@ mod text;
 mod tree;
 
 pub use build::BuildStop;
-pub use fs_tree::FsTree;
 pub use mem_tree::MemTree;
 pub use name::{Name, NameStop};
 pub use order::cmp_elements;

@@ -99,6 +99,13 @@ impl Place {
         order::begins(base.path.as_str(), self.path.as_str())
     }
 
+    /// Whether the names of a path lead to the place or to a directory above it.
+    pub fn starts_with_path(&self, path: &str) -> bool
+        ensures { result ≡ begins (names_of path.now) self.now }
+    {
+        order::begins(path, self.path.as_str())
+    }
+
     /// The place of a name in this directory. The only error is running out of memory.
     #[tactic(auto, using(crate::proofs::Paths::names_child))]
     pub fn child(&self, name: &Name) -> Result<Place, AllocError>
@@ -145,7 +152,7 @@ impl Place {
 
     /// The path of the directory that the place lies in and its name there, and none for the
     /// storage root.
-    pub(crate) fn split_last(&self) -> Option<(&str, &str)>
+    pub fn split_last(&self) -> Option<(&str, &str)>
         ensures { MatchOption result (self.now ≡ [])
             (λ p. (self.now ≡ names_of p.0.now ++ p.1.now ∷ []) × IsName p.1.now) }
     {

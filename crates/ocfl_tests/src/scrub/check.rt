@@ -6,8 +6,9 @@ use crate::common::output::Narrow;
 use crate::common::roots::{right_object, under_four_algorithms};
 use crate::common::tree::{change, place_of, times_opened};
 use ocfl_digest::Block;
+use ocfl_folder::FsTree;
 use ocfl_scrub::checked;
-use ocfl_tree::{FsTree, Point};
+use ocfl_tree::Point;
 use std::fs;
 use std::test::Fail;
 

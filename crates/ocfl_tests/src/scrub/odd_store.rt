@@ -4,7 +4,7 @@ use crate::common::object::{DECLARATION, FILE, INVENTORY, LONG_SIDECAR, SHORT_SI
 use crate::common::odd_store::{Odd, Oddity};
 use crate::common::roots::{long_object, right_object};
 use crate::common::tree::{place_of, put_dir};
-use ocfl_tree::FsTree;
+use ocfl_folder::FsTree;
 use std::alloc::Global;
 use std::fs;
 use std::test::Fail;

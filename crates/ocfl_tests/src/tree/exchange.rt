@@ -1,6 +1,7 @@
 //! Files that are exchanged between the look and the opening.
 use crate::common::tree::place_of;
-use ocfl_tree::{FsTree, Tree, Trouble};
+use ocfl_folder::FsTree;
+use ocfl_tree::{Tree, Trouble};
 use std::alloc::{Allocator, Global};
 use std::fs::{self, Metadata, OpenOptions};
 use std::io;

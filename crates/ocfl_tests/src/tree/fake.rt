@@ -2,7 +2,8 @@
 ghost use Rattle.std.specs.Prelude.{IsErr};
 
 use crate::common::tree::place_of;
-use ocfl_tree::{FsTree, Place, Tree, Trouble};
+use ocfl_folder::FsTree;
+use ocfl_tree::{Place, Tree, Trouble};
 use std::alloc::{Allocator, Global};
 use std::cell::Cell;
 use std::fs::{Metadata, OpenFile, OpenOptions};

@@ -1,6 +1,7 @@
 use super::{lists, sorted, whole};
 use crate::common::tree::{change, place_of, put};
-use ocfl_tree::{FsTree, MemTree, Place, Tree, Trouble};
+use ocfl_folder::FsTree;
+use ocfl_tree::{MemTree, Place, Tree, Trouble};
 use std::alloc::Global;
 use std::fs;
 use std::os::unix;

@@ -1,7 +1,8 @@
 //! The names on the way to a place in a folder.
 use super::{lists, whole};
 use crate::common::tree::place_of;
-use ocfl_tree::{FsTree, Place, Tree, Trouble};
+use ocfl_folder::FsTree;
+use ocfl_tree::{Place, Tree, Trouble};
 use std::fs;
 use std::os::unix;
 use std::process::Abort;

@@ -2,18 +2,14 @@ ghost use Rattle.std.specs.Prelude.{◌≡◌, ◌≢◌, ◌≤◌, ◌+◌, �
 ghost use Rattle.std.specs.Prelude.{OnErr, MatchOption, length, string_bytes, Err};
 ghost use Rattle.std.specs.Fs.{IsDir, IsFile, file_type};
 ghost use Rattle.std.specs.IoError.{error_kind};
-ghost use Rattle.ocfl_tree.specs.declared.fs_tree.Fault.TheVariants.{Trouble as Lasting};
+ghost use Rattle.ocfl_folder.specs.declared.fs_tree.Fault.TheVariants.{Trouble as Lasting};
 ghost use Rattle.ocfl_tree.specs.declared.store.Trouble.TheVariants.{Absent, Memory};
 ghost use Rattle.ocfl_tree.specs.Listing.{AreApart, IsOrdinary};
 ghost use Rattle.ocfl_tree.specs.MemTree.{empty_store};
 ghost use Rattle.ocfl_tree.specs.Path.{names_of};
 ghost use Rattle.ocfl_tree.specs.Place.{begins};
 
-use crate::name::{Name, NameStop};
-use crate::place::Place;
-use crate::store::{Entry, Kind, Trouble};
-use crate::tree::Tree;
-use crate::{order, path};
+use ocfl_tree::{Entry, Kind, Name, NameStop, Place, Tree, Trouble};
 use std::alloc::AllocError;
 use std::fs::{Metadata, OpenFile};
 use std::io::{ErrorKind, Read};
@@ -37,8 +33,8 @@ use std::{fs, io};
 pub struct FsTree<R: Files + AllocGlobal + Clone + Drop> {
     rt: R,
     root: String,
-    /// The path of the directory that was found last, from the folder on.
-    known: Option<String>,
+    /// The directory that was found last.
+    known: Option<Place>,
     open: Option<R::File>,
 }
 
@@ -171,12 +167,12 @@ fn is_same_file(before: &Metadata, opened: &Metadata) -> bool
 }
 
 /// Whether a directory is the known one or on the way there.
-fn is_known(known: &Option<String>, dir: &str) -> bool
+fn is_known(known: &Option<Place>, dir: &str) -> bool
     ensures { MatchOption known.now (result ≡ false)
-        (λ last. result ≡ begins (names_of dir.now) (names_of (string_bytes last))) }
+        (λ last. result ≡ begins (names_of dir.now) last) }
 {
     match known {
-        Some(last) => order::begins(dir, last.as_str()),
+        Some(last) => last.starts_with_path(dir),
         None => false,
     }
 }
@@ -284,10 +280,21 @@ impl<R: Files + AllocGlobal + Clone + Drop> FsTree<R> {
         of_kind(self.look_at(place, path)?, kind)
     }
 
+    /// The path of a place, made in one allocation.
+    fn path_of(&self, place: &Place) -> Result<String, AllocError> {
+        let room = self.root.len() + 1 + place.path().len();
+        let mut path = String::with_capacity(self.rt.alloc(), room)?;
+        path.push_str(self.root.as_str())?;
+        if !place.path().is_empty() {
+            push_name(&mut path, place.path())?;
+        }
+        Ok(path)
+    }
+
     /// The path of a place and what lies there, where its names lead through directories to what is
     /// of this kind.
     fn path(&self, place: &Place, kind: Kind) -> Result<(String, Metadata), Fault> {
-        let path = path::join(self.rt.alloc(), self.root.as_str(), place.path())?;
+        let path = self.path_of(place)?;
         let metadata = self.look_for(place, path.as_str(), kind)?;
         Ok((path, metadata))
     }
@@ -296,7 +303,8 @@ impl<R: Files + AllocGlobal + Clone + Drop> FsTree<R> {
     fn know(&mut self, dir: &str)
         ensures { self.new ≡ self.old }
     {
-        self.known = String::from_str(self.rt.alloc(), dir).ok();
+        let path = String::from_str(self.rt.alloc(), dir).ok();
+        self.known = path.and_then(Place::from_path);
     }
 
     /// Knows the directory of a file whose names led there, where that is not known yet.

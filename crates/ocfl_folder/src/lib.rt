@@ -1,0 +1,6 @@
+//! An OCFL storage root in a folder of the file system.
+#![tactic(auto)]
+
+mod fs_tree;
+
+pub use fs_tree::FsTree;

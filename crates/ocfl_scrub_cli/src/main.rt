@@ -98,6 +98,14 @@ fn is_shown<R: Files + AllocGlobal>(rt: &R, asked: &Asked) -> bool {
     is_long && !asked.quiet && is_terminal(rt, "/dev/stderr")
 }
 
+/// The folder that the command line names, and the current one where it names none.
+fn root_of(asked: &Asked) -> &str {
+    match &asked.root {
+        Some(root) => root.as_str(),
+        None => ".",
+    }
+}
+
 /// The cursor's file that the command line names, and `None` where it names none or there is no
 /// such file yet.
 fn cursor_file<R: Files>(rt: &R, asked: &Asked) -> Result<Option<R::File>, Note> {
@@ -112,8 +120,7 @@ fn performed<R>(rt: &R, asked: &Asked, is_shown: bool, block: &mut Block) -> Res
 where
     R: Files + AllocGlobal + Print + Eprint,
 {
-    let root = asked.root.as_ref().map_or(".", |root| root.as_str());
-    let Ok(mut store) = Watched::at(rt, root, is_shown) else {
+    let Ok(mut store) = Watched::at(rt, root_of(asked), is_shown) else {
         return Err(Note::OutOfMemory);
     };
     let mut reader = cursor_file(rt, asked)?;

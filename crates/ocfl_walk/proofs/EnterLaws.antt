@@ -1,6 +1,6 @@
 -- The start of a walk at a place.
 use Rattle.std.proofs.Common.{◌≡◌, List, [], ◌∷◌, ◌++◌, sym, ◌∙◌, ap, subst, false, Option, Some, None, length, arith}
-use Rattle.std.specs.Prelude.{cond, ◌||◌, not, Ok, Err}
+use Rattle.std.specs.Prelude.{cond, ◌||◌, not, Result, Ok, Err, IfOk, MatchResult}
 use Rattle.ocfl_tree.specs.Place.{Place}
 use Rattle.ocfl_tree.specs.StorageRoot.{StorageRoot}
 use Rattle.ocfl_tree.specs.Store.{Store, Did}
@@ -14,9 +14,9 @@ use Rattle.ocfl_audit.specs.Walk.{is_reached}
 use Rattle.ocfl_audit.specs.Stack.{seen_places}
 use Rattle.ocfl_item.specs.Looking.{way_to}
 use Rattle.ocfl_item.specs.Ways.{Enters, IsHead, Stops, way_below}
-use Rattle.ocfl_walk.specs.Standing.{IsOrderly, IsOrderlyIf, IsStanding, Pile, piles_of}
+use Rattle.ocfl_walk.specs.Standing.{IsOrderly, IsOrderlyIf, IsOrderlyStand, IsStanding, Pile, StandsAt, folders_from, piles_in, piles_of, spot_of}
 use Rattle.ocfl_walk.specs.WalkCalls.{holder_of}
-use Rattle.ocfl_walk.specs.Entering.{Descends, DescendFails, IsBrought, IsComing, ListsRoot, Starts, StartFails}
+use Rattle.ocfl_walk.specs.Entering.{Descends, DescendFails, IsBrought, IsComing, ListsRoot, Starts, StartFails, may_open}
 use Rattle.ocfl_walk.specs.WalkCalls.{holder_of}
 use Rattle.ocfl_item.specs.declared.fault.Fault.{Fault}
 use Rattle.ocfl_item.specs.declared.fault.Fault.TheVariants as fault
@@ -24,6 +24,8 @@ use Rattle.ocfl_item.specs.declared.folder.Folder.{Folder}
 use Rattle.ocfl_item.specs.declared.folder.Head.{Head}
 use Rattle.ocfl_item.specs.declared.folder.Head.TheVariants as head
 use Rattle.ocfl_item.specs.declared.meeting.Around.{Around}
+use Rattle.ocfl_walk.specs.declared.stand.Stand.{Stand}
+use Rattle.ocfl_walk.proofs.PlacedLaws.{folders_none}
 use Rattle.ocfl_walk.proofs.DescentLaws.{descends_end, descends_on, descends_one, descent_fails_on, descent_memory, listing_fails, plain_table}
 use Rattle.ocfl_item.proofs.LooksCalls.{head_unknown, root_entered, way_is}
 use Rattle.ocfl_item.proofs.LooksZones.{declared_root, out_of_zone, plain_unknown}
@@ -34,9 +36,15 @@ use Rattle.ocfl_audit.proofs.WayLaws.{is_closed}
 pub orderly_nothing : (p : Place) (fs : List Folder) → fs ≡ [] → IsOrderly p (piles_of fs) None
 orderly_nothing p fs e = subst (λ x. IsOrderly p (piles_of x) None) (sym e) (record { chain = tt; few = tt; object = tt })
 
-pub orderly_brought : (l : Option Place) (o p d q : Place) (ps : List Pile) (a : Option Around) → l ≡ Some o → o ≡ p → d ≡ [] → q ≡ p → IsOrderly (d ++ q) ps a → IsOrderlyIf l ps a
-orderly_brought l o p d q ps a last is root_is same h =
-    subst (λ x. IsOrderlyIf x ps a) (sym (last ∙ ap (λ x. Some x) is)) (subst (λ x. IsOrderly x ps a) same (subst (λ e. IsOrderly (e ++ q) ps a) root_is h))
+pub orderly_start : (s : Stand) (p : Place) → s.listings.items ≡ [] → s.around ≡ None → s.last ≡ Some p → IsOrderlyStand s
+orderly_start s p none alone last =
+    let fs = folders_from 0 (spot_of s.last) s.listings.items in
+    subst (λ x. IsOrderlyIf x (piles_of fs) s.around) (sym last) (subst (λ a. IsOrderly p (piles_of fs) a) (sym alone) (orderly_nothing p fs (folders_none (spot_of s.last) s.listings.items none)))
+
+pub orderly_brought : (r : Result Unit Fault) (l : Option Place) (p d q : Place) (ps : List Pile) (a : Option Around) → l ≡ Some p → d ≡ [] → q ≡ p → IfOk r (λ _. IsOrderly (d ++ q) ps a) → IfOk r (λ _. IsOrderlyIf l ps a)
+orderly_brought (Err why) l p d q ps a last root_is same h = tt
+orderly_brought (Ok x) l p d q ps a last root_is same h =
+    subst (λ x. IsOrderlyIf x ps a) (sym last) (subst (λ x. IsOrderly x ps a) same (subst (λ e. IsOrderly (e ++ q) ps a) root_is h))
 
 pub coming_root : (d : Place) (es : List Entry) (fs : List Folder) → d ≡ [] → fs ≡ [] → IsOrdinary es → IsComing d es (piles_of fs) None
 coming_root d es fs e none ordinary =
@@ -69,9 +77,6 @@ module _ (root : StorageRoot) where
 
     pub start_listed : Starts root s t p 0
     start_listed = descends_end root s t (way_to p) (way_below [] p) (holder_of (zone root p)) (holder_of (zone root p)) 0 came
-
-    pub start_listed_memory : StartFails root s t p fault.Memory
-    start_listed_memory = descent_fails_on root s t t (way_to p) (way_below [] p) (holder_of (zone root p)) (holder_of (zone root p)) fault.Memory came (descent_memory root t (way_below [] p) (holder_of (zone root p)) (did.tree ∙ over))
 
     module _ (u : Store) (d q : Place) (root_is : d ≡ []) (same : q ≡ p) where
       pub start_down : Descends root t u (way_below d q) [] (holder_of (zone root (d ++ q))) [] 0 → Starts root s u p 0
@@ -109,3 +114,27 @@ module _ (root : StorageRoot) where
         entries = k.entries tt;
         table = k.table;
       }
+
+  pub stands_start : (s : Stand) (p : Place) → s.listings.items ≡ [] → s.around ≡ None → s.last ≡ Some p → is_known (root_declared root) ≡ false → StandsAt root s (Some p)
+  stands_start s p none alone last h =
+      let fs = folders_from 0 (spot_of s.last) s.listings.items in (
+        last,
+        subst (λ a. IsStanding root p (piles_of fs) a) (sym alone) (stands_nothing p fs (folders_none (spot_of s.last) s.listings.items none) h),
+      )
+
+  -- the way from the storage root came to an end
+  pub start_goes : (s t : Store) (p : Place) (over : s.tree ≡ root) (did : Did s t [] ([] ∷ []) 0) (u : Store) (d q : Place) (root_is : d ≡ []) (same : q ≡ p) (old new : Stand)
+      → old.listings.items ≡ [] → old.around ≡ None → new.last ≡ Some p → (r : Result Unit Fault)
+      → MatchResult r
+      (λ _. Descends root t u (way_below d q) [] (may_open old.around (zone root (d ++ q))) [] 0 × IsBrought root d q (piles_in old.last old.listings.items) (piles_in new.last new.listings.items) new.around)
+      (λ why. DescendFails root t u (way_below d q) (may_open old.around (zone root (d ++ q))) why)
+      → MatchResult r (λ _. Starts root s u p 0 × StandsAt root new (Some p)) (λ why. StartFails root s u p why)
+  start_goes s t p over did u d q root_is same old new none alone last (Ok x) h = (
+    start_down s t p over did u d q root_is same (subst (λ a. Descends root t u (way_below d q) [] (may_open a (zone root (d ++ q))) [] 0) alone h.0),
+    (
+      last,
+      stands_brought p d q (folders_from 0 (spot_of old.last) old.listings.items) (piles_in new.last new.listings.items) new.around (folders_none (spot_of old.last) old.listings.items none) root_is same h.1,
+    ),
+  )
+  start_goes s t p over did u d q root_is same old new none alone last (Err why) h =
+      start_stops_down s t p over did u d q root_is same why (subst (λ a. DescendFails root t u (way_below d q) (may_open a (zone root (d ++ q))) why) alone h)

@@ -26,7 +26,7 @@ use ocfl_item::{
     Around, Fault, Folder, Head, can_enter, head_of, is_extensions, list, table_of_object,
 };
 use ocfl_tree::{Name, Place, Tree, is_text};
-use std::alloc::Global;
+use std::alloc::{AllocError, Global};
 
 /// The listing of a directory in a directory, where it may be listed.
 fn listed<T: Tree>(store: &mut T, folder: &Folder, name: &Name) -> Result<Option<Folder>, Fault>
@@ -198,6 +198,45 @@ fn go_down<T: Tree>(
     }
 }
 
+/// Where a walk stands at a place before anything is listed.
+fn stand_without_listings(alloc: Global, place: &Place) -> Result<Stand, AllocError>
+    ensures { IfOk result (λ stand. (stand.listings.items ≡ []) × (stand.around ≡ None)
+        × (stand.last ≡ Some place.now)) }
+{
+    let last = Some(place.try_clone()?);
+    Ok(Stand {
+        listings: ArrayVec::new_in(alloc),
+        around: None,
+        last,
+    })
+}
+
+/// Goes down from the storage root to the place where a walk stands.
+fn go_down_from_root<T: Tree>(
+    alloc: Global,
+    store: &mut T,
+    stand: &mut Stand,
+    after: &Place,
+) -> Result<(), Fault>
+    requires listings { stand.old.listings.items ≡ [] }
+    requires around { stand.old.around ≡ None }
+    requires last { stand.old.last ≡ Some after.now }
+    ensures only { IfErr result (λ why. IsWayFault why) }
+    ensures last { stand.new.last ≡ Some after.now }
+    ensures orderly { IfOk result (λ _. IsOrderlyStand stand.new) }
+    ensures told { IsTrue T.told → (root : StorageRoot) → (T.state store.old).tree ≡ root
+        → MatchResult result
+        (λ _. Starts root (T.state store.old) (T.state store.new) after.now 0
+        × StandsAt root stand.new (Some after.now))
+        (λ why. StartFails root (T.state store.old) (T.state store.new) after.now why) }
+{
+    let names = after.names()?;
+    let Some(base) = known_root(alloc, store)? else {
+        return Ok(());
+    };
+    go_down(alloc, store, stand, base, &names)
+}
+
 /// Where a walk stands at a place.
 pub(crate) fn stand_at<T: Tree>(alloc: Global, store: &mut T, after: &Place) -> Result<Stand, Fault>
     ensures only { IfErr result (λ why. IsWayFault why) }
@@ -209,15 +248,7 @@ pub(crate) fn stand_at<T: Tree>(alloc: Global, store: &mut T, after: &Place) -> 
         × StandsAt root stand (Some after.now))
         (λ why. StartFails root (T.state store.old) (T.state store.new) after.now why) }
 {
-    let mut stand = Stand {
-        listings: ArrayVec::new_in(alloc),
-        around: None,
-        last: Some(after.try_clone()?),
-    };
-    let Some(base) = known_root(alloc, store)? else {
-        return Ok(stand);
-    };
-    let names = after.names()?;
-    go_down(alloc, store, &mut stand, base, &names)?;
+    let mut stand = stand_without_listings(alloc, after)?;
+    go_down_from_root(alloc, store, &mut stand, after)?;
     Ok(stand)
 }

@@ -8,8 +8,8 @@ ghost use Rattle.ocfl_tree.specs.Store.{Store};
 ghost use Rattle.ocfl_audit.specs.Walk.{seen_names};
 ghost use Rattle.ocfl_audit.specs.Zone.{seen};
 ghost use Rattle.ocfl_item.specs.Ways.{IsWayFault};
-ghost use Rattle.ocfl_item.specs.Around.{IsMet};
-ghost use Rattle.ocfl_item.specs.Meeting.{MeetFails, Meets};
+ghost use Rattle.ocfl_item.specs.Around.{IsMet, IsTableAround};
+ghost use Rattle.ocfl_item.specs.Meeting.{IsFairVisit, IsVisit, MeetFails, Meets};
 ghost use Rattle.ocfl_walk.specs.Standing.{IsBelowNext, IsStanding, IsTurn, frames_of, popped};
 ghost use Rattle.ocfl_walk.specs.Standing.{pushed, IsAroundIf, IsOrderlyStand, IsTaken, StandsAt};
 ghost use Rattle.ocfl_walk.specs.Standing.{next_of, path_from, piles_at, piles_in, still, trimmed};
@@ -187,6 +187,30 @@ fn around_at(
     Ok(Some(Around { place, table }))
 }
 
+/// What was met by a visit, its listing in order, with the object that its place lies in.
+fn met_by(around: Option<Around>, place: &Place, visit: Visit) -> Result<Met, AllocError>
+    ensures fair { IsFairVisit place.now visit
+        → IsAroundIf place.now (around_of around place.now visit.table)
+        → IfOk result (λ m. IsFairMet place.now m) }
+    ensures told { (root : StorageRoot) → IsFairVisit place.now visit
+        → IsVisit root place.now visit
+        → IsTableAround root place.now (around_of around place.now visit.table)
+        → IfOk result (λ m. IsMeeting root place.now m) }
+{
+    let Visit {
+        item,
+        folder,
+        table,
+    } = visit;
+    let around = around_at(around, place, table)?;
+    let folder = sorted_if(folder);
+    Ok(Met {
+        item,
+        folder,
+        around,
+    })
+}
+
 /// What is met at an entry behind the last place.
 fn meet<T: Tree>(
     alloc: Global,
@@ -206,18 +230,8 @@ fn meet<T: Tree>(
         (λ why. MeetFails root (T.state store.old) (T.state store.new) place.now why) }
 {
     let around = still_around(around, place);
-    let Visit {
-        item,
-        folder,
-        table,
-    } = visit_entry(alloc, store, &around, place.try_clone()?, entry)?;
-    let around = around_at(around, place, table)?;
-    let folder = sorted_if(folder);
-    Ok(Met {
-        item,
-        folder,
-        around,
-    })
+    let visit = visit_entry(alloc, store, &around, place.try_clone()?, entry)?;
+    Ok(met_by(around, place, visit)?)
 }
 
 fn step_of(item: Option<Pending>) -> Step

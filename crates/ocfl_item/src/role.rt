@@ -18,7 +18,7 @@ use ocfl_report::Code;
 use ocfl_tree::{Entry, Kind, Place, is_text};
 
 /// What an entry is to the walk.
-#[derive(Clone, Copy, Debug, PartialEq, Eq)]
+#[derive(Clone, Copy)]
 pub(crate) enum Role {
     /// It has no lines and is not entered.
     LeftAlone,

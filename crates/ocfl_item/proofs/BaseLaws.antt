@@ -1,6 +1,6 @@
 -- The storage root: its lines, what is read for them, and its listing.
 use Rattle.std.proofs.Common.{◌≡◌, ◌≢◌, ◌≤◌, ℕ, List, [], ◌∷◌, ◌++◌, refl, sym, ◌∙◌, ap, subst, true, false, Bool, Option, Some, None, arith, length, map}
-use Rattle.std.specs.Prelude.{AllPairs, cond, ◌||◌, not, Result, is_some, filter}
+use Rattle.std.specs.Prelude.{AllPairs, cond, ◌||◌, not, Result, Ok, is_some, filter}
 use Rattle.std.specs.List.{AllByRecursion}
 use Rattle.std.proofs.lemmas.List.{append-nil, length-map}
 use Rattle.std.proofs.lemmas.List.Prefix.{front_fits}
@@ -21,7 +21,7 @@ use Rattle.ocfl_inventory.specs.declared.declaration.Version.TheVariants.{V1_0, 
 use Rattle.ocfl_digest.specs.declared.bounded.Bounded.{Bounded}
 use Rattle.ocfl_audit.specs.Zone.{skipped, hierarchy, inside, zone, root_declared, object_declared, is_in_extensions, is_listed_zone}
 use Rattle.ocfl_audit.specs.Head.{root_notes_by}
-use Rattle.ocfl_item.specs.HeadFiles.{FilesStop, ReadsFile, ReadsFiles, files_there}
+use Rattle.ocfl_item.specs.HeadFiles.{FilesStop, IsFileAt, ReadsFile, ReadsFiles, files_there}
 use Rattle.ocfl_audit.specs.Lines.{named_at, named_in, notes}
 use Rattle.ocfl_item.specs.Looking.{IsFront, failures_by}
 use Rattle.ocfl_item.specs.Pending.{HasLines, IsPending, IsUnhashed}
@@ -212,6 +212,9 @@ module _ (root : StorageRoot) where
   -- it is read at the place that was listed
   pub declaration_read : (t u : Store) (e : Place) (es : List Entry) (m : MadeDeclared) (v : Version) (limit : ℕ) (n : Text) (r : Result (Option Bounded) Fault) → IsBase root e es m → n ≡ declaration_name Root v → (IsListing root e es → is_meta root (e ++ n ∷ []) ≡ true → ReadsFile root t u e n limit r) → ReadsFile root t u e (declaration_name Root v) limit r
   declaration_read t u e es m v limit n r h same told = subst (λ x. ReadsFile root t u e x limit r) same (told h.listing (declaration_at_root root e n v h.top same))
+
+  pub read_at_top : (s t : Store) (d : Place) (n : Text) (f : Option Bounded) → d ≡ [] → ReadsFile root s t d n 4096 (Ok f) → IsFileAt root (n ∷ []) 4096 f
+  read_at_top s t d n f top read = subst (λ x. IsFileAt root (x ++ n ∷ []) 4096 f) top read.gives.1
 
   module _ (s t u : Store) (p e : Place) (es : List Entry) (top : p ≡ []) (over : s.tree ≡ root) (there : Enters root s t p e es) (v : Version) where
     abbrev name : Text

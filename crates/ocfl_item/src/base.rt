@@ -57,9 +57,8 @@ fn known_item<T: Tree>(
         (declaration_name_of level.Root version ∷ []) result }
 {
     let name = declaration_name(Level::Root, version);
-    let file = read_file(alloc, store, folder, name, SIDE_LIMIT)?;
-    let mut lines = PlaceLines::new(alloc, folder.place.try_clone()?);
-    lines.add_plain(known_code(version, &file))?;
+    let code = known_code(version, &read_file(alloc, store, folder, name, SIDE_LIMIT)?);
+    let lines = PlaceLines::plain(alloc, folder.place.try_clone()?, code)?;
     Ok(Pending::of_lines(lines))
 }
 

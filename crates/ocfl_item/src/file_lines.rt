@@ -53,8 +53,13 @@ fn add_unless_found(
     if is_text(&named.digest, &found) {
         return Ok(());
     }
-    let detail = format!(in alloc; "{} {} {}", named.algorithm.name(), named.digest, found)?;
-    lines.add(code_of(named), detail)
+    lines.add_mismatch(
+        alloc,
+        code_of(named),
+        named.algorithm,
+        &named.digest,
+        &found,
+    )
 }
 
 /// Appends the line of a named digest, unless it is the file's.

@@ -31,7 +31,7 @@ use ocfl_tree::is_bytes;
 use std::alloc::{AllocError, Global};
 
 /// What was read of the sidecars of an inventory, where they are there.
-#[derive(Debug, Drop)]
+#[derive(Drop)]
 pub(crate) struct Sidecars {
     /// That of `sha256`.
     pub(crate) short: Option<Bounded>,
@@ -76,8 +76,7 @@ fn add_unless_found(
     }
     let wanted = hex::encode(alloc, wanted)?;
     let found = hex::encode(alloc, found)?;
-    let detail = format!(in alloc; "{} {} {}", algorithm.name(), wanted, found)?;
-    lines.add(Code::E060, detail)
+    lines.add_mismatch(alloc, Code::E060, algorithm, &wanted, &found)
 }
 
 /// Appends the line of a sidecar whose digest is not that of the inventory.

@@ -1,16 +1,18 @@
-ghost use Rattle.std.specs.Prelude.{◌≡◌, ◌∷◌, [], OnOk, string_bytes};
+ghost use Rattle.std.specs.Prelude.{◌≡◌, ◌∷◌, [], IfOk, OnOk, string_bytes};
 ghost use Rattle.ocfl_report.specs.Line.{note, plain};
 ghost use Rattle.ocfl_inventory.specs.TripleView.{named_view};
+ghost use Rattle.ocfl_audit.specs.Head.{mismatch};
 ghost use Rattle.ocfl_audit.specs.Lines.{block_code};
 ghost use Rattle.ocfl_item.specs.Pending.{Adds, HasLines};
 
+use ocfl_digest::Algorithm;
 use ocfl_inventory::Named;
 use ocfl_report::{Code, Line};
 use ocfl_tree::Place;
 use std::alloc::{AllocError, Global};
 
 /// The lines of a place, as they are gathered.
-#[derive(Debug, Drop)]
+#[derive(Drop)]
 pub(crate) struct PlaceLines {
     pub(crate) place: Place,
     pub(crate) lines: Vec<Line>,
@@ -26,6 +28,16 @@ impl PlaceLines {
             place,
             lines: Vec::new(alloc),
         }
+    }
+
+    /// A place that has one line, whose detail is a dash.
+    pub(crate) fn plain(alloc: Global, place: Place, code: Code) -> Result<PlaceLines, AllocError>
+        ensures place { IfOk result (λ lines. lines.place ≡ place) }
+        ensures lines { IfOk result (λ lines. HasLines lines (plain code ∷ [])) }
+    {
+        let mut lines = PlaceLines::new(alloc, place);
+        lines.add_plain(code)?;
+        Ok(lines)
     }
 
     /// Appends a line.
@@ -46,6 +58,22 @@ impl PlaceLines {
         ensures { OnOk result (Adds self.old self.new (plain code ∷ [])) }
     {
         let detail = String::from_str(*self.lines.allocator(), "-")?;
+        self.add(code, detail)
+    }
+
+    /// Appends the line of a digest that is not the one that was found.
+    pub(crate) fn add_mismatch(
+        &mut self,
+        alloc: Global,
+        code: Code,
+        algorithm: Algorithm,
+        wanted: &str,
+        found: &str,
+    ) -> Result<(), AllocError>
+        ensures { OnOk result (Adds self.old self.new
+            (mismatch code algorithm wanted.now found.now ∷ [])) }
+    {
+        let detail = format!(in alloc; "{} {} {}", algorithm.name(), wanted, found)?;
         self.add(code, detail)
     }
 }

@@ -1,13 +1,17 @@
 //! An object's own files: its declaration, its inventory and the sidecars. They are read for its
 //! head with its table, or for the table alone; a file of the storage root is read in the same way.
 ghost use Rattle.std.specs.Prelude.{◌≡◌, ◌∷◌, ◌++◌, [], true, false, IsTrue, IfErr, IfOk, IfSome};
-ghost use Rattle.std.specs.Prelude.{MatchOption, MatchResult, OnOk};
+ghost use Rattle.std.specs.Prelude.{MatchOption, MatchResult, OnOk, not};
 ghost use Rattle.ocfl_tree.specs.StorageRoot.{StorageRoot, file_at};
 ghost use Rattle.ocfl_tree.specs.Listing.{IsListing, kind_in};
+ghost use Rattle.ocfl_report.specs.Line.{plain};
 ghost use Rattle.ocfl_digest.specs.declared.algorithm.Algorithm.TheVariants.{Sha256, Sha512};
-ghost use Rattle.ocfl_inventory.specs.Declaration.{known};
-ghost use Rattle.ocfl_inventory.specs.Table.{IsFit};
-ghost use Rattle.ocfl_audit.specs.Head.{inventory_file_notes, sidecar_name};
+ghost use Rattle.ocfl_inventory.specs.Declaration.{declaration_name as declaration_name_of, known};
+ghost use Rattle.ocfl_inventory.specs.Reading.{algorithm_of};
+ghost use Rattle.ocfl_inventory.specs.Table.{IsFit, table_of};
+ghost use Rattle.ocfl_inventory.specs.declared.declaration.Level.TheVariants as level;
+ghost use Rattle.ocfl_audit.specs.Head.{inventory_file_notes, inventory_part};
+ghost use Rattle.ocfl_audit.specs.Head.{is_exact_declaration, on, sidecar_name, sidecars_notes};
 ghost use Rattle.ocfl_audit.specs.Trail.{is_meta};
 ghost use Rattle.ocfl_audit.specs.Zone.{inside, inventory_name, object_declared, table_at, zone};
 ghost use Rattle.ocfl_item.specs.HeadFiles.{FilesStop, IsFileAt, OpensJust, ReadsFile, ReadsFiles};
@@ -107,6 +111,33 @@ fn read_sidecars<T: Tree>(alloc: Global, store: &mut T, folder: &Folder) -> Resu
     Ok(Sidecars { short, long })
 }
 
+/// Appends the lines of an inventory, of which these bytes were read, and of its sidecars.
+fn add_whole_inventory<T: Tree>(
+    alloc: Global,
+    store: &mut T,
+    folder: &Folder,
+    lines: &mut PlaceLines,
+    bytes: &[u8],
+) -> Result<Option<Table>, Fault>
+    ensures only { IfErr result (λ why. IsWayFault why) }
+    ensures fit { IfOk result (λ table. IfSome table (λ t. IsFit t)) }
+    ensures place { OnOk result (lines.new.place ≡ lines.old.place) }
+    ensures told { IsTrue T.told → (root : StorageRoot) → (T.state store.old).tree ≡ root
+        → IsListing root folder.now.place folder.now.entries.items
+        → zone root folder.now.place ≡ inside folder.now.place []
+        → MatchResult result
+        (λ table. ReadsFiles root (T.state store.old) (T.state store.new) folder.now.place
+        (sidecar_name Sha256 ∷ sidecar_name Sha512 ∷ [])
+        × (table ≡ table_of bytes.now)
+        × Adds lines.old lines.new (sidecars_notes root folder.now.place bytes.now
+        ++ inventory_part root folder.now.place bytes.now (algorithm_of bytes.now)))
+        (λ why. FilesStop root (T.state store.old) (T.state store.new) folder.now.place
+        (sidecar_name Sha256 ∷ sidecar_name Sha512 ∷ []) why) }
+{
+    let sidecars = read_sidecars(alloc, store, folder)?;
+    Ok(add_inventory(alloc, lines, bytes, &sidecars)?)
+}
+
 /// Appends the lines of an object's inventory and its sidecars.
 fn add_inventory_file<T: Tree>(
     alloc: Global,
@@ -140,11 +171,36 @@ fn add_inventory_file<T: Tree>(
             lines.add_plain(Code::S02)?;
             Ok(None)
         }
-        Some(Bounded::Whole(bytes)) => {
-            let sidecars = read_sidecars(alloc, store, folder)?;
-            Ok(add_inventory(alloc, lines, &bytes, &sidecars)?)
-        }
+        Some(Bounded::Whole(bytes)) => add_whole_inventory(alloc, store, folder, lines, &bytes),
     }
+}
+
+/// Appends the line of an object's declaration, where that is not exact.
+fn add_declaration_file<T: Tree>(
+    alloc: Global,
+    store: &mut T,
+    folder: &Folder,
+    lines: &mut PlaceLines,
+    version: Version,
+) -> Result<(), Fault>
+    ensures only { IfErr result (λ why. IsWayFault why) }
+    ensures place { OnOk result (lines.new.place ≡ lines.old.place) }
+    ensures told { IsTrue T.told → (root : StorageRoot) → (T.state store.old).tree ≡ root
+        → IsListing root folder.now.place folder.now.entries.items
+        → zone root folder.now.place ≡ inside folder.now.place []
+        → MatchResult result
+        (λ _. ReadsFiles root (T.state store.old) (T.state store.new) folder.now.place
+        (declaration_name_of level.Object version ∷ [])
+        × Adds lines.old lines.new
+        (on (not (is_exact_declaration root folder.now.place level.Object version))
+        (plain Code.E007)))
+        (λ why. FilesStop root (T.state store.old) (T.state store.new) folder.now.place
+        (declaration_name_of level.Object version ∷ []) why) }
+{
+    let name = declaration_name(Level::Object, version);
+    let declaration = read_file(alloc, store, folder, name, SIDE_LIMIT)?;
+    add_declaration(lines, version, &declaration)?;
+    Ok(())
 }
 
 /// The lines of an object of known version, and its table where they do not stop.
@@ -167,9 +223,7 @@ fn known_head<T: Tree>(
         (head_files root folder.now.place (known version)) result }
 {
     let mut lines = PlaceLines::new(alloc, folder.place.try_clone()?);
-    let name = declaration_name(Level::Object, version);
-    let declaration = read_file(alloc, store, folder, name, SIDE_LIMIT)?;
-    add_declaration(&mut lines, version, &declaration)?;
+    add_declaration_file(alloc, store, folder, &mut lines, version)?;
     let table = add_inventory_file(alloc, store, folder, &mut lines)?;
     add_clean(&mut lines)?;
     Ok((lines, table))
@@ -178,7 +232,6 @@ fn known_head<T: Tree>(
 /// The lines of an object as a whole, and its table where they do not stop (OCFL 1.1, 3 OCFL
 /// Object). The inventory is read and parsed once for both, and the sidecars are opened only where
 /// it is there within its limit.
-#[tactic(auto, using(crate::proofs::HeadReads::head_read_from, crate::proofs::HeadOpens::known_object, crate::proofs::HeadOpens::known_opens))]
 pub(crate) fn head_lines<T: Tree>(
     alloc: Global,
     store: &mut T,

@@ -76,8 +76,7 @@ fn visit_plain(alloc: Global, place: Place, code: Code) -> Result<Visit, Fault>
     ensures told { (root : StorageRoot) → IsPlainAt root place (plain code ∷ [])
         → seen_names root place ≡ [] → IfOk result (λ v. IsVisit root place v) }
 {
-    let mut lines = PlaceLines::new(alloc, place);
-    lines.add_plain(code)?;
+    let lines = PlaceLines::plain(alloc, place, code)?;
     Ok(Visit::of_item(Some(Pending::of_lines(lines))))
 }
 

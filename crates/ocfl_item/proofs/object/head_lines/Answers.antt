@@ -1,10 +1,27 @@
+use Rattle.std.proofs.Common.{◌∙◌, ap, sym}
 use Rattle.std.proofs.lemmas.Result.{err_from_is_err_and}
+use Rattle.ocfl_inventory.specs.Entries.{meaning}
 use Rattle.ocfl_inventory.specs.declared.declaration.Level.TheVariants.{Object}
 use Rattle.ocfl_item.proofs.HeadCalls.{stopped_head}
 use Rattle.ocfl_item.proofs.HeadLaws.{unknown_stops}
-use Rattle.ocfl_item.proofs.HeadOpens.{none_memory, stop_opens_none}
+use Rattle.ocfl_item.proofs.HeadOpens.{known_object, known_opens, none_memory, stop_opens_none}
 use Rattle.ocfl_item.proofs.HeadReads.{head_read_from}
 use Rattle.ocfl_item.proofs.object.head_lines.Goals as goal
+
+pub returns-in-One : goal.returns-in-One
+returns-in-One g c =
+    let made = c.known_head in
+    let v = c.in-One.version in
+    record {
+      only = made.ensures.only;
+      fit = made.ensures.fit;
+      place = made.ensures.place;
+      told = λ h root over here.
+          let object = known_object root _ _ _ v c.in-One.is here in
+          let opened = known_opens root _ _ _ v _ _ made.result c.in-One.is here (made.ensures.opened h root over object) in
+          head_read_from root _ _ _ made.result here.zone opened (made.ensures.told h root over object (sym here.says ∙ ap (meaning Object _) c.in-One.is));
+      opened = λ h root over here. known_opens root _ _ _ v _ _ made.result c.in-One.is here (made.ensures.opened h root over (known_object root _ _ _ v c.in-One.is here));
+    }
 
 pub returns-in_err-lines : goal.returns-in_err-lines
 returns-in_err-lines g c =

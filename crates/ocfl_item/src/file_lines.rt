@@ -1,16 +1,16 @@
-ghost use Rattle.std.specs.Prelude.{◌≡◌, ◌++◌, ◌∷◌, [], IfOk, OnOk, Some, length, map};
+ghost use Rattle.std.specs.Prelude.{◌≡◌, ◌++◌, ◌∷◌, [], IfOk, List, OnOk, Some, length, map};
 ghost use Rattle.hex.specs.Hex.{encode_lower};
 ghost use Rattle.ocfl_tree.specs.Place.{Text};
-ghost use Rattle.ocfl_report.specs.Line.{line_of, lines_at, plain};
+ghost use Rattle.ocfl_report.specs.Line.{Note, line_of, lines_at, plain};
 ghost use Rattle.ocfl_digest.specs.Digest.{digest_bytes_of};
 ghost use Rattle.ocfl_digest.specs.Digests.{digest_in};
 ghost use Rattle.ocfl_inventory.specs.TripleView.{named_view};
 ghost use Rattle.ocfl_audit.specs.Lines.{is_in_manifest as is_named_in_manifest, or_bytes};
 ghost use Rattle.ocfl_audit.specs.Lines.{unnamed_notes, wrong_notes};
 ghost use Rattle.ocfl_item.specs.FileLines.{HasDigests, wrong_by};
-ghost use Rattle.ocfl_item.specs.Pending.{Adds};
+ghost use Rattle.ocfl_item.specs.Pending.{Adds, HasLines};
 
-use crate::lines::{PlaceLines, code_of};
+use crate::lines::{PlaceLines, code_of, hex_of};
 use ocfl_digest::Digests;
 use ocfl_inventory::Named;
 use ocfl_report::{Code, Line};
@@ -49,7 +49,7 @@ fn add_unless_found(
     ensures { OnOk result (Adds lines.old lines.new
         (wrong_by (encode_lower found.now) (named_view named.now))) }
 {
-    let found = hex::encode(alloc, found)?;
+    let found = hex_of(alloc, found)?;
     if is_text(&named.digest, &found) {
         return Ok(());
     }
@@ -97,6 +97,19 @@ fn add_each_wrong(
     Ok(())
 }
 
+/// Appends the line of a clean file, of so many bytes, where there is no line.
+fn add_clean_file(alloc: Global, lines: &mut PlaceLines, count: u64) -> Result<(), AllocError>
+    ensures place { OnOk result (lines.new.place ≡ lines.old.place) }
+    ensures lines { (bytes : Text) (ns : List Note) → count ≡ length bytes → HasLines lines.old ns
+        → OnOk result (HasLines lines.new (or_bytes bytes ns)) }
+{
+    if !lines.lines.is_empty() {
+        return Ok(());
+    }
+    let detail = count.to_string(alloc)?;
+    lines.add(Code::Clean, detail)
+}
+
 /// The lines of a content file that was read to its end: its digests, and how many bytes it has.
 pub(crate) fn hashed_lines(
     alloc: Global,
@@ -115,10 +128,7 @@ pub(crate) fn hashed_lines(
     let mut lines = PlaceLines::new(alloc, place);
     add_unnamed(&mut lines, named)?;
     add_each_wrong(alloc, &mut lines, named, digests)?;
-    if lines.lines.is_empty() {
-        let detail = count.to_string(alloc)?;
-        lines.add(Code::Clean, detail)?;
-    }
+    add_clean_file(alloc, &mut lines, count)?;
     Ok(lines.lines)
 }
 

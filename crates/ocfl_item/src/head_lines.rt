@@ -23,7 +23,7 @@ ghost use Rattle.ocfl_item.specs.HeadLines.{AreSidecars, is_other_there, named_n
 ghost use Rattle.ocfl_item.specs.Pending.{Adds, HasLines};
 
 use crate::declarations::is_exact;
-use crate::lines::PlaceLines;
+use crate::lines::{PlaceLines, hex_of};
 use ocfl_digest::{Algorithm, Bounded, Wanted, hash_bytes};
 use ocfl_inventory::{Level, Remark, Sum, Table, Version, read_inventory, sidecar};
 use ocfl_report::Code;
@@ -74,8 +74,8 @@ fn add_unless_found(
     if is_bytes(wanted, found) {
         return Ok(());
     }
-    let wanted = hex::encode(alloc, wanted)?;
-    let found = hex::encode(alloc, found)?;
+    let wanted = hex_of(alloc, wanted)?;
+    let found = hex_of(alloc, found)?;
     lines.add_mismatch(alloc, Code::E060, algorithm, &wanted, &found)
 }
 

@@ -110,6 +110,26 @@ fn add_clean_file(alloc: Global, lines: &mut PlaceLines, count: u64) -> Result<(
     lines.add(Code::Clean, detail)
 }
 
+/// Appends the lines of a content file that was read to its end, where there is none before.
+fn add_hashed(
+    alloc: Global,
+    lines: &mut PlaceLines,
+    named: &[Named],
+    digests: &Digests,
+    count: u64,
+) -> Result<(), AllocError>
+    ensures { (bytes : Text) → HasDigests (map (λ n. n.algorithm) named.now) bytes digests.now
+        → count ≡ length bytes → HasLines lines.old []
+        → OnOk result ((lines.new.place ≡ lines.old.place)
+        × HasLines lines.new (or_bytes bytes
+        (unnamed_notes (map named_view named.now)
+        ++ wrong_notes bytes (map named_view named.now)))) }
+{
+    add_unnamed(lines, named)?;
+    add_each_wrong(alloc, lines, named, digests)?;
+    add_clean_file(alloc, lines, count)
+}
+
 /// The lines of a content file that was read to its end: its digests, and how many bytes it has.
 pub(crate) fn hashed_lines(
     alloc: Global,
@@ -126,9 +146,7 @@ pub(crate) fn hashed_lines(
         ++ wrong_notes bytes (map named_view named.now)))) }
 {
     let mut lines = PlaceLines::new(alloc, place);
-    add_unnamed(&mut lines, named)?;
-    add_each_wrong(alloc, &mut lines, named, digests)?;
-    add_clean_file(alloc, &mut lines, count)?;
+    add_hashed(alloc, &mut lines, named, digests, count)?;
     Ok(lines.lines)
 }
 

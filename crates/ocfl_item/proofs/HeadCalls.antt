@@ -36,7 +36,7 @@ use Rattle.ocfl_item.specs.declared.lines.PlaceLines.{PlaceLines}
 use Rattle.ocfl_item.proofs.HeadTrails.{inventory_alone, inventory_opened}
 use Rattle.ocfl_audit.proofs.PathLaws.{notes_at}
 use Rattle.ocfl_item.proofs.LinesLaws.{adds_both, has_more}
-use Rattle.ocfl_item.proofs.FileLaws.{files_then, some_then, some_of, some_more, stop_more, stop_then, memory_after, some_is_meta, stop_is_meta}
+use Rattle.ocfl_item.proofs.FileLaws.{files_then, some_of, some_more, stop_more, stop_then, memory_after, some_is_meta, stop_is_meta}
 
 -- ---- the table
 
@@ -111,12 +111,6 @@ module _ (root : StorageRoot) (o : Place) where
 
   pub first_memory : (s t : Store) (n : Text) (ns : List Text) (limit : ℕ) (f : Option Bounded) → ReadsFile root s t o n limit (Ok f) → FilesStop root s t o (n ∷ ns) fault.Memory
   first_memory s t n ns limit f h = memory_after root o s t (n ∷ ns) (first_some s t n ns limit f h)
-
-  pub all_some : (s t u : Store) (n : Text) (ns : List Text) (limit : ℕ) (f : Option Bounded) → ReadsFile root s t o n limit (Ok f) → ReadsFiles root t u o ns → ReadsSome root s u o (n ∷ ns)
-  all_some s t u n ns limit f h k = some_then root o s t u (n ∷ []) ns h.gives.0 (some_of root o t u ns k)
-
-  pub all_memory : (s t u : Store) (n : Text) (ns : List Text) (limit : ℕ) (f : Option Bounded) → ReadsFile root s t o n limit (Ok f) → ReadsFiles root t u o ns → FilesStop root s u o (n ∷ ns) fault.Memory
-  all_memory s t u n ns limit f h k = memory_after root o s u (n ∷ ns) (all_some s t u n ns limit f h k)
 
   -- ---- the table of an inventory
 

@@ -15,6 +15,7 @@ pub mod FoldedTexts
 pub mod Kept
 pub mod TableSearch
 pub mod Gatherings
+pub mod Loops
 pub mod Members
 pub mod TripleOrders
 pub mod Inventories

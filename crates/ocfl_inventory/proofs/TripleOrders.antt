@@ -1,10 +1,11 @@
 -- The order of triples tells them apart.
-use Rattle.std.proofs.Common.{◌≡◌, refl, true, false}
+use Rattle.std.proofs.Common.{◌≡◌, Some, refl, sym, ap, ◌∙◌, true, false}
 use Rattle.std.specs.Ordering.{bool_cmp, is_eq, ordering_then}
 use Rattle.std.specs.FinMap.{IsAntisymmetric}
 use Rattle.std.specs.declared.cmp.Ordering.{Ordering}
 use Rattle.std.specs.declared.cmp.Ordering.TheVariants.{Less, Equal, Greater}
-use Rattle.ocfl_digest.specs.Algorithm.{algorithm_cmp}
+use Rattle.ocfl_digest.specs.Algorithm.{algorithm_cmp, algorithm_name, algorithm_named}
+use Rattle.ocfl_digest.specs.declared.algorithm.Algorithm.{Algorithm}
 use Rattle.ocfl_digest.specs.declared.algorithm.Algorithm.TheVariants.{Md5, Sha1, Sha256, Sha512, Sha512_256}
 use Rattle.ocfl_tree.specs.Place.{place_cmp, text_cmp}
 use Rattle.ocfl_tree.proofs.Orders.{place_cmp_exact}
@@ -28,17 +29,18 @@ bool_exact false false e = refl
 bool_exact true false e = cc
 bool_exact false true e = cc
 
+named_known : (a : Algorithm) → algorithm_named (algorithm_name a) ≡ Some a
+named_known Md5 = refl
+named_known Sha1 = refl
+named_known Sha256 = refl
+named_known Sha512 = refl
+named_known Sha512_256 = refl
+
 algorithm_exact : IsAntisymmetric algorithm_cmp
-algorithm_exact Md5 Md5 e = refl
-algorithm_exact Sha1 Sha1 e = refl
-algorithm_exact Sha256 Sha256 e = refl
-algorithm_exact Sha512 Sha512 e = refl
-algorithm_exact Sha512_256 Sha512_256 e = refl
-algorithm_exact Md5 b e = cc
-algorithm_exact Sha1 b e = cc
-algorithm_exact Sha256 b e = cc
-algorithm_exact Sha512 b e = cc
-algorithm_exact Sha512_256 b e = cc
+algorithm_exact a b e =
+    let names : algorithm_name a ≡ algorithm_name b = text_exact (algorithm_name a) (algorithm_name b) e in
+    let same : Some a ≡ Some b = sym (named_known a) ∙ ap algorithm_named names ∙ named_known b in
+    cc
 
 named_exact : IsAntisymmetric named_cmp
 named_exact a b e =

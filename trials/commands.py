@@ -119,6 +119,47 @@ def inside_the_root(folder, root):
     is_so("the root is as it was", common.snapshot(root), before)
 
 
+def beside_the_root(folder, root):
+    """A cursor's file by its bare name, and one in a folder whose name begins as the root's does."""
+    before = common.snapshot(root)
+    run = ["run", "--cursor", "bare", "--budget", "1K"]
+    status, out, said = ran(run + ["."], cwd=root)
+    is_so("a bare name within the root", (status, out, said != ""), (2, "", True))
+    status, out, said = ran(run + ["../.."], cwd=os.path.join(root, "o/v1"))
+    is_so("a bare name within an object", (status, out, said != ""), (2, "", True))
+    is_so("a bare name: the root is as it was", common.snapshot(root), before)
+    got = ran(run + [root], cwd=folder)
+    is_so("a bare name elsewhere", got[:2], (0, "".join(ITEMS)))
+    is_so("a bare name elsewhere: it lies there", "bare" in os.listdir(folder), True)
+    for name in ["-state", "s", " "]:
+        state = root + name
+        os.mkdir(state)
+        got = ran(["run", "--budget", "1K", root, "--cursor", os.path.join(state, "cursor")])
+        is_so("folder named as the root and %r" % name, got[:2], (0, "".join(ITEMS)))
+        is_so("folder named as the root and %r: stored" % name, os.listdir(state), ["cursor"])
+
+
+def other_roots(folder):
+    """The folder `/` as the root, and names that end in white space."""
+    file = os.path.join(folder, "cursor-of-all")
+    # no declaration of a storage root lies there
+    for words in [["audit", "/"], ["audit", "//"], ["check", "/", "."]]:
+        expect("the root /: %s" % words, words, 1, [line("E069", ".")], None)
+    status, out, said = ran(["run", "--cursor", file, "--budget", "1", "/"])
+    is_so("the root / holds each cursor's file", (status, out, said != ""), (2, "", True))
+    is_so("the root /: nothing is written", os.path.exists(file), False)
+    for blank in [" ", "\t", "\n", "\u00a0"]:
+        root = common.make_root(os.path.join(folder, "blank" + blank), {"o": FILES})
+        expect("a root that ends in %r" % blank, ["audit", root], 0, ITEMS, None)
+        expect("a check below %r" % blank, ["check", root, "o"], 0, ITEMS[1:2], None)
+        named = os.path.join(folder, "file" + blank)
+        got = ran(["run", "--cursor", named, "--budget", "1K", root])
+        is_so("a file that ends in %r" % blank, got[:2], (0, "".join(ITEMS)))
+        is_so("a file that ends in %r: it is there" % blank, os.path.exists(named), True)
+    without = [os.path.join(folder, name) for name in ["blank", "file"]]
+    is_so("no name without its end is there", [it for it in without if os.path.exists(it)], [])
+
+
 def usages(root):
     run = ["run", "--cursor", "c", "--budget"]
     cycle = ["cycle", "--budget", "1"]
@@ -177,7 +218,7 @@ def samples(folder):
         line("ok", "letters"),
         line("E092", "letters/v1/content/damaged.txt", " ".join(["sha512", *digests])),
         line("ok", "letters/v1/content/good.txt", 13),
-        line("ok", "letters/v1/content/later.txt", 18),
+        line("ok", "letters/v2/content/later.txt", 18),
     ]
     expect("the sample", ["audit", os.path.join(folder, "make")], 1, lines, None)
     joined = read(os.path.join(folder, "nights", "report")).decode()
@@ -186,7 +227,7 @@ def samples(folder):
 
 def tell(folder):
     root = common.make_root(os.path.join(folder, "root"), {"o": FILES})
-    for name in ["runs", "files", "samples"]:
+    for name in ["runs", "files", "beside", "others", "samples"]:
         os.mkdir(os.path.join(folder, name))
     before = common.snapshot(root)
     runs(os.path.join(folder, "runs"), root)
@@ -195,6 +236,8 @@ def tell(folder):
     cycles(root)
     cursor_files(os.path.join(folder, "files"), root)
     inside_the_root(folder, root)
+    beside_the_root(os.path.join(folder, "beside"), root)
+    other_roots(os.path.join(folder, "others"))
     usages(root)
     helps()
     is_so("nothing was written below the root", common.snapshot(root), before)

@@ -48,15 +48,18 @@ def shown(value):
 
 
 def trial(tell):
-    """Calls `tell` with a new folder, and ends with the count as last line."""
+    """Calls `tell` with a new folder, and ends with the names of the checks that failed and, as last
+    line, the count."""
     folder = tempfile.mkdtemp(prefix="ocfl-scrub-trial-")
     try:
         tell(folder)
-    except Exception:
+    except Exception as error:
         traceback.print_exc(file=sys.stdout)
-        failed.append("an exception")
+        failed.append("an exception: %r" % error)
     finally:
         shutil.rmtree(folder, ignore_errors=True)
+    for name in failed:
+        print("failed: %s: %s" % (os.path.basename(sys.argv[0]), " ".join(name.split())))
     print("%d passed, %d failed" % (passed, len(failed)))
     sys.exit(1 if failed else 0)
 

@@ -8,6 +8,7 @@ S08, never `ok`, and at an object's own files the program stops. Where the file 
 a link to it left in its place, what is opened is what was looked at, and it is read.
 """
 import os
+import subprocess
 
 import common
 from common import is_so, line, make_root, note, traced, write
@@ -89,6 +90,40 @@ CONTENT = ["o/v1/content/e", "o/v1/content/f", "o/v1/content/g"]
 # each with how many lines stand before its object's
 METADATA = [("0=ocfl_1.1", 0), ("o/0=ocfl_object_1.1", 1), ("o/inventory.json", 1),
             ("o/inventory.json.sha256", 1)]
+PLACES = [*CONTENT, *(place for place, _ in METADATA)]
+
+
+class Devices:
+    """Two devices that number their files from the first one on; none where none can be mounted."""
+
+    def __init__(self, folder):
+        self.folders = [os.path.join(folder, name) for name in ["device", "other-device"]]
+        self.mounted = []
+        for each in self.folders:
+            os.mkdir(each)
+            mount = ["mount", "-t", "tmpfs", "-o", "size=4m", "tmpfs", each]
+            if os.geteuid() == 0 and subprocess.run(mount, capture_output=True).returncode == 0:
+                self.mounted.append(each)
+
+    def __enter__(self):
+        return self
+
+    def __exit__(self, *_):
+        for each in self.mounted:
+            subprocess.run(["umount", each], check=True)
+
+    def for_a_link_to_another_device(self, path, _):
+        """The bytes of the file, in a file of the same number on the other device."""
+        look = os.stat(path)
+        for count in range(10_000):
+            other = write(os.path.join(self.folders[1], str(count)), common.read(path))
+            if os.stat(other).st_ino == look.st_ino:
+                break
+        found = os.stat(other)
+        is_so("%s: the number of the other file" % path, found.st_ino, look.st_ino)
+        is_so("%s: its device is another" % path, found.st_dev != look.st_dev, True)
+        os.rename(path, path + "-moved")
+        os.symlink(other, path)
 
 
 def exchanged(folder, place, exchange):
@@ -102,33 +137,45 @@ def exchanged(folder, place, exchange):
     return stopped.ended
 
 
-def content(folder):
-    for place in CONTENT:
+def each_exchange(folder):
+    for place in PLACES:
+        for exchange in EXCHANGES:
+            name = "%s exchanged %s" % (place, exchange.__name__.replace("_", " "))
+            is_so(name, exchanged(folder, place, exchange), after(place))
+
+
+def other_devices(folder):
+    """A file of the same number and the same bytes on another device is another file."""
+    with Devices(folder) as devices:
+        if len(devices.mounted) < 2:
+            print("exchanges.py: no device can be mounted here, so files of two are not told apart")
+            return
+        for number in range(200):
+            write(os.path.join(devices.folders[0], "numbers", str(number)), b"")
+        for place in PLACES:
+            got = exchanged(devices.folders[0], place, devices.for_a_link_to_another_device)
+            is_so("%s exchanged for a link to another device" % place, got, after(place))
+
+
+def after(place):
+    """What comes where the file that is opened is not the one that was looked at."""
+    if place in CONTENT:
         items = [line("S08", place) if "\t%s\t" % place in item else item for item in ITEMS]
-        for exchange in EXCHANGES:
-            name = "%s exchanged %s" % (place, exchange.__name__.replace("_", " "))
-            is_so(name, exchanged(folder, place, exchange), (1, "".join(items), ""))
-
-
-def metadata(folder):
-    for place, count in METADATA:
-        stop = (3, "".join(ITEMS[:count]), note("stopped at " + place))
-        for exchange in EXCHANGES:
-            name = "%s exchanged %s" % (place, exchange.__name__.replace("_", " "))
-            is_so(name, exchanged(folder, place, exchange), stop)
+        return 1, "".join(items), ""
+    return 3, "".join(ITEMS[:dict(METADATA)[place]]), note("stopped at " + place)
 
 
 def moved(folder):
     """The file itself is read, over a link: its device and number are those of the look."""
-    for place in CONTENT + [place for place, _ in METADATA]:
+    for place in PLACES:
         got = exchanged(folder, place, for_a_link_to_itself_moved)
         is_so("%s moved behind a link" % place, got, (0, "".join(ITEMS), ""))
 
 
 def tell(folder):
     moved(folder)
-    content(folder)
-    metadata(folder)
+    each_exchange(folder)
+    other_devices(folder)
 
 
 common.trial(tell)

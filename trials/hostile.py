@@ -265,6 +265,22 @@ def many(folder):
     audits("300 objects", root, common.sound(folders))
 
 
+def wide(folder):
+    """A directory of 70,000 entries, which are two files under many names."""
+    root = make_root(os.path.join(folder, "wide"), {})
+    os.mkdir(os.path.join(root, "d"))
+    names = ["%05d" % number for number in range(70_000)]
+    here = os.open(os.path.join(root, "d"), os.O_RDONLY)
+    for number, name in enumerate(names):
+        first = names[number - number % 35_000]
+        if name == first:
+            write(os.path.join(root, "d", name), b"")
+        else:
+            os.link(first, name, src_dir_fd=here, dst_dir_fd=here)
+    os.close(here)
+    audits("70,000 entries", root, OK[:1] + [line("E072", "d/" + name) for name in names])
+
+
 def changing(folder):
     """A file that grows or shrinks behind its first block: its digest is that of what was read."""
     data = os.urandom(200_000)
@@ -311,6 +327,7 @@ def tell(folder):
     long_paths(folder)
     deep(folder)
     many(folder)
+    wide(folder)
     changing(folder)
     going(folder)
 

@@ -86,7 +86,7 @@ def builds_once(copy):
     status, out, said, builds = copy.called(["one", "two words"])
     is_so("it builds, and hands on words and status", (status, out, builds),
           (7, "one two words\n", 3))
-    is_so("it says so", ["minutes" in said, copy.logs in said], [True, True])
+    is_so("it says so", ["half an hour" in said, copy.logs in said], [True, True])
     is_so("it leaves no log behind it", os.listdir(copy.logs), [])
     is_so("it builds once", copy.called(["again"]), (7, "again\n", "", 3))
 
@@ -120,7 +120,7 @@ def builds_anew(copy):
     for path in [copy.source, os.path.join(copy.top, "crates.txt"), stamp]:
         age(path)
     is_so("an older source", copy.called(["x"]), (7, "x\n", "", 3))
-    write(os.path.join(copy.crate, "must-fail/an.edit"), b"")
+    write(os.path.join(copy.crate, "edits/an.edit"), b"")
     is_so("edits are no sources", copy.called(["x"]), (7, "x\n", "", 3))
     write(copy.source, b"changed")
     is_so("a newer source", copy.called(["x"])[:2] + (copy.builds(),), (7, "x\n", 4))

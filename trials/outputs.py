@@ -7,6 +7,7 @@ After each failure whole items were written, the cursor's file is whole, and goi
 is left of the audit.
 """
 import os
+import re
 import resource
 import signal
 import subprocess
@@ -217,6 +218,22 @@ def failing_file(folder):
         is_so(name + ": nothing beside it", os.listdir(case.folder), ["cursor"])
 
 
+def synced_file(folder):
+    """The text is synced before it is put in place, and its folder behind that."""
+    case = Case(folder, "synced")
+    log = os.path.join(folder, "synced-log")
+    calls = "trace=fsync,fdatasync,rename,renameat,renameat2"
+    for number, words in [(1, case.run), (2, case.run), (3, ["run", "--cursor", "cursor"])]:
+        how = {"cwd": case.folder} if number == 3 else {}
+        got = traced(["-y", "-e", calls], words[:3] + case.run[3:], log, **how)
+        is_so("run %d that is synced" % number, got[0], 0)
+        made = [re.match(r"([a-z]+)", it)[1] for it in read(log).decode().splitlines()]
+        of = re.findall(r"^f[a-z]*sync\(\d+<(.*?)>\)", read(log).decode(), re.MULTILINE)
+        kinds = ["sync" if it.endswith("sync") else it[:6] for it in made]
+        is_so("run %d: synced, renamed, synced" % number, kinds, ["sync", "rename", "sync"])
+        is_so("run %d: the text, and its folder" % number, of, [case.file + ".new", case.folder])
+
+
 def unread_file(folder):
     """The cursor's file is there and cannot be read: no call of the store is made."""
     for call, error in [("openat", "EACCES"), ("openat", "EIO"), ("read", "EIO")]:
@@ -262,6 +279,7 @@ def tell(folder):
     full_file(folder)
     limited_file(folder)
     failing_file(folder)
+    synced_file(folder)
     unread_file(folder)
     vanishing_file(folder)
     is_so("nothing was written below the root", common.snapshot(root), before)

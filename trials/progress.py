@@ -20,7 +20,9 @@ FILES = {"v1/content/a": b"abc", "v1/content/z": b""}
 OBJECT = "n" * 70 + "\to"
 LARGE_PLACE = "n" * 70 + "%09o/v1/content/large"
 SHOWN = LARGE_PLACE[-40:]
-SUMMARY = "cycle 1, run 1, cost %d, ended" % (LARGE + 1 + 4 + 1)
+COST = LARGE + 1 + 4 + 1
+SUMMARY = "cycle 1, run 1, cost %d, ended" % COST
+CYCLE = "runs 1, cost %d, ended" % COST
 
 
 def make(folder):
@@ -77,7 +79,7 @@ def on_standard_error(folder, root, report):
     run = ["run", "--cursor", cursor, "--budget", "1G", root]
     cycle = ["cycle", "--budget", "1G", "--runs", "9", root]
     for words, said in [(["audit", root], ""), (run, note(SUMMARY)),
-                        (cycle, note("runs 1, cost %d, ended" % (LARGE + 6)))]:
+                        (cycle, note(CYCLE))]:
         terminal = Terminal()
         status, out, _ = terminal.ran(words, stderr=True)
         is_so(words[0] + ": the report", (status, out), (0, report))
@@ -90,9 +92,17 @@ def on_standard_error(folder, root, report):
 
 
 def quietly(folder, root, report):
-    terminal = Terminal()
-    is_so("quiet: the report", terminal.ran(["audit", "--quiet", root], stderr=True)[:2], (0, report))
-    is_so("quiet: nothing is shown", terminal.sent, b"")
+    cursor = os.path.join(folder, "quiet")
+    for words, said in [
+        (["audit", root], ""),
+        (["run", "--cursor", cursor, "--budget", "1G", root], note(SUMMARY)),
+        (["cycle", "--budget", "1G", "--runs", "9", root], note(CYCLE)),
+    ]:
+        terminal = Terminal()
+        got = terminal.ran([words[0], "--quiet", *words[1:]], stderr=True)[:2]
+        is_so("quiet %s: the report" % words[0], got, (0, report))
+        shown = terminal.sent.decode().replace("\r\n", "\n")
+        is_so("quiet %s: no more is shown than is said" % words[0], shown, said)
     terminal = Terminal()
     checked = common.line("ok", LARGE_PLACE, LARGE)
     status, out, _ = terminal.ran(["check", root, LARGE_PLACE], stderr=True)

@@ -5,12 +5,14 @@ usage: refusals.py
 
 The calls that take memory are those of the C library: `refusals.c` stands before it.
 """
+import json
 import os
 import shutil
 import subprocess
 
 import common
-from common import PROGRAM, is_so, make_object, make_root, note, shown_cursor, sound, write
+from common import (PROGRAM, digest, is_so, make_object, make_root, note, put_inventory,
+                    shown_cursor, sound, write)
 
 OUT_OF_MEMORY = note("out of memory")
 SHIM = os.path.join(os.path.dirname(os.path.abspath(__file__)), "refusals.c")
@@ -29,19 +31,27 @@ class Refusing:
 
     def __init__(self, folder):
         self.flag = os.path.join(folder, "refused")
+        self.noted = os.path.join(folder, "span")
         self.library = compiled(folder)
 
     def ran(self, words, call):
         """Status, output and note of a run whose call of that number is refused, and whether it
         came to that call."""
-        environment = {**os.environ, "LD_PRELOAD": self.library, "REFUSED_FILE": self.flag}
-        environment["REFUSED_CALL"] = str(call)
+        environment = {**os.environ, "LD_PRELOAD": self.library, "REFUSED_FILE": self.flag,
+                       "REFUSED_CALL": str(call), "SPAN_FILE": self.noted}
         done = subprocess.run([PROGRAM, *words], stdin=subprocess.DEVNULL, capture_output=True,
                               timeout=60, env=environment)
         refused = os.path.exists(self.flag)
         if refused:
             os.remove(self.flag)
         return (done.returncode, done.stdout.decode(), done.stderr.decode()), refused
+
+    def span(self, words):
+        """The calls from the first read of a folder to the last line of the report, in a run of
+        which none is refused."""
+        self.ran(words, 0)
+        first, last = map(int, common.read(self.noted).split())
+        return range(first + 1, last + 1) if first >= 0 else range(0)
 
     def each(self, words, before=lambda: None):
         """What comes of each refusal; `before` is called before each run."""
@@ -58,24 +68,32 @@ def beginnings(items):
     return {"".join(items[:count]) for count in range(len(items) + 1)}
 
 
-def commands_without_a_cursor(refusing, name, root, items, finding):
-    """An audit and a cycle write whole items and stop, or do not need what was refused."""
-    whole = [(finding, "".join(items), ""), (finding, "".join(items), "")]
-    cost = common.ran(["cycle", "--budget", "1T", "--runs", "2", root])[2]
-    whole[1] = (finding, "".join(items), cost)
-    for words, right in [(["audit", root], whole[0]),
-                         (["cycle", "--budget", "1T", "--runs", "2", root], whole[1])]:
+def commands_without_a_cursor(refusing, name, root, items):
+    """An audit, a cycle and a check of each place write whole items and stop, or do not need what
+    was refused."""
+    cycle = ["cycle", "--budget", "1T", "--runs", "2", root]
+    cost = common.ran(cycle)[2]
+    tried = [("audit", ["audit", root], items, "", 100), ("cycle", cycle, items, cost, 100)]
+    for item in items:
+        place = item.split("\t")[1]
+        tried.append(("check of " + place, ["check", root, place], [item], "", 30))
+    for what, words, written, summary, least in tried:
+        found = int(any(not item.startswith("ok") for item in written))
         odd, calls = [], 0
         for calls, (status, out, said) in refusing.each(words):
-            stops = status == 3 and said == OUT_OF_MEMORY and out in beginnings(items)
-            if not stops and (status, out, said) != right:
+            stops = status == 3 and said == OUT_OF_MEMORY and out in beginnings(written)
+            if not stops and (status, out, said) != (found, "".join(written), summary):
                 odd.append((calls, status, out, said))
-        is_so("%s, %s: each of %d refusals" % (name, words[0], calls), odd, [])
-        is_so("%s, %s: there are refusals" % (name, words[0]), calls > 100, True)
+        is_so("%s, %s: each of %d refusals" % (name, what, calls), odd, [])
+        is_so("%s, %s: there are refusals" % (name, what), calls > least, True)
 
 
-def runs_with_a_cursor(refusing, folder, name, root, items, finding):
-    """After each refusal the cursor file is whole, and the next run goes on where it stands."""
+def runs_with_a_cursor(refusing, folder, name, root):
+    """After each refusal the cursor file is whole, and the next run goes on where it stands.
+
+    Where the run itself wanted what was refused, there is memory for the text of its cursor, and
+    the file is that of one run more.
+    """
     file = os.path.join(folder, "cursor")
     words = ["run", "--cursor", file, "--budget", "4", root]
 
@@ -88,7 +106,9 @@ def runs_with_a_cursor(refusing, folder, name, root, items, finding):
     begin()
     first = common.read(file)
     went = common.ran(["run", "--cursor", file, "--budget", "1T", root])[1]
-    odd, calls = [], 0
+    begin()
+    inside = refusing.span(words)
+    odd, stays, calls = [], [], 0
     for calls, (status, out, said) in refusing.each(words, begin):
         kept = common.read(file) == first
         has_ended = not kept and shown_cursor(file).endswith("\nended\n")
@@ -99,7 +119,11 @@ def runs_with_a_cursor(refusing, folder, name, root, items, finding):
         is_told = status in (0, 1) or status == 3 and said == OUT_OF_MEMORY
         if joined != went or not is_told or os.path.exists(file + ".new"):
             odd.append((calls, status, out, said, rest))
+        if kept and calls in inside:
+            stays.append((calls, status, out, said))
     is_so("%s, run: each of %d refusals" % (name, calls), odd, [])
+    is_so("%s, run: the file moves at %d refusals in the run" % (name, len(inside)), stays, [])
+    is_so("%s, run: there are refusals in the run" % name, 20 < len(inside) < calls, True)
 
 
 def refused_before_it_writes(refusing, folder, root):
@@ -144,16 +168,28 @@ def missing_and_there(root):
             "ok\to/v1/content/b\t3\n"]
 
 
+def under_four_algorithms(root):
+    """A file that the manifest names by one algorithm, and fixity by three others."""
+    make_root(root, {"o": {"v1/content/f": NOTHING}})
+    named = {name: {digest(NOTHING, name): ["v1/content/f"]} for name in ("md5", "sha1", "sha512")}
+    manifest = {digest(NOTHING): ["v1/content/f"]}
+    inventory = {"digestAlgorithm": "sha256", "manifest": manifest, "fixity": named}
+    put_inventory(os.path.join(root, "o"), json.dumps(inventory).encode())
+    return sound({"o": {"v1/content/f": NOTHING}})
+
+
 def main(folder):
     refusing = Refusing(folder)
+    tried = {}
     for name, objects in ROOTS.items():
-        root = make_root(os.path.join(folder, name), objects)
-        commands_without_a_cursor(refusing, name, root, sound(objects), 0)
-        runs_with_a_cursor(refusing, folder, name, root, sound(objects), 0)
-    root = os.path.join(folder, "missing")
-    items = missing_and_there(root)
-    commands_without_a_cursor(refusing, "a missing file", root, items, 1)
-    runs_with_a_cursor(refusing, folder, "a missing file", root, items, 1)
+        tried[name] = make_root(os.path.join(folder, name), objects), sound(objects)
+    for name, make in [("four algorithms", under_four_algorithms),
+                       ("a missing file", missing_and_there)]:
+        root = os.path.join(folder, name)
+        tried[name] = root, make(root)
+    for name, (root, items) in tried.items():
+        commands_without_a_cursor(refusing, name, root, items)
+        runs_with_a_cursor(refusing, folder, name, root)
     refused_before_it_writes(refusing, folder, root)
     shown(refusing, folder, root)
 

@@ -1,5 +1,5 @@
+#!/bin/sh
 # What the questions to reports share: each of them reads this file.
-# shellcheck shell=sh
 
 # Ends with the line of the question that begins with `# usage: `.
 usage() {
@@ -10,14 +10,41 @@ usage() {
 # Ends where one of these reports, plain or compressed, cannot be read whole: an answer from a part
 # of it would look like an answer from all.
 readable() {
-  for report in "$@"; do
-    if [ -f "$report" ] && [ -r "$report" ]; then
-      case $report in
-        *.gz) if gzip -t -- "$report"; then continue; fi ;;
+  for asked in "$@"; do
+    if [ -f "$asked" ] && [ -r "$asked" ]; then
+      case $asked in
+        *.gz) if gzip -t -- "$asked"; then continue; fi ;;
         *) continue ;;
       esac
     fi
-    echo "$report cannot be read" >&2
+    echo "$asked cannot be read" >&2
     exit 3
+  done
+}
+
+# Reads a report once: leaves in a folder what it counts in the file `counts`, and the SHA-256 of
+# its lines, as they are without compression, in the file `digest`.
+#
+# count REPORT FOLDER
+count() {
+  readable "$1"
+  rm -f -- "$2/pipe"
+  mkfifo -- "$2/pipe" || exit 3
+  sha256sum < "$2/pipe" > "$2/digest" &
+  # shellcheck disable=SC2154 # Each question sets `here`.
+  zcat -f -- "$1" | tee -- "$2/pipe" \
+    | LC_ALL=C CODES="$here/codes" awk -f "$here/report.awk" -f "$here/counts.awk" > "$2/counts" \
+    || exit 3
+  wait $! || exit 3
+}
+
+# The file of a kind and a cycle in a folder of reports, plain or compressed; nothing where it lies
+# in neither form.
+#
+# report_of FOLDER KIND CYCLE
+report_of() {
+  plain=$1/$2-$(printf '%06d' "$3")
+  for asked in "$plain" "$plain.gz"; do
+    [ ! -f "$asked" ] || { printf '%s\n' "$asked"; return; }
   done
 }

@@ -1,32 +1,23 @@
--- The content files that the newest looks at the storage root found, whose last line `ok` is of a
--- night that began before :date, or that have none. While a cycle is open, what it has not come to
--- is taken from the cycle before.
+-- Each content file of any report whose last line `ok` is of a run that began before :date, or that
+-- has none: when that run began, the path, and code and cycle of the path's last line. So files that
+-- are gone, or whose object is not read any more, are here too; their last line is of a cycle before.
 with
-newest as (select max(cycle) as cycle from line),
--- Up to which line of the cycle before the newest one has come.
-come as (
-  select case
-    when exists (select 1 from night, newest
-                 where night.cycle = newest.cycle and night.said like '%, ended')
-    then 9223372036854775807
-    else coalesce((select max(older.number) from newest
-      join line as newer on newer.cycle = newest.cycle
-      join line as older on older.path = newer.path and older.cycle = newest.cycle - 1), 0)
-  end as number
-),
 content as (
-  select * from line
+  select distinct path from line
   where (code = 'ok' and detail <> '-') or code in ('E023', 'E092', 'E093', 'S08')
 ),
-present as (
-  select path from content join newest using (cycle)
-  union
-  select content.path from content, newest, come
-  where content.cycle = newest.cycle - 1 and content.number > come.number
+verified as (
+  select path, max(began) as began from dated
+  where code = 'ok' and detail <> '-'
+  group by path
+),
+last as (
+  select path, code, cycle, max(cycle * 1099511627776 + number) as newest from line
+  group by path
 )
-select coalesce(max(dated.began), 'never') as verified, present.path
-from present
-left join dated on dated.path = present.path and dated.code = 'ok'
-group by present.path
-having coalesce(max(dated.began), '') < :date
-order by present.path;
+select coalesce(verified.began, 'never'), content.path, last.code, last.cycle
+from content
+join last on last.path = content.path
+left join verified on verified.path = content.path
+where coalesce(verified.began, '') < :date
+order by content.path;

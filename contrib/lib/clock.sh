@@ -1,0 +1,59 @@
+#!/bin/sh
+# The end of a night by the clock, and how much its next run may read. `nightly` reads this file.
+# shellcheck disable=SC2034,SC2154
+
+# Sets `end`, in seconds since 1970: the next time that the clock shows --until, or after --hours.
+# Without either, it is empty. Where it is no time, `complaint` says so.
+read_end() {
+  end=''
+  if [ -n "$until" ]; then
+    case $until in
+      [01][0-9]:[0-5][0-9] | 2[0-3]:[0-5][0-9]) ;;
+      *) complaint="--until needs a time like 06:00"; return 1 ;;
+    esac
+    end=$(date -d "$until" +%s) && [ "$end" -gt "$(seconds_now)" ] \
+      || end=$(date -d "tomorrow $until" +%s)
+  elif [ -n "$hours" ]; then
+    case $hours in
+      *[!0-9.]* | *.*.* | .) complaint="--hours needs a number like 8 or 7.5"; return 1 ;;
+    esac
+    end=$(($(seconds_now) + $(awk -v hours="$hours" 'BEGIN { printf "%.0f", hours * 3600 }')))
+  fi
+  [ -z "$end" ] || [ "$(bytes_of "$budget")" -gt 0 ] || {
+    complaint="--budget needs a number like 20G"
+    return 1
+  }
+}
+
+# A budget in bytes; 0 where it is none.
+bytes_of() {
+  printf '%s\n' "$1" | awk '
+    /^[0-9]+[KMGT]?$/ {
+      power = index("KMGT", substr($0, length($0)))
+      printf "%.0f\n", ($0 + 0) * 1024 ^ power
+      found = 1
+    }
+    END { if (!found) print 0 }'
+}
+
+# How many bytes the last runs read in a second, or 0 where that is not known.
+rate() {
+  [ -f "$state/nights" ] || { echo 0; return 0; }
+  tail -n 60 -- "$state/nights" | awk -F '\t' '
+    NF == 14 && $2 ~ /^[01]$/ { count++; cost[count] = $6; took[count] = $10 }
+    END {
+      for (n = count; n > 0 && n > count - 10; n--) { sum += cost[n]; seconds += took[n] }
+      printf "%.0f\n", (seconds + 0 ? sum / seconds : 0)
+    }'
+}
+
+# Sets `slice`, the budget of the next run: less than --budget where that would pass the end. Fails
+# where no time is left.
+next_slice() {
+  slice=$budget
+  [ -n "$end" ] || return 0
+  left=$((end - $(seconds_now)))
+  [ "$left" -gt 0 ] || return 1
+  fits=$(($(rate) * left))
+  if [ "$fits" -gt 0 ] && [ "$fits" -lt "$(bytes_of "$budget")" ]; then slice=$fits; fi
+}

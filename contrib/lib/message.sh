@@ -1,0 +1,186 @@
+#!/bin/sh
+# What a night says: everything that the log has after its last row `told`. So what a night that was
+# cut could not say, the next one says. `nightly` reads this file.
+# shellcheck disable=SC2154
+
+# The rows that nobody was told of.
+untold() {
+  [ -f "$state/nights" ] || return 0
+  awk -F '\t' '
+    NF != 14 { next }
+    $2 == "told" { count = 0; next }
+    { rows[++count] = $0 }
+    END { for (n = 1; n <= count; n++) print rows[n] }' "$state/nights"
+}
+
+# From the rows that nobody was told of: of each cycle the first and last run, and the bytes of its
+# report that came with them.
+untold_pieces() {
+  awk -F '\t' '
+    $2 == "began" { from = $11 }
+    $2 == "lost" { from = 0 }
+    $2 !~ /^([0-9]+|cut|lost)$/ || $11 + 0 <= from + 0 { next }
+    $3 "" != cycle "" { show(); cycle = $3; first = $4; start = from }
+    from + 0 < start + 0 { start = from }
+    { run = $4; to = $11; from = $11 }
+    function show() { if (cycle != "") print cycle, first, run, start, to }
+    END { show() }' "$scratch/untold"
+}
+
+# The findings of a cycle's report from one byte on, up to another.
+findings_between() {
+  file=$(closed_report "$1")
+  if [ ! -e "$file" ]; then
+    if is_closed "$1"; then return 0; fi
+    file=$report
+  fi
+  case $file in
+    *.gz) zcat -- "$file" | tail -c "+$(($2 + 1))" | head -c "$(($3 - $2))" ;;
+    *) piece "$file" "$2" "$3" ;;
+  esac | findings_of
+}
+
+say_findings() {
+  untold_pieces | while read -r of first last from to; do
+    findings_between "$of" "$from" "$to" > "$scratch/found"
+    count=$(wc -l < "$scratch/found")
+    [ "$count" -gt 0 ] || continue
+    echo "$count" >> "$scratch/counts"
+    which="run $first"
+    [ "$first" = "$last" ] || which="runs $first to $last"
+    echo "$count finding(s) tonight in $root, cycle $of, $which:"
+    head -n 20 -- "$scratch/found"
+    where=$(closed_report "$of")
+    [ -e "$where" ] || where=$report
+    [ "$count" -le 20 ] || echo "and $((count - 20)) more, at the end of $where"
+    echo "To look at one again: ocfl-scrub check $root PATH, with the path as it stands above."
+  done
+}
+
+say_cut() {
+  awk -F '\t' '$2 == "cut" {
+    printf "The night of %s was cut: run %s of cycle %s ", $14, $4, $3
+    print $7 ~ /again/ ? "is made again." : "had ended, and nothing was said of it."
+  }' "$scratch/untold"
+}
+
+say_lost() {
+  awk -F '\t' '$2 == "lost" {
+    printf "The report of cycle %s does not have what the log says: it has %s.\n", $3, $7
+    print "It is not whole any more, and will be closed as an incomplete one."
+  }' "$scratch/untold"
+}
+
+# What the closing of a cycle found.
+say_ended() {
+  REPORTS=$state/reports EXPECTED=$expected awk -F '\t' '
+    function plural(count, word) { return count " " word (count == 1 ? "" : "s") }
+    $2 != "ended" { next }
+    {
+      count = split($7, parts, "; ")
+      for (n = 1; n <= count; n++) {
+        key = parts[n]
+        sub(/ .*/, "", key)
+        value[key] = substr(parts[n], length(key) + 2)
+      }
+      list = sprintf("%s/gone-%06d", ENVIRON["REPORTS"], $3)
+      if (parts[2] != "whole") {
+        printf "Cycle %s has ended, and its report is not whole: %s\n", $3, value["report"]
+      }
+      split(value["gone"], gone, " ")
+      if (gone[1] + gone[3] > 0) {
+        printf "%s and %s of cycle %s are in no report of cycle %s; %s lists them.\n",
+          plural(gone[1], "object"), plural(gone[3], "file"), value["compared"], $3, list
+      }
+      if (value["expected"] + 0 > 0) {
+        printf "%s of %s are in no report of cycle %s; %s lists them.\n",
+          plural(value["expected"], "object"), ENVIRON["EXPECTED"], $3, list
+      }
+    }' "$scratch/untold"
+}
+
+# What each run said that neither ended well nor with findings alone.
+say_stops() {
+  while IFS=$tab read -r _ code of _ _ _ text _; do
+    case $code in
+      '' | *[!0-9]* | 0 | 1) ;;
+      3) if [ "$of" -eq 0 ]; then echo "$text"; else say_stop "$text"; fi ;;
+      2) echo "The command line was not understood: $text" ;;
+      4) echo "$cursor is damaged or of another program ($text); nothing was run." ;;
+      *) say_kill "$code" "$text" ;;
+    esac
+  done < "$scratch/untold"
+}
+
+say_kill() {
+  case $2 in
+    "ended by "*) ;;
+    *) echo "The program was killed (status $1); the next night repeats what this one did." ;;
+  esac
+}
+
+# The night since which each one stopped at this place, if the one before this one did.
+stopped_since() {
+  NOTE=$1 awk -F '\t' '
+    NF == 14 && $2 ~ /^[0-9]+$/ { last = $7; night = $14 }
+    NF == 14 && $2 == "told" {
+      if (last "" != said "") since = night
+      said = last
+      last = ""
+    }
+    END { if (said "" == ENVIRON["NOTE"] "") print since }' "$state/nights"
+}
+
+say_stop() {
+  case $1 in
+    "stopped at "*) say_stop_at "$1" "${1#stopped at }" ;;
+    *)
+      trouble=$(try_state 2>&1) || trouble=" ($state: $(system_words "$trouble"))"
+      echo "The night of $root stopped: ${1:-no word}$trouble. The next one resumes from there."
+      ;;
+  esac
+}
+
+say_stop_at() {
+  reason=$(reason_of "$2")
+  echo "The night of $root stopped: $1${reason:+ ($reason)}. The next one tries that place again."
+  since=$(stopped_since "$1")
+  [ -n "$since" ] || return 0
+  echo "Each night since $since stopped there: what comes after $2 is not audited until that place"
+  echo "can be read. README.md says how to audit the rest: \"A place that cannot be read\"."
+}
+
+say_signal() {
+  is_ending || return 0
+  echo "The night of $root was ended by $(cat -- "$scratch/signal") after $runs run(s)."
+  case ${note:-} in "ended by "*) echo "The last one was cut, and is made again." ;; esac
+}
+
+# All that nobody was told of.
+compose() {
+  untold > "$scratch/untold"
+  rm -f -- "$scratch/counts"
+  say_cut
+  say_lost
+  say_findings
+  say_ended
+  say_stops
+  say_signal
+}
+
+# How many findings were told.
+told_findings() {
+  [ -e "$scratch/counts" ] || { echo 0; return 0; }
+  awk '{ sum += $1 } END { printf "%.0f\n", sum }' "$scratch/counts"
+}
+
+# The status of a night that says this, whatever its runs gave: 3 where lines were lost, 1 where
+# something was found or is gone.
+told_status() {
+  awk -F '\t' -v found="$(told_findings)" '
+    $2 == "lost" || ($2 == "ended" && $7 ~ /; incomplete /) { lost = 1 }
+    $2 == "ended" && $7 ~ /; gone [0-9]*[1-9][0-9]* o|; gone 0 objects [1-9]|; expected [1-9]/ {
+      found = 1
+    }
+    END { print (lost ? 3 : (found + 0 ? 1 : 0)) }' "$scratch/untold"
+}

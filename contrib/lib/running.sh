@@ -1,0 +1,74 @@
+#!/bin/sh
+# The runs of a night. `nightly` reads this file.
+# shellcheck disable=SC2030,SC2031,SC2034,SC2154
+
+# Whether a signal asked the night to end.
+is_ending() { [ -e "$scratch/signal" ]; }
+
+# Makes one run of this budget: sets `status`, and `note` to what it said.
+run_program() {
+  left=${files_limit:+$((files_limit - files_started))}
+  # shellcheck disable=SC2016
+  {
+    sh -c 'echo $$ > "$1"; shift; exec "$@"' sh "$scratch/running" \
+      "$program" run --cursor "$cursor" --budget "$1" ${left:+--files "$left"} "$root" >> "$report"
+    status=$?
+  } 2> "$scratch/said"
+  rm -f -- "$scratch/running"
+  note=$(sed -n 's/^ocfl-scrub: //p; s/^error: //p' "$scratch/said" | tail -n 1)
+  if [ "$status" -gt 128 ] && is_ending; then note="ended by $(cat -- "$scratch/signal")"; fi
+}
+
+# Makes a run of this budget, and writes its two rows of the log.
+make_run() {
+  if [ "$stands" = ended ]; then
+    bind_root || return 3
+    cycle=$((cycle + 1)) run=0 spent=0 files=0 stands=start bytes=0 lines=0 digest=$nothing
+  fi
+  began=$(now) cost=0 seconds=0 run=$((run + 1))
+  log began "budget $1" || return 3
+  set -- "$1" "$cycle" "$run" "$spent" "$files" "$stands" "$bytes" "$lines" "$digest"
+  started=$(seconds_now)
+  run_program "$1"
+  seconds=$(($(seconds_now) - started)) runs=$((runs + 1))
+  read_cursor || return 3
+  if [ "$cycle $run" = "$2 $3" ]; then
+    cost=$((spent - $4))
+    files_started=$((files_started + files - $5)) night_cost=$((night_cost + cost))
+    take_over "$7" "$8" "$9" "$6" || lose || return 3
+    log "$status" "$note" || return 3
+  else
+    # The cursor did not move: the run was killed, or could not store it.
+    bytes=$7 lines=$8 digest=$9
+    cut_report "$bytes" || return 3
+    (cycle=$2 run=$3 spent=$4 files=$5 stands=$6 && log "$status" "$note") || return 3
+  fi
+}
+
+# Run after run, until the cycle or the time ends, something stops them, or a signal comes.
+make_runs() {
+  files_started=0
+  until is_ending; do
+    next_slice || return 0
+    make_run "$slice" || return 3
+    case $note in "ended by "*) return 0 ;; esac
+    worsen "$status"
+    case $status in 0 | 1) ;; *) return 0 ;; esac
+    if [ -z "$end" ] || [ "$stands" = ended ]; then return 0; fi
+    [ -z "$files_limit" ] || [ "$files_started" -lt "$files_limit" ] || return 0
+  done
+}
+
+# Whether the state folder takes what a night writes; says why where it does not.
+try_state() {
+  if ! head -c 1048576 /dev/zero > "$state/room"; then
+    rm -f -- "$state/room"
+    return 1
+  fi
+  rm -f -- "$state/room"
+  for file in "$cursor" "$report" "$state/nights"; do
+    [ ! -e "$file" ] || printf '' >> "$file" || return 1
+  done
+  [ ! -d "$state/reports" ] || printf '' > "$state/reports/room" || return 1
+  rm -f -- "$state/reports/room"
+}

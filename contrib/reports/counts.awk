@@ -1,0 +1,43 @@
+# What one pass over a report counts, as lines `NAME TAB NUMBER`. A file is counted that was read to
+# its end and has every digest that is known of it.
+BEGIN {
+  FS = "\t"
+  read_codes()
+}
+
+NF != 3 {
+  broken++
+  next
+}
+
+$1 == "ok" && $3 != "-" {
+  files++
+  add("bytes", $3)
+  next
+}
+
+is_object_line($1, $2, $3) && ($2 "") != (object "") {
+  objects++
+  object = $2
+  is_sound = 1
+  sound++
+}
+
+is_finding($1) {
+  findings++
+  count[$1]++
+  if (is_sound && is_within($2, object)) {
+    is_sound = 0
+    sound--
+  }
+}
+
+END {
+  if (failed) exit 3
+  printf "Report lines\t%.0f\nBroken lines\t%.0f\n", NR, broken
+  printf "Objects\t%.0f\nObjects without findings\t%.0f\n", objects, sound
+  printf "Files found right\t%.0f\nBytes found right\t%s\n", files, total("bytes")
+  printf "Findings\t%.0f\n", findings
+  number = sorted_keys(count, codes)
+  for (at = 1; at <= number; at++) printf "Findings %s\t%.0f\n", codes[at], count[codes[at]]
+}

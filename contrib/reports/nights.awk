@@ -1,0 +1,51 @@
+# What the log says of the cycle CYCLE, as lines `NAME TAB VALUE`. Rows have 14 columns, or 7 in
+# logs of before; column 2 is a run's status, or a word that says what the row is.
+BEGIN { FS = "\t" }
+
+(NF != 14 && NF != 7) || ($3 "") != (ENVIRON["CYCLE"] "") { next }
+
+$2 ~ /^[0-9]+$/ || $2 == "cut" {
+  if (first == "") first = $1
+  last = $1
+  night = NF == 14 ? $14 : $1
+  if (!(night in seen)) {
+    seen[night]
+    nights++
+  }
+  if ($2 == "cut") cut++
+  else runs++
+}
+
+$2 == "lost" { lost = lost (lost == "" ? "" : ", ") $7 }
+$2 == "root" { moved = $7 }
+$2 == "ended" { closed = $1; said = $7 }
+
+END {
+  if (closed == "") exit 1
+  print "First night\t" first
+  print "Last night\t" last
+  print "Closed\t" closed
+  printf "Nights\t%.0f\nRuns\t%.0f\nCut nights\t%.0f\n", nights, runs, cut
+  print "Lost lines\t" (lost == "" ? "none" : lost)
+  if (moved != "") print "Root changed to\t" moved
+  parts = split(said, part, /; */)
+  compared = "nothing"
+  for (at = 1; at <= parts; at++) {
+    words = split(part[at], word, " ")
+    if (word[1] == "report") name = word[2]
+    if (word[1] == "whole" || word[1] == "incomplete") whole = part[at]
+    if (word[1] == "compared") compared = word[2]
+    if (word[1] == "gone") {
+      objects = word[2]
+      files = word[4]
+    }
+    if (word[1] == "expected") expected = word[2]
+  }
+  sub(/.*\//, "", name)
+  print "Report\t" name
+  print "Whole\t" (whole == "whole" ? "yes" : "no")
+  print "Compared with cycle\t" compared
+  print "Objects gone\t" (compared == "nothing" ? "not known" : objects)
+  print "Files gone\t" (compared == "nothing" ? "not known" : files)
+  print "Expected objects missing\t" (expected == "" ? "not asked" : expected)
+}

@@ -1,0 +1,222 @@
+#!/usr/bin/env python3
+"""Tries installing, the manual page, and what systemd and cron run.
+
+usage: install.py
+
+Where a tool is missing, that is a failure which names Debian's package.
+"""
+import os
+import re
+import shutil
+
+import common
+from common import PROGRAM, TOP, digest, is_so
+from shared.clones import git, make_clone
+from shared.nights import ITEMS, make_root, ran, read, tried, write
+from shared.rules import codes_of_rules
+
+PACKAGES = {"man": "man-db", "groff": "groff", "systemd-analyze": "systemd", "flock": "util-linux",
+            "ionice": "util-linux", "git": "git"}
+
+
+def tools():
+    """The tools that the trials need."""
+    for tool, package in PACKAGES.items():
+        where = "there" if shutil.which(tool) else "missing (Debian: %s)" % package
+        is_so("the tool " + tool, where, "there")
+
+
+# Installing
+
+INSTALLED = """bin/ocfl-scrub 755
+share/man/man1/ocfl-scrub.1 644
+share/ocfl-scrub/BUILD 644
+share/ocfl-scrub/README.md 644
+share/ocfl-scrub/lib/binding.sh 644
+share/ocfl-scrub/lib/clock.sh 644
+share/ocfl-scrub/lib/closing.sh 644
+share/ocfl-scrub/lib/expected.awk 644
+share/ocfl-scrub/lib/gone.awk 644
+share/ocfl-scrub/lib/message.sh 644
+share/ocfl-scrub/lib/pieces.awk 644
+share/ocfl-scrub/lib/place.sh 644
+share/ocfl-scrub/lib/running.sh 644
+share/ocfl-scrub/lib/signals.sh 644
+share/ocfl-scrub/lib/state.sh 644
+share/ocfl-scrub/nightly 755
+share/ocfl-scrub/ocfl-scrub.cron 644
+share/ocfl-scrub/reports/bytes 755
+share/ocfl-scrub/reports/changed 755
+share/ocfl-scrub/reports/codes 644
+share/ocfl-scrub/reports/counts.awk 644
+share/ocfl-scrub/reports/database 755
+share/ocfl-scrub/reports/differences.awk 644
+share/ocfl-scrub/reports/findings 755
+share/ocfl-scrub/reports/findings.awk 644
+share/ocfl-scrub/reports/json.awk 644
+share/ocfl-scrub/reports/nights.awk 644
+share/ocfl-scrub/reports/open.awk 644
+share/ocfl-scrub/reports/premis 755
+share/ocfl-scrub/reports/premis-whole.awk 644
+share/ocfl-scrub/reports/premis.awk 644
+share/ocfl-scrub/reports/reading.sh 644
+share/ocfl-scrub/reports/report.awk 644
+share/ocfl-scrub/reports/statement 755
+share/ocfl-scrub/reports/statement.awk 644
+share/ocfl-scrub/reports/status.awk 644
+share/ocfl-scrub/reports/to-json 755
+share/ocfl-scrub/reports/totals 755
+share/ocfl-scrub/reports/unverified 755
+share/ocfl-scrub/reports/unverified.sql 644
+share/ocfl-scrub/reports/verify-statement 755
+share/ocfl-scrub/reports/xml.awk 644
+share/ocfl-scrub/rotate 755
+share/ocfl-scrub/status 755
+share/ocfl-scrub/systemd/archive.conf 644
+share/ocfl-scrub/systemd/ocfl-scrub-tell-failed@.service 644
+share/ocfl-scrub/systemd/ocfl-scrub-tell@.service 644
+share/ocfl-scrub/systemd/ocfl-scrub@.service 644
+share/ocfl-scrub/systemd/ocfl-scrub@.timer 644
+share/ocfl-scrub/tell 755
+"""
+
+
+def tree(folder):
+    """The files below a folder, with their modes."""
+    lines = []
+    for where, _, names in os.walk(folder):
+        for name in names:
+            path = os.path.join(where, name)
+            mode = os.stat(path).st_mode & 0o777
+            lines.append("%s %o\n" % (os.path.relpath(path, folder), mode))
+    return "".join(sorted(lines))
+
+
+def installing(folder):
+    clone, prefix = make_clone(folder + "/clone"), folder + "/prefix"
+    install = clone + "/install"
+    is_so("install --help", (ran([install, "--help"])[0::2]), (0, ""))
+    for name, words in [("option", ["--what"]), ("two prefixes", ["/a", "/b"]),
+                        ("space", ["/a b"])]:
+        is_so("install refuses: " + name, ran([install] + words)[0:2], (2, ""))
+    status, out, _ = ran([install, prefix])
+    is_so("install", (status, out.splitlines()[-1:]), (0, ["installed in %s/bin" % prefix]))
+    is_so("what is installed", tree(prefix), INSTALLED)
+    commit = git(clone, "rev-parse", "HEAD").strip()
+    kit = ran(["rt", "version"])[1].strip() if shutil.which("rt") else "unknown"
+    build = "ocfl-scrub 0.1.0\ncommit %s\nkit %s\nsha256 %s\n" % (
+        commit, kit, digest(common.read(PROGRAM)))
+    is_so("BUILD", read(prefix + "/share/ocfl-scrub/BUILD"), build)
+    is_so("the installed program", ran([prefix + "/bin/ocfl-scrub", "--version"]), (0, build, ""))
+    os.rename(prefix + "/share/ocfl-scrub/BUILD", prefix + "/BUILD")
+    is_so("the same without BUILD", ran([prefix + "/bin/ocfl-scrub", "--version"]),
+          (0, "ocfl-scrub 0.1.0\n", ""))
+    os.rename(prefix + "/BUILD", prefix + "/share/ocfl-scrub/BUILD")
+    page = read(prefix + "/share/man/man1/ocfl-scrub.1")
+    is_so("the page's commit", ['"ocfl\\-scrub 0.1.0 (%s)"' % commit[:7] in page,
+                                "Built from commit %s by %s." % (commit, kit) in page], [True,
+                                                                                         True])
+    installing_again(clone, prefix, folder)
+
+
+def installing_again(clone, prefix, folder):
+    install = clone + "/install"
+    with open(prefix + "/bin/ocfl-scrub", "rb") as held:
+        before = os.fstat(held.fileno()).st_ino
+        is_so("install again", ran([install, prefix])[0], 0)
+        is_so("the program is exchanged, not overwritten",
+              os.stat(prefix + "/bin/ocfl-scrub").st_ino != before, True)
+    is_so("nothing is left beside it", tree(prefix), INSTALLED)
+    write(clone + "/contrib/changed", "")
+    is_so("install to HOME, with DESTDIR",
+          ran([install], HOME="/home/her", DESTDIR=folder + "/package")[0], 0)
+    is_so("below DESTDIR", tree(folder + "/package/home/her/.local"), INSTALLED)
+    package = folder + "/package/home/her/.local/share/ocfl-scrub/"
+    is_so("a changed clone is told", ", with changes\nkit" in read(package + "BUILD"), True)
+    unit = read(package + "systemd/ocfl-scrub@.service")
+    is_so("units know the PREFIX", "ExecStart=/home/her/.local/share/ocfl-scrub/nightly " in unit,
+          True)
+    write(folder + "/file", "")
+    status, _, said = ran([install, folder + "/file"])
+    is_so("PREFIX that is a file", (status, "could not be made" in said), (3, True))
+    shutil.rmtree(clone + "/crates/ocfl_scrub_cli/out")
+    status, _, said = ran([install, folder + "/none"], PATH="/usr/bin:/bin")
+    is_so("neither built nor rt", (status, "the program is not built; nothing" in said,
+                                   os.path.exists(folder + "/none")), (3, True, False))
+
+
+# The manual page
+
+def manual(prefix):
+    page = TOP + "/contrib/man/ocfl-scrub.1"
+    for name, file in [("page", page), ("installed page", prefix + "/share/man/man1/ocfl-scrub.1")]:
+        for words in [["man", "--warnings", "-l", "-E", "UTF-8", file],
+                      ["groff", "-man", "-Tutf8", "-wall", file]]:
+            is_so("%s by %s" % (name, words[0]), ran(words)[0::2], (0, ""))
+    said = ran(["man", "-M", prefix + "/share/man", "ocfl-scrub"])
+    is_so("man finds it", (said[0], "ocfl-scrub - audit" in re.sub(" +", " ", said[1])), (0, True))
+    text = read(page)
+    told = set(re.findall(r"^\.B (ok|[ES]\d+)$", text, re.MULTILINE))
+    is_so("each code is in the page", sorted(codes_of_rules() - told), [])
+    is_so("each code of the page is a rule's", sorted(told - codes_of_rules()), [])
+    for command in ["audit", "run", "cycle", "check", "show"]:
+        is_so("the page tells of " + command, "\n.BI %s\\~ " % command in text, True)
+    shown = ran([PROGRAM, "run", "--help"])[1] + ran([PROGRAM, "cycle", "--help"])[1]
+    options = {"\\-\\-%s" % option for option in re.findall(r"--([a-z]+)", shown)}
+    is_so("the page tells of each option", sorted(o for o in options if o not in text), [])
+
+
+# systemd and cron
+
+def units(prefix):
+    folder = prefix + "/share/ocfl-scrub/systemd"
+    names = ["ocfl-scrub@.service", "ocfl-scrub@.timer", "ocfl-scrub-tell@.service",
+             "ocfl-scrub-tell-failed@.service"]
+    for name in names:
+        is_so("systemd-analyze verify " + name,
+              ran(["systemd-analyze", "verify", os.path.join(folder, name)],
+                  MANPATH=prefix + "/share/man"), (0, "", ""))
+    is_so("two names of one unit", read(folder + "/" + names[2]), read(folder + "/" + names[3]))
+    service = read(folder + "/ocfl-scrub@.service")
+    wanted = ["ProtectSystem=strict", "StateDirectory=ocfl-scrub/%i", "SuccessExitStatus=1",
+              "MemoryMax=2G", "IOSchedulingClass=idle", "Nice=19", "KillMode=mixed",
+              "TimeoutStopSec=6min", "OnSuccess=ocfl-scrub-tell@%i.service",
+              "OnFailure=ocfl-scrub-tell-failed@%i.service", "SystemCallErrorNumber=EPERM"]
+    is_so("what the service asks for", [w for w in wanted if "\n%s\n" % w not in service], [])
+    is_so("nothing runs outside of the sandbox, or as root", re.findall(
+        r"^Exec\w+=[-+!:@]*[+!].*", service + read(folder + "/" + names[2]), re.MULTILINE), [])
+    is_so("exposed by at most 0.5", ran(["systemd-analyze", "security", "--offline=true",
+                                         "--threshold=5", os.path.join(folder, names[0])])[0], 0)
+    is_so("it ends by the clock, and gives a run time to end",
+          [word in service for word in ["--until ${UNTIL}", "--grace 300"]], [True, True])
+
+
+def cron(folder, prefix):
+    """The line for cron, with its own variables and other paths, by the shell that cron runs."""
+    make_root(folder + "/root")
+    settings, command = {}, None
+    for line in read(prefix + "/share/ocfl-scrub/ocfl-scrub.cron").splitlines():
+        if line.startswith("#"):
+            continue
+        if re.match(r"[A-Z]+=", line):
+            settings.update([line.split("=", 1)])
+        else:
+            command = line.split(None, 6)
+    is_so("when, and who", command[:6], ["0", "22", "*", "*", "*", "ocfl-scrub"])
+    settings.update(STATE=folder + "/state", ROOT=folder + "/root")
+    is_so("it ends by the clock too", settings.get("UNTIL"), "--until 06:00")
+    is_so("and gives a run time to end", "$UNTIL --grace $GRACE" in command[6], True)
+    is_so("the line for cron", ran(["sh", "-c", command[6]], **settings), (0, "", ""))
+    is_so("its report", read(folder + "/state/reports/cycle-000001"), "".join(ITEMS))
+
+
+def tell(folder):
+    prefix = folder + "/prefix"
+    tools()
+    tried(installing, folder)
+    tried(manual, prefix)
+    tried(units, prefix)
+    tried(cron, folder + "/cron", prefix)
+
+
+common.trial(tell)

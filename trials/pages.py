@@ -1,0 +1,196 @@
+#!/usr/bin/env python3
+"""Runs the commands that README.md, contrib/README.md and the manual page show, in their order, and
+compares what they print with what the page shows.
+
+usage: pages.py
+
+Where a tool is missing, that is a failure which names Debian's package.
+
+A page is one session, with a home and a working folder of its own. Its `/srv`, `/tmp`, `/usr/local`
+and the like lie in a folder of the trial, and `/srv/ocfl` is the sample with its damaged file. A
+command that is neither run nor named below is a failure, and so is an entry that no page has.
+"""
+import glob
+import os
+import re
+import shutil
+import subprocess
+
+import common
+from common import TOP, is_so
+from shared.clones import make_clone
+from shared.nights import CONTRIB, read, tried
+from shared.pages import blocks_of_manual, blocks_of_markdown, commands_of, links_of
+from shared.states import tools
+
+PACKAGES = {"git": "git", "jq": "jq", "sqlite3": "sqlite3", "awk": "mawk", "gzip": "gzip",
+            "perl": "perl", "cmp": "diffutils"}
+
+# How commands begin that are not run, and why not.
+NOT_RUN = {
+    "useradd ": "adds a user to the system",
+    "systemctl ": "needs a service manager",
+}
+# How blocks begin of which no line is run, and why not.
+NO_COMMANDS = {
+    "[Service]": "lines of a unit",
+    "[Unit]": "lines of a unit",
+    "reports/statement --seal ": "needs keys, which trials/statements.py makes",
+}
+# Statuses of commands that may end otherwise than with 0: the sample has a damaged file.
+ENDS = [(r"ocfl-scrub (audit|run|check) |/nightly |zdiff ", {0, 1}), (r"/status ", {2})]
+# What else a user has done before the further commands of a page, which need two whole cycles.
+THEN = {
+    "./nightly --state ~/audit --hours 1 /srv/ocfl": [
+        "./nightly --state ~/audit --hours 1 /srv/ocfl",
+        "./nightly --state ~/audit --budget 10 /srv/ocfl",
+        "mkdir -p /var/lib/node_exporter /var/lib/ocfl-scrub",
+        "cp -R ~/audit /var/lib/ocfl-scrub/archive"],
+    "/usr/local/share/ocfl-scrub/nightly --state /var/lib/audit --until 06:00 /srv/ocfl": [
+        "/usr/local/share/ocfl-scrub/nightly --state /var/lib/audit --hours 1 /srv/ocfl"],
+}
+# What differs from one run to the next.
+MASKS = [(r"\d{4}-\d\d-\d\dT\d\d:\d\d:\d\dZ", "TIME"), (r"\d{4}-\d\d-\d\d", "DAY"),
+         (r"age=\d+s", "age=s"), (r"(?m)^(Host|Program commit|Program SHA-256): .*", r"\1: .")]
+# Folders of the system that a page names.
+SYSTEM = re.compile(r"(?<![\w.~/])/(?=(?:tmp|srv|usr/local|var/lib|mnt|etc)\b)")
+# Others: a command that names one is not run.
+OTHER = re.compile(r"(?<![\w.~/])/(?!dev/null)(?=(?:bin|boot|dev|home|lib|media|opt|proc|root|run|"
+                   r"sbin|sys|usr|var)\b)")
+used = set()
+
+
+def masked(text):
+    for pattern, mask in MASKS:
+        text = re.sub(pattern, mask, text)
+    return text
+
+
+def fits(shown, got):
+    """Whether this was printed: `..` stands for the rest of a digest, and times differ."""
+    parts = re.split(r"(?<=[0-9a-f])\.\.", masked(shown))
+    return re.fullmatch("[0-9a-f]*".join(map(re.escape, parts)), masked(got)) is not None
+
+
+class Session:
+    """What a user of a page has: a home, a working folder, and the folders of the system."""
+
+    def __init__(self, folder, at):
+        self.folder = os.path.realpath(folder)
+        for name in ["home", "tmp", "srv", "usr/local", "var/lib", "mnt/usb",
+                     "etc/systemd/system"]:
+            os.makedirs(os.path.join(self.folder, name))
+        self.clone = make_clone(self.folder + "/clone")
+        path = "%s/usr/local/bin:%s" % (self.folder, os.environ["PATH"])
+        self.how = {**os.environ, "HOME": self.folder + "/home", "PATH": path}
+        self.how.pop("OCFL_SCRUB", None)
+        self.call("./clone/samples/make /srv/ocfl", self.folder)
+        self.at = self.folder + at
+
+    def here(self, text):
+        """What a page shows, with the folders of the trial."""
+        return SYSTEM.sub(self.folder + "/", text)
+
+    def call(self, command, at=None):
+        """Status and output of a command, in the folder that the one before left."""
+        self.at = at or self.at
+        words = ["sh", "-c", 'eval "$1"; status=$?; pwd > "$2"; exit $status', "sh",
+                 self.here(command), self.folder + "/at"]
+        done = subprocess.run(words, cwd=self.at, env=self.how, stdin=subprocess.DEVNULL,
+                              stdout=subprocess.PIPE, stderr=subprocess.STDOUT, timeout=600)
+        self.at = read(self.folder + "/at").rstrip("\n")
+        return done.returncode, common.text_of(done.stdout).replace(self.folder, "")
+
+    def run(self, page, command, shown):
+        """Runs a command of a page, and what its user does then."""
+        name = "%s: %s" % (page, command.strip())
+        ends = [ends for pattern, ends in ENDS if re.search(pattern, command)] or [{0}]
+        is_apart = OTHER.search(SYSTEM.sub("", command)) is None
+        status, got = self.call(command) if is_apart else ("not run", "")
+        if status not in ends[0]:
+            is_so(name, (status, got), ends[0])
+        elif shown is None:
+            is_so(name, True, True)
+        else:
+            is_so(name, shown if fits(shown, got) else got, shown)
+        for more in THEN.get(command.strip(), []):
+            self.call(more)
+
+
+def is_left(text, beginnings):
+    """Whether a block or a command begins so; notes which of the beginnings are used."""
+    found = [beginning for beginning in beginnings if text.startswith(beginning)]
+    used.update(found)
+    return bool(found)
+
+
+def mounts(session, page, block):
+    """A block that mounts, where that can be done."""
+    if subprocess.run(["unshare", "-rm", "true"], capture_output=True).returncode != 0:
+        print("pages.py: nothing can be mounted here, so this is not run: %s" % block)
+        return
+    for name in "abd":
+        shutil.copytree(session.folder + "/srv/ocfl/letters", session.folder + "/srv/ocfl/" + name)
+    given = session.folder + "/block"
+    common.write(given, session.here(block).encode())
+    done = subprocess.run(["unshare", "-rm", "sh", "-e", given], cwd=session.at, env=session.how,
+                          capture_output=True, timeout=600)
+    lines = read(session.folder + "/home/audit-rest/reports/cycle-000001") or ""
+    is_so("%s: %s" % (page, block), (done.returncode, lines.count("damaged.txt")), (1, 3))
+
+
+def follow(session, page, blocks):
+    """Runs the blocks of a page, each command on its own."""
+    for block in blocks:
+        if is_left(block, NO_COMMANDS):
+            continue
+        if "mount --bind" in block:
+            mounts(session, page, block)
+            continue
+        for command, shown in commands_of(block):
+            if not is_left(command, NOT_RUN):
+                session.run(page, command, shown)
+
+
+def readme(folder):
+    session = Session(folder, "/clone")
+    follow(session, "README.md", blocks_of_markdown(read(TOP + "/README.md")))
+
+
+def installed(folder):
+    """A session in which the program is installed below /usr/local."""
+    session = Session(folder, "/home")
+    session.call("./install /usr/local", session.clone)
+    session.at = session.folder + "/home"
+    return session
+
+
+def nightly(folder):
+    text = read(CONTRIB + "/README.md")
+    follow(installed(folder), "contrib/README.md", blocks_of_markdown(text))
+
+
+def manual(folder):
+    text = read(CONTRIB + "/man/ocfl-scrub.1")
+    follow(installed(folder), "ocfl-scrub.1", blocks_of_manual(text))
+
+
+def links():
+    """Each link of a page to another leads to a file."""
+    pages = [page for pattern in ["*.md", "*/*.md"] for page in glob.glob(TOP + "/" + pattern)]
+    lost = ["%s: %s" % (os.path.relpath(page, TOP), link) for page in sorted(pages)
+            for link in links_of(read(page))
+            if not os.path.exists(os.path.join(os.path.dirname(page), link))]
+    is_so("links that lead nowhere", lost, [])
+
+
+def tell(folder):
+    tools(PACKAGES)
+    for part in [readme, nightly, manual]:
+        os.mkdir(os.path.join(folder, part.__name__))
+        tried(part, os.path.join(folder, part.__name__))
+    is_so("what is not run, and no page has", sorted({*NOT_RUN, *NO_COMMANDS} - used), [])
+    tried(links)
+
+
+common.trial(tell)

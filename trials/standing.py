@@ -1,0 +1,262 @@
+#!/usr/bin/env python3
+"""Tries what a monitor asks: how the nights of a storage root stand, which findings are open, and
+the figures for Prometheus.
+
+usage: standing.py
+"""
+import gzip
+import os
+import random
+import re
+
+import common
+from common import is_so
+from shared.states import (CONTRIB, LINES, State, is_finding, line, ran, read, tools, tried, write)
+
+
+def status(state, *words, now="2026-03-10T05:00:00Z"):
+    """The status, the words before the bar, and the figures behind it."""
+    given, out, said = ran([CONTRIB + "/status", "--now", now, *words, state.path])
+    first = out.split("\n")[0]
+    return given, first.split(" | ")[0], first.split(" | ")[-1].split() if " | " in first else said
+
+
+def standing(folder, root="/srv/ocfl"):
+    """Cycle 1 of cost 100 in four nights, and two nights of cycle 2, of cost 30."""
+    state = State(folder + "/state", root)
+    for run in range(1, 5):
+        state.night("2026-03-0%dT22:00:00Z" % run, 1, run, 3, 25,
+                    stands="ended" if run == 4 else "after o")
+    state.close("2026-03-04T23:00:00Z", 1, lines=LINES)
+    state.night("2026-03-08T22:00:00Z", 2, 1, 3, 14)
+    state.night("2026-03-09T22:00:00Z", 2, 2, 5, 16)
+    write(state.path + "/report", "".join(LINES[0:1] + [line("ok", "o")]))
+    return state
+
+
+def statuses(folder):
+    state = standing(folder)
+    calm = "/srv/ocfl: %slast night 2026-03-09T22:00:00Z, status 0; cycle 2 is open, 30 of 100 " \
+        "done, 5 night(s) left; last whole cycle 1 on 2026-03-04; "
+    found = "4 open finding(s) (E007 1, E023 1, E072 1, S08 1)"
+    figures = ["age=25200s;93600;180000;0", "findings=4;1;;0", "damaged=1;1;1;0", "gone=0;1;;0",
+               "progress=30%;;;0;100"]
+    is_so("standing", status(state), (2, "OCFL-SCRUB CRITICAL - " + calm % (
+        "1 open finding(s) of weight 1; 4 open finding(s); ") + found, figures))
+    listed = ran([CONTRIB + "/status", "--list", state.path])[1].splitlines(True)[1:]
+    is_so("the gravest first", listed, [LINES[11], LINES[5], LINES[10], LINES[1]])
+    quiet = ["--damaged", "2,3", "--findings", "5,6"]
+    is_so("below the limits", status(state, *quiet)[0:2],
+          (0, "OCFL-SCRUB OK - " + calm % "" + found))
+    for words, level in [(["--damaged", "1,2", "--findings", "-,-"], 1),
+                         (["--damaged", "-,1", "--findings", "-,-"], 2),
+                         (["--damaged", "2,3", "--findings", "4,5"], 1),
+                         (["--damaged", "2,3", "--findings", "3,4"], 2),
+                         (quiet + ["--age", "8,9"], 0), (quiet + ["--age", "7,8"], 1),
+                         (quiet + ["--age", "1,7"], 2), (quiet + ["--age", "-,-"], 0),
+                         (quiet + ["--cycle-age", "6,7"], 0), (quiet + ["--cycle-age", "5,7"], 1),
+                         (quiet + ["--cycle-age", "5,5"], 2)]:
+        is_so("limits " + " ".join(words), status(state, *words)[0], level)
+    for now, level in [("2026-03-10T23:59:59Z", 0), ("2026-03-11T00:00:00Z", 1),
+                       ("2026-03-11T23:59:59Z", 1), ("2026-03-12T00:00:00Z", 2)]:
+        is_so("a night that never ran, at " + now, status(state, *quiet, now=now)[0], level)
+    known = write(folder + "/known", "S08\to3-4/\nE072\n")
+    given, text, after = status(state, "--known", known)
+    is_so("known findings", (given, text.endswith(
+        "; 3 open finding(s) (E007 1, E023 1, E072 1), 1 known"), after[1:3]),
+          (1, True, ["findings=3;1;;0", "damaged=0;1;1;0"]))
+    for words in [[], ["--what", "x"], ["--age", "1", "x"], ["--age", "1,2,3", "x"],
+                  ["--age", ",1", "x"], ["--gone", "1,-2", "x"], ["--list", "x", "y"], ["--known"]]:
+        is_so("usage of status: " + " ".join(words), ran([CONTRIB + "/status"] + words)[0:2],
+              (3, ""))
+    for name, words in [("folder", [folder + "/none"]),
+                        ("known", ["--known", "/none", state.path])]:
+        given, out, _ = ran([CONTRIB + "/status"] + words)
+        is_so("no " + name, (given, out[:21]), (3, "OCFL-SCRUB UNKNOWN - "))
+    empty = State(folder + "/empty")
+    is_so("no night", status(empty)[0:2], (3, "OCFL-SCRUB UNKNOWN - /srv/ocfl: no night has run"))
+
+
+def troubled(folder):
+    """What the log says of the last night, and of the last cycle."""
+    quiet = ["--damaged", "-,-", "--findings", "-,-"]
+    now = "2026-03-11T05:00:00Z"
+
+    def after(name, act, level, text):
+        state = standing(folder + "/" + name.replace(" ", "-"))
+        act(state)
+        given = status(state, *quiet, now=now)
+        is_so(name, (given[0], text in given[1]), (level, True))
+
+    def night(code, told=True):
+        return lambda state: state.night("2026-03-10T22:00:00Z", 2, 3, 5, 0, code, told=told)
+
+    after("a stop", night(3), 2, "ended with status 3")
+    after("a refused cursor", night(4), 2, "ended with status 4")
+    after("a killed program", night(137), 2, "ended with status 137")
+    after("findings of a night", night(1), 0, "status 1")
+    after("a night that was refused", lambda state: state.tell("2026-03-10T22:00:00Z", 2, 2, 3), 2,
+          "last night 2026-03-10T22:00:00Z, status 3")
+    after("a night under way", lambda state: state.begin("2026-03-10T22:00:00Z", 2, 3), 0,
+          "status 0, under way;")
+
+    def stopped_before(state):
+        state.night("2026-03-09T23:00:00Z", 2, 3, 5, 0, 3)
+        state.begin("2026-03-10T22:00:00Z", 2, 4)
+
+    after("a stop before the night under way", stopped_before, 2, "status 3, under way;")
+
+    def slices(state):
+        state.night("2026-03-10T22:00:00Z", 2, 3, 5, 1, 3, told=False)
+        state.night("2026-03-10T22:00:00Z", 2, 4, 5, 1, 0, told=False)
+
+    after("the worst of the slices", slices, 2, "status 3, under way;")
+
+    def cut(state):
+        state.begin("2026-03-09T23:00:00Z", 2, 3)
+        state.cut("2026-03-09T23:00:00Z", 2, 2, 5)
+        state.night("2026-03-10T22:00:00Z", 2, 3, 5, 9)
+
+    after("a cut night", cut, 1, "a night was cut; ")
+    after("lost lines", lambda state: state.row(
+        "2026-03-10T22:00:00Z", "lost", 2, 2, 1, 0, "lost 4 of 5 lines", "after o",
+        "2026-03-10T22:00:00Z"), 1, "cycle 2 lost lines")
+
+    def closes(said, form="cycle"):
+        def close(state):
+            state.night("2026-03-10T22:00:00Z", 2, 3, 9, 70, stands="ended")
+            state.close("2026-03-10T23:00:00Z", 2, said, LINES, form)
+            os.remove(state.path + "/report")
+        return close
+
+    after("gone", closes("whole; findings none; compared 1; gone 1 objects 0 files"), 1,
+          "1 object(s) and 0 file(s) are gone")
+    after("an expected object", closes(
+        "whole; findings none; compared 1; gone 0 objects 0 files; expected 2"), 1, "are gone")
+    def no_longer_expected(state):
+        closes("whole; findings none; compared 1; gone 0 objects 0 files; expected 2")(state)
+        state.night("2026-03-10T23:30:00Z", 3, 1, 9, 70, stands="ended")
+        state.close("2026-03-10T23:40:00Z", 3, lines=LINES)
+
+    after("nothing is expected any more", no_longer_expected, 0, "cycle 3 has ended")
+    after("nothing gone", closes("whole; findings none; compared 1; gone 0 objects 0 files"), 0,
+          "cycle 2 has ended; last whole cycle 2 on 2026-03-10")
+    after("an incomplete report", closes("incomplete lost lines; findings none; compared nothing; "
+                                         "gone 0 objects 0 files", "incomplete"), 1,
+          "the report of cycle 2 is not whole")
+    after("many nights", lambda state: state.night("2026-03-10T22:00:00Z", 2, 3, 5, 90), 0,
+          "99 of 100 done, 1 night(s) left")
+
+
+def old_log(folder):
+    """A log of seven columns, whose nights have no other rows."""
+    path = folder + "/state"
+    rows = [("2026-03-0%dT22:00:00Z" % run, 0, 1, run, 5, 25, "cycle 1, run %d, cost 25, %s" % (
+        run, "ended" if run == 4 else "open")) for run in range(1, 5)]
+    rows += [("2026-03-08T22:00:00Z", 0, 2, 1, 5, 30, "cycle 2, run 1, cost 30, open"),
+             ("2026-03-09T22:00:00Z", 3, 2, 1, 5, 0, "stopped at o")]
+    write(path + "/nights", "".join("\t".join(map(str, row)) + "\n" for row in rows))
+    out = ran([CONTRIB + "/status", "--now", "2026-03-10T05:00:00Z", path])
+    is_so("an old log", out, (2, "OCFL-SCRUB CRITICAL - %s: the last night ended with status 3; "
+                                 "last night 2026-03-09T22:00:00Z, status 3; cycle 2 is open, 30 "
+                                 "of 100 done, 5 night(s) left; last whole cycle 1 on 2026-03-04; "
+                                 "0 open finding(s) | age=25200s;93600;180000;0 findings=0;1;;0 "
+                                 "damaged=0;1;1;0 gone=0;1;;0 progress=30%%;;;0;100\n" % path, ""))
+
+
+ODD = ["%01", "%1F", "!", "%25", "%25a", "-", "0", "01", "1", "1e0", "a", "a b", "a-", "ab", "~",
+       "%7F", "%C3%A9"]
+
+
+def raw(path):
+    """The names of a path by their bytes: the order of places."""
+    if path == ".":
+        return []
+    return [re.sub("%(..)", lambda found: chr(int(found[1], 16)), name) for name in path.split("/")]
+
+
+def open_findings(folder):
+    """What is open after a part of the next cycle, over random reports with odd names."""
+    chance = random.Random(35)
+    for number in range(60):
+        paths = sorted({"/".join(chance.choice(ODD) for _ in range(chance.randint(1, 3)))
+                        for _ in range(30)}, key=raw)
+
+        def report(count):
+            lines = [line("ok", ".")]
+            for path in paths[:count]:
+                kind = chance.randint(0, 5)
+                if kind < 3:
+                    lines.append(line("ok", path, chance.choice("-37")))
+                elif kind == 3:
+                    lines += [line("E092", path, "md5 missing"), line("E093", path, "md5 missing")]
+                elif kind == 4:
+                    lines.append(line("S07", path, "x"))
+            return lines
+
+        older, newer = report(30), report(chance.randint(0, 30))
+        seen = {text.split("\t")[1] for text in newer}
+        expected = [text for text in older if is_finding(text) and text.split("\t")[1] not in seen]
+        expected += [text for text in newer if is_finding(text)]
+        state = standing(folder + "/%d" % number)
+        packed = chance.randint(0, 1)
+        os.remove(state.path + "/reports/cycle-000001")
+        write(state.path + "/reports/cycle-000001" + (".gz" if packed else ""),
+              gzip.compress("".join(older).encode()) if packed else "".join(older))
+        write(state.path + "/reports/cycle-000000", line("E001", "old"))
+        write(state.path + "/report", "".join(newer) + chance.choice(["", "E0", "E092\to/v1/co"]))
+        out = ran([CONTRIB + "/status", "--list", state.path])[1]
+        listed = out.splitlines(True)[1:]
+        if not is_so("open findings %d" % number, sorted(listed), sorted(expected)):
+            break
+        is_so("their order", listed, sorted(listed, key=lambda text: raw(text.split("\t")[1])))
+
+
+def metrics(folder):
+    state = standing(folder, 'a"b\\c')
+    state.begin("2026-03-09T22:00:00Z", 2, 2)
+    file = folder + "/prom/ocfl.prom"
+    os.makedirs(folder + "/prom")
+    is_so("metrics", status(state, "--prometheus", file)[0], 2)
+    labels = '{root="a\\"b\\\\c",state="%s"}' % state.path
+    wanted = {"last_night_timestamp_seconds": "1773093600", "last_night_age_seconds": "25200",
+              "last_night_status": "0", "last_night_run_seconds": "60", "cycle": "2",
+              "cycle_read_bytes": "28", "cycle_read_files": "2", "closed_cycle": "1",
+              "closed_cycle_read_bytes": "96", "closed_cycle_read_files": "4",
+              "closed_cycle_whole": "1", "cycle_progress_ratio": "0.3", "nights_left": "5",
+              "whole_cycle_timestamp_seconds": "1772665200", "gone_objects": "0", "gone_files": "0",
+              "expected_objects_missing": "0", "known_findings": "0", "damaged": "1",
+              "open_findings": "4"}
+    rows = ["ocfl_scrub_%s%s %s" % (name, labels, value) for name, value in wanted.items()]
+    rows += ['ocfl_scrub_open_findings_by_code%s,code="%s"} 1' % (labels[:-1], code)
+             for code in ["E007", "E023", "E072", "S08"]]
+    text = read(file)
+    is_so("their values", [row for row in text.splitlines() if row[0] != "#"], rows)
+    names = re.findall(r"^# HELP (\w+) \S.*\n# TYPE \1 gauge\n(?=\1\{)", text, re.M)
+    is_so("each has its help and its type", len(names), len(wanted) + 1)
+    is_so("who may read them", os.stat(file).st_mode & 0o777, 0o644)
+    is_so("nothing lies beside them", os.listdir(folder + "/prom"), ["ocfl.prom"])
+    # A reader that came before has the old file, and never half of one.
+    with open(file, "rb") as held:
+        status(state, "--prometheus", file, "--gone", "-,-")
+        is_so("they are exchanged", os.fstat(held.fileno()).st_nlink, 0)
+    is_so("no folder", status(state, "--prometheus", folder + "/none/x.prom")[0], 3)
+    empty = State(folder + "/empty")
+    is_so("no night", status(empty, "--prometheus", file)[0], 3)
+    is_so("its time", "last_night_timestamp_seconds{root=\"/srv/ocfl\",state=\"%s\"} 0\n"
+          % empty.path in read(file), True)
+    log = common.read(state.path + "/nights")
+    before = common.snapshot(state.path)
+    status(state)
+    is_so("nothing is changed", (common.snapshot(state.path) == before,
+                                 common.read(state.path + "/nights") == log), (True, True))
+
+
+def tell(folder):
+    tools({"awk": "mawk", "gzip": "gzip"})
+    for part in [statuses, troubled, old_log, open_findings, metrics]:
+        os.mkdir(os.path.join(folder, part.__name__))
+        tried(part, os.path.join(folder, part.__name__))
+
+
+common.trial(tell)

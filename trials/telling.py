@@ -1,0 +1,151 @@
+#!/usr/bin/env python3
+"""Tries `contrib/tell`, as the service runs it after `contrib/nightly`: each night's text, once,
+and of no other night.
+
+usage: telling.py [PART]...
+"""
+import os
+import re
+import shutil
+
+import common
+from common import PROGRAM, is_so
+from shared.nights import (CONTRIB, WRONG_B, Nights, instead, make_root, ran, read, tried_apart,
+                           write)
+
+
+def tell_words(nights):
+    return [CONTRIB + "/tell", "archive", nights.state]
+
+
+def mailing(folder):
+    """The environment of a mail that is put into a file."""
+    bin_ = folder + "/bin"
+    write(bin_ + "/mail", '#!/bin/sh\necho "$@" > %s/mailed; cat >> %s/mailed\n' % (folder, folder),
+          0o755)
+    return {"PATH": bin_ + ":" + os.environ["PATH"], "MAIL": "her@example.org"}
+
+
+def in_service(nights, number, budget="1K", program=PROGRAM, **environment):
+    """A night and what tells of it, as the service runs both: the status, and what the journal and
+    the mail have."""
+    unit = read(CONTRIB + "/systemd/ocfl-scrub@.service")
+    words = re.sub(r"\\\n", "", re.search(r"^ExecStart=((?:.*\\\n)*.*)$", unit, re.MULTILINE)[1])
+    given = {"UNTIL": "23:59", "BUDGET": budget, "FILES": "4611686018427387904",
+             "ROOT": nights.root}
+    words = [re.sub(r"\$\{(\w+)\}", lambda found: given[found[1]], word)
+             .replace("%S/ocfl-scrub/%i", nights.state)
+             .replace("/usr/local/share/ocfl-scrub", CONTRIB) for word in words.split()]
+    environment = {"INVOCATION_ID": "night%d" % number, "MAIL": "", "JOURNAL": "", **environment}
+    status, out, said = ran(words, OCFL_SCRUB=program, **environment)
+    told = ran(tell_words(nights), EXIT_CODE="exited", EXIT_STATUS=str(status), **environment)
+    return status, out + said + told[1] + told[2]
+
+
+def by_hand(folder):
+    nights = Nights(folder + "/state", "")
+    write(nights.path("tonight"), "1 finding\n")
+    mail = mailing(folder)
+    tell = tell_words(nights)
+    is_so("told of 1", ran(tell, EXIT_CODE="exited", EXIT_STATUS="1", **mail), (0, "", ""))
+    is_so("mail", read(folder + "/mailed"),
+          "-s ocfl-scrub: findings in archive her@example.org\n1 finding\n")
+    status, _, said = ran(tell, EXIT_CODE="exited", EXIT_STATUS="3", MAIL="")
+    is_so("told of 3", (status, said.splitlines()),
+          (0, ["ocfl-scrub: archive: the night stopped with status 3", "1 finding"]))
+    status, _, said = ran(tell, EXIT_CODE="killed", EXIT_STATUS="KILL", SERVICE_RESULT="oom-kill",
+                          MAIL="")
+    is_so("told of a kill", said.splitlines()[:1],
+          ["ocfl-scrub: archive: the night was killed (KILL, oom-kill)"])
+    os.remove(nights.path("tonight"))
+    os.remove(folder + "/mailed")
+    is_so("told of 0", ran(tell, EXIT_CODE="exited", EXIT_STATUS="0", **mail), (0, "", ""))
+    is_so("no mail", read(folder + "/mailed"), None)
+
+
+def once(folder):
+    """A night's text is in the journal once, or in a mail, and in both where that is asked."""
+    nights = Nights(folder + "/state", make_root(folder + "/root"))
+    write(nights.root + "/o/v1/content/b", "b")
+    status, said = in_service(nights, 1)
+    is_so("in the journal once", (status, said.count(WRONG_B)), (1, 1))
+    mail = mailing(folder)
+    status, said = in_service(nights, 2, **mail)
+    is_so("by mail", (read(folder + "/mailed") or "").count(WRONG_B), 1)
+    is_so("and not in the journal", (status, said), (1, ""))
+    status, said = in_service(nights, 3, JOURNAL="yes", **mail)
+    is_so("in both where asked", ((read(folder + "/mailed") or "").count(WRONG_B),
+                                  said.count(WRONG_B)), (1, 1))
+
+
+def of_this_night(folder):
+    """A night that fails early is told with its own text, and never with that of the one before."""
+    nights = Nights(folder + "/state", make_root(folder + "/root"))
+    write(nights.root + "/o/v1/content/b", "b")
+    in_service(nights, 1)
+    root, nights.root = nights.root, ""
+    status, said = in_service(nights, 2)
+    is_so("no root", (status, "E092" in said, "storage root is missing" in said), (2, False, True))
+    nights.root = root
+    status, said = in_service(nights, 3, program="/none", PATH="/none")
+    is_so("nothing can be run", "E092" in said, False)
+    os.rename(root, root + ".away")
+    status, said = in_service(nights, 4)
+    is_so("not mounted", (status, "E092" in said, said.count("is its file system mounted?")),
+          (3, False, 1))
+
+
+def a_word_of_a_good_night(folder):
+    """A night without findings that has something to say is told: the one before was cut."""
+    nights = Nights(folder + "/state", make_root(folder + "/root"))
+    in_service(nights, 1, program=instead(folder, "killed", "kill -KILL $PPID; sleep 0.3; exit 1"))
+    ran(["flock", nights.path("lock"), "true"])
+    status, said = in_service(nights, 2)
+    is_so("told", (status, "was cut: run 1 of cycle 1 is made again" in said), (0, True))
+    is_so("silent again", in_service(nights, 3), (0, ""))
+
+
+def links(folder):
+    """What lies there in the place of a text is not followed."""
+    nights = Nights(folder + "/state", make_root(folder + "/root"))
+    nights.night("4")
+    write(folder + "/secret", "secret\n", 0o600)
+    for name in ["tonight", "tonight.night1"]:
+        if os.path.lexists(nights.path(name)):
+            os.remove(nights.path(name))
+        os.symlink(folder + "/secret", nights.path(name))
+    for environment in [{}, {"INVOCATION_ID": "night1"}]:
+        said = ran(tell_words(nights), EXIT_CODE="exited", EXIT_STATUS="1", MAIL="", **environment)
+        is_so("not shown", ["secret" in text for text in said[1:]], [False, False])
+    in_service(nights, 1)
+    is_so("not written", read(folder + "/secret"), "secret\n")
+    nights.night("4")
+    is_so("nor by hand", read(folder + "/secret"), "secret\n")
+
+
+def as_the_user(folder):
+    """Where root runs it, it reads as the user whose folder it is."""
+    if os.geteuid() != 0:
+        return
+    shutil.copytree(CONTRIB, folder + "/contrib")
+    for where in [folder, os.path.dirname(folder)]:
+        os.chmod(where, 0o755)
+    os.makedirs(folder + "/state")
+    write(folder + "/state/tonight", "secret\n", 0o600)
+    os.chown(folder + "/state", 65534, 65534)
+    said = ran([folder + "/contrib/tell", "archive", folder + "/state"], EXIT_CODE="exited",
+               EXIT_STATUS="1", MAIL="")
+    is_so("as the user", "secret" in said[2], False)
+    unit = read(CONTRIB + "/systemd/ocfl-scrub-tell@.service")
+    is_so("the service too", re.findall(r"^(?:User=.*|ExecStart=.)", unit, re.MULTILINE),
+          ["User=ocfl-scrub", "ExecStart=/"])
+
+
+PARTS = [by_hand, once, of_this_night, a_word_of_a_good_night, links, as_the_user]
+
+
+def tell(folder):
+    tried_apart(PARTS, folder)
+
+
+common.trial(tell)

@@ -1,5 +1,5 @@
 -- The report's escapes are the percent-encoding at its set of bytes, and decoding undoes them.
-use Rattle.std.proofs.Common.{◌≡◌, ℕ, ◌<◌, [], ◌∷◌, ◌++◌, true, bytes_eq, All, refl, sym, ap, ap₂, ◌∙◌}
+use Rattle.std.proofs.Common.{◌≡◌, ℕ, ◌<◌, [], ◌∷◌, ◌++◌, true, bytes_eq, All, IsUtf8, refl, sym, ap, ap₂, ◌∙◌}
 use Rattle.std.proofs.lemmas.Bool.{agree_below_at}
 use Rattle.std.proofs.lemmas.Slice.Eq.{bytes_eq-Decides}
 use Rattle.std.proofs.lemmas.List.Elements.{All-head, All-tail}
@@ -7,10 +7,9 @@ use Rattle.percent_encoding.specs.AsciiSet.{should_percent_encode}
 use Rattle.percent_encoding.specs.Percent.{percent_encode_byte, encode_byte, percent_encode, percent_decode}
 use Rattle.percent_encoding.proofs.PercentLemmas.{round_trip}
 use Rattle.ocfl_tree.specs.Place.{Text}
-use Rattle.ocfl_tree.specs.Name.{IsName}
 use Rattle.ocfl_report.specs.Text.{escape_byte, escape}
 use Rattle.ocfl_report.specs.declared.escaped.TheConstants.{ESCAPED}
-use Rattle.ocfl_report.proofs.Bytes.{IsByte, name_bytes}
+use Rattle.ocfl_report.proofs.Bytes.{IsByte, utf8_bytes}
 
 -- a byte is escaped alike
 encode_byte-escape_byte : (b : ℕ) → b < 256 → encode_byte ESCAPED b ≡ escape_byte b
@@ -29,6 +28,10 @@ percent_encode-escape (b ∷ t) h =
 pub percent_decode-escape : (t : Text) → All (λ b. b < 256) t → percent_decode (escape t) ≡ t
 percent_decode-escape t h = ap percent_decode (sym (percent_encode-escape t h)) ∙ round_trip ESCAPED t refl h
 
--- what a name's escaped form decodes to
-pub decoded_name : (t n : Text) → IsName n → t ≡ escape n → percent_decode t ≡ n
-decoded_name t n h e = ap percent_decode e ∙ percent_decode-escape n (name_bytes n h)
+-- what a text's escaped form decodes to
+pub decoded_text : (bytes t : Text) → IsUtf8 t → bytes ≡ escape t → percent_decode bytes ≡ t
+decoded_text bytes t h e = ap percent_decode e ∙ percent_decode-escape t (utf8_bytes t h)
+
+-- the escaped form of a text is that of no other
+pub same_text_of : (bytes t u : Text) → IsUtf8 t → IsUtf8 u → bytes ≡ escape t → bytes ≡ escape u → t ≡ u
+same_text_of bytes t u h k e f = sym (decoded_text bytes t h e) ∙ decoded_text bytes u k f

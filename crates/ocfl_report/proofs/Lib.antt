@@ -8,3 +8,4 @@ pub mod Joined
 pub mod Parts
 pub mod PathTexts
 pub mod LineTexts
+pub mod Fields

@@ -1,8 +1,9 @@
 -- Texts with separators between them are told apart again.
-use Rattle.std.proofs.Common.{◌≡◌, ◌≢◌, ℕ, List, [], ◌∷◌, ◌++◌, ◌==◌, eq-eqb, false, All, refl, ap, ◌∙◌}
+use Rattle.std.proofs.Common.{◌≡◌, ◌≢◌, ℕ, List, [], ◌∷◌, ◌++◌, ◌==◌, eq-eqb, false, All, length, length-append, arith, refl, ap, subst, ◌∙◌}
 use Rattle.std.specs.List.{join_with_byte, slice_split}
 use Rattle.std.proofs.lemmas.List.Splits.{slice_split_none, slice_split_at}
-use Rattle.std.proofs.lemmas.List.Elements.{All-nil, All-cons, All-head, All-tail, All-append}
+use Rattle.std.proofs.lemmas.List.{get_or_at}
+use Rattle.std.proofs.lemmas.List.Elements.{All-nil, All-cons, All-head, All-tail, All-append, All-get_or}
 use Rattle.ocfl_tree.specs.Place.{Text}
 
 -- where two texts are equal, so are their parts up to the first separator, and so is what follows it
@@ -15,6 +16,19 @@ first_parts c (x ∷ xs) (y ∷ ys) r s h k e =
     let g : xs ++ c ∷ r ≡ ys ++ c ∷ s = cc in
     let m = first_parts c xs ys r s (All-tail (λ b. b ≢ c) x xs h) (All-tail (λ b. b ≢ c) y ys k) g in
     ((λ i. f i ∷ m.0 i), m.1)
+
+-- a text with a separator has it
+pub separator_is_there : (c : ℕ) (xs r : Text) → All (λ b. b ≢ c) (xs ++ c ∷ r) → ⊥
+separator_is_there c xs r h = All-get_or (λ b. b ≢ c) (xs ++ c ∷ r) (length xs) 0 (omega (arith, length-append xs (c ∷ r))) h (get_or_at xs c r 0 (length xs) refl)
+
+-- what follows the first of two separators has one
+pub second_is_there : (c : ℕ) (xs ys r s t : Text) → All (λ b. b ≢ c) xs → All (λ b. b ≢ c) r → xs ++ c ∷ r ≡ ys ++ c ∷ (s ++ c ∷ t) → ⊥
+second_is_there c [] [] r s t h k e = let f : r ≡ s ++ c ∷ t = cc in separator_is_there c s t (subst (All (λ b. b ≢ c)) f k)
+second_is_there c [] (y ∷ ys) r s t h k e = let f : r ≡ ys ++ c ∷ (s ++ c ∷ t) = cc in separator_is_there c ys (s ++ c ∷ t) (subst (All (λ b. b ≢ c)) f k)
+second_is_there c (x ∷ xs) [] r s t h k e = let f : x ≡ c = cc in absurd (All-head (λ b. b ≢ c) x xs h f)
+second_is_there c (x ∷ xs) (y ∷ ys) r s t h k e =
+    let f : xs ++ c ∷ r ≡ ys ++ c ∷ (s ++ c ∷ t) = cc in
+    second_is_there c xs ys r s t (All-tail (λ b. b ≢ c) x xs h) k f
 
 -- what is joined at a separator that no part has is split there into the same parts
 pub slice_split-join_with_byte : (c : ℕ) (x : Text) (xs : List Text) → All (All (λ b. b == c ≡ false)) (x ∷ xs) → slice_split (λ b. b == c) (join_with_byte c (x ∷ xs)) ≡ x ∷ xs

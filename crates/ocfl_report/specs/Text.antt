@@ -1,6 +1,7 @@
 -- The text of a report: a line is its code, its place and its detail with tabs between them, and a line feed.
-use Rattle.std.specs.Prelude.{ℕ, ◌/◌, ◌%◌, ◌<◌, ◌==◌, ◌||◌, nat_lt, nat_le, List, [], ◌∷◌, ◌++◌, All, Bool, if◌then◌else◌, map, flat_map, codes, slice_index}
+use Rattle.std.specs.Prelude.{◌≡◌, ℕ, ◌/◌, ◌%◌, ◌<◌, ◌==◌, ◌||◌, nat_lt, nat_le, List, [], ◌∷◌, ◌++◌, All, Bool, if◌then◌else◌, map, flat_map, codes, slice_index}
 use Rattle.std.specs.List.{join_with_byte}
+use Rattle.std.specs.Str.{IsUtf8}
 use Rattle.ocfl_tree.specs.Place.{Text, Place}
 use Rattle.ocfl_tree.specs.Name.{IsPlace}
 use Rattle.ocfl_report.specs.Line.{Line, Item}
@@ -79,3 +80,9 @@ text items = flat_map (λ i. lines_text i.lines) items
 pub record IsLine (l : Line) : Type 0 where
   pub place : IsPlace l.place
   pub detail : All (λ b. b < 256) l.detail
+
+-- the bytes are the text of this line, whose place has names and whose detail is UTF-8
+pub record IsLineText (bytes : Text) (l : Line) : Type 0 where
+  pub place : IsPlace l.place
+  pub detail : IsUtf8 l.detail
+  pub is : bytes ≡ line_text l

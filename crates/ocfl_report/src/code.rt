@@ -1,5 +1,9 @@
-ghost use Rattle.std.specs.Prelude.{◌≡◌};
+//! The codes of report lines.
+ghost use Rattle.std.specs.Prelude.{◌≡◌, IfSome, IsNone};
 ghost use Rattle.ocfl_report.specs.Text.{code_text};
+ghost use Rattle.ocfl_report.specs.declared.code.Code.{Code as ModelCode};
+
+use ocfl_tree::is_bytes;
 
 /// What a line of the report says. Codes that begin with `E` have the numbers of OCFL 1.1's
 /// validation codes.
@@ -126,4 +130,58 @@ impl Code {
             Code::S08 => "S08",
         }
     }
+}
+
+/// All codes.
+const CODES: [Code; 37] = [
+    Code::Clean,
+    Code::E001,
+    Code::E003,
+    Code::E007,
+    Code::E015,
+    Code::E017,
+    Code::E018,
+    Code::E023,
+    Code::E024,
+    Code::E025,
+    Code::E033,
+    Code::E036,
+    Code::E041,
+    Code::E058,
+    Code::E060,
+    Code::E061,
+    Code::E063,
+    Code::E069,
+    Code::E072,
+    Code::E073,
+    Code::E076,
+    Code::E080,
+    Code::E092,
+    Code::E093,
+    Code::E096,
+    Code::E097,
+    Code::E099,
+    Code::E100,
+    Code::E101,
+    Code::S01,
+    Code::S02,
+    Code::S03,
+    Code::S04,
+    Code::S05,
+    Code::S06,
+    Code::S07,
+    Code::S08,
+];
+
+/// The code that has this text, and `None` where no code has it.
+pub(crate) fn read_code(text: &[u8]) -> Option<Code>
+    ensures some { IfSome result (λ code. text.now ≡ code_text code) }
+    ensures none { IsNone result → (code : ModelCode) → text.now ≡ code_text code → ⊥ }
+{
+    for code in CODES {
+        if is_bytes(text, code.text().as_bytes()) {
+            return Some(code);
+        }
+    }
+    None
 }

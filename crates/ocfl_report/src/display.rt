@@ -1,3 +1,4 @@
+//! A place as it is shown to a user.
 ghost use Rattle.std.specs.Prelude.{Some};
 ghost use Rattle.ocfl_report.specs.Text.{place_text};
 

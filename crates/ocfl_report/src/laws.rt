@@ -1,3 +1,4 @@
+//! The laws of the texts of places and lines.
 ghost use Rattle.std.specs.Prelude.{◌≡◌, ◌≢◌, List, All, IfOk, flat_map};
 ghost use Rattle.ocfl_tree.specs.Place.{Place as ModelPlace};
 ghost use Rattle.ocfl_tree.specs.Name.{IsPlace};
@@ -6,6 +7,7 @@ ghost use Rattle.ocfl_report.specs.Text.{place_text, line_text, lines_text, text
 
 use crate::line::Line;
 use crate::path::{PlaceStop, put_place, read_place};
+use crate::reading::{LineStop, read_line};
 use ocfl_tree::Place;
 use ocfl_tree::laws::every_place_has_names;
 use std::alloc::Global;
@@ -39,6 +41,17 @@ pub fn every_line_fits(line: &Line)
 {
     every_place_has_names(&line.place);
     let _ = line.detail.as_str();
+}
+
+/// What is written of a line is read as that line, unless memory runs out.
+pub fn line_reads_back(alloc: Global, line: &Line) -> Result<Line, LineStop>
+    ensures same { IfOk result (λ read. line_of read ≡ line_of line.now) }
+    ensures never_bad { result ≢ Err LineStop.Bad }
+{
+    every_line_fits(line);
+    let mut written = Vec::new(alloc);
+    line.put(&mut written)?;
+    read_line(alloc, written.as_slice())
 }
 
 /// The text of items is that of all their lines.

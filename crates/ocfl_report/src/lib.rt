@@ -8,9 +8,11 @@ pub mod laws;
 mod line;
 mod output;
 mod path;
+mod reading;
 
 pub use code::Code;
 pub use display::DisplayPlace;
 pub use line::Line;
 pub use output::{OutStop, write_all_of};
 pub use path::{PlaceStop, put_place, read_place};
+pub use reading::{LineStop, read_line, split_once};

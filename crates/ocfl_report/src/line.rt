@@ -1,3 +1,5 @@
+//! A report line, and its text.
+
 use crate::code::Code;
 use crate::escaped::put_escaped;
 use crate::path::put_text;

@@ -1,3 +1,4 @@
+//! Writing all of some bytes, or saying how many went out.
 ghost use Rattle.std.specs.Prelude.{◌<◌, ◌≤◌, OnOk, IfErr, length, take};
 ghost use Rattle.std.specs.Io.KnownBytes.{Appends};
 

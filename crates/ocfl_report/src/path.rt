@@ -1,3 +1,4 @@
+//! The text of a place, written and read.
 ghost use Rattle.std.specs.Prelude.{◌≡◌, ◌+◌, ◌<◌, ◌≤◌, ◌++◌, ◌==◌, ◌↔◌, codes, length, map};
 ghost use Rattle.std.specs.Prelude.{vec_len, vec_capacity, IsTrue, IfOk, OnOk, OnErr};
 ghost use Rattle.std.specs.Io.{StartsWith};
@@ -6,9 +7,8 @@ ghost use Rattle.ocfl_tree.specs.Place.{Text as ModelText, Place as ModelPlace};
 ghost use Rattle.ocfl_tree.specs.Name.{IsName, IsPlace};
 ghost use Rattle.ocfl_report.specs.Text.{escape, place_text};
 
-use crate::escaped::{is_escaped_form, put_escaped};
+use crate::escaped::{put_escaped, read_escaped};
 use ocfl_tree::{Name, NameStop, Place};
-use percent_encoding::{DecodeError, percent_decode};
 use std::alloc::{AllocError, Global};
 
 /// Why bytes were not read as a place.
@@ -114,15 +114,9 @@ fn read_name(alloc: Global, bytes: &[u8]) -> Result<Name, PlaceStop>
     ensures bad { result ≡ Err PlaceStop.Bad
         → (name : ModelText) → IsName name → bytes.now ≡ escape name → ⊥ }
 {
-    let text = match percent_decode(bytes).decode_utf8(alloc) {
-        Ok(text) => text,
-        Err(DecodeError::Utf8(_)) => return Err(PlaceStop::Bad),
-        Err(DecodeError::OutOfMemory) => return Err(PlaceStop::Memory),
-    };
-    // Decoding takes more than one form of a text: small digits, and escapes of any byte.
-    if !is_escaped_form(bytes, text.as_str().as_bytes()) {
+    let Some(text) = read_escaped(alloc, bytes)? else {
         return Err(PlaceStop::Bad);
-    }
+    };
     match Name::new(alloc, text.as_str()) {
         Ok(name) => Ok(name),
         Err(NameStop::Bad) => Err(PlaceStop::Bad),

@@ -1,0 +1,117 @@
+-- The text of separators determines them.
+use Rattle.std.proofs.Common.{◌≡◌, ◌≢◌, ◌⊎◌, inl, inr, ℕ, ◌<◌, List, [], ◌∷◌, ◌++◌, All, length, refl, sym, ap, subst, ◌∙◌, append_assoc, append-nil, length-append, arith}
+use Rattle.std.proofs.lemmas.List.Elements.{All-head, All-tail, All-weaker}
+use Rattle.std.proofs.lemmas.List.Concat.{flat_map-append}
+use Rattle.ocfl_tree.specs.Place.{Text, Place}
+use Rattle.ocfl_tree.specs.Name.{IsPlace}
+use Rattle.ocfl_report.specs.Text.{place_text}
+use Rattle.ocfl_report.proofs.Bytes.{IsPrintable}
+use Rattle.ocfl_report.proofs.Separators.{first_parts, separator_is_there}
+use Rattle.ocfl_report.proofs.PlaceTexts.{place_text_determines, place_text_printable}
+use Rattle.ocfl_parts.specs.Separators.{AreSeparators, part_line, parts_text}
+use Rattle.ocfl_parts.specs.Parts.{max_parts, max_bytes, IsPartsText, BeginsWith, IsFirstBad, HasMoreLines, IsBadLine}
+use Rattle.ocfl_parts.proofs.Orders.{names_last, AreSeparators-front}
+
+path_one_line : (p : Place) → IsPlace p → All (λ b. b ≢ 10) (place_text p)
+path_one_line p h = All-weaker IsPrintable (λ b. b ≢ 10) (λ b k. omega (arith, k)) (place_text p) (place_text_printable p h)
+
+pub part_line-append : (p : Place) (r : Text) → part_line p ++ r ≡ place_text p ++ 10 ∷ r
+part_line-append p r = append_assoc (place_text p) (10 ∷ []) r
+
+-- places are the same where texts begin with their lines, and so is what follows
+pub first_lines : (p q : Place) (r s : Text) → IsPlace p → IsPlace q → part_line p ++ r ≡ part_line q ++ s → (p ≡ q) × (r ≡ s)
+first_lines p q r s h k e =
+    let parts = first_parts 10 (place_text p) (place_text q) r s (path_one_line p h) (path_one_line q k) (sym (part_line-append p r) ∙ e ∙ part_line-append q s) in
+    (place_text_determines p q h k parts.0, parts.1)
+
+-- a line is not empty
+line_is_there : (p : Place) (r : Text) → part_line p ++ r ≢ []
+line_is_there p r e = by (place_text p) (sym (part_line-append p r) ∙ e)
+  where
+    by : (t : Text) → t ++ 10 ∷ r ≡ [] → ⊥
+    by [] f = cc
+    by (b ∷ t) f = cc
+
+lines_determine : (ps qs : List Place) → All IsPlace ps → All IsPlace qs → parts_text ps ≡ parts_text qs → ps ≡ qs
+lines_determine [] [] h k e = refl
+lines_determine [] (q ∷ qs) h k e = absurd (line_is_there q (parts_text qs) (sym e))
+lines_determine (p ∷ ps) [] h k e = absurd (line_is_there p (parts_text ps) e)
+lines_determine (p ∷ ps) (q ∷ qs) h k e =
+    let first = first_lines p q (parts_text ps) (parts_text qs) (All-head IsPlace p ps h) (All-head IsPlace q qs k) e in
+    let rest = lines_determine ps qs (All-tail IsPlace p ps h) (All-tail IsPlace q qs k) first.1 in
+    λ i. first.0 i ∷ rest i
+
+pub parts_text_determines : (ps qs : List Place) → AreSeparators ps → AreSeparators qs → parts_text ps ≡ parts_text qs → ps ≡ qs
+parts_text_determines ps qs h k e = lines_determine ps qs h.names k.names e
+
+-- ---- one line more
+
+-- the text of separators and one more
+pub parts_text-push : (ps : List Place) (p : Place) → parts_text (ps ++ p ∷ []) ≡ parts_text ps ++ part_line p
+parts_text-push ps p = flat_map-append part_line ps (p ∷ []) ∙ ap (λ t. parts_text ps ++ t) (append-nil (part_line p))
+
+-- what stands before the line feed of a separator's line, and what follows it
+pub path_of_line : (text path rest : Text) (p : Place) (after : Text) → text ≡ path ++ 10 ∷ rest → All (λ b. b ≢ 10) path → IsPlace p → text ≡ part_line p ++ after → path ≡ place_text p
+path_of_line text path rest p after e first h f = (first_parts 10 path (place_text p) rest after first (path_one_line p h) (sym e ∙ f ∙ part_line-append p after)).0
+
+-- without a line feed there is no line
+pub no_line : (text : Text) → All (λ b. b ≢ 10) text → (p : Place) (after : Text) → text ≢ part_line p ++ after
+no_line text none p after e = separator_is_there 10 (place_text p) after (subst (All (λ b. b ≢ 10)) (e ∙ part_line-append p after) none)
+
+-- where one place is refused as a separator, so is each with that text
+pub other_refused : (text path rest : Text) (before : List Place) (q : Place) → text ≡ path ++ 10 ∷ rest → All (λ b. b ≢ 10) path → path ≡ place_text q → IsPlace q → (AreSeparators (before ++ q ∷ []) → ⊥)
+    → (p : Place) (after : Text) → AreSeparators (before ++ p ∷ []) → text ≢ part_line p ++ after
+other_refused text path rest before q e first is names refused p after k f =
+    let name = names_last before p k.names in
+    let same : p ≡ q = place_text_determines p q name names (sym (path_of_line text path rest p after e first name f) ∙ is) in
+    refused (subst (λ x. AreSeparators (before ++ x ∷ [])) same k)
+
+-- the lines that were read, and one more
+pub lines_read : (bytes rest left : Text) (ps qs : List Place) (p : Place) → bytes ≡ parts_text ps ++ rest → rest ≡ part_line p ++ left → qs ≡ ps ++ p ∷ [] → bytes ≡ parts_text qs ++ left
+lines_read bytes rest left ps qs p e f g =
+    e ∙ ap (λ t. parts_text ps ++ t) f ∙ sym (append_assoc (parts_text ps) (part_line p) left) ∙ ap (λ t. t ++ left) (sym (parts_text-push ps p) ∙ ap parts_text (sym g))
+
+-- a line takes a byte at least
+pub line_shortens : (text left : Text) (p : Place) → text ≡ part_line p ++ left → length left < length text
+line_shortens text left p e = omega (arith, ap length e, length-append (part_line p) left, length-append (place_text p) (10 ∷ []))
+
+-- ---- separators that begin as others do
+
+-- the text of separators goes on, after the lines of others, with that of one more
+record GoesOn (ps before : List Place) (rest : Text) : Type 0 where
+  pub next : Place
+  pub more : List Place
+  pub is : ps ≡ before ++ next ∷ more
+  pub text : rest ≡ part_line next ++ parts_text more
+
+goes_on : (ps before : List Place) (rest : Text) → All IsPlace ps → All IsPlace before → rest ≢ [] → parts_text ps ≡ parts_text before ++ rest → GoesOn ps before rest
+goes_on [] [] rest h k more e = absurd (more (sym e))
+goes_on (p ∷ ps) [] rest h k more e = record { next = p; more = ps; is = refl; text = sym e }
+goes_on [] (q ∷ qs) rest h k more e = absurd (line_is_there q (parts_text qs ++ rest) (sym (e ∙ append_assoc (part_line q) (parts_text qs) rest)))
+goes_on (p ∷ ps) (q ∷ qs) rest h k more e =
+    let first = first_lines p q (parts_text ps) (parts_text qs ++ rest) (All-head IsPlace p ps h) (All-head IsPlace q qs k) (e ∙ append_assoc (part_line q) (parts_text qs) rest) in
+    let on = goes_on ps qs rest (All-tail IsPlace p ps h) (All-tail IsPlace q qs k) more first.1 in
+    record { next = on.next; more = on.more; is = (λ i. first.0 i ∷ on.is i); text = on.text }
+
+begins_in : (b : Text) (ps before : List Place) (rest : Text) → AreSeparators ps → b ≡ parts_text ps → BeginsWith b before rest → GoesOn ps before rest
+begins_in b ps before rest h e k = goes_on ps before rest h.names k.separators.names k.more (sym e ∙ k.is)
+
+-- the text of separators has no bad line
+pub no_bad_line : (b : Text) (n : ℕ) (ps : List Place) → AreSeparators ps → b ≡ parts_text ps → IsFirstBad b n → ⊥
+no_bad_line b n ps h e k =
+    let on = begins_in b ps k.before k.rest h e k.begins in
+    let whole : AreSeparators ((k.before ++ on.next ∷ []) ++ on.more) = subst AreSeparators (on.is ∙ sym (append_assoc k.before (on.next ∷ []) on.more)) h in
+    k.bad on.next (parts_text on.more) (AreSeparators-front (k.before ++ on.next ∷ []) on.more whole) on.text
+
+-- where there are more lines than there may be, there are too many separators
+pub more_than_may_be : (b : Text) (ps : List Place) → AreSeparators ps → b ≡ parts_text ps → HasMoreLines b → max_parts < length ps
+more_than_may_be b ps h e k =
+    let on = begins_in b ps k.before k.rest h e k.begins in
+    omega (arith, k.all, ap length on.is, length-append k.before (on.next ∷ on.more))
+
+pub not_bad : (b : Text) (n : ℕ) (ps : List Place) → IsPartsText b ps → IsBadLine b n → ⊥
+not_bad b n ps h k = no_bad_line b n ps h.separators h.is k.first
+
+pub not_long : (b : Text) (ps : List Place) → IsPartsText b ps → (max_bytes < length b) ⊎ HasMoreLines b → ⊥
+not_long b ps h (inl l) = omega (arith, l, h.short)
+not_long b ps h (inr k) = omega (arith, more_than_may_be b ps h.separators h.is k, h.few)

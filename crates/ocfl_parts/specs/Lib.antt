@@ -1,0 +1,3 @@
+pub mod Separators
+pub mod Parts
+pub mod Stop

@@ -1,0 +1,20 @@
+-- Separators, and their text.
+use Rattle.std.specs.Prelude.{List, [], ◌∷◌, ◌++◌, flat_map}
+use Rattle.ocfl_tree.specs.Place.{Text, Place, place_cmp}
+use Rattle.ocfl_tree.specs.Name.{IsPlace}
+use Rattle.ocfl_tree.specs.Ascending.{IsAscending}
+use Rattle.ocfl_report.specs.Text.{place_text}
+use Rattle.std.specs.Prelude.{All}
+
+-- places in strictly ascending order
+pub record AreSeparators (ps : List Place) : Type 0 where
+  pub names : All IsPlace ps
+  pub ascend : IsAscending place_cmp ps
+
+-- the text of a place, as report lines write it, and a line feed
+abbrev pub part_line : Place → Text
+part_line p = place_text p ++ 10 ∷ []
+
+-- a line for each
+abbrev pub parts_text : List Place → Text
+parts_text ps = flat_map part_line ps

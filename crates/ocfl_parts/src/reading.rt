@@ -1,0 +1,119 @@
+//! Reading separators from their text, and why other bytes are refused.
+ghost use Rattle.std.specs.Prelude.{◌≡◌, ◌≢◌, ◌⊎◌, ℕ, List, ◌++◌, ◌∷◌, [], ◌≤◌, length};
+ghost use Rattle.std.specs.Prelude.{take, IfOk, IfErr, IfSome, OnOk, OnErr};
+ghost use Rattle.ocfl_tree.specs.Place.{Place as ModelPlace};
+ghost use Rattle.ocfl_parts.specs.Separators.{AreSeparators, part_line, parts_text};
+ghost use Rattle.ocfl_parts.specs.Parts.{max_parts, IsPartsText};
+ghost use Rattle.ocfl_parts.specs.Stop.{StopsRightly, LinesStop};
+
+use crate::separators::{PushStop, Separators};
+use ocfl_report::{PlaceStop, read_place, split_once};
+use std::alloc::Global;
+use std::io::{ErrorKind, Read};
+
+/// How many bytes the text of separators has at most.
+const MAX_BYTES: usize = 16_777_216;
+
+/// How many separators it has at most.
+const MAX_PARTS: usize = 100_000;
+
+/// Why no separators were read: too many bytes come first, and then the lines in their order.
+#[derive(Clone, Copy, Debug, PartialEq, Eq)]
+pub enum PartsStop {
+    /// The first line, from 1, that is no place with its line feed, or is not above the one before.
+    Line(usize),
+    /// There are more than 16,777,216 bytes, or 100,000 lines are right and more follow.
+    Long,
+    /// The reader failed.
+    Read,
+    /// Memory was refused.
+    Memory,
+}
+
+/// Reads separators from all the bytes of a reader: to its end, or one byte more than their text
+/// can have. Their text has a line for each, its place as report lines write it, and no other
+/// bytes; no bytes at all are no separators.
+pub fn read_parts<R: Read>(alloc: Global, reader: &mut R) -> Result<Separators, PartsStop>
+    ensures separators { IfOk result
+        (λ separators. IfSome (R.remaining reader.old) (λ bytes. IsPartsText bytes separators)) }
+    ensures refused { IfErr result
+        (λ stop. IfSome (R.remaining reader.old) (λ bytes. StopsRightly bytes stop)) }
+{
+    let bytes = read_limited(alloc, reader)?;
+    read_text(alloc, &bytes)
+}
+
+/// All the bytes of a reader, or the first of them, one more than the text can have.
+fn read_limited<R: Read>(alloc: Global, reader: &mut R) -> Result<Vec<u8>, PartsStop>
+    ensures bytes { IfOk result
+        (λ bytes. IfSome (R.remaining reader.old) (λ all. bytes.items ≡ take 16777217 all)) }
+    ensures stop { IfErr result
+        (λ stop. (stop ≡ PartsStop.Read) ⊎ (stop ≡ PartsStop.Memory)) }
+{
+    let mut bytes = Vec::new(alloc);
+    let mut limited = Read::take(reader, MAX_BYTES as u64 + 1);
+    match limited.read_to_end(&mut bytes) {
+        Ok(_) => Ok(bytes),
+        Err(error) if error.kind() == ErrorKind::OutOfMemory => Err(PartsStop::Memory),
+        Err(_) => Err(PartsStop::Read),
+    }
+}
+
+/// The separators whose text the bytes are.
+fn read_text(alloc: Global, bytes: &[u8]) -> Result<Separators, PartsStop>
+    ensures separators { IfOk result (λ separators. IsPartsText bytes.now separators) }
+    ensures refused { IfErr result (λ stop. StopsRightly bytes.now stop) }
+{
+    if bytes.len() > MAX_BYTES {
+        return Err(PartsStop::Long);
+    }
+    read_lines(alloc, bytes)
+}
+
+/// The separators of these lines.
+fn read_lines(alloc: Global, bytes: &[u8]) -> Result<Separators, PartsStop>
+    ensures text { IfOk result (λ separators. bytes.now ≡ parts_text separators) }
+    ensures rule { IfOk result AreSeparators }
+    ensures few { IfOk result (λ separators. length separators ≤ max_parts) }
+    ensures refused { IfErr result (λ stop. LinesStop bytes.now stop) }
+{
+    let mut separators = Separators::new(alloc);
+    let mut rest = bytes;
+    while !rest.is_empty() {
+        let count = separators.len();
+        if count >= MAX_PARTS {
+            return Err(PartsStop::Long);
+        }
+        match read_line(alloc, &mut separators, rest) {
+            Ok(left) => rest = left,
+            Err(PushStop::NotAbove) => return Err(PartsStop::Line(count + 1)),
+            Err(PushStop::Memory) => return Err(PartsStop::Memory),
+        }
+    }
+    Ok(separators)
+}
+
+/// Appends the separator of the first line. Gives what follows the line.
+fn read_line<'a>(
+    alloc: Global,
+    separators: &mut Separators,
+    text: &'a [u8],
+) -> Result<&'a [u8], PushStop>
+    ensures ok { IfOk result (λ rest. (p : ModelPlace)
+        × (separators.new ≡ separators.old ++ p ∷ []) × (text.now ≡ part_line p ++ rest.now)) }
+    ensures rule { OnOk result (AreSeparators separators.new) }
+    ensures err { OnErr result (separators.new ≡ separators.old) }
+    ensures bad { result ≡ Err PushStop.NotAbove → (p : ModelPlace) (after : List ℕ)
+        → AreSeparators (separators.old ++ p ∷ []) → text.now ≢ part_line p ++ after }
+{
+    let Some((path, rest)) = split_once(text, b'\n') else {
+        return Err(PushStop::NotAbove);
+    };
+    let place = match read_place(alloc, path) {
+        Ok(place) => place,
+        Err(PlaceStop::Bad) => return Err(PushStop::NotAbove),
+        Err(PlaceStop::Memory) => return Err(PushStop::Memory),
+    };
+    separators.push(place)?;
+    Ok(rest)
+}

@@ -10,8 +10,8 @@ use Rattle.hex.proofs.HexLemmas.{length-encode_with}
 use Rattle.ocfl_tree.specs.Place.{Text}
 use Rattle.ocfl_report.specs.Text.{place_text}
 use Rattle.ocfl_report.proofs.PlaceTexts.{place_text_determines}
-use Rattle.ocfl_cursor.specs.Cursor.{State, start, behind, ended, Cursor, IsShortPlace, IsCursor, number_line, state_text, cursor_body, digest_line, cursor_text, version_one_body, version_one_text}
-use Rattle.ocfl_cursor.specs.Internal.Body.{version_line, files_line, FilesFit, counts_text, CountsFit, IsStateLine, IsBodyOf}
+use Rattle.ocfl_cursor.specs.Cursor.{State, start, behind, ended, Cursor, IsShortPlace, IsCursor, number_line, state_text, cursor_lines, cursor_body, digest_line, cursor_text, version_one_body, version_one_text}
+use Rattle.ocfl_cursor.specs.Internal.Body.{version_line, files_line, FilesFit, counts_text, CountsFit, IsStateLine, AreLinesOf, IsBodyOf}
 use Rattle.ocfl_cursor.specs.Refusal.{IsTextOf}
 use Rattle.ocfl_cursor.specs.declared.form.Version.{Version}
 use Rattle.ocfl_cursor.specs.declared.form.Version.TheVariants.{One, Two}
@@ -69,39 +69,27 @@ abbrev from_cycle : Version → ℕ → ℕ → ℕ → ℕ → Text → Text
 from_cycle v n m k f r = number_line (codes "cycle") n ++ from_runs v m k f r
 
 -- their lines and what follows, one after the other
-pub counts_text-append : (v : Version) (n m k f : ℕ) (r : Text) → counts_text v n m k f ++ r ≡ version_line v ++ from_cycle v n m k f r
+pub counts_text-append : (v : Version) (n m k f : ℕ) (r : Text) → counts_text v n m k f ++ r ≡ from_cycle v n m k f r
 counts_text-append v n m k f r =
-    let head = version_line v in
-    append_assoc (head ++ number_line (codes "cycle") n ++ number_line (codes "runs") m ++ number_line (codes "spent") k) (files_line v f) r
-    ∙ append_assoc (head ++ number_line (codes "cycle") n ++ number_line (codes "runs") m) (number_line (codes "spent") k) (from_files v f r)
-    ∙ append_assoc (head ++ number_line (codes "cycle") n) (number_line (codes "runs") m) (from_spent v k f r)
-    ∙ append_assoc head (number_line (codes "cycle") n) (from_runs v m k f r)
+    append_assoc (number_line (codes "cycle") n ++ number_line (codes "runs") m ++ number_line (codes "spent") k) (files_line v f) r
+    ∙ append_assoc (number_line (codes "cycle") n ++ number_line (codes "runs") m) (number_line (codes "spent") k) (from_files v f r)
+    ∙ append_assoc (number_line (codes "cycle") n) (number_line (codes "runs") m) (from_spent v k f r)
 
--- numbers are the same where texts begin with their lines, and so are the version and what follows them
-pub record SameCounts (v w : Version) (n m k f n' m' k' f' : ℕ) (r s : Text) : Type 0 where
-  pub version : v ≡ w
+-- numbers are the same where texts begin with their lines, and so is what follows them
+pub record SameCounts (n m k f n' m' k' f' : ℕ) (r s : Text) : Type 0 where
   pub cycle : n ≡ n'
   pub runs : m ≡ m'
   pub spent : k ≡ k'
   pub files : f ≡ f'
   pub rest : r ≡ s
 
--- in one version
-same_counts : (v : Version) (n m k f n' m' k' f' : ℕ) (r s : Text) → CountsFit v n m k f → CountsFit v n' m' k' f' → from_cycle v n m k f r ≡ from_cycle v n' m' k' f' s → SameCounts v v n m k f n' m' k' f' r s
-same_counts v n m k f n' m' k' f' r s h h' e =
-    let first = number_line_determines (codes "cycle") n n' _ _ (wide_cycle h) (wide_cycle h') e in
+pub counts_text_determines : (v : Version) (n m k f n' m' k' f' : ℕ) (r s : Text) → CountsFit v n m k f → CountsFit v n' m' k' f' → counts_text v n m k f ++ r ≡ counts_text v n' m' k' f' ++ s → SameCounts n m k f n' m' k' f' r s
+counts_text_determines v n m k f n' m' k' f' r s h h' e =
+    let first = number_line_determines (codes "cycle") n n' _ _ (wide_cycle h) (wide_cycle h') (sym (counts_text-append v n m k f r) ∙ e ∙ counts_text-append v n' m' k' f' s) in
     let second = number_line_determines (codes "runs") m m' _ _ (wide_runs h) (wide_runs h') first.1 in
     let third = number_line_determines (codes "spent") k k' _ _ h.spent h'.spent second.1 in
     let fourth = files_line_determines v f f' r s h.files h'.files third.1 in
-    record { version = refl; cycle = first.0; runs = second.0; spent = third.0; files = fourth.0; rest = fourth.1 }
-
-pub counts_text_determines : (v w : Version) (n m k f n' m' k' f' : ℕ) (r s : Text) → CountsFit v n m k f → CountsFit w n' m' k' f' → counts_text v n m k f ++ r ≡ counts_text w n' m' k' f' ++ s → SameCounts v w n m k f n' m' k' f' r s
-counts_text_determines v w n m k f n' m' k' f' r s h h' e =
-    let lines = version_line_determines v w _ _ (sym (counts_text-append v n m k f r) ∙ e ∙ counts_text-append w n' m' k' f' s) in
-    by w lines.0 h' lines.1
-  where
-    by : (u : Version) → v ≡ u → CountsFit u n' m' k' f' → from_cycle v n m k f r ≡ from_cycle u n' m' k' f' s → SameCounts v u n m k f n' m' k' f' r s
-    by u same = subst (λ x. CountsFit x n' m' k' f' → from_cycle v n m k f r ≡ from_cycle x n' m' k' f' s → SameCounts v x n m k f n' m' k' f' r s) same (same_counts v n m k f n' m' k' f' r s h)
+    record { cycle = first.0; runs = second.0; spent = third.0; files = fourth.0; rest = fourth.1 }
 
 -- ---- the state
 
@@ -124,55 +112,82 @@ state_text_determines ended ended h k e = refl
 pub state_line_determines : (line : Text) (s t : State) → IsStateLine line s → IsStateLine line t → s ≡ t
 state_line_determines line s t h k = state_text_determines s t h.short k.short (append_cancel_right (state_text s) (state_text t) (10 ∷ []) (sym h.is ∙ k.is))
 
--- ---- the text before the digest line
+-- ---- the lines between the first and the digest line
 
--- a cursor's body in one of the versions, by its parts
-pub record IsWritten (v : Version) (body : Text) (c : Cursor) : Type 0 where
-  pub keeps : IsCursor c
-  pub fits : CountsFit v c.cycle c.runs c.spent c.files
-  pub is : body ≡ counts_text v c.cycle c.runs c.spent c.files ++ (state_text c.state ++ 10 ∷ [])
+-- as many numbers as a cursor's text tells
+pub CountsFit-lines : (v : Version) (lines : Text) (c : Cursor) → AreLinesOf v lines c → CountsFit v c.cycle c.runs c.spent c.files
+CountsFit-lines v lines c h = record { cycle = h.keeps.cycle; runs = h.keeps.runs; spent = omega (arith, h.keeps.spent, h.keeps.runs); files = h.files }
 
-CountsFit-cursor : (v : Version) (c : Cursor) → IsCursor c → FilesFit v c.files → CountsFit v c.cycle c.runs c.spent c.files
-CountsFit-cursor v c h f = record { cycle = h.cycle; runs = h.runs; spent = omega (arith, h.spent, h.runs); files = f }
-
-in_two : (a b d e f t u : Text) → a ++ (b ++ d ++ e ++ f ++ t ++ u) ≡ (a ++ b ++ d ++ e ++ f) ++ (t ++ u)
-in_two a b d e f t u = simp append_assoc
-
-without_files : (a b d e t u : Text) → a ++ b ++ d ++ e ++ t ++ u ≡ (a ++ b ++ d ++ e ++ []) ++ (t ++ u)
-without_files a b d e t u = simp append_assoc
-
-cursor_body_parts : (c : Cursor) → cursor_body c ≡ counts_text Two c.cycle c.runs c.spent c.files ++ (state_text c.state ++ 10 ∷ [])
-cursor_body_parts c = in_two (codes "ocfl-scrub cursor 2\n") (number_line (codes "cycle") c.cycle) (number_line (codes "runs") c.runs) (number_line (codes "spent") c.spent) (number_line (codes "files") c.files) (state_text c.state) (10 ∷ [])
-
-version_one_parts : (c : Cursor) → version_one_body c ≡ counts_text One c.cycle c.runs c.spent c.files ++ (state_text c.state ++ 10 ∷ [])
-version_one_parts c = without_files (codes "ocfl-scrub cursor 1\n") (number_line (codes "cycle") c.cycle) (number_line (codes "runs") c.runs) (number_line (codes "spent") c.spent) (state_text c.state) (10 ∷ [])
-
--- a body is written in version 2, or in version 1
-pub written_body : (body : Text) (c : Cursor) → IsBodyOf body c → (v : Version) × IsWritten v body c
-written_body body c h = by h.is
-  where
-    by : (body ≡ cursor_body c) ⊎ ((c.files ≡ 0) × (body ≡ version_one_body c)) → (v : Version) × IsWritten v body c
-    by (inl e) = (Two, record { keeps = h.keeps; fits = CountsFit-cursor Two c h.keeps (omega (arith, h.keeps.files, h.keeps.spent, h.keeps.runs)); is = e ∙ cursor_body_parts c })
-    by (inr e) = (One, record { keeps = h.keeps; fits = CountsFit-cursor One c h.keeps e.0; is = e.1 ∙ version_one_parts c })
-
--- and what is written so is a body
-body_from_written : (v : Version) (body : Text) (c : Cursor) → IsWritten v body c → IsBodyOf body c
-body_from_written One body c h = record { keeps = h.keeps; is = inr (h.fits.files, h.is ∙ sym (version_one_parts c)) }
-body_from_written Two body c h = record { keeps = h.keeps; is = inl (h.is ∙ sym (cursor_body_parts c)) }
+-- the lines as those of the numbers, and that of the state
+pub lines_parts : (v : Version) (lines : Text) (c : Cursor) → AreLinesOf v lines c → lines ≡ counts_text v c.cycle c.runs c.spent c.files ++ (state_text c.state ++ 10 ∷ [])
+lines_parts v lines c h = h.is ∙ append_assoc (counts_text v c.cycle c.runs c.spent c.files) (state_text c.state) (10 ∷ [])
 
 -- the line of a cursor's state
-pub IsStateLine-cursor : (c : Cursor) → IsCursor c → IsStateLine (state_text c.state ++ 10 ∷ []) c.state
+IsStateLine-cursor : (c : Cursor) → IsCursor c → IsStateLine (state_text c.state ++ 10 ∷ []) c.state
 IsStateLine-cursor c h = record { short = h.place; is = refl }
 
--- cursors are the same if their bodies are
-written_determines : (v w : Version) (body : Text) (c d : Cursor) → IsWritten v body c → IsWritten w body d → c ≡ d
-written_determines v w body c d h k =
-    let same = counts_text_determines v w c.cycle c.runs c.spent c.files d.cycle d.runs d.spent d.files _ _ h.fits k.fits (sym h.is ∙ k.is) in
+-- cursors are the same if their lines are
+pub lines_determine : (v : Version) (lines : Text) (c d : Cursor) → AreLinesOf v lines c → AreLinesOf v lines d → c ≡ d
+lines_determine v lines c d h k =
+    let same = counts_text_determines v c.cycle c.runs c.spent c.files d.cycle d.runs d.spent d.files _ _ (CountsFit-lines v lines c h) (CountsFit-lines v lines d k) (sym (lines_parts v lines c h) ∙ lines_parts v lines d k) in
     let state : c.state ≡ d.state = state_line_determines _ c.state d.state (IsStateLine-cursor c h.keeps) (record { short = k.keeps.place; is = same.rest }) in
     λ i. record { cycle = same.cycle i; runs = same.runs i; spent = same.spent i; files = same.files i; state = state i }
 
+-- a cursor has lines in version 2
+pub AreLinesOf-cursor : (c : Cursor) → IsCursor c → AreLinesOf Two (cursor_lines c) c
+AreLinesOf-cursor c h = record { keeps = h; files = omega (arith, h.files, h.spent, h.runs); is = refl }
+
+-- and what are its lines there is known
+pub lines_of_two : (lines : Text) (c : Cursor) → AreLinesOf Two lines c → lines ≡ cursor_lines c
+lines_of_two lines c h = h.is
+
+-- ---- the text before the digest line
+
+-- a cursor's body in one of the versions: its first line, and the others
+pub record IsWritten (v : Version) (lines body : Text) (c : Cursor) : Type 0 where
+  pub is : body ≡ version_line v ++ lines
+  pub tells : AreLinesOf v lines c
+
+-- the lines of version 1
+abbrev one_lines : Cursor → Text
+one_lines c = counts_text One c.cycle c.runs c.spent c.files ++ state_text c.state ++ 10 ∷ []
+
+cursor_body_parts : (c : Cursor) → cursor_body c ≡ version_line Two ++ cursor_lines c
+cursor_body_parts c = refl
+
+without_files : (a b d e t u : Text) → a ++ b ++ d ++ e ++ t ++ u ≡ a ++ (b ++ d ++ e ++ [] ++ t ++ u)
+without_files a b d e t u = simp append_assoc
+
+version_one_parts : (c : Cursor) → version_one_body c ≡ version_line One ++ one_lines c
+version_one_parts c = without_files (codes "ocfl-scrub cursor 1\n") (number_line (codes "cycle") c.cycle) (number_line (codes "runs") c.runs) (number_line (codes "spent") c.spent) (state_text c.state) (10 ∷ [])
+
+-- a body is written in version 2, or in version 1
+pub written_body : (body : Text) (c : Cursor) → IsBodyOf body c → (v : Version) × ((lines : Text) × IsWritten v lines body c)
+written_body body c h = by h.is
+  where
+    by : (body ≡ cursor_body c) ⊎ ((c.files ≡ 0) × (body ≡ version_one_body c)) → (v : Version) × ((lines : Text) × IsWritten v lines body c)
+    by (inl e) = (Two, (cursor_lines c, record { is = e ∙ cursor_body_parts c; tells = AreLinesOf-cursor c h.keeps }))
+    by (inr e) = (One, (one_lines c, record { is = e.1 ∙ version_one_parts c; tells = record { keeps = h.keeps; files = e.0; is = refl } }))
+
+-- and what is written so is a body
+pub body_from_lines : (v : Version) (body lines : Text) (c : Cursor) → body ≡ version_line v ++ lines → AreLinesOf v lines c → IsBodyOf body c
+body_from_lines One body lines c e h = record { keeps = h.keeps; is = inr (h.files, e ∙ ap (λ t. version_line One ++ t) h.is ∙ sym (version_one_parts c)) }
+body_from_lines Two body lines c e h = record { keeps = h.keeps; is = inl (e ∙ ap (λ t. version_line Two ++ t) h.is ∙ sym (cursor_body_parts c)) }
+
+-- the lines of a body whose first line is known
+pub lines_from_body : (v : Version) (body lines : Text) (c : Cursor) → body ≡ version_line v ++ lines → IsBodyOf body c → AreLinesOf v lines c
+lines_from_body v body lines c e h =
+    let w = written_body body c h in
+    let same = version_line_determines w.0 v w.1.0 lines (sym w.1.1.is ∙ e) in
+    subst (λ t. AreLinesOf v t c) same.1 (subst (λ u. AreLinesOf u w.1.0 c) same.0 w.1.1.tells)
+
+-- without a first line no text is a body
+pub no_body : (body : Text) → ((v : Version) (r : Text) → body ≡ version_line v ++ r → ⊥) → (c : Cursor) → IsBodyOf body c → ⊥
+no_body body none c h = let w = written_body body c h in none w.0 w.1.0 w.1.1.is
+
+-- cursors are the same if their bodies are
 body_determines : (body : Text) (c d : Cursor) → IsBodyOf body c → IsBodyOf body d → c ≡ d
-body_determines body c d h k = let p = written_body body c h in let q = written_body body d k in written_determines p.0 q.0 body c d p.1 q.1
+body_determines body c d h k = let w = written_body body c h in lines_determine w.0 w.1.0 c d w.1.1.tells (lines_from_body w.0 body w.1.0 d w.1.1.is k)
 
 -- ---- the digest line
 
@@ -233,16 +248,13 @@ length-files_line : (v : Version) (f : ℕ) → FilesFit v f → length (files_l
 length-files_line One f h = omega arith
 length-files_line Two f h = length-number_line (codes "files") f h
 
-length-counts_text : (v : Version) (n m k f : ℕ) → CountsFit v n m k f → length (counts_text v n m k f) ≤ 203
+length-counts_text : (v : Version) (n m k f : ℕ) → CountsFit v n m k f → length (counts_text v n m k f) ≤ 183
 length-counts_text v n m k f h =
-    let head = version_line v in
     omega (
       arith,
-      length-append (head ++ number_line (codes "cycle") n ++ number_line (codes "runs") m ++ number_line (codes "spent") k) (files_line v f),
-      length-append (head ++ number_line (codes "cycle") n ++ number_line (codes "runs") m) (number_line (codes "spent") k),
-      length-append (head ++ number_line (codes "cycle") n) (number_line (codes "runs") m),
-      length-append head (number_line (codes "cycle") n),
-      length-version_line v,
+      length-append (number_line (codes "cycle") n ++ number_line (codes "runs") m ++ number_line (codes "spent") k) (files_line v f),
+      length-append (number_line (codes "cycle") n ++ number_line (codes "runs") m) (number_line (codes "spent") k),
+      length-append (number_line (codes "cycle") n) (number_line (codes "runs") m),
       length-number_line (codes "cycle") n (wide_cycle h),
       length-number_line (codes "runs") m (wide_runs h),
       length-number_line (codes "spent") k h.spent,
@@ -254,48 +266,43 @@ length-state_text start h = omega arith
 length-state_text (behind p) h = omega (arith, length-append (codes "after ") (place_text p), length-place_text p h.0 h.1)
 length-state_text ended h = omega arith
 
-length-written : (v : Version) (body : Text) (c : Cursor) → IsWritten v body c → length body ≤ 195539
-length-written v body c h =
+length-lines : (v : Version) (lines : Text) (c : Cursor) → AreLinesOf v lines c → length lines ≤ 195519
+length-lines v lines c h =
     omega (
       arith,
       ap length h.is,
-      length-append (counts_text v c.cycle c.runs c.spent c.files) (state_text c.state ++ 10 ∷ []),
-      length-append (state_text c.state) (10 ∷ []),
-      length-counts_text v c.cycle c.runs c.spent c.files h.fits,
+      length-append (counts_text v c.cycle c.runs c.spent c.files ++ state_text c.state) (10 ∷ []),
+      length-append (counts_text v c.cycle c.runs c.spent c.files) (state_text c.state),
+      length-counts_text v c.cycle c.runs c.spent c.files (CountsFit-lines v lines c h),
       length-state_text c.state h.keeps.place,
     )
+
+length-written : (v : Version) (lines body : Text) (c : Cursor) → IsWritten v lines body c → length body ≤ 195539
+length-written v lines body c h = omega (arith, ap length h.is, length-append (version_line v) lines, length-version_line v, length-lines v lines c h.tells)
 
 -- the text of a cursor stays below 196,000 bytes
 pub length-text : (b : Text) (c : Cursor) → IsTextOf b c → length b < 196000
 length-text b c h =
     let s = sealed_body b c h in
     let w = written_body s.0 c s.1.1 in
-    omega (arith, ap length s.1.0, length-sealed s.0, length-written w.0 s.0 c w.1)
+    omega (arith, ap length s.1.0, length-sealed s.0, length-written w.0 w.1.0 s.0 c w.1.1)
 
 -- ---- the lines of the numbers, read one after the other
 
--- what follows the first line
-after_first_line : (v w : Version) (body rest : Text) (n m k f : ℕ) (r : Text) → body ≡ version_line w ++ rest → body ≡ counts_text v n m k f ++ r → (v ≡ w) × (from_cycle v n m k f r ≡ rest)
-after_first_line v w body rest n m k f r e g = version_line_determines v w _ rest (sym (counts_text-append v n m k f r) ∙ sym g ∙ e)
-
--- what follows the lines of the numbers, once all are read
-pub counts_text-read : (v : Version) (body a b d e g : Text) (n m k f : ℕ) → body ≡ version_line v ++ a → a ≡ number_line (codes "cycle") n ++ b → b ≡ number_line (codes "runs") m ++ d → d ≡ number_line (codes "spent") k ++ e
-    → e ≡ files_line v f ++ g → body ≡ counts_text v n m k f ++ g
-counts_text-read v body a b d e g n m k f p q r s t =
-    p
-    ∙ ap (λ x. version_line v ++ x) (q ∙ ap (λ x. number_line (codes "cycle") n ++ x) (r ∙ ap (λ x. number_line (codes "runs") m ++ x) (s ∙ ap (λ x. number_line (codes "spent") k ++ x) t)))
+-- the lines of the numbers, once all are read
+pub counts_text-read : (v : Version) (a b d e g : Text) (n m k f : ℕ) → a ≡ number_line (codes "cycle") n ++ b → b ≡ number_line (codes "runs") m ++ d → d ≡ number_line (codes "spent") k ++ e
+    → e ≡ files_line v f ++ g → a ≡ counts_text v n m k f ++ g
+counts_text-read v a b d e g n m k f q r s t =
+    q ∙ ap (λ x. number_line (codes "cycle") n ++ x) (r ∙ ap (λ x. number_line (codes "runs") m ++ x) (s ∙ ap (λ x. number_line (codes "spent") k ++ x) t))
     ∙ sym (counts_text-append v n m k f g)
 
 -- what is left of the lines once some are read, where the text begins with all of them
-pub record LinesLeft (w : Version) (a : Text) (n m k f : ℕ) (r : Text) : Type 0 where
-  pub fits : CountsFit w n m k f
-  pub is : a ≡ from_cycle w n m k f r
+pub record LinesLeft (v : Version) (a : Text) (n m k f : ℕ) (r : Text) : Type 0 where
+  pub fits : CountsFit v n m k f
+  pub is : a ≡ from_cycle v n m k f r
 
-pub after_version_line : (v w : Version) (body a : Text) (n m k f : ℕ) (r : Text) → CountsFit v n m k f → body ≡ version_line w ++ a → body ≡ counts_text v n m k f ++ r → LinesLeft w a n m k f r
-after_version_line v w body a n m k f r h e g =
-    let both = after_first_line v w body a n m k f r e g in
-    let P : Version → Type 0 = λ u. CountsFit u n m k f in
-    record { fits = subst P both.0 h; is = sym both.1 ∙ ap (λ u. from_cycle u n m k f r) both.0 }
+pub all_lines_left : (v : Version) (a : Text) (n m k f : ℕ) (r : Text) → CountsFit v n m k f → a ≡ counts_text v n m k f ++ r → LinesLeft v a n m k f r
+all_lines_left v a n m k f r h e = record { fits = h; is = e ∙ counts_text-append v n m k f r }
 
 pub after_cycle_line : (w : Version) (a b : Text) (i n m k f : ℕ) (r : Text) → LinesLeft w a n m k f r → i < 2 ^ 64 → a ≡ number_line (codes "cycle") i ++ b → b ≡ from_runs w m k f r
 after_cycle_line w a b i n m k f r h l q = (number_line_determines (codes "cycle") i n b _ (omega arith) (wide_cycle h.fits) (sym q ∙ h.is)).1
@@ -307,34 +314,31 @@ pub after_spent_line : (w : Version) (a b d e : Text) (i j u n m k f : ℕ) (r :
     → e ≡ from_files w f r
 after_spent_line w a b d e i j u n m k f r h l l' l'' q q' q'' = (number_line_determines (codes "spent") u k e _ l'' h.fits.spent (sym q'' ∙ after_runs_line w a b d i j n m k f r h l l' q q')).1
 
--- ---- a body whose parts are read
+-- ---- lines whose parts are read
 
--- the numbers of a body are those that were read
-same_body : (body line : Text) (v : Version) (n m k f : ℕ) (c : Cursor) → CountsFit v n m k f → body ≡ counts_text v n m k f ++ line → (w : Version) → IsWritten w body c → SameCounts v w n m k f c.cycle c.runs c.spent c.files line (state_text c.state ++ 10 ∷ [])
-same_body body line v n m k f c fit e w b = counts_text_determines v w n m k f c.cycle c.runs c.spent c.files line _ fit b.fits (sym e ∙ b.is)
+-- what follows the numbers is the line of the cursor's state, and the numbers are the cursor's
+same_parts : (lines line : Text) (v : Version) (n m k f : ℕ) (c : Cursor) → CountsFit v n m k f → lines ≡ counts_text v n m k f ++ line → AreLinesOf v lines c → SameCounts n m k f c.cycle c.runs c.spent c.files line (state_text c.state ++ 10 ∷ [])
+same_parts lines line v n m k f c fit e h =
+    counts_text_determines v n m k f c.cycle c.runs c.spent c.files line _ fit (CountsFit-lines v lines c h) (sym e ∙ lines_parts v lines c h)
 
--- what follows the numbers is the line of the cursor's state
-pub IsStateLine-read : (body line : Text) (v : Version) (n m k f : ℕ) (c : Cursor) → CountsFit v n m k f → body ≡ counts_text v n m k f ++ line → IsBodyOf body c → IsStateLine line c.state
-IsStateLine-read body line v n m k f c fit e h =
-    let w = written_body body c h in
-    let same = same_body body line v n m k f c fit e w.0 w.1 in
-    record { short = h.keeps.place; is = same.rest }
+pub IsStateLine-read : (lines line : Text) (v : Version) (n m k f : ℕ) (c : Cursor) → CountsFit v n m k f → lines ≡ counts_text v n m k f ++ line → AreLinesOf v lines c → IsStateLine line c.state
+IsStateLine-read lines line v n m k f c fit e h = record { short = h.keeps.place; is = (same_parts lines line v n m k f c fit e h).rest }
 
 -- the parts are those of the cursor
-cursor_from_parts : (body line : Text) (v : Version) (n m k f : ℕ) (s : State) (c : Cursor) → CountsFit v n m k f → body ≡ counts_text v n m k f ++ line → IsStateLine line s → IsBodyOf body c
+cursor_from_parts : (lines line : Text) (v : Version) (n m k f : ℕ) (s : State) (c : Cursor) → CountsFit v n m k f → lines ≡ counts_text v n m k f ++ line → IsStateLine line s → AreLinesOf v lines c
     → ◌≡◌ {A = Cursor} c (record { cycle = n; runs = m; spent = k; files = f; state = s })
-cursor_from_parts body line v n m k f s c fit e h b =
-    let w = written_body body c b in
-    let same = same_body body line v n m k f c fit e w.0 w.1 in
-    let state = state_line_determines line s c.state h (IsStateLine-read body line v n m k f c fit e b) in
+cursor_from_parts lines line v n m k f s c fit e h b =
+    let same = same_parts lines line v n m k f c fit e b in
+    let state = state_line_determines line s c.state h (IsStateLine-read lines line v n m k f c fit e b) in
     sym (λ i. record { cycle = same.cycle i; runs = same.runs i; spent = same.spent i; files = same.files i; state = state i })
 
--- where no cursor has the parts, no cursor has the body
-pub no_cursor_of-parts : (body line : Text) (v : Version) (n m k f : ℕ) (s : State) → CountsFit v n m k f → body ≡ counts_text v n m k f ++ line → IsStateLine line s
-    → (IsCursor (record { cycle = n; runs = m; spent = k; files = f; state = s }) → ⊥) → (c : Cursor) → IsBodyOf body c → ⊥
-no_cursor_of-parts body line v n m k f s fit e h none c b = none (subst IsCursor (cursor_from_parts body line v n m k f s c fit e h b) b.keeps)
+-- where no cursor has the parts, no cursor has the lines
+pub no_cursor_of-parts : (lines line : Text) (v : Version) (n m k f : ℕ) (s : State) → CountsFit v n m k f → lines ≡ counts_text v n m k f ++ line → IsStateLine line s
+    → (IsCursor (record { cycle = n; runs = m; spent = k; files = f; state = s }) → ⊥) → (c : Cursor) → AreLinesOf v lines c → ⊥
+no_cursor_of-parts lines line v n m k f s fit e h none c b = none (subst IsCursor (cursor_from_parts lines line v n m k f s c fit e h b) b.keeps)
 
--- the cursor of the parts has the body
-pub body_of-parts : (body line : Text) (v : Version) (n m k f : ℕ) (s : State) → CountsFit v n m k f → body ≡ counts_text v n m k f ++ line → IsStateLine line s
-    → IsCursor (record { cycle = n; runs = m; spent = k; files = f; state = s }) → IsBodyOf body (record { cycle = n; runs = m; spent = k; files = f; state = s })
-body_of-parts body line v n m k f s fit e h keeps = body_from_written v body _ (record { keeps = keeps; fits = fit; is = e ∙ ap (λ t. counts_text v n m k f ++ t) h.is })
+-- the cursor of the parts has the lines
+pub lines_of-parts : (lines line : Text) (v : Version) (n m k f : ℕ) (s : State) → CountsFit v n m k f → lines ≡ counts_text v n m k f ++ line → IsStateLine line s
+    → IsCursor (record { cycle = n; runs = m; spent = k; files = f; state = s }) → AreLinesOf v lines (record { cycle = n; runs = m; spent = k; files = f; state = s })
+lines_of-parts lines line v n m k f s fit e h keeps =
+    record { keeps = keeps; files = fit.files; is = e ∙ ap (λ t. counts_text v n m k f ++ t) h.is ∙ sym (append_assoc (counts_text v n m k f) (state_text s) (10 ∷ [])) }

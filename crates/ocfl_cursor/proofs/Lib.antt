@@ -5,6 +5,8 @@ pub mod Rules
 pub mod Paths
 pub mod CursorTexts
 pub mod Refusals
+pub mod PartTexts
+pub mod PartRefusals
 pub mod Limited
 pub mod OnLiterals
 pub mod CursorCases

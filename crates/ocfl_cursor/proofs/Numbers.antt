@@ -1,13 +1,13 @@
 -- Numbers in decimal, and their lines.
-use Rattle.std.proofs.Common.{drop, ◌≡◌, ◌≢◌, ℕ, ◌+◌, ◌*◌, ◌/◌, ◌%◌, ◌^◌, ◌<◌, ◌≤◌, [], ◌∷◌, ◌++◌, length, get_or, decimal, All, IfOk, Result, Ok, Err, refl, sym, ap, subst, ◌∙◌, append-nil, append_assoc, length-append, arith}
+use Rattle.std.proofs.Common.{drop, ◌≡◌, ◌≢◌, ℕ, ◌+◌, ◌*◌, ◌/◌, ◌%◌, ◌^◌, ◌<◌, ◌≤◌, [], ◌∷◌, ◌++◌, get_or, decimal, All, IfOk, Result, Ok, Err, refl, sym, ap, subst, ◌∙◌, append-nil, append_assoc, length-append, arith}
 use Rattle.std.specs.Char.{digit_value}
 use Rattle.std.specs.Str.{IsUtf8}
 use Rattle.std.specs.Str.Parse.{AllDigits, digits_value_after, digits_value, ParsesUnsigned}
 use Rattle.std.proofs.lemmas.Fmt.{decimal_digit, decimal_step_wide, decimal_by_steps_wide, decimal_is_IsNumeral_wide, IsAscii-decimal_wide}
 use Rattle.std.proofs.lemmas.Str.{digit_value_digit, IsUtf8-from_ascii}
 use Rattle.std.proofs.lemmas.Str.Parse.{digit_from_value, digit_at, without_leading_plus_none}
-use Rattle.std.proofs.lemmas.List.{get_or_append_left, append_cancel_left, get_or_at}
-use Rattle.std.proofs.lemmas.List.Elements.{All-from_get_or, All-get_or}
+use Rattle.std.proofs.lemmas.List.{get_or_append_left, append_cancel_left}
+use Rattle.std.proofs.lemmas.List.Elements.{All-from_get_or}
 use Rattle.ocfl_tree.specs.Place.{Text}
 use Rattle.ocfl_report.proofs.Separators.{first_parts}
 use Rattle.ocfl_cursor.specs.Cursor.{number_line}
@@ -111,11 +111,6 @@ after_name_is name text after n rest e f = append_cancel_left name _ _ (sym e �
 -- what follows the space in it
 pub after_space_is : (name text after digits : Text) (n : ℕ) (rest : Text) → text ≡ name ++ after → after ≡ 32 ∷ digits → text ≡ number_line name n ++ rest → digits ≡ decimal n ++ 10 ∷ rest
 after_space_is name text after digits n rest e g f = ap (drop 1) (sym g ∙ after_name_is name text after n rest e f)
-
--- a line has its line feed
-pub line_feed_is_there : (line rest : Text) → All (λ b. b ≢ 10) (line ++ 10 ∷ rest) → ⊥
-line_feed_is_there line rest h =
-    All-get_or (λ b. b ≢ 10) (line ++ 10 ∷ rest) (length line) 0 (omega (arith, length-append line (10 ∷ rest))) h (get_or_at line 10 rest 0 (length line) refl)
 
 -- what stands before the line feed is the number's digits
 pub digits_are_decimal : (text digits after : Text) (n : ℕ) (rest : Text) → n < 2 ^ 128 → All (λ b. b ≢ 10) digits → text ≡ digits ++ 10 ∷ after → text ≡ decimal n ++ 10 ∷ rest → digits ≡ decimal n

@@ -1,3 +1,4 @@
 -- What private functions and fields say: a reader of the public contracts needs none of it.
 pub mod Body
 pub mod Number
+pub mod Part

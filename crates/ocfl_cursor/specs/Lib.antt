@@ -3,6 +3,8 @@ pub mod State
 pub mod Moves
 pub mod Refusal
 pub mod Refused
+pub mod Part
+pub mod PartRefusal
 pub mod Stop
 pub mod Internal
 pub mod Limits

@@ -1,3 +1,4 @@
+//! The cursor: where a cycle stands, and what its runs have spent.
 ghost use Rattle.std.specs.Prelude.{◌≡◌, ◌↔◌, IsSome, IfSome, IsNone};
 ghost use Rattle.ocfl_cursor.specs.Cursor.{IsCursor, new_cursor};
 ghost use Rattle.ocfl_cursor.specs.State.{state_of, cursor_of};

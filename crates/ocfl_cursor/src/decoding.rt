@@ -1,3 +1,4 @@
+//! Reading a cursor from its text, and why other bytes are refused.
 ghost use Rattle.std.specs.Prelude.{◌≡◌, ◌≢◌, ◌⊎◌, ◌≤◌, ℕ, List, ◌++◌, drop, length, is_some, IfOk};
 ghost use Rattle.std.specs.Prelude.{IfErr, IfSome, IsNone};
 ghost use Rattle.ocfl_tree.specs.Name.{IsPlace};
@@ -6,7 +7,8 @@ ghost use Rattle.ocfl_report.specs.Text.{place_text};
 ghost use Rattle.ocfl_cursor.specs.Cursor.{State as ModelState, Cursor as ModelCursor};
 ghost use Rattle.ocfl_cursor.specs.State.{state_of};
 ghost use Rattle.ocfl_cursor.specs.Internal.Body.{first_line, version_line, files_line, FilesFit};
-ghost use Rattle.ocfl_cursor.specs.Internal.Body.{CountsFit, counts_text, IsStateLine, IsBodyOf};
+ghost use Rattle.ocfl_cursor.specs.Internal.Body.{CountsFit, counts_text, IsStateLine};
+ghost use Rattle.ocfl_cursor.specs.Internal.Body.{AreLinesOf, IsBodyOf};
 ghost use Rattle.ocfl_cursor.specs.Refusal.{IsTextOf, is_cursor_front, is_version, refusal};
 ghost use Rattle.ocfl_cursor.specs.Refusal.{malformed};
 ghost use Rattle.ocfl_cursor.specs.Refused.{RefusedRightly};
@@ -18,11 +20,11 @@ use crate::form::{
     START, VERSION_ONE, VERSION_TWO, Version,
 };
 use crate::number::{read_number, read_small_number};
-use crate::pieces::{after_prefix, before_line_feed, count_slashes, split_line};
+use crate::pieces::{after_prefix, before_line_feed, count_slashes};
 use crate::refused::Refused;
 use crate::seal::sealed_body;
 use crate::state::{MAX_NAMES, State};
-use ocfl_report::{PlaceStop, read_place};
+use ocfl_report::{PlaceStop, read_place, split_once};
 use ocfl_tree::{Place, is_bytes};
 use std::alloc::Global;
 
@@ -64,7 +66,7 @@ fn after_front(text: &[u8]) -> Option<&[u8]>
 fn begins_with_version(text: &[u8]) -> bool
     ensures { result ≡ is_version (first_line text.now) }
 {
-    match split_line(text) {
+    match split_once(text, b'\n') {
         Some((version, _)) => is_version(version),
         None => is_version(text),
     }
@@ -84,7 +86,20 @@ fn read_body(alloc: Global, body: &[u8]) -> Result<Cursor, Refused>
         → (c : ModelCursor) → IsBodyOf body.now c → ⊥ }
     ensures errors { IfErr result (λ e. (e ≡ Refused.Malformed) ⊎ (e ≡ Refused.Memory)) }
 {
-    let Some((counts, line)) = read_counts(body) else {
+    match read_first_line(body) {
+        Some((version, lines)) => read_lines(alloc, version, lines),
+        None => Err(Refused::Malformed),
+    }
+}
+
+/// The cursor whose text has these lines between its first and its last.
+pub(crate) fn read_lines(alloc: Global, version: Version, lines: &[u8]) -> Result<Cursor, Refused>
+    ensures cursor { IfOk result (λ cursor. AreLinesOf version lines.now cursor) }
+    ensures malformed { result ≡ Err Refused.Malformed
+        → (c : ModelCursor) → AreLinesOf version lines.now c → ⊥ }
+    ensures errors { IfErr result (λ e. (e ≡ Refused.Malformed) ⊎ (e ≡ Refused.Memory)) }
+{
+    let Some((counts, line)) = read_counts(version, lines) else {
         return Err(Refused::Malformed);
     };
     let state = read_state(alloc, line)?;
@@ -94,34 +109,30 @@ fn read_body(alloc: Global, body: &[u8]) -> Result<Cursor, Refused>
     }
 }
 
-/// The version of a cursor's text, and the numbers that it tells.
+/// The numbers that a cursor's text tells.
 #[derive(Clone, Copy)]
 struct Counts {
-    version: Version,
     cycle: u64,
     runs: u64,
     spent: u128,
     files: u128,
 }
 
-/// Reads the first line and the lines of the numbers. Gives what follows them too.
-fn read_counts(body: &[u8]) -> Option<(Counts, &[u8])>
-    ensures found { IfSome result (λ read. body.now ≡ counts_text read.0.version
+/// Reads the lines of the numbers. Gives what follows them too.
+fn read_counts(version: Version, lines: &[u8]) -> Option<(Counts, &[u8])>
+    ensures found { IfSome result (λ read. lines.now ≡ counts_text version
         read.0.cycle read.0.runs read.0.spent read.0.files ++ read.1.now) }
-    ensures fits { IfSome result (λ read. CountsFit read.0.version
+    ensures fits { IfSome result (λ read. CountsFit version
         read.0.cycle read.0.runs read.0.spent read.0.files) }
-    ensures missing { IsNone result
-        → (v : ModelVersion) (cycle runs spent files : ℕ) (rest : List ℕ)
-        → CountsFit v cycle runs spent files
-        → body.now ≢ counts_text v cycle runs spent files ++ rest }
+    ensures missing { IsNone result → (cycle runs spent files : ℕ) (rest : List ℕ)
+        → CountsFit version cycle runs spent files
+        → lines.now ≢ counts_text version cycle runs spent files ++ rest }
 {
-    let (version, rest) = read_first_line(body)?;
-    let (cycle, rest) = read_small_number(CYCLE, rest)?;
+    let (cycle, rest) = read_small_number(CYCLE, lines)?;
     let (runs, rest) = read_small_number(RUNS, rest)?;
     let (spent, rest) = read_number(SPENT, rest)?;
     let (files, rest) = read_files(version, rest)?;
     let counts = Counts {
-        version,
         cycle,
         runs,
         spent,

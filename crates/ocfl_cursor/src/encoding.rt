@@ -1,3 +1,4 @@
+//! Writing a cursor's text, and the lines that are shown of it.
 ghost use Rattle.std.specs.Prelude.{◌≡◌, [], ◌∷◌, ◌++◌, IfOk, OnOk};
 ghost use Rattle.ocfl_cursor.specs.Cursor.{IsCursor, state_text, cursor_lines, cursor_text};
 ghost use Rattle.ocfl_cursor.specs.State.{state_of};

@@ -38,3 +38,16 @@ pub(crate) const START: &[u8] = b"start";
 pub(crate) const AFTER: &[u8] = b"after ";
 
 pub(crate) const ENDED: &[u8] = b"ended";
+
+// The first line of a part's cursor.
+pub(crate) const PART_FIRST_LINE: &[u8] = b"ocfl-scrub part cursor 1\n";
+
+// The lines of a part's ends: after each front comes the path of a place, or the word for no end.
+pub(crate) const FROM: &[u8] = b"from ";
+
+pub(crate) const BELOW: &[u8] = b"below ";
+
+pub(crate) const END: &[u8] = b"end";
+
+/// What stands before a path that has the text of the word.
+pub(crate) const NO_WORD: &[u8] = b"./";

@@ -1,11 +1,20 @@
+//! The laws of a cursor's text: it determines the cursor, and it reads back.
 ghost use Rattle.std.specs.Prelude.{◌≡◌, List, ℕ, IfOk, IfErr};
 ghost use Rattle.ocfl_cursor.specs.Cursor.{Cursor as ModelCursor};
-ghost use Rattle.ocfl_cursor.specs.Refusal.{IsTextOf};
+ghost use Rattle.ocfl_cursor.specs.Part.{IsPartText};
+ghost use Rattle.ocfl_cursor.specs.PartRefusal.{PartRefusedRightly};
+ghost use Rattle.ocfl_cursor.specs.Refusal.{IsTextOf, not_cursor};
+ghost use Rattle.ocfl_cursor.specs.Refused.{IsRefused};
+ghost use Rattle.ocfl_cursor.specs.declared.ends.PartEnds.{PartEnds as ModelEnds};
+ghost use Rattle.ocfl_cursor.specs.declared.refused.PartRefused.{PartRefused as ModelRefused};
 
 use crate::cursor::Cursor;
 use crate::decoding::decode;
 use crate::encoding::encode;
-use crate::refused::Refused;
+use crate::ends::PartEnds;
+use crate::part_decoding::decode_part;
+use crate::part_encoding::encode_part;
+use crate::refused::{PartRefused, Refused};
 use std::alloc::Global;
 
 /// A text determines the cursor whose text it is, in either version.
@@ -21,5 +30,42 @@ pub fn cursor_reads_back(alloc: Global, cursor: &Cursor) -> Result<Cursor, Refus
     match encode(alloc, cursor) {
         Ok(text) => decode(alloc, &text),
         Err(_) => Err(Refused::Memory),
+    }
+}
+
+/// A text determines the part and the cursor whose text it is.
+pub fn text_determines_the_part()
+    ensures { (b : List ℕ) (e f : ModelEnds) (c d : ModelCursor)
+        → IsPartText e b c → IsPartText f b d → (e ≡ f) × (c ≡ d) }
+{}
+
+/// The text of a part's cursor is refused to that part for want of memory alone.
+pub fn no_part_is_refused()
+    ensures { (b : List ℕ) (e : ModelEnds) (c : ModelCursor) → IsPartText e b c
+        → (r : ModelRefused) → PartRefusedRightly e b r → r ≡ PartRefused.Memory }
+{}
+
+/// The reader of a whole root's cursor refuses a part's cursor, and the reader of a part's cursor
+/// refuses that of a whole root, each as no cursor.
+#[tactic(auto, using(crate::proofs::PartRefusals::part_is_no_whole, crate::proofs::PartRefusals::whole_is_no_part))]
+pub fn parts_and_whole_are_apart()
+    ensures part { (b : List ℕ) (e : ModelEnds) (c : ModelCursor) → IsPartText e b c
+        → IsRefused b not_cursor }
+    ensures whole { (b : List ℕ) (e : ModelEnds) (c : ModelCursor) → IsTextOf b c
+        → PartRefusedRightly e b PartRefused.NotCursor }
+{}
+
+/// What is written of a part's cursor is read as that cursor, unless memory runs out.
+pub fn part_reads_back(
+    alloc: Global,
+    ends: &PartEnds,
+    cursor: &Cursor,
+) -> Result<Cursor, PartRefused>
+    ensures same { IfOk result (λ read. read ≡ cursor.now) }
+    ensures not_refused { IfErr result (λ refused. refused ≡ PartRefused.Memory) }
+{
+    match encode_part(alloc, ends, cursor) {
+        Ok(text) => decode_part(alloc, &text, ends),
+        Err(_) => Err(PartRefused::Memory),
     }
 }

@@ -4,11 +4,14 @@
 mod cursor;
 mod decoding;
 mod encoding;
+mod ends;
 mod form;
 mod laws;
 mod limits;
 mod meter;
 mod number;
+mod part_decoding;
+mod part_encoding;
 mod pieces;
 mod reading;
 mod refused;
@@ -18,9 +21,15 @@ mod state;
 pub use cursor::Cursor;
 pub use decoding::decode;
 pub use encoding::{cursor_lines, encode};
-pub use laws::{cursor_reads_back, text_determines_the_cursor};
+pub use ends::{PartEnds, every_part_has_ends};
+pub use laws::{
+    cursor_reads_back, no_part_is_refused, part_reads_back, parts_and_whole_are_apart,
+    text_determines_the_cursor, text_determines_the_part,
+};
 pub use limits::{Budget, FileLimit, Limits};
 pub use meter::Meter;
+pub use part_decoding::decode_part;
+pub use part_encoding::encode_part;
 pub use reading::{CursorStop, read_cursor};
-pub use refused::Refused;
+pub use refused::{PartRefused, Refused};
 pub use state::State;

@@ -1,3 +1,4 @@
+//! The two limits of a run: a budget of bytes, and a number of files.
 ghost use Rattle.std.specs.Prelude.{◌≡◌, ◌↔◌, IsSome, IfSome};
 ghost use Rattle.ocfl_cursor.specs.Limits.{IsBudget, IsFileLimit};
 

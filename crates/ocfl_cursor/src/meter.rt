@@ -1,3 +1,4 @@
+//! The meter of a run: what it has spent, and whether it may start another file.
 ghost use Rattle.std.specs.Prelude.{◌≡◌, ◌↔◌, ◌⊎◌, ◌+◌, ◌≤◌, IsTrue};
 ghost use Rattle.ocfl_cursor.specs.Meter.{IsMeter, MayStart, files_of, max_cost};
 
@@ -48,7 +49,7 @@ impl Meter {
         self.spent < self.limits.budget.most && self.files < self.limits.files.most
     }
 
-    /// Adds the cost of an item: of a file, or 0 for an item that is none.
+    /// Adds the cost of an item: that of a file, or 0 for any other item.
     pub fn charge(&mut self, cost: u64)
         requires { (cost ≡ 0) ⊎ (MayStart self.old × (cost ≤ max_cost)) }
         ensures limits { self.new.limits ≡ self.old.limits }

@@ -1,9 +1,11 @@
+//! The decimal numbers of a cursor's text.
 ghost use Rattle.std.specs.Prelude.{◌≡◌, ◌≢◌, ℕ, ◌^◌, ◌<◌, List, ◌++◌, decimal, IsTrue, IfSome};
 ghost use Rattle.std.specs.Prelude.{IsNone, OnOk, ◌↔◌};
 ghost use Rattle.ocfl_cursor.specs.Cursor.{number_line};
 ghost use Rattle.ocfl_cursor.specs.Internal.Number.{IsPlain};
 
-use crate::pieces::{after_prefix, split_line};
+use crate::pieces::after_prefix;
+use ocfl_report::split_once;
 use std::alloc::{AllocError, Global};
 
 /// Appends the line of a number: its name, a space, the number in decimal, and a line feed.
@@ -54,7 +56,7 @@ pub(crate) fn read_number<'a>(name: &str, text: &'a [u8]) -> Option<(u128, &'a [
         → (n : ℕ) (rest : List ℕ) → n < 2 ^ 128 → text.now ≢ number_line name.now n ++ rest }
 {
     let after_name = after_prefix(name.as_bytes(), text)?;
-    let (digits, rest) = split_line(after_prefix(b" ", after_name)?)?;
+    let (digits, rest) = split_once(after_prefix(b" ", after_name)?, b'\n')?;
     Some((read_digits(digits)?, rest))
 }
 

@@ -1,4 +1,5 @@
-ghost use Rattle.std.specs.Prelude.{◌≡◌, ◌≢◌, List, ℕ, [], ◌∷◌, ◌++◌, ◌==◌, count_by, All, IfSome};
+//! Taking the text of a cursor apart: prefixes, lines and its digest line.
+ghost use Rattle.std.specs.Prelude.{◌≡◌, ◌≢◌, List, ℕ, [], ◌∷◌, ◌++◌, ◌==◌, count_by, IfSome};
 ghost use Rattle.std.specs.Prelude.{IsNone};
 
 /// What follows this beginning of the text. `None` where the text does not begin so.
@@ -7,16 +8,6 @@ pub(crate) fn after_prefix<'a>(prefix: &[u8], text: &'a [u8]) -> Option<&'a [u8]
     ensures missing { IsNone result → (rest : List ℕ) → text.now ≢ prefix.now ++ rest }
 {
     text.strip_prefix(prefix)
-}
-
-/// What stands before the first line feed, and what follows it. `None` without a line feed.
-pub(crate) fn split_line(text: &[u8]) -> Option<(&[u8], &[u8])>
-    ensures found { IfSome result (λ parts. text.now ≡ parts.0.now ++ 10 ∷ parts.1.now) }
-    ensures first { IfSome result (λ parts. All (λ b. b ≢ 10) parts.0.now) }
-    ensures missing { IsNone result → All (λ b. b ≢ 10) text.now }
-{
-    let end = text.iter().position(|&b| b == b'\n')?;
-    Some((&text[..end], &text[end + 1..]))
 }
 
 /// What stands before the line feed that ends the text. `None` where none does.

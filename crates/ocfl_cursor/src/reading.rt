@@ -1,3 +1,4 @@
+//! Reading a stored cursor from a reader.
 ghost use Rattle.std.specs.Prelude.{◌≡◌, ◌⊎◌, take, IfOk, IfErr, IfSome};
 ghost use Rattle.ocfl_cursor.specs.Refusal.{IsTextOf};
 ghost use Rattle.ocfl_cursor.specs.Stop.{StopsRightly};

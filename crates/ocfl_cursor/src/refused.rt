@@ -1,3 +1,5 @@
+//! Why bytes are refused as a cursor.
+
 use thiserror::Error;
 
 /// Why bytes are not read as a cursor: the first of these that applies, but that memory may be
@@ -16,6 +18,27 @@ pub enum Refused {
     /// They are the text of no cursor.
     #[error("malformed")]
     Malformed,
+    /// Memory was refused.
+    #[error("out of memory")]
+    Memory,
+}
+
+/// Why bytes are not read as a cursor of a part: the first of these that applies, but that memory
+/// may be refused before it is known whether they are malformed, or of another part.
+#[derive(Clone, Copy, Debug, PartialEq, Eq, Error)]
+pub enum PartRefused {
+    /// Their first line is not that of a part's cursor.
+    #[error("not a cursor")]
+    NotCursor,
+    /// The last line is not the digest line of what stands before it.
+    #[error("damaged")]
+    Damaged,
+    /// They are the text of no part's cursor.
+    #[error("malformed")]
+    Malformed,
+    /// They are the text of a cursor of another part.
+    #[error("another part")]
+    OtherPart,
     /// Memory was refused.
     #[error("out of memory")]
     Memory,

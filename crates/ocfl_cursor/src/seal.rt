@@ -1,3 +1,4 @@
+//! The digest line that ends a cursor's text.
 ghost use Rattle.std.specs.Prelude.{◌≡◌, ◌++◌, IfSome, is_some};
 ghost use Rattle.ocfl_cursor.specs.Cursor.{digest_line};
 ghost use Rattle.ocfl_cursor.specs.Refusal.{is_sealed};

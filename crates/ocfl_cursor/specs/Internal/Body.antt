@@ -24,9 +24,9 @@ abbrev pub FilesFit : Version → ℕ → Type 0
 FilesFit One files = files ≡ 0
 FilesFit Two files = files < 2 ^ 128
 
--- the first line, and the lines of the numbers
+-- the lines of the numbers
 abbrev pub counts_text : Version → ℕ → ℕ → ℕ → ℕ → Text
-counts_text v cycle runs spent files = version_line v ++ number_line (codes "cycle") cycle ++ number_line (codes "runs") runs ++ number_line (codes "spent") spent ++ files_line v files
+counts_text v cycle runs spent files = number_line (codes "cycle") cycle ++ number_line (codes "runs") runs ++ number_line (codes "spent") spent ++ files_line v files
 
 -- the numbers fit the fields of a cursor, and the version
 pub record CountsFit (v : Version) (n m k f : ℕ) : Type 0 where
@@ -39,6 +39,12 @@ pub record CountsFit (v : Version) (n m k f : ℕ) : Type 0 where
 pub record IsStateLine (line : Text) (s : State) : Type 0 where
   pub short : IsShortPlace s
   pub is : line ≡ state_text s ++ 10 ∷ []
+
+-- the text is that of this cursor without its first line and its digest line, in a version
+pub record AreLinesOf (v : Version) (lines : Text) (c : Cursor) : Type 0 where
+  pub keeps : IsCursor c
+  pub files : FilesFit v c.files
+  pub is : lines ≡ counts_text v c.cycle c.runs c.spent c.files ++ state_text c.state ++ 10 ∷ []
 
 -- the text is that of this cursor before the digest line, in either version
 pub record IsBodyOf (body : Text) (c : Cursor) : Type 0 where

@@ -1,29 +1,15 @@
-use Rattle.std.proofs.Common.{refl, sym, subst}
-use Rattle.std.proofs.lemmas.Bool.{false≢true}
-use Rattle.std.proofs.lemmas.Result.{err_from_is_err_and}
-use Rattle.ocfl_cursor.specs.Internal.Body.{IsBodyOf}
-use Rattle.ocfl_cursor.specs.declared.refused.Refused.TheVariants.{Malformed}
-use Rattle.ocfl_cursor.proofs.Options.{passed_on}
-use Rattle.ocfl_cursor.proofs.CursorTexts.{written_body, IsStateLine-read, no_cursor_of-parts, body_of-parts}
+use Rattle.std.proofs.Common.{refl}
+use Rattle.std.proofs.lemmas.Result.{IfOk-weaker}
+use Rattle.ocfl_cursor.proofs.CursorTexts.{body_from_lines, lines_from_body, no_body}
 use Rattle.ocfl_cursor.proofs.decoding.read_body.Goals as goal
 
-pub returns-in_default-clause-malformed : goal.returns-in_default-clause-malformed
-returns-in_default-clause-malformed c = λ e d h. let w = written_body c.args.body.now d h in c.in_default.ensures.missing refl w.0 d.cycle d.runs d.spent d.files _ w.1.fits w.1.is
+pub returns-in-Some-clause-cursor : goal.returns-in-Some-clause-cursor
+returns-in-Some-clause-cursor c =
+    IfOk-weaker c.read_lines.result _ _ (λ d h. body_from_lines c.in-Some.version c.args.body.now c.in-Some.lines.now d c.in-Some.ensures.found h) c.read_lines.ensures.cursor
 
-pub returns-in_err-state-clause-malformed : goal.returns-in_err-state-clause-malformed
-returns-in_err-state-clause-malformed c = λ e d h.
-    let counts = c.in-Some.counts in
-    let passed = err_from_is_err_and c.from_residual.result c.from_residual.ensures.1 in
-    c.in_err-state.ensures.malformed (passed_on c.from_residual.result passed.0 c.in_err-state.field-0.0 Malformed passed.1 passed.2 e) d.state
-    (IsStateLine-read c.args.body.now c.in-Some.line.now counts.version counts.cycle counts.runs counts.spent counts.files d c.in-Some.ensures.fits c.in-Some.ensures.found h)
-
-pub returns-in-Some-from_parts-clause-cursor : goal.returns-in-Some-from_parts-clause-cursor
-returns-in-Some-from_parts-clause-cursor c =
-    let counts = c.in-Some.counts in
-    subst (IsBodyOf c.args.body.now) (sym c.in-Some-from_parts.ensures.value)
-    (body_of-parts c.args.body.now c.in-Some.line.now counts.version counts.cycle counts.runs counts.spent counts.files _ c.in-Some.ensures.fits c.in-Some.ensures.found c.in_ok-state.ensures.state (c.in-Some-from_parts.ensures.keeps.0 refl))
+pub returns-in-Some-clause-malformed : goal.returns-in-Some-clause-malformed
+returns-in-Some-clause-malformed c = λ e d h.
+    c.read_lines.ensures.malformed e d (lines_from_body c.in-Some.version c.args.body.now c.in-Some.lines.now d c.in-Some.ensures.found h)
 
 pub returns-in-None-clause-malformed : goal.returns-in-None-clause-malformed
-returns-in-None-clause-malformed c = λ e d h.
-    let counts = c.in-Some.counts in
-    no_cursor_of-parts c.args.body.now c.in-Some.line.now counts.version counts.cycle counts.runs counts.spent counts.files _ c.in-Some.ensures.fits c.in-Some.ensures.found c.in_ok-state.ensures.state (λ k. false≢true (c.in-None.ensures.keeps.1 k)) d h
+returns-in-None-clause-malformed c = λ _. no_body c.args.body.now (c.in-None.ensures.missing refl)

@@ -1,28 +1,28 @@
 use Rattle.std.proofs.Common.{refl}
-use Rattle.ocfl_cursor.proofs.CursorTexts.{after_version_line, after_cycle_line, after_runs_line, after_spent_line}
+use Rattle.ocfl_cursor.proofs.CursorTexts.{all_lines_left, after_cycle_line, after_runs_line, after_spent_line}
 use Rattle.ocfl_cursor.proofs.decoding.read_counts.Goals as goal
 
 pub returns-in_err-runs-clause-missing : goal.returns-in_err-runs-clause-missing
-returns-in_err-runs-clause-missing c = λ e v n m k f rest h g.
-    let known = c.in_ok-version.version in
-    let lines = c.in_ok-version.rest.now in
-    let left = after_version_line v known c.args.body.now lines n m k f rest h c.in_ok-version.ensures.found g in
-    c.in_err-runs.ensures.missing refl m _ h.runs (after_cycle_line known lines c.in_ok-cycle.rest.now c.in_ok-cycle.cycle n m k f rest left c.in_ok-cycle.ensures.fits c.in_ok-cycle.ensures.found)
+returns-in_err-runs-clause-missing c = λ e n m k f rest h g.
+    let v = c.args.version in
+    let lines = c.args.lines.now in
+    let left = all_lines_left v lines n m k f rest h g in
+    c.in_err-runs.ensures.missing refl m _ h.runs (after_cycle_line v lines c.in_ok-cycle.rest.now c.in_ok-cycle.cycle n m k f rest left c.in_ok-cycle.ensures.fits c.in_ok-cycle.ensures.found)
 
 pub returns-in_err-spent-clause-missing : goal.returns-in_err-spent-clause-missing
-returns-in_err-spent-clause-missing c = λ e v n m k f rest h g.
-    let known = c.in_ok-version.version in
-    let lines = c.in_ok-version.rest.now in
-    let left = after_version_line v known c.args.body.now lines n m k f rest h c.in_ok-version.ensures.found g in
+returns-in_err-spent-clause-missing c = λ e n m k f rest h g.
+    let v = c.args.version in
+    let lines = c.args.lines.now in
+    let left = all_lines_left v lines n m k f rest h g in
     c.in_err-spent.ensures.missing refl k _ h.spent
-    (after_runs_line known lines c.in_ok-cycle.rest.now c.in_ok-runs.rest.now c.in_ok-cycle.cycle c.in_ok-runs.runs n m k f rest left c.in_ok-cycle.ensures.fits c.in_ok-runs.ensures.fits
+    (after_runs_line v lines c.in_ok-cycle.rest.now c.in_ok-runs.rest.now c.in_ok-cycle.cycle c.in_ok-runs.runs n m k f rest left c.in_ok-cycle.ensures.fits c.in_ok-runs.ensures.fits
     c.in_ok-cycle.ensures.found c.in_ok-runs.ensures.found)
 
 pub returns-in_err-files-clause-missing : goal.returns-in_err-files-clause-missing
-returns-in_err-files-clause-missing c = λ e v n m k f rest h g.
-    let known = c.in_ok-version.version in
-    let lines = c.in_ok-version.rest.now in
-    let left = after_version_line v known c.args.body.now lines n m k f rest h c.in_ok-version.ensures.found g in
+returns-in_err-files-clause-missing c = λ e n m k f rest h g.
+    let v = c.args.version in
+    let lines = c.args.lines.now in
+    let left = all_lines_left v lines n m k f rest h g in
     c.in_err-files.ensures.missing refl f rest left.fits.files
-    (after_spent_line known lines c.in_ok-cycle.rest.now c.in_ok-runs.rest.now c.in_ok-spent.rest.now c.in_ok-cycle.cycle c.in_ok-runs.runs c.in_ok-spent.spent n m k f rest left
+    (after_spent_line v lines c.in_ok-cycle.rest.now c.in_ok-runs.rest.now c.in_ok-spent.rest.now c.in_ok-cycle.cycle c.in_ok-runs.runs c.in_ok-spent.spent n m k f rest left
     c.in_ok-cycle.ensures.fits c.in_ok-runs.ensures.fits c.in_ok-spent.ensures.fits c.in_ok-cycle.ensures.found c.in_ok-runs.ensures.found c.in_ok-spent.ensures.found)

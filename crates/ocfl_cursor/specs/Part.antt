@@ -1,0 +1,40 @@
+-- The text of a part's cursor, which names the part.
+use Rattle.std.specs.Prelude.{◌≡◌, [], ◌∷◌, ◌++◌, Option, Some, None, IfSome, if◌then◌else◌, codes}
+use Rattle.ocfl_tree.specs.Place.{Text, text_eq}
+use Rattle.ocfl_tree.specs.Name.{IsPlace}
+use Rattle.ocfl_tree.specs.Place.{Place}
+use Rattle.ocfl_report.specs.Text.{place_text}
+use Rattle.ocfl_cursor.specs.Cursor.{Cursor, IsCursor, cursor_lines, digest_line}
+use Rattle.ocfl_cursor.specs.declared.ends.PartEnds.{PartEnds}
+
+-- a place of names, if there is one
+abbrev pub HasNames : Option Place → Type 0
+HasNames end = IfSome end IsPlace
+
+pub record AreEnds (e : PartEnds) : Type 0 where
+  pub from : HasNames e.from
+  pub below : HasNames e.below
+
+-- an end: a word where there is no place, else the place's text, with `./` before it where that is the word
+abbrev pub end_text : Text → Option Place → Text
+end_text word None = word
+end_text word (Some p) = if text_eq (place_text p) word then codes "./" ++ place_text p else place_text p
+
+abbrev pub end_line : Text → Text → Option Place → Text
+end_line front word end = front ++ end_text word end ++ 10 ∷ []
+
+abbrev pub ends_lines : PartEnds → Text
+ends_lines e = end_line (codes "from ") (codes "start") e.from ++ end_line (codes "below ") (codes "end") e.below
+
+-- the text before its last line
+abbrev pub part_body : PartEnds → Cursor → Text
+part_body e c = codes "ocfl-scrub part cursor 1\n" ++ ends_lines e ++ cursor_lines c
+
+abbrev pub part_text : PartEnds → Cursor → Text
+part_text e c = part_body e c ++ digest_line (part_body e c)
+
+-- the bytes are the text of a cursor of this part
+pub record IsPartText (e : PartEnds) (b : Text) (c : Cursor) : Type 0 where
+  pub ends : AreEnds e
+  pub keeps : IsCursor c
+  pub is : b ≡ part_text e c

@@ -1,0 +1,143 @@
+//! Reading a part's cursor from its text, and why other bytes are refused.
+ghost use Rattle.std.specs.Prelude.{◌≡◌, ◌≢◌, ◌⊎◌, All, List, ℕ, ◌++◌, Option, IfOk, IfErr, IsTrue};
+ghost use Rattle.std.specs.Prelude.{◌↔◌, codes};
+ghost use Rattle.ocfl_tree.specs.Name.{IsPlace};
+ghost use Rattle.ocfl_tree.specs.Place.{Place as ModelPlace};
+ghost use Rattle.ocfl_report.specs.Text.{place_text};
+ghost use Rattle.ocfl_cursor.specs.Cursor.{Cursor as ModelCursor};
+ghost use Rattle.ocfl_cursor.specs.Part.{HasNames, AreEnds, end_text, end_line, ends_lines};
+ghost use Rattle.ocfl_cursor.specs.Part.{IsPartText};
+ghost use Rattle.ocfl_cursor.specs.PartRefusal.{PartRefusedRightly};
+ghost use Rattle.ocfl_cursor.specs.Internal.Part.{IsPartBody};
+ghost use Rattle.ocfl_cursor.specs.declared.ends.PartEnds.{PartEnds as ModelEnds};
+
+use crate::cursor::Cursor;
+use crate::decoding::read_lines;
+use crate::ends::{PartEnds, is_same_part};
+use crate::form::{BELOW, END, FROM, NO_WORD, PART_FIRST_LINE, START, Version};
+use crate::pieces::after_prefix;
+use crate::refused::{PartRefused, Refused};
+use crate::seal::sealed_body;
+use ocfl_report::{PlaceStop, read_place, split_once};
+use ocfl_tree::{Place, is_bytes};
+use std::alloc::Global;
+
+/// The cursor of this part whose text the bytes are.
+///
+/// Bytes that are no such text are refused for the first reason that applies. Memory is asked for
+/// only once the bytes begin and end as a part's cursor.
+pub fn decode_part(alloc: Global, text: &[u8], ends: &PartEnds) -> Result<Cursor, PartRefused>
+    ensures cursor { IfOk result (λ cursor. IsPartText ends.now text.now cursor) }
+    ensures refused { IfErr result (λ refused. PartRefusedRightly ends.now text.now refused) }
+{
+    if !text.starts_with(PART_FIRST_LINE) {
+        return Err(PartRefused::NotCursor);
+    }
+    let Some(body) = sealed_body(text) else {
+        return Err(PartRefused::Damaged);
+    };
+    let (named, cursor) = read_part_body(alloc, body)?;
+    if is_same_part(&named, ends) {
+        Ok(cursor)
+    } else {
+        Err(PartRefused::OtherPart)
+    }
+}
+
+/// The part and its cursor of which this is the text before its digest line.
+fn read_part_body(alloc: Global, body: &[u8]) -> Result<(PartEnds, Cursor), PartRefused>
+    ensures part { IfOk result (λ read. IsPartBody read.0 body.now read.1) }
+    ensures malformed { result ≡ Err PartRefused.Malformed
+        → (e : ModelEnds) (c : ModelCursor) → IsPartBody e body.now c → ⊥ }
+    ensures errors { IfErr result (λ e. (e ≡ PartRefused.Malformed) ⊎ (e ≡ PartRefused.Memory)) }
+{
+    let Some(lines) = after_prefix(PART_FIRST_LINE, body) else {
+        return Err(PartRefused::Malformed);
+    };
+    let (ends, lines) = read_ends(alloc, lines)?;
+    match read_lines(alloc, Version::Two, lines) {
+        Ok(cursor) => Ok((ends, cursor)),
+        Err(Refused::Malformed) => Err(PartRefused::Malformed),
+        Err(_) => Err(PartRefused::Memory),
+    }
+}
+
+/// Reads the lines of both ends. Gives what follows them too.
+fn read_ends(alloc: Global, lines: &[u8]) -> Result<(PartEnds, &[u8]), PartRefused>
+    ensures found { IfOk result (λ read. lines.now ≡ ends_lines read.0 ++ read.1.now) }
+    ensures names { IfOk result (λ read. AreEnds read.0) }
+    ensures malformed { result ≡ Err PartRefused.Malformed → (e : ModelEnds) (rest : List ℕ)
+        → AreEnds e → lines.now ≢ ends_lines e ++ rest }
+    ensures errors { IfErr result (λ e. (e ≡ PartRefused.Malformed) ⊎ (e ≡ PartRefused.Memory)) }
+{
+    let (from, rest) = read_end(alloc, FROM, START, lines)?;
+    let (below, rest) = read_end(alloc, BELOW, END, rest)?;
+    Ok((PartEnds { from, below }, rest))
+}
+
+/// Reads the line of an end. Gives what follows it too.
+fn read_end<'a>(
+    alloc: Global,
+    front: &[u8],
+    word: &[u8],
+    text: &'a [u8],
+) -> Result<(Option<Place>, &'a [u8]), PartRefused>
+    requires one_line { All (λ b. b ≢ 10) word.now }
+    ensures found { IfOk result
+        (λ read. text.now ≡ end_line front.now word.now read.0 ++ read.1.now) }
+    ensures names { IfOk result (λ read. HasNames read.0) }
+    ensures malformed { result ≡ Err PartRefused.Malformed
+        → (end : Option ModelPlace) (rest : List ℕ) → HasNames end
+        → text.now ≢ end_line front.now word.now end ++ rest }
+    ensures errors { IfErr result (λ e. (e ≡ PartRefused.Malformed) ⊎ (e ≡ PartRefused.Memory)) }
+{
+    let Some(line) = after_prefix(front, text) else {
+        return Err(PartRefused::Malformed);
+    };
+    let Some((end, rest)) = split_once(line, b'\n') else {
+        return Err(PartRefused::Malformed);
+    };
+    Ok((read_end_text(alloc, word, end)?, rest))
+}
+
+/// The end that has this text.
+fn read_end_text(alloc: Global, word: &[u8], text: &[u8]) -> Result<Option<Place>, PartRefused>
+    ensures end { IfOk result (λ end. text.now ≡ end_text word.now end) }
+    ensures names { IfOk result HasNames }
+    ensures malformed { result ≡ Err PartRefused.Malformed → (end : Option ModelPlace)
+        → HasNames end → text.now ≢ end_text word.now end }
+    ensures errors { IfErr result (λ e. (e ≡ PartRefused.Malformed) ⊎ (e ≡ PartRefused.Memory)) }
+{
+    if is_bytes(text, word) {
+        return Ok(None);
+    }
+    if is_place_of_word(word, text) {
+        return Ok(Some(read_end_place(alloc, word)?));
+    }
+    Ok(Some(read_end_place(alloc, text)?))
+}
+
+/// Whether the text is the word with `./` before it.
+fn is_place_of_word(word: &[u8], text: &[u8]) -> bool
+    ensures { IsTrue result ↔ (text.now ≡ codes "./" ++ word.now) }
+{
+    match after_prefix(NO_WORD, text) {
+        Some(path) => is_bytes(path, word),
+        None => false,
+    }
+}
+
+/// The place that has this path.
+fn read_end_place(alloc: Global, path: &[u8]) -> Result<Place, PartRefused>
+    ensures place { IfOk result (λ place. path.now ≡ place_text place) }
+    ensures names { IfOk result IsPlace }
+    ensures malformed { result ≡ Err PartRefused.Malformed
+        → (place : ModelPlace) → IsPlace place → path.now ≢ place_text place }
+    ensures errors { IfErr result (λ e. (e ≡ PartRefused.Malformed) ⊎ (e ≡ PartRefused.Memory)) }
+{
+    match read_place(alloc, path) {
+        Ok(place) => Ok(place),
+        Err(PlaceStop::Bad) => Err(PartRefused::Malformed),
+        Err(PlaceStop::Memory) => Err(PartRefused::Memory),
+    }
+}

@@ -204,6 +204,12 @@ cost_of_listed_empty_directory : total_cost (audit (sha256_object (listing (key 
 unfolding audit_on_literals
 cost_of_listed_empty_directory = refl
 
+-- nor does a link cost anything, and it is not hashed
+cost_of_listed_link : let root : StorageRoot = sha256_object (listing lists_f) (link "o/v1/content/f" ∷ []) in
+    (total_cost (audit root []) ≡ 0) × (hashed_among root (item_places root) ≡ [])
+unfolding audit_on_literals hashed_among item_places
+cost_of_listed_link = (refl, refl)
+
 abbrev directories_and_links_in_content_cases : List Case
 directories_and_links_in_content_cases =
     reports_256 "listed_empty_directory" (listing (key abc.sha256 "[\"v1/content/d\"]" ∷ [])) (folder "o/v1/content/d" ∷ []) "ok\t.\t-\nok\to\t-\nE024\to/v1/content/d\t-\nE092\to/v1/content/d\tsha256 missing\n" ∷

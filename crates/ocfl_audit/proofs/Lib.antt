@@ -17,7 +17,12 @@ pub mod WalkLaws
 pub mod WayLaws
 pub mod BetweenLaws
 pub mod ObjectLaws
+pub mod MetaLaws
+pub mod LookLaws
 pub mod RunLaws
+pub mod PartLaws
+pub mod ApartLaws
+pub mod BranchLaws
 pub mod CaseTrees
 pub mod OnLiterals
 pub mod RightSidecars
@@ -29,5 +34,7 @@ pub mod PathCases
 pub mod ContentCases
 pub mod UnreadCases
 pub mod RunCases
+pub mod PartCases
 pub mod ObjectCases
+pub mod MetaCases
 pub mod WalkCases

@@ -73,6 +73,17 @@ base_and_hierarchies : AllAre (
 unfolding audit_on_literals
 base_and_hierarchies = refl
 
+-- a directory that is skipped is not entered, and so nothing in it is seen
+skipped_and_not_seen : let root : StorageRoot = storage_root (folder "extensions" ∷ folder "extensions/k" ∷ folder "x" ∷ folder "x/k" ∷ []) in
+    (seen root (place "extensions") ≡ Some dir) × (seen root (place "extensions/k") ≡ None) × (seen root (place "x/k") ≡ Some dir)
+unfolding audit_on_literals
+skipped_and_not_seen = (refl, refl, refl)
+
+-- nor anything in a storage root of unknown version
+unknown_root_not_seen : (seen (text_at "0=ocfl_2.0" "" ∷ folder "x" ∷ []) [] ≡ Some dir) × (seen (text_at "0=ocfl_2.0" "" ∷ folder "x" ∷ []) (place "x") ≡ None)
+unfolding audit_on_literals
+unknown_root_not_seen = (refl, refl)
+
 -- ---- the order of places
 
 beginning_before_extension : place_cmp (place "a") (place "a/b") ≡ Less

@@ -1,5 +1,5 @@
 -- Worked cases: runs by budgets, and what is left behind a place. An audit of several cases is computed once, and its runs over its items.
-use Rattle.std.proofs.Common.{◌≡◌, ◌∙◌, ℕ, List, [], ◌∷◌, ◌++◌, codes, refl, Some, None, true, false, map, replicate, take}
+use Rattle.std.proofs.Common.{◌≡◌, ◌≤◌, ◌⊎◌, inl, inr, ◌∙◌, ℕ, arith, List, [], ◌∷◌, ◌++◌, codes, refl, Some, None, true, false, map, replicate, take}
 use Prim.Native.String.{String}
 use Rattle.ocfl_tree.specs.Place.{Text}
 use Rattle.ocfl_tree.specs.StorageRoot.{StorageRoot}
@@ -8,7 +8,7 @@ use Rattle.ocfl_report.specs.declared.code.Code.TheVariants.{E023, E092, E093}
 use Rattle.ocfl_report.specs.Text.{text, place_text}
 use Rattle.ocfl_audit.specs.Audit.{audit, after, total_cost}
 use Rattle.ocfl_audit.specs.Trail.{inventories}
-use Rattle.ocfl_audit.specs.Runs.{Limits, cut, left, runs, joined, total_files, of_budget}
+use Rattle.ocfl_audit.specs.Runs.{Limits, cut, left, runs, joined, total_files, IsAtLeast, FileLimitFits, of_budget, sum_of}
 use Rattle.ocfl_audit.proofs.OnLiterals.{audit_on_literals}
 use Rattle.ocfl_audit.proofs.CaseTrees.{three_files_content, three_files_listing, missing_and_right_content, missing_and_right_listing, sha512_file_listing, Case, case, AllAre, Behind, behind, behind_each, place, text_at, folder, storage_root, sha256_object, f_is_abc, key, listing, lists_f, three_files, three_objects, missing_and_right, sha512_file, abc, item, the_root, clean, right}
 use Rattle.ocfl_audit.proofs.QuietCases.{quick_512, audit_512, quick_256, audit_256}
@@ -37,14 +37,14 @@ one_run_where_nothing_costs = refl
 
 -- ---- three files, of cost 4, 1 and 4
 
-abbrev three_items : List Item
+abbrev pub three_items : List Item
 three_items = the_root ∷ clean "o" ∷ right "o/v1/content/a" 4 "3" ∷ right "o/v1/content/b" 1 "0" ∷ right "o/v1/content/c" 4 "3" ∷ []
 
 quick_items_of_three_files : quick_256 three_files_listing three_files_content [] ≡ three_items
 unfolding audit_on_literals
 quick_items_of_three_files = refl
 
-items_of_three_files : audit three_files [] ≡ three_items
+pub items_of_three_files : audit three_files [] ≡ three_items
 items_of_three_files = audit_256 three_files_listing three_files_content [] ∙ quick_items_of_three_files
 
 budgets_of_five : (costs three_items (replicate 4 5) ≡ 5 ∷ 4 ∷ []) × (texts three_items (replicate 4 5) ≡ codes "ok\t.\t-\nok\to\t-\nok\to/v1/content/a\t3\nok\to/v1/content/b\t0\n" ∷ codes "ok\to/v1/content/c\t3\n" ∷ [])
@@ -116,20 +116,48 @@ two_files_and_a_budget_of_four = refl
 as_many_files_as_there_are : (costs_under three_items 5 (limits_of 9 3) ≡ 9 ∷ []) × (files_under three_items 5 (limits_of 9 3) ≡ 3 ∷ [])
 as_many_files_as_there_are = (refl, refl)
 
+-- ---- limits at their edges
+
+-- limits that are just so large are at least so large, and less by one are not
+at_least_just : IsAtLeast 9 3 (limits_of 9 3)
+at_least_just = record { budget = omega arith; files = omega arith }
+
+not_at_least : (IsAtLeast 9 3 (limits_of 8 3) → ⊥) × (IsAtLeast 9 3 (limits_of 9 2) → ⊥)
+not_at_least = ((λ h. let m : 9 ≤ 8 = h.budget in omega (arith, m)), λ h. let m : 3 ≤ 2 = h.files in omega (arith, m))
+
+-- a limit on files fits three files where it is three, or the budget; and not where it is less than both
+limits_that_fit : FileLimitFits three_items (limits_of 9 3) × FileLimitFits three_items (limits_of 2 2)
+limits_that_fit = (inr (omega arith), inl (omega arith))
+
+limit_that_does_not_fit : FileLimitFits three_items (limits_of 3 2) → ⊥
+limit_that_does_not_fit h = by h
+  where
+    by : (3 ≤ 2) ⊎ (3 ≤ 2) → ⊥
+    by (inl m) = omega (arith, m)
+    by (inr m) = omega (arith, m)
+
+limits_of_a_budget : of_budget 5 ≡ limits_of 5 4611686018427387904
+limits_of_a_budget = refl
+
+sums_of_budgets : (sum_of [] ≡ 0) × (sum_of (4 ∷ 1 ∷ 4 ∷ []) ≡ 9)
+sums_of_budgets = (refl, refl)
+
+-- ---- places of runs
+
 -- the last place of the first run, and what it leaves
 places_of_the_first_run : (map (λ i. i.place) (cut three_items (of_budget 4)) ≡ [] ∷ place "o" ∷ place "o/v1/content/a" ∷ []) × (map (λ i. i.place) (left three_items (of_budget 4)) ≡ place "o/v1/content/b" ∷ place "o/v1/content/c" ∷ [])
 places_of_the_first_run = (refl, refl)
 
 -- ---- behind a place
 
-abbrev missing_items : List Item
+abbrev pub missing_items : List Item
 missing_items = the_root ∷ clean "o" ∷ item "o/v1/content/a" 0 (note E092 (codes "sha256 missing") ∷ note E093 (codes "sha1 missing") ∷ []) ∷ right "o/v1/content/b" 4 "3" ∷ []
 
 quick_items_around_a_missing_file : quick_256 missing_and_right_listing missing_and_right_content [] ≡ missing_items
 unfolding audit_on_literals
 quick_items_around_a_missing_file = refl
 
-items_around_a_missing_file : audit missing_and_right [] ≡ missing_items
+pub items_around_a_missing_file : audit missing_and_right [] ≡ missing_items
 items_around_a_missing_file = audit_256 missing_and_right_listing missing_and_right_content [] ∙ quick_items_around_a_missing_file
 
 -- what is left behind a place, by a budget of nine
@@ -185,23 +213,23 @@ finding_of_one_run = refl
 
 -- ---- a slash before a dash
 
-abbrev slash_and_dash_listing : Text
+abbrev pub slash_and_dash_listing : Text
 slash_and_dash_listing = listing (key abc.sha256 "[\"v1/content/a-b\",\"v1/content/a/b\"]" ∷ [])
 
-abbrev slash_and_dash_content : StorageRoot
+abbrev pub slash_and_dash_content : StorageRoot
 slash_and_dash_content = text_at "o/v1/content/a-b" "abc" ∷ folder "o/v1/content/a" ∷ text_at "o/v1/content/a/b" "abc" ∷ []
 
-abbrev slash_and_dash : StorageRoot
+abbrev pub slash_and_dash : StorageRoot
 slash_and_dash = sha256_object slash_and_dash_listing slash_and_dash_content
 
-abbrev slash_items : List Item
+abbrev pub slash_items : List Item
 slash_items = the_root ∷ clean "o" ∷ right "o/v1/content/a/b" 4 "3" ∷ right "o/v1/content/a-b" 4 "3" ∷ []
 
 quick_items_of_slash_and_dash : quick_256 slash_and_dash_listing slash_and_dash_content [] ≡ slash_items
 unfolding audit_on_literals
 quick_items_of_slash_and_dash = refl
 
-items_of_slash_and_dash : audit slash_and_dash [] ≡ slash_items
+pub items_of_slash_and_dash : audit slash_and_dash [] ≡ slash_items
 items_of_slash_and_dash = audit_256 slash_and_dash_listing slash_and_dash_content [] ∙ quick_items_of_slash_and_dash
 
 slash_before_dash_in_runs : texts slash_items (1 ∷ 1 ∷ 1 ∷ []) ≡ codes "ok\t.\t-\nok\to\t-\nok\to/v1/content/a/b\t3\n" ∷ codes "ok\to/v1/content/a-b\t3\n" ∷ []

@@ -8,7 +8,7 @@ use Rattle.std.proofs.lemmas.List.Elements.{All-nil, All-cons, All-head, All-tai
 use Rattle.std.specs.Prelude.{cond, ◌==◌, ◌||◌, ◌&&◌, nat_lt, nat_le, slice_get}
 use Rattle.ocfl_report.specs.Line.{Item}
 use Rattle.ocfl_audit.specs.Audit.{total_cost}
-use Rattle.ocfl_audit.specs.Runs.{Limits, files_of, total_files, may_take, cut_len, cut, left, IsCut, runs_after, runs, joined, IsAtLeast, FilesFit, of_budget, sum_of, budget_len, budget_cut, budget_left, budget_runs_after, budget_runs}
+use Rattle.ocfl_audit.specs.Runs.{Limits, files_of, total_files, may_take, cut_len, cut, left, IsCut, runs_after, runs, joined, IsAtLeast, FileLimitFits, FilesFit, of_budget, sum_of, budget_len, budget_cut, budget_left, budget_runs_after, budget_runs}
 
 -- ---- the test before an item
 
@@ -188,48 +188,89 @@ same_len l s f [] h = refl
 same_len l s f (i ∷ items) h =
     ap₂ (λ t n. cond t (suc n) 0) (same_test l s f i.cost (omega (arith, h))) (same_len l (s + i.cost) (f + files_of i.cost) items (omega (arith, h)))
 
-same_whole : (l : Limits) (items : List Item) → total_files items ≤ l.files → cut_len l 0 0 items ≡ budget_len l.budget 0 items
-same_whole l items h = same_len l 0 0 items (omega (arith, h))
+-- no more files were started than was spent: a limit that is no less than the budget is not reached before it
+spent_test : (l : Limits) (s f c : ℕ) → l.budget ≤ l.files → f ≤ s → may_take l s f c ≡ (c == 0 || nat_lt s l.budget)
+spent_test l s f c fits h = by (c == 0)
+  where
+    below : (u : Bool) → nat_lt s l.budget ≡ u → (u && nat_lt f l.files) ≡ u
+    below true e = let m = ltb-true s l.budget e in lt-ltb f l.files (omega (arith, m, fits, h))
+    below false e = refl
 
-pub same_cut : (items : List Item) (l : Limits) → total_files items ≤ l.files → cut items l ≡ budget_cut items l.budget
+    by : (t : Bool) → (t || (nat_lt s l.budget && nat_lt f l.files)) ≡ (t || nat_lt s l.budget)
+    by true = refl
+    by false = below (nat_lt s l.budget) refl
+
+spent_len : (l : Limits) (s f : ℕ) (items : List Item) → l.budget ≤ l.files → f ≤ s → cut_len l s f items ≡ budget_len l.budget s items
+spent_len l s f [] fits h = refl
+spent_len l s f (i ∷ items) fits h =
+    let k = files_of_cost i.cost in
+    ap₂ (λ t n. cond t (suc n) 0) (spent_test l s f i.cost fits h) (spent_len l (s + i.cost) (f + files_of i.cost) items fits (omega (arith, h, k)))
+
+same_whole : (l : Limits) (items : List Item) → FileLimitFits items l → cut_len l 0 0 items ≡ budget_len l.budget 0 items
+same_whole l items (inl h) = spent_len l 0 0 items h (omega arith)
+same_whole l items (inr h) = same_len l 0 0 items (omega (arith, h))
+
+pub same_cut : (items : List Item) (l : Limits) → FileLimitFits items l → cut items l ≡ budget_cut items l.budget
 same_cut items l h = ap (λ n. take n items) (same_whole l items h)
 
-same_left : (items : List Item) (l : Limits) → total_files items ≤ l.files → left items l ≡ budget_left items l.budget
+same_left : (items : List Item) (l : Limits) → FileLimitFits items l → left items l ≡ budget_left items l.budget
 same_left items l h = ap (λ n. drop n items) (same_whole l items h)
 
--- the files of these items fit
-abbrev Fit : List Item → Limits → Type 0
-Fit items l = total_files items ≤ l.files
-
 -- what is left has no more files
+still_fits : (items : List Item) (l k : Limits) → FileLimitFits items k → FileLimitFits (left items l) k
+still_fits items l k (inl r) = inl r
+still_fits items l k (inr r) = let m = files_of_parts items l in inr (omega (arith, m, r))
+
 left_fits : (items : List Item) (l : Limits) (ls : List Limits) → FilesFit items ls → FilesFit (left items l) ls
-left_fits items l ls h = All-weaker (Fit items) (Fit (left items l)) (λ k r. let m = files_of_parts items l in omega (arith, m, r)) ls h
+left_fits items l ls h = All-weaker (FileLimitFits items) (FileLimitFits (left items l)) (still_fits items l) ls h
 
 same_after : (ls : List Limits) (items : List Item) → FilesFit items ls → runs_after ls items ≡ budget_runs_after (map (λ l. l.budget) ls) items
 same_after [] items h = refl
 same_after (l ∷ ls) [] h = refl
 same_after (l ∷ ls) (i ∷ items) h =
     let budgets : List ℕ = map (λ k. k.budget) ls in
-    let fits = All-head (Fit (i ∷ items)) l ls h in
-    ap₂ (λ c r. c ∷ r) (same_cut (i ∷ items) l fits) (same_after ls (left (i ∷ items) l) (left_fits (i ∷ items) l ls (All-tail (Fit (i ∷ items)) l ls h)) ∙ ap (budget_runs_after budgets) (same_left (i ∷ items) l fits))
+    let fits = All-head (FileLimitFits (i ∷ items)) l ls h in
+    ap₂ (λ c r. c ∷ r) (same_cut (i ∷ items) l fits) (same_after ls (left (i ∷ items) l) (left_fits (i ∷ items) l ls (All-tail (FileLimitFits (i ∷ items)) l ls h)) ∙ ap (budget_runs_after budgets) (same_left (i ∷ items) l fits))
 
 pub same_runs : (items : List Item) (ls : List Limits) → FilesFit items ls → runs items ls ≡ budget_runs items (map (λ l. l.budget) ls)
 same_runs items [] h = refl
 same_runs items (l ∷ ls) h =
     let budgets : List ℕ = map (λ k. k.budget) ls in
-    let fits = All-head (Fit items) l ls h in
-    ap₂ (λ c r. c ∷ r) (same_cut items l fits) (same_after ls (left items l) (left_fits items l ls (All-tail (Fit items) l ls h)) ∙ ap (budget_runs_after budgets) (same_left items l fits))
+    let fits = All-head (FileLimitFits items) l ls h in
+    ap₂ (λ c r. c ∷ r) (same_cut items l fits) (same_after ls (left items l) (left_fits items l ls (All-tail (FileLimitFits items) l ls h)) ∙ ap (budget_runs_after budgets) (same_left items l fits))
 
-fits_budgets : (items : List Item) (bs : List ℕ) → total_files items ≤ 2 ^ 62 → FilesFit items (map of_budget bs)
-fits_budgets items [] h = All-nil (Fit items)
-fits_budgets items (b ∷ bs) h = All-cons (Fit items) (of_budget b) (map of_budget bs) h (fits_budgets items bs h)
+-- a limit on files that is at least their number fits
+pub as_many_fit : (items : List Item) (limits : List Limits) → All (λ l. total_files items ≤ l.files) limits → FilesFit items limits
+as_many_fit items limits h = All-weaker (λ l. total_files items ≤ l.files) (FileLimitFits items) (λ l m. inr m) limits h
+
+-- and so does one of 2^62 files, beside a budget of at most 2^62
+pub most_fit : (items : List Item) (limits : List Limits) → All (λ l. l.budget ≤ 2 ^ 62) limits → All (λ l. l.files ≡ 2 ^ 62) limits → FilesFit items limits
+most_fit items [] b f = All-nil (FileLimitFits items)
+most_fit items (l ∷ ls) b f =
+    let m = All-head (λ k. k.budget ≤ 2 ^ 62) l ls b in
+    let e = All-head (λ k. k.files ≡ 2 ^ 62) l ls f in
+    All-cons (FileLimitFits items) l ls (inl (subst (λ n. l.budget ≤ n) (sym e) m)) (most_fit items ls (All-tail (λ k. k.budget ≤ 2 ^ 62) l ls b) (All-tail (λ k. k.files ≡ 2 ^ 62) l ls f))
+
+budgets_fit : (items : List Item) (bs : List ℕ) → All (λ b. b ≤ 2 ^ 62) bs → FilesFit items (map of_budget bs)
+budgets_fit items [] h = All-nil (FileLimitFits items)
+budgets_fit items (b ∷ bs) h = All-cons (FileLimitFits items) (of_budget b) (map of_budget bs) (inl (All-head (λ c. c ≤ 2 ^ 62) b bs h)) (budgets_fit items bs (All-tail (λ c. c ≤ 2 ^ 62) b bs h))
+
+few_files_fit : (items : List Item) (bs : List ℕ) → total_files items ≤ 2 ^ 62 → FilesFit items (map of_budget bs)
+few_files_fit items [] h = All-nil (FileLimitFits items)
+few_files_fit items (b ∷ bs) h = All-cons (FileLimitFits items) (of_budget b) (map of_budget bs) (inr h) (few_files_fit items bs h)
 
 budgets_back : (bs : List ℕ) → map (λ l. l.budget) (map of_budget bs) ≡ bs
 budgets_back [] = refl
 budgets_back (b ∷ bs) = ap (λ r. b ∷ r) (budgets_back bs)
 
-pub same_budgets : (items : List Item) (bs : List ℕ) → total_files items ≤ 2 ^ 62 → runs items (map of_budget bs) ≡ budget_runs items bs
-same_budgets items bs h = same_runs items (map of_budget bs) (fits_budgets items bs h) ∙ ap (budget_runs items) (budgets_back bs)
+runs_of_budgets : (items : List Item) (bs : List ℕ) → FilesFit items (map of_budget bs) → runs items (map of_budget bs) ≡ budget_runs items bs
+runs_of_budgets items bs h = same_runs items (map of_budget bs) h ∙ ap (budget_runs items) (budgets_back bs)
+
+pub same_budgets : (items : List Item) (bs : List ℕ) → All (λ b. b ≤ 2 ^ 62) bs → runs items (map of_budget bs) ≡ budget_runs items bs
+same_budgets items bs h = runs_of_budgets items bs (budgets_fit items bs h)
+
+pub same_few_files : (items : List Item) (bs : List ℕ) → total_files items ≤ 2 ^ 62 → runs items (map of_budget bs) ≡ budget_runs items bs
+same_few_files items bs h = runs_of_budgets items bs (few_files_fit items bs h)
 
 -- ---- budgets alone
 
@@ -422,28 +463,28 @@ limits_few k limits items some fits fit h =
     let m = (few_runs k (map (λ l. l.budget) limits) items some (let n = length-budgets limits in omega (arith, n, fits)) h).1 in
     omega (arith, e, m)
 
-fits_equal : (items : List Item) (l : Limits) (n : ℕ) → total_files items ≤ l.files → FilesFit items (replicate n l)
-fits_equal items l zero h = All-nil (Fit items)
-fits_equal items l (suc n) h = All-cons (Fit items) l (replicate n l) h (fits_equal items l n h)
+fits_equal : (items : List Item) (l : Limits) (n : ℕ) → FileLimitFits items l → FilesFit items (replicate n l)
+fits_equal items l zero h = All-nil (FileLimitFits items)
+fits_equal items l (suc n) h = All-cons (FileLimitFits items) l (replicate n l) h (fits_equal items l n h)
 
 budgets_equal : (l : Limits) (n : ℕ) → map (λ k. k.budget) (replicate n l) ≡ replicate n l.budget
 budgets_equal l zero = refl
 budgets_equal l (suc n) = ap (λ r. l.budget ∷ r) (budgets_equal l n)
 
-same_equal : (items : List Item) (l : Limits) (n : ℕ) → total_files items ≤ l.files → runs items (replicate n l) ≡ budget_runs items (replicate n l.budget)
+same_equal : (items : List Item) (l : Limits) (n : ℕ) → FileLimitFits items l → runs items (replicate n l) ≡ budget_runs items (replicate n l.budget)
 same_equal items l n h = same_runs items (replicate n l) (fits_equal items l n h) ∙ ap (budget_runs items) (budgets_equal l n)
 
-pub same_few : (items : List Item) (l : Limits) (n : ℕ) → total_files items ≤ l.files → 1 ≤ l.budget → 1 ≤ total_cost items → length (runs items (replicate n l)) ≤ (total_cost items - 1) / l.budget + 1
+pub same_few : (items : List Item) (l : Limits) (n : ℕ) → FileLimitFits items l → 1 ≤ l.budget → 1 ≤ total_cost items → length (runs items (replicate n l)) ≤ (total_cost items - 1) / l.budget + 1
 same_few items l n h some c =
     let e : length (runs items (replicate n l)) ≡ length (budget_runs items (replicate n l.budget)) = ap length (same_equal items l n h) in
     let m = equal_few items l.budget n some c in
     omega (arith, e, m)
 
-pub same_join : (items : List Item) (l : Limits) (n : ℕ) → total_files items ≤ l.files → 1 ≤ l.budget → 1 ≤ total_cost items → (total_cost items - 1) / l.budget + 1 ≤ n → joined (runs items (replicate n l)) ≡ items
+pub same_join : (items : List Item) (l : Limits) (n : ℕ) → FileLimitFits items l → 1 ≤ l.budget → 1 ≤ total_cost items → (total_cost items - 1) / l.budget + 1 ≤ n → joined (runs items (replicate n l)) ≡ items
 same_join items l n h some c fits = ap joined (same_equal items l n h) ∙ equal_whole items l.budget n some c fits
 
-no_files : (items : List Item) (l : Limits) → total_cost items ≡ 0 → total_files items ≤ l.files
-no_files items l free = let m = files_cost items in omega (arith, m, free)
+no_files : (items : List Item) (l : Limits) → total_cost items ≡ 0 → FileLimitFits items l
+no_files items l free = let m = files_cost items in inr (omega (arith, m, free))
 
 pub free_join : (items : List Item) (l : Limits) (n : ℕ) → total_cost items ≡ 0 → 1 ≤ n → joined (runs items (replicate n l)) ≡ items
 free_join items l n free some = ap joined (same_equal items l n (no_files items l free)) ∙ free_whole items l.budget n free some

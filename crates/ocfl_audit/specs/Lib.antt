@@ -9,3 +9,4 @@ pub mod Stack
 pub mod Between
 pub mod Objects
 pub mod Runs
+pub mod Parts

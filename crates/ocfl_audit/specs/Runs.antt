@@ -1,5 +1,5 @@
 -- Cutting the audit into runs by limits: how much a run may spend, and how many files it may start.
-use Rattle.std.specs.Prelude.{◌≡◌, ℕ, suc, ◌+◌, ◌^◌, ◌<◌, ◌≤◌, ◌==◌, ◌||◌, ◌&&◌, nat_lt, List, [], ◌∷◌, Bool, length, take, drop, if◌then◌else◌, Some, All, flat_map, slice_get}
+use Rattle.std.specs.Prelude.{◌≡◌, ◌⊎◌, ℕ, suc, ◌+◌, ◌^◌, ◌<◌, ◌≤◌, ◌==◌, ◌||◌, ◌&&◌, nat_lt, List, [], ◌∷◌, Bool, length, take, drop, if◌then◌else◌, Some, All, flat_map, slice_get}
 use Rattle.ocfl_report.specs.Line.{Item}
 use Rattle.ocfl_audit.specs.Audit.{total_cost}
 
@@ -63,9 +63,12 @@ pub record IsAtLeast (b n : ℕ) (limits : Limits) : Type 0 where
 
 -- ---- budgets alone
 
--- no limit on files is less than the number of files: none of them ends a run
+-- a limit on files that ends no run of these items: it is at least the budget, since each file costs something, or at least the number of files
+abbrev pub FileLimitFits : List Item → Limits → Type 0
+FileLimitFits items l = (l.budget ≤ l.files) ⊎ (total_files items ≤ l.files)
+
 abbrev pub FilesFit : List Item → List Limits → Type 0
-FilesFit items limits = All (λ l. total_files items ≤ l.files) limits
+FilesFit items limits = All (FileLimitFits items) limits
 
 -- a run that is given a budget alone may start 2^62 files
 abbrev pub of_budget : ℕ → Limits

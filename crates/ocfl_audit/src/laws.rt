@@ -1,17 +1,22 @@
-ghost use Rattle.std.specs.Prelude.{◌≡◌, ◌≢◌, ◌↔◌, ◌++◌, ◌∷◌, [], ◌<◌, ◌&&◌, nat_le, suc, length};
+//! The laws of the audit, of what could not be read, of metadata, of cuts, of runs and of parts.
+ghost use Rattle.std.specs.Prelude.{◌≡◌, ◌≢◌, ◌↔◌, ◌⊎◌, ◌++◌, ◌∷◌, [], ◌<◌, ◌&&◌, nat_le, suc};
 ghost use Rattle.std.specs.Prelude.{ℕ, List, Option, Some, None, map, filter, flat_map};
 ghost use Rattle.std.specs.Prelude.{if◌then◌else◌, true, false, ◌≤◌, ◌+◌, ◌-◌, ◌/◌, ◌^◌, All, take};
-ghost use Rattle.std.specs.Prelude.{replicate};
+ghost use Rattle.std.specs.Prelude.{length, replicate, codes};
 ghost use Rattle.std.specs.Ordering.{is_lt};
 ghost use Rattle.std.specs.declared.cmp.Ordering.TheVariants.{Less};
 ghost use Rattle.ocfl_tree.specs.Ascending.{IsAmong, IsAscending, IsBeforeAll};
+ghost use Rattle.ocfl_tree.specs.Name.{IsName, IsPlace};
 ghost use Rattle.ocfl_tree.specs.StorageRoot.{Leaf, StorageRoot, at, dir, is_dir, file_at};
-ghost use Rattle.ocfl_tree.specs.StorageRoot.{files_in};
+ghost use Rattle.ocfl_tree.specs.StorageRoot.{file, files_in};
 ghost use Rattle.ocfl_tree.specs.Place.{Place, Text, begins, place_cmp, text_cmp};
 ghost use Rattle.ocfl_tree.specs.declared.store.Opening.{Opening};
-ghost use Rattle.ocfl_report.specs.Line.{Item};
+ghost use Rattle.ocfl_report.specs.Line.{Item, plain};
+ghost use Rattle.ocfl_report.specs.Text.{text};
+ghost use Rattle.ocfl_report.specs.declared.code.Code.TheVariants.{E001};
 ghost use Rattle.ocfl_inventory.specs.Table.{Table, paths_of};
 ghost use Rattle.ocfl_inventory.specs.Notes.{listed};
+ghost use Rattle.ocfl_inventory.specs.ListedPath.{is_version_name};
 ghost use Rattle.ocfl_inventory.specs.Declaration.{is_declaration, is_declared, is_known};
 ghost use Rattle.ocfl_inventory.specs.declared.declaration.Level.TheVariants.{Object};
 ghost use Rattle.ocfl_audit.specs.Audit.{IsAudit, Unread, after, audit, candidates, given_by};
@@ -26,15 +31,20 @@ ghost use Rattle.ocfl_audit.specs.Zone.{is_entered, is_in_extensions, is_listed_
 ghost use Rattle.ocfl_audit.specs.Zone.{is_listed_zone, max_listed_depth, seen, skipped, zone};
 ghost use Rattle.ocfl_audit.specs.Zone.{inside, inventory_name, object_declared, root_declared};
 ghost use Rattle.ocfl_audit.specs.Zone.{table_at};
-ghost use Rattle.ocfl_audit.specs.Objects.{IsObjectRoot, HasInventory};
-ghost use Rattle.ocfl_audit.specs.Lines.{notes, is_hashed};
-ghost use Rattle.ocfl_audit.specs.Trail.{inventories, is_meta, unread_of};
-ghost use Rattle.ocfl_audit.specs.Due.{item_places, items_at, due};
+ghost use Rattle.ocfl_audit.specs.Objects.{IsObjectRoot, HasInventory, IsInventoryFile};
+ghost use Rattle.ocfl_audit.specs.Objects.{IsLookedInto, IsObjectFile, IsMetadata};
+ghost use Rattle.ocfl_audit.specs.Lines.{notes, is_hashed, object_entry_notes};
+ghost use Rattle.ocfl_audit.specs.Lines.{version_entry_notes};
+ghost use Rattle.ocfl_audit.specs.Trail.{inventories, is_meta, content_trail, unread_of, heads_of};
+ghost use Rattle.ocfl_audit.specs.Due.{item_places, items_at, due, hashed_among};
 ghost use Rattle.ocfl_audit.specs.Between.{IsBeyond, IsWithin, is_looked_into, looked_between};
 ghost use Rattle.ocfl_audit.specs.Between.{read_between};
 ghost use Rattle.ocfl_audit.specs.Runs.{Limits, total_files, cut_len, cut, IsCut, runs, joined};
-ghost use Rattle.ocfl_audit.specs.Runs.{IsAtLeast, FilesFit, of_budget, sum_of, budget_cut};
-ghost use Rattle.ocfl_audit.specs.Runs.{budget_runs};
+ghost use Rattle.ocfl_audit.specs.Runs.{IsAtLeast, FileLimitFits, FilesFit, of_budget, sum_of};
+ghost use Rattle.ocfl_audit.specs.Runs.{budget_cut, budget_runs};
+ghost use Rattle.ocfl_audit.specs.Parts.{Part, whole, branch, lies_in, within, places_within};
+ghost use Rattle.ocfl_audit.specs.Parts.{parts_of, costs_of, file_counts, unread_in, together};
+ghost use Rattle.ocfl_audit.specs.Parts.{audited_apart, branch_end, enclosed};
 
 /// The audit is the one list that its description fits.
 #[tactic(auto, using(crate::proofs::AuditLaws::audit_unique))]
@@ -165,6 +175,70 @@ pub fn content_is_no_meta()
     ensures { (root : StorageRoot) (p : Place) → is_hashed root p ≡ true → is_meta root p ≡ false }
 {}
 
+/// The storage root's extensions are what lies at and below a directory `extensions` right in it.
+pub fn extensions_are_exact()
+    ensures { (root : StorageRoot) (p : Place) → (is_in_extensions root p ≡ true) ↔ ((q : Place)
+        × ((p ≡ codes "extensions" ∷ q) × (at root (codes "extensions" ∷ []) ≡ Some dir))) }
+{}
+
+/// The files and directories without a line in an object's root, and the files in a version
+/// directory, are those of the names that are allowed there.
+pub fn allowed_names_are_exact()
+    ensures object_files { (root : StorageRoot) (p : Place) (n bytes : Text)
+        → (object_entry_notes root p n (Some (file bytes)) ≡ []) ↔ IsObjectFile n }
+    ensures stray_directories { (root : StorageRoot) (p : Place) (n : Text)
+        → (object_entry_notes root p n (Some dir) ≡ plain E001 ∷ [])
+        ↔ ((is_version_name n ≡ false) × ((n ≢ codes "extensions") × (n ≢ codes "logs"))) }
+    ensures version_files { (root : StorageRoot) (t : Table) (p : Place) (n bytes : Text)
+        → (version_entry_notes root t p n (Some (file bytes)) ≡ []) ↔ IsInventoryFile n }
+{}
+
+/// Metadata is the storage root's declarations, and right in an object's root its declarations, its
+/// inventory and the two sidecars; and nothing else.
+pub fn metadata_is_exact()
+    ensures { (root : StorageRoot) (p : Place) → (is_meta root p ≡ true) ↔ IsMetadata root p }
+{}
+
+/// An opening of anything but metadata shows its place as content, and an unreadable file where it
+/// failed; one of metadata shows neither. More openings show more, in order.
+pub fn openings_show_content()
+    ensures content { (root : StorageRoot) (o : Opening) → (IsMetadata root o.place → ⊥)
+        → content_trail root (o ∷ []) ≡ o.place ∷ [] }
+    ensures unread { (root : StorageRoot) (o : Opening) → (IsMetadata root o.place → ⊥)
+        → o.failed ≡ true → unread_of root (o ∷ []) ≡ (o.place, o.given) ∷ [] }
+    ensures read { (root : StorageRoot) (o : Opening) → o.failed ≡ false
+        → unread_of root (o ∷ []) ≡ [] }
+    ensures metadata { (root : StorageRoot) (o : Opening) → IsMetadata root o.place
+        → (content_trail root (o ∷ []) ≡ []) × (unread_of root (o ∷ []) ≡ []) }
+    ensures more_content { (root : StorageRoot) (front trail : List Opening)
+        → content_trail root (front ++ trail)
+        ≡ content_trail root front ++ content_trail root trail }
+    ensures more_unread { (root : StorageRoot) (front trail : List Opening)
+        → unread_of root (front ++ trail) ≡ unread_of root front ++ unread_of root trail }
+{}
+
+/// An opening of the inventory of an object shows that object, and no other opening shows one. More
+/// openings show more, in order.
+#[tactic(auto, using(crate::proofs::MetaLaws::head_shown, crate::proofs::MetaLaws::no_head_shown, crate::proofs::MetaLaws::heads_on))]
+pub fn openings_show_inventories()
+    ensures inventory { (root : StorageRoot) (x : Opening) (o : Place) → IsObjectRoot root o
+        → x.place ≡ o ++ codes "inventory.json" ∷ [] → heads_of root (x ∷ []) ≡ o ∷ [] }
+    ensures others { (root : StorageRoot) (x : Opening) → ((o : Place) → IsObjectRoot root o
+        → x.place ≡ o ++ codes "inventory.json" ∷ [] → ⊥) → heads_of root (x ∷ []) ≡ [] }
+    ensures more { (root : StorageRoot) (front trail : List Opening)
+        → heads_of root (front ++ trail) ≡ heads_of root front ++ heads_of root trail }
+{}
+
+/// What a content file gave is what stands first for its place.
+#[tactic(auto, using(crate::proofs::MetaLaws::given_first, crate::proofs::MetaLaws::given_behind))]
+pub fn first_reading_counts()
+    ensures first { (unread : Unread) (p : Place) (n : ℕ)
+        → given_by ((p, n) ∷ unread) p ≡ Some n }
+    ensures later { (unread : Unread) (p q : Place) (n : ℕ) → q ≢ p
+        → given_by ((q, n) ∷ unread) p ≡ given_by unread p }
+    ensures none { (p : Place) → given_by [] p ≡ None }
+{}
+
 /// Each path that an object's table names has lines.
 #[tactic(auto, using(crate::proofs::PathLaws::path_lines))]
 pub fn named_paths_have_lines()
@@ -221,6 +295,13 @@ pub fn ways_are_parts()
         (looked_between root None None) }
 {}
 
+/// The storage root is looked into, and so is each directory of at most 127 names that is seen and
+/// whose entries an audit looks at; no other is.
+pub fn directories_looked_into_are_exact()
+    ensures { (root : StorageRoot) (d : Place) → (is_looked_into root d ≡ true)
+        ↔ ((d ≡ []) ⊎ IsLookedInto root d) }
+{}
+
 /// No inventory is read of an object without one, or with no known version or several declarations;
 /// none in the storage root's extensions, none inside another object, and none in a storage root
 /// that is not of known version.
@@ -255,21 +336,34 @@ pub fn cut_is_the_greatest()
         → n ≡ cut_len l 0 0 items }
 {}
 
-/// Each file costs something. Where no limit on files is less than their number, cuts and runs are
-/// those of budgets alone.
-#[tactic(auto, using(crate::proofs::RunLaws::files_cost, crate::proofs::RunLaws::same_cut, crate::proofs::RunLaws::same_runs, crate::proofs::RunLaws::same_budgets))]
+/// A limit on files fits where it is at least their number, and whatever their number where it is
+/// 2^62 and the budget at most that.
+#[tactic(auto, using(crate::proofs::RunLaws::as_many_fit, crate::proofs::RunLaws::most_fit))]
+pub fn limits_on_files_fit()
+    ensures as_many { (items : List Item) (limits : List Limits)
+        → All (λ l. total_files items ≤ l.files) limits → FilesFit items limits }
+    ensures by_default { (items : List Item) (limits : List Limits)
+        → All (λ l. l.budget ≤ 2 ^ 62) limits → All (λ l. l.files ≡ 2 ^ 62) limits
+        → FilesFit items limits }
+{}
+
+/// Each file costs something. Where the limits on files fit, cuts and runs are those of budgets
+/// alone.
+#[tactic(auto, using(crate::proofs::RunLaws::files_cost, crate::proofs::RunLaws::same_cut, crate::proofs::RunLaws::same_runs, crate::proofs::RunLaws::same_budgets, crate::proofs::RunLaws::same_few_files))]
 pub fn budgets_alone()
     ensures cost { (items : List Item) → total_files items ≤ total_cost items }
-    ensures cut { (items : List Item) (l : Limits) → total_files items ≤ l.files
+    ensures cut { (items : List Item) (l : Limits) → FileLimitFits items l
         → cut items l ≡ budget_cut items l.budget }
     ensures runs { (items : List Item) (limits : List Limits) → FilesFit items limits
         → runs items limits ≡ budget_runs items (map (λ l. l.budget) limits) }
-    ensures by_default { (items : List Item) (budgets : List ℕ) → total_files items ≤ 2 ^ 62
+    ensures by_default { (items : List Item) (budgets : List ℕ) → All (λ b. b ≤ 2 ^ 62) budgets
+        → runs items (map of_budget budgets) ≡ budget_runs items budgets }
+    ensures few_files { (items : List Item) (budgets : List ℕ) → total_files items ≤ 2 ^ 62
         → runs items (map of_budget budgets) ≡ budget_runs items budgets }
 {}
 
-/// Where the files fit, budgets that sum to the cost are enough: the runs, joined, are the whole,
-/// and no budget after these is used.
+/// Where the limits on files fit, budgets that sum to the cost are enough: the runs, joined, are
+/// the whole, and no budget after these is used.
 #[tactic(auto, using(crate::proofs::RunLaws::limits_join, crate::proofs::RunLaws::limits_few))]
 pub fn runs_join()
     ensures whole { (limits : List Limits) (items : List Item) → 1 ≤ length limits
@@ -291,18 +385,136 @@ pub fn large_limits_are_few()
         ≤ total_cost items / b + total_files items / n + 1 }
 {}
 
-/// Equal limits under which the files fit take all in at most one run more than the cost less one
+/// Equal limits whose limit on files fits take all in at most one run more than the cost less one
 /// divided by the budget, and what costs nothing in one run.
 #[tactic(auto, using(crate::proofs::RunLaws::same_few, crate::proofs::RunLaws::same_join, crate::proofs::RunLaws::free_join, crate::proofs::RunLaws::free_run))]
 pub fn equal_budgets_are_few()
-    ensures few { (items : List Item) (l : Limits) (n : ℕ) → total_files items ≤ l.files
+    ensures few { (items : List Item) (l : Limits) (n : ℕ) → FileLimitFits items l
         → 1 ≤ l.budget → 1 ≤ total_cost items
         → length (runs items (replicate n l)) ≤ (total_cost items - 1) / l.budget + 1 }
-    ensures whole { (items : List Item) (l : Limits) (n : ℕ) → total_files items ≤ l.files
+    ensures whole { (items : List Item) (l : Limits) (n : ℕ) → FileLimitFits items l
         → 1 ≤ l.budget → 1 ≤ total_cost items → (total_cost items - 1) / l.budget + 1 ≤ n
         → joined (runs items (replicate n l)) ≡ items }
     ensures free { (items : List Item) (l : Limits) (n : ℕ) → total_cost items ≡ 0 → 1 ≤ n
         → joined (runs items (replicate n l)) ≡ items }
     ensures once { (items : List Item) (l : Limits) (n : ℕ) → total_cost items ≡ 0 → 1 ≤ n
         → length (runs items (replicate n l)) ≡ 1 }
+{}
+
+/// One test of its place decides what lies in a part. So the items of the audit in a part are those
+/// of its places.
+#[tactic(auto, using(crate::proofs::PartLaws::within_is, crate::proofs::PartLaws::places_within_is, crate::proofs::ApartLaws::unread_is, crate::proofs::PartLaws::within_by_places))]
+pub fn parts_are_filters()
+    ensures items { (part : Part) (items : List Item)
+        → within part items ≡ filter (λ i. lies_in part i.place) items }
+    ensures places { (part : Part) (places : List Place)
+        → places_within part places ≡ filter (lies_in part) places }
+    ensures unread { (part : Part) (unread : Unread)
+        → unread_in part unread ≡ filter (λ e. lies_in part e.0) unread }
+    ensures by_places { (root : StorageRoot) (unread : Unread) (part : Part)
+        → within part (audit root unread)
+        ≡ map (item_of root unread) (places_within part (item_places root)) }
+{}
+
+/// The whole has all items, and a branch those at its place and below it.
+pub fn branches_are_parts()
+    ensures whole { (items : List Item) → within whole items ≡ items }
+    ensures branch { (p : Place) (items : List Item)
+        → within (branch p) items ≡ items_under p items }
+{}
+
+/// Separators in strict order make one part more than they are, and each place lies in just one of
+/// these parts.
+pub fn each_place_lies_in_one_part()
+    ensures number { (separators : List Place)
+        → length (parts_of separators) ≡ length separators + 1 }
+    ensures one { (separators : List Place) (p : Place) → IsAscending place_cmp separators
+        → (part : Part) × (filter (λ part. lies_in part p) (parts_of separators) ≡ part ∷ []) }
+{}
+
+/// The items of such parts, joined, are the audit, whether or not items are at the separators. So
+/// are their texts, the files that they hash, and any places in order.
+pub fn parts_join()
+    ensures items { (root : StorageRoot) (unread : Unread) (separators : List Place)
+        → IsAscending place_cmp separators
+        → flat_map (λ part. within part (audit root unread)) (parts_of separators)
+        ≡ audit root unread }
+    ensures texts { (root : StorageRoot) (unread : Unread) (separators : List Place)
+        → IsAscending place_cmp separators
+        → flat_map (λ part. text (within part (audit root unread))) (parts_of separators)
+        ≡ text (audit root unread) }
+    ensures hashed { (root : StorageRoot) (separators : List Place)
+        → IsAscending place_cmp separators
+        → flat_map (λ part. hashed_among root (places_within part (item_places root)))
+        (parts_of separators)
+        ≡ hashed_among root (item_places root) }
+    ensures places { (separators places : List Place) → IsAscending place_cmp separators
+        → IsAscending place_cmp places
+        → flat_map (λ part. places_within part places) (parts_of separators) ≡ places }
+{}
+
+/// Audits of such parts, each with what it could not read itself, joined, are the audit with what
+/// they could not read together: each set counts in its own part. Texts, costs and files follow.
+pub fn parts_apart_join()
+    ensures items { (root : StorageRoot) (separators : List Place) (parts : List (Part × Unread))
+        → IsAscending place_cmp separators → map (λ e. e.0) parts ≡ parts_of separators
+        → audited_apart root parts ≡ audit root (together parts) }
+    ensures texts { (root : StorageRoot) (separators : List Place) (parts : List (Part × Unread))
+        → IsAscending place_cmp separators → map (λ e. e.0) parts ≡ parts_of separators
+        → flat_map (λ e. text (within e.0 (audit root e.1))) parts
+        ≡ text (audit root (together parts)) }
+    ensures costs { (root : StorageRoot) (separators : List Place) (parts : List (Part × Unread))
+        → IsAscending place_cmp separators → map (λ e. e.0) parts ≡ parts_of separators
+        → sum_of (map (λ e. total_cost (within e.0 (audit root e.1))) parts)
+        ≡ total_cost (audit root (together parts)) }
+    ensures files { (root : StorageRoot) (separators : List Place) (parts : List (Part × Unread))
+        → IsAscending place_cmp separators → map (λ e. e.0) parts ≡ parts_of separators
+        → sum_of (map (λ e. total_files (within e.0 (audit root e.1))) parts)
+        ≡ total_files (audit root (together parts)) }
+{}
+
+/// What such parts cost and how many files they have sums to that of the audit.
+pub fn parts_add_up()
+    ensures costs { (root : StorageRoot) (unread : Unread) (separators : List Place)
+        → IsAscending place_cmp separators
+        → sum_of (costs_of (parts_of separators) (audit root unread))
+        ≡ total_cost (audit root unread) }
+    ensures files { (root : StorageRoot) (unread : Unread) (separators : List Place)
+        → IsAscending place_cmp separators
+        → sum_of (file_counts (parts_of separators) (audit root unread))
+        ≡ total_files (audit root unread) }
+{}
+
+/// What is above a place in a part is what of the items above it lies in the part.
+#[tactic(auto, using(crate::proofs::PartLaws::part_goes_on))]
+pub fn parts_go_on()
+    ensures { (part : Part) (last : Option Place) (items : List Item)
+        → after (within part items) last ≡ within part (after items last) }
+{}
+
+/// A place and the same with the byte 1 after its last name, as separators, enclose its branch and
+/// nothing else. The longer name is a name, unless the other has 255 bytes already.
+pub fn two_separators_enclose_a_branch()
+    ensures ascend { (d : Place) (n : Text) → place_cmp (d ++ n ∷ []) (branch_end d n) ≡ Less }
+    ensures places { (d : Place) (n : Text) (p : Place) → IsPlace p
+        → lies_in (enclosed d n) p ≡ begins (d ++ n ∷ []) p }
+    ensures items { (d : Place) (n : Text) (items : List Item) → All (λ i. IsPlace i.place) items
+        → within (enclosed d n) items ≡ items_under (d ++ n ∷ []) items }
+    ensures name { (n : Text) → IsName n → length n < 255 → IsName (n ++ 1 ∷ []) }
+    ensures no_name { (n : Text) → 255 ≤ length n → IsName (n ++ 1 ∷ []) → ⊥ }
+{}
+
+/// Limits that are each at least so large take a part in at most one run more than its own cost by
+/// the budget and its own files by their limit.
+pub fn parts_take_few_runs()
+    ensures whole { (root : StorageRoot) (unread : Unread) (part : Part) (b n : ℕ)
+        (limits : List Limits) → 1 ≤ b → 1 ≤ n → All (IsAtLeast b n) limits
+        → total_cost (within part (audit root unread)) / b
+        + total_files (within part (audit root unread)) / n + 1 ≤ length limits
+        → joined (runs (within part (audit root unread)) limits) ≡ within part (audit root unread) }
+    ensures few { (root : StorageRoot) (unread : Unread) (part : Part) (b n : ℕ)
+        (limits : List Limits) → 1 ≤ b → 1 ≤ n → All (IsAtLeast b n) limits
+        → length (runs (within part (audit root unread)) limits)
+        ≤ total_cost (within part (audit root unread)) / b
+        + total_files (within part (audit root unread)) / n + 1 }
 {}

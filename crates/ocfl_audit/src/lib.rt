@@ -1,4 +1,5 @@
-//! What an audit of a storage root is, what a run takes of it, and what of both is proved: no code.
+//! What an audit of a storage root is, what a run takes of it, what of it lies in a part, and what
+//! is proved of these: no code.
 #![tactic(auto)]
 
 pub mod laws;

@@ -1,5 +1,5 @@
 -- The turn that is chosen, and what a stand is once listings of which nothing is left are let go.
-use Rattle.std.proofs.Common.{◌≡◌, List, [], ◌∷◌, refl, sym, ◌∙◌, ap, subst, true, false, Bool, Option, Some, None, Result, Ok, Err, arith}
+use Rattle.std.proofs.Common.{◌≡◌, ◌≢◌, ◌⊎◌, inl, inr, List, [], ◌∷◌, refl, sym, ◌∙◌, ap, subst, true, false, Bool, Option, Some, None, Result, Ok, Err, arith}
 use Rattle.std.specs.Prelude.{cond, IfOk}
 use Rattle.std.specs.Ordering.{is_lt}
 use Rattle.std.specs.declared.cmp.Ordering.TheVariants.{Less}
@@ -7,13 +7,14 @@ use Rattle.ocfl_tree.specs.Place.{Place, place_cmp}
 use Rattle.ocfl_tree.specs.StorageRoot.{StorageRoot}
 use Rattle.ocfl_tree.specs.Store.{Store}
 use Rattle.ocfl_tree.specs.declared.store.Entry.{Entry}
-use Rattle.ocfl_walk.specs.Standing.{IsBelowNext, IsOrderlyIf, IsStanding, Pile, StandsAt, TurnIs, next_of, path_from, size_of, stand_size, piles_in, trimmed, trimmed_from, turn_of}
+use Rattle.ocfl_walk.specs.Standing.{IsBelowNext, IsOrderlyIf, IsStanding, Pile, StandsAt, TurnIs, next_of, path_from, size_of, stand_size, piles_in, trimmed, trimmed_from, is_turn_past, turn_before, turn_of}
 use Rattle.ocfl_audit.specs.Between.{IsBeyond}
 use Rattle.ocfl_walk.specs.Walking.{GoesOn}
-use Rattle.ocfl_walk.specs.WalkCalls.{WalkFails}
+use Rattle.ocfl_walk.specs.WalkCalls.{FailsOut, FailsTo}
 use Rattle.ocfl_item.specs.declared.fault.Fault.{Fault}
 use Rattle.ocfl_item.specs.declared.fault.Fault.TheVariants as fault
 use Rattle.ocfl_item.specs.declared.meeting.Around.{Around}
+use Rattle.ocfl_walk.specs.declared.end.End.{End}
 use Rattle.ocfl_walk.specs.declared.stand.Stand.{Stand}
 use Rattle.ocfl_walk.specs.declared.stand.Step.{Step}
 use Rattle.ocfl_walk.specs.declared.stand.Step.TheVariants as step
@@ -22,7 +23,7 @@ use Rattle.ocfl_walk.specs.declared.stand.Turn.TheVariants as turn
 use Rattle.ocfl_audit.proofs.BelowLaws.{less_from}
 use Rattle.ocfl_walk.proofs.DueTurns.{turn_comes}
 use Rattle.ocfl_walk.proofs.OrderlyLaws.{fit_of, orderly_trimmed, size_trimmed}
-use Rattle.ocfl_walk.proofs.WalkCallLaws.{walk_fails_nothing}
+use Rattle.ocfl_walk.proofs.WalkCallLaws.{fails_out_nothing, fails_to_nothing}
 use Rattle.ocfl_walk.proofs.TurnLaws.{standing_trimmed}
 
 not_base : (o p : Option Place) → turn.Base ≡ turn_of o p → ⊥
@@ -122,5 +123,25 @@ pub at_first : (root : StorageRoot) (old : Stand) (X : Option Place → Type 0) 
 at_first root old X None st n k = k
 at_first root old X (Some p) st n k = absurd (let e : None ≡ Some p = sym n ∙ st.0 in cc)
 
-pub no_memory : (root : StorageRoot) (s : Store) (last : Option Place) → s.tree ≡ root → WalkFails root s s last fault.Memory
-no_memory root s last over = walk_fails_nothing root s last fault.Memory over refl (λ q e. cc)
+pub no_memory : (root : StorageRoot) (s : Store) (last : Option Place) (e : End) → s.tree ≡ root → FailsOut root s s last e fault.Memory
+no_memory root s last e over = fails_out_nothing root s last e fault.Memory over refl (λ q f. cc)
+
+pub no_memory_to : (root : StorageRoot) (s : Store) (last : Option Place) (x : Place) → s.tree ≡ root → FailsTo root s s last x fault.Memory
+no_memory_to root s last x over = fails_to_nothing root s last x fault.Memory over refl (λ q f. cc)
+
+-- ---- the turn before the end
+
+-- a turn that leads somewhere is the one that was chosen, and not past the end
+pub kept_turn : (e : End) (t u : Turn) → u ≡ turn_before e t → u ≢ turn.End → (t ≡ u) × (is_turn_past e u ≡ false)
+kept_turn e t u is some = by (is_turn_past e t) refl is
+  where
+    by : (b : Bool) → is_turn_past e t ≡ b → u ≡ cond b turn.End t → (t ≡ u) × (is_turn_past e u ≡ false)
+    by true f g = absurd (some g)
+    by false f g = (sym g, ap (is_turn_past e) g ∙ f)
+
+pub ended_turn : (e : End) (t : Turn) → turn.End ≡ turn_before e t → (t ≡ turn.End) ⊎ (is_turn_past e t ≡ true)
+ended_turn e t is = by (is_turn_past e t) refl is
+  where
+    by : (b : Bool) → is_turn_past e t ≡ b → turn.End ≡ cond b turn.End t → (t ≡ turn.End) ⊎ (is_turn_past e t ≡ true)
+    by true f g = inr f
+    by false f g = inl (sym g)

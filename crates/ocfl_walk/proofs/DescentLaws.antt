@@ -1,7 +1,7 @@
 -- What was done on the way down to a place, and where that leads.
-use Rattle.std.proofs.Common.{true, ◌≡◌, ℕ, List, [], ◌∷◌, ◌++◌, refl, sym, ◌∙◌, ap, subst, Some, None, arith, length, append_assoc}
+use Rattle.std.proofs.Common.{true, false, Bool, filter, ◌≡◌, ℕ, List, [], ◌∷◌, ◌++◌, refl, sym, ◌∙◌, ap, subst, Some, None, arith, length, append_assoc}
 use Rattle.std.proofs.lemmas.List.{append-nil, length-append}
-use Rattle.std.specs.Prelude.{Ok, Err}
+use Rattle.std.specs.Prelude.{Ok, Err, cond}
 use Rattle.ocfl_tree.specs.Place.{Place}
 use Rattle.ocfl_tree.specs.StorageRoot.{StorageRoot}
 use Rattle.ocfl_tree.specs.Store.{Store, Did}
@@ -10,17 +10,18 @@ use Rattle.ocfl_inventory.specs.Table.{Table}
 use Rattle.ocfl_tree.proofs.Orders.{true_not_false}
 use Rattle.ocfl_audit.specs.Zone.{zone}
 use Rattle.ocfl_item.specs.Looking.{IsFront, failures_by}
-use Rattle.ocfl_item.specs.Ways.{AreInventories, Stops, Opens, ReadsTable}
+use Rattle.ocfl_item.specs.Ways.{AreInventories, AreReached, Stops, Opens, ReadsTable}
 use Rattle.ocfl_item.specs.Around.{IsTableAround}
-use Rattle.ocfl_audit.specs.Trail.{heads_of}
+use Rattle.ocfl_audit.specs.Head.{on}
+use Rattle.ocfl_audit.specs.Trail.{heads_of, reads_inventory}
 use Rattle.ocfl_walk.specs.Entering.{Descends, DescendFails, Opens as Opened}
-use Rattle.ocfl_item.proofs.AuditingLaws.{failed_behind, heads_append}
+use Rattle.ocfl_item.proofs.AuditingLaws.{failed_behind, read_behind, heads_append}
 use Rattle.ocfl_item.specs.declared.fault.Fault.{Fault}
 use Rattle.ocfl_item.specs.declared.fault.Fault.TheVariants as fault
 use Rattle.ocfl_tree.proofs.Stores.{did_then}
 use Rattle.ocfl_item.proofs.LooksCalls.{did_nothing, memory_no_store}
 use Rattle.ocfl_item.proofs.LooksZones.{is_plain}
-use Rattle.ocfl_audit.proofs.Trails.{content_behind}
+use Rattle.ocfl_audit.proofs.Trails.{content_behind, filter_append}
 
 -- ---- one after the other
 
@@ -31,7 +32,34 @@ front_on a m w b k h g = (
       ∙ sym (append_assoc a (b ++ k) (g.0 ++ h.0)) ∙ ap (λ x. x ++ (g.0 ++ h.0)) (sym (append_assoc a b k)),
 )
 
+-- ---- of one object
+
+-- at most that object
+pub front_within : (e : Place) (b : Bool) (xs : List Place) → IsFront xs (on b e) → IsFront xs (e ∷ [])
+front_within e true xs h = h
+front_within e false [] h = (e ∷ [], refl)
+front_within e false (x ∷ xs) h = absurd cc
+
+-- and only where its head reads its inventory
+own_reached : (root : StorageRoot) (o : Place) (xs : List Place) → IsFront xs (on (reads_inventory root o) o) → xs ≡ filter (reads_inventory root) xs
+own_reached root o xs h = by (reads_inventory root o) refl xs h
+  where
+    by : (b : Bool) → reads_inventory root o ≡ b → (xs : List Place) → IsFront xs (on b o) → xs ≡ filter (reads_inventory root) xs
+    by b e [] g = refl
+    by false e (x ∷ xs) g = absurd cc
+    by true e (x ∷ []) g =
+        let same : o ≡ x = let k = g.1 in cc in
+        sym (ap (λ c. cond c (x ∷ []) []) (ap (reads_inventory root) (sym same) ∙ e))
+    by true e (x ∷ y ∷ xs) g = absurd (let k = g.1 in cc)
+
+pub own_inventory_reached : (root : StorageRoot) (o : Place) (trail : List Opening) → IsFront (heads_of root trail) (on (reads_inventory root o) o) → AreReached root trail
+own_inventory_reached root o trail h = own_reached root o (heads_of root trail) h
+
 module _ (root : StorageRoot) where
+  pub both_reached : (os os' : List Opening) → AreReached root os → AreReached root os' → AreReached root (os ++ os')
+  both_reached os os' h k =
+      heads_append root os os' ∙ (λ i. h i ++ k i) ∙ sym (filter_append (reads_inventory root) (heads_of root os) (heads_of root os')) ∙ ap (filter (reads_inventory root)) (sym (heads_append root os os'))
+
   pub both_inventories : (os os' : List Opening) → AreInventories root os → AreInventories root os' → AreInventories root (os ++ os')
   both_inventories os os' h k =
       let all = ap length (heads_append root os os') in
@@ -43,8 +71,10 @@ module _ (root : StorageRoot) where
     trail = h.trail ++ g.trail;
     listings = h.listings ++ g.listings;
     did = did_then s t u h.trail g.trail h.listings g.listings f h.did g.did;
+    read = λ e. read_behind root h.trail g.trail (h.read refl) (g.read e);
     meta = content_behind root h.trail g.trail h.meta ∙ g.meta;
     only = both_inventories h.trail g.trail h.only g.only;
+    reached = both_reached h.trail g.trail h.reached g.reached;
     listed = front_on h.listings more way g.listings more' h.listed g.listed;
     heads = subst (λ x. IsFront (x ++ left') may) (sym (heads_append root h.trail g.trail)) (front_on (heads_of root h.trail) left may (heads_of root g.trail) left' h.heads g.heads);
   }
@@ -52,23 +82,23 @@ module _ (root : StorageRoot) where
   pub descent_fails_on : (s t u : Store) (way more may left : List Place) (why : Fault) → Descends root s t way more may left 0 → DescendFails root t u more left why → DescendFails root s u way may why
   descent_fails_on s t u way more may left why h g = record {
     goes = descends_on s t u way more [] may left [] (failures_by why) h g.goes;
-    store = λ q e. let k = g.store q e in (k.0, failed_behind h.listings g.goes.listings h.trail g.goes.trail q k.1);
+    store = λ q e. let k = g.store q e in (k.0, failed_behind root h.listings g.goes.listings h.trail g.goes.trail q (h.read refl) k.1);
   }
 
   -- nothing was done
   pub descends_not : (s t : Store) (way may : List Place) → s.tree ≡ root → Did s t [] [] 0 → Descends root s t way [] may [] 0
-  descends_not s t way may over did = record { over = over; trail = []; listings = []; did = did; meta = refl; only = refl; listed = (way, refl); heads = (may, refl) }
+  descends_not s t way may over did = record { over = over; trail = []; listings = []; did = did; read = λ e. refl; meta = refl; only = refl; reached = refl; listed = (way, refl); heads = (may, refl) }
 
   pub descent_memory : (s : Store) (way may : List Place) → s.tree ≡ root → DescendFails root s s way may fault.Memory
   descent_memory s way may over = record { goes = descends_not s s way may over (did_nothing s); store = λ q e. absurd (memory_no_store q e) }
 
   -- one directory was listed
   pub descends_one : (s t : Store) (d : Place) (way may : List Place) → s.tree ≡ root → Did s t [] (d ∷ []) 0 → Descends root s t (d ∷ way) way may may 0
-  descends_one s t d way may over did = record { over = over; trail = []; listings = d ∷ []; did = did; meta = refl; only = refl; listed = ([], sym (append-nil (d ∷ way))); heads = ([], sym (append-nil may)) }
+  descends_one s t d way may over did = record { over = over; trail = []; listings = d ∷ []; did = did; read = λ e. refl; meta = refl; only = refl; reached = refl; listed = ([], sym (append-nil (d ∷ way))); heads = ([], sym (append-nil may)) }
 
   -- what was done, on another way
   abbrev pub descends_as : (s t : Store) (way more may left way' more' may' left' : List Place) (f : ℕ) (h : Descends root s t way more may left f) → IsFront (h.listings ++ more') way' → IsFront (heads_of root h.trail ++ left') may' → Descends root s t way' more' may' left' f
-  descends_as s t way more may left way' more' may' left' f h listed heads = record { over = h.over; trail = h.trail; listings = h.listings; did = h.did; meta = h.meta; only = h.only; listed = listed; heads = heads }
+  descends_as s t way more may left way' more' may' left' f h listed heads = record { over = h.over; trail = h.trail; listings = h.listings; did = h.did; read = h.read; meta = h.meta; only = h.only; reached = h.reached; listed = listed; heads = heads }
 
   -- no more is done
   abbrev pub descends_end : (s t : Store) (way more may left : List Place) (f : ℕ) → Descends root s t way more may left f → Descends root s t way [] may [] f
@@ -81,15 +111,15 @@ module _ (root : StorageRoot) where
   pub listing_fails : (s t : Store) (d : Place) (way may : List Place) (why : Fault) → Stops root s t (d ∷ []) [] why → DescendFails root s t (d ∷ way) may why
   listing_fails s t d way may why h =
       let listed : IsFront (h.goes.listings ++ []) (d ∷ way) = (h.goes.listed.0 ++ way, ap (λ x. x ++ way) h.goes.listed.1 ∙ append_assoc h.goes.listings h.goes.listed.0 way ∙ ap (λ x. x ++ (h.goes.listed.0 ++ way)) (sym (append-nil h.goes.listings))) in
-      record { goes = record { over = h.goes.over; trail = []; listings = h.goes.listings; did = h.goes.did; meta = refl; only = refl; listed = listed; heads = (may, refl) }; store = h.store }
+      record { goes = record { over = h.goes.over; trail = []; listings = h.goes.listings; did = h.goes.did; read = λ e. refl; meta = refl; only = refl; reached = refl; listed = listed; heads = (may, refl) }; store = h.store }
 
   -- ---- an object's inventory
 
-  opens_front : (o : Place) (trail : List Opening) → IsFront (heads_of root trail) (o ∷ []) → IsFront (heads_of root trail ++ []) (o ∷ [])
-  opens_front o trail h = subst (λ x. IsFront x (o ∷ [])) (sym (append-nil (heads_of root trail))) h
+  opens_front : (o : Place) (trail : List Opening) → IsFront (heads_of root trail) (on (reads_inventory root o) o) → IsFront (heads_of root trail ++ []) (o ∷ [])
+  opens_front o trail h = subst (λ x. IsFront x (o ∷ [])) (sym (append-nil (heads_of root trail))) (front_within o (reads_inventory root o) (heads_of root trail) h)
 
   descends_read : (s t : Store) (o : Place) (m : Opens root s t o) → AreInventories root m.reads.trail → Descends root s t [] [] (o ∷ []) [] 0
-  descends_read s t o m only = record { over = m.reads.over; trail = m.reads.trail; listings = []; did = m.reads.did; meta = m.reads.meta.meta; only = only; listed = ([], refl); heads = opens_front o m.reads.trail m.heads }
+  descends_read s t o m only = record { over = m.reads.over; trail = m.reads.trail; listings = []; did = m.reads.did; read = λ e. m.reads.read; meta = m.reads.meta.meta; only = only; reached = own_inventory_reached root o m.reads.trail m.heads; listed = ([], refl); heads = opens_front o m.reads.trail m.heads }
 
   pub opened_stops : (s t : Store) (o : Place) (why : Fault) → ReadsTable root s t o (Err why) → Opened root s t o (Err why)
   opened_stops s t o why r =
@@ -101,8 +131,10 @@ module _ (root : StorageRoot) where
             trail = k.trail;
             listings = k.stops.goes.listings;
             did = k.stops.goes.did;
+            read = k.stops.goes.read;
             meta = k.meta.meta;
             only = r.gives.1;
+            reached = own_inventory_reached root o k.trail r.gives.0.heads;
             listed = subst (λ x. IsFront x []) (sym (append-nil k.stops.goes.listings)) k.stops.goes.listed;
             heads = opens_front o k.trail r.gives.0.heads;
           };

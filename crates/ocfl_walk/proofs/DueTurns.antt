@@ -22,14 +22,8 @@ use Rattle.ocfl_audit.proofs.BelowLaws.{above, less_from}
 use Rattle.ocfl_audit.proofs.DueLaws.{after_is_due}
 use Rattle.ocfl_audit.proofs.MachineLaws.{IsNext, NextIs, from_root}
 use Rattle.ocfl_audit.proofs.NextLaws.{walk_takes, walk_ends, seen_to}
-use Rattle.ocfl_tree.specs.Store.{Store}
-use Rattle.ocfl_audit.specs.Stack.{NoneSeenAbove}
-use Rattle.ocfl_audit.specs.Between.{read_between}
-use Rattle.ocfl_audit.proofs.BetweenLaws.{looked_step, read_step, looked_end, read_end}
-use Rattle.ocfl_item.specs.Auditing.{Audits}
-use Rattle.ocfl_walk.specs.WalkCalls.{Walks}
+use Rattle.ocfl_audit.proofs.BetweenLaws.{looked_step, read_step}
 use Rattle.ocfl_walk.proofs.WalkCallLaws.{IsNear}
-use Rattle.ocfl_item.proofs.AuditingLaws.{audits_nothing}
 use Rattle.ocfl_walk.proofs.TurnLaws.{standing_trimmed, turn_is_next}
 use Rattle.ocfl_audit.proofs.WayLaws.{is_closed}
 
@@ -73,13 +67,6 @@ module _ (root : StorageRoot) where
 
   pub near_turn : (last x : Place) (fs : List Frame) → IsTurn root last x fs → IsNear root (Some last) x
   near_turn last x fs t = record { beyond = t.above; looked = looked_step root last x t.above t.none_seen; read = read_step root last x t.above t.none_seen }
-
-  -- where nothing is left, nothing is looked into or read
-  pub walks_end : (s : Store) (last : Place) → NoneSeenAbove root last → s.tree ≡ root → Walks root s s (Some last) None
-  walks_end s last none over = record {
-    trail = [];
-    audits = subst (λ ls. Audits root s s [] ls (read_between root (Some last) None) []) (sym (looked_end root last none)) (subst (λ hs. Audits root s s [] [] hs []) (sym (read_end root last none)) (audits_nothing root s over));
-  }
 
   -- a place at which the stack stays is not seen
   unseen_if_stays : (last b : Place) (fs : List Frame) → place_cmp last b ≡ Less → IsStack root last fs → IsStack root b fs → (o : Option Leaf) → seen root b ≡ o → o ≡ None

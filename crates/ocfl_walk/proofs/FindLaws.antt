@@ -14,6 +14,7 @@ use Rattle.ocfl_walk.specs.WalkCalls.{holder_of}
 use Rattle.ocfl_walk.specs.Entering.{Descends, DescendFails, Leads, may_open}
 use Rattle.ocfl_walk.specs.Finding.{Finds, FindFails, FindsItem}
 use Rattle.ocfl_item.specs.Looking.{IsFront, failures_by}
+use Rattle.ocfl_item.specs.Auditing.{IsMetadataRead}
 use Rattle.ocfl_item.specs.Around.{IsMet, IsPart, IsTableAround}
 use Rattle.ocfl_item.specs.Meeting.{IsItemAt, Visits}
 use Rattle.ocfl_item.specs.Ways.{AreInventories, IsAt, way_below}
@@ -30,8 +31,8 @@ use Rattle.ocfl_audit.proofs.WayLaws.{head_seen, is_closed}
 use Rattle.ocfl_audit.specs.Head.{on}
 use Rattle.ocfl_audit.specs.Between.{is_looked_into}
 use Rattle.ocfl_audit.specs.Trail.{content_trail, reads_inventory}
-use Rattle.ocfl_walk.proofs.DescentLaws.{front_on}
-use Rattle.ocfl_item.proofs.AuditingLaws.{failed_behind, few_once, none_once, heads_append}
+use Rattle.ocfl_walk.proofs.DescentLaws.{both_reached, front_on, front_within, own_inventory_reached}
+use Rattle.ocfl_item.proofs.AuditingLaws.{failed_behind, read_behind, few_once, front_all, none_once, heads_append}
 use Rattle.ocfl_item.proofs.ItemLaws.{head_zone}
 use Rattle.ocfl_item.proofs.LooksCalls.{did_nothing, memory_no_store}
 use Rattle.ocfl_item.proofs.LooksZones.{inside_step, sight_nothing, unseen_behind}
@@ -66,11 +67,6 @@ pub further : (p d e : Place) (n : Text) (r' r : Place) → p ≡ d ++ n ∷ r �
 further p d e n r' r is at same = is ∙ ap (λ x. d ++ n ∷ x) same ∙ sym (append_one d r' n) ∙ ap (λ x. x ++ r') (sym at)
 
 -- at one place at most that place
-pub front_within : (e : Place) (b : Bool) (xs : List Place) → IsFront xs (on b e) → IsFront xs (e ∷ [])
-front_within e true xs h = h
-front_within e false [] h = (e ∷ [], refl)
-front_within e false (x ∷ xs) h = absurd cc
-
 pub front_own : (e : Place) (b : Bool) (xs : List Place) → xs ≡ on b e → IsFront xs (e ∷ [])
 front_own e b xs is = front_within e b xs ([], sym is ∙ sym (append-nil xs))
 
@@ -88,10 +84,12 @@ module _ (root : StorageRoot) where
         trail = h.trail;
         listings = h.listings;
         did = h.did;
+        read = h.read;
         meta = h.meta;
         once = few_once h.trail (omega (arith, few, all));
         closed = λ e. none_is h.trail (let none = ap length e in omega (arith, none, all));
         listed = front_of h.listings more way h.listed;
+        reached = h.reached;
         heads = front_of (heads_of root h.trail) left may h.heads;
       }
 
@@ -114,6 +112,7 @@ module _ (root : StorageRoot) where
       trail = h.trail ++ g.trail;
       listings = h.listings ++ g.listings;
       did = did_then s t u h.trail g.trail h.listings g.listings f h.did g.did;
+      read = λ e. read_behind root h.trail g.trail (h.read refl) (g.read e);
       meta = content_behind root h.trail g.trail h.meta ∙ g.meta;
       once = both_once left h.trail g.trail (omega (arith, all, few)) g.closed g.once;
       closed = λ e.
@@ -122,6 +121,7 @@ module _ (root : StorageRoot) where
           let behind = g.closed (none_is left (omega (arith, none, all))) in
           (λ i. before i ++ behind i);
       listed = front_next h.listings more way g.listings h.listed g.listed;
+      reached = both_reached root h.trail g.trail h.reached g.reached;
       heads = subst (λ x. IsFront x may) (sym (heads_append root h.trail g.trail)) (front_next (heads_of root h.trail) left may (heads_of root g.trail) h.heads g.heads);
     }
 
@@ -130,12 +130,12 @@ module _ (root : StorageRoot) where
     item_on p (Err why) k = record {
       gives = record {
         finds = finds_on (failures_by why) k.gives.finds;
-        store = λ q e. let f = k.gives.store q e in (f.0, failed_behind h.listings k.gives.finds.listings h.trail k.gives.finds.trail q f.1);
+        store = λ q e. let f = k.gives.store q e in (f.0, failed_behind root h.listings k.gives.finds.listings h.trail k.gives.finds.trail q (h.read refl) f.1);
       };
     }
 
   pub finds_nothing : (s : Store) (way may : List Place) → s.tree ≡ root → Finds root s s way may 0
-  finds_nothing s way may over = record { over = over; trail = []; listings = []; did = did_nothing s; meta = refl; once = none_once; closed = λ e. refl; listed = (way, refl); heads = (may, refl) }
+  finds_nothing s way may over = record { over = over; trail = []; listings = []; did = did_nothing s; read = λ e. refl; meta = refl; once = none_once; closed = λ e. refl; listed = (way, refl); reached = refl; heads = (may, refl) }
 
   -- an item that is known without the store
   pub item_known : (s t : Store) (way may : List Place) (p : Place) (r : Result (Option Pending) Fault) → Finds root s t way may 0 → IfErr r (λ why. why ≡ fault.Memory) → IfOk r (λ o. IsItemAt root p o) → FindsItem root s t way may p r
@@ -166,9 +166,9 @@ module _ (root : StorageRoot) where
         by [] g = absurd cc
         by (m ∷ c) g = absurd cc
 
-    module _ (s t : Store) (trail : List Opening) (heads : IsFront (heads_of root trail) (e ∷ [])) (elsewhere : is_head (zone root e) ≡ false → e ≢ [] → trail ≡ []) where
+    module _ (s t : Store) (trail : List Opening) (heads : IsFront (heads_of root trail) (on (reads_inventory root e) e)) (elsewhere : is_head (zone root e) ≡ false → e ≢ [] → trail ≡ []) where
       own_heads : (b : Bool) → is_head (zone root e) ≡ b → IsFront (heads_of root trail) (may_open a (zone root e))
-      own_heads true h = subst (IsFront (heads_of root trail)) (sym (own_inventory a part h)) heads
+      own_heads true h = subst (IsFront (heads_of root trail)) (sym (own_inventory a part h)) (front_within e (reads_inventory root e) (heads_of root trail) heads)
       own_heads false h = subst (λ x. IsFront (heads_of root x) (may_open a (zone root e))) (sym (elsewhere h not_base)) (may_open a (zone root e), refl)
 
       own_closed : (b : Bool) → is_head (zone root e) ≡ b → may_open a (zone root e) ≡ [] → trail ≡ []
@@ -178,16 +178,18 @@ module _ (root : StorageRoot) where
           filled g = cc
       own_closed false h k = elsewhere h not_base
 
-      abbrev finds_met : (f : ℕ) (listings : List Place) → s.tree ≡ root → Did s t trail listings f → content_trail root trail ≡ [] → AllPairs (λ x y. x.place ≢ y.place) trail → IsFront listings (e ∷ []) → Finds root s t (e ∷ []) (may_open a (zone root e)) f
-      finds_met f listings over did meta once listed = record {
+      abbrev finds_met : (f : ℕ) (listings : List Place) → s.tree ≡ root → Did s t trail listings f → (f ≡ 0 → IsMetadataRead root trail) → content_trail root trail ≡ [] → AllPairs (λ x y. x.place ≢ y.place) trail → IsFront listings (e ∷ []) → Finds root s t (e ∷ []) (may_open a (zone root e)) f
+      finds_met f listings over did read meta once listed = record {
         over = over;
         trail = trail;
         listings = listings;
         did = did;
+        read = read;
         meta = meta;
         once = once;
         closed = own_closed (is_head (zone root e)) refl;
         listed = listed;
+        reached = own_inventory_reached root e trail heads;
         heads = own_heads (is_head (zone root e)) refl;
       }
 
@@ -195,12 +197,12 @@ module _ (root : StorageRoot) where
       pub item_met : (v : Visit) → Visits root s t e (Ok v) → FindsItem root s t (e ∷ []) (may_open a (zone root e)) e (Ok v.item)
       item_met v h =
           let m = h.gives.0 in
-          record { gives = (finds_met s t m.trail (front_own e (reads_inventory root e) (heads_of root m.trail) m.heads) m.elsewhere 0 m.listings m.over m.did m.meta m.once (front_own e (is_looked_into root e) m.listings m.listed), h.gives.1.item) }
+          record { gives = (finds_met s t m.trail (subst (IsFront (heads_of root m.trail)) m.heads (front_all (heads_of root m.trail))) m.elsewhere 0 m.listings m.over m.did (λ g. m.read) m.meta m.once (front_own e (is_looked_into root e) m.listings m.listed), h.gives.1.item) }
 
       pub item_unmet : (why : Fault) → Visits root s t e (Err why) → FindsItem root s t (e ∷ []) (may_open a (zone root e)) e (Err why)
       item_unmet why h =
           let m = h.gives in
-          record { gives = record { finds = finds_met s t m.trail (front_within e (reads_inventory root e) (heads_of root m.trail) m.heads) m.elsewhere (failures_by why) m.listings m.over m.did m.meta m.once (front_within e (is_looked_into root e) m.listings m.listed); store = m.store } }
+          record { gives = record { finds = finds_met s t m.trail m.heads m.elsewhere (failures_by why) m.listings m.over m.did m.read m.meta m.once (front_within e (is_looked_into root e) m.listings m.listed); store = m.store } }
 
   -- ---- a name before it
 

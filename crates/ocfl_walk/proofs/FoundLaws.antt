@@ -11,8 +11,8 @@ use Rattle.ocfl_audit.specs.Due.{hashed_among}
 use Rattle.ocfl_audit.specs.Lines.{is_hashed, notes, notes_in}
 use Rattle.ocfl_audit.specs.Between.{is_looked_into}
 use Rattle.ocfl_audit.specs.Trail.{content_openings, content_trail, heads_of, inventory_of, reads_inventory, unread_of}
-use Rattle.ocfl_item.specs.Auditing.{FailedAt}
-use Rattle.ocfl_walk.specs.WalkCalls.{GoDownFails, GoesDown, holder_of}
+use Rattle.ocfl_item.specs.Auditing.{FailedAt, IsMetadataRead}
+use Rattle.ocfl_walk.specs.WalkCalls.{GoDownFails, GoesDown, holder, holder_of}
 use Rattle.ocfl_walk.specs.Entering.{Starts, StartFails}
 use Rattle.ocfl_walk.specs.Finding.{Finds, FindFails, FindsItem}
 use Rattle.ocfl_item.specs.Looking.{IsFront, failures_by, way_to}
@@ -24,10 +24,10 @@ use Rattle.ocfl_item.specs.declared.pending.Pending.{Pending}
 use Rattle.ocfl_item.specs.declared.visit.Visit.{Visit}
 use Rattle.ocfl_audit.proofs.AuditExists.{zone_is}
 use Rattle.ocfl_audit.proofs.PathLaws.{notes_at}
-use Rattle.ocfl_item.proofs.AuditingLaws.{audits_nothing, front_all, none_once}
-use Rattle.ocfl_walk.proofs.DescentLaws.{descends_one}
+use Rattle.ocfl_item.proofs.AuditingLaws.{audits_nothing, front_all, front_kept, none_once}
+use Rattle.ocfl_walk.proofs.DescentLaws.{descends_one, front_within}
 use Rattle.ocfl_walk.proofs.EnterLaws.{start_listed, start_unlisted}
-use Rattle.ocfl_walk.proofs.FindLaws.{front_own, front_within, finds_descended, finds_stopped, item_memory, item_on, may_few}
+use Rattle.ocfl_walk.proofs.FindLaws.{front_own, finds_descended, finds_stopped, item_memory, item_on, may_few}
 use Rattle.ocfl_item.proofs.LooksCalls.{way_is}
 
 -- ---- as it is told
@@ -58,19 +58,19 @@ module _ (root : StorageRoot) where
   did_well s t trail listed meta did = subst (Did s t trail listed) (sym (none_unread trail meta)) did
 
   module _ (s t : Store) (p : Place) where
-    module _ (trail : List Opening) (listed : List Place) (over : s.tree ≡ root) (meta : content_trail root trail ≡ []) (once : AllPairs (λ a b. a.place ≢ b.place) trail) (way : IsFront listed (way_to p)) (heads : IsFront (heads_of root trail) (holder_of (zone root p))) where
-      went : Did s t trail listed 0 → GoesDown root s t (Some p)
-      went did = record {
+    module _ (trail : List Opening) (listed : List Place) (over : s.tree ≡ root) (meta : content_trail root trail ≡ []) (once : AllPairs (λ a b. a.place ≢ b.place) trail) (way : IsFront listed (way_to p)) (heads : IsFront (heads_of root trail) (holder root (Some p))) where
+      went : Did s t trail listed 0 → IsMetadataRead root trail → GoesDown root s t (Some p)
+      went did read = record {
         trail = trail;
         listed = listed;
         heads = heads_of root trail;
-        audits = record { over = over; did = did_well s t trail listed meta did; opened = meta ∙ sym (none_hashed root); heads_are = refl };
+        audits = record { over = over; did = did_well s t trail listed meta did; read = read; opened = meta ∙ sym (none_hashed root); heads_are = refl };
         listed_front = way;
         heads_front = heads;
         once = once;
       }
 
-      went_wrong : (why : Fault) → ((q : Place) → why ≡ fault.Store q → (is_hashed root q ≡ false) × FailedAt listed trail q) → Did s t trail listed (failures_by why) → GoDownFails root s t (Some p) why
+      went_wrong : (why : Fault) → ((q : Place) → why ≡ fault.Store q → (is_hashed root q ≡ false) × FailedAt root listed trail q) → Did s t trail listed (failures_by why) → GoDownFails root s t (Some p) why
       went_wrong why store did = record {
         trail = trail;
         listed = listed;
@@ -81,11 +81,15 @@ module _ (root : StorageRoot) where
         once = once;
       }
 
+    -- of the object that holds it the inventory is read only where its head reads it
+    held : (may : List Place) (f : ℕ) (h : Finds root s t (way_to p) may f) → IsFront (heads_of root h.trail) (filter (reads_inventory root) may)
+    held may f h = front_kept (reads_inventory root) (heads_of root h.trail) may h.reached h.heads
+
     pub goes_down : Finds root s t (way_to p) (holder_of (zone root p)) 0 → GoesDown root s t (Some p)
-    goes_down h = went h.trail h.listings h.over h.meta h.once h.listed h.heads h.did
+    goes_down h = went h.trail h.listings h.over h.meta h.once h.listed (held (holder_of (zone root p)) 0 h) h.did (h.read refl)
 
     pub go_down_fails : (why : Fault) → FindFails root s t (way_to p) (holder_of (zone root p)) why → GoDownFails root s t (Some p) why
-    go_down_fails why h = went_wrong h.finds.trail h.finds.listings h.finds.over h.finds.meta h.finds.once h.finds.listed h.finds.heads why h.store h.finds.did
+    go_down_fails why h = went_wrong h.finds.trail h.finds.listings h.finds.over h.finds.meta h.finds.once h.finds.listed (held (holder_of (zone root p)) (failures_by why) h.finds) why h.store h.finds.did
 
     -- the start of a walk is such a way
     pub start_goes_down : Starts root s t p 0 → GoesDown root s t (Some p)
@@ -138,8 +142,8 @@ module _ (root : StorageRoot) where
       by (inside o (n ∷ [])) e rest k = either o (text_eq n inventory_name) (zone_is root x.place o (n ∷ []) e).below rest k
       by (inside o (n ∷ m ∷ q)) e rest k = rest k
 
-  no_objects : (trail : List Opening) → IsFront (heads_of root trail) ([] ∷ []) → IsFront (heads_of root trail) (holder_of (zone root []))
-  no_objects trail h = subst (λ xs. IsFront xs (holder_of (zone root []))) (sym (by (heads_of root trail) refl h.1)) (holder_of (zone root []), refl)
+  no_objects : (trail : List Opening) → IsFront (heads_of root trail) ([] ∷ []) → IsFront (heads_of root trail) (holder root (Some []))
+  no_objects trail h = subst (λ xs. IsFront xs (holder root (Some []))) (sym (by (heads_of root trail) refl h.1)) (holder root (Some []), refl)
     where
       by : (xs : List Place) → heads_of root trail ≡ xs → [] ∷ [] ≡ xs ++ h.0 → heads_of root trail ≡ []
       by [] e k = e
@@ -149,7 +153,7 @@ module _ (root : StorageRoot) where
   answered_base s t p v top h =
       let m = h.gives.0 in
       subst (λ x. GoesDown root s t (Some x) × IsItemAt root x v.item) (sym top)
-      (went s t [] m.trail m.listings m.over m.meta m.once (front_own [] (is_looked_into root []) m.listings m.listed) (no_objects m.trail (front_own [] (reads_inventory root []) (heads_of root m.trail) m.heads)) m.did, h.gives.1.item)
+      (went s t [] m.trail m.listings m.over m.meta m.once (front_own [] (is_looked_into root []) m.listings m.listed) (no_objects m.trail (front_own [] (reads_inventory root []) (heads_of root m.trail) m.heads)) m.did m.read, h.gives.1.item)
 
   pub answered_no_base : (s t : Store) (p : Place) (why : Fault) → p ≡ [] → Visits root s t [] (Err why) → GoDownFails root s t (Some p) why
   answered_no_base s t p why top h =

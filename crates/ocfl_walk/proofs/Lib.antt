@@ -1,3 +1,4 @@
+pub mod EndLaws
 pub mod TurnLaws
 pub mod DueTurns
 pub mod StandLaws

@@ -9,7 +9,7 @@ use Rattle.ocfl_tree.specs.declared.store.Entry.{Entry}
 use Rattle.ocfl_inventory.specs.Table.{Triple, paths_of}
 use Rattle.ocfl_walk.specs.Standing.{IsAroundIf, IsFairPile, IsOrderly, IsTaken, Pile, entry_weight, frames_of, left_of_folder, paths_above, piles_in, pushed, size_of, stand_size, weigh}
 use Rattle.ocfl_audit.specs.Between.{IsBeyond}
-use Rattle.ocfl_walk.specs.Walking.{GoesOn, step_from}
+use Rattle.ocfl_walk.specs.Walking.{GoesOn, GoesTo, step_from}
 use Rattle.ocfl_item.specs.declared.folder.Folder.{Folder}
 use Rattle.ocfl_item.specs.declared.pending.Pending.{Pending}
 use Rattle.ocfl_item.specs.declared.meeting.Around.{Around}
@@ -99,6 +99,10 @@ size_entry last x ps new entry a a' f h t h' g =
 pub goes_to : (old new : Stand) (x : Place) (item : Option Pending) → IfSome item (λ p. p.place ≡ x) → new.last ≡ Some x → IsBeyond old.last x → stand_size new < stand_size old → length x ≤ 255 → GoesOn old new (step_from item)
 goes_to old new x None i l o s d = (x, l, o, s)
 goes_to old new x (Some p) i l o s d = (l ∙ ap (λ y. Some y) (sym i), subst (IsBeyond old.last) (sym i) o, s, subst (λ y. length y ≤ 255) (sym i) d)
+
+pub goes_here : (new : Stand) (x : Place) (item : Option Pending) → new.last ≡ Some x → GoesTo new x (step_from item)
+goes_here new x None l = l
+goes_here new x (Some p) l = l
 
 pub sizes_fall : (old new : Stand) (p x : Place) (ps qs : List Pile) (a a' : Option Around) → old.last ≡ Some p → piles_in old.last old.listings.items ≡ ps → old.around ≡ a → new.last ≡ Some x → piles_in new.last new.listings.items ≡ qs → new.around ≡ a' → size_of (Some x) qs a' < size_of (Some p) ps a → stand_size new < stand_size old
 unfolding stand_size

@@ -1,7 +1,7 @@
 -- Where a walk stands after a step, on a told tree.
 use Rattle.std.proofs.Common.{◌≡◌, inl, inr, ◌<◌, List, [], ◌∷◌, ◌++◌, refl, sym, ◌∙◌, ap, subst, false, Option, Some, None, arith}
 use Rattle.std.proofs.lemmas.List.{append-nil}
-use Rattle.std.specs.Prelude.{option_map}
+use Rattle.std.specs.Prelude.{IfOk, Result, Ok, Err, option_map}
 use Rattle.std.specs.Ordering.{is_lt}
 use Rattle.std.specs.declared.cmp.Ordering.{Ordering}
 use Rattle.std.specs.declared.cmp.Ordering.TheVariants.{Less, Equal, Greater}
@@ -15,19 +15,21 @@ use Rattle.ocfl_audit.specs.Walk.{seen_names}
 use Rattle.ocfl_audit.specs.Stack.{Frame, IsStack, IsListed}
 use Rattle.ocfl_walk.specs.Standing.{StandsAt, stand_size, AreEntries, HaveEntries, IsStanding, IsTaken, IsTurn, Pile, frames_of, left_names, left_of_folder, path_from, popped, pushed}
 use Rattle.ocfl_item.specs.Around.{IsTableAround}
-use Rattle.ocfl_walk.specs.Walking.{GoesOn, NextGoesOn, NextTold, Onward, SoFar, Steps, IsPileAt}
+use Rattle.ocfl_walk.specs.Ends.{before_end, is_past}
+use Rattle.ocfl_walk.specs.Walking.{GoesOn, GoesTo, IsBefore, NextGoesOn, NextTold, Onward, SoFar, Steps, StepsOut, StepsOutTo, StepsTo, IsPileAt}
 use Rattle.ocfl_item.specs.declared.fault.Fault.{Fault}
 use Rattle.ocfl_item.specs.declared.folder.Folder.{Folder}
 use Rattle.ocfl_item.specs.declared.meeting.Around.{Around}
 use Rattle.ocfl_audit.specs.Due.{due}
 use Rattle.ocfl_item.specs.declared.pending.Pending.{Pending}
+use Rattle.ocfl_walk.specs.declared.end.End.{End}
 use Rattle.ocfl_walk.specs.declared.stand.Stand.{Stand}
 use Rattle.ocfl_walk.specs.declared.stand.Step.{Step}
 use Rattle.ocfl_walk.specs.declared.stand.Step.TheVariants as step
 use Rattle.ocfl_item.proofs.LooksZones.{inside_on}
 use Rattle.ocfl_audit.specs.Between.{IsBeyond}
-use Rattle.ocfl_walk.specs.WalkCalls.{Walks, WalkFails}
-use Rattle.ocfl_walk.proofs.WalkCallLaws.{walks_fail, walks_on, walks_over}
+use Rattle.ocfl_walk.specs.WalkCalls.{FailsOut, Walks, WalksOut}
+use Rattle.ocfl_walk.proofs.WalkCallLaws.{fails_out, walks_fail_out, walks_on, walks_out, walks_over}
 use Rattle.ocfl_audit.proofs.WayLaws.{is_closed, zone_part}
 
 -- ---- places, one after the other
@@ -107,48 +109,78 @@ pub onward_item : (old mid new : Stand) (p : Pending) → Onward old mid → Goe
 onward_item old mid new p (inl e) g = (g.0, subst (λ m. IsBeyond m.last p.place) e g.1, subst (λ m. stand_size new < stand_size m) e g.2, g.3)
 onward_item old mid new p (inr h) g = (g.0, after_on old.last h.0 p.place h.2 (subst (λ l. IsBeyond l p.place) h.1 g.1), omega (arith, g.2, h.3), g.3)
 
-module _ (root : StorageRoot) (s t u : Store) (last : Option Place) (mid new : Stand) (over : s.tree ≡ root) (f : SoFar root s t last mid) where
+-- ---- a step before the end
+
+module _ (root : StorageRoot) (s t : Store) (last : Option Place) (e : End) (x : Place) (new : Stand) where
+  pub step_out : (r : Step) → GoesTo new x r → is_past e x ≡ false → Steps root s t last new r → StepsOut root s t last e new r
+  step_out (step.Item p) g n h = let same : x ≡ p.place = by (sym g ∙ h.1.0) in (h.0, h.1, h.2, ap (is_past e) (sym same) ∙ n, h.3)
+    where
+      by : {y : Place} → Some x ≡ Some y → x ≡ y
+      by f = cc
+  step_out step.Nothing g n h = let same : x ≡ h.0 = by (sym g ∙ h.2.0) in (h.0, h.1, h.2, h.3, ap (is_past e) (sym same) ∙ n, h.4)
+    where
+      by : {y : Place} → Some x ≡ Some y → x ≡ y
+      by f = cc
+  step_out step.End g n h = absurd g
+
+  pub steps_out_to : (r : Result Step Fault) → IfOk r (λ q. GoesTo new x q) → IsBeyond last x → is_past e x ≡ false → StepsTo root s t last x new r → StepsOutTo root s t last e new r
+  steps_out_to (Ok q) g l n h = step_out q g n h
+  steps_out_to (Err why) g l n h = fails_out root s t t last x e l n why h
+
+pub stands_before : (e : End) (old new : Stand) (x : Place) → is_past e x ≡ false → (r : Result Step Fault) → IfOk r (λ q. GoesOn old new q) → IfOk r (λ q. GoesTo new x q) → IfOk r (λ q. IsBefore e new q)
+stands_before e old new x n (Err why) g h = tt
+stands_before e old new x n (Ok q) g h = by q g h
+  where
+    same : {y z : Place} → Some y ≡ Some z → y ≡ z
+    same f = cc
+
+    by : (q : Step) → GoesOn old new q → GoesTo new x q → IsBefore e new q
+    by (step.Item p) g h = ap (is_past e) (same (sym g.0 ∙ h)) ∙ n
+    by step.Nothing g h = tt
+    by step.End g h = tt
+
+module _ (root : StorageRoot) (s t u : Store) (last : Option Place) (e : End) (mid new : Stand) (over : s.tree ≡ root) (f : SoFar root s t last e mid) where
   stays : t.tree ≡ root
   stays = by f
     where
-      by : SoFar root s t last mid → t.tree ≡ root
+      by : SoFar root s t last e mid → t.tree ≡ root
       by (inl h) = ap (λ x. x.tree) h.0 ∙ over
       by (inr h) = walks_over root s t last (Some h.0) h.1
 
-  pub so_far_fails : (why : Fault) → (t.tree ≡ root → (l : Option Place) → StandsAt root mid l → WalkFails root t u l why) → WalkFails root s u last why
+  pub so_far_fails : (why : Fault) → (t.tree ≡ root → (l : Option Place) → StandsAt root mid l → FailsOut root t u l e why) → FailsOut root s u last e why
   so_far_fails why k = by f
     where
-      by : SoFar root s t last mid → WalkFails root s u last why
-      by (inl h) = subst (λ x. WalkFails root x u last why) h.0 (k stays last h.1)
-      by (inr h) = walks_fail root s t u last h.0 h.3 why h.1 (k stays (Some h.0) h.2)
+      by : SoFar root s t last e mid → FailsOut root s u last e why
+      by (inl h) = subst (λ x. FailsOut root x u last e why) h.0 (k stays last h.1)
+      by (inr h) = walks_fail_out root s t u last h.0 e h.3 h.4 why h.1 (k stays (Some h.0) h.2)
 
-  module _ (r : Step) (k : t.tree ≡ root → (l : Option Place) → StandsAt root mid l → Steps root t u l new r) where
-    next_step : (q : Step) → r ≡ q → (l : Option Place) → StandsAt root mid l → Steps root t u l new q
-    next_step q e l st = subst (Steps root t u l new) e (k stays l st)
+  module _ (r : Step) (k : t.tree ≡ root → (l : Option Place) → StandsAt root mid l → StepsOut root t u l e new r) where
+    next_step : (q : Step) → r ≡ q → (l : Option Place) → StandsAt root mid l → StepsOut root t u l e new q
+    next_step q is l st = subst (StepsOut root t u l e new) is (k stays l st)
 
-    pub so_far_step : r ≡ step.Nothing → SoFar root s u last new
-    so_far_step e = by f
+    pub so_far_step : r ≡ step.Nothing → SoFar root s u last e new
+    so_far_step is = by f
       where
-        by : SoFar root s t last mid → SoFar root s u last new
-        by (inl h) = inr (subst (λ x. (y : Place) × Walks root x u last (Some y) × StandsAt root new (Some y) × IsBeyond last y × (due root last ≡ due root (Some y))) h.0 (next_step step.Nothing e last h.1))
+        by : SoFar root s t last e mid → SoFar root s u last e new
+        by (inl h) = inr (subst (λ x. (y : Place) × Walks root x u last (Some y) × StandsAt root new (Some y) × IsBeyond last y × (is_past e y ≡ false) × (due root last ≡ due root (Some y))) h.0 (next_step step.Nothing is last h.1))
         by (inr h) =
-            let g = next_step step.Nothing e (Some h.0) h.2 in
-            inr (g.0, walks_on root s t u last h.0 h.3 (Some g.0) (not_below h.0 g.0 g.3) h.1 g.1, g.2, after_on last h.0 g.0 h.3 g.3, h.4 ∙ g.4)
+            let g = next_step step.Nothing is (Some h.0) h.2 in
+            inr (g.0, walks_on root s t u last h.0 h.3 (Some g.0) (not_below h.0 g.0 g.3) h.1 g.1, g.2, after_on last h.0 g.0 h.3 g.3, g.4, h.5 ∙ g.5)
 
-    pub so_far_item : (p : Pending) → r ≡ step.Item p → NextTold root s u last new (Some p)
-    so_far_item p e = by f
+    pub so_far_item : (p : Pending) → r ≡ step.Item p → NextTold root s u last e new (Some p)
+    so_far_item p is = by f
       where
-        by : SoFar root s t last mid → NextTold root s u last new (Some p)
-        by (inl h) = let g = next_step (step.Item p) e last h.1 in (subst (λ x. Walks root x u last (Some p.place)) h.0 g.0, g.1, g.3)
+        by : SoFar root s t last e mid → NextTold root s u last e new (Some p)
+        by (inl h) = let g = next_step (step.Item p) is last h.1 in (subst (λ x. Walks root x u last (Some p.place)) h.0 g.0, g.1, g.4)
         by (inr h) =
-            let g = next_step (step.Item p) e (Some h.0) h.2 in
-            (walks_on root s t u last h.0 h.3 (Some p.place) (not_below h.0 p.place g.2) h.1 g.0, g.1, record { pending = g.3.pending; due_are = h.4 ∙ g.3.due_are })
+            let g = next_step (step.Item p) is (Some h.0) h.2 in
+            (walks_on root s t u last h.0 h.3 (Some p.place) (not_below h.0 p.place g.2) h.1 g.0, g.1, record { pending = g.4.pending; due_are = h.5 ∙ g.4.due_are })
 
-    pub so_far_end : r ≡ step.End → NextTold root s u last new None
-    so_far_end e = by f
+    pub so_far_end : r ≡ step.End → NextTold root s u last e new None
+    so_far_end is = by f
       where
-        by : SoFar root s t last mid → NextTold root s u last new None
-        by (inl h) = let g = next_step step.End e last h.1 in (subst (λ x. Walks root x u last None) h.0 g.0, g.1, (last, g.2, g.1))
+        by : SoFar root s t last e mid → NextTold root s u last e new None
+        by (inl h) = let g = next_step step.End is last h.1 in (subst (λ x. WalksOut root x u last e) h.0 g.0, g.1, (last, g.2, g.1))
         by (inr h) =
-            let g = next_step step.End e (Some h.0) h.2 in
-            (walks_on root s t u last h.0 h.3 None tt h.1 g.0, h.4 ∙ g.1, (Some h.0, g.2, g.1))
+            let g = next_step step.End is (Some h.0) h.2 in
+            (walks_out root s t u last h.0 e h.3 h.4 h.1 g.0, ap (before_end e) h.5 ∙ g.1, (Some h.0, g.2, g.1))

@@ -1,5 +1,5 @@
 -- What a stand is after each of its steps.
-use Rattle.std.proofs.Common.{◌≡◌, ◌≢◌, ◌<◌, [], ◌∷◌, ◌++◌, refl, sym, ap, subst, Option, Some, None, length}
+use Rattle.std.proofs.Common.{◌≡◌, ◌≢◌, ◌⊎◌, inl, inr, ◌<◌, List, [], ◌∷◌, ◌++◌, refl, sym, ◌∙◌, ap, subst, true, Option, Some, None, length}
 use Rattle.std.specs.declared.alloc.Global.{Global}
 use Rattle.std.specs.Prelude.{IfSome, Vec}
 use Rattle.std.specs.declared.cmp.Ordering.TheVariants.{Less}
@@ -8,7 +8,11 @@ use Rattle.ocfl_tree.specs.Place.{Place, place_cmp}
 use Rattle.ocfl_tree.specs.StorageRoot.{StorageRoot}
 use Rattle.ocfl_tree.specs.Store.{Store}
 use Rattle.ocfl_tree.specs.declared.store.Entry.{Entry}
-use Rattle.ocfl_audit.specs.Between.{IsBeyond}
+use Rattle.ocfl_audit.specs.Between.{IsBeyond, looked_between, read_between}
+use Rattle.ocfl_audit.specs.Due.{due}
+use Rattle.ocfl_audit.specs.Stack.{Frame}
+use Rattle.ocfl_audit.proofs.BetweenLaws.{looked_end, read_end}
+use Rattle.ocfl_tree.proofs.Orders.{true_not_false}
 use Rattle.ocfl_audit.specs.Walk.{seen_names}
 use Rattle.ocfl_audit.specs.Zone.{seen}
 use Rattle.ocfl_item.specs.Around.{IsMet, IsTableAround}
@@ -18,20 +22,25 @@ use Rattle.ocfl_item.specs.declared.meeting.Around.{Around}
 use Rattle.ocfl_item.specs.declared.pending.Pending.{Pending}
 use Rattle.ocfl_item.proofs.ShutLaws.{shut_unseen}
 use Rattle.ocfl_item.proofs.VisitLaws.{meets_shut}
-use Rattle.ocfl_walk.specs.Standing.{IsAroundIf, IsBelowNext, IsFairPile, IsOrderly, IsOrderlyIf, IsOrderlyStand, IsStanding, IsTaken, IsTurn, StandsAt, TurnIs, frames_of, next_of, path_from, piles_at, piles_in, popped, pushed, spot_of, still, trimmed, turn_of}
-use Rattle.ocfl_walk.specs.Walking.{GoesOn, IsFairMet, IsMeeting, IsPileAt, Steps, step_from}
+use Rattle.ocfl_walk.specs.Standing.{IsAroundIf, IsBelowNext, IsFairPile, IsOrderly, IsOrderlyIf, IsOrderlyStand, IsStanding, IsTaken, IsTurn, StandsAt, TurnIs, frames_of, next_of, path_from, piles_at, piles_in, popped, pushed, spot_of, still, trimmed, is_turn_past, turn_before, turn_of}
+use Rattle.ocfl_walk.specs.Ends.{before_end, is_past}
+use Rattle.ocfl_walk.specs.Walking.{GoesOn, GoesTo, IsFairMet, IsMeeting, IsPileAt, Steps, StepsOut, step_from}
+use Rattle.ocfl_walk.specs.declared.end.End.{End}
 use Rattle.ocfl_walk.specs.declared.stand.Met.{Met}
 use Rattle.ocfl_walk.specs.declared.stand.Stand.{Stand}
 use Rattle.ocfl_walk.specs.declared.stand.Step.{Step}
+use Rattle.ocfl_walk.specs.declared.stand.Step.TheVariants as step
 use Rattle.ocfl_walk.specs.declared.stand.Turn.{Turn}
 use Rattle.ocfl_walk.specs.declared.stand.Turn.TheVariants as turn
-use Rattle.ocfl_walk.proofs.Chosen.{at_last, chosen_turn, mid_stands}
+use Rattle.ocfl_walk.proofs.Chosen.{at_first, at_last, chosen_base, chosen_turn, ended_turn, mid_stands}
+use Rattle.ocfl_walk.proofs.EndLaws.{all_past, due_past, looked_past, read_past}
+use Rattle.ocfl_walk.proofs.WalkCallLaws.{walks_out_nothing}
 use Rattle.ocfl_walk.proofs.DueTurns.{near_turn}
 use Rattle.ocfl_walk.proofs.EntrySteps.{entry_met, step_to, still_around, taken_place}
 use Rattle.ocfl_walk.proofs.OrderlyLaws.{entry_after, entry_short, orderly_entry}
 use Rattle.ocfl_walk.proofs.PathSteps.{orderly_path, path_above, path_short, size_path}
 use Rattle.ocfl_walk.proofs.PlacedLaws.{begun, begun_if, entry_pushed, entry_room, path_shared}
-use Rattle.ocfl_walk.proofs.SizeLaws.{goes_to, size_entry, sizes_fall}
+use Rattle.ocfl_walk.proofs.SizeLaws.{goes_here, goes_to, size_entry, sizes_fall}
 use Rattle.ocfl_walk.proofs.StandLaws.{entry_stands, path_stands}
 use Rattle.ocfl_walk.proofs.StartLaws.{first_pushed, first_room, first_stands, item_first, orderly_first, root_short, size_begins, size_first, step_first}
 
@@ -68,6 +77,9 @@ module _ (old : Stand) (orderly : IsOrderlyStand old) (first : old.last ≡ None
           (goes_to old base x item (item_first x item top i) refl (subst (λ y. IsBeyond y x) (sym first) tt)
           (size_begins old base x (piles_at [] old.listings.items) _ old.around old.around first (ap (λ l. piles_in l old.listings.items) first) refl refl base_piles refl (size_first x f (piles_at [] old.listings.items) old.around nothing.0 nothing.1 fair))
           (root_short x top))
+
+      pub base_there : GoesTo base [] r
+      base_there = subst (GoesTo base []) (sym is) (goes_here base [] item (ap (λ y. Some y) top))
 
       pub base_told : (root : StorageRoot) (s t : Store) → Meets root s t [] → IsItemAt root [] item → IsPileAt root [] f → Steps root s t None base r
       base_told root s t m i pile =
@@ -119,6 +131,9 @@ module _ (old : Stand) (entry : Entry) (x : Place) (mid : Listings) (orderly : I
             (sizes_fall old at_entry (spot_of old.last) x _ _ old.around m.around there.0 refl refl refl entry_piles refl small)
             (entry_short (spot_of old.last) (piles_in old.last old.listings.items) (piles_in old.last mid.items) entry old.around there.1 (taken (spot_of old.last)) x own))
 
+        pub entry_there : GoesTo at_entry x r
+        entry_there = subst (GoesTo at_entry x) (sym is) (goes_here at_entry x m.item refl)
+
         pub entry_told : (root : StorageRoot) (s u : Store) (l : Place) → IsStanding root l (piles_in old.last old.listings.items) old.around → IsTurn root l x ((x, seen_names root x) ∷ popped (piles_in old.last old.listings.items)) → Meets root s u x → IsMeeting root x m
             → Steps root s u (Some l) at_entry r
         entry_told root s u l st go meets met =
@@ -158,6 +173,9 @@ module _ (old : Stand) (x : Place) (orderly : IsOrderlyStand old) (some : old.la
         (sizes_fall old at_path (spot_of old.last) x _ _ old.around old.around gone.0 refl refl refl path_piles refl small)
         (path_short (spot_of old.last) x (piles_in old.last old.listings.items) old.around gone.1 path.0))
 
+    pub path_there : GoesTo at_path x r
+    path_there = subst (GoesTo at_path x) (sym is) (goes_here at_path x item refl)
+
     pub path_told : (root : StorageRoot) (s : Store) (l : Place) → s.tree ≡ root → old.last ≡ Some l → IsStanding root l (piles_in old.last old.listings.items) old.around → IsTurn root l x (frames_of (piles_in old.last old.listings.items)) → seen root x ≡ None
         → (IsTableAround root x old.around → IsItemAt root x item) → Steps root s s (Some l) at_path r
     path_told root s l over e st go unseen i =
@@ -175,3 +193,31 @@ by_turn root old mid is t u same some base next orderly X last st k =
     at_last root old X last st (λ e. some (subst (λ y. y ≡ turn.Base) same (base e)))
     (λ p e h. k p e (mid_stands (piles_in old.last old.listings.items) (piles_in old.last mid.items) old.around is root p h)
     (subst (TurnIs root p (piles_in old.last mid.items)) same (chosen_turn (piles_in old.last old.listings.items) (piles_in old.last mid.items) old.around is root old.last p t e orderly h (next p e))))
+
+-- ---- at the end
+
+-- what is left lies past the end, or nothing is left
+pub ends_here : (root : StorageRoot) (old : Stand) (mid : Listings) → piles_in old.last mid.items ≡ trimmed (piles_in old.last old.listings.items) → (t : Turn) → (old.last ≡ None → t ≡ turn.Base) → ((p : Place) → old.last ≡ Some p → t ≡ turn_of (next_of (piles_in old.last mid.items)) (path_from p old.around)) → IsOrderlyStand old
+    → (e : End) → turn.End ≡ turn_before e t → (s : Store) → s.tree ≡ root → (last : Option Place) → StandsAt root old last → StepsOut root s s last e (record { listings = mid; around = old.around; last = old.last }) step.End
+ends_here root old mid is t base next orderly e ended s over last st = by t refl (ended_turn e t ended)
+  where
+    X : Option Place → Type 0
+    X l = StepsOut root s s l e (record { listings = mid; around = old.around; last = old.last }) step.End
+
+    turned : (u : Turn) → t ≡ u → (u ≡ turn.Base → ⊥) → ((p : Place) → old.last ≡ Some p → IsStanding root p (piles_in old.last mid.items) old.around → TurnIs root p (piles_in old.last mid.items) u → X (Some p)) → X last
+    turned u same some k = by_turn root old mid is t u same some base next orderly X last st k
+
+    past : (p x : Place) (fs : List Frame) → old.last ≡ Some p → IsStanding root p (piles_in old.last mid.items) old.around → is_past e x ≡ true → IsTurn root p x fs → X (Some p)
+    past p x fs l h f go = (walks_out_nothing root s (Some p) e over (looked_past e root p x go.none_seen f) (read_past e root p x go.none_seen f), due_past e root p x f go.some go.none, (l, h))
+
+    by : (u : Turn) → t ≡ u → (t ≡ turn.End) ⊎ (is_turn_past e t ≡ true) → X last
+    by u same (inl f) =
+        turned turn.End f (λ g. cc)
+        (λ p l h go. (walks_out_nothing root s (Some p) e over (ap (before_end e) (looked_end root p go.0)) (ap (before_end e) (read_end root p go.0)), ap (before_end e) go.1, (l, h)))
+    by turn.Base same (inr f) =
+        let top = ap (is_turn_past e) (sym same) ∙ f in
+        at_first root old X last st (chosen_base old.last (next_of (piles_in old.last mid.items)) old.around t base next same)
+        (walks_out_nothing root s None e over (all_past e root top (looked_between root None None)) (all_past e root top (read_between root None None)), all_past e root top (due root None), chosen_base old.last (next_of (piles_in old.last mid.items)) old.around t base next same)
+    by (turn.Entry x) same (inr f) = turned (turn.Entry x) same (λ g. cc) (λ p l h go. past p x _ l h (ap (is_turn_past e) (sym same) ∙ f) go)
+    by (turn.Path x) same (inr f) = turned (turn.Path x) same (λ g. cc) (λ p l h go. past p x _ l h (ap (is_turn_past e) (sym same) ∙ f) go.0)
+    by turn.End same (inr f) = absurd (true_not_false (sym (ap (is_turn_past e) (sym same) ∙ f)))

@@ -1,5 +1,5 @@
 -- What the calls of a walk did adds up.
-use Rattle.std.proofs.Common.{◌≡◌, [], ◌++◌, refl, sym, ◌∙◌, ap, subst, Option, Some, None}
+use Rattle.std.proofs.Common.{◌≡◌, [], ◌++◌, refl, sym, ◌∙◌, subst, false, Option, Some, None}
 use Rattle.std.specs.Prelude.{not}
 use Rattle.ocfl_tree.specs.Place.{Place}
 use Rattle.ocfl_tree.specs.StorageRoot.{StorageRoot}
@@ -8,10 +8,13 @@ use Rattle.ocfl_audit.specs.Head.{on}
 use Rattle.ocfl_audit.specs.Trail.{heads_of, reads_inventory}
 use Rattle.ocfl_audit.specs.Between.{IsBeyond, IsWithin, is_looked_into, looked_between, read_between}
 use Rattle.ocfl_audit.proofs.BetweenLaws.{looked_on, read_on}
-use Rattle.ocfl_item.specs.Looking.{failures_by}
+use Rattle.ocfl_item.specs.Looking.{IsFront, failures_by}
 use Rattle.ocfl_item.specs.Auditing.{Audits}
-use Rattle.ocfl_item.proofs.AuditingLaws.{audits_on, audits_fail, audits_meta, fails_meta, fails_nothing, front_behind, front_more, front_none}
-use Rattle.ocfl_walk.specs.WalkCalls.{Walks, WalkFails}
+use Rattle.ocfl_item.proofs.AuditingLaws.{audits_nothing, audits_on, audits_fail, audits_meta, fails_meta, fails_nothing, front_behind, front_more, front_none}
+use Rattle.ocfl_walk.specs.Ends.{before_end, is_past}
+use Rattle.ocfl_walk.specs.WalkCalls.{FailsOut, FailsTo, Walks, WalkFails, WalksOut}
+use Rattle.ocfl_walk.specs.declared.end.End.{End}
+use Rattle.ocfl_walk.proofs.EndLaws.{all_kept, looked_out, read_out}
 use Rattle.ocfl_item.specs.Meeting.{Meets, MeetFails}
 use Rattle.ocfl_item.specs.declared.fault.Fault.{Fault}
 use Rattle.ocfl_item.specs.declared.fault.Fault.TheVariants as fault
@@ -26,19 +29,17 @@ module _ (root : StorageRoot) (s t : Store) (from : Option Place) (x : Place) (n
   pub meets_walks : Meets root s t x → Walks root s t from (Some x)
   meets_walks m = record {
     trail = m.trail;
-    audits = audits_meta root s t (looked_between root from (Some x)) (read_between root from (Some x)) m.trail m.over (subst (λ ls. Did s t m.trail ls 0) (m.listed ∙ sym near.looked) m.did) m.meta (m.heads ∙ sym near.read);
+    audits = audits_meta root s t (looked_between root from (Some x)) (read_between root from (Some x)) m.trail m.over (subst (λ ls. Did s t m.trail ls 0) (m.listed ∙ sym near.looked) m.did) m.read m.meta (m.heads ∙ sym near.read);
   }
 
-  pub meets_fails : (why : Fault) → MeetFails root s t x why → WalkFails root s t from why
+  pub meets_fails : (why : Fault) → MeetFails root s t x why → FailsTo root s t from x why
   meets_fails why m = record {
     trail = m.trail;
     listed = m.listings;
     heads = heads_of root m.trail;
     fails = fails_meta root s t m.listings (heads_of root m.trail) m.trail why m.over m.did m.meta refl m.store;
-    listed_front = front_more m.listings (on (is_looked_into root x) x) (looked_between root (Some x) None) (looked_between root from None)
-        (ap (λ l. l ++ looked_between root (Some x) None) (sym near.looked) ∙ looked_on root from None x near.beyond tt) m.listed;
-    heads_front = front_more (heads_of root m.trail) (on (reads_inventory root x) x) (read_between root (Some x) None) (read_between root from None)
-        (ap (λ l. l ++ read_between root (Some x) None) (sym near.read) ∙ read_on root from None x near.beyond tt) m.heads;
+    listed_front = subst (IsFront m.listings) (sym near.looked) m.listed;
+    heads_front = subst (IsFront (heads_of root m.trail)) (sym near.read) m.heads;
   }
 
 module _ (root : StorageRoot) (s t u : Store) (from : Option Place) (b : Place) (beyond : IsBeyond from b) where
@@ -65,12 +66,81 @@ module _ (root : StorageRoot) (s t u : Store) (from : Option Place) (b : Place) 
 pub walks_over : (root : StorageRoot) (s t : Store) (from to : Option Place) → Walks root s t from to → t.tree ≡ root
 walks_over root s t from to w = w.audits.did.tree ∙ w.audits.over
 
-pub walk_fails_nothing : (root : StorageRoot) (s : Store) (from : Option Place) (why : Fault) → s.tree ≡ root → failures_by why ≡ 0 → ((q : Place) → why ≡ fault.Store q → ⊥) → WalkFails root s s from why
-walk_fails_nothing root s from why over none not = record {
+-- ---- on to the end
+
+module _ (root : StorageRoot) (s t u : Store) (from : Option Place) (b : Place) (e : End) (beyond : IsBeyond from b) (before : is_past e b ≡ false) where
+  pub fails_out : (why : Fault) → FailsTo root s t from b why → FailsOut root s t from e why
+  fails_out why f = record {
+    trail = f.trail;
+    listed = f.listed;
+    heads = f.heads;
+    fails = f.fails;
+    listed_front = front_more f.listed (looked_between root from (Some b)) (before_end e (looked_between root (Some b) None)) (before_end e (looked_between root from None)) (looked_out e root from b beyond before) f.listed_front;
+    heads_front = front_more f.heads (read_between root from (Some b)) (before_end e (read_between root (Some b) None)) (before_end e (read_between root from None)) (read_out e root from b beyond before) f.heads_front;
+  }
+
+  pub walks_out : Walks root s t from (Some b) → WalksOut root t u (Some b) e → WalksOut root s u from e
+  walks_out v w = record {
+    trail = v.trail ++ w.trail;
+    audits =
+        subst (λ ls. Audits root s u [] ls (before_end e (read_between root from None)) (v.trail ++ w.trail)) (looked_out e root from b beyond before)
+        (subst (λ hs. Audits root s u [] (looked_between root from (Some b) ++ before_end e (looked_between root (Some b) None)) hs (v.trail ++ w.trail)) (read_out e root from b beyond before)
+        (audits_on root s t u [] [] _ _ _ _ v.trail w.trail v.audits w.audits));
+  }
+
+  pub walks_fail_out : (why : Fault) → Walks root s t from (Some b) → FailsOut root t u (Some b) e why → FailsOut root s u from e why
+  walks_fail_out why v w = record {
+    trail = v.trail ++ w.trail;
+    listed = looked_between root from (Some b) ++ w.listed;
+    heads = read_between root from (Some b) ++ w.heads;
+    fails = audits_fail root s t u [] [] _ _ _ _ v.trail w.trail why v.audits w.fails;
+    listed_front = front_behind (looked_between root from (Some b)) w.listed (before_end e (looked_between root (Some b) None)) (before_end e (looked_between root from None)) (looked_out e root from b beyond before) w.listed_front;
+    heads_front = front_behind (read_between root from (Some b)) w.heads (before_end e (read_between root (Some b) None)) (before_end e (read_between root from None)) (read_out e root from b beyond before) w.heads_front;
+  }
+
+-- where nothing is left before the end nothing is done
+pub walks_out_nothing : (root : StorageRoot) (s : Store) (from : Option Place) (e : End) → s.tree ≡ root → before_end e (looked_between root from None) ≡ [] → before_end e (read_between root from None) ≡ [] → WalksOut root s s from e
+walks_out_nothing root s from e over looked read = record {
+  trail = [];
+  audits = subst (λ ls. Audits root s s [] ls (before_end e (read_between root from None)) []) (sym looked) (subst (λ hs. Audits root s s [] [] hs []) (sym read) (audits_nothing root s over));
+}
+
+pub fails_out_nothing : (root : StorageRoot) (s : Store) (from : Option Place) (e : End) (why : Fault) → s.tree ≡ root → failures_by why ≡ 0 → ((q : Place) → why ≡ fault.Store q → ⊥) → FailsOut root s s from e why
+fails_out_nothing root s from e why over none not = record {
   trail = [];
   listed = [];
   heads = [];
   fails = fails_nothing root s why over none not;
-  listed_front = front_none (looked_between root from None);
-  heads_front = front_none (read_between root from None);
+  listed_front = front_none (before_end e (looked_between root from None));
+  heads_front = front_none (before_end e (read_between root from None));
 }
+
+pub fails_to_nothing : (root : StorageRoot) (s : Store) (from : Option Place) (to : Place) (why : Fault) → s.tree ≡ root → failures_by why ≡ 0 → ((q : Place) → why ≡ fault.Store q → ⊥) → FailsTo root s s from to why
+fails_to_nothing root s from to why over none not = record {
+  trail = [];
+  listed = [];
+  heads = [];
+  fails = fails_nothing root s why over none not;
+  listed_front = front_none (looked_between root from (Some to));
+  heads_front = front_none (read_between root from (Some to));
+}
+
+-- to the end of the whole
+module _ (root : StorageRoot) (s t : Store) (from : Option Place) (e : End) (under : e.under ≡ []) (below : e.below ≡ None) where
+  pub walks_all : WalksOut root s t from e → Walks root s t from None
+  walks_all w = record {
+    trail = w.trail;
+    audits =
+        subst (λ ls. Audits root s t [] ls (read_between root from None) w.trail) (all_kept e under below (looked_between root from None))
+        (subst (λ hs. Audits root s t [] (before_end e (looked_between root from None)) hs w.trail) (all_kept e under below (read_between root from None)) w.audits);
+  }
+
+  pub fails_all : (why : Fault) → FailsOut root s t from e why → WalkFails root s t from why
+  fails_all why f = record {
+    trail = f.trail;
+    listed = f.listed;
+    heads = f.heads;
+    fails = f.fails;
+    listed_front = subst (IsFront f.listed) (all_kept e under below (looked_between root from None)) f.listed_front;
+    heads_front = subst (IsFront f.heads) (all_kept e under below (read_between root from None)) f.heads_front;
+  }

@@ -11,9 +11,9 @@ use Rattle.ocfl_audit.specs.Zone.{Zone, inside, root_declared, zone, table_at}
 use Rattle.ocfl_audit.specs.Lines.{is_hashed}
 use Rattle.ocfl_audit.specs.Trail.{content_trail}
 use Rattle.ocfl_item.specs.Looking.{way_to, IsFront, failures_by}
-use Rattle.ocfl_item.specs.Auditing.{FailedAt}
+use Rattle.ocfl_item.specs.Auditing.{FailedAt, IsMetadataRead}
 use Rattle.ocfl_walk.specs.WalkCalls.{holder_of}
-use Rattle.ocfl_item.specs.Ways.{way_below, is_extensions_name, AreInventories, Enters, InHierarchy, IsAt, Stops}
+use Rattle.ocfl_item.specs.Ways.{way_below, is_extensions_name, AreInventories, AreReached, Enters, InHierarchy, IsAt, Stops}
 use Rattle.ocfl_audit.specs.Walk.{is_reached, step_listed}
 use Rattle.ocfl_audit.specs.Stack.{seen_places, seen_left, listed_at, IsListed}
 use Rattle.ocfl_inventory.specs.Declaration.{is_known}
@@ -34,21 +34,23 @@ abbrev pub may_open : Option Around → Zone → List Place
 may_open None z = holder_of z
 may_open (Some a) z = []
 
--- from s to t directories of a way were listed in order, with more of it left, and the inventories of some objects were read in order, with more of them left
+-- from s to t directories of a way were listed in order, with more of it left, and the inventories of some objects, whose heads reach them, were read in order, with more of them left
 pub record Descends (root : StorageRoot) (s t : Store) (way more may left : List Place) (failures : ℕ) : Type 0 where
   pub over : s.tree ≡ root
   pub trail : List Opening
   pub listings : List Place
   pub did : Did s t trail listings failures
+  pub read : failures ≡ 0 → IsMetadataRead root trail
   pub meta : content_trail root trail ≡ []
   pub only : AreInventories root trail
+  pub reached : AreReached root trail
   pub listed : IsFront (listings ++ more) way
   pub heads : IsFront (heads_of root trail ++ left) may
 
 -- and then there was a fault
 pub record DescendFails (root : StorageRoot) (s t : Store) (way may : List Place) (why : Fault) : Type 0 where
   pub goes : Descends root s t way [] may [] (failures_by why)
-  pub store : (q : Place) → why ≡ fault.Store q → (is_hashed root q ≡ false) × FailedAt goes.listings goes.trail q
+  pub store : (q : Place) → why ≡ fault.Store q → (is_hashed root q ≡ false) × FailedAt root goes.listings goes.trail q
 
 -- ---- the storage root
 
@@ -124,7 +126,7 @@ pub record IsBrought (root : StorageRoot) (d q : Place) (old new : List Pile) (a
   pub entries : HaveEntries root old → HaveEntries root new
   pub table : IsTableAround root (d ++ q) around
 
--- the start of a walk: at most the directories on the way to p were listed, each once, and at most the inventory of the object that holds p was opened, once
+-- the start of a walk: at most the directories on the way to p were listed, each once, and at most the inventory of the object that holds p was opened, once, where its head reaches it
 abbrev pub Starts : StorageRoot → Store → Store → Place → ℕ → Type 0
 Starts root s t p failures = Descends root s t (way_to p) [] (holder_of (zone root p)) [] failures
 

@@ -1,3 +1,4 @@
+pub mod Ends
 pub mod WalkCalls
 pub mod Standing
 pub mod Orderly

@@ -1,6 +1,6 @@
 -- Where a walk stands: what is left of its listings, and the table of the object that holds its last place.
 use Rattle.std.specs.declared.alloc.Global.{Global}
-use Rattle.std.specs.Prelude.{Vec, suc, take, ◌≡◌, ◌<◌, ◌≤◌, ◌≢◌, ◌+◌, ◌*◌, ◌-◌, ◌^◌, ℕ, List, [], ◌∷◌, ◌++◌, true, Option, Some, None, map, filter, option_map, length, drop, if◌then◌else◌, ⊤}
+use Rattle.std.specs.Prelude.{Vec, suc, take, ◌≡◌, ◌<◌, ◌≤◌, ◌≢◌, ◌+◌, ◌*◌, ◌-◌, ◌^◌, ℕ, List, [], ◌∷◌, ◌++◌, Bool, true, false, Option, Some, None, map, filter, option_map, length, drop, if◌then◌else◌, ⊤}
 use Rattle.std.specs.Ordering.{is_lt}
 use Rattle.std.specs.List.{AllByRecursion}
 use Rattle.std.specs.declared.cmp.Ordering.TheVariants.{Less}
@@ -17,6 +17,8 @@ use Rattle.ocfl_inventory.specs.NextPath.{next_path}
 use Rattle.ocfl_audit.specs.Walk.{seen_names}
 use Rattle.ocfl_audit.specs.Stack.{NoneSeenBetween, NoneSeenAbove, Frame, IsStack, IsListed}
 use Rattle.ocfl_item.specs.Around.{IsTableAround}
+use Rattle.ocfl_walk.specs.Ends.{is_past}
+use Rattle.ocfl_walk.specs.declared.end.End.{End}
 use Rattle.ocfl_walk.specs.declared.stand.Turn.{Turn}
 use Rattle.ocfl_walk.specs.declared.stand.Turn.TheVariants as turn
 use Rattle.ocfl_item.specs.declared.folder.Folder.{Folder}
@@ -173,6 +175,16 @@ turn_of None None = turn.End
 turn_of (Some e) None = turn.Entry e
 turn_of None (Some b) = turn.Path b
 turn_of (Some e) (Some b) = if is_lt (place_cmp b e) then turn.Path b else turn.Entry e
+
+-- whether a turn leads past the end
+abbrev pub is_turn_past : End → Turn → Bool
+is_turn_past e turn.Base = is_past e []
+is_turn_past e (turn.Entry x) = is_past e x
+is_turn_past e (turn.Path x) = is_past e x
+is_turn_past e turn.End = false
+
+abbrev pub turn_before : End → Turn → Turn
+turn_before e t = if is_turn_past e t then turn.End else t
 
 -- the first entry was taken off
 pub record IsTaken (old new : List Pile) (entry : Entry) : Type 0 where

@@ -1,14 +1,17 @@
 -- What the calls of a walk did to a store that tells its tree: from one place on to another, and down to one place.
-use Rattle.std.specs.Prelude.{List, [], ◌∷◌, Option, Some, None, AllPairs, ◌≢◌}
+use Rattle.std.specs.Prelude.{List, [], ◌∷◌, Option, Some, None, AllPairs, ◌≢◌, filter}
 use Rattle.ocfl_tree.specs.Place.{Place}
 use Rattle.ocfl_tree.specs.StorageRoot.{StorageRoot}
 use Rattle.ocfl_tree.specs.Store.{Store}
 use Rattle.ocfl_tree.specs.declared.store.Opening.{Opening}
 use Rattle.ocfl_audit.specs.Zone.{Zone, skipped, hierarchy, inside, zone}
 use Rattle.ocfl_audit.specs.Between.{looked_between, read_between}
+use Rattle.ocfl_audit.specs.Trail.{reads_inventory}
 use Rattle.ocfl_item.specs.Auditing.{Audits, Fails}
 use Rattle.ocfl_item.specs.Looking.{IsFront, way_to}
 use Rattle.ocfl_item.specs.declared.fault.Fault.{Fault}
+use Rattle.ocfl_walk.specs.Ends.{before_end}
+use Rattle.ocfl_walk.specs.declared.end.End.{End}
 
 -- ---- from one place on to another
 
@@ -26,6 +29,31 @@ pub record WalkFails (root : StorageRoot) (s t : Store) (from : Option Place) (w
   pub listed_front : IsFront listed (looked_between root from None)
   pub heads_front : IsFront heads (read_between root from None)
 
+-- the first of those up to another place, and then there was a fault
+pub record FailsTo (root : StorageRoot) (s t : Store) (from : Option Place) (to : Place) (why : Fault) : Type 0 where
+  pub trail : List Opening
+  pub listed : List Place
+  pub heads : List Place
+  pub fails : Fails root s t [] listed heads trail why
+  pub listed_front : IsFront listed (looked_between root from (Some to))
+  pub heads_front : IsFront heads (read_between root from (Some to))
+
+-- ---- from a place on to the end
+
+-- the directories from a place to the end were listed, and the inventories read
+pub record WalksOut (root : StorageRoot) (s t : Store) (from : Option Place) (e : End) : Type 0 where
+  pub trail : List Opening
+  pub audits : Audits root s t [] (before_end e (looked_between root from None)) (before_end e (read_between root from None)) trail
+
+-- the first of those, and then there was a fault
+pub record FailsOut (root : StorageRoot) (s t : Store) (from : Option Place) (e : End) (why : Fault) : Type 0 where
+  pub trail : List Opening
+  pub listed : List Place
+  pub heads : List Place
+  pub fails : Fails root s t [] listed heads trail why
+  pub listed_front : IsFront listed (before_end e (looked_between root from None))
+  pub heads_front : IsFront heads (before_end e (read_between root from None))
+
 -- ---- down to one place
 
 -- the object that holds a place
@@ -38,11 +66,12 @@ abbrev pub way_of : Option Place → List Place
 way_of None = []
 way_of (Some p) = way_to p
 
+-- that object, where its head reaches its inventory
 abbrev pub holder : StorageRoot → Option Place → List Place
 holder root None = []
-holder root (Some p) = holder_of (zone root p)
+holder root (Some p) = filter (reads_inventory root) (holder_of (zone root p))
 
--- the first directories on the way to a place were listed, and at most the inventory of the object that holds it was read
+-- the first directories on the way to a place were listed, and of inventories at most that of the object that holds it was read, where its head reaches it
 pub record GoesDown (root : StorageRoot) (s t : Store) (p : Option Place) : Type 0 where
   pub trail : List Opening
   pub listed : List Place

@@ -1,12 +1,13 @@
 -- What a walk does to a store that tells its tree.
-use Rattle.std.specs.Prelude.{◌≡◌, ◌⊎◌, ◌≤◌, [], ◌∷◌, Option, Some, None, Result, MatchOption, MatchResult, IfSome, length, ◌<◌, ⊤}
+use Rattle.std.specs.Prelude.{◌≡◌, ◌⊎◌, ◌≤◌, [], ◌∷◌, false, Option, Some, None, Result, MatchOption, MatchResult, IfSome, length, ◌<◌, ⊤}
 use Rattle.ocfl_tree.specs.Place.{Place}
 use Rattle.ocfl_tree.specs.StorageRoot.{StorageRoot}
 use Rattle.ocfl_tree.specs.Store.{Store}
 use Rattle.ocfl_audit.specs.Due.{due}
 use Rattle.ocfl_audit.specs.Between.{IsBeyond}
 use Rattle.ocfl_item.specs.Meeting.{IsItemAt}
-use Rattle.ocfl_walk.specs.WalkCalls.{Walks, WalkFails}
+use Rattle.ocfl_walk.specs.Ends.{before_end, is_past}
+use Rattle.ocfl_walk.specs.WalkCalls.{FailsOut, FailsTo, Walks, WalksOut}
 use Rattle.ocfl_item.specs.Pending.{IsPending}
 use Rattle.ocfl_audit.specs.Walk.{seen_names}
 use Rattle.ocfl_walk.specs.Standing.{AreEntries, IsFairPile, left_names, left_of_folder, IsAroundIf, StandsAt, stand_size}
@@ -14,6 +15,7 @@ use Rattle.ocfl_item.specs.Around.{IsTableAround}
 use Rattle.ocfl_item.specs.declared.fault.Fault.{Fault}
 use Rattle.ocfl_item.specs.declared.folder.Folder.{Folder}
 use Rattle.ocfl_item.specs.declared.pending.Pending.{Pending}
+use Rattle.ocfl_walk.specs.declared.end.End.{End}
 use Rattle.ocfl_walk.specs.declared.stand.Met.{Met}
 use Rattle.ocfl_walk.specs.declared.stand.Stand.{Stand}
 use Rattle.ocfl_walk.specs.declared.stand.Step.{Step}
@@ -49,15 +51,38 @@ abbrev pub step_from : Option Pending → Step
 step_from None = step.Nothing
 step_from (Some p) = step.Item p
 
--- one step
+-- one step to a place
 abbrev pub Steps : StorageRoot → Store → Store → Option Place → Stand → Step → Type 0
 Steps root s t last new (step.Item p) = Walks root s t last (Some p.place) × StandsAt root new (Some p.place) × IsBeyond last p.place × IsNext root last p
 Steps root s t last new step.Nothing = (x : Place) × Walks root s t last (Some x) × StandsAt root new (Some x) × IsBeyond last x × (due root last ≡ due root (Some x))
-Steps root s t last new step.End = Walks root s t last None × (due root last ≡ []) × StandsAt root new last
+Steps root s t last new step.End = ⊥
 
--- what a step comes to, or the fault that it meets
-abbrev pub StepsTo : StorageRoot → Store → Store → Option Place → Stand → Result Step Fault → Type 0
-StepsTo root s t last new r = MatchResult r (λ step. Steps root s t last new step) (λ why. WalkFails root s t last why)
+-- what a step to x comes to, or the fault that it meets
+abbrev pub StepsTo : StorageRoot → Store → Store → Option Place → Place → Stand → Result Step Fault → Type 0
+StepsTo root s t last x new r = MatchResult r (λ step. Steps root s t last new step) (λ why. FailsTo root s t last x why)
+
+-- one step, where there is one before the end
+abbrev pub StepsOut : StorageRoot → Store → Store → Option Place → End → Stand → Step → Type 0
+StepsOut root s t last e new (step.Item p) =
+    Walks root s t last (Some p.place) × StandsAt root new (Some p.place) × IsBeyond last p.place × (is_past e p.place ≡ false) × IsNext root last p
+StepsOut root s t last e new step.Nothing =
+    (x : Place) × Walks root s t last (Some x) × StandsAt root new (Some x) × IsBeyond last x × (is_past e x ≡ false) × (due root last ≡ due root (Some x))
+StepsOut root s t last e new step.End = WalksOut root s t last e × (before_end e (due root last) ≡ []) × StandsAt root new last
+
+abbrev pub StepsOutTo : StorageRoot → Store → Store → Option Place → End → Stand → Result Step Fault → Type 0
+StepsOutTo root s t last e new r = MatchResult r (λ step. StepsOut root s t last e new step) (λ why. FailsOut root s t last e why)
+
+-- on any store a step to x stands there
+abbrev pub GoesTo : Stand → Place → Step → Type 0
+GoesTo new x (step.Item p) = new.last ≡ Some x
+GoesTo new x step.Nothing = new.last ≡ Some x
+GoesTo new x step.End = ⊥
+
+-- on any store a step stands before the end
+abbrev pub IsBefore : End → Stand → Step → Type 0
+IsBefore e new (step.Item p) = is_past e p.place ≡ false
+IsBefore e new step.Nothing = ⊤
+IsBefore e new step.End = ⊤
 
 -- on any store it goes on to a greater place, and what is left gets less
 abbrev pub GoesOn : Stand → Stand → Step → Type 0
@@ -65,14 +90,14 @@ GoesOn old new (step.Item p) = (new.last ≡ Some p.place) × IsBeyond old.last 
 GoesOn old new step.Nothing = (x : Place) × (new.last ≡ Some x) × IsBeyond old.last x × (stand_size new < stand_size old)
 GoesOn old new step.End = ⊤
 
--- nothing is left where it stands
-abbrev pub HasEnded : StorageRoot → Stand → Type 0
-HasEnded root new = (x : Option Place) × StandsAt root new x × (due root x ≡ [])
+-- nothing is left before the end where it stands
+abbrev pub HasEnded : StorageRoot → End → Stand → Type 0
+HasEnded root e new = (x : Option Place) × StandsAt root new x × (before_end e (due root x) ≡ [])
 
 -- the next item
-abbrev pub NextTold : StorageRoot → Store → Store → Option Place → Stand → Option Pending → Type 0
-NextTold root s t last new None = Walks root s t last None × (due root last ≡ []) × HasEnded root new
-NextTold root s t last new (Some p) = Walks root s t last (Some p.place) × StandsAt root new (Some p.place) × IsNext root last p
+abbrev pub NextTold : StorageRoot → Store → Store → Option Place → End → Stand → Option Pending → Type 0
+NextTold root s t last e new None = WalksOut root s t last e × (before_end e (due root last) ≡ []) × HasEnded root e new
+NextTold root s t last e new (Some p) = Walks root s t last (Some p.place) × StandsAt root new (Some p.place) × IsNext root last p
 
 abbrev pub NextGoesOn : Stand → Stand → Option Pending → Type 0
 NextGoesOn old new None = ⊤
@@ -82,5 +107,6 @@ NextGoesOn old new (Some p) = (new.last ≡ Some p.place) × IsBeyond old.last p
 abbrev pub Onward : Stand → Stand → Type 0
 Onward old new = (new ≡ old) ⊎ ((x : Place) × (new.last ≡ Some x) × IsBeyond old.last x × (stand_size new < stand_size old))
 
-abbrev pub SoFar : StorageRoot → Store → Store → Option Place → Stand → Type 0
-SoFar root s t last stand = ((t ≡ s) × StandsAt root stand last) ⊎ ((x : Place) × Walks root s t last (Some x) × StandsAt root stand (Some x) × IsBeyond last x × (due root last ≡ due root (Some x)))
+abbrev pub SoFar : StorageRoot → Store → Store → Option Place → End → Stand → Type 0
+SoFar root s t last e stand =
+    ((t ≡ s) × StandsAt root stand last) ⊎ ((x : Place) × Walks root s t last (Some x) × StandsAt root stand (Some x) × IsBeyond last x × (is_past e x ≡ false) × (due root last ≡ due root (Some x)))

@@ -5,12 +5,14 @@ use Rattle.ocfl_tree.specs.StorageRoot.{StorageRoot}
 use Rattle.ocfl_tree.specs.Store.{Store}
 use Rattle.ocfl_tree.specs.declared.store.Opening.{Opening}
 use Rattle.ocfl_audit.specs.Due.{due}
-use Rattle.ocfl_walk.specs.WalkCalls.{Walks}
+use Rattle.ocfl_walk.specs.Ends.{before_end}
+use Rattle.ocfl_walk.specs.WalkCalls.{Walks, WalksOut}
 use Rattle.ocfl_item.specs.Ways.{AreInventories}
 use Rattle.ocfl_item.specs.Pending.{IsPending}
 use Rattle.ocfl_audit.specs.Between.{IsBeyond}
 use Rattle.ocfl_walk.specs.Standing.{StandsAt, stand_size}
 use Rattle.ocfl_item.specs.declared.pending.Pending.{Pending}
+use Rattle.ocfl_walk.specs.declared.end.End.{End}
 use Rattle.ocfl_walk.specs.declared.walk.Walk.{Walk}
 
 -- it has not failed
@@ -52,3 +54,14 @@ abbrev pub Gives : StorageRoot → Store → Store → Option Place → Walk →
 Gives root s t last new None = Walks root s t last None × (due root last ≡ []) × HasEnded root new
 Gives root s t last new (Some p) =
     Walks root s t last (Some p.place) × Stands root new (Some p.place) × IsPending root p × (due root last ≡ p.place ∷ due root (Some p.place))
+
+-- ---- up to an end
+
+-- nothing is left before the end above the place behind which it stands
+abbrev pub HasEndedOut : StorageRoot → End → Walk → Type 0
+HasEndedOut root e walk = (x : Option Place) × Stands root walk x × (before_end e (due root x) ≡ [])
+
+-- the first of what is due, or none where nothing is due before the end
+abbrev pub GivesOut : StorageRoot → Store → Store → Option Place → End → Walk → Option Pending → Type 0
+GivesOut root s t last e new None = WalksOut root s t last e × (before_end e (due root last) ≡ []) × HasEndedOut root e new
+GivesOut root s t last e new (Some p) = Gives root s t last new (Some p)

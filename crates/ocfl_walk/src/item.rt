@@ -1,3 +1,4 @@
+//! The item at one place.
 ghost use Rattle.std.specs.Prelude.{◌≡◌, None, Some, IsTrue, IfErr, MatchResult};
 ghost use Rattle.ocfl_tree.specs.StorageRoot.{StorageRoot};
 ghost use Rattle.ocfl_item.specs.Meeting.{IsItemAt};

@@ -1,6 +1,6 @@
 //! Where a walk stands, and its steps.
-ghost use Rattle.std.specs.Prelude.{◌≡◌, ◌≢◌, ◌<◌, ◌∷◌, [], Option, Some, None, IsTrue, IfOk};
-ghost use Rattle.std.specs.Prelude.{IfErr, IfSome, MatchOption, MatchResult, length};
+ghost use Rattle.std.specs.Prelude.{◌≡◌, ◌≢◌, ◌<◌, ◌∷◌, [], false, Option, Some, None, IsTrue};
+ghost use Rattle.std.specs.Prelude.{IfOk, IfErr, IfSome, MatchOption, MatchResult, length};
 ghost use Rattle.arrayvec.specs.ArrayVec.{array_vec_len};
 ghost use Rattle.ocfl_tree.specs.Place.{Place as Spot};
 ghost use Rattle.ocfl_tree.specs.StorageRoot.{StorageRoot};
@@ -13,11 +13,13 @@ ghost use Rattle.ocfl_item.specs.Meeting.{IsFairVisit, IsVisit, MeetFails, Meets
 ghost use Rattle.ocfl_walk.specs.Standing.{IsBelowNext, IsStanding, IsTurn, frames_of, popped};
 ghost use Rattle.ocfl_walk.specs.Standing.{pushed, IsAroundIf, IsOrderlyStand, IsTaken, StandsAt};
 ghost use Rattle.ocfl_walk.specs.Standing.{next_of, path_from, piles_at, piles_in, still, trimmed};
-ghost use Rattle.ocfl_walk.specs.Standing.{turn_of, around_of};
-ghost use Rattle.ocfl_walk.specs.Walking.{step_from, GoesOn, IsFairMet, IsMeeting, NextGoesOn};
-ghost use Rattle.ocfl_walk.specs.Walking.{NextTold, StepsTo};
-ghost use Rattle.ocfl_walk.specs.WalkCalls.{WalkFails};
+ghost use Rattle.ocfl_walk.specs.Standing.{turn_before, turn_of, around_of};
+ghost use Rattle.ocfl_walk.specs.Ends.{is_past};
+ghost use Rattle.ocfl_walk.specs.Walking.{step_from, GoesOn, GoesTo, IsBefore, IsFairMet};
+ghost use Rattle.ocfl_walk.specs.Walking.{IsMeeting, NextGoesOn, NextTold, StepsOutTo, StepsTo};
+ghost use Rattle.ocfl_walk.specs.WalkCalls.{FailsOut};
 
+use crate::end::End;
 use crate::listing::sorted_if;
 use arrayvec::ArrayVec;
 use ocfl_inventory::Table;
@@ -147,6 +149,19 @@ fn choose(
     Ok(lesser(entry, path))
 }
 
+/// The same turn, where it does not lead past the end.
+fn unless_past(alloc: Global, turn: Turn, end: &End) -> Turn
+    ensures { result ≡ turn_before end.now turn }
+{
+    let past = match &turn {
+        Turn::Base => end.is_past(&Place::root(alloc)),
+        Turn::Entry(place) => end.is_past(place),
+        Turn::Path(place) => end.is_past(place),
+        Turn::End => false,
+    };
+    if past { Turn::End } else { turn }
+}
+
 /// Takes the next entry off.
 fn take_entry(listings: &mut Listings) -> Option<Entry>
     ensures taken { (p : Spot) → MatchOption result (next_of (piles_at p listings.old.items) ≡ None)
@@ -263,8 +278,9 @@ impl Stand {
         ensures orderly { IsOrderlyStand self.new }
         ensures only { IfErr result (λ why. IsWayFault why) }
         ensures goes_on { IfOk result (λ step. GoesOn self.old self.new step) }
+        ensures there { IfOk result (λ step. GoesTo self.new [] step) }
         ensures told { IsTrue T.told → (root : StorageRoot) → (T.state store.old).tree ≡ root
-            → StepsTo root (T.state store.old) (T.state store.new) None self.new result }
+            → StepsTo root (T.state store.old) (T.state store.new) None [] self.new result }
     {
         let Visit { item, folder, .. } = visit_base(alloc, store)?;
         push_if(&mut self.listings, sorted_if(folder));
@@ -284,13 +300,14 @@ impl Stand {
         ensures orderly { IsOrderlyStand self.new }
         ensures only { IfErr result (λ why. IsWayFault why) }
         ensures goes_on { IfOk result (λ step. GoesOn self.old self.new step) }
+        ensures there { IfOk result (λ step. GoesTo self.new place step) }
         ensures told { IsTrue T.told → (root : StorageRoot) → (T.state store.old).tree ≡ root
             → (last : Spot) → self.old.last ≡ Some last
             → IsStanding root last (piles_in self.old.last self.old.listings.items)
             self.old.around
             → IsTurn root last place ((place, seen_names root place)
             ∷ popped (piles_in self.old.last self.old.listings.items))
-            → StepsTo root (T.state store.old) (T.state store.new) (Some last) self.new result }
+            → StepsTo root (T.state store.old) (T.state store.new) (Some last) place self.new result }
     {
         let Some(entry) = take_entry(&mut self.listings) else {
             return Ok(Step::End);
@@ -319,30 +336,33 @@ impl Stand {
         ensures orderly { IsOrderlyStand self.new }
         ensures only { IfErr result (λ why. IsWayFault why) }
         ensures goes_on { IfOk result (λ step. GoesOn self.old self.new step) }
+        ensures there { IfOk result (λ step. GoesTo self.new place step) }
         ensures told { (s : Store) (root : StorageRoot) → s.tree ≡ root
             → (last : Spot) → self.old.last ≡ Some last
             → IsStanding root last (piles_in self.old.last self.old.listings.items)
             self.old.around
             → IsTurn root last place (frames_of (piles_in self.old.last self.old.listings.items))
-            → seen root place ≡ None → StepsTo root s s (Some last) self.new result }
+            → seen root place ≡ None → StepsTo root s s (Some last) place self.new result }
     {
         let item = visit_path(alloc, &self.around, &place)?;
         self.last = Some(place);
         Ok(step_of(item))
     }
 
-    /// Takes the next place.
-    fn step<T: Tree>(&mut self, alloc: Global, store: &mut T) -> Result<Step, Fault>
+    /// Takes the next place, where it is not past the end.
+    fn step<T: Tree>(&mut self, alloc: Global, store: &mut T, end: &End) -> Result<Step, Fault>
         requires { IsOrderlyStand self.old }
         ensures orderly { IsOrderlyStand self.new }
         ensures only { IfErr result (λ why. IsWayFault why) }
         ensures goes_on { IfOk result (λ step. GoesOn self.old self.new step) }
+        ensures before { IfOk result (λ step. IsBefore end.now self.new step) }
         ensures told { IsTrue T.told → (root : StorageRoot) → (T.state store.old).tree ≡ root
             → (last : Option Spot) → StandsAt root self.old last
-            → StepsTo root (T.state store.old) (T.state store.new) last self.new result }
+            → StepsOutTo root (T.state store.old) (T.state store.new) last end.now self.new result }
     {
         drop_empty(&mut self.listings);
-        match choose(&self.listings, &self.around, &self.last)? {
+        let turn = choose(&self.listings, &self.around, &self.last)?;
+        match unless_past(alloc, turn, end) {
             Turn::Base => self.take_base(alloc, store),
             Turn::Entry(place) => self.take_entry(alloc, store, place),
             Turn::Path(place) => self.take_path(alloc, place),
@@ -350,23 +370,25 @@ impl Stand {
         }
     }
 
-    /// The next item.
+    /// The next item before the end.
     pub(crate) fn next<T: Tree>(
         &mut self,
         alloc: Global,
         store: &mut T,
+        end: &End,
     ) -> Result<Option<Pending>, Fault>
         requires { IsOrderlyStand self.old }
         ensures orderly { IsOrderlyStand self.new }
         ensures only { IfErr result (λ why. IsWayFault why) }
         ensures goes_on { IfOk result (λ o. NextGoesOn self.old self.new o) }
+        ensures before { IfOk result (λ o. IfSome o (λ p. is_past end.now p.place ≡ false)) }
         ensures told { IsTrue T.told → (root : StorageRoot) → (T.state store.old).tree ≡ root
             → (last : Option Spot) → StandsAt root self.old last → MatchResult result
-            (λ o. NextTold root (T.state store.old) (T.state store.new) last self.new o)
-            (λ why. WalkFails root (T.state store.old) (T.state store.new) last why) }
+            (λ o. NextTold root (T.state store.old) (T.state store.new) last end.now self.new o)
+            (λ why. FailsOut root (T.state store.old) (T.state store.new) last end.now why) }
     {
         loop {
-            match self.step(alloc, store)? {
+            match self.step(alloc, store, end)? {
                 Step::Item(item) => return Ok(Some(item)),
                 Step::End => return Ok(None),
                 Step::Nothing => {}

@@ -1,12 +1,14 @@
 //! The walk: items in order, from a stack of sorted listings and the table of one object.
-ghost use Rattle.std.specs.Prelude.{◌≡◌, Option, option_map, true, None, Some, IsTrue, IfOk, IfErr};
-ghost use Rattle.std.specs.Prelude.{Err, MatchResult};
+ghost use Rattle.std.specs.Prelude.{◌≡◌, Option, option_map, true, false, None, Some, IsTrue};
+ghost use Rattle.std.specs.Prelude.{Err, IfOk, IfErr, IfSome, MatchResult};
 ghost use Rattle.ocfl_tree.specs.Place.{Place as Spot};
 ghost use Rattle.ocfl_tree.specs.StorageRoot.{StorageRoot};
 ghost use Rattle.ocfl_item.specs.Ways.{IsWayFault};
-ghost use Rattle.ocfl_walk.specs.WalkCalls.{GoDownFails, GoesDown, WalkFails};
+ghost use Rattle.ocfl_walk.specs.Ends.{is_past};
+ghost use Rattle.ocfl_walk.specs.WalkCalls.{FailsOut, GoDownFails, GoesDown, WalkFails};
 ghost use Rattle.ocfl_walk.specs.Orderly.{is_orderly};
 
+use crate::end::End;
 use crate::entry::stand_at;
 use crate::stand::Stand;
 use arrayvec::ArrayVec;
@@ -27,7 +29,7 @@ pub struct Walk {
 }
 
 impl Walk {
-    ghost use Rattle.ocfl_walk.specs.Walks.{Gives, GoesOn, IsBroken, IsLive, OpensInventories};
+    ghost use Rattle.ocfl_walk.specs.Walks.{Gives, GivesOut, GoesOn, IsBroken, IsLive, OpensInventories};
     ghost use Rattle.ocfl_walk.specs.Walks.{Stands, last_of};
 
     /// A walk over the items above a place, whether or not there is one at it, or over all of them.
@@ -89,10 +91,36 @@ impl Walk {
             (λ o. Gives root (T.state store.old) (T.state store.new) last self.new o)
             (λ why. WalkFails root (T.state store.old) (T.state store.new) last why) }
     {
+        let end = End::of_all(self.alloc);
+        self.next_within(store, &end)
+    }
+
+    /// The next item before an end, and `None` where there are no more before it.
+    ///
+    /// It looks at no place past the end: none is listed there, and no inventory of an object there
+    /// is read. Where it answers `None` it stands where it stood, and a further end leads it on.
+    /// Otherwise as `next`.
+    pub fn next_within<T: Tree>(
+        &mut self,
+        store: &mut T,
+        end: &End,
+    ) -> Result<Option<Pending>, Fault>
+        ensures only { IsLive self.old → IfErr result (λ why. IsWayFault why) }
+        ensures breaks { IfErr result (λ _. IsBroken self.new) }
+        ensures stays { IsBroken self.old → (result ≡ Err Fault.Broken) × (store.new ≡ store.old) }
+        ensures goes_on { IsLive self.old → IfOk result
+            (λ o. IsLive self.new × GoesOn self.old self.new o) }
+        ensures before { IfOk result (λ o. IfSome o (λ p. is_past end.now p.place ≡ false)) }
+        ensures told { IsTrue T.told → (root : StorageRoot) → (T.state store.old).tree ≡ root
+            → IsLive self.old
+            → (last : Option Spot) → Stands root self.old last → MatchResult result
+            (λ o. GivesOut root (T.state store.old) (T.state store.new) last end.now self.new o)
+            (λ why. FailsOut root (T.state store.old) (T.state store.new) last end.now why) }
+    {
         if self.broken {
             return Err(Fault::Broken);
         }
-        match self.stand.next(self.alloc, store) {
+        match self.stand.next(self.alloc, store, end) {
             Ok(found) => Ok(found),
             Err(fault) => {
                 self.broken = true;

@@ -1,7 +1,7 @@
 use Rattle.std.proofs.Common.{[], None}
 use Rattle.std.proofs.lemmas.Result.{err_from_is_err_and}
 use Rattle.ocfl_walk.proofs.MeetLaws.{ordinary}
-use Rattle.ocfl_walk.proofs.StandSteps.{base_goes_on, base_orderly, base_room, base_told}
+use Rattle.ocfl_walk.proofs.StandSteps.{base_goes_on, base_orderly, base_room, base_there, base_told}
 use Rattle.ocfl_walk.proofs.StartLaws.{near_first}
 use Rattle.ocfl_walk.proofs.WalkCallLaws.{meets_fails}
 use Rattle.ocfl_walk.proofs.stand.Stand.take_base.Goals as goal
@@ -20,6 +20,10 @@ returns-clause-orderly g c = base_orderly c.args.self.now c.requires.orderly c.r
 pub returns-clause-goes_on : goal.returns-clause-goes_on
 returns-clause-goes_on g c =
     base_goes_on c.args.self.now c.requires.orderly c.requires.first c.push_if.new.listings c.root.result c.sorted_if.result c.root.ensures (c.sorted_if.ensures.fair [] c.in_ok-item.ensures.fair.folder) c.push_if.ensures c.in_ok-item.field-0.item c.step_of.result c.step_of.ensures c.in_ok-item.ensures.fair.item
+
+pub returns-clause-there : goal.returns-clause-there
+returns-clause-there g c =
+    base_there c.args.self.now c.requires.orderly c.requires.first c.push_if.new.listings c.root.result c.sorted_if.result c.root.ensures (c.sorted_if.ensures.fair [] c.in_ok-item.ensures.fair.folder) c.push_if.ensures c.in_ok-item.field-0.item c.step_of.result c.step_of.ensures
 
 pub returns-clause-told : goal.returns-clause-told
 returns-clause-told g c = λ h root over.

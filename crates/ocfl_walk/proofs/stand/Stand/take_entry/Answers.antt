@@ -1,7 +1,7 @@
 use Rattle.std.proofs.Common.{Some}
 use Rattle.std.proofs.lemmas.Result.{err_from_is_err_and}
 use Rattle.ocfl_walk.proofs.DueTurns.{near_turn}
-use Rattle.ocfl_walk.proofs.StandSteps.{entry_around, entry_fits, entry_goes_on, entry_is_met, entry_orderly, entry_told}
+use Rattle.ocfl_walk.proofs.StandSteps.{entry_around, entry_fits, entry_goes_on, entry_is_met, entry_orderly, entry_there, entry_told}
 use Rattle.ocfl_walk.proofs.WalkCallLaws.{meets_fails}
 use Rattle.ocfl_walk.proofs.stand.Stand.take_entry.Goals as goal
 
@@ -19,6 +19,9 @@ returns-clause-orderly g c = entry_orderly c.args.self.now c.in-Some.entry c.arg
 
 pub returns-clause-goes_on : goal.returns-clause-goes_on
 returns-clause-goes_on g c = entry_goes_on c.args.self.now c.in-Some.entry c.args.place c.take_entry.new.listings c.requires.orderly c.requires.next c.in-Some.ensures.taken c.in-Some.ensures.count c.in_ok-item.field-0 (c.in_ok-item.ensures.fair (entry_around c.args.self.now c.in-Some.entry c.args.place c.take_entry.new.listings c.requires.orderly c.requires.next c.in-Some.ensures.taken _ c.take-around.ensures.value)) c.push_if.new.listings c.push_if.ensures c.step_of.result c.step_of.ensures
+
+pub returns-clause-there : goal.returns-clause-there
+returns-clause-there g c = entry_there c.args.self.now c.in-Some.entry c.args.place c.take_entry.new.listings c.requires.orderly c.requires.next c.in-Some.ensures.taken c.in-Some.ensures.count c.in_ok-item.field-0 (c.in_ok-item.ensures.fair (entry_around c.args.self.now c.in-Some.entry c.args.place c.take_entry.new.listings c.requires.orderly c.requires.next c.in-Some.ensures.taken _ c.take-around.ensures.value)) c.push_if.new.listings c.push_if.ensures c.step_of.result c.step_of.ensures
 
 pub returns-clause-told : goal.returns-clause-told
 returns-clause-told g c = λ h root over last e is turn.

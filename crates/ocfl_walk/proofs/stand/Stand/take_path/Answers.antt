@@ -1,20 +1,23 @@
 use Rattle.std.proofs.Common.{sym, subst, Some}
 use Rattle.std.proofs.lemmas.Result.{err_from_is_err_and}
-use Rattle.ocfl_walk.specs.WalkCalls.{WalkFails}
-use Rattle.ocfl_walk.proofs.Chosen.{no_memory}
-use Rattle.ocfl_walk.proofs.StandSteps.{path_goes_on, path_orderly, path_told}
+use Rattle.ocfl_walk.specs.WalkCalls.{FailsTo}
+use Rattle.ocfl_walk.proofs.Chosen.{no_memory_to}
+use Rattle.ocfl_walk.proofs.StandSteps.{path_goes_on, path_orderly, path_there, path_told}
 use Rattle.ocfl_walk.proofs.stand.Stand.take_path.Goals as goal
 
 pub returns-in_err-item-clause-told : goal.returns-in_err-item-clause-told
 returns-in_err-item-clause-told c = λ s root over last e is turn unseen.
     let p = err_from_is_err_and c.from_residual.result c.from_residual.ensures.1 in
-    rw (p.1, p.2) (subst (WalkFails root s s (Some last)) (sym c.in_err-item.ensures.only) (no_memory root s (Some last) over))
+    rw (p.1, p.2) (subst (FailsTo root s s (Some last) c.args.place) (sym c.in_err-item.ensures.only) (no_memory_to root s (Some last) c.args.place over))
 
 pub returns-clause-orderly : goal.returns-clause-orderly
 returns-clause-orderly c = path_orderly c.args.self.now c.args.place c.requires.orderly c.requires.some c.requires.trim c.requires.next
 
 pub returns-clause-goes_on : goal.returns-clause-goes_on
 returns-clause-goes_on c = path_goes_on c.args.self.now c.args.place c.requires.orderly c.requires.some c.requires.trim c.requires.next c.in_ok-item.item c.step_of.result c.step_of.ensures c.in_ok-item.ensures.fair
+
+pub returns-clause-there : goal.returns-clause-there
+returns-clause-there c = path_there c.args.self.now c.args.place c.requires.orderly c.requires.some c.requires.trim c.requires.next c.in_ok-item.item c.step_of.result c.step_of.ensures
 
 pub returns-clause-told : goal.returns-clause-told
 returns-clause-told c = λ s root over last e is turn unseen.

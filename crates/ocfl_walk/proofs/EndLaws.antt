@@ -1,0 +1,175 @@
+-- What lies past the end of a walk.
+use Rattle.std.proofs.Common.{◌≡◌, ◌≢◌, inl, inr, List, [], ◌∷◌, ◌++◌, refl, sym, ◌∙◌, ap, subst, true, false, Bool, Option, Some, None}
+use Rattle.std.specs.Prelude.{cond, not, ◌&&◌, ◌||◌}
+use Rattle.std.specs.Ordering.{is_lt, is_eq, ordering_then}
+use Rattle.std.specs.declared.cmp.Ordering.{Ordering}
+use Rattle.std.specs.declared.cmp.Ordering.TheVariants.{Less, Equal, Greater}
+use Rattle.ocfl_tree.specs.Place.{Place, text_cmp, place_cmp, begins}
+use Rattle.ocfl_tree.specs.Ascending.{IsAscending, IsAmong}
+use Rattle.ocfl_tree.specs.StorageRoot.{StorageRoot, dir}
+use Rattle.ocfl_tree.proofs.Bools.{and_first, and_second, and_both}
+use Rattle.ocfl_tree.proofs.Orders.{place_cmp_total, place_cmp_exact, true_not_false, not_below_itself, below_from_greater}
+use Rattle.ocfl_report.specs.Line.{Note}
+use Rattle.ocfl_audit.specs.Zone.{seen}
+use Rattle.ocfl_audit.specs.Lines.{notes}
+use Rattle.ocfl_audit.specs.Due.{due, item_places}
+use Rattle.ocfl_audit.specs.Between.{IsBeyond, between, looked_between, read_between}
+use Rattle.ocfl_audit.specs.Stack.{NoneSeenBetween}
+use Rattle.ocfl_audit.proofs.BelowLaws.{less_from, begins_rest, text_cmp_total, text_cmp_exact}
+use Rattle.ocfl_audit.proofs.BetweenLaws.{between_on, directories, directories_ascend, from_between, from_directory, from_object, looked_seen, objects, objects_ascend, read_seen}
+use Rattle.ocfl_audit.proofs.Trails.{filter_append}
+use Rattle.ocfl_walk.specs.Ends.{is_above_branch, is_at_bound, is_past, before_end}
+use Rattle.ocfl_walk.specs.declared.end.End.{End}
+
+-- ---- what lies above a place past the end is past it
+
+-- what lies between a place and another that begins with it begins with it
+between_begins : (u r x : Place) → place_cmp u x ≡ Less → place_cmp x (u ++ r) ≡ Less → begins u x ≡ true
+between_begins [] r x h k = refl
+between_begins (m ∷ u) r [] h k = absurd cc
+between_begins (m ∷ u) r (c ∷ x) h k = by (text_cmp m c) refl (text_cmp c m) refl h k (between_begins u r x)
+  where
+    by : (o : Ordering) → text_cmp m c ≡ o → (v : Ordering) → text_cmp c m ≡ v → ordering_then o (place_cmp u x) ≡ Less → ordering_then v (place_cmp x (u ++ r)) ≡ Less
+        → (place_cmp u x ≡ Less → place_cmp x (u ++ r) ≡ Less → begins u x ≡ true) → is_eq (text_cmp m c) && begins u x ≡ true
+    by Equal e Equal f g i j = ap (λ y. is_eq y && begins u x) e ∙ j g i
+    by Less e Less f g i j = absurd (not_below_itself text_cmp_total m (text_cmp_total.trans m c m e f))
+    by Less e Equal f g i j = absurd (not_below_itself text_cmp_total m (ap (text_cmp m) (sym (text_cmp_exact c m f)) ∙ e))
+    by Less e Greater f g i j = absurd cc
+    by Equal e Less f g i j = absurd (not_below_itself text_cmp_total c (ap (text_cmp c) (sym (text_cmp_exact m c e)) ∙ f))
+    by Equal e Greater f g i j = absurd cc
+    by Greater e v f g i j = absurd cc
+
+not_false : (b : Bool) → not b ≡ true → b ≡ false
+not_false true h = absurd (true_not_false (sym h))
+not_false false h = refl
+
+branch_up : (u x y : Place) → is_above_branch u x ≡ true → place_cmp x y ≡ Less → is_above_branch u y ≡ true
+branch_up u x y h l = and_both (is_lt (place_cmp u y)) (not (begins u y)) (ap is_lt (place_cmp_total.trans u x y over l)) (ap not (apart (begins u y) refl))
+  where
+    over : place_cmp u x ≡ Less
+    over = less_from _ (and_first (is_lt (place_cmp u x)) (not (begins u x)) h)
+
+    out : begins u x ≡ false
+    out = not_false (begins u x) (and_second (is_lt (place_cmp u x)) (not (begins u x)) h)
+
+    apart : (b : Bool) → begins u y ≡ b → begins u y ≡ false
+    apart false e = e
+    apart true e = let r = begins_rest u y e in absurd (true_not_false (sym (between_begins u r.0 x over (subst (λ z. place_cmp x z ≡ Less) r.1 l)) ∙ out))
+
+bound_up : (b : Option Place) (x y : Place) → is_at_bound b x ≡ true → place_cmp x y ≡ Less → is_at_bound b y ≡ true
+bound_up None x y h l = h
+bound_up (Some b) x y h l = by (place_cmp y b) refl
+  where
+    by : (r : Ordering) → place_cmp y b ≡ r → not (is_lt r) ≡ true
+    by Less e = absurd (true_not_false (sym (ap is_lt (place_cmp_total.trans x y b l e)) ∙ not_false (is_lt (place_cmp x b)) h))
+    by Equal e = refl
+    by Greater e = refl
+
+pub past_up : (e : End) (x y : Place) → is_past e x ≡ true → place_cmp x y ≡ Less → is_past e y ≡ true
+past_up e x y h l = by (is_above_branch e.under x) refl (is_at_bound e.below x) refl h
+  where
+    first : (b : Bool) → true || b ≡ true
+    first b = refl
+
+    second : (a b : Bool) → b ≡ true → a || b ≡ true
+    second true b k = refl
+    second false b k = k
+
+    by : (a : Bool) → is_above_branch e.under x ≡ a → (b : Bool) → is_at_bound e.below x ≡ b → a || b ≡ true → is_past e y ≡ true
+    by true f b g k = ap (λ a. a || is_at_bound e.below y) (branch_up e.under x y f l)
+    by false f true g k = second (is_above_branch e.under y) (is_at_bound e.below y) (bound_up e.below x y g l)
+    by false f false g k = absurd (true_not_false (sym k))
+
+-- what is not above a place that is not past the end is not past it either
+not_past_down : (e : End) (b y : Place) → is_past e b ≡ false → is_lt (place_cmp b y) ≡ false → is_past e y ≡ false
+not_past_down e b y n u = by (is_past e y) refl
+  where
+    here : is_past e y ≡ true → (r : Ordering) → place_cmp b y ≡ r → ⊥
+    here f Less g = true_not_false (sym (ap is_lt g) ∙ u)
+    here f Equal g = true_not_false (sym f ∙ ap (is_past e) (sym (place_cmp_exact b y g)) ∙ n)
+    here f Greater g = true_not_false (sym (past_up e y b f (below_from_greater place_cmp_total b y g)) ∙ n)
+
+    by : (r : Bool) → is_past e y ≡ r → is_past e y ≡ false
+    by false f = f
+    by true f = absurd (here f (place_cmp b y) refl)
+
+-- ---- lists of places before the end
+
+module _ (e : End) where
+  none_left : (xs : List Place) → ((y : Place) → IsAmong xs y → is_past e y ≡ true) → before_end e xs ≡ []
+  none_left [] h = refl
+  none_left (x ∷ xs) h = ap (λ b. cond (not b) (x ∷ before_end e xs) (before_end e xs)) (h x (inl refl)) ∙ none_left xs (λ y i. h y (inr i))
+
+  pub all_left : (xs : List Place) → ((y : Place) → IsAmong xs y → is_past e y ≡ false) → before_end e xs ≡ xs
+  all_left [] h = refl
+  all_left (x ∷ xs) h = ap (λ b. cond (not b) (x ∷ before_end e xs) (before_end e xs)) (h x (inl refl)) ∙ ap (λ ys. x ∷ ys) (all_left xs (λ y i. h y (inr i)))
+
+  module _ (ps : List Place) where
+    over : (from : Option Place) → ((y : Place) → IsAmong ps y → IsBeyond from y → is_past e y ≡ true) → before_end e (between ps from None) ≡ []
+    over from h = none_left (between ps from None) (λ y i. let k = from_between ps from None y i in h y k.0 k.1)
+
+    pub split : (from : Option Place) (b : Place) → IsAscending place_cmp ps → IsBeyond from b → is_past e b ≡ false → between ps from (Some b) ++ before_end e (between ps (Some b) None) ≡ before_end e (between ps from None)
+    split from b up l n =
+        sym (
+        ap (before_end e) (sym (between_on ps up from None b l tt)) ∙ filter_append (λ z. not (is_past e z)) (between ps from (Some b)) (between ps (Some b) None)
+        ∙ ap (λ xs. xs ++ before_end e (between ps (Some b) None)) (all_left (between ps from (Some b)) (λ y i. not_past_down e b y n (from_between ps from (Some b) y i).2))
+        )
+
+  module _ (root : StorageRoot) where
+    pub looked_out : (from : Option Place) (b : Place) → IsBeyond from b → is_past e b ≡ false → looked_between root from (Some b) ++ before_end e (looked_between root (Some b) None) ≡ before_end e (looked_between root from None)
+    unfolding looked_between
+    looked_out from b l n = split (directories root) from b (directories_ascend root) l n
+
+    pub read_out : (from : Option Place) (b : Place) → IsBeyond from b → is_past e b ≡ false → read_between root from (Some b) ++ before_end e (read_between root (Some b) None) ≡ before_end e (read_between root from None)
+    unfolding read_between
+    read_out from b l n = split (objects root) from b (objects_ascend root) l n
+
+    -- ---- where the next place is past the end, all that is left is
+
+    module _ (last x : Place) (none : NoneSeenBetween root last x) (past : is_past e x ≡ true) where
+      ahead : (y : Place) → seen root y ≡ Some dir → place_cmp last y ≡ Less → is_past e y ≡ true
+      ahead y s l = by (place_cmp y x) refl
+        where
+          by : (r : Ordering) → place_cmp y x ≡ r → is_past e y ≡ true
+          by Less f = absurd (none y dir s l f)
+          by Equal f = ap (is_past e) (place_cmp_exact y x f) ∙ past
+          by Greater f = past_up e x y past (below_from_greater place_cmp_total y x f)
+
+      pub looked_past : before_end e (looked_between root (Some last) None) ≡ []
+      unfolding looked_between
+      looked_past = over (directories root) (Some last) (λ y i l. ahead y (looked_seen root y (from_directory root y i)) l)
+
+      pub read_past : before_end e (read_between root (Some last) None) ≡ []
+      unfolding read_between
+      read_past = over (objects root) (Some last) (λ y i l. ahead y (read_seen root y (from_object root y i)).0 l)
+
+    due_above : (x : Place) → is_past e x ≡ true → before_end e (due root (Some x)) ≡ []
+    unfolding due
+    due_above x past = over (item_places root) (Some x) (λ y i l. past_up e x y past l)
+
+    pub due_past : (last x : Place) → is_past e x ≡ true → (notes root None x ≢ [] → due root (Some last) ≡ x ∷ due root (Some x)) → (notes root None x ≡ [] → due root (Some last) ≡ due root (Some x)) → before_end e (due root (Some last)) ≡ []
+    due_past last x past some none = by (notes root None x) refl
+      where
+        by : (ns : List Note) → notes root None x ≡ ns → before_end e (due root (Some last)) ≡ []
+        by [] f = ap (before_end e) (none f) ∙ due_above x past
+        by (n ∷ ns) f = ap (before_end e) (some (λ g. let two : n ∷ ns ≡ [] = sym f ∙ g in cc)) ∙ ap (λ b. cond (not b) (x ∷ before_end e (due root (Some x))) (before_end e (due root (Some x)))) past ∙ due_above x past
+
+    -- past the end from the storage root on
+    pub all_past : is_past e [] ≡ true → (xs : List Place) → before_end e xs ≡ []
+    all_past past xs = none_left xs (λ y i. by y)
+      where
+        by : (y : Place) → is_past e y ≡ true
+        by [] = past
+        by (n ∷ y) = past_up e [] (n ∷ y) past refl
+
+-- ---- the end of the whole
+
+pub none_past : (e : End) → e.under ≡ [] → e.below ≡ None → (z : Place) → is_past e z ≡ false
+none_past e u b z = (λ i. is_above_branch (u i) z || is_at_bound (b i) z) ∙ by (is_lt (place_cmp [] z))
+  where
+    by : (c : Bool) → (c && not true) || false ≡ false
+    by true = refl
+    by false = refl
+
+pub all_kept : (e : End) → e.under ≡ [] → e.below ≡ None → (xs : List Place) → before_end e xs ≡ xs
+all_kept e u b xs = all_left e xs (λ y i. none_past e u b y)

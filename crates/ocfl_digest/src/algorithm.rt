@@ -1,3 +1,4 @@
+//! The digest algorithms, and their names.
 ghost use Rattle.std.specs.Prelude.{◌≡◌};
 ghost use Rattle.ocfl_digest.specs.Algorithm.{algorithm_name, algorithm_named};
 
@@ -19,23 +20,25 @@ pub enum Algorithm {
 }
 
 impl Algorithm {
+    /// Every algorithm that is computed, in the order of the names.
+    pub const ALL: [Algorithm; 5] = [
+        Algorithm::Md5,
+        Algorithm::Sha1,
+        Algorithm::Sha256,
+        Algorithm::Sha512,
+        Algorithm::Sha512_256,
+    ];
+
     /// The algorithm of a name, whose capitals count (OCFL 1.1, 3.4 Digests).
     pub fn named(name: &str) -> Option<Algorithm>
         ensures { result ≡ algorithm_named name.now }
     {
-        if is_text("md5", name) {
-            Some(Algorithm::Md5)
-        } else if is_text("sha1", name) {
-            Some(Algorithm::Sha1)
-        } else if is_text("sha256", name) {
-            Some(Algorithm::Sha256)
-        } else if is_text("sha512", name) {
-            Some(Algorithm::Sha512)
-        } else if is_text("sha512/256", name) {
-            Some(Algorithm::Sha512_256)
-        } else {
-            None
+        for algorithm in Algorithm::ALL {
+            if is_text(algorithm.name(), name) {
+                return Some(algorithm);
+            }
         }
+        None
     }
 
     /// Its name.

@@ -1,3 +1,5 @@
+//! The block that a caller lends to each reading of a file.
+
 use std::alloc::{AllocError, Global};
 
 /// The length of a block in bytes. It is a multiple of the block sizes of all algorithms, 64 and

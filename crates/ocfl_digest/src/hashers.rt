@@ -1,3 +1,4 @@
+//! The hashers of the wanted algorithms, fed piece by piece.
 ghost use Rattle.std.specs.Prelude.{◌≡◌, ◌++◌, [], Bool, if◌then◌else◌, Some, None};
 ghost use Rattle.sha1.specs.Sha1 as sha1;
 ghost use Rattle.md5.specs.Md5 as md5;

@@ -1,3 +1,4 @@
+//! The laws of algorithms and their names.
 ghost use Rattle.std.specs.Prelude.{◌≡◌, Some};
 ghost use Rattle.ocfl_tree.specs.Ascending.{IsAscending};
 ghost use Rattle.ocfl_digest.specs.Algorithm.{algorithm_name, algorithm_cmp, algorithm_named};

@@ -1,3 +1,4 @@
+//! Why a reading stopped, and after how many bytes.
 ghost use Rattle.std.specs.Prelude.{◌≡◌};
 ghost use Rattle.ocfl_digest.specs.Stop.{cause_of};
 

@@ -1,3 +1,4 @@
+//! A set of algorithms.
 ghost use Rattle.std.specs.Prelude.{◌≡◌, ◌≢◌, true, false};
 ghost use Rattle.ocfl_digest.specs.Wanted.{wants};
 ghost use Rattle.ocfl_digest.specs.declared.algorithm.Algorithm.{Algorithm};

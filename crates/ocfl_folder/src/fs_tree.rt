@@ -1,3 +1,4 @@
+//! A folder of the file system as a store.
 ghost use Rattle.std.specs.Prelude.{◌≡◌, ◌≢◌, ◌≤◌, ◌+◌, ◌↔◌, IsTrue, true, false, IfOk, Ok, OnOk};
 ghost use Rattle.std.specs.Prelude.{OnErr, MatchOption, length, string_bytes, Err};
 ghost use Rattle.std.specs.Fs.{IsDir, IsFile, file_type};
@@ -65,7 +66,7 @@ impl From<AllocError> for Fault {
     }
 }
 
-/// A name that is none is the device's fault.
+/// An invalid name is reported as a failure of the device.
 impl From<NameStop> for Fault {
     fn from(stop: NameStop) -> Fault {
         match stop {

@@ -1,75 +1,92 @@
 -- Reading the blocks of the algorithms one after the other.
-use Rattle.std.proofs.Common.{◌≡◌, List, [], ◌∷◌, ◌++◌, Bool, true, false, cond, Option, Some, None, map, option_map, refl, sym, ap, ◌∙◌}
-use Rattle.std.specs.Prelude.{option_and_then}
+use Rattle.std.proofs.Common.{◌≡◌, ◌+◌, ◌<◌, ℕ, zero, suc, List, [], ◌∷◌, ◌++◌, Bool, true, false, cond, Option, Some, None, option_map, length, drop, get_or, refl, sym, ap, subst, ◌∙◌}
+use Rattle.std.specs.Prelude.{option_and_then, ⊤}
+use Rattle.std.specs.List.{AllByRecursion}
+use Rattle.ocfl_tree.specs.Place.{text_eq}
+use Rattle.std.proofs.lemmas.List.{drop_more}
 use Rattle.std.proofs.lemmas.Iterator.Adapters.{option_map_id}
 use Rattle.std.proofs.lemmas.List.{append-nil}
 use Rattle.serde_json.specs.Data.{Data, Members}
 use Rattle.serde_json.specs.Find.{get_member}
-use Rattle.serde_json.specs.View.{view}
 use Rattle.ocfl_digest.specs.Algorithm.{algorithm_name, supported}
 use Rattle.ocfl_digest.specs.declared.algorithm.Algorithm.{Algorithm}
-use Rattle.ocfl_digest.specs.declared.algorithm.Algorithm.TheVariants.{Md5, Sha1, Sha256, Sha512, Sha512_256}
 use Rattle.ocfl_inventory.specs.Reading.{Block, block_of, blocks_for}
-use Rattle.ocfl_inventory.specs.Internal.Parts.{AreValues, value_for, supported_view, with_block, with_blocks}
-use Rattle.ocfl_inventory.specs.declared.inventory.Supported.{Supported}
-use Rattle.ocfl_inventory.specs.declared.reading.Values.{Values}
-use Rattle.ocfl_tree.proofs.Orders.{true_not_false}
+use Rattle.ocfl_inventory.specs.Internal.Parts.{value_for, values_for, with_block, with_blocks}
 use Rattle.ocfl_inventory.proofs.Blocks.{with_front, with_front_one}
 
 abbrev Blocks : Type 0
 Blocks = List (Algorithm × Block)
 
-abbrev Found : Type 0
-Found = List (Option Data × Algorithm)
-
 -- behind some blocks, those that are read one after the other are those that are read
 blocks_behind : (ms : Members) (algorithms : List Algorithm) (front : Blocks)
-    → with_blocks front (map (λ a. (value_for a ms, a)) algorithms) ≡ with_front front (blocks_for ms algorithms)
+    → with_blocks front (values_for algorithms ms) ≡ with_front front (blocks_for ms algorithms)
 blocks_behind ms [] front = ap Some (sym (append-nil front))
 blocks_behind ms (a ∷ rest) front = at (blocks_behind ms rest) (get_member (algorithm_name a) ms) refl
   where
-    at : ((f : Blocks) → with_blocks f (map (λ x. (value_for x ms, x)) rest) ≡ with_front f (blocks_for ms rest)) → (o : Option Data) → get_member (algorithm_name a) ms ≡ o
-        → with_blocks front (map (λ x. (value_for x ms, x)) (a ∷ rest)) ≡ with_front front (blocks_for ms (a ∷ rest))
+    at : ((f : Blocks) → with_blocks f (values_for rest ms) ≡ with_front f (blocks_for ms rest)) → (o : Option Data) → get_member (algorithm_name a) ms ≡ o
+        → with_blocks front (values_for (a ∷ rest) ms) ≡ with_front front (blocks_for ms (a ∷ rest))
     at more None e = rw e (more front)
     at more (Some d) e = rw e (of (block_of d))
       where
-        of : (o : Option Block) → option_and_then (λ blocks. with_blocks blocks (map (λ x. (value_for x ms, x)) rest)) (option_map (λ b. front ++ (a, b) ∷ []) o)
+        of : (o : Option Block) → option_and_then (λ blocks. with_blocks blocks (values_for rest ms)) (option_map (λ b. front ++ (a, b) ∷ []) o)
             ≡ with_front front (option_and_then (λ b. option_map (λ bs. (a, b) ∷ bs) (blocks_for ms rest)) o)
         of None = refl
         of (Some b) = more (front ++ (a, b) ∷ []) ∙ sym (with_front_one front (a, b) (blocks_for ms rest))
 
-blocks_in_two : (xs ys : Found) (front : Blocks)
-    → with_blocks front (xs ++ ys) ≡ option_and_then (λ blocks. with_blocks blocks ys) (with_blocks front xs)
-blocks_in_two [] ys front = refl
-blocks_in_two (e ∷ xs) ys front = by (blocks_in_two xs ys) (with_block front e.0 e.1)
-  where
-    by : ((f : Blocks) → with_blocks f (xs ++ ys) ≡ option_and_then (λ blocks. with_blocks blocks ys) (with_blocks f xs)) → (o : Option Blocks)
-        → option_and_then (λ blocks. with_blocks blocks (xs ++ ys)) o
-        ≡ option_and_then (λ blocks. with_blocks blocks ys) (option_and_then (λ blocks. with_blocks blocks xs) o)
-    by more None = refl
-    by more (Some blocks) = more blocks
+-- the names of algorithms differ
+abbrev AreApart : List Algorithm → Type 0
+AreApart [] = ⊤
+AreApart (a ∷ more) = AllByRecursion (λ b. text_eq (algorithm_name b) (algorithm_name a) ≡ false) more × AreApart more
 
--- what the values of the supported algorithms give, in two parts
-module _ (none : List Supported) (v : Values) (ms : Members) (empty : none ≡ []) (are : AreValues v ms) where
-  abbrev Older : Option Blocks → Type 0
-  Older o = with_blocks (supported_view none) ((option_map view v.md5, Md5) ∷ (option_map view v.sha1, Sha1) ∷ []) ≡ o
+apart_from : (algorithms : List Algorithm) (i : ℕ) → AreApart algorithms → AreApart (drop i algorithms)
+apart_from algorithms zero apart = apart
+apart_from [] (suc i) apart = apart
+apart_from (a ∷ more) (suc i) apart = apart_from more i apart.1
 
-  abbrev newer : Found
-  newer = (option_map view v.sha256, Sha256) ∷ (option_map view v.sha512, Sha512) ∷ (option_map view v.sha512_256, Sha512_256) ∷ []
+all_apart : AreApart supported
+all_apart = ((refl, (refl, (refl, (refl, tt)))), ((refl, (refl, (refl, tt))), ((refl, (refl, tt)), ((refl, tt), (tt, tt)))))
 
-  in_two : (o : Option Blocks) → Older o → option_and_then (λ blocks. with_blocks blocks newer) o ≡ blocks_for ms supported
-  in_two o first =
-      ap (option_and_then (λ blocks. with_blocks blocks newer)) (sym first)
-      ∙ rw (empty, are.md5, are.sha1, are.sha256, are.sha512, are.sha512_256) (
-      sym (blocks_in_two ((value_for Md5 ms, Md5) ∷ (value_for Sha1 ms, Sha1) ∷ []) ((value_for Sha256 ms, Sha256) ∷ (value_for Sha512 ms, Sha512) ∷ (value_for Sha512_256 ms, Sha512_256) ∷ []) [])
-      ∙ blocks_behind ms supported [] ∙ option_map_id (blocks_for ms supported))
+-- the members at the keys of some algorithms are as they were, and the blocks of these are still to be read behind those that were
+pub record AreLeft (ms now : Members) (front : Blocks) (algorithms : List Algorithm) : Type 0 where
+  pub untouched : AllByRecursion (λ a. value_for a now ≡ value_for a ms) algorithms
+  pub reads : with_blocks front (values_for algorithms ms) ≡ blocks_for ms supported
 
-  pub older_stop : (b : Bool) (f : Blocks) → b ≡ false → Older (cond b (Some f) None) → None ≡ blocks_for ms supported
-  older_stop true f e first = absurd (true_not_false e)
-  older_stop false f e first = in_two None first
+pub all_left : (ms : Members) (front : Blocks) → front ≡ [] → AreLeft ms ms front supported
+all_left ms front none = record {
+  untouched = (refl, (refl, (refl, (refl, (refl, tt)))));
+  reads = rw none (blocks_behind ms supported [] ∙ option_map_id (blocks_for ms supported));
+}
 
-  pub newer_stop : (b d : Bool) (f g : Blocks) → b ≡ true → d ≡ false → Older (cond b (Some f) None) → with_blocks f newer ≡ cond d (Some g) None → None ≡ blocks_for ms supported
-  newer_stop b d f g e h first next = sym (rw h at next) ∙ in_two (Some f) (rw e at first)
+module _ (ms now new : Members) (a : Algorithm) (others : (b : Algorithm) → text_eq (algorithm_name b) (algorithm_name a) ≡ false → value_for b new ≡ value_for b now) where
+  still_untouched : (rest : List Algorithm) → AllByRecursion (λ b. text_eq (algorithm_name b) (algorithm_name a) ≡ false) rest
+      → AllByRecursion (λ b. value_for b now ≡ value_for b ms) rest → AllByRecursion (λ b. value_for b new ≡ value_for b ms) rest
+  still_untouched [] apart untouched = tt
+  still_untouched (b ∷ rest) apart untouched = (others b apart.0 ∙ untouched.0, still_untouched rest apart.1 untouched.1)
 
-  pub blocks_read : (b d : Bool) (f g : Blocks) → b ≡ true → d ≡ true → Older (cond b (Some f) None) → with_blocks f newer ≡ cond d (Some g) None → Some g ≡ blocks_for ms supported
-  blocks_read b d f g e h first next = sym (rw h at next) ∙ in_two (Some f) (rw e at first)
+-- the first of the algorithms that are left is read
+module _ (ms now : Members) (front : Blocks) (a : Algorithm) (rest : List Algorithm) (value : Option Data) (left : AreLeft ms now front (a ∷ rest)) (is : value ≡ value_for a now) where
+  read_first : (o : Option Blocks) → with_block front value a ≡ o → option_and_then (λ blocks. with_blocks blocks (values_for rest ms)) o ≡ blocks_for ms supported
+  read_first o read = ap (option_and_then (λ blocks. with_blocks blocks (values_for rest ms))) (sym read ∙ ap (λ v. with_block front v a) (is ∙ left.untouched.0)) ∙ left.reads
+
+  left_after : (new : Members) (more : Blocks) → AreApart (a ∷ rest) → ((b : Algorithm) → text_eq (algorithm_name b) (algorithm_name a) ≡ false → value_for b new ≡ value_for b now)
+      → with_block front value a ≡ Some more → AreLeft ms new more rest
+  left_after new more apart others read = record {
+    untouched = still_untouched ms now new a others rest apart.0 left.untouched.1;
+    reads = read_first (Some more) read;
+  }
+
+-- the same of the i-th of the supported algorithms
+module _ (ms now : Members) (front : Blocks) (i : ℕ) (d : Algorithm) (value : Option Data) (left : AreLeft ms now front (drop i supported)) (within : i < length supported) (is : value ≡ value_for (get_or supported i d) now) where
+  abbrev rest_is : drop i supported ≡ get_or supported i d ∷ drop (i + 1) supported
+  rest_is = drop_more supported i d within
+
+  abbrev from_here : AreLeft ms now front (get_or supported i d ∷ drop (i + 1) supported)
+  from_here = subst (AreLeft ms now front) rest_is left
+
+  pub block_stops : (b : Bool) (more : Blocks) → b ≡ false → with_block front value (get_or supported i d) ≡ cond b (Some more) None → None ≡ blocks_for ms supported
+  block_stops b more stopped read = read_first ms now front _ _ value from_here is None (read ∙ ap (λ x. cond x (Some more) None) stopped)
+
+  pub block_read : (b : Bool) (new : Members) (more : Blocks) → b ≡ true → ((a : Algorithm) → text_eq (algorithm_name a) (algorithm_name (get_or supported i d)) ≡ false → value_for a new ≡ value_for a now)
+      → with_block front value (get_or supported i d) ≡ cond b (Some more) None → AreLeft ms new more (drop (i + 1) supported)
+  block_read b new more taken others read =
+      left_after ms now front _ _ value from_here is new more (subst AreApart rest_is (apart_from supported i all_apart)) others (read ∙ ap (λ x. cond x (Some more) None) taken)

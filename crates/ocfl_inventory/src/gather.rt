@@ -250,22 +250,3 @@ pub(crate) fn gather(
     };
     Ok((found.triples, listed))
 }
-
-/// Gathers the kept paths of an inventory with their digests, sorted and as often as they are
-/// listed, and makes nothing for lines.
-pub(crate) fn gather_kept(
-    alloc: Global,
-    content: &str,
-    algorithm: Algorithm,
-    manifest: Vec<Listing>,
-    fixity: Vec<Supported>,
-) -> Result<Vec<Triple>, AllocError>
-    ensures triples { IfOk result (λ v. IsPermutation
-        (all_triples content.now algorithm (block_view manifest.items)
-        (supported_view fixity.items)) v.items) }
-    ensures sorted { IfOk result (λ v. IsSorted triple_cmp v.items) }
-{
-    let manifest = gather_manifest(alloc, content, algorithm, manifest)?;
-    let found = gather_beside(alloc, content, fixity, manifest.triples)?;
-    Ok(found.triples)
-}

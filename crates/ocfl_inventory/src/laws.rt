@@ -1,3 +1,4 @@
+//! The laws of sidecars and declarations.
 ghost use Rattle.std.specs.Prelude.{◌≡◌, ◌↔◌, Some, ℕ, List, IsPermutation};
 ghost use Rattle.ocfl_tree.specs.Place.{Text};
 ghost use Rattle.ocfl_tree.specs.declared.store.Entry.{Entry};

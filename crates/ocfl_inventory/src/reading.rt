@@ -10,11 +10,12 @@ ghost use Rattle.ocfl_digest.specs.Algorithm.{algorithm_name, algorithm_named};
 ghost use Rattle.ocfl_digest.specs.Algorithm.{supported as all_supported};
 ghost use Rattle.ocfl_inventory.specs.Reading.{object_of, digest_algorithm, algorithm_in};
 ghost use Rattle.ocfl_inventory.specs.Reading.{content_named, content_from, fixity_from};
-ghost use Rattle.ocfl_inventory.specs.Reading.{blocks_for, keys_of, unsupported_in, inventory_in};
+ghost use Rattle.ocfl_inventory.specs.Reading.{behind_algorithm, blocks_for, keys_of};
+ghost use Rattle.ocfl_inventory.specs.Reading.{unsupported_in};
 ghost use Rattle.ocfl_inventory.specs.Reading.{algorithm_of as algorithm_stated, manifest_from};
-ghost use Rattle.ocfl_inventory.specs.Internal.Parts.{Gives, Says, AreValues, value_for};
+ghost use Rattle.ocfl_inventory.specs.Internal.Parts.{Gives, Says, value_for};
 ghost use Rattle.ocfl_inventory.specs.Internal.Parts.{block_view, fixity_view, supported_view};
-ghost use Rattle.ocfl_inventory.specs.Internal.Parts.{with_block, with_blocks, inventory_view};
+ghost use Rattle.ocfl_inventory.specs.Internal.Parts.{with_block, inventory_view};
 
 use crate::block::{block, member, members, take_member};
 use crate::inventory::{Inventory, Listing, Supported};
@@ -62,7 +63,8 @@ fn named_algorithm(alloc: Global, text: &str) -> Result<Algorithm, Stop>
     }
 }
 
-fn algorithm(alloc: Global, map: &Map<String, Value>) -> Result<Algorithm, Stop>
+/// Reads the digest algorithm that the members of an inventory name.
+pub(crate) fn read_algorithm(alloc: Global, map: &Map<String, Value>) -> Result<Algorithm, Stop>
     ensures { Gives (λ a. a) result (algorithm_in (members_view map.now.entries)) }
 {
     let Some(value) = member(map, "digestAlgorithm") else {
@@ -134,7 +136,7 @@ fn fixity(alloc: Global, value: Option<Value>) -> Result<Option<Map<String, Valu
     Ok(Some(members))
 }
 
-/// Puts the block of one algorithm behind those before it, and says whether it was of the form.
+/// Appends the block of one algorithm, and answers whether it is of the form.
 fn take_block(
     alloc: Global,
     value: Option<Value>,
@@ -155,57 +157,6 @@ fn take_block(
     Ok(true)
 }
 
-/// Puts the blocks of MD5 and SHA-1 behind those before them, and says whether they were of the
-/// form.
-fn take_older_blocks(
-    alloc: Global,
-    md5: Option<Value>,
-    sha1: Option<Value>,
-    found: &mut Vec<Supported>,
-) -> Result<bool, AllocError>
-    ensures { IfOk result (λ b. with_blocks (supported_view found.old.items)
-        ((option_map view md5, Algorithm.Md5) ∷ (option_map view sha1, Algorithm.Sha1) ∷ [])
-        ≡ (if b then Some (supported_view found.new.items) else None)) }
-{
-    if !take_block(alloc, md5, Algorithm::Md5, found)? {
-        return Ok(false);
-    }
-    take_block(alloc, sha1, Algorithm::Sha1, found)
-}
-
-/// Puts the blocks of the SHA-2 algorithms behind those before them, and says whether they were of
-/// the form.
-fn take_newer_blocks(
-    alloc: Global,
-    sha256: Option<Value>,
-    sha512: Option<Value>,
-    sha512_256: Option<Value>,
-    found: &mut Vec<Supported>,
-) -> Result<bool, AllocError>
-    ensures { IfOk result (λ b. with_blocks (supported_view found.old.items)
-        ((option_map view sha256, Algorithm.Sha256) ∷ (option_map view sha512, Algorithm.Sha512)
-        ∷ (option_map view sha512_256, Algorithm.Sha512_256) ∷ [])
-        ≡ (if b then Some (supported_view found.new.items) else None)) }
-{
-    if !take_block(alloc, sha256, Algorithm::Sha256, found)? {
-        return Ok(false);
-    }
-    if !take_block(alloc, sha512, Algorithm::Sha512, found)? {
-        return Ok(false);
-    }
-    take_block(alloc, sha512_256, Algorithm::Sha512_256, found)
-}
-
-/// The values of the supported algorithms' members.
-#[derive(Drop)]
-pub(crate) struct Values {
-    md5: Option<Value>,
-    sha1: Option<Value>,
-    sha256: Option<Value>,
-    sha512: Option<Value>,
-    sha512_256: Option<Value>,
-}
-
 /// Takes the value of an algorithm's member out of a fixity block.
 fn take_for(map: &mut Map<String, Value>, algorithm: Algorithm) -> Option<Value>
     ensures value { option_map view result ≡ value_for algorithm (members_view map.old.entries) }
@@ -215,43 +166,21 @@ fn take_for(map: &mut Map<String, Value>, algorithm: Algorithm) -> Option<Value>
     take_member(map, algorithm.name())
 }
 
-fn take_values(mut map: Map<String, Value>) -> Values
-    ensures { AreValues result (members_view map.entries) }
-{
-    let md5 = take_for(&mut map, Algorithm::Md5);
-    let sha1 = take_for(&mut map, Algorithm::Sha1);
-    let sha256 = take_for(&mut map, Algorithm::Sha256);
-    let sha512 = take_for(&mut map, Algorithm::Sha512);
-    let sha512_256 = take_for(&mut map, Algorithm::Sha512_256);
-    Values {
-        md5,
-        sha1,
-        sha256,
-        sha512,
-        sha512_256,
-    }
-}
-
+/// The blocks of the supported algorithms, in the algorithms' order. `None` where one is not of the
+/// form.
 fn supported_blocks(
     alloc: Global,
-    map: Map<String, Value>,
+    mut map: Map<String, Value>,
 ) -> Result<Option<Vec<Supported>>, AllocError>
     ensures { IfOk result (λ o. option_map (λ v. supported_view v.items) o
         ≡ blocks_for (members_view map.entries) all_supported) }
 {
     let mut found = Vec::new(alloc);
-    let Values {
-        md5,
-        sha1,
-        sha256,
-        sha512,
-        sha512_256,
-    } = take_values(map);
-    if !take_older_blocks(alloc, md5, sha1, &mut found)? {
-        return Ok(None);
-    }
-    if !take_newer_blocks(alloc, sha256, sha512, sha512_256, &mut found)? {
-        return Ok(None);
+    for algorithm in Algorithm::ALL {
+        let value = take_for(&mut map, algorithm);
+        if !take_block(alloc, value, algorithm, &mut found)? {
+            return Ok(None);
+        }
     }
     Ok(Some(found))
 }
@@ -294,11 +223,14 @@ fn take_manifest(map: &mut Map<String, Value>) -> Option<Value>
     take_member(map, "manifest")
 }
 
-/// What stands behind the whole object.
-pub(crate) fn behind_object(alloc: Global, mut map: Map<String, Value>) -> Result<Inventory, Stop>
-    ensures { Gives inventory_view result (inventory_in (members_view map.entries)) }
+/// Reads what an inventory of an algorithm holds.
+pub(crate) fn read_behind_algorithm(
+    alloc: Global,
+    mut map: Map<String, Value>,
+    algorithm: Algorithm,
+) -> Result<Inventory, Stop>
+    ensures { Gives inventory_view result (behind_algorithm (members_view map.entries) algorithm) }
 {
-    let algorithm = algorithm(alloc, &map)?;
     let content = content(alloc, &map)?;
     let manifest = manifest(alloc, take_manifest(&mut map))?;
     let fixity = fixity(alloc, take_member(&mut map, "fixity"))?;
@@ -325,13 +257,13 @@ pub(crate) fn behind_object(alloc: Global, mut map: Map<String, Value>) -> Resul
 }
 
 /// The digest algorithm that the members of an inventory name, where they name one of an inventory.
-pub(crate) fn stated_algorithm(
+fn stated_algorithm(
     alloc: Global,
     map: &Map<String, Value>,
 ) -> Result<Option<Algorithm>, AllocError>
     ensures { IfOk result (λ a. a ≡ result_ok (algorithm_in (members_view map.now.entries))) }
 {
-    match algorithm(alloc, map) {
+    match read_algorithm(alloc, map) {
         Ok(algorithm) => Ok(Some(algorithm)),
         Err(Stop::Memory) => Err(AllocError),
         Err(Stop::Because(_)) => Ok(None),

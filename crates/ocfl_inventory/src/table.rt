@@ -1,5 +1,6 @@
 //! The table of an inventory: the digests that it names for the paths of its object.
-ghost use Rattle.std.specs.Prelude.{◌≡◌, [], ◌≤◌, ◌<◌, ◌^◌, IfOk, IfSome, None, map, option_map};
+ghost use Rattle.std.specs.Prelude.{◌≡◌, [], ◌≤◌, ◌<◌, ◌^◌, IfOk, IfSome, Some, None, map};
+ghost use Rattle.std.specs.Prelude.{option_map};
 ghost use Rattle.std.specs.Prelude.{◌++◌, ◌∷◌, OnOk, true, false, length, slice_get, string_bytes};
 ghost use Rattle.std.specs.Ordering.{is_lt};
 ghost use Rattle.std.specs.Result.{result_ok};
@@ -8,8 +9,8 @@ ghost use Rattle.serde_json.specs.View.{members_view};
 ghost use Rattle.ocfl_tree.specs.Place.{place_cmp};
 ghost use Rattle.ocfl_tree.specs.Ascending.{IsAscending, ascending};
 ghost use Rattle.ocfl_report.specs.Line.{line_of, lines_at};
-ghost use Rattle.ocfl_inventory.specs.Reading.{algorithm_in, algorithm_of, inventory_in};
-ghost use Rattle.ocfl_inventory.specs.Reading.{inventory_of};
+ghost use Rattle.ocfl_inventory.specs.Reading.{algorithm_in, algorithm_of, behind_algorithm};
+ghost use Rattle.ocfl_inventory.specs.Reading.{inventory_in};
 ghost use Rattle.ocfl_inventory.specs.Notes.{inventory_notes, notes_of, reading_notes};
 ghost use Rattle.ocfl_inventory.specs.Internal.Parts.{inventory_view};
 ghost use Rattle.ocfl_inventory.specs.Remark.{remark_view};
@@ -17,13 +18,12 @@ ghost use Rattle.ocfl_inventory.specs.Table.{IsFit, triple_cmp, table_from, tabl
 ghost use Rattle.ocfl_inventory.specs.Table.{table_of, named as named_in};
 ghost use Rattle.ocfl_inventory.specs.NextPath.{next_path};
 ghost use Rattle.ocfl_inventory.specs.TripleView.{named_view, named_among};
-ghost use Rattle.ocfl_inventory.specs.Internal.ReadInventory.{IsReading, IsTableReading, SaysAlone};
-ghost use Rattle.ocfl_inventory.specs.Internal.ReadInventory.{note_line};
+ghost use Rattle.ocfl_inventory.specs.Internal.ReadInventory.{IsReading, SaysAlone, note_line};
 
-use crate::gather::{gather, gather_kept};
+use crate::gather::gather;
 use crate::inventory::Inventory;
 use crate::notes::{add_others, repeated_lines};
-use crate::reading::{behind_object, object, stated_algorithm};
+use crate::reading::{object, read_algorithm, read_behind_algorithm};
 use crate::remark::{Remark, Stop};
 use crate::triple::{Named, Triple};
 use ocfl_digest::Algorithm;
@@ -154,39 +154,17 @@ fn finish(alloc: Global, inventory: Inventory) -> Result<(Vec<Remark>, Table), A
     Ok((remarks, make_table(algorithm, content, triples)))
 }
 
-/// The table of an inventory that does not stop, and none of its lines.
-fn finish_alone(alloc: Global, inventory: Inventory) -> Result<Table, AllocError>
-    ensures table { IfOk result (λ t. t ≡ table_from (inventory_view inventory)) }
-    ensures few { IfOk result (λ t. length t.triples < 2 ^ 64) }
-{
-    let Inventory {
-        algorithm,
-        content,
-        manifest,
-        fixity,
-        unsupported: _,
-    } = inventory;
-    let triples = gather_kept(alloc, content.as_str(), algorithm, manifest, fixity)?;
-    Ok(make_table(algorithm, content, triples))
-}
-
-/// The lines and the table of the members of an inventory that does not stop, or what stops it.
-fn read_members(alloc: Global, members: Map<String, Value>) -> Result<(Vec<Remark>, Table), Stop>
-    ensures reading { IsReading result (inventory_in (members_view members.entries)) }
+/// The lines and the table of the members of an inventory of an algorithm, or what stops it.
+fn read_members(
+    alloc: Global,
+    members: Map<String, Value>,
+    algorithm: Algorithm,
+) -> Result<(Vec<Remark>, Table), Stop>
+    ensures reading { IsReading result (behind_algorithm (members_view members.entries) algorithm) }
     ensures few { IfOk result (λ r. length r.1.triples < 2 ^ 64) }
 {
-    let inventory = behind_object(alloc, members)?;
+    let inventory = read_behind_algorithm(alloc, members, algorithm)?;
     Ok(finish(alloc, inventory)?)
-}
-
-/// The table of an inventory that does not stop, or what stops it.
-fn read_table(alloc: Global, bytes: &[u8]) -> Result<Table, Stop>
-    ensures reading { IsTableReading result (inventory_of bytes.now) }
-    ensures few { IfOk result (λ t. length t.triples < 2 ^ 64) }
-{
-    let map = object(alloc, bytes)?;
-    let inventory = behind_object(alloc, map)?;
-    Ok(finish_alone(alloc, inventory)?)
 }
 
 /// The line of a remark about the whole object.
@@ -245,6 +223,29 @@ fn stopped(
     }
 }
 
+/// What the members of an inventory of an algorithm say: remarks, table and algorithm.
+fn reading_behind_algorithm(
+    alloc: Global,
+    members: Map<String, Value>,
+    algorithm: Algorithm,
+) -> Result<InventoryReading, AllocError>
+    ensures algorithm { IfOk result (λ r. r.algorithm ≡ Some algorithm) }
+    ensures remarks { IfOk result (λ r. map remark_view r.remarks.items
+        ≡ reading_notes (behind_algorithm (members_view members.entries) algorithm)) }
+    ensures table { IfOk result (λ r. r.table
+        ≡ table_from_reading (behind_algorithm (members_view members.entries) algorithm)) }
+    ensures fit { IfOk result (λ r. IfSome r.table (λ t. IsFit t)) }
+{
+    match read_members(alloc, members, algorithm) {
+        Ok((remarks, table)) => Ok(InventoryReading {
+            algorithm: Some(algorithm),
+            remarks,
+            table: Some(table),
+        }),
+        Err(stop) => stopped(alloc, Some(algorithm), stop),
+    }
+}
+
 /// What the members of an inventory say: remarks, table and algorithm.
 fn reading_of_members(
     alloc: Global,
@@ -258,14 +259,9 @@ fn reading_of_members(
         ≡ table_from_reading (inventory_in (members_view members.entries))) }
     ensures fit { IfOk result (λ r. IfSome r.table (λ t. IsFit t)) }
 {
-    let algorithm = stated_algorithm(alloc, &members)?;
-    match read_members(alloc, members) {
-        Ok((remarks, table)) => Ok(InventoryReading {
-            algorithm,
-            remarks,
-            table: Some(table),
-        }),
-        Err(stop) => stopped(alloc, algorithm, stop),
+    match read_algorithm(alloc, &members) {
+        Ok(algorithm) => reading_behind_algorithm(alloc, members, algorithm),
+        Err(stop) => stopped(alloc, None, stop),
     }
 }
 
@@ -287,8 +283,8 @@ pub fn read_inventory(alloc: Global, bytes: &[u8]) -> Result<InventoryReading, A
     ensures fit { IfOk result (λ r. IfSome r.table (λ t. IsFit t)) }
 {
     match object(alloc, bytes) {
-        Ok(map) => reading_of_members(alloc, map),
-        Err(stop) => stopped(alloc, None, stop),
+        Ok(members) => reading_of_members(alloc, members),
+        Err(why) => stopped(alloc, None, why),
     }
 }
 
@@ -304,19 +300,6 @@ impl Table {
     {
         let read = read_inventory(alloc, bytes)?;
         Ok((to_lines(alloc, read.remarks)?, read.table))
-    }
-
-    /// Reads the bytes of an `inventory.json` for its table alone, and makes no lines: none where
-    /// one of the faults of `read_inventory` stops. The error is running out of memory.
-    pub fn read_alone(alloc: Global, bytes: &[u8]) -> Result<Option<Table>, AllocError>
-        ensures table { IfOk result (λ table. table ≡ table_of bytes.now) }
-        ensures fit { IfOk result (λ table. IfSome table (λ t. IsFit t)) }
-    {
-        match read_table(alloc, bytes) {
-            Ok(table) => Ok(Some(table)),
-            Err(Stop::Memory) => Err(AllocError),
-            Err(Stop::Because(_)) => Ok(None),
-        }
     }
 
     /// The inventory's digest algorithm, `sha256` or `sha512`.

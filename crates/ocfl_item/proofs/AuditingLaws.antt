@@ -1,7 +1,7 @@
 -- What calls did adds up; where a call failed; and files that were opened once each.
-use Rattle.std.proofs.Common.{◌≡◌, ◌+◌, List, [], ◌∷◌, ◌++◌, refl, sym, ◌∙◌, ap, subst, false, map, filter, length, append_assoc, arith, ◌≢◌, ◌≤◌, true}
+use Rattle.std.proofs.Common.{◌≡◌, ◌+◌, List, [], ◌∷◌, ◌++◌, refl, sym, ◌∙◌, ap, subst, Bool, false, map, filter, length, append_assoc, arith, ◌≢◌, ◌≤◌, true}
 use Rattle.std.proofs.lemmas.List.{append-nil, length-append, map-append}
-use Rattle.std.specs.Prelude.{not, AllPairs}
+use Rattle.std.specs.Prelude.{not, ◌&&◌, AllPairs}
 use Rattle.ocfl_tree.specs.Place.{Place}
 use Rattle.ocfl_tree.specs.StorageRoot.{StorageRoot}
 use Rattle.ocfl_tree.specs.Store.{Store, Did}
@@ -13,21 +13,26 @@ use Rattle.ocfl_audit.specs.Due.{hashed_among}
 use Rattle.ocfl_audit.specs.Trail.{is_meta, content_openings, content_trail, unread_of, heads_of, inventory_of}
 use Rattle.ocfl_audit.proofs.Trails.{filter_append, none_unread}
 use Rattle.ocfl_item.specs.Looking.{IsFront, failures_by}
-use Rattle.ocfl_item.specs.Auditing.{Audits, Fails, FailedAt, in_listing, in_opening}
+use Rattle.ocfl_item.specs.Auditing.{Audits, Fails, FailedAt, IsMetadataRead, in_listing, in_opening}
 use Rattle.ocfl_item.specs.declared.fault.Fault.{Fault}
 use Rattle.ocfl_item.specs.declared.fault.Fault.TheVariants as fault
 use Rattle.ocfl_tree.specs.Calls.{opening}
 
+-- ---- metadata that was read
+
+pub read_behind : (root : StorageRoot) (os os' : List Opening) → IsMetadataRead root os → IsMetadataRead root os' → IsMetadataRead root (os ++ os')
+read_behind root os os' h k = filter_append (λ o. o.failed && is_meta root o.place) os os' ∙ (λ i. h i ++ k i)
+
 -- ---- where a call failed
 
--- what was done before does not matter
-pub failed_behind : (ls ls' : List Place) (os os' : List Opening) (q : Place) → FailedAt ls' os' q → FailedAt (ls ++ ls') (os ++ os') q
-failed_behind ls ls' os os' q (in_listing before e) = in_listing (ls ++ before) (ap (λ x. ls ++ x) e ∙ sym (append_assoc ls before (q ∷ [])))
-failed_behind ls ls' os os' q (in_opening before given e) = in_opening (os ++ before) given (ap (λ x. os ++ x) e ∙ sym (append_assoc os before (opening q given true ∷ [])))
+-- what was done before does not matter, where no metadata failed
+pub failed_behind : (root : StorageRoot) (ls ls' : List Place) (os os' : List Opening) (q : Place) → IsMetadataRead root os → FailedAt root ls' os' q → FailedAt root (ls ++ ls') (os ++ os') q
+failed_behind root ls ls' os os' q h (in_listing before e k) = in_listing (ls ++ before) (ap (λ x. ls ++ x) e ∙ sym (append_assoc ls before (q ∷ []))) (read_behind root os os' h k)
+failed_behind root ls ls' os os' q h (in_opening before given e) = in_opening (os ++ before) given (ap (λ x. os ++ x) e ∙ sym (append_assoc os before (opening q given true ∷ [])))
 
 -- a listing that failed
-pub failed_listing : (p q : Place) → p ≡ q → FailedAt (p ∷ []) [] q
-failed_listing p q e = in_listing [] (ap (λ x. x ∷ []) e)
+pub failed_listing : (root : StorageRoot) (p q : Place) → p ≡ q → FailedAt root (p ∷ []) [] q
+failed_listing root p q e = in_listing [] (ap (λ x. x ∷ []) e) refl
 
 -- ---- once each
 
@@ -69,6 +74,7 @@ module _ (root : StorageRoot) (s t u : Store) where
   audits_on ps qs ls ls' hs hs' os os' h k = record {
     over = h.over;
     did = subst (Did s u (os ++ os') (ls ++ ls')) (sym (unread_count root os os')) (did_both s t u os os' ls ls' (length (unread_of root os)) (length (unread_of root os')) h.did k.did);
+    read = read_behind root os os' h.read k.read;
     opened = trail_append root os os' ∙ ap (λ l. l ++ content_trail root os') h.opened ∙ ap (λ l. hashed_among root ps ++ l) k.opened ∙ sym (hashed_append root ps qs);
     heads_are = heads_append root os os' ∙ ap (λ l. l ++ heads_of root os') h.heads_are ∙ ap (λ l. hs ++ l) k.heads_are;
   }
@@ -84,7 +90,7 @@ module _ (root : StorageRoot) (s t u : Store) where
         subst (Did s u (os ++ os') (ls ++ ls')) same both;
     opened = trail_append root os os' ∙ ap (λ l. l ++ content_trail root os') h.opened ∙ ap (λ l. hashed_among root ps ++ l) k.opened ∙ sym (hashed_append root ps qs);
     heads_are = heads_append root os os' ∙ ap (λ l. l ++ heads_of root os') h.heads_are ∙ ap (λ l. hs ++ l) k.heads_are;
-    store = λ q e. let w = k.store q e in (w.0, failed_behind ls ls' os os' q w.1);
+    store = λ q e. let w = k.store q e in (w.0, failed_behind root ls ls' os os' q h.read w.1);
   }
 
 -- where nothing was done
@@ -93,19 +99,19 @@ did_nothing s = record { tree = refl; openings_are = sym (append-nil s.openings)
 
 pub audits_nothing : (root : StorageRoot) (s : Store) → s.tree ≡ root → Audits root s s [] [] [] []
 unfolding hashed_among
-audits_nothing root s over = record { over = over; did = did_nothing s; opened = refl; heads_are = refl }
+audits_nothing root s over = record { over = over; did = did_nothing s; read = refl; opened = refl; heads_are = refl }
 
 pub fails_nothing : (root : StorageRoot) (s : Store) (why : Fault) → s.tree ≡ root → failures_by why ≡ 0 → ((q : Place) → why ≡ fault.Store q → ⊥) → Fails root s s [] [] [] [] why
 unfolding hashed_among
 fails_nothing root s why over none not = record { over = over; did = (let same : 0 ≡ 0 + failures_by why = omega (arith, none) in subst (Did s s [] []) same (did_nothing s)); opened = refl; heads_are = refl; store = λ q e. absurd (not q e) }
 
 -- where only metadata was read
-pub audits_meta : (root : StorageRoot) (s t : Store) (ls hs : List Place) (os : List Opening) → s.tree ≡ root → Did s t os ls 0 → content_trail root os ≡ [] → heads_of root os ≡ hs → Audits root s t [] ls hs os
+pub audits_meta : (root : StorageRoot) (s t : Store) (ls hs : List Place) (os : List Opening) → s.tree ≡ root → Did s t os ls 0 → IsMetadataRead root os → content_trail root os ≡ [] → heads_of root os ≡ hs → Audits root s t [] ls hs os
 unfolding hashed_among
-audits_meta root s t ls hs os over did meta heads = record { over = over; did = subst (Did s t os ls) (sym (ap length (none_unread root os meta))) did; opened = meta; heads_are = heads }
+audits_meta root s t ls hs os over did read meta heads = record { over = over; did = subst (Did s t os ls) (sym (ap length (none_unread root os meta))) did; read = read; opened = meta; heads_are = heads }
 
 pub fails_meta : (root : StorageRoot) (s t : Store) (ls hs : List Place) (os : List Opening) (why : Fault) → s.tree ≡ root → Did s t os ls (failures_by why) → content_trail root os ≡ [] → heads_of root os ≡ hs
-    → ((q : Place) → why ≡ fault.Store q → (is_hashed root q ≡ false) × FailedAt ls os q) → Fails root s t [] ls hs os why
+    → ((q : Place) → why ≡ fault.Store q → (is_hashed root q ≡ false) × FailedAt root ls os q) → Fails root s t [] ls hs os why
 unfolding hashed_among
 fails_meta root s t ls hs os why over did meta heads store = record {
   over = over;
@@ -125,6 +131,10 @@ front_none xs = (xs, refl)
 
 pub front_more : {A : Type 0} (xs ys zs whole : List A) → ys ++ zs ≡ whole → IsFront xs ys → IsFront xs whole
 front_more xs ys zs whole e h = (h.0 ++ zs, sym e ∙ ap (λ l. l ++ zs) h.1 ∙ append_assoc xs h.0 zs)
+
+-- what passes a test is among what passes it
+pub front_kept : {A : Type 0} (test : A → Bool) (xs whole : List A) → xs ≡ filter test xs → IsFront xs whole → IsFront xs (filter test whole)
+front_kept test xs whole kept h = (filter test h.0, ap (filter test) h.1 ∙ filter_append test xs h.0 ∙ ap (λ l. l ++ filter test h.0) (sym kept))
 
 pub front_behind : {A : Type 0} (xs ys zs whole : List A) → xs ++ zs ≡ whole → IsFront ys zs → IsFront (xs ++ ys) whole
 front_behind xs ys zs whole e h = (h.0, sym e ∙ ap (λ l. xs ++ l) h.1 ∙ sym (append_assoc xs ys h.0))

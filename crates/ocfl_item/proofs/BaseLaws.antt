@@ -42,7 +42,7 @@ use Rattle.ocfl_tree.proofs.Stores.{did_then}
 use Rattle.ocfl_item.proofs.LooksZones.{at_root, declared_root}
 use Rattle.ocfl_audit.specs.Head.{on}
 use Rattle.ocfl_audit.proofs.BetweenLaws.{root_unread}
-use Rattle.ocfl_item.proofs.AuditingLaws.{failed_behind, few_once, none_once, front_all, heads_append}
+use Rattle.ocfl_item.proofs.AuditingLaws.{failed_behind, read_behind, few_once, none_once, front_all, heads_append}
 use Rattle.ocfl_item.proofs.VisitLaws.{meet_out, meet_stop, visit_of_folder, visit_of_item}
 use Rattle.ocfl_audit.proofs.Trails.{content_behind}
 
@@ -125,7 +125,7 @@ module _ (root : StorageRoot) where
   no_inventory = sym (ap (λ b. on b []) (root_unread root))
 
   abbrev pub base_listed : (s t : Store) (p e : Place) (es : List Entry) → p ≡ [] → s.tree ≡ root → Enters root s t p e es → Meets root s t []
-  base_listed s t p e es top over h = record { over = over; trail = []; listings = p ∷ []; did = h.did; meta = refl; once = none_once; elsewhere = λ g k. refl; listed = ap (λ x. x ∷ []) top; heads = no_inventory }
+  base_listed s t p e es top over h = record { over = over; trail = []; listings = p ∷ []; did = h.did; read = refl; meta = refl; once = none_once; elsewhere = λ g k. refl; listed = ap (λ x. x ∷ []) top; heads = no_inventory }
 
   pub base_memory : (s t : Store) → Meets root s t [] → MeetFails root s t [] fault.Memory
   base_memory s t m = meet_out root s t [] fault.Memory m refl
@@ -138,6 +138,7 @@ module _ (root : StorageRoot) where
         trail = m.trail ++ k.trail;
         listings = m.listings ++ [];
         did = did_then s t u m.trail k.trail m.listings [] 0 m.did k.did;
+        read = read_behind root m.trail k.trail m.read k.read;
         meta = content_behind root m.trail k.trail m.meta ∙ quiet.0;
         once = one_once n m.trail k.trail none ([], sym k.opened ∙ sym (append-nil (places_of k.trail)));
         elsewhere = λ g e. absurd (e refl);
@@ -154,12 +155,13 @@ module _ (root : StorageRoot) where
         trail = m.trail ++ k.trail;
         listings = m.listings ++ k.stops.goes.listings;
         did = did_then s t u m.trail k.trail m.listings k.stops.goes.listings (failures_by why) m.did k.stops.goes.did;
+        read = λ e. read_behind root m.trail k.trail m.read (k.stops.goes.read e);
         meta = content_behind root m.trail k.trail m.meta ∙ quiet.0;
         once = one_once n m.trail k.trail none k.opened;
         elsewhere = λ g e. absurd (e refl);
         listed = subst (IsFront (m.listings ++ k.stops.goes.listings)) (ap (λ l. m.listings ++ l) no_listing ∙ append-nil m.listings ∙ m.listed) (front_all (m.listings ++ k.stops.goes.listings));
         heads = subst (IsFront (heads_of root (m.trail ++ k.trail))) (heads_append root m.trail k.trail ∙ ap (λ l. heads_of root m.trail ++ l) quiet.1 ∙ append-nil (heads_of root m.trail) ∙ m.heads) (front_all (heads_of root (m.trail ++ k.trail)));
-        store = λ q g. let w = k.stops.store q g in (w.0, failed_behind m.listings k.stops.goes.listings m.trail k.trail q w.1);
+        store = λ q g. let w = k.stops.store q g in (w.0, failed_behind root m.listings k.stops.goes.listings m.trail k.trail q m.read w.1);
       }
     where
       nothing_listed : (xs ys : List Place) → [] ≡ xs ++ ys → xs ≡ []

@@ -20,7 +20,7 @@ use Rattle.ocfl_audit.specs.Zone.{inside, zone}
 use Rattle.ocfl_audit.specs.Lines.{is_hashed}
 use Rattle.ocfl_audit.specs.Trail.{is_root_meta, is_meta_zone, is_meta, is_object_meta, places_of, content_trail}
 use Rattle.ocfl_item.specs.Looking.{IsFront, failures_by}
-use Rattle.ocfl_item.specs.Auditing.{FailedAt, in_opening}
+use Rattle.ocfl_item.specs.Auditing.{FailedAt, IsMetadataRead, in_opening}
 use Rattle.ocfl_item.specs.Ways.{fault_by, AreMeta, ReadsMeta, SeekStops, is_file_kind}
 use Rattle.ocfl_item.specs.HeadFiles.{files_there, ReadsFiles, FilesStop, ReadsFile, ReadsSome}
 use Rattle.ocfl_item.specs.declared.fault.Fault.{Fault}
@@ -28,13 +28,17 @@ use Rattle.ocfl_item.specs.declared.fault.Fault.TheVariants as fault
 use Rattle.ocfl_tree.proofs.Orders.{true_not_false}
 use Rattle.ocfl_audit.proofs.AuditExists.{some_not_none}
 use Rattle.ocfl_audit.proofs.PathLaws.{hashed_no_meta}
-use Rattle.ocfl_item.proofs.AuditingLaws.{failed_behind}
+use Rattle.ocfl_item.proofs.AuditingLaws.{failed_behind, read_behind}
 use Rattle.ocfl_item.proofs.LooksEntries.{file_there, no_file_there}
 use Rattle.ocfl_item.proofs.LooksZones.{inside_on}
 use Rattle.ocfl_tree.proofs.Stores.{did_then}
 use Rattle.ocfl_item.proofs.LooksCalls.{did_nothing, store_place, memory_no_store, kind_is_file, kind_is_no_file, front_more}
 
 -- ---- one file
+
+-- a fault of the store is a failure
+store_counts : ◌≡◌ {A = ℕ} 1 0 → ⊥
+store_counts e = omega (arith, e)
 
 module _ (root : StorageRoot) (o : Place) (n : Text) (z : zone root o ≡ inside o []) (meta : is_object_meta (n ∷ []) ≡ true) where
   pub file_is_meta : is_meta root (o ++ n ∷ []) ≡ true
@@ -66,21 +70,25 @@ module _ (root : StorageRoot) (o : Place) (n : Text) (meta : is_meta root (o ++ 
         by Device k {bytes = bytes} e = record {
           trail = k.openings;
           stops = record {
-            goes = record { over = over; listings = []; did = k.did; listed = ([], refl) };
-            store = λ q g. (ap (is_hashed root) (sym (store_place (o ++ n ∷ []) q g)) ∙ file_not_hashed, subst (FailedAt [] k.openings) (store_place (o ++ n ∷ []) q g) (in_opening [] k.opened.0 k.opened.2));
+            goes = record { over = over; listings = []; did = k.did; read = λ g. absurd (store_counts g); listed = ([], refl) };
+            store = λ q g. (ap (is_hashed root) (sym (store_place (o ++ n ∷ []) q g)) ∙ file_not_hashed, subst (FailedAt root [] k.openings) (store_place (o ++ n ∷ []) q g) (in_opening [] k.opened.0 k.opened.2));
           };
           opened = subst (λ os. IsFront (places_of os) (files_there root o (n ∷ []))) (sym k.opened.2) (one k.opened.0 true bytes e);
         }
         by Absent k {bytes = bytes} e = absurd (some_not_none bytes (sym (k.absent refl) ∙ e))
         by Memory k {bytes = bytes} e = record {
           trail = k.openings;
-          stops = record { goes = record { over = over; listings = []; did = k.did; listed = ([], refl) }; store = λ q g. absurd (memory_no_store q g) };
+          stops = record { goes = record { over = over; listings = []; did = k.did; read = λ g. quiet k.opened; listed = ([], refl) }; store = λ q g. absurd (memory_no_store q g) };
           opened = either k.opened;
         }
           where
             either : (k.openings ≡ []) ⊎ ((given : ℕ) × (given ≤ limit) × (k.openings ≡ opening (o ++ n ∷ []) given false ∷ [])) → IsFront (places_of k.openings) (files_there root o (n ∷ []))
             either (inl g) = (files_there root o (n ∷ []), ap (λ os. places_of os ++ files_there root o (n ∷ [])) (sym g))
             either (inr g) = subst (λ os. IsFront (places_of os) (files_there root o (n ∷ []))) (sym g.2) (one g.0 false bytes e)
+
+            quiet : (k.openings ≡ []) ⊎ ((given : ℕ) × (given ≤ limit) × (k.openings ≡ opening (o ++ n ∷ []) given false ∷ [])) → IsMetadataRead root k.openings
+            quiet (inl g) = subst (IsMetadataRead root) (sym g) refl
+            quiet (inr g) = subst (IsMetadataRead root) (sym g.2) refl
 
     pub file_fails : (s t : Store) (p : Place) (limit : ℕ) (trouble : Trouble) (why : Fault) → s.tree ≡ root → (p ≡ o ++ n ∷ []) × (is_file_kind (kind_in es n) ≡ true) → StopsReading root s t p limit trouble → why ≡ fault_by p trouble
         → ReadsFile root s t o n limit (Err why)
@@ -91,14 +99,14 @@ module _ (root : StorageRoot) (o : Place) (n : Text) (meta : is_meta root (o ++ 
     pub file_absent : (s : Store) (limit : ℕ) → s.tree ≡ root → is_file_kind (kind_in es n) ≡ false → ReadsFile root s s o n limit (Ok None)
     file_absent s limit over none =
         let gone : file_at root (o ++ n ∷ []) ≡ None = no_file_there root o n es listing (kind_is_no_file (kind_in es n) none) in
-        record { gives = (record { over = over; trail = []; did = did_nothing s; opened = ap (λ b. map (λ m. o ++ m ∷ []) (cond (is_some b) (n ∷ []) [])) (sym gone) }, gone) }
+        record { gives = (record { over = over; trail = []; did = did_nothing s; read = refl; opened = ap (λ b. map (λ m. o ++ m ∷ []) (cond (is_some b) (n ∷ []) [])) (sym gone) }, gone) }
 
   pub file_read : (s t : Store) (p : Place) (limit : ℕ) (b : Bounded) → s.tree ≡ root → p ≡ o ++ n ∷ [] → ReadsBounded root s t p limit b → ReadsFile root s t o n limit (Ok (Some b))
   file_read s t p limit b over there l =
       let k = subst (λ x. ReadsBounded root s t x limit b) there l in
       record {
         gives = (
-          record { over = over; trail = opening (o ++ n ∷ []) (min (length k.bytes) (limit + 1)) false ∷ []; did = k.did; opened = ap (λ x. map (λ m. o ++ m ∷ []) (cond (is_some x) (n ∷ []) [])) (sym k.is_file) },
+          record { over = over; trail = opening (o ++ n ∷ []) (min (length k.bytes) (limit + 1)) false ∷ []; did = k.did; read = refl; opened = ap (λ x. map (λ m. o ++ m ∷ []) (cond (is_some x) (n ∷ []) [])) (sym k.is_file) },
           (k.bytes, k.is_file, k.is_bounded),
         );
       }
@@ -108,7 +116,7 @@ pub file_memory : (root : StorageRoot) (s : Store) (o : Place) (n : Text) (limit
 file_memory root s o n limit over = record {
   gives = record {
     trail = [];
-    stops = record { goes = record { over = over; listings = []; did = did_nothing s; listed = ([], refl) }; store = λ q e. absurd (memory_no_store q e) };
+    stops = record { goes = record { over = over; listings = []; did = did_nothing s; read = λ e. refl; listed = ([], refl) }; store = λ q e. absurd (memory_no_store q e) };
     opened = (files_there root o (n ∷ []), refl);
   };
 }
@@ -141,6 +149,7 @@ module _ (root : StorageRoot) (o : Place) where
     over = h.over;
     trail = h.trail ++ k.trail;
     did = did_then s t u h.trail k.trail [] [] 0 h.did k.did;
+    read = read_behind root h.trail k.trail h.read k.read;
     opened = places_then h.trail k.trail ∙ (λ i. h.opened i ++ k.opened i) ∙ sym (there_then ns ms);
   }
 
@@ -149,17 +158,18 @@ module _ (root : StorageRoot) (o : Place) where
     over = h.over;
     trail = h.trail ++ k.trail;
     did = did_then s t u h.trail k.trail [] [] 0 h.did k.did;
+    read = read_behind root h.trail k.trail h.read k.read;
     opened = joined h.trail k.trail ns ms h.opened k.opened;
   }
 
   abbrev pub some_of : (s t : Store) (ns : List Text) → ReadsFiles root s t o ns → ReadsSome root s t o ns
-  some_of s t ns h = record { over = h.over; trail = h.trail; did = h.did; opened = whole_front h.trail ns h.opened }
+  some_of s t ns h = record { over = h.over; trail = h.trail; did = h.did; read = h.read; opened = whole_front h.trail ns h.opened }
 
   more_there : (xs : List Place) (ns ms : List Text) → IsFront xs (files_there root o ns) → IsFront xs (files_there root o (ns ++ ms))
   more_there xs ns ms h = subst (IsFront xs) (sym (there_then ns ms)) (front_more xs (files_there root o ns) (files_there root o ms) h)
 
   pub some_more : (s t : Store) (ns ms : List Text) → ReadsSome root s t o ns → ReadsSome root s t o (ns ++ ms)
-  some_more s t ns ms h = record { over = h.over; trail = h.trail; did = h.did; opened = more_there (places_of h.trail) ns ms h.opened }
+  some_more s t ns ms h = record { over = h.over; trail = h.trail; did = h.did; read = h.read; opened = more_there (places_of h.trail) ns ms h.opened }
 
   pub stop_more : (s t : Store) (ns ms : List Text) (why : Fault) → FilesStop root s t o ns why → FilesStop root s t o (ns ++ ms) why
   stop_more s t ns ms why h = record { trail = h.trail; stops = h.stops; opened = more_there (places_of h.trail) ns ms h.opened }
@@ -173,9 +183,10 @@ module _ (root : StorageRoot) (o : Place) where
             over = h.over;
             listings = k.stops.goes.listings;
             did = did_then s t u h.trail k.trail [] k.stops.goes.listings (failures_by why) h.did k.stops.goes.did;
+            read = λ e. read_behind root h.trail k.trail h.read (k.stops.goes.read e);
             listed = k.stops.goes.listed;
           };
-          store = λ q e. let f = k.stops.store q e in (f.0, failed_behind [] k.stops.goes.listings h.trail k.trail q f.1);
+          store = λ q e. let f = k.stops.store q e in (f.0, failed_behind root [] k.stops.goes.listings h.trail k.trail q h.read f.1);
         };
         opened = joined h.trail k.trail ns ms h.opened k.opened;
       }
@@ -183,7 +194,7 @@ module _ (root : StorageRoot) (o : Place) where
   pub memory_after : (s t : Store) (ns : List Text) → ReadsSome root s t o ns → FilesStop root s t o ns fault.Memory
   memory_after s t ns h = record {
     trail = h.trail;
-    stops = record { goes = record { over = h.over; listings = []; did = h.did; listed = ([], refl) }; store = λ q e. absurd (memory_no_store q e) };
+    stops = record { goes = record { over = h.over; listings = []; did = h.did; read = λ e. h.read; listed = ([], refl) }; store = λ q e. absurd (memory_no_store q e) };
     opened = h.opened;
   }
 
@@ -260,7 +271,7 @@ module _ (root : StorageRoot) (o : Place) (z : zone root o ≡ inside o []) (ns 
   }
 
   abbrev pub some_is_meta : (s t : Store) → ReadsSome root s t o ns → ReadsMeta root s t
-  some_is_meta s t h = record { over = h.over; trail = h.trail; did = h.did; meta = front_are_meta h.trail h.opened }
+  some_is_meta s t h = record { over = h.over; trail = h.trail; did = h.did; read = h.read; meta = front_are_meta h.trail h.opened }
 
   abbrev pub stop_is_meta : (s t : Store) (why : Fault) → FilesStop root s t o ns why → SeekStops root s t [] why
   stop_is_meta s t why h = record { trail = h.trail; stops = h.stops; meta = front_are_meta h.trail h.opened }

@@ -70,10 +70,10 @@ module _ (root : StorageRoot) (o : Place) (es : List Entry) (h : IsObject root o
   pub table_read_from : (s t : Store) (r : Result (Option Table) Fault) → OpensJust root s t o (inventory_name ∷ []) r → IfOk r (λ table. table ≡ table_at root o) → ReadsTable root s t o r
   table_read_from s t (Ok table) k is =
       let some = some_of root o s t (inventory_name ∷ []) k in
-      record { gives = (record { reads = some_is_meta root o h.zone (inventory_name ∷ []) refl one_apart s t some; heads = inventory_opened root o h.zone some.trail some.opened }, is, inventory_alone root o h.zone k.trail some.opened) }
+      record { gives = (record { reads = some_is_meta root o h.zone (inventory_name ∷ []) refl one_apart s t some; heads = inventory_opened root o h.zone some.trail h.known some.opened }, is, inventory_alone root o h.zone k.trail some.opened) }
   table_read_from s t (Err why) k is = record {
     gives = (
-      record { stops = stop_is_meta root o h.zone (inventory_name ∷ []) refl one_apart s t why k; heads = inventory_opened root o h.zone k.trail k.opened },
+      record { stops = stop_is_meta root o h.zone (inventory_name ∷ []) refl one_apart s t why k; heads = inventory_opened root o h.zone k.trail h.known k.opened },
       inventory_alone root o h.zone k.trail k.opened,
     );
   }

@@ -87,12 +87,12 @@ module _ (root : StorageRoot) (o : Place) where
 
   pub stop_opens_none : (es : List Entry) (m : MadeDeclared) (s : Store) → s.tree ≡ root → IsDeclared root o es m → is_known (meaning level.Object es m) ≡ false → ReadsFiles root s s o (head_files root o (object_declared root o))
   stop_opens_none es m s over h stops =
-      subst (ReadsFiles root s s o) (sym (ap (head_files root o) (sym h.says) ∙ no_head_files (meaning level.Object es m) stops)) (record { over = over; trail = []; did = did_nothing s; opened = refl })
+      subst (ReadsFiles root s s o) (sym (ap (head_files root o) (sym h.says) ∙ no_head_files (meaning level.Object es m) stops)) (record { over = over; trail = []; did = did_nothing s; read = refl; opened = refl })
 
   pub none_memory : (s : Store) (ns : List Text) → s.tree ≡ root → FilesStop root s s o ns fault.Memory
   none_memory s ns over = record {
     trail = [];
-    stops = record { goes = record { over = over; listings = []; did = did_nothing s; listed = ([], refl) }; store = λ q e. absurd (memory_no_store q e) };
+    stops = record { goes = record { over = over; listings = []; did = did_nothing s; read = λ e. refl; listed = ([], refl) }; store = λ q e. absurd (memory_no_store q e) };
     opened = (files_there root o ns, refl);
   }
 

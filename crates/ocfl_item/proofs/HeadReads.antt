@@ -43,6 +43,7 @@ head_read_from root s t o (Ok p) z k is =
           over = reads.over;
           trail = reads.trail;
           did = reads.did;
+          read = reads.read;
           meta = reads.meta.meta;
           once = reads.meta.once;
           heads = ap (heads_of root) (same_trail s t reads.trail k.trail [] [] 0 0 reads.did k.did) ∙ heads_are root k.trail ∙ ap (heads_at root) k.opened ∙ heads_exact root o z;
@@ -58,6 +59,7 @@ head_read_from root s t o (Err why) z k is =
         over = stops.stops.goes.over;
         trail = stops.trail;
         did = subst (λ ls. Did s t stops.trail ls (failures_by why)) (nothing_listed stops.stops.goes.listings stops.stops.goes.listed) stops.stops.goes.did;
+        read = stops.stops.goes.read;
         meta = stops.meta.meta;
         once = stops.meta.once;
         heads =
@@ -66,6 +68,6 @@ head_read_from root s t o (Err why) z k is =
             subst (λ l. IsFront l (on (reads_inventory root o) o)) (sym (ap (heads_of root) same ∙ heads_are root k.trail)) (subst (IsFront (heads_at root (places_of k.trail))) (heads_exact root o z) front);
         store = λ q e.
             let f = stops.stops.store q e in
-            (f.0, subst (λ ls. FailedAt ls stops.trail q) (nothing_listed stops.stops.goes.listings stops.stops.goes.listed) f.1);
+            (f.0, subst (λ ls. FailedAt root ls stops.trail q) (nothing_listed stops.stops.goes.listings stops.stops.goes.listed) f.1);
       };
     }

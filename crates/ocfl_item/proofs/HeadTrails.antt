@@ -37,9 +37,6 @@ pub heads_append : (root : StorageRoot) (ps qs : List Place) → heads_at root (
 heads_append root [] qs = refl
 heads_append root (p ∷ ps) qs = ap (λ zs. inventory_of (zone root p) ++ zs) (heads_append root ps qs) ∙ sym (append_assoc (inventory_of (zone root p)) (heads_at root ps) (heads_at root qs))
 
-pub front_front : (xs ys zs : List Place) → IsFront xs ys → IsFront ys zs → IsFront xs zs
-front_front xs ys zs h k = (h.0 ++ k.0, k.1 ∙ ap (λ l. l ++ k.0) h.1 ∙ append_assoc xs h.0 k.0)
-
 abbrev is_other : Text → Bool
 is_other n = not (text_eq n inventory_name)
 
@@ -54,17 +51,19 @@ module _ (root : StorageRoot) (o : Place) (z : zone root o ≡ inside o []) wher
       by false e k false rest = rest k
       by false e k true rest = (λ i. inventory_of (inside_on root o o [] (n ∷ []) z i) ++ rest k i) ∙ ap (λ b. cond b (o ∷ []) [] ++ []) e
 
-  heads_one : (ns : List Text) → list_all is_other ns ≡ true → IsFront (heads_at root (files_there root o (inventory_name ∷ ns))) (o ∷ [])
+  heads_one : (ns : List Text) → list_all is_other ns ≡ true → heads_at root (files_there root o (inventory_name ∷ ns)) ≡ on (is_some (file_at root (o ++ inventory_name ∷ []))) o
   heads_one ns h = by (is_some (file_at root (o ++ inventory_name ∷ [])))
     where
-      by : (c : Bool) → IsFront (heads_at root (map (λ m. o ++ m ∷ []) (cond c (inventory_name ∷ filter (λ m. is_some (file_at root (o ++ m ∷ []))) ns) (filter (λ m. is_some (file_at root (o ++ m ∷ []))) ns)))) (o ∷ [])
-      by false = (o ∷ [], sym (ap (λ l. l ++ o ∷ []) (heads_none ns h)))
-      by true = ([], sym (λ i. (inventory_of (inside_on root o o [] (inventory_name ∷ []) z i) ++ heads_none ns h i) ++ []))
+      by : (c : Bool) → heads_at root (map (λ m. o ++ m ∷ []) (cond c (inventory_name ∷ filter (λ m. is_some (file_at root (o ++ m ∷ []))) ns) (filter (λ m. is_some (file_at root (o ++ m ∷ []))) ns))) ≡ on c o
+      by false = heads_none ns h
+      by true = λ i. inventory_of (inside_on root o o [] (inventory_name ∷ []) z i) ++ heads_none ns h i
 
-  opened_front : (ns : List Text) (trail : List Opening) → IsFront (heads_at root (files_there root o ns)) (o ∷ []) → IsFront (places_of trail) (files_there root o ns) → IsFront (heads_of root trail) (o ∷ [])
-  opened_front ns trail one h =
-      let front : IsFront (heads_at root (places_of trail)) (heads_at root (files_there root o ns)) = (heads_at root h.0, ap (heads_at root) h.1 ∙ heads_append root (places_of trail) h.0) in
-      subst (λ l. IsFront l (o ∷ [])) (sym (heads_are root trail)) (front_front _ _ _ front one)
+  -- the head of an object of known version reads its inventory where it has one
+  reads_is : (d : Declared) → object_declared root o ≡ d → reads_inventory root o ≡ is_some (cond (is_known d) (file_at root (o ++ inventory_name ∷ [])) None)
+  reads_is d e = ap (λ b. b && is_some (inventory_at root o)) (ap is_head z) ∙ ap (λ x. is_some (cond (is_known x) (file_at root (o ++ inventory_name ∷ [])) None)) e
+
+  reads_known : is_known (object_declared root o) ≡ true → reads_inventory root o ≡ is_some (file_at root (o ++ inventory_name ∷ []))
+  reads_known version = reads_is (object_declared root o) refl ∙ ap (λ b. is_some (cond b (file_at root (o ++ inventory_name ∷ [])) None)) version
 
   -- of the files of a head at most the inventory of its object
   abbrev IsOwn : Place → Type 0
@@ -93,30 +92,20 @@ module _ (root : StorageRoot) (o : Place) (z : zone root o ≡ inside o []) wher
       by true = (refl, tt)
       by false = tt
 
-  pub inventory_opened : (trail : List Opening) → IsFront (places_of trail) (files_there root o (inventory_name ∷ [])) → IsFront (heads_of root trail) (o ∷ [])
-  inventory_opened trail h = opened_front (inventory_name ∷ []) trail (heads_one [] refl) h
+  pub inventory_opened : (trail : List Opening) → is_known (object_declared root o) ≡ true → IsFront (places_of trail) (files_there root o (inventory_name ∷ [])) → IsFront (heads_of root trail) (on (reads_inventory root o) o)
+  inventory_opened trail version h =
+      let front : IsFront (heads_at root (places_of trail)) (heads_at root (files_there root o (inventory_name ∷ []))) = (heads_at root h.0, ap (heads_at root) h.1 ∙ heads_append root (places_of trail) h.0) in
+      subst (λ l. IsFront l (on (reads_inventory root o) o)) (sym (heads_are root trail))
+      (subst (IsFront (heads_at root (places_of trail))) (heads_one [] refl ∙ sym (ap (λ b. on b o) (reads_known version))) front)
 
   -- among the files of a head its inventory, where it has one
   pub heads_exact : heads_at root (files_there root o (head_files root o (object_declared root o))) ≡ on (reads_inventory root o) o
   heads_exact = by (object_declared root o) refl
     where
-      head : is_head (zone root o) ≡ true
-      head = ap is_head z
-
-      reads : (d : Declared) → object_declared root o ≡ d → reads_inventory root o ≡ is_some (cond (is_known d) (file_at root (o ++ inventory_name ∷ [])) None)
-      reads d e = ap (λ b. b && is_some (inventory_at root o)) head ∙ ap (λ x. is_some (cond (is_known x) (file_at root (o ++ inventory_name ∷ [])) None)) e
-
-      one : (ns : List Text) → list_all is_other ns ≡ true → heads_at root (files_there root o (inventory_name ∷ ns)) ≡ on (is_some (file_at root (o ++ inventory_name ∷ []))) o
-      one ns h = go (is_some (file_at root (o ++ inventory_name ∷ [])))
-        where
-          go : (c : Bool) → heads_at root (map (λ m. o ++ m ∷ []) (cond c (inventory_name ∷ filter (λ m. is_some (file_at root (o ++ m ∷ []))) ns) (filter (λ m. is_some (file_at root (o ++ m ∷ []))) ns))) ≡ on c o
-          go false = heads_none ns h
-          go true = λ i. inventory_of (inside_on root o o [] (inventory_name ∷ []) z i) ++ heads_none ns h i
-
       behind : (n : Text) (ns : List Text) → is_other n ≡ true → list_all is_other ns ≡ true → heads_at root (files_there root o (n ∷ inventory_name ∷ ns)) ≡ on (is_some (file_at root (o ++ inventory_name ∷ []))) o
       behind n ns e h =
           ap (heads_at root) (there_then root o (n ∷ []) (inventory_name ∷ ns)) ∙ heads_append root (files_there root o (n ∷ [])) (files_there root o (inventory_name ∷ ns))
-          ∙ ap (λ l. l ++ heads_at root (files_there root o (inventory_name ∷ ns))) (heads_none (n ∷ []) (ap (λ b. b && true) e)) ∙ one ns h
+          ∙ ap (λ l. l ++ heads_at root (files_there root o (inventory_name ∷ ns))) (heads_none (n ∷ []) (ap (λ b. b && true) e)) ∙ heads_one ns h
 
       sides : (f : Option Text) → list_all is_other (sidecars_for f) ≡ true
       sides None = refl
@@ -131,7 +120,7 @@ module _ (root : StorageRoot) (o : Place) (z : zone root o ≡ inside o []) wher
       named V1_1 = refl
 
       by : (d : Declared) → object_declared root o ≡ d → heads_at root (files_there root o (head_files root o d)) ≡ on (reads_inventory root o) o
-      by undeclared e = sym (ap (λ b. on b o) (reads undeclared e))
-      by (known v) e = behind (declaration_name Object v) (sidecars_for (file_at root (o ++ inventory_name ∷ []))) (named v) (sides (file_at root (o ++ inventory_name ∷ []))) ∙ sym (ap (λ b. on b o) (reads (known v) e))
-      by (unknown t) e = sym (ap (λ b. on b o) (reads (unknown t) e))
-      by several e = sym (ap (λ b. on b o) (reads several e))
+      by undeclared e = sym (ap (λ b. on b o) (reads_is undeclared e))
+      by (known v) e = behind (declaration_name Object v) (sidecars_for (file_at root (o ++ inventory_name ∷ []))) (named v) (sides (file_at root (o ++ inventory_name ∷ []))) ∙ sym (ap (λ b. on b o) (reads_is (known v) e))
+      by (unknown t) e = sym (ap (λ b. on b o) (reads_is (unknown t) e))
+      by several e = sym (ap (λ b. on b o) (reads_is several e))

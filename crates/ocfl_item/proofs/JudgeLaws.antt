@@ -31,6 +31,7 @@ use Rattle.ocfl_audit.proofs.AuditExists.{some_not_none}
 use Rattle.ocfl_audit.proofs.BelowLaws.{place_same}
 use Rattle.ocfl_item.proofs.ContentLaws.{IsHashedFile, hashed_file, unhashed_cost}
 use Rattle.ocfl_audit.proofs.PathLaws.{hashed_no_meta, hashed_path}
+use Rattle.ocfl_item.specs.Auditing.{IsMetadataRead}
 use Rattle.ocfl_item.proofs.AuditingLaws.{did_nothing}
 use Rattle.ocfl_item.specs.declared.fault.Fault.TheVariants as fault
 use Rattle.ocfl_item.proofs.WantedLaws.{AreWanted}
@@ -64,7 +65,7 @@ judged_known root s made lines over pending unhashed same =
     let free : is_hashed root made.place ≡ false = sym pending.hashed ∙ unhashed in
     record {
       trail = [];
-      audits = record { over = over; did = did_nothing s; opened = sym (hashed_alone root made.place false free); heads_are = refl };
+      audits = record { over = over; did = did_nothing s; read = refl; opened = sym (hashed_alone root made.place false free); heads_are = refl };
       alone = sym (hashed_alone root made.place false free);
       item = item_is root made.place [] None lines 0 refl (sym (same ∙ pending.lines unhashed)) (unhashed_cost root made.place free);
     }
@@ -92,6 +93,10 @@ module _ (root : StorageRoot) (p : Place) (hashed : is_hashed root p ≡ true) w
 
   opened_place : (n : ℕ) (failed : Bool) → content_trail root (opening p n failed ∷ []) ≡ hashed_among root (p ∷ [])
   opened_place n failed = ap (map (λ o. o.place)) (opened_content n failed) ∙ sym (hashed_alone root p true hashed)
+
+  opened_read : (n : ℕ) (failed : Bool) → IsMetadataRead root (opening p n failed ∷ [])
+  opened_read n false = refl
+  opened_read n true = ap (λ b. cond b (opening p n true ∷ []) []) (hashed_no_meta root p hashed)
 
   none_unread : (n : ℕ) → unread_of root (opening p n false ∷ []) ≡ []
   none_unread n = ap (λ os. map (λ o. (o.place, o.given)) (filter (λ o. o.failed) os)) (opened_content n false)
@@ -135,7 +140,7 @@ module _ (root : StorageRoot) (p : Place) (hashed : is_hashed root p ≡ true) w
       → lines_at p (notes root u p) ≡ map line_of lines → cost root u p ≡ n + 1 → Judges root s t p lines (n + 1)
   opens_judges s t n failed u lines over did given are costs = record {
     trail = opening p n failed ∷ [];
-    audits = record { over = over; did = did; opened = opened_place n failed; heads_are = no_head n failed };
+    audits = record { over = over; did = did; read = opened_read n failed; opened = opened_place n failed; heads_are = no_head n failed };
     alone = sym (hashed_alone root p true hashed);
     item = item_is root p (opening p n failed ∷ []) u lines (n + 1) given are costs;
   }

@@ -24,3 +24,4 @@ pub mod HeadReads
 pub mod HeadOpens
 pub mod AuditingLaws
 pub mod ShutLaws
+pub mod ShortLaws

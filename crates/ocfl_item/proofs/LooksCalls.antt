@@ -68,12 +68,12 @@ memory_no_store q e = cc
 
 pub list_stops : (root : StorageRoot) (s t : Store) (p : Place) (trouble : Trouble) → s.tree ≡ root → is_listable root p ≡ true → ListFails s t p trouble → Stops root s t (p ∷ []) [] (fault_by p trouble)
 list_stops root s t p Device over l h = record {
-  goes = record { over = over; listings = p ∷ []; did = h.fails.did; listed = ([], refl) };
-  store = λ q e. (ap (is_hashed root) (sym (store_place p q e)) ∙ dir_not_hashed root p (listable_dir root p l), failed_listing p q (store_place p q e));
+  goes = record { over = over; listings = p ∷ []; did = h.fails.did; read = λ e. refl; listed = ([], refl) };
+  store = λ q e. (ap (is_hashed root) (sym (store_place p q e)) ∙ dir_not_hashed root p (listable_dir root p l), failed_listing root p q (store_place p q e));
 }
 list_stops root s t p Absent over l h = absurd (h.absent refl (ap (λ x. at x p) over ∙ listable_dir root p l))
 list_stops root s t p Memory over l h = record {
-  goes = record { over = over; listings = []; did = h.fails.did; listed = (p ∷ [], refl) };
+  goes = record { over = over; listings = []; did = h.fails.did; read = λ e. refl; listed = (p ∷ [], refl) };
   store = λ q e. absurd (memory_no_store q e);
 }
 
@@ -110,7 +110,7 @@ module _ (root : StorageRoot) where
   abbrev pub memory_stops : (s t : Store) (way : List Place) → ReadsMeta root s t → SeekStops root s t way fault.Memory
   memory_stops s t way h = record {
     trail = h.trail;
-    stops = record { goes = record { over = h.over; listings = []; did = h.did; listed = (way, refl) }; store = λ q e. absurd (memory_no_store q e) };
+    stops = record { goes = record { over = h.over; listings = []; did = h.did; read = λ e. h.read; listed = (way, refl) }; store = λ q e. absurd (memory_no_store q e) };
     meta = h.meta;
   }
 

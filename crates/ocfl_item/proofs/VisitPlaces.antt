@@ -217,6 +217,7 @@ listed_then root s t u e head over did looked h = record {
   trail = h.trail;
   listings = e ∷ [];
   did = did_then s t u [] h.trail (e ∷ []) [] 0 did h.did;
+  read = h.read;
   meta = h.meta;
   once = h.once;
   elsewhere = λ g k. absurd (true_not_false (sym head ∙ g));
@@ -230,12 +231,13 @@ listed_fails root s t u e why head over did looked h = record {
   trail = h.trail;
   listings = e ∷ [];
   did = did_then s t u [] h.trail (e ∷ []) [] (failures_by why) did h.did;
+  read = h.read;
   meta = h.meta;
   once = h.once;
   elsewhere = λ g k. absurd (true_not_false (sym head ∙ g));
   listed = subst (λ b. IsFront (e ∷ []) (on b e)) (sym looked) (front_all (e ∷ []));
   heads = h.heads;
-  store = λ q g. let w = h.store q g in (w.0, failed_behind (e ∷ []) [] [] h.trail q w.1);
+  store = λ q g. let w = h.store q g in (w.0, failed_behind root (e ∷ []) [] [] h.trail q refl w.1);
 }
 
 pub visits_then : (root : StorageRoot) (s t u : Store) (e : Place) (r : Result Visit Fault) → is_head (zone root e) ≡ true → s.tree ≡ root → Did s t [] (e ∷ []) 0 → is_looked_into root e ≡ true → VisitsHead root t u e r → Visits root s u e r
@@ -297,7 +299,7 @@ module _ (root : StorageRoot) (s t : Store) (e : Place) (f : Folder) (m : MadeDe
 
 pub head_memory : (root : StorageRoot) (s t : Store) (o : Place) → ReadsOne root s t o → VisitsHead root s t o (Err fault.Memory)
 head_memory root s t o h = record {
-  gives = record { over = h.over; trail = h.trail; did = h.did; meta = h.meta; once = h.once; heads = subst (IsFront (heads_of root h.trail)) h.heads (front_all (heads_of root h.trail)); store = λ q g. absurd cc };
+  gives = record { over = h.over; trail = h.trail; did = h.did; read = λ g. h.read; meta = h.meta; once = h.once; heads = subst (IsFront (heads_of root h.trail)) h.heads (front_all (heads_of root h.trail)); store = λ q g. absurd cc };
 }
 
 pub head_stop : (root : StorageRoot) (s t : Store) (o : Place) (why : Fault) → HeadRead root s t o (Err why) → VisitsHead root s t o (Err why)
@@ -326,7 +328,7 @@ module _ (root : StorageRoot) (o : Place) (es : List Entry) (m : MadeDeclared) (
 
 pub unread_memory : (root : StorageRoot) (s : Store) (o : Place) → s.tree ≡ root → HeadRead root s s o (Err fault.Memory)
 unread_memory root s o over = record {
-  gives = record { over = over; trail = []; did = did_nothing s; meta = refl; once = none_once; heads = front_none (on (reads_inventory root o) o); store = λ q g. absurd cc };
+  gives = record { over = over; trail = []; did = did_nothing s; read = λ g. refl; meta = refl; once = none_once; heads = front_none (on (reads_inventory root o) o); store = λ q g. absurd cc };
 }
 
 -- what is fair of a directory that was listed

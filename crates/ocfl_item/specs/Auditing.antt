@@ -1,28 +1,33 @@
 -- What calls above the store did to a store that tells its tree: one record where they succeed, and one for a fault.
-use Rattle.std.specs.Prelude.{◌≡◌, ℕ, ◌+◌, List, [], ◌∷◌, ◌++◌, true, false, length}
+use Rattle.std.specs.Prelude.{◌≡◌, ◌&&◌, ℕ, ◌+◌, List, [], ◌∷◌, ◌++◌, true, false, filter, length}
 use Rattle.ocfl_tree.specs.Place.{Place}
 use Rattle.ocfl_tree.specs.StorageRoot.{StorageRoot}
 use Rattle.ocfl_tree.specs.Store.{Store, Did}
 use Rattle.ocfl_tree.specs.Calls.{opening}
 use Rattle.ocfl_tree.specs.declared.store.Opening.{Opening}
 use Rattle.ocfl_audit.specs.Lines.{is_hashed}
-use Rattle.ocfl_audit.specs.Trail.{content_trail, unread_of, heads_of}
+use Rattle.ocfl_audit.specs.Trail.{is_meta, content_trail, unread_of, heads_of}
 use Rattle.ocfl_audit.specs.Due.{hashed_among}
 use Rattle.ocfl_item.specs.Looking.{failures_by}
 use Rattle.ocfl_item.specs.declared.fault.Fault.{Fault}
 use Rattle.ocfl_item.specs.declared.fault.Fault.TheVariants as fault
 
+-- of the declarations, inventories and sidecars that were opened none failed
+abbrev pub IsMetadataRead : StorageRoot → List Opening → Type 0
+IsMetadataRead root trail = filter (λ o. o.failed && is_meta root o.place) trail ≡ []
+
 -- from s to t these places were audited: the content files of those that are hashed were opened, in order, and nothing failed but these openings; these directories were listed, and the inventories of these objects opened, in order
 pub record Audits (root : StorageRoot) (s t : Store) (places listed heads : List Place) (trail : List Opening) : Type 0 where
   pub over : s.tree ≡ root
   pub did : Did s t trail listed (length (unread_of root trail))
+  pub read : IsMetadataRead root trail
   pub opened : content_trail root trail ≡ hashed_among root places
   pub heads_are : heads_of root trail ≡ heads
 
--- the call that failed was the last listing, or the last opening
-pub data FailedAt (listed : List Place) (trail : List Opening) (q : Place) : Type 0 where
-  in_listing : (before : List Place) → listed ≡ before ++ q ∷ [] → FailedAt listed trail q
-  in_opening : (before : List Opening) (given : ℕ) → trail ≡ before ++ opening q given true ∷ [] → FailedAt listed trail q
+-- the call that failed was the last listing, and then no metadata failed, or the last opening
+pub data FailedAt (root : StorageRoot) (listed : List Place) (trail : List Opening) (q : Place) : Type 0 where
+  in_listing : (before : List Place) → listed ≡ before ++ q ∷ [] → IsMetadataRead root trail → FailedAt root listed trail q
+  in_opening : (before : List Opening) (given : ℕ) → trail ≡ before ++ opening q given true ∷ [] → FailedAt root listed trail q
 
 -- the same, and then there was a fault; one of the store names the place at which it failed, which is no hashed file's
 pub record Fails (root : StorageRoot) (s t : Store) (places listed heads : List Place) (trail : List Opening) (why : Fault) : Type 0 where
@@ -30,4 +35,4 @@ pub record Fails (root : StorageRoot) (s t : Store) (places listed heads : List 
   pub did : Did s t trail listed (length (unread_of root trail) + failures_by why)
   pub opened : content_trail root trail ≡ hashed_among root places
   pub heads_are : heads_of root trail ≡ heads
-  pub store : (q : Place) → why ≡ fault.Store q → (is_hashed root q ≡ false) × FailedAt listed trail q
+  pub store : (q : Place) → why ≡ fault.Store q → (is_hashed root q ≡ false) × FailedAt root listed trail q

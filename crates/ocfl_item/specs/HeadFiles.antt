@@ -15,6 +15,7 @@ use Rattle.ocfl_audit.specs.Zone.{inventory_name, inventory_limit}
 use Rattle.ocfl_audit.specs.Head.{sidecar_name}
 use Rattle.ocfl_audit.specs.Trail.{places_of}
 use Rattle.ocfl_item.specs.Looking.{IsFront}
+use Rattle.ocfl_item.specs.Auditing.{IsMetadataRead}
 use Rattle.ocfl_item.specs.Ways.{Stops}
 use Rattle.ocfl_item.specs.declared.fault.Fault.{Fault}
 
@@ -32,6 +33,7 @@ pub record ReadsFiles (root : StorageRoot) (s t : Store) (o : Place) (names : Li
   pub over : s.tree ≡ root
   pub trail : List Opening
   pub did : Did s t trail [] 0
+  pub read : IsMetadataRead root trail
   pub opened : places_of trail ≡ files_there root o names
 
 -- the first of them were opened, and then there was a fault
@@ -49,6 +51,7 @@ pub record ReadsSome (root : StorageRoot) (s t : Store) (o : Place) (names : Lis
   pub over : s.tree ≡ root
   pub trail : List Opening
   pub did : Did s t trail [] 0
+  pub read : IsMetadataRead root trail
   pub opened : IsFront (places_of trail) (files_there root o names)
 
 -- the files about an object's inventory, in the order in which they are read

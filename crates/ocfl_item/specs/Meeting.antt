@@ -11,7 +11,7 @@ use Rattle.ocfl_audit.specs.Lines.{notes, is_hashed}
 use Rattle.ocfl_audit.specs.Head.{on}
 use Rattle.ocfl_audit.specs.Trail.{content_trail, heads_of, is_head, reads_inventory}
 use Rattle.ocfl_audit.specs.Between.{is_looked_into}
-use Rattle.ocfl_item.specs.Auditing.{FailedAt}
+use Rattle.ocfl_item.specs.Auditing.{FailedAt, IsMetadataRead}
 use Rattle.ocfl_item.specs.Looking.{IsFront, failures_by}
 use Rattle.ocfl_item.specs.Pending.{IsPending}
 use Rattle.ocfl_audit.specs.Walk.{is_reached, seen_names}
@@ -27,6 +27,7 @@ pub record Meets (root : StorageRoot) (s t : Store) (e : Place) : Type 0 where
   pub trail : List Opening
   pub listings : List Place
   pub did : Did s t trail listings 0
+  pub read : IsMetadataRead root trail
   pub meta : content_trail root trail ≡ []
   pub once : AllPairs (λ a b. a.place ≢ b.place) trail
   pub elsewhere : is_head (zone root e) ≡ false → e ≢ [] → trail ≡ []
@@ -39,12 +40,13 @@ pub record MeetFails (root : StorageRoot) (s t : Store) (e : Place) (why : Fault
   pub trail : List Opening
   pub listings : List Place
   pub did : Did s t trail listings (failures_by why)
+  pub read : failures_by why ≡ 0 → IsMetadataRead root trail
   pub meta : content_trail root trail ≡ []
   pub once : AllPairs (λ a b. a.place ≢ b.place) trail
   pub elsewhere : is_head (zone root e) ≡ false → e ≢ [] → trail ≡ []
   pub listed : IsFront listings (on (is_looked_into root e) e)
   pub heads : IsFront (heads_of root trail) (on (reads_inventory root e) e)
-  pub store : (q : Place) → why ≡ fault.Store q → (is_hashed root q ≡ false) × FailedAt listings trail q
+  pub store : (q : Place) → why ≡ fault.Store q → (is_hashed root q ≡ false) × FailedAt root listings trail q
 
 -- the item of a place, if it has lines
 abbrev pub IsItemAt : StorageRoot → Place → Option Pending → Type 0

@@ -21,7 +21,7 @@ use Rattle.ocfl_tree.specs.declared.store.Opening.{Opening}
 use Rattle.ocfl_inventory.specs.Table.{Table}
 use Rattle.ocfl_audit.specs.Head.{on}
 use Rattle.ocfl_audit.specs.Trail.{content_trail, is_head, heads_of, reads_inventory}
-use Rattle.ocfl_item.specs.Auditing.{FailedAt}
+use Rattle.ocfl_item.specs.Auditing.{FailedAt, IsMetadataRead}
 use Rattle.ocfl_item.specs.Looking.{IsFront, failures_by}
 use Rattle.ocfl_item.specs.Ways.{IsHeadOf}
 use Rattle.ocfl_audit.specs.Lines.{is_hashed}
@@ -90,6 +90,7 @@ pub record ReadsOne (root : StorageRoot) (s t : Store) (o : Place) : Type 0 wher
   pub over : s.tree ≡ root
   pub trail : List Opening
   pub did : Did s t trail [] 0
+  pub read : IsMetadataRead root trail
   pub meta : content_trail root trail ≡ []
   pub once : AllPairs (λ a b. a.place ≢ b.place) trail
   pub heads : heads_of root trail ≡ on (reads_inventory root o) o
@@ -99,10 +100,11 @@ pub record ReadOneFails (root : StorageRoot) (s t : Store) (o : Place) (why : Fa
   pub over : s.tree ≡ root
   pub trail : List Opening
   pub did : Did s t trail [] (failures_by why)
+  pub read : failures_by why ≡ 0 → IsMetadataRead root trail
   pub meta : content_trail root trail ≡ []
   pub once : AllPairs (λ a b. a.place ≢ b.place) trail
   pub heads : IsFront (heads_of root trail) (on (reads_inventory root o) o)
-  pub store : (q : Place) → why ≡ fault.Store q → (is_hashed root q ≡ false) × FailedAt [] trail q
+  pub store : (q : Place) → why ≡ fault.Store q → (is_hashed root q ≡ false) × FailedAt root [] trail q
 
 -- the lines of an object's head and its table
 pub record HeadRead (root : StorageRoot) (s t : Store) (o : Place) (r : Result (PlaceLines × Option Table) Fault) : Type 0 where

@@ -1,5 +1,5 @@
 -- The way down to a place: what is known of a directory on it, and what was done to come there.
-use Rattle.std.specs.Prelude.{◌≡◌, ◌≢◌, ℕ, ◌&&◌, nat_le, length, List, [], ◌∷◌, ◌++◌, Bool, true, false, Option, Some, None, Result, MatchResult, AllPairs, codes}
+use Rattle.std.specs.Prelude.{◌≡◌, ◌≢◌, ℕ, ◌&&◌, nat_le, length, filter, List, [], ◌∷◌, ◌++◌, Bool, true, false, Option, Some, None, Result, MatchResult, AllPairs, codes}
 use Rattle.std.specs.List.{list_all}
 use Rattle.ocfl_tree.specs.Place.{Text, Place, text_eq, beginnings}
 use Rattle.ocfl_tree.specs.StorageRoot.{StorageRoot, is_dir}
@@ -19,10 +19,11 @@ use Rattle.ocfl_inventory.specs.declared.declaration.Declared.TheVariants as mad
 use Rattle.ocfl_inventory.specs.Table.{Table}
 use Rattle.ocfl_audit.specs.Zone.{max_listed_depth, hierarchy, inside, zone, is_entered, object_declared, table_at}
 use Rattle.ocfl_audit.specs.Lines.{notes, is_hashed}
-use Rattle.ocfl_audit.specs.Trail.{content_trail, heads_of}
+use Rattle.ocfl_audit.specs.Head.{on}
+use Rattle.ocfl_audit.specs.Trail.{content_trail, heads_of, reads_inventory}
 use Rattle.ocfl_audit.specs.Walk.{is_reached}
 use Rattle.ocfl_item.specs.Looking.{IsFront, failures_by}
-use Rattle.ocfl_item.specs.Auditing.{FailedAt}
+use Rattle.ocfl_item.specs.Auditing.{FailedAt, IsMetadataRead}
 use Rattle.ocfl_item.specs.Pending.{HasLines}
 use Rattle.ocfl_item.specs.declared.fault.Fault.{Fault}
 use Rattle.ocfl_item.specs.declared.lines.PlaceLines.{PlaceLines}
@@ -52,12 +53,13 @@ pub record Goes (root : StorageRoot) (s t : Store) (way : List Place) (trail : L
   pub over : s.tree ≡ root
   pub listings : List Place
   pub did : Did s t trail listings failures
+  pub read : failures ≡ 0 → IsMetadataRead root trail
   pub listed : IsFront listings way
 
 -- and then there was a fault; one of the store names the place at which it failed
 pub record Stops (root : StorageRoot) (s t : Store) (way : List Place) (trail : List Opening) (why : Fault) : Type 0 where
   pub goes : Goes root s t way trail (failures_by why)
-  pub store : (q : Place) → why ≡ fault.Store q → (is_hashed root q ≡ false) × FailedAt goes.listings trail q
+  pub store : (q : Place) → why ≡ fault.Store q → (is_hashed root q ≡ false) × FailedAt root goes.listings trail q
 
 -- openings of metadata, each file once
 pub record AreMeta (root : StorageRoot) (trail : List Opening) : Type 0 where
@@ -74,17 +76,18 @@ pub record ReadsMeta (root : StorageRoot) (s t : Store) : Type 0 where
   pub over : s.tree ≡ root
   pub trail : List Opening
   pub did : Did s t trail [] 0
+  pub read : IsMetadataRead root trail
   pub meta : AreMeta root trail
 
--- and of inventories at most that of o
+-- and of inventories at most that of o, where its head reaches it
 pub record Opens (root : StorageRoot) (s t : Store) (o : Place) : Type 0 where
   pub reads : ReadsMeta root s t
-  pub heads : IsFront (heads_of root reads.trail) (o ∷ [])
+  pub heads : IsFront (heads_of root reads.trail) (on (reads_inventory root o) o)
 
 -- and then there was a fault
 pub record OpensStop (root : StorageRoot) (s t : Store) (o : Place) (why : Fault) : Type 0 where
   pub stops : SeekStops root s t [] why
-  pub heads : IsFront (heads_of root stops.trail) (o ∷ [])
+  pub heads : IsFront (heads_of root stops.trail) (on (reads_inventory root o) o)
 
 -- ---- one name further
 
@@ -124,6 +127,10 @@ pub record Enters (root : StorageRoot) (s t : Store) (d e : Place) (es : List En
 -- each opening is that of an inventory
 abbrev pub AreInventories : StorageRoot → List Opening → Type 0
 AreInventories root trail = length trail ≡ length (heads_of root trail)
+
+-- each inventory that was opened is that of an object whose head reaches it
+abbrev pub AreReached : StorageRoot → List Opening → Type 0
+AreReached root trail = heads_of root trail ≡ filter (reads_inventory root) (heads_of root trail)
 
 -- an object's table, with its inventory read for it, and no other file
 pub record ReadsTable (root : StorageRoot) (s t : Store) (o : Place) (r : Result (Option Table) Fault) : Type 0 where

@@ -1,3 +1,4 @@
+//! What is met in a content directory, by the digests that name it.
 ghost use Rattle.std.specs.Prelude.{◌≡◌, ◌++◌, [], IfOk, IfSome, MatchOption, None, OnOk, Some};
 ghost use Rattle.std.specs.Prelude.{map};
 ghost use Rattle.ocfl_tree.specs.Ascending.{IsAscending};

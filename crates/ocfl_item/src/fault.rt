@@ -1,3 +1,4 @@
+//! Why a call above the store failed.
 ghost use Rattle.std.specs.Prelude.{◌≡◌};
 ghost use Rattle.ocfl_item.specs.declared.fault.Fault.TheVariants.{Memory};
 

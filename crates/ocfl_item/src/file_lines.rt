@@ -1,3 +1,4 @@
+//! The lines of a content file that was hashed, or could not be read.
 ghost use Rattle.std.specs.Prelude.{◌≡◌, ◌++◌, ◌∷◌, [], IfOk, List, OnOk, Some, length, map};
 ghost use Rattle.hex.specs.Hex.{encode_lower};
 ghost use Rattle.ocfl_tree.specs.Place.{Text};
@@ -110,7 +111,7 @@ fn add_clean_file(alloc: Global, lines: &mut PlaceLines, count: u64) -> Result<(
     lines.add(Code::Clean, detail)
 }
 
-/// Appends the lines of a content file that was read to its end, where there is none before.
+/// Appends the lines of a content file that was read to its end, if it has no line yet.
 fn add_hashed(
     alloc: Global,
     lines: &mut PlaceLines,

@@ -1,3 +1,4 @@
+//! Judging an item: its lines and its cost.
 ghost use Rattle.std.specs.Prelude.{◌≡◌, ◌≤◌, IfErr, IfOk, IsTrue, MatchResult, None, false, max};
 ghost use Rattle.std.specs.Prelude.{true};
 ghost use Rattle.ocfl_tree.specs.StorageRoot.{StorageRoot};

@@ -1,10 +1,11 @@
-//! What calls did adds up.
-ghost use Rattle.std.specs.Prelude.{◌++◌, List};
-ghost use Rattle.ocfl_tree.specs.Place.{Place};
+//! What calls did adds up, and which files are short.
+ghost use Rattle.std.specs.Prelude.{◌≡◌, ◌↔◌, ◌<◌, ◌++◌, List, Some, length};
+ghost use Rattle.ocfl_tree.specs.Place.{Place, Text};
 ghost use Rattle.ocfl_tree.specs.Store.{Store};
-ghost use Rattle.ocfl_tree.specs.StorageRoot.{StorageRoot};
+ghost use Rattle.ocfl_tree.specs.StorageRoot.{StorageRoot, file_at};
 ghost use Rattle.ocfl_tree.specs.declared.store.Opening.{Opening};
 ghost use Rattle.ocfl_item.specs.Auditing.{Audits, Fails};
+ghost use Rattle.ocfl_item.specs.Judging.{HasShortFiles};
 ghost use Rattle.ocfl_item.specs.declared.fault.Fault.{Fault};
 
 /// What calls did adds up, one after the other, up to a fault.
@@ -17,4 +18,10 @@ pub fn calls_add_up()
         (os rs : List Opening) (why : Fault) → Audits root s t ps ls hs os
         → Fails root t u qs ms gs rs why → Fails root s u (ps ++ qs) (ls ++ ms) (hs ++ gs)
         (os ++ rs) why }
+{}
+
+/// A storage root has short files exactly where each of its files has fewer than 2^62 bytes.
+pub fn short_files_are_below_the_limit()
+    ensures { (root : StorageRoot) → HasShortFiles root ↔ ((p : Place) (bytes : Text)
+        → file_at root p ≡ Some bytes → length bytes < 4611686018427387904) }
 {}

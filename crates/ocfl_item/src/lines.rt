@@ -1,3 +1,4 @@
+//! The lines of one place, as they are gathered.
 ghost use Rattle.std.specs.Prelude.{◌≡◌, ◌∷◌, [], IfOk, OnOk, string_bytes};
 ghost use Rattle.hex.specs.Hex.{encode_lower};
 ghost use Rattle.ocfl_report.specs.Line.{note, plain};

@@ -1,3 +1,4 @@
+//! The lines of a path that an inventory names and no file has.
 ghost use Rattle.std.specs.Prelude.{◌≡◌, ◌∷◌, [], OnOk, not, option_map, map};
 ghost use Rattle.std.specs.Option.{option_copied};
 ghost use Rattle.ocfl_tree.specs.Ascending.{IsAscending};

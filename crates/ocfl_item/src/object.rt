@@ -27,7 +27,7 @@ use crate::folder::{Folder, fault_at};
 use crate::head_lines::{Sidecars, add_clean, add_declaration, add_inventory};
 use crate::lines::PlaceLines;
 use ocfl_digest::{Bounded, read_bounded};
-use ocfl_inventory::{Declared, Level, Table, Version, declaration_name};
+use ocfl_inventory::{Declared, Level, Table, Version, declaration_name, read_inventory};
 use ocfl_report::Code;
 use ocfl_tree::{Entry, Kind, Name, Place, Tree, is_text};
 use std::alloc::{AllocError, Global};
@@ -256,6 +256,15 @@ pub(crate) fn head_lines<T: Tree>(
     Ok((lines, None))
 }
 
+/// The table of an inventory, where nothing stops.
+fn read_table(alloc: Global, bytes: &[u8]) -> Result<Option<Table>, AllocError>
+    ensures table { IfOk result (λ o. o ≡ table_of bytes.now) }
+    ensures fit { IfOk result (λ o. IfSome o (λ t. IsFit t)) }
+{
+    let read = read_inventory(alloc, bytes)?;
+    Ok(read.table)
+}
+
 /// The table of an object, where its head does not stop. No file but the inventory is opened for
 /// it.
 pub fn table_of_object<T: Tree>(
@@ -274,7 +283,7 @@ pub fn table_of_object<T: Tree>(
     ensures fit { IfOk result (λ o. IfSome o (λ t. IsFit t)) }
 {
     match read_file(alloc, store, folder, INVENTORY_NAME, INVENTORY_LIMIT)? {
-        Some(Bounded::Whole(bytes)) => { Ok(Table::read_alone(alloc, &bytes)?) }
+        Some(Bounded::Whole(bytes)) => Ok(read_table(alloc, &bytes)?),
         Some(Bounded::Over) => Ok(None),
         None => Ok(None),
     }

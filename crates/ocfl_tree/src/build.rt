@@ -1,3 +1,5 @@
+//! Why a tree in memory was not changed.
+
 /// Why a tree in memory is not changed.
 #[derive(Clone, Copy, Debug, PartialEq, Eq)]
 pub enum BuildStop {

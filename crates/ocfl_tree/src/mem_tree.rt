@@ -1,3 +1,4 @@
+//! A storage root in memory, which tells what was done to it and can be made to fail.
 ghost use Rattle.std.specs.Prelude.{◌≡◌, ◌≢◌, ◌↔◌, ◌<◌, ◌≤◌, ◌+◌, ◌^◌, [], true, IsTrue, ◌&&◌};
 ghost use Rattle.std.specs.Prelude.{nat_lt, IfOk, IfErr, OnOk, OnErr, IsOk, IsErr, IsOkUnless};
 ghost use Rattle.std.specs.Prelude.{MatchOption, MatchResult, Err, length, take, max, is_some};

@@ -1,3 +1,4 @@
+//! A name: one step on the way to a place.
 ghost use Rattle.std.specs.Prelude.{◌≡◌, ◌≢◌, All, IsTrue, ◌↔◌, IfOk, OnOk, Some, nat_eq, refl};
 ghost use Rattle.std.specs.Cmp.{partial_equiv_from_equiv};
 ghost use Rattle.std.specs.Cmp.Lexicographic.{pointwise, slice_cmp, nat_list_eq_equiv};
@@ -27,7 +28,7 @@ impl Model for Name {
     ghost invariant = { λ a. IsName (string_bytes a.text) };
 }
 
-/// Why a text is not made a name: it is none, or memory was refused.
+/// Why a text is not made a name: it is not a name, or memory was refused.
 #[derive(Clone, Copy, Debug, PartialEq, Eq)]
 pub enum NameStop {
     Bad,

@@ -1,3 +1,4 @@
+//! What a tree in memory holds at its places.
 ghost use Rattle.std.specs.Prelude.{◌≡◌, ◌≢◌, ℕ, ◌<◌, ◌≤◌, ◌++◌, ◌∷◌, [], List, take, IsTrue, ◌↔◌};
 ghost use Rattle.std.specs.Prelude.{IfOk, OnOk, OnErr, IfSome, IsNone, IsOkUnless, MatchOption};
 ghost use Rattle.std.specs.Prelude.{None, Some, Err, length, not, is_some};

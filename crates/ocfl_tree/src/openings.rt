@@ -1,3 +1,4 @@
+//! The openings and listings that a tree in memory notes.
 ghost use Rattle.std.specs.Prelude.{◌≡◌, ◌+◌, ◌^◌, ◌<◌, List, [], ◌∷◌, ◌++◌, length, OnOk, OnErr};
 ghost use Rattle.ocfl_tree.specs.Calls.{opening, with_given, with_failure};
 ghost use Rattle.ocfl_tree.specs.Faults.{is_struck, after_call};

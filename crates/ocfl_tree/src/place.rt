@@ -1,3 +1,4 @@
+//! Places: names from the storage root down, kept as one path.
 ghost use Rattle.std.specs.Prelude.{◌≡◌, ◌↔◌, ◌++◌, ◌∷◌, [], length, string_bytes, IfOk, OnOk};
 ghost use Rattle.std.specs.Prelude.{OnErr, take, drop, IfSome, IsNone, MatchOption, Some, nat_eq};
 ghost use Rattle.std.specs.Prelude.{refl};

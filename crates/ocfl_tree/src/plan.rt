@@ -1,3 +1,4 @@
+//! The failures that are planned for a tree in memory.
 ghost use Rattle.std.specs.Prelude.{◌≡◌, ◌<◌, ◌≤◌, ◌++◌, ◌∷◌, [], ◌&&◌, Some, OnOk, OnErr};
 ghost use Rattle.ocfl_tree.specs.Place.{place_eq};
 ghost use Rattle.ocfl_tree.specs.Faults.{no_faults, is_met, is_planned, is_struck, is_due};

@@ -1,3 +1,4 @@
+//! Entries of a directory, openings, and why a call of a store failed.
 ghost use Rattle.std.specs.Prelude.{◌≡◌};
 ghost use Rattle.ocfl_tree.specs.declared.store.Trouble.TheVariants.{Memory};
 

@@ -1,3 +1,4 @@
+//! The interface of a store.
 ghost use Rattle.std.specs.Prelude.{◌≡◌, ◌≢◌, ◌≤◌, Bool, IsTrue, IfOk, MatchResult, length, take};
 ghost use Rattle.std.specs.Prelude.{max, Err};
 ghost use Rattle.ocfl_tree.specs.Store.{Store};

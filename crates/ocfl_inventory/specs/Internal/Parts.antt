@@ -13,13 +13,11 @@ use Rattle.ocfl_report.specs.Line.{Note}
 use Rattle.ocfl_digest.specs.Algorithm.{algorithm_name}
 use Rattle.ocfl_inventory.specs.Reading.{Reading, Block, Inventory, block_of}
 use Rattle.ocfl_digest.specs.declared.algorithm.Algorithm.{Algorithm}
-use Rattle.ocfl_digest.specs.declared.algorithm.Algorithm.TheVariants.{Md5, Sha1, Sha256, Sha512, Sha512_256}
 use Rattle.ocfl_inventory.specs.Remark.{remark_view}
 use Rattle.ocfl_inventory.specs.declared.remark.Stop.{Stop}
 use Rattle.ocfl_inventory.specs.declared.remark.Stop.TheVariants as stops
 use Rattle.ocfl_inventory.specs.declared.inventory.Listing.{Listing}
 use Rattle.ocfl_inventory.specs.declared.inventory.Supported.{Supported}
-use Rattle.ocfl_inventory.specs.declared.reading.Values.{Values}
 use Rattle.ocfl_inventory.specs.declared.inventory.Inventory.{Inventory as MadeInventory}
 
 -- what stopped, unless memory ran out, is the line
@@ -58,13 +56,9 @@ fixity_view (Some m) = members_view m.entries
 abbrev pub value_for : Algorithm → Members → Option Data
 value_for a ms = get_member (algorithm_name a) ms
 
--- what stands at the keys of the supported algorithms
-pub record AreValues (v : Values) (ms : Members) : Type 0 where
-  pub md5 : option_map view v.md5 ≡ value_for Md5 ms
-  pub sha1 : option_map view v.sha1 ≡ value_for Sha1 ms
-  pub sha256 : option_map view v.sha256 ≡ value_for Sha256 ms
-  pub sha512 : option_map view v.sha512 ≡ value_for Sha512 ms
-  pub sha512_256 : option_map view v.sha512_256 ≡ value_for Sha512_256 ms
+-- what stands at the keys of some algorithms
+abbrev pub values_for : List Algorithm → Members → List (Option Data × Algorithm)
+values_for algorithms ms = map (λ a. (value_for a ms, a)) algorithms
 
 abbrev pub supported_view : List Supported → List (Algorithm × Block)
 supported_view = map (λ s. (s.algorithm, block_view s.block.items))

@@ -20,11 +20,6 @@ IsReading (Err e) read = Fails e read
 abbrev pub note_line : Note → Line
 note_line n = record { code = n.code; place = []; detail = n.detail }
 
--- the table alone of an inventory that does not stop, or what stops, unless memory ran out
-abbrev pub IsTableReading : Result Table Stop → Reading Inventory → Type 0
-IsTableReading (Ok t) read = (i : Inventory) × (read ≡ Ok i) × (t ≡ table_from i)
-IsTableReading (Err e) read = Fails e read
-
 -- what stopped is all that is said, and memory did not run out
 abbrev pub SaysAlone : Stop → List Note → Type 0
 SaysAlone stops.Memory ns = ⊥

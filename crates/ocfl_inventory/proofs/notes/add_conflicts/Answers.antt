@@ -1,4 +1,4 @@
-use Rattle.std.proofs.Common.{List, ap, ◌∙◌, map}
+use Rattle.std.proofs.Common.{ap, ◌∙◌, map}
 use Rattle.ocfl_tree.specs.Path.{slashed}
 use Rattle.ocfl_tree.specs.Place.{Place}
 use Rattle.ocfl_report.specs.Line.{note}

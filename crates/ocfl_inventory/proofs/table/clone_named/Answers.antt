@@ -1,4 +1,4 @@
-use Rattle.std.proofs.Common.{List, [], ap, ◌∙◌, map}
+use Rattle.std.proofs.Common.{[], ap, ◌∙◌, map}
 use Rattle.ocfl_inventory.specs.Table.{Triple}
 use Rattle.ocfl_inventory.specs.TripleView.{named_view}
 use Rattle.ocfl_inventory.proofs.Loops.{appended, appended_all, mapped_more}

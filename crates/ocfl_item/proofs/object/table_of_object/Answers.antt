@@ -5,11 +5,11 @@ use Rattle.ocfl_item.proofs.FileLaws.{file_is_meta}
 use Rattle.ocfl_item.proofs.HeadOpens.{one_memory}
 use Rattle.ocfl_item.proofs.object.table_of_object.Goals as goal
 
-pub returns-in_ok-read_alone-in-Some-Whole-clause-told :
-    goal.returns-in_ok-read_alone-in-Some-Whole-clause-told
-returns-in_ok-read_alone-in-Some-Whole-clause-told g c = λ h root over here.
+pub returns-in_ok-read_table-in-Some-Whole-clause-told :
+    goal.returns-in_ok-read_table-in-Some-Whole-clause-told
+returns-in_ok-read_table-in-Some-Whole-clause-told g c = λ h root over here.
     let read = rw (c.in-Some-Whole.is, c.in-Some-Whole.field-0-is) at c.in_ok-bytes.ensures.told h root over here.listing (file_is_meta root _ _ here.zone refl) in
-    table_whole root _ _ here _ _ c.in-Some-Whole.bytes _ _ read c.deref.ensures.value c.in_ok-read_alone-in-Some-Whole.ensures.table
+    table_whole root _ _ here _ _ c.in-Some-Whole.bytes _ _ read c.deref.ensures.value c.in_ok-read_table-in-Some-Whole.ensures.table
 
 pub returns-in-Some-Over-clause-told : goal.returns-in-Some-Over-clause-told
 returns-in-Some-Over-clause-told g c = λ h root over here.
@@ -27,15 +27,15 @@ returns-in_err-bytes-clause-opened g c = λ h root over here.
     let read = c.in_err-bytes.ensures.told h root over here.listing (file_is_meta root _ _ here.zone refl) in
     rw (p.1, p.2) read.gives
 
-pub returns-in_err-read_alone-in-Some-Whole-clause-opened :
-    goal.returns-in_err-read_alone-in-Some-Whole-clause-opened
-returns-in_err-read_alone-in-Some-Whole-clause-opened g c = λ h root over here.
-    let p = err_from_is_err_and c.from_residual-in_err-read_alone-in-Some-Whole.result c.from_residual-in_err-read_alone-in-Some-Whole.ensures.1 in
+pub returns-in_err-read_table-in-Some-Whole-clause-opened :
+    goal.returns-in_err-read_table-in-Some-Whole-clause-opened
+returns-in_err-read_table-in-Some-Whole-clause-opened g c = λ h root over here.
+    let p = err_from_is_err_and c.from_residual-in_err-read_table-in-Some-Whole.result c.from_residual-in_err-read_table-in-Some-Whole.ensures.1 in
     rw (p.1, p.2) (one_memory root _ _ _ _ _ _ (c.in_ok-bytes.ensures.told h root over here.listing (file_is_meta root _ _ here.zone refl)))
 
-pub returns-in_ok-read_alone-in-Some-Whole-clause-opened :
-    goal.returns-in_ok-read_alone-in-Some-Whole-clause-opened
-returns-in_ok-read_alone-in-Some-Whole-clause-opened g c = λ h root over here.
+pub returns-in_ok-read_table-in-Some-Whole-clause-opened :
+    goal.returns-in_ok-read_table-in-Some-Whole-clause-opened
+returns-in_ok-read_table-in-Some-Whole-clause-opened g c = λ h root over here.
     let read = c.in_ok-bytes.ensures.told h root over here.listing (file_is_meta root _ _ here.zone refl) in
     read.gives.0
 

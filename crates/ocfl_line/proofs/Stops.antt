@@ -5,8 +5,8 @@ use Rattle.clap.specs.declared.error.Error.{Error}
 use Rattle.clap.specs.declared.parser.matches.ArgMatches.{ArgMatches}
 use Rattle.ocfl_line.specs.Line.{line_app}
 use Rattle.ocfl_line.specs.Stop.{IsStopOf, StopsRightly}
-use Rattle.ocfl_line.specs.declared.deed.LineStop.{LineStop}
-use Rattle.ocfl_line.specs.declared.deed.LineStop.TheVariants.{Usage, Memory}
+use Rattle.ocfl_line.specs.declared.stop.LineStop.{LineStop}
+use Rattle.ocfl_line.specs.declared.stop.LineStop.TheVariants.{Usage, Memory}
 
 line_is_simple : is_simple line_app ≡ true
 line_is_simple = refl

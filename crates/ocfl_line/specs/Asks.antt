@@ -6,9 +6,9 @@ use Rattle.ocfl_cursor.specs.Limits.{IsFileLimit}
 use Rattle.ocfl_cursor.specs.declared.limits.Limits.{Limits}
 use Rattle.ocfl_line.specs.Budget.{IsBudgetText}
 use Rattle.ocfl_line.specs.Line.{most_runs}
-use Rattle.ocfl_line.specs.declared.deed.Deed.{Deed}
-use Rattle.ocfl_line.specs.declared.deed.Deed.TheVariants.{Audit, Run, Cycle, Check, Show}
-use Rattle.ocfl_line.specs.declared.deed.Asked.{Asked}
+use Rattle.ocfl_deed.specs.declared.deed.Deed.{Deed}
+use Rattle.ocfl_deed.specs.declared.deed.Deed.TheVariants.{Audit, Run, Cycle, Check, Show}
+use Rattle.ocfl_deed.specs.declared.deed.Asked.{Asked}
 
 -- the text writes this number: decimal digits, which a plus sign may precede
 abbrev pub IsNumberText : ℕ → Text → Type 0

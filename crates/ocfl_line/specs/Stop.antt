@@ -5,9 +5,9 @@ use Rattle.clap.specs.declared.error.Error.{Error}
 use Rattle.clap.specs.declared.error.kind.ErrorKind.TheVariants as kind
 use Rattle.ocfl_line.specs.Line.{line_app}
 use Rattle.ocfl_line.specs.Asks.{Asks}
-use Rattle.ocfl_line.specs.declared.deed.Asked.{Asked}
-use Rattle.ocfl_line.specs.declared.deed.LineStop.{LineStop}
-use Rattle.ocfl_line.specs.declared.deed.LineStop.TheVariants.{Usage, Memory}
+use Rattle.ocfl_deed.specs.declared.deed.Asked.{Asked}
+use Rattle.ocfl_line.specs.declared.stop.LineStop.{LineStop}
+use Rattle.ocfl_line.specs.declared.stop.LineStop.TheVariants.{Usage, Memory}
 
 -- the words ask for nothing that is there to be asked for
 abbrev pub AsksNothing : List Text → Type 0

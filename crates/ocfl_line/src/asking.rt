@@ -1,3 +1,4 @@
+//! Reading a command line, or saying why it asks for nothing.
 ghost use Rattle.std.specs.Prelude.{◌≡◌, [], IfOk, IfErr, IfSome, IsNone, map};
 ghost use Rattle.clap.specs.Words.{fault_of, subcommand_of};
 ghost use Rattle.ocfl_line.specs.Line.{IsCommand, line_app};
@@ -5,10 +6,11 @@ ghost use Rattle.ocfl_line.specs.Asks.{Asks};
 ghost use Rattle.ocfl_line.specs.Stop.{AsksNothing, StopsRightly};
 
 use crate::command::line_command;
-use crate::deed::{Asked, LineStop};
 use crate::reading::asked_by;
+use crate::stop::LineStop;
 use clap::Command;
 use clap::error::ErrorKind;
+use ocfl_deed::Asked;
 use std::alloc::Global;
 use std::convert::AsStr;
 

@@ -1,3 +1,4 @@
+//! The text of a budget: digits, with or without a unit.
 ghost use Rattle.std.specs.Prelude.{◌≡◌, ℕ, IfSome, IsNone};
 ghost use Rattle.ocfl_line.specs.Budget.{IsBudgetText, digits_of, unit_of};
 

@@ -1,3 +1,4 @@
+//! The program's subcommands and arguments, as `clap` takes them.
 ghost use Rattle.std.specs.Prelude.{IfOk, map};
 ghost use Rattle.clap.specs.Words.{App, with_subcommand};
 ghost use Rattle.ocfl_line.specs.Line.{IsArg, IsCommand, app_with, bare_app, budget_rule};

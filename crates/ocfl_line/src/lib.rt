@@ -4,8 +4,8 @@
 mod asking;
 mod budget;
 mod command;
-mod deed;
 mod reading;
+mod stop;
 
 pub use asking::asked;
-pub use deed::{Asked, Deed, LineStop};
+pub use stop::LineStop;

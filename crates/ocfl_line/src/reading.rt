@@ -1,15 +1,16 @@
+//! What the arguments that `clap` found ask for.
 ghost use Rattle.std.specs.Prelude.{◌≡◌, ◌↔◌, ℕ, ◌<◌, ◌^◌, IfOk, IfSome, IsNone, IsTrue};
 ghost use Rattle.std.specs.Prelude.{codes, option_map, string_bytes};
 ghost use Rattle.clap.specs.Words.{found_of, first_of, rows_of, subcommand_rows_of};
 ghost use Rattle.ocfl_cursor.specs.declared.limits.Limits.{Limits as LimitsOf};
 ghost use Rattle.ocfl_line.specs.Asks.{Asks, HasLimits, HasNumber, HasRuns, IsDeed, IsGiven};
-ghost use Rattle.ocfl_line.specs.declared.deed.Deed.{Deed as DeedOf};
-ghost use Rattle.ocfl_line.specs.declared.deed.Asked.{Asked as AskedOf};
+ghost use Rattle.ocfl_deed.specs.declared.deed.Deed.{Deed as DeedOf};
+ghost use Rattle.ocfl_deed.specs.declared.deed.Asked.{Asked as AskedOf};
 
 use crate::budget::read_budget;
-use crate::deed::{Asked, Deed};
 use clap::ArgMatches;
 use ocfl_cursor::{FileLimit, Limits};
+use ocfl_deed::{Asked, Deed};
 use std::alloc::{AllocError, Global};
 
 // The most runs of a cycle.

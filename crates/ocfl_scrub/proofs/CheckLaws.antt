@@ -133,7 +133,7 @@ module _ (root : StorageRoot) (p : Place) where
           trail = g.trail;
           listed = g.listed;
           heads = g.heads;
-          audits = record { over = g.audits.over; did = g.audits.did; opened = g.audits.opened ∙ nothing_hashed root ∙ sym (lines_free root p none); heads_are = g.audits.heads_are };
+          audits = record { over = g.audits.over; did = g.audits.did; read = g.audits.read; opened = g.audits.opened ∙ nothing_hashed root ∙ sym (lines_free root p none); heads_are = g.audits.heads_are };
           just = record { listed_front = g.listed_front; heads_front = g.heads_front; once = g.once };
           wrote = subst (λ is. Appends old old (text is)) (sym e) (Appends-nil old);
           item_is = sym (ap (λ is. not (is_empty is)) e);

@@ -147,7 +147,7 @@ free_costs root u p h = let l : cost root u p ≤ 0 = ltb-false 0 (cost root u p
 
 -- ---- by how much what was spent passes the budget
 
-no_cost : (items : List Item) → total_cost items ≡ 0 → last_cost items ≡ 0
+pub no_cost : (items : List Item) → total_cost items ≡ 0 → last_cost items ≡ 0
 no_cost [] h = refl
 no_cost (i ∷ items) h =
     let m : total_cost items ≡ 0 = omega (arith, h) in

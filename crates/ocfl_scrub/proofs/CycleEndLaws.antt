@@ -1,5 +1,5 @@
 -- A cycle said of the audit alone, and the headline.
-use Rattle.std.proofs.Common.{◌≡◌, ℕ, zero, suc, ◌+◌, ◌<◌, ◌≤◌, List, [], ◌∷◌, ◌++◌, refl, sym, ◌∙◌, ap, subst, true, false, Bool, None, Option, append-nil, length, length-append, map, take, arith}
+use Rattle.std.proofs.Common.{◌≡◌, ◌⊎◌, inl, inr, ℕ, zero, suc, ◌+◌, ◌-◌, ◌<◌, ◌≤◌, List, [], ◌∷◌, ◌++◌, refl, sym, ◌∙◌, ap, subst, true, false, Bool, None, Option, append-nil, length, length-append, map, take, arith}
 use Rattle.std.proofs.lemmas.List.{length-map}
 use Rattle.std.specs.Io.KnownBytes.{Appends}
 use Rattle.ocfl_tree.specs.Place.{Place}
@@ -19,6 +19,7 @@ use Rattle.ocfl_audit.proofs.DueLaws.{after_is_due}
 use Rattle.ocfl_audit.proofs.ObjectLaws.{inventories_read}
 use Rattle.ocfl_audit.proofs.RunLaws.{large_whole, large_few, limits_join, limits_few}
 use Rattle.ocfl_cursor.specs.Cursor.{Cursor}
+use Rattle.ocfl_item.specs.Looking.{IsFront}
 use Rattle.ocfl_item.specs.Auditing.{Audits, Fails}
 use Rattle.ocfl_item.specs.declared.fault.Fault.{Fault}
 use Rattle.ocfl_scrub.specs.Written.{places, last_of, Figures}
@@ -92,16 +93,18 @@ module _ (root : StorageRoot) (s t : Store) (old new : Option (List ℕ)) (last 
             (to_end (limits_join limits items (omega (arith, p, fits)) files_fit (omega (arith, sum, w))), omega (arith, counted, m));
       }
 
-  cycle_stops : (why : Fault) → PartsStop root s t old new None last limits spent files finding count why → CycleStops root s t old new last limits spent files finding count why
-  cycle_stops why h =
+  cycle_stops : (why : Fault) → 1 ≤ count → PartsStop root s t old new None last limits spent files finding count why → CycleStops root s t old new last limits spent files finding count why
+  cycle_stops why some h =
       let whole : List Item = items_at root h.trail h.done in
       let at_places : h.done ≡ places whole = sym (places_of_items root h.trail h.done) in
       record {
         trail = h.trail;
+        some = some;
+        count_fits = subst (λ is. count ≤ length (runs is limits)) (sym (whole_is h.trail)) h.count_fits;
         stops = record {
           whole = whole;
           others = h.others;
-          items_are = ap (λ is. joined (runs is limits)) (whole_is h.trail) ∙ h.runs_begin;
+          items_are = ap (λ is. joined (take count (runs is limits))) (whole_is h.trail) ∙ h.runs_begin;
           begun = h.begun;
           one = h.one;
           part = h.part;
@@ -109,18 +112,19 @@ module _ (root : StorageRoot) (s t : Store) (old new : Option (List ℕ)) (last 
           part_of = h.part_of;
           last_is = h.last_is ∙ ap (last_of None) at_places;
         };
+        runs_before = subst (λ is. IsFront (joined (take (count - 1) (runs is limits))) whole) (sym (whole_is h.trail)) h.runs_before;
         figures = h.figures;
         listed = h.listed;
         heads = h.heads;
         fails = subst (λ ps. Fails root s t (ps ++ h.begun) h.listed h.heads h.trail why) at_places h.fails;
-        inventories_read = few_inventories root h.heads count h.read;
-        count_fits = subst (λ is. count ≤ length (runs is limits)) (sym (whole_is h.trail)) h.count_fits;
+        inventories_read = few_inventories root h.heads count h.read some;
       }
 
-  pub cycle_ends : (end : CycleStatus) → PartsEnd root s t old new None last limits spent files finding count end → CycleEnds root s t old new last limits spent files finding count end
-  cycle_ends Ended h = cycles true h
-  cycle_ends Spent h = cycles false h
-  cycle_ends (Stopped why) h = cycle_stops why h
+  pub cycle_ends : (end : CycleStatus) → (end ≡ Spent) ⊎ (1 ≤ count) → PartsEnd root s t old new None last limits spent files finding count end → CycleEnds root s t old new last limits spent files finding count end
+  cycle_ends Ended some h = cycles true h
+  cycle_ends Spent some h = cycles false h
+  cycle_ends (Stopped why) (inl e) h = absurd cc
+  cycle_ends (Stopped why) (inr some) h = cycle_stops why some h
 
   -- ---- where no failure was counted
 

@@ -1,5 +1,5 @@
 -- The loop of a cycle: where it has come, what one more run makes of that, and how it ends.
-use Rattle.std.proofs.Common.{◌≡◌, ℕ, ◌+◌, List, [], ◌∷◌, refl, sym, ◌∙◌, ap, subst, true, false, Bool, Some, None, Option, arith}
+use Rattle.std.proofs.Common.{◌≡◌, ◌⊎◌, inl, inr, ℕ, ◌+◌, ◌≤◌, List, [], ◌∷◌, refl, sym, ◌∙◌, ap, subst, true, false, Bool, Some, None, Option, arith}
 use Rattle.std.specs.Prelude.{◌||◌}
 use Rattle.ocfl_tree.specs.Place.{Place}
 use Rattle.ocfl_tree.specs.StorageRoot.{StorageRoot}
@@ -92,9 +92,9 @@ module _ (root : StorageRoot) (s t u : Store) (old mid new : Option (List ℕ)) 
 -- ---- the same, of cursors
 
 module _ (root : StorageRoot) (s t : Store) (old new : Option (List ℕ)) (all : List Limits) where
-  cycles_to : (last : Option Place) (count spent files : ℕ) (finding : Bool) (end : CycleStatus) → PartsEnd root s t old new None last all spent files finding count end
+  cycles_to : (last : Option Place) (count spent files : ℕ) (finding : Bool) (end : CycleStatus) → (end ≡ cycle.Spent) ⊎ (1 ≤ count) → PartsEnd root s t old new None last all spent files finding count end
       → CyclesTo root s t old new all (cycle_cursor count spent files (cycle_state end last)) finding end
-  cycles_to last count spent files finding end k = record { last = last; cycle = cycle_ends root s t old new last all spent files finding count end k; cursor_is = refl }
+  cycles_to last count spent files finding end some k = record { last = last; cycle = cycle_ends root s t old new last all spent files finding count end some k; cursor_is = refl }
 
 place_there : (last : Option Place) → place_in (state_at last) ≡ last
 place_there None = refl
@@ -117,15 +117,15 @@ module _ (root : StorageRoot) (s t : Store) (old mid : Option (List ℕ)) (limit
   goes_out e =
       let k = g.goes.go t mid g.last 0 0 false 0 cycle.Spent (subst (λ ls. Parts root t t mid mid g.last g.last ls 0 0 false 0 false) (sym e) (parts_none root t mid g.last g.goes.over g.goes.some)) in
       subst (λ x. CyclesTo root s t old mid all x finding cycle.Spent) (sym g.cursor_is)
-      (cycles_to root s t old mid all g.last c.runs c.spent c.files finding cycle.Spent
+      (cycles_to root s t old mid all g.last c.runs c.spent c.files finding cycle.Spent (inl refl)
       (figures root s t old mid g.last all cycle.Spent _ _ _ _ _ _ _ _ (none_more c.spent) (none_more c.files) (or_none finding) (none_more c.runs) k))
 
   -- there was no memory for the cursor's text
-  pub goes_unbegun : CyclesTo root s t old mid all c finding (cycle.Stopped Memory)
-  goes_unbegun =
+  pub goes_unbegun : 1 ≤ c.runs → CyclesTo root s t old mid all c finding (cycle.Stopped Memory)
+  goes_unbegun some =
       let k = g.goes.go t mid g.last 0 0 false 0 (cycle.Stopped Memory) (parts_unbegun root t mid g.last limits g.goes.over) in
       subst (λ x. CyclesTo root s t old mid all x finding (cycle.Stopped Memory)) (sym g.cursor_is)
-      (cycles_to root s t old mid all g.last c.runs c.spent c.files finding (cycle.Stopped Memory)
+      (cycles_to root s t old mid all g.last c.runs c.spent c.files finding (cycle.Stopped Memory) (inr some)
       (figures root s t old mid g.last all (cycle.Stopped Memory) _ _ _ _ _ _ _ _ (none_more c.spent) (none_more c.files) (or_none finding) (none_more c.runs) k))
 
   -- one more run
@@ -159,7 +159,7 @@ module _ (root : StorageRoot) (s t : Store) (old mid : Option (List ℕ)) (limit
         subst (λ v. CyclesTo root s u old new all reached v last_end) (sym is_either)
         (subst (λ x. CyclesTo root s u old new all x (finding || more) last_end)
         (ap (cycle_cursor (c.runs + 1) (c.spent + cost) (c.files + opened)) f ∙ sym (reached_is ∙ ap (λ y. cycle_cursor (c.runs + 1) (c.spent + cost) (c.files + opened) (state_after y ran.last)) e))
-        (cycles_to root s u old new all ran.last (c.runs + 1) (c.spent + cost) (c.files + opened) (finding || more) last_end k))
+        (cycles_to root s u old new all ran.last (c.runs + 1) (c.spent + cost) (c.files + opened) (finding || more) last_end (inr (omega arith)) k))
 
     pub turn_ended : end ≡ run.Ended → CyclesTo root s u old new all reached either cycle.Ended
     turn_ended e =

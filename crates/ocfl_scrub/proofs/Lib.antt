@@ -24,3 +24,7 @@ pub mod PayLaws
 pub mod RunTurns
 pub mod RunLaws
 pub mod PerformLaws
+pub mod NoteLaws
+pub mod FileLaws
+pub mod HeadlineLaws
+pub mod OverrunLaws

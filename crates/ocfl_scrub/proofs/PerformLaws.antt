@@ -8,8 +8,8 @@ use Rattle.ocfl_tree.specs.Store.{Store}
 use Rattle.ocfl_audit.specs.Runs.{Limits}
 use Rattle.ocfl_cursor.specs.Cursor.{Cursor}
 use Rattle.ocfl_cursor.specs.Moves.{after_run}
-use Rattle.ocfl_line.specs.declared.deed.Deed.{Deed}
-use Rattle.ocfl_line.specs.declared.deed.Deed.TheVariants as deed
+use Rattle.ocfl_deed.specs.declared.deed.Deed.{Deed}
+use Rattle.ocfl_deed.specs.declared.deed.Deed.TheVariants as deed
 use Rattle.ocfl_scrub.specs.Noting.{IsRefused, IsStoredNote}
 use Rattle.ocfl_scrub.specs.Performing.{BeginsWith, HandedBack, IsNoPath, RefusesPath, RunPerformed}
 use Rattle.ocfl_scrub.specs.Running.{IsPaid, IsWorn, RunsCleanly, RunsFrom, begun, state_after}

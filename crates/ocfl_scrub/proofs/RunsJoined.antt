@@ -1,6 +1,6 @@
 -- Some runs one after the other, by their places: a run, and then those that follow.
-use Rattle.std.proofs.Common.{◌≡◌, ◌≢◌, inl, inr, ℕ, zero, suc, ◌+◌, ◌<◌, ◌≤◌, List, [], ◌∷◌, ◌++◌, refl, sym, ◌∙◌, ap, subst, true, false, Bool, Some, None, Option, append-nil, append_assoc, length, length-append, take, drop, arith}
-use Rattle.std.specs.Prelude.{◌||◌}
+use Rattle.std.proofs.Common.{◌≡◌, inl, inr, ℕ, zero, suc, ◌+◌, ◌-◌, ◌<◌, ◌≤◌, List, [], ◌∷◌, ◌++◌, refl, sym, ◌∙◌, ap, subst, true, false, Bool, Some, None, Option, append-nil, append_assoc, length, length-append, take, drop, arith}
+use Rattle.std.specs.Prelude.{◌||◌, cond, filter}
 use Rattle.std.proofs.lemmas.List.{take-append-drop}
 use Rattle.std.specs.Io.KnownBytes.{Appends}
 use Rattle.std.proofs.KnownBytes.{Appends-nil, Appends-trans}
@@ -13,7 +13,7 @@ use Rattle.ocfl_report.specs.Line.{Item, found}
 use Rattle.ocfl_report.specs.Text.{text}
 use Rattle.ocfl_audit.specs.Audit.{total_cost}
 use Rattle.ocfl_audit.specs.Lines.{is_empty, is_hashed}
-use Rattle.ocfl_audit.specs.Trail.{content_trail}
+use Rattle.ocfl_audit.specs.Trail.{content_trail, reads_inventory}
 use Rattle.ocfl_audit.specs.Zone.{Zone, skipped, hierarchy, inside, zone}
 use Rattle.ocfl_audit.specs.Due.{due, items_at, hashed_among}
 use Rattle.ocfl_audit.specs.Between.{read_between}
@@ -23,7 +23,7 @@ use Rattle.ocfl_item.specs.Looking.{IsFront}
 use Rattle.ocfl_item.specs.Auditing.{Fails}
 use Rattle.ocfl_walk.specs.WalkCalls.{holder, holder_of}
 use Rattle.ocfl_item.specs.declared.fault.Fault.{Fault}
-use Rattle.ocfl_item.specs.declared.fault.Fault.TheVariants.{Memory, Output, Store as AtStore}
+use Rattle.ocfl_item.specs.declared.fault.Fault.TheVariants.{Memory, Store as AtStore}
 use Rattle.ocfl_scrub.specs.Taking.{PartOf}
 use Rattle.ocfl_scrub.specs.Written.{places, last_of, Figures}
 use Rattle.ocfl_scrub.specs.Running.{items_above, rest as rest_of, RunStops}
@@ -34,7 +34,7 @@ use Rattle.ocfl_scrub.proofs.AuditsJoined.{items_before, items_behind, items_app
 use Rattle.ocfl_item.proofs.AuditingLaws.{audits_fail, audits_nothing, audits_on}
 use Rattle.ocfl_scrub.proofs.PassLaws.{text_append, found_append, due_ascends, no_items, take_nothing}
 use Rattle.ocfl_scrub.proofs.TakeLaws.{nothing_of, memory_other}
-use Rattle.ocfl_scrub.proofs.AuditLaws.{places_of_items, nothing_front}
+use Rattle.ocfl_scrub.proofs.AuditLaws.{places_of_items}
 use Rattle.ocfl_scrub.proofs.CutLaws.{IsStop, cost_append, files_append, cut_of_paid, left_of_paid, cut_and_left}
 use Rattle.ocfl_scrub.proofs.PartLaws.{stop_alike, stop_hashed}
 use Rattle.ocfl_scrub.proofs.NextLaws.{read_parts}
@@ -67,7 +67,8 @@ pub record PartsStop (root : StorageRoot) (s t : Store) (old new : Option (List 
   pub fails : Fails root s t (done ++ begun) listed heads trail why
   pub due_are : due root from ≡ (done ++ begun) ++ rest
   pub last_is : last ≡ last_of from done
-  pub runs_begin : joined (runs (items_at root trail (due root from)) limits) ≡ items_at root trail done ++ others
+  pub runs_begin : joined (take count (runs (items_at root trail (due root from)) limits)) ≡ items_at root trail done ++ others
+  pub runs_before : IsFront (joined (take (count - 1) (runs (items_at root trail (due root from)) limits))) (items_at root trail done)
   pub one : IsFront begun (places (take 1 others))
   pub part : Text
   pub wrote : Appends old new (text (items_at root trail done) ++ part)
@@ -95,20 +96,28 @@ some_items : (root : StorageRoot) (os : List Opening) (p : Place) (ps : List Pla
 unfolding items_at
 some_items root os p ps = refl
 
--- the first of some, where others follow
-first_more : (x : Item) (xs ys : List Item) → take 1 (x ∷ xs) ≡ take 1 (x ∷ xs ++ ys)
-first_more x xs ys = ap (λ is. x ∷ is) (take_nothing xs ∙ sym (take_nothing (xs ++ ys)))
+-- none of some lists
+joined_none : (xs : List (List Item)) → joined (take 0 xs) ≡ []
+joined_none xs = ap joined (take_nothing xs)
 
-one_more : (begun : List Place) (xs ys : List Item) → IsFront begun (places (take 1 xs)) → IsFront begun (places (take 1 (xs ++ ys)))
-one_more begun [] ys f = subst (λ ps. IsFront ps (places (take 1 ys))) (sym (nothing_front begun f)) (places (take 1 ys), refl)
-one_more begun (x ∷ xs) ys f = subst (λ is. IsFront begun (places is)) (first_more x xs ys) f
+front_none : (xs : List (List Item)) (whole : List Item) → IsFront (joined (take 0 xs)) whole
+front_none xs whole = (whole, sym (ap (λ is. is ++ whole) (joined_none xs)))
 
-part_more : (why : Fault) (part : Text) (xs ys : List Item) → PartOf why (text (take 1 xs)) part → PartOf why (text (take 1 (xs ++ ys))) part
-part_more why part (x ∷ xs) ys h = subst (λ is. PartOf why (text is) part) (first_more x xs ys) h
-part_more why part [] ys h =
-    let other : why ≢ Output = λ e. let l = h.proper e in absurd (omega (arith, l)) in
-    let none : part ≡ [] = h.is ∙ ap (λ n. take n []) (h.none other) in
-    subst (PartOf why (text (take 1 ys))) (sym none) (nothing_of why other (text (take 1 ys)))
+-- the first of them, and so many more
+joined_one : (x : List Item) (xs : List (List Item)) → joined (take 1 (x ∷ xs)) ≡ x
+joined_one x xs = ap (λ is. x ++ is) (joined_none xs) ∙ append-nil x
+
+joined_more : (n : ℕ) (x : List Item) (xs : List (List Item)) → joined (take (1 + n) (x ∷ xs)) ≡ x ++ joined (take n xs)
+joined_more n x xs = ap (λ m. joined (take m (x ∷ xs))) (let e : 1 + n ≡ suc n = omega arith in e)
+
+front_more : (n : ℕ) (x : List Item) (xs : List (List Item)) (whole : List Item) → IsFront (joined (take (n - 1) xs)) whole → IsFront (joined (take (1 + n - 1) (x ∷ xs))) (x ++ whole)
+front_more zero x xs whole h = front_none (x ∷ xs) (x ++ whole)
+front_more (suc n) x xs whole h =
+    let e : suc n - 1 ≡ n = omega arith in
+    let f : 1 + suc n - 1 ≡ suc n = omega arith in
+    let front : List Item = joined (take n xs) in
+    let g : IsFront front whole = subst (λ m. IsFront (joined (take m xs)) whole) e h in
+    subst (λ m. IsFront (joined (take m (x ∷ xs))) (x ++ whole)) (sym f) (g.0, ap (λ is. x ++ is) g.1 ∙ sym (append_assoc x front g.0))
 
 -- what the items of two parts cost and say together
 figures_then : {xs ys both : List Item} {a b a' b' : ℕ} {v v' : Bool} → both ≡ xs ++ ys → Figures xs a b v → Figures ys a' b' v' → Figures both (a + a') (b + b') (v || v')
@@ -158,23 +167,24 @@ pub parts_unbegun : (root : StorageRoot) (s : Store) (old : Option (List ℕ)) (
 unfolding items_at
 parts_unbegun root s old last limits over =
     let none = audits_nothing root s over in
-    let others : List Item = joined (runs (items_at root [] (due root last)) limits) in
+    let all : List (List Item) = runs (items_at root [] (due root last)) limits in
     record {
       done = [];
       begun = [];
       rest = due root last;
       trail = [];
-      others = others;
+      others = [];
       listed = [];
       heads = [];
       fails = record { over = over; did = none.did; opened = none.opened; heads_are = refl; store = λ q e. absurd (not_of_store q e) };
       due_are = refl;
       last_is = refl;
-      runs_begin = refl;
-      one = (places (take 1 others), refl);
+      runs_begin = joined_none all;
+      runs_before = front_none all [];
+      one = ([], refl);
       part = [];
       wrote = Appends-nil old;
-      part_of = nothing_of Memory memory_other (text (take 1 others));
+      part_of = nothing_of Memory memory_other [];
       count_fits = omega arith;
       figures = record { spent_is = refl; files_is = refl; found_is = refl };
       read = record { none = λ e. refl; some = λ e. absurd (omega (arith, e)) };
@@ -209,7 +219,7 @@ module _ (root : StorageRoot) (s t : Store) (old mid : Option (List ℕ)) (from 
       let w = h.stops in
       let above : List Item = items_above root h.trail from in
       let left_items : List Item = rest_of root h.trail from l in
-      let later : List Item = joined (runs_after ls (left (items_at root h.trail (due root from)) l)) in
+      let later : List (List Item) = runs_after ls (left (items_at root h.trail (due root from)) l) in
       let split : above ≡ w.whole ++ (w.others ++ left_items) =
       sym (cut_and_left above l) ∙ ap (λ is. is ++ left_items) w.items_are ∙ append_assoc w.whole w.others left_items in
       let done : List Place = places w.whole in
@@ -226,17 +236,18 @@ module _ (root : StorageRoot) (s t : Store) (old mid : Option (List ℕ)) (from 
         begun = w.begun;
         rest = behind;
         trail = h.trail;
-        others = w.others ++ later;
+        others = w.others;
         listed = h.down ++ h.listed;
         heads = h.held ++ h.heads;
         fails = h.fails;
         due_are = due_parts root h.trail from w.whole (w.others ++ left_items) split ∙ ap (λ ps. done ++ ps) next_begun ∙ sym (append_assoc done w.begun behind);
         last_is = w.last_is;
-        runs_begin = ap (λ is. is ++ later) (ap (λ is. cut is l) (sym (after_is_due root h.trail from)) ∙ w.items_are ∙ ap (λ is. is ++ w.others) done_is) ∙ append_assoc (items_at root h.trail done) w.others later;
-        one = one_more w.begun w.others later w.one;
+        runs_begin = joined_one _ later ∙ ap (λ is. cut is l) (sym (after_is_due root h.trail from)) ∙ w.items_are ∙ ap (λ is. is ++ w.others) done_is;
+        runs_before = front_none (cut (items_at root h.trail (due root from)) l ∷ later) (items_at root h.trail done);
+        one = w.one;
         part = w.part;
         wrote = subst (λ is. Appends old mid (text is ++ w.part)) done_is w.wrote;
-        part_of = part_more why w.part w.others later w.part_of;
+        part_of = w.part_of;
         count_fits = omega arith;
         figures = subst (λ is. Figures is spent files finding) done_is h.figures;
         read = record {
@@ -255,10 +266,14 @@ holder_one : (root : StorageRoot) (last : Option Place) → length (holder root 
 holder_one root None = omega arith
 holder_one root (Some p) = by (zone root p)
   where
-    by : (z : Zone) → length (holder_of z) ≤ 1
+    one : (o : Place) (b : Bool) → length (cond b (o ∷ []) []) ≤ 1
+    one o true = omega arith
+    one o false = omega arith
+
+    by : (z : Zone) → length (filter (reads_inventory root) (holder_of z)) ≤ 1
     by skipped = omega arith
     by hierarchy = omega arith
-    by (inside o q) = omega arith
+    by (inside o q) = one o (reads_inventory root o)
 
 first_some : (next : Place) (ps : List Place) → Some next ≡ first_place ps → (behind : List Place) × (ps ≡ next ∷ behind)
 first_some next [] e = absurd cc
@@ -363,6 +378,7 @@ module _ (root : StorageRoot) (s t : Store) (old mid : Option (List ℕ)) (from 
         let behind : items_at root (h.took.trail ++ k.trail) k.done ≡ second = items_behind root h.took.trail k.trail h.took.done k.done up h.took.audits.opened in
         let same : items_at root (h.took.trail ++ k.trail) (h.took.done ++ k.done) ≡ first ++ second =
         items_append root (h.took.trail ++ k.trail) h.took.done k.done ∙ ap (λ is. is ++ items_at root (h.took.trail ++ k.trail) k.done) before ∙ ap (λ is. first ++ is) behind in
+        let later : List (List Item) = runs (items_at root k.trail (due root mid_last)) ls in
         let are = runs_then k.trail (k.done ++ k.begun) k.rest k.fails.opened k.due_are in
         let texts : text first ++ (text second ++ k.part) ≡ text (items_at root (h.took.trail ++ k.trail) (h.took.done ++ k.done)) ++ k.part =
         sym (append_assoc (text first) (text second) k.part) ∙ ap (λ xs. xs ++ k.part) (sym (text_append first second) ∙ ap text (sym same)) in
@@ -378,7 +394,9 @@ module _ (root : StorageRoot) (s t : Store) (old mid : Option (List ℕ)) (from 
               (audits_fail root s t u h.took.done (k.done ++ k.begun) h.took.listed k.listed h.took.heads k.heads h.took.trail k.trail why h.took.audits k.fails);
           due_are = due_are ∙ ap (λ qs. qs ++ k.rest) (sym both);
           last_is = k.last_is ∙ ap (λ x. last_of x k.done) h.took.last_is ∙ last_then from h.took.done k.done;
-          runs_begin = ap joined are ∙ ap (λ is. first ++ is) k.runs_begin ∙ sym (append_assoc first second k.others) ∙ ap (λ is. is ++ k.others) (sym same);
+          runs_begin = ap (λ xs. joined (take (1 + count) xs)) are ∙ joined_more count first later ∙ ap (λ is. first ++ is) k.runs_begin ∙ sym (append_assoc first second k.others) ∙ ap (λ is. is ++ k.others) (sym same);
+          runs_before = subst (IsFront (joined (take (1 + count - 1) (runs (items_at root (h.took.trail ++ k.trail) (due root from)) (l ∷ ls))))) (sym same)
+              (subst (λ xs. IsFront (joined (take (1 + count - 1) xs)) (first ++ second)) (sym are) (front_more count first later second k.runs_before));
           one = k.one;
           part = k.part;
           wrote = subst (Appends old new) texts (Appends-trans old mid new _ _ h.took.wrote k.wrote);

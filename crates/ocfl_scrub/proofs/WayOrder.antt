@@ -1,5 +1,5 @@
 -- What lies on the way to a place comes before all that lies above it.
-use Rattle.std.proofs.Common.{◌≡◌, ◌⊎◌, inl, inr, List, [], ◌∷◌, ◌++◌, refl, sym, ◌∙◌, ap, subst, Option, Some, None, map}
+use Rattle.std.proofs.Common.{◌≡◌, ◌⊎◌, inl, inr, List, [], ◌∷◌, ◌++◌, refl, sym, ◌∙◌, ap, subst, Bool, true, false, cond, Option, Some, None, map, filter}
 use Rattle.ocfl_tree.specs.Place.{Text, Place, place_cmp, beginnings}
 use Rattle.ocfl_tree.specs.Ascending.{IsAscending, IsAmong, IsBeforeAll}
 use Rattle.std.specs.declared.cmp.Ordering.TheVariants.{Less}
@@ -7,6 +7,7 @@ use Rattle.ocfl_tree.specs.StorageRoot.{StorageRoot}
 use Rattle.ocfl_tree.proofs.Orders.{place_cmp_total}
 use Rattle.ocfl_audit.specs.Zone.{Zone, skipped, hierarchy, inside, zone}
 use Rattle.ocfl_audit.specs.Between.{IsBeyond, looked_between, read_between}
+use Rattle.ocfl_audit.specs.Trail.{reads_inventory}
 use Rattle.ocfl_audit.proofs.AuditExists.{zone_is}
 use Rattle.ocfl_audit.proofs.BelowLaws.{cmp_behind, above_self, from_append, ascends_append}
 use Rattle.ocfl_audit.proofs.BetweenLaws.{from_between}
@@ -66,19 +67,27 @@ object_up_to root p o q e = by q (zone_is root p o q e).whole
     by [] f = inl (sym (f ∙ nothing_more o))
     by (n ∷ q) f = inr (subst (λ x. place_cmp o x ≡ Less) (sym f) (above_self o n q))
 
-holder_ascends : (root : StorageRoot) (p : Place) (z : Zone) → IsAscending place_cmp (holder_of z)
-holder_ascends root p skipped = tt
-holder_ascends root p hierarchy = tt
-holder_ascends root p (inside o q) = (tt, tt)
+holder_ascends : (root : StorageRoot) (z : Zone) → IsAscending place_cmp (filter (reads_inventory root) (holder_of z))
+holder_ascends root skipped = tt
+holder_ascends root hierarchy = tt
+holder_ascends root (inside o q) = by (reads_inventory root o)
+  where
+    by : (b : Bool) → IsAscending place_cmp (cond b (o ∷ []) [])
+    by true = (tt, tt)
+    by false = tt
 
-holder_up_to : (root : StorageRoot) (p x : Place) → IsAmong (holder_of (zone root p)) x → IsUpTo p x
+holder_up_to : (root : StorageRoot) (p x : Place) → IsAmong (holder root (Some p)) x → IsUpTo p x
 holder_up_to root p x i = by (zone root p) refl i
   where
-    by : (z : Zone) → zone root p ≡ z → IsAmong (holder_of z) x → IsUpTo p x
+    at_object : (o q : Place) → zone root p ≡ inside o q → (b : Bool) → IsAmong (cond b (o ∷ []) []) x → IsUpTo p x
+    at_object o q e true (inl f) = subst (IsUpTo p) (sym f) (object_up_to root p o q e)
+    at_object o q e true (inr j) = absurd j
+    at_object o q e false j = absurd j
+
+    by : (z : Zone) → zone root p ≡ z → IsAmong (filter (reads_inventory root) (holder_of z)) x → IsUpTo p x
     by skipped e j = absurd j
     by hierarchy e j = absurd j
-    by (inside o q) e (inl f) = subst (IsUpTo p) (sym f) (object_up_to root p o q e)
-    by (inside o q) e (inr j) = absurd j
+    by (inside o q) e j = at_object o q e (reads_inventory root o) j
 
 -- ---- and what lies above it
 
@@ -120,5 +129,5 @@ module _ (root : StorageRoot) where
   pub read_once : (from to : Option Place) (held heads : List Place) → IsFront held (holder root from) → IsFront heads (read_between root from to) → IsAscending place_cmp (held ++ heads)
   read_once None to held heads f g = subst (λ xs. IsAscending place_cmp (xs ++ heads)) (sym (front_of_none held f)) (front_ascends _ heads g (read_ascend root None to))
   read_once (Some p) to held heads f g =
-      joined_ascends p held (holder_of (zone root p)) heads f (holder_ascends root p (zone root p)) (holder_up_to root p) (front_ascends _ heads g (read_ascend root (Some p) to))
+      joined_ascends p held (holder root (Some p)) heads f (holder_ascends root (zone root p)) (holder_up_to root p) (front_ascends _ heads g (read_ascend root (Some p) to))
       (λ y j. read_beyond root (Some p) to y (subst (λ zs. IsAmong zs y) (sym g.1) (left_among heads g.0 y j)))

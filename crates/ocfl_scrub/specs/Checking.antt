@@ -1,5 +1,5 @@
 -- What checking one place does.
-use Rattle.std.specs.Prelude.{◌≡◌, ◌≢◌, ℕ, List, [], ◌∷◌, Bool, not, Option, AllPairs}
+use Rattle.std.specs.Prelude.{◌≡◌, ◌≢◌, ℕ, List, [], ◌∷◌, Bool, not, Option, Some, AllPairs}
 use Rattle.std.specs.Io.KnownBytes.{Appends}
 use Rattle.ocfl_tree.specs.Place.{Text, Place}
 use Rattle.ocfl_tree.specs.StorageRoot.{StorageRoot}
@@ -7,13 +7,12 @@ use Rattle.ocfl_tree.specs.Store.{Store}
 use Rattle.ocfl_tree.specs.declared.store.Opening.{Opening}
 use Rattle.ocfl_report.specs.Line.{Item, found}
 use Rattle.ocfl_report.specs.Text.{text}
-use Rattle.ocfl_audit.specs.Zone.{zone}
 use Rattle.ocfl_audit.specs.Lines.{is_empty}
 use Rattle.ocfl_audit.specs.Trail.{unread_of}
 use Rattle.ocfl_audit.specs.Walk.{item_at}
 use Rattle.ocfl_item.specs.Looking.{way_to, IsFront}
 use Rattle.ocfl_item.specs.Auditing.{Audits, Fails}
-use Rattle.ocfl_walk.specs.WalkCalls.{holder_of}
+use Rattle.ocfl_walk.specs.WalkCalls.{holder}
 use Rattle.ocfl_item.specs.declared.fault.Fault.{Fault}
 use Rattle.ocfl_scrub.specs.Taking.{PartOf}
 use Rattle.ocfl_scrub.specs.declared.checking.End.{End}
@@ -27,10 +26,10 @@ checked_item root trail p = item_at root (unread_of root trail) p
 abbrev pub AreOnce : List Opening → Type 0
 AreOnce trail = AllPairs (λ a b. a.place ≢ b.place) trail
 
--- only directories on the way to a place were listed, at most the inventory of its object was read, and no file was opened twice
+-- only directories on the way to a place were listed, at most the inventory of its object was read, where its head reaches it, and no file was opened twice
 pub record IsJustFor (root : StorageRoot) (p : Place) (listed heads : List Place) (trail : List Opening) : Type 0 where
   pub listed_front : IsFront listed (way_to p)
-  pub heads_front : IsFront heads (holder_of (zone root p))
+  pub heads_front : IsFront heads (holder root (Some p))
   pub once : AreOnce trail
 
 -- from s to t the place was checked: its lines were written, its file was opened if it is hashed and no other content, only directories on the way to it were listed, each once, and at most the inventory of its object was read

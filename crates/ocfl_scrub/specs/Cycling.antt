@@ -1,5 +1,5 @@
 -- What a cycle does: runs from the first item on, one for each of some limits, until no item is left.
-use Rattle.std.specs.Prelude.{◌≡◌, ◌<◌, ◌≤◌, ◌+◌, ◌/◌, ◌↔◌, ℕ, List, [], ◌++◌, Bool, true, false, Option, None, All, map, take, length, ⊤}
+use Rattle.std.specs.Prelude.{◌≡◌, ◌<◌, ◌≤◌, ◌+◌, ◌-◌, ◌/◌, ◌↔◌, ℕ, List, [], ◌++◌, Bool, true, false, Option, None, All, map, take, length, ⊤}
 use Rattle.std.specs.Io.KnownBytes.{Appends}
 use Rattle.ocfl_tree.specs.Place.{Place}
 use Rattle.ocfl_tree.specs.StorageRoot.{StorageRoot}
@@ -12,6 +12,7 @@ use Rattle.ocfl_audit.specs.Due.{item_places, hashed_among}
 use Rattle.ocfl_audit.specs.Trail.{unread_of, content_trail, inventories}
 use Rattle.ocfl_audit.specs.Runs.{Limits, total_files, runs, joined, IsAtLeast, FilesFit, sum_of}
 use Rattle.ocfl_cursor.specs.Cursor.{State, ended, Cursor}
+use Rattle.ocfl_item.specs.Looking.{IsFront}
 use Rattle.ocfl_item.specs.Auditing.{Audits, Fails}
 use Rattle.ocfl_item.specs.declared.fault.Fault.{Fault}
 use Rattle.ocfl_scrub.specs.Written.{places, last_of, Figures, StopsWithin}
@@ -50,16 +51,22 @@ pub record Cycles (root : StorageRoot) (s t : Store) (old new : Option (List ℕ
   pub suffice : (b n : ℕ) → 1 ≤ b → 1 ≤ n → All (IsAtLeast b n) limits → enough (audit_of root trail) b n ≤ length limits → whole ≡ true
   pub by_sum : (k : ℕ) → 1 ≤ k → k ≤ length limits → FilesFit (audit_of root trail) limits → total_cost (audit_of root trail) ≤ sum_of (take k (map (λ l. l.budget) limits)) → (whole ≡ true) × (count ≤ k)
 
--- from s to t a cycle stopped: the first items that its runs take went out whole, and of the next at most a proper beginning
+-- what so many of the first runs take together
+abbrev pub first_taken : StorageRoot → List Opening → List Limits → ℕ → List Item
+first_taken root trail limits count = joined (take count (all_runs root trail limits))
+
+-- from s to t a cycle stopped, in its last run or before a further one began: the first items that its runs take went out whole, and of the next at most a proper beginning. Those of the runs before the last are among them, also where the last took none
 pub record CycleStops (root : StorageRoot) (s t : Store) (old new : Option (List ℕ)) (last : Option Place) (limits : List Limits) (spent files : ℕ) (finding : Bool) (count : ℕ) (why : Fault) : Type 0 where
   pub trail : List Opening
-  pub stops : StopsWithin (all_taken root trail limits) old new None last why
+  pub some : 1 ≤ count
+  pub count_fits : count ≤ length (all_runs root trail limits)
+  pub stops : StopsWithin (first_taken root trail limits count) old new None last why
+  pub runs_before : IsFront (first_taken root trail limits (count - 1)) stops.whole
   pub figures : Figures stops.whole spent files finding
   pub listed : List Place
   pub heads : List Place
   pub fails : Fails root s t (places stops.whole ++ stops.begun) listed heads trail why
-  pub inventories_read : 1 ≤ count → length heads < length (inventories root) + count
-  pub count_fits : count ≤ length (all_runs root trail limits)
+  pub inventories_read : length heads < length (inventories root) + count
 
 abbrev pub CycleEnds : StorageRoot → Store → Store → Option (List ℕ) → Option (List ℕ) → Option Place → List Limits → ℕ → ℕ → Bool → ℕ → CycleStatus → Type 0
 CycleEnds root s t old new last limits spent files finding count status.Ended = Cycles root s t old new last limits spent files finding count true

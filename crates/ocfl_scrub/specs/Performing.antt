@@ -18,8 +18,8 @@ use Rattle.ocfl_cursor.specs.Stop.{StopsRightly}
 use Rattle.ocfl_cursor.specs.declared.limits.Limits.{Limits as MadeLimits}
 use Rattle.ocfl_cursor.specs.declared.reading.CursorStop.{CursorStop}
 use Rattle.ocfl_cursor.specs.declared.reading.CursorStop.TheVariants as stop
-use Rattle.ocfl_line.specs.declared.deed.Deed.{Deed}
-use Rattle.ocfl_line.specs.declared.deed.Deed.TheVariants as deed
+use Rattle.ocfl_deed.specs.declared.deed.Deed.{Deed}
+use Rattle.ocfl_deed.specs.declared.deed.Deed.TheVariants as deed
 use Rattle.ocfl_scrub.specs.Noting.{status_of, IsAuditSaid, IsCheckSaid, IsRunSaid, IsCycleSaid, IsFileSaid, IsShowSaid, IsRefused, IsRunNote, IsUnreadNote, WritesWithStatus, AuditsWithNote, ChecksWithNote, RunsWithNote, CyclesWithNote}
 use Rattle.ocfl_scrub.specs.Running.{IsPaid, IsWorn, begun, limits_of, state_after}
 use Rattle.ocfl_scrub.specs.declared.running.RunEnd.{RunEnd}
@@ -112,6 +112,11 @@ IsWithoutFile known deed n = ⊤
 -- the path of no place
 abbrev pub IsNoPath : Text → Type 0
 IsNoPath path = (p : Place) → IsPlace p → path ≢ place_text p
+
+-- the path that is to be checked names no place
+abbrev pub HasBadPath : Deed → Type 0
+HasBadPath (deed.Check path) = IsNoPath (string_bytes path)
+HasBadPath d = ⊥
 
 -- a path is refused exactly where it is that of no place, unless there was no memory to read it
 abbrev pub RefusesPath : Deed → ℕ → Note → Type 0

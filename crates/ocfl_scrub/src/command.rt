@@ -1,3 +1,4 @@
+//! The commands `check` and `audit`: status and note.
 ghost use Rattle.std.specs.Prelude.{◌≡◌, ◌≢◌, ◌⊎◌, [], false, true, IsTrue};
 ghost use Rattle.std.specs.Io.KnownBytes.{Appends};
 ghost use Rattle.ocfl_tree.specs.Place.{Place as ModelPlace};
@@ -54,7 +55,7 @@ pub fn checked<T: Tree, W: Write>(
         × (out.new ≡ out.old)) }
 {
     match read_place(alloc, path.as_bytes()) {
-        Ok(place) => noted(check(alloc, store, &place, block, out)),
+        Ok(place) => describe_check(check(alloc, store, &place, block, out)),
         Err(PlaceStop::Bad) => (2, Note::BadPath),
         Err(PlaceStop::Memory) => (3, Note::OutOfMemory),
     }
@@ -87,10 +88,10 @@ pub fn audited<T: Tree, W: Write>(
         → Appends (W.contents out.old) (W.contents out.new) (text (whole_audit root []))
         × (result.0 ≡ status_of (found_in (whole_audit root []))) }
 {
-    audit_noted(audit(alloc, store, block, out))
+    describe_audit(audit(alloc, store, block, out))
 }
 
-fn noted(end: CheckEnd) -> (u8, Note)
+fn describe_check(end: CheckEnd) -> (u8, Note)
     requires whole { end.end ≢ End.Stopped Fault.Broken }
     requires stopped { end.end ≢ End.Ended → end.item ≡ false }
     requires no_item { end.item ≡ false → end.found ≡ false }
@@ -110,7 +111,7 @@ fn noted(end: CheckEnd) -> (u8, Note)
     }
 }
 
-fn audit_noted(end: AuditEnd) -> (u8, Note)
+fn describe_audit(end: AuditEnd) -> (u8, Note)
     requires whole { end.end ≢ End.Stopped Fault.Broken }
     ensures note { IsAuditNote end.found end.end result.0 result.1 }
     ensures status { IsStatus result.0 result.1 }

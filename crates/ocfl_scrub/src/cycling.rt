@@ -1,5 +1,6 @@
 //! A cycle of runs from the first item, each with limits of its own.
-ghost use Rattle.std.specs.Prelude.{◌≡◌, ◌≢◌, ◌↔◌, ◌≤◌, [], false, map, length, IfOk, IsTrue};
+ghost use Rattle.std.specs.Prelude.{◌≡◌, ◌≢◌, ◌↔◌, ◌≤◌, [], false, map, length, IfErr, IfOk};
+ghost use Rattle.std.specs.Prelude.{IsTrue};
 ghost use Rattle.ocfl_tree.specs.StorageRoot.{StorageRoot};
 ghost use Rattle.ocfl_item.specs.Judging.{HasShortFiles};
 ghost use Rattle.ocfl_cursor.specs.Cursor.{ended, new_cursor};
@@ -48,8 +49,8 @@ pub struct CycleEnd {
 ///
 /// Each run takes the items behind those of the run before, and what they write, joined, begins the
 /// report of the whole audit; it is all of that where the cycle has ended. Without limits there is
-/// no run. Running out of memory for a cursor's text is `Stopped(Fault::Memory)`, with the cursor
-/// of the last run.
+/// no run. A run that stopped is counted, also where it took nothing. Running out of memory for a
+/// cursor's text is `Stopped(Fault::Memory)`, with the cursor of the last run.
 pub fn cycle<T: Tree, W: Write>(
     alloc: Global,
     store: &mut T,
@@ -63,6 +64,7 @@ pub fn cycle<T: Tree, W: Write>(
         (result.cursor ≡ new_cursor) × (result.end ≡ CycleStatus.Spent) × (result.found ≡ false)
         × (store.new ≡ store.old) × (out.new ≡ out.old) }
     ensures counted { result.runs ≤ length limits.now }
+    ensures made { 1 ≤ length limits.now → 1 ≤ result.runs }
     ensures first { result.cursor.cycle ≡ 1 }
     ensures runs { result.runs ≡ result.cursor.runs }
     ensures spent { result.spent ≡ result.cursor.spent }
@@ -113,7 +115,8 @@ pub fn cycle<T: Tree, W: Write>(
 /// cursor, as it is read from its text.
 fn handed_on(alloc: Global, cursor: &Cursor, runs: usize) -> Result<Cursor, Refused>
     requires first { runs ≡ 0 → cursor.now ≡ new_cursor }
-    ensures { IfOk result (λ begun. begun ≡ cursor.now) }
+    ensures same { IfOk result (λ begun. begun ≡ cursor.now) }
+    ensures further { IfErr result (λ why. 1 ≤ runs) }
 {
     if runs == 0 {
         return Ok(Cursor::new());

@@ -1,11 +1,47 @@
-//! What an audit opens and lists: each file and each directory once, in order.
-ghost use Rattle.std.specs.Prelude.{◌≡◌, ◌↔◌, true, Option};
+//! What an audit opens and lists, what a run spends, and what a command ends with.
+ghost use Rattle.std.specs.Prelude.{◌≡◌, ◌≢◌, ◌↔◌, ◌⊎◌, ◌<◌, ◌≤◌, ◌+◌, ◌++◌, ◌∷◌, ℕ, List, Bool};
+ghost use Rattle.std.specs.Prelude.{true, Option, None, Some, Vec, if◌then◌else◌, length, take};
+ghost use Rattle.std.specs.Prelude.{All, ◌/◌, []};
+ghost use Rattle.std.specs.declared.alloc.Global.{Global};
 ghost use Rattle.ocfl_tree.specs.Place.{Place, place_cmp};
 ghost use Rattle.ocfl_tree.specs.Ascending.{IsAmong, IsAscending};
 ghost use Rattle.ocfl_tree.specs.StorageRoot.{StorageRoot};
+ghost use Rattle.ocfl_tree.specs.Store.{Store};
+ghost use Rattle.ocfl_tree.specs.declared.store.Opening.{Opening};
+ghost use Rattle.ocfl_report.specs.Line.{Item};
+ghost use Rattle.ocfl_report.specs.Text.{text};
+ghost use Rattle.ocfl_audit.specs.Audit.{audit, total_cost};
+ghost use Rattle.ocfl_audit.specs.Runs.{IsAtLeast, Limits, joined, runs, total_files};
+ghost use Rattle.ocfl_audit.specs.Trail.{content_trail};
 ghost use Rattle.ocfl_audit.specs.Between.{looked_between, read_between};
 ghost use Rattle.ocfl_audit.specs.Due.{hashed_among, item_places};
 ghost use Rattle.ocfl_audit.specs.Lines.{is_hashed};
+ghost use Rattle.ocfl_cursor.specs.Cursor.{Cursor, new_cursor, cursor_lines, cursor_text};
+ghost use Rattle.ocfl_cursor.specs.Moves.{after_run};
+ghost use Rattle.ocfl_cursor.specs.Refusal.{IsTextOf, refusal};
+ghost use Rattle.ocfl_cursor.specs.Refused.{reason};
+ghost use Rattle.ocfl_cursor.specs.declared.limits.Limits.{Limits as MadeLimits};
+ghost use Rattle.ocfl_cursor.specs.declared.reading.CursorStop.{CursorStop};
+ghost use Rattle.ocfl_cursor.specs.declared.refused.Refused.{Refused};
+ghost use Rattle.ocfl_cursor.specs.declared.refused.Refused.TheVariants as refused;
+ghost use Rattle.ocfl_deed.specs.declared.deed.Deed.{Deed};
+ghost use Rattle.ocfl_deed.specs.declared.deed.Deed.TheVariants as deed;
+ghost use Rattle.ocfl_scrub.specs.Cycling.{HeadlineOf};
+ghost use Rattle.ocfl_scrub.specs.Noting.{IsAuditNote, IsAuditSaid, IsCheckNote, IsCheckSaid};
+ghost use Rattle.ocfl_scrub.specs.Noting.{IsCycleNote, IsCycleSaid, IsRunNote, IsRunSaid};
+ghost use Rattle.ocfl_scrub.specs.Noting.{IsShowSaid, IsStatus, IsStopSaid, IsUnreadNote};
+ghost use Rattle.ocfl_scrub.specs.Performing.{IsKept, IsKeptBy, IsSilent, IsWhole};
+ghost use Rattle.ocfl_scrub.specs.Performing.{HandsBack, IsWithoutFile, RefusesRightly, ShowsWith};
+ghost use Rattle.ocfl_scrub.specs.Running.{IsPaid, Runs, begun, limits_of, state_after, taken};
+ghost use Rattle.ocfl_scrub.specs.declared.checking.End.{End};
+ghost use Rattle.ocfl_scrub.specs.declared.cycling.CycleStatus.{CycleStatus};
+ghost use Rattle.ocfl_scrub.specs.declared.cycling.CycleStatus.TheVariants as cycle;
+ghost use Rattle.ocfl_scrub.specs.declared.note.Note.{Note};
+ghost use Rattle.ocfl_scrub.specs.declared.note.Note.TheVariants as note;
+ghost use Rattle.ocfl_scrub.specs.declared.running.RunStatus.{RunStatus};
+ghost use Rattle.ocfl_scrub.specs.declared.running.RunStatus.TheVariants as run;
+
+use ocfl_cursor::text_determines_the_cursor;
 
 /// The hashed places among the audit's are all that there are, in order, each once.
 #[tactic(auto, using(crate::proofs::OrderLaws::hashed_ascend, crate::proofs::OrderLaws::hashed_all))]
@@ -24,4 +60,178 @@ pub fn listed_and_read_ascend()
         → IsAscending place_cmp (looked_between root from to) }
     ensures read { (root : StorageRoot) (from to : Option Place)
         → IsAscending place_cmp (read_between root from to) }
+{}
+
+/// What a run spends passes its budget by less than the cost of the last file that it takes.
+pub fn overrun_is_less_than_the_last_file()
+    ensures { (root : StorageRoot) (s t : Store) (old new : Option (List ℕ))
+        (from to next : Option Place) (limits : Limits) (spent files : ℕ) (finding : Bool)
+        (run : Runs root s t old new from to limits spent files finding next)
+        (front behind : List Item) (last : Item)
+        → taken root run.trail from limits ≡ front ++ last ∷ behind → 0 < last.cost
+        → total_cost behind ≡ 0 → spent < limits.budget + last.cost }
+{}
+
+/// The status says how a command ended. With 0 and 1 all lines went out, or with 0 there are none.
+/// 2 is that of a bad path, 3 that of a stop, of a worn cursor and of its file that failed, and 4
+/// that of bytes that are refused as a cursor. There is no other.
+#[tactic(auto, using(crate::proofs::NoteLaws::without_finding, crate::proofs::NoteLaws::with_finding, crate::proofs::NoteLaws::of_no_place, crate::proofs::NoteLaws::after_failures, crate::proofs::NoteLaws::of_refused_cursors, crate::proofs::NoteLaws::no_other_status))]
+pub fn statuses_say_how_a_command_ended()
+    ensures without_finding { (n : Note) → IsStatus 0 n ↔ (IsWhole n ⊎ (n ≡ note.NoItem)) }
+    ensures with_finding { (n : Note) → IsStatus 1 n ↔ IsWhole n }
+    ensures bad_path { (n : Note) → IsStatus 2 n ↔ (n ≡ note.BadPath) }
+    ensures failed { (n : Note) → IsStatus 3 n
+        ↔ (IsStopSaid n ⊎ ((n ≡ note.CursorWorn) ⊎ (n ≡ note.CursorFileFailed))) }
+    ensures refused { (n : Note) → IsStatus 4 n
+        ↔ ((why : Refused) × ((n ≡ note.CursorRefused why) × (why ≢ refused.Memory))) }
+    ensures no_other { (status : ℕ) (n : Note) → IsStatus status n → status ≤ 4 }
+{}
+
+/// Where the status is 2 or 4, the cursor is worn or its file failed, no call is made and nothing
+/// is written. Of no other text is that said.
+#[tactic(auto, using(crate::proofs::NoteLaws::nothing_done))]
+pub fn refusals_come_before_the_first_call()
+    ensures { (status : ℕ) (n : Note) → IsStatus status n → IsSilent n ↔ ((status ≡ 2)
+        ⊎ ((status ≡ 4) ⊎ ((n ≡ note.CursorWorn) ⊎ (n ≡ note.CursorFileFailed)))) }
+{}
+
+/// A run hands a cursor back with its summary and after each stop, and none where no run was made.
+/// After memory ran out it hands one back or none. No other command hands one back.
+#[tactic(auto, using(crate::proofs::NoteLaws::cursor_kept, crate::proofs::NoteLaws::no_cursor_kept, crate::proofs::NoteLaws::of_a_run_alone))]
+pub fn a_run_that_was_made_hands_its_cursor_back()
+    ensures kept { (n : Note) (stored : Vec ℕ Global) → IsRunSaid n
+        → IsKept n (Some stored) ↔ (IsWhole n ⊎ IsStopSaid n) }
+    ensures unkept { (n : Note) → IsRunSaid n
+        → IsKept n None ↔ (IsSilent n ⊎ (n ≡ note.OutOfMemory)) }
+    ensures of_a_run { (d : Deed) (n : Note) (stored : Vec ℕ Global)
+        → IsKeptBy d n (Some stored) → (limits : MadeLimits) × (d ≡ deed.Run limits) }
+{}
+
+/// How a call ended determines its status and what is said of it.
+#[tactic(auto, using(crate::proofs::NoteLaws::check_says_one, crate::proofs::NoteLaws::audit_says_one, crate::proofs::NoteLaws::run_says_one, crate::proofs::NoteLaws::cycle_says_one, crate::proofs::NoteLaws::unread_says_one))]
+pub fn each_end_has_one_status_and_text()
+    ensures check { (a b : ℕ) (m n : Note) (item finding : Bool) (end : End)
+        → IsCheckNote item finding end a m → IsCheckNote item finding end b n
+        → (a ≡ b) × (m ≡ n) }
+    ensures audit { (a b : ℕ) (m n : Note) (finding : Bool) (end : End)
+        → IsAuditNote finding end a m → IsAuditNote finding end b n → (a ≡ b) × (m ≡ n) }
+    ensures run { (a b : ℕ) (m n : Note) (c : Cursor) (spent : ℕ) (finding : Bool)
+        (end : RunStatus) → IsRunNote c spent finding end a m → IsRunNote c spent finding end b n
+        → (a ≡ b) × (m ≡ n) }
+    ensures cycle { (a b : ℕ) (m n : Note) (runs spent : ℕ) (finding : Bool) (end : CycleStatus)
+        → IsCycleNote runs spent finding end a m → IsCycleNote runs spent finding end b n
+        → (a ≡ b) × (m ≡ n) }
+    ensures unread { (a b : ℕ) (m n : Note) (why : CursorStop) → IsUnreadNote why a m
+        → IsUnreadNote why b n → (a ≡ b) × (m ≡ n) }
+{}
+
+/// Each status and text of a command is that of one of the ways in which it can end.
+#[tactic(auto, using(crate::proofs::NoteLaws::audit_said, crate::proofs::NoteLaws::check_said, crate::proofs::NoteLaws::run_said, crate::proofs::NoteLaws::cycle_said, crate::proofs::NoteLaws::show_said))]
+pub fn each_command_speaks_of_its_own_ends()
+    ensures audit { (status : ℕ) (n : Note) → IsStatus status n → IsAuditSaid n
+        → (finding : Bool) × ((end : End) × IsAuditNote finding end status n) }
+    ensures check { (status : ℕ) (n : Note) → IsStatus status n → IsCheckSaid n
+        → (n ≡ note.BadPath) ⊎ ((item : Bool) × ((finding : Bool)
+        × ((end : End) × IsCheckNote item finding end status n))) }
+    ensures run { (status : ℕ) (n : Note) → IsStatus status n → IsRunSaid n
+        → ((c : Cursor) × ((spent : ℕ) × ((finding : Bool)
+        × ((end : RunStatus) × IsRunNote c spent finding end status n))))
+        ⊎ ((why : CursorStop) × IsUnreadNote why status n) }
+    ensures cycle { (status : ℕ) (n : Note) → IsStatus status n → IsCycleSaid n
+        → (runs : ℕ) × ((spent : ℕ) × ((finding : Bool)
+        × ((end : CycleStatus) × IsCycleNote runs spent finding end status n))) }
+    ensures show { (status : ℕ) (n : Note) → IsStatus status n → IsShowSaid n
+        → (n ≡ note.Nothing) ⊎ ((n ≡ note.OutputFailed)
+        ⊎ ((why : CursorStop) × IsUnreadNote why status n)) }
+{}
+
+/// Bytes are refused as a cursor only if they are the text of no cursor, for the first reason that
+/// applies to them. Without a reader nothing is refused.
+#[tactic(auto, using(crate::proofs::FileLaws::refused_for))]
+pub fn only_other_bytes_are_refused()
+    ensures refused { (bytes : List ℕ) (why : Refused) → why ≢ refused.Memory
+        → RefusesRightly (Some (Some bytes)) (note.CursorRefused why)
+        ↔ (((c : Cursor) → IsTextOf bytes c → ⊥) × (reason why ≡ Some (refusal bytes))) }
+    ensures without_reader { (why : Refused) → RefusesRightly None (note.CursorRefused why) → ⊥ }
+{}
+
+/// Without a reader there is no cursor to show, which is said, and a run needs none.
+#[tactic(auto, using(crate::proofs::FileLaws::none_shown, crate::proofs::FileLaws::none_needed))]
+pub fn only_showing_needs_a_stored_cursor()
+    ensures show { (n : Note) → IsWithoutFile None deed.Show n ↔ (n ≡ note.CursorFileFailed) }
+    ensures run { (limits : MadeLimits) (n : Note)
+        → IsWithoutFile None (deed.Run limits) n ↔ (n ≢ note.CursorFileFailed) }
+{}
+
+/// Of bytes that are the text of a cursor, the lines of that cursor are shown: whole, or a proper
+/// beginning of them if the output failed. With a refusal nothing is shown.
+pub fn a_cursor_is_shown_as_its_lines()
+    ensures whole { (bytes before after : List ℕ) (c : Cursor) → IsTextOf bytes c
+        → ShowsWith (Some (Some bytes)) note.Nothing (Some before) (Some after)
+        ↔ (after ≡ before ++ cursor_lines c) }
+    ensures part { (bytes before after : List ℕ) (c : Cursor) → IsTextOf bytes c
+        → ShowsWith (Some (Some bytes)) note.OutputFailed (Some before) (Some after)
+        ↔ ((gone : ℕ) × ((gone < length (cursor_lines c))
+        × (after ≡ before ++ take gone (cursor_lines c)))) }
+    ensures refused { (known : Option (Option (List ℕ))) (old new : Option (List ℕ))
+        (why : Refused) → ShowsWith known (note.CursorRefused why) old new → new ≡ old }
+    ensures unread { (known : Option (Option (List ℕ))) (old new : Option (List ℕ))
+        → ShowsWith known note.CursorFileFailed old new → new ≡ old }
+{
+    text_determines_the_cursor();
+}
+
+/// The text that a run hands back with its summary is that of the cursor to which the run led: from
+/// the stored one, or from a new one without a reader. The summary has that cursor's cycle and
+/// runs, and what the run itself has spent.
+pub fn a_run_goes_on_from_the_stored_cursor()
+    ensures stored { (bytes : List ℕ) (c : Cursor) (limits : MadeLimits)
+        (status cycle runs cost : ℕ) (whole : Bool) (stored : Vec ℕ Global) → IsTextOf bytes c
+        → HandsBack (Some (Some bytes)) (deed.Run limits) status
+        (note.RunMade cycle runs cost whole) (Some stored)
+        → (files : ℕ) × ((last : Option Place) × (IsPaid (limits_of limits) cost files
+        × ((cycle ≡ (begun c).cycle) × ((runs ≡ (begun c).runs + 1)
+        × (stored.items ≡ cursor_text (after_run (begun c) cost files
+        (state_after (if whole then run.Ended else run.Spent) last))))))) }
+    ensures first { (limits : MadeLimits) (status cycle runs cost : ℕ) (whole : Bool)
+        (stored : Vec ℕ Global) → HandsBack None (deed.Run limits) status
+        (note.RunMade cycle runs cost whole) (Some stored)
+        → (files : ℕ) × ((last : Option Place) × (IsPaid (limits_of limits) cost files
+        × ((cycle ≡ 1) × ((runs ≡ 1)
+        × (stored.items ≡ cursor_text (after_run new_cursor cost files
+        (state_after (if whole then run.Ended else run.Spent) last))))))) }
+{
+    text_determines_the_cursor();
+}
+
+/// The headline in other words. Where a cycle without failures has ended, its reports, joined, are
+/// the whole audit, and each hashed file was opened once, in order. As many runs as the cost by the
+/// budget and the files by their limit, each rounded down, and one more, are enough, and no more
+/// are made.
+#[tactic(auto, using(crate::proofs::HeadlineLaws::whole_audit, crate::proofs::HeadlineLaws::part_of_it, crate::proofs::HeadlineLaws::each_file, crate::proofs::HeadlineLaws::few_runs, crate::proofs::HeadlineLaws::enough_runs))]
+pub fn a_cycle_without_failures_is_the_audit()
+    ensures whole { (root : StorageRoot) (s t : Store) (limits : List Limits) (count : ℕ)
+        (before after : List ℕ)
+        → HeadlineOf root s t (Some before) (Some after) limits count cycle.Ended
+        → after ≡ before ++ text (audit root []) }
+    ensures part { (root : StorageRoot) (s t : Store) (limits : List Limits) (count : ℕ)
+        (before after : List ℕ)
+        → HeadlineOf root s t (Some before) (Some after) limits count cycle.Spent
+        → after ≡ before ++ text (joined (runs (audit root []) limits)) }
+    ensures opened { (root : StorageRoot) (s t : Store) (limits : List Limits) (count : ℕ)
+        (old new : Option (List ℕ)) → HeadlineOf root s t old new limits count cycle.Ended
+        → (trail : List Opening) × ((t.openings ≡ s.openings ++ trail)
+        × (content_trail root trail ≡ hashed_among root (item_places root))) }
+    ensures few { (root : StorageRoot) (s t : Store) (limits : List Limits) (count : ℕ)
+        (old new : Option (List ℕ)) (b n : ℕ)
+        → HeadlineOf root s t old new limits count cycle.Ended → 1 ≤ b → 1 ≤ n
+        → All (IsAtLeast b n) limits
+        → total_cost (audit root []) / b + total_files (audit root []) / n + 1 ≤ length limits
+        → count ≤ total_cost (audit root []) / b + total_files (audit root []) / n + 1 }
+    ensures enough { (root : StorageRoot) (s t : Store) (limits : List Limits) (count : ℕ)
+        (old new : Option (List ℕ)) (b n : ℕ)
+        → HeadlineOf root s t old new limits count cycle.Spent → 1 ≤ b → 1 ≤ n
+        → All (IsAtLeast b n) limits
+        → total_cost (audit root []) / b + total_files (audit root []) / n + 1 ≤ length limits
+        → ⊥ }
 {}

@@ -16,6 +16,5 @@ pub use checking::{CheckEnd, End, check};
 pub use command::{audited, checked};
 pub use cycling::{CycleEnd, CycleStatus, cycle};
 pub use note::Note;
-pub use ocfl_line::{Asked, Deed, LineStop, asked};
 pub use performing::{Performed, perform};
 pub use running::{RunEnd, RunStatus, run};

@@ -1,3 +1,4 @@
+//! What a command says on standard error.
 ghost use Rattle.std.specs.Prelude.{◌≡◌, Some};
 ghost use Rattle.ocfl_scrub.specs.NoteText.{end_text, note_text, refused_text};
 

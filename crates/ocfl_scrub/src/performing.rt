@@ -1,5 +1,5 @@
 //! What the program does for a command: the one function that the program and the tests call.
-ghost use Rattle.std.specs.Prelude.{◌≡◌, ◌≢◌, ◌↔◌, ℕ, IfErr, IfOk, IsNone, IsTrue, Some, Vec};
+ghost use Rattle.std.specs.Prelude.{◌≡◌, ◌≢◌, ◌↔◌, ◌≤◌, ℕ, IfErr, IfOk, IsNone, IsTrue, Some, Vec};
 ghost use Rattle.std.specs.Prelude.{replicate};
 ghost use Rattle.std.specs.declared.alloc.Global.{Global};
 ghost use Rattle.ocfl_tree.specs.StorageRoot.{StorageRoot};
@@ -10,7 +10,8 @@ ghost use Rattle.ocfl_scrub.specs.Noting.{IsRunSaid, IsShowSaid, IsStatus, IsSto
 ghost use Rattle.ocfl_scrub.specs.Noting.{IsUnreadNote, IsUnreadSaid, WritesWithStatus};
 ghost use Rattle.ocfl_scrub.specs.Noting.{run_summary as summary_of_run, status_of};
 ghost use Rattle.ocfl_scrub.specs.Performing.{BeginsWith, CyclePerformed, HandsBack, IsKept};
-ghost use Rattle.ocfl_scrub.specs.Performing.{IsKeptBy, IsSaid, IsSilent, IsWhole, IsWithoutFile};
+ghost use Rattle.ocfl_scrub.specs.Performing.{HasBadPath, IsKeptBy, IsSaid, IsSilent, IsWhole};
+ghost use Rattle.ocfl_scrub.specs.Performing.{IsWithoutFile};
 ghost use Rattle.ocfl_scrub.specs.Performing.{Performs, RefusesPath, RefusesRightly, RunPerformed};
 ghost use Rattle.ocfl_scrub.specs.Performing.{ShowsWith, StopsWith, WritesBy, bytes_of};
 ghost use Rattle.ocfl_scrub.specs.Performing.{equal_limits as limits_of_each};
@@ -20,8 +21,8 @@ use crate::cycling::{CycleEnd, CycleStatus, cycle};
 use crate::note::Note;
 use crate::running::{RunEnd, RunStatus, run};
 use ocfl_cursor::{Cursor, CursorStop, Limits, Refused, cursor_lines, encode, read_cursor};
+use ocfl_deed::Deed;
 use ocfl_digest::Block;
-use ocfl_line::Deed;
 use ocfl_report::write_all_of;
 use ocfl_tree::Tree;
 use ocfl_walk::Fault;
@@ -45,12 +46,13 @@ pub struct Performed {
 /// cursor that is shown, go to the writer.
 ///
 /// The reader gives the bytes of the cursor that is stored, which a run goes on from, and which is
-/// shown. Without a reader a run begins with a new cursor, and there is none to show. After a run
+/// shown. Without a reader a run begins with a new cursor, and nothing is shown. After a run
 /// the text of the cursor that it answered is handed back, to be stored, after a stop too: but not
 /// where the cursor was worn, or there was no memory for its text.
 ///
-/// Where bytes are refused as a cursor, or could not be read, no call of the store is made, and
-/// nothing is written.
+/// Where bytes are refused as a cursor, or could not be read, or a path is not that of a place, no
+/// call of the store is made, and nothing is written. A cursor that is shown ends with status 0
+/// exactly where nothing is said.
 pub fn perform<T: Tree, R: Read, W: Write>(
     alloc: Global,
     store: &mut T,
@@ -64,12 +66,16 @@ pub fn perform<T: Tree, R: Read, W: Write>(
     ensures said { IsSaid deed.now result.note }
     ensures silent { IsSilent result.note → (store.new ≡ store.old) × (out.new ≡ out.old) }
     ensures show_calls { deed.now ≡ Deed.Show → store.new ≡ store.old }
+    ensures show_ends { deed.now ≡ Deed.Show
+        → (result.status ≡ 0) ↔ (result.note ≡ Note.Nothing) }
     ensures refused { RefusesRightly (bytes_of R.remaining reader.entry) result.note }
     ensures kept { IsKeptBy deed.now result.note result.cursor }
     ensures handed_back { HandsBack (bytes_of R.remaining reader.entry) deed.now
         result.status result.note result.cursor }
     ensures without_file { IsWithoutFile (bytes_of R.remaining reader.entry) deed.now result.note }
     ensures bad_path { RefusesPath deed.now result.status result.note }
+    ensures bad_path_silent { HasBadPath deed.now
+        → (store.new ≡ store.old) × (out.new ≡ out.old) }
     ensures lines { WritesBy (bytes_of R.remaining reader.entry) deed.now result.status result.note
         (W.contents out.old) (W.contents out.new) }
 
@@ -82,11 +88,11 @@ pub fn perform<T: Tree, R: Read, W: Write>(
     match deed {
         Deed::Audit => without_cursor(audited(alloc, store, block, out)),
         Deed::Check(path) => without_cursor(checked(alloc, store, path.as_str(), block, out)),
-        Deed::Run(limits) => performed_run(alloc, store, *limits, reader, block, out),
+        Deed::Run(limits) => perform_run(alloc, store, *limits, reader, block, out),
         Deed::Cycle(limits, count) => {
-            without_cursor(performed_cycle(alloc, store, *limits, *count, block, out))
+            without_cursor(perform_cycle(alloc, store, *limits, *count, block, out))
         }
-        Deed::Show => without_cursor(shown(alloc, reader, out)),
+        Deed::Show => without_cursor(show_cursor(alloc, reader, out)),
     }
 }
 
@@ -115,10 +121,11 @@ fn first_cursor<R: Read>(alloc: Global, reader: Option<&mut R>) -> Result<Cursor
     }
 }
 
-// What is said where no cursor was read.
-fn unread(why: CursorStop) -> (u8, Note)
+// Describes why no cursor was read.
+fn describe_unread(why: CursorStop) -> (u8, Note)
     ensures note { IsUnreadNote why result.0 result.1 }
     ensures status { IsStatus result.0 result.1 }
+    ensures stops { 3 ≤ result.0 }
     ensures said { IsUnreadSaid result.1 }
 {
     match why {
@@ -128,8 +135,8 @@ fn unread(why: CursorStop) -> (u8, Note)
     }
 }
 
-// One run from the stored cursor.
-fn performed_run<T: Tree, R: Read, W: Write>(
+// Makes one run from the stored cursor.
+fn perform_run<T: Tree, R: Read, W: Write>(
     alloc: Global,
     store: &mut T,
     limits: Limits,
@@ -159,14 +166,14 @@ fn performed_run<T: Tree, R: Read, W: Write>(
 {
     let cursor = match first_cursor(alloc, reader) {
         Ok(cursor) => cursor,
-        Err(why) => return without_cursor(unread(why)),
+        Err(why) => return without_cursor(describe_unread(why)),
     };
     let end = run(alloc, store, cursor, limits, block, out);
-    ran(alloc, end)
+    conclude_run(alloc, end)
 }
 
-// What is said after a run, and the text of its cursor.
-fn ran(alloc: Global, end: RunEnd) -> Performed
+// Describes what a run ended with, and writes the text of its cursor.
+fn conclude_run(alloc: Global, end: RunEnd) -> Performed
     requires whole { end.end ≢ RunStatus.Stopped Fault.Broken }
     ensures status { IsStatus result.status result.note }
     ensures said { IsRanSaid result.note }
@@ -192,7 +199,7 @@ fn ran(alloc: Global, end: RunEnd) -> Performed
     let Ok(text) = encode(alloc, &cursor) else {
         return without_cursor((3, Note::OutOfMemory));
     };
-    let (status, note) = run_noted(&cursor, spent, found, end);
+    let (status, note) = describe_run(&cursor, spent, found, end);
     Performed {
         status,
         note,
@@ -200,8 +207,8 @@ fn ran(alloc: Global, end: RunEnd) -> Performed
     }
 }
 
-// What is said after a run whose cursor has a text.
-fn run_noted(cursor: &Cursor, spent: u64, found: bool, end: RunStatus) -> (u8, Note)
+// Describes a run whose cursor has a text.
+fn describe_run(cursor: &Cursor, spent: u64, found: bool, end: RunStatus) -> (u8, Note)
     requires whole { end ≢ RunStatus.Stopped Fault.Broken }
     ensures note { IsRunNote cursor.now spent found end result.0 result.1 }
     ensures status { IsStatus result.0 result.1 }
@@ -231,7 +238,7 @@ fn run_summary(cursor: &Cursor, spent: u64, ended: bool) -> Note
 }
 
 // A cycle of so many runs, each within the same limits.
-fn performed_cycle<T: Tree, W: Write>(
+fn perform_cycle<T: Tree, W: Write>(
     alloc: Global,
     store: &mut T,
     limits: Limits,
@@ -254,7 +261,7 @@ fn performed_cycle<T: Tree, W: Write>(
     let Ok(each) = equal_limits(alloc, limits, count) else {
         return (3, Note::OutOfMemory);
     };
-    cycle_noted(cycle(alloc, store, &each, block, out))
+    describe_cycle(cycle(alloc, store, &each, block, out))
 }
 
 fn equal_limits(alloc: Global, limits: Limits, count: usize) -> Result<Vec<Limits>, AllocError>
@@ -263,8 +270,8 @@ fn equal_limits(alloc: Global, limits: Limits, count: usize) -> Result<Vec<Limit
     Vec::from_elem(alloc, limits, count)
 }
 
-// What is said after a cycle.
-fn cycle_noted(end: CycleEnd) -> (u8, Note)
+// Describes what a cycle ended with.
+fn describe_cycle(end: CycleEnd) -> (u8, Note)
     requires whole { end.end ≢ CycleStatus.Stopped Fault.Broken }
     ensures note { IsCycleNote end.runs end.spent end.found end.end result.0 result.1 }
     ensures status { IsStatus result.0 result.1 }
@@ -300,9 +307,10 @@ fn cycle_noted(end: CycleEnd) -> (u8, Note)
     }
 }
 
-// The lines of the stored cursor go out.
-fn shown<R: Read, W: Write>(alloc: Global, reader: Option<&mut R>, out: &mut W) -> (u8, Note)
+// Writes the lines of the stored cursor.
+fn show_cursor<R: Read, W: Write>(alloc: Global, reader: Option<&mut R>, out: &mut W) -> (u8, Note)
     ensures status { IsStatus result.0 result.1 }
+    ensures ends { (result.0 ≡ 0) ↔ (result.1 ≡ Note.Nothing) }
     ensures said { IsShowSaid result.1 }
     ensures refused { RefusesRightly (bytes_of R.remaining reader.entry) result.1 }
     ensures without_file { IsWithoutFile (bytes_of R.remaining reader.entry) Deed.Show result.1 }
@@ -315,7 +323,7 @@ fn shown<R: Read, W: Write>(alloc: Global, reader: Option<&mut R>, out: &mut W) 
     };
     let cursor = match read_cursor(alloc, reader) {
         Ok(cursor) => cursor,
-        Err(why) => return unread(why),
+        Err(why) => return describe_unread(why),
     };
     let Ok(lines) = cursor_lines(alloc, &cursor) else {
         return (3, Note::OutOfMemory);

@@ -55,7 +55,7 @@ pub struct RunEnd {
 ///
 /// A cursor that has ended begins the next cycle. The lines of an item go out as one piece before
 /// the next item is looked at. A file that cannot be read is reported and stops nothing. After a
-/// stop the cursor stands behind the last item whose lines went out whole, and where there is none
+/// stop the cursor is after the last item whose lines went out whole, and without such an item
 /// where the run began; what was spent, started and found is that of those items alone.
 ///
 /// A cursor is worn where its runs, or after the end of a cycle its cycles, cannot be counted

@@ -4,8 +4,11 @@
 mod progress;
 
 use clap::error::ErrorKind;
+use ocfl_deed::{Asked, Deed};
 use ocfl_digest::Block;
-use ocfl_scrub::{Asked, Deed, LineStop, Note, Performed, asked, perform};
+use ocfl_folder::FsTree;
+use ocfl_line::{LineStop, asked};
+use ocfl_scrub::{Note, Performed, perform};
 use progress::{Clearing, Watched, clear, is_terminal};
 use std::fs::{File, OpenFile};
 use std::io::{Read, Write};
@@ -50,8 +53,8 @@ fn lies_inside<R: Files + AllocGlobal>(rt: &R, file: &str, root: &str) -> io::Re
     Ok(folder.as_path().starts_with(root.as_path()))
 }
 
-/// The cursor's file, and `None` where there is no such file.
-fn opened<R: Files>(rt: &R, file: &str) -> io::Result<Option<R::File>> {
+/// Opens a file, and gives `None` where there is no such file.
+fn open_if_there<R: Files>(rt: &R, file: &str) -> io::Result<Option<R::File>> {
     match File::open(rt, file) {
         Ok(opened) => Ok(Some(opened)),
         Err(error) if error.kind() == io::ErrorKind::NotFound => Ok(None),
@@ -106,24 +109,30 @@ fn root_of(asked: &Asked) -> &str {
     }
 }
 
-/// The cursor's file that the command line names, and `None` where it names none or there is no
-/// such file yet.
-fn cursor_file<R: Files>(rt: &R, asked: &Asked) -> Result<Option<R::File>, Note> {
+/// Opens the cursor's file that the command line names. `None` where it names no file, or there is
+/// no such file yet.
+fn open_cursor<R: Files>(rt: &R, asked: &Asked) -> Result<Option<R::File>, Note> {
     match &asked.file {
-        Some(file) => opened(rt, file.as_str()).map_err(|error| file_note(&error)),
+        Some(file) => open_if_there(rt, file.as_str()).map_err(|error| file_note(&error)),
         None => Ok(None),
     }
 }
 
-/// Does what is asked for over a folder, or gives what is to be said where it cannot begin.
-fn performed<R>(rt: &R, asked: &Asked, is_shown: bool, block: &mut Block) -> Result<Performed, Note>
+/// Runs the command over its folder. Fails with what is to be said where it cannot begin.
+fn run_over_folder<R>(
+    rt: &R,
+    asked: &Asked,
+    is_shown: bool,
+    block: &mut Block,
+) -> Result<Performed, Note>
 where
     R: Files + AllocGlobal + Print + Eprint,
 {
-    let Ok(mut store) = Watched::at(rt, root_of(asked), is_shown) else {
+    let Ok(folder) = FsTree::at(rt, root_of(asked)) else {
         return Err(Note::OutOfMemory);
     };
-    let mut reader = cursor_file(rt, asked)?;
+    let mut store = Watched::over(rt, folder, is_shown);
+    let mut reader = open_cursor(rt, asked)?;
     let mut out = Clearing {
         rt,
         is_shared: is_shown && is_terminal(rt, "/dev/stdout"),
@@ -141,7 +150,10 @@ where
 }
 
 /// Puts the cursor in the place of its file, and gives the status with what is to be said.
-fn kept<R: Files + AllocGlobal>(rt: &R, asked: &Asked, performed: Performed) -> (u8, Note) {
+fn store_cursor<R>(rt: &R, asked: &Asked, performed: Performed) -> (u8, Note)
+where
+    R: Files + AllocGlobal,
+{
     if let (Some(file), Some(text)) = (&asked.file, &performed.cursor) {
         if let Err(error) = put_in_place(rt, file.as_str(), text) {
             return (STOPPED, file_note(&error));
@@ -150,16 +162,16 @@ fn kept<R: Files + AllocGlobal>(rt: &R, asked: &Asked, performed: Performed) -> 
     (performed.status, performed.note)
 }
 
-/// Does what is asked for, and gives the status with what is to be said.
-fn done<R>(rt: &R, asked: &Asked, is_shown: bool) -> (u8, Note)
+/// Runs the command, stores its cursor, and gives the status with what is to be said.
+fn run_and_store<R>(rt: &R, asked: &Asked, is_shown: bool) -> (u8, Note)
 where
     R: Files + AllocGlobal + Print + Eprint,
 {
     let Ok(mut block) = Block::new(rt.alloc()) else {
         return (STOPPED, Note::OutOfMemory);
     };
-    match performed(rt, asked, is_shown, &mut block) {
-        Ok(performed) => kept(rt, asked, performed),
+    match run_over_folder(rt, asked, is_shown, &mut block) {
+        Ok(performed) => store_cursor(rt, asked, performed),
         Err(note) => (STOPPED, note),
     }
 }
@@ -169,8 +181,9 @@ fn say<R: Eprint>(rt: &R, line: &str) {
     let _ = eprintln!(rt; "ocfl-scrub: {line}");
 }
 
-/// Does what is asked for, unless it would write into the storage root.
-fn answer<R: Files + AllocGlobal + Print + Eprint>(rt: &R, asked: &Asked) -> u8 {
+/// Refuses a cursor's file in the storage root. Else runs the command, reports on standard error,
+/// and gives the status.
+fn run_command<R: Files + AllocGlobal + Print + Eprint>(rt: &R, asked: &Asked) -> u8 {
     if let (Some(file), Some(root)) = (&asked.file, &asked.root) {
         match lies_inside(rt, file.as_str(), root.as_str()) {
             Ok(false) => {}
@@ -185,7 +198,7 @@ fn answer<R: Files + AllocGlobal + Print + Eprint>(rt: &R, asked: &Asked) -> u8 
         }
     }
     let is_shown = is_shown(rt, asked);
-    let (status, note) = done(rt, asked, is_shown);
+    let (status, note) = run_and_store(rt, asked, is_shown);
     if is_shown {
         clear(rt);
     }
@@ -200,8 +213,8 @@ fn out_of_memory<R: Eprint>(rt: &R) -> u8 {
     STOPPED
 }
 
-/// The words of the command line, or the status where they cannot be read.
-fn words<R: Env + AllocGlobal + Eprint>(rt: &R) -> Result<Vec<String>, u8> {
+/// Reads the words of the command line. Fails with the status where they cannot be read.
+fn read_words<R: Env + AllocGlobal + Eprint>(rt: &R) -> Result<Vec<String>, u8> {
     let read = match env::args(rt) {
         Ok(words) => words.collect(rt.alloc()).ok(),
         Err(error) if error.kind() == io::ErrorKind::InvalidData => {
@@ -234,7 +247,7 @@ fn print_build<R: Files + AllocGlobal + Print>(rt: &R) -> io::Result<()> {
 }
 
 /// Prints the help or the version that was asked for, or says what is wrong with a command line.
-fn usage<R>(rt: &R, error: &clap::Error) -> u8
+fn print_usage<R>(rt: &R, error: &clap::Error) -> u8
 where
     R: Files + AllocGlobal + Print + Eprint,
 {
@@ -252,8 +265,9 @@ where
     0
 }
 
-fn status_of<R: Files + Env + AllocGlobal + Print + Eprint>(rt: &R) -> u8 {
-    let mut words = match words(rt) {
+/// Runs the program, and gives its exit status.
+fn run_program<R: Files + Env + AllocGlobal + Print + Eprint>(rt: &R) -> u8 {
+    let mut words = match read_words(rt) {
         Ok(words) => words,
         Err(status) => return status,
     };
@@ -265,12 +279,12 @@ fn status_of<R: Files + Env + AllocGlobal + Print + Eprint>(rt: &R) -> u8 {
         }
     }
     match asked(rt.alloc(), words.as_slice()) {
-        Ok(asked) => answer(rt, &asked),
-        Err(LineStop::Usage(error)) => usage(rt, &error),
+        Ok(asked) => run_command(rt, &asked),
+        Err(LineStop::Usage(error)) => print_usage(rt, &error),
         Err(LineStop::Memory) => out_of_memory(rt),
     }
 }
 
 fn main(rt: HostRuntime) -> ExitCode {
-    ExitCode::from(status_of(&rt))
+    ExitCode::from(run_program(&rt))
 }

@@ -1,6 +1,6 @@
 //! Progress: one line on a terminal, which is written over again while a command works.
+ghost use Rattle.std.specs.Prelude.{◌≡◌};
 
-use ocfl_folder::FsTree;
 use ocfl_report::DisplayPlace;
 use ocfl_tree::{Entry, Place, Tree, Trouble};
 use std::alloc::AllocError;
@@ -39,10 +39,10 @@ fn tail(text: &str) -> &str {
     text.get(text.len().saturating_sub(TAIL)..).unwrap_or("")
 }
 
-/// A folder that is read, which shows how much of it was, where that is asked for.
+/// A store that shows how much of it was read, where that is asked for.
 #[derive(Drop)]
-pub(crate) struct Watched<'a, R: Files + AllocGlobal> {
-    folder: FsTree<&'a R>,
+pub(crate) struct Watched<'a, R, T: Drop> {
+    store: T,
     rt: &'a R,
     is_shown: bool,
     files: u64,
@@ -53,21 +53,23 @@ pub(crate) struct Watched<'a, R: Files + AllocGlobal> {
     place: Place,
 }
 
-impl<'a, R: Files + AllocGlobal + Eprint> Watched<'a, R> {
-    pub(crate) fn at(rt: &'a R, root: &str, is_shown: bool) -> Result<Watched<'a, R>, AllocError> {
-        Ok(Watched {
-            folder: FsTree::at(rt, root)?,
+impl<'a, R: AllocGlobal + Eprint, T: Drop> Watched<'a, R, T> {
+    pub(crate) fn over(rt: &'a R, store: T, is_shown: bool) -> Watched<'a, R, T> {
+        Watched {
+            store,
             rt,
             is_shown,
             files: 0,
             bytes: 0,
             work: 0,
             place: Place::root(rt.alloc()),
-        })
+        }
     }
 
     /// Counts the work at a place, and shows it where it is time to.
-    fn reach(&mut self, place: &Place) {
+    fn reach(&mut self, place: &Place)
+        ensures { self.new.store ≡ self.old.store }
+    {
         if !self.is_shown {
             return;
         }
@@ -78,7 +80,9 @@ impl<'a, R: Files + AllocGlobal + Eprint> Watched<'a, R> {
         self.add(CALL);
     }
 
-    fn add(&mut self, work: u64) {
+    fn add(&mut self, work: u64)
+        ensures { self.new.store ≡ self.old.store }
+    {
         self.work = self.work.saturating_add(work);
         if self.is_shown && self.work >= STEP {
             self.work = 0;
@@ -102,34 +106,32 @@ impl<'a, R: Files + AllocGlobal + Eprint> Watched<'a, R> {
     }
 }
 
-impl<R: Files + AllocGlobal + Eprint> Tree for Watched<'_, R> {
-    ghost use Rattle.std.specs.Prelude.{false};
-    ghost use Rattle.ocfl_tree.specs.MemTree.{empty_store};
+/// It does what the store below it does, and tells what that tells.
+impl<R: AllocGlobal + Eprint, T: Tree + Drop> Tree for Watched<'_, R, T> {
+    ghost told = { T.told };
 
-    ghost told = { false };
-
-    ghost state = { λ _. empty_store };
+    ghost state = { λ watched. T.state watched.store };
 
     fn list(&mut self, place: &Place) -> Result<Vec<Entry>, Trouble> {
         self.reach(place);
-        self.folder.list(place)
+        self.store.list(place)
     }
 
     fn open(&mut self, place: &Place) -> Result<(), Trouble> {
         self.reach(place);
         self.files = self.files.saturating_add(1);
-        self.folder.open(place)
+        self.store.open(place)
     }
 
     fn read(&mut self, buffer: &mut [u8]) -> Result<usize, Trouble> {
-        let count = self.folder.read(buffer)?;
+        let count = self.store.read(buffer)?;
         self.bytes = self.bytes.saturating_add(count as u64);
         self.add(count as u64);
         Ok(count)
     }
 
     fn close(&mut self) {
-        self.folder.close();
+        self.store.close();
     }
 }
 

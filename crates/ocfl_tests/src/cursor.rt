@@ -1,7 +1,9 @@
 use crate::common::tree::place_of;
 use ocfl_cursor::{
-    Budget, Cursor, CursorStop, FileLimit, Limits, Meter, Refused, State, cursor_lines,
-    cursor_reads_back, decode, encode, read_cursor, text_determines_the_cursor,
+    Budget, Cursor, CursorStop, FileLimit, Limits, Meter, PartEnds, PartRefused, Refused, State,
+    cursor_lines, cursor_reads_back, decode, decode_part, encode, encode_part, every_part_has_ends,
+    no_part_is_refused, part_reads_back, parts_and_whole_are_apart, read_cursor,
+    text_determines_the_cursor, text_determines_the_part,
 };
 use ocfl_tree::{Name, Place};
 use sha2::{Digest, Sha256};
@@ -487,5 +489,250 @@ fn reads_from_readers(rt: HostRuntime) -> Result<(), Fail> {
     // From one byte more on the reader is not asked for its end.
     long.push(b'\n')?;
     assert_eq!(rt; stop_of(alloc, &long, failing), not_cursor);
+    Ok(())
+}
+
+/// The ends of a part, by their paths; `-` is no place.
+fn ends_of(alloc: Global, from: &str, below: &str) -> Result<PartEnds, Fail> {
+    let end_of = |path: &str| -> Result<Option<Place>, Fail> {
+        if path == "-" {
+            Ok(None)
+        } else {
+            Ok(Some(place_of(alloc, path)?))
+        }
+    };
+    Ok(PartEnds {
+        from: end_of(from)?,
+        below: end_of(below)?,
+    })
+}
+
+/// Parts, what a text says of their ends and of a new cursor, and its SHA-256 by `sha256sum`.
+const PARTS: [(&str, &str, &str, &str); 4] = [
+    (
+        "-",
+        "-",
+        "from start\nbelow end\n",
+        "637f98a64e760981827120f91926983966afc3834df3e73f5dfa31eafd76a5f3",
+    ),
+    (
+        "start",
+        "end",
+        "from ./start\nbelow ./end\n",
+        "136b94e71c8744d75552940e9b26cbfef01e3ca40551db26fb735f25b18db4b9",
+    ),
+    (
+        "end",
+        "start",
+        "from end\nbelow start\n",
+        "ed207ca83d27c316e62fcf2a8c5b94442f115363c101370183b21eddae9bd774",
+    ),
+    (
+        "o/v1/content/b",
+        "o/v1/content/d",
+        "from o/v1/content/b\nbelow o/v1/content/d\n",
+        "1427c9cb2706324f906fc85812863157f7ca47b718120c61176fcd28b5a42c97",
+    ),
+];
+
+#[test]
+fn parts_are_named(rt: HostRuntime) -> Result<(), Fail> {
+    let alloc = rt.alloc();
+    for (from, below, named, digest) in PARTS {
+        let ends = ends_of(alloc, from, below)?;
+        every_part_has_ends(&ends);
+        let text = encode_part(alloc, &ends, &Cursor::new())?;
+        let wanted = format!(in alloc;
+            "ocfl-scrub part cursor 1\n{named}cycle 1\nruns 0\nspent 0\nfiles 0\nstart\ndigest {digest}\n"
+        )?;
+        assert_eq!(rt; text.as_slice(), wanted.as_bytes(), "{named}");
+        let read = decode_part(alloc, &text, &ends)?;
+        assert_eq!(rt; read.state(), &State::Start, "{named}");
+        // No other part takes it.
+        for (from, below, other, _) in PARTS {
+            let ends = ends_of(alloc, from, below)?;
+            let wanted = if other == named {
+                None
+            } else {
+                Some(PartRefused::OtherPart)
+            };
+            let refused = decode_part(alloc, &text, &ends).err();
+            assert_eq!(rt; refused, wanted, "{named} to {other}");
+        }
+        assert_eq!(rt; refusal_of(alloc, &text), Some(Refused::NotCursor));
+    }
+    text_determines_the_part();
+    no_part_is_refused();
+    parts_and_whole_are_apart();
+    Ok(())
+}
+
+#[test]
+fn cursors_of_parts_are_read_back(rt: HostRuntime) -> Result<(), Fail> {
+    let alloc = rt.alloc();
+    let b = "o/v1/content/b";
+    for (from, below) in [
+        ("-", b),
+        (b, "-"),
+        (".", "é/start"),
+        ("start/a", "./end"),
+        (b, b),
+    ] {
+        let below = below.strip_prefix("./").unwrap_or(below);
+        let ends = ends_of(alloc, from, below)?;
+        let place = place_of(alloc, "o/v1/content/c")?;
+        for state in [State::Start, State::After(place), State::Ended] {
+            let cursor = Cursor::from_parts(3, 2, 9, 3, state).ok_or("a cursor")?;
+            let read = part_reads_back(alloc, &ends, &cursor)?;
+            assert_eq!(rt; (read.cycle(), read.runs()), (3, 2));
+            assert_eq!(rt; (read.spent(), read.files()), (9, 3));
+            assert_eq!(rt; read.state(), cursor.state());
+        }
+    }
+    // Places of more than 255 names may be ends.
+    let ends = PartEnds {
+        from: Some(long_place(alloc, 300)?),
+        below: None,
+    };
+    let read = part_reads_back(alloc, &ends, &Cursor::new())?;
+    assert_eq!(rt; read.cycle(), 1);
+    Ok(())
+}
+
+/// Why the sealed text is refused to the part of `b` and `d`.
+fn part_refusal(alloc: Global, body: &str) -> Result<Option<PartRefused>, Fail> {
+    let ends = ends_of(alloc, "b", "d")?;
+    let text = seal(alloc, body.as_bytes())?;
+    Ok(decode_part(alloc, &text, &ends).err())
+}
+
+const LINES: &str = "cycle 3\nruns 2\nspent 9\nfiles 3\nafter o/v1/content/c\n";
+
+#[test]
+fn other_texts_are_no_part(rt: HostRuntime) -> Result<(), Fail> {
+    let alloc = rt.alloc();
+    let first = "ocfl-scrub part cursor 1\n";
+    let right = format!(in alloc; "{first}from b\nbelow d\n{LINES}")?;
+    assert_eq!(rt; part_refusal(alloc, right.as_str())?, None);
+    // The first line comes first, and then the seal.
+    for front in [
+        "",
+        "ocfl-scrub part cursor 1",
+        "ocfl-scrub part cursor 1 \n",
+        "ocfl-scrub part cursor 2\n",
+        "ocfl-scrub part cursor\n",
+        "ocfl-scrub cursor 2\n",
+        "from b\n",
+    ] {
+        let ends = ends_of(alloc, "b", "d")?;
+        let refused = decode_part(alloc, front.as_bytes(), &ends).err();
+        assert_eq!(rt; refused, Some(PartRefused::NotCursor), "{front}");
+        let sealed = format!(in alloc; "{front}from b\nbelow d\n{LINES}")?;
+        let refused = part_refusal(alloc, sealed.as_str())?;
+        assert_eq!(rt; refused, Some(PartRefused::NotCursor), "{front}");
+    }
+    Ok(())
+}
+
+#[test]
+fn damaged_parts_are_refused(rt: HostRuntime) -> Result<(), Fail> {
+    let alloc = rt.alloc();
+    let first = "ocfl-scrub part cursor 1\n";
+    let right = format!(in alloc; "{first}from b\nbelow d\n{LINES}")?;
+    let ends = ends_of(alloc, "b", "d")?;
+    let other = ends_of(alloc, "b", "e")?;
+    let text = seal(alloc, right.as_bytes())?;
+    for end in [
+        first.len(),
+        first.len() + 7,
+        text.len() - 72,
+        text.len() - 1,
+    ] {
+        let refused = decode_part(alloc, &text[..end], &ends).err();
+        assert_eq!(rt; refused, Some(PartRefused::Damaged), "{end}");
+    }
+    let mut changed = seal(alloc, right.as_bytes())?;
+    changed[first.len() + 5] = b'c';
+    // Damage is told before another part.
+    for ends in [&ends, &other] {
+        let refused = decode_part(alloc, &changed, ends).err();
+        assert_eq!(rt; refused, Some(PartRefused::Damaged));
+    }
+    Ok(())
+}
+
+/// Lines of the ends of no part.
+const NO_ENDS: [&str; 16] = [
+    "",
+    "from b\n",
+    "below d\nfrom b\n",
+    "from b below d\n",
+    "from\nbelow d\n",
+    "from \nbelow d\n",
+    "from ./b\nbelow d\n",
+    "from ./end\nbelow d\n",
+    "from b\nbelow ./start\n",
+    "from .//start\nbelow d\n",
+    "from %73tart\nbelow d\n",
+    "from b/\nbelow d\n",
+    "from /\nbelow d\n",
+    "start\nbelow d\n",
+    "from b\nend\n",
+    "from b\nbelow d\n\n",
+];
+
+/// Lines of version 1, and of no cursor.
+const NO_LINES: [&str; 7] = [
+    "",
+    "cycle 3\nruns 2\nspent 9\nafter o/v1/content/c\n",
+    "cycle 0\nruns 2\nspent 9\nfiles 3\nstart\n",
+    "cycle 3\nruns 2\nspent 9\nfiles 3\n",
+    "cycle 3\nruns 2\nspent 9\nfiles 3\nstart",
+    "cycle 03\nruns 2\nspent 9\nfiles 3\nstart\n",
+    "cycle 3\nruns 2\nspent 9\nfiles 10\nstart\n",
+];
+
+#[test]
+fn malformed_parts_are_refused(rt: HostRuntime) -> Result<(), Fail> {
+    let alloc = rt.alloc();
+    let first = "ocfl-scrub part cursor 1\n";
+    for ends in NO_ENDS {
+        let body = format!(in alloc; "{first}{ends}{LINES}")?;
+        let refused = part_refusal(alloc, body.as_str())?;
+        assert_eq!(rt; refused, Some(PartRefused::Malformed), "{ends}");
+    }
+    for lines in NO_LINES {
+        for ends in ["from b\nbelow d\n", "from start\nbelow end\n"] {
+            let body = format!(in alloc; "{first}{ends}{lines}")?;
+            let refused = part_refusal(alloc, body.as_str())?;
+            assert_eq!(rt; refused, Some(PartRefused::Malformed), "{ends}{lines}");
+        }
+    }
+    Ok(())
+}
+
+#[test]
+fn refused_parts_have_their_texts(rt: HostRuntime) -> Result<(), Fail> {
+    let alloc = rt.alloc();
+    for (refused, text) in [
+        (PartRefused::NotCursor, "not a cursor"),
+        (PartRefused::Damaged, "damaged"),
+        (PartRefused::Malformed, "malformed"),
+        (PartRefused::OtherPart, "another part"),
+        (PartRefused::Memory, "out of memory"),
+    ] {
+        assert_eq!(rt; format!(in alloc; "{refused}")?.as_str(), text);
+    }
+    Ok(())
+}
+
+#[test]
+fn whole_roots_are_no_parts(rt: HostRuntime) -> Result<(), Fail> {
+    let alloc = rt.alloc();
+    let ends = ends_of(alloc, "-", "-")?;
+    for text in [whole_text(alloc)?, old_text(alloc)?] {
+        let refused = decode_part(alloc, &text, &ends).err();
+        assert_eq!(rt; refused, Some(PartRefused::NotCursor));
+    }
     Ok(())
 }

@@ -255,7 +255,7 @@ fn three_hundred_members_algorithms_and_keys(rt: HostRuntime) -> Result<(), Fail
     ] {
         let text = inventory(alloc, manifest, further)?;
         goes_on(&rt, alloc, text.as_bytes(), wanted)?;
-        assert!(rt; Table::read_alone(alloc, text.as_bytes())?.is_some());
+        assert!(rt; read_inventory(alloc, text.as_bytes())?.table.is_some());
     }
     Ok(())
 }
@@ -301,7 +301,7 @@ fn three_hundred_paths_and_three_hundred_digests(rt: HostRuntime) -> Result<(), 
     let text = inventory(alloc, manifest.as_str(), further.as_str())?;
     goes_on(&rt, alloc, text.as_bytes(), "")?;
     names_three_hundred(&rt, alloc, Table::read(alloc, text.as_bytes())?.1)?;
-    names_three_hundred(&rt, alloc, Table::read_alone(alloc, text.as_bytes())?)
+    names_three_hundred(&rt, alloc, read_inventory(alloc, text.as_bytes())?.table)
 }
 
 /// The table of an inventory, in which digests may be named.
@@ -501,17 +501,15 @@ fn declarations_are_files_of_a_name(rt: HostRuntime) -> Result<(), Fail> {
 fn reads_as_its_parts(rt: &impl Abort, alloc: Global, bytes: &[u8]) -> Result<(), Fail> {
     let read = read_inventory(alloc, bytes)?;
     let (lines, table) = Table::read(alloc, bytes)?;
-    let alone = Table::read_alone(alloc, bytes)?;
     assert_eq!(rt; read.algorithm, algorithm_of(alloc, bytes)?);
     assert_eq!(rt; read.remarks.len(), lines.len());
     assert_eq!(rt; read.table.is_some(), table.is_some());
-    assert_eq!(rt; alone.is_some(), table.is_some());
-    if let (Some(alone), Some(table)) = (&alone, &table) {
-        assert_eq!(rt; alone.algorithm(), table.algorithm());
-        assert_eq!(rt; alone.content_directory(), table.content_directory());
+    if let (Some(one), Some(table)) = (&read.table, &table) {
+        assert_eq!(rt; one.algorithm(), table.algorithm());
+        assert_eq!(rt; one.content_directory(), table.content_directory());
         for path in ["v1/content/a", "v2/content/b", "x"] {
             let place = Place::from_path(String::from_str(alloc, path)?).expect(rt, "a path");
-            let named = alone.named(alloc, &place)?;
+            let named = one.named(alloc, &place)?;
             assert_eq!(rt; named.len(), table.named(alloc, &place)?.len());
         }
     }

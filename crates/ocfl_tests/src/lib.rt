@@ -12,6 +12,8 @@ mod inventory;
 #[cfg(test)]
 mod line;
 #[cfg(test)]
+mod parts;
+#[cfg(test)]
 mod report;
 #[cfg(test)]
 mod scrub;

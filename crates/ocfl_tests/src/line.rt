@@ -1,6 +1,7 @@
 use clap::error::ErrorKind;
 use ocfl_cursor::{Budget, FileLimit, Limits};
-use ocfl_line::{Asked, Deed, LineStop, asked};
+use ocfl_deed::{Asked, Deed};
+use ocfl_line::{LineStop, asked};
 use std::alloc::{AllocError, Global};
 use std::test::Fail;
 

@@ -1,5 +1,9 @@
 use crate::common::tree::place_of;
-use ocfl_report::{Code, Line, OutStop, PlaceStop, put_place, read_place, write_all_of};
+use ocfl_report::laws::line_reads_back;
+use ocfl_report::{
+    Code, Line, LineStop, OutStop, PlaceStop, put_place, read_line, read_place, split_once,
+    write_all_of,
+};
 use ocfl_tree::Place;
 use std::alloc::Global;
 use std::io::{self, ErrorKind, Write};
@@ -227,6 +231,124 @@ fn codes_are_named_and_found(rt: HostRuntime) -> Result<(), Fail> {
         assert_eq!(rt; line.is_finding(), !is_note, "{wanted}");
     }
     Ok(())
+}
+
+#[test]
+fn lines_are_read(rt: HostRuntime) -> Result<(), Fail> {
+    let alloc = rt.alloc();
+    for (text, code, path, detail) in [
+        ("ok\t.\t-\n", Code::Clean, "", "-"),
+        (
+            "ok\to/v1/content/a\t4\n",
+            Code::Clean,
+            "o/v1/content/a",
+            "4",
+        ),
+        (
+            "E023\to/v1/content/%C3%A9%09%25 \t-\n",
+            Code::E023,
+            "o/v1/content/é\t% ",
+            "-",
+        ),
+        (
+            "E099\to\ta%09b%0Ac%7F%C3%A9%25 d/\n",
+            Code::E099,
+            "o",
+            "a\tb\nc\u{7F}é% d/",
+        ),
+        ("E017\to\t\n", Code::E017, "o", ""),
+    ] {
+        let line = read_line(alloc, text.as_bytes())?;
+        assert_eq!(rt; line.code, code, "{text}");
+        assert_eq!(rt; line.place, place_of(alloc, path)?, "{text}");
+        assert_eq!(rt; line.detail.as_str(), detail, "{text}");
+    }
+    Ok(())
+}
+
+#[test]
+fn each_code_is_read_back(rt: HostRuntime) -> Result<(), Fail> {
+    let alloc = rt.alloc();
+    for code in CODES {
+        let place = place_of(alloc, "o/é")?;
+        let detail = String::from_str(alloc, "é d")?;
+        let line = Line {
+            code,
+            place,
+            detail,
+        };
+        let read = line_reads_back(alloc, &line)?;
+        assert_eq!(rt; read.code, code);
+        assert_eq!(rt; read.place, line.place);
+        assert_eq!(rt; read.detail.as_str(), "é d");
+    }
+    Ok(())
+}
+
+/// Bytes that are the text of no line.
+const NO_LINES: [&str; 37] = [
+    // No line feed, or more than one.
+    "",
+    "\n",
+    "ok\t.\t-",
+    "ok\t.\t-\n\n",
+    "ok\t.\t-\nok\to\t-\n",
+    "ok\t.\t-\r\n",
+    // Fewer tabs than two, or more.
+    "ok\n",
+    "ok\t.\n",
+    "ok\t.\t-\t\n",
+    "ok\t\t.\t-\n",
+    "\tok\t.\t-\n",
+    // Other codes.
+    "\t.\t-\n",
+    "OK\t.\t-\n",
+    "ok \t.\t-\n",
+    "e023\to\t-\n",
+    "E02\to\t-\n",
+    "E0233\to\t-\n",
+    "E002\to\t-\n",
+    "S09\to\t-\n",
+    // No place.
+    "ok\t\t-\n",
+    "ok\t/\t-\n",
+    "ok\ta/\t-\n",
+    "ok\ta//b\t-\n",
+    "ok\t..\t-\n",
+    "ok\t%2E\t-\n",
+    "ok\té\t-\n",
+    // Small digits, escapes of what stands as it is, broken escapes, bytes that are not UTF-8.
+    "ok\t%c3%a9\t-\n",
+    "E018\to\t%c3%a9\n",
+    "E018\to\t%C3%a9\n",
+    "E018\to\t%2E\n",
+    "E018\to\t%41\n",
+    "E018\to\t%20\n",
+    "E018\to\t%\n",
+    "E018\to\t%4\n",
+    "E018\to\té\n",
+    "E018\to\t%C3\n",
+    "E018\to\t%FF\n",
+];
+
+#[test]
+fn other_lines_are_bad(rt: HostRuntime) -> Result<(), Fail> {
+    let alloc = rt.alloc();
+    for text in NO_LINES {
+        let read = read_line(alloc, text.as_bytes()).err();
+        assert_eq!(rt; read, Some(LineStop::Bad), "{text}");
+    }
+    Ok(())
+}
+
+#[test]
+fn texts_are_split_at_the_first(rt: HostRuntime) {
+    for (text, front, rest) in [("a b c", "a", "b c"), (" a", "", "a"), ("a ", "a", "")] {
+        let parts = Some((front.as_bytes(), rest.as_bytes()));
+        assert_eq!(rt; split_once(text.as_bytes(), b' '), parts, "{text}");
+    }
+    assert_eq!(rt; split_once(b"ab", b' '), None);
+    assert_eq!(rt; split_once(b"", b' '), None);
 }
 
 #[test]

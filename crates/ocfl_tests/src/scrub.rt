@@ -2,10 +2,12 @@
 mod audit;
 mod check;
 mod cycle;
+mod cycle_stop;
 mod entered;
 mod faults;
 mod head;
 mod inventory;
+mod large;
 mod lying;
 mod odd_store;
 mod perform;

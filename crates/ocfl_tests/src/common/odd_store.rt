@@ -2,7 +2,7 @@
 ghost use Rattle.std.specs.Prelude.{false};
 ghost use Rattle.ocfl_tree.specs.MemTree.{empty_store};
 
-use ocfl_tree::{Entry, MemTree, Place, Tree, Trouble};
+use ocfl_tree::{Entry, Kind, MemTree, Name, Place, Tree, Trouble};
 
 /// How a store differs from the one in memory that stands behind it.
 #[derive(Drop)]
@@ -13,6 +13,22 @@ pub enum Oddity {
     Repeats(Place),
     /// The file at this place goes on with the byte `x` and never ends.
     NeverEnds(Place),
+    /// The root has so many files more, whose names begin with `a`.
+    Crowds(u64),
+}
+
+/// So many files more for a listing.
+fn crowd(entries: &mut Vec<Entry>, count: u64) -> Result<(), Trouble> {
+    let alloc = *entries.allocator();
+    for number in 0..count {
+        let name = format!(in alloc; "a{number}")?;
+        let Ok(name) = Name::new(alloc, name.as_str()) else {
+            return Err(Trouble::Memory);
+        };
+        let kind = Kind::File;
+        entries.push(Entry { name, kind })?;
+    }
+    Ok(())
 }
 
 /// A store in memory that answers oddly.
@@ -52,6 +68,11 @@ impl Tree for Odd {
         self.look(place)?;
         match &self.oddity {
             Oddity::Repeats(deep) if !place.path().is_empty() => self.inner.list(deep),
+            Oddity::Crowds(count) if place.path().is_empty() => {
+                let mut entries = self.inner.list(place)?;
+                crowd(&mut entries, *count)?;
+                Ok(entries)
+            }
             _ => self.inner.list(place),
         }
     }

@@ -1,4 +1,4 @@
-//! Writers that fail.
+//! Writers that fail, and one that counts its calls.
 use std::alloc::Global;
 use std::io::{self, ErrorKind, Write};
 
@@ -25,6 +25,32 @@ impl Write for Narrow {
         self.kept.extend_from_slice(&buffer[..count])?;
         self.room -= count;
         Ok(count)
+    }
+
+    fn flush(&mut self) -> io::Result<()> {
+        Ok(())
+    }
+}
+
+/// Keeps all bytes, and counts the calls that brought some.
+#[derive(Drop)]
+pub struct Counting {
+    pub calls: usize,
+    pub kept: Vec<u8>,
+}
+
+impl Counting {
+    pub fn new(alloc: Global) -> Counting {
+        let kept = Vec::new(alloc);
+        Counting { calls: 0, kept }
+    }
+}
+
+impl Write for Counting {
+    fn write(&mut self, buffer: &[u8]) -> io::Result<usize> {
+        self.calls = self.calls.saturating_add(1);
+        self.kept.extend_from_slice(buffer)?;
+        Ok(buffer.len())
     }
 
     fn flush(&mut self) -> io::Result<()> {

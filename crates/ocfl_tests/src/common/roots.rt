@@ -75,8 +75,16 @@ const THREE_FILES: Root = (
     (9, 0),
 );
 
+/// The content files `a-b` and `a/b` of the bytes `abc`.
+const TWO_FILES: Root = (
+    Some((r#""ABC_SHA256":["v1/content/a/b","v1/content/a-b"]"#, "")),
+    &[("o/v1/content/a/b", "abc"), ("o/v1/content/a-b", "abc")],
+    "ok|.|-\nok|o|-\nok|o/v1/content/a/b|3\nok|o/v1/content/a-b|3\n",
+    (8, 0),
+);
+
 /// Storage roots whose audits and walks are tried.
-pub const ROOTS: [Root; 33] = [
+pub const ROOTS: [Root; 34] = [
     UNDER_FOUR_ALGORITHMS,
     WRONG_FIXITY,
     MISSING_AND_THERE,
@@ -229,6 +237,13 @@ pub const ROOTS: [Root; 33] = [
         "ok|.|-\nE101|o|v1/content/f\nok|o/v1/content/f|3\nE092|o/v1/content/f/g|sha256 missing\n",
         (4, 1),
     ),
+    // a file that one algorithm of fixity alone names is read
+    (
+        Some(("", r#""sha512/256":{"ABC_SHA512/256":["v1/content/f"]}"#)),
+        &[(FILE, "abc")],
+        "ok|.|-\nok|o|-\nE023|o/v1/content/f|-\n",
+        (4, 1),
+    ),
     // what lies in an object
     (
         F_OF_ABC,
@@ -270,12 +285,7 @@ pub const ROOTS: [Root; 33] = [
         (4, 1),
     ),
     // the order of names and paths
-    (
-        Some((r#""ABC_SHA256":["v1/content/a/b","v1/content/a-b"]"#, "")),
-        &[("o/v1/content/a/b", "abc"), ("o/v1/content/a-b", "abc")],
-        "ok|.|-\nok|o|-\nok|o/v1/content/a/b|3\nok|o/v1/content/a-b|3\n",
-        (8, 0),
-    ),
+    TWO_FILES,
     (
         THREE_VERSIONS,
         &[
@@ -328,6 +338,10 @@ pub fn wrong_fixity(alloc: Global) -> Result<MemTree, Fail> {
 
 pub fn missing_and_there(alloc: Global) -> Result<MemTree, Fail> {
     built(alloc, &MISSING_AND_THERE)
+}
+
+pub fn two_files(alloc: Global) -> Result<MemTree, Fail> {
+    built(alloc, &TWO_FILES)
 }
 
 pub fn three_files(alloc: Global) -> Result<MemTree, Fail> {

@@ -33,7 +33,7 @@ type Check = (
     usize,
 );
 
-const CHECKS: [Check; 20] = [
+const CHECKS: [Check; 21] = [
     (BY_SHA512, &[], FILE, FILE_IS_OK, 0, 1),
     (
         r#""digestAlgorithm":"sha512","manifest":{"ABC_LONG_CAPITALS":["v1/content/f"]}"#,
@@ -122,6 +122,14 @@ const CHECKS: [Check; 20] = [
         FILE,
         "ok|o/v1/content/f|0\n",
         0,
+        1,
+    ),
+    (
+        r#""digestAlgorithm":"sha256","manifest":{},"fixity":{"sha512/256":{"ABC_SHA512/256":["v1/content/f"]}}"#,
+        &[],
+        FILE,
+        "E023|o/v1/content/f|-\n",
+        1,
         1,
     ),
     // another content directory

@@ -1,19 +1,17 @@
 //! Cycles: runs from the first item on, each with its limits.
 use super::roots::HEADS;
 use super::run_figures::{
-    A, ALL, B, C, MOST, budgets, cycle_says, due_of, equal_limits, expect_cycle, limits,
+    A, ALL, B, C, MOST, budgets, cycle_says, equal_limits, expect_cycle, limits,
 };
-use super::stop::Tried;
 use crate::common::object::{bare_root, object_listing};
 use crate::common::output::Narrow;
 use crate::common::roots::{long_object, right_objects, three_files};
 use crate::common::tree::{opened_from, place_of, put, times_opened};
 use ocfl_cursor::Limits;
 use ocfl_digest::Block;
-use ocfl_scrub::{CycleEnd, CycleStatus, cycle};
+use ocfl_scrub::{CycleEnd, cycle};
 use ocfl_tree::{MemTree, Point};
 use std::alloc::Global;
-use std::process::Abort;
 use std::test::Fail;
 
 #[test]
@@ -142,7 +140,7 @@ fn three_hundred_runs(rt: HostRuntime) -> Result<(), Fail> {
 // ---- stops
 
 /// What a cycle with these limits writes to a narrow output, and what it says.
-fn cycle_into(
+pub(crate) fn cycle_into(
     alloc: Global,
     store: &mut MemTree,
     limits: &[Limits],
@@ -150,25 +148,6 @@ fn cycle_into(
 ) -> Result<CycleEnd, Fail> {
     let mut block = Block::new(alloc)?;
     Ok(cycle(alloc, store, limits, &mut block, out))
-}
-
-/// A cycle whose output takes so many bytes of the report says what the items cost that went out
-/// whole.
-pub(crate) fn expect_cut_cycle(
-    rt: &(impl Abort + AllocGlobal),
-    root: &mut Tried,
-    room: usize,
-) -> Result<(), Fail> {
-    let mut out = Narrow::new(rt.alloc(), room);
-    let limits = budgets(rt.alloc(), &[1, 1, 1, 1])?;
-    let stopped = cycle_into(rt.alloc(), &mut root.store, limits.as_slice(), &mut out)?;
-    assert!(rt; matches!(stopped.end, CycleStatus::Stopped(_)));
-    assert!(rt; root.begins_with(out.kept.as_slice(), room), "room {room}");
-    let (due, _) = due_of(root.all.as_str(), room)?;
-    assert_eq!(rt; stopped.spent, u128::from(due.spent), "after {room} bytes");
-    assert_eq!(rt; stopped.files, u128::from(due.files), "after {room} bytes");
-    assert_eq!(rt; stopped.found, due.found, "after {room} bytes");
-    Ok(())
 }
 
 #[test]

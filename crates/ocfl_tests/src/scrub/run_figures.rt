@@ -254,6 +254,20 @@ fn whole_items(report: &str, room: usize) -> usize {
     whole
 }
 
+/// How many items these lines are. Lines of one place are one item.
+pub(crate) fn items_in(report: &str) -> usize {
+    let mut count = 0usize;
+    let mut before: Option<&str> = None;
+    for line in report.lines() {
+        let place = line.split('\t').nth(1);
+        if place != before {
+            count = count.saturating_add(1);
+        }
+        before = place;
+    }
+    count
+}
+
 /// The figures of the items that went out whole, where so many bytes of the report did, and the
 /// report behind them.
 pub(crate) fn due_of(report: &str, room: usize) -> Result<(Figures, &str), Fail> {

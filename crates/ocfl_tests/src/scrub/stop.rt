@@ -1,5 +1,4 @@
 //! What stops audits, runs and cycles: a call of the store, and a byte of the output.
-use super::cycle::expect_cut_cycle;
 use super::entered::rest_behind;
 use super::faults::expect_dropped;
 use super::roots::expect_audit;
@@ -7,7 +6,7 @@ use super::run_figures::{MOST, budgets, expect_cycle, expect_run, limits};
 use super::run_stop::expect_cut_runs;
 use crate::common::output::Narrow;
 use crate::common::roots::{
-    long_object, missing_and_there, right_objects, three_files, under_four_algorithms,
+    long_object, missing_and_there, right_objects, three_files, two_files, under_four_algorithms,
 };
 use crate::common::tree::place_of;
 use ocfl_cursor::Cursor;
@@ -59,6 +58,17 @@ fn calls_that_stop(rt: HostRuntime) -> Result<(), Fail> {
 }
 
 #[test]
+fn nothing_is_listed_after_a_listing_that_fails(rt: HostRuntime) -> Result<(), Fail> {
+    let alloc = rt.alloc();
+    let mut store = stopping(alloc, "o", Point::List)?;
+    store.put_dir(&place_of(alloc, "p")?)?;
+    expect_audit(&rt, &mut store, "ok|.|-\n", 3, "stopped at o")?;
+    let listed = [Place::root(alloc), place_of(alloc, "o")?];
+    assert!(rt; store.listings() == listed.as_slice());
+    Ok(())
+}
+
+#[test]
 fn place_of_the_last_item(rt: HostRuntime) -> Result<(), Fail> {
     let alloc = rt.alloc();
     let mut block = Block::new(alloc)?;
@@ -85,7 +95,7 @@ pub(crate) fn whole(alloc: Global, store: &mut MemTree) -> Result<String, Fail> 
 }
 
 /// How many storage roots `root_by` has.
-pub(crate) const ROOTS: u64 = 5;
+pub(crate) const ROOTS: u64 = 6;
 
 /// One of the storage roots that are tried with each failure.
 pub(crate) fn root_by(alloc: Global, number: u64) -> Result<MemTree, Fail> {
@@ -94,6 +104,7 @@ pub(crate) fn root_by(alloc: Global, number: u64) -> Result<MemTree, Fail> {
         1 => three_files(alloc),
         2 => long_object(alloc, "ABC_SHA512"),
         3 => under_four_algorithms(alloc),
+        4 => two_files(alloc),
         _ => right_objects(alloc, &["o1", "o2", "o3"]),
     }
 }
@@ -151,9 +162,6 @@ fn output_that_fails_at_each_byte(rt: HostRuntime) -> Result<(), Fail> {
             expect_dropped(&rt, &mut root, room)?;
             for budget in [100, 1] {
                 expect_cut_runs(&rt, &mut root, room, budget)?;
-            }
-            if number < 2 {
-                expect_cut_cycle(&rt, &mut root, room)?;
             }
         }
         let room = root.all.len();

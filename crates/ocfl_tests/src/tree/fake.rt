@@ -44,7 +44,7 @@ impl Faults {
 }
 
 /// A folder that has these names, each ended by a NUL; `gone` is not there when it is looked at,
-/// and names that end in `dir` are directories.
+/// names that end in `dir` are directories, and `other` is a file that is another once it is open.
 #[derive(Clone, Drop)]
 struct Fake {
     alloc: Global,
@@ -83,6 +83,7 @@ struct FakeDir {
 struct FakeFile {
     faults: Faults,
     left: u8,
+    is_other: bool,
 }
 
 fn unsupported<T>() -> io::Result<T>
@@ -136,6 +137,9 @@ impl Seek for FakeFile {
 impl OpenFile for FakeFile {
     fn metadata(&self) -> io::Result<Metadata> {
         self.faults.meet(Call::Opened)?;
+        if self.is_other {
+            return Ok(Metadata::of_dir());
+        }
         Ok(Metadata::of_file(3))
     }
 
@@ -165,12 +169,13 @@ impl Files for Fake {
 
     type Dir = FakeDir;
 
-    fn open_file(&self, how: &OpenOptions, _path: &str) -> io::Result<FakeFile> {
+    fn open_file(&self, how: &OpenOptions, path: &str) -> io::Result<FakeFile> {
         how.check()?;
         self.faults.meet(Call::OpenFile)?;
         Ok(FakeFile {
             faults: self.faults.clone()?,
             left: 3,
+            is_other: path.ends_with("other"),
         })
     }
 
@@ -295,6 +300,15 @@ fn faults_of_the_system_are_told_apart(rt: HostRuntime) -> Result<(), Fail> {
         let want = if absent { Trouble::Device } else { want };
         assert_eq!(rt; answer, Err(want));
     }
+    Ok(())
+}
+
+#[test]
+fn a_file_that_is_another_once_it_is_open_is_the_devices(rt: HostRuntime) -> Result<(), Fail> {
+    let files = Fake::new(rt.alloc(), b"other\0", Call::Name, ErrorKind::Other, 0)?;
+    let mut store = FsTree::at(files, "top")?;
+    let opened = store.open(&place_of(rt.alloc(), "other")?);
+    assert_eq!(rt; opened, Err(Trouble::Device));
     Ok(())
 }
 

@@ -24,4 +24,4 @@ pub returns-in-Ok-clause-told : goal.returns-in-Ok-clause-told
 returns-in-Ok-clause-told g c told root e short p valid is =
     let read : place_text c.in-Ok.place ≡ place_text p = sym (sym c.as_bytes.ensures.value ∙ c.in-Ok.ensures.ok) ∙ is in
     let same : c.in-Ok.place ≡ p = place_text_determines c.in-Ok.place p c.in-Ok.ensures.names valid read in
-    inl (checked_there root _ _ _ _ p _ c.check.result _ _ same (c.check.ensures.told told root e short) c.noted.ensures.note)
+    inl (checked_there root _ _ _ _ p _ c.check.result _ _ same (c.check.ensures.told told root e short) c.describe_check.ensures.note)

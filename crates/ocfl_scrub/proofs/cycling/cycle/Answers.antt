@@ -24,7 +24,7 @@ loop-one-init g c = record {
 pub returns-in_default-clause-told : goal.returns-in_default-clause-told
 returns-in_default-clause-told g c told root over short =
     let e = c.cycle_end.ensures in
-    cycle_said root _ _ _ _ _ _ _ _ _ _ _ e.cursor e.found e.end (goes_unbegun root _ _ _ _ _ _ _ _ (c.loop-one.invariant.told told root over short))
+    cycle_said root _ _ _ _ _ _ _ _ _ _ _ e.cursor e.found e.end (goes_unbegun root _ _ _ _ _ _ _ _ (c.loop-one.invariant.told told root over short) (omega (arith, c.in_default.ensures.further, c.loop-one.invariant.counts)))
 
 pub returns-in-Ended-clause-lines : goal.returns-in-Ended-clause-lines
 returns-in-Ended-clause-lines g c wrote =
@@ -37,7 +37,7 @@ returns-in-Ended-clause-told g c told root over short =
     let next = limits_next c.args.limits.now c.loop-one.one-index c.one-item.result c.loop-one-test.true c.one-item.is in
     let took = c.run-reached.ensures.told told root (goes_over root _ _ _ _ _ _ _ _ goes) short (ended_not_worn _ c.in-Ended.is) in
     cycle_said root _ _ _ _ _ _ _ _ _ _ _ e.cursor e.found e.end
-    (turn_ended root _ _ _ _ _ _ _ _ goes _ _ _ _ _ _ _ _ _ _ _ next c.in-Ok.ensures took c.either-found.ensures c.in-Ended.is)
+    (turn_ended root _ _ _ _ _ _ _ _ goes _ _ _ _ _ _ _ _ _ _ _ next c.in-Ok.ensures.same took c.either-found.ensures c.in-Ended.is)
 
 pub returns-in-Ended-clause-headline : goal.returns-in-Ended-clause-headline
 returns-in-Ended-clause-headline g c told root over short same =
@@ -45,7 +45,7 @@ returns-in-Ended-clause-headline g c told root over short same =
     let ran = c.run-reached.result in
     let moved = c.run-reached.ensures.cursor (ended_not_worn _ c.in-Ended.is) in
     let e = c.cycle_end-in-Ended.ensures in
-    let counted = e.runs ∙ sym (ap (λ x. x.runs) e.cursor ∙ one_run_more c.loop-one.cursor c.in-Ok.begun ran.cursor ran.spent ran.files ran.end moved.0 c.in-Ok.ensures i.unended moved.1 _ i.counts) in
+    let counted = e.runs ∙ sym (ap (λ x. x.runs) e.cursor ∙ one_run_more c.loop-one.cursor c.in-Ok.begun ran.cursor ran.spent ran.files ran.end moved.0 c.in-Ok.ensures.same i.unended moved.1 _ i.counts) in
     let end = c.cycle_end-in-Ended.result in
     headline_of root (g.T.Tree.state c.args.store.now) (g.T.Tree.state c.run-reached.new.store) (g.W.Write.contents c.args.out.now) (g.W.Write.contents c.run-reached.new.out) (map limits_of c.args.limits.now) end.cursor end.found end.end end.runs
     counted (returns-in-Ended-clause-told g c told root over short) same
@@ -62,7 +62,7 @@ returns-in-Stopped-clause-told g c told root over short =
     let next = limits_next c.args.limits.now c.loop-one.one-index c.one-item.result c.loop-one-test.true c.one-item.is in
     let took = c.run-reached.ensures.told told root (goes_over root _ _ _ _ _ _ _ _ goes) short (stopped_not_worn _ _ c.in-Stopped.is) in
     cycle_said root _ _ _ _ _ _ _ _ _ _ _ e.cursor e.found e.end
-    (turn_stopped root _ _ _ _ _ _ _ _ goes _ _ _ _ _ _ _ _ _ _ _ next c.in-Ok.ensures took c.either-found.ensures _ c.in-Stopped.is)
+    (turn_stopped root _ _ _ _ _ _ _ _ goes _ _ _ _ _ _ _ _ _ _ _ next c.in-Ok.ensures.same took c.either-found.ensures _ c.in-Stopped.is)
 
 pub loop-one-preserved : goal.loop-one-preserved
 loop-one-preserved g c =
@@ -72,9 +72,9 @@ loop-one-preserved g c =
     let moved = c.run-reached.ensures.cursor (spent_not_worn _ going) in
     record {
       counted = ap (λ n. n + 1) i.counted;
-      counts = one_run_more c.loop-one.cursor c.in-Ok.begun ran.cursor ran.spent ran.files ran.end moved.0 c.in-Ok.ensures i.unended moved.1 _ i.counts;
-      cycle = same_cycle c.loop-one.cursor c.in-Ok.begun ran.cursor ran.spent ran.files ran.end moved.0 c.in-Ok.ensures i.unended moved.1 i.cycle;
-      unended = spent_unended c.loop-one.cursor c.in-Ok.begun ran.cursor ran.spent ran.files ran.end moved.0 c.in-Ok.ensures i.unended moved.1 going;
+      counts = one_run_more c.loop-one.cursor c.in-Ok.begun ran.cursor ran.spent ran.files ran.end moved.0 c.in-Ok.ensures.same i.unended moved.1 _ i.counts;
+      cycle = same_cycle c.loop-one.cursor c.in-Ok.begun ran.cursor ran.spent ran.files ran.end moved.0 c.in-Ok.ensures.same i.unended moved.1 i.cycle;
+      unended = spent_unended c.loop-one.cursor c.in-Ok.begun ran.cursor ran.spent ran.files ran.end moved.0 c.in-Ok.ensures.same i.unended moved.1 going;
       begins = λ e. absurd (omega (arith, e));
       none_found = λ e. absurd (omega (arith, e));
       silent = λ e. absurd (omega (arith, e));
@@ -84,7 +84,7 @@ loop-one-preserved g c =
           let goes = i.told told root over short in
           let next = limits_next c.args.limits.now c.loop-one.one-index c.one-item.result c.loop-one-test.true c.one-item.is in
           let took = c.run-reached.ensures.told told root (goes_over root _ _ _ _ _ _ _ _ goes) short (spent_not_worn _ going) in
-          turn_spent root _ _ _ _ _ _ _ _ goes _ _ _ _ _ _ _ _ _ _ _ next c.in-Ok.ensures took c.either-found.ensures going;
+          turn_spent root _ _ _ _ _ _ _ _ goes _ _ _ _ _ _ _ _ _ _ _ next c.in-Ok.ensures.same took c.either-found.ensures going;
     }
 
 pub returns-clause-told : goal.returns-clause-told

@@ -2,7 +2,7 @@ use Rattle.std.proofs.Common.{◌≡◌, subst, inl, ◌∙◌, ap, map}
 use Rattle.ocfl_scrub.specs.Cycling.{CyclesTo, HeadlineOf}
 use Rattle.ocfl_scrub.specs.Running.{limits_of}
 use Rattle.ocfl_scrub.specs.Performing.{equal_limits}
-use Rattle.ocfl_scrub.proofs.performing.performed_cycle.Goals as goal
+use Rattle.ocfl_scrub.proofs.performing.perform_cycle.Goals as goal
 
 pub returns-clause-told : goal.returns-clause-told
 returns-clause-told g c told root over short =
@@ -19,5 +19,5 @@ returns-clause-told g c told root over short =
       headline = λ clean. subst (λ ls. HeadlineOf root s t old new ls end.runs end.end) same (e.headline told root over short clean);
       count_is = e.runs;
       spent_is = e.spent;
-      says = c.cycle_noted.ensures.note;
+      says = c.describe_cycle.ensures.note;
     })

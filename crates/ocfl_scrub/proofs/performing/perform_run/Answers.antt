@@ -2,13 +2,13 @@ use Rattle.std.proofs.Common.{ap}
 use Rattle.ocfl_scrub.specs.Performing.{bytes_of}
 use Rattle.ocfl_scrub.specs.Running.{limits_of}
 use Rattle.ocfl_scrub.proofs.PerformLaws.{Made, handed_back, run_performed}
-use Rattle.ocfl_scrub.proofs.performing.performed_run.Given as given
-use Rattle.ocfl_scrub.proofs.performing.performed_run.Goals as goal
+use Rattle.ocfl_scrub.proofs.performing.perform_run.Given as given
+use Rattle.ocfl_scrub.proofs.performing.perform_run.Goals as goal
 
-made : (g : given.Over) (c : goal.After-ran g) → Made (bytes_of g.R.Read.remaining c.args.reader) (limits_of c.args.limits) c.in-Ok.cursor c.run-end.result c.ran.result
+made : (g : given.Over) (c : goal.After-conclude_run g) → Made (bytes_of g.R.Read.remaining c.args.reader) (limits_of c.args.limits) c.in-Ok.cursor c.run-end.result c.conclude_run.result
 made g c =
     let r = c.run-end.ensures in
-    let e = c.ran.ensures in
+    let e = c.conclude_run.ensures in
     record {
       begins = c.in-Ok.ensures.cursor;
       paid = r.paid;

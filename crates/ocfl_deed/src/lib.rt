@@ -1,0 +1,6 @@
+//! What the program is asked to do, whoever asks it.
+#![tactic(auto)]
+
+mod deed;
+
+pub use deed::{Asked, Deed};

@@ -1,0 +1,121 @@
+-- What is refused, shown and handed back of a cursor that is stored.
+use Rattle.std.proofs.Common.{◌≡◌, refl, subst, arith, sym, ◌∙◌, ap, ℕ, ◌+◌, ◌<◌, List, ◌++◌, length, take, Bool, true, false, Option, Some, None, Vec, inl, inr}
+use Rattle.std.specs.Prelude.{◌≢◌, ◌↔◌, if◌then◌else◌}
+use Rattle.std.specs.declared.alloc.Global.{Global}
+use Rattle.ocfl_tree.specs.Place.{Text, Place}
+use Rattle.ocfl_cursor.specs.Cursor.{Cursor, new_cursor, cursor_lines, cursor_text}
+use Rattle.ocfl_cursor.specs.Moves.{after_run}
+use Rattle.ocfl_cursor.specs.Refusal.{Refusal, refusal, IsTextOf}
+use Rattle.ocfl_cursor.specs.Refused.{reason}
+use Rattle.ocfl_audit.specs.Runs.{Limits}
+use Rattle.ocfl_cursor.specs.declared.limits.Limits.{Limits as MadeLimits}
+use Rattle.ocfl_cursor.specs.declared.refused.Refused.{Refused}
+use Rattle.ocfl_cursor.specs.declared.refused.Refused.TheVariants as refused
+use Rattle.ocfl_deed.specs.declared.deed.Deed.{Deed}
+use Rattle.ocfl_deed.specs.declared.deed.Deed.TheVariants as deed
+use Rattle.ocfl_item.specs.declared.fault.Fault.{Fault}
+use Rattle.ocfl_item.specs.declared.fault.Fault.TheVariants as fault
+use Rattle.ocfl_scrub.specs.Noting.{IsRunNote, IsStopNote}
+use Rattle.ocfl_scrub.specs.Performing.{RefusesRightly, IsWithoutFile, ShowsWith, HandsBack, HandedBack}
+use Rattle.ocfl_scrub.specs.Running.{IsPaid, begun, limits_of, state_after}
+use Rattle.ocfl_scrub.specs.declared.note.Note.{Note}
+use Rattle.ocfl_scrub.specs.declared.note.Note.TheVariants as note
+use Rattle.ocfl_scrub.specs.declared.running.RunStatus.{RunStatus}
+use Rattle.ocfl_scrub.specs.declared.running.RunStatus.TheVariants as run
+
+-- ---- what is refused
+
+unsome : (x y : Refusal) → Some x ≡ Some y → y ≡ x
+unsome x y e = cc
+
+pub refused_for : (bytes : Text) (why : Refused) → why ≢ refused.Memory
+    → RefusesRightly (Some (Some bytes)) (note.CursorRefused why) ↔ (((c : Cursor) → IsTextOf bytes c → ⊥) × (reason why ≡ Some (refusal bytes)))
+refused_for bytes refused.Memory some = absurd (some refl)
+refused_for bytes refused.NotCursor some = (λ h. (h.no_cursor, ap Some (sym h.reason)), λ k. record { no_cursor = k.0; reason = unsome _ _ k.1 })
+refused_for bytes refused.Version some = (λ h. (h.no_cursor, ap Some (sym h.reason)), λ k. record { no_cursor = k.0; reason = unsome _ _ k.1 })
+refused_for bytes refused.Damaged some = (λ h. (h.no_cursor, ap Some (sym h.reason)), λ k. record { no_cursor = k.0; reason = unsome _ _ k.1 })
+refused_for bytes refused.Malformed some = (λ h. (h.no_cursor, ap Some (sym h.reason)), λ k. record { no_cursor = k.0; reason = unsome _ _ k.1 })
+
+pub none_refused : (why : Refused) → RefusesRightly None (note.CursorRefused why) → ⊥
+none_refused why h = h
+
+-- ---- without a file
+
+pub none_shown : (n : Note) → IsWithoutFile None deed.Show n ↔ (n ≡ note.CursorFileFailed)
+none_shown n = (λ h. h, λ h. h)
+
+pub none_needed : (limits : MadeLimits) (n : Note) → IsWithoutFile None (deed.Run limits) n ↔ (n ≢ note.CursorFileFailed)
+none_needed limits n = (λ h. h, λ h. h)
+
+-- ---- what is shown
+
+module _ (one : (b : Text) (c d : Cursor) → IsTextOf b c → IsTextOf b d → c ≡ d) where
+  pub shown_whole : (bytes before behind : Text) (c : Cursor) → IsTextOf bytes c
+      → ShowsWith (Some (Some bytes)) note.Nothing (Some before) (Some behind) ↔ (behind ≡ before ++ cursor_lines c)
+  shown_whole bytes before behind c is =
+      (λ h. h.wrote ∙ ap (λ d. before ++ cursor_lines d) (one bytes h.shown c h.stored is), λ e. record { shown = c; stored = is; wrote = e })
+
+  pub shown_in_part : (bytes before behind : Text) (c : Cursor) → IsTextOf bytes c
+      → ShowsWith (Some (Some bytes)) note.OutputFailed (Some before) (Some behind)
+      ↔ ((gone : ℕ) × ((gone < length (cursor_lines c)) × (behind ≡ before ++ take gone (cursor_lines c))))
+  shown_in_part bytes before behind c is =
+      (λ h. let same = one bytes h.shown c h.stored is in
+          let lines : cursor_lines h.shown ≡ cursor_lines c = ap cursor_lines same in
+          let long : length (cursor_lines h.shown) ≡ length (cursor_lines c) = ap length lines in
+          let proper = h.proper in
+          (h.gone, (omega (arith, proper, long), h.wrote ∙ ap (λ t. before ++ take h.gone t) lines))
+      , λ k. record { shown = c; stored = is; gone = k.0; proper = k.1.0; wrote = k.1.1 })
+
+-- ---- what is handed back
+
+no_summary : (why : Fault) (cycle runs cost : ℕ) (whole : Bool) → IsStopNote why (note.RunMade cycle runs cost whole) → ⊥
+no_summary (fault.Store p) cycle runs cost whole e = cc
+no_summary fault.Memory cycle runs cost whole e = cc
+no_summary fault.Output cycle runs cost whole e = cc
+no_summary fault.Broken cycle runs cost whole e = e
+
+-- how a run ended that is summed up so
+abbrev ended_as : Bool → RunStatus
+ended_as whole = if whole then run.Ended else run.Spent
+
+-- what a summary says of the run
+record IsOf (c : Cursor) (spent : ℕ) (how : RunStatus) (cycle runs cost : ℕ) (whole : Bool) : Type 0 where
+  pub cycle_is : cycle ≡ c.cycle
+  pub runs_are : runs ≡ c.runs
+  pub cost_is : spent ≡ cost
+  pub how_is : how ≡ ended_as whole
+
+summed_up : (c : Cursor) (spent : ℕ) (finding : Bool) (how : RunStatus) (status cycle runs cost : ℕ) (whole : Bool)
+    → IsRunNote c spent finding how status (note.RunMade cycle runs cost whole) → IsOf c spent how cycle runs cost whole
+summed_up c spent finding run.Ended status cycle runs cost true h = let e = h.1 in record { cycle_is = cc; runs_are = cc; cost_is = cc; how_is = refl }
+summed_up c spent finding run.Ended status cycle runs cost false h = absurd (let e = h.1 in cc)
+summed_up c spent finding run.Spent status cycle runs cost true h = absurd (let e = h.1 in cc)
+summed_up c spent finding run.Spent status cycle runs cost false h = let e = h.1 in record { cycle_is = cc; runs_are = cc; cost_is = cc; how_is = refl }
+summed_up c spent finding (run.Stopped why) status cycle runs cost whole h = absurd (no_summary why cycle runs cost whole h.1)
+summed_up c spent finding run.Worn status cycle runs cost whole h = absurd (let e = h.1 in cc)
+
+-- the text that is handed back after a run that is summed up so, from this cursor
+abbrev LedFrom : Cursor → Limits → ℕ → ℕ → ℕ → Bool → Text → Type 0
+LedFrom c limits cycle runs cost whole text = (files : ℕ) × ((last : Option Place) × (IsPaid limits cost files × ((cycle ≡ (begun c).cycle) × ((runs ≡ (begun c).runs + 1)
+    × (text ≡ cursor_text (after_run (begun c) cost files (state_after (ended_as whole) last)))))))
+
+led_from : (known : Option (Option Text)) (limits : Limits) (status cycle runs cost : ℕ) (whole : Bool) (text : Text) (c : Cursor)
+    → (h : HandedBack known limits status (note.RunMade cycle runs cost whole) text) → h.from ≡ c → LedFrom c limits cycle runs cost whole text
+led_from known limits status cycle runs cost whole text c h same =
+    let u = summed_up h.ran.cursor h.ran.spent h.ran.found h.ran.end status cycle runs cost whole h.says in
+    let paid : IsPaid limits cost h.ran.files = subst (λ k. IsPaid limits k h.ran.files) u.cost_is h.paid in
+    let led : h.ran.cursor ≡ after_run (begun c) cost h.ran.files (state_after (ended_as whole) h.last) =
+        h.cursor_is ∙ ap (λ b. after_run (begun b) h.ran.spent h.ran.files (state_after h.ran.end h.last)) same
+        ∙ ap (λ k. after_run (begun c) k h.ran.files (state_after h.ran.end h.last)) u.cost_is
+        ∙ ap (λ e. after_run (begun c) cost h.ran.files (state_after e h.last)) u.how_is in
+    (h.ran.files, (h.last, (paid, (u.cycle_is ∙ ap (λ d. d.cycle) led, (u.runs_are ∙ ap (λ d. d.runs) led, h.handed_is ∙ ap cursor_text led)))))
+
+pub led_from_the_first : (limits : MadeLimits) (status cycle runs cost : ℕ) (whole : Bool) (stored : Vec ℕ Global)
+    → HandsBack None (deed.Run limits) status (note.RunMade cycle runs cost whole) (Some stored) → LedFrom new_cursor (limits_of limits) cycle runs cost whole stored.items
+led_from_the_first limits status cycle runs cost whole stored h = led_from None (limits_of limits) status cycle runs cost whole stored.items new_cursor h h.begins
+
+module _ (one : (b : Text) (c d : Cursor) → IsTextOf b c → IsTextOf b d → c ≡ d) where
+  pub led_from_the_stored : (bytes : Text) (c : Cursor) (limits : MadeLimits) (status cycle runs cost : ℕ) (whole : Bool) (stored : Vec ℕ Global) → IsTextOf bytes c
+      → HandsBack (Some (Some bytes)) (deed.Run limits) status (note.RunMade cycle runs cost whole) (Some stored) → LedFrom c (limits_of limits) cycle runs cost whole stored.items
+  led_from_the_stored bytes c limits status cycle runs cost whole stored is h =
+      led_from (Some (Some bytes)) (limits_of limits) status cycle runs cost whole stored.items c h (one bytes h.from c h.begins is)

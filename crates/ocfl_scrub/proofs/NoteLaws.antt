@@ -1,0 +1,280 @@
+-- What the status and the text that a command ends with say of it.
+use Rattle.std.proofs.Common.{◌≡◌, refl, sym, ◌∙◌, ℕ, ◌≤◌, suc, Some, None, Vec, inl, inr, Bool, true, false, arith}
+use Rattle.std.specs.Prelude.{◌≢◌, ◌⊎◌, ◌↔◌}
+use Rattle.std.specs.declared.alloc.Global.{Global}
+use Rattle.ocfl_cursor.specs.Cursor.{Cursor, start, new_cursor}
+use Rattle.ocfl_cursor.specs.declared.limits.Limits.{Limits}
+use Rattle.ocfl_cursor.specs.declared.reading.CursorStop.{CursorStop}
+use Rattle.ocfl_cursor.specs.declared.reading.CursorStop.TheVariants as stop
+use Rattle.ocfl_cursor.specs.declared.refused.Refused.{Refused}
+use Rattle.ocfl_cursor.specs.declared.refused.Refused.TheVariants as refused
+use Rattle.ocfl_item.specs.declared.fault.Fault.{Fault}
+use Rattle.ocfl_item.specs.declared.fault.Fault.TheVariants as fault
+use Rattle.ocfl_deed.specs.declared.deed.Deed.{Deed}
+use Rattle.ocfl_deed.specs.declared.deed.Deed.TheVariants as deed
+use Rattle.ocfl_scrub.specs.Noting.{IsStatus, IsStopSaid, IsRunSaid, IsStopNote, IsAuditSaid, IsCheckSaid, IsCycleSaid, IsShowSaid, IsCheckNote, IsAuditNote, IsRunNote, IsCycleNote, IsUnreadNote}
+use Rattle.ocfl_scrub.specs.Performing.{IsKept, IsKeptBy, IsSilent, IsWhole}
+use Rattle.ocfl_scrub.specs.declared.checking.End.{End}
+use Rattle.ocfl_scrub.specs.declared.checking.End.TheVariants as end
+use Rattle.ocfl_scrub.specs.declared.running.RunStatus.{RunStatus}
+use Rattle.ocfl_scrub.specs.declared.running.RunStatus.TheVariants as run
+use Rattle.ocfl_scrub.specs.declared.cycling.CycleStatus.{CycleStatus}
+use Rattle.ocfl_scrub.specs.declared.cycling.CycleStatus.TheVariants as cycle
+use Rattle.ocfl_scrub.specs.declared.note.Note.{Note}
+use Rattle.ocfl_scrub.specs.declared.note.Note.TheVariants as note
+
+module _ {A B : Type 0} where
+  agree : A → B → A ↔ B
+  agree a b = (λ x. b, λ y. a)
+
+  neither : (A → ⊥) → (B → ⊥) → A ↔ B
+  neither f g = (λ x. absurd (f x), λ y. absurd (g y))
+
+  none_of : (A → ⊥) → (B → ⊥) → A ⊎ B → ⊥
+  none_of f g (inl x) = f x
+  none_of f g (inr y) = g y
+
+never : ⊥ → ⊥
+never x = x
+
+-- ---- statuses
+
+small : (s : ℕ) → (s ≡ 0) ⊎ (s ≡ 1) → s ≤ 1
+small s (inl e) = omega (arith, e)
+small s (inr e) = omega (arith, e)
+
+not_small : (s : ℕ) → (suc (suc s) ≡ 0) ⊎ (suc (suc s) ≡ 1) → ⊥
+not_small s h = let m = small (suc (suc s)) h in omega (arith, m)
+
+pub without_finding : (n : Note) → IsStatus 0 n ↔ (IsWhole n ⊎ (n ≡ note.NoItem))
+without_finding note.Nothing = agree (inl refl) (inl tt)
+without_finding note.NoItem = agree refl (inr refl)
+without_finding note.BadPath = neither (λ e. omega (arith, e)) (none_of never (λ e. cc))
+without_finding (note.StoppedAt p) = neither (λ e. omega (arith, e)) (none_of never (λ e. cc))
+without_finding note.OutOfMemory = neither (λ e. omega (arith, e)) (none_of never (λ e. cc))
+without_finding note.OutputFailed = neither (λ e. omega (arith, e)) (none_of never (λ e. cc))
+without_finding (note.RunMade cycle runs cost ended) = agree (inl refl) (inl tt)
+without_finding (note.CycleMade runs cost ended) = agree (inl refl) (inl tt)
+without_finding note.CursorWorn = neither (λ e. omega (arith, e)) (none_of never (λ e. cc))
+without_finding note.CursorFileFailed = neither (λ e. omega (arith, e)) (none_of never (λ e. cc))
+without_finding (note.CursorRefused why) = neither (λ h. let e = h.0 in omega (arith, e)) (none_of never (λ e. cc))
+
+pub with_finding : (n : Note) → IsStatus 1 n ↔ IsWhole n
+with_finding note.Nothing = agree (inr refl) tt
+with_finding note.NoItem = neither (λ e. omega (arith, e)) never
+with_finding note.BadPath = neither (λ e. omega (arith, e)) never
+with_finding (note.StoppedAt p) = neither (λ e. omega (arith, e)) never
+with_finding note.OutOfMemory = neither (λ e. omega (arith, e)) never
+with_finding note.OutputFailed = neither (λ e. omega (arith, e)) never
+with_finding (note.RunMade cycle runs cost ended) = agree (inr refl) tt
+with_finding (note.CycleMade runs cost ended) = agree (inr refl) tt
+with_finding note.CursorWorn = neither (λ e. omega (arith, e)) never
+with_finding note.CursorFileFailed = neither (λ e. omega (arith, e)) never
+with_finding (note.CursorRefused why) = neither (λ h. let e = h.0 in omega (arith, e)) never
+
+pub of_no_place : (n : Note) → IsStatus 2 n ↔ (n ≡ note.BadPath)
+of_no_place note.Nothing = neither (not_small 0) (λ e. cc)
+of_no_place note.NoItem = neither (λ e. omega (arith, e)) (λ e. cc)
+of_no_place note.BadPath = agree refl refl
+of_no_place (note.StoppedAt p) = neither (λ e. omega (arith, e)) (λ e. cc)
+of_no_place note.OutOfMemory = neither (λ e. omega (arith, e)) (λ e. cc)
+of_no_place note.OutputFailed = neither (λ e. omega (arith, e)) (λ e. cc)
+of_no_place (note.RunMade cycle runs cost ended) = neither (not_small 0) (λ e. cc)
+of_no_place (note.CycleMade runs cost ended) = neither (not_small 0) (λ e. cc)
+of_no_place note.CursorWorn = neither (λ e. omega (arith, e)) (λ e. cc)
+of_no_place note.CursorFileFailed = neither (λ e. omega (arith, e)) (λ e. cc)
+of_no_place (note.CursorRefused why) = neither (λ h. let e = h.0 in omega (arith, e)) (λ e. cc)
+
+pub after_failures : (n : Note) → IsStatus 3 n ↔ (IsStopSaid n ⊎ ((n ≡ note.CursorWorn) ⊎ (n ≡ note.CursorFileFailed)))
+after_failures note.Nothing = neither (not_small 1) (none_of never (none_of (λ e. cc) (λ e. cc)))
+after_failures note.NoItem = neither (λ e. omega (arith, e)) (none_of never (none_of (λ e. cc) (λ e. cc)))
+after_failures note.BadPath = neither (λ e. omega (arith, e)) (none_of never (none_of (λ e. cc) (λ e. cc)))
+after_failures (note.StoppedAt p) = agree refl (inl tt)
+after_failures note.OutOfMemory = agree refl (inl tt)
+after_failures note.OutputFailed = agree refl (inl tt)
+after_failures (note.RunMade cycle runs cost ended) = neither (not_small 1) (none_of never (none_of (λ e. cc) (λ e. cc)))
+after_failures (note.CycleMade runs cost ended) = neither (not_small 1) (none_of never (none_of (λ e. cc) (λ e. cc)))
+after_failures note.CursorWorn = agree refl (inr (inl refl))
+after_failures note.CursorFileFailed = agree refl (inr (inr refl))
+after_failures (note.CursorRefused why) = neither (λ h. let e = h.0 in omega (arith, e)) (none_of never (none_of (λ e. cc) (λ e. cc)))
+
+pub of_refused_cursors : (n : Note) → IsStatus 4 n ↔ ((why : Refused) × ((n ≡ note.CursorRefused why) × (why ≢ refused.Memory)))
+of_refused_cursors note.Nothing = neither (not_small 2) (λ h. let e = h.1.0 in cc)
+of_refused_cursors note.NoItem = neither (λ e. omega (arith, e)) (λ h. let e = h.1.0 in cc)
+of_refused_cursors note.BadPath = neither (λ e. omega (arith, e)) (λ h. let e = h.1.0 in cc)
+of_refused_cursors (note.StoppedAt p) = neither (λ e. omega (arith, e)) (λ h. let e = h.1.0 in cc)
+of_refused_cursors note.OutOfMemory = neither (λ e. omega (arith, e)) (λ h. let e = h.1.0 in cc)
+of_refused_cursors note.OutputFailed = neither (λ e. omega (arith, e)) (λ h. let e = h.1.0 in cc)
+of_refused_cursors (note.RunMade cycle runs cost ended) = neither (not_small 2) (λ h. let e = h.1.0 in cc)
+of_refused_cursors (note.CycleMade runs cost ended) = neither (not_small 2) (λ h. let e = h.1.0 in cc)
+of_refused_cursors note.CursorWorn = neither (λ e. omega (arith, e)) (λ h. let e = h.1.0 in cc)
+of_refused_cursors note.CursorFileFailed = neither (λ e. omega (arith, e)) (λ h. let e = h.1.0 in cc)
+of_refused_cursors (note.CursorRefused why) = (λ h. (why, (refl, h.1)), λ k. (refl, λ f. let e = k.1.0 in let same : k.0 ≡ why = cc in k.1.1 (same ∙ f)))
+
+pub no_other_status : (status : ℕ) (n : Note) → IsStatus status n → status ≤ 4
+no_other_status status note.Nothing h = let m = small status h in omega (arith, m)
+no_other_status status note.NoItem h = omega (arith, h)
+no_other_status status note.BadPath h = omega (arith, h)
+no_other_status status (note.StoppedAt p) h = omega (arith, h)
+no_other_status status note.OutOfMemory h = omega (arith, h)
+no_other_status status note.OutputFailed h = omega (arith, h)
+no_other_status status (note.RunMade cycle runs cost ended) h = let m = small status h in omega (arith, m)
+no_other_status status (note.CycleMade runs cost ended) h = let m = small status h in omega (arith, m)
+no_other_status status note.CursorWorn h = omega (arith, h)
+no_other_status status note.CursorFileFailed h = omega (arith, h)
+no_other_status status (note.CursorRefused why) h = let e = h.0 in omega (arith, e)
+
+-- ---- where nothing was done
+
+-- a text that says something else, with another status
+otherwise : (status : ℕ) (n : Note) {A : Type 0} → (A → ⊥) → (status ≡ 2 → ⊥) → (status ≡ 4 → ⊥) → (n ≡ note.CursorWorn → ⊥) → (n ≡ note.CursorFileFailed → ⊥)
+    → A ↔ ((status ≡ 2) ⊎ ((status ≡ 4) ⊎ ((n ≡ note.CursorWorn) ⊎ (n ≡ note.CursorFileFailed))))
+otherwise status n a b c d e = neither a (none_of b (none_of c (none_of d e)))
+
+pub nothing_done : (status : ℕ) (n : Note) → IsStatus status n → IsSilent n ↔ ((status ≡ 2) ⊎ ((status ≡ 4) ⊎ ((n ≡ note.CursorWorn) ⊎ (n ≡ note.CursorFileFailed))))
+nothing_done status note.Nothing h = let m = small status h in otherwise status note.Nothing never (λ e. omega (arith, m, e)) (λ e. omega (arith, m, e)) (λ e. cc) (λ e. cc)
+nothing_done status note.NoItem h = otherwise status note.NoItem never (λ e. omega (arith, h, e)) (λ e. omega (arith, h, e)) (λ e. cc) (λ e. cc)
+nothing_done status note.BadPath h = agree tt (inl h)
+nothing_done status (note.StoppedAt p) h = otherwise status (note.StoppedAt p) never (λ e. omega (arith, h, e)) (λ e. omega (arith, h, e)) (λ e. cc) (λ e. cc)
+nothing_done status note.OutOfMemory h = otherwise status note.OutOfMemory never (λ e. omega (arith, h, e)) (λ e. omega (arith, h, e)) (λ e. cc) (λ e. cc)
+nothing_done status note.OutputFailed h = otherwise status note.OutputFailed never (λ e. omega (arith, h, e)) (λ e. omega (arith, h, e)) (λ e. cc) (λ e. cc)
+nothing_done status (note.RunMade cycle runs cost ended) h = let m = small status h in otherwise status (note.RunMade cycle runs cost ended) never (λ e. omega (arith, m, e)) (λ e. omega (arith, m, e)) (λ e. cc) (λ e. cc)
+nothing_done status (note.CycleMade runs cost ended) h = let m = small status h in otherwise status (note.CycleMade runs cost ended) never (λ e. omega (arith, m, e)) (λ e. omega (arith, m, e)) (λ e. cc) (λ e. cc)
+nothing_done status note.CursorWorn h = agree tt (inr (inr (inl refl)))
+nothing_done status note.CursorFileFailed h = agree tt (inr (inr (inr refl)))
+nothing_done status (note.CursorRefused why) h = agree tt (inr (inl h.0))
+
+-- ---- the cursor that a run hands back
+
+pub cursor_kept : (n : Note) (stored : Vec ℕ Global) → IsRunSaid n → IsKept n (Some stored) ↔ (IsWhole n ⊎ IsStopSaid n)
+cursor_kept note.Nothing stored h = absurd h
+cursor_kept note.NoItem stored h = absurd h
+cursor_kept note.BadPath stored h = absurd h
+cursor_kept (note.StoppedAt p) stored h = agree refl (inr tt)
+cursor_kept note.OutOfMemory stored h = agree tt (inr tt)
+cursor_kept note.OutputFailed stored h = agree refl (inr tt)
+cursor_kept (note.RunMade cycle runs cost ended) stored h = agree refl (inl tt)
+cursor_kept (note.CycleMade runs cost ended) stored h = absurd h
+cursor_kept note.CursorWorn stored h = neither (λ e. cc) (none_of never never)
+cursor_kept note.CursorFileFailed stored h = neither (λ e. cc) (none_of never never)
+cursor_kept (note.CursorRefused why) stored h = neither (λ e. cc) (none_of never never)
+
+pub no_cursor_kept : (n : Note) → IsRunSaid n → IsKept n None ↔ (IsSilent n ⊎ (n ≡ note.OutOfMemory))
+no_cursor_kept note.Nothing h = absurd h
+no_cursor_kept note.NoItem h = absurd h
+no_cursor_kept note.BadPath h = absurd h
+no_cursor_kept (note.StoppedAt p) h = neither (λ e. cc) (none_of never (λ e. cc))
+no_cursor_kept note.OutOfMemory h = agree tt (inr refl)
+no_cursor_kept note.OutputFailed h = neither (λ e. cc) (none_of never (λ e. cc))
+no_cursor_kept (note.RunMade cycle runs cost ended) h = neither (λ e. cc) (none_of never (λ e. cc))
+no_cursor_kept (note.CycleMade runs cost ended) h = absurd h
+no_cursor_kept note.CursorWorn h = agree refl (inl tt)
+no_cursor_kept note.CursorFileFailed h = agree refl (inl tt)
+no_cursor_kept (note.CursorRefused why) h = agree refl (inl tt)
+
+pub of_a_run_alone : (d : Deed) (n : Note) (stored : Vec ℕ Global) → IsKeptBy d n (Some stored) → (limits : Limits) × (d ≡ deed.Run limits)
+of_a_run_alone deed.Audit n stored h = absurd cc
+of_a_run_alone (deed.Run limits) n stored h = (limits, refl)
+of_a_run_alone (deed.Cycle limits count) n stored h = absurd cc
+of_a_run_alone (deed.Check path) n stored h = absurd cc
+of_a_run_alone deed.Show n stored h = absurd cc
+
+-- ---- what is said is said by how it ended
+
+stop_says_one : (why : Fault) (m n : Note) → IsStopNote why m → IsStopNote why n → m ≡ n
+stop_says_one (fault.Store p) m n h k = h ∙ sym k
+stop_says_one fault.Memory m n h k = h ∙ sym k
+stop_says_one fault.Output m n h k = h ∙ sym k
+stop_says_one fault.Broken m n h k = absurd h
+
+module _ (a b : ℕ) (m n : Note) where
+  pub check_says_one : (item finding : Bool) (how : End) → IsCheckNote item finding how a m → IsCheckNote item finding how b n → (a ≡ b) × (m ≡ n)
+  check_says_one item finding end.Ended h k = (h.0 ∙ sym k.0, h.1 ∙ sym k.1)
+  check_says_one item finding (end.Stopped why) h k = (h.0 ∙ sym k.0, stop_says_one why m n h.1 k.1)
+
+  pub audit_says_one : (finding : Bool) (how : End) → IsAuditNote finding how a m → IsAuditNote finding how b n → (a ≡ b) × (m ≡ n)
+  audit_says_one finding end.Ended h k = (h.0 ∙ sym k.0, h.1 ∙ sym k.1)
+  audit_says_one finding (end.Stopped why) h k = (h.0 ∙ sym k.0, stop_says_one why m n h.1 k.1)
+
+  pub run_says_one : (c : Cursor) (spent : ℕ) (finding : Bool) (how : RunStatus) → IsRunNote c spent finding how a m → IsRunNote c spent finding how b n → (a ≡ b) × (m ≡ n)
+  run_says_one c spent finding run.Ended h k = (h.0 ∙ sym k.0, h.1 ∙ sym k.1)
+  run_says_one c spent finding run.Spent h k = (h.0 ∙ sym k.0, h.1 ∙ sym k.1)
+  run_says_one c spent finding (run.Stopped why) h k = (h.0 ∙ sym k.0, stop_says_one why m n h.1 k.1)
+  run_says_one c spent finding run.Worn h k = (h.0 ∙ sym k.0, h.1 ∙ sym k.1)
+
+  pub cycle_says_one : (runs spent : ℕ) (finding : Bool) (how : CycleStatus) → IsCycleNote runs spent finding how a m → IsCycleNote runs spent finding how b n → (a ≡ b) × (m ≡ n)
+  cycle_says_one runs spent finding cycle.Ended h k = (h.0 ∙ sym k.0, h.1 ∙ sym k.1)
+  cycle_says_one runs spent finding cycle.Spent h k = (h.0 ∙ sym k.0, h.1 ∙ sym k.1)
+  cycle_says_one runs spent finding (cycle.Stopped why) h k = (h.0 ∙ sym k.0, stop_says_one why m n h.1 k.1)
+
+  pub unread_says_one : (why : CursorStop) → IsUnreadNote why a m → IsUnreadNote why b n → (a ≡ b) × (m ≡ n)
+  unread_says_one stop.Read h k = (h.0 ∙ sym k.0, h.1 ∙ sym k.1)
+  unread_says_one (stop.Refused refused.Memory) h k = (h.0 ∙ sym k.0, h.1 ∙ sym k.1)
+  unread_says_one (stop.Refused refused.NotCursor) h k = (h.0 ∙ sym k.0, h.1 ∙ sym k.1)
+  unread_says_one (stop.Refused refused.Version) h k = (h.0 ∙ sym k.0, h.1 ∙ sym k.1)
+  unread_says_one (stop.Refused refused.Damaged) h k = (h.0 ∙ sym k.0, h.1 ∙ sym k.1)
+  unread_says_one (stop.Refused refused.Malformed) h k = (h.0 ∙ sym k.0, h.1 ∙ sym k.1)
+
+-- ---- what a command says is said of one of its ends
+
+pub audit_said : (status : ℕ) (n : Note) → IsStatus status n → IsAuditSaid n → (finding : Bool) × ((how : End) × IsAuditNote finding how status n)
+audit_said status note.Nothing (inl e) h = (false, (end.Ended, (e, refl)))
+audit_said status note.Nothing (inr e) h = (true, (end.Ended, (e, refl)))
+audit_said status (note.StoppedAt p) e h = (false, (end.Stopped (fault.Store p), (e, refl)))
+audit_said status note.OutOfMemory e h = (false, (end.Stopped fault.Memory, (e, refl)))
+audit_said status note.OutputFailed e h = (false, (end.Stopped fault.Output, (e, refl)))
+audit_said status n e h = absurd h
+
+pub check_said : (status : ℕ) (n : Note) → IsStatus status n → IsCheckSaid n → (n ≡ note.BadPath) ⊎ ((item : Bool) × ((finding : Bool) × ((how : End) × IsCheckNote item finding how status n)))
+check_said status note.BadPath e h = inl refl
+check_said status note.NoItem e h = inr (false, (false, (end.Ended, (e, refl))))
+check_said status note.Nothing (inl e) h = inr (true, (false, (end.Ended, (e, refl))))
+check_said status note.Nothing (inr e) h = inr (true, (true, (end.Ended, (e, refl))))
+check_said status (note.StoppedAt p) e h = inr (false, (false, (end.Stopped (fault.Store p), (e, refl))))
+check_said status note.OutOfMemory e h = inr (false, (false, (end.Stopped fault.Memory, (e, refl))))
+check_said status note.OutputFailed e h = inr (false, (false, (end.Stopped fault.Output, (e, refl))))
+check_said status n e h = absurd h
+
+pub cycle_said : (status : ℕ) (n : Note) → IsStatus status n → IsCycleSaid n → (runs : ℕ) × ((spent : ℕ) × ((finding : Bool) × ((how : CycleStatus) × IsCycleNote runs spent finding how status n)))
+cycle_said status (note.CycleMade runs cost true) (inl e) h = (runs, (cost, (false, (cycle.Ended, (e, refl)))))
+cycle_said status (note.CycleMade runs cost true) (inr e) h = (runs, (cost, (true, (cycle.Ended, (e, refl)))))
+cycle_said status (note.CycleMade runs cost false) (inl e) h = (runs, (cost, (false, (cycle.Spent, (e, refl)))))
+cycle_said status (note.CycleMade runs cost false) (inr e) h = (runs, (cost, (true, (cycle.Spent, (e, refl)))))
+cycle_said status (note.StoppedAt p) e h = (0, (0, (false, (cycle.Stopped (fault.Store p), (e, refl)))))
+cycle_said status note.OutOfMemory e h = (0, (0, (false, (cycle.Stopped fault.Memory, (e, refl)))))
+cycle_said status note.OutputFailed e h = (0, (0, (false, (cycle.Stopped fault.Output, (e, refl)))))
+cycle_said status n e h = absurd h
+
+-- no cursor was read
+unread_said : (status : ℕ) (why : Refused) → (status ≡ 4) × (why ≢ refused.Memory) → (how : CursorStop) × IsUnreadNote how status (note.CursorRefused why)
+unread_said status refused.NotCursor e = (stop.Refused refused.NotCursor, (e.0, refl))
+unread_said status refused.Version e = (stop.Refused refused.Version, (e.0, refl))
+unread_said status refused.Damaged e = (stop.Refused refused.Damaged, (e.0, refl))
+unread_said status refused.Malformed e = (stop.Refused refused.Malformed, (e.0, refl))
+unread_said status refused.Memory e = absurd (e.1 refl)
+
+-- a cursor of this cycle and of so many runs
+abbrev counted : ℕ → ℕ → Cursor
+counted cycle runs = record { cycle = cycle; runs = runs; spent = 0; files = 0; state = start }
+
+pub run_said : (status : ℕ) (n : Note) → IsStatus status n → IsRunSaid n
+    → ((c : Cursor) × ((spent : ℕ) × ((finding : Bool) × ((how : RunStatus) × IsRunNote c spent finding how status n)))) ⊎ ((how : CursorStop) × IsUnreadNote how status n)
+run_said status (note.RunMade cycle runs cost true) (inl e) h = inl (counted cycle runs, (cost, (false, (run.Ended, (e, refl)))))
+run_said status (note.RunMade cycle runs cost true) (inr e) h = inl (counted cycle runs, (cost, (true, (run.Ended, (e, refl)))))
+run_said status (note.RunMade cycle runs cost false) (inl e) h = inl (counted cycle runs, (cost, (false, (run.Spent, (e, refl)))))
+run_said status (note.RunMade cycle runs cost false) (inr e) h = inl (counted cycle runs, (cost, (true, (run.Spent, (e, refl)))))
+run_said status (note.StoppedAt p) e h = inl (new_cursor, (0, (false, (run.Stopped (fault.Store p), (e, refl)))))
+run_said status note.OutOfMemory e h = inl (new_cursor, (0, (false, (run.Stopped fault.Memory, (e, refl)))))
+run_said status note.OutputFailed e h = inl (new_cursor, (0, (false, (run.Stopped fault.Output, (e, refl)))))
+run_said status note.CursorWorn e h = inl (new_cursor, (0, (false, (run.Worn, (e, refl)))))
+run_said status note.CursorFileFailed e h = inr (stop.Read, (e, refl))
+run_said status (note.CursorRefused why) e h = inr (unread_said status why e)
+run_said status n e h = absurd h
+
+pub show_said : (status : ℕ) (n : Note) → IsStatus status n → IsShowSaid n → (n ≡ note.Nothing) ⊎ ((n ≡ note.OutputFailed) ⊎ ((how : CursorStop) × IsUnreadNote how status n))
+show_said status note.Nothing e h = inl refl
+show_said status note.OutputFailed e h = inr (inl refl)
+show_said status note.OutOfMemory e h = inr (inr (stop.Refused refused.Memory, (e, refl)))
+show_said status note.CursorFileFailed e h = inr (inr (stop.Read, (e, refl)))
+show_said status (note.CursorRefused why) e h = inr (inr (unread_said status why e))
+show_said status n e h = absurd h

@@ -1,0 +1,8 @@
+use Rattle.ocfl_scrub.proofs.FileLaws.{shown_whole, shown_in_part}
+use Rattle.ocfl_scrub.proofs.laws.a_cursor_is_shown_as_its_lines.Goals as goal
+
+pub returns-clause-whole : goal.returns-clause-whole
+returns-clause-whole c = shown_whole c.text_determines_the_cursor.ensures
+
+pub returns-clause-part : goal.returns-clause-part
+returns-clause-part c = shown_in_part c.text_determines_the_cursor.ensures

@@ -100,12 +100,16 @@ fn reads_what_is_written(rt: HostRuntime) -> Result<(), Fail> {
     assert_eq!(rt; (cursor.spent(), cursor.files()), (9, 3));
     let place = place_of(alloc, "o/v1/content/c")?;
     assert_eq!(rt; cursor.into_state(), State::After(place));
-    for state in [State::Start, State::After(Place::root(alloc)), State::Ended] {
+    for (row, state) in [
+        ("at the start", State::Start),
+        ("after the root", State::After(Place::root(alloc))),
+        ("at the end", State::Ended),
+    ] {
         let cursor = Cursor::from_parts(u64::MAX, u64::MAX, 7, 7, state).ok_or("a cursor")?;
         let read = cursor_reads_back(alloc, &cursor)?;
-        assert_eq!(rt; (read.cycle(), read.runs()), (u64::MAX, u64::MAX));
-        assert_eq!(rt; (read.spent(), read.files()), (7, 7));
-        assert_eq!(rt; read.state(), cursor.state());
+        assert_eq!(rt; (read.cycle(), read.runs()), (u64::MAX, u64::MAX), "{row}");
+        assert_eq!(rt; (read.spent(), read.files()), (7, 7), "{row}");
+        assert_eq!(rt; read.state(), cursor.state(), "{row}");
     }
     text_determines_the_cursor();
     Ok(())
@@ -153,6 +157,7 @@ fn reads_a_long_text_of_version_one(rt: HostRuntime) -> Result<(), Fail> {
 /// The text is refused so where it is cut before this byte, and where this byte is changed.
 fn expect_damaged_at(
     rt: &(impl Abort + AllocGlobal),
+    version: &str,
     whole: &[u8],
     place: usize,
 ) -> Result<(), Fail> {
@@ -164,20 +169,23 @@ fn expect_damaged_at(
         _ => (Refused::Damaged, Refused::Damaged),
     };
     let got = refusal_of(rt.alloc(), &whole[..place]);
-    assert_eq!(rt; got, Some(cut), "cut to {place} bytes");
+    assert_eq!(rt; got, Some(cut), "{version}, cut to {place} bytes");
     let mut other = whole.to_vec(rt.alloc())?;
     // So that no version is made another one that is read.
     *other.get_mut(place).ok_or("a byte of the text")? ^= 4;
     let got = refusal_of(rt.alloc(), &other);
-    assert_eq!(rt; got, Some(changed), "byte {place} changed");
+    assert_eq!(rt; got, Some(changed), "{version}, byte {place} changed");
     Ok(())
 }
 
 #[test]
 fn refuses_texts_that_are_cut_or_changed(rt: HostRuntime) -> Result<(), Fail> {
-    for whole in [whole_text(rt.alloc())?, old_text(rt.alloc())?] {
+    for (version, whole) in [
+        ("version 2", whole_text(rt.alloc())?),
+        ("version 1", old_text(rt.alloc())?),
+    ] {
         for place in 0..whole.len() {
-            expect_damaged_at(&rt, whole.as_slice(), place)?;
+            expect_damaged_at(&rt, version, whole.as_slice(), place)?;
         }
     }
     Ok(())
@@ -211,59 +219,97 @@ fn refuses_other_texts(rt: HostRuntime) -> Result<(), Fail> {
 }
 
 /// What is put for what in the body of either version, so that no cursor has it.
-const CHANGES: [(&str, &str); 26] = [
-    ("cycle 3\n", "cycle 03\n"),
-    ("cycle 3\n", "cycle 0\n"),
-    ("cycle 3\n", "cycle 18446744073709551616\n"),
-    ("cycle 3\n", "cycle \n"),
-    ("cycle 3\n", "cycle  3\n"),
-    ("cycle 3\n", "cycle 3 \n"),
-    ("cycle 3\n", ""),
-    ("cycle 3\nruns 2\n", "runs 2\ncycle 3\n"),
-    ("runs 2\n", "runs 00\n"),
-    ("runs 2\n", ""),
-    ("runs 2\n", "runs 18446744073709551616\n"),
-    ("spent 9\n", "spent +1\n"),
+const CHANGES: [(&str, &str, &str); 26] = [
+    ("a cycle with a leading zero", "cycle 3\n", "cycle 03\n"),
+    ("cycle 0", "cycle 3\n", "cycle 0\n"),
     (
+        "a cycle above 64 bits",
+        "cycle 3\n",
+        "cycle 18446744073709551616\n",
+    ),
+    ("a cycle without a number", "cycle 3\n", "cycle \n"),
+    ("two blanks before the cycle", "cycle 3\n", "cycle  3\n"),
+    ("a blank after the cycle", "cycle 3\n", "cycle 3 \n"),
+    ("no cycle", "cycle 3\n", ""),
+    (
+        "runs before the cycle",
+        "cycle 3\nruns 2\n",
+        "runs 2\ncycle 3\n",
+    ),
+    ("runs with two zeros", "runs 2\n", "runs 00\n"),
+    ("no runs", "runs 2\n", ""),
+    (
+        "runs above 64 bits",
+        "runs 2\n",
+        "runs 18446744073709551616\n",
+    ),
+    ("a cost with a sign", "spent 9\n", "spent +1\n"),
+    (
+        "a cost above 128 bits",
         "spent 9\n",
         "spent 340282366920938463463374607431768211456\n",
     ),
-    ("spent 9\n", "spent 9\nspent 9\n"),
-    ("spent 9\n", ""),
-    ("after o/v1/content/c\n", ""),
-    ("after o/v1/content/c\n", "after\n"),
-    ("after o/v1/content/c\n", "after \n"),
-    ("after o/v1/content/c\n", "after a/\n"),
-    ("after o/v1/content/c\n", "after %61\n"),
-    ("after o/v1/content/c\n", "started\n"),
-    ("after o/v1/content/c\n", "after o/v1/content/c\n\n"),
-    ("after o/v1/content/c\n", "after o/v1/content/c\nended\n"),
-    ("/content/c\n", "/content/c"),
+    ("two costs", "spent 9\n", "spent 9\nspent 9\n"),
+    ("no cost", "spent 9\n", ""),
+    ("no state", "after o/v1/content/c\n", ""),
+    ("no blank and no place", "after o/v1/content/c\n", "after\n"),
+    ("no place", "after o/v1/content/c\n", "after \n"),
     (
+        "a place that ends in a slash",
+        "after o/v1/content/c\n",
+        "after a/\n",
+    ),
+    (
+        "an escape that is not needed",
+        "after o/v1/content/c\n",
+        "after %61\n",
+    ),
+    ("another state", "after o/v1/content/c\n", "started\n"),
+    (
+        "an empty line at the end",
+        "after o/v1/content/c\n",
+        "after o/v1/content/c\n\n",
+    ),
+    (
+        "two states",
+        "after o/v1/content/c\n",
+        "after o/v1/content/c\nended\n",
+    ),
+    ("no line feed at the end", "/content/c\n", "/content/c"),
+    (
+        "carriage returns after the counts",
         "cycle 3\nruns 2\nspent 9\n",
         "cycle 3\r\nruns 2\r\nspent 9\r\n",
     ),
-    ("/content/c\n", "/content/c\r\n"),
+    (
+        "a carriage return after the place",
+        "/content/c\n",
+        "/content/c\r\n",
+    ),
 ];
 
 /// What is put for the line of the files, so that no cursor has it.
-const FILES_CHANGES: [(&str, &str); 8] = [
-    ("files 3\n", ""),
-    ("files 3\n", "files 10\n"),
-    ("files 3\n", "files 03\n"),
-    ("files 3\n", "files \n"),
-    ("files 3\n", "files 3\nfiles 3\n"),
-    ("spent 9\nfiles 3\n", "files 3\nspent 9\n"),
+const FILES_CHANGES: [(&str, &str, &str); 8] = [
+    ("no files", "files 3\n", ""),
+    ("more files than their cost", "files 3\n", "files 10\n"),
+    ("files with a leading zero", "files 3\n", "files 03\n"),
+    ("files without a number", "files 3\n", "files \n"),
+    ("two lines of files", "files 3\n", "files 3\nfiles 3\n"),
     (
+        "files before the cost",
+        "spent 9\nfiles 3\n",
+        "files 3\nspent 9\n",
+    ),
+    (
+        "files above 128 bits",
         "files 3\n",
         "files 340282366920938463463374607431768211456\n",
     ),
-    ("cursor 2\n", "cursor 1\n"),
+    ("files in version 1", "cursor 2\n", "cursor 1\n"),
 ];
 
 /// What the body of a text is refused for, where this is put for that in it.
-fn refusal_with(alloc: Global, body: &str, change: (&str, &str)) -> Result<Option<Refused>, Fail> {
-    let (from, to) = change;
+fn refusal_with(alloc: Global, body: &str, from: &str, to: &str) -> Result<Option<Refused>, Fail> {
     let body = body.replace(alloc, from, to)?;
     Ok(refusal_of(alloc, &seal(alloc, body.as_bytes())?))
 }
@@ -271,25 +317,19 @@ fn refusal_with(alloc: Global, body: &str, change: (&str, &str)) -> Result<Optio
 #[test]
 fn refuses_forms_of_no_cursor(rt: HostRuntime) -> Result<(), Fail> {
     let malformed = Some(Refused::Malformed);
-    for change in CHANGES {
-        for body in [BODY, OLD_BODY] {
-            assert_eq!(rt;
-                refusal_with(rt.alloc(), body, change)?,
-                malformed,
-                "{change:?}"
-            );
+    for (row, from, to) in CHANGES {
+        for (version, body) in [("version 2", BODY), ("version 1", OLD_BODY)] {
+            let refused = refusal_with(rt.alloc(), body, from, to)?;
+            assert_eq!(rt; refused, malformed, "{row}, {version}");
         }
     }
-    for change in FILES_CHANGES {
-        assert_eq!(rt;
-            refusal_with(rt.alloc(), BODY, change)?,
-            malformed,
-            "{change:?}"
-        );
+    for (row, from, to) in FILES_CHANGES {
+        let refused = refusal_with(rt.alloc(), BODY, from, to)?;
+        assert_eq!(rt; refused, malformed, "{row}");
     }
     // A text of version 1 has no such line, even of no files.
-    let none = ("spent 9\n", "spent 9\nfiles 0\n");
-    assert_eq!(rt; refusal_with(rt.alloc(), OLD_BODY, none)?, malformed);
+    let none = refusal_with(rt.alloc(), OLD_BODY, "spent 9\n", "spent 9\nfiles 0\n")?;
+    assert_eq!(rt; none, malformed);
     let all = BODY.replace(rt.alloc(), "files 3\n", "files 9\n")?;
     let cursor = decode(rt.alloc(), &seal(rt.alloc(), all.as_bytes())?)?;
     assert_eq!(rt; cursor.files(), 9);
@@ -304,14 +344,14 @@ fn keeps_the_limits_of_a_cursor(rt: HostRuntime) -> Result<(), Fail> {
         ("9223372036854775809", false),
     ] {
         let counts = format!(in alloc; "runs 1\nspent {spent}\n")?;
-        for whole in [BODY, OLD_BODY] {
+        for (version, whole) in [("version 2", BODY), ("version 1", OLD_BODY)] {
             let body = whole.replace(alloc, "runs 2\nspent 9\n", counts.as_str())?;
             let read = decode(alloc, &seal(alloc, body.as_bytes())?);
-            assert_eq!(rt; read.is_ok(), fits, "spent {spent}");
+            assert_eq!(rt; read.is_ok(), fits, "spent {spent}, {version}");
             assert_eq!(rt;
                 read.err(),
                 (!fits).then_some(Refused::Malformed),
-                "spent {spent}"
+                "spent {spent}, {version}"
             );
         }
     }
@@ -372,7 +412,7 @@ fn reasons_have_their_texts(rt: HostRuntime) -> Result<(), Fail> {
         (Refused::Malformed, "malformed"),
         (Refused::Memory, "out of memory"),
     ] {
-        assert_eq!(rt; refused.to_string(rt.alloc())?.as_str(), text);
+        assert_eq!(rt; refused.to_string(rt.alloc())?.as_str(), text, "{text}");
     }
     Ok(())
 }
@@ -508,26 +548,30 @@ fn ends_of(alloc: Global, from: &str, below: &str) -> Result<PartEnds, Fail> {
 }
 
 /// Parts, what a text says of their ends and of a new cursor, and its SHA-256 by `sha256sum`.
-const PARTS: [(&str, &str, &str, &str); 4] = [
+const PARTS: [(&str, &str, &str, &str, &str); 4] = [
     (
+        "the whole root",
         "-",
         "-",
         "from start\nbelow end\n",
         "637f98a64e760981827120f91926983966afc3834df3e73f5dfa31eafd76a5f3",
     ),
     (
+        "from the place `start` to the place `end`",
         "start",
         "end",
         "from ./start\nbelow ./end\n",
         "136b94e71c8744d75552940e9b26cbfef01e3ca40551db26fb735f25b18db4b9",
     ),
     (
+        "from the place `end` to the place `start`",
         "end",
         "start",
         "from end\nbelow start\n",
         "ed207ca83d27c316e62fcf2a8c5b94442f115363c101370183b21eddae9bd774",
     ),
     (
+        "some files of an object",
         "o/v1/content/b",
         "o/v1/content/d",
         "from o/v1/content/b\nbelow o/v1/content/d\n",
@@ -538,28 +582,29 @@ const PARTS: [(&str, &str, &str, &str); 4] = [
 #[test]
 fn parts_are_named(rt: HostRuntime) -> Result<(), Fail> {
     let alloc = rt.alloc();
-    for (from, below, named, digest) in PARTS {
+    for (row, from, below, named, digest) in PARTS {
         let ends = ends_of(alloc, from, below)?;
         every_part_has_ends(&ends);
         let text = encode_part(alloc, &ends, &Cursor::new())?;
         let wanted = format!(in alloc;
             "ocfl-scrub part cursor 1\n{named}cycle 1\nruns 0\nspent 0\nfiles 0\nstart\ndigest {digest}\n"
         )?;
-        assert_eq!(rt; text.as_slice(), wanted.as_bytes(), "{named}");
+        assert_eq!(rt; text.as_slice(), wanted.as_bytes(), "{row}");
         let read = decode_part(alloc, &text, &ends)?;
-        assert_eq!(rt; read.state(), &State::Start, "{named}");
+        assert_eq!(rt; read.state(), &State::Start, "{row}");
         // No other part takes it.
-        for (from, below, other, _) in PARTS {
+        for (other, from, below, ..) in PARTS {
             let ends = ends_of(alloc, from, below)?;
-            let wanted = if other == named {
+            let wanted = if other == row {
                 None
             } else {
                 Some(PartRefused::OtherPart)
             };
             let refused = decode_part(alloc, &text, &ends).err();
-            assert_eq!(rt; refused, wanted, "{named} to {other}");
+            assert_eq!(rt; refused, wanted, "{row}, read as {other}");
         }
-        assert_eq!(rt; refusal_of(alloc, &text), Some(Refused::NotCursor));
+        let refused = refusal_of(alloc, &text);
+        assert_eq!(rt; refused, Some(Refused::NotCursor), "{row}");
     }
     text_determines_the_part();
     no_part_is_refused();
@@ -571,12 +616,12 @@ fn parts_are_named(rt: HostRuntime) -> Result<(), Fail> {
 fn cursors_of_parts_are_read_back(rt: HostRuntime) -> Result<(), Fail> {
     let alloc = rt.alloc();
     let b = "o/v1/content/b";
-    for (from, below) in [
-        ("-", b),
-        (b, "-"),
-        (".", "é/start"),
-        ("start/a", "./end"),
-        (b, b),
+    for (row, from, below) in [
+        ("up to a file", "-", b),
+        ("from a file on", b, "-"),
+        ("from the root up to a place", ".", "é/start"),
+        ("from a place like the word", "start/a", "./end"),
+        ("from a file up to itself", b, b),
     ] {
         let below = below.strip_prefix("./").unwrap_or(below);
         let ends = ends_of(alloc, from, below)?;
@@ -584,9 +629,9 @@ fn cursors_of_parts_are_read_back(rt: HostRuntime) -> Result<(), Fail> {
         for state in [State::Start, State::After(place), State::Ended] {
             let cursor = Cursor::from_parts(3, 2, 9, 3, state).ok_or("a cursor")?;
             let read = part_reads_back(alloc, &ends, &cursor)?;
-            assert_eq!(rt; (read.cycle(), read.runs()), (3, 2));
-            assert_eq!(rt; (read.spent(), read.files()), (9, 3));
-            assert_eq!(rt; read.state(), cursor.state());
+            assert_eq!(rt; (read.cycle(), read.runs()), (3, 2), "{row}");
+            assert_eq!(rt; (read.spent(), read.files()), (9, 3), "{row}");
+            assert_eq!(rt; read.state(), cursor.state(), "{row}");
         }
     }
     // Places of more than 255 names may be ends.
@@ -615,21 +660,21 @@ fn other_texts_are_no_part(rt: HostRuntime) -> Result<(), Fail> {
     let right = format!(in alloc; "{first}from b\nbelow d\n{LINES}")?;
     assert_eq!(rt; part_refusal(alloc, right.as_str())?, None);
     // The first line comes first, and then the seal.
-    for front in [
-        "",
-        "ocfl-scrub part cursor 1",
-        "ocfl-scrub part cursor 1 \n",
-        "ocfl-scrub part cursor 2\n",
-        "ocfl-scrub part cursor\n",
-        "ocfl-scrub cursor 2\n",
-        "from b\n",
+    for (row, front) in [
+        ("no first line", ""),
+        ("no line feed", "ocfl-scrub part cursor 1"),
+        ("a blank after the version", "ocfl-scrub part cursor 1 \n"),
+        ("version 2", "ocfl-scrub part cursor 2\n"),
+        ("no version", "ocfl-scrub part cursor\n"),
+        ("the first line of a whole root", "ocfl-scrub cursor 2\n"),
+        ("ends come first", "from b\n"),
     ] {
         let ends = ends_of(alloc, "b", "d")?;
         let refused = decode_part(alloc, front.as_bytes(), &ends).err();
-        assert_eq!(rt; refused, Some(PartRefused::NotCursor), "{front}");
+        assert_eq!(rt; refused, Some(PartRefused::NotCursor), "{row}");
         let sealed = format!(in alloc; "{front}from b\nbelow d\n{LINES}")?;
         let refused = part_refusal(alloc, sealed.as_str())?;
-        assert_eq!(rt; refused, Some(PartRefused::NotCursor), "{front}");
+        assert_eq!(rt; refused, Some(PartRefused::NotCursor), "{row}");
     }
     Ok(())
 }
@@ -642,70 +687,88 @@ fn damaged_parts_are_refused(rt: HostRuntime) -> Result<(), Fail> {
     let ends = ends_of(alloc, "b", "d")?;
     let other = ends_of(alloc, "b", "e")?;
     let text = seal(alloc, right.as_bytes())?;
-    for end in [
-        first.len(),
-        first.len() + 7,
-        text.len() - 72,
-        text.len() - 1,
+    for (row, end) in [
+        ("after the first line", first.len()),
+        ("within the ends", first.len() + 7),
+        ("before the digest line", text.len() - 72),
+        ("without the last byte", text.len() - 1),
     ] {
         let refused = decode_part(alloc, &text[..end], &ends).err();
-        assert_eq!(rt; refused, Some(PartRefused::Damaged), "{end}");
+        assert_eq!(rt; refused, Some(PartRefused::Damaged), "{row}");
     }
     let mut changed = seal(alloc, right.as_bytes())?;
     changed[first.len() + 5] = b'c';
     // Damage is told before another part.
-    for ends in [&ends, &other] {
+    for (row, ends) in [("its own part", &ends), ("another part", &other)] {
         let refused = decode_part(alloc, &changed, ends).err();
-        assert_eq!(rt; refused, Some(PartRefused::Damaged));
+        assert_eq!(rt; refused, Some(PartRefused::Damaged), "{row}");
     }
     Ok(())
 }
 
 /// Lines of the ends of no part.
-const NO_ENDS: [&str; 16] = [
-    "",
-    "from b\n",
-    "below d\nfrom b\n",
-    "from b below d\n",
-    "from\nbelow d\n",
-    "from \nbelow d\n",
-    "from ./b\nbelow d\n",
-    "from ./end\nbelow d\n",
-    "from b\nbelow ./start\n",
-    "from .//start\nbelow d\n",
-    "from %73tart\nbelow d\n",
-    "from b/\nbelow d\n",
-    "from /\nbelow d\n",
-    "start\nbelow d\n",
-    "from b\nend\n",
-    "from b\nbelow d\n\n",
+const NO_ENDS: [(&str, &str); 16] = [
+    ("no end", ""),
+    ("no line `below`", "from b\n"),
+    ("below before from", "below d\nfrom b\n"),
+    ("both in one line", "from b below d\n"),
+    ("no blank and no place", "from\nbelow d\n"),
+    ("no place", "from \nbelow d\n"),
+    ("a mark that is not needed", "from ./b\nbelow d\n"),
+    (
+        "a mark before a word of the other line",
+        "from ./end\nbelow d\n",
+    ),
+    ("a mark before another word", "from b\nbelow ./start\n"),
+    ("two slashes after the mark", "from .//start\nbelow d\n"),
+    ("an escape that is not needed", "from %73tart\nbelow d\n"),
+    ("a slash at the end", "from b/\nbelow d\n"),
+    ("a slash alone", "from /\nbelow d\n"),
+    ("a word in place of a line", "start\nbelow d\n"),
+    ("the other word in place of a line", "from b\nend\n"),
+    ("an empty line at the end", "from b\nbelow d\n\n"),
 ];
 
 /// Lines of version 1, and of no cursor.
-const NO_LINES: [&str; 7] = [
-    "",
-    "cycle 3\nruns 2\nspent 9\nafter o/v1/content/c\n",
-    "cycle 0\nruns 2\nspent 9\nfiles 3\nstart\n",
-    "cycle 3\nruns 2\nspent 9\nfiles 3\n",
-    "cycle 3\nruns 2\nspent 9\nfiles 3\nstart",
-    "cycle 03\nruns 2\nspent 9\nfiles 3\nstart\n",
-    "cycle 3\nruns 2\nspent 9\nfiles 10\nstart\n",
+const NO_LINES: [(&str, &str); 7] = [
+    ("no line", ""),
+    (
+        "no files",
+        "cycle 3\nruns 2\nspent 9\nafter o/v1/content/c\n",
+    ),
+    ("cycle 0", "cycle 0\nruns 2\nspent 9\nfiles 3\nstart\n"),
+    ("no state", "cycle 3\nruns 2\nspent 9\nfiles 3\n"),
+    (
+        "no line feed at the end",
+        "cycle 3\nruns 2\nspent 9\nfiles 3\nstart",
+    ),
+    (
+        "a cycle with a leading zero",
+        "cycle 03\nruns 2\nspent 9\nfiles 3\nstart\n",
+    ),
+    (
+        "more files than their cost",
+        "cycle 3\nruns 2\nspent 9\nfiles 10\nstart\n",
+    ),
 ];
 
 #[test]
 fn malformed_parts_are_refused(rt: HostRuntime) -> Result<(), Fail> {
     let alloc = rt.alloc();
     let first = "ocfl-scrub part cursor 1\n";
-    for ends in NO_ENDS {
+    for (row, ends) in NO_ENDS {
         let body = format!(in alloc; "{first}{ends}{LINES}")?;
         let refused = part_refusal(alloc, body.as_str())?;
-        assert_eq!(rt; refused, Some(PartRefused::Malformed), "{ends}");
+        assert_eq!(rt; refused, Some(PartRefused::Malformed), "{row}");
     }
-    for lines in NO_LINES {
-        for ends in ["from b\nbelow d\n", "from start\nbelow end\n"] {
+    for (row, lines) in NO_LINES {
+        for (part, ends) in [
+            ("of its part", "from b\nbelow d\n"),
+            ("of the whole root", "from start\nbelow end\n"),
+        ] {
             let body = format!(in alloc; "{first}{ends}{lines}")?;
             let refused = part_refusal(alloc, body.as_str())?;
-            assert_eq!(rt; refused, Some(PartRefused::Malformed), "{ends}{lines}");
+            assert_eq!(rt; refused, Some(PartRefused::Malformed), "{row}, {part}");
         }
     }
     Ok(())
@@ -721,7 +784,7 @@ fn refused_parts_have_their_texts(rt: HostRuntime) -> Result<(), Fail> {
         (PartRefused::OtherPart, "another part"),
         (PartRefused::Memory, "out of memory"),
     ] {
-        assert_eq!(rt; format!(in alloc; "{refused}")?.as_str(), text);
+        assert_eq!(rt; format!(in alloc; "{refused}")?.as_str(), text, "{text}");
     }
     Ok(())
 }
@@ -730,9 +793,12 @@ fn refused_parts_have_their_texts(rt: HostRuntime) -> Result<(), Fail> {
 fn whole_roots_are_no_parts(rt: HostRuntime) -> Result<(), Fail> {
     let alloc = rt.alloc();
     let ends = ends_of(alloc, "-", "-")?;
-    for text in [whole_text(alloc)?, old_text(alloc)?] {
+    for (version, text) in [
+        ("version 2", whole_text(alloc)?),
+        ("version 1", old_text(alloc)?),
+    ] {
         let refused = decode_part(alloc, &text, &ends).err();
-        assert_eq!(rt; refused, Some(PartRefused::NotCursor));
+        assert_eq!(rt; refused, Some(PartRefused::NotCursor), "{version}");
     }
     Ok(())
 }

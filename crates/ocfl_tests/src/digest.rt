@@ -86,11 +86,16 @@ fn text_of(alloc: Global, digest: Option<&[u8]>) -> Result<String, Fail> {
     Ok(text)
 }
 
-fn are(rt: &(impl Abort + AllocGlobal), digests: &Digests, want: &[&str; 5]) -> Result<(), Fail> {
+fn are(
+    rt: &(impl Abort + AllocGlobal),
+    row: &str,
+    digests: &Digests,
+    want: &[&str; 5],
+) -> Result<(), Fail> {
     for (algorithm, want) in ALL.iter().zip(want) {
         let text = text_of(rt.alloc(), digests.get(*algorithm))?;
         let want = with_digests(rt.alloc(), want)?;
-        assert_eq!(rt; text.as_str(), want.as_str(), "{algorithm:?}");
+        assert_eq!(rt; text.as_str(), want.as_str(), "{row}, {algorithm:?}");
     }
     Ok(())
 }
@@ -98,17 +103,21 @@ fn are(rt: &(impl Abort + AllocGlobal), digests: &Digests, want: &[&str; 5]) -> 
 /// The file `f` was opened once, gave so many bytes, and nothing was listed.
 fn opened_once(
     rt: &(impl Abort + AllocGlobal),
+    row: &str,
     store: &MemTree,
     given: u64,
     failed: bool,
 ) -> Result<(), Fail> {
     let place = place_of(rt.alloc(), "f")?;
     let openings = store.openings();
-    assert!(rt; openings.len() == 1);
+    assert!(rt; openings.len() == 1, "{row}");
+    let first = &openings[0];
+    assert!(rt; first.place == place && first.given == given, "{row}");
     assert!(rt;
-        openings[0].place == place && openings[0].given == given && openings[0].failed == failed
+        first.failed == failed && store.failures() == u64::from(failed),
+        "{row}"
     );
-    assert!(rt; store.failures() == u64::from(failed) && store.listings().is_empty());
+    assert!(rt; store.listings().is_empty(), "{row}");
     Ok(())
 }
 
@@ -116,7 +125,8 @@ fn opened_once(
 fn algorithms_have_their_names(rt: HostRuntime) {
     let names = ["md5", "sha1", "sha256", "sha512", "sha512/256"];
     for (algorithm, name) in ALL.iter().zip(names) {
-        assert!(rt; algorithm.name() == name && Algorithm::named(name) == Some(*algorithm));
+        assert_eq!(rt; algorithm.name(), name, "{name}");
+        assert!(rt; Algorithm::named(name) == Some(*algorithm), "{name}");
     }
     for name in ["", "MD5", "sha-256", "sha512/224", "blake2b-512"] {
         assert!(rt; Algorithm::named(name).is_none(), "{name}");
@@ -130,18 +140,19 @@ fn a_set_has_what_was_put_in(rt: HostRuntime) {
         .with(Algorithm::Sha512)
         .with(Algorithm::Sha1);
     for algorithm in ALL {
-        assert!(rt; !Wanted::none().has(algorithm) && all().has(algorithm));
+        let is_right = !Wanted::none().has(algorithm) && all().has(algorithm);
+        assert!(rt; is_right, "{algorithm:?}");
         let put = algorithm == Algorithm::Sha1 || algorithm == Algorithm::Sha512;
-        assert!(rt; two.has(algorithm) == put);
+        assert!(rt; two.has(algorithm) == put, "{algorithm:?}");
     }
 }
 
 #[test]
 fn bytes_are_hashed(rt: HostRuntime) -> Result<(), Fail> {
-    are(&rt, &hash_bytes(b"abc", all()), &OF_ABC)?;
-    are(&rt, &hash_bytes(b"", all()), &OF_NOTHING)?;
+    are(&rt, "abc", &hash_bytes(b"abc", all()), &OF_ABC)?;
+    are(&rt, "no bytes", &hash_bytes(b"", all()), &OF_NOTHING)?;
     let one = hash_bytes(b"abc", Wanted::none().with(Algorithm::Sha256));
-    are(&rt, &one, &["", "", OF_ABC[2], "", ""])
+    are(&rt, "one algorithm", &one, &["", "", OF_ABC[2], "", ""])
 }
 
 /// What hashing the file `f` from one opening gives.
@@ -167,6 +178,7 @@ fn read_within<T: Tree>(
 /// Hashing a file of these bytes by all algorithms gives these digests, by one opening.
 fn expect_all(
     rt: &(impl Abort + AllocGlobal),
+    row: &str,
     bytes: Vec<u8>,
     step: usize,
     want: &[&str; 5],
@@ -175,42 +187,48 @@ fn expect_all(
     let mut store = tree_of(rt.alloc(), bytes)?;
     store.step(step);
     let (digests, length) = hashed(rt.alloc(), &mut store, all())??;
-    are(rt, &digests, want)?;
-    assert!(rt; length == count && store.largest_read() == 65_536);
-    opened_once(rt, &store, count, false)?;
-    assert!(rt; store.read(&mut [0; 1]) == Err(Trouble::Absent));
+    are(rt, row, &digests, want)?;
+    assert!(rt; length == count && store.largest_read() == 65_536, "{row}");
+    opened_once(rt, row, &store, count, false)?;
+    assert!(rt; store.read(&mut [0; 1]) == Err(Trouble::Absent), "{row}");
     Ok(())
 }
 
 #[test]
 fn all_five_from_one_opening(rt: HostRuntime) -> Result<(), Fail> {
-    expect_all(&rt, b"abc".to_vec(rt.alloc())?, usize::MAX, &OF_ABC)?;
-    expect_all(&rt, Vec::new(rt.alloc()), usize::MAX, &OF_NOTHING)?;
+    let alloc = rt.alloc();
+    expect_all(&rt, "abc", b"abc".to_vec(alloc)?, usize::MAX, &OF_ABC)?;
+    expect_all(&rt, "no bytes", Vec::new(alloc), usize::MAX, &OF_NOTHING)?;
     for step in [1, 7, 65_535, usize::MAX] {
-        let bytes = rising(rt.alloc(), 131_073)?;
-        expect_all(&rt, bytes, step, &OF_TWO_BLOCKS_AND_ONE)?;
+        let row = format!(in alloc; "two blocks and one byte, {step} a read")?;
+        let bytes = rising(alloc, 131_073)?;
+        expect_all(&rt, row.as_str(), bytes, step, &OF_TWO_BLOCKS_AND_ONE)?;
     }
-    expect_all(&rt, rising(rt.alloc(), 65_536)?, usize::MAX, &OF_ONE_BLOCK)
+    let bytes = rising(alloc, 65_536)?;
+    expect_all(&rt, "one block", bytes, usize::MAX, &OF_ONE_BLOCK)
 }
 
 #[test]
 fn no_algorithm_gives_the_length_alone(rt: HostRuntime) -> Result<(), Fail> {
     let mut store = tree_of(rt.alloc(), b"abc".to_vec(rt.alloc())?)?;
     let (digests, length) = hashed(rt.alloc(), &mut store, Wanted::none())??;
-    are(&rt, &digests, &["", "", "", "", ""])?;
+    are(&rt, "no algorithm", &digests, &["", "", "", "", ""])?;
     assert!(rt; length == 3);
-    opened_once(&rt, &store, 3, false)
+    opened_once(&rt, "no algorithm", &store, 3, false)
 }
 
 #[test]
 fn a_stop_says_what_was_given(rt: HostRuntime) -> Result<(), Fail> {
-    for (point, bytes) in [(Point::Read(65_536), 65_536), (Point::Open, 0)] {
+    for (row, point, bytes) in [
+        ("a read after one block", Point::Read(65_536), 65_536),
+        ("the opening", Point::Open, 0),
+    ] {
         let mut store = tree_of(rt.alloc(), rising(rt.alloc(), 65_537)?)?;
         store.fail_at(&place_of(rt.alloc(), "f")?, point)?;
         let stop = hashed(rt.alloc(), &mut store, all())?.err();
         let cause = Cause::Device;
-        assert!(rt; stop == Some(ReadStop { bytes, cause }), "{stop:?}");
-        opened_once(&rt, &store, bytes, true)?;
+        assert!(rt; stop == Some(ReadStop { bytes, cause }), "{row}: {stop:?}");
+        opened_once(&rt, row, &store, bytes, true)?;
     }
     let mut store = MemTree::new(rt.alloc());
     let stop = hashed(rt.alloc(), &mut store, all())?.err();
@@ -221,30 +239,33 @@ fn a_stop_says_what_was_given(rt: HostRuntime) -> Result<(), Fail> {
 }
 
 /// How many bytes a file has, within which limit it is read, and how many bytes it gives.
-const LIMITS: [(u32, usize, u64); 8] = [
-    (4, 4, 4),
-    (5, 4, 5),
-    (0, 0, 0),
-    (1, 0, 1),
-    (9, 4, 5),
-    (10_000, 10_000, 10_000),
-    (10_000, 9_999, 10_000),
-    (10_000, usize::MAX, 10_000),
+const LIMITS: [(&str, u32, usize, u64); 8] = [
+    ("as many bytes as the limit", 4, 4, 4),
+    ("one byte more than the limit", 5, 4, 5),
+    ("no bytes and limit 0", 0, 0, 0),
+    ("one byte and limit 0", 1, 0, 1),
+    ("twice the limit and one", 9, 4, 5),
+    ("as many in several reads", 10_000, 10_000, 10_000),
+    ("one more in several reads", 10_000, 9_999, 10_000),
+    ("no limit", 10_000, usize::MAX, 10_000),
 ];
 
 #[test]
 fn a_file_is_read_within_a_limit(rt: HostRuntime) -> Result<(), Fail> {
-    for (count, limit, given) in LIMITS {
+    for (name, count, limit, given) in LIMITS {
         let bytes = rising(rt.alloc(), count)?;
         for step in [1, 3_000, usize::MAX] {
             let mut store = tree_of(rt.alloc(), rising(rt.alloc(), count)?)?;
             store.step(step);
+            let row = format!(in rt.alloc(); "{name}, {step} a read")?;
             match read_within(rt.alloc(), &mut store, limit)?? {
-                Bounded::Whole(whole) => assert!(rt; whole == bytes && bytes.len() <= limit),
-                Bounded::Over => assert!(rt; limit < bytes.len()),
+                Bounded::Whole(whole) => {
+                    assert!(rt; whole == bytes && bytes.len() <= limit, "{row}")
+                }
+                Bounded::Over => assert!(rt; limit < bytes.len(), "{row}"),
             }
-            assert!(rt; store.largest_read() <= 4_096);
-            opened_once(&rt, &store, given, false)?;
+            assert!(rt; store.largest_read() <= 4_096, "{row}");
+            opened_once(&rt, row.as_str(), &store, given, false)?;
         }
     }
     Ok(())
@@ -256,12 +277,15 @@ fn a_limited_read_tells_its_trouble(rt: HostRuntime) -> Result<(), Fail> {
     let read = read_within(rt.alloc(), &mut missing, 9_999)?;
     assert!(rt; read == Err(Trouble::Absent));
     assert!(rt; missing.openings().is_empty() && missing.failures() == 0);
-    for (point, given) in [(Point::Read(3), 4_096), (Point::Open, 0)] {
+    for (row, point, given) in [
+        ("a read after three bytes", Point::Read(3), 4_096),
+        ("the opening", Point::Open, 0),
+    ] {
         let mut store = tree_of(rt.alloc(), rising(rt.alloc(), 5_000)?)?;
         store.fail_at(&place_of(rt.alloc(), "f")?, point)?;
         let read = read_within(rt.alloc(), &mut store, 9_999)?;
-        assert!(rt; read == Err(Trouble::Device));
-        opened_once(&rt, &store, given, true)?;
+        assert!(rt; read == Err(Trouble::Device), "{row}");
+        opened_once(&rt, row, &store, given, true)?;
     }
     Ok(())
 }
@@ -275,7 +299,7 @@ fn a_file_of_a_folder_is_read(rt: HostRuntime) -> Result<(), Fail> {
     fs::write(&rt, "folder/f", bytes.as_slice())?;
     let mut store = FsTree::at(&rt, "folder")?;
     let (digests, length) = hashed(rt.alloc(), &mut store, all())??;
-    are(&rt, &digests, &OF_TWO_BLOCKS_AND_ONE)?;
+    are(&rt, "a folder", &digests, &OF_TWO_BLOCKS_AND_ONE)?;
     assert!(rt; length == 131_073);
     let whole = read_within(rt.alloc(), &mut store, 131_073)??;
     assert!(rt; whole == Bounded::Whole(bytes));

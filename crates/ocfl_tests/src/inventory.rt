@@ -30,17 +30,29 @@ fn lines(alloc: Global, bytes: &[u8]) -> Result<(String, bool), Fail> {
     Ok((text, table.is_some()))
 }
 
-fn stops(rt: &impl Abort, alloc: Global, bytes: &[u8], wanted: &str) -> Result<(), Fail> {
+fn stops(
+    rt: &impl Abort,
+    row: &str,
+    alloc: Global,
+    bytes: &[u8],
+    wanted: &str,
+) -> Result<(), Fail> {
     let (text, table) = lines(alloc, bytes)?;
-    assert_eq!(rt; text.as_str(), wanted);
-    assert!(rt; !table, "a table beside {wanted}");
+    assert_eq!(rt; text.as_str(), wanted, "{row}");
+    assert!(rt; !table, "{row}: a table");
     Ok(())
 }
 
-fn goes_on(rt: &impl Abort, alloc: Global, bytes: &[u8], wanted: &str) -> Result<(), Fail> {
+fn goes_on(
+    rt: &impl Abort,
+    row: &str,
+    alloc: Global,
+    bytes: &[u8],
+    wanted: &str,
+) -> Result<(), Fail> {
     let (text, table) = lines(alloc, bytes)?;
-    assert_eq!(rt; text.as_str(), wanted);
-    assert!(rt; table, "no table beside {wanted}");
+    assert_eq!(rt; text.as_str(), wanted, "{row}");
+    assert!(rt; table, "{row}: no table");
     Ok(())
 }
 
@@ -55,63 +67,94 @@ fn nested(alloc: Global, arrays: usize) -> Result<String, Fail> {
 #[test]
 fn inventories_nest_to_127(rt: HostRuntime) -> Result<(), Fail> {
     let alloc = rt.alloc();
-    goes_on(&rt, alloc, nested(alloc, 126)?.as_bytes(), "")?;
-    stops(&rt, alloc, nested(alloc, 127)?.as_bytes(), "E033 -\n")
+    goes_on(&rt, "126 arrays", alloc, nested(alloc, 126)?.as_bytes(), "")?;
+    let bytes = nested(alloc, 127)?;
+    stops(&rt, "127 arrays", alloc, bytes.as_bytes(), "E033 -\n")
 }
 
 /// Inventories, each with the line that stops.
-const STOPS: [(&str, &str); 22] = [
+const STOPS: [(&str, &str, &str); 22] = [
     // what is no object in JSON
-    ("[]", "E033 -\n"),
-    ("abc", "E033 -\n"),
-    ("", "E033 -\n"),
-    ("{\"digestAlgorithm\":", "E033 -\n"),
-    ("{\"a\":1e999}", "E033 -\n"),
-    ("{\"a\":\"\\ud800\"}", "E033 -\n"),
-    ("{} {}", "E033 -\n"),
-    // keys that stop
-    ("{}", "E036 digestAlgorithm\n"),
-    ("{\"digestAlgorithm\":\"SHA256\"}", "E025 SHA256\n"),
-    ("{\"digestAlgorithm\":\"sha512/256\"}", "E025 sha512/256\n"),
-    ("{\"digestAlgorithm\":7}", "S03 digestAlgorithm\n"),
+    ("an array", "[]", "E033 -\n"),
+    ("no JSON", "abc", "E033 -\n"),
+    ("no byte", "", "E033 -\n"),
     (
+        "an object without an end",
+        "{\"digestAlgorithm\":",
+        "E033 -\n",
+    ),
+    ("a number too large", "{\"a\":1e999}", "E033 -\n"),
+    ("half of a pair", "{\"a\":\"\\ud800\"}", "E033 -\n"),
+    ("two objects", "{} {}", "E033 -\n"),
+    // keys that stop
+    ("no algorithm", "{}", "E036 digestAlgorithm\n"),
+    (
+        "an algorithm in capitals",
+        "{\"digestAlgorithm\":\"SHA256\"}",
+        "E025 SHA256\n",
+    ),
+    (
+        "an algorithm that no inventory may have",
+        "{\"digestAlgorithm\":\"sha512/256\"}",
+        "E025 sha512/256\n",
+    ),
+    (
+        "an algorithm that is a number",
+        "{\"digestAlgorithm\":7}",
+        "S03 digestAlgorithm\n",
+    ),
+    (
+        "a content directory of two names",
         "{\"digestAlgorithm\":\"sha512\",\"contentDirectory\":\"a/b\"}",
         "E017 a/b\n",
     ),
     (
+        "a content directory of two dots",
         "{\"digestAlgorithm\":\"sha512\",\"contentDirectory\":\"..\"}",
         "E018 ..\n",
     ),
     (
+        "an empty content directory",
         "{\"digestAlgorithm\":\"sha512\",\"contentDirectory\":\"\"}",
         "S03 contentDirectory\n",
     ),
     (
+        "a content directory that is a number",
         "{\"digestAlgorithm\":\"sha512\",\"contentDirectory\":7}",
         "S03 contentDirectory\n",
     ),
-    ("{\"digestAlgorithm\":\"sha512\"}", "E041 manifest\n"),
     (
+        "no manifest",
+        "{\"digestAlgorithm\":\"sha512\"}",
+        "E041 manifest\n",
+    ),
+    (
+        "a manifest that is an array",
         "{\"digestAlgorithm\":\"sha512\",\"manifest\":[]}",
         "S03 manifest\n",
     ),
     (
+        "a digest with a text",
         "{\"digestAlgorithm\":\"sha512\",\"manifest\":{\"a\":\"v1/content/f\"}}",
         "S03 manifest\n",
     ),
     (
+        "a path that is a number",
         "{\"digestAlgorithm\":\"sha512\",\"manifest\":{\"a\":[7]}}",
         "S03 manifest\n",
     ),
     (
+        "a fixity block that is an array",
         "{\"digestAlgorithm\":\"sha512\",\"manifest\":{},\"fixity\":[]}",
         "S03 fixity\n",
     ),
     (
+        "a fixity algorithm that is a number",
         "{\"digestAlgorithm\":\"sha512\",\"manifest\":{},\"fixity\":{\"md5\":7}}",
         "S03 fixity\n",
     ),
     (
+        "sha512/256 that is a number",
         "{\"digestAlgorithm\":\"sha512\",\"manifest\":{},\"fixity\":{\"sha512/256\":7}}",
         "S03 fixity\n",
     ),
@@ -119,77 +162,101 @@ const STOPS: [(&str, &str); 22] = [
 
 #[test]
 fn inventories_that_stop(rt: HostRuntime) -> Result<(), Fail> {
-    for (text, wanted) in STOPS {
-        stops(&rt, rt.alloc(), text.as_bytes(), wanted)?;
+    for (row, text, wanted) in STOPS {
+        stops(&rt, row, rt.alloc(), text.as_bytes(), wanted)?;
     }
-    stops(&rt, rt.alloc(), b"{\"a\":\"\xFF\"}", "E033 -\n")
+    let bytes = b"{\"a\":\"\xFF\"}";
+    stops(
+        &rt,
+        "a byte that is not UTF-8",
+        rt.alloc(),
+        bytes,
+        "E033 -\n",
+    )
 }
 
 /// Manifests, each with what follows the manifest and the lines.
-const GO_ON: [(&str, &str, &str); 13] = [
+const GO_ON: [(&str, &str, &str, &str); 13] = [
     // bad paths of each kind
     (
+        "a bad path of each kind",
         "{\"a\":[\"x/content/a\",\"/a\",\"v1/content/f\",\"v1/content/../b\"]}",
         "",
         "E100 /a\nE099 v1/content/../b\nS06 x/content/a\n",
     ),
     (
+        "paths that are nearly content paths",
         "{\"a\":[\"\",\"v1/content/f/\",\"v1//f\",\"v1/content\",\"v/content/f\",\"v1/c/f\",\"v1a/content/f\"]}",
         "",
         "E099 \nS06 v/content/f\nE099 v1//f\nS06 v1/c/f\nS06 v1/content\nE100 v1/content/f/\nS06 v1a/content/f\n",
     ),
     // each bad text once in the manifest, and once in all of fixity
     (
+        "a bad path in the manifest and twice in fixity",
         "{\"a\":[\"v1/content/f\",\"/x\"]}",
         ",\"fixity\":{\"md5\":{\"b\":[\"/x\"]},\"sha1\":{\"c\":[\"/x\"]}}",
         "E100 /x\nE100 /x\n",
     ),
     // a digest twice in different case, also with no paths
-    ("{\"ab\":[],\"AB\":[],\"aB\":[],\"b\":[]}", "", "E096 ab\n"),
     (
+        "a digest in three cases, without paths",
+        "{\"ab\":[],\"AB\":[],\"aB\":[],\"b\":[]}",
+        "",
+        "E096 ab\n",
+    ),
+    (
+        "a path under a digest in two cases",
         "{\"a\":[\"v1/content/f\"],\"A\":[\"v1/content/f\"]}",
         "",
         "E096 a\nE101 v1/content/f\n",
     ),
     (
+        "digests in two cases in fixity",
         "{}",
         ",\"fixity\":{\"sha1\":{\"a\":[],\"A\":[]},\"md5\":{\"x\":[],\"X\":[],\"W\":[],\"w\":[]}}",
         "E097 md5 w\nE097 md5 x\nE097 sha1 a\n",
     ),
     // a path that another one begins with by elements, and no path of the fixity block
     (
+        "a path below another one",
         "{\"a\":[\"v1/content/f\",\"v1/content/f/g\",\"v1/content/f-g\"]}",
         "",
         "E101 v1/content/f\n",
     ),
     (
+        "paths that begin alike",
         "{\"a\":[\"v1/content/f\",\"v1/content/f-g\",\"v1/content/ff\"]}",
         "",
         "",
     ),
     (
+        "paths below one another",
         "{\"a\":[\"v1/content/a/b/c\",\"v1/content/a-b\",\"v1/content/a\",\"v1/content/a/b\"]}",
         "",
         "E101 v1/content/a\nE101 v1/content/a/b\n",
     ),
     (
+        "a path three times",
         "{\"a\":[\"v1/content/f\",\"v1/content/f\",\"v1/content/f\"]}",
         "",
         "E101 v1/content/f\n",
     ),
     (
+        "a path twice in fixity",
         "{}",
         ",\"fixity\":{\"md5\":{\"a\":[\"v1/content/f\",\"v1/content/f\"]}}",
         "",
     ),
     // algorithms that are not computed
     (
+        "algorithms that are not computed",
         "{}",
         ",\"fixity\":{\"blake2b-512\":7,\"MD5\":[],\"md5\":{}}",
         "S07 MD5\nS07 blake2b-512\n",
     ),
     // all of them, in order
     (
+        "a line of each kind",
         "{\"a\":[\"v1/content/f\",\"/x\"],\"A\":[\"v1/content/f/g\"]}",
         ",\"fixity\":{\"b\":0,\"md5\":{\"c\":[\"/a\"],\"C\":[]}}",
         "E096 a\nE097 md5 c\nE100 /x\nE100 /a\nE101 v1/content/f\nS07 b\n",
@@ -199,9 +266,9 @@ const GO_ON: [(&str, &str, &str); 13] = [
 #[test]
 fn lines_that_do_not_stop(rt: HostRuntime) -> Result<(), Fail> {
     let alloc = rt.alloc();
-    for (manifest, further, wanted) in GO_ON {
+    for (row, manifest, further, wanted) in GO_ON {
         let text = inventory(alloc, manifest, further)?;
-        goes_on(&rt, alloc, text.as_bytes(), wanted)?;
+        goes_on(&rt, row, alloc, text.as_bytes(), wanted)?;
     }
     Ok(())
 }
@@ -209,7 +276,11 @@ fn lines_that_do_not_stop(rt: HostRuntime) -> Result<(), Fail> {
 #[test]
 fn listed_paths_have_limits(rt: HostRuntime) -> Result<(), Fail> {
     let alloc = rt.alloc();
-    for (elements, letters, is_kept) in [(126, 255, true), (127, 1, false), (1, 256, false)] {
+    for (row, elements, letters, is_kept) in [
+        ("128 names, the last of 255 letters", 126, 255, true),
+        ("129 names", 127, 1, false),
+        ("a name of 256 letters", 1, 256, false),
+    ] {
         let rest = "/d".repeat(alloc, elements - 1)?;
         let last = "f".repeat(alloc, letters)?;
         let path = format!(in alloc; "v1/content{rest}/{last}")?;
@@ -220,10 +291,11 @@ fn listed_paths_have_limits(rt: HostRuntime) -> Result<(), Fail> {
         } else {
             format!(in alloc; "S06 {path}\n")?
         };
-        goes_on(&rt, alloc, text.as_bytes(), wanted.as_str())?;
+        goes_on(&rt, row, alloc, text.as_bytes(), wanted.as_str())?;
     }
     let text = inventory(alloc, "{\"a\":[\"v1/content/\\u0000\"]}", "")?;
-    goes_on(&rt, alloc, text.as_bytes(), "S06 v1/content/\0\n")
+    let wanted = "S06 v1/content/\0\n";
+    goes_on(&rt, "a NUL", alloc, text.as_bytes(), wanted)
 }
 
 /// The texts of the numbers from 100 to 399, each between these two, with commas.
@@ -248,14 +320,17 @@ fn three_hundred_members_algorithms_and_keys(rt: HostRuntime) -> Result<(), Fail
     for number in 100..400u64 {
         notes.push_str(format!(in alloc; "S07 x{number}\n")?.as_str())?;
     }
-    for (manifest, further, wanted) in [
-        ("{}", members.as_str(), ""),
-        ("{}", fixity.as_str(), notes.as_str()),
-        (keys.as_str(), "", ""),
+    for (row, manifest, further, wanted) in [
+        ("members", "{}", members.as_str(), ""),
+        ("algorithms", "{}", fixity.as_str(), notes.as_str()),
+        ("keys", keys.as_str(), "", ""),
     ] {
         let text = inventory(alloc, manifest, further)?;
-        goes_on(&rt, alloc, text.as_bytes(), wanted)?;
-        assert!(rt; read_inventory(alloc, text.as_bytes())?.table.is_some());
+        goes_on(&rt, row, alloc, text.as_bytes(), wanted)?;
+        assert!(rt;
+            read_inventory(alloc, text.as_bytes())?.table.is_some(),
+            "{row}"
+        );
     }
     Ok(())
 }
@@ -281,7 +356,7 @@ fn names_three_hundred(rt: &impl Abort, alloc: Global, table: Option<Table>) -> 
         let path = format!(in alloc; "v1/content/{number}")?;
         let found = named(alloc, &table, path.as_str())?;
         let wanted = format!(in alloc; "manifest sha256 a\nfixity md5 b{number}\n")?;
-        assert_eq!(rt; found.as_str(), wanted.as_str());
+        assert_eq!(rt; found.as_str(), wanted.as_str(), "{path}");
     }
     Ok(())
 }
@@ -299,7 +374,7 @@ fn three_hundred_paths_and_three_hundred_digests(rt: HostRuntime) -> Result<(), 
     }
     let further = format!(in alloc; ",\"fixity\":{{\"md5\":{{{digests}}}}}")?;
     let text = inventory(alloc, manifest.as_str(), further.as_str())?;
-    goes_on(&rt, alloc, text.as_bytes(), "")?;
+    goes_on(&rt, "paths and digests", alloc, text.as_bytes(), "")?;
     names_three_hundred(&rt, alloc, Table::read(alloc, text.as_bytes())?.1)?;
     names_three_hundred(&rt, alloc, read_inventory(alloc, text.as_bytes())?.table)
 }
@@ -341,12 +416,16 @@ fn digests_are_named_in_order(rt: HostRuntime) -> Result<(), Fail> {
 }
 
 /// Paths, each with the next one that the table of `paths_follow_as_places` lists.
-const NEXT: [(Option<&str>, Option<&str>); 5] = [
-    (None, Some("v1/c/a/b")),
-    (Some("v1/c/a"), Some("v1/c/a/b")),
-    (Some("v1/c/a/b"), Some("v1/c/a-b")),
-    (Some("v1/c/a-b"), Some("v10/c/a")),
-    (Some("v10/c/a"), None),
+const NEXT: [(&str, Option<&str>, Option<&str>); 5] = [
+    ("the first path", None, Some("v1/c/a/b")),
+    ("after a directory", Some("v1/c/a"), Some("v1/c/a/b")),
+    ("a slash before a dash", Some("v1/c/a/b"), Some("v1/c/a-b")),
+    (
+        "version 1 before version 10",
+        Some("v1/c/a-b"),
+        Some("v10/c/a"),
+    ),
+    ("after the last path", Some("v10/c/a"), None),
 ];
 
 #[test]
@@ -355,10 +434,10 @@ fn paths_follow_as_places(rt: HostRuntime) -> Result<(), Fail> {
         "{\"digestAlgorithm\":\"sha512\",\"contentDirectory\":\"c\",\"manifest\":{\"b\":[\"v1/c/a-b\",\"v1/c/a/b\"],\"a\":[\"v1/c/a/b\",\"v10/c/a\"]}}";
     let table = table_of(rt.alloc(), text)?;
     assert_eq!(rt; table.content_directory(), "c");
-    for (after, wanted) in NEXT {
+    for (row, after, wanted) in NEXT {
         let place = place_of(rt.alloc(), after.unwrap_or(""))?;
         let next = table.next_after(after.map(|_| &place));
-        assert!(rt; next.map(|place| place.path()) == wanted, "after {after:?}");
+        assert!(rt; next.map(|place| place.path()) == wanted, "{row}");
     }
     Ok(())
 }
@@ -372,7 +451,13 @@ fn paths_that_share_long_beginnings_conflict_by_elements(rt: HostRuntime) -> Res
     )?;
     let text = inventory(alloc, manifest.as_str(), "")?;
     let wanted = format!(in alloc; "E101 v1/content{deep}/a\nE101 v1/content{deep}/a-b\n")?;
-    goes_on(&rt, alloc, text.as_bytes(), wanted.as_str())
+    goes_on(
+        &rt,
+        "long beginnings",
+        alloc,
+        text.as_bytes(),
+        wanted.as_str(),
+    )
 }
 
 #[test]
@@ -380,17 +465,30 @@ fn an_algorithm_stands_where_no_table_does(rt: HostRuntime) -> Result<(), Fail> 
     let alloc = rt.alloc();
     let cases = [
         (
+            "a manifest that is a number",
             "{\"digestAlgorithm\":\"sha512\",\"manifest\":7}",
             Some(Algorithm::Sha512),
         ),
-        ("{\"digestAlgorithm\":\"sha256\"}", Some(Algorithm::Sha256)),
-        ("{\"digestAlgorithm\":\"md5\"}", None),
-        ("{\"digestAlgorithm\":7}", None),
-        ("{}", None),
-        ("[]", None),
+        (
+            "no manifest",
+            "{\"digestAlgorithm\":\"sha256\"}",
+            Some(Algorithm::Sha256),
+        ),
+        (
+            "an algorithm that no inventory may have",
+            "{\"digestAlgorithm\":\"md5\"}",
+            None,
+        ),
+        (
+            "an algorithm that is a number",
+            "{\"digestAlgorithm\":7}",
+            None,
+        ),
+        ("no algorithm", "{}", None),
+        ("an array", "[]", None),
     ];
-    for (text, wanted) in cases {
-        assert!(rt; algorithm_of(alloc, text.as_bytes())? == wanted, "{text}");
+    for (row, text, wanted) in cases {
+        assert!(rt; algorithm_of(alloc, text.as_bytes())? == wanted, "{row}");
     }
     Ok(())
 }
@@ -412,16 +510,22 @@ fn sum_of(alloc: Global, text: &str, algorithm: Algorithm) -> Result<Option<Vec<
 
 #[test]
 fn sidecars_are_read(rt: HostRuntime) -> Result<(), Fail> {
-    for text in [
-        "ABC_SHA256 inventory.json\n",
-        "ABC_CAPITALS inventory.json\n",
-        "ABC_SHA256  inventory.json",
-        "ABC_CAPITALS  inventory.json",
-        "ABC_SHA256\t inventory.json \t\r\n\n",
-        "ABC_CAPITALS\t inventory.json \t\r\n\n",
+    for (row, text) in [
+        ("one blank", "ABC_SHA256 inventory.json\n"),
+        ("capitals", "ABC_CAPITALS inventory.json\n"),
+        ("two blanks", "ABC_SHA256  inventory.json"),
+        ("capitals and two blanks", "ABC_CAPITALS  inventory.json"),
+        (
+            "tabs and blanks around",
+            "ABC_SHA256\t inventory.json \t\r\n\n",
+        ),
+        (
+            "capitals, tabs and blanks",
+            "ABC_CAPITALS\t inventory.json \t\r\n\n",
+        ),
     ] {
         let sum = sum_of(rt.alloc(), text, Algorithm::Sha256)?;
-        assert!(rt; sum.as_deref() == Some(SUM.as_slice()), "{text}");
+        assert!(rt; sum.as_deref() == Some(SUM.as_slice()), "{row}");
     }
     let long = sum_of(rt.alloc(), "ABC_SHA512 inventory.json\n", Algorithm::Sha512)?;
     assert_eq!(rt; long.ok_or("not of the form")?.len(), 64);
@@ -429,31 +533,60 @@ fn sidecars_are_read(rt: HostRuntime) -> Result<(), Fail> {
 }
 
 /// Texts that are no sidecars of these algorithms.
-const NO_SIDECARS: [(&str, Algorithm); 14] = [
-    ("ABC_SHA256 *inventory.json\n", Algorithm::Sha256),
-    ("ABC_SHA256inventory.json", Algorithm::Sha256),
-    ("ABC_SHA256 inventory.jso", Algorithm::Sha256),
-    ("ABC_SHA256 inventory.json x", Algorithm::Sha256),
-    ("ABC_SHA256 Inventory.json", Algorithm::Sha256),
-    ("ABC_SHA256a inventory.json", Algorithm::Sha256),
-    ("ABC_SHA256\n inventory.json", Algorithm::Sha256),
-    ("ABC_SHA256", Algorithm::Sha256),
+const NO_SIDECARS: [(&str, &str, Algorithm); 14] = [
     (
+        "a star before the name",
+        "ABC_SHA256 *inventory.json\n",
+        Algorithm::Sha256,
+    ),
+    ("no blank", "ABC_SHA256inventory.json", Algorithm::Sha256),
+    (
+        "another name",
+        "ABC_SHA256 inventory.jso",
+        Algorithm::Sha256,
+    ),
+    (
+        "something after the name",
+        "ABC_SHA256 inventory.json x",
+        Algorithm::Sha256,
+    ),
+    (
+        "a name with a capital",
+        "ABC_SHA256 Inventory.json",
+        Algorithm::Sha256,
+    ),
+    ("65 digits", "ABC_SHA256a inventory.json", Algorithm::Sha256),
+    (
+        "a line feed after the digits",
+        "ABC_SHA256\n inventory.json",
+        Algorithm::Sha256,
+    ),
+    ("digits alone", "ABC_SHA256", Algorithm::Sha256),
+    (
+        "63 digits",
         "ba7816bf8f01cfea414140de5dae2223b00361a396177a9cb410ff61f20015a inventory.json\n",
         Algorithm::Sha256,
     ),
-    ("ABC_SHA256 inventory.json\n", Algorithm::Md5),
-    ("ABC_SHA256 inventory.json\n", Algorithm::Sha1),
-    ("ABC_SHA256 inventory.json\n", Algorithm::Sha512),
-    ("ABC_SHA256 inventory.json\n", Algorithm::Sha512_256),
-    ("ABC_SHA512 inventory.json\n", Algorithm::Sha256),
+    ("md5", "ABC_SHA256 inventory.json\n", Algorithm::Md5),
+    ("sha1", "ABC_SHA256 inventory.json\n", Algorithm::Sha1),
+    ("sha512", "ABC_SHA256 inventory.json\n", Algorithm::Sha512),
+    (
+        "sha512/256",
+        "ABC_SHA256 inventory.json\n",
+        Algorithm::Sha512_256,
+    ),
+    (
+        "digits of sha512",
+        "ABC_SHA512 inventory.json\n",
+        Algorithm::Sha256,
+    ),
 ];
 
 #[test]
 fn other_sidecars_are_refused(rt: HostRuntime) -> Result<(), Fail> {
-    for (text, algorithm) in NO_SIDECARS {
+    for (row, text, algorithm) in NO_SIDECARS {
         let sum = sum_of(rt.alloc(), text, algorithm)?;
-        assert!(rt; sum.is_none(), "{text}, {algorithm:?}");
+        assert!(rt; sum.is_none(), "{row}");
     }
     Ok(())
 }
@@ -464,7 +597,8 @@ fn sidecars_have_at_most_4096_bytes(rt: HostRuntime) -> Result<(), Fail> {
     for (blanks, is_taken) in [(4096 - 79, true), (4097 - 79, false)] {
         let end = " ".repeat(alloc, blanks)?;
         let text = format!(in alloc; "{ABC_SHA256} inventory.json{end}")?;
-        assert!(rt; sidecar(text.as_bytes(), Algorithm::Sha256).is_some() == is_taken);
+        let sum = sidecar(text.as_bytes(), Algorithm::Sha256);
+        assert!(rt; sum.is_some() == is_taken, "{blanks} blanks");
     }
     Ok(())
 }
@@ -483,8 +617,11 @@ fn declarations_are_files_of_a_name(rt: HostRuntime) -> Result<(), Fail> {
     entries.push(entry(alloc, "0=ocfl_1.0", Kind::Dir)?)?;
     entries.push(entry(alloc, "0=ocfl_x1.0", Kind::File)?)?;
     entries.push(entry(alloc, "0=ocfl_object_", Kind::File)?)?;
-    for level in [Level::Root, Level::Object] {
-        assert!(rt; declaration(&entries, level) == Declared::None);
+    for (row, level) in [
+        ("a storage root", Level::Root),
+        ("an object", Level::Object),
+    ] {
+        assert!(rt; declaration(&entries, level) == Declared::None, "{row}");
     }
     entries.push(entry(alloc, "0=ocfl_1.1", Kind::File)?)?;
     entries.push(entry(alloc, "0=ocfl_object_1.0", Kind::File)?)?;
@@ -498,19 +635,23 @@ fn declarations_are_files_of_a_name(rt: HostRuntime) -> Result<(), Fail> {
 }
 
 /// One reading gives what the calls for its parts give.
-fn reads_as_its_parts(rt: &impl Abort, alloc: Global, bytes: &[u8]) -> Result<(), Fail> {
+fn reads_as_its_parts(rt: &impl Abort, row: &str, alloc: Global, bytes: &[u8]) -> Result<(), Fail> {
     let read = read_inventory(alloc, bytes)?;
     let (lines, table) = Table::read(alloc, bytes)?;
-    assert_eq!(rt; read.algorithm, algorithm_of(alloc, bytes)?);
-    assert_eq!(rt; read.remarks.len(), lines.len());
-    assert_eq!(rt; read.table.is_some(), table.is_some());
+    assert_eq!(rt; read.algorithm, algorithm_of(alloc, bytes)?, "{row}");
+    assert_eq!(rt; read.remarks.len(), lines.len(), "{row}");
+    assert_eq!(rt; read.table.is_some(), table.is_some(), "{row}");
     if let (Some(one), Some(table)) = (&read.table, &table) {
-        assert_eq!(rt; one.algorithm(), table.algorithm());
-        assert_eq!(rt; one.content_directory(), table.content_directory());
+        assert_eq!(rt; one.algorithm(), table.algorithm(), "{row}");
+        assert_eq!(rt; one.content_directory(), table.content_directory(), "{row}");
         for path in ["v1/content/a", "v2/content/b", "x"] {
             let place = Place::from_path(String::from_str(alloc, path)?).expect(rt, "a path");
             let named = one.named(alloc, &place)?;
-            assert_eq!(rt; named.len(), table.named(alloc, &place)?.len());
+            assert_eq!(rt;
+                named.len(),
+                table.named(alloc, &place)?.len(),
+                "{row}, {path}"
+            );
         }
     }
     Ok(())
@@ -524,14 +665,27 @@ fn one_parse_gives_algorithm_lines_and_table(rt: HostRuntime) -> Result<(), Fail
         "{\"ab\":[\"v1/content/a\",\"v2/content/b\",\"x\"]}",
         "",
     )?;
-    reads_as_its_parts(&rt, alloc, whole.as_str().as_bytes())?;
+    reads_as_its_parts(&rt, "one digest", alloc, whole.as_str().as_bytes())?;
     let stopped = inventory(alloc, "[]", "")?;
-    reads_as_its_parts(&rt, alloc, stopped.as_str().as_bytes())?;
+    reads_as_its_parts(
+        &rt,
+        "a manifest that is an array",
+        alloc,
+        stopped.as_str().as_bytes(),
+    )?;
     let read = read_inventory(alloc, stopped.as_str().as_bytes())?;
     assert_eq!(rt; read.algorithm, Some(Algorithm::Sha256));
     assert!(rt; read.table.is_none() && read.remarks.len() == 1);
-    for bytes in ["", "[]", "{}", "{\"digestAlgorithm\":\"md5\"}"] {
-        reads_as_its_parts(&rt, alloc, bytes.as_bytes())?;
+    for (row, bytes) in [
+        ("no byte", ""),
+        ("an array", "[]"),
+        ("no algorithm", "{}"),
+        (
+            "an algorithm that no inventory may have",
+            "{\"digestAlgorithm\":\"md5\"}",
+        ),
+    ] {
+        reads_as_its_parts(&rt, row, alloc, bytes.as_bytes())?;
     }
     Ok(())
 }
@@ -555,9 +709,10 @@ fn names_and_bytes_of_declarations(rt: HostRuntime) -> Result<(), Fail> {
         ),
     ];
     for (level, version, name, bytes) in cases {
-        assert_eq!(rt; declaration_name(level, version), name);
-        assert!(rt; declaration_bytes(level, version) == bytes.as_bytes());
-        assert!(rt; is_declaration_name(level, name));
+        assert_eq!(rt; declaration_name(level, version), name, "{name}");
+        let is_right = declaration_bytes(level, version) == bytes.as_bytes();
+        assert!(rt; is_right, "{name}");
+        assert!(rt; is_declaration_name(level, name), "{name}");
     }
     assert!(rt; !is_declaration_name(Level::Object, "0=ocfl_1.1"));
     assert!(rt; !is_declaration_name(Level::Object, "0=ocfl_object_x"));
@@ -573,7 +728,7 @@ fn names_and_bytes_of_declarations(rt: HostRuntime) -> Result<(), Fail> {
         ("1", false),
         ("v1a", false),
     ] {
-        assert_eq!(rt; is_version_name(name), is_version);
+        assert_eq!(rt; is_version_name(name), is_version, "{name}");
     }
     Ok(())
 }

@@ -146,7 +146,10 @@ fn reads_budgets(rt: HostRuntime) -> Result<(), Fail> {
     ];
     for (text, number) in budgets {
         let line = format!(in alloc; "run --cursor F --budget {text} R")?;
-        assert!(rt; is_run(alloc, line.as_str(), limits(number, MOST)?)?);
+        assert!(rt;
+            is_run(alloc, line.as_str(), limits(number, MOST)?)?,
+            "{text}"
+        );
     }
     Ok(())
 }

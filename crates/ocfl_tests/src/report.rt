@@ -112,20 +112,22 @@ fn line_text(alloc: Global, code: Code, path: &str, detail: &str) -> Result<Vec<
     Ok(text)
 }
 
-fn is_text_of(rt: &impl Abort, alloc: Global, text: &str, path: &str) -> Result<(), Fail> {
+fn is_text_of(
+    rt: &impl Abort,
+    alloc: Global,
+    row: &str,
+    text: &str,
+    path: &str,
+) -> Result<(), Fail> {
     let place = place_of(alloc, path)?;
-    assert_eq!(rt;
-        read_place(alloc, text.as_bytes())?,
-        place,
-        "reading {text}"
-    );
+    assert_eq!(rt; read_place(alloc, text.as_bytes())?, place, "reading {row}");
     let mut written = Vec::new(alloc);
     put_place(&place, &mut written)?;
-    assert_eq!(rt; written.as_slice(), text.as_bytes(), "writing {text}");
+    assert_eq!(rt; written.as_slice(), text.as_bytes(), "writing {row}");
     assert_eq!(rt;
         ocfl_report::laws::place_reads_back(alloc, &place)?,
         place,
-        "both for {text}"
+        "both for {row}"
     );
     Ok(())
 }
@@ -135,15 +137,19 @@ fn places_are_read(rt: HostRuntime) -> Result<(), Fail> {
     let alloc = rt.alloc();
     let longest = "\u{1}".repeat(alloc, 255)?;
     let escaped = "%01".repeat(alloc, 255)?;
-    for (text, path) in [
-        (".", ""),
-        ("a%25/b", "a%/b"),
-        ("a/b-c/d e", "a/b-c/d e"),
-        ("...", "..."),
-        ("%C3%A9%09%25 %7F", "é\t% \u{7F}"),
-        (escaped.as_str(), longest.as_str()),
+    for (row, text, path) in [
+        ("the root", ".", ""),
+        ("an escaped percent sign", "a%25/b", "a%/b"),
+        ("a dash and a blank", "a/b-c/d e", "a/b-c/d e"),
+        ("three dots", "...", "..."),
+        (
+            "letters that are escaped",
+            "%C3%A9%09%25 %7F",
+            "é\t% \u{7F}",
+        ),
+        ("the longest name", escaped.as_str(), longest.as_str()),
     ] {
-        is_text_of(&rt, alloc, text, path)?;
+        is_text_of(&rt, alloc, row, text, path)?;
     }
     Ok(())
 }
@@ -172,23 +178,25 @@ fn other_texts_are_bad(rt: HostRuntime) -> Result<(), Fail> {
 
 #[test]
 fn lines_are_escaped(rt: HostRuntime) -> Result<(), Fail> {
-    for (code, path, detail, want) in [
+    for (row, code, path, detail, want) in [
         (
+            "an escaped place",
             Code::E023,
             "o/v1/content/é\t% ",
             "-",
             "E023\to/v1/content/%C3%A9%09%25 \t-\n",
         ),
         (
+            "an escaped detail",
             Code::E099,
             "o",
             "a\tb\nc\u{7F}é% d/",
             "E099\to\ta%09b%0Ac%7F%C3%A9%25 d/\n",
         ),
-        (Code::Clean, "", "-", "ok\t.\t-\n"),
+        ("the root", Code::Clean, "", "-", "ok\t.\t-\n"),
     ] {
         let text = line_text(rt.alloc(), code, path, detail)?;
-        assert_eq!(rt; text.as_slice(), want.as_bytes(), "{want}");
+        assert_eq!(rt; text.as_slice(), want.as_bytes(), "{row}");
     }
     Ok(())
 }
@@ -221,7 +229,7 @@ fn codes_are_named_and_found(rt: HostRuntime) -> Result<(), Fail> {
         } else {
             name.as_str()
         };
-        assert_eq!(rt; code.text(), wanted);
+        assert_eq!(rt; code.text(), wanted, "{wanted}");
         let line = Line {
             code,
             place: Place::root(alloc),
@@ -236,32 +244,35 @@ fn codes_are_named_and_found(rt: HostRuntime) -> Result<(), Fail> {
 #[test]
 fn lines_are_read(rt: HostRuntime) -> Result<(), Fail> {
     let alloc = rt.alloc();
-    for (text, code, path, detail) in [
-        ("ok\t.\t-\n", Code::Clean, "", "-"),
+    for (row, text, code, path, detail) in [
+        ("the root", "ok\t.\t-\n", Code::Clean, "", "-"),
         (
+            "a content file",
             "ok\to/v1/content/a\t4\n",
             Code::Clean,
             "o/v1/content/a",
             "4",
         ),
         (
+            "an escaped place",
             "E023\to/v1/content/%C3%A9%09%25 \t-\n",
             Code::E023,
             "o/v1/content/é\t% ",
             "-",
         ),
         (
+            "an escaped detail",
             "E099\to\ta%09b%0Ac%7F%C3%A9%25 d/\n",
             Code::E099,
             "o",
             "a\tb\nc\u{7F}é% d/",
         ),
-        ("E017\to\t\n", Code::E017, "o", ""),
+        ("an empty detail", "E017\to\t\n", Code::E017, "o", ""),
     ] {
         let line = read_line(alloc, text.as_bytes())?;
-        assert_eq!(rt; line.code, code, "{text}");
-        assert_eq!(rt; line.place, place_of(alloc, path)?, "{text}");
-        assert_eq!(rt; line.detail.as_str(), detail, "{text}");
+        assert_eq!(rt; line.code, code, "{row}");
+        assert_eq!(rt; line.place, place_of(alloc, path)?, "{row}");
+        assert_eq!(rt; line.detail.as_str(), detail, "{row}");
     }
     Ok(())
 }
@@ -278,65 +289,65 @@ fn each_code_is_read_back(rt: HostRuntime) -> Result<(), Fail> {
             detail,
         };
         let read = line_reads_back(alloc, &line)?;
-        assert_eq!(rt; read.code, code);
-        assert_eq!(rt; read.place, line.place);
-        assert_eq!(rt; read.detail.as_str(), "é d");
+        assert_eq!(rt; read.code, code, "{code:?}");
+        assert_eq!(rt; read.place, line.place, "{code:?}");
+        assert_eq!(rt; read.detail.as_str(), "é d", "{code:?}");
     }
     Ok(())
 }
 
 /// Bytes that are the text of no line.
-const NO_LINES: [&str; 37] = [
+const NO_LINES: [(&str, &str); 37] = [
     // No line feed, or more than one.
-    "",
-    "\n",
-    "ok\t.\t-",
-    "ok\t.\t-\n\n",
-    "ok\t.\t-\nok\to\t-\n",
-    "ok\t.\t-\r\n",
+    ("no byte", ""),
+    ("a line feed alone", "\n"),
+    ("no line feed", "ok\t.\t-"),
+    ("two line feeds", "ok\t.\t-\n\n"),
+    ("two lines", "ok\t.\t-\nok\to\t-\n"),
+    ("a carriage return", "ok\t.\t-\r\n"),
     // Fewer tabs than two, or more.
-    "ok\n",
-    "ok\t.\n",
-    "ok\t.\t-\t\n",
-    "ok\t\t.\t-\n",
-    "\tok\t.\t-\n",
+    ("a code alone", "ok\n"),
+    ("one tab", "ok\t.\n"),
+    ("three tabs", "ok\t.\t-\t\n"),
+    ("two tabs before the place", "ok\t\t.\t-\n"),
+    ("a tab before the code", "\tok\t.\t-\n"),
     // Other codes.
-    "\t.\t-\n",
-    "OK\t.\t-\n",
-    "ok \t.\t-\n",
-    "e023\to\t-\n",
-    "E02\to\t-\n",
-    "E0233\to\t-\n",
-    "E002\to\t-\n",
-    "S09\to\t-\n",
+    ("no code", "\t.\t-\n"),
+    ("a code in capitals", "OK\t.\t-\n"),
+    ("a blank after the code", "ok \t.\t-\n"),
+    ("a code in small letters", "e023\to\t-\n"),
+    ("a code of three letters", "E02\to\t-\n"),
+    ("a code of five letters", "E0233\to\t-\n"),
+    ("another code of OCFL", "E002\to\t-\n"),
+    ("another code of this project", "S09\to\t-\n"),
     // No place.
-    "ok\t\t-\n",
-    "ok\t/\t-\n",
-    "ok\ta/\t-\n",
-    "ok\ta//b\t-\n",
-    "ok\t..\t-\n",
-    "ok\t%2E\t-\n",
-    "ok\té\t-\n",
+    ("no place", "ok\t\t-\n"),
+    ("a slash", "ok\t/\t-\n"),
+    ("a slash at the end", "ok\ta/\t-\n"),
+    ("two slashes", "ok\ta//b\t-\n"),
+    ("a name of two dots", "ok\t..\t-\n"),
+    ("an escaped dot", "ok\t%2E\t-\n"),
+    ("a letter beyond ASCII in the place", "ok\té\t-\n"),
     // Small digits, escapes of what stands as it is, broken escapes, bytes that are not UTF-8.
-    "ok\t%c3%a9\t-\n",
-    "E018\to\t%c3%a9\n",
-    "E018\to\t%C3%a9\n",
-    "E018\to\t%2E\n",
-    "E018\to\t%41\n",
-    "E018\to\t%20\n",
-    "E018\to\t%\n",
-    "E018\to\t%4\n",
-    "E018\to\té\n",
-    "E018\to\t%C3\n",
-    "E018\to\t%FF\n",
+    ("small digits in the place", "ok\t%c3%a9\t-\n"),
+    ("small digits in the detail", "E018\to\t%c3%a9\n"),
+    ("a capital and a small digit", "E018\to\t%C3%a9\n"),
+    ("an escaped dot in the detail", "E018\to\t%2E\n"),
+    ("an escaped letter", "E018\to\t%41\n"),
+    ("an escaped blank", "E018\to\t%20\n"),
+    ("a percent sign alone", "E018\to\t%\n"),
+    ("one digit", "E018\to\t%4\n"),
+    ("a letter beyond ASCII in the detail", "E018\to\té\n"),
+    ("half a letter", "E018\to\t%C3\n"),
+    ("a byte that is not UTF-8", "E018\to\t%FF\n"),
 ];
 
 #[test]
 fn other_lines_are_bad(rt: HostRuntime) -> Result<(), Fail> {
     let alloc = rt.alloc();
-    for text in NO_LINES {
+    for (row, text) in NO_LINES {
         let read = read_line(alloc, text.as_bytes()).err();
-        assert_eq!(rt; read, Some(LineStop::Bad), "{text}");
+        assert_eq!(rt; read, Some(LineStop::Bad), "{row}");
     }
     Ok(())
 }
@@ -355,21 +366,27 @@ fn texts_are_split_at_the_first(rt: HostRuntime) {
 fn all_bytes_are_written(rt: HostRuntime) -> Result<(), Fail> {
     let alloc = rt.alloc();
     let text = b"abcdefgh";
-    let scripts: [&[Answer]; 4] = [
-        &[Answer::Takes(8)],
-        &[Answer::Takes(1)],
-        &[
-            Answer::Takes(3),
-            INTERRUPTED,
-            INTERRUPTED,
-            Answer::Takes(100),
-        ],
-        &[INTERRUPTED, Answer::Takes(5), INTERRUPTED, Answer::Takes(2)],
+    let scripts: [(&str, &[Answer]); 4] = [
+        ("all bytes at once", &[Answer::Takes(8)]),
+        ("a byte a call", &[Answer::Takes(1)]),
+        (
+            "interrupted in the middle",
+            &[
+                Answer::Takes(3),
+                INTERRUPTED,
+                INTERRUPTED,
+                Answer::Takes(100),
+            ],
+        ),
+        (
+            "interrupted at the start",
+            &[INTERRUPTED, Answer::Takes(5), INTERRUPTED, Answer::Takes(2)],
+        ),
     ];
-    for answers in scripts {
+    for (row, answers) in scripts {
         let mut out = Scripted::new(alloc, answers);
-        assert_eq!(rt; write_all_of(&mut out, text), Ok(()));
-        assert_eq!(rt; out.taken.as_slice(), text.as_slice());
+        assert_eq!(rt; write_all_of(&mut out, text), Ok(()), "{row}");
+        assert_eq!(rt; out.taken.as_slice(), text.as_slice(), "{row}");
     }
     let mut out = Scripted::new(alloc, &[FULL]);
     assert_eq!(rt; write_all_of(&mut out, b""), Ok(()));
@@ -383,19 +400,35 @@ fn all_bytes_are_written(rt: HostRuntime) -> Result<(), Fail> {
 #[test]
 fn output_stops(rt: HostRuntime) -> Result<(), Fail> {
     let alloc = rt.alloc();
-    let cases: [(&[Answer], usize, usize); 5] = [
-        (&[Answer::Takes(3), Answer::Takes(3), FULL], 6, 3),
-        (&[Answer::Takes(0)], 0, 1),
-        (&[FULL], 0, 1),
-        (&[Answer::Takes(7), Answer::Takes(0)], 7, 2),
+    let cases: [(&str, &[Answer], usize, usize); 5] = [
+        (
+            "full after six bytes",
+            &[Answer::Takes(3), Answer::Takes(3), FULL],
+            6,
+            3,
+        ),
+        ("no byte is taken", &[Answer::Takes(0)], 0, 1),
+        ("full at once", &[FULL], 0, 1),
+        (
+            "no byte is taken after seven",
+            &[Answer::Takes(7), Answer::Takes(0)],
+            7,
+            2,
+        ),
         // After many interruptions in a row the output counts as stopped.
-        (&[Answer::Takes(2), INTERRUPTED], 2, 1_001),
+        (
+            "interrupted without end",
+            &[Answer::Takes(2), INTERRUPTED],
+            2,
+            1_001,
+        ),
     ];
-    for (answers, gone, calls) in cases {
+    for (row, answers, gone, calls) in cases {
         let mut out = Scripted::new(alloc, answers);
-        assert_eq!(rt; write_all_of(&mut out, b"abcdefgh"), Err(OutStop { gone }));
-        assert_eq!(rt; out.taken.as_slice(), &b"abcdefgh"[..gone]);
-        assert_eq!(rt; out.calls, calls);
+        let answer = write_all_of(&mut out, b"abcdefgh");
+        assert_eq!(rt; answer, Err(OutStop { gone }), "{row}");
+        assert_eq!(rt; out.taken.as_slice(), &b"abcdefgh"[..gone], "{row}");
+        assert_eq!(rt; out.calls, calls, "{row}");
     }
     Ok(())
 }

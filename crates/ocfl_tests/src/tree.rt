@@ -50,15 +50,17 @@ fn text_of(alloc: Global, entries: &[Entry]) -> Result<String, Fail> {
     Ok(text)
 }
 
+/// The directory at a place lists these entries.
 fn lists<T: Tree>(
     rt: &(impl Abort + AllocGlobal),
+    row: &str,
     store: &mut T,
     place: &Place,
     want: &str,
 ) -> Result<(), Fail> {
     let entries = sorted(store, place)?;
     let text = text_of(rt.alloc(), &entries)?;
-    assert_eq!(rt; text.as_str(), want);
+    assert_eq!(rt; text.as_str(), want, "{row}: {}", place.path());
     Ok(())
 }
 
@@ -73,7 +75,7 @@ fn names_are_taken_and_refused(rt: HostRuntime) -> Result<(), Fail> {
     }
     for good in ["a", "...", ".a", "é", " ", "%", "\t"] {
         let name = Name::new(alloc, good)?.try_clone()?;
-        assert_eq!(rt; name.as_str(), good);
+        assert_eq!(rt; name.as_str(), good, "{good}");
     }
     Ok(())
 }
@@ -90,11 +92,13 @@ fn places_are_in_order(rt: HostRuntime) -> Result<(), Fail> {
     ];
     for (i, place) in rising.iter().enumerate() {
         for (j, later) in rising.iter().enumerate() {
-            assert_eq!(rt; place.cmp(later), i.cmp(&j));
-            assert_eq!(rt; *place == *later, i == j);
+            let row = format!(in alloc; "{} and {}", place.path(), later.path())?;
+            assert_eq!(rt; place.cmp(later), i.cmp(&j), "{row}");
+            assert_eq!(rt; *place == *later, i == j, "{row}");
         }
         let copy = place.try_clone()?;
-        assert!(rt; copy == *place && copy.depth() == place.depth());
+        let is_same = copy == *place && copy.depth() == place.depth();
+        assert!(rt; is_same, "a copy of {}", place.path());
     }
     Ok(())
 }
@@ -115,10 +119,10 @@ fn long_paths_are_in_order(rt: HostRuntime) -> Result<(), Fail> {
     let ends = ["a", "a/b", "a/c", "a-b", "b"];
     for (i, end) in ends.iter().enumerate() {
         let place = Place::from_path(long_path(alloc, *end)?).expect(&rt, "a path");
-        assert_eq!(rt; place.path(), long_path(alloc, *end)?.as_str());
+        assert_eq!(rt; place.path(), long_path(alloc, *end)?.as_str(), "{end}");
         for (j, later) in ends.iter().enumerate() {
             let other = Place::from_path(long_path(alloc, *later)?).expect(&rt, "a path");
-            assert_eq!(rt; place.cmp(&other), i.cmp(&j));
+            assert_eq!(rt; place.cmp(&other), i.cmp(&j), "{end} and {later}");
         }
     }
     Ok(())
@@ -127,26 +131,30 @@ fn long_paths_are_in_order(rt: HostRuntime) -> Result<(), Fail> {
 #[test]
 fn paths_are_read_and_written(rt: HostRuntime) -> Result<(), Fail> {
     let alloc = rt.alloc();
-    let cases: [(&str, &[&str]); 5] = [
-        ("", &[]),
-        ("a", &["a"]),
-        ("a/b", &["a", "b"]),
-        ("v1/content/é", &["v1", "content", "é"]),
-        ("...", &["..."]),
+    let cases: [(&str, &str, &[&str]); 5] = [
+        ("the root", "", &[]),
+        ("one name", "a", &["a"]),
+        ("two names", "a/b", &["a", "b"]),
+        (
+            "a letter beyond ASCII",
+            "v1/content/é",
+            &["v1", "content", "é"],
+        ),
+        ("a name of three dots", "...", &["..."]),
     ];
-    for (text, names) in &cases {
+    for (row, text, names) in &cases {
         let mut place = Place::root(alloc);
         for name in *names {
             place.push(Name::new(alloc, *name)?)?;
         }
-        assert_eq!(rt; place.path(), *text);
-        assert_eq!(rt; place.depth(), names.len());
+        assert_eq!(rt; place.path(), *text, "{row}");
+        assert_eq!(rt; place.depth(), names.len(), "{row}");
         let read = Place::from_path(String::from_str(alloc, *text)?).expect(&rt, "a path");
-        assert!(rt; read == place);
+        assert!(rt; read == place, "{row}");
         let listed = read.names()?;
-        assert_eq!(rt; listed.len(), names.len());
+        assert_eq!(rt; listed.len(), names.len(), "{row}");
         for (name, want) in listed.iter().zip(names.iter()) {
-            assert_eq!(rt; name.as_str(), *want);
+            assert_eq!(rt; name.as_str(), *want, "{row}");
         }
     }
     assert!(rt; Place::root(alloc) == place_of(alloc, "")?);
@@ -185,8 +193,15 @@ fn places_begin_with_what_lies_above_them(rt: HostRuntime) -> Result<(), Fail> {
     let below = place_of(alloc, "a/b")?;
     let beside = place_of(alloc, "ab")?;
     for place in [&root, &a, &below, &beside] {
-        assert!(rt; place.starts_with(&root) && place.starts_with(place));
-        assert!(rt; place.starts_with_path("") && place.starts_with_path(place.path()));
+        let path = place.path();
+        assert!(rt;
+            place.starts_with(&root) && place.starts_with(place),
+            "{path}"
+        );
+        assert!(rt;
+            place.starts_with_path("") && place.starts_with_path(path),
+            "{path}"
+        );
     }
     assert!(rt; below.starts_with_path("a") && !a.starts_with_path("a/b"));
     assert!(rt; !beside.starts_with_path("a") && !root.starts_with_path("a"));
@@ -227,14 +242,14 @@ fn places_are_joined_and_cut(rt: HostRuntime) -> Result<(), Fail> {
 
 #[test]
 fn texts_are_compared_whole(rt: HostRuntime) -> Result<(), Fail> {
-    for (text, other, same) in [
-        ("", "", true),
-        ("a", "a", true),
-        ("a", "A", false),
-        ("a", "ab", false),
+    for (row, text, other, same) in [
+        ("two empty texts", "", "", true),
+        ("the same letter", "a", "a", true),
+        ("a letter in another case", "a", "A", false),
+        ("a longer text", "a", "ab", false),
     ] {
-        assert_eq!(rt; is_text(text, other), same);
-        assert_eq!(rt; is_bytes(text.as_bytes(), other.as_bytes()), same);
+        assert_eq!(rt; is_text(text, other), same, "{row}");
+        assert_eq!(rt; is_bytes(text.as_bytes(), other.as_bytes()), same, "{row}");
     }
     Ok(())
 }

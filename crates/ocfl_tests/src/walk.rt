@@ -127,14 +127,25 @@ pub(crate) fn expect(
     want: &str,
     want_cost: u64,
 ) -> Result<(), Fail> {
+    expect_row(rt, "the walk", store, want, want_cost)
+}
+
+/// The same of one row of a table.
+fn expect_row(
+    rt: &(impl Abort + AllocGlobal),
+    row: &str,
+    store: &mut MemTree,
+    want: &str,
+    want_cost: u64,
+) -> Result<(), Fail> {
     let first = store.openings().len();
     let got = walked(rt.alloc(), store, "")?;
     let want = lines_of(rt.alloc(), want)?;
-    assert_eq!(rt; got.text.as_str(), want.as_str());
-    assert_eq!(rt; got.cost, want_cost, "{want}");
+    assert_eq!(rt; got.text.as_str(), want.as_str(), "{row}");
+    assert_eq!(rt; got.cost, want_cost, "{row}: {want}");
     let openings = store.openings().iter().skip(first);
     let opened = openings.filter(|opening| opening.place.path().contains("/content/"));
-    assert_eq!(rt; opened.count(), got.hashed, "{want}");
+    assert_eq!(rt; opened.count(), got.hashed, "{row}: {want}");
     Ok(())
 }
 
@@ -155,8 +166,8 @@ pub(crate) fn expect_after(
 #[test]
 fn walks_over_roots(rt: HostRuntime) -> Result<(), Fail> {
     for root in &ROOTS {
-        let (_, _, report, (cost, _)) = root;
-        expect(&rt, &mut built(rt.alloc(), root)?, report, *cost)?;
+        let (row, _, _, report, (cost, _)) = root;
+        expect_row(&rt, row, &mut built(rt.alloc(), root)?, report, *cost)?;
     }
     Ok(())
 }
@@ -166,8 +177,11 @@ fn ended_walk_stays_ended(rt: HostRuntime) -> Result<(), Fail> {
     let mut store = bare_root(rt.alloc())?;
     let mut walk = entered(rt.alloc(), &mut store, "")?;
     assert!(rt; walk.next(&mut store).map_err(said)?.is_some());
-    for _ in 0..3 {
-        assert!(rt; walk.next(&mut store).map_err(said)?.is_none());
+    for call in 0..3 {
+        assert!(rt;
+            walk.next(&mut store).map_err(said)?.is_none(),
+            "call {call}"
+        );
     }
     Ok(())
 }
@@ -225,7 +239,8 @@ fn deep_directories(rt: HostRuntime) -> Result<(), Fail> {
     for (count, code) in [(128, "S05"), (127, "E073")] {
         let (mut store, path) = nested(rt.alloc(), count)?;
         let text = format!(in rt.alloc(); "ok|.|-\n{code}|{path}|-\n")?;
-        expect(&rt, &mut store, text.as_str(), 0)?;
+        let row = format!(in rt.alloc(); "{count} names")?;
+        expect_row(&rt, row.as_str(), &mut store, text.as_str(), 0)?;
         expect_after(&rt, &mut store, &[(path.as_str(), "")])?;
     }
     Ok(())
@@ -237,7 +252,8 @@ fn lists_step_by_step(rt: HostRuntime) -> Result<(), Fail> {
     let mut walk = entered(rt.alloc(), &mut store, "")?;
     for want in [";", ";o;", ";o;o/v1;o/v1/content;"] {
         assert!(rt; walk.next(&mut store).map_err(said)?.is_some(), "{want}");
-        assert_eq!(rt; listed_from(rt.alloc(), &store, 0)?.as_str(), want);
+        let listed = listed_from(rt.alloc(), &store, 0)?;
+        assert_eq!(rt; listed.as_str(), want, "{want}");
     }
     assert_eq!(rt; store.openings().len(), 4);
     Ok(())

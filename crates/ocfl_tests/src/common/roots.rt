@@ -8,10 +8,11 @@ use ocfl_tree::{MemTree, Point};
 use std::alloc::Global;
 use std::test::Fail;
 
-/// A storage root: what the manifest and the fixity block of its object `o` list, where there is
-/// one, and the changes that are made to it then. Behind them the lines of all its items, with bars
-/// for tabs, what judging these costs and the status of an audit.
+/// A storage root: its name, what the manifest and the fixity block of its object `o` list, where
+/// there is one, and the changes that are made to it then. After them the lines of all its items,
+/// with bars for tabs, what judging these costs and the status of an audit.
 pub type Root = (
+    &'static str,
     Option<(&'static str, &'static str)>,
     &'static [(&'static str, &'static str)],
     &'static str,
@@ -29,6 +30,7 @@ const THREE_VERSIONS: Option<(&str, &str)> = Some((
 
 /// The empty file `f` under four algorithms.
 const UNDER_FOUR_ALGORITHMS: Root = (
+    "an empty file under four algorithms",
     Some((
         r#""NOTHING_SHA256":["v1/content/f"]"#,
         r#""md5":{"NOTHING_MD5":["v1/content/f"]},"sha1":{"NOTHING_SHA1":["v1/content/f"]},"sha512":{"NOTHING_SHA512":["v1/content/f"]}"#,
@@ -40,6 +42,7 @@ const UNDER_FOUR_ALGORITHMS: Root = (
 
 /// A file that has the right digest in the manifest, and a wrong one in fixity.
 const WRONG_FIXITY: Root = (
+    "a wrong digest in fixity",
     Some((
         r#""ABC_SHA256":["v1/content/f"]"#,
         r#""md5":{"NOTHING_MD5":["v1/content/f"]}"#,
@@ -51,6 +54,7 @@ const WRONG_FIXITY: Root = (
 
 /// The missing file `a`, and the file `b`.
 const MISSING_AND_THERE: Root = (
+    "a missing file and one that is there",
     Some((
         r#""NOTHING_SHA256":["v1/content/a"],"ABC_SHA256":["v1/content/b"]"#,
         r#""sha1":{"NOTHING_SHA1":["v1/content/a"]}"#,
@@ -62,6 +66,7 @@ const MISSING_AND_THERE: Root = (
 
 /// The content files `a` and `c` of the bytes `abc`, and the empty `b` between them.
 const THREE_FILES: Root = (
+    "three files",
     Some((
         r#""ABC_SHA256":["v1/content/a","v1/content/c"],"NOTHING_SHA256":["v1/content/b"]"#,
         "",
@@ -77,6 +82,7 @@ const THREE_FILES: Root = (
 
 /// The content files `a-b` and `a/b` of the bytes `abc`.
 const TWO_FILES: Root = (
+    "a slash before a dash",
     Some((r#""ABC_SHA256":["v1/content/a/b","v1/content/a-b"]"#, "")),
     &[("o/v1/content/a/b", "abc"), ("o/v1/content/a-b", "abc")],
     "ok|.|-\nok|o|-\nok|o/v1/content/a/b|3\nok|o/v1/content/a-b|3\n",
@@ -90,28 +96,44 @@ pub const ROOTS: [Root; 34] = [
     MISSING_AND_THERE,
     THREE_FILES,
     // the storage root's own line
-    (None, &[], "ok|.|-\n", (0, 0)),
-    (None, &[("-0=ocfl_1.1", "")], "E069|.|-\n", (0, 1)),
-    (None, &[("0=ocfl_1.0", "ocfl_1.0\n")], "E076|.|-\n", (0, 1)),
+    ("a declaration alone", None, &[], "ok|.|-\n", (0, 0)),
     (
+        "no declaration",
+        None,
+        &[("-0=ocfl_1.1", "")],
+        "E069|.|-\n",
+        (0, 1),
+    ),
+    (
+        "two declarations",
+        None,
+        &[("0=ocfl_1.0", "ocfl_1.0\n")],
+        "E076|.|-\n",
+        (0, 1),
+    ),
+    (
+        "two declarations and a directory",
         None,
         &[("0=ocfl_1.0", "ocfl_1.0\n"), ("x/", "")],
         "E076|.|-\n",
         (0, 1),
     ),
     (
+        "a declaration without its line feed",
         None,
         &[("0=ocfl_1.1", "ocfl_1.1"), ("x/", "")],
         "E080|.|-\nE073|x|-\n",
         (0, 1),
     ),
     (
+        "a declaration of 2.0",
         None,
         &[("-0=ocfl_1.1", ""), ("0=ocfl_2.0", ""), ("x/", "")],
         "S01|.|2.0\n",
         (0, 1),
     ),
     (
+        "an object below a declaration of 2.0",
         F_OF_ABC,
         &[
             ("-0=ocfl_1.1", ""),
@@ -122,6 +144,7 @@ pub const ROOTS: [Root; 34] = [
         (0, 1),
     ),
     (
+        "an object below a bad declaration",
         F_OF_ABC,
         &[("0=ocfl_1.1", "ocfl_1.1"), (FILE, "abc")],
         "E080|.|-\nok|o|-\nok|o/v1/content/f|3\n",
@@ -129,6 +152,7 @@ pub const ROOTS: [Root; 34] = [
     ),
     // what belongs to no object
     (
+        "a file among the extensions",
         None,
         &[
             ("notes", ""),
@@ -141,6 +165,7 @@ pub const ROOTS: [Root; 34] = [
         (0, 1),
     ),
     (
+        "a directory among the extensions",
         None,
         &[
             ("notes", ""),
@@ -154,6 +179,7 @@ pub const ROOTS: [Root; 34] = [
     ),
     // heads that stop hide what is inside
     (
+        "a wrong sidecar and no JSON",
         F_OF_ABC,
         &[
             (FILE, "abc"),
@@ -164,6 +190,7 @@ pub const ROOTS: [Root; 34] = [
         (0, 1),
     ),
     (
+        "no algorithm, with a file",
         F_OF_ABC,
         &[
             (FILE, "abc"),
@@ -174,6 +201,7 @@ pub const ROOTS: [Root; 34] = [
         (0, 1),
     ),
     (
+        "no algorithm, with what is not looked at",
         F_OF_ABC,
         &[
             ("o/inventory.json", "{}"),
@@ -185,6 +213,7 @@ pub const ROOTS: [Root; 34] = [
         (0, 1),
     ),
     (
+        "half of an inventory without a sidecar",
         F_OF_ABC,
         &[
             (FILE, "abc"),
@@ -196,24 +225,28 @@ pub const ROOTS: [Root; 34] = [
     ),
     // heads that do not stop
     (
+        "no sidecar",
         F_OF_ABC,
         &[(FILE, "abc"), ("-o/inventory.json.sha256", "")],
         "ok|.|-\nE058|o|-\nok|o/v1/content/f|3\n",
         (4, 1),
     ),
     (
+        "an algorithm that is not computed",
         Some((r#""ABC_SHA256":["v1/content/f"]"#, r#""blake2b-512":7"#)),
         &[(FILE, "abc")],
         "ok|.|-\nS07|o|blake2b-512\nok|o/v1/content/f|3\n",
         (4, 0),
     ),
     (
+        "an algorithm that is not computed, and no manifest entry",
         Some(("", r#""blake2b-512":7"#)),
         &[(FILE, "abc")],
         "ok|.|-\nS07|o|blake2b-512\nE023|o/v1/content/f|-\n",
         (0, 1),
     ),
     (
+        "bad paths in the manifest",
         Some((
             r#""ABC_SHA256":["x/content/a","/a","v1/content/f","v1/content/../b"]"#,
             "",
@@ -223,6 +256,7 @@ pub const ROOTS: [Root; 34] = [
         (4, 1),
     ),
     (
+        "a digest in two cases",
         Some((
             r#""ABC_SHA256":["v1/content/f"],"ABC_CAPITALS":["v1/content/f"]"#,
             "",
@@ -232,6 +266,7 @@ pub const ROOTS: [Root; 34] = [
         (4, 1),
     ),
     (
+        "a path below a listed file",
         Some((r#""ABC_SHA256":["v1/content/f","v1/content/f/g"]"#, "")),
         &[(FILE, "abc")],
         "ok|.|-\nE101|o|v1/content/f\nok|o/v1/content/f|3\nE092|o/v1/content/f/g|sha256 missing\n",
@@ -239,6 +274,7 @@ pub const ROOTS: [Root; 34] = [
     ),
     // a file that one algorithm of fixity alone names is read
     (
+        "fixity by sha512/256 alone",
         Some(("", r#""sha512/256":{"ABC_SHA512/256":["v1/content/f"]}"#)),
         &[(FILE, "abc")],
         "ok|.|-\nok|o|-\nE023|o/v1/content/f|-\n",
@@ -246,18 +282,21 @@ pub const ROOTS: [Root; 34] = [
     ),
     // what lies in an object
     (
+        "a name with escapes",
         F_OF_ABC,
         &[(FILE, "abc"), ("o/v1/content/é\t% ", "abc")],
         "ok|.|-\nok|o|-\nok|o/v1/content/f|3\nE023|o/v1/content/%C3%A9%09%25 |-\n",
         (4, 1),
     ),
     (
+        "a file that nothing names",
         F_OF_ABC,
         &[(FILE, "abc"), ("o/v1/content/z", "abc")],
         "ok|.|-\nok|o|-\nok|o/v1/content/f|3\nE023|o/v1/content/z|-\n",
         (4, 1),
     ),
     (
+        "entries where none may be",
         F_OF_ABC,
         &[
             (FILE, "abc"),
@@ -270,12 +309,14 @@ pub const ROOTS: [Root; 34] = [
         (4, 1),
     ),
     (
+        "a directory without files in place of a file",
         Some((r#""ABC_SHA256":["v1/content/d"]"#, "")),
         &[("o/v1/content/d/", "")],
         "ok|.|-\nok|o|-\nE024|o/v1/content/d|-\nE092|o/v1/content/d|sha256 missing\n",
         (0, 1),
     ),
     (
+        "the same beside a file",
         Some((
             r#""ABC_SHA256":["v1/content/f","v1/content/d"]"#,
             r#""md5":{"NOTHING_MD5":["v1/content/f"]}"#,
@@ -287,6 +328,7 @@ pub const ROOTS: [Root; 34] = [
     // the order of names and paths
     TWO_FILES,
     (
+        "version 10 before version 2",
         THREE_VERSIONS,
         &[
             ("-o/v1", ""),
@@ -297,6 +339,7 @@ pub const ROOTS: [Root; 34] = [
         (8, 1),
     ),
     (
+        "version 10 before version 2, and a directory",
         THREE_VERSIONS,
         &[
             ("-o/v1", ""),
@@ -308,6 +351,7 @@ pub const ROOTS: [Root; 34] = [
         (8, 1),
     ),
     (
+        "one right file",
         F_OF_ABC,
         &[(FILE, "abc")],
         "ok|.|-\nok|o|-\nok|o/v1/content/f|3\n",
@@ -317,7 +361,7 @@ pub const ROOTS: [Root; 34] = [
 
 /// The root of a row.
 pub fn built(alloc: Global, root: &Root) -> Result<MemTree, Fail> {
-    let (lists, changes, ..) = root;
+    let (_, lists, changes, ..) = root;
     let mut store = match lists {
         Some((manifest, fixity)) => {
             object_without_files(alloc, listing(alloc, manifest, fixity)?.as_str())?

@@ -21,10 +21,11 @@ const DATA: &str =
 const TWO_DIGESTS_AND_FIXITY: &str =
     r#""digestAlgorithm":"sha256","manifest":{"NOTHING_SHA256":["v1/content/f"],"ABC_SHA256":["v1/content/f"]},"fixity":{"md5":{"NOTHING_MD5":["v1/content/f"]}}"#;
 
-/// The members of an inventory, what is changed in the object with it and the file `f`, the path
+/// A name, the members of an inventory, what is changed in the object with it and the file `f`, the path
 /// that is checked, its text, the status, and how often the path is opened. Where there is no text
 /// there is no item.
 type Check = (
+    &'static str,
     &'static str,
     &'static [(&'static str, &'static str)],
     &'static str,
@@ -34,8 +35,9 @@ type Check = (
 );
 
 const CHECKS: [Check; 21] = [
-    (BY_SHA512, &[], FILE, FILE_IS_OK, 0, 1),
+    ("a right file", BY_SHA512, &[], FILE, FILE_IS_OK, 0, 1),
     (
+        "a digest in capitals",
         r#""digestAlgorithm":"sha512","manifest":{"ABC_LONG_CAPITALS":["v1/content/f"]}"#,
         &[],
         FILE,
@@ -44,6 +46,7 @@ const CHECKS: [Check; 21] = [
         1,
     ),
     (
+        "an empty file",
         BY_SHA512,
         &[(FILE, "")],
         FILE,
@@ -53,6 +56,7 @@ const CHECKS: [Check; 21] = [
     ),
     // what nothing names
     (
+        "a file that nothing names",
         BY_SHA512,
         &[("o/v1/content/g", "abc")],
         "o/v1/content/g",
@@ -60,13 +64,46 @@ const CHECKS: [Check; 21] = [
         1,
         0,
     ),
-    (BY_SHA512, &[], "o/v1/content/h", "", 0, 0),
-    (BY_SHA512, &[("-o", "")], FILE, "", 0, 0),
-    // heads that stop, and a wrong sidecar, which does not matter
-    (BY_SHA512, &[("o/inventory.json", "abc")], FILE, "", 0, 0),
-    (BY_SHA512, &[("o/inventory.json", "{}")], FILE, "", 0, 0),
-    (BY_SHA512, &[("-o/inventory.json", "")], FILE, "", 0, 0),
     (
+        "a path that nothing names",
+        BY_SHA512,
+        &[],
+        "o/v1/content/h",
+        "",
+        0,
+        0,
+    ),
+    ("no object", BY_SHA512, &[("-o", "")], FILE, "", 0, 0),
+    // heads that stop, and a wrong sidecar, which does not matter
+    (
+        "an inventory that is no JSON",
+        BY_SHA512,
+        &[("o/inventory.json", "abc")],
+        FILE,
+        "",
+        0,
+        0,
+    ),
+    (
+        "no algorithm",
+        BY_SHA512,
+        &[("o/inventory.json", "{}")],
+        FILE,
+        "",
+        0,
+        0,
+    ),
+    (
+        "no inventory",
+        BY_SHA512,
+        &[("-o/inventory.json", "")],
+        FILE,
+        "",
+        0,
+        0,
+    ),
+    (
+        "a wrong sidecar",
         BY_SHA512,
         &[("o/inventory.json.sha512", "wrong")],
         FILE,
@@ -76,6 +113,7 @@ const CHECKS: [Check; 21] = [
     ),
     // fixity is compared too
     (
+        "one wrong digest in fixity",
         r#""digestAlgorithm":"sha512","manifest":{"ABC_SHA512":["v1/content/f"]},"fixity":{"md5":{"NOTHING_MD5":["v1/content/f"]},"sha512/256":{"ABC_SHA512/256":["v1/content/f"]}}"#,
         &[],
         FILE,
@@ -84,6 +122,7 @@ const CHECKS: [Check; 21] = [
         1,
     ),
     (
+        "fixity alone names the file",
         r#""digestAlgorithm":"sha256","manifest":{},"fixity":{"md5":{"ABC_MD5":["v1/content/f"]}}"#,
         &[],
         FILE,
@@ -92,6 +131,7 @@ const CHECKS: [Check; 21] = [
         1,
     ),
     (
+        "two digests, one of them wrong, and fixity",
         TWO_DIGESTS_AND_FIXITY,
         &[],
         FILE,
@@ -101,6 +141,7 @@ const CHECKS: [Check; 21] = [
     ),
     // the fifth algorithm
     (
+        "a right sha512/256",
         r#""digestAlgorithm":"sha256","manifest":{"ABC_SHA256":["v1/content/f"]},"fixity":{"sha512/256":{"ABC_SHA512/256":["v1/content/f"]}}"#,
         &[],
         FILE,
@@ -109,6 +150,7 @@ const CHECKS: [Check; 21] = [
         1,
     ),
     (
+        "a wrong sha512/256",
         r#""digestAlgorithm":"sha256","manifest":{"ABC_SHA256":["v1/content/f"]},"fixity":{"sha512/256":{"ABC_SHA256":["v1/content/f"]}}"#,
         &[],
         FILE,
@@ -117,6 +159,7 @@ const CHECKS: [Check; 21] = [
         1,
     ),
     (
+        "an empty file under five algorithms",
         r#""digestAlgorithm":"sha256","manifest":{"NOTHING_SHA256":["v1/content/f"]},"fixity":{"md5":{"NOTHING_MD5":["v1/content/f"]},"sha1":{"NOTHING_SHA1":["v1/content/f"]},"sha512":{"NOTHING_SHA512":["v1/content/f"]},"sha512/256":{"NOTHING_SHA512/256":["v1/content/f"]}}"#,
         &[(FILE, "")],
         FILE,
@@ -125,6 +168,7 @@ const CHECKS: [Check; 21] = [
         1,
     ),
     (
+        "sha512/256 alone",
         r#""digestAlgorithm":"sha256","manifest":{},"fixity":{"sha512/256":{"ABC_SHA512/256":["v1/content/f"]}}"#,
         &[],
         FILE,
@@ -133,8 +177,9 @@ const CHECKS: [Check; 21] = [
         1,
     ),
     // another content directory
-    (DATA, &[], FILE, "", 0, 0),
+    ("another content directory", DATA, &[], FILE, "", 0, 0),
     (
+        "a file in another content directory",
         DATA,
         &[("o/v1/data/f", "abc")],
         "o/v1/data/f",
@@ -144,6 +189,7 @@ const CHECKS: [Check; 21] = [
     ),
     // an inventory without a sidecar, and a path of another kind of place
     (
+        "no sidecar",
         BY_SHA512,
         &[("-o/inventory.json.sha256", "")],
         FILE,
@@ -151,47 +197,57 @@ const CHECKS: [Check; 21] = [
         0,
         1,
     ),
-    (BY_SHA512, &[], ".", "ok|.|-\n", 0, 0),
+    ("the storage root", BY_SHA512, &[], ".", "ok|.|-\n", 0, 0),
 ];
 
 #[test]
 fn content_places(rt: HostRuntime) -> Result<(), Fail> {
-    for (members, changes, path, text, status, opened) in CHECKS {
+    for (row, members, changes, path, text, status, opened) in CHECKS {
         let mut store = object_with(rt.alloc(), inventory(rt.alloc(), members)?.as_str())?;
         change(rt.alloc(), &mut store, changes)?;
         let note = if text.is_empty() { "no item" } else { "" };
-        expect(&rt, &mut store, path, text, status, note)?;
-        assert_eq!(rt;
-            times_opened(rt.alloc(), &store, path)?,
-            opened,
-            "{path}: {text}"
-        );
+        expect(&rt, row, &mut store, path, text, status, note)?;
+        assert_eq!(rt; times_opened(rt.alloc(), &store, path)?, opened, "{row}");
     }
     Ok(())
 }
 
 /// What else may lie where the file is listed, and the first line then.
-const NO_FILE: [(&[(&str, &str)], &str); 3] = [
-    (&[], ""),
-    (&[("o/v1/content/f@", "")], "S04|o/v1/content/f|-\n"),
-    (&[("o/v1/content/f/", "")], "E024|o/v1/content/f|-\n"),
+const NO_FILE: [(&str, &[(&str, &str)], &str); 3] = [
+    ("nothing", &[], ""),
+    (
+        "a link",
+        &[("o/v1/content/f@", "")],
+        "S04|o/v1/content/f|-\n",
+    ),
+    (
+        "a directory",
+        &[("o/v1/content/f/", "")],
+        "E024|o/v1/content/f|-\n",
+    ),
 ];
 
 #[test]
 fn what_is_no_file(rt: HostRuntime) -> Result<(), Fail> {
-    for (members, missing) in [
-        (BY_SHA512, "E092|o/v1/content/f|sha512 missing\n"),
+    for (listed, members, missing) in [
         (
+            "one digest",
+            BY_SHA512,
+            "E092|o/v1/content/f|sha512 missing\n",
+        ),
+        (
+            "two digests and fixity",
             TWO_DIGESTS_AND_FIXITY,
             "E092|o/v1/content/f|sha256 missing\nE093|o/v1/content/f|md5 missing\n",
         ),
     ] {
-        for (changes, line) in NO_FILE {
+        for (there, changes, line) in NO_FILE {
+            let row = format!(in rt.alloc(); "{there} under {listed}")?;
             let mut store = object_with(rt.alloc(), inventory(rt.alloc(), members)?.as_str())?;
             store.remove(&place_of(rt.alloc(), FILE)?)?;
             change(rt.alloc(), &mut store, changes)?;
             let text = format!(in rt.alloc(); "{line}{missing}")?;
-            expect(&rt, &mut store, FILE, text.as_str(), 1, "")?;
+            expect(&rt, row.as_str(), &mut store, FILE, text.as_str(), 1, "")?;
         }
     }
     Ok(())
@@ -199,13 +255,17 @@ fn what_is_no_file(rt: HostRuntime) -> Result<(), Fail> {
 
 #[test]
 fn calls_for_a_right_file(rt: HostRuntime) -> Result<(), Fail> {
-    for (mut store, text) in [
-        (right_object(rt.alloc())?, FILE_IS_OK),
-        (under_four_algorithms(rt.alloc())?, "ok|o/v1/content/f|0\n"),
+    for (row, mut store, text) in [
+        ("one algorithm", right_object(rt.alloc())?, FILE_IS_OK),
+        (
+            "four algorithms",
+            under_four_algorithms(rt.alloc())?,
+            "ok|o/v1/content/f|0\n",
+        ),
     ] {
-        expect(&rt, &mut store, FILE, text, 0, "")?;
-        assert_eq!(rt; store.listings().len(), 4, "{text}");
-        assert_eq!(rt; store.openings().len(), 2, "{text}");
+        expect(&rt, row, &mut store, FILE, text, 0, "")?;
+        assert_eq!(rt; store.listings().len(), 4, "{row}");
+        assert_eq!(rt; store.openings().len(), 2, "{row}");
     }
     Ok(())
 }
@@ -215,8 +275,15 @@ fn bad_paths(rt: HostRuntime) -> Result<(), Fail> {
     let mut store = right_object(rt.alloc())?;
     let many = "o/".repeat(rt.alloc(), 100)?;
     let long = "x".repeat(rt.alloc(), 256)?;
-    for path in ["o//f", "", "..", "%41", many.as_str(), long.as_str()] {
-        expect(&rt, &mut store, path, "", 2, "bad path")?;
+    for (row, path) in [
+        ("two slashes", "o//f"),
+        ("no byte", ""),
+        ("two dots", ".."),
+        ("an escape that is not needed", "%41"),
+        ("a slash at the end", many.as_str()),
+        ("a name of 256 letters", long.as_str()),
+    ] {
+        expect(&rt, row, &mut store, path, "", 2, "bad path")?;
     }
     assert!(rt; store.listings().is_empty() && store.openings().is_empty());
     Ok(())
@@ -224,13 +291,27 @@ fn bad_paths(rt: HostRuntime) -> Result<(), Fail> {
 
 #[test]
 fn failing_store(rt: HostRuntime) -> Result<(), Fail> {
-    for (place, point, text, status, note) in [
-        ("o/v1", Point::List, "", 3, "stopped at o/v1"),
-        (FILE, Point::Read(0), "S08|o/v1/content/f|-\n", 1, ""),
+    for (row, place, point, text, status, note) in [
+        (
+            "a listing on the way",
+            "o/v1",
+            Point::List,
+            "",
+            3,
+            "stopped at o/v1",
+        ),
+        (
+            "the first read of the file",
+            FILE,
+            Point::Read(0),
+            "S08|o/v1/content/f|-\n",
+            1,
+            "",
+        ),
     ] {
         let mut store = right_object(rt.alloc())?;
         store.fail_at(&place_of(rt.alloc(), place)?, point)?;
-        expect(&rt, &mut store, FILE, text, status, note)?;
+        expect(&rt, row, &mut store, FILE, text, status, note)?;
     }
     Ok(())
 }
@@ -269,7 +350,8 @@ fn over_a_folder(rt: HostRuntime) -> Result<(), Fail> {
         ] {
             fs::write(&rt, place, text)?;
         }
-        expect(&rt, &mut FsTree::at(&rt, "root")?, FILE, FILE_IS_OK, 0, "")?;
+        let mut store = FsTree::at(&rt, "root")?;
+        expect(&rt, digest, &mut store, FILE, FILE_IS_OK, 0, "")?;
     }
     fs::remove_dir_all(&rt, "root")?;
     Ok(())

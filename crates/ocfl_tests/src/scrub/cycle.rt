@@ -15,18 +15,19 @@ use std::alloc::Global;
 use std::test::Fail;
 
 #[test]
-fn root_with_nothing_else(rt: HostRuntime) -> Result<(), Fail> {
+fn a_cycle_over_a_bare_root(rt: HostRuntime) -> Result<(), Fail> {
     let limits = budgets(rt.alloc(), &[1])?;
     let said = "runs 1 spent 0 files 0 clean, ended; cycle 1 runs 1 spent 0 files 0 ended";
     let mut store = bare_root(rt.alloc())?;
-    expect_cycle(&rt, &mut store, limits.as_slice(), &["ok|.|-\n"], said)
+    let row = "the declaration alone";
+    expect_cycle(&rt, row, &mut store, limits.as_slice(), &["ok|.|-\n"], said)
 }
 
 #[test]
 fn no_limits(rt: HostRuntime) -> Result<(), Fail> {
     let mut store = three_files(rt.alloc())?;
     let said = "runs 0 spent 0 files 0 clean, open; cycle 1 runs 0 spent 0 files 0 start";
-    expect_cycle(&rt, &mut store, &[], &[], said)?;
+    expect_cycle(&rt, "no limits", &mut store, &[], &[], said)?;
     assert!(rt; store.openings().is_empty() && store.listings().is_empty());
     Ok(())
 }
@@ -46,26 +47,30 @@ fn same_report_whatever_the_limits(rt: HostRuntime) -> Result<(), Fail> {
         (4, 9, 3, 1),
     ] {
         let limits = equal_limits(alloc, count, budget, files)?;
+        let row = format!(in alloc; "{count} runs, budget {budget}, files {files}")?;
         let said = format!(in alloc;
             "runs {runs} spent 9 files 3 clean, ended; cycle 1 runs {runs} spent 9 files 3 ended"
         )?;
         let mut store = three_files(alloc)?;
-        expect_cycle(&rt, &mut store, limits.as_slice(), ALL, said.as_str())?;
+        let limits = limits.as_slice();
+        expect_cycle(&rt, row.as_str(), &mut store, limits, ALL, said.as_str())?;
         for file in ["o/v1/content/a", "o/v1/content/b", "o/v1/content/c"] {
-            assert_eq!(rt; times_opened(alloc, &store, file)?, 1, "{file}, {said}");
+            assert_eq!(rt; times_opened(alloc, &store, file)?, 1, "{row}: {file}");
         }
     }
     Ok(())
 }
 
-/// The budgets of runs over three files, what their cycle writes, and what it says.
-const BUDGETS: [(&[u64], &[&str], &str); 2] = [
+/// A name, the budgets of runs over three files, what their cycle writes, and what it says.
+const BUDGETS: [(&str, &[u64], &[&str], &str); 2] = [
     (
+        "one run too few",
         &[1, 1],
         &[HEADS, A, B],
         "runs 2 spent 5 files 2 clean, open; cycle 1 runs 2 spent 5 files 2 after o/v1/content/b",
     ),
     (
+        "as many runs as files",
         &[4, 1, 4],
         ALL,
         "runs 3 spent 9 files 3 clean, ended; cycle 1 runs 3 spent 9 files 3 ended",
@@ -74,10 +79,10 @@ const BUDGETS: [(&[u64], &[&str], &str); 2] = [
 
 #[test]
 fn limits_that_run_out(rt: HostRuntime) -> Result<(), Fail> {
-    for (most, pieces, said) in BUDGETS {
+    for (row, most, pieces, said) in BUDGETS {
         let limits = budgets(rt.alloc(), most)?;
         let mut store = three_files(rt.alloc())?;
-        expect_cycle(&rt, &mut store, limits.as_slice(), pieces, said)?;
+        expect_cycle(&rt, row, &mut store, limits.as_slice(), pieces, said)?;
     }
     Ok(())
 }
@@ -90,6 +95,7 @@ fn finding_in_an_earlier_run(rt: HostRuntime) -> Result<(), Fail> {
     let pieces = [HEADS, "S08|o/v1/content/a|-\n", B, C];
     expect_cycle(
         &rt,
+        "a finding in the first run",
         &mut store,
         budgets(rt.alloc(), &[1, 1, 1])?.as_slice(),
         &pieces,
@@ -108,7 +114,8 @@ fn inventories_of_three_runs(rt: HostRuntime) -> Result<(), Fail> {
         "ok|o3|-\nok|o3/v1/content/f|3\n",
     ];
     let said = "runs 3 spent 12 files 3 clean, ended; cycle 1 runs 3 spent 12 files 3 ended";
-    expect_cycle(&rt, &mut store, limits.as_slice(), &pieces, said)?;
+    let row = "three objects";
+    expect_cycle(&rt, row, &mut store, limits.as_slice(), &pieces, said)?;
     let paths = opened_from(rt.alloc(), &store, 0, "/inventory.json")?;
     let want =
         "o1/inventory.json;o2/inventory.json;o2/inventory.json;o3/inventory.json;o3/inventory.json;";
@@ -134,7 +141,8 @@ fn three_hundred_runs(rt: HostRuntime) -> Result<(), Fail> {
     }
     let said =
         "runs 300 spent 1200 files 300 clean, ended; cycle 1 runs 300 spent 1200 files 300 ended";
-    expect_cycle(&rt, &mut store, all.as_slice(), &[text.as_str()], said)
+    let pieces = [text.as_str()];
+    expect_cycle(&rt, "300 files", &mut store, all.as_slice(), &pieces, said)
 }
 
 // ---- stops
@@ -151,7 +159,7 @@ pub(crate) fn cycle_into(
 }
 
 #[test]
-fn output_of_ten_bytes(rt: HostRuntime) -> Result<(), Fail> {
+fn a_cycle_into_ten_bytes(rt: HostRuntime) -> Result<(), Fail> {
     let mut store = long_object(rt.alloc(), "ABC_SHA512")?;
     let mut out = Narrow::new(rt.alloc(), 10);
     let limits = budgets(rt.alloc(), &[9, 9])?;

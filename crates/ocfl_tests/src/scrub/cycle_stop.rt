@@ -42,26 +42,22 @@ fn rest_from(alloc: Global, store: &mut MemTree, cursor: Cursor) -> Result<Strin
 /// whole; a run from the cursor writes the rest of the report.
 fn expect_stop(
     rt: &(impl Abort + AllocGlobal),
+    row: &str,
     root: &mut Tried,
     stopped: CycleEnd,
     gone: usize,
     runs: usize,
 ) -> Result<(), Fail> {
     let (due, left) = due_of(root.all.as_str(), gone)?;
-    let number = root.number;
-    assert_eq!(rt; stopped.runs, runs, "root {number} after {gone} bytes");
-    assert_eq!(rt;
-        stopped.cursor.runs(),
-        runs as u64,
-        "root {number} after {gone} bytes"
-    );
-    assert_eq!(rt; stopped.cursor.cycle(), 1);
-    assert_eq!(rt; stopped.spent, u128::from(due.spent), "after {gone} bytes");
-    assert_eq!(rt; stopped.files, u128::from(due.files), "after {gone} bytes");
-    assert_eq!(rt; stopped.found, due.found, "after {gone} bytes");
+    assert_eq!(rt; stopped.runs, runs, "{row}");
+    assert_eq!(rt; stopped.cursor.runs(), runs as u64, "{row}");
+    assert_eq!(rt; stopped.cursor.cycle(), 1, "{row}");
+    assert_eq!(rt; stopped.spent, u128::from(due.spent), "{row}");
+    assert_eq!(rt; stopped.files, u128::from(due.files), "{row}");
+    assert_eq!(rt; stopped.found, due.found, "{row}");
     let CycleEnd { cursor, .. } = stopped;
     let rest = rest_from(rt.alloc(), &mut root.store, cursor)?;
-    assert_eq!(rt; rest.as_str(), left, "root {number} after {gone} bytes");
+    assert_eq!(rt; rest.as_str(), left, "{row}");
     Ok(())
 }
 
@@ -75,20 +71,27 @@ fn expect_cut_cycle(
     room: usize,
 ) -> Result<(), Fail> {
     let mut out = Narrow::new(rt.alloc(), room);
+    let number = root.number;
+    let row = format!(in rt.alloc(); "root {number}, budget {budget}, after {room} bytes")?;
     let each = equal_limits(rt.alloc(), 9, budget, MOST)?;
     let stopped = cycle_into(rt.alloc(), &mut root.store, each.as_slice(), &mut out)?;
-    assert!(rt; matches!(stopped.end, CycleStatus::Stopped(Fault::Output)));
-    assert!(rt; root.begins_with(out.kept.as_slice(), room), "room {room}");
+    let is_cut = matches!(stopped.end, CycleStatus::Stopped(Fault::Output));
+    assert!(rt; is_cut, "{row}");
+    assert!(rt; root.begins_with(out.kept.as_slice(), room), "{row}");
     let (_, left) = due_of(root.all.as_str(), room)?;
     let whole = taken.len().saturating_sub(items_in(left));
-    expect_stop(rt, root, stopped, room, taken[whole])
+    expect_stop(rt, row.as_str(), root, stopped, room, taken[whole])
 }
 
 #[test]
-fn output_that_fails_at_each_byte(rt: HostRuntime) -> Result<(), Fail> {
+fn cycles_cut_at_each_byte(rt: HostRuntime) -> Result<(), Fail> {
     for (number, budget, taken) in CUTS {
         let mut root = Tried::new(rt.alloc(), number)?;
-        assert_eq!(rt; items_in(root.all.as_str()), taken.len(), "root {number}");
+        assert_eq!(rt;
+            items_in(root.all.as_str()),
+            taken.len(),
+            "root {number}, budget {budget}"
+        );
         for room in 0..root.all.len() {
             expect_cut_cycle(&rt, &mut root, budget, taken, room)?;
         }
@@ -115,36 +118,34 @@ fn expect_failing_cycle(
     let alloc = rt.alloc();
     let mut store = root_by(alloc, root.number)?;
     store.fail_call(call);
+    let number = root.number;
+    let row = format!(in alloc; "call {call} of root {number}, budget {budget}")?;
     let (mut block, mut out) = (Block::new(alloc)?, Vec::new(alloc));
     let each = equal_limits(alloc, 9, budget, MOST)?;
     let ended = cycle(alloc, &mut store, each.as_slice(), &mut block, &mut out);
     let text = String::from_utf8(out)?;
     let begun = runs_begun(alloc, &store)?;
     if matches!(ended.end, CycleStatus::Stopped(Fault::Store(_))) {
-        assert!(rt; root.all.starts_with(text.as_str()), "call {call}");
+        assert!(rt; root.all.starts_with(text.as_str()), "{row}");
         let whole = items_in(text.as_str());
         let least = if whole == 0 { 1 } else { taken[whole - 1] };
-        assert!(rt; least <= begun && begun <= taken[whole], "call {call}");
-        expect_stop(rt, root, ended, text.len(), begun)?;
+        assert!(rt; least <= begun && begun <= taken[whole], "{row}");
+        expect_stop(rt, row.as_str(), root, ended, text.len(), begun)?;
     } else {
-        assert!(rt; matches!(ended.end, CycleStatus::Ended), "call {call}");
-        assert_eq!(rt; ended.runs, begun, "call {call}");
-        assert_eq!(rt;
-            text.contains("\nS08\t"),
-            store.failures() > 0,
-            "call {call}"
-        );
+        assert!(rt; matches!(ended.end, CycleStatus::Ended), "{row}");
+        assert_eq!(rt; ended.runs, begun, "{row}");
+        assert_eq!(rt; text.contains("\nS08\t"), store.failures() > 0, "{row}");
     }
     Ok(store.failures() > 0)
 }
 
 #[test]
-fn store_that_fails_at_each_call(rt: HostRuntime) -> Result<(), Fail> {
+fn cycles_with_each_call_failing(rt: HostRuntime) -> Result<(), Fail> {
     for (number, budget, taken) in CUTS {
         let mut root = Tried::new(rt.alloc(), number)?;
         for call in 1..1_000u64 {
             if !expect_failing_cycle(&rt, &mut root, budget, taken, call)? {
-                assert!(rt; call > 10, "root {number}");
+                assert!(rt; call > 10, "root {number}, budget {budget}");
                 break;
             }
         }

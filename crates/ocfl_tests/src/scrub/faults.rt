@@ -84,7 +84,12 @@ fn expect_fault(
     point: Point,
 ) -> Result<(), Fail> {
     let alloc = rt.alloc();
-    let what = format!(in alloc; "root {number}, at {}", place.path())?;
+    let path = place.path();
+    let what = match point {
+        Point::List => format!(in alloc; "root {number}, listing {path}")?,
+        Point::Open => format!(in alloc; "root {number}, opening {path}")?,
+        Point::Read(offset) => format!(in alloc; "root {number}, reading {path} at {offset}")?,
+    };
     let mut store = root_by(alloc, number)?;
     store.fail_at(place, point)?;
     let got = ran(alloc, &mut store, Cursor::new())?;
@@ -163,6 +168,7 @@ pub(crate) fn expect_dropped(
     room: usize,
 ) -> Result<(), Fail> {
     let alloc = rt.alloc();
+    let row = format!(in alloc; "root {}, room {room}", root.number)?;
     let kept = Vec::new(alloc);
     let (mut block, mut out) = (Block::new(alloc)?, Drops { room, kept });
     let most = limits(MOST, MOST)?;
@@ -175,13 +181,13 @@ pub(crate) fn expect_dropped(
         &mut out,
     );
     let is_cut = matches!(end.end, RunStatus::Stopped(Fault::Output));
-    assert_eq!(rt; is_cut, room < root.all.len(), "room {room}");
-    assert!(rt; root.begins_with(out.kept.as_slice(), room), "room {room}");
+    assert_eq!(rt; is_cut, room < root.all.len(), "{row}");
+    assert!(rt; root.begins_with(out.kept.as_slice(), room), "{row}");
     if is_cut {
         let RunEnd { cursor, .. } = end;
         let rest = ran(alloc, &mut root.store, cursor)?;
-        assert!(rt; root.all.ends_with(rest.text.as_str()), "room {room}");
-        assert!(rt; rest.text.len() + room >= root.all.len(), "room {room}");
+        assert!(rt; root.all.ends_with(rest.text.as_str()), "{row}");
+        assert!(rt; rest.text.len() + room >= root.all.len(), "{row}");
     }
     Ok(())
 }

@@ -15,18 +15,19 @@ use std::test::Fail;
 #[test]
 fn right_object_without_reading_content(rt: HostRuntime) -> Result<(), Fail> {
     let mut store = right_object(rt.alloc())?;
-    finds(&rt, &mut store, "ok|o|-\n")?;
+    finds(&rt, "a right object", &mut store, "ok|o|-\n")?;
     for place in [DECLARATION, INVENTORY, SHORT_SIDECAR] {
         assert_eq!(rt; times_opened(rt.alloc(), &store, place)?, 1, "{place}");
     }
     assert_eq!(rt; store.openings().len(), 3);
     assert_eq!(rt; store.listings().len(), 2);
-    expect_head(&rt, &mut store, "ok|o|-\n", GOES_ON)
+    expect_head(&rt, "a right object", &mut store, "ok|o|-\n", GOES_ON)
 }
 
-/// What is changed in the root of a right object, the lines of its head then, and what
+/// A name, what is changed in the root of a right object, the lines of its head then, and what
 /// checking its content writes.
 type Head = (
+    &'static str,
     &'static [(&'static str, &'static str)],
     &'static str,
     Option<&'static str>,
@@ -35,15 +36,32 @@ type Head = (
 /// Heads of objects.
 const HEADS: [Head; 25] = [
     // declarations that are not exact, and those of the older version
-    (&[(DECLARATION, "")], "E007|o|-\n", GOES_ON),
-    (&[(DECLARATION, "ocfl_object_1.1")], "E007|o|-\n", GOES_ON),
-    (&[(DECLARATION, "ocfl_object_1.0\n")], "E007|o|-\n", GOES_ON),
     (
+        "an empty declaration",
+        &[(DECLARATION, "")],
+        "E007|o|-\n",
+        GOES_ON,
+    ),
+    (
+        "a declaration without its line feed",
+        &[(DECLARATION, "ocfl_object_1.1")],
+        "E007|o|-\n",
+        GOES_ON,
+    ),
+    (
+        "a declaration of another version",
+        &[(DECLARATION, "ocfl_object_1.0\n")],
+        "E007|o|-\n",
+        GOES_ON,
+    ),
+    (
+        "a declaration with a carriage return",
         &[(DECLARATION, "ocfl_object_1.1\r\n")],
         "E007|o|-\n",
         GOES_ON,
     ),
     (
+        "the older version",
         &[
             ("-o/0=ocfl_object_1.1", ""),
             ("o/0=ocfl_object_1.0", "ocfl_object_1.0\n"),
@@ -52,6 +70,7 @@ const HEADS: [Head; 25] = [
         GOES_ON,
     ),
     (
+        "the older version without its line feed",
         &[
             ("-o/0=ocfl_object_1.1", ""),
             ("o/0=ocfl_object_1.0", "ocfl_object_1.0"),
@@ -61,13 +80,20 @@ const HEADS: [Head; 25] = [
     ),
     // only files declare a version
     (
+        "a directory and a link named like declarations",
         &[("o/0=ocfl_object_1.0/", ""), ("o/0=ocfl_object_2.0@", "")],
         "ok|o|-\n",
         GOES_ON,
     ),
     // no sidecar, and none of the named algorithm
-    (&[("-o/inventory.json.sha256", "")], "E058|o|-\n", GOES_ON),
     (
+        "no sidecar",
+        &[("-o/inventory.json.sha256", "")],
+        "E058|o|-\n",
+        GOES_ON,
+    ),
+    (
+        "a directory and a link named like sidecars",
         &[
             ("-o/inventory.json.sha256", ""),
             ("o/inventory.json.sha256/", ""),
@@ -77,30 +103,45 @@ const HEADS: [Head; 25] = [
         GOES_ON,
     ),
     (
+        "a sidecar of another algorithm alone",
         &[("-o/inventory.json.sha256", ""), (LONG_SIDECAR, "")],
         "E061|o|sha512\nE058|o|sha256\n",
         GOES_ON,
     ),
     // storage roots whose version is known
-    (&[("0=ocfl_1.1", "ocfl_1.1")], "ok|o|-\n", GOES_ON),
     (
+        "a bad declaration of the storage root",
+        &[("0=ocfl_1.1", "ocfl_1.1")],
+        "ok|o|-\n",
+        GOES_ON,
+    ),
+    (
+        "a storage root of 1.0",
         &[("-0=ocfl_1.1", ""), ("0=ocfl_1.0", "ocfl_1.0\n")],
         "ok|o|-\n",
         GOES_ON,
     ),
     // no file of the name of an inventory
-    (&[("-o/inventory.json", "")], "E063|o|-\n", STOPS),
     (
+        "no inventory",
+        &[("-o/inventory.json", "")],
+        "E063|o|-\n",
+        STOPS,
+    ),
+    (
+        "a directory named like the inventory",
         &[("-o/inventory.json", ""), ("o/inventory.json/", "")],
         "E063|o|-\n",
         STOPS,
     ),
     (
+        "a link named like the inventory",
         &[("-o/inventory.json", ""), ("o/inventory.json@", "")],
         "E063|o|-\n",
         STOPS,
     ),
     (
+        "a link for the inventory and a bad declaration",
         &[
             ("-o/inventory.json", ""),
             ("o/inventory.json@", ""),
@@ -111,6 +152,7 @@ const HEADS: [Head; 25] = [
     ),
     // inventories that are none, with their sidecars
     (
+        "half of an inventory and no sidecar",
         &[
             ("-o/inventory.json.sha256", ""),
             ("o/inventory.json.sha512@", ""),
@@ -120,6 +162,7 @@ const HEADS: [Head; 25] = [
         STOPS,
     ),
     (
+        "no JSON and a wrong sidecar",
         &[
             (INVENTORY, "abc"),
             (SHORT_SIDECAR, "ZEROS inventory.json\n"),
@@ -128,6 +171,7 @@ const HEADS: [Head; 25] = [
         STOPS,
     ),
     (
+        "no algorithm and a right sidecar",
         &[
             (INVENTORY, "{}"),
             (SHORT_SIDECAR, "BRACES_SHA256 inventory.json\n"),
@@ -136,6 +180,7 @@ const HEADS: [Head; 25] = [
         STOPS,
     ),
     (
+        "no algorithm and a sidecar in capitals",
         &[
             (INVENTORY, "{}"),
             (SHORT_SIDECAR, "BRACES_CAPITALS inventory.json\n"),
@@ -144,6 +189,7 @@ const HEADS: [Head; 25] = [
         STOPS,
     ),
     (
+        "no algorithm and a wrong sidecar",
         &[
             (INVENTORY, "{}"),
             (SHORT_SIDECAR, "ABC_CAPITALS inventory.json\n"),
@@ -152,6 +198,7 @@ const HEADS: [Head; 25] = [
         STOPS,
     ),
     (
+        "no JSON, a bad sidecar and a wrong one",
         &[
             (INVENTORY, "abc"),
             (SHORT_SIDECAR, "abc"),
@@ -161,12 +208,14 @@ const HEADS: [Head; 25] = [
         STOPS,
     ),
     (
+        "no algorithm and no sidecar",
         &[(INVENTORY, "{}"), ("-o/inventory.json.sha256", "")],
         "E058|o|-\nE036|o|digestAlgorithm\n",
         STOPS,
     ),
     // the short sidecar before the long one, and many lines in their order
     (
+        "a bad short sidecar and a wrong long one",
         &[
             (
                 INVENTORY,
@@ -179,6 +228,7 @@ const HEADS: [Head; 25] = [
         None,
     ),
     (
+        "a line of nearly each kind",
         &[
             (
                 INVENTORY,
@@ -194,40 +244,49 @@ const HEADS: [Head; 25] = [
 
 #[test]
 fn heads_of_objects(rt: HostRuntime) -> Result<(), Fail> {
-    for (changes, lines, content) in HEADS {
+    for (row, changes, lines, content) in HEADS {
         let mut store = right_object(rt.alloc())?;
         change(rt.alloc(), &mut store, changes)?;
-        expect_head(&rt, &mut store, lines, content)?;
+        expect_head(&rt, row, &mut store, lines, content)?;
     }
     let behind = "\n".repeat(rt.alloc(), 4081)?;
     let long = format!(in rt.alloc(); "ocfl_object_1.1\n{behind}")?;
     assert_eq!(rt; long.len(), 4097);
     let mut store = right_object(rt.alloc())?;
     put(rt.alloc(), &mut store, DECLARATION, long.as_bytes())?;
-    expect_head(&rt, &mut store, "E007|o|-\n", GOES_ON)
+    expect_head(&rt, "a long declaration", &mut store, "E007|o|-\n", GOES_ON)
 }
 
 /// Further declarations, whether the right one is there too, and the line that the head stops at.
-const DECLARED: [(&str, bool, &str); 5] = [
-    ("o/0=ocfl_object_1.0", true, "E003|o|-\n"),
-    ("o/0=ocfl_object_2.0", true, "E003|o|-\n"),
-    ("o/0=ocfl_object_2.0", false, "S01|o|2.0\n"),
-    ("o/0=ocfl_object_1.0.1", false, "S01|o|1.0.1\n"),
-    ("o/0=ocfl_object_2.0\u{e9}", false, "S01|o|2.0%C3%A9\n"),
+const DECLARED: [(&str, &str, bool, &str); 5] = [
+    ("1.0 and 1.1", "o/0=ocfl_object_1.0", true, "E003|o|-\n"),
+    ("2.0 and 1.1", "o/0=ocfl_object_2.0", true, "E003|o|-\n"),
+    ("2.0", "o/0=ocfl_object_2.0", false, "S01|o|2.0\n"),
+    ("1.0.1", "o/0=ocfl_object_1.0.1", false, "S01|o|1.0.1\n"),
+    (
+        "2.0 with a letter beyond ASCII",
+        "o/0=ocfl_object_2.0\u{e9}",
+        false,
+        "S01|o|2.0%C3%A9\n",
+    ),
 ];
 
 /// What else may be wrong then, and has no line.
-const NOT_LOOKED_AT: [&[(&str, &str)]; 4] = [
-    &[],
-    &[("o/inventory.json", "abc")],
-    &[("-o/inventory.json", "")],
-    &[("-o/inventory.json.sha256", ""), ("-o/inventory.json", "")],
+const NOT_LOOKED_AT: [(&str, &[(&str, &str)]); 4] = [
+    ("nothing else", &[]),
+    ("no JSON", &[("o/inventory.json", "abc")]),
+    ("no inventory", &[("-o/inventory.json", "")]),
+    (
+        "no inventory and no sidecar",
+        &[("-o/inventory.json.sha256", ""), ("-o/inventory.json", "")],
+    ),
 ];
 
 #[test]
 fn heads_that_stop_at_declarations(rt: HostRuntime) -> Result<(), Fail> {
-    for (further, is_right_there, line) in DECLARED {
-        for changes in NOT_LOOKED_AT {
+    for (declared, further, is_right_there, line) in DECLARED {
+        for (wrong, changes) in NOT_LOOKED_AT {
+            let row = format!(in rt.alloc(); "declarations {declared}, and {wrong}")?;
             let mut store = right_object(rt.alloc())?;
             put(rt.alloc(), &mut store, further, b"")?;
             if !is_right_there {
@@ -236,8 +295,8 @@ fn heads_that_stop_at_declarations(rt: HostRuntime) -> Result<(), Fail> {
                 put(rt.alloc(), &mut store, DECLARATION, b"")?;
             }
             change(rt.alloc(), &mut store, changes)?;
-            expect_head(&rt, &mut store, line, STOPS)?;
-            assert!(rt; store.openings().is_empty(), "{further}");
+            expect_head(&rt, row.as_str(), &mut store, line, STOPS)?;
+            assert!(rt; store.openings().is_empty(), "{row}");
         }
     }
     Ok(())
@@ -263,25 +322,37 @@ fn forms_of_sidecars(rt: HostRuntime) -> Result<(), Fail> {
     let longest = format!(in rt.alloc(); " inventory.json\n{}", " ".repeat(rt.alloc(), 4016)?)?;
     let longer = format!(in rt.alloc(); "{longest} ")?;
     assert_eq!(rt; longest.len(), 4096 - 64);
-    for (behind, lines) in [
-        (" inventory.json\n", of_the_form),
-        ("  inventory.json", of_the_form),
-        ("\t \tinventory.json \t\r\n\n", of_the_form),
-        (longest.as_str(), of_the_form),
-        (longer.as_str(), not_of_it),
-        (" *inventory.json\n", not_of_it),
-        ("inventory.json\n", not_of_it),
-        ("\ninventory.json\n", not_of_it),
-        (" inventory.json\nx", not_of_it),
-        (" inventory.jso\n", not_of_it),
-        ("0 inventory.json\n", not_of_it),
-        ("", not_of_it),
+    for (row, behind, lines) in [
+        ("one blank", " inventory.json\n", of_the_form),
+        (
+            "two blanks and no line feed",
+            "  inventory.json",
+            of_the_form,
+        ),
+        (
+            "blanks around and two line ends",
+            "\t \tinventory.json \t\r\n\n",
+            of_the_form,
+        ),
+        ("4,096 bytes", longest.as_str(), of_the_form),
+        ("4,097 bytes", longer.as_str(), not_of_it),
+        ("a star before the name", " *inventory.json\n", not_of_it),
+        ("no blank", "inventory.json\n", not_of_it),
+        (
+            "a line feed before the name",
+            "\ninventory.json\n",
+            not_of_it,
+        ),
+        ("a letter after the line", " inventory.json\nx", not_of_it),
+        ("another name", " inventory.jso\n", not_of_it),
+        ("65 digits", "0 inventory.json\n", not_of_it),
+        ("digits alone", "", not_of_it),
     ] {
         let mut store = object_with_digits_and(rt.alloc(), behind)?;
-        expect_head(&rt, &mut store, lines, GOES_ON)?;
+        expect_head(&rt, row, &mut store, lines, GOES_ON)?;
         let text = format!(in rt.alloc(); "ok|.|-\n{lines}{FILE_IS_OK}")?;
         let status = u8::from(lines == not_of_it);
-        expect_audit(&rt, &mut store, text.as_str(), status, "")?;
+        expect_audit(&rt, row, &mut store, text.as_str(), status, "")?;
     }
     Ok(())
 }
@@ -293,13 +364,14 @@ fn no_sidecar_of_the_named_algorithm(rt: HostRuntime) -> Result<(), Fail> {
     let by_sha512 = inventory(rt.alloc(), members)?;
     let right = long_sidecar(rt.alloc(), by_sha512.as_str())?;
     let mut store = object_with(rt.alloc(), by_sha512.as_str())?;
-    expect_head(&rt, &mut store, "E058|o|sha512\n", GOES_ON)?;
-    for next in [
-        (LONG_SIDECAR, right.as_str()),
-        ("-o/inventory.json.sha256", ""),
+    let row = "the short sidecar alone";
+    expect_head(&rt, row, &mut store, "E058|o|sha512\n", GOES_ON)?;
+    for (row, path, text) in [
+        ("both sidecars", LONG_SIDECAR, right.as_str()),
+        ("the long sidecar alone", "-o/inventory.json.sha256", ""),
     ] {
-        change(rt.alloc(), &mut store, &[next])?;
-        expect_head(&rt, &mut store, "ok|o|-\n", GOES_ON)?;
+        change(rt.alloc(), &mut store, &[(path, text)])?;
+        expect_head(&rt, row, &mut store, "ok|o|-\n", GOES_ON)?;
     }
     Ok(())
 }
@@ -317,27 +389,34 @@ fn object_with_both_sidecars(alloc: Global) -> Result<MemTree, Fail> {
 
 /// With this call failing, the check of the object stops: it writes nothing, and opens no file
 /// after that one.
-fn stops_at(rt: &(impl Abort + AllocGlobal), place: &str, point: Point) -> Result<(), Fail> {
+fn stops_at(
+    rt: &(impl Abort + AllocGlobal),
+    call: &str,
+    place: &str,
+    point: Point,
+) -> Result<(), Fail> {
     let mut store = object_with_both_sidecars(rt.alloc())?;
     let failing = place_of(rt.alloc(), place)?;
     store.fail_at(&failing, point)?;
     let note = format!(in rt.alloc(); "stopped at {place}")?;
-    expect(rt, &mut store, "o", "", 3, note.as_str())?;
+    let row = format!(in rt.alloc(); "{call} {place}")?;
+    expect(rt, row.as_str(), &mut store, "o", "", 3, note.as_str())?;
     let [.., last] = store.openings() else {
         return Err("no file was opened".into());
     };
-    assert!(rt; last.place == failing && last.failed, "{place}");
-    assert_eq!(rt; store.failures(), 1);
+    assert!(rt; last.place == failing && last.failed, "{row}");
+    assert_eq!(rt; store.failures(), 1, "{row}");
     Ok(())
 }
 
 #[test]
 fn files_of_the_head_that_fail(rt: HostRuntime) -> Result<(), Fail> {
-    finds(&rt, &mut object_with_both_sidecars(rt.alloc())?, "ok|o|-\n")?;
+    let mut store = object_with_both_sidecars(rt.alloc())?;
+    finds(&rt, "no failure", &mut store, "ok|o|-\n")?;
     for place in [DECLARATION, INVENTORY, SHORT_SIDECAR, LONG_SIDECAR] {
-        stops_at(&rt, place, Point::Open)?;
-        stops_at(&rt, place, Point::Read(0))?;
-        stops_at(&rt, place, Point::Read(1))?;
+        stops_at(&rt, "opening", place, Point::Open)?;
+        stops_at(&rt, "reading the first byte of", place, Point::Read(0))?;
+        stops_at(&rt, "reading the second byte of", place, Point::Read(1))?;
     }
     Ok(())
 }
@@ -347,8 +426,9 @@ fn directories_to_the_object_that_fail(rt: HostRuntime) -> Result<(), Fail> {
     for (place, note) in [("o", "stopped at o"), (".", "stopped at .")] {
         let mut store = right_object(rt.alloc())?;
         store.fail_at(&place_of(rt.alloc(), place)?, Point::List)?;
-        expect(&rt, &mut store, "o", "", 3, note)?;
-        assert!(rt; store.openings().is_empty() || place == "o");
+        expect(&rt, note, &mut store, "o", "", 3, note)?;
+        let is_right = store.openings().is_empty() || place == "o";
+        assert!(rt; is_right, "{note}");
     }
     Ok(())
 }
@@ -356,8 +436,9 @@ fn directories_to_the_object_that_fail(rt: HostRuntime) -> Result<(), Fail> {
 // ---- what is no object
 
 /// What is changed in the root of a right object, and places without an item then.
-const NO_ITEMS: [(&[(&str, &str)], &[&str]); 5] = [
+const NO_ITEMS: [(&str, &[(&str, &str)], &[&str]); 5] = [
     (
+        "a directory and a link named like declarations",
         &[
             ("-o/0=ocfl_object_1.1", ""),
             ("o/0=ocfl_object_1.0/", ""),
@@ -367,6 +448,7 @@ const NO_ITEMS: [(&[(&str, &str)], &[&str]); 5] = [
     ),
     // above an object, where nothing is, where objects do not count, and within one
     (
+        "above, beside and within objects",
         &[
             ("h/p/0=ocfl_object_1.1", "ocfl_object_1.1\n"),
             ("extensions/p/0=ocfl_object_1.1", "ocfl_object_1.1\n"),
@@ -383,24 +465,33 @@ const NO_ITEMS: [(&[(&str, &str)], &[&str]); 5] = [
     ),
     // storage roots whose version is not known
     (
+        "a storage root of two declarations",
         &[("0=ocfl_1.1", "ocfl_1.1"), ("0=ocfl_1.0", "ocfl_1.0\n")],
         &["o"],
     ),
-    (&[("-0=ocfl_1.1", "")], &["o"]),
-    (&[("-0=ocfl_1.1", ""), ("0=ocfl_2.0", "ocfl_2.0\n")], &["o"]),
+    (
+        "a storage root without a declaration",
+        &[("-0=ocfl_1.1", "")],
+        &["o"],
+    ),
+    (
+        "a storage root of 2.0",
+        &[("-0=ocfl_1.1", ""), ("0=ocfl_2.0", "ocfl_2.0\n")],
+        &["o"],
+    ),
 ];
 
 #[test]
 fn places_without_an_item(rt: HostRuntime) -> Result<(), Fail> {
-    for (changes, places) in NO_ITEMS {
+    for (row, changes, places) in NO_ITEMS {
         let mut store = right_object(rt.alloc())?;
         change(rt.alloc(), &mut store, changes)?;
         for place in places {
-            expect(&rt, &mut store, place, "", 0, "no item")?;
+            expect(&rt, row, &mut store, place, "", 0, "no item")?;
         }
         if places.len() > 1 {
-            expect(&rt, &mut store, "h/p", "E063|h/p|-\n", 1, "")?;
-            finds(&rt, &mut store, "ok|o|-\n")?;
+            expect(&rt, row, &mut store, "h/p", "E063|h/p|-\n", 1, "")?;
+            finds(&rt, row, &mut store, "ok|o|-\n")?;
         }
     }
     Ok(())

@@ -19,16 +19,17 @@ fn with_state(alloc: Global, state: &str) -> Result<String, Fail> {
 fn inventories_that_are_no_object_in_json(rt: HostRuntime) -> Result<(), Fail> {
     let number = with_state(rt.alloc(), "1e999")?;
     let surrogate = with_state(rt.alloc(), "\"\\ud800\"")?;
-    for text in [
-        "[]",
-        "abc",
-        "",
-        "{} {}",
-        number.as_str(),
-        surrogate.as_str(),
+    for (row, text) in [
+        ("an array", "[]"),
+        ("no JSON", "abc"),
+        ("no byte", ""),
+        ("two objects", "{} {}"),
+        ("a number too large", number.as_str()),
+        ("half of a pair", surrogate.as_str()),
     ] {
         expect_head(
             &rt,
+            row,
             &mut object_with(rt.alloc(), text)?,
             "E033|o|-\n",
             STOPS,
@@ -50,9 +51,10 @@ fn object_with_bytes(alloc: Global, bytes: &[u8]) -> Result<MemTree, Fail> {
 fn byte_that_is_no_utf8(rt: HostRuntime) -> Result<(), Fail> {
     let bytes = b"{\"digestAlgorithm\":\"sha256\",\"manifest\":{},\"state\":\"\xFF\"}";
     let mut store = object_with_bytes(rt.alloc(), bytes)?;
-    expect_head(&rt, &mut store, "E033|o|-\n", STOPS)?;
+    expect_head(&rt, "the byte 0xFF", &mut store, "E033|o|-\n", STOPS)?;
     let bytes = b"{\"digestAlgorithm\":\"sha256\",\"manifest\":{},\"state\":\"\xC3\xBF\"}";
-    finds(&rt, &mut object_with_bytes(rt.alloc(), bytes)?, "ok|o|-\n")
+    let mut store = object_with_bytes(rt.alloc(), bytes)?;
+    finds(&rt, "a letter of two bytes", &mut store, "ok|o|-\n")
 }
 
 #[test]
@@ -66,88 +68,113 @@ fn arrays_nest_to_126_in_the_inventory(rt: HostRuntime) -> Result<(), Fail> {
     ] {
         let (front, back) = ("[".repeat(alloc, arrays)?, "]".repeat(alloc, arrays)?);
         let inventory = with_state(alloc, format!(in alloc; "{front}{back}")?.as_str())?;
-        finds(&rt, &mut object_with(alloc, inventory.as_str())?, line)?;
+        let row = format!(in alloc; "{arrays} arrays")?;
+        let mut store = object_with(alloc, inventory.as_str())?;
+        finds(&rt, row.as_str(), &mut store, line)?;
     }
     Ok(())
 }
 
 /// Members of inventories, each with the line that the head stops with.
-const STOPPING: [(&str, &str); 20] = [
-    (r#""manifest":{},"fixity":{}"#, "E036|o|digestAlgorithm\n"),
+const STOPPING: [(&str, &str, &str); 20] = [
     (
+        "no algorithm",
+        r#""manifest":{},"fixity":{}"#,
+        "E036|o|digestAlgorithm\n",
+    ),
+    (
+        "an algorithm that is a number",
         r#""digestAlgorithm":7,"manifest":{},"fixity":{}"#,
         "S03|o|digestAlgorithm\n",
     ),
     (
+        "an algorithm in capitals",
         r#""digestAlgorithm":"SHA256","manifest":{},"fixity":{}"#,
         "E025|o|SHA256\n",
     ),
     (
+        "md5",
         r#""digestAlgorithm":"md5","manifest":{},"fixity":{}"#,
         "E025|o|md5\n",
     ),
     (
+        "sha512/256",
         r#""digestAlgorithm":"sha512/256","manifest":{},"fixity":{}"#,
         "E025|o|sha512/256\n",
     ),
     (
+        "an algorithm with odd letters",
         r#""digestAlgorithm":"% /é\t","manifest":{},"fixity":{}"#,
         "E025|o|%25 /%C3%A9%09\n",
     ),
     (
+        "a content directory that is a number",
         r#""digestAlgorithm":"sha256","contentDirectory":7,"manifest":{}"#,
         "S03|o|contentDirectory\n",
     ),
     (
+        "an empty content directory",
         r#""digestAlgorithm":"sha256","contentDirectory":"","manifest":{}"#,
         "S03|o|contentDirectory\n",
     ),
     (
+        "a content directory of two names",
         r#""digestAlgorithm":"sha256","contentDirectory":"a/b","manifest":{}"#,
         "E017|o|a/b\n",
     ),
     (
+        "a content directory of one dot",
         r#""digestAlgorithm":"sha256","contentDirectory":".","manifest":{}"#,
         "E018|o|.\n",
     ),
     (
+        "a content directory of two dots",
         r#""digestAlgorithm":"sha256","contentDirectory":"..","manifest":{}"#,
         "E018|o|..\n",
     ),
     // the content directory is looked at before the manifest, and this before the fixity block
     (
+        "a bad content directory and no manifest",
         r#""digestAlgorithm":"sha256","contentDirectory":"..""#,
         "E018|o|..\n",
     ),
     (
+        "no manifest and a bad fixity block",
         r#""digestAlgorithm":"sha256","fixity":7"#,
         "E041|o|manifest\n",
     ),
     (
+        "a manifest that is an array",
         r#""digestAlgorithm":"sha256","manifest":[],"fixity":{}"#,
         "S03|o|manifest\n",
     ),
     (
+        "a digest with a text",
         r#""digestAlgorithm":"sha256","manifest":{"ABC_SHA256":"v1/content/f"},"fixity":{}"#,
         "S03|o|manifest\n",
     ),
     (
+        "a path that is a number",
         r#""digestAlgorithm":"sha256","manifest":{"ABC_SHA256":[7]},"fixity":{}"#,
         "S03|o|manifest\n",
     ),
     (
+        "a fixity block that is an array",
         r#""digestAlgorithm":"sha256","manifest":{},"fixity":[]"#,
         "S03|o|fixity\n",
     ),
     (
+        "a fixity algorithm that is a number",
         r#""digestAlgorithm":"sha256","manifest":{},"fixity":{"md5":7}"#,
         "S03|o|fixity\n",
     ),
     (
+        "a path in fixity that is a number",
         r#""digestAlgorithm":"sha256","manifest":{},"fixity":{"md5":{"ABC_MD5":["v1/content/f",7]}}"#,
         "S03|o|fixity\n",
     ),
     (
+        "sha512/256 that is a number",
         r#""digestAlgorithm":"sha256","manifest":{},"fixity":{"sha512/256":7}"#,
         "S03|o|fixity\n",
     ),
@@ -155,84 +182,97 @@ const STOPPING: [(&str, &str); 20] = [
 
 #[test]
 fn inventories_that_stop_the_head(rt: HostRuntime) -> Result<(), Fail> {
-    for (members, line) in STOPPING {
+    for (row, members, line) in STOPPING {
         let inventory = inventory(rt.alloc(), members)?;
         let mut store = object_with(rt.alloc(), inventory.as_str())?;
-        expect_head(&rt, &mut store, line, STOPS)?;
+        expect_head(&rt, row, &mut store, line, STOPS)?;
     }
     Ok(())
 }
 
-/// A manifest and a fixity block without their braces, and the lines of a head that does not stop.
-const GO_ON: [(&str, &str, &str); 13] = [
+/// A name, a manifest and a fixity block without their braces, and the lines of a head that does not stop.
+const GO_ON: [(&str, &str, &str, &str); 13] = [
     // each bad text by the first rule that it breaks, ascending
     (
+        "a bad path of each kind",
         r#""ABC_SHA256":["x/content/a","/a","v1/content/f","v1/content/../b"]"#,
         "",
         "E100|o|/a\nE099|o|v1/content/../b\nS06|o|x/content/a\n",
     ),
     (
+        "paths that are nearly content paths",
         r#""ABC_SHA256":["","v1/content/f","v1/content/f/","v1//f","v1/content","v/content/f","v1/c/f","v1a/content/f","v1/content/\u0000"]"#,
         "",
         "E099|o|\nS06|o|v/content/f\nE099|o|v1//f\nS06|o|v1/c/f\nS06|o|v1/content\nS06|o|v1/content/%00\nE100|o|v1/content/f/\nS06|o|v1a/content/f\n",
     ),
     // once in the manifest, and once in all of fixity
     (
+        "a bad path in the manifest and twice in fixity",
         r#""ABC_SHA256":["v1/content/f","/x"]"#,
         r#""md5":{"ABC_MD5":["/x"]},"sha1":{"ABC_SHA1":["/x"]}"#,
         "E100|o|/x\nE100|o|/x\n",
     ),
     (
+        "a bad path twice in the manifest and once in fixity",
         r#""ABC_SHA256":["v1/content/f","/x","/x"]"#,
         r#""sha512/256":{"a":["/x"]}"#,
         "E100|o|/x\nE100|o|/x\n",
     ),
     // a path that another one begins with, by elements and not by letters
     (
+        "a path below another one",
         r#""ABC_SHA256":["v1/content/f","v1/content/f/g"]"#,
         "",
         "E101|o|v1/content/f\n",
     ),
     (
+        "paths below one another",
         r#""ABC_SHA256":["v1/content/a/b/c","v1/content/a-b","v1/content/a","v1/content/f","v1/content/a/b","v1/content/ff"]"#,
         "",
         "E101|o|v1/content/a\nE101|o|v1/content/a/b\n",
     ),
     // twice in one list
     (
+        "a path twice",
         r#""ABC_SHA256":["v1/content/f","v1/content/f"]"#,
         "",
         "E101|o|v1/content/f\n",
     ),
     (
+        "a path three times",
         r#""ABC_SHA256":["v1/content/f","v1/content/f","v1/content/f"]"#,
         "",
         "E101|o|v1/content/f\n",
     ),
     // paths conflict in the manifest alone
     (
+        "conflicts in fixity alone",
         r#""ABC_SHA256":["v1/content/f","v1/content/f-g"]"#,
         r#""md5":{"ABC_MD5":["v1/content/f","v1/content/f","v1/content/f/g"]}"#,
         "ok|o|-\n",
     ),
     // a digest twice
     (
+        "a path under a digest in two cases",
         r#""ABC_SHA256":["v1/content/f"],"ABC_CAPITALS":["v1/content/f"]"#,
         "",
         "E096|o|ABC_SHA256\nE101|o|v1/content/f\n",
     ),
     (
+        "a digest of fixity in two cases",
         r#""ABC_SHA256":["v1/content/f"]"#,
         r#""md5":{"ABC_MD5":["v1/content/f"],"900150983CD24FB0D6963F7D28E17F72":["v1/content/f"]}"#,
         "E097|o|md5 ABC_MD5\n",
     ),
     (
+        "digests in two cases under three algorithms",
         r#""ABC_SHA256":["v1/content/f"]"#,
         r#""sha512/256":{"b":[],"B":[]},"sha1":{"a":[],"A":[]},"md5":{"x":[],"X":[],"W":[],"w":[]}"#,
         "E097|o|md5 w\nE097|o|md5 x\nE097|o|sha1 a\nE097|o|sha512/256 b\n",
     ),
     // algorithms that are computed are not noted
     (
+        "algorithms that are computed",
         r#""ABC_SHA256":["v1/content/f"]"#,
         r#""sha512/256":{"ABC_SHA512/256":["v1/content/f"]},"md5":{},"sha1":{},"sha256":{},"sha512":{}"#,
         "ok|o|-\n",
@@ -241,27 +281,28 @@ const GO_ON: [(&str, &str, &str); 13] = [
 
 #[test]
 fn lines_of_inventories(rt: HostRuntime) -> Result<(), Fail> {
-    for (manifest, fixity, lines) in GO_ON {
+    for (row, manifest, fixity, lines) in GO_ON {
         let inventory = listing(rt.alloc(), manifest, fixity)?;
         let mut store = object_with(rt.alloc(), inventory.as_str())?;
-        expect_head(&rt, &mut store, lines, GOES_ON)?;
+        expect_head(&rt, row, &mut store, lines, GOES_ON)?;
     }
     Ok(())
 }
 
 #[test]
 fn algorithms_that_are_not_computed_are_no_findings(rt: HostRuntime) -> Result<(), Fail> {
-    for (fixity, lines) in [
-        (r#""blake2b-512":7"#, "S07|o|blake2b-512\n"),
+    for (row, fixity, lines) in [
+        ("one algorithm", r#""blake2b-512":7"#, "S07|o|blake2b-512\n"),
         (
+            "three algorithms beside md5",
             r#""sha3":[],"blake2b-512":{"x":["/x"]},"MD5":7,"md5":{}"#,
             "S07|o|MD5\nS07|o|blake2b-512\nS07|o|sha3\n",
         ),
     ] {
         let inventory = listing(rt.alloc(), r#""ABC_SHA256":["v1/content/f"]"#, fixity)?;
         let mut store = object_with(rt.alloc(), inventory.as_str())?;
-        expect(&rt, &mut store, "o", lines, 0, "")?;
-        expect(&rt, &mut store, FILE, FILE_IS_OK, 0, "")?;
+        expect(&rt, row, &mut store, "o", lines, 0, "")?;
+        expect(&rt, row, &mut store, FILE, FILE_IS_OK, 0, "")?;
     }
     Ok(())
 }
@@ -269,9 +310,10 @@ fn algorithms_that_are_not_computed_are_no_findings(rt: HostRuntime) -> Result<(
 #[test]
 fn path_below_a_listed_file(rt: HostRuntime) -> Result<(), Fail> {
     let mut store = listing_paths(rt.alloc(), r#""v1/content/f","v1/content/f/g""#)?;
-    expect_head(&rt, &mut store, "E101|o|v1/content/f\n", GOES_ON)?;
+    let row = "a path below a listed file";
+    expect_head(&rt, row, &mut store, "E101|o|v1/content/f\n", GOES_ON)?;
     let missing = "E092|o/v1/content/f/g|sha256 missing\n";
-    expect(&rt, &mut store, "o/v1/content/f/g", missing, 1, "")
+    expect(&rt, row, &mut store, "o/v1/content/f/g", missing, 1, "")
 }
 
 /// The root of an object that lists these paths under the digest of `abc`, with its file `f`.
@@ -294,25 +336,39 @@ fn limits_of_paths(rt: HostRuntime) -> Result<(), Fail> {
         let directories = "/d".repeat(alloc, elements - 3)?;
         let last = "f".repeat(alloc, letters)?;
         let path = format!(in alloc; "v1/content{directories}/{last}")?;
-        assert_eq!(rt; path.split('/').count(), elements);
+        let row = format!(in alloc; "{elements} names, the last of {letters} letters")?;
+        assert_eq!(rt; path.split('/').count(), elements, "{row}");
         let mut store = listing_paths(alloc, format!(in alloc; "\"{path}\"")?.as_str())?;
         if is_kept {
-            finds(&rt, &mut store, "ok|o|-\n")?;
+            finds(&rt, row.as_str(), &mut store, "ok|o|-\n")?;
         } else {
-            finds(
-                &rt,
-                &mut store,
-                format!(in alloc; "S06|o|{path}\n")?.as_str(),
-            )?;
+            let line = format!(in alloc; "S06|o|{path}\n")?;
+            finds(&rt, row.as_str(), &mut store, line.as_str())?;
         }
         // Where `f` itself is listed it is there.
         if letters == 255 {
             let missing = format!(in alloc; "E092|o/{path}|sha256 missing\n")?;
             let place = format!(in alloc; "o/{path}")?;
-            expect(&rt, &mut store, place.as_str(), missing.as_str(), 1, "")?;
+            expect(
+                &rt,
+                row.as_str(),
+                &mut store,
+                place.as_str(),
+                missing.as_str(),
+                1,
+                "",
+            )?;
         } else if elements == 129 {
             let place = format!(in alloc; "o/{path}")?;
-            expect(&rt, &mut store, place.as_str(), "", 0, "no item")?;
+            expect(
+                &rt,
+                row.as_str(),
+                &mut store,
+                place.as_str(),
+                "",
+                0,
+                "no item",
+            )?;
         }
     }
     Ok(())

@@ -41,8 +41,9 @@ fn head_of_two_thousand_lines(rt: HostRuntime) -> Result<(), Fail> {
     let lines = numbered(alloc, 2_000, "E100|o|/", "\n", "")?;
     let mut store = object_with(alloc, listing(alloc, manifest.as_str(), "")?.as_str())?;
     let text = format!(in alloc; "ok|.|-\n{lines}{FILE_IS_OK}")?;
-    expect_audit(&rt, &mut store, text.as_str(), 1, "")?;
-    expect(&rt, &mut store, "o", lines.as_str(), 1, "")
+    let row = "2,000 lines";
+    expect_audit(&rt, row, &mut store, text.as_str(), 1, "")?;
+    expect(&rt, row, &mut store, "o", lines.as_str(), 1, "")
 }
 
 #[test]
@@ -53,8 +54,9 @@ fn file_of_two_thousand_lines(rt: HostRuntime) -> Result<(), Fail> {
     let lines = numbered(alloc, 2_000, front, " ABC_SHA256\n", "")?;
     let mut store = object_with(alloc, listing(alloc, manifest.as_str(), "")?.as_str())?;
     let text = format!(in alloc; "ok|.|-\nE101|o|v1/content/f\n{lines}")?;
-    expect_audit(&rt, &mut store, text.as_str(), 1, "")?;
-    expect(&rt, &mut store, FILE, lines.as_str(), 1, "")
+    let row = "2,000 digests";
+    expect_audit(&rt, row, &mut store, text.as_str(), 1, "")?;
+    expect(&rt, row, &mut store, FILE, lines.as_str(), 1, "")
 }
 
 #[test]
@@ -62,7 +64,8 @@ fn ten_thousand_places_without_lines(rt: HostRuntime) -> Result<(), Fail> {
     let inner = right_object(rt.alloc())?;
     let oddity = Oddity::Crowds(10_000);
     let text = format!(in rt.alloc(); "{HEADS}{FILE_IS_OK}")?;
-    expect_audit(&rt, &mut Odd { inner, oddity }, text.as_str(), 0, "")
+    let row = "10,000 files of no object";
+    expect_audit(&rt, row, &mut Odd { inner, oddity }, text.as_str(), 0, "")
 }
 
 #[test]
@@ -75,8 +78,9 @@ fn inventory_of_three_hundred_members(rt: HostRuntime) -> Result<(), Fail> {
     )?;
     let mut store = object_with(alloc, inventory(alloc, members.as_str())?.as_str())?;
     let text = format!(in alloc; "{HEADS}{FILE_IS_OK}")?;
-    expect_audit(&rt, &mut store, text.as_str(), 0, "")?;
-    expect(&rt, &mut store, FILE, FILE_IS_OK, 0, "")
+    let row = "300 members";
+    expect_audit(&rt, row, &mut store, text.as_str(), 0, "")?;
+    expect(&rt, row, &mut store, FILE, FILE_IS_OK, 0, "")
 }
 
 /// What a deed writes, its status and its note, where no cursor is stored.
@@ -111,7 +115,11 @@ fn unread_content_is_no_lack_of_memory(rt: HostRuntime) -> Result<(), Fail> {
     let alloc = rt.alloc();
     let unread = "S08|o/v1/content/f|-\n";
     let right = lines_of(alloc, format!(in alloc; "{HEADS}{unread}")?.as_str())?;
-    for (point, cost) in [(Point::Open, 1), (Point::Read(0), 1), (Point::Read(3), 4)] {
+    for (row, point, cost) in [
+        ("the opening", Point::Open, 1),
+        ("the first byte", Point::Read(0), 1),
+        ("the end", Point::Read(3), 4),
+    ] {
         let run = format!(in alloc; "1 cycle 1, run 1, cost {cost}, ended")?;
         let cycle = format!(in alloc; "1 runs 1, cost {cost}, ended")?;
         for (deed, note) in [
@@ -122,8 +130,8 @@ fn unread_content_is_no_lack_of_memory(rt: HostRuntime) -> Result<(), Fail> {
             let mut store = right_object(alloc)?;
             store.fail_at(&place_of(alloc, FILE)?, point)?;
             let (text, said) = performed(alloc, &mut store, &deed)?;
-            assert_eq!(rt; said.as_str(), note);
-            assert_eq!(rt; text.as_str(), right.as_str(), "{note}");
+            assert_eq!(rt; said.as_str(), note, "{row}: {note}");
+            assert_eq!(rt; text.as_str(), right.as_str(), "{row}: {note}");
         }
     }
     Ok(())
@@ -132,9 +140,9 @@ fn unread_content_is_no_lack_of_memory(rt: HostRuntime) -> Result<(), Fail> {
 // ---- one write for each item
 
 /// The writer was called once for each item of these lines.
-fn expect_calls(rt: &impl Abort, out: &Counting, lines: &str) {
-    assert!(rt; out.kept.as_slice() == lines.as_bytes(), "{lines}");
-    assert_eq!(rt; out.calls, items_in(lines), "{lines}");
+fn expect_calls(rt: &impl Abort, row: &str, out: &Counting, lines: &str) {
+    assert!(rt; out.kept.as_slice() == lines.as_bytes(), "{row}: {lines}");
+    assert_eq!(rt; out.calls, items_in(lines), "{row}: {lines}");
 }
 
 #[test]
@@ -143,15 +151,16 @@ fn lines_of_an_item_go_out_as_one_piece(rt: HostRuntime) -> Result<(), Fail> {
     let mut block = Block::new(alloc)?;
     let mut pieces = 0usize;
     for root in &ROOTS {
-        let lines = lines_of(alloc, root.2)?;
+        let (row, _, _, report, _) = root;
+        let lines = lines_of(alloc, report)?;
         let mut store = built(alloc, root)?;
         let mut out = Counting::new(alloc);
         let _ = audited(alloc, &mut store, &mut block, &mut out);
-        expect_calls(&rt, &out, lines.as_str());
+        expect_calls(&rt, row, &out, lines.as_str());
         let mut out = Counting::new(alloc);
         let most = limits(MOST, MOST)?;
         let _ = run(alloc, &mut store, Cursor::new(), most, &mut block, &mut out);
-        expect_calls(&rt, &out, lines.as_str());
+        expect_calls(&rt, row, &out, lines.as_str());
         let count = lines.as_str().lines().count();
         pieces = pieces.saturating_add(count.saturating_sub(out.calls));
     }
@@ -165,6 +174,7 @@ fn lines_of_an_item_go_out_as_one_piece(rt: HostRuntime) -> Result<(), Fail> {
     let mut store = object_with(alloc, inventory.as_str())?;
     let _ = checked(alloc, &mut store, missing, &mut block, &mut out);
     let lines = "E092|o/v1/content/g|sha256 missing\nE093|o/v1/content/g|md5 missing\n";
-    expect_calls(&rt, &out, lines_of(alloc, lines)?.as_str());
+    let lines = lines_of(alloc, lines)?;
+    expect_calls(&rt, "a missing file", &out, lines.as_str());
     Ok(())
 }

@@ -49,9 +49,9 @@ fn what_is_listed_and_not_found(rt: HostRuntime) -> Result<(), Fail> {
         } else {
             String::new(rt.alloc())
         };
-        expect_audit(&rt, &mut store, text, status, note.as_str())?;
+        expect_audit(&rt, hidden, &mut store, text, status, note.as_str())?;
         if let Some((path, lines)) = check {
-            expect(&rt, &mut store, path, lines, status, note.as_str())?;
+            expect(&rt, hidden, &mut store, path, lines, status, note.as_str())?;
         }
     }
     Ok(())
@@ -65,7 +65,8 @@ fn directories_without_end(rt: HostRuntime) -> Result<(), Fail> {
     let oddity = Oddity::Repeats(place_of(alloc, "d")?);
     let path = "d/".repeat(alloc, 127)?;
     let text = format!(in alloc; "ok|.|-\nS05|{path}d|-\n")?;
-    expect_audit(&rt, &mut Odd { inner, oddity }, text.as_str(), 1, "")
+    let row = "127 directories and one more";
+    expect_audit(&rt, row, &mut Odd { inner, oddity }, text.as_str(), 1, "")
 }
 
 #[test]
@@ -77,7 +78,8 @@ fn files_of_a_head_that_never_end(rt: HostRuntime) -> Result<(), Fail> {
         let inner = right_object(rt.alloc())?;
         let oddity = Oddity::NeverEnds(place_of(rt.alloc(), file)?);
         let text = format!(in rt.alloc(); "ok|.|-\n{line}ok|o/v1/content/f|3\n")?;
-        expect_audit(&rt, &mut Odd { inner, oddity }, text.as_str(), 1, "")?;
+        let mut store = Odd { inner, oddity };
+        expect_audit(&rt, file, &mut store, text.as_str(), 1, "")?;
     }
     Ok(())
 }
@@ -97,7 +99,7 @@ fn directory_with_ten_thousand_entries(rt: HostRuntime) -> Result<(), Fail> {
         text.push_str(format!(in alloc; "E072|d/{number}|-\n")?.as_str())?;
     }
     let mut store = FsTree::at(&rt, "wide")?;
-    expect_audit(&rt, &mut store, text.as_str(), 1, "")?;
+    expect_audit(&rt, "10,000 entries", &mut store, text.as_str(), 1, "")?;
     fs::remove_dir_all(&rt, "wide")?;
     Ok(())
 }

@@ -38,6 +38,7 @@ fn expect_said(
 /// Checking the path writes this text, and ends with this status and this note.
 pub(crate) fn expect<T: Tree>(
     rt: &(impl Abort + AllocGlobal),
+    row: &str,
     store: &mut T,
     path: &str,
     text: &str,
@@ -52,12 +53,14 @@ pub(crate) fn expect<T: Tree>(
         &mut Block::new(rt.alloc())?,
         &mut out,
     );
-    expect_said(rt, out, got, (text, status, note), path)
+    let what = format!(in rt.alloc(); "{row}, checking {path}")?;
+    expect_said(rt, out, got, (text, status, note), what.as_str())
 }
 
 /// An audit of the storage root writes this text, and ends with this status and this note.
 pub(crate) fn expect_audit<T: Tree>(
     rt: &(impl Abort + AllocGlobal),
+    row: &str,
     store: &mut T,
     text: &str,
     status: u8,
@@ -65,17 +68,18 @@ pub(crate) fn expect_audit<T: Tree>(
 ) -> Result<(), Fail> {
     let (mut block, mut out) = (Block::new(rt.alloc())?, Vec::new(rt.alloc()));
     let got = audited(rt.alloc(), store, &mut block, &mut out);
-    expect_said(rt, out, got, (text, status, note), "the audit")
+    expect_said(rt, out, got, (text, status, note), row)
 }
 
 /// The head of the object has these lines; all but a clean one's are findings.
 pub(crate) fn finds(
     rt: &(impl Abort + AllocGlobal),
+    row: &str,
     store: &mut MemTree,
     lines: &str,
 ) -> Result<(), Fail> {
     let status = u8::from(lines != "ok|o|-\n");
-    expect(rt, store, "o", lines, status, "")
+    expect(rt, row, store, "o", lines, status, "")
 }
 
 /// The content behind a head that does not stop is right.
@@ -88,14 +92,15 @@ pub(crate) const STOPS: Option<&str> = Some("");
 /// there is no item for no text.
 pub(crate) fn expect_head(
     rt: &(impl Abort + AllocGlobal),
+    row: &str,
     store: &mut MemTree,
     lines: &str,
     content: Option<&str>,
 ) -> Result<(), Fail> {
-    finds(rt, store, lines)?;
+    finds(rt, row, store, lines)?;
     let Some(text) = content else {
         return Ok(());
     };
     let note = if text.is_empty() { "no item" } else { "" };
-    expect(rt, store, FILE, text, 0, note)
+    expect(rt, row, store, FILE, text, 0, note)
 }

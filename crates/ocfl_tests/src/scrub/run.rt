@@ -32,18 +32,21 @@ const SECOND_BEHIND_B: &str =
 
 const LAST_OF_THREE: &str = "spent 4 files 1 clean, ended; cycle 1 runs 3 spent 9 files 3 ended";
 
-/// The limit of files of all runs over three files, and of each run its budget, what it writes and
+/// A name, the limit of files of all runs over three files, and of each run its budget, what it writes and
 /// what it says.
-const RUNS: [(u64, &[(u64, &[&str], &str)]); 10] = [
+const RUNS: [(&str, u64, &[(u64, &[&str], &str)]); 10] = [
     (
+        "budgets of 5",
         MOST,
         &[(5, &[HEADS, A, B], TWO_BEHIND_B), (5, &[C], LAST_OF_TWO)],
     ),
     (
+        "budgets of 4",
         MOST,
         &[(4, &[HEADS, A], ONE_BEHIND_A), (4, &[B, C], LAST_TWO)],
     ),
     (
+        "budgets of 1",
         MOST,
         &[
             (1, &[HEADS, A], ONE_BEHIND_A),
@@ -51,8 +54,9 @@ const RUNS: [(u64, &[(u64, &[&str], &str)]); 10] = [
             (1, &[C], LAST_OF_THREE),
         ],
     ),
-    (MOST, &[(9, ALL, THREE_ENDED)]),
+    ("a budget of 9", MOST, &[(9, ALL, THREE_ENDED)]),
     (
+        "budgets of 4, 1 and 4",
         MOST,
         &[
             (4, &[HEADS, A], ONE_BEHIND_A),
@@ -61,6 +65,7 @@ const RUNS: [(u64, &[(u64, &[&str], &str)]); 10] = [
         ],
     ),
     (
+        "one file a run",
         1,
         &[
             (9, &[HEADS, A], ONE_BEHIND_A),
@@ -69,21 +74,27 @@ const RUNS: [(u64, &[(u64, &[&str], &str)]); 10] = [
         ],
     ),
     (
+        "two files a run",
         2,
         &[(9, &[HEADS, A, B], TWO_BEHIND_B), (9, &[C], LAST_OF_TWO)],
     ),
     (
+        "two files a run, and budgets of 5",
         2,
         &[(5, &[HEADS, A, B], TWO_BEHIND_B), (5, &[C], LAST_OF_TWO)],
     ),
-    (2, &[(4, &[HEADS, A], ONE_BEHIND_A), (4, &[B, C], LAST_TWO)]),
-    (3, &[(9, ALL, THREE_ENDED)]),
+    (
+        "two files a run, and budgets of 4",
+        2,
+        &[(4, &[HEADS, A], ONE_BEHIND_A), (4, &[B, C], LAST_TWO)],
+    ),
+    ("three files a run", 3, &[(9, ALL, THREE_ENDED)]),
 ];
 
 #[test]
 fn budgets_and_limits_of_files(rt: HostRuntime) -> Result<(), Fail> {
-    for (files, runs) in RUNS {
-        expect_runs(&rt, &mut three_files(rt.alloc())?, files, runs)?;
+    for (row, files, runs) in RUNS {
+        expect_runs(&rt, row, &mut three_files(rt.alloc())?, files, runs)?;
     }
     Ok(())
 }
@@ -93,22 +104,24 @@ fn free_item_behind_the_last_file(rt: HostRuntime) -> Result<(), Fail> {
     let pieces = [HEADS, "ok|o/v1/content/f|3\nE023|o/v1/content/z|-\n"];
     let said = "spent 4 files 1 found, ended; cycle 1 runs 1 spent 4 files 1 ended";
     let all_said = "runs 1 spent 4 files 1 found, ended; cycle 1 runs 1 spent 4 files 1 ended";
-    for (budget, files) in [(4, MOST), (9, 1)] {
+    for (row, budget, files) in [("the budget is spent", 4, MOST), ("one file a run", 9, 1)] {
         let mut store = right_object(rt.alloc())?;
         put(rt.alloc(), &mut store, "o/v1/content/z", b"abc")?;
-        expect_runs(&rt, &mut store, files, &[(budget, &pieces, said)])?;
+        expect_runs(&rt, row, &mut store, files, &[(budget, &pieces, said)])?;
         let two = equal_limits(rt.alloc(), 2, budget, files)?;
-        expect_cycle(&rt, &mut store, two.as_slice(), &pieces, all_said)?;
-        assert_eq!(rt; times_opened(rt.alloc(), &store, "o/v1/content/z")?, 0);
+        expect_cycle(&rt, row, &mut store, two.as_slice(), &pieces, all_said)?;
+        let opened = times_opened(rt.alloc(), &store, "o/v1/content/z")?;
+        assert_eq!(rt; opened, 0, "{row}");
     }
     Ok(())
 }
 
 #[test]
-fn root_with_nothing_else(rt: HostRuntime) -> Result<(), Fail> {
+fn a_run_over_a_bare_root(rt: HostRuntime) -> Result<(), Fail> {
     let said = "spent 0 files 0 clean, ended; cycle 1 runs 1 spent 0 files 0 ended";
     expect_runs(
         &rt,
+        "the declaration alone",
         &mut bare_root(rt.alloc())?,
         MOST,
         &[(1, &["ok|.|-\n"], said)],
@@ -132,7 +145,7 @@ fn slash_before_dash(rt: HostRuntime) -> Result<(), Fail> {
             "spent 4 files 1 clean, ended; cycle 1 runs 2 spent 8 files 2 ended",
         ),
     ];
-    expect_runs(&rt, &mut store, MOST, &runs)
+    expect_runs(&rt, "a slash before a dash", &mut store, MOST, &runs)
 }
 
 /// Runs from behind these places write these pieces and say this.
@@ -143,7 +156,16 @@ fn expect_behind(
 ) -> Result<(), Fail> {
     for (after, pieces, said) in rows {
         let cursor = cursor_after(rt.alloc(), after)?;
-        expect_run(rt, store, cursor, limits(9, MOST)?, pieces, said)?;
+        let row = format!(in rt.alloc(); "after {after}")?;
+        expect_run(
+            rt,
+            row.as_str(),
+            store,
+            cursor,
+            limits(9, MOST)?,
+            pieces,
+            said,
+        )?;
     }
     Ok(())
 }
@@ -186,13 +208,22 @@ fn cursor_behind_any_place(rt: HostRuntime) -> Result<(), Fail> {
 #[test]
 fn largest_limits_and_figures(rt: HostRuntime) -> Result<(), Fail> {
     let mut store = three_files(rt.alloc())?;
-    expect_runs(&rt, &mut store, MOST, &[(MOST, ALL, THREE_ENDED)])?;
+    let row = "the largest limits";
+    expect_runs(&rt, row, &mut store, MOST, &[(MOST, ALL, THREE_ENDED)])?;
     let state = State::After(place_of(rt.alloc(), "o/v1/content/b")?);
     let spent = 9_223_372_036_854_775_808u128;
     let cursor = Cursor::from_parts(1, 1, spent, spent, state).ok_or("no cursor")?;
     let said =
         "spent 4 files 1 clean, ended; cycle 1 runs 2 spent 9223372036854775812 files 9223372036854775809 ended";
-    expect_run(&rt, &mut store, cursor, limits(9, MOST)?, &[C], said)?;
+    expect_run(
+        &rt,
+        "the largest figures",
+        &mut store,
+        cursor,
+        limits(9, MOST)?,
+        &[C],
+        said,
+    )?;
     Ok(())
 }
 
@@ -204,15 +235,21 @@ fn run_behind_the_end_of_a_cycle(rt: HostRuntime) -> Result<(), Fail> {
     let mut store = three_files(rt.alloc())?;
     let before = 18_446_744_073_709_551_614u64;
     let ended = Cursor::from_parts(1, 2, 9, 3, State::Ended).ok_or("no cursor")?;
-    for (cursor, says) in [
-        (ended, "cycle 2 runs 1"),
+    for (row, cursor, says) in [
+        ("the end of a first cycle", ended, "cycle 2 runs 1"),
         // The last run and the last cycle are not worn.
-        (cursor_of(1, LAST, State::Ended)?, "cycle 2 runs 1"),
         (
+            "the end after the last run",
+            cursor_of(1, LAST, State::Ended)?,
+            "cycle 2 runs 1",
+        ),
+        (
+            "the end of the last cycle but one",
             cursor_of(before, 5, State::Ended)?,
             "cycle 18446744073709551615 runs 1",
         ),
         (
+            "the last run of the last cycle",
             cursor_of(LAST, before, State::Start)?,
             "cycle 18446744073709551615 runs 18446744073709551615",
         ),
@@ -222,6 +259,7 @@ fn run_behind_the_end_of_a_cycle(rt: HostRuntime) -> Result<(), Fail> {
         )?;
         expect_run(
             &rt,
+            row,
             &mut store,
             cursor,
             limits(9, MOST)?,
@@ -231,7 +269,15 @@ fn run_behind_the_end_of_a_cycle(rt: HostRuntime) -> Result<(), Fail> {
     }
     let ended = Cursor::from_parts(2, 1, 9, 3, State::Ended).ok_or("no cursor")?;
     let said = "spent 4 files 1 clean, open; cycle 3 runs 1 spent 4 files 1 after o/v1/content/a";
-    expect_run(&rt, &mut store, ended, limits(1, MOST)?, &[HEADS, A], said)?;
+    expect_run(
+        &rt,
+        "a budget of 1",
+        &mut store,
+        ended,
+        limits(1, MOST)?,
+        &[HEADS, A],
+        said,
+    )?;
     Ok(())
 }
 
@@ -259,7 +305,7 @@ fn is_worn(rt: &(impl Abort + AllocGlobal), cursor: Cursor, says: &str) -> Resul
 }
 
 #[test]
-fn worn_cursors(rt: HostRuntime) -> Result<(), Fail> {
+fn runs_from_worn_cursors(rt: HostRuntime) -> Result<(), Fail> {
     let ended = Cursor::from_parts(LAST, 3, 9, 3, State::Ended).ok_or("no cursor")?;
     is_worn(
         &rt,
@@ -284,20 +330,23 @@ fn worn_cursors(rt: HostRuntime) -> Result<(), Fail> {
 // ---- what a run lists, and which inventories it opens
 
 /// What each run over three objects writes and says, which inventories it opens, and what it lists.
-const ONE_OBJECT_A_RUN: [(&[&str], &str, &str, &str); 3] = [
+const ONE_OBJECT_A_RUN: [(&str, &[&str], &str, &str, &str); 3] = [
     (
+        "the first run",
         &["ok|.|-\nok|o1|-\nok|o1/v1/content/f|3\nok|o2|-\n"],
         "spent 4 files 1 clean, open; cycle 1 runs 1 spent 4 files 1 after o2",
         "o1/inventory.json;o2/inventory.json;",
         ";o1;o1/v1;o1/v1/content;o2;o2/v1;o2/v1/content;",
     ),
     (
+        "the second run",
         &["ok|o2/v1/content/f|3\nok|o3|-\n"],
         "spent 4 files 1 clean, open; cycle 1 runs 2 spent 8 files 2 after o3",
         "o2/inventory.json;o3/inventory.json;",
         ";o2;o2/v1;o2/v1/content;o3;o3/v1;o3/v1/content;",
     ),
     (
+        "the third run",
         &["ok|o3/v1/content/f|3\n"],
         "spent 4 files 1 clean, ended; cycle 1 runs 3 spent 12 files 3 ended",
         "o3/inventory.json;",
@@ -309,12 +358,13 @@ const ONE_OBJECT_A_RUN: [(&[&str], &str, &str, &str); 3] = [
 fn one_object_a_run(rt: HostRuntime) -> Result<(), Fail> {
     let mut store = right_objects(rt.alloc(), &["o1", "o2", "o3"])?;
     let mut cursor = Cursor::new();
-    for (pieces, said, inventories, listed) in ONE_OBJECT_A_RUN {
+    for (row, pieces, said, inventories, listed) in ONE_OBJECT_A_RUN {
         let (opened, seen) = (store.openings().len(), store.listings().len());
-        cursor = expect_run(&rt, &mut store, cursor, limits(1, MOST)?, pieces, said)?;
+        cursor = expect_run(&rt, row, &mut store, cursor, limits(1, MOST)?, pieces, said)?;
         let paths = opened_from(rt.alloc(), &store, opened, "/inventory.json")?;
-        assert_eq!(rt; paths.as_str(), inventories);
-        assert_eq!(rt; listed_from(rt.alloc(), &store, seen)?.as_str(), listed);
+        assert_eq!(rt; paths.as_str(), inventories, "{row}");
+        let lists = listed_from(rt.alloc(), &store, seen)?;
+        assert_eq!(rt; lists.as_str(), listed, "{row}");
     }
     let paths = opened_from(rt.alloc(), &store, 0, "/inventory.json")?;
     assert_eq!(rt; paths.as_str().split(';').count(), 6);

@@ -126,6 +126,7 @@ pub(crate) fn cycle_says(alloc: Global, cycle: &CycleEnd) -> Result<String, Fail
 /// A run from the cursor writes these pieces, and says this. It gives its cursor.
 pub(crate) fn expect_run<T: Tree>(
     rt: &(impl Abort + AllocGlobal),
+    row: &str,
     store: &mut T,
     cursor: Cursor,
     limits: Limits,
@@ -136,9 +137,9 @@ pub(crate) fn expect_run<T: Tree>(
     let mut out = Vec::new(alloc);
     let mut block = Block::new(alloc)?;
     let end = run(alloc, store, cursor, limits, &mut block, &mut out);
-    expect_text(rt, out, pieces, said)?;
+    expect_text(rt, row, out, pieces, said)?;
     let says = run_says(alloc, &end)?;
-    assert_eq!(rt; says.as_str(), said);
+    assert_eq!(rt; says.as_str(), said, "{row}");
     let RunEnd { cursor, .. } = end;
     Ok(cursor)
 }
@@ -146,6 +147,7 @@ pub(crate) fn expect_run<T: Tree>(
 /// These bytes are the pieces, one after the other, with tabs for their bars.
 fn expect_text(
     rt: &(impl Abort + AllocGlobal),
+    row: &str,
     out: Vec<u8>,
     pieces: &[&str],
     said: &str,
@@ -158,7 +160,7 @@ fn expect_text(
     assert_eq!(rt;
         wrote.as_str(),
         lines_of(rt.alloc(), text.as_str())?.as_str(),
-        "{said}"
+        "{row}: {said}"
     );
     Ok(())
 }
@@ -167,13 +169,22 @@ fn expect_text(
 /// pieces and say this.
 pub(crate) fn expect_runs<T: Tree>(
     rt: &(impl Abort + AllocGlobal),
+    row: &str,
     store: &mut T,
     files: u64,
     runs: &[(u64, &[&str], &str)],
 ) -> Result<(), Fail> {
     let mut cursor = Cursor::new();
     for (budget, pieces, said) in runs {
-        cursor = expect_run(rt, store, cursor, limits(*budget, files)?, pieces, said)?;
+        cursor = expect_run(
+            rt,
+            row,
+            store,
+            cursor,
+            limits(*budget, files)?,
+            pieces,
+            said,
+        )?;
     }
     Ok(())
 }
@@ -181,6 +192,7 @@ pub(crate) fn expect_runs<T: Tree>(
 /// A cycle with these limits writes these pieces, and says this.
 pub(crate) fn expect_cycle<T: Tree>(
     rt: &(impl Abort + AllocGlobal),
+    row: &str,
     store: &mut T,
     limits: &[Limits],
     pieces: &[&str],
@@ -190,9 +202,9 @@ pub(crate) fn expect_cycle<T: Tree>(
     let mut out = Vec::new(alloc);
     let mut block = Block::new(alloc)?;
     let end = cycle(alloc, store, limits, &mut block, &mut out);
-    expect_text(rt, out, pieces, said)?;
+    expect_text(rt, row, out, pieces, said)?;
     let says = cycle_says(alloc, &end)?;
-    assert_eq!(rt; says.as_str(), said);
+    assert_eq!(rt; says.as_str(), said, "{row}");
     Ok(())
 }
 

@@ -15,7 +15,7 @@ use std::process::Abort;
 use std::test::Fail;
 
 #[test]
-fn output_of_ten_bytes(rt: HostRuntime) -> Result<(), Fail> {
+fn a_run_into_ten_bytes(rt: HostRuntime) -> Result<(), Fail> {
     let mut store = long_object(rt.alloc(), "ABC_SHA512")?;
     let (mut block, mut out) = (Block::new(rt.alloc())?, Narrow::new(rt.alloc(), 10));
     let most = limits(9, MOST)?;
@@ -34,6 +34,7 @@ fn output_of_ten_bytes(rt: HostRuntime) -> Result<(), Fail> {
     let said = "spent 4 files 1 clean, ended; cycle 1 runs 2 spent 4 files 1 ended";
     expect_run(
         &rt,
+        "the rest",
         &mut store,
         cursor,
         most,
@@ -48,30 +49,33 @@ fn stop_at_once(rt: HostRuntime) -> Result<(), Fail> {
     let behind = cursor_after(rt.alloc(), "o/v1/content/a")?;
     let ended = Cursor::from_parts(1, 2, 9, 3, State::Ended).ok_or("no cursor")?;
     let same = Cursor::from_parts(1, 2, 9, 3, State::Ended).ok_or("no cursor")?;
-    let rows: [(&str, Cursor, &[&str], &str); 3] = [
+    let rows: [(&str, &str, Cursor, &[&str], &str); 3] = [
         (
+            "on the way to the place",
             "o/v1/content",
             behind,
             &[],
             "spent 0 files 0 clean, stopped at o/v1/content; cycle 1 runs 1 spent 0 files 0 after o/v1/content/a",
         ),
         (
+            "in the next cycle",
             "o/v1/content",
             ended,
             &[HEADS],
             "spent 0 files 0 clean, stopped at o/v1/content; cycle 2 runs 1 spent 0 files 0 after o",
         ),
         (
+            "at the root",
             ".",
             same,
             &[],
             "spent 0 files 0 clean, stopped at .; cycle 2 runs 1 spent 0 files 0 start",
         ),
     ];
-    for (place, cursor, pieces, said) in rows {
+    for (row, place, cursor, pieces, said) in rows {
         let mut store = three_files(rt.alloc())?;
         store.fail_at(&place_of(rt.alloc(), place)?, Point::List)?;
-        expect_run(&rt, &mut store, cursor, limits(9, MOST)?, pieces, said)?;
+        expect_run(&rt, row, &mut store, cursor, limits(9, MOST)?, pieces, said)?;
     }
     Ok(())
 }
@@ -130,15 +134,13 @@ fn expect_failing_runs(
         store.fail_call(call);
         let (joined, stopped) = runs_joined(rt.alloc(), &mut store, budget)?;
         let failed = store.failures() > 0;
-        assert!(rt; failed || call > 1);
+        let row = format!(in rt.alloc(); "call {call} of root {number}, budget {budget}")?;
+        assert!(rt; failed || call > 1, "{row}");
         stops |= stopped;
         if stopped || !failed {
-            assert!(rt;
-                joined == root.all,
-                "call {call} of {number}, budget {budget}"
-            );
+            assert!(rt; joined == root.all, "{row}");
         } else {
-            assert!(rt; joined.contains("\nS08\t"), "call {call} of {number}");
+            assert!(rt; joined.contains("\nS08\t"), "{row}");
         }
         if !failed {
             break;
@@ -149,7 +151,7 @@ fn expect_failing_runs(
 }
 
 #[test]
-fn store_that_fails_at_each_call(rt: HostRuntime) -> Result<(), Fail> {
+fn runs_with_each_call_failing(rt: HostRuntime) -> Result<(), Fail> {
     for number in 0..ROOTS {
         let root = Tried::new(rt.alloc(), number)?;
         expect_failing_runs(&rt, &root, 100)?;
@@ -191,11 +193,13 @@ pub(crate) fn expect_cut_runs(
     budget: u64,
 ) -> Result<(), Fail> {
     let mut out = Narrow::new(rt.alloc(), room);
+    let number = root.number;
+    let row = format!(in rt.alloc(); "root {number}, budget {budget}, after {room} bytes")?;
     let cursor = until_stopped(rt.alloc(), &mut root.store, budget, &mut out)?;
-    assert!(rt; root.begins_with(out.kept.as_slice(), room), "room {room}");
+    assert!(rt; root.begins_with(out.kept.as_slice(), room), "{row}");
     let (due, left) = due_of(root.all.as_str(), room)?;
-    assert_eq!(rt; cursor.spent(), u128::from(due.spent), "after {room} bytes");
-    assert_eq!(rt; cursor.files(), u128::from(due.files), "after {room} bytes");
+    assert_eq!(rt; cursor.spent(), u128::from(due.spent), "{row}");
+    assert_eq!(rt; cursor.files(), u128::from(due.files), "{row}");
     let (mut block, mut more) = (Block::new(rt.alloc())?, Vec::new(rt.alloc()));
     let most = limits(MOST, MOST)?;
     let _ = run(
@@ -206,10 +210,6 @@ pub(crate) fn expect_cut_runs(
         &mut block,
         &mut more,
     );
-    assert_eq!(rt;
-        String::from_utf8(more)?.as_str(),
-        left,
-        "after {room} bytes"
-    );
+    assert_eq!(rt; String::from_utf8(more)?.as_str(), left, "{row}");
     Ok(())
 }

@@ -25,6 +25,7 @@ struct Done {
 /// Makes one more run. Its figures are those of its own report. It says whether items are left.
 fn one_more(
     rt: &(impl Abort + AllocGlobal),
+    row: &str,
     store: &mut MemTree,
     done: &mut Done,
     dice: &mut Dice,
@@ -41,15 +42,15 @@ fn one_more(
     let end = run(alloc, store, from, limits, &mut done.block, &mut out);
     let text = String::from_utf8(out)?;
     let due = reckoned(text.as_str())?;
-    assert_eq!(rt; end.spent, due.spent, "{text}");
-    assert_eq!(rt; end.files, due.files, "{text}");
-    assert_eq!(rt; end.found, due.found, "{text}");
+    assert_eq!(rt; end.spent, due.spent, "{row}: {text}");
+    assert_eq!(rt; end.files, due.files, "{row}: {text}");
+    assert_eq!(rt; end.found, due.found, "{row}: {text}");
     done.joined.push_str(text.as_str())?;
     let RunEnd { cursor, end, .. } = end;
     done.cursor = cursor;
     assert!(rt;
         matches!(end, RunStatus::Spent | RunStatus::Ended),
-        "{text}"
+        "{row}: {text}"
     );
     Ok(matches!(end, RunStatus::Spent))
 }
@@ -57,6 +58,7 @@ fn one_more(
 /// Makes runs with limits of all kinds until no item is left.
 fn runs_of(
     rt: &(impl Abort + AllocGlobal),
+    row: &str,
     store: &mut MemTree,
     dice: &mut Dice,
 ) -> Result<Done, Fail> {
@@ -70,7 +72,7 @@ fn runs_of(
         block: Block::new(alloc)?,
     };
     for _ in 0..1_000u64 {
-        if !one_more(rt, store, &mut done, dice)? {
+        if !one_more(rt, row, store, &mut done, dice)? {
             return Ok(done);
         }
     }
@@ -93,35 +95,42 @@ fn contents(store: &MemTree) -> usize {
 }
 
 /// The runs are no more than the sums and the least limits allow.
-fn within(rt: &(impl Abort + AllocGlobal), done: &Done, all: &Figures) -> Result<(), Fail> {
+fn within(
+    rt: &(impl Abort + AllocGlobal),
+    row: &str,
+    done: &Done,
+    all: &Figures,
+) -> Result<(), Fail> {
     let by_cost = all.spent.checked_div(done.least_budget).ok_or("no budget")?;
     let by_files = all.files.checked_div(done.least_files).ok_or("no limit")?;
     let most = by_cost.checked_add(by_files).ok_or("too many")?;
-    assert!(rt; done.cursor.runs() <= most.saturating_add(1));
-    assert_eq!(rt; done.cursor.spent(), u128::from(all.spent));
-    assert_eq!(rt; done.cursor.files(), u128::from(all.files));
-    assert_eq!(rt; done.cursor.cycle(), 1);
+    assert!(rt; done.cursor.runs() <= most.saturating_add(1), "{row}");
+    assert_eq!(rt; done.cursor.spent(), u128::from(all.spent), "{row}");
+    assert_eq!(rt; done.cursor.files(), u128::from(all.files), "{row}");
+    assert_eq!(rt; done.cursor.cycle(), 1, "{row}");
     Ok(())
 }
 
 /// Each file was opened once, and an inventory once more for each run behind the first at most.
 fn opened_once(
     rt: &(impl Abort + AllocGlobal),
+    row: &str,
     once: &MemTree,
     store: &MemTree,
     done: &Done,
 ) -> Result<(), Fail> {
     let alloc = rt.alloc();
-    assert_eq!(rt; done.cursor.files(), contents(store) as u128);
+    assert_eq!(rt; done.cursor.files(), contents(store) as u128, "{row}");
     let spare = done.limits.len().saturating_sub(1);
     let most = inventories(alloc, once)?.saturating_add(spare);
-    assert!(rt; inventories(alloc, store)? <= most);
+    assert!(rt; inventories(alloc, store)? <= most, "{row}");
     Ok(())
 }
 
 /// A cycle with the limits of these runs writes this report, and has its figures.
 fn cycle_is_the_audit(
     rt: &(impl Abort + AllocGlobal),
+    row: &str,
     store: &mut MemTree,
     done: &mut Done,
     text: &str,
@@ -130,12 +139,12 @@ fn cycle_is_the_audit(
     let mut out = Vec::new(rt.alloc());
     let limits = done.limits.as_slice();
     let end = cycle(rt.alloc(), store, limits, &mut done.block, &mut out);
-    assert!(rt; matches!(end.end, CycleStatus::Ended));
-    assert_eq!(rt; end.runs, limits.len());
-    assert_eq!(rt; end.spent, u128::from(all.spent));
-    assert_eq!(rt; end.files, u128::from(all.files));
-    assert_eq!(rt; end.found, all.found);
-    assert!(rt; out.as_slice() == text.as_bytes());
+    assert!(rt; matches!(end.end, CycleStatus::Ended), "{row}");
+    assert_eq!(rt; end.runs, limits.len(), "{row}");
+    assert_eq!(rt; end.spent, u128::from(all.spent), "{row}");
+    assert_eq!(rt; end.files, u128::from(all.files), "{row}");
+    assert_eq!(rt; end.found, all.found, "{row}");
+    assert!(rt; out.as_slice() == text.as_bytes(), "{row}");
     Ok(())
 }
 
@@ -143,6 +152,8 @@ fn cycle_is_the_audit(
 /// with the same limits.
 fn root_of_seed(rt: &(impl Abort + AllocGlobal), seed: u64) -> Result<(), Fail> {
     let alloc = rt.alloc();
+    let row = format!(in alloc; "seed {seed}")?;
+    let row = row.as_str();
     let mut once = grow(alloc, seed)?;
     let text = whole(alloc, &mut once.store)?;
     let all = reckoned(text.as_str())?;
@@ -150,12 +161,12 @@ fn root_of_seed(rt: &(impl Abort + AllocGlobal), seed: u64) -> Result<(), Fail> 
     let mut dice = Dice {
         state: seed.wrapping_add(1_000_000),
     };
-    let mut done = runs_of(rt, &mut grown.store, &mut dice)?;
-    assert_eq!(rt; done.joined.as_str(), text.as_str(), "seed {seed}");
-    within(rt, &done, &all)?;
-    opened_once(rt, &once.store, &grown.store, &done)?;
+    let mut done = runs_of(rt, row, &mut grown.store, &mut dice)?;
+    assert_eq!(rt; done.joined.as_str(), text.as_str(), "{row}");
+    within(rt, row, &done, &all)?;
+    opened_once(rt, row, &once.store, &grown.store, &done)?;
     let mut again = grow(alloc, seed)?;
-    cycle_is_the_audit(rt, &mut again.store, &mut done, text.as_str(), &all)
+    cycle_is_the_audit(rt, row, &mut again.store, &mut done, text.as_str(), &all)
 }
 
 #[test]

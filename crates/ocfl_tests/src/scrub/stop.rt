@@ -18,12 +18,27 @@ use std::alloc::Global;
 use std::process::Abort;
 use std::test::Fail;
 
-/// Calls that fail over the root of an object by sha512: their places, what was written before, the
+/// Calls that fail over the root of an object by sha512: their names, their places, what was written before, the
 /// note, and where the cursor of a run stands.
-pub(crate) const STOPS: [(&str, Point, &str, &str, &str); 3] = [
-    (".", Point::List, "", "stopped at .", "start"),
-    ("o", Point::List, "ok|.|-\n", "stopped at o", "after ."),
+pub(crate) const STOPS: [(&str, &str, Point, &str, &str, &str); 3] = [
     (
+        "listing the root",
+        ".",
+        Point::List,
+        "",
+        "stopped at .",
+        "start",
+    ),
+    (
+        "listing the object",
+        "o",
+        Point::List,
+        "ok|.|-\n",
+        "stopped at o",
+        "after .",
+    ),
+    (
+        "reading the inventory",
         "o/inventory.json",
         Point::Read(0),
         "ok|.|-\n",
@@ -43,16 +58,19 @@ pub(crate) fn stopping(alloc: Global, place: &str, point: Point) -> Result<MemTr
 fn calls_that_stop(rt: HostRuntime) -> Result<(), Fail> {
     let alloc = rt.alloc();
     let (one, two) = (limits(9, MOST)?, budgets(alloc, &[9, 9])?);
-    for (place, point, text, note, state) in STOPS {
-        expect_audit(&rt, &mut stopping(alloc, place, point)?, text, 3, note)?;
+    for (row, place, point, text, note, state) in STOPS {
+        let mut store = stopping(alloc, place, point)?;
+        expect_audit(&rt, row, &mut store, text, 3, note)?;
         let said = format!(in alloc;
             "spent 0 files 0 clean, {note}; cycle 1 runs 1 spent 0 files 0 {state}"
         )?;
         let mut store = stopping(alloc, place, point)?;
-        expect_run(&rt, &mut store, Cursor::new(), one, &[text], said.as_str())?;
+        let start = Cursor::new();
+        expect_run(&rt, row, &mut store, start, one, &[text], said.as_str())?;
         let said = format!(in alloc; "runs 1 {said}")?;
         let mut store = stopping(alloc, place, point)?;
-        expect_cycle(&rt, &mut store, two.as_slice(), &[text], said.as_str())?;
+        let limits = two.as_slice();
+        expect_cycle(&rt, row, &mut store, limits, &[text], said.as_str())?;
     }
     Ok(())
 }
@@ -62,7 +80,8 @@ fn nothing_is_listed_after_a_listing_that_fails(rt: HostRuntime) -> Result<(), F
     let alloc = rt.alloc();
     let mut store = stopping(alloc, "o", Point::List)?;
     store.put_dir(&place_of(alloc, "p")?)?;
-    expect_audit(&rt, &mut store, "ok|.|-\n", 3, "stopped at o")?;
+    let row = "listing the object";
+    expect_audit(&rt, row, &mut store, "ok|.|-\n", 3, "stopped at o")?;
     let listed = [Place::root(alloc), place_of(alloc, "o")?];
     assert!(rt; store.listings() == listed.as_slice());
     Ok(())
@@ -139,17 +158,19 @@ fn expect_cut_audit(
 ) -> Result<(), Fail> {
     let alloc = rt.alloc();
     let mut block = Block::new(alloc)?;
+    let row = format!(in alloc; "root {}, room {room}", root.number)?;
     let mut out = Narrow::new(alloc, room);
     let (status, note) = audited(alloc, &mut root.store, &mut block, &mut out);
-    assert_eq!(rt; status, 3);
-    assert_eq!(rt; format!(in alloc; "{note}")?.as_str(), "output failed");
-    assert!(rt; root.begins_with(out.kept.as_slice(), room), "room {room}");
+    assert_eq!(rt; status, 3, "{row}");
+    let said = format!(in alloc; "{note}")?;
+    assert_eq!(rt; said.as_str(), "output failed", "{row}");
+    assert!(rt; root.begins_with(out.kept.as_slice(), room), "{row}");
     let mut out = Narrow::new(alloc, room);
     let end = audit(alloc, &mut root.store, &mut block, &mut out);
     let rest = rest_behind(alloc, &mut root.store, end.last.as_ref(), &mut block)?;
     let gone = root.all.strip_suffix(rest.as_str()).ok_or("no such end")?;
-    assert!(rt; out.kept.starts_with(gone.as_bytes()), "room {room}");
-    assert!(rt; root.begins_with(out.kept.as_slice(), room), "room {room}");
+    assert!(rt; out.kept.starts_with(gone.as_bytes()), "{row}");
+    assert!(rt; root.begins_with(out.kept.as_slice(), room), "{row}");
     Ok(())
 }
 
@@ -181,33 +202,34 @@ fn expect_failing_audit(
     let (mut block, mut out) = (Block::new(alloc)?, Vec::new(alloc));
     let mut store = root_by(alloc, root.number)?;
     store.fail_call(call);
+    let row = format!(in alloc; "call {call} of root {}", root.number)?;
     let (status, _) = audited(alloc, &mut store, &mut block, &mut out);
     let text = String::from_utf8(out)?;
     if store.failures() == 0 {
-        assert_eq!(rt; text.as_str(), root.all.as_str());
+        assert_eq!(rt; text.as_str(), root.all.as_str(), "{row}");
         return Ok(false);
     }
     if status == 3 {
-        assert!(rt; root.all.starts_with(text.as_str()), "call {call}");
-        assert!(rt; text.is_empty() || text.ends_with('\n'), "call {call}");
+        assert!(rt; root.all.starts_with(text.as_str()), "{row}");
+        assert!(rt; text.is_empty() || text.ends_with('\n'), "{row}");
     } else {
-        assert!(rt; text.contains("\nS08\t"), "call {call}");
+        assert!(rt; text.contains("\nS08\t"), "{row}");
     }
     let mut store = root_by(alloc, root.number)?;
     store.fail_call(call);
     let end = audit(alloc, &mut store, &mut block, &mut Vec::new(alloc));
     let rest = rest_behind(alloc, &mut store, end.last.as_ref(), &mut block)?;
     if text.contains("\nS08\t") {
-        assert_eq!(rt; rest.as_str(), "", "call {call}");
+        assert_eq!(rt; rest.as_str(), "", "{row}");
     } else {
         let joined = format!(in alloc; "{text}{rest}")?;
-        assert_eq!(rt; joined.as_str(), root.all.as_str(), "call {call}");
+        assert_eq!(rt; joined.as_str(), root.all.as_str(), "{row}");
     }
     Ok(true)
 }
 
 #[test]
-fn store_that_fails_at_each_call(rt: HostRuntime) -> Result<(), Fail> {
+fn audits_with_each_call_failing(rt: HostRuntime) -> Result<(), Fail> {
     for number in 0..ROOTS {
         let root = Tried::new(rt.alloc(), number)?;
         for call in 1..1_000u64 {

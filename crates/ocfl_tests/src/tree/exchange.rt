@@ -111,8 +111,12 @@ fn read_as(rt: &HostRuntime, spare: &'static str) -> Result<Result<usize, Troubl
 #[test]
 fn an_exchanged_file_is_the_devices(rt: HostRuntime) -> Result<(), Fail> {
     assert_eq!(rt; read_as(&rt, "")?, Ok(4));
-    for spare in ["exchange/other", "exchange/link", "exchange/dir"] {
-        assert_eq!(rt; read_as(&rt, spare)?, Err(Trouble::Device));
+    for (row, spare) in [
+        ("another file", "exchange/other"),
+        ("a link", "exchange/link"),
+        ("a directory", "exchange/dir"),
+    ] {
+        assert_eq!(rt; read_as(&rt, spare)?, Err(Trouble::Device), "{row}");
     }
     // It was looked at, and then went away.
     assert_eq!(rt; read_as(&rt, "exchange/missing")?, Err(Trouble::Absent));

@@ -12,7 +12,7 @@ use std::rc::Rc;
 use std::rt::Files;
 use std::test::Fail;
 
-#[derive(Clone, Copy, PartialEq, Eq)]
+#[derive(Clone, Copy, PartialEq, Eq, Debug)]
 enum Call {
     OpenDir,
     Name,
@@ -263,13 +263,16 @@ fn interrupted_calls_are_made_again(rt: HostRuntime) -> Result<(), Fail> {
     let names = b"a\0b\0";
     let kind = ErrorKind::Interrupted;
     for (often, answers) in [(5, true), (u32::MAX, false)] {
+        let row = format!(in alloc; "interrupted {often} times")?;
         for call in [Call::Metadata, Call::OpenDir, Call::Name] {
             let want = if answers { Ok(2) } else { Err(Trouble::Device) };
-            assert_eq!(rt; listed(Fake::new(alloc, names, call, kind, often)?)?, want);
+            let answer = listed(Fake::new(alloc, names, call, kind, often)?)?;
+            assert_eq!(rt; answer, want, "{call:?} {row}");
         }
         for call in [Call::Metadata, Call::OpenFile, Call::Opened, Call::Read] {
             let want = if answers { Ok(3) } else { Err(Trouble::Device) };
-            assert_eq!(rt; read(Fake::new(alloc, names, call, kind, often)?)?, want);
+            let answer = read(Fake::new(alloc, names, call, kind, often)?)?;
+            assert_eq!(rt; answer, want, "{call:?} {row}");
         }
     }
     Ok(())
@@ -286,19 +289,18 @@ fn faults_of_the_system_are_told_apart(rt: HostRuntime) -> Result<(), Fail> {
         (ErrorKind::Other, Trouble::Device),
     ] {
         for call in [Call::Metadata, Call::OpenDir] {
-            assert_eq!(rt; listed(Fake::new(alloc, names, call, kind, 1)?)?, Err(want));
+            let answer = listed(Fake::new(alloc, names, call, kind, 1)?)?;
+            assert_eq!(rt; answer, Err(want), "{kind:?} of {call:?}");
         }
-        assert_eq!(rt;
-            read(Fake::new(alloc, names, Call::OpenFile, kind, 1)?)?,
-            Err(want)
-        );
+        let answer = read(Fake::new(alloc, names, Call::OpenFile, kind, 1)?)?;
+        assert_eq!(rt; answer, Err(want), "{kind:?} of an opening");
         let answer = read(Fake::new(alloc, names, Call::Read, kind, 1)?)?;
-        assert_eq!(rt; answer, Err(Trouble::Device));
+        assert_eq!(rt; answer, Err(Trouble::Device), "{kind:?} of a read");
         // A file that is open is there.
         let answer = read(Fake::new(alloc, names, Call::Opened, kind, 1)?)?;
         let absent = want == Trouble::Absent;
         let want = if absent { Trouble::Device } else { want };
-        assert_eq!(rt; answer, Err(want));
+        assert_eq!(rt; answer, Err(want), "{kind:?} of an open file");
     }
     Ok(())
 }
@@ -321,13 +323,13 @@ fn strange_listings_are_the_devices(rt: HostRuntime) -> Result<(), Fail> {
         listed(Fake::new(alloc, names, Call::Name, kind, 0)?)?,
         Ok(2)
     );
-    for names in [
-        b"a\0b\0a\0".as_slice(),
-        b"a\0\xff\0".as_slice(),
-        b"a\0gone\0".as_slice(),
+    for (row, names) in [
+        ("a name twice", b"a\0b\0a\0".as_slice()),
+        ("a name that is not UTF-8", b"a\0\xff\0".as_slice()),
+        ("a name that is gone", b"a\0gone\0".as_slice()),
     ] {
         let answer = listed(Fake::new(alloc, names, Call::Name, kind, 0)?)?;
-        assert_eq!(rt; answer, Err(Trouble::Device));
+        assert_eq!(rt; answer, Err(Trouble::Device), "{row}");
     }
     let answer = listed(Fake::new(alloc, names, Call::Name, kind, 1)?)?;
     assert_eq!(rt; answer, Err(Trouble::Device));
@@ -348,7 +350,7 @@ fn a_listing_that_fails_behind_its_names_is_no_listing(rt: HostRuntime) -> Resul
         (ErrorKind::Interrupted, u32::MAX, Err(Trouble::Device)),
     ] {
         let answer = listed(Fake::new(alloc, names, Call::End, kind, often)?)?;
-        assert_eq!(rt; answer, want, "{kind:?}");
+        assert_eq!(rt; answer, want, "{kind:?}, {often} times");
     }
     Ok(())
 }

@@ -71,13 +71,15 @@ fn both_stores_hold_the_same(rt: HostRuntime) -> Result<(), Fail> {
     let mut memory = same_in_memory(rt.alloc())?;
     lists(
         &rt,
+        "all kinds of entries",
         &mut folder,
         &Place::root(rt.alloc()),
         "a-b File;big File;d Dir;empty File;to_dir Other;to_file Other;to_nothing Other;",
     )?;
     for path in ["", "d", "d/inner"] {
         let dir = place_of(rt.alloc(), path)?;
-        assert_eq!(rt; sorted(&mut folder, &dir)?, sorted(&mut memory, &dir)?);
+        let (found, want) = (sorted(&mut folder, &dir)?, sorted(&mut memory, &dir)?);
+        assert_eq!(rt; found, want, "{path}");
     }
     for path in ["a-b", "big", "empty", "d/inner/é"] {
         let file = place_of(rt.alloc(), path)?;
@@ -118,10 +120,12 @@ fn troubles_close_the_open_file(rt: HostRuntime) -> Result<(), Fail> {
         let place = place_of(rt.alloc(), path)?;
         folder.open(&file)?;
         assert_eq!(rt; folder.list(&place).err(), list, "{path}");
-        assert!(rt; list.is_none() || folder.read(&mut buffer) == Err(Trouble::Absent));
+        let is_closed = list.is_none() || folder.read(&mut buffer) == Err(Trouble::Absent);
+        assert!(rt; is_closed, "after listing {path}");
         folder.open(&file)?;
         assert_eq!(rt; folder.open(&place).err(), open, "{path}");
-        assert!(rt; open.is_none() || folder.read(&mut buffer) == Err(Trouble::Absent));
+        let is_closed = open.is_none() || folder.read(&mut buffer) == Err(Trouble::Absent);
+        assert!(rt; is_closed, "after opening {path}");
     }
     fs::remove_dir_all(&rt, "troubles")?;
     Ok(())
@@ -151,11 +155,12 @@ fn folders_that_cannot_be_listed(rt: HostRuntime) -> Result<(), Fail> {
     let deep = names.as_str().strip_suffix("/").ok_or("no slash")?;
     let absent = folder.list(&place_of(rt.alloc(), deep)?).err();
     assert_eq!(rt; absent, Some(Trouble::Absent));
-    for (path, trouble) in [
-        (long.as_str(), Trouble::Device),
-        ("not_there", Trouble::Absent),
+    for (row, path, trouble) in [
+        ("a path that is too long", long.as_str(), Trouble::Device),
+        ("a folder that is not there", "not_there", Trouble::Absent),
     ] {
-        assert_eq!(rt; FsTree::at(&rt, path)?.list(&top).err(), Some(trouble));
+        let answer = FsTree::at(&rt, path)?.list(&top).err();
+        assert_eq!(rt; answer, Some(trouble), "{row}");
     }
     fs::remove_dir_all(&rt, "limit")?;
     Ok(())

@@ -19,21 +19,21 @@ fn small(alloc: Global) -> Result<MemTree, Fail> {
     Ok(store)
 }
 
-/// How many bytes a read gives at most, a file, its text, and how many bytes its reads give.
-const READS: [(usize, &str, &str, &[usize]); 3] = [
-    (usize::MAX, "a", "12345", &[5, 0]),
-    (2, "a", "12345", &[2, 2, 1, 0]),
-    (2, "d/e", "", &[0]),
+/// Reads: how many bytes one gives at most, a file, its text, and how many bytes its reads give.
+const READS: [(&str, usize, &str, &str, &[usize]); 3] = [
+    ("all bytes at once", usize::MAX, "a", "12345", &[5, 0]),
+    ("two bytes a read", 2, "a", "12345", &[2, 2, 1, 0]),
+    ("no bytes", 2, "d/e", "", &[0]),
 ];
 
 #[test]
 fn a_small_tree_is_read(rt: HostRuntime) -> Result<(), Fail> {
     let mut store = small(rt.alloc())?;
-    for (step, path, text, counts) in READS {
+    for (row, step, path, text, counts) in READS {
         store.step(step);
         let (bytes, lengths) = whole(rt.alloc(), &mut store, &place_of(rt.alloc(), path)?)?;
-        assert_eq!(rt; bytes.as_slice(), text.as_bytes(), "{path}");
-        assert_eq!(rt; lengths.as_slice(), counts, "{path}");
+        assert_eq!(rt; bytes.as_slice(), text.as_bytes(), "{row}");
+        assert_eq!(rt; lengths.as_slice(), counts, "{row}");
     }
     let [_, second, _] = store.openings() else {
         return Err("not three openings".into());
@@ -48,7 +48,8 @@ fn a_small_tree_is_read(rt: HostRuntime) -> Result<(), Fail> {
 fn a_small_tree_is_listed(rt: HostRuntime) -> Result<(), Fail> {
     let mut store = small(rt.alloc())?;
     for (path, want) in [("", "a File;d Dir;l Other;"), ("d", "b File;e File;")] {
-        lists(&rt, &mut store, &place_of(rt.alloc(), path)?, want)?;
+        let place = place_of(rt.alloc(), path)?;
+        lists(&rt, "a small tree", &mut store, &place, want)?;
     }
     for path in ["a", "l"] {
         let listed = store.list(&place_of(rt.alloc(), path)?);
@@ -80,9 +81,9 @@ fn builders_refuse_and_remove(rt: HostRuntime) -> Result<(), Fail> {
     store.open(&place_of(alloc, "a")?)?;
     store.remove(&d)?;
     assert_eq!(rt; store.read(&mut [0; 9]), Err(Trouble::Absent));
-    lists(&rt, &mut store, &root, "a File;l Other;")?;
+    lists(&rt, "without `d`", &mut store, &root, "a File;l Other;")?;
     store.put_dir(&d)?;
-    lists(&rt, &mut store, &d, "")?;
+    lists(&rt, "with a new `d`", &mut store, &d, "")?;
     assert_eq!(rt; store.largest_read(), 9);
     Ok(())
 }
@@ -97,8 +98,12 @@ fn the_planned_call_fails(rt: HostRuntime) -> Result<(), Fail> {
     assert_eq!(rt; store.read(&mut [0; 2]), Err(Trouble::Absent));
     store.list(&root)?;
     store.open(&a)?;
-    for want in [Ok(2), Err(Trouble::Device), Err(Trouble::Absent)] {
-        assert_eq!(rt; store.read(&mut [0; 2]), want);
+    for (row, want) in [
+        ("a read before the fault", Ok(2)),
+        ("the read that fails", Err(Trouble::Device)),
+        ("a read after it", Err(Trouble::Absent)),
+    ] {
+        assert_eq!(rt; store.read(&mut [0; 2]), want, "{row}");
     }
     assert_eq!(rt; store.failures(), 1);
     assert_eq!(rt; store.openings().len(), 1);
@@ -124,13 +129,17 @@ fn calls_at_a_planned_place_fail(rt: HostRuntime) -> Result<(), Fail> {
     for (place, point) in [(&a, Point::Read(3)), (&b, Point::Open), (&d, Point::List)] {
         store.fail_at(place, point)?;
     }
-    for _ in 0..2 {
+    for time in ["the first time", "the second time"] {
         store.list(&root)?;
-        assert_eq!(rt; store.list(&d).err(), Some(Trouble::Device));
-        assert_eq!(rt; store.open(&b), Err(Trouble::Device));
+        assert_eq!(rt; store.list(&d).err(), Some(Trouble::Device), "{time}");
+        assert_eq!(rt; store.open(&b), Err(Trouble::Device), "{time}");
         store.open(&a)?;
-        for want in [Ok(2), Ok(2), Err(Trouble::Device)] {
-            assert_eq!(rt; store.read(&mut [0; 2]), want);
+        for (row, want) in [
+            ("the first read", Ok(2)),
+            ("the second read", Ok(2)),
+            ("the read that fails", Err(Trouble::Device)),
+        ] {
+            assert_eq!(rt; store.read(&mut [0; 2]), want, "{row}, {time}");
         }
     }
     assert_eq!(rt; store.failures(), 6);

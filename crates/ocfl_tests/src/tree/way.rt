@@ -39,10 +39,11 @@ fn wrong_behind<T: Tree>(
     let dir = place_of(rt.alloc(), listed)?;
     for path in wrong {
         let place = place_of(rt.alloc(), path)?;
+        let row = format!(in rt.alloc(); "{path} after {listed}")?;
         store.list(&dir)?;
-        assert_eq!(rt; store.open(&place), Err(Trouble::Device), "{path}");
+        assert_eq!(rt; store.open(&place), Err(Trouble::Device), "{row}");
         store.list(&dir)?;
-        assert_eq!(rt; store.list(&place).err(), Some(Trouble::Device), "{path}");
+        assert_eq!(rt; store.list(&place).err(), Some(Trouble::Device), "{row}");
     }
     Ok(())
 }
@@ -50,11 +51,12 @@ fn wrong_behind<T: Tree>(
 /// Whether the file at a place has its path in it.
 fn holds_its_path<T: Tree>(
     rt: &(impl Abort + AllocGlobal),
+    row: &str,
     store: &mut T,
     path: &str,
 ) -> Result<(), Fail> {
     let (bytes, _) = whole(rt.alloc(), store, &place_of(rt.alloc(), path)?)?;
-    assert!(rt; bytes.as_slice() == path.as_bytes(), "{path}");
+    assert!(rt; bytes.as_slice() == path.as_bytes(), "{row}: {path}");
     Ok(())
 }
 
@@ -89,13 +91,21 @@ fn a_place_elsewhere_is_found(rt: HostRuntime) -> Result<(), Fail> {
     for listed in ["", "d", "d/e", "de/x"] {
         for path in ["f", "de/x/f", "d/f", "d/e/f", "de/f"] {
             store.list(&place_of(rt.alloc(), listed)?)?;
-            holds_its_path(&rt, &mut store, path)?;
+            let row = format!(in rt.alloc(); "after {listed}")?;
+            holds_its_path(&rt, row.as_str(), &mut store, path)?;
         }
     }
     let below_a_file = place_of(rt.alloc(), "d/f/x")?;
     assert_eq!(rt; store.open(&below_a_file), Err(Trouble::Device));
-    holds_its_path(&rt, &mut store, "de/f")?;
-    lists(&rt, &mut store, &place_of(rt.alloc(), "de/x")?, "f File;")?;
+    let row = "after a place below a file";
+    holds_its_path(&rt, row, &mut store, "de/f")?;
+    lists(
+        &rt,
+        row,
+        &mut store,
+        &place_of(rt.alloc(), "de/x")?,
+        "f File;",
+    )?;
     fs::remove_dir_all(&rt, "way_elsewhere")?;
     Ok(())
 }
@@ -135,19 +145,35 @@ fn a_directory_that_becomes_a_link_is_no_directory(rt: HostRuntime) -> Result<()
     for listed in ["d", "d/e"] {
         store.list(&place_of(rt.alloc(), listed)?)?;
         becomes_a_link(&rt, "way_becomes")?;
-        assert_eq!(rt; store.list(&dir).err(), Some(Trouble::Device));
+        assert_eq!(rt;
+            store.list(&dir).err(),
+            Some(Trouble::Device),
+            "after {listed}"
+        );
         for path in ["d/f", "d/e/f", "d/g/f"] {
             let file = place_of(rt.alloc(), path)?;
-            assert_eq!(rt; store.open(&file), Err(Trouble::Device), "{path}");
+            assert_eq!(rt;
+                store.open(&file),
+                Err(Trouble::Device),
+                "{path} after {listed}"
+            );
         }
-        holds_its_path(&rt, &mut store, "f")?;
-        assert_eq!(rt; store.list(&dir).err(), Some(Trouble::Device));
+        holds_its_path(&rt, listed, &mut store, "f")?;
+        assert_eq!(rt;
+            store.list(&dir).err(),
+            Some(Trouble::Device),
+            "after {listed}"
+        );
         becomes_a_directory(&rt, "way_becomes")?;
         // What is not known is looked at name by name.
         store.list(&place_of(rt.alloc(), listed)?)?;
         becomes_a_link(&rt, "way_becomes")?;
         let elsewhere = place_of(rt.alloc(), "d/g/f")?;
-        assert_eq!(rt; store.open(&elsewhere), Err(Trouble::Device));
+        assert_eq!(rt;
+            store.open(&elsewhere),
+            Err(Trouble::Device),
+            "after {listed}"
+        );
         becomes_a_directory(&rt, "way_becomes")?;
     }
     fs::remove_dir_all(&rt, "way_becomes")?;
@@ -159,7 +185,7 @@ fn a_failure_forgets_the_known_directory(rt: HostRuntime) -> Result<(), Fail> {
     let mut store = made(&rt, "way_forgets", "d/ d/e/ d/f d/e/f")?;
     let (dir, file) = (place_of(rt.alloc(), "d")?, place_of(rt.alloc(), "d/f")?);
     let missing = place_of(rt.alloc(), "d/missing")?;
-    for listed in [false, true] {
+    for (row, listed) in [("an opening fails", false), ("a listing fails", true)] {
         store.list(&dir)?;
         store.open(&file)?;
         becomes_a_link(&rt, "way_forgets")?;
@@ -168,10 +194,10 @@ fn a_failure_forgets_the_known_directory(rt: HostRuntime) -> Result<(), Fail> {
         } else {
             store.open(&missing).err()
         };
-        assert!(rt; failed.is_some());
-        assert_eq!(rt; store.open(&file), Err(Trouble::Device));
+        assert!(rt; failed.is_some(), "{row}");
+        assert_eq!(rt; store.open(&file), Err(Trouble::Device), "{row}");
         becomes_a_directory(&rt, "way_forgets")?;
-        holds_its_path(&rt, &mut store, "d/f")?;
+        holds_its_path(&rt, row, &mut store, "d/f")?;
     }
     fs::remove_dir_all(&rt, "way_forgets")?;
     Ok(())
@@ -181,11 +207,11 @@ fn a_failure_forgets_the_known_directory(rt: HostRuntime) -> Result<(), Fail> {
 fn what_vanished_after_its_listing_is_absent(rt: HostRuntime) -> Result<(), Fail> {
     let mut store = made(&rt, "way_vanished", "d/ d/f")?;
     let dir = place_of(rt.alloc(), "d")?;
-    lists(&rt, &mut store, &dir, "f File;")?;
+    lists(&rt, "with `f`", &mut store, &dir, "f File;")?;
     fs::remove_file(&rt, "way_vanished/d/f")?;
     let file = place_of(rt.alloc(), "d/f")?;
     assert_eq!(rt; store.open(&file), Err(Trouble::Absent));
-    lists(&rt, &mut store, &dir, "")?;
+    lists(&rt, "without `f`", &mut store, &dir, "")?;
     fs::remove_dir(&rt, "way_vanished/d")?;
     assert_eq!(rt; store.open(&file), Err(Trouble::Absent));
     assert_eq!(rt; store.list(&dir).err(), Some(Trouble::Absent));
@@ -209,11 +235,11 @@ fn the_folder_may_be_a_link_or_end_in_a_slash(rt: HostRuntime) -> Result<(), Fai
         "way_link/root/",
     ] {
         let mut store = FsTree::at(rt.clone()?, path)?;
-        holds_its_path(&rt, &mut store, "d/.dir/..f")?;
-        lists(&rt, &mut store, &root, ".hidden File;d Dir;")?;
-        lists(&rt, &mut store, &d, ".dir Dir;up Other;")?;
-        holds_its_path(&rt, &mut store, ".hidden")?;
-        holds_its_path(&rt, &mut store, "d/.dir/..f")?;
+        holds_its_path(&rt, path, &mut store, "d/.dir/..f")?;
+        lists(&rt, path, &mut store, &root, ".hidden File;d Dir;")?;
+        lists(&rt, path, &mut store, &d, ".dir Dir;up Other;")?;
+        holds_its_path(&rt, path, &mut store, ".hidden")?;
+        holds_its_path(&rt, path, &mut store, "d/.dir/..f")?;
     }
     let inside = place_of(rt.alloc(), "way_root")?;
     let mut empty = FsTree::at(rt.clone()?, "")?;
@@ -231,10 +257,10 @@ fn the_folder_may_be_a_link_or_end_in_a_slash(rt: HostRuntime) -> Result<(), Fai
 #[test]
 fn another_file_at_a_place_is_read(rt: HostRuntime) -> Result<(), Fail> {
     let mut store = made(&rt, "way_another", "e/ f")?;
-    holds_its_path(&rt, &mut store, "f")?;
+    holds_its_path(&rt, "the first file", &mut store, "f")?;
     fs::write(&rt, "way_another/e/f", "f")?;
     fs::rename(&rt, "way_another/e/f", "way_another/f")?;
-    holds_its_path(&rt, &mut store, "f")?;
+    holds_its_path(&rt, "the second file", &mut store, "f")?;
     fs::remove_dir_all(&rt, "way_another")?;
     Ok(())
 }

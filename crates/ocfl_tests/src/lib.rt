@@ -8,7 +8,11 @@ mod cursor;
 #[cfg(test)]
 mod digest;
 #[cfg(test)]
+mod folder;
+#[cfg(test)]
 mod inventory;
+#[cfg(test)]
+mod item;
 #[cfg(test)]
 mod line;
 #[cfg(test)]

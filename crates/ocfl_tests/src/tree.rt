@@ -1,17 +1,14 @@
+//! Names, places, their order, and what the tests of stores share.
 use crate::common::tree::place_of;
 use ocfl_tree::{Entry, Name, NameStop, Place, Tree, is_bytes, is_text};
 use std::alloc::Global;
 use std::process::Abort;
 use std::test::Fail;
 
-mod exchange;
-mod fake;
-mod folder;
 mod memory;
-mod way;
 
 /// The bytes of the file at a place, and the length of each read.
-fn whole<T: Tree>(
+pub(crate) fn whole<T: Tree>(
     alloc: Global,
     store: &mut T,
     place: &Place,
@@ -33,7 +30,7 @@ fn whole<T: Tree>(
 }
 
 /// The entries of the directory at a place, by ascending names.
-fn sorted<T: Tree>(store: &mut T, place: &Place) -> Result<Vec<Entry>, Fail> {
+pub(crate) fn sorted<T: Tree>(store: &mut T, place: &Place) -> Result<Vec<Entry>, Fail> {
     let mut entries = store.list(place)?;
     entries.sort()?;
     Ok(entries)
@@ -51,7 +48,7 @@ fn text_of(alloc: Global, entries: &[Entry]) -> Result<String, Fail> {
 }
 
 /// The directory at a place lists these entries.
-fn lists<T: Tree>(
+pub(crate) fn lists<T: Tree>(
     rt: &(impl Abort + AllocGlobal),
     row: &str,
     store: &mut T,

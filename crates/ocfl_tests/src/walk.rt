@@ -10,12 +10,7 @@ use std::alloc::Global;
 use std::process::Abort;
 use std::test::Fail;
 
-mod cost;
 mod find;
-mod head;
-mod head_lines;
-mod judging;
-mod met;
 mod stack;
 
 pub(crate) fn said(fault: Fault) -> Fail {

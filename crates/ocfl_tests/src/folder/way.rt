@@ -1,6 +1,6 @@
 //! The names on the way to a place in a folder.
-use super::{lists, whole};
 use crate::common::tree::place_of;
+use crate::tree::{lists, whole};
 use ocfl_folder::FsTree;
 use ocfl_tree::{Place, Tree, Trouble};
 use std::fs;

@@ -1,11 +1,16 @@
-use super::{lists, sorted, whole};
+//! A storage root in a folder of the file system, against the same tree in memory.
 use crate::common::tree::{change, place_of, put};
+use crate::tree::{lists, sorted, whole};
 use ocfl_folder::FsTree;
 use ocfl_tree::{MemTree, Place, Tree, Trouble};
 use std::alloc::Global;
 use std::fs;
 use std::os::unix;
 use std::test::Fail;
+
+mod exchange;
+mod fake;
+mod way;
 
 /// Bytes that do not repeat soon.
 fn many(alloc: Global) -> Result<Vec<u8>, Fail> {

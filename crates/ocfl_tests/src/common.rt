@@ -4,5 +4,5 @@ pub mod object;
 pub mod odd_store;
 pub mod output;
 pub mod roots;
+pub mod store;
 mod tests;
-pub mod tree;

@@ -1,5 +1,5 @@
 //! Cursors and their text, refusals, limits and meters.
-use crate::common::tree::place_of;
+use crate::common::store::place_of;
 use ocfl_cursor::{
     Budget, Cursor, CursorStop, FileLimit, Limits, Meter, Refused, State, cursor_lines,
     cursor_reads_back, decode, encode, read_cursor, text_determines_the_cursor,

@@ -1,5 +1,5 @@
 use crate::common::digests::with_digests;
-use crate::common::tree::place_of;
+use crate::common::store::place_of;
 use ocfl_digest::{
     Algorithm, Block, Bounded, Cause, Digests, ReadStop, Wanted, hash_bytes, hash_open,
     read_bounded,

@@ -1,5 +1,5 @@
 //! A storage root in a folder of the file system, against the same tree in memory.
-use crate::common::tree::{change, place_of, put};
+use crate::common::store::{change, place_of, put};
 use crate::tree::{lists, sorted, whole};
 use ocfl_folder::FsTree;
 use ocfl_tree::{MemTree, Place, Tree, Trouble};

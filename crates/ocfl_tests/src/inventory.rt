@@ -1,5 +1,5 @@
 use crate::common::digests::{ABC_SHA256, with_digests};
-use crate::common::tree::place_of;
+use crate::common::store::place_of;
 use ocfl_digest::Algorithm;
 use ocfl_inventory::declaration::declaration;
 use ocfl_inventory::{

@@ -1,4 +1,4 @@
-use crate::common::tree::place_of;
+use crate::common::store::place_of;
 use ocfl_parts::laws::text_determines_the_separators;
 use ocfl_parts::{PartsStop, PushStop, Separators, put_parts, read_parts};
 use std::alloc::Global;

@@ -1,4 +1,4 @@
-use crate::common::tree::place_of;
+use crate::common::store::place_of;
 use ocfl_report::laws::line_reads_back;
 use ocfl_report::{
     Code, Line, LineStop, OutStop, PlaceStop, put_place, read_line, read_place, split_once,

@@ -1,5 +1,5 @@
 //! Names, places, their order, and what the tests of stores share.
-use crate::common::tree::place_of;
+use crate::common::store::place_of;
 use ocfl_tree::{Entry, Name, NameStop, Place, Tree, is_bytes, is_text};
 use std::alloc::Global;
 use std::process::Abort;

@@ -2,7 +2,7 @@
 use crate::common::digests::lines_of;
 use crate::common::object::{bare_root, put_object};
 use crate::common::roots::{ROOTS, built, missing_and_there, nested, right_object};
-use crate::common::tree::{change, listed_from, place_of};
+use crate::common::store::{change, listed_from, place_of};
 use ocfl_digest::Block;
 use ocfl_tree::{MemTree, Place, Point, Tree};
 use ocfl_walk::{Fault, Pending, Walk, item_at, judge};

@@ -1,6 +1,6 @@
 //! Storage roots and objects in them.
 use crate::common::digests::with_digests;
-use crate::common::tree::{put, put_dir};
+use crate::common::store::{put, put_dir};
 use ocfl_tree::MemTree;
 use sha2::{Digest, Sha256, Sha512};
 use std::alloc::Global;

@@ -3,7 +3,7 @@ use crate::common::object::{
     FILE, LONG_SIDECAR, SHORT_SIDECAR, bare_root, inventory, listing, long_sidecar, object_listing,
     object_with, object_without_files, put_right_object,
 };
-use crate::common::tree::{change, place_of, put};
+use crate::common::store::{change, place_of, put};
 use ocfl_tree::{MemTree, Point};
 use std::alloc::Global;
 use std::test::Fail;

@@ -1,6 +1,6 @@
 //! What the fixtures themselves are to do.
 use crate::common::digests::lines_of;
-use crate::common::tree::{change, listed_from, place_of};
+use crate::common::store::{change, listed_from, place_of};
 use ocfl_tree::{MemTree, Tree};
 use std::test::Fail;
 

@@ -1,6 +1,6 @@
 //! Cursors of one part of a storage root, and why their texts are refused.
 use super::{long_place, old_text, refusal_of, seal, whole_text};
-use crate::common::tree::place_of;
+use crate::common::store::place_of;
 use ocfl_cursor::{
     Cursor, PartEnds, PartRefused, Refused, State, decode_part, encode_part, every_part_has_ends,
     no_part_is_refused, part_reads_back, parts_and_whole_are_apart, text_determines_the_part,

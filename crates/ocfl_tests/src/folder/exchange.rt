@@ -1,5 +1,5 @@
 //! Files that are exchanged between the look and the opening.
-use crate::common::tree::place_of;
+use crate::common::store::place_of;
 use ocfl_folder::FsTree;
 use ocfl_tree::{Tree, Trouble};
 use std::alloc::{Allocator, Global};

@@ -1,7 +1,7 @@
 //! A file system that fails where it is told to.
 ghost use Rattle.std.specs.Prelude.{IsErr};
 
-use crate::common::tree::place_of;
+use crate::common::store::place_of;
 use ocfl_folder::FsTree;
 use ocfl_tree::{Place, Tree, Trouble};
 use std::alloc::{Allocator, Global};

@@ -1,5 +1,5 @@
 //! The names on the way to a place in a folder.
-use crate::common::tree::place_of;
+use crate::common::store::place_of;
 use crate::tree::{lists, whole};
 use ocfl_folder::FsTree;
 use ocfl_tree::{Place, Tree, Trouble};

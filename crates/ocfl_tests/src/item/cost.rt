@@ -2,7 +2,7 @@
 use crate::common::object::{FILE, INVENTORY};
 use crate::common::odd_store::{Odd, Oddity};
 use crate::common::roots::{first_fails, long_file_fails, right_object};
-use crate::common::tree::{place_of, times_opened};
+use crate::common::store::{place_of, times_opened};
 use crate::walk::{expect, expect_item, failed_place};
 use ocfl_tree::Point;
 use ocfl_walk::{Fault, Walk};

@@ -1,6 +1,6 @@
 //! What the head of an object opens, and how it stops.
 use crate::common::object::bare_root;
-use crate::common::tree::{change, opened_from, place_of};
+use crate::common::store::{change, opened_from, place_of};
 use crate::walk::{expect_item, failed_place};
 use ocfl_tree::{MemTree, Point};
 use std::alloc::Global;

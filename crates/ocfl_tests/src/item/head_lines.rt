@@ -1,6 +1,6 @@
 //! The lines of an object's head, by its declarations, its inventory and its sidecars.
 use crate::common::object::bare_root;
-use crate::common::tree::put;
+use crate::common::store::put;
 use crate::walk::expect_item;
 use std::process::Abort;
 use std::test::Fail;

@@ -1,7 +1,7 @@
 //! The lines of content places, and what they cost.
 use crate::common::object::{FILE, listing, object_listing, object_without_files};
 use crate::common::roots::unread_in_fixity_alone;
-use crate::common::tree::{change, place_of, put_dir, times_opened};
+use crate::common::store::{change, place_of, put_dir, times_opened};
 use crate::walk::expect_item;
 use ocfl_tree::{MemTree, Point};
 use std::alloc::Global;

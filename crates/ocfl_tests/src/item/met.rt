@@ -1,7 +1,7 @@
 //! What is met at single places, by the calls that a walk is made of.
 use crate::common::digests::lines_of;
 use crate::common::object::object_listing;
-use crate::common::tree::{change, listed_from, opened_from, place_of};
+use crate::common::store::{change, listed_from, opened_from, place_of};
 use crate::walk::{judged, said};
 use ocfl_inventory::Level;
 use ocfl_item::{

@@ -1,11 +1,11 @@
 //! Audits of whole storage roots.
-use super::roots::{HEADS, expect_audit};
+use super::expected::{HEADS, expect_audit};
 use crate::common::object::FILE;
 use crate::common::roots::{
     ROOTS, built, first_fails, long_file_fails, long_object, nested, under_four_algorithms,
     unread_in_fixity_alone,
 };
-use crate::common::tree::{listed_from, times_opened};
+use crate::common::store::{listed_from, times_opened};
 use ocfl_tree::Point;
 use std::test::Fail;
 

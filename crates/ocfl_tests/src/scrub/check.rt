@@ -1,10 +1,10 @@
 //! Checks of content places.
-use super::roots::{FILE_IS_OK, expect};
+use super::expected::{FILE_IS_OK, expect};
 use crate::common::digests::with_digests;
 use crate::common::object::{FILE, inventory, long_sidecar, object_with};
 use crate::common::output::Narrow;
 use crate::common::roots::{right_object, under_four_algorithms};
-use crate::common::tree::{change, place_of, times_opened};
+use crate::common::store::{change, place_of, times_opened};
 use ocfl_digest::Block;
 use ocfl_folder::FsTree;
 use ocfl_scrub::checked;

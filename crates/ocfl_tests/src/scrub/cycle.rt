@@ -1,12 +1,12 @@
 //! Cycles: runs from the first item on, each with its limits.
-use super::roots::HEADS;
+use super::expected::HEADS;
 use super::run_figures::{
     A, ALL, B, C, MOST, budgets, cycle_says, equal_limits, expect_cycle, limits,
 };
 use crate::common::object::{bare_root, object_listing};
 use crate::common::output::Narrow;
 use crate::common::roots::{long_object, right_objects, three_files};
-use crate::common::tree::{opened_from, place_of, put, times_opened};
+use crate::common::store::{opened_from, place_of, put, times_opened};
 use ocfl_cursor::Limits;
 use ocfl_digest::Block;
 use ocfl_scrub::{CycleEnd, cycle};

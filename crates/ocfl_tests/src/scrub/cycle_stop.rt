@@ -3,7 +3,7 @@ use super::cycle::cycle_into;
 use super::run_figures::{MOST, due_of, equal_limits, items_in, limits};
 use super::stop::{Tried, root_by};
 use crate::common::output::Narrow;
-use crate::common::tree::listed_from;
+use crate::common::store::listed_from;
 use ocfl_cursor::Cursor;
 use ocfl_digest::Block;
 use ocfl_scrub::{CycleEnd, CycleStatus, cycle, run};

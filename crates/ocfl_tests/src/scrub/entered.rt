@@ -1,6 +1,6 @@
 //! A walk that is entered at a place gives what the whole walk gives above that place.
 use super::seeded::{Dice, grow};
-use crate::common::tree::place_of;
+use crate::common::store::place_of;
 use ocfl_digest::Block;
 use ocfl_tree::{MemTree, Place};
 use ocfl_walk::{Fault, Walk, judge};

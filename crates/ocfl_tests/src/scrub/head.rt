@@ -1,12 +1,12 @@
 //! Checks of an object as a whole: the lines of its head, and whether its content is checked behind
 //! them.
-use super::roots::{FILE_IS_OK, GOES_ON, STOPS, expect, expect_audit, expect_head, finds};
+use super::expected::{FILE_IS_OK, GOES_ON, STOPS, expect, expect_audit, expect_head, finds};
 use crate::common::object::{
     DECLARATION, INVENTORY, LONG_SIDECAR, SHORT_SIDECAR, inventory, listing, long_sidecar,
     object_with, short_digits,
 };
 use crate::common::roots::right_object;
-use crate::common::tree::{change, place_of, put, times_opened};
+use crate::common::store::{change, place_of, put, times_opened};
 use ocfl_tree::{MemTree, Point};
 use std::alloc::Global;
 use std::process::Abort;

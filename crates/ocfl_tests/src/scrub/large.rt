@@ -1,12 +1,12 @@
 //! Many lines, places, members and runs: memory for them is there, so none of them may be given up.
-use super::roots::{FILE_IS_OK, HEADS, expect, expect_audit};
+use super::expected::{FILE_IS_OK, HEADS, expect, expect_audit};
 use super::run_figures::{MOST, items_in, limits};
 use crate::common::digests::lines_of;
 use crate::common::object::{FILE, inventory, listing, object_listing, object_with};
 use crate::common::odd_store::{Odd, Oddity};
 use crate::common::output::Counting;
 use crate::common::roots::{ROOTS, built, right_object};
-use crate::common::tree::{place_of, put};
+use crate::common::store::{place_of, put};
 use ocfl_cursor::Cursor;
 use ocfl_deed::Deed;
 use ocfl_digest::Block;

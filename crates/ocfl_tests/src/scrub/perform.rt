@@ -1,12 +1,12 @@
 //! What the program does for each command: its status, its text, and the cursor that it stores.
-use super::roots::{FILE_IS_OK, HEADS};
+use super::expected::{FILE_IS_OK, HEADS};
 use super::run_figures::{A, ALL, B, C, MOST, cursor_of, limits};
 use super::stop::{STOPS, stopping};
 use crate::common::digests::lines_of;
 use crate::common::object::{FILE, listing, object_with};
 use crate::common::output::Narrow;
 use crate::common::roots::{long_object, right_object, three_files, wrong_fixity};
-use crate::common::tree::place_of;
+use crate::common::store::place_of;
 use ocfl_cursor::{State, encode};
 use ocfl_deed::Deed;
 use ocfl_digest::Block;

@@ -1,5 +1,5 @@
 //! Runs: where they begin, how far they go, and what they say.
-use super::roots::HEADS;
+use super::expected::HEADS;
 use super::run_figures::{
     A, ALL, B, C, MOST, cursor_after, cursor_of, equal_limits, expect_cycle, expect_run,
     expect_runs, limits, run_says,
@@ -7,7 +7,7 @@ use super::run_figures::{
 use crate::common::object::{bare_root, object_listing};
 use crate::common::output::Narrow;
 use crate::common::roots::{missing_and_there, right_object, right_objects, three_files};
-use crate::common::tree::{change, listed_from, opened_from, place_of, put, times_opened};
+use crate::common::store::{change, listed_from, opened_from, place_of, put, times_opened};
 use ocfl_cursor::{Cursor, State};
 use ocfl_digest::Block;
 use ocfl_scrub::run;

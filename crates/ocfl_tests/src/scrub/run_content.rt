@@ -1,12 +1,12 @@
 //! Runs over content that cannot be read.
-use super::odd_store::forgetful;
-use super::roots::HEADS;
+use super::expected::HEADS;
+use super::odd_answers::forgetful;
 use super::run_figures::{B, C, MOST, budgets, expect_cycle, expect_runs};
 use crate::common::object::FILE;
 use crate::common::roots::{
     first_fails, long_file_fails, under_four_algorithms, unread_in_fixity_alone,
 };
-use crate::common::tree::{place_of, times_opened};
+use crate::common::store::{place_of, times_opened};
 use ocfl_tree::Point;
 use std::test::Fail;
 

@@ -1,7 +1,7 @@
 //! What the tests of runs share: limits, cursors, and what runs and cycles say.
-use super::roots::HEADS;
+use super::expected::HEADS;
 use crate::common::digests::{ABC_SHA256, NOTHING_SHA256, lines_of};
-use crate::common::tree::place_of;
+use crate::common::store::place_of;
 use ocfl_cursor::{Budget, Cursor, FileLimit, Limits, State};
 use ocfl_digest::Block;
 use ocfl_report::DisplayPlace;

@@ -1,10 +1,10 @@
 //! Runs that stop, and runs from where they stopped.
-use super::roots::{FILE_IS_OK, HEADS};
+use super::expected::{FILE_IS_OK, HEADS};
 use super::run_figures::{MOST, cursor_after, due_of, expect_run, limits, run_says};
 use super::stop::{ROOTS, Tried, root_by};
 use crate::common::output::Narrow;
 use crate::common::roots::{long_object, three_files};
-use crate::common::tree::place_of;
+use crate::common::store::place_of;
 use ocfl_cursor::{Cursor, State};
 use ocfl_digest::Block;
 use ocfl_scrub::{RunEnd, RunStatus, run};

@@ -1,7 +1,7 @@
 //! An audit writes what checks of all places write, one after the other.
 use crate::common::digests::with_digests;
 use crate::common::object::short_digits;
-use crate::common::tree::place_of;
+use crate::common::store::place_of;
 use ocfl_digest::Block;
 use ocfl_report::put_place;
 use ocfl_scrub::{audited, checked};

@@ -2,7 +2,7 @@
 use super::run_figures::{Figures, limits, reckoned};
 use super::seeded::{Dice, grow};
 use super::stop::whole;
-use crate::common::tree::opened_from;
+use crate::common::store::opened_from;
 use ocfl_cursor::{Cursor, Limits};
 use ocfl_digest::Block;
 use ocfl_scrub::{CycleStatus, RunEnd, RunStatus, cycle, run};

@@ -1,14 +1,14 @@
 //! What stops audits, runs and cycles: a call of the store, and a byte of the output.
 use super::entered::rest_behind;
+use super::expected::expect_audit;
 use super::faults::expect_dropped;
-use super::roots::expect_audit;
 use super::run_figures::{MOST, budgets, expect_cycle, expect_run, limits};
 use super::run_stop::expect_cut_runs;
 use crate::common::output::Narrow;
 use crate::common::roots::{
     long_object, missing_and_there, right_objects, three_files, two_files, under_four_algorithms,
 };
-use crate::common::tree::place_of;
+use crate::common::store::place_of;
 use ocfl_cursor::Cursor;
 use ocfl_digest::Block;
 use ocfl_scrub::{End, audit, audited};

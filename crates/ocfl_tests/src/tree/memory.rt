@@ -1,6 +1,6 @@
 //! The tree in memory: what it holds, what its builders refuse, and its calls that fail.
 use super::{lists, whole};
-use crate::common::tree::{change, place_of};
+use crate::common::store::{change, place_of};
 use ocfl_tree::{BuildStop, MemTree, Place, Point, Tree, Trouble};
 use std::alloc::Global;
 use std::test::Fail;

@@ -1,7 +1,7 @@
 //! The items at single places, and what looking for them opens and lists.
 use crate::common::digests::lines_of;
 use crate::common::object::bare_root;
-use crate::common::tree::{change, listed_from, opened_from, place_of, put_dir};
+use crate::common::store::{change, listed_from, opened_from, place_of, put_dir};
 use crate::walk::{failed_place, item, judged};
 use ocfl_tree::{MemTree, Point};
 use std::alloc::Global;

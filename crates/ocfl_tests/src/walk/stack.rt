@@ -1,7 +1,7 @@
 //! Walks entered at a place, and what they list and read on the way.
 use crate::common::object::{bare_root, listing, object_listing, put_object};
 use crate::common::roots::{missing_and_there, right_object, right_objects};
-use crate::common::tree::{change, listed_from, opened_from};
+use crate::common::store::{change, listed_from, opened_from};
 use crate::walk::{entered, expect, expect_after, said};
 use ocfl_tree::MemTree;
 use ocfl_walk::Walk;

@@ -1,9 +1,9 @@
 //! Checks of objects by what their inventories hold.
-use super::roots::{FILE_IS_OK, GOES_ON, STOPS, expect, expect_head, finds};
+use super::expected::{FILE_IS_OK, GOES_ON, STOPS, expect, expect_head, finds};
 use crate::common::object::{
     FILE, INVENTORY, SHORT_SIDECAR, inventory, listing, object_with, short_digits,
 };
-use crate::common::tree::put;
+use crate::common::store::put;
 use ocfl_tree::MemTree;
 use std::alloc::Global;
 use std::test::Fail;

@@ -1,9 +1,9 @@
 //! Stores that answer oddly, and large directories.
-use super::roots::{expect, expect_audit};
+use super::expected::{expect, expect_audit};
 use crate::common::object::{DECLARATION, FILE, INVENTORY, LONG_SIDECAR, SHORT_SIDECAR, bare_root};
 use crate::common::odd_store::{Odd, Oddity};
 use crate::common::roots::{long_object, right_object};
-use crate::common::tree::{place_of, put_dir};
+use crate::common::store::{place_of, put_dir};
 use ocfl_folder::FsTree;
 use std::alloc::Global;
 use std::fs;

@@ -9,6 +9,10 @@ use Rattle.ocfl_digest.specs.declared.algorithm.Algorithm.TheVariants.{Md5, Sha1
 use Rattle.ocfl_inventory.specs.declared.sidecar_text.Sum.{Sum}
 use Rattle.ocfl_inventory.specs.declared.sidecar_text.Sum.TheVariants.{Short, Long}
 
+-- no declaration or sidecar of more bytes is of its form
+abbrev pub side_limit : ℕ
+side_limit = 4096
+
 abbrev pub is_blank : ℕ → Bool
 is_blank c = c == 32 || c == 9
 
@@ -29,7 +33,7 @@ pub record IsSidecar (b : Text) (a : Algorithm) (digest : List ℕ) : Type 0 whe
   pub gap : Text
   pub tail : Text
   pub whole : b ≡ digits ++ (gap ++ (codes "inventory.json" ++ tail))
-  pub short : length b ≤ 4096
+  pub short : length b ≤ side_limit
   pub as_many : sidecar_digits a ≡ Some (length digits)
   pub is_digest : decode_of digits ≡ Ok digest
   pub some_blank : gap ≢ []
@@ -56,7 +60,7 @@ is_after_digits rest =
 
 -- the same as a computation, for n digits: the digest, or none
 abbrev pub sidecar_of_len : ℕ → Text → Option (List ℕ)
-sidecar_of_len n b = if nat_le (length b) 4096 && (length (take n b) == n && is_after_digits (drop n b)) then decoded (take n b) else None
+sidecar_of_len n b = if nat_le (length b) side_limit && (length (take n b) == n && is_after_digits (drop n b)) then decoded (take n b) else None
 
 -- the digest of a sidecar's text
 abbrev pub sidecar_of : Algorithm → Text → Option (List ℕ)

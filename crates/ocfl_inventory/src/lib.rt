@@ -26,6 +26,6 @@ pub use declaration::{
 pub use paths::is_version_name;
 pub use reading::algorithm_of;
 pub use remark::Remark;
-pub use sidecar_text::{Sum, sidecar};
+pub use sidecar_text::{SIDE_LIMIT, Sum, sidecar};
 pub use table::{InventoryReading, Table, read_inventory};
 pub use triple::Named;

@@ -9,12 +9,18 @@ ghost use Rattle.ocfl_inventory.specs.ListedPath.{is_version_name as is_version_
 ghost use Rattle.ocfl_inventory.specs.ListedPath.{is_empty_or_dots as is_empty_or_dots_text};
 ghost use Rattle.ocfl_inventory.specs.ListedPath.{is_too_long_or_nul as is_too_long_or_nul_text};
 ghost use Rattle.ocfl_inventory.specs.ListedPath.{is_content_path as is_content_place, path_fault};
-ghost use Rattle.ocfl_inventory.specs.ListedPath.{is_kept};
+ghost use Rattle.ocfl_inventory.specs.ListedPath.{is_kept, max_elements};
 
 use crate::texts::has_byte;
 use ocfl_report::Code;
 use ocfl_tree::{Place, is_text};
 use std::alloc::{AllocError, Global};
+
+/// A path of more elements is not kept.
+const MAX_ELEMENTS: usize = 128;
+
+/// The length of a run whose slashes are counted in one byte.
+const RUN_LEN: usize = 128;
 
 fn all_digits(bytes: &[u8]) -> bool
     ensures { result ≡ list_all is_ascii_digit bytes.now }
@@ -81,8 +87,8 @@ fn slashes(bytes: &[u8]) -> usize
 {
     let mut rest = bytes;
     let mut count = 0;
-    while rest.len() > 128 {
-        let (run, behind) = rest.split_at(128);
+    while rest.len() > RUN_LEN {
+        let (run, behind) = rest.split_at(RUN_LEN);
         count += slashes_in(run) as usize;
         rest = behind;
     }
@@ -90,9 +96,9 @@ fn slashes(bytes: &[u8]) -> usize
 }
 
 fn is_deep(text: &str) -> bool
-    ensures { result ≡ nat_lt 128 (length (elements text.now)) }
+    ensures { result ≡ nat_lt max_elements (length (elements text.now)) }
 {
-    slashes(text.as_bytes()) >= 128
+    slashes(text.as_bytes()) >= MAX_ELEMENTS
 }
 
 /// The first element of a path and what is left behind its slash, or none where there is no slash.
@@ -124,8 +130,8 @@ fn has_slash_at_end(text: &str) -> bool
 
 /// Whether a path lies elsewhere than those that are kept, whatever its elements are.
 fn is_elsewhere(content: &str, text: &str) -> bool
-    ensures { result ≡ (not (is_content_place content.now (elements text.now)) || nat_lt 128
-        (length (elements text.now))) }
+    ensures { result ≡ (not (is_content_place content.now (elements text.now)) || nat_lt
+        max_elements (length (elements text.now))) }
 {
     !is_content_path(content, text) || is_deep(text)
 }

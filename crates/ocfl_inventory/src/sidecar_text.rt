@@ -9,6 +9,9 @@ ghost use Rattle.ocfl_inventory.specs.Sidecar.{decoded, sidecar_of, sum_view};
 use hex::FromHex;
 use ocfl_digest::Algorithm;
 
+/// No declaration or sidecar of more bytes is of its form.
+pub const SIDE_LIMIT: usize = 4096;
+
 /// The digest that a sidecar names, as bytes.
 #[derive(Clone, Copy, Debug)]
 pub enum Sum {
@@ -97,7 +100,7 @@ fn digits(bytes: &[u8], count: usize) -> Option<&[u8]>
         (λ digits. sidecar_of_len count bytes.now ≡ decoded digits.now) }
     ensures size { IfSome result (λ digits. length digits.now ≡ count) }
 {
-    if bytes.len() > 4096 {
+    if bytes.len() > SIDE_LIMIT {
         return None;
     }
     if bytes.len() < count {

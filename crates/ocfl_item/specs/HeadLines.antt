@@ -8,6 +8,7 @@ use Rattle.ocfl_digest.specs.declared.algorithm.Algorithm.TheVariants.{Sha256, S
 use Rattle.ocfl_item.specs.HeadFiles.{IsFileAt}
 use Rattle.ocfl_item.specs.declared.head_lines.Sidecars.{Sidecars}
 use Rattle.ocfl_inventory.specs.Declaration.{Declared}
+use Rattle.ocfl_inventory.specs.Sidecar.{side_limit}
 use Rattle.ocfl_inventory.specs.declared.declaration.Level.{Level}
 use Rattle.ocfl_inventory.specs.declared.declaration.Level.TheVariants.{Root, Object}
 use Rattle.ocfl_audit.specs.Head.{root_notes_by, head_notes_by, sidecar_name, is_sidecar_missing, are_sidecars_missing, other_sidecar_notes}
@@ -19,7 +20,7 @@ declared_notes root d Object declared = head_notes_by root d declared
 
 -- these were read of the sidecars of o
 abbrev pub AreSidecars : StorageRoot → Place → Sidecars → Type 0
-AreSidecars root o s = IsFileAt root (o ++ sidecar_name Sha256 ∷ []) 4096 s.short × IsFileAt root (o ++ sidecar_name Sha512 ∷ []) 4096 s.long
+AreSidecars root o s = IsFileAt root (o ++ sidecar_name Sha256 ∷ []) side_limit s.short × IsFileAt root (o ++ sidecar_name Sha512 ∷ []) side_limit s.long
 
 -- whether the sidecar of an algorithm is missing while there is one
 abbrev pub is_other_there : StorageRoot → Place → Algorithm → Bool

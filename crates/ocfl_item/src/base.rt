@@ -5,6 +5,7 @@ ghost use Rattle.ocfl_report.specs.Line.{plain};
 ghost use Rattle.ocfl_inventory.specs.Declaration.{declaration_name as declaration_name_of};
 ghost use Rattle.ocfl_inventory.specs.Declaration.{is_known, known};
 ghost use Rattle.ocfl_inventory.specs.Entries.{meaning};
+ghost use Rattle.ocfl_inventory.specs.Sidecar.{side_limit};
 ghost use Rattle.ocfl_inventory.specs.declared.declaration.Level.TheVariants as level;
 ghost use Rattle.ocfl_audit.specs.Head.{root_notes_by};
 ghost use Rattle.ocfl_item.specs.HeadFiles.{IsFileAt, OpensJust};
@@ -17,12 +18,12 @@ use crate::declarations::{is_exact, stopped_lines};
 use crate::fault::Fault;
 use crate::folder::{Folder, list};
 use crate::lines::PlaceLines;
-use crate::object::{SIDE_LIMIT, read_file};
+use crate::object::read_file;
 use crate::pending::Pending;
 use crate::visit::Visit;
 use ocfl_digest::Bounded;
 use ocfl_inventory::declaration::declaration;
-use ocfl_inventory::{Declared, Level, Version, declaration_name};
+use ocfl_inventory::{Declared, Level, SIDE_LIMIT, Version, declaration_name};
 use ocfl_report::Code;
 use ocfl_tree::{Place, Tree};
 use std::alloc::{AllocError, Global};
@@ -30,7 +31,7 @@ use std::alloc::{AllocError, Global};
 /// The code of a storage root of known version (OCFL 1.1, 4.2 Root Conformance Declaration).
 fn known_code(version: Version, declaration: &Option<Bounded>) -> Code
     ensures { (root : StorageRoot) → IsFileAt root (declaration_name_of level.Root version
-        ∷ []) 4096 declaration.now
+        ∷ []) side_limit declaration.now
         → plain result ∷ [] ≡ root_notes_by root (known version) }
 {
     if is_exact(Level::Root, version, declaration) {

@@ -8,6 +8,7 @@ ghost use Rattle.ocfl_digest.specs.Bounded.{IsBoundedTo};
 ghost use Rattle.ocfl_inventory.specs.Declaration.{after_prefix, is_known};
 ghost use Rattle.ocfl_inventory.specs.Declaration.{declaration_name as name_of_declaration, prefix};
 ghost use Rattle.ocfl_inventory.specs.Entries.{meaning, PointsAtOne};
+ghost use Rattle.ocfl_inventory.specs.Sidecar.{side_limit};
 ghost use Rattle.ocfl_audit.specs.Head.{is_exact_declaration};
 ghost use Rattle.ocfl_item.specs.HeadFiles.{IsFileAt};
 ghost use Rattle.ocfl_item.specs.HeadLines.{declared_notes};
@@ -23,7 +24,8 @@ use std::alloc::{AllocError, Global};
 
 /// Whether these few bytes are all that a file has.
 fn is_file(bytes: &[u8], file: &Bounded) -> bool
-    ensures { (text : Text) → IsBoundedTo 4096 text file.now → length bytes.now ≤ 4096
+    ensures { (text : Text) → IsBoundedTo side_limit text file.now
+        → length bytes.now ≤ side_limit
         → result ≡ text_eq text bytes.now }
 {
     match file {
@@ -35,7 +37,7 @@ fn is_file(bytes: &[u8], file: &Bounded) -> bool
 /// Whether the file of a declaration has just the bytes of that version's.
 pub(crate) fn is_exact(level: Level, version: Version, declaration: &Option<Bounded>) -> bool
     ensures { (root : StorageRoot) (d : Names) → IsFileAt root
-        (d ++ name_of_declaration level version ∷ []) 4096 declaration.now
+        (d ++ name_of_declaration level version ∷ []) side_limit declaration.now
         → result ≡ is_exact_declaration root d level version }
 {
     match declaration {

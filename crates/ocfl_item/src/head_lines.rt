@@ -12,7 +12,7 @@ ghost use Rattle.ocfl_inventory.specs.Declaration.{declaration_name as name_of_d
 ghost use Rattle.ocfl_inventory.specs.DigestText.{digest_of};
 ghost use Rattle.ocfl_inventory.specs.Reading.{algorithm_of as algorithm_in};
 ghost use Rattle.ocfl_inventory.specs.Remark.{remark_view};
-ghost use Rattle.ocfl_inventory.specs.Sidecar.{sidecar_digits, sidecar_of, sum_view};
+ghost use Rattle.ocfl_inventory.specs.Sidecar.{side_limit, sidecar_digits, sidecar_of, sum_view};
 ghost use Rattle.ocfl_inventory.specs.Table.{IsFit, table_of};
 ghost use Rattle.ocfl_inventory.specs.declared.declaration.Level.TheVariants as level;
 ghost use Rattle.ocfl_audit.specs.Head.{on, or_clean, is_exact_declaration, sidecar_name};
@@ -48,7 +48,7 @@ pub(crate) fn add_declaration(
 ) -> Result<(), AllocError>
     ensures place { OnOk result (lines.new.place ≡ lines.old.place) }
     ensures lines { (root : StorageRoot) (o : Names) → IsFileAt root
-        (o ++ name_of_declaration level.Object version ∷ []) 4096 declaration.now
+        (o ++ name_of_declaration level.Object version ∷ []) side_limit declaration.now
         → OnOk result (Adds lines.old lines.new
         (on (not (is_exact_declaration root o level.Object version))
         (plain Code.E007))) }
@@ -101,7 +101,7 @@ fn add_unless_equal(
 
 /// The digest that a sidecar names, where it is of the form.
 fn sum_of(algorithm: Algorithm, file: &Bounded) -> Option<Sum>
-    ensures { (text : Text) → IsBoundedTo 4096 text file.now
+    ensures { (text : Text) → IsBoundedTo side_limit text file.now
         → option_map sum_view result ≡ sidecar_of algorithm text }
 {
     match file {
@@ -121,7 +121,7 @@ fn add_sidecar(
 ) -> Result<(), AllocError>
     ensures place { OnOk result (lines.new.place ≡ lines.old.place) }
     ensures lines { (root : StorageRoot) (o : Names)
-        → IsFileAt root (o ++ sidecar_name algorithm ∷ []) 4096 file.now
+        → IsFileAt root (o ++ sidecar_name algorithm ∷ []) side_limit file.now
         → OnOk result (Adds lines.old lines.new
         (sidecar_notes algorithm inventory.now (sidecar_at root o algorithm))) }
 {

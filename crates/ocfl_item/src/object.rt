@@ -8,6 +8,7 @@ ghost use Rattle.ocfl_report.specs.Line.{plain};
 ghost use Rattle.ocfl_digest.specs.declared.algorithm.Algorithm.TheVariants.{Sha256, Sha512};
 ghost use Rattle.ocfl_inventory.specs.Declaration.{declaration_name as declaration_name_of, known};
 ghost use Rattle.ocfl_inventory.specs.Reading.{algorithm_of};
+ghost use Rattle.ocfl_inventory.specs.Sidecar.{side_limit};
 ghost use Rattle.ocfl_inventory.specs.Table.{IsFit, table_of};
 ghost use Rattle.ocfl_inventory.specs.declared.declaration.Level.TheVariants as level;
 ghost use Rattle.ocfl_audit.specs.Head.{inventory_file_notes, inventory_part};
@@ -27,7 +28,9 @@ use crate::folder::{Folder, fault_at};
 use crate::head_lines::{Sidecars, add_clean, add_declaration, add_inventory};
 use crate::lines::PlaceLines;
 use ocfl_digest::{Bounded, read_bounded};
-use ocfl_inventory::{Declared, Level, Table, Version, declaration_name, read_inventory};
+use ocfl_inventory::{
+    Declared, Level, SIDE_LIMIT, Table, Version, declaration_name, read_inventory,
+};
 use ocfl_report::Code;
 use ocfl_tree::{Entry, Kind, Name, Place, Tree, is_text};
 use std::alloc::{AllocError, Global};
@@ -36,9 +39,6 @@ pub(crate) const INVENTORY_NAME: &str = "inventory.json";
 
 /// An inventory of more bytes is not read.
 pub(crate) const INVENTORY_LIMIT: usize = 268_435_456;
-
-/// No declaration or sidecar of more bytes is of its form.
-pub(crate) const SIDE_LIMIT: usize = 4096;
 
 /// The name of the file of this name, where one is listed.
 fn file_named<'f>(entries: &'f [Entry], name: &str) -> Option<&'f Name>
@@ -101,8 +101,8 @@ fn read_sidecars<T: Tree>(alloc: Global, store: &mut T, folder: &Folder) -> Resu
         → MatchResult result
         (λ sidecars. ReadsFiles root (T.state store.old) (T.state store.new) folder.now.place
         (sidecar_name Sha256 ∷ sidecar_name Sha512 ∷ [])
-        × IsFileAt root (folder.now.place ++ sidecar_name Sha256 ∷ []) 4096 sidecars.short
-        × IsFileAt root (folder.now.place ++ sidecar_name Sha512 ∷ []) 4096 sidecars.long)
+        × IsFileAt root (folder.now.place ++ sidecar_name Sha256 ∷ []) side_limit sidecars.short
+        × IsFileAt root (folder.now.place ++ sidecar_name Sha512 ∷ []) side_limit sidecars.long)
         (λ why. FilesStop root (T.state store.old) (T.state store.new) folder.now.place
         (sidecar_name Sha256 ∷ sidecar_name Sha512 ∷ []) why) }
 {

@@ -7,7 +7,7 @@ ghost use Rattle.ocfl_tree.specs.Listing.{IsOrdinary};
 ghost use Rattle.ocfl_report.specs.Line.{plain};
 ghost use Rattle.ocfl_inventory.specs.Table.{Table as TableOf, named as digests_of};
 ghost use Rattle.ocfl_inventory.specs.TripleView.{named_view};
-ghost use Rattle.ocfl_audit.specs.Zone.{is_listed_zone, zone};
+ghost use Rattle.ocfl_audit.specs.Zone.{is_listed_zone, max_listed_depth, zone};
 ghost use Rattle.ocfl_audit.specs.Lines.{listed_dir_notes};
 ghost use Rattle.ocfl_audit.specs.Walk.{seen_names};
 ghost use Rattle.ocfl_item.specs.Ways.{IsDeclared, IsWayFault};
@@ -103,7 +103,7 @@ fn visit_object<T: Tree>(
     declared: Declared,
 ) -> Result<Visit, Fault>
     ensures only { IfErr result (λ why. IsWayFault why) }
-    ensures fair { length folder.place ≤ 127 → IsOrdinary folder.entries.items
+    ensures fair { length folder.place ≤ max_listed_depth → IsOrdinary folder.entries.items
         → IfOk result (λ v. IsFairVisit folder.place v) }
     ensures told { IsTrue T.told → (root : StorageRoot) → (T.state store.old).tree ≡ root
         → IsDeclared root folder.place folder.entries.items declared
@@ -124,7 +124,7 @@ fn visit_object<T: Tree>(
 /// A directory of the storage hierarchy that declares nothing.
 fn visit_undeclared(alloc: Global, folder: Folder) -> Result<Visit, Fault>
     ensures only { IfErr result (λ why. why ≡ Fault.Memory) }
-    ensures fair { length folder.place ≤ 127 → IsOrdinary folder.entries.items
+    ensures fair { length folder.place ≤ max_listed_depth → IsOrdinary folder.entries.items
         → IfOk result (λ v. IsFairVisit folder.place v) }
     ensures told { (root : StorageRoot)
         → IsUndeclaredAt root folder.place folder.entries.items

@@ -46,7 +46,7 @@ THEN = {
         "./nightly --state ~/audit --budget 10 /srv/ocfl",
         "mkdir -p /var/lib/node_exporter /var/lib/ocfl-scrub",
         "cp -R ~/audit /var/lib/ocfl-scrub/archive"],
-    "/usr/local/share/ocfl-scrub/nightly --state /var/lib/audit --until 06:00 /srv/ocfl": [
+    "/usr/local/share/ocfl-scrub/nightly --state /var/lib/audit \\\n    --until 06:00 /srv/ocfl": [
         "/usr/local/share/ocfl-scrub/nightly --state /var/lib/audit --hours 1 /srv/ocfl"],
 }
 # What differs from one run to the next.

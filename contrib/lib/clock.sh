@@ -29,11 +29,11 @@ read_end() {
 bytes_of() {
   printf '%s\n' "$1" | awk '
     /^[0-9]+[KMGT]?$/ {
-      power = index("KMGT", substr($0, length($0)))
-      printf "%.0f\n", ($0 + 0) * 1024 ^ power
-      found = 1
+      bytes = $0 + 0
+      # Not each awk knows powers.
+      for (power = index("KMGT", substr($0, length($0))); power > 0; power--) bytes *= 1024
     }
-    END { if (!found) print 0 }'
+    END { printf "%.0f\n", bytes }'
 }
 
 # How many bytes the last runs read in a second, or 0 where that is not known.

@@ -9,3 +9,4 @@ pub mod Parts
 pub mod PathTexts
 pub mod LineTexts
 pub mod Fields
+pub mod FindingLaws

@@ -1,8 +1,11 @@
 //! The laws of the texts of places and lines.
-ghost use Rattle.std.specs.Prelude.{◌≡◌, ◌≢◌, List, All, IfOk, flat_map};
+ghost use Rattle.std.specs.Prelude.{◌≡◌, ◌≢◌, ◌↔◌, ◌⊎◌, List, All, Any, IfOk, flat_map, true, false};
 ghost use Rattle.ocfl_tree.specs.Place.{Place as ModelPlace};
 ghost use Rattle.ocfl_tree.specs.Name.{IsPlace};
 ghost use Rattle.ocfl_report.specs.Line.{Line as ModelLine, Item, line_of};
+ghost use Rattle.ocfl_report.specs.Line.{is_finding_code, has_finding, found};
+ghost use Rattle.ocfl_report.specs.declared.code.Code.{Code as ModelCode};
+ghost use Rattle.ocfl_report.specs.declared.code.Code.TheVariants.{Clean, S07};
 ghost use Rattle.ocfl_report.specs.Text.{place_text, line_text, lines_text, text, IsLine};
 
 use crate::line::Line;
@@ -65,4 +68,16 @@ pub fn text_is_that_of_lines()
 pub fn text_determines_the_lines()
     ensures { (ls ms : List ModelLine) → All IsLine ls → All IsLine ms
         → lines_text ls ≡ lines_text ms → ls ≡ ms }
+{}
+
+/// Each line is a finding but that of what is right and the note on an unsupported algorithm. Items
+/// are a finding exactly where a line of one of them is.
+#[tactic(auto, using(crate::proofs::FindingLaws::finding_codes))]
+pub fn findings_are_exact()
+    ensures codes { (c : ModelCode)
+        → (is_finding_code c ≡ false) ↔ ((c ≡ Clean) ⊎ (c ≡ S07)) }
+    ensures items { (i : Item)
+        → (has_finding i ≡ true) ↔ Any (λ l. is_finding_code l.code ≡ true) i.lines }
+    ensures lists { (items : List Item)
+        → (found items ≡ true) ↔ Any (λ i. has_finding i ≡ true) items }
 {}

@@ -118,6 +118,11 @@ def read(path):
         return file.read()
 
 
+def version():
+    """The version that the program has to have."""
+    return text_of(read(os.path.join(TOP, "VERSION"))).rstrip("\n")
+
+
 def digest(data, algorithm="sha256"):
     return hashlib.new(algorithm, data).hexdigest()
 

@@ -10,7 +10,7 @@ import re
 import shutil
 
 import common
-from common import PROGRAM, TOP, digest, is_so
+from common import PROGRAM, TOP, digest, is_so, version
 from shared.clones import git, make_clone
 from shared.nights import ITEMS, make_root, ran, read, tried, write
 from shared.rules import codes_of_rules
@@ -104,16 +104,16 @@ def installing(folder):
     is_so("what is installed", tree(prefix), INSTALLED)
     commit = git(clone, "rev-parse", "HEAD").strip()
     kit = ran(["rt", "version"])[1].strip() if shutil.which("rt") else "unknown"
-    build = "ocfl-scrub 0.1.0\ncommit %s\nkit %s\nsha256 %s\n" % (
-        commit, kit, digest(common.read(PROGRAM)))
+    build = "ocfl-scrub %s\ncommit %s\nkit %s\nsha256 %s\n" % (
+        version(), commit, kit, digest(common.read(PROGRAM)))
     is_so("BUILD", read(prefix + "/share/ocfl-scrub/BUILD"), build)
     is_so("the installed program", ran([prefix + "/bin/ocfl-scrub", "--version"]), (0, build, ""))
     os.rename(prefix + "/share/ocfl-scrub/BUILD", prefix + "/BUILD")
     is_so("the same without BUILD", ran([prefix + "/bin/ocfl-scrub", "--version"]),
-          (0, "ocfl-scrub 0.1.0\n", ""))
+          (0, "ocfl-scrub %s\n" % version(), ""))
     os.rename(prefix + "/BUILD", prefix + "/share/ocfl-scrub/BUILD")
     page = read(prefix + "/share/man/man1/ocfl-scrub.1")
-    is_so("the page's commit", ['"ocfl\\-scrub 0.1.0 (%s)"' % commit[:7] in page,
+    is_so("the page's commit", ['"ocfl\\-scrub %s (%s)"' % (version(), commit[:7]) in page,
                                 "Built from commit %s by %s." % (commit, kit) in page], [True,
                                                                                          True])
     installing_again(clone, prefix, folder)

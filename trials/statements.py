@@ -233,7 +233,7 @@ def real_program(folder):
     text = state.has("reports/statement-000001")
     wanted = ["Program SHA-256: " + digest(common.read(common.PROGRAM)), "Objects: 2",
               "Objects without findings: 1", "Files found right: 2", "Bytes found right: 3",
-              "Findings: 1", "Findings E092: 1", "Program: ocfl-scrub 0.1.0"]
+              "Findings: 1", "Findings E092: 1", "Program: ocfl-scrub " + common.version()]
     is_so("what it says of it", [row for row in wanted if "\n%s\n" % row not in text], [])
     clone = folder + "/clone"
     shutil.copytree(CONTRIB, clone + "/contrib")

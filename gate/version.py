@@ -1,0 +1,43 @@
+"""The version: the file VERSION holds it, and each other place that names it has to agree."""
+import os
+import re
+
+from gate.commands import fail
+from gate.repository import TOP
+
+FILE = os.path.join(TOP, "VERSION")
+NUMBER = r"\d+\.\d+\.\d+"
+# The files that name the version, each with what comes before it there.
+PLACES = {
+    "crates/ocfl_line/src/command.rt": r'const VERSION: &str = "',
+    "crates/ocfl_tests/src/line.rt": r'"ocfl-scrub ',
+    "contrib/man/ocfl-scrub.1": r"ocfl\\-scrub ",
+    "contrib/README.md": r"Program: ocfl-scrub ",
+}
+
+
+def agreed():
+    """Compares each place with the file VERSION, which is one check, and says what differs."""
+    faults = differing(text_of(FILE))
+    for fault in faults:
+        fail(fault)
+    return int(not faults), len(faults)
+
+
+def differing(text):
+    """What is wrong with the version, given the text of its file."""
+    version = text.removesuffix("\n")
+    if not re.fullmatch(NUMBER, version):
+        return ["VERSION is not three numbers with dots between them: %r" % text]
+    faults = []
+    for path, before in PLACES.items():
+        named = re.findall("%s(%s)" % (before, NUMBER), text_of(os.path.join(TOP, path)))
+        faults += [] if named else ["%s does not name the version" % path]
+        faults += ["%s has version %s, and VERSION has %s" % (path, it, version)
+                   for it in named if it != version]
+    return faults
+
+
+def text_of(path):
+    with open(path) as file:
+        return file.read()

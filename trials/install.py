@@ -31,6 +31,7 @@ def tools():
 INSTALLED = """bin/ocfl-scrub 755
 share/man/man1/ocfl-scrub.1 644
 share/ocfl-scrub/BUILD 644
+share/ocfl-scrub/INSTALLED 644
 share/ocfl-scrub/README.md 644
 share/ocfl-scrub/lib/binding.sh 644
 share/ocfl-scrub/lib/clock.sh 644
@@ -145,6 +146,117 @@ def installing_again(clone, prefix, folder):
                                    os.path.exists(folder + "/none")), (3, True, False))
 
 
+# Uninstalling
+
+def everything(folder):
+    """The files and folders below a folder; folders end with a slash."""
+    found = []
+    for where, folders, names in os.walk(folder):
+        found += [os.path.join(where, name) + "/" for name in folders]
+        found += [os.path.join(where, name) for name in names]
+    return sorted(os.path.relpath(path, folder) + "/" * path.endswith("/") for path in found)
+
+
+def uninstalling(folder):
+    clone, prefix = make_clone(folder + "/another"), folder + "/there"
+    install = clone + "/install"
+    refusals(install, prefix, folder)
+    is_so("install, to uninstall", ran([install, prefix])[0], 0)
+    listed = dict(row.split()[::-1] for row in read(prefix + "/" + LIST).splitlines())
+    made = everything(prefix)
+    is_so("the list names all but itself",
+          sorted(path + "/" * (it == "folder") for path, it in listed.items()),
+          [path for path in made if path != LIST])
+    is_so("it has the digest of each", [path for path, it in listed.items() if it != "folder"
+                                        and it != digest(common.read(prefix + "/" + path))], [])
+    status, out, said = ran([install, prefix, "--uninstall"])
+    is_so("uninstall", (status, sorted(out.splitlines()), said),
+          (0, sorted("removed %s/%s" % (prefix, path) for path in made), ""))
+    is_so("nothing is left", everything(prefix), [])
+    given = {"HOME": "/home/her", "DESTDIR": folder + "/below"}
+    ran([install], **given)
+    is_so("uninstall from HOME, with DESTDIR", ran([install, "--uninstall"], **given)[0], 0)
+    is_so("what is left there", everything(folder + "/below"),
+          ["home/", "home/her/", "home/her/.local/"])
+    others_stay(install, prefix)
+    older_version(clone, install, prefix)
+
+
+LIST = "share/ocfl-scrub/INSTALLED"
+
+
+def refusals(install, prefix, folder):
+    """What `--uninstall` refuses; it removes nothing then."""
+    status, out, said = ran([install, "--uninstall", prefix])
+    is_so("nothing is installed", (status, out, "nothing is installed below" in said),
+          (3, "", True))
+    ran([install, prefix])
+    made, kept = everything(prefix), read(prefix + "/" + LIST)
+    write(folder + "/outside", "")
+    empty = digest(b"")
+    for path in ["../outside", "share/../../outside", "share/..", folder + "/outside", ""]:
+        write(prefix + "/" + LIST, kept + "%s %s\n" % (empty, path))
+        for words in [["--uninstall", prefix], [prefix]]:
+            status, out, said = ran([install, *words])
+            is_so("a list that names '%s'" % path, (status, out, "is damaged, so" in said),
+                  (3, "", True))
+    is_so("nothing was removed", [everything(prefix), os.path.exists(folder + "/outside")],
+          [made, True])
+    os.remove(prefix + "/" + LIST)
+    status, out, said = ran([install, "--uninstall", prefix])
+    is_so("an installation without a list", (status, out, "install once more" in said),
+          (3, "", True))
+    shutil.rmtree(prefix)
+
+
+def others_stay(install, prefix):
+    """What was there before, what came later, and what was changed since."""
+    share = prefix + "/share/ocfl-scrub/"
+    os.makedirs(prefix + "/share/man")
+    others = [prefix + "/bin/other", share + "audit/cursor", share + "reports/mine"]
+    write(others[0], "")
+    ran([install, prefix])
+    for other in others[1:]:
+        write(other, "")
+    write(share + "reports/codes", "changed")
+    os.remove(share + "rotate")
+    os.rename(share + "status", share + "mine")
+    os.symlink("mine", share + "status")
+    status, out, said = ran([install, "--uninstall", prefix])
+    stay = [share + name for name in ["reports", "reports/codes", "status"]] + [share[:-1]]
+    is_so("uninstall beside other files", (status, sorted(said.splitlines())), (0, sorted(
+        "install: %s stays: %s" % (path, "it holds other files" if os.path.isdir(path)
+                                   else "it was changed after it was installed")
+        for path in stay)))
+    is_so("it reports nothing that stays", [path for path in stay if "removed %s\n" % path in out],
+          [])
+    is_so("other files stay", everything(prefix), [
+        "bin/", "bin/other", "share/", "share/man/", "share/ocfl-scrub/", "share/ocfl-scrub/audit/",
+        "share/ocfl-scrub/audit/cursor", "share/ocfl-scrub/mine", "share/ocfl-scrub/reports/",
+        "share/ocfl-scrub/reports/codes", "share/ocfl-scrub/reports/mine",
+        "share/ocfl-scrub/status"])
+    shutil.rmtree(prefix)
+
+
+def older_version(clone, install, prefix):
+    """Files that only an earlier version had are removed, unless they were changed."""
+    older = [clone + "/contrib/lib/older.sh", clone + "/contrib/older/one"]
+    for path in older:
+        write(path, "")
+    ran([install, prefix])
+    shutil.rmtree(os.path.dirname(older[1]))
+    os.remove(older[0])
+    there = prefix + "/share/ocfl-scrub/"
+    write(there + "older/one", "changed")
+    status, out, said = ran([install, prefix])
+    is_so("install over an older one",
+          (status, "removed %slib/older.sh\n" % there in out, "older/one stays: it" in said),
+          (0, True, True))
+    os.remove(there + "older/one")
+    ran([install, "--uninstall", prefix])
+    is_so("folders of the older one are known", everything(prefix), [])
+
+
 # The manual page
 
 def manual(prefix):
@@ -214,6 +326,7 @@ def tell(folder):
     prefix = folder + "/prefix"
     tools()
     tried(installing, folder)
+    tried(uninstalling, folder)
     tried(manual, prefix)
     tried(units, prefix)
     tried(cron, folder + "/cron", prefix)

@@ -1,4 +1,5 @@
 """The version: the file VERSION holds it, and each other place that names it has to agree."""
+import datetime
 import os
 import re
 
@@ -35,7 +36,20 @@ def differing(text):
         faults += [] if named else ["%s does not name the version" % path]
         faults += ["%s has version %s, and VERSION has %s" % (path, it, version)
                    for it in named if it != version]
-    return faults
+    return faults + undated(version)
+
+
+def undated(version):
+    """What is wrong with the first section of CHANGELOG.md, but for one of what is not released."""
+    heads = re.findall(r"(?m)^## (.*)$", text_of(os.path.join(TOP, "CHANGELOG.md")))
+    head = next((it for it in heads if it != "Not released"), "nothing")
+    name, _, date = head.partition(", ")
+    try:
+        if name == version and datetime.date.fromisoformat(date).isoformat() == date:
+            return []
+    except ValueError:
+        pass
+    return ["CHANGELOG.md begins with %s, and not with %s and its date" % (head, version)]
 
 
 def text_of(path):

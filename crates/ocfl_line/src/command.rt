@@ -10,7 +10,7 @@ use clap::{Arg, ArgAction, Command, value_parser};
 use std::alloc::{AllocError, Global};
 
 /// The version of the program.
-const VERSION: &str = "0.1.0";
+const VERSION: &str = "1.0.0";
 
 /// What stands below the program's help.
 const AFTER_HELP: &str = "\

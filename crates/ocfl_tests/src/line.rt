@@ -247,7 +247,7 @@ fn answers_with_help(rt: HostRuntime) -> Result<(), Fail> {
     assert_eq!(rt; fault(alloc, "--version"), Some(ErrorKind::DisplayVersion));
     assert_eq!(rt;
         usage_text(alloc, "--version")?.as_str(),
-        "ocfl-scrub 0.1.0\n"
+        "ocfl-scrub 1.0.0\n"
     );
     for (line, part) in [
         ("--help", "\nUsage: ocfl-scrub <COMMAND>\n"),

@@ -58,13 +58,14 @@ module _ (one : (b : Text) (c d : Cursor) → IsTextOf b c → IsTextOf b d → 
   pub shown_in_part : (bytes before behind : Text) (c : Cursor) → IsTextOf bytes c
       → ShowsWith (Some (Some bytes)) note.OutputFailed (Some before) (Some behind)
       ↔ ((gone : ℕ) × ((gone < length (cursor_lines c)) × (behind ≡ before ++ take gone (cursor_lines c))))
-  shown_in_part bytes before behind c is =
-      (λ h. let same = one bytes h.shown c h.stored is in
-          let lines : cursor_lines h.shown ≡ cursor_lines c = ap cursor_lines same in
-          let long : length (cursor_lines h.shown) ≡ length (cursor_lines c) = ap length lines in
-          let proper = h.proper in
-          (h.gone, (omega (arith, proper, long), h.wrote ∙ ap (λ t. before ++ take h.gone t) lines))
-      , λ k. record { shown = c; stored = is; gone = k.0; proper = k.1.0; wrote = k.1.1 })
+  shown_in_part bytes before behind c is = (
+    λ h. let same = one bytes h.shown c h.stored is in
+        let lines : cursor_lines h.shown ≡ cursor_lines c = ap cursor_lines same in
+        let long : length (cursor_lines h.shown) ≡ length (cursor_lines c) = ap length lines in
+        let proper = h.proper in
+        (h.gone, (omega (arith, proper, long), h.wrote ∙ ap (λ t. before ++ take h.gone t) lines)),
+    λ k. record { shown = c; stored = is; gone = k.0; proper = k.1.0; wrote = k.1.1 },
+  )
 
 -- ---- what is handed back
 
@@ -105,9 +106,9 @@ led_from known limits status cycle runs cost whole text c h same =
     let u = summed_up h.ran.cursor h.ran.spent h.ran.found h.ran.end status cycle runs cost whole h.says in
     let paid : IsPaid limits cost h.ran.files = subst (λ k. IsPaid limits k h.ran.files) u.cost_is h.paid in
     let led : h.ran.cursor ≡ after_run (begun c) cost h.ran.files (state_after (ended_as whole) h.last) =
-        h.cursor_is ∙ ap (λ b. after_run (begun b) h.ran.spent h.ran.files (state_after h.ran.end h.last)) same
-        ∙ ap (λ k. after_run (begun c) k h.ran.files (state_after h.ran.end h.last)) u.cost_is
-        ∙ ap (λ e. after_run (begun c) cost h.ran.files (state_after e h.last)) u.how_is in
+    h.cursor_is ∙ ap (λ b. after_run (begun b) h.ran.spent h.ran.files (state_after h.ran.end h.last)) same
+    ∙ ap (λ k. after_run (begun c) k h.ran.files (state_after h.ran.end h.last)) u.cost_is
+    ∙ ap (λ e. after_run (begun c) cost h.ran.files (state_after e h.last)) u.how_is in
     (h.ran.files, (h.last, (paid, (u.cycle_is ∙ ap (λ d. d.cycle) led, (u.runs_are ∙ ap (λ d. d.runs) led, h.handed_is ∙ ap cursor_text led)))))
 
 pub led_from_the_first : (limits : MadeLimits) (status cycle runs cost : ℕ) (whole : Bool) (stored : Vec ℕ Global)

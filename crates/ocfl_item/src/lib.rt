@@ -14,6 +14,7 @@ pub mod laws;
 mod lines;
 mod meeting;
 mod missing;
+mod names;
 mod object;
 mod pending;
 mod role;

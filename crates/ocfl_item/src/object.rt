@@ -12,7 +12,8 @@ ghost use Rattle.ocfl_inventory.specs.Sidecar.{side_limit};
 ghost use Rattle.ocfl_inventory.specs.Table.{IsFit, table_of};
 ghost use Rattle.ocfl_inventory.specs.declared.declaration.Level.TheVariants as level;
 ghost use Rattle.ocfl_audit.specs.Head.{inventory_file_notes, inventory_part};
-ghost use Rattle.ocfl_audit.specs.Head.{is_exact_declaration, on, sidecar_name, sidecars_notes};
+ghost use Rattle.ocfl_audit.specs.Head.{is_exact_declaration, on, sidecars_notes};
+ghost use Rattle.ocfl_audit.specs.Head.{sidecar_name as sidecar_name_of};
 ghost use Rattle.ocfl_audit.specs.Trail.{is_meta};
 ghost use Rattle.ocfl_audit.specs.Zone.{inside, inventory_name, object_declared, table_at, zone};
 ghost use Rattle.ocfl_item.specs.HeadFiles.{FilesStop, IsFileAt, OpensJust, ReadsFile, ReadsFiles};
@@ -27,15 +28,14 @@ use crate::fault::Fault;
 use crate::folder::{Folder, fault_at};
 use crate::head_lines::{Sidecars, add_clean, add_declaration, add_inventory};
 use crate::lines::PlaceLines;
-use ocfl_digest::{Bounded, read_bounded};
+use crate::names::{INVENTORY_NAME, sidecar_name};
+use ocfl_digest::{Algorithm, Bounded, read_bounded};
 use ocfl_inventory::{
     Declared, Level, SIDE_LIMIT, Table, Version, declaration_name, read_inventory,
 };
 use ocfl_report::Code;
 use ocfl_tree::{Entry, Kind, Name, Place, Tree, is_text};
 use std::alloc::{AllocError, Global};
-
-pub(crate) const INVENTORY_NAME: &str = "inventory.json";
 
 /// An inventory of more bytes is not read.
 pub(crate) const INVENTORY_LIMIT: usize = 268_435_456;
@@ -93,6 +93,23 @@ pub(crate) fn read_file<T: Tree>(
     }
 }
 
+/// What the sidecar of an algorithm holds, where it is there.
+fn read_sidecar<T: Tree>(
+    alloc: Global,
+    store: &mut T,
+    folder: &Folder,
+    algorithm: Algorithm,
+) -> Result<Option<Bounded>, Fault>
+    ensures only { IfErr result (λ why. IsWayFault why) }
+    ensures told { IsTrue T.told → (root : StorageRoot) → (T.state store.old).tree ≡ root
+        → IsListing root folder.now.place folder.now.entries.items
+        → is_meta root (folder.now.place ++ sidecar_name_of algorithm ∷ []) ≡ true
+        → ReadsFile root (T.state store.old) (T.state store.new) folder.now.place
+        (sidecar_name_of algorithm) side_limit result }
+{
+    read_file(alloc, store, folder, sidecar_name(algorithm), SIDE_LIMIT)
+}
+
 fn read_sidecars<T: Tree>(alloc: Global, store: &mut T, folder: &Folder) -> Result<Sidecars, Fault>
     ensures only { IfErr result (λ why. IsWayFault why) }
     ensures told { IsTrue T.told → (root : StorageRoot) → (T.state store.old).tree ≡ root
@@ -100,14 +117,14 @@ fn read_sidecars<T: Tree>(alloc: Global, store: &mut T, folder: &Folder) -> Resu
         → zone root folder.now.place ≡ inside folder.now.place []
         → MatchResult result
         (λ sidecars. ReadsFiles root (T.state store.old) (T.state store.new) folder.now.place
-        (sidecar_name Sha256 ∷ sidecar_name Sha512 ∷ [])
-        × IsFileAt root (folder.now.place ++ sidecar_name Sha256 ∷ []) side_limit sidecars.short
-        × IsFileAt root (folder.now.place ++ sidecar_name Sha512 ∷ []) side_limit sidecars.long)
+        (sidecar_name_of Sha256 ∷ sidecar_name_of Sha512 ∷ [])
+        × IsFileAt root (folder.now.place ++ sidecar_name_of Sha256 ∷ []) side_limit sidecars.short
+        × IsFileAt root (folder.now.place ++ sidecar_name_of Sha512 ∷ []) side_limit sidecars.long)
         (λ why. FilesStop root (T.state store.old) (T.state store.new) folder.now.place
-        (sidecar_name Sha256 ∷ sidecar_name Sha512 ∷ []) why) }
+        (sidecar_name_of Sha256 ∷ sidecar_name_of Sha512 ∷ []) why) }
 {
-    let short = read_file(alloc, store, folder, "inventory.json.sha256", SIDE_LIMIT)?;
-    let long = read_file(alloc, store, folder, "inventory.json.sha512", SIDE_LIMIT)?;
+    let short = read_sidecar(alloc, store, folder, Algorithm::Sha256)?;
+    let long = read_sidecar(alloc, store, folder, Algorithm::Sha512)?;
     Ok(Sidecars { short, long })
 }
 
@@ -127,12 +144,12 @@ fn add_whole_inventory<T: Tree>(
         → zone root folder.now.place ≡ inside folder.now.place []
         → MatchResult result
         (λ table. ReadsFiles root (T.state store.old) (T.state store.new) folder.now.place
-        (sidecar_name Sha256 ∷ sidecar_name Sha512 ∷ [])
+        (sidecar_name_of Sha256 ∷ sidecar_name_of Sha512 ∷ [])
         × (table ≡ table_of bytes.now)
         × Adds lines.old lines.new (sidecars_notes root folder.now.place bytes.now
         ++ inventory_part root folder.now.place bytes.now (algorithm_of bytes.now)))
         (λ why. FilesStop root (T.state store.old) (T.state store.new) folder.now.place
-        (sidecar_name Sha256 ∷ sidecar_name Sha512 ∷ []) why) }
+        (sidecar_name_of Sha256 ∷ sidecar_name_of Sha512 ∷ []) why) }
 {
     let sidecars = read_sidecars(alloc, store, folder)?;
     Ok(add_inventory(alloc, lines, bytes, &sidecars)?)

@@ -13,6 +13,7 @@ ghost use Rattle.ocfl_item.specs.Around.{IsMet};
 ghost use Rattle.ocfl_item.specs.Visiting.{HasRole, IsEntryAt};
 
 use crate::folder::names_extensions;
+use crate::names::{INVENTORY_NAME, is_sidecar_name};
 use ocfl_inventory::{Level, Table, is_declaration_name, is_version_name};
 use ocfl_report::Code;
 use ocfl_tree::{Entry, Kind, Place, is_text};
@@ -49,9 +50,7 @@ pub(crate) fn role_in_hierarchy(place: &Place, entry: &Entry) -> Role
 fn is_inventory_or_sidecar(name: &str) -> bool
     ensures { result ≡ is_beside_inventory name.now }
 {
-    is_text(name, "inventory.json")
-        || is_text(name, "inventory.json.sha256")
-        || is_text(name, "inventory.json.sha512")
+    is_text(name, INVENTORY_NAME) || is_sidecar_name(name)
 }
 
 /// Whether an object's root may hold a file of this name.

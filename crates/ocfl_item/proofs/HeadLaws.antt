@@ -1,5 +1,5 @@
 -- The lines of an object's head, from files that were read before.
-use Rattle.std.proofs.Common.{◌≡◌, ℕ, ◌<◌, ◌≤◌, List, [], ◌∷◌, ◌++◌, Bool, true, false, Option, Some, None, Ok, Err, length, refl, sym, ◌∙◌, ap, subst, arith}
+use Rattle.std.proofs.Common.{◌≡◌, ℕ, ◌<◌, ◌≤◌, List, [], ◌∷◌, ◌++◌, Bool, true, false, Option, Some, None, Ok, Err, length, refl, sym, ◌∙◌, ap, cond, subst, arith}
 use Rattle.std.specs.Prelude.{◌&&◌, nat_eq, is_some, slice_get, IfSome}
 use Rattle.std.specs.List.{starts_with}
 use Rattle.std.specs.Result.{result_ok}
@@ -14,8 +14,13 @@ use Rattle.ocfl_tree.proofs.Orders.{true_not_false}
 use Rattle.ocfl_report.specs.Line.{Note, note}
 use Rattle.ocfl_report.specs.declared.code.Code.TheVariants.{S01}
 use Rattle.ocfl_digest.specs.Bounded.{IsBoundedTo}
+use Rattle.ocfl_digest.specs.Digest.{digest_bytes_of}
+use Rattle.ocfl_digest.specs.Digests.{AreDigests}
+use Rattle.ocfl_digest.specs.Wanted.{wants}
 use Rattle.ocfl_digest.specs.declared.algorithm.Algorithm.{Algorithm}
 use Rattle.ocfl_digest.specs.declared.bounded.Bounded.{Bounded}
+use Rattle.ocfl_digest.specs.declared.digests.Digests.{Digests}
+use Rattle.ocfl_digest.specs.declared.wanted.Wanted.{Wanted}
 use Rattle.ocfl_inventory.specs.Reading.{Reading, algorithm_of}
 use Rattle.ocfl_inventory.specs.Notes.{notes_of}
 use Rattle.ocfl_inventory.specs.Sidecar.{sidecar_digits}
@@ -29,7 +34,7 @@ use Rattle.ocfl_inventory.specs.declared.declaration.Version.{Version}
 use Rattle.ocfl_inventory.specs.declared.declaration.Version.TheVariants.{V1_0, V1_1}
 use Rattle.ocfl_audit.specs.Head.{is_exact_declaration, inventory_part}
 use Rattle.ocfl_item.specs.HeadFiles.{IsFileAt}
-use Rattle.ocfl_item.specs.HeadLines.{declared_notes, named_notes}
+use Rattle.ocfl_item.specs.HeadLines.{HasDigestFor, declared_notes, named_notes}
 use Rattle.ocfl_audit.proofs.BelowLaws.{text_from_test}
 use Rattle.ocfl_item.proofs.InventoryLaws.{stopped_notes, stated_has_sidecar}
 
@@ -128,3 +133,9 @@ named_have_sidecars bytes a is = subst (λ o. IfSome o (λ x. is_some (sidecar_d
     by : (r : Reading Algorithm) → algorithm_of bytes ≡ r → IfSome (result_ok r) (λ x. is_some (sidecar_digits x) ≡ true)
     by (Ok a) e = stated_has_sidecar bytes a e
     by (Err n) e = tt
+
+-- the digest of an algorithm is there, where it is wanted for each sidecar that is
+pub digest_wanted : (w : Wanted) (bytes : Text) (digests : Digests) (file : Option Bounded) (a : Algorithm)
+    → AreDigests w bytes digests → (is_some file ≡ true → wants w a ≡ true) → HasDigestFor file a bytes digests
+digest_wanted w bytes digests file a are wanted there =
+    are.each a ∙ ap (λ b. cond b (Some (digest_bytes_of a bytes)) None) (wanted there)

@@ -1,10 +1,14 @@
 -- The lines of an object's head, beside the definition.
-use Rattle.std.specs.Prelude.{◌&&◌, List, [], ◌∷◌, ◌++◌, Bool, not, Option, Some, None}
-use Rattle.ocfl_tree.specs.Place.{Place}
+use Rattle.std.specs.Prelude.{◌≡◌, ◌&&◌, true, is_some, List, [], ◌∷◌, ◌++◌, Bool, not, Option, Some, None}
+use Rattle.ocfl_tree.specs.Place.{Text, Place}
 use Rattle.ocfl_tree.specs.StorageRoot.{StorageRoot}
 use Rattle.ocfl_report.specs.Line.{Note}
+use Rattle.ocfl_digest.specs.Digest.{digest_bytes_of}
+use Rattle.ocfl_digest.specs.Digests.{digest_in}
 use Rattle.ocfl_digest.specs.declared.algorithm.Algorithm.{Algorithm}
 use Rattle.ocfl_digest.specs.declared.algorithm.Algorithm.TheVariants.{Sha256, Sha512}
+use Rattle.ocfl_digest.specs.declared.bounded.Bounded.{Bounded}
+use Rattle.ocfl_digest.specs.declared.digests.Digests.{Digests}
 use Rattle.ocfl_item.specs.HeadFiles.{IsFileAt}
 use Rattle.ocfl_item.specs.declared.head_lines.Sidecars.{Sidecars}
 use Rattle.ocfl_inventory.specs.Declaration.{Declared}
@@ -21,6 +25,10 @@ declared_notes root d Object declared = head_notes_by root d declared
 -- these were read of the sidecars of o
 abbrev pub AreSidecars : StorageRoot → Place → Sidecars → Type 0
 AreSidecars root o s = IsFileAt root (o ++ sidecar_name Sha256 ∷ []) side_limit s.short × IsFileAt root (o ++ sidecar_name Sha512 ∷ []) side_limit s.long
+
+-- where the sidecar of a is there, its inventory's digest is among these
+abbrev pub HasDigestFor : Option Bounded → Algorithm → Text → Digests → Type 0
+HasDigestFor file a bytes digests = is_some file ≡ true → digest_in digests a ≡ Some (digest_bytes_of a bytes)
 
 -- whether the sidecar of an algorithm is missing while there is one
 abbrev pub is_other_there : StorageRoot → Place → Algorithm → Bool

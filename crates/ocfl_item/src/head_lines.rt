@@ -7,6 +7,8 @@ ghost use Rattle.ocfl_tree.specs.StorageRoot.{StorageRoot};
 ghost use Rattle.ocfl_report.specs.Line.{Note, plain};
 ghost use Rattle.ocfl_digest.specs.Bounded.{IsBoundedTo};
 ghost use Rattle.ocfl_digest.specs.Digest.{digest_bytes_of};
+ghost use Rattle.ocfl_digest.specs.Digests.{digest_in};
+ghost use Rattle.ocfl_digest.specs.Wanted.{wants};
 ghost use Rattle.ocfl_digest.specs.declared.algorithm.Algorithm.TheVariants.{Sha256, Sha512};
 ghost use Rattle.ocfl_inventory.specs.Declaration.{declaration_name as name_of_declaration};
 ghost use Rattle.ocfl_inventory.specs.DigestText.{digest_of};
@@ -19,12 +21,12 @@ ghost use Rattle.ocfl_audit.specs.Head.{on, or_clean, is_exact_declaration, side
 ghost use Rattle.ocfl_audit.specs.Head.{sidecar_at, mismatch, sidecar_notes, are_sidecars_missing};
 ghost use Rattle.ocfl_audit.specs.Head.{sidecars_notes, inventory_part};
 ghost use Rattle.ocfl_item.specs.HeadFiles.{IsFileAt};
-ghost use Rattle.ocfl_item.specs.HeadLines.{AreSidecars, is_other_there, named_notes};
+ghost use Rattle.ocfl_item.specs.HeadLines.{AreSidecars, HasDigestFor, is_other_there, named_notes};
 ghost use Rattle.ocfl_item.specs.Pending.{Adds, HasLines};
 
 use crate::declarations::is_exact;
 use crate::lines::{PlaceLines, hex_of};
-use ocfl_digest::{Algorithm, Bounded, Wanted, hash_bytes};
+use ocfl_digest::{Algorithm, Bounded, Digests, Wanted, hash_bytes};
 use ocfl_inventory::{Level, Remark, Sum, Table, Version, read_inventory, sidecar};
 use ocfl_report::Code;
 use ocfl_tree::is_bytes;
@@ -83,16 +85,18 @@ fn add_unless_found(
 fn add_unless_equal(
     alloc: Global,
     lines: &mut PlaceLines,
-    inventory: &[u8],
+    digests: &Digests,
     algorithm: Algorithm,
     sum: &Sum,
 ) -> Result<(), AllocError>
-    ensures { OnOk result (Adds lines.old lines.new
-        (on (not (text_eq (sum_view sum.now) (digest_bytes_of algorithm inventory.now)))
+    ensures place { OnOk result (lines.new.place ≡ lines.old.place) }
+    ensures lines { (inventory : Text) → digest_in digests.now algorithm
+        ≡ Some (digest_bytes_of algorithm inventory)
+        → OnOk result (Adds lines.old lines.new
+        (on (not (text_eq (sum_view sum.now) (digest_bytes_of algorithm inventory)))
         (mismatch Code.E060 algorithm (encode_lower (sum_view sum.now))
-        (digest_of algorithm inventory.now)))) }
+        (digest_of algorithm inventory)))) }
 {
-    let digests = hash_bytes(inventory, Wanted::none().with(algorithm));
     match digests.get(algorithm) {
         Some(found) => add_unless_found(alloc, lines, algorithm, sum.bytes(), found),
         None => Ok(()),
@@ -115,21 +119,22 @@ fn sum_of(algorithm: Algorithm, file: &Bounded) -> Option<Sum>
 fn add_sidecar(
     alloc: Global,
     lines: &mut PlaceLines,
-    inventory: &[u8],
+    digests: &Digests,
     algorithm: Algorithm,
     file: &Option<Bounded>,
 ) -> Result<(), AllocError>
     ensures place { OnOk result (lines.new.place ≡ lines.old.place) }
-    ensures lines { (root : StorageRoot) (o : Names)
+    ensures lines { (root : StorageRoot) (o : Names) (inventory : Text)
         → IsFileAt root (o ++ sidecar_name algorithm ∷ []) side_limit file.now
+        → HasDigestFor file.now algorithm inventory digests.now
         → OnOk result (Adds lines.old lines.new
-        (sidecar_notes algorithm inventory.now (sidecar_at root o algorithm))) }
+        (sidecar_notes algorithm inventory (sidecar_at root o algorithm))) }
 {
     let Some(file) = file else {
         return Ok(());
     };
     match sum_of(algorithm, file) {
-        Some(sum) => add_unless_equal(alloc, lines, inventory, algorithm, &sum),
+        Some(sum) => add_unless_equal(alloc, lines, digests, algorithm, &sum),
         None => {
             let detail = String::from_str(alloc, algorithm.name())?;
             lines.add(Code::E061, detail)
@@ -150,7 +155,23 @@ fn add_unless_any(lines: &mut PlaceLines, sidecars: &Sidecars) -> Result<(), All
     lines.add_plain(Code::E058)
 }
 
-/// Appends the lines of the sidecars: neither is there, or what is wrong with those that are.
+/// The algorithms of the sidecars that are there.
+fn wanted_by(sidecars: &Sidecars) -> Wanted
+    ensures short { is_some sidecars.now.short ≡ true → wants result Sha256 ≡ true }
+    ensures long { is_some sidecars.now.long ≡ true → wants result Sha512 ≡ true }
+{
+    let mut wanted = Wanted::none();
+    if sidecars.short.is_some() {
+        wanted = wanted.with(Algorithm::Sha256);
+    }
+    if sidecars.long.is_some() {
+        wanted = wanted.with(Algorithm::Sha512);
+    }
+    wanted
+}
+
+/// Appends the lines of the sidecars: neither is there, or what is wrong with those that are. One
+/// pass over the inventory gives the digests for both.
 fn add_sidecars(
     alloc: Global,
     lines: &mut PlaceLines,
@@ -163,8 +184,9 @@ fn add_sidecars(
         (sidecars_notes root o inventory.now)) }
 {
     add_unless_any(lines, sidecars)?;
-    add_sidecar(alloc, lines, inventory, Algorithm::Sha256, &sidecars.short)?;
-    add_sidecar(alloc, lines, inventory, Algorithm::Sha512, &sidecars.long)
+    let digests = hash_bytes(inventory, wanted_by(sidecars));
+    add_sidecar(alloc, lines, &digests, Algorithm::Sha256, &sidecars.short)?;
+    add_sidecar(alloc, lines, &digests, Algorithm::Sha512, &sidecars.long)
 }
 
 /// Whether the sidecar of an inventory's algorithm is missing while the other is there.

@@ -64,18 +64,17 @@ fn is_hashed(named: &[Named], sight: Sight) -> bool
 /// is seen there; none where the place has no lines.
 pub(crate) fn content_item(
     alloc: Global,
-    place: &Place,
+    place: Place,
     named: Vec<Named>,
     sight: Sight,
 ) -> Result<Option<Pending>, AllocError>
-    ensures place { IfOk result (λ item. IfSome item (λ pending. pending.place ≡ place.now)) }
+    ensures place { IfOk result (λ item. IfSome item (λ pending. pending.place ≡ place)) }
     ensures told { (root : StorageRoot) (t : Table) (q : Spot)
-        → content_at root place.now ≡ Some (t, q)
-        → map named_view named.items ≡ digests_of t q → IsSight root place.now sight
-        → IfOk result (λ item. MatchOption item (notes root None place.now ≡ [])
-        (λ pending. IsPending root pending × (pending.place ≡ place.now))) }
+        → content_at root place ≡ Some (t, q)
+        → map named_view named.items ≡ digests_of t q → IsSight root place sight
+        → IfOk result (λ item. MatchOption item (notes root None place ≡ [])
+        (λ pending. IsPending root pending × (pending.place ≡ place))) }
 {
-    let place = place.try_clone()?;
     if is_hashed(&named, sight) {
         return Ok(Some(Pending {
             place,

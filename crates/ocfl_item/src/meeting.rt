@@ -84,5 +84,5 @@ pub fn visit_path(
     if named.is_empty() {
         return Ok(None);
     }
-    Ok(content_item(alloc, place, named, Sight::Nothing)?)
+    Ok(content_item(alloc, place.try_clone()?, named, Sight::Nothing)?)
 }

@@ -178,16 +178,16 @@ pub(crate) fn visit_by_role<T: Tree>(
 /// A content place that is not entered.
 fn visit_unentered(
     alloc: Global,
-    place: &Place,
+    place: Place,
     named: Vec<Named>,
     sight: Sight,
 ) -> Result<Visit, Fault>
     ensures only { IfErr result (λ why. why ≡ Fault.Memory) }
-    ensures fair { IfOk result (λ v. IsFairVisit place.now v) }
+    ensures fair { IfOk result (λ v. IsFairVisit place v) }
     ensures told { (root : StorageRoot) (t : TableOf) (q : Spot)
-        → content_at root place.now ≡ Some (t, q)
-        → map named_view named.items ≡ digests_of t q → IsSight root place.now sight
-        → seen_names root place.now ≡ [] → IfOk result (λ v. IsVisit root place.now v) }
+        → content_at root place ≡ Some (t, q)
+        → map named_view named.items ≡ digests_of t q → IsSight root place sight
+        → seen_names root place ≡ [] → IfOk result (λ v. IsVisit root place v) }
 {
     Ok(Visit::of_item(content_item(alloc, place, named, sight)?))
 }
@@ -207,7 +207,7 @@ fn visit_content_directory<T: Tree>(
         → Visits root (T.state store.old) (T.state store.new) place result }
 {
     if place.depth() > MAX_LISTED_DEPTH {
-        return visit_unentered(alloc, &place, named, Sight::DeepDir);
+        return visit_unentered(alloc, place, named, Sight::DeepDir);
     }
     let folder = list(store, place)?;
     let sight = if folder.entries.is_empty() {
@@ -215,7 +215,7 @@ fn visit_content_directory<T: Tree>(
     } else {
         Sight::Dir
     };
-    let item = content_item(alloc, &folder.place, named, sight)?;
+    let item = content_item(alloc, folder.place.try_clone()?, named, sight)?;
     Ok(Visit::of_folder(item, folder))
 }
 
@@ -236,8 +236,8 @@ pub(crate) fn visit_in_content<T: Tree>(
         → Visits root (T.state store.old) (T.state store.new) place result }
 {
     match entry.kind {
-        Kind::File => visit_unentered(alloc, &place, named, Sight::File),
-        Kind::Other => visit_unentered(alloc, &place, named, Sight::Other),
+        Kind::File => visit_unentered(alloc, place, named, Sight::File),
+        Kind::Other => visit_unentered(alloc, place, named, Sight::Other),
         Kind::Dir => visit_content_directory(alloc, store, place, named),
     }
 }

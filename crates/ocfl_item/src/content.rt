@@ -2,7 +2,7 @@
 ghost use Rattle.std.specs.Prelude.{◌≡◌, ◌++◌, [], IfOk, IfSome, MatchOption, None, OnOk, Some};
 ghost use Rattle.std.specs.Prelude.{map};
 ghost use Rattle.ocfl_tree.specs.Ascending.{IsAscending};
-ghost use Rattle.ocfl_tree.specs.Place.{Place as Spot};
+ghost use Rattle.ocfl_tree.specs.Place.{Place as ModelPlace};
 ghost use Rattle.ocfl_tree.specs.StorageRoot.{StorageRoot};
 ghost use Rattle.ocfl_inventory.specs.Table.{Table, named as digests_of, named_cmp};
 ghost use Rattle.ocfl_inventory.specs.TripleView.{named_view};
@@ -69,7 +69,7 @@ pub(crate) fn content_item(
     sight: Sight,
 ) -> Result<Option<Pending>, AllocError>
     ensures place { IfOk result (λ item. IfSome item (λ pending. pending.place ≡ place)) }
-    ensures told { (root : StorageRoot) (t : Table) (q : Spot)
+    ensures told { (root : StorageRoot) (t : Table) (q : ModelPlace)
         → content_at root place ≡ Some (t, q)
         → map named_view named.items ≡ digests_of t q → IsSight root place sight
         → IfOk result (λ item. MatchOption item (notes root None place ≡ [])

@@ -1,7 +1,7 @@
 //! The line of what a directory declares, where that is not one declaration of a known version; and
 //! whether a declaration has the bytes that it must have.
 ghost use Rattle.std.specs.Prelude.{◌≡◌, ◌≤◌, ◌++◌, ◌∷◌, [], false, length, IfOk, OnOk};
-ghost use Rattle.ocfl_tree.specs.Place.{Place as Names, Text, text_eq};
+ghost use Rattle.ocfl_tree.specs.Place.{Place as ModelPlace, Text, text_eq};
 ghost use Rattle.ocfl_tree.specs.StorageRoot.{StorageRoot};
 ghost use Rattle.ocfl_report.specs.Line.{note};
 ghost use Rattle.ocfl_digest.specs.Bounded.{IsBoundedTo};
@@ -36,7 +36,7 @@ fn is_file(bytes: &[u8], file: &Bounded) -> bool
 
 /// Whether the file of a declaration has just the bytes of that version's.
 pub(crate) fn is_exact(level: Level, version: Version, declaration: &Option<Bounded>) -> bool
-    ensures { (root : StorageRoot) (d : Names) → IsFileAt root
+    ensures { (root : StorageRoot) (d : ModelPlace) → IsFileAt root
         (d ++ name_of_declaration level version ∷ []) side_limit declaration.now
         → result ≡ is_exact_declaration root d level version }
 {
@@ -77,7 +77,7 @@ fn add_stop(
     declared: Declared,
 ) -> Result<(), AllocError>
     ensures place { OnOk result (lines.new.place ≡ lines.old.place) }
-    ensures lines { (root : StorageRoot) (o : Names)
+    ensures lines { (root : StorageRoot) (o : ModelPlace)
         → is_known (meaning level entries.now declared) ≡ false
         → PointsAtOne level entries.now declared
         → OnOk result (Adds lines.old lines.new

@@ -2,7 +2,7 @@
 ghost use Rattle.std.specs.Prelude.{◌≡◌, ◌++◌, ◌∷◌, [], List, true, false, not, is_some, map};
 ghost use Rattle.std.specs.Prelude.{option_map, Some, IfSome, IfOk, OnOk};
 ghost use Rattle.hex.specs.Hex.{encode_lower};
-ghost use Rattle.ocfl_tree.specs.Place.{Place as Names, Text, text_eq};
+ghost use Rattle.ocfl_tree.specs.Place.{Place as ModelPlace, Text, text_eq};
 ghost use Rattle.ocfl_tree.specs.StorageRoot.{StorageRoot};
 ghost use Rattle.ocfl_report.specs.Line.{Note, plain};
 ghost use Rattle.ocfl_digest.specs.Bounded.{IsBoundedTo};
@@ -49,7 +49,7 @@ pub(crate) fn add_declaration(
     declaration: &Option<Bounded>,
 ) -> Result<(), AllocError>
     ensures place { OnOk result (lines.new.place ≡ lines.old.place) }
-    ensures lines { (root : StorageRoot) (o : Names) → IsFileAt root
+    ensures lines { (root : StorageRoot) (o : ModelPlace) → IsFileAt root
         (o ++ name_of_declaration level.Object version ∷ []) side_limit declaration.now
         → OnOk result (Adds lines.old lines.new
         (on (not (is_exact_declaration root o level.Object version))
@@ -124,7 +124,7 @@ fn add_sidecar(
     file: &Option<Bounded>,
 ) -> Result<(), AllocError>
     ensures place { OnOk result (lines.new.place ≡ lines.old.place) }
-    ensures lines { (root : StorageRoot) (o : Names) (inventory : Text)
+    ensures lines { (root : StorageRoot) (o : ModelPlace) (inventory : Text)
         → IsFileAt root (o ++ sidecar_name algorithm ∷ []) side_limit file.now
         → HasDigestFor file.now algorithm inventory digests.now
         → OnOk result (Adds lines.old lines.new
@@ -145,7 +145,7 @@ fn add_sidecar(
 /// Appends the line of an inventory without sidecars.
 fn add_unless_any(lines: &mut PlaceLines, sidecars: &Sidecars) -> Result<(), AllocError>
     ensures place { OnOk result (lines.new.place ≡ lines.old.place) }
-    ensures lines { (root : StorageRoot) (o : Names) → AreSidecars root o sidecars.now
+    ensures lines { (root : StorageRoot) (o : ModelPlace) → AreSidecars root o sidecars.now
         → OnOk result (Adds lines.old lines.new
         (on (are_sidecars_missing root o) (plain Code.E058))) }
 {
@@ -179,7 +179,7 @@ fn add_sidecars(
     sidecars: &Sidecars,
 ) -> Result<(), AllocError>
     ensures place { OnOk result (lines.new.place ≡ lines.old.place) }
-    ensures lines { (root : StorageRoot) (o : Names) → AreSidecars root o sidecars.now
+    ensures lines { (root : StorageRoot) (o : ModelPlace) → AreSidecars root o sidecars.now
         → OnOk result (Adds lines.old lines.new
         (sidecars_notes root o inventory.now)) }
 {
@@ -191,7 +191,7 @@ fn add_sidecars(
 
 /// Whether the sidecar of an inventory's algorithm is missing while the other is there.
 fn has_other(algorithm: Algorithm, sidecars: &Sidecars) -> bool
-    ensures { (root : StorageRoot) (o : Names) → AreSidecars root o sidecars.now
+    ensures { (root : StorageRoot) (o : ModelPlace) → AreSidecars root o sidecars.now
         → is_some (sidecar_digits algorithm) ≡ true
         → result ≡ is_other_there root o algorithm }
 {
@@ -211,7 +211,7 @@ fn add_missing_sidecar(
     sidecars: &Sidecars,
 ) -> Result<(), AllocError>
     ensures place { OnOk result (lines.new.place ≡ lines.old.place) }
-    ensures lines { (root : StorageRoot) (o : Names) → AreSidecars root o sidecars.now
+    ensures lines { (root : StorageRoot) (o : ModelPlace) → AreSidecars root o sidecars.now
         → IfSome algorithm (λ a. is_some (sidecar_digits a) ≡ true)
         → OnOk result (Adds lines.old lines.new
         (named_notes root o algorithm)) }
@@ -246,7 +246,7 @@ fn add_read(
     sidecars: &Sidecars,
 ) -> Result<Option<Table>, AllocError>
     ensures place { OnOk result (lines.new.place ≡ lines.old.place) }
-    ensures lines { (root : StorageRoot) (o : Names) → AreSidecars root o sidecars.now
+    ensures lines { (root : StorageRoot) (o : ModelPlace) → AreSidecars root o sidecars.now
         → OnOk result (Adds lines.old lines.new
         (inventory_part root o inventory.now (algorithm_in inventory.now))) }
     ensures table { IfOk result (λ table. table ≡ table_of inventory.now) }
@@ -269,7 +269,7 @@ pub(crate) fn add_inventory(
     ensures table { IfOk result (λ table. table ≡ table_of bytes.now) }
     ensures fit { IfOk result (λ table. IfSome table (λ t. IsFit t)) }
     ensures place { OnOk result (lines.new.place ≡ lines.old.place) }
-    ensures lines { (root : StorageRoot) (o : Names) → AreSidecars root o sidecars.now
+    ensures lines { (root : StorageRoot) (o : ModelPlace) → AreSidecars root o sidecars.now
         → OnOk result (Adds lines.old lines.new
         (sidecars_notes root o bytes.now
         ++ inventory_part root o bytes.now (algorithm_in bytes.now))) }

@@ -1,6 +1,6 @@
 //! What is met at a place below the storage root, by the part of the root that it lies in.
 ghost use Rattle.std.specs.Prelude.{◌≡◌, None, IsTrue, IfErr, IfOk, IfSome, drop, length, map};
-ghost use Rattle.ocfl_tree.specs.Place.{Place as Spot};
+ghost use Rattle.ocfl_tree.specs.Place.{Place as ModelPlace};
 ghost use Rattle.ocfl_tree.specs.StorageRoot.{StorageRoot};
 ghost use Rattle.ocfl_inventory.specs.Table.{named as digests_of};
 ghost use Rattle.ocfl_inventory.specs.TripleView.{named_view};
@@ -48,7 +48,7 @@ pub fn visit_entry<T: Tree>(
     ensures only { IfErr result (λ why. IsWayFault why) }
     ensures fair { IfOk result (λ v. IsFairVisit place v) }
     ensures told { IsTrue T.told → (root : StorageRoot) → (T.state store.old).tree ≡ root
-        → (d : Spot) → IsMet root d around.now entry.now place
+        → (d : ModelPlace) → IsMet root d around.now entry.now place
         → Visits root (T.state store.old) (T.state store.new) place result }
 {
     let Some(around) = around else {

@@ -1,7 +1,7 @@
 //! What an entry is to the walk, by its kind and its name, in each part of the storage root.
 ghost use Rattle.std.specs.Prelude.{◌≡◌, ◌∷◌, ◌||◌, codes, [], None, Some};
 ghost use Rattle.std.specs.Prelude.{true};
-ghost use Rattle.ocfl_tree.specs.Place.{Place as Spot, Text, text_eq};
+ghost use Rattle.ocfl_tree.specs.Place.{Place as ModelPlace, Text, text_eq};
 ghost use Rattle.ocfl_tree.specs.StorageRoot.{StorageRoot};
 ghost use Rattle.ocfl_inventory.specs.Declaration.{is_declaration};
 ghost use Rattle.ocfl_inventory.specs.ListedPath.{is_version_name as is_version_text};
@@ -34,7 +34,7 @@ pub(crate) enum Role {
 /// The role of an entry of a directory of the storage hierarchy (OCFL 1.1, 4.3 Storage
 /// Hierarchies).
 pub(crate) fn role_in_hierarchy(place: &Place, entry: &Entry) -> Role
-    ensures { (root : StorageRoot) (d : Spot) → IsMet root d None entry.now place.now
+    ensures { (root : StorageRoot) (d : ModelPlace) → IsMet root d None entry.now place.now
         → HasRole root place.now result }
 {
     let above = place.depth().saturating_sub(1);
@@ -69,8 +69,8 @@ fn is_left_alone(name: &str) -> bool
 
 /// The role of an entry of an object's root (OCFL 1.1, 3.1 Object Structure).
 pub(crate) fn role_in_object(entry: &Entry) -> Role
-    ensures { (root : StorageRoot) (e : Spot) → IsEntryAt root e entry.now.kind
-        → (o : Spot) (t : TableOf) → zone root e ≡ inside o (entry.now.name ∷ [])
+    ensures { (root : StorageRoot) (e : ModelPlace) → IsEntryAt root e entry.now.kind
+        → (o : ModelPlace) (t : TableOf) → zone root e ≡ inside o (entry.now.name ∷ [])
         → table_at root o ≡ Some t → HasRole root e result }
 {
     let name = entry.name.as_str();
@@ -86,8 +86,8 @@ pub(crate) fn role_in_object(entry: &Entry) -> Role
 
 /// The role of an entry of a version directory (OCFL 1.1, 3.3 Version Directories).
 pub(crate) fn role_in_version(entry: &Entry, table: &Table) -> Role
-    ensures { (root : StorageRoot) (e : Spot) → IsEntryAt root e entry.now.kind
-        → (o : Spot) (version : Text) → zone root e ≡ inside o (version ∷ entry.now.name ∷ [])
+    ensures { (root : StorageRoot) (e : ModelPlace) → IsEntryAt root e entry.now.kind
+        → (o : ModelPlace) (version : Text) → zone root e ≡ inside o (version ∷ entry.now.name ∷ [])
         → table_at root o ≡ Some table.now → is_version_text version ≡ true
         → HasRole root e result }
 {

@@ -1,7 +1,7 @@
 //! What is met at an entry of a directory.
 ghost use Rattle.std.specs.Prelude.{◌≡◌, ◌≤◌, ◌∷◌, [], None, Some, true};
 ghost use Rattle.std.specs.Prelude.{IsTrue, IfErr, IfOk, map, length};
-ghost use Rattle.ocfl_tree.specs.Place.{Place as Spot};
+ghost use Rattle.ocfl_tree.specs.Place.{Place as ModelPlace};
 ghost use Rattle.ocfl_tree.specs.StorageRoot.{StorageRoot};
 ghost use Rattle.ocfl_tree.specs.Listing.{IsOrdinary};
 ghost use Rattle.ocfl_report.specs.Line.{plain};
@@ -184,7 +184,7 @@ fn visit_unentered(
 ) -> Result<Visit, Fault>
     ensures only { IfErr result (λ why. why ≡ Fault.Memory) }
     ensures fair { IfOk result (λ v. IsFairVisit place v) }
-    ensures told { (root : StorageRoot) (t : TableOf) (q : Spot)
+    ensures told { (root : StorageRoot) (t : TableOf) (q : ModelPlace)
         → content_at root place ≡ Some (t, q)
         → map named_view named.items ≡ digests_of t q → IsSight root place sight
         → seen_names root place ≡ [] → IfOk result (λ v. IsVisit root place v) }
@@ -202,8 +202,8 @@ fn visit_content_directory<T: Tree>(
     ensures only { IfErr result (λ why. IsWayFault why) }
     ensures fair { IfOk result (λ v. IsFairVisit place v) }
     ensures told { IsTrue T.told → (root : StorageRoot) → (T.state store.old).tree ≡ root
-        → IsListedAt root place → (t : TableOf) (q : Spot) → content_at root place ≡ Some (t, q)
-        → map named_view named.items ≡ digests_of t q
+        → IsListedAt root place → (t : TableOf) (q : ModelPlace)
+        → content_at root place ≡ Some (t, q) → map named_view named.items ≡ digests_of t q
         → Visits root (T.state store.old) (T.state store.new) place result }
 {
     if place.depth() > MAX_LISTED_DEPTH {
@@ -231,7 +231,7 @@ pub(crate) fn visit_in_content<T: Tree>(
     ensures fair { IfOk result (λ v. IsFairVisit place v) }
     ensures told { IsTrue T.told → (root : StorageRoot) → (T.state store.old).tree ≡ root
         → IsEntryAt root place entry.now.kind → is_listed_zone root (zone root place) ≡ true
-        → (t : TableOf) (q : Spot) → content_at root place ≡ Some (t, q)
+        → (t : TableOf) (q : ModelPlace) → content_at root place ≡ Some (t, q)
         → map named_view named.items ≡ digests_of t q
         → Visits root (T.state store.old) (T.state store.new) place result }
 {

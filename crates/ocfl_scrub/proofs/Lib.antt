@@ -28,3 +28,4 @@ pub mod NoteLaws
 pub mod FileLaws
 pub mod HeadlineLaws
 pub mod OverrunLaws
+pub mod RecordLaws

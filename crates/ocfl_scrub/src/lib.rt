@@ -8,6 +8,7 @@ mod cycling;
 pub mod laws;
 mod note;
 mod performing;
+pub mod records;
 mod running;
 mod taking;
 

@@ -1,5 +1,5 @@
 -- Which codes, items and lists of items are findings.
-use Rattle.std.proofs.Common.{◌≡◌, ◌↔◌, ◌⊎◌, inl, inr, Bool, true, false, List, Any, refl, ap}
+use Rattle.std.proofs.Common.{◌≡◌, ◌↔◌, ◌⊎◌, inl, inr, true, false, List, Any, refl, ap}
 use Rattle.ocfl_tree.proofs.Orders.{true_not_false}
 use Rattle.std.proofs.lemmas.List.Folds.{Any-from_list_any, list_any-from_Any}
 use Rattle.ocfl_report.specs.Line.{Item, is_finding_code, has_finding, found}

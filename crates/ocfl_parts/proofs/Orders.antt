@@ -37,6 +37,15 @@ last_below : (ps : List Place) (l p : Place) → IsAscending place_cmp ((ps ++ l
 last_below [] l p h = h.0.0
 last_below (x ∷ ps) l p h = last_below ps l p h.1
 
+before_other : (x : Place) (ys : List Place) (q p : Place) → IsBeforeAll place_cmp x (ys ++ q ∷ []) → place_cmp q p ≡ Less → IsBeforeAll place_cmp x (ys ++ p ∷ [])
+before_other x [] q p h l = (place_cmp_total.trans x q p h.0 l, tt)
+before_other x (y ∷ ys) q p h l = (h.0, before_other x ys q p h.1 l)
+
+-- places are in order with another last one that is greater
+ascend_other : (ps : List Place) (q p : Place) → IsAscending place_cmp (ps ++ q ∷ []) → place_cmp q p ≡ Less → IsAscending place_cmp (ps ++ p ∷ [])
+ascend_other [] q p h l = (tt, tt)
+ascend_other (x ∷ ps) q p h l = (before_other x ps q p h.0 l, ascend_other ps q p h.1 l)
+
 is_lt-Less : (o : Ordering) → is_lt o ≡ true → o ≡ Less
 is_lt-Less Less e = refl
 is_lt-Less Equal e = cc
@@ -87,6 +96,13 @@ names_last (x ∷ xs) p h = names_last xs p (All-tail IsPlace x (xs ++ p ∷ [])
 
 pub AreSeparators-push : (ps : List Place) (p : Place) → AreSeparators ps → IsPlace p → IsAscending place_cmp (ps ++ p ∷ []) → AreSeparators (ps ++ p ∷ [])
 AreSeparators-push ps p h names ascend = record { names = All-append IsPlace ps (p ∷ []) h.names (All-cons IsPlace p [] names (All-nil IsPlace)); ascend = ascend }
+
+-- what is above a place is a separator after it, and in its stead
+pub above_next : (ps qs : List Place) (q p : Place) → qs ≡ ps ++ q ∷ [] → AreSeparators (ps ++ q ∷ []) → IsPlace p → place_cmp q p ≡ Less → AreSeparators (qs ++ p ∷ [])
+above_next ps qs q p e h name l = subst (λ xs. AreSeparators (xs ++ p ∷ [])) (sym e) (AreSeparators-push (ps ++ q ∷ []) p h name (ascend_more ps q p h.ascend l))
+
+pub above_other : (ps : List Place) (q p : Place) → AreSeparators (ps ++ q ∷ []) → IsPlace p → place_cmp q p ≡ Less → AreSeparators (ps ++ p ∷ [])
+above_other ps q p h name l = AreSeparators-push ps p (AreSeparators-front ps (q ∷ []) h) name (ascend_other ps q p h.ascend l)
 
 pub AreSeparators-nil : AreSeparators []
 AreSeparators-nil = record { names = All-nil IsPlace; ascend = tt }

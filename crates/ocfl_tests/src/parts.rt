@@ -1,3 +1,5 @@
+mod splitting;
+
 use crate::common::store::place_of;
 use ocfl_parts::laws::text_determines_the_separators;
 use ocfl_parts::{PartsStop, PushStop, Separators, put_parts, read_parts};

@@ -1,0 +1,220 @@
+//! Splitting a storage root by what a report of it says that its items cost.
+ghost use Rattle.std.specs.Prelude.{◌≡◌, ◌≢◌, ℕ, ◌+◌, ◌≤◌, ◌<◌, List, [], ◌∷◌, ◌++◌, length, ◌⊎◌};
+ghost use Rattle.std.specs.Prelude.{true, false, IfOk, IfErr, IfSome, OnOk};
+ghost use Rattle.std.specs.Io.BufRead.{take_through};
+ghost use Rattle.std.specs.Io.KnownBytes.{Consumes};
+ghost use Rattle.ocfl_tree.specs.Place.{Place as ModelPlace, place_cmp};
+ghost use Rattle.ocfl_tree.specs.Name.{IsPlace};
+ghost use Rattle.ocfl_report.specs.Line.{Line as ModelLine};
+ghost use Rattle.ocfl_report.specs.Text.{IsLineText};
+ghost use Rattle.ocfl_parts.specs.Parts.{max_parts};
+ghost use Rattle.ocfl_parts.specs.Separators.{AreSeparators};
+ghost use Rattle.ocfl_parts.specs.Splits.{HasText, IsSplit, cuts, cuts_from};
+ghost use Rattle.ocfl_parts.specs.SplitStop.{SplitStopsRightly};
+ghost use Rattle.ocfl_parts.specs.Costs.{told};
+ghost use Rattle.ocfl_parts.specs.Internal.Cutting.{AreBelow, IsCutSoFar, StopsAtEnd, TakesNot};
+ghost use Rattle.ocfl_parts.specs.Internal.Cutting.{TakesNotPlace};
+ghost use Rattle.ocfl_parts.specs.declared.costs.Told.{Told as ModelTold};
+ghost use Rattle.std.specs.declared.cmp.Ordering.TheVariants.{Less};
+
+use crate::costs::{Told, read_told};
+use crate::separators::{PushStop, Separators};
+use ocfl_report::LineStop;
+use std::alloc::Global;
+use std::cmp::Ordering;
+use std::io::{BufRead, ErrorKind};
+
+/// How many separators a report is cut by at most: as many as their text may have.
+const MAX_PARTS: usize = 100_000;
+
+/// Why a report was not split.
+#[derive(Clone, Copy, Debug, PartialEq, Eq)]
+pub enum SplitStop {
+    /// The first line, from 1, that is no report line, or whose place is less than the one before.
+    Line(u64),
+    /// More than 100,000 separators would cut it.
+    Many,
+    /// The reader failed.
+    Read,
+    /// Memory was refused.
+    Memory,
+}
+
+/// How far a report is cut.
+#[derive(Drop)]
+struct Cutter {
+    /// The separators so far.
+    separators: Separators,
+    /// What the part has cost since the last of them, without the item that was begun.
+    spent: u64,
+    /// The item of the last line.
+    item: Option<Told>,
+}
+
+/// The separators that cut a storage root into parts of about this cost, by a report of all of it.
+/// All bytes of the reader are read as that report, and one line is in memory at a time.
+///
+/// An `ok` line of a content file of n bytes says that its item cost n + 1. Any other line says
+/// that it cost nothing. The parts are the runs that this budget makes: an item begins the next
+/// part if it costs something and its part has spent the budget. So each part but the last costs
+/// at least the budget, and passes it by less than its last file's cost.
+pub fn split_by<R: BufRead>(
+    alloc: Global,
+    report: &mut R,
+    budget: u64,
+) -> Result<Separators, SplitStop>
+    ensures separators { IfOk result
+        (λ separators. IfSome (R.remaining report.old) (λ bytes. IsSplit budget bytes separators)) }
+    ensures refused { IfErr result
+        (λ stop. IfSome (R.remaining report.old) (λ bytes. SplitStopsRightly budget bytes stop)) }
+{
+    let mut cutter = Cutter {
+        separators: Separators::new(alloc),
+        spent: 0,
+        item: None,
+    };
+    let mut text = Vec::new(alloc);
+    for number in 1..u64::MAX {
+        if !read_text(report, &mut text)? {
+            return end(budget, cutter);
+        }
+        cutter = take_line(alloc, budget, number, &text, cutter)?;
+    }
+    Err(SplitStop::Read)
+}
+
+/// Reads the next line with its line feed, or whatever is left. Gives false at the end.
+fn read_text<R: BufRead>(report: &mut R, text: &mut Vec<u8>) -> Result<bool, SplitStop>
+    ensures line { OnOk result
+        (IfSome (R.remaining report.old) (λ bytes. text.new.items ≡ take_through 10 bytes)) }
+    ensures rest { OnOk result
+        (Consumes (R.remaining report.old) (R.remaining report.new) text.new.items) }
+    ensures more { IfOk result (λ more. more ≡ true → text.new.items ≢ []) }
+    ensures end { IfOk result (λ more. more ≡ false
+        → IfSome (R.remaining report.old) (λ bytes. bytes ≡ [])) }
+    ensures stop { IfErr result (λ stop. (stop ≡ SplitStop.Read) ⊎ (stop ≡ SplitStop.Memory)) }
+{
+    text.clear();
+    match report.read_until(b'\n', text) {
+        Ok(count) => Ok(count > 0),
+        Err(error) if error.kind() == ErrorKind::OutOfMemory => Err(SplitStop::Memory),
+        Err(_) => Err(SplitStop::Read),
+    }
+}
+
+/// Takes one more line.
+fn take_line(
+    alloc: Global,
+    budget: u64,
+    number: u64,
+    text: &[u8],
+    cutter: Cutter,
+) -> Result<Cutter, SplitStop>
+    requires below { AreBelow cutter.separators cutter.item }
+    ensures ok { IfOk result (λ left. (done : List ModelLine)
+        → IsCutSoFar budget done cutter.separators cutter.spent cutter.item
+        → (line : ModelLine) × IsLineText text.now line
+        × IsCutSoFar budget (done ++ line ∷ []) left.separators left.spent left.item) }
+    ensures refused { IfErr result (λ stop. (done : List ModelLine)
+        → IsCutSoFar budget done cutter.separators cutter.spent cutter.item
+        → TakesNot budget done number text.now stop) }
+{
+    let told = match read_told(alloc, text) {
+        Ok(told) => told,
+        Err(LineStop::Bad) => return Err(SplitStop::Line(number)),
+        Err(LineStop::Memory) => return Err(SplitStop::Memory),
+    };
+    take_told(budget, number, told, cutter)
+}
+
+/// Takes what one more line says.
+fn take_told(budget: u64, number: u64, said: Told, cutter: Cutter) -> Result<Cutter, SplitStop>
+    requires below { AreBelow cutter.separators cutter.item }
+    ensures ok { IfOk result (λ left. (done : List ModelLine) (line : ModelLine)
+        → HasText line → said ≡ told line
+        → IsCutSoFar budget done cutter.separators cutter.spent cutter.item
+        → IsCutSoFar budget (done ++ line ∷ []) left.separators left.spent left.item) }
+    ensures refused { IfErr result (λ stop. (done : List ModelLine)
+        → IsCutSoFar budget done cutter.separators cutter.spent cutter.item
+        → TakesNotPlace budget done number said.place stop) }
+{
+    let Cutter {
+        mut separators,
+        spent,
+        item,
+    } = cutter;
+    let Some(item) = item else {
+        return Ok(Cutter {
+            separators,
+            spent,
+            item: Some(said),
+        });
+    };
+    match item.place.cmp(&said.place) {
+        Ordering::Less => {
+            let spent = close(budget, spent, item, &mut separators)?;
+            Ok(Cutter {
+                separators,
+                spent,
+                item: Some(said),
+            })
+        }
+        Ordering::Equal => Ok(Cutter {
+            separators,
+            spent,
+            item: Some(Told {
+                place: item.place,
+                cost: item.cost.saturating_add(said.cost),
+            }),
+        }),
+        Ordering::Greater => Err(SplitStop::Line(number)),
+    }
+}
+
+/// Puts a whole item into its part, or begins the next part with it. Gives what that part has
+/// spent.
+fn close(budget: u64, spent: u64, item: Told, separators: &mut Separators) -> Result<u64, SplitStop>
+    requires above { AreSeparators (separators.now ++ item.place ∷ []) }
+    ensures cuts { IfOk result (λ left. (items : List ModelTold)
+        → separators.old ++ cuts_from budget spent (item ∷ items)
+        ≡ separators.new ++ cuts_from budget left items) }
+    ensures above { OnOk result ((p : ModelPlace) → IsPlace p → place_cmp item.place p ≡ Less
+        → AreSeparators (separators.new ++ p ∷ [])) }
+    ensures few { OnOk result (length separators.old ≤ max_parts
+        → length separators.new ≤ max_parts) }
+    ensures many { result ≡ Err SplitStop.Many
+        → max_parts < length (separators.old ++ cuts_from budget spent (item ∷ [])) }
+    ensures stop { IfErr result (λ stop. (stop ≡ SplitStop.Many) ⊎ (stop ≡ SplitStop.Memory)) }
+{
+    if item.cost == 0 || spent < budget {
+        return Ok(spent.saturating_add(item.cost));
+    }
+    if separators.len() >= MAX_PARTS {
+        return Err(SplitStop::Many);
+    }
+    match separators.push(item.place) {
+        Ok(()) => Ok(item.cost),
+        Err(_) => Err(SplitStop::Memory),
+    }
+}
+
+/// The separators, once all lines are taken.
+fn end(budget: u64, cutter: Cutter) -> Result<Separators, SplitStop>
+    requires below { AreBelow cutter.separators cutter.item }
+    ensures ok { IfOk result (λ separators. (done : List ModelLine)
+        → IsCutSoFar budget done cutter.separators cutter.spent cutter.item
+        → (separators ≡ cuts budget done) × (length separators ≤ max_parts)) }
+    ensures refused { IfErr result (λ stop. (done : List ModelLine)
+        → IsCutSoFar budget done cutter.separators cutter.spent cutter.item
+        → StopsAtEnd budget done stop) }
+{
+    let Cutter {
+        mut separators,
+        spent,
+        item,
+    } = cutter;
+    if let Some(item) = item {
+        close(budget, spent, item, &mut separators)?;
+    }
+    Ok(separators)
+}

@@ -690,25 +690,27 @@ fn one_parse_gives_algorithm_lines_and_table(rt: HostRuntime) -> Result<(), Fail
     Ok(())
 }
 
+/// Levels and versions, each with the name and the bytes of its declaration.
+const DECLARATIONS: [(Level, Version, &str, &str); 4] = [
+    (Level::Root, Version::V1_0, "0=ocfl_1.0", "ocfl_1.0\n"),
+    (Level::Root, Version::V1_1, "0=ocfl_1.1", "ocfl_1.1\n"),
+    (
+        Level::Object,
+        Version::V1_0,
+        "0=ocfl_object_1.0",
+        "ocfl_object_1.0\n",
+    ),
+    (
+        Level::Object,
+        Version::V1_1,
+        "0=ocfl_object_1.1",
+        "ocfl_object_1.1\n",
+    ),
+];
+
 #[test]
 fn names_and_bytes_of_declarations(rt: HostRuntime) -> Result<(), Fail> {
-    let cases = [
-        (Level::Root, Version::V1_0, "0=ocfl_1.0", "ocfl_1.0\n"),
-        (Level::Root, Version::V1_1, "0=ocfl_1.1", "ocfl_1.1\n"),
-        (
-            Level::Object,
-            Version::V1_0,
-            "0=ocfl_object_1.0",
-            "ocfl_object_1.0\n",
-        ),
-        (
-            Level::Object,
-            Version::V1_1,
-            "0=ocfl_object_1.1",
-            "ocfl_object_1.1\n",
-        ),
-    ];
-    for (level, version, name, bytes) in cases {
+    for (level, version, name, bytes) in DECLARATIONS {
         assert_eq!(rt; declaration_name(level, version), name, "{name}");
         let is_right = declaration_bytes(level, version) == bytes.as_bytes();
         assert!(rt; is_right, "{name}");

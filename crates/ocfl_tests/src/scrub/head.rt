@@ -314,47 +314,63 @@ fn object_with_digits_and(alloc: Global, behind: &str) -> Result<MemTree, Fail> 
     Ok(store)
 }
 
+/// The line of a head whose sidecar is of the form, and of one whose sidecar is not.
+const OF_THE_FORM: &str = "ok|o|-\n";
+
+const NOT_OF_IT: &str = "E061|o|sha256\n";
+
+/// What follows the right digits in a sidecar, and the line of the head then.
+const SIDECARS: [(&str, &str, &str); 10] = [
+    ("one blank", " inventory.json\n", OF_THE_FORM),
+    (
+        "two blanks and no line feed",
+        "  inventory.json",
+        OF_THE_FORM,
+    ),
+    (
+        "blanks around and two line ends",
+        "\t \tinventory.json \t\r\n\n",
+        OF_THE_FORM,
+    ),
+    ("a star before the name", " *inventory.json\n", NOT_OF_IT),
+    ("no blank", "inventory.json\n", NOT_OF_IT),
+    (
+        "a line feed before the name",
+        "\ninventory.json\n",
+        NOT_OF_IT,
+    ),
+    ("a letter after the line", " inventory.json\nx", NOT_OF_IT),
+    ("another name", " inventory.jso\n", NOT_OF_IT),
+    ("65 digits", "0 inventory.json\n", NOT_OF_IT),
+    ("digits alone", "", NOT_OF_IT),
+];
+
+/// With the right digits and this after them in its sidecar, the head of the object has this line,
+/// and its content is checked.
+fn expect_sidecar(
+    rt: &(impl Abort + AllocGlobal),
+    row: &str,
+    behind: &str,
+    lines: &str,
+) -> Result<(), Fail> {
+    let mut store = object_with_digits_and(rt.alloc(), behind)?;
+    expect_head(rt, row, &mut store, lines, GOES_ON)?;
+    let text = format!(in rt.alloc(); "ok|.|-\n{lines}{FILE_IS_OK}")?;
+    let status = u8::from(lines == NOT_OF_IT);
+    expect_audit(rt, row, &mut store, text.as_str(), status, "")
+}
+
 #[test]
 fn forms_of_sidecars(rt: HostRuntime) -> Result<(), Fail> {
-    let of_the_form = "ok|o|-\n";
-    let not_of_it = "E061|o|sha256\n";
     // With the digits they have 4,096 bytes, and one more.
     let longest = format!(in rt.alloc(); " inventory.json\n{}", " ".repeat(rt.alloc(), 4016)?)?;
     let longer = format!(in rt.alloc(); "{longest} ")?;
     assert_eq!(rt; longest.len(), 4096 - 64);
-    for (row, behind, lines) in [
-        ("one blank", " inventory.json\n", of_the_form),
-        (
-            "two blanks and no line feed",
-            "  inventory.json",
-            of_the_form,
-        ),
-        (
-            "blanks around and two line ends",
-            "\t \tinventory.json \t\r\n\n",
-            of_the_form,
-        ),
-        ("4,096 bytes", longest.as_str(), of_the_form),
-        ("4,097 bytes", longer.as_str(), not_of_it),
-        ("a star before the name", " *inventory.json\n", not_of_it),
-        ("no blank", "inventory.json\n", not_of_it),
-        (
-            "a line feed before the name",
-            "\ninventory.json\n",
-            not_of_it,
-        ),
-        ("a letter after the line", " inventory.json\nx", not_of_it),
-        ("another name", " inventory.jso\n", not_of_it),
-        ("65 digits", "0 inventory.json\n", not_of_it),
-        ("digits alone", "", not_of_it),
-    ] {
-        let mut store = object_with_digits_and(rt.alloc(), behind)?;
-        expect_head(&rt, row, &mut store, lines, GOES_ON)?;
-        let text = format!(in rt.alloc(); "ok|.|-\n{lines}{FILE_IS_OK}")?;
-        let status = u8::from(lines == not_of_it);
-        expect_audit(&rt, row, &mut store, text.as_str(), status, "")?;
+    for (row, behind, lines) in SIDECARS {
+        expect_sidecar(&rt, row, behind, lines)?;
     }
-    Ok(())
+    expect_sidecar(&rt, "4,096 bytes", longest.as_str(), OF_THE_FORM)?;
+    expect_sidecar(&rt, "4,097 bytes", longer.as_str(), NOT_OF_IT)
 }
 
 #[test]

@@ -322,53 +322,39 @@ fn listing_paths(alloc: Global, paths: &str) -> Result<MemTree, Fail> {
     object_with(alloc, listing(alloc, manifest.as_str(), "")?.as_str())
 }
 
+/// Listed paths by their names and the letters of the last one, and whether they are kept.
+const LIMITS: [(&str, usize, usize, bool); 6] = [
+    ("three names", 3, 1, true),
+    ("128 names", 128, 1, true),
+    ("a name of 255 letters", 3, 255, true),
+    ("128 names, the last of 255 letters", 128, 255, true),
+    ("129 names", 129, 1, false),
+    ("a name of 256 letters", 3, 256, false),
+];
+
 #[test]
 fn limits_of_paths(rt: HostRuntime) -> Result<(), Fail> {
     let alloc = rt.alloc();
-    for (elements, letters, is_kept) in [
-        (3, 1, true),
-        (128, 1, true),
-        (3, 255, true),
-        (128, 255, true),
-        (129, 1, false),
-        (3, 256, false),
-    ] {
+    for (row, elements, letters, is_kept) in LIMITS {
         let directories = "/d".repeat(alloc, elements - 3)?;
         let last = "f".repeat(alloc, letters)?;
         let path = format!(in alloc; "v1/content{directories}/{last}")?;
-        let row = format!(in alloc; "{elements} names, the last of {letters} letters")?;
         assert_eq!(rt; path.split('/').count(), elements, "{row}");
         let mut store = listing_paths(alloc, format!(in alloc; "\"{path}\"")?.as_str())?;
         if is_kept {
-            finds(&rt, row.as_str(), &mut store, "ok|o|-\n")?;
+            finds(&rt, row, &mut store, "ok|o|-\n")?;
         } else {
             let line = format!(in alloc; "S06|o|{path}\n")?;
-            finds(&rt, row.as_str(), &mut store, line.as_str())?;
+            finds(&rt, row, &mut store, line.as_str())?;
         }
+        let place = format!(in alloc; "o/{path}")?;
         // Where `f` itself is listed it is there.
         if letters == 255 {
             let missing = format!(in alloc; "E092|o/{path}|sha256 missing\n")?;
-            let place = format!(in alloc; "o/{path}")?;
-            expect(
-                &rt,
-                row.as_str(),
-                &mut store,
-                place.as_str(),
-                missing.as_str(),
-                1,
-                "",
-            )?;
+            let lines = missing.as_str();
+            expect(&rt, row, &mut store, place.as_str(), lines, 1, "")?;
         } else if elements == 129 {
-            let place = format!(in alloc; "o/{path}")?;
-            expect(
-                &rt,
-                row.as_str(),
-                &mut store,
-                place.as_str(),
-                "",
-                0,
-                "no item",
-            )?;
+            expect(&rt, row, &mut store, place.as_str(), "", 0, "no item")?;
         }
     }
     Ok(())

@@ -230,9 +230,23 @@ fn largest_limits_and_figures(rt: HostRuntime) -> Result<(), Fail> {
 /// The last number that a run or a cycle may have.
 const LAST: u64 = 18_446_744_073_709_551_615;
 
+/// A run from the cursor reads all of the three files, and its own cursor then says this.
+fn expect_whole_run(
+    rt: &(impl Abort + AllocGlobal),
+    row: &str,
+    cursor: Cursor,
+    says: &str,
+) -> Result<(), Fail> {
+    let alloc = rt.alloc();
+    let mut store = three_files(alloc)?;
+    let said = format!(in alloc; "spent 9 files 3 clean, ended; {says} spent 9 files 3 ended")?;
+    let most = limits(9, MOST)?;
+    expect_run(rt, row, &mut store, cursor, most, ALL, said.as_str())?;
+    Ok(())
+}
+
 #[test]
 fn run_behind_the_end_of_a_cycle(rt: HostRuntime) -> Result<(), Fail> {
-    let mut store = three_files(rt.alloc())?;
     let before = 18_446_744_073_709_551_614u64;
     let ended = Cursor::from_parts(1, 2, 9, 3, State::Ended).ok_or("no cursor")?;
     for (row, cursor, says) in [
@@ -254,24 +268,15 @@ fn run_behind_the_end_of_a_cycle(rt: HostRuntime) -> Result<(), Fail> {
             "cycle 18446744073709551615 runs 18446744073709551615",
         ),
     ] {
-        let said = format!(in rt.alloc();
-            "spent 9 files 3 clean, ended; {says} spent 9 files 3 ended"
-        )?;
-        expect_run(
-            &rt,
-            row,
-            &mut store,
-            cursor,
-            limits(9, MOST)?,
-            ALL,
-            said.as_str(),
-        )?;
+        expect_whole_run(&rt, row, cursor, says)?;
     }
+    let mut store = three_files(rt.alloc())?;
+    let row = "a budget of 1 after the end of a second cycle";
     let ended = Cursor::from_parts(2, 1, 9, 3, State::Ended).ok_or("no cursor")?;
     let said = "spent 4 files 1 clean, open; cycle 3 runs 1 spent 4 files 1 after o/v1/content/a";
     expect_run(
         &rt,
-        "a budget of 1",
+        row,
         &mut store,
         ended,
         limits(1, MOST)?,

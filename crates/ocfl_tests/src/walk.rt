@@ -57,6 +57,7 @@ pub(crate) fn judged<T: Tree>(
 /// costs this much; no lines where there is no item.
 pub(crate) fn expect_item<T: Tree>(
     rt: &(impl Abort + AllocGlobal),
+    row: &str,
     store: &mut T,
     path: &str,
     want: &str,
@@ -64,13 +65,17 @@ pub(crate) fn expect_item<T: Tree>(
 ) -> Result<(), Fail> {
     let alloc = rt.alloc();
     let Some(pending) = item(alloc, store, path)? else {
-        assert_eq!(rt; want, "", "no item at {path}");
+        assert_eq!(rt; want, "", "{row}: no item at {path}");
         return Ok(());
     };
-    assert_eq!(rt; pending.hashed(), cost > 0, "{path}");
+    assert_eq!(rt; pending.hashed(), cost > 0, "{row}: {path}");
     let (text, spent) = judged(alloc, store, pending)?;
-    assert_eq!(rt; text.as_str(), lines_of(alloc, want)?.as_str(), "{path}");
-    assert_eq!(rt; spent, cost, "{path}");
+    assert_eq!(rt;
+        text.as_str(),
+        lines_of(alloc, want)?.as_str(),
+        "{row}: {path}"
+    );
+    assert_eq!(rt; spent, cost, "{row}: {path}");
     Ok(())
 }
 
@@ -126,7 +131,7 @@ pub(crate) fn expect(
 }
 
 /// The same of one row of a table.
-fn expect_row(
+pub(crate) fn expect_row(
     rt: &(impl Abort + AllocGlobal),
     row: &str,
     store: &mut MemTree,

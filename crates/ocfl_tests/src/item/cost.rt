@@ -3,7 +3,7 @@ use crate::common::object::{FILE, INVENTORY};
 use crate::common::odd_store::{Odd, Oddity};
 use crate::common::roots::{first_fails, long_file_fails, right_object};
 use crate::common::store::{place_of, times_opened};
-use crate::walk::{expect, expect_item, failed_place};
+use crate::walk::{expect_item, expect_row, failed_place};
 use ocfl_tree::Point;
 use ocfl_walk::{Fault, Walk};
 use std::alloc::Global;
@@ -12,8 +12,9 @@ use std::test::Fail;
 #[test]
 fn file_that_cannot_be_read_on_costs_what_it_gave(rt: HostRuntime) -> Result<(), Fail> {
     let text = "ok|.|-\nok|o|-\nS08|o/v1/content/a|-\nok|o/v1/content/b|0\nok|o/v1/content/c|3\n";
-    for (by_bytes, cost) in [(true, 8), (false, 9)] {
-        expect(&rt, &mut first_fails(rt.alloc(), by_bytes)?, text, cost)?;
+    for (row, by_bytes, cost) in [("a byte a read", true, 8), ("one read", false, 9)] {
+        let mut store = first_fails(rt.alloc(), by_bytes)?;
+        expect_row(&rt, row, &mut store, text, cost)?;
     }
     Ok(())
 }
@@ -22,13 +23,16 @@ fn file_that_cannot_be_read_on_costs_what_it_gave(rt: HostRuntime) -> Result<(),
 fn long_file_that_fails_at_its_end_and_at_its_open(rt: HostRuntime) -> Result<(), Fail> {
     let text = "ok|.|-\nok|o|-\nS08|o/v1/content/f|-\nok|o/v1/content/g|3\n";
     // One more than the bytes of `f` that were read, and 4 for `g`.
-    for (point, cost) in [(Point::Read(65_536), 65_541), (Point::Open, 5)] {
+    for (row, point, cost) in [
+        ("the last byte", Point::Read(65_536), 65_541),
+        ("the opening", Point::Open, 5),
+    ] {
         let mut store = long_file_fails(rt.alloc(), point)?;
-        expect(&rt, &mut store, text, cost)?;
+        expect_row(&rt, row, &mut store, text, cost)?;
         for file in [FILE, "o/v1/content/g"] {
-            assert_eq!(rt; times_opened(rt.alloc(), &store, file)?, 1, "{file}");
+            assert_eq!(rt; times_opened(rt.alloc(), &store, file)?, 1, "{row}: {file}");
         }
-        assert!(rt; store.largest_read() <= 65_536);
+        assert!(rt; store.largest_read() <= 65_536, "{row}");
     }
     Ok(())
 }
@@ -44,7 +48,8 @@ fn right_object_without(alloc: Global, hidden: &str) -> Result<Odd, Fail> {
 #[test]
 fn content_file_that_is_listed_and_not_found(rt: HostRuntime) -> Result<(), Fail> {
     let mut store = right_object_without(rt.alloc(), FILE)?;
-    expect_item(&rt, &mut store, FILE, "S08|o/v1/content/f|-\n", 1)
+    let row = "a file that is not found";
+    expect_item(&rt, row, &mut store, FILE, "S08|o/v1/content/f|-\n", 1)
 }
 
 #[test]

@@ -33,7 +33,7 @@ fn root(alloc: Global) -> Result<MemTree, Fail> {
 #[test]
 fn a_head_opens_its_files_in_order(rt: HostRuntime) -> Result<(), Fail> {
     let mut store = root(rt.alloc())?;
-    expect_item(&rt, &mut store, "p/o", "ok|p/o|-\n", 0)?;
+    expect_item(&rt, "a right object", &mut store, "p/o", "ok|p/o|-\n", 0)?;
     let opened = opened_from(rt.alloc(), &store, 0, "")?;
     let want =
         "p/o/0=ocfl_object_1.1;p/o/inventory.json;p/o/inventory.json.sha256;p/o/inventory.json.sha512;";
@@ -47,16 +47,26 @@ fn a_head_opens_its_files_in_order(rt: HostRuntime) -> Result<(), Fail> {
 fn a_head_that_stops_opens_no_more(rt: HostRuntime) -> Result<(), Fail> {
     let older = ("p/o/0=ocfl_object_1.0", "");
     let later = ("p/o/0=ocfl_object_2", "");
-    let rows: [(&[(&str, &str)], &str, usize); 3] = [
-        (&[("-p/o/inventory.json", "")], "E063|p/o|-\n", 1),
-        (&[older], "E003|p/o|-\n", 0),
-        (&[("-p/o/0=ocfl_object_1.1", ""), later], "S01|p/o|2\n", 0),
+    let rows: [(&str, &[(&str, &str)], &str, usize); 3] = [
+        (
+            "no inventory",
+            &[("-p/o/inventory.json", "")],
+            "E063|p/o|-\n",
+            1,
+        ),
+        ("two declarations", &[older], "E003|p/o|-\n", 0),
+        (
+            "a later version",
+            &[("-p/o/0=ocfl_object_1.1", ""), later],
+            "S01|p/o|2\n",
+            0,
+        ),
     ];
-    for (changes, want, opened) in rows {
+    for (row, changes, want, opened) in rows {
         let mut store = root(rt.alloc())?;
         change(rt.alloc(), &mut store, changes)?;
-        expect_item(&rt, &mut store, "p/o", want, 0)?;
-        assert_eq!(rt; store.openings().len(), opened, "{want}");
+        expect_item(&rt, row, &mut store, "p/o", want, 0)?;
+        assert_eq!(rt; store.openings().len(), opened, "{row}");
     }
     Ok(())
 }

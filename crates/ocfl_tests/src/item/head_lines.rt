@@ -16,7 +16,12 @@ const RIGHT_LONG: &str =
 
 /// The head of the object `p/o` with files of these names and texts, in which digests may be named,
 /// has these lines.
-fn says(rt: &(impl Abort + AllocGlobal), files: &[(&str, &str)], want: &str) -> Result<(), Fail> {
+fn says(
+    rt: &(impl Abort + AllocGlobal),
+    row: &str,
+    files: &[(&str, &str)],
+    want: &str,
+) -> Result<(), Fail> {
     let alloc = rt.alloc();
     let mut store = bare_root(alloc)?;
     for (name, text) in files {
@@ -24,7 +29,7 @@ fn says(rt: &(impl Abort + AllocGlobal), files: &[(&str, &str)], want: &str) -> 
         let text = crate::common::digests::with_digests(alloc, text)?;
         put(alloc, &mut store, path.as_str(), text.as_bytes())?;
     }
-    expect_item(rt, &mut store, "p/o", want, 0)
+    expect_item(rt, row, &mut store, "p/o", want, 0)
 }
 
 const OLD: &str = "0=ocfl_object_1.0";
@@ -34,18 +39,28 @@ const NEW: &str = "0=ocfl_object_1.1";
 #[test]
 fn declarations(rt: HostRuntime) -> Result<(), Fail> {
     let over = "x".repeat(rt.alloc(), 4_097)?;
-    for (name, text, want) in [
-        (OLD, "ocfl_object_1.0\n", "ok|p/o|-\n"),
-        (NEW, "ocfl_object_1.1\n", "ok|p/o|-\n"),
-        (NEW, "", "E007|p/o|-\n"),
-        (NEW, "ocfl_object_1.0\n", "E007|p/o|-\n"),
-        (NEW, "ocfl_object_1.1", "E007|p/o|-\n"),
-        (NEW, "ocfl_1.1\n", "E007|p/o|-\n"),
-        (NEW, over.as_str(), "E007|p/o|-\n"),
+    for (row, name, text, want) in [
+        ("the older version", OLD, "ocfl_object_1.0\n", "ok|p/o|-\n"),
+        ("the newer version", NEW, "ocfl_object_1.1\n", "ok|p/o|-\n"),
+        ("no byte", NEW, "", "E007|p/o|-\n"),
+        (
+            "the text of the older version",
+            NEW,
+            "ocfl_object_1.0\n",
+            "E007|p/o|-\n",
+        ),
+        ("no line feed", NEW, "ocfl_object_1.1", "E007|p/o|-\n"),
+        (
+            "the text of a storage root",
+            NEW,
+            "ocfl_1.1\n",
+            "E007|p/o|-\n",
+        ),
+        ("4,097 bytes", NEW, over.as_str(), "E007|p/o|-\n"),
     ] {
         let rest = ("inventory.json", BY_SHA512);
         let files = [(name, text), rest, ("inventory.json.sha512", RIGHT_LONG)];
-        says(&rt, &files, want)?;
+        says(&rt, row, &files, want)?;
     }
     Ok(())
 }
@@ -53,19 +68,44 @@ fn declarations(rt: HostRuntime) -> Result<(), Fail> {
 #[test]
 fn heads_stop_at_their_declarations(rt: HostRuntime) -> Result<(), Fail> {
     let later = ("0=ocfl_object_2.0\u{e9}", "");
-    says(&rt, &[("v1", ""), later], "S01|p/o|2.0%C3%A9\n")?;
-    says(&rt, &[(OLD, ""), (NEW, "")], "E003|p/o|-\n")?;
-    says(&rt, &[("0=ocfl_object_2.0", ""), (NEW, "")], "E003|p/o|-\n")
+    says(
+        &rt,
+        "a letter beyond ASCII",
+        &[("v1", ""), later],
+        "S01|p/o|2.0%C3%A9\n",
+    )?;
+    says(&rt, "1.0 and 1.1", &[(OLD, ""), (NEW, "")], "E003|p/o|-\n")?;
+    let both = [("0=ocfl_object_2.0", ""), (NEW, "")];
+    says(&rt, "2.0 and 1.1", &both, "E003|p/o|-\n")
 }
 
-/// Inventories, each with its sidecars for sha256 and sha512 where they are there, and the lines.
-const INVENTORIES: [(&str, Option<&str>, Option<&str>, &str); 14] = [
-    (BY_SHA512, Some(RIGHT_SHORT), Some(RIGHT_LONG), "ok|p/o|-\n"),
-    (BY_SHA512, None, Some(RIGHT_LONG), "ok|p/o|-\n"),
-    (BY_SHA512, None, None, "E058|p/o|-\n"),
-    (BY_SHA512, Some(RIGHT_SHORT), None, "E058|p/o|sha512\n"),
+/// A name, an inventory, its sidecars for sha256 and sha512 where they are there, and the lines.
+const INVENTORIES: [(&str, &str, Option<&str>, Option<&str>, &str); 14] = [
+    (
+        "both sidecars",
+        BY_SHA512,
+        Some(RIGHT_SHORT),
+        Some(RIGHT_LONG),
+        "ok|p/o|-\n",
+    ),
+    (
+        "the right sidecar alone",
+        BY_SHA512,
+        None,
+        Some(RIGHT_LONG),
+        "ok|p/o|-\n",
+    ),
+    ("no sidecar", BY_SHA512, None, None, "E058|p/o|-\n"),
+    (
+        "the other sidecar alone",
+        BY_SHA512,
+        Some(RIGHT_SHORT),
+        None,
+        "E058|p/o|sha512\n",
+    ),
     // The one that is there is not of the form, but it is there.
     (
+        "a bad sidecar of another algorithm",
         "{\"digestAlgorithm\":\"sha256\",\"manifest\":{}}",
         None,
         Some(""),
@@ -73,12 +113,14 @@ const INVENTORIES: [(&str, Option<&str>, Option<&str>, &str); 14] = [
     ),
     // digests of something else
     (
+        "a wrong sidecar of another algorithm",
         BY_SHA512,
         Some("ABC_CAPITALS inventory.json\n"),
         Some(RIGHT_LONG),
         "E060|p/o|sha256 ABC_SHA256 34fe38ac6f57609d8136cdef47650d9b045f7d71a626a297ce4d0d12f9f443aa\n",
     ),
     (
+        "two wrong sidecars",
         BY_SHA512,
         Some("ABC_CAPITALS inventory.json\n"),
         Some("ABC_SHA512 inventory.json\n"),
@@ -86,28 +128,50 @@ const INVENTORIES: [(&str, Option<&str>, Option<&str>, &str); 14] = [
     ),
     // the lines of the inventory come last
     (
+        "lines of the inventory come last",
         "{\"digestAlgorithm\":\"sha512\",\"manifest\":{\"aa\":[\"/x\",\"\"]},\"fixity\":{\"crc\":{}}}",
         Some(""),
         None,
         "E061|p/o|sha256\nE058|p/o|sha512\nE099|p/o|\nE100|p/o|/x\nS07|p/o|crc\n",
     ),
     (
+        "no manifest and a bad sidecar",
         "{\"digestAlgorithm\":\"sha512\"}",
         Some(""),
         None,
         "E061|p/o|sha256\nE058|p/o|sha512\nE041|p/o|manifest\n",
     ),
     // no algorithm is named
-    ("{", None, None, "E058|p/o|-\nE033|p/o|-\n"),
-    ("{}", None, None, "E058|p/o|-\nE036|p/o|digestAlgorithm\n"),
     (
+        "half of an inventory without a sidecar",
+        "{",
+        None,
+        None,
+        "E058|p/o|-\nE033|p/o|-\n",
+    ),
+    (
+        "no algorithm and no sidecar",
+        "{}",
+        None,
+        None,
+        "E058|p/o|-\nE036|p/o|digestAlgorithm\n",
+    ),
+    (
+        "another algorithm and no sidecar",
         "{\"digestAlgorithm\":\"md5\"}",
         None,
         None,
         "E058|p/o|-\nE025|p/o|md5\n",
     ),
-    ("[]", Some(""), None, "E061|p/o|sha256\nE033|p/o|-\n"),
     (
+        "an array and a bad sidecar",
+        "[]",
+        Some(""),
+        None,
+        "E061|p/o|sha256\nE033|p/o|-\n",
+    ),
+    (
+        "no algorithm and a right sidecar",
         "{}",
         Some("BRACES_SHA256 inventory.json\n"),
         None,
@@ -118,6 +182,7 @@ const INVENTORIES: [(&str, Option<&str>, Option<&str>, &str); 14] = [
 /// An inventory of this text, with these sidecars for sha256 and sha512, gives these lines.
 fn inventory_says(
     rt: &(impl Abort + AllocGlobal),
+    row: &str,
     text: &str,
     sidecars: (Option<&str>, Option<&str>),
     want: &str,
@@ -134,19 +199,20 @@ fn inventory_says(
             files.push((name, sidecar))?;
         }
     }
-    says(rt, files.as_slice(), want)
+    says(rt, row, files.as_slice(), want)
 }
 
 #[test]
 fn inventories_and_their_sidecars(rt: HostRuntime) -> Result<(), Fail> {
-    for (text, short, long, want) in INVENTORIES {
-        inventory_says(&rt, text, (short, long), want)?;
+    for (row, text, short, long, want) in INVENTORIES {
+        inventory_says(&rt, row, text, (short, long), want)?;
     }
     // One sidecar is too long, and the other one has the digest of another algorithm.
     let over = "x".repeat(rt.alloc(), 4_097)?;
     let sidecars = (Some(over.as_str()), Some(RIGHT_SHORT));
     inventory_says(
         &rt,
+        "a long sidecar and a short one",
         BY_SHA512,
         sidecars,
         "E061|p/o|sha256\nE061|p/o|sha512\n",

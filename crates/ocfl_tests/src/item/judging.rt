@@ -26,9 +26,10 @@ fn object(
     Ok(store)
 }
 
-/// A manifest, a fixity block, what is changed, the lines of `f`, their cost, and how often `f` is
+/// A name, a manifest, a fixity block, what is changed, the lines of `f`, their cost, and how often `f` is
 /// opened.
 type Judged = (
+    &'static str,
     &'static str,
     &'static str,
     &'static [(&'static str, &'static str)],
@@ -38,8 +39,17 @@ type Judged = (
 );
 
 const JUDGED: [Judged; 9] = [
-    (LISTS_F, "", &[(FILE, "abc")], "ok|o/v1/content/f|3\n", 4, 1),
     (
+        "a right file",
+        LISTS_F,
+        "",
+        &[(FILE, "abc")],
+        "ok|o/v1/content/f|3\n",
+        4,
+        1,
+    ),
+    (
+        "a wrong digest in fixity",
         LISTS_F,
         r#""md5":{"NOTHING_MD5":["v1/content/f"]}"#,
         &[(FILE, "abc")],
@@ -48,8 +58,17 @@ const JUDGED: [Judged; 9] = [
         1,
     ),
     // the manifest does not name the file
-    ("", "", &[(FILE, "abc")], "E023|o/v1/content/f|-\n", 0, 0),
     (
+        "a file that nothing names",
+        "",
+        "",
+        &[(FILE, "abc")],
+        "E023|o/v1/content/f|-\n",
+        0,
+        0,
+    ),
+    (
+        "a file that fixity alone names",
         "",
         r#""md5":{"ABC_MD5":["v1/content/f"]}"#,
         &[(FILE, "abc")],
@@ -59,6 +78,7 @@ const JUDGED: [Judged; 9] = [
     ),
     // no file is there
     (
+        "nothing",
         LISTS_F_TWICE,
         SHA1_OF_F,
         &[],
@@ -67,6 +87,7 @@ const JUDGED: [Judged; 9] = [
         0,
     ),
     (
+        "a directory without files",
         LISTS_F_TWICE,
         SHA1_OF_F,
         &[("o/v1/content/f/", "")],
@@ -75,6 +96,7 @@ const JUDGED: [Judged; 9] = [
         0,
     ),
     (
+        "a directory with a directory",
         LISTS_F_TWICE,
         SHA1_OF_F,
         &[("o/v1/content/f/g/", "")],
@@ -83,6 +105,7 @@ const JUDGED: [Judged; 9] = [
         0,
     ),
     (
+        "a link",
         LISTS_F_TWICE,
         SHA1_OF_F,
         &[("o/v1/content/f@", "")],
@@ -91,15 +114,23 @@ const JUDGED: [Judged; 9] = [
         0,
     ),
     // a directory that holds something is no item
-    ("", "", &[("o/v1/content/f/g/", "")], "", 0, 0),
+    (
+        "a directory that nothing names",
+        "",
+        "",
+        &[("o/v1/content/f/g/", "")],
+        "",
+        0,
+        0,
+    ),
 ];
 
 #[test]
 fn lines_and_costs_of_a_content_place(rt: HostRuntime) -> Result<(), Fail> {
-    for (manifest, fixity, changes, want, cost, opened) in JUDGED {
+    for (row, manifest, fixity, changes, want, cost, opened) in JUDGED {
         let mut store = object(rt.alloc(), manifest, fixity, changes)?;
-        expect_item(&rt, &mut store, FILE, want, cost)?;
-        assert_eq!(rt; times_opened(rt.alloc(), &store, FILE)?, opened, "{want}");
+        expect_item(&rt, row, &mut store, FILE, want, cost)?;
+        assert_eq!(rt; times_opened(rt.alloc(), &store, FILE)?, opened, "{row}");
     }
     Ok(())
 }
@@ -113,7 +144,14 @@ fn directory_that_lies_too_deep(rt: HostRuntime) -> Result<(), Fail> {
     let place = format!(in alloc; "o/v1/content{names}")?;
     put_dir(alloc, &mut store, place.as_str())?;
     let want = format!(in alloc; "S05|{place}|-\nE092|{place}|sha256 missing\n")?;
-    expect_item(&rt, &mut store, place.as_str(), want.as_str(), 0)
+    expect_item(
+        &rt,
+        "128 names",
+        &mut store,
+        place.as_str(),
+        want.as_str(),
+        0,
+    )
 }
 
 #[test]
@@ -122,11 +160,12 @@ fn file_cannot_be_read_on(rt: HostRuntime) -> Result<(), Fail> {
     let text = "x".repeat(alloc, 65_537)?;
     let mut store = object(alloc, LISTS_F, "", &[(FILE, text.as_str())])?;
     store.fail_at(&place_of(alloc, FILE)?, Point::Read(65_536))?;
-    expect_item(&rt, &mut store, FILE, "S08|o/v1/content/f|-\n", 65_537)?;
+    let row = "the last byte";
+    expect_item(&rt, row, &mut store, FILE, "S08|o/v1/content/f|-\n", 65_537)?;
     assert_eq!(rt; store.largest_read(), 65_536);
     let mut store = unread_in_fixity_alone(alloc)?;
     let want = "E023|o/v1/content/f|-\nS08|o/v1/content/f|-\n";
-    expect_item(&rt, &mut store, FILE, want, 1)?;
+    expect_item(&rt, "the opening", &mut store, FILE, want, 1)?;
     assert_eq!(rt; store.failures(), 1);
     Ok(())
 }

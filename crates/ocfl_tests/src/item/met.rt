@@ -83,26 +83,36 @@ fn text_of(alloc: Global, store: &mut MemTree, visit: Visit) -> Result<String, F
 }
 
 /// Entries, each by its directory and its name, and what is met there.
-const ENTRIES: [(&str, &str, &str); 11] = [
+const ENTRIES: [(&str, &str, &str, &str); 11] = [
     // in the hierarchy
-    ("", "0=ocfl_1.1", ""),
-    ("", "extensions", ""),
-    ("", "notes", ""),
-    ("", "o", "ok|o|-\nlisting\ntable\n"),
-    ("", "p", "listing\n"),
-    ("p", "notes", "E072|p/notes|-\n"),
+    ("the root's declaration", "", "0=ocfl_1.1", ""),
+    ("extensions", "", "extensions", ""),
+    ("a file in the root", "", "notes", ""),
+    ("an object", "", "o", "ok|o|-\nlisting\ntable\n"),
+    ("a directory", "", "p", "listing\n"),
+    ("a file in the hierarchy", "p", "notes", "E072|p/notes|-\n"),
     // in the object
-    ("o", "logs", ""),
-    ("o", "notes", "E001|o/notes|-\n"),
-    ("o", "v1", "listing\n"),
-    ("o/v1", "notes", "E015|o/v1/notes|-\n"),
-    ("o/v1/content", "f", "ok|o/v1/content/f|3\n"),
+    ("logs", "o", "logs", ""),
+    ("a file in an object", "o", "notes", "E001|o/notes|-\n"),
+    ("a version", "o", "v1", "listing\n"),
+    (
+        "a file in a version",
+        "o/v1",
+        "notes",
+        "E015|o/v1/notes|-\n",
+    ),
+    (
+        "a content file",
+        "o/v1/content",
+        "f",
+        "ok|o/v1/content/f|3\n",
+    ),
 ];
 
 #[test]
 fn entries_are_met_by_the_part_that_they_lie_in(rt: HostRuntime) -> Result<(), Fail> {
     let alloc = rt.alloc();
-    for (directory, name, want) in ENTRIES {
+    for (row, directory, name, want) in ENTRIES {
         let mut store = root(alloc)?;
         let around = match directory.starts_with("o") {
             true => object(alloc, &mut store)?,
@@ -110,11 +120,7 @@ fn entries_are_met_by_the_part_that_they_lie_in(rt: HostRuntime) -> Result<(), F
         };
         let visit = met(alloc, &mut store, &around, directory, name)?;
         let text = text_of(alloc, &mut store, visit)?;
-        assert_eq!(rt;
-            text.as_str(),
-            lines_of(alloc, want)?.as_str(),
-            "{directory}/{name}"
-        );
+        assert_eq!(rt; text.as_str(), lines_of(alloc, want)?.as_str(), "{row}");
     }
     Ok(())
 }
@@ -135,23 +141,33 @@ fn meeting_an_object_lists_it_and_reads_its_own_files(rt: HostRuntime) -> Result
 #[test]
 fn the_storage_root_is_met_with_its_listing(rt: HostRuntime) -> Result<(), Fail> {
     let alloc = rt.alloc();
-    for (path, want, opened) in [
-        ("notes", "ok|.|-\nlisting\n", "0=ocfl_1.1;"),
-        ("-0=ocfl_1.1", "E069|.|-\n", ""),
-        ("0=ocfl_1.0", "E076|.|-\n", ""),
-        ("0=ocfl_1.1", "E080|.|-\nlisting\n", "0=ocfl_1.1;"),
+    for (row, path, want, opened) in [
+        (
+            "a file in the root",
+            "notes",
+            "ok|.|-\nlisting\n",
+            "0=ocfl_1.1;",
+        ),
+        ("no declaration", "-0=ocfl_1.1", "E069|.|-\n", ""),
+        ("two declarations", "0=ocfl_1.0", "E076|.|-\n", ""),
+        (
+            "a bad declaration",
+            "0=ocfl_1.1",
+            "E080|.|-\nlisting\n",
+            "0=ocfl_1.1;",
+        ),
     ] {
         let mut store = root(alloc)?;
         change(alloc, &mut store, &[(path, "abc")])?;
         let visit = visit_base(alloc, &mut store).map_err(said)?;
-        assert_eq!(rt; listed_from(alloc, &store, 0)?.as_str(), ";", "{path}");
+        assert_eq!(rt; listed_from(alloc, &store, 0)?.as_str(), ";", "{row}");
         assert_eq!(rt;
             opened_from(alloc, &store, 0, "")?.as_str(),
             opened,
-            "{path}"
+            "{row}"
         );
         let text = text_of(alloc, &mut store, visit)?;
-        assert_eq!(rt; text.as_str(), lines_of(alloc, want)?.as_str(), "{path}");
+        assert_eq!(rt; text.as_str(), lines_of(alloc, want)?.as_str(), "{row}");
     }
     Ok(())
 }
@@ -163,14 +179,20 @@ fn a_path_that_is_not_seen_is_missing_where_the_table_names_it(
     let alloc = rt.alloc();
     let mut store = root(alloc)?;
     let around = object(alloc, &mut store)?;
-    for (object, path, want) in [
+    for (row, object, path, want) in [
         (
+            "a path that the table names",
             &around,
             "o/v2/content/m",
             "E092|o/v2/content/m|sha256 missing\n",
         ),
-        (&around, "o/v2/content/n", ""),
-        (&None, "o/v2/content/m", ""),
+        (
+            "a path that the table does not name",
+            &around,
+            "o/v2/content/n",
+            "",
+        ),
+        ("no table", &None, "o/v2/content/m", ""),
     ] {
         let place = place_of(alloc, path)?;
         let visit = Visit {
@@ -179,7 +201,7 @@ fn a_path_that_is_not_seen_is_missing_where_the_table_names_it(
             table: None,
         };
         let text = text_of(alloc, &mut store, visit)?;
-        assert_eq!(rt; text.as_str(), lines_of(alloc, want)?.as_str(), "{path}");
+        assert_eq!(rt; text.as_str(), lines_of(alloc, want)?.as_str(), "{row}");
     }
     Ok(())
 }
@@ -204,14 +226,19 @@ fn declarations_are_told_of_a_listing(rt: HostRuntime) -> Result<(), Fail> {
     let alloc = rt.alloc();
     let mut store = root(alloc)?;
     change(alloc, &mut store, &[("p/0=ocfl_object_9.9", "abc")])?;
-    for (path, level, want) in [
-        ("", Level::Root, Head::Known),
-        ("", Level::Object, Head::Undeclared),
-        ("o", Level::Object, Head::Known),
-        ("p", Level::Object, Head::Stops),
+    for (row, path, level, want) in [
+        (
+            "a right declaration of the root",
+            "",
+            Level::Root,
+            Head::Known,
+        ),
+        ("the root as an object", "", Level::Object, Head::Undeclared),
+        ("an object", "o", Level::Object, Head::Known),
+        ("an unknown version", "p", Level::Object, Head::Stops),
     ] {
         let folder = listed(alloc, &mut store, path)?;
-        assert!(rt; head_of(&folder, level) == want, "{path}");
+        assert!(rt; head_of(&folder, level) == want, "{row}");
     }
     Ok(())
 }

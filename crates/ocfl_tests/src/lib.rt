@@ -1,4 +1,5 @@
-//! Tests of the other crates by their public calls: no code.
+//! Tests of the other crates by their public calls: no code. The first column of a table names its
+//! rows, and each assertion on a row carries that name.
 #![tactic(auto)]
 
 #[cfg(test)]

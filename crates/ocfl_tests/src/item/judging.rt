@@ -26,8 +26,8 @@ fn object(
     Ok(store)
 }
 
-/// A name, a manifest, a fixity block, what is changed, the lines of `f`, their cost, and how often `f` is
-/// opened.
+/// A name, a manifest, a fixity block, what is changed, the lines of `f`, their cost, and how often
+/// `f` is opened.
 type Judged = (
     &'static str,
     &'static str,

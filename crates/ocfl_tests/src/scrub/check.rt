@@ -21,9 +21,9 @@ const DATA: &str =
 const TWO_DIGESTS_AND_FIXITY: &str =
     r#""digestAlgorithm":"sha256","manifest":{"NOTHING_SHA256":["v1/content/f"],"ABC_SHA256":["v1/content/f"]},"fixity":{"md5":{"NOTHING_MD5":["v1/content/f"]}}"#;
 
-/// A name, the members of an inventory, what is changed in the object with it and the file `f`, the path
-/// that is checked, its text, the status, and how often the path is opened. Where there is no text
-/// there is no item.
+/// A name, the members of an inventory, what is changed in the object with it and the file `f`, the
+/// path that is checked, its text, the status, and how often the path is opened. Where there is no
+/// text there is no item.
 type Check = (
     &'static str,
     &'static str,

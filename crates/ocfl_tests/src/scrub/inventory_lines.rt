@@ -190,7 +190,7 @@ fn inventories_that_stop_the_head(rt: HostRuntime) -> Result<(), Fail> {
     Ok(())
 }
 
-/// A name, a manifest and a fixity block without their braces, and the lines of a head that does not stop.
+/// A manifest and a fixity block without their braces, and the lines of a head that does not stop.
 const GO_ON: [(&str, &str, &str, &str); 13] = [
     // each bad text by the first rule that it breaks, ascending
     (

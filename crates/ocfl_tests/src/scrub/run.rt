@@ -32,7 +32,7 @@ const SECOND_BEHIND_B: &str =
 
 const LAST_OF_THREE: &str = "spent 4 files 1 clean, ended; cycle 1 runs 3 spent 9 files 3 ended";
 
-/// A name, the limit of files of all runs over three files, and of each run its budget, what it writes and
+/// The limit of files of all runs over three files, and of each run its budget, what it writes and
 /// what it says.
 const RUNS: [(&str, u64, &[(u64, &[&str], &str)]); 10] = [
     (

@@ -18,7 +18,7 @@ use std::alloc::Global;
 use std::process::Abort;
 use std::test::Fail;
 
-/// Calls that fail over the root of an object by sha512: their names, their places, what was written before, the
+/// Calls that fail over the root of an object by sha512: their places, what was written before, the
 /// note, and where the cursor of a run stands.
 pub(crate) const STOPS: [(&str, &str, Point, &str, &str, &str); 3] = [
     (

@@ -21,6 +21,7 @@ clock=$(cat %(clock)s)
 day=$(/bin/date -d "@$clock" +%%Y-%%m-%%d)
 case "$*" in
   "+%%s") echo "$clock" ;;
+  "-u -r "*) exec /bin/date "$@" ;;
   "-u "*) exec /bin/date -u -d "@$clock" "$2" ;;
   "-d tomorrow "*) exec /bin/date -d "$day ${2#tomorrow } tomorrow" "$3" ;;
   "-d "*) exec /bin/date -d "$day $2" "$3" ;;

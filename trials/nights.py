@@ -9,12 +9,13 @@ Where a tool is missing, that is a failure which names Debian's package.
 import os
 import re
 import shutil
+import signal
 import subprocess
 
 import common
 from common import PROGRAM, digest, is_so
-from shared.nights import (CONTRIB, ITEMS, WRONG_B, Nights, instead, make_root, ran, read, tried,
-                           tried_apart, write)
+from shared.nights import (CONTRIB, ITEMS, WRONG_B, Nights, ask, instead, make_root, ran, read,
+                           tried, tried_apart, write)
 
 PACKAGES = {"flock": "util-linux", "awk": "mawk", "gzip": "gzip", "truncate": "coreutils",
             "sha256sum": "coreutils", "iconv": "libc-bin", "ps": "procps", "setpriv": "util-linux"}
@@ -49,22 +50,6 @@ def plain_nights(folder):
     is_so("two", nights.reports(), ["cycle-000002.gz", "cycle-000003"])
     is_so("what lies there", sorted(os.listdir(nights.state)),
           ["cursor", "lock", "nights", "reports", "root"])
-
-
-def statements(folder):
-    """A cycle that ends has its statement, sealed where that is asked for; where it cannot be made,
-    that is said, and the cycle is closed all the same."""
-    nights = Nights(folder + "/state", make_root(folder + "/root"))
-    seal = ["--seal", 'sha256sum "$1" > "$1.sum"']
-    is_so("a whole cycle", nights.night("1K", more=seal), (0, "", ""))
-    made = nights.has("reports/statement-000001") or ""
-    is_so("its statement", ["Whole: yes\n" in made, "Report: cycle-000001\n" in made],
-          [True, True])
-    status, _, said = nights.night("1K", more=["--seal", "false"])
-    is_so("a seal that fails", (status, "The statement of cycle 2 could not be made" in said),
-          (3, True))
-    is_so("its cycle is closed", nights.whole(2), "".join(ITEMS))
-    is_so("and the next begins", nights.night("1"), (0, "", ""))
 
 
 def nights_with_findings(folder):
@@ -134,6 +119,92 @@ def cost_is_the_cursors(folder):
     shown = re.search(r"^    (awk .*) ~/audit/nights$", readme, re.MULTILINE)
     is_so("README's cost of a cycle", ran(["sh", "-c", "%s '%s'" % (
         shown[1], nights.path("nights"))])[1] if shown else None, "9\n")
+
+
+# Statements
+
+def is_stated(name, nights, report):
+    """The cycle of this report has a statement, and that holds."""
+    file = "reports/statement-" + report.split("-")[1]
+    is_so(name, ask("verify-statement", nights.path(file)),
+          (0, "%s is what %s says\n" % (nights.path("reports/" + report), file[8:]), ""))
+
+
+def statements(folder):
+    """Each cycle that ends has a statement beside its report, with or without a seal."""
+    nights = Nights(folder + "/state", make_root(folder + "/root"))
+    is_so("a whole cycle", nights.night("1K"), (0, "", ""))
+    is_stated("its statement", nights, "cycle-000001")
+    first = nights.has("reports/statement-000001") or ""
+    is_so("half a cycle", nights.night("1"), (0, "", ""))
+    is_so("has none", nights.has("reports/statement-000002"), None)
+    damage(nights, lambda lines: lines[1:])
+    is_so("the rest of it", nights.night("1K")[0], 3)
+    is_stated("a statement of what is not whole", nights, "incomplete-000002")
+    is_so("says so", "\nWhole: no\n" in (nights.has("reports/statement-000002") or ""), True)
+    is_so("sealed", nights.night("1K", more=["--seal", 'sha256sum "$1" > "$1.sum"']), (0, "", ""))
+    is_stated("under its seal", nights, "cycle-000003")
+    is_so("the seal", nights.has("reports/statement-000003.sum"), "%s  statement-000003\n" % digest(
+        (nights.has("reports/statement-000003") or "").encode()))
+    is_so("the first one stays", (nights.has("reports/statement-000001"), "\nCycle: 1\n" in first),
+          (first, True))
+
+
+def a_seal_that_lingers(folder):
+    """What the seal's command leaves running holds neither the night nor its lock."""
+    nights = Nights(folder + "/state", make_root(folder + "/root"))
+    seal = 'sleep 60 > /dev/null 2>&1 & echo $! > %s/pid; rev "$1" > "$1.rev"' % folder
+    is_so("sealed", nights.night("1K", more=["--seal", seal]), (0, "", ""))
+    is_so("the next night", nights.night("1"), (0, "", ""))
+    os.kill(int(read(folder + "/pid")), signal.SIGKILL)
+
+
+def statements_that_fail(folder):
+    """That is said, with status 3. The cycle is closed all the same, and the next night tries again
+    before it begins another one."""
+    nights = Nights(folder + "/state", make_root(folder + "/root"))
+    mute = folder + "/mute"
+    write(mute, '#!/bin/sh\n[ "$1" != --version ] || exit 9\nexec %s "$@"\n' % PROGRAM, 0o755)
+    said = "The statement of cycle %d could not be made or sealed. To try again:\n" \
+        "%s/reports/statement%s %s %d\n"
+    status, _, text = nights.night("1K", program=mute)
+    is_so("none", (status, said % (1, CONTRIB, "", nights.state, 1) in text), (3, True))
+    is_so("its reason", "statement: %s does not say its version\n" % mute in text, True)
+    is_so("its cycle is closed", (nights.whole(1), len(nights.rows("ended"))), ("".join(ITEMS), 1))
+    is_so("the next night makes it", nights.night("1"), (0, "", ""))
+    is_stated("it holds", nights, "cycle-000001")
+    status, _, text = nights.night("1K", more=["--seal", "false"])
+    is_so("a seal that fails", (status, said % (2, CONTRIB, " --seal COMMAND", nights.state, 2)
+                                in text), (3, True))
+    is_stated("its statement", nights, "cycle-000002")
+    is_so("the next night seals it",
+          (nights.night("1", more=["--seal", 'rev "$1" > "$1.rev"']),
+           nights.has("reports/statement-000002.rev") is None), ((0, "", ""), False))
+    nights.night("1K", program=mute)
+    is_so("by hand", ask("statement", nights.state, "3"), (0, "", ""))
+    is_stated("made by hand", nights, "cycle-000003")
+
+
+def statements_after_a_kill(folder):
+    """A kill between the end of a cycle and its statement: `rotate` or the next night makes it."""
+    nights = Nights(folder + "/state", make_root(folder + "/root"))
+    rotate = [CONTRIB + "/rotate", nights.state]
+    nights.night("1K", program=orphaning(folder))
+    wait_for(nights)
+    is_so("the cycle is not closed", os.path.exists(nights.path("reports")), False)
+    is_so("rotate", ran(rotate), (0, "", ""))
+    is_stated("closes and states it", nights, "cycle-000001")
+    for number, act in [(2, lambda: ran(rotate)), (3, lambda: nights.night("1"))]:
+        nights.night("1K")
+        for name in ["statement-%06d" % number, "statement-%06d.json" % number]:
+            if os.path.exists(nights.path("reports/" + name)):
+                os.remove(nights.path("reports/" + name))
+        is_so("once more %d" % number, act(), (0, "", ""))
+        is_stated("it is made up for %d" % number, nights, "cycle-%06d" % number)
+    nights.night("1K")
+    os.rename(nights.path("reports"), folder + "/away")
+    is_so("a report that was moved away", nights.night("1"), (0, "", ""))
+    is_so("has none", os.path.exists(nights.path("reports/statement-000004")), False)
 
 
 # Nights that were cut
@@ -619,12 +690,13 @@ def locked_nights(folder):
     is_so("usage: budget", (status, "--budget" in said), (2, True))
 
 
-PARTS = [plain_nights, statements, nights_with_findings, notes_are_no_findings, logged,
-         cost_is_the_cursors, shell_dies, shell_dies_at_the_end, cut_before_it_says, killed_nights,
-         lines_after_the_cursor, written_again, full_disk, full_state, state_is_tried_first,
-         files_are_ones_own, lost_lines, changed_in_the_middle, removed_report, reports_moved_away,
-         closing_fails, older_log, put_back, another_root, half_a_root, gone_things, all_is_gone,
-         expected_objects, reasons, no_permission, the_second_stop, stopped_nights, locked_nights]
+PARTS = [plain_nights, nights_with_findings, notes_are_no_findings, logged, cost_is_the_cursors,
+         statements, a_seal_that_lingers, statements_that_fail, statements_after_a_kill, shell_dies,
+         shell_dies_at_the_end, cut_before_it_says, killed_nights, lines_after_the_cursor,
+         written_again, full_disk, full_state, state_is_tried_first, files_are_ones_own, lost_lines,
+         changed_in_the_middle, removed_report, reports_moved_away, closing_fails, older_log,
+         put_back, another_root, half_a_root, gone_things, all_is_gone, expected_objects, reasons,
+         no_permission, the_second_stop, stopped_nights, locked_nights]
 
 
 def tell(folder):

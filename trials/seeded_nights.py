@@ -1,7 +1,7 @@
 #!/usr/bin/env python3
 """Makes nights of random kinds, most of which are killed, or meet a full disk or a report that lost
 lines, and looks at what is left of them: each finding of the audit was told in each cycle, and each
-closed report is the audit byte for byte or is marked as incomplete.
+closed report is the audit byte for byte or is marked as incomplete, and has a statement that holds.
 
 usage: seeded_nights.py [--nights N] [--seed N...] [--by-budget]
 
@@ -18,7 +18,7 @@ import time
 
 import common
 from common import PROGRAM, is_so
-from shared.nights import Nights, instead, ran, read, write
+from shared.nights import Nights, ask, instead, ran, read, write
 
 EVENTS = ["none", "none", "front", "worker", "program", "program", "group", "group", "TERM",
           "TERM group", "timeout", "full", "full later", "lost", "half"]
@@ -155,7 +155,7 @@ class Seeded:
     def look_at_reports(self):
         folder = self.nights.path("reports")
         for name in sorted(os.listdir(folder)) if os.path.isdir(folder) else []:
-            if "-" not in name:
+            if not name.startswith(("cycle-", "incomplete-")):
                 continue
             kind, number = name.removesuffix(".gz").rsplit("-", 1)
             self.closed.add(int(number))
@@ -177,6 +177,8 @@ class Seeded:
         is_so("some cycles ended", len(ended) > 2, True)
         for cycle in sorted(ended):
             is_so("told in cycle %d" % cycle, sorted(findings - self.told[cycle]), [])
+            statement = self.nights.path("reports/statement-%06d" % cycle)
+            is_so("statement of cycle %d" % cycle, ask("verify-statement", statement)[0], 0)
 
 
 def tell(folder):

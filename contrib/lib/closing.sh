@@ -23,10 +23,15 @@ report_before() {
   done | tail -n 1
 }
 
-# Closes the cycle that the cursor says has ended, where the log does not say that it is closed.
+# Closes the cycle that the cursor says has ended, and writes its statement.
 close_cycle() {
   [ "$stands" = ended ] || return 0
-  if is_closed "$cycle"; then return 0; fi
+  is_closed "$cycle" || close_report || return 3
+  write_statement
+}
+
+# Moves the report of the cycle to its place, and logs what it has.
+close_report() {
   mkdir -p -- "$state/reports" || return 3
   began=$(now) cost=0 closing=$(seconds_now)
   closed=$(closed_report "$cycle")
@@ -40,7 +45,6 @@ close_cycle() {
   seconds=$(($(seconds_now) - closing))
   log ended "$(closing_text)" || return 3
   bytes=0 lines=0 digest=$nothing
-  after_close "$cycle"
 }
 
 # Whether the report has all that the log says, from its first byte to its last.
@@ -110,13 +114,16 @@ closing_text() {
   [ -z "$expected" ] || printf '; expected %s' "$(gone expected)"
 }
 
-# Makes and seals the statement of a cycle that has been closed, where that is asked for. The cycle
-# stays closed where that fails; `unstated` says so.
-after_close() {
-  [ -n "${seal:-}" ] || return 0
-  "$here/reports/statement" ${seal:+--seal "$seal"} "$state" "$1" > /dev/null && return 0
+# Writes the statement of the closed cycle, and seals it where that is asked for. The next night
+# tries again what failed or what a kill left out; a statement that is there stays as it is. Where
+# this fails, `unstated` says so, and the cycle stays closed.
+write_statement() {
+  # Whoever moved the report away wants no statement here.
+  [ -e "$(closed_report "$cycle")" ] || return 0
+  "$here/reports/statement" ${seal:+--seal "$seal"} "$state" "$cycle" > /dev/null && return 0
   unstated=yes
-  echo "The statement of cycle $1 could not be made or sealed; reports/statement makes it again." >&2
+  echo "The statement of cycle $cycle could not be made or sealed. To try again:" >&2
+  echo "$here/reports/statement${seal:+ --seal COMMAND} $state $cycle" >&2
 }
 
 # Compresses the reports of all cycles but the one that was closed last, and removes those that are

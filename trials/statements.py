@@ -198,15 +198,18 @@ def incomplete_statement(folder):
               "2026-01-02T22:00:00Z")
     state.row("2026-01-02T22:00:00Z", "root", 1, 1, 1, 0, "/srv/new", "after o",
               "2026-01-02T22:00:00Z")
-    state.night("2026-01-02T22:00:00Z", 1, 2, 3, 4, stands="ended")
-    state.close("2026-01-02T23:00:00Z", 1, "incomplete lost lines; findings none; compared nothing;"
+    state.night("2026-01-02T22:00:00Z", 1, 2, 3, 4, told=False)
+    state.row("2026-01-03T02:00:00Z", 0, 1, 3, 6, 4, "cycle 1, run 3, cost 4, ended", "ended",
+              "2026-01-02T22:00:00Z")
+    state.close("2026-01-03T03:00:00Z", 1, "incomplete lost lines; findings none; compared nothing;"
                 " gone 0 objects 0 files", [LINES[0], line("ok", "01"), line("ok", "1"), "ok\to\n",
                                             LINES[2], line("E072", "o-x")], form="incomplete")
     made = program(folder, "0" * 64)
     is_so("incomplete", ask("statement", state.path, 1, OCFL_SCRUB=made), (0, "", ""))
     text = state.has("reports/statement-000001")
     wanted = ["Lost lines: lost 1 of 2 lines", "Root changed to: /srv/new", "Whole: no",
-              "Report: incomplete-000001", "Broken lines: 1", "Report lines: 6",
+              "Report: incomplete-000001", "Broken lines: 1", "Report lines: 6", "Nights: 2",
+              "Runs: 3", "First night: 2026-01-01T22:00:00Z", "Last night: 2026-01-02T22:00:00Z",
               "Objects: 3", "Objects without findings: 3", "Findings: 1",
               "Program commit: not known", "Program SHA-256: " + digest(common.read(made))]
     is_so("what it says", [row for row in wanted if "\n%s\n" % row not in text], [])

@@ -5,9 +5,9 @@ BEGIN { FS = "\t" }
 (NF != 14 && NF != 7) || ($3 "") != (ENVIRON["CYCLE"] "") { next }
 
 $2 ~ /^[0-9]+$/ || $2 == "cut" {
-  if (first == "") first = $1
-  last = $1
   night = NF == 14 ? $14 : $1
+  if (first == "") first = night
+  last = night
   if (!(night in seen)) {
     seen[night]
     nights++

@@ -79,10 +79,13 @@ def simple_questions(folder):
                   (3, "", True))
     two = ask("bytes", folder + "/plain", folder + "/packed.gz")[1]
     is_so("two reports", two, "%d files, %d bytes\n" % (2 * len(sizes), 2 * sum(sizes)))
-    for name in ["findings", "totals", "bytes", "changed", "to-json", "unverified", "database"]:
+    for name in ["findings", "totals", "bytes", "changed", "to-json", "unverified", "database",
+                 "statement", "verify-statement", "premis"]:
         status, out, said = ask(name)
         is_so("usage of " + name, (status, out, said.startswith("usage: %s " % name)),
               (2, "", True))
+        status, out, said = ask(name, "--help")
+        is_so("help of " + name, (status, "\nusage: %s " % name in out, said), (0, True, ""))
     return lines
 
 

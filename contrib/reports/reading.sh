@@ -1,6 +1,9 @@
 #!/bin/sh
 # What the questions to reports share: each of them reads this file.
 
+# With --help a question shows what its head says.
+case ${1:-} in --help | -h) sed -n '2,/^set /s/^# \{0,1\}//p' "$0"; exit 0 ;; esac
+
 # Ends with the line of the question that begins with `# usage: `.
 usage() {
   sed -n 's/^# usage: /usage: /p' "$0" >&2

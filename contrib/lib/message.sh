@@ -115,7 +115,7 @@ say_stops() {
 say_kill() {
   case $2 in
     "ended by "*) ;;
-    *) echo "The program was killed (status $1); the next night repeats what this one did." ;;
+    *) echo "The program was killed (status $1); the next night makes its run again." ;;
   esac
 }
 
@@ -136,7 +136,8 @@ say_stop() {
     "stopped at "*) say_stop_at "$1" "${1#stopped at }" ;;
     *)
       trouble=$(try_state 2>&1) || trouble=" ($state: $(system_words "$trouble"))"
-      echo "The night of $root stopped: ${1:-no word}$trouble. The next one resumes from there."
+      echo "The night of $root stopped: ${1:-no word}$trouble."
+      echo "The next one goes on from the cursor."
       ;;
   esac
 }

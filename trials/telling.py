@@ -31,8 +31,8 @@ def in_service(nights, number, budget="1K", program=PROGRAM, **environment):
     the mail have."""
     unit = read(CONTRIB + "/systemd/ocfl-scrub@.service")
     words = re.sub(r"\\\n", "", re.search(r"^ExecStart=((?:.*\\\n)*.*)$", unit, re.MULTILINE)[1])
-    given = {"UNTIL": "23:59", "BUDGET": budget, "FILES": "4611686018427387904",
-             "ROOT": nights.root}
+    given = {"UNTIL": "23:59", "BUDGET": budget, "FILES": "4611686018427387904", "KEEP": "",
+             "EXPECTED": "", "SEAL": "", "ROOT": nights.root}
     words = [re.sub(r"\$\{(\w+)\}", lambda found: given[found[1]], word)
              .replace("%S/ocfl-scrub/%i", nights.state)
              .replace("/usr/local/share/ocfl-scrub", CONTRIB) for word in words.split()]

@@ -579,6 +579,9 @@ def expected_objects(folder):
     is_so("expected", (status, "2 objects of %s/list are in no report of cycle 1" % folder in said),
           (1, True))
     is_so("listed", nights.has("reports/gone-000001"), "expected\tb\nexpected\tp/q\n")
+    write(folder + "/list", "b\n")
+    is_so("one of them", "1 object of %s/list is in no report of cycle 2;" % folder in nights.night(
+        "1K", more=more)[2], True)
     is_so("no list", nights.night("1K", more=["--expected", folder + "/none"])[0], 2)
 
 

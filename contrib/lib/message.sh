@@ -93,8 +93,9 @@ say_ended() {
           plural(gone[1], "object"), plural(gone[3], "file"), value["compared"], $3, list
       }
       if (value["expected"] + 0 > 0) {
-        printf "%s of %s are in no report of cycle %s; %s lists them.\n",
-          plural(value["expected"], "object"), ENVIRON["EXPECTED"], $3, list
+        printf "%s of %s %s in no report of cycle %s; %s lists them.\n",
+          plural(value["expected"], "object"), ENVIRON["EXPECTED"],
+          value["expected"] == 1 ? "is" : "are", $3, list
       }
     }' "$scratch/untold"
 }

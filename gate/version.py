@@ -14,6 +14,7 @@ PLACES = {
     "crates/ocfl_tests/src/line.rt": r'"ocfl-scrub ',
     "contrib/man/ocfl-scrub.1": r"ocfl\\-scrub ",
     "contrib/README.md": r"Program: ocfl-scrub ",
+    "README.md": r"ocfl-scrub_",
 }
 
 

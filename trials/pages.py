@@ -24,12 +24,13 @@ from shared.pages import blocks_of_manual, blocks_of_markdown, commands_of, link
 from shared.states import tools
 
 PACKAGES = {"git": "git", "jq": "jq", "sqlite3": "sqlite3", "awk": "mawk", "gzip": "gzip",
-            "perl": "perl", "cmp": "diffutils"}
+            "perl": "perl", "cmp": "diffutils", "dpkg-deb": "dpkg", "readelf": "binutils"}
 
 # How commands begin that are not run, and why not.
 NOT_RUN = {
     "useradd ": "adds a user to the system",
     "systemctl ": "needs a service manager",
+    "sudo apt install ": "changes the system; trials/package.py installs the package",
 }
 # How blocks begin of which no line is run, and why not.
 NO_COMMANDS = {

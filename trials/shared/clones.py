@@ -7,7 +7,7 @@ from common import PROGRAM, TOP
 from shared.nights import CONTRIB, ran, write
 
 # What the clone has beside `contrib`.
-PARTS = ["VERSION", "install", "ocfl-scrub", "crates.txt", "samples"]
+PARTS = ["CHANGELOG.md", "VERSION", "install", "package", "ocfl-scrub", "crates.txt", "samples"]
 
 
 def git(clone, *words):

@@ -12,3 +12,4 @@ pub mod Reading
 pub mod Seen
 pub mod Stores
 pub mod Trees
+pub mod CallLaws

@@ -1,17 +1,18 @@
 //! What callers of a store need once, as contracts of functions that do nothing.
-ghost use Rattle.std.specs.Prelude.{◌≡◌, ℕ, ◌+◌, ◌<◌, ◌++◌, [], ◌∷◌, List, length, true, false};
-ghost use Rattle.std.specs.Prelude.{Some};
+ghost use Rattle.std.specs.Prelude.{◌≡◌, ◌≢◌, ℕ, ◌+◌, ◌<◌, ◌++◌, [], ◌∷◌, List, length, true, false};
+ghost use Rattle.std.specs.Prelude.{None, Some};
 ghost use Rattle.std.specs.List.Sorted.{IsPermutation};
 ghost use Rattle.ocfl_tree.specs.Name.{IsPlace};
 ghost use Rattle.ocfl_tree.specs.Place.{Text, Place as Spot};
-ghost use Rattle.ocfl_tree.specs.StorageRoot.{StorageRoot, file, at};
-ghost use Rattle.ocfl_tree.specs.Listing.{entries_in, IsOrdinary, IsListing};
+ghost use Rattle.ocfl_tree.specs.StorageRoot.{StorageRoot, file, dir, at};
+ghost use Rattle.ocfl_tree.specs.Listing.{entries_in, kind_in, kind_at, IsOrdinary, IsListing};
 ghost use Rattle.ocfl_tree.specs.Store.{Store, Did};
-ghost use Rattle.ocfl_tree.specs.Calls.{opening, Opens, Reads, ReadFails, Closes};
+ghost use Rattle.ocfl_tree.specs.Calls.{opening, Lists, ListFails, Opens, OpenFails, Reads};
+ghost use Rattle.ocfl_tree.specs.Calls.{ReadFails, Closes};
 ghost use Rattle.ocfl_tree.specs.Reading.{IsReading};
 ghost use Rattle.ocfl_tree.specs.declared.store.Entry.{Entry};
 ghost use Rattle.ocfl_tree.specs.declared.store.Opening.{Opening};
-ghost use Rattle.ocfl_tree.specs.declared.store.Trouble.TheVariants.{Device, Absent};
+ghost use Rattle.ocfl_tree.specs.declared.store.Trouble.TheVariants.{Device, Absent, Memory};
 
 use crate::place::Place;
 
@@ -51,4 +52,51 @@ pub fn listing_is_complete()
     ensures { (root : StorageRoot) (d : Spot) (es : List Entry) → IsOrdinary es
         → IsListing root d es
         → IsPermutation es (entries_in root d) }
+{}
+
+/// Each call of a store that tells its tree, in other words. A listing, an opening and a failure are
+/// added where the device was asked or failed, and nothing else changes. What is absent is not there.
+pub fn each_call_does_what_it_tells()
+    ensures listed { (s t : Store) (p : Spot) (es : List Entry) → Lists s t p es
+        → (at s.tree p ≡ Some dir) × (((n : Text) → kind_in es n ≡ kind_at s.tree p n)
+        × ((t.tree ≡ s.tree) × ((t.openings ≡ s.openings) × ((t.listings ≡ s.listings ++ p ∷ [])
+        × ((t.failures ≡ s.failures) × ((t.rest ≡ s.rest) × (t.largest ≡ s.largest))))))) }
+    ensures unlisted { (s t : Store) (p : Spot) → ListFails s t p Device → (t.tree ≡ s.tree)
+        × ((t.openings ≡ s.openings) × ((t.listings ≡ s.listings ++ p ∷ [])
+        × ((t.failures ≡ s.failures + 1) × ((t.rest ≡ None) × (t.largest ≡ s.largest))))) }
+    ensures no_directory { (s t : Store) (p : Spot) → ListFails s t p Absent
+        → (at s.tree p ≢ Some dir) × ((t.tree ≡ s.tree) × ((t.openings ≡ s.openings)
+        × ((t.listings ≡ s.listings) × ((t.failures ≡ s.failures) × ((t.rest ≡ None)
+        × (t.largest ≡ s.largest)))))) }
+    ensures no_memory { (s t : Store) (p : Spot) → ListFails s t p Memory → (t.tree ≡ s.tree)
+        × ((t.openings ≡ s.openings) × ((t.listings ≡ s.listings) × ((t.failures ≡ s.failures)
+        × ((t.rest ≡ None) × (t.largest ≡ s.largest))))) }
+    ensures opened { (s t : Store) (p : Spot) → Opens s t p → (bytes : Text)
+        × ((at s.tree p ≡ Some (file bytes)) × ((t.rest ≡ Some bytes) × ((t.tree ≡ s.tree)
+        × ((t.openings ≡ s.openings ++ opening p 0 false ∷ []) × ((t.listings ≡ s.listings)
+        × ((t.failures ≡ s.failures) × (t.largest ≡ s.largest))))))) }
+    ensures unopened { (s t : Store) (p : Spot) → OpenFails s t p Device → (t.tree ≡ s.tree)
+        × ((t.openings ≡ s.openings ++ opening p 0 true ∷ []) × ((t.listings ≡ s.listings)
+        × ((t.failures ≡ s.failures + 1) × ((t.rest ≡ None) × (t.largest ≡ s.largest))))) }
+    ensures no_file { (s t : Store) (p : Spot) → OpenFails s t p Absent → ((bytes : Text)
+        → at s.tree p ≢ Some (file bytes)) × ((t.tree ≡ s.tree) × ((t.openings ≡ s.openings)
+        × ((t.listings ≡ s.listings) × ((t.failures ≡ s.failures) × ((t.rest ≡ None)
+        × (t.largest ≡ s.largest)))))) }
+    ensures read { (s t : Store) (bytes : Text) (room : ℕ) → Reads s t bytes room → (left : Text)
+        × ((s.rest ≡ Some (bytes ++ left)) × ((t.rest ≡ Some left) × ((bytes ≡ [] → 0 < room
+        → left ≡ []) × ((t.tree ≡ s.tree) × ((t.listings ≡ s.listings)
+        × (t.failures ≡ s.failures)))))) }
+    ensures given { (s t : Store) (bytes : Text) (room : ℕ) (front : List Opening) (o : Opening)
+        → Reads s t bytes room → s.openings ≡ front ++ o ∷ []
+        → t.openings ≡ front ++ record o { given = o.given + length bytes } ∷ [] }
+    ensures unread { (s t : Store) → ReadFails s t Device → (s.rest ≢ None) × ((t.rest ≡ None)
+        × ((t.tree ≡ s.tree) × ((t.listings ≡ s.listings) × (t.failures ≡ s.failures + 1)))) }
+    ensures failed { (s t : Store) (front : List Opening) (o : Opening) → ReadFails s t Device
+        → s.openings ≡ front ++ o ∷ [] → t.openings ≡ front ++ record o { failed = true } ∷ [] }
+    ensures nothing_open { (s t : Store) → ReadFails s t Absent → (s.rest ≡ None) × ((t.rest ≡ None)
+        × ((t.tree ≡ s.tree) × ((t.openings ≡ s.openings) × ((t.listings ≡ s.listings)
+        × (t.failures ≡ s.failures))))) }
+    ensures closed { (s t : Store) → Closes s t → (t.tree ≡ s.tree) × ((t.openings ≡ s.openings)
+        × ((t.listings ≡ s.listings) × ((t.failures ≡ s.failures) × ((t.rest ≡ None)
+        × (t.largest ≡ s.largest))))) }
 {}

@@ -9,7 +9,8 @@ use ocfl_tree::is_text;
 
 pub(crate) const INVENTORY_NAME: &str = "inventory.json";
 
-/// The name that the sidecar of an algorithm has (OCFL 1.1, 3.6 Inventory Digest).
+/// The name that the sidecar of an algorithm has (OCFL 1.1, 3.6 Inventory Digest). Only those of
+/// `sha256` and `sha512` are looked for.
 pub(crate) fn sidecar_name(algorithm: Algorithm) -> &'static str
     ensures { result.now ≡ sidecar_name_of algorithm }
 {

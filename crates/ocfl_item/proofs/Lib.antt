@@ -25,3 +25,4 @@ pub mod HeadOpens
 pub mod AuditingLaws
 pub mod ShutLaws
 pub mod ShortLaws
+pub mod StopLaws

@@ -1,12 +1,17 @@
-//! What calls did adds up, and which files are short.
-ghost use Rattle.std.specs.Prelude.{◌≡◌, ◌↔◌, ◌<◌, ◌++◌, List, Some, length};
+//! What calls did adds up, what stopped them, and which files are short.
+ghost use Rattle.std.specs.Prelude.{◌≡◌, ◌↔◌, ◌⊎◌, ◌<◌, ◌+◌, ◌++◌, ◌∷◌, [], ℕ, List, Some};
+ghost use Rattle.std.specs.Prelude.{length, true, false};
 ghost use Rattle.ocfl_tree.specs.Place.{Place, Text};
+ghost use Rattle.ocfl_tree.specs.Ascending.{IsAmong};
 ghost use Rattle.ocfl_tree.specs.Store.{Store};
 ghost use Rattle.ocfl_tree.specs.StorageRoot.{StorageRoot, file_at};
 ghost use Rattle.ocfl_tree.specs.declared.store.Opening.{Opening};
+ghost use Rattle.ocfl_audit.specs.Lines.{is_hashed};
+ghost use Rattle.ocfl_audit.specs.Trail.{is_meta, unread_of};
 ghost use Rattle.ocfl_item.specs.Auditing.{Audits, Fails};
 ghost use Rattle.ocfl_item.specs.Judging.{HasShortFiles};
 ghost use Rattle.ocfl_item.specs.declared.fault.Fault.{Fault};
+ghost use Rattle.ocfl_item.specs.declared.fault.Fault.TheVariants as fault;
 
 /// What calls did adds up, one after the other, up to a fault.
 #[tactic(auto, using(crate::proofs::AuditingLaws::audits_on, crate::proofs::AuditingLaws::audits_fail))]
@@ -18,6 +23,28 @@ pub fn calls_add_up()
         (os rs : List Opening) (why : Fault) → Audits root s t ps ls hs os
         → Fails root t u qs ms gs rs why → Fails root s u (ps ++ qs) (ls ++ ms) (hs ++ gs)
         (os ++ rs) why }
+{}
+
+/// Unless calls stopped, only content failed. A stop at a place counts one failure more than there
+/// are content files that could not be read. The place is no hashed file's, and names the last
+/// listing, and then no metadata failed, or the last opening, which did fail.
+pub fn stops_name_the_call_that_failed()
+    ensures content { (root : StorageRoot) (s t : Store) (places listed heads : List Place)
+        (trail : List Opening) → Audits root s t places listed heads trail
+        → (s.tree ≡ root) × ((t.tree ≡ root) × ((o : Opening) → IsAmong trail o
+        → o.failed ≡ true → is_meta root o.place ≡ false)) }
+    ensures counted { (root : StorageRoot) (s t : Store) (places listed heads : List Place)
+        (trail : List Opening) (q : Place)
+        → Fails root s t places listed heads trail (fault.Store q)
+        → (is_hashed root q ≡ false)
+        × (t.failures ≡ s.failures + (length (unread_of root trail) + 1)) }
+    ensures place { (root : StorageRoot) (s t : Store) (places listed heads : List Place)
+        (trail : List Opening) (q : Place)
+        → Fails root s t places listed heads trail (fault.Store q)
+        → ((before : List Place) × ((listed ≡ before ++ q ∷ []) × ((o : Opening)
+        → IsAmong trail o → o.failed ≡ true → is_meta root o.place ≡ false)))
+        ⊎ ((before : List Opening) × ((given : ℕ)
+        × (trail ≡ before ++ record { place = q; given = given; failed = true } ∷ []))) }
 {}
 
 /// A storage root has short files exactly where each of its files has fewer than 2^62 bytes.

@@ -1,0 +1,46 @@
+-- What stopped, and what did not fail.
+use Rattle.std.proofs.Common.{◌≡◌, ◌+◌, ◌⊎◌, inl, inr, ◌&&◌, ℕ, Bool, true, false, cond, List, [], ◌∷◌, ◌++◌, length, filter, refl, ap, sym, ◌∙◌}
+use Rattle.std.proofs.lemmas.Bool.{false≢true}
+use Rattle.ocfl_tree.specs.Place.{Place}
+use Rattle.ocfl_tree.specs.Ascending.{IsAmong}
+use Rattle.ocfl_tree.specs.StorageRoot.{StorageRoot}
+use Rattle.ocfl_tree.specs.Store.{Store}
+use Rattle.ocfl_tree.specs.declared.store.Opening.{Opening}
+use Rattle.ocfl_audit.specs.Lines.{is_hashed}
+use Rattle.ocfl_audit.specs.Trail.{is_meta, unread_of}
+use Rattle.ocfl_item.specs.Auditing.{Audits, Fails, FailedAt, in_listing, in_opening}
+use Rattle.ocfl_item.specs.declared.fault.Fault.TheVariants as fault
+
+none_passes : (test : Opening → Bool) (os : List Opening) → filter test os ≡ [] → (o : Opening) → IsAmong os o → test o ≡ false
+none_passes test [] e o there = absurd there
+none_passes test (x ∷ os) e o there = by (test x) refl e (λ k later. none_passes test os k o later) there
+  where
+    by : (b : Bool) → test x ≡ b → cond b (x ∷ filter test os) (filter test os) ≡ [] → (filter test os ≡ [] → IsAmong os o → test o ≡ false) → IsAmong (x ∷ os) o → test o ≡ false
+    by true g k more h = absurd cc
+    by false g k more (inl same) = ap test same ∙ g
+    by false g k more (inr later) = more k later
+
+second_false : (a b : Bool) → a ≡ true → (a && b) ≡ false → b ≡ false
+second_false true b e k = k
+second_false false b e k = absurd (false≢true e)
+
+module _ (root : StorageRoot) (s t : Store) (places listed heads : List Place) (trail : List Opening) where
+  no_metadata : filter (λ o. o.failed && is_meta root o.place) trail ≡ [] → (o : Opening) → IsAmong trail o → o.failed ≡ true → is_meta root o.place ≡ false
+  no_metadata e o there failed = second_false o.failed (is_meta root o.place) failed (none_passes (λ x. x.failed && is_meta root x.place) trail e o there)
+
+  pub only_content_failed : Audits root s t places listed heads trail → (s.tree ≡ root) × ((t.tree ≡ root) × ((o : Opening) → IsAmong trail o → o.failed ≡ true → is_meta root o.place ≡ false))
+  only_content_failed h = (h.over, (h.did.tree ∙ h.over, no_metadata h.read))
+
+  pub no_hashed_file_stops : (q : Place) → Fails root s t places listed heads trail (fault.Store q) → (is_hashed root q ≡ false) × (t.failures ≡ s.failures + (length (unread_of root trail) + 1))
+  no_hashed_file_stops q h = ((h.store q refl).0, h.did.failures_are)
+
+  pub last_call_failed : (q : Place) → Fails root s t places listed heads trail (fault.Store q)
+      → ((before : List Place) × ((listed ≡ before ++ q ∷ []) × ((o : Opening) → IsAmong trail o → o.failed ≡ true → is_meta root o.place ≡ false)))
+      ⊎ ((before : List Opening) × ((given : ℕ) × (trail ≡ before ++ record { place = q; given = given; failed = true } ∷ [])))
+  last_call_failed q h = by (h.store q refl).1
+    where
+      by : FailedAt root listed trail q
+          → ((before : List Place) × ((listed ≡ before ++ q ∷ []) × ((o : Opening) → IsAmong trail o → o.failed ≡ true → is_meta root o.place ≡ false)))
+          ⊎ ((before : List Opening) × ((given : ℕ) × (trail ≡ before ++ record { place = q; given = given; failed = true } ∷ [])))
+      by (in_listing before e read) = inl (before, (e, no_metadata read))
+      by (in_opening before given e) = inr (before, (given, e))

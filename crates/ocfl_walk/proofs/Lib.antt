@@ -25,3 +25,4 @@ pub mod WalkWords
 pub mod FindLaws
 pub mod FoundLaws
 pub mod StandSteps
+pub mod HolderLaws

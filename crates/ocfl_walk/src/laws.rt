@@ -1,11 +1,14 @@
-//! What a walk did adds up.
-ghost use Rattle.std.specs.Prelude.{Option, Some};
-ghost use Rattle.ocfl_tree.specs.Place.{Place};
+//! What a walk did adds up, and what lies on the way down to a place.
+ghost use Rattle.std.specs.Prelude.{◌≡◌, ◌++◌, ◌∷◌, [], Option, None, Some, true};
+ghost use Rattle.ocfl_tree.specs.Place.{Place, beginnings};
+ghost use Rattle.ocfl_tree.specs.Ascending.{IsAmong};
 ghost use Rattle.ocfl_tree.specs.Store.{Store};
 ghost use Rattle.ocfl_tree.specs.StorageRoot.{StorageRoot};
 ghost use Rattle.ocfl_audit.specs.Between.{IsBeyond, IsWithin};
+ghost use Rattle.ocfl_audit.specs.Trail.{reads_inventory};
+ghost use Rattle.ocfl_audit.specs.Zone.{inside, zone};
 ghost use Rattle.ocfl_item.specs.declared.fault.Fault.{Fault};
-ghost use Rattle.ocfl_walk.specs.WalkCalls.{Walks, WalkFails};
+ghost use Rattle.ocfl_walk.specs.WalkCalls.{Walks, WalkFails, holder, way_of};
 
 /// What a walk did from one place to another, and from there on, it did all the way.
 #[tactic(auto, using(crate::proofs::WalkCallLaws::walks_on, crate::proofs::WalkCallLaws::walks_fail))]
@@ -17,4 +20,15 @@ pub fn walks_add_up()
         (why : Fault)
         → IsBeyond from b → Walks root s t from (Some b) → WalkFails root t u (Some b) why
         → WalkFails root s u from why }
+{}
+
+/// On the way down to a place lie its beginnings, the root first, and the place. At most one
+/// inventory is read there: that of the object that holds the place, if its head reaches it.
+pub fn the_way_down_is_exact()
+    ensures above { (root : StorageRoot) (p o : Place) → IsAmong (holder root (Some p)) o
+        → (reads_inventory root o ≡ true) × ((q : Place) × (p ≡ o ++ q)) }
+    ensures alone { (root : StorageRoot) (p o q : Place) → zone root p ≡ inside o q
+        → reads_inventory root o ≡ true → holder root (Some p) ≡ o ∷ [] }
+    ensures way { (p : Place) → way_of (Some p) ≡ beginnings p ++ p ∷ [] }
+    ensures none { (root : StorageRoot) → (holder root None ≡ []) × (way_of None ≡ []) }
 {}

@@ -60,6 +60,8 @@ base_and_hierarchies : AllAre (
     reports "extensions_as_link" (storage_root (link "extensions" ∷ [])) "ok\t.\t-\nS04\textensions\t-\n" ∷
     -- nothing in them is looked at
     reports "inside_extensions" (storage_root (folder "extensions" ∷ text_at "extensions/f" "" ∷ link "extensions/l" ∷ folder "extensions/o" ∷ text_at "extensions/o/0=ocfl_object_1.1" "" ∷ [])) "ok\t.\t-\n" ∷
+    -- nor whether they are empty
+    reports "empty_extensions" (storage_root (folder "extensions" ∷ [])) "ok\t.\t-\n" ∷
     -- only those of the base are kept apart
     reports "extensions_below_the_base" (storage_root (folder "y" ∷ folder "y/extensions" ∷ [])) "ok\t.\t-\nE073\ty/extensions\t-\n" ∷
     reports "nested_directories" (storage_root (folder "a" ∷ folder "a/b" ∷ folder "a/b/c" ∷ text_at "a/b/f" "" ∷ link "a/l" ∷ [])) "ok\t.\t-\nE073\ta/b/c\t-\nE072\ta/b/f\t-\nS04\ta/l\t-\n" ∷

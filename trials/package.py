@@ -235,12 +235,12 @@ class Service:
     def night(self, **given):
         """What `ExecStart` runs, with the settings of the unit and of its file."""
         unit = read("/" + UNITS + "ocfl-scrub@.service").replace("\\\n", " ")
-        settings = dict(re.findall(r"([A-Z]+)=(\S+)", re.search("(?m)^Environment=.*", unit)[0]))
+        settings = dict(re.findall(r"([A-Z]+)=(\S*)", re.search("(?m)^Environment=.*", unit)[0]))
         settings.update(re.findall(r"(?m)^([A-Z]+)=(.*)$", read(self.SETTINGS)))
         settings.update(given, UNTIL=time.strftime("%H:%M", time.localtime(time.time() + 21600)))
         words = re.search("(?m)^ExecStart=(.*)$", unit)[1].replace("%i", "archive")
-        words = re.sub(r"\$\{(\w+)\}", lambda it: settings[it[1]], words.replace("%S", "/var/lib"))
-        return self.calls(*words.split())
+        return self.calls(*[re.sub(r"\$\{(\w+)\}", lambda it: settings[it[1]], word)
+                            for word in words.replace("%S", "/var/lib").split()])
 
     def has(self, name):
         return read(os.path.join(self.STATE, name))

@@ -26,7 +26,7 @@ NAME = "ocfl-scrub_%s_amd64" % version()
 DOCUMENTS = "usr/share/doc/ocfl-scrub/"
 SHARE = "usr/share/ocfl-scrub/"
 UNITS = "usr/lib/systemd/system/"
-# What nobody who uses the package has in the environment.
+# What each user has: the toolchain, which BUILD names, may be out of reach.
 CLEAN = {"PATH": "/usr/sbin:/usr/bin:/sbin:/bin", "HOME": "/nowhere"}
 
 
@@ -38,14 +38,20 @@ def skip(name, why):
 # What is made
 
 def building(folder):
-    """Makes the package, and makes it again elsewhere in another way; gives the first."""
+    """Makes the package, and makes it again elsewhere, as another user where root can. Gives the
+    first."""
     clone, other = make_clone(folder + "/clone"), folder + "/another/clone"
     shutil.copytree(clone, other)
     made, again = folder + "/made/", folder + "/again/"
-    status, out, said = ran([clone + "/package", made])
+    os.mkdir(again)
+    status, out, said = ran([clone + "/package", made], **CLEAN)
     is_so("package", (status, said), (0, ""))
     words = ["sh", "-c", 'umask 077 && cd / && "$0" "$1"', other + "/package", again]
-    is_so("the same again", ran(words, TZ="Asia/Tokyo", LC_ALL="C.UTF-8")[:2], (status, out))
+    if os.geteuid() == 0:
+        ran(["chown", "-R", "65534:65534", folder + "/another", again])
+        words = ["setpriv", "--reuid=65534", "--regid=65534", "--clear-groups", *words]
+    is_so("the same again", ran(words, TZ="Asia/Tokyo", LC_ALL="C.UTF-8", **CLEAN),
+          (status, out, ""))
     files = [NAME + ".deb", NAME + ".tar.gz"]
     is_so("what is made", sorted(os.listdir(made)), files)
     digests = ["%s  %s" % (digest(common.read(made + name)), name) for name in files]
@@ -62,6 +68,7 @@ def refusals(clone, folder):
     for words in [["--what"], ["/a", "/b"]]:
         is_so("package refuses %s" % words, ran([clone + "/package", *words])[:2], (2, ""))
     shutil.rmtree(folder)
+    ran(["chown", "-R", "%d:%d" % (os.getuid(), os.getgid()), clone])
     write(clone + "/VERSION", "9.9.9\n")
     for name, why in [("a version that is not in CHANGELOG", "no section of 9.9.9"),
                       ("a program of another version", "is not ocfl-scrub 9.9.9")]:
@@ -92,7 +99,7 @@ def holding(folder, made):
     held = members(data.stdout)
     is_so("the tarball holds the same", members(common.read(made + ".tar.gz")), held)
     is_so("owners", {it[1:3] for it in held.values()}, {("root", "root")})
-    ran([folder + "/clone/install", "/usr"], DESTDIR=folder + "/installed")
+    ran([folder + "/clone/install", "/usr"], DESTDIR=folder + "/installed", **CLEAN)
     for path, mode, data in installed(folder + "/installed"):
         got = held.pop(path, ("", "", "", b""))
         got = got[0], gzip.decompress(got[3]) if path.endswith(".gz") else got[3]

@@ -268,6 +268,7 @@ def manual(prefix):
     said = ran(["man", "-M", prefix + "/share/man", "ocfl-scrub"])
     is_so("man finds it", (said[0], "ocfl-scrub - audit" in re.sub(" +", " ", said[1])), (0, True))
     text = read(page)
+    is_so("no long line", [row for row in text.splitlines() if len(row) > 80], [])
     told = set(re.findall(r"^\.B (ok|[ES]\d+)$", text, re.MULTILINE))
     is_so("each code is in the page", sorted(codes_of_rules() - told), [])
     is_so("each code of the page is a rule's", sorted(told - codes_of_rules()), [])

@@ -194,12 +194,15 @@ def statements_after_a_kill(folder):
     is_so("the cycle is not closed", os.path.exists(nights.path("reports")), False)
     is_so("rotate", ran(rotate), (0, "", ""))
     is_stated("closes and states it", nights, "cycle-000001")
+    killing = folder + "/killing"
+    write(killing, '#!/bin/sh\n[ "$1" != --version ] || kill -KILL 0\nexec %s "$@"\n' % PROGRAM,
+          0o755)
     for number, act in [(2, lambda: ran(rotate)), (3, lambda: nights.night("1"))]:
-        nights.night("1K")
-        for name in ["statement-%06d" % number, "statement-%06d.json" % number]:
-            if os.path.exists(nights.path("reports/" + name)):
-                os.remove(nights.path("reports/" + name))
-        is_so("once more %d" % number, act(), (0, "", ""))
+        night = subprocess.Popen(nights.words("1K"), start_new_session=True,
+                                 env={**os.environ, "OCFL_SCRUB": killing})
+        is_so("killed %d" % number, (night.wait(timeout=60), nights.whole(number), nights.has(
+            "reports/statement-%06d" % number)), (-9, "".join(ITEMS), None))
+        is_so("once more %d" % number, act()[0:2], (0, ""))
         is_stated("it is made up for %d" % number, nights, "cycle-%06d" % number)
     nights.night("1K")
     os.rename(nights.path("reports"), folder + "/away")

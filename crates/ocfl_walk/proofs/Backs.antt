@@ -1,6 +1,6 @@
 -- Lists that are kept from the last to the first.
 use Rattle.std.proofs.Common.{◌≡◌, ◌≢◌, ℕ, zero, suc, ◌-◌, ◌+◌, Bool, true, false, List, [], ◌∷◌, ◌++◌, Option, Some, None, length, refl, ap, ◌∙◌, sym, subst, arith, vec_len}
-use Rattle.std.specs.Prelude.{slice_get, option_map, MatchOption, ◌==◌}
+use Rattle.std.specs.Prelude.{cond, filter, slice_get, option_map, MatchOption, ◌==◌}
 use Rattle.std.specs.Option.{option_to_list}
 use Rattle.std.proofs.lemmas.Bool.{eqb-true, eqb-false}
 use Rattle.ocfl_tree.specs.declared.store.Entry.{Entry}
@@ -17,6 +17,19 @@ module _ {A B : Type 0} (f : A → B) where
 
   pub back_same : (xs ys : List A) (x : A) → ys ≡ xs ++ x ∷ [] → back f ys ≡ f x ∷ back f xs
   back_same xs ys x e = ap (back f) e ∙ back_push xs x
+
+module _ {A : Type 0} (test : A → Bool) where
+  filter_onto : (xs ys : List A) → back_onto (λ x. x) (filter test xs) (filter test ys) ≡ filter test (back_onto (λ x. x) xs ys)
+  filter_onto [] ys = refl
+  filter_onto (x ∷ xs) ys = by (test x) refl (filter_onto xs (x ∷ ys))
+    where
+      by : (b : Bool) → test x ≡ b → back_onto (λ x. x) (filter test xs) (filter test (x ∷ ys)) ≡ filter test (back_onto (λ x. x) xs (x ∷ ys)) → back_onto (λ x. x) (cond b (x ∷ filter test xs) (filter test xs)) (filter test ys) ≡ filter test (back_onto (λ x. x) xs (x ∷ ys))
+      by true e h = ap (λ b. back_onto (λ x. x) (filter test xs) (cond b (x ∷ filter test ys) (filter test ys))) (sym e) ∙ h
+      by false e h = ap (λ b. back_onto (λ x. x) (filter test xs) (cond b (x ∷ filter test ys) (filter test ys))) (sym e) ∙ h
+
+  -- what passes a test, from the last to the first
+  pub back_filter : (xs : List A) → back (λ x. x) (filter test xs) ≡ filter test (back (λ x. x) xs)
+  back_filter xs = filter_onto xs []
 
 pub piles_push : (fs gs : List Folder) (f : Folder) → gs ≡ fs ++ f ∷ [] → piles_of gs ≡ pile_of f ∷ piles_of fs
 piles_push fs gs f e = back_same pile_of fs gs f e

@@ -12,7 +12,7 @@ use Rattle.ocfl_audit.specs.Due.{due, items_at}
 use Rattle.ocfl_audit.specs.Head.{on}
 use Rattle.ocfl_audit.specs.Lines.{notes, is_empty}
 use Rattle.ocfl_audit.specs.Walk.{item_at}
-use Rattle.ocfl_audit.specs.Stack.{Frame, IsStack, seen_places}
+use Rattle.ocfl_audit.specs.Stack.{Frame, IsListed, IsStack, NoPathBetween, NoneSeenBetween, seen_places}
 use Rattle.ocfl_audit.specs.Zone.{seen}
 use Rattle.ocfl_walk.specs.Standing.{Pile, IsFitIf, IsStanding, IsTurn, TurnIs, frames_of, next_of, path_from, place_by, trimmed, turn_of}
 use Rattle.ocfl_item.specs.declared.meeting.Around.{Around}
@@ -53,17 +53,21 @@ module _ (root : StorageRoot) where
       due_places root (Some last) ∙ ap (map (λ i. i.place)) h ∙ places_append (item_at root [] x) (after (audit root []) (Some x))
       ∙ ap (λ ps. map (λ i. i.place) (item_at root [] x) ++ ps) (sym (due_places root (Some x)))
 
-  turn_from : (last : Place) (k : Place × List Frame) → IsNext root (is_closed root) last k → IsTurn root last k.0 k.1
-  turn_from last k n =
-      let steps = due_steps last k.0 (walk_takes root (is_closed root) [] last k.0 n.above_last n.none_seen n.none_named) in
+  -- a place with nothing before it, and what the stack leads to behind it
+  pub turn_by : (last x : Place) (fs : List Frame) → place_cmp last x ≡ Less → NoneSeenBetween root last x → NoPathBetween root last x → IsStack root x fs → IsListed root fs → IsTurn root last x fs
+  turn_by last x fs over sight path stack listed =
+      let steps = due_steps last x (walk_takes root (is_closed root) [] last x over sight path) in
       record {
-        above = n.above_last;
-        none_seen = n.none_seen;
-        stack = n.stack;
-        listed = n.listed;
-        some = λ s. steps ∙ ap (λ ps. ps ++ due root (Some k.0)) (item_some root k.0 _ refl s);
-        none = λ s. steps ∙ ap (λ ps. ps ++ due root (Some k.0)) (item_none root k.0 s);
+        above = over;
+        none_seen = sight;
+        stack = stack;
+        listed = listed;
+        some = λ s. steps ∙ ap (λ ps. ps ++ due root (Some x)) (item_some root x _ refl s);
+        none = λ s. steps ∙ ap (λ ps. ps ++ due root (Some x)) (item_none root x s);
       }
+
+  turn_from : (last : Place) (k : Place × List Frame) → IsNext root (is_closed root) last k → IsTurn root last k.0 k.1
+  turn_from last k n = turn_by last k.0 k.1 n.above_last n.none_seen n.none_named n.stack n.listed
 
   pub near_turn : (last x : Place) (fs : List Frame) → IsTurn root last x fs → IsNear root (Some last) x
   near_turn last x fs t = record { beyond = t.above; looked = looked_step root last x t.above t.none_seen; read = read_step root last x t.above t.none_seen }

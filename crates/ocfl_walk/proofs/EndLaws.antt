@@ -39,7 +39,7 @@ between_begins (m ∷ u) r (c ∷ x) h k = by (text_cmp m c) refl (text_cmp c m)
     by Equal e Greater f g i j = absurd cc
     by Greater e v f g i j = absurd cc
 
-not_false : (b : Bool) → not b ≡ true → b ≡ false
+pub not_false : (b : Bool) → not b ≡ true → b ≡ false
 not_false true h = absurd (true_not_false (sym h))
 not_false false h = refl
 
@@ -81,7 +81,7 @@ past_up e x y h l = by (is_above_branch e.under x) refl (is_at_bound e.below x) 
     by false f false g k = absurd (true_not_false (sym k))
 
 -- what is not above a place that is not past the end is not past it either
-not_past_down : (e : End) (b y : Place) → is_past e b ≡ false → is_lt (place_cmp b y) ≡ false → is_past e y ≡ false
+pub not_past_down : (e : End) (b y : Place) → is_past e b ≡ false → is_lt (place_cmp b y) ≡ false → is_past e y ≡ false
 not_past_down e b y n u = by (is_past e y) refl
   where
     here : is_past e y ≡ true → (r : Ordering) → place_cmp b y ≡ r → ⊥
@@ -105,7 +105,7 @@ module _ (e : End) where
   all_left (x ∷ xs) h = ap (λ b. cond (not b) (x ∷ before_end e xs) (before_end e xs)) (h x (inl refl)) ∙ ap (λ ys. x ∷ ys) (all_left xs (λ y i. h y (inr i)))
 
   module _ (ps : List Place) where
-    over : (from : Option Place) → ((y : Place) → IsAmong ps y → IsBeyond from y → is_past e y ≡ true) → before_end e (between ps from None) ≡ []
+    pub over : (from : Option Place) → ((y : Place) → IsAmong ps y → IsBeyond from y → is_past e y ≡ true) → before_end e (between ps from None) ≡ []
     over from h = none_left (between ps from None) (λ y i. let k = from_between ps from None y i in h y k.0 k.1)
 
     pub split : (from : Option Place) (b : Place) → IsAscending place_cmp ps → IsBeyond from b → is_past e b ≡ false → between ps from (Some b) ++ before_end e (between ps (Some b) None) ≡ before_end e (between ps from None)

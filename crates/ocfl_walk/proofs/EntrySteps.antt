@@ -16,7 +16,7 @@ use Rattle.ocfl_audit.specs.Lines.{notes}
 use Rattle.ocfl_audit.specs.Walk.{is_reached, seen_names}
 use Rattle.ocfl_audit.specs.Stack.{IsListed}
 use Rattle.ocfl_audit.specs.Zone.{Zone, skipped, hierarchy, inside, zone, table_at, is_entered, is_listed_zone, is_listed_in_object, max_listed_depth}
-use Rattle.ocfl_walk.specs.Standing.{HaveEntries, IsAroundIf, IsOrderly, IsStanding, IsTaken, Pile, StandsAt, frames_of, next_of, still}
+use Rattle.ocfl_walk.specs.Standing.{HaveEntries, IsAroundIf, IsHeld, IsOrderly, IsTaken, Pile, StandsAt, frames_of, next_of, still}
 use Rattle.ocfl_item.specs.Around.{IsMet, IsPart, IsTableAround}
 use Rattle.ocfl_item.specs.Meeting.{IsItemAt, Meets}
 use Rattle.ocfl_walk.specs.Walking.{Steps, step_from}
@@ -34,7 +34,7 @@ pub taken_place : (ps new : List Pile) (entry : Entry) (x : Place) (t : IsTaken 
 taken_place ps new entry x t h = let e : Some (t.place ++ entry.name ∷ []) ≡ Some x = sym (ap next_of t.old_is) ∙ h in cc
 
 -- what begins a place begins its directory, or is it
-begins_last : (o d : Place) (n : Text) → begins o (d ++ n ∷ []) ≡ true → (begins o d ≡ true) ⊎ (o ≡ d ++ n ∷ [])
+pub begins_last : (o d : Place) (n : Text) → begins o (d ++ n ∷ []) ≡ true → (begins o d ≡ true) ⊎ (o ≡ d ++ n ∷ [])
 begins_last [] d n h = inl refl
 begins_last (m ∷ []) [] n h = by (text_eq m n) refl h
   where
@@ -119,7 +119,7 @@ module _ (root : StorageRoot) where
       by hierarchy e g = subst (IsPart root d) (sym (outside a h e)) e
       by (inside o q) e g = within o q (table_at root o) e refl g a h
 
-  pub entry_met : (last : Place) (ps new : List Pile) (entry : Entry) (x : Place) (a : Option Around) → IsOrderly last ps a → IsStanding root last ps a → (t : IsTaken ps new entry) → x ≡ t.place ++ entry.name ∷ [] → IsMet root t.place (still a x) entry x
+  pub entry_met : (last : Place) (ps new : List Pile) (entry : Entry) (x : Place) (a : Option Around) → IsOrderly last ps a → IsHeld root last ps a → (t : IsTaken ps new entry) → x ≡ t.place ++ entry.name ∷ [] → IsMet root t.place (still a x) entry x
   entry_met last ps new entry x a o h t e =
       let listed : IsListed root (frames_of ((t.place, entry ∷ t.rest) ∷ t.others)) = subst (λ qs. IsListed root (frames_of qs)) t.old_is h.listed in
       let entries : HaveEntries root ((t.place, entry ∷ t.rest) ∷ t.others) = subst (HaveEntries root) t.old_is h.entries in

@@ -1,5 +1,5 @@
 -- Whose inventory is read on the way down to a place, and which directories lie on it.
-use Rattle.std.proofs.Common.{◌≡◌, Bool, true, false, cond, List, [], ◌∷◌, ◌++◌, Option, None, Some, inl, inr, filter, refl, ap, sym, ◌∙◌}
+use Rattle.std.proofs.Common.{◌≡◌, Bool, true, false, cond, [], ◌∷◌, ◌++◌, None, Some, inl, inr, filter, refl, ap, sym, ◌∙◌}
 use Rattle.ocfl_tree.specs.Place.{Place, beginnings}
 use Rattle.ocfl_tree.specs.Ascending.{IsAmong}
 use Rattle.ocfl_tree.specs.StorageRoot.{StorageRoot}

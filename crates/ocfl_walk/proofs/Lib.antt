@@ -1,4 +1,5 @@
 pub mod EndLaws
+pub mod BeforeLaws
 pub mod TurnLaws
 pub mod DueTurns
 pub mod StandLaws
@@ -26,3 +27,5 @@ pub mod FindLaws
 pub mod FoundLaws
 pub mod StandSteps
 pub mod HolderLaws
+pub mod CutLaws
+pub mod FirstSteps

@@ -74,7 +74,7 @@ above_all : (b x : Place) (ys : List Place) → place_cmp b x ≡ Less → IsBef
 above_all b x [] l h = tt
 above_all b x (y ∷ ys) l h = (place_cmp_total.trans b x y l h.0, above_all b x ys l h.1)
 
-fewer_or_same : (f g : Place → Bool) (ps : List Place) → ((q : Place) → g q ≡ true → f q ≡ true) → length (filter g ps) ≤ length (filter f ps)
+pub fewer_or_same : (f g : Place → Bool) (ps : List Place) → ((q : Place) → g q ≡ true → f q ≡ true) → length (filter g ps) ≤ length (filter f ps)
 fewer_or_same f g [] h = omega arith
 fewer_or_same f g (p ∷ ps) h = by (f p) (g p) refl refl (fewer_or_same f g ps h)
   where
@@ -107,6 +107,32 @@ head_some (p ∷ ps) qs d e = by p.0 p.1 e (head_some ps qs d)
     by : (c : Place) (es : List Entry) → trimmed_from c es (trimmed ps) ps ≡ (d, []) ∷ qs → (trimmed ps ≡ (d, []) ∷ qs → ⊥) → ⊥
     by c [] g k = k g
     by c (x ∷ es) g k = let same : ◌≡◌ {A = Place × List Entry} (c, x ∷ es) (d, []) = cc in omega (arith, ap (λ p. length p.1) same)
+
+-- on to a place above the last one and not above the next entry, in the object if there is one
+module _ (last b : Place) (ps : List Pile) (a : Option Around) (h : IsOrderly last ps a) (over : place_cmp last b ≡ Less) where
+  pub size_on : size_of (Some b) ps a ≤ size_of (Some last) ps a
+  unfolding size_of
+  size_on = let f = paths a in omega (arith, f)
+    where
+      paths : (a : Option Around) → paths_above b a ≤ paths_above last a
+      paths None = omega arith
+      paths (Some o) = fewer_or_same (λ q. is_lt (place_cmp last (o.place ++ q))) (λ q. is_lt (place_cmp b (o.place ++ q))) (paths_of o.table) (λ q u. ap is_lt (place_cmp_total.trans last b (o.place ++ q) over (less_from _ u)))
+
+  pub orderly_on : IsAroundIf b a → trimmed ps ≡ ps → IsBelowNext b (next_of ps) → IsOrderly b ps a
+  orderly_on object t n = record { chain = chain ps t n h.chain; few = h.few; object = object }
+    where
+      chain : (ps : List Pile) → trimmed ps ≡ ps → IsBelowNext b (next_of ps) → IsChain last 128 (frames_of ps) → IsChain b 128 (frames_of ps)
+      chain [] t n c = tt
+      chain (q ∷ ps) t n c = by q.0 q.1 t n c
+        where
+          by : (d : Place) (es : List Entry) → trimmed ((d, es) ∷ ps) ≡ (d, es) ∷ ps → IsBelowNext b (next_of ((d, es) ∷ ps)) → IsChain last 128 ((d, map (λ e. e.name) es) ∷ frames_of ps) → IsChain b 128 ((d, map (λ e. e.name) es) ∷ frames_of ps)
+          by d [] t n c = absurd (head_some ((d, []) ∷ ps) ps d t)
+          by d (e ∷ es) t n c =
+              let r = begins_rest d last c.0 in
+              (begins_between d r.0 b e.name (subst (λ x. place_cmp x b ≡ Less) r.1 over) n, c.1, (n, above_all b (d ++ e.name ∷ []) (map (λ m. d ++ m ∷ []) (map (λ x. x.name) es)) n (names d e.name (map (λ x. x.name) es) c.3.0)), c.3, c.4)
+            where
+              names : (d : Place) (n : Text) (ns : List Text) → IsBeforeAll text_cmp n ns → IsBeforeAll place_cmp (d ++ n ∷ []) (map (λ m. d ++ m ∷ []) ns)
+              names d n ns g = before_names d n ns g
 
 module _ (last b : Place) (ps : List Pile) (a : Option Around) (h : IsOrderly last ps a) (p : path_from last a ≡ Some b) where
   pub path_above : place_cmp last b ≡ Less
@@ -157,21 +183,8 @@ module _ (last b : Place) (ps : List Pile) (a : Option Around) (h : IsOrderly la
   size_path = let f = path_fewer in omega (arith, f)
 
   pub orderly_path : trimmed ps ≡ ps → IsBelowNext b (next_of ps) → IsOrderly b ps a
-  orderly_path t n = record { chain = chain ps t n h.chain; few = h.few; object = around a h.object p }
+  orderly_path t n = orderly_on last b ps a h path_above (around a h.object p) t n
     where
       around : (a : Option Around) → IsAroundIf last a → path_from last a ≡ Some b → IsAroundIf b a
       around None k e = tt
       around (Some o) k e = let w = onward last b o k.holds e in record { holds = subst (λ x. begins o.place x ≡ true) (sym w.is) (begins_front o.place w.path); depth = k.depth; fit = k.fit }
-
-      chain : (ps : List Pile) → trimmed ps ≡ ps → IsBelowNext b (next_of ps) → IsChain last 128 (frames_of ps) → IsChain b 128 (frames_of ps)
-      chain [] t n c = tt
-      chain (q ∷ ps) t n c = by q.0 q.1 t n c
-        where
-          by : (d : Place) (es : List Entry) → trimmed ((d, es) ∷ ps) ≡ (d, es) ∷ ps → IsBelowNext b (next_of ((d, es) ∷ ps)) → IsChain last 128 ((d, map (λ e. e.name) es) ∷ frames_of ps) → IsChain b 128 ((d, map (λ e. e.name) es) ∷ frames_of ps)
-          by d [] t n c = absurd (head_some ((d, []) ∷ ps) ps d t)
-          by d (e ∷ es) t n c =
-              let r = begins_rest d last c.0 in
-              (begins_between d r.0 b e.name (subst (λ x. place_cmp x b ≡ Less) r.1 path_above) n, c.1, (n, above_all b (d ++ e.name ∷ []) (map (λ m. d ++ m ∷ []) (map (λ x. x.name) es)) n (names d e.name (map (λ x. x.name) es) c.3.0)), c.3, c.4)
-            where
-              names : (d : Place) (n : Text) (ns : List Text) → IsBeforeAll text_cmp n ns → IsBeforeAll place_cmp (d ++ n ∷ []) (map (λ m. d ++ m ∷ []) ns)
-              names d n ns g = before_names d n ns g

@@ -1,15 +1,16 @@
 -- Listings with their places: the one at an index is that of so many names of a place.
 use Rattle.std.specs.declared.alloc.Global.{Global}
 use Rattle.std.proofs.Common.{◌≡◌, ℕ, zero, suc, ◌+◌, ◌-◌, ◌<◌, ◌≤◌, List, [], ◌∷◌, ◌++◌, refl, sym, ◌∙◌, ap, subst, true, false, Bool, Option, Some, None, length, take, arith, vec_len}
+use Rattle.std.proofs.lemmas.Bool.{leb-true, leb-false, le-leb}
 use Rattle.std.proofs.lemmas.List.{length-append, length-take-le, take-append-le}
 use Rattle.std.proofs.Math.Seq.{take-append_seam, take-length}
-use Rattle.std.specs.Prelude.{Vec, ◌==◌, IfSome, MatchOption, option_map, slice_get}
+use Rattle.std.specs.Prelude.{Vec, ◌==◌, IfSome, MatchOption, cond, nat_le, option_map, slice_get}
 use Rattle.std.specs.Option.{option_to_list}
 use Rattle.ocfl_tree.specs.Place.{Place, Text, begins}
 use Rattle.ocfl_tree.specs.declared.store.Entry.{Entry}
 use Rattle.ocfl_audit.specs.Stack.{Frame}
 use Rattle.ocfl_audit.proofs.BelowLaws.{begins_front, begins_rest}
-use Rattle.ocfl_walk.specs.Standing.{IsChain, back, IsFairPile, IsOrderly, IsOrderlyIf, IsTaken, Pile, folders_from, frames_of, next_of, pile_of, piles_at, piles_of, pushed, spot_of, trimmed}
+use Rattle.ocfl_walk.specs.Standing.{IsChain, back, cut_top, from_name, IsFairPile, IsOrderly, IsOrderlyIf, IsTaken, Pile, folders_from, frames_of, next_of, pile_of, piles_at, piles_of, pushed, spot_of, trimmed}
 use Rattle.ocfl_item.specs.declared.meeting.Around.{Around}
 use Rattle.ocfl_item.specs.declared.folder.Folder.{Folder}
 use Rattle.ocfl_walk.proofs.Backs.{next_of_last, piles_push, taken_at, trim_drops_by, trim_keeps_by}
@@ -102,6 +103,30 @@ trim_keeps_at p vs old new v b h k e n =
 pub trim_drops_at : (p : Place) (vs old : List (Vec Entry Global)) (v : Vec Entry Global) (b : Bool) → old ≡ vs ++ v ∷ [] → b ≡ (vec_len v == 0) → b ≡ true → trimmed (piles_at p vs) ≡ trimmed (piles_at p old)
 trim_drops_at p vs old v b h e n = trim_drops_by (folders_from 0 p vs) (folders_from 0 p old) (record { place = take (length vs) p; entries = v }) b (folders_push p vs old v h) e n
 
+-- ---- what lies before a name in the deepest listing
+
+pub begins_later : (p : Place) (vs : List (Vec Entry Global)) (k : ℕ) (n : Text) → length vs ≤ k → piles_at p vs ≡ cut_top k n (piles_at p vs)
+begins_later p vs k n l = by (piles_at p vs) (piles_count p vs)
+  where
+    by : (ps : List Pile) → length ps ≡ length vs → ps ≡ cut_top k n ps
+    by [] e = refl
+    by (x ∷ ps) e = go (nat_le k (length ps)) refl
+      where
+        go : (b : Bool) → nat_le k (length ps) ≡ b → x ∷ ps ≡ cond b ((x.0, from_name n x.1) ∷ ps) (x ∷ ps)
+        go true f = absurd (let m = leb-true k (length ps) f in omega (arith, e, l, m))
+        go false f = refl
+
+pub begins_here : (p : Place) (vs old new : List (Vec Entry Global)) (v w : Vec Entry Global) (k : ℕ) (n : Text) → old ≡ vs ++ v ∷ [] → new ≡ vs ++ w ∷ [] → k < length old → back (λ x. x) w.items ≡ from_name n (back (λ x. x) v.items)
+    → piles_at p new ≡ cut_top k n (piles_at p old)
+begins_here p vs old new v w k n h e l same =
+    piles_push (folders_from 0 p vs) (folders_from 0 p new) (record { place = take (length vs) p; entries = w }) (folders_push p vs new w e)
+    ∙ ap (λ es. (take (length vs) p, es) ∷ piles_at p vs) same
+    ∙ ap (λ b. cond b ((take (length vs) p, from_name n (back (λ x. x) v.items)) ∷ piles_at p vs) ((take (length vs) p, back (λ x. x) v.items) ∷ piles_at p vs)) (sym deep)
+    ∙ sym (ap (cut_top k n) (piles_push (folders_from 0 p vs) (folders_from 0 p old) (record { place = take (length vs) p; entries = v }) (folders_push p vs old v h)))
+  where
+    deep : nat_le k (length (piles_at p vs)) ≡ true
+    deep = let c = piles_count p vs in let m : length old ≡ length vs + 1 = ap length h ∙ length-append vs (v ∷ []) in le-leb k (length (piles_at p vs)) (omega (arith, l, c, m))
+
 -- ---- on to another place
 
 snoc : (n : ℕ) (vs : List (Vec Entry Global)) → length vs ≡ suc n → (us : List (Vec Entry Global)) × (v : Vec Entry Global) × (vs ≡ us ++ v ∷ []) × (length us ≡ n)
@@ -123,6 +148,24 @@ top_place p vs n q ps count is =
 
 some_count : (p : Place) (vs : List (Vec Entry Global)) (q : Pile) (ps : List Pile) → piles_at p vs ≡ q ∷ ps → length vs ≡ suc (length ps)
 some_count p vs q ps is = let n = piles_count p vs in let m : length (piles_at p vs) ≡ length (q ∷ ps) = ap length is in omega (arith, n, m)
+
+-- the deepest listing is that of the last place, or of a directory above it
+pub top_here : (d : Place) (vs : List (Vec Entry Global)) (x : Pile) (rest : List Pile) → IsChain d 128 (frames_of (piles_at d vs)) → piles_at d vs ≡ x ∷ rest → (nat_le (length d) (length rest) ≡ true → x.0 ≡ d) × (nat_le (length d) (length rest) ≡ false → length x.0 < length d)
+top_here d vs x rest c is = (whole, (λ e. let m = leb-false (length d) (length rest) e in let l = ap length top ∙ length-take-le (length rest) d (omega (arith, m)) in omega (arith, l, m)))
+  where
+    many : length vs ≡ suc (length rest)
+    many = some_count d vs x rest is
+
+    top : x.0 ≡ take (length rest) d
+    top = top_place d vs (length rest) x rest many is
+
+    whole : nat_le (length d) (length rest) ≡ true → x.0 ≡ d
+    whole e =
+        let l = leb-true (length d) (length rest) e in
+        let m = chain_deep d 128 vs c in
+        let n = many in
+        let same : length rest ≡ length d = omega (arith, l, m, n) in
+        top ∙ ap (λ k. take k d) same ∙ take-length d
 
 -- at an entry of the deepest listing
 module _ (p x : Place) (old new : List (Vec Entry Global)) (entry : Entry) (a : Option Around) (h : IsOrderly p (piles_at p old) a) (t : IsTaken (piles_at p old) (piles_at p new) entry) (count : length new ≡ length old) (e : x ≡ t.place ++ entry.name ∷ []) where

@@ -2,14 +2,11 @@
 use Rattle.std.proofs.Common.{◌≡◌, inl, inr, ◌<◌, List, [], ◌∷◌, ◌++◌, refl, sym, ◌∙◌, ap, subst, false, Option, Some, None, arith}
 use Rattle.std.proofs.lemmas.List.{append-nil}
 use Rattle.std.specs.Prelude.{IfOk, Result, Ok, Err, option_map}
-use Rattle.std.specs.Ordering.{is_lt}
-use Rattle.std.specs.declared.cmp.Ordering.{Ordering}
-use Rattle.std.specs.declared.cmp.Ordering.TheVariants.{Less, Equal, Greater}
-use Rattle.ocfl_tree.specs.Place.{Place, Text, place_cmp}
+use Rattle.ocfl_tree.specs.Place.{Place, Text}
 use Rattle.ocfl_tree.specs.StorageRoot.{StorageRoot}
 use Rattle.ocfl_tree.specs.Store.{Store}
 use Rattle.ocfl_tree.specs.declared.store.Entry.{Entry}
-use Rattle.ocfl_tree.proofs.Orders.{place_cmp_total, not_both_below}
+use Rattle.ocfl_tree.proofs.Orders.{place_cmp_total}
 use Rattle.ocfl_audit.specs.Zone.{inside, zone}
 use Rattle.ocfl_audit.specs.Walk.{seen_names}
 use Rattle.ocfl_audit.specs.Stack.{Frame, IsStack, IsListed}
@@ -29,21 +26,13 @@ use Rattle.ocfl_walk.specs.declared.stand.Step.TheVariants as step
 use Rattle.ocfl_item.proofs.LooksZones.{inside_on}
 use Rattle.ocfl_audit.specs.Between.{IsBeyond}
 use Rattle.ocfl_walk.specs.WalkCalls.{FailsOut, Walks, WalksOut}
+use Rattle.ocfl_walk.proofs.BeforeLaws.{not_below}
 use Rattle.ocfl_walk.proofs.WalkCallLaws.{fails_out, walks_fail_out, walks_on, walks_out, walks_over}
 use Rattle.ocfl_audit.proofs.WayLaws.{is_closed, zone_part}
 
 -- ---- places, one after the other
 
--- what is past a place is not before it
-not_below : (b c : Place) → place_cmp b c ≡ Less → is_lt (place_cmp c b) ≡ false
-not_below b c l = by (place_cmp c b) refl
-  where
-    by : (r : Ordering) → place_cmp c b ≡ r → is_lt r ≡ false
-    by Less e = absurd (not_both_below place_cmp_total b c l e)
-    by Equal e = refl
-    by Greater e = refl
-
-after_on : (last : Option Place) (x y : Place) → IsBeyond last x → IsBeyond (Some x) y → IsBeyond last y
+pub after_on : (last : Option Place) (x y : Place) → IsBeyond last x → IsBeyond (Some x) y → IsBeyond last y
 after_on None x y h k = tt
 after_on (Some a) x y h k = place_cmp_total.trans a x y h k
 
@@ -51,7 +40,7 @@ after_on (Some a) x y h k = place_cmp_total.trans a x y h k
 
 module _ (root : StorageRoot) where
   -- at an entry, its listing on top where it is entered
-  pub entry_stands : (last x : Place) (ps new : List Pile) (entry : Entry) (f : Option Folder) (a a' : Option Around) → IsStanding root last ps a → IsTurn root last x ((x, seen_names root x) ∷ popped ps)
+  pub entry_stands : (last x : Place) (ps new : List Pile) (entry : Entry) (f : Option Folder) (a a' : Option Around) → HaveEntries root ps → IsTurn root last x ((x, seen_names root x) ∷ popped ps)
       → IsTaken ps new entry → IsPileAt root x f → IsTableAround root x a' → IsStanding root x (pushed f new) a'
   entry_stands last x ps new entry f a a' h t k m z = by f m
     where
@@ -65,7 +54,7 @@ module _ (root : StorageRoot) where
       listed = subst (λ fs. IsListed root ((x, seen_names root x) ∷ fs)) left t.listed
 
       entries : HaveEntries root new
-      entries = let old : HaveEntries root ((k.place, entry ∷ k.rest) ∷ k.others) = subst (HaveEntries root) k.old_is h.entries in subst (HaveEntries root) (sym k.new_is) (old.0.1, old.1)
+      entries = let old : HaveEntries root ((k.place, entry ∷ k.rest) ∷ k.others) = subst (HaveEntries root) k.old_is h in subst (HaveEntries root) (sym k.new_is) (old.0.1, old.1)
 
       by : (f : Option Folder) → IsPileAt root x f → IsStanding root x (pushed f new) a'
       by None e = record {

@@ -22,7 +22,7 @@ use Rattle.ocfl_item.specs.declared.meeting.Around.{Around}
 use Rattle.ocfl_item.specs.declared.pending.Pending.{Pending}
 use Rattle.ocfl_item.proofs.ShutLaws.{shut_unseen}
 use Rattle.ocfl_item.proofs.VisitLaws.{meets_shut}
-use Rattle.ocfl_walk.specs.Standing.{IsAroundIf, IsBelowNext, IsFairPile, IsOrderly, IsOrderlyIf, IsOrderlyStand, IsStanding, IsTaken, IsTurn, StandsAt, TurnIs, frames_of, next_of, path_from, piles_at, piles_in, popped, pushed, spot_of, still, trimmed, is_turn_past, turn_before, turn_of}
+use Rattle.ocfl_walk.specs.Standing.{IsAroundIf, IsBelowNext, IsFairPile, IsHeld, IsOrderly, IsOrderlyIf, IsOrderlyStand, IsStanding, IsTaken, IsTurn, Pile, StandsAt, TurnIs, frames_of, next_of, path_from, piles_at, piles_in, popped, pushed, spot_of, still, trimmed, is_turn_past, turn_before, turn_of}
 use Rattle.ocfl_walk.specs.Ends.{before_end, is_past}
 use Rattle.ocfl_walk.specs.Walking.{GoesOn, GoesTo, IsFairMet, IsMeeting, IsPileAt, Steps, StepsOut, step_from}
 use Rattle.ocfl_walk.specs.declared.end.End.{End}
@@ -88,6 +88,10 @@ module _ (old : Stand) (orderly : IsOrderlyStand old) (first : old.last ≡ None
 
 -- ---- to an entry
 
+-- what is held where a walk stands
+pub held : (root : StorageRoot) (p : Place) (ps : List Pile) (a : Option Around) → IsStanding root p ps a → IsHeld root p ps a
+held root p ps a h = record { listed = h.listed; entries = h.entries; table = h.table }
+
 module _ (old : Stand) (entry : Entry) (x : Place) (mid : Listings) (orderly : IsOrderlyStand old) (next : next_of (piles_in old.last old.listings.items) ≡ Some x) (taken : (p : Place) → IsTaken (piles_at p old.listings.items) (piles_at p mid.items) entry) where
   there : (old.last ≡ Some (spot_of old.last)) × IsOrderly (spot_of old.last) (piles_in old.last old.listings.items) old.around
   there = begun old.last (piles_in old.last old.listings.items) old.around x orderly next
@@ -100,7 +104,7 @@ module _ (old : Stand) (entry : Entry) (x : Place) (mid : Listings) (orderly : I
     pub entry_around : IsAroundIf x (still a x)
     entry_around = subst (λ y. IsAroundIf x (still y x)) (sym same) (still_around (spot_of old.last) x old.around there.1.object)
 
-    pub entry_is_met : (root : StorageRoot) (l : Place) → old.last ≡ Some l → IsStanding root l (piles_in old.last old.listings.items) old.around → IsMet root (taken (spot_of old.last)).place (still a x) entry x
+    pub entry_is_met : (root : StorageRoot) (l : Place) → old.last ≡ Some l → IsHeld root l (piles_in old.last old.listings.items) old.around → IsMet root (taken (spot_of old.last)).place (still a x) entry x
     entry_is_met root l e st =
         let o = subst (λ y. IsOrderlyIf y (piles_in old.last old.listings.items) old.around) e orderly in
         subst (λ y. IsMet root (taken (spot_of old.last)).place (still y x) entry x) (sym same) (entry_met root l (piles_in old.last old.listings.items) (piles_in old.last mid.items) entry x old.around o st (taken (spot_of old.last)) own)
@@ -134,10 +138,10 @@ module _ (old : Stand) (entry : Entry) (x : Place) (mid : Listings) (orderly : I
         pub entry_there : GoesTo at_entry x r
         entry_there = subst (GoesTo at_entry x) (sym is) (goes_here at_entry x m.item refl)
 
-        pub entry_told : (root : StorageRoot) (s u : Store) (l : Place) → IsStanding root l (piles_in old.last old.listings.items) old.around → IsTurn root l x ((x, seen_names root x) ∷ popped (piles_in old.last old.listings.items)) → Meets root s u x → IsMeeting root x m
+        pub entry_told : (root : StorageRoot) (s u : Store) (l k : Place) → IsHeld root k (piles_in old.last old.listings.items) old.around → IsTurn root l x ((x, seen_names root x) ∷ popped (piles_in old.last old.listings.items)) → Meets root s u x → IsMeeting root x m
             → Steps root s u (Some l) at_entry r
-        entry_told root s u l st go meets met =
-            let here = entry_stands root l x (piles_in old.last old.listings.items) (piles_in old.last mid.items) entry m.folder old.around m.around st go (taken (spot_of old.last)) met.folder met.table in
+        entry_told root s u l k st go meets met =
+            let here = entry_stands root l x (piles_in old.last old.listings.items) (piles_in old.last mid.items) entry m.folder old.around m.around st.entries go (taken (spot_of old.last)) met.folder met.table in
             subst (Steps root s u (Some l) at_entry) (sym is)
             (step_to root s u l x at_entry m.item meets met.item (near_turn root l x _ go) (refl, subst (λ ps. IsStanding root x ps m.around) (sym entry_piles) here) go.some go.none)
 

@@ -112,7 +112,7 @@ path_same root last (Some a) h fit =
 -- ---- listings of which nothing is left
 
 module _ (root : StorageRoot) where
-  left_trimmed : (xs : List Place) (ps : List Pile) → seen_left xs (frames_of (trimmed ps)) ≡ seen_left xs (frames_of ps)
+  pub left_trimmed : (xs : List Place) (ps : List Pile) → seen_left xs (frames_of (trimmed ps)) ≡ seen_left xs (frames_of ps)
   left_trimmed xs [] = refl
   left_trimmed xs (p ∷ ps) = by p.0 p.1 (left_trimmed xs ps)
     where
@@ -120,7 +120,7 @@ module _ (root : StorageRoot) where
       by d [] h = h
       by d (e ∷ es) h = refl
 
-  listed_trimmed : (ps : List Pile) → IsListed root (frames_of ps) → IsListed root (frames_of (trimmed ps))
+  pub listed_trimmed : (ps : List Pile) → IsListed root (frames_of ps) → IsListed root (frames_of (trimmed ps))
   listed_trimmed [] h = h
   listed_trimmed (p ∷ ps) h = by p.0 p.1 h (listed_trimmed ps h.1)
     where
@@ -128,7 +128,7 @@ module _ (root : StorageRoot) where
       by d [] k l = l
       by d (e ∷ es) k l = k
 
-  entries_trimmed : (ps : List Pile) → HaveEntries root ps → HaveEntries root (trimmed ps)
+  pub entries_trimmed : (ps : List Pile) → HaveEntries root ps → HaveEntries root (trimmed ps)
   entries_trimmed [] h = h
   entries_trimmed (p ∷ ps) h = by p.0 p.1 h.0 h.1 (entries_trimmed ps h.1)
     where

@@ -1,26 +1,67 @@
 -- What is said of a walk, by where it stands.
-use Rattle.std.proofs.Common.{◌≡◌, ℕ, List, [], Option, Some, None, Result, Ok, Err, refl, sym, ◌∙◌}
+use Rattle.std.proofs.Common.{◌≡◌, ◌≢◌, ℕ, List, [], ◌∷◌, ◌++◌, Option, Some, None, Result, Ok, Err, refl, sym, ◌∙◌, ap, subst, length, arith}
 use Rattle.std.proofs.lemmas.List.{append-nil}
-use Rattle.ocfl_tree.specs.Place.{Place}
+use Rattle.std.specs.declared.cmp.Ordering.TheVariants.{Less}
+use Rattle.ocfl_tree.specs.Place.{Place, Text, place_cmp}
 use Rattle.ocfl_tree.specs.Store.{Store}
 use Rattle.ocfl_tree.specs.StorageRoot.{StorageRoot}
+use Rattle.ocfl_walk.specs.Before.{directory_of, place_before}
+use Rattle.ocfl_walk.specs.Ends.{before_end}
 use Rattle.ocfl_walk.specs.Entering.{Descends}
+use Rattle.ocfl_walk.specs.Standing.{StandsAt}
+use Rattle.ocfl_audit.specs.Between.{IsBeyond}
 use Rattle.ocfl_audit.specs.Due.{due}
-use Rattle.ocfl_walk.specs.Walking.{NextGoesOn, NextTold}
-use Rattle.ocfl_walk.specs.Walks.{Gives, GivesOut, GoesOn, OpensInventories, walk_size}
-use Rattle.std.specs.Prelude.{MatchResult}
+use Rattle.ocfl_walk.specs.Walking.{GoesAt, NextGoesOn, NextTold, StepsAt}
+use Rattle.ocfl_walk.specs.Walks.{Gives, GivesOut, GoesOn, HasEndedOut, OpensInventories, Stands, StandsFrom, first_size, walk_size}
+use Rattle.std.specs.Prelude.{IfOk, MatchResult, option_map}
 use Rattle.ocfl_item.specs.declared.fault.Fault.{Fault}
-use Rattle.ocfl_walk.specs.WalkCalls.{FailsOut, WalkFails}
+use Rattle.ocfl_walk.specs.WalkCalls.{FailsOut, WalkFails, WalksOut}
 use Rattle.ocfl_item.specs.declared.pending.Pending.{Pending}
 use Rattle.ocfl_walk.specs.declared.end.End.{End}
+use Rattle.ocfl_walk.specs.declared.stand.Stand.{Stand}
+use Rattle.ocfl_walk.specs.declared.stand.Step.TheVariants as step
 use Rattle.ocfl_walk.specs.declared.walk.Walk.{Walk}
+use Rattle.ocfl_walk.proofs.BeforeLaws.{before_root, directory_is, not_below, root_first, some_before}
 use Rattle.ocfl_walk.proofs.EndLaws.{all_kept}
-use Rattle.ocfl_walk.proofs.WalkCallLaws.{fails_all, walks_all}
+use Rattle.ocfl_walk.proofs.StandLaws.{after_on}
+use Rattle.ocfl_walk.proofs.WalkCallLaws.{fails_all, walks_all, walks_fail_out, walks_on, walks_out}
 
-pub goes_by : (old new : Walk) (o : Option Pending) → NextGoesOn old.stand new.stand o → GoesOn old new o
-unfolding walk_size
-goes_by old new None h = h
-goes_by old new (Some p) h = h
+-- a walk that has begun
+pub has_begun : (root : StorageRoot) (walk : Walk) (last : Option Place) → walk.first ≡ None → Stands root walk last → StandsAt root walk.stand last
+has_begun root walk last e st = subst (λ f. StandsFrom root f walk.stand last) e st
+
+pub stands_now : (root : StorageRoot) (walk : Walk) (last : Option Place) → walk.first ≡ None → StandsAt root walk.stand last → Stands root walk last
+stands_now root walk last e st = subst (λ f. StandsFrom root f walk.stand last) (sym e) st
+
+-- ---- on any store
+
+module _ (old new : Walk) (none : new.first ≡ None) where
+  nothing_first : first_size new.first ≡ 0
+  nothing_first = ap first_size none
+
+  pub goes_by : (o : Option Pending) → NextGoesOn old.stand new.stand o → GoesOn old new o
+  unfolding walk_size
+  goes_by None h = h
+  goes_by (Some p) h = (h.0, h.1, (let z = nothing_first in omega (arith, h.2, z)), h.3)
+
+  pub goes_ok : (r : Result (Option Pending) Fault) → IfOk r (λ o. NextGoesOn old.stand new.stand o) → IfOk r (λ o. GoesOn old new o)
+  goes_ok (Ok o) h = goes_by o h
+  goes_ok (Err why) h = h
+
+  module _ (n : Text) (some : old.first ≡ Some n) where
+    pub goes_first : (p : Pending) → GoesAt old.stand new.stand (step.Item p) → GoesOn old new (Some p)
+    unfolding walk_size
+    goes_first p h = (h.0, h.1, (let z = nothing_first in let o = ap first_size some in omega (arith, h.2, z, o)), h.3)
+
+    pub goes_then : (mid : Stand) (o : Option Pending) → GoesAt old.stand mid step.Nothing → NextGoesOn mid new.stand o → GoesOn old new o
+    unfolding walk_size
+    goes_then mid None g h = h
+    goes_then mid (Some p) g h =
+        (h.0, after_on old.stand.last g.0 p.place g.2 (subst (λ l. IsBeyond l p.place) g.1 h.1), (let z = nothing_first in omega (arith, h.2, g.3, z)), h.3)
+
+    pub goes_then_ok : (mid : Stand) (r : Result (Option Pending) Fault) → GoesAt old.stand mid step.Nothing → IfOk r (λ o. NextGoesOn mid new.stand o) → IfOk r (λ o. GoesOn old new o)
+    goes_then_ok mid (Ok o) g h = goes_then mid o g h
+    goes_then_ok mid (Err why) g h = h
 
 -- on the way down only inventories are opened
 pub opens_down : (root : StorageRoot) (s t : Store) (way more may left : List Place) (failures : ℕ) → Descends root s t way more may left failures → OpensInventories root s t
@@ -29,9 +70,57 @@ opens_down root s t way more may left failures h = record { trail = h.trail; ope
 pub opens_nothing : (root : StorageRoot) (s : Store) → OpensInventories root s s
 opens_nothing root s = record { trail = []; opened = sym (append-nil s.openings); only = refl }
 
-pub gives_by : (root : StorageRoot) (s t : Store) (last : Option Place) (e : End) (new : Walk) (o : Option Pending) → NextTold root s t last e new.stand o → GivesOut root s t last e new o
-gives_by root s t last e new None h = h
-gives_by root s t last e new (Some p) h = (h.0, h.1, h.2.pending, h.2.due_are)
+pub gives_by : (root : StorageRoot) (s t : Store) (last : Option Place) (e : End) (new : Walk) → new.first ≡ None → (o : Option Pending) → NextTold root s t last e new.stand o → GivesOut root s t last e new o
+gives_by root s t last e new none None h = (h.0, h.1, (h.2.0, stands_now root new h.2.0 none h.2.1, h.2.2))
+gives_by root s t last e new none (Some p) h = (h.0, stands_now root new (Some p.place) none h.1, h.2.pending, h.2.due_are)
+
+pub told_by : (root : StorageRoot) (s t : Store) (last : Option Place) (e : End) (new : Walk) → new.first ≡ None → (r : Result (Option Pending) Fault) → MatchResult r (λ o. NextTold root s t last e new.stand o) (λ why. FailsOut root s t last e why) → MatchResult r (λ o. GivesOut root s t last e new o) (λ why. FailsOut root s t last e why)
+told_by root s t last e new none (Ok o) h = gives_by root s t last e new none o h
+told_by root s t last e new none (Err why) h = h
+
+-- ---- of a walk that begins at a place
+
+module _ (root : StorageRoot) (old : Walk) (n : Text) (some : old.first ≡ Some n) (last : Option Place) (st : Stands root old last) where
+  pub parts : (d : Place) × StandsAt root old.stand (Some d) × (last ≡ place_before root (d ++ n ∷ []))
+  parts = subst (λ f. StandsFrom root f old.stand last) some st
+
+  pub before : (q : Place) × (place_before root (parts.0 ++ n ∷ []) ≡ Some q)
+  before = some_before root (parts.0 ++ n ∷ []) (root_first parts.0 n)
+
+  pub behind : (X : Option Place → Type 0) → X (Some before.0) → X last
+  behind X x = subst X (sym (parts.2 ∙ before.1)) x
+
+  module _ (s t : Store) (e : End) where
+    pub begins_fails : (why : Fault) → FailsOut root s t (Some before.0) e why → FailsOut root s t last e why
+    begins_fails why h = behind (λ l. FailsOut root s t l e why) h
+
+    pub begins_item : (new : Walk) (p : Pending) → new.first ≡ None → StepsAt root s t before.0 e old.stand new.stand (step.Item p) → GivesOut root s t last e new (Some p)
+    begins_item new p none h = behind (λ l. GivesOut root s t l e new (Some p)) (h.0, stands_now root new (Some p.place) none h.1, h.4.pending, h.4.due_are)
+
+    pub begins_end : (new : Walk) → new.first ≡ Some n → StepsAt root s t before.0 e old.stand new.stand step.End → GivesOut root s t last e new None
+    begins_end new same h =
+        let here : Stands root new last = subst (λ f. StandsFrom root f new.stand last) (sym same) (parts.0, subst (λ x. StandsAt root x (Some parts.0)) (sym h.2) parts.1, parts.2) in
+        behind (λ l. WalksOut root s t l e × (before_end e (due root l) ≡ []) × HasEndedOut root e new) (h.0, h.1, (last, here, behind (λ l. before_end e (due root l) ≡ []) h.1))
+
+    module _ (u : Store) (mid : Stand) (h : StepsAt root s t before.0 e old.stand mid step.Nothing) where
+      pub begins_then : (new : Walk) → new.first ≡ None → (o : Option Pending) → NextGoesOn mid new.stand o → NextTold root t u (Some h.0) e new.stand o → GivesOut root s u last e new o
+      begins_then new none None g k =
+          behind (λ l. GivesOut root s u l e new None)
+          (walks_out root s t u (Some before.0) h.0 e h.3 h.4 h.1 k.0, ap (before_end e) h.5 ∙ k.1, (k.2.0, stands_now root new k.2.0 none k.2.1, k.2.2))
+      begins_then new none (Some p) g k =
+          let over : place_cmp h.0 p.place ≡ Less = subst (λ l. IsBeyond l p.place) h.2.0 g.1 in
+          behind (λ l. GivesOut root s u l e new (Some p))
+          (walks_on root s t u (Some before.0) h.0 h.3 (Some p.place) (not_below h.0 p.place over) h.1 k.0, stands_now root new (Some p.place) none k.1, k.2.pending, h.5 ∙ k.2.due_are)
+
+      pub begins_then_fails : (why : Fault) → FailsOut root t u (Some h.0) e why → FailsOut root s u last e why
+      begins_then_fails why k = behind (λ l. FailsOut root s u l e why) (walks_fail_out root s t u (Some before.0) h.0 e h.3 h.4 why h.1 k)
+
+      pub begins_then_told :
+          (new : Walk) → new.first ≡ None → (r : Result (Option Pending) Fault) → IfOk r (λ o. NextGoesOn mid new.stand o)
+          → MatchResult r (λ o. NextTold root t u (Some h.0) e new.stand o) (λ why. FailsOut root t u (Some h.0) e why)
+          → MatchResult r (λ o. GivesOut root s u last e new o) (λ why. FailsOut root s u last e why)
+      begins_then_told new none (Ok o) g k = begins_then new none o g k
+      begins_then_told new none (Err why) g k = begins_then_fails why k
 
 -- to the end of the whole
 module _ (root : StorageRoot) (s t : Store) (last : Option Place) (e : End) (under : e.under ≡ []) (below : e.below ≡ None) (new : Walk) where
@@ -42,3 +131,20 @@ module _ (root : StorageRoot) (s t : Store) (last : Option Place) (e : End) (und
   pub all_told : (r : Result (Option Pending) Fault) → MatchResult r (λ o. GivesOut root s t last e new o) (λ why. FailsOut root s t last e why) → MatchResult r (λ o. Gives root s t last new o) (λ why. WalkFails root s t last why)
   all_told (Ok o) h = gives_all o h
   all_told (Err why) h = fails_all root s t last e under below why h
+
+-- ---- where a walk begins
+
+pub no_names_there : (p : Place) → length p ≡ 0 → p ≡ []
+no_names_there [] e = refl
+no_names_there (n ∷ p) e = absurd (omega (arith, e))
+
+pub at_top : (root : StorageRoot) (p : Place) → p ≡ [] → (X : Option Place → Option Place → Type 0) → X None None → X (directory_of p) (place_before root p)
+at_top root p e X x = subst (λ y. X (directory_of y) (place_before root y)) (sym e) (subst (X None) (sym (before_root root)) x)
+
+pub at_name : (root : StorageRoot) (p d : Place) (n : Text) → p ≡ d ++ n ∷ [] → (X : Option Place → Option Place → Type 0) → X (Some d) (place_before root (d ++ n ∷ [])) → X (directory_of p) (place_before root p)
+at_name root p d n e X x = subst (λ y. X (directory_of y) (place_before root y)) (sym e) (subst (λ o. X o (place_before root (d ++ n ∷ []))) (sym (directory_is d n)) x)
+
+pub some_directory : (p : Place) → p ≢ [] → (d : Place) × (directory_of p ≡ Some d)
+some_directory [] some = absurd (some refl)
+some_directory (n ∷ []) some = ([], refl)
+some_directory (n ∷ m ∷ p) some = let d = some_directory (m ∷ p) (λ e. cc) in (n ∷ d.0, ap (option_map (λ x. n ∷ x)) d.1)

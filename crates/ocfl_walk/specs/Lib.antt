@@ -1,4 +1,5 @@
 pub mod Ends
+pub mod Before
 pub mod WalkCalls
 pub mod Standing
 pub mod Orderly

@@ -1,11 +1,11 @@
 -- Where a walk stands: what is left of its listings, and the table of the object that holds its last place.
 use Rattle.std.specs.declared.alloc.Global.{Global}
-use Rattle.std.specs.Prelude.{Vec, suc, take, ◌≡◌, ◌<◌, ◌≤◌, ◌≢◌, ◌+◌, ◌*◌, ◌-◌, ◌^◌, ℕ, List, [], ◌∷◌, ◌++◌, Bool, true, false, Option, Some, None, map, filter, option_map, length, drop, if◌then◌else◌, ⊤}
+use Rattle.std.specs.Prelude.{Vec, suc, take, ◌≡◌, ◌<◌, ◌≤◌, ◌≢◌, ◌+◌, ◌*◌, ◌-◌, ◌^◌, ℕ, nat_le, List, [], ◌∷◌, ◌++◌, Bool, true, false, not, Option, Some, None, map, filter, option_map, length, drop, if◌then◌else◌, ⊤}
 use Rattle.std.specs.Ordering.{is_lt}
 use Rattle.std.specs.List.{AllByRecursion}
 use Rattle.std.specs.declared.cmp.Ordering.TheVariants.{Less}
 use Rattle.ocfl_tree.specs.Place.{Text, Place, text_cmp, place_cmp, begins}
-use Rattle.ocfl_tree.specs.Ascending.{IsAscending, IsBeforeAll}
+use Rattle.ocfl_tree.specs.Ascending.{IsAmong, IsAscending, IsBeforeAll}
 use Rattle.ocfl_tree.specs.StorageRoot.{StorageRoot}
 use Rattle.ocfl_tree.specs.Listing.{kind_at}
 use Rattle.ocfl_tree.specs.declared.store.Entry.{Entry}
@@ -148,6 +148,12 @@ pub record IsStanding (root : StorageRoot) (last : Place) (ps : List Pile) (arou
   pub entries : HaveEntries root ps
   pub table : IsTableAround root last around
 
+-- what is held besides, at a place: each name is one of its directory's listing, each entry what that leads to, and the table is that of the object that holds the place
+pub record IsHeld (root : StorageRoot) (stood : Place) (ps : List Pile) (around : Option Around) : Type 0 where
+  pub listed : IsListed root (frames_of ps)
+  pub entries : HaveEntries root ps
+  pub table : IsTableAround root stood around
+
 -- the walk stands over this tree, with this last place
 abbrev pub StandsAt : StorageRoot → Stand → Option Place → Type 0
 StandsAt root s None = s.last ≡ None
@@ -258,3 +264,19 @@ pub record IsFairPile (e : Place) (f : Folder) : Type 0 where
   pub depth : length e ≤ 127
   pub ascends : IsAscending text_cmp (left_names f)
   pub few : length (left_of_folder f) ≤ 1000000
+
+-- ---- where a walk goes on with one name of a directory
+
+-- those of some entries whose names are not less than one
+abbrev pub from_name : Text → List Entry → List Entry
+from_name n es = filter (λ e. not (is_lt (text_cmp e.name n))) es
+
+-- the listings, of the deepest only those, where it is that of a directory of k names
+abbrev pub cut_top : ℕ → Text → List Pile → List Pile
+cut_top k n [] = []
+cut_top k n (p ∷ ps) = if nat_le k (length ps) then (p.0, from_name n p.1) ∷ ps else p ∷ ps
+
+-- the table of the object that holds a place names it
+abbrev pub IsNamedIn : Place → Option Around → Type 0
+IsNamedIn p None = ⊥
+IsNamedIn p (Some a) = IsAmong (paths_of a.table) (drop (length a.place) p)

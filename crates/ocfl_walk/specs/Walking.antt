@@ -72,6 +72,15 @@ StepsOut root s t last e new step.End = WalksOut root s t last e × (before_end 
 abbrev pub StepsOutTo : StorageRoot → Store → Store → Option Place → End → Stand → Result Step Fault → Type 0
 StepsOutTo root s t last e new r = MatchResult r (λ step. StepsOut root s t last e new step) (λ why. FailsOut root s t last e why)
 
+-- the first step of a walk that begins at a place, behind the place q before it
+abbrev pub StepsAt : StorageRoot → Store → Store → Place → End → Stand → Stand → Step → Type 0
+StepsAt root s t q e old new (step.Item p) = StepsOut root s t (Some q) e new (step.Item p)
+StepsAt root s t q e old new step.Nothing = StepsOut root s t (Some q) e new step.Nothing
+StepsAt root s t q e old new step.End = WalksOut root s t (Some q) e × (before_end e (due root (Some q)) ≡ []) × (new ≡ old)
+
+abbrev pub StepsAtTo : StorageRoot → Store → Store → Place → End → Stand → Stand → Result Step Fault → Type 0
+StepsAtTo root s t q e old new r = MatchResult r (λ step. StepsAt root s t q e old new step) (λ why. FailsOut root s t (Some q) e why)
+
 -- on any store a step to x stands there
 abbrev pub GoesTo : Stand → Place → Step → Type 0
 GoesTo new x (step.Item p) = new.last ≡ Some x
@@ -89,6 +98,12 @@ abbrev pub GoesOn : Stand → Stand → Step → Type 0
 GoesOn old new (step.Item p) = (new.last ≡ Some p.place) × IsBeyond old.last p.place × (stand_size new < stand_size old) × (length p.place ≤ 255)
 GoesOn old new step.Nothing = (x : Place) × (new.last ≡ Some x) × IsBeyond old.last x × (stand_size new < stand_size old)
 GoesOn old new step.End = ⊤
+
+-- the same of the first step of a walk that begins at a place, where less or as much is left
+abbrev pub GoesAt : Stand → Stand → Step → Type 0
+GoesAt old new (step.Item p) = (new.last ≡ Some p.place) × IsBeyond old.last p.place × (stand_size new ≤ stand_size old) × (length p.place ≤ 255)
+GoesAt old new step.Nothing = (x : Place) × (new.last ≡ Some x) × IsBeyond old.last x × (stand_size new ≤ stand_size old)
+GoesAt old new step.End = new ≡ old
 
 -- nothing is left before the end where it stands
 abbrev pub HasEnded : StorageRoot → End → Stand → Type 0

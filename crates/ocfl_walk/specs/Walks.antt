@@ -1,10 +1,11 @@
 -- A walk as those above it see it.
-use Rattle.std.specs.Prelude.{◌≡◌, ◌<◌, ◌≤◌, ℕ, ◌∷◌, ◌++◌, List, [], true, false, Option, Some, None, length, ⊤}
-use Rattle.ocfl_tree.specs.Place.{Place}
+use Rattle.std.specs.Prelude.{◌≡◌, ◌<◌, ◌≤◌, ◌+◌, ℕ, ◌∷◌, ◌++◌, List, [], true, false, Option, Some, None, length, ⊤}
+use Rattle.ocfl_tree.specs.Place.{Place, Text}
 use Rattle.ocfl_tree.specs.StorageRoot.{StorageRoot}
 use Rattle.ocfl_tree.specs.Store.{Store}
 use Rattle.ocfl_tree.specs.declared.store.Opening.{Opening}
 use Rattle.ocfl_audit.specs.Due.{due}
+use Rattle.ocfl_walk.specs.Before.{place_before}
 use Rattle.ocfl_walk.specs.Ends.{before_end}
 use Rattle.ocfl_walk.specs.WalkCalls.{Walks, WalksOut}
 use Rattle.ocfl_item.specs.Ways.{AreInventories}
@@ -13,6 +14,7 @@ use Rattle.ocfl_audit.specs.Between.{IsBeyond}
 use Rattle.ocfl_walk.specs.Standing.{StandsAt, stand_size}
 use Rattle.ocfl_item.specs.declared.pending.Pending.{Pending}
 use Rattle.ocfl_walk.specs.declared.end.End.{End}
+use Rattle.ocfl_walk.specs.declared.stand.Stand.{Stand}
 use Rattle.ocfl_walk.specs.declared.walk.Walk.{Walk}
 
 -- it has not failed
@@ -26,13 +28,22 @@ IsBroken walk = walk.broken ≡ true
 abbrev pub last_of : Walk → Option Place
 last_of walk = walk.stand.last
 
+abbrev pub first_size : Option Text → ℕ
+first_size None = 0
+first_size (Some n) = 1
+
 -- a number that each item lowers, on every store
 unfoldable pub walk_size : Walk → ℕ
-walk_size walk = stand_size walk.stand
+walk_size walk = first_size walk.first + stand_size walk.stand
+
+-- a walk that begins at a name of the directory behind which it stands, stands behind the place before that
+abbrev pub StandsFrom : StorageRoot → Option Text → Stand → Option Place → Type 0
+StandsFrom root None s last = StandsAt root s last
+StandsFrom root (Some n) s last = (d : Place) × StandsAt root s (Some d) × (last ≡ place_before root (d ++ n ∷ []))
 
 -- it stands over this tree, behind this place
 abbrev pub Stands : StorageRoot → Walk → Option Place → Type 0
-Stands root walk last = StandsAt root walk.stand last
+Stands root walk last = StandsFrom root walk.first walk.stand last
 
 -- from s to t no file was opened but inventories
 pub record OpensInventories (root : StorageRoot) (s t : Store) : Type 0 where

@@ -1,13 +1,16 @@
-//! What a walk did adds up, and what lies on the way down to a place.
+//! What a walk did adds up, what lies on the way down to a place, and what a walk that begins at a
+//! place gives.
 ghost use Rattle.std.specs.Prelude.{◌≡◌, ◌++◌, ◌∷◌, [], Option, None, Some, true};
 ghost use Rattle.ocfl_tree.specs.Place.{Place, beginnings};
 ghost use Rattle.ocfl_tree.specs.Ascending.{IsAmong};
 ghost use Rattle.ocfl_tree.specs.Store.{Store};
 ghost use Rattle.ocfl_tree.specs.StorageRoot.{StorageRoot};
-ghost use Rattle.ocfl_audit.specs.Between.{IsBeyond, IsWithin};
+ghost use Rattle.ocfl_audit.specs.Between.{IsBeyond, IsWithin, looked_between, read_between};
+ghost use Rattle.ocfl_audit.specs.Due.{due, item_places};
 ghost use Rattle.ocfl_audit.specs.Trail.{reads_inventory};
 ghost use Rattle.ocfl_audit.specs.Zone.{inside, zone};
 ghost use Rattle.ocfl_item.specs.declared.fault.Fault.{Fault};
+ghost use Rattle.ocfl_walk.specs.Before.{place_before, places_from};
 ghost use Rattle.ocfl_walk.specs.WalkCalls.{Walks, WalkFails, holder, way_of};
 
 /// What a walk did from one place to another, and from there on, it did all the way.
@@ -31,4 +34,17 @@ pub fn the_way_down_is_exact()
         → reads_inventory root o ≡ true → holder root (Some p) ≡ o ∷ [] }
     ensures way { (p : Place) → way_of (Some p) ≡ beginnings p ++ p ∷ [] }
     ensures none { (root : StorageRoot) → (holder root None ≡ []) × (way_of None ≡ []) }
+{}
+
+/// Above the place before a place lies what is not less than that: what is due there, and which
+/// directories are looked into and whose inventories are read from there on.
+#[tactic(auto, using(crate::proofs::BeforeLaws::due_from, crate::proofs::BeforeLaws::looked_from, crate::proofs::BeforeLaws::read_from))]
+pub fn before_a_place_lies_the_rest()
+    ensures due { (root : StorageRoot) (p : Place) → due root (place_before root p)
+        ≡ places_from p (item_places root) }
+    ensures looked { (root : StorageRoot) (p : Place) (to : Option Place)
+        → looked_between root (place_before root p) to
+        ≡ places_from p (looked_between root None to) }
+    ensures read { (root : StorageRoot) (p : Place) (to : Option Place)
+        → read_between root (place_before root p) to ≡ places_from p (read_between root None to) }
 {}

@@ -1,30 +1,35 @@
 //! Where a walk stands, and its steps.
-ghost use Rattle.std.specs.Prelude.{◌≡◌, ◌≢◌, ◌<◌, ◌∷◌, [], false, Option, Some, None, IsTrue};
+ghost use Rattle.std.specs.Prelude.{◌≡◌, ◌≢◌, ◌<◌, ◌∷◌, ◌++◌, [], false, Option, Some, None, IsTrue};
 ghost use Rattle.std.specs.Prelude.{IfOk, IfErr, IfSome, MatchOption, MatchResult, length};
+ghost use Rattle.std.specs.Ordering.{is_lt};
+ghost use Rattle.std.specs.declared.cmp.Ordering.TheVariants.{Less};
 ghost use Rattle.arrayvec.specs.ArrayVec.{array_vec_len};
-ghost use Rattle.ocfl_tree.specs.Place.{Place as Spot};
+ghost use Rattle.ocfl_tree.specs.Place.{Place as Spot, place_cmp};
 ghost use Rattle.ocfl_tree.specs.StorageRoot.{StorageRoot};
 ghost use Rattle.ocfl_tree.specs.Store.{Store};
 ghost use Rattle.ocfl_audit.specs.Walk.{seen_names};
 ghost use Rattle.ocfl_audit.specs.Zone.{seen};
 ghost use Rattle.ocfl_item.specs.Ways.{IsWayFault};
 ghost use Rattle.ocfl_item.specs.Around.{IsMet, IsTableAround};
-ghost use Rattle.ocfl_item.specs.Meeting.{IsFairVisit, IsVisit, MeetFails, Meets};
+ghost use Rattle.ocfl_item.specs.Meeting.{IsFairVisit, IsItemAt, IsVisit, MeetFails, Meets};
 ghost use Rattle.ocfl_walk.specs.Standing.{IsBelowNext, IsStanding, IsTurn, frames_of, popped};
 ghost use Rattle.ocfl_walk.specs.Standing.{pushed, IsAroundIf, IsOrderlyStand, IsTaken, StandsAt};
 ghost use Rattle.ocfl_walk.specs.Standing.{next_of, path_from, piles_at, piles_in, still, trimmed};
-ghost use Rattle.ocfl_walk.specs.Standing.{turn_before, turn_of, around_of};
+ghost use Rattle.ocfl_walk.specs.Standing.{IsHeld, IsNamedIn, around_of, cut_top, turn_before};
+ghost use Rattle.ocfl_walk.specs.Standing.{turn_of};
+ghost use Rattle.ocfl_walk.specs.Before.{place_before};
 ghost use Rattle.ocfl_walk.specs.Ends.{is_past};
 ghost use Rattle.ocfl_walk.specs.Walking.{step_from, GoesOn, GoesTo, IsBefore, IsFairMet};
-ghost use Rattle.ocfl_walk.specs.Walking.{IsMeeting, NextGoesOn, NextTold, StepsOutTo, StepsTo};
+ghost use Rattle.ocfl_walk.specs.Walking.{GoesAt, IsMeeting, NextGoesOn, NextTold, StepsAtTo};
+ghost use Rattle.ocfl_walk.specs.Walking.{StepsOutTo, StepsTo};
 ghost use Rattle.ocfl_walk.specs.WalkCalls.{FailsOut};
 
 use crate::end::End;
-use crate::listing::sorted_if;
+use crate::listing::{keep_from, sorted_if};
 use arrayvec::ArrayVec;
 use ocfl_inventory::Table;
 use ocfl_item::{Around, Fault, Folder, Pending, Visit, visit_base, visit_entry, visit_path};
-use ocfl_tree::{Entry, Place, Tree};
+use ocfl_tree::{Entry, Name, Place, Tree};
 use std::alloc::{AllocError, Global};
 
 /// The listings on the way to a place, of each what is left, the next entry last: the listing at an
@@ -177,6 +182,63 @@ fn take_entry(listings: &mut Listings) -> Option<Entry>
     entry
 }
 
+/// Leaves what does not lie before a name in the listing of a directory of so many names, where
+/// that is the last listing.
+fn begin_at(listings: &mut Listings, names: usize, name: &Name)
+    ensures { (p : Spot) → piles_at p listings.new.items
+        ≡ cut_top names name.now (piles_at p listings.old.items) }
+{
+    if listings.len() <= names {
+        return;
+    }
+    let Some(mut entries) = listings.pop() else {
+        return;
+    };
+    keep_from(&mut entries, name);
+    listings.push(entries);
+}
+
+/// The next entry, unless it lies above a place.
+fn unless_above(entry: Option<Place>, place: &Place) -> Option<Place>
+    ensures { MatchOption result (IsBelowNext place.now entry)
+        (λ e. (entry ≡ Some e) × (is_lt (place_cmp place.now e) ≡ false)) }
+{
+    match entry {
+        Some(entry) => {
+            if place.cmp(&entry).is_lt() {
+                None
+            } else {
+                Some(entry)
+            }
+        }
+        None => None,
+    }
+}
+
+/// The item of a place at which nothing is seen, where a table names it.
+fn missing_item(
+    alloc: Global,
+    around: &Option<Around>,
+    place: &Place,
+) -> Result<Option<Pending>, Fault>
+    ensures only { IfErr result (λ why. why ≡ Fault.Memory) }
+    ensures fair { IfOk result (λ o. IfSome o (λ p. (p.place ≡ place.now)
+        × IsNamedIn place.now around.now)) }
+    ensures told { (root : StorageRoot) → IsTableAround root place.now around.now
+        → seen root place.now ≡ None
+        → IfOk result (λ o. IsItemAt root place.now o) }
+{
+    let Some(object) = around else {
+        return Ok(None);
+    };
+    let inner = place.behind(object.place.depth())?;
+    let named = object.table.named(alloc, &inner)?;
+    if named.is_empty() {
+        return Ok(None);
+    }
+    visit_path(alloc, around, place)
+}
+
 /// The object, where the place lies in it.
 fn still_around(around: Option<Around>, place: &Place) -> Option<Around>
     ensures { result ≡ still around place.now }
@@ -302,9 +364,8 @@ impl Stand {
         ensures goes_on { IfOk result (λ step. GoesOn self.old self.new step) }
         ensures there { IfOk result (λ step. GoesTo self.new place step) }
         ensures told { IsTrue T.told → (root : StorageRoot) → (T.state store.old).tree ≡ root
-            → (last : Spot) → self.old.last ≡ Some last
-            → IsStanding root last (piles_in self.old.last self.old.listings.items)
-            self.old.around
+            → (stood last : Spot) → self.old.last ≡ Some stood
+            → IsHeld root stood (piles_in self.old.last self.old.listings.items) self.old.around
             → IsTurn root last place ((place, seen_names root place)
             ∷ popped (piles_in self.old.last self.old.listings.items))
             → StepsTo root (T.state store.old) (T.state store.new) (Some last) place self.new result }
@@ -347,6 +408,65 @@ impl Stand {
         let item = visit_path(alloc, &self.around, &place)?;
         self.last = Some(place);
         Ok(step_of(item))
+    }
+
+    /// Takes a place at which nothing is seen, before the next entry.
+    fn take_missing(&mut self, alloc: Global, place: Place) -> Result<Step, Fault>
+        requires orderly { IsOrderlyStand self.old }
+        requires next { IfSome self.old.last (λ last. (place_cmp last place ≡ Less)
+            × IsAroundIf place self.old.around
+            × IsBelowNext place (next_of (piles_in self.old.last self.old.listings.items))) }
+        requires some { self.old.last ≢ None }
+        requires trim { trimmed (piles_in self.old.last self.old.listings.items)
+            ≡ piles_in self.old.last self.old.listings.items }
+        ensures orderly { IsOrderlyStand self.new }
+        ensures only { IfErr result (λ why. IsWayFault why) }
+        ensures goes_on { IfOk result (λ step. GoesAt self.old self.new step) }
+        ensures there { IfOk result (λ step. GoesTo self.new place step) }
+        ensures told { (s : Store) (root : StorageRoot) → s.tree ≡ root → (last : Spot)
+            → IsHeld root place (piles_in self.old.last self.old.listings.items) self.old.around
+            → IsTurn root last place (frames_of (piles_in self.old.last self.old.listings.items))
+            → seen root place ≡ None → StepsTo root s s (Some last) place self.new result }
+    {
+        let item = missing_item(alloc, &self.around, &place)?;
+        self.last = Some(place);
+        Ok(step_of(item))
+    }
+
+    /// Takes the place of a name in the directory at the last place, where it is not past the end.
+    /// What is left before it is passed over.
+    pub(crate) fn step_to<T: Tree>(
+        &mut self,
+        alloc: Global,
+        store: &mut T,
+        name: &Name,
+        end: &End,
+    ) -> Result<Step, Fault>
+        requires { IsOrderlyStand self.old }
+        ensures orderly { IsOrderlyStand self.new }
+        ensures only { IfErr result (λ why. IsWayFault why) }
+        ensures goes_on { IfOk result (λ step. GoesAt self.old self.new step) }
+        ensures before { IfOk result (λ step. IsBefore end.now self.new step) }
+        ensures told { IsTrue T.told → (root : StorageRoot) → (T.state store.old).tree ≡ root
+            → (d q : Spot) → StandsAt root self.old (Some d)
+            → place_before root (d ++ name.now ∷ []) ≡ Some q
+            → StepsAtTo root (T.state store.old) (T.state store.new) q end.now self.old self.new
+            result }
+    {
+        let Some(directory) = &self.last else {
+            return Ok(Step::End);
+        };
+        let place = directory.child(name)?;
+        if end.is_past(&place) {
+            return Ok(Step::End);
+        }
+        begin_at(&mut self.listings, directory.depth(), name);
+        drop_empty(&mut self.listings);
+        let entry = next_entry(&self.listings, directory)?;
+        match unless_above(entry, &place) {
+            Some(entry) => self.take_entry(alloc, store, entry),
+            None => self.take_missing(alloc, place),
+        }
     }
 
     /// Takes the next place, where it is not past the end.

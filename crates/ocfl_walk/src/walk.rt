@@ -1,20 +1,22 @@
 //! The walk: items in order, from a stack of sorted listings and the table of one object.
-ghost use Rattle.std.specs.Prelude.{◌≡◌, Option, option_map, true, false, None, Some, IsTrue};
+ghost use Rattle.std.specs.Prelude.{◌≡◌, ◌≢◌, ◌∷◌, ◌++◌, [], Option, option_map, true, false, None, Some};
+ghost use Rattle.std.specs.Prelude.{IsTrue};
 ghost use Rattle.std.specs.Prelude.{Err, IfOk, IfErr, IfSome, MatchResult};
 ghost use Rattle.ocfl_tree.specs.Place.{Place as Spot};
 ghost use Rattle.ocfl_tree.specs.StorageRoot.{StorageRoot};
 ghost use Rattle.ocfl_item.specs.Ways.{IsWayFault};
+ghost use Rattle.ocfl_walk.specs.Before.{directory_of, place_before};
 ghost use Rattle.ocfl_walk.specs.Ends.{is_past};
 ghost use Rattle.ocfl_walk.specs.WalkCalls.{FailsOut, GoDownFails, GoesDown, WalkFails};
 ghost use Rattle.ocfl_walk.specs.Orderly.{is_orderly};
 
 use crate::end::End;
 use crate::entry::stand_at;
-use crate::stand::Stand;
+use crate::stand::{Stand, Step};
 use arrayvec::ArrayVec;
 use ocfl_item::{Fault, Pending};
-use ocfl_tree::{Place, Tree};
-use std::alloc::Global;
+use ocfl_tree::{Name, Place, Tree};
+use std::alloc::{AllocError, Global};
 
 /// The items of a storage root above a place, one after the other.
 ///
@@ -24,6 +26,8 @@ use std::alloc::Global;
 pub struct Walk {
     alloc: Global,
     stand: Stand,
+    /// The name that the walk begins at, in the directory at its last place, until it has begun.
+    first: Option<Name>,
     broken: bool,
     ghost orderly: { is_orderly stand ≡ true },
 }
@@ -62,6 +66,7 @@ impl Walk {
                     around: None,
                     last: None,
                 },
+                first: None,
                 broken: false,
             });
         };
@@ -69,6 +74,40 @@ impl Walk {
         Ok(Walk {
             alloc,
             stand,
+            first: None,
+            broken: false,
+        })
+    }
+
+    /// A walk over the items at a place and above it, whether or not there is one at it.
+    ///
+    /// It lists the directories above the place, as far as they lead to it, and reads at most the
+    /// inventory of the object that holds its directory; at the storage root it makes no call. What
+    /// lies at the place is listed and read with its item. `Fault::Store` where the store did not
+    /// answer, `Fault::Memory` where memory was refused.
+    pub fn start_at<T: Tree>(alloc: Global, store: &mut T, from: &Place) -> Result<Walk, Fault>
+        ensures only { IfErr result (λ why. IsWayFault why) }
+        ensures live { IfOk result (λ walk. IsLive walk) }
+        ensures last { IfOk result (λ walk. last_of walk ≡ directory_of from.now) }
+        ensures untouched { from.now ≡ [] → store.new ≡ store.old }
+        ensures ready { from.now ≡ [] → IfErr result (λ _. ⊥) }
+        ensures inventories { IsTrue T.told → (root : StorageRoot) → (T.state store.old).tree ≡ root
+            → OpensInventories root (T.state store.old) (T.state store.new) }
+        ensures told { IsTrue T.told → (root : StorageRoot) → (T.state store.old).tree ≡ root
+            → let d = directory_of from.now in MatchResult result
+            (λ walk. GoesDown root (T.state store.old) (T.state store.new) d
+            × Stands root walk (place_before root from.now))
+            (λ why. GoDownFails root (T.state store.old) (T.state store.new) d why) }
+    {
+        if from.depth() == 0 {
+            return Walk::start(alloc, store, None);
+        }
+        let (directory, name) = last_name(from)?;
+        let stand = stand_at(alloc, store, &directory)?;
+        Ok(Walk {
+            alloc,
+            stand,
+            first: Some(name),
             broken: false,
         })
     }
@@ -120,7 +159,7 @@ impl Walk {
         if self.broken {
             return Err(Fault::Broken);
         }
-        match self.stand.next(self.alloc, store, end) {
+        match self.go_on(store, end) {
             Ok(found) => Ok(found),
             Err(fault) => {
                 self.broken = true;
@@ -128,4 +167,40 @@ impl Walk {
             }
         }
     }
+
+    /// The next item before the end, of a walk that has not failed.
+    fn go_on<T: Tree>(&mut self, store: &mut T, end: &End) -> Result<Option<Pending>, Fault>
+        ensures only { IfErr result (λ why. IsWayFault why) }
+        ensures stays { self.new.broken ≡ self.old.broken }
+        ensures goes_on { IfOk result (λ o. GoesOn self.old self.new o) }
+        ensures before { IfOk result (λ o. IfSome o (λ p. is_past end.now p.place ≡ false)) }
+        ensures told { IsTrue T.told → (root : StorageRoot) → (T.state store.old).tree ≡ root
+            → (last : Option Spot) → Stands root self.old last → MatchResult result
+            (λ o. GivesOut root (T.state store.old) (T.state store.new) last end.now self.new o)
+            (λ why. FailsOut root (T.state store.old) (T.state store.new) last end.now why) }
+    {
+        let Some(name) = self.first.take() else {
+            return self.stand.next(self.alloc, store, end);
+        };
+        match self.stand.step_to(self.alloc, store, &name, end)? {
+            Step::Item(item) => Ok(Some(item)),
+            Step::Nothing => self.stand.next(self.alloc, store, end),
+            Step::End => {
+                self.first = Some(name);
+                Ok(None)
+            }
+        }
+    }
+}
+
+/// The directory and the last name of a place that is not the storage root's.
+fn last_name(place: &Place) -> Result<(Place, Name), AllocError>
+    requires { place.now ≢ [] }
+    ensures { IfOk result (λ p. place.now ≡ p.0 ++ p.1 ∷ []) }
+{
+    let mut names = place.names()?;
+    let Some(name) = names.pop() else {
+        unreachable!();
+    };
+    Ok((place.first(names.len())?, name))
 }

@@ -6,7 +6,7 @@ use Rattle.ocfl_walk.specs.declared.stand.Stand.{Stand}
 use Rattle.ocfl_walk.specs.declared.stand.Turn.TheVariants as turn
 use Rattle.ocfl_walk.proofs.Chosen.{at_first, chosen_base, chosen_entry, chosen_path, goes_from, kept_turn, mid_orderly, no_memory, sizes, trim_stays}
 use Rattle.ocfl_walk.proofs.StandLaws.{stands_before, steps_out_to}
-use Rattle.ocfl_walk.proofs.StandSteps.{by_turn, ends_here}
+use Rattle.ocfl_walk.proofs.StandSteps.{by_turn, ends_here, held}
 use Rattle.ocfl_walk.proofs.stand.Stand.step.Goals as goal
 
 pub returns-in_err-turn-clause-orderly : goal.returns-in_err-turn-clause-orderly
@@ -60,7 +60,7 @@ pub returns-in-Entry-clause-told : goal.returns-in-Entry-clause-told
 returns-in-Entry-clause-told g c = λ h root over last st.
     let kept = (kept_turn c.args.end.now c.in_ok-turn.turn (turn.Entry c.in-Entry.place) (sym c.in-Entry.is ∙ c.unless_past.ensures) (λ e. cc)) in
     by_turn root c.args.self.now c.drop_empty.new.listings (c.drop_empty.ensures (spot_of c.args.self.now.last)) c.in_ok-turn.turn (turn.Entry c.in-Entry.place) kept.0 (λ e. cc) c.in_ok-turn.ensures.base c.in_ok-turn.ensures.next c.requires (λ l. StepsOutTo root (g.T.Tree.state c.args.store.now) (g.T.Tree.state c.take_entry.new.store) l c.args.end.now c.take_entry.new.self c.take_entry.result) last st
-    (λ p f is go. steps_out_to root (g.T.Tree.state c.args.store.now) (g.T.Tree.state c.take_entry.new.store) (Some p) c.args.end.now c.in-Entry.place c.take_entry.new.self c.take_entry.result c.take_entry.ensures.there go.above kept.1 (c.take_entry.ensures.told h root over p f is go))
+    (λ p f is go. steps_out_to root (g.T.Tree.state c.args.store.now) (g.T.Tree.state c.take_entry.new.store) (Some p) c.args.end.now c.in-Entry.place c.take_entry.new.self c.take_entry.result c.take_entry.ensures.there go.above kept.1 (c.take_entry.ensures.told h root over p p f (held root p _ _ is) go))
 
 pub returns-in-Entry-clause-before : goal.returns-in-Entry-clause-before
 returns-in-Entry-clause-before g c =

@@ -1,0 +1,283 @@
+-- The first step of a walk that begins at a place.
+use Rattle.std.proofs.Common.{◌≡◌, ◌≢◌, inl, inr, ℕ, ◌+◌, ◌≤◌, List, [], ◌∷◌, ◌++◌, refl, sym, ◌∙◌, ap, subst, true, false, Bool, map, Option, Some, None, Result, Ok, Err, length, drop, arith}
+use Rattle.std.proofs.lemmas.List.{length-append}
+use Rattle.std.proofs.Math.Seq.{drop-append_seam}
+use Rattle.std.specs.declared.alloc.Global.{Global}
+use Rattle.std.specs.Prelude.{IfOk, IfSome, Vec, cond, filter_map}
+use Rattle.std.specs.List.{AllByRecursion, cons_option}
+use Rattle.std.specs.Ordering.{is_lt}
+use Rattle.std.specs.declared.cmp.Ordering.{Ordering}
+use Rattle.std.specs.declared.cmp.Ordering.TheVariants.{Less, Equal, Greater}
+use Rattle.arrayvec.specs.ArrayVec.{ArrayVec}
+use Rattle.ocfl_tree.specs.Place.{Place, Text, place_cmp, place_eq}
+use Rattle.ocfl_tree.specs.Ascending.{IsAmong}
+use Rattle.ocfl_tree.specs.StorageRoot.{StorageRoot, dir}
+use Rattle.ocfl_tree.specs.Store.{Store}
+use Rattle.ocfl_tree.specs.declared.store.Entry.{Entry}
+use Rattle.ocfl_tree.proofs.Orders.{place_cmp_exact, place_cmp_total, below_from_greater, true_not_false}
+use Rattle.ocfl_inventory.specs.Table.{Table, Triple, named, paths_of}
+use Rattle.ocfl_audit.specs.Audit.{candidates}
+use Rattle.ocfl_audit.specs.Between.{IsBeyond, looked_between, read_between}
+use Rattle.ocfl_audit.specs.Due.{due, item_places}
+use Rattle.ocfl_audit.specs.Stack.{IsListed, IsStack}
+use Rattle.ocfl_audit.specs.Walk.{seen_names}
+use Rattle.ocfl_audit.specs.Zone.{seen}
+use Rattle.ocfl_audit.proofs.AuditExists.{place_from_test, seen_candidate}
+use Rattle.ocfl_audit.proofs.BelowLaws.{above_self, begins_rest}
+use Rattle.ocfl_audit.proofs.BetweenLaws.{directories, from_directory, from_object, looked_seen, objects, read_seen}
+use Rattle.ocfl_item.specs.Meeting.{IsItemAt}
+use Rattle.ocfl_item.specs.declared.fault.Fault.{Fault}
+use Rattle.ocfl_item.specs.declared.meeting.Around.{Around}
+use Rattle.ocfl_item.specs.declared.pending.Pending.{Pending}
+use Rattle.ocfl_item.proofs.ShutLaws.{shut_unseen}
+use Rattle.ocfl_item.proofs.VisitLaws.{meets_shut}
+use Rattle.ocfl_walk.specs.Ends.{before_end, is_past}
+use Rattle.ocfl_walk.specs.Before.{place_before}
+use Rattle.ocfl_walk.specs.Standing.{HaveEntries, IsAroundIf, IsBelowNext, IsHeld, IsNamedIn, IsOrderly, IsOrderlyIf, IsOrderlyStand, IsStanding, IsTurn, cut_top, frames_of, next_of, piles_at, piles_in, popped, size_of, spot_of, stand_size, trimmed}
+use Rattle.ocfl_walk.specs.Walking.{GoesAt, GoesOn, GoesTo, IsBefore, Steps, StepsAtTo, StepsOutTo, step_from}
+use Rattle.ocfl_walk.specs.declared.end.End.{End}
+use Rattle.ocfl_walk.specs.declared.stand.Stand.{Stand}
+use Rattle.ocfl_walk.specs.declared.stand.Step.{Step}
+use Rattle.ocfl_walk.specs.declared.stand.Step.TheVariants as step
+use Rattle.ocfl_walk.proofs.BeforeLaws.{IsJustBefore, item_candidate, just_before}
+use Rattle.ocfl_walk.proofs.Chosen.{trim_stays}
+use Rattle.ocfl_walk.proofs.CutLaws.{IsTop, cut_size, cut_stack, cut_trimmed, entries_cut, listed_cut, path_unseen, table_next, turn_entry, turn_path}
+use Rattle.ocfl_walk.proofs.DueTurns.{near_turn}
+use Rattle.ocfl_walk.proofs.EndLaws.{over, past_up}
+use Rattle.ocfl_walk.proofs.EntrySteps.{step_to}
+use Rattle.ocfl_walk.proofs.LeadsLaws.{around_on}
+use Rattle.ocfl_walk.proofs.PathSteps.{orderly_on, size_on}
+use Rattle.ocfl_walk.proofs.PlacedLaws.{begun_if, path_shared, top_here}
+use Rattle.ocfl_walk.proofs.SizeLaws.{goes_here}
+use Rattle.ocfl_walk.proofs.WalkCallLaws.{walks_out_nothing}
+
+abbrev Listings : Type 0
+Listings = ArrayVec (Vec Entry Global)
+
+-- ---- a place that a table names
+
+-- a path that digests are named for is one of the table's
+pub named_path : (t : Table) (q : Place) → named t q ≢ [] → IsAmong (paths_of t) q
+named_path t q some = by t.triples some
+  where
+    by : (es : List Triple) → filter_map (λ e. cond (place_eq e.path q) (Some e.named) None) es ≢ [] → IsAmong (map (λ e. e.path) es) q
+    by [] n = absurd (n refl)
+    by (e ∷ es) n = go (place_eq e.path q) refl n (by es)
+      where
+        go : (b : Bool) → place_eq e.path q ≡ b → cons_option (cond b (Some e.named) None) (filter_map (λ x. cond (place_eq x.path q) (Some x.named) None) es) ≢ [] → (filter_map (λ x. cond (place_eq x.path q) (Some x.named) None) es ≢ [] → IsAmong (map (λ x. x.path) es) q) → IsAmong (map (λ x. x.path) (e ∷ es)) q
+        go true f m k = inl (sym (place_from_test e.path q f))
+        go false f m k = inr (k m)
+
+pub named_too : (x : Place) (a : Option Around) → IsNamedIn x a → (r : Result (Option Pending) Fault) → IfOk r (λ o. IfSome o (λ p. p.place ≡ x)) → IfOk r (λ o. IfSome o (λ p. (p.place ≡ x) × IsNamedIn x a))
+named_too x a n (Err why) h = tt
+named_too x a n (Ok None) h = tt
+named_too x a n (Ok (Some p)) h = (h, n)
+
+-- an object's place has at most 127 names, and a path of its table at most 128
+named_short : (x : Place) (a : Option Around) → IsAroundIf x a → IsNamedIn x a → length x ≤ 255
+named_short x None h n = absurd n
+named_short x (Some o) h n =
+    let r = begins_rest o.place x h.holds in
+    let l : length x ≡ length o.place + length r.0 = ap length r.1 ∙ length-append o.place r.0 in
+    let inner : drop (length o.place) x ≡ r.0 = ap (drop (length o.place)) r.1 ∙ drop-append_seam o.place r.0 in
+    let s = fits (paths_of o.table) r.0 h.fit.short (subst (IsAmong (paths_of o.table)) inner n) in
+    omega (arith, l, s, h.depth)
+  where
+    fits : (qs : List Place) (q : Place) → AllByRecursion (λ y. length y ≤ 128) qs → IsAmong qs q → length q ≤ 128
+    fits [] q k i = absurd i
+    fits (y ∷ qs) q k (inl e) = subst (λ z. length z ≤ 128) (sym e) k.0
+    fits (y ∷ qs) q k (inr i) = fits qs q k.1 i
+
+-- ---- to a place at which nothing is seen
+
+module _ (old : Stand) (x : Place) (orderly : IsOrderlyStand old) (some : old.last ≢ None) (trim : trimmed (piles_in old.last old.listings.items) ≡ piles_in old.last old.listings.items)
+    (next : IfSome old.last (λ last. (place_cmp last x ≡ Less) × IsAroundIf x old.around × IsBelowNext x (next_of (piles_in old.last old.listings.items)))) where
+  abbrev at_missing : Stand
+  at_missing = record { listings = old.listings; around = old.around; last = Some x }
+
+  gone : (old.last ≡ Some (spot_of old.last)) × IsOrderly (spot_of old.last) (piles_in old.last old.listings.items) old.around
+  gone = begun_if old.last (piles_in old.last old.listings.items) old.around orderly some
+
+  ahead : (place_cmp (spot_of old.last) x ≡ Less) × IsAroundIf x old.around × IsBelowNext x (next_of (piles_in old.last old.listings.items))
+  ahead = subst (λ l. IfSome l (λ last. (place_cmp last x ≡ Less) × IsAroundIf x old.around × IsBelowNext x (next_of (piles_in old.last old.listings.items)))) gone.0 next
+
+  beside : IsOrderly x (piles_in old.last old.listings.items) old.around
+  beside = orderly_on (spot_of old.last) x (piles_in old.last old.listings.items) old.around gone.1 ahead.0 ahead.1 trim ahead.2
+
+  missing_piles : piles_at x old.listings.items ≡ piles_in old.last old.listings.items
+  missing_piles = path_shared (spot_of old.last) x old.listings.items old.around gone.1 beside
+
+  pub missing_orderly : IsOrderlyStand at_missing
+  missing_orderly = subst (λ ps. IsOrderly x ps old.around) (sym missing_piles) beside
+
+  missing_size : stand_size at_missing ≤ stand_size old
+  unfolding stand_size
+  missing_size =
+      subst (λ ps. size_of (Some x) ps old.around ≤ size_of old.last (piles_in old.last old.listings.items) old.around) (sym missing_piles)
+      (subst (λ l. size_of (Some x) (piles_in old.last old.listings.items) old.around ≤ size_of l (piles_in old.last old.listings.items) old.around) (sym gone.0)
+      (size_on (spot_of old.last) x (piles_in old.last old.listings.items) old.around gone.1 ahead.0))
+
+  module _ (item : Option Pending) (r : Step) (is : r ≡ step_from item) where
+    pub missing_goes_on : IfSome item (λ p. (p.place ≡ x) × IsNamedIn x old.around) → GoesAt old at_missing r
+    missing_goes_on i = subst (GoesAt old at_missing) (sym is) (by item i)
+      where
+        beyond : IsBeyond old.last x
+        beyond = subst (λ l. IsBeyond l x) (sym gone.0) ahead.0
+
+        by : (item : Option Pending) → IfSome item (λ p. (p.place ≡ x) × IsNamedIn x old.around) → GoesAt old at_missing (step_from item)
+        by None i = (x, refl, beyond, missing_size)
+        by (Some p) i = (ap (λ y. Some y) (sym i.0), subst (IsBeyond old.last) (sym i.0) beyond, missing_size, subst (λ y. length y ≤ 255) (sym i.0) (named_short x old.around ahead.1 i.1))
+
+    pub missing_there : GoesTo at_missing x r
+    missing_there = subst (GoesTo at_missing x) (sym is) (goes_here at_missing x item refl)
+
+    pub missing_told : (root : StorageRoot) (s : Store) (l : Place) → s.tree ≡ root → IsHeld root x (piles_in old.last old.listings.items) old.around → IsTurn root l x (frames_of (piles_in old.last old.listings.items)) → seen root x ≡ None → IsItemAt root x item
+        → Steps root s s (Some l) at_missing r
+    missing_told root s l tree held go unseen i =
+        let here : IsStanding root x (piles_in old.last old.listings.items) old.around = record { stack = go.stack; listed = held.listed; entries = held.entries; table = held.table } in
+        subst (Steps root s s (Some l) at_missing) (sym is)
+        (step_to root s s l x at_missing item (meets_shut root s x tree (shut_unseen root x unseen)) i (near_turn root l x _ go) (refl, subst (λ ps. IsStanding root x ps old.around) (sym missing_piles) here) go.some go.none)
+
+-- ---- what is left once all before the name is let go
+
+module _ (old : Stand) (d : Place) (n : Text) (mid : Listings) (there : old.last ≡ Some d) (orderly : IsOrderlyStand old) (is : piles_in old.last mid.items ≡ trimmed (cut_top (length d) n (piles_in old.last old.listings.items))) where
+  abbrev cut : Stand
+  cut = record { listings = mid; around = old.around; last = old.last }
+
+  here : IsOrderly d (piles_in old.last old.listings.items) old.around
+  here = subst (λ l. IsOrderlyIf l (piles_in old.last old.listings.items) old.around) there orderly
+
+  pub cut_in_order : IsOrderlyStand cut
+  cut_in_order =
+      subst (λ l. IsOrderlyIf l (piles_in old.last mid.items) old.around) (sym there)
+      (subst (λ ps. IsOrderly d ps old.around) (sym is) (cut_trimmed (length d) n d (piles_in old.last old.listings.items) old.around here))
+
+  pub cut_no_more : stand_size cut ≤ stand_size old
+  unfolding stand_size
+  cut_no_more =
+      subst (λ l. size_of l (piles_in old.last mid.items) old.around ≤ size_of l (piles_in old.last old.listings.items) old.around) (sym there)
+      (subst (λ ps. size_of (Some d) ps old.around ≤ size_of (Some d) (piles_in old.last old.listings.items) old.around) (sym is) (cut_size (length d) n d (piles_in old.last old.listings.items) old.around))
+
+  pub cut_trims : trimmed (piles_in old.last mid.items) ≡ piles_in old.last mid.items
+  cut_trims = trim_stays (cut_top (length d) n (piles_in old.last old.listings.items)) (piles_in old.last mid.items) old.around is
+
+  pub cut_begun : old.last ≢ None
+  cut_begun e = let two : Some d ≡ None = sym there ∙ e in cc
+
+  pub cut_next : (o : Option Place) → IsBelowNext (d ++ n ∷ []) o → o ≡ next_of (piles_in old.last mid.items) → IfSome old.last (λ last. (place_cmp last (d ++ n ∷ []) ≡ Less) × IsAroundIf (d ++ n ∷ []) old.around × IsBelowNext (d ++ n ∷ []) (next_of (piles_in old.last mid.items)))
+  cut_next o low same =
+      subst (λ l. IfSome l (λ last. (place_cmp last (d ++ n ∷ []) ≡ Less) × IsAroundIf (d ++ n ∷ []) old.around × IsBelowNext (d ++ n ∷ []) (next_of (piles_in old.last mid.items)))) (sym there)
+      (above_self d n [], around_on d n old.around here.object, subst (IsBelowNext (d ++ n ∷ [])) same low)
+
+  pub missing_next : (x : Place) → x ≡ d ++ n ∷ [] → (o : Option Place) → IsBelowNext x o → o ≡ next_of (piles_at d mid.items) → IfSome old.last (λ last. (place_cmp last x ≡ Less) × IsAroundIf x old.around × IsBelowNext x (next_of (piles_in old.last mid.items)))
+  missing_next x own o low same =
+      subst (λ y. IsBelowNext y o → IfSome old.last (λ last. (place_cmp last y ≡ Less) × IsAroundIf y old.around × IsBelowNext y (next_of (piles_in old.last mid.items)))) (sym own)
+      (λ l. cut_next o l (same ∙ sym (ap (λ k. next_of (piles_in k mid.items)) there))) low
+
+  module _ (root : StorageRoot) (q : Place) (first : place_before root (d ++ n ∷ []) ≡ Some q) (st : IsStanding root d (piles_in old.last old.listings.items) old.around) where
+    j : IsJustBefore root q (d ++ n ∷ [])
+    j = just_before root (d ++ n ∷ []) q first
+
+    pub cut_held : IsHeld root d (piles_in old.last mid.items) old.around
+    cut_held = record {
+      listed = subst (λ ps. IsListed root (frames_of ps)) (sym is) (listed_cut root (length d) n (piles_in old.last old.listings.items) st.listed);
+      entries = subst (HaveEntries root) (sym is) (entries_cut root (length d) n (piles_in old.last old.listings.items) st.entries);
+      table = st.table;
+    }
+
+    top : IsTop d (piles_in old.last old.listings.items)
+    top = subst (λ l. IsTop d (piles_in l old.listings.items)) (sym there) (λ x rest e. top_here d old.listings.items x rest (subst (λ l. IsOrderly d (piles_in l old.listings.items) old.around) there here).chain e)
+
+    stands : IsStack root q (frames_of (piles_in old.last mid.items))
+    stands = subst (λ ps. IsStack root q (frames_of ps)) (sym is) (cut_stack root d n q j (piles_in old.last old.listings.items) old.around here top st.stack)
+
+    pub cut_to_entry : (x : Place) → next_of (piles_in old.last mid.items) ≡ Some x → is_lt (place_cmp (d ++ n ∷ []) x) ≡ false → IsTurn root q x ((x, seen_names root x) ∷ popped (piles_in old.last mid.items))
+    cut_to_entry x e low = turn_entry root d n q j x low (piles_in old.last mid.items) e stands cut_held.listed
+
+    module _ (o : Option Place) (low : IsBelowNext (d ++ n ∷ []) o) (same : o ≡ next_of (piles_in old.last mid.items)) where
+      orderly_there : IsOrderly (d ++ n ∷ []) (piles_in old.last mid.items) old.around
+      orderly_there =
+          orderly_on d (d ++ n ∷ []) (piles_in old.last mid.items) old.around (subst (λ ps. IsOrderly d ps old.around) (sym is) (cut_trimmed (length d) n d (piles_in old.last old.listings.items) old.around here)) (above_self d n [])
+          (around_on d n old.around here.object) cut_trims (subst (IsBelowNext (d ++ n ∷ [])) same low)
+
+      pub cut_unseen : seen root (d ++ n ∷ []) ≡ None
+      cut_unseen = path_unseen root d n q j (piles_in old.last mid.items) old.around orderly_there stands
+
+      pub cut_to_path : IsTurn root q (d ++ n ∷ []) (frames_of (piles_in old.last mid.items))
+      cut_to_path = turn_path root d n q j (piles_in old.last mid.items) old.around orderly_there stands cut_held.listed
+
+      pub cut_held_there : IsHeld root (d ++ n ∷ []) (piles_in old.last mid.items) old.around
+      cut_held_there = record { listed = cut_held.listed; entries = cut_held.entries; table = table_next root d n old.around st.table cut_unseen }
+
+    pub entry_turn : (x y : Place) → y ≡ d ++ n ∷ [] → (o : Option Place) → o ≡ next_of (piles_at d mid.items) → o ≡ Some x → is_lt (place_cmp y x) ≡ false → IsTurn root q x ((x, seen_names root x) ∷ popped (piles_in old.last mid.items))
+    entry_turn x y own o next e low = cut_to_entry x (ap (λ l. next_of (piles_in l mid.items)) there ∙ sym next ∙ e) (subst (λ z. is_lt (place_cmp z x) ≡ false) own low)
+
+    pub missing_turn : (x : Place) → x ≡ d ++ n ∷ [] → (o : Option Place) → IsBelowNext x o → o ≡ next_of (piles_at d mid.items) → IsHeld root x (piles_in old.last mid.items) old.around × IsTurn root q x (frames_of (piles_in old.last mid.items)) × (seen root x ≡ None)
+    missing_turn x own o low same =
+        subst (λ y. IsBelowNext y o → IsHeld root y (piles_in old.last mid.items) old.around × IsTurn root q y (frames_of (piles_in old.last mid.items)) × (seen root y ≡ None)) (sym own)
+        (λ l. let e = same ∙ sym (ap (λ k. next_of (piles_in k mid.items)) there) in (cut_held_there o l e, cut_to_path o l e, cut_unseen o l e)) low
+
+-- the listings once those before the name are let go
+pub mid_is : (p : Place) (old mid new : Listings) (k : ℕ) (d : Place) (n : Text) → ((q : Place) → piles_at q mid.items ≡ cut_top k n (piles_at q old.items)) → ((q : Place) → piles_at q new.items ≡ trimmed (piles_at q mid.items)) → k ≡ length d
+    → piles_at p new.items ≡ trimmed (cut_top (length d) n (piles_at p old.items))
+mid_is p old mid new k d n cuts trims deep = trims p ∙ ap trimmed (cuts p) ∙ ap (λ j. trimmed (cut_top j n (piles_at p old.items))) deep
+
+-- the directory behind which a walk stands
+pub one_directory : (last : Option Place) (d c : Place) → last ≡ Some d → last ≡ Some c → d ≡ c
+one_directory last d c e f = let both : Some d ≡ Some c = sym e ∙ f in cc
+
+-- ---- what the first step comes to
+
+module _ (old mid new : Stand) (x : Place) (same : mid.last ≡ old.last) (less : stand_size mid ≤ stand_size old) where
+  pub goes_at_entry : (r : Result Step Fault) → IfOk r (λ s. GoesOn mid new s) → IfOk r (λ s. GoesTo new x s) → IfOk r (λ s. GoesAt old new s)
+  goes_at_entry (Err why) g h = tt
+  goes_at_entry (Ok (step.Item p)) g h = (g.0, subst (λ l. IsBeyond l p.place) same g.1, omega (arith, less, g.2), g.3)
+  goes_at_entry (Ok step.Nothing) g h = (g.0, g.1, subst (λ l. IsBeyond l g.0) same g.2, omega (arith, less, g.3))
+  goes_at_entry (Ok step.End) g h = absurd h
+
+  pub goes_at_missing : (r : Result Step Fault) → IfOk r (λ s. GoesAt mid new s) → IfOk r (λ s. GoesTo new x s) → IfOk r (λ s. GoesAt old new s)
+  goes_at_missing (Err why) g h = tt
+  goes_at_missing (Ok (step.Item p)) g h = (g.0, subst (λ l. IsBeyond l p.place) same g.1, omega (arith, less, g.2), g.3)
+  goes_at_missing (Ok step.Nothing) g h = (g.0, g.1, subst (λ l. IsBeyond l g.0) same g.2, omega (arith, less, g.3))
+  goes_at_missing (Ok step.End) g h = absurd h
+
+pub stays_before : (e : End) (old new : Stand) (x : Place) → is_past e x ≡ false → (r : Result Step Fault) → IfOk r (λ q. GoesAt old new q) → IfOk r (λ q. GoesTo new x q) → IfOk r (λ q. IsBefore e new q)
+stays_before e old new x n (Err why) g h = tt
+stays_before e old new x n (Ok (step.Item p)) g h = let same : p.place ≡ x = one (sym g.0 ∙ h) in ap (is_past e) same ∙ n
+  where
+    one : {y z : Place} → Some y ≡ Some z → y ≡ z
+    one f = cc
+stays_before e old new x n (Ok step.Nothing) g h = tt
+stays_before e old new x n (Ok step.End) g h = tt
+
+pub steps_at : (root : StorageRoot) (s t : Store) (q x : Place) (e : End) (old new : Stand) (r : Result Step Fault) → IfOk r (λ p. GoesTo new x p) → StepsOutTo root s t (Some q) e new r → StepsAtTo root s t q e old new r
+steps_at root s t q x e old new (Err why) g h = h
+steps_at root s t q x e old new (Ok (step.Item p)) g h = h
+steps_at root s t q x e old new (Ok step.Nothing) g h = h
+steps_at root s t q x e old new (Ok step.End) g h = absurd g
+
+-- ---- past the end
+
+module _ (root : StorageRoot) (p q : Place) (first : place_before root p ≡ Some q) (e : End) (past : is_past e p ≡ true) where
+  all_past_from : (y : Place) → IsAmong (candidates root) y → place_cmp q y ≡ Less → is_past e y ≡ true
+  all_past_from y i l = by (place_cmp y p) refl
+    where
+      by : (r : Ordering) → place_cmp y p ≡ r → is_past e y ≡ true
+      by Less f = absurd (true_not_false (sym (ap is_lt f) ∙ (just_before root p q first).next y i l))
+      by Equal f = ap (is_past e) (place_cmp_exact y p f) ∙ past
+      by Greater f = past_up e p y past (below_from_greater place_cmp_total y p f)
+
+  looked_none : before_end e (looked_between root (Some q) None) ≡ []
+  unfolding looked_between
+  looked_none = over e (directories root) (Some q) (λ y i l. all_past_from y (seen_candidate root y dir (looked_seen root y (from_directory root y i))) l)
+
+  read_none : before_end e (read_between root (Some q) None) ≡ []
+  unfolding read_between
+  read_none = over e (objects root) (Some q) (λ y i l. all_past_from y (seen_candidate root y dir (read_seen root y (from_object root y i)).0) l)
+
+  due_none : before_end e (due root (Some q)) ≡ []
+  unfolding due
+  due_none = over e (item_places root) (Some q) (λ y i l. all_past_from y (item_candidate root p y i) l)
+
+  pub ends_at : (s : Store) (old : Stand) → s.tree ≡ root → StepsAtTo root s s q e old old (Ok step.End)
+  ends_at s old tree = (walks_out_nothing root s (Some q) e tree looked_none read_none, due_none, refl)

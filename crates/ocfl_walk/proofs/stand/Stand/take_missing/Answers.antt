@@ -1,0 +1,24 @@
+use Rattle.std.proofs.Common.{sym, subst, Some}
+use Rattle.std.proofs.lemmas.Result.{err_from_is_err_and}
+use Rattle.ocfl_walk.specs.WalkCalls.{FailsTo}
+use Rattle.ocfl_walk.proofs.Chosen.{no_memory_to}
+use Rattle.ocfl_walk.proofs.FirstSteps.{missing_goes_on, missing_orderly, missing_there, missing_told}
+use Rattle.ocfl_walk.proofs.stand.Stand.take_missing.Goals as goal
+
+pub returns-in_err-item-clause-told : goal.returns-in_err-item-clause-told
+returns-in_err-item-clause-told c = λ s root over last held turn unseen.
+    let p = err_from_is_err_and c.from_residual.result c.from_residual.ensures.1 in
+    rw (p.1, p.2) (subst (FailsTo root s s (Some last) c.args.place) (sym c.in_err-item.ensures.only) (no_memory_to root s (Some last) c.args.place over))
+
+pub returns-clause-orderly : goal.returns-clause-orderly
+returns-clause-orderly c = missing_orderly c.args.self.now c.args.place c.requires.orderly c.requires.some c.requires.trim c.requires.next
+
+pub returns-clause-goes_on : goal.returns-clause-goes_on
+returns-clause-goes_on c = missing_goes_on c.args.self.now c.args.place c.requires.orderly c.requires.some c.requires.trim c.requires.next c.in_ok-item.item c.step_of.result c.step_of.ensures c.in_ok-item.ensures.fair
+
+pub returns-clause-there : goal.returns-clause-there
+returns-clause-there c = missing_there c.args.self.now c.args.place c.requires.orderly c.requires.some c.requires.trim c.requires.next c.in_ok-item.item c.step_of.result c.step_of.ensures
+
+pub returns-clause-told : goal.returns-clause-told
+returns-clause-told c = λ s root over last held turn unseen.
+    missing_told c.args.self.now c.args.place c.requires.orderly c.requires.some c.requires.trim c.requires.next c.in_ok-item.item c.step_of.result c.step_of.ensures root s last over held turn unseen (c.in_ok-item.ensures.told root held.table unseen)

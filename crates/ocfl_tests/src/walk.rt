@@ -11,6 +11,7 @@ use std::process::Abort;
 use std::test::Fail;
 
 mod find;
+mod from;
 mod stack;
 
 pub(crate) fn said(fault: Fault) -> Fail {

@@ -10,7 +10,7 @@ use std::process::Abort;
 use std::test::Fail;
 
 /// The path of the next item; a dash where there are no more.
-fn step(alloc: Global, store: &mut MemTree, walk: &mut Walk) -> Result<String, Fail> {
+pub(crate) fn step(alloc: Global, store: &mut MemTree, walk: &mut Walk) -> Result<String, Fail> {
     let text = match &walk.next(store).map_err(said)? {
         Some(pending) => String::from_str(alloc, pending.place().path())?,
         None => String::from_str(alloc, "-")?,
@@ -75,7 +75,7 @@ fn listings_after_each_item(rt: HostRuntime) -> Result<(), Fail> {
 }
 
 /// The inventories that were opened are these.
-fn expect_inventories(
+pub(crate) fn expect_inventories(
     rt: &(impl Abort + AllocGlobal),
     store: &MemTree,
     want: &str,

@@ -1,3 +1,4 @@
+//! Algorithms and digests, the block, and files that are read once.
 use crate::common::digests::with_digests;
 use crate::common::store::place_of;
 use ocfl_digest::{

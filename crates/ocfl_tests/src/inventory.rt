@@ -1,3 +1,4 @@
+//! Declarations, sidecars, inventories and their tables.
 use crate::common::digests::{ABC_SHA256, with_digests};
 use crate::common::store::place_of;
 use ocfl_digest::Algorithm;

@@ -1,3 +1,4 @@
+//! Command lines: what their words ask for, and what is refused.
 use clap::error::ErrorKind;
 use ocfl_cursor::{Budget, FileLimit, Limits};
 use ocfl_deed::{Asked, Deed};

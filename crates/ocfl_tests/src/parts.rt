@@ -1,3 +1,5 @@
+//! Separators, their text, and readers that fail.
+
 mod splitting;
 
 use crate::common::store::place_of;
@@ -94,16 +96,20 @@ fn long_texts_are_refused(rt: HostRuntime) -> Result<(), Fail> {
     let mut reader = most.as_slice();
     assert_eq!(rt; read_parts(alloc, &mut reader)?.len(), 100_000);
     // One line more is too long, whatever stands there; a bad line before it comes first.
-    for last in [b"B\n".as_slice(), b"/", b"A000000\n"] {
+    for (row, last) in [
+        ("a further place", b"B\n".as_slice()),
+        ("no line", b"/"),
+        ("the first place again", b"A000000\n"),
+    ] {
         let more = many_lines(alloc, 100_000, last)?;
-        assert_eq!(rt; stop_of(alloc, &more), Some(PartsStop::Long));
+        assert_eq!(rt; stop_of(alloc, &more), Some(PartsStop::Long), "{row}");
         let bad = many_lines(alloc, 99_999, last)?;
         let wanted = if last == b"B\n".as_slice() {
             None
         } else {
             Some(PartsStop::Line(100_000))
         };
-        assert_eq!(rt; stop_of(alloc, &bad), wanted);
+        assert_eq!(rt; stop_of(alloc, &bad), wanted, "{row}, one line less");
     }
     // Too many bytes come before any line.
     let mut bytes = Vec::from_slice(alloc, b"b\na\n")?;
@@ -154,14 +160,22 @@ impl Read for Failing<'_> {
 #[test]
 fn readers_that_fail_are_told(rt: HostRuntime) -> Result<(), Fail> {
     let alloc = rt.alloc();
-    for (kind, wanted) in [
-        (ErrorKind::PermissionDenied, PartsStop::Read),
-        (ErrorKind::OutOfMemory, PartsStop::Memory),
+    for (row, kind, wanted) in [
+        (
+            "no permission",
+            ErrorKind::PermissionDenied,
+            PartsStop::Read,
+        ),
+        ("no memory", ErrorKind::OutOfMemory, PartsStop::Memory),
     ] {
         // Bad lines do not come before the failure: all bytes are read first.
-        for left in [b"a\nb\n".as_slice(), b"b\na\n", b""] {
+        for (lines, left) in [
+            ("two places", b"a\nb\n".as_slice()),
+            ("places out of order", b"b\na\n"),
+            ("nothing", b""),
+        ] {
             let stop = read_parts(alloc, &mut Failing { left, kind }).err();
-            assert_eq!(rt; stop, Some(wanted));
+            assert_eq!(rt; stop, Some(wanted), "{row} after {lines}");
         }
     }
     Ok(())

@@ -1,3 +1,4 @@
+//! Codes, the text of places and lines, and output that stops.
 use crate::common::store::place_of;
 use ocfl_report::laws::line_reads_back;
 use ocfl_report::{

@@ -1,3 +1,4 @@
+//! Reports, and the separators that cut them into parts of about one cost.
 use super::{Failing, place_of};
 use ocfl_parts::{SplitStop, put_parts, split_by};
 use std::alloc::Global;
@@ -139,13 +140,22 @@ fn separators_have_a_limit(rt: HostRuntime) -> Result<(), Fail> {
 #[test]
 fn failing_reports_are_told(rt: HostRuntime) -> Result<(), Fail> {
     let alloc = rt.alloc();
-    for (kind, wanted) in [
-        (ErrorKind::PermissionDenied, SplitStop::Read),
-        (ErrorKind::OutOfMemory, SplitStop::Memory),
+    for (row, kind, wanted) in [
+        (
+            "no permission",
+            ErrorKind::PermissionDenied,
+            SplitStop::Read,
+        ),
+        ("no memory", ErrorKind::OutOfMemory, SplitStop::Memory),
     ] {
-        for left in [b"ok\ta\t3\n".as_slice(), b"ok\ta\t3\nok", b""] {
+        for (lines, left) in [
+            ("a line", b"ok\ta\t3\n".as_slice()),
+            ("a line and a half", b"ok\ta\t3\nok"),
+            ("nothing", b""),
+        ] {
             let mut reader = BufReader::new(alloc, Failing { left, kind })?;
-            assert_eq!(rt; split_by(alloc, &mut reader, 1).err(), Some(wanted));
+            let stop = split_by(alloc, &mut reader, 1).err();
+            assert_eq!(rt; stop, Some(wanted), "{row} after {lines}");
         }
     }
     // A line that is bad comes before the failure behind it.

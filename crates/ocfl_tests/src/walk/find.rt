@@ -205,7 +205,7 @@ fn a_directory_at_depth_128_is_not_listed(rt: HostRuntime) -> Result<(), Fail> {
         put_dir(alloc, &mut store, text.as_str())?;
         let want = format!(in alloc; "{code}|{text}|-\n")?;
         expect(&rt, &mut store, &[(text.as_str(), want.as_str())])?;
-        assert_eq!(rt; store.listings().len(), 128);
+        assert_eq!(rt; store.listings().len(), 128, "{count} names");
     }
     Ok(())
 }

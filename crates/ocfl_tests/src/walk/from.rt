@@ -93,9 +93,9 @@ fn nothing_is_looked_at_where_the_end_comes_first(rt: HostRuntime) -> Result<(),
         under: Place::root(alloc),
         below: Some(place_of(alloc, "o2")?),
     };
-    for _ in 0..2 {
+    for row in ["the first call", "the second call"] {
         let found = walk.next_within(&mut store, &end).map_err(said)?;
-        assert!(&rt; found.is_none());
+        assert!(&rt; found.is_none(), "{row}");
     }
     assert_eq!(&rt; listed_from(alloc, &store, 0)?.as_str(), ";");
     expect_inventories(&rt, &store, "")?;

@@ -1,0 +1,137 @@
+"""The lists that pages have, compared with what they list: crates, libraries, trials, definitions,
+laws, edits and tests."""
+import glob
+import os
+import re
+import subprocess
+import sys
+
+from gate import collection, names
+from gate.commands import fail
+from gate.repository import TOP, crates, folder_of
+
+DEFINITION = re.compile(r"(?m)^(?:pub )?(?:abbrev|record|data|unfoldable) (?:pub )?(\w+)")
+LAW = re.compile(r"(?m)^pub(?:\(crate\))? fn (\w+)")
+TYPE = re.compile(r"(?m)^pub (?:struct|enum|trait|type) (\w+)")
+# The names in a cell of a table, without the modules before them.
+NAMED = re.compile(r"`(?:\w+::)*(\w+)`")
+
+
+def looked_at():
+    """Says which lists differ from the tree, as one check."""
+    faults = [*of_crates(), *of_definitions(), *of_laws(), *of_planted()]
+    for fault in faults:
+        fail(fault)
+    return int(not faults), len(faults)
+
+
+def differing(what, page, listed, there):
+    """What one of the two lacks."""
+    return (["%s: %s has the %s, which is not there" % (it, page, what)
+             for it in sorted(set(listed) - set(there))]
+            + ["%s: %s lacks the %s" % (it, page, what)
+               for it in sorted(set(there) - set(listed))])
+
+
+def of_crates():
+    """The tables of crates and of trials, and the libraries that are trusted."""
+    lines = crates().values()
+    stands_on = {word for line in lines for word in line.split(":")[1].split()}
+    trials = {os.path.basename(it) for it in glob.glob(os.path.join(TOP, "trials", "*.py"))}
+    named = re.findall(r"`([\w.]+)`", " ".join(row[0] for row in rows(
+        "docs/MAP.md", "Crates, lowest first")))
+    trusted = NAMED.findall(text_of("README.md").split("**Trusted**")[1].split(":")[1].split(".")[0])
+    return (differing("crate", "README.md", first_names("README.md", "Crate by crate"), crates())
+            + differing("crate", "docs/MAP.md", [it for it in named if not it.endswith(".py")],
+                        crates())
+            + differing("trial", "docs/MAP.md", [it for it in named if it.endswith(".py")],
+                        trials - {"common.py"})
+            + differing("library", "README.md", trusted, stands_on - set(crates())))
+
+
+def of_definitions():
+    """The definitions to believe, and those of the tables of definitions."""
+    command = [sys.executable, "-B", os.path.join(TOP, "docs", "definitions"),
+               "ocfl_scrub/cycling"]
+    cited = re.findall(r"(?m)^(ocfl_\w+): (.*)$",
+                       subprocess.run(command, stdout=subprocess.PIPE, text=True).stdout)
+    page, faults, listed = "docs/ASSURANCE.md", [], []
+    for row in rows(page, "The definitions to believe"):
+        crate = NAMED.findall(row[0])
+        listed += ["%s %s" % (*crate, file) for file in NAMED.findall(row[1])]
+        faults += ["%s %s: %s names it, and there is no such file" % (*crate, file, page)
+                   for file in NAMED.findall(row[1] + row[2])
+                   if not os.path.exists(specs_of(*crate, file))]
+    there = ["%s %s" % (crate, file) for crate, files in cited for file in files.split()]
+    faults += differing("definitions that `cycle` cites", page, listed, there)
+    for row in rows("docs/MAP.md", "Where each rule is defined"):
+        crate, *files = NAMED.findall(row[2])
+        faults += undefined("docs/MAP.md", crate, files, NAMED.findall(row[1]))
+    for row in rows("docs/TRIED.md", "Definitions, one by one"):
+        crate, file, name = NAMED.findall(row[0])
+        faults += undefined("docs/TRIED.md", crate, [file], [name])
+    return faults
+
+
+def undefined(page, crate, files, wanted):
+    """The names that none of these files of a crate defines, and no source of it either."""
+    places = [specs_of(crate, file) for file in files]
+    sources = glob.glob(os.path.join(folder_of(crate), "src", "**", "*.rt"), recursive=True)
+    known = {name for it in places if os.path.exists(it) for name in DEFINITION.findall(text_of(it))}
+    known.update(name for it in sources for name in TYPE.findall(text_of(it)))
+    return ["%s %s: %s names %s, which is not defined there" % (crate, " ".join(files), page, name)
+            for name in wanted if name not in known]
+
+
+def of_laws():
+    """The table of laws."""
+    page, title = "docs/ASSURANCE.md", "Laws of the definitions"
+    there = [name for crate in crates() for file in ("laws.rt", "records.rt")
+             for name in laws_in(os.path.join(folder_of(crate), "src", file))]
+    listed = [name for row in rows(page, title) for name in NAMED.findall(row[1])
+              if name not in (*crates(), "records")]
+    return differing("law", page, listed, there)
+
+
+def laws_in(file):
+    return LAW.findall(text_of(file)) if os.path.exists(file) else []
+
+
+def of_planted():
+    """The edits and the tests that the tables of planted faults name."""
+    page, tests = "docs/TRIED.md", set().union(*names.found())
+    edits = {collection.name_of(edit) for edit in collection.every_edit()}
+    named = [name for row in rows(page, "Wrong readings of definitions")
+             for name in NAMED.findall(row[2])]
+    named += [name for row in rows(page, "Definitions, one by one")
+              for name in NAMED.findall(row[1])]
+    faults = ["%s: %s has the edit, which is not there" % (name, page)
+              for name in named if name not in edits]
+    for row in rows(page, "Wrong bodies that only tests refuse"):
+        for path in re.findall(r"`([\w:./]+)`", row[1]):
+            last = path.rsplit("::", 1)[-1]
+            if not (last in tests or os.path.exists(os.path.join(TOP, path))):
+                faults.append("%s: %s has the test, which is not there" % (path, page))
+    return faults
+
+
+def rows(page, title):
+    """The rows of the first table below a title, each as its cells."""
+    found, body = [], re.split(r"(?m)^#+ %s\n" % re.escape(title), text_of(page))[1]
+    for line in body.split("\n#")[0].split("\n"):
+        if line.startswith("|") and not set(line) <= set("|- "):
+            found.append([cell.strip() for cell in line.strip("|").split("|")])
+    return found[1:]
+
+
+def first_names(page, title):
+    return [name for row in rows(page, title) for name in NAMED.findall(row[0])]
+
+
+def specs_of(crate, file):
+    return os.path.join(folder_of(crate), "specs", file + ".antt")
+
+
+def text_of(path):
+    with open(os.path.join(TOP, path), encoding="utf-8") as file:
+        return file.read()

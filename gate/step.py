@@ -34,8 +34,9 @@ def edit(rt, crate, file):
     with tempfile.TemporaryDirectory() as room:
         kept = os.path.join(room, "kept")
         shutil.copytree(os.path.join(crate.folder, KEPT), kept, copy_function=os.link)
-        refused, text = rt.must_fail(crate, file, ["--jobs", "1"], kept)
-    return refused, text.split(": ", 1)[-1]
+        verdict, text = rt.must_fail(crate, file, ["--jobs", "1"], kept)
+    # `rt` gives a word for each verdict, of which these two are refusals.
+    return verdict in (rt.REFUSED, rt.AT_LIMIT), text.split(": ", 1)[-1]
 
 
 def main():

@@ -17,7 +17,8 @@ from gate.repository import TOP, below, copy_to, crates
 # How long the proof of a crate and the check of an edit may take, in seconds.
 PROOF_LIMIT, EDIT_LIMIT = 7200, 900
 # What `rt` says of a refusal that says little of a contract.
-NAMES_ALONE = "only because a proof file names what the edit took away"
+LITTLE = ("only because a proof file names what the edit took away",
+          "only by a limit of the prover")
 PRINTING = threading.Lock()
 # What a step gave: whether it went well, what is to be said of it, and its processor seconds.
 Step = collections.namedtuple("Step", "well text seconds")
@@ -108,7 +109,8 @@ def tell(given, seconds):
             refused = sum(step.well for step in tried)
             say("%s: %d of %d edits refused in %.1f processor minutes, and %.1f of proofs"
                 % (crate, refused, len(tried), *minutes))
-    little = sum(NAMES_ALONE in step.text for step in given.values())
-    if little:
-        say("%d edits were refused %s" % (little, NAMES_ALONE))
+    for why in LITTLE:
+        little = sum(why in step.text for step in given.values())
+        if little:
+            say("%d edits were refused %s" % (little, why))
     say("the edits took %.1f minutes" % (seconds / 60))

@@ -101,12 +101,13 @@ def of_planted():
     """The edits and the tests that the tables of planted faults name."""
     page, tests = "docs/TRIED.md", set().union(*names.found())
     edits = {collection.name_of(edit) for edit in collection.every_edit()}
-    named = [name for row in rows(page, "Wrong readings of definitions")
-             for name in NAMED.findall(row[2])]
-    named += [name for row in rows(page, "Definitions, one by one")
-              for name in NAMED.findall(row[1])]
-    faults = ["%s: %s has the edit, which is not there" % (name, page)
-              for name in named if name not in edits]
+    tried = {collection.name_of(entry.edit) for entry in collection.listed()}
+    faults = ["%s: %s says that the gate tries it" % (name, page)
+              for row in rows(page, "Wrong readings of definitions")
+              for name in NAMED.findall(row[2]) if name not in tried]
+    faults += ["%s: %s has the edit, which is not there" % (name, page)
+               for row in rows(page, "Definitions, one by one")
+               for name in NAMED.findall(row[1]) if name not in edits]
     for row in rows(page, "Wrong bodies that only tests refuse"):
         for path in re.findall(r"`([\w:./]+)`", row[1]):
             last = path.rsplit("::", 1)[-1]

@@ -38,7 +38,7 @@ type Judged = (
     usize,
 );
 
-const JUDGED: [Judged; 9] = [
+const JUDGED: [Judged; 10] = [
     (
         "a right file",
         LISTS_F,
@@ -71,6 +71,15 @@ const JUDGED: [Judged; 9] = [
         "a file that fixity alone names",
         "",
         r#""md5":{"ABC_MD5":["v1/content/f"]}"#,
+        &[(FILE, "abc")],
+        "E023|o/v1/content/f|-\n",
+        4,
+        1,
+    ),
+    (
+        "a file that sha512/256 alone names",
+        "",
+        r#""sha512/256":{"ABC_SHA512/256":["v1/content/f"]}"#,
         &[(FILE, "abc")],
         "E023|o/v1/content/f|-\n",
         4,

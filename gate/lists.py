@@ -40,13 +40,13 @@ def of_crates():
     trials = {os.path.basename(it) for it in glob.glob(os.path.join(TOP, "trials", "*.py"))}
     named = re.findall(r"`([\w.]+)`", " ".join(row[0] for row in rows(
         "docs/MAP.md", "Crates, lowest first")))
-    trusted = NAMED.findall(text_of("README.md").split("**Trusted**")[1].split(":")[1].split(".")[0])
+    trust = text_of("README.md").split("**Trusted**")[1].split(":")[1].split(".")[0]
     return (differing("crate", "README.md", first_names("README.md", "Crate by crate"), crates())
             + differing("crate", "docs/MAP.md", [it for it in named if not it.endswith(".py")],
                         crates())
             + differing("trial", "docs/MAP.md", [it for it in named if it.endswith(".py")],
                         trials - {"common.py"})
-            + differing("library", "README.md", trusted, stands_on - set(crates())))
+            + differing("library", "README.md", NAMED.findall(trust), stands_on - set(crates())))
 
 
 def of_definitions():
@@ -75,9 +75,9 @@ def of_definitions():
 
 def undefined(page, crate, files, wanted):
     """The names that none of these files of a crate defines, and no source of it either."""
-    places = [specs_of(crate, file) for file in files]
+    places = [it for it in (specs_of(crate, file) for file in files) if os.path.exists(it)]
     sources = glob.glob(os.path.join(folder_of(crate), "src", "**", "*.rt"), recursive=True)
-    known = {name for it in places if os.path.exists(it) for name in DEFINITION.findall(text_of(it))}
+    known = {name for it in places for name in DEFINITION.findall(text_of(it))}
     known.update(name for it in sources for name in TYPE.findall(text_of(it)))
     return ["%s %s: %s names %s, which is not defined there" % (crate, " ".join(files), page, name)
             for name in wanted if name not in known]

@@ -1,0 +1,104 @@
+-- One directory is listed, and the directories right below it are taken.
+use Rattle.std.proofs.Common.{◌≡◌, ℕ, ◌+◌, ◌<◌, List, [], ◌∷◌, ◌++◌, refl, sym, ◌∙◌, ap, subst, true, false, Bool, length, append_assoc, IsPermutation}
+use Rattle.std.specs.Prelude.{cond}
+use Rattle.std.specs.List.Sorted.{IsSorted}
+use Rattle.std.proofs.lemmas.List.{append-nil}
+use Rattle.ocfl_tree.specs.Place.{Place, text_cmp}
+use Rattle.ocfl_tree.specs.StorageRoot.{StorageRoot}
+use Rattle.ocfl_tree.specs.Store.{Store, Did}
+use Rattle.ocfl_tree.specs.Listing.{IsListing, IsOrdinary}
+use Rattle.ocfl_tree.specs.declared.store.Entry.{Entry}
+use Rattle.ocfl_tree.specs.declared.store.Opening.{Opening}
+use Rattle.ocfl_tree.proofs.Orders.{true_not_false}
+use Rattle.ocfl_tree.proofs.Stores.{did_then}
+use Rattle.ocfl_item.specs.Auditing.{FailedAt, in_listing, in_opening}
+use Rattle.ocfl_item.specs.Looking.{failures_by}
+use Rattle.ocfl_item.specs.Ways.{is_listable, Enters, Stops}
+use Rattle.ocfl_item.specs.declared.fault.Fault.{Fault}
+use Rattle.ocfl_item.specs.declared.fault.Fault.TheVariants as fault
+use Rattle.ocfl_item.proofs.LooksCalls.{did_nothing, memory_no_store}
+use Rattle.ocfl_split.specs.Levels.{leads_on, directories_in, directories_below}
+use Rattle.ocfl_split.specs.Splitting.{ListsAll, ListsStop}
+use Rattle.ocfl_split.specs.Internal.Directories.{directories_among, AddsAll, AddsBelow}
+use Rattle.ocfl_split.proofs.Entries.{among_tree, among_below, names_rise}
+
+-- ---- calls
+
+nothing_ends : {A : Type 0} (before : List A) (x : A) → [] ≡ before ++ x ∷ [] → ⊥
+nothing_ends [] x e = cc
+nothing_ends (y ∷ before) x e = cc
+
+failed_last : (root : StorageRoot) (ls : List Place) (q : Place) → FailedAt root ls [] q → (before : List Place) × (ls ≡ before ++ q ∷ [])
+failed_last root ls q (in_listing before e read) = (before, e)
+failed_last root ls q (in_opening before given e) = absurd (nothing_ends before _ e)
+
+module _ (root : StorageRoot) where
+  pub listing_stops : (s t : Store) (d p : Place) (why : Fault) → p ≡ d → Stops root s t (p ∷ []) [] why → ListsStop root s t (d ∷ []) why
+  listing_stops s t d p why same h = subst (λ x. ListsStop root s t (x ∷ []) why) same (record {
+    over = h.goes.over;
+    listings = h.goes.listings;
+    did = h.goes.did;
+    front = h.goes.listed;
+    last = λ q e. failed_last root h.goes.listings q (h.store q e).1;
+  })
+
+  pub lists_none : (s : Store) → s.tree ≡ root → ListsAll root s s []
+  lists_none s over = record { over = over; did = did_nothing s }
+
+  -- memory was refused after these were listed
+  pub memory_stops : (s t : Store) (ds more : List Place) → ListsAll root s t ds → ListsStop root s t (ds ++ more) fault.Memory
+  memory_stops s t ds more h = record { over = h.over; listings = ds; did = h.did; front = (more, refl); last = λ q e. absurd (memory_no_store q e) }
+
+  pub memory_at_end : (s t : Store) (ds : List Place) → ListsAll root s t ds → ListsStop root s t ds fault.Memory
+  memory_at_end s t ds h = subst (λ xs. ListsStop root s t xs fault.Memory) (append-nil ds) (memory_stops s t ds [] h)
+
+  pub lists_on : (s t u : Store) (ds es : List Place) → ListsAll root s t ds → ListsAll root t u es → ListsAll root s u (ds ++ es)
+  lists_on s t u ds es h k = record { over = h.over; did = did_then s t u [] [] ds es 0 h.did k.did }
+
+  pub stops_on : (s t u : Store) (ds es : List Place) (why : Fault) → ListsAll root s t ds → ListsStop root t u es why → ListsStop root s u (ds ++ es) why
+  stops_on s t u ds es why h k = record {
+    over = h.over;
+    listings = ds ++ k.listings;
+    did = did_then s t u [] [] ds k.listings (failures_by why) h.did k.did;
+    front = (k.front.0, ap (λ xs. ds ++ xs) k.front.1 ∙ sym (append_assoc ds k.listings k.front.0));
+    last = λ q e. let l = k.last q e in (ds ++ l.0, ap (λ xs. ds ++ xs) l.1 ∙ sym (append_assoc ds l.0 (q ∷ [])));
+  }
+
+  pub stops_before : (s t : Store) (es more : List Place) (why : Fault) → ListsStop root s t es why → ListsStop root s t (es ++ more) why
+  stops_before s t es more why k = record {
+    over = k.over;
+    listings = k.listings;
+    did = k.did;
+    front = (k.front.0 ++ more, ap (λ xs. xs ++ more) k.front.1 ∙ append_assoc k.listings k.front.0 more);
+    last = k.last;
+  }
+
+  pub over_after : (s t : Store) (ds : List Place) → ListsAll root s t ds → t.tree ≡ root
+  over_after s t ds h = h.did.tree ∙ h.over
+
+  -- ---- one directory
+
+  pub entered : (s t : Store) (d p e : Place) (es : List Entry) → s.tree ≡ root → p ≡ d → Enters root s t p e es → ListsAll root s t (d ∷ [])
+  entered s t d p e es over same h = subst (λ x. ListsAll root s t (x ∷ [])) same (record { over = over; did = h.did })
+
+  led : (d : Place) (b : Bool) → b ≡ leads_on root d → directories_below root d ≡ cond b (directories_in root d) []
+  led d b h = ap (λ x. cond x (directories_in root d) []) (sym h)
+
+  leads_at : (s t : Store) (d p e : Place) (es : List Entry) (b : Bool) → p ≡ d → Enters root s t p e es → IsOrdinary es
+      → (is_listable root e ≡ true → IsOrdinary es → IsListing root e es → b ≡ leads_on root e) → b ≡ leads_on root d
+  leads_at s t d p e es b same h ordinary k =
+      let here : e ≡ p = h.is in
+      k (subst (λ x. is_listable root x ≡ true) (sym here) h.listable) ordinary (subst (λ x. IsListing root x es) (sym here) h.listing) ∙ ap (leads_on root) (here ∙ same)
+
+  pub adds_all : (s t : Store) (d p e : Place) (es fs : List Entry) (room : ℕ) (old new : List Place) (b fits : Bool) → p ≡ d → Enters root s t p e es → IsOrdinary es
+      → (is_listable root e ≡ true → IsOrdinary es → IsListing root e es → b ≡ leads_on root e) → b ≡ true → IsPermutation es fs → IsSorted (λ x y. text_cmp x.name y.name) fs
+      → (fits ≡ true → new ≡ old ++ directories_among e fs) → (fits ≡ false → room < length (old ++ directories_among e fs)) → AddsAll root d room old new fits
+  adds_all s t d p e es fs room old new b fits same h ordinary k on moved sorted added many =
+      let here : e ≡ p = h.is in
+      let below : directories_below root d ≡ directories_in root d = led d b (leads_at s t d p e es b same h ordinary k) ∙ ap (λ x. cond x (directories_in root d) []) on in
+      let found : directories_among e fs ≡ directories_in root e = among_tree root e es fs ordinary (subst (λ x. IsListing root x es) (sym here) h.listing) moved sorted in
+      let is : directories_among e fs ≡ directories_below root d = found ∙ ap (directories_in root) (here ∙ same) ∙ sym below in
+      record {
+        added = λ f. added f ∙ ap (λ xs. old ++ xs) is;
+        many = λ f. subst (λ xs. room < length (old ++ xs)) is (many f);
+      }

@@ -1,0 +1,76 @@
+-- Worked cases: which directories split a storage root, and what is listed for it.
+use Rattle.std.proofs.Common.{◌≡◌, ℕ, List, [], ◌∷◌, ◌++◌, codes, map, refl}
+use Prim.Native.String.{String}
+use Rattle.ocfl_tree.specs.StorageRoot.{StorageRoot}
+use Rattle.ocfl_audit.proofs.CaseTrees.{place, text_at, folder, link}
+use Rattle.ocfl_split.specs.Levels.{level}
+use Rattle.ocfl_split.specs.Splitting.{split_level, level_from, separators_of, listed_for, listed_from}
+
+abbrev places : List String → List (List (List ℕ))
+places ts = map place ts
+
+-- a storage root of version 1.1, an object, and a directory in one
+abbrev known_root : StorageRoot
+known_root = text_at "0=ocfl_1.1" "ocfl_1.1\n" ∷ []
+
+abbrev object_at : String → String → StorageRoot
+object_at o declaration = folder o ∷ text_at declaration "ocfl_object_1.1\n" ∷ []
+
+-- three objects in the storage root
+abbrev three : StorageRoot
+three = known_root ++ object_at "o1" "o1/0=ocfl_object_1.1" ++ object_at "o2" "o2/0=ocfl_object_1.1" ++ folder "o2/v1" ∷ object_at "o3" "o3/0=ocfl_object_1.1"
+
+three_levels : (level three 0 ≡ [] ∷ []) × (level three 1 ≡ places ("o1" ∷ "o2" ∷ "o3" ∷ [])) × (level three 2 ≡ [])
+three_levels = (refl, refl, refl)
+
+three_by_count : (separators_of three 0 ≡ []) × (separators_of three 1 ≡ []) × (separators_of three 2 ≡ places ("o2" ∷ [])) × (separators_of three 3 ≡ places ("o2" ∷ "o3" ∷ []))
+unfolding split_level level_from
+three_by_count = (refl, refl, refl, refl)
+
+-- more than there are objects: each begins a part, but the first
+three_by_more : (separators_of three 4 ≡ places ("o2" ∷ "o3" ∷ [])) × (separators_of three 10 ≡ places ("o2" ∷ "o3" ∷ []))
+unfolding split_level level_from
+three_by_more = (refl, refl)
+
+-- nothing is listed for one part; objects are listed where a deeper level is looked for
+three_listed : (listed_for three 1 ≡ []) × (listed_for three 3 ≡ [] ∷ []) × (listed_for three 4 ≡ [] ∷ places ("o1" ∷ "o2" ∷ "o3" ∷ []))
+unfolding listed_for listed_from
+three_listed = (refl, refl, refl)
+
+-- objects one level further down
+abbrev two_levels : StorageRoot
+two_levels = known_root ++ folder "a" ∷ object_at "a/o1" "a/o1/0=ocfl_object_1.1" ++ object_at "a/o2" "a/o2/0=ocfl_object_1.1" ++ folder "b" ∷ object_at "b/o3" "b/o3/0=ocfl_object_1.1"
+
+two_levels_are : (level two_levels 1 ≡ places ("a" ∷ "b" ∷ [])) × (level two_levels 2 ≡ places ("a/o1" ∷ "a/o2" ∷ "b/o3" ∷ [])) × (level two_levels 3 ≡ [])
+two_levels_are = (refl, refl, refl)
+
+two_levels_by_count : (separators_of two_levels 2 ≡ places ("b" ∷ [])) × (separators_of two_levels 3 ≡ places ("a/o2" ∷ "b/o3" ∷ [])) × (separators_of two_levels 4 ≡ places ("a/o2" ∷ "b/o3" ∷ []))
+unfolding split_level level_from
+two_levels_by_count = (refl, refl, refl)
+
+two_levels_listed : (listed_for two_levels 2 ≡ [] ∷ []) × (listed_for two_levels 3 ≡ [] ∷ places ("a" ∷ "b" ∷ [])) × (listed_for two_levels 4 ≡ [] ∷ places ("a" ∷ "b" ∷ "a/o1" ∷ "a/o2" ∷ "b/o3" ∷ []))
+unfolding listed_for listed_from
+two_levels_listed = (refl, refl, refl)
+
+-- an object beside a directory: the level below has the directory's objects alone
+abbrev uneven : StorageRoot
+uneven = known_root ++ folder "a" ∷ object_at "a/o1" "a/o1/0=ocfl_object_1.1" ++ object_at "a/o2" "a/o2/0=ocfl_object_1.1" ++ object_at "a/o3" "a/o3/0=ocfl_object_1.1" ++ object_at "o" "o/0=ocfl_object_1.1" ++ folder "o/v1" ∷ []
+
+uneven_by_count : (separators_of uneven 2 ≡ places ("o" ∷ [])) × (separators_of uneven 3 ≡ places ("a/o2" ∷ "a/o3" ∷ []))
+unfolding split_level level_from
+uneven_by_count = (refl, refl)
+
+-- no directories; what is no directory; extensions; a storage root that declares nothing
+nothing_there : (separators_of known_root 2 ≡ []) × (listed_for known_root 2 ≡ [] ∷ [])
+unfolding split_level level_from listed_for listed_from
+nothing_there = (refl, refl)
+
+abbrev beside : StorageRoot
+beside = known_root ++ folder "a" ∷ folder "extensions" ∷ folder "extensions/x" ∷ text_at "f" "" ∷ link "l" ∷ folder "b" ∷ folder "b/extensions" ∷ []
+
+beside_are : (level beside 1 ≡ places ("a" ∷ "b" ∷ [])) × (level beside 2 ≡ places ("b/extensions" ∷ []))
+beside_are = (refl, refl)
+
+undeclared : separators_of (folder "a" ∷ folder "b" ∷ []) 2 ≡ []
+unfolding split_level level_from
+undeclared = refl

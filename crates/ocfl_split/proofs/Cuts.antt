@@ -1,0 +1,89 @@
+-- The directories at which a level is cut.
+use Rattle.std.proofs.Common.{◌≡◌, ℕ, zero, suc, ◌+◌, ◌-◌, ◌*◌, ◌/◌, ◌<◌, ◌≤◌, List, [], ◌∷◌, ◌++◌, Some, refl, sym, ◌∙◌, ap, subst, length, drop, get_or, arith, append_assoc}
+use Rattle.std.specs.Prelude.{slice_get}
+use Rattle.std.specs.Option.{option_to_list}
+use Rattle.std.proofs.Math.Nat.{div-mul-le_self, mul-le-mul_right}
+use Rattle.std.proofs.Math.Seq.{drop-nil}
+use Rattle.std.proofs.lemmas.Nat.{div_below, le-div}
+use Rattle.std.proofs.lemmas.Option.{slice_get-get_or}
+use Rattle.ocfl_tree.specs.Place.{Place, place_cmp}
+use Rattle.ocfl_tree.specs.Ascending.{IsAscending, IsBeforeAll}
+use Rattle.ocfl_tree.proofs.Lists.{drop_item}
+use Rattle.ocfl_split.specs.Splitting.{firsts}
+
+-- ---- where the parts begin
+
+-- part i of m begins within n directories
+pub index_within : (i m n : ℕ) → i < m → m ≤ n → i * n / m < n
+index_within i m n l h =
+    let some : suc i ≤ m = omega arith in
+    div_below (i * n) m n (omega arith) (omega (arith, mul-le-mul_right n some))
+
+-- and before the next part does
+pub index_grows : (i m n : ℕ) → 0 < m → m ≤ n → i * n / m + 1 ≤ (i + 1) * n / m
+index_grows i m n l h = le-div (i * n / m + 1) ((i + 1) * n) m l (omega (arith, div-mul-le_self (i * n) m))
+
+-- ---- fewer of some places in order
+
+before_drop : (x : Place) (k : ℕ) (ys : List Place) → IsBeforeAll place_cmp x ys → IsBeforeAll place_cmp x (drop k ys)
+before_drop x zero ys h = h
+before_drop x (suc k) [] h = tt
+before_drop x (suc k) (y ∷ ys) h = before_drop x k ys h.1
+
+ascend_drop : (k : ℕ) (ys : List Place) → IsAscending place_cmp ys → IsAscending place_cmp (drop k ys)
+ascend_drop zero ys h = h
+ascend_drop (suc k) [] h = tt
+ascend_drop (suc k) (y ∷ ys) h = ascend_drop k ys h.1
+
+pub begins : (xs ys : List Place) (k : ℕ) → xs ≡ [] → IsAscending place_cmp ys → IsAscending place_cmp (xs ++ drop k ys)
+begins xs ys k e h = subst (λ zs. IsAscending place_cmp (zs ++ drop k ys)) (sym e) (ascend_drop k ys h)
+
+before_both : (x : Place) (k : ℕ) (xs ys : List Place) → IsBeforeAll place_cmp x (xs ++ ys) → IsBeforeAll place_cmp x (xs ++ drop k ys)
+before_both x k [] ys h = before_drop x k ys h
+before_both x k (y ∷ xs) ys h = (h.0, before_both x k xs ys h.1)
+
+ascend_both : (k : ℕ) (xs ys : List Place) → IsAscending place_cmp (xs ++ ys) → IsAscending place_cmp (xs ++ drop k ys)
+ascend_both k [] ys h = ascend_drop k ys h
+ascend_both k (x ∷ xs) ys h = (before_both x k xs ys h.0, ascend_both k xs ys h.1)
+
+before_one : (x p : Place) (xs ys : List Place) → IsBeforeAll place_cmp x (xs ++ p ∷ ys) → IsBeforeAll place_cmp x (xs ++ p ∷ [])
+before_one x p [] ys h = (h.0, tt)
+before_one x p (y ∷ xs) ys h = (h.0, before_one x p xs ys h.1)
+
+ascend_one : (p : Place) (xs ys : List Place) → IsAscending place_cmp (xs ++ p ∷ ys) → IsAscending place_cmp (xs ++ p ∷ [])
+ascend_one p [] ys h = (tt, tt)
+ascend_one p (x ∷ xs) ys h = (before_one x p xs ys h.0, ascend_one p xs ys h.1)
+
+-- ---- one part more
+
+module _ (ds xs : List Place) (j : ℕ) (p : Place) (l : j < length ds) (is : p ≡ get_or ds j p) (h : IsAscending place_cmp (xs ++ drop j ds)) where
+  here : IsAscending place_cmp (xs ++ p ∷ drop (j + 1) ds)
+  here = subst (λ ys. IsAscending place_cmp (xs ++ ys)) (drop_item ds j p l is) h
+
+  pub cut_above : IsAscending place_cmp (xs ++ p ∷ [])
+  cut_above = ascend_one p xs (drop (j + 1) ds) here
+
+  pub cut_on : (ys : List Place) (k : ℕ) → ys ≡ xs ++ p ∷ [] → j + 1 ≤ k → IsAscending place_cmp (ys ++ drop k ds)
+  cut_on ys k e m =
+      let rest : IsAscending place_cmp ((xs ++ p ∷ []) ++ drop (j + 1) ds) = subst (IsAscending place_cmp) (sym (append_assoc xs (p ∷ []) (drop (j + 1) ds))) here in
+      let further : drop (k - (j + 1)) (drop (j + 1) ds) ≡ drop k ds = dropped (k - (j + 1)) (j + 1) ds ∙ ap (λ i. drop i ds) (omega (arith, m)) in
+      subst (λ zs. IsAscending place_cmp (zs ++ drop k ds)) (sym e) (subst (λ zs. IsAscending place_cmp ((xs ++ p ∷ []) ++ zs)) further (ascend_both (k - (j + 1)) (xs ++ p ∷ []) (drop (j + 1) ds) rest))
+    where
+      dropped : (a b : ℕ) (zs : List Place) → drop a (drop b zs) ≡ drop (a + b) zs
+      dropped a zero zs = ap (λ i. drop i zs) (omega arith)
+      dropped a (suc b) [] = drop-nil a ∙ sym (drop-nil (a + suc b))
+      dropped a (suc b) (z ∷ zs) =
+          let more : a + suc b ≡ suc (a + b) = omega arith in
+          dropped a b zs ∙ ap (λ i. drop i (z ∷ zs)) (sym more)
+
+pub got : (ds : List Place) (j : ℕ) (p : Place) → j < length ds → p ≡ get_or ds j p → slice_get ds j ≡ Some p
+got ds j p l is = slice_get-get_or ds j p l ∙ ap Some (sym is)
+
+pub firsts_more : (ds xs ys : List Place) (m k : ℕ) (p : Place) → 1 ≤ k → slice_get ds (k * length ds / m) ≡ Some p → xs ≡ firsts ds m (k - 1) → ys ≡ xs ++ p ∷ [] → ys ≡ firsts ds m (k + 1 - 1)
+firsts_more ds xs ys m zero p l g e f = absurd (omega (arith, l))
+firsts_more ds xs ys m (suc k) p l g e f =
+    let one : suc k - 1 ≡ k = omega arith in
+    let two : suc k + 1 - 1 ≡ suc k = omega arith in
+    let same : suc k ≡ k + 1 = omega arith in
+    let found : slice_get ds ((k + 1) * length ds / m) ≡ Some p = subst (λ i. slice_get ds (i * length ds / m) ≡ Some p) same g in
+    f ∙ ap (λ zs. zs ++ p ∷ []) (e ∙ ap (firsts ds m) one) ∙ ap (λ o. firsts ds m k ++ option_to_list o) (sym found) ∙ ap (firsts ds m) (sym two)

@@ -1,0 +1,220 @@
+-- From a listing to the directories of the hierarchy right below its place.
+use Rattle.std.proofs.Common.{◌≡◌, ◌⊎◌, inl, inr, ℕ, zero, suc, ◌+◌, ◌<◌, ◌≤◌, List, [], ◌∷◌, ◌++◌, refl, sym, ◌∙◌, ap, subst, true, false, Bool, Option, Some, None, arith, length, map, filter, drop, get_or, All, IsPermutation}
+use Rattle.std.specs.Prelude.{cond, not, ◌&&◌, ◌↔◌, option_map, filter_map, slice_index_or}
+use Rattle.std.specs.List.{AllByRecursion, IsDistinct}
+use Rattle.std.specs.List.Sorted.{IsSorted}
+use Rattle.std.specs.Ordering.{is_lt}
+use Rattle.std.specs.declared.cmp.Ordering.{Ordering}
+use Rattle.std.specs.declared.cmp.Ordering.TheVariants.{Less, Equal, Greater}
+use Rattle.std.proofs.lemmas.List.Sorted.{All-permutation, IsPermutation-map, IsPermutation-sym}
+use Rattle.std.proofs.lemmas.Map.Keys.{IsDistinct-IsPermutation}
+use Rattle.ocfl_tree.specs.Place.{Place, Text, text_cmp, text_eq, place_cmp, child_name}
+use Rattle.ocfl_tree.specs.Ascending.{IsAscending, IsAmong, IsBeforeAll}
+use Rattle.ocfl_tree.specs.StorageRoot.{StorageRoot, Leaf, file, dir, other, at, is_dir, is_dir_leaf, names_in}
+use Rattle.ocfl_tree.specs.Listing.{AreApart, IsListing, IsOrdinary, kind_at, kind_in, kind_of}
+use Rattle.ocfl_tree.specs.declared.store.Entry.{Entry}
+use Rattle.ocfl_tree.specs.declared.store.Kind.{Kind}
+use Rattle.ocfl_tree.specs.declared.store.Kind.TheVariants as kind
+use Rattle.ocfl_tree.proofs.Bools.{and_first, and_second, and_both}
+use Rattle.ocfl_tree.proofs.Lists.{drop_item}
+use Rattle.ocfl_tree.proofs.Places.{text_eq-Decides, text_eq-same, not_decided, differ}
+use Rattle.ocfl_tree.proofs.Orders.{below_from_greater, place_cmp_total, place_cmp_exact, ascending_unique, ascends_ascending, ascends_filter, among_filter, among_from_filter, among_map}
+use Rattle.ocfl_audit.proofs.AuditExists.{some_not_none}
+use Rattle.ocfl_audit.proofs.BelowLaws.{text_cmp_total, text_cmp_exact, above_name}
+use Rattle.ocfl_audit.proofs.WayLaws.{entry_named}
+use Rattle.ocfl_item.specs.Ways.{is_dir_kind, is_extensions_name}
+use Rattle.ocfl_item.proofs.LooksEntries.{name_there}
+use Rattle.ocfl_item.proofs.LooksZones.{leaf_dir}
+use Rattle.ocfl_split.specs.Levels.{directories_in}
+use Rattle.ocfl_split.specs.Internal.Directories.{is_directory_entry, directories_among, IsBelow}
+
+abbrev names_of : List Entry → List Text
+names_of es = map (λ e. e.name) es
+
+-- ---- by ascending names
+
+distinct_names : (es : List Entry) → AreApart es → IsDistinct text_eq (names_of es)
+unfolding IsDistinct
+distinct_names [] h = tt
+distinct_names (e ∷ es) h = (apart es h.0, distinct_names es h.1)
+  where
+    apart : (fs : List Entry) → kind_in fs e.name ≡ None → AllByRecursion (λ n. text_eq e.name n ≡ false) (names_of fs)
+    apart [] k = tt
+    apart (f ∷ fs) k = by (text_eq f.name e.name) refl k (apart fs)
+      where
+        by : (b : Bool) → text_eq f.name e.name ≡ b → cond b (Some f.kind) (kind_in fs e.name) ≡ None → (kind_in fs e.name ≡ None → AllByRecursion (λ n. text_eq e.name n ≡ false) (names_of fs))
+            → (text_eq e.name f.name ≡ false) × AllByRecursion (λ n. text_eq e.name n ≡ false) (names_of fs)
+        by true t k more = absurd (some_not_none f.kind (sym k))
+        by false t k more = (not_decided _ _ (text_eq-Decides e.name f.name) (λ same. differ _ _ (text_eq-Decides f.name e.name) t (sym same)), more k)
+
+flips : (n m : Text) → text_eq n m ≡ text_eq m n
+flips n m = by (text_eq n m) refl (text_eq m n) refl
+  where
+    by : (a : Bool) → text_eq n m ≡ a → (b : Bool) → text_eq m n ≡ b → a ≡ b
+    by true e true f = refl
+    by false e false f = refl
+    by true e false f = absurd (differ _ _ (text_eq-Decides m n) f (sym ((text_eq-Decides n m).0 e)))
+    by false e true f = absurd (differ _ _ (text_eq-Decides n m) e (sym ((text_eq-Decides m n).0 f)))
+
+below_all : (x y : Text) (ns : List Text) → text_cmp x y ≡ Less → IsBeforeAll text_cmp y ns → IsBeforeAll text_cmp x ns
+below_all x y [] b h = tt
+below_all x y (n ∷ ns) b h = (text_cmp_total.trans x y n b h.0, below_all x y ns b h.1)
+
+rises : (es : List Entry) → IsSorted (λ e f. text_cmp e.name f.name) es → IsDistinct text_eq (names_of es) → IsAscending text_cmp (names_of es)
+unfolding IsDistinct
+rises [] s d = tt
+rises (x ∷ []) s d = (tt, tt)
+rises (x ∷ y ∷ es) s d =
+    let rest : IsAscending text_cmp (names_of (y ∷ es)) = rises (y ∷ es) (later s) d.1 in
+    let below : text_cmp x.name y.name ≡ Less = by (text_cmp y.name x.name) refl (s 0 x (omega arith) (omega arith)) in
+    ((below, below_all x.name y.name (names_of es) below rest.0), rest)
+  where
+    later : IsSorted (λ e f. text_cmp e.name f.name) (x ∷ y ∷ es) → IsSorted (λ e f. text_cmp e.name f.name) (y ∷ es)
+    later s k e l h =
+        let same : suc k + 1 ≡ suc (k + 1) = omega arith in
+        subst (λ j. is_lt (text_cmp (slice_index_or (x ∷ y ∷ es) j e).name (slice_index_or (y ∷ es) k e).name) ≡ false) same (s (suc k) e (omega arith) (omega (arith, h)))
+
+    by : (r : Ordering) → text_cmp y.name x.name ≡ r → is_lt r ≡ false → text_cmp x.name y.name ≡ Less
+    by Less e h = absurd cc
+    by Equal e h = absurd (differ _ _ (text_eq-Decides x.name y.name) d.0.0 (sym (text_cmp_exact y.name x.name e)))
+    by Greater e h = below_from_greater text_cmp_total y.name x.name e
+
+-- a listing that was sorted
+pub names_rise : (es fs : List Entry) → IsOrdinary es → IsPermutation es fs → IsSorted (λ e f. text_cmp e.name f.name) fs → IsAscending text_cmp (names_of fs)
+names_rise es fs ordinary moved sorted =
+    rises fs sorted (IsDistinct-IsPermutation text_eq flips (names_of es) (names_of fs) (IsPermutation-map (λ e. e.name) es fs moved) (distinct_names es ordinary.once))
+
+-- ---- the directories among entries
+
+pub among_from_map : {A B : Type 0} (f : A → B) (xs : List A) (z : B) → IsAmong (map f xs) z → (x : A) × IsAmong xs x × (z ≡ f x)
+among_from_map f [] z i = absurd i
+among_from_map f (x ∷ xs) z (inl e) = (x, inl refl, e)
+among_from_map f (x ∷ xs) z (inr i) = let k = among_from_map f xs z i in (k.0, inr k.1, k.2)
+
+before_names : (d : Place) (x : Text) (ns : List Text) → IsBeforeAll text_cmp x ns → IsBeforeAll place_cmp (d ++ x ∷ []) (map (λ n. d ++ n ∷ []) ns)
+before_names d x [] h = tt
+before_names d x (n ∷ ns) h = (above_name d x n [] [] h.0, before_names d x ns h.1)
+
+pub children_rise : (d : Place) (ns : List Text) → IsAscending text_cmp ns → IsAscending place_cmp (map (λ n. d ++ n ∷ []) ns)
+children_rise d [] h = tt
+children_rise d (n ∷ ns) h = (before_names d n ns h.0, children_rise d ns h.1)
+
+before_kept : (test : Entry → Bool) (d : Place) (p : Place) (es : List Entry) → IsBeforeAll place_cmp p (map (λ e. d ++ e.name ∷ []) es) → IsBeforeAll place_cmp p (map (λ e. d ++ e.name ∷ []) (filter test es))
+before_kept test d p [] h = tt
+before_kept test d p (e ∷ es) h = by (test e) (before_kept test d p es h.1)
+  where
+    by : (b : Bool) → IsBeforeAll place_cmp p (map (λ e. d ++ e.name ∷ []) (filter test es)) → IsBeforeAll place_cmp p (map (λ e. d ++ e.name ∷ []) (cond b (e ∷ filter test es) (filter test es)))
+    by true k = (h.0, k)
+    by false k = k
+
+kept_rise : (test : Entry → Bool) (d : Place) (es : List Entry) → IsAscending place_cmp (map (λ e. d ++ e.name ∷ []) es) → IsAscending place_cmp (map (λ e. d ++ e.name ∷ []) (filter test es))
+kept_rise test d [] h = tt
+kept_rise test d (e ∷ es) h = by (test e) (kept_rise test d es h.1)
+  where
+    by : (b : Bool) → IsAscending place_cmp (map (λ e. d ++ e.name ∷ []) (filter test es)) → IsAscending place_cmp (map (λ e. d ++ e.name ∷ []) (cond b (e ∷ filter test es) (filter test es)))
+    by true k = (before_kept test d (d ++ e.name ∷ []) es h.0, k)
+    by false k = k
+
+entries_rise : (d : Place) (es : List Entry) → IsAscending text_cmp (names_of es) → IsAscending place_cmp (map (λ e. d ++ e.name ∷ []) es)
+entries_rise d [] h = tt
+entries_rise d (e ∷ es) h = (before es h.0, entries_rise d es h.1)
+  where
+    before : (fs : List Entry) → IsBeforeAll text_cmp e.name (names_of fs) → IsBeforeAll place_cmp (d ++ e.name ∷ []) (map (λ f. d ++ f.name ∷ []) fs)
+    before [] k = tt
+    before (f ∷ fs) k = (above_name d e.name f.name [] [] k.0, before fs k.1)
+
+-- they are in order, and right below
+pub among_below : (d : Place) (es : List Entry) → IsAscending text_cmp (names_of es) → IsBelow (d ∷ []) (directories_among d es)
+among_below d es h = record {
+  ascend = kept_rise (is_directory_entry d) d es (entries_rise d es h);
+  under = λ z i.
+    let k = among_from_map (λ e. d ++ e.name ∷ []) (filter (is_directory_entry d) es) z i in
+    (d, inl refl, (k.0.name, k.2));
+}
+
+-- ---- those of the tree
+
+all_among : {A : Type 0} (xs : List A) → All (IsAmong xs) xs
+all_among (x ∷ xs) zero d l = inl refl
+all_among (x ∷ xs) (suc k) d l = inr (all_among xs k d (omega (arith, l)))
+all_among [] k d l = absurd (omega (arith, l))
+
+pub pick_among : {A : Type 0} (P : A → Type 0) (xs : List A) → All P xs → (x : A) → IsAmong xs x → P x
+pick_among P [] h x i = absurd i
+pick_among P (y ∷ xs) h x (inl e) = subst P (sym e) (h 0 y (omega arith))
+pick_among P (y ∷ xs) h x (inr i) = pick_among P xs (λ k d l. h (suc k) d (omega (arith, l))) x i
+
+among_moved : (es fs : List Entry) → IsPermutation es fs → (e : Entry) → IsAmong es e → IsAmong fs e
+among_moved es fs moved e i = pick_among (IsAmong fs) es (All-permutation (IsAmong fs) fs es (IsPermutation-sym es fs moved) (all_among fs)) e i
+
+own_kind : (es : List Entry) → AreApart es → (e : Entry) → IsAmong es e → kind_in es e.name ≡ Some e.kind
+own_kind [] h e i = absurd i
+own_kind (x ∷ es) h e (inl same) = ap (λ b. cond b (Some x.kind) (kind_in es e.name)) (ap (λ y. text_eq x.name y.name) same ∙ text_eq-same x.name) ∙ ap (λ y. Some y.kind) (sym same)
+own_kind (x ∷ es) h e (inr i) =
+    let more = own_kind es h.1 e i in
+    let apart : text_eq x.name e.name ≡ false = not_decided _ _ (text_eq-Decides x.name e.name) (λ same. some_not_none e.kind (sym h.0 ∙ ap (kind_in es) same ∙ more)) in
+    ap (λ b. cond b (Some x.kind) (kind_in es e.name)) apart ∙ more
+
+entry_of : (es : List Entry) (n : Text) (k : Kind) → kind_in es n ≡ Some k → (e : Entry) × IsAmong es e × (e.name ≡ n) × (e.kind ≡ k)
+entry_of [] n k h = absurd (some_not_none k h)
+entry_of (x ∷ es) n k h = by (text_eq x.name n) refl h (entry_of es n k)
+  where
+    by : (b : Bool) → text_eq x.name n ≡ b → cond b (Some x.kind) (kind_in es n) ≡ Some k → (kind_in es n ≡ Some k → (e : Entry) × IsAmong es e × (e.name ≡ n) × (e.kind ≡ k)) → (e : Entry) × IsAmong (x ∷ es) e × (e.name ≡ n) × (e.kind ≡ k)
+    by true t j more = (x, inl refl, (text_eq-Decides x.name n).0 t, cc)
+    by false t j more = let e = more j in (e.0, inr e.1, e.2, e.3)
+
+kind_is_dir : (k : Kind) → is_dir_kind (Some k) ≡ true → k ≡ kind.Dir
+kind_is_dir kind.File h = cc
+kind_is_dir kind.Dir h = refl
+kind_is_dir kind.Other h = cc
+
+leaf_is_dir : (o : Option Leaf) → option_map kind_of o ≡ Some kind.Dir → is_dir_leaf o ≡ true
+leaf_is_dir None h = cc
+leaf_is_dir (Some (file bytes)) h = cc
+leaf_is_dir (Some dir) h = refl
+leaf_is_dir (Some other) h = cc
+
+module _ (root : StorageRoot) (d : Place) (es fs : List Entry) (ordinary : IsOrdinary es) (h : IsListing root d es) (moved : IsPermutation es fs) where
+  abbrev of_tree : Text → Bool
+  of_tree n = is_dir root (d ++ n ∷ []) && not (is_extensions_name d n)
+
+  to_tree : (z : Place) → IsAmong (directories_among d fs) z → IsAmong (directories_in root d) z
+  to_tree z i =
+      let k = among_from_map (λ e. d ++ e.name ∷ []) (filter (is_directory_entry d) fs) z i in
+      let f = among_from_filter (is_directory_entry d) fs k.0 k.1 in
+      let is_kind : k.0.kind ≡ kind.Dir = kind_is_dir k.0.kind (and_first (is_dir_kind (Some k.0.kind)) (not (is_extensions_name d k.0.name)) f.1) in
+      let listed : kind_at root d k.0.name ≡ Some kind.Dir = sym (h.each k.0.name) ∙ own_kind es ordinary.once k.0 (among_moved fs es (IsPermutation-sym es fs moved) k.0 f.0) ∙ ap Some is_kind in
+      let directory : is_dir root (d ++ k.0.name ∷ []) ≡ true = leaf_is_dir (at root (d ++ k.0.name ∷ [])) listed in
+      let named = entry_named root d k.0.name dir (leaf_dir (at root (d ++ k.0.name ∷ [])) directory) in
+      let kept = among_filter of_tree (names_in root d) k.0.name named (and_both (is_dir root (d ++ k.0.name ∷ [])) (not (is_extensions_name d k.0.name)) directory (and_second (is_dir_kind (Some k.0.kind)) (not (is_extensions_name d k.0.name)) f.1)) in
+      subst (IsAmong (directories_in root d)) (sym k.2) (among_map (λ n. d ++ n ∷ []) (filter of_tree (names_in root d)) k.0.name kept)
+
+  from_tree : (z : Place) → IsAmong (directories_in root d) z → IsAmong (directories_among d fs) z
+  from_tree z i =
+      let k = among_from_map (λ n. d ++ n ∷ []) (filter of_tree (names_in root d)) z i in
+      let f = among_from_filter of_tree (names_in root d) k.0 k.1 in
+      let directory : at root (d ++ k.0 ∷ []) ≡ Some dir = leaf_dir (at root (d ++ k.0 ∷ [])) (and_first (is_dir root (d ++ k.0 ∷ [])) (not (is_extensions_name d k.0)) f.1) in
+      let e = entry_of es k.0 kind.Dir (h.each k.0 ∙ ap (option_map kind_of) directory) in
+      let out : not (is_extensions_name d e.0.name) ≡ true = ap (λ n. not (is_extensions_name d n)) e.2 ∙ and_second (is_dir root (d ++ k.0 ∷ [])) (not (is_extensions_name d k.0)) f.1 in
+      let kept = among_filter (is_directory_entry d) fs e.0 (among_moved es fs moved e.0 e.1) (and_both (is_dir_kind (Some e.0.kind)) (not (is_extensions_name d e.0.name)) (ap (λ x. is_dir_kind (Some x)) e.3) out) in
+      subst (IsAmong (directories_among d fs)) (ap (λ n. d ++ n ∷ []) e.2 ∙ sym k.2) (among_map (λ e. d ++ e.name ∷ []) (filter (is_directory_entry d) fs) e.0 kept)
+
+pub tree_rises : (root : StorageRoot) (d : Place) → IsAscending place_cmp (directories_in root d)
+tree_rises root d =
+    children_rise d (filter (λ n. is_dir root (d ++ n ∷ []) && not (is_extensions_name d n)) (names_in root d))
+    (ascends_filter text_cmp (λ n. is_dir root (d ++ n ∷ []) && not (is_extensions_name d n)) (names_in root d) (ascends_ascending text_cmp_total (filter_map (λ e. child_name d e.0) root)))
+
+-- a listing that was sorted shows the directories of the tree
+pub among_tree : (root : StorageRoot) (d : Place) (es fs : List Entry) → IsOrdinary es → IsListing root d es → IsPermutation es fs → IsSorted (λ e f. text_cmp e.name f.name) fs → directories_among d fs ≡ directories_in root d
+among_tree root d es fs ordinary h moved sorted =
+    ascending_unique place_cmp_total place_cmp_exact (directories_among d fs) (directories_in root d)
+    (among_below d fs (names_rise es fs ordinary moved sorted)).ascend (tree_rises root d)
+    (λ z. (to_tree root d es fs ordinary h moved z, from_tree root d es fs ordinary h moved z))
+
+-- ---- entry by entry
+
+pub among_kept : (d : Place) (es : List Entry) (i : ℕ) (e : Entry) → i < length es → e ≡ get_or es i e → is_directory_entry d e ≡ true → directories_among d (drop i es) ≡ (d ++ e.name ∷ []) ∷ directories_among d (drop (i + 1) es)
+among_kept d es i e l is t = ap (directories_among d) (drop_item es i e l is) ∙ ap (λ b. map (λ e. d ++ e.name ∷ []) (cond b (e ∷ filter (is_directory_entry d) (drop (i + 1) es)) (filter (is_directory_entry d) (drop (i + 1) es)))) t
+
+pub among_passed : (d : Place) (es : List Entry) (i : ℕ) (e : Entry) → i < length es → e ≡ get_or es i e → is_directory_entry d e ≡ false → directories_among d (drop i es) ≡ directories_among d (drop (i + 1) es)
+among_passed d es i e l is t = ap (directories_among d) (drop_item es i e l is) ∙ ap (λ b. map (λ e. d ++ e.name ∷ []) (cond b (e ∷ filter (is_directory_entry d) (drop (i + 1) es)) (filter (is_directory_entry d) (drop (i + 1) es)))) t

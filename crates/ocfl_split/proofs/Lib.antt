@@ -1,0 +1,8 @@
+pub mod Entries
+pub mod Leads
+pub mod Below
+pub mod Ranks
+pub mod Deeper
+pub mod Cuts
+pub mod Descents
+mod Cases

@@ -1,0 +1,77 @@
+//! Cutting a level of the storage hierarchy at equal distances.
+ghost use Rattle.std.specs.Prelude.{◌≡◌, ◌++◌, ◌∷◌, ◌-◌, ◌≤◌, [], length, IsTrue, IfOk, IfErr, OnOk};
+ghost use Rattle.std.specs.Prelude.{MatchResult};
+ghost use Rattle.ocfl_tree.specs.Ascending.{IsAscending};
+ghost use Rattle.ocfl_tree.specs.Place.{place_cmp};
+ghost use Rattle.ocfl_tree.specs.StorageRoot.{StorageRoot};
+ghost use Rattle.ocfl_item.specs.Ways.{IsWayFault};
+ghost use Rattle.ocfl_parts.specs.Separators.{AreSeparators};
+ghost use Rattle.ocfl_split.specs.Splitting.{ListsAll, ListsStop, cut_evenly, separators_of};
+ghost use Rattle.ocfl_split.specs.Splitting.{listed_for};
+
+use crate::descent::split_level;
+use ocfl_item::Fault;
+use ocfl_parts::{PushStop, Separators};
+use ocfl_tree::laws::every_place_has_names;
+use ocfl_tree::{Place, Tree};
+use std::alloc::{AllocError, Global};
+
+/// Appends a place that is above the last separator.
+fn add(separators: &mut Separators, place: &Place) -> Result<(), AllocError>
+    requires separators { AreSeparators separators.now }
+    requires above { IsAscending place_cmp (separators.now ++ place.now ∷ []) }
+    ensures added { OnOk result (separators.new ≡ separators.old ++ place.now ∷ []) }
+    ensures rule { OnOk result (AreSeparators separators.new) }
+{
+    every_place_has_names(place);
+    match separators.push(place.try_clone()?) {
+        Ok(()) => Ok(()),
+        Err(PushStop::Memory) => Err(AllocError),
+        Err(PushStop::NotAbove) => unreachable!(),
+    }
+}
+
+/// The first directory of each part but the first, where a level is cut into so many parts of about
+/// as many directories, or into one part for each directory where these are fewer.
+fn cut(alloc: Global, level: &[Place], count: usize) -> Result<Separators, AllocError>
+    requires ascend { IsAscending place_cmp level.now }
+    requires few { length level.now ≤ 1000000 }
+    ensures cut { IfOk result (λ separators. separators ≡ cut_evenly count level.now) }
+    ensures few { IfOk result (λ separators. length separators ≤ count - 1) }
+{
+    let parts = level.len().min(count);
+    let mut separators = Separators::new(alloc);
+    for part in 1..parts {
+        add(&mut separators, &level[part * level.len() / parts])?;
+    }
+    Ok(separators)
+}
+
+/// Separators that split a storage root into about `count` parts, found by listing alone: no file is
+/// opened. They are directories of the storage hierarchy (OCFL 1.1, 4.3), objects' roots among them,
+/// all with equally many names, and no object is entered.
+///
+/// Levels are listed from the storage root down, until one has at least `count` directories, or
+/// there is no deeper one. Of that level's directories those are given that begin `count` parts of
+/// about as many directories, but for the first part; where the level has fewer directories, all but
+/// the first of them. So there are at most `count - 1` separators, and none where `count` is 0 or 1.
+///
+/// Not listed are the `extensions` of the storage root, nor anything in a storage root that is not
+/// of one known version, nor directories with more than 127 names. At most 1,000,000 directories are
+/// held: a level is not gone down to where it and the one above have more, and the one above is
+/// split.
+///
+/// `Store` where a directory could not be listed, with its place; `Memory` where memory was refused.
+pub fn split<T: Tree>(alloc: Global, store: &mut T, count: usize) -> Result<Separators, Fault>
+    ensures only { IfErr result (λ why. IsWayFault why) }
+    ensures few { IfOk result (λ separators. length separators ≤ count - 1) }
+    ensures told { IsTrue T.told → (root : StorageRoot) → (T.state store.old).tree ≡ root
+        → MatchResult result
+        (λ separators. (separators ≡ separators_of root count)
+        × ListsAll root (T.state store.old) (T.state store.new) (listed_for root count))
+        (λ why. ListsStop root (T.state store.old) (T.state store.new)
+        (listed_for root count) why) }
+{
+    let level = split_level(alloc, store, count)?;
+    Ok(cut(alloc, &level, count)?)
+}

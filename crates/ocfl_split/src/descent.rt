@@ -1,0 +1,87 @@
+//! Going down the storage hierarchy, level by level.
+ghost use Rattle.std.specs.Prelude.{◌≡◌, ℕ, ◌+◌, ◌-◌, ◌∷◌, [], length, IsTrue, IfOk, IfErr, IfSome, MatchResult};
+ghost use Rattle.std.specs.Option.{option_map};
+ghost use Rattle.ocfl_tree.specs.StorageRoot.{StorageRoot};
+ghost use Rattle.ocfl_item.specs.Ways.{IsWayFault};
+ghost use Rattle.ocfl_split.specs.Splitting.{ListsAll, ListsStop, split_level as level_to_split};
+ghost use Rattle.ocfl_split.specs.Splitting.{listed_for, next_level as level_after};
+ghost use Rattle.ocfl_split.specs.Splitting.{max_held, listed_within};
+ghost use Rattle.ocfl_split.specs.Internal.Directories.{IsLevel, AreListable};
+
+use crate::directories::add_below;
+use ocfl_item::Fault;
+use ocfl_tree::{Place, Tree};
+use std::alloc::{AllocError, Global};
+
+/// How many directories are held at most, of a level and of the next together.
+const MAX_HELD: usize = 1_000_000;
+
+/// Directories with fewer names are listed.
+const MAX_NAMES: usize = 128;
+
+/// The next level of the hierarchy, where it has directories, and where there is room for them.
+fn next_level<T: Tree>(
+    alloc: Global,
+    store: &mut T,
+    level: &[Place],
+) -> Result<Option<Vec<Place>>, Fault>
+    ensures only { IfErr result (λ why. IsWayFault why) }
+    ensures fair { IfOk result (λ next. IfSome next (λ places. (depth : ℕ)
+        → IsLevel depth level.now → IsLevel (depth + 1) places.items)) }
+    ensures told { IsTrue T.told → (root : StorageRoot) → (T.state store.old).tree ≡ root
+        → AreListable root level.now → MatchResult result
+        (λ next. (option_map (λ places. places.items) next ≡ level_after root level.now)
+        × ListsAll root (T.state store.old) (T.state store.new)
+        (listed_within root (max_held - length level.now) level.now))
+        (λ why. ListsStop root (T.state store.old) (T.state store.new)
+        (listed_within root (max_held - length level.now) level.now) why) }
+{
+    let room = MAX_HELD.saturating_sub(level.len());
+    let mut next = Vec::new(alloc);
+    for place in level {
+        if !add_below(store, place, &mut next, room)? {
+            return Ok(None);
+        }
+    }
+    if next.is_empty() {
+        return Ok(None);
+    }
+    Ok(Some(next))
+}
+
+/// The storage root alone.
+fn first_level(alloc: Global) -> Result<Vec<Place>, AllocError>
+    ensures { IfOk result (λ level. level.items ≡ [] ∷ []) }
+{
+    let mut level = Vec::new(alloc);
+    level.push(Place::root(alloc))?;
+    Ok(level)
+}
+
+/// The level that is split: the first with at least so many directories, or else the last.
+pub(crate) fn split_level<T: Tree>(
+    alloc: Global,
+    store: &mut T,
+    count: usize,
+) -> Result<Vec<Place>, Fault>
+    ensures only { IfErr result (λ why. IsWayFault why) }
+    ensures fair { IfOk result (λ level. (depth : ℕ) × IsLevel depth level.items) }
+    ensures told { IsTrue T.told → (root : StorageRoot) → (T.state store.old).tree ≡ root
+        → MatchResult result
+        (λ level. (level.items ≡ level_to_split root count)
+        × ListsAll root (T.state store.old) (T.state store.new) (listed_for root count))
+        (λ why. ListsStop root (T.state store.old) (T.state store.new)
+        (listed_for root count) why) }
+{
+    let mut level = first_level(alloc)?;
+    for depth in 0..MAX_NAMES {
+        if level.len() >= count {
+            return Ok(level);
+        }
+        match next_level(alloc, store, &level)? {
+            Some(next) => level = next,
+            None => return Ok(level),
+        }
+    }
+    Ok(level)
+}

@@ -1,0 +1,8 @@
+//! Splitting a storage root into parts by listing it alone.
+#![tactic(auto)]
+
+mod cutting;
+mod descent;
+mod directories;
+
+pub use cutting::split;

@@ -1,15 +1,13 @@
 -- One directory is listed, and the directories right below it are taken.
-use Rattle.std.proofs.Common.{◌≡◌, ℕ, ◌+◌, ◌<◌, List, [], ◌∷◌, ◌++◌, refl, sym, ◌∙◌, ap, subst, true, false, Bool, length, append_assoc, IsPermutation}
+use Rattle.std.proofs.Common.{◌≡◌, ℕ, ◌<◌, List, [], ◌∷◌, ◌++◌, refl, sym, ◌∙◌, ap, subst, true, false, Bool, length, append_assoc, IsPermutation}
 use Rattle.std.specs.Prelude.{cond}
 use Rattle.std.specs.List.Sorted.{IsSorted}
 use Rattle.std.proofs.lemmas.List.{append-nil}
 use Rattle.ocfl_tree.specs.Place.{Place, text_cmp}
 use Rattle.ocfl_tree.specs.StorageRoot.{StorageRoot}
-use Rattle.ocfl_tree.specs.Store.{Store, Did}
+use Rattle.ocfl_tree.specs.Store.{Store}
 use Rattle.ocfl_tree.specs.Listing.{IsListing, IsOrdinary}
 use Rattle.ocfl_tree.specs.declared.store.Entry.{Entry}
-use Rattle.ocfl_tree.specs.declared.store.Opening.{Opening}
-use Rattle.ocfl_tree.proofs.Orders.{true_not_false}
 use Rattle.ocfl_tree.proofs.Stores.{did_then}
 use Rattle.ocfl_item.specs.Auditing.{FailedAt, in_listing, in_opening}
 use Rattle.ocfl_item.specs.Looking.{failures_by}
@@ -19,8 +17,8 @@ use Rattle.ocfl_item.specs.declared.fault.Fault.TheVariants as fault
 use Rattle.ocfl_item.proofs.LooksCalls.{did_nothing, memory_no_store}
 use Rattle.ocfl_split.specs.Levels.{leads_on, directories_in, directories_below}
 use Rattle.ocfl_split.specs.Splitting.{ListsAll, ListsStop}
-use Rattle.ocfl_split.specs.Internal.Directories.{directories_among, AddsAll, AddsBelow}
-use Rattle.ocfl_split.proofs.Entries.{among_tree, among_below, names_rise}
+use Rattle.ocfl_split.specs.Internal.Directories.{directories_among, AddsAll}
+use Rattle.ocfl_split.proofs.Entries.{among_tree}
 
 -- ---- calls
 

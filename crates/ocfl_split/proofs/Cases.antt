@@ -1,5 +1,5 @@
 -- Worked cases: which directories split a storage root, and what is listed for it.
-use Rattle.std.proofs.Common.{◌≡◌, ℕ, List, [], ◌∷◌, ◌++◌, codes, map, refl}
+use Rattle.std.proofs.Common.{◌≡◌, ℕ, List, [], ◌∷◌, ◌++◌, map, refl}
 use Prim.Native.String.{String}
 use Rattle.ocfl_tree.specs.StorageRoot.{StorageRoot}
 use Rattle.ocfl_audit.proofs.CaseTrees.{place, text_at, folder, link}

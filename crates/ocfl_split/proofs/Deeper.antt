@@ -1,5 +1,5 @@
 -- A level is listed, directory by directory, for the next.
-use Rattle.std.proofs.Common.{◌≡◌, ◌≢◌, ℕ, suc, ◌+◌, ◌-◌, ◌<◌, ◌≤◌, List, [], ◌∷◌, ◌++◌, refl, sym, ◌∙◌, ap, subst, true, false, Bool, Option, Some, None, length, take, drop, take_all, get_or, arith, rules, append_assoc}
+use Rattle.std.proofs.Common.{◌≡◌, ℕ, suc, ◌+◌, ◌-◌, ◌<◌, ◌≤◌, List, [], ◌∷◌, ◌++◌, refl, sym, ◌∙◌, ap, subst, true, false, Bool, Some, None, length, take, drop, get_or, arith, rules, append_assoc}
 use Rattle.std.specs.Prelude.{cond, ◌||◌, ◌==◌, nat_lt, nat_le}
 use Rattle.std.proofs.lemmas.List.{take_more, drop_all, length-append, append-nil}
 use Rattle.std.proofs.lemmas.Bool.{le-leb, lt-leb}
@@ -10,7 +10,6 @@ use Rattle.ocfl_tree.proofs.Lists.{drop_item}
 use Rattle.ocfl_item.specs.declared.fault.Fault.{Fault}
 use Rattle.ocfl_split.specs.Levels.{directories_below, level_below}
 use Rattle.ocfl_split.specs.Splitting.{max_held, next_level, listed_within, ListsAll, ListsStop}
-use Rattle.ocfl_split.specs.Internal.Directories.{AddsAll}
 use Rattle.ocfl_split.proofs.Below.{lists_none, lists_on, stops_on, stops_before}
 
 -- ---- the next level
@@ -93,8 +92,7 @@ module _ (root : StorageRoot) where
         let long : length (level_below root ds) ≡ length (next ++ directories_below root d) + length (level_below root (drop (i + 1) ds)) = ap length whole ∙ length-append (next ++ directories_below root d) (level_below root (drop (i + 1) ds)) in
         let listed : listed_within root room ds ≡ take i ds ++ d ∷ [] =
         so.listed ∙ ap (λ xs. take i ds ++ listed_within root (room - length next) xs) left
-        ∙ ap (λ b. take i ds ++ d ∷ cond b (listed_within root (room - length next - length (directories_below root d)) (drop (i + 1) ds)) []) over in
-        (
+        ∙ ap (λ b. take i ds ++ d ∷ cond b (listed_within root (room - length next - length (directories_below root d)) (drop (i + 1) ds)) []) over in (
           sym (none_over (level_below root ds) (length ds) (omega (arith, e, many, long))),
           subst (λ r. ListsAll root s u (listed_within root r ds)) e (subst (ListsAll root s u) (sym listed) (lists_on root s t u (take i ds) (d ∷ []) so.lists h)),
         )

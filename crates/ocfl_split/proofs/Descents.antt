@@ -1,6 +1,6 @@
 -- Level by level, down to the one that is split.
-use Rattle.std.proofs.Common.{◌≡◌, inl, inr, ℕ, zero, suc, ◌+◌, ◌-◌, ◌<◌, ◌≤◌, List, [], ◌∷◌, ◌++◌, refl, sym, ◌∙◌, ap, subst, true, false, Bool, Option, Some, None, length, get_or, All, arith, append_assoc}
-use Rattle.std.specs.Prelude.{cond, ◌||◌, ◌==◌, ◌&&◌, not, nat_lt, nat_le}
+use Rattle.std.proofs.Common.{◌≡◌, inl, inr, ℕ, zero, suc, ◌+◌, ◌-◌, ◌<◌, ◌≤◌, List, [], ◌∷◌, ◌++◌, refl, sym, ◌∙◌, ap, subst, true, false, Bool, Some, None, length, get_or, All, arith, append_assoc}
+use Rattle.std.specs.Prelude.{cond, ◌&&◌, not, nat_le}
 use Rattle.std.specs.Option.{option_map_or}
 use Rattle.std.proofs.lemmas.List.{append-nil}
 use Rattle.std.proofs.lemmas.Bool.{le-leb}
@@ -122,8 +122,7 @@ module _ (root : StorageRoot) (count : ℕ) where
 
     pub split_ends : 128 ≤ n → (ds ≡ split_level root count) × ListsAll root s t (listed_for root count)
     split_ends l =
-        let none : 128 - n ≡ 0 = omega (arith, l) in
-        (
+        let none : 128 - n ≡ 0 = omega (arith, l) in (
           sym (so.left ∙ ap (λ k. level_from k root count ds) none ∙ level_end root count ds),
           subst (ListsAll root s t) (sym (so.listed ∙ ap (λ k. so.done ++ listed_from k root count ds) none ∙ ap (λ xs. so.done ++ xs) (listed_end root count ds) ∙ append-nil so.done)) so.lists,
         )
@@ -146,7 +145,7 @@ module _ (root : StorageRoot) (count : ℕ) where
       split_last e k = (
         sym (so.left ∙ ap (λ i. level_from i root count ds) down ∙ level_last (127 - n) root count ds h e),
         subst (ListsAll root s u) (sym (more ∙ ap (λ o. (so.done ++ within_room root ds) ++ option_map_or (λ next. listed_from (127 - n) root count next) o []) (sym e) ∙ append-nil (so.done ++ within_room root ds)))
-        (lists_on root s t u so.done (within_room root ds) so.lists k),
+            (lists_on root s t u so.done (within_room root ds) so.lists k),
       )
 
       pub split_on : (next : List Place) → Some next ≡ next_level root ds → ListsAll root t u (listed_within root (max_held - length ds) ds) → IsSplitSo root s u count (n + 1) next

@@ -1,6 +1,6 @@
 -- From a listing to the directories of the hierarchy right below its place.
-use Rattle.std.proofs.Common.{◌≡◌, ◌⊎◌, inl, inr, ℕ, zero, suc, ◌+◌, ◌<◌, ◌≤◌, List, [], ◌∷◌, ◌++◌, refl, sym, ◌∙◌, ap, subst, true, false, Bool, Option, Some, None, arith, length, map, filter, drop, get_or, All, IsPermutation}
-use Rattle.std.specs.Prelude.{cond, not, ◌&&◌, ◌↔◌, option_map, filter_map, slice_index_or}
+use Rattle.std.proofs.Common.{◌≡◌, inl, inr, ℕ, zero, suc, ◌+◌, ◌<◌, List, [], ◌∷◌, ◌++◌, refl, sym, ◌∙◌, ap, subst, true, false, Bool, Option, Some, None, arith, length, map, filter, drop, get_or, All, IsPermutation}
+use Rattle.std.specs.Prelude.{cond, not, ◌&&◌, option_map, filter_map, slice_index_or}
 use Rattle.std.specs.List.{AllByRecursion, IsDistinct}
 use Rattle.std.specs.List.Sorted.{IsSorted}
 use Rattle.std.specs.Ordering.{is_lt}
@@ -23,7 +23,6 @@ use Rattle.ocfl_audit.proofs.AuditExists.{some_not_none}
 use Rattle.ocfl_audit.proofs.BelowLaws.{text_cmp_total, text_cmp_exact, above_name}
 use Rattle.ocfl_audit.proofs.WayLaws.{entry_named}
 use Rattle.ocfl_item.specs.Ways.{is_dir_kind, is_extensions_name}
-use Rattle.ocfl_item.proofs.LooksEntries.{name_there}
 use Rattle.ocfl_item.proofs.LooksZones.{leaf_dir}
 use Rattle.ocfl_split.specs.Levels.{directories_in}
 use Rattle.ocfl_split.specs.Internal.Directories.{is_directory_entry, directories_among, IsBelow}
@@ -128,8 +127,8 @@ pub among_below : (d : Place) (es : List Entry) → IsAscending text_cmp (names_
 among_below d es h = record {
   ascend = kept_rise (is_directory_entry d) d es (entries_rise d es h);
   under = λ z i.
-    let k = among_from_map (λ e. d ++ e.name ∷ []) (filter (is_directory_entry d) es) z i in
-    (d, inl refl, (k.0.name, k.2));
+      let k = among_from_map (λ e. d ++ e.name ∷ []) (filter (is_directory_entry d) es) z i in
+      (d, inl refl, (k.0.name, k.2));
 }
 
 -- ---- those of the tree

@@ -1,5 +1,5 @@
 -- What a listing declares.
-use Rattle.std.proofs.Common.{◌≡◌, ℕ, List, [], ◌∷◌, sym, ◌∙◌, ap, true, false, Bool, length, refl, arith}
+use Rattle.std.proofs.Common.{◌≡◌, List, [], ◌∷◌, sym, ◌∙◌, ap, true, Bool, length, refl, arith}
 use Rattle.std.specs.Prelude.{not}
 use Rattle.ocfl_tree.specs.Place.{Place}
 use Rattle.ocfl_tree.specs.StorageRoot.{StorageRoot}

@@ -5,7 +5,7 @@ use Rattle.std.specs.Ordering.{ordering_then}
 use Rattle.std.specs.declared.cmp.Ordering.{Ordering}
 use Rattle.std.specs.declared.cmp.Ordering.TheVariants.{Less, Equal, Greater}
 use Rattle.ocfl_tree.specs.Place.{Place, Text, text_cmp, place_cmp}
-use Rattle.ocfl_tree.specs.Ascending.{IsAscending, IsAmong, IsBeforeAll}
+use Rattle.ocfl_tree.specs.Ascending.{IsAscending, IsAmong}
 use Rattle.ocfl_tree.proofs.Orders.{before_each}
 use Rattle.ocfl_audit.proofs.BelowLaws.{ascends_append, from_append}
 use Rattle.ocfl_split.specs.Internal.Directories.{IsBelow, IsLevel, AddsBelow}
@@ -101,9 +101,9 @@ pub next_level_is : (depth : ℕ) (ds : List Place) (i : ℕ) (next : List Place
 next_level_is depth ds i next l h k few = record {
   ascend = k.ascend;
   deep = all_from (λ p. length p ≡ depth + 1) next (λ z j.
-    let a = k.under z j in
-    let long : length a.0 ≡ depth = pick_among (λ p. length p ≡ depth) ds h.deep a.0 (subst (λ xs. IsAmong xs a.0) (take_all i ds l) a.1) in
-    ap length a.2.1 ∙ omega (arith, length-append a.0 (a.2.0 ∷ []), long));
+      let a = k.under z j in
+      let long : length a.0 ≡ depth = pick_among (λ p. length p ≡ depth) ds h.deep a.0 (subst (λ xs. IsAmong xs a.0) (take_all i ds l) a.1) in
+      ap length a.2.1 ∙ omega (arith, length-append a.0 (a.2.0 ∷ []), long));
   few = few;
 }
 

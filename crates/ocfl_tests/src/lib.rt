@@ -23,6 +23,8 @@ mod report;
 #[cfg(test)]
 mod scrub;
 #[cfg(test)]
+mod split;
+#[cfg(test)]
 mod tree;
 #[cfg(test)]
 mod walk;

@@ -1,4 +1,4 @@
-use Rattle.std.proofs.Common.{◌≡◌, ◌++◌, ◌∷◌, [], Err, ap, sym, subst, ◌∙◌}
+use Rattle.std.proofs.Common.{◌++◌, ◌∷◌, [], Err, ap, sym, subst, ◌∙◌}
 use Rattle.ocfl_parts.specs.Separators.{AreSeparators}
 use Rattle.ocfl_parts.proofs.Orders.{AreSeparators-push}
 use Rattle.ocfl_split.proofs.cutting.add.Goals as goal

@@ -1,4 +1,4 @@
-use Rattle.std.proofs.Common.{◌≡◌, ◌∙◌, ap}
+use Rattle.std.proofs.Common.{◌∙◌, ap}
 use Rattle.ocfl_split.specs.Splitting.{cut_evenly}
 use Rattle.ocfl_split.proofs.cutting.split.Goals as goal
 

@@ -33,18 +33,17 @@ loop-place-preserved g c =
       few = few;
       fair = λ depth h. below_more depth c.args.level.now c.loop-place.place-index c.place-item.result c.saturating_sub-room.result c.loop-place.next.items c.add_below.new.next.items h c.loop-place-test.true c.place-item.is (c.loop-place.invariant.fair depth h) fair;
       told = λ h root over l.
-        let so = c.loop-place.invariant.told h root over l in
-        let here = subst (λ x. is_listable root x ≡ true) (sym c.place-item.is) (l c.loop-place.place-index c.place-item.result c.loop-place-test.true) in
-        let adds = c.in_ok-add_below.ensures.told h root (over_after root _ _ _ so.lists) here in
-        one_more root (g.T.Tree.state c.args.store.now) (g.T.Tree.state c.loop-place.store) (g.T.Tree.state c.add_below.new.store) c.saturating_sub-room.result c.args.level.now c.loop-place.place-index c.place-item.result c.loop-place.next.items so c.loop-place-test.true c.place-item.is c.add_below.new.next.items adds.1 (adds.0.added c.if-not-branch.false) few;
+          let so = c.loop-place.invariant.told h root over l in
+          let here = subst (λ x. is_listable root x ≡ true) (sym c.place-item.is) (l c.loop-place.place-index c.place-item.result c.loop-place-test.true) in
+          let adds = c.in_ok-add_below.ensures.told h root (over_after root _ _ _ so.lists) here in
+          one_more root (g.T.Tree.state c.args.store.now) (g.T.Tree.state c.loop-place.store) (g.T.Tree.state c.add_below.new.store) c.saturating_sub-room.result c.args.level.now c.loop-place.place-index c.place-item.result c.loop-place.next.items so c.loop-place-test.true c.place-item.is c.add_below.new.next.items adds.1 (adds.0.added c.if-not-branch.false) few;
     }
 
 pub returns-then-is_empty-clause-told : goal.returns-then-is_empty-clause-told
 returns-then-is_empty-clause-told g c = λ h root over l.
     let e : c.saturating_sub-room.result ≡ max_held - length c.args.level.now = omega (arith, c.saturating_sub-room.ensures) in
     let so = c.loop-place.invariant.told h root over l in
-    let empty : c.loop-place.next.items ≡ [] = no_entries c.loop-place.next.items c.loop-place.next.len c.loop-place.next.ok.0 (sym c.if-is_empty.true ∙ c.is_empty.ensures) in
-    (
+    let empty : c.loop-place.next.items ≡ [] = no_entries c.loop-place.next.items c.loop-place.next.len c.loop-place.next.ok.0 (sym c.if-is_empty.true ∙ c.is_empty.ensures) in (
       none_deeper root (g.T.Tree.state c.args.store.now) (g.T.Tree.state c.loop-place.store) c.saturating_sub-room.result c.args.level.now c.loop-place.place-index c.loop-place.next.items so c.loop-place-test.false e empty,
       all_listed root (g.T.Tree.state c.args.store.now) (g.T.Tree.state c.loop-place.store) c.saturating_sub-room.result c.args.level.now c.loop-place.place-index c.loop-place.next.items so c.loop-place-test.false e,
     )
@@ -59,8 +58,7 @@ pub returns-clause-told : goal.returns-clause-told
 returns-clause-told g c = λ h root over l.
     let e : c.saturating_sub-room.result ≡ max_held - length c.args.level.now = omega (arith, c.saturating_sub-room.ensures) in
     let so = c.loop-place.invariant.told h root over l in
-    let some = some_entries c.loop-place.next.items c.loop-place.next.len c.loop-place.next.ok.0 (sym c.if-is_empty.false ∙ c.is_empty.ensures) in
-    (
+    let some = some_entries c.loop-place.next.items c.loop-place.next.len c.loop-place.next.ok.0 (sym c.if-is_empty.false ∙ c.is_empty.ensures) in (
       one_deeper root (g.T.Tree.state c.args.store.now) (g.T.Tree.state c.loop-place.store) c.saturating_sub-room.result c.args.level.now c.loop-place.place-index c.loop-place.next.items so c.loop-place-test.false e some c.loop-place.invariant.few,
       all_listed root (g.T.Tree.state c.args.store.now) (g.T.Tree.state c.loop-place.store) c.saturating_sub-room.result c.args.level.now c.loop-place.place-index c.loop-place.next.items so c.loop-place-test.false e,
     )

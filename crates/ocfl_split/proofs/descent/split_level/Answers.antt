@@ -1,4 +1,4 @@
-use Rattle.std.proofs.Common.{◌≡◌, ◌-◌, ◌∙◌, Some, None, sym, subst, true, false, length, arith}
+use Rattle.std.proofs.Common.{◌≡◌, ◌-◌, Some, None, sym, subst, true, false, length, arith}
 use Rattle.std.specs.Prelude.{nat_le}
 use Rattle.std.proofs.lemmas.Bool.{le-leb, lt-leb}
 use Rattle.std.proofs.lemmas.Result.{err_from_is_err_and}
@@ -42,12 +42,12 @@ pub loop-depth-preserved : goal.loop-depth-preserved
 loop-depth-preserved g c = record {
   fair = (rw c.in-Some.is at c.in_ok-next.ensures.fair) c.loop-depth.depth (subst (IsLevel c.loop-depth.depth) (sym c.deref.ensures.value) c.loop-depth.invariant.fair);
   told = λ h root over.
-    let few : nat_le c.args.count (length c.loop-depth.level.items) ≡ false = lt-leb c.args.count (length c.loop-depth.level.items) (omega (arith, c.len.ensures, c.loop-depth.level.ok.0, c.if-len-count.false)) in
-    let so = c.loop-depth.invariant.told h root over in
-    let can = subst (AreListable root) (sym c.deref.ensures.value) (can_list root c.args.count (g.T.Tree.state c.args.store.now) (g.T.Tree.state c.loop-depth.store) c.loop-depth.depth c.loop-depth.level.items so c.loop-depth.invariant.fair c.loop-depth-test.true) in
-    let k = subst (λ xs. (Some c.in-Some.next.items ≡ next_level root xs) × ListsAll root (g.T.Tree.state c.loop-depth.store) (g.T.Tree.state c.next_level.new.store) (listed_within root (max_held - length xs) xs)) c.deref.ensures.value
-    (rw c.in-Some.is at (c.in_ok-next.ensures.told h root (over_after root _ _ _ so.lists) can)) in
-    split_on root c.args.count (g.T.Tree.state c.args.store.now) (g.T.Tree.state c.loop-depth.store) c.loop-depth.depth c.loop-depth.level.items so (g.T.Tree.state c.next_level.new.store) c.loop-depth-test.true few c.in-Some.next.items k.0 k.1;
+      let few : nat_le c.args.count (length c.loop-depth.level.items) ≡ false = lt-leb c.args.count (length c.loop-depth.level.items) (omega (arith, c.len.ensures, c.loop-depth.level.ok.0, c.if-len-count.false)) in
+      let so = c.loop-depth.invariant.told h root over in
+      let can = subst (AreListable root) (sym c.deref.ensures.value) (can_list root c.args.count (g.T.Tree.state c.args.store.now) (g.T.Tree.state c.loop-depth.store) c.loop-depth.depth c.loop-depth.level.items so c.loop-depth.invariant.fair c.loop-depth-test.true) in
+      let k = subst (λ xs. (Some c.in-Some.next.items ≡ next_level root xs) × ListsAll root (g.T.Tree.state c.loop-depth.store) (g.T.Tree.state c.next_level.new.store) (listed_within root (max_held - length xs) xs)) c.deref.ensures.value
+      (rw c.in-Some.is at (c.in_ok-next.ensures.told h root (over_after root _ _ _ so.lists) can)) in
+      split_on root c.args.count (g.T.Tree.state c.args.store.now) (g.T.Tree.state c.loop-depth.store) c.loop-depth.depth c.loop-depth.level.items so (g.T.Tree.state c.next_level.new.store) c.loop-depth-test.true few c.in-Some.next.items k.0 k.1;
 }
 
 pub returns-clause-told : goal.returns-clause-told

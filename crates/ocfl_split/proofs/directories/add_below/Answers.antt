@@ -1,4 +1,4 @@
-use Rattle.std.proofs.Common.{◌≡◌, ◌∙◌, ◌∷◌, [], sym, subst, true, refl}
+use Rattle.std.proofs.Common.{◌≡◌, ◌∙◌, ◌∷◌, [], sym, subst, true}
 use Rattle.std.proofs.lemmas.Result.{err_from_is_err_and}
 use Rattle.ocfl_item.specs.Ways.{is_listable}
 use Rattle.ocfl_split.specs.Internal.Directories.{directories_among, IsBelow}
@@ -25,10 +25,9 @@ returns-clause-fair g c = λ fits.
 
 pub returns-clause-told : goal.returns-clause-told
 returns-clause-told g c = λ h root over l.
-    let enters = c.in_ok-folder.ensures.told h root over (subst (λ x. is_listable root x ≡ true) (sym c.in_ok-try_clone.ensures) l) in
-    (
+    let enters = c.in_ok-folder.ensures.told h root over (subst (λ x. is_listable root x ≡ true) (sym c.in_ok-try_clone.ensures) l) in (
       adds_all root (g.T.Tree.state c.args.store.now) (g.T.Tree.state c.list.new.store) c.args.place.now c.in_ok-try_clone.field-0 c.in_ok-folder.folder.place c.in_ok-folder.folder.entries.items c.sort.new.entries.items
-      c.args.room c.args.next.now.items c.add_among.new.next.items c.leads_on_from.result c.in_ok-add_among.field-0 c.in_ok-try_clone.ensures enters c.in_ok-folder.ensures.ordinary (c.leads_on_from.ensures root) c.if-not-leads_on_from.false
-      c.sort.ensures.permutation c.sort.ensures.sorted c.in_ok-add_among.ensures.added c.in_ok-add_among.ensures.many,
+          c.args.room c.args.next.now.items c.add_among.new.next.items c.leads_on_from.result c.in_ok-add_among.field-0 c.in_ok-try_clone.ensures enters c.in_ok-folder.ensures.ordinary (c.leads_on_from.ensures root) c.if-not-leads_on_from.false
+          c.sort.ensures.permutation c.sort.ensures.sorted c.in_ok-add_among.ensures.added c.in_ok-add_among.ensures.many,
       entered root (g.T.Tree.state c.args.store.now) (g.T.Tree.state c.list.new.store) c.args.place.now c.in_ok-try_clone.field-0 c.in_ok-folder.folder.place c.in_ok-folder.folder.entries.items over c.in_ok-try_clone.ensures enters,
     )

@@ -1,7 +1,4 @@
-use Rattle.std.proofs.Common.{◌≡◌, ◌∙◌, sym, length, true, false}
-use Rattle.ocfl_inventory.specs.Declaration.{is_known, is_declared, declared}
-use Rattle.ocfl_inventory.specs.Entries.{file_names}
-use Rattle.ocfl_inventory.specs.declared.declaration.Level.TheVariants as level
+use Rattle.std.proofs.Common.{◌∙◌, sym, true, false}
 use Rattle.ocfl_item.proofs.LooksCalls.{head_unknown}
 use Rattle.ocfl_split.proofs.Leads.{root_leads, lower_leads, head_declared}
 use Rattle.ocfl_split.proofs.directories.leads_on_from.Goals as goal

@@ -1,0 +1,161 @@
+//! Splitting by listing: which directories are given, which are listed, and what stops it.
+use crate::common::object::bare_root;
+use crate::common::store::{change, listed_from, place_of};
+use ocfl_item::Fault;
+use ocfl_parts::put_parts;
+use ocfl_split::split;
+use ocfl_tree::{MemTree, Point};
+use std::alloc::Global;
+use std::process::Abort;
+use std::test::Fail;
+
+/// Three objects, the second with a version.
+const OBJECTS: [(&str, &str); 4] = [
+    ("o1/0=ocfl_object_1.1", "ocfl_object_1.1\n"),
+    ("o2/0=ocfl_object_1.1", "ocfl_object_1.1\n"),
+    ("o2/v1/content/f", "abc"),
+    ("o3/0=ocfl_object_1.1", "ocfl_object_1.1\n"),
+];
+
+/// Objects one level further down.
+const LEVELS: [(&str, &str); 3] = [
+    ("a/o1/0=ocfl_object_1.1", "ocfl_object_1.1\n"),
+    ("a/o2/0=ocfl_object_1.1", "ocfl_object_1.1\n"),
+    ("b/o3/0=ocfl_object_1.1", "ocfl_object_1.1\n"),
+];
+
+/// What is no directory of the hierarchy, and names that sort otherwise than their places.
+const ODD: [(&str, &str); 6] = [
+    ("a/x/", ""),
+    ("a-b/x/", ""),
+    ("extensions/x/", ""),
+    ("b/extensions/", ""),
+    ("f", "abc"),
+    ("l@", ""),
+];
+
+/// A storage root with these changes.
+fn root_with(alloc: Global, changes: &[(&str, &str)]) -> Result<MemTree, Fail> {
+    let mut store = bare_root(alloc)?;
+    change(alloc, &mut store, changes)?;
+    Ok(store)
+}
+
+fn said(fault: Fault) -> Fail {
+    match fault {
+        Fault::Store(_) => "store".into(),
+        Fault::Memory => "memory".into(),
+        Fault::Output => "output".into(),
+        Fault::Broken => "broken".into(),
+    }
+}
+
+/// Splits a root into so many parts. Gives the text of the separators.
+fn text_of(alloc: Global, store: &mut MemTree, count: usize) -> Result<String, Fail> {
+    let separators = split(alloc, store, count).map_err(said)?;
+    let mut text = Vec::new(alloc);
+    put_parts(&separators, &mut text)?;
+    Ok(String::from_utf8(text)?)
+}
+
+#[test]
+fn a_level_is_cut_evenly(rt: HostRuntime) -> Result<(), Fail> {
+    let alloc = rt.alloc();
+    for (row, changes, count, separators, listings) in [
+        ("no parts", OBJECTS.as_slice(), 0usize, "", ""),
+        ("one part", OBJECTS.as_slice(), 1, "", ""),
+        ("two of three objects", OBJECTS.as_slice(), 2, "o2\n", ";"),
+        ("three of three", OBJECTS.as_slice(), 3, "o2\no3\n", ";"),
+        (
+            "four of three",
+            OBJECTS.as_slice(),
+            4,
+            "o2\no3\n",
+            ";o1;o2;o3;",
+        ),
+        (
+            "ten of three",
+            OBJECTS.as_slice(),
+            10,
+            "o2\no3\n",
+            ";o1;o2;o3;",
+        ),
+        ("first level", LEVELS.as_slice(), 2, "b\n", ";"),
+        (
+            "second level",
+            LEVELS.as_slice(),
+            3,
+            "a/o2\nb/o3\n",
+            ";a;b;",
+        ),
+        (
+            "last level",
+            LEVELS.as_slice(),
+            4,
+            "a/o2\nb/o3\n",
+            ";a;b;a/o1;a/o2;b/o3;",
+        ),
+        ("odd names", ODD.as_slice(), 2, "a-b\n", ";"),
+        ("in order", ODD.as_slice(), 3, "a-b\nb\n", ";"),
+        (
+            "below them",
+            ODD.as_slice(),
+            4,
+            "a-b/x\nb/extensions\n",
+            ";a;a-b;b;a/x;a-b/x;b/extensions;",
+        ),
+        ("nothing there", &[], 2, "", ";"),
+    ] {
+        let mut store = root_with(alloc, changes)?;
+        let text = text_of(alloc, &mut store, count)?;
+        assert_eq!(rt; text.as_str(), separators, "{row}");
+        let listed = listed_from(alloc, &store, 0)?;
+        assert_eq!(rt; listed.as_str(), listings, "{row}");
+        assert!(rt; store.openings().is_empty(), "{row}");
+        assert_eq!(rt; store.failures(), 0, "{row}");
+    }
+    Ok(())
+}
+
+#[test]
+fn nothing_is_split_in_an_unknown_root(rt: HostRuntime) -> Result<(), Fail> {
+    let alloc = rt.alloc();
+    for (row, changes) in [
+        (
+            "no declaration",
+            [("-0=ocfl_1.1", ""), ("a/", ""), ("b/", "")],
+        ),
+        (
+            "two",
+            [("0=ocfl_1.0", "ocfl_1.0\n"), ("a/", ""), ("b/", "")],
+        ),
+    ] {
+        let mut store = root_with(alloc, &changes)?;
+        assert_eq!(rt; text_of(alloc, &mut store, 2)?.as_str(), "", "{row}");
+        let listed = listed_from(alloc, &store, 0)?;
+        assert_eq!(rt; listed.as_str(), ";", "{row}");
+    }
+    Ok(())
+}
+
+#[test]
+fn listings_that_fail_stop_it(rt: HostRuntime) -> Result<(), Fail> {
+    let alloc = rt.alloc();
+    for (row, count, failing, listings) in [
+        ("the root", 2usize, ".", ";"),
+        ("a directory", 3, "b", ";a;b;"),
+        ("an object", 4, "a/o2", ";a;b;a/o1;a/o2;"),
+    ] {
+        let mut store = root_with(alloc, &LEVELS)?;
+        let place = place_of(alloc, failing)?;
+        store.fail_at(&place, Point::List)?;
+        match split(alloc, &mut store, count) {
+            Err(Fault::Store(stopped)) => assert_eq!(rt; stopped, place, "{row}"),
+            _ => return Err("no fault".into()),
+        }
+        let listed = listed_from(alloc, &store, 0)?;
+        assert_eq!(rt; listed.as_str(), listings, "{row}");
+        assert_eq!(rt; store.failures(), 1, "{row}");
+    }
+    Ok(())
+}

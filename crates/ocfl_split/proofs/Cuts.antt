@@ -4,7 +4,7 @@ use Rattle.std.specs.Prelude.{slice_get}
 use Rattle.std.specs.Option.{option_to_list}
 use Rattle.std.proofs.Math.Nat.{div-mul-le_self, mul-le-mul_right}
 use Rattle.std.proofs.Math.Seq.{drop-nil}
-use Rattle.std.proofs.lemmas.Nat.{div_below, le-div}
+use Rattle.std.proofs.lemmas.Nat.{div-add-mod', div_below, le-div}
 use Rattle.std.proofs.lemmas.Option.{slice_get-get_or}
 use Rattle.ocfl_tree.specs.Place.{Place, place_cmp}
 use Rattle.ocfl_tree.specs.Ascending.{IsAscending, IsBeforeAll}
@@ -22,6 +22,15 @@ index_within i m n l h =
 -- and before the next part does
 pub index_grows : (i m n : ℕ) → 0 < m → m ≤ n → i * n / m + 1 ≤ (i + 1) * n / m
 index_grows i m n l h = le-div (i * n / m + 1) ((i + 1) * n) m l (omega (arith, div-mul-le_self (i * n) m))
+
+-- from one to the next there are as many directories as an even division gives, or one more
+pub even_parts : (n m i : ℕ) → 0 < m → (i * n / m + n / m ≤ (i + 1) * n / m) × ((i + 1) * n / m ≤ i * n / m + n / m + 1)
+even_parts n m i l =
+    let low = le-div (i * n / m + n / m) ((i + 1) * n) m l (omega (arith, div-mul-le_self (i * n) m, div-mul-le_self n m)) in
+    let first : i * n < (i * n / m + 1) * m = omega (arith, div-add-mod' (i * n) m) in
+    let one : n < (n / m + 1) * m = omega (arith, div-add-mod' n m) in
+    let high : (i + 1) * n / m < i * n / m + n / m + 2 = div_below ((i + 1) * n) m (i * n / m + n / m + 2) l (omega (arith, first, one)) in
+    (low, omega (arith, high))
 
 -- ---- fewer of some places in order
 

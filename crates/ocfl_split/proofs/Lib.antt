@@ -5,4 +5,6 @@ pub mod Ranks
 pub mod Deeper
 pub mod Cuts
 pub mod Descents
+pub mod LevelLaws
+pub mod LevelZones
 mod Cases

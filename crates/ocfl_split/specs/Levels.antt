@@ -1,9 +1,10 @@
 -- The directories of the storage hierarchy, level by level.
-use Rattle.std.specs.Prelude.{ℕ, zero, suc, ◌&&◌, List, [], ◌∷◌, ◌++◌, Bool, not, if◌then◌else◌, filter, flat_map, map}
+use Rattle.std.specs.Prelude.{◌≡◌, ◌⊎◌, ℕ, zero, suc, ◌&&◌, Some, List, [], ◌∷◌, ◌++◌, Bool, not, if◌then◌else◌, filter, flat_map, map}
 use Rattle.ocfl_tree.specs.Place.{Place}
-use Rattle.ocfl_tree.specs.StorageRoot.{StorageRoot, is_dir, names_in}
+use Rattle.ocfl_tree.specs.StorageRoot.{StorageRoot, dir, at, is_dir, names_in}
 use Rattle.ocfl_inventory.specs.Declaration.{is_declared, is_known}
-use Rattle.ocfl_audit.specs.Zone.{root_declared, object_declared}
+use Rattle.ocfl_audit.specs.Zone.{hierarchy, zone, root_declared, object_declared}
+use Rattle.ocfl_audit.specs.Objects.{IsObjectRoot}
 use Rattle.ocfl_item.specs.Ways.{is_extensions_name}
 
 -- whether what lies in a directory of the hierarchy belongs to the hierarchy too: in the storage root where its version is known, elsewhere where no object is declared (OCFL 1.1, 4.3 Storage Hierarchies)
@@ -26,3 +27,8 @@ level_below root ds = flat_map (directories_below root) ds
 abbrev pub level : StorageRoot → ℕ → List Place
 level root zero = [] ∷ []
 level root (suc n) = level_below root (level root n)
+
+-- a directory of the storage hierarchy, or an object's root in it
+pub record LiesInHierarchy (root : StorageRoot) (p : Place) : Type 0 where
+  pub directory : at root p ≡ Some dir
+  pub part : (zone root p ≡ hierarchy) ⊎ IsObjectRoot root p

@@ -1,5 +1,5 @@
 -- Which level of the hierarchy is split, at which of its directories, and what is listed for it.
-use Rattle.std.specs.Prelude.{◌≡◌, ℕ, zero, suc, ◌+◌, ◌-◌, ◌*◌, ◌/◌, ◌||◌, ◌==◌, nat_le, nat_lt, min, length, List, [], ◌∷◌, ◌++◌, Option, Some, None, if◌then◌else◌, slice_get}
+use Rattle.std.specs.Prelude.{◌≡◌, ◌≢◌, ◌⊎◌, ◌<◌, ◌≤◌, ℕ, zero, suc, ◌+◌, ◌-◌, ◌*◌, ◌/◌, ◌||◌, ◌==◌, nat_le, nat_lt, min, length, List, [], ◌∷◌, ◌++◌, Option, Some, None, if◌then◌else◌, slice_get}
 use Rattle.std.specs.Option.{option_map_or, option_to_list}
 use Rattle.ocfl_tree.specs.Place.{Place}
 use Rattle.ocfl_tree.specs.StorageRoot.{StorageRoot}
@@ -7,7 +7,7 @@ use Rattle.ocfl_tree.specs.Store.{Store, Did}
 use Rattle.ocfl_item.specs.Looking.{IsFront, failures_by}
 use Rattle.ocfl_item.specs.declared.fault.Fault.{Fault}
 use Rattle.ocfl_item.specs.declared.fault.Fault.TheVariants as fault
-use Rattle.ocfl_split.specs.Levels.{level_below, directories_below}
+use Rattle.ocfl_split.specs.Levels.{level, level_below, directories_below}
 
 -- so many directories are held at most
 abbrev pub max_held : ℕ
@@ -31,6 +31,12 @@ level_from (suc k) root count ds =
 -- directories with 128 names are the last: they are not listed
 unfoldable pub split_level : StorageRoot → ℕ → List Place
 split_level root count = level_from 128 root count ([] ∷ [])
+
+-- level n is the one that is split: each above it has fewer directories, and it has enough, or there is none deeper, or no room for the next
+pub record IsSplitLevel (root : StorageRoot) (count n : ℕ) : Type 0 where
+  pub fewer : (k : ℕ) → k < n → length (level root k) < count
+  pub some : level root n ≢ []
+  pub ends : (count ≤ length (level root n)) ⊎ ((level root (n + 1) ≡ []) ⊎ ((max_held < length (level root n) + length (level root (n + 1))) ⊎ (n ≡ 128)))
 
 -- ---- at equal distances
 

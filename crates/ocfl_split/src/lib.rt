@@ -4,5 +4,6 @@
 mod cutting;
 mod descent;
 mod directories;
+pub mod laws;
 
 pub use cutting::split;

@@ -1,0 +1,41 @@
+//! The laws of what splits a storage root.
+ghost use Rattle.std.specs.Prelude.{◌≡◌, ◌↔◌, ℕ, ◌+◌, ◌*◌, ◌/◌, ◌<◌, ◌≤◌, Some, length};
+ghost use Rattle.ocfl_tree.specs.Ascending.{IsAmong};
+ghost use Rattle.ocfl_tree.specs.Place.{Place};
+ghost use Rattle.ocfl_tree.specs.StorageRoot.{StorageRoot, dir, at};
+ghost use Rattle.ocfl_split.specs.Levels.{level, LiesInHierarchy};
+ghost use Rattle.ocfl_split.specs.Splitting.{IsSplitLevel, split_level, separators_of};
+
+/// What is split is one level of the storage hierarchy: the first that has enough directories, or
+/// else the last that is gone down to.
+#[tactic(auto, using(crate::proofs::LevelLaws::one_level))]
+pub fn one_level_is_split()
+    ensures { (root : StorageRoot) (count : ℕ) → (n : ℕ)
+        × ((split_level root count ≡ level root n) × IsSplitLevel root count n) }
+{}
+
+/// The separators are directories of that level, and so of the tree.
+#[tactic(auto, using(crate::proofs::LevelLaws::separator_in_level, crate::proofs::LevelLaws::separator_there))]
+pub fn separators_are_directories()
+    ensures level { (root : StorageRoot) (count : ℕ) (p : Place)
+        → IsAmong (separators_of root count) p → IsAmong (split_level root count) p }
+    ensures there { (root : StorageRoot) (count : ℕ) (p : Place)
+        → IsAmong (separators_of root count) p → at root p ≡ Some dir }
+{}
+
+/// Below the storage root a level holds just the directories of the storage hierarchy with so many
+/// names, and the roots of objects with so many (OCFL 1.1, 4.3 Storage Hierarchies).
+#[tactic(auto, using(crate::proofs::LevelZones::level_is))]
+pub fn levels_are_the_hierarchy()
+    ensures { (root : StorageRoot) (n : ℕ) (p : Place) → IsAmong (level root (n + 1)) p
+        ↔ ((length p ≡ n + 1) × LiesInHierarchy root p) }
+{}
+
+/// Parts have about as many directories: from one position to the next there are as many as an even
+/// division gives, or one more.
+#[tactic(auto, using(crate::proofs::Cuts::even_parts))]
+pub fn parts_are_even()
+    ensures { (directories parts i : ℕ) → 0 < parts
+        → (i * directories / parts + directories / parts ≤ (i + 1) * directories / parts)
+        × ((i + 1) * directories / parts ≤ i * directories / parts + directories / parts + 1) }
+{}

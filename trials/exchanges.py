@@ -3,9 +3,10 @@
 
 usage: exchanges.py
 
-strace stops the program behind the look. What is opened then is not what was looked at: content is
-S08, never `ok`, and at an object's own files the program stops. Where the file was only moved, and
-a link to it left in its place, what is opened is what was looked at, and it is read.
+strace stops the program after the last look before the opening, which is that of the listing. What
+is opened then is not what was looked at: content is S08, never `ok`, and at an object's own files
+the program stops. Where the file was only moved, and a link to it left in its place, what is opened
+is what was looked at, and it is read.
 """
 import os
 import subprocess
@@ -84,8 +85,22 @@ def for_nothing(path, _):
     os.remove(path)
 
 
+def for_a_link_to_a_file_of_its_number(path, other):
+    """The bytes of the file, in a file that got its number after it was removed, where the file
+    system gives numbers again."""
+    data, number = common.read(path), os.stat(path).st_ino
+    os.remove(path)
+    for count in range(100):
+        made = write("%s-%d" % (other, count), data)
+        if os.stat(made).st_ino == number:
+            print("exchanges.py: %s is a link to a file of its number" % os.path.basename(path))
+            break
+    os.symlink(made, path)
+
+
 EXCHANGES = [for_a_link_to_a_copy, for_another_file, for_a_copy, for_an_empty_file, for_a_folder,
-             for_a_link_to_a_folder, for_a_link_to_itself, for_a_link_to_a_device, for_nothing]
+             for_a_link_to_a_folder, for_a_link_to_itself, for_a_link_to_a_device, for_nothing,
+             for_a_link_to_a_file_of_its_number]
 CONTENT = ["o/v1/content/e", "o/v1/content/f", "o/v1/content/g"]
 # each with how many lines stand before its object's
 METADATA = [("0=ocfl_1.1", 0), ("o/0=ocfl_object_1.1", 1), ("o/inventory.json", 1),

@@ -1,6 +1,6 @@
 //! A folder of the file system as a store.
-ghost use Rattle.std.specs.Prelude.{◌≡◌, ◌≢◌, ◌≤◌, ◌+◌, ◌↔◌, IsTrue, true, false, IfOk, Ok, OnOk};
-ghost use Rattle.std.specs.Prelude.{OnErr, MatchOption, length, string_bytes, Err};
+ghost use Rattle.std.specs.Prelude.{◌≡◌, ◌≢◌, ◌≤◌, ◌<◌, ◌+◌, ◌↔◌, IsTrue, true, false, IfOk, Ok, OnOk};
+ghost use Rattle.std.specs.Prelude.{OnErr, IsNone, MatchOption, length, string_bytes, Err};
 ghost use Rattle.std.specs.Fs.{IsDir, IsFile, file_type};
 ghost use Rattle.std.specs.IoError.{error_kind};
 ghost use Rattle.ocfl_folder.specs.declared.fs_tree.Fault.TheVariants.{Trouble as Lasting};
@@ -10,12 +10,12 @@ ghost use Rattle.ocfl_tree.specs.MemTree.{empty_store};
 ghost use Rattle.ocfl_tree.specs.Path.{names_of};
 ghost use Rattle.ocfl_tree.specs.Place.{begins};
 
+use crate::looks::{Looks, Node};
 use ocfl_tree::{Entry, Kind, Name, NameStop, Place, Tree, Trouble};
-use std::alloc::AllocError;
+use std::alloc::{AllocError, Global};
 use std::fs::{Metadata, OpenFile};
 use std::io::{ErrorKind, Read};
 use std::marker::Model;
-use std::os::unix::fs::MetadataExt;
 use std::rt::Files;
 use std::{fs, io};
 
@@ -29,14 +29,37 @@ use std::{fs, io};
 ///
 /// The directory that was found last is known until a listing or an opening fails. The names on the
 /// way to a place in it, or in one on the way there, are not looked at again; at any other place
-/// they are all looked at.
+/// they are all looked at. Nor is a file in it looked at before it is opened, where the listing saw
+/// a regular file there: it is that file, or the device failed.
 #[derive(Drop)]
 pub struct FsTree<R: Files + AllocGlobal + Clone + Drop> {
     rt: R,
     root: String,
-    /// The directory that was found last.
-    known: Option<Place>,
+    known: Option<Known>,
     open: Option<R::File>,
+    /// How long the open file was when it was opened, less what was read of it. `None` once a read
+    /// met its end.
+    left: Option<u64>,
+}
+
+/// The directory that was found last, and what its listing saw of its files.
+#[derive(Drop)]
+struct Known {
+    dir: Place,
+    looks: Looks,
+}
+
+/// What a listing gives, and what it saw of the files.
+#[derive(Drop)]
+struct Listed {
+    entries: Vec<Entry>,
+    looks: Looks,
+}
+
+/// A file that was opened, and its length then.
+struct Opened<F> {
+    file: F,
+    length: u64,
 }
 
 /// Its value in clauses: whether a file is open.
@@ -160,22 +183,35 @@ fn push_entry(entry: Entry, entries: &mut Vec<Entry>) -> Result<(), AllocError>
     Ok(())
 }
 
-/// Whether what was opened is the file that was looked at before.
-fn is_same_file(before: &Metadata, opened: &Metadata) -> bool
-    ensures { IsTrue result → IsFile (file_type opened.now) }
+/// What is left of a file after a read of so many bytes into a buffer with this room: `None` where
+/// the read met the file's end.
+fn left_after(left: u64, count: usize, room: usize) -> Option<u64>
+    ensures { IsNone result ↔ ((count ≡ left) × (count < room)) }
 {
-    opened.is_file() && opened.dev() == before.dev() && opened.ino() == before.ino()
+    if count as u64 == left && count < room {
+        None
+    } else {
+        Some(left.saturating_sub(count as u64))
+    }
 }
 
 /// Whether a directory is the known one or on the way there.
-fn is_known(known: &Option<Place>, dir: &str) -> bool
+fn is_known(known: &Option<Known>, dir: &str) -> bool
     ensures { MatchOption known.now (result ≡ false)
-        (λ last. result ≡ begins (names_of dir.now) last) }
+        (λ last. result ≡ begins (names_of dir.now) last.dir) }
 {
     match known {
-        Some(last) => last.starts_with_path(dir),
+        Some(last) => last.dir.starts_with_path(dir),
         None => false,
     }
+}
+
+/// The directory of a path, as one that is known.
+fn known_as(alloc: Global, path: &str) -> Option<Known> {
+    let path = String::from_str(alloc, path).ok()?;
+    let dir = Place::from_path(path)?;
+    let looks = Looks::none(alloc);
+    Some(Known { dir, looks })
 }
 
 /// Whether each name is below the next.
@@ -214,6 +250,7 @@ impl<R: Files + AllocGlobal + Clone + Drop> FsTree<R> {
             root,
             known: None,
             open: None,
+            left: None,
         })
     }
 
@@ -292,20 +329,40 @@ impl<R: Files + AllocGlobal + Clone + Drop> FsTree<R> {
         Ok(path)
     }
 
-    /// The path of a place and what lies there, where its names lead through directories to what is
-    /// of this kind.
-    fn path(&self, place: &Place, kind: Kind) -> Result<(String, Metadata), Fault> {
+    /// The path of the directory at a place, where its names lead there through directories.
+    fn dir_path(&self, place: &Place) -> Result<String, Fault> {
         let path = self.path_of(place)?;
-        let metadata = self.look_for(place, path.as_str(), kind)?;
-        Ok((path, metadata))
+        self.look_for(place, path.as_str(), Kind::Dir)?;
+        Ok(path)
     }
 
-    /// Knows a directory from now on, or none where memory for it is refused.
-    fn know(&mut self, dir: &str)
+    /// Where the file at a place was, if the listing of the known directory saw it.
+    fn seen(&self, place: &Place) -> Option<Node> {
+        let known = self.known.as_ref()?;
+        let (dir, name) = place.split_last()?;
+        if known.dir.path() == dir {
+            known.looks.node(name)
+        } else {
+            None
+        }
+    }
+
+    /// Where the file at a place with this path is, as it was looked at last.
+    fn node(&self, place: &Place, path: &str) -> Result<Node, Fault> {
+        match self.seen(place) {
+            Some(node) => Ok(node),
+            None => Ok(Node::of(&self.look_for(place, path, Kind::File)?)),
+        }
+    }
+
+    /// Knows a directory that was listed from now on, or none where memory for it is refused.
+    fn know(&mut self, place: &Place, looks: Looks)
         ensures { self.new ≡ self.old }
     {
-        let path = String::from_str(self.rt.alloc(), dir).ok();
-        self.known = path.and_then(Place::from_path);
+        self.known = match place.try_clone() {
+            Ok(dir) => Some(Known { dir, looks }),
+            Err(_) => None,
+        };
     }
 
     /// Knows the directory of a file whose names led there, where that is not known yet.
@@ -314,37 +371,45 @@ impl<R: Files + AllocGlobal + Clone + Drop> FsTree<R> {
     {
         if let Some((dir, _)) = place.split_last() {
             if !is_known(&self.known, dir) {
-                self.know(dir);
+                self.known = known_as(self.rt.alloc(), dir);
             }
         }
     }
 
     /// What a directory's entry is; that it went away is the device's fault.
-    fn entry_kind(&self, entry: &fs::DirEntry<R>) -> Result<Kind, Fault> {
+    fn entry_look(&self, entry: &fs::DirEntry<R>) -> Result<Metadata, Fault> {
         match entry.metadata() {
-            Ok(metadata) => Ok(kind_of(&metadata)),
+            Ok(metadata) => Ok(metadata),
             Err(error) => Err(entry_fault_of(&error)),
         }
     }
 
-    /// The entry of a directory: its name and what it is.
-    fn entry(&self, entry: &fs::DirEntry<R>) -> Result<Entry, Fault> {
-        let kind = self.entry_kind(entry)?;
+    /// The entry of a directory: its name and what it is. The look at a regular file is kept.
+    fn entry(&self, entry: &fs::DirEntry<R>, looks: &mut Looks) -> Result<Entry, Fault> {
+        let metadata = self.entry_look(entry)?;
+        let kind = kind_of(&metadata);
         let name = Name::new(self.rt.alloc(), entry.file_name())?;
+        if kind == Kind::File {
+            looks.add(name.as_str(), Node::of(&metadata))?;
+        }
         Ok(Entry { name, kind })
     }
 
     /// The entry of a directory that a listing gives.
-    fn listed_entry(&self, listed: io::Result<fs::DirEntry<R>>) -> Result<Entry, Fault> {
+    fn listed_entry(
+        &self,
+        listed: io::Result<fs::DirEntry<R>>,
+        looks: &mut Looks,
+    ) -> Result<Entry, Fault> {
         match listed {
-            Ok(entry) => self.entry(&entry),
+            Ok(entry) => self.entry(&entry, looks),
             Err(error) => Err(entry_fault_of(&error)),
         }
     }
 
     /// Opens the listing of the directory at a place.
     fn listing(&self, place: &Place) -> Result<fs::ReadDir<R>, Fault> {
-        let (path, _) = self.path(place, Kind::Dir)?;
+        let path = self.dir_path(place)?;
         match fs::read_dir(&self.rt, path.as_str()) {
             Ok(listing) => Ok(listing),
             Err(error) => Err(fault_of(&error)),
@@ -356,32 +421,37 @@ impl<R: Files + AllocGlobal + Clone + Drop> FsTree<R> {
         &self,
         listed: io::Result<fs::DirEntry<R>>,
         entries: &mut Vec<Entry>,
+        looks: &mut Looks,
     ) -> Result<(), Fault>
         ensures { OnOk result (length entries.new.items ≤ 1000000) }
     {
         if entries.len() >= 1_000_000 {
             return Err(Fault::Trouble(Trouble::Device));
         }
-        push_entry(self.listed_entry(listed)?, entries)?;
+        push_entry(self.listed_entry(listed, looks)?, entries)?;
         Ok(())
     }
 
-    fn entries(&self, place: &Place) -> Result<Vec<Entry>, Fault>
-        ensures { IfOk result (λ entries. length entries.items ≤ 1000000) }
+    fn entries(&self, place: &Place) -> Result<Listed, Fault>
+        ensures { IfOk result (λ listed. length listed.entries.items ≤ 1000000) }
     {
         let listing = self.listing(place)?;
         let mut entries = Vec::new(self.rt.alloc());
+        let mut looks = Looks::none(self.rt.alloc());
         for entry in listing {
-            self.add_entry(entry, &mut entries)?;
+            self.add_entry(entry, &mut entries, &mut looks)?;
         }
-        Ok(entries)
+        Ok(Listed { entries, looks })
     }
 
     /// The entries, where the call is not interrupted too often.
-    fn listed(&self, place: &Place) -> Result<Vec<Entry>, Trouble>
-        ensures { IfOk result (λ entries. IsOrdinary entries.items) }
+    fn listed(&self, place: &Place) -> Result<Listed, Trouble>
+        ensures { IfOk result (λ listed. IsOrdinary listed.entries.items) }
     {
-        once(retried(|| self.entries(place))?)
+        let Listed { entries, mut looks } = retried(|| self.entries(place))?;
+        let entries = once(entries)?;
+        looks.sort();
+        Ok(Listed { entries, looks })
     }
 
     /// Opens the file at a path.
@@ -392,19 +462,23 @@ impl<R: Files + AllocGlobal + Clone + Drop> FsTree<R> {
         }
     }
 
-    /// The file at a place, where it is the one that was looked at right before.
-    fn file(&self, place: &Place) -> Result<R::File, Fault> {
-        let (path, before) = self.path(place, Kind::File)?;
+    /// The file at a place, where it is the one that was looked at last.
+    fn file(&self, place: &Place) -> Result<Opened<R::File>, Fault> {
+        let path = self.path_of(place)?;
+        let before = self.node(place, path.as_str())?;
         let file = self.open_path(path.as_str())?;
         match file.metadata() {
-            Ok(opened) if is_same_file(&before, &opened) => Ok(file),
+            Ok(opened) if before.is_of(&opened) => {
+                let length = opened.len();
+                Ok(Opened { file, length })
+            }
             Ok(_) => Err(Fault::Trouble(Trouble::Device)),
             Err(error) => Err(entry_fault_of(&error)),
         }
     }
 
     /// The file at a place, where the call is not interrupted too often.
-    fn opened(&self, place: &Place) -> Result<R::File, Trouble> {
+    fn opened(&self, place: &Place) -> Result<Opened<R::File>, Trouble> {
         retried(|| self.file(place))
     }
 }
@@ -420,8 +494,8 @@ impl<R: Files + AllocGlobal + Clone + Drop> Tree for FsTree<R> {
         ensures err { OnErr result (self.new ≡ false) }
     {
         match self.listed(place) {
-            Ok(entries) => {
-                self.know(place.path());
+            Ok(Listed { entries, looks }) => {
+                self.know(place, looks);
                 Ok(entries)
             }
             Err(trouble) => {
@@ -438,9 +512,10 @@ impl<R: Files + AllocGlobal + Clone + Drop> Tree for FsTree<R> {
     {
         self.open = None;
         match self.opened(place) {
-            Ok(file) => {
+            Ok(Opened { file, length }) => {
                 self.know_way(place);
                 self.open = Some(file);
+                self.left = Some(length);
                 Ok(())
             }
             Err(trouble) => {
@@ -460,9 +535,15 @@ impl<R: Files + AllocGlobal + Clone + Drop> Tree for FsTree<R> {
         let Some(file) = &mut self.open else {
             return Err(Trouble::Absent);
         };
+        let Some(left) = self.left else {
+            return Ok(0);
+        };
         for _ in 0..TRIES {
             match file.read(buffer) {
-                Ok(count) => return Ok(count),
+                Ok(count) => {
+                    self.left = left_after(left, count, buffer.len());
+                    return Ok(count);
+                }
                 Err(error) if error.kind() == ErrorKind::Interrupted => {}
                 Err(_) => break,
             }

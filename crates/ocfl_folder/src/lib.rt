@@ -2,5 +2,6 @@
 #![tactic(auto)]
 
 mod fs_tree;
+mod looks;
 
 pub use fs_tree::FsTree;

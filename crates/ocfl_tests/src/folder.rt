@@ -149,6 +149,37 @@ fn a_closed_file_gives_nothing(rt: HostRuntime) -> Result<(), Fail> {
     Ok(())
 }
 
+/// A file of these many bytes, which is read by so many at a time, what each read gives until it
+/// grows by one byte, and what is read of it from then on.
+const GROWS: [(usize, &[usize], &[usize]); 5] = [
+    (3, &[], &[4, 0]),
+    (4, &[3], &[0, 0]),
+    (3, &[3], &[1, 0]),
+    (2, &[2], &[2, 0]),
+    (2, &[2, 1], &[0, 0]),
+];
+
+#[test]
+fn a_file_ends_where_a_read_met_its_end(rt: HostRuntime) -> Result<(), Fail> {
+    let mut folder = filled(&rt, "grows")?;
+    let file = place_of(rt.alloc(), "a-b")?;
+    let mut buffer = [0; 4];
+    for (room, before, after) in GROWS {
+        fs::write(&rt, "grows/a-b", "abc")?;
+        folder.open(&file)?;
+        let room = room.min(buffer.len());
+        for want in before {
+            assert_eq!(rt; folder.read(&mut buffer[..room]), Ok(*want), "{room}");
+        }
+        fs::write(&rt, "grows/a-b", "abcd")?;
+        for want in after {
+            assert_eq!(rt; folder.read(&mut buffer), Ok(*want), "{room} after it grew");
+        }
+    }
+    fs::remove_dir_all(&rt, "grows")?;
+    Ok(())
+}
+
 #[test]
 fn folders_that_cannot_be_listed(rt: HostRuntime) -> Result<(), Fail> {
     let mut folder = filled(&rt, "limit")?;

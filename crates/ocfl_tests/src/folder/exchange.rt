@@ -1,7 +1,7 @@
 //! Files that are exchanged between the look and the opening.
 use crate::common::store::place_of;
 use ocfl_folder::FsTree;
-use ocfl_tree::{Tree, Trouble};
+use ocfl_tree::{Place, Tree, Trouble};
 use std::alloc::{Allocator, Global};
 use std::fs::{self, Metadata, OpenOptions};
 use std::io;
@@ -74,13 +74,17 @@ impl Files for Exchanging {
     }
 }
 
-/// What the file `f` of a folder gives.
+/// What the file `f` of a folder gives, which is listed before or not.
 fn read<R: Files + AllocGlobal + Clone + Drop>(
     rt: R,
     top: &str,
+    is_listed: bool,
 ) -> Result<Result<usize, Trouble>, Fail> {
-    let place = place_of(rt.alloc(), "f")?;
+    let (root, place) = (Place::root(rt.alloc()), place_of(rt.alloc(), "f")?);
     let mut store = FsTree::at(rt, top)?;
+    if is_listed {
+        store.list(&root)?;
+    }
     if let Err(trouble) = store.open(&place) {
         return Ok(Err(trouble));
     }
@@ -89,7 +93,11 @@ fn read<R: Files + AllocGlobal + Clone + Drop>(
 }
 
 /// What a file gives where this is moved to its path right before it is opened.
-fn read_as(rt: &HostRuntime, spare: &'static str) -> Result<Result<usize, Trouble>, Fail> {
+fn read_as(
+    rt: &HostRuntime,
+    spare: &'static str,
+    is_listed: bool,
+) -> Result<Result<usize, Trouble>, Fail> {
     if fs::exists(rt, "exchange")? {
         fs::remove_dir_all(rt, "exchange")?;
     }
@@ -103,22 +111,26 @@ fn read_as(rt: &HostRuntime, spare: &'static str) -> Result<Result<usize, Troubl
         rt: rt.clone()?,
         spare,
     };
-    let answer = read(files, "exchange")?;
+    let answer = read(files, "exchange", is_listed)?;
     fs::remove_dir_all(rt, "exchange")?;
     Ok(answer)
 }
 
 #[test]
 fn an_exchanged_file_is_the_devices(rt: HostRuntime) -> Result<(), Fail> {
-    assert_eq!(rt; read_as(&rt, "")?, Ok(4));
-    for (row, spare) in [
-        ("another file", "exchange/other"),
-        ("a link", "exchange/link"),
-        ("a directory", "exchange/dir"),
-    ] {
-        assert_eq!(rt; read_as(&rt, spare)?, Err(Trouble::Device), "{row}");
+    for is_listed in [false, true] {
+        assert_eq!(rt; read_as(&rt, "", is_listed)?, Ok(4), "{is_listed}");
+        for (row, spare) in [
+            ("another file", "exchange/other"),
+            ("a link", "exchange/link"),
+            ("a directory", "exchange/dir"),
+        ] {
+            let answer = read_as(&rt, spare, is_listed)?;
+            assert_eq!(rt; answer, Err(Trouble::Device), "{row}, {is_listed}");
+        }
+        // It was looked at, and then went away.
+        let answer = read_as(&rt, "exchange/missing", is_listed)?;
+        assert_eq!(rt; answer, Err(Trouble::Absent), "{is_listed}");
     }
-    // It was looked at, and then went away.
-    assert_eq!(rt; read_as(&rt, "exchange/missing")?, Err(Trouble::Absent));
     Ok(())
 }

@@ -386,3 +386,33 @@ fn a_known_directory_is_not_looked_at(rt: HostRuntime) -> Result<(), Fail> {
     }
     Ok(())
 }
+
+/// What is opened after a directory of the names `a` and `dir` was listed, how often each opening
+/// looks at something, and what it stops with.
+const LISTED: [(&str, u32, Option<Trouble>); 9] = [
+    // The listing saw `a`.
+    ("dir/a", 0, None),
+    ("dir/a", 0, None),
+    ("dir/b", 1, None),
+    ("a", 1, None),
+    ("dir/a", 0, None),
+    // No file is there, and a failure forgets what was seen.
+    ("dir/dir", 1, Some(Trouble::Device)),
+    ("dir/a", 3, None),
+    ("b-dir/a", 3, None),
+    ("dir/a", 3, None),
+];
+
+#[test]
+fn a_listed_file_is_not_looked_at_again(rt: HostRuntime) -> Result<(), Fail> {
+    let files = Fake::new(rt.alloc(), b"dir\0a\0", Call::Name, ErrorKind::Other, 0)?;
+    let looks = files.looks.clone()?;
+    let mut store = FsTree::at(files, "top")?;
+    store.list(&place_of(rt.alloc(), "dir")?)?;
+    for (path, want, trouble) in LISTED {
+        looks.set(0);
+        let answer = store.open(&place_of(rt.alloc(), path)?);
+        assert_eq!(rt; (looks.get(), answer.err()), (want, trouble), "{path}");
+    }
+    Ok(())
+}

@@ -254,12 +254,41 @@ fn the_folder_may_be_a_link_or_end_in_a_slash(rt: HostRuntime) -> Result<(), Fai
     Ok(())
 }
 
+/// Moves the file `e/f` of a folder to `f`, over what is there.
+fn moves_over(rt: &HostRuntime, top: &str, text: &str) -> Result<(), Fail> {
+    let alloc = rt.alloc();
+    let from = format!(in alloc; "{top}/e/f")?;
+    let to = format!(in alloc; "{top}/f")?;
+    fs::write(rt, from.as_str(), text)?;
+    fs::rename(rt, from.as_str(), to.as_str())?;
+    Ok(())
+}
+
+#[test]
+fn another_file_than_was_listed_is_the_devices(rt: HostRuntime) -> Result<(), Fail> {
+    let mut store = made(&rt, "way_listed", "e/ f g")?;
+    let (root, file) = (Place::root(rt.alloc()), place_of(rt.alloc(), "f")?);
+    store.list(&root)?;
+    moves_over(&rt, "way_listed", "f")?;
+    assert_eq!(rt; store.open(&file), Err(Trouble::Device));
+    // It is looked at from then on, and by another listing.
+    holds_its_path(&rt, "after a failure", &mut store, "f")?;
+    store.list(&root)?;
+    holds_its_path(&rt, "after a listing", &mut store, "f")?;
+    // What was moved is the same file, by a link too.
+    store.list(&root)?;
+    fs::rename(&rt, "way_listed/g", "way_listed/e/g")?;
+    unix::fs::symlink(&rt, "e/g", "way_listed/g")?;
+    holds_its_path(&rt, "moved behind a link", &mut store, "g")?;
+    fs::remove_dir_all(&rt, "way_listed")?;
+    Ok(())
+}
+
 #[test]
 fn another_file_at_a_place_is_read(rt: HostRuntime) -> Result<(), Fail> {
     let mut store = made(&rt, "way_another", "e/ f")?;
     holds_its_path(&rt, "the first file", &mut store, "f")?;
-    fs::write(&rt, "way_another/e/f", "f")?;
-    fs::rename(&rt, "way_another/e/f", "way_another/f")?;
+    moves_over(&rt, "way_another", "f")?;
     holds_its_path(&rt, "the second file", &mut store, "f")?;
     fs::remove_dir_all(&rt, "way_another")?;
     Ok(())

@@ -1,0 +1,113 @@
+//! What a listing saw of the regular files of a directory.
+ghost use Rattle.std.specs.Prelude.{◌≡◌, IsTrue};
+ghost use Rattle.std.specs.Fs.{IsFile, file_type};
+
+use std::alloc::{AllocError, Global};
+use std::fs::Metadata;
+use std::hash::{FoldHasher, Hasher};
+use std::os::unix::fs::MetadataExt;
+use std::time::SystemTime;
+
+/// For how many files a listing keeps its looks.
+const MOST: usize = 16_384;
+
+/// Which file it is: its device, its number there, and when it was made, where the system tells
+/// that. The number of a file that is removed may be that of the next one.
+#[derive(Clone, Copy)]
+pub(crate) struct Node {
+    dev: u64,
+    ino: u64,
+    made: Option<SystemTime>,
+}
+
+/// A look at a regular file: the hash of its name, and where it is.
+#[derive(Clone, Copy)]
+struct Look {
+    name: u64,
+    node: Node,
+}
+
+/// The looks of one listing, by the hashes of the names.
+#[derive(Drop)]
+pub(crate) struct Looks {
+    looks: Vec<Look>,
+}
+
+fn hash_of(name: &str) -> u64 {
+    let mut hasher = FoldHasher::default();
+    hasher.write(name.as_bytes());
+    hasher.finish()
+}
+
+/// Whether two times are known, and differ.
+fn differ(time: Option<SystemTime>, other: Option<SystemTime>) -> bool {
+    match (time, other) {
+        (Some(time), Some(other)) => time != other,
+        (None, _) | (_, None) => false,
+    }
+}
+
+/// Whether two names have one hash.
+fn are_twins(looks: &[Look]) -> bool {
+    for (i, look) in looks.iter().enumerate() {
+        if i > 0 && looks[i - 1].name == look.name {
+            return true;
+        }
+    }
+    false
+}
+
+impl Node {
+    pub(crate) fn of(metadata: &Metadata) -> Node {
+        Node {
+            dev: metadata.dev(),
+            ino: metadata.ino(),
+            made: metadata.created().ok(),
+        }
+    }
+
+    fn is(self, other: Node) -> bool {
+        self.dev == other.dev && self.ino == other.ino && !differ(self.made, other.made)
+    }
+
+    /// Whether what was opened is the regular file that was looked at before.
+    pub(crate) fn is_of(self, opened: &Metadata) -> bool
+        ensures { IsTrue result → IsFile (file_type opened.now) }
+    {
+        opened.is_file() && self.is(Node::of(opened))
+    }
+}
+
+impl Looks {
+    pub(crate) fn none(alloc: Global) -> Looks {
+        Looks {
+            looks: Vec::new(alloc),
+        }
+    }
+
+    /// Keeps a look, where not too many are kept.
+    pub(crate) fn add(&mut self, name: &str, node: Node) -> Result<(), AllocError> {
+        if self.looks.len() < MOST {
+            let name = hash_of(name);
+            self.looks.push(Look { name, node })?;
+        }
+        Ok(())
+    }
+
+    /// Puts them in order. Where two names have one hash, none is kept.
+    pub(crate) fn sort(&mut self) {
+        self.looks.sort_unstable_by_key(|look| look.name);
+        if are_twins(&self.looks) {
+            self.looks.clear();
+        }
+    }
+
+    /// Where the file of this name was, if it was looked at.
+    pub(crate) fn node(&self, name: &str) -> Option<Node> {
+        let name = hash_of(name);
+        match self.looks.binary_search_by_key(&name, |look| look.name) {
+            Ok(index) => Some(self.looks[index].node),
+            Err(_) => None,
+        }
+    }
+}

@@ -1,15 +1,16 @@
 //! A folder of the file system as a store.
-ghost use Rattle.std.specs.Prelude.{◌≡◌, ◌≢◌, ◌≤◌, ◌<◌, ◌+◌, ◌↔◌, IsTrue, true, false, IfOk, Ok, OnOk};
-ghost use Rattle.std.specs.Prelude.{OnErr, IsNone, MatchOption, length, string_bytes, Err};
+ghost use Rattle.std.specs.Prelude.{◌≡◌, ◌≢◌, ◌≤◌, ◌<◌, ◌+◌, ◌↔◌, IsTrue, true, false, IfOk, Ok};
+ghost use Rattle.std.specs.Prelude.{OnOk, OnErr, IsNone, MatchOption, length, string_bytes, Err};
 ghost use Rattle.std.specs.Fs.{IsDir, IsFile, file_type};
 ghost use Rattle.std.specs.IoError.{error_kind};
 ghost use Rattle.ocfl_folder.specs.declared.fs_tree.Fault.TheVariants.{Trouble as Lasting};
 ghost use Rattle.ocfl_tree.specs.declared.store.Trouble.TheVariants.{Absent, Memory};
-ghost use Rattle.ocfl_tree.specs.Listing.{AreApart, IsOrdinary};
+ghost use Rattle.ocfl_tree.specs.Listing.{IsOrdinary};
 ghost use Rattle.ocfl_tree.specs.MemTree.{empty_store};
 ghost use Rattle.ocfl_tree.specs.Path.{names_of};
 ghost use Rattle.ocfl_tree.specs.Place.{begins};
 
+use crate::listed::Listed;
 use crate::looks::{Looks, Node};
 use ocfl_tree::{Entry, Kind, Name, NameStop, Place, Tree, Trouble};
 use std::alloc::{AllocError, Global};
@@ -49,13 +50,6 @@ struct Known {
     looks: Looks,
 }
 
-/// What a listing gives, and what it saw of the files.
-#[derive(Drop)]
-struct Listed {
-    entries: Vec<Entry>,
-    looks: Looks,
-}
-
 /// A file that was opened, and its length then.
 struct Opened<F> {
     file: F,
@@ -74,6 +68,12 @@ impl<R: Files + AllocGlobal + Clone + Drop> Model for FsTree<R> {
 /// How often an interrupted call is made at most.
 const TRIES: u64 = 1000;
 
+/// How many bytes of names a directory is asked for at once.
+const NAMES: usize = 8192;
+
+/// How often a directory is asked for names at most. Each time but the last it gives one.
+const ASKED: u64 = 1_000_003;
+
 /// Why one try of a call gave nothing.
 #[derive(Clone, Copy, Debug, PartialEq, Eq)]
 enum Fault {
@@ -86,6 +86,12 @@ impl From<AllocError> for Fault {
 
     fn from(_error: AllocError) -> Fault {
         Fault::Trouble(Trouble::Memory)
+    }
+}
+
+impl From<Trouble> for Fault {
+    fn from(trouble: Trouble) -> Fault {
+        Fault::Trouble(trouble)
     }
 }
 
@@ -175,12 +181,20 @@ fn push_name(path: &mut String, name: &str) -> Result<(), AllocError> {
     path.push_str(name)
 }
 
-/// Appends an entry.
-fn push_entry(entry: Entry, entries: &mut Vec<Entry>) -> Result<(), AllocError>
-    ensures { OnOk result (length entries.new.items ≡ length entries.old.items + 1) }
+/// The names that a directory gives next, each ended by NUL, as the number of their bytes: none at
+/// its end.
+fn next_names<D: Read>(dir: &mut D, names: &mut [u8; NAMES]) -> Result<usize, Fault>
+    ensures { IfOk result (λ count. count ≤ 8192) }
 {
-    entries.push(entry)?;
-    Ok(())
+    match dir.read(&mut names[..]) {
+        Ok(count) => Ok(count),
+        Err(error) => Err(entry_fault_of(&error)),
+    }
+}
+
+/// Whether these bytes are the name of an entry: neither the directory itself nor the one above.
+fn is_entry(name: &[u8]) -> bool {
+    !name.is_empty() && name != b".".as_slice() && name != b"..".as_slice()
 }
 
 /// What is left of a file after a read of so many bytes into a buffer with this room: `None` where
@@ -212,31 +226,6 @@ fn known_as(alloc: Global, path: &str) -> Option<Known> {
     let dir = Place::from_path(path)?;
     let looks = Looks::none(alloc);
     Some(Known { dir, looks })
-}
-
-/// Whether each name is below the next.
-fn rise(entries: &[Entry]) -> bool
-    ensures { IsTrue result → AreApart entries.now }
-{
-    for (i, entry) in entries.iter().enumerate() {
-        if i > 0 && entries[i - 1].name >= entry.name {
-            return false;
-        }
-    }
-    true
-}
-
-/// Refuses entries of which two have one name.
-fn once(mut entries: Vec<Entry>) -> Result<Vec<Entry>, Trouble>
-    requires { length entries.items ≤ 1000000 }
-    ensures { IfOk result (λ entries. IsOrdinary entries.items) }
-{
-    entries.sort()?;
-    if rise(&entries) {
-        Ok(entries)
-    } else {
-        Err(Trouble::Device)
-    }
 }
 
 impl<R: Files + AllocGlobal + Clone + Drop> FsTree<R> {
@@ -329,13 +318,6 @@ impl<R: Files + AllocGlobal + Clone + Drop> FsTree<R> {
         Ok(path)
     }
 
-    /// The path of the directory at a place, where its names lead there through directories.
-    fn dir_path(&self, place: &Place) -> Result<String, Fault> {
-        let path = self.path_of(place)?;
-        self.look_for(place, path.as_str(), Kind::Dir)?;
-        Ok(path)
-    }
-
     /// Where the file at a place was, if the listing of the known directory saw it.
     fn seen(&self, place: &Place) -> Option<Node> {
         let known = self.known.as_ref()?;
@@ -376,82 +358,96 @@ impl<R: Files + AllocGlobal + Clone + Drop> FsTree<R> {
         }
     }
 
-    /// What a directory's entry is; that it went away is the device's fault.
-    fn entry_look(&self, entry: &fs::DirEntry<R>) -> Result<Metadata, Fault> {
-        match entry.metadata() {
+    /// Opens the directory at a path, of which a slash at its end has the system follow a link.
+    fn open_dir(&self, path: &str) -> Result<R::Dir, Fault> {
+        match self.rt.open_dir(path) {
+            Ok(dir) => Ok(dir),
+            Err(error) => Err(fault_of(&error)),
+        }
+    }
+
+    /// Opens the directory at a place with this path, where its names lead there through
+    /// directories. The folder itself may be a link.
+    fn dir(&self, place: &Place, path: &str) -> Result<R::Dir, Fault> {
+        match place.split_last() {
+            Some((dir, _)) => {
+                self.pass(dir)?;
+                self.open_dir(path)
+            }
+            None => {
+                let mut root = self.start()?;
+                root.push('/')?;
+                self.open_dir(root.as_str())
+            }
+        }
+    }
+
+    /// What an entry of a directory is; that it went away is the device's fault.
+    fn look_at_entry(&self, path: &str) -> Result<Metadata, Fault> {
+        match fs::symlink_metadata(&self.rt, path) {
             Ok(metadata) => Ok(metadata),
             Err(error) => Err(entry_fault_of(&error)),
         }
     }
 
-    /// The entry of a directory: its name and what it is. The look at a regular file is kept.
-    fn entry(&self, entry: &fs::DirEntry<R>, looks: &mut Looks) -> Result<Entry, Fault> {
-        let metadata = self.entry_look(entry)?;
-        let kind = kind_of(&metadata);
-        let name = Name::new(self.rt.alloc(), entry.file_name())?;
-        if kind == Kind::File {
-            looks.add(name.as_str(), Node::of(&metadata))?;
-        }
-        Ok(Entry { name, kind })
-    }
-
-    /// The entry of a directory that a listing gives.
-    fn listed_entry(
-        &self,
-        listed: io::Result<fs::DirEntry<R>>,
-        looks: &mut Looks,
-    ) -> Result<Entry, Fault> {
-        match listed {
-            Ok(entry) => self.entry(&entry, looks),
-            Err(error) => Err(entry_fault_of(&error)),
-        }
-    }
-
-    /// Opens the listing of the directory at a place.
-    fn listing(&self, place: &Place) -> Result<fs::ReadDir<R>, Fault> {
-        let path = self.dir_path(place)?;
-        match fs::read_dir(&self.rt, path.as_str()) {
-            Ok(listing) => Ok(listing),
-            Err(error) => Err(fault_of(&error)),
-        }
-    }
-
-    /// Appends the entry that a listing gives, where there are not too many before it.
+    /// Adds an entry of the directory with a path, which is copied with its name into the other.
     fn add_entry(
         &self,
-        listed: io::Result<fs::DirEntry<R>>,
-        entries: &mut Vec<Entry>,
-        looks: &mut Looks,
-    ) -> Result<(), Fault>
-        ensures { OnOk result (length entries.new.items ≤ 1000000) }
-    {
-        if entries.len() >= 1_000_000 {
+        name: &[u8],
+        dir: &str,
+        path: &mut String,
+        listed: &mut Listed,
+    ) -> Result<(), Fault> {
+        let Ok(name) = str::from_utf8(name) else {
             return Err(Fault::Trouble(Trouble::Device));
-        }
-        push_entry(self.listed_entry(listed, looks)?, entries)?;
+        };
+        path.clear();
+        path.push_str(dir)?;
+        push_name(path, name)?;
+        let metadata = self.look_at_entry(path.as_str())?;
+        let name = Name::new(self.rt.alloc(), name)?;
+        let kind = kind_of(&metadata);
+        listed.add(Entry { name, kind }, Node::of(&metadata))?;
         Ok(())
     }
 
-    fn entries(&self, place: &Place) -> Result<Listed, Fault>
-        ensures { IfOk result (λ listed. length listed.entries.items ≤ 1000000) }
-    {
-        let listing = self.listing(place)?;
-        let mut entries = Vec::new(self.rt.alloc());
-        let mut looks = Looks::none(self.rt.alloc());
-        for entry in listing {
-            self.add_entry(entry, &mut entries, &mut looks)?;
+    /// Adds the entries of these names.
+    fn add_entries(
+        &self,
+        names: &[u8],
+        dir: &str,
+        path: &mut String,
+        listed: &mut Listed,
+    ) -> Result<(), Fault> {
+        for name in names.split(|byte| *byte == 0) {
+            if is_entry(name) {
+                self.add_entry(name, dir, path, listed)?;
+            }
         }
-        Ok(Listed { entries, looks })
+        Ok(())
+    }
+
+    fn entries(&self, place: &Place) -> Result<Listed, Fault> {
+        let dir = self.path_of(place)?;
+        let mut opened = self.dir(place, dir.as_str())?;
+        let mut names = [0; NAMES];
+        let mut path = String::new(self.rt.alloc());
+        let mut listed = Listed::none(self.rt.alloc());
+        for _ in 0..ASKED {
+            let count = next_names(&mut opened, &mut names)?;
+            if count == 0 {
+                return Ok(listed);
+            }
+            self.add_entries(&names[..count], dir.as_str(), &mut path, &mut listed)?;
+        }
+        Err(Fault::Trouble(Trouble::Device))
     }
 
     /// The entries, where the call is not interrupted too often.
-    fn listed(&self, place: &Place) -> Result<Listed, Trouble>
-        ensures { IfOk result (λ listed. IsOrdinary listed.entries.items) }
+    fn listed(&self, place: &Place) -> Result<(Vec<Entry>, Looks), Trouble>
+        ensures { IfOk result (λ listed. IsOrdinary listed.0.items) }
     {
-        let Listed { entries, mut looks } = retried(|| self.entries(place))?;
-        let entries = once(entries)?;
-        looks.sort();
-        Ok(Listed { entries, looks })
+        retried(|| self.entries(place))?.once()
     }
 
     /// Opens the file at a path.
@@ -494,7 +490,7 @@ impl<R: Files + AllocGlobal + Clone + Drop> Tree for FsTree<R> {
         ensures err { OnErr result (self.new ≡ false) }
     {
         match self.listed(place) {
-            Ok(Listed { entries, looks }) => {
+            Ok((entries, looks)) => {
                 self.know(place, looks);
                 Ok(entries)
             }

@@ -2,6 +2,7 @@
 #![tactic(auto)]
 
 mod fs_tree;
+mod listed;
 mod looks;
 
 pub use fs_tree::FsTree;

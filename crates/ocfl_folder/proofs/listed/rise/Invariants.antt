@@ -2,7 +2,7 @@ use Rattle.std.proofs.Common.{ℕ, suc, ◌<◌, ◌≡◌, get_or}
 use Rattle.std.specs.declared.cmp.Ordering.TheVariants.{Less}
 use Rattle.ocfl_tree.specs.Place.{text_cmp}
 use Rattle.ocfl_tree.specs.declared.store.Entry.{Entry}
-use Rattle.ocfl_folder.proofs.fs_tree.rise.Given as goal
+use Rattle.ocfl_folder.proofs.listed.rise.Given as goal
 
 abbrev pub invariant-loop-i : goal.invariant-loop-i
 invariant-loop-i l = (k : ℕ) (d : Entry) → suc k < l.i → text_cmp (get_or l.entries k d).name (get_or l.entries (suc k) d).name ≡ Less

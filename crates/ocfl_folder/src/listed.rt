@@ -1,0 +1,64 @@
+//! The entries of a directory, and what was seen of its files.
+ghost use Rattle.std.specs.Prelude.{◌≤◌, IsTrue, IfOk, length};
+ghost use Rattle.ocfl_tree.specs.Listing.{AreApart, IsOrdinary};
+
+use crate::looks::{Looks, Node};
+use ocfl_tree::{Entry, Kind, Trouble};
+use std::alloc::Global;
+
+/// At most 1,000,000 entries, and the looks at the files among them.
+#[derive(Drop)]
+pub(crate) struct Listed {
+    entries: Vec<Entry>,
+    looks: Looks,
+    ghost few: { length entries.items ≤ 1000000 },
+}
+
+/// Whether each name is below the next.
+fn rise(entries: &[Entry]) -> bool
+    ensures { IsTrue result → AreApart entries.now }
+{
+    for (i, entry) in entries.iter().enumerate() {
+        if i > 0 && entries[i - 1].name >= entry.name {
+            return false;
+        }
+    }
+    true
+}
+
+impl Listed {
+    pub(crate) fn none(alloc: Global) -> Listed {
+        Listed {
+            entries: Vec::new(alloc),
+            looks: Looks::none(alloc),
+        }
+    }
+
+    /// Appends an entry, where there are not too many before it. The look at a file is kept.
+    pub(crate) fn add(&mut self, entry: Entry, node: Node) -> Result<(), Trouble> {
+        if self.entries.len() >= 1_000_000 {
+            return Err(Trouble::Device);
+        }
+        if entry.kind == Kind::File {
+            self.looks.add(entry.name.as_str(), node)?;
+        }
+        self.entries.push(entry)?;
+        Ok(())
+    }
+
+    /// The entries and the looks in order. Refuses entries of which two have one name.
+    pub(crate) fn once(self) -> Result<(Vec<Entry>, Looks), Trouble>
+        ensures { IfOk result (λ listed. IsOrdinary listed.0.items) }
+    {
+        let Listed {
+            mut entries,
+            mut looks,
+        } = self;
+        entries.sort()?;
+        if !rise(&entries) {
+            return Err(Trouble::Device);
+        }
+        looks.sort();
+        Ok((entries, looks))
+    }
+}

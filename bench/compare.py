@@ -1,7 +1,7 @@
 #!/usr/bin/env python3
 """Measures one build of the program against another, on the same folders, which it makes.
 
-usage: compare.py BEFORE [NOW]     (two programs; NOW is the one that is built where it is not given)
+usage: compare.py BEFORE [NOW]     (two programs; NOW is the one that is built if not given)
 
 Each row is one storage root, read from the page cache. The two programs take turns, and begin in
 turns; a row gives the medians of their CPU time, user and system, and of the ratios of the pairs.
@@ -16,7 +16,9 @@ import tempfile
 
 import audit
 import contents
+import measure
 import runs
+import small
 
 ROUNDS = 5
 RUNS = 40
@@ -40,33 +42,31 @@ def say(title, before, now, ratio):
 
 
 def audits(title, make, programs):
-    root = tempfile.mkdtemp(prefix="ocfl-bench-")
-    try:
-        audit.write(os.path.join(root, "0=ocfl_1.1"), b"ocfl_1.1\n")
-        make(root)
-        commands = ["exec %s audit %s > /dev/null" % (program, root) for program in programs]
-        turns = [lambda command=command: audit.cpu_of(command)[0] for command in commands]
+    def measured(root):
+        commands = ["exec %s audit %s" % (program, root) for program in programs]
+        turns = [lambda command=command: measure.cpu_of(command) for command in commands]
         for turn in turns:
             turn()
         pairs = in_turns(ROUNDS, *turns)
         medians = [statistics.median(column) for column in zip(*pairs)]
         say(title, *medians, statistics.median(now / before for before, now in pairs))
-    finally:
-        shutil.rmtree(root)
+
+    measure.with_root(make, measured)
 
 
 def middles(programs):
     folder = tempfile.mkdtemp(prefix="ocfl-bench-")
     try:
-        root, middle = runs.make_root(os.path.join(folder, "root"), 4), os.path.join(folder, "middle")
+        root = runs.make_root(os.path.join(folder, "root"), 4)
+        middle = os.path.join(folder, "middle")
         half = ["run", "--cursor", middle, "--budget", str(101 * 10**4 // 2), root]
         subprocess.run([programs[0], *half], capture_output=True, check=True)
 
         def ran(program):
             cursor = os.path.join(folder, "cursor")
             shutil.copyfile(middle, cursor)
-            command = "exec %s run --cursor %s --budget 5000 %s 2> /dev/null" % (program, cursor, root)
-            return audit.cpu_of(command)[0]
+            command = "exec %s run --cursor %s --budget 5000 %s 2> /dev/null"
+            return measure.cpu_of(command % (program, cursor, root))
 
         turns = [lambda program=program: ran(program) for program in programs]
         means = [statistics.mean(column) for column in zip(*in_turns(RUNS, *turns))]
@@ -75,32 +75,28 @@ def middles(programs):
         shutil.rmtree(folder)
 
 
-def many_objects(root):
-    for number in range(100000):
-        folder = os.path.join(root, "%03d" % (number % 1000), "%06d" % number)
-        os.makedirs(folder)
-        audit.make_object(folder, 1, 1, 1)
-
-
 def main():
     if len(sys.argv) not in (2, 3):
         sys.exit(__doc__)
-    programs = [os.path.abspath(word) for word in (*sys.argv[1:], audit.PROGRAM)[:2]]
+    programs = [os.path.abspath(word) for word in (*sys.argv[1:], measure.PROGRAM)[:2]]
     others = ("md5", "sha1", "sha256")
     print("| folder | before, seconds | now, seconds | ratio |")
     print("|---|---|---|---|")
-    audits("8 files of 256 MiB, sha512",
+    audits("4 files of 256 MiB, sha512",
            lambda root: contents.large_files(root, "sha512"), programs)
-    audits("8 files of 256 MiB, sha256",
+    audits("4 files of 256 MiB, sha256",
            lambda root: contents.large_files(root, "sha256"), programs)
     audits("the same, sha512 with md5, sha1 and sha256 in fixity",
            lambda root: contents.large_files(root, "sha512", others), programs)
     audits("20,000 files of 1 KiB in 200 objects, depth 8", contents.small_files, programs)
+    audits("50,000 files of 1 KiB in 1,000 objects, ten to a directory", small.small_files,
+           programs)
     audits("one object of 100,000 files, all listed",
            lambda root: audit.make_object(os.path.join(root, "o"), 100, 100000, 100000), programs)
     audits("one directory of 1,000,000 files, none listed",
            lambda root: audit.make_object(os.path.join(root, "o"), 1, 1000000, 0), programs)
-    audits("100,000 objects of one file", many_objects, programs)
+    audits("100,000 objects of one file",
+           lambda root: audit.many_objects(root, 100000), programs)
     middles(programs)
 
 

@@ -3,11 +3,12 @@
 
     bench/digests.py [ROUNDS]
 
-Makes a copy of the repository's crates with one program over them in a new folder, proves and builds it (a few
-minutes where no earlier check is kept in `out/`), makes the files, and prints a table. It needs `rt`, coreutils and 2 GB
-of disk, and takes the new folder away again. Files are read once before the rounds, so that they lie in the page cache.
-A round times our program and its counterpart, one after the other, by the user and system time of the processes; the
-round with the best ratio counts.
+Makes a copy of the repository's crates with one program over them in a new folder, proves and
+builds it (a few minutes where no earlier check is kept in `out/`), makes the files, and prints a
+table. It needs `rt`, coreutils and 2 GB of disk, and takes the new folder away again. Files are
+read once before the rounds, so that they lie in the page cache. A round times our program and its
+counterpart, one after the other, by the user and system time of the processes; the round with the
+best ratio counts.
 """
 import os
 import pathlib
@@ -16,6 +17,8 @@ import shutil
 import subprocess
 import sys
 import tempfile
+
+import measure
 
 HERE = pathlib.Path(__file__).resolve().parent
 TOP = HERE.parent
@@ -27,16 +30,18 @@ FEW, SMALL = 20_000, 1024
 def build(folder):
     """The bench program, proved and compiled over copies of the crates that it stands on."""
     crates = folder / "crates"
-    for name in ("ocfl_tree", "ocfl_digest"):
+    for name in ("ocfl_tree", "ocfl_folder", "ocfl_digest"):
         shutil.copytree(TOP / "crates" / name, crates / name)
     source = crates / "digest_bench" / "src"
     source.mkdir(parents=True)
     shutil.copy(HERE / "digest_bench.txt", source / "main.rt")
     (folder / "crates.txt").write_text(
-        "ocfl_tree:\nocfl_digest: ocfl_tree sha2 sha1 md5\ndigest_bench: ocfl_tree ocfl_digest\n"
+        "ocfl_tree:\nocfl_folder: ocfl_tree\nocfl_digest: ocfl_tree sha2 sha1 md5\n"
+        "digest_bench: ocfl_tree ocfl_folder ocfl_digest\n"
     )
-    done = subprocess.run(["rt", "run"], cwd=crates / "digest_bench", capture_output=True, text=True)
-    program = crates / "digest_bench" / "out" / "digest_bench"
+    crate = crates / "digest_bench"
+    done = subprocess.run(["rt", "run"], cwd=crate, capture_output=True, text=True)
+    program = crate / "out" / "digest_bench"
     if not program.exists():
         sys.exit(done.stdout + done.stderr)
     return program
@@ -87,16 +92,20 @@ def main():
             ("sha256", [of_big("sha256")], [["sha256sum", big_file]], "`sha256sum`", 1.0),
             ("sha1", [of_big("sha1")], [["sha1sum", big_file]], "`sha1sum`", None),
             ("md5", [of_big("md5")], [["md5sum", big_file]], "`md5sum`", None),
-            ("the four together", [of_big(",".join(four))], [of_big(a) for a in four], "the four alone", 1.1),
-            ("sha256, 20,000 files", [[program, str(many), "sha256"]], [["sha256sum", *all_small]], "`sha256sum`", 1.2),
+            ("the four together", [of_big(",".join(four))], [of_big(a) for a in four],
+             "the four alone", 1.1),
+            ("sha256, 20,000 files", [[program, str(many), "sha256"]],
+             [["sha256sum", *all_small]], "`sha256sum`", 1.2),
         ]
         print(f"Processor: {processor()}\n")
         print("| case | seconds | against | seconds | ratio | wanted |")
         print("|---|---|---|---|---|---|")
         for name, ours, theirs, against, wanted in rows:
             mine, other = best(ours, theirs)
-            limit = f"at most {wanted}" if wanted else ""
-            print(f"| {name} | {mine:.2f} | {against} | {other:.2f} | {mine / other:.2f} | {limit} |")
+            limit = measure.said(wanted)
+            measure.note("digests", name, mine / other, wanted)
+            figures = f"{mine:.2f} | {against} | {other:.2f} | {mine / other:.2f}"
+            print(f"| {name} | {figures} | {limit} |", flush=True)
     finally:
         shutil.rmtree(folder)
 

@@ -1,0 +1,75 @@
+"""What the scripts of this folder share: the program, CPU times, folders that they make, and rows.
+
+Folders are made below TMPDIR. A row that has a ratio is written into the file that
+OCFL_BENCH_ROWS names too, for `bench/run`: its table, its name, the ratio and what is wanted.
+"""
+import hashlib
+import os
+import resource
+import shutil
+import subprocess
+import tempfile
+
+HERE = os.path.dirname(os.path.abspath(__file__))
+BUILT = os.path.join(HERE, "..", "crates", "ocfl_scrub_cli", "out", "ocfl_scrub_cli")
+PROGRAM = os.path.abspath(os.environ.get("OCFL_SCRUB", BUILT))
+ROUNDS = 3
+
+
+def write(path, data):
+    os.makedirs(os.path.dirname(path), exist_ok=True)
+    with open(path, "wb") as file:
+        file.write(data)
+
+
+def digest(algorithm, data):
+    return hashlib.new(algorithm, data).hexdigest()
+
+
+def cpu_of(command):
+    """The CPU seconds, user and system, of a command of the shell; it may fail."""
+    before = resource.getrusage(resource.RUSAGE_CHILDREN)
+    subprocess.run(command, shell=True, stdout=subprocess.DEVNULL)
+    after = resource.getrusage(resource.RUSAGE_CHILDREN)
+    return after.ru_utime + after.ru_stime - before.ru_utime - before.ru_stime
+
+
+def audit_of(root):
+    return "exec %s audit %s" % (PROGRAM, root)
+
+
+def bests(rounds, *calls):
+    """The least seconds of each call, of rounds in which they take turns, after one that counts
+    for nothing."""
+    for call in calls:
+        call()
+    return [min(column) for column in zip(*([call() for call in calls] for _ in range(rounds)))]
+
+
+def with_root(make, *tell):
+    """Makes a storage root in a new folder, tells of it, and takes it away."""
+    root = tempfile.mkdtemp(prefix="ocfl-bench-")
+    try:
+        write(os.path.join(root, "0=ocfl_1.1"), b"ocfl_1.1\n")
+        make(root)
+        for each in tell:
+            each(root)
+    finally:
+        shutil.rmtree(root)
+
+
+def head(*names):
+    print("| %s |" % " | ".join(names))
+    print("|%s" % ("---|" * len(names)), flush=True)
+
+
+def said(wanted):
+    return "at most %.2f" % wanted if wanted else ""
+
+
+def note(table, row, ratio, wanted=None):
+    """Keeps a ratio for `bench/run`."""
+    rows = os.environ.get("OCFL_BENCH_ROWS")
+    if rows:
+        with open(rows, "a") as file:
+            file.write("%s\t%s\t%.3f\t%s\n" % (table, row, ratio, wanted or "-"))

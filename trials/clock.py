@@ -239,8 +239,31 @@ def no_whole_reading(folder):
         is_so("it goes on", file.read().decode(), "".join(ITEMS[:4]))
 
 
+def pieces_of_a_long_run(folder):
+    """A run that appends more than 64 MiB: the next night reads the last piece of it alone, and the
+    end of the cycle each of them."""
+    for name, place, status, ends in [("as it is", None, 0, "cycle-000001"),
+                                      ("a change of the first piece", 9, 0, "incomplete-000001"),
+                                      ("a change of the last piece", -9, 3, "incomplete-000001")]:
+        nights = Nights("%s/%s" % (folder, name), make_root("%s/%s-root" % (folder, name)))
+        long = instead(folder, "long", "yes \"$(printf 'S07\\to\\t%01000d' 0)\" | head -n 180000\n"
+                       'exec {program} "$@"')
+        nights.night("4", program=long)
+        is_so(name + ": pieces", [row[10] for row in nights.rows("piece")],
+              [str(67108864 * piece) for piece in (1, 2)])
+        if place:
+            with open(nights.path("report"), "r+b") as file:
+                file.seek(place, os.SEEK_SET if place > 0 else os.SEEK_END)
+                file.write(b"!")
+        began = time.monotonic()
+        is_so(name + ": a night", nights.night("1")[0], status)
+        is_so(name + ": under five seconds", time.monotonic() - began < 5, True)
+        nights.night("1K")
+        is_so(name + ": the end", nights.reports(), [ends])
+
+
 PARTS = [until_an_hour, for_hours, at_least_one_file, usage, one_message, a_kill_loses_a_slice,
-         signals, grace_is_over, by_timeout, no_whole_reading]
+         signals, grace_is_over, by_timeout, no_whole_reading, pieces_of_a_long_run]
 
 
 def tell(folder):

@@ -1,6 +1,6 @@
 # Reads the log of nights, and writes what it says of the report of one cycle where the cursor
-# stands: a line `known`, its bytes, its lines and its digest, and then a line `piece` for each run
-# that appended something: from which byte, to which, the digest before and the digest after.
+# stands: a line `known`, its bytes, its lines and its digest, and then a line `piece` for each
+# piece that was appended: from which byte, to which, the digest before and the digest after.
 #
 # It takes `cycle`, `run` and `spent` of the cursor, and STANDS from the environment. With
 # `unfinished`, the report is that before the run which has no second row. Where the log does not
@@ -27,7 +27,7 @@ $2 == "lost" || $2 == "counted" {
   before = "0000000000000000000000000000000000000000000000000000000000000000"
 }
 
-$2 !~ /^([0-9]+|cut|lost|counted)$/ { next }
+$2 !~ /^([0-9]+|piece|cut|lost|counted)$/ { next }
 
 $11 + 0 > start + 0 {
   count++

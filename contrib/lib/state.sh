@@ -6,6 +6,8 @@
 # The digest of a report without lines.
 nothing=0000000000000000000000000000000000000000000000000000000000000000
 tab=$(printf '\t')
+# How many bytes of a report have one digest at most: 64 MiB.
+piece_size=67108864
 
 # The program: that of the environment, or the one installed with these scripts, or of their clone.
 find_program() {
@@ -132,10 +134,20 @@ cut_report() {
   truncate -s "$1" -- "$report"
 }
 
+# Whether the last line of the report is whole, and the cursor stands after its place.
+ends_at_cursor() {
+  [ -z "$(tail -c 1 -- "$report")" ] || return 1
+  [ "$stands" = ended ] || [ "after $(tail -n 1 -- "$report" | cut -f 2)" = "$stands" ]
+}
+
 # How many bytes and lines of what stands in the report from a byte on end where the cursor stands.
 measure() {
   room=$(($(size_of "$report") - $1))
   if [ "$room" -le 0 ]; then echo 0 0; return 0; fi
+  if ends_at_cursor; then
+    echo "$room $(tail -c "+$(($1 + 1))" -- "$report" | wc -l)"
+    return 0
+  fi
   tail -c "+$(($1 + 1))" -- "$report" | LC_ALL=C STANDS=$stands awk -F '\t' -v room="$room" '
     { at += length($0) + 1 }
     at <= room && (ENVIRON["STANDS"] == "ended" || "after " $2 == ENVIRON["STANDS"]) {
@@ -155,7 +167,24 @@ take_over() {
     return 1
   fi
   cut_report "$bytes" || return 3
-  digest=$(digest_after "$report" "$3" "$1" "$bytes")
+  digest=$3
+  log_pieces "$1" "$2"
+}
+
+# Sets the digest of the report, to which a run appended what stands from a byte on, and which had
+# $2 lines before. Where that is more than a piece, each piece but the last one has a row of its
+# own, so that the next night reads the last one alone.
+log_pieces() {
+  at=$1 upto=$bytes after=$lines lines=$2
+  while [ $((upto - at)) -gt $piece_size ]; do
+    bytes=$((at + piece_size))
+    lines=$((lines + $(piece "$report" "$at" "$bytes" | wc -l)))
+    digest=$(digest_after "$report" "$digest" "$at" "$bytes")
+    (cost=0 seconds=0 && log piece "a piece of the run") || return 3
+    at=$bytes
+  done
+  bytes=$upto lines=$after
+  digest=$(digest_after "$report" "$digest" "$at" "$bytes")
 }
 
 # Takes the report as it is, from its first byte on: no digest of before holds for it any more.

@@ -111,7 +111,7 @@ closing_text() {
   found=${found% }
   printf 'report %s; %s; findings %s; compared %s; gone %s objects %s files' \
     "reports/${closed##*/}" "$kind" "${found:-none}" "$compared" "$(gone object)" "$(gone file)"
-  [ -z "$expected" ] || printf '; expected %s' "$(gone expected)"
+  if [ -n "$expected" ] && [ "$kind" = whole ]; then printf '; expected %s' "$(gone expected)"; fi
 }
 
 # Writes the statement of the closed cycle, and seals it where that is asked for. The next night

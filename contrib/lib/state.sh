@@ -199,7 +199,7 @@ count_all() {
 # Brings the report and the log to where the cursor stands, whatever a kill or a full disk left.
 settle() {
   cut_half_row || return 3
-  bytes=0 lines=0 digest=$nothing lost='' cost=0 seconds=0
+  bytes=0 lines=0 digest=$nothing cost=0 seconds=0
   began=$(now)
   unfinished=$(unfinished_row)
   known=$(pieces)
@@ -247,11 +247,11 @@ settle_unfinished() {
 
 # Of an older log, the count of lines is all that is known of the report.
 settle_unknown() {
-  expected=$(old_count)
-  if [ "$expected" -eq 0 ] && [ "$stands" = start ]; then
+  logged=$(old_count)
+  if [ "$logged" -eq 0 ] && [ "$stands" = start ]; then
     cut_report 0
-  elif [ "$expected" -gt 0 ] && [ "$(first_lines "$expected" | wc -l)" -eq "$expected" ]; then
-    cut_report "$(first_lines "$expected" | wc -c)" && count_all && log counted "from an older log"
+  elif [ "$logged" -gt 0 ] && [ "$(first_lines "$logged" | wc -l)" -eq "$logged" ]; then
+    cut_report "$(first_lines "$logged" | wc -c)" && count_all && log counted "from an older log"
   else
     lose
   fi
@@ -272,9 +272,8 @@ settle_closed() { [ ! -s "$report" ] || mv -f -- "$report" "$state/report.left";
 
 # The report is not what the log says: its cycle can no more be called whole.
 lose() {
-  lost=yes
-  expected=$(last_count)
-  count_all && log lost "$lines lines, and the log $expected"
+  logged=$(last_count)
+  count_all && log lost "$lines lines, and the log $logged"
 }
 
 # How many lines the log says that the report of this cycle has, by its last row.

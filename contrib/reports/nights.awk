@@ -47,5 +47,6 @@ END {
   print "Compared with cycle\t" compared
   print "Objects gone\t" (compared == "nothing" ? "not known" : objects)
   print "Files gone\t" (compared == "nothing" ? "not known" : files)
-  print "Expected objects missing\t" (expected == "" ? "not asked" : expected)
+  if (expected == "") expected = whole == "whole" ? "not asked" : "not known"
+  print "Expected objects missing\t" expected
 }

@@ -57,11 +57,20 @@ say_findings() {
   done
 }
 
+# A night that made runs, and has no row `told`, was cut as well.
 say_cut() {
-  awk -F '\t' '$2 == "cut" {
-    printf "The night of %s was cut: run %s of cycle %s ", $14, $4, $3
-    print $7 ~ /again/ ? "is made again." : "had ended, and nothing was said of it."
-  }' "$scratch/untold"
+  awk -F '\t' -v tonight="$night" '
+    $2 ~ /^[0-9]+$/ && $14 != tonight && !($14 in runs) { nights[++count] = $14 }
+    $2 ~ /^[0-9]+$/ { runs[$14] }
+    $2 == "cut" {
+      was_cut[$14]
+      printf "The night of %s was cut: run %s of cycle %s ", $14, $4, $3
+      print $7 ~ /again/ ? "is made again." : "had ended, and nothing was said of it."
+    }
+    END {
+      for (n = 1; n <= count; n++) if (!(nights[n] in was_cut))
+        printf "The night of %s was cut after its last run.\n", nights[n]
+    }' "$scratch/untold"
 }
 
 say_lost() {

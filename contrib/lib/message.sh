@@ -42,7 +42,10 @@ findings_between() {
 
 say_findings() {
   untold_pieces | while read -r of first last from to; do
-    findings_between "$of" "$from" "$to" > "$scratch/found"
+    findings_between "$of" "$from" "$to" > "$scratch/unsorted"
+    # Where they cannot be sorted, they are said all the same.
+    "$here/reports/findings" --by-weight "$scratch/unsorted" > "$scratch/found" \
+      || cp -- "$scratch/unsorted" "$scratch/found"
     count=$(wc -l < "$scratch/found")
     [ "$count" -gt 0 ] || continue
     echo "$count" >> "$scratch/counts"

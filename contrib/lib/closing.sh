@@ -23,6 +23,14 @@ report_before() {
   done | tail -n 1
 }
 
+# Whether a report can be read, and where it is compressed, to its end.
+is_readable() {
+  case $1 in
+    *.gz) gzip -t -- "$1" 2> /dev/null ;;
+    *) [ -r "$1" ] ;;
+  esac
+}
+
 # Closes the cycle that the cursor says has ended, and writes its statement.
 close_cycle() {
   [ "$stands" = ended ] || return 0
@@ -67,12 +75,16 @@ was_lost() {
 }
 
 # Lists what stands in the report before, or is expected, and has no line in this one. Of a report
-# that lost lines that cannot be said.
+# that lost lines that cannot be said. Where the one before cannot be read, `unstated` says so.
 list_gone() {
   list=$state/reports/gone-$(number_of "$cycle")
   compared=nothing
   case $closed in */incomplete-*) rm -f -- "$list"; return 0 ;; esac
   earlier=$(report_before "$cycle")
+  if [ -n "$earlier" ] && ! is_readable "$earlier"; then
+    echo "$earlier cannot be read: what is gone since then is not known." >&2
+    unstated=yes earlier=''
+  fi
   {
     if [ -n "$earlier" ]; then
       zcat -f -- "$earlier" | LC_ALL=C NEWER=$1 awk -f "$here/lib/gone.awk" || return 3

@@ -6,11 +6,13 @@ usage: nights.py [PART]...
 
 Where a tool is missing, that is a failure which names Debian's package.
 """
+import gzip
 import os
 import re
 import shutil
 import signal
 import subprocess
+import time
 
 import common
 from common import PROGRAM, digest, is_so
@@ -65,9 +67,9 @@ def nights_with_findings(folder):
     is_so("report", nights.has("reports/cycle-000001"), "".join(ITEMS[:3] + [WRONG_B] + ITEMS[4:]))
     for number in range(30):
         write(nights.root + "/o/junk-%02d" % number, "")
-    said = nights.night("1K")[2]
-    is_so("at most twenty are told", [said.count("E001\to/junk-"), "and 11 more" in said],
-          [20, True])
+    said = nights.night("1K")[2].splitlines(True)
+    is_so("at most twenty are told, the gravest first", (said[1:21], said[21][:11]), (
+        [WRONG_B] + ["E001\to/junk-%02d\t-\n" % number for number in range(19)], "and 11 more"))
 
 
 def notes_are_no_findings(folder):
@@ -264,7 +266,13 @@ def cut_before_it_says(folder):
     is_so("the last row", nights.rows()[-1][1], "told")
     lines = nights.has("nights").splitlines(True)
     write(nights.path("nights"), "".join(lines[:-1]))
-    is_so("told again", WRONG_B in nights.night("1")[2], True)
+    # A night goes by the second in which it began.
+    time.sleep(1.1)
+    said = nights.night("1")[2]
+    is_so("told again", WRONG_B in said, True)
+    is_so("and that it was cut", said.splitlines()[0],
+          "The night of %s was cut after its last run." % lines[-1].split("\t")[0])
+    is_so("once", "was cut" in nights.night("1")[2], False)
 
 
 KILLED = """cp {state}/cursor {state}/cursor.kept 2> /dev/null
@@ -588,6 +596,51 @@ def expected_objects(folder):
     is_so("no list", nights.night("1K", more=["--expected", folder + "/none"])[0], 2)
 
 
+def expected_of_a_lost_report(folder):
+    """A report that lost lines says nothing of the expected objects; the next one does, also where
+    one night closes both."""
+    nights = Nights(folder + "/state", make_root(folder + "/root"))
+    write(folder + "/list", "b\n")
+    nights.night("4")
+    nights.night("1K", program=orphaning(folder))
+    wait_for(nights)
+    damage(nights, lambda lines: lines[1:])
+    said = nights.night("1K", more=["--expected", folder + "/list"])[2]
+    is_so("both are closed", nights.reports(),
+          ["cycle-000002", "gone-000002", "incomplete-000001.gz"])
+    is_so("the lost one", nights.rows("ended")[0][6].split("; ")[4:], ["gone 0 objects 0 files"])
+    is_so("its statement", "\nExpected objects missing: not known\n" in nights.has(
+        "reports/statement-000001"), True)
+    is_so("the next one", "1 object of %s/list is in no report of cycle 2;" % folder in said, True)
+
+
+def expected_of_an_older_log(folder):
+    """The list is read too where the log of an earlier version was taken over."""
+    nights = Nights(folder + "/state", make_root(folder + "/root"))
+    write(folder + "/list", "b\n")
+    nights.night("4")
+    write(nights.path("nights"), "2025-01-01T22:00:00Z\t0\t1\t1\t3\t4\t"
+          "cycle 1, run 1, cost 4, open\n")
+    status, _, said = nights.night("1K", more=["--expected", folder + "/list"])
+    is_so("told", (status, said), (1, "1 object of %s/list is in no report of cycle 1; %s lists "
+                                   "them.\n" % (folder, nights.path("reports/gone-000001"))))
+
+
+def unreadable_report(folder):
+    """Where the report before cannot be read, that is told, and nothing is called compared."""
+    nights = Nights(folder + "/state", make_root(folder + "/root"))
+    nights.night("1K")
+    report = nights.path("reports/cycle-000001")
+    write(report + ".gz", gzip.compress(common.read(report))[:-9])
+    os.remove(report)
+    shutil.rmtree(nights.root + "/o/v1")
+    status, _, said = nights.night("1K")
+    is_so("told", (status, "%s.gz cannot be read" % report in said), (3, True))
+    is_so("not compared", nights.rows("ended")[-1][6].split("; ")[3:],
+          ["compared nothing", "gone 0 objects 0 files"])
+    is_so("closed all the same", nights.reports(), ["cycle-000001.gz", "cycle-000002"])
+
+
 # Stops
 
 def stopping(nights, folder, place):
@@ -701,7 +754,8 @@ PARTS = [plain_nights, nights_with_findings, notes_are_no_findings, logged, cost
          shell_dies_at_the_end, cut_before_it_says, killed_nights, lines_after_the_cursor,
          written_again, full_disk, full_state, state_is_tried_first, files_are_ones_own, lost_lines,
          changed_in_the_middle, removed_report, reports_moved_away, closing_fails, older_log,
-         put_back, another_root, half_a_root, gone_things, all_is_gone, expected_objects, reasons,
+         put_back, another_root, half_a_root, gone_things, all_is_gone, expected_objects,
+         expected_of_a_lost_report, expected_of_an_older_log, unreadable_report, reasons,
          no_permission, the_second_stop, stopped_nights, locked_nights]
 
 

@@ -218,17 +218,19 @@ def by_timeout(folder):
 # A long report
 
 def no_whole_reading(folder):
-    """A report that begins with a hole of a tebibyte: whoever reads it whole does not end."""
-    nights = Nights(folder + "/state", make_root(folder + "/root"))
-    nights.night("4")
+    """A report that begins with a hole of a tebibyte, which its first run appended by the log:
+    whoever reads it whole does not end."""
+    files = {"v1/content/%d" % number: b"" for number in range(5)}
+    nights = Nights(folder + "/state", common.make_root(folder + "/root", {"o": files}))
+    nights.night("1")
+    nights.night("1")
     text, hole = nights.has("report"), 1 << 40
     os.truncate(nights.path("report"), hole)
     with open(nights.path("report"), "a") as file:
         file.write(text)
-    rows = [line.split("\t") for line in nights.has("nights").splitlines()]
+    rows = nights.rows()
     for row in rows:
-        if len(row) == 14:
-            row[10] = str(int(row[10]) + hole)
+        row[10] = str(int(row[10]) + (hole if row[10] != "0" else 0))
     write(nights.path("nights"), "".join("\t".join(row) + "\n" for row in rows))
     words = ["timeout", "-s", "KILL", "20", *nights.words("1")]
     began = time.monotonic()
@@ -236,7 +238,7 @@ def no_whole_reading(folder):
     is_so("under five seconds", time.monotonic() - began < 5, True)
     with open(nights.path("report"), "rb") as file:
         file.seek(hole)
-        is_so("it goes on", file.read().decode(), "".join(ITEMS[:4]))
+        is_so("it goes on", file.read().decode(), text + "ok\to/v1/content/2\t0\n")
 
 
 def pieces_of_a_long_run(folder):

@@ -63,7 +63,7 @@ def nights_with_findings(folder):
         "1 finding(s) tonight in %s, cycle 1, run 2:" % nights.root, WRONG_B.rstrip("\n")]))
     is_so("tonight", nights.has("tonight"), said)
     is_so("next night is silent", nights.night("1"), (0, "", ""))
-    is_so("nothing tonight", nights.has("tonight"), None)
+    is_so("nothing tonight", [name for name in os.listdir(nights.state) if "tonight" in name], [])
     is_so("report", nights.has("reports/cycle-000001"), "".join(ITEMS[:3] + [WRONG_B] + ITEMS[4:]))
     for number in range(30):
         write(nights.root + "/o/junk-%02d" % number, "")
@@ -312,14 +312,20 @@ def lines_after_the_cursor(folder):
 
 
 def written_again(folder):
-    """The findings that a killed night had written are told when they are written again."""
-    nights = Nights(folder + "/state", make_root(folder + "/root"))
-    write(nights.root + "/o/v1/content/b", "b")
-    nights.night("4")
-    killer = instead(folder, "killer", KILLED.replace("{state}", nights.state))
-    nights.night("1", program=killer)
-    status, _, said = nights.night("1")
-    is_so("told", (status, WRONG_B in said), (1, True))
+    """The findings that a killed night had written are told when they are written again: where the
+    program alone was killed, and where all of the night was."""
+    for name, killed in [("program", "$$"), ("night", "0")]:
+        nights = Nights("%s/%s" % (folder, name), make_root("%s/%s-root" % (folder, name)))
+        write(nights.root + "/o/v1/content/b", "b")
+        nights.night("4")
+        killer = instead(folder, "killer", KILLED.replace("{state}", nights.state).replace(
+            "kill -9 $$", "kill -9 " + killed))
+        night = subprocess.Popen(nights.words("1"), start_new_session=True, stderr=subprocess.PIPE,
+                                 env={**os.environ, "OCFL_SCRUB": killer})
+        is_so("killed " + name, (night.communicate(timeout=60)[1].count(b"E092"),
+                                 night.returncode), (0, 137 if killed == "$$" else -9))
+        status, _, said = nights.night("1")
+        is_so("told after the killed " + name, (status, WRONG_B in said), (1, True))
 
 
 def full_disk(folder):

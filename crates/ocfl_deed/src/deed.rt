@@ -1,4 +1,4 @@
-//! The deeds of the program, and a deed with what it is done with.
+//! The deeds of the program.
 
 use ocfl_cursor::Limits;
 
@@ -15,17 +15,4 @@ pub enum Deed {
     Check(String),
     /// A cursor is shown.
     Show,
-}
-
-/// What a command line asks for, and what it is done with.
-#[derive(Debug, Drop, PartialEq, Eq)]
-pub struct Asked {
-    /// What is to be done.
-    pub deed: Deed,
-    /// The folder of the storage root, which only `Show` goes without.
-    pub root: Option<String>,
-    /// The file of the cursor, of `Run` and of `Show`.
-    pub file: Option<String>,
-    /// Whether no progress is to be shown.
-    pub quiet: bool,
 }

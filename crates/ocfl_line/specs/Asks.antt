@@ -1,18 +1,33 @@
 -- What the words of a command line ask for.
-use Rattle.std.specs.Prelude.{◌≡◌, ◌↔◌, ℕ, ◌≤◌, List, Option, Some, IsSomeAnd, IsTrue, codes, option_map, string_bytes}
+use Rattle.std.specs.Prelude.{◌≡◌, ◌↔◌, ℕ, ◌≤◌, List, Option, Some, None, IsSomeAnd, IsTrue, String, codes, option_map, string_bytes}
+use Rattle.std.specs.declared.alloc.Global.{Global}
 use Rattle.std.specs.Str.Parse.{IsNumeral, digits_value, without_leading_plus}
 use Rattle.clap.specs.Words.{Row, Text, first_of, one_of}
 use Rattle.ocfl_cursor.specs.Limits.{IsFileLimit}
 use Rattle.ocfl_cursor.specs.declared.limits.Limits.{Limits}
 use Rattle.ocfl_line.specs.Budget.{IsBudgetText}
-use Rattle.ocfl_line.specs.Line.{most_runs}
+use Rattle.ocfl_line.specs.Line.{most_parts, most_runs, most_split}
 use Rattle.ocfl_deed.specs.declared.deed.Deed.{Deed}
 use Rattle.ocfl_deed.specs.declared.deed.Deed.TheVariants.{Audit, Run, Cycle, Check, Show}
-use Rattle.ocfl_deed.specs.declared.deed.Asked.{Asked}
+use Rattle.ocfl_deed.specs.declared.asked.Chosen.{Chosen}
+use Rattle.ocfl_deed.specs.declared.asked.Chosen.TheVariants.{All, Branch, Part}
+use Rattle.ocfl_deed.specs.declared.asked.Task.{Task}
+use Rattle.ocfl_deed.specs.declared.asked.Split.{Split}
+use Rattle.ocfl_deed.specs.declared.asked.Split.TheVariants.{Listing, Report}
+use Rattle.ocfl_deed.specs.declared.asked.Asked.{Asked}
+use Rattle.ocfl_deed.specs.declared.asked.Asked.TheVariants as asked
 
 -- the text writes this number: decimal digits, which a plus sign may precede
 abbrev pub IsNumberText : ℕ → Text → Type 0
 IsNumberText n t = IsNumeral 10 (without_leading_plus t) × (n ≡ digits_value 10 (without_leading_plus t))
+
+-- an argument is left out
+abbrev pub IsLeftOut : Text → List Row → Type 0
+IsLeftOut id rows = first_of id rows ≡ None
+
+-- the text of an argument
+abbrev pub HasText : Text → List Row → String Global → Type 0
+HasText id rows s = first_of id rows ≡ Some (string_bytes s)
 
 -- the number of an option
 abbrev pub HasNumber : Text → List Row → ℕ → Type 0
@@ -24,31 +39,57 @@ pub record HasLimits (rows : List Row) (limits : Limits) : Type 0 where
   pub files : HasNumber (codes "files") rows limits.files
   pub some : IsFileLimit limits.files
 
+-- the number of an option, from 1 up to this one
+pub record HasCount (id : Text) (most : ℕ) (rows : List Row) (n : ℕ) : Type 0 where
+  pub number : HasNumber id rows n
+  pub some : 1 ≤ n
+  pub few : n ≤ most
+
 -- the most runs of a cycle
-pub record HasRuns (rows : List Row) (runs : ℕ) : Type 0 where
-  pub number : HasNumber (codes "runs") rows runs
-  pub some : 1 ≤ runs
-  pub most : runs ≤ most_runs
+abbrev pub HasRuns : List Row → ℕ → Type 0
+HasRuns = HasCount (codes "runs") most_runs
 
 -- the deed that the subcommand of this name and its matches ask for
 abbrev pub IsDeed : Text → List Row → Deed → Type 0
 IsDeed name rows Audit = name ≡ codes "audit"
 IsDeed name rows (Run limits) = (name ≡ codes "run") × HasLimits rows limits
 IsDeed name rows (Cycle limits runs) = (name ≡ codes "cycle") × HasLimits rows limits × HasRuns rows runs
-IsDeed name rows (Check path) = (name ≡ codes "check") × (first_of (codes "path") rows ≡ Some (string_bytes path))
+IsDeed name rows (Check path) = (name ≡ codes "check") × HasText (codes "path") rows path
 IsDeed name rows Show = name ≡ codes "show"
 
 -- the flag is given, for which `clap` has this text
 abbrev pub IsGiven : Text → List Row → Type 0
 IsGiven id rows = first_of id rows ≡ Some (codes "true")
 
--- what they ask for: a deed, the folder and the file that it is done with, where they are given, and
--- whether quietly
-pub record IsAsked (name : Text) (rows : List Row) (a : Asked) : Type 0 where
-  pub deed : IsDeed name rows a.deed
-  pub root : option_map string_bytes a.root ≡ first_of (codes "root") rows
-  pub file : option_map string_bytes a.file ≡ first_of (codes "file") rows
-  pub quiet : IsTrue a.quiet ↔ IsGiven (codes "quiet") rows
+-- which items they choose: a part by the file of the separators and its number, a branch by its
+-- place, and all of them where neither is given
+abbrev pub IsChosen : List Row → Chosen → Type 0
+IsChosen rows All = IsLeftOut (codes "under") rows × IsLeftOut (codes "parts") rows × IsLeftOut (codes "part") rows
+IsChosen rows (Branch place) = HasText (codes "under") rows place × IsLeftOut (codes "parts") rows
+    × IsLeftOut (codes "part") rows
+IsChosen rows (Part parts number) = IsLeftOut (codes "under") rows × HasText (codes "parts") rows parts
+    × HasCount (codes "part") most_parts rows number
+
+-- a deed, which items it takes, the folder and the file that it is done with, where they are given,
+-- and whether quietly
+pub record IsTask (name : Text) (rows : List Row) (t : Task) : Type 0 where
+  pub deed : IsDeed name rows t.deed
+  pub chosen : IsChosen rows t.chosen
+  pub root : option_map string_bytes t.root ≡ first_of (codes "root") rows
+  pub file : option_map string_bytes t.file ≡ first_of (codes "file") rows
+  pub quiet : IsTrue t.quiet ↔ IsGiven (codes "quiet") rows
+
+-- how a storage root is to be split: a count and the folder, or a budget and a report
+abbrev pub IsSplit : List Row → Split → Type 0
+IsSplit rows (Listing count root) = HasCount (codes "count") most_split rows count × HasText (codes "root") rows root
+    × IsLeftOut (codes "budget") rows × IsLeftOut (codes "report") rows
+IsSplit rows (Report budget report) = IsSomeAnd (first_of (codes "budget") rows) (λ t. IsBudgetText t budget)
+    × HasText (codes "report") rows report × IsLeftOut (codes "count") rows × IsLeftOut (codes "root") rows
+
+-- what the subcommand of this name and its matches ask for
+abbrev pub IsAsked : Text → List Row → Asked → Type 0
+IsAsked name rows (asked.Task t) = IsTask name rows t
+IsAsked name rows (asked.Split s) = (name ≡ codes "split") × IsSplit rows s
 
 -- the same of the subcommand that `clap` finds
 abbrev pub Asks : Option (Text × List Row) → Asked → Type 0

@@ -8,13 +8,20 @@ use Rattle.clap.specs.declared.builder.command.Command.{Command}
 use Rattle.clap.specs.declared.builder.command.Command.TheViews.{out-Command}
 use Rattle.clap.specs.declared.builder.value_parser.ValueParser.TheVariants as vp
 use Rattle.ocfl_line.specs.declared.command.Argument.{Argument}
-use Rattle.ocfl_line.specs.declared.command.Argument.TheVariants.{Root, Path, File, Cursor, Budget, Files, Runs, Quiet}
+use Rattle.ocfl_line.specs.declared.command.Argument.TheVariants.{Root, Path, File, Cursor, Budget, Files, Runs, Quiet, Under, Parts, Part, Count, AnyRoot, AnyBudget, Report}
 
 abbrev pub most_files : ℕ
 most_files = 4611686018427387904
 
 abbrev pub most_runs : ℕ
 most_runs = 100000
+
+-- as many separators as their text may have make one part more
+abbrev pub most_parts : ℕ
+most_parts = 100001
+
+abbrev pub most_split : ℕ
+most_split = 100000
 
 -- ---- the arguments
 
@@ -56,6 +63,25 @@ runs_rule = record (needed_rule (codes "runs")) {
 abbrev pub quiet_rule : Rule
 quiet_rule = record (new_rule (codes "quiet")) { long = Some (codes "quiet"); action = Some SetTrue }
 
+-- an argument that has a value and may be left out
+abbrev pub optional_rule : Text → Rule
+optional_rule id = record (new_rule id) { value_names = 1 }
+
+-- such an option, which has the name of what it gives
+abbrev pub named_rule : Text → Rule
+named_rule id = record (optional_rule id) { long = Some id }
+
+-- which of the parts; `IsChosen` says what it goes with
+abbrev pub part_rule : Rule
+part_rule = record (named_rule (codes "part")) { parser = Some (vp.Unsigned 1 most_parts) }
+
+-- how many parts; `IsSplit` says what it goes with
+abbrev pub count_rule : Rule
+count_rule = record (optional_rule (codes "count")) {
+  long = Some (codes "parts");
+  parser = Some (vp.Unsigned 1 most_split);
+}
+
 -- the rule of each argument of the program
 abbrev pub rule_for : Argument → Rule
 rule_for Root = root_rule
@@ -66,6 +92,13 @@ rule_for Budget = budget_rule
 rule_for Files = files_rule
 rule_for Runs = runs_rule
 rule_for Quiet = quiet_rule
+rule_for Under = named_rule (codes "under")
+rule_for Parts = named_rule (codes "parts")
+rule_for Part = part_rule
+rule_for Count = count_rule
+rule_for AnyRoot = optional_rule (codes "root")
+rule_for AnyBudget = named_rule (codes "budget")
+rule_for Report = named_rule (codes "report")
 
 -- the argument is one that `clap` reads by this rule, for its own subcommand alone
 abbrev pub IsArg : Rule → Arg → Type 0
@@ -78,10 +111,12 @@ abbrev pub app_with : Text → List Rule → App
 app_with name rules = on_top (λ s. record s { rules = rules }) (new_app name)
 
 abbrev pub audit_app : App
-audit_app = app_with (codes "audit") (quiet_rule ∷ root_rule ∷ [])
+audit_app = app_with (codes "audit") (named_rule (codes "under") ∷ named_rule (codes "parts") ∷ part_rule
+    ∷ quiet_rule ∷ root_rule ∷ [])
 
 abbrev pub run_app : App
-run_app = app_with (codes "run") (cursor_rule ∷ budget_rule ∷ files_rule ∷ quiet_rule ∷ root_rule ∷ [])
+run_app = app_with (codes "run") (cursor_rule ∷ budget_rule ∷ files_rule ∷ named_rule (codes "parts") ∷ part_rule
+    ∷ quiet_rule ∷ root_rule ∷ [])
 
 abbrev pub cycle_app : App
 cycle_app = app_with (codes "cycle") (budget_rule ∷ files_rule ∷ runs_rule ∷ quiet_rule ∷ root_rule ∷ [])
@@ -92,6 +127,10 @@ check_app = app_with (codes "check") (root_rule ∷ path_rule ∷ [])
 abbrev pub show_app : App
 show_app = app_with (codes "show") (file_rule ∷ [])
 
+abbrev pub split_app : App
+split_app = app_with (codes "split") (count_rule ∷ named_rule (codes "budget") ∷ named_rule (codes "report")
+    ∷ optional_rule (codes "root") ∷ [])
+
 -- ---- the program
 
 -- the program before its subcommands: it has a version, and one subcommand is required
@@ -99,8 +138,8 @@ abbrev pub bare_app : App
 bare_app = on_top (λ s. record s { has_version = true; subcommand_required = true }) (new_app (codes "ocfl-scrub"))
 
 abbrev pub line_app : App
-line_app = with_subcommand (with_subcommand (with_subcommand (with_subcommand
-    (with_subcommand bare_app audit_app.top) run_app.top) cycle_app.top) check_app.top) show_app.top
+line_app = with_subcommand (with_subcommand (with_subcommand (with_subcommand (with_subcommand
+    (with_subcommand bare_app audit_app.top) run_app.top) cycle_app.top) check_app.top) split_app.top) show_app.top
 
 -- the command is the one that `clap` reads as this
 abbrev pub IsCommand : App → Command → Type 0

@@ -30,6 +30,14 @@ pub(crate) fn read_budget(text: &str) -> Option<Budget>
     ensures found { IfSome result (IsBudgetText text.now) }
     ensures missing { IsNone result → (n : ℕ) → IsBudgetText text.now n → ⊥ }
 {
+    Budget::new(read_amount(text)?)
+}
+
+/// The same as a number.
+pub(crate) fn read_amount(text: &str) -> Option<u64>
+    ensures found { IfSome result (IsBudgetText text.now) }
+    ensures missing { IsNone result → (n : ℕ) → IsBudgetText text.now n → ⊥ }
+{
     let (digits, unit) = split_unit(text);
     // `parse` takes a plus sign.
     if digits.starts_with('+') {
@@ -38,5 +46,7 @@ pub(crate) fn read_budget(text: &str) -> Option<Budget>
     let Ok(number) = digits.parse::<u64>() else {
         return None;
     };
-    Budget::new(number.checked_mul(unit)?)
+    let amount = number.checked_mul(unit)?;
+    Budget::new(amount)?;
+    Some(amount)
 }

@@ -2,10 +2,14 @@
 ghost use Rattle.std.specs.Prelude.{IfOk, map};
 ghost use Rattle.clap.specs.Words.{App, with_subcommand};
 ghost use Rattle.ocfl_line.specs.Line.{IsArg, IsCommand, app_with, bare_app, budget_rule};
-ghost use Rattle.ocfl_line.specs.Line.{cursor_rule, files_rule, line_app, needed_rule, quiet_rule};
-ghost use Rattle.ocfl_line.specs.Line.{rule_for, runs_rule};
+ghost use Rattle.ocfl_line.specs.Line.{count_rule, cursor_rule, files_rule, line_app, named_rule};
+ghost use Rattle.ocfl_line.specs.Line.{needed_rule, optional_rule, part_rule, quiet_rule, rule_for};
+ghost use Rattle.ocfl_line.specs.Line.{runs_rule};
 
-use crate::command::Argument::{Budget, Cursor, File, Files, Path, Quiet, Root, Runs};
+use crate::command::Argument::{
+    AnyBudget, AnyRoot, Budget, Count, Cursor, File, Files, Part, Parts, Path, Quiet, Report, Root,
+    Runs, Under,
+};
 use clap::{Arg, ArgAction, Command, value_parser};
 use std::alloc::{AllocError, Global};
 
@@ -35,6 +39,20 @@ enum Argument {
     Files,
     Runs,
     Quiet,
+    /// The place of a branch.
+    Under,
+    /// The file of the separators.
+    Parts,
+    /// Which of the parts.
+    Part,
+    /// How many parts.
+    Count,
+    /// The folder of the storage root, or none.
+    AnyRoot,
+    /// A budget, or none.
+    AnyBudget,
+    /// The file of a report.
+    Report,
 }
 
 // What help says of each.
@@ -55,6 +73,49 @@ const FILES: &str = "The most files that a run starts: 1 to 4611686018427387904"
 const RUNS: &str = "The most runs: 1 to 100000";
 
 const QUIET: &str = "Shows no progress; it is shown where standard error is a terminal";
+
+const UNDER: &str = "Takes only this place and what is below it, written as in report lines";
+
+const PARTS: &str = "The separators, one a line, which cut the root into parts; split writes them";
+
+const PART: &str = "Takes only this one of the parts: 1 to 100001";
+
+const COUNT: &str = "The most parts, of about as many directories each: 1 to 100000";
+
+const ANY_BUDGET: &str = "Each part but the last costs N or one file more, in bytes and 1 for each \
+file; N as run takes it";
+
+const REPORT: &str = "A report of the whole storage root, which says what each file cost";
+
+/// An argument that has a value and may be left out.
+fn optional<'a>(alloc: Global, id: &'a str, value: &'a str, help: &'a str) -> Arg<'a>
+    ensures { IsArg (optional_rule id.now) result }
+{
+    Arg::new(alloc, id).value_name(value).help(help)
+}
+
+/// An option that may be left out, whose id is its name.
+fn named<'a>(alloc: Global, id: &'a str, value: &'a str, help: &'a str) -> Arg<'a>
+    ensures { IsArg (named_rule id.now) result }
+{
+    optional(alloc, id, value, help).long(id)
+}
+
+/// Which of the parts.
+fn part_option<'a>(alloc: Global) -> Arg<'a>
+    ensures { IsArg part_rule result }
+{
+    named(alloc, "part", "K", PART).value_parser(value_parser!(u64).range(1..=100001))
+}
+
+/// How many parts.
+fn count_option<'a>(alloc: Global) -> Arg<'a>
+    ensures { IsArg count_rule result }
+{
+    optional(alloc, "count", "COUNT", COUNT)
+        .long("parts")
+        .value_parser(value_parser!(u64).range(1..=100000))
+}
 
 /// An argument that has a value and must be given.
 fn needed<'a>(alloc: Global, id: &'a str, value: &'a str, help: &'a str) -> Arg<'a>
@@ -124,31 +185,49 @@ fn arg_of<'a>(alloc: Global, argument: Argument) -> Arg<'a>
         Files => files_option(alloc),
         Runs => runs_option(alloc),
         Quiet => quiet_flag(alloc),
+        Under => named(alloc, "under", "PLACE", UNDER),
+        Parts => named(alloc, "parts", "FILE", PARTS),
+        Part => part_option(alloc),
+        Count => count_option(alloc),
+        AnyRoot => optional(alloc, "root", "ROOT", ROOT),
+        AnyBudget => named(alloc, "budget", "N", ANY_BUDGET),
+        Report => named(alloc, "report", "FILE", REPORT),
     }
 }
 
-/// The subcommand for a deed: its name, what help says of it, and its arguments.
-fn deed_command<'a>(
+/// What help says of a subcommand.
+#[derive(Clone, Copy)]
+struct Help<'a> {
+    /// What it does.
+    about: &'a str,
+    /// An example of it.
+    example: &'a str,
+}
+
+/// A subcommand: its name, what help says of it, and its arguments.
+fn build_subcommand<'a>(
     alloc: Global,
     name: &'a str,
-    about: &'a str,
+    help: Help<'a>,
     arguments: &[Argument],
 ) -> Result<Command<'a>, AllocError>
     ensures { IfOk result (IsCommand (app_with name.now (map rule_for arguments.now))) }
 {
-    let mut command = Command::new(alloc, name).about(about);
+    let mut command = Command::new(alloc, name)
+        .about(help.about)
+        .after_help(help.example);
     for &argument in arguments {
         command = command.arg(arg_of(alloc, argument))?;
     }
     Ok(command)
 }
 
-/// The command with one more subcommand, which is for a deed.
-fn with_deed<'a>(
+/// The command with one more subcommand.
+fn add_subcommand<'a>(
     command: Command<'a>,
     alloc: Global,
     name: &'a str,
-    about: &'a str,
+    help: Help<'a>,
     arguments: &[Argument],
 ) -> Result<Command<'a>, AllocError>
     // What `clap` reads the command as has the subcommand behind its others.
@@ -156,28 +235,63 @@ fn with_deed<'a>(
         → IsCommand (with_subcommand app (app_with name.now (map rule_for arguments.now)).top)
         new) }
 {
-    command.subcommand(deed_command(alloc, name, about, arguments)?)
+    command.subcommand(build_subcommand(alloc, name, help, arguments)?)
 }
 
 // What help says of the subcommands.
-const AUDIT: &str = "Writes the report lines of the whole storage root";
+const AUDIT: Help<'static> = Help {
+    about: "Writes the report lines of the whole storage root, of a branch or of a part",
+    example: "\
+Example:
+  ocfl-scrub audit --under letters /srv/ocfl",
+};
 
-const RUN: &str = "Writes the report lines of one run, from where the cursor file says";
+const RUN: Help<'static> = Help {
+    about: "Writes the report lines of one run, from where the cursor file says",
+    example: "\
+Example:
+  ocfl-scrub run --parts root.parts --part 7 --cursor 7.cursor --budget 10G /srv/ocfl",
+};
 
-const CYCLE: &str = "Writes the report lines of one run after the other, without a cursor file";
+const CYCLE: Help<'static> = Help {
+    about: "Writes the report lines of one run after the other, without a cursor file",
+    example: "\
+Example:
+  ocfl-scrub cycle --budget 10G --runs 30 /srv/ocfl",
+};
 
-const CHECK: &str = "Writes the report lines of one place";
+const CHECK: Help<'static> = Help {
+    about: "Writes the report lines of one place",
+    example: "\
+Example:
+  ocfl-scrub check /srv/ocfl letters/v1/content/good.txt",
+};
 
-const SHOW: &str = "Writes what a cursor file says";
+const SPLIT: Help<'static> = Help {
+    about: "Writes the separators of parts: with --parts and ROOT by listing, with --budget and \
+--report by cost",
+    example: "\
+Example:
+  ocfl-scrub split --parts 100 /srv/ocfl > root.parts",
+};
+
+const SHOW: Help<'static> = Help {
+    about: "Writes what a cursor file says",
+    example: "\
+Example:
+  ocfl-scrub show root.cursor",
+};
 
 // The arguments of the subcommands.
-const AUDIT_ARGUMENTS: &[Argument] = &[Quiet, Root];
+const AUDIT_ARGUMENTS: &[Argument] = &[Under, Parts, Part, Quiet, Root];
 
-const RUN_ARGUMENTS: &[Argument] = &[Cursor, Budget, Files, Quiet, Root];
+const RUN_ARGUMENTS: &[Argument] = &[Cursor, Budget, Files, Parts, Part, Quiet, Root];
 
 const CYCLE_ARGUMENTS: &[Argument] = &[Budget, Files, Runs, Quiet, Root];
 
 const CHECK_ARGUMENTS: &[Argument] = &[Root, Path];
+
+const SPLIT_ARGUMENTS: &[Argument] = &[Count, AnyBudget, Report, AnyRoot];
 
 const SHOW_ARGUMENTS: &[Argument] = &[File];
 
@@ -197,9 +311,10 @@ pub(crate) fn line_command<'a>(alloc: Global) -> Result<Command<'a>, AllocError>
     ensures { IfOk result (IsCommand line_app) }
 {
     let command = bare_command(alloc);
-    let command = with_deed(command, alloc, "audit", AUDIT, AUDIT_ARGUMENTS)?;
-    let command = with_deed(command, alloc, "run", RUN, RUN_ARGUMENTS)?;
-    let command = with_deed(command, alloc, "cycle", CYCLE, CYCLE_ARGUMENTS)?;
-    let command = with_deed(command, alloc, "check", CHECK, CHECK_ARGUMENTS)?;
-    with_deed(command, alloc, "show", SHOW, SHOW_ARGUMENTS)
+    let command = add_subcommand(command, alloc, "audit", AUDIT, AUDIT_ARGUMENTS)?;
+    let command = add_subcommand(command, alloc, "run", RUN, RUN_ARGUMENTS)?;
+    let command = add_subcommand(command, alloc, "cycle", CYCLE, CYCLE_ARGUMENTS)?;
+    let command = add_subcommand(command, alloc, "check", CHECK, CHECK_ARGUMENTS)?;
+    let command = add_subcommand(command, alloc, "split", SPLIT, SPLIT_ARGUMENTS)?;
+    add_subcommand(command, alloc, "show", SHOW, SHOW_ARGUMENTS)
 }

@@ -3,9 +3,13 @@
 
 mod asking;
 mod budget;
+mod choosing;
 mod command;
+mod complaint;
 mod reading;
+mod splitting;
 mod stop;
+mod values;
 
 pub use asking::asked;
 pub use stop::LineStop;

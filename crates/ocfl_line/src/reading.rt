@@ -1,57 +1,23 @@
 //! What the arguments that `clap` found ask for.
-ghost use Rattle.std.specs.Prelude.{◌≡◌, ◌↔◌, ℕ, ◌<◌, ◌^◌, IfOk, IfSome, IsNone, IsTrue};
-ghost use Rattle.std.specs.Prelude.{codes, option_map, string_bytes};
-ghost use Rattle.clap.specs.Words.{found_of, first_of, rows_of, subcommand_rows_of};
+ghost use Rattle.std.specs.Prelude.{ℕ, IfOk, IfSome, IsNone, codes};
+ghost use Rattle.clap.specs.Words.{found_of, rows_of, subcommand_rows_of};
 ghost use Rattle.ocfl_cursor.specs.declared.limits.Limits.{Limits as LimitsOf};
-ghost use Rattle.ocfl_line.specs.Asks.{Asks, HasLimits, HasNumber, HasRuns, IsDeed, IsGiven};
+ghost use Rattle.ocfl_line.specs.Asks.{Asks, HasLimits, HasRuns, IsDeed, IsTask};
 ghost use Rattle.ocfl_deed.specs.declared.deed.Deed.{Deed as DeedOf};
-ghost use Rattle.ocfl_deed.specs.declared.deed.Asked.{Asked as AskedOf};
+ghost use Rattle.ocfl_deed.specs.declared.asked.Task.{Task as TaskOf};
+ghost use Rattle.ocfl_deed.specs.declared.asked.Asked.{Asked as AskedOf};
 
 use crate::budget::read_budget;
+use crate::choosing::chosen_by;
+use crate::splitting::split_by;
+use crate::values::{copied, count_of, is_given, number_of, text_of};
 use clap::ArgMatches;
 use ocfl_cursor::{FileLimit, Limits};
-use ocfl_deed::{Asked, Deed};
+use ocfl_deed::{Asked, Deed, Task};
 use std::alloc::{AllocError, Global};
 
 // The most runs of a cycle.
 const MAX_RUNS: u64 = 100000;
-
-/// The text of an argument, where it is given.
-fn text_of<'a>(inner: &ArgMatches<'a>, id: &str) -> Option<&'a str>
-    ensures { option_map (λ s. s.now) result ≡ first_of id.now (rows_of (found_of inner.now)) }
-{
-    inner.get_str(id)
-}
-
-/// The same as a text of its own.
-fn copied(alloc: Global, inner: &ArgMatches<'_>, id: &str) -> Result<Option<String>, AllocError>
-    ensures { IfOk result (λ copy.
-        option_map string_bytes copy ≡ first_of id.now (rows_of (found_of inner.now))) }
-{
-    match text_of(inner, id) {
-        Some(text) => Ok(Some(String::from_str(alloc, text)?)),
-        None => Ok(None),
-    }
-}
-
-/// Whether a flag is given.
-fn is_given(inner: &ArgMatches<'_>, id: &str) -> bool
-    ensures { IsTrue result ↔ IsGiven id.now (rows_of (found_of inner.now)) }
-{
-    match text_of(inner, id) {
-        Some(text) => text == "true",
-        None => false,
-    }
-}
-
-/// The number of an option.
-fn number_of(inner: &ArgMatches<'_>, id: &str) -> Option<u64>
-    ensures found { IfSome result (HasNumber id.now (rows_of (found_of inner.now))) }
-    ensures missing { IsNone result
-        → (n : ℕ) → n < 2 ^ 64 → HasNumber id.now (rows_of (found_of inner.now)) n → ⊥ }
-{
-    inner.get_one::<u64>(id)
-}
 
 /// The limits of a run, or `None` where the budget's text writes none.
 fn limits_of(inner: &ArgMatches<'_>) -> Option<Limits>
@@ -70,14 +36,8 @@ fn runs_of(inner: &ArgMatches<'_>) -> Option<usize>
     ensures missing { IsNone result
         → (runs : ℕ) → HasRuns (rows_of (found_of inner.now)) runs → ⊥ }
 {
-    let runs = number_of(inner, "runs")?;
-    if 1 <= runs && runs <= MAX_RUNS {
-        Some(runs as usize)
-    } else {
-        None
-    }
+    count_of(inner, "runs", MAX_RUNS)
 }
-
 /// One run, or `None` where its limits are not given.
 fn run_of(inner: &ArgMatches<'_>) -> Option<Deed>
     ensures found { IfSome result (IsDeed (codes "run") (rows_of (found_of inner.now))) }
@@ -126,6 +86,31 @@ fn deed_of(alloc: Global, name: &str, inner: &ArgMatches<'_>) -> Result<Option<D
     }
 }
 
+/// The deed of the subcommand with this name and these matches, with what it is done with, or
+/// `None` where they ask for none.
+fn task_of(alloc: Global, name: &str, inner: &ArgMatches<'_>) -> Result<Option<Task>, AllocError>
+    ensures found { IfOk result (λ o. IfSome o (IsTask name.now (rows_of (found_of inner.now)))) }
+    ensures missing { IfOk result (λ o. IsNone o
+        → (t : TaskOf) → IsTask name.now (rows_of (found_of inner.now)) t → ⊥) }
+{
+    let Some(deed) = deed_of(alloc, name, inner)? else {
+        return Ok(None);
+    };
+    let Some(chosen) = chosen_by(alloc, inner)? else {
+        return Ok(None);
+    };
+    let root = copied(alloc, inner, "root")?;
+    let file = copied(alloc, inner, "file")?;
+    let quiet = is_given(inner, "quiet");
+    Ok(Some(Task {
+        deed,
+        chosen,
+        root,
+        file,
+        quiet,
+    }))
+}
+
 /// What is asked for by matches, or `None` where they ask for nothing.
 pub(crate) fn asked_by(alloc: Global, matches: &ArgMatches<'_>) -> Result<Option<Asked>, AllocError>
     ensures found { IfOk result (λ o. IfSome o (Asks (subcommand_rows_of matches.now))) }
@@ -135,16 +120,14 @@ pub(crate) fn asked_by(alloc: Global, matches: &ArgMatches<'_>) -> Result<Option
     let Some((name, inner)) = matches.subcommand() else {
         return Ok(None);
     };
-    let Some(deed) = deed_of(alloc, name, inner)? else {
-        return Ok(None);
-    };
-    let root = copied(alloc, inner, "root")?;
-    let file = copied(alloc, inner, "file")?;
-    let quiet = is_given(inner, "quiet");
-    Ok(Some(Asked {
-        deed,
-        root,
-        file,
-        quiet,
-    }))
+    if name == "split" {
+        return match split_by(alloc, inner)? {
+            Some(split) => Ok(Some(Asked::Split(split))),
+            None => Ok(None),
+        };
+    }
+    match task_of(alloc, name, inner)? {
+        Some(task) => Ok(Some(Asked::Task(task))),
+        None => Ok(None),
+    }
 }

@@ -1,4 +1,5 @@
-use Rattle.std.proofs.Common.{map, sym, subst}
+use Rattle.std.proofs.Common.{ap, map, sym, subst}
+use Rattle.std.specs.Prelude.{is_some}
 use Rattle.std.proofs.lemmas.Result.{err_from_is_err_and}
 use Rattle.ocfl_line.specs.Asks.{Asks}
 use Rattle.ocfl_line.proofs.Stops.{no_fault, has_fault, subcommand_is, stops_rightly}
@@ -11,11 +12,21 @@ returns-in_err-matches-clause-stop g c =
     let p = err_from_is_err_and c.from_residual.result c.from_residual.ensures.1 in
     rw p.1 (stops_rightly words e p.0 p.2 (has_fault _ words e c.requires.0 c.in_err-matches.ensures.kinds))
 
+pub returns-in-Some-clause-faultless : goal.returns-in-Some-clause-faultless
+returns-in-Some-clause-faultless g c =
+    no_fault _ (map g.S.AsStr.text c.args.words.now) c.requires.0 c.in_ok-matches.ensures.kinds
+
 pub returns-clause-faultless : goal.returns-clause-faultless
 returns-clause-faultless g c =
     no_fault _ (map g.S.AsStr.text c.args.words.now) c.requires.0 c.in_ok-matches.ensures.kinds
 
+pub returns-in-Some-clause-found : goal.returns-in-Some-clause-found
+returns-in-Some-clause-found g c =
+    let met = subcommand_is _ (map g.S.AsStr.text c.args.words.now) c.in_ok-matches.matches c.requires.0 c.in_ok-matches.ensures.ok.2 in
+    let found = rw c.in-Some.is at c.in_ok-asked.ensures.found in
+    subst (λ sub. Asks sub c.in-Some.asked) met found
+
 pub returns-clause-missing : goal.returns-clause-missing
 returns-clause-missing g c =
     let met = subcommand_is _ (map g.S.AsStr.text c.args.words.now) c.in_ok-matches.matches c.requires.0 c.in_ok-matches.ensures.ok.2 in
-    λ none a h. c.in_ok-asked_by.ensures.missing none a (subst (λ sub. Asks sub a) (sym met) h)
+    λ a h. c.in_ok-asked.ensures.missing (ap is_some c.in-None.is) a (subst (λ sub. Asks sub a) (sym met) h)

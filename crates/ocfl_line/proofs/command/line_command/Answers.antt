@@ -7,4 +7,5 @@ returns c =
     let two = c.in_ok-command-2.ensures _ one in
     let three = c.in_ok-command-3.ensures _ two in
     let four = c.in_ok-command-4.ensures _ three in
-    IfOk-weaker c.with_deed-5.result _ _ (λ r h. h _ four) c.with_deed-5.ensures
+    let five = c.in_ok-command-5.ensures _ four in
+    IfOk-weaker c.add_subcommand-6.result _ _ (λ r h. h _ five) c.add_subcommand-6.ensures

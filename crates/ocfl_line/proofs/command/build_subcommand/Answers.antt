@@ -1,6 +1,6 @@
 use Rattle.std.proofs.Common.{rules}
 use Rattle.ocfl_line.proofs.Commands.{given}
-use Rattle.ocfl_line.proofs.command.deed_command.Goals as goal
+use Rattle.ocfl_line.proofs.command.build_subcommand.Goals as goal
 
 pub loop-argument-preserved : goal.loop-argument-preserved
 loop-argument-preserved c =

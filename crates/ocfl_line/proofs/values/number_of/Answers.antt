@@ -3,7 +3,7 @@ use Rattle.std.specs.Str.Parse.{ParsesUnsigned, ExplainsUnsignedError, HasUnsign
 use Rattle.clap.specs.Words.{found_of}
 use Rattle.clap.proofs.WalkLemmas.{one_text-rows}
 use Rattle.ocfl_line.proofs.Numbers.{read_found, read_missing}
-use Rattle.ocfl_line.proofs.reading.number_of.Goals as goal
+use Rattle.ocfl_line.proofs.values.number_of.Goals as goal
 
 pub returns : goal.returns
 returns c =

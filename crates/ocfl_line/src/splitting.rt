@@ -1,0 +1,58 @@
+//! How a storage root is to be split by the arguments that `clap` found.
+ghost use Rattle.std.specs.Prelude.{IfOk, IfSome, IsNone, codes};
+ghost use Rattle.clap.specs.Words.{found_of, rows_of};
+ghost use Rattle.ocfl_line.specs.Asks.{HasText, IsLeftOut, IsSplit};
+ghost use Rattle.ocfl_deed.specs.declared.asked.Split.{Split as SplitOf};
+
+use crate::budget::read_amount;
+use crate::values::{copied, count_of, is_left_out, text_of};
+use clap::ArgMatches;
+use ocfl_deed::Split;
+use std::alloc::{AllocError, Global};
+
+// The most parts that listing splits a storage root into.
+const MAX_COUNT: u64 = 100000;
+
+/// How the storage root is split, or `None` where the arguments are not just those of one way.
+pub(crate) fn split_by(alloc: Global, inner: &ArgMatches<'_>) -> Result<Option<Split>, AllocError>
+    ensures found { IfOk result (λ o. IfSome o (IsSplit (rows_of (found_of inner.now)))) }
+    ensures missing { IfOk result (λ o. IsNone o
+        → (s : SplitOf) → IsSplit (rows_of (found_of inner.now)) s → ⊥) }
+{
+    if let Some(root) = copied(alloc, inner, "root")? {
+        return Ok(listing_of(inner, root));
+    }
+    match copied(alloc, inner, "report")? {
+        Some(report) => Ok(report_of(inner, report)),
+        None => Ok(None),
+    }
+}
+
+/// The split by listing this folder, or `None` where there is no count, or anything of a report.
+fn listing_of(inner: &ArgMatches<'_>, root: String) -> Option<Split>
+    requires { HasText (codes "root") (rows_of (found_of inner.now)) root }
+    ensures found { IfSome result (IsSplit (rows_of (found_of inner.now))) }
+    ensures missing { IsNone result
+        → (s : SplitOf) → IsSplit (rows_of (found_of inner.now)) s → ⊥ }
+{
+    if !is_left_out(inner, "budget") || !is_left_out(inner, "report") {
+        return None;
+    }
+    let count = count_of(inner, "count", MAX_COUNT)?;
+    Some(Split::Listing { count, root })
+}
+
+/// The split by this report, or `None` where there is no budget, or a count.
+fn report_of(inner: &ArgMatches<'_>, report: String) -> Option<Split>
+    requires report { HasText (codes "report") (rows_of (found_of inner.now)) report }
+    requires no_root { IsLeftOut (codes "root") (rows_of (found_of inner.now)) }
+    ensures found { IfSome result (IsSplit (rows_of (found_of inner.now))) }
+    ensures missing { IsNone result
+        → (s : SplitOf) → IsSplit (rows_of (found_of inner.now)) s → ⊥ }
+{
+    if !is_left_out(inner, "count") {
+        return None;
+    }
+    let budget = read_amount(text_of(inner, "budget")?)?;
+    Some(Split::Report { budget, report })
+}

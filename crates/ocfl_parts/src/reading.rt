@@ -10,6 +10,7 @@ use crate::separators::{PushStop, Separators};
 use ocfl_report::{PlaceStop, read_place, split_once};
 use std::alloc::Global;
 use std::io::{ErrorKind, Read};
+use thiserror::Error;
 
 /// How many bytes the text of separators has at most.
 const MAX_BYTES: usize = 16_777_216;
@@ -18,15 +19,19 @@ const MAX_BYTES: usize = 16_777_216;
 const MAX_PARTS: usize = 100_000;
 
 /// Why no separators were read: too many bytes come first, and then the lines in their order.
-#[derive(Clone, Copy, Debug, PartialEq, Eq)]
+#[derive(Clone, Copy, Debug, PartialEq, Eq, Error)]
 pub enum PartsStop {
     /// The first line, from 1, that is no place with its line feed, or is not above the one before.
+    #[error("bad parts: line {0}")]
     Line(usize),
     /// There are more than 16,777,216 bytes, or 100,000 lines are right and more follow.
+    #[error("bad parts: too long")]
     Long,
     /// The reader failed.
+    #[error("parts file failed")]
     Read,
     /// Memory was refused.
+    #[error("out of memory")]
     Memory,
 }
 

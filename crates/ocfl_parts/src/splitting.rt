@@ -23,20 +23,25 @@ use ocfl_report::LineStop;
 use std::alloc::Global;
 use std::cmp::Ordering;
 use std::io::{BufRead, ErrorKind};
+use thiserror::Error;
 
 /// How many separators a report is cut by at most: as many as their text may have.
 const MAX_PARTS: usize = 100_000;
 
 /// Why a report was not split.
-#[derive(Clone, Copy, Debug, PartialEq, Eq)]
+#[derive(Clone, Copy, Debug, PartialEq, Eq, Error)]
 pub enum SplitStop {
     /// The first line, from 1, that is no report line, or whose place is less than the one before.
+    #[error("bad report: line {0}")]
     Line(u64),
     /// More than 100,000 separators would cut it.
+    #[error("too many parts")]
     Many,
     /// The reader failed.
+    #[error("report failed")]
     Read,
     /// Memory was refused.
+    #[error("out of memory")]
     Memory,
 }
 

@@ -200,8 +200,20 @@ fn arg_of<'a>(alloc: Global, argument: Argument) -> Arg<'a>
 struct Help<'a> {
     /// What it does.
     about: &'a str,
+    /// How it is called, where its arguments do not say that.
+    usage: Option<&'a str>,
     /// An example of it.
     example: &'a str,
+}
+
+/// The command with this usage, if any.
+fn with_usage<'a>(command: Command<'a>, usage: Option<&'a str>) -> Command<'a>
+    ensures { (app : App) → IsCommand app command.entry → IsCommand app result }
+{
+    match usage {
+        Some(usage) => command.override_usage(usage),
+        None => command,
+    }
 }
 
 /// A subcommand: its name, what help says of it, and its arguments.
@@ -213,9 +225,10 @@ fn build_subcommand<'a>(
 ) -> Result<Command<'a>, AllocError>
     ensures { IfOk result (IsCommand (app_with name.now (map rule_for arguments.now))) }
 {
-    let mut command = Command::new(alloc, name)
+    let command = Command::new(alloc, name)
         .about(help.about)
         .after_help(help.example);
+    let mut command = with_usage(command, help.usage);
     for &argument in arguments {
         command = command.arg(arg_of(alloc, argument))?;
     }
@@ -241,6 +254,7 @@ fn add_subcommand<'a>(
 // What help says of the subcommands.
 const AUDIT: Help<'static> = Help {
     about: "Writes the report lines of the whole storage root, of a branch or of a part",
+    usage: None,
     example: "\
 Example:
   ocfl-scrub audit --under letters /srv/ocfl",
@@ -248,6 +262,7 @@ Example:
 
 const RUN: Help<'static> = Help {
     about: "Writes the report lines of one run, from where the cursor file says",
+    usage: None,
     example: "\
 Example:
   ocfl-scrub run --parts root.parts --part 7 --cursor 7.cursor --budget 10G /srv/ocfl",
@@ -255,6 +270,7 @@ Example:
 
 const CYCLE: Help<'static> = Help {
     about: "Writes the report lines of one run after the other, without a cursor file",
+    usage: None,
     example: "\
 Example:
   ocfl-scrub cycle --budget 10G --runs 30 /srv/ocfl",
@@ -262,6 +278,7 @@ Example:
 
 const CHECK: Help<'static> = Help {
     about: "Writes the report lines of one place",
+    usage: None,
     example: "\
 Example:
   ocfl-scrub check /srv/ocfl letters/v1/content/good.txt",
@@ -270,6 +287,10 @@ Example:
 const SPLIT: Help<'static> = Help {
     about: "Writes the separators of parts: with --parts and ROOT by listing, with --budget and \
 --report by cost",
+    usage: Some(
+        "ocfl-scrub split --parts <COUNT> <ROOT>
+       ocfl-scrub split --budget <N> --report <FILE>",
+    ),
     example: "\
 Example:
   ocfl-scrub split --parts 100 /srv/ocfl > root.parts",
@@ -277,6 +298,7 @@ Example:
 
 const SHOW: Help<'static> = Help {
     about: "Writes what a cursor file says",
+    usage: None,
     example: "\
 Example:
   ocfl-scrub show root.cursor",

@@ -1,6 +1,10 @@
-use Rattle.std.proofs.Common.{rules}
+use Rattle.std.proofs.Common.{[], rules}
+use Rattle.ocfl_line.specs.Line.{app_with}
 use Rattle.ocfl_line.proofs.Commands.{given}
 use Rattle.ocfl_line.proofs.command.build_subcommand.Goals as goal
+
+pub loop-argument-init : goal.loop-argument-init
+loop-argument-init c = c.with_usage-command.ensures (app_with c.args.name.now []) (search rules)
 
 pub loop-argument-preserved : goal.loop-argument-preserved
 loop-argument-preserved c =

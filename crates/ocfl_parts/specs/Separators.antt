@@ -1,5 +1,5 @@
 -- Separators, and their text.
-use Rattle.std.specs.Prelude.{List, [], ◌∷◌, ◌++◌, flat_map}
+use Rattle.std.specs.Prelude.{ℕ, ◌-◌, ◌==◌, List, [], ◌∷◌, ◌++◌, Option, None, flat_map, slice_get, if◌then◌else◌}
 use Rattle.ocfl_tree.specs.Place.{Text, Place, place_cmp}
 use Rattle.ocfl_tree.specs.Name.{IsPlace}
 use Rattle.ocfl_tree.specs.Ascending.{IsAscending}
@@ -18,3 +18,11 @@ part_line p = place_text p ++ 10 ∷ []
 -- a line for each
 abbrev pub parts_text : List Place → Text
 parts_text ps = flat_map part_line ps
+
+-- where part k begins, counted from 1: at the separator before it, which the first part has not
+abbrev pub start_of_part : List Place → ℕ → Option Place
+start_of_part ps k = if k == 1 then None else slice_get ps (k - 2)
+
+-- where it ends: below the next separator, which the last part has not
+abbrev pub end_of_part : List Place → ℕ → Option Place
+end_of_part ps k = slice_get ps (k - 1)

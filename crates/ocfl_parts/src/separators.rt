@@ -1,8 +1,9 @@
 //! Separators: places in strictly ascending order.
-ghost use Rattle.std.specs.Prelude.{◌≡◌, ◌↔◌, ◌++◌, ◌∷◌, [], length, IsTrue, OnOk, OnErr};
+ghost use Rattle.std.specs.Prelude.{◌≡◌, ◌↔◌, ◌+◌, ◌≤◌, ◌++◌, ◌∷◌, [], length, option_map};
+ghost use Rattle.std.specs.Prelude.{IsTrue, IsSome, IfSome, OnOk, OnErr};
 ghost use Rattle.ocfl_tree.specs.Ascending.{IsAscending};
 ghost use Rattle.ocfl_tree.specs.Place.{place_cmp};
-ghost use Rattle.ocfl_parts.specs.Separators.{AreSeparators};
+ghost use Rattle.ocfl_parts.specs.Separators.{AreSeparators, end_of_part, start_of_part};
 
 use ocfl_tree::Place;
 use ocfl_tree::laws::every_place_has_names;
@@ -70,6 +71,25 @@ impl Separators {
         ensures rule { AreSeparators self.now }
     {
         self.places.as_slice()
+    }
+
+    /// Where the part with this number, from 1, begins, and below which place it stays. The first
+    /// part has no beginning, and the last no end. `None` where there are fewer parts.
+    pub fn ends(&self, number: usize) -> Option<(Option<&Place>, Option<&Place>)>
+        ensures there { IsSome result ↔ (1 ≤ number) × (number ≤ length self.now + 1) }
+        ensures start { IfSome result (λ ends.
+            option_map (λ p. p.now) ends.0 ≡ start_of_part self.now number) }
+        ensures end { IfSome result (λ ends.
+            option_map (λ p. p.now) ends.1 ≡ end_of_part self.now number) }
+    {
+        if number == 0 || number - 1 > self.places.len() {
+            return None;
+        }
+        let start = match number {
+            1 => None,
+            _ => self.places.get(number - 2),
+        };
+        Some((start, self.places.get(number - 1)))
     }
 
     /// How many there are.

@@ -1,0 +1,76 @@
+//! Files by their paths: where they lie, opening them, and putting one in the place of another.
+
+use std::fs::{self, File, OpenFile};
+use std::io::{self, Write};
+use std::path::PathBuf;
+use std::rt::Files;
+
+/// The folder that a file lies in.
+pub(crate) fn folder_of(file: &str) -> &str {
+    match file.rsplit_once('/') {
+        Some(("", _)) => "/",
+        Some((folder, _)) => folder,
+        None => ".",
+    }
+}
+
+/// A folder's own path, and `None` where it is not found.
+fn path_of<R: Files + AllocGlobal>(rt: &R, folder: &str) -> io::Result<Option<PathBuf>> {
+    match fs::canonicalize(rt, folder) {
+        Ok(path) => Ok(Some(path)),
+        Err(error) if error.kind() == io::ErrorKind::OutOfMemory => Err(error),
+        Err(_) => Ok(None),
+    }
+}
+
+/// Whether a file lies in a storage root, or would. Where one of the two folders is not found, it
+/// does not.
+pub(crate) fn lies_inside<R>(rt: &R, file: &str, root: &str) -> io::Result<bool>
+where
+    R: Files + AllocGlobal,
+{
+    let Some(folder) = path_of(rt, folder_of(file))? else {
+        return Ok(false);
+    };
+    let Some(root) = path_of(rt, root)? else {
+        return Ok(false);
+    };
+    Ok(folder.as_path().starts_with(root.as_path()))
+}
+
+/// Opens a file, and gives `None` where there is no such file.
+pub(crate) fn open_if_there<R: Files>(rt: &R, file: &str) -> io::Result<Option<R::File>> {
+    match File::open(rt, file) {
+        Ok(opened) => Ok(Some(opened)),
+        Err(error) if error.kind() == io::ErrorKind::NotFound => Ok(None),
+        Err(error) => Err(error),
+    }
+}
+
+fn write_synced<R: Files>(rt: &R, file: &str, text: &[u8]) -> io::Result<()> {
+    // What a killed run left is no part of this one, and what is linked there is not written to.
+    let _ = fs::remove_file(rt, file);
+    let mut made = File::create_new(rt, file)?;
+    made.write_all(text)?;
+    made.sync_all()
+}
+
+/// Puts a text in the place of a file: it is written beside it, synced and renamed over it, so that
+/// the file is whole at each moment.
+pub(crate) fn put_in_place<R>(rt: &R, file: &str, text: &[u8]) -> io::Result<()>
+where
+    R: Files + AllocGlobal,
+{
+    let beside = format!(in rt.alloc(); "{file}.new")?;
+    let written = write_synced(rt, beside.as_str(), text);
+    if written.is_err() {
+        let _ = fs::remove_file(rt, beside.as_str());
+        return written;
+    }
+    fs::rename(rt, beside.as_str(), file)?;
+    // Not every system can sync a folder; the file is whole without it.
+    if let Ok(folder) = File::open(rt, folder_of(file)) {
+        let _ = folder.sync_all();
+    }
+    Ok(())
+}

@@ -1,0 +1,61 @@
+//! What the program says on standard error, and the statuses that go with it.
+
+use ocfl_parts::{PartsStop, SplitStop};
+use ocfl_scrub::Note;
+use thiserror::Error;
+
+/// The exit status of a command line that is not understood, or asks for what is not there.
+pub(crate) const USAGE: u8 = 2;
+
+/// The exit status where a command stopped.
+pub(crate) const STOPPED: u8 = 3;
+
+/// Why a command has no storage root's items to take, or makes no separators. Its `Display` is what
+/// is said of it.
+#[derive(Debug, Drop, Error)]
+pub(crate) enum Stop {
+    /// The place of a branch is no place.
+    #[error("bad path")]
+    BadPath,
+    /// There are fewer parts.
+    #[error("no such part")]
+    NoSuchPart,
+    /// The separators were not read.
+    #[error("{0}")]
+    Parts(PartsStop),
+    /// The report was not split.
+    #[error("{0}")]
+    Report(SplitStop),
+    /// What a command also says where it stops.
+    #[error("{0}")]
+    Stopped(Note),
+}
+
+impl Stop {
+    /// The exit status.
+    pub(crate) fn status(&self) -> u8 {
+        match self {
+            Stop::BadPath | Stop::NoSuchPart => USAGE,
+            Stop::Parts(PartsStop::Line(_) | PartsStop::Long) => USAGE,
+            Stop::Report(SplitStop::Line(_) | SplitStop::Many) => USAGE,
+            Stop::Parts(_) | Stop::Report(_) | Stop::Stopped(_) => STOPPED,
+        }
+    }
+}
+
+/// Says one line on standard error. A standard error that cannot be written changes nothing.
+pub(crate) fn say<R: Eprint>(rt: &R, line: &str) {
+    let _ = eprintln!(rt; "ocfl-scrub: {line}");
+}
+
+/// Says why a command stopped, and gives its status.
+pub(crate) fn say_stop<R: Eprint>(rt: &R, stop: &Stop) -> u8 {
+    let _ = eprintln!(rt; "ocfl-scrub: {stop}");
+    stop.status()
+}
+
+/// Says that memory ran out, and gives the status.
+pub(crate) fn say_out_of_memory<R: Eprint>(rt: &R) -> u8 {
+    say(rt, "out of memory");
+    STOPPED
+}

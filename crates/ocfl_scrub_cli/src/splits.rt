@@ -1,0 +1,84 @@
+//! Splitting a storage root: the text of the separators goes to standard output.
+
+use crate::saying::{Stop, say_stop};
+use ocfl_deed::Split;
+use ocfl_folder::FsTree;
+use ocfl_item::Fault;
+use ocfl_parts::{Separators, SplitStop, put_parts, split_by};
+use ocfl_report::write_all_of;
+use ocfl_scrub::Note;
+use ocfl_split::split;
+use std::fs::File;
+use std::io::{self, BufReader};
+use std::rt::Files;
+
+/// Makes the separators that are asked for.
+fn make_separators<R: Files + AllocGlobal>(rt: &R, asked: &Split) -> Result<Separators, Stop> {
+    match asked {
+        Split::Listing { count, root } => split_by_listing(rt, *count, root.as_str()),
+        Split::Report { budget, report } => {
+            split_by_report(rt, *budget, report.as_str()).map_err(Stop::Report)
+        }
+    }
+}
+
+/// The separators by what is listed of a folder.
+fn split_by_listing<R>(rt: &R, count: usize, root: &str) -> Result<Separators, Stop>
+where
+    R: Files + AllocGlobal,
+{
+    let Ok(mut store) = FsTree::at(rt, root) else {
+        return Err(Stop::Stopped(Note::OutOfMemory));
+    };
+    split(rt.alloc(), &mut store, count).map_err(|fault| Stop::Stopped(note_of(fault)))
+}
+
+/// What is said of a fault.
+fn note_of(fault: Fault) -> Note {
+    match fault {
+        Fault::Store(place) => Note::StoppedAt(place),
+        Fault::Output => Note::OutputFailed,
+        Fault::Memory | Fault::Broken => Note::OutOfMemory,
+    }
+}
+
+/// The separators by the costs in a file of a report.
+fn split_by_report<R>(rt: &R, budget: u64, file: &str) -> Result<Separators, SplitStop>
+where
+    R: Files + AllocGlobal,
+{
+    let opened = File::open(rt, file).map_err(|error| report_stop(&error))?;
+    let Ok(mut report) = BufReader::new(rt.alloc(), opened) else {
+        return Err(SplitStop::Memory);
+    };
+    split_by(rt.alloc(), &mut report, budget)
+}
+
+/// Why a report's file was not opened.
+fn report_stop(error: &io::Error) -> SplitStop {
+    match error.kind() {
+        io::ErrorKind::OutOfMemory => SplitStop::Memory,
+        _ => SplitStop::Read,
+    }
+}
+
+/// Writes the text of separators to standard output.
+fn write_separators<R: AllocGlobal + Print>(rt: &R, separators: &Separators) -> Result<(), Stop> {
+    let mut text = Vec::new(rt.alloc());
+    if put_parts(separators, &mut text).is_err() {
+        return Err(Stop::Stopped(Note::OutOfMemory));
+    }
+    match write_all_of(&mut io::writer(rt), &text) {
+        Ok(()) => Ok(()),
+        Err(_) => Err(Stop::Stopped(Note::OutputFailed)),
+    }
+}
+
+/// Splits a storage root, and gives the exit status.
+pub(crate) fn split_root<R: Files + AllocGlobal + Print + Eprint>(rt: &R, asked: &Split) -> u8 {
+    let made = make_separators(rt, asked);
+    match made.and_then(|separators| write_separators(rt, &separators)) {
+        Ok(()) => 0,
+        Err(stop) => say_stop(rt, &stop),
+    }
+}

@@ -1,0 +1,148 @@
+//! Doing a deed over a folder: its store, its cursor's file, its progress.
+
+use crate::files::{lies_inside, open_if_there, put_in_place};
+use crate::progress::{Clearing, Watched, clear, is_terminal};
+use crate::saying::{STOPPED, USAGE, say, say_out_of_memory, say_stop};
+use crate::scope::read_scope;
+use ocfl_deed::{Deed, Task};
+use ocfl_digest::Block;
+use ocfl_folder::FsTree;
+use ocfl_scrub::{Note, Performed, Scope, perform_part};
+use std::io;
+use std::rt::Files;
+
+/// What is said of a cursor's file that could not be read or put in place.
+fn file_note(error: &io::Error) -> Note {
+    match error.kind() {
+        io::ErrorKind::OutOfMemory => Note::OutOfMemory,
+        _ => Note::CursorFileFailed,
+    }
+}
+
+/// Whether progress is shown while this is done.
+fn is_shown<R: Files + AllocGlobal>(rt: &R, task: &Task) -> bool {
+    let is_long = matches!(&task.deed, Deed::Audit | Deed::Run(_) | Deed::Cycle(_, _));
+    is_long && !task.quiet && is_terminal(rt, "/dev/stderr")
+}
+
+/// The folder that the command line names, and the current one where it names none.
+fn root_of(task: &Task) -> &str {
+    match &task.root {
+        Some(root) => root.as_str(),
+        None => ".",
+    }
+}
+
+/// Opens the cursor's file that the command line names. `None` where it names no file, or there is
+/// no such file yet.
+fn open_cursor<R: Files>(rt: &R, task: &Task) -> Result<Option<R::File>, Note> {
+    match &task.file {
+        Some(file) => open_if_there(rt, file.as_str()).map_err(|error| file_note(&error)),
+        None => Ok(None),
+    }
+}
+
+/// Does the deed over its folder. Fails with what is to be said where it cannot begin.
+fn perform_over_folder<R>(
+    rt: &R,
+    task: &Task,
+    scope: &Scope,
+    is_shown: bool,
+    block: &mut Block,
+) -> Result<Performed, Note>
+where
+    R: Files + AllocGlobal + Print + Eprint,
+{
+    let Ok(folder) = FsTree::at(rt, root_of(task)) else {
+        return Err(Note::OutOfMemory);
+    };
+    let mut store = Watched::over(rt, folder, is_shown);
+    let mut reader = open_cursor(rt, task)?;
+    let mut out = Clearing {
+        rt,
+        is_shared: is_shown && is_terminal(rt, "/dev/stdout"),
+        out: io::writer(rt),
+    };
+    let alloc = rt.alloc();
+    Ok(perform_part(
+        alloc,
+        &mut store,
+        &task.deed,
+        scope,
+        reader.as_mut(),
+        block,
+        &mut out,
+    ))
+}
+
+/// Puts the cursor in the place of its file, and gives the status with what is to be said.
+fn store_cursor<R>(rt: &R, task: &Task, performed: Performed) -> (u8, Note)
+where
+    R: Files + AllocGlobal,
+{
+    if let (Some(file), Some(text)) = (&task.file, &performed.cursor) {
+        if let Err(error) = put_in_place(rt, file.as_str(), text) {
+            return (STOPPED, file_note(&error));
+        }
+    }
+    (performed.status, performed.note)
+}
+
+/// Does the deed, stores its cursor, and gives the status with what is to be said.
+fn perform_and_store<R>(rt: &R, task: &Task, scope: &Scope, is_shown: bool) -> (u8, Note)
+where
+    R: Files + AllocGlobal + Print + Eprint,
+{
+    let Ok(mut block) = Block::new(rt.alloc()) else {
+        return (STOPPED, Note::OutOfMemory);
+    };
+    match perform_over_folder(rt, task, scope, is_shown, &mut block) {
+        Ok(performed) => store_cursor(rt, task, performed),
+        Err(note) => (STOPPED, note),
+    }
+}
+
+/// Does the deed, reports on standard error, and gives the status.
+fn perform_and_report<R>(rt: &R, task: &Task, scope: &Scope) -> u8
+where
+    R: Files + AllocGlobal + Print + Eprint,
+{
+    let is_shown = is_shown(rt, task);
+    let (status, note) = perform_and_store(rt, task, scope, is_shown);
+    if is_shown {
+        clear(rt);
+    }
+    if !matches!(note, Note::Nothing) {
+        let _ = eprintln!(rt; "ocfl-scrub: {note}");
+    }
+    status
+}
+
+/// Refuses a cursor's file in the storage root: says so and gives the status.
+fn refuse_cursor_inside<R: Files + AllocGlobal + Eprint>(rt: &R, task: &Task) -> Option<u8> {
+    let (Some(file), Some(root)) = (&task.file, &task.root) else {
+        return None;
+    };
+    match lies_inside(rt, file.as_str(), root.as_str()) {
+        Ok(false) => None,
+        Ok(true) => {
+            say(
+                rt,
+                "the cursor's file lies in the storage root, which is never written into",
+            );
+            Some(USAGE)
+        }
+        Err(_) => Some(say_out_of_memory(rt)),
+    }
+}
+
+/// Does what a task asks for, and gives the exit status.
+pub(crate) fn do_task<R: Files + AllocGlobal + Print + Eprint>(rt: &R, task: &Task) -> u8 {
+    if let Some(status) = refuse_cursor_inside(rt, task) {
+        return status;
+    }
+    match read_scope(rt, &task.chosen) {
+        Ok(scope) => perform_and_report(rt, task, &scope),
+        Err(stop) => say_stop(rt, &stop),
+    }
+}

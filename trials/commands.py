@@ -160,6 +160,50 @@ def other_roots(folder):
     is_so("no name without its end is there", [it for it in without if os.path.exists(it)], [])
 
 
+def refused_parts(folder, root):
+    """Branches and parts that are not there, and files of separators that are none."""
+    file, cursor = os.path.join(folder, "parts"), os.path.join(folder, "cursor")
+    audit = ["audit", root, "--parts", file, "--part"]
+    run = ["run", root, "--parts", file, "--part", "1", "--cursor", cursor, "--budget", "1"]
+    expect("no file of separators", audit + ["1"], 3, [], "parts file failed")
+    folders = ["audit", root, "--parts", folder, "--part", "1"]
+    expect("a folder as the file of separators", folders, 3, [], "parts file failed")
+    write(cursor, b"no cursor")
+    for name, text, said in [
+        ("descending separators", b"b\na\n", "bad parts: line 2"),
+        ("equal separators", b"a\na\n", "bad parts: line 2"),
+        ("no line feed", b"a", "bad parts: line 1"),
+        ("no place", b"a\n/b\n", "bad parts: line 2"),
+        ("a large file", b"a" * (2**24 + 1), "bad parts: too long"),
+    ]:
+        write(file, text)
+        expect(name, audit + ["1"], 2, [], said)
+        expect(name + ", before the cursor is read", run, 2, [], said)
+    write(file, b"o\n")
+    expect("one part too many", audit + ["3"], 2, [], "no such part")
+    write(file, b"")
+    expect("two parts of no separators", audit + ["2"], 2, [], "no such part")
+    expect("a branch of no place", ["audit", "--under", "o//v1", root], 2, [], "bad path")
+    is_so("the cursor is as it was", read(cursor), b"no cursor")
+
+
+def splits_by_report(folder):
+    file = os.path.join(folder, "report")
+    split = ["split", "--report", file, "--budget"]
+    expect("no report", split + ["1"], 3, [], "report failed")
+    write(file, "".join(ITEMS).encode())
+    for budget, separators in [
+        ("1", ["o/v1/content/b\n", "o/v1/content/c\n"]),
+        ("4", ["o/v1/content/b\n"]),
+        ("9", []),
+    ]:
+        expect("separators by a budget of " + budget, split + [budget], 0, separators, None)
+    write(file, "".join(ITEMS[:2] + ITEMS[:1]).encode())
+    expect("a report that descends", split + ["1"], 2, [], "bad report: line 3")
+    write(file, "".join(ITEMS)[:-1].encode())
+    expect("a report without its last line feed", split + ["1"], 2, [], "bad report: line 5")
+
+
 def usages(root):
     run = ["run", "--cursor", "c", "--budget"]
     cycle = ["cycle", "--budget", "1"]
@@ -175,6 +219,14 @@ def usages(root):
         ("no file limit", cycle + ["--files", "0", "--runs", "1", root]),
         ("no runs", cycle + ["--runs", "0", root]),
         ("too many runs", cycle + ["--runs", "100001", root]),
+        ("a part without its file", ["audit", "--part", "1", root]),
+        ("a file without its part", run + ["1", "--parts", "p", root]),
+        ("a part and a branch", ["audit", "--parts", "p", "--part", "1", "--under", "o", root]),
+        ("no part", ["audit", "--parts", "p", "--part", "0", root]),
+        ("a branch of a run", run + ["1", "--under", "o", root]),
+        ("no way to split", ["split", root]),
+        ("two ways to split", ["split", "--parts", "2", "--budget", "1", "--report", "p", root]),
+        ("too many parts", ["split", "--parts", "100001", root]),
         ("no UTF-8", ["audit", b"\xff"]),
     ]:
         status, out, said = ran(words)
@@ -184,7 +236,7 @@ def usages(root):
 def helps():
     status, out, said = ran(["--help"])
     is_so("help", (status, "Usage: ocfl-scrub" in out, said), (0, True, ""))
-    for command in ["audit", "run", "cycle", "check", "show"]:
+    for command in ["audit", "run", "cycle", "check", "split", "show"]:
         is_so("help names " + command, "\n  " + command in out, True)
         status, told, said = ran([command, "--help"])
         whole = "Usage: ocfl-scrub %s" % command in told
@@ -227,7 +279,7 @@ def samples(folder):
 
 def tell(folder):
     root = common.make_root(os.path.join(folder, "root"), {"o": FILES})
-    for name in ["runs", "files", "beside", "others", "samples"]:
+    for name in ["runs", "files", "beside", "others", "parts", "samples"]:
         os.mkdir(os.path.join(folder, name))
     before = common.snapshot(root)
     runs(os.path.join(folder, "runs"), root)
@@ -238,6 +290,8 @@ def tell(folder):
     inside_the_root(folder, root)
     beside_the_root(os.path.join(folder, "beside"), root)
     other_roots(os.path.join(folder, "others"))
+    refused_parts(os.path.join(folder, "parts"), root)
+    splits_by_report(os.path.join(folder, "parts"))
     usages(root)
     helps()
     is_so("nothing was written below the root", common.snapshot(root), before)

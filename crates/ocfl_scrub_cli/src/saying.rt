@@ -10,11 +10,10 @@ pub(crate) const USAGE: u8 = 2;
 /// The exit status where a command stopped.
 pub(crate) const STOPPED: u8 = 3;
 
-/// Why a command has no storage root's items to take, or makes no separators. Its `Display` is what
-/// is said of it.
+/// Why a command does not begin, or makes no separators. Its `Display` is what is said of it.
 #[derive(Debug, Drop, Error)]
 pub(crate) enum Stop {
-    /// The place of a branch is no place.
+    /// The path of a branch is not that of a place.
     #[error("bad path")]
     BadPath,
     /// There are fewer parts.
@@ -26,7 +25,7 @@ pub(crate) enum Stop {
     /// The report was not split.
     #[error("{0}")]
     Report(SplitStop),
-    /// What a command also says where it stops.
+    /// What any command may stop for.
     #[error("{0}")]
     Stopped(Note),
 }

@@ -1,7 +1,9 @@
 //! Command lines: what their words ask for, and what is refused.
+mod parts;
+
 use clap::error::ErrorKind;
 use ocfl_cursor::{Budget, FileLimit, Limits};
-use ocfl_deed::{Asked, Deed};
+use ocfl_deed::{Asked, Deed, Task};
 use ocfl_line::{LineStop, asked};
 use std::alloc::{AllocError, Global};
 use std::test::Fail;
@@ -30,6 +32,14 @@ fn read(alloc: Global, line: &str) -> Result<Asked, LineStop> {
     asked(alloc, words.as_slice())
 }
 
+/// The task that a line asks for.
+fn read_task(alloc: Global, line: &str) -> Result<Task, Fail> {
+    match read(alloc, line)? {
+        Asked::Task(task) => Ok(task),
+        Asked::Split(_) => Err(Fail::from("no task")),
+    }
+}
+
 /// The kind of the fault of usage.
 fn words_fault(alloc: Global, words: &[&str]) -> Option<ErrorKind> {
     match asked(alloc, words) {
@@ -48,7 +58,7 @@ fn fault(alloc: Global, line: &str) -> Option<ErrorKind> {
 
 /// Whether a line asks for this run over the root `R` with the cursor `F`.
 fn is_run(alloc: Global, line: &str, limits: Limits) -> Result<bool, Fail> {
-    let asked = read(alloc, line)?;
+    let asked = read_task(alloc, line)?;
     let places = asked.root.as_deref() == Some("R") && asked.file.as_deref() == Some("F");
     Ok(asked.deed == Deed::Run(limits) && places)
 }
@@ -64,10 +74,10 @@ fn usage_text(alloc: Global, line: &str) -> Result<String, Fail> {
 #[test]
 fn reads_a_cycle(rt: HostRuntime) -> Result<(), Fail> {
     let alloc = rt.alloc();
-    let asked = read(alloc, "cycle --budget 1 --runs 2 R")?;
+    let asked = read_task(alloc, "cycle --budget 1 --runs 2 R")?;
     assert_eq!(rt; asked.deed, Deed::Cycle(limits(1, MOST)?, 2));
     assert!(rt; asked.root.as_deref() == Some("R") && asked.file.is_none());
-    let asked = read(alloc, "cycle --runs 100000 --files 3 --budget 2 R")?;
+    let asked = read_task(alloc, "cycle --runs 100000 --files 3 --budget 2 R")?;
     assert_eq!(rt; asked.deed, Deed::Cycle(limits(2, 3)?, 100000));
     Ok(())
 }
@@ -91,13 +101,13 @@ fn reads_a_run(rt: HostRuntime) -> Result<(), Fail> {
 #[test]
 fn reads_the_others(rt: HostRuntime) -> Result<(), Fail> {
     let alloc = rt.alloc();
-    let audit = read(alloc, "audit R")?;
+    let audit = read_task(alloc, "audit R")?;
     assert_eq!(rt; audit.deed, Deed::Audit);
     assert!(rt; audit.root.as_deref() == Some("R") && audit.file.is_none());
-    let check = read(alloc, "check R o/v1")?;
+    let check = read_task(alloc, "check R o/v1")?;
     assert!(rt; matches!(&check.deed, Deed::Check(path) if path.as_str() == "o/v1"));
     assert!(rt; check.root.as_deref() == Some("R") && check.file.is_none());
-    let show = read(alloc, "show F")?;
+    let show = read_task(alloc, "show F")?;
     assert_eq!(rt; show.deed, Deed::Show);
     assert!(rt; show.root.is_none() && show.file.as_deref() == Some("F"));
     Ok(())
@@ -112,7 +122,7 @@ fn reads_a_flag(rt: HostRuntime) -> Result<(), Fail> {
         "run --quiet --cursor F --budget 1 R",
         "cycle --budget 1 --quiet --runs 1 R",
     ] {
-        assert!(rt; read(alloc, line)?.quiet, "{line}");
+        assert!(rt; read_task(alloc, line)?.quiet, "{line}");
     }
     for line in [
         "audit R",
@@ -121,7 +131,7 @@ fn reads_a_flag(rt: HostRuntime) -> Result<(), Fail> {
         "check R p",
         "show F",
     ] {
-        assert!(rt; !read(alloc, line)?.quiet, "{line}");
+        assert!(rt; !read_task(alloc, line)?.quiet, "{line}");
     }
     for line in ["check --quiet R p", "show --quiet F", "--quiet audit R"] {
         assert_eq!(rt;

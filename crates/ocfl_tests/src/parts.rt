@@ -4,7 +4,7 @@ mod splitting;
 
 use crate::common::store::place_of;
 use ocfl_parts::laws::text_determines_the_separators;
-use ocfl_parts::{PartsStop, PushStop, Separators, put_parts, read_parts};
+use ocfl_parts::{PartsStop, PushStop, Separators, SplitStop, put_parts, read_parts};
 use std::alloc::Global;
 use std::io::{self, ErrorKind, Read};
 use std::process::Abort;
@@ -134,6 +134,49 @@ fn separators_ascend(rt: HostRuntime) -> Result<(), Fail> {
     let mut text = Vec::from_slice(alloc, b"-")?;
     put_parts(&separators, &mut text)?;
     assert_eq!(rt; text.as_slice(), b"-a/b\na/b/c\na-b\n".as_slice());
+    Ok(())
+}
+
+#[test]
+fn parts_have_ends(rt: HostRuntime) -> Result<(), Fail> {
+    let alloc = rt.alloc();
+    let (a, b) = (place_of(alloc, "a")?, place_of(alloc, "b")?);
+    let mut separators = Separators::new(alloc);
+    assert!(rt; separators.ends(1) == Some((None, None)) && separators.ends(2).is_none());
+    separators.push(a.try_clone()?)?;
+    separators.push(b.try_clone()?)?;
+    for (name, number, wanted) in [
+        ("first", 1, Some((None, Some(&a)))),
+        ("second", 2, Some((Some(&a), Some(&b)))),
+        ("last", 3, Some((Some(&b), None))),
+        ("none", 0, None),
+        ("one too many", 4, None),
+        ("far too many", usize::MAX, None),
+    ] {
+        assert!(rt; separators.ends(number) == wanted, "{name}");
+    }
+    Ok(())
+}
+
+#[test]
+fn stops_have_texts(rt: HostRuntime) -> Result<(), Fail> {
+    let alloc = rt.alloc();
+    for (name, stop, wanted) in [
+        ("line", PartsStop::Line(2), "bad parts: line 2"),
+        ("long", PartsStop::Long, "bad parts: too long"),
+        ("read", PartsStop::Read, "parts file failed"),
+        ("memory", PartsStop::Memory, "out of memory"),
+    ] {
+        assert_eq!(rt; format!(in alloc; "{stop}")?.as_str(), wanted, "{name}");
+    }
+    for (name, stop, wanted) in [
+        ("line", SplitStop::Line(2), "bad report: line 2"),
+        ("many", SplitStop::Many, "too many parts"),
+        ("read", SplitStop::Read, "report failed"),
+        ("memory", SplitStop::Memory, "out of memory"),
+    ] {
+        assert_eq!(rt; format!(in alloc; "{stop}")?.as_str(), wanted, "{name}");
+    }
     Ok(())
 }
 

@@ -1,5 +1,5 @@
 //! Command lines: what their words ask for, and what is refused.
-mod parts;
+mod chosen;
 
 use clap::error::ErrorKind;
 use ocfl_cursor::{Budget, FileLimit, Limits};

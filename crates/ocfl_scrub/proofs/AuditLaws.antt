@@ -1,5 +1,5 @@
--- A pass over all items is the audit.
-use Rattle.std.proofs.Common.{◌≡◌, ◌≢◌, ℕ, zero, suc, ◌+◌, List, [], ◌∷◌, ◌++◌, refl, sym, ◌∙◌, ap, subst, Bool, false, None, Option, length, take, arith}
+-- A pass over all items of a part is its audit, and the whole is one part.
+use Rattle.std.proofs.Common.{◌≡◌, ◌≢◌, ℕ, zero, suc, ◌+◌, List, [], ◌∷◌, ◌++◌, refl, sym, ◌∙◌, ap, subst, Bool, false, None, Option, append-nil, length, map, take, arith}
 use Rattle.std.specs.Io.KnownBytes.{Appends}
 use Rattle.std.proofs.KnownBytes.{Appends-nil}
 use Rattle.ocfl_tree.specs.Place.{Place}
@@ -12,20 +12,28 @@ use Rattle.ocfl_audit.specs.Audit.{audit, item_of}
 use Rattle.ocfl_audit.specs.Due.{item_places, due, items_at}
 use Rattle.ocfl_audit.specs.Trail.{unread_of}
 use Rattle.ocfl_audit.specs.Between.{looked_between, read_between}
+use Rattle.ocfl_audit.specs.Parts.{Part, whole, within}
 use Rattle.ocfl_audit.proofs.DueLaws.{after_is_due}
+use Rattle.ocfl_audit.proofs.Trails.{unread_behind}
 use Rattle.ocfl_item.specs.Looking.{IsFront}
 use Rattle.ocfl_item.specs.Ways.{IsWayFault}
 use Rattle.ocfl_item.specs.Auditing.{Audits, Fails}
-use Rattle.ocfl_walk.specs.WalkCalls.{GoDownFails}
+use Rattle.ocfl_item.proofs.AuditingLaws.{audits_fail, audits_on}
+use Rattle.ocfl_walk.specs.Ends.{before_end}
+use Rattle.ocfl_walk.specs.WalkCalls.{GoesDown, GoDownFails}
 use Rattle.ocfl_item.specs.declared.fault.Fault.{Fault}
 use Rattle.ocfl_item.specs.declared.fault.Fault.TheVariants.{Output}
 use Rattle.ocfl_scrub.specs.Taking.{PartOf}
 use Rattle.ocfl_scrub.specs.Written.{places, last_of, StopsWithin}
-use Rattle.ocfl_scrub.proofs.Passing.{Finishes, Halts}
-use Rattle.ocfl_scrub.specs.WholeAudit.{AuditsAll, AuditStops, AuditEnds}
+use Rattle.ocfl_scrub.specs.Running.{items_above_in}
+use Rattle.ocfl_scrub.specs.Starting.{end_of, entry, stand, looked_in, read_in}
+use Rattle.ocfl_scrub.proofs.PartStarts.{above_in, due_starts, looked_all, read_all}
+use Rattle.ocfl_scrub.proofs.Passing.{due_in, Finishes, Halts}
+use Rattle.ocfl_scrub.proofs.WayOrder.{listed_once_in, read_once_in}
+use Rattle.ocfl_scrub.specs.WholeAudit.{items_in, AuditsWithin, AuditStopsWithin, AuditEndsWithin, AuditsAll, AuditStops, AuditEnds}
 use Rattle.ocfl_scrub.specs.declared.checking.End.{End}
 use Rattle.ocfl_scrub.specs.declared.checking.End.TheVariants.{Ended, Stopped}
-use Rattle.ocfl_scrub.proofs.AuditsJoined.{items_append}
+use Rattle.ocfl_scrub.proofs.AuditsJoined.{items_append, nothing_hashed}
 use Rattle.ocfl_scrub.proofs.TakeLaws.{nothing_of}
 
 pub due_all : (root : StorageRoot) → due root None ≡ item_places root
@@ -48,44 +56,81 @@ pub nothing_front : {A : Type 0} (xs : List A) → IsFront xs [] → xs ≡ []
 nothing_front [] f = refl
 nothing_front (x ∷ xs) f = absurd (let e = f.1 in cc)
 
-any_front : {A : Type 0} (xs ys : List A) → IsFront xs [] → IsFront xs ys
-any_front xs ys f = subst (λ zs. IsFront zs ys) (sym (nothing_front xs f)) (ys, refl)
+-- ---- behind a walk that went down to where the pass over a part begins
 
-module _ {root : StorageRoot} {s t : Store} {old new : Option (List ℕ)} {last : Option Place} {finding : Bool} where
-  pub finish_all : Finishes root s t old new None last finding → AuditsAll root s t old new last finding
-  finish_all h =
-      let items : items_at root h.trail (due root None) ≡ audit root (unread_of root h.trail) = sym (after_is_due root h.trail None) in
+module _ (root : StorageRoot) (part : Part) (s t : Store) (from : Option Place) (g : GoesDown root s t (entry part from)) where
+  -- what was read on the way down has no part in the items
+  walked : (os : List Opening) (ps : List Place) → items_at root (g.trail ++ os) ps ≡ items_at root os ps
+  unfolding items_at
+  walked os ps = ap (λ v. map (item_of root v) ps) (unread_behind root g.trail os (g.audits.opened ∙ nothing_hashed root))
+
+  -- the items of the part are those of what is due before the end
+  pub above_at : (os : List Opening) → items_above_in root (g.trail ++ os) part from ≡ items_at root os (due_in root (end_of part) (stand root part from))
+  above_at os = above_in root part from (g.trail ++ os) ∙ ap (items_at root (g.trail ++ os)) (sym (due_starts root part from)) ∙ walked os (due_in root (end_of part) (stand root part from))
+
+  pub above_are : (os : List Opening) (done later : List Place) → due_in root (end_of part) (stand root part from) ≡ done ++ later
+      → items_above_in root (g.trail ++ os) part from ≡ items_at root os done ++ items_at root os later
+  above_are os done later due_are = above_at os ∙ ap (items_at root os) due_are ∙ items_append root os done later
+
+-- ---- a pass over all items of a part
+
+module _ (root : StorageRoot) (part : Part) (s t u : Store) (old new : Option (List ℕ)) (stood last : Option Place) (finding : Bool) (g : GoesDown root s t (entry part None)) where
+  pub finish_part : (h : Finishes root (end_of part) t u old new (stand root part None) stood finding) → last ≡ last_of None (due_in root (end_of part) (stand root part None)) → AuditsWithin root s u old new part last finding
+  finish_part h last_is =
+      let all : List Place = due_in root (end_of part) (stand root part None) in
+      let items : items_at root h.trail all ≡ items_in root (g.trail ++ h.trail) part = sym (above_at root part s t None g h.trail) in
+      let at_places : all ≡ places (items_in root (g.trail ++ h.trail) part) = sym (places_of_items root h.trail all) ∙ ap places items in
+      let below : Audits root t u all (looked_in root part None None) (read_in root part None None) h.trail =
+      subst (λ hs. Audits root t u all (looked_in root part None None) hs h.trail) (read_all root part None)
+      (subst (λ ls. Audits root t u all ls (before_end (end_of part) (read_between root (stand root part None) None)) h.trail) (looked_all root part None) h.audits) in
       record {
-        trail = h.trail;
-        audits = subst (λ ps. Audits root s t ps (looked_between root None None) (read_between root None None) h.trail) (due_all root) h.audits;
+        trail = g.trail ++ h.trail;
+        down = g.listed;
+        held = g.heads;
+        audits = subst (λ ps. Audits root s u ps (g.listed ++ looked_in root part None None) (g.heads ++ read_in root part None None) (g.trail ++ h.trail)) at_places
+            (audits_on root s t u [] all g.listed (looked_in root part None None) g.heads (read_in root part None None) g.trail h.trail g.audits below);
+        down_front = g.listed_front;
+        held_front = g.heads_front;
+        lists_once = listed_once_in root part None None g.listed (looked_in root part None None) g.listed_front ([], sym (append-nil _));
+        reads_once = read_once_in root part None None g.heads (read_in root part None None) g.heads_front ([], sym (append-nil _));
         wrote = subst (λ is. Appends old new (text is)) items h.wrote;
-        last_is = h.last_is ∙ ap (last_of None) (due_all root);
+        last_is = last_is ∙ ap (last_of None) at_places;
         found_is = h.found_is ∙ ap found items;
       }
 
-  pub halt_all : (why : Fault) → Halts root s t old new None last finding why → AuditStops root s t old new last finding why
-  halt_all why h =
-      let next : items_at root h.trail (take 1 (due root last)) ≡ take 1 (items_at root h.trail (due root last)) = sym (take_items root h.trail 1 (due root last)) in
+  pub halt_part : (why : Fault) (h : Halts root (end_of part) t u old new (stand root part None) stood finding why) → last ≡ last_of None h.done → AuditStopsWithin root s u old new part last finding why
+  halt_part why h last_is =
+      let left : List Place = due_in root (end_of part) stood in
+      let next : items_at root h.trail (take 1 left) ≡ take 1 (items_at root h.trail left) = sym (take_items root h.trail 1 left) in
       let whole_places : h.done ≡ places (items_at root h.trail h.done) = sym (places_of_items root h.trail h.done) in
+      let listed_front = subst (IsFront h.listed) (looked_all root part None) h.listed_front in
+      let heads_front = subst (IsFront h.heads) (read_all root part None) h.heads_front in
       record {
-        trail = h.trail;
+        trail = g.trail ++ h.trail;
         stops = record {
           whole = items_at root h.trail h.done;
-          others = items_at root h.trail (due root last);
-          items_are = after_is_due root h.trail None ∙ ap (items_at root h.trail) h.due_are ∙ items_append root h.trail h.done (due root last);
+          others = items_at root h.trail left;
+          items_are = above_are root part s t None g h.trail h.done left h.due_are;
           begun = h.begun;
-          one = subst (IsFront h.begun) (sym (places_of_items root h.trail (take 1 (due root last))) ∙ ap places next) h.one;
+          one = subst (IsFront h.begun) (sym (places_of_items root h.trail (take 1 left)) ∙ ap places next) h.one;
           part = h.part;
           wrote = h.wrote;
           part_of = subst (λ is. PartOf why (text is) h.part) next h.part_of;
-          last_is = h.last_is ∙ ap (last_of None) whole_places;
+          last_is = last_is ∙ ap (last_of None) whole_places;
         };
         found_is = h.found_is;
+        down = g.listed;
         listed = h.listed;
+        held = g.heads;
         heads = h.heads;
-        fails = subst (λ ps. Fails root s t (ps ++ h.begun) h.listed h.heads h.trail why) whole_places h.fails;
-        listed_front = h.listed_front;
-        heads_front = h.heads_front;
+        fails = subst (λ ps. Fails root s u (ps ++ h.begun) (g.listed ++ h.listed) (g.heads ++ h.heads) (g.trail ++ h.trail) why) whole_places
+            (audits_fail root s t u [] (h.done ++ h.begun) g.listed h.listed g.heads h.heads g.trail h.trail why g.audits h.fails);
+        down_front = g.listed_front;
+        listed_front = listed_front;
+        held_front = g.heads_front;
+        heads_front = heads_front;
+        lists_once = listed_once_in root part None None g.listed h.listed g.listed_front listed_front;
+        reads_once = read_once_in root part None None g.heads h.heads g.heads_front heads_front;
       }
 
 -- nothing went out
@@ -103,18 +148,58 @@ nothing_out items old last why other = record {
 }
 
 -- no walk was started
-pub unstarted : (root : StorageRoot) (s t : Store) (old : Option (List ℕ)) (why : Fault) → IsWayFault why → GoDownFails root s t None why → AuditStops root s t old old None false why
+pub unstarted : (root : StorageRoot) (part : Part) (s t : Store) (old : Option (List ℕ)) (why : Fault) → IsWayFault why → GoDownFails root s t (entry part None) why → AuditStopsWithin root s t old old part None false why
 unfolding nothing_out
-unstarted root s t old why only g = record {
+unstarted root part s t old why only g = record {
   trail = g.trail;
-  stops = nothing_out (audit root (unread_of root g.trail)) old None why only.0;
+  stops = nothing_out (items_in root g.trail part) old None why only.0;
   found_is = refl;
-  listed = g.listed;
-  heads = g.heads;
-  fails = g.fails;
-  listed_front = any_front g.listed (looked_between root None None) g.listed_front;
-  heads_front = any_front g.heads (read_between root None None) g.heads_front;
+  down = g.listed;
+  listed = [];
+  held = g.heads;
+  heads = [];
+  fails = subst (λ ls. Fails root s t [] ls (g.heads ++ []) g.trail why) (sym (append-nil g.listed)) (subst (λ hs. Fails root s t [] g.listed hs g.trail why) (sym (append-nil g.heads)) g.fails);
+  down_front = g.listed_front;
+  listed_front = (looked_in root part None None, refl);
+  held_front = g.heads_front;
+  heads_front = (read_in root part None None, refl);
+  lists_once = listed_once_in root part None None g.listed [] g.listed_front (looked_in root part None None, refl);
+  reads_once = read_once_in root part None None g.heads [] g.heads_front (read_in root part None None, refl);
 }
+
+-- ---- the whole is one part
+
+module _ (root : StorageRoot) (s t : Store) (old new : Option (List ℕ)) (last : Option Place) (finding : Bool) where
+  all_places : (os : List Opening) → places (items_in root os whole) ≡ item_places root
+  all_places os = ap places (after_is_due root os None) ∙ places_of_items root os (due root None) ∙ due_all root
+
+  whole_audit : AuditsWithin root s t old new whole last finding → AuditsAll root s t old new last finding
+  whole_audit h = record {
+    trail = h.trail;
+    audits = subst (λ ps. Audits root s t ps (looked_between root None None) (read_between root None None) h.trail) (all_places h.trail)
+        (subst (λ xs. Audits root s t (places (items_in root h.trail whole)) (looked_between root None None) (xs ++ read_between root None None) h.trail) (nothing_front h.held h.held_front)
+        (subst (λ xs. Audits root s t (places (items_in root h.trail whole)) (xs ++ looked_between root None None) (h.held ++ read_between root None None) h.trail) (nothing_front h.down h.down_front) h.audits));
+    wrote = h.wrote;
+    last_is = h.last_is ∙ ap (last_of None) (all_places h.trail);
+    found_is = h.found_is;
+  }
+
+  whole_stop : (why : Fault) → AuditStopsWithin root s t old new whole last finding why → AuditStops root s t old new last finding why
+  whole_stop why h = record {
+    trail = h.trail;
+    stops = h.stops;
+    found_is = h.found_is;
+    listed = h.listed;
+    heads = h.heads;
+    fails = subst (λ xs. Fails root s t (places h.stops.whole ++ h.stops.begun) h.listed (xs ++ h.heads) h.trail why) (nothing_front h.held h.held_front)
+        (subst (λ xs. Fails root s t (places h.stops.whole ++ h.stops.begun) (xs ++ h.listed) (h.held ++ h.heads) h.trail why) (nothing_front h.down h.down_front) h.fails);
+    listed_front = h.listed_front;
+    heads_front = h.heads_front;
+  }
+
+  pub whole_told : (end : End) → AuditEndsWithin root s t old new whole last finding end → AuditEnds root s t old new last finding end
+  whole_told Ended h = whole_audit h
+  whole_told (Stopped why) h = whole_stop why h
 
 -- ---- where no failure was counted
 
@@ -123,9 +208,13 @@ none_left [] n e = refl
 none_left (x ∷ xs) n e = absurd (omega (arith, e))
 
 -- what was written is the text of the audit of files that can all be read
-pub nothing_unread : (root : StorageRoot) (s t : Store) (old new : Option (List ℕ)) (last : Option Place) (finding : Bool) (end : End) → AuditEnds root s t old new last finding end → end ≡ Ended → t.failures ≡ s.failures
-    → Appends old new (text (audit root [])) × (finding ≡ found (audit root []))
-nothing_unread root s t old new last finding Ended h e same =
+pub nothing_unread : (root : StorageRoot) (part : Part) (s t : Store) (old new : Option (List ℕ)) (last : Option Place) (finding : Bool) (end : End) → AuditEndsWithin root s t old new part last finding end → end ≡ Ended
+    → t.failures ≡ s.failures → Appends old new (text (within part (audit root []))) × (finding ≡ found (within part (audit root [])))
+nothing_unread root part s t old new last finding Ended h e same =
     let none : unread_of root h.trail ≡ [] = none_left (unread_of root h.trail) s.failures (sym same ∙ h.audits.did.failures_are) in
-    (subst (λ u. Appends old new (text (audit root u))) none h.wrote, h.found_is ∙ ap (λ u. found (audit root u)) none)
-nothing_unread root s t old new last finding (Stopped why) h e same = absurd cc
+    (subst (λ u. Appends old new (text (within part (audit root u)))) none h.wrote, h.found_is ∙ ap (λ u. found (within part (audit root u))) none)
+nothing_unread root part s t old new last finding (Stopped why) h e same = absurd cc
+
+pub whole_unread : (root : StorageRoot) (part : Part) (old new : Option (List ℕ)) (finding : Bool) → part ≡ whole → Appends old new (text (within part (audit root []))) × (finding ≡ found (within part (audit root [])))
+    → Appends old new (text (audit root [])) × (finding ≡ found (audit root []))
+whole_unread root part old new finding e h = subst (λ p. Appends old new (text (within p (audit root []))) × (finding ≡ found (within p (audit root [])))) e h

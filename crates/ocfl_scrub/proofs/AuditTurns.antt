@@ -1,59 +1,94 @@
--- One turn of the loop of an audit.
-use Rattle.std.proofs.Common.{◌≡◌, ℕ, List, sym, subst, false, Bool, Some, None, Option}
-use Rattle.std.specs.Prelude.{◌||◌}
+-- One turn of the loop of an audit of a part.
+use Rattle.std.proofs.Common.{◌≡◌, ℕ, List, refl, sym, ◌∙◌, ap, subst, false, Bool, Some, None, Option}
+use Rattle.std.specs.Prelude.{◌||◌, IfSome}
 use Rattle.ocfl_tree.specs.Place.{Place}
 use Rattle.ocfl_tree.specs.StorageRoot.{StorageRoot}
 use Rattle.ocfl_tree.specs.Store.{Store}
-use Rattle.ocfl_walk.specs.WalkCalls.{WalkFails}
+use Rattle.ocfl_audit.specs.Between.{IsBeyond}
+use Rattle.ocfl_audit.specs.Due.{due}
+use Rattle.ocfl_audit.specs.Parts.{Part}
+use Rattle.ocfl_walk.specs.Ends.{is_past}
+use Rattle.ocfl_walk.specs.WalkCalls.{GoesDown, FailsOut}
 use Rattle.ocfl_item.specs.Pending.{IsPending}
-use Rattle.ocfl_walk.specs.Walks.{IsLive, Stands, Gives, GoesOn}
+use Rattle.ocfl_walk.specs.Walks.{IsLive, Stands, Gives, GivesOut}
 use Rattle.ocfl_item.specs.Ways.{IsWayFault}
 use Rattle.ocfl_item.specs.declared.fault.Fault.{Fault}
 use Rattle.ocfl_item.specs.declared.pending.Pending.{Pending}
 use Rattle.ocfl_walk.specs.declared.walk.Walk.{Walk}
+use Rattle.ocfl_scrub.specs.Starting.{end_of, entry, stand}
 use Rattle.ocfl_scrub.specs.Taking.{Takes, Misses}
-use Rattle.ocfl_scrub.specs.WholeAudit.{AuditsAll, AuditStops}
+use Rattle.ocfl_scrub.specs.WholeAudit.{AuditsWithin, AuditStopsWithin}
+use Rattle.ocfl_scrub.specs.Written.{last_of}
+use Rattle.ocfl_scrub.proofs.AuditsJoined.{audits_over}
+use Rattle.ocfl_scrub.proofs.BetweenLaws.{HasGoneOn, gone_self, gone_next}
 use Rattle.ocfl_scrub.proofs.Passing.{Passes}
-use Rattle.ocfl_scrub.proofs.AuditLaws.{finish_all, halt_all}
-use Rattle.ocfl_scrub.proofs.PassLaws.{passes_none, passes_over, passes_took, passes_missed, passes_lost, passes_finish}
-use Rattle.ocfl_scrub.proofs.LoopLaws.{IsUnderWay, next_above, GivesNext, walked_over}
+use Rattle.ocfl_scrub.proofs.AuditLaws.{finish_part, halt_part}
+use Rattle.ocfl_scrub.proofs.PassLaws.{passes_none, passes_over, passes_took, passes_missed, passes_lost, passes_finish, all_done, due_beyond, last_append}
+use Rattle.ocfl_scrub.proofs.LoopLaws.{IsUnderWay, GivesNext, is_in_front, walked_over}
 
--- from s to t the items up to last were taken, and the walk stands there
-pub record HasTaken (root : StorageRoot) (s t : Store) (old new : Option (List ℕ)) (walk : Walk) (last : Option Place) (finding : Bool) : Type 0 where
-  pub stands : Stands root walk last
-  pub passes : Passes root s t old new None last finding
+-- from s to t a walk went down to where a part begins, the items from there on were taken, and the walk stands behind the last of them
+pub record HasTaken (root : StorageRoot) (part : Part) (s t : Store) (old new : Option (List ℕ)) (walk : Walk) (last : Option Place) (finding : Bool) : Type 0 where
+  pub begun : Store
+  pub stood : Option Place
+  pub down : GoesDown root s begun (entry part None)
+  pub stands : Stands root walk stood
+  pub beyond : HasGoneOn (end_of part) (stand root part None) stood
+  pub passes : Passes root (end_of part) begun t old new (stand root part None) stood finding
+  pub last_is : last ≡ last_of None passes.done
 
--- the walk begins without a call
-pub nothing_taken : {S : Type 0} (state : S → Store) (a b : S) (root : StorageRoot) (old : Option (List ℕ)) (walk : Walk) → b ≡ a → (state a).tree ≡ root → Stands root walk None → HasTaken root (state a) (state b) old old walk None false
-nothing_taken state a b root old walk e over stands = record {
-  stands = stands;
-  passes = subst (λ x. Passes root (state a) (state x) old old None None false) (sym e) (passes_none root (state a) old None over);
+pub nothing_taken : (root : StorageRoot) (part : Part) (s t : Store) (old : Option (List ℕ)) (walk : Walk) → GoesDown root s t (entry part None) × Stands root walk (stand root part None) → HasTaken root part s t old old walk None false
+unfolding passes_none
+nothing_taken root part s t old walk there = record {
+  begun = t;
+  stood = stand root part None;
+  down = there.0;
+  stands = there.1;
+  beyond = gone_self (end_of part) (stand root part None);
+  passes = passes_none root (end_of part) t old (stand root part None) (audits_over there.0.audits);
+  last_is = refl;
 }
 
-module _ {root : StorageRoot} {s t : Store} {old mid : Option (List ℕ)} {walk : Walk} {last : Option Place} {finding : Bool}
-    (way : IsUnderWay walk None last old mid finding) (h : HasTaken root s t old mid walk last finding) (u : Store) where
-  module _ {o : Option Pending} (next : Walk) (gave : GivesNext root t u walk next o) where
-    -- nothing is left
-    pub audit_ended : o ≡ None → AuditsAll root s u old mid last finding
+module _ {root : StorageRoot} {s t : Store} {old mid : Option (List ℕ)} {walk : Walk} {last : Option Place} {finding : Bool} (part : Part)
+    (way : IsUnderWay walk old mid finding) (h : HasTaken root part s t old mid walk last finding) (u : Store) where
+  module _ {o : Option Pending} (next : Walk) (gave : GivesNext root (end_of part) t u walk next o) where
+    -- nothing is left before the end
+    pub audit_ended : o ≡ None → AuditsWithin root s u old mid part last finding
     audit_ended is =
-        let gives : Gives root t u last next None = subst (Gives root t u last next) is (gave (passes_over h.passes) way.live last h.stands) in
-        finish_all (passes_finish root s t u old mid None last finding way.beyond h.passes gives.0 gives.1)
+        let gives : GivesOut root t u h.stood (end_of part) next None = subst (GivesOut root t u h.stood (end_of part) next) is (gave (passes_over h.passes) way.live h.stood h.stands) in
+        let all = all_done root (end_of part) h.begun t u old mid (stand root part None) h.stood finding h.beyond h.passes gives.1 in
+        finish_part root part s h.begun u old mid h.stood last finding h.down
+        (passes_finish root (end_of part) h.begun t u old mid (stand root part None) h.stood finding h.beyond h.passes gives.0 gives.1) (h.last_is ∙ ap (last_of None) all)
 
-    module _ {q : Pending} (is : o ≡ Some q) (on : IsLive walk → IsLive next × GoesOn walk next o) (v : Store) (new : Option (List ℕ)) where
-      gives : Gives root t u last next (Some q)
-      gives = subst (Gives root t u last next) is (gave (passes_over h.passes) way.live last h.stands)
+    module _ {q : Pending} (is : o ≡ Some q) (before : IfSome o (λ p. is_past (end_of part) p.place ≡ false)) (v : Store) (new : Option (List ℕ)) where
+      gives : Gives root t u h.stood next (Some q)
+      gives = subst (GivesOut root t u h.stood (end_of part) next) is (gave (passes_over h.passes) way.live h.stood h.stands)
+
+      above : IsBeyond h.stood q.place
+      above = due_beyond root h.stood q.place (due root (Some q.place)) gives.3
+
+      in_front : is_past (end_of part) q.place ≡ false
+      in_front = is_in_front (end_of part) is before
 
       pub audit_took : (place : Place) (cost : ℕ) (more either : Bool) → place ≡ q.place → either ≡ (finding || more) → (u.tree ≡ root → IsPending root q → Takes root u v mid new q.place cost more)
-          → HasTaken root s v old new next (Some place) either
-      audit_took place cost more either e f takes = subst (λ p. HasTaken root s v old new next (Some p) either) (sym e) (record {
+          → HasTaken root part s v old new next (Some place) either
+      unfolding passes_took
+      audit_took place cost more either e f takes = subst (λ p. HasTaken root part s v old new next (Some p) either) (sym e) (record {
+        begun = h.begun;
+        stood = Some q.place;
+        down = h.down;
         stands = gives.1;
-        passes = passes_took root s t u old mid None last finding way.beyond h.passes q.place (next_above next way is on) gives.3 gives.0 v new cost more either (takes (walked_over gives.0) gives.2) f;
+        beyond = gone_next (end_of part) (stand root part None) h.stood q.place h.beyond above in_front;
+        passes = passes_took root (end_of part) h.begun t u old mid (stand root part None) h.stood finding h.beyond h.passes q.place above gives.3 in_front gives.0 v new cost more either (takes (walked_over gives.0) gives.2) f;
+        last_is = sym (last_append None h.passes.done q.place);
       })
 
-      pub audit_missed : (why : Fault) → (u.tree ≡ root → IsPending root q → Misses root u v mid new q.place why) → AuditStops root s v old new last finding why
-      audit_missed why misses = halt_all why
-          (passes_missed root s t u old mid None last finding way.beyond h.passes q.place (next_above next way is on) gives.3 gives.0 v new why (misses (walked_over gives.0) gives.2))
+      pub audit_missed : (why : Fault) → (u.tree ≡ root → IsPending root q → Misses root u v mid new q.place why) → AuditStopsWithin root s v old new part last finding why
+      unfolding passes_missed
+      audit_missed why misses = halt_part root part s h.begun v old new h.stood last finding h.down why
+          (passes_missed root (end_of part) h.begun t u old mid (stand root part None) h.stood finding h.beyond h.passes q.place above gives.3 in_front gives.0 v new why (misses (walked_over gives.0) gives.2)) h.last_is
 
   -- the walk did not get to its next item
-  pub audit_lost : (why : Fault) → (IsLive walk → IsWayFault why) → (t.tree ≡ root → IsLive walk → (p : Option Place) → Stands root walk p → WalkFails root t u p why) → AuditStops root s u old mid last finding why
-  audit_lost why only lost = halt_all why (passes_lost root s t u old mid None last finding way.beyond h.passes why (only way.live).0 (lost (passes_over h.passes) way.live last h.stands))
+  pub audit_lost : (why : Fault) → (IsLive walk → IsWayFault why) → (t.tree ≡ root → IsLive walk → (p : Option Place) → Stands root walk p → FailsOut root t u p (end_of part) why) → AuditStopsWithin root s u old mid part last finding why
+  unfolding passes_lost
+  audit_lost why only lost = halt_part root part s h.begun u old mid h.stood last finding h.down why
+      (passes_lost root (end_of part) h.begun t u old mid (stand root part None) h.stood finding h.beyond h.passes why (only way.live).0 (lost (passes_over h.passes) way.live h.stood h.stands)) h.last_is

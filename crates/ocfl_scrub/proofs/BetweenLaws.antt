@@ -9,23 +9,26 @@ use Rattle.ocfl_tree.proofs.Orders.{place_cmp_total, not_below_itself}
 use Rattle.ocfl_audit.specs.Between.{IsBeyond, IsWithin, between, looked_between, read_between}
 use Rattle.ocfl_audit.proofs.BetweenLaws.{looked_on, read_on}
 use Rattle.ocfl_item.specs.Looking.{IsFront}
+use Rattle.ocfl_walk.specs.Ends.{is_past, before_end}
+use Rattle.ocfl_walk.specs.declared.end.End.{End}
+use Rattle.ocfl_walk.proofs.EndLaws.{looked_out, read_out}
 use Rattle.ocfl_scrub.proofs.Passing.{up_to_last}
 use Rattle.ocfl_scrub.proofs.Lists.{filter_none}
 
--- nothing was taken, or the last place taken lies above the first
-abbrev pub HasGoneOn : Option Place → Option Place → Type 0
-HasGoneOn from last = (last ≡ from) ⊎ ((m : Place) × ((last ≡ Some m) × IsBeyond from m))
+-- nothing was taken, or the last place taken lies above the first and before the end
+abbrev pub HasGoneOn : End → Option Place → Option Place → Type 0
+HasGoneOn e from last = (last ≡ from) ⊎ ((m : Place) × ((last ≡ Some m) × (IsBeyond from m × (is_past e m ≡ false))))
 
-pub gone_self : (from : Option Place) → HasGoneOn from from
-gone_self from = inl refl
+pub gone_self : (e : End) (from : Option Place) → HasGoneOn e from from
+gone_self e from = inl refl
 
 beyond_more : (from : Option Place) (m p : Place) → IsBeyond from m → place_cmp m p ≡ Less → IsBeyond from p
 beyond_more None m p b l = tt
 beyond_more (Some a) m p b l = place_cmp_total.trans a m p b l
 
-pub gone_next : (from last : Option Place) (p : Place) → HasGoneOn from last → IsBeyond last p → HasGoneOn from (Some p)
-gone_next from last p (inl e) l = inr (p, (refl, subst (λ x. IsBeyond x p) e l))
-gone_next from last p (inr (m, (e, b))) l = inr (p, (refl, beyond_more from m p b (subst (λ x. IsBeyond x p) e l)))
+pub gone_next : (e : End) (from last : Option Place) (p : Place) → HasGoneOn e from last → IsBeyond last p → is_past e p ≡ false → HasGoneOn e from (Some p)
+gone_next e from last p (inl f) l n = inr (p, (refl, (subst (λ x. IsBeyond x p) f l, n)))
+gone_next e from last p (inr (m, (f, b))) l n = inr (p, (refl, (beyond_more from m p b.0 (subst (λ x. IsBeyond x p) f l), n)))
 
 not_past : (m p : Place) → place_cmp m p ≡ Less → is_lt (place_cmp p m) ≡ false
 not_past m p h = by (place_cmp p m) refl
@@ -40,19 +43,18 @@ module _ (f : Option Place → Option Place → List Place) (joins : (from to : 
   up_self None = refl
   up_self (Some p) = self p
 
-  joined : (from last to : Option Place) → HasGoneOn from last → ((m : Place) → last ≡ Some m → IsWithin to m) → up_to_last f from last ++ f last to ≡ f from to
-  joined from last to (inl e) u = subst (λ x. up_to_last f from x ++ f x to ≡ f from to) (sym e) (ap (λ xs. xs ++ f from to) (up_self from))
-  joined from last to (inr (m, (e, b))) u = subst (λ x. up_to_last f from x ++ f x to ≡ f from to) (sym e) (joins from to m b (u m e))
+  joined : (e : End) (from last to : Option Place) → HasGoneOn e from last → ((m : Place) → last ≡ Some m → IsWithin to m) → up_to_last f from last ++ f last to ≡ f from to
+  joined e from last to (inl g) u = subst (λ x. up_to_last f from x ++ f x to ≡ f from to) (sym g) (ap (λ xs. xs ++ f from to) (up_self from))
+  joined e from last to (inr (m, (g, b))) u = subst (λ x. up_to_last f from x ++ f x to ≡ f from to) (sym g) (joins from to m b.0 (u m g))
 
-  joined_next : (from last : Option Place) (p : Place) → HasGoneOn from last → IsBeyond last p → up_to_last f from last ++ f last (Some p) ≡ f from (Some p)
-  joined_next from last p low h = joined from last (Some p) low (λ m e. not_past m p (subst (λ x. IsBeyond x p) e h))
+  joined_next : (e : End) (from last : Option Place) (p : Place) → HasGoneOn e from last → IsBeyond last p → up_to_last f from last ++ f last (Some p) ≡ f from (Some p)
+  joined_next e from last p low h = joined e from last (Some p) low (λ m g. not_past m p (subst (λ x. IsBeyond x p) g h))
 
-  joined_end : (from last : Option Place) → HasGoneOn from last → up_to_last f from last ++ f last None ≡ f from None
-  joined_end from last low = joined from last None low (λ m e. tt)
-
-  -- up to a next place is a front of all that is left
-  front_next : (last : Option Place) (p : Place) → IsBeyond last p → IsFront (f last (Some p)) (f last None)
-  front_next last p h = (f (Some p) None, sym (joins last None p h tt))
+  -- the same of what is left before the end
+  joined_out : (e : End) → ((from : Option Place) (b : Place) → IsBeyond from b → is_past e b ≡ false → f from (Some b) ++ before_end e (f (Some b) None) ≡ before_end e (f from None))
+      → (from last : Option Place) → HasGoneOn e from last → up_to_last f from last ++ before_end e (f last None) ≡ before_end e (f from None)
+  joined_out e out from last (inl g) = subst (λ x. up_to_last f from x ++ before_end e (f x None) ≡ before_end e (f from None)) (sym g) (ap (λ xs. xs ++ before_end e (f from None)) (up_self from))
+  joined_out e out from last (inr (m, (g, b))) = subst (λ x. up_to_last f from x ++ before_end e (f x None) ≡ before_end e (f from None)) (sym g) (out from m b.0 b.1)
 
 -- ---- directories that are looked into, and objects whose inventories are read
 
@@ -74,24 +76,26 @@ module _ (root : StorageRoot) where
   pub read_self : (from : Option Place) → up_to_last (read_between root) from from ≡ []
   read_self from = up_self (read_between root) (read_on root) read_none from
 
-  module _ (from last : Option Place) (low : HasGoneOn from last) where
+  module _ (e : End) (from last : Option Place) (low : HasGoneOn e from last) where
     pub looked_next : (p : Place) → IsBeyond last p → up_to_last (looked_between root) from last ++ looked_between root last (Some p) ≡ looked_between root from (Some p)
-    looked_next p h = joined_next (looked_between root) (looked_on root) looked_none from last p low h
+    looked_next p h = joined_next (looked_between root) (looked_on root) looked_none e from last p low h
 
-    pub looked_end : up_to_last (looked_between root) from last ++ looked_between root last None ≡ looked_between root from None
-    looked_end = joined_end (looked_between root) (looked_on root) looked_none from last low
+    pub looked_end : up_to_last (looked_between root) from last ++ before_end e (looked_between root last None) ≡ before_end e (looked_between root from None)
+    looked_end = joined_out (looked_between root) (looked_on root) looked_none e (looked_out e root) from last low
 
     pub read_next : (p : Place) → IsBeyond last p → up_to_last (read_between root) from last ++ read_between root last (Some p) ≡ read_between root from (Some p)
-    read_next p h = joined_next (read_between root) (read_on root) read_none from last p low h
+    read_next p h = joined_next (read_between root) (read_on root) read_none e from last p low h
 
-    pub read_end : up_to_last (read_between root) from last ++ read_between root last None ≡ read_between root from None
-    read_end = joined_end (read_between root) (read_on root) read_none from last low
+    pub read_end : up_to_last (read_between root) from last ++ before_end e (read_between root last None) ≡ before_end e (read_between root from None)
+    read_end = joined_out (read_between root) (read_on root) read_none e (read_out e root) from last low
 
-  pub looked_front : (last : Option Place) (p : Place) → IsBeyond last p → IsFront (looked_between root last (Some p)) (looked_between root last None)
-  looked_front last p h = front_next (looked_between root) (looked_on root) looked_none last p h
+  -- up to a next place before the end is a front of all that is left before it
+  module _ (e : End) (last : Option Place) (p : Place) (far : IsBeyond last p) (inside : is_past e p ≡ false) where
+    pub looked_front : IsFront (looked_between root last (Some p)) (before_end e (looked_between root last None))
+    looked_front = (before_end e (looked_between root (Some p) None), sym (looked_out e root last p far inside))
 
-  pub read_front : (last : Option Place) (p : Place) → IsBeyond last p → IsFront (read_between root last (Some p)) (read_between root last None)
-  read_front last p h = front_next (read_between root) (read_on root) read_none last p h
+    pub read_front : IsFront (read_between root last (Some p)) (before_end e (read_between root last None))
+    read_front = (before_end e (read_between root (Some p) None), sym (read_out e root last p far inside))
 
 -- a front of what is left is one of the whole behind what was before
 pub front_behind : (before front left whole : List Place) → before ++ left ≡ whole → IsFront front left → IsFront (before ++ front) whole

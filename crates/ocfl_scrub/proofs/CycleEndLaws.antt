@@ -1,7 +1,10 @@
--- A cycle said of the audit alone, and the headline.
+-- A cycle over a part said of its audit alone, the headline, and the whole as one part.
 use Rattle.std.proofs.Common.{◌≡◌, ◌⊎◌, inl, inr, ℕ, zero, suc, ◌+◌, ◌-◌, ◌<◌, ◌≤◌, List, [], ◌∷◌, ◌++◌, refl, sym, ◌∙◌, ap, subst, true, false, Bool, None, Option, append-nil, length, length-append, map, take, arith}
 use Rattle.std.proofs.lemmas.List.{length-map}
 use Rattle.std.specs.Io.KnownBytes.{Appends}
+use Rattle.std.proofs.KnownBytes.{Appends-nil}
+use Rattle.ocfl_tree.proofs.Orders.{true_not_false}
+use Rattle.ocfl_item.proofs.AuditingLaws.{audits_nothing}
 use Rattle.ocfl_tree.specs.Place.{Place}
 use Rattle.ocfl_tree.specs.StorageRoot.{StorageRoot}
 use Rattle.ocfl_tree.specs.Store.{Store}
@@ -12,10 +15,9 @@ use Rattle.ocfl_audit.specs.Audit.{audit}
 use Rattle.ocfl_audit.specs.Zone.{inventory_name}
 use Rattle.ocfl_audit.specs.Lines.{is_empty}
 use Rattle.ocfl_audit.specs.Trail.{unread_of, inventories}
-use Rattle.ocfl_audit.specs.Due.{due, items_at, hashed_among}
+use Rattle.ocfl_audit.specs.Due.{item_places, due, items_at, hashed_among}
 use Rattle.ocfl_audit.specs.Between.{read_between}
 use Rattle.ocfl_audit.specs.Runs.{Limits, runs, joined, sum_of}
-use Rattle.ocfl_audit.proofs.DueLaws.{after_is_due}
 use Rattle.ocfl_audit.proofs.ObjectLaws.{inventories_read}
 use Rattle.ocfl_audit.proofs.RunLaws.{large_whole, large_few, limits_join, limits_few}
 use Rattle.ocfl_cursor.specs.Cursor.{Cursor}
@@ -23,11 +25,17 @@ use Rattle.ocfl_item.specs.Looking.{IsFront}
 use Rattle.ocfl_item.specs.Auditing.{Audits, Fails}
 use Rattle.ocfl_item.specs.declared.fault.Fault.{Fault}
 use Rattle.ocfl_scrub.specs.Written.{places, last_of, Figures}
+use Rattle.ocfl_audit.specs.Parts.{Part, whole, within, places_within}
+use Rattle.ocfl_scrub.specs.WholeAudit.{items_in}
+use Rattle.ocfl_scrub.specs.Starting.{due_within}
 use Rattle.ocfl_scrub.specs.Cycling.{audit_of, all_runs, all_taken, enough, Cycles, CycleStops, CycleEnds, CyclesTo, Headline, HeadlineOf}
+use Rattle.ocfl_scrub.specs.Cycling.{runs_in, all_in, inventories_in, CyclesWithin, CycleStopsWithin, CycleEndsWithin, CyclesToWithin, HeadlineWithin, HeadlineOfPart}
 use Rattle.ocfl_scrub.specs.declared.cycling.CycleStatus.{CycleStatus}
 use Rattle.ocfl_scrub.specs.declared.cycling.CycleStatus.TheVariants.{Ended, Spent, Stopped}
 use Rattle.ocfl_scrub.proofs.AuditLaws.{due_all, places_of_items, none_left}
-use Rattle.ocfl_scrub.proofs.RunsJoined.{ReadFew, Parts, PartsStop, PartsEnd}
+use Rattle.ocfl_scrub.proofs.NextLaws.{root_is_due}
+use Rattle.ocfl_scrub.proofs.PartStarts.{above_in}
+use Rattle.ocfl_scrub.proofs.RunsJoined.{Parts, PartsStop}
 
 -- ---- what is left
 
@@ -45,8 +53,11 @@ none_due root os ps (q ∷ qs) e =
 inventory_count : (root : StorageRoot) → length (inventories root) ≡ length (read_between root None None)
 inventory_count root = ap length (inventories_read root) ∙ length-map (read_between root None None) (λ o. o ++ inventory_name ∷ [])
 
-few_inventories : (root : StorageRoot) (heads : List Place) (count : ℕ) → ReadFew root None heads count → 1 ≤ count → length heads < length (inventories root) + count
-few_inventories root heads count h some = let m = h.some some in let n = inventory_count root in omega (arith, m, n)
+-- items of some places are some
+items_there : (root : StorageRoot) (os : List Opening) (ps : List Place) → is_empty ps ≡ false → is_empty (items_at root os ps) ≡ false
+unfolding items_at
+items_there root os [] h = h
+items_there root os (p ∷ ps) h = refl
 
 -- ---- sums of budgets
 
@@ -59,32 +70,32 @@ sum_front zero bs = by bs
 sum_front (suc k) [] = omega arith
 sum_front (suc k) (b ∷ bs) = let m = sum_front k bs in omega (arith, m)
 
--- ---- a cycle
+-- ---- a cycle over a part
 
-module _ (root : StorageRoot) (s t : Store) (old new : Option (List ℕ)) (last : Option Place) (limits : List Limits) (spent files : ℕ) (finding : Bool) (count : ℕ) where
-  whole_is : (os : List Opening) → audit_of root os ≡ items_at root os (due root None)
-  whole_is os = after_is_due root os None
+module _ (root : StorageRoot) (part : Part) (s t : Store) (old new : Option (List ℕ)) (last : Option Place) (limits : List Limits) (spent files : ℕ) (finding : Bool) (count : ℕ) where
+  part_is : (os : List Opening) → items_in root os part ≡ items_at root os (due_within root part None)
+  part_is os = above_in root part None os
 
-  cycles : (ended : Bool) → Parts root s t old new None last limits spent files finding count ended → Cycles root s t old new last limits spent files finding count ended
+  pub cycles : (ended : Bool) → Parts root part s t old new None last limits spent files finding count ended → CyclesWithin root s t old new part last limits spent files finding count ended
   cycles ended h =
       let k = h.took in
-      let items : List Item = audit_of root k.trail in
-      let are : all_taken root k.trail limits ≡ items_at root k.trail k.done = ap (λ is. joined (runs is limits)) (whole_is k.trail) ∙ h.runs_are in
-      let at_places : k.done ≡ places (all_taken root k.trail limits) = sym (ap places are ∙ places_of_items root k.trail k.done) in
-      let counted : count ≡ length (all_runs root k.trail limits) = h.count_is ∙ ap (λ is. length (runs is limits)) (sym (whole_is k.trail)) in
-      let to_end : all_taken root k.trail limits ≡ items → ended ≡ true = λ e. h.ended_is ∙ none_due root k.trail k.done (due root last) (sym are ∙ e ∙ whole_is k.trail ∙ ap (items_at root k.trail) k.due_are) in
-      let done_all : ended ≡ true → k.done ≡ due root None = λ e. sym (k.due_are ∙ ap (λ qs. k.done ++ qs) (nothing (due root last) (sym h.ended_is ∙ e)) ∙ append-nil k.done) in
+      let items : List Item = items_in root k.trail part in
+      let are : all_in root k.trail part limits ≡ items_at root k.trail k.done = ap (λ is. joined (runs is limits)) (part_is k.trail) ∙ h.runs_are in
+      let at_places : k.done ≡ places (all_in root k.trail part limits) = sym (ap places are ∙ places_of_items root k.trail k.done) in
+      let counted : count ≡ length (runs_in root k.trail part limits) = h.count_is ∙ ap (λ is. length (runs is limits)) (sym (part_is k.trail)) in
+      let to_end : all_in root k.trail part limits ≡ items → ended ≡ true = λ e. h.ended_is ∙ none_due root k.trail k.done (due_within root part last) (sym are ∙ e ∙ part_is k.trail ∙ ap (items_at root k.trail) k.due_are) in
+      let done_all : ended ≡ true → k.done ≡ due_within root part None = λ e. sym (k.due_are ∙ ap (λ qs. k.done ++ qs) (nothing (due_within root part last) (sym h.ended_is ∙ e)) ∙ append-nil k.done) in
       record {
         trail = k.trail;
         listed = k.listed;
         heads = k.heads;
         audits = subst (λ ps. Audits root s t ps k.listed k.heads k.trail) at_places k.audits;
-        inventories_read = few_inventories root k.heads count h.read;
+        inventories_read = h.read.some;
         wrote = subst (λ is. Appends old new (text is)) (sym are) k.wrote;
         figures = subst (λ is. Figures is spent files finding) (sym are) k.figures;
         count_is = counted;
         last_is = k.last_is ∙ ap (last_of None) at_places;
-        whole_is = (λ e. are ∙ ap (items_at root k.trail) (done_all e) ∙ sym (whole_is k.trail), to_end);
+        ends_is = (λ e. (h.made e, are ∙ ap (items_at root k.trail) (done_all e) ∙ sym (part_is k.trail)), λ e. to_end e.1);
         few = λ b n p q large. let m = large_few b n p q limits items large in omega (arith, counted, m);
         suffice = λ b n p q large fits. to_end (large_whole b n p q limits items large fits);
         by_sum = λ k p fits files_fit sum.
@@ -93,63 +104,150 @@ module _ (root : StorageRoot) (s t : Store) (old new : Option (List ℕ)) (last 
             (to_end (limits_join limits items (omega (arith, p, fits)) files_fit (omega (arith, sum, w))), omega (arith, counted, m));
       }
 
-  cycle_stops : (why : Fault) → 1 ≤ count → PartsStop root s t old new None last limits spent files finding count why → CycleStops root s t old new last limits spent files finding count why
+  pub cycle_stops : (why : Fault) → 1 ≤ count → PartsStop root part s t old new None last limits spent files finding count why → CycleStopsWithin root s t old new part last limits spent files finding count why
   cycle_stops why some h =
       let whole : List Item = items_at root h.trail h.done in
       let at_places : h.done ≡ places whole = sym (places_of_items root h.trail h.done) in
       record {
         trail = h.trail;
-        some = some;
-        count_fits = subst (λ is. count ≤ length (runs is limits)) (sym (whole_is h.trail)) h.count_fits;
+        made = some;
+        count_fits = subst (λ is. count ≤ length (runs is limits)) (sym (part_is h.trail)) h.count_fits;
         stops = record {
           whole = whole;
           others = h.others;
-          items_are = ap (λ is. joined (take count (runs is limits))) (whole_is h.trail) ∙ h.runs_begin;
+          items_are = ap (λ is. joined (take count (runs is limits))) (part_is h.trail) ∙ h.runs_begin;
           begun = h.begun;
           one = h.one;
-          part = h.part;
+          part = h.gone;
           wrote = h.wrote;
           part_of = h.part_of;
           last_is = h.last_is ∙ ap (last_of None) at_places;
         };
-        runs_before = subst (λ is. IsFront (joined (take (count - 1) (runs is limits))) whole) (sym (whole_is h.trail)) h.runs_before;
+        runs_before = subst (λ is. IsFront (joined (take (count - 1) (runs is limits))) whole) (sym (part_is h.trail)) h.runs_before;
         figures = h.figures;
         listed = h.listed;
         heads = h.heads;
         fails = subst (λ ps. Fails root s t (ps ++ h.begun) h.listed h.heads h.trail why) at_places h.fails;
-        inventories_read = few_inventories root h.heads count h.read some;
+        inventories_read = h.read.some some;
       }
-
-  pub cycle_ends : (end : CycleStatus) → (end ≡ Spent) ⊎ (1 ≤ count) → PartsEnd root s t old new None last limits spent files finding count end → CycleEnds root s t old new last limits spent files finding count end
-  cycle_ends Ended some h = cycles true h
-  cycle_ends Spent some h = cycles false h
-  cycle_ends (Stopped why) (inl e) h = absurd cc
-  cycle_ends (Stopped why) (inr some) h = cycle_stops why some h
 
   -- ---- where no failure was counted
 
-  headline : (whole : Bool) → Cycles root s t old new last limits spent files finding count whole → t.failures ≡ s.failures → Headline root s t old new limits count whole
-  headline whole h same =
+  part_places : (os : List Opening) → places (items_in root os part) ≡ places_within part (item_places root)
+  part_places os = ap places (part_is os) ∙ places_of_items root os (due_within root part None) ∙ ap (places_within part) (due_all root)
+
+  part_headline : (ends : Bool) → CyclesWithin root s t old new part last limits spent files finding count ends → t.failures ≡ s.failures → HeadlineWithin root s t old new part limits count ends
+  part_headline ends h same =
       let none : unread_of root h.trail ≡ [] = none_left (unread_of root h.trail) s.failures (sym same ∙ h.audits.did.failures_are) in
       record {
         trail = h.trail;
         opened = h.audits.did.openings_are;
-        reports = subst (λ u. Appends old new (text (joined (runs (audit root u) limits)))) none h.wrote;
-        each_run = h.count_is ∙ ap (λ u. length (runs (audit root u) limits)) none;
-        whole_audit = λ e. subst (λ u. Appends old new (text (audit root u))) none (subst (λ is. Appends old new (text is)) (h.whole_is.0 e) h.wrote);
-        opened_once = λ e. h.audits.opened ∙ ap (hashed_among root) (ap places (h.whole_is.0 e ∙ whole_is h.trail) ∙ places_of_items root h.trail (due root None) ∙ due_all root);
+        reports = subst (λ u. Appends old new (text (joined (runs (within part (audit root u)) limits)))) none h.wrote;
+        each_run = h.count_is ∙ ap (λ u. length (runs (within part (audit root u)) limits)) none;
+        whole_part = λ e. subst (λ u. Appends old new (text (within part (audit root u)))) none (subst (λ is. Appends old new (text is)) (h.ends_is.0 e).1 h.wrote);
+        opened_once = λ e. h.audits.opened ∙ ap (hashed_among root) (ap places (h.ends_is.0 e).1 ∙ part_places h.trail);
         ends_within = λ b n p q large fits. (
-          h.suffice b n p q large (subst (λ u. enough (audit root u) b n ≤ length limits) (sym none) fits),
-          subst (λ u. count ≤ enough (audit root u) b n) none (h.few b n p q large),
+          h.suffice b n p q large (subst (λ u. enough (within part (audit root u)) b n ≤ length limits) (sym none) fits),
+          subst (λ u. count ≤ enough (within part (audit root u)) b n) none (h.few b n p q large),
         );
       }
 
-  headline_ends : (end : CycleStatus) → CycleEnds root s t old new last limits spent files finding count end → t.failures ≡ s.failures → HeadlineOf root s t old new limits count end
-  headline_ends Ended h same = headline true h same
-  headline_ends Spent h same = headline false h same
+  headline_ends : (end : CycleStatus) → CycleEndsWithin root s t old new part last limits spent files finding count end → t.failures ≡ s.failures → HeadlineOfPart root s t old new part limits count end
+  headline_ends Ended h same = part_headline true h same
+  headline_ends Spent h same = part_headline false h same
   headline_ends (Stopped why) h same = tt
 
-pub headline_of : (root : StorageRoot) (s t : Store) (old new : Option (List ℕ)) (limits : List Limits) (c : Cursor) (finding : Bool) (end : CycleStatus) (count : ℕ) → count ≡ c.runs → CyclesTo root s t old new limits c finding end → t.failures ≡ s.failures
-    → HeadlineOf root s t old new limits count end
-headline_of root s t old new limits c finding end count is h same =
-    subst (λ n. HeadlineOf root s t old new limits n end) (sym is) (headline_ends root s t old new h.last limits c.spent c.files finding c.runs end h.cycle same)
+pub headline_of_part : (root : StorageRoot) (part : Part) (s t : Store) (old new : Option (List ℕ)) (limits : List Limits) (c : Cursor) (finding : Bool) (end : CycleStatus) (count : ℕ) → count ≡ c.runs
+    → CyclesToWithin root s t old new part limits c finding end → t.failures ≡ s.failures → HeadlineOfPart root s t old new part limits count end
+headline_of_part root part s t old new limits c finding end count is h same =
+    subst (λ n. HeadlineOfPart root s t old new part limits n end) (sym is) (headline_ends root part s t old new h.last limits c.spent c.files finding c.runs end h.cycle same)
+
+-- without limits nothing is done
+pub cycles_none : (root : StorageRoot) (part : Part) (s : Store) (old : Option (List ℕ)) (limits : List Limits) → limits ≡ [] → s.tree ≡ root → CyclesWithin root s s old old part None limits 0 0 false 0 false
+cycles_none root part s old limits e over = subst (λ ls. CyclesWithin root s s old old part None ls 0 0 false 0 false) (sym e) (record {
+  trail = [];
+  listed = [];
+  heads = [];
+  audits = audits_nothing root s over;
+  inventories_read = λ some. absurd (omega (arith, some));
+  wrote = Appends-nil old;
+  figures = record { spent_is = refl; files_is = refl; found_is = refl };
+  count_is = refl;
+  last_is = refl;
+  ends_is = (λ f. absurd cc, λ f. let some = f.0 in absurd (omega (arith, some)));
+  few = λ b n p q large. omega arith;
+  suffice = λ b n p q large fits. absurd (omega (arith, fits));
+  by_sum = λ k p fits files_fit sum. absurd (omega (arith, p, fits));
+})
+
+-- ---- the whole is one part
+
+module _ (root : StorageRoot) (s t : Store) (old new : Option (List ℕ)) (last : Option Place) (limits : List Limits) (spent files : ℕ) (finding : Bool) (count : ℕ) where
+  -- the audit has an item, so what is taken of it is not all before a run was made
+  some_run : (os : List Opening) → count ≡ length (all_runs root os limits) → all_taken root os limits ≡ audit_of root os → 1 ≤ count
+  some_run os counted e = by (all_runs root os limits) refl
+    where
+      some_items : is_empty (audit_of root os) ≡ false
+      some_items = ap is_empty (part_is root whole s t old new last limits spent files finding count os) ∙ items_there root os (due root None) (root_is_due root)
+
+      by : (rs : List (List Item)) → all_runs root os limits ≡ rs → 1 ≤ count
+      by [] f = absurd (let g : is_empty (audit_of root os) ≡ true = sym (ap is_empty (sym (ap joined f) ∙ e)) in true_not_false (sym g ∙ some_items))
+      by (r ∷ rs) f = let n : count ≡ length (r ∷ rs) = counted ∙ ap length f in omega (arith, n)
+
+  few_inventories : (heads : List Place) → length heads < inventories_in root whole + count → length heads < length (inventories root) + count
+  few_inventories heads h = let n = inventory_count root in omega (arith, h, n)
+
+  whole_cycles : (ends : Bool) → CyclesWithin root s t old new whole last limits spent files finding count ends → Cycles root s t old new last limits spent files finding count ends
+  whole_cycles ends h = record {
+    trail = h.trail;
+    listed = h.listed;
+    heads = h.heads;
+    audits = h.audits;
+    inventories_read = λ some. few_inventories h.heads (h.inventories_read some);
+    wrote = h.wrote;
+    figures = h.figures;
+    count_is = h.count_is;
+    last_is = h.last_is;
+    whole_is = (λ e. (h.ends_is.0 e).1, λ e. h.ends_is.1 (some_run h.trail h.count_is e, e));
+    few = h.few;
+    suffice = h.suffice;
+    by_sum = h.by_sum;
+  }
+
+  whole_stops : (why : Fault) → CycleStopsWithin root s t old new whole last limits spent files finding count why → CycleStops root s t old new last limits spent files finding count why
+  whole_stops why h = record {
+    trail = h.trail;
+    some = h.made;
+    count_fits = h.count_fits;
+    stops = h.stops;
+    runs_before = h.runs_before;
+    figures = h.figures;
+    listed = h.listed;
+    heads = h.heads;
+    fails = h.fails;
+    inventories_read = few_inventories h.heads h.inventories_read;
+  }
+
+  whole_ends : (end : CycleStatus) → CycleEndsWithin root s t old new whole last limits spent files finding count end → CycleEnds root s t old new last limits spent files finding count end
+  whole_ends Ended h = whole_cycles true h
+  whole_ends Spent h = whole_cycles false h
+  whole_ends (Stopped why) h = whole_stops why h
+
+pub whole_cycle : (root : StorageRoot) (s t : Store) (old new : Option (List ℕ)) (limits : List Limits) (c : Cursor) (finding : Bool) (end : CycleStatus) → CyclesToWithin root s t old new whole limits c finding end → CyclesTo root s t old new limits c finding end
+whole_cycle root s t old new limits c finding end h = record { last = h.last; cycle = whole_ends root s t old new h.last limits c.spent c.files finding c.runs end h.cycle; cursor_is = h.reached_is }
+
+whole_headline : (root : StorageRoot) (s t : Store) (old new : Option (List ℕ)) (limits : List Limits) (count : ℕ) (ends : Bool) → HeadlineWithin root s t old new whole limits count ends → Headline root s t old new limits count ends
+whole_headline root s t old new limits count ends h = record {
+  trail = h.trail;
+  opened = h.opened;
+  reports = h.reports;
+  each_run = h.each_run;
+  whole_audit = h.whole_part;
+  opened_once = h.opened_once;
+  ends_within = h.ends_within;
+}
+
+pub headline_of : (root : StorageRoot) (s t : Store) (old new : Option (List ℕ)) (limits : List Limits) (count : ℕ) (end : CycleStatus) → HeadlineOfPart root s t old new whole limits count end → HeadlineOf root s t old new limits count end
+headline_of root s t old new limits count Ended h = whole_headline root s t old new limits count true h
+headline_of root s t old new limits count Spent h = whole_headline root s t old new limits count false h
+headline_of root s t old new limits count (Stopped why) h = tt

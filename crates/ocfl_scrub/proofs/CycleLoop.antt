@@ -13,7 +13,8 @@ use Rattle.ocfl_item.specs.declared.fault.Fault.{Fault}
 use Rattle.ocfl_item.specs.declared.fault.Fault.TheVariants.{Output}
 use Rattle.ocfl_scrub.specs.Taking.{WritesLines}
 use Rattle.ocfl_scrub.specs.Running.{limits_of, state_at, state_after, begun_in, begun}
-use Rattle.ocfl_scrub.specs.Cycling.{CyclesTo}
+use Rattle.ocfl_audit.specs.Parts.{Part}
+use Rattle.ocfl_scrub.specs.Cycling.{CyclesToWithin}
 use Rattle.ocfl_scrub.specs.declared.running.RunStatus.{RunStatus}
 use Rattle.ocfl_scrub.specs.declared.running.RunStatus.TheVariants as run
 use Rattle.ocfl_scrub.specs.declared.cycling.CycleStatus.{CycleStatus}
@@ -83,7 +84,7 @@ module _ (c now reached : Cursor) (cost opened : ℕ) (end : RunStatus) (last : 
 pub lines_said : (old new : Option (List ℕ)) (finding reported : Bool) → reported ≡ finding → WritesLines old new finding → WritesLines old new reported
 lines_said old new finding reported e h = subst (WritesLines old new) (sym e) h
 
-pub cycle_said : (root : StorageRoot) (s t : Store) (old new : Option (List ℕ)) (all : List Limits) (c d : Cursor) (finding reported : Bool) (end last_end : CycleStatus) → d ≡ c → reported ≡ finding → last_end ≡ end
-    → CyclesTo root s t old new all c finding end → CyclesTo root s t old new all d reported last_end
-cycle_said root s t old new all c d finding reported end last_end e f g h =
-    subst (CyclesTo root s t old new all d reported) (sym g) (subst (λ v. CyclesTo root s t old new all d v end) (sym f) (subst (λ x. CyclesTo root s t old new all x finding end) (sym e) h))
+pub cycle_said : (root : StorageRoot) (part : Part) (s t : Store) (old new : Option (List ℕ)) (all : List Limits) (c d : Cursor) (finding reported : Bool) (end last_end : CycleStatus) → d ≡ c → reported ≡ finding → last_end ≡ end
+    → CyclesToWithin root s t old new part all c finding end → CyclesToWithin root s t old new part all d reported last_end
+cycle_said root part s t old new all c d finding reported end last_end e f g h =
+    subst (CyclesToWithin root s t old new part all d reported) (sym g) (subst (λ v. CyclesToWithin root s t old new part all d v end) (sym f) (subst (λ x. CyclesToWithin root s t old new part all x finding end) (sym e) h))

@@ -3,6 +3,7 @@ pub mod AuditsJoined
 pub mod TakeLaws
 pub mod CheckLaws
 pub mod BetweenLaws
+pub mod PartStarts
 pub mod Passing
 pub mod PassLaws
 pub mod LoopLaws
@@ -29,3 +30,4 @@ pub mod FileLaws
 pub mod HeadlineLaws
 pub mod OverrunLaws
 pub mod RecordLaws
+pub mod JoinLaws

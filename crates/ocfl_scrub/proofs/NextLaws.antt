@@ -1,5 +1,5 @@
--- Between the last item that was taken and a hashed file that is next, no inventory is read: each object whose inventory is read is an item, and none of them is hashed.
-use Rattle.std.proofs.Common.{◌≡◌, ◌≢◌, inl, inr, List, [], ◌∷◌, ◌++◌, refl, sym, ◌∙◌, ap, subst, true, false, ◌+◌, Option, Some, None, length, length-append}
+-- Between the last item of a part that was taken and a hashed file that is next, no inventory of it is read: each object whose inventory is read is an item, and none of them is hashed.
+use Rattle.std.proofs.Common.{◌≡◌, ◌≢◌, inl, inr, List, [], ◌∷◌, ◌++◌, refl, sym, ◌∙◌, ap, subst, true, false, ◌+◌, Option, Some, None, length, length-append, filter}
 use Rattle.std.specs.Prelude.{nat_lt}
 use Rattle.std.specs.Ordering.{is_lt}
 use Rattle.ocfl_tree.specs.Place.{Place, place_cmp}
@@ -14,12 +14,16 @@ use Rattle.ocfl_audit.specs.Head.{or_clean, root_notes_by, head_notes_by}
 use Rattle.ocfl_audit.specs.Lines.{is_empty, notes, notes_in, cost_of, named_at, is_hashed}
 use Rattle.ocfl_audit.specs.Objects.{HasInventory}
 use Rattle.ocfl_audit.specs.Due.{item_places, due}
-use Rattle.ocfl_audit.specs.Between.{IsBeyond, read_between}
-use Rattle.ocfl_audit.proofs.BelowLaws.{less_from}
+use Rattle.ocfl_audit.specs.Between.{IsBeyond, IsWithin, read_between}
+use Rattle.ocfl_audit.specs.Parts.{Part, lies_in}
+use Rattle.ocfl_audit.proofs.PartLaws.{places_within_is}
+use Rattle.ocfl_audit.proofs.Trails.{filter_append}
 use Rattle.ocfl_audit.proofs.BetweenLaws.{read_on}
 use Rattle.ocfl_audit.proofs.ObjectLaws.{object_by_zone, read_part, object_seen}
 use Rattle.ocfl_scrub.proofs.OrderLaws.{item_among}
-use Rattle.ocfl_scrub.proofs.PassLaws.{due_ascends}
+use Rattle.ocfl_scrub.specs.Starting.{due_within, read_in}
+use Rattle.ocfl_scrub.proofs.PartStarts.{due_within_ascends}
+use Rattle.ocfl_scrub.proofs.PassLaws.{among_beyond}
 
 -- ---- the storage root and each object with an inventory are items
 
@@ -57,39 +61,52 @@ object_not_hashed : (root : StorageRoot) (o : Place) → HasInventory root o →
 object_not_hashed root o h e =
     true_not_false (sym e ∙ ap (λ leaf. nat_lt 0 (cost_of (named_at root o) None leaf)) (object_seen root o h) ∙ ap (nat_lt 0) (directory_free (named_at root o)))
 
--- ---- from the last item to the next
+-- ---- from the last item of a part to the next
 
-due_among : (root : StorageRoot) (last : Option Place) (p : Place) → IsAmong (item_places root) p → IsBeyond last p → IsAmong (due root last) p
-unfolding due
-due_among root None p i b = i
-due_among root (Some a) p i b = among_filter (λ q. is_lt (place_cmp a q)) (item_places root) p i (ap is_lt b)
+module _ (root : StorageRoot) (part : Part) where
+  due_among : (last : Option Place) (p : Place) → IsAmong (item_places root) p → lies_in part p ≡ true → IsBeyond last p → IsAmong (due_within root part last) p
+  unfolding due
+  due_among None p i h b = subst (λ ps. IsAmong ps p) (sym (places_within_is part (item_places root))) (among_filter (lies_in part) (item_places root) p i h)
+  due_among (Some a) p i h b =
+      subst (λ ps. IsAmong ps p) (sym (places_within_is part (due root (Some a))))
+      (among_filter (lies_in part) (due root (Some a)) p (among_filter (λ q. is_lt (place_cmp a q)) (item_places root) p i (ap is_lt b)) h)
 
-due_beyond : (root : StorageRoot) (last : Option Place) (p : Place) → IsAmong (due root last) p → IsBeyond last p
-unfolding due
-due_beyond root None p i = tt
-due_beyond root (Some a) p i = less_from (place_cmp a p) (among_from_filter (λ q. is_lt (place_cmp a q)) (item_places root) p i).1
+  from_due : (last : Option Place) (p : Place) → IsAmong (due_within root part last) p → IsAmong (due root last) p × (lies_in part p ≡ true)
+  from_due last p i = among_from_filter (lies_in part) (due root last) p (subst (λ ps. IsAmong ps p) (places_within_is part (due root last)) i)
 
-module _ (root : StorageRoot) (last : Option Place) (next : Place) (rest : List Place) (least : due root last ≡ next ∷ rest) (hashed : is_hashed root next ≡ true) where
-  no_object : (o : Place) → IsBeyond last o → is_lt (place_cmp next o) ≡ false → HasInventory root o → ⊥
-  no_object o b w h = by (subst (λ ps. IsAmong ps o) least (due_among root last o (item_among root o (object_lines root o h)) b))
-    where
-      by : IsAmong (next ∷ rest) o → ⊥
-      by (inl e) = object_not_hashed root o h (ap (is_hashed root) e ∙ hashed)
-      by (inr i) =
-          let up : IsAscending place_cmp (next ∷ rest) = subst (IsAscending place_cmp) least (due_ascends root last) in
-          true_not_false (sym (ap is_lt (before_each place_cmp next rest up.0 o i)) ∙ w)
+  -- what is read of the part up to a place and from there on is what is read of it in all
+  read_in_on : (from to : Option Place) (b : Place) → IsBeyond from b → IsWithin to b → read_in root part from (Some b) ++ read_in root part (Some b) to ≡ read_in root part from to
+  read_in_on from to b l w =
+      ap (λ xs. xs ++ read_in root part (Some b) to) (places_within_is part (read_between root from (Some b)))
+      ∙ ap (λ xs. filter (lies_in part) (read_between root from (Some b)) ++ xs) (places_within_is part (read_between root (Some b) to))
+      ∙ sym (filter_append (lies_in part) (read_between root from (Some b)) (read_between root (Some b) to))
+      ∙ ap (filter (lies_in part)) (read_on root from to b l w) ∙ sym (places_within_is part (read_between root from to))
 
-  nothing_read : read_between root last (Some next) ≡ []
-  nothing_read = by (read_between root last (Some next)) refl
-    where
-      by : (os : List Place) → read_between root last (Some next) ≡ os → os ≡ []
-      by [] e = refl
-      by (o ∷ os) e = let k = (read_part root last (Some next) o).0 (subst (λ ps. IsAmong ps o) (sym e) (inl refl)) in absurd (no_object o k.0 k.1.0 k.1.1)
+  module _ (last : Option Place) (next : Place) (rest : List Place) (least : due_within root part last ≡ next ∷ rest) (hashed : is_hashed root next ≡ true) where
+    no_object : (o : Place) → lies_in part o ≡ true → IsBeyond last o → is_lt (place_cmp next o) ≡ false → HasInventory root o → ⊥
+    no_object o i b w h = by (subst (λ ps. IsAmong ps o) least (due_among last o (item_among root o (object_lines root o h)) i b))
+      where
+        by : IsAmong (next ∷ rest) o → ⊥
+        by (inl e) = object_not_hashed root o h (ap (is_hashed root) e ∙ hashed)
+        by (inr j) =
+            let up : IsAscending place_cmp (next ∷ rest) = subst (IsAscending place_cmp) least (due_within_ascends root part last) in
+            true_not_false (sym (ap is_lt (before_each place_cmp next rest up.0 o j)) ∙ w)
 
-  -- what is read up to the next item and from the last one on is what is read in all
-  pub read_parts : (from : Option Place) → IsAmong (due root from) next → length (read_between root from (Some next)) + length (read_between root last None) ≡ length (read_between root from None)
-  read_parts from i =
-      let here : IsBeyond last next = due_beyond root last next (subst (λ ps. IsAmong ps next) (sym least) (inl refl)) in
-      let behind : read_between root (Some next) None ≡ read_between root last None = ap (λ os. os ++ read_between root (Some next) None) (sym nothing_read) ∙ read_on root last None next here tt in
-      sym (length-append (read_between root from (Some next)) (read_between root last None))
-      ∙ ap length (ap (λ os. read_between root from (Some next) ++ os) (sym behind) ∙ read_on root from None next (due_beyond root from next i) tt)
+    nothing_read : read_in root part last (Some next) ≡ []
+    nothing_read = by (read_in root part last (Some next)) refl
+      where
+        by : (os : List Place) → read_in root part last (Some next) ≡ os → os ≡ []
+        by [] e = refl
+        by (o ∷ os) e =
+            let i = among_from_filter (lies_in part) (read_between root last (Some next)) o (subst (λ ps. IsAmong ps o) (sym e ∙ places_within_is part (read_between root last (Some next))) (inl refl)) in
+            let k = (read_part root last (Some next) o).0 i.0 in
+            absurd (no_object o i.1 k.0 k.1.0 k.1.1)
+
+    -- what is read up to the next item and from the last one on is what is read in all
+    pub read_parts : (from : Option Place) → IsAmong (due_within root part from) next → length (read_in root part from (Some next)) + length (read_in root part last None) ≡ length (read_in root part from None)
+    read_parts from i =
+        let far : (x : Option Place) → IsAmong (due_within root part x) next → IsBeyond x next = λ x j. among_beyond root x next (from_due x next j).0 in
+        let here : IsBeyond last next = far last (subst (λ ps. IsAmong ps next) (sym least) (inl refl)) in
+        let behind : read_in root part (Some next) None ≡ read_in root part last None = ap (λ os. os ++ read_in root part (Some next) None) (sym nothing_read) ∙ read_in_on last None next here tt in
+        sym (length-append (read_in root part from (Some next)) (read_in root part last None))
+        ∙ ap length (ap (λ os. read_in root part from (Some next) ++ os) (sym behind) ∙ read_in_on from None next (far from i) tt)

@@ -1,16 +1,16 @@
 -- A pass, item by item, and its ends.
-use Rattle.std.proofs.Common.{◌≡◌, ◌≢◌, ℕ, List, [], ◌∷◌, ◌++◌, refl, sym, ◌∙◌, ap, subst, true, false, Bool, Some, None, Option, append-nil, append_assoc, take, not}
-use Rattle.std.specs.Prelude.{◌||◌}
+use Rattle.std.proofs.Common.{◌≡◌, ◌≢◌, inl, ℕ, List, [], ◌∷◌, ◌++◌, refl, sym, ◌∙◌, ap, subst, true, false, Bool, Some, None, Option, append-nil, append_assoc, take, not}
+use Rattle.std.specs.Prelude.{cond, ◌||◌}
 use Rattle.std.specs.List.{list_any}
 use Rattle.std.specs.Ordering.{is_lt}
 use Rattle.std.specs.Io.KnownBytes.{Appends}
 use Rattle.std.proofs.KnownBytes.{Appends-nil, Appends-trans}
 use Rattle.ocfl_tree.specs.Place.{Place, place_cmp}
-use Rattle.ocfl_tree.specs.Ascending.{ascending, IsAscending}
+use Rattle.ocfl_tree.specs.Ascending.{ascending, IsAscending, IsAmong}
 use Rattle.ocfl_tree.specs.StorageRoot.{StorageRoot}
 use Rattle.ocfl_tree.specs.Store.{Store}
 use Rattle.ocfl_tree.specs.declared.store.Opening.{Opening}
-use Rattle.ocfl_tree.proofs.Orders.{place_cmp_total, ascends_filter, ascends_ascending}
+use Rattle.ocfl_tree.proofs.Orders.{place_cmp_total, ascends_filter, ascends_ascending, among_from_filter}
 use Rattle.ocfl_report.specs.Line.{Line, Item, has_finding, found, is_finding_code}
 use Rattle.ocfl_report.specs.Text.{lines_text, text, line_text}
 use Rattle.ocfl_audit.specs.Audit.{candidates}
@@ -18,13 +18,17 @@ use Rattle.ocfl_audit.specs.Lines.{is_empty, notes}
 use Rattle.ocfl_audit.specs.Due.{item_places, due, items_at, hashed_among}
 use Rattle.ocfl_audit.specs.Trail.{content_trail}
 use Rattle.ocfl_audit.specs.Between.{IsBeyond, looked_between, read_between}
+use Rattle.ocfl_audit.proofs.BelowLaws.{less_from}
+use Rattle.ocfl_audit.proofs.Trails.{filter_append}
 use Rattle.ocfl_item.specs.Auditing.{Audits, Fails}
-use Rattle.ocfl_walk.specs.WalkCalls.{Walks, WalkFails}
+use Rattle.ocfl_walk.specs.WalkCalls.{Walks, WalksOut, FailsOut}
+use Rattle.ocfl_walk.specs.Ends.{is_past, before_end}
+use Rattle.ocfl_walk.specs.declared.end.End.{End}
 use Rattle.ocfl_item.specs.declared.fault.Fault.{Fault}
 use Rattle.ocfl_item.specs.declared.fault.Fault.TheVariants.{Output}
 use Rattle.ocfl_scrub.specs.Taking.{WritesLines, PartOf, Takes, Misses}
 use Rattle.ocfl_scrub.specs.Written.{last_of}
-use Rattle.ocfl_scrub.proofs.Passing.{up_to_last, Passes, Finishes, Halts}
+use Rattle.ocfl_scrub.proofs.Passing.{up_to_last, due_in, Passes, Finishes, Halts}
 use Rattle.ocfl_scrub.proofs.Lists.{flat_append, ascends_left}
 use Rattle.ocfl_scrub.proofs.AuditsJoined.{items_before, items_behind, items_then}
 use Rattle.ocfl_item.proofs.AuditingLaws.{audits_fail, audits_nothing, audits_on}
@@ -106,25 +110,39 @@ module _ (root : StorageRoot) (t u v : Store) (last to : Option Place) (w : Walk
 
 -- ---- a pass begins
 
-unfoldable pub passes_none : (root : StorageRoot) (s : Store) (old : Option (List ℕ)) (from : Option Place) → s.tree ≡ root → Passes root s s old old from from false
-passes_none root s old from over = record {
+unfoldable pub passes_none : (root : StorageRoot) (e : End) (s : Store) (old : Option (List ℕ)) (from : Option Place) → s.tree ≡ root → Passes root e s s old old from from false
+passes_none root e s old from over = record {
   done = [];
   trail = [];
   audits = subst (λ hs. Audits root s s [] (up_to_last (looked_between root) from from) hs []) (sym (read_self root from))
       (subst (λ ls. Audits root s s [] ls [] []) (sym (looked_self root from)) (audits_nothing root s over));
   due_are = refl;
+  inside = refl;
   last_is = refl;
   wrote = subst (λ is. Appends old old (text is)) (sym (no_items root [])) (Appends-nil old);
   found_is = sym (ap found (no_items root []));
 }
 
-pub passes_over : {root : StorageRoot} {s t : Store} {old new : Option (List ℕ)} {from last : Option Place} {finding : Bool} → Passes root s t old new from last finding → t.tree ≡ root
+pub passes_over : {root : StorageRoot} {e : End} {s t : Store} {old new : Option (List ℕ)} {from last : Option Place} {finding : Bool} → Passes root e s t old new from last finding → t.tree ≡ root
 passes_over h = h.audits.did.tree ∙ h.audits.over
 
 -- ---- a pass goes on
 
-module _ (root : StorageRoot) (s t u : Store) (old mid : Option (List ℕ)) (from last : Option Place) (finding : Bool) (low : HasGoneOn from last) (h : Passes root s t old mid from last finding) where
-  module _ (p : Place) (up : IsBeyond last p) (least : due root last ≡ p ∷ due root (Some p)) (w : Walks root t u last (Some p)) (v : Store) (new : Option (List ℕ)) where
+-- what is due lies above the last place
+pub among_beyond : (root : StorageRoot) (last : Option Place) (p : Place) → IsAmong (due root last) p → IsBeyond last p
+unfolding due
+among_beyond root None p i = tt
+among_beyond root (Some q) p i = less_from (place_cmp q p) (among_from_filter (λ z. is_lt (place_cmp q z)) (item_places root) p i).1
+
+pub due_beyond : (root : StorageRoot) (last : Option Place) (p : Place) (rest : List Place) → due root last ≡ p ∷ rest → IsBeyond last p
+due_beyond root last p rest e = among_beyond root last p (subst (λ zs. IsAmong zs p) (sym e) (inl refl))
+
+module _ (root : StorageRoot) (e : End) (s t u : Store) (old mid : Option (List ℕ)) (from last : Option Place) (finding : Bool) (low : HasGoneOn e from last) (h : Passes root e s t old mid from last finding) where
+  -- what was taken, and what is left before the end
+  pub halves : due_in root e from ≡ h.done ++ due_in root e last
+  halves = ap (before_end e) h.due_are ∙ filter_append (λ z. not (is_past e z)) h.done (due root last) ∙ ap (λ ps. ps ++ due_in root e last) h.inside
+
+  module _ (p : Place) (up : IsBeyond last p) (least : due root last ≡ p ∷ due root (Some p)) (in_front : is_past e p ≡ false) (w : Walks root t u last (Some p)) (v : Store) (new : Option (List ℕ)) where
     pub due_with : due root from ≡ h.done ++ ((p ∷ []) ++ due root (Some p))
     due_with = h.due_are ∙ ap (λ ps. h.done ++ ps) least
 
@@ -140,17 +158,18 @@ module _ (root : StorageRoot) (s t u : Store) (old mid : Option (List ℕ)) (fro
           items_then root h.trail (w.trail ++ k.trail) h.done (p ∷ []) with_ascends h.audits.opened taken_there.opened
           ∙ ap (λ is. items_at root h.trail h.done ++ is) (walked_items root p w.trail w.audits.opened k.trail)
 
-    unfoldable pub passes_took : (cost : ℕ) (more either : Bool) → Takes root u v mid new p cost more → either ≡ (finding || more) → Passes root s v old new from (Some p) either
+    unfoldable pub passes_took : (cost : ℕ) (more either : Bool) → Takes root u v mid new p cost more → either ≡ (finding || more) → Passes root e s v old new from (Some p) either
     passes_took cost more either k f =
         let both = taken_there cost more k in
         let same = took_items cost more k in
         record {
           done = h.done ++ p ∷ [];
           trail = h.trail ++ (w.trail ++ k.trail);
-          audits = subst (λ hs. Audits root s v (h.done ++ p ∷ []) (looked_between root from (Some p)) hs (h.trail ++ (w.trail ++ k.trail))) (read_next root from last low p up)
-              (subst (λ ls. Audits root s v (h.done ++ p ∷ []) ls (up_to_last (read_between root) from last ++ read_between root last (Some p)) (h.trail ++ (w.trail ++ k.trail))) (looked_next root from last low p up)
+          audits = subst (λ hs. Audits root s v (h.done ++ p ∷ []) (looked_between root from (Some p)) hs (h.trail ++ (w.trail ++ k.trail))) (read_next root e from last low p up)
+              (subst (λ ls. Audits root s v (h.done ++ p ∷ []) ls (up_to_last (read_between root) from last ++ read_between root last (Some p)) (h.trail ++ (w.trail ++ k.trail))) (looked_next root e from last low p up)
               (audits_on root s t v h.done (p ∷ []) _ _ _ _ h.trail (w.trail ++ k.trail) h.audits both));
           due_are = due_with ∙ sym (append_assoc h.done (p ∷ []) (due root (Some p)));
+          inside = filter_append (λ z. not (is_past e z)) h.done (p ∷ []) ∙ ap (λ ps. ps ++ before_end e (p ∷ [])) h.inside ∙ ap (λ b. h.done ++ cond (not b) (p ∷ []) []) in_front;
           last_is = sym (last_append from h.done p);
           wrote = subst (Appends old new) (sym (text_append (items_at root h.trail h.done) (items_at root k.trail (p ∷ []))) ∙ ap text (sym same)) (Appends-trans old mid new _ _ h.wrote k.wrote);
           found_is = f ∙ ap (λ b. b || more) h.found_is ∙ ap (λ b. found (items_at root h.trail h.done) || b) k.found_is
@@ -168,15 +187,18 @@ module _ (root : StorageRoot) (s t u : Store) (old mid : Option (List ℕ)) (fro
       pub missed_items : items_at root (h.trail ++ (w.trail ++ k.trail)) h.done ≡ items_at root h.trail h.done
       missed_items = items_before root h.trail (w.trail ++ k.trail) h.done k.begun (front_ascends root from h.done k.begun (k.one.0 ++ due root (Some p)) due_begun) missed_there.opened
 
-    pub next_is : take 1 (due root last) ≡ p ∷ []
-    next_is = ap (take 1) least ∙ ap (λ ps. p ∷ ps) (take_nothing (due root (Some p)))
+    pub due_next : due_in root e last ≡ p ∷ due_in root e (Some p)
+    due_next = ap (before_end e) least ∙ ap (λ b. cond (not b) (p ∷ due_in root e (Some p)) (due_in root e (Some p))) in_front
 
-    unfoldable pub passes_missed : (why : Fault) → Misses root u v mid new p why → Halts root s v old new from last finding why
+    pub next_is : take 1 (due_in root e last) ≡ p ∷ []
+    next_is = ap (take 1) due_next ∙ ap (λ ps. p ∷ ps) (take_nothing (due_in root e (Some p)))
+
+    unfoldable pub passes_missed : (why : Fault) → Misses root u v mid new p why → Halts root e s v old new from last finding why
     passes_missed why k =
         let trail : List Opening = h.trail ++ (w.trail ++ k.trail) in
         let both = missed_there why k in
         let before = missed_items why k in
-        let next : items_at root k.trail (p ∷ []) ≡ items_at root trail (take 1 (due root last)) =
+        let next : items_at root k.trail (p ∷ []) ≡ items_at root trail (take 1 (due_in root e last)) =
         sym (ap (items_at root trail) next_is ∙ items_behind root h.trail (w.trail ++ k.trail) h.done (p ∷ []) with_ascends h.audits.opened ∙ walked_items root p w.trail w.audits.opened k.trail) in
         record {
           done = h.done;
@@ -185,9 +207,9 @@ module _ (root : StorageRoot) (s t u : Store) (old mid : Option (List ℕ)) (fro
           listed = up_to_last (looked_between root) from last ++ looked_between root last (Some p);
           heads = up_to_last (read_between root) from last ++ read_between root last (Some p);
           fails = audits_fail root s t v h.done k.begun _ _ _ _ h.trail (w.trail ++ k.trail) why h.audits both;
-          listed_front = front_behind _ _ _ _ (looked_end root from last low) (looked_front root last p up);
-          heads_front = front_behind _ _ _ _ (read_end root from last low) (read_front root last p up);
-          due_are = h.due_are;
+          listed_front = front_behind _ _ _ _ (looked_end root e from last low) (looked_front root e last p up in_front);
+          heads_front = front_behind _ _ _ _ (read_end root e from last low) (read_front root e last p up in_front);
+          due_are = halves;
           one = (k.one.0, next_is ∙ k.one.1);
           last_is = h.last_is;
           part = k.part;
@@ -203,7 +225,7 @@ module _ (root : StorageRoot) (s t u : Store) (old mid : Option (List ℕ)) (fro
       items_before root h.trail os h.done [] (front_ascends root from h.done [] (due root last) due_done) opened
 
   -- the walk did not get there
-  unfoldable pub passes_lost : (why : Fault) → why ≢ Output → WalkFails root t u last why → Halts root s u old mid from last finding why
+  unfoldable pub passes_lost : (why : Fault) → why ≢ Output → FailsOut root t u last e why → Halts root e s u old mid from last finding why
   passes_lost why other w =
       let trail : List Opening = h.trail ++ w.trail in
       let before : items_at root trail h.done ≡ items_at root h.trail h.done = walked_on w.trail w.fails.opened in
@@ -214,26 +236,26 @@ module _ (root : StorageRoot) (s t u : Store) (old mid : Option (List ℕ)) (fro
         listed = up_to_last (looked_between root) from last ++ w.listed;
         heads = up_to_last (read_between root) from last ++ w.heads;
         fails = audits_fail root s t u h.done [] _ _ _ _ h.trail w.trail why h.audits w.fails;
-        listed_front = front_behind _ _ _ _ (looked_end root from last low) w.listed_front;
-        heads_front = front_behind _ _ _ _ (read_end root from last low) w.heads_front;
-        due_are = h.due_are;
-        one = (take 1 (due root last), refl);
+        listed_front = front_behind _ _ _ _ (looked_end root e from last low) w.listed_front;
+        heads_front = front_behind _ _ _ _ (read_end root e from last low) w.heads_front;
+        due_are = halves;
+        one = (take 1 (due_in root e last), refl);
         last_is = h.last_is;
         part = [];
         wrote = subst (λ xs. Appends old mid xs) (sym (append-nil (text (items_at root trail h.done))))
             (subst (λ is. Appends old mid (text is)) (sym before) h.wrote);
-        part_of = nothing_of why other (text (items_at root trail (take 1 (due root last))));
+        part_of = nothing_of why other (text (items_at root trail (take 1 (due_in root e last))));
         found_is = h.found_is ∙ ap found (sym before);
       }
 
-  -- nothing is left
-  pub all_done : due root last ≡ [] → h.done ≡ due root from
-  all_done none = sym (h.due_are ∙ ap (λ ps. h.done ++ ps) none ∙ append-nil h.done)
+  -- nothing is left before the end
+  pub all_done : due_in root e last ≡ [] → h.done ≡ due_in root e from
+  all_done none = sym (halves ∙ ap (λ ps. h.done ++ ps) none ∙ append-nil h.done)
 
-  pub finished_items : (w : Walks root t u last None) → due root last ≡ [] → items_at root h.trail h.done ≡ items_at root (h.trail ++ w.trail) (due root from)
+  pub finished_items : (w : WalksOut root t u last e) → due_in root e last ≡ [] → items_at root h.trail h.done ≡ items_at root (h.trail ++ w.trail) (due_in root e from)
   finished_items w none = sym (walked_on w.trail w.audits.opened) ∙ ap (items_at root (h.trail ++ w.trail)) (all_done none)
 
-  unfoldable pub passes_finish : Walks root t u last None → due root last ≡ [] → Finishes root s u old mid from last finding
+  unfoldable pub passes_finish : WalksOut root t u last e → due_in root e last ≡ [] → Finishes root e s u old mid from last finding
   passes_finish w none =
       let trail : List Opening = h.trail ++ w.trail in
       let done_is = all_done none in
@@ -241,9 +263,9 @@ module _ (root : StorageRoot) (s t u : Store) (old mid : Option (List ℕ)) (fro
       let joined = audits_on root s t u h.done [] _ _ _ _ h.trail w.trail h.audits w.audits in
       record {
         trail = trail;
-        audits = subst (λ ps. Audits root s u ps (looked_between root from None) (read_between root from None) trail) (append-nil h.done ∙ done_is)
-            (subst (λ hs. Audits root s u (h.done ++ []) (looked_between root from None) hs trail) (read_end root from last low)
-            (subst (λ ls. Audits root s u (h.done ++ []) ls (up_to_last (read_between root) from last ++ read_between root last None) trail) (looked_end root from last low) joined));
+        audits = subst (λ ps. Audits root s u ps (before_end e (looked_between root from None)) (before_end e (read_between root from None)) trail) (append-nil h.done ∙ done_is)
+            (subst (λ hs. Audits root s u (h.done ++ []) (before_end e (looked_between root from None)) hs trail) (read_end root e from last low)
+            (subst (λ ls. Audits root s u (h.done ++ []) ls (up_to_last (read_between root) from last ++ before_end e (read_between root last None)) trail) (looked_end root e from last low) joined));
         last_is = h.last_is ∙ ap (last_of from) done_is;
         wrote = subst (λ is. Appends old mid (text is)) before h.wrote;
         found_is = h.found_is ∙ ap found before;

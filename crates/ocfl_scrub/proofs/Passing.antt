@@ -1,4 +1,4 @@
--- What a pass over the items above a place does: it takes one after the other.
+-- What a pass over the items above a place and before an end does: it takes one after the other.
 use Rattle.std.specs.Prelude.{◌≡◌, ℕ, List, [], ◌++◌, Bool, Option, Some, None, take}
 use Rattle.std.specs.Io.KnownBytes.{Appends}
 use Rattle.ocfl_tree.specs.Place.{Text, Place}
@@ -12,6 +12,8 @@ use Rattle.ocfl_audit.specs.Between.{looked_between, read_between}
 use Rattle.ocfl_item.specs.Looking.{IsFront}
 use Rattle.ocfl_item.specs.Auditing.{Audits, Fails}
 use Rattle.ocfl_item.specs.declared.fault.Fault.{Fault}
+use Rattle.ocfl_walk.specs.Ends.{before_end}
+use Rattle.ocfl_walk.specs.declared.end.End.{End}
 use Rattle.ocfl_scrub.specs.Taking.{PartOf}
 use Rattle.ocfl_scrub.specs.Written.{last_of}
 
@@ -20,38 +22,43 @@ abbrev pub up_to_last : (Option Place → Option Place → List Place) → Optio
 up_to_last between from None = []
 up_to_last between from (Some p) = between from (Some p)
 
--- from s to t the items above from were taken up to last, each whole
-pub record Passes (root : StorageRoot) (s t : Store) (old new : Option (List ℕ)) (from last : Option Place) (finding : Bool) : Type 0 where
+-- what is due before the end
+abbrev pub due_in : StorageRoot → End → Option Place → List Place
+due_in root e from = before_end e (due root from)
+
+-- from s to t the items above from were taken up to last, each whole and none past the end
+pub record Passes (root : StorageRoot) (e : End) (s t : Store) (old new : Option (List ℕ)) (from last : Option Place) (finding : Bool) : Type 0 where
   pub done : List Place
   pub trail : List Opening
   pub audits : Audits root s t done (up_to_last (looked_between root) from last) (up_to_last (read_between root) from last) trail
   pub due_are : due root from ≡ done ++ due root last
+  pub inside : before_end e done ≡ done
   pub last_is : last ≡ last_of from done
   pub wrote : Appends old new (text (items_at root trail done))
   pub found_is : finding ≡ found (items_at root trail done)
 
--- from s to t all items above from were taken
-pub record Finishes (root : StorageRoot) (s t : Store) (old new : Option (List ℕ)) (from last : Option Place) (finding : Bool) : Type 0 where
+-- from s to t all items above from and before the end were taken
+pub record Finishes (root : StorageRoot) (e : End) (s t : Store) (old new : Option (List ℕ)) (from last : Option Place) (finding : Bool) : Type 0 where
   pub trail : List Opening
-  pub audits : Audits root s t (due root from) (looked_between root from None) (read_between root from None) trail
-  pub last_is : last ≡ last_of from (due root from)
-  pub wrote : Appends old new (text (items_at root trail (due root from)))
-  pub found_is : finding ≡ found (items_at root trail (due root from))
+  pub audits : Audits root s t (due_in root e from) (before_end e (looked_between root from None)) (before_end e (read_between root from None)) trail
+  pub last_is : last ≡ last_of from (due_in root e from)
+  pub wrote : Appends old new (text (items_at root trail (due_in root e from)))
+  pub found_is : finding ≡ found (items_at root trail (due_in root e from))
 
--- from s to t the items above from were taken up to last, and then there was a fault: of the next item at most a proper beginning went out
-pub record Halts (root : StorageRoot) (s t : Store) (old new : Option (List ℕ)) (from last : Option Place) (finding : Bool) (why : Fault) : Type 0 where
+-- from s to t the items above from were taken up to last, and then there was a fault: of the next item before the end at most a proper beginning went out
+pub record Halts (root : StorageRoot) (e : End) (s t : Store) (old new : Option (List ℕ)) (from last : Option Place) (finding : Bool) (why : Fault) : Type 0 where
   pub done : List Place
   pub begun : List Place
   pub trail : List Opening
   pub listed : List Place
   pub heads : List Place
   pub fails : Fails root s t (done ++ begun) listed heads trail why
-  pub listed_front : IsFront listed (looked_between root from None)
-  pub heads_front : IsFront heads (read_between root from None)
-  pub due_are : due root from ≡ done ++ due root last
-  pub one : IsFront begun (take 1 (due root last))
+  pub listed_front : IsFront listed (before_end e (looked_between root from None))
+  pub heads_front : IsFront heads (before_end e (read_between root from None))
+  pub due_are : due_in root e from ≡ done ++ due_in root e last
+  pub one : IsFront begun (take 1 (due_in root e last))
   pub last_is : last ≡ last_of from done
   pub part : Text
   pub wrote : Appends old new (text (items_at root trail done) ++ part)
-  pub part_of : PartOf why (text (items_at root trail (take 1 (due root last)))) part
+  pub part_of : PartOf why (text (items_at root trail (take 1 (due_in root e last)))) part
   pub found_is : finding ≡ found (items_at root trail done)

@@ -15,16 +15,18 @@ use Rattle.ocfl_audit.specs.Trail.{unread_of}
 use Rattle.ocfl_audit.specs.Runs.{Limits, files_of, total_files, may_take}
 use Rattle.std.specs.Io.KnownBytes.{Appends}
 use Rattle.ocfl_item.specs.Auditing.{Audits}
-use Rattle.ocfl_walk.specs.WalkCalls.{Walks, WalkFails}
+use Rattle.ocfl_walk.specs.WalkCalls.{Walks, WalksOut, FailsOut}
+use Rattle.ocfl_walk.specs.Ends.{is_past}
+use Rattle.ocfl_walk.specs.declared.end.End.{End}
 use Rattle.ocfl_item.specs.declared.fault.Fault.{Fault}
 use Rattle.ocfl_item.specs.declared.fault.Fault.TheVariants.{Output}
 use Rattle.ocfl_scrub.specs.Taking.{Takes, Misses}
-use Rattle.ocfl_scrub.proofs.Passing.{up_to_last}
+use Rattle.ocfl_scrub.proofs.Passing.{up_to_last, due_in}
 use Rattle.ocfl_scrub.proofs.Paying.{Paid, Counts, IsWithinBoth, Pays, PaysAll, PaysUpTo, PaysHalting}
 use Rattle.ocfl_item.proofs.AuditingLaws.{audits_on}
 use Rattle.ocfl_scrub.proofs.BetweenLaws.{HasGoneOn, looked_next, read_next}
 use Rattle.ocfl_scrub.proofs.CutLaws.{cost_append, files_append, paid_append, test_paid, test_free, free_costs}
-use Rattle.ocfl_scrub.proofs.PassLaws.{no_items, passes_none, passes_took, took_items, passes_missed, missed_items, next_is, passes_lost, walked_on, passes_finish, finished_items}
+use Rattle.ocfl_scrub.proofs.PassLaws.{no_items, halves, due_next, passes_none, passes_took, took_items, passes_missed, missed_items, next_is, passes_lost, walked_on, passes_finish, finished_items}
 
 -- ---- what items cost
 
@@ -37,7 +39,7 @@ payable root p l spent files os h = (by (is_hashed root p) refl h, tt)
     by true e k = test_paid l spent files _ (k refl).0 (k refl).1
     by false e k = test_free l spent files _ (free_costs root _ p e)
 
-files_of_one : (root : StorageRoot) (p : Place) (os : List Opening) → total_files (items_at root os (p ∷ [])) ≡ files_of (total_cost (items_at root os (p ∷ [])))
+pub files_of_one : (root : StorageRoot) (p : Place) (os : List Opening) → total_files (items_at root os (p ∷ [])) ≡ files_of (total_cost (items_at root os (p ∷ [])))
 unfolding items_at
 files_of_one root p os =
     let c : ℕ = cost root (given_by (unread_of root os) p) p in
@@ -45,10 +47,10 @@ files_of_one root p os =
     let f : c ≡ c + 0 = omega arith in
     e ∙ ap files_of f
 
-counts_none : (l : Limits) (spent files : ℕ) → spent ≡ 0 → files ≡ 0 → Counts l spent files []
+pub counts_none : (l : Limits) (spent files : ℕ) → spent ≡ 0 → files ≡ 0 → Counts l spent files []
 counts_none l spent files e f = record { paid = tt; spent_is = e; files_is = f }
 
-counts_more : (l : Limits) (spent files cost charged started : ℕ) (xs ys both : List Item) → both ≡ xs ++ ys → Counts l spent files xs → Paid l spent files ys → cost ≡ total_cost ys → total_files ys ≡ files_of cost
+pub counts_more : (l : Limits) (spent files cost charged started : ℕ) (xs ys both : List Item) → both ≡ xs ++ ys → Counts l spent files xs → Paid l spent files ys → cost ≡ total_cost ys → total_files ys ≡ files_of cost
     → charged ≡ spent + cost → started ≡ files + files_of cost → Counts l charged started both
 counts_more l spent files cost charged started xs ys both e h k c d m n =
     let s = h.spent_is in
@@ -62,63 +64,64 @@ counts_more l spent files cost charged started xs ys both e h k c d m n =
       files_is = omega (arith, f, b, d, n);
     })
 
-counts_same : (l : Limits) (spent files : ℕ) (xs ys : List Item) → xs ≡ ys → Counts l spent files ys → Counts l spent files xs
+pub counts_same : (l : Limits) (spent files : ℕ) (xs ys : List Item) → xs ≡ ys → Counts l spent files ys → Counts l spent files xs
 counts_same l spent files xs ys e h = subst (Counts l spent files) (sym e) h
 
 -- ---- a pass begins
 
-pub pays_none : (root : StorageRoot) (s : Store) (old : Option (List ℕ)) (from : Option Place) (l : Limits) (spent files : ℕ) → s.tree ≡ root → spent ≡ 0 → files ≡ 0 → Pays root s s old old from from l spent files false
+unfoldable pub pays_none : (root : StorageRoot) (end : End) (s : Store) (old : Option (List ℕ)) (from : Option Place) (l : Limits) (spent files : ℕ) → s.tree ≡ root → spent ≡ 0 → files ≡ 0 → Pays root end s s old old from from l spent files false
 unfolding passes_none
-pays_none root s old from l spent files over e f = record {
-  passes = passes_none root s old from over;
+pays_none root end s old from l spent files over e f = record {
+  passes = passes_none root end s old from over;
   counts = counts_same l spent files _ [] (no_items root []) (counts_none l spent files e f);
 }
 
-pub pays_over : {root : StorageRoot} {s t : Store} {old new : Option (List ℕ)} {from last : Option Place} {l : Limits} {spent files : ℕ} {finding : Bool} → Pays root s t old new from last l spent files finding → t.tree ≡ root
+pub pays_over : {root : StorageRoot} {end : End} {s t : Store} {old new : Option (List ℕ)} {from last : Option Place} {l : Limits} {spent files : ℕ} {finding : Bool} → Pays root end s t old new from last l spent files finding → t.tree ≡ root
 pays_over h = h.passes.audits.did.tree ∙ h.passes.audits.over
 
 -- ---- a pass goes on
 
-module _ (root : StorageRoot) (s t u : Store) (old mid : Option (List ℕ)) (from last : Option Place) (l : Limits) (spent files : ℕ) (finding : Bool) (low : HasGoneOn from last) (h : Pays root s t old mid from last l spent files finding) where
-  module _ (p : Place) (up : IsBeyond last p) (least : due root last ≡ p ∷ due root (Some p)) (w : Walks root t u last (Some p)) where
+module _ (root : StorageRoot) (end : End) (s t u : Store) (old mid : Option (List ℕ)) (from last : Option Place) (l : Limits) (spent files : ℕ) (finding : Bool) (low : HasGoneOn end from last) (h : Pays root end s t old mid from last l spent files finding) where
+  module _ (p : Place) (up : IsBeyond last p) (least : due root last ≡ p ∷ due root (Some p)) (in_front : is_past end p ≡ false) (w : Walks root t u last (Some p)) where
     module _ (v : Store) (new : Option (List ℕ)) (may : is_hashed root p ≡ true → IsWithinBoth l spent files) where
-      pub pays_took : (cost charged started : ℕ) (more either : Bool) → Takes root u v mid new p cost more → charged ≡ spent + cost → started ≡ files + files_of cost → either ≡ (finding || more)
-          → Pays root s v old new from (Some p) l charged started either
+      unfoldable pub pays_took : (cost charged started : ℕ) (more either : Bool) → Takes root u v mid new p cost more → charged ≡ spent + cost → started ≡ files + files_of cost → either ≡ (finding || more)
+          → Pays root end s v old new from (Some p) l charged started either
       unfolding passes_took
       pays_took cost charged started more either k e g f = record {
-        passes = passes_took root s t u old mid from last finding low h.passes p up least w v new cost more either k f;
+        passes = passes_took root end s t u old mid from last finding low h.passes p up least in_front w v new cost more either k f;
         counts = counts_more l spent files cost charged started (items_at root h.passes.trail h.passes.done) (items_at root k.trail (p ∷ [])) _
-            (took_items root s t u old mid from last finding low h.passes p up least w v new cost more k) h.counts (payable root p l spent files k.trail may)
+            (took_items root end s t u old mid from last finding low h.passes p up least in_front w v new cost more k) h.counts (payable root p l spent files k.trail may)
             k.cost_is (files_of_one root p k.trail ∙ ap files_of (sym k.cost_is)) e g;
       }
 
       -- the item was not taken
-      pub pays_missed : (why : Fault) → Misses root u v mid new p why → PaysHalting root s v old new from last l spent files finding why
+      unfoldable pub pays_missed : (why : Fault) → Misses root u v mid new p why → PaysHalting root end s v old new from last l spent files finding why
       unfolding passes_missed
       pays_missed why k =
           let trail : List Opening = h.passes.trail ++ (w.trail ++ k.trail) in
-          let one : take 1 (due root last) ≡ p ∷ [] = next_is root s t u old mid from last finding low h.passes p up least w v new in
+          let one : take 1 (due_in root end last) ≡ p ∷ [] = next_is root end s t u old mid from last finding low h.passes p up least in_front w v new in
           record {
-            halts = passes_missed root s t u old mid from last finding low h.passes p up least w v new why k;
-            counts = counts_same l spent files _ _ (missed_items root s t u old mid from last finding low h.passes p up least w v new why k) h.counts;
+            halts = passes_missed root end s t u old mid from last finding low h.passes p up least in_front w v new why k;
+            counts = counts_same l spent files _ _ (missed_items root end s t u old mid from last finding low h.passes p up least in_front w v new why k) h.counts;
             next = inl (subst (λ ps. Paid l spent files (items_at root trail ps)) (sym one) (payable root p l spent files trail may));
           }
 
     -- the item is not to be taken
-    pub pays_up_to : is_hashed root p ≡ true → (IsWithinBoth l spent files → ⊥) → PaysUpTo root s u old mid from last l spent files finding
+    unfoldable pub pays_up_to : is_hashed root p ≡ true → (IsWithinBoth l spent files → ⊥) → PaysUpTo root end s u old mid from last l spent files finding
     pays_up_to hashed reached =
         let g = h.passes in
         let trail : List Opening = g.trail ++ w.trail in
-        let before : items_at root trail g.done ≡ items_at root g.trail g.done = walked_on root s t u old mid from last finding low g w.trail w.audits.opened in
+        let before : items_at root trail g.done ≡ items_at root g.trail g.done = walked_on root end s t u old mid from last finding low g w.trail w.audits.opened in
         let joined = audits_on root s t u g.done [] _ _ _ _ g.trail w.trail g.audits w.audits in
         record {
           next = p;
           done = g.done;
           trail = trail;
           audits = subst (λ ps. Audits root s u ps (looked_between root from (Some p)) (read_between root from (Some p)) trail) (append-nil g.done)
-              (subst (λ hs. Audits root s u (g.done ++ []) (looked_between root from (Some p)) hs trail) (read_next root from last low p up)
-              (subst (λ ls. Audits root s u (g.done ++ []) ls (up_to_last (read_between root) from last ++ read_between root last (Some p)) trail) (looked_next root from last low p up) joined));
-          due_are = g.due_are ∙ ap (λ ps. g.done ++ ps) least;
+              (subst (λ hs. Audits root s u (g.done ++ []) (looked_between root from (Some p)) hs trail) (read_next root end from last low p up)
+              (subst (λ ls. Audits root s u (g.done ++ []) ls (up_to_last (read_between root) from last ++ read_between root last (Some p)) trail) (looked_next root end from last low p up) joined));
+          due_are = halves root end s t u old mid from last finding low g ∙ ap (λ ps. g.done ++ ps) (due_next root end s t u old mid from last finding low g p up least in_front w u mid);
+          in_front = in_front;
           last_is = g.last_is;
           wrote = subst (λ is. Appends old mid (text is)) (sym before) g.wrote;
           found_is = g.found_is ∙ ap found (sym before);
@@ -128,18 +131,18 @@ module _ (root : StorageRoot) (s t u : Store) (old mid : Option (List ℕ)) (fro
         }
 
   -- the walk did not get there
-  pub pays_lost : (why : Fault) → why ≢ Output → WalkFails root t u last why → PaysHalting root s u old mid from last l spent files finding why
+  unfoldable pub pays_lost : (why : Fault) → why ≢ Output → FailsOut root t u last end why → PaysHalting root end s u old mid from last l spent files finding why
   unfolding passes_lost
   pays_lost why other w = record {
-    halts = passes_lost root s t u old mid from last finding low h.passes why other w;
-    counts = counts_same l spent files _ _ (walked_on root s t u old mid from last finding low h.passes w.trail w.fails.opened) h.counts;
+    halts = passes_lost root end s t u old mid from last finding low h.passes why other w;
+    counts = counts_same l spent files _ _ (walked_on root end s t u old mid from last finding low h.passes w.trail w.fails.opened) h.counts;
     next = inr (other, refl);
   }
 
   -- nothing is left
-  pub pays_finish : Walks root t u last None → due root last ≡ [] → PaysAll root s u old mid from last l spent files finding
+  pub pays_finish : WalksOut root t u last end → due_in root end last ≡ [] → PaysAll root end s u old mid from last l spent files finding
   unfolding passes_finish
   pays_finish w none = record {
-    finishes = passes_finish root s t u old mid from last finding low h.passes w none;
-    counts = counts_same l spent files _ _ (sym (finished_items root s t u old mid from last finding low h.passes w none)) h.counts;
+    finishes = passes_finish root end s t u old mid from last finding low h.passes w none;
+    counts = counts_same l spent files _ _ (sym (finished_items root end s t u old mid from last finding low h.passes w none)) h.counts;
   }

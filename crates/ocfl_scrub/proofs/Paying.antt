@@ -1,5 +1,5 @@
 -- A pass whose items are paid for, one after the other.
-use Rattle.std.specs.Prelude.{◌≡◌, ◌≢◌, ◌⊎◌, ◌<◌, ◌+◌, ℕ, List, [], ◌∷◌, ◌++◌, Bool, true, Option, Some, take, ⊤}
+use Rattle.std.specs.Prelude.{◌≡◌, ◌≢◌, ◌⊎◌, ◌<◌, ◌+◌, ℕ, List, [], ◌∷◌, ◌++◌, Bool, true, false, Option, Some, take, ⊤}
 use Rattle.std.specs.Io.KnownBytes.{Appends}
 use Rattle.ocfl_tree.specs.Place.{Place}
 use Rattle.ocfl_tree.specs.StorageRoot.{StorageRoot}
@@ -9,14 +9,16 @@ use Rattle.ocfl_report.specs.Line.{Item, found}
 use Rattle.ocfl_report.specs.Text.{text}
 use Rattle.ocfl_audit.specs.Audit.{total_cost}
 use Rattle.ocfl_audit.specs.Lines.{is_hashed}
-use Rattle.ocfl_audit.specs.Due.{due, items_at}
+use Rattle.ocfl_audit.specs.Due.{items_at}
 use Rattle.ocfl_audit.specs.Between.{looked_between, read_between}
 use Rattle.ocfl_audit.specs.Runs.{Limits, files_of, total_files, may_take}
 use Rattle.ocfl_item.specs.Auditing.{Audits}
 use Rattle.ocfl_item.specs.declared.fault.Fault.{Fault}
 use Rattle.ocfl_item.specs.declared.fault.Fault.TheVariants as fault
+use Rattle.ocfl_walk.specs.Ends.{is_past}
+use Rattle.ocfl_walk.specs.declared.end.End.{End}
 use Rattle.ocfl_scrub.specs.Written.{last_of}
-use Rattle.ocfl_scrub.proofs.Passing.{Passes, Finishes, Halts}
+use Rattle.ocfl_scrub.proofs.Passing.{due_in, Passes, Finishes, Halts}
 
 -- each of the items may be taken, where so much was spent before and so many files were started
 abbrev pub Paid : Limits → ℕ → ℕ → List Item → Type 0
@@ -34,22 +36,23 @@ abbrev pub IsWithinBoth : Limits → ℕ → ℕ → Type 0
 IsWithinBoth limits spent files = (spent < limits.budget) × (files < limits.files)
 
 -- from s to t the items above from were taken up to last, each whole and paid for
-pub record Pays (root : StorageRoot) (s t : Store) (old new : Option (List ℕ)) (from last : Option Place) (limits : Limits) (spent files : ℕ) (finding : Bool) : Type 0 where
-  pub passes : Passes root s t old new from last finding
+pub record Pays (root : StorageRoot) (e : End) (s t : Store) (old new : Option (List ℕ)) (from last : Option Place) (limits : Limits) (spent files : ℕ) (finding : Bool) : Type 0 where
+  pub passes : Passes root e s t old new from last finding
   pub counts : Counts limits spent files (items_at root passes.trail passes.done)
 
--- from s to t all of them were
-pub record PaysAll (root : StorageRoot) (s t : Store) (old new : Option (List ℕ)) (from last : Option Place) (limits : Limits) (spent files : ℕ) (finding : Bool) : Type 0 where
-  pub finishes : Finishes root s t old new from last finding
-  pub counts : Counts limits spent files (items_at root finishes.trail (due root from))
+-- from s to t all of them before the end were
+pub record PaysAll (root : StorageRoot) (e : End) (s t : Store) (old new : Option (List ℕ)) (from last : Option Place) (limits : Limits) (spent files : ℕ) (finding : Bool) : Type 0 where
+  pub finishes : Finishes root e s t old new from last finding
+  pub counts : Counts limits spent files (items_at root finishes.trail (due_in root e from))
 
 -- from s to t those before a hashed item were, at which a limit is reached; the walk has gone on to it
-pub record PaysUpTo (root : StorageRoot) (s t : Store) (old new : Option (List ℕ)) (from last : Option Place) (limits : Limits) (spent files : ℕ) (finding : Bool) : Type 0 where
+pub record PaysUpTo (root : StorageRoot) (e : End) (s t : Store) (old new : Option (List ℕ)) (from last : Option Place) (limits : Limits) (spent files : ℕ) (finding : Bool) : Type 0 where
   pub next : Place
   pub done : List Place
   pub trail : List Opening
   pub audits : Audits root s t done (looked_between root from (Some next)) (read_between root from (Some next)) trail
-  pub due_are : due root from ≡ done ++ next ∷ due root (Some next)
+  pub due_are : due_in root e from ≡ done ++ next ∷ due_in root e (Some next)
+  pub in_front : is_past e next ≡ false
   pub last_is : last ≡ last_of from done
   pub wrote : Appends old new (text (items_at root trail done))
   pub found_is : finding ≡ found (items_at root trail done)
@@ -58,7 +61,7 @@ pub record PaysUpTo (root : StorageRoot) (s t : Store) (old new : Option (List �
   pub reached : IsWithinBoth limits spent files → ⊥
 
 -- from s to t there was a fault behind the last of them: the next one is paid for, or it was not begun
-pub record PaysHalting (root : StorageRoot) (s t : Store) (old new : Option (List ℕ)) (from last : Option Place) (limits : Limits) (spent files : ℕ) (finding : Bool) (why : Fault) : Type 0 where
-  pub halts : Halts root s t old new from last finding why
+pub record PaysHalting (root : StorageRoot) (e : End) (s t : Store) (old new : Option (List ℕ)) (from last : Option Place) (limits : Limits) (spent files : ℕ) (finding : Bool) (why : Fault) : Type 0 where
+  pub halts : Halts root e s t old new from last finding why
   pub counts : Counts limits spent files (items_at root halts.trail halts.done)
-  pub next : Paid limits spent files (items_at root halts.trail (take 1 (due root last))) ⊎ ((why ≢ fault.Output) × (halts.begun ≡ []))
+  pub next : Paid limits spent files (items_at root halts.trail (take 1 (due_in root e last))) ⊎ ((why ≢ fault.Output) × (halts.begun ≡ []))

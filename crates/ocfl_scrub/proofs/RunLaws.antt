@@ -1,4 +1,4 @@
--- A pass that is paid for is a run.
+-- A pass over a part that is paid for is a run.
 use Rattle.std.proofs.Common.{◌≡◌, ◌≢◌, ◌⊎◌, inl, inr, ℕ, suc, ◌+◌, ◌<◌, ◌≤◌, ◌^◌, List, [], ◌∷◌, ◌++◌, refl, sym, ◌∙◌, ap, subst, true, false, Bool, Some, None, Option, append-nil, take, map, Bor, arith}
 use Rattle.std.specs.Prelude.{cond}
 use Rattle.std.specs.Option.{option_map, option_copied}
@@ -9,36 +9,38 @@ use Rattle.ocfl_tree.specs.Store.{Store}
 use Rattle.ocfl_tree.specs.declared.store.Opening.{Opening}
 use Rattle.ocfl_report.specs.Line.{Item, found}
 use Rattle.ocfl_report.specs.Text.{text}
-use Rattle.ocfl_audit.specs.Audit.{audit, after, item_of, total_cost, given_by}
+use Rattle.ocfl_audit.specs.Audit.{audit, after, total_cost, given_by}
 use Rattle.ocfl_audit.specs.Lines.{is_hashed}
-use Rattle.ocfl_audit.specs.Due.{due, items_at}
+use Rattle.ocfl_audit.specs.Due.{items_at}
 use Rattle.ocfl_audit.specs.Between.{looked_between, read_between}
-use Rattle.ocfl_audit.specs.Trail.{content_trail, unread_of}
+use Rattle.ocfl_audit.specs.Parts.{Part, within}
+use Rattle.ocfl_audit.specs.Trail.{unread_of}
 use Rattle.ocfl_audit.specs.Runs.{Limits, files_of, total_files, cut_len, cut, left}
-use Rattle.ocfl_audit.proofs.DueLaws.{after_is_due}
-use Rattle.ocfl_audit.proofs.Trails.{unread_behind}
 use Rattle.ocfl_cursor.specs.Cursor.{State, Cursor, IsShortPlace, IsCursor}
 use Rattle.ocfl_cursor.specs.Moves.{after_run}
 use Rattle.ocfl_item.specs.Looking.{IsFront}
 use Rattle.ocfl_item.specs.Ways.{IsWayFault}
 use Rattle.ocfl_item.specs.Auditing.{Audits, Fails}
 use Rattle.ocfl_walk.specs.WalkCalls.{GoesDown, GoDownFails}
+use Rattle.ocfl_walk.specs.Ends.{before_end}
 use Rattle.ocfl_item.specs.declared.fault.Fault.{Fault}
 use Rattle.ocfl_item.specs.declared.fault.Fault.TheVariants.{Output}
 use Rattle.ocfl_scrub.specs.Taking.{PartOf}
 use Rattle.ocfl_scrub.specs.Written.{places, last_of, Figures}
-use Rattle.ocfl_scrub.specs.Running.{items_above, taken, rest, first_of, last_cost, place_in, Runs, RunStops, RunEnds, RunsFrom, RunsClean, RunsCleanly, IsPaid, begun, state_after}
+use Rattle.ocfl_scrub.specs.Running.{items_above_in, taken_in, rest_in, first_of, last_cost, place_in, RunsWithin, RunStopsWithin, RunEndsWithin, RunsFromWithin, RunsCleanWithin, RunsCleanlyWithin, IsPaid, begun, state_after}
+use Rattle.ocfl_scrub.specs.Starting.{end_of, entry, stand, looked_in, read_in}
 use Rattle.ocfl_scrub.specs.Beginning.{Begins}
 use Rattle.ocfl_scrub.proofs.Paying.{Paid, Counts, IsWithinBoth, PaysAll, PaysUpTo, PaysHalting}
 use Rattle.ocfl_scrub.specs.declared.running.RunStatus.{RunStatus}
 use Rattle.ocfl_scrub.specs.declared.running.RunStatus.TheVariants.{Ended, Spent, Stopped, Worn}
-use Rattle.ocfl_scrub.proofs.AuditsJoined.{items_append, nothing_hashed}
 use Rattle.ocfl_item.proofs.AuditingLaws.{audits_fail, audits_on}
-use Rattle.ocfl_scrub.proofs.AuditLaws.{places_of_items, take_items, nothing_out, none_left}
+use Rattle.ocfl_scrub.proofs.AuditLaws.{places_of_items, take_items, nothing_out, none_left, above_are}
 use Rattle.ocfl_scrub.proofs.PassLaws.{take_nothing}
 use Rattle.ocfl_scrub.proofs.TakeLaws.{nothing_of}
 use Rattle.ocfl_scrub.proofs.MeterLaws.{paid_files}
-use Rattle.ocfl_scrub.proofs.WayOrder.{listed_once, read_once}
+use Rattle.ocfl_scrub.proofs.Passing.{due_in}
+use Rattle.ocfl_scrub.proofs.PartStarts.{looked_all, read_all, looked_to, read_to}
+use Rattle.ocfl_scrub.proofs.WayOrder.{listed_once_in, read_once_in}
 use Rattle.ocfl_scrub.proofs.CutLaws.{IsStop, paid_begins, cut_of_paid, left_of_paid, paid_passes, test_unpaid, hashed_costs}
 
 -- ---- where a cut ends
@@ -85,20 +87,12 @@ next_of : {A B C : Type 0} → A ⊎ C → (A → B) → B ⊎ C
 next_of (inl a) f = inl (f a)
 next_of (inr c) f = inr c
 
--- ---- behind a walk that went down to where the pass begins
+-- ---- behind a walk that went down to where the pass over a part begins
 
-module _ (root : StorageRoot) (s t u : Store) (old new : Option (List ℕ)) (from last : Option Place) (l : Limits) (spent files : ℕ) (finding : Bool) (g : GoesDown root s t from) where
-  meta : content_trail root g.trail ≡ []
-  meta = g.audits.opened ∙ nothing_hashed root
-
-  -- what was read on the way down has no part in the items
-  walked : (os : List Opening) (ps : List Place) → items_at root (g.trail ++ os) ps ≡ items_at root os ps
-  unfolding items_at
-  walked os ps = ap (λ v. map (item_of root v) ps) (unread_behind root g.trail os meta)
-
-  module _ (os : List Opening) (done later : List Place) (due_are : due root from ≡ done ++ later) where
-    above_are : items_above root (g.trail ++ os) from ≡ items_at root os done ++ items_at root os later
-    above_are = after_is_due root (g.trail ++ os) from ∙ walked os (due root from) ∙ ap (items_at root os) due_are ∙ items_append root os done later
+module _ (root : StorageRoot) (part : Part) (s t u : Store) (old new : Option (List ℕ)) (from stood last : Option Place) (l : Limits) (spent files : ℕ) (finding : Bool) (g : GoesDown root s t (entry part from)) where
+  module _ (os : List Opening) (done later : List Place) (due_are : due_in root (end_of part) (stand root part from) ≡ done ++ later) where
+    are : items_above_in root (g.trail ++ os) part from ≡ items_at root os done ++ items_at root os later
+    are = above_are root part s t from g os done later due_are
 
     module _ (counts : Counts l spent files (items_at root os done)) where
       module _ (next : Option Place) (stop : IsStop l spent files (items_at root os later)) where
@@ -107,26 +101,26 @@ module _ (root : StorageRoot) (s t u : Store) (old new : Option (List ℕ)) (fro
             subst (λ n. IsStop l n (total_files (items_at root os done)) (items_at root os later)) counts.spent_is
             (subst (λ n. IsStop l spent n (items_at root os later)) counts.files_is stop)
 
-        taken_are : taken root (g.trail ++ os) from l ≡ items_at root os done
-        taken_are = ap (λ is. cut is l) above_are ∙ cut_of_paid l _ _ counts.paid stop_there
+        taken_are : taken_in root (g.trail ++ os) part from l ≡ items_at root os done
+        taken_are = ap (λ is. cut is l) are ∙ cut_of_paid l _ _ counts.paid stop_there
 
-        rest_are : rest root (g.trail ++ os) from l ≡ items_at root os later
-        rest_are = ap (λ is. left is l) above_are ∙ left_of_paid l _ _ counts.paid stop_there
+        rest_are : rest_in root (g.trail ++ os) part from l ≡ items_at root os later
+        rest_are = ap (λ is. left is l) are ∙ left_of_paid l _ _ counts.paid stop_there
 
-        runs_of : next ≡ first_of (items_at root os later) → Audits root t u done (looked_between root from next) (read_between root from next) os
-            → Appends old new (text (items_at root os done)) → finding ≡ found (items_at root os done) → last ≡ last_of from done → Runs root s u old new from last l spent files finding next
+        runs_of : next ≡ first_of (items_at root os later) → Audits root t u done (looked_in root part from next) (read_in root part from next) os
+            → Appends old new (text (items_at root os done)) → finding ≡ found (items_at root os done) → last ≡ last_of from done → RunsWithin root s u old new part from last l spent files finding next
         runs_of next_is k wrote found_is last_is =
-            let at_places : places (taken root (g.trail ++ os) from l) ≡ done = ap places taken_are ∙ places_of_items root os done in
+            let at_places : places (taken_in root (g.trail ++ os) part from l) ≡ done = ap places taken_are ∙ places_of_items root os done in
             record {
               trail = g.trail ++ os;
               down = g.listed;
               held = g.heads;
-              audits = subst (λ ps. Audits root s u ps (g.listed ++ looked_between root from next) (g.heads ++ read_between root from next) (g.trail ++ os)) (sym at_places)
-                  (audits_on root s t u [] done g.listed (looked_between root from next) g.heads (read_between root from next) g.trail os g.audits k);
+              audits = subst (λ ps. Audits root s u ps (g.listed ++ looked_in root part from next) (g.heads ++ read_in root part from next) (g.trail ++ os)) (sym at_places)
+                  (audits_on root s t u [] done g.listed (looked_in root part from next) g.heads (read_in root part from next) g.trail os g.audits k);
               down_front = g.listed_front;
               held_front = g.heads_front;
-              lists_once = listed_once root from next g.listed (looked_between root from next) g.listed_front (all_front _);
-              reads_once = read_once root from next g.heads (read_between root from next) g.heads_front (all_front _);
+              lists_once = listed_once_in root part from next g.listed (looked_in root part from next) g.listed_front (all_front _);
+              reads_once = read_once_in root part from next g.heads (read_in root part from next) g.heads_front (all_front _);
               wrote = subst (λ is. Appends old new (text is)) (sym taken_are) wrote;
               figures = subst (λ is. Figures is spent files finding) (sym taken_are) (record { spent_is = counts.spent_is; files_is = counts.files_is; found_is = found_is });
               last_is = last_is ∙ ap (last_of from) (sym at_places);
@@ -134,51 +128,62 @@ module _ (root : StorageRoot) (s t u : Store) (old new : Option (List ℕ)) (fro
               overrun = λ some.
                   let c = counts.spent_is in
                   let q = paid_passes l (items_at root os done) counts.paid (omega (arith, some, c)) in
-                  let e : last_cost (taken root (g.trail ++ os) from l) ≡ last_cost (items_at root os done) = ap last_cost taken_are in
+                  let e : last_cost (taken_in root (g.trail ++ os) part from l) ≡ last_cost (items_at root os done) = ap last_cost taken_are in
                   omega (arith, q, c, e);
             }
 
   -- all were taken
-  pub ended : PaysAll root t u old new from last l spent files finding → Runs root s u old new from last l spent files finding None
-  ended h =
+  pub ended : (h : PaysAll root (end_of part) t u old new (stand root part from) stood l spent files finding) → last ≡ last_of from (due_in root (end_of part) (stand root part from))
+      → RunsWithin root s u old new part from last l spent files finding None
+  ended h last_is =
       let k = h.finishes in
-      runs_of k.trail (due root from) [] (sym (append-nil (due root from))) h.counts None (nothing_stops root k.trail l spent files) (none_first root k.trail) k.audits k.wrote k.found_is k.last_is
+      let all : List Place = due_in root (end_of part) (stand root part from) in
+      runs_of k.trail all [] (sym (append-nil all)) h.counts None (nothing_stops root k.trail l spent files) (none_first root k.trail)
+      (subst (λ hs. Audits root t u all (looked_in root part from None) hs k.trail) (read_all root part from)
+      (subst (λ ls. Audits root t u all ls (before_end (end_of part) (read_between root (stand root part from) None)) k.trail) (looked_all root part from) k.audits)) k.wrote k.found_is last_is
 
   -- the limits were reached
-  pub spent_all : (h : PaysUpTo root t u old new from last l spent files finding) → Runs root s u old new from last l spent files finding (Some h.next)
-  spent_all h =
-      runs_of h.trail h.done (h.next ∷ due root (Some h.next)) h.due_are h.counts (Some h.next) (unpaid_stops root h.trail l spent files h.next _ h.hashed h.reached) (some_first root h.trail h.next _) h.audits h.wrote h.found_is h.last_is
+  pub spent_all : (h : PaysUpTo root (end_of part) t u old new (stand root part from) stood l spent files finding) → last ≡ last_of from h.done
+      → RunsWithin root s u old new part from last l spent files finding (Some h.next)
+  spent_all h last_is =
+      runs_of h.trail h.done (h.next ∷ due_in root (end_of part) (Some h.next)) h.due_are h.counts (Some h.next) (unpaid_stops root h.trail l spent files h.next _ h.hashed h.reached) (some_first root h.trail h.next _)
+      (subst (λ hs. Audits root t u h.done (looked_in root part from (Some h.next)) hs h.trail) (read_to root part from h.next h.in_front)
+      (subst (λ ls. Audits root t u h.done ls (read_between root (stand root part from) (Some h.next)) h.trail) (looked_to root part from h.next h.in_front) h.audits)) h.wrote h.found_is last_is
 
   -- there was a fault
-  pub stopped : (why : Fault) → PaysHalting root t u old new from last l spent files finding why → RunStops root s u old new from last l spent files finding why
-  stopped why h =
+  pub stopped : (why : Fault) (h : PaysHalting root (end_of part) t u old new (stand root part from) stood l spent files finding why) → last ≡ last_of from h.halts.done
+      → RunStopsWithin root s u old new part from last l spent files finding why
+  stopped why h last_is =
       let k = h.halts in
       let trail : List Opening = g.trail ++ k.trail in
+      let due_left : List Place = due_in root (end_of part) stood in
       let whole : List Item = items_at root k.trail k.done in
-      let later : List Item = items_at root k.trail (due root last) in
+      let later : List Item = items_at root k.trail due_left in
       let others : List Item = take (cut_len l (0 + total_cost whole) (0 + total_files whole) later) later in
       let whole_places : k.done ≡ places whole = sym (places_of_items root k.trail k.done) in
-      let next_item : take 1 later ≡ items_at root k.trail (take 1 (due root last)) = take_items root k.trail 1 (due root last) in
+      let next_item : take 1 later ≡ items_at root k.trail (take 1 due_left) = take_items root k.trail 1 due_left in
       let c = h.counts.spent_is in
       let f = h.counts.files_is in
-      let first : Paid l spent files (items_at root k.trail (take 1 (due root last))) → take 1 others ≡ items_at root k.trail (take 1 (due root last)) = λ p.
+      let first : Paid l spent files (items_at root k.trail (take 1 due_left)) → take 1 others ≡ items_at root k.trail (take 1 due_left) = λ p.
       first_taken l (0 + total_cost whole) (0 + total_files whole) later
       (subst (λ n. Paid l n (0 + total_files whole) (take 1 later)) (let z : spent ≡ 0 + total_cost whole = omega (arith, c) in z)
       (subst (λ n. Paid l spent n (take 1 later)) (let z : files ≡ 0 + total_files whole = omega (arith, f) in z) (subst (Paid l spent files) (sym next_item) p)))
       ∙ next_item in
-      let ends = ends_at root k.trail why k.begun k.part (take 1 (due root last)) (take 1 others) (next_of h.next first) k.one k.part_of in
+      let ends = ends_at root k.trail why k.begun k.part (take 1 due_left) (take 1 others) (next_of h.next first) k.one k.part_of in
+      let listed_front = subst (IsFront k.listed) (looked_all root part from) k.listed_front in
+      let heads_front = subst (IsFront k.heads) (read_all root part from) k.heads_front in
       record {
         trail = trail;
         stops = record {
           whole = whole;
           others = others;
-          items_are = ap (λ is. cut is l) (above_are k.trail k.done (due root last) k.due_are) ∙ paid_begins l whole later h.counts.paid;
+          items_are = ap (λ is. cut is l) (are k.trail k.done due_left k.due_are) ∙ paid_begins l whole later h.counts.paid;
           begun = k.begun;
           one = ends.0;
           part = k.part;
           wrote = k.wrote;
           part_of = ends.1;
-          last_is = k.last_is ∙ ap (last_of from) whole_places;
+          last_is = last_is ∙ ap (last_of from) whole_places;
         };
         figures = record { spent_is = h.counts.spent_is; files_is = h.counts.files_is; found_is = k.found_is };
         down = g.listed;
@@ -188,11 +193,11 @@ module _ (root : StorageRoot) (s t u : Store) (old new : Option (List ℕ)) (fro
         fails = subst (λ ps. Fails root s u (ps ++ k.begun) (g.listed ++ k.listed) (g.heads ++ k.heads) trail why) whole_places
             (audits_fail root s t u [] (k.done ++ k.begun) g.listed k.listed g.heads k.heads g.trail k.trail why g.audits k.fails);
         down_front = g.listed_front;
-        listed_front = k.listed_front;
+        listed_front = listed_front;
         held_front = g.heads_front;
-        heads_front = k.heads_front;
-        lists_once = listed_once root from None g.listed k.listed g.listed_front k.listed_front;
-        reads_once = read_once root from None g.heads k.heads g.heads_front k.heads_front;
+        heads_front = heads_front;
+        lists_once = listed_once_in root part from None g.listed k.listed g.listed_front listed_front;
+        reads_once = read_once_in root part from None g.heads k.heads g.heads_front heads_front;
       }
 
 -- the place that a walk is given by reference
@@ -201,11 +206,12 @@ lent_place None from e = e
 lent_place (Some p) from e = e
 
 -- no walk was started
-pub not_run : (root : StorageRoot) (s t : Store) (old : Option (List ℕ)) (from : Option Place) (l : Limits) (why : Fault) → IsWayFault why → GoDownFails root s t from why → RunStops root s t old old from from l 0 0 false why
+pub not_run : (root : StorageRoot) (part : Part) (s t : Store) (old : Option (List ℕ)) (from : Option Place) (l : Limits) (why : Fault) → IsWayFault why → GoDownFails root s t (entry part from) why
+    → RunStopsWithin root s t old old part from from l 0 0 false why
 unfolding nothing_out
-not_run root s t old from l why only g = record {
+not_run root part s t old from l why only g = record {
   trail = g.trail;
-  stops = nothing_out (taken root g.trail from l) old from why only.0;
+  stops = nothing_out (taken_in root g.trail part from l) old from why only.0;
   figures = record { spent_is = refl; files_is = refl; found_is = refl };
   down = g.listed;
   listed = [];
@@ -213,16 +219,16 @@ not_run root s t old from l why only g = record {
   heads = [];
   fails = subst (λ ls. Fails root s t [] ls (g.heads ++ []) g.trail why) (sym (append-nil g.listed)) (subst (λ hs. Fails root s t [] g.listed hs g.trail why) (sym (append-nil g.heads)) g.fails);
   down_front = g.listed_front;
-  listed_front = (looked_between root from None, refl);
+  listed_front = (looked_in root part from None, refl);
   held_front = g.heads_front;
-  heads_front = (read_between root from None, refl);
-  lists_once = listed_once root from None g.listed [] g.listed_front (looked_between root from None, refl);
-  reads_once = read_once root from None g.heads [] g.heads_front (read_between root from None, refl);
+  heads_front = (read_in root part from None, refl);
+  lists_once = listed_once_in root part from None g.listed [] g.listed_front (looked_in root part from None, refl);
+  reads_once = read_once_in root part from None g.heads [] g.heads_front (read_in root part from None, refl);
 }
 
 -- ---- where no failure was counted
 
-no_first : (items : List Item) → None ≡ first_of items → items ≡ []
+pub no_first : (items : List Item) → None ≡ first_of items → items ≡ []
 no_first [] e = refl
 no_first (i ∷ items) e = absurd cc
 
@@ -230,21 +236,21 @@ a_first : (items : List Item) (p : Place) → Some p ≡ first_of items → item
 a_first [] p e f = absurd cc
 a_first (i ∷ items) p e f = cc
 
-module _ (root : StorageRoot) (s t : Store) (old new : Option (List ℕ)) (c : Cursor) (last : Option Place) (l : Limits) (spent files : ℕ) (finding : Bool) (same : t.failures ≡ s.failures) where
-  all_read : (next : Option Place) (h : Runs root s t old new (place_in c.state) last l spent files finding next) → unread_of root h.trail ≡ []
+module _ (root : StorageRoot) (part : Part) (s t : Store) (old new : Option (List ℕ)) (c : Cursor) (last : Option Place) (l : Limits) (spent files : ℕ) (finding : Bool) (same : t.failures ≡ s.failures) where
+  all_read : (next : Option Place) (h : RunsWithin root s t old new part (place_in c.state) last l spent files finding next) → unread_of root h.trail ≡ []
   all_read next h = none_left (unread_of root h.trail) s.failures (sym same ∙ h.audits.did.failures_are)
 
-  cleanly : (next : Option Place) → Runs root s t old new (place_in c.state) last l spent files finding next → RunsClean root old new (place_in c.state) l spent files finding
+  cleanly : (next : Option Place) → RunsWithin root s t old new part (place_in c.state) last l spent files finding next → RunsCleanWithin root old new part (place_in c.state) l spent files finding
   cleanly next h =
       let e = all_read next h in
       record {
-        wrote = subst (λ u. Appends old new (text (cut (after (audit root u) (place_in c.state)) l))) e h.wrote;
-        figures = subst (λ u. Figures (cut (after (audit root u) (place_in c.state)) l) spent files finding) e h.figures;
+        wrote = subst (λ u. Appends old new (text (cut (after (within part (audit root u)) (place_in c.state)) l))) e h.wrote;
+        figures = subst (λ u. Figures (cut (after (within part (audit root u)) (place_in c.state)) l) spent files finding) e h.figures;
       }
 
-  pub runs_cleanly : (end : RunStatus) → RunEnds root s t old new (place_in c.state) last l spent files finding end → RunsCleanly root old new c l spent files finding end
-  runs_cleanly Ended h = (cleanly None h, subst (λ u. left (after (audit root u) (place_in c.state)) l ≡ []) (all_read None h) (no_first _ h.next_is))
-  runs_cleanly Spent h = (cleanly (Some h.0) h.1, subst (λ u. left (after (audit root u) (place_in c.state)) l ≢ []) (all_read (Some h.0) h.1) (a_first _ h.0 h.1.next_is))
+  pub runs_cleanly : (end : RunStatus) → RunEndsWithin root s t old new part (place_in c.state) last l spent files finding end → RunsCleanlyWithin root old new part c l spent files finding end
+  runs_cleanly Ended h = (cleanly None h, subst (λ u. left (after (within part (audit root u)) (place_in c.state)) l ≡ []) (all_read None h) (no_first _ h.next_is))
+  runs_cleanly Spent h = (cleanly (Some h.0) h.1, subst (λ u. left (after (within part (audit root u)) (place_in c.state)) l ≢ []) (all_read (Some h.0) h.1) (a_first _ h.0 h.1.next_is))
   runs_cleanly (Stopped why) h = tt
   runs_cleanly Worn h = tt
 
@@ -265,17 +271,17 @@ run_counted b l spent files state h room fits p short =
       place = short;
     }
 
-module _ (root : StorageRoot) (s t : Store) (old new : Option (List ℕ)) (c b : Cursor) (from last : Option Place) (l : Limits) (spent files : ℕ) (finding : Bool) (end : RunStatus) (h : Begins c b from)
-    (run : RunEnds root s t old new from last l spent files finding end) where
-  begun_there : RunEnds root s t old new (place_in c.state) last l spent files finding end
-  begun_there = subst (λ x. RunEnds root s t old new x last l spent files finding end) h.from_is run
+module _ (root : StorageRoot) (part : Part) (s t : Store) (old new : Option (List ℕ)) (c b : Cursor) (from last : Option Place) (l : Limits) (spent files : ℕ) (finding : Bool) (end : RunStatus) (h : Begins c b from)
+    (run : RunEndsWithin root s t old new part from last l spent files finding end) where
+  begun_there : RunEndsWithin root s t old new part (place_in c.state) last l spent files finding end
+  begun_there = subst (λ x. RunEndsWithin root s t old new part x last l spent files finding end) h.from_is run
 
-  pub runs_from : (reached : Cursor) (state : State) → reached ≡ after_run b spent files state → state ≡ state_after end last → RunsFrom root s t old new c l reached spent files finding end
+  pub runs_from : (reached : Cursor) (state : State) → reached ≡ after_run b spent files state → state ≡ state_after end last → RunsFromWithin root s t old new part c l reached spent files finding end
   runs_from reached state e f = record {
     last = last;
     run = begun_there;
     cursor_is = e ∙ ap (λ x. after_run x spent files state) h.begun_is ∙ ap (λ x. after_run (begun c) spent files x) f;
   }
 
-  pub clean_from : t.failures ≡ s.failures → RunsCleanly root old new c l spent files finding end
-  clean_from same = runs_cleanly root s t old new c last l spent files finding same end begun_there
+  pub clean_from : t.failures ≡ s.failures → RunsCleanlyWithin root old new part c l spent files finding end
+  clean_from same = runs_cleanly root part s t old new c last l spent files finding same end begun_there

@@ -1,4 +1,4 @@
--- One run of a cycle, by its places.
+-- One run of a part's cycle, by its places.
 use Rattle.std.proofs.Common.{◌≡◌, ℕ, ◌+◌, ◌≤◌, List, [], ◌∷◌, ◌++◌, refl, sym, ◌∙◌, ap, subst, Bool, Some, None, Option, map, length, length-append, arith}
 use Rattle.std.specs.Io.KnownBytes.{Appends}
 use Rattle.ocfl_tree.specs.Place.{Place, place_cmp}
@@ -10,18 +10,18 @@ use Rattle.ocfl_report.specs.Line.{Item}
 use Rattle.ocfl_report.specs.Text.{text}
 use Rattle.ocfl_audit.specs.Audit.{Unread, audit, after, item_of, total_cost}
 use Rattle.ocfl_audit.specs.Trail.{unread_of}
-use Rattle.ocfl_audit.specs.Due.{due, items_at}
-use Rattle.ocfl_audit.specs.Between.{read_between}
+use Rattle.ocfl_audit.specs.Due.{items_at}
+use Rattle.ocfl_audit.specs.Parts.{Part, within}
 use Rattle.ocfl_audit.specs.Runs.{Limits, total_files}
-use Rattle.ocfl_audit.proofs.AuditExists.{audit_is}
 use Rattle.ocfl_audit.proofs.AfterLaws.{after_is_end, after_item}
-use Rattle.ocfl_audit.proofs.DueLaws.{after_is_due}
 use Rattle.ocfl_item.specs.Looking.{IsFront}
 use Rattle.ocfl_item.specs.Auditing.{Audits}
 use Rattle.ocfl_walk.specs.WalkCalls.{holder}
 use Rattle.ocfl_scrub.specs.Written.{places, last_of, Figures}
 use Rattle.ocfl_scrub.proofs.Paying.{Paid}
-use Rattle.ocfl_scrub.specs.Running.{items_above, taken, rest, first_of, Runs}
+use Rattle.ocfl_scrub.specs.Running.{items_above_in, taken_in, rest_in, first_of, RunsWithin}
+use Rattle.ocfl_scrub.specs.Starting.{entry, due_within, read_in}
+use Rattle.ocfl_scrub.proofs.PartStarts.{above_in, items_ascend}
 use Rattle.ocfl_scrub.proofs.Lists.{map_append}
 use Rattle.ocfl_scrub.proofs.AuditLaws.{places_of_items}
 use Rattle.ocfl_scrub.proofs.CutLaws.{IsStop, cut_and_left}
@@ -35,23 +35,23 @@ heads_same x y xs ys e = cc
 tails_same : {A : Type 0} (x y : A) (xs ys : List A) → x ∷ xs ≡ y ∷ ys → xs ≡ ys
 tails_same x y xs ys e = cc
 
-module _ (root : StorageRoot) (unread : Unread) where
-  after_next : (front : List Item) (x : Item) (rest : List Item) → audit root unread ≡ front ++ x ∷ rest → after (audit root unread) (Some x.place) ≡ rest
+module _ (root : StorageRoot) (unread : Unread) (part : Part) where
+  after_next : (front : List Item) (x : Item) (rest : List Item) → within part (audit root unread) ≡ front ++ x ∷ rest → after (within part (audit root unread)) (Some x.place) ≡ rest
   after_next front x rest e =
-      ap (λ is. after is (Some x.place)) e ∙ after_item front x rest (subst (λ is. IsAscending place_cmp (places is)) e (audit_is root unread).ascends)
+      ap (λ is. after is (Some x.place)) e ∙ after_item front x rest (subst (λ is. IsAscending place_cmp (places is)) e (items_ascend root unread part))
 
-  after_one : (from : Option Place) (x : Item) (rest : List Item) → after (audit root unread) from ≡ x ∷ rest → after (audit root unread) (Some x.place) ≡ rest
+  after_one : (from : Option Place) (x : Item) (rest : List Item) → after (within part (audit root unread)) from ≡ x ∷ rest → after (within part (audit root unread)) (Some x.place) ≡ rest
   after_one None x rest e = after_next [] x rest e
   after_one (Some p) x rest e =
-      let w = after_is_end (audit root unread) p (audit_is root unread).ascends in
+      let w = after_is_end (within part (audit root unread)) p (items_ascend root unread part) in
       after_next w.0 x rest (w.1 ∙ ap (λ is. w.0 ++ is) e)
 
   -- behind the last of a front lies what follows it
-  after_front : (from : Option Place) (xs ys : List Item) → after (audit root unread) from ≡ xs ++ ys → after (audit root unread) (last_of from (places xs)) ≡ ys
+  pub after_front : (from : Option Place) (xs ys : List Item) → after (within part (audit root unread)) from ≡ xs ++ ys → after (within part (audit root unread)) (last_of from (places xs)) ≡ ys
   after_front from [] ys e = e
   after_front from (x ∷ xs) ys e = after_front (Some x.place) xs ys (after_one from x (xs ++ ys) e)
 
-module _ (root : StorageRoot) (os : List Opening) where
+module _ (root : StorageRoot) (part : Part) (os : List Opening) where
   front_items : (ps : List Place) (xs ys : List Item) → items_at root os ps ≡ xs ++ ys → items_at root os (places xs) ≡ xs
   unfolding items_at
   front_items ps [] ys e = refl
@@ -64,20 +64,20 @@ module _ (root : StorageRoot) (os : List Opening) where
       ∙ ap (λ i. i ∷ map (item_of root (unread_of root os)) (places xs)) f ∙ ap (λ is. x ∷ is) (front_items ps xs ys g)
 
   -- a front of the items above a place, and the rest
-  module _ (from : Option Place) (xs ys : List Item) (split : items_above root os from ≡ xs ++ ys) where
-    above_is : items_at root os (due root from) ≡ xs ++ ys
-    above_is = sym (after_is_due root os from) ∙ split
+  module _ (from : Option Place) (xs ys : List Item) (split : items_above_in root os part from ≡ xs ++ ys) where
+    above_is : items_at root os (due_within root part from) ≡ xs ++ ys
+    above_is = sym (above_in root part from os) ∙ split
 
     pub front_is : items_at root os (places xs) ≡ xs
-    front_is = front_items (due root from) xs ys above_is
+    front_is = front_items (due_within root part from) xs ys above_is
 
-    pub rest_is : items_at root os (due root (last_of from (places xs))) ≡ ys
-    rest_is = sym (after_is_due root os (last_of from (places xs))) ∙ after_front root (unread_of root os) from xs ys split
+    pub rest_is : items_at root os (due_within root part (last_of from (places xs))) ≡ ys
+    rest_is = sym (above_in root part (last_of from (places xs)) os) ∙ after_front root (unread_of root os) part from xs ys split
 
-    pub due_parts : due root from ≡ places xs ++ due root (last_of from (places xs))
+    pub due_parts : due_within root part from ≡ places xs ++ due_within root part (last_of from (places xs))
     due_parts =
-        sym (places_of_items root os (due root from)) ∙ ap places above_is ∙ map_append (λ i. i.place) xs ys
-        ∙ ap (λ ps. places xs ++ ps) (ap places (sym rest_is) ∙ places_of_items root os (due root (last_of from (places xs))))
+        sym (places_of_items root os (due_within root part from)) ∙ ap places above_is ∙ map_append (λ i. i.place) xs ys
+        ∙ ap (λ ps. places xs ++ ps) (ap places (sym rest_is) ∙ places_of_items root os (due_within root part (last_of from (places xs))))
 
 -- ---- one run
 
@@ -86,24 +86,24 @@ first_place [] = None
 first_place (p ∷ ps) = Some p
 
 -- from s to t the places above from were audited up to last, and their items went out, with these figures
-pub record Took (root : StorageRoot) (s t : Store) (old new : Option (List ℕ)) (from last : Option Place) (spent files : ℕ) (finding : Bool) : Type 0 where
+pub record Took (root : StorageRoot) (part : Part) (s t : Store) (old new : Option (List ℕ)) (from last : Option Place) (spent files : ℕ) (finding : Bool) : Type 0 where
   pub done : List Place
   pub trail : List Opening
   pub listed : List Place
   pub heads : List Place
   pub audits : Audits root s t done listed heads trail
-  pub due_are : due root from ≡ done ++ due root last
+  pub due_are : due_within root part from ≡ done ++ due_within root part last
   pub last_is : last ≡ last_of from done
   pub wrote : Appends old new (text (items_at root trail done))
   pub figures : Figures (items_at root trail done) spent files finding
 
 -- a run took them: its limits allow these places, and not what is next
-pub record Turn (root : StorageRoot) (s t : Store) (old new : Option (List ℕ)) (from last : Option Place) (limits : Limits) (spent files : ℕ) (finding : Bool) (next : Option Place) : Type 0 where
-  pub took : Took root s t old new from last spent files finding
-  pub next_is : next ≡ first_place (due root last)
+pub record Turn (root : StorageRoot) (part : Part) (s t : Store) (old new : Option (List ℕ)) (from last : Option Place) (limits : Limits) (spent files : ℕ) (finding : Bool) (next : Option Place) : Type 0 where
+  pub took : Took root part s t old new from last spent files finding
+  pub next_is : next ≡ first_place (due_within root part last)
   pub paid : Paid limits 0 0 (items_at root took.trail took.done)
-  pub stops : IsStop limits (total_cost (items_at root took.trail took.done)) (total_files (items_at root took.trail took.done)) (items_at root took.trail (due root last))
-  pub read : length took.heads ≤ length (holder root from) + length (read_between root from next)
+  pub stops : IsStop limits (total_cost (items_at root took.trail took.done)) (total_files (items_at root took.trail took.done)) (items_at root took.trail (due_within root part last))
+  pub read : length took.heads ≤ length (holder root (entry part from)) + length (read_in root part from next)
 
 pub front_length : {A : Type 0} (xs ys : List A) → IsFront xs ys → length xs ≤ length ys
 front_length xs ys f = let e : length ys ≡ length xs + length f.0 = ap length f.1 ∙ length-append xs f.0 in omega (arith, e)
@@ -112,31 +112,31 @@ first_places : (items : List Item) → first_of items ≡ first_place (places it
 first_places [] = refl
 first_places (i ∷ items) = refl
 
-module _ (root : StorageRoot) (s t : Store) (old new : Option (List ℕ)) (from last : Option Place) (limits : Limits) (spent files : ℕ) (finding : Bool) where
-  pub turn_of : (next : Option Place) → Runs root s t old new from last limits spent files finding next → Turn root s t old new from last limits spent files finding next
+module _ (root : StorageRoot) (part : Part) (s t : Store) (old new : Option (List ℕ)) (from last : Option Place) (limits : Limits) (spent files : ℕ) (finding : Bool) where
+  pub turn_of : (next : Option Place) → RunsWithin root s t old new part from last limits spent files finding next → Turn root part s t old new from last limits spent files finding next
   turn_of next h =
-      let cut_items : List Item = taken root h.trail from limits in
-      let left_items : List Item = rest root h.trail from limits in
-      let above : List Item = items_above root h.trail from in
+      let cut_items : List Item = taken_in root h.trail part from limits in
+      let left_items : List Item = rest_in root h.trail part from limits in
+      let above : List Item = items_above_in root h.trail part from in
       let split : above ≡ cut_items ++ left_items = sym (cut_and_left above limits) in
       let done : List Place = places cut_items in
       let is_last : last_of from done ≡ last = sym h.last_is in
-      let taken_is : cut_items ≡ items_at root h.trail done = sym (front_is root h.trail from cut_items left_items split) in
-      let left_is : left_items ≡ items_at root h.trail (due root last) = sym (rest_is root h.trail from cut_items left_items split) ∙ ap (λ l. items_at root h.trail (due root l)) is_last in
+      let taken_is : cut_items ≡ items_at root h.trail done = sym (front_is root part h.trail from cut_items left_items split) in
+      let left_is : left_items ≡ items_at root h.trail (due_within root part last) = sym (rest_is root part h.trail from cut_items left_items split) ∙ ap (λ l. items_at root h.trail (due_within root part l)) is_last in
       record {
         took = record {
           done = done;
           trail = h.trail;
           listed = _;
-          heads = h.held ++ read_between root from next;
+          heads = h.held ++ read_in root part from next;
           audits = h.audits;
-          due_are = due_parts root h.trail from cut_items left_items split ∙ ap (λ l. done ++ due root l) is_last;
+          due_are = due_parts root part h.trail from cut_items left_items split ∙ ap (λ l. done ++ due_within root part l) is_last;
           last_is = h.last_is;
           wrote = subst (λ is. Appends old new (text is)) taken_is h.wrote;
           figures = subst (λ is. Figures is spent files finding) taken_is h.figures;
         };
-        next_is = h.next_is ∙ first_places left_items ∙ ap first_place (ap places left_is ∙ places_of_items root h.trail (due root last));
+        next_is = h.next_is ∙ first_places left_items ∙ ap first_place (ap places left_is ∙ places_of_items root h.trail (due_within root part last));
         paid = subst (Paid limits 0 0) taken_is (cut_paid limits above);
         stops = subst (IsStop limits _ _) left_is (subst (λ is. IsStop limits (total_cost is) (total_files is) left_items) taken_is (cut_stops limits above));
-        read = let f = front_length h.held (holder root from) h.held_front in let e = length-append h.held (read_between root from next) in omega (arith, e, f);
+        read = let f = front_length h.held (holder root (entry part from)) h.held_front in let e = length-append h.held (read_in root part from next) in omega (arith, e, f);
       }

@@ -1,4 +1,4 @@
--- Some runs one after the other, by their places: a run, and then those that follow.
+-- Some runs of a part one after the other, by their places: a run, and then those that follow.
 use Rattle.std.proofs.Common.{◌≡◌, inl, inr, ℕ, zero, suc, ◌+◌, ◌-◌, ◌<◌, ◌≤◌, List, [], ◌∷◌, ◌++◌, refl, sym, ◌∙◌, ap, subst, true, false, Bool, Some, None, Option, append-nil, append_assoc, length, length-append, take, drop, arith}
 use Rattle.std.specs.Prelude.{◌||◌, cond, filter}
 use Rattle.std.proofs.lemmas.List.{take-append-drop}
@@ -15,10 +15,9 @@ use Rattle.ocfl_audit.specs.Audit.{total_cost}
 use Rattle.ocfl_audit.specs.Lines.{is_empty, is_hashed}
 use Rattle.ocfl_audit.specs.Trail.{content_trail, reads_inventory}
 use Rattle.ocfl_audit.specs.Zone.{Zone, skipped, hierarchy, inside, zone}
-use Rattle.ocfl_audit.specs.Due.{due, items_at, hashed_among}
-use Rattle.ocfl_audit.specs.Between.{read_between}
+use Rattle.ocfl_audit.specs.Due.{items_at, hashed_among}
+use Rattle.ocfl_audit.specs.Parts.{Part}
 use Rattle.ocfl_audit.specs.Runs.{Limits, total_files, cut, left, runs, runs_after, joined}
-use Rattle.ocfl_audit.proofs.DueLaws.{after_is_due}
 use Rattle.ocfl_item.specs.Looking.{IsFront}
 use Rattle.ocfl_item.specs.Auditing.{Fails}
 use Rattle.ocfl_walk.specs.WalkCalls.{holder, holder_of}
@@ -26,13 +25,15 @@ use Rattle.ocfl_item.specs.declared.fault.Fault.{Fault}
 use Rattle.ocfl_item.specs.declared.fault.Fault.TheVariants.{Memory, Store as AtStore}
 use Rattle.ocfl_scrub.specs.Taking.{PartOf}
 use Rattle.ocfl_scrub.specs.Written.{places, last_of, Figures}
-use Rattle.ocfl_scrub.specs.Running.{items_above, rest as rest_of, RunStops}
+use Rattle.ocfl_scrub.specs.Running.{items_above_in, rest_in as rest_of, RunStopsWithin}
+use Rattle.ocfl_scrub.specs.Starting.{entry, due_within, read_in}
+use Rattle.ocfl_scrub.proofs.PartStarts.{above_in, due_within_ascends}
 use Rattle.ocfl_scrub.specs.declared.cycling.CycleStatus.{CycleStatus}
 use Rattle.ocfl_scrub.specs.declared.cycling.CycleStatus.TheVariants.{Ended, Spent, Stopped}
 use Rattle.ocfl_scrub.proofs.Lists.{map_append, ascends_left}
 use Rattle.ocfl_scrub.proofs.AuditsJoined.{items_before, items_behind, items_append, items_then}
 use Rattle.ocfl_item.proofs.AuditingLaws.{audits_fail, audits_nothing, audits_on}
-use Rattle.ocfl_scrub.proofs.PassLaws.{text_append, found_append, due_ascends, no_items, take_nothing}
+use Rattle.ocfl_scrub.proofs.PassLaws.{text_append, found_append, no_items, take_nothing}
 use Rattle.ocfl_scrub.proofs.TakeLaws.{nothing_of, memory_other}
 use Rattle.ocfl_scrub.proofs.AuditLaws.{places_of_items}
 use Rattle.ocfl_scrub.proofs.CutLaws.{IsStop, cost_append, files_append, cut_of_paid, left_of_paid, cut_and_left}
@@ -43,20 +44,21 @@ use Rattle.ocfl_scrub.proofs.RunPlaces.{Took, Turn, first_place, front_is, rest_
 -- ---- some runs
 
 -- how many inventories runs read that begin above a place: none where there is no run, and else those from there on and one more for each run, but for the first where nothing holds that place
-pub record ReadFew (root : StorageRoot) (from : Option Place) (heads : List Place) (count : ℕ) : Type 0 where
+pub record ReadFew (root : StorageRoot) (part : Part) (from : Option Place) (heads : List Place) (count : ℕ) : Type 0 where
   pub none : count ≡ 0 → length heads ≡ 0
-  pub some : 1 ≤ count → length heads < length (holder root from) + length (read_between root from None) + count
+  pub some : 1 ≤ count → length heads < length (holder root (entry part from)) + length (read_in root part from None) + count
 
 -- from s to t the runs of the limits took the items above from up to last
-pub record Parts (root : StorageRoot) (s t : Store) (old new : Option (List ℕ)) (from last : Option Place) (limits : List Limits) (spent files : ℕ) (finding : Bool) (count : ℕ) (ended : Bool) : Type 0 where
-  pub took : Took root s t old new from last spent files finding
-  pub runs_are : joined (runs (items_at root took.trail (due root from)) limits) ≡ items_at root took.trail took.done
-  pub count_is : count ≡ length (runs (items_at root took.trail (due root from)) limits)
-  pub read : ReadFew root from took.heads count
-  pub ended_is : ended ≡ is_empty (due root last)
+pub record Parts (root : StorageRoot) (part : Part) (s t : Store) (old new : Option (List ℕ)) (from last : Option Place) (limits : List Limits) (spent files : ℕ) (finding : Bool) (count : ℕ) (ended : Bool) : Type 0 where
+  pub took : Took root part s t old new from last spent files finding
+  pub runs_are : joined (runs (items_at root took.trail (due_within root part from)) limits) ≡ items_at root took.trail took.done
+  pub count_is : count ≡ length (runs (items_at root took.trail (due_within root part from)) limits)
+  pub read : ReadFew root part from took.heads count
+  pub ended_is : ended ≡ is_empty (due_within root part last)
+  pub made : ended ≡ true → 1 ≤ count
 
 -- from s to t they took the items above from up to last, and then there was a fault
-pub record PartsStop (root : StorageRoot) (s t : Store) (old new : Option (List ℕ)) (from last : Option Place) (limits : List Limits) (spent files : ℕ) (finding : Bool) (count : ℕ) (why : Fault) : Type 0 where
+pub record PartsStop (root : StorageRoot) (part : Part) (s t : Store) (old new : Option (List ℕ)) (from last : Option Place) (limits : List Limits) (spent files : ℕ) (finding : Bool) (count : ℕ) (why : Fault) : Type 0 where
   pub done : List Place
   pub begun : List Place
   pub rest : List Place
@@ -65,22 +67,22 @@ pub record PartsStop (root : StorageRoot) (s t : Store) (old new : Option (List 
   pub listed : List Place
   pub heads : List Place
   pub fails : Fails root s t (done ++ begun) listed heads trail why
-  pub due_are : due root from ≡ (done ++ begun) ++ rest
+  pub due_are : due_within root part from ≡ (done ++ begun) ++ rest
   pub last_is : last ≡ last_of from done
-  pub runs_begin : joined (take count (runs (items_at root trail (due root from)) limits)) ≡ items_at root trail done ++ others
-  pub runs_before : IsFront (joined (take (count - 1) (runs (items_at root trail (due root from)) limits))) (items_at root trail done)
+  pub runs_begin : joined (take count (runs (items_at root trail (due_within root part from)) limits)) ≡ items_at root trail done ++ others
+  pub runs_before : IsFront (joined (take (count - 1) (runs (items_at root trail (due_within root part from)) limits))) (items_at root trail done)
   pub one : IsFront begun (places (take 1 others))
-  pub part : Text
-  pub wrote : Appends old new (text (items_at root trail done) ++ part)
-  pub part_of : PartOf why (text (take 1 others)) part
-  pub count_fits : count ≤ length (runs (items_at root trail (due root from)) limits)
+  pub gone : Text
+  pub wrote : Appends old new (text (items_at root trail done) ++ gone)
+  pub part_of : PartOf why (text (take 1 others)) gone
+  pub count_fits : count ≤ length (runs (items_at root trail (due_within root part from)) limits)
   pub figures : Figures (items_at root trail done) spent files finding
-  pub read : ReadFew root from heads count
+  pub read : ReadFew root part from heads count
 
-abbrev pub PartsEnd : StorageRoot → Store → Store → Option (List ℕ) → Option (List ℕ) → Option Place → Option Place → List Limits → ℕ → ℕ → Bool → ℕ → CycleStatus → Type 0
-PartsEnd root s t old new from last limits spent files finding count Ended = Parts root s t old new from last limits spent files finding count true
-PartsEnd root s t old new from last limits spent files finding count Spent = Parts root s t old new from last limits spent files finding count false
-PartsEnd root s t old new from last limits spent files finding count (Stopped why) = PartsStop root s t old new from last limits spent files finding count why
+abbrev pub PartsEnd : StorageRoot → Part → Store → Store → Option (List ℕ) → Option (List ℕ) → Option Place → Option Place → List Limits → ℕ → ℕ → Bool → ℕ → CycleStatus → Type 0
+PartsEnd root part s t old new from last limits spent files finding count Ended = Parts root part s t old new from last limits spent files finding count true
+PartsEnd root part s t old new from last limits spent files finding count Spent = Parts root part s t old new from last limits spent files finding count false
+PartsEnd root part s t old new from last limits spent files finding count (Stopped why) = PartsStop root part s t old new from last limits spent files finding count why
 
 -- ---- lists
 
@@ -129,7 +131,7 @@ figures_then {xs} {ys} {both} {a} {b} {a'} {b'} {v} {v'} e h k = subst (λ is. F
 
 -- ---- runs
 
-runs_go_on : (items : List Item) (ls : List Limits) → is_empty items ≡ false → runs_after ls items ≡ runs items ls
+pub runs_go_on : (items : List Item) (ls : List Limits) → is_empty items ≡ false → runs_after ls items ≡ runs items ls
 runs_go_on [] ls h = absurd cc
 runs_go_on (i ∷ items) [] h = refl
 runs_go_on (i ∷ items) (l ∷ ls) h = refl
@@ -139,9 +141,9 @@ runs_end [] = refl
 runs_end (l ∷ ls) = refl
 
 -- no limits are left
-pub parts_none : (root : StorageRoot) (s : Store) (old : Option (List ℕ)) (last : Option Place) → s.tree ≡ root → is_empty (due root last) ≡ false → Parts root s s old old last last [] 0 0 false 0 false
+pub parts_none : (root : StorageRoot) (part : Part) (s : Store) (old : Option (List ℕ)) (last : Option Place) → s.tree ≡ root → is_empty (due_within root part last) ≡ false → Parts root part s s old old last last [] 0 0 false 0 false
 unfolding items_at
-parts_none root s old last over some = record {
+parts_none root part s old last over some = record {
   took = record {
     done = [];
     trail = [];
@@ -157,21 +159,22 @@ parts_none root s old last over some = record {
   count_is = refl;
   read = record { none = λ e. refl; some = λ e. absurd (omega (arith, e)) };
   ended_is = sym some;
+  made = λ e. absurd cc;
 }
 
 not_of_store : (p : Place) → Memory ≡ AtStore p → ⊥
 not_of_store p e = cc
 
 -- out of memory before a run
-pub parts_unbegun : (root : StorageRoot) (s : Store) (old : Option (List ℕ)) (last : Option Place) (limits : List Limits) → s.tree ≡ root → PartsStop root s s old old last last limits 0 0 false 0 Memory
+pub parts_unbegun : (root : StorageRoot) (part : Part) (s : Store) (old : Option (List ℕ)) (last : Option Place) (limits : List Limits) → s.tree ≡ root → PartsStop root part s s old old last last limits 0 0 false 0 Memory
 unfolding items_at
-parts_unbegun root s old last limits over =
+parts_unbegun root part s old last limits over =
     let none = audits_nothing root s over in
-    let all : List (List Item) = runs (items_at root [] (due root last)) limits in
+    let all : List (List Item) = runs (items_at root [] (due_within root part last)) limits in
     record {
       done = [];
       begun = [];
-      rest = due root last;
+      rest = due_within root part last;
       trail = [];
       others = [];
       listed = [];
@@ -182,7 +185,7 @@ parts_unbegun root s old last limits over =
       runs_begin = joined_none all;
       runs_before = front_none all [];
       one = ([], refl);
-      part = [];
+      gone = [];
       wrote = Appends-nil old;
       part_of = nothing_of Memory memory_other [];
       count_fits = omega arith;
@@ -196,40 +199,41 @@ first_none : (ps : List Place) → None ≡ first_place ps → ps ≡ []
 first_none [] e = refl
 first_none (p ∷ ps) e = absurd cc
 
-module _ (root : StorageRoot) (s t : Store) (old mid : Option (List ℕ)) (from mid_last : Option Place) (l : Limits) (spent files : ℕ) (finding : Bool) (ls : List Limits) where
+module _ (root : StorageRoot) (part : Part) (s t : Store) (old mid : Option (List ℕ)) (from mid_last : Option Place) (l : Limits) (spent files : ℕ) (finding : Bool) (ls : List Limits) where
   -- it took all that was left
-  pub parts_ended : Turn root s t old mid from mid_last l spent files finding None → Parts root s t old mid from mid_last (l ∷ ls) spent files finding 1 true
+  pub parts_ended : Turn root part s t old mid from mid_last l spent files finding None → Parts root part s t old mid from mid_last (l ∷ ls) spent files finding 1 true
   parts_ended h =
-      let none : due root mid_last ≡ [] = first_none (due root mid_last) h.next_is in
-      let split : items_at root h.took.trail (due root from) ≡ items_at root h.took.trail h.took.done ++ items_at root h.took.trail (due root mid_last) = ap (items_at root h.took.trail) h.took.due_are ∙ items_append root h.took.trail h.took.done (due root mid_last) in
-      let is_cut : cut (items_at root h.took.trail (due root from)) l ≡ items_at root h.took.trail h.took.done = ap (λ is. cut is l) split ∙ cut_of_paid l _ _ h.paid h.stops in
-      let is_left : left (items_at root h.took.trail (due root from)) l ≡ [] = ap (λ is. left is l) split ∙ left_of_paid l _ _ h.paid h.stops ∙ ap (items_at root h.took.trail) none ∙ no_items root h.took.trail in
-      let are : runs (items_at root h.took.trail (due root from)) (l ∷ ls) ≡ cut (items_at root h.took.trail (due root from)) l ∷ [] = ap (λ xs. cut (items_at root h.took.trail (due root from)) l ∷ runs_after ls xs) is_left ∙ ap (λ xs. cut (items_at root h.took.trail (due root from)) l ∷ xs) (runs_end ls) in
+      let none : due_within root part mid_last ≡ [] = first_none (due_within root part mid_last) h.next_is in
+      let split : items_at root h.took.trail (due_within root part from) ≡ items_at root h.took.trail h.took.done ++ items_at root h.took.trail (due_within root part mid_last) = ap (items_at root h.took.trail) h.took.due_are ∙ items_append root h.took.trail h.took.done (due_within root part mid_last) in
+      let is_cut : cut (items_at root h.took.trail (due_within root part from)) l ≡ items_at root h.took.trail h.took.done = ap (λ is. cut is l) split ∙ cut_of_paid l _ _ h.paid h.stops in
+      let is_left : left (items_at root h.took.trail (due_within root part from)) l ≡ [] = ap (λ is. left is l) split ∙ left_of_paid l _ _ h.paid h.stops ∙ ap (items_at root h.took.trail) none ∙ no_items root h.took.trail in
+      let are : runs (items_at root h.took.trail (due_within root part from)) (l ∷ ls) ≡ cut (items_at root h.took.trail (due_within root part from)) l ∷ [] = ap (λ xs. cut (items_at root h.took.trail (due_within root part from)) l ∷ runs_after ls xs) is_left ∙ ap (λ xs. cut (items_at root h.took.trail (due_within root part from)) l ∷ xs) (runs_end ls) in
       record {
         took = h.took;
         runs_are = ap joined are ∙ append-nil _ ∙ is_cut;
         count_is = sym (ap length are);
         read = record { none = λ e. absurd (omega (arith, e)); some = λ e. let r = h.read in omega (arith, r) };
-        ended_is = sym (none_empty (due root mid_last) none);
+        ended_is = sym (none_empty (due_within root part mid_last) none);
+        made = λ e. omega arith;
       }
 
   -- it stopped
-  pub parts_stopped : (why : Fault) → RunStops root s t old mid from mid_last l spent files finding why → PartsStop root s t old mid from mid_last (l ∷ ls) spent files finding 1 why
+  pub parts_stopped : (why : Fault) → RunStopsWithin root s t old mid part from mid_last l spent files finding why → PartsStop root part s t old mid from mid_last (l ∷ ls) spent files finding 1 why
   parts_stopped why h =
       let w = h.stops in
-      let above : List Item = items_above root h.trail from in
-      let left_items : List Item = rest_of root h.trail from l in
-      let later : List (List Item) = runs_after ls (left (items_at root h.trail (due root from)) l) in
+      let above : List Item = items_above_in root h.trail part from in
+      let left_items : List Item = rest_of root h.trail part from l in
+      let later : List (List Item) = runs_after ls (left (items_at root h.trail (due_within root part from)) l) in
       let split : above ≡ w.whole ++ (w.others ++ left_items) =
       sym (cut_and_left above l) ∙ ap (λ is. is ++ left_items) w.items_are ∙ append_assoc w.whole w.others left_items in
       let done : List Place = places w.whole in
-      let done_is : w.whole ≡ items_at root h.trail done = sym (front_is root h.trail from w.whole (w.others ++ left_items) split) in
-      let next_is : due root (last_of from done) ≡ places (w.others ++ left_items) =
-      sym (places_of_items root h.trail (due root (last_of from done))) ∙ ap places (rest_is root h.trail from w.whole (w.others ++ left_items) split) in
+      let done_is : w.whole ≡ items_at root h.trail done = sym (front_is root part h.trail from w.whole (w.others ++ left_items) split) in
+      let next_is : due_within root part (last_of from done) ≡ places (w.others ++ left_items) =
+      sym (places_of_items root h.trail (due_within root part (last_of from done))) ∙ ap places (rest_is root part h.trail from w.whole (w.others ++ left_items) split) in
       let first : places w.others ≡ w.begun ++ (w.one.0 ++ places (drop 1 w.others)) =
       ap places (sym (take-append-drop 1 w.others)) ∙ map_append (λ i. i.place) (take 1 w.others) (drop 1 w.others) ∙ ap (λ ps. ps ++ places (drop 1 w.others)) w.one.1 ∙ append_assoc w.begun w.one.0 (places (drop 1 w.others)) in
       let behind : List Place = (w.one.0 ++ places (drop 1 w.others)) ++ places left_items in
-      let next_begun : due root (last_of from done) ≡ w.begun ++ behind =
+      let next_begun : due_within root part (last_of from done) ≡ w.begun ++ behind =
       next_is ∙ map_append (λ i. i.place) w.others left_items ∙ ap (λ ps. ps ++ places left_items) first ∙ append_assoc w.begun (w.one.0 ++ places (drop 1 w.others)) (places left_items) in
       record {
         done = done;
@@ -240,12 +244,12 @@ module _ (root : StorageRoot) (s t : Store) (old mid : Option (List ℕ)) (from 
         listed = h.down ++ h.listed;
         heads = h.held ++ h.heads;
         fails = h.fails;
-        due_are = due_parts root h.trail from w.whole (w.others ++ left_items) split ∙ ap (λ ps. done ++ ps) next_begun ∙ sym (append_assoc done w.begun behind);
+        due_are = due_parts root part h.trail from w.whole (w.others ++ left_items) split ∙ ap (λ ps. done ++ ps) next_begun ∙ sym (append_assoc done w.begun behind);
         last_is = w.last_is;
-        runs_begin = joined_one _ later ∙ ap (λ is. cut is l) (sym (after_is_due root h.trail from)) ∙ w.items_are ∙ ap (λ is. is ++ w.others) done_is;
-        runs_before = front_none (cut (items_at root h.trail (due root from)) l ∷ later) (items_at root h.trail done);
+        runs_begin = joined_one _ later ∙ ap (λ is. cut is l) (sym (above_in root part from h.trail)) ∙ w.items_are ∙ ap (λ is. is ++ w.others) done_is;
+        runs_before = front_none (cut (items_at root h.trail (due_within root part from)) l ∷ later) (items_at root h.trail done);
         one = w.one;
-        part = w.part;
+        gone = w.part;
         wrote = subst (λ is. Appends old mid (text is ++ w.part)) done_is w.wrote;
         part_of = w.part_of;
         count_fits = omega arith;
@@ -253,8 +257,8 @@ module _ (root : StorageRoot) (s t : Store) (old mid : Option (List ℕ)) (from 
         read = record {
           none = λ e. absurd (omega (arith, e));
           some = λ e.
-              let f = front_length h.held (holder root from) h.held_front in
-              let g = front_length h.heads (read_between root from None) h.heads_front in
+              let f = front_length h.held (holder root (entry part from)) h.held_front in
+              let g = front_length h.heads (read_in root part from None) h.heads_front in
               let m = length-append h.held h.heads in
               omega (arith, f, g, m);
         };
@@ -283,70 +287,70 @@ among_behind : (ps : List Place) (p : Place) (qs : List Place) → IsAmong (ps +
 among_behind [] p qs = inl refl
 among_behind (x ∷ ps) p qs = inr (among_behind ps p qs)
 
-module _ (root : StorageRoot) (s t : Store) (old mid : Option (List ℕ)) (from mid_last : Option Place) (l : Limits) (spent files : ℕ) (finding : Bool) (ls : List Limits) (next : Place) (h : Turn root s t old mid from mid_last l spent files finding (Some next)) where
+module _ (root : StorageRoot) (part : Part) (s t : Store) (old mid : Option (List ℕ)) (from mid_last : Option Place) (l : Limits) (spent files : ℕ) (finding : Bool) (ls : List Limits) (next : Place) (h : Turn root part s t old mid from mid_last l spent files finding (Some next)) where
   -- what is next is a hashed file
   pub record IsNext : Type 0 where
     pub behind : List Place
-    pub due_is : due root mid_last ≡ next ∷ behind
+    pub due_is : due_within root part mid_last ≡ next ∷ behind
     pub hashed : is_hashed root next ≡ true
 
   pub next_there : IsNext
   next_there =
       let spent_here : ℕ = total_cost (items_at root h.took.trail h.took.done) in
       let opened_here : ℕ = total_files (items_at root h.took.trail h.took.done) in
-      let first = first_some next (due root mid_last) h.next_is in
+      let first = first_some next (due_within root part mid_last) h.next_is in
       record { behind = first.0; due_is = first.1; hashed = stop_hashed root h.took.trail l spent_here opened_here next first.0 (subst (λ qs. IsStop l spent_here opened_here (items_at root h.took.trail qs)) first.1 h.stops) }
 
-  pub next_some : is_empty (due root mid_last) ≡ false
+  pub next_some : is_empty (due_within root part mid_last) ≡ false
   next_some = ap is_empty next_there.due_is
 
   -- what both read
-  reads_then : (heads : List Place) (count : ℕ) → ReadFew root mid_last heads count → ReadFew root from (h.took.heads ++ heads) (1 + count)
+  reads_then : (heads : List Place) (count : ℕ) → ReadFew root part mid_last heads count → ReadFew root part from (h.took.heads ++ heads) (1 + count)
   reads_then heads count k =
-      let there : IsAmong (due root from) next = subst (λ ps. IsAmong ps next) (sym (h.took.due_are ∙ ap (λ ps. h.took.done ++ ps) next_there.due_is)) (among_behind h.took.done next next_there.behind) in
-      let parts = read_parts root mid_last next next_there.behind next_there.due_is next_there.hashed from there in
+      let there : IsAmong (due_within root part from) next = subst (λ ps. IsAmong ps next) (sym (h.took.due_are ∙ ap (λ ps. h.took.done ++ ps) next_there.due_is)) (among_behind h.took.done next next_there.behind) in
+      let parts = read_parts root part mid_last next next_there.behind next_there.due_is next_there.hashed from there in
       record { none = λ e. absurd (omega (arith, e)); some = λ e. by count k.none k.some parts }
     where
-      by : (n : ℕ) → (n ≡ 0 → length heads ≡ 0) → (1 ≤ n → length heads < length (holder root mid_last) + length (read_between root mid_last None) + n)
-          → length (read_between root from (Some next)) + length (read_between root mid_last None) ≡ length (read_between root from None)
-          → length (h.took.heads ++ heads) < length (holder root from) + length (read_between root from None) + (1 + n)
+      by : (n : ℕ) → (n ≡ 0 → length heads ≡ 0) → (1 ≤ n → length heads < length (holder root (entry part mid_last)) + length (read_in root part mid_last None) + n)
+          → length (read_in root part from (Some next)) + length (read_in root part mid_last None) ≡ length (read_in root part from None)
+          → length (h.took.heads ++ heads) < length (holder root (entry part from)) + length (read_in root part from None) + (1 + n)
       by zero none some parts = let e = none refl in let r = h.read in let m = length-append h.took.heads heads in omega (arith, e, r, m, parts)
       by (suc n) none some parts =
           let e = some (omega arith) in
           let r = h.read in
           let m = length-append h.took.heads heads in
-          let one = holder_one root mid_last in
+          let one = holder_one root (entry part mid_last) in
           omega (arith, e, r, m, one, parts)
 
   module _ (u : Store) (new : Option (List ℕ)) (last : Option Place) (spent' files' : ℕ) (finding' : Bool) (count : ℕ) where
     -- at a trail that goes on over places that follow, the runs are the first cut and those of the rest
-    runs_then : (os : List Opening) (ps rest : List Place) → content_trail root os ≡ hashed_among root ps → due root mid_last ≡ ps ++ rest
-        → runs (items_at root (h.took.trail ++ os) (due root from)) (l ∷ ls) ≡ items_at root h.took.trail h.took.done ∷ runs (items_at root os (due root mid_last)) ls
+    runs_then : (os : List Opening) (ps rest : List Place) → content_trail root os ≡ hashed_among root ps → due_within root part mid_last ≡ ps ++ rest
+        → runs (items_at root (h.took.trail ++ os) (due_within root part from)) (l ∷ ls) ≡ items_at root h.took.trail h.took.done ∷ runs (items_at root os (due_within root part mid_last)) ls
     runs_then os ps rest opened is =
-        let up : IsAscending place_cmp (h.took.done ++ due root mid_last) = subst (IsAscending place_cmp) h.took.due_are (due_ascends root from) in
+        let up : IsAscending place_cmp (h.took.done ++ due_within root part mid_last) = subst (IsAscending place_cmp) h.took.due_are (due_within_ascends root part from) in
         let up_front : IsAscending place_cmp (h.took.done ++ ps) = ascends_left place_cmp (h.took.done ++ ps) rest (subst (IsAscending place_cmp) (ap (λ qs. h.took.done ++ qs) is ∙ sym (append_assoc h.took.done ps rest)) up) in
         let first : items_at root (h.took.trail ++ os) h.took.done ≡ items_at root h.took.trail h.took.done = items_before root h.took.trail os h.took.done ps up_front opened in
-        let then : items_at root (h.took.trail ++ os) (due root mid_last) ≡ items_at root os (due root mid_last) = items_behind root h.took.trail os h.took.done (due root mid_last) up h.took.audits.opened in
-        let split : items_at root (h.took.trail ++ os) (due root from) ≡ items_at root h.took.trail h.took.done ++ items_at root os (due root mid_last) =
-        ap (items_at root (h.took.trail ++ os)) h.took.due_are ∙ items_append root (h.took.trail ++ os) h.took.done (due root mid_last) ∙ ap (λ is. is ++ items_at root (h.took.trail ++ os) (due root mid_last)) first ∙ ap (λ is. items_at root h.took.trail h.took.done ++ is) then in
-        let stop = stop_alike root h.took.trail os l _ _ (due root mid_last) h.stops in
-        let some : is_empty (items_at root os (due root mid_last)) ≡ false = ap (λ qs. is_empty (items_at root os qs)) next_there.due_is ∙ some_items root os next next_there.behind in
+        let then : items_at root (h.took.trail ++ os) (due_within root part mid_last) ≡ items_at root os (due_within root part mid_last) = items_behind root h.took.trail os h.took.done (due_within root part mid_last) up h.took.audits.opened in
+        let split : items_at root (h.took.trail ++ os) (due_within root part from) ≡ items_at root h.took.trail h.took.done ++ items_at root os (due_within root part mid_last) =
+        ap (items_at root (h.took.trail ++ os)) h.took.due_are ∙ items_append root (h.took.trail ++ os) h.took.done (due_within root part mid_last) ∙ ap (λ is. is ++ items_at root (h.took.trail ++ os) (due_within root part mid_last)) first ∙ ap (λ is. items_at root h.took.trail h.took.done ++ is) then in
+        let stop = stop_alike root h.took.trail os l _ _ (due_within root part mid_last) h.stops in
+        let some : is_empty (items_at root os (due_within root part mid_last)) ≡ false = ap (λ qs. is_empty (items_at root os qs)) next_there.due_is ∙ some_items root os next next_there.behind in
         ap (λ is. runs is (l ∷ ls)) split
-        ∙ ap (λ xs. xs ∷ runs_after ls (left (items_at root h.took.trail h.took.done ++ items_at root os (due root mid_last)) l)) (cut_of_paid l _ _ h.paid stop)
+        ∙ ap (λ xs. xs ∷ runs_after ls (left (items_at root h.took.trail h.took.done ++ items_at root os (due_within root part mid_last)) l)) (cut_of_paid l _ _ h.paid stop)
         ∙ ap (λ xs. items_at root h.took.trail h.took.done ∷ runs_after ls xs) (left_of_paid l _ _ h.paid stop)
-        ∙ ap (λ xs. items_at root h.took.trail h.took.done ∷ xs) (runs_go_on (items_at root os (due root mid_last)) ls some)
+        ∙ ap (λ xs. items_at root h.took.trail h.took.done ∷ xs) (runs_go_on (items_at root os (due_within root part mid_last)) ls some)
 
-    parts_then : (ended : Bool) → Parts root t u mid new mid_last last ls spent' files' finding' count ended
-        → Parts root s u old new from last (l ∷ ls) (spent + spent') (files + files') (finding || finding') (1 + count) ended
+    parts_then : (ended : Bool) → Parts root part t u mid new mid_last last ls spent' files' finding' count ended
+        → Parts root part s u old new from last (l ∷ ls) (spent + spent') (files + files') (finding || finding') (1 + count) ended
     parts_then ended k =
         let a = h.took in
         let b = k.took in
-        let due_are : due root from ≡ (a.done ++ b.done) ++ due root last = a.due_are ∙ ap (λ qs. a.done ++ qs) b.due_are ∙ sym (append_assoc a.done b.done (due root last)) in
-        let up : IsAscending place_cmp (a.done ++ b.done) = ascends_left place_cmp (a.done ++ b.done) (due root last) (subst (IsAscending place_cmp) due_are (due_ascends root from)) in
+        let due_are : due_within root part from ≡ (a.done ++ b.done) ++ due_within root part last = a.due_are ∙ ap (λ qs. a.done ++ qs) b.due_are ∙ sym (append_assoc a.done b.done (due_within root part last)) in
+        let up : IsAscending place_cmp (a.done ++ b.done) = ascends_left place_cmp (a.done ++ b.done) (due_within root part last) (subst (IsAscending place_cmp) due_are (due_within_ascends root part from)) in
         let first : List Item = items_at root a.trail a.done in
         let second : List Item = items_at root b.trail b.done in
         let same : items_at root (a.trail ++ b.trail) (a.done ++ b.done) ≡ first ++ second = items_then root a.trail b.trail a.done b.done up a.audits.opened b.audits.opened in
-        let are = runs_then b.trail b.done (due root last) b.audits.opened b.due_are in
+        let are = runs_then b.trail b.done (due_within root part last) b.audits.opened b.due_are in
         record {
           took = record {
             done = a.done ++ b.done;
@@ -360,17 +364,18 @@ module _ (root : StorageRoot) (s t : Store) (old mid : Option (List ℕ)) (from 
             figures = figures_then same a.figures b.figures;
           };
           runs_are = ap joined are ∙ ap (λ is. first ++ is) k.runs_are ∙ sym same;
-          count_is = let n : length (runs (items_at root (a.trail ++ b.trail) (due root from)) (l ∷ ls)) ≡ suc (length (runs (items_at root b.trail (due root mid_last)) ls)) = ap length are in let c = k.count_is in omega (arith, n, c);
+          count_is = let n : length (runs (items_at root (a.trail ++ b.trail) (due_within root part from)) (l ∷ ls)) ≡ suc (length (runs (items_at root b.trail (due_within root part mid_last)) ls)) = ap length are in let c = k.count_is in omega (arith, n, c);
           read = reads_then b.heads count k.read;
           ended_is = k.ended_is;
+          made = λ e. omega arith;
         }
 
-    stops_then : (why : Fault) → PartsStop root t u mid new mid_last last ls spent' files' finding' count why
-        → PartsStop root s u old new from last (l ∷ ls) (spent + spent') (files + files') (finding || finding') (1 + count) why
+    stops_then : (why : Fault) → PartsStop root part t u mid new mid_last last ls spent' files' finding' count why
+        → PartsStop root part s u old new from last (l ∷ ls) (spent + spent') (files + files') (finding || finding') (1 + count) why
     stops_then why k =
         let both : (h.took.done ++ k.done) ++ k.begun ≡ h.took.done ++ (k.done ++ k.begun) = append_assoc h.took.done k.done k.begun in
-        let due_are : due root from ≡ (h.took.done ++ (k.done ++ k.begun)) ++ k.rest = h.took.due_are ∙ ap (λ qs. h.took.done ++ qs) k.due_are ∙ sym (append_assoc h.took.done (k.done ++ k.begun) k.rest) in
-        let all_up : IsAscending place_cmp (h.took.done ++ (k.done ++ k.begun)) = ascends_left place_cmp (h.took.done ++ (k.done ++ k.begun)) k.rest (subst (IsAscending place_cmp) due_are (due_ascends root from)) in
+        let due_are : due_within root part from ≡ (h.took.done ++ (k.done ++ k.begun)) ++ k.rest = h.took.due_are ∙ ap (λ qs. h.took.done ++ qs) k.due_are ∙ sym (append_assoc h.took.done (k.done ++ k.begun) k.rest) in
+        let all_up : IsAscending place_cmp (h.took.done ++ (k.done ++ k.begun)) = ascends_left place_cmp (h.took.done ++ (k.done ++ k.begun)) k.rest (subst (IsAscending place_cmp) due_are (due_within_ascends root part from)) in
         let up : IsAscending place_cmp (h.took.done ++ k.done) = ascends_left place_cmp (h.took.done ++ k.done) k.begun (subst (IsAscending place_cmp) (sym both) all_up) in
         let first : List Item = items_at root h.took.trail h.took.done in
         let second : List Item = items_at root k.trail k.done in
@@ -378,10 +383,10 @@ module _ (root : StorageRoot) (s t : Store) (old mid : Option (List ℕ)) (from 
         let behind : items_at root (h.took.trail ++ k.trail) k.done ≡ second = items_behind root h.took.trail k.trail h.took.done k.done up h.took.audits.opened in
         let same : items_at root (h.took.trail ++ k.trail) (h.took.done ++ k.done) ≡ first ++ second =
         items_append root (h.took.trail ++ k.trail) h.took.done k.done ∙ ap (λ is. is ++ items_at root (h.took.trail ++ k.trail) k.done) before ∙ ap (λ is. first ++ is) behind in
-        let later : List (List Item) = runs (items_at root k.trail (due root mid_last)) ls in
+        let later : List (List Item) = runs (items_at root k.trail (due_within root part mid_last)) ls in
         let are = runs_then k.trail (k.done ++ k.begun) k.rest k.fails.opened k.due_are in
-        let texts : text first ++ (text second ++ k.part) ≡ text (items_at root (h.took.trail ++ k.trail) (h.took.done ++ k.done)) ++ k.part =
-        sym (append_assoc (text first) (text second) k.part) ∙ ap (λ xs. xs ++ k.part) (sym (text_append first second) ∙ ap text (sym same)) in
+        let texts : text first ++ (text second ++ k.gone) ≡ text (items_at root (h.took.trail ++ k.trail) (h.took.done ++ k.done)) ++ k.gone =
+        sym (append_assoc (text first) (text second) k.gone) ∙ ap (λ xs. xs ++ k.gone) (sym (text_append first second) ∙ ap text (sym same)) in
         record {
           done = h.took.done ++ k.done;
           begun = k.begun;
@@ -395,19 +400,19 @@ module _ (root : StorageRoot) (s t : Store) (old mid : Option (List ℕ)) (from 
           due_are = due_are ∙ ap (λ qs. qs ++ k.rest) (sym both);
           last_is = k.last_is ∙ ap (λ x. last_of x k.done) h.took.last_is ∙ last_then from h.took.done k.done;
           runs_begin = ap (λ xs. joined (take (1 + count) xs)) are ∙ joined_more count first later ∙ ap (λ is. first ++ is) k.runs_begin ∙ sym (append_assoc first second k.others) ∙ ap (λ is. is ++ k.others) (sym same);
-          runs_before = subst (IsFront (joined (take (1 + count - 1) (runs (items_at root (h.took.trail ++ k.trail) (due root from)) (l ∷ ls))))) (sym same)
+          runs_before = subst (IsFront (joined (take (1 + count - 1) (runs (items_at root (h.took.trail ++ k.trail) (due_within root part from)) (l ∷ ls))))) (sym same)
               (subst (λ xs. IsFront (joined (take (1 + count - 1) xs)) (first ++ second)) (sym are) (front_more count first later second k.runs_before));
           one = k.one;
-          part = k.part;
+          gone = k.gone;
           wrote = subst (Appends old new) texts (Appends-trans old mid new _ _ h.took.wrote k.wrote);
           part_of = k.part_of;
-          count_fits = let n : length (runs (items_at root (h.took.trail ++ k.trail) (due root from)) (l ∷ ls)) ≡ suc (length (runs (items_at root k.trail (due root mid_last)) ls)) = ap length are in let c = k.count_fits in omega (arith, n, c);
+          count_fits = let n : length (runs (items_at root (h.took.trail ++ k.trail) (due_within root part from)) (l ∷ ls)) ≡ suc (length (runs (items_at root k.trail (due_within root part mid_last)) ls)) = ap length are in let c = k.count_fits in omega (arith, n, c);
           figures = figures_then same h.took.figures k.figures;
           read = reads_then k.heads count k.read;
         }
 
-    pub ends_then : (end : CycleStatus) → PartsEnd root t u mid new mid_last last ls spent' files' finding' count end
-        → PartsEnd root s u old new from last (l ∷ ls) (spent + spent') (files + files') (finding || finding') (1 + count) end
+    pub ends_then : (end : CycleStatus) → PartsEnd root part t u mid new mid_last last ls spent' files' finding' count end
+        → PartsEnd root part s u old new from last (l ∷ ls) (spent + spent') (files + files') (finding || finding') (1 + count) end
     ends_then Ended k = parts_then true k
     ends_then Spent k = parts_then false k
     ends_then (Stopped why) k = stops_then why k

@@ -6,15 +6,16 @@ use Rattle.std.specs.declared.cmp.Ordering.TheVariants.{Less}
 use Rattle.ocfl_tree.specs.StorageRoot.{StorageRoot}
 use Rattle.ocfl_tree.proofs.Orders.{place_cmp_total}
 use Rattle.ocfl_audit.specs.Zone.{Zone, skipped, hierarchy, inside, zone}
-use Rattle.ocfl_audit.specs.Between.{IsBeyond, looked_between, read_between}
+use Rattle.ocfl_audit.specs.Between.{IsBeyond}
+use Rattle.ocfl_audit.specs.Parts.{Part}
 use Rattle.ocfl_audit.specs.Trail.{reads_inventory}
 use Rattle.ocfl_audit.proofs.AuditExists.{zone_is}
 use Rattle.ocfl_audit.proofs.BelowLaws.{cmp_behind, above_self, from_append, ascends_append}
-use Rattle.ocfl_audit.proofs.BetweenLaws.{from_between}
 use Rattle.ocfl_item.specs.Looking.{way_to, IsFront}
 use Rattle.ocfl_walk.specs.WalkCalls.{holder_of, way_of, holder}
 use Rattle.ocfl_scrub.proofs.Lists.{map_append, ascends_left, ascends_across}
-use Rattle.ocfl_scrub.proofs.OrderLaws.{looked_ascend, read_ascend}
+use Rattle.ocfl_scrub.specs.Starting.{entry, looked_in, read_in}
+use Rattle.ocfl_scrub.proofs.PartStarts.{looked_in_ascends, read_in_ascends, looked_in_beyond, read_in_beyond}
 
 -- ---- the way to a place
 
@@ -91,14 +92,6 @@ holder_up_to root p x i = by (zone root p) refl i
 
 -- ---- and what lies above it
 
-looked_beyond : (root : StorageRoot) (from to : Option Place) (y : Place) → IsAmong (looked_between root from to) y → IsBeyond from y
-unfolding looked_between
-looked_beyond root from to y i = (from_between _ from to y i).1
-
-read_beyond : (root : StorageRoot) (from to : Option Place) (y : Place) → IsAmong (read_between root from to) y → IsBeyond from y
-unfolding read_between
-read_beyond root from to y i = (from_between _ from to y i).1
-
 front_of_none : (xs : List Place) → IsFront xs [] → xs ≡ []
 front_of_none [] f = refl
 front_of_none (x ∷ xs) f = absurd (let e = f.1 in cc)
@@ -117,17 +110,25 @@ joined_ascends p front way rest f up low k far =
 front_ascends : (whole xs : List Place) → IsFront xs whole → IsAscending place_cmp whole → IsAscending place_cmp xs
 front_ascends whole xs f h = ascends_left place_cmp xs f.0 (subst (IsAscending place_cmp) f.1 h)
 
-module _ (root : StorageRoot) where
-  -- the directories on the way to a place, and then those above it
-  pub listed_once : (from to : Option Place) (down listed : List Place) → IsFront down (way_of from) → IsFront listed (looked_between root from to) → IsAscending place_cmp (down ++ listed)
-  listed_once None to down listed f g = subst (λ xs. IsAscending place_cmp (xs ++ listed)) (sym (front_of_none down f)) (front_ascends _ listed g (looked_ascend root None to))
-  listed_once (Some p) to down listed f g =
-      joined_ascends p down (way_to p) listed f (way_ascends p) (way_up_to p) (front_ascends _ listed g (looked_ascend root (Some p) to))
-      (λ y j. looked_beyond root (Some p) to y (subst (λ zs. IsAmong zs y) (sym g.1) (left_among listed g.0 y j)))
+-- the directories on the way to a place, and then others above it
+listed_then : (from : Option Place) (down listed : List Place) → IsFront down (way_of from) → IsAscending place_cmp listed → ((y : Place) → IsAmong listed y → IsBeyond from y) → IsAscending place_cmp (down ++ listed)
+listed_then None down listed f up far = subst (λ xs. IsAscending place_cmp (xs ++ listed)) (sym (front_of_none down f)) up
+listed_then (Some p) down listed f up far = joined_ascends p down (way_to p) listed f (way_ascends p) (way_up_to p) up far
 
-  -- the object that holds a place, and then those above it
-  pub read_once : (from to : Option Place) (held heads : List Place) → IsFront held (holder root from) → IsFront heads (read_between root from to) → IsAscending place_cmp (held ++ heads)
-  read_once None to held heads f g = subst (λ xs. IsAscending place_cmp (xs ++ heads)) (sym (front_of_none held f)) (front_ascends _ heads g (read_ascend root None to))
-  read_once (Some p) to held heads f g =
-      joined_ascends p held (holder root (Some p)) heads f (holder_ascends root (zone root p)) (holder_up_to root p) (front_ascends _ heads g (read_ascend root (Some p) to))
-      (λ y j. read_beyond root (Some p) to y (subst (λ zs. IsAmong zs y) (sym g.1) (left_among heads g.0 y j)))
+-- the object that holds a place, and then others above it
+read_then : (root : StorageRoot) (from : Option Place) (held heads : List Place) → IsFront held (holder root from) → IsAscending place_cmp heads → ((y : Place) → IsAmong heads y → IsBeyond from y) → IsAscending place_cmp (held ++ heads)
+read_then root None held heads f up far = subst (λ xs. IsAscending place_cmp (xs ++ heads)) (sym (front_of_none held f)) up
+read_then root (Some p) held heads f up far = joined_ascends p held (holder root (Some p)) heads f (holder_ascends root (zone root p)) (holder_up_to root p) up far
+
+-- ---- of a part
+
+module _ (root : StorageRoot) (part : Part) (from to : Option Place) where
+  pub listed_once_in : (down listed : List Place) → IsFront down (way_of (entry part from)) → IsFront listed (looked_in root part from to) → IsAscending place_cmp (down ++ listed)
+  listed_once_in down listed f g =
+      listed_then (entry part from) down listed f (front_ascends _ listed g (looked_in_ascends root part from to))
+      (λ y j. looked_in_beyond root part from to y (subst (λ zs. IsAmong zs y) (sym g.1) (left_among listed g.0 y j)))
+
+  pub read_once_in : (held heads : List Place) → IsFront held (holder root (entry part from)) → IsFront heads (read_in root part from to) → IsAscending place_cmp (held ++ heads)
+  read_once_in held heads f g =
+      read_then root (entry part from) held heads f (front_ascends _ heads g (read_in_ascends root part from to))
+      (λ y j. read_in_beyond root part from to y (subst (λ zs. IsAmong zs y) (sym g.1) (left_among heads g.0 y j)))

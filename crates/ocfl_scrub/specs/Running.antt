@@ -1,4 +1,4 @@
--- What one run does: it takes what lies above its cursor's place, as far as its limits allow.
+-- What one run does: of a part of a storage root it takes what lies above its cursor's place, as far as its limits allow.
 use Rattle.std.specs.Prelude.{◌≡◌, ◌≢◌, ◌<◌, ◌≤◌, ◌+◌, ◌==◌, ◌^◌, ℕ, List, [], ◌∷◌, ◌++◌, Bool, Option, Some, None, length, if◌then◌else◌, ⊤}
 use Rattle.std.specs.Io.KnownBytes.{Appends}
 use Rattle.ocfl_tree.specs.Place.{Place, place_cmp}
@@ -10,7 +10,7 @@ use Rattle.ocfl_report.specs.Line.{Item}
 use Rattle.ocfl_report.specs.Text.{text}
 use Rattle.ocfl_audit.specs.Audit.{audit, after}
 use Rattle.ocfl_audit.specs.Trail.{unread_of}
-use Rattle.ocfl_audit.specs.Between.{looked_between, read_between}
+use Rattle.ocfl_audit.specs.Parts.{Part, whole, within}
 use Rattle.ocfl_audit.specs.Runs.{Limits, sum_of, cut, left}
 use Rattle.ocfl_cursor.specs.Cursor.{State, start, behind, ended, Cursor}
 use Rattle.ocfl_cursor.specs.Meter.{max_cost}
@@ -20,6 +20,7 @@ use Rattle.ocfl_item.specs.Looking.{IsFront}
 use Rattle.ocfl_item.specs.Auditing.{Audits, Fails}
 use Rattle.ocfl_walk.specs.WalkCalls.{way_of, holder}
 use Rattle.ocfl_item.specs.declared.fault.Fault.{Fault}
+use Rattle.ocfl_scrub.specs.Starting.{entry, looked_in, read_in}
 use Rattle.ocfl_scrub.specs.Written.{places, last_of, Figures, StopsWithin}
 use Rattle.ocfl_scrub.specs.declared.running.RunStatus.{RunStatus}
 use Rattle.ocfl_scrub.specs.declared.running.RunStatus.TheVariants as status
@@ -102,61 +103,94 @@ abbrev pub last_cost : List Item → ℕ
 last_cost [] = 0
 last_cost (i ∷ items) = if last_cost items == 0 then i.cost else last_cost items
 
--- from s to t a run took the cut of its limits. Each hashed file of it was opened once, in order. Listed were the first directories on the way to the place above which it began, and those from there to the first item that is left; read were at most the inventory of the object that holds that place, and those from there on. What was spent passes the budget by less than the last file's cost
-pub record Runs (root : StorageRoot) (s t : Store) (old new : Option (List ℕ)) (from last : Option Place) (limits : Limits) (spent files : ℕ) (finding : Bool) (next : Option Place) : Type 0 where
+-- ---- of a part
+
+-- the items of a part above a place
+abbrev pub items_above_in : StorageRoot → List Opening → Part → Option Place → List Item
+items_above_in root trail part from = after (within part (audit root (unread_of root trail))) from
+
+-- those of them that the limits allow, and those that they leave
+abbrev pub taken_in : StorageRoot → List Opening → Part → Option Place → Limits → List Item
+taken_in root trail part from limits = cut (items_above_in root trail part from) limits
+
+abbrev pub rest_in : StorageRoot → List Opening → Part → Option Place → Limits → List Item
+rest_in root trail part from limits = left (items_above_in root trail part from) limits
+
+-- from s to t a run took the cut of its limits from a part. Each hashed file of it was opened once, in order. Listed were the first directories on the way down to where it began, and those of the part from there to the first item that is left; read were at most the inventory of the object that holds the place where it began, and those of the part from there on. What was spent passes the budget by less than the last file's cost
+pub record RunsWithin (root : StorageRoot) (s t : Store) (old new : Option (List ℕ)) (part : Part) (from last : Option Place) (limits : Limits) (spent files : ℕ) (finding : Bool) (next : Option Place) : Type 0 where
   pub trail : List Opening
   pub down : List Place
   pub held : List Place
-  pub audits : Audits root s t (places (taken root trail from limits)) (down ++ looked_between root from next) (held ++ read_between root from next) trail
-  pub down_front : IsFront down (way_of from)
-  pub held_front : IsFront held (holder root from)
-  pub lists_once : IsAscending place_cmp (down ++ looked_between root from next)
-  pub reads_once : IsAscending place_cmp (held ++ read_between root from next)
-  pub wrote : Appends old new (text (taken root trail from limits))
-  pub figures : Figures (taken root trail from limits) spent files finding
-  pub last_is : last ≡ last_of from (places (taken root trail from limits))
-  pub next_is : next ≡ first_of (rest root trail from limits)
-  pub overrun : 0 < spent → spent < limits.budget + last_cost (taken root trail from limits)
+  pub audits : Audits root s t (places (taken_in root trail part from limits)) (down ++ looked_in root part from next) (held ++ read_in root part from next) trail
+  pub down_front : IsFront down (way_of (entry part from))
+  pub held_front : IsFront held (holder root (entry part from))
+  pub lists_once : IsAscending place_cmp (down ++ looked_in root part from next)
+  pub reads_once : IsAscending place_cmp (held ++ read_in root part from next)
+  pub wrote : Appends old new (text (taken_in root trail part from limits))
+  pub figures : Figures (taken_in root trail part from limits) spent files finding
+  pub last_is : last ≡ last_of from (places (taken_in root trail part from limits))
+  pub next_is : next ≡ first_of (rest_in root trail part from limits)
+  pub overrun : 0 < spent → spent < limits.budget + last_cost (taken_in root trail part from limits)
+
+-- the same of the whole
+abbrev pub Runs : StorageRoot → Store → Store → Option (List ℕ) → Option (List ℕ) → Option Place → Option Place → Limits → ℕ → ℕ → Bool → Option Place → Type 0
+Runs root s t old new from last limits spent files finding next = RunsWithin root s t old new whole from last limits spent files finding next
 
 -- from s to t a run stopped: the first items of the cut went out whole, and of the next at most a proper beginning
-pub record RunStops (root : StorageRoot) (s t : Store) (old new : Option (List ℕ)) (from last : Option Place) (limits : Limits) (spent files : ℕ) (finding : Bool) (why : Fault) : Type 0 where
+pub record RunStopsWithin (root : StorageRoot) (s t : Store) (old new : Option (List ℕ)) (part : Part) (from last : Option Place) (limits : Limits) (spent files : ℕ) (finding : Bool) (why : Fault) : Type 0 where
   pub trail : List Opening
-  pub stops : StopsWithin (taken root trail from limits) old new from last why
+  pub stops : StopsWithin (taken_in root trail part from limits) old new from last why
   pub figures : Figures stops.whole spent files finding
   pub down : List Place
   pub listed : List Place
   pub held : List Place
   pub heads : List Place
   pub fails : Fails root s t (places stops.whole ++ stops.begun) (down ++ listed) (held ++ heads) trail why
-  pub down_front : IsFront down (way_of from)
-  pub listed_front : IsFront listed (looked_between root from None)
-  pub held_front : IsFront held (holder root from)
-  pub heads_front : IsFront heads (read_between root from None)
+  pub down_front : IsFront down (way_of (entry part from))
+  pub listed_front : IsFront listed (looked_in root part from None)
+  pub held_front : IsFront held (holder root (entry part from))
+  pub heads_front : IsFront heads (read_in root part from None)
   pub lists_once : IsAscending place_cmp (down ++ listed)
   pub reads_once : IsAscending place_cmp (held ++ heads)
 
+abbrev pub RunStops : StorageRoot → Store → Store → Option (List ℕ) → Option (List ℕ) → Option Place → Option Place → Limits → ℕ → ℕ → Bool → Fault → Type 0
+RunStops root s t old new from last limits spent files finding why = RunStopsWithin root s t old new whole from last limits spent files finding why
+
+abbrev pub RunEndsWithin : StorageRoot → Store → Store → Option (List ℕ) → Option (List ℕ) → Part → Option Place → Option Place → Limits → ℕ → ℕ → Bool → RunStatus → Type 0
+RunEndsWithin root s t old new part from last limits spent files finding status.Ended = RunsWithin root s t old new part from last limits spent files finding None
+RunEndsWithin root s t old new part from last limits spent files finding status.Spent = (next : Place) × RunsWithin root s t old new part from last limits spent files finding (Some next)
+RunEndsWithin root s t old new part from last limits spent files finding (status.Stopped why) = RunStopsWithin root s t old new part from last limits spent files finding why
+RunEndsWithin root s t old new part from last limits spent files finding status.Worn = ⊥
+
 abbrev pub RunEnds : StorageRoot → Store → Store → Option (List ℕ) → Option (List ℕ) → Option Place → Option Place → Limits → ℕ → ℕ → Bool → RunStatus → Type 0
-RunEnds root s t old new from last limits spent files finding status.Ended = Runs root s t old new from last limits spent files finding None
-RunEnds root s t old new from last limits spent files finding status.Spent = (next : Place) × Runs root s t old new from last limits spent files finding (Some next)
-RunEnds root s t old new from last limits spent files finding (status.Stopped why) = RunStops root s t old new from last limits spent files finding why
-RunEnds root s t old new from last limits spent files finding status.Worn = ⊥
+RunEnds root s t old new from last limits spent files finding end = RunEndsWithin root s t old new whole from last limits spent files finding end
+
+-- from s to t a run of a part from one cursor led to another
+pub record RunsFromWithin (root : StorageRoot) (s t : Store) (old new : Option (List ℕ)) (part : Part) (c : Cursor) (limits : Limits) (reached : Cursor) (spent files : ℕ) (finding : Bool) (end : RunStatus) : Type 0 where
+  pub last : Option Place
+  pub run : RunEndsWithin root s t old new part (place_in c.state) last limits spent files finding end
+  pub cursor_is : reached ≡ after_run (begun c) spent files (state_after end last)
 
 -- from s to t a run from one cursor led to another
-pub record RunsFrom (root : StorageRoot) (s t : Store) (old new : Option (List ℕ)) (c : Cursor) (limits : Limits) (reached : Cursor) (spent files : ℕ) (finding : Bool) (end : RunStatus) : Type 0 where
-  pub last : Option Place
-  pub run : RunEnds root s t old new (place_in c.state) last limits spent files finding end
-  pub cursor_is : reached ≡ after_run (begun c) spent files (state_after end last)
+abbrev pub RunsFrom : StorageRoot → Store → Store → Option (List ℕ) → Option (List ℕ) → Cursor → Limits → Cursor → ℕ → ℕ → Bool → RunStatus → Type 0
+RunsFrom root s t old new c limits reached spent files finding end = RunsFromWithin root s t old new whole c limits reached spent files finding end
 
 -- ---- where no failure was counted
 
 -- the text and the figures of a run are those of the cut of the audit of files that can all be read
-pub record RunsClean (root : StorageRoot) (old new : Option (List ℕ)) (from : Option Place) (limits : Limits) (spent files : ℕ) (finding : Bool) : Type 0 where
-  pub wrote : Appends old new (text (cut (after (audit root []) from) limits))
-  pub figures : Figures (cut (after (audit root []) from) limits) spent files finding
+pub record RunsCleanWithin (root : StorageRoot) (old new : Option (List ℕ)) (part : Part) (from : Option Place) (limits : Limits) (spent files : ℕ) (finding : Bool) : Type 0 where
+  pub wrote : Appends old new (text (cut (after (within part (audit root [])) from) limits))
+  pub figures : Figures (cut (after (within part (audit root [])) from) limits) spent files finding
+
+abbrev pub RunsClean : StorageRoot → Option (List ℕ) → Option (List ℕ) → Option Place → Limits → ℕ → ℕ → Bool → Type 0
+RunsClean root old new from limits spent files finding = RunsCleanWithin root old new whole from limits spent files finding
 
 -- and it ended with the cycle exactly where it left nothing
+abbrev pub RunsCleanlyWithin : StorageRoot → Option (List ℕ) → Option (List ℕ) → Part → Cursor → Limits → ℕ → ℕ → Bool → RunStatus → Type 0
+RunsCleanlyWithin root old new part c limits spent files finding status.Ended = RunsCleanWithin root old new part (place_in c.state) limits spent files finding × (left (after (within part (audit root [])) (place_in c.state)) limits ≡ [])
+RunsCleanlyWithin root old new part c limits spent files finding status.Spent = RunsCleanWithin root old new part (place_in c.state) limits spent files finding × (left (after (within part (audit root [])) (place_in c.state)) limits ≢ [])
+RunsCleanlyWithin root old new part c limits spent files finding (status.Stopped why) = ⊤
+RunsCleanlyWithin root old new part c limits spent files finding status.Worn = ⊤
+
 abbrev pub RunsCleanly : StorageRoot → Option (List ℕ) → Option (List ℕ) → Cursor → Limits → ℕ → ℕ → Bool → RunStatus → Type 0
-RunsCleanly root old new c limits spent files finding status.Ended = RunsClean root old new (place_in c.state) limits spent files finding × (left (after (audit root []) (place_in c.state)) limits ≡ [])
-RunsCleanly root old new c limits spent files finding status.Spent = RunsClean root old new (place_in c.state) limits spent files finding × (left (after (audit root []) (place_in c.state)) limits ≢ [])
-RunsCleanly root old new c limits spent files finding (status.Stopped why) = ⊤
-RunsCleanly root old new c limits spent files finding status.Worn = ⊤
+RunsCleanly root old new c limits spent files finding end = RunsCleanlyWithin root old new whole c limits spent files finding end

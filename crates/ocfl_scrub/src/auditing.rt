@@ -1,4 +1,4 @@
-//! The audit of a whole storage root.
+//! The audit of a storage root, or of a part of it.
 ghost use Rattle.std.specs.Prelude.{◌≡◌, ◌≢◌, ◌||◌, [], None, false, IsTrue};
 ghost use Rattle.std.specs.Io.KnownBytes.{Appends};
 ghost use Rattle.ocfl_tree.specs.StorageRoot.{StorageRoot};
@@ -7,13 +7,16 @@ ghost use Rattle.ocfl_report.specs.Text.{text};
 ghost use Rattle.ocfl_audit.specs.Audit.{audit as whole_audit};
 ghost use Rattle.ocfl_item.specs.Judging.{HasShortFiles};
 ghost use Rattle.ocfl_scrub.specs.Taking.{WritesLines};
-ghost use Rattle.ocfl_scrub.specs.WholeAudit.{AuditEnds};
+ghost use Rattle.ocfl_audit.specs.Parts.{within};
+ghost use Rattle.ocfl_scrub.specs.Starting.{part_of};
+ghost use Rattle.ocfl_scrub.specs.WholeAudit.{AuditEnds, AuditEndsWithin};
 
 use crate::checking::End;
+use crate::part::{Part, set_out};
 use crate::taking::{either, take_item};
 use ocfl_digest::Block;
 use ocfl_tree::{Place, Tree};
-use ocfl_walk::{Fault, Walk};
+use ocfl_walk::Fault;
 use std::alloc::Global;
 use std::io::Write;
 
@@ -59,14 +62,47 @@ pub fn audit<T: Tree, W: Write>(
         → Appends (W.contents out.old) (W.contents out.new) (text (whole_audit root []))
         × (result.found ≡ found_in (whole_audit root [])) }
 {
-    let mut walk = match Walk::start(alloc, store, None) {
+    let whole = Part::whole(alloc);
+    audit_part(alloc, store, &whole, block, out)
+}
+
+/// The same of the items of a part. Nothing outside the part is listed or read but on the way down
+/// to where it begins; `last` is none where no item of the part went out whole.
+pub fn audit_part<T: Tree, W: Write>(
+    alloc: Global,
+    store: &mut T,
+    part: &Part,
+    block: &mut Block,
+    out: &mut W,
+) -> AuditEnd
+    // Of every store.
+    ensures whole { result.end ≢ End.Stopped Fault.Broken }
+    ensures lines { result.end ≢ End.Stopped Fault.Output
+        → WritesLines (W.contents out.old) (W.contents out.new) result.found }
+    ensures silent { result.last ≡ None → result.end ≢ End.Stopped Fault.Output
+        → out.new ≡ out.old }
+    ensures none_found { result.last ≡ None → result.found ≡ false }
+
+    // Of a store that tells its tree.
+    ensures told { IsTrue T.told → (root : StorageRoot) → (T.state store.old).tree ≡ root
+        → HasShortFiles root →
+        AuditEndsWithin root (T.state store.old) (T.state store.new) (W.contents out.old)
+        (W.contents out.new) (part_of part.now) result.last result.found result.end }
+    ensures unfailing { IsTrue T.told → (root : StorageRoot) → (T.state store.old).tree ≡ root
+        → HasShortFiles root → result.end ≡ End.Ended
+        → (T.state store.new).failures ≡ (T.state store.old).failures
+        → let items = within (part_of part.now) (whole_audit root []) in
+        Appends (W.contents out.old) (W.contents out.new) (text items)
+        × (result.found ≡ found_in items) }
+{
+    let mut walk = match set_out(alloc, store, part, None) {
         Ok(walk) => walk,
         Err(why) => return audit_end(None, false, End::Stopped(why)),
     };
     let mut last = None;
     let mut found = false;
     let end = loop {
-        let pending = match walk.next(store) {
+        let pending = match walk.next_within(store, &part.end) {
             Ok(Some(pending)) => pending,
             Ok(None) => break End::Ended,
             Err(why) => break End::Stopped(why),

@@ -1,14 +1,18 @@
-//! A cycle of runs from the first item, each with limits of its own.
+//! A cycle of runs from the first item of a storage root, or of a part of it, each with limits of
+//! its own.
 ghost use Rattle.std.specs.Prelude.{◌≡◌, ◌≢◌, ◌↔◌, ◌≤◌, [], false, map, length, IfErr, IfOk};
 ghost use Rattle.std.specs.Prelude.{IsTrue};
 ghost use Rattle.ocfl_tree.specs.StorageRoot.{StorageRoot};
 ghost use Rattle.ocfl_item.specs.Judging.{HasShortFiles};
 ghost use Rattle.ocfl_cursor.specs.Cursor.{ended, new_cursor};
-ghost use Rattle.ocfl_scrub.specs.Cycling.{CyclesTo, HeadlineOf};
+ghost use Rattle.ocfl_scrub.specs.Cycling.{CyclesTo, CyclesToWithin, HeadlineOf};
+ghost use Rattle.ocfl_scrub.specs.Cycling.{HeadlineOfPart};
 ghost use Rattle.ocfl_scrub.specs.Running.{limits_of};
+ghost use Rattle.ocfl_scrub.specs.Starting.{part_of};
 ghost use Rattle.ocfl_scrub.specs.Taking.{WritesLines};
 
-use crate::running::{RunEnd, RunStatus, run};
+use crate::part::Part;
+use crate::running::{RunEnd, RunStatus, run_part};
 use crate::taking::either;
 use ocfl_cursor::{Cursor, Limits, Refused, decode, encode};
 use ocfl_digest::Block;
@@ -83,6 +87,46 @@ pub fn cycle<T: Tree, W: Write>(
         HeadlineOf root (T.state store.old) (T.state store.new) (W.contents out.old)
         (W.contents out.new) (map limits_of limits.now) result.runs result.end }
 {
+    let whole = Part::whole(alloc);
+    cycle_part(alloc, store, &whole, limits, block, out)
+}
+
+/// The same of the items of a part: the runs begin with the part's first item, and the cycle ends
+/// where a run was made and no item of the part is left.
+pub fn cycle_part<T: Tree, W: Write>(
+    alloc: Global,
+    store: &mut T,
+    part: &Part,
+    limits: &[Limits],
+    block: &mut Block,
+    out: &mut W,
+) -> CycleEnd
+    // Of every store.
+    ensures whole { result.end ≢ CycleStatus.Stopped Fault.Broken }
+    ensures none { limits.now ≡ [] →
+        (result.cursor ≡ new_cursor) × (result.end ≡ CycleStatus.Spent) × (result.found ≡ false)
+        × (store.new ≡ store.old) × (out.new ≡ out.old) }
+    ensures counted { result.runs ≤ length limits.now }
+    ensures made { 1 ≤ length limits.now → 1 ≤ result.runs }
+    ensures first { result.cursor.cycle ≡ 1 }
+    ensures runs { result.runs ≡ result.cursor.runs }
+    ensures spent { result.spent ≡ result.cursor.spent }
+    ensures files { result.files ≡ result.cursor.files }
+    ensures ended { (result.end ≡ CycleStatus.Ended) ↔ (result.cursor.state ≡ ended) }
+    ensures lines { result.end ≢ CycleStatus.Stopped Fault.Output →
+        WritesLines (W.contents out.old) (W.contents out.new) result.found }
+
+    // Of a store that tells its tree.
+    ensures told { IsTrue T.told → (root : StorageRoot) → (T.state store.old).tree ≡ root →
+        HasShortFiles root →
+        CyclesToWithin root (T.state store.old) (T.state store.new) (W.contents out.old)
+        (W.contents out.new) (part_of part.now) (map limits_of limits.now) result.cursor
+        result.found result.end }
+    ensures headline { IsTrue T.told → (root : StorageRoot) → (T.state store.old).tree ≡ root →
+        HasShortFiles root → (T.state store.new).failures ≡ (T.state store.old).failures →
+        HeadlineOfPart root (T.state store.old) (T.state store.new) (W.contents out.old)
+        (W.contents out.new) (part_of part.now) (map limits_of limits.now) result.runs result.end }
+{
     let mut cursor = Cursor::new();
     let mut runs = 0;
     let mut found = false;
@@ -95,7 +139,7 @@ pub fn cycle<T: Tree, W: Write>(
             found: more,
             end,
             ..
-        } = run(alloc, store, begun, *one, block, out);
+        } = run_part(alloc, store, part, begun, *one, block, out);
         cursor = reached;
         runs += 1;
         found = either(found, more);

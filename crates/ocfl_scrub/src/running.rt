@@ -1,4 +1,5 @@
-//! One run: what lies above its cursor's place, as far as its limits allow.
+//! One run: what a part of a storage root has above its cursor's place, as far as its limits
+//! allow.
 ghost use Rattle.std.specs.Prelude.{◌≡◌, ◌≢◌, ◌↔◌, ◌+◌, ◌≤◌, ◌^◌, Option, true, false, IsTrue};
 ghost use Rattle.std.specs.Prelude.{IfErr, IfOk};
 ghost use Rattle.ocfl_tree.specs.Place.{Place as Spot};
@@ -10,15 +11,18 @@ ghost use Rattle.ocfl_cursor.specs.Moves.{after_run};
 ghost use Rattle.ocfl_cursor.specs.State.{state_of};
 ghost use Rattle.ocfl_scrub.specs.Taking.{WritesLines};
 ghost use Rattle.ocfl_scrub.specs.Beginning.{Begins, IsShort};
-ghost use Rattle.ocfl_scrub.specs.Running.{IsPaid, IsWorn, RunEnds, RunsCleanly, RunsFrom, begun};
+ghost use Rattle.ocfl_scrub.specs.Running.{IsPaid, IsWorn, RunEndsWithin, RunsCleanly};
+ghost use Rattle.ocfl_scrub.specs.Running.{RunsCleanlyWithin, RunsFrom, RunsFromWithin, begun};
 ghost use Rattle.ocfl_scrub.specs.Running.{limits_of, state_after};
+ghost use Rattle.ocfl_scrub.specs.Starting.{part_of};
 
+use crate::part::{Part, set_out};
 use crate::taking::{either, take_item};
 use ocfl_cursor::{Cursor, Limits, Meter, State};
 use ocfl_digest::Block;
 use ocfl_tree::laws::every_place_has_names;
 use ocfl_tree::{Place, Tree};
-use ocfl_walk::{Fault, Pending, Walk};
+use ocfl_walk::{Fault, Pending};
 use std::alloc::Global;
 use std::io::Write;
 
@@ -95,6 +99,51 @@ pub fn run<T: Tree, W: Write>(
         RunsCleanly root (W.contents out.old) (W.contents out.new) cursor
         (limits_of limits) result.spent result.files result.found result.end }
 {
+    let whole = Part::whole(alloc);
+    run_part(alloc, store, &whole, cursor, limits, block, out)
+}
+
+/// The same of the items of a part. A run begins with the part's first item where the cursor is new,
+/// has ended or has a lesser place. It ends the cycle where no item of the part is left, and leaves
+/// the cursor where it was where it takes none.
+///
+/// Nothing outside the part is listed or read but on the way down to where the run begins.
+pub fn run_part<T: Tree, W: Write>(
+    alloc: Global,
+    store: &mut T,
+    part: &Part,
+    cursor: Cursor,
+    limits: Limits,
+    block: &mut Block,
+    out: &mut W,
+) -> RunEnd
+    // Of every store.
+    ensures whole { result.end ≢ RunStatus.Stopped Fault.Broken }
+    ensures worn { (result.end ≡ RunStatus.Worn) ↔ IsWorn cursor }
+    ensures worn_cursor { result.end ≡ RunStatus.Worn → result.cursor ≡ cursor }
+    ensures worn_figures { result.end ≡ RunStatus.Worn
+        → (result.spent ≡ 0) × (result.files ≡ 0) × (result.found ≡ false) }
+    ensures worn_silent { result.end ≡ RunStatus.Worn
+        → (store.new ≡ store.old) × (out.new ≡ out.old) }
+    ensures cursor { result.end ≢ RunStatus.Worn
+        → (last : Option Spot) × (result.cursor
+        ≡ after_run (begun cursor) result.spent result.files (state_after result.end last)) }
+    ensures paid { IsPaid (limits_of limits) result.spent result.files }
+    ensures overrun { result.spent ≤ limits.budget + 2 ^ 62 }
+    ensures lines { result.end ≢ RunStatus.Stopped Fault.Output
+        → WritesLines (W.contents out.old) (W.contents out.new) result.found }
+
+    // Of a store that tells its tree.
+    ensures told { IsTrue T.told → (root : StorageRoot) → (T.state store.old).tree ≡ root
+        → HasShortFiles root → result.end ≢ RunStatus.Worn →
+        RunsFromWithin root (T.state store.old) (T.state store.new) (W.contents out.old)
+        (W.contents out.new) (part_of part.now) cursor (limits_of limits) result.cursor
+        result.spent result.files result.found result.end }
+    ensures unfailing { IsTrue T.told → (root : StorageRoot) → (T.state store.old).tree ≡ root
+        → HasShortFiles root → (T.state store.new).failures ≡ (T.state store.old).failures →
+        RunsCleanlyWithin root (W.contents out.old) (W.contents out.new) (part_of part.now)
+        cursor (limits_of limits) result.spent result.files result.found result.end }
+{
     let (start, from) = match begin(cursor) {
         Ok(begun) => begun,
         Err(worn) => {
@@ -113,7 +162,7 @@ pub fn run<T: Tree, W: Write>(
         files,
         found,
         end,
-    } = pass_from(alloc, store, from, limits, block, out);
+    } = pass_from(alloc, store, part, from, limits, block, out);
     let left = left_state(&end, last);
     match start.after_run(spent, files, left) {
         Some(cursor) => RunEnd {
@@ -176,10 +225,11 @@ struct Pass {
     end: RunStatus,
 }
 
-// Takes the items above a place, as far as the limits allow.
+// Takes the items of a part above a place, as far as the limits allow.
 fn pass_from<T: Tree, W: Write>(
     alloc: Global,
     store: &mut T,
+    part: &Part,
     from: Option<Place>,
     limits: Limits,
     block: &mut Block,
@@ -195,19 +245,19 @@ fn pass_from<T: Tree, W: Write>(
         → WritesLines (W.contents out.old) (W.contents out.new) result.found }
     ensures told { IsTrue T.told → (root : StorageRoot) → (T.state store.old).tree ≡ root
         → HasShortFiles root →
-        RunEnds root (T.state store.old) (T.state store.new) (W.contents out.old)
-        (W.contents out.new) from result.last
+        RunEndsWithin root (T.state store.old) (T.state store.new) (W.contents out.old)
+        (W.contents out.new) (part_of part.now) from result.last
         (limits_of limits) result.spent result.files result.found result.end }
 {
     let mut meter = Meter::new(limits);
-    let mut walk = match Walk::start(alloc, store, from.as_ref()) {
+    let mut walk = match set_out(alloc, store, part, from.as_ref()) {
         Ok(walk) => walk,
         Err(why) => return pass_end(&meter, from, false, RunStatus::Stopped(why)),
     };
     let mut last = from;
     let mut found = false;
     let end = loop {
-        let pending = match walk.next(store) {
+        let pending = match walk.next_within(store, &part.end) {
             Ok(Some(pending)) => pending,
             Ok(None) => break RunStatus::Ended,
             Err(why) => break RunStatus::Stopped(why),

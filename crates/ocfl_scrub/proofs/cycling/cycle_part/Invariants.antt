@@ -4,9 +4,10 @@ use Rattle.ocfl_cursor.specs.Cursor.{ended, new_cursor}
 use Rattle.ocfl_tree.specs.StorageRoot.{StorageRoot}
 use Rattle.ocfl_item.specs.Judging.{HasShortFiles}
 use Rattle.ocfl_scrub.specs.Running.{limits_of}
+use Rattle.ocfl_scrub.specs.Starting.{part_of}
 use Rattle.ocfl_scrub.specs.Taking.{WritesLines}
 use Rattle.ocfl_scrub.proofs.CycleTurns.{CycleGoes}
-use Rattle.ocfl_scrub.proofs.cycling.cycle.Given as goal
+use Rattle.ocfl_scrub.proofs.cycling.cycle_part.Given as goal
 
 abbrev pub invariant-loop-one : goal.invariant-loop-one
 invariant-loop-one g l =
@@ -23,5 +24,5 @@ invariant-loop-one g l =
       untouched : l.runs ≡ 0 → l.store ≡ l.fn.store;
       lines : WritesLines (Write.contents l.fn.out) (Write.contents l.out) l.found;
       told : IsTrue Tree.told → (root : StorageRoot) → (Tree.state l.fn.store).tree ≡ root → HasShortFiles root →
-          CycleGoes root (Tree.state l.fn.store) (Tree.state l.store) (Write.contents l.fn.out) (Write.contents l.out) (map limits_of (drop l.one-index l.limits)) (map limits_of l.limits) l.cursor l.found;
+          CycleGoes root (part_of l.fn.part) (Tree.state l.fn.store) (Tree.state l.store) (Write.contents l.fn.out) (Write.contents l.out) (map limits_of (drop l.one-index l.limits)) (map limits_of l.limits) l.cursor l.found;
     }

@@ -1,0 +1,102 @@
+use Rattle.std.proofs.Common.{refl, sym, ◌∙◌, ap, ◌+◌, map, arith}
+use Rattle.ocfl_scrub.specs.Running.{limits_of}
+use Rattle.ocfl_scrub.specs.Starting.{part_of}
+use Rattle.ocfl_scrub.proofs.TakeLaws.{nothing_written}
+use Rattle.ocfl_scrub.proofs.PassLaws.{lines_then}
+use Rattle.ocfl_scrub.proofs.CycleEndLaws.{headline_of_part}
+use Rattle.ocfl_scrub.proofs.CycleTurns.{cycle_begins, goes_over, goes_out, goes_unbegun, turn_spent, turn_ended, turn_stopped}
+use Rattle.ocfl_scrub.proofs.CycleLoop.{limits_next, limits_out, ended_not_worn, spent_not_worn, stopped_not_worn, ended_wrote, spent_wrote, stopped_wrote, new_unended, one_run_more, same_cycle, spent_unended, lines_said, cycle_said}
+use Rattle.ocfl_scrub.proofs.cycling.cycle_part.Goals as goal
+
+pub loop-one-init : goal.loop-one-init
+loop-one-init g c = record {
+  counted = refl;
+  counts = ap (λ x. x.runs) c.new-cursor.ensures;
+  cycle = ap (λ x. x.cycle) c.new-cursor.ensures;
+  unended = new_unended _ c.new-cursor.ensures;
+  begins = λ e. c.new-cursor.ensures;
+  none_found = λ e. refl;
+  silent = λ e. refl;
+  untouched = λ e. refl;
+  lines = nothing_written _;
+  told = λ told root over short. cycle_begins root (part_of c.args.part.now) _ _ _ _ c.new-cursor.ensures over;
+}
+
+pub returns-in_default-clause-told : goal.returns-in_default-clause-told
+returns-in_default-clause-told g c told root over short =
+    let e = c.cycle_end.ensures in
+    cycle_said root (part_of c.args.part.now) _ _ _ _ _ _ _ _ _ _ _ e.cursor e.found e.end (goes_unbegun root (part_of c.args.part.now) _ _ _ _ _ _ _ _ (c.loop-one.invariant.told told root over short) (omega (arith, c.in_default.ensures.further, c.loop-one.invariant.counts)))
+
+pub returns-in-Ended-clause-lines : goal.returns-in-Ended-clause-lines
+returns-in-Ended-clause-lines g c wrote =
+    lines_said _ _ _ _ c.cycle_end-in-Ended.ensures.found (lines_then _ _ _ _ _ _ c.loop-one.invariant.lines (c.run_part-reached.ensures.lines (ended_wrote _ c.in-Ended.is)) c.either-found.ensures)
+
+pub returns-in-Ended-clause-told : goal.returns-in-Ended-clause-told
+returns-in-Ended-clause-told g c told root over short =
+    let e = c.cycle_end-in-Ended.ensures in
+    let goes = c.loop-one.invariant.told told root over short in
+    let next = limits_next c.args.limits.now c.loop-one.one-index c.one-item.result c.loop-one-test.true c.one-item.is in
+    let took = c.run_part-reached.ensures.told told root (goes_over root (part_of c.args.part.now) _ _ _ _ _ _ _ _ goes) short (ended_not_worn _ c.in-Ended.is) in
+    cycle_said root (part_of c.args.part.now) _ _ _ _ _ _ _ _ _ _ _ e.cursor e.found e.end
+    (turn_ended root (part_of c.args.part.now) _ _ _ _ _ _ _ _ goes _ _ _ _ _ _ _ _ _ _ _ next c.in-Ok.ensures.same took c.either-found.ensures c.in-Ended.is)
+
+pub returns-in-Ended-clause-headline : goal.returns-in-Ended-clause-headline
+returns-in-Ended-clause-headline g c told root over short same =
+    let i = c.loop-one.invariant in
+    let ran = c.run_part-reached.result in
+    let moved = c.run_part-reached.ensures.cursor (ended_not_worn _ c.in-Ended.is) in
+    let e = c.cycle_end-in-Ended.ensures in
+    let counted = e.runs ∙ sym (ap (λ x. x.runs) e.cursor ∙ one_run_more c.loop-one.cursor c.in-Ok.begun ran.cursor ran.spent ran.files ran.end moved.0 c.in-Ok.ensures.same i.unended moved.1 _ i.counts) in
+    let end = c.cycle_end-in-Ended.result in
+    headline_of_part root (part_of c.args.part.now) (g.T.Tree.state c.args.store.now) (g.T.Tree.state c.run_part-reached.new.store) (g.W.Write.contents c.args.out.now) (g.W.Write.contents c.run_part-reached.new.out) (map limits_of c.args.limits.now) end.cursor end.found end.end end.runs
+    counted (returns-in-Ended-clause-told g c told root over short) same
+
+pub returns-in-Stopped-clause-lines : goal.returns-in-Stopped-clause-lines
+returns-in-Stopped-clause-lines g c wrote =
+    let e = c.cycle_end-in-Stopped.ensures in
+    lines_said _ _ _ _ e.found (lines_then _ _ _ _ _ _ c.loop-one.invariant.lines (c.run_part-reached.ensures.lines (stopped_wrote _ _ _ c.in-Stopped.is e.end wrote)) c.either-found.ensures)
+
+pub returns-in-Stopped-clause-told : goal.returns-in-Stopped-clause-told
+returns-in-Stopped-clause-told g c told root over short =
+    let e = c.cycle_end-in-Stopped.ensures in
+    let goes = c.loop-one.invariant.told told root over short in
+    let next = limits_next c.args.limits.now c.loop-one.one-index c.one-item.result c.loop-one-test.true c.one-item.is in
+    let took = c.run_part-reached.ensures.told told root (goes_over root (part_of c.args.part.now) _ _ _ _ _ _ _ _ goes) short (stopped_not_worn _ _ c.in-Stopped.is) in
+    cycle_said root (part_of c.args.part.now) _ _ _ _ _ _ _ _ _ _ _ e.cursor e.found e.end
+    (turn_stopped root (part_of c.args.part.now) _ _ _ _ _ _ _ _ goes _ _ _ _ _ _ _ _ _ _ _ next c.in-Ok.ensures.same took c.either-found.ensures _ c.in-Stopped.is)
+
+pub loop-one-preserved : goal.loop-one-preserved
+loop-one-preserved g c =
+    let i = c.loop-one.invariant in
+    let ran = c.run_part-reached.result in
+    let going = c.in-Spent.is in
+    let moved = c.run_part-reached.ensures.cursor (spent_not_worn _ going) in
+    record {
+      counted = ap (λ n. n + 1) i.counted;
+      counts = one_run_more c.loop-one.cursor c.in-Ok.begun ran.cursor ran.spent ran.files ran.end moved.0 c.in-Ok.ensures.same i.unended moved.1 _ i.counts;
+      cycle = same_cycle c.loop-one.cursor c.in-Ok.begun ran.cursor ran.spent ran.files ran.end moved.0 c.in-Ok.ensures.same i.unended moved.1 i.cycle;
+      unended = spent_unended c.loop-one.cursor c.in-Ok.begun ran.cursor ran.spent ran.files ran.end moved.0 c.in-Ok.ensures.same i.unended moved.1 going;
+      begins = λ e. absurd (omega (arith, e));
+      none_found = λ e. absurd (omega (arith, e));
+      silent = λ e. absurd (omega (arith, e));
+      untouched = λ e. absurd (omega (arith, e));
+      lines = lines_then _ _ _ _ _ _ i.lines (c.run_part-reached.ensures.lines (spent_wrote _ going)) c.either-found.ensures;
+      told = λ told root over short.
+          let goes = i.told told root over short in
+          let next = limits_next c.args.limits.now c.loop-one.one-index c.one-item.result c.loop-one-test.true c.one-item.is in
+          let took = c.run_part-reached.ensures.told told root (goes_over root (part_of c.args.part.now) _ _ _ _ _ _ _ _ goes) short (spent_not_worn _ going) in
+          turn_spent root (part_of c.args.part.now) _ _ _ _ _ _ _ _ goes _ _ _ _ _ _ _ _ _ _ _ next c.in-Ok.ensures.same took c.either-found.ensures going;
+    }
+
+pub returns-clause-told : goal.returns-clause-told
+returns-clause-told g c told root over short =
+    let e = c.cycle_end-2.ensures in
+    cycle_said root (part_of c.args.part.now) _ _ _ _ _ _ _ _ _ _ _ e.cursor e.found e.end
+    (goes_out root (part_of c.args.part.now) _ _ _ _ _ _ _ _ (c.loop-one.invariant.told told root over short) (limits_out c.args.limits.now c.loop-one.one-index c.loop-one-test.false))
+
+pub returns-clause-headline : goal.returns-clause-headline
+returns-clause-headline g c told root over short same =
+    let e = c.cycle_end-2.ensures in
+    let end = c.cycle_end-2.result in
+    headline_of_part root (part_of c.args.part.now) (g.T.Tree.state c.args.store.now) (g.T.Tree.state c.loop-one.store) (g.W.Write.contents c.args.out.now) (g.W.Write.contents c.loop-one.out) (map limits_of c.args.limits.now) end.cursor end.found end.end end.runs
+    (e.runs ∙ sym (ap (λ x. x.runs) e.cursor ∙ c.loop-one.invariant.counts)) (returns-clause-told g c told root over short) same

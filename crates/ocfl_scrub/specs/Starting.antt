@@ -1,0 +1,65 @@
+-- Where a walk over a part of a storage root begins, and what of the root is looked at from there on.
+use Rattle.std.specs.Prelude.{List, [], ◌∷◌, Bool, true, Option, Some, None, if◌then◌else◌}
+use Rattle.std.specs.Ordering.{is_lt}
+use Rattle.ocfl_tree.specs.Place.{Place, place_cmp}
+use Rattle.ocfl_tree.specs.StorageRoot.{StorageRoot}
+use Rattle.ocfl_audit.specs.Due.{due}
+use Rattle.ocfl_audit.specs.Between.{looked_between, read_between}
+use Rattle.ocfl_audit.specs.Parts.{Part, places_within}
+use Rattle.ocfl_walk.specs.Before.{directory_of, place_before}
+use Rattle.ocfl_walk.specs.declared.end.End.{End}
+use Rattle.ocfl_scrub.specs.declared.part.Part.{Part as MadePart}
+
+-- the part that a call is given
+abbrev pub part_of : MadePart → Part
+part_of p = record { under = p.end.under; from = p.from; below = p.end.below }
+
+-- the end of a walk over a part
+abbrev pub end_of : Part → End
+end_of part = record { under = part.under; below = part.below }
+
+-- the greater of two places, where there are two
+abbrev pub greater_of : Place → Option Place → Place
+greater_of p None = p
+greater_of p (Some q) = if is_lt (place_cmp p q) then q else p
+
+-- a place other than the storage root's
+abbrev pub unless_root : Place → Option Place
+unless_root [] = None
+unless_root (n ∷ p) = Some (n ∷ p)
+
+-- the place that a part begins with, where it does not begin with the storage root
+abbrev pub first_place : Part → Option Place
+first_place part = unless_root (greater_of part.under part.from)
+
+-- less than a place, or not given
+abbrev pub is_before : Option Place → Place → Bool
+is_before None first = true
+is_before (Some p) first = is_lt (place_cmp p first)
+
+-- where the walk goes down to: the place above which items are taken, and the directory of the part's first place where that is greater, since what lies at that place is met
+abbrev pub entry_by : Option Place → Option Place → Option Place
+entry_by None above = above
+entry_by (Some first) above = if is_before above first then directory_of first else above
+
+abbrev pub entry : Part → Option Place → Option Place
+entry part above = entry_by (first_place part) above
+
+-- and the place behind which it then stands
+abbrev pub stand_by : StorageRoot → Option Place → Option Place → Option Place
+stand_by root None above = above
+stand_by root (Some first) above = if is_before above first then place_before root first else above
+
+abbrev pub stand : StorageRoot → Part → Option Place → Option Place
+stand root part above = stand_by root (first_place part) above
+
+-- the places of a part's items above a place, and all of them for the start
+abbrev pub due_within : StorageRoot → Part → Option Place → List Place
+due_within root part from = places_within part (due root from)
+
+-- the directories of a part that are looked into between two places, and its objects whose inventories are read
+abbrev pub looked_in : StorageRoot → Part → Option Place → Option Place → List Place
+looked_in root part from to = places_within part (looked_between root from to)
+
+abbrev pub read_in : StorageRoot → Part → Option Place → Option Place → List Place
+read_in root part from to = places_within part (read_between root from to)

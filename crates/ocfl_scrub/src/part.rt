@@ -1,0 +1,115 @@
+//! Parts of a storage root.
+ghost use Rattle.std.specs.Prelude.{◌≡◌, [], None, Some, Option, option_map, IfErr, IfOk, IsTrue};
+ghost use Rattle.std.specs.Prelude.{MatchResult};
+ghost use Rattle.ocfl_tree.specs.StorageRoot.{StorageRoot};
+ghost use Rattle.ocfl_audit.specs.Parts.{branch, whole};
+ghost use Rattle.ocfl_item.specs.Ways.{IsWayFault};
+ghost use Rattle.ocfl_walk.specs.WalkCalls.{GoDownFails, GoesDown};
+ghost use Rattle.ocfl_walk.specs.Walks.{IsLive, Stands};
+ghost use Rattle.ocfl_scrub.specs.Starting.{entry, first_place as first_of_part, part_of, stand};
+ghost use Rattle.ocfl_scrub.specs.Starting.{is_before as lies_before};
+
+use ocfl_tree::{Place, Tree};
+use ocfl_walk::{End, Fault, Walk};
+use std::alloc::Global;
+
+/// A part of a storage root: the places of one branch, from a first one on, and below another.
+#[derive(Debug, Drop)]
+pub struct Part {
+    /// The place that the part begins with, and none for a part that begins with its branch.
+    pub from: Option<Place>,
+    /// The branch that it stays in, and the place below which it stays.
+    pub end: End,
+}
+
+impl Part {
+    /// The whole storage root.
+    pub fn whole(alloc: Global) -> Part
+        ensures { part_of result ≡ whole }
+    {
+        Part {
+            from: None,
+            end: End::of_all(alloc),
+        }
+    }
+
+    /// A place and all that lies below it.
+    pub fn branch(place: Place) -> Part
+        ensures { part_of result ≡ branch place }
+    {
+        Part {
+            from: None,
+            end: End {
+                under: place,
+                below: None,
+            },
+        }
+    }
+
+    /// What lies from one place on, that place included, and below another, where they are given.
+    pub fn between(alloc: Global, from: Option<Place>, below: Option<Place>) -> Part
+        ensures { part_of result ≡ record { under = []; from = from; below = below } }
+    {
+        Part {
+            from,
+            end: End {
+                under: Place::root(alloc),
+                below,
+            },
+        }
+    }
+
+    /// The place that the part begins with, unless that is the storage root's.
+    fn first_place(&self) -> Option<&Place>
+        ensures { option_map (λ p. p.now) result ≡ first_of_part (part_of self.now) }
+    {
+        let first = match &self.from {
+            Some(from) if self.end.under < *from => from,
+            _ => &self.end.under,
+        };
+        if first.depth() == 0 {
+            None
+        } else {
+            Some(first)
+        }
+    }
+}
+
+/// Begins the walk over what a part has above a place, and over all of it for none.
+///
+/// It goes down to that place, or to the directory of the part's first place where that is greater:
+/// what lies at the first place is met with its item.
+pub(crate) fn set_out<T: Tree>(
+    alloc: Global,
+    store: &mut T,
+    part: &Part,
+    above: Option<&Place>,
+) -> Result<Walk, Fault>
+    ensures only { IfErr result (λ why. IsWayFault why) }
+    ensures live { IfOk result (λ walk. IsLive walk) }
+    ensures told { IsTrue T.told → (root : StorageRoot) → (T.state store.old).tree ≡ root
+        → let above = option_map (λ p. p.now) above.entry in MatchResult result
+        (λ walk. GoesDown root (T.state store.old) (T.state store.new)
+        (entry (part_of part.now) above) × Stands root walk (stand root (part_of part.now) above))
+        (λ why. GoDownFails root (T.state store.old) (T.state store.new)
+        (entry (part_of part.now) above) why) }
+{
+    let Some(first) = part.first_place() else {
+        return Walk::start(alloc, store, above);
+    };
+    if is_before(above, first) {
+        Walk::start_at(alloc, store, first)
+    } else {
+        Walk::start(alloc, store, above)
+    }
+}
+
+/// Whether a place is less than another, or not given.
+fn is_before(above: Option<&Place>, first: &Place) -> bool
+    ensures { result ≡ lies_before (option_map (λ p. p.now) above.entry) first.now }
+{
+    match above {
+        Some(place) => place < first,
+        None => true,
+    }
+}

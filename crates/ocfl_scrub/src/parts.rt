@@ -1,0 +1,53 @@
+//! The laws of parts: what the runs of a part wrote, joined, and what the parts of a storage root
+//! wrote together.
+ghost use Rattle.std.specs.Prelude.{◌≡◌, ◌≤◌, ◌+◌, ◌/◌, ℕ, List, [], None, All, flat_map, map, length};
+ghost use Rattle.std.specs.List.{AllByRecursion};
+ghost use Rattle.ocfl_tree.specs.Place.{Place, place_cmp};
+ghost use Rattle.ocfl_tree.specs.Ascending.{IsAscending};
+ghost use Rattle.ocfl_tree.specs.StorageRoot.{StorageRoot};
+ghost use Rattle.ocfl_report.specs.Text.{text};
+ghost use Rattle.ocfl_audit.specs.Audit.{audit, total_cost};
+ghost use Rattle.ocfl_audit.specs.Due.{hashed_among, item_places};
+ghost use Rattle.ocfl_audit.specs.Parts.{Part, parts_of, places_within, within};
+ghost use Rattle.ocfl_audit.specs.Runs.{IsAtLeast, total_files};
+ghost use Rattle.ocfl_cursor.specs.Cursor.{Cursor};
+ghost use Rattle.ocfl_scrub.specs.Running.{place_in};
+ghost use Rattle.ocfl_scrub.specs.Joining.{AreRuns, IsPartCycle, PartCycle, PartRun, opened_by};
+ghost use Rattle.ocfl_scrub.specs.Joining.{reports_of};
+
+/// The reports of the runs of one cycle of a part, joined, are what the audit has there, whatever
+/// processes made them, and each hashed file of the part was opened once, in order. Runs with limits
+/// that are each at least so large are few: at most one more than the part's cost by the budget and
+/// its files by their limit.
+#[tactic(auto, using(crate::proofs::JoinLaws::part_reports, crate::proofs::JoinLaws::part_opened))]
+pub fn runs_of_a_part_join()
+    ensures reports { (root : StorageRoot) (part : Part) (c : Cursor) (runs : List PartRun)
+        → place_in c.state ≡ None → AreRuns root part c runs
+        → reports_of runs ≡ text (within part (audit root [])) }
+    ensures opened { (root : StorageRoot) (part : Part) (c : Cursor) (runs : List PartRun)
+        → place_in c.state ≡ None → AreRuns root part c runs
+        → opened_by root runs ≡ hashed_among root (places_within part (item_places root)) }
+    ensures few { (root : StorageRoot) (part : Part) (c : Cursor) (runs : List PartRun)
+        → place_in c.state ≡ None → AreRuns root part c runs → (b n : ℕ) → 1 ≤ b → 1 ≤ n
+        → All (IsAtLeast b n) (map (λ r. r.limits) runs)
+        → length runs ≤ total_cost (within part (audit root [])) / b
+        + total_files (within part (audit root [])) / n + 1 }
+{}
+
+/// While the root stays unchanged and every call succeeds, the reports of all parts that separators
+/// make, each made in any number of runs by any process, joined in their order, are exactly the
+/// whole-root audit; and each hashed file is opened once by one of them.
+#[tactic(auto, using(crate::proofs::JoinLaws::all_reports, crate::proofs::JoinLaws::all_opened))]
+pub fn parts_join_to_the_audit()
+    ensures reports { (root : StorageRoot) (separators : List Place) (cycles : List PartCycle)
+        → IsAscending place_cmp separators
+        → map (λ d. d.part) cycles ≡ parts_of separators
+        → AllByRecursion (IsPartCycle root) cycles
+        → flat_map (λ d. reports_of d.runs) cycles ≡ text (audit root []) }
+    ensures opened { (root : StorageRoot) (separators : List Place) (cycles : List PartCycle)
+        → IsAscending place_cmp separators
+        → map (λ d. d.part) cycles ≡ parts_of separators
+        → AllByRecursion (IsPartCycle root) cycles
+        → flat_map (λ d. opened_by root d.runs) cycles
+        ≡ hashed_among root (item_places root) }
+{}

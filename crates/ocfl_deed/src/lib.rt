@@ -1,8 +1,6 @@
-//! What the program is asked to do, whoever asks it.
+//! The deeds of the program, whoever asks for them.
 #![tactic(auto)]
 
-mod asked;
 mod deed;
 
-pub use asked::{Asked, Chosen, Split, Task};
 pub use deed::Deed;

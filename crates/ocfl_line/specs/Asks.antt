@@ -9,13 +9,13 @@ use Rattle.ocfl_line.specs.Budget.{IsBudgetText}
 use Rattle.ocfl_line.specs.Line.{most_parts, most_runs, most_split}
 use Rattle.ocfl_deed.specs.declared.deed.Deed.{Deed}
 use Rattle.ocfl_deed.specs.declared.deed.Deed.TheVariants.{Audit, Run, Cycle, Check, Show}
-use Rattle.ocfl_deed.specs.declared.asked.Chosen.{Chosen}
-use Rattle.ocfl_deed.specs.declared.asked.Chosen.TheVariants.{All, Branch, Part}
-use Rattle.ocfl_deed.specs.declared.asked.Task.{Task}
-use Rattle.ocfl_deed.specs.declared.asked.Split.{Split}
-use Rattle.ocfl_deed.specs.declared.asked.Split.TheVariants.{Listing, Report}
-use Rattle.ocfl_deed.specs.declared.asked.Asked.{Asked}
-use Rattle.ocfl_deed.specs.declared.asked.Asked.TheVariants as asked
+use Rattle.ocfl_line.specs.declared.task.Chosen.{Chosen}
+use Rattle.ocfl_line.specs.declared.task.Chosen.TheVariants.{All, Branch, Part}
+use Rattle.ocfl_line.specs.declared.task.Task.{Task}
+use Rattle.ocfl_line.specs.declared.task.Split.{Split}
+use Rattle.ocfl_line.specs.declared.task.Split.TheVariants.{Listing, Report}
+use Rattle.ocfl_line.specs.declared.task.Asked.{Asked}
+use Rattle.ocfl_line.specs.declared.task.Asked.TheVariants as asked
 
 -- the text writes this number: decimal digits, which a plus sign may precede
 abbrev pub IsNumberText : ℕ → Text → Type 0

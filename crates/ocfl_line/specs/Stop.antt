@@ -5,7 +5,7 @@ use Rattle.clap.specs.declared.error.Error.{Error}
 use Rattle.clap.specs.declared.error.kind.ErrorKind.TheVariants as kind
 use Rattle.ocfl_line.specs.Line.{line_app}
 use Rattle.ocfl_line.specs.Asks.{Asks}
-use Rattle.ocfl_deed.specs.declared.asked.Asked.{Asked}
+use Rattle.ocfl_line.specs.declared.task.Asked.{Asked}
 use Rattle.ocfl_line.specs.declared.stop.LineStop.{LineStop}
 use Rattle.ocfl_line.specs.declared.stop.LineStop.TheVariants.{Usage, Memory}
 

@@ -9,9 +9,9 @@ use crate::command::line_command;
 use crate::complaint::{Complaint, find_complaint};
 use crate::reading::asked_by;
 use crate::stop::LineStop;
+use crate::task::Asked;
 use clap::Command;
 use clap::error::ErrorKind;
-use ocfl_deed::Asked;
 use std::alloc::Global;
 use std::convert::AsStr;
 

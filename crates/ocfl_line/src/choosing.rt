@@ -2,11 +2,11 @@
 ghost use Rattle.std.specs.Prelude.{IfOk, IfSome, IsNone, codes};
 ghost use Rattle.clap.specs.Words.{found_of, rows_of};
 ghost use Rattle.ocfl_line.specs.Asks.{HasText, IsChosen};
-ghost use Rattle.ocfl_deed.specs.declared.asked.Chosen.{Chosen as ChosenOf};
+ghost use Rattle.ocfl_line.specs.declared.task.Chosen.{Chosen as ChosenOf};
 
+use crate::task::Chosen;
 use crate::values::{copied, count_of, is_left_out};
 use clap::ArgMatches;
-use ocfl_deed::Chosen;
 use std::alloc::{AllocError, Global};
 
 // The most parts: one more than the separators that their file may have.

@@ -9,7 +9,9 @@ mod complaint;
 mod reading;
 mod splitting;
 mod stop;
+mod task;
 mod values;
 
 pub use asking::asked;
 pub use stop::LineStop;
+pub use task::{Asked, Chosen, Split, Task};

@@ -4,16 +4,17 @@ ghost use Rattle.clap.specs.Words.{found_of, rows_of, subcommand_rows_of};
 ghost use Rattle.ocfl_cursor.specs.declared.limits.Limits.{Limits as LimitsOf};
 ghost use Rattle.ocfl_line.specs.Asks.{Asks, HasLimits, HasRuns, IsDeed, IsTask};
 ghost use Rattle.ocfl_deed.specs.declared.deed.Deed.{Deed as DeedOf};
-ghost use Rattle.ocfl_deed.specs.declared.asked.Task.{Task as TaskOf};
-ghost use Rattle.ocfl_deed.specs.declared.asked.Asked.{Asked as AskedOf};
+ghost use Rattle.ocfl_line.specs.declared.task.Task.{Task as TaskOf};
+ghost use Rattle.ocfl_line.specs.declared.task.Asked.{Asked as AskedOf};
 
 use crate::budget::read_budget;
 use crate::choosing::chosen_by;
 use crate::splitting::split_by;
+use crate::task::{Asked, Task};
 use crate::values::{copied, count_of, is_given, number_of, text_of};
 use clap::ArgMatches;
 use ocfl_cursor::{FileLimit, Limits};
-use ocfl_deed::{Asked, Deed, Task};
+use ocfl_deed::Deed;
 use std::alloc::{AllocError, Global};
 
 // The most runs of a cycle.

@@ -2,12 +2,12 @@
 ghost use Rattle.std.specs.Prelude.{IfOk, IfSome, IsNone, codes};
 ghost use Rattle.clap.specs.Words.{found_of, rows_of};
 ghost use Rattle.ocfl_line.specs.Asks.{HasText, IsLeftOut, IsSplit};
-ghost use Rattle.ocfl_deed.specs.declared.asked.Split.{Split as SplitOf};
+ghost use Rattle.ocfl_line.specs.declared.task.Split.{Split as SplitOf};
 
 use crate::budget::read_amount;
+use crate::task::Split;
 use crate::values::{copied, count_of, is_left_out, text_of};
 use clap::ArgMatches;
-use ocfl_deed::Split;
 use std::alloc::{AllocError, Global};
 
 // The most parts that listing splits a storage root into.

@@ -10,8 +10,7 @@ mod tasks;
 
 use clap::error::ErrorKind;
 use files::folder_of;
-use ocfl_deed::Asked;
-use ocfl_line::{LineStop, asked};
+use ocfl_line::{Asked, LineStop, asked};
 use saying::{STOPPED, USAGE, say, say_out_of_memory};
 use splits::split_root;
 use std::process::ExitCode;

@@ -2,7 +2,7 @@
 
 use crate::saying::Stop;
 use ocfl_cursor::PartEnds;
-use ocfl_deed::Chosen;
+use ocfl_line::Chosen;
 use ocfl_parts::{PartsStop, Separators, read_parts};
 use ocfl_report::{PlaceStop, read_place};
 use ocfl_scrub::{Note, Scope};

@@ -1,9 +1,9 @@
 //! Splitting a storage root: the text of the separators goes to standard output.
 
 use crate::saying::{Stop, say_stop};
-use ocfl_deed::Split;
 use ocfl_folder::FsTree;
 use ocfl_item::Fault;
+use ocfl_line::Split;
 use ocfl_parts::{Separators, SplitStop, put_parts, split_by};
 use ocfl_report::write_all_of;
 use ocfl_scrub::Note;

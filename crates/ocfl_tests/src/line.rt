@@ -3,8 +3,8 @@ mod chosen;
 
 use clap::error::ErrorKind;
 use ocfl_cursor::{Budget, FileLimit, Limits};
-use ocfl_deed::{Asked, Deed, Task};
-use ocfl_line::{LineStop, asked};
+use ocfl_deed::Deed;
+use ocfl_line::{Asked, LineStop, Task, asked};
 use std::alloc::{AllocError, Global};
 use std::test::Fail;
 

@@ -2,7 +2,8 @@
 
 use super::{fault, read, read_task, usage_text};
 use clap::error::ErrorKind;
-use ocfl_deed::{Asked, Chosen, Deed, Split};
+use ocfl_deed::Deed;
+use ocfl_line::{Asked, Chosen, Split};
 use std::alloc::{AllocError, Global};
 use std::process::Abort;
 use std::test::Fail;

@@ -1,6 +1,6 @@
 //! What a command line asks for, as its texts and numbers.
 
-use crate::deed::Deed;
+use ocfl_deed::Deed;
 
 /// Which items of a storage root a deed takes.
 #[derive(Debug, Drop, PartialEq, Eq)]

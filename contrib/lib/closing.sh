@@ -119,7 +119,7 @@ codes_found() {
 # What the row `ended` says.
 closing_text() {
   kind=whole
-  case $closed in */incomplete-*) kind="incomplete lost lines" ;; esac
+  case $closed in */incomplete-*) kind="incomplete ${lacking:-lost lines}" ;; esac
   found=${found% }
   printf 'report %s; %s; findings %s; compared %s; gone %s objects %s files' \
     "reports/${closed##*/}" "$kind" "${found:-none}" "$compared" "$(gone object)" "$(gone file)"

@@ -51,7 +51,7 @@ say_findings() {
     echo "$count" >> "$scratch/counts"
     which="run $first"
     [ "$first" = "$last" ] || which="runs $first to $last"
-    echo "$count finding(s) tonight in $root, cycle $of, $which:"
+    echo "$count finding(s) tonight in $whose, cycle $of, $which:"
     head -n 20 -- "$scratch/found"
     where=$(closed_report "$of")
     [ -e "$where" ] || where=$report
@@ -149,7 +149,7 @@ say_stop() {
     "stopped at "*) say_stop_at "$1" "${1#stopped at }" ;;
     *)
       trouble=$(try_state 2>&1) || trouble=" ($state: $(system_words "$trouble"))"
-      echo "The night of $root stopped: ${1:-no word}$trouble."
+      echo "The night of $whose stopped: ${1:-no word}$trouble."
       echo "The next one goes on from the cursor."
       ;;
   esac
@@ -157,21 +157,22 @@ say_stop() {
 
 say_stop_at() {
   reason=$(reason_of "$2")
-  echo "The night of $root stopped: $1${reason:+ ($reason)}. The next one tries that place again."
+  echo "The night of $whose stopped: $1${reason:+ ($reason)}. The next one tries that place again."
   since=$(stopped_since "$1")
   [ -n "$since" ] || return 0
-  echo "Each night since $since stopped there: what comes after $2 is not audited until that place"
+  echo "Each night since $since stopped there: what comes after $2${part:+ in this part} is not audited until that place"
   echo "can be read. README.md says how to audit the rest: \"A place that cannot be read\"."
 }
 
 say_signal() {
   is_ending || return 0
-  echo "The night of $root was ended by $(cat -- "$scratch/signal") after $runs run(s)."
+  echo "The night of $whose was ended by $(cat -- "$scratch/signal") after $runs run(s)."
   case ${note:-} in "ended by "*) echo "The last one was cut, and is made again." ;; esac
 }
 
 # All that nobody was told of.
 compose() {
+  whose=${part:+part $part of }$root
   untold > "$scratch/untold"
   rm -f -- "$scratch/counts"
   say_cut

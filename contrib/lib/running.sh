@@ -11,7 +11,8 @@ run_program() {
   # shellcheck disable=SC2016
   {
     sh -c 'echo $$ > "$1"; shift; exec "$@"' sh "$scratch/running" \
-      "$program" run --cursor "$cursor" --budget "$1" ${left:+--files "$left"} "$root" >> "$report"
+      "$program" run --cursor "$cursor" --budget "$1" ${left:+--files "$left"} \
+      ${part:+--parts "$state/parts" --part "$part"} "$root" >> "$report"
     status=$?
   } 2> "$scratch/said"
   rm -f -- "$scratch/running"
@@ -45,11 +46,17 @@ make_run() {
   fi
 }
 
+# Whether a further run is one of a cycle that is asked for.
+is_due() {
+  [ -z "$last_cycle" ] || [ "$cycle" -lt "$last_cycle" ] \
+    || { [ "$cycle" -eq "$last_cycle" ] && [ "$stands" != ended ]; }
+}
+
 # Run after run, until the cycle or the time ends, something stops them, or a signal comes.
 make_runs() {
   files_started=0
   until is_ending; do
-    next_slice || return 0
+    is_due && next_slice || return 0
     make_run "$slice" || return 3
     case $note in "ended by "*) return 0 ;; esac
     worsen "$status"
@@ -57,18 +64,4 @@ make_runs() {
     if [ -z "$end" ] || [ "$stands" = ended ]; then return 0; fi
     [ -z "$files_limit" ] || [ "$files_started" -lt "$files_limit" ] || return 0
   done
-}
-
-# Whether the state folder takes what a night writes; says why where it does not.
-try_state() {
-  if ! head -c 1048576 /dev/zero > "$state/room"; then
-    rm -f -- "$state/room"
-    return 1
-  fi
-  rm -f -- "$state/room"
-  for file in "$cursor" "$report" "$state/nights"; do
-    [ ! -e "$file" ] || printf '' >> "$file" || return 1
-  done
-  [ ! -d "$state/reports" ] || printf '' > "$state/reports/room" || return 1
-  rm -f -- "$state/reports/room"
 }

@@ -31,6 +31,8 @@ read_cursor() {
   stands=start cycle=1 run=0 spent=0 files=0
   [ -e "$cursor" ] || return 0
   shown=$("$program" show "$cursor" 2>&1) || return $?
+  # That of a part names its ends first.
+  case $shown in "from "*) shown=$(printf '%s\n' "$shown" | tail -n +3) ;; esac
   {
     read -r _ cycle
     read -r _ run

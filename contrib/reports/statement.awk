@@ -2,7 +2,8 @@
 # but printable ASCII, and `%`, is written with `%` and two capital hexadecimal digits.
 BEGIN {
   for (byte = 1; byte < 256; byte++) code_of[sprintf("%c", byte)] = byte
-  order = "Storage root|Root changed to|Declaration SHA-256|Host|Cycle|First night|Last night|" \
+  order = "Storage root|Root changed to|Declaration SHA-256|Part from|Part below|Host|Cycle|" \
+    "Parts|Separators SHA-256|Places not audited|First night|Last night|" \
     "Closed|Nights|Runs|Cut nights|Lost lines|Report|Whole|Report lines|Broken lines|" \
     "Report SHA-256|Objects|Objects without findings|Files found right|Bytes found right|" \
     "Findings|*|Compared with cycle|Objects gone|Files gone|List of what is gone, SHA-256|" \

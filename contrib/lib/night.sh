@@ -1,0 +1,104 @@
+#!/bin/sh
+# What all nights share: the text that they say, their lock, their status, and how they refuse to
+# begin. `nightly` and the scripts of `parallel` read this file. They set `called`, and define
+# `end_night`.
+# shellcheck disable=SC2030,SC2031,SC2034,SC2154
+
+# What is said goes into this night's own file, from which `tell` takes it, and to standard error.
+# The file is made before anything can fail, so that `tell` never sends what another night said.
+begin_text() {
+  own=$state/tonight.${INVOCATION_ID:-$$}
+  rm -f -- "$own" 2> /dev/null
+  (set -C && umask 027 && printf '' > "$own") 2> /dev/null || own=''
+}
+
+# Says what comes in.
+tell() {
+  if [ -n "$own" ]; then
+    if [ -n "$for_tell" ]; then
+      cat >> "$own"
+    else
+      tee -a "$own" >&2
+    fi
+  else
+    cat >&2
+  fi
+}
+
+# Ends what cannot begin: its command line is wrong, or the folder cannot be used.
+fail() { { echo "$called: $1"; echo "$called: try: $called --help"; } | tell; exit 2; }
+stop() { echo "$called: $1" | tell; exit "${2:-3}"; }
+
+# Makes the folder, takes its lock, and makes a folder for what is only of this call.
+hold_state() {
+  umask 027
+  mkdir -p -- "$state" || exit 3
+  state=$(CDPATH='' cd -- "$state" && pwd -P) || exit 3
+  if [ -n "$own" ]; then own=$state/${own##*/}; fi
+  printf '' >> "$state/lock" || stop "$state/lock cannot be written"
+  exec 9>> "$state/lock"
+  flock -n 9 || stop "another night still runs in $state; nothing was done" 75
+  scratch=$(mktemp -d) || stop "no temporary folder can be made"
+  trap 'rm -rf -- "$scratch"' EXIT
+}
+
+# The same for a night, which has a text of its own.
+open_state() {
+  mkdir -p -- "$state" || exit 3
+  [ -n "$own" ] || begin_text
+  hold_state
+  for file in "$state"/tonight "$state"/tonight.*; do
+    [ "$file" = "$own" ] || rm -f -- "$file"
+  done
+  [ -z "$own" ] || ln -- "$own" "$state/tonight" 2> /dev/null
+}
+
+# The worst status of the night: 2, 4, 3, 1, 0, and over all of them that the program was killed.
+rank() { case $1 in 0 | 1) echo "$1" ;; 3) echo 2 ;; 4) echo 3 ;; 2) echo 4 ;; *) echo 5 ;; esac; }
+worsen() { [ "$(rank "$1")" -le "$(rank "$night_status")" ] || night_status=$1; }
+
+# Ends a night that cannot go on: the reason is a row of the log, and is said as such.
+refuse() {
+  worsen "$1"
+  log_refusal "$1" "$2" || echo "$2" | tell
+  end_night
+}
+
+# Ends a night whose state folder fails: no row of the log can say so.
+break_off() {
+  why=$(try_state 2>&1) && why="it failed"
+  stop "$state cannot take what a night writes: $(system_words "$why"). $1"
+}
+
+# The folder of a root that is not mounted is empty, and a run would take it for a root's end.
+check_root() {
+  set -- "$root"/0=ocfl_*
+  [ -e "$1" ] \
+    || refuse 3 "no file 0=ocfl_* lies in $root: is its file system mounted? Nothing was run."
+  if [ ! -e "$state/root" ]; then
+    bind_root || break_off "Nothing was run."
+  elif ! is_same_root; then
+    [ -n "$root_changed" ] \
+      || refuse 3 "$state: $why. Nothing was run; --root-changed runs it all the same."
+    if ! { log root "$why" && bind_root; }; then break_off "Nothing was run."; fi
+  fi
+}
+
+# Whether the folder of state lies in the storage root, into which nothing is written.
+lies_in_root() {
+  case $(realpath -m -- "$state")/ in "$(realpath -m -- "$root")"/*) ;; *) return 1 ;; esac
+}
+
+# Whether the state folder takes what a night writes; says why where it does not.
+try_state() {
+  if ! head -c 1048576 /dev/zero > "$state/room"; then
+    rm -f -- "$state/room"
+    return 1
+  fi
+  rm -f -- "$state/room"
+  for file in "$cursor" "$report" "$state/nights"; do
+    [ ! -e "$file" ] || printf '' >> "$file" || return 1
+  done
+  [ ! -d "$state/reports" ] || printf '' > "$state/reports/room" || return 1
+  rm -f -- "$state/reports/room"
+}

@@ -1,0 +1,115 @@
+#!/bin/sh
+# What the scripts of `parallel` share: how a night of all parts begins, and how it ends.
+# shellcheck disable=SC2030,SC2031,SC2034,SC2154
+
+# The number that the one cycle of each part has.
+of_cycle=1
+
+for lib in state closing binding part place message clock signals night parts dividing joining \
+  together; do
+  # shellcheck disable=SC1090
+  . "$here/lib/$lib.sh"
+done
+
+# The rows that say nothing of one report.
+blank_row() {
+  began=$(now) cycle=${cycle:-0} run=0 lines=0 cost=0 spent=0 files=0 seconds=0 bytes=0
+  digest=$nothing stands=-
+}
+
+# Makes the parts of the next cycle, where none is open, and takes over what a kill left half done.
+begin_parts() {
+  cut_half_row || return 3
+  find_cycle
+  state_cycle_before || return 3
+  make_parts "$1" && write_separators && end_earlier || return 3
+}
+
+# Makes the statement of the cycle before, where a kill left it out.
+state_cycle_before() {
+  [ "$cycle" -gt 1 ] || return 0
+  (cycle=$((cycle - 1)) && write_statement)
+}
+
+# Takes over the rows of the parts, joins their reports where that can be done, or else divides
+# those that stop twice. What goes wrong is in the file `trouble`.
+gather() {
+  read_parts "$of_cycle" || return 3
+  cat -- "$scratch/rows" >> "$state/nights" || return 3
+  if is_closed "$cycle"; then return 0; fi
+  if can_join; then
+    join_parts "$of_cycle" && write_statement && tidy_reports
+  else
+    [ -n "${join_only:-}" ] || divide_parts
+  fi
+}
+
+# The same for each cycle whose parts still have a folder: what they say goes into the file `text`.
+gather_all() {
+  : > "$scratch/text"
+  for set in "$state"/parts-*; do
+    [ -s "$set/table" ] || continue
+    cycle=$(printf '%s\n' "${set##*/parts-}" | sed 's/^0*//')
+    : > "$scratch/divided"
+    gather 2> "$scratch/trouble" || worsen 3
+    cat -- "$scratch/trouble" >> "$scratch/text"
+    [ -n "${join_only:-}" ] || tell_of_set
+  done
+}
+
+tell_of_set() {
+  compose_parts >> "$scratch/text"
+  worsen_by_events
+  cp -- "$scratch/standing" "$set/standing.new"
+}
+
+# After it was said: what was told is noted, and the folders of closed cycles are removed.
+forget_told() {
+  for set in "$state"/parts-*; do
+    [ -e "$set/standing.new" ] || continue
+    mv -f -- "$set/standing.new" "$scratch/standing" && note_told
+    cycle=$(printf '%s\n' "${set##*/parts-}" | sed 's/^0*//')
+    if is_closed "$cycle"; then rm -rf -- "$set"; fi
+  done
+}
+
+# Ends a night of all parts: says in one message what nobody was told of.
+end_parts() {
+  rm -f -- "$scratch/counts" "$scratch/found_in"
+  gather_all
+  untold > "$scratch/untold"
+  {
+    awk -F '\t' '$2 ~ /^[0-9]+$/ && $3 == 0 { print $7 }' "$scratch/untold"
+    say_ended
+    say_unread
+  } >> "$scratch/text"
+  worsen "$(told_status)"
+  tell < "$scratch/text"
+  find_cycle
+  blank_row
+  seconds=$(($(seconds_now) - night_began)) began=$night
+  log told "status $night_status, $(standing_text), findings $(told_findings)"
+  forget_told
+  [ -z "$own" ] || [ -s "$own" ] || rm -f -- "$own" "$state/tonight"
+  rm -rf -- "$scratch"
+  exit "$night_status"
+}
+
+# How many parts there are, and how many of them have ended.
+standing_text() {
+  if [ -s "$set/table" ] && read_parts "$of_cycle"; then
+    echo "parts $(count_parts), closed $(parts_that_are closed)"
+  else
+    echo "parts 0, closed 0"
+  fi
+}
+
+# A refusal ends the night like any other.
+end_night() { end_parts; }
+
+check_common_words() {
+  [ -z "$complaint" ] || fail "$complaint"
+  [ -n "$state" ] || fail "--state is missing"
+  [ -n "$root" ] || fail "the storage root is missing"
+  ! lies_in_root || fail "$state lies in the storage root"
+}

@@ -1,0 +1,134 @@
+# Reads the table of parts, the file of what was told, the log of the nights of all parts, and the
+# log of each part, and writes into the folder OUT:
+#
+#   standing  a line for each part: its number, name, from, below, the place that it stands alone
+#             with, `closed`, `open` or `new`, `whole` or `incomplete`, the place where its last
+#             night stopped, the first of at least two nights that stopped there, and how many rows
+#             its log has
+#   events    a line for each row that nobody was told of: `found`, `cut`, `lost`, `stop`
+#   rows      the rows of the parts that the log of all parts has not yet
+#   sums      what all parts of the cycle spent, how many files they read, how many lines they have
+#
+# It takes `set` (the folder of the parts), `cycle` (of all parts), `of_cycle` (of the parts), `night`
+# and `nothing` (the digest of no report). Columns of a line of `standing` that are empty are `-`.
+BEGIN {
+  FS = OFS = "\t"
+  read_told()
+  read_log()
+  standing = out "/standing"
+  events = out "/events"
+  rows = out "/rows"
+  printf "" > standing
+  printf "" > events
+  printf "" > rows
+}
+
+{
+  name[NR] = $1
+  from[NR] = $2
+  alone[NR] = $3
+}
+
+END {
+  for (part = 1; part <= NR; part++) read_part()
+  for (part = 1; part <= NR; part++) {
+    print part, name[part], filled(from[part]), filled(part < NR ? from[part + 1] : ""),
+      filled(alone[part]), state[part], whole[part], filled(stopped[part]),
+      filled(twice[part] ? since[part] : ""),
+      count[part] + 0 > standing
+  }
+  print number(spent), number(files), number(lines) > (out "/sums")
+}
+
+function filled(text) { return text == "" ? "-" : text }
+
+function read_told(  line, field) {
+  while ((getline line < (set "/told")) > 0) {
+    split(line, field, FS)
+    told[field[1] ""] = field[2]
+  }
+}
+
+# What the log of all parts has of this cycle: how many rows of each part, and the sums.
+function read_log(  line, field, of) {
+  while ((getline line < (log_of_all)) > 0) {
+    if (split(line, field, FS) != 14) continue
+    if (field[2] == "ended") split("", copied)
+    if (field[7] !~ /^part [^ :]+: /) continue
+    of = substr(field[7], 6)
+    sub(/:.*/, "", of)
+    copied[of ""]++
+    if (field[3] "" == cycle "") {
+      lines = field[5]
+      spent = field[8]
+      files = field[9]
+    }
+  }
+}
+
+function read_part(  path, line, field, fields, begun, is_run, row, last_night, said) {
+  path = set "/" name[part] "/nights"
+  state[part] = "new"
+  whole[part] = "whole"
+  row = 0
+  while ((getline line < path) > 0) {
+    fields = split(line, field, FS)
+    if (fields != 14) continue
+    row++
+    if (state[part] == "new") state[part] = "open"
+    if (field[2] == "began") begun = field[11]
+    is_run = field[2] ~ /^[0-9]+$/ || field[2] == "cut" || field[2] == "lost"
+    if (field[2] == "lost") begun = 0
+    if (is_run && field[3] "" == of_cycle "") sum(field)
+    if (is_run) note_stop(field)
+    if (field[2] == "ended" && field[3] "" == of_cycle "") {
+      state[part] = "closed"
+      if (field[7] ~ /; incomplete /) whole[part] = "incomplete"
+    }
+    if (row > told[name[part] ""] + 0) tell(field, begun)
+    if (is_run && field[2] != "lost") begun = field[11]
+  }
+  close(path)
+  count[part] = row
+}
+
+# The place of the last stop, and the first of the nights in a row that stopped there. A row is one
+# of a stop where the program said so.
+function note_stop(field,  place) {
+  if (field[2] == "lost") return
+  place = field[7] ~ /^stopped at / ? substr(field[7], 12) : ""
+  if (place "" != stopped[part] "") {
+    since[part] = field[14]
+    twice[part] = 0
+  } else if (place != "" && field[14] "" != since[part] "") twice[part] = 1
+  stopped[part] = place
+}
+
+# Rows of the log of all parts: their sums are those of the cycle.
+function sum(field,  of, kept) {
+  of = name[part] ""
+  kept = ++seen[of] <= copied[of] + 0
+  if (!kept) {
+    spent += field[8] - spent_of[of]
+    files += field[9] - files_of[of]
+    lines += field[5] - lines_of[of]
+    print field[1], field[2], cycle, field[4], number(lines), field[6], "part " of ": " field[7],
+      number(spent), number(files), field[10], 0, nothing, "-", field[14] > rows
+  }
+  spent_of[of] = field[8]
+  files_of[of] = field[9]
+  lines_of[of] = field[5]
+}
+
+function number(value) { return sprintf("%.0f", value) }
+
+function tell(field, begun) {
+  if (field[2] == "cut") print "cut", part, name[part], field[14], field[7] > events
+  if (field[2] == "lost") print "lost", part, name[part], field[3], field[7] > events
+  if (field[2] ~ /^[0-9]+$/ && field[2] > 1)
+    print "stop", part, name[part], field[2], field[7], field[4] > events
+  if (field[2] ~ /^([0-9]+|cut|lost)$/ && field[11] + 0 > begun + 0)
+    print "found", part, name[part], field[3], begun + 0, field[11] > events
+  if (field[2] ~ /^[0-9]+$/) print "run", part, name[part], field[2], field[6] > events
+  if (field[2] == "cut") print "run", part, name[part], 0, field[6] > events
+}

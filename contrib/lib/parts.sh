@@ -1,0 +1,111 @@
+#!/bin/sh
+# The parts of one cycle of a storage root: which there are, where each has its folder, and how they
+# stand. The scripts of `parallel` read this file.
+#
+# The folder `parts-000001` has the parts of cycle 1: `table` with a line for each (its name, the
+# separator that it begins with, the place that it stands alone with), `separators`, which is made
+# of the table, and a folder of `nightly` for each part, by its name.
+# shellcheck disable=SC2030,SC2031,SC2034,SC2154
+
+# Sets `cycle`, the one that is open or that comes next, and `set`, the folder of its parts.
+find_cycle() {
+  cycle=1
+  [ ! -f "$state/nights" ] || cycle=$(awk -F '\t' '
+    NF == 14 && $2 == "ended" { last = $3 }
+    END { printf "%.0f\n", last + 1 }' "$state/nights")
+  set=$state/parts-$(number_of "$cycle")
+}
+
+in_order() {
+  LC_ALL=C awk -f "$here/reports/report.awk" -f "$here/lib/separators.awk" \
+    | LC_ALL=C sort -u -t "$tab" -k 1,1 | cut -f 2
+}
+
+# The last report of all parts: a whole one, or else one that is not.
+report_to_split() {
+  for kind in cycle incomplete; do
+    for file in "$state/reports/$kind"-*; do
+      [ ! -s "$file" ] || echo "$file"
+    done | tail -n 1
+  done | head -n 1
+}
+
+# Separators for so many parts of about one cost, as the last report says what its items cost.
+by_costs() {
+  report=$(report_to_split)
+  [ -n "$report" ] || return 1
+  zcat -f -- "$report" > "$scratch/report" || return 1
+  budget_of_part=$(awk -F '\t' -v parts="$1" '
+    $1 == "ok" && $3 ~ /^[0-9]+$/ { cost += $3 + 1 }
+    END { printf "%.0f\n", int(cost / parts) + 1 }' "$scratch/report")
+  "$program" split --budget "$budget_of_part" --report "$scratch/report"
+  split_status=$?
+  rm -f -- "$scratch/report"
+  return "$split_status"
+}
+
+# Separators by listing directories alone. One that cannot be read stops that: then it lists less.
+by_listing() {
+  wanted=$1
+  until "$program" split --parts "$wanted" "$root" > "$scratch/listed" 2> "$scratch/said"; do
+    wanted=$((wanted / 2))
+    [ "$wanted" -ge 1 ] || return 1
+  done
+  cat -- "$scratch/listed"
+}
+
+# The separators of a new cycle, with those around each place that was not audited in the last one.
+new_separators() {
+  by_costs "$1" > "$scratch/separators" 2> "$scratch/said" \
+    || by_listing "$1" > "$scratch/separators" || return 1
+  if [ -s "$state/alone" ]; then
+    sed 'p; s/$/%01/' "$state/alone" | cat - "$scratch/separators" | in_order
+  else
+    cat -- "$scratch/separators"
+  fi
+}
+
+# Makes the table of the cycle's parts, of so many, where there is none yet.
+make_parts() {
+  [ ! -s "$set/table" ] || return 0
+  mkdir -p -- "$set" && new_separators "$1" > "$set/separators.new" || return 3
+  ALONE=$state/alone awk '
+    BEGIN { while ((getline place < ENVIRON["ALONE"]) > 0) alone[place] }
+    function around(from,  place) {
+      for (place in alone) if (from == place || index(from, place "/") == 1) return place
+      return ""
+    }
+    function line(from) { print ++count "\t" from "\t" around(from) }
+    NR == 1 { line("") }
+    { line($0) }
+    END { if (NR == 0) line("") }' "$set/separators.new" > "$set/table.new" || return 3
+  rm -f -- "$set/separators.new"
+  mv -f -- "$set/table.new" "$set/table"
+}
+
+# Writes the separators of the table, where they are not there or are those of before a division.
+write_separators() {
+  tail -n +2 -- "$set/table" | cut -f 2 > "$set/separators.new" || return 3
+  if cmp -s -- "$set/separators.new" "$set/separators"; then
+    rm -f -- "$set/separators.new"
+  else
+    mv -f -- "$set/separators.new" "$set/separators"
+  fi
+}
+
+count_parts() { wc -l < "$set/table"; }
+
+# The name of a part by its number, and so its folder.
+name_of() { awk -F '\t' -v part="$1" 'NR == part { print $1 }' "$set/table"; }
+
+# Reads the table and all logs: the files `standing`, `events` and `rows` in the folder `scratch`,
+# as `lib/parts.awk` writes them. The parts' own cycle has the number $1.
+read_parts() {
+  LC_ALL=C awk -v set="$set" -v out="$scratch" -v log_of_all="$state/nights" -v cycle="$cycle" \
+    -v of_cycle="$1" -v nothing="$nothing" -f "$here/lib/parts.awk" "$set/table"
+}
+
+# How many parts are in a state: `closed`, `open` or `new`.
+parts_that_are() {
+  awk -F '\t' -v state="$1" '$6 == state { count++ } END { print count + 0 }' "$scratch/standing"
+}

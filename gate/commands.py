@@ -11,8 +11,11 @@ from gate.repository import TOP
 COUNT = re.compile(r"^(\d+) passed, (\d+) failed$")
 # The lines in which a trial, the tests and `rt ci` name what failed.
 NAMED = re.compile(r"failed: |test (?!result:).* FAILED|rt: FAILED: ")
-# What failed, to be shown once more at the end.
+# The lines in which a trial names what it could not try.
+SKIP = re.compile(r"(\S+: )?skipped: ")
+# What failed and what was skipped, to be shown once more at the end.
 FAILURES = []
+SKIPPED = []
 # What runs in a session of its own, which a terminal's interrupt does not reach.
 RUNNING = set()
 INTERRUPTED = threading.Event()
@@ -60,6 +63,8 @@ def counted(name, command, limit=None, count=COUNT, out=None, meets=None, **how)
             meets(line)
         if NAMED.match(line):
             named.append(line.rstrip("\n"))
+        if SKIP.match(line):
+            SKIPPED.append(line.rstrip("\n"))
         found = count.match(line.rstrip("\n"))
         last = found or (None if count is COUNT else last)
         print("%s: %s" % (name, line) if found else line, end="", flush=True, file=out)
@@ -91,7 +96,9 @@ def interrupt():
 
 
 def show_failures():
-    """Shows once more what failed, a line each."""
+    """Shows once more what was skipped and what failed, a line each."""
+    for text in SKIPPED:
+        print("skipped: " + text.replace("skipped: ", "", 1), flush=True)
     for text in FAILURES:
         print("failed: " + text.removeprefix("failed: "), flush=True)
 

@@ -15,6 +15,8 @@ import tempfile
 import time
 import traceback
 
+from shared.packages import why_not
+
 TOP = os.path.dirname(os.path.dirname(os.path.abspath(__file__)))
 LIMIT = 60
 NEW = "cycle 1\nruns 0\nspent 0\nfiles 0\nstart\n"
@@ -47,9 +49,22 @@ def shown(value):
     return text if len(text) < 1500 else text[:700] + " .. " + text[-700:]
 
 
-def trial(tell):
+def trial(tell, needs=()):
     """Calls `tell` with a new folder, and ends with the names of the checks that failed and, as last
-    line, the count."""
+    line, the count.
+
+    Where a tool that it needs is missing and cannot be installed, the trial is skipped and named;
+    under CI (`CI=true`) that is a failure."""
+    name = os.path.basename(sys.argv[0])
+    lacking = why_not(needs)
+    if lacking and os.environ.get("CI", "") in ("", "0", "false"):
+        print("skipped: %s: %s" % (name, lacking))
+        print("0 passed, 0 failed")
+        sys.exit(0)
+    if lacking:
+        print("failed: %s: %s" % (name, lacking))
+        print("0 passed, 1 failed")
+        sys.exit(1)
     folder = tempfile.mkdtemp(prefix="ocfl-scrub-trial-")
     try:
         tell(folder)
@@ -58,8 +73,8 @@ def trial(tell):
         failed.append("an exception: %r" % error)
     finally:
         shutil.rmtree(folder, ignore_errors=True)
-    for name in failed:
-        print("failed: %s: %s" % (os.path.basename(sys.argv[0]), " ".join(name.split())))
+    for check in failed:
+        print("failed: %s: %s" % (name, " ".join(check.split())))
     print("%d passed, %d failed" % (passed, len(failed)))
     sys.exit(1 if failed else 0)
 

@@ -193,4 +193,4 @@ def tell(folder):
     other_devices(folder)
 
 
-common.trial(tell)
+common.trial(tell, needs=["strace"])

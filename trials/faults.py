@@ -194,4 +194,4 @@ def tell(folder):
     is_so("nothing was written below the root", common.snapshot(audit.root), before)
 
 
-common.trial(tell)
+common.trial(tell, needs=["strace"])

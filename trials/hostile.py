@@ -332,4 +332,4 @@ def tell(folder):
     going(folder)
 
 
-common.trial(tell)
+common.trial(tell, needs=["strace"])

@@ -182,4 +182,4 @@ def tell(folder):
         is_so("nothing was written below the root", common.snapshot(root) == before, True)
 
 
-common.trial(tell)
+common.trial(tell, needs=["strace"])

@@ -285,4 +285,4 @@ def tell(folder):
     is_so("nothing was written below the root", common.snapshot(root), before)
 
 
-common.trial(tell)
+common.trial(tell, needs=["strace"])

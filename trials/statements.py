@@ -533,4 +533,4 @@ def tell(folder):
         tried(part, os.path.join(folder, part.__name__))
 
 
-common.trial(tell)
+common.trial(tell, needs=["strace"])

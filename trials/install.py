@@ -51,6 +51,7 @@ share/ocfl-scrub/lib/parts.sh 644
 share/ocfl-scrub/lib/pieces.awk 644
 share/ocfl-scrub/lib/place.sh 644
 share/ocfl-scrub/lib/running.sh 644
+share/ocfl-scrub/lib/runs.awk 644
 share/ocfl-scrub/lib/separators.awk 644
 share/ocfl-scrub/lib/signals.sh 644
 share/ocfl-scrub/lib/state.sh 644

@@ -1,6 +1,6 @@
 #!/usr/bin/env python3
-"""Tries the nights of all parts of `contrib/parallel`, under GNU parallel: 300 objects with damage of
-each kind and one directory that cannot be read, in 24 parts with 4 jobs. Nights are killed, GNU
+"""Tries the nights of all parts of `contrib/parallel`, under GNU parallel: 300 objects with damage
+of each kind and one directory that cannot be read, in 24 parts with 4 jobs. Nights are killed, GNU
 parallel is, and the folder of a part is full. The joined report of each cycle is the audit, but for
 the place that stands alone.
 
@@ -82,7 +82,7 @@ class Cycles:
         add_content(self.root, os.path.dirname(os.path.dirname(BROKEN)), ["d", "e"])
         self.nights = Together(folder + "/state", self.root)
         self.audit = audit(self.root)
-        self.told = set()
+        self.told, self.count = set(), 0
         self.seen = []
 
     def night(self, event="none"):
@@ -104,6 +104,7 @@ class Cycles:
             is_so("a night ends: " + event, said, "in time")
         shutil.rmtree(self.folder + "/running", ignore_errors=True)
         self.told |= told_in(said)
+        self.count += sum(map(int, re.findall(r"(?m)^(\d+) finding\(s\) tonight", said)))
         return night.returncode, said
 
     def fill(self):
@@ -125,6 +126,22 @@ class Cycles:
         return None
 
 
+def all_are_told(made, found):
+    """A message has the first twenty findings, and the number of all."""
+    is_so("each finding was told", made.count >= len(found), True)
+    is_so("and nothing else", sorted(made.told - found), [])
+
+
+def questions(nights, folder):
+    """Each line of a joined report has the run that wrote it."""
+    is_so("database", ask("database", nights.state, folder + "/db")[0], 0)
+    status, out, _ = ran(["sqlite3", folder + "/db", "select count(*), count(began) from dated "
+                                                     "where cycle = 2"])
+    count = nights.has("reports/cycle-000002").count("\n")
+    is_so("each line has its run", (status, out), (0, "%d|%d\n" % (count, count)))
+    is_so("premis", ask("premis", "--each", "finding", nights.state, "2")[0], 0)
+
+
 def cycles(folder):
     """A cycle with a directory that cannot be read, and one where it is mended."""
     made = Cycles(folder, 36)
@@ -136,17 +153,17 @@ def cycles(folder):
     is_so("it is the audit but for the place that stands alone",
           made.nights.has("reports/%s" % report), without(made.audit, BROKEN))
     is_so("which is named", made.nights.has("reports/unread-000001"), BROKEN + "\n")
-    is_so("all its findings were told", sorted(findings(without(made.audit, BROKEN)) - made.told),
-          [])
+    all_are_told(made, findings(without(made.audit, BROKEN)))
     is_stated("its statement", made.nights, report)
     broken.mend()
-    made.told.clear()
+    made.told, made.count = set(), 0
     report = made.cycle(2, ["task by KILL", "parallel by TERM", "program by KILL"])
     is_so("the second cycle is whole", report, "cycle-000002")
     is_so("it is the audit", made.nights.has("reports/%s" % report), made.audit)
-    is_so("all is told", sorted(findings(made.audit) - made.told), [])
+    all_are_told(made, findings(made.audit))
     is_stated("its statement too", made.nights, report)
     statement = made.nights.has("reports/statement-000002")
+    questions(made.nights, folder)
     is_so("it has its parts", bool(re.search(r"(?m)^Parts: 2[0-9]$", statement)), True)
     at_once = [int(line) for line in read(folder + "/at_once").split()]
     is_so("four at once", max(at_once), 4)

@@ -36,22 +36,42 @@ divide_parts() {
   [ ! -s "$scratch/divided" ] || { write_separators && end_earlier; }
 }
 
+# The parts whose folder is bound to other ends than the table says: number and name.
+with_other_ends() {
+  SET=$set awk -F '\t' '
+    function end(word, text) { return text == "" ? word : (text == word ? "./" : "") text }
+    function differs(row,  path, line, is_bound) {
+      path = ENVIRON["SET"] "/" name[row] "/part"
+      is_bound = (getline line < path) > 0
+      if (is_bound && line == "from " end("start", from[row])) {
+        is_bound = (getline line < path) > 0 && line != "below " end("end", from[row + 1])
+      }
+      close(path)
+      return is_bound
+    }
+    { name[NR] = $1; from[NR] = $2 }
+    END { for (row = 1; row <= NR; row++) if (differs(row)) print row "\t" name[row] }' "$set/table"
+}
+
 # Lets the cursor of each part end where the table says that the part ends: earlier than when it was
 # stored, after a division. A kill in between leaves it for the next call.
 end_earlier() {
-  number=0
-  while IFS=$tab read -r name _; do
-    number=$((number + 1))
-    [ -e "$set/$name/part" ] || continue
+  with_other_ends > "$scratch/others"
+  while IFS=$tab read -r number name; do
     ends=$(ends_of "$number" "$set/separators") || return 3
-    [ "$(cat -- "$set/$name/part")" != "$ends" ] || continue
-    (flock -n 8 && end_part_earlier "$set/$name") 8>> "$set/$name/lock" || return 3
-  done < "$set/table"
+    (
+      flock -n 8 || { say "a night still runs in $set/$name, so its part could not be divided"; exit 3; }
+      end_part_earlier "$set/$name"
+    ) 8>> "$set/$name/lock" || return 3
+  done < "$scratch/others"
 }
 
 # The same for one folder. What a run reported there is all before the new end, since it stopped.
 end_part_earlier() {
-  [ "$(sed -n 1p "$1/part")" = "$(printf '%s\n' "$ends" | sed -n 1p)" ] || return 3
+  if [ "$(sed -n 1p "$1/part")" != "$(printf '%s\n' "$ends" | sed -n 1p)" ]; then
+    say "$1 is of another part: $(named "$(cat -- "$1/part")")"
+    return 3
+  fi
   if [ -e "$1/cursor" ]; then
     {
       sed -n 1p "$1/cursor"

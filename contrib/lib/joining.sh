@@ -66,7 +66,7 @@ join_parts() {
   mkdir -p -- "$state/reports" || return 3
   began=$(now) joining=$(seconds_now) joined=$state/reports/joined.new
   add_reports || return 3
-  IFS=$tab read -r spent files lines < "$scratch/sums"
+  IFS=$tab read -r spent files < "$scratch/sums"
   lines=$(wc -l < "$joined") bytes=$(size_of "$joined") digest=$nothing cost=0 run=0 stands=ended
   closed=$state/reports/$kind-$(number_of "$cycle") lacking=''
   [ ! -s "$scratch/unread" ] || lacking="lacks what is not audited"
@@ -74,6 +74,9 @@ join_parts() {
   put_list "$set/separators" "$state/reports/separators-$(number_of "$cycle")" always || return 3
   put_list "$scratch/unread" "$state/reports/unread-$(number_of "$cycle")" '' || return 3
   put_list "$scratch/unread" "$state/alone" '' || return 3
+  awk -v set="$set" -v cycle="$cycle" -v of_cycle="$of_cycle" -f "$here/lib/runs.awk" \
+    "$scratch/standing" > "$scratch/runs" || return 3
+  put_list "$scratch/runs" "$state/reports/runs-$(number_of "$cycle")" always || return 3
   mv -f -- "$joined" "$closed" || return 3
   seconds=$(($(seconds_now) - joining))
   log ended "$(closing_text)" || return 3

@@ -160,7 +160,8 @@ say_stop_at() {
   echo "The night of $whose stopped: $1${reason:+ ($reason)}. The next one tries that place again."
   since=$(stopped_since "$1")
   [ -n "$since" ] || return 0
-  echo "Each night since $since stopped there: what comes after $2${part:+ in this part} is not audited until that place"
+  which=${part:+ in this part}
+  echo "Each night since $since stopped there: what comes after $2$which is not audited until that place"
   echo "can be read. README.md says how to audit the rest: \"A place that cannot be read\"."
 }
 

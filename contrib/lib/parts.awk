@@ -7,7 +7,7 @@
 #             its log has
 #   events    a line for each row that nobody was told of: `found`, `cut`, `lost`, `stop`
 #   rows      the rows of the parts that the log of all parts has not yet
-#   sums      what all parts of the cycle spent, how many files they read, how many lines they have
+#   sums      what all parts of the cycle spent, and how many files they read
 #
 # It takes `set` (the folder of the parts), `cycle` (of all parts), `of_cycle` (of the parts), `night`
 # and `nothing` (the digest of no report). Columns of a line of `standing` that are empty are `-`.
@@ -37,7 +37,7 @@ END {
       filled(twice[part] ? since[part] : ""),
       count[part] + 0 > standing
   }
-  print number(spent), number(files), number(lines) > (out "/sums")
+  print number(spent), number(files) > (out "/sums")
 }
 
 function filled(text) { return text == "" ? "-" : text }
@@ -59,7 +59,6 @@ function read_log(  line, field, of) {
     sub(/:.*/, "", of)
     copied[of ""]++
     if (field[3] "" == cycle "") {
-      lines = field[5]
       spent = field[8]
       files = field[9]
     }
@@ -111,13 +110,12 @@ function sum(field,  of, kept) {
   if (!kept) {
     spent += field[8] - spent_of[of]
     files += field[9] - files_of[of]
-    lines += field[5] - lines_of[of]
-    print field[1], field[2], cycle, field[4], number(lines), field[6], "part " of ": " field[7],
+    # Where these lines are in the joined report is not known before that is made.
+    print field[1], field[2], cycle, field[4], 0, field[6], "part " of ": " field[7],
       number(spent), number(files), field[10], 0, nothing, "-", field[14] > rows
   }
   spent_of[of] = field[8]
   files_of[of] = field[9]
-  lines_of[of] = field[5]
 }
 
 function number(value) { return sprintf("%.0f", value) }

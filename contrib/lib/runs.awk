@@ -1,0 +1,20 @@
+# Reads how the parts of a joined cycle stand, as `lib/parts.awk` writes it, and the log of each part.
+# Writes the rows of their runs in the order of the joined report, with how many lines that has after
+# each of them. It takes `set`, `cycle` (of all parts) and `of_cycle` (of the parts).
+BEGIN { FS = OFS = "\t" }
+
+$6 == "closed" {
+  path = set "/" $2 "/nights"
+  lines = 0
+  while ((getline row < path) > 0) {
+    if (split(row, field, FS) != 14 || field[3] "" != of_cycle "") continue
+    if (field[2] == "ended") lines = field[5]
+    if (field[2] !~ /^([0-9]+|cut)$/) continue
+    row = field[1] OFS field[2] OFS cycle OFS field[4] OFS before + field[5] OFS field[6] OFS \
+      "part " $2 ": " field[7]
+    for (at = 8; at <= 14; at++) row = row OFS field[at]
+    print row
+  }
+  close(path)
+  before += lines
+}

@@ -8,7 +8,7 @@ import sys
 
 from gate import collection, names
 from gate.commands import fail
-from gate.repository import TOP, crates, folder_of
+from gate.repository import TESTS, TOP, crates, folder_of
 
 DEFINITION = re.compile(r"(?m)^(?:pub )?(?:abbrev|record|data|unfoldable) (?:pub )?(\w+)")
 LAW = re.compile(r"(?m)^pub(?:\(crate\))? fn (\w+)")
@@ -86,10 +86,11 @@ def undefined(page, crate, files, wanted):
 def of_laws():
     """The table of laws."""
     page, title = "docs/ASSURANCE.md", "Laws of the definitions"
-    there = [name for crate in crates() for file in ("laws.rt", "records.rt")
-             for name in laws_in(os.path.join(folder_of(crate), "src", file))]
+    modules = ["laws", "records", "parts", "scope_laws"]
+    there = [name for crate in crates() if crate != TESTS for module in modules
+             for name in laws_in(os.path.join(folder_of(crate), "src", module + ".rt"))]
     listed = [name for row in rows(page, title) for name in NAMED.findall(row[1])
-              if name not in (*crates(), "records")]
+              if name not in (*crates(), *modules)]
     return differing("law", page, listed, there)
 
 

@@ -31,6 +31,7 @@ NOT_RUN = {
     "useradd ": "adds a user to the system",
     "systemctl ": "needs a service manager",
     "sudo apt install ": "changes the system; trials/package.py installs the package",
+    "slurm/submit ": "needs a cluster; trials/slurm.py makes one",
 }
 # How blocks begin of which no line is run, and why not.
 NO_COMMANDS = {
@@ -39,7 +40,8 @@ NO_COMMANDS = {
     "reports/statement --seal ": "needs keys, which trials/statements.py makes",
 }
 # Statuses of commands that may end otherwise than with 0: the sample has a damaged file.
-ENDS = [(r"ocfl-scrub (audit|run|check) |/nightly |zdiff ", {0, 1}), (r"/status ", {2})]
+ENDS = [(r"xargs .*\n.*ocfl-scrub audit ", {0, 123}),
+        (r"ocfl-scrub (audit|run|check) |/nightly |zdiff ", {0, 1}), (r"/status ", {2})]
 # What else a user has done before the further commands of a page, which need two whole cycles.
 THEN = {
     "./nightly --state ~/audit --hours 1 /srv/ocfl": [
@@ -194,4 +196,4 @@ def tell(folder):
     tried(links)
 
 
-common.trial(tell)
+common.trial(tell, needs=["parallel"])

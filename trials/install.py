@@ -292,9 +292,10 @@ def manual(prefix):
     told = set(re.findall(r"^\.B (ok|[ES]\d+)$", text, re.MULTILINE))
     is_so("each code is in the page", sorted(codes_of_rules() - told), [])
     is_so("each code of the page is a rule's", sorted(told - codes_of_rules()), [])
-    for command in ["audit", "run", "cycle", "check", "show"]:
+    for command in ["audit", "run", "cycle", "check", "split", "show"]:
         is_so("the page tells of " + command, "\n.BI %s\\~ " % command in text, True)
-    shown = ran([PROGRAM, "run", "--help"])[1] + ran([PROGRAM, "cycle", "--help"])[1]
+    shown = "".join(ran([PROGRAM, command, "--help"])[1]
+                    for command in ["audit", "run", "cycle", "split"])
     options = {"\\-\\-%s" % option for option in re.findall(r"--([a-z]+)", shown)}
     is_so("the page tells of each option", sorted(o for o in options if o not in text), [])
 

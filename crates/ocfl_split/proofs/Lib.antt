@@ -7,4 +7,5 @@ pub mod Cuts
 pub mod Descents
 pub mod LevelLaws
 pub mod LevelZones
+pub mod Listed
 mod Cases

@@ -12,7 +12,7 @@ use Rattle.ocfl_split.specs.Internal.Directories.{IsBelow, IsLevel, AddsBelow}
 use Rattle.ocfl_split.proofs.Entries.{pick_among}
 
 -- of places with equally many names, what lies below the lesser is less
-before_longer : (d e x y : Place) → length d ≡ length e → place_cmp d e ≡ Less → place_cmp (d ++ x) (e ++ y) ≡ Less
+pub before_longer : (d e x y : Place) → length d ≡ length e → place_cmp d e ≡ Less → place_cmp (d ++ x) (e ++ y) ≡ Less
 before_longer [] [] x y same l = absurd cc
 before_longer [] (m ∷ e) x y same l = absurd (omega (arith, same))
 before_longer (n ∷ d) [] x y same l = absurd (omega (arith, same))

@@ -47,7 +47,7 @@ fn cut(alloc: Global, level: &[Place], count: usize) -> Result<Separators, Alloc
     Ok(separators)
 }
 
-/// Separators that split a storage root into about `count` parts, found by listing alone: no file is
+/// Separators that split a storage root into at most `count` parts, found by listing alone: no file is
 /// opened. They are directories of the storage hierarchy (OCFL 1.1, 4.3), objects' roots among them,
 /// all with equally many names, and no object is entered.
 ///

@@ -1,10 +1,10 @@
 //! The laws of what splits a storage root.
-ghost use Rattle.std.specs.Prelude.{◌≡◌, ◌↔◌, ℕ, ◌+◌, ◌*◌, ◌/◌, ◌<◌, ◌≤◌, Some, length};
-ghost use Rattle.ocfl_tree.specs.Ascending.{IsAmong};
-ghost use Rattle.ocfl_tree.specs.Place.{Place};
+ghost use Rattle.std.specs.Prelude.{◌≡◌, ◌↔◌, ℕ, ◌+◌, ◌*◌, ◌/◌, ◌<◌, ◌≤◌, ◌≢◌, Some, length, AllPairs};
+ghost use Rattle.ocfl_tree.specs.Ascending.{IsAmong, IsAscending};
+ghost use Rattle.ocfl_tree.specs.Place.{Place, place_cmp};
 ghost use Rattle.ocfl_tree.specs.StorageRoot.{StorageRoot, dir, at};
 ghost use Rattle.ocfl_split.specs.Levels.{level, LiesInHierarchy};
-ghost use Rattle.ocfl_split.specs.Splitting.{IsSplitLevel, split_level, separators_of};
+ghost use Rattle.ocfl_split.specs.Splitting.{IsSplitLevel, listed_for, split_level, separators_of};
 
 /// What is split is one level of the storage hierarchy: the first that has enough directories, or
 /// else the last that is gone down to.
@@ -38,4 +38,12 @@ pub fn parts_are_even()
     ensures { (directories parts i : ℕ) → 0 < parts
         → (i * directories / parts + directories / parts ≤ (i + 1) * directories / parts)
         × ((i + 1) * directories / parts ≤ i * directories / parts + directories / parts + 1) }
+{}
+
+/// Levels are in order, and each directory is listed at most once.
+#[tactic(auto, using(crate::proofs::Listed::level_rises, crate::proofs::Listed::listed_apart))]
+pub fn directories_are_listed_once()
+    ensures order { (root : StorageRoot) (n : ℕ) → IsAscending place_cmp (level root n) }
+    ensures once { (root : StorageRoot) (count : ℕ)
+        → AllPairs (λ a b. a ≢ b) (listed_for root count) }
 {}

@@ -1,6 +1,6 @@
 //! Cutting a level of the storage hierarchy at equal distances.
-ghost use Rattle.std.specs.Prelude.{◌≡◌, ◌++◌, ◌∷◌, ◌-◌, ◌≤◌, [], length, IsTrue, IfOk, IfErr, OnOk};
-ghost use Rattle.std.specs.Prelude.{MatchResult};
+ghost use Rattle.std.specs.Prelude.{◌≡◌, ◌++◌, ◌∷◌, ◌-◌, ◌≤◌, [], length, IsTrue, IfOk, IfErr};
+ghost use Rattle.std.specs.Prelude.{OnOk, MatchResult};
 ghost use Rattle.ocfl_tree.specs.Ascending.{IsAscending};
 ghost use Rattle.ocfl_tree.specs.Place.{place_cmp};
 ghost use Rattle.ocfl_tree.specs.StorageRoot.{StorageRoot};
@@ -47,21 +47,21 @@ fn cut(alloc: Global, level: &[Place], count: usize) -> Result<Separators, Alloc
     Ok(separators)
 }
 
-/// Separators that split a storage root into at most `count` parts, found by listing alone: no file is
-/// opened. They are directories of the storage hierarchy (OCFL 1.1, 4.3), objects' roots among them,
-/// all with equally many names, and no object is entered.
+/// Separators that split a storage root into at most `count` parts, found by listing alone: no file
+/// is opened. They are directories of the storage hierarchy (OCFL 1.1, 4.3), the roots of objects
+/// among them, and all have equally many names. No object is entered.
 ///
 /// Levels are listed from the storage root down, until one has at least `count` directories, or
-/// there is no deeper one. Of that level's directories those are given that begin `count` parts of
-/// about as many directories, but for the first part; where the level has fewer directories, all but
-/// the first of them. So there are at most `count - 1` separators, and none where `count` is 0 or 1.
+/// there is no deeper one. That level is cut into `count` parts of about as many directories, or
+/// into one part for each directory where there are fewer. The first directory of each part but the
+/// first is a separator. So there are at most `count - 1`, and none where `count` is 0 or 1.
 ///
-/// Not listed are the `extensions` of the storage root, nor anything in a storage root that is not
-/// of one known version, nor directories with more than 127 names. At most 1,000,000 directories are
-/// held: a level is not gone down to where it and the one above have more, and the one above is
-/// split.
+/// Not listed are the `extensions` of the storage root, what lies in a storage root that is not of
+/// one known version, and directories with more than 127 names. At most 1,000,000 directories are
+/// held, of a level and of the next together: where there would be more, the upper level is split.
 ///
-/// `Store` where a directory could not be listed, with its place; `Memory` where memory was refused.
+/// `Store` where a directory could not be listed, with its place. `Memory` where memory was
+/// refused.
 pub fn split<T: Tree>(alloc: Global, store: &mut T, count: usize) -> Result<Separators, Fault>
     ensures only { IfErr result (λ why. IsWayFault why) }
     ensures few { IfOk result (λ separators. length separators ≤ count - 1) }

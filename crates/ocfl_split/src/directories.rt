@@ -1,14 +1,12 @@
 //! The directories of the storage hierarchy right below one, and those of a whole level.
-ghost use Rattle.std.specs.Prelude.{◌≡◌, ◌≤◌, ◌<◌, ◌+◌, ◌++◌, ◌∷◌, [], IsTrue, IfOk, IfErr, OnOk};
-ghost use Rattle.std.specs.Prelude.{length, map, IsPermutation, true, false, List, MatchOption};
-ghost use Rattle.std.specs.Prelude.{MatchResult, MatchBool};
+ghost use Rattle.std.specs.Prelude.{◌≡◌, ◌≤◌, ◌<◌, ◌++◌, ◌∷◌, [], IsTrue, IfOk, IfErr};
+ghost use Rattle.std.specs.Prelude.{length, IsPermutation, true, false, MatchResult};
 ghost use Rattle.std.specs.List.Sorted.{IsSorted};
-ghost use Rattle.ocfl_tree.specs.Ascending.{IsAscending};
 ghost use Rattle.ocfl_tree.specs.Listing.{IsOrdinary, IsListing};
-ghost use Rattle.ocfl_tree.specs.Place.{Place as Spot, Text, text_cmp};
+ghost use Rattle.ocfl_tree.specs.Place.{text_cmp};
 ghost use Rattle.ocfl_tree.specs.StorageRoot.{StorageRoot};
 ghost use Rattle.ocfl_item.specs.Ways.{IsWayFault, is_listable};
-ghost use Rattle.ocfl_split.specs.Levels.{leads_on, directories_below};
+ghost use Rattle.ocfl_split.specs.Levels.{leads_on};
 ghost use Rattle.ocfl_split.specs.Splitting.{ListsAll, ListsStop};
 ghost use Rattle.ocfl_split.specs.Internal.Directories.{is_directory_entry, directories_among};
 ghost use Rattle.ocfl_split.specs.Internal.Directories.{AddsBelow, AddsAll};

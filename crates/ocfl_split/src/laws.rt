@@ -1,5 +1,6 @@
 //! The laws of what splits a storage root.
-ghost use Rattle.std.specs.Prelude.{◌≡◌, ◌↔◌, ℕ, ◌+◌, ◌*◌, ◌/◌, ◌<◌, ◌≤◌, ◌≢◌, Some, length, AllPairs};
+ghost use Rattle.std.specs.Prelude.{◌≡◌, ◌↔◌, ℕ, ◌+◌, ◌*◌, ◌/◌, ◌<◌, ◌≤◌, ◌≢◌, Some, length};
+ghost use Rattle.std.specs.Prelude.{AllPairs};
 ghost use Rattle.ocfl_tree.specs.Ascending.{IsAmong, IsAscending};
 ghost use Rattle.ocfl_tree.specs.Place.{Place, place_cmp};
 ghost use Rattle.ocfl_tree.specs.StorageRoot.{StorageRoot, dir, at};

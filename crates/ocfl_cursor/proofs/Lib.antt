@@ -8,5 +8,7 @@ pub mod Refusals
 pub mod PartTexts
 pub mod PartRefusals
 pub mod Limited
+pub mod PartLimited
+pub mod ShownTexts
 pub mod OnLiterals
 pub mod CursorCases

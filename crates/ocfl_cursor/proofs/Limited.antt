@@ -21,7 +21,7 @@ abbrev pub limit : ℕ
 limit = 262145
 
 -- a text that is too long does not begin as a cursor's
-too_long : (b : Text) → max_text < length b → is_cursor_front b ≡ false
+pub too_long : (b : Text) → max_text < length b → is_cursor_front b ≡ false
 too_long b l = and_right (starts_with nat_eq b (codes "ocfl-scrub cursor ")) (nat_le (length b) max_text) (lt-leb (length b) max_text l)
 
 -- what is read is a cursor's text only where it is all
@@ -53,14 +53,17 @@ RefusedRightly-limited b Memory h = tt
 
 -- ---- of a reader's bytes, where they are known
 
--- the bytes that were read are the first of those
+-- the bytes that were read are the first of those, up to a limit
+abbrev pub IsReadTo : ℕ → Option Text → Text → Type 0
+IsReadTo most known read = IfSome known (λ b. read ≡ take most b)
+
 abbrev pub IsRead : Option Text → Text → Type 0
-IsRead known read = IfSome known (λ b. read ≡ take limit b)
+IsRead known read = IsReadTo limit known read
 
 -- as reading to the end tells
-pub IsRead-to_end : (known : Option Text) (n : ℕ) (read before : Text) → n ≡ limit → before ≡ [] → IfSome (option_map (take n) known) (λ t. read ≡ before ++ t) → IsRead known read
-IsRead-to_end None n read before l e h = tt
-IsRead-to_end (Some b) n read before l e h = h ∙ (λ i. e i ++ take (l i) b)
+pub IsRead-to_end : (most : ℕ) (known : Option Text) (n : ℕ) (read before : Text) → n ≡ most → before ≡ [] → IfSome (option_map (take n) known) (λ t. read ≡ before ++ t) → IsReadTo most known read
+IsRead-to_end most None n read before l e h = tt
+IsRead-to_end most (Some b) n read before l e h = h ∙ (λ i. e i ++ take (l i) b)
 
 pub IsTextOf-read : (known : Option Text) (read : Text) (c : Cursor) → IsRead known read → IsTextOf read c → IfSome known (λ b. IsTextOf b c)
 IsTextOf-read None read c is h = tt

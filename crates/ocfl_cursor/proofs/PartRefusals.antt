@@ -7,6 +7,7 @@ use Rattle.ocfl_cursor.specs.Refusal.{not_cursor, is_cursor_front, is_sealed, Is
 use Rattle.ocfl_cursor.specs.Refused.{IsRefused}
 use Rattle.ocfl_cursor.specs.Part.{part_body, IsPartText}
 use Rattle.ocfl_cursor.specs.PartRefusal.{is_part_front, IsSealedPart, PartRefusedRightly}
+use Rattle.ocfl_cursor.specs.Shown.{PartUnshownRightly}
 use Rattle.ocfl_cursor.specs.Internal.Part.{IsPartBody}
 use Rattle.ocfl_cursor.specs.declared.ends.PartEnds.{PartEnds}
 use Rattle.ocfl_cursor.specs.declared.refused.PartRefused.{PartRefused}
@@ -16,10 +17,10 @@ use Rattle.ocfl_cursor.proofs.PartTexts.{IsPartBody-sealed, part_text_determines
 
 -- ---- a part's cursor passes each test
 
-front-part_text : (e : PartEnds) (b : Text) (c : Cursor) → IsPartText e b c → is_part_front b ≡ true
+pub front-part_text : (e : PartEnds) (b : Text) (c : Cursor) → IsPartText e b c → is_part_front b ≡ true
 front-part_text e b c h = ap is_part_front h.is
 
-seal-part_text : (e : PartEnds) (b : Text) (c : Cursor) → IsPartText e b c → is_sealed b ≡ true
+pub seal-part_text : (e : PartEnds) (b : Text) (c : Cursor) → IsPartText e b c → is_sealed b ≡ true
 seal-part_text e b c h = is_sealed-sealed b (part_body e c) h.is
 
 -- so it is refused for no reason but memory
@@ -46,6 +47,18 @@ pub part_refused : {A : Type 0} (e : PartEnds) (b body : Text) (r : Result A Par
     → (known ≡ Malformed) ⊎ (known ≡ Memory) → (known ≡ Malformed → (f : PartEnds) (c : Cursor) → IsPartBody f body c → ⊥) → IfErr r (λ s. PartRefusedRightly e b s)
 part_refused {A} e b body r passed known p q front is errors none =
     subst (λ (s : Result A PartRefused). IfErr s (λ t. PartRefusedRightly e b t)) (sym (p ∙ ap Err q)) (refused_after_seal e b body known front is errors none)
+
+-- as the text of any part's cursor
+part_unshown_after_seal : (b body : Text) (r : PartRefused) → is_part_front b ≡ true → b ≡ body ++ digest_line body → (r ≡ Malformed) ⊎ (r ≡ Memory)
+    → (r ≡ Malformed → (f : PartEnds) (c : Cursor) → IsPartBody f body c → ⊥) → PartUnshownRightly b r
+part_unshown_after_seal b body r front is (inl m) none =
+    subst (PartUnshownRightly b) (sym m) (record { sealed = sealed_part b body front is; no_cursor = λ f c h. none m f c (IsPartBody-sealed f b body c is h) })
+part_unshown_after_seal b body r front is (inr m) none = subst (PartUnshownRightly b) (sym m) tt
+
+pub part_unshown : {A : Type 0} (b body : Text) (r : Result A PartRefused) (passed known : PartRefused) → r ≡ Err passed → passed ≡ known → is_part_front b ≡ true → b ≡ body ++ digest_line body
+    → (known ≡ Malformed) ⊎ (known ≡ Memory) → (known ≡ Malformed → (f : PartEnds) (c : Cursor) → IsPartBody f body c → ⊥) → IfErr r (λ s. PartUnshownRightly b s)
+part_unshown {A} b body r passed known p q front is errors none =
+    subst (λ (s : Result A PartRefused). IfErr s (λ t. PartUnshownRightly b t)) (sym (p ∙ ap Err q)) (part_unshown_after_seal b body known front is errors none)
 
 -- ---- parts and whole roots
 

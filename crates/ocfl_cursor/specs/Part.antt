@@ -26,6 +26,10 @@ end_line front word end = front ++ end_text word end ++ 10 ∷ []
 abbrev pub ends_lines : PartEnds → Text
 ends_lines e = end_line (codes "from ") (codes "start") e.from ++ end_line (codes "below ") (codes "end") e.below
 
+-- the text without its first line and its last: what is shown of a part's cursor
+abbrev pub part_lines : PartEnds → Cursor → Text
+part_lines e c = ends_lines e ++ cursor_lines c
+
 -- the text before its last line
 abbrev pub part_body : PartEnds → Cursor → Text
 part_body e c = codes "ocfl-scrub part cursor 1\n" ++ ends_lines e ++ cursor_lines c

@@ -39,6 +39,9 @@ pub(crate) const AFTER: &[u8] = b"after ";
 
 pub(crate) const ENDED: &[u8] = b"ended";
 
+/// How many bytes of a part's cursor are read at most: its ends may be long.
+pub(crate) const MAX_PART_TEXT: usize = 67_108_864;
+
 // The first line of a part's cursor.
 pub(crate) const PART_FIRST_LINE: &[u8] = b"ocfl-scrub part cursor 1\n";
 

@@ -1,11 +1,15 @@
 //! The laws of a cursor's text: it determines the cursor, and it reads back.
-ghost use Rattle.std.specs.Prelude.{◌≡◌, List, ℕ, IfOk, IfErr};
+ghost use Rattle.std.specs.Prelude.{◌≡◌, ◌⊎◌, ◌≤◌, List, ℕ, length, IfOk, IfErr};
 ghost use Rattle.ocfl_cursor.specs.Cursor.{Cursor as ModelCursor};
 ghost use Rattle.ocfl_cursor.specs.Part.{IsPartText};
 ghost use Rattle.ocfl_cursor.specs.PartRefusal.{PartRefusedRightly};
 ghost use Rattle.ocfl_cursor.specs.Refusal.{IsTextOf, not_cursor};
 ghost use Rattle.ocfl_cursor.specs.Refused.{IsRefused};
+ghost use Rattle.ocfl_cursor.specs.Shown.{AreShown, IsOfNoBytes, UnshownRightly};
+ghost use Rattle.ocfl_cursor.specs.Stop.{PartStopsRightly};
 ghost use Rattle.ocfl_cursor.specs.declared.ends.PartEnds.{PartEnds as ModelEnds};
+ghost use Rattle.ocfl_cursor.specs.declared.part_reading.PartCursorStop.{PartCursorStop as ModelPartStop};
+ghost use Rattle.ocfl_cursor.specs.declared.showing.ShowStop.{ShowStop as ModelShowStop};
 ghost use Rattle.ocfl_cursor.specs.declared.refused.PartRefused.{PartRefused as ModelRefused};
 
 use crate::cursor::Cursor;
@@ -14,6 +18,7 @@ use crate::encoding::encode;
 use crate::ends::PartEnds;
 use crate::part_decoding::decode_part;
 use crate::part_encoding::encode_part;
+use crate::part_reading::PartCursorStop;
 use crate::refused::{PartRefused, Refused};
 use std::alloc::Global;
 
@@ -53,6 +58,22 @@ pub fn parts_and_whole_are_apart()
         → IsRefused b not_cursor }
     ensures whole { (b : List ℕ) (e : ModelEnds) (c : ModelCursor) → IsTextOf b c
         → PartRefusedRightly e b PartRefused.NotCursor }
+{}
+
+/// A reader's bytes that are the text of a part's cursor are refused to that part for want of
+/// memory alone, unless they are more than are read.
+pub fn no_stored_part_is_refused()
+    ensures { (b : List ℕ) (e : ModelEnds) (c : ModelCursor) → IsPartText e b c
+        → length b ≤ 67108864 → (why : ModelPartStop) → PartStopsRightly e b why
+        → (why ≡ PartCursorStop.Read) ⊎ (why ≡ PartCursorStop.Refused PartRefused.Memory) }
+{}
+
+/// A text determines what is shown of it, and nothing is shown only if the reader failed or memory
+/// was refused.
+pub fn text_determines_what_is_shown()
+    ensures lines { (b l m : List ℕ) → AreShown b l → AreShown b m → l ≡ m }
+    ensures not_refused { (b l : List ℕ) → AreShown b l → (why : ModelShowStop)
+        → UnshownRightly b why → IsOfNoBytes why }
 {}
 
 /// What is written of a part's cursor is read as that cursor, unless memory runs out.

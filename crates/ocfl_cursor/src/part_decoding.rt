@@ -45,7 +45,7 @@ pub fn decode_part(alloc: Global, text: &[u8], ends: &PartEnds) -> Result<Cursor
 }
 
 /// The part and its cursor of which this is the text before its digest line.
-fn read_part_body(alloc: Global, body: &[u8]) -> Result<(PartEnds, Cursor), PartRefused>
+pub(crate) fn read_part_body(alloc: Global, body: &[u8]) -> Result<(PartEnds, Cursor), PartRefused>
     ensures part { IfOk result (λ read. IsPartBody read.0 body.now read.1) }
     ensures malformed { result ≡ Err PartRefused.Malformed
         → (e : ModelEnds) (c : ModelCursor) → IsPartBody e body.now c → ⊥ }

@@ -1,7 +1,8 @@
-//! Writing the text of a part's cursor.
+//! Writing the text of a part's cursor, and the lines that are shown of it.
 ghost use Rattle.std.specs.Prelude.{◌≡◌, ◌++◌, Some, IfOk, OnOk};
 ghost use Rattle.ocfl_cursor.specs.Cursor.{IsCursor};
-ghost use Rattle.ocfl_cursor.specs.Part.{AreEnds, end_text, end_line, ends_lines, part_text};
+ghost use Rattle.ocfl_cursor.specs.Part.{AreEnds, end_text, end_line, ends_lines, part_lines};
+ghost use Rattle.ocfl_cursor.specs.Part.{part_text};
 
 use crate::cursor::Cursor;
 use crate::encoding::cursor_lines;
@@ -30,6 +31,17 @@ pub fn encode_part(alloc: Global, ends: &PartEnds, cursor: &Cursor) -> Result<Ve
     let last_line = digest_line(&text);
     text.extend_from_slice(&last_line)?;
     Ok(text)
+}
+
+/// The text of a part's cursor without its first line and its last: seven lines, to be shown.
+pub fn part_lines(alloc: Global, ends: &PartEnds, cursor: &Cursor) -> Result<Vec<u8>, AllocError>
+    ensures { IfOk result (λ lines. lines.items ≡ part_lines ends.now cursor.now) }
+{
+    let cursor = cursor_lines(alloc, cursor)?;
+    let mut lines = Vec::new(alloc);
+    put_ends(alloc, ends, &mut lines)?;
+    lines.extend_from_slice(&cursor)?;
+    Ok(lines)
 }
 
 /// Appends the lines of both ends.

@@ -28,22 +28,26 @@ pub fn read_cursor<R: Read>(alloc: Global, reader: &mut R) -> Result<Cursor, Cur
     ensures refused { IfErr result
         (λ stop. IfSome (R.remaining reader.old) (λ bytes. StopsRightly bytes stop)) }
 {
-    let bytes = read_limited(alloc, reader)?;
+    let bytes = read_limited(alloc, reader, MAX_TEXT as u64 + 1)?;
     match decode(alloc, &bytes) {
         Ok(cursor) => Ok(cursor),
         Err(refused) => Err(CursorStop::Refused(refused)),
     }
 }
 
-/// All the bytes of a reader, or the first of them, one more than the text of a cursor can have.
-fn read_limited<R: Read>(alloc: Global, reader: &mut R) -> Result<Vec<u8>, CursorStop>
+/// All the bytes of a reader, or the first of them, as many as the limit.
+pub(crate) fn read_limited<R: Read>(
+    alloc: Global,
+    reader: &mut R,
+    limit: u64,
+) -> Result<Vec<u8>, CursorStop>
     ensures bytes { IfOk result
-        (λ bytes. IfSome (R.remaining reader.old) (λ all. bytes.items ≡ take 262145 all)) }
+        (λ bytes. IfSome (R.remaining reader.old) (λ all. bytes.items ≡ take limit all)) }
     ensures stop { IfErr result
         (λ stop. (stop ≡ CursorStop.Read) ⊎ (stop ≡ CursorStop.Refused Refused.Memory)) }
 {
     let mut bytes = Vec::new(alloc);
-    let mut limited = Read::take(reader, MAX_TEXT as u64 + 1);
+    let mut limited = Read::take(reader, limit);
     match limited.read_to_end(&mut bytes) {
         Ok(_) => Ok(bytes),
         Err(error) if error.kind() == ErrorKind::OutOfMemory => {

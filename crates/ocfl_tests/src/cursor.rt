@@ -12,6 +12,7 @@ use std::process::Abort;
 use std::test::Fail;
 
 mod part;
+mod stored;
 
 /// A text of a cursor behind `o/v1/content/c`, before its digest line.
 const BODY: &str = "ocfl-scrub cursor 2\ncycle 3\nruns 2\nspent 9\nfiles 3\nafter o/v1/content/c\n";

@@ -10,7 +10,7 @@ use std::alloc::Global;
 use std::test::Fail;
 
 /// The ends of a part, by their paths; `-` is no place.
-fn ends_of(alloc: Global, from: &str, below: &str) -> Result<PartEnds, Fail> {
+pub(super) fn ends_of(alloc: Global, from: &str, below: &str) -> Result<PartEnds, Fail> {
     let end_of = |path: &str| -> Result<Option<Place>, Fail> {
         if path == "-" {
             Ok(None)

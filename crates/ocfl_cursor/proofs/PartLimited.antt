@@ -1,0 +1,124 @@
+-- What the first bytes of a reader tell of all of them, where one more is read than is taken as a part's cursor.
+use Rattle.std.proofs.Common.{◌≡◌, ◌⊎◌, inl, inr, ℕ, ◌<◌, ◌≤◌, ◌&&◌, nat_le, true, false, min, length, take, Option, Some, None, IfSome, refl, sym, ap, ap₂, subst, ◌∙◌, arith, length-take}
+use Rattle.std.proofs.lemmas.Bool.{le-leb, lt-leb, and_right, true≢false}
+use Rattle.std.proofs.lemmas.List.{take_all}
+use Rattle.ocfl_tree.specs.Place.{Text}
+use Rattle.ocfl_cursor.specs.Cursor.{Cursor}
+use Rattle.ocfl_cursor.specs.Part.{IsPartText}
+use Rattle.ocfl_cursor.specs.PartRefusal.{is_part_front, PartRefusedRightly}
+use Rattle.ocfl_cursor.specs.Shown.{AreShown, IsShownFrom, UnshownRightly}
+use Rattle.ocfl_cursor.specs.Stop.{is_read_as_part, max_part_text, PartStopsRightly}
+use Rattle.ocfl_cursor.specs.declared.ends.PartEnds.{PartEnds}
+use Rattle.ocfl_cursor.specs.declared.part_reading.PartCursorStop.{PartCursorStop}
+use Rattle.ocfl_cursor.specs.declared.part_reading.PartCursorStop.TheVariants as part
+use Rattle.ocfl_cursor.specs.declared.reading.CursorStop.{CursorStop}
+use Rattle.ocfl_cursor.specs.declared.reading.CursorStop.TheVariants as stop
+use Rattle.ocfl_cursor.specs.declared.refused.PartRefused.{PartRefused}
+use Rattle.ocfl_cursor.specs.declared.refused.PartRefused.TheVariants.{NotCursor, Damaged, Malformed, OtherPart, Memory}
+use Rattle.ocfl_cursor.specs.declared.refused.Refused.TheVariants as refused
+use Rattle.ocfl_cursor.specs.declared.showing.ShowStop.{ShowStop}
+use Rattle.ocfl_cursor.specs.declared.showing.ShowStop.TheVariants as show
+use Rattle.ocfl_cursor.proofs.Limited.{IsReadTo, too_long}
+use Rattle.ocfl_cursor.proofs.PartRefusals.{front-part_text, only_memory}
+use Rattle.ocfl_cursor.proofs.Refusals.{refused_not_cursor}
+
+-- how many bytes are read at most
+abbrev pub part_limit : ℕ
+part_limit = 67108865
+
+-- ---- all bytes, or too many
+
+-- what is read is all where it is not too much
+all_read : (b read : Text) → read ≡ take part_limit b → length read ≤ max_part_text → read ≡ b
+all_read b read is few =
+    let short : min part_limit (length b) ≤ max_part_text = omega (arith, length-take part_limit b, ap length is) in
+    is ∙ take_all part_limit b (omega (arith, short))
+
+-- else there are more than are read as a part's cursor
+more_than_read : (b read : Text) → read ≡ take part_limit b → max_part_text < length read → max_part_text < length b
+more_than_read b read is many = omega (arith, length-take part_limit b, ap length is)
+
+too_many : (b : Text) → max_part_text < length b → is_read_as_part b ≡ false
+too_many b many = and_right (is_part_front b) (nat_le (length b) max_part_text) (lt-leb (length b) max_part_text many)
+
+pub read_as_part : (b : Text) → is_part_front b ≡ true → length b ≤ max_part_text → is_read_as_part b ≡ true
+read_as_part b front few = ap₂ (λ r s. r && s) front (le-leb (length b) max_part_text few)
+
+-- ---- as the cursor of a part
+
+-- why it is refused that is read whole
+stops_as_refused : (e : PartEnds) (b : Text) (r : PartRefused) → length b ≤ max_part_text → PartRefusedRightly e b r → PartStopsRightly e b (part.Refused r)
+stops_as_refused e b NotCursor few h = ap (λ r. r && nat_le (length b) max_part_text) h
+stops_as_refused e b Damaged few h = (read_as_part b h.0 few, h)
+stops_as_refused e b Malformed few h = (read_as_part b h.sealed.front few, h)
+stops_as_refused e b OtherPart few h = (read_as_part b (front-part_text h.ends b h.cursor h.is) few, h)
+stops_as_refused e b Memory few h = tt
+
+module _ (known : Option Text) (read : Text) where
+  pub part_text_read : (e : PartEnds) (c : Cursor) → IsReadTo part_limit known read → length read ≤ max_part_text → IsPartText e read c → IfSome known (λ b. IsPartText e b c)
+  part_text_read e c is few h = by known is
+    where
+      by : (k : Option Text) → IsReadTo part_limit k read → IfSome k (λ b. IsPartText e b c)
+      by None g = tt
+      by (Some b) g = subst (λ t. IsPartText e t c) (all_read b read g few) h
+
+  pub part_stops_read : (e : PartEnds) (r : PartRefused) → IsReadTo part_limit known read → length read ≤ max_part_text → PartRefusedRightly e read r → IfSome known (λ b. PartStopsRightly e b (part.Refused r))
+  part_stops_read e r is few h = by known is
+    where
+      by : (k : Option Text) → IsReadTo part_limit k read → IfSome k (λ b. PartStopsRightly e b (part.Refused r))
+      by None g = tt
+      by (Some b) g = subst (λ t. PartStopsRightly e t (part.Refused r)) (all_read b read g few) (stops_as_refused e read r few h)
+
+  pub part_stops_too_many : (e : PartEnds) → IsReadTo part_limit known read → max_part_text < length read → IfSome known (λ b. PartStopsRightly e b (part.Refused NotCursor))
+  part_stops_too_many e is many = by known is
+    where
+      by : (k : Option Text) → IsReadTo part_limit k read → IfSome k (λ b. PartStopsRightly e b (part.Refused NotCursor))
+      by None g = tt
+      by (Some b) g = too_many b (more_than_read b read g many)
+
+  -- ---- what is shown
+
+  pub shown_read : (lines : Text) → IsReadTo part_limit known read → length read ≤ max_part_text → AreShown read lines → IsShownFrom known lines
+  shown_read lines is few h = record { bytes = read; are = h; stored = by known is }
+    where
+      by : (k : Option Text) → IsReadTo part_limit k read → IfSome k (λ b. b ≡ read)
+      by None g = tt
+      by (Some b) g = sym (all_read b read g few)
+
+  pub unshown_read : (why : ShowStop) → IsReadTo part_limit known read → length read ≤ max_part_text → UnshownRightly read why → IfSome known (λ b. UnshownRightly b why)
+  unshown_read why is few h = by known is
+    where
+      by : (k : Option Text) → IsReadTo part_limit k read → IfSome k (λ b. UnshownRightly b why)
+      by None g = tt
+      by (Some b) g = subst (λ t. UnshownRightly t why) (all_read b read g few) h
+
+  pub unshown_too_many : IsReadTo part_limit known read → max_part_text < length read → IfSome known (λ b. UnshownRightly b (show.Whole (stop.Refused refused.NotCursor)))
+  unshown_too_many is many = by known is
+    where
+      by : (k : Option Text) → IsReadTo part_limit k read → IfSome k (λ b. UnshownRightly b (show.Whole (stop.Refused refused.NotCursor)))
+      by None g = tt
+      by (Some b) g =
+          let more : max_part_text < length b = more_than_read b read g many in
+          (too_many b more, refused_not_cursor b (too_long b (omega (arith, more))))
+
+-- ---- a stop before any bytes are refused says nothing of them
+
+pub part_stops_early : (known : Option Text) (e : PartEnds) (why : PartCursorStop) → (why ≡ part.Read) ⊎ (why ≡ part.Refused Memory) → IfSome known (λ b. PartStopsRightly e b why)
+part_stops_early None e why h = tt
+part_stops_early (Some b) e why (inl s) = subst (PartStopsRightly e b) (sym s) tt
+part_stops_early (Some b) e why (inr s) = subst (PartStopsRightly e b) (sym s) tt
+
+pub unshown_early : (known : Option Text) (why : CursorStop) → (why ≡ stop.Read) ⊎ (why ≡ stop.Refused refused.Memory) → IfSome known (λ b. UnshownRightly b (show.Whole why))
+unshown_early None why h = tt
+unshown_early (Some b) why (inl s) = subst (λ w. UnshownRightly b (show.Whole w)) (sym s) tt
+unshown_early (Some b) why (inr s) = subst (λ w. UnshownRightly b (show.Whole w)) (sym s) tt
+
+-- ---- the text of a part's cursor that is not too long is refused for want of memory alone
+
+pub only_memory_stops : (b : Text) (e : PartEnds) (c : Cursor) → IsPartText e b c → length b ≤ max_part_text → (why : PartCursorStop) → PartStopsRightly e b why → (why ≡ part.Read) ⊎ (why ≡ part.Refused Memory)
+only_memory_stops b e c h few part.Read k = inl refl
+only_memory_stops b e c h few (part.Refused NotCursor) k = absurd (true≢false (sym (read_as_part b (front-part_text e b c h) few) ∙ k))
+only_memory_stops b e c h few (part.Refused Damaged) k = inr (ap (λ r. part.Refused r) (only_memory e b c h Damaged k.1))
+only_memory_stops b e c h few (part.Refused Malformed) k = inr (ap (λ r. part.Refused r) (only_memory e b c h Malformed k.1))
+only_memory_stops b e c h few (part.Refused OtherPart) k = inr (ap (λ r. part.Refused r) (only_memory e b c h OtherPart k.1))
+only_memory_stops b e c h few (part.Refused Memory) k = inr refl

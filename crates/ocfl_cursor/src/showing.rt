@@ -1,0 +1,96 @@
+//! Showing a stored cursor, whether of a whole root or of one part.
+ghost use Rattle.std.specs.Prelude.{◌≡◌, ◌≤◌, length, true, IfOk, IfErr, IfSome};
+ghost use Rattle.ocfl_cursor.specs.PartRefusal.{is_part_front};
+ghost use Rattle.ocfl_cursor.specs.Refused.{RefusedRightly};
+ghost use Rattle.ocfl_cursor.specs.Shown.{AreShown, AreWholeLines, IsShownFrom};
+ghost use Rattle.ocfl_cursor.specs.Shown.{PartUnshownRightly, UnshownRightly};
+ghost use Rattle.ocfl_cursor.specs.Internal.Part.{ArePartTextLines};
+
+use crate::decoding::decode;
+use crate::encoding::cursor_lines;
+use crate::form::{MAX_PART_TEXT, PART_FIRST_LINE};
+use crate::part_decoding::read_part_body;
+use crate::part_encoding::part_lines;
+use crate::reading::{CursorStop, read_limited};
+use crate::refused::{PartRefused, Refused};
+use crate::seal::sealed_body;
+use std::alloc::Global;
+use std::io::Read;
+
+/// Why nothing is shown of a stored cursor.
+#[derive(Clone, Copy, Debug, PartialEq, Eq)]
+pub enum ShowStop {
+    /// The reader failed, memory was refused, or the bytes are refused as a whole root's cursor:
+    /// their first line is not that of a part's cursor, or they are more than 67,108,864.
+    Whole(CursorStop),
+    /// The first line is that of a part's cursor, and the bytes are refused as one, or memory was.
+    Part(PartRefused),
+}
+
+/// Reads a stored cursor from all the bytes of a reader, be it that of a whole root or of any part,
+/// and gives the lines to be shown: the text without its first line and its last. So the lines of a
+/// part's cursor begin with those of its ends. Of a whole root's cursor the lines are those of
+/// version 2 in any case.
+///
+/// Other bytes are refused by the kind that their first line names.
+pub fn read_shown<R: Read>(alloc: Global, reader: &mut R) -> Result<Vec<u8>, ShowStop>
+    ensures lines { IfOk result (λ lines. IsShownFrom (R.remaining reader.old) lines.items) }
+    ensures refused { IfErr result
+        (λ stop. IfSome (R.remaining reader.old) (λ bytes. UnshownRightly bytes stop)) }
+{
+    let bytes = match read_limited(alloc, reader, MAX_PART_TEXT as u64 + 1) {
+        Ok(bytes) => bytes,
+        Err(why) => return Err(ShowStop::Whole(why)),
+    };
+    if bytes.len() > MAX_PART_TEXT {
+        return Err(ShowStop::Whole(CursorStop::Refused(Refused::NotCursor)));
+    }
+    shown_lines(alloc, &bytes)
+}
+
+/// The lines that are shown of the cursor whose text the bytes are.
+fn shown_lines(alloc: Global, text: &[u8]) -> Result<Vec<u8>, ShowStop>
+    requires short { length text.now ≤ 67108864 }
+    ensures lines { IfOk result (λ lines. AreShown text.now lines.items) }
+    ensures refused { IfErr result (λ stop. UnshownRightly text.now stop) }
+{
+    if text.starts_with(PART_FIRST_LINE) {
+        match lines_of_part(alloc, text) {
+            Ok(lines) => Ok(lines),
+            Err(refused) => Err(ShowStop::Part(refused)),
+        }
+    } else {
+        match lines_of_whole(alloc, text) {
+            Ok(lines) => Ok(lines),
+            Err(refused) => Err(ShowStop::Whole(CursorStop::Refused(refused))),
+        }
+    }
+}
+
+/// The lines of the whole root's cursor whose text the bytes are.
+fn lines_of_whole(alloc: Global, text: &[u8]) -> Result<Vec<u8>, Refused>
+    ensures lines { IfOk result (λ lines. AreWholeLines text.now lines.items) }
+    ensures refused { IfErr result (λ refused. RefusedRightly text.now refused) }
+{
+    let cursor = decode(alloc, text)?;
+    match cursor_lines(alloc, &cursor) {
+        Ok(lines) => Ok(lines),
+        Err(_) => Err(Refused::Memory),
+    }
+}
+
+/// The lines of the part's cursor whose text the bytes are.
+fn lines_of_part(alloc: Global, text: &[u8]) -> Result<Vec<u8>, PartRefused>
+    requires front { is_part_front text.now ≡ true }
+    ensures lines { IfOk result (λ lines. ArePartTextLines text.now lines.items) }
+    ensures refused { IfErr result (λ refused. PartUnshownRightly text.now refused) }
+{
+    let Some(body) = sealed_body(text) else {
+        return Err(PartRefused::Damaged);
+    };
+    let (ends, cursor) = read_part_body(alloc, body)?;
+    match part_lines(alloc, &ends, &cursor) {
+        Ok(lines) => Ok(lines),
+        Err(_) => Err(PartRefused::Memory),
+    }
+}

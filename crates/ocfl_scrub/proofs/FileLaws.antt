@@ -1,11 +1,17 @@
 -- What is refused, shown and handed back of a cursor that is stored.
-use Rattle.std.proofs.Common.{◌≡◌, refl, subst, arith, sym, ◌∙◌, ap, ℕ, ◌+◌, ◌<◌, List, ◌++◌, length, take, Bool, true, false, Option, Some, None, Vec, inl, inr}
+use Rattle.std.proofs.Common.{◌≡◌, refl, subst, arith, sym, ◌∙◌, ap, ℕ, ◌+◌, ◌<◌, ◌≤◌, List, ◌++◌, length, take, Bool, true, false, Option, Some, None, Vec, inl, inr}
 use Rattle.std.specs.Prelude.{◌≢◌, ◌↔◌, if◌then◌else◌}
 use Rattle.std.specs.declared.alloc.Global.{Global}
 use Rattle.ocfl_tree.specs.Place.{Text, Place}
 use Rattle.ocfl_cursor.specs.Cursor.{Cursor, new_cursor, cursor_lines, cursor_text}
 use Rattle.ocfl_cursor.specs.Moves.{after_run}
+use Rattle.ocfl_cursor.specs.Part.{IsPartText, part_lines}
 use Rattle.ocfl_cursor.specs.Refusal.{Refusal, refusal, IsTextOf}
+use Rattle.ocfl_cursor.specs.Shown.{AreShown, IsShownFrom}
+use Rattle.ocfl_cursor.specs.Stop.{max_part_text}
+use Rattle.ocfl_cursor.specs.declared.ends.PartEnds.{PartEnds}
+use Rattle.ocfl_cursor.proofs.PartLimited.{read_as_part}
+use Rattle.ocfl_cursor.proofs.PartRefusals.{front-part_text}
 use Rattle.ocfl_cursor.specs.Refused.{reason}
 use Rattle.ocfl_audit.specs.Runs.{Limits}
 use Rattle.ocfl_cursor.specs.declared.limits.Limits.{Limits as MadeLimits}
@@ -49,23 +55,45 @@ none_needed limits n = (λ h. h, λ h. h)
 
 -- ---- what is shown
 
-module _ (one : (b : Text) (c d : Cursor) → IsTextOf b c → IsTextOf b d → c ≡ d) where
+-- the lines are those of the text
+lines_of_text : (one : (b l m : Text) → AreShown b l → AreShown b m → l ≡ m) (bytes lines right : Text) → IsShownFrom (Some bytes) lines → AreShown bytes right → lines ≡ right
+lines_of_text one bytes lines right h are = one bytes lines right (subst (λ b. AreShown b lines) (sym h.stored) h.are) are
+
+module _ (one : (b l m : Text) → AreShown b l → AreShown b m → l ≡ m) (bytes before behind right : Text) (are : AreShown bytes right) where
+  lines_shown : ShowsWith (Some (Some bytes)) note.Nothing (Some before) (Some behind) ↔ (behind ≡ before ++ right)
+  lines_shown = (
+    λ h. h.wrote ∙ ap (λ l. before ++ l) (lines_of_text one bytes h.lines right h.stored are),
+    λ e. record { lines = right; stored = record { bytes = bytes; are = are; stored = refl }; wrote = e },
+  )
+
+  part_shown : ShowsWith (Some (Some bytes)) note.OutputFailed (Some before) (Some behind) ↔ ((gone : ℕ) × ((gone < length right) × (behind ≡ before ++ take gone right)))
+  part_shown = (
+    λ h. let same : h.lines ≡ right = lines_of_text one bytes h.lines right h.stored are in
+        let long : length h.lines ≡ length right = ap length same in
+        let proper = h.proper in
+        (h.gone, (omega (arith, proper, long), h.wrote ∙ ap (λ l. before ++ take h.gone l) same)),
+    λ k. record { lines = right; stored = record { bytes = bytes; are = are; stored = refl }; gone = k.0; proper = k.1.0; wrote = k.1.1 },
+  )
+
+whole_are : (bytes : Text) (c : Cursor) → IsTextOf bytes c → AreShown bytes (cursor_lines c)
+whole_are bytes c is = inl (record { cursor = c; is_text = is; lines_are = refl })
+
+part_are : (bytes : Text) (e : PartEnds) (c : Cursor) → IsPartText e bytes c → length bytes ≤ max_part_text → AreShown bytes (part_lines e c)
+part_are bytes e c is few = inr (record { ends = e; cursor = c; is_text = is; is_read = read_as_part bytes (front-part_text e bytes c is) few; lines_are = refl })
+
+module _ (one : (b l m : Text) → AreShown b l → AreShown b m → l ≡ m) where
   pub shown_whole : (bytes before behind : Text) (c : Cursor) → IsTextOf bytes c
       → ShowsWith (Some (Some bytes)) note.Nothing (Some before) (Some behind) ↔ (behind ≡ before ++ cursor_lines c)
-  shown_whole bytes before behind c is =
-      (λ h. h.wrote ∙ ap (λ d. before ++ cursor_lines d) (one bytes h.shown c h.stored is), λ e. record { shown = c; stored = is; wrote = e })
+  shown_whole bytes before behind c is = lines_shown one bytes before behind (cursor_lines c) (whole_are bytes c is)
 
   pub shown_in_part : (bytes before behind : Text) (c : Cursor) → IsTextOf bytes c
       → ShowsWith (Some (Some bytes)) note.OutputFailed (Some before) (Some behind)
       ↔ ((gone : ℕ) × ((gone < length (cursor_lines c)) × (behind ≡ before ++ take gone (cursor_lines c))))
-  shown_in_part bytes before behind c is = (
-    λ h. let same = one bytes h.shown c h.stored is in
-        let lines : cursor_lines h.shown ≡ cursor_lines c = ap cursor_lines same in
-        let long : length (cursor_lines h.shown) ≡ length (cursor_lines c) = ap length lines in
-        let proper = h.proper in
-        (h.gone, (omega (arith, proper, long), h.wrote ∙ ap (λ t. before ++ take h.gone t) lines)),
-    λ k. record { shown = c; stored = is; gone = k.0; proper = k.1.0; wrote = k.1.1 },
-  )
+  shown_in_part bytes before behind c is = part_shown one bytes before behind (cursor_lines c) (whole_are bytes c is)
+
+  pub shown_of_part : (bytes before behind : Text) (e : PartEnds) (c : Cursor) → IsPartText e bytes c → length bytes ≤ max_part_text
+      → ShowsWith (Some (Some bytes)) note.Nothing (Some before) (Some behind) ↔ (behind ≡ before ++ part_lines e c)
+  shown_of_part bytes before behind e c is few = lines_shown one bytes before behind (part_lines e c) (part_are bytes e c is few)
 
 -- ---- what is handed back
 

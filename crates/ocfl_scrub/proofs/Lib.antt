@@ -25,6 +25,9 @@ pub mod PayLaws
 pub mod RunTurns
 pub mod RunLaws
 pub mod PerformLaws
+pub mod ScopeLaws
+pub mod ShownLaws
+pub mod ScopeEnds
 pub mod NoteLaws
 pub mod FileLaws
 pub mod HeadlineLaws

@@ -1,19 +1,27 @@
 -- What the status and the text that a command ends with say of it.
-use Rattle.std.proofs.Common.{◌≡◌, refl, sym, ◌∙◌, ℕ, ◌≤◌, suc, Some, None, Vec, inl, inr, Bool, true, false, arith}
+use Rattle.std.proofs.Common.{◌≡◌, refl, sym, ◌∙◌, ℕ, ◌≤◌, suc, [], Option, Some, None, Vec, inl, inr, Bool, true, false, arith}
 use Rattle.std.specs.Prelude.{◌≢◌, ◌⊎◌, ◌↔◌}
 use Rattle.std.specs.declared.alloc.Global.{Global}
+use Rattle.ocfl_tree.specs.Place.{Place}
 use Rattle.ocfl_cursor.specs.Cursor.{Cursor, start, new_cursor}
 use Rattle.ocfl_cursor.specs.declared.limits.Limits.{Limits}
 use Rattle.ocfl_cursor.specs.declared.reading.CursorStop.{CursorStop}
 use Rattle.ocfl_cursor.specs.declared.reading.CursorStop.TheVariants as stop
+use Rattle.ocfl_cursor.specs.declared.part_reading.PartCursorStop.{PartCursorStop}
+use Rattle.ocfl_cursor.specs.declared.part_reading.PartCursorStop.TheVariants as stops
+use Rattle.ocfl_cursor.specs.declared.refused.PartRefused.{PartRefused}
+use Rattle.ocfl_cursor.specs.declared.refused.PartRefused.TheVariants as part
+use Rattle.ocfl_cursor.specs.declared.showing.ShowStop.{ShowStop}
+use Rattle.ocfl_cursor.specs.declared.showing.ShowStop.TheVariants as show
 use Rattle.ocfl_cursor.specs.declared.refused.Refused.{Refused}
 use Rattle.ocfl_cursor.specs.declared.refused.Refused.TheVariants as refused
 use Rattle.ocfl_item.specs.declared.fault.Fault.{Fault}
 use Rattle.ocfl_item.specs.declared.fault.Fault.TheVariants as fault
 use Rattle.ocfl_deed.specs.declared.deed.Deed.{Deed}
 use Rattle.ocfl_deed.specs.declared.deed.Deed.TheVariants as deed
-use Rattle.ocfl_scrub.specs.Noting.{IsStatus, IsStopSaid, IsRunSaid, IsStopNote, IsAuditSaid, IsCheckSaid, IsCycleSaid, IsShowSaid, IsCheckNote, IsAuditNote, IsRunNote, IsCycleNote, IsUnreadNote}
+use Rattle.ocfl_scrub.specs.Noting.{IsStatus, IsStopSaid, IsRunSaid, IsStopNote, IsAuditSaid, IsCheckSaid, IsCycleSaid, IsShowSaid, IsCheckNote, IsAuditNote, IsRunNote, IsCycleNote, IsUnreadNote, IsUnshownNote}
 use Rattle.ocfl_scrub.specs.Performing.{IsKept, IsKeptBy, IsSilent, IsWhole}
+use Rattle.ocfl_scrub.specs.Scoping.{IsBranchNote, IsBranchSaid, IsPartRunSaid, IsPartUnreadNote}
 use Rattle.ocfl_scrub.specs.declared.checking.End.{End}
 use Rattle.ocfl_scrub.specs.declared.checking.End.TheVariants as end
 use Rattle.ocfl_scrub.specs.declared.running.RunStatus.{RunStatus}
@@ -49,6 +57,7 @@ not_small s h = let m = small (suc (suc s)) h in omega (arith, m)
 pub without_finding : (n : Note) → IsStatus 0 n ↔ (IsWhole n ⊎ (n ≡ note.NoItem))
 without_finding note.Nothing = agree (inl refl) (inl tt)
 without_finding note.NoItem = agree refl (inr refl)
+without_finding note.EmptyBranch = neither (λ e. omega (arith, e)) (none_of never (λ e. cc))
 without_finding note.BadPath = neither (λ e. omega (arith, e)) (none_of never (λ e. cc))
 without_finding (note.StoppedAt p) = neither (λ e. omega (arith, e)) (none_of never (λ e. cc))
 without_finding note.OutOfMemory = neither (λ e. omega (arith, e)) (none_of never (λ e. cc))
@@ -58,10 +67,12 @@ without_finding (note.CycleMade runs cost ended) = agree (inl refl) (inl tt)
 without_finding note.CursorWorn = neither (λ e. omega (arith, e)) (none_of never (λ e. cc))
 without_finding note.CursorFileFailed = neither (λ e. omega (arith, e)) (none_of never (λ e. cc))
 without_finding (note.CursorRefused why) = neither (λ h. let e = h.0 in omega (arith, e)) (none_of never (λ e. cc))
+without_finding (note.PartCursorRefused why) = neither (λ h. let e = h.0 in omega (arith, e)) (none_of never (λ e. cc))
 
 pub with_finding : (n : Note) → IsStatus 1 n ↔ IsWhole n
 with_finding note.Nothing = agree (inr refl) tt
 with_finding note.NoItem = neither (λ e. omega (arith, e)) never
+with_finding note.EmptyBranch = neither (λ e. omega (arith, e)) never
 with_finding note.BadPath = neither (λ e. omega (arith, e)) never
 with_finding (note.StoppedAt p) = neither (λ e. omega (arith, e)) never
 with_finding note.OutOfMemory = neither (λ e. omega (arith, e)) never
@@ -71,24 +82,28 @@ with_finding (note.CycleMade runs cost ended) = agree (inr refl) tt
 with_finding note.CursorWorn = neither (λ e. omega (arith, e)) never
 with_finding note.CursorFileFailed = neither (λ e. omega (arith, e)) never
 with_finding (note.CursorRefused why) = neither (λ h. let e = h.0 in omega (arith, e)) never
+with_finding (note.PartCursorRefused why) = neither (λ h. let e = h.0 in omega (arith, e)) never
 
-pub of_no_place : (n : Note) → IsStatus 2 n ↔ (n ≡ note.BadPath)
-of_no_place note.Nothing = neither (not_small 0) (λ e. cc)
-of_no_place note.NoItem = neither (λ e. omega (arith, e)) (λ e. cc)
-of_no_place note.BadPath = agree refl refl
-of_no_place (note.StoppedAt p) = neither (λ e. omega (arith, e)) (λ e. cc)
-of_no_place note.OutOfMemory = neither (λ e. omega (arith, e)) (λ e. cc)
-of_no_place note.OutputFailed = neither (λ e. omega (arith, e)) (λ e. cc)
-of_no_place (note.RunMade cycle runs cost ended) = neither (not_small 0) (λ e. cc)
-of_no_place (note.CycleMade runs cost ended) = neither (not_small 0) (λ e. cc)
-of_no_place note.CursorWorn = neither (λ e. omega (arith, e)) (λ e. cc)
-of_no_place note.CursorFileFailed = neither (λ e. omega (arith, e)) (λ e. cc)
-of_no_place (note.CursorRefused why) = neither (λ h. let e = h.0 in omega (arith, e)) (λ e. cc)
+pub of_no_item : (n : Note) → IsStatus 2 n ↔ ((n ≡ note.BadPath) ⊎ (n ≡ note.EmptyBranch))
+of_no_item note.Nothing = neither (not_small 0) (none_of (λ e. cc) (λ e. cc))
+of_no_item note.NoItem = neither (λ e. omega (arith, e)) (none_of (λ e. cc) (λ e. cc))
+of_no_item note.BadPath = agree refl (inl refl)
+of_no_item note.EmptyBranch = agree refl (inr refl)
+of_no_item (note.StoppedAt p) = neither (λ e. omega (arith, e)) (none_of (λ e. cc) (λ e. cc))
+of_no_item note.OutOfMemory = neither (λ e. omega (arith, e)) (none_of (λ e. cc) (λ e. cc))
+of_no_item note.OutputFailed = neither (λ e. omega (arith, e)) (none_of (λ e. cc) (λ e. cc))
+of_no_item (note.RunMade cycle runs cost ended) = neither (not_small 0) (none_of (λ e. cc) (λ e. cc))
+of_no_item (note.CycleMade runs cost ended) = neither (not_small 0) (none_of (λ e. cc) (λ e. cc))
+of_no_item note.CursorWorn = neither (λ e. omega (arith, e)) (none_of (λ e. cc) (λ e. cc))
+of_no_item note.CursorFileFailed = neither (λ e. omega (arith, e)) (none_of (λ e. cc) (λ e. cc))
+of_no_item (note.CursorRefused why) = neither (λ h. let e = h.0 in omega (arith, e)) (none_of (λ e. cc) (λ e. cc))
+of_no_item (note.PartCursorRefused why) = neither (λ h. let e = h.0 in omega (arith, e)) (none_of (λ e. cc) (λ e. cc))
 
 pub after_failures : (n : Note) → IsStatus 3 n ↔ (IsStopSaid n ⊎ ((n ≡ note.CursorWorn) ⊎ (n ≡ note.CursorFileFailed)))
 after_failures note.Nothing = neither (not_small 1) (none_of never (none_of (λ e. cc) (λ e. cc)))
 after_failures note.NoItem = neither (λ e. omega (arith, e)) (none_of never (none_of (λ e. cc) (λ e. cc)))
 after_failures note.BadPath = neither (λ e. omega (arith, e)) (none_of never (none_of (λ e. cc) (λ e. cc)))
+after_failures note.EmptyBranch = neither (λ e. omega (arith, e)) (none_of never (none_of (λ e. cc) (λ e. cc)))
 after_failures (note.StoppedAt p) = agree refl (inl tt)
 after_failures note.OutOfMemory = agree refl (inl tt)
 after_failures note.OutputFailed = agree refl (inl tt)
@@ -97,23 +112,39 @@ after_failures (note.CycleMade runs cost ended) = neither (not_small 1) (none_of
 after_failures note.CursorWorn = agree refl (inr (inl refl))
 after_failures note.CursorFileFailed = agree refl (inr (inr refl))
 after_failures (note.CursorRefused why) = neither (λ h. let e = h.0 in omega (arith, e)) (none_of never (none_of (λ e. cc) (λ e. cc)))
+after_failures (note.PartCursorRefused why) = neither (λ h. let e = h.0 in omega (arith, e)) (none_of never (none_of (λ e. cc) (λ e. cc)))
 
-pub of_refused_cursors : (n : Note) → IsStatus 4 n ↔ ((why : Refused) × ((n ≡ note.CursorRefused why) × (why ≢ refused.Memory)))
-of_refused_cursors note.Nothing = neither (not_small 2) (λ h. let e = h.1.0 in cc)
-of_refused_cursors note.NoItem = neither (λ e. omega (arith, e)) (λ h. let e = h.1.0 in cc)
-of_refused_cursors note.BadPath = neither (λ e. omega (arith, e)) (λ h. let e = h.1.0 in cc)
-of_refused_cursors (note.StoppedAt p) = neither (λ e. omega (arith, e)) (λ h. let e = h.1.0 in cc)
-of_refused_cursors note.OutOfMemory = neither (λ e. omega (arith, e)) (λ h. let e = h.1.0 in cc)
-of_refused_cursors note.OutputFailed = neither (λ e. omega (arith, e)) (λ h. let e = h.1.0 in cc)
-of_refused_cursors (note.RunMade cycle runs cost ended) = neither (not_small 2) (λ h. let e = h.1.0 in cc)
-of_refused_cursors (note.CycleMade runs cost ended) = neither (not_small 2) (λ h. let e = h.1.0 in cc)
-of_refused_cursors note.CursorWorn = neither (λ e. omega (arith, e)) (λ h. let e = h.1.0 in cc)
-of_refused_cursors note.CursorFileFailed = neither (λ e. omega (arith, e)) (λ h. let e = h.1.0 in cc)
-of_refused_cursors (note.CursorRefused why) = (λ h. (why, (refl, h.1)), λ k. (refl, λ f. let e = k.1.0 in let same : k.0 ≡ why = cc in k.1.1 (same ∙ f)))
+-- a cursor is refused, and not for want of memory
+abbrev IsRefusedCursor : Note → Type 0
+IsRefusedCursor n = ((why : Refused) × ((n ≡ note.CursorRefused why) × (why ≢ refused.Memory))) ⊎ ((why : PartRefused) × ((n ≡ note.PartCursorRefused why) × (why ≢ part.Memory)))
+
+pub of_refused_cursors : (n : Note) → IsStatus 4 n ↔ (((why : Refused) × ((n ≡ note.CursorRefused why) × (why ≢ refused.Memory))) ⊎ ((why : PartRefused) × ((n ≡ note.PartCursorRefused why) × (why ≢ part.Memory))))
+of_refused_cursors note.Nothing = neither (not_small 2) (none_of (λ h. let e = h.1.0 in cc) (λ h. let e = h.1.0 in cc))
+of_refused_cursors note.NoItem = neither (λ e. omega (arith, e)) (none_of (λ h. let e = h.1.0 in cc) (λ h. let e = h.1.0 in cc))
+of_refused_cursors note.EmptyBranch = neither (λ e. omega (arith, e)) (none_of (λ h. let e = h.1.0 in cc) (λ h. let e = h.1.0 in cc))
+of_refused_cursors note.BadPath = neither (λ e. omega (arith, e)) (none_of (λ h. let e = h.1.0 in cc) (λ h. let e = h.1.0 in cc))
+of_refused_cursors (note.StoppedAt p) = neither (λ e. omega (arith, e)) (none_of (λ h. let e = h.1.0 in cc) (λ h. let e = h.1.0 in cc))
+of_refused_cursors note.OutOfMemory = neither (λ e. omega (arith, e)) (none_of (λ h. let e = h.1.0 in cc) (λ h. let e = h.1.0 in cc))
+of_refused_cursors note.OutputFailed = neither (λ e. omega (arith, e)) (none_of (λ h. let e = h.1.0 in cc) (λ h. let e = h.1.0 in cc))
+of_refused_cursors (note.RunMade cycle runs cost ended) = neither (not_small 2) (none_of (λ h. let e = h.1.0 in cc) (λ h. let e = h.1.0 in cc))
+of_refused_cursors (note.CycleMade runs cost ended) = neither (not_small 2) (none_of (λ h. let e = h.1.0 in cc) (λ h. let e = h.1.0 in cc))
+of_refused_cursors note.CursorWorn = neither (λ e. omega (arith, e)) (none_of (λ h. let e = h.1.0 in cc) (λ h. let e = h.1.0 in cc))
+of_refused_cursors note.CursorFileFailed = neither (λ e. omega (arith, e)) (none_of (λ h. let e = h.1.0 in cc) (λ h. let e = h.1.0 in cc))
+of_refused_cursors (note.CursorRefused why) = (λ h. inl (why, (refl, h.1)), by)
+  where
+    by : IsRefusedCursor (note.CursorRefused why) → IsStatus 4 (note.CursorRefused why)
+    by (inl k) = (refl, λ f. let e = k.1.0 in let same : k.0 ≡ why = cc in k.1.1 (same ∙ f))
+    by (inr k) = absurd (let e = k.1.0 in cc)
+of_refused_cursors (note.PartCursorRefused why) = (λ h. inr (why, (refl, h.1)), by)
+  where
+    by : IsRefusedCursor (note.PartCursorRefused why) → IsStatus 4 (note.PartCursorRefused why)
+    by (inl k) = absurd (let e = k.1.0 in cc)
+    by (inr k) = (refl, λ f. let e = k.1.0 in let same : k.0 ≡ why = cc in k.1.1 (same ∙ f))
 
 pub no_other_status : (status : ℕ) (n : Note) → IsStatus status n → status ≤ 4
 no_other_status status note.Nothing h = let m = small status h in omega (arith, m)
 no_other_status status note.NoItem h = omega (arith, h)
+no_other_status status note.EmptyBranch h = omega (arith, h)
 no_other_status status note.BadPath h = omega (arith, h)
 no_other_status status (note.StoppedAt p) h = omega (arith, h)
 no_other_status status note.OutOfMemory h = omega (arith, h)
@@ -123,54 +154,65 @@ no_other_status status (note.CycleMade runs cost ended) h = let m = small status
 no_other_status status note.CursorWorn h = omega (arith, h)
 no_other_status status note.CursorFileFailed h = omega (arith, h)
 no_other_status status (note.CursorRefused why) h = let e = h.0 in omega (arith, e)
+no_other_status status (note.PartCursorRefused why) h = let e = h.0 in omega (arith, e)
 
 -- ---- where nothing was done
 
 -- a text that says something else, with another status
-otherwise : (status : ℕ) (n : Note) {A : Type 0} → (A → ⊥) → (status ≡ 2 → ⊥) → (status ≡ 4 → ⊥) → (n ≡ note.CursorWorn → ⊥) → (n ≡ note.CursorFileFailed → ⊥)
-    → A ↔ ((status ≡ 2) ⊎ ((status ≡ 4) ⊎ ((n ≡ note.CursorWorn) ⊎ (n ≡ note.CursorFileFailed))))
+otherwise : (status : ℕ) (n : Note) {A : Type 0} → (A → ⊥) → (n ≡ note.BadPath → ⊥) → (status ≡ 4 → ⊥) → (n ≡ note.CursorWorn → ⊥) → (n ≡ note.CursorFileFailed → ⊥)
+    → A ↔ ((n ≡ note.BadPath) ⊎ ((status ≡ 4) ⊎ ((n ≡ note.CursorWorn) ⊎ (n ≡ note.CursorFileFailed))))
 otherwise status n a b c d e = neither a (none_of b (none_of c (none_of d e)))
 
-pub nothing_done : (status : ℕ) (n : Note) → IsStatus status n → IsSilent n ↔ ((status ≡ 2) ⊎ ((status ≡ 4) ⊎ ((n ≡ note.CursorWorn) ⊎ (n ≡ note.CursorFileFailed))))
-nothing_done status note.Nothing h = let m = small status h in otherwise status note.Nothing never (λ e. omega (arith, m, e)) (λ e. omega (arith, m, e)) (λ e. cc) (λ e. cc)
-nothing_done status note.NoItem h = otherwise status note.NoItem never (λ e. omega (arith, h, e)) (λ e. omega (arith, h, e)) (λ e. cc) (λ e. cc)
-nothing_done status note.BadPath h = agree tt (inl h)
-nothing_done status (note.StoppedAt p) h = otherwise status (note.StoppedAt p) never (λ e. omega (arith, h, e)) (λ e. omega (arith, h, e)) (λ e. cc) (λ e. cc)
-nothing_done status note.OutOfMemory h = otherwise status note.OutOfMemory never (λ e. omega (arith, h, e)) (λ e. omega (arith, h, e)) (λ e. cc) (λ e. cc)
-nothing_done status note.OutputFailed h = otherwise status note.OutputFailed never (λ e. omega (arith, h, e)) (λ e. omega (arith, h, e)) (λ e. cc) (λ e. cc)
-nothing_done status (note.RunMade cycle runs cost ended) h = let m = small status h in otherwise status (note.RunMade cycle runs cost ended) never (λ e. omega (arith, m, e)) (λ e. omega (arith, m, e)) (λ e. cc) (λ e. cc)
-nothing_done status (note.CycleMade runs cost ended) h = let m = small status h in otherwise status (note.CycleMade runs cost ended) never (λ e. omega (arith, m, e)) (λ e. omega (arith, m, e)) (λ e. cc) (λ e. cc)
+pub nothing_done : (status : ℕ) (n : Note) → IsStatus status n → IsSilent n ↔ ((n ≡ note.BadPath) ⊎ ((status ≡ 4) ⊎ ((n ≡ note.CursorWorn) ⊎ (n ≡ note.CursorFileFailed))))
+nothing_done status note.Nothing h = let m = small status h in otherwise status note.Nothing never (λ e. cc) (λ e. omega (arith, m, e)) (λ e. cc) (λ e. cc)
+nothing_done status note.NoItem h = otherwise status note.NoItem never (λ e. cc) (λ e. omega (arith, h, e)) (λ e. cc) (λ e. cc)
+nothing_done status note.BadPath h = agree tt (inl refl)
+nothing_done status note.EmptyBranch h = otherwise status note.EmptyBranch never (λ e. cc) (λ e. omega (arith, h, e)) (λ e. cc) (λ e. cc)
+nothing_done status (note.StoppedAt p) h = otherwise status (note.StoppedAt p) never (λ e. cc) (λ e. omega (arith, h, e)) (λ e. cc) (λ e. cc)
+nothing_done status note.OutOfMemory h = otherwise status note.OutOfMemory never (λ e. cc) (λ e. omega (arith, h, e)) (λ e. cc) (λ e. cc)
+nothing_done status note.OutputFailed h = otherwise status note.OutputFailed never (λ e. cc) (λ e. omega (arith, h, e)) (λ e. cc) (λ e. cc)
+nothing_done status (note.RunMade cycle runs cost ended) h = let m = small status h in otherwise status (note.RunMade cycle runs cost ended) never (λ e. cc) (λ e. omega (arith, m, e)) (λ e. cc) (λ e. cc)
+nothing_done status (note.CycleMade runs cost ended) h = let m = small status h in otherwise status (note.CycleMade runs cost ended) never (λ e. cc) (λ e. omega (arith, m, e)) (λ e. cc) (λ e. cc)
 nothing_done status note.CursorWorn h = agree tt (inr (inr (inl refl)))
 nothing_done status note.CursorFileFailed h = agree tt (inr (inr (inr refl)))
 nothing_done status (note.CursorRefused why) h = agree tt (inr (inl h.0))
+nothing_done status (note.PartCursorRefused why) h = agree tt (inr (inl h.0))
 
 -- ---- the cursor that a run hands back
 
-pub cursor_kept : (n : Note) (stored : Vec ℕ Global) → IsRunSaid n → IsKept n (Some stored) ↔ (IsWhole n ⊎ IsStopSaid n)
-cursor_kept note.Nothing stored h = absurd h
-cursor_kept note.NoItem stored h = absurd h
-cursor_kept note.BadPath stored h = absurd h
+unsaid : {A : Type 0} → ⊥ ⊎ ⊥ → A
+unsaid (inl h) = absurd h
+unsaid (inr h) = absurd h
+
+pub cursor_kept : (n : Note) (stored : Vec ℕ Global) → IsRunSaid n ⊎ IsPartRunSaid n → IsKept n (Some stored) ↔ (IsWhole n ⊎ IsStopSaid n)
+cursor_kept note.Nothing stored h = unsaid h
+cursor_kept note.NoItem stored h = unsaid h
+cursor_kept note.EmptyBranch stored h = unsaid h
+cursor_kept note.BadPath stored h = unsaid h
 cursor_kept (note.StoppedAt p) stored h = agree refl (inr tt)
 cursor_kept note.OutOfMemory stored h = agree tt (inr tt)
 cursor_kept note.OutputFailed stored h = agree refl (inr tt)
 cursor_kept (note.RunMade cycle runs cost ended) stored h = agree refl (inl tt)
-cursor_kept (note.CycleMade runs cost ended) stored h = absurd h
+cursor_kept (note.CycleMade runs cost ended) stored h = unsaid h
 cursor_kept note.CursorWorn stored h = neither (λ e. cc) (none_of never never)
 cursor_kept note.CursorFileFailed stored h = neither (λ e. cc) (none_of never never)
 cursor_kept (note.CursorRefused why) stored h = neither (λ e. cc) (none_of never never)
+cursor_kept (note.PartCursorRefused why) stored h = neither (λ e. cc) (none_of never never)
 
-pub no_cursor_kept : (n : Note) → IsRunSaid n → IsKept n None ↔ (IsSilent n ⊎ (n ≡ note.OutOfMemory))
-no_cursor_kept note.Nothing h = absurd h
-no_cursor_kept note.NoItem h = absurd h
-no_cursor_kept note.BadPath h = absurd h
+pub no_cursor_kept : (n : Note) → IsRunSaid n ⊎ IsPartRunSaid n → IsKept n None ↔ (IsSilent n ⊎ (n ≡ note.OutOfMemory))
+no_cursor_kept note.Nothing h = unsaid h
+no_cursor_kept note.NoItem h = unsaid h
+no_cursor_kept note.EmptyBranch h = unsaid h
+no_cursor_kept note.BadPath h = unsaid h
 no_cursor_kept (note.StoppedAt p) h = neither (λ e. cc) (none_of never (λ e. cc))
 no_cursor_kept note.OutOfMemory h = agree tt (inr refl)
 no_cursor_kept note.OutputFailed h = neither (λ e. cc) (none_of never (λ e. cc))
 no_cursor_kept (note.RunMade cycle runs cost ended) h = neither (λ e. cc) (none_of never (λ e. cc))
-no_cursor_kept (note.CycleMade runs cost ended) h = absurd h
+no_cursor_kept (note.CycleMade runs cost ended) h = unsaid h
 no_cursor_kept note.CursorWorn h = agree refl (inl tt)
 no_cursor_kept note.CursorFileFailed h = agree refl (inl tt)
 no_cursor_kept (note.CursorRefused why) h = agree refl (inl tt)
+no_cursor_kept (note.PartCursorRefused why) h = agree refl (inl tt)
 
 pub of_a_run_alone : (d : Deed) (n : Note) (stored : Vec ℕ Global) → IsKeptBy d n (Some stored) → (limits : Limits) × (d ≡ deed.Run limits)
 of_a_run_alone deed.Audit n stored h = absurd cc
@@ -214,6 +256,27 @@ module _ (a b : ℕ) (m n : Note) where
   unread_says_one (stop.Refused refused.Version) h k = (h.0 ∙ sym k.0, h.1 ∙ sym k.1)
   unread_says_one (stop.Refused refused.Damaged) h k = (h.0 ∙ sym k.0, h.1 ∙ sym k.1)
   unread_says_one (stop.Refused refused.Malformed) h k = (h.0 ∙ sym k.0, h.1 ∙ sym k.1)
+
+  pub unshown_says_one : (why : ShowStop) → IsUnshownNote why a m → IsUnshownNote why b n → (a ≡ b) × (m ≡ n)
+  unshown_says_one (show.Whole why) h k = unread_says_one why h k
+  unshown_says_one (show.Part part.Memory) h k = (h.0 ∙ sym k.0, h.1 ∙ sym k.1)
+  unshown_says_one (show.Part part.NotCursor) h k = (h.0 ∙ sym k.0, h.1 ∙ sym k.1)
+  unshown_says_one (show.Part part.Damaged) h k = (h.0 ∙ sym k.0, h.1 ∙ sym k.1)
+  unshown_says_one (show.Part part.Malformed) h k = (h.0 ∙ sym k.0, h.1 ∙ sym k.1)
+  unshown_says_one (show.Part part.OtherPart) h k = (h.0 ∙ sym k.0, h.1 ∙ sym k.1)
+
+  pub branch_says_one : (finding : Bool) (how : End) (last : Option Place) → IsBranchNote finding how last a m → IsBranchNote finding how last b n → (a ≡ b) × (m ≡ n)
+  branch_says_one finding end.Ended None h k = (h.0 ∙ sym k.0, h.1 ∙ sym k.1)
+  branch_says_one finding end.Ended (Some p) h k = audit_says_one finding end.Ended h k
+  branch_says_one finding (end.Stopped why) last h k = audit_says_one finding (end.Stopped why) h k
+
+  pub part_unread_says_one : (why : PartCursorStop) → IsPartUnreadNote why a m → IsPartUnreadNote why b n → (a ≡ b) × (m ≡ n)
+  part_unread_says_one stops.Read h k = (h.0 ∙ sym k.0, h.1 ∙ sym k.1)
+  part_unread_says_one (stops.Refused part.Memory) h k = (h.0 ∙ sym k.0, h.1 ∙ sym k.1)
+  part_unread_says_one (stops.Refused part.NotCursor) h k = (h.0 ∙ sym k.0, h.1 ∙ sym k.1)
+  part_unread_says_one (stops.Refused part.Damaged) h k = (h.0 ∙ sym k.0, h.1 ∙ sym k.1)
+  part_unread_says_one (stops.Refused part.Malformed) h k = (h.0 ∙ sym k.0, h.1 ∙ sym k.1)
+  part_unread_says_one (stops.Refused part.OtherPart) h k = (h.0 ∙ sym k.0, h.1 ∙ sym k.1)
 
 -- ---- what a command says is said of one of its ends
 
@@ -271,10 +334,42 @@ run_said status note.CursorFileFailed e h = inr (stop.Read, (e, refl))
 run_said status (note.CursorRefused why) e h = inr (unread_said status why e)
 run_said status n e h = absurd h
 
-pub show_said : (status : ℕ) (n : Note) → IsStatus status n → IsShowSaid n → (n ≡ note.Nothing) ⊎ ((n ≡ note.OutputFailed) ⊎ ((how : CursorStop) × IsUnreadNote how status n))
+-- why a part's cursor is refused, as its text says
+part_refused_said : (status : ℕ) (why : PartRefused) → (status ≡ 4) × (why ≢ part.Memory) → IsPartUnreadNote (stops.Refused why) status (note.PartCursorRefused why) × IsUnshownNote (show.Part why) status (note.PartCursorRefused why)
+part_refused_said status part.NotCursor e = ((e.0, refl), (e.0, refl))
+part_refused_said status part.Damaged e = ((e.0, refl), (e.0, refl))
+part_refused_said status part.Malformed e = ((e.0, refl), (e.0, refl))
+part_refused_said status part.OtherPart e = ((e.0, refl), (e.0, refl))
+part_refused_said status part.Memory e = absurd (e.1 refl)
+
+pub show_said : (status : ℕ) (n : Note) → IsStatus status n → IsShowSaid n → (n ≡ note.Nothing) ⊎ ((n ≡ note.OutputFailed) ⊎ ((how : ShowStop) × IsUnshownNote how status n))
 show_said status note.Nothing e h = inl refl
 show_said status note.OutputFailed e h = inr (inl refl)
-show_said status note.OutOfMemory e h = inr (inr (stop.Refused refused.Memory, (e, refl)))
-show_said status note.CursorFileFailed e h = inr (inr (stop.Read, (e, refl)))
-show_said status (note.CursorRefused why) e h = inr (inr (unread_said status why e))
+show_said status note.OutOfMemory e h = inr (inr (show.Whole (stop.Refused refused.Memory), (e, refl)))
+show_said status note.CursorFileFailed e h = inr (inr (show.Whole stop.Read, (e, refl)))
+show_said status (note.CursorRefused why) e h = let how = unread_said status why e in inr (inr (show.Whole how.0, how.1))
+show_said status (note.PartCursorRefused why) e h = inr (inr (show.Part why, (part_refused_said status why e).1))
 show_said status n e h = absurd h
+
+pub branch_said : (status : ℕ) (n : Note) → IsStatus status n → IsBranchSaid n → (finding : Bool) × ((how : End) × ((last : Option Place) × IsBranchNote finding how last status n))
+branch_said status note.EmptyBranch e h = (false, (end.Ended, (None, (e, refl))))
+branch_said status note.Nothing (inl e) h = (false, (end.Ended, (Some [], (e, refl))))
+branch_said status note.Nothing (inr e) h = (true, (end.Ended, (Some [], (e, refl))))
+branch_said status (note.StoppedAt p) e h = (false, (end.Stopped (fault.Store p), (None, (e, refl))))
+branch_said status note.OutOfMemory e h = (false, (end.Stopped fault.Memory, (None, (e, refl))))
+branch_said status note.OutputFailed e h = (false, (end.Stopped fault.Output, (None, (e, refl))))
+branch_said status n e h = absurd h
+
+pub part_run_said : (status : ℕ) (n : Note) → IsStatus status n → IsPartRunSaid n
+    → ((c : Cursor) × ((spent : ℕ) × ((finding : Bool) × ((how : RunStatus) × IsRunNote c spent finding how status n)))) ⊎ ((how : PartCursorStop) × IsPartUnreadNote how status n)
+part_run_said status note.CursorFileFailed e h = inr (stops.Read, (e, refl))
+part_run_said status (note.PartCursorRefused why) e h = inr (stops.Refused why, (part_refused_said status why e).0)
+part_run_said status (note.RunMade cycle runs cost true) (inl e) h = inl (counted cycle runs, (cost, (false, (run.Ended, (e, refl)))))
+part_run_said status (note.RunMade cycle runs cost true) (inr e) h = inl (counted cycle runs, (cost, (true, (run.Ended, (e, refl)))))
+part_run_said status (note.RunMade cycle runs cost false) (inl e) h = inl (counted cycle runs, (cost, (false, (run.Spent, (e, refl)))))
+part_run_said status (note.RunMade cycle runs cost false) (inr e) h = inl (counted cycle runs, (cost, (true, (run.Spent, (e, refl)))))
+part_run_said status (note.StoppedAt p) e h = inl (new_cursor, (0, (false, (run.Stopped (fault.Store p), (e, refl)))))
+part_run_said status note.OutOfMemory e h = inl (new_cursor, (0, (false, (run.Stopped fault.Memory, (e, refl)))))
+part_run_said status note.OutputFailed e h = inl (new_cursor, (0, (false, (run.Stopped fault.Output, (e, refl)))))
+part_run_said status note.CursorWorn e h = inl (new_cursor, (0, (false, (run.Worn, (e, refl)))))
+part_run_said status n e h = absurd h

@@ -20,7 +20,7 @@ use Rattle.ocfl_scrub.specs.declared.running.RunEnd.{RunEnd}
 use Rattle.ocfl_scrub.specs.declared.running.RunStatus.{RunStatus}
 use Rattle.ocfl_scrub.specs.declared.running.RunStatus.TheVariants as run
 
-worn_or_not : (how : RunStatus) → (how ≡ run.Worn) ⊎ (how ≢ run.Worn)
+pub worn_or_not : (how : RunStatus) → (how ≡ run.Worn) ⊎ (how ≢ run.Worn)
 worn_or_not run.Worn = inl refl
 worn_or_not run.Ended = inr (λ e. cc)
 worn_or_not run.Spent = inr (λ e. cc)

@@ -3,6 +3,8 @@ use Rattle.std.specs.Prelude.{◌++◌, [], Bool, true, false, codes}
 use Rattle.std.specs.Fmt.{decimal}
 use Rattle.ocfl_tree.specs.Place.{Text}
 use Rattle.ocfl_report.specs.Text.{place_text}
+use Rattle.ocfl_cursor.specs.declared.refused.PartRefused.{PartRefused}
+use Rattle.ocfl_cursor.specs.declared.refused.PartRefused.TheVariants as part
 use Rattle.ocfl_cursor.specs.declared.refused.Refused.{Refused}
 use Rattle.ocfl_cursor.specs.declared.refused.Refused.TheVariants as refused
 use Rattle.ocfl_scrub.specs.declared.note.Note.{Note}
@@ -20,9 +22,17 @@ refused_text refused.Damaged = codes "damaged"
 refused_text refused.Malformed = codes "malformed"
 refused_text refused.Memory = codes "out of memory"
 
+abbrev pub part_refused_text : PartRefused → Text
+part_refused_text part.NotCursor = codes "not a cursor"
+part_refused_text part.Damaged = codes "damaged"
+part_refused_text part.Malformed = codes "malformed"
+part_refused_text part.OtherPart = codes "another part"
+part_refused_text part.Memory = codes "out of memory"
+
 abbrev pub note_text : Note → Text
 note_text note.Nothing = []
 note_text note.NoItem = codes "no item"
+note_text note.EmptyBranch = codes "no item"
 note_text note.BadPath = codes "bad path"
 note_text (note.StoppedAt p) = codes "stopped at " ++ place_text p
 note_text note.OutOfMemory = codes "out of memory"
@@ -32,3 +42,4 @@ note_text (note.CycleMade runs cost whole) = codes "runs " ++ decimal runs ++ co
 note_text note.CursorWorn = codes "cursor worn"
 note_text note.CursorFileFailed = codes "cursor file failed"
 note_text (note.CursorRefused why) = codes "cursor refused: " ++ refused_text why
+note_text (note.PartCursorRefused why) = codes "cursor refused: " ++ part_refused_text why

@@ -7,7 +7,10 @@ use Rattle.ocfl_tree.specs.Store.{Store}
 use Rattle.ocfl_cursor.specs.Cursor.{Cursor, cursor_text}
 use Rattle.ocfl_cursor.specs.declared.reading.CursorStop.{CursorStop}
 use Rattle.ocfl_cursor.specs.declared.reading.CursorStop.TheVariants as stop
+use Rattle.ocfl_cursor.specs.declared.refused.PartRefused.TheVariants as part
 use Rattle.ocfl_cursor.specs.declared.refused.Refused.TheVariants as refused
+use Rattle.ocfl_cursor.specs.declared.showing.ShowStop.{ShowStop}
+use Rattle.ocfl_cursor.specs.declared.showing.ShowStop.TheVariants as show
 use Rattle.ocfl_item.specs.declared.fault.Fault.{Fault}
 use Rattle.ocfl_item.specs.declared.fault.Fault.TheVariants as fault
 use Rattle.ocfl_scrub.specs.Taking.{WritesLines}
@@ -40,6 +43,7 @@ status_of false = 0
 abbrev pub IsStatus : ℕ → Note → Type 0
 IsStatus status note.Nothing = (status ≡ 0) ⊎ (status ≡ 1)
 IsStatus status note.NoItem = status ≡ 0
+IsStatus status note.EmptyBranch = status ≡ 2
 IsStatus status note.BadPath = status ≡ 2
 IsStatus status (note.StoppedAt p) = status ≡ 3
 IsStatus status note.OutOfMemory = status ≡ 3
@@ -49,6 +53,7 @@ IsStatus status (note.CycleMade runs cost ended) = (status ≡ 0) ⊎ (status �
 IsStatus status note.CursorWorn = status ≡ 3
 IsStatus status note.CursorFileFailed = status ≡ 3
 IsStatus status (note.CursorRefused why) = (status ≡ 4) × (why ≢ refused.Memory)
+IsStatus status (note.PartCursorRefused why) = (status ≡ 4) × (why ≢ part.Memory)
 
 -- what is said after a stop
 abbrev pub IsStopSaid : Note → Type 0
@@ -61,6 +66,7 @@ IsStopSaid n = ⊥
 abbrev pub IsFileSaid : Note → Type 0
 IsFileSaid note.CursorFileFailed = ⊤
 IsFileSaid (note.CursorRefused why) = ⊤
+IsFileSaid (note.PartCursorRefused why) = ⊤
 IsFileSaid n = ⊥
 
 -- what is said where no cursor was read
@@ -160,6 +166,12 @@ IsUnreadNote (stop.Refused refused.NotCursor) status n = (status ≡ 4) × (n �
 IsUnreadNote (stop.Refused refused.Version) status n = (status ≡ 4) × (n ≡ note.CursorRefused refused.Version)
 IsUnreadNote (stop.Refused refused.Damaged) status n = (status ≡ 4) × (n ≡ note.CursorRefused refused.Damaged)
 IsUnreadNote (stop.Refused refused.Malformed) status n = (status ≡ 4) × (n ≡ note.CursorRefused refused.Malformed)
+
+-- what it is ended with where nothing is shown
+abbrev pub IsUnshownNote : ShowStop → ℕ → Note → Type 0
+IsUnshownNote (show.Whole why) status n = IsUnreadNote why status n
+IsUnshownNote (show.Part part.Memory) status n = (status ≡ 3) × (n ≡ note.OutOfMemory)
+IsUnshownNote (show.Part why) status n = (status ≡ 4) × (n ≡ note.PartCursorRefused why)
 
 -- the place was checked, and the status and the text are those of the check
 pub record ChecksWithNote (root : StorageRoot) (s t : Store) (old new : Option (List ℕ)) (p : Place) (status : ℕ) (n : Note) : Type 0 where

@@ -11,13 +11,16 @@ use Rattle.ocfl_report.specs.Line.{found}
 use Rattle.ocfl_report.specs.Text.{place_text, text}
 use Rattle.ocfl_audit.specs.Audit.{audit}
 use Rattle.ocfl_audit.specs.Runs.{Limits}
-use Rattle.ocfl_cursor.specs.Cursor.{Cursor, new_cursor, cursor_lines, cursor_text}
+use Rattle.ocfl_cursor.specs.Cursor.{Cursor, new_cursor, cursor_text}
 use Rattle.ocfl_cursor.specs.Moves.{after_run}
 use Rattle.ocfl_cursor.specs.Refusal.{IsTextOf}
+use Rattle.ocfl_cursor.specs.Shown.{IsShownFrom, UnshownRightly}
 use Rattle.ocfl_cursor.specs.Stop.{StopsRightly}
 use Rattle.ocfl_cursor.specs.declared.limits.Limits.{Limits as MadeLimits}
 use Rattle.ocfl_cursor.specs.declared.reading.CursorStop.{CursorStop}
 use Rattle.ocfl_cursor.specs.declared.reading.CursorStop.TheVariants as stop
+use Rattle.ocfl_cursor.specs.declared.showing.ShowStop.{ShowStop}
+use Rattle.ocfl_cursor.specs.declared.showing.ShowStop.TheVariants as show
 use Rattle.ocfl_deed.specs.declared.deed.Deed.{Deed}
 use Rattle.ocfl_deed.specs.declared.deed.Deed.TheVariants as deed
 use Rattle.ocfl_scrub.specs.Noting.{status_of, IsAuditSaid, IsCheckSaid, IsRunSaid, IsCycleSaid, IsFileSaid, IsShowSaid, IsRefused, IsRunNote, IsUnreadNote, WritesWithStatus, AuditsWithNote, ChecksWithNote, RunsWithNote, CyclesWithNote}
@@ -33,10 +36,10 @@ abbrev pub bytes_of : {R : Type 0} → (R → Option (List ℕ)) → Option (Mut
 bytes_of remaining None = None
 bytes_of remaining (Some reader) = Some (remaining reader.now)
 
--- the cursor that is stored is the one whose text the bytes are, where they are known
-abbrev pub IsStored : Option (Option Text) → Cursor → Type 0
-IsStored None c = ⊥
-IsStored (Some known) c = IfSome known (λ bytes. IsTextOf bytes c)
+-- the lines are those that are shown of a text, which is the bytes, where they are known
+abbrev pub AreStored : Option (Option Text) → Text → Type 0
+AreStored None lines = ⊥
+AreStored (Some known) lines = IsShownFrom known lines
 
 -- a run begins with the cursor that is stored, and without a reader with the first
 abbrev pub BeginsWith : Option (Option Text) → Cursor → Type 0
@@ -48,9 +51,15 @@ abbrev pub StopsWith : Option (Option Text) → CursorStop → Type 0
 StopsWith None why = ⊥
 StopsWith (Some known) why = IfSome known (λ bytes. StopsRightly bytes why)
 
--- what is said to be refused is rightly refused
+-- nothing is shown, and where the bytes are known they are rightly refused; only a reader can be refused
+abbrev pub UnshownWith : Option (Option Text) → ShowStop → Type 0
+UnshownWith None why = ⊥
+UnshownWith (Some known) why = IfSome known (λ bytes. UnshownRightly bytes why)
+
+-- what is said to be refused is rightly refused, as the cursor of a part where that is to be shown
 abbrev pub RefusesRightly : Option (Option Text) → Note → Type 0
 RefusesRightly known (note.CursorRefused why) = StopsWith known (stop.Refused why)
+RefusesRightly known (note.PartCursorRefused why) = UnshownWith known (show.Part why)
 RefusesRightly known n = ⊤
 
 -- ---- of every store
@@ -125,17 +134,17 @@ RefusesPath deed status n = ⊤
 
 -- the lines of the stored cursor went out
 pub record Shows (known : Option (Option Text)) (old new : Option (List ℕ)) : Type 0 where
-  pub shown : Cursor
-  pub stored : IsStored known shown
-  pub wrote : Appends old new (cursor_lines shown)
+  pub lines : Text
+  pub stored : AreStored known lines
+  pub wrote : Appends old new lines
 
 -- a proper beginning of them did
 pub record ShowsPart (known : Option (Option Text)) (old new : Option (List ℕ)) : Type 0 where
-  pub shown : Cursor
-  pub stored : IsStored known shown
+  pub lines : Text
+  pub stored : AreStored known lines
   pub gone : ℕ
-  pub proper : gone < length (cursor_lines shown)
-  pub wrote : Appends old new (take gone (cursor_lines shown))
+  pub proper : gone < length lines
+  pub wrote : Appends old new (take gone lines)
 
 -- what is shown, by what is said
 abbrev pub ShowsWith : Option (Option Text) → Note → Option (List ℕ) → Option (List ℕ) → Type 0

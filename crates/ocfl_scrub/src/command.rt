@@ -111,7 +111,7 @@ fn describe_check(end: CheckEnd) -> (u8, Note)
     }
 }
 
-fn describe_audit(end: AuditEnd) -> (u8, Note)
+pub(crate) fn describe_audit(end: AuditEnd) -> (u8, Note)
     requires whole { end.end ≢ End.Stopped Fault.Broken }
     ensures note { IsAuditNote end.found end.end result.0 result.1 }
     ensures status { IsStatus result.0 result.1 }

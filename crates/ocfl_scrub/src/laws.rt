@@ -18,10 +18,16 @@ ghost use Rattle.ocfl_audit.specs.Due.{hashed_among, item_places};
 ghost use Rattle.ocfl_audit.specs.Lines.{is_hashed};
 ghost use Rattle.ocfl_cursor.specs.Cursor.{Cursor, new_cursor, cursor_lines, cursor_text};
 ghost use Rattle.ocfl_cursor.specs.Moves.{after_run};
+ghost use Rattle.ocfl_cursor.specs.Part.{IsPartText, part_lines};
 ghost use Rattle.ocfl_cursor.specs.Refusal.{IsTextOf, refusal};
 ghost use Rattle.ocfl_cursor.specs.Refused.{reason};
 ghost use Rattle.ocfl_cursor.specs.declared.limits.Limits.{Limits as MadeLimits};
 ghost use Rattle.ocfl_cursor.specs.declared.reading.CursorStop.{CursorStop};
+ghost use Rattle.ocfl_cursor.specs.declared.ends.PartEnds.{PartEnds};
+ghost use Rattle.ocfl_cursor.specs.declared.part_reading.PartCursorStop.{PartCursorStop};
+ghost use Rattle.ocfl_cursor.specs.declared.refused.PartRefused.{PartRefused};
+ghost use Rattle.ocfl_cursor.specs.declared.refused.PartRefused.TheVariants as parts;
+ghost use Rattle.ocfl_cursor.specs.declared.showing.ShowStop.{ShowStop};
 ghost use Rattle.ocfl_cursor.specs.declared.refused.Refused.{Refused};
 ghost use Rattle.ocfl_cursor.specs.declared.refused.Refused.TheVariants as refused;
 ghost use Rattle.ocfl_deed.specs.declared.deed.Deed.{Deed};
@@ -30,8 +36,11 @@ ghost use Rattle.ocfl_scrub.specs.Cycling.{HeadlineOf};
 ghost use Rattle.ocfl_scrub.specs.Noting.{IsAuditNote, IsAuditSaid, IsCheckNote, IsCheckSaid};
 ghost use Rattle.ocfl_scrub.specs.Noting.{IsCycleNote, IsCycleSaid, IsRunNote, IsRunSaid};
 ghost use Rattle.ocfl_scrub.specs.Noting.{IsShowSaid, IsStatus, IsStopSaid, IsUnreadNote};
+ghost use Rattle.ocfl_scrub.specs.Noting.{IsUnshownNote};
 ghost use Rattle.ocfl_scrub.specs.Performing.{IsKept, IsKeptBy, IsSilent, IsWhole};
 ghost use Rattle.ocfl_scrub.specs.Performing.{HandsBack, IsWithoutFile, RefusesRightly, ShowsWith};
+ghost use Rattle.ocfl_scrub.specs.Scoping.{IsBranchNote, IsBranchSaid, IsPartRunSaid};
+ghost use Rattle.ocfl_scrub.specs.Scoping.{IsPartUnreadNote};
 ghost use Rattle.ocfl_scrub.specs.Running.{IsPaid, Runs, begun, limits_of, state_after, taken};
 ghost use Rattle.ocfl_scrub.specs.declared.checking.End.{End};
 ghost use Rattle.ocfl_scrub.specs.declared.cycling.CycleStatus.{CycleStatus};
@@ -41,7 +50,7 @@ ghost use Rattle.ocfl_scrub.specs.declared.note.Note.TheVariants as note;
 ghost use Rattle.ocfl_scrub.specs.declared.running.RunStatus.{RunStatus};
 ghost use Rattle.ocfl_scrub.specs.declared.running.RunStatus.TheVariants as run;
 
-use ocfl_cursor::text_determines_the_cursor;
+use ocfl_cursor::{text_determines_the_cursor, text_determines_what_is_shown};
 
 /// The hashed places among the audit's are all that there are, in order, each once.
 #[tactic(auto, using(crate::proofs::OrderLaws::hashed_ascend, crate::proofs::OrderLaws::hashed_all))]
@@ -73,25 +82,27 @@ pub fn overrun_is_less_than_the_last_file()
 {}
 
 /// The status says how a command ended. With 0 and 1 all lines went out, or with 0 there are none.
-/// 2 is that of a bad path, 3 that of a stop, of a worn cursor and of its file that failed, and 4
-/// that of bytes that are refused as a cursor. There is no other.
-#[tactic(auto, using(crate::proofs::NoteLaws::without_finding, crate::proofs::NoteLaws::with_finding, crate::proofs::NoteLaws::of_no_place, crate::proofs::NoteLaws::after_failures, crate::proofs::NoteLaws::of_refused_cursors, crate::proofs::NoteLaws::no_other_status))]
+/// 2 is that of a bad path and of a branch without items, 3 that of a stop, of a worn cursor and of
+/// its file that failed, and 4 that of bytes that are refused as a cursor. There is no other.
+#[tactic(auto, using(crate::proofs::NoteLaws::without_finding, crate::proofs::NoteLaws::with_finding, crate::proofs::NoteLaws::of_no_item, crate::proofs::NoteLaws::after_failures, crate::proofs::NoteLaws::of_refused_cursors, crate::proofs::NoteLaws::no_other_status))]
 pub fn statuses_say_how_a_command_ended()
     ensures without_finding { (n : Note) → IsStatus 0 n ↔ (IsWhole n ⊎ (n ≡ note.NoItem)) }
     ensures with_finding { (n : Note) → IsStatus 1 n ↔ IsWhole n }
-    ensures bad_path { (n : Note) → IsStatus 2 n ↔ (n ≡ note.BadPath) }
+    ensures no_item { (n : Note) → IsStatus 2 n
+        ↔ ((n ≡ note.BadPath) ⊎ (n ≡ note.EmptyBranch)) }
     ensures failed { (n : Note) → IsStatus 3 n
         ↔ (IsStopSaid n ⊎ ((n ≡ note.CursorWorn) ⊎ (n ≡ note.CursorFileFailed))) }
     ensures refused { (n : Note) → IsStatus 4 n
-        ↔ ((why : Refused) × ((n ≡ note.CursorRefused why) × (why ≢ refused.Memory))) }
+        ↔ (((why : Refused) × ((n ≡ note.CursorRefused why) × (why ≢ refused.Memory)))
+        ⊎ ((why : PartRefused) × ((n ≡ note.PartCursorRefused why) × (why ≢ parts.Memory)))) }
     ensures no_other { (status : ℕ) (n : Note) → IsStatus status n → status ≤ 4 }
 {}
 
-/// Where the status is 2 or 4, the cursor is worn or its file failed, no call is made and nothing
-/// is written. Of no other text is that said.
+/// Where the path is bad, the status is 4, the cursor is worn or its file failed, no call is made
+/// and nothing is written. Of no other text is that said.
 #[tactic(auto, using(crate::proofs::NoteLaws::nothing_done))]
 pub fn refusals_come_before_the_first_call()
-    ensures { (status : ℕ) (n : Note) → IsStatus status n → IsSilent n ↔ ((status ≡ 2)
+    ensures { (status : ℕ) (n : Note) → IsStatus status n → IsSilent n ↔ ((n ≡ note.BadPath)
         ⊎ ((status ≡ 4) ⊎ ((n ≡ note.CursorWorn) ⊎ (n ≡ note.CursorFileFailed)))) }
 {}
 
@@ -99,16 +110,16 @@ pub fn refusals_come_before_the_first_call()
 /// After memory ran out it hands one back or none. No other command hands one back.
 #[tactic(auto, using(crate::proofs::NoteLaws::cursor_kept, crate::proofs::NoteLaws::no_cursor_kept, crate::proofs::NoteLaws::of_a_run_alone))]
 pub fn a_run_that_was_made_hands_its_cursor_back()
-    ensures kept { (n : Note) (stored : Vec ℕ Global) → IsRunSaid n
+    ensures kept { (n : Note) (stored : Vec ℕ Global) → IsRunSaid n ⊎ IsPartRunSaid n
         → IsKept n (Some stored) ↔ (IsWhole n ⊎ IsStopSaid n) }
-    ensures unkept { (n : Note) → IsRunSaid n
+    ensures unkept { (n : Note) → IsRunSaid n ⊎ IsPartRunSaid n
         → IsKept n None ↔ (IsSilent n ⊎ (n ≡ note.OutOfMemory)) }
     ensures of_a_run { (d : Deed) (n : Note) (stored : Vec ℕ Global)
         → IsKeptBy d n (Some stored) → (limits : MadeLimits) × (d ≡ deed.Run limits) }
 {}
 
 /// How a call ended determines its status and what is said of it.
-#[tactic(auto, using(crate::proofs::NoteLaws::check_says_one, crate::proofs::NoteLaws::audit_says_one, crate::proofs::NoteLaws::run_says_one, crate::proofs::NoteLaws::cycle_says_one, crate::proofs::NoteLaws::unread_says_one))]
+#[tactic(auto, using(crate::proofs::NoteLaws::check_says_one, crate::proofs::NoteLaws::audit_says_one, crate::proofs::NoteLaws::run_says_one, crate::proofs::NoteLaws::cycle_says_one, crate::proofs::NoteLaws::unread_says_one, crate::proofs::NoteLaws::unshown_says_one, crate::proofs::NoteLaws::branch_says_one, crate::proofs::NoteLaws::part_unread_says_one))]
 pub fn each_end_has_one_status_and_text()
     ensures check { (a b : ℕ) (m n : Note) (item finding : Bool) (end : End)
         → IsCheckNote item finding end a m → IsCheckNote item finding end b n
@@ -123,10 +134,17 @@ pub fn each_end_has_one_status_and_text()
         → (a ≡ b) × (m ≡ n) }
     ensures unread { (a b : ℕ) (m n : Note) (why : CursorStop) → IsUnreadNote why a m
         → IsUnreadNote why b n → (a ≡ b) × (m ≡ n) }
+    ensures unshown { (a b : ℕ) (m n : Note) (why : ShowStop) → IsUnshownNote why a m
+        → IsUnshownNote why b n → (a ≡ b) × (m ≡ n) }
+    ensures branch { (a b : ℕ) (m n : Note) (finding : Bool) (end : End) (last : Option Place)
+        → IsBranchNote finding end last a m → IsBranchNote finding end last b n
+        → (a ≡ b) × (m ≡ n) }
+    ensures part_unread { (a b : ℕ) (m n : Note) (why : PartCursorStop)
+        → IsPartUnreadNote why a m → IsPartUnreadNote why b n → (a ≡ b) × (m ≡ n) }
 {}
 
 /// Each status and text of a command is that of one of the ways in which it can end.
-#[tactic(auto, using(crate::proofs::NoteLaws::audit_said, crate::proofs::NoteLaws::check_said, crate::proofs::NoteLaws::run_said, crate::proofs::NoteLaws::cycle_said, crate::proofs::NoteLaws::show_said))]
+#[tactic(auto, using(crate::proofs::NoteLaws::audit_said, crate::proofs::NoteLaws::check_said, crate::proofs::NoteLaws::run_said, crate::proofs::NoteLaws::cycle_said, crate::proofs::NoteLaws::show_said, crate::proofs::NoteLaws::branch_said, crate::proofs::NoteLaws::part_run_said))]
 pub fn each_command_speaks_of_its_own_ends()
     ensures audit { (status : ℕ) (n : Note) → IsStatus status n → IsAuditSaid n
         → (finding : Bool) × ((end : End) × IsAuditNote finding end status n) }
@@ -142,7 +160,14 @@ pub fn each_command_speaks_of_its_own_ends()
         × ((end : CycleStatus) × IsCycleNote runs spent finding end status n))) }
     ensures show { (status : ℕ) (n : Note) → IsStatus status n → IsShowSaid n
         → (n ≡ note.Nothing) ⊎ ((n ≡ note.OutputFailed)
-        ⊎ ((why : CursorStop) × IsUnreadNote why status n)) }
+        ⊎ ((why : ShowStop) × IsUnshownNote why status n)) }
+    ensures branch { (status : ℕ) (n : Note) → IsStatus status n → IsBranchSaid n
+        → (finding : Bool) × ((end : End)
+        × ((last : Option Place) × IsBranchNote finding end last status n)) }
+    ensures part_run { (status : ℕ) (n : Note) → IsStatus status n → IsPartRunSaid n
+        → ((c : Cursor) × ((spent : ℕ) × ((finding : Bool)
+        × ((end : RunStatus) × IsRunNote c spent finding end status n))))
+        ⊎ ((why : PartCursorStop) × IsPartUnreadNote why status n) }
 {}
 
 /// Bytes are refused as a cursor only if they are the text of no cursor, for the first reason that
@@ -164,7 +189,8 @@ pub fn only_showing_needs_a_stored_cursor()
 {}
 
 /// Of bytes that are the text of a cursor, the lines of that cursor are shown: whole, or a proper
-/// beginning of them if the output failed. With a refusal nothing is shown.
+/// beginning of them if the output failed. Of a part's cursor the lines of its ends come first.
+/// With a refusal nothing is shown.
 pub fn a_cursor_is_shown_as_its_lines()
     ensures whole { (bytes before after : List ℕ) (c : Cursor) → IsTextOf bytes c
         → ShowsWith (Some (Some bytes)) note.Nothing (Some before) (Some after)
@@ -173,12 +199,18 @@ pub fn a_cursor_is_shown_as_its_lines()
         → ShowsWith (Some (Some bytes)) note.OutputFailed (Some before) (Some after)
         ↔ ((gone : ℕ) × ((gone < length (cursor_lines c))
         × (after ≡ before ++ take gone (cursor_lines c)))) }
+    ensures whole_of_part { (bytes before after : List ℕ) (e : PartEnds) (c : Cursor)
+        → IsPartText e bytes c → length bytes ≤ 67108864
+        → ShowsWith (Some (Some bytes)) note.Nothing (Some before) (Some after)
+        ↔ (after ≡ before ++ part_lines e c) }
     ensures refused { (known : Option (Option (List ℕ))) (old new : Option (List ℕ))
         (why : Refused) → ShowsWith known (note.CursorRefused why) old new → new ≡ old }
+    ensures part_refused { (known : Option (Option (List ℕ))) (old new : Option (List ℕ))
+        (why : PartRefused) → ShowsWith known (note.PartCursorRefused why) old new → new ≡ old }
     ensures unread { (known : Option (Option (List ℕ))) (old new : Option (List ℕ))
         → ShowsWith known note.CursorFileFailed old new → new ≡ old }
 {
-    text_determines_the_cursor();
+    text_determines_what_is_shown();
 }
 
 /// The text that a run hands back with its summary is that of the cursor to which the run led: from

@@ -1,8 +1,8 @@
 //! What a command says on standard error.
 ghost use Rattle.std.specs.Prelude.{◌≡◌, Some};
-ghost use Rattle.ocfl_scrub.specs.NoteText.{end_text, note_text, refused_text};
+ghost use Rattle.ocfl_scrub.specs.NoteText.{end_text, note_text, part_refused_text, refused_text};
 
-use ocfl_cursor::Refused;
+use ocfl_cursor::{PartRefused, Refused};
 use ocfl_report::DisplayPlace;
 use ocfl_tree::Place;
 use std::fmt;
@@ -15,6 +15,8 @@ pub enum Note {
     Nothing,
     /// There are no lines for the place.
     NoItem,
+    /// No item is in the branch.
+    EmptyBranch,
     /// The path is not that of a place.
     BadPath,
     /// The store did not answer at this place.
@@ -47,6 +49,9 @@ pub enum Note {
     CursorFileFailed,
     /// The bytes are those of no cursor, for this reason, which is not that memory ran out.
     CursorRefused(Refused),
+    /// The bytes are those of no cursor of the part, or to be shown of no part's cursor, for this
+    /// reason, which is not that memory ran out.
+    PartCursorRefused(PartRefused),
 }
 
 impl fmt::Display for Note {
@@ -55,7 +60,7 @@ impl fmt::Display for Note {
     fn fmt<W: fmt::Write>(&self, f: &mut fmt::Formatter<W>) -> fmt::Result {
         match self {
             Note::Nothing => Ok(()),
-            Note::NoItem => f.write_str("no item"),
+            Note::NoItem | Note::EmptyBranch => f.write_str("no item"),
             Note::BadPath => f.write_str("bad path"),
             Note::StoppedAt(place) => write!(f, "stopped at {}", DisplayPlace(place)),
             Note::OutOfMemory => f.write_str("out of memory"),
@@ -76,6 +81,9 @@ impl fmt::Display for Note {
             Note::CursorWorn => f.write_str("cursor worn"),
             Note::CursorFileFailed => f.write_str("cursor file failed"),
             Note::CursorRefused(why) => write!(f, "cursor refused: {}", refused_word(*why)),
+            Note::PartCursorRefused(why) => {
+                write!(f, "cursor refused: {}", part_refused_word(*why))
+            }
         }
     }
 }
@@ -97,5 +105,18 @@ fn refused_word(why: Refused) -> &'static str
         Refused::Damaged => "damaged",
         Refused::Malformed => "malformed",
         Refused::Memory => "out of memory",
+    }
+}
+
+// Why bytes are refused to a part.
+fn part_refused_word(why: PartRefused) -> &'static str
+    ensures { result.now ≡ part_refused_text why }
+{
+    match why {
+        PartRefused::NotCursor => "not a cursor",
+        PartRefused::Damaged => "damaged",
+        PartRefused::Malformed => "malformed",
+        PartRefused::OtherPart => "another part",
+        PartRefused::Memory => "out of memory",
     }
 }

@@ -7,7 +7,8 @@ ghost use Rattle.ocfl_item.specs.Judging.{HasShortFiles};
 ghost use Rattle.ocfl_scrub.specs.Running.{limits_of};
 ghost use Rattle.ocfl_scrub.specs.Noting.{IsCycleNote, IsCycleSaid, IsRanSaid, IsRunNote};
 ghost use Rattle.ocfl_scrub.specs.Noting.{IsRunSaid, IsShowSaid, IsStatus, IsStoredNote};
-ghost use Rattle.ocfl_scrub.specs.Noting.{IsUnreadNote, IsUnreadSaid, WritesWithStatus};
+ghost use Rattle.ocfl_scrub.specs.Noting.{IsUnreadNote, IsUnreadSaid, IsUnshownNote};
+ghost use Rattle.ocfl_scrub.specs.Noting.{WritesWithStatus};
 ghost use Rattle.ocfl_scrub.specs.Noting.{run_summary as summary_of_run, status_of};
 ghost use Rattle.ocfl_scrub.specs.Performing.{BeginsWith, CyclePerformed, HandsBack, IsKept};
 ghost use Rattle.ocfl_scrub.specs.Performing.{HasBadPath, IsKeptBy, IsSaid, IsSilent, IsWhole};
@@ -20,7 +21,9 @@ use crate::command::{audited, checked, status, stop_note};
 use crate::cycling::{CycleEnd, CycleStatus, cycle};
 use crate::note::Note;
 use crate::running::{RunEnd, RunStatus, run};
-use ocfl_cursor::{Cursor, CursorStop, Limits, Refused, cursor_lines, encode, read_cursor};
+use ocfl_cursor::{
+    Cursor, CursorStop, Limits, PartRefused, Refused, ShowStop, encode, read_cursor, read_shown,
+};
 use ocfl_deed::Deed;
 use ocfl_digest::Block;
 use ocfl_report::write_all_of;
@@ -97,7 +100,7 @@ pub fn perform<T: Tree, R: Read, W: Write>(
 }
 
 // What is said, where there is no cursor to store.
-fn without_cursor(said: (u8, Note)) -> Performed
+pub(crate) fn without_cursor(said: (u8, Note)) -> Performed
     ensures status { result.status ≡ said.0 }
     ensures note { result.note ≡ said.1 }
     ensures cursor { IsNone result.cursor }
@@ -208,7 +211,7 @@ fn conclude_run(alloc: Global, end: RunEnd) -> Performed
 }
 
 // Describes a run whose cursor has a text.
-fn describe_run(cursor: &Cursor, spent: u64, found: bool, end: RunStatus) -> (u8, Note)
+pub(crate) fn describe_run(cursor: &Cursor, spent: u64, found: bool, end: RunStatus) -> (u8, Note)
     requires whole { end ≢ RunStatus.Stopped Fault.Broken }
     ensures note { IsRunNote cursor.now spent found end result.0 result.1 }
     ensures status { IsStatus result.0 result.1 }
@@ -307,6 +310,20 @@ fn describe_cycle(end: CycleEnd) -> (u8, Note)
     }
 }
 
+// Describes why nothing is shown.
+fn describe_unshown(why: ShowStop) -> (u8, Note)
+    ensures note { IsUnshownNote why result.0 result.1 }
+    ensures status { IsStatus result.0 result.1 }
+    ensures stops { 3 ≤ result.0 }
+    ensures said { IsUnreadSaid result.1 }
+{
+    match why {
+        ShowStop::Whole(why) => describe_unread(why),
+        ShowStop::Part(PartRefused::Memory) => (3, Note::OutOfMemory),
+        ShowStop::Part(why) => (4, Note::PartCursorRefused(why)),
+    }
+}
+
 // Writes the lines of the stored cursor.
 fn show_cursor<R: Read, W: Write>(alloc: Global, reader: Option<&mut R>, out: &mut W) -> (u8, Note)
     ensures status { IsStatus result.0 result.1 }
@@ -321,12 +338,9 @@ fn show_cursor<R: Read, W: Write>(alloc: Global, reader: Option<&mut R>, out: &m
     let Some(reader) = reader else {
         return (3, Note::CursorFileFailed);
     };
-    let cursor = match read_cursor(alloc, reader) {
-        Ok(cursor) => cursor,
-        Err(why) => return describe_unread(why),
-    };
-    let Ok(lines) = cursor_lines(alloc, &cursor) else {
-        return (3, Note::OutOfMemory);
+    let lines = match read_shown(alloc, reader) {
+        Ok(lines) => lines,
+        Err(why) => return describe_unshown(why),
     };
     match write_all_of(out, &lines) {
         Ok(()) => (0, Note::Nothing),

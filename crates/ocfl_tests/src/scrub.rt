@@ -12,6 +12,7 @@ mod large;
 mod lying;
 mod odd_answers;
 mod perform;
+mod perform_parts;
 mod run;
 mod run_content;
 mod run_figures;

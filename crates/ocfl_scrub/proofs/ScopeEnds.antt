@@ -1,0 +1,132 @@
+-- What a command within a scope ends with.
+use Rattle.std.proofs.Common.{◌≡◌, refl, sym, ◌∙◌, ap, subst, ℕ, ◌≤◌, List, [], ◌∷◌, ◌++◌, length, Option, Some, None, Bool, true, false, Vec, inl, inr}
+use Rattle.std.specs.Prelude.{◌≢◌, ◌⊎◌}
+use Rattle.std.specs.declared.alloc.Global.{Global}
+use Rattle.std.proofs.lemmas.Bool.{true≢false}
+use Rattle.ocfl_tree.specs.Place.{Text, Place}
+use Rattle.ocfl_tree.specs.StorageRoot.{StorageRoot}
+use Rattle.ocfl_tree.specs.Store.{Store}
+use Rattle.ocfl_tree.specs.declared.store.Opening.{Opening}
+use Rattle.ocfl_report.specs.Line.{Item}
+use Rattle.ocfl_audit.specs.Audit.{audit}
+use Rattle.ocfl_audit.specs.Parts.{branch, within}
+use Rattle.ocfl_audit.specs.Trail.{unread_of}
+use Rattle.ocfl_cursor.specs.Cursor.{Cursor}
+use Rattle.ocfl_cursor.specs.Part.{IsPartText}
+use Rattle.ocfl_cursor.specs.Refusal.{IsTextOf}
+use Rattle.ocfl_cursor.specs.PartRefusal.{is_part_front}
+use Rattle.ocfl_cursor.specs.Stop.{max_part_text}
+use Rattle.ocfl_cursor.specs.declared.ends.PartEnds.{PartEnds}
+use Rattle.ocfl_cursor.specs.declared.refused.PartRefused.{PartRefused}
+use Rattle.ocfl_cursor.specs.declared.refused.PartRefused.TheVariants as refused
+use Rattle.ocfl_cursor.proofs.PartLimited.{read_as_part}
+use Rattle.ocfl_cursor.proofs.PartRefusals.{front-part_text, only_memory, seal-part_text, whole_is_no_part}
+use Rattle.ocfl_deed.specs.declared.deed.Deed.{Deed}
+use Rattle.ocfl_deed.specs.declared.deed.Deed.TheVariants as deed
+use Rattle.ocfl_item.specs.declared.fault.Fault.{Fault}
+use Rattle.ocfl_item.specs.declared.fault.Fault.TheVariants as fault
+use Rattle.ocfl_scrub.specs.Noting.{IsStopNote}
+use Rattle.ocfl_scrub.specs.Performing.{HandsBack, IsSaid, Performs, RefusesRightly}
+use Rattle.ocfl_scrub.specs.Scoping.{BranchAudited, HandsBackIn, IsBranchNote, IsSaidIn, PartRefusesRightly, PerformsIn, RefusesRightlyIn}
+use Rattle.ocfl_scrub.specs.WholeAudit.{AuditEndsWithin, AuditsWithin}
+use Rattle.ocfl_scrub.specs.Written.{places, last_of}
+use Rattle.ocfl_scrub.specs.declared.checking.End.{End}
+use Rattle.ocfl_scrub.specs.declared.checking.End.TheVariants as end
+use Rattle.ocfl_scrub.specs.declared.note.Note.{Note}
+use Rattle.ocfl_scrub.specs.declared.note.Note.TheVariants as note
+use Rattle.ocfl_scrub.specs.declared.scope.Scope.TheVariants as scope
+
+-- ---- within the whole
+
+pub whole_said : (d : Deed) (n : Note) → IsSaidIn d scope.Whole n → IsSaid d n
+whole_said deed.Audit n h = h
+whole_said (deed.Run limits) n h = h
+whole_said (deed.Cycle limits count) n h = h
+whole_said (deed.Check path) n h = h
+whole_said deed.Show n h = h
+
+pub whole_refused : (d : Deed) (known : Option (Option (List ℕ))) (n : Note) → RefusesRightlyIn d scope.Whole known n → RefusesRightly known n
+whole_refused deed.Audit known n h = h
+whole_refused (deed.Run limits) known n h = h
+whole_refused (deed.Cycle limits count) known n h = h
+whole_refused (deed.Check path) known n h = h
+whole_refused deed.Show known n h = h
+
+pub whole_handed_back : (d : Deed) (known : Option (Option (List ℕ))) (status : ℕ) (n : Note) (stored : Option (Vec ℕ Global)) → HandsBackIn d scope.Whole known status n stored → HandsBack known d status n stored
+whole_handed_back deed.Audit known status n stored h = h
+whole_handed_back (deed.Run limits) known status n stored h = h
+whole_handed_back (deed.Cycle limits count) known status n stored h = h
+whole_handed_back (deed.Check path) known status n stored h = h
+whole_handed_back deed.Show known status n stored h = h
+
+pub whole_told : (d : Deed) (known : Option (Option (List ℕ))) (root : StorageRoot) (s t : Store) (old new : Option (List ℕ)) (status : ℕ) (n : Note) (stored : Option (Vec ℕ Global))
+    → PerformsIn d scope.Whole known root s t old new status n stored → Performs known root s t old new d status n stored
+whole_told deed.Audit known root s t old new status n stored h = h
+whole_told (deed.Run limits) known root s t old new status n stored h = h
+whole_told (deed.Cycle limits count) known root s t old new status n stored h = h
+whole_told (deed.Check path) known root s t old new status n stored h = h
+whole_told deed.Show known root s t old new status n stored h = h
+
+-- ---- branches
+
+no_stop : (why : Fault) (n : Note) → (n ≡ note.EmptyBranch) ⊎ (n ≡ note.Nothing) → IsStopNote why n → ⊥
+no_stop (fault.Store p) n (inl e) h = cc
+no_stop (fault.Store p) n (inr e) h = cc
+no_stop fault.Memory n (inl e) h = cc
+no_stop fault.Memory n (inr e) h = cc
+no_stop fault.Output n (inl e) h = cc
+no_stop fault.Output n (inr e) h = cc
+no_stop fault.Broken n e h = h
+
+-- after one place there is a last one
+last_of_more : (p : Place) (ps : List Place) → last_of (Some p) ps ≡ None → ⊥
+last_of_more p [] e = cc
+last_of_more p (q ∷ ps) e = last_of_more q ps e
+
+no_items : (items : List Item) → last_of None (places items) ≡ None → items ≡ []
+no_items [] e = refl
+no_items (i ∷ items) e = absurd (last_of_more i.place (places items) e)
+
+-- the items of a branch, as the audit that ended could read them
+abbrev Ended : StorageRoot → Store → Store → Place → (List Item → Type 0) → Type 0
+Ended root s t p holds = (trail : List Opening) × ((t.openings ≡ s.openings ++ trail) × holds (within (branch p) (audit root (unread_of root trail))))
+
+module _ (root : StorageRoot) (s t : Store) (old new : Option (List ℕ)) (p : Place) (status : ℕ) where
+  pub no_item : BranchAudited root s t old new p status note.EmptyBranch → Ended root s t p (λ items. items ≡ [])
+  no_item h = by h.ran.end h.ran.last h.audits h.says
+    where
+      by : (how : End) (last : Option Place) → AuditEndsWithin root s t old new (branch p) last h.ran.found how → IsBranchNote h.ran.found how last status note.EmptyBranch → Ended root s t p (λ items. items ≡ [])
+      by end.Ended None a says = (a.trail, (a.audits.did.openings_are, no_items _ (sym a.last_is)))
+      by end.Ended (Some q) a says = absurd (let e = says.1 in cc)
+      by (end.Stopped why) last a says = absurd (no_stop why note.EmptyBranch (inl refl) says.1)
+
+  pub some_item : BranchAudited root s t old new p status note.Nothing → Ended root s t p (λ items. items ≢ [])
+  some_item h = by h.ran.end h.ran.last h.audits h.says
+    where
+      by : (how : End) (last : Option Place) → AuditEndsWithin root s t old new (branch p) last h.ran.found how → IsBranchNote h.ran.found how last status note.Nothing → Ended root s t p (λ items. items ≢ [])
+      by end.Ended None a says = absurd (let e = says.1 in cc)
+      by end.Ended (Some q) a says = (a.trail, (a.audits.did.openings_are, λ none. let last = a.last_is ∙ ap (λ items. last_of None (places items)) none in cc))
+      by (end.Stopped why) last a says = absurd (no_stop why note.Nothing (inr refl) says.1)
+
+-- ---- cursors of parts
+
+pub own_cursor : (e : PartEnds) (b : Text) (c : Cursor) (why : PartRefused) → IsPartText e b c → length b ≤ max_part_text → PartRefusesRightly e (Some (Some b)) (note.PartCursorRefused why) → why ≡ refused.Memory
+own_cursor e b c refused.NotCursor h few k = absurd (true≢false (sym (read_as_part b (front-part_text e b c h) few) ∙ k))
+own_cursor e b c refused.Damaged h few k = only_memory e b c h refused.Damaged k.1
+own_cursor e b c refused.Malformed h few k = only_memory e b c h refused.Malformed k.1
+own_cursor e b c refused.OtherPart h few k = only_memory e b c h refused.OtherPart k.1
+own_cursor e b c refused.Memory h few k = refl
+
+pub cursor_of_a_part : (e f : PartEnds) (b : Text) (c : Cursor) (why : PartRefused) → IsPartText f b c → length b ≤ max_part_text → PartRefusesRightly e (Some (Some b)) (note.PartCursorRefused why) → (why ≡ refused.OtherPart) ⊎ (why ≡ refused.Memory)
+cursor_of_a_part e f b c refused.NotCursor h few k = absurd (true≢false (sym (read_as_part b (front-part_text f b c h) few) ∙ k))
+cursor_of_a_part e f b c refused.Damaged h few k = absurd (true≢false (sym (seal-part_text f b c h) ∙ k.1.1))
+cursor_of_a_part e f b c refused.Malformed h few k = absurd (k.1.no_cursor f c h)
+cursor_of_a_part e f b c refused.OtherPart h few k = inl refl
+cursor_of_a_part e f b c refused.Memory h few k = inr refl
+
+pub cursor_of_the_whole : (e : PartEnds) (b : Text) (c : Cursor) (why : PartRefused) → IsTextOf b c → PartRefusesRightly e (Some (Some b)) (note.PartCursorRefused why) → (why ≡ refused.NotCursor) ⊎ (why ≡ refused.Memory)
+cursor_of_the_whole e b c refused.NotCursor h k = inl refl
+cursor_of_the_whole e b c refused.Damaged h k = absurd (true≢false (sym k.1.0 ∙ whole_is_no_part b c h))
+cursor_of_the_whole e b c refused.Malformed h k = absurd (true≢false (sym k.1.sealed.front ∙ whole_is_no_part b c h))
+cursor_of_the_whole e b c refused.OtherPart h k = absurd (true≢false (sym (front-part_text k.1.ends b k.1.cursor k.1.is) ∙ whole_is_no_part b c h))
+cursor_of_the_whole e b c refused.Memory h k = inr refl

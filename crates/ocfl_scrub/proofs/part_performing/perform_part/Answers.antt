@@ -1,0 +1,23 @@
+use Rattle.std.proofs.Common.{refl}
+use Rattle.ocfl_scrub.proofs.ScopeLaws.{as_whole}
+use Rattle.ocfl_scrub.proofs.part_performing.perform_part.Goals as goal
+
+pub returns-in-Whole-clause-told : goal.returns-in-Whole-clause-told
+returns-in-Whole-clause-told g c told root over short =
+    as_whole _ _ _ _ _ root _ _ _ _ _ _ _ c.in-Audit.is c.in-Whole.is (λ h. h) (c.perform.ensures.told told root over short)
+
+pub returns-in-Whole-scope-clause-told : goal.returns-in-Whole-scope-clause-told
+returns-in-Whole-scope-clause-told g c told root over short =
+    as_whole _ _ _ _ _ root _ _ _ _ _ _ _ c.in-Run.is c.in-Whole-scope.is (λ h. h) (c.perform-in-Whole-scope.ensures.told told root over short)
+
+pub returns-in-Branch-scope-clause-told : goal.returns-in-Branch-scope-clause-told
+returns-in-Branch-scope-clause-told g c told root over short =
+    as_whole _ _ _ _ _ root _ _ _ _ _ _ _ c.in-Run.is c.in-Branch-scope.is (λ h. h) (c.perform-in-Branch-scope.ensures.told told root over short)
+
+pub returns-in-Check-clause-told : goal.returns-in-Check-clause-told
+returns-in-Check-clause-told g c told root over short =
+    as_whole _ _ _ _ _ root _ _ _ _ _ _ _ c.in-Check.is refl (λ h. h) (c.perform-in-Check.ensures.told told root over short)
+
+pub returns-in-Cycle-clause-told : goal.returns-in-Cycle-clause-told
+returns-in-Cycle-clause-told g c told root over short =
+    as_whole _ _ _ _ _ root _ _ _ _ _ _ _ c.in-Cycle.is refl (λ h. h) (c.perform-in-Cycle.ensures.told told root over short)

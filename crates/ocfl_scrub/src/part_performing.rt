@@ -1,0 +1,277 @@
+//! What the program does for a command within a scope: on the whole storage root, on a branch of
+//! it, or on one part.
+ghost use Rattle.std.specs.Prelude.{◌≡◌, ◌≢◌, ◌↔◌, ◌≤◌, ℕ, IfErr, IfOk, IsNone, IsTrue, None, Some};
+ghost use Rattle.std.specs.Prelude.{Vec};
+ghost use Rattle.std.specs.declared.alloc.Global.{Global};
+ghost use Rattle.ocfl_tree.specs.StorageRoot.{StorageRoot};
+ghost use Rattle.ocfl_item.specs.Judging.{HasShortFiles};
+ghost use Rattle.ocfl_scrub.specs.Running.{limits_of};
+ghost use Rattle.ocfl_scrub.specs.Noting.{IsAuditSaid, IsRanSaid, IsStatus, IsUnreadSaid};
+ghost use Rattle.ocfl_scrub.specs.Noting.{WritesWithStatus, status_of};
+ghost use Rattle.ocfl_scrub.specs.Performing.{HasBadPath, IsKept, IsKeptBy, IsSilent, IsWhole};
+ghost use Rattle.ocfl_scrub.specs.Performing.{IsWithoutFile, RefusesPath, WritesBy, bytes_of};
+ghost use Rattle.ocfl_scrub.specs.Scoping.{BeginsPartWith, BranchPerformed, HandsBackIn};
+ghost use Rattle.ocfl_scrub.specs.Scoping.{IsBranchNote, IsBranchSaid, IsPartRunSaid, IsSaidIn};
+ghost use Rattle.ocfl_scrub.specs.Scoping.{IsPartStoredNote, IsPartUnreadNote, PartPerformed};
+ghost use Rattle.ocfl_scrub.specs.Scoping.{PartRefusesRightly, PartRunPerformed, PartStopsWith};
+ghost use Rattle.ocfl_scrub.specs.Scoping.{PerformsIn, RefusesRightlyIn, part_between as part_of_ends};
+ghost use Rattle.ocfl_scrub.specs.declared.scope.Scope.TheVariants as scopes;
+
+use crate::auditing::{AuditEnd, audit_part};
+use crate::checking::End;
+use crate::command::{describe_audit, status, stop_note};
+use crate::note::Note;
+use crate::part::Part;
+use crate::performing::{Performed, describe_run, perform, without_cursor};
+use crate::running::{RunEnd, RunStatus, run_part};
+use crate::scope::{Scope, branch_at, part_between};
+use ocfl_cursor::{
+    Cursor, Limits, PartCursorStop, PartEnds, PartRefused, encode_part, read_part_cursor,
+};
+use ocfl_deed::Deed;
+use ocfl_digest::Block;
+use ocfl_tree::{Place, Tree};
+use ocfl_walk::Fault;
+use std::alloc::Global;
+use std::io::{Read, Write};
+
+/// Does what is asked for within a scope, as `perform` does it in the whole storage root.
+///
+/// The scope matters to an audit and to a run. An audit takes the items of the branch or of the
+/// part. If a branch has no item it says so with status 2, so that a place that does not exist is no
+/// success; a part may be empty. A run takes the items of its part, and its cursor's text names the
+/// part: one of another part, or of the whole storage root, is refused.
+pub fn perform_part<T: Tree, R: Read, W: Write>(
+    alloc: Global,
+    store: &mut T,
+    deed: &Deed,
+    scope: &Scope,
+    reader: Option<&mut R>,
+    block: &mut Block,
+    out: &mut W,
+) -> Performed
+    // Of every store.
+    ensures status { IsStatus result.status result.note }
+    ensures said { IsSaidIn deed.now scope.now result.note }
+    ensures silent { IsSilent result.note → (store.new ≡ store.old) × (out.new ≡ out.old) }
+    ensures empty { result.note ≡ Note.EmptyBranch → out.new ≡ out.old }
+    ensures show_calls { deed.now ≡ Deed.Show → store.new ≡ store.old }
+    ensures show_ends { deed.now ≡ Deed.Show
+        → (result.status ≡ 0) ↔ (result.note ≡ Note.Nothing) }
+    ensures refused { RefusesRightlyIn deed.now scope.now (bytes_of R.remaining reader.entry)
+        result.note }
+    ensures kept { IsKeptBy deed.now result.note result.cursor }
+    ensures handed_back { HandsBackIn deed.now scope.now (bytes_of R.remaining reader.entry)
+        result.status result.note result.cursor }
+    ensures without_file { IsWithoutFile (bytes_of R.remaining reader.entry) deed.now result.note }
+    ensures bad_path { RefusesPath deed.now result.status result.note }
+    ensures bad_path_silent { HasBadPath deed.now
+        → (store.new ≡ store.old) × (out.new ≡ out.old) }
+    ensures lines { WritesBy (bytes_of R.remaining reader.entry) deed.now result.status result.note
+        (W.contents out.old) (W.contents out.new) }
+
+    // Of a store that tells its tree.
+    ensures told { IsTrue T.told → (root : StorageRoot) → (T.state store.old).tree ≡ root →
+        HasShortFiles root →
+        PerformsIn deed.now scope.now (bytes_of R.remaining reader.entry) root (T.state store.old)
+        (T.state store.new) (W.contents out.old) (W.contents out.new) result.status result.note
+        result.cursor }
+{
+    match deed {
+        Deed::Audit => match scope {
+            Scope::Whole => perform(alloc, store, deed, reader, block, out),
+            Scope::Branch(place) => {
+                without_cursor(audited_branch(alloc, store, place, block, out))
+            }
+            Scope::Part(ends) => without_cursor(audited_part(alloc, store, ends, block, out)),
+        },
+        Deed::Run(limits) => match scope {
+            Scope::Whole => perform(alloc, store, deed, reader, block, out),
+            Scope::Branch(_) => perform(alloc, store, deed, reader, block, out),
+            Scope::Part(ends) => {
+                perform_part_run(alloc, store, ends, *limits, reader, block, out)
+            }
+        },
+        Deed::Check(_) => perform(alloc, store, deed, reader, block, out),
+        Deed::Cycle(..) => perform(alloc, store, deed, reader, block, out),
+        Deed::Show => perform(alloc, store, deed, reader, block, out),
+    }
+}
+
+// Audits a branch, and describes what the audit ended with.
+fn audited_branch<T: Tree, W: Write>(
+    alloc: Global,
+    store: &mut T,
+    place: &Place,
+    block: &mut Block,
+    out: &mut W,
+) -> (u8, Note)
+    // Of every store.
+    ensures status { IsStatus result.0 result.1 }
+    ensures said { IsBranchSaid result.1 }
+    ensures lines { result.1 ≡ Note.Nothing → WritesWithStatus (W.contents out.old)
+        (W.contents out.new) result.0 }
+    ensures empty { result.1 ≡ Note.EmptyBranch → out.new ≡ out.old }
+
+    // Of a store that tells its tree.
+    ensures told { IsTrue T.told → (root : StorageRoot) → (T.state store.old).tree ≡ root
+        → HasShortFiles root →
+        BranchPerformed root (T.state store.old) (T.state store.new) (W.contents out.old)
+        (W.contents out.new) place.now result.0 result.1 }
+{
+    let Ok(part) = branch_at(place) else {
+        return (3, Note::OutOfMemory);
+    };
+    describe_branch(audit_part(alloc, store, &part, block, out))
+}
+
+fn describe_branch(end: AuditEnd) -> (u8, Note)
+    requires whole { end.end ≢ End.Stopped Fault.Broken }
+    ensures note { IsBranchNote end.found end.end end.last result.0 result.1 }
+    ensures status { IsStatus result.0 result.1 }
+    ensures said { IsBranchSaid result.1 }
+    ensures nothing { result.1 ≡ Note.Nothing
+        → (end.end ≡ End.Ended) × (result.0 ≡ status_of end.found) }
+    ensures empty { result.1 ≡ Note.EmptyBranch → (end.end ≡ End.Ended) × (end.last ≡ None) }
+{
+    let AuditEnd { found, last, end } = end;
+    match end {
+        End::Ended => match last {
+            Some(_) => (status(found), Note::Nothing),
+            None => (2, Note::EmptyBranch),
+        },
+        End::Stopped(why) => (3, stop_note(why)),
+    }
+}
+
+// Audits the part with these ends, and describes what the audit ended with.
+fn audited_part<T: Tree, W: Write>(
+    alloc: Global,
+    store: &mut T,
+    ends: &PartEnds,
+    block: &mut Block,
+    out: &mut W,
+) -> (u8, Note)
+    // Of every store.
+    ensures status { IsStatus result.0 result.1 }
+    ensures said { IsAuditSaid result.1 }
+    ensures lines { result.1 ≡ Note.Nothing → WritesWithStatus (W.contents out.old)
+        (W.contents out.new) result.0 }
+
+    // Of a store that tells its tree.
+    ensures told { IsTrue T.told → (root : StorageRoot) → (T.state store.old).tree ≡ root
+        → HasShortFiles root →
+        PartPerformed root (T.state store.old) (T.state store.new) (W.contents out.old)
+        (W.contents out.new) (part_of_ends ends.now) result.0 result.1 }
+{
+    let Ok(part) = part_between(alloc, ends) else {
+        return (3, Note::OutOfMemory);
+    };
+    describe_audit(audit_part(alloc, store, &part, block, out))
+}
+
+// Makes one run of the part with these ends, from its stored cursor.
+fn perform_part_run<T: Tree, R: Read, W: Write>(
+    alloc: Global,
+    store: &mut T,
+    ends: &PartEnds,
+    limits: Limits,
+    reader: Option<&mut R>,
+    block: &mut Block,
+    out: &mut W,
+) -> Performed
+    // Of every store.
+    ensures status { IsStatus result.status result.note }
+    ensures said { IsPartRunSaid result.note }
+    ensures silent { IsSilent result.note → (store.new ≡ store.old) × (out.new ≡ out.old) }
+    ensures refused { PartRefusesRightly ends.now (bytes_of R.remaining reader.entry) result.note }
+    ensures kept { IsKept result.note result.cursor }
+    ensures handed_back { HandsBackIn (Deed.Run limits) (scopes.Part ends.now)
+        (bytes_of R.remaining reader.entry) result.status result.note result.cursor }
+    ensures without_file { IsWithoutFile (bytes_of R.remaining reader.entry) (Deed.Run limits)
+        result.note }
+    ensures lines { IsWhole result.note →
+        WritesWithStatus (W.contents out.old) (W.contents out.new) result.status }
+
+    // Of a store that tells its tree.
+    ensures told { IsTrue T.told → (root : StorageRoot) → (T.state store.old).tree ≡ root →
+        HasShortFiles root →
+        PartRunPerformed ends.now (bytes_of R.remaining reader.entry) root (T.state store.old)
+        (T.state store.new) (W.contents out.old) (W.contents out.new) (limits_of limits)
+        result.status result.note result.cursor }
+{
+    let cursor = match first_part_cursor(alloc, ends, reader) {
+        Ok(cursor) => cursor,
+        Err(why) => return without_cursor(describe_part_unread(why)),
+    };
+    let Ok(part) = part_between(alloc, ends) else {
+        return without_cursor((3, Note::OutOfMemory));
+    };
+    let end = run_part(alloc, store, &part, cursor, limits, block, out);
+    conclude_part_run(alloc, ends, end)
+}
+
+// The cursor that a run of a part begins with.
+fn first_part_cursor<R: Read>(
+    alloc: Global,
+    ends: &PartEnds,
+    reader: Option<&mut R>,
+) -> Result<Cursor, PartCursorStop>
+    ensures cursor { IfOk result (BeginsPartWith ends.now (bytes_of R.remaining reader.entry)) }
+    ensures refused { IfErr result (PartStopsWith ends.now (bytes_of R.remaining reader.entry)) }
+{
+    match reader {
+        Some(reader) => read_part_cursor(alloc, reader, ends),
+        None => Ok(Cursor::new()),
+    }
+}
+
+// Describes why no cursor of a part was read.
+fn describe_part_unread(why: PartCursorStop) -> (u8, Note)
+    ensures note { IsPartUnreadNote why result.0 result.1 }
+    ensures status { IsStatus result.0 result.1 }
+    ensures stops { 3 ≤ result.0 }
+    ensures said { IsUnreadSaid result.1 }
+{
+    match why {
+        PartCursorStop::Read => (3, Note::CursorFileFailed),
+        PartCursorStop::Refused(PartRefused::Memory) => (3, Note::OutOfMemory),
+        PartCursorStop::Refused(why) => (4, Note::PartCursorRefused(why)),
+    }
+}
+
+// Describes what a run of a part ended with, and writes the text of its cursor, which names the
+// part.
+fn conclude_part_run(alloc: Global, ends: &PartEnds, end: RunEnd) -> Performed
+    requires whole { end.end ≢ RunStatus.Stopped Fault.Broken }
+    ensures status { IsStatus result.status result.note }
+    ensures said { IsRanSaid result.note }
+    ensures worn { (result.note ≡ Note.CursorWorn) ↔ (end.end ≡ RunStatus.Worn) }
+    ensures worn_ends { end.end ≡ RunStatus.Worn → (result.status ≡ 3) × IsNone result.cursor }
+    ensures kept { IsKept result.note result.cursor }
+    ensures note { end.end ≢ RunStatus.Worn →
+        IsPartStoredNote ends.now end.cursor end.spent end.found end.end result.status result.note
+        result.cursor }
+    ensures lines { IsWhole result.note →
+        (end.end ≢ RunStatus.Stopped Fault.Output) × (result.status ≡ status_of end.found) }
+{
+    let RunEnd {
+        cursor,
+        spent,
+        found,
+        end,
+        ..
+    } = end;
+    if matches!(end, RunStatus::Worn) {
+        return without_cursor((3, Note::CursorWorn));
+    }
+    let Ok(text) = encode_part(alloc, ends, &cursor) else {
+        return without_cursor((3, Note::OutOfMemory));
+    };
+    let (status, note) = describe_run(&cursor, spent, found, end);
+    Performed {
+        status,
+        note,
+        cursor: Some(text),
+    }
+}

@@ -1,0 +1,68 @@
+//! What a command within a scope ends with.
+ghost use Rattle.std.specs.Prelude.{◌≡◌, ◌≢◌, ◌↔◌, ◌⊎◌, ◌≤◌, ◌++◌, ℕ, List, [], Option, Some, None};
+ghost use Rattle.std.specs.Prelude.{Vec, length};
+ghost use Rattle.std.specs.declared.alloc.Global.{Global};
+ghost use Rattle.ocfl_tree.specs.Place.{Place};
+ghost use Rattle.ocfl_tree.specs.StorageRoot.{StorageRoot};
+ghost use Rattle.ocfl_tree.specs.Store.{Store};
+ghost use Rattle.ocfl_tree.specs.declared.store.Opening.{Opening};
+ghost use Rattle.ocfl_audit.specs.Audit.{audit};
+ghost use Rattle.ocfl_audit.specs.Parts.{branch, within};
+ghost use Rattle.ocfl_audit.specs.Trail.{unread_of};
+ghost use Rattle.ocfl_cursor.specs.Cursor.{Cursor};
+ghost use Rattle.ocfl_cursor.specs.Part.{IsPartText};
+ghost use Rattle.ocfl_cursor.specs.Refusal.{IsTextOf};
+ghost use Rattle.ocfl_cursor.specs.declared.ends.PartEnds.{PartEnds};
+ghost use Rattle.ocfl_cursor.specs.declared.refused.PartRefused.{PartRefused};
+ghost use Rattle.ocfl_cursor.specs.declared.refused.PartRefused.TheVariants as refused;
+ghost use Rattle.ocfl_deed.specs.declared.deed.Deed.{Deed};
+ghost use Rattle.ocfl_scrub.specs.Performing.{HandsBack, IsSaid, Performs, RefusesRightly};
+ghost use Rattle.ocfl_scrub.specs.Scoping.{BranchAudited, HandsBackIn, IsSaidIn};
+ghost use Rattle.ocfl_scrub.specs.Scoping.{PartRefusesRightly, PerformsIn, RefusesRightlyIn};
+ghost use Rattle.ocfl_scrub.specs.declared.note.Note.{Note};
+ghost use Rattle.ocfl_scrub.specs.declared.note.Note.TheVariants as note;
+ghost use Rattle.ocfl_scrub.specs.declared.scope.Scope.TheVariants as scope;
+
+/// Within the whole storage root a command ends with what it ends with without a scope.
+pub fn the_whole_is_no_other_scope()
+    ensures said { (d : Deed) (n : Note) → IsSaidIn d scope.Whole n → IsSaid d n }
+    ensures refused { (d : Deed) (known : Option (Option (List ℕ))) (n : Note)
+        → RefusesRightlyIn d scope.Whole known n → RefusesRightly known n }
+    ensures handed_back { (d : Deed) (known : Option (Option (List ℕ))) (status : ℕ) (n : Note)
+        (stored : Option (Vec ℕ Global)) → HandsBackIn d scope.Whole known status n stored
+        → HandsBack known d status n stored }
+    ensures told { (d : Deed) (known : Option (Option (List ℕ))) (root : StorageRoot)
+        (s t : Store) (old new : Option (List ℕ)) (status : ℕ) (n : Note)
+        (stored : Option (Vec ℕ Global))
+        → PerformsIn d scope.Whole known root s t old new status n stored
+        → Performs known root s t old new d status n stored }
+{}
+
+/// A branch is said to be without items exactly where it has none, if its audit did not stop.
+pub fn an_empty_branch_has_no_item()
+    ensures empty { (root : StorageRoot) (s t : Store) (old new : Option (List ℕ)) (p : Place)
+        (status : ℕ) → BranchAudited root s t old new p status note.EmptyBranch
+        → (trail : List Opening) × ((t.openings ≡ s.openings ++ trail)
+        × (within (branch p) (audit root (unread_of root trail)) ≡ [])) }
+    ensures some { (root : StorageRoot) (s t : Store) (old new : Option (List ℕ)) (p : Place)
+        (status : ℕ) → BranchAudited root s t old new p status note.Nothing
+        → (trail : List Opening) × ((t.openings ≡ s.openings ++ trail)
+        × (within (branch p) (audit root (unread_of root trail)) ≢ [])) }
+{}
+
+/// A run of a part refuses its own cursor for want of memory alone. It refuses a part's cursor as
+/// another part's or for want of memory, and a cursor of the whole storage root as none.
+pub fn a_part_takes_its_own_cursor_alone()
+    ensures own { (e : PartEnds) (bytes : List ℕ) (c : Cursor) (why : PartRefused)
+        → IsPartText e bytes c → length bytes ≤ 67108864
+        → PartRefusesRightly e (Some (Some bytes)) (note.PartCursorRefused why)
+        → why ≡ refused.Memory }
+    ensures of_a_part { (e f : PartEnds) (bytes : List ℕ) (c : Cursor) (why : PartRefused)
+        → IsPartText f bytes c → length bytes ≤ 67108864
+        → PartRefusesRightly e (Some (Some bytes)) (note.PartCursorRefused why)
+        → (why ≡ refused.OtherPart) ⊎ (why ≡ refused.Memory) }
+    ensures whole { (e : PartEnds) (bytes : List ℕ) (c : Cursor) (why : PartRefused)
+        → IsTextOf bytes c
+        → PartRefusesRightly e (Some (Some bytes)) (note.PartCursorRefused why)
+        → (why ≡ refused.NotCursor) ⊎ (why ≡ refused.Memory) }
+{}

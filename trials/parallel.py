@@ -85,14 +85,14 @@ class Cycles:
         self.told, self.count = set(), 0
         self.seen = []
 
-    def night(self, event="none"):
+    def night(self, event="none", budget="12K"):
         """A night, what comes over it, and what it says."""
         self.seen.append(event)
         kind, _, name = event.partition(" by ")
         if event == "full":
             self.fill()
         program = instead(self.folder, "counting", COUNTING.replace("{folder}", self.folder))
-        night = self.nights.start(program=program)
+        night = self.nights.start(budget, program=program)
         if name:
             time.sleep(self.chance.uniform(0, 2))
             strike(night, kind, getattr(signal, "SIG" + name), self.chance)
@@ -116,9 +116,10 @@ class Cycles:
                 return
 
     def cycle(self, number, events, most=16):
-        """Nights until a cycle is closed: gives the name of its report."""
+        """Nights until a cycle is closed: gives the name of its report. Once nothing more comes over
+        them, they read as much as there is."""
         for _ in range(most):
-            self.night(events.pop(0) if events else "none")
+            self.night(*([events.pop(0)] if events else ["none", "1M"]))
             for kind in ["cycle", "incomplete"]:
                 name = "%s-%06d" % (kind, number)
                 if self.nights.has("reports/" + name) is not None:
@@ -147,8 +148,7 @@ def cycles(folder):
     made = Cycles(folder, 36)
     broken = Place(made.root, BROKEN)
     broken.spoil()
-    report = made.cycle(1, ["none", "program by KILL", "none", "parallel by TERM", "full",
-                            "parallel by HUP", "night of a part by KILL", "task by KILL"])
+    report = made.cycle(1, ["none", "program by KILL", "full", "parallel by HUP", "task by KILL"])
     is_so("the first cycle is not whole", report, "incomplete-000001")
     is_so("it is the audit but for the place that stands alone",
           made.nights.has("reports/%s" % report), without(made.audit, BROKEN))
@@ -157,7 +157,7 @@ def cycles(folder):
     is_stated("its statement", made.nights, report)
     broken.mend()
     made.told, made.count = set(), 0
-    report = made.cycle(2, ["task by KILL", "parallel by TERM", "program by KILL"])
+    report = made.cycle(2, ["night of a part by KILL", "parallel by TERM"])
     is_so("the second cycle is whole", report, "cycle-000002")
     is_so("it is the audit", made.nights.has("reports/%s" % report), made.audit)
     all_are_told(made, findings(made.audit))

@@ -208,9 +208,10 @@ def by_timeout(folder):
     """Nights that `timeout` ends each lose a slice at most, so that they come to the end."""
     nights = Nights(folder + "/state", make_root(folder + "/root"))
     slow = instead(folder, "slow", 'sleep 0.4\nexec {program} "$@"')
-    words = ["timeout", "2", *nights.words("1", ["--hours", "1"])]
-    for _ in range(20):
-        ran(words, OCFL_SCRUB=slow)
+    for again in range(20):
+        # Longer each time, so that a busy machine gets its slice done too.
+        seconds = str(2 + again)
+        ran(["timeout", seconds, *nights.words("1", ["--hours", "1"])], OCFL_SCRUB=slow)
         if nights.whole(1):
             break
     is_so("whole", nights.whole(1), "".join(ITEMS))

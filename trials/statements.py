@@ -11,7 +11,6 @@ import json
 import os
 import re
 import shutil
-import time
 import xml.etree.ElementTree
 
 import common
@@ -495,6 +494,13 @@ def strange_paths(folder, state, root, made):
 
 # What it takes
 
+def used():
+    """The seconds of a processor that ended children took, which a busy machine leaves as they
+    are."""
+    times = os.times()
+    return times.children_user + times.children_system
+
+
 def takes_little(folder):
     """A report of 1,000,000 lines is opened once, and takes no memory that grows with it."""
     state, made = audited(folder)
@@ -512,13 +518,13 @@ def takes_little(folder):
                   [REPORTS + "findings", report]]:
         name = os.path.basename(words[0])
         limited = ["sh", "-c", 'ulimit -d 20000; exec "$@"', "sh"] + words
-        began = time.monotonic()
+        began = used()
         traced = ["strace", "-f", "--quiet=all", "-y", "-e", "trace=open,openat", "-o", calls]
         given, out, said = ran(traced + limited, OCFL_SCRUB=made)
         is_so("%s within 20 MB" % name, (given, said), (2 if name == "status" else 0, ""))
         opened = [row for row in read(calls).splitlines() if row.endswith("<%s>" % report)]
         is_so("%s opens the report once" % name, len(opened), 1)
-        is_so("%s takes less than a minute" % name, time.monotonic() - began < 60, True)
+        is_so("%s takes less than a minute" % name, used() - began < 60, True)
     text = state.has("reports/statement-000002")
     is_so("it counts all", ["Report lines: 1000001\n" in text, "Findings E072: 250000\n" in text],
           [True, True])

@@ -1,5 +1,5 @@
 -- What is refused, shown and handed back of a cursor that is stored.
-use Rattle.std.proofs.Common.{◌≡◌, refl, subst, arith, sym, ◌∙◌, ap, ℕ, ◌+◌, ◌<◌, ◌≤◌, List, ◌++◌, length, take, Bool, true, false, Option, Some, None, Vec, inl, inr}
+use Rattle.std.proofs.Common.{◌≡◌, refl, subst, arith, sym, ◌∙◌, ap, ℕ, ◌+◌, ◌<◌, ◌≤◌, ◌++◌, length, take, Bool, true, false, Option, Some, None, Vec, inl, inr}
 use Rattle.std.specs.Prelude.{◌≢◌, ◌↔◌, if◌then◌else◌}
 use Rattle.std.specs.declared.alloc.Global.{Global}
 use Rattle.ocfl_tree.specs.Place.{Text, Place}
@@ -17,7 +17,6 @@ use Rattle.ocfl_audit.specs.Runs.{Limits}
 use Rattle.ocfl_cursor.specs.declared.limits.Limits.{Limits as MadeLimits}
 use Rattle.ocfl_cursor.specs.declared.refused.Refused.{Refused}
 use Rattle.ocfl_cursor.specs.declared.refused.Refused.TheVariants as refused
-use Rattle.ocfl_deed.specs.declared.deed.Deed.{Deed}
 use Rattle.ocfl_deed.specs.declared.deed.Deed.TheVariants as deed
 use Rattle.ocfl_item.specs.declared.fault.Fault.{Fault}
 use Rattle.ocfl_item.specs.declared.fault.Fault.TheVariants as fault

@@ -1,5 +1,5 @@
 -- Where the walk over a part begins: what is left there before its end is what the part has above the place that it is given.
-use Rattle.std.proofs.Common.{◌≡◌, inl, inr, List, [], ◌∷◌, ◌++◌, refl, sym, ◌∙◌, ap, subst, true, false, Bool, Option, Some, None, map, filter, append-nil}
+use Rattle.std.proofs.Common.{◌≡◌, List, [], ◌∷◌, ◌++◌, refl, sym, ◌∙◌, ap, subst, true, false, Bool, Option, Some, None, map, filter, append-nil}
 use Rattle.std.specs.Prelude.{cond, not, ◌&&◌, ◌||◌}
 use Rattle.std.specs.Option.{option_map}
 use Rattle.std.specs.Ordering.{is_lt}
@@ -9,10 +9,10 @@ use Rattle.ocfl_tree.specs.Place.{Text, Place, place_cmp, begins}
 use Rattle.ocfl_tree.specs.Ascending.{IsAscending, IsAmong}
 use Rattle.ocfl_tree.specs.StorageRoot.{StorageRoot}
 use Rattle.ocfl_tree.specs.declared.store.Opening.{Opening}
-use Rattle.ocfl_tree.proofs.Orders.{place_cmp_total, place_cmp_exact, true_not_false, not_below_itself, below_from_greater, ascends_filter, among_from_filter}
-use Rattle.ocfl_audit.specs.Audit.{Unread, audit, item_of, after}
+use Rattle.ocfl_tree.proofs.Orders.{place_cmp_total, place_cmp_exact, true_not_false, below_from_greater, ascends_filter, among_from_filter}
+use Rattle.ocfl_audit.specs.Audit.{Unread, audit, item_of}
 use Rattle.ocfl_audit.specs.Between.{IsBeyond, up_to, looked_between, read_between}
-use Rattle.ocfl_audit.specs.Due.{item_places, due, items_at}
+use Rattle.ocfl_audit.specs.Due.{due, items_at}
 use Rattle.ocfl_audit.specs.Parts.{Part, is_from, is_below, lies_in, within, places_within}
 use Rattle.ocfl_audit.specs.Trail.{unread_of}
 use Rattle.ocfl_audit.proofs.AuditExists.{audit_is}
@@ -23,7 +23,6 @@ use Rattle.ocfl_audit.proofs.Lists.{map_filter, filter_same}
 use Rattle.ocfl_audit.proofs.PartLaws.{and_true, and_false, within_is, places_within_is, part_goes_on}
 use Rattle.ocfl_walk.specs.Before.{directory_of, place_before, places_from}
 use Rattle.ocfl_walk.specs.Ends.{is_above_branch, is_at_bound, is_past, before_end}
-use Rattle.ocfl_walk.specs.declared.end.End.{End}
 use Rattle.ocfl_walk.proofs.BeforeLaws.{below_from, due_from, looked_from, read_from, not_below}
 use Rattle.ocfl_walk.proofs.EndLaws.{all_left, not_past_down}
 use Rattle.ocfl_scrub.specs.Starting.{end_of, greater_of, unless_root, first_place, is_before, entry_by, entry, stand_by, stand, due_within, looked_in, read_in}

@@ -1,5 +1,5 @@
 -- What is said and handed back after a command within a scope.
-use Rattle.std.proofs.Common.{◌≡◌, refl, sym, ◌∙◌, ap, subst, ℕ, List, [], Option, Some, None, Bool, true, false, Vec, inl, inr}
+use Rattle.std.proofs.Common.{◌≡◌, sym, ◌∙◌, ap, subst, ℕ, List, [], Option, Some, None, Bool, Vec, inl, inr}
 use Rattle.std.specs.Prelude.{◌≢◌, IsNone, IfSome, ◌⊎◌}
 use Rattle.std.specs.Io.KnownBytes.{Appends}
 use Rattle.std.specs.declared.alloc.Global.{Global}

@@ -1,5 +1,5 @@
 -- Runs of a part made one after the other, by whatever processes, and the parts of a storage root together.
-use Rattle.std.specs.Prelude.{◌≡◌, ℕ, List, [], ◌∷◌, ◌++◌, Bool, Option, Some, None, flat_map, map}
+use Rattle.std.specs.Prelude.{◌≡◌, ℕ, List, [], ◌∷◌, ◌++◌, Bool, Some, None, flat_map}
 use Rattle.ocfl_tree.specs.Place.{Text, Place}
 use Rattle.ocfl_tree.specs.StorageRoot.{StorageRoot}
 use Rattle.ocfl_tree.specs.Store.{Store}

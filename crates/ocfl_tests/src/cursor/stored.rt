@@ -231,7 +231,14 @@ fn nothing_is_shown_of_other_bytes(rt: HostRuntime) -> Result<(), Fail> {
             ShowStop::Part(PartRefused::Malformed),
         ),
     ] {
-        let got = read_shown(alloc, &mut Halting { left: bytes, fails: None }).err();
+        let got = read_shown(
+            alloc,
+            &mut Halting {
+                left: bytes,
+                fails: None,
+            },
+        )
+        .err();
         assert_eq!(rt; got, Some(stop), "{row}");
     }
     for (row, kind, stop) in [

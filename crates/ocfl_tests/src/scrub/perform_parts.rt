@@ -86,7 +86,12 @@ const PARTS: [(&str, &str, &str, &[&str]); 9] = [
     ("no ends", "-", "-", &[HEADS, A, B, C]),
     ("up to the root", "-", ".", &[]),
     ("from the root on", ".", "-", &[HEADS, A, B, C]),
-    ("from the object to its first version", "o", "o/v1", &["ok|o|-\n"]),
+    (
+        "from the object to its first version",
+        "o",
+        "o/v1",
+        &["ok|o|-\n"],
+    ),
 ];
 
 #[test]
@@ -124,12 +129,7 @@ fn audits_of_parts(rt: HostRuntime) -> Result<(), Fail> {
 
 /// Branches of the root of the objects `o1`, `o2` and `o3`: what is written, and the status.
 const BRANCHES: [(&str, &str, u8, &str); 6] = [
-    (
-        "o2",
-        "ok|o2|-\nok|o2/v1/content/f|3\n",
-        0,
-        "",
-    ),
+    ("o2", "ok|o2|-\nok|o2/v1/content/f|3\n", 0, ""),
     ("o2/v1", "ok|o2/v1/content/f|3\n", 0, ""),
     ("o2/v1/content/f", "ok|o2/v1/content/f|3\n", 0, ""),
     ("zz", "", 2, "no item"),
@@ -197,9 +197,30 @@ fn runs_of_a_part_go_on(rt: HostRuntime) -> Result<(), Fail> {
 /// Where a stored cursor stands, the part that it is of, what its run writes, and its cost.
 const STANDS: [(&str, &str, &str, &str, &[&str], u64); 4] = [
     ("at its start", "start", FILE_B, "-", &[B, C], 5),
-    ("after an item before the part", "after o", FILE_B, "-", &[B, C], 5),
-    ("after the part's first item", "after o/v1/content/b", FILE_B, "-", &[C], 4),
-    ("after an item behind the part", "after o/v1/content/c", "-", FILE_B, &[], 0),
+    (
+        "after an item before the part",
+        "after o",
+        FILE_B,
+        "-",
+        &[B, C],
+        5,
+    ),
+    (
+        "after the part's first item",
+        "after o/v1/content/b",
+        FILE_B,
+        "-",
+        &[C],
+        4,
+    ),
+    (
+        "after an item behind the part",
+        "after o/v1/content/c",
+        "-",
+        FILE_B,
+        &[],
+        0,
+    ),
 ];
 
 #[test]
@@ -292,7 +313,15 @@ fn cursors_of_other_parts(rt: HostRuntime) -> Result<(), Fail> {
     ] {
         let mut store = three_files(alloc)?;
         let wanted = ("", 4, note);
-        let stored = expect(&rt, row, &mut store, &run_of(9)?, &scope, Some(file), wanted)?;
+        let stored = expect(
+            &rt,
+            row,
+            &mut store,
+            &run_of(9)?,
+            &scope,
+            Some(file),
+            wanted,
+        )?;
         assert!(rt; stored.is_none(), "{row}");
         let is_silent = store.openings().is_empty() && store.listings().is_empty();
         assert!(rt; is_silent, "{row}");
@@ -324,7 +353,15 @@ fn cursors_of_parts_that_are_shown(rt: HostRuntime) -> Result<(), Fail> {
         // Within any scope.
         for scope in [Scope::Whole, part(alloc, "-", FILE_B)?] {
             let mut store = three_files(alloc)?;
-            let stored = expect(&rt, row, &mut store, &Deed::Show, &scope, Some(file), wanted)?;
+            let stored = expect(
+                &rt,
+                row,
+                &mut store,
+                &Deed::Show,
+                &scope,
+                Some(file),
+                wanted,
+            )?;
             assert!(rt; stored.is_none() && store.listings().is_empty(), "{row}");
         }
     }

@@ -64,7 +64,7 @@ pub(crate) fn cursor_of(cycle: u64, runs: u64, state: State) -> Result<Cursor, F
     Ok(Cursor::from_parts(cycle, runs, 0, 0, state).ok_or("no cursor")?)
 }
 
-fn why_says(alloc: Global, why: &Fault) -> Result<String, Fail> {
+pub(crate) fn why_says(alloc: Global, why: &Fault) -> Result<String, Fail> {
     match why {
         Fault::Store(place) => Ok(format!(in alloc; "stopped at {}", DisplayPlace(place))?),
         Fault::Memory => Ok(format!(in alloc; "out of memory")?),
@@ -145,7 +145,7 @@ pub(crate) fn expect_run<T: Tree>(
 }
 
 /// These bytes are the pieces, one after the other, with tabs for their bars.
-fn expect_text(
+pub(crate) fn expect_text(
     rt: &(impl Abort + AllocGlobal),
     row: &str,
     out: Vec<u8>,

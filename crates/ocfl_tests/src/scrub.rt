@@ -19,5 +19,6 @@ mod run_content;
 mod run_figures;
 mod run_stop;
 mod seeded;
+mod seeded_parts;
 mod seeded_run;
 mod stop;

@@ -79,7 +79,7 @@ pub(crate) fn rest_behind(
 }
 
 /// One of the places, or one that is near to it.
-fn some_place(alloc: Global, dice: &mut Dice, places: &[Place]) -> Result<Place, Fail> {
+pub(crate) fn some_place(alloc: Global, dice: &mut Dice, places: &[Place]) -> Result<Place, Fail> {
     let index = dice.throw(places.len() as u64) as usize;
     let near = dice.throw(5);
     let place = places.get(index).ok_or("no place")?;

@@ -11,6 +11,7 @@ mod inventory_lines;
 mod large;
 mod lying;
 mod odd_answers;
+mod part_stop;
 mod parts_of_roots;
 mod perform;
 mod perform_parts;

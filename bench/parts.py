@@ -1,0 +1,95 @@
+#!/usr/bin/env python3
+"""Measures parts of a storage root against its audit, and splitting against what walks the same.
+
+usage: parts.py [LINES]     (lines of the report that is split by cost, 10,000,000 by default)
+
+The root has 10,000 objects of one file of 100 bytes, ten to a directory, and 100 parts that
+`split` makes. What it costs to audit each part is summed. Splitting by listing is measured on
+1,000,000 empty directories against `find` over the same levels, and splitting a report by cost
+against `awk`, which sums its third column.
+"""
+import os
+import shutil
+import subprocess
+import sys
+import tempfile
+
+import measure
+import runs
+
+PARTS = 100
+
+
+def peak_of(command):
+    """The peak of a command's memory, in MiB."""
+    timed = ["/usr/bin/env", "python3", "-c", "import resource, subprocess, sys; "
+             "subprocess.run(sys.argv[1], shell=True, stdout=subprocess.DEVNULL); "
+             "print(resource.getrusage(resource.RUSAGE_CHILDREN).ru_maxrss)", command]
+    return int(subprocess.run(timed, capture_output=True, text=True).stdout) / 1024
+
+
+def row(name, own, other, wanted):
+    print("| %s | %.2f | %.2f | %.2f | %s |" % (name, own, other, own / other, measure.said(wanted)),
+          flush=True)
+    measure.note("parts", name, own / other, wanted)
+
+
+def all_parts(folder):
+    root, parts = runs.make_root(os.path.join(folder, "root"), 4), os.path.join(folder, "parts")
+    subprocess.run("%s split --parts %d %s > %s" % (measure.PROGRAM, PARTS, root, parts),
+                   shell=True, check=True)
+    each = ["exec %s audit --parts %s --part %d %s" % (measure.PROGRAM, parts, number, root)
+            for number in range(1, PARTS + 1)]
+    own, other = measure.bests(measure.ROUNDS, lambda: sum(map(measure.cpu_of, each)),
+                               lambda: measure.cpu_of(measure.audit_of(root)))
+    row("100 parts of 10,000 objects, to one audit", own, other, 1.1)
+    print("\nThe peak of a part's memory is %.1f MiB, that of the audit %.1f.\n"
+          % (max(map(peak_of, each[::20])), peak_of(measure.audit_of(root))))
+
+
+def by_listing(folder):
+    """A hierarchy of directories, a thousand in each of a thousand."""
+    root = os.path.join(folder, "wide")
+    for upper in range(1000):
+        for lower in range(1000):
+            os.makedirs(os.path.join(root, "%03d" % upper, "%03d" % lower))
+    measure.write(os.path.join(root, "0=ocfl_1.1"), b"ocfl_1.1\n")
+    own, other = measure.bests(
+        measure.ROUNDS, lambda: measure.cpu_of("exec %s split --parts 1000 %s"
+                                               % (measure.PROGRAM, root)),
+        lambda: measure.cpu_of("find %s -mindepth 1 -maxdepth 1" % root))
+    row("split into 1,000 by the first level", own, other, None)
+    own, other = measure.bests(
+        measure.ROUNDS, lambda: measure.cpu_of("exec %s split --parts 100000 %s"
+                                               % (measure.PROGRAM, root)),
+        lambda: measure.cpu_of("find %s -mindepth 1 -maxdepth 2" % root))
+    row("split into 100,000, to find over the same levels", own, other, 1.2)
+    shutil.rmtree(root)
+
+
+def by_cost(folder, lines):
+    report = os.path.join(folder, "report")
+    with open(report, "w") as file:
+        for number in range(lines):
+            file.write("ok\tobject-%08d/v1/content/a-file\t1000\n" % number)
+    command = "exec %s split --budget 10M --report %s" % (measure.PROGRAM, report)
+    own, other = measure.bests(1, lambda: measure.cpu_of(command),
+                               lambda: measure.cpu_of("awk '{ s += $3 } END { print s }' " + report))
+    row("split a report of {:,} lines by cost, to awk".format(lines), own, other, 2)
+    print("\nThe peak of its memory is %.1f MiB." % peak_of(command))
+
+
+def main():
+    lines = int(sys.argv[1]) if len(sys.argv) > 1 else 10000000
+    folder = tempfile.mkdtemp(prefix="ocfl-scrub-bench-")
+    try:
+        measure.head("parts", "seconds", "against", "ratio", "wanted")
+        all_parts(folder)
+        by_listing(folder)
+        by_cost(folder, lines)
+    finally:
+        shutil.rmtree(folder)
+
+
+if __name__ == "__main__":
+    sys.exit(main())

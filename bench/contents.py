@@ -4,7 +4,7 @@
 usage: contents.py
 
 Each case is one storage root that it makes; all is read from the page cache. The program and the
-tools run one after the other, in three rounds; of each the least CPU time counts, user and system.
+tools run one after the other, in rounds; of each the least CPU time counts, user and system.
 """
 import json
 import os
@@ -32,8 +32,8 @@ def make_object(folder, algorithm, files, fixity=()):
 
 
 def large_files(root, algorithm, fixity=(), size=256):
-    """1 GiB in files of so many MiB."""
-    files = ((("v1/content/%d" % number), os.urandom(MIB) * size) for number in range(1024 // size))
+    """512 MiB in files of so many MiB."""
+    files = ((("v1/content/%d" % number), os.urandom(MIB) * size) for number in range(512 // size))
     make_object(os.path.join(root, "o"), algorithm, files, fixity)
 
 
@@ -65,11 +65,10 @@ def case(title, make, tools, wanted):
 def main():
     measure.head("audit", "seconds", "against", "seconds", "ratio", "wanted")
     for algorithm, wanted in (("sha512", 0.9), ("sha256", 0.95)):
-        case("4 files of 256 MiB, %s" % algorithm,
+        case("files of 256 MiB, %s" % algorithm,
              lambda root: large_files(root, algorithm), [algorithm + "sum"], wanted)
     for size in (256, 16):
-        title = "%d files of %d MiB, sha512 with md5, sha1 and sha256 in fixity"
-        case(title % (1024 // size, size),
+        case("files of %d MiB, sha512 with md5, sha1 and sha256 in fixity" % size,
              lambda root: large_files(root, ALL_FOUR[0], ALL_FOUR[1:], size),
              [name + "sum" for name in ALL_FOUR], 0.88)
     case("20,000 files of 1 KiB in 200 objects, depth 8", small_files, ["sha512sum"], 1.0)

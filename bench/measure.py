@@ -2,6 +2,7 @@
 
 Folders are made below TMPDIR. A row that has a ratio is written into the file that
 OCFL_BENCH_ROWS names too, for `bench/run`: its table, its name, the ratio and what is wanted.
+OCFL_BENCH_ROUNDS says how often commands take turns.
 """
 import hashlib
 import os
@@ -13,7 +14,7 @@ import tempfile
 HERE = os.path.dirname(os.path.abspath(__file__))
 BUILT = os.path.join(HERE, "..", "crates", "ocfl_scrub_cli", "out", "ocfl_scrub_cli")
 PROGRAM = os.path.abspath(os.environ.get("OCFL_SCRUB", BUILT))
-ROUNDS = 3
+ROUNDS = int(os.environ.get("OCFL_BENCH_ROUNDS", "3"))
 
 
 def write(path, data):

@@ -50,7 +50,7 @@ def measured(root):
     find = "find %s -path '*/v1/content/*' -type f -print0 | xargs -0 sha512sum" % root
     with open(list_file, "w") as file:
         subprocess.run(find, shell=True, stdout=file, check=True)
-    rounds = int(sys.argv[1]) if len(sys.argv) > 1 else 7
+    rounds = int(sys.argv[1]) if len(sys.argv) > 1 else measure.ROUNDS
     against = [("sha512sum -c --quiet LIST", "sha512sum -c --quiet %s" % list_file, 1.5),
                ("find -print0 \\| xargs -0 sha512sum", find, 0.75)]
     commands = [measure.audit_of(root), *(command for _, command, _ in against)]

@@ -127,7 +127,7 @@ class Devices:
         for each in self.mounted:
             subprocess.run(["umount", each], check=True)
 
-    def for_a_link_to_another_device(self, path, _):
+    def for_a_link_to_another_device(self, path, moved):
         """The bytes of the file, in a file of the same number on the other device."""
         look = os.stat(path)
         for count in range(10_000):
@@ -137,7 +137,7 @@ class Devices:
         found = os.stat(other)
         is_so("%s: the number of the other file" % path, found.st_ino, look.st_ino)
         is_so("%s: its device is another" % path, found.st_dev != look.st_dev, True)
-        os.rename(path, path + "-moved")
+        os.rename(path, moved)
         os.symlink(other, path)
 
 

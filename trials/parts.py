@@ -152,7 +152,7 @@ def a_separator(root):
         (*place, b"x"),
         (*place, b"\x01", b"below"),
         (*place[:-1], place[-1] + b"\x01"),
-        (*place[:-1], place[-1][:-1] or b"A"),
+        (*place[:-1], place[-1].decode()[:-1].encode() or b"A"),
         (*place[:-1], b"inventory.json"),
     ])
 
@@ -166,7 +166,7 @@ def all_parts(folder):
     codes = set()
     for number in range(ROOTS):
         made = os.path.join(folder, "damaged-%d" % number)
-        make_damaged(made, DICE, DAMAGES[number * 3:number * 3 + 3] if ROOTS == 3 else None)
+        make_damaged(made, DAMAGES[number::ROOTS], DICE)
         root = Root(folder, "root-%d" % number, made)
         codes |= {text.split("\t")[0] for _, text in root.lines}
         before = common.snapshot(made)
@@ -226,7 +226,7 @@ def branches_beside_others(folder):
 
 
 BAD_PLACES = ["", "/", "/a", "a/", "a//b", "..", "a/..", "./a", "a/.", "%61", "%0a", "%", "a%",
-              "a%0", "%2F", "%zz", "é", "a\tb", "a\nb", "n" * 256]
+              "a%0", "%2F", "%zz", "%00", "%C3", "%FF", "é", "a\tb", "a\nb", "n" * 256]
 
 
 def worked(folder):
@@ -505,7 +505,8 @@ def closed_directory(folder):
         ("its branch", ["audit", made, "--under", "d"], (3, "", "stopped at d")),
         ("below it", ["audit", made, "--under", "d/o"], (3, "", "stopped at d")),
         ("another branch", ["audit", made, "--under", "e"], (0, joined(branch(report, e)), "")),
-        ("a split above it", ["split", made, "--parts", "1"], (0, "", "")),
+        ("a split of one part", ["split", made, "--parts", "1"], (0, "", "")),
+        ("a split above it", ["split", made, "--parts", "3"], (0, "d\ne\n", "")),
         ("a split that lists it", ["split", made, "--parts", "100"], (3, "", "stopped at d")),
     ]:
         expected = (*got[:2], common.note(got[2]))

@@ -32,9 +32,10 @@ def lose_version(folder, files, dice):
 
 
 def stray(folder, files, dice):
-    """Content that is in no manifest, an empty directory, and a file beside the versions."""
+    """Content that is in no manifest, an empty directory, and files beside the content."""
     write(os.path.join(folder, "v1/content", dice.choice(["0", "b", "zz"])), b"stray")
-    write(os.path.join(folder, dice.choice(["stray", "v1/stray"])), b"stray")
+    write(os.path.join(folder, "stray"), b"stray")
+    write(os.path.join(folder, "v1/stray"), b"stray")
     os.makedirs(os.path.join(folder, "v1/content/empty/inner"))
 
 
@@ -72,10 +73,9 @@ DAMAGES = [change, lose, lose_version, stray, undeclared, without_inventory, oth
            fixity]
 
 
-def make_damaged(root, dice, damages=None):
-    """A storage root with these damages, one an object, or with a few that the dice choose."""
+def make_damaged(root, damages, dice):
+    """A storage root with these damages, each of one object; further objects are as listed."""
     write(os.path.join(root, "0=ocfl_1.1"), b"ocfl_1.1\n")
-    damages = list(damages or dice.sample(DAMAGES, 4))
     objects = dice.sample(OBJECTS, len(OBJECTS))
     for number, place in enumerate(objects):
         paths = dice.sample(PATHS, dice.randrange(3, len(PATHS) + 1))

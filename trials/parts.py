@@ -273,17 +273,17 @@ def sealed(lines):
 
 
 def opened(root, words):
-    """What is opened below a root, in its order: directories by their places, then files."""
+    """What is opened below a root, in its order: the directories, and the files."""
     log = os.path.join(root.folder, "log")
-    rules = ["-e", "trace=open,openat", "-e", "signal=none"]
-    status, out, said = traced(rules, words, log)
+    status, _, said = traced(["-e", "trace=open,openat", "-e", "signal=none"], words, log)
     is_so("%s: traced" % words, (status in (0, 1), said), (True, ""))
-    paths = re.findall(r'open(?:at)?\([^"]*"([^"]*)"', read(log).decode())
-    base = root.root + "/"
-    below = [path[len(base):] for path in paths if path.startswith(base)]
-    places = [(path.endswith("/") or not path, place_of(path.rstrip("/") or ".")) for path in below]
-    return [place for is_folder, place in places if is_folder], [
-        place for is_folder, place in places if not is_folder]
+    folders, files = [], []
+    for path, flags in re.findall(r'open(?:at)?\([^"]*"([^"]*)", (\S+)', read(log).decode()):
+        if path.startswith(root.root + "/"):
+            below = path[len(root.root) + 1:].rstrip("/")
+            opens = folders if "O_DIRECTORY" in flags else files
+            opens.append(place_of(below or "."))
+    return folders, files
 
 
 def is_content(place):
@@ -531,9 +531,10 @@ def faulty_reports(folder):
         ("a needless escape", good + line("E072", "%70"), 4),
         ("small digits", good + line("E072", "p%c3%a9"), 4),
         ("a place before", good + line("ok", "o"), 4), ("the root last", good + line("ok", "."), 4),
-        ("a leading zero", good + line("ok", "p", "03"), 4), ("a blank", " " + good, 1),
+        ("a byte as it is", good + line("ok", "p", "é"), 4), ("a blank", " " + good, 1),
         ("a carriage return", good.replace("\n", "\r\n"), 1),
-        ("no detail", good + "ok\tp\t\n", 4), ("a word", "hello\n" + good, 1),
+        ("a detail of needless escapes", good + line("ok", "p", "%33"), 4),
+        ("a word", "hello\n" + good, 1),
     ]:
         write(file, text.encode())
         expect("a report: " + name, split, 2, [], "bad report: line %d" % number)

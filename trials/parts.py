@@ -171,9 +171,9 @@ def all_parts(folder):
         codes |= {text.split("\t")[0] for _, text in root.lines}
         before = common.snapshot(made)
         lists = [("none", []), ("the root", [()])]
-        lists += [("listing %d" % count, by_listing(root, count)) for count in [1, 2, 5, 1000]]
+        lists += [("listing %d" % count, by_listing(root, count)) for count in [1, 5, 1000]]
         lists += [("budget %d" % budget, by_costs(root, budget)) for budget in [1, 700, 2**40]]
-        lists += [("random %d" % it, at_random(root)) for it in range(4)]
+        lists += [("random %d" % it, at_random(root)) for it in range(3)]
         for name, separators in lists:
             name = "root %d, %s" % (number, name)
             audits_of_parts(root, name, separators)
@@ -475,9 +475,9 @@ def kills(folder):
         items = [text for _, text in within(root.lines, *ends)]
         words = ["--budget", "300K", *part_words(file, number), root.root]
         cycle = Cycle(folder, "killed-%d" % number, words, items)
-        at_random_moments.append(random_moments(cycle, 15, DICE))
+        at_random_moments.append(random_moments(cycle, 10, DICE))
         cycle = Cycle(folder, "exact-%d" % number, words, items)
-        at_calls.append(exact_moments(cycle, 30, DICE))
+        at_calls.append(exact_moments(cycle, 15, DICE))
     print("parts.py: %d of %d runs of parts killed at random moments, %d of %d at calls" % (
         *map(sum, zip(*at_random_moments)), *map(sum, zip(*at_calls))))
 

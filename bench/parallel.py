@@ -5,6 +5,7 @@ estimate for a large root in README.md is made of: the listing of the way, an in
 a join. Prints the tables.
 
 usage: parallel.py [MIB [FILES [ROUNDS]]]      4096, 4000 and 3 where they are not given
+       parallel.py --pieces                    the second table alone
 
 Build the program first, with ../ocfl-scrub --help. TMPDIR is where the folders are made: /dev/shm, if
 it has the room. Needs GNU parallel.
@@ -12,6 +13,7 @@ it has the room. Needs GNU parallel.
 import hashlib
 import json
 import os
+import resource
 import shutil
 import subprocess
 import sys
@@ -81,6 +83,14 @@ def by_xargs(root, jobs):
     return timed(["sh", "-c", find])
 
 
+def used(words, **how):
+    """The CPU time of a command, user and system, with that of all that it starts."""
+    before = resource.getrusage(resource.RUSAGE_CHILDREN)
+    timed(words, **how)
+    after = resource.getrusage(resource.RUSAGE_CHILDREN)
+    return after.ru_utime + after.ru_stime - before.ru_utime - before.ru_stime
+
+
 def median(values):
     return sorted(values)[len(values) // 2]
 
@@ -105,62 +115,94 @@ def walls(folder, mib, count, rounds):
     shutil.rmtree(root)
 
 
-def best_of(count, act):
-    return min(act() for _ in range(count))
+def cursor_text(place):
+    """A part's cursor after a place."""
+    text = ("ocfl-scrub part cursor 1\nfrom start\nbelow end\ncycle 1\nruns 1\nspent 1\nfiles 1\n"
+            "after %s\n" % place).encode()
+    return text + ("digest %s\n" % hashlib.sha256(text).hexdigest()).encode()
 
 
-def pieces(folder):
-    """What a slice costs beside its reading."""
-    flat, many = folder + "/flat", 100000
-    write(flat + "/0=ocfl_1.1", b"ocfl_1.1\n")
-    make_object("%s/o-%07d" % (flat, many // 2), {"v1/content/a": b"a", "v1/content/b": b"b"})
-    for number in range(many):
-        os.makedirs("%s/o-%07d" % (flat, number), exist_ok=True)
-    parts = folder + "/parts"
-    write(parts, ("o-%07d\no-%07d\n" % (many // 2, many // 2 + 1)).encode())
+def a_run(folder, root, place):
+    """A run of one file from a cursor after a place."""
+    cursor, parts = folder + "/cursor", folder + "/none"
+    write(parts, b"")
 
-    def a_part():
-        return timed([PROGRAM, "audit", "--parts", parts, "--part", "2", flat])
+    def run():
+        write(cursor, cursor_text(place))
+        return used([PROGRAM, "run", "--parts", parts, "--part", "1", "--cursor", cursor,
+                     "--budget", "1", root])
 
-    way = best_of(5, a_part)
-    small = make_root(folder + "/small", 64, 200)
-    write(folder + "/one", b"")
-    start = best_of(5, lambda: timed([PROGRAM, "--version"]))
-    state = folder + "/night"
+    return min(run() for _ in range(5))
 
-    def a_night():
+
+def make_flat(folder, count):
+    """A flat root of so many names, of which one in the middle is an object."""
+    write(folder + "/0=ocfl_1.1", b"ocfl_1.1\n")
+    for number in range(count):
+        os.mkdir("%s/o-%07d" % (folder, number))
+    files = {"v1/content/a": b"a", "v1/content/b": b"b"}
+    make_object("%s/o-%07d" % (folder, count // 2), files)
+    return folder
+
+
+def nights_of_a_part(folder, root):
+    """What a night of a part costs in scripts, and each further run of that night."""
+    parts = folder + "/none"
+
+    def night(runs):
+        state = folder + "/night"
         shutil.rmtree(state, ignore_errors=True)
-        return timed([os.path.join(TOP, "contrib", "nightly"), "--state", state, "--part", "1",
-                      "--parts", folder + "/one", "--budget", "1", small], env=HOW)
+        words = [os.path.join(TOP, "contrib", "nightly"), "--state", state, "--part", "1",
+                 "--parts", parts, "--budget", "1", "--files", str(runs), "--hours", "1", root]
+        return used(words, env=HOW)
 
-    def a_slice():
-        return timed([PROGRAM, "run", "--parts", folder + "/one", "--part", "1", "--cursor",
-                      state + "/cursor", "--budget", "1", small])
+    one = min(night(1) for _ in range(3))
+    return one, (min(night(21) for _ in range(3)) - one) / 20
 
-    night = best_of(3, a_night)
-    slice_ = best_of(5, a_slice)
-    print("\n| piece | seconds |")
+
+def join(folder, count=1000000):
+    """Joining so many lines: the reading of the parts, the lists of what is gone and of codes, and
+    the statement."""
+    reports, write_line = os.path.join(TOP, "contrib", "reports"), folder + "/lines"
+    with open(write_line, "w") as file:
+        for number in range(count // 10):
+            file.write("ok\t%03d/o-%07d\t-\n" % (number // 1000, number))
+            file.writelines("ok\t%03d/o-%07d/v1/content/a-file-%d.tif\t123456789\n" % (
+                number // 1000, number, of) for of in range(9))
+    gone = "NEWER='%s' awk -f '%s/../lib/gone.awk' '%s'" % (write_line, reports, write_line)
+    codes = "grep -v '^ok' '%s'" % write_line
+    count_ = "CODES='%s/codes' awk -f '%s/report.awk' -f '%s/counts.awk' '%s'" % (
+        reports, reports, reports, write_line)
+    script = "cat '%s' | tee '%s/joined' | sha256sum; %s; %s; sha256sum '%s'; %s" % (
+        write_line, folder, gone, codes, write_line, count_)
+    return used(["sh", "-c", script])
+
+
+def pieces(folder, many=1000000):
+    """What a slice costs beside its reading, and what a join costs, in CPU time."""
+    small = make_root(folder + "/small", 64, 2000)
+    run = a_run(folder, small, "009/o-95/v1/content/01")
+    night, slice_ = nights_of_a_part(folder, small)
+    shutil.rmtree(small)
+    flat = make_flat(folder + "/flat", many)
+    way = a_run(folder, flat, "o-%07d/v1/content/a" % (many // 2)) - run
+    shutil.rmtree(flat)
+    print("\n| piece | CPU, seconds |")
     print("|---|---|")
-    print("| starting the program | %.4f |" % start)
-    print("| the way to a part in a flat root of %d objects | %.4f |" % (many, way - start))
-    print("| a run from a cursor, of one file | %.4f |" % slice_)
-    print("| a night of a part with one run, by `nightly` | %.2f |" % night)
-    print("| joining 1,000,000 lines | %.2f |" % join(folder))
-
-
-def join(folder):
-    line = b"ok\t000/o-0/v1/content/file-of-a-usual-length.tif\t123456789\n"
-    write(folder + "/lines", line * 1000000)
-    joined = "cat '%s/lines' | tee '%s/joined' | sha256sum" % (folder, folder)
-    return timed(["sh", "-c", joined])
+    print("| a run of one small file from a cursor, with the way there and one inventory | %.4f |"
+          % run)
+    print("| the way in a flat root of 1,000,000 objects, more than that | %.2f |" % way)
+    print("| a night of a part by `nightly`, of one run | %.2f |" % night)
+    print("| each further run of that night | %.2f |" % slice_)
+    print("| a join of 1,000,000 lines | %.2f |" % join(folder))
 
 
 def main():
-    mib, count, rounds = ([int(word) for word in sys.argv[1:]] + [4096, 4000, 3][
-        len(sys.argv) - 1:])
     folder = tempfile.mkdtemp(prefix="ocfl-scrub-bench-")
     try:
-        walls(folder, mib, count, rounds)
+        if sys.argv[1:] != ["--pieces"]:
+            walls(folder, *([int(word) for word in sys.argv[1:]] + [4096, 4000, 3][
+                len(sys.argv) - 1:]))
         pieces(folder)
     finally:
         shutil.rmtree(folder, ignore_errors=True)

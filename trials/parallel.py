@@ -91,7 +91,9 @@ class Cycles:
         kind, _, name = event.partition(" by ")
         if event == "full":
             self.fill()
-        program = instead(self.folder, "counting", COUNTING.replace("{folder}", self.folder))
+        # What is left of a killed task still runs while the next one does.
+        program = PROGRAM if name else instead(
+            self.folder, "counting", COUNTING.replace("{folder}", self.folder))
         night = self.nights.start(budget, program=program)
         if name:
             time.sleep(self.chance.uniform(0, 2))

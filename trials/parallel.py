@@ -168,7 +168,7 @@ def cycles(folder):
     questions(made.nights, folder)
     is_so("it has its parts", bool(re.search(r"(?m)^Parts: 2[0-9]$", statement)), True)
     at_once = [int(line) for line in read(folder + "/at_once").split()]
-    is_so("four at once", max(at_once), 4)
+    is_so("at most four at once, and more than one", 1 < max(at_once) <= 4, True)
     print("nights: %s" % ", ".join(made.seen))
 
 

@@ -13,7 +13,6 @@ command that is neither run nor named below is a failure, and so is an entry tha
 import glob
 import os
 import re
-import shutil
 import subprocess
 
 import common
@@ -127,28 +126,10 @@ def is_left(text, beginnings):
     return bool(found)
 
 
-def mounts(session, page, block):
-    """A block that mounts, where that can be done."""
-    if subprocess.run(["unshare", "-rm", "true"], capture_output=True).returncode != 0:
-        print("pages.py: nothing can be mounted here, so this is not run: %s" % block)
-        return
-    for name in "abd":
-        shutil.copytree(session.folder + "/srv/ocfl/letters", session.folder + "/srv/ocfl/" + name)
-    given = session.folder + "/block"
-    common.write(given, session.here(block).encode())
-    done = subprocess.run(["unshare", "-rm", "sh", "-e", given], cwd=session.at, env=session.how,
-                          capture_output=True, timeout=600)
-    lines = read(session.folder + "/home/audit-rest/reports/cycle-000001") or ""
-    is_so("%s: %s" % (page, block), (done.returncode, lines.count("damaged.txt")), (1, 3))
-
-
 def follow(session, page, blocks):
     """Runs the blocks of a page, each command on its own."""
     for block in blocks:
         if is_left(block, NO_COMMANDS):
-            continue
-        if "mount --bind" in block:
-            mounts(session, page, block)
             continue
         for command, shown in commands_of(block):
             if not is_left(command, NOT_RUN):

@@ -1,14 +1,14 @@
 #!/usr/bin/env python3
 """Measures the wall time of a cycle of 1, 2 and 4 jobs of `contrib/parallel/nightly`, against
-`xargs -P` with `sha512sum`, on 4 GiB in 4,000 files that it makes, from the page cache; and what the
-estimate for a large root in README.md is made of: the listing of the way, an inventory, a slice and
-a join. Prints the tables.
+`xargs -P` with `sha512sum`, on 4 GiB in 4,000 files that it makes, from the page cache. Then it
+measures what the estimate for a large root in README.md is made of: the listing of the way, an
+inventory, a slice and a join. Prints the tables.
 
 usage: parallel.py [MIB [FILES [ROUNDS]]]      4096, 4000 and 3 where they are not given
        parallel.py --pieces                    the second table alone
 
-Build the program first, with ../ocfl-scrub --help. TMPDIR is where the folders are made: /dev/shm, if
-it has the room. Needs GNU parallel.
+Build the program first, with ../ocfl-scrub --help. TMPDIR is where the folders are made: /dev/shm,
+if it has the room. Needs GNU parallel.
 """
 import hashlib
 import json

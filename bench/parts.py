@@ -18,6 +18,8 @@ import measure
 import runs
 
 PARTS = 100
+# What sums the costs of a report's lines without this program.
+SUM = "awk '{ s += $3 } END { print s }' "
 
 
 def peak_of(command):
@@ -29,9 +31,10 @@ def peak_of(command):
 
 
 def row(name, own, other, wanted):
-    print("| %s | %.2f | %.2f | %.2f | %s |" % (name, own, other, own / other, measure.said(wanted)),
+    ratio = own / other
+    print("| %s | %.2f | %.2f | %.2f | %s |" % (name, own, other, ratio, measure.said(wanted)),
           flush=True)
-    measure.note("parts", name, own / other, wanted)
+    measure.note("parts", name, ratio, wanted)
 
 
 def all_parts(folder):
@@ -74,7 +77,7 @@ def by_cost(folder, lines):
             file.write("ok\tobject-%08d/v1/content/a-file\t1000\n" % number)
     command = "exec %s split --budget 10M --report %s" % (measure.PROGRAM, report)
     own, other = measure.bests(1, lambda: measure.cpu_of(command),
-                               lambda: measure.cpu_of("awk '{ s += $3 } END { print s }' " + report))
+                               lambda: measure.cpu_of(SUM + report))
     row("split a report of {:,} lines by cost, to awk".format(lines), own, other, 2)
     print("\nThe peak of its memory is %.1f MiB." % peak_of(command))
 

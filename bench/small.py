@@ -4,8 +4,9 @@
 usage: small.py [ROUNDS]
 
 It makes 50,000 files of 1 KiB, 50 an object in five directories, each at a path like
-ab/cd/ef/gh/h1/o1/v1/content/d1/001. Each command reads them from the page cache, in turns; of each the least CPU time of the rounds
-counts, user and system. Then it counts the program's system calls, by strace.
+ab/cd/ef/gh/h1/o1/v1/content/d1/001. Each command reads them from the page cache, in turns. The
+least CPU time of each command's rounds counts, user and system. Then it counts the program's
+system calls, by strace.
 """
 import os
 import re

@@ -120,7 +120,7 @@ def inside_the_root(folder, root):
 
 
 def beside_the_root(folder, root):
-    """A cursor's file by its bare name, and one in a folder whose name begins as the root's does."""
+    """A cursor file by its bare name, and one in a folder whose name begins as the root's does."""
     before = common.snapshot(root)
     run = ["run", "--cursor", "bare", "--budget", "1K"]
     status, out, said = ran(run + ["."], cwd=root)

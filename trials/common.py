@@ -50,8 +50,8 @@ def shown(value):
 
 
 def trial(tell, needs=()):
-    """Calls `tell` with a new folder, and ends with the names of the checks that failed and, as last
-    line, the count.
+    """Calls `tell` with a new folder, and ends with the names of the checks that failed and, as
+    last line, the count.
 
     Where a tool that it needs is missing and cannot be installed, the trial is skipped and named;
     under CI (`CI=true`) that is a failure."""

@@ -118,8 +118,8 @@ class Cycles:
                 return
 
     def cycle(self, number, events, most=16):
-        """Nights until a cycle is closed: gives the name of its report. Once nothing more comes over
-        them, they read as much as there is."""
+        """Nights until a cycle is closed: gives the name of its report. Once all events have come,
+        they read as much as there is."""
         for _ in range(most):
             self.night(*([events.pop(0)] if events else ["none", "1M"]))
             for kind in ["cycle", "incomplete"]:

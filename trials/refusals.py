@@ -130,7 +130,8 @@ def refused_before_it_writes(refusing, folder, root):
     """A cursor file in the storage root is never made, whatever memory lacks."""
     file = os.path.join(root, "cursor")
     odd = []
-    for call, (status, out, said) in refusing.each(["run", "--cursor", file, "--budget", "4", root]):
+    run = ["run", "--cursor", file, "--budget", "4", root]
+    for call, (status, out, said) in refusing.each(run):
         if os.path.exists(file) or os.path.exists(file + ".new") or status not in (2, 3):
             odd.append((call, status, out, said))
             for each in (file, file + ".new"):

@@ -1,7 +1,7 @@
 #!/usr/bin/env python3
-"""Tries the nights of `contrib/slurm` on a Slurm of its own: an array of 24 parts, of which one
-task is queued again, one fails, one passes its time limit, one runs twice at once, and whose controller
-is killed. The joined report of each cycle is the audit, but for the place that stands alone.
+"""Tries the nights of `contrib/slurm` on a Slurm of its own: an array of 24 parts. One task is
+queued again, one fails, one passes its time limit, and one runs twice at once; the controller is
+killed. The joined report of each cycle is the audit, except for the place that stands alone.
 
 usage: slurm.py
 """

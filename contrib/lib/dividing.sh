@@ -60,7 +60,10 @@ end_earlier() {
   while IFS=$tab read -r number name; do
     ends=$(ends_of "$number" "$set/separators") || return 3
     (
-      flock -n 8 || { say "a night still runs in $set/$name, so its part could not be divided"; exit 3; }
+      flock -n 8 || {
+        say "a night still runs in $set/$name, so its part could not be divided"
+        exit 3
+      }
       end_part_earlier "$set/$name"
     ) 8>> "$set/$name/lock" || return 3
   done < "$scratch/others"

@@ -161,8 +161,8 @@ say_stop_at() {
   since=$(stopped_since "$1")
   [ -n "$since" ] || return 0
   which=${part:+ in this part}
-  echo "Each night since $since stopped there: what comes after $2$which is not audited until that place"
-  echo "can be read. README.md says how to audit the rest: \"A place that cannot be read\"."
+  echo "Each night since $since stopped there: what comes after $2$which is not audited until that"
+  echo "place can be read. README.md says how to audit the rest: \"A place that cannot be read\"."
 }
 
 say_signal() {

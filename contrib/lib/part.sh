@@ -28,14 +28,14 @@ check_part_words() {
 # where the folder belongs to another one, or to a whole root.
 check_part() {
   if [ -z "$part" ]; then
-    [ ! -e "$state/part" ] || refuse 3 "$state belongs to a part of a storage root: give --part and \
---parts. Nothing was run."
+    [ ! -e "$state/part" ] || refuse 3 "$state belongs to a part of a storage root: give --part \
+and --parts. Nothing was run."
     return 0
   fi
   if [ -e "$state/part" ]; then
     [ "$(cat -- "$state/part")" = "$ends" ] || refuse 3 "$state belongs to another part, \
-$(named "$(cat -- "$state/part")"); this one is $(named "$ends"). Nothing was run. Each part needs a \
-folder of its own."
+$(named "$(cat -- "$state/part")"); this one is $(named "$ends"). Nothing was run. Each part needs \
+a folder of its own."
   elif [ -e "$cursor" ]; then
     refuse 3 "$state belongs to a whole storage root. Nothing was run. Each part needs a folder of \
 its own."

@@ -9,8 +9,9 @@
 #   rows      the rows of the parts that the log of all parts has not yet
 #   sums      what all parts of the cycle spent, and how many files they read
 #
-# It takes `set` (the folder of the parts), `cycle` (of all parts), `of_cycle` (of the parts), `night`
-# and `nothing` (the digest of no report). Columns of a line of `standing` that are empty are `-`.
+# It takes `set` (the folder of the parts), `cycle` (of all parts), `of_cycle` (of the parts),
+# `night` and `nothing` (the digest of no report). Columns of a line of `standing` that are empty
+# are `-`.
 BEGIN {
   FS = OFS = "\t"
   read_told()

@@ -1,6 +1,7 @@
-# Reads how the parts of a joined cycle stand, as `lib/parts.awk` writes it, and the log of each part.
-# Writes the rows of their runs in the order of the joined report, with how many lines that has after
-# each of them. It takes `set`, `cycle` (of all parts) and `of_cycle` (of the parts).
+# Reads the state of the parts of a joined cycle, as `lib/parts.awk` writes it, and the log of each
+# part. Writes the rows of their runs in the order of the joined report, each with the number of
+# lines that the report has after it. It takes `set`, `cycle` (of all parts) and `of_cycle` (of the
+# parts).
 BEGIN { FS = OFS = "\t" }
 
 $6 == "closed" {

@@ -72,10 +72,11 @@ say_stopped_parts() {
   while IFS=$tab read -r number name _ _ alone _ _ place since _; do
     reason=$(in_brackets "$place")
     if [ "$alone" != - ]; then
-      echo "Part $number stopped at $place$reason. It stands alone with $alone, which is not audited"
-      echo "until it can be read. Mend it: README.md, \"A place that cannot be read\"."
+      echo "Part $number stopped at $place$reason. It stands alone with $alone, which is not"
+      echo "audited until it can be read. Mend it: README.md, \"A place that cannot be read\"."
     else
-      echo "Part $number stopped at $place$reason. The other parts go on. The next night tries it again."
+      echo "Part $number stopped at $place$reason. The other parts go on. The next night tries it" \
+        "again."
     fi
     [ "$since" = - ] || say_division "$name" "$since"
   done < "$scratch/stopped"
@@ -115,7 +116,9 @@ say_other_stops() {
 say_unread() {
   awk -F '\t' '$2 == "ended" { print $3 }' "$scratch/untold" | while read -r number; do
     list=$state/reports/unread-$(number_of "$number")
-    [ ! -s "$list" ] || { echo "Cycle $number left out what is not audited:"; head -n 20 -- "$list"; }
+    [ -s "$list" ] || continue
+    echo "Cycle $number left out what is not audited:"
+    head -n 20 -- "$list"
   done
 }
 

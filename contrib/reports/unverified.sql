@@ -1,6 +1,7 @@
 -- Each content file of any report whose last line `ok` is of a run that began before :date, or that
--- has none: when that run began, the path, and code and cycle of the path's last line. So files that
--- are gone, or whose object is not read any more, are here too; their last line is of a cycle before.
+-- has none: when that run began, the path, and code and cycle of the path's last line. So files
+-- that are gone, or whose object is not read any more, are here too; their last line is of an
+-- earlier cycle.
 with
 content as (
   select distinct path from line

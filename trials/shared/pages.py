@@ -2,7 +2,8 @@
 import re
 
 # A block between fences, an indented one, or a table.
-PART = re.compile(r"^```\w*\n(?P<fenced>(?:.*\n)*?)```$|(?P<indented>(?:^    .*\n(?:\n+(?=    ))?)+)"
+PART = re.compile(r"^```\w*\n(?P<fenced>(?:.*\n)*?)```$"
+                  r"|(?P<indented>(?:^    .*\n(?:\n+(?=    ))?)+)"
                   r"|(?P<table>(?:^\|.*\|\n)+)", re.MULTILINE)
 # A command of several lines has its further lines indented.
 COMMAND = re.compile(r"^\S.*\n(?:[ ]+.*\n)*", re.MULTILINE)

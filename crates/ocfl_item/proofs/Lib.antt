@@ -1,4 +1,5 @@
 pub mod LooksEntries
+pub mod NameLaws
 pub mod LooksZones
 pub mod LooksCalls
 pub mod FileLaws

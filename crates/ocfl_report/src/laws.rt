@@ -1,5 +1,6 @@
 //! The laws of the texts of places and lines.
-ghost use Rattle.std.specs.Prelude.{◌≡◌, ◌≢◌, ◌↔◌, ◌⊎◌, List, All, Any, IfOk, flat_map, true, false};
+ghost use Rattle.std.specs.Prelude.{◌≡◌, ◌≢◌, ◌↔◌, ◌⊎◌, List, All, Any, IfOk, flat_map};
+ghost use Rattle.std.specs.Prelude.{true, false};
 ghost use Rattle.ocfl_tree.specs.Place.{Place as ModelPlace};
 ghost use Rattle.ocfl_tree.specs.Name.{IsPlace};
 ghost use Rattle.ocfl_report.specs.Line.{Line as ModelLine, Item, line_of};

@@ -67,7 +67,7 @@ pub fn audit<T: Tree, W: Write>(
 }
 
 /// The same of the items of a part. Nothing outside the part is listed or read but on the way down
-/// to where it begins; `last` is none where no item of the part went out whole.
+/// to where it begins; `last` is `None` if no item of the part went out whole.
 pub fn audit_part<T: Tree, W: Write>(
     alloc: Global,
     store: &mut T,

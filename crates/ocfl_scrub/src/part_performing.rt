@@ -14,7 +14,8 @@ ghost use Rattle.ocfl_scrub.specs.Scoping.{BeginsPartWith, BranchPerformed, Hand
 ghost use Rattle.ocfl_scrub.specs.Scoping.{IsBranchNote, IsBranchSaid, IsPartRunSaid, IsSaidIn};
 ghost use Rattle.ocfl_scrub.specs.Scoping.{IsPartStoredNote, IsPartUnreadNote, PartPerformed};
 ghost use Rattle.ocfl_scrub.specs.Scoping.{PartRefusesRightly, PartRunPerformed, PartStopsWith};
-ghost use Rattle.ocfl_scrub.specs.Scoping.{PerformsIn, RefusesRightlyIn, part_between as part_of_ends};
+ghost use Rattle.ocfl_scrub.specs.Scoping.{PerformsIn, RefusesRightlyIn};
+ghost use Rattle.ocfl_scrub.specs.Scoping.{part_between as part_of_ends};
 ghost use Rattle.ocfl_scrub.specs.declared.scope.Scope.TheVariants as scopes;
 
 use crate::auditing::{AuditEnd, audit_part};
@@ -38,9 +39,9 @@ use std::io::{Read, Write};
 /// Does what is asked for within a scope, as `perform` does it in the whole storage root.
 ///
 /// The scope matters to an audit and to a run. An audit takes the items of the branch or of the
-/// part. If a branch has no item it says so with status 2, so that a place that does not exist is no
-/// success; a part may be empty. A run takes the items of its part, and its cursor's text names the
-/// part: one of another part, or of the whole storage root, is refused.
+/// part. A branch without items ends with status 2, so that a place that does not exist is no
+/// success; a part may be empty. A run takes the items of its part, and its cursor's text names
+/// the part: one of another part, or of the whole storage root, is refused.
 pub fn perform_part<T: Tree, R: Read, W: Write>(
     alloc: Global,
     store: &mut T,

@@ -1,6 +1,7 @@
 //! The laws of parts: what the runs of a part wrote, joined, and what the parts of a storage root
 //! wrote together.
-ghost use Rattle.std.specs.Prelude.{◌≡◌, ◌≤◌, ◌+◌, ◌/◌, ℕ, List, [], None, All, flat_map, map, length};
+ghost use Rattle.std.specs.Prelude.{◌≡◌, ◌≤◌, ◌+◌, ◌/◌, ℕ, List, [], None, All, flat_map, map};
+ghost use Rattle.std.specs.Prelude.{length};
 ghost use Rattle.std.specs.List.{AllByRecursion};
 ghost use Rattle.ocfl_tree.specs.Place.{Place, place_cmp};
 ghost use Rattle.ocfl_tree.specs.Ascending.{IsAscending};
@@ -16,9 +17,9 @@ ghost use Rattle.ocfl_scrub.specs.Joining.{AreRuns, IsPartCycle, PartCycle, Part
 ghost use Rattle.ocfl_scrub.specs.Joining.{reports_of};
 
 /// The reports of the runs of one cycle of a part, joined, are what the audit has there, whatever
-/// processes made them, and each hashed file of the part was opened once, in order. Runs with limits
-/// that are each at least so large are few: at most one more than the part's cost by the budget and
-/// its files by their limit.
+/// processes made them, and each hashed file of the part was opened once, in order. Where each run
+/// has a budget of at least N bytes and a limit of at least M files, there are at most as many runs
+/// as the part's cost divided by N, plus its files divided by M, each rounded down, plus one.
 #[tactic(auto, using(crate::proofs::JoinLaws::part_reports, crate::proofs::JoinLaws::part_opened))]
 pub fn runs_of_a_part_join()
     ensures reports { (root : StorageRoot) (part : Part) (c : Cursor) (runs : List PartRun)

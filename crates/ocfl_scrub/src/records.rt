@@ -147,7 +147,8 @@ pub fn an_audit_that_stops_wrote_its_first_items()
         × ((rest : List Place) × ((t.openings ≡ s.openings ++ trail)
         × ((audit root (unread_of root trail) ≡ whole ++ others)
         × ((map (λ i. i.place) (take 1 others) ≡ begun ++ rest)
-        × (content_trail root trail ≡ hashed_among root (map (λ i. i.place) whole ++ begun))))))))) }
+        × (content_trail root trail
+        ≡ hashed_among root (map (λ i. i.place) whole ++ begun))))))))) }
     ensures listed { (root : StorageRoot) (s t : Store) (before written : List ℕ)
         (last : Option Place) (finding : Bool) (why : Fault)
         → AuditStops root s t (Some before) (Some written) last finding why → (listed : List Place)
@@ -236,7 +237,8 @@ pub fn a_run_that_stops_took_the_first_of_its_cut()
         × ((begun : List Place) × ((rest : List Place) × ((t.openings ≡ s.openings ++ trail)
         × ((cut (after (audit root (unread_of root trail)) from) limits ≡ whole ++ others)
         × ((map (λ i. i.place) (take 1 others) ≡ begun ++ rest)
-        × (content_trail root trail ≡ hashed_among root (map (λ i. i.place) whole ++ begun))))))))) }
+        × (content_trail root trail
+        ≡ hashed_among root (map (λ i. i.place) whole ++ begun))))))))) }
     ensures listed { (root : StorageRoot) (s t : Store) (before written : List ℕ)
         (from last : Option Place) (limits : Limits) (spent files : ℕ) (finding : Bool)
         (why : Fault)
@@ -362,7 +364,8 @@ pub fn a_cycle_that_stops_took_the_first_of_its_cuts()
         × ((t.failures ≡ s.failures + (length (unread_of root trail) + failures_by why))
         × ((joined (take count (runs (audit root (unread_of root trail)) limits)) ≡ whole ++ others)
         × ((map (λ i. i.place) (take 1 others) ≡ begun ++ rest)
-        × (content_trail root trail ≡ hashed_among root (map (λ i. i.place) whole ++ begun)))))))))) }
+        × (content_trail root trail
+        ≡ hashed_among root (map (λ i. i.place) whole ++ begun)))))))))) }
     ensures last { (root : StorageRoot) (s t : Store) (before written : List ℕ)
         (last : Option Place) (limits : List Limits) (spent files : ℕ) (finding : Bool) (count : ℕ)
         (why : Fault)

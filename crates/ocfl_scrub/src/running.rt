@@ -103,9 +103,9 @@ pub fn run<T: Tree, W: Write>(
     run_part(alloc, store, &whole, cursor, limits, block, out)
 }
 
-/// The same of the items of a part. A run begins with the part's first item where the cursor is new,
-/// has ended or has a lesser place. It ends the cycle where no item of the part is left, and leaves
-/// the cursor where it was where it takes none.
+/// The same of the items of a part. A run begins with the part's first item if the cursor is new,
+/// has ended or has a lesser place. It ends the cycle if no item of the part is left. If it takes
+/// none, it leaves the cursor as it was.
 ///
 /// Nothing outside the part is listed or read but on the way down to where the run begins.
 pub fn run_part<T: Tree, W: Write>(

@@ -1,13 +1,12 @@
 -- From a listing to the directories of the hierarchy right below its place.
 use Rattle.std.proofs.Common.{◌≡◌, inl, inr, ℕ, zero, suc, ◌+◌, ◌<◌, List, [], ◌∷◌, ◌++◌, refl, sym, ◌∙◌, ap, subst, true, false, Bool, Option, Some, None, arith, length, map, filter, drop, get_or, All, IsPermutation}
 use Rattle.std.specs.Prelude.{cond, not, ◌&&◌, option_map, filter_map, slice_index_or}
-use Rattle.std.specs.List.{AllByRecursion, IsDistinct}
+use Rattle.std.specs.List.{IsDistinct}
 use Rattle.std.specs.List.Sorted.{IsSorted}
 use Rattle.std.specs.Ordering.{is_lt}
 use Rattle.std.specs.declared.cmp.Ordering.{Ordering}
 use Rattle.std.specs.declared.cmp.Ordering.TheVariants.{Less, Equal, Greater}
-use Rattle.std.proofs.lemmas.List.Sorted.{All-permutation, IsPermutation-map, IsPermutation-sym}
-use Rattle.std.proofs.lemmas.Map.Keys.{IsDistinct-IsPermutation}
+use Rattle.std.proofs.lemmas.List.Sorted.{All-permutation, IsPermutation-sym}
 use Rattle.ocfl_tree.specs.Place.{Place, Text, text_cmp, text_eq, place_cmp, child_name}
 use Rattle.ocfl_tree.specs.Ascending.{IsAscending, IsAmong, IsBeforeAll}
 use Rattle.ocfl_tree.specs.StorageRoot.{StorageRoot, Leaf, file, dir, other, at, is_dir, is_dir_leaf, names_in}
@@ -24,36 +23,11 @@ use Rattle.ocfl_audit.proofs.BelowLaws.{text_cmp_total, text_cmp_exact, above_na
 use Rattle.ocfl_audit.proofs.WayLaws.{entry_named}
 use Rattle.ocfl_item.specs.Ways.{is_dir_kind, is_extensions_name}
 use Rattle.ocfl_item.proofs.LooksZones.{leaf_dir}
+use Rattle.ocfl_item.proofs.NameLaws.{names_of, names_differ}
 use Rattle.ocfl_split.specs.Levels.{directories_in}
 use Rattle.ocfl_split.specs.Internal.Directories.{is_directory_entry, directories_among, IsBelow}
 
-abbrev names_of : List Entry → List Text
-names_of es = map (λ e. e.name) es
-
 -- ---- by ascending names
-
-distinct_names : (es : List Entry) → AreApart es → IsDistinct text_eq (names_of es)
-unfolding IsDistinct
-distinct_names [] h = tt
-distinct_names (e ∷ es) h = (apart es h.0, distinct_names es h.1)
-  where
-    apart : (fs : List Entry) → kind_in fs e.name ≡ None → AllByRecursion (λ n. text_eq e.name n ≡ false) (names_of fs)
-    apart [] k = tt
-    apart (f ∷ fs) k = by (text_eq f.name e.name) refl k (apart fs)
-      where
-        by : (b : Bool) → text_eq f.name e.name ≡ b → cond b (Some f.kind) (kind_in fs e.name) ≡ None → (kind_in fs e.name ≡ None → AllByRecursion (λ n. text_eq e.name n ≡ false) (names_of fs))
-            → (text_eq e.name f.name ≡ false) × AllByRecursion (λ n. text_eq e.name n ≡ false) (names_of fs)
-        by true t k more = absurd (some_not_none f.kind (sym k))
-        by false t k more = (not_decided _ _ (text_eq-Decides e.name f.name) (λ same. differ _ _ (text_eq-Decides f.name e.name) t (sym same)), more k)
-
-flips : (n m : Text) → text_eq n m ≡ text_eq m n
-flips n m = by (text_eq n m) refl (text_eq m n) refl
-  where
-    by : (a : Bool) → text_eq n m ≡ a → (b : Bool) → text_eq m n ≡ b → a ≡ b
-    by true e true f = refl
-    by false e false f = refl
-    by true e false f = absurd (differ _ _ (text_eq-Decides m n) f (sym ((text_eq-Decides n m).0 e)))
-    by false e true f = absurd (differ _ _ (text_eq-Decides n m) e (sym ((text_eq-Decides m n).0 f)))
 
 below_all : (x y : Text) (ns : List Text) → text_cmp x y ≡ Less → IsBeforeAll text_cmp y ns → IsBeforeAll text_cmp x ns
 below_all x y [] b h = tt
@@ -81,7 +55,7 @@ rises (x ∷ y ∷ es) s d =
 -- a listing that was sorted
 pub names_rise : (es fs : List Entry) → IsOrdinary es → IsPermutation es fs → IsSorted (λ e f. text_cmp e.name f.name) fs → IsAscending text_cmp (names_of fs)
 names_rise es fs ordinary moved sorted =
-    rises fs sorted (IsDistinct-IsPermutation text_eq flips (names_of es) (names_of fs) (IsPermutation-map (λ e. e.name) es fs moved) (distinct_names es ordinary.once))
+    rises fs sorted (names_differ es fs ordinary moved)
 
 -- ---- the directories among entries
 

@@ -16,8 +16,8 @@ use ocfl_item::{Fault, Folder, Head, head_of, is_extensions, list};
 use ocfl_tree::{Entry, Kind, Place, Tree};
 use std::alloc::AllocError;
 
-/// Whether what lies in a listed directory of the hierarchy belongs to the hierarchy too: not in an
-/// object, and not in a storage root that is none of one known version.
+/// Whether the directories in a listed directory belong to the hierarchy too. Those in an object do
+/// not, nor those in a storage root that does not declare exactly one known version.
 fn leads_on_from(folder: &Folder) -> bool
     ensures { (root : StorageRoot) → is_listable root folder.now.place ≡ true
         → IsOrdinary folder.now.entries.items

@@ -58,54 +58,40 @@ fn text_of(alloc: Global, store: &mut MemTree, count: usize) -> Result<String, F
     Ok(String::from_utf8(text)?)
 }
 
+/// Splits of a root with these changes into so many parts: the text of the separators, and the
+/// directories that are listed.
+const CUTS: [(&str, &[(&str, &str)], usize, &str, &str); 13] = [
+    ("no parts", &OBJECTS, 0, "", ""),
+    ("one part", &OBJECTS, 1, "", ""),
+    ("two of three objects", &OBJECTS, 2, "o2\n", ";"),
+    ("three of three", &OBJECTS, 3, "o2\no3\n", ";"),
+    ("four of three", &OBJECTS, 4, "o2\no3\n", ";o1;o2;o3;"),
+    ("ten of three", &OBJECTS, 10, "o2\no3\n", ";o1;o2;o3;"),
+    ("first level", &LEVELS, 2, "b\n", ";"),
+    ("second level", &LEVELS, 3, "a/o2\nb/o3\n", ";a;b;"),
+    (
+        "last level",
+        &LEVELS,
+        4,
+        "a/o2\nb/o3\n",
+        ";a;b;a/o1;a/o2;b/o3;",
+    ),
+    ("odd names", &ODD, 2, "a-b\n", ";"),
+    ("in order", &ODD, 3, "a-b\nb\n", ";"),
+    (
+        "below them",
+        &ODD,
+        4,
+        "a-b/x\nb/extensions\n",
+        ";a;a-b;b;a/x;a-b/x;b/extensions;",
+    ),
+    ("nothing there", &[], 2, "", ";"),
+];
+
 #[test]
 fn a_level_is_cut_evenly(rt: HostRuntime) -> Result<(), Fail> {
     let alloc = rt.alloc();
-    for (row, changes, count, separators, listings) in [
-        ("no parts", OBJECTS.as_slice(), 0usize, "", ""),
-        ("one part", OBJECTS.as_slice(), 1, "", ""),
-        ("two of three objects", OBJECTS.as_slice(), 2, "o2\n", ";"),
-        ("three of three", OBJECTS.as_slice(), 3, "o2\no3\n", ";"),
-        (
-            "four of three",
-            OBJECTS.as_slice(),
-            4,
-            "o2\no3\n",
-            ";o1;o2;o3;",
-        ),
-        (
-            "ten of three",
-            OBJECTS.as_slice(),
-            10,
-            "o2\no3\n",
-            ";o1;o2;o3;",
-        ),
-        ("first level", LEVELS.as_slice(), 2, "b\n", ";"),
-        (
-            "second level",
-            LEVELS.as_slice(),
-            3,
-            "a/o2\nb/o3\n",
-            ";a;b;",
-        ),
-        (
-            "last level",
-            LEVELS.as_slice(),
-            4,
-            "a/o2\nb/o3\n",
-            ";a;b;a/o1;a/o2;b/o3;",
-        ),
-        ("odd names", ODD.as_slice(), 2, "a-b\n", ";"),
-        ("in order", ODD.as_slice(), 3, "a-b\nb\n", ";"),
-        (
-            "below them",
-            ODD.as_slice(),
-            4,
-            "a-b/x\nb/extensions\n",
-            ";a;a-b;b;a/x;a-b/x;b/extensions;",
-        ),
-        ("nothing there", &[], 2, "", ";"),
-    ] {
+    for (row, changes, count, separators, listings) in CUTS {
         let mut store = root_with(alloc, changes)?;
         let text = text_of(alloc, &mut store, count)?;
         assert_eq!(rt; text.as_str(), separators, "{row}");

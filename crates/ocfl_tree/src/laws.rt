@@ -1,6 +1,6 @@
 //! What callers of a store need once, as contracts of functions that do nothing.
-ghost use Rattle.std.specs.Prelude.{◌≡◌, ◌≢◌, ℕ, ◌+◌, ◌<◌, ◌++◌, [], ◌∷◌, List, length, true, false};
-ghost use Rattle.std.specs.Prelude.{None, Some};
+ghost use Rattle.std.specs.Prelude.{◌≡◌, ◌≢◌, ℕ, ◌+◌, ◌<◌, ◌++◌, [], ◌∷◌, List, length};
+ghost use Rattle.std.specs.Prelude.{true, false, None, Some};
 ghost use Rattle.std.specs.List.Sorted.{IsPermutation};
 ghost use Rattle.ocfl_tree.specs.Name.{IsPlace};
 ghost use Rattle.ocfl_tree.specs.Place.{Text, Place as Spot};
@@ -54,8 +54,9 @@ pub fn listing_is_complete()
         → IsPermutation es (entries_in root d) }
 {}
 
-/// Each call of a store that tells its tree, in other words. A listing, an opening and a failure are
-/// added where the device was asked or failed, and nothing else changes. What is absent is not there.
+/// Each call of a store that tells its tree, in other words. A listing, an opening and a failure
+/// are added where the device was asked or failed, and nothing else changes. What is absent is not
+/// there.
 pub fn each_call_does_what_it_tells()
     ensures listed { (s t : Store) (p : Spot) (es : List Entry) → Lists s t p es
         → (at s.tree p ≡ Some dir) × (((n : Text) → kind_in es n ≡ kind_at s.tree p n)

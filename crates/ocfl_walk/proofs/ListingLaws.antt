@@ -7,8 +7,7 @@ use Rattle.std.specs.Ordering.{is_lt}
 use Rattle.std.specs.declared.cmp.Ordering.{Ordering}
 use Rattle.std.specs.declared.cmp.Ordering.TheVariants.{Less, Equal, Greater}
 use Rattle.std.proofs.lemmas.List.Elements.{All-nil, All-cons}
-use Rattle.std.proofs.lemmas.List.Sorted.{All-permutation, IsPermutation-map, IsPermutation-sym, length_permutation}
-use Rattle.std.proofs.lemmas.Map.Keys.{IsDistinct-IsPermutation}
+use Rattle.std.proofs.lemmas.List.Sorted.{All-permutation, IsPermutation-sym, length_permutation}
 use Rattle.ocfl_tree.specs.Place.{Place, Text, text_cmp, text_eq}
 use Rattle.ocfl_tree.specs.Ascending.{IsAscending, IsAmong, IsBeforeAll}
 use Rattle.ocfl_tree.specs.StorageRoot.{StorageRoot, Leaf, at, names_in}
@@ -22,10 +21,8 @@ use Rattle.ocfl_audit.proofs.AuditExists.{some_not_none}
 use Rattle.ocfl_audit.proofs.BelowLaws.{text_cmp_total, text_cmp_exact}
 use Rattle.ocfl_audit.proofs.WayLaws.{entry_named}
 use Rattle.ocfl_item.proofs.LooksEntries.{name_there}
+use Rattle.ocfl_item.proofs.NameLaws.{names_of, names_differ}
 use Rattle.ocfl_audit.proofs.StackLaws.{names_sorted}
-
-abbrev names_of : List Entry → List Text
-names_of es = map (λ e. e.name) es
 
 abbrev backward : List Entry → List Entry → List Entry
 backward es later = back_onto (λ e. e) es later
@@ -63,20 +60,6 @@ few_back es fs limit moved h = let long = length_onto fs [] in let same = length
 abbrev Falls : List Entry → Type 0
 Falls [] = ⊤
 Falls (e ∷ es) = AllByRecursion (λ f. text_cmp f.name e.name ≡ Less) es × Falls es
-
-distinct_names : (es : List Entry) → AreApart es → IsDistinct text_eq (names_of es)
-unfolding IsDistinct
-distinct_names [] h = tt
-distinct_names (e ∷ es) h = (apart es h.0, distinct_names es h.1)
-  where
-    apart : (fs : List Entry) → kind_in fs e.name ≡ None → AllByRecursion (λ n. text_eq e.name n ≡ false) (names_of fs)
-    apart [] k = tt
-    apart (f ∷ fs) k = by (text_eq f.name e.name) refl k (apart fs)
-      where
-        by : (b : Bool) → text_eq f.name e.name ≡ b → cond b (Some f.kind) (kind_in fs e.name) ≡ None → (kind_in fs e.name ≡ None → AllByRecursion (λ n. text_eq e.name n ≡ false) (names_of fs))
-            → (text_eq e.name f.name ≡ false) × AllByRecursion (λ n. text_eq e.name n ≡ false) (names_of fs)
-        by true t k more = absurd (some_not_none f.kind (sym k))
-        by false t k more = (not_decided _ _ (text_eq-Decides e.name f.name) (λ same. differ _ _ (text_eq-Decides f.name e.name) t (sym same)), more k)
 
 falls : (es : List Entry) → IsSorted (λ e f. text_cmp f.name e.name) es → IsDistinct text_eq (names_of es) → Falls es
 unfolding IsDistinct
@@ -118,17 +101,7 @@ below_nothing (e ∷ es) = (tt, below_nothing es)
 
 pub rises_back : (es fs : List Entry) → IsOrdinary es → IsPermutation es fs → IsSorted (λ e f. text_cmp f.name e.name) fs → IsAscending text_cmp (names_of (back (λ e. e) fs))
 rises_back es fs ordinary moved sorted =
-    let apart : IsDistinct text_eq (names_of fs) = IsDistinct-IsPermutation text_eq flips (names_of es) (names_of fs) (IsPermutation-map (λ e. e.name) es fs moved) (distinct_names es ordinary.once) in
-    rises_onto fs [] (falls fs sorted apart) tt (below_nothing fs)
-  where
-    flips : (n m : Text) → text_eq n m ≡ text_eq m n
-    flips n m = by (text_eq n m) refl (text_eq m n) refl
-      where
-        by : (a : Bool) → text_eq n m ≡ a → (b : Bool) → text_eq m n ≡ b → a ≡ b
-        by true e true f = refl
-        by false e false f = refl
-        by true e false f = absurd (differ _ _ (text_eq-Decides m n) f (sym ((text_eq-Decides n m).0 e)))
-        by false e true f = absurd (differ _ _ (text_eq-Decides n m) e (sym ((text_eq-Decides m n).0 f)))
+    rises_onto fs [] (falls fs sorted (names_differ es fs ordinary moved)) tt (below_nothing fs)
 
 -- ---- what the names lead to
 

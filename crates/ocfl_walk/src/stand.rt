@@ -1,6 +1,6 @@
 //! Where a walk stands, and its steps.
-ghost use Rattle.std.specs.Prelude.{◌≡◌, ◌≢◌, ◌<◌, ◌∷◌, ◌++◌, [], false, Option, Some, None, IsTrue};
-ghost use Rattle.std.specs.Prelude.{IfOk, IfErr, IfSome, MatchOption, MatchResult, length};
+ghost use Rattle.std.specs.Prelude.{◌≡◌, ◌≢◌, ◌<◌, ◌∷◌, ◌++◌, [], false, Option, Some, None};
+ghost use Rattle.std.specs.Prelude.{IsTrue, IfOk, IfErr, IfSome, MatchOption, MatchResult, length};
 ghost use Rattle.std.specs.Ordering.{is_lt};
 ghost use Rattle.std.specs.declared.cmp.Ordering.TheVariants.{Less};
 ghost use Rattle.arrayvec.specs.ArrayVec.{array_vec_len};
@@ -368,7 +368,8 @@ impl Stand {
             → IsHeld root stood (piles_in self.old.last self.old.listings.items) self.old.around
             → IsTurn root last place ((place, seen_names root place)
             ∷ popped (piles_in self.old.last self.old.listings.items))
-            → StepsTo root (T.state store.old) (T.state store.new) (Some last) place self.new result }
+            → StepsTo root (T.state store.old) (T.state store.new) (Some last) place self.new
+            result }
     {
         let Some(entry) = take_entry(&mut self.listings) else {
             return Ok(Step::End);

@@ -1,6 +1,6 @@
 //! The walk: items in order, from a stack of sorted listings and the table of one object.
-ghost use Rattle.std.specs.Prelude.{◌≡◌, ◌≢◌, ◌∷◌, ◌++◌, [], Option, option_map, true, false, None, Some};
-ghost use Rattle.std.specs.Prelude.{IsTrue};
+ghost use Rattle.std.specs.Prelude.{◌≡◌, ◌≢◌, ◌∷◌, ◌++◌, [], Option, option_map, true, false};
+ghost use Rattle.std.specs.Prelude.{None, Some, IsTrue};
 ghost use Rattle.std.specs.Prelude.{Err, IfOk, IfErr, IfSome, MatchResult};
 ghost use Rattle.ocfl_tree.specs.Place.{Place as Spot};
 ghost use Rattle.ocfl_tree.specs.StorageRoot.{StorageRoot};
@@ -33,8 +33,8 @@ pub struct Walk {
 }
 
 impl Walk {
-    ghost use Rattle.ocfl_walk.specs.Walks.{Gives, GivesOut, GoesOn, IsBroken, IsLive, OpensInventories};
-    ghost use Rattle.ocfl_walk.specs.Walks.{Stands, last_of};
+    ghost use Rattle.ocfl_walk.specs.Walks.{Gives, GivesOut, GoesOn, IsBroken, IsLive};
+    ghost use Rattle.ocfl_walk.specs.Walks.{OpensInventories, Stands, last_of};
 
     /// A walk over the items above a place, whether or not there is one at it, or over all of them.
     ///

@@ -8,6 +8,7 @@ use ocfl_cursor::{
 };
 use std::alloc::Global;
 use std::io::{self, ErrorKind, Read};
+use std::process::Abort;
 use std::test::Fail;
 
 /// The text of a cursor of the part from `o/v1/content/b` on, before its digest line.
@@ -31,6 +32,34 @@ fn part_stop(
     Ok(read_part_cursor(alloc, &mut Halting { left, fails }, &ends).err())
 }
 
+/// Reading these bytes as the cursor of the part of these ends stops so.
+fn expect_stop(
+    rt: &(impl Abort + AllocGlobal),
+    row: &str,
+    bytes: &[u8],
+    fails: Option<ErrorKind>,
+    ends: (&str, &str),
+    wanted: Option<PartCursorStop>,
+) -> Result<(), Fail> {
+    let (from, below) = ends;
+    let stop = part_stop(rt.alloc(), bytes, fails, from, below)?;
+    assert_eq!(rt; stop, wanted, "{row}");
+    Ok(())
+}
+
+/// Showing these bytes stops so.
+fn expect_unshown(
+    rt: &(impl Abort + AllocGlobal),
+    row: &str,
+    left: &[u8],
+    fails: Option<ErrorKind>,
+    wanted: ShowStop,
+) -> Result<(), Fail> {
+    let stop = read_shown(rt.alloc(), &mut Halting { left, fails }).err();
+    assert_eq!(rt; stop, Some(wanted), "{row}");
+    Ok(())
+}
+
 #[test]
 fn cursors_of_parts_are_read_from_readers(rt: HostRuntime) -> Result<(), Fail> {
     let alloc = rt.alloc();
@@ -42,31 +71,15 @@ fn cursors_of_parts_are_read_from_readers(rt: HostRuntime) -> Result<(), Fail> {
         .ok()
         .ok_or("a cursor")?;
     assert_eq!(rt; encode_part(alloc, &ends, &cursor)?, text);
-    for (row, from, below, refused) in [
-        ("its own part", b, "-", None),
-        ("the part before it", "-", b, Some(PartRefused::OtherPart)),
-        (
-            "the part that begins later",
-            "o/v1/content/c",
-            "-",
-            Some(PartRefused::OtherPart),
-        ),
-        (
-            "a part that ends sooner",
-            b,
-            "o/v1/content/c",
-            Some(PartRefused::OtherPart),
-        ),
-        (
-            "the part without ends",
-            "-",
-            "-",
-            Some(PartRefused::OtherPart),
-        ),
+    expect_stop(&rt, "its own part", &text, None, (b, "-"), None)?;
+    let other = PartCursorStop::Refused(PartRefused::OtherPart);
+    for (row, ends) in [
+        ("the part before it", ("-", b)),
+        ("the part that begins later", ("o/v1/content/c", "-")),
+        ("a part that ends sooner", (b, "o/v1/content/c")),
+        ("the part without ends", ("-", "-")),
     ] {
-        let stop = part_stop(alloc, &text, None, from, below)?;
-        let wanted = refused.map(PartCursorStop::Refused);
-        assert_eq!(rt; stop, wanted, "{row}");
+        expect_stop(&rt, row, &text, None, ends, Some(other))?;
     }
     no_stored_part_is_refused();
     Ok(())
@@ -78,53 +91,24 @@ fn other_bytes_are_refused_to_a_part(rt: HostRuntime) -> Result<(), Fail> {
     let text = seal(alloc, PART.as_bytes())?;
     let whole = whole_text(alloc)?;
     let malformed = seal(alloc, b"ocfl-scrub part cursor 1\n")?;
+    let short = &text[..text.len() - 1];
+    let refused = |why| Some(PartCursorStop::Refused(why));
     let denied = Some(ErrorKind::PermissionDenied);
     let memory = Some(ErrorKind::OutOfMemory);
-    for (row, bytes, fails, stop) in [
-        (
-            "no byte",
-            b"".as_slice(),
-            None,
-            PartCursorStop::Refused(PartRefused::NotCursor),
-        ),
-        (
-            "a cursor of the whole",
-            whole.as_slice(),
-            None,
-            PartCursorStop::Refused(PartRefused::NotCursor),
-        ),
-        (
-            "without its last byte",
-            &text[..text.len() - 1],
-            None,
-            PartCursorStop::Refused(PartRefused::Damaged),
-        ),
-        (
-            "no lines",
-            malformed.as_slice(),
-            None,
-            PartCursorStop::Refused(PartRefused::Malformed),
-        ),
-        (
-            "a reader that fails",
-            text.as_slice(),
-            denied,
-            PartCursorStop::Read,
-        ),
-        (
-            "no memory",
-            text.as_slice(),
-            memory,
-            PartCursorStop::Refused(PartRefused::Memory),
-        ),
-    ] {
-        for (part, from, below) in [
-            ("its part", "o/v1/content/b", "-"),
-            ("another", "-", "o/v1/content/b"),
+    // For its own part and for another one.
+    for ends in [("o/v1/content/b", "-"), ("-", "o/v1/content/b")] {
+        for (row, bytes, wanted) in [
+            ("no byte", b"".as_slice(), PartRefused::NotCursor),
+            ("a cursor of the whole", &whole, PartRefused::NotCursor),
+            ("without its last byte", short, PartRefused::Damaged),
+            ("no lines", &malformed, PartRefused::Malformed),
         ] {
-            let got = part_stop(alloc, bytes, fails, from, below)?;
-            assert_eq!(rt; got, Some(stop), "{row}, {part}");
+            expect_stop(&rt, row, bytes, None, ends, refused(wanted))?;
         }
+        let failed = Some(PartCursorStop::Read);
+        expect_stop(&rt, "a reader that fails", &text, denied, ends, failed)?;
+        let without = refused(PartRefused::Memory);
+        expect_stop(&rt, "no memory", &text, memory, ends, without)?;
     }
     Ok(())
 }
@@ -206,59 +190,26 @@ fn nothing_is_shown_of_other_bytes(rt: HostRuntime) -> Result<(), Fail> {
     let malformed = seal(alloc, b"ocfl-scrub part cursor 1\n")?;
     let second = seal(alloc, b"ocfl-scrub part cursor 2\n")?;
     let third = seal(alloc, b"ocfl-scrub cursor 3\n")?;
+    let short = &text[..text.len() - 1];
+    let short_whole = &whole[..whole.len() - 1];
     let of_whole = |refused| ShowStop::Whole(CursorStop::Refused(refused));
-    for (row, bytes, stop) in [
-        ("no byte", b"".as_slice(), of_whole(Refused::NotCursor)),
-        (
-            "version 2 of a part's cursor",
-            second.as_slice(),
-            of_whole(Refused::NotCursor),
-        ),
-        ("version 3", third.as_slice(), of_whole(Refused::Version)),
-        (
-            "a whole root's without its last byte",
-            &whole[..whole.len() - 1],
-            of_whole(Refused::Damaged),
-        ),
-        (
-            "a part's without its last byte",
-            &text[..text.len() - 1],
-            ShowStop::Part(PartRefused::Damaged),
-        ),
-        (
-            "a part without lines",
-            malformed.as_slice(),
-            ShowStop::Part(PartRefused::Malformed),
-        ),
+    for (row, bytes, wanted) in [
+        ("no byte", b"".as_slice(), Refused::NotCursor),
+        ("version 2 of a part's cursor", &second, Refused::NotCursor),
+        ("version 3", &third, Refused::Version),
+        ("a whole root's, cut", short_whole, Refused::Damaged),
     ] {
-        let got = read_shown(
-            alloc,
-            &mut Halting {
-                left: bytes,
-                fails: None,
-            },
-        )
-        .err();
-        assert_eq!(rt; got, Some(stop), "{row}");
+        expect_unshown(&rt, row, bytes, None, of_whole(wanted))?;
     }
-    for (row, kind, stop) in [
-        (
-            "a reader that fails",
-            ErrorKind::PermissionDenied,
-            ShowStop::Whole(CursorStop::Read),
-        ),
-        (
-            "no memory",
-            ErrorKind::OutOfMemory,
-            of_whole(Refused::Memory),
-        ),
+    for (row, bytes, wanted) in [
+        ("a part's without its last byte", short, PartRefused::Damaged),
+        ("a part without lines", &malformed, PartRefused::Malformed),
     ] {
-        let mut reader = Halting {
-            left: &text,
-            fails: Some(kind),
-        };
-        let got = read_shown(alloc, &mut reader).err();
-        assert_eq!(rt; got, Some(stop), "{row}");
+        expect_unshown(&rt, row, bytes, None, ShowStop::Part(wanted))?;
     }
-    Ok(())
+    let denied = Some(ErrorKind::PermissionDenied);
+    let failed = ShowStop::Whole(CursorStop::Read);
+    expect_unshown(&rt, "a reader that fails", &text, denied, failed)?;
+    let memory = Some(ErrorKind::OutOfMemory);
+    expect_unshown(&rt, "no memory", &text, memory, of_whole(Refused::Memory))
 }

@@ -252,6 +252,23 @@ fn runs_of_a_part_from_anywhere(rt: HostRuntime) -> Result<(), Fail> {
     Ok(())
 }
 
+/// A run within this scope from these bytes is refused so: it looks at nothing.
+fn expect_refused(
+    rt: &(impl Abort + AllocGlobal),
+    row: &str,
+    file: &[u8],
+    scope: &Scope,
+    note: &str,
+) -> Result<(), Fail> {
+    let mut store = three_files(rt.alloc())?;
+    let wanted = ("", 4, note);
+    let stored = expect(rt, row, &mut store, &run_of(9)?, scope, Some(file), wanted)?;
+    assert!(rt; stored.is_none(), "{row}");
+    let is_silent = store.openings().is_empty() && store.listings().is_empty();
+    assert!(rt; is_silent, "{row}");
+    Ok(())
+}
+
 #[test]
 fn cursors_of_other_parts(rt: HostRuntime) -> Result<(), Fail> {
     let alloc = rt.alloc();
@@ -259,72 +276,40 @@ fn cursors_of_other_parts(rt: HostRuntime) -> Result<(), Fail> {
     let of_part = sealed(alloc, format!(in alloc; "{FROM_B}{lines}")?.as_str())?;
     let of_whole = format!(in alloc; "ocfl-scrub cursor 2\n{lines}")?;
     let of_whole = sealed(alloc, of_whole.as_str())?;
-    let damaged = &of_part.as_bytes()[..of_part.len() - 1];
+    let file = of_part.as_bytes();
+    let another = "cursor refused: another part";
+    for (row, scope) in [
+        ("the part before it", part(alloc, "-", FILE_B)?),
+        ("a part that begins later", part(alloc, FILE_C, "-")?),
+    ] {
+        expect_refused(&rt, row, file, &scope, another)?;
+    }
+    let none = "cursor refused: not a cursor";
+    expect_refused(&rt, "the whole root", file, &Scope::Whole, none)?;
+    let branch = Scope::Branch(place_of(alloc, "o")?);
+    expect_refused(&rt, "a branch", file, &branch, none)?;
+    let (row, file) = ("the whole root's", of_whole.as_bytes());
+    expect_refused(&rt, row, file, &part(alloc, "-", "-")?, none)
+}
+
+#[test]
+fn bytes_that_are_no_cursor_of_a_part(rt: HostRuntime) -> Result<(), Fail> {
+    let alloc = rt.alloc();
+    let lines = "cycle 1\nruns 1\nspent 1\nfiles 1\nafter o/v1/content/b\n";
+    let text = sealed(alloc, format!(in alloc; "{FROM_B}{lines}")?.as_str())?;
+    let damaged = &text.as_bytes()[..text.len() - 1];
     let malformed = sealed(alloc, format!(in alloc; "{FROM_B}{lines}0\n")?.as_str())?;
-    for (row, file, scope, note) in [
-        (
-            "the part before it",
-            of_part.as_bytes(),
-            part(alloc, "-", FILE_B)?,
-            "cursor refused: another part",
-        ),
-        (
-            "a part that begins later",
-            of_part.as_bytes(),
-            part(alloc, FILE_C, "-")?,
-            "cursor refused: another part",
-        ),
-        (
-            "the whole root",
-            of_part.as_bytes(),
-            Scope::Whole,
-            "cursor refused: not a cursor",
-        ),
-        (
-            "a branch",
-            of_part.as_bytes(),
-            Scope::Branch(place_of(alloc, "o")?),
-            "cursor refused: not a cursor",
-        ),
-        (
-            "the whole root's, to the part without ends",
-            of_whole.as_bytes(),
-            part(alloc, "-", "-")?,
-            "cursor refused: not a cursor",
-        ),
-        (
-            "no byte",
-            b"".as_slice(),
-            part(alloc, FILE_B, "-")?,
-            "cursor refused: not a cursor",
-        ),
-        (
-            "without its last byte",
-            damaged,
-            part(alloc, FILE_B, "-")?,
-            "cursor refused: damaged",
-        ),
+    let scope = part(alloc, FILE_B, "-")?;
+    for (row, file, note) in [
+        ("no byte", b"".as_slice(), "cursor refused: not a cursor"),
+        ("its last byte is missing", damaged, "cursor refused: damaged"),
         (
             "one line more",
             malformed.as_bytes(),
-            part(alloc, FILE_B, "-")?,
             "cursor refused: malformed",
         ),
     ] {
-        let mut store = three_files(alloc)?;
-        let wanted = ("", 4, note);
-        let stored = expect(
-            &rt,
-            row,
-            &mut store,
-            &run_of(9)?,
-            &scope,
-            Some(file),
-            wanted,
-        )?;
-        assert!(rt; stored.is_none(), "{row}");
-        let is_silent = store.openings().is_empty() && store.listings().is_empty();
-        assert!(rt; is_silent, "{row}");
+        expect_refused(&rt, row, file, &scope, note)?;
     }
     Ok(())
 }

@@ -14,9 +14,9 @@ use Rattle.ocfl_inventory.specs.Table.{table_of}
 use Rattle.ocfl_audit.specs.Zone.{inventory_at, table_at}
 use Rattle.ocfl_audit.specs.Head.{inventory_file_notes}
 use Rattle.ocfl_audit.specs.Audit.{audit}
-use Rattle.ocfl_audit.proofs.OnLiterals.{audit_on_literals}
-use Rattle.ocfl_audit.proofs.CaseTrees.{Case, AllAre, AllAreQuick, quickly, reports, text_at, bytes_at, folder, link, storage_root, object, object_beside, right_sidecar_256, right_sidecar_512, sha256_object, f_is_abc, key, keys, inventory, inventory_with, listing, listing_with, lists_f, abc, abc_sha256_capitals}
-use Rattle.ocfl_audit.proofs.QuietCases.{reports_256, reports_512}
+use Rattle.ocfl_audit.proofs.Cases.OnLiterals.{audit_on_literals}
+use Rattle.ocfl_audit.proofs.Cases.Trees.{Case, AllAre, AllAreQuick, quickly, reports, text_at, bytes_at, folder, link, storage_root, object, object_beside, right_sidecar_256, right_sidecar_512, sha256_object, f_is_abc, key, keys, inventory, inventory_with, listing, listing_with, lists_f, abc, abc_sha256_capitals}
+use Rattle.ocfl_audit.proofs.Cases.Quiet.{reports_256, reports_512}
 
 -- ---- the declaration
 

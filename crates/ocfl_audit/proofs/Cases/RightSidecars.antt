@@ -15,7 +15,7 @@ use Rattle.ocfl_digest.specs.declared.algorithm.Algorithm.TheVariants.{Sha256, S
 use Rattle.ocfl_inventory.specs.Sidecar.{sidecar_digits, sidecar_of}
 use Rattle.ocfl_inventory.proofs.SidecarLaws.{sidecar_is}
 use Rattle.ocfl_audit.specs.Head.{sidecar_notes}
-use Rattle.ocfl_audit.proofs.CaseTrees.{right_sidecar_256, right_sidecar_512}
+use Rattle.ocfl_audit.proofs.Cases.Trees.{right_sidecar_256, right_sidecar_512}
 
 -- ---- the digests are bytes
 

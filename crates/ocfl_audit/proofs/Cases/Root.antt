@@ -14,8 +14,8 @@ use Rattle.ocfl_inventory.specs.Table.{Table}
 use Rattle.ocfl_audit.specs.Zone.{hierarchy, is_entered, is_listed_zone, zone, object_declared, seen}
 use Rattle.ocfl_audit.specs.Lines.{notes, hierarchy_notes, object_entry_notes, version_entry_notes, content_notes}
 use Rattle.ocfl_audit.specs.Audit.{audit}
-use Rattle.ocfl_audit.proofs.OnLiterals.{audit_on_literals}
-use Rattle.ocfl_audit.proofs.CaseTrees.{AllAre, reports, place, text_at, bytes_at, folder, link, storage_root}
+use Rattle.ocfl_audit.proofs.Cases.OnLiterals.{audit_on_literals}
+use Rattle.ocfl_audit.proofs.Cases.Trees.{AllAre, reports, place, text_at, bytes_at, folder, link, storage_root}
 
 -- ---- the declaration of the storage root
 

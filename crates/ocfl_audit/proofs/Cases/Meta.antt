@@ -4,8 +4,8 @@ use Rattle.ocfl_tree.specs.Place.{Place}
 use Rattle.ocfl_tree.specs.StorageRoot.{StorageRoot}
 use Rattle.ocfl_tree.specs.declared.store.Opening.{Opening}
 use Rattle.ocfl_audit.specs.Trail.{is_meta, content_trail, unread_of, heads_of}
-use Rattle.ocfl_audit.proofs.OnLiterals.{audit_on_literals}
-use Rattle.ocfl_audit.proofs.CaseTrees.{place, text_at, folder, storage_root, object_in, listing, lists_f}
+use Rattle.ocfl_audit.proofs.Cases.OnLiterals.{audit_on_literals}
+use Rattle.ocfl_audit.proofs.Cases.Trees.{place, text_at, folder, storage_root, object_in, listing, lists_f}
 
 -- an object `o` and one of unknown version `u`; a directory `h` that is no object; and files named as metadata where there is none
 abbrev named_alike : StorageRoot

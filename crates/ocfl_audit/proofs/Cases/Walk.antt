@@ -5,8 +5,8 @@ use Rattle.ocfl_tree.specs.StorageRoot.{StorageRoot}
 use Rattle.ocfl_report.specs.Text.{text}
 use Rattle.ocfl_audit.specs.Walk.{walk}
 use Rattle.ocfl_audit.specs.Stack.{taken, lists, listed_at}
-use Rattle.ocfl_audit.proofs.OnLiterals.{audit_on_literals}
-use Rattle.ocfl_audit.proofs.CaseTrees.{Case, case, AllAre, Behind, behind, behind_each, place, text_at, folder, storage_root, missing_and_right, three_objects, sha512_file}
+use Rattle.ocfl_audit.proofs.Cases.OnLiterals.{audit_on_literals}
+use Rattle.ocfl_audit.proofs.Cases.Trees.{Case, case, AllAre, Behind, behind, behind_each, place, text_at, folder, storage_root, missing_and_right, three_objects, sha512_file}
 
 -- what a walk that enters a tree at a place takes from there on
 abbrev takes : StorageRoot → Behind → Case

@@ -8,10 +8,10 @@ use Rattle.ocfl_audit.specs.Audit.{Unread, audit, after, total_cost}
 use Rattle.ocfl_audit.specs.Due.{item_places, hashed_among}
 use Rattle.ocfl_audit.specs.Runs.{runs, of_budget}
 use Rattle.ocfl_audit.specs.Parts.{Part, branch, within, places_within, parts_of, costs_of, file_counts, together, branch_end, enclosed}
-use Rattle.ocfl_audit.proofs.OnLiterals.{audit_on_literals}
-use Rattle.ocfl_audit.proofs.CaseTrees.{three_files_listing, three_files_content, three_files, three_objects, missing_and_right, place, the_root, clean, right}
-use Rattle.ocfl_audit.proofs.QuietCases.{quick_256, audit_256}
-use Rattle.ocfl_audit.proofs.RunCases.{three_items, items_of_three_files, items_around_a_missing_file, slash_and_dash, slash_items, items_of_slash_and_dash}
+use Rattle.ocfl_audit.proofs.Cases.OnLiterals.{audit_on_literals}
+use Rattle.ocfl_audit.proofs.Cases.Trees.{three_files_listing, three_files_content, three_files, three_objects, missing_and_right, place, the_root, clean, right}
+use Rattle.ocfl_audit.proofs.Cases.Quiet.{quick_256, audit_256}
+use Rattle.ocfl_audit.proofs.Cases.Run.{three_items, items_of_three_files, items_around_a_missing_file, slash_and_dash, slash_items, items_of_slash_and_dash}
 
 -- the texts of the parts that these separators make of some items
 abbrev cut_at : List String → List Item → List Text

@@ -8,9 +8,9 @@ use Rattle.ocfl_report.specs.declared.code.Code.{Code}
 use Rattle.ocfl_report.specs.declared.code.Code.TheVariants.{E099, E100, S06}
 use Rattle.ocfl_inventory.specs.ListedPath.{path_fault}
 use Rattle.ocfl_audit.specs.Audit.{audit}
-use Rattle.ocfl_audit.proofs.OnLiterals.{audit_on_literals}
-use Rattle.ocfl_audit.proofs.CaseTrees.{Case, AllAre, AllAreQuick, quickly, sha256_object, f_is_abc, key, keys, inventory, listing, listing_with, lists_f, abc, abc_sha256_capitals, no_bytes, no_bytes_sha256_capitals}
-use Rattle.ocfl_audit.proofs.QuietCases.{reports_256, told_256}
+use Rattle.ocfl_audit.proofs.Cases.OnLiterals.{audit_on_literals}
+use Rattle.ocfl_audit.proofs.Cases.Trees.{Case, AllAre, AllAreQuick, quickly, sha256_object, f_is_abc, key, keys, inventory, listing, listing_with, lists_f, abc, abc_sha256_capitals, no_bytes, no_bytes_sha256_capitals}
+use Rattle.ocfl_audit.proofs.Cases.Quiet.{reports_256, told_256}
 
 -- ---- keys
 

@@ -3,8 +3,8 @@ use Rattle.std.proofs.Common.{◌≡◌, [], ◌∷◌, codes, refl, Some, None}
 use Rattle.ocfl_tree.specs.StorageRoot.{StorageRoot}
 use Rattle.ocfl_audit.specs.Trail.{inventories}
 use Rattle.ocfl_audit.specs.Between.{looked_between, read_between}
-use Rattle.ocfl_audit.proofs.OnLiterals.{audit_on_literals}
-use Rattle.ocfl_audit.proofs.CaseTrees.{place, text_at, folder, storage_root, object_in, listing, lists_f}
+use Rattle.ocfl_audit.proofs.Cases.OnLiterals.{audit_on_literals}
+use Rattle.ocfl_audit.proofs.Cases.Trees.{place, text_at, folder, storage_root, object_in, listing, lists_f}
 
 -- objects `bare` with no inventory, `two` with two declarations, `u` of unknown version, one in the extensions, one in the content of `o`, and `h/q` whose head stops at what its inventory says
 abbrev some_count : StorageRoot

@@ -9,9 +9,9 @@ use Rattle.ocfl_report.specs.Text.{text, place_text}
 use Rattle.ocfl_audit.specs.Audit.{audit, after, total_cost}
 use Rattle.ocfl_audit.specs.Trail.{inventories}
 use Rattle.ocfl_audit.specs.Runs.{Limits, cut, left, runs, joined, total_files, IsAtLeast, FileLimitFits, of_budget, sum_of}
-use Rattle.ocfl_audit.proofs.OnLiterals.{audit_on_literals}
-use Rattle.ocfl_audit.proofs.CaseTrees.{three_files_content, three_files_listing, missing_and_right_content, missing_and_right_listing, sha512_file_listing, Case, case, AllAre, Behind, behind, behind_each, place, text_at, folder, storage_root, sha256_object, f_is_abc, key, listing, lists_f, three_files, three_objects, missing_and_right, sha512_file, abc, item, the_root, clean, right}
-use Rattle.ocfl_audit.proofs.QuietCases.{quick_512, audit_512, quick_256, audit_256}
+use Rattle.ocfl_audit.proofs.Cases.OnLiterals.{audit_on_literals}
+use Rattle.ocfl_audit.proofs.Cases.Trees.{three_files_content, three_files_listing, missing_and_right_content, missing_and_right_listing, sha512_file_listing, Case, case, AllAre, Behind, behind, behind_each, place, text_at, folder, storage_root, sha256_object, f_is_abc, key, listing, lists_f, three_files, three_objects, missing_and_right, sha512_file, abc, item, the_root, clean, right}
+use Rattle.ocfl_audit.proofs.Cases.Quiet.{quick_512, audit_512, quick_256, audit_256}
 
 -- the texts of the runs that these budgets make of some items
 abbrev texts : List Item → List ℕ → List Text

@@ -11,9 +11,9 @@ use Rattle.ocfl_audit.specs.Audit.{Unread, audit, total_cost}
 use Rattle.ocfl_audit.specs.Due.{item_places, items_at, hashed_among}
 use Rattle.ocfl_audit.specs.Trail.{unread_of, content_trail}
 use Rattle.ocfl_audit.specs.Runs.{runs, of_budget}
-use Rattle.ocfl_audit.proofs.OnLiterals.{audit_on_literals}
-use Rattle.ocfl_audit.proofs.CaseTrees.{AllAreQuick, quickly, three_files_content, three_files_listing, Case, AllAre, place, text_at, bytes_at, folder, sha256_object, f_is_abc, key, listing, listing_with, lists_f, three_files, abc, item, the_root, clean, right}
-use Rattle.ocfl_audit.proofs.QuietCases.{quick_256, audit_256}
+use Rattle.ocfl_audit.proofs.Cases.OnLiterals.{audit_on_literals}
+use Rattle.ocfl_audit.proofs.Cases.Trees.{AllAreQuick, quickly, three_files_content, three_files_listing, Case, AllAre, place, text_at, bytes_at, folder, sha256_object, f_is_abc, key, listing, listing_with, lists_f, three_files, abc, item, the_root, clean, right}
+use Rattle.ocfl_audit.proofs.Cases.Quiet.{quick_256, audit_256}
 
 -- the text of the audit where one file of an object with a right sidecar gave only so many bytes
 abbrev reports_unread : String → Text → StorageRoot → String → ℕ → String → Case

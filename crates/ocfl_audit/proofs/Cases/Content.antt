@@ -10,9 +10,9 @@ use Rattle.ocfl_inventory.specs.DigestText.{digest_of}
 use Rattle.ocfl_audit.specs.Audit.{audit, total_cost}
 use Rattle.ocfl_audit.specs.Due.{item_places, hashed_among}
 use Rattle.ocfl_audit.specs.Walk.{item_at}
-use Rattle.ocfl_audit.proofs.OnLiterals.{audit_on_literals}
-use Rattle.ocfl_audit.proofs.CaseTrees.{missing_and_right_content, missing_and_right_listing, sha512_file_listing, Case, case, Digests, AllAre, AllAreQuick, quickly, reports, place, text_at, folder, link, storage_root, object_in, sha256_object, sha512_object, f_is_abc, key, keys, inventory, listing, listing_with, lists_f, missing_and_right, sha512_file, abc, abc_sha512_capitals, no_bytes}
-use Rattle.ocfl_audit.proofs.QuietCases.{quick_256, audit_256, quick_512, audit_512, reports_256, reports_512}
+use Rattle.ocfl_audit.proofs.Cases.OnLiterals.{audit_on_literals}
+use Rattle.ocfl_audit.proofs.Cases.Trees.{missing_and_right_content, missing_and_right_listing, sha512_file_listing, Case, case, Digests, AllAre, AllAreQuick, quickly, reports, place, text_at, folder, link, storage_root, object_in, sha256_object, sha512_object, f_is_abc, key, keys, inventory, listing, listing_with, lists_f, missing_and_right, sha512_file, abc, abc_sha512_capitals, no_bytes}
+use Rattle.ocfl_audit.proofs.Cases.Quiet.{quick_256, audit_256, quick_512, audit_512, reports_256, reports_512}
 
 -- ---- digests
 

@@ -10,9 +10,9 @@ use Rattle.ocfl_report.specs.declared.code.Code.TheVariants.{E058}
 use Rattle.ocfl_digest.specs.declared.algorithm.Algorithm.TheVariants.{Sha256, Sha512}
 use Rattle.ocfl_audit.specs.Head.{on, sidecar_at, sidecar_notes, sidecars_notes, is_sidecar_missing}
 use Rattle.ocfl_audit.specs.Audit.{Unread, audit}
-use Rattle.ocfl_audit.proofs.RightSidecars.{right_256_is_quiet, right_512_is_quiet}
-use Rattle.ocfl_audit.proofs.QuietHeads.{audit_beside, audit_is}
-use Rattle.ocfl_audit.proofs.CaseTrees.{Case, sha256_object, sha512_object}
+use Rattle.ocfl_audit.proofs.Cases.RightSidecars.{right_256_is_quiet, right_512_is_quiet}
+use Rattle.ocfl_audit.proofs.Cases.QuietHeads.{audit_beside, audit_is}
+use Rattle.ocfl_audit.proofs.Cases.Trees.{Case, sha256_object, sha512_object}
 
 -- the place of the object
 abbrev o : Place

@@ -243,6 +243,8 @@ def helps():
         is_so("help of " + command, (status, whole, said), (0, True, ""))
     status, out, said = ran(["--version"])
     is_so("version", (status, out.startswith("ocfl-scrub "), said), (0, True, ""))
+    own = "\nthis file has sha256 %s\n" % digest(read(common.PROGRAM))
+    is_so("version: the digest of the program", out.endswith(own), True)
 
 
 def findings(root):

@@ -128,16 +128,30 @@ def installing(folder):
     build = "ocfl-scrub %s\ncommit %s\nkit %s\nsha256 %s\n" % (
         version(), commit, kit, digest(common.read(PROGRAM)))
     is_so("BUILD", read(prefix + "/share/ocfl-scrub/BUILD"), build)
-    is_so("the installed program", ran([prefix + "/bin/ocfl-scrub", "--version"]), (0, build, ""))
-    os.rename(prefix + "/share/ocfl-scrub/BUILD", prefix + "/BUILD")
-    is_so("the same without BUILD", ran([prefix + "/bin/ocfl-scrub", "--version"]),
-          (0, "ocfl-scrub %s\n" % version(), ""))
-    os.rename(prefix + "/BUILD", prefix + "/share/ocfl-scrub/BUILD")
+    versions(prefix, build)
     page = read(prefix + "/share/man/man1/ocfl-scrub.1")
     is_so("the page's commit", ['"ocfl\\-scrub %s (%s)"' % (version(), commit[:7]) in page,
                                 "Built from commit %s by %s." % (commit, kit) in page], [True,
                                                                                          True])
     installing_again(clone, prefix, folder)
+
+
+def versions(prefix, build):
+    """What `--version` prints beside its BUILD, beside that of another program, and without any."""
+    show, notes = [prefix + "/bin/ocfl-scrub", "--version"], prefix + "/share/ocfl-scrub/BUILD"
+    own = "this file has sha256 %s" % digest(common.read(PROGRAM))
+    is_so("--version with its BUILD", ran(show), (0, build + own + "\n", ""))
+    other = re.sub("(?m)^sha256 .*", "sha256 " + digest(b""), build)
+    write(notes, other)
+    is_so("--version with another BUILD", ran(show),
+          (0, other + own + " (differs from BUILD)\n", ""))
+    cut = build[:build.index("sha256 ")]
+    write(notes, cut)
+    is_so("--version with a BUILD that has no digest", ran(show), (0, cut + own + "\n", ""))
+    os.remove(notes)
+    is_so("--version without BUILD", ran(show),
+          (0, "ocfl-scrub %s\n%s\n" % (version(), own), ""))
+    write(notes, build)
 
 
 def installing_again(clone, prefix, folder):

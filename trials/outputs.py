@@ -247,6 +247,17 @@ def unread_file(folder):
         is_so(name + ": it is whole", read(case.file), before)
 
 
+def unread_program():
+    """The program cannot read its own file, of which `--version` prints the digest."""
+    said = "this file cannot be read, so its sha256 is not known"
+    for call, error in [("openat", "ENOENT"), ("openat", "EACCES"), ("read", "EIO")]:
+        path = "/proc/self/exe" if call == "openat" else common.PROGRAM
+        rules = ["-P", path, "-e", "inject=%s:error=%s" % (call, error)]
+        status, out, stderr = traced(rules, ["--version"])
+        is_so("%s of the program's %s" % (error, call), (status, out.splitlines()[-1], stderr),
+              (0, said, ""))
+
+
 def vanishing_file(folder):
     """The cursor's file goes away while the run reads the root, or its folder does."""
     case = Case(folder, "vanishing")
@@ -282,6 +293,7 @@ def tell(folder):
     synced_file(folder)
     unread_file(folder)
     vanishing_file(folder)
+    unread_program()
     is_so("nothing was written below the root", common.snapshot(root), before)
 
 

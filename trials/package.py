@@ -294,7 +294,8 @@ def using(service):
     """What else the user of the nights calls."""
     build = "ocfl-scrub %s\n" % version() + "".join(
         read("/" + SHARE + "BUILD").splitlines(True)[1:])
-    is_so("--version", service.calls("ocfl-scrub", "--version"), (0, build, ""))
+    own = "this file has sha256 %s\n" % digest(common.read(PROGRAM))
+    is_so("--version", service.calls("ocfl-scrub", "--version"), (0, build + own, ""))
     is_so("BUILD has the digest of the program", "\nsha256 %s\n" % digest(common.read(PROGRAM))
           in build, True)
     share = "/" + SHARE

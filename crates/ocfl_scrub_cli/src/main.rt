@@ -7,16 +7,17 @@ mod saying;
 mod scope;
 mod splits;
 mod tasks;
+mod version;
 
 use clap::error::ErrorKind;
-use files::folder_of;
 use ocfl_line::{Asked, LineStop, asked};
 use saying::{STOPPED, USAGE, say, say_out_of_memory};
 use splits::split_root;
 use std::process::ExitCode;
 use std::rt::{Env, Files};
-use std::{env, fs, io};
+use std::{env, io};
 use tasks::do_task;
+use version::print_build;
 
 /// Reads the words of the command line. Fails with the status where they cannot be read.
 fn read_words<R: Env + AllocGlobal + Eprint>(rt: &R) -> Result<Vec<String>, u8> {
@@ -31,23 +32,6 @@ fn read_words<R: Env + AllocGlobal + Eprint>(rt: &R) -> Result<Vec<String>, u8> 
     match read {
         Some(words) => Ok(words),
         None => Err(say_out_of_memory(rt)),
-    }
-}
-
-/// What `install` noted beside the program that it installed, where there is such a file.
-fn build_notes<R: Files + AllocGlobal>(rt: &R) -> Option<String> {
-    let program = env::current_exe(rt).ok()?;
-    let prefix = folder_of(folder_of(program.to_str()?));
-    let file = format!(in rt.alloc(); "{prefix}/share/ocfl-scrub/BUILD").ok()?;
-    fs::read_to_string(rt, file.as_str()).ok()
-}
-
-/// Prints those notes without their first line, which is the version: commit, toolchain, digest.
-fn print_build<R: Files + AllocGlobal + Print>(rt: &R) -> io::Result<()> {
-    let notes = build_notes(rt);
-    match notes.as_ref().and_then(|notes| notes.split_once('\n')) {
-        Some((_, rest)) => print!(rt; "{rest}"),
-        None => Ok(()),
     }
 }
 

@@ -26,10 +26,15 @@ CYCLE = "runs 1, cost %d, ended" % COST
 
 
 def make(folder):
-    """A root with a large file between two small ones."""
+    """A root with one object."""
     root = os.path.join(folder, "root")
     common.make_root(root, {})
-    folder = os.path.join(root, OBJECT)
+    make_large(os.path.join(root, OBJECT))
+    return root
+
+
+def make_large(folder):
+    """An object with a large file between two small ones."""
     large = os.path.join(folder, "v1/content/large")
     os.makedirs(os.path.dirname(large))
     with open(large, "wb") as file:
@@ -38,7 +43,6 @@ def make(folder):
         common.make_object(folder, FILES, listed={})
         listed = {**FILES, "v1/content/large": file.read()}
     common.make_object(folder, FILES, listed=listed)
-    return root
 
 
 class Terminal:
@@ -83,12 +87,65 @@ def on_standard_error(folder, root, report):
         terminal = Terminal()
         status, out, _ = terminal.ran(words, stderr=True)
         is_so(words[0] + ": the report", (status, out), (0, report))
-        # Three files of the object, one of the root, and two of content were opened by then.
-        shows = re.search(r"\r6 files, 255 MiB, at %s +\r" % SHOWN, terminal.sent.decode())
-        is_so(words[0] + ": progress is shown", shows is not None, True)
+        # Two files of content were opened by then, behind four others.
+        is_so(words[0] + ": progress", shown_on(terminal), ["2 files, 255 MiB, at " + SHOWN])
         is_so(words[0] + ": what is left on the terminal", terminal.text(), said)
-        widest = max(len(part) for part in terminal.sent.decode().split("\r"))
-        is_so(words[0] + ": it fits into a line", widest <= 79, True)
+        is_so(words[0] + ": it fits into a line", widest(terminal) <= 79, True)
+
+
+def shown_on(terminal):
+    """The progress that a terminal was sent, line by line."""
+    parts = terminal.sent.decode().split("\r")
+    return [part.rstrip(" ") for part in parts if " MiB, " in part]
+
+
+def widest(terminal):
+    return max(len(part) for part in terminal.sent.decode().split("\r"))
+
+
+def in_the_next_cycle(folder, root, report):
+    """The cursor of a cycle that has ended tells what it cost, of the whole and of a part."""
+    parts = common.write(os.path.join(folder, "parts"), ran(["split", "--parts", "1", root])[1]
+                         .encode())
+    for name, choice in [("of the whole", []), ("of a part", ["--parts", parts, "--part", "1"])]:
+        cursor = os.path.join(folder, "cursor " + name)
+        run = ["run", "--cursor", cursor, *choice, "--budget", "1G", root]
+        for cycle, share in [(1, ""), (2, "85 % of the last cycle, ")]:
+            terminal = Terminal()
+            status, out, _ = terminal.ran(run, stderr=True)
+            is_so("%s, cycle %d: the report" % (name, cycle), (status, out), (0, report))
+            done = "2 files, 255 MiB, %sat " % share
+            is_so("%s, cycle %d: progress" % (name, cycle), shown_on(terminal),
+                  [done + LARGE_PLACE[-min(40, 79 - len(done)):]])
+            is_so("%s, cycle %d: it fits into a line" % (name, cycle), widest(terminal) <= 79,
+                  True)
+
+
+def in_an_open_cycle(folder, root):
+    """What an earlier run of the same cycle cost tells nothing of the whole."""
+    run = ["run", "--cursor", os.path.join(folder, "open"), "--budget", "1", root]
+    is_so("a run that leaves its cycle open", ran(run)[0], 0)
+    terminal = Terminal()
+    is_so("the run that goes on", terminal.ran(run, stderr=True)[0], 0)
+    is_so("the run that goes on: progress", shown_on(terminal), ["1 files, 255 MiB, at " + SHOWN])
+
+
+def over_many_objects(folder):
+    """Content files are counted as the cursor counts them, and no other files."""
+    files = {**FILES, "v1/content/0=ocfl_object_1.1": b"", "v2/content/d/e": b"abc"}
+    root = common.make_root(os.path.join(folder, "many"), {
+        name: files for name in ["a", "b/c", "b/d/e", "f"]})
+    make_large(os.path.join(root, "g"))
+    # A stray file, which does not make the storage root an object.
+    common.write(os.path.join(root, "0=ocfl_object_1.1"), b"")
+    cursor = os.path.join(folder, "cursor of many")
+    terminal = Terminal()
+    run = ["run", "--cursor", cursor, "--budget", "1G", root]
+    is_so("many objects, and a stray file", terminal.ran(run, stderr=True)[0], 0)
+    counted = int(re.search(r"files (\d+)", common.shown_cursor(cursor))[1])
+    # The last file of the last object comes behind the line, and the listings took a MiB of it.
+    is_so("many objects: progress", shown_on(terminal),
+          ["%d files, 254 MiB, at g/v1/content/large" % (counted - 1)])
 
 
 def quietly(folder, root, report):
@@ -133,8 +190,10 @@ def tell(folder):
     root = make(folder)
     status, report, said = ran(["audit", root])
     is_so("without a terminal", (status, said, report.count("\n")), (0, "", 5))
-    for tells in [on_standard_error, quietly, on_one_terminal]:
+    for tells in [on_standard_error, quietly, on_one_terminal, in_the_next_cycle]:
         tells(folder, root, report)
+    in_an_open_cycle(folder, root)
+    over_many_objects(folder)
 
 
 common.trial(tell)

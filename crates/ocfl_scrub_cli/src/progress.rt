@@ -1,8 +1,9 @@
 //! Progress: one line on a terminal, which is written over again while a command works.
 ghost use Rattle.std.specs.Prelude.{◌≡◌};
 
+use ocfl_inventory::{Level, is_declaration_name};
 use ocfl_report::DisplayPlace;
-use ocfl_tree::{Entry, Place, Tree, Trouble};
+use ocfl_tree::{Entry, Kind, Place, Tree, Trouble};
 use std::alloc::AllocError;
 use std::fs;
 use std::io::{self, Write};
@@ -14,7 +15,10 @@ const STEP: u64 = 256 << 20;
 /// The work of a listing or of an opening: the bytes that could be hashed in its time.
 const CALL: u64 = 32 << 10;
 
-/// How much of a place is shown, from its end, so that the line fits into 79 columns.
+/// How long the line is at most.
+const WIDTH: usize = 79;
+
+/// How much of a place is shown at most, from its end.
 const TAIL: usize = 40;
 
 /// Whether an output, by its name below `/dev`, is a terminal. Where the system does not say which
@@ -34,35 +38,65 @@ pub(crate) fn clear<R: Eprint>(rt: &R) {
     let _ = eprint!(rt; "\r{:79}\r", "");
 }
 
-/// The last part of a text in ASCII.
-fn tail(text: &str) -> &str {
-    text.get(text.len().saturating_sub(TAIL)..).unwrap_or("")
+/// The last part of a text in ASCII, of at most this length.
+fn tail(text: &str, room: usize) -> &str {
+    text.get(text.len().saturating_sub(room)..).unwrap_or("")
 }
 
-/// A store that shows how much of it was read, where that is asked for.
+/// Whether these are the entries of an object's root directory.
+fn declare_object(entries: &[Entry]) -> bool {
+    for entry in entries {
+        if entry.kind == Kind::File && is_declaration_name(Level::Object, entry.name.as_str()) {
+            return true;
+        }
+    }
+    false
+}
+
+/// How many hundredths of a whole a part of it is; no more than 999, so that the line fits. `None`
+/// where the whole is not known, or nothing.
+fn percent(part: u128, whole: Option<u128>) -> Option<u128> {
+    Some(part.saturating_mul(100).checked_div(whole?)?.min(999))
+}
+
+/// A store that shows how much of its content was read, where that is asked for.
 #[derive(Drop)]
 pub(crate) struct Watched<'a, R, T: Drop> {
     store: T,
     rt: &'a R,
     is_shown: bool,
+    /// What the last cycle cost, where that is known.
+    last_cost: Option<u128>,
+    /// The content files that were opened, and the bytes that were read of them.
     files: u64,
     bytes: u64,
+    is_content: bool,
     /// The work since it was shown.
     work: u64,
     /// The place that is read, where it is shown.
     place: Place,
+    /// The object that was listed last.
+    object: Option<Place>,
 }
 
 impl<'a, R: AllocGlobal + Eprint, T: Drop> Watched<'a, R, T> {
-    pub(crate) fn over(rt: &'a R, store: T, is_shown: bool) -> Watched<'a, R, T> {
+    pub(crate) fn over(
+        rt: &'a R,
+        store: T,
+        is_shown: bool,
+        last_cost: Option<u128>,
+    ) -> Watched<'a, R, T> {
         Watched {
             store,
             rt,
             is_shown,
+            last_cost,
             files: 0,
             bytes: 0,
+            is_content: false,
             work: 0,
             place: Place::root(rt.alloc()),
+            object: None,
         }
     }
 
@@ -100,9 +134,53 @@ impl<'a, R: AllocGlobal + Eprint, T: Drop> Watched<'a, R, T> {
     fn line(&self) -> Result<String, AllocError> {
         let alloc = self.rt.alloc();
         let (files, mebibytes) = (self.files, self.bytes >> 20);
+        let share = self.share()?;
+        let done = format!(in alloc; "{files} files, {mebibytes} MiB, {share}at ")?;
         let place = format!(in alloc; "{}", DisplayPlace(&self.place))?;
-        let place = tail(place.as_str());
-        format!(in alloc; "{files} files, {mebibytes} MiB, at {place}")
+        let place = tail(place.as_str(), WIDTH.saturating_sub(done.len()).min(TAIL));
+        format!(in alloc; "{done}{place}")
+    }
+
+    /// How far the run is, by the cost of the last cycle where that is known.
+    fn share(&self) -> Result<String, AllocError> {
+        let cost = u128::from(self.bytes) + u128::from(self.files);
+        match percent(cost, self.last_cost) {
+            Some(share) => format!(in self.rt.alloc(); "{share} % of the last cycle, "),
+            None => Ok(String::new(self.rt.alloc())),
+        }
+    }
+
+    /// Keeps the place of an object that was listed. The storage root and what lies below an object
+    /// are none.
+    fn note_listing(&mut self, place: &Place, entries: &[Entry])
+        ensures { self.new.store ≡ self.old.store }
+    {
+        let is_object = !place.path().is_empty() && declare_object(entries);
+        if !self.is_shown || !is_object || self.is_in_object(place) {
+            return;
+        }
+        if let Ok(object) = place.try_clone() {
+            self.object = Some(object);
+        }
+    }
+
+    fn is_in_object(&self, place: &Place) -> bool {
+        match &self.object {
+            Some(object) => place.starts_with(object),
+            None => false,
+        }
+    }
+
+    /// Whether the file at a place is content: declarations, inventories and sidecars lie in the
+    /// storage root itself or in an object's root directory, and content never does.
+    fn has_content_at(&self, place: &Place) -> bool {
+        let Some((directory, _)) = place.split_last() else {
+            return false;
+        };
+        match &self.object {
+            Some(object) => directory != object.path() && !directory.is_empty(),
+            None => false,
+        }
     }
 }
 
@@ -114,18 +192,25 @@ impl<R: AllocGlobal + Eprint, T: Tree + Drop> Tree for Watched<'_, R, T> {
 
     fn list(&mut self, place: &Place) -> Result<Vec<Entry>, Trouble> {
         self.reach(place);
-        self.store.list(place)
+        let entries = self.store.list(place)?;
+        self.note_listing(place, &entries);
+        Ok(entries)
     }
 
     fn open(&mut self, place: &Place) -> Result<(), Trouble> {
         self.reach(place);
-        self.files = self.files.saturating_add(1);
+        self.is_content = self.has_content_at(place);
+        if self.is_content {
+            self.files = self.files.saturating_add(1);
+        }
         self.store.open(place)
     }
 
     fn read(&mut self, buffer: &mut [u8]) -> Result<usize, Trouble> {
         let count = self.store.read(buffer)?;
-        self.bytes = self.bytes.saturating_add(count as u64);
+        if self.is_content {
+            self.bytes = self.bytes.saturating_add(count as u64);
+        }
         self.add(count as u64);
         Ok(count)
     }

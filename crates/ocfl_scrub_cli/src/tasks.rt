@@ -4,13 +4,14 @@ use crate::files::{lies_inside, open_if_there, put_in_place};
 use crate::progress::{Clearing, Watched, clear, is_terminal};
 use crate::saying::{STOPPED, USAGE, say, say_out_of_memory, say_stop};
 use crate::scope::read_scope;
+use ocfl_cursor::{State, read_cursor, read_part_cursor};
 use ocfl_deed::Deed;
 use ocfl_digest::Block;
 use ocfl_folder::FsTree;
 use ocfl_line::Task;
 use ocfl_scrub::{Note, Performed, Scope, perform_part};
-use std::io;
 use std::rt::Files;
+use std::{fs, io};
 
 /// What is said of a cursor's file that could not be read or put in place.
 fn file_note(error: &io::Error) -> Note {
@@ -43,6 +44,30 @@ fn open_cursor<R: Files>(rt: &R, task: &Task) -> Result<Option<R::File>, Note> {
     }
 }
 
+/// What the last cycle cost, where a run begins the next one: its stored cursor tells that, and
+/// that of a cycle that goes on does not. Whatever is wrong with the cursor, the run says it.
+fn last_cost<R>(rt: &R, task: &Task, scope: &Scope) -> Option<u128>
+where
+    R: Files + AllocGlobal,
+{
+    // A pipe cannot be read again by the run.
+    if !fs::metadata(rt, task.file.as_ref()?.as_str())
+        .ok()?
+        .is_file()
+    {
+        return None;
+    }
+    let mut reader = open_cursor(rt, task).ok()??;
+    let cursor = match scope {
+        Scope::Part(ends) => read_part_cursor(rt.alloc(), &mut reader, ends).ok()?,
+        Scope::Whole | Scope::Branch(_) => read_cursor(rt.alloc(), &mut reader).ok()?,
+    };
+    match cursor.state() {
+        State::Ended => Some(cursor.spent()),
+        State::Start | State::After(_) => None,
+    }
+}
+
 /// Does the deed over its folder. Fails with what is to be said where it cannot begin.
 fn perform_over_folder<R>(
     rt: &R,
@@ -57,7 +82,12 @@ where
     let Ok(folder) = FsTree::at(rt, root_of(task)) else {
         return Err(Note::OutOfMemory);
     };
-    let mut store = Watched::over(rt, folder, is_shown);
+    let last_cost = if is_shown {
+        last_cost(rt, task, scope)
+    } else {
+        None
+    };
+    let mut store = Watched::over(rt, folder, is_shown, last_cost);
     let mut reader = open_cursor(rt, task)?;
     let mut out = Clearing {
         rt,

@@ -27,12 +27,17 @@ def digest(algorithm, data):
     return hashlib.new(algorithm, data).hexdigest()
 
 
-def cpu_of(command):
-    """The CPU seconds, user and system, of a command of the shell; it may fail."""
+def cpu_while(call):
+    """The CPU seconds, user and system, of the processes that a call starts and waits for."""
     before = resource.getrusage(resource.RUSAGE_CHILDREN)
-    subprocess.run(command, shell=True, stdout=subprocess.DEVNULL)
+    call()
     after = resource.getrusage(resource.RUSAGE_CHILDREN)
     return after.ru_utime + after.ru_stime - before.ru_utime - before.ru_stime
+
+
+def cpu_of(command):
+    """The CPU seconds of a command of the shell; it may fail."""
+    return cpu_while(lambda: subprocess.run(command, shell=True, stdout=subprocess.DEVNULL))
 
 
 def audit_of(root):

@@ -10,40 +10,22 @@ usage: parallel.py [MIB [FILES [ROUNDS]]]      4096, 4000 and 3 where they are n
 Build the program first, with ../ocfl-scrub --help. TMPDIR is where the folders are made: /dev/shm,
 if it has the room. Needs GNU parallel.
 """
-import hashlib
-import json
 import os
-import resource
 import shutil
 import subprocess
 import sys
 import tempfile
 import time
 
-TOP = os.path.dirname(os.path.dirname(os.path.abspath(__file__)))
-PROGRAM = os.environ.get("OCFL_SCRUB") or os.path.join(
-    TOP, "crates", "ocfl_scrub_cli", "out", "ocfl_scrub_cli")
-NIGHTLY = os.path.join(TOP, "contrib", "parallel", "nightly")
+import measure
+from contents import make_object
+from measure import PROGRAM, write
+
+CONTRIB = os.path.abspath(os.path.join(measure.HERE, "..", "contrib"))
+NIGHTLY = os.path.join(CONTRIB, "parallel", "nightly")
 HOW = {**os.environ, "OCFL_SCRUB": PROGRAM}
+SIZES = (4096, 4000, 3)
 IN_OBJECT = 20
-
-
-def write(path, data):
-    os.makedirs(os.path.dirname(path), exist_ok=True)
-    with open(path, "wb") as file:
-        file.write(data)
-
-
-def make_object(folder, files, algorithm="sha512"):
-    manifest = {}
-    for path, data in files.items():
-        write(os.path.join(folder, path), data)
-        manifest.setdefault(hashlib.new(algorithm, data).hexdigest(), []).append(path)
-    inventory = json.dumps({"digestAlgorithm": algorithm, "manifest": manifest}).encode()
-    write(folder + "/0=ocfl_object_1.1", b"ocfl_object_1.1\n")
-    write(folder + "/inventory.json", inventory)
-    write("%s/inventory.json.%s" % (folder, algorithm),
-          ("%s inventory.json\n" % hashlib.new(algorithm, inventory).hexdigest()).encode())
 
 
 def make_root(folder, size, count):
@@ -51,9 +33,9 @@ def make_root(folder, size, count):
     write(folder + "/0=ocfl_1.1", b"ocfl_1.1\n")
     block = os.urandom(size)
     for number in range(count // IN_OBJECT):
-        files = {"v1/content/%02d" % file: b"%08d" % (number * IN_OBJECT + file) + block[8:]
-                 for file in range(IN_OBJECT)}
-        make_object("%s/%03d/o-%d" % (folder, number // 10, number), files)
+        files = [("v1/content/%02d" % file, b"%08d" % (number * IN_OBJECT + file) + block[8:])
+                 for file in range(IN_OBJECT)]
+        make_object("%s/%03d/o-%d" % (folder, number // 10, number), "sha512", files)
     return folder
 
 
@@ -85,10 +67,7 @@ def by_xargs(root, jobs):
 
 def used(words, **how):
     """The CPU time of a command, user and system, with that of all that it starts."""
-    before = resource.getrusage(resource.RUSAGE_CHILDREN)
-    timed(words, **how)
-    after = resource.getrusage(resource.RUSAGE_CHILDREN)
-    return after.ru_utime + after.ru_stime - before.ru_utime - before.ru_stime
+    return measure.cpu_while(lambda: timed(words, **how))
 
 
 def median(values):
@@ -119,7 +98,7 @@ def cursor_text(place):
     """A part's cursor after a place."""
     text = ("ocfl-scrub part cursor 1\nfrom start\nbelow end\ncycle 1\nruns 1\nspent 1\nfiles 1\n"
             "after %s\n" % place).encode()
-    return text + ("digest %s\n" % hashlib.sha256(text).hexdigest()).encode()
+    return text + ("digest %s\n" % measure.digest("sha256", text)).encode()
 
 
 def a_run(folder, root, place):
@@ -140,8 +119,8 @@ def make_flat(folder, count):
     write(folder + "/0=ocfl_1.1", b"ocfl_1.1\n")
     for number in range(count):
         os.mkdir("%s/o-%07d" % (folder, number))
-    files = {"v1/content/a": b"a", "v1/content/b": b"b"}
-    make_object("%s/o-%07d" % (folder, count // 2), files)
+    files = [("v1/content/a", b"a"), ("v1/content/b", b"b")]
+    make_object("%s/o-%07d" % (folder, count // 2), "sha512", files)
     return folder
 
 
@@ -152,7 +131,7 @@ def nights_of_a_part(folder, root):
     def night(runs):
         state = folder + "/night"
         shutil.rmtree(state, ignore_errors=True)
-        words = [os.path.join(TOP, "contrib", "nightly"), "--state", state, "--part", "1",
+        words = [os.path.join(CONTRIB, "nightly"), "--state", state, "--part", "1",
                  "--parts", parts, "--budget", "1", "--files", str(runs), "--hours", "1", root]
         return used(words, env=HOW)
 
@@ -163,7 +142,7 @@ def nights_of_a_part(folder, root):
 def join(folder, count=1000000):
     """Joining so many lines: the reading of the parts, the lists of what is gone and of codes, and
     the statement."""
-    reports, write_line = os.path.join(TOP, "contrib", "reports"), folder + "/lines"
+    reports, write_line = os.path.join(CONTRIB, "reports"), folder + "/lines"
     with open(write_line, "w") as file:
         for number in range(count // 10):
             file.write("ok\t%03d/o-%07d\t-\n" % (number // 1000, number))
@@ -201,11 +180,13 @@ def main():
     folder = tempfile.mkdtemp(prefix="ocfl-scrub-bench-")
     try:
         if sys.argv[1:] != ["--pieces"]:
-            walls(folder, *([int(word) for word in sys.argv[1:]] + [4096, 4000, 3][
-                len(sys.argv) - 1:]))
+            given = [int(word) for word in sys.argv[1:]]
+            mib, files, rounds = (*given, *SIZES[len(given):])
+            walls(folder, mib, files, rounds)
         pieces(folder)
     finally:
         shutil.rmtree(folder, ignore_errors=True)
 
 
-main()
+if __name__ == "__main__":
+    main()

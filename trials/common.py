@@ -95,7 +95,7 @@ def end(process, limit=LIMIT):
 
 
 def start(words, before=(), **how):
-    """Starts the program, behind the words of `before`, in a process group of its own."""
+    """Starts the program in a process group of its own, with the words of `before` before it."""
     how = {"stdout": subprocess.PIPE, "stderr": subprocess.PIPE, **how}
     command = [*before, PROGRAM, *words]
     return subprocess.Popen(command, stdin=subprocess.DEVNULL, start_new_session=True, **how)
@@ -117,7 +117,7 @@ def note(text):
 
 
 def expect(name, words, status, items, said):
-    """The status, the items written, and what is said behind the program's name."""
+    """The status, the items written, and what is said after the program's name."""
     return is_so(name, ran(words), (status, "".join(items), note(said)))
 
 
@@ -219,7 +219,7 @@ def nights(run, most=100):
 
 
 class Stopped:
-    """The program, stopped by strace behind a call; it goes on when the block is left.
+    """The program, stopped by strace after a call; it goes on when the block is left.
 
     `ended` is then what `ran` gives, or says that it never stopped there.
     """

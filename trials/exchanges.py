@@ -142,7 +142,7 @@ class Devices:
 
 
 def exchanged(folder, place, exchange):
-    """What comes of a run in which the file is exchanged behind the last look at it."""
+    """What comes of a run in which the file is exchanged after the last look at it."""
     made = os.path.join(folder, place.replace("/", "-"), exchange.__name__)
     root = make_root(os.path.join(made, "root"), {"o": ABC})
     path = os.path.join(root, place)

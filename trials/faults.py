@@ -67,7 +67,7 @@ class Audit:
         is_so(name, got, (1, "".join(items), self.summary(self.sizes[place] - given)))
 
     def is_stopped(self, name, got, place, said=None):
-        """A stop there, behind the items in front of it (an object's own files are its head's)."""
+        """A stop there, after the items before it (an object's own files are its head's)."""
         head, last = os.path.split(place)
         front = head or "." if last.startswith(("0=", "inventory.json")) else place
         said = note(said or "stopped at " + place)
@@ -98,7 +98,7 @@ class Audit:
 
 
 def calls_on(path):
-    """What has strace see the calls on a path alone; directories are opened with a slash behind."""
+    """What has strace see the calls on a path alone; directories are opened with a final slash."""
     return ["-P", path, "-P", path + "/"] if os.path.isdir(path) else ["-P", path]
 
 

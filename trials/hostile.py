@@ -282,7 +282,7 @@ def wide(folder):
 
 
 def changing(folder):
-    """A file that grows or shrinks behind its first block: its digest is that of what was read."""
+    """A file grows or shrinks after its first block was read: its digest is of what was read."""
     data = os.urandom(200_000)
     for name, change, read in [
         ("grows", lambda file: file.write(b"more"), data + b"more"),
@@ -300,12 +300,12 @@ def changing(folder):
 
 
 def going(folder):
-    """Content that goes away: behind its opening it is read, and behind its listing unread."""
+    """Content that goes away: once it is opened it is read, and once it is listed it is unread."""
     unread = OK[:2] + [line("S08", "o/v1/content/f")]
     # the second call of a listing finds its end
     for name, where, call, when, status, items in [
-        ("behind its opening", "o/v1/content/f", "openat", 1, 0, OK),
-        ("behind its listing", "o/v1/content", "getdents64", 2, 1, unread),
+        ("once it is opened", "o/v1/content/f", "openat", 1, 0, OK),
+        ("once it is listed", "o/v1/content", "getdents64", 2, 1, unread),
     ]:
         root = make_root(os.path.join(folder, name), {"o": ABC})
         rules = ["-P", os.path.join(root, where)]

@@ -111,7 +111,7 @@ def small_and_large(folder):
 
 
 def too_small(folder):
-    """Under limits of address space: the program ends well, or stops behind what it reported."""
+    """Under limits of address space: the program ends well, or stops after what it reported."""
     root, items = small_and_large(folder)
     file = os.path.join(folder, "cursor")
     run = ["run", "--cursor", file, "--budget", "1G", root]
@@ -146,7 +146,7 @@ def low_object_first(folder):
     items = "".join([line("ok", "."), line("ok", "a"), line("ok", "a/v1/content/f", 3)])
     is_so("an inventory is too large", (status, out, said), (3, items, note("out of memory")))
     shown = "cycle 1\nruns 1\nspent 4\nfiles 1\nafter a/v1/content/f\n"
-    is_so("the cursor is behind the small object", shown_cursor(file), shown)
+    is_so("the cursor is after the small object", shown_cursor(file), shown)
     rest = line("ok", "b") + line("ok", "b/v1/content/f", 3)
     is_so("with room it goes on", ran(run), (0, rest, note("cycle 1, run 2, cost 4, ended")))
 

@@ -81,7 +81,7 @@ def head(folder):
 
 
 def failing_write(folder):
-    """A write fails at each line: the items before it went out, and the run goes on behind them."""
+    """A write fails at each line: the items before it went out, and the run goes on after them."""
     for error in ["ENOSPC", "EPIPE", "EIO"]:
         for number in range(len(ITEMS)):
             name = "%s at line %d" % (error, number + 1)
@@ -219,7 +219,7 @@ def failing_file(folder):
 
 
 def synced_file(folder):
-    """The text is synced before it is put in place, and its folder behind that."""
+    """The text is synced before it is put in place, and its folder after that."""
     case = Case(folder, "synced")
     log = os.path.join(folder, "synced-log")
     calls = "trace=fsync,fdatasync,rename,renameat,renameat2"

@@ -234,7 +234,7 @@ def values(text):
 
 
 def expression(rule, rules):
-    """The regular expression of what stands behind a rule's name in ABNF."""
+    """The regular expression of what a rule of ABNF has after its name."""
     made, repeat, held = "", "", []
     for token in TOKEN.findall(rule):
         if token == "/":

@@ -15,7 +15,7 @@ from shared.states import (CONTRIB, LINES, State, is_finding, line, ran, read, t
 
 
 def status(state, *words, now="2026-03-10T05:00:00Z"):
-    """The status, the words before the bar, and the figures behind it."""
+    """The status, the words before the bar, and the figures after it."""
     given, out, said = ran([CONTRIB + "/status", "--now", now, *words, state.path])
     first = out.split("\n")[0]
     return given, first.split(" | ")[0], first.split(" | ")[-1].split() if " | " in first else said

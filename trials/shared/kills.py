@@ -43,13 +43,13 @@ class Cycle:
     def moved(self, name, stored, before, written):
         """After a killed run: whether it left another cursor; what it wrote fits either way."""
         if self.stored() == stored:
-            # it may have been killed behind any item
+            # it may have been killed after any item
             ends = range(before, len(self.items) + 1)
             beginnings = ["".join(self.items[before:end]) for end in ends]
             is_so(name, written in beginnings, True)
             return False
         after = len(self.items) if self.has_ended() else self.behind()
-        is_so(name + ", behind the run", written, "".join(self.items[before:after]))
+        is_so(name + ", after the run", written, "".join(self.items[before:after]))
         return True
 
 

@@ -8,8 +8,8 @@ import shutil
 import subprocess
 
 import common
-from common import PROGRAM, TOP, digest
-from shared.nights import CONTRIB, Nights, ran, read, write
+from common import PROGRAM, TOP
+from shared.nights import CONTRIB, Nights, ask, ran, read, write
 
 # A name that is not UTF-8 keeps a directory from being listed, for root too.
 ODD = b"\xff"
@@ -77,7 +77,7 @@ def audit(root):
 def without(report, place):
     """The lines of a report but those of a branch."""
     return "".join(line for line in report.splitlines(True)
-                   if (line.split("\t")[1] + "/").startswith(place + "/") is False)
+                   if not (line.split("\t")[1] + "/").startswith(place + "/"))
 
 
 def findings(report):
@@ -118,12 +118,11 @@ def told_in(said):
 
 
 def is_stated(name, nights, report):
-    from shared.nights import ask
     file = "reports/statement-" + report.split("-")[1]
     return common.is_so(name, ask("verify-statement", nights.path(file)),
                         (0, "%s is what %s says\n" % (nights.path("reports/" + report), file[8:]),
                          ""))
 
 
-__all__ = ["Place", "Together", "add_content", "audit", "digest", "findings", "is_stated",
-           "make_root", "told_in", "without"]
+__all__ = ["Place", "Together", "add_content", "audit", "findings", "is_stated", "make_root",
+           "told_in", "without"]

@@ -115,9 +115,10 @@ def a_run(folder, root, place):
 
 
 def make_flat(folder, count):
-    """A flat root of so many names, of which one in the middle is an object."""
+    """A flat root of so many names, its declaration one of them; an object is in the middle. More
+    than 1,000,000 would stop a run."""
     write(folder + "/0=ocfl_1.1", b"ocfl_1.1\n")
-    for number in range(count):
+    for number in range(count - 1):
         os.mkdir("%s/o-%07d" % (folder, number))
     files = [("v1/content/a", b"a"), ("v1/content/b", b"b")]
     make_object("%s/o-%07d" % (folder, count // 2), "sha512", files)

@@ -34,21 +34,6 @@ def make_object(folder, directories, files, listed):
     write(os.path.join(folder, "inventory.json.sha512"), sidecar.encode())
 
 
-def peak_of(root):
-    """The peak of the program's memory in MiB; `ru_maxrss` would count that of this script too."""
-    peak = 0
-    process = subprocess.Popen([measure.PROGRAM, "audit", root], stdout=subprocess.PIPE)
-    for _ in iter(lambda: process.stdout.read1(1 << 16), b""):
-        try:
-            with open("/proc/%d/status" % process.pid) as status:
-                found = [line.split()[1] for line in status if line.startswith("VmHWM:")]
-        except OSError:
-            continue
-        peak = max([peak, *map(int, found)])
-    process.wait()
-    return peak / 1024
-
-
 def measured(title, root, files, against):
     """The rows of one folder: one for each command that it is measured against."""
     list_file = root + ".list"
@@ -59,7 +44,7 @@ def measured(title, root, files, against):
     own, *others = measure.bests(measure.ROUNDS,
                                  *(lambda it=it: measure.cpu_of(it) for it in commands))
     os.remove(list_file)
-    peak = peak_of(root)
+    peak = measure.peak_of(measure.audit_of(root))
     for (command, wanted), other in zip(against, others):
         shown = command.replace("|", "\\|")
         row = (title, own * 1e6 / files, shown, own / other, measure.said(wanted), peak)

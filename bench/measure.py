@@ -1,4 +1,5 @@
-"""What the scripts of this folder share: the program, CPU times, folders that they make, and rows.
+"""What the scripts of this folder share: the program, CPU times, peaks of memory, folders that they
+make, and rows.
 
 Folders are made below TMPDIR. A row that has a ratio is written into the file that
 OCFL_BENCH_ROWS names too, for `bench/run`: its table, its name, the ratio and what is wanted.
@@ -38,6 +39,17 @@ def cpu_while(call):
 def cpu_of(command):
     """The CPU seconds of a command of the shell; it may fail."""
     return cpu_while(lambda: subprocess.run(command, shell=True, stdout=subprocess.DEVNULL))
+
+
+def peak_of(command):
+    """The peak of resident memory, in MiB, of a command that the shell becomes (`exec`).
+    `ru_maxrss` would count that of this script too."""
+    peak, process = 0, subprocess.Popen(command, shell=True, stdout=subprocess.DEVNULL)
+    while process.poll() is None:
+        with open("/proc/%d/status" % process.pid) as status:
+            found = [line.split()[1] for line in status if line.startswith("VmHWM:")]
+        peak = max([peak, *map(int, found)])
+    return peak / 1024
 
 
 def audit_of(root):

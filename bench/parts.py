@@ -22,22 +22,15 @@ PARTS = 100
 SUM = "awk '{ s += $3 } END { print s }' "
 
 
-def peak_of(command):
-    """The peak of a command's memory, in MiB."""
-    timed = ["/usr/bin/env", "python3", "-c", "import resource, subprocess, sys; "
-             "subprocess.run(sys.argv[1], shell=True, stdout=subprocess.DEVNULL); "
-             "print(resource.getrusage(resource.RUSAGE_CHILDREN).ru_maxrss)", command]
-    return int(subprocess.run(timed, capture_output=True, text=True).stdout) / 1024
-
-
 def row(name, own, other, wanted):
     ratio = own / other
     print("| %s | %.2f | %.2f | %.2f | %s |" % (name, own, other, ratio, measure.said(wanted)),
           flush=True)
-    measure.note("parts", name, ratio, wanted)
+    measure.note("parts", name.replace("`", ""), ratio, wanted)
 
 
 def all_parts(folder):
+    """The row of all parts; gives the peaks of memory, as text."""
     root, parts = runs.make_root(os.path.join(folder, "root"), 4), os.path.join(folder, "parts")
     subprocess.run("%s split --parts %d %s > %s" % (measure.PROGRAM, PARTS, root, parts),
                    shell=True, check=True)
@@ -46,8 +39,8 @@ def all_parts(folder):
     own, other = measure.bests(measure.ROUNDS, lambda: sum(map(measure.cpu_of, each)),
                                lambda: measure.cpu_of(measure.audit_of(root)))
     row("100 parts of 10,000 objects, to one audit", own, other, 1.1)
-    print("\nThe peak of a part's memory is %.1f MiB, that of the audit %.1f.\n"
-          % (max(map(peak_of, each[::20])), peak_of(measure.audit_of(root))))
+    return "The peak of a part's memory is %.1f MiB, that of the audit %.1f." % (
+        max(map(measure.peak_of, each[::20])), measure.peak_of(measure.audit_of(root)))
 
 
 def by_listing(folder):
@@ -66,11 +59,12 @@ def by_listing(folder):
         measure.ROUNDS, lambda: measure.cpu_of("exec %s split --parts 100000 %s"
                                                % (measure.PROGRAM, root)),
         lambda: measure.cpu_of("find %s -mindepth 1 -maxdepth 2" % root))
-    row("split into 100,000, to find over the same levels", own, other, 1.2)
+    row("split into 100,000, to `find` over the same levels", own, other, 1.2)
     shutil.rmtree(root)
 
 
 def by_cost(folder, lines):
+    """The row of a report that is split by cost; gives the peak of memory, as text."""
     report = os.path.join(folder, "report")
     with open(report, "w") as file:
         for number in range(lines):
@@ -78,18 +72,18 @@ def by_cost(folder, lines):
     command = "exec %s split --budget 10M --report %s" % (measure.PROGRAM, report)
     own, other = measure.bests(1, lambda: measure.cpu_of(command),
                                lambda: measure.cpu_of(SUM + report))
-    row("split a report of {:,} lines by cost, to awk".format(lines), own, other, 2)
-    print("\nThe peak of its memory is %.1f MiB." % peak_of(command))
+    row("split a report of {:,} lines by cost, to `awk`".format(lines), own, other, 2)
+    return "Splitting by cost has a peak of %.1f MiB." % measure.peak_of(command)
 
 
 def main():
     lines = int(sys.argv[1]) if len(sys.argv) > 1 else 10000000
     folder = tempfile.mkdtemp(prefix="ocfl-scrub-bench-")
     try:
-        measure.head("parts", "seconds", "against", "ratio", "wanted")
-        all_parts(folder)
+        measure.head("CPU time", "ocfl-scrub", "the other", "ratio", "wanted")
+        peaks = all_parts(folder)
         by_listing(folder)
-        by_cost(folder, lines)
+        print("\n%s %s" % (peaks, by_cost(folder, lines)))
     finally:
         shutil.rmtree(folder)
 

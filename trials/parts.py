@@ -543,6 +543,10 @@ def faulty_reports(folder):
     write(file, (good + line("E092", "p", "sha256 missing") + line("E093", "p", "md5 missing")
                  + line("ok", "q", 0) + line("ok", "r", 0)).encode())
     expect("two lines of one place", split, 0, ["q\n", "r\n"], None)
+    path = "o/v1/content/%s" % ("long" * 50)
+    write(file, "".join(line("ok", path + "%05d" % number, 1)
+                        for number in range(90000)).encode())
+    expect("separators that are too long", split, 2, [], "too many parts")
 
 
 def tell(folder):

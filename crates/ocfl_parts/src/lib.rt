@@ -8,7 +8,7 @@ mod separators;
 mod splitting;
 mod writing;
 
-pub use reading::{PartsStop, read_parts};
+pub use reading::{MAX_BYTES, PartsStop, read_parts};
 pub use separators::{PushStop, Separators};
 pub use splitting::{SplitStop, split_by};
 pub use writing::put_parts;

@@ -13,7 +13,7 @@ use std::io::{ErrorKind, Read};
 use thiserror::Error;
 
 /// How many bytes the text of separators has at most.
-const MAX_BYTES: usize = 16_777_216;
+pub const MAX_BYTES: usize = 16_777_216;
 
 /// How many separators it has at most.
 const MAX_PARTS: usize = 100_000;

@@ -14,7 +14,7 @@ pub(crate) fn folder_of(file: &str) -> &str {
     }
 }
 
-/// A folder's own path, and `None` where it is not found.
+/// A folder's own path. `None` where it cannot be resolved.
 fn path_of<R: Files + AllocGlobal>(rt: &R, folder: &str) -> io::Result<Option<PathBuf>> {
     match fs::canonicalize(rt, folder) {
         Ok(path) => Ok(Some(path)),
@@ -23,8 +23,8 @@ fn path_of<R: Files + AllocGlobal>(rt: &R, folder: &str) -> io::Result<Option<Pa
     }
 }
 
-/// Whether a file lies in a storage root, or would. Where one of the two folders is not found, it
-/// does not.
+/// Whether a file lies in a storage root, or would. Where one of the two folders cannot be resolved,
+/// it does not.
 pub(crate) fn lies_inside<R>(rt: &R, file: &str, root: &str) -> io::Result<bool>
 where
     R: Files + AllocGlobal,
@@ -48,7 +48,7 @@ pub(crate) fn open_if_there<R: Files>(rt: &R, file: &str) -> io::Result<Option<R
 }
 
 fn write_synced<R: Files>(rt: &R, file: &str, text: &[u8]) -> io::Result<()> {
-    // What a killed run left is no part of this one, and what is linked there is not written to.
+    // Removes what a killed run left, and does not write through a link there.
     let _ = fs::remove_file(rt, file);
     let mut made = File::create_new(rt, file)?;
     made.write_all(text)?;
@@ -62,12 +62,12 @@ where
     R: Files + AllocGlobal,
 {
     let beside = format!(in rt.alloc(); "{file}.new")?;
-    let written = write_synced(rt, beside.as_str(), text);
-    if written.is_err() {
+    let placed = write_synced(rt, beside.as_str(), text)
+        .and_then(|()| fs::rename(rt, beside.as_str(), file));
+    if placed.is_err() {
         let _ = fs::remove_file(rt, beside.as_str());
-        return written;
+        return placed;
     }
-    fs::rename(rt, beside.as_str(), file)?;
     // Not every system can sync a folder; the file is whole without it.
     if let Ok(folder) = File::open(rt, folder_of(file)) {
         let _ = folder.sync_all();

@@ -184,7 +184,7 @@ impl<'a, R: AllocGlobal + Eprint, T: Drop> Watched<'a, R, T> {
     }
 }
 
-/// It does what the store below it does, and tells what that tells.
+/// Does what the inner store does, with the same contract.
 impl<R: AllocGlobal + Eprint, T: Tree + Drop> Tree for Watched<'_, R, T> {
     ghost told = { T.told };
 

@@ -4,7 +4,8 @@ use ocfl_parts::{PartsStop, SplitStop};
 use ocfl_scrub::Note;
 use thiserror::Error;
 
-/// The exit status of a command line that is not understood, or asks for what is not there.
+/// The exit status of a bad command line, path, part number, separators or report, and of a
+/// cursor's file inside the storage root.
 pub(crate) const USAGE: u8 = 2;
 
 /// The exit status where a command stopped.
@@ -25,6 +26,9 @@ pub(crate) enum Stop {
     /// The report was not split.
     #[error("{0}")]
     Report(SplitStop),
+    /// The separators' text would be longer than is read again.
+    #[error("too many parts")]
+    TooLong,
     /// What any command may stop for.
     #[error("{0}")]
     Stopped(Note),
@@ -34,7 +38,7 @@ impl Stop {
     /// The exit status.
     pub(crate) fn status(&self) -> u8 {
         match self {
-            Stop::BadPath | Stop::NoSuchPart => USAGE,
+            Stop::BadPath | Stop::NoSuchPart | Stop::TooLong => USAGE,
             Stop::Parts(PartsStop::Line(_) | PartsStop::Long) => USAGE,
             Stop::Report(SplitStop::Line(_) | SplitStop::Many) => USAGE,
             Stop::Parts(_) | Stop::Report(_) | Stop::Stopped(_) => STOPPED,

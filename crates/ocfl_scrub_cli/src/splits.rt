@@ -4,7 +4,7 @@ use crate::saying::{Stop, say_stop};
 use ocfl_folder::FsTree;
 use ocfl_item::Fault;
 use ocfl_line::Split;
-use ocfl_parts::{Separators, SplitStop, put_parts, split_by};
+use ocfl_parts::{MAX_BYTES, Separators, SplitStop, put_parts, split_by};
 use ocfl_report::write_all_of;
 use ocfl_scrub::Note;
 use ocfl_split::split;
@@ -62,11 +62,14 @@ fn report_stop(error: &io::Error) -> SplitStop {
     }
 }
 
-/// Writes the text of separators to standard output.
+/// Writes the text of separators to standard output. Refuses a text that could not be read again.
 fn write_separators<R: AllocGlobal + Print>(rt: &R, separators: &Separators) -> Result<(), Stop> {
     let mut text = Vec::new(rt.alloc());
     if put_parts(separators, &mut text).is_err() {
         return Err(Stop::Stopped(Note::OutOfMemory));
+    }
+    if text.len() > MAX_BYTES {
+        return Err(Stop::TooLong);
     }
     match write_all_of(&mut io::writer(rt), &text) {
         Ok(()) => Ok(()),

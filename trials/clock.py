@@ -109,7 +109,10 @@ def usage(folder):
     for words in [["--until", "6"], ["--until", "24:00"], ["--hours", "x"], ["--hours", "1.2.3"],
                   ["--until", "06:00", "--hours", "1"], ["--hours", "1", "--grace", "x"]]:
         is_so("usage: " + " ".join(words), clock.night(None, *words)[0:2], (2, ""))
-    is_so("a budget that is none", clock.night("10k", "--hours", "1")[0], 2)
+    for budget in ["0", "10x", "10Ki", "10B", "1.5G", "+10", "K"]:
+        is_so("no budget: " + budget, clock.night(budget, "--hours", "1")[0], 2)
+    for files in ["0", "10x", "10Ki", "+10", "K"]:
+        is_so("no number of files: " + files, clock.night("10", "--files", files)[0], 2)
     is_so("nothing is there", os.path.exists(clock.nights.path("cursor")), False)
     is_so("a night without a budget", clock.night(None, "--hours", "1")[0], 0)
     is_so("has one of 20G", clock.nights.rows("began")[0][6], "budget 20G")

@@ -19,21 +19,26 @@ read_end() {
     esac
     end=$(($(seconds_now) + $(awk -v hours="$hours" 'BEGIN { printf "%.0f", hours * 3600 }')))
   fi
-  [ -z "$end" ] || [ "$(bytes_of "$budget")" -gt 0 ] || {
+  [ -z "$end" ] || [ "$(size_of "$budget")" -gt 0 ] || {
     complaint="--budget needs a number like 20G"
     return 1
   }
 }
 
-# A budget in bytes; 0 where it is none.
-bytes_of() {
-  printf '%s\n' "$1" | awk '
-    /^[0-9]+[KMGT]?$/ {
-      bytes = $0 + 0
+# The number that a size says, as ocfl-scrub reads it: 20G, 20GiB, 20GB. 0 where it is none.
+size_of() {
+  printf '%s\n' "$1" | LC_ALL=C awk '
+    tolower($0) ~ /^[0-9]+([kmgt](i?b)?)?$/ {
+      size = $0 + 0
+      unit = tolower($0)
+      sub(/^[0-9]+/, "", unit)
+      base = length(unit) == 2 ? 1000 : 1024
       # Not each awk knows powers.
-      for (power = index("KMGT", substr($0, length($0))); power > 0; power--) bytes *= 1024
+      power = unit == "" ? 0 : index("kmgt", substr(unit, 1, 1))
+      for (; power > 0; power--) size *= base
+      if (size > 4611686018427387904) size = 0
     }
-    END { printf "%.0f\n", bytes }'
+    END { printf "%.0f\n", size }'
 }
 
 # How many bytes the last runs read in a second, or 0 where that is not known.
@@ -55,5 +60,5 @@ next_slice() {
   left=$((end - $(seconds_now)))
   [ "$left" -gt 0 ] || return 1
   fits=$(($(rate) * left))
-  if [ "$fits" -gt 0 ] && [ "$fits" -lt "$(bytes_of "$budget")" ]; then slice=$fits; fi
+  if [ "$fits" -gt 0 ] && [ "$fits" -lt "$(size_of "$budget")" ]; then slice=$fits; fi
 }

@@ -1,4 +1,4 @@
 pub mod Commands
 pub mod Numbers
-pub mod Suffixes
+pub mod Units
 pub mod Stops

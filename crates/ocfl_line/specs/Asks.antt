@@ -3,9 +3,8 @@ use Rattle.std.specs.Prelude.{◌≡◌, ◌↔◌, ℕ, ◌≤◌, List, Option
 use Rattle.std.specs.declared.alloc.Global.{Global}
 use Rattle.std.specs.Str.Parse.{IsNumeral, digits_value, without_leading_plus}
 use Rattle.clap.specs.Words.{Row, Text, first_of, one_of}
-use Rattle.ocfl_cursor.specs.Limits.{IsFileLimit}
 use Rattle.ocfl_cursor.specs.declared.limits.Limits.{Limits}
-use Rattle.ocfl_line.specs.Budget.{IsBudgetText}
+use Rattle.ocfl_line.specs.Budget.{IsSizeText}
 use Rattle.ocfl_line.specs.Line.{most_parts, most_runs, most_split}
 use Rattle.ocfl_deed.specs.declared.deed.Deed.{Deed}
 use Rattle.ocfl_deed.specs.declared.deed.Deed.TheVariants.{Audit, Run, Cycle, Check, Show}
@@ -33,11 +32,14 @@ HasText id rows s = first_of id rows ≡ Some (string_bytes s)
 abbrev pub HasNumber : Text → List Row → ℕ → Type 0
 HasNumber id rows n = IsSomeAnd (one_of id rows) (IsNumberText n)
 
+-- the size that the text of an option writes
+abbrev pub HasSize : Text → List Row → ℕ → Type 0
+HasSize id rows n = IsSomeAnd (first_of id rows) (λ t. IsSizeText t n)
+
 -- the limits of a run
 pub record HasLimits (rows : List Row) (limits : Limits) : Type 0 where
-  pub budget : IsSomeAnd (first_of (codes "budget") rows) (λ t. IsBudgetText t limits.budget)
-  pub files : HasNumber (codes "files") rows limits.files
-  pub some : IsFileLimit limits.files
+  pub budget : HasSize (codes "budget") rows limits.budget
+  pub files : HasSize (codes "files") rows limits.files
 
 -- the number of an option, from 1 up to this one
 pub record HasCount (id : Text) (most : ℕ) (rows : List Row) (n : ℕ) : Type 0 where
@@ -83,7 +85,7 @@ pub record IsTask (name : Text) (rows : List Row) (t : Task) : Type 0 where
 abbrev pub IsSplit : List Row → Split → Type 0
 IsSplit rows (Listing count root) = HasCount (codes "count") most_split rows count × HasText (codes "root") rows root
     × IsLeftOut (codes "budget") rows × IsLeftOut (codes "report") rows
-IsSplit rows (Report budget report) = IsSomeAnd (first_of (codes "budget") rows) (λ t. IsBudgetText t budget)
+IsSplit rows (Report budget report) = HasSize (codes "budget") rows budget
     × HasText (codes "report") rows report × IsLeftOut (codes "count") rows × IsLeftOut (codes "root") rows
 
 -- what the subcommand of this name and its matches ask for

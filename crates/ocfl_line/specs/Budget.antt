@@ -1,26 +1,40 @@
--- The text of a budget.
-use Rattle.std.specs.Prelude.{◌≡◌, ℕ, ◌*◌, ◌-◌, ◌^◌, ◌==◌, length, take, slice_index, if◌then◌else◌}
+-- The text of a size: of a budget, or of the most files of a run.
+use Rattle.std.specs.Prelude.{◌≡◌, ℕ, ◌*◌, ◌^◌, ◌∷◌, List, [], Option, Some, None, IsSomeAnd, codes, drop, if◌then◌else◌}
+use Rattle.std.specs.Char.{is_ascii_digit}
+use Rattle.std.specs.List.{prefix_len, take_while}
+use Rattle.std.specs.Str.{str_eq_ignore_ascii_case}
 use Rattle.std.specs.Str.Parse.{IsNumeral, digits_value}
 use Rattle.clap.specs.Words.{Text}
 use Rattle.ocfl_cursor.specs.Limits.{IsBudget}
 
--- what the suffixes K, M, G and T multiply by, and 1 for what is none of them
-abbrev pub unit_by : ℕ → ℕ
-unit_by c = if c == 75 then 2 ^ 10
-    else (if c == 77 then 2 ^ 20
-    else (if c == 71 then 2 ^ 30
-    else (if c == 84 then 2 ^ 40 else 1)))
+-- the units, and what each multiplies by; the first is that of digits alone
+abbrev pub units : List (Text × ℕ)
+units = (codes "", 1)
+    ∷ (codes "K", 2 ^ 10) ∷ (codes "KiB", 2 ^ 10) ∷ (codes "kB", 10 ^ 3)
+    ∷ (codes "M", 2 ^ 20) ∷ (codes "MiB", 2 ^ 20) ∷ (codes "MB", 10 ^ 6)
+    ∷ (codes "G", 2 ^ 30) ∷ (codes "GiB", 2 ^ 30) ∷ (codes "GB", 10 ^ 9)
+    ∷ (codes "T", 2 ^ 40) ∷ (codes "TiB", 2 ^ 40) ∷ (codes "TB", 10 ^ 12)
+    ∷ []
 
--- what the last character of a text multiplies by
-abbrev pub unit_of : Text → ℕ
-unit_of t = unit_by (slice_index t (length t - 1))
+-- what stands beside a text in a table, where capitals and small letters are alike
+abbrev pub beside : List (Text × ℕ) → Text → Option ℕ
+beside [] t = None
+beside (row ∷ rows) t = if str_eq_ignore_ascii_case t row.0 then Some row.1 else beside rows t
 
--- the text without its suffix
+-- what a unit multiplies by, where the text is one
+abbrev pub unit_size : Text → Option ℕ
+unit_size = beside units
+
+-- the digits that a text begins with
 abbrev pub digits_of : Text → Text
-digits_of t = if unit_of t == 1 then t else take (length t - 1) t
+digits_of = take_while is_ascii_digit
 
--- the text writes this budget: decimal digits alone, or with one suffix behind them
-pub record IsBudgetText (t : Text) (n : ℕ) : Type 0 where
+-- what stands behind them
+abbrev pub unit_of : Text → Text
+unit_of t = drop (prefix_len is_ascii_digit t) t
+
+-- the text writes this size: decimal digits, at least one, and one of the units behind them
+pub record IsSizeText (t : Text) (n : ℕ) : Type 0 where
   pub numeral : IsNumeral 10 (digits_of t)
-  pub value : n ≡ digits_value 10 (digits_of t) * unit_of t
+  pub value : IsSomeAnd (unit_size (unit_of t)) (λ size. n ≡ digits_value 10 (digits_of t) * size)
   pub range : IsBudget n

@@ -10,9 +10,6 @@ use Rattle.clap.specs.declared.builder.value_parser.ValueParser.TheVariants as v
 use Rattle.ocfl_line.specs.declared.command.Argument.{Argument}
 use Rattle.ocfl_line.specs.declared.command.Argument.TheVariants.{Root, Path, File, Cursor, Budget, Files, Runs, Quiet, Under, Parts, Part, Count, AnyRoot, AnyBudget, Report}
 
-abbrev pub most_files : ℕ
-most_files = 4611686018427387904
-
 abbrev pub most_runs : ℕ
 most_runs = 100000
 
@@ -41,16 +38,16 @@ file_rule = needed_rule (codes "file")
 abbrev pub cursor_rule : Rule
 cursor_rule = record file_rule { long = Some (codes "cursor") }
 
--- a text, which `IsBudgetText` reads
+-- a text, which `IsSizeText` reads
 abbrev pub budget_rule : Rule
 budget_rule = record (needed_rule (codes "budget")) { long = Some (codes "budget") }
 
+-- a text too, by default the most files that there may be
 abbrev pub files_rule : Rule
 files_rule = record (new_rule (codes "files")) {
   long = Some (codes "files");
   value_names = 1;
   defaults = codes "4611686018427387904" ∷ [];
-  parser = Some (vp.Unsigned 1 most_files);
 }
 
 abbrev pub runs_rule : Rule

@@ -1,17 +1,16 @@
 //! Reading a command line, or saying why it asks for nothing.
-ghost use Rattle.std.specs.Prelude.{◌≡◌, [], IfOk, IfErr, OnErr, map};
+ghost use Rattle.std.specs.Prelude.{◌≡◌, [], IfOk, IfErr, map};
 ghost use Rattle.clap.specs.Words.{fault_of, subcommand_of};
 ghost use Rattle.ocfl_line.specs.Line.{IsCommand, line_app};
 ghost use Rattle.ocfl_line.specs.Asks.{Asks};
-ghost use Rattle.ocfl_line.specs.Stop.{AsksNothing, StopsRightly};
+ghost use Rattle.ocfl_line.specs.Stop.{StopsRightly};
 
 use crate::command::line_command;
-use crate::complaint::{Complaint, find_complaint};
+use crate::complaint::usage_error;
 use crate::reading::asked_by;
 use crate::stop::LineStop;
 use crate::task::Asked;
 use clap::Command;
-use clap::error::ErrorKind;
 use std::alloc::Global;
 use std::convert::AsStr;
 
@@ -27,11 +26,11 @@ pub fn asked<'a, S: AsStr>(alloc: Global, words: &'a [S]) -> Result<Asked, LineS
     ensures stop { IfErr result (StopsRightly (map S.text words.entry.now)) }
 {
     let mut command = line_command(alloc)?;
-    asked_of(alloc, &mut command, words)
+    read_words(alloc, &mut command, words)
 }
 
 /// The same, of the command that reads the words.
-fn asked_of<'a, S: AsStr>(
+fn read_words<'a, S: AsStr>(
     alloc: Global,
     command: &mut Command<'a>,
     words: &'a [S],
@@ -41,32 +40,9 @@ fn asked_of<'a, S: AsStr>(
     ensures faultless { IfOk result (λ _. fault_of line_app (map S.text words.entry.now) ≡ []) }
     ensures stop { IfErr result (StopsRightly (map S.text words.entry.now)) }
 {
-    match read_words(alloc, command, words)? {
-        Ok(asked) => Ok(asked),
-        Err(complaint) => {
-            let error = command.error(ErrorKind::ValueValidation, complaint.text())?;
-            Err(LineStop::Usage(error))
-        }
-    }
-}
-
-/// What the words ask for, or what is wrong where `clap` finds no fault in them and they ask for
-/// nothing.
-fn read_words<'a, S: AsStr>(
-    alloc: Global,
-    command: &mut Command<'a>,
-    words: &'a [S],
-) -> Result<Result<Asked, Complaint>, LineStop>
-    requires { IsCommand line_app command.old }
-    ensures found { IfOk result (λ read.
-        IfOk read (Asks (subcommand_of line_app (map S.text words.entry.now)))) }
-    ensures missing { IfOk result (λ read. OnErr read (AsksNothing (map S.text words.entry.now))) }
-    ensures faultless { IfOk result (λ _. fault_of line_app (map S.text words.entry.now) ≡ []) }
-    ensures stop { IfErr result (StopsRightly (map S.text words.entry.now)) }
-{
     let matches = command.try_get_matches_from_mut(words)?;
     match asked_by(alloc, &matches)? {
-        Some(asked) => Ok(Ok(asked)),
-        None => Ok(Err(find_complaint(&matches))),
+        Some(asked) => Ok(asked),
+        None => Err(LineStop::Usage(usage_error(alloc, &matches)?)),
     }
 }

@@ -1,52 +1,83 @@
-//! The text of a budget: digits, with or without a unit.
-ghost use Rattle.std.specs.Prelude.{◌≡◌, ℕ, IfSome, IsNone};
-ghost use Rattle.ocfl_line.specs.Budget.{IsBudgetText, digits_of, unit_of};
+//! The text of a size: of a budget, or of the most files of a run.
+ghost use Rattle.std.specs.Prelude.{◌≡◌, ℕ, IfSome, IsNone, map, take, drop};
+ghost use Rattle.std.specs.Char.{is_ascii_digit};
+ghost use Rattle.std.specs.List.{prefix_len};
+ghost use Rattle.ocfl_line.specs.Budget.{IsSizeText, beside, digits_of, unit_of};
+ghost use Rattle.ocfl_line.specs.Budget.{unit_size as size_of_unit};
 
 use ocfl_cursor::Budget;
 
-/// The number in front of a suffix, as text, and what the suffix multiplies it by.
-fn split_unit(text: &str) -> (&str, u64)
-    ensures digits { result.0.now ≡ digits_of text.now }
-    ensures unit { result.1 ≡ unit_of text.now }
+/// The units, and what each multiplies by; the first is that of digits alone.
+const UNITS: &[(&str, u64)] = &[
+    ("", 1),
+    ("K", 1 << 10),
+    ("KiB", 1 << 10),
+    ("kB", 1000),
+    ("M", 1 << 20),
+    ("MiB", 1 << 20),
+    ("MB", 1000000),
+    ("G", 1 << 30),
+    ("GiB", 1 << 30),
+    ("GB", 1000000000),
+    ("T", 1 << 40),
+    ("TiB", 1 << 40),
+    ("TB", 1000000000000),
+];
+
+/// What a unit of this table multiplies by. `None` where the text is none of them.
+fn find_unit(units: &[(&str, u64)], text: &str) -> Option<u64>
+    ensures { result ≡ beside (map (λ row. (row.0.now, row.1)) units.now) text.now }
 {
-    if let Some(digits) = text.strip_suffix('K') {
-        return (digits, 1 << 10);
+    for &(unit, size) in units {
+        if text.eq_ignore_ascii_case(unit) {
+            return Some(size);
+        }
     }
-    if let Some(digits) = text.strip_suffix('M') {
-        return (digits, 1 << 20);
-    }
-    if let Some(digits) = text.strip_suffix('G') {
-        return (digits, 1 << 30);
-    }
-    if let Some(digits) = text.strip_suffix('T') {
-        return (digits, 1 << 40);
-    }
-    (text, 1)
+    None
 }
 
-/// The budget that a text writes: 1 to 2^62, as digits or with one suffix K, M, G or T, which
-/// multiplies by 2^10, 2^20, 2^30 or 2^40. `None` where it writes no budget.
+/// What a unit multiplies by, in capitals or small letters. `None` where the text is no unit.
+fn unit_size(text: &str) -> Option<u64>
+    ensures { result ≡ size_of_unit text.now }
+{
+    find_unit(UNITS, text)
+}
+
+/// How many digits a text begins with.
+fn count_digits(text: &[u8]) -> usize
+    ensures { result ≡ prefix_len is_ascii_digit text.now }
+{
+    text.iter().take_while(|byte| byte.is_ascii_digit()).count()
+}
+
+/// The digits that a text begins with, and what stands behind them.
+fn split_digits(text: &str) -> (&str, &str)
+    ensures digits { result.0.now ≡ digits_of text.now }
+    ensures unit { result.1.now ≡ unit_of text.now }
+{
+    text.split_at(count_digits(text.as_bytes()))
+}
+
+/// The budget that a text writes, as `read_amount` reads it.
 pub(crate) fn read_budget(text: &str) -> Option<Budget>
-    ensures found { IfSome result (IsBudgetText text.now) }
-    ensures missing { IsNone result → (n : ℕ) → IsBudgetText text.now n → ⊥ }
+    ensures found { IfSome result (IsSizeText text.now) }
+    ensures missing { IsNone result → (n : ℕ) → IsSizeText text.now n → ⊥ }
 {
     Budget::new(read_amount(text)?)
 }
 
-/// The same as a number.
+/// The size that a text writes: 1 to 2^62, as digits alone or with a unit. `None` where it writes
+/// none.
 pub(crate) fn read_amount(text: &str) -> Option<u64>
-    ensures found { IfSome result (IsBudgetText text.now) }
-    ensures missing { IsNone result → (n : ℕ) → IsBudgetText text.now n → ⊥ }
+    ensures found { IfSome result (IsSizeText text.now) }
+    ensures missing { IsNone result → (n : ℕ) → IsSizeText text.now n → ⊥ }
 {
-    let (digits, unit) = split_unit(text);
-    // `parse` takes a plus sign.
-    if digits.starts_with('+') {
-        return None;
-    }
+    let (digits, unit) = split_digits(text);
+    let size = unit_size(unit)?;
     let Ok(number) = digits.parse::<u64>() else {
         return None;
     };
-    let amount = number.checked_mul(unit)?;
+    let amount = number.checked_mul(size)?;
     Budget::new(amount)?;
     Some(amount)
 }

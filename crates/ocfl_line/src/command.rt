@@ -66,9 +66,10 @@ const CURSOR: &str = "The cursor file, which the run replaces; one that is not t
 cursor";
 
 const BUDGET: &str = "A run starts a file only while it has read less than N, in bytes and 1 for \
-each file: 1 to 4611686018427387904, alone or with one suffix K, M, G or T (powers of 1024)";
+each file: 1 to 4611686018427387904, alone or with a unit: K, M, G, T, KiB, MiB, GiB or TiB \
+(powers of 1024), or kB, MB, GB or TB (powers of 1000), in capitals or small letters";
 
-const FILES: &str = "The most files that a run starts: 1 to 4611686018427387904";
+const FILES: &str = "The most files that a run starts: N as for the budget";
 
 const RUNS: &str = "The most runs: 1 to 100000";
 
@@ -141,16 +142,11 @@ fn budget_option<'a>(alloc: Global) -> Arg<'a>
     needed(alloc, "budget", "N", BUDGET).long("budget")
 }
 
-/// The most files of a run.
+/// The most files of a run, whose text `clap` does not read.
 fn files_option<'a>(alloc: Global) -> Arg<'a>
     ensures { IsArg files_rule result }
 {
-    Arg::new(alloc, "files")
-        .long("files")
-        .value_name("N")
-        .help(FILES)
-        .value_parser(value_parser!(u64).range(1..=4611686018427387904))
-        .default_value("4611686018427387904")
+    named(alloc, "files", "N", FILES).default_value("4611686018427387904")
 }
 
 /// The most runs of a cycle.
@@ -339,4 +335,18 @@ pub(crate) fn line_command<'a>(alloc: Global) -> Result<Command<'a>, AllocError>
     let command = add_subcommand(command, alloc, "check", CHECK, CHECK_ARGUMENTS)?;
     let command = add_subcommand(command, alloc, "split", SPLIT, SPLIT_ARGUMENTS)?;
     add_subcommand(command, alloc, "show", SHOW, SHOW_ARGUMENTS)
+}
+
+/// The subcommand of this name by itself, which shows its usage as the whole command does.
+pub(crate) fn single_command<'a>(alloc: Global, name: &'a str) -> Result<Command<'a>, AllocError> {
+    let (help, arguments) = match name {
+        "audit" => (AUDIT, AUDIT_ARGUMENTS),
+        "run" => (RUN, RUN_ARGUMENTS),
+        "cycle" => (CYCLE, CYCLE_ARGUMENTS),
+        "check" => (CHECK, CHECK_ARGUMENTS),
+        "split" => (SPLIT, SPLIT_ARGUMENTS),
+        _ => (SHOW, SHOW_ARGUMENTS),
+    };
+    let shown = format!(in alloc; "ocfl-scrub {name}")?;
+    build_subcommand(alloc, name, help, arguments)?.bin_name(shown.as_str())
 }

@@ -1,46 +1,83 @@
 //! What is said of words that `clap` takes and that ask for nothing.
+ghost use Rattle.std.specs.Prelude.{◌≡◌, IfOk};
+ghost use Rattle.clap.specs.Values.{kind_of};
+ghost use Rattle.clap.specs.declared.error.kind.ErrorKind.TheVariants.{ValueValidation};
 
-use crate::values::is_left_out;
+use crate::budget::read_amount;
+use crate::command::{line_command, single_command};
+use crate::values::{is_left_out, text_of};
 use clap::ArgMatches;
+use clap::error::ErrorKind;
+use std::alloc::{AllocError, Global};
 
 /// What is wrong with words that `clap` takes and that ask for nothing.
 #[derive(Clone, Copy)]
-pub(crate) enum Complaint {
-    /// The budget's text is none.
-    Budget,
+enum Complaint<'a> {
+    /// The value of the option with this id is no size.
+    Size { id: &'a str, value: &'a str },
     /// A part is not chosen by its file and its number alone.
     Part,
     /// The words are not those of one way to split.
     Split,
 }
 
-impl Complaint {
+impl Complaint<'_> {
     /// The text for the user.
-    pub(crate) fn text(self) -> &'static str {
+    fn text(self, alloc: Global) -> Result<String, AllocError> {
         match self {
-            Complaint::Budget => {
-                "invalid value for '--budget <N>': N is 1 to 4611686018427387904, \
-                 as digits or with one suffix K, M, G or T"
-            }
-            Complaint::Part => {
+            Complaint::Size { id, value } => format!(in alloc;
+                "invalid value '{value}' for '--{id} <N>': N is 1 to 4611686018427387904, as \
+                 digits alone or with K, M, G, T, KiB, MiB, GiB or TiB (powers of 1024), or kB, \
+                 MB, GB or TB (powers of 1000)"
+            ),
+            Complaint::Part => String::from_str(
+                alloc,
                 "'--parts <FILE>' and '--part <K>' are given together, \
-                 and not with '--under <PLACE>'"
-            }
-            Complaint::Split => {
+                 and not with '--under <PLACE>'",
+            ),
+            Complaint::Split => String::from_str(
+                alloc,
                 "'split' takes either '--parts <COUNT>' and '<ROOT>', \
-                 or '--budget <N>' and '--report <FILE>'"
-            }
+                 or '--budget <N>' and '--report <FILE>'",
+            ),
         }
     }
 }
 
-/// What is wrong with words that ask for nothing.
-pub(crate) fn find_complaint(matches: &ArgMatches<'_>) -> Complaint {
-    match matches.subcommand() {
-        Some(("split", inner)) if !is_by_report(inner) => Complaint::Split,
-        Some((_, inner)) if !is_choice(inner) => Complaint::Part,
-        _ => Complaint::Budget,
+/// The error of words that `clap` takes and that ask for nothing, with the usage of their
+/// subcommand.
+pub(crate) fn usage_error(
+    alloc: Global,
+    matches: &ArgMatches<'_>,
+) -> Result<clap::Error, AllocError>
+    ensures { IfOk result (λ error. kind_of error ≡ ValueValidation) }
+{
+    let Some((name, inner)) = matches.subcommand() else {
+        // `clap` takes no words without a subcommand.
+        let mut command = line_command(alloc)?;
+        return command.error(ErrorKind::ValueValidation, "a subcommand is required");
+    };
+    let text = find_complaint(name, inner).text(alloc)?;
+    let mut command = single_command(alloc, name)?;
+    command.error(ErrorKind::ValueValidation, text.as_str())
+}
+
+/// What is wrong with the words of the subcommand with this name.
+fn find_complaint<'a>(name: &str, inner: &ArgMatches<'a>) -> Complaint<'a> {
+    if name == "split" && !is_by_report(inner) {
+        return Complaint::Split;
     }
+    if !is_choice(inner) {
+        return Complaint::Part;
+    }
+    // Only `run` and `cycle` have a second size.
+    let id = if is_size(inner, "budget") {
+        "files"
+    } else {
+        "budget"
+    };
+    let value = text_of(inner, id).unwrap_or("");
+    Complaint::Size { id, value }
 }
 
 /// Whether the words are those of a split by a report, whatever its budget is.
@@ -54,4 +91,12 @@ fn is_choice(inner: &ArgMatches<'_>) -> bool {
     let is_part = !is_left_out(inner, "parts");
     let is_numbered = !is_left_out(inner, "part");
     is_part == is_numbered && (!is_part || is_left_out(inner, "under"))
+}
+
+/// Whether the value of an option is a size.
+fn is_size(inner: &ArgMatches<'_>, id: &str) -> bool {
+    match text_of(inner, id) {
+        Some(value) => read_amount(value).is_some(),
+        None => false,
+    }
 }

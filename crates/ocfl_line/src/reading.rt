@@ -7,11 +7,11 @@ ghost use Rattle.ocfl_deed.specs.declared.deed.Deed.{Deed as DeedOf};
 ghost use Rattle.ocfl_line.specs.declared.task.Task.{Task as TaskOf};
 ghost use Rattle.ocfl_line.specs.declared.task.Asked.{Asked as AskedOf};
 
-use crate::budget::read_budget;
+use crate::budget::{read_amount, read_budget};
 use crate::choosing::chosen_by;
 use crate::splitting::split_by;
 use crate::task::{Asked, Task};
-use crate::values::{copied, count_of, is_given, number_of, text_of};
+use crate::values::{copied, count_of, is_given, text_of};
 use clap::ArgMatches;
 use ocfl_cursor::{FileLimit, Limits};
 use ocfl_deed::Deed;
@@ -20,14 +20,14 @@ use std::alloc::{AllocError, Global};
 // The most runs of a cycle.
 const MAX_RUNS: u64 = 100000;
 
-/// The limits of a run, or `None` where the budget's text writes none.
+/// The limits of a run, or `None` where the text of one of them is no size.
 fn limits_of(inner: &ArgMatches<'_>) -> Option<Limits>
     ensures found { IfSome result (HasLimits (rows_of (found_of inner.now))) }
     ensures missing { IsNone result
         → (limits : LimitsOf) → HasLimits (rows_of (found_of inner.now)) limits → ⊥ }
 {
     let budget = read_budget(text_of(inner, "budget")?)?;
-    let files = FileLimit::new(number_of(inner, "files")?)?;
+    let files = FileLimit::new(read_amount(text_of(inner, "files")?)?)?;
     Some(Limits { budget, files })
 }
 
@@ -39,6 +39,7 @@ fn runs_of(inner: &ArgMatches<'_>) -> Option<usize>
 {
     count_of(inner, "runs", MAX_RUNS)
 }
+
 /// One run, or `None` where its limits are not given.
 fn run_of(inner: &ArgMatches<'_>) -> Option<Deed>
     ensures found { IfSome result (IsDeed (codes "run") (rows_of (found_of inner.now))) }

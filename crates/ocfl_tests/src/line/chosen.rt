@@ -116,11 +116,22 @@ fn refuses_half_a_part(rt: HostRuntime) -> Result<(), Fail> {
         ),
     ];
     each_has_fault(&rt, ErrorKind::ValueValidation, &rows);
-    let wanted = "error: '--parts <FILE>' and '--part <K>' are given together, \
-                  and not with '--under <PLACE>'\n\nUsage: ocfl-scrub <COMMAND>\n\n\
-                  For more information, try '--help'.\n";
     for (name, line) in rows {
-        assert_eq!(rt; usage_text(rt.alloc(), line)?.as_str(), wanted, "{name}");
+        let usage = if line.starts_with("audit") {
+            "audit [OPTIONS] <ROOT>"
+        } else {
+            "run [OPTIONS] --cursor <FILE> --budget <N> <ROOT>"
+        };
+        let wanted = format!(in rt.alloc();
+            "error: '--parts <FILE>' and '--part <K>' are given together, and not with \
+             '--under <PLACE>'\n\nUsage: ocfl-scrub {usage}\n\nFor more information, try \
+             '--help'.\n"
+        )?;
+        assert_eq!(rt;
+            usage_text(rt.alloc(), line)?.as_str(),
+            wanted.as_str(),
+            "{name}"
+        );
     }
     Ok(())
 }
@@ -219,7 +230,9 @@ fn refuses_other_splits(rt: HostRuntime) -> Result<(), Fail> {
     ];
     each_has_fault(&rt, ErrorKind::ValueValidation, &rows);
     let wanted = "error: 'split' takes either '--parts <COUNT>' and '<ROOT>', \
-                  or '--budget <N>' and '--report <FILE>'\n\nUsage: ocfl-scrub <COMMAND>\n\n\
+                  or '--budget <N>' and '--report <FILE>'\n\n\
+                  Usage: ocfl-scrub split --parts <COUNT> <ROOT>\n       \
+                  ocfl-scrub split --budget <N> --report <FILE>\n\n\
                   For more information, try '--help'.\n";
     for (name, line) in rows {
         assert_eq!(rt; usage_text(rt.alloc(), line)?.as_str(), wanted, "{name}");
@@ -238,7 +251,7 @@ fn refuses_other_counts_and_budgets(rt: HostRuntime) {
             "by too much",
             "split --budget 4611686018427387905 --report P",
         ),
-        ("by a small unit", "split --budget 1k --report P"),
+        ("by a part of a unit", "split --budget 1Ki --report P"),
     ];
     each_has_fault(&rt, ErrorKind::ValueValidation, &rows);
 }

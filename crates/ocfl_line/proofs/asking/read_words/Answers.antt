@@ -1,4 +1,4 @@
-use Rattle.std.proofs.Common.{ap, map, sym, subst}
+use Rattle.std.proofs.Common.{ap, inr, map, sym, subst}
 use Rattle.std.specs.Prelude.{is_some}
 use Rattle.std.proofs.lemmas.Result.{err_from_is_err_and}
 use Rattle.ocfl_line.specs.Asks.{Asks}
@@ -16,17 +16,18 @@ pub returns-in-Some-clause-faultless : goal.returns-in-Some-clause-faultless
 returns-in-Some-clause-faultless g c =
     no_fault _ (map g.S.AsStr.text c.args.words.now) c.requires.0 c.in_ok-matches.ensures.kinds
 
-pub returns-clause-faultless : goal.returns-clause-faultless
-returns-clause-faultless g c =
-    no_fault _ (map g.S.AsStr.text c.args.words.now) c.requires.0 c.in_ok-matches.ensures.kinds
-
-pub returns-in-Some-clause-found : goal.returns-in-Some-clause-found
-returns-in-Some-clause-found g c =
+pub returns-in-Some-clause-asked : goal.returns-in-Some-clause-asked
+returns-in-Some-clause-asked g c =
     let met = subcommand_is _ (map g.S.AsStr.text c.args.words.now) c.in_ok-matches.matches c.requires.0 c.in_ok-matches.ensures.ok.2 in
     let found = rw c.in-Some.is at c.in_ok-asked.ensures.found in
     subst (λ sub. Asks sub c.in-Some.asked) met found
 
-pub returns-clause-missing : goal.returns-clause-missing
-returns-clause-missing g c =
-    let met = subcommand_is _ (map g.S.AsStr.text c.args.words.now) c.in_ok-matches.matches c.requires.0 c.in_ok-matches.ensures.ok.2 in
-    λ a h. c.in_ok-asked.ensures.missing (ap is_some c.in-None.is) a (subst (λ sub. Asks sub a) (sym met) h)
+pub returns-clause-stop : goal.returns-clause-stop
+returns-clause-stop g c =
+    let words = map g.S.AsStr.text c.args.words.now in
+    let met = subcommand_is _ words c.in_ok-matches.matches c.requires.0 c.in_ok-matches.ensures.ok.2 in
+    inr (
+      c.in_ok-usage_error-in-None.ensures,
+      no_fault _ words c.requires.0 c.in_ok-matches.ensures.kinds,
+      λ a h. c.in_ok-asked.ensures.missing (ap is_some c.in-None.is) a (subst (λ sub. Asks sub a) (sym met) h),
+    )

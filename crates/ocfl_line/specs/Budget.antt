@@ -29,11 +29,11 @@ unit_size = beside units
 abbrev pub digits_of : Text → Text
 digits_of = take_while is_ascii_digit
 
--- what stands behind them
+-- what comes after them
 abbrev pub unit_of : Text → Text
 unit_of t = drop (prefix_len is_ascii_digit t) t
 
--- the text writes this size: decimal digits, at least one, and one of the units behind them
+-- the text writes this size: decimal digits, at least one, and one of the units after them
 pub record IsSizeText (t : Text) (n : ℕ) : Type 0 where
   pub numeral : IsNumeral 10 (digits_of t)
   pub value : IsSomeAnd (unit_size (unit_of t)) (λ size. n ≡ digits_value 10 (digits_of t) * size)

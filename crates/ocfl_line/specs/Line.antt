@@ -13,7 +13,7 @@ use Rattle.ocfl_line.specs.declared.command.Argument.TheVariants.{Root, Path, Fi
 abbrev pub most_runs : ℕ
 most_runs = 100000
 
--- as many separators as their text may have make one part more
+-- one more than the separators that their text may have
 abbrev pub most_parts : ℕ
 most_parts = 100001
 

@@ -9,7 +9,7 @@ use Rattle.ocfl_line.specs.declared.task.Asked.{Asked}
 use Rattle.ocfl_line.specs.declared.stop.LineStop.{LineStop}
 use Rattle.ocfl_line.specs.declared.stop.LineStop.TheVariants.{Usage, Memory}
 
--- the words ask for nothing that is there to be asked for
+-- the words ask for no command
 abbrev pub AsksNothing : List Text → Type 0
 AsksNothing words = (a : Asked) → Asks (subcommand_of line_app words) a → ⊥
 
@@ -18,7 +18,7 @@ abbrev pub IsUsage : List Text → Error → Type 0
 IsUsage words e = IsAmong (kind_of e) (fault_of line_app words)
     ⊎ ((kind_of e ≡ kind.ValueValidation) × (fault_of line_app words ≡ []) × AsksNothing words)
 
--- a fault of usage is one; of memory nothing is said
+-- a usage error names a fault of the words; memory may be refused at any time
 abbrev pub StopsRightly : List Text → LineStop → Type 0
 StopsRightly words (Usage e) = IsUsage words e
 StopsRightly words Memory = ⊤

@@ -50,7 +50,7 @@ fn count_digits(text: &[u8]) -> usize
     text.iter().take_while(|byte| byte.is_ascii_digit()).count()
 }
 
-/// The digits that a text begins with, and what stands behind them.
+/// The digits that a text begins with, and what comes after them.
 fn split_digits(text: &str) -> (&str, &str)
     ensures digits { result.0.now ≡ digits_of text.now }
     ensures unit { result.1.now ≡ unit_of text.now }

@@ -81,7 +81,7 @@ const PARTS: &str = "The separators, one a line, which cut the root into parts; 
 
 const PART: &str = "Takes only this one of the parts: 1 to 100001";
 
-const COUNT: &str = "The most parts, of about as many directories each: 1 to 100000";
+const COUNT: &str = "The most parts, of about equally many directories each: 1 to 100000";
 
 const ANY_BUDGET: &str = "Each part but the last costs N or one file more, in bytes and 1 for each \
 file; N as run takes it";
@@ -239,7 +239,7 @@ fn add_subcommand<'a>(
     help: Help<'a>,
     arguments: &[Argument],
 ) -> Result<Command<'a>, AllocError>
-    // What `clap` reads the command as has the subcommand behind its others.
+    // `clap` reads the result as the command with this subcommand after its others.
     ensures { IfOk result (λ new. (app : App) → IsCommand app command.entry
         → IsCommand (with_subcommand app (app_with name.now (map rule_for arguments.now)).top)
         new) }

@@ -15,8 +15,10 @@ use std::alloc::{AllocError, Global};
 enum Complaint<'a> {
     /// The value of the option with this id is no size.
     Size { id: &'a str, value: &'a str },
-    /// A part is not chosen by its file and its number alone.
-    Part,
+    /// A part is chosen by its file alone, or by its number alone.
+    Unpaired,
+    /// A part is chosen beside a branch.
+    Both,
     /// The words are not those of one way to split.
     Split,
 }
@@ -30,10 +32,13 @@ impl Complaint<'_> {
                  digits alone or with K, M, G, T, KiB, MiB, GiB or TiB (powers of 1024), or kB, \
                  MB, GB or TB (powers of 1000)"
             ),
-            Complaint::Part => String::from_str(
+            Complaint::Unpaired => String::from_str(
                 alloc,
-                "'--parts <FILE>' and '--part <K>' are given together, \
-                 and not with '--under <PLACE>'",
+                "'--parts <FILE>' and '--part <K>' are given together",
+            ),
+            Complaint::Both => String::from_str(
+                alloc,
+                "'--under <PLACE>' is not given with '--parts <FILE>' or '--part <K>'",
             ),
             Complaint::Split => String::from_str(
                 alloc,
@@ -67,8 +72,13 @@ fn find_complaint<'a>(name: &str, inner: &ArgMatches<'a>) -> Complaint<'a> {
     if name == "split" && !is_by_report(inner) {
         return Complaint::Split;
     }
-    if !is_choice(inner) {
-        return Complaint::Part;
+    let has_file = !is_left_out(inner, "parts");
+    let has_number = !is_left_out(inner, "part");
+    if (has_file || has_number) && !is_left_out(inner, "under") {
+        return Complaint::Both;
+    }
+    if has_file != has_number {
+        return Complaint::Unpaired;
     }
     // Only `run` and `cycle` have a second size.
     let id = if is_size(inner, "budget") {
@@ -84,13 +94,6 @@ fn find_complaint<'a>(name: &str, inner: &ArgMatches<'a>) -> Complaint<'a> {
 fn is_by_report(inner: &ArgMatches<'_>) -> bool {
     let is_whole = !is_left_out(inner, "budget") && !is_left_out(inner, "report");
     is_whole && is_left_out(inner, "count") && is_left_out(inner, "root")
-}
-
-/// Whether the words choose items.
-fn is_choice(inner: &ArgMatches<'_>) -> bool {
-    let is_part = !is_left_out(inner, "parts");
-    let is_numbered = !is_left_out(inner, "part");
-    is_part == is_numbered && (!is_part || is_left_out(inner, "under"))
 }
 
 /// Whether the value of an option is a size.

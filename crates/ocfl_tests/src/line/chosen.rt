@@ -122,10 +122,13 @@ fn refuses_half_a_part(rt: HostRuntime) -> Result<(), Fail> {
         } else {
             "run [OPTIONS] --cursor <FILE> --budget <N> <ROOT>"
         };
+        let why = if line.contains("--under") {
+            "'--under <PLACE>' is not given with '--parts <FILE>' or '--part <K>'"
+        } else {
+            "'--parts <FILE>' and '--part <K>' are given together"
+        };
         let wanted = format!(in rt.alloc();
-            "error: '--parts <FILE>' and '--part <K>' are given together, and not with \
-             '--under <PLACE>'\n\nUsage: ocfl-scrub {usage}\n\nFor more information, try \
-             '--help'.\n"
+            "error: {why}\n\nUsage: ocfl-scrub {usage}\n\nFor more information, try '--help'.\n"
         )?;
         assert_eq!(rt;
             usage_text(rt.alloc(), line)?.as_str(),

@@ -2,6 +2,7 @@
 use Rattle.std.proofs.Common.{◌≡◌, refl, subst, arith, sym, ◌∙◌, ap, ℕ, ◌+◌, ◌<◌, ◌≤◌, ◌++◌, length, take, Bool, true, false, Option, Some, None, Vec, inl, inr}
 use Rattle.std.specs.Prelude.{◌≢◌, ◌↔◌, if◌then◌else◌}
 use Rattle.std.specs.declared.alloc.Global.{Global}
+use Rattle.std.proofs.lemmas.Bool.{true≢false}
 use Rattle.ocfl_tree.specs.Place.{Text, Place}
 use Rattle.ocfl_cursor.specs.Cursor.{Cursor, new_cursor, cursor_lines, cursor_text}
 use Rattle.ocfl_cursor.specs.Moves.{after_run}
@@ -11,17 +12,19 @@ use Rattle.ocfl_cursor.specs.Shown.{AreShown, IsShownFrom}
 use Rattle.ocfl_cursor.specs.Stop.{max_part_text}
 use Rattle.ocfl_cursor.specs.declared.ends.PartEnds.{PartEnds}
 use Rattle.ocfl_cursor.proofs.PartLimited.{read_as_part}
-use Rattle.ocfl_cursor.proofs.PartRefusals.{front-part_text}
+use Rattle.ocfl_cursor.proofs.PartRefusals.{front-part_text, seal-part_text}
 use Rattle.ocfl_cursor.specs.Refused.{reason}
 use Rattle.ocfl_audit.specs.Runs.{Limits}
 use Rattle.ocfl_cursor.specs.declared.limits.Limits.{Limits as MadeLimits}
+use Rattle.ocfl_cursor.specs.declared.refused.PartRefused.{PartRefused}
+use Rattle.ocfl_cursor.specs.declared.refused.PartRefused.TheVariants as part
 use Rattle.ocfl_cursor.specs.declared.refused.Refused.{Refused}
 use Rattle.ocfl_cursor.specs.declared.refused.Refused.TheVariants as refused
 use Rattle.ocfl_deed.specs.declared.deed.Deed.TheVariants as deed
 use Rattle.ocfl_item.specs.declared.fault.Fault.{Fault}
 use Rattle.ocfl_item.specs.declared.fault.Fault.TheVariants as fault
 use Rattle.ocfl_scrub.specs.Noting.{IsRunNote, IsStopNote}
-use Rattle.ocfl_scrub.specs.Performing.{RefusesRightly, IsWithoutFile, ShowsWith, HandsBack, HandedBack}
+use Rattle.ocfl_scrub.specs.Performing.{RefusesRightly, UnshownSaid, IsWithoutFile, ShowsWith, HandsBack, HandedBack}
 use Rattle.ocfl_scrub.specs.Running.{IsPaid, begun, limits_of, state_after}
 use Rattle.ocfl_scrub.specs.declared.note.Note.{Note}
 use Rattle.ocfl_scrub.specs.declared.note.Note.TheVariants as note
@@ -41,8 +44,23 @@ refused_for bytes refused.Version some = (λ h. (h.no_cursor, ap Some (sym h.rea
 refused_for bytes refused.Damaged some = (λ h. (h.no_cursor, ap Some (sym h.reason)), λ k. record { no_cursor = k.0; reason = unsome _ _ k.1 })
 refused_for bytes refused.Malformed some = (λ h. (h.no_cursor, ap Some (sym h.reason)), λ k. record { no_cursor = k.0; reason = unsome _ _ k.1 })
 
-pub none_refused : (why : Refused) → RefusesRightly None (note.CursorRefused why) → ⊥
-none_refused why h = h
+-- a part's cursor that is to be shown is not refused as that of a whole root
+pub no_whole_refused : (e : PartEnds) (bytes : Text) (c : Cursor) (why : Refused) → IsPartText e bytes c → length bytes ≤ max_part_text → why ≢ refused.Memory
+    → UnshownSaid deed.Show (Some (Some bytes)) (note.CursorRefused why) → ⊥
+no_whole_refused e bytes c refused.Memory is few some h = some refl
+no_whole_refused e bytes c refused.NotCursor is few some h = true≢false (sym (read_as_part bytes (front-part_text e bytes c is) few) ∙ h.0)
+no_whole_refused e bytes c refused.Version is few some h = true≢false (sym (read_as_part bytes (front-part_text e bytes c is) few) ∙ h.0)
+no_whole_refused e bytes c refused.Damaged is few some h = true≢false (sym (read_as_part bytes (front-part_text e bytes c is) few) ∙ h.0)
+no_whole_refused e bytes c refused.Malformed is few some h = true≢false (sym (read_as_part bytes (front-part_text e bytes c is) few) ∙ h.0)
+
+-- nor as that of a part
+pub no_part_refused : (e : PartEnds) (bytes : Text) (c : Cursor) (why : PartRefused) → IsPartText e bytes c → why ≢ part.Memory
+    → RefusesRightly (Some (Some bytes)) (note.PartCursorRefused why) → ⊥
+no_part_refused e bytes c part.NotCursor is some h = h.1
+no_part_refused e bytes c part.Damaged is some h = true≢false (sym (seal-part_text e bytes c is) ∙ h.1)
+no_part_refused e bytes c part.Malformed is some h = h.1.no_cursor e c is
+no_part_refused e bytes c part.OtherPart is some h = h.1
+no_part_refused e bytes c part.Memory is some h = some refl
 
 -- ---- without a file
 
@@ -93,6 +111,11 @@ module _ (one : (b l m : Text) → AreShown b l → AreShown b m → l ≡ m) wh
   pub shown_of_part : (bytes before behind : Text) (e : PartEnds) (c : Cursor) → IsPartText e bytes c → length bytes ≤ max_part_text
       → ShowsWith (Some (Some bytes)) note.Nothing (Some before) (Some behind) ↔ (behind ≡ before ++ part_lines e c)
   shown_of_part bytes before behind e c is few = lines_shown one bytes before behind (part_lines e c) (part_are bytes e c is few)
+
+  pub shown_in_part_of_part : (bytes before behind : Text) (e : PartEnds) (c : Cursor) → IsPartText e bytes c → length bytes ≤ max_part_text
+      → ShowsWith (Some (Some bytes)) note.OutputFailed (Some before) (Some behind)
+      ↔ ((gone : ℕ) × ((gone < length (part_lines e c)) × (behind ≡ before ++ take gone (part_lines e c))))
+  shown_in_part_of_part bytes before behind e c is few = part_shown one bytes before behind (part_lines e c) (part_are bytes e c is few)
 
 -- ---- what is handed back
 

@@ -26,7 +26,6 @@ pub mod RunTurns
 pub mod RunLaws
 pub mod PerformLaws
 pub mod ScopeLaws
-pub mod ShownLaws
 pub mod ScopeEnds
 pub mod NoteLaws
 pub mod FileLaws

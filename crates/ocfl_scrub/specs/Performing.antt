@@ -62,6 +62,11 @@ RefusesRightly known (note.CursorRefused why) = StopsWith known (stop.Refused wh
 RefusesRightly known (note.PartCursorRefused why) = UnshownWith known (show.Part why)
 RefusesRightly known n = ⊤
 
+-- a cursor that is to be shown is refused by the kind that its first line names
+abbrev pub UnshownSaid : Deed → Option (Option Text) → Note → Type 0
+UnshownSaid deed.Show known (note.CursorRefused why) = UnshownWith known (show.Whole (stop.Refused why))
+UnshownSaid d known n = ⊤
+
 -- ---- of every store
 
 -- what each command can say

@@ -21,6 +21,7 @@ ghost use Rattle.ocfl_cursor.specs.Moves.{after_run};
 ghost use Rattle.ocfl_cursor.specs.Part.{IsPartText, part_lines};
 ghost use Rattle.ocfl_cursor.specs.Refusal.{IsTextOf, refusal};
 ghost use Rattle.ocfl_cursor.specs.Refused.{reason};
+ghost use Rattle.ocfl_cursor.specs.Stop.{max_part_text};
 ghost use Rattle.ocfl_cursor.specs.declared.limits.Limits.{Limits as MadeLimits};
 ghost use Rattle.ocfl_cursor.specs.declared.reading.CursorStop.{CursorStop};
 ghost use Rattle.ocfl_cursor.specs.declared.ends.PartEnds.{PartEnds};
@@ -39,6 +40,7 @@ ghost use Rattle.ocfl_scrub.specs.Noting.{IsShowSaid, IsStatus, IsStopSaid, IsUn
 ghost use Rattle.ocfl_scrub.specs.Noting.{IsUnshownNote};
 ghost use Rattle.ocfl_scrub.specs.Performing.{IsKept, IsKeptBy, IsSilent, IsWhole};
 ghost use Rattle.ocfl_scrub.specs.Performing.{HandsBack, IsWithoutFile, RefusesRightly, ShowsWith};
+ghost use Rattle.ocfl_scrub.specs.Performing.{UnshownSaid};
 ghost use Rattle.ocfl_scrub.specs.Scoping.{IsBranchNote, IsBranchSaid, IsPartRunSaid};
 ghost use Rattle.ocfl_scrub.specs.Scoping.{IsPartUnreadNote};
 ghost use Rattle.ocfl_scrub.specs.Running.{IsPaid, Runs, begun, limits_of, state_after, taken};
@@ -180,6 +182,17 @@ pub fn only_other_bytes_are_refused()
     ensures without_reader { (why : Refused) → RefusesRightly None (note.CursorRefused why) → ⊥ }
 {}
 
+/// If a cursor is to be shown, the bytes of a part's cursor are refused neither as the cursor of a
+/// whole root nor as that of a part, except for want of memory.
+pub fn a_parts_cursor_is_shown()
+    ensures whole { (e : PartEnds) (bytes : List ℕ) (c : Cursor) (why : Refused)
+        → IsPartText e bytes c → length bytes ≤ max_part_text → why ≢ refused.Memory
+        → UnshownSaid deed.Show (Some (Some bytes)) (note.CursorRefused why) → ⊥ }
+    ensures part { (e : PartEnds) (bytes : List ℕ) (c : Cursor) (why : PartRefused)
+        → IsPartText e bytes c → why ≢ parts.Memory
+        → RefusesRightly (Some (Some bytes)) (note.PartCursorRefused why) → ⊥ }
+{}
+
 /// Without a reader there is no cursor to show, which is said, and a run needs none.
 #[tactic(auto, using(crate::proofs::FileLaws::none_shown, crate::proofs::FileLaws::none_needed))]
 pub fn only_showing_needs_a_stored_cursor()
@@ -200,9 +213,14 @@ pub fn a_cursor_is_shown_as_its_lines()
         ↔ ((gone : ℕ) × ((gone < length (cursor_lines c))
         × (after ≡ before ++ take gone (cursor_lines c)))) }
     ensures whole_of_part { (bytes before after : List ℕ) (e : PartEnds) (c : Cursor)
-        → IsPartText e bytes c → length bytes ≤ 67108864
+        → IsPartText e bytes c → length bytes ≤ max_part_text
         → ShowsWith (Some (Some bytes)) note.Nothing (Some before) (Some after)
         ↔ (after ≡ before ++ part_lines e c) }
+    ensures part_of_part { (bytes before after : List ℕ) (e : PartEnds) (c : Cursor)
+        → IsPartText e bytes c → length bytes ≤ max_part_text
+        → ShowsWith (Some (Some bytes)) note.OutputFailed (Some before) (Some after)
+        ↔ ((gone : ℕ) × ((gone < length (part_lines e c))
+        × (after ≡ before ++ take gone (part_lines e c)))) }
     ensures refused { (known : Option (Option (List ℕ))) (old new : Option (List ℕ))
         (why : Refused) → ShowsWith known (note.CursorRefused why) old new → new ≡ old }
     ensures part_refused { (known : Option (Option (List ℕ))) (old new : Option (List ℕ))

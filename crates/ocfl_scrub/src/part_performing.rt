@@ -9,7 +9,8 @@ ghost use Rattle.ocfl_scrub.specs.Running.{limits_of};
 ghost use Rattle.ocfl_scrub.specs.Noting.{IsAuditSaid, IsRanSaid, IsStatus, IsUnreadSaid};
 ghost use Rattle.ocfl_scrub.specs.Noting.{WritesWithStatus, status_of};
 ghost use Rattle.ocfl_scrub.specs.Performing.{HasBadPath, IsKept, IsKeptBy, IsSilent, IsWhole};
-ghost use Rattle.ocfl_scrub.specs.Performing.{IsWithoutFile, RefusesPath, WritesBy, bytes_of};
+ghost use Rattle.ocfl_scrub.specs.Performing.{IsWithoutFile, RefusesPath, UnshownSaid, WritesBy};
+ghost use Rattle.ocfl_scrub.specs.Performing.{bytes_of};
 ghost use Rattle.ocfl_scrub.specs.Scoping.{BeginsPartWith, BranchPerformed, HandsBackIn};
 ghost use Rattle.ocfl_scrub.specs.Scoping.{IsBranchNote, IsBranchSaid, IsPartRunSaid, IsSaidIn};
 ghost use Rattle.ocfl_scrub.specs.Scoping.{IsPartStoredNote, IsPartUnreadNote, PartPerformed};
@@ -61,6 +62,7 @@ pub fn perform_part<T: Tree, R: Read, W: Write>(
         → (result.status ≡ 0) ↔ (result.note ≡ Note.Nothing) }
     ensures refused { RefusesRightlyIn deed.now scope.now (bytes_of R.remaining reader.entry)
         result.note }
+    ensures unshown { UnshownSaid deed.now (bytes_of R.remaining reader.entry) result.note }
     ensures kept { IsKeptBy deed.now result.note result.cursor }
     ensures handed_back { HandsBackIn deed.now scope.now (bytes_of R.remaining reader.entry)
         result.status result.note result.cursor }

@@ -1,20 +1,25 @@
 //! The laws of parts: what the runs of a part wrote, joined, and what the parts of a storage root
 //! wrote together.
-ghost use Rattle.std.specs.Prelude.{◌≡◌, ◌≤◌, ◌+◌, ◌/◌, ℕ, List, [], None, All, flat_map, map};
-ghost use Rattle.std.specs.Prelude.{length};
+ghost use Rattle.std.specs.Prelude.{◌≡◌, ◌≤◌, ◌+◌, ◌++◌, ◌/◌, ℕ, Bool, List, [], Option, None, All};
+ghost use Rattle.std.specs.Prelude.{flat_map, length, map};
 ghost use Rattle.std.specs.List.{AllByRecursion};
 ghost use Rattle.ocfl_tree.specs.Place.{Place, place_cmp};
 ghost use Rattle.ocfl_tree.specs.Ascending.{IsAscending};
 ghost use Rattle.ocfl_tree.specs.StorageRoot.{StorageRoot};
+ghost use Rattle.ocfl_tree.specs.Store.{Store};
+ghost use Rattle.ocfl_tree.specs.declared.store.Opening.{Opening};
 ghost use Rattle.ocfl_report.specs.Text.{text};
 ghost use Rattle.ocfl_audit.specs.Audit.{audit, total_cost};
 ghost use Rattle.ocfl_audit.specs.Due.{hashed_among, item_places};
 ghost use Rattle.ocfl_audit.specs.Parts.{Part, parts_of, places_within, within};
 ghost use Rattle.ocfl_audit.specs.Runs.{IsAtLeast, total_files};
+ghost use Rattle.ocfl_audit.specs.Trail.{heads_of};
 ghost use Rattle.ocfl_cursor.specs.Cursor.{Cursor};
 ghost use Rattle.ocfl_scrub.specs.Running.{place_in};
 ghost use Rattle.ocfl_scrub.specs.Joining.{AreRuns, IsPartCycle, PartCycle, PartRun, opened_by};
 ghost use Rattle.ocfl_scrub.specs.Joining.{reports_of};
+ghost use Rattle.ocfl_scrub.specs.WholeAudit.{AuditEndsWithin};
+ghost use Rattle.ocfl_scrub.specs.declared.checking.End.{End};
 
 /// The reports of the runs of one cycle of a part, joined, are what the audit has there, whatever
 /// processes made them, and each hashed file of the part was opened once, in order. Where each run
@@ -51,4 +56,20 @@ pub fn parts_join_to_the_audit()
         → AllByRecursion (IsPartCycle root) cycles
         → flat_map (λ d. opened_by root d.runs) cycles
         ≡ hashed_among root (item_places root) }
+{}
+
+/// The audit of a part lists each directory once and reads each inventory once, in order, whether
+/// it ends or stops.
+#[tactic(auto, using(crate::proofs::OrderLaws::part_lists_once, crate::proofs::OrderLaws::part_reads_once))]
+pub fn an_audit_of_a_part_looks_once()
+    ensures listed { (root : StorageRoot) (s t : Store) (old new : Option (List ℕ)) (part : Part)
+        (last : Option Place) (finding : Bool) (end : End)
+        → AuditEndsWithin root s t old new part last finding end
+        → (listed : List Place) × ((t.listings ≡ s.listings ++ listed)
+        × IsAscending place_cmp listed) }
+    ensures read { (root : StorageRoot) (s t : Store) (old new : Option (List ℕ)) (part : Part)
+        (last : Option Place) (finding : Bool) (end : End)
+        → AuditEndsWithin root s t old new part last finding end
+        → (trail : List Opening) × ((t.openings ≡ s.openings ++ trail)
+        × IsAscending place_cmp (heads_of root trail)) }
 {}

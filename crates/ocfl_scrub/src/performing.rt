@@ -14,7 +14,7 @@ ghost use Rattle.ocfl_scrub.specs.Performing.{BeginsWith, CyclePerformed, HandsB
 ghost use Rattle.ocfl_scrub.specs.Performing.{HasBadPath, IsKeptBy, IsSaid, IsSilent, IsWhole};
 ghost use Rattle.ocfl_scrub.specs.Performing.{IsWithoutFile};
 ghost use Rattle.ocfl_scrub.specs.Performing.{Performs, RefusesPath, RefusesRightly, RunPerformed};
-ghost use Rattle.ocfl_scrub.specs.Performing.{ShowsWith, StopsWith, WritesBy, bytes_of};
+ghost use Rattle.ocfl_scrub.specs.Performing.{ShowsWith, StopsWith, UnshownSaid, WritesBy, bytes_of};
 ghost use Rattle.ocfl_scrub.specs.Performing.{equal_limits as limits_of_each};
 
 use crate::command::{audited, checked, status, stop_note};
@@ -72,6 +72,7 @@ pub fn perform<T: Tree, R: Read, W: Write>(
     ensures show_ends { deed.now ≡ Deed.Show
         → (result.status ≡ 0) ↔ (result.note ≡ Note.Nothing) }
     ensures refused { RefusesRightly (bytes_of R.remaining reader.entry) result.note }
+    ensures unshown { UnshownSaid deed.now (bytes_of R.remaining reader.entry) result.note }
     ensures kept { IsKeptBy deed.now result.note result.cursor }
     ensures handed_back { HandsBack (bytes_of R.remaining reader.entry) deed.now
         result.status result.note result.cursor }
@@ -330,6 +331,7 @@ fn show_cursor<R: Read, W: Write>(alloc: Global, reader: Option<&mut R>, out: &m
     ensures ends { (result.0 ≡ 0) ↔ (result.1 ≡ Note.Nothing) }
     ensures said { IsShowSaid result.1 }
     ensures refused { RefusesRightly (bytes_of R.remaining reader.entry) result.1 }
+    ensures unshown { UnshownSaid Deed.Show (bytes_of R.remaining reader.entry) result.1 }
     ensures without_file { IsWithoutFile (bytes_of R.remaining reader.entry) Deed.Show result.1 }
     ensures shows { ShowsWith (bytes_of R.remaining reader.entry) result.1 (W.contents out.old)
         (W.contents out.new) }

@@ -1,4 +1,4 @@
-use Rattle.ocfl_scrub.proofs.FileLaws.{shown_whole, shown_in_part, shown_of_part}
+use Rattle.ocfl_scrub.proofs.FileLaws.{shown_whole, shown_in_part, shown_of_part, shown_in_part_of_part}
 use Rattle.ocfl_scrub.proofs.laws.a_cursor_is_shown_as_its_lines.Goals as goal
 
 pub returns-clause-whole : goal.returns-clause-whole
@@ -9,3 +9,6 @@ returns-clause-part c = shown_in_part c.text_determines_what_is_shown.ensures.li
 
 pub returns-clause-whole_of_part : goal.returns-clause-whole_of_part
 returns-clause-whole_of_part c = shown_of_part c.text_determines_what_is_shown.ensures.lines
+
+pub returns-clause-part_of_part : goal.returns-clause-part_of_part
+returns-clause-part_of_part c = shown_in_part_of_part c.text_determines_what_is_shown.ensures.lines

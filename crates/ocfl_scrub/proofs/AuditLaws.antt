@@ -56,7 +56,7 @@ pub nothing_front : {A : Type 0} (xs : List A) → IsFront xs [] → xs ≡ []
 nothing_front [] f = refl
 nothing_front (x ∷ xs) f = absurd (let e = f.1 in cc)
 
--- ---- behind a walk that went down to where the pass over a part begins
+-- ---- after a walk that went down to where the pass over a part begins
 
 module _ (root : StorageRoot) (part : Part) (s t : Store) (from : Option Place) (g : GoesDown root s t (entry part from)) where
   -- what was read on the way down has no part in the items

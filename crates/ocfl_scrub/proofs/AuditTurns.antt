@@ -26,7 +26,7 @@ use Rattle.ocfl_scrub.proofs.AuditLaws.{finish_part, halt_part}
 use Rattle.ocfl_scrub.proofs.PassLaws.{passes_none, passes_over, passes_took, passes_missed, passes_lost, passes_finish, all_done, due_beyond, last_append}
 use Rattle.ocfl_scrub.proofs.LoopLaws.{IsUnderWay, GivesNext, is_in_front, walked_over}
 
--- from s to t a walk went down to where a part begins, the items from there on were taken, and the walk stands behind the last of them
+-- from s to t a walk went down to where a part begins, the items from there on were taken, and the walk stands after the last of them
 pub record HasTaken (root : StorageRoot) (part : Part) (s t : Store) (old new : Option (List ℕ)) (walk : Walk) (last : Option Place) (finding : Bool) : Type 0 where
   pub begun : Store
   pub stood : Option Place

@@ -87,7 +87,7 @@ next_of : {A B C : Type 0} → A ⊎ C → (A → B) → B ⊎ C
 next_of (inl a) f = inl (f a)
 next_of (inr c) f = inr c
 
--- ---- behind a walk that went down to where the pass over a part begins
+-- ---- after a walk that went down to where the pass over a part begins
 
 module _ (root : StorageRoot) (part : Part) (s t u : Store) (old new : Option (List ℕ)) (from stood last : Option Place) (l : Limits) (spent files : ℕ) (finding : Bool) (g : GoesDown root s t (entry part from)) where
   module _ (os : List Opening) (done later : List Place) (due_are : due_in root (end_of part) (stand root part from) ≡ done ++ later) where

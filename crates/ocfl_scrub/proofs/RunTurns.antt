@@ -49,7 +49,7 @@ charged_item limits m cost charged started hashed e h c may f g = paid_item (lim
 
 -- ---- on a store that tells its tree
 
--- from s to t a walk went down to where a run of a part begins, the items from there on were taken and paid for, and the walk stands behind the last of them
+-- from s to t a walk went down to where a run of a part begins, the items from there on were taken and paid for, and the walk stands after the last of them
 pub record HasPaid (root : StorageRoot) (part : Part) (s t : Store) (old new : Option (List ℕ)) (walk : Walk) (from last : Option Place) (l : Limits) (spent files : ℕ) (finding : Bool) : Type 0 where
   pub begun : Store
   pub stood : Option Place

@@ -1,6 +1,6 @@
 -- What is said and handed back after a command within a scope.
-use Rattle.std.proofs.Common.{◌≡◌, sym, ◌∙◌, ap, subst, ℕ, List, [], Option, Some, None, Bool, Vec, inl, inr}
-use Rattle.std.specs.Prelude.{◌≢◌, IsNone, IfSome, ◌⊎◌}
+use Rattle.std.proofs.Common.{◌≡◌, sym, ◌∙◌, ap, subst, ℕ, List, [], Option, Bool, Vec, inl, inr}
+use Rattle.std.specs.Prelude.{◌≢◌, IsNone, ◌⊎◌}
 use Rattle.std.specs.Io.KnownBytes.{Appends}
 use Rattle.std.specs.declared.alloc.Global.{Global}
 use Rattle.ocfl_tree.specs.Place.{Text, Place}
@@ -12,13 +12,12 @@ use Rattle.ocfl_audit.specs.Audit.{audit}
 use Rattle.ocfl_audit.specs.Parts.{Part, branch, within}
 use Rattle.ocfl_audit.specs.Runs.{Limits}
 use Rattle.ocfl_cursor.specs.Cursor.{Cursor}
-use Rattle.ocfl_cursor.specs.Moves.{after_run}
 use Rattle.ocfl_cursor.specs.declared.ends.PartEnds.{PartEnds}
 use Rattle.ocfl_deed.specs.declared.deed.Deed.{Deed}
 use Rattle.ocfl_scrub.specs.Noting.{status_of, IsAuditNote}
 use Rattle.ocfl_scrub.specs.Performing.{Performs}
-use Rattle.ocfl_scrub.specs.Running.{IsPaid, IsWorn, RunsCleanlyWithin, RunsFromWithin, begun, state_after}
-use Rattle.ocfl_scrub.specs.Scoping.{part_between, BeginsPartWith, IsBranchNote, IsPartStoredNote, PartHandedBack, BranchPerformed, PartPerformed, PartRunPerformed, PerformsIn}
+use Rattle.ocfl_scrub.specs.Running.{IsWorn, RunsCleanlyWithin, RunsFromWithin}
+use Rattle.ocfl_scrub.specs.Scoping.{part_between, BeginsPartWith, IsBranchNote, IsPartStoredNote, BranchPerformed, PartPerformed, PartRunPerformed, PerformsIn}
 use Rattle.ocfl_scrub.specs.WholeAudit.{AuditEndsWithin}
 use Rattle.ocfl_scrub.specs.declared.auditing.AuditEnd.{AuditEnd}
 use Rattle.ocfl_scrub.specs.declared.checking.End.TheVariants as end
@@ -66,38 +65,16 @@ module _ (root : StorageRoot) (s t : Store) (old new : Option (List ℕ)) (made 
 -- ---- runs of a part
 
 -- what is known of a run of a part from a cursor and of what is said after it, on any store
-pub record PartMade (e : PartEnds) (known : Option (Option Text)) (limits : Limits) (from : Cursor) (ran : RunEnd) (said : Performed) : Type 0 where
+pub record PartMade (e : PartEnds) (known : Option (Option Text)) (from : Cursor) (ran : RunEnd) (said : Performed) : Type 0 where
   pub begins : BeginsPartWith e known from
-  pub paid : IsPaid limits ran.spent ran.files
-  pub leads : ran.end ≢ run.Worn → (last : Option Place) × (ran.cursor ≡ after_run (begun from) ran.spent ran.files (state_after ran.end last))
   pub is_worn : ran.end ≡ run.Worn → IsWorn from
   pub worn_says : ran.end ≡ run.Worn → said.note ≡ note.CursorWorn
   pub worn_ends : ran.end ≡ run.Worn → (said.status ≡ 3) × IsNone said.cursor
   pub says : ran.end ≢ run.Worn → IsPartStoredNote e ran.cursor ran.spent ran.found ran.end said.status said.note said.cursor
 
 module _ (e : PartEnds) (known : Option (Option Text)) (limits : Limits) (from : Cursor) (ran : RunEnd) (said : Performed) where
-  -- a text that is handed back is that of the cursor that the run answered, and names the part
-  pub part_handed_back : PartMade e known limits from ran said → IfSome said.cursor (λ handed. PartHandedBack e known limits said.status said.note handed.items)
-  part_handed_back h = by said.cursor h.worn_ends h.says
-    where
-      by : (stored : Option (Vec ℕ Global)) → (ran.end ≡ run.Worn → (said.status ≡ 3) × IsNone stored) → (ran.end ≢ run.Worn → IsPartStoredNote e ran.cursor ran.spent ran.found ran.end said.status said.note stored)
-          → IfSome stored (λ handed. PartHandedBack e known limits said.status said.note handed.items)
-      by None ends says = tt
-      by (Some v) ends says =
-          let unworn : ran.end ≢ run.Worn = λ f. let gone = (ends f).1 in cc in
-          record {
-            from = from;
-            begins = h.begins;
-            ran = ran;
-            paid = h.paid;
-            last = (h.leads unworn).0;
-            cursor_is = (h.leads unworn).1;
-            handed_is = (says unworn).0;
-            says = (says unworn).1;
-          }
-
-  -- the same run on a store that tells its tree
-  module _ (root : StorageRoot) (s t : Store) (old new : Option (List ℕ)) (h : PartMade e known limits from ran said) where
+  -- on a store that tells its tree
+  module _ (root : StorageRoot) (s t : Store) (old new : Option (List ℕ)) (h : PartMade e known from ran said) where
     pub part_run_performed : (made : Part) → made ≡ part_between e → (ran.end ≡ run.Worn → (t ≡ s) × (new ≡ old)) → (ran.end ≢ run.Worn → RunsFromWithin root s t old new made from limits ran.cursor ran.spent ran.files ran.found ran.end)
         → (t.failures ≡ s.failures → RunsCleanlyWithin root old new made from limits ran.spent ran.files ran.found ran.end) → PartRunPerformed e known root s t old new limits said.status said.note said.cursor
     part_run_performed made same silent runs clean = by (worn_or_not ran.end)

@@ -39,7 +39,7 @@ all_taken root trail limits = joined (all_runs root trail limits)
 abbrev pub enough : List Item → ℕ → ℕ → ℕ
 enough items b n = total_cost items / b + total_files items / n + 1
 
--- from s to t a cycle made the runs of the limits: what they take together was written, and each hashed file of it was opened once, in order; inventories were read at most as often as there are any, and once more for each run behind the first
+-- from s to t a cycle made the runs of the limits: what they take together was written. Each hashed file of it was opened once, in order. Inventories were read at most as often as there are any, and once more for each run after the first
 pub record Cycles (root : StorageRoot) (s t : Store) (old new : Option (List ℕ)) (last : Option Place) (limits : List Limits) (spent files : ℕ) (finding : Bool) (count : ℕ) (whole : Bool) : Type 0 where
   pub trail : List Opening
   pub listed : List Place
@@ -106,7 +106,7 @@ all_in root trail part limits = joined (runs_in root trail part limits)
 abbrev pub inventories_in : StorageRoot → Part → ℕ
 inventories_in root part = length (holder root (entry part None)) + length (read_in root part None None)
 
--- from s to t a cycle made the runs of the limits over a part: what they take together was written, and each hashed file of it was opened once, in order; inventories were read at most as often as one run may read any, and once more for each run behind the first. The part has ended where a run was made and nothing of it is left
+-- from s to t a cycle made the runs of the limits over a part: what they take together was written. Each hashed file of it was opened once, in order. Inventories were read at most as often as one run may read any, and once more for each run after the first. The part has ended where a run was made and nothing of it is left
 pub record CyclesWithin (root : StorageRoot) (s t : Store) (old new : Option (List ℕ)) (part : Part) (last : Option Place) (limits : List Limits) (spent files : ℕ) (finding : Bool) (count : ℕ) (ends : Bool) : Type 0 where
   pub trail : List Opening
   pub listed : List Place
@@ -169,7 +169,7 @@ HeadlineOf root s t old new limits count (status.Stopped why) = ⊤
 
 -- ---- the headline of parts
 
--- The same of one part: while the root stays unchanged and every call succeeds, the reports of its runs, joined, are the cuts of what the audit has there; where its cycle has ended they are exactly that, and each hashed file of the part was opened once, in order; and it has ended within as many runs as its own cost by the budget and its own files by their limit, each rounded down, and one more
+-- The same of one part, while the root stays unchanged and every call succeeds. The reports of its runs, joined, are the cuts of what the audit has there. If its cycle has ended they are exactly that, and each hashed file of the part was opened once, in order. It has ended within as many runs as its cost by the budget and its files by their limit, each rounded down, and one more
 pub record HeadlineWithin (root : StorageRoot) (s t : Store) (old new : Option (List ℕ)) (part : Part) (limits : List Limits) (count : ℕ) (ends : Bool) : Type 0 where
   pub trail : List Opening
   pub opened : t.openings ≡ s.openings ++ trail

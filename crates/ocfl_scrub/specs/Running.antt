@@ -116,7 +116,7 @@ taken_in root trail part from limits = cut (items_above_in root trail part from)
 abbrev pub rest_in : StorageRoot → List Opening → Part → Option Place → Limits → List Item
 rest_in root trail part from limits = left (items_above_in root trail part from) limits
 
--- from s to t a run took the cut of its limits from a part. Each hashed file of it was opened once, in order. Listed were the first directories on the way down to where it began, and those of the part from there to the first item that is left; read were at most the inventory of the object that holds the place where it began, and those of the part from there on. What was spent passes the budget by less than the last file's cost
+-- from s to t a run took the cut of its limits from a part. Each hashed file of it was opened once, in order. Listed were the first directories on the way down to where it began, and those of the part from there to the first item that is left. Read were at most the inventory of the object that holds the place where it began, and those of the part from there on. What was spent passes the budget by less than the last file's cost
 pub record RunsWithin (root : StorageRoot) (s t : Store) (old new : Option (List ℕ)) (part : Part) (from last : Option Place) (limits : Limits) (spent files : ℕ) (finding : Bool) (next : Option Place) : Type 0 where
   pub trail : List Opening
   pub down : List Place
@@ -181,9 +181,6 @@ RunsFrom root s t old new c limits reached spent files finding end = RunsFromWit
 pub record RunsCleanWithin (root : StorageRoot) (old new : Option (List ℕ)) (part : Part) (from : Option Place) (limits : Limits) (spent files : ℕ) (finding : Bool) : Type 0 where
   pub wrote : Appends old new (text (cut (after (within part (audit root [])) from) limits))
   pub figures : Figures (cut (after (within part (audit root [])) from) limits) spent files finding
-
-abbrev pub RunsClean : StorageRoot → Option (List ℕ) → Option (List ℕ) → Option Place → Limits → ℕ → ℕ → Bool → Type 0
-RunsClean root old new from limits spent files finding = RunsCleanWithin root old new whole from limits spent files finding
 
 -- and it ended with the cycle exactly where it left nothing
 abbrev pub RunsCleanlyWithin : StorageRoot → Option (List ℕ) → Option (List ℕ) → Part → Cursor → Limits → ℕ → ℕ → Bool → RunStatus → Type 0

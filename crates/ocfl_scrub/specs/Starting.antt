@@ -45,7 +45,7 @@ entry_by (Some first) above = if is_before above first then directory_of first e
 abbrev pub entry : Part → Option Place → Option Place
 entry part above = entry_by (first_place part) above
 
--- and the place behind which it then stands
+-- and the place after which it then stands
 abbrev pub stand_by : StorageRoot → Option Place → Option Place → Option Place
 stand_by root None above = above
 stand_by root (Some first) above = if is_before above first then place_before root first else above

@@ -51,7 +51,7 @@ AuditEnds root s t old new last finding (end.Stopped why) = AuditStops root s t 
 abbrev pub items_in : StorageRoot → List Opening → Part → List Item
 items_in root trail part = within part (audit root (unread_of root trail))
 
--- from s to t the text of the audit of a part was written: each hashed file in it was opened once, in order. Listed were the first directories on the way down to where the part begins, and those of the part that are looked into, in order; read were at most the inventory of the object that holds the place gone down to, and those of the part
+-- from s to t the text of the audit of a part was written: each hashed file in it was opened once, in order. Listed were the first directories on the way down to where the part begins, and those of the part that are looked into, in order. Read were at most the inventory of the object that holds the place gone down to, and those of the part
 pub record AuditsWithin (root : StorageRoot) (s t : Store) (old new : Option (List ℕ)) (part : Part) (last : Option Place) (finding : Bool) : Type 0 where
   pub trail : List Opening
   pub down : List Place

@@ -1,5 +1,5 @@
 //! The audit of a storage root, or of a part of it.
-ghost use Rattle.std.specs.Prelude.{◌≡◌, ◌≢◌, ◌||◌, [], None, false, IsTrue};
+ghost use Rattle.std.specs.Prelude.{◌≡◌, ◌≢◌, [], None, false, IsTrue};
 ghost use Rattle.std.specs.Io.KnownBytes.{Appends};
 ghost use Rattle.ocfl_tree.specs.StorageRoot.{StorageRoot};
 ghost use Rattle.ocfl_report.specs.Line.{found as found_in};
@@ -66,8 +66,8 @@ pub fn audit<T: Tree, W: Write>(
     audit_part(alloc, store, &whole, block, out)
 }
 
-/// The same of the items of a part. Nothing outside the part is listed or read but on the way down
-/// to where it begins; `last` is `None` if no item of the part went out whole.
+/// Does for a part what [`audit`] does for the whole. Nothing outside the part is listed or read
+/// but on the way down to where it begins; `last` is `None` if no item of the part went out whole.
 pub fn audit_part<T: Tree, W: Write>(
     alloc: Global,
     store: &mut T,

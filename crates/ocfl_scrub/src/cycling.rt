@@ -91,8 +91,8 @@ pub fn cycle<T: Tree, W: Write>(
     cycle_part(alloc, store, &whole, limits, block, out)
 }
 
-/// The same of the items of a part: the runs begin with the part's first item, and the cycle ends
-/// where a run was made and no item of the part is left.
+/// Does for a part what [`cycle`] does for the whole. The runs begin with the part's first item,
+/// and the cycle ends once a run was made and no item of the part is left. Faults are as there.
 pub fn cycle_part<T: Tree, W: Write>(
     alloc: Global,
     store: &mut T,

@@ -15,7 +15,7 @@ pub enum Note {
     Nothing,
     /// There are no lines for the place.
     NoItem,
-    /// No item is in the branch.
+    /// The branch has no item.
     EmptyBranch,
     /// The path is not that of a place.
     BadPath,
@@ -49,8 +49,8 @@ pub enum Note {
     CursorFileFailed,
     /// The bytes are those of no cursor, for this reason, which is not that memory ran out.
     CursorRefused(Refused),
-    /// The bytes are those of no cursor of the part, or to be shown of no part's cursor, for this
-    /// reason, which is not that memory ran out.
+    /// The bytes are refused as the cursor of the part or, if they are to be shown, as that of any
+    /// part. The reason is never that memory ran out.
     PartCursorRefused(PartRefused),
 }
 
@@ -108,7 +108,7 @@ fn refused_word(why: Refused) -> &'static str
     }
 }
 
-// Why bytes are refused to a part.
+// Why bytes are refused as a part's cursor.
 fn part_refused_word(why: PartRefused) -> &'static str
     ensures { result.now ≡ part_refused_text why }
 {

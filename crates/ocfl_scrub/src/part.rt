@@ -13,13 +13,13 @@ use ocfl_tree::{Place, Tree};
 use ocfl_walk::{End, Fault, Walk};
 use std::alloc::Global;
 
-/// A part of a storage root: the places of one branch, from a first one on, and below another.
+/// A part of a storage root: the places of one branch, from a first place to before a last one.
 #[derive(Debug, Drop)]
 pub struct Part {
-    /// The place that the part begins with, and none for a part that begins with its branch.
-    pub from: Option<Place>,
-    /// The branch that it stays in, and the place below which it stays.
-    pub end: End,
+    /// The part has no place before this one. `None`: it begins with its branch.
+    pub(crate) from: Option<Place>,
+    /// The branch of the part, and the place before which the part ends.
+    pub(crate) end: End,
 }
 
 impl Part {
@@ -33,7 +33,7 @@ impl Part {
         }
     }
 
-    /// A place and all that lies below it.
+    /// A place and all that lies in it.
     pub fn branch(place: Place) -> Part
         ensures { part_of result ≡ branch place }
     {
@@ -46,7 +46,7 @@ impl Part {
         }
     }
 
-    /// What lies from one place on, that place included, and below another, where they are given.
+    /// The places from one on, itself included, that come before another. `None`: no bound there.
     pub fn between(alloc: Global, from: Option<Place>, below: Option<Place>) -> Part
         ensures { part_of result ≡ record { under = []; from = from; below = below } }
     {
@@ -75,10 +75,10 @@ impl Part {
     }
 }
 
-/// Begins the walk over what a part has above a place, and over all of it for none.
+/// Begins the walk over a part's items above a place, or over all of them if no place is given.
 ///
-/// It goes down to that place, or to the directory of the part's first place where that is greater:
-/// what lies at the first place is met with its item.
+/// It goes down to that place. If the part begins later, it goes down to the directory of the
+/// part's first place, so that the walk meets that place too.
 pub(crate) fn set_out<T: Tree>(
     alloc: Global,
     store: &mut T,

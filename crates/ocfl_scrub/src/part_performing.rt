@@ -1,8 +1,6 @@
 //! What the program does for a command within a scope: on the whole storage root, on a branch of
 //! it, or on one part.
-ghost use Rattle.std.specs.Prelude.{◌≡◌, ◌≢◌, ◌↔◌, ◌≤◌, ℕ, IfErr, IfOk, IsNone, IsTrue, None, Some};
-ghost use Rattle.std.specs.Prelude.{Vec};
-ghost use Rattle.std.specs.declared.alloc.Global.{Global};
+ghost use Rattle.std.specs.Prelude.{◌≡◌, ◌≢◌, ◌↔◌, ◌≤◌, IfErr, IfOk, IsNone, IsTrue, None, Some};
 ghost use Rattle.ocfl_tree.specs.StorageRoot.{StorageRoot};
 ghost use Rattle.ocfl_item.specs.Judging.{HasShortFiles};
 ghost use Rattle.ocfl_scrub.specs.Running.{limits_of};
@@ -21,7 +19,7 @@ ghost use Rattle.ocfl_scrub.specs.declared.scope.Scope.TheVariants as scopes;
 
 use crate::auditing::{AuditEnd, audit_part};
 use crate::checking::End;
-use crate::command::{describe_audit, status, stop_note};
+use crate::command::describe_audit;
 use crate::note::Note;
 use crate::part::Part;
 use crate::performing::{Performed, describe_run, perform, without_cursor};
@@ -37,12 +35,12 @@ use ocfl_walk::Fault;
 use std::alloc::Global;
 use std::io::{Read, Write};
 
-/// Does what is asked for within a scope, as `perform` does it in the whole storage root.
+/// Does what is asked for within a scope, as `perform` does on the whole storage root.
 ///
-/// The scope matters to an audit and to a run. An audit takes the items of the branch or of the
-/// part. A branch without items ends with status 2, so that a place that does not exist is no
-/// success; a part may be empty. A run takes the items of its part, and its cursor's text names
-/// the part: one of another part, or of the whole storage root, is refused.
+/// An audit takes the items of its branch or part. A branch without items ends with status 2, so
+/// that a place that does not exist does not pass as right; a part may be empty. A run takes the
+/// items of its part, and the text of its cursor names the part. It refuses the cursor of another
+/// part or of the whole root. A run within a branch, and any other command, takes the whole root.
 pub fn perform_part<T: Tree, R: Read, W: Write>(
     alloc: Global,
     store: &mut T,
@@ -128,6 +126,7 @@ fn audited_branch<T: Tree, W: Write>(
     describe_branch(audit_part(alloc, store, &part, block, out))
 }
 
+// Describes what the audit of a branch ended with.
 fn describe_branch(end: AuditEnd) -> (u8, Note)
     requires whole { end.end ≢ End.Stopped Fault.Broken }
     ensures note { IsBranchNote end.found end.end end.last result.0 result.1 }
@@ -137,14 +136,10 @@ fn describe_branch(end: AuditEnd) -> (u8, Note)
         → (end.end ≡ End.Ended) × (result.0 ≡ status_of end.found) }
     ensures empty { result.1 ≡ Note.EmptyBranch → (end.end ≡ End.Ended) × (end.last ≡ None) }
 {
-    let AuditEnd { found, last, end } = end;
-    match end {
-        End::Ended => match last {
-            Some(_) => (status(found), Note::Nothing),
-            None => (2, Note::EmptyBranch),
-        },
-        End::Stopped(why) => (3, stop_note(why)),
+    if matches!(end.end, End::Ended) && end.last.is_none() {
+        return (2, Note::EmptyBranch);
     }
+    describe_audit(end)
 }
 
 // Audits the part with these ends, and describes what the audit ended with.

@@ -21,10 +21,10 @@ ghost use Rattle.ocfl_scrub.specs.Joining.{reports_of};
 ghost use Rattle.ocfl_scrub.specs.WholeAudit.{AuditEndsWithin};
 ghost use Rattle.ocfl_scrub.specs.declared.checking.End.{End};
 
-/// The reports of the runs of one cycle of a part, joined, are what the audit has there, whatever
-/// processes made them, and each hashed file of the part was opened once, in order. Where each run
-/// has a budget of at least N bytes and a limit of at least M files, there are at most as many runs
-/// as the part's cost divided by N, plus its files divided by M, each rounded down, plus one.
+/// If no failure was counted, the reports of the runs of one cycle of a part, joined, are what the
+/// audit has there, whatever processes made them. Each hashed file of the part was opened once, in
+/// order. If each budget is at least B and each limit on files at least N, there are at most
+/// cost / B + files / N + 1 runs, by the cost and the files of the part, each rounded down.
 #[tactic(auto, using(crate::proofs::JoinLaws::part_reports, crate::proofs::JoinLaws::part_opened))]
 pub fn runs_of_a_part_join()
     ensures reports { (root : StorageRoot) (part : Part) (c : Cursor) (runs : List PartRun)
@@ -41,8 +41,8 @@ pub fn runs_of_a_part_join()
 {}
 
 /// While the root stays unchanged and every call succeeds, the reports of all parts that separators
-/// make, each made in any number of runs by any process, joined in their order, are exactly the
-/// whole-root audit; and each hashed file is opened once by one of them.
+/// make, joined in order, are exactly the audit of the whole root. Any number of runs, by any
+/// processes, may make the report of a part. Each hashed file is opened once, by one of them.
 #[tactic(auto, using(crate::proofs::JoinLaws::all_reports, crate::proofs::JoinLaws::all_opened))]
 pub fn parts_join_to_the_audit()
     ensures reports { (root : StorageRoot) (separators : List Place) (cycles : List PartCycle)

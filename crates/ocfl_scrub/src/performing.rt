@@ -14,7 +14,8 @@ ghost use Rattle.ocfl_scrub.specs.Performing.{BeginsWith, CyclePerformed, HandsB
 ghost use Rattle.ocfl_scrub.specs.Performing.{HasBadPath, IsKeptBy, IsSaid, IsSilent, IsWhole};
 ghost use Rattle.ocfl_scrub.specs.Performing.{IsWithoutFile};
 ghost use Rattle.ocfl_scrub.specs.Performing.{Performs, RefusesPath, RefusesRightly, RunPerformed};
-ghost use Rattle.ocfl_scrub.specs.Performing.{ShowsWith, StopsWith, UnshownSaid, WritesBy, bytes_of};
+ghost use Rattle.ocfl_scrub.specs.Performing.{ShowsWith, StopsWith, UnshownSaid, WritesBy};
+ghost use Rattle.ocfl_scrub.specs.Performing.{bytes_of};
 ghost use Rattle.ocfl_scrub.specs.Performing.{equal_limits as limits_of_each};
 
 use crate::command::{audited, checked, status, stop_note};
@@ -35,9 +36,9 @@ use std::io::{Read, Write};
 /// What a command ends with.
 #[derive(Debug, Drop)]
 pub struct Performed {
-    /// The exit status: 0 without a finding, 1 with one, 2 where the path is not that of a place, 3
-    /// after a stop, of a worn cursor, or where a cursor could not be read, 4 where the bytes are
-    /// those of no cursor.
+    /// The exit status: 0 without a finding, 1 with one. 2 if the path is not that of a place, or
+    /// a branch has no item. 3 after a stop, for a worn cursor, or if no cursor could be read. 4 if
+    /// the bytes are refused as a cursor.
     pub status: u8,
     /// What is to be said.
     pub note: Note,

@@ -1,5 +1,4 @@
-//! One run: what a part of a storage root has above its cursor's place, as far as its limits
-//! allow.
+//! One run: the items of a part above the cursor's place, as far as the limits allow.
 ghost use Rattle.std.specs.Prelude.{◌≡◌, ◌≢◌, ◌↔◌, ◌+◌, ◌≤◌, ◌^◌, Option, true, false, IsTrue};
 ghost use Rattle.std.specs.Prelude.{IfErr, IfOk};
 ghost use Rattle.ocfl_tree.specs.Place.{Place as Spot};
@@ -103,11 +102,12 @@ pub fn run<T: Tree, W: Write>(
     run_part(alloc, store, &whole, cursor, limits, block, out)
 }
 
-/// The same of the items of a part. A run begins with the part's first item if the cursor is new,
-/// has ended or has a lesser place. It ends the cycle if no item of the part is left. If it takes
-/// none, it leaves the cursor as it was.
+/// Does for a part what [`run`] does for the whole. From a cursor that is new, has ended, or has a
+/// place before the part, it begins with the part's first item. The cycle ends when no item of the
+/// part is left, so a cursor with a place after the part ends it at once. A run that takes no item
+/// and leaves some keeps the cursor's place.
 ///
-/// Nothing outside the part is listed or read but on the way down to where the run begins.
+/// Outside the part it lists and reads only what lies on the way down to where it begins.
 pub fn run_part<T: Tree, W: Write>(
     alloc: Global,
     store: &mut T,

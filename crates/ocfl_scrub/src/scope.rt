@@ -9,8 +9,8 @@ use ocfl_cursor::PartEnds;
 use ocfl_tree::Place;
 use std::alloc::{AllocError, Global};
 
-/// Which items of a storage root a command takes: an audit those of a branch or of a part, and a
-/// run those of a part. All other commands take the whole.
+/// Which items of a storage root a command takes. Only an audit heeds a branch, and only an audit
+/// or a run heeds a part. Any other command takes the whole.
 #[derive(Debug, Drop)]
 pub enum Scope {
     /// All of them.

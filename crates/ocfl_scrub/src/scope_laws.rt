@@ -1,6 +1,6 @@
 //! What a command within a scope ends with.
-ghost use Rattle.std.specs.Prelude.{◌≡◌, ◌≢◌, ◌↔◌, ◌⊎◌, ◌≤◌, ◌++◌, ℕ, List, [], Option, Some, None};
-ghost use Rattle.std.specs.Prelude.{Vec, length};
+ghost use Rattle.std.specs.Prelude.{◌≡◌, ◌≢◌, ◌⊎◌, ◌≤◌, ◌++◌, ℕ, List, [], Option, Some, Vec};
+ghost use Rattle.std.specs.Prelude.{length};
 ghost use Rattle.std.specs.declared.alloc.Global.{Global};
 ghost use Rattle.ocfl_tree.specs.Place.{Place};
 ghost use Rattle.ocfl_tree.specs.StorageRoot.{StorageRoot};
@@ -12,6 +12,7 @@ ghost use Rattle.ocfl_audit.specs.Trail.{unread_of};
 ghost use Rattle.ocfl_cursor.specs.Cursor.{Cursor};
 ghost use Rattle.ocfl_cursor.specs.Part.{IsPartText};
 ghost use Rattle.ocfl_cursor.specs.Refusal.{IsTextOf};
+ghost use Rattle.ocfl_cursor.specs.Stop.{max_part_text};
 ghost use Rattle.ocfl_cursor.specs.declared.ends.PartEnds.{PartEnds};
 ghost use Rattle.ocfl_cursor.specs.declared.refused.PartRefused.{PartRefused};
 ghost use Rattle.ocfl_cursor.specs.declared.refused.PartRefused.TheVariants as refused;
@@ -23,7 +24,7 @@ ghost use Rattle.ocfl_scrub.specs.declared.note.Note.{Note};
 ghost use Rattle.ocfl_scrub.specs.declared.note.Note.TheVariants as note;
 ghost use Rattle.ocfl_scrub.specs.declared.scope.Scope.TheVariants as scope;
 
-/// Within the whole storage root a command ends with what it ends with without a scope.
+/// Within the whole storage root a command ends as it does without a scope.
 pub fn the_whole_is_no_other_scope()
     ensures said { (d : Deed) (n : Note) → IsSaidIn d scope.Whole n → IsSaid d n }
     ensures refused { (d : Deed) (known : Option (Option (List ℕ))) (n : Note)
@@ -38,7 +39,7 @@ pub fn the_whole_is_no_other_scope()
         → Performs known root s t old new d status n stored }
 {}
 
-/// A branch is said to be without items exactly where it has none, if its audit did not stop.
+/// If the audit of a branch did not stop, it reports the branch as empty exactly if it has no item.
 pub fn an_empty_branch_has_no_item()
     ensures empty { (root : StorageRoot) (s t : Store) (old new : Option (List ℕ)) (p : Place)
         (status : ℕ) → BranchAudited root s t old new p status note.EmptyBranch
@@ -50,15 +51,15 @@ pub fn an_empty_branch_has_no_item()
         × (within (branch p) (audit root (unread_of root trail)) ≢ [])) }
 {}
 
-/// A run of a part refuses its own cursor for want of memory alone. It refuses a part's cursor as
-/// another part's or for want of memory, and a cursor of the whole storage root as none.
+/// A run of a part refuses its own cursor, of at most 67,108,864 bytes, only for want of memory. It
+/// refuses the cursor of another part as such, and that of the whole root as no cursor.
 pub fn a_part_takes_its_own_cursor_alone()
     ensures own { (e : PartEnds) (bytes : List ℕ) (c : Cursor) (why : PartRefused)
-        → IsPartText e bytes c → length bytes ≤ 67108864
+        → IsPartText e bytes c → length bytes ≤ max_part_text
         → PartRefusesRightly e (Some (Some bytes)) (note.PartCursorRefused why)
         → why ≡ refused.Memory }
     ensures of_a_part { (e f : PartEnds) (bytes : List ℕ) (c : Cursor) (why : PartRefused)
-        → IsPartText f bytes c → length bytes ≤ 67108864
+        → IsPartText f bytes c → length bytes ≤ max_part_text
         → PartRefusesRightly e (Some (Some bytes)) (note.PartCursorRefused why)
         → (why ≡ refused.OtherPart) ⊎ (why ≡ refused.Memory) }
     ensures whole { (e : PartEnds) (bytes : List ℕ) (c : Cursor) (why : PartRefused)

@@ -1,4 +1,3 @@
-use Rattle.std.proofs.Common.{◌≡◌}
 use Rattle.ocfl_scrub.proofs.ScopeLaws.{branch_performed}
 use Rattle.ocfl_scrub.proofs.part_performing.audited_branch.Goals as goal
 

@@ -1,6 +1,5 @@
 use Rattle.std.proofs.Common.{ap}
 use Rattle.ocfl_scrub.specs.Performing.{bytes_of}
-use Rattle.ocfl_scrub.specs.Running.{limits_of}
 use Rattle.ocfl_scrub.proofs.ScopeLaws.{PartMade, part_run_performed}
 use Rattle.ocfl_scrub.proofs.part_performing.perform_part_run.Goals as goal
 
@@ -8,10 +7,8 @@ pub returns-clause-told : goal.returns-clause-told
 returns-clause-told g c told root over short =
     let r = c.run_part-end.ensures in
     let e = c.conclude_part_run.ensures in
-    let made : PartMade c.args.ends.now (bytes_of g.R.Read.remaining c.args.reader) (limits_of c.args.limits) c.in-Ok.cursor c.run_part-end.result c.conclude_part_run.result = record {
+    let made : PartMade c.args.ends.now (bytes_of g.R.Read.remaining c.args.reader) c.in-Ok.cursor c.run_part-end.result c.conclude_part_run.result = record {
       begins = c.in-Ok.ensures.cursor;
-      paid = r.paid;
-      leads = r.cursor;
       is_worn = r.worn.0;
       worn_says = e.worn.1;
       worn_ends = e.worn_ends;

@@ -72,18 +72,18 @@ sum_front (suc k) (b ∷ bs) = let m = sum_front k bs in omega (arith, m)
 
 -- ---- a cycle over a part
 
-module _ (root : StorageRoot) (part : Part) (s t : Store) (old new : Option (List ℕ)) (last : Option Place) (limits : List Limits) (spent files : ℕ) (finding : Bool) (count : ℕ) where
-  part_is : (os : List Opening) → items_in root os part ≡ items_at root os (due_within root part None)
-  part_is os = above_in root part None os
+part_is : (root : StorageRoot) (part : Part) (os : List Opening) → items_in root os part ≡ items_at root os (due_within root part None)
+part_is root part os = above_in root part None os
 
+module _ (root : StorageRoot) (part : Part) (s t : Store) (old new : Option (List ℕ)) (last : Option Place) (limits : List Limits) (spent files : ℕ) (finding : Bool) (count : ℕ) where
   pub cycles : (ended : Bool) → Parts root part s t old new None last limits spent files finding count ended → CyclesWithin root s t old new part last limits spent files finding count ended
   cycles ended h =
       let k = h.took in
       let items : List Item = items_in root k.trail part in
-      let are : all_in root k.trail part limits ≡ items_at root k.trail k.done = ap (λ is. joined (runs is limits)) (part_is k.trail) ∙ h.runs_are in
+      let are : all_in root k.trail part limits ≡ items_at root k.trail k.done = ap (λ is. joined (runs is limits)) (part_is root part k.trail) ∙ h.runs_are in
       let at_places : k.done ≡ places (all_in root k.trail part limits) = sym (ap places are ∙ places_of_items root k.trail k.done) in
-      let counted : count ≡ length (runs_in root k.trail part limits) = h.count_is ∙ ap (λ is. length (runs is limits)) (sym (part_is k.trail)) in
-      let to_end : all_in root k.trail part limits ≡ items → ended ≡ true = λ e. h.ended_is ∙ none_due root k.trail k.done (due_within root part last) (sym are ∙ e ∙ part_is k.trail ∙ ap (items_at root k.trail) k.due_are) in
+      let counted : count ≡ length (runs_in root k.trail part limits) = h.count_is ∙ ap (λ is. length (runs is limits)) (sym (part_is root part k.trail)) in
+      let to_end : all_in root k.trail part limits ≡ items → ended ≡ true = λ e. h.ended_is ∙ none_due root k.trail k.done (due_within root part last) (sym are ∙ e ∙ part_is root part k.trail ∙ ap (items_at root k.trail) k.due_are) in
       let done_all : ended ≡ true → k.done ≡ due_within root part None = λ e. sym (k.due_are ∙ ap (λ qs. k.done ++ qs) (nothing (due_within root part last) (sym h.ended_is ∙ e)) ∙ append-nil k.done) in
       record {
         trail = k.trail;
@@ -95,7 +95,7 @@ module _ (root : StorageRoot) (part : Part) (s t : Store) (old new : Option (Lis
         figures = subst (λ is. Figures is spent files finding) (sym are) k.figures;
         count_is = counted;
         last_is = k.last_is ∙ ap (last_of None) at_places;
-        ends_is = (λ e. (h.made e, are ∙ ap (items_at root k.trail) (done_all e) ∙ sym (part_is k.trail)), λ e. to_end e.1);
+        ends_is = (λ e. (h.made e, are ∙ ap (items_at root k.trail) (done_all e) ∙ sym (part_is root part k.trail)), λ e. to_end e.1);
         few = λ b n p q large. let m = large_few b n p q limits items large in omega (arith, counted, m);
         suffice = λ b n p q large fits. to_end (large_whole b n p q limits items large fits);
         by_sum = λ k p fits files_fit sum.
@@ -111,11 +111,11 @@ module _ (root : StorageRoot) (part : Part) (s t : Store) (old new : Option (Lis
       record {
         trail = h.trail;
         made = some;
-        count_fits = subst (λ is. count ≤ length (runs is limits)) (sym (part_is h.trail)) h.count_fits;
+        count_fits = subst (λ is. count ≤ length (runs is limits)) (sym (part_is root part h.trail)) h.count_fits;
         stops = record {
           whole = whole;
           others = h.others;
-          items_are = ap (λ is. joined (take count (runs is limits))) (part_is h.trail) ∙ h.runs_begin;
+          items_are = ap (λ is. joined (take count (runs is limits))) (part_is root part h.trail) ∙ h.runs_begin;
           begun = h.begun;
           one = h.one;
           part = h.gone;
@@ -123,7 +123,7 @@ module _ (root : StorageRoot) (part : Part) (s t : Store) (old new : Option (Lis
           part_of = h.part_of;
           last_is = h.last_is ∙ ap (last_of None) at_places;
         };
-        runs_before = subst (λ is. IsFront (joined (take (count - 1) (runs is limits))) whole) (sym (part_is h.trail)) h.runs_before;
+        runs_before = subst (λ is. IsFront (joined (take (count - 1) (runs is limits))) whole) (sym (part_is root part h.trail)) h.runs_before;
         figures = h.figures;
         listed = h.listed;
         heads = h.heads;
@@ -134,7 +134,7 @@ module _ (root : StorageRoot) (part : Part) (s t : Store) (old new : Option (Lis
   -- ---- where no failure was counted
 
   part_places : (os : List Opening) → places (items_in root os part) ≡ places_within part (item_places root)
-  part_places os = ap places (part_is os) ∙ places_of_items root os (due_within root part None) ∙ ap (places_within part) (due_all root)
+  part_places os = ap places (part_is root part os) ∙ places_of_items root os (due_within root part None) ∙ ap (places_within part) (due_all root)
 
   part_headline : (ends : Bool) → CyclesWithin root s t old new part last limits spent files finding count ends → t.failures ≡ s.failures → HeadlineWithin root s t old new part limits count ends
   part_headline ends h same =
@@ -188,7 +188,7 @@ module _ (root : StorageRoot) (s t : Store) (old new : Option (List ℕ)) (last 
   some_run os counted e = by (all_runs root os limits) refl
     where
       some_items : is_empty (audit_of root os) ≡ false
-      some_items = ap is_empty (part_is root whole s t old new last limits spent files finding count os) ∙ items_there root os (due root None) (root_is_due root)
+      some_items = ap is_empty (part_is root whole os) ∙ items_there root os (due root None) (root_is_due root)
 
       by : (rs : List (List Item)) → all_runs root os limits ≡ rs → 1 ≤ count
       by [] f = absurd (let g : is_empty (audit_of root os) ≡ true = sym (ap is_empty (sym (ap joined f) ∙ e)) in true_not_false (sym g ∙ some_items))

@@ -16,7 +16,7 @@ use Rattle.ocfl_audit.specs.Runs.{Limits, cut, left, runs, total_files, IsAtLeas
 use Rattle.ocfl_audit.specs.Trail.{content_trail, unread_of}
 use Rattle.ocfl_audit.proofs.PartLaws.{texts_join, hashed_join, within_by_places}
 use Rattle.ocfl_audit.proofs.RunLaws.{large_few}
-use Rattle.ocfl_audit.proofs.Trails.{filter_append}
+use Rattle.ocfl_item.proofs.AuditingLaws.{hashed_append}
 use Rattle.ocfl_cursor.specs.Cursor.{Cursor}
 use Rattle.ocfl_scrub.specs.Written.{places, last_of}
 use Rattle.ocfl_scrub.specs.Running.{first_of, place_in, state_after, RunsWithin, RunEndsWithin}
@@ -30,10 +30,6 @@ use Rattle.ocfl_scrub.proofs.RunLaws.{no_first}
 use Rattle.ocfl_scrub.proofs.RunPlaces.{after_front}
 use Rattle.ocfl_scrub.proofs.RunsJoined.{runs_go_on}
 use Rattle.ocfl_scrub.proofs.CycleTurns.{place_there}
-
-hashed_append : (root : StorageRoot) (ps qs : List Place) → hashed_among root (ps ++ qs) ≡ hashed_among root ps ++ hashed_among root qs
-unfolding hashed_among
-hashed_append root ps qs = filter_append _ ps qs
 
 some_first : (items : List Item) (p : Place) → Some p ≡ first_of items → is_empty items ≡ false
 some_first [] p e = absurd cc

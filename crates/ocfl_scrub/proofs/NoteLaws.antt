@@ -19,7 +19,7 @@ use Rattle.ocfl_item.specs.declared.fault.Fault.{Fault}
 use Rattle.ocfl_item.specs.declared.fault.Fault.TheVariants as fault
 use Rattle.ocfl_deed.specs.declared.deed.Deed.{Deed}
 use Rattle.ocfl_deed.specs.declared.deed.Deed.TheVariants as deed
-use Rattle.ocfl_scrub.specs.Noting.{IsStatus, IsStopSaid, IsRunSaid, IsStopNote, IsAuditSaid, IsCheckSaid, IsCycleSaid, IsShowSaid, IsCheckNote, IsAuditNote, IsRunNote, IsCycleNote, IsUnreadNote, IsUnshownNote}
+use Rattle.ocfl_scrub.specs.Noting.{IsStatus, IsStopSaid, IsRunSaid, IsStopNote, IsAuditSaid, IsCheckSaid, IsCycleSaid, IsShowSaid, IsCheckNote, IsAuditNote, IsRunNote, IsCycleNote, IsUnreadNote, IsUnshownNote, IsRanSaid}
 use Rattle.ocfl_scrub.specs.Performing.{IsKept, IsKeptBy, IsSilent, IsWhole}
 use Rattle.ocfl_scrub.specs.Scoping.{IsBranchNote, IsBranchSaid, IsPartRunSaid, IsPartUnreadNote}
 use Rattle.ocfl_scrub.specs.declared.checking.End.{End}
@@ -320,19 +320,23 @@ unread_said status refused.Memory e = absurd (e.1 refl)
 abbrev counted : ℕ → ℕ → Cursor
 counted cycle runs = record { cycle = cycle; runs = runs; spent = 0; files = 0; state = start }
 
+-- a run was made
+ran_said : (status : ℕ) (n : Note) → IsStatus status n → IsRanSaid n → (c : Cursor) × ((spent : ℕ) × ((finding : Bool) × ((how : RunStatus) × IsRunNote c spent finding how status n)))
+ran_said status (note.RunMade cycle runs cost true) (inl e) h = (counted cycle runs, (cost, (false, (run.Ended, (e, refl)))))
+ran_said status (note.RunMade cycle runs cost true) (inr e) h = (counted cycle runs, (cost, (true, (run.Ended, (e, refl)))))
+ran_said status (note.RunMade cycle runs cost false) (inl e) h = (counted cycle runs, (cost, (false, (run.Spent, (e, refl)))))
+ran_said status (note.RunMade cycle runs cost false) (inr e) h = (counted cycle runs, (cost, (true, (run.Spent, (e, refl)))))
+ran_said status (note.StoppedAt p) e h = (new_cursor, (0, (false, (run.Stopped (fault.Store p), (e, refl)))))
+ran_said status note.OutOfMemory e h = (new_cursor, (0, (false, (run.Stopped fault.Memory, (e, refl)))))
+ran_said status note.OutputFailed e h = (new_cursor, (0, (false, (run.Stopped fault.Output, (e, refl)))))
+ran_said status note.CursorWorn e h = (new_cursor, (0, (false, (run.Worn, (e, refl)))))
+ran_said status n e h = absurd h
+
 pub run_said : (status : ℕ) (n : Note) → IsStatus status n → IsRunSaid n
     → ((c : Cursor) × ((spent : ℕ) × ((finding : Bool) × ((how : RunStatus) × IsRunNote c spent finding how status n)))) ⊎ ((how : CursorStop) × IsUnreadNote how status n)
-run_said status (note.RunMade cycle runs cost true) (inl e) h = inl (counted cycle runs, (cost, (false, (run.Ended, (e, refl)))))
-run_said status (note.RunMade cycle runs cost true) (inr e) h = inl (counted cycle runs, (cost, (true, (run.Ended, (e, refl)))))
-run_said status (note.RunMade cycle runs cost false) (inl e) h = inl (counted cycle runs, (cost, (false, (run.Spent, (e, refl)))))
-run_said status (note.RunMade cycle runs cost false) (inr e) h = inl (counted cycle runs, (cost, (true, (run.Spent, (e, refl)))))
-run_said status (note.StoppedAt p) e h = inl (new_cursor, (0, (false, (run.Stopped (fault.Store p), (e, refl)))))
-run_said status note.OutOfMemory e h = inl (new_cursor, (0, (false, (run.Stopped fault.Memory, (e, refl)))))
-run_said status note.OutputFailed e h = inl (new_cursor, (0, (false, (run.Stopped fault.Output, (e, refl)))))
-run_said status note.CursorWorn e h = inl (new_cursor, (0, (false, (run.Worn, (e, refl)))))
 run_said status note.CursorFileFailed e h = inr (stop.Read, (e, refl))
 run_said status (note.CursorRefused why) e h = inr (unread_said status why e)
-run_said status n e h = absurd h
+run_said status n e h = inl (ran_said status n e h)
 
 -- why a part's cursor is refused, as its text says
 part_refused_said : (status : ℕ) (why : PartRefused) → (status ≡ 4) × (why ≢ part.Memory) → IsPartUnreadNote (stops.Refused why) status (note.PartCursorRefused why) × IsUnshownNote (show.Part why) status (note.PartCursorRefused why)
@@ -364,12 +368,4 @@ pub part_run_said : (status : ℕ) (n : Note) → IsStatus status n → IsPartRu
     → ((c : Cursor) × ((spent : ℕ) × ((finding : Bool) × ((how : RunStatus) × IsRunNote c spent finding how status n)))) ⊎ ((how : PartCursorStop) × IsPartUnreadNote how status n)
 part_run_said status note.CursorFileFailed e h = inr (stops.Read, (e, refl))
 part_run_said status (note.PartCursorRefused why) e h = inr (stops.Refused why, (part_refused_said status why e).0)
-part_run_said status (note.RunMade cycle runs cost true) (inl e) h = inl (counted cycle runs, (cost, (false, (run.Ended, (e, refl)))))
-part_run_said status (note.RunMade cycle runs cost true) (inr e) h = inl (counted cycle runs, (cost, (true, (run.Ended, (e, refl)))))
-part_run_said status (note.RunMade cycle runs cost false) (inl e) h = inl (counted cycle runs, (cost, (false, (run.Spent, (e, refl)))))
-part_run_said status (note.RunMade cycle runs cost false) (inr e) h = inl (counted cycle runs, (cost, (true, (run.Spent, (e, refl)))))
-part_run_said status (note.StoppedAt p) e h = inl (new_cursor, (0, (false, (run.Stopped (fault.Store p), (e, refl)))))
-part_run_said status note.OutOfMemory e h = inl (new_cursor, (0, (false, (run.Stopped fault.Memory, (e, refl)))))
-part_run_said status note.OutputFailed e h = inl (new_cursor, (0, (false, (run.Stopped fault.Output, (e, refl)))))
-part_run_said status note.CursorWorn e h = inl (new_cursor, (0, (false, (run.Worn, (e, refl)))))
-part_run_said status n e h = absurd h
+part_run_said status n e h = inl (ran_said status n e h)

@@ -10,13 +10,14 @@ use Rattle.ocfl_tree.specs.Ascending.{IsAscending, IsAmong}
 use Rattle.ocfl_tree.specs.StorageRoot.{StorageRoot}
 use Rattle.ocfl_tree.specs.declared.store.Opening.{Opening}
 use Rattle.ocfl_tree.proofs.Orders.{place_cmp_total, place_cmp_exact, true_not_false, below_from_greater, ascends_filter, among_from_filter}
+use Rattle.ocfl_tree.proofs.Places.{begins-itself}
 use Rattle.ocfl_audit.specs.Audit.{Unread, audit, item_of}
 use Rattle.ocfl_audit.specs.Between.{IsBeyond, up_to, looked_between, read_between}
 use Rattle.ocfl_audit.specs.Due.{due, items_at}
 use Rattle.ocfl_audit.specs.Parts.{Part, is_from, is_below, lies_in, within, places_within}
 use Rattle.ocfl_audit.specs.Trail.{unread_of}
 use Rattle.ocfl_audit.proofs.AuditExists.{audit_is}
-use Rattle.ocfl_audit.proofs.BelowLaws.{less_from, begins_front, begins_rest, cmp_behind}
+use Rattle.ocfl_audit.proofs.BelowLaws.{less_from, begins_rest, cmp_behind}
 use Rattle.ocfl_audit.proofs.BetweenLaws.{from_between}
 use Rattle.ocfl_audit.proofs.DueLaws.{after_is_due}
 use Rattle.ocfl_audit.proofs.Lists.{map_filter, filter_same}
@@ -60,8 +61,9 @@ not_less_or x a b h k = by (place_cmp a b) refl
     by Equal e = subst (λ z. is_lt (place_cmp x z) ≡ false) (place_cmp_exact a b e) h
     by Greater e = not_less_twice x a b h (below_from_greater place_cmp_total a b e)
 
-begins_itself : (u : Place) → begins u u ≡ true
-begins_itself u = subst (λ z. begins u z ≡ true) (append-nil u) (begins_front u [])
+unless_root_is : (g b : Place) → unless_root g ≡ Some b → g ≡ b
+unless_root_is [] b e = absurd (let two : None ≡ Some b = e in cc)
+unless_root_is (n ∷ g) b e = let two : Some (n ∷ g) ≡ Some b = e in cc
 
 nothing_less : (x : Place) → is_lt (place_cmp x []) ≡ false
 nothing_less [] = refl
@@ -115,7 +117,7 @@ module _ (part : Part) (x : Place) where
     where
       by : (r : Ordering) → place_cmp x part.under ≡ r → is_lt (place_cmp part.under x) ≡ true
       by Less e = absurd (true_not_false (sym (ap is_lt e) ∙ low))
-      by Equal e = absurd (true_not_false (sym (subst (λ z. begins z x ≡ true) (place_cmp_exact x part.under e) (begins_itself x)) ∙ out))
+      by Equal e = absurd (true_not_false (sym (subst (λ z. begins z x ≡ true) (place_cmp_exact x part.under e) (begins-itself x)) ∙ out))
       by Greater e = ap is_lt (below_from_greater place_cmp_total x part.under e)
 
   -- a place of the branch
@@ -167,12 +169,8 @@ module _ (part : Part) where
   not_less_first : (b x : Place) → first_place part ≡ Some b → lies_in part x ≡ true → is_lt (place_cmp x b) ≡ false
   not_less_first b x e h = by (is_lt (place_cmp x b)) refl
     where
-      same : (g : Place) → unless_root g ≡ Some b → g ≡ b
-      same [] f = absurd (let two : None ≡ Some b = f in cc)
-      same (n ∷ g) f = let two : Some (n ∷ g) ≡ Some b = f in cc
-
       shown : not (is_lt (place_cmp x b)) && not (is_past (end_of part) x) ≡ true
-      shown = subst (λ g. not (is_lt (place_cmp x g)) && not (is_past (end_of part) x) ≡ true) (same (greater_of part.under part.from) e) (sym (lies_exact part x) ∙ h)
+      shown = subst (λ g. not (is_lt (place_cmp x g)) && not (is_past (end_of part) x) ≡ true) (unless_root_is (greater_of part.under part.from) b e) (sym (lies_exact part x) ∙ h)
 
       by : (r : Bool) → is_lt (place_cmp x b) ≡ r → is_lt (place_cmp x b) ≡ false
       by true f = absurd (true_not_false (sym (sym (ap (λ r. not r && not (is_past (end_of part) x)) f) ∙ shown)))
@@ -200,13 +198,9 @@ module _ (root : StorageRoot) (part : Part) (f : Option Place → List Place) (f
       ∙ filter_same _ _ (λ x. by x (is_lt (place_cmp p x)) refl) (f None)
       ∙ sym (filter_twice (lies_in part) (λ q. is_lt (place_cmp p q)) (f None)) ∙ sym (places_within_is part (filter (λ q. is_lt (place_cmp p q)) (f None))) ∙ ap (places_within part) (sym (after_p p))
     where
-      first_is : (g : Place) → unless_root g ≡ Some b → g ≡ b
-      first_is [] h = absurd (let two : None ≡ Some b = h in cc)
-      first_is (n ∷ g) h = let two : Some (n ∷ g) ≡ Some b = h in cc
-
       far : (x : Place) → is_lt (place_cmp p x) ≡ true → lies_in part x ≡ not (is_past (end_of part) x)
       far x h =
-          lies_exact part x ∙ ap (λ g. not (is_lt (place_cmp x g)) && not (is_past (end_of part) x)) (first_is (greater_of part.under part.from) e)
+          lies_exact part x ∙ ap (λ g. not (is_lt (place_cmp x g)) && not (is_past (end_of part) x)) (unless_root_is (greater_of part.under part.from) b e)
           ∙ ap (λ r. not r && not (is_past (end_of part) x)) (not_less_or x p b (not_below p x (less_from _ h)) t)
 
       by : (x : Place) (r : Bool) → is_lt (place_cmp p x) ≡ r → is_lt (place_cmp p x) && not (is_past (end_of part) x) ≡ is_lt (place_cmp p x) && lies_in part x

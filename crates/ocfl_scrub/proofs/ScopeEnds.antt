@@ -39,32 +39,20 @@ use Rattle.ocfl_scrub.specs.declared.scope.Scope.TheVariants as scope
 
 pub whole_said : (d : Deed) (n : Note) → IsSaidIn d scope.Whole n → IsSaid d n
 whole_said deed.Audit n h = h
-whole_said (deed.Run limits) n h = h
-whole_said (deed.Cycle limits count) n h = h
-whole_said (deed.Check path) n h = h
-whole_said deed.Show n h = h
+whole_said d n h = h
 
 pub whole_refused : (d : Deed) (known : Option (Option (List ℕ))) (n : Note) → RefusesRightlyIn d scope.Whole known n → RefusesRightly known n
 whole_refused deed.Audit known n h = h
-whole_refused (deed.Run limits) known n h = h
-whole_refused (deed.Cycle limits count) known n h = h
-whole_refused (deed.Check path) known n h = h
-whole_refused deed.Show known n h = h
+whole_refused d known n h = h
 
 pub whole_handed_back : (d : Deed) (known : Option (Option (List ℕ))) (status : ℕ) (n : Note) (stored : Option (Vec ℕ Global)) → HandsBackIn d scope.Whole known status n stored → HandsBack known d status n stored
 whole_handed_back deed.Audit known status n stored h = h
-whole_handed_back (deed.Run limits) known status n stored h = h
-whole_handed_back (deed.Cycle limits count) known status n stored h = h
-whole_handed_back (deed.Check path) known status n stored h = h
-whole_handed_back deed.Show known status n stored h = h
+whole_handed_back d known status n stored h = h
 
 pub whole_told : (d : Deed) (known : Option (Option (List ℕ))) (root : StorageRoot) (s t : Store) (old new : Option (List ℕ)) (status : ℕ) (n : Note) (stored : Option (Vec ℕ Global))
     → PerformsIn d scope.Whole known root s t old new status n stored → Performs known root s t old new d status n stored
 whole_told deed.Audit known root s t old new status n stored h = h
-whole_told (deed.Run limits) known root s t old new status n stored h = h
-whole_told (deed.Cycle limits count) known root s t old new status n stored h = h
-whole_told (deed.Check path) known root s t old new status n stored h = h
-whole_told deed.Show known root s t old new status n stored h = h
+whole_told d known root s t old new status n stored h = h
 
 -- ---- branches
 

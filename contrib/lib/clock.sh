@@ -19,14 +19,14 @@ read_end() {
     esac
     end=$(($(seconds_now) + $(awk -v hours="$hours" 'BEGIN { printf "%.0f", hours * 3600 }')))
   fi
-  [ -z "$end" ] || [ "$(size_of "$budget")" -gt 0 ] || {
+  [ -z "$end" ] || [ "$(read_size "$budget")" -gt 0 ] || {
     complaint="--budget needs a number like 20G"
     return 1
   }
 }
 
 # The number that a size says, as ocfl-scrub reads it: 20G, 20GiB, 20GB. 0 where it is none.
-size_of() {
+read_size() {
   printf '%s\n' "$1" | LC_ALL=C awk '
     tolower($0) ~ /^[0-9]+([kmgt](i?b)?)?$/ {
       size = $0 + 0
@@ -60,5 +60,5 @@ next_slice() {
   left=$((end - $(seconds_now)))
   [ "$left" -gt 0 ] || return 1
   fits=$(($(rate) * left))
-  if [ "$fits" -gt 0 ] && [ "$fits" -lt "$(size_of "$budget")" ]; then slice=$fits; fi
+  if [ "$fits" -gt 0 ] && [ "$fits" -lt "$(read_size "$budget")" ]; then slice=$fits; fi
 }

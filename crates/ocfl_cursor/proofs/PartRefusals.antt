@@ -53,7 +53,7 @@ part_unshown_after_seal : (b body : Text) (r : PartRefused) → is_part_front b 
     → (r ≡ Malformed → (f : PartEnds) (c : Cursor) → IsPartBody f body c → ⊥) → PartUnshownRightly b r
 part_unshown_after_seal b body r front is (inl m) none =
     subst (PartUnshownRightly b) (sym m) (record { sealed = sealed_part b body front is; no_cursor = λ f c h. none m f c (IsPartBody-sealed f b body c is h) })
-part_unshown_after_seal b body r front is (inr m) none = subst (PartUnshownRightly b) (sym m) tt
+part_unshown_after_seal b body r front is (inr m) none = subst (PartUnshownRightly b) (sym m) (is_sealed-sealed b body is)
 
 pub part_unshown : {A : Type 0} (b body : Text) (r : Result A PartRefused) (passed known : PartRefused) → r ≡ Err passed → passed ≡ known → is_part_front b ≡ true → b ≡ body ++ digest_line body
     → (known ≡ Malformed) ⊎ (known ≡ Memory) → (known ≡ Malformed → (f : PartEnds) (c : Cursor) → IsPartBody f body c → ⊥) → IfErr r (λ s. PartUnshownRightly b s)

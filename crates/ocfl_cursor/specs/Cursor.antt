@@ -6,7 +6,7 @@ use Rattle.ocfl_tree.specs.Place.{Text, Place}
 use Rattle.ocfl_tree.specs.Name.{IsPlace}
 use Rattle.ocfl_report.specs.Text.{place_text}
 
--- where the next run begins: at the first item, behind a place, or with the next cycle
+-- where the next run begins: at the first item, after a place, or with the next cycle
 pub data State : Type 0 where
   start : State
   behind : Place → State

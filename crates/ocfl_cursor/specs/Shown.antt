@@ -42,11 +42,11 @@ pub record IsShownFrom (known : Option Text) (lines : Text) : Type 0 where
 
 -- ---- why nothing is shown
 
--- as the text of a part's cursor
+-- as the text of a part's cursor, for which memory is asked once its digest line is right
 abbrev pub PartUnshownRightly : Text → PartRefused → Type 0
 PartUnshownRightly b part.Damaged = is_sealed b ≡ false
 PartUnshownRightly b part.Malformed = IsMalformedPart b
-PartUnshownRightly b part.Memory = ⊤
+PartUnshownRightly b part.Memory = is_sealed b ≡ true
 PartUnshownRightly b r = ⊥
 
 -- by the kind that the first line names, the bytes are rightly refused, unless the reader failed or memory was refused

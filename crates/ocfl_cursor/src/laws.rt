@@ -68,8 +68,8 @@ pub fn no_stored_part_is_refused()
         → (why ≡ PartCursorStop.Read) ⊎ (why ≡ PartCursorStop.Refused PartRefused.Memory) }
 {}
 
-/// A text determines what is shown of it, and nothing is shown only if the reader failed or memory
-/// was refused.
+/// A text determines what is shown of it. If lines can be shown of it, only a failing reader or
+/// refused memory prevents that.
 pub fn text_determines_what_is_shown()
     ensures lines { (b l m : List ℕ) → AreShown b l → AreShown b m → l ≡ m }
     ensures not_refused { (b l : List ℕ) → AreShown b l → (why : ModelShowStop)

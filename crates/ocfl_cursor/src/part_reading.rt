@@ -21,8 +21,8 @@ pub enum PartCursorStop {
     Refused(PartRefused),
 }
 
-/// Reads the cursor of this part from all the bytes of a reader: to its end, or one byte more than
-/// 67,108,864. More bytes than these are refused as no cursor.
+/// Reads the cursor of this part from all the bytes of a reader: to its end, or to 67,108,865
+/// bytes. More than 67,108,864 are refused as no cursor.
 pub fn read_part_cursor<R: Read>(
     alloc: Global,
     reader: &mut R,

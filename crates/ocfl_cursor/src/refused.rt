@@ -27,7 +27,8 @@ pub enum Refused {
 /// may be refused before it is known whether they are malformed, or of another part.
 #[derive(Clone, Copy, Debug, PartialEq, Eq, Error)]
 pub enum PartRefused {
-    /// Their first line is not that of a part's cursor.
+    /// Their first line is not that of a part's cursor. From a reader, also: they are more than
+    /// 67,108,864.
     #[error("not a cursor")]
     NotCursor,
     /// The last line is not the digest line of what stands before it.

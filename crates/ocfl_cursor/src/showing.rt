@@ -27,12 +27,12 @@ pub enum ShowStop {
     Part(PartRefused),
 }
 
-/// Reads a stored cursor from all the bytes of a reader, be it that of a whole root or of any part,
-/// and gives the lines to be shown: the text without its first line and its last. So the lines of a
-/// part's cursor begin with those of its ends. Of a whole root's cursor the lines are those of
-/// version 2 in any case.
+/// Reads a stored cursor, of a whole root or of any part, from all the bytes of a reader. Gives the
+/// lines to be shown: its text without the first line and the last. So the lines of a part's cursor
+/// begin with those of its ends. A whole root's cursor is shown as version 2.
 ///
-/// Other bytes are refused by the kind that their first line names.
+/// Other bytes are refused by the kind that their first line names. At most 67,108,865 bytes are
+/// read.
 pub fn read_shown<R: Read>(alloc: Global, reader: &mut R) -> Result<Vec<u8>, ShowStop>
     ensures lines { IfOk result (λ lines. IsShownFrom (R.remaining reader.old) lines.items) }
     ensures refused { IfErr result

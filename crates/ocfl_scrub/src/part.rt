@@ -17,9 +17,9 @@ use std::alloc::Global;
 #[derive(Debug, Drop)]
 pub struct Part {
     /// The part has no place before this one. `None`: it begins with its branch.
-    pub(crate) from: Option<Place>,
+    pub from: Option<Place>,
     /// The branch of the part, and the place before which the part ends.
-    pub(crate) end: End,
+    pub end: End,
 }
 
 impl Part {

@@ -31,8 +31,7 @@ pub enum ShowStop {
 /// lines to be shown: its text without the first line and the last. So the lines of a part's cursor
 /// begin with those of its ends. A whole root's cursor is shown as version 2.
 ///
-/// Other bytes are refused by the kind that their first line names. At most 67,108,865 bytes are
-/// read.
+/// At most 67,108,865 bytes are read.
 pub fn read_shown<R: Read>(alloc: Global, reader: &mut R) -> Result<Vec<u8>, ShowStop>
     ensures lines { IfOk result (λ lines. IsShownFrom (R.remaining reader.old) lines.items) }
     ensures refused { IfErr result

@@ -14,7 +14,7 @@ pub(crate) const MAX_NAMES: usize = 255;
 pub enum State {
     /// At the first item.
     Start,
-    /// Behind this place, whether or not an item is there.
+    /// After this place, whether or not an item is there.
     After(Place),
     /// With the first item of the next cycle.
     Ended,

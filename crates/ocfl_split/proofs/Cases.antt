@@ -60,6 +60,34 @@ uneven_by_count : (separators_of uneven 2 ≡ places ("o" ∷ [])) × (separator
 unfolding split_level level_from
 uneven_by_count = (refl, refl)
 
+-- more than any level has: the widest is split
+uneven_by_more : (separators_of uneven 4 ≡ places ("a/o2" ∷ "a/o3" ∷ [])) × (separators_of uneven 10 ≡ places ("a/o2" ∷ "a/o3" ∷ []))
+unfolding split_level level_from
+uneven_by_more = (refl, refl)
+
+-- the lower levels are narrower: two objects, and one below a third directory
+abbrev narrowing : StorageRoot
+narrowing = known_root ++ folder "a" ∷ object_at "a/o" "a/o/0=ocfl_object_1.1" ++ object_at "o1" "o1/0=ocfl_object_1.1" ++ object_at "o2" "o2/0=ocfl_object_1.1"
+
+narrowing_are : (level narrowing 1 ≡ places ("a" ∷ "o1" ∷ "o2" ∷ [])) × (level narrowing 2 ≡ places ("a/o" ∷ [])) × (level narrowing 3 ≡ [])
+narrowing_are = (refl, refl, refl)
+
+narrowing_by_count : (separators_of narrowing 3 ≡ places ("o1" ∷ "o2" ∷ [])) × (separators_of narrowing 4 ≡ places ("o1" ∷ "o2" ∷ [])) × (separators_of narrowing 10 ≡ places ("o1" ∷ "o2" ∷ []))
+unfolding split_level level_from
+narrowing_by_count = (refl, refl, refl)
+
+narrowing_listed : (listed_for narrowing 3 ≡ [] ∷ []) × (listed_for narrowing 4 ≡ [] ∷ places ("a" ∷ "o1" ∷ "o2" ∷ "a/o" ∷ []))
+unfolding listed_for listed_from
+narrowing_listed = (refl, refl)
+
+-- a narrow level between wider ones: the lower of two that are equally wide is split
+abbrev waist : StorageRoot
+waist = known_root ++ folder "a" ∷ folder "a/b" ∷ object_at "a/b/o1" "a/b/o1/0=ocfl_object_1.1" ++ object_at "a/b/o2" "a/b/o2/0=ocfl_object_1.1" ++ object_at "o" "o/0=ocfl_object_1.1"
+
+waist_by_count : (separators_of waist 2 ≡ places ("o" ∷ [])) × (separators_of waist 3 ≡ places ("a/b/o2" ∷ []))
+unfolding split_level level_from
+waist_by_count = (refl, refl)
+
 -- no directories; what is no directory; extensions; a storage root that declares nothing
 nothing_there : (separators_of known_root 2 ≡ []) × (listed_for known_root 2 ≡ [] ∷ [])
 unfolding split_level level_from listed_for listed_from

@@ -2,38 +2,34 @@
 use Rattle.std.proofs.Common.{◌≡◌, ℕ, suc, ◌+◌, ◌-◌, ◌<◌, ◌≤◌, List, [], ◌∷◌, ◌++◌, refl, sym, ◌∙◌, ap, subst, true, false, Bool, Some, None, length, take, drop, get_or, arith, rules, append_assoc}
 use Rattle.std.specs.Prelude.{cond, ◌||◌, ◌==◌, nat_lt, nat_le}
 use Rattle.std.proofs.lemmas.List.{take_more, drop_all, length-append, append-nil}
-use Rattle.std.proofs.lemmas.Bool.{le-leb, lt-leb}
+use Rattle.std.proofs.lemmas.Bool.{le-leb, lt-leb, or_right}
 use Rattle.ocfl_tree.specs.Place.{Place}
 use Rattle.ocfl_tree.specs.StorageRoot.{StorageRoot}
 use Rattle.ocfl_tree.specs.Store.{Store}
 use Rattle.ocfl_tree.proofs.Lists.{drop_item}
 use Rattle.ocfl_item.specs.declared.fault.Fault.{Fault}
 use Rattle.ocfl_split.specs.Levels.{directories_below, level_below}
-use Rattle.ocfl_split.specs.Splitting.{max_held, next_level, listed_within, ListsAll, ListsStop}
+use Rattle.ocfl_split.specs.Splitting.{next_level, listed_within, ListsAll, ListsStop}
 use Rattle.ocfl_split.proofs.Below.{lists_none, lists_on, stops_on, stops_before}
 
 -- ---- the next level
 
-or_true : (b : Bool) → (b || true) ≡ true
-or_true true = refl
-or_true false = refl
-
 -- more than may be held
-none_over : (ps : List Place) (n : ℕ) → max_held < n + length ps → cond (length ps == 0 || nat_lt max_held (n + length ps)) None (Some ps) ≡ None
-none_over ps n l =
-    let over : nat_lt max_held (n + length ps) ≡ true = le-leb (suc max_held) (n + length ps) (omega (arith, l)) in
-    ap (λ b. cond (length ps == 0 || b) None (Some ps)) over ∙ ap (λ b. cond b None (Some ps)) (or_true (length ps == 0))
+none_over : (ps : List Place) (room : ℕ) → room < length ps → cond (length ps == 0 || nat_lt room (length ps)) None (Some ps) ≡ None
+none_over ps room l =
+    let over : nat_lt room (length ps) ≡ true = le-leb (suc room) (length ps) (omega (arith, l)) in
+    ap (λ b. cond (length ps == 0 || b) None (Some ps)) over ∙ ap (λ b. cond b None (Some ps)) (or_right (length ps == 0) true refl)
 
-none_empty : (ps : List Place) (n : ℕ) → ps ≡ [] → cond (length ps == 0 || nat_lt max_held (n + length ps)) None (Some ps) ≡ None
-none_empty [] n e = refl
-none_empty (p ∷ ps) n e = cc
+none_empty : (ps : List Place) (room : ℕ) → ps ≡ [] → cond (length ps == 0 || nat_lt room (length ps)) None (Some ps) ≡ None
+none_empty [] room e = refl
+none_empty (p ∷ ps) room e = cc
 
-some_fits : (ps : List Place) (n : ℕ) → (ps ≡ [] → ⊥) → n + length ps ≤ max_held → cond (length ps == 0 || nat_lt max_held (n + length ps)) None (Some ps) ≡ Some ps
-some_fits [] n some l = absurd (some refl)
-some_fits (p ∷ ps) n some l =
+some_fits : (ps : List Place) (room : ℕ) → (ps ≡ [] → ⊥) → length ps ≤ room → cond (length ps == 0 || nat_lt room (length ps)) None (Some ps) ≡ Some ps
+some_fits [] room some l = absurd (some refl)
+some_fits (p ∷ ps) room some l =
     let there : (length (p ∷ ps) == 0) ≡ false = search rules in
-    let fits : nat_lt max_held (n + length (p ∷ ps)) ≡ false = lt-leb (suc max_held) (n + length (p ∷ ps)) (omega (arith, l)) in
-    ap (λ b. cond (b || nat_lt max_held (n + length (p ∷ ps))) None (Some (p ∷ ps))) there ∙ ap (λ b. cond b None (Some (p ∷ ps))) fits
+    let fits : nat_lt room (length (p ∷ ps)) ≡ false = lt-leb (suc room) (length (p ∷ ps)) (omega (arith, l)) in
+    ap (λ b. cond (b || nat_lt room (length (p ∷ ps))) None (Some (p ∷ ps))) there ∙ ap (λ b. cond b None (Some (p ∷ ps))) fits
 
 -- ---- so far
 
@@ -83,8 +79,8 @@ module _ (root : StorageRoot) where
         }
 
     -- there is no room for what lies below it
-    pub one_too_many : ListsAll root t u (d ∷ []) → room ≡ max_held - length ds → length next ≤ room → room < length (next ++ directories_below root d) → (None ≡ next_level root ds) × ListsAll root s u (listed_within root (max_held - length ds) ds)
-    one_too_many h e few many =
+    pub one_too_many : ListsAll root t u (d ∷ []) → length next ≤ room → room < length (next ++ directories_below root d) → (None ≡ next_level root room ds) × ListsAll root s u (listed_within root room ds)
+    one_too_many h few many =
         let sum = length-append next (directories_below root d) in
         let over : nat_le (length (directories_below root d)) (room - length next) ≡ false = lt-leb (length (directories_below root d)) (room - length next) (omega (arith, sum, few, many)) in
         let whole : level_below root ds ≡ (next ++ directories_below root d) ++ level_below root (drop (i + 1) ds) =
@@ -93,20 +89,19 @@ module _ (root : StorageRoot) where
         let listed : listed_within root room ds ≡ take i ds ++ d ∷ [] =
         so.listed ∙ ap (λ xs. take i ds ++ listed_within root (room - length next) xs) left
         ∙ ap (λ b. take i ds ++ d ∷ cond b (listed_within root (room - length next - length (directories_below root d)) (drop (i + 1) ds)) []) over in (
-          sym (none_over (level_below root ds) (length ds) (omega (arith, e, many, long))),
-          subst (λ r. ListsAll root s u (listed_within root r ds)) e (subst (ListsAll root s u) (sym listed) (lists_on root s t u (take i ds) (d ∷ []) so.lists h)),
+          sym (none_over (level_below root ds) room (omega (arith, many, long))),
+          subst (ListsAll root s u) (sym listed) (lists_on root s t u (take i ds) (d ∷ []) so.lists h),
         )
 
     -- it could not be listed
-    pub one_stops : (why : Fault) → ListsStop root t u (d ∷ []) why → room ≡ max_held - length ds → ListsStop root s u (listed_within root (max_held - length ds) ds) why
-    one_stops why h e =
+    pub one_stops : (why : Fault) → ListsStop root t u (d ∷ []) why → ListsStop root s u (listed_within root room ds) why
+    one_stops why h =
         let rest = cond (nat_le (length (directories_below root d)) (room - length next)) (listed_within root (room - length next - length (directories_below root d)) (drop (i + 1) ds)) [] in
         let listed : listed_within root room ds ≡ (take i ds ++ d ∷ []) ++ rest =
         so.listed ∙ ap (λ xs. take i ds ++ listed_within root (room - length next) xs) left ∙ sym (append_assoc (take i ds) (d ∷ []) rest) in
-        subst (λ r. ListsStop root s u (listed_within root r ds) why) e
-        (subst (λ xs. ListsStop root s u xs why) (sym listed) (stops_before root s u (take i ds ++ d ∷ []) rest why (stops_on root s t u (take i ds) (d ∷ []) why so.lists h)))
+        subst (λ xs. ListsStop root s u xs why) (sym listed) (stops_before root s u (take i ds ++ d ∷ []) rest why (stops_on root s t u (take i ds) (d ∷ []) why so.lists h))
 
-  module _ (s t : Store) (room : ℕ) (ds : List Place) (i : ℕ) (next : List Place) (so : IsListedSo root s t room ds i next) (l : length ds ≤ i) (e : room ≡ max_held - length ds) where
+  module _ (s t : Store) (room : ℕ) (ds : List Place) (i : ℕ) (next : List Place) (so : IsListedSo root s t room ds i next) (l : length ds ≤ i) where
     nothing : drop i ds ≡ []
     nothing = drop_all i ds l
 
@@ -114,17 +109,13 @@ module _ (root : StorageRoot) where
     whole = so.next ∙ ap (λ xs. next ++ level_below root xs) nothing ∙ append-nil next
 
     -- all of them were listed
-    pub all_listed : ListsAll root s t (listed_within root (max_held - length ds) ds)
+    pub all_listed : ListsAll root s t (listed_within root room ds)
     all_listed =
         let listed : listed_within root room ds ≡ take i ds = so.listed ∙ ap (λ xs. take i ds ++ listed_within root (room - length next) xs) nothing ∙ append-nil (take i ds) in
-        subst (λ r. ListsAll root s t (listed_within root r ds)) e (subst (ListsAll root s t) (sym listed) so.lists)
+        subst (ListsAll root s t) (sym listed) so.lists
 
-    pub none_deeper : next ≡ [] → None ≡ next_level root ds
-    none_deeper f = sym (none_empty (level_below root ds) (length ds) (whole ∙ f))
+    pub none_deeper : next ≡ [] → None ≡ next_level root room ds
+    none_deeper f = sym (none_empty (level_below root ds) room (whole ∙ f))
 
-    pub one_deeper : (next ≡ [] → ⊥) → length next ≤ room → Some next ≡ next_level root ds
-    one_deeper some few = sym (ap (λ ps. cond (length ps == 0 || nat_lt max_held (length ds + length ps)) None (Some ps)) whole ∙ some_fits next (length ds) some (held next some few))
-      where
-        held : (ps : List Place) → (ps ≡ [] → ⊥) → length ps ≤ room → length ds + length ps ≤ max_held
-        held [] none k = absurd (none refl)
-        held (p ∷ ps) none k = omega (arith, e, k)
+    pub one_deeper : (next ≡ [] → ⊥) → length next ≤ room → Some next ≡ next_level root room ds
+    one_deeper some few = sym (ap (λ ps. cond (length ps == 0 || nat_lt room (length ps)) None (Some ps)) whole ∙ some_fits next room some few)

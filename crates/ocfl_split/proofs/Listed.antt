@@ -11,7 +11,7 @@ use Rattle.ocfl_tree.specs.StorageRoot.{StorageRoot}
 use Rattle.ocfl_tree.proofs.Orders.{place_cmp_total, not_below_itself, before_each}
 use Rattle.ocfl_audit.proofs.BelowLaws.{ascends_append, from_append, from_flat_map}
 use Rattle.ocfl_split.specs.Levels.{leads_on, directories_in, directories_below, level, level_below}
-use Rattle.ocfl_split.specs.Splitting.{max_held, next_level, listed_within, listed_from, listed_for}
+use Rattle.ocfl_split.specs.Splitting.{room_below, next_level, wider, kept, listed_within, listed_from, listed_for}
 use Rattle.ocfl_split.proofs.Entries.{among_from_map, tree_rises}
 use Rattle.ocfl_split.proofs.Ranks.{before_longer, all_from}
 
@@ -130,21 +130,20 @@ module _ (root : StorageRoot) where
       by z (inl i) = let a = long z i in omega (arith, a)
       by z (inr j) = let b = h.deep z j in omega (arith, b)
 
-  listed_once : (k count n : ℕ) → IsListedFrom n (listed_from k root count (level root n))
+  listed_once : (k count n : ℕ) (above : List Place) → IsListedFrom n (listed_from k root count above (level root n))
   unfolding listed_from
-  listed_once zero count n = none_listed n
-  listed_once (suc k) count n = by (nat_le count (length (level root n))) (listed_once k count (suc n))
+  listed_once zero count n above = none_listed n
+  listed_once (suc k) count n above = by (nat_le count (length (level root n))) (listed_once k count (suc n) (kept (wider above (level root n)) (level root (suc n))))
     where
-      lower : (b : Bool) → IsListedFrom (suc n) (listed_from k root count (level root (suc n)))
-          → IsListedFrom (suc n) (option_map_or (λ next. listed_from k root count next) (cond b None (Some (level_below root (level root n)))) [])
+      lower : (b : Bool) → IsListedFrom (suc n) (listed_from k root count (kept (wider above (level root n)) (level root (suc n))) (level root (suc n))) → IsListedFrom (suc n) (option_map_or (λ next. listed_from k root count (kept (wider above (level root n)) next) next) (cond b None (Some (level_below root (level root n)))) [])
       lower true h = none_listed (suc n)
       lower false h = h
 
-      by : (b : Bool) → IsListedFrom (suc n) (listed_from k root count (level root (suc n)))
-          → IsListedFrom n (cond b [] (listed_within root (max_held - length (level root n)) (level root n) ++ option_map_or (λ next. listed_from k root count next) (next_level root (level root n)) []))
+      by : (b : Bool) → IsListedFrom (suc n) (listed_from k root count (kept (wider above (level root n)) (level root (suc n))) (level root (suc n)))
+          → IsListedFrom n (cond b [] (listed_within root (room_below above (level root n)) (level root n) ++ option_map_or (λ next. listed_from k root count (kept (wider above (level root n)) next) next) (next_level root (room_below above (level root n)) (level root n)) []))
       by true h = none_listed n
-      by false h = listed_level n (max_held - length (level root n)) _ (lower (length (level_below root (level root n)) == 0 || nat_lt max_held (length (level root n) + length (level_below root (level root n)))) h)
+      by false h = listed_level n (room_below above (level root n)) _ (lower (length (level_below root (level root n)) == 0 || nat_lt (room_below above (level root n)) (length (level_below root (level root n)))) h)
 
   pub listed_apart : (count : ℕ) → AllPairs (λ a b. a ≢ b) (listed_for root count)
   unfolding listed_for
-  listed_apart count = once_pairs (listed_from 128 root count (level root 0)) (listed_once 128 count 0).once
+  listed_apart count = once_pairs (listed_from 128 root count [] (level root 0)) (listed_once 128 count 0 []).once

@@ -1,6 +1,8 @@
 -- Levels in order.
-use Rattle.std.proofs.Common.{◌≡◌, ◌⊎◌, inl, inr, ℕ, zero, suc, ◌+◌, ◌<◌, ◌≤◌, List, [], ◌∷◌, ◌++◌, refl, sym, ◌∙◌, ap, subst, length, take, take_all, get_or, All, arith}
+use Rattle.std.proofs.Common.{◌≡◌, ◌⊎◌, inl, inr, ℕ, zero, suc, ◌+◌, ◌<◌, ◌≤◌, List, [], ◌∷◌, ◌++◌, refl, sym, ◌∙◌, ap, subst, true, false, Bool, length, take, take_all, get_or, All, arith}
 use Rattle.std.proofs.lemmas.List.{take_more, length-append, append-nil}
+use Rattle.std.proofs.lemmas.Bool.{leb-false}
+use Rattle.std.specs.Prelude.{cond, nat_le}
 use Rattle.std.specs.Ordering.{ordering_then}
 use Rattle.std.specs.declared.cmp.Ordering.{Ordering}
 use Rattle.std.specs.declared.cmp.Ordering.TheVariants.{Less, Equal, Greater}
@@ -8,6 +10,7 @@ use Rattle.ocfl_tree.specs.Place.{Place, Text, text_cmp, place_cmp}
 use Rattle.ocfl_tree.specs.Ascending.{IsAscending, IsAmong}
 use Rattle.ocfl_tree.proofs.Orders.{before_each}
 use Rattle.ocfl_audit.proofs.BelowLaws.{ascends_append, from_append}
+use Rattle.ocfl_split.specs.Splitting.{wider, kept}
 use Rattle.ocfl_split.specs.Internal.Directories.{IsBelow, IsLevel, AddsBelow}
 use Rattle.ocfl_split.proofs.Entries.{pick_among}
 
@@ -113,3 +116,24 @@ first_level_is ds e = subst (IsLevel 0) (sym e) (record { ascend = (tt, tt); dee
     top : (z : Place) → IsAmong ([] ∷ []) z → length z ≡ 0
     top z (inl f) = ap length f
     top z (inr j) = absurd j
+
+-- ---- the levels that are in memory
+
+-- what is kept of the levels above one
+abbrev pub IsNoneOrLevel : List Place → Type 0
+IsNoneOrLevel above = (length above ≡ 0) ⊎ ((depth : ℕ) × IsLevel depth above)
+
+pub wider_is : (depth : ℕ) (above ds : List Place) → IsNoneOrLevel above → IsLevel depth ds → (n : ℕ) × IsLevel n (wider above ds)
+wider_is depth above ds k h = by (nat_le (length above) (length ds)) refl k
+  where
+    by : (b : Bool) → nat_le (length above) (length ds) ≡ b → IsNoneOrLevel above → (n : ℕ) × IsLevel n (cond b ds above)
+    by true e m = (depth, h)
+    by false e (inl none) = let more = leb-false (length above) (length ds) e in absurd (omega (arith, none, more))
+    by false e (inr m) = m
+
+pub kept_is : (above ds : List Place) → ((n : ℕ) × IsLevel n above) → IsNoneOrLevel (kept above ds)
+kept_is above ds h = by (nat_le (length above) (length ds))
+  where
+    by : (b : Bool) → IsNoneOrLevel (cond b [] above)
+    by true = inl refl
+    by false = inr h

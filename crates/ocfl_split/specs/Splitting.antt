@@ -15,32 +15,52 @@ max_held = 1000000
 
 -- ---- the level that is split
 
--- the next level down, where it has any directories, and where no more than may be held are in both
-abbrev pub next_level : StorageRoot → List Place → Option (List Place)
-next_level root ds =
-    let next = level_below root ds in
-    if length next == 0 || nat_lt max_held (length ds + length next) then None else Some next
+-- room for so many directories of the next level is left by a level, and by what is kept of those above it
+abbrev pub room_below : List Place → List Place → ℕ
+room_below above ds = max_held - (length above + length ds)
 
--- from a level on, at most k levels further down: the first that has at least so many directories, or else the last
-unfoldable pub level_from : ℕ → StorageRoot → ℕ → List Place → List Place
-level_from zero root count ds = ds
-level_from (suc k) root count ds =
+-- the next level down, where it has any directories, and where there is room for them
+abbrev pub next_level : StorageRoot → ℕ → List Place → Option (List Place)
+next_level root room ds =
+    let next = level_below root ds in
+    if length next == 0 || nat_lt room (length next) then None else Some next
+
+-- the level with more directories, or the lower where they have equally many
+abbrev pub wider : List Place → List Place → List Place
+wider above ds = if nat_le (length above) (length ds) then ds else above
+
+-- of the levels above one, the widest is kept where it is wider than that one
+abbrev pub kept : List Place → List Place → List Place
+kept above ds = if nat_le (length above) (length ds) then [] else above
+
+-- from a level on, at most k levels further down: the first that has at least so many directories, or else the widest that is reached, or that is above
+unfoldable pub level_from : ℕ → StorageRoot → ℕ → List Place → List Place → List Place
+level_from zero root count above ds = wider above ds
+level_from (suc k) root count above ds =
     if nat_le count (length ds) then ds
-    else option_map_or (λ next. level_from k root count next) (next_level root ds) ds
+    else option_map_or (λ next. level_from k root count (kept (wider above ds) next) next) (next_level root (room_below above ds) ds) (wider above ds)
 
 -- directories with 128 names are the last: they are not listed
 unfoldable pub split_level : StorageRoot → ℕ → List Place
-split_level root count = level_from 128 root count ([] ∷ [])
+split_level root count = level_from 128 root count [] ([] ∷ [])
 
--- level n is the one that is split: each above it has fewer directories, and it has enough, or there is none deeper, or no room for the next
+-- so many directories are in level n and in the last one that is reached
+abbrev pub held : StorageRoot → ℕ → ℕ → ℕ
+held root n last = if n == last then length (level root n) else length (level root n) + length (level root last)
+
+-- level n is the one that is split: no level is wider down to the last one that is reached, and none below it equally wide. Each above the last has fewer directories than asked for, and level n has enough, or there is none deeper than the last, or no room for the next
 pub record IsSplitLevel (root : StorageRoot) (count n : ℕ) : Type 0 where
-  pub fewer : (k : ℕ) → k < n → length (level root k) < count
-  pub some : level root n ≢ []
-  pub ends : (count ≤ length (level root n)) ⊎ ((level root (n + 1) ≡ []) ⊎ ((max_held < length (level root n) + length (level root (n + 1))) ⊎ (n ≡ 128)))
+  pub last : ℕ
+  pub reached : n ≤ last
+  pub some : level root last ≢ []
+  pub fewer : (k : ℕ) → k < last → length (level root k) < count
+  pub widest : (k : ℕ) → k ≤ last → length (level root k) ≤ length (level root n)
+  pub lowest : (k : ℕ) → n < k → k ≤ last → length (level root k) < length (level root n)
+  pub ends : (count ≤ length (level root n)) ⊎ ((level root (last + 1) ≡ []) ⊎ ((max_held < held root n last + length (level root (last + 1))) ⊎ (last ≡ 128)))
 
 -- ---- at equal distances
 
--- of m parts of about as many directories, the first directory of the parts from 1 to k, where the very first part is 0
+-- of m parts of about equally many directories, the first directory of the parts from 1 to k, where the very first part is 0
 abbrev pub firsts : List Place → ℕ → ℕ → List Place
 firsts ds m zero = []
 firsts ds m (suc k) = firsts ds m k ++ option_to_list (slice_get ds ((k + 1) * length ds / m))
@@ -54,22 +74,22 @@ separators_of root count = cut_evenly count (split_level root count)
 
 -- ---- what is listed for it
 
--- these directories, or the first of them, up to that with which more lie below them than there is room for
+-- these directories, up to the first whose own directories no longer fit
 abbrev pub listed_within : StorageRoot → ℕ → List Place → List Place
 listed_within root room [] = []
 listed_within root room (d ∷ ds) =
     let below = length (directories_below root d) in
     d ∷ (if nat_le below room then listed_within root (room - below) ds else [])
 
-unfoldable pub listed_from : ℕ → StorageRoot → ℕ → List Place → List Place
-listed_from zero root count ds = []
-listed_from (suc k) root count ds =
+unfoldable pub listed_from : ℕ → StorageRoot → ℕ → List Place → List Place → List Place
+listed_from zero root count above ds = []
+listed_from (suc k) root count above ds =
     if nat_le count (length ds) then []
-    else listed_within root (max_held - length ds) ds ++ option_map_or (λ next. listed_from k root count next) (next_level root ds) []
+    else listed_within root (room_below above ds) ds ++ option_map_or (λ next. listed_from k root count (kept (wider above ds) next) next) (next_level root (room_below above ds) ds) []
 
 -- the directories that are listed, level by level
 unfoldable pub listed_for : StorageRoot → ℕ → List Place
-listed_for root count = listed_from 128 root count ([] ∷ [])
+listed_for root count = listed_from 128 root count [] ([] ∷ [])
 
 -- ---- what calls did
 

@@ -31,8 +31,8 @@ fn add(separators: &mut Separators, place: &Place) -> Result<(), AllocError>
     }
 }
 
-/// The first directory of each part but the first, where a level is cut into so many parts of about
-/// as many directories, or into one part for each directory where these are fewer.
+/// Cuts a level into `count` parts of about equally many directories, or into one part for each
+/// directory if there are fewer. Gives the first directory of each part but the first.
 fn cut(alloc: Global, level: &[Place], count: usize) -> Result<Separators, AllocError>
     requires ascend { IsAscending place_cmp level.now }
     requires few { length level.now ≤ 1000000 }
@@ -52,13 +52,16 @@ fn cut(alloc: Global, level: &[Place], count: usize) -> Result<Separators, Alloc
 /// among them, and all have equally many names. No object is entered.
 ///
 /// Levels are listed from the storage root down, until one has at least `count` directories, or
-/// there is no deeper one. That level is cut into `count` parts of about as many directories, or
-/// into one part for each directory where there are fewer. The first directory of each part but the
-/// first is a separator. So there are at most `count - 1`, and none where `count` is 0 or 1.
+/// there is no deeper one. The first that has so many is split, or else the widest that was
+/// reached, the lower of two that are equally wide. It is cut into `count` parts of about equally
+/// many directories, or into one part for each directory where there are fewer. The first directory
+/// of each part but the first is a separator. So there are at most `count - 1`, and none where
+/// `count` is 0 or 1. Nothing is listed for one part, so a missing folder is not noticed.
 ///
 /// Not listed are the `extensions` of the storage root, what lies in a storage root that is not of
 /// one known version, and directories with more than 127 names. At most 1,000,000 directories are
-/// held, of a level and of the next together: where there would be more, the upper level is split.
+/// held: of a level, of the next, and of the widest above them where that is wider. Where there
+/// would be more, no deeper level is reached.
 ///
 /// `Store` where a directory could not be listed, with its place. `Memory` where memory was
 /// refused.

@@ -1,12 +1,12 @@
 //! Going down the storage hierarchy, level by level.
-ghost use Rattle.std.specs.Prelude.{◌≡◌, ℕ, ◌+◌, ◌-◌, ◌∷◌, [], length, IsTrue, IfOk, IfErr};
+ghost use Rattle.std.specs.Prelude.{◌≡◌, ◌≤◌, ℕ, ◌+◌, ◌∷◌, [], length, IsTrue, IfOk, IfErr};
 ghost use Rattle.std.specs.Prelude.{IfSome, MatchResult};
 ghost use Rattle.std.specs.Option.{option_map};
 ghost use Rattle.ocfl_tree.specs.StorageRoot.{StorageRoot};
 ghost use Rattle.ocfl_item.specs.Ways.{IsWayFault};
 ghost use Rattle.ocfl_split.specs.Splitting.{ListsAll, ListsStop, split_level as level_to_split};
 ghost use Rattle.ocfl_split.specs.Splitting.{listed_for, next_level as level_after};
-ghost use Rattle.ocfl_split.specs.Splitting.{max_held, listed_within};
+ghost use Rattle.ocfl_split.specs.Splitting.{listed_within, kept, wider as wider_level};
 ghost use Rattle.ocfl_split.specs.Internal.Directories.{IsLevel, AreListable};
 
 use crate::directories::add_below;
@@ -14,30 +14,30 @@ use ocfl_item::Fault;
 use ocfl_tree::{Place, Tree};
 use std::alloc::{AllocError, Global};
 
-/// How many directories are held at most, of a level and of the next together.
+/// How many directories are held at most, of all levels that are in memory.
 const MAX_HELD: usize = 1_000_000;
 
-/// Directories with fewer names are listed.
-const MAX_NAMES: usize = 128;
+/// The deepest level. Its directories are not listed.
+const DEEPEST_LEVEL: usize = 128;
 
 /// The next level of the hierarchy, where it has directories, and where there is room for them.
 fn next_level<T: Tree>(
     alloc: Global,
     store: &mut T,
     level: &[Place],
+    room: usize,
 ) -> Result<Option<Vec<Place>>, Fault>
     ensures only { IfErr result (λ why. IsWayFault why) }
-    ensures fair { IfOk result (λ next. IfSome next (λ places. (depth : ℕ)
+    ensures fair { room ≤ 1000000 → IfOk result (λ next. IfSome next (λ places. (depth : ℕ)
         → IsLevel depth level.now → IsLevel (depth + 1) places.items)) }
     ensures told { IsTrue T.told → (root : StorageRoot) → (T.state store.old).tree ≡ root
         → AreListable root level.now → MatchResult result
-        (λ next. (option_map (λ places. places.items) next ≡ level_after root level.now)
+        (λ next. (option_map (λ places. places.items) next ≡ level_after root room level.now)
         × ListsAll root (T.state store.old) (T.state store.new)
-        (listed_within root (max_held - length level.now) level.now))
+        (listed_within root room level.now))
         (λ why. ListsStop root (T.state store.old) (T.state store.new)
-        (listed_within root (max_held - length level.now) level.now) why) }
+        (listed_within root room level.now) why) }
 {
-    let room = MAX_HELD.saturating_sub(level.len());
     let mut next = Vec::new(alloc);
     for place in level {
         if !add_below(store, place, &mut next, room)? {
@@ -59,7 +59,28 @@ fn first_level(alloc: Global) -> Result<Vec<Place>, AllocError>
     Ok(level)
 }
 
-/// The level that is split: the first with at least so many directories, or else the last.
+/// The level with more directories, or the lower where they have equally many.
+fn wider(above: Vec<Place>, level: Vec<Place>) -> Vec<Place>
+    ensures { result.items ≡ wider_level above.items level.items }
+{
+    if above.len() > level.len() {
+        return above;
+    }
+    level
+}
+
+/// What stays in memory of the levels above one: the widest, where it is wider.
+fn keep(alloc: Global, above: Vec<Place>, level: &[Place]) -> Vec<Place>
+    ensures { result.items ≡ kept above.items level.now }
+{
+    if above.len() <= level.len() {
+        return Vec::new(alloc);
+    }
+    above
+}
+
+/// The level that is split: the first with at least so many directories, or else the widest that
+/// is reached, the lower of two that are equally wide.
 pub(crate) fn split_level<T: Tree>(
     alloc: Global,
     store: &mut T,
@@ -74,15 +95,22 @@ pub(crate) fn split_level<T: Tree>(
         (λ why. ListsStop root (T.state store.old) (T.state store.new)
         (listed_for root count) why) }
 {
+    let mut above = Vec::new(alloc);
     let mut level = first_level(alloc)?;
-    for depth in 0..MAX_NAMES {
+    for depth in 0..DEEPEST_LEVEL {
         if level.len() >= count {
             return Ok(level);
         }
-        match next_level(alloc, store, &level)? {
-            Some(next) => level = next,
-            None => return Ok(level),
+        let room = MAX_HELD
+            .saturating_sub(above.len())
+            .saturating_sub(level.len());
+        match next_level(alloc, store, &level, room)? {
+            Some(next) => {
+                above = keep(alloc, wider(above, level), &next);
+                level = next;
+            }
+            None => return Ok(wider(above, level)),
         }
     }
-    Ok(level)
+    Ok(wider(above, level))
 }

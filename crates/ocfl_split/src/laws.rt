@@ -8,7 +8,7 @@ ghost use Rattle.ocfl_split.specs.Levels.{level, LiesInHierarchy};
 ghost use Rattle.ocfl_split.specs.Splitting.{IsSplitLevel, listed_for, split_level, separators_of};
 
 /// What is split is one level of the storage hierarchy: the first that has enough directories, or
-/// else the last that is gone down to.
+/// else the widest that is reached.
 #[tactic(auto, using(crate::proofs::LevelLaws::one_level))]
 pub fn one_level_is_split()
     ensures { (root : StorageRoot) (count : ℕ) → (n : ℕ)
@@ -32,8 +32,8 @@ pub fn levels_are_the_hierarchy()
         ↔ ((length p ≡ n + 1) × LiesInHierarchy root p) }
 {}
 
-/// Parts have about as many directories: from one position to the next there are as many as an even
-/// division gives, or one more.
+/// Parts have about equally many directories: each has the quotient of an even division, or one
+/// more.
 #[tactic(auto, using(crate::proofs::Cuts::even_parts))]
 pub fn parts_are_even()
     ensures { (directories parts i : ℕ) → 0 < parts

@@ -24,6 +24,20 @@ const LEVELS: [(&str, &str); 3] = [
     ("b/o3/0=ocfl_object_1.1", "ocfl_object_1.1\n"),
 ];
 
+/// A level that is narrower than the one above it.
+const NARROWING: [(&str, &str); 3] = [
+    ("a/o/0=ocfl_object_1.1", "ocfl_object_1.1\n"),
+    ("o1/0=ocfl_object_1.1", "ocfl_object_1.1\n"),
+    ("o2/0=ocfl_object_1.1", "ocfl_object_1.1\n"),
+];
+
+/// A narrow level between two that are equally wide.
+const WAIST: [(&str, &str); 3] = [
+    ("a/b/o1/0=ocfl_object_1.1", "ocfl_object_1.1\n"),
+    ("a/b/o2/0=ocfl_object_1.1", "ocfl_object_1.1\n"),
+    ("o/0=ocfl_object_1.1", "ocfl_object_1.1\n"),
+];
+
 /// What is no directory of the hierarchy, and names that sort otherwise than their places.
 const ODD: [(&str, &str); 6] = [
     ("a/x/", ""),
@@ -60,7 +74,7 @@ fn text_of(alloc: Global, store: &mut MemTree, count: usize) -> Result<String, F
 
 /// Splits of a root with these changes into so many parts: the text of the separators, and the
 /// directories that are listed.
-const CUTS: [(&str, &[(&str, &str)], usize, &str, &str); 13] = [
+const CUTS: [(&str, &[(&str, &str)], usize, &str, &str); 16] = [
     ("no parts", &OBJECTS, 0, "", ""),
     ("one part", &OBJECTS, 1, "", ""),
     ("two of three objects", &OBJECTS, 2, "o2\n", ";"),
@@ -75,6 +89,21 @@ const CUTS: [(&str, &[(&str, &str)], usize, &str, &str); 13] = [
         4,
         "a/o2\nb/o3\n",
         ";a;b;a/o1;a/o2;b/o3;",
+    ),
+    ("three of a level", &NARROWING, 3, "o1\no2\n", ";"),
+    (
+        "more than any level has",
+        &NARROWING,
+        4,
+        "o1\no2\n",
+        ";a;o1;o2;a/o;",
+    ),
+    (
+        "the lower of equal levels",
+        &WAIST,
+        3,
+        "a/b/o2\n",
+        ";a;o;a/b;a/b/o1;a/b/o2;",
     ),
     ("odd names", &ODD, 2, "a-b\n", ";"),
     ("in order", &ODD, 3, "a-b\nb\n", ";"),

@@ -9,7 +9,7 @@ use Rattle.ocfl_tree.specs.Place.{Text, Place, place_cmp, place_eq}
 use Rattle.ocfl_tree.specs.Name.{IsPlace}
 use Rattle.ocfl_tree.proofs.Orders.{place_cmp_exact}
 use Rattle.ocfl_report.specs.Line.{Line}
-use Rattle.ocfl_parts.specs.Parts.{max_parts}
+use Rattle.ocfl_parts.specs.Parts.{max_separators}
 use Rattle.ocfl_parts.specs.Separators.{AreSeparators}
 use Rattle.ocfl_parts.specs.Costs.{told_cost, told}
 use Rattle.ocfl_parts.specs.Splits.{items_from, cuts_from, cuts, HasText, IsNotLess, AreInOrder}
@@ -152,7 +152,7 @@ module _ (b : ℕ) (small : b < 2 ^ 64) (done : List Line) (ps : List Place) (s 
 
   -- a line of a later place
   goes_on : (i : Told) (qs : List Place) (t : ℕ) → place_cmp i.place l.place ≡ Less → ((items : List Told) → ps ++ cuts_from b s (i ∷ items) ≡ qs ++ cuts_from b t items)
-      → ((p : Place) → IsPlace p → place_cmp i.place p ≡ Less → AreSeparators (qs ++ p ∷ [])) → (length ps ≤ max_parts → length qs ≤ max_parts) → IsCutSoFar b done ps s (Some i)
+      → ((p : Place) → IsPlace p → place_cmp i.place p ≡ Less → AreSeparators (qs ++ p ∷ [])) → (length ps ≤ max_separators → length qs ≤ max_separators) → IsCutSoFar b done ps s (Some i)
       → IsCutSoFar b (done ++ l ∷ []) qs t (Some (told l))
   goes_on i qs t e closes above few h = record {
     texts = texts_more h.texts;
@@ -180,7 +180,7 @@ module _ (b : ℕ) (small : b < 2 ^ 64) (done : List Line) (ps : List Place) (s 
       joins b small done ps s l has i cost (ap (λ t. place_cmp i.place t.place) (sym g) ∙ o) (f ∙ ap (λ t. min (i.cost + t.cost) (2 ^ 64 - 1)) g) (subst (IsCutSoFar b done ps s) e h)
 
   pub later_taken : (i said : Told) (qs : List Place) (t : ℕ) → item ≡ Some i → place_cmp i.place said.place ≡ Less → ((items : List Told) → ps ++ cuts_from b s (i ∷ items) ≡ qs ++ cuts_from b t items)
-      → ((p : Place) → IsPlace p → place_cmp i.place p ≡ Less → AreSeparators (qs ++ p ∷ [])) → (length ps ≤ max_parts → length qs ≤ max_parts)
+      → ((p : Place) → IsPlace p → place_cmp i.place p ≡ Less → AreSeparators (qs ++ p ∷ [])) → (length ps ≤ max_separators → length qs ≤ max_separators)
       → (l : Line) → HasText l → said ≡ told l → IsCutSoFar b (done ++ l ∷ []) qs t (Some said)
   later_taken i said qs t e o closes above few l has g =
       subst (λ x. IsCutSoFar b (done ++ l ∷ []) qs t (Some x)) (sym g) (goes_on b small done ps s l has i qs t (ap (λ x. place_cmp i.place x.place) (sym g) ∙ o) closes above few (subst (IsCutSoFar b done ps s) e h))
@@ -196,17 +196,17 @@ module _ (b : ℕ) (small : b < 2 ^ 64) (done : List Line) (ps : List Place) (s 
   last_closed i qs t e closes = sym (cuts_whole ∙ ap (λ x. ps ++ cuts_from b s (items_from x [])) e ∙ closes [] ∙ append-nil qs)
 
   -- one separator too many
-  too_many : (i : Told) → item ≡ Some i → max_parts < length (ps ++ cuts_from b s (i ∷ [])) → max_parts < length (cuts b done)
-  too_many i e l = subst (λ xs. max_parts < length xs) (sym (cuts_whole ∙ ap (λ x. ps ++ cuts_from b s (items_from x [])) e)) l
+  too_many : (i : Told) → item ≡ Some i → max_separators < length (ps ++ cuts_from b s (i ∷ [])) → max_separators < length (cuts b done)
+  too_many i e l = subst (λ xs. max_separators < length xs) (sym (cuts_whole ∙ ap (λ x. ps ++ cuts_from b s (items_from x [])) e)) l
 
-  pub close_refused : (i : Told) (number : ℕ) (p : Place) (stop : SplitStop) → item ≡ Some i → (stop ≡ Many) ⊎ (stop ≡ Memory) → (stop ≡ Many → max_parts < length (ps ++ cuts_from b s (i ∷ []))) → TakesNotPlace b done number p stop
+  pub close_refused : (i : Told) (number : ℕ) (p : Place) (stop : SplitStop) → item ≡ Some i → (stop ≡ Many) ⊎ (stop ≡ Memory) → (stop ≡ Many → max_separators < length (ps ++ cuts_from b s (i ∷ []))) → TakesNotPlace b done number p stop
   close_refused i number p (BadLine n) e (inl f) many = cc
   close_refused i number p (BadLine n) e (inr f) many = cc
   close_refused i number p Many e d many = too_many i e (many refl)
   close_refused i number p Read e d many = tt
   close_refused i number p Memory e d many = tt
 
-  pub end_refused : (i : Told) (stop : SplitStop) → item ≡ Some i → (stop ≡ Many) ⊎ (stop ≡ Memory) → (stop ≡ Many → max_parts < length (ps ++ cuts_from b s (i ∷ []))) → StopsAtEnd b done stop
+  pub end_refused : (i : Told) (stop : SplitStop) → item ≡ Some i → (stop ≡ Many) ⊎ (stop ≡ Memory) → (stop ≡ Many → max_separators < length (ps ++ cuts_from b s (i ∷ []))) → StopsAtEnd b done stop
   end_refused i (BadLine n) e (inl f) many = cc
   end_refused i (BadLine n) e (inr f) many = cc
   end_refused i Many e d many = too_many i e (many refl)

@@ -4,7 +4,7 @@ use Rattle.std.specs.Option.{option_map}
 use Rattle.std.proofs.lemmas.Bool.{cases_lt}
 use Rattle.ocfl_tree.specs.Place.{Text, Place}
 use Rattle.ocfl_parts.specs.Separators.{AreSeparators, parts_text}
-use Rattle.ocfl_parts.specs.Parts.{max_parts, max_bytes, IsPartsText, IsBadLine, HasMoreLines}
+use Rattle.ocfl_parts.specs.Parts.{max_separators, max_bytes, IsPartsText, IsBadLine, HasMoreLines}
 use Rattle.ocfl_parts.specs.Stop.{StopsRightly, LinesStop}
 use Rattle.ocfl_parts.specs.declared.reading.PartsStop.{PartsStop}
 use Rattle.ocfl_parts.specs.declared.reading.PartsStop.TheVariants.{Line, Long, Read, Memory}
@@ -55,7 +55,7 @@ stop_read (Some b) read stop is h = stop_limited b stop (subst (λ t. StopsRight
 
 -- ---- of the lines
 
-pub parts_of_lines : {E : Type 0} (b : Text) (r : Result (List Place) E) → length b ≤ max_bytes → IfOk r (λ ps. b ≡ parts_text ps) → IfOk r AreSeparators → IfOk r (λ ps. length ps ≤ max_parts) → IfOk r (λ ps. IsPartsText b ps)
+pub parts_of_lines : {E : Type 0} (b : Text) (r : Result (List Place) E) → length b ≤ max_bytes → IfOk r (λ ps. b ≡ parts_text ps) → IfOk r AreSeparators → IfOk r (λ ps. length ps ≤ max_separators) → IfOk r (λ ps. IsPartsText b ps)
 parts_of_lines b (Ok ps) short e h few = record { separators = h; few = few; short = short; is = e }
 parts_of_lines b (Err d) short e h few = tt
 

@@ -9,7 +9,7 @@ use Rattle.ocfl_report.proofs.Bytes.{IsPrintable}
 use Rattle.ocfl_report.proofs.Separators.{first_parts, separator_is_there}
 use Rattle.ocfl_report.proofs.PlaceTexts.{place_text_determines, place_text_printable}
 use Rattle.ocfl_parts.specs.Separators.{AreSeparators, part_line, parts_text}
-use Rattle.ocfl_parts.specs.Parts.{max_parts, max_bytes, IsPartsText, BeginsWith, IsFirstBad, HasMoreLines, IsBadLine}
+use Rattle.ocfl_parts.specs.Parts.{max_separators, max_bytes, IsPartsText, BeginsWith, IsFirstBad, HasMoreLines, IsBadLine}
 use Rattle.ocfl_parts.proofs.Orders.{names_last, AreSeparators-front}
 
 path_one_line : (p : Place) → IsPlace p → All (λ b. b ≢ 10) (place_text p)
@@ -104,7 +104,7 @@ no_bad_line b n ps h e k =
     k.bad on.next (parts_text on.more) (AreSeparators-front (k.before ++ on.next ∷ []) on.more whole) on.text
 
 -- where there are more lines than there may be, there are too many separators
-pub more_than_may_be : (b : Text) (ps : List Place) → AreSeparators ps → b ≡ parts_text ps → HasMoreLines b → max_parts < length ps
+pub more_than_may_be : (b : Text) (ps : List Place) → AreSeparators ps → b ≡ parts_text ps → HasMoreLines b → max_separators < length ps
 more_than_may_be b ps h e k =
     let on = begins_in b ps k.before k.rest h e k.begins in
     omega (arith, k.all, ap length on.is, length-append k.before (on.next ∷ on.more))

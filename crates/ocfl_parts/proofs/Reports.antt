@@ -13,7 +13,7 @@ use Rattle.ocfl_report.proofs.Bytes.{IsPrintable, utf8_bytes}
 use Rattle.ocfl_report.proofs.Escapes.{escape_printable}
 use Rattle.ocfl_report.proofs.CodeTexts.{code_text_printable}
 use Rattle.ocfl_report.proofs.PlaceTexts.{place_text_printable}
-use Rattle.ocfl_parts.specs.Parts.{max_parts}
+use Rattle.ocfl_parts.specs.Parts.{max_separators}
 use Rattle.ocfl_parts.specs.Splits.{HasText, AreInOrder, AreLines, cuts, IsSplit}
 use Rattle.ocfl_parts.specs.SplitStop.{SplitStopsRightly}
 use Rattle.ocfl_parts.specs.Internal.Cutting.{IsCutSoFar, TakesNot, StopsAtEnd}
@@ -76,7 +76,7 @@ module _ (b : ℕ) (done : List Line) (ps : List Place) (s : ℕ) (item : Option
   lines : AreLines done
   lines = are_lines b done ps s item h ((h.order []).0 tt)
 
-  pub split_read : (known left : Option Text) (qs : List Place) → Consumes known left (lines_text done) → IfSome left (λ bytes. bytes ≡ []) → (qs ≡ cuts b done) × (length qs ≤ max_parts) → IfSome known (λ bytes. IsSplit b bytes qs)
+  pub split_read : (known left : Option Text) (qs : List Place) → Consumes known left (lines_text done) → IfSome left (λ bytes. bytes ≡ []) → (qs ≡ cuts b done) × (length qs ≤ max_separators) → IfSome known (λ bytes. IsSplit b bytes qs)
   split_read None left qs read end is = tt
   split_read (Some k) None qs read end is = absurd read
   split_read (Some k) (Some rest) qs read end is = record { lines = done; are = lines; is = read ∙ ap (λ t. lines_text done ++ t) end ∙ append-nil (lines_text done); cuts = is.0; few = is.1 }

@@ -4,8 +4,8 @@ use Rattle.ocfl_tree.specs.Place.{Text, Place}
 use Rattle.ocfl_parts.specs.Separators.{AreSeparators, part_line, parts_text}
 
 -- so many separators are read at most
-abbrev pub max_parts : ℕ
-max_parts = 100000
+abbrev pub max_separators : ℕ
+max_separators = 100000
 
 -- from so many bytes at most
 abbrev pub max_bytes : ℕ
@@ -14,7 +14,7 @@ max_bytes = 16777216
 -- the bytes are the text of these separators
 pub record IsPartsText (b : Text) (ps : List Place) : Type 0 where
   pub separators : AreSeparators ps
-  pub few : length ps ≤ max_parts
+  pub few : length ps ≤ max_separators
   pub short : length b ≤ max_bytes
   pub is : b ≡ parts_text ps
 
@@ -30,7 +30,7 @@ pub record IsFirstBad (b : Text) (n : ℕ) : Type 0 where
   pub rest : Text
   pub begins : BeginsWith b before rest
   pub number : n ≡ length before + 1
-  pub counted : n ≤ max_parts
+  pub counted : n ≤ max_separators
   pub bad : (p : Place) (after : Text) → AreSeparators (before ++ p ∷ []) → rest ≢ part_line p ++ after
 
 -- as many lines as there may be are those of separators, and there is one more
@@ -38,7 +38,7 @@ pub record HasMoreLines (b : Text) : Type 0 where
   pub before : List Place
   pub rest : Text
   pub begins : BeginsWith b before rest
-  pub all : length before ≡ max_parts
+  pub all : length before ≡ max_separators
 
 -- what is read of bytes of at most that length
 pub record IsBadLine (b : Text) (n : ℕ) : Type 0 where

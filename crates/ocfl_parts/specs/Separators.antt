@@ -19,10 +19,10 @@ part_line p = place_text p ++ 10 ∷ []
 abbrev pub parts_text : List Place → Text
 parts_text ps = flat_map part_line ps
 
--- where part k begins, counted from 1: at the separator before it, which the first part has not
+-- where part k, from 1, begins: at the separator before it; the first part has none
 abbrev pub start_of_part : List Place → ℕ → Option Place
 start_of_part ps k = if k == 1 then None else slice_get ps (k - 2)
 
--- where it ends: below the next separator, which the last part has not
+-- where it ends: below the next separator; the last part has none
 abbrev pub end_of_part : List Place → ℕ → Option Place
 end_of_part ps k = slice_get ps (k - 1)

@@ -6,7 +6,7 @@ use Rattle.ocfl_tree.specs.Place.{Text, Place, place_cmp, place_eq}
 use Rattle.ocfl_tree.specs.Name.{IsPlace}
 use Rattle.ocfl_report.specs.Line.{Line}
 use Rattle.ocfl_report.specs.Text.{line_text, lines_text}
-use Rattle.ocfl_parts.specs.Parts.{max_parts}
+use Rattle.ocfl_parts.specs.Parts.{max_separators}
 use Rattle.ocfl_parts.specs.Costs.{told_cost, told}
 use Rattle.ocfl_parts.specs.declared.costs.Told.{Told}
 
@@ -64,7 +64,7 @@ pub record IsSplit (budget : ℕ) (b : Text) (ps : List Place) : Type 0 where
   pub are : AreLines lines
   pub is : b ≡ lines_text lines
   pub cuts : ps ≡ cuts budget lines
-  pub few : length ps ≤ max_parts
+  pub few : length ps ≤ max_separators
 
 -- the lines before this one are those of a report, and this one is not the line of one more: it is no line with its line feed, or its place is less than the one before
 pub record IsBadReportLine (b : Text) (n : ℕ) : Type 0 where
@@ -82,4 +82,4 @@ pub record HasManyCuts (budget : ℕ) (b : Text) : Type 0 where
   pub rest : Text
   pub are : AreLines before
   pub is : b ≡ lines_text before ++ rest
-  pub many : max_parts < length (cuts budget before)
+  pub many : max_separators < length (cuts budget before)

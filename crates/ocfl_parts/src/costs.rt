@@ -7,7 +7,7 @@ ghost use Rattle.ocfl_report.specs.Text.{IsLineText};
 ghost use Rattle.ocfl_parts.specs.Costs.{is_size, told_cost, told};
 ghost use Rattle.ocfl_parts.specs.Internal.Digits.{IsPlain};
 
-use ocfl_report::{Code, Line, LineStop, read_line};
+use ocfl_report::{Code, LineStop, read_line};
 use ocfl_tree::Place;
 use std::alloc::Global;
 

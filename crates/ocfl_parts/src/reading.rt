@@ -3,10 +3,10 @@ ghost use Rattle.std.specs.Prelude.{◌≡◌, ◌≢◌, ◌⊎◌, ℕ, List, 
 ghost use Rattle.std.specs.Prelude.{take, IfOk, IfErr, IfSome, OnOk, OnErr};
 ghost use Rattle.ocfl_tree.specs.Place.{Place as ModelPlace};
 ghost use Rattle.ocfl_parts.specs.Separators.{AreSeparators, part_line, parts_text};
-ghost use Rattle.ocfl_parts.specs.Parts.{max_parts, IsPartsText};
+ghost use Rattle.ocfl_parts.specs.Parts.{max_separators, IsPartsText};
 ghost use Rattle.ocfl_parts.specs.Stop.{StopsRightly, LinesStop};
 
-use crate::separators::{PushStop, Separators};
+use crate::separators::{MAX_SEPARATORS, PushStop, Separators};
 use ocfl_report::{PlaceStop, read_place, split_once};
 use std::alloc::Global;
 use std::io::{ErrorKind, Read};
@@ -14,9 +14,6 @@ use thiserror::Error;
 
 /// How many bytes the text of separators has at most.
 pub const MAX_BYTES: usize = 16_777_216;
-
-/// How many separators it has at most.
-const MAX_PARTS: usize = 100_000;
 
 /// Why no separators were read: too many bytes come first, and then the lines in their order.
 #[derive(Clone, Copy, Debug, PartialEq, Eq, Error)]
@@ -79,14 +76,14 @@ fn read_text(alloc: Global, bytes: &[u8]) -> Result<Separators, PartsStop>
 fn read_lines(alloc: Global, bytes: &[u8]) -> Result<Separators, PartsStop>
     ensures text { IfOk result (λ separators. bytes.now ≡ parts_text separators) }
     ensures rule { IfOk result AreSeparators }
-    ensures few { IfOk result (λ separators. length separators ≤ max_parts) }
+    ensures few { IfOk result (λ separators. length separators ≤ max_separators) }
     ensures refused { IfErr result (λ stop. LinesStop bytes.now stop) }
 {
     let mut separators = Separators::new(alloc);
     let mut rest = bytes;
     while !rest.is_empty() {
         let count = separators.len();
-        if count >= MAX_PARTS {
+        if count >= MAX_SEPARATORS {
             return Err(PartsStop::Long);
         }
         match read_line(alloc, &mut separators, rest) {

@@ -10,8 +10,11 @@ use ocfl_tree::laws::every_place_has_names;
 use std::alloc::Global;
 use std::marker::Model;
 
+/// How many separators their text has at most, and a report is cut by at most.
+pub(crate) const MAX_SEPARATORS: usize = 100_000;
+
 /// Places in strictly ascending order, which cut a storage root into one part more than there are
-/// places: each begins the part behind it.
+/// places: each begins the part after it.
 #[derive(Debug, Drop)]
 pub struct Separators {
     places: Vec<Place>,

@@ -1,5 +1,5 @@
 //! Splitting a storage root by what a report of it says that its items cost.
-ghost use Rattle.std.specs.Prelude.{◌≡◌, ◌≢◌, ℕ, ◌+◌, ◌≤◌, ◌<◌, List, [], ◌∷◌, ◌++◌, length, ◌⊎◌};
+ghost use Rattle.std.specs.Prelude.{◌≡◌, ◌≢◌, ◌+◌, ◌≤◌, ◌<◌, List, [], ◌∷◌, ◌++◌, length, ◌⊎◌};
 ghost use Rattle.std.specs.Prelude.{true, false, IfOk, IfErr, IfSome, OnOk};
 ghost use Rattle.std.specs.Io.BufRead.{take_through};
 ghost use Rattle.std.specs.Io.KnownBytes.{Consumes};
@@ -7,7 +7,7 @@ ghost use Rattle.ocfl_tree.specs.Place.{Place as ModelPlace, place_cmp};
 ghost use Rattle.ocfl_tree.specs.Name.{IsPlace};
 ghost use Rattle.ocfl_report.specs.Line.{Line as ModelLine};
 ghost use Rattle.ocfl_report.specs.Text.{IsLineText};
-ghost use Rattle.ocfl_parts.specs.Parts.{max_parts};
+ghost use Rattle.ocfl_parts.specs.Parts.{max_separators};
 ghost use Rattle.ocfl_parts.specs.Separators.{AreSeparators};
 ghost use Rattle.ocfl_parts.specs.Splits.{HasText, IsSplit, cuts, cuts_from};
 ghost use Rattle.ocfl_parts.specs.SplitStop.{SplitStopsRightly};
@@ -18,15 +18,12 @@ ghost use Rattle.ocfl_parts.specs.declared.costs.Told.{Told as ModelTold};
 ghost use Rattle.std.specs.declared.cmp.Ordering.TheVariants.{Less};
 
 use crate::costs::{Told, read_told};
-use crate::separators::{PushStop, Separators};
+use crate::separators::{MAX_SEPARATORS, Separators};
 use ocfl_report::LineStop;
 use std::alloc::Global;
 use std::cmp::Ordering;
 use std::io::{BufRead, ErrorKind};
 use thiserror::Error;
-
-/// How many separators a report is cut by at most: as many as their text may have.
-const MAX_PARTS: usize = 100_000;
 
 /// Why a report was not split.
 #[derive(Clone, Copy, Debug, PartialEq, Eq, Error)]
@@ -185,16 +182,16 @@ fn close(budget: u64, spent: u64, item: Told, separators: &mut Separators) -> Re
         ≡ separators.new ++ cuts_from budget left items) }
     ensures above { OnOk result ((p : ModelPlace) → IsPlace p → place_cmp item.place p ≡ Less
         → AreSeparators (separators.new ++ p ∷ [])) }
-    ensures few { OnOk result (length separators.old ≤ max_parts
-        → length separators.new ≤ max_parts) }
+    ensures few { OnOk result (length separators.old ≤ max_separators
+        → length separators.new ≤ max_separators) }
     ensures many { result ≡ Err SplitStop.Many
-        → max_parts < length (separators.old ++ cuts_from budget spent (item ∷ [])) }
+        → max_separators < length (separators.old ++ cuts_from budget spent (item ∷ [])) }
     ensures stop { IfErr result (λ stop. (stop ≡ SplitStop.Many) ⊎ (stop ≡ SplitStop.Memory)) }
 {
     if item.cost == 0 || spent < budget {
         return Ok(spent.saturating_add(item.cost));
     }
-    if separators.len() >= MAX_PARTS {
+    if separators.len() >= MAX_SEPARATORS {
         return Err(SplitStop::Many);
     }
     match separators.push(item.place) {
@@ -208,7 +205,7 @@ fn end(budget: u64, cutter: Cutter) -> Result<Separators, SplitStop>
     requires below { AreBelow cutter.separators cutter.item }
     ensures ok { IfOk result (λ separators. (done : List ModelLine)
         → IsCutSoFar budget done cutter.separators cutter.spent cutter.item
-        → (separators ≡ cuts budget done) × (length separators ≤ max_parts)) }
+        → (separators ≡ cuts budget done) × (length separators ≤ max_separators)) }
     ensures refused { IfErr result (λ stop. (done : List ModelLine)
         → IsCutSoFar budget done cutter.separators cutter.spent cutter.item
         → StopsAtEnd budget done stop) }

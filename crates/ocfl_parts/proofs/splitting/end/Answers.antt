@@ -1,6 +1,6 @@
 use Rattle.std.proofs.Common.{◌<◌, ◌^◌, ◌≤◌, Err, ap, sym, subst, length, ◌∙◌, arith}
 use Rattle.std.proofs.lemmas.Result.{err_from_is_err_and}
-use Rattle.ocfl_parts.specs.Parts.{max_parts}
+use Rattle.ocfl_parts.specs.Parts.{max_separators}
 use Rattle.ocfl_parts.proofs.Cuts.{end_refused, none_left, last_closed}
 use Rattle.ocfl_parts.proofs.splitting.end.Goals.{in-Some+in_ok-close, in_default}
 use Rattle.ocfl_parts.proofs.splitting.end.Goals as goal
@@ -20,8 +20,8 @@ returns-clause-ok c = λ done h.
       | in-Some+in_ok-close w ↦ (
         w.separators-is
             ∙ last_closed c.args.budget small done c.args.cutter.separators c.args.cutter.spent c.args.cutter.item h w.in-Some.item w.close.new.separators w.in_ok-close.field-0 w.in-Some.is w.in_ok-close.ensures.cuts,
-        subst (λ xs. length xs ≤ max_parts) (sym w.separators-is) (w.in_ok-close.ensures.few h.few),
+        subst (λ xs. length xs ≤ max_separators) (sym w.separators-is) (w.in_ok-close.ensures.few h.few),
       )
       | in_default w ↦
-          (w.separators-is ∙ none_left c.args.budget small done c.args.cutter.separators c.args.cutter.spent c.args.cutter.item h w.in_default.is, subst (λ xs. length xs ≤ max_parts) (sym w.separators-is) h.few)
+          (w.separators-is ∙ none_left c.args.budget small done c.args.cutter.separators c.args.cutter.spent c.args.cutter.item h w.in_default.is, subst (λ xs. length xs ≤ max_separators) (sym w.separators-is) h.few)
     ]

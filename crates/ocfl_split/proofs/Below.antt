@@ -22,13 +22,14 @@ use Rattle.ocfl_split.proofs.Entries.{among_tree}
 
 -- ---- calls
 
-nothing_ends : {A : Type 0} (before : List A) (x : A) → [] ≡ before ++ x ∷ [] → ⊥
-nothing_ends [] x e = cc
-nothing_ends (y ∷ before) x e = cc
+-- a list with a last item is not empty
+pub never_empty : {A : Type 0} (before : List A) (x : A) → [] ≡ before ++ x ∷ [] → ⊥
+never_empty [] x e = cc
+never_empty (y ∷ before) x e = cc
 
 failed_last : (root : StorageRoot) (ls : List Place) (q : Place) → FailedAt root ls [] q → (before : List Place) × (ls ≡ before ++ q ∷ [])
 failed_last root ls q (in_listing before e read) = (before, e)
-failed_last root ls q (in_opening before given e) = absurd (nothing_ends before _ e)
+failed_last root ls q (in_opening before given e) = absurd (never_empty before _ e)
 
 module _ (root : StorageRoot) where
   pub listing_stops : (s t : Store) (d p : Place) (why : Fault) → p ≡ d → Stops root s t (p ∷ []) [] why → ListsStop root s t (d ∷ []) why

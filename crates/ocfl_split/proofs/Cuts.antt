@@ -1,15 +1,18 @@
 -- The directories at which a level is cut.
-use Rattle.std.proofs.Common.{◌≡◌, ℕ, zero, suc, ◌+◌, ◌-◌, ◌*◌, ◌/◌, ◌<◌, ◌≤◌, List, [], ◌∷◌, ◌++◌, Some, sym, ◌∙◌, ap, subst, length, drop, get_or, arith, append_assoc}
-use Rattle.std.specs.Prelude.{slice_get}
+use Rattle.std.proofs.Common.{◌≡◌, ℕ, zero, suc, ◌+◌, ◌-◌, ◌*◌, ◌/◌, ◌<◌, ◌≤◌, List, [], ◌∷◌, ◌++◌, Some, refl, true, false, Bool, sym, ◌∙◌, ap, subst, length, drop, get_or, arith, append_assoc}
+use Rattle.std.specs.Prelude.{slice_get, min, nat_le}
 use Rattle.std.specs.Option.{option_to_list}
 use Rattle.std.proofs.Math.Nat.{div-mul-le_self, mul-le-mul_right}
 use Rattle.std.proofs.Math.Seq.{drop-nil}
 use Rattle.std.proofs.lemmas.Nat.{div-add-mod', div_below, le-div}
 use Rattle.std.proofs.lemmas.Option.{slice_get-get_or}
+use Rattle.std.proofs.lemmas.List.{length-append}
+use Rattle.std.proofs.lemmas.Bool.{leb-true, leb-false}
 use Rattle.ocfl_tree.specs.Place.{Place, place_cmp}
+use Rattle.ocfl_tree.specs.StorageRoot.{StorageRoot}
 use Rattle.ocfl_tree.specs.Ascending.{IsAscending, IsBeforeAll}
 use Rattle.ocfl_tree.proofs.Lists.{drop_item}
-use Rattle.ocfl_split.specs.Splitting.{firsts}
+use Rattle.ocfl_split.specs.Splitting.{firsts, cut_evenly, split_level, separators_of}
 
 -- ---- where the parts begin
 
@@ -96,3 +99,74 @@ firsts_more ds xs ys m (suc k) p l g e f =
     let same : suc k ≡ k + 1 = omega arith in
     let found : slice_get ds ((k + 1) * length ds / m) ≡ Some p = subst (λ i. slice_get ds (i * length ds / m) ≡ Some p) same g in
     f ∙ ap (λ zs. zs ++ p ∷ []) (e ∙ ap (firsts ds m) one) ∙ ap (λ o. firsts ds m k ++ option_to_list o) (sym found) ∙ ap (firsts ds m) (sym two)
+
+-- ---- the separators
+
+-- a part begins at one of the directories
+first_is : (ds : List Place) (j : ℕ) → j < length ds → (p : Place) × (slice_get ds j ≡ Some p)
+first_is [] j l = absurd (omega (arith, l))
+first_is (d ∷ ds) zero l = (d, refl)
+first_is (d ∷ ds) (suc j) l = first_is ds j (omega (arith, l))
+
+-- the first k + 1 parts but the very first: one more than the first k
+one_first : (ds : List Place) (m k : ℕ) → suc k < m → m ≤ length ds → (p : Place) × (slice_get ds ((k + 1) * length ds / m) ≡ Some p) × (firsts ds m (suc k) ≡ firsts ds m k ++ p ∷ [])
+one_first ds m k l few =
+    let less : k + 1 < m = omega (arith, l) in
+    let f = first_is ds ((k + 1) * length ds / m) (index_within (k + 1) m (length ds) less few) in
+    (f.0, f.1, ap (λ o. firsts ds m k ++ option_to_list o) f.1)
+
+firsts_long : (ds : List Place) (m k : ℕ) → k < m → m ≤ length ds → length (firsts ds m k) ≡ k
+firsts_long ds m zero l few = refl
+firsts_long ds m (suc k) l few =
+    let f = one_first ds m k l few in
+    let before = firsts_long ds m k (omega (arith, l)) few in
+    ap length f.2 ∙ omega (arith, length-append (firsts ds m k) (f.0 ∷ []), before)
+
+get_front : (xs ys : List Place) (k : ℕ) → k < length xs → slice_get (xs ++ ys) k ≡ slice_get xs k
+get_front [] ys k l = absurd (omega (arith, l))
+get_front (x ∷ xs) ys zero l = refl
+get_front (x ∷ xs) ys (suc k) l = get_front xs ys k (omega (arith, l))
+
+get_last : (xs : List Place) (p : Place) (k : ℕ) → k ≡ length xs → slice_get (xs ++ p ∷ []) k ≡ Some p
+get_last [] p zero e = refl
+get_last [] p (suc k) e = absurd (omega (arith, e))
+get_last (x ∷ xs) p zero e = absurd (omega (arith, e))
+get_last (x ∷ xs) p (suc k) e = get_last xs p k (omega (arith, e))
+
+first_at : (ds : List Place) (m k i : ℕ) → k < m → m ≤ length ds → i < k → slice_get (firsts ds m k) i ≡ slice_get ds ((i + 1) * length ds / m)
+first_at ds m zero i l few j = absurd (omega (arith, j))
+first_at ds m (suc k) i l few j = by (nat_le (suc i) k) refl (first_at ds m k i (omega (arith, l)) few)
+  where
+    long : length (firsts ds m k) ≡ k
+    long = firsts_long ds m k (omega (arith, l)) few
+
+    f : (p : Place) × (slice_get ds ((k + 1) * length ds / m) ≡ Some p) × (firsts ds m (suc k) ≡ firsts ds m k ++ p ∷ [])
+    f = one_first ds m k l few
+
+    by : (b : Bool) → nat_le (suc i) k ≡ b → (i < k → slice_get (firsts ds m k) i ≡ slice_get ds ((i + 1) * length ds / m)) → slice_get (firsts ds m (suc k)) i ≡ slice_get ds ((i + 1) * length ds / m)
+    by true e before =
+        let less : i < k = leb-true (suc i) k e in
+        ap (λ xs. slice_get xs i) f.2 ∙ get_front (firsts ds m k) (f.0 ∷ []) i (omega (arith, less, long)) ∙ before less
+    by false e before =
+        let past : k < suc i = leb-false (suc i) k e in
+        let same : k ≡ i = omega (arith, past, j) in
+        ap (λ xs. slice_get xs i) f.2 ∙ get_last (firsts ds m k) f.0 i (omega (arith, same, long)) ∙ sym f.1 ∙ ap (λ x. slice_get ds ((x + 1) * length ds / m)) same
+
+cut_count : (count : ℕ) (ds : List Place) → length (cut_evenly count ds) ≡ min count (length ds) - 1
+cut_count count ds = by (min count (length ds)) refl
+  where
+    by : (m : ℕ) → min count (length ds) ≡ m → length (firsts ds m (m - 1)) ≡ m - 1
+    by zero e = let none : 0 - 1 ≡ 0 = omega arith in ap (λ k. length (firsts ds 0 k)) none ∙ sym none
+    by (suc m) e = firsts_long ds (suc m) (suc m - 1) (omega arith) (omega (arith, sym e))
+
+cut_at : (count k : ℕ) (ds : List Place) → k < length (cut_evenly count ds) → slice_get (cut_evenly count ds) k ≡ slice_get ds ((k + 1) * length ds / min count (length ds))
+cut_at count k ds l =
+    let less : k < min count (length ds) - 1 = omega (arith, l, cut_count count ds) in
+    first_at ds (min count (length ds)) (min count (length ds) - 1) k (omega (arith, less)) (omega arith) less
+
+pub separators_count : (root : StorageRoot) (count : ℕ) → length (separators_of root count) ≡ min count (length (split_level root count)) - 1
+separators_count root count = cut_count count (split_level root count)
+
+pub separator_at : (root : StorageRoot) (count k : ℕ) → k < length (separators_of root count)
+    → slice_get (separators_of root count) k ≡ slice_get (split_level root count) ((k + 1) * length (split_level root count) / min count (length (split_level root count)))
+separator_at root count k l = cut_at count k (split_level root count) l

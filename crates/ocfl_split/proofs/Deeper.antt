@@ -1,5 +1,5 @@
 -- A level is listed, directory by directory, for the next.
-use Rattle.std.proofs.Common.{◌≡◌, ℕ, suc, ◌+◌, ◌-◌, ◌<◌, ◌≤◌, List, [], ◌∷◌, ◌++◌, refl, sym, ◌∙◌, ap, subst, true, false, Bool, Some, None, length, take, drop, get_or, arith, rules, append_assoc}
+use Rattle.std.proofs.Common.{◌≡◌, ℕ, suc, ◌+◌, ◌-◌, ◌<◌, ◌≤◌, List, [], ◌∷◌, ◌++◌, refl, sym, ◌∙◌, ap, subst, true, false, Some, None, length, take, drop, get_or, arith, rules, append_assoc}
 use Rattle.std.specs.Prelude.{cond, ◌||◌, ◌==◌, nat_lt, nat_le}
 use Rattle.std.proofs.lemmas.List.{take_more, drop_all, length-append, append-nil}
 use Rattle.std.proofs.lemmas.Bool.{le-leb, lt-leb, or_right}

@@ -1,6 +1,7 @@
 -- The levels are the storage hierarchy.
 use Rattle.std.proofs.Common.{◌≡◌, ◌⊎◌, ◌↔◌, inl, inr, ℕ, zero, suc, ◌+◌, [], ◌∷◌, ◌++◌, refl, sym, ◌∙◌, ap, subst, true, false, Bool, length, filter, arith}
 use Rattle.std.specs.Prelude.{cond, ◌&&◌, ◌||◌, not, codes}
+use Rattle.std.proofs.lemmas.Bool.{not-true}
 use Rattle.std.proofs.lemmas.List.{length-append}
 use Rattle.ocfl_tree.specs.Place.{Text, Place, text_eq}
 use Rattle.ocfl_tree.specs.Ascending.{IsAmong}
@@ -19,14 +20,7 @@ use Rattle.ocfl_item.specs.Ways.{is_extensions_name}
 use Rattle.ocfl_item.proofs.LooksZones.{leaf_dir, root_hierarchy}
 use Rattle.ocfl_split.specs.Levels.{leads_on, directories_in, directories_below, level, LiesInHierarchy}
 use Rattle.ocfl_split.proofs.Entries.{among_from_map}
-
-not_true : (b : Bool) → not b ≡ true → b ≡ false
-not_true true h = absurd (true_not_false (sym h))
-not_true false h = refl
-
-no_end : (q : Place) (x : Text) → q ++ x ∷ [] ≡ [] → ⊥
-no_end [] x e = cc
-no_end (y ∷ q) x e = cc
+use Rattle.ocfl_split.proofs.Below.{never_empty}
 
 -- a place of some names, and the last of them
 last_name : (p : Place) (n : ℕ) → length p ≡ suc n → (d : Place) × (x : Text) × (p ≡ d ++ x ∷ []) × (length d ≡ n)
@@ -50,7 +44,7 @@ module _ (root : StorageRoot) where
     where
       by : IsPart (m ∷ d) → zone root (m ∷ d) ≡ hierarchy
       by (inl z) = z
-      by (inr o) = absurd (true_not_false (sym o.declares ∙ not_true (is_declared (object_declared root (m ∷ d))) h))
+      by (inr o) = absurd (true_not_false (sym o.declares ∙ not-true (is_declared (object_declared root (m ∷ d))) h))
 
   passed : (d : Place) (x : Text) → is_extensions_name d x ≡ false → is_extensions root d x ≡ false
   passed [] x h = ap (λ b. b && is_dir root (x ∷ [])) h
@@ -73,7 +67,7 @@ module _ (root : StorageRoot) where
       let m = among_from_map (λ n. d ++ n ∷ []) (filter test (names_in root d)) p i in
       let f = among_from_filter test (names_in root d) m.0 m.1 in
       let there = and_first (is_dir root (d ++ m.0 ∷ [])) (not (is_extensions_name d m.0)) f.1 in
-      let out = not_true (is_extensions_name d m.0) (and_second (is_dir root (d ++ m.0 ∷ [])) (not (is_extensions_name d m.0)) f.1) in (
+      let out = not-true (is_extensions_name d m.0) (and_second (is_dir root (d ++ m.0 ∷ [])) (not (is_extensions_name d m.0)) f.1) in (
         ap length m.2 ∙ omega (arith, length-append d (m.0 ∷ [])),
         ap (is_dir root) m.2 ∙ there,
         subst IsPart (sym m.2) (step_down d m.0 (led d h (inl_or d) k) out),
@@ -121,7 +115,7 @@ module _ (root : StorageRoot) where
       by false skipped f g (inr k) = absurd cc
       by false hierarchy f g k = (f, g)
       by false (inside o q) f g (inl k) = absurd cc
-      by false (inside o q) f g (inr k) = absurd (no_end q x (ends o q (d ++ x ∷ []) k))
+      by false (inside o q) f g (inr k) = absurd (never_empty q x (sym (ends o q (d ++ x ∷ []) k)))
         where
           ends : (a b c : Place) → inside a (b ++ x ∷ []) ≡ inside c [] → b ++ x ∷ [] ≡ []
           ends a b c w = cc

@@ -1,5 +1,5 @@
 -- Levels in order, and each directory listed once.
-use Rattle.std.proofs.Common.{◌≡◌, ◌≢◌, ◌⊎◌, inl, inr, ℕ, zero, suc, ◌+◌, ◌-◌, ◌≤◌, List, [], ◌∷◌, ◌++◌, refl, sym, ◌∙◌, ap, subst, true, false, Bool, Some, None, length, arith}
+use Rattle.std.proofs.Common.{◌≡◌, ◌≢◌, ◌⊎◌, inl, inr, ℕ, zero, suc, ◌-◌, ◌≤◌, List, [], ◌∷◌, ◌++◌, refl, sym, ◌∙◌, ap, subst, true, false, Bool, Some, None, length, arith}
 use Rattle.std.specs.Prelude.{cond, ◌||◌, ◌==◌, nat_lt, nat_le, ⊤, AllPairs}
 use Rattle.std.specs.Option.{option_map_or}
 use Rattle.std.proofs.lemmas.List.{length-append}
@@ -8,7 +8,7 @@ use Rattle.std.specs.declared.cmp.Ordering.TheVariants.{Less}
 use Rattle.ocfl_tree.specs.Place.{Text, Place, place_cmp}
 use Rattle.ocfl_tree.specs.Ascending.{IsAmong, IsAscending}
 use Rattle.ocfl_tree.specs.StorageRoot.{StorageRoot}
-use Rattle.ocfl_tree.proofs.Orders.{place_cmp_total, not_below_itself, before_each}
+use Rattle.ocfl_tree.proofs.Orders.{place_cmp_total, not_below_itself, before_each, among_left}
 use Rattle.ocfl_audit.proofs.BelowLaws.{ascends_append, from_append, from_flat_map}
 use Rattle.ocfl_split.specs.Levels.{leads_on, directories_in, directories_below, level, level_below}
 use Rattle.ocfl_split.specs.Splitting.{room_below, next_level, wider, kept, listed_within, listed_from, listed_for}
@@ -68,14 +68,9 @@ rises_once : (xs : List Place) → IsAscending place_cmp xs → Once xs
 rises_once [] h = tt
 rises_once (x ∷ xs) h = (λ z i e. not_below_itself place_cmp_total x (subst (λ y. place_cmp x y ≡ Less) (sym e) (before_each place_cmp x xs h.0 z i)), rises_once xs h.1)
 
-left_of : (xs ys : List Place) (z : Place) → IsAmong xs z → IsAmong (xs ++ ys) z
-left_of [] ys z i = absurd i
-left_of (x ∷ xs) ys z (inl e) = inl e
-left_of (x ∷ xs) ys z (inr i) = inr (left_of xs ys z i)
-
 once_front : (xs ys : List Place) → Once (xs ++ ys) → Once xs
 once_front [] ys h = tt
-once_front (x ∷ xs) ys h = (λ z i. h.0 z (left_of xs ys z i), once_front xs ys h.1)
+once_front (x ∷ xs) ys h = (λ z i. h.0 z (among_left xs ys z i), once_front xs ys h.1)
 
 once_append : (xs ys : List Place) → Once xs → Once ys → ((x y : Place) → IsAmong xs x → IsAmong ys y → x ≢ y) → Once (xs ++ ys)
 once_append [] ys h k apart = k
@@ -117,7 +112,7 @@ module _ (root : StorageRoot) where
       long : (z : Place) → IsAmong (listed_within root room (level root n)) z → length z ≡ n
       long z i =
           let f = front_within room (level root n) in
-          level_long root n z (subst (λ xs. IsAmong xs z) (sym f.1) (left_of (listed_within root room (level root n)) f.0 z i))
+          level_long root n z (subst (λ xs. IsAmong xs z) (sym f.1) (among_left (listed_within root room (level root n)) f.0 z i))
 
       apart : (x y : Place) → IsAmong (listed_within root room (level root n)) x → IsAmong more y → x ≢ y
       apart x y i j e =

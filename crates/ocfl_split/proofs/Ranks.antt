@@ -8,7 +8,7 @@ use Rattle.std.specs.declared.cmp.Ordering.{Ordering}
 use Rattle.std.specs.declared.cmp.Ordering.TheVariants.{Less, Equal, Greater}
 use Rattle.ocfl_tree.specs.Place.{Place, Text, text_cmp, place_cmp}
 use Rattle.ocfl_tree.specs.Ascending.{IsAscending, IsAmong}
-use Rattle.ocfl_tree.proofs.Orders.{before_each}
+use Rattle.ocfl_tree.proofs.Orders.{before_each, among_left, among_right}
 use Rattle.ocfl_audit.proofs.BelowLaws.{ascends_append, from_append}
 use Rattle.ocfl_split.specs.Splitting.{wider, kept}
 use Rattle.ocfl_split.specs.Internal.Directories.{IsBelow, IsLevel, AddsBelow}
@@ -77,18 +77,9 @@ below_more depth ds i d room old new h l is k adds =
         only z (inl e) = e
         only z (inr j) = absurd j
 
-    left : (xs ys : List Place) (z : Place) → IsAmong xs z → IsAmong (xs ++ ys) z
-    left [] ys z j = absurd j
-    left (x ∷ xs) ys z (inl e) = inl e
-    left (x ∷ xs) ys z (inr j) = inr (left xs ys z j)
-
-    right : (xs ys : List Place) (z : Place) → IsAmong ys z → IsAmong (xs ++ ys) z
-    right [] ys z j = j
-    right (x ∷ xs) ys z j = inr (right xs ys z j)
-
     found : (z : Place) → IsAmong old z ⊎ IsAmong adds.places z → (e : Place) × IsAmong (take i ds ++ d ∷ []) e × ((n : Text) × (z ≡ e ++ n ∷ []))
-    found z (inl j) = let a = k.under z j in (a.0, left (take i ds) (d ∷ []) a.0 a.1, a.2)
-    found z (inr j) = let b = adds.below.under z j in (b.0, right (take i ds) (d ∷ []) b.0 b.1, b.2)
+    found z (inl j) = let a = k.under z j in (a.0, among_left (take i ds) (d ∷ []) a.0 a.1, a.2)
+    found z (inr j) = let b = adds.below.under z j in (b.0, among_right (take i ds) (d ∷ []) b.0 b.1, b.2)
 
 pub below_old : (ds : List Place) (d : Place) (room : ℕ) (old : List Place) → AddsBelow d room old old
 below_old ds d room old = record { few = λ h. h; places = []; added = sym (append-nil old); below = record { ascend = tt; under = λ z i. absurd i } }

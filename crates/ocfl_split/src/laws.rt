@@ -1,6 +1,6 @@
 //! The laws of what splits a storage root.
-ghost use Rattle.std.specs.Prelude.{◌≡◌, ◌↔◌, ℕ, ◌+◌, ◌*◌, ◌/◌, ◌<◌, ◌≤◌, ◌≢◌, Some, length};
-ghost use Rattle.std.specs.Prelude.{AllPairs};
+ghost use Rattle.std.specs.Prelude.{◌≡◌, ◌↔◌, ℕ, ◌+◌, ◌-◌, ◌*◌, ◌/◌, ◌<◌, ◌≤◌, ◌≢◌, Some};
+ghost use Rattle.std.specs.Prelude.{AllPairs, length, min, slice_get};
 ghost use Rattle.ocfl_tree.specs.Ascending.{IsAmong, IsAscending};
 ghost use Rattle.ocfl_tree.specs.Place.{Place, place_cmp};
 ghost use Rattle.ocfl_tree.specs.StorageRoot.{StorageRoot, dir, at};
@@ -33,10 +33,15 @@ pub fn levels_are_the_hierarchy()
 {}
 
 /// Parts have about equally many directories: each has the quotient of an even division, or one
-/// more.
+/// more. There are as many as asked for, or one for each directory where these are fewer.
 #[tactic(auto, using(crate::proofs::Cuts::even_parts))]
 pub fn parts_are_even()
-    ensures { (directories parts i : ℕ) → 0 < parts
+    ensures count { (root : StorageRoot) (count : ℕ) → length (separators_of root count)
+        ≡ min count (length (split_level root count)) - 1 }
+    ensures position { (root : StorageRoot) (count k : ℕ) → k < length (separators_of root count)
+        → slice_get (separators_of root count) k ≡ slice_get (split_level root count)
+        ((k + 1) * length (split_level root count) / min count (length (split_level root count))) }
+    ensures even { (directories parts i : ℕ) → 0 < parts
         → (i * directories / parts + directories / parts ≤ (i + 1) * directories / parts)
         × ((i + 1) * directories / parts ≤ i * directories / parts + directories / parts + 1) }
 {}

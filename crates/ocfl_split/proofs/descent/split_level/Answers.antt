@@ -1,9 +1,9 @@
-use Rattle.std.proofs.Common.{◌≡◌, ◌≤◌, ◌∙◌, ℕ, Some, None, inl, refl, sym, ap, subst, true, false, length, arith}
+use Rattle.std.proofs.Common.{◌≡◌, ◌≤◌, ◌∙◌, ℕ, Some, None, inl, sym, ap, subst, true, false, length, arith}
 use Rattle.std.specs.Prelude.{nat_le}
 use Rattle.std.proofs.lemmas.Bool.{le-leb, lt-leb}
 use Rattle.std.proofs.lemmas.Result.{err_from_is_err_and}
 use Rattle.ocfl_split.specs.Internal.Directories.{IsLevel, AreListable}
-use Rattle.ocfl_split.specs.Splitting.{room_below, next_level, wider, kept, listed_within, ListsAll, ListsStop, split_level, listed_for}
+use Rattle.ocfl_split.specs.Splitting.{room_below, next_level, wider, kept, listed_within, ListsAll, ListsStop}
 use Rattle.ocfl_split.proofs.Below.{over_after}
 use Rattle.ocfl_split.proofs.Ranks.{IsNoneOrLevel, first_level_is, wider_is, kept_is}
 use Rattle.ocfl_split.proofs.Descents.{split_begins, can_list, split_enough, split_ends, split_fails, split_last, split_on}

@@ -172,10 +172,18 @@ def cycles(folder):
     print("nights: %s" % ", ".join(made.seen))
 
 
+def so_far(nights):
+    """What the parts have reported in the open cycle."""
+    parts = [Nights(os.path.join(nights.set(), name), nights.root) for name in nights.names()]
+    return "".join(part.has("report") or part.whole(1) or "" for part in parts)
+
+
 def messages(folder):
     """What a night says of a place that cannot be read, and when it stands alone."""
     root = make_root(folder, 24, faults=False)
     broken = Place(root, "03/o-003/v1/content")
+    whole = audit(root)
+    rest = without(whole, "03/o-003/v1/content")
     broken.spoil()
     nights = Together(folder + "/state", root)
     more = {"jobs": 2, "parts": 4}
@@ -188,23 +196,29 @@ def messages(folder):
     is_so("the first night", (status, bool(re.search(stop + "The other parts go on", said)),
                               "stands alone" in said), (3, True, False))
     is_so("the others have ended", len(nights.logs("ended")), len(nights.names()) - 1)
+    status, out, _ = ran([CONTRIB + "/status", "--list", nights.state])
+    is_so("status has the findings of an open cycle", (status, set(out.splitlines(True)[1:])),
+          (2, findings(so_far(nights))))
     status, _, said = night()
     is_so("the second divides the part", (status, "on 03/o-003/v1/content stands alone" in said),
           (3, True))
     table = [row.split("\t")[1:] for row in read(nights.set() + "/table").splitlines()]
     is_so("at the place", [row for row in table if row[0].startswith("03/o-003")],
           [["03/o-003/v1/content", "03/o-003/v1/content"], ["03/o-003/v1/content%01", ""]])
-    before = len(nights.logs("run"))
     status, _, said = night()
     is_so("the third ends the cycle", (status, "Cycle 1 has ended, and its report is not whole"
                                        in said, "left out what is not audited" in said),
           (3, True, True))
-    is_so("which reads what comes after it", nights.has("reports/incomplete-000001") is not None
-          and before > 0, True)
+    is_so("which reads what comes after it", nights.has("reports/incomplete-000001"), rest)
     broken.mend()
+    for number in range(30):
+        write("%s/01/o-001/junk-%02d" % (root, number), "")
     said = night()[2]
     is_so("the next cycle is whole", nights.has("reports/cycle-000002"), audit(root))
     is_so("and says only findings", "stopped" in said, False)
+    damaged = sorted(line for line in findings(whole) if line.startswith("E092"))
+    is_so("the gravest first", sorted(line for line in said.splitlines(True)[1:1 + len(damaged)]),
+          damaged)
 
 
 def opened_once(folder):
@@ -296,6 +310,216 @@ def part_nights(folder):
     held.communicate(b"\n")
 
 
+# Nights by hand, over a root of nine small objects in four parts
+
+def by_hand(nights, name, *words, **environment):
+    """A call of `begin`, `part` or `end`."""
+    return ran([CONTRIB + "/parallel/" + name, "--state", nights.state, *words, nights.root],
+               **environment)
+
+
+def begun(folder, damaged=(), state="state"):
+    """The nights of a root in which some objects are damaged, and the numbers of its parts."""
+    objects = {"o%d" % number: {"v1/content/a": b"abc", "v1/content/b": b"d"}
+               for number in range(9)}
+    root = common.make_root(folder + "/root", objects)
+    for place in damaged:
+        write("%s/%s/v1/content/a" % (root, place), "damaged")
+    nights = Together("%s/%s" % (folder, state), root)
+    return nights, again(nights)
+
+
+def again(nights):
+    status, out, said = by_hand(nights, "begin", "--parts", "4")
+    is_so("begin", (status, said), (0, ""))
+    return out.split()
+
+
+def audit_parts(nights, numbers, budget="1M"):
+    for number in numbers:
+        is_so("part " + number, by_hand(nights, "part", "--part", number, "--budget", budget),
+              (0, "", ""))
+
+
+def slow(folder, seconds):
+    """A program that takes its time."""
+    return instead(folder, "slow", 'touch %s/runs\nsleep %d\nexec {program} "$@"'
+                   % (folder, seconds))
+
+
+def wait_until(is_met, limit=30):
+    until = time.monotonic() + limit
+    while not is_met() and time.monotonic() < until:
+        time.sleep(0.05)
+
+
+def signalled(folder, nights, words, name):
+    """A command that gets a signal once its first run has begun: its status, and what it says."""
+    if os.path.exists(folder + "/runs"):
+        os.remove(folder + "/runs")
+    night = subprocess.Popen(words, start_new_session=True, stdin=subprocess.DEVNULL,
+                             stderr=subprocess.PIPE,
+                             env={**os.environ, "OCFL_SCRUB": slow(folder, 3)})
+    wait_until(lambda: os.path.exists(folder + "/runs"))
+    os.kill(night.pid, getattr(signal, "SIG" + name))
+    said = night.communicate(timeout=60)[1].decode()
+    # What counts --grace sleeps for a second more.
+    wait_until(lambda: not processes(night.pid), 5)
+    is_so(name + ": nothing is left running", processes(night.pid), {})
+    return night.returncode, said
+
+
+def signals(folder):
+    """A signal to a part alone, as Slurm and Kubernetes send it, ends its night between two runs;
+    one to the night of all parts is no failure."""
+    nights, _ = begun(folder)
+    for number, name in [("1", "TERM"), ("2", "INT"), ("3", "HUP")]:
+        part = Nights(nights.set() + "/" + number, nights.root)
+        words = [CONTRIB + "/parallel/part", "--state", nights.state, "--part", number, "--hours",
+                 "1", "--grace", "30", "--budget", "1", nights.root]
+        is_so("a part, by " + name, signalled(folder, nights, words, name), (0, ""))
+        is_so(name + ": no run is cut", (part.rows("cut"), len(part.rows("run"))), ([], 1))
+        is_so(name + ": it says so", "was ended by SIGTERM after 1 run(s)" in (
+            part.has("tonight") or ""), True)
+    is_so("told", by_hand(nights, "end"), (0, "", ""))
+    for grace in ["0", "30"]:
+        words = nights.words("1", ["--grace", grace], jobs=2, parts=4)
+        status, said = signalled(folder, nights, words, "TERM")
+        is_so("all parts, within %s s" % grace, (status, "was ended by SIGTERM" in said), (0, True))
+    ran(nights.words("1M", jobs=2, parts=4))
+    is_so("the cycle", nights.has("reports/cycle-000001"), audit(nights.root))
+
+
+def closed_before_told(folder):
+    """A cycle that is closed and not told yet: its rows and its findings are told once."""
+    nights, numbers = begun(folder, ["o0", "o8"])
+    audit_parts(nights, numbers)
+    is_so("joined", by_hand(nights, "end", "--join-only"), (0, "", ""))
+    is_so("not yet told", len(os.listdir(nights.set())) > 4, True)
+    audit_parts(nights, again(nights)[:1])
+    said = by_hand(nights, "end")[2]
+    is_so("findings of each cycle", re.findall(r"cycle (\d), in (\d) part", said),
+          [("1", "2"), ("2", "1")])
+    rows = [tuple(row) for row in nights.rows("run")]
+    is_so("each run is logged once", (len(rows), len(set(rows))), (len(numbers) + 1,) * 2)
+    is_so("at its cost", nights.rows("ended")[0][7], str(sum(
+        int(row[5]) for row in rows if row[2] == "1")))
+
+
+def disk_full(folder):
+    """A report that cannot be written whole is not joined, also where there is room again then."""
+    objects = {"o%03d" % number: {"v1/content/a": b"a"} for number in range(300)}
+    nights = Together(folder + "/state", common.make_root(folder + "/root", objects))
+    audit_parts(nights, again(nights))
+    # Files of 8 KiB at most: a write beyond that fails, and ends nothing.
+    full = "trap '' XFSZ; ulimit -f 16; exec \"$@\""
+    status, _, said = ran(["sh", "-c", full, "sh", CONTRIB + "/parallel/end", "--state",
+                           nights.state, nights.root])
+    is_so("no room", (status, "File too large" in said, os.listdir(nights.path("reports"))),
+          (3, True, []))
+    is_so("room", (by_hand(nights, "end"), nights.has("reports/cycle-000001")),
+          ((0, "", ""), audit(nights.root)))
+
+
+def seals(folder):
+    """A seal that fails is said with status 3, also by the next night, which tries it again."""
+    nights, _ = begun(folder)
+    failed = "The statement of cycle 1 could not be made or sealed."
+    for budget in ["1M", "1"]:
+        status, _, said = ran(nights.words(budget, ["--seal", "false"], jobs=2, parts=4))
+        is_so("a seal that fails", (status, said.count(failed)), (3, 1))
+    seal = ["--seal", 'rev "$1" > "$1.rev"']
+    is_so("one that does not", ran(nights.words("1", seal, jobs=2, parts=4)), (0, "", ""))
+    is_so("the seal", nights.has("reports/statement-000001.rev") is None, False)
+
+
+def not_run(folder):
+    """What GNU parallel did not run is said."""
+    nights, _ = begun(folder)
+    write(folder + "/bin/parallel", "#!/bin/sh\n[ \"$1\" != --version ] || exec echo GNU parallel 1"
+          "\necho no room for us >&2\nexit 255\n", 0o755)
+    path = folder + "/bin:" + os.environ["PATH"]
+    status, _, said = ran(nights.words("1M", jobs=2, parts=4), PATH=path)
+    is_so("nothing ran", (status, said), (3, "GNU parallel did not run every part.\n"
+                                             "no room for us\n"))
+    is_so("the next night", ran(nights.words("1M", jobs=2, parts=4))[0], 0)
+    for number in range(25):
+        os.makedirs(nights.state + "/parts-000002", exist_ok=True)
+        with open(nights.state + "/parts-000002/said", "a") as file:
+            file.write("Part %d: a word\n" % number)
+    status, _, said = ran(nights.words("1M", jobs=2, parts=4))
+    is_so("what parts say themselves", (status, said.splitlines()[19:]),
+          (3, ["Part 19: a word", "and 5 more lines"]))
+
+
+def late(folder):
+    """A part whose end has passed says nothing, and not what its last night said."""
+    nights, _ = begun(folder, ["o0"])
+    audit_parts(nights, ["1"], "1")
+    part = Nights(nights.set() + "/1", nights.root)
+    is_so("it has findings", "finding(s) tonight" in (part.has("tonight") or ""), True)
+    is_so("they are told", by_hand(nights, "end")[0], 1)
+    is_so("late", by_hand(nights, "part", "--part", "1", "--end", "1"), (0, "", ""))
+    is_so("nothing more is told", by_hand(nights, "end"), (0, "", ""))
+    is_so("nothing more was run", len(part.rows("run")), 1)
+
+
+# Removes the first file of a folder of parts, and kills all that has to do with the night.
+KILLED_REMOVING = """#!/bin/sh
+for word in "$@"; do
+  case $word in
+    */parts-*|*/left.parts) if [ -d "$word" ]; then rm -f "$word/table"; kill -KILL 0; fi ;;
+  esac
+done
+exec %s "$@"
+"""
+
+
+def killed_removing(folder):
+    """A kill while the folder of a closed cycle is removed: the next night removes the rest."""
+    nights, _ = begun(folder)
+    write(folder + "/bin/rm", KILLED_REMOVING % shutil.which("rm"), 0o755)
+    night = subprocess.Popen(nights.words("1M", jobs=2, parts=4), start_new_session=True, env={
+        **os.environ, "OCFL_SCRUB": PROGRAM, "PATH": folder + "/bin:" + os.environ["PATH"]})
+    is_so("killed", night.wait(timeout=60), -9)
+    is_so("the next night", ran(nights.words("1M", jobs=2, parts=4)), (0, "", ""))
+    is_so("no folder of parts is left", sorted(os.listdir(nights.state)),
+          ["lock", "nights", "reports", "root"])
+
+
+def roots_of_parts(folder):
+    """Each machine has to see one root, also on the first night of a part; `--root-changed` is for
+    the parts too."""
+    nights, _ = begun(folder)
+    audit_parts(nights, ["1"], "1")
+    os.mkdir(folder + "/away")
+    for number in range(9):
+        os.rename("%s/o%d" % (nights.root, number), "%s/away/o%d" % (folder, number))
+    is_so("half a root", by_hand(nights, "part", "--part", "2", "--budget", "1M")[0], 3)
+    status, _, said = by_hand(nights, "end")
+    is_so("is told", (status, "In part 2: " in said, "9 of the 9 names in" in said),
+          (3, True, True))
+    for number in range(9):
+        os.rename("%s/away/o%d" % (folder, number), "%s/o%d" % (nights.root, number))
+    os.rename(nights.root, folder + "/moved")
+    moved = Together(nights.state, folder + "/moved")
+    is_so("another path", ran(moved.words("1M", jobs=2, parts=4))[0], 3)
+    is_so("--root-changed", ran(moved.words("1M", ["--root-changed"], jobs=2, parts=4)),
+          (0, "", ""))
+    is_so("the cycle", moved.has("reports/cycle-000001"), audit(moved.root))
+
+
+def odd_names(folder):
+    """A folder of state whose path has what awk and `echo` would read as tab and line feed."""
+    nights, numbers = begun(folder, state="s\\te/\\new")
+    audit_parts(nights, numbers)
+    is_so("joined", (by_hand(nights, "end"), nights.has("reports/cycle-000001")),
+          ((0, "", ""), audit(nights.root)))
+    is_so("database", ask("database", nights.state, folder + "/db"), (0, "", ""))
+    is_so("its runs", ran(["sqlite3", folder + "/db", "select count(*) from run"])[1],
+          "%d\n" % len(numbers))
+
+
 def usage(folder):
     root = make_root(folder, 12, faults=False)
     nights = Together(folder + "/state", root)
@@ -304,8 +528,10 @@ def usage(folder):
                         ("no parts", ["--jobs", "2", "--state", "s", "--budget", "1", root]),
                         ("no budget", ["--jobs", "2", "--parts", "2", "--state", "s", root]),
                         ("in the root", ["--jobs", "2", "--parts", "2", "--budget", "1",
-                                         "--state", root + "/s", root])]:
+                                         "--state", root + "/00", root])]:
         is_so("usage: " + name, ran([script, *words], cwd=folder)[0], 2)
+    is_so("nothing is written there", [name for name in os.listdir(root + "/00")
+                                       if not name.startswith("o-")], [])
     write(folder + "/bin/parallel", "#!/bin/sh\necho parallel from moreutils\n", 0o755)
     status, _, said = ran(nights.words(), PATH=folder + "/bin:" + os.environ["PATH"])
     is_so("another parallel", (status, "is not GNU parallel" in said), (3, True))
@@ -320,7 +546,8 @@ def usage(folder):
     is_so("status", (status, "cycle 1 has ended" in out), (2, True))
 
 
-PARTS = [cycles, messages, opened_once, never_half, part_nights, usage]
+PARTS = [cycles, messages, opened_once, never_half, part_nights, signals, closed_before_told,
+         disk_full, seals, not_run, late, killed_removing, roots_of_parts, odd_names, usage]
 
 
 def tell(folder):

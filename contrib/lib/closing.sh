@@ -5,21 +5,25 @@
 
 number_of() { printf '%06d' "$1"; }
 
-# The closed report of a cycle: the file that is there, or else the one that would be.
+# The number of the cycle in the name of a file or folder.
+cycle_of() { printf '%s\n' "${1##*-}" | sed 's/\.gz$//; s/^0*//'; }
+
+# The closed report of a cycle: the file that is there, or else the one that would be. (`echo` would
+# change a backslash in a path.)
 closed_report() {
   for file in cycle incomplete; do
     file=$state/reports/$file-$(number_of "$1")
-    if [ -e "$file" ]; then echo "$file"; return 0; fi
-    if [ -e "$file.gz" ]; then echo "$file.gz"; return 0; fi
+    if [ -e "$file" ]; then printf '%s\n' "$file"; return 0; fi
+    if [ -e "$file.gz" ]; then printf '%s\n' "$file.gz"; return 0; fi
   done
-  echo "$state/reports/cycle-$(number_of "$1")"
+  printf '%s\n' "$state/reports/cycle-$(number_of "$1")"
 }
 
 # The newest whole report of a cycle before this one, if one lies there.
 report_before() {
   for file in "$state"/reports/cycle-*; do
     number=${file##*/cycle-}
-    if [ -e "$file" ] && [ "${number%.gz}" -lt "$1" ]; then echo "$file"; fi
+    if [ -e "$file" ] && [ "${number%.gz}" -lt "$1" ]; then printf '%s\n' "$file"; fi
   done | tail -n 1
 }
 
@@ -93,8 +97,7 @@ list_gone() {
       | LC_ALL=C sort
   } > "$list.new" || return 3
   if [ -n "$earlier" ]; then
-    compared=${earlier##*/cycle-}
-    compared=$(printf '%s\n' "${compared%.gz}" | sed 's/^0*//')
+    compared=$(cycle_of "$earlier")
   fi
   if [ -s "$list.new" ]; then mv -f -- "$list.new" "$list"; else rm -f -- "$list" "$list.new"; fi
 }

@@ -1,6 +1,6 @@
 #!/bin/sh
 # Divides a part at a place that cannot be read, so that the place keeps nothing else from being
-# audited. The scripts of `parallel` read this file, after `parts.sh`.
+# audited. The scripts of `parallel` read this file, after `part.sh` and `parts.sh`.
 # shellcheck disable=SC2154
 
 # The branch of a place where a run stopped. A run stops at a directory, or at one of the files of
@@ -38,8 +38,7 @@ divide_parts() {
 
 # The parts whose folder is bound to other ends than the table says: number and name.
 with_other_ends() {
-  SET=$set awk -F '\t' '
-    function end(word, text) { return text == "" ? word : (text == word ? "./" : "") text }
+  SET=$set awk -F '\t' "$end_in_awk"'
     function differs(row,  path, line, is_bound) {
       path = ENVIRON["SET"] "/" name[row] "/part"
       is_bound = (getline line < path) > 0

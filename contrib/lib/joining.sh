@@ -13,7 +13,7 @@ can_join() {
 }
 
 # Appends the report of a part, where its folder is of the part that the table says and its
-# statement says the same of the part and of the report.
+# statement says the same of the part and of the lines that were appended.
 add_report() {
   folder=$set/$name
   ends=$(ends_of "$number" "$set/separators") || return 3
@@ -28,7 +28,9 @@ add_report() {
     say "$statement is of another part: $(named "$stated")"
     return 3
   fi
-  sum=$(zcat -f -- "$of_part" | tee -a -- "$joined" | sha256sum) || return 3
+  before=$(size_of "$joined")
+  zcat -f -- "$of_part" >> "$joined" || return 3
+  sum=$(tail -c "+$((before + 1))" -- "$joined" | sha256sum) || return 3
   if [ "$(sed -n 's/^Report SHA-256: //p' "$statement")" != "${sum%% *}" ]; then
     say "$of_part is not what $statement says"
     return 3
@@ -43,7 +45,7 @@ add_reports() {
   while IFS=$tab read -r number name _ _ alone now is_whole _; do
     if [ "$now" != closed ]; then
       kind=incomplete
-      echo "$alone" >> "$scratch/unread"
+      echo "$alone" >> "$scratch/unread" || return 3
     else
       [ "$is_whole" = whole ] || kind=incomplete
       add_report || return 3
@@ -65,7 +67,7 @@ join_parts() {
   of_cycle=$1
   mkdir -p -- "$state/reports" || return 3
   began=$(now) joining=$(seconds_now) joined=$state/reports/joined.new
-  add_reports || return 3
+  add_reports || { rm -f -- "$joined"; return 3; }
   IFS=$tab read -r spent files < "$scratch/sums"
   lines=$(wc -l < "$joined") bytes=$(size_of "$joined") digest=$nothing cost=0 run=0 stands=ended
   closed=$state/reports/$kind-$(number_of "$cycle") lacking=''
@@ -74,7 +76,7 @@ join_parts() {
   put_list "$set/separators" "$state/reports/separators-$(number_of "$cycle")" always || return 3
   put_list "$scratch/unread" "$state/reports/unread-$(number_of "$cycle")" '' || return 3
   put_list "$scratch/unread" "$state/alone" '' || return 3
-  awk -v set="$set" -v cycle="$cycle" -v of_cycle="$of_cycle" -f "$here/lib/runs.awk" \
+  SET=$set awk -v cycle="$cycle" -v of_cycle="$of_cycle" -f "$here/lib/runs.awk" \
     "$scratch/standing" > "$scratch/runs" || return 3
   put_list "$scratch/runs" "$state/reports/runs-$(number_of "$cycle")" always || return 3
   mv -f -- "$joined" "$closed" || return 3

@@ -40,23 +40,26 @@ findings_between() {
   esac | findings_of
 }
 
+# Shows the twenty gravest of the findings in a file. If they cannot be sorted, it shows the first.
+show_gravest() {
+  "$here/reports/findings" --by-weight "$1" > "$scratch/sorted" || cp -- "$1" "$scratch/sorted"
+  head -n 20 -- "$scratch/sorted"
+}
+
 say_findings() {
   untold_pieces | while read -r of first last from to; do
-    findings_between "$of" "$from" "$to" > "$scratch/unsorted"
-    # Where they cannot be sorted, they are said all the same.
-    "$here/reports/findings" --by-weight "$scratch/unsorted" > "$scratch/found" \
-      || cp -- "$scratch/unsorted" "$scratch/found"
+    findings_between "$of" "$from" "$to" > "$scratch/found"
     count=$(wc -l < "$scratch/found")
     [ "$count" -gt 0 ] || continue
     echo "$count" >> "$scratch/counts"
     which="run $first"
     [ "$first" = "$last" ] || which="runs $first to $last"
     echo "$count finding(s) tonight in $whose, cycle $of, $which:"
-    head -n 20 -- "$scratch/found"
+    show_gravest "$scratch/found"
     where=$(closed_report "$of")
     [ -e "$where" ] || where=$report
     [ "$count" -le 20 ] || echo "and $((count - 20)) more, at the end of $where"
-    echo "To look at one again: ocfl-scrub check $root PATH, with the path as it stands above."
+    echo "To look at one again: ocfl-scrub check $root PATH, with the path as shown above."
   done
 }
 

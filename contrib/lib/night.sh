@@ -29,6 +29,22 @@ tell() {
 fail() { { echo "$called: $1"; echo "$called: try: $called --help"; } | tell; exit 2; }
 stop() { echo "$called: $1" | tell; exit "${2:-3}"; }
 
+# What is asked of a night's words, once all are read.
+check_night_words() {
+  [ -n "$budget$until$hours" ] || fail "--budget is missing"
+  [ -z "$until" ] || [ -z "$hours" ] || fail "--until and --hours cannot both be given"
+  case $grace in '' | *[!0-9]*) fail "--grace needs a number of seconds" ;; esac
+  check_report_words
+  budget=${budget:-20G}
+  read_end || fail "$complaint"
+}
+
+# The same of the words about closed reports.
+check_report_words() {
+  case $keep in *[!0-9]* | 0) fail "--keep needs a number from 1 on" ;; esac
+  [ -z "$expected" ] || [ -r "$expected" ] || fail "$expected cannot be read"
+}
+
 # Makes the folder, takes its lock, and makes a folder for what is only of this call.
 hold_state() {
   umask 027
@@ -74,7 +90,7 @@ break_off() {
 check_root() {
   set -- "$root"/0=ocfl_*
   [ -e "$1" ] \
-    || refuse 3 "no file 0=ocfl_* lies in $root: is its file system mounted? Nothing was run."
+    || refuse 3 "there is no file 0=ocfl_* in $root: is its file system mounted? Nothing was run."
   if [ ! -e "$state/root" ]; then
     bind_root || break_off "Nothing was run."
   elif ! is_same_root; then

@@ -19,16 +19,20 @@ blank_row() {
 
 # Makes the parts of the next cycle, where none is open, and takes over what a kill left half done.
 begin_parts() {
+  rm -rf -- "$state/left.parts"
   cut_half_row || return 3
   find_cycle
-  state_cycle_before || return 3
-  make_parts "$1" && write_separators && end_earlier || return 3
+  mkdir -p -- "$set" || return 3
+  state_cycle_before
+  if [ ! -s "$set/table" ]; then bind_root && make_parts "$1" || return 3; fi
+  write_separators && end_earlier || return 3
 }
 
-# Makes the statement of the cycle before, where a kill left it out.
+# Makes the statement of the cycle before, where a kill left it out or it failed. That it fails is
+# no reason to audit nothing: the message of the night says so.
 state_cycle_before() {
   [ "$cycle" -gt 1 ] || return 0
-  (cycle=$((cycle - 1)) && write_statement)
+  (cycle=$((cycle - 1)) && write_statement) 2>> "$set/said"
 }
 
 # Takes over the rows of the parts, joins their reports where that can be done, or else divides
@@ -38,7 +42,7 @@ gather() {
   cat -- "$scratch/rows" >> "$state/nights" || return 3
   if is_closed "$cycle"; then return 0; fi
   if can_join; then
-    join_parts "$of_cycle" && write_statement && tidy_reports
+    join_parts "$of_cycle" && write_statement && tidy_reports && [ -z "$unstated" ]
   else
     [ -n "${join_only:-}" ] || divide_parts
   fi
@@ -49,7 +53,7 @@ gather_all() {
   : > "$scratch/text"
   for set in "$state"/parts-*; do
     [ -s "$set/table" ] || continue
-    cycle=$(printf '%s\n' "${set##*/parts-}" | sed 's/^0*//')
+    cycle=$(cycle_of "$set")
     : > "$scratch/divided"
     gather 2> "$scratch/trouble" || worsen 3
     cat -- "$scratch/trouble" >> "$scratch/text"
@@ -58,6 +62,7 @@ gather_all() {
 }
 
 tell_of_set() {
+  take_said
   compose_parts >> "$scratch/text"
   worsen_by_events
   cp -- "$scratch/standing" "$set/standing.new"
@@ -68,20 +73,32 @@ forget_told() {
   for set in "$state"/parts-*; do
     [ -e "$set/standing.new" ] || continue
     mv -f -- "$set/standing.new" "$scratch/standing" && note_told
-    cycle=$(printf '%s\n' "${set##*/parts-}" | sed 's/^0*//')
-    if is_closed "$cycle"; then rm -rf -- "$set"; fi
+    if is_closed "$(cycle_of "$set")"; then remove_set; fi
   done
+}
+
+# A kill in between leaves a folder that is no more one of parts; the next night removes it.
+remove_set() {
+  rm -rf -- "$state/left.parts"
+  mv -- "$set" "$state/left.parts" && rm -rf -- "$state/left.parts"
+}
+
+# A signal is no failure: the status stays as it is.
+say_signal_of_all() {
+  [ ! -e "$scratch/signal" ] \
+    || echo "The night of $root was ended by $(cat -- "$scratch/signal")."
 }
 
 # Ends a night of all parts: says in one message what nobody was told of.
 end_parts() {
-  rm -f -- "$scratch/counts" "$scratch/found_in"
+  rm -f -- "$scratch/counts"
   gather_all
   untold > "$scratch/untold"
   {
     awk -F '\t' '$2 ~ /^[0-9]+$/ && $3 == 0 { print $7 }' "$scratch/untold"
     say_ended
     say_unread
+    say_signal_of_all
   } >> "$scratch/text"
   worsen "$(told_status)"
   tell < "$scratch/text"
@@ -111,5 +128,5 @@ check_common_words() {
   [ -z "$complaint" ] || fail "$complaint"
   [ -n "$state" ] || fail "--state is missing"
   [ -n "$root" ] || fail "the storage root is missing"
-  ! lies_in_root || fail "$state lies in the storage root"
+  ! lies_in_root || fail "$state is in the storage root"
 }

@@ -2,11 +2,15 @@
 # The part of a storage root that a night audits. `nightly` reads this file.
 # shellcheck disable=SC2154
 
+# The end of a part as a cursor has it: a separator, or a word where there is none.
+end_in_awk='
+  function end(word, text) { return text == "" ? word : (text == word ? "./" : "") text }
+'
+
 # The ends of a part of the separators in a file, two lines as a cursor of that part has them. Fails
 # where there is no such part.
 ends_of() {
-  awk -v part="$1" '
-    function end(word, text) { return text == "" ? word : (text == word ? "./" : "") text }
+  awk -v part="$1" "$end_in_awk"'
     { at[NR] = $0 }
     END {
       if (part < 1 || part > NR + 1) exit 1

@@ -5,20 +5,21 @@
 #             with, `closed`, `open` or `new`, `whole` or `incomplete`, the place where its last
 #             night stopped, the first of at least two nights that stopped there, and how many rows
 #             its log has
-#   events    a line for each row that nobody was told of: `found`, `cut`, `lost`, `stop`
+#   events    a line for each row that nobody was told of: `found`, `cut`, `lost`, `stop`, `run`
 #   rows      the rows of the parts that the log of all parts has not yet
 #   sums      what all parts of the cycle spent, and how many files they read
 #
-# It takes `set` (the folder of the parts), `cycle` (of all parts), `of_cycle` (of the parts),
-# `night` and `nothing` (the digest of no report). Columns of a line of `standing` that are empty
-# are `-`.
+# It takes `cycle` (of all parts), `of_cycle` (of the parts) and `nothing` (the digest of no report),
+# and from the environment OUT, SET (the folder of the parts) and LOG (the log of all parts).
+# Columns of a line of `standing` that are empty are `-`.
 BEGIN {
   FS = OFS = "\t"
+  set = ENVIRON["SET"]
   read_told()
   read_log()
-  standing = out "/standing"
-  events = out "/events"
-  rows = out "/rows"
+  standing = ENVIRON["OUT"] "/standing"
+  events = ENVIRON["OUT"] "/events"
+  rows = ENVIRON["OUT"] "/rows"
   printf "" > standing
   printf "" > events
   printf "" > rows
@@ -38,7 +39,7 @@ END {
       filled(twice[part] ? since[part] : ""),
       count[part] + 0 > standing
   }
-  print number(spent), number(files) > (out "/sums")
+  print number(spent), number(files) > (ENVIRON["OUT"] "/sums")
 }
 
 function filled(text) { return text == "" ? "-" : text }
@@ -52,17 +53,14 @@ function read_told(  line, field) {
 
 # What the log of all parts has of this cycle: how many rows of each part, and the sums.
 function read_log(  line, field, of) {
-  while ((getline line < (log_of_all)) > 0) {
+  while ((getline line < ENVIRON["LOG"]) > 0) {
     if (split(line, field, FS) != 14) continue
-    if (field[2] == "ended") split("", copied)
-    if (field[7] !~ /^part [^ :]+: /) continue
+    if (field[3] "" != cycle "" || field[7] !~ /^part [^ :]+: /) continue
     of = substr(field[7], 6)
     sub(/:.*/, "", of)
     copied[of ""]++
-    if (field[3] "" == cycle "") {
-      spent = field[8]
-      files = field[9]
-    }
+    spent = field[8]
+    files = field[9]
   }
 }
 
@@ -121,13 +119,15 @@ function sum(field,  of, kept) {
 
 function number(value) { return sprintf("%.0f", value) }
 
-function tell(field, begun) {
+# A run that a signal ended is no failure.
+function tell(field, begun,  status) {
+  status = field[7] ~ /^ended by / ? 0 : field[2]
   if (field[2] == "cut") print "cut", part, name[part], field[14], field[7] > events
   if (field[2] == "lost") print "lost", part, name[part], field[3], field[7] > events
-  if (field[2] ~ /^[0-9]+$/ && field[2] > 1)
-    print "stop", part, name[part], field[2], field[7], field[4] > events
+  if (field[2] ~ /^[0-9]+$/ && status > 1)
+    print "stop", part, name[part], status, field[7], field[4] > events
   if (field[2] ~ /^([0-9]+|cut|lost)$/ && field[11] + 0 > begun + 0)
     print "found", part, name[part], field[3], begun + 0, field[11] > events
-  if (field[2] ~ /^[0-9]+$/) print "run", part, name[part], field[2], field[6] > events
+  if (field[2] ~ /^[0-9]+$/) print "run", part, name[part], status, field[6] > events
   if (field[2] == "cut") print "run", part, name[part], 0, field[6] > events
 }

@@ -25,7 +25,7 @@ in_order() {
 report_to_split() {
   for kind in cycle incomplete; do
     for file in "$state/reports/$kind"-*; do
-      [ ! -s "$file" ] || echo "$file"
+      [ ! -s "$file" ] || printf '%s\n' "$file"
     done | tail -n 1
   done | head -n 1
 }
@@ -65,10 +65,9 @@ new_separators() {
   fi
 }
 
-# Makes the table of the cycle's parts, of so many, where there is none yet.
+# Makes the table of the cycle's parts, of so many.
 make_parts() {
-  [ ! -s "$set/table" ] || return 0
-  mkdir -p -- "$set" && new_separators "$1" > "$set/separators.new" || return 3
+  new_separators "$1" > "$set/separators.new" || return 3
   ALONE=$state/alone awk '
     BEGIN { while ((getline place < ENVIRON["ALONE"]) > 0) alone[place] }
     function around(from,  place) {
@@ -101,8 +100,8 @@ name_of() { awk -F '\t' -v part="$1" 'NR == part { print $1 }' "$set/table"; }
 # Reads the table and all logs: the files `standing`, `events` and `rows` in the folder `scratch`,
 # as `lib/parts.awk` writes them. The parts' own cycle has the number $1.
 read_parts() {
-  LC_ALL=C awk -v set="$set" -v out="$scratch" -v log_of_all="$state/nights" -v cycle="$cycle" \
-    -v of_cycle="$1" -v nothing="$nothing" -f "$here/lib/parts.awk" "$set/table"
+  SET=$set OUT=$scratch LOG=$state/nights LC_ALL=C awk -v cycle="$cycle" -v of_cycle="$1" \
+    -v nothing="$nothing" -f "$here/lib/parts.awk" "$set/table"
 }
 
 # How many parts are in a state: `closed`, `open` or `new`.

@@ -1,11 +1,11 @@
 # Reads the state of the parts of a joined cycle, as `lib/parts.awk` writes it, and the log of each
 # part. Writes the rows of their runs in the order of the joined report, each with the number of
-# lines that the report has after it. It takes `set`, `cycle` (of all parts) and `of_cycle` (of the
-# parts).
+# lines that the report has after it. It takes `cycle` (of all parts) and `of_cycle` (of the parts),
+# and SET (the folder of the parts) from the environment.
 BEGIN { FS = OFS = "\t" }
 
 $6 == "closed" {
-  path = set "/" $2 "/nights"
+  path = ENVIRON["SET"] "/" $2 "/nights"
   lines = 0
   while ((getline row < path) > 0) {
     if (split(row, field, FS) != 14 || field[3] "" != of_cycle "") continue

@@ -16,7 +16,7 @@ untold_stretches() {
 }
 
 say_findings_of_parts() {
-  : > "$scratch/found"
+  : > "$scratch/found" && : > "$scratch/found_in"
   untold_stretches > "$scratch/stretches"
   while IFS=$tab read -r name of from to; do
     (state=$set/$name report=$set/$name/report && findings_between "$of" "$from" "$to") \
@@ -30,11 +30,11 @@ say_findings_of_parts() {
   echo "$count" >> "$scratch/counts"
   in=$(sort -u "$scratch/found_in" | wc -l)
   echo "$count finding(s) tonight in $root, cycle $cycle, in $in part(s):"
-  head -n 20 -- "$scratch/found"
+  show_gravest "$scratch/found"
   where="the reports of the parts in $set"
   if is_closed "$cycle"; then where=$(closed_report "$cycle"); fi
   [ "$count" -le 20 ] || echo "and $((count - 20)) more, in $where"
-  echo "To look at one again: ocfl-scrub check $root PATH, with the path as it stands above."
+  echo "To look at one again: ocfl-scrub check $root PATH, with the path as shown above."
 }
 
 # The numbers of the parts in the lines that come in, at most ten of them.
@@ -92,7 +92,7 @@ say_division() {
 # What parts said that neither ended well nor stopped at a place: each text once.
 say_other_stops() {
   events_of stop | awk -F '\t' '
-    $5 ~ /^(stopped at |ended by )/ { next }
+    $5 ~ /^stopped at / { next }
     {
       text = $4 > 4 ? "the program was killed (status " $4 "); its run is made again" : \
         $5 == "" ? "stopped with status " $4 : $5
@@ -109,7 +109,20 @@ say_other_stops() {
         print "In part" (count[text] == 1 ? " " : "s ") parts[text] more ": " text
       }
     }'
-  [ ! -s "$set/said" ] || head -n 20 -- "$set/said"
+}
+
+# Takes what parts and others said themselves. What is said from now on is for the next night.
+take_said() {
+  if [ -s "$set/said" ]; then
+    taken=$(mktemp -- "$set/said.XXXXXX") && mv -f -- "$set/said" "$taken"
+  fi
+  cat -- "$set/said" "$set"/said.* > "$scratch/taken" 2> /dev/null
+}
+
+say_taken() {
+  head -n 20 -- "$scratch/taken"
+  count=$(wc -l < "$scratch/taken")
+  [ "$count" -le 20 ] || echo "and $((count - 20)) more lines"
 }
 
 # The places that a closed cycle left out.
@@ -129,6 +142,7 @@ compose_parts() {
   say_findings_of_parts
   say_stopped_parts
   say_other_stops
+  say_taken
 }
 
 # The worst status of what nobody was told of.
@@ -136,11 +150,11 @@ worsen_by_events() {
   for status in $(events_of run | cut -f 4 | sort -u) $(events_of stop | cut -f 4 | sort -u); do
     worsen "$status"
   done
-  if [ -s "$scratch/lost" ] || [ -s "$set/said" ]; then worsen 3; fi
+  if [ -s "$scratch/lost" ] || [ -s "$scratch/taken" ]; then worsen 3; fi
 }
 
 # Notes how many rows of each part's log were told.
 note_told() {
   cut -f 2,10 -- "$scratch/standing" > "$set/told.new" && mv -f -- "$set/told.new" "$set/told" \
-    && rm -f -- "$set/said"
+    && rm -f -- "$set"/said.*
 }

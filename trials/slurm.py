@@ -25,7 +25,7 @@ for word in "$@"; do
   before=$word
 done
 if [ -e {folder}/fails-$part ]; then kill -KILL $$; fi
-if [ -e {folder}/slow-$part ]; then touch {folder}/begun-$part; sleep 2; fi
+if [ -e {folder}/slow-$part ]; then touch {folder}/begun-$part; sleep 20; fi
 while [ -e {folder}/held-$part ]; do touch {folder}/begun-$part; sleep 0.3; done
 exec {program} "$@\""""
 
@@ -90,18 +90,19 @@ class Cluster:
 def first_night(cluster):
     """Tasks that are queued again, that fail, that pass their limit, that run twice."""
     slurm = cluster.slurm
-    cluster.mark("held", "2")
-    cluster.mark("slow", "3")
-    cluster.mark("fails", "5")
+    for kind, part in [("held", "2"), ("slow", "3"), ("held", "4"), ("fails", "5")]:
+        cluster.mark(kind, part)
     cluster.submit("--minutes", "2", budget="1K")
     array = cluster.jobs["parts"]
     cluster.wait_for("2")
     subprocess.run(["scontrol", "requeue", array + "_2"], env=slurm.how, check=True)
     cluster.unmark("held", "2")
-    cluster.wait_for("3")
+    cluster.wait_for("4")
     twice = subprocess.Popen([CONTRIB + "/parallel/part", "--wait", "--state",
-                              cluster.nights.state, "--part", "3", "--budget", "1K", cluster.root],
+                              cluster.nights.state, "--part", "4", "--budget", "1K", cluster.root],
                              env={**os.environ, "OCFL_SCRUB": cluster.program})
+    time.sleep(1)
+    cluster.unmark("held", "4")
     cluster.finish()
     is_so("the second of two at once", twice.wait(timeout=120), 0)
     states = slurm.states(array)
@@ -112,9 +113,20 @@ def first_night(cluster):
     is_so("the task that was queued again", re.findall(r"started (\d) time", out), ["1", "2"])
     part = Nights(cluster.nights.set() + "/3", cluster.root)
     is_so("what passes its limit ends between two runs", (
-        part.rows("cut"), len(part.rows("run")) > 2), ([], True))
+        states.get(array + "_3", [None])[0], part.rows("cut"), part.rows("ended"),
+        "was ended by SIGTERM" in (part.has("tonight") or "")), ("COMPLETED", [], [], True))
     for kind, part in [("slow", "3"), ("fails", "5")]:
         cluster.unmark(kind, part)
+
+
+def usage(cluster):
+    """Words that a task or the join would refuse are refused before anything is submitted."""
+    for words in [["--keep", "0"], ["--budget", "4x"], ["--expected", cluster.folder + "/none"],
+                  ["--hours", "."]]:
+        status, _, said = ran([CONTRIB + "/slurm/submit", "--parts", "24", "--state",
+                               cluster.nights.state, *words, cluster.root], **cluster.slurm.how)
+        is_so("usage: " + words[0], (status, "try: slurm/submit --help" in said,
+                                     cluster.nights.set()), (2, True, None))
 
 
 def killed_controller(cluster):
@@ -145,6 +157,7 @@ def tell(folder):
         cluster = Cluster(folder, slurm)
         broken = Place(cluster.root, BROKEN)
         broken.spoil()
+        usage(cluster)
         first_night(cluster)
         killed_controller(cluster)
         report = further_nights(cluster, 1)

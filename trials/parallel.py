@@ -431,6 +431,12 @@ def seals(folder):
     seal = ["--seal", 'rev "$1" > "$1.rev"']
     is_so("one that does not", ran(nights.words("1", seal, jobs=2, parts=4)), (0, "", ""))
     is_so("the seal", nights.has("reports/statement-000001.rev") is None, False)
+    nights, numbers = begun(folder + "/by-hand")
+    audit_parts(nights, numbers)
+    for words in [["--join-only", "--seal", "false"], []]:
+        status, _, said = by_hand(nights, "end", *words)
+        is_so("by hand", (status, said.count(failed)), (3, 1))
+    is_so("once", by_hand(nights, "end"), (0, "", ""))
 
 
 def not_run(folder):
@@ -462,6 +468,26 @@ def late(folder):
     is_so("late", by_hand(nights, "part", "--part", "1", "--end", "1"), (0, "", ""))
     is_so("nothing more is told", by_hand(nights, "end"), (0, "", ""))
     is_so("nothing more was run", len(part.rows("run")), 1)
+
+
+# A part says something while what was said before is removed.
+SAYING = """#!/bin/sh
+for word in "$@"; do
+  case $word in */said|*/said.*) echo "Part 2: one more" >> "${word%%/*}/said" ;; esac
+done
+exec %s "$@"
+"""
+
+
+def said_meanwhile(folder):
+    """What a part says while a message is made is in the next one."""
+    nights, _ = begun(folder)
+    write(nights.set() + "/said", "Part 1: a word\n")
+    write(folder + "/bin/rm", SAYING % shutil.which("rm"), 0o755)
+    path = folder + "/bin:" + os.environ["PATH"]
+    is_so("a word", by_hand(nights, "end", PATH=path), (3, "", "Part 1: a word\n"))
+    is_so("one more", by_hand(nights, "end"), (3, "", "Part 2: one more\n"))
+    is_so("no more", by_hand(nights, "end"), (0, "", ""))
 
 
 # Removes the first file of a folder of parts, and kills all that has to do with the night.
@@ -547,7 +573,8 @@ def usage(folder):
 
 
 PARTS = [cycles, messages, opened_once, never_half, part_nights, signals, closed_before_told,
-         disk_full, seals, not_run, late, killed_removing, roots_of_parts, odd_names, usage]
+         disk_full, seals, not_run, late, said_meanwhile, killed_removing, roots_of_parts,
+         odd_names, usage]
 
 
 def tell(folder):

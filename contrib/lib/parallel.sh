@@ -57,9 +57,12 @@ gather_all() {
     : > "$scratch/divided"
     gather 2> "$scratch/trouble" || worsen 3
     cat -- "$scratch/trouble" >> "$scratch/text"
-    [ -n "${join_only:-}" ] || tell_of_set
+    if [ -n "${join_only:-}" ]; then keep_trouble; else tell_of_set; fi
   done
 }
+
+# What goes wrong once the cycle is closed, the call that says something does not meet again.
+keep_trouble() { ! is_closed "$cycle" || cat -- "$scratch/trouble" >> "$set/said"; }
 
 tell_of_set() {
   take_said

@@ -109,7 +109,8 @@ def runs_of_parts(root, name, separators):
 
 
 def by_listing(root, count):
-    """Separators of directories of one level, which are as many in each part but for one."""
+    """Separators of directories of one level, the first with enough or else the lowest of the
+    widest. Each part has as many of them, or one more."""
     status, out, said = ran(["split", "--parts", str(count), root.root])
     name = "split in %d" % count
     is_so(name, (status, said), (0, ""))
@@ -117,7 +118,8 @@ def by_listing(root, count):
     is_so(name + ": their text", separators_text(separators), out)
     is_so(name + ": ascending", separators, sorted(set(separators)))
     levels = directories_of(root.root)
-    level = next((it for it in levels if len(it) >= count), levels[-1])
+    widest = max(reversed(levels), key=len)
+    level = next((it for it in levels if len(it) >= count), widest)
     is_so(name + ": of one level", set(separators) - set(level), set())
     is_so(name + ": how many", len(separators), min(count, len(level)) - 1)
     ends = [0, *[level.index(it) for it in separators if it in level], len(level)]

@@ -9,8 +9,9 @@
 #   rows      the rows of the parts that the log of all parts has not yet
 #   sums      what all parts of the cycle spent, and how many files they read
 #
-# It takes `cycle` (of all parts), `of_cycle` (of the parts) and `nothing` (the digest of no report),
-# and from the environment OUT, SET (the folder of the parts) and LOG (the log of all parts).
+# It takes `cycle` (of all parts), `of_cycle` (of the parts) and `nothing` (the digest of no
+# report), and from the environment OUT, SET (the folder of the parts) and LOG (the log of all
+# parts).
 # Columns of a line of `standing` that are empty are `-`.
 BEGIN {
   FS = OFS = "\t"

@@ -23,8 +23,8 @@ fn path_of<R: Files + AllocGlobal>(rt: &R, folder: &str) -> io::Result<Option<Pa
     }
 }
 
-/// Whether a file lies in a storage root, or would. Where one of the two folders cannot be resolved,
-/// it does not.
+/// Whether a file lies in a storage root, or would. Where one of the two folders cannot be
+/// resolved, it does not.
 pub(crate) fn lies_inside<R>(rt: &R, file: &str, root: &str) -> io::Result<bool>
 where
     R: Files + AllocGlobal,

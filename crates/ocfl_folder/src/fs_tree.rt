@@ -1,6 +1,6 @@
 //! A folder of the file system as a store.
-ghost use Rattle.std.specs.Prelude.{◌≡◌, ◌≢◌, ◌≤◌, ◌<◌, ◌+◌, ◌↔◌, IsTrue, true, false, IfOk, Ok};
-ghost use Rattle.std.specs.Prelude.{OnOk, OnErr, IsNone, MatchOption, length, string_bytes, Err};
+ghost use Rattle.std.specs.Prelude.{◌≡◌, ◌≢◌, ◌≤◌, ◌<◌, ◌↔◌, true, false, IfOk, Ok};
+ghost use Rattle.std.specs.Prelude.{OnOk, OnErr, IsNone, MatchOption, length, Err};
 ghost use Rattle.std.specs.Fs.{IsDir, IsFile, file_type};
 ghost use Rattle.std.specs.IoError.{error_kind};
 ghost use Rattle.ocfl_folder.specs.declared.fs_tree.Fault.TheVariants.{Trouble as Lasting};
@@ -22,16 +22,18 @@ use std::{fs, io};
 
 /// A folder of the file system. It does not tell its tree.
 ///
-/// A link is listed as `Other` and never followed, but for the folder itself. What is not found is
-/// `Absent`; running out of memory is `Memory`, but never in a read; every other fault is `Device`:
-/// a file where a directory is asked for or the other way round, a name that is not UTF-8 or is
-/// listed twice, more than 1,000,000 entries, an entry that goes away while it is listed, a file
-/// that is another when it is open, a path that is longer than the system takes.
+/// A link is listed as `Other`. None is followed, except for the folder itself and for one that
+/// replaced a directory or a file after that was looked at. What is not found is `Absent`; running
+/// out of memory is `Memory`, but never in a read; every other fault is `Device`: a file where a
+/// directory is asked for or the other way round, a name that is not UTF-8 or is listed twice, more
+/// than 1,000,000 entries, an entry that goes away while it is listed, a file that is another when
+/// it is open, a path that is longer than the system takes.
 ///
 /// The directory that was found last is known until a listing or an opening fails. The names on the
 /// way to a place in it, or in one on the way there, are not looked at again; at any other place
-/// they are all looked at. Nor is a file in it looked at before it is opened, where the listing saw
-/// a regular file there: it is that file, or the device failed.
+/// they are all looked at. A file in it is opened without another look where its listing kept one.
+/// A listing keeps at most 16,384 looks, and none if two of their names have the same hash. What is
+/// opened must be the file of the look, or the answer is `Device`.
 #[derive(Drop)]
 pub struct FsTree<R: Files + AllocGlobal + Clone + Drop> {
     rt: R,
@@ -71,7 +73,8 @@ const TRIES: u64 = 1000;
 /// How many bytes of names a directory is asked for at once.
 const NAMES: usize = 8192;
 
-/// How often a directory is asked for names at most. Each time but the last it gives one.
+/// How many reads of names a listing makes at most: 1,000,000 entries, `.` and `..` at one name
+/// each, and the end.
 const ASKED: u64 = 1_000_003;
 
 /// Why one try of a call gave nothing.
@@ -181,7 +184,7 @@ fn push_name(path: &mut String, name: &str) -> Result<(), AllocError> {
     path.push_str(name)
 }
 
-/// The names that a directory gives next, each ended by NUL, as the number of their bytes: none at
+/// Reads the next names of a directory, each ended by NUL, and gives how many bytes they have: 0 at
 /// its end.
 fn next_names<D: Read>(dir: &mut D, names: &mut [u8; NAMES]) -> Result<usize, Fault>
     ensures { IfOk result (λ count. count ≤ 8192) }
@@ -358,7 +361,8 @@ impl<R: Files + AllocGlobal + Clone + Drop> FsTree<R> {
         }
     }
 
-    /// Opens the directory at a path, of which a slash at its end has the system follow a link.
+    /// Opens the directory at a path. The system follows a link there only if the path ends in a
+    /// slash.
     fn open_dir(&self, path: &str) -> Result<R::Dir, Fault> {
         match self.rt.open_dir(path) {
             Ok(dir) => Ok(dir),
@@ -375,6 +379,7 @@ impl<R: Files + AllocGlobal + Clone + Drop> FsTree<R> {
                 self.open_dir(path)
             }
             None => {
+                // An empty path with a slash would be the root of the file system.
                 let mut root = self.start()?;
                 root.push('/')?;
                 self.open_dir(root.as_str())

@@ -6,7 +6,7 @@ use crate::looks::{Looks, Node};
 use ocfl_tree::{Entry, Kind, Trouble};
 use std::alloc::Global;
 
-/// At most 1,000,000 entries, and the looks at the files among them.
+/// At most 1,000,000 entries, and the looks that are kept at files among them.
 #[derive(Drop)]
 pub(crate) struct Listed {
     entries: Vec<Entry>,
@@ -34,7 +34,8 @@ impl Listed {
         }
     }
 
-    /// Appends an entry, where there are not too many before it. The look at a file is kept.
+    /// Appends an entry, and keeps the look at a file. `Device` if there are 1,000,000 already,
+    /// `Memory` if memory is refused.
     pub(crate) fn add(&mut self, entry: Entry, node: Node) -> Result<(), Trouble> {
         if self.entries.len() >= 1_000_000 {
             return Err(Trouble::Device);

@@ -11,8 +11,8 @@ use std::time::SystemTime;
 /// For how many files a listing keeps its looks.
 const MOST: usize = 16_384;
 
-/// Which file it is: its device, its number there, and when it was made, where the system tells
-/// that. The number of a file that is removed may be that of the next one.
+/// Which file it is: its device, its number there, and when it was made, if the system reports
+/// that. A new file may get the number of a removed one.
 #[derive(Clone, Copy)]
 pub(crate) struct Node {
     dev: u64,
@@ -94,7 +94,7 @@ impl Looks {
         Ok(())
     }
 
-    /// Puts them in order. Where two names have one hash, none is kept.
+    /// Puts them in order. If two kept names have the same hash, keeps no look.
     pub(crate) fn sort(&mut self) {
         self.looks.sort_unstable_by_key(|look| look.name);
         if are_twins(&self.looks) {
@@ -102,7 +102,8 @@ impl Looks {
         }
     }
 
-    /// Where the file of this name was, if it was looked at.
+    /// What was seen under the hash of this name. A file whose look is not kept may have the hash
+    /// of another; it is then taken for another file.
     pub(crate) fn node(&self, name: &str) -> Option<Node> {
         let name = hash_of(name);
         match self.looks.binary_search_by_key(&name, |look| look.name) {

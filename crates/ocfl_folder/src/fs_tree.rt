@@ -1,6 +1,6 @@
 //! A folder of the file system as a store.
 ghost use Rattle.std.specs.Prelude.{◌≡◌, ◌≢◌, ◌≤◌, ◌<◌, ◌↔◌, true, false, IfOk, Ok};
-ghost use Rattle.std.specs.Prelude.{OnOk, OnErr, IsNone, MatchOption, length, Err};
+ghost use Rattle.std.specs.Prelude.{◌-◌, OnOk, OnErr, IsNone, IfSome, MatchOption, length, Err};
 ghost use Rattle.std.specs.Fs.{IsDir, IsFile, file_type};
 ghost use Rattle.std.specs.IoError.{error_kind};
 ghost use Rattle.ocfl_folder.specs.declared.fs_tree.Fault.TheVariants.{Trouble as Lasting};
@@ -203,7 +203,8 @@ fn is_entry(name: &[u8]) -> bool {
 /// What is left of a file after a read of so many bytes into a buffer with this room: `None` where
 /// the read met the file's end.
 fn left_after(left: u64, count: usize, room: usize) -> Option<u64>
-    ensures { IsNone result ↔ ((count ≡ left) × (count < room)) }
+    ensures end { IsNone result ↔ ((count ≡ left) × (count < room)) }
+    ensures rest { IfSome result (λ rest. rest ≡ left - count) }
 {
     if count as u64 == left && count < room {
         None

@@ -1,5 +1,5 @@
 //! What a listing saw of the regular files of a directory.
-ghost use Rattle.std.specs.Prelude.{◌≡◌, IsTrue};
+ghost use Rattle.std.specs.Prelude.{◌≡◌, ◌≢◌, ◌↔◌, ◌≤◌, IsTrue, IsSome, length};
 ghost use Rattle.std.specs.Fs.{IsFile, file_type};
 
 use std::alloc::{AllocError, Global};
@@ -31,6 +31,7 @@ struct Look {
 #[derive(Drop)]
 pub(crate) struct Looks {
     looks: Vec<Look>,
+    ghost few: { length looks.items ≤ 16384 },
 }
 
 fn hash_of(name: &str) -> u64 {
@@ -40,7 +41,9 @@ fn hash_of(name: &str) -> u64 {
 }
 
 /// Whether two times are known, and differ.
-fn differ(time: Option<SystemTime>, other: Option<SystemTime>) -> bool {
+fn differ(time: Option<SystemTime>, other: Option<SystemTime>) -> bool
+    ensures { IsTrue result ↔ (IsSome time × IsSome other × (time ≢ other)) }
+{
     match (time, other) {
         (Some(time), Some(other)) => time != other,
         (None, _) | (_, None) => false,
@@ -66,7 +69,12 @@ impl Node {
         }
     }
 
-    fn is(self, other: Node) -> bool {
+    fn is(self, other: Node) -> bool
+        ensures device { IsTrue result → self.dev ≡ other.dev }
+        ensures number { IsTrue result → self.ino ≡ other.ino }
+        ensures made { IsTrue result → IsSome self.made → IsSome other.made
+            → self.made ≡ other.made }
+    {
         self.dev == other.dev && self.ino == other.ino && !differ(self.made, other.made)
     }
 

@@ -1,5 +1,6 @@
 //! What a listing saw of the regular files of a directory.
-ghost use Rattle.std.specs.Prelude.{◌≡◌, ◌≢◌, ◌↔◌, ◌≤◌, IsTrue, IsSome, length};
+ghost use Rattle.std.specs.Prelude.{◌≡◌, ◌≢◌, ◌↔◌, ◌≤◌, ◌<◌, ◌+◌, ℕ, false, IsTrue, IsSome};
+ghost use Rattle.std.specs.Prelude.{length, slice_index_or};
 ghost use Rattle.std.specs.Fs.{IsFile, file_type};
 
 use std::alloc::{AllocError, Global};
@@ -51,7 +52,10 @@ fn differ(time: Option<SystemTime>, other: Option<SystemTime>) -> bool
 }
 
 /// Whether two names have one hash.
-fn are_twins(looks: &[Look]) -> bool {
+fn are_twins(looks: &[Look]) -> bool
+    ensures { result ≡ false → (k : ℕ) (d : Look) → k + 1 < length looks.now
+        → (slice_index_or looks.now k d).name ≢ (slice_index_or looks.now (k + 1) d).name }
+{
     for (i, look) in looks.iter().enumerate() {
         if i > 0 && looks[i - 1].name == look.name {
             return true;
@@ -103,7 +107,11 @@ impl Looks {
     }
 
     /// Puts them in order. If two kept names have the same hash, keeps no look.
-    pub(crate) fn sort(&mut self) {
+    pub(crate) fn sort(&mut self)
+        ensures { (k : ℕ) (d : Look) → k + 1 < length self.new.looks.items
+            → (slice_index_or self.new.looks.items k d).name
+            < (slice_index_or self.new.looks.items (k + 1) d).name }
+    {
         self.looks.sort_unstable_by_key(|look| look.name);
         if are_twins(&self.looks) {
             self.looks.clear();

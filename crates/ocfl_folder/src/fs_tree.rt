@@ -71,11 +71,11 @@ impl<R: Files + AllocGlobal + Clone + Drop> Model for FsTree<R> {
 const TRIES: u64 = 1000;
 
 /// How many bytes of names a directory is asked for at once.
-const NAMES: usize = 8192;
+const NAMES_LEN: usize = 8192;
 
 /// How many reads of names a listing makes at most: 1,000,000 entries, `.` and `..` at one name
 /// each, and the end.
-const ASKED: u64 = 1_000_003;
+const MOST_READS: u64 = 1_000_003;
 
 /// Why one try of a call gave nothing.
 #[derive(Clone, Copy, Debug, PartialEq, Eq)]
@@ -186,7 +186,7 @@ fn push_name(path: &mut String, name: &str) -> Result<(), AllocError> {
 
 /// Reads the next names of a directory, each ended by NUL, and gives how many bytes they have: 0 at
 /// its end.
-fn next_names<D: Read>(dir: &mut D, names: &mut [u8; NAMES]) -> Result<usize, Fault>
+fn next_names<D: Read>(dir: &mut D, names: &mut [u8; NAMES_LEN]) -> Result<usize, Fault>
     ensures { IfOk result (λ count. count ≤ 8192) }
 {
     match dir.read(&mut names[..]) {
@@ -228,7 +228,7 @@ fn is_known(known: &Option<Known>, dir: &str) -> bool
 fn known_as(alloc: Global, path: &str) -> Option<Known> {
     let path = String::from_str(alloc, path).ok()?;
     let dir = Place::from_path(path)?;
-    let looks = Looks::none(alloc);
+    let looks = Looks::new(alloc);
     Some(Known { dir, looks })
 }
 
@@ -436,10 +436,10 @@ impl<R: Files + AllocGlobal + Clone + Drop> FsTree<R> {
     fn entries(&self, place: &Place) -> Result<Listed, Fault> {
         let dir = self.path_of(place)?;
         let mut opened = self.dir(place, dir.as_str())?;
-        let mut names = [0; NAMES];
+        let mut names = [0; NAMES_LEN];
         let mut path = String::new(self.rt.alloc());
-        let mut listed = Listed::none(self.rt.alloc());
-        for _ in 0..ASKED {
+        let mut listed = Listed::new(self.rt.alloc());
+        for _ in 0..MOST_READS {
             let count = next_names(&mut opened, &mut names)?;
             if count == 0 {
                 return Ok(listed);
@@ -453,7 +453,7 @@ impl<R: Files + AllocGlobal + Clone + Drop> FsTree<R> {
     fn listed(&self, place: &Place) -> Result<(Vec<Entry>, Looks), Trouble>
         ensures { IfOk result (λ listed. IsOrdinary listed.0.items) }
     {
-        retried(|| self.entries(place))?.once()
+        retried(|| self.entries(place))?.into_ordered()
     }
 
     /// Opens the file at a path.

@@ -27,10 +27,10 @@ fn rise(entries: &[Entry]) -> bool
 }
 
 impl Listed {
-    pub(crate) fn none(alloc: Global) -> Listed {
+    pub(crate) fn new(alloc: Global) -> Listed {
         Listed {
             entries: Vec::new(alloc),
-            looks: Looks::none(alloc),
+            looks: Looks::new(alloc),
         }
     }
 
@@ -48,7 +48,7 @@ impl Listed {
     }
 
     /// The entries and the looks in order. Refuses entries of which two have one name.
-    pub(crate) fn once(self) -> Result<(Vec<Entry>, Looks), Trouble>
+    pub(crate) fn into_ordered(self) -> Result<(Vec<Entry>, Looks), Trouble>
         ensures { IfOk result (λ listed. IsOrdinary listed.0.items) }
     {
         let Listed {

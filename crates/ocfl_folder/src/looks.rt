@@ -10,7 +10,7 @@ use std::os::unix::fs::MetadataExt;
 use std::time::SystemTime;
 
 /// For how many files a listing keeps its looks.
-const MOST: usize = 16_384;
+const MOST_LOOKS: usize = 16_384;
 
 /// Which file it is: its device, its number there, and when it was made, if the system reports
 /// that. A new file may get the number of a removed one.
@@ -91,7 +91,7 @@ impl Node {
 }
 
 impl Looks {
-    pub(crate) fn none(alloc: Global) -> Looks {
+    pub(crate) fn new(alloc: Global) -> Looks {
         Looks {
             looks: Vec::new(alloc),
         }
@@ -99,7 +99,7 @@ impl Looks {
 
     /// Keeps a look, where not too many are kept.
     pub(crate) fn add(&mut self, name: &str, node: Node) -> Result<(), AllocError> {
-        if self.looks.len() < MOST {
+        if self.looks.len() < MOST_LOOKS {
             let name = hash_of(name);
             self.looks.push(Look { name, node })?;
         }

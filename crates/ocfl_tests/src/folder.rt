@@ -6,6 +6,7 @@ use ocfl_tree::{MemTree, Place, Tree, Trouble};
 use std::alloc::Global;
 use std::fs;
 use std::os::unix;
+use std::process::Abort;
 use std::test::Fail;
 
 mod exchange;
@@ -149,32 +150,43 @@ fn a_closed_file_gives_nothing(rt: HostRuntime) -> Result<(), Fail> {
     Ok(())
 }
 
-/// A file of these many bytes, which is read by so many at a time, what each read gives until it
-/// grows by one byte, and what is read of it from then on.
-const GROWS: [(usize, &[usize], &[usize]); 5] = [
-    (3, &[], &[4, 0]),
-    (4, &[3], &[0, 0]),
-    (3, &[3], &[1, 0]),
-    (2, &[2], &[2, 0]),
-    (2, &[2, 1], &[0, 0]),
+/// Reads of a file of 3 bytes: the room of each, what each gives until the file grows by one byte,
+/// and what reads with a room of 4 give from then on.
+const GROWS: [(&str, usize, &[usize], &[usize]); 5] = [
+    ("before any read", 3, &[], &[4, 0]),
+    ("after a read that met the end", 4, &[3], &[0, 0]),
+    ("after a read that filled its buffer", 3, &[3], &[1, 0]),
+    ("after a part of it", 2, &[2], &[2, 0]),
+    ("after a part and the end", 2, &[2, 1], &[0, 0]),
 ];
+
+/// Reads with this room, which give so many bytes each.
+fn expect_reads<T: Tree>(
+    rt: &(impl Abort + AllocGlobal),
+    row: &str,
+    store: &mut T,
+    room: usize,
+    counts: &[usize],
+) -> Result<(), Fail> {
+    let mut buffer = [0; 4];
+    let room = room.min(buffer.len());
+    for want in counts {
+        assert_eq!(rt; store.read(&mut buffer[..room]), Ok(*want), "{row}");
+    }
+    Ok(())
+}
 
 #[test]
 fn a_file_ends_where_a_read_met_its_end(rt: HostRuntime) -> Result<(), Fail> {
     let mut folder = filled(&rt, "grows")?;
     let file = place_of(rt.alloc(), "a-b")?;
-    let mut buffer = [0; 4];
-    for (room, before, after) in GROWS {
+    for (row, room, before, after) in GROWS {
         fs::write(&rt, "grows/a-b", "abc")?;
         folder.open(&file)?;
-        let room = room.min(buffer.len());
-        for want in before {
-            assert_eq!(rt; folder.read(&mut buffer[..room]), Ok(*want), "{room}");
-        }
+        expect_reads(&rt, row, &mut folder, room, before)?;
         fs::write(&rt, "grows/a-b", "abcd")?;
-        for want in after {
-            assert_eq!(rt; folder.read(&mut buffer), Ok(*want), "{room} after it grew");
-        }
+        let row = format!(in rt.alloc(); "{row}, after it grew")?;
+        expect_reads(&rt, row.as_str(), &mut folder, 4, after)?;
     }
     fs::remove_dir_all(&rt, "grows")?;
     Ok(())

@@ -74,7 +74,7 @@ impl Files for Exchanging {
     }
 }
 
-/// What the file `f` of a folder gives, which is listed before or not.
+/// What the file `f` of a folder gives, after a listing of the folder or without one.
 fn read<R: Files + AllocGlobal + Clone + Drop>(
     rt: R,
     top: &str,
@@ -118,19 +118,19 @@ fn read_as(
 
 #[test]
 fn an_exchanged_file_is_the_devices(rt: HostRuntime) -> Result<(), Fail> {
-    for is_listed in [false, true] {
-        assert_eq!(rt; read_as(&rt, "", is_listed)?, Ok(4), "{is_listed}");
+    for (when, is_listed) in [("not listed", false), ("listed", true)] {
+        assert_eq!(rt; read_as(&rt, "", is_listed)?, Ok(4), "{when}");
         for (row, spare) in [
             ("another file", "exchange/other"),
             ("a link", "exchange/link"),
             ("a directory", "exchange/dir"),
         ] {
             let answer = read_as(&rt, spare, is_listed)?;
-            assert_eq!(rt; answer, Err(Trouble::Device), "{row}, {is_listed}");
+            assert_eq!(rt; answer, Err(Trouble::Device), "{row}, {when}");
         }
         // It was looked at, and then went away.
         let answer = read_as(&rt, "exchange/missing", is_listed)?;
-        assert_eq!(rt; answer, Err(Trouble::Absent), "{is_listed}");
+        assert_eq!(rt; answer, Err(Trouble::Absent), "{when}");
     }
     Ok(())
 }

@@ -73,6 +73,7 @@ impl Fake {
     }
 }
 
+/// A directory that is being read: each read gives one name.
 #[derive(Drop)]
 struct FakeDir {
     faults: Faults,
@@ -96,12 +97,15 @@ impl Read for FakeDir {
     fn read(&mut self, buffer: &mut [u8]) -> io::Result<usize> {
         let ends = self.names.is_empty();
         self.faults.meet(if ends { Call::End } else { Call::Name })?;
-        let count = self.names.len();
+        let count = match self.names.iter().position(|byte| *byte == 0) {
+            Some(end) => end + 1,
+            None => self.names.len(),
+        };
         if count > buffer.len() {
             return unsupported();
         }
-        buffer[..count].copy_from_slice(self.names);
-        self.names = &[];
+        buffer[..count].copy_from_slice(&self.names[..count]);
+        self.names = &self.names[count..];
         Ok(count)
     }
 }
@@ -387,20 +391,19 @@ fn a_known_directory_is_not_looked_at(rt: HostRuntime) -> Result<(), Fail> {
     Ok(())
 }
 
-/// What is opened after a directory of the names `a` and `dir` was listed, how often each opening
-/// looks at something, and what it stops with.
-const LISTED: [(&str, u32, Option<Trouble>); 9] = [
-    // The listing saw `a`.
-    ("dir/a", 0, None),
-    ("dir/a", 0, None),
-    ("dir/b", 1, None),
-    ("a", 1, None),
-    ("dir/a", 0, None),
+/// What is opened after the directory `dir`, with the names `a` and `dir`, was listed, how often
+/// each opening looks at something, and what it stops with.
+const LISTED: [(&str, &str, u32, Option<Trouble>); 9] = [
+    ("listed", "dir/a", 0, None),
+    ("listed, again", "dir/a", 0, None),
+    ("of no entry", "dir/b", 1, None),
+    ("in the folder above", "a", 1, None),
+    ("listed, after others", "dir/a", 0, None),
     // No file is there, and a failure forgets what was seen.
-    ("dir/dir", 1, Some(Trouble::Device)),
-    ("dir/a", 3, None),
-    ("b-dir/a", 3, None),
-    ("dir/a", 3, None),
+    ("a directory", "dir/dir", 1, Some(Trouble::Device)),
+    ("after a failure", "dir/a", 3, None),
+    ("in another directory", "b-dir/a", 3, None),
+    ("back in the first", "dir/a", 3, None),
 ];
 
 #[test]
@@ -409,10 +412,14 @@ fn a_listed_file_is_not_looked_at_again(rt: HostRuntime) -> Result<(), Fail> {
     let looks = files.looks.clone()?;
     let mut store = FsTree::at(files, "top")?;
     store.list(&place_of(rt.alloc(), "dir")?)?;
-    for (path, want, trouble) in LISTED {
+    for (row, path, want, trouble) in LISTED {
         looks.set(0);
         let answer = store.open(&place_of(rt.alloc(), path)?);
-        assert_eq!(rt; (looks.get(), answer.err()), (want, trouble), "{path}");
+        assert_eq!(rt;
+            (looks.get(), answer.err()),
+            (want, trouble),
+            "{row}: {path}"
+        );
     }
     Ok(())
 }

@@ -243,6 +243,7 @@ fn the_folder_may_be_a_link_or_end_in_a_slash(rt: HostRuntime) -> Result<(), Fai
     }
     let inside = place_of(rt.alloc(), "way_root")?;
     let mut empty = FsTree::at(rt.clone()?, "")?;
+    assert_eq!(rt; empty.list(&root).err(), Some(Trouble::Absent));
     assert_eq!(rt; empty.list(&inside).err(), Some(Trouble::Absent));
     let mut file = FsTree::at(rt.clone()?, "way_root/.hidden")?;
     assert_eq!(rt; file.list(&inside).err(), Some(Trouble::Device));
@@ -275,11 +276,11 @@ fn another_file_than_was_listed_is_the_devices(rt: HostRuntime) -> Result<(), Fa
     holds_its_path(&rt, "after a failure", &mut store, "f")?;
     store.list(&root)?;
     holds_its_path(&rt, "after a listing", &mut store, "f")?;
-    // What was moved is the same file, by a link too.
+    // A moved file is still the same file, also through a link.
     store.list(&root)?;
     fs::rename(&rt, "way_listed/g", "way_listed/e/g")?;
     unix::fs::symlink(&rt, "e/g", "way_listed/g")?;
-    holds_its_path(&rt, "moved behind a link", &mut store, "g")?;
+    holds_its_path(&rt, "moved, with a link in its place", &mut store, "g")?;
     fs::remove_dir_all(&rt, "way_listed")?;
     Ok(())
 }

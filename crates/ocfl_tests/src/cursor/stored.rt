@@ -202,7 +202,11 @@ fn nothing_is_shown_of_other_bytes(rt: HostRuntime) -> Result<(), Fail> {
         expect_unshown(&rt, row, bytes, None, of_whole(wanted))?;
     }
     for (row, bytes, wanted) in [
-        ("a part's without its last byte", short, PartRefused::Damaged),
+        (
+            "a part's without its last byte",
+            short,
+            PartRefused::Damaged,
+        ),
         ("a part without lines", &malformed, PartRefused::Malformed),
     ] {
         expect_unshown(&rt, row, bytes, None, ShowStop::Part(wanted))?;

@@ -302,7 +302,11 @@ fn bytes_that_are_no_cursor_of_a_part(rt: HostRuntime) -> Result<(), Fail> {
     let scope = part(alloc, FILE_B, "-")?;
     for (row, file, note) in [
         ("no byte", b"".as_slice(), "cursor refused: not a cursor"),
-        ("its last byte is missing", damaged, "cursor refused: damaged"),
+        (
+            "its last byte is missing",
+            damaged,
+            "cursor refused: damaged",
+        ),
         (
             "one line more",
             malformed.as_bytes(),

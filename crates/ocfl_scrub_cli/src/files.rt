@@ -62,8 +62,11 @@ where
     R: Files + AllocGlobal,
 {
     let beside = format!(in rt.alloc(); "{file}.new")?;
-    let placed = write_synced(rt, beside.as_str(), text)
-        .and_then(|()| fs::rename(rt, beside.as_str(), file));
+    let placed = write_synced(rt, beside.as_str(), text).and_then(|()| fs::rename(
+        rt,
+        beside.as_str(),
+        file,
+    ));
     if placed.is_err() {
         let _ = fs::remove_file(rt, beside.as_str());
         return placed;

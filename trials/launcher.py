@@ -86,7 +86,7 @@ def builds_once(copy):
     status, out, said, builds = copy.called(["one", "two words"])
     is_so("it builds, and hands on words and status", (status, out, builds),
           (7, "one two words\n", 3))
-    is_so("it says so", ["half an hour" in said, copy.logs in said], [True, True])
+    is_so("it says so", ["about 40 minutes" in said, copy.logs in said], [True, True])
     is_so("it leaves no log behind it", os.listdir(copy.logs), [])
     is_so("it builds once", copy.called(["again"]), (7, "again\n", "", 3))
 

@@ -110,7 +110,7 @@ def in_the_next_cycle(folder, root, report):
     for name, choice in [("of the whole", []), ("of a part", ["--parts", parts, "--part", "1"])]:
         cursor = os.path.join(folder, "cursor " + name)
         run = ["run", "--cursor", cursor, *choice, "--budget", "1G", root]
-        for cycle, share in [(1, ""), (2, "85 % of the last cycle, ")]:
+        for cycle, share in [(1, ""), (2, "85 % of the last cycle, 1 min left, ")]:
             terminal = Terminal()
             status, out, _ = terminal.ran(run, stderr=True)
             is_so("%s, cycle %d: the report" % (name, cycle), (status, out), (0, report))

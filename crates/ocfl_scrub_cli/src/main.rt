@@ -15,6 +15,7 @@ use saying::{STOPPED, USAGE, say, say_out_of_memory};
 use splits::split_root;
 use std::process::ExitCode;
 use std::rt::{Env, Files};
+use std::time::Clock;
 use std::{env, io};
 use tasks::do_task;
 use version::print_build;
@@ -55,7 +56,10 @@ where
 }
 
 /// Runs the program, and gives its exit status.
-fn run_program<R: Files + Env + AllocGlobal + Print + Eprint>(rt: &R) -> u8 {
+fn run_program<R>(rt: &R) -> u8
+where
+    R: Files + Env + AllocGlobal + Clock + Print + Eprint,
+{
     let mut words = match read_words(rt) {
         Ok(words) => words,
         Err(status) => return status,

@@ -8,6 +8,7 @@ use std::alloc::AllocError;
 use std::fs;
 use std::io::{self, Write};
 use std::rt::Files;
+use std::time::{Clock, Instant};
 
 /// The work from one showing to the next, in bytes: a fifth of a second and more.
 const STEP: u64 = 256 << 20;
@@ -67,6 +68,8 @@ pub(crate) struct Watched<'a, R, T: Drop> {
     is_shown: bool,
     /// What the last cycle cost, where that is known.
     last_cost: Option<u128>,
+    /// When the work began, where the clock can be read.
+    began: Option<Instant>,
     /// The content files that were opened, and the bytes that were read of them.
     files: u64,
     bytes: u64,
@@ -79,7 +82,7 @@ pub(crate) struct Watched<'a, R, T: Drop> {
     object: Option<Place>,
 }
 
-impl<'a, R: AllocGlobal + Eprint, T: Drop> Watched<'a, R, T> {
+impl<'a, R: AllocGlobal + Clock + Eprint, T: Drop> Watched<'a, R, T> {
     pub(crate) fn over(
         rt: &'a R,
         store: T,
@@ -91,6 +94,7 @@ impl<'a, R: AllocGlobal + Eprint, T: Drop> Watched<'a, R, T> {
             rt,
             is_shown,
             last_cost,
+            began: Instant::now(rt).ok(),
             files: 0,
             bytes: 0,
             is_content: false,
@@ -141,13 +145,31 @@ impl<'a, R: AllocGlobal + Eprint, T: Drop> Watched<'a, R, T> {
         format!(in alloc; "{done}{place}")
     }
 
-    /// How far the run is, by the cost of the last cycle where that is known.
+    /// How far the run is, by the cost of the last cycle where that is known, and the time left.
     fn share(&self) -> Result<String, AllocError> {
+        let alloc = self.rt.alloc();
         let cost = u128::from(self.bytes) + u128::from(self.files);
-        match percent(cost, self.last_cost) {
-            Some(share) => format!(in self.rt.alloc(); "{share} % of the last cycle, "),
-            None => Ok(String::new(self.rt.alloc())),
+        let Some(share) = percent(cost, self.last_cost) else {
+            return Ok(String::new(alloc));
+        };
+        match self.minutes_left(share) {
+            Some(minutes) => {
+                format!(in alloc; "{share} % of the last cycle, {minutes} min left, ")
+            }
+            None => format!(in alloc; "{share} % of the last cycle, "),
         }
+    }
+
+    /// How many minutes the rest of the cycle would take, the last one begun. `None` before the
+    /// first hundredth and after the last, and where the clock cannot be read.
+    fn minutes_left(&self, share: u128) -> Option<u128> {
+        if share >= 100 {
+            return None;
+        }
+        let began = self.began?;
+        let seconds = u128::from(began.elapsed(self.rt).ok()?.as_secs());
+        let left = seconds.saturating_mul(100 - share).checked_div(share)?;
+        Some(left / 60 + 1)
     }
 
     /// Keeps the place of an object that was listed. The storage root and what lies below an object
@@ -185,7 +207,7 @@ impl<'a, R: AllocGlobal + Eprint, T: Drop> Watched<'a, R, T> {
 }
 
 /// Does what the inner store does, with the same contract.
-impl<R: AllocGlobal + Eprint, T: Tree + Drop> Tree for Watched<'_, R, T> {
+impl<R: AllocGlobal + Clock + Eprint, T: Tree + Drop> Tree for Watched<'_, R, T> {
     ghost told = { T.told };
 
     ghost state = { λ watched. T.state watched.store };

@@ -11,6 +11,7 @@ use ocfl_folder::FsTree;
 use ocfl_line::Task;
 use ocfl_scrub::{Note, Performed, Scope, perform_part};
 use std::rt::Files;
+use std::time::Clock;
 use std::{fs, io};
 
 /// What is said of a cursor's file that could not be read or put in place.
@@ -77,7 +78,7 @@ fn perform_over_folder<R>(
     block: &mut Block,
 ) -> Result<Performed, Note>
 where
-    R: Files + AllocGlobal + Print + Eprint,
+    R: Files + AllocGlobal + Clock + Print + Eprint,
 {
     let Ok(folder) = FsTree::at(rt, root_of(task)) else {
         return Err(Note::OutOfMemory);
@@ -122,7 +123,7 @@ where
 /// Does the deed, stores its cursor, and gives the status with what is to be said.
 fn perform_and_store<R>(rt: &R, task: &Task, scope: &Scope, is_shown: bool) -> (u8, Note)
 where
-    R: Files + AllocGlobal + Print + Eprint,
+    R: Files + AllocGlobal + Clock + Print + Eprint,
 {
     let Ok(mut block) = Block::new(rt.alloc()) else {
         return (STOPPED, Note::OutOfMemory);
@@ -136,7 +137,7 @@ where
 /// Does the deed, reports on standard error, and gives the status.
 fn perform_and_report<R>(rt: &R, task: &Task, scope: &Scope) -> u8
 where
-    R: Files + AllocGlobal + Print + Eprint,
+    R: Files + AllocGlobal + Clock + Print + Eprint,
 {
     let is_shown = is_shown(rt, task);
     let (status, note) = perform_and_store(rt, task, scope, is_shown);
@@ -168,7 +169,10 @@ fn refuse_cursor_inside<R: Files + AllocGlobal + Eprint>(rt: &R, task: &Task) ->
 }
 
 /// Does what a task asks for, and gives the exit status.
-pub(crate) fn do_task<R: Files + AllocGlobal + Print + Eprint>(rt: &R, task: &Task) -> u8 {
+pub(crate) fn do_task<R>(rt: &R, task: &Task) -> u8
+where
+    R: Files + AllocGlobal + Clock + Print + Eprint,
+{
     if let Some(status) = refuse_cursor_inside(rt, task) {
         return status;
     }

@@ -4,7 +4,7 @@ pub mod Escapes
 pub mod Encoded
 pub mod CodeTexts
 pub mod PlaceTexts
-pub mod Joined
+pub mod ReadPaths
 pub mod Parts
 pub mod PathTexts
 pub mod LineTexts

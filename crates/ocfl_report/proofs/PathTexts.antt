@@ -13,7 +13,7 @@ escape-slashed : (n : Text) (p : Place) → join_with_byte 47 (map escape (n ∷
 escape-slashed n [] = refl
 escape-slashed n (m ∷ p) = ap (λ t. escape n ++ 47 ∷ t) (escape-slashed m p) ∙ sym (flat_map-append escape_byte n (47 ∷ slashed (m ∷ p)))
 
-place_text-slashed : (p : Place) → (p ≡ [] → ⊥) → place_text p ≡ escape (slashed p)
+pub place_text-slashed : (p : Place) → (p ≡ [] → ⊥) → place_text p ≡ escape (slashed p)
 place_text-slashed [] h = absurd (h refl)
 place_text-slashed (n ∷ p) h = escape-slashed n p
 

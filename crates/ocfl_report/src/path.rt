@@ -1,14 +1,13 @@
 //! The text of a place, written and read.
-ghost use Rattle.std.specs.Prelude.{◌≡◌, ◌+◌, ◌<◌, ◌≤◌, ◌++◌, ◌==◌, ◌↔◌, codes, length, map};
+ghost use Rattle.std.specs.Prelude.{◌≡◌, ◌+◌, ◌<◌, ◌≤◌, ◌++◌, ◌↔◌, codes, length};
 ghost use Rattle.std.specs.Prelude.{vec_len, vec_capacity, IsTrue, IfOk, OnOk, OnErr};
 ghost use Rattle.std.specs.Io.{StartsWith};
-ghost use Rattle.std.specs.List.{slice_split};
-ghost use Rattle.ocfl_tree.specs.Place.{Text as ModelText, Place as ModelPlace};
-ghost use Rattle.ocfl_tree.specs.Name.{IsName, IsPlace};
-ghost use Rattle.ocfl_report.specs.Text.{escape, place_text};
+ghost use Rattle.ocfl_tree.specs.Place.{Place as ModelPlace};
+ghost use Rattle.ocfl_tree.specs.Name.{IsPlace};
+ghost use Rattle.ocfl_report.specs.Text.{place_text};
 
 use crate::escaped::{put_escaped, read_escaped};
-use ocfl_tree::{Name, NameStop, Place};
+use ocfl_tree::Place;
 use std::alloc::{AllocError, Global};
 
 /// Why bytes were not read as a place.
@@ -83,43 +82,21 @@ pub fn read_place(alloc: Global, bytes: &[u8]) -> Result<Place, PlaceStop>
     if is_root_text(bytes) {
         return Ok(Place::root(alloc));
     }
-    read_names(alloc, bytes)
+    if bytes.is_empty() {
+        return Err(PlaceStop::Bad);
+    }
+    // Escaping leaves a slash as it is, so that all names are read at once.
+    let Some(path) = read_escaped(alloc, bytes)? else {
+        return Err(PlaceStop::Bad);
+    };
+    match Place::from_path(path.into_owned(alloc)?) {
+        Some(place) => Ok(place),
+        None => Err(PlaceStop::Bad),
+    }
 }
 
 fn is_root_text(bytes: &[u8]) -> bool
     ensures { IsTrue result ↔ (bytes.now ≡ codes ".") }
 {
     bytes == b".".as_slice()
-}
-
-// The place of the names whose escaped forms stand between the slashes.
-fn read_names(alloc: Global, bytes: &[u8]) -> Result<Place, PlaceStop>
-    ensures ok { IfOk result
-        (λ place. map escape place ≡ slice_split (λ b. b == 47) bytes.now) }
-    ensures names { IfOk result IsPlace }
-    ensures bad { result ≡ Err PlaceStop.Bad → (place : ModelPlace) → IsPlace place
-        → map escape place ≡ slice_split (λ b. b == 47) bytes.now → ⊥ }
-{
-    let mut place = Place::root(alloc);
-    for part in bytes.split(|byte| *byte == b'/') {
-        place.push(read_name(alloc, part)?)?;
-    }
-    Ok(place)
-}
-
-// The name whose escaped form the bytes are.
-fn read_name(alloc: Global, bytes: &[u8]) -> Result<Name, PlaceStop>
-    ensures ok { IfOk result (λ name. bytes.now ≡ escape name) }
-    ensures name { IfOk result IsName }
-    ensures bad { result ≡ Err PlaceStop.Bad
-        → (name : ModelText) → IsName name → bytes.now ≡ escape name → ⊥ }
-{
-    let Some(text) = read_escaped(alloc, bytes)? else {
-        return Err(PlaceStop::Bad);
-    };
-    match Name::new(alloc, text.as_str()) {
-        Ok(name) => Ok(name),
-        Err(NameStop::Bad) => Err(PlaceStop::Bad),
-        Err(NameStop::Memory) => Err(PlaceStop::Memory),
-    }
 }

@@ -37,6 +37,7 @@ share/ocfl-scrub/README.md 644
 share/ocfl-scrub/lib/binding.sh 644
 share/ocfl-scrub/lib/clock.sh 644
 share/ocfl-scrub/lib/closing.sh 644
+share/ocfl-scrub/lib/codes.awk 644
 share/ocfl-scrub/lib/dividing.awk 644
 share/ocfl-scrub/lib/dividing.sh 644
 share/ocfl-scrub/lib/expected.awk 644
@@ -56,6 +57,7 @@ share/ocfl-scrub/lib/separators.awk 644
 share/ocfl-scrub/lib/signals.sh 644
 share/ocfl-scrub/lib/state.sh 644
 share/ocfl-scrub/lib/together.sh 644
+share/ocfl-scrub/lib/untold.awk 644
 share/ocfl-scrub/nightly 755
 share/ocfl-scrub/ocfl-scrub.cron 644
 share/ocfl-scrub/parallel/begin 755

@@ -6,13 +6,20 @@
 # The root as it is now: where it lies, its declaration, and the names in its top folder.
 describe_root() {
   names=$scratch/names
-  names_in "$root" | grep -v '^0=ocfl_' | LC_ALL=C sort > "$names"
-  declared=$(cd -- "$root" && for file in 0=ocfl_*; do
-    printf '%s\t%s\n' "$file" "$(sha256sum < "$file")"
-  done | sha256sum)
-  printf 'path\t%s\n' "$(printf '%s' "$(realpath -- "$root")" | tr '\t\n' '  ')"
-  printf 'declaration\t%s\n' "${declared%% *}"
-  printf 'names\t%s %s\n\n' "$(wc -l < "$names")" "$(sha256sum < "$names" | cut -c 1-64)"
+  LC_ALL=C find "$root/." -mindepth 1 -maxdepth 1 ! -name '0=ocfl_*' -printf '%f\n' \
+    | LC_ALL=C sort > "$names"
+  declared=''
+  for file in "$root"/0=ocfl_*; do
+    declared=$declared${declared:+$newline}${file##*/}$tab$(sha256sum < "$file")
+  done
+  declared=$(sha256sum <<TEXT
+$declared
+TEXT
+  )
+  put_in_line "$(realpath -- "$root")"
+  sum=$(sha256sum < "$names")
+  printf 'path\t%s\ndeclaration\t%s\n' "$line" "${declared%% *}"
+  printf 'names\t%s %s\n\n' "$(wc -l < "$names")" "${sum%% *}"
   cat -- "$names"
 }
 

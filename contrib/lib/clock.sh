@@ -3,7 +3,8 @@
 # shellcheck disable=SC2034,SC2154
 
 # Sets `end`, in seconds since 1970: the next time that the clock shows --until, or after --hours.
-# Without either, it is empty. Where it is no time, `complaint` says so.
+# Without either, it is empty. With one, sets `most` to the bytes of --budget. Where one of these is
+# no time or no number, `complaint` says so.
 read_end() {
   end=''
   if [ -n "$until" ]; then
@@ -11,23 +12,29 @@ read_end() {
       [01][0-9]:[0-5][0-9] | 2[0-3]:[0-5][0-9]) ;;
       *) complaint="--until needs a time like 06:00"; return 1 ;;
     esac
-    end=$(date -d "$until" +%s) && [ "$end" -gt "$(seconds_now)" ] \
+    look_at_clock
+    end=$(date -d "$until" +%s) && [ "$end" -gt "$seconds_now" ] \
       || end=$(date -d "tomorrow $until" +%s)
   elif [ -n "$hours" ]; then
     case $hours in
       *[!0-9.]* | *.*.* | .) complaint="--hours needs a number like 8 or 7.5"; return 1 ;;
     esac
-    end=$(($(seconds_now) + $(awk -v hours="$hours" 'BEGIN { printf "%.0f", hours * 3600 }')))
+    look_at_clock
+    end=$((seconds_now + $(awk -v hours="$hours" 'BEGIN { printf "%.0f", hours * 3600 }')))
   fi
-  [ -z "$end" ] || [ "$(read_size "$budget")" -gt 0 ] || {
+  [ -n "$end" ] || return 0
+  read_size "$budget"
+  most=$size
+  [ "$most" -gt 0 ] || {
     complaint="--budget needs a number like 20G"
     return 1
   }
 }
 
-# The number that a size says, as ocfl-scrub reads it: 20G, 20GiB, 20GB. 0 where it is none.
+# Sets `size` to the number that a size says, as ocfl-scrub reads it: 20G, 20GiB, 20GB. 0 where it
+# is none.
 read_size() {
-  printf '%s\n' "$1" | LC_ALL=C awk '
+  size=$(LC_ALL=C awk '
     tolower($0) ~ /^[0-9]+([kmgt](i?b)?)?$/ {
       size = $0 + 0
       unit = tolower($0)
@@ -38,27 +45,31 @@ read_size() {
       for (; power > 0; power--) size *= base
       if (size > 4611686018427387904) size = 0
     }
-    END { printf "%.0f\n", size }'
+    END { printf "%.0f\n", size }' <<TEXT
+$1
+TEXT
+  )
 }
 
-# How many bytes the last runs read in a second, or 0 where that is not known.
-rate() {
-  [ -f "$state/nights" ] || { echo 0; return 0; }
-  tail -n 60 -- "$state/nights" | awk -F '\t' '
+# Sets `rate`, how many bytes the last runs read in a second, or 0 where that is not known.
+find_rate() {
+  rate=0
+  [ ! -f "$state/nights" ] || rate=$(tail -n 60 -- "$state/nights" | awk -F '\t' '
     NF == 14 && $2 ~ /^[01]$/ { count++; cost[count] = $6; took[count] = $10 }
     END {
       for (n = count; n > 0 && n > count - 10; n--) { sum += cost[n]; seconds += took[n] }
       printf "%.0f\n", (seconds + 0 ? sum / seconds : 0)
-    }'
+    }')
 }
 
 # Sets `slice`, the budget of the next run: less than --budget where that would pass the end. Fails
-# where no time is left.
+# where no time is left by the last look at the clock.
 next_slice() {
   slice=$budget
   [ -n "$end" ] || return 0
-  left=$((end - $(seconds_now)))
+  left=$((end - seconds_now))
   [ "$left" -gt 0 ] || return 1
-  fits=$(($(rate) * left))
-  if [ "$fits" -gt 0 ] && [ "$fits" -lt "$(read_size "$budget")" ]; then slice=$fits; fi
+  find_rate
+  fits=$((rate * left))
+  if [ "$fits" -gt 0 ] && [ "$fits" -lt "$most" ]; then slice=$fits; fi
 }

@@ -3,28 +3,33 @@
 # cycle before. `nightly` and `rotate` read this file, after `state.sh`.
 # shellcheck disable=SC2034,SC2154
 
-number_of() { printf '%06d' "$1"; }
-
-# The number of the cycle in the name of a file or folder.
-cycle_of() { printf '%s\n' "${1##*-}" | sed 's/\.gz$//; s/^0*//'; }
-
-# The closed report of a cycle: the file that is there, or else the one that would be. (`echo` would
-# change a backslash in a path.)
-closed_report() {
-  for file in cycle incomplete; do
-    file=$state/reports/$file-$(number_of "$1")
-    if [ -e "$file" ]; then printf '%s\n' "$file"; return 0; fi
-    if [ -e "$file.gz" ]; then printf '%s\n' "$file.gz"; return 0; fi
-  done
-  printf '%s\n' "$state/reports/cycle-$(number_of "$1")"
+# Sets `named_cycle`, the number of the cycle in the name of a file or folder.
+read_cycle_of() {
+  named_cycle=${1##*-}
+  named_cycle=${named_cycle%.gz}
+  named_cycle=${named_cycle#"${named_cycle%%[!0]*}"}
 }
 
-# The newest whole report of a cycle before this one, if one lies there.
-report_before() {
+# Sets `closed_file`, the closed report of a cycle in this folder of state or in another: the file
+# that is there, or else the one that would be.
+find_closed() {
+  pad "$1"
+  for closed_file in cycle incomplete; do
+    closed_file=${2:-$state}/reports/$closed_file-$padded
+    if [ -e "$closed_file" ]; then return 0; fi
+    closed_file=$closed_file.gz
+    if [ -e "$closed_file" ]; then return 0; fi
+  done
+  closed_file=${2:-$state}/reports/cycle-$padded
+}
+
+# Sets `earlier`, the newest whole report of a cycle before this one; empty where none lies there.
+find_earlier() {
+  earlier=''
   for file in "$state"/reports/cycle-*; do
     number=${file##*/cycle-}
-    if [ -e "$file" ] && [ "${number%.gz}" -lt "$1" ]; then printf '%s\n' "$file"; fi
-  done | tail -n 1
+    if [ -e "$file" ] && [ "${number%.gz}" -lt "$1" ]; then earlier=$file; fi
+  done
 }
 
 # Whether a report can be read, and where it is compressed, to its end.
@@ -44,29 +49,29 @@ close_cycle() {
 
 # Moves the report of the cycle to its place, and logs what it has.
 close_report() {
-  mkdir -p -- "$state/reports" || return 3
-  began=$(now) cost=0 closing=$(seconds_now)
-  closed=$(closed_report "$cycle")
+  [ -d "$state/reports" ] || mkdir -p -- "$state/reports" || return 3
+  look_at_clock
+  began=$time_now cost=0 closing=$seconds_now
+  find_closed "$cycle"
+  closed=$closed_file
   if [ ! -e "$closed" ]; then
-    is_whole || closed=$state/reports/incomplete-$(number_of "$cycle")
+    is_whole || closed=$state/reports/incomplete-$padded
     [ -e "$report" ] || printf '' > "$report" || return 3
-    list_gone "$report" && found=$(codes_found "$report") && mv -- "$report" "$closed" || return 3
+    list_gone "$report" && count_codes "$report" && mv -- "$report" "$closed" || return 3
   else
-    list_gone "$closed" && found=$(codes_found "$closed") || return 3
+    list_gone "$closed" && count_codes "$closed" || return 3
   fi
-  seconds=$(($(seconds_now) - closing))
-  log ended "$(closing_text)" || return 3
+  look_at_clock
+  seconds=$((seconds_now - closing))
+  log_closing || return 3
   bytes=0 lines=0 digest=$nothing
 }
 
 # Whether the report has all that the log says, from its first byte to its last.
 is_whole() {
   if was_lost; then return 1; fi
-  known=$(pieces)
-  if [ -n "$known" ] && printf '%s\n' "$known" | holds "$report" \
-    && [ "$(size_of "$report")" -eq "$bytes" ]; then
-    return 0
-  fi
+  find_pieces
+  if holds "$report" "$known" && [ "$size" -eq "$bytes" ]; then return 0; fi
   lose
   return 1
 }
@@ -81,13 +86,18 @@ was_lost() {
 # Lists what stands in the report before, or is expected, and has no line in this one. Of a report
 # that lost lines that cannot be said. Where the one before cannot be read, `unstated` says so.
 list_gone() {
-  list=$state/reports/gone-$(number_of "$cycle")
+  pad "$cycle"
+  list=$state/reports/gone-$padded
   compared=nothing
   case $closed in */incomplete-*) rm -f -- "$list"; return 0 ;; esac
-  earlier=$(report_before "$cycle")
+  find_earlier "$cycle"
   if [ -n "$earlier" ] && ! is_readable "$earlier"; then
     echo "$earlier cannot be read: what is gone since then is not known." >&2
     unstated=yes earlier=''
+  fi
+  if [ -z "$earlier$expected" ]; then
+    remove "$list" "$list.new"
+    return
   fi
   {
     if [ -n "$earlier" ]; then
@@ -97,36 +107,38 @@ list_gone() {
       | LC_ALL=C sort
   } > "$list.new" || return 3
   if [ -n "$earlier" ]; then
-    compared=$(cycle_of "$earlier")
+    read_cycle_of "$earlier"
+    compared=$named_cycle
   fi
   if [ -s "$list.new" ]; then mv -f -- "$list.new" "$list"; else rm -f -- "$list" "$list.new"; fi
 }
 
-# How many lines of a kind the list of what is gone has.
-gone() {
-  if [ -e "$list" ]; then
-    awk -F '\t' -v kind="$1" '$1 == kind { count++ } END { print count + 0 }' "$list"
-  else
-    echo 0
-  fi
-}
-
-# The codes of the findings of a report, each with its number.
-codes_found() {
-  findings_of < "$1" | awk -F '\t' '
+# Sets `gone` to how many objects and files the list of what is gone has, and `missing` to how many
+# of those that are expected.
+count_gone() {
+  gone="0 objects 0 files" missing=0
+  [ -e "$list" ] || return 0
+  missing=$(awk -F '\t' '
     { count[$1]++ }
-    END { for (code in count) printf "%s %.0f\n", code, count[code] }' \
-    | LC_ALL=C sort | tr '\n' ' '
+    END { print count["object"] + 0 " objects " count["file"] + 0 " files", count["expected"] + 0 }
+    ' "$list")
+  gone=${missing% *} missing=${missing##* }
 }
 
-# What the row `ended` says.
-closing_text() {
-  kind=whole
-  case $closed in */incomplete-*) kind="incomplete ${lacking:-lost lines}" ;; esac
-  found=${found% }
-  printf 'report %s; %s; findings %s; compared %s; gone %s objects %s files' \
-    "reports/${closed##*/}" "$kind" "${found:-none}" "$compared" "$(gone object)" "$(gone file)"
-  if [ -n "$expected" ] && [ "$kind" = whole ]; then printf '; expected %s' "$(gone expected)"; fi
+# Sets `found` to the codes of the findings of a report, each with its number.
+count_codes() {
+  found=$(LC_ALL=C grep -E -v "$no_findings" < "$1" | LC_ALL=C awk -F '\t' \
+    -f "$here/reports/report.awk" -f "$here/lib/codes.awk")
+}
+
+# Logs the end of the cycle.
+log_closing() {
+  whole=whole
+  case $closed in */incomplete-*) whole="incomplete ${lacking:-lost lines}" ;; esac
+  count_gone
+  if [ -n "$expected" ] && [ "$whole" = whole ]; then gone="$gone; expected $missing"; fi
+  log ended "report reports/${closed##*/}; $whole; findings ${found:-none}; compared $compared; \
+gone $gone"
 }
 
 # Writes the statement of the closed cycle, and seals it where that is asked for. The next night
@@ -134,7 +146,8 @@ closing_text() {
 # this fails, `unstated` says so, and the cycle stays closed.
 write_statement() {
   # Whoever moved the report away wants no statement here.
-  [ -e "$(closed_report "$cycle")" ] || return 0
+  find_closed "$cycle"
+  [ -e "$closed_file" ] || return 0
   "$here/reports/statement" ${seal:+--seal "$seal"} "$state" "$cycle" > /dev/null && return 0
   unstated=yes
   echo "The statement of cycle $cycle could not be made or sealed. To try again:" >&2

@@ -57,7 +57,7 @@ with_other_ends() {
 end_earlier() {
   with_other_ends > "$scratch/others"
   while IFS=$tab read -r number name; do
-    ends=$(ends_of "$number" "$set/separators") || return 3
+    find_ends "$number" "$set/separators" || return 3
     (
       flock -n 8 || {
         say "a night still runs in $set/$name, so its part could not be divided"

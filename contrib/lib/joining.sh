@@ -12,27 +12,73 @@ can_join() {
     END { exit NR == 0 || open > 0 }' "$scratch/standing"
 }
 
+# Compares what the folder of each part and its statement say of its ends with the separators.
+# Writes with tabs, of each part: its number, its name, the place that it stands alone with,
+# `closed` or else, `whole` or `incomplete`, what is of another part (`folder`, `statement`, or `-`
+# for nothing; `none` where there is no such part), and the SHA-256 of its report by its statement.
+compare_ends() {
+  pad "$of_cycle"
+  SET=$set STATEMENT=reports/statement-$padded LC_ALL=C awk -F '\t' "$end_in_awk"'
+    function ends_in(path,  line, text) {
+      while ((getline line < path) > 0) text = text line "\n"
+      close(path)
+      sub(/\n+$/, "", text)
+      return text
+    }
+    function read_statement(path,  line) {
+      stated = digest = ""
+      while ((getline line < path) > 0) {
+        if (sub(/^Part from: /, "from ", line) || sub(/^Part below: /, "below ", line))
+          stated = stated (stated == "" ? "" : "\n") line
+        if (sub(/^Report SHA-256: /, "", line)) digest = digest (digest == "" ? "" : " ") line
+      }
+      close(path)
+    }
+    function odd_one(part, folder,  ends) {
+      if (part > separators + 1) return "none"
+      ends = "from " end("start", at[part - 1]) "\nbelow " end("end", at[part])
+      if (ends_in(folder "/part") != ends) return "folder"
+      read_statement(folder "/" ENVIRON["STATEMENT"])
+      gsub(/%/, "%25", ends)
+      return stated == ends ? "-" : "statement"
+    }
+    BEGIN {
+      OFS = FS
+      path = ENVIRON["SET"] "/separators"
+      while ((getline line < path) > 0) at[++separators] = line
+    }
+    {
+      digest = ""
+      odd = $6 == "closed" ? odd_one($1 + 0, ENVIRON["SET"] "/" $2) : "-"
+      print $1, $2, $5, $6, $7, odd, digest == "" ? "-" : digest
+    }' "$scratch/standing"
+}
+
+# Says what is of another part than the table says.
+say_odd() {
+  case $odd in
+    folder) say "$folder is of another part: $(named "$(cat -- "$folder/part")")" ;;
+    statement)
+      stated=$(sed -n 's/^Part from: /from /p; s/^Part below: /below /p' "$statement") \
+        && say "$statement is of another part: $(named "$stated")" ;;
+  esac
+}
+
 # Appends the report of a part, where its folder is of the part that the table says and its
-# statement says the same of the part and of the lines that were appended.
+# statement says the same of the part and of the lines that were appended: these are read back from
+# descriptor 4, which stands where the lines before them end.
 add_report() {
   folder=$set/$name
-  ends=$(ends_of "$number" "$set/separators") || return 3
-  if [ "$(cat -- "$folder/part")" != "$ends" ]; then
-    say "$folder is of another part: $(named "$(cat -- "$folder/part")")"
+  find_closed "$of_cycle" "$folder"
+  statement=$folder/reports/statement-$padded
+  if [ "$odd" != - ]; then
+    say_odd
     return 3
   fi
-  of_part=$(state=$folder && closed_report "$of_cycle")
-  statement=$folder/reports/statement-$(number_of "$of_cycle")
-  stated=$(sed -n 's/^Part from: /from /p; s/^Part below: /below /p' "$statement") || return 3
-  if [ "$stated" != "$(printf '%s\n' "$ends" | sed 's/%/%25/g')" ]; then
-    say "$statement is of another part: $(named "$stated")"
-    return 3
-  fi
-  before=$(size_of "$joined")
-  zcat -f -- "$of_part" >> "$joined" || return 3
-  sum=$(tail -c "+$((before + 1))" -- "$joined" | sha256sum) || return 3
-  if [ "$(sed -n 's/^Report SHA-256: //p' "$statement")" != "${sum%% *}" ]; then
-    say "$of_part is not what $statement says"
+  gzip -cdf -- "$closed_file" >> "$joined" || return 3
+  sum=$(sha256sum <&4) || return 3
+  if [ "$stated" != "${sum%% *}" ]; then
+    say "$closed_file is not what $statement says"
     return 3
   fi
 }
@@ -42,7 +88,8 @@ add_report() {
 add_reports() {
   kind=cycle
   printf '' > "$joined" && printf '' > "$scratch/unread" || return 3
-  while IFS=$tab read -r number name _ _ alone now is_whole _; do
+  compare_ends > "$scratch/to_join" || return 3
+  while IFS=$tab read -r number name alone now is_whole odd stated; do
     if [ "$now" != closed ]; then
       kind=incomplete
       echo "$alone" >> "$scratch/unread" || return 3
@@ -50,7 +97,7 @@ add_reports() {
       [ "$is_whole" = whole ] || kind=incomplete
       add_report || return 3
     fi
-  done < "$scratch/standing"
+  done < "$scratch/to_join" 4< "$joined"
 }
 
 # Puts a file into the folder of reports, whole or not at all; removes it where there is nothing.
@@ -66,20 +113,24 @@ put_list() {
 join_parts() {
   of_cycle=$1
   mkdir -p -- "$state/reports" || return 3
-  began=$(now) joining=$(seconds_now) joined=$state/reports/joined.new
+  look_at_clock
+  began=$time_now joining=$seconds_now joined=$state/reports/joined.new
   add_reports || { rm -f -- "$joined"; return 3; }
   IFS=$tab read -r spent files < "$scratch/sums"
-  lines=$(wc -l < "$joined") bytes=$(size_of "$joined") digest=$nothing cost=0 run=0 stands=ended
-  closed=$state/reports/$kind-$(number_of "$cycle") lacking=''
+  measure_file "$joined"
+  pad "$cycle"
+  lines=$(wc -l < "$joined") bytes=$size digest=$nothing cost=0 run=0 stands=ended
+  closed=$state/reports/$kind-$padded lacking=''
   [ ! -s "$scratch/unread" ] || lacking="lacks what is not audited"
-  list_gone "$joined" && found=$(codes_found "$joined") || return 3
-  put_list "$set/separators" "$state/reports/separators-$(number_of "$cycle")" always || return 3
-  put_list "$scratch/unread" "$state/reports/unread-$(number_of "$cycle")" '' || return 3
+  list_gone "$joined" && count_codes "$joined" || return 3
+  put_list "$set/separators" "$state/reports/separators-$padded" always || return 3
+  put_list "$scratch/unread" "$state/reports/unread-$padded" '' || return 3
   put_list "$scratch/unread" "$state/alone" '' || return 3
   SET=$set awk -v cycle="$cycle" -v of_cycle="$of_cycle" -f "$here/lib/runs.awk" \
     "$scratch/standing" > "$scratch/runs" || return 3
-  put_list "$scratch/runs" "$state/reports/runs-$(number_of "$cycle")" always || return 3
+  put_list "$scratch/runs" "$state/reports/runs-$padded" always || return 3
   mv -f -- "$joined" "$closed" || return 3
-  seconds=$(($(seconds_now) - joining))
-  log ended "$(closing_text)" || return 3
+  look_at_clock
+  seconds=$((seconds_now - joining))
+  log_closing || return 3
 }

@@ -3,41 +3,33 @@
 # cut could not say, the next one says. `nightly` reads this file.
 # shellcheck disable=SC2154
 
-# The rows that nobody was told of.
-untold() {
-  [ -f "$state/nights" ] || return 0
-  awk -F '\t' '
-    NF != 14 { next }
-    $2 == "told" { count = 0; next }
-    { rows[++count] = $0 }
-    END { for (n = 1; n <= count; n++) print rows[n] }' "$state/nights"
+# Writes the rows that nobody was told of into the file `untold`. Sets `untold` to what is among
+# them and `untold_lines` to where new lines of reports are, as `untold.awk` says them.
+read_untold() {
+  untold='' untold_lines=''
+  : > "$scratch/untold"
+  [ ! -f "$state/nights" ] || untold=$(UNTOLD=$scratch/untold awk -v tonight="$night" \
+    -f "$here/lib/untold.awk" "$state/nights")
+  case $untold in *"$newline"*) untold_lines=${untold#*"$newline"} ;; esac
+  untold=${untold%%"$newline"*}
 }
 
-# From the rows that nobody was told of: of each cycle the first and last run, and the bytes of its
-# report that came with them.
-untold_pieces() {
-  awk -F '\t' '
-    $2 == "began" { from = $11 }
-    $2 == "lost" { from = 0 }
-    $2 !~ /^([0-9]+|cut|lost)$/ || $11 + 0 <= from + 0 { next }
-    $3 "" != cycle "" { show(); cycle = $3; first = $4; start = from }
-    from + 0 < start + 0 { start = from }
-    { run = $4; to = $11; from = $11 }
-    function show() { if (cycle != "") print cycle, first, run, start, to }
-    END { show() }' "$scratch/untold"
-}
+# Whether something of a kind is among them.
+has_untold() { case " $untold " in *" $1 "*) ;; *) return 1 ;; esac; }
 
-# The findings of a cycle's report from one byte on, up to another.
+# The findings of a cycle's report from one byte on, up to another, in this folder of state or in
+# another one.
 findings_between() {
-  file=$(closed_report "$1")
+  find_closed "$1" "${4:-}"
+  file=$closed_file
   if [ ! -e "$file" ]; then
-    if is_closed "$1"; then return 0; fi
-    file=$report
+    if is_closed "$1" "${4:-}"; then return 0; fi
+    file=${4:-$state}/report
   fi
   case $file in
     *.gz) zcat -- "$file" | tail -c "+$(($2 + 1))" | head -c "$(($3 - $2))" ;;
-    *) piece "$file" "$2" "$3" ;;
-  esac | findings_of
+    *) if [ "$2" -eq 0 ]; then head -c "$3" -- "$file"; else piece "$file" "$2" "$3"; fi ;;
+  esac | LC_ALL=C grep -E -v "$no_findings" || [ $? -eq 1 ]
 }
 
 # Shows the twenty gravest of the findings in a file. If they cannot be sorted, it shows the first.
@@ -47,24 +39,29 @@ show_gravest() {
 }
 
 say_findings() {
-  untold_pieces | while read -r of first last from to; do
+  [ -n "$untold_lines" ] || return 0
+  while read -r of first last from to; do
     findings_between "$of" "$from" "$to" > "$scratch/found"
+    [ -s "$scratch/found" ] || continue
     count=$(wc -l < "$scratch/found")
-    [ "$count" -gt 0 ] || continue
-    echo "$count" >> "$scratch/counts"
+    findings_told=$((findings_told + count))
     which="run $first"
     [ "$first" = "$last" ] || which="runs $first to $last"
     echo "$count finding(s) tonight in $whose, cycle $of, $which:"
     show_gravest "$scratch/found"
-    where=$(closed_report "$of")
+    find_closed "$of"
+    where=$closed_file
     [ -e "$where" ] || where=$report
     [ "$count" -le 20 ] || echo "and $((count - 20)) more, at the end of $where"
     echo "To look at one again: ocfl-scrub check $root PATH, with the path as shown above."
-  done
+  done <<TEXT
+$untold_lines
+TEXT
 }
 
 # A night that made runs, and has no row `told`, was cut as well.
 say_cut() {
+  has_untold cut || return 0
   awk -F '\t' -v tonight="$night" '
     $2 ~ /^[0-9]+$/ && $14 != tonight && !($14 in runs) { nights[++count] = $14 }
     $2 ~ /^[0-9]+$/ { runs[$14] }
@@ -80,6 +77,7 @@ say_cut() {
 }
 
 say_lost() {
+  has_untold lost || return 0
   awk -F '\t' '$2 == "lost" {
     printf "The report of cycle %s does not have what the log says: it has %s.\n", $3, $7
     print "It is not whole any more, and will be closed as an incomplete one."
@@ -88,6 +86,7 @@ say_lost() {
 
 # What the closing of a cycle found.
 say_ended() {
+  has_untold incomplete || has_untold gone || return 0
   REPORTS=$state/reports EXPECTED=$expected awk -F '\t' '
     function plural(count, word) { return count " " word (count == 1 ? "" : "s") }
     $2 != "ended" { next }
@@ -177,8 +176,8 @@ say_signal() {
 # All that nobody was told of.
 compose() {
   whose=${part:+part $part of }$root
-  untold > "$scratch/untold"
-  rm -f -- "$scratch/counts"
+  findings_told=0
+  read_untold
   say_cut
   say_lost
   say_findings
@@ -187,19 +186,9 @@ compose() {
   say_signal
 }
 
-# How many findings were told.
-told_findings() {
-  [ -e "$scratch/counts" ] || { echo 0; return 0; }
-  awk '{ sum += $1 } END { printf "%.0f\n", sum }' "$scratch/counts"
-}
-
 # The status of a night that says this, whatever its runs gave: 3 where lines were lost, 1 where
 # something was found or is gone.
-told_status() {
-  awk -F '\t' -v found="$(told_findings)" '
-    $2 == "lost" || ($2 == "ended" && $7 ~ /; incomplete /) { lost = 1 }
-    $2 == "ended" && $7 ~ /; gone [0-9]*[1-9][0-9]* o|; gone 0 objects [1-9]|; expected [1-9]/ {
-      found = 1
-    }
-    END { print (lost ? 3 : (found + 0 ? 1 : 0)) }' "$scratch/untold"
+worsen_by_untold() {
+  if [ "$findings_told" -gt 0 ] || has_untold gone; then worsen 1; fi
+  if has_untold lost || has_untold incomplete; then worsen 3; fi
 }

@@ -8,8 +8,10 @@
 # The file is made before anything can fail, so that `tell` never sends what another night said.
 begin_text() {
   own=$state/tonight.${INVOCATION_ID:-$$}
-  rm -f -- "$own" 2> /dev/null
-  (set -C && umask 027 && printf '' > "$own") 2> /dev/null || own=''
+  umask 027
+  set -C
+  { remove "$own"; printf '' > "$own"; } 2> /dev/null || own=''
+  set +C
 }
 
 # Says what comes in.
@@ -24,6 +26,9 @@ tell() {
     cat >&2
   fi
 }
+
+# Says what a file has, where it has something.
+tell_file() { [ ! -s "$1" ] || tell < "$1"; }
 
 # Ends what cannot begin: its command line is wrong, or the folder cannot be used.
 fail() { { echo "$called: $1"; echo "$called: try: $called --help"; } | tell; exit 2; }
@@ -48,30 +53,37 @@ check_report_words() {
 # Makes the folder, takes its lock, and makes a folder for what is only of this call.
 hold_state() {
   umask 027
-  mkdir -p -- "$state" || exit 3
+  [ -d "$state" ] || mkdir -p -- "$state" || exit 3
   state=$(CDPATH='' cd -- "$state" && pwd -P) || exit 3
   if [ -n "$own" ]; then own=$state/${own##*/}; fi
   printf '' >> "$state/lock" || stop "$state/lock cannot be written"
   exec 9>> "$state/lock"
   flock -n 9 || stop "another night still runs in $state; nothing was done" 75
   scratch=$(mktemp -d) || stop "no temporary folder can be made"
-  trap 'rm -rf -- "$scratch"' EXIT
+  # The night removes it itself.
+  trap '[ ! -e "$scratch" ] || rm -rf -- "$scratch"' EXIT
 }
 
 # The same for a night, which has a text of its own.
 open_state() {
-  mkdir -p -- "$state" || exit 3
+  [ -d "$state" ] || mkdir -p -- "$state" || exit 3
   [ -n "$own" ] || begin_text
   hold_state
   for file in "$state"/tonight "$state"/tonight.*; do
-    [ "$file" = "$own" ] || rm -f -- "$file"
+    [ "$file" = "$own" ] || remove "$file"
   done
   [ -z "$own" ] || ln -- "$own" "$state/tonight" 2> /dev/null
 }
 
 # The worst status of the night: 2, 4, 3, 1, 0, and over all of them that the program was killed.
-rank() { case $1 in 0 | 1) echo "$1" ;; 3) echo 2 ;; 4) echo 3 ;; 2) echo 4 ;; *) echo 5 ;; esac; }
-worsen() { [ "$(rank "$1")" -le "$(rank "$night_status")" ] || night_status=$1; }
+# Sets `rank` to how bad one is.
+rank() { case $1 in 0 | 1) rank=$1 ;; 3) rank=2 ;; 4) rank=3 ;; 2) rank=4 ;; *) rank=5 ;; esac; }
+worsen() {
+  rank "$night_status"
+  worst=$rank
+  rank "$1"
+  [ "$rank" -le "$worst" ] || night_status=$1
+}
 
 # Ends a night that cannot go on: the reason is a row of the log, and is said as such.
 refuse() {
@@ -116,5 +128,5 @@ try_state() {
     [ ! -e "$file" ] || printf '' >> "$file" || return 1
   done
   [ ! -d "$state/reports" ] || printf '' > "$state/reports/room" || return 1
-  rm -f -- "$state/reports/room"
+  remove "$state/reports/room"
 }

@@ -13,7 +13,8 @@ done
 
 # The rows that say nothing of one report.
 blank_row() {
-  began=$(now) cycle=${cycle:-0} run=0 lines=0 cost=0 spent=0 files=0 seconds=0 bytes=0
+  look_at_clock
+  began=$time_now cycle=${cycle:-0} run=0 lines=0 cost=0 spent=0 files=0 seconds=0 bytes=0
   digest=$nothing stands=-
 }
 
@@ -53,7 +54,8 @@ gather_all() {
   : > "$scratch/text"
   for set in "$state"/parts-*; do
     [ -s "$set/table" ] || continue
-    cycle=$(cycle_of "$set")
+    read_cycle_of "$set"
+    cycle=$named_cycle
     : > "$scratch/divided"
     gather 2> "$scratch/trouble" || worsen 3
     cat -- "$scratch/trouble" >> "$scratch/text"
@@ -76,7 +78,8 @@ forget_told() {
   for set in "$state"/parts-*; do
     [ -e "$set/standing.new" ] || continue
     mv -f -- "$set/standing.new" "$scratch/standing" && note_told
-    if is_closed "$(cycle_of "$set")"; then remove_set; fi
+    read_cycle_of "$set"
+    if is_closed "$named_cycle"; then remove_set; fi
   done
 }
 
@@ -94,21 +97,21 @@ say_signal_of_all() {
 
 # Ends a night of all parts: says in one message what nobody was told of.
 end_parts() {
-  rm -f -- "$scratch/counts"
+  findings_told=0
   gather_all
-  untold > "$scratch/untold"
+  read_untold
   {
     awk -F '\t' '$2 ~ /^[0-9]+$/ && $3 == 0 { print $7 }' "$scratch/untold"
     say_ended
     say_unread
     say_signal_of_all
   } >> "$scratch/text"
-  worsen "$(told_status)"
-  tell < "$scratch/text"
+  worsen_by_untold
+  tell_file "$scratch/text"
   find_cycle
   blank_row
-  seconds=$(($(seconds_now) - night_began)) began=$night
-  log told "status $night_status, $(standing_text), findings $(told_findings)"
+  seconds=$((seconds_now - night_began)) began=$night
+  log told "status $night_status, $(standing_text), findings $findings_told"
   forget_told
   [ -z "$own" ] || [ -s "$own" ] || rm -f -- "$own" "$state/tonight"
   rm -rf -- "$scratch"

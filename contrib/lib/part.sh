@@ -7,16 +7,16 @@ end_in_awk='
   function end(word, text) { return text == "" ? word : (text == word ? "./" : "") text }
 '
 
-# The ends of a part of the separators in a file, two lines as a cursor of that part has them. Fails
-# where there is no such part.
-ends_of() {
-  awk -v part="$1" "$end_in_awk"'
+# Sets `ends`, those of a part of the separators in a file: two lines as a cursor of that part has
+# them. Fails where there is no such part.
+find_ends() {
+  ends=$(awk -v part="$1" "$end_in_awk"'
     { at[NR] = $0 }
     END {
       if (part < 1 || part > NR + 1) exit 1
       print "from " end("start", at[part - 1])
       print "below " end("end", at[part])
-    }' "$2"
+    }' "$2")
 }
 
 check_part_words() {
@@ -25,7 +25,7 @@ check_part_words() {
   case $part in *[!0-9]* | 0*) fail "--part needs a number from 1 on" ;; esac
   [ -r "$parts" ] || fail "$parts cannot be read"
   [ -z "$expected" ] || fail "--expected is for a whole storage root"
-  ends=$(ends_of "$part" "$parts") || fail "there is no part $part: $parts makes fewer"
+  find_ends "$part" "$parts" || fail "there is no part $part: $parts makes fewer"
 }
 
 # Binds the folder to one part, and keeps the separators for all runs of the night. Refuses the part
@@ -44,10 +44,14 @@ a folder of its own."
     refuse 3 "$state belongs to a whole storage root. Nothing was run. Each part needs a folder of \
 its own."
   fi
-  if ! { put_text "$ends" "$state/part" && cp -- "$parts" "$state/parts.new" \
-    && mv -f -- "$state/parts.new" "$state/parts"; }; then
+  if ! { { [ -e "$state/part" ] || put_text "$ends" "$state/part"; } && keep_separators; }; then
     break_off "Nothing was run."
   fi
+}
+
+keep_separators() {
+  if [ -e "$state/parts" ] && cmp -s -- "$parts" "$state/parts"; then return 0; fi
+  cp -- "$parts" "$state/parts.new" && mv -f -- "$state/parts.new" "$state/parts"
 }
 
 # Writes a text and a line feed to a file, whole or not at all.

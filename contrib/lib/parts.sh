@@ -13,7 +13,8 @@ find_cycle() {
   [ ! -f "$state/nights" ] || cycle=$(awk -F '\t' '
     NF == 14 && $2 == "ended" { last = $3 }
     END { printf "%.0f\n", last + 1 }' "$state/nights")
-  set=$state/parts-$(number_of "$cycle")
+  pad "$cycle"
+  set=$state/parts-$padded
 }
 
 in_order() {
@@ -94,8 +95,8 @@ write_separators() {
 
 count_parts() { wc -l < "$set/table"; }
 
-# The name of a part by its number, and so its folder.
-name_of() { awk -F '\t' -v part="$1" 'NR == part { print $1 }' "$set/table"; }
+# Sets `name`, that of a part by its number, and so of its folder; empty where there is none.
+find_name() { name=$(awk -F '\t' -v part="$1" 'NR == part { print $1 }' "$set/table"); }
 
 # Reads the table and all logs: the files `standing`, `events` and `rows` in the folder `scratch`,
 # as `lib/parts.awk` writes them. The parts' own cycle has the number $1.

@@ -15,23 +15,36 @@ run_program() {
       ${part:+--parts "$state/parts" --part "$part"} "$root" >> "$report"
     status=$?
   } 2> "$scratch/said"
-  rm -f -- "$scratch/running"
-  note=$(sed -n 's/^ocfl-scrub: //p; s/^error: //p' "$scratch/said" | tail -n 1)
+  : > "$scratch/running"
+  read_note
   if [ "$status" -gt 128 ] && is_ending; then note="ended by $(cat -- "$scratch/signal")"; fi
+}
+
+# Sets `note` to the last thing that the program said itself.
+read_note() {
+  note=''
+  while IFS= read -r line || [ -n "$line" ]; do
+    case $line in
+      "ocfl-scrub: "* | "error: "*)
+        line=${line#ocfl-scrub: }
+        note=${line#error: } ;;
+    esac
+  done < "$scratch/said"
 }
 
 # Makes a run of this budget, and writes its two rows of the log.
 make_run() {
   if [ "$stands" = ended ]; then
     bind_root || return 3
+    look_at_clock
     cycle=$((cycle + 1)) run=0 spent=0 files=0 stands=start bytes=0 lines=0 digest=$nothing
   fi
-  began=$(now) cost=0 seconds=0 run=$((run + 1))
+  began=$time_now started=$seconds_now cost=0 seconds=0 run=$((run + 1))
   log began "budget $1" || return 3
   set -- "$1" "$cycle" "$run" "$spent" "$files" "$stands" "$bytes" "$lines" "$digest"
-  started=$(seconds_now)
   run_program "$1"
-  seconds=$(($(seconds_now) - started)) runs=$((runs + 1))
+  look_at_clock
+  seconds=$((seconds_now - started)) runs=$((runs + 1))
   read_cursor || return 3
   if [ "$cycle $run" = "$2 $3" ]; then
     cost=$((spent - $4))
@@ -56,7 +69,9 @@ is_due() {
 make_runs() {
   files_started=0
   until is_ending; do
-    is_due && next_slice || return 0
+    is_due || return 0
+    look_at_clock
+    next_slice || return 0
     make_run "$slice" || return 3
     case $note in "ended by "*) return 0 ;; esac
     worsen "$status"

@@ -5,7 +5,9 @@
 
 # The digest of a report without lines.
 nothing=0000000000000000000000000000000000000000000000000000000000000000
-tab=$(printf '\t')
+# What separates words when a shell begins: a blank, a tab and a line feed.
+tab=${IFS#?} newline=${IFS#??}
+tab=${tab%?}
 # How many bytes of a report have one digest at most: 64 MiB.
 piece_size=67108864
 
@@ -21,9 +23,39 @@ find_program() {
   return 3
 }
 
-now() { date -u +%Y-%m-%dT%H:%M:%SZ; }
-seconds_now() { date +%s; }
-size_of() { if [ -e "$1" ]; then wc -c < "$1"; else echo 0; fi; }
+# Functions that a night calls often set a variable: to show a text, and take it by `$(...)`, takes
+# a process.
+
+# Looks at the clock: sets `time_now`, and `seconds_now` since 1970.
+look_at_clock() {
+  seconds_now=$(date -u '+%Y-%m-%dT%H:%M:%SZ %s')
+  time_now=${seconds_now% *} seconds_now=${seconds_now#* }
+}
+
+# Sets `size`, how many bytes a file has; 0 where there is none.
+measure_file() {
+  size=0
+  [ ! -s "$1" ] || size=$(wc -c < "$1")
+}
+
+# Removes what is there of these files.
+remove() {
+  for unwanted in "$@"; do
+    if [ -e "$unwanted" ] || [ -L "$unwanted" ]; then rm -f -- "$unwanted"; fi || return
+  done
+}
+
+# Sets `padded` to a number of at least six digits, as the names of reports have it.
+pad() {
+  padded=$1
+  while [ ${#padded} -lt 6 ]; do padded=0$padded; done
+}
+
+# Sets `line` to a text with a blank for each tab and line feed.
+put_in_line() {
+  line=$1
+  case $1 in *["$tab$newline"]*) line=$(printf '%s' "$1" | tr '\t\n' '  ') ;; esac
+}
 
 # Reads where the cursor stands (`start`, `ended` or `after PLACE`), its cycle, run, cost and files.
 # Where it cannot be read, `shown` says why.
@@ -31,9 +63,9 @@ read_cursor() {
   stands=start cycle=1 run=0 spent=0 files=0
   [ -e "$cursor" ] || return 0
   shown=$("$program" show "$cursor" 2>&1) || return $?
-  # That of a part names its ends first.
-  case $shown in "from "*) shown=$(printf '%s\n' "$shown" | tail -n +3) ;; esac
   {
+    # That of a part names its ends first.
+    case $shown in "from "*) read -r _ && read -r _ ;; esac
     read -r _ cycle
     read -r _ run
     read -r _ spent
@@ -53,9 +85,9 @@ has_runs() {
 
 # Appends a row to the log: its kind or status, and what was said. The columns stand in README.md.
 log() {
-  said=$(printf '%s' "$2" | tr '\t\n' '  ')
+  put_in_line "$2"
   printf '%s\t%s\t%s\t%s\t%s\t%s\t%s\t%s\t%s\t%s\t%s\t%s\t%s\t%s\n' "$began" "$1" "$cycle" "$run" \
-    "$lines" "$cost" "$said" "$spent" "$files" "$seconds" "$bytes" "$digest" "$stands" "$night" \
+    "$lines" "$cost" "$line" "$spent" "$files" "$seconds" "$bytes" "$digest" "$stands" "$night" \
     >> "$state/nights"
 }
 
@@ -67,7 +99,7 @@ log_refusal() (
 )
 
 # The names in a folder, one a line.
-names_in() { LC_ALL=C find "$1/." ! -name . -prune -print | LC_ALL=C sed 's|^.*/\./||'; }
+names_in() { LC_ALL=C find "$1/." -mindepth 1 -maxdepth 1 -printf '%f\n'; }
 
 # Removes half a row that a full disk left at the end of the log.
 cut_half_row() {
@@ -76,81 +108,93 @@ cut_half_row() {
   truncate -s "-$half" -- "$state/nights"
 }
 
-# The row `began` of a run that has no second row: that of a night that was cut.
-unfinished_row() {
-  [ -f "$state/nights" ] || return 0
-  awk -F '\t' '
+# Sets `unfinished`, the row `began` of a run that has no second row: that of a night that was cut.
+find_unfinished() {
+  unfinished=''
+  [ ! -f "$state/nights" ] || unfinished=$(awk -F '\t' '
     NF != 14 { next }
     $2 == "began" { row = $0 }
     $2 == "cut" || $2 ~ /^[0-9]+$/ { row = "" }
-    END { if (row != "") print row }' "$state/nights"
+    END { if (row != "") print row }' "$state/nights")
 }
 
-# Whether the log says that a cycle was closed.
+# Whether the log, or that of another folder, says that a cycle was closed.
 is_closed() {
-  [ -f "$state/nights" ] && awk -F '\t' -v cycle="$1" '
+  [ -f "${2:-$state}/nights" ] && awk -F '\t' -v cycle="$1" '
     NF == 14 && $2 == "ended" && $3 == cycle { found = 1 }
-    END { exit !found }' "$state/nights"
+    END { exit !found }' "${2:-$state}/nights"
 }
 
-# What the log says of the report where the cursor stands, as `lib/pieces.awk` writes it; with
-# `unfinished`, what it says of the report before the run that has no second row.
-pieces() {
-  [ -f "$state/nights" ] || return 0
-  STANDS=$stands awk -v cycle="$cycle" -v run="$run" -v spent="$spent" -v unfinished="${1:-}" \
-    -f "$here/lib/pieces.awk" "$state/nights"
+# Sets `known`, what the log says of the report where the cursor stands, as `lib/pieces.awk` writes
+# it; with `unfinished`, what it says of the report before the run that has no second row.
+find_pieces() {
+  known=''
+  [ ! -f "$state/nights" ] || known=$(STANDS=$stands awk -v cycle="$cycle" -v run="$run" \
+    -v spent="$spent" -v unfinished="${1:-}" -f "$here/lib/pieces.awk" "$state/nights")
 }
 
 # The bytes of a file from one on, up to another.
 piece() { tail -c "+$(($2 + 1))" -- "$1" | head -c "$(($3 - $2))"; }
 
-# The findings among report lines: all but `ok` and the note S07.
-findings_of() { LC_ALL=C grep -v -e "^ok$tab" -e "^S07$tab" || [ $? -eq 1 ]; }
+# The lines of a report that are no findings: `ok` and the note S07.
+no_findings="^(ok|S07)$tab"
 
-# The digest of a report after its bytes from $3 to $4, where it is $2 before them.
-digest_after() {
-  if [ "$3" -eq "$4" ]; then
-    echo "$2"
-  else
-    { printf '%s\n' "$2"; piece "$1" "$3" "$4"; } | sha256sum | cut -c 1-64
-  fi
+# Sets `sum` to the digest of a report after its bytes from $3 to $4, where it is $2 before them.
+sum_up() {
+  sum=$2
+  if [ "$3" -eq "$4" ]; then return 0; fi
+  sum=$({
+    printf '%s\n' "$2"
+    if [ "$3" -eq 0 ]; then head -c "$4" -- "$1"; else piece "$1" "$3" "$4"; fi
+  } | sha256sum)
+  sum=${sum%% *}
 }
 
 # Whether a file holds the pieces of these lines as the log says, up to its last byte or further.
+# Sets `size` to how many bytes it has.
 holds() {
+  [ -n "$2" ] || return 1
+  measure_file "$1"
   while IFS=$tab read -r kind from to before after; do
     if [ "$kind" = known ]; then
-      [ "$(size_of "$1")" -ge "$from" ] || return 1
+      [ "$size" -ge "$from" ] || return 1
     else
-      [ "$(digest_after "$1" "$before" "$from" "$to")" = "$after" ] || return 1
+      sum_up "$1" "$before" "$from" "$to"
+      [ "$sum" = "$after" ] || return 1
     fi
-  done
+  done <<TEXT
+$2
+TEXT
 }
 
-# The line `known` of these lines, and the last piece: what a night looks at.
-newest_piece() { awk 'NR == 1 { print; next } { last = $0 } END { if (NR > 1) print last }'; }
+# The same for the line `known` and the last piece of these lines: what a night looks at.
+holds_newest() {
+  case $2 in
+    *"$newline"*) holds "$1" "${2%%"$newline"*}$newline${2##*"$newline"}" ;;
+    *) holds "$1" "$2" ;;
+  esac
+}
 
 # Ends the report at a byte.
 cut_report() {
-  [ "$(size_of "$report")" -gt "$1" ] || return 0
+  measure_file "$report"
+  [ "$size" -gt "$1" ] || return 0
   truncate -s "$1" -- "$report"
 }
 
 # Whether the last line of the report is whole, and the cursor stands after its place.
 ends_at_cursor() {
   [ -z "$(tail -c 1 -- "$report")" ] || return 1
-  [ "$stands" = ended ] || [ "after $(tail -n 1 -- "$report" | cut -f 2)" = "$stands" ]
+  [ "$stands" != ended ] || return 0
+  line=$(tail -n 1 -- "$report")
+  line=${line#*"$tab"}
+  [ "after ${line%%"$tab"*}" = "$stands" ]
 }
 
-# How many bytes and lines of what stands in the report from a byte on end where the cursor stands.
-measure() {
-  room=$(($(size_of "$report") - $1))
-  if [ "$room" -le 0 ]; then echo 0 0; return 0; fi
-  if ends_at_cursor; then
-    echo "$room $(tail -c "+$(($1 + 1))" -- "$report" | wc -l)"
-    return 0
-  fi
-  tail -c "+$(($1 + 1))" -- "$report" | LC_ALL=C STANDS=$stands awk -F '\t' -v room="$room" '
+# How many bytes and lines of what comes in, of which there are so many bytes, end where the cursor
+# stands.
+up_to_cursor() {
+  LC_ALL=C STANDS=$stands awk -F '\t' -v room="$1" '
     { at += length($0) + 1 }
     at <= room && (ENVIRON["STANDS"] == "ended" || "after " $2 == ENVIRON["STANDS"]) {
       kept = at
@@ -159,16 +203,34 @@ measure() {
     END { printf "%.0f %.0f\n", kept, count }'
 }
 
+# Sets `bytes` and `lines`, how much of the report ends where the cursor stands, where it had $1
+# bytes and $2 lines before a run. Sets `size` to how many bytes it has.
+measure() {
+  bytes=$1 lines=$2
+  measure_file "$report"
+  if [ "$size" -le "$1" ]; then return 0; fi
+  if ! ends_at_cursor; then
+    kept=$(tail -c "+$(($1 + 1))" -- "$report" | up_to_cursor $((size - $1)))
+    bytes=$(($1 + ${kept% *})) lines=$(($2 + ${kept#* }))
+    return 0
+  fi
+  bytes=$size
+  if [ "$1" -eq 0 ]; then
+    lines=$(($2 + $(wc -l < "$report")))
+  else
+    lines=$(($2 + $(tail -c "+$(($1 + 1))" -- "$report" | wc -l)))
+  fi
+}
+
 # Takes over what a run appended: the report had $1 bytes, $2 lines and the digest $3, and the
 # cursor stood at $4. Fails where the report does not come to where the cursor stands.
 take_over() {
-  measured=$(measure "$1")
-  bytes=$(($1 + ${measured% *})) lines=$(($2 + ${measured#* }))
+  measure "$1" "$2"
   if [ "$bytes" -eq "$1" ] && [ "$stands" != "$4" ] && [ "$stands" != ended ]; then
     digest=$3
     return 1
   fi
-  cut_report "$bytes" || return 3
+  [ "$size" -eq "$bytes" ] || cut_report "$bytes" || return 3
   digest=$3
   log_pieces "$1" "$2"
 }
@@ -181,35 +243,40 @@ log_pieces() {
   while [ $((upto - at)) -gt $piece_size ]; do
     bytes=$((at + piece_size))
     lines=$((lines + $(piece "$report" "$at" "$bytes" | wc -l)))
-    digest=$(digest_after "$report" "$digest" "$at" "$bytes")
+    sum_up "$report" "$digest" "$at" "$bytes"
+    digest=$sum
     (cost=0 seconds=0 && log piece "a piece of the run") || return 3
     at=$bytes
   done
   bytes=$upto lines=$after
-  digest=$(digest_after "$report" "$digest" "$at" "$bytes")
+  sum_up "$report" "$digest" "$at" "$bytes"
+  digest=$sum
 }
 
 # Takes the report as it is, from its first byte on: no digest of before holds for it any more.
 count_all() {
   [ ! -e "$report" ] || [ -z "$(tail -c 1 -- "$report")" ] \
     || truncate -s "-$(tail -n 1 -- "$report" | wc -c)" -- "$report"
-  bytes=$(size_of "$report") lines=0
+  measure_file "$report"
+  bytes=$size lines=0
   [ "$bytes" -eq 0 ] || lines=$(wc -l < "$report")
-  digest=$(digest_after "$report" "$nothing" 0 "$bytes")
+  sum_up "$report" "$nothing" 0 "$bytes"
+  digest=$sum
 }
 
 # Brings the report and the log to where the cursor stands, whatever a kill or a full disk left.
 settle() {
   cut_half_row || return 3
   bytes=0 lines=0 digest=$nothing cost=0 seconds=0
-  began=$(now)
-  unfinished=$(unfinished_row)
-  known=$(pieces)
+  began=$time_now
+  find_unfinished
+  find_pieces
+  find_closed "$cycle"
   if [ "$run" -eq 0 ]; then
     cut_report 0
   elif [ "$stands" = ended ] && is_closed "$cycle"; then
     cut_report 0
-  elif [ "$stands" = ended ] && [ -e "$(closed_report "$cycle")" ]; then
+  elif [ "$stands" = ended ] && [ -e "$closed_file" ]; then
     settle_closed
   elif [ -n "$known" ]; then
     settle_known
@@ -227,11 +294,11 @@ column() { printf '%s\n' "$unfinished" | cut -f "$1"; }
 # The log knows the run at which the cursor stands: what the report has beyond it is of a run that
 # is made again.
 settle_known() {
-  if printf '%s\n' "$known" | newest_piece | holds "$report"; then
+  if holds_newest "$report" "$known"; then
     IFS=$tab read -r _ bytes lines digest <<TEXT
 $known
 TEXT
-    cut_report "$bytes"
+    [ "$size" -eq "$bytes" ] || cut_report "$bytes"
   else
     lose
   fi
@@ -239,8 +306,8 @@ TEXT
 
 # The run that has no second row ended: its night was cut after it.
 settle_unfinished() {
-  known=$(pieces unfinished)
-  if printf '%s\n' "$known" | newest_piece | holds "$report" \
+  find_pieces unfinished
+  if holds_newest "$report" "$known" \
     && take_over "$(column 11)" "$(column 5)" "$(column 12)" "$(column 13)"; then
     return 0
   fi

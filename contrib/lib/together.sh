@@ -19,20 +19,22 @@ say_findings_of_parts() {
   : > "$scratch/found" && : > "$scratch/found_in"
   untold_stretches > "$scratch/stretches"
   while IFS=$tab read -r name of from to; do
-    (state=$set/$name report=$set/$name/report && findings_between "$of" "$from" "$to") \
-      < /dev/null > "$scratch/one"
+    findings_between "$of" "$from" "$to" "$set/$name" < /dev/null > "$scratch/one"
     [ -s "$scratch/one" ] || continue
     cat -- "$scratch/one" >> "$scratch/found"
     echo "$name" >> "$scratch/found_in"
   done < "$scratch/stretches"
+  [ -s "$scratch/found" ] || return 0
   count=$(wc -l < "$scratch/found")
-  [ "$count" -gt 0 ] || return 0
-  echo "$count" >> "$scratch/counts"
+  findings_told=$((findings_told + count))
   in=$(sort -u "$scratch/found_in" | wc -l)
   echo "$count finding(s) tonight in $root, cycle $cycle, in $in part(s):"
   show_gravest "$scratch/found"
   where="the reports of the parts in $set"
-  if is_closed "$cycle"; then where=$(closed_report "$cycle"); fi
+  if is_closed "$cycle"; then
+    find_closed "$cycle"
+    where=$closed_file
+  fi
   [ "$count" -le 20 ] || echo "and $((count - 20)) more, in $where"
   echo "To look at one again: ocfl-scrub check $root PATH, with the path as shown above."
 }
@@ -128,7 +130,8 @@ say_taken() {
 # The places that a closed cycle left out.
 say_unread() {
   awk -F '\t' '$2 == "ended" { print $3 }' "$scratch/untold" | while read -r number; do
-    list=$state/reports/unread-$(number_of "$number")
+    pad "$number"
+    list=$state/reports/unread-$padded
     [ -s "$list" ] || continue
     echo "Cycle $number left out what is not audited:"
     head -n 20 -- "$list"
@@ -147,9 +150,9 @@ compose_parts() {
 
 # The worst status of what nobody was told of.
 worsen_by_events() {
-  for status in $(events_of run | cut -f 4 | sort -u) $(events_of stop | cut -f 4 | sort -u); do
-    worsen "$status"
-  done
+  statuses=$(awk -F '\t' '
+    ($1 == "run" || $1 == "stop") && !($4 in seen) { seen[$4]; print $4 }' "$scratch/events")
+  for status in $statuses; do worsen "$status"; done
   if [ -s "$scratch/lost" ] || [ -s "$scratch/taken" ]; then worsen 3; fi
 }
 

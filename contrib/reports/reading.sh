@@ -31,23 +31,25 @@ readable() {
 # count REPORT FOLDER
 count() {
   readable "$1"
-  rm -f -- "$2/pipe"
+  [ ! -e "$2/pipe" ] || rm -f -- "$2/pipe"
   mkfifo -- "$2/pipe" || exit 3
   sha256sum < "$2/pipe" > "$2/digest" &
   # shellcheck disable=SC2154 # Each question sets `here`.
-  zcat -f -- "$1" | tee -- "$2/pipe" \
+  gzip -cdf -- "$1" | tee -- "$2/pipe" \
     | LC_ALL=C CODES="$here/codes" awk -f "$here/report.awk" -f "$here/counts.awk" > "$2/counts" \
     || exit 3
   wait $! || exit 3
 }
 
-# The file of a kind and a cycle in a folder of reports, plain or compressed; nothing where it lies
-# in neither form.
+# Sets `found_report` to the file of a kind and a cycle in a folder of reports, plain or compressed;
+# to nothing where it lies in neither form.
 #
-# report_of FOLDER KIND CYCLE
-report_of() {
-  plain=$1/$2-$(printf '%06d' "$3")
-  for asked in "$plain" "$plain.gz"; do
-    [ ! -f "$asked" ] || { printf '%s\n' "$asked"; return; }
+# find_report FOLDER KIND CYCLE
+find_report() {
+  asked=$3
+  while [ ${#asked} -lt 6 ]; do asked=0$asked; done
+  for found_report in "$1/$2-$asked" "$1/$2-$asked.gz"; do
+    [ ! -f "$found_report" ] || return 0
   done
+  found_report=''
 }

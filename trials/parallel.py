@@ -470,6 +470,17 @@ def late(folder):
     is_so("nothing more was run", len(part.rows("run")), 1)
 
 
+def until_its_end(folder):
+    """A part with an end makes run after run until its cycle ends."""
+    nights, _ = begun(folder, ["o0"])
+    is_so("a night", by_hand(nights, "part", "--part", "1", "--budget", "1", "--end", "9999999999",
+                             cwd=folder), (0, "", ""))
+    part = Nights(nights.set() + "/1", nights.root)
+    is_so("more than one run", len(part.rows("run")) > 1, True)
+    is_so("the end of its cycle", len(part.rows("ended")), 1)
+    is_so("no file beside it", os.path.exists(folder + "/0"), False)
+
+
 # A part says something while what was said before is removed.
 SAYING = """#!/bin/sh
 for word in "$@"; do
@@ -573,8 +584,8 @@ def usage(folder):
 
 
 PARTS = [cycles, messages, opened_once, never_half, part_nights, signals, closed_before_told,
-         disk_full, seals, not_run, late, said_meanwhile, killed_removing, roots_of_parts,
-         odd_names, usage]
+         disk_full, seals, not_run, late, until_its_end, said_meanwhile, killed_removing,
+         roots_of_parts, odd_names, usage]
 
 
 def tell(folder):

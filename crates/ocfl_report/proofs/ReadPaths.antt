@@ -32,7 +32,7 @@ path_utf8 (n ∷ []) h = IsUtf8-had n (All-head IsName n [] h).text
 path_utf8 (n ∷ m ∷ p) h =
     let slash = IsUtf8-from_ascii (47 ∷ []) (IsAscii-cons 47 [] (omega arith) IsAscii-nil) in
     IsUtf8-append n (47 ∷ slashed (m ∷ p)) (IsUtf8-had n (All-head IsName n (m ∷ p) h).text)
-        (IsUtf8-append (47 ∷ []) (slashed (m ∷ p)) slash (path_utf8 (m ∷ p) (All-tail IsName n (m ∷ p) h)))
+    (IsUtf8-append (47 ∷ []) (slashed (m ∷ p)) slash (path_utf8 (m ∷ p) (All-tail IsName n (m ∷ p) h)))
 
 -- names in a path are joined by slashes
 slashed-joined : (n : Text) (p : Place) → slashed (n ∷ p) ≡ join_with_byte 47 (n ∷ p)

@@ -3,7 +3,6 @@ source that an edit turns, and the list of those that the gate tries, `gate/edit
 import collections
 import os
 import re
-import shutil
 import sys
 
 from gate import toolchain
@@ -109,13 +108,3 @@ def misplaced():
     tried = collections.Counter(entry.edit for entry in listed())
     faults += ["%s is listed twice" % edit.path for edit in tried if tried[edit] > 1]
     return faults
-
-
-def plant(folder):
-    """Puts the listed edits into the folders `must-fail` of a copy, where `rt ci` looks for them,
-    each under the name of its file and its own: so the edits of one file follow one another, and
-    each is checked over work that the one before it left whole."""
-    for edit, _ in listed():
-        to = os.path.join(folder_of(edit.crate, folder), "must-fail")
-        os.makedirs(to, exist_ok=True)
-        shutil.copy(edit.file, os.path.join(to, edit.path.replace(os.sep, ".") + ".edit"))

@@ -1,18 +1,22 @@
-"""One step of trying edits, in a process of its own: `FOLDER CRATE KIND EDIT JOBS`.
+"""One step of trying edits, in a process of its own: `FOLDER CRATE KIND JOBS [EDIT..]`.
 
-Its last line says in JSON whether it went well, what is to be said of it, and the seconds of
-processors that it took."""
+Its last line says in JSON of each thing that it tried whether that went well and what is to be said
+of it, and the seconds of processors that it took."""
+import contextlib
 import io
 import json
 import os
+import re
 import resource
 import shutil
 import sys
 import tempfile
 
-from gate import toolchain
+from gate import collection, functions, rounds, toolchain
 
 KEPT = "out/incremental"
+# What says no more than that a proof names what is gone, or cites such a proof.
+NAMES = re.compile(r"(note: )?(\./)?proofs/.*(has no field|is not in scope|has no `|was not admitted)")
 
 
 def library(rt, crate, jobs):
@@ -28,28 +32,62 @@ def whole(rt, crate, jobs):
     return not ran.returncode, "proved" if not ran.returncode else ran.stdout[-2000:]
 
 
-def edit(rt, crate, file):
-    """Checks a crate with an edit over links to what it kept, so that another edit is checked over
-    the same."""
+@contextlib.contextmanager
+def over(crate):
+    """Links to what a crate kept, so that each check is made over the same."""
     with tempfile.TemporaryDirectory() as room:
         kept = os.path.join(room, "kept")
         shutil.copytree(os.path.join(crate.folder, KEPT), kept, copy_function=os.link)
+        yield kept
+
+
+def alone(rt, crate, file):
+    """Checks a crate with one edit."""
+    with over(crate) as kept:
         verdict, text = rt.must_fail(crate, file, ["--jobs", "1"], kept)
     # `rt` gives a word for each verdict, of which these two are refusals.
     return verdict in (rt.REFUSED, rt.AT_LIMIT), text.split(": ", 1)[-1]
 
 
+def together(rt, crate, files):
+    """Checks a crate with several edits, and then one by one those that were not refused so."""
+    chosen = [edit for edit in collection.every_edit() if edit.file in files]
+    known = functions.functions_of(crate.name)
+    turns = [rounds.turn_of(crate.name, edit, known) for edit in chosen]
+    with over(crate) as kept:
+        ran = rt.checked(crate, rounds.texts_of(crate.name, turns), ["--jobs", "1"], kept)
+    lines = ran.stdout.rstrip("\n").split("\n")
+    found = {turn.edit.file: refusal(crate.name, turn, lines, known) for turn in turns}
+    if not is_told(rt, ran, lines, {turn.function.file for turn in turns}):
+        found = {}
+    return [(True, "refused: " + found[file][:160]) if found.get(file) else alone(rt, crate, file)
+            for file in files]
+
+
+def is_told(rt, ran, lines, changed):
+    """Whether the prover read the sources and gave its verdict on all of them."""
+    return (ran.returncode == 1 and lines[-1].startswith("logic=not-proved")
+            and not any(rt.unread(line, changed) for line in lines)
+            and not rt.rtlib.STALE.search(ran.stdout))
+
+
+def refusal(crate, turn, lines, known):
+    """What refuses an edit at its own function, or nothing."""
+    told = (line for line in lines if rounds.is_at(crate, turn.function, line, known))
+    return next((line for line in told if not NAMES.match(line)), "")
+
+
 def main():
-    folder, name, kind, file, jobs = sys.argv[1:]
+    folder, name, kind, jobs, *files = sys.argv[1:]
     rt = toolchain.load()
     os.environ.pop(rt.rtlib.ALLOW_C, None)
     crate = toolchain.crates_of(rt, folder)[name]
-    if kind == "edit":
-        well, text = edit(rt, crate, file)
+    if kind == "edits":
+        told = together(rt, crate, files) if len(files) > 1 else [alone(rt, crate, files[0])]
     else:
-        well, text = (library if kind == "library" else whole)(rt, crate, ["--jobs", jobs])
+        told = [(library if kind == "library" else whole)(rt, crate, ["--jobs", jobs])]
     used = resource.getrusage(resource.RUSAGE_CHILDREN)
-    print("\n" + json.dumps([well, text, used.ru_utime + used.ru_stime]))
+    print("\n" + json.dumps([told, used.ru_utime + used.ru_stime]))
 
 
 if __name__ == "__main__":

@@ -1,5 +1,5 @@
-"""Tries edits over kept work: each crate is proved once, and each of its edits is then checked over
-links to what that proof kept, so that what the edit does not turn is not checked again."""
+"""Tries edits over kept work: each crate is proved once, and its edits are then checked over links
+to what that proof kept, so that what they do not turn is not checked again."""
 import collections
 import functools
 import json
@@ -10,33 +10,35 @@ import tempfile
 import threading
 import time
 
-from gate import toolchain
+from gate import rounds, toolchain
 from gate.commands import fail, say
 from gate.repository import TOP, below, copy_to, crates
 
-# How long the proof of a crate and the check of an edit may take, in seconds.
+# How long the proof of a crate may take, and the check of each edit, in seconds.
 PROOF_LIMIT, EDIT_LIMIT = 7200, 900
 # What `rt` says of a refusal that says little of a contract.
 LITTLE = ("only because a proof file names what the edit took away",
           "only by a limit of the prover")
 PRINTING = threading.Lock()
-# What a step gave: whether it went well, what is to be said of it, and its processor seconds.
-Step = collections.namedtuple("Step", "well text seconds")
+# What a step gave: of each thing that it tried whether it went well and what is to be said of it,
+# and its processor seconds.
+Step = collections.namedtuple("Step", "told seconds")
 
 
-def try_edits(edits):
+def try_edits(edits, kept=True):
     """Tries edits of any crates, side by side as far as processors and memory allow, or as many at
-    once as RT_JOBS says. Counts the proof of each crate, each edit, and the check at the end that
-    the kept work is still that of the crate."""
+    once as RT_JOBS says, over what earlier checks in the repository kept or from nothing. Counts
+    the proof of each crate, each edit, and the check at the end that the kept work is still that
+    of the crate."""
     rt = toolchain.load()
     if rt is None:
         return fail("the command rt is not found; README.md tells of the toolchain")
     began = time.monotonic()
     with tempfile.TemporaryDirectory(prefix="ocfl-scrub-edits-") as folder:
-        copy_to(folder, below({edit.crate for edit in edits}), kept=True)
+        copy_to(folder, below({edit.crate for edit in edits}), kept=kept)
         given = rt.in_lanes(tasks_of(rt, folder, edits))
     tell(given, time.monotonic() - began)
-    wells = [step.well for key, step in given.items() if key[1] != "library"]
+    wells = [well for key, step in given.items() if key[1] != "library" for well, _ in step.told]
     return wells.count(True), wells.count(False)
 
 
@@ -49,18 +51,21 @@ def tasks_of(rt, folder, edits):
     for name in below(chosen):
         lines, memory = made[name].count(rb"\n"), rt.need(made[name])
 
-        def add(kind, waits, work, edit=None):
-            key = name, kind, edit
+        def add(kind, waits, work, *tried):
+            key = name, kind, tried
             call = functools.partial(step, folder, key, waits)
             tasks[key] = waits, work, memory, call
             return key
 
-        waits = [(it.name, "library", None) for it in made[name].below()]
+        waits = [(it.name, "library", ()) for it in made[name].below()]
         if name in lower:
             waits = [add("library", waits, lines)]
         if name in chosen:
             proof = add("proof", waits, lines)
-            tried = [add("edit", [proof], lines // 10, it) for it in edits if it.crate == name]
+            shared, alone = rounds.share(name, [it for it in edits if it.crate == name])
+            tried = [add("edits", [proof], len(it) * lines // 20, *(turn.edit for turn in it))
+                     for it in shared]
+            tried += [add("edits", [proof], lines // 10, it) for it in alone]
             add("end", tried, lines // 10)
     return tasks
 
@@ -68,33 +73,39 @@ def tasks_of(rt, folder, edits):
 def step(folder, key, waits, given, jobs):
     """Takes one step in a process of its own, once those that it waits for went well, and says how
     it went; the check at the end is made whatever the edits gave."""
-    crate, kind, edit = key
-    name = "%s %s" % (crate, edit.path if edit else kind)
-    if kind != "end" and not all(given[it].well for it in waits):
-        return told(name, Step(False, "not tried, since a step before it failed", 0))
-    words = [folder, crate, kind, edit.file if edit else "", str(jobs)]
-    command = [sys.executable, "-B", "-m", "gate.step", *words]
-    limit = EDIT_LIMIT if edit else PROOF_LIMIT
+    crate, kind, edits = key
+    if kind != "end" and not all(well for it in waits for well, _ in given[it].told):
+        return said(key, not_tried(key, "not tried, since a step before it failed"))
+    files = [edit.file for edit in edits]
+    command = [sys.executable, "-B", "-m", "gate.step", folder, crate, kind, str(jobs), *files]
+    limit = EDIT_LIMIT * len(edits) or PROOF_LIMIT
     how = {"cwd": TOP, "stdin": subprocess.DEVNULL, "stdout": subprocess.PIPE, "text": True}
     how["env"] = {**os.environ, "TMPDIR": folder}
-    began = time.monotonic()
     try:
         ran = subprocess.run(command, timeout=limit, **how)
         result = Step(*json.loads(ran.stdout.splitlines()[-1]))
     except subprocess.TimeoutExpired:
-        result = Step(False, "no verdict after %d seconds" % limit, time.monotonic() - began)
+        result = not_tried(key, "no verdict after %d seconds" % limit)
     except (IndexError, ValueError, TypeError):
-        result = Step(False, "no verdict: its process ended with %s" % ran.returncode, 0)
-    return told(name, result)
+        result = not_tried(key, "no verdict: its process ended with %s" % ran.returncode)
+    return said(key, result)
 
 
-def told(name, result):
+def not_tried(key, why):
+    return Step([(False, why)] * (len(key[2]) or 1), 0)
+
+
+def said(key, result):
+    """Says how each thing went that a step tried, and what the step took."""
+    crate, kind, edits = key
+    names = [edit.path for edit in edits] or [kind]
+    took = "" if len(names) > 1 else " (%d s)" % result.seconds
     with PRINTING:
-        text = "%s (%d s): %s" % (name, result.seconds, result.text)
-        if result.well:
-            say(text)
-        else:
-            fail("FAILED " + text)
+        for name, (well, text) in zip(names, result.told):
+            text = "%s %s%s: %s" % (crate, name, took, text)
+            say(text) if well else fail("FAILED " + text)
+        if not took:
+            say("%s: these %d edits took %d s together" % (crate, len(names), result.seconds))
     return result
 
 
@@ -102,15 +113,15 @@ def tell(given, seconds):
     """Says how many edits of each crate were refused, and what that took."""
     for crate in crates():
         own = {key: step for key, step in given.items() if key[0] == crate}
-        tried = [step for key, step in own.items() if key[1] == "edit"]
+        tried = [step for key, step in own.items() if key[1] == "edits"]
         minutes = [sum(step.seconds for step in steps) / 60
                    for steps in (tried, [step for step in own.values() if step not in tried])]
         if tried:
-            refused = sum(step.well for step in tried)
+            wells = [well for step in tried for well, _ in step.told]
             say("%s: %d of %d edits refused in %.1f processor minutes, and %.1f of proofs"
-                % (crate, refused, len(tried), *minutes))
+                % (crate, sum(wells), len(wells), *minutes))
     for why in LITTLE:
-        little = sum(why in step.text for step in given.values())
+        little = sum(why in text for step in given.values() for _, text in step.told)
         if little:
             say("%d edits were refused %s" % (little, why))
     say("the edits took %.1f minutes" % (seconds / 60))

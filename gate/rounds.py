@@ -1,0 +1,130 @@
+"""Edits that are tried together.
+
+The callers of a function know it by its contract alone. So an edit in its body is refused where
+that function is checked and nowhere else, and edits of several functions that do not call one
+another can be tried in one check: each must be refused at its own function. Any other edit is
+tried alone, and so is one that its round did not refuse."""
+import collections
+import os
+import re
+
+from gate import functions
+from gate.repository import folder_of
+
+# The most edits of one round, so that rounds can be shared among processors.
+MOST = 16
+# A change: its file, where it begins and ends there, and what then stands there.
+Change = collections.namedtuple("Change", "file begin end new")
+# An edit of one function's body: the function as it is and as the edit makes it, and the changes.
+Turn = collections.namedtuple("Turn", "edit function turned changes")
+
+
+def share(crate, edits):
+    """Shares out the edits of a crate: the rounds, and those that must be tried alone."""
+    known = functions.functions_of(crate)
+    rounds, alone = [], []
+    for edit in edits:
+        turn = turn_of(crate, edit, known)
+        if turn is None:
+            alone.append(edit)
+            continue
+        fitting = (it for it in rounds if len(it) < MOST and all(apart(turn, at) for at in it))
+        found = next(fitting, None)
+        if found is None:
+            rounds.append(found := [])
+        found.append(turn)
+    alone += [it[0].edit for it in rounds if len(it) == 1]
+    return [it for it in rounds if len(it) > 1], alone
+
+
+def turn_of(crate, edit, known):
+    """What an edit makes of the one function in whose body it stands, or nothing."""
+    changes = changes_of(crate, edit)
+    if not changes:
+        return None
+    at = {it for change in changes for it in known if holds(it, change)}
+    if len(at) != 1 or "Model" in (function := at.pop()).name:
+        return None
+    body, begin = function.body, function.end - len(function.body)
+    if not all(holds(function, it) for it in changes):
+        return None
+    for change in sorted(changes, key=lambda it: -it.begin):
+        body = body[:change.begin - begin] + change.new + body[change.end - begin:]
+    return Turn(edit, function, function._replace(body=body), changes)
+
+
+def holds(function, change):
+    """Whether a change stands in the body of a function."""
+    begin = function.end - len(function.body)
+    return function.file == change.file and begin <= change.begin and change.end <= function.end
+
+
+def changes_of(crate, edit):
+    """The changes of an edit, or none where one does not fit the source as it is."""
+    found, file, old = [], "", ""
+    with open(edit.file) as it:
+        lines = it.read().split("\n")
+    for line in lines:
+        if line.startswith("file: "):
+            file = line[len("file: "):].strip()
+        elif line.startswith("old: "):
+            old = line[len("old: "):]
+        elif line.startswith("new:"):
+            new = line[len("new:"):].removeprefix(" ")
+            text = text_of(crate, file)
+            if not file.startswith("src/") or text.count(old) != 1:
+                return []
+            begin = text.index(old)
+            found.append(Change(file, begin, begin + len(old), new))
+    found.sort(key=lambda it: (it.file, it.begin))
+    after = zip(found, found[1:])
+    return [] if any(a.file == b.file and b.begin < a.end for a, b in after) else found
+
+
+def text_of(crate, file):
+    try:
+        with open(os.path.join(folder_of(crate), file)) as it:
+            return it.read()
+    except OSError:
+        return ""
+
+
+def apart(one, other):
+    """Whether two edits turn different functions, of which neither calls the other."""
+    if one.function == other.function:
+        return False
+    bodies = [(one.function, other.function), (one.turned, other.function),
+              (other.function, one.function), (other.turned, one.function)]
+    return not any(functions.calls(caller, callee) for caller, callee in bodies)
+
+
+def texts_of(crate, turns):
+    """The sources with all changes of a round, by their names."""
+    texts = {}
+    changes = [change for turn in turns for change in turn.changes]
+    for change in sorted(changes, key=lambda it: -it.begin):
+        text = texts.get(change.file) or text_of(crate, change.file)
+        texts[change.file] = text[:change.begin] + change.new + text[change.end:]
+    return texts
+
+
+def is_at(crate, function, line, known):
+    """Whether a line of the prover stands at a function: in its source, or in its own proof."""
+    place = re.match(r"(?:note: )?(?:\./)?(\S+?):(\d+):\d+: ", line)
+    if not place:
+        return False
+    file, number = place[1], int(place[2])
+    if file == function.file:
+        text = text_of(crate, file)
+        first, last = (text.count("\n", 0, at) + 1 for at in (function.begin, function.end))
+        return first <= number <= last
+    return [it for it in known if os.path.dirname(file) in folders_of(it)] == [function]
+
+
+def folders_of(function):
+    """The folders that may hold a function's own proof."""
+    module = os.path.splitext(function.file)[0].removeprefix("src/")
+    name = re.match(r"<(\w+) as ([\w:]+)", function.name)
+    owner = name[1] + name[2].rsplit("::", 1)[-1] if name else function.owner
+    short = function.name.rsplit("::", 1)[-1]
+    return [os.path.normpath(os.path.join("proofs", top, owner, short)) for top in (module, "")]

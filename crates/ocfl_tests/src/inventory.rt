@@ -31,29 +31,17 @@ fn lines(alloc: Global, bytes: &[u8]) -> Result<(String, bool), Fail> {
     Ok((text, table.is_some()))
 }
 
-fn stops(
-    rt: &impl Abort,
+/// What a reading of these bytes says, and whether it goes on to a table.
+fn expect(
+    rt: &(impl Abort + AllocGlobal),
     row: &str,
-    alloc: Global,
     bytes: &[u8],
     wanted: &str,
+    goes_on: bool,
 ) -> Result<(), Fail> {
-    let (text, table) = lines(alloc, bytes)?;
+    let (text, table) = lines(rt.alloc(), bytes)?;
     assert_eq!(rt; text.as_str(), wanted, "{row}");
-    assert!(rt; !table, "{row}: a table");
-    Ok(())
-}
-
-fn goes_on(
-    rt: &impl Abort,
-    row: &str,
-    alloc: Global,
-    bytes: &[u8],
-    wanted: &str,
-) -> Result<(), Fail> {
-    let (text, table) = lines(alloc, bytes)?;
-    assert_eq!(rt; text.as_str(), wanted, "{row}");
-    assert!(rt; table, "{row}: no table");
+    assert_eq!(rt; table, goes_on, "{row}: a table");
     Ok(())
 }
 
@@ -68,9 +56,9 @@ fn nested(alloc: Global, arrays: usize) -> Result<String, Fail> {
 #[test]
 fn inventories_nest_to_127(rt: HostRuntime) -> Result<(), Fail> {
     let alloc = rt.alloc();
-    goes_on(&rt, "126 arrays", alloc, nested(alloc, 126)?.as_bytes(), "")?;
+    expect(&rt, "126 arrays", nested(alloc, 126)?.as_bytes(), "", true)?;
     let bytes = nested(alloc, 127)?;
-    stops(&rt, "127 arrays", alloc, bytes.as_bytes(), "E033 -\n")
+    expect(&rt, "127 arrays", bytes.as_bytes(), "E033 -\n", false)
 }
 
 /// Inventories, each with the line that stops.
@@ -164,16 +152,10 @@ const STOPS: [(&str, &str, &str); 22] = [
 #[test]
 fn inventories_that_stop(rt: HostRuntime) -> Result<(), Fail> {
     for (row, text, wanted) in STOPS {
-        stops(&rt, row, rt.alloc(), text.as_bytes(), wanted)?;
+        expect(&rt, row, text.as_bytes(), wanted, false)?;
     }
     let bytes = b"{\"a\":\"\xFF\"}";
-    stops(
-        &rt,
-        "a byte that is not UTF-8",
-        rt.alloc(),
-        bytes,
-        "E033 -\n",
-    )
+    expect(&rt, "a byte that is not UTF-8", bytes, "E033 -\n", false)
 }
 
 /// Manifests, each with what follows the manifest and the lines.
@@ -269,7 +251,7 @@ fn lines_that_do_not_stop(rt: HostRuntime) -> Result<(), Fail> {
     let alloc = rt.alloc();
     for (row, manifest, further, wanted) in GO_ON {
         let text = inventory(alloc, manifest, further)?;
-        goes_on(&rt, row, alloc, text.as_bytes(), wanted)?;
+        expect(&rt, row, text.as_bytes(), wanted, true)?;
     }
     Ok(())
 }
@@ -292,11 +274,11 @@ fn listed_paths_have_limits(rt: HostRuntime) -> Result<(), Fail> {
         } else {
             format!(in alloc; "S06 {path}\n")?
         };
-        goes_on(&rt, row, alloc, text.as_bytes(), wanted.as_str())?;
+        expect(&rt, row, text.as_bytes(), wanted.as_str(), true)?;
     }
     let text = inventory(alloc, "{\"a\":[\"v1/content/\\u0000\"]}", "")?;
     let wanted = "S06 v1/content/\0\n";
-    goes_on(&rt, "a NUL", alloc, text.as_bytes(), wanted)
+    expect(&rt, "a NUL", text.as_bytes(), wanted, true)
 }
 
 /// The texts of the numbers from 100 to 399, each between these two, with commas.
@@ -327,7 +309,7 @@ fn three_hundred_members_algorithms_and_keys(rt: HostRuntime) -> Result<(), Fail
         ("keys", keys.as_str(), "", ""),
     ] {
         let text = inventory(alloc, manifest, further)?;
-        goes_on(&rt, row, alloc, text.as_bytes(), wanted)?;
+        expect(&rt, row, text.as_bytes(), wanted, true)?;
         assert!(rt;
             read_inventory(alloc, text.as_bytes())?.table.is_some(),
             "{row}"
@@ -375,7 +357,7 @@ fn three_hundred_paths_and_three_hundred_digests(rt: HostRuntime) -> Result<(), 
     }
     let further = format!(in alloc; ",\"fixity\":{{\"md5\":{{{digests}}}}}")?;
     let text = inventory(alloc, manifest.as_str(), further.as_str())?;
-    goes_on(&rt, "paths and digests", alloc, text.as_bytes(), "")?;
+    expect(&rt, "paths and digests", text.as_bytes(), "", true)?;
     names_three_hundred(&rt, alloc, Table::read(alloc, text.as_bytes())?.1)?;
     names_three_hundred(&rt, alloc, read_inventory(alloc, text.as_bytes())?.table)
 }
@@ -452,13 +434,8 @@ fn paths_that_share_long_beginnings_conflict_by_elements(rt: HostRuntime) -> Res
     )?;
     let text = inventory(alloc, manifest.as_str(), "")?;
     let wanted = format!(in alloc; "E101 v1/content{deep}/a\nE101 v1/content{deep}/a-b\n")?;
-    goes_on(
-        &rt,
-        "long beginnings",
-        alloc,
-        text.as_bytes(),
-        wanted.as_str(),
-    )
+    let (row, bytes) = ("long beginnings", text.as_bytes());
+    expect(&rt, row, bytes, wanted.as_str(), true)
 }
 
 #[test]

@@ -74,6 +74,11 @@ pub fn times_opened(alloc: Global, store: &MemTree, path: &str) -> Result<usize,
     Ok(openings.filter(|opening| opening.place == place).count())
 }
 
+/// Whether no directory was listed and no file opened.
+pub fn was_not_called(store: &MemTree) -> bool {
+    store.openings().is_empty() && store.listings().is_empty()
+}
+
 /// The paths of the listings but for the first ones, oldest first, each with a semicolon behind it.
 pub fn listed_from(alloc: Global, store: &MemTree, first: usize) -> Result<String, Fail> {
     let mut text = String::new(alloc);

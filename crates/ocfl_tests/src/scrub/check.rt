@@ -4,7 +4,7 @@ use crate::common::digests::with_digests;
 use crate::common::object::{FILE, inventory, long_sidecar, object_with};
 use crate::common::output::Narrow;
 use crate::common::roots::{right_object, under_four_algorithms};
-use crate::common::store::{change, place_of, times_opened};
+use crate::common::store::{change, place_of, times_opened, was_not_called};
 use ocfl_digest::Block;
 use ocfl_folder::FsTree;
 use ocfl_scrub::checked;
@@ -285,7 +285,7 @@ fn bad_paths(rt: HostRuntime) -> Result<(), Fail> {
     ] {
         expect(&rt, row, &mut store, path, "", 2, "bad path")?;
     }
-    assert!(rt; store.listings().is_empty() && store.openings().is_empty());
+    assert!(rt; was_not_called(&store));
     Ok(())
 }
 

@@ -6,7 +6,7 @@ use super::run_figures::{
 use crate::common::object::{bare_root, object_listing};
 use crate::common::output::Narrow;
 use crate::common::roots::{long_object, right_objects, three_files};
-use crate::common::store::{opened_from, place_of, put, times_opened};
+use crate::common::store::{opened_from, place_of, put, times_opened, was_not_called};
 use ocfl_cursor::Limits;
 use ocfl_digest::Block;
 use ocfl_scrub::{CycleEnd, cycle};
@@ -28,7 +28,7 @@ fn no_limits(rt: HostRuntime) -> Result<(), Fail> {
     let mut store = three_files(rt.alloc())?;
     let said = "runs 0 spent 0 files 0 clean, open; cycle 1 runs 0 spent 0 files 0 start";
     expect_cycle(&rt, "no limits", &mut store, &[], &[], said)?;
-    assert!(rt; store.openings().is_empty() && store.listings().is_empty());
+    assert!(rt; was_not_called(&store));
     Ok(())
 }
 

@@ -4,7 +4,7 @@ use super::run_figures::{A, B, C, MOST, limits};
 use super::stop::stopping;
 use crate::common::digests::lines_of;
 use crate::common::roots::{right_objects, three_files};
-use crate::common::store::place_of;
+use crate::common::store::{place_of, was_not_called};
 use ocfl_cursor::PartEnds;
 use ocfl_deed::Deed;
 use ocfl_digest::Block;
@@ -264,8 +264,7 @@ fn expect_refused(
     let wanted = ("", 4, note);
     let stored = expect(rt, row, &mut store, &run_of(9)?, scope, Some(file), wanted)?;
     assert!(rt; stored.is_none(), "{row}");
-    let is_silent = store.openings().is_empty() && store.listings().is_empty();
-    assert!(rt; is_silent, "{row}");
+    assert!(rt; was_not_called(&store), "{row}");
     Ok(())
 }
 

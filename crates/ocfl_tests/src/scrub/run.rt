@@ -7,7 +7,9 @@ use super::run_figures::{
 use crate::common::object::{bare_root, object_listing};
 use crate::common::output::Narrow;
 use crate::common::roots::{missing_and_there, right_object, right_objects, three_files};
-use crate::common::store::{change, listed_from, opened_from, place_of, put, times_opened};
+use crate::common::store::{
+    change, listed_from, opened_from, place_of, put, times_opened, was_not_called,
+};
 use ocfl_cursor::{Cursor, State};
 use ocfl_digest::Block;
 use ocfl_scrub::run;
@@ -304,7 +306,7 @@ fn is_worn(rt: &(impl Abort + AllocGlobal), cursor: Cursor, says: &str) -> Resul
     let said = format!(in alloc; "spent 0 files 0 clean, worn; {says}")?;
     assert_eq!(rt; run_says(alloc, &end)?.as_str(), said.as_str());
     assert_eq!(rt; store.failures(), 0);
-    assert!(rt; store.openings().is_empty() && store.listings().is_empty());
+    assert!(rt; was_not_called(&store));
     assert!(rt; out.kept.is_empty());
     Ok(())
 }

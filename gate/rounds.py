@@ -108,17 +108,30 @@ def texts_of(crate, turns):
     return texts
 
 
-def is_at(crate, function, line, known):
-    """Whether a line of the prover stands at a function: in its source, or in its own proof."""
-    place = re.match(r"(?:note: )?(?:\./)?(\S+?):(\d+):\d+: ", line)
-    if not place:
-        return False
-    file, number = place[1], int(place[2])
-    if file == function.file:
-        text = text_of(crate, file)
-        first, last = (text.count("\n", 0, at) + 1 for at in (function.begin, function.end))
-        return first <= number <= last
-    return [it for it in known if os.path.dirname(file) in folders_of(it)] == [function]
+def by_function(crate, lines, known):
+    """The lines of the prover by the function at which each stands: in its source, or in its own
+    proof. A line that several functions may have is none of theirs."""
+    spans = {it: span_of(crate, it) for it in known}
+    proofs, found = collections.defaultdict(list), collections.defaultdict(list)
+    for function in known:
+        for folder in folders_of(function):
+            proofs[folder].append(function)
+    for line in lines:
+        place = re.match(r"(?:note: )?(?:\./)?(\S+?):(\d+):\d+: ", line)
+        if not place:
+            continue
+        file, number = place[1], int(place[2])
+        at = proofs.get(os.path.dirname(file)) or [
+            it for it in known if it.file == file and spans[it][0] <= number <= spans[it][1]]
+        if len(at) == 1:
+            found[at[0]].append(line)
+    return found
+
+
+def span_of(crate, function):
+    """The lines of a function's source, first and last."""
+    text = text_of(crate, function.file)
+    return tuple(text.count("\n", 0, at) + 1 for at in (function.begin, function.end))
 
 
 def folders_of(function):

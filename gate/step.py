@@ -15,8 +15,9 @@ import tempfile
 from gate import collection, functions, rounds, toolchain
 
 KEPT = "out/incremental"
-# What says no more than that a proof names what is gone, or cites such a proof.
-NAMES = re.compile(r"(note: )?(\./)?proofs/.*(has no field|is not in scope|has no `|was not admitted)")
+# What says no more than that a proof names what is gone, or rests on another that failed.
+NAMES = re.compile(r"(note: )?(\./)?proofs/.*(has no field|is not in scope|has no `)"
+                   r"|.*(was|is) not admitted")
 
 
 def library(rt, crate, jobs):
@@ -57,7 +58,8 @@ def together(rt, crate, files):
     with over(crate) as kept:
         ran = rt.checked(crate, rounds.texts_of(crate.name, turns), ["--jobs", "1"], kept)
     lines = ran.stdout.rstrip("\n").split("\n")
-    found = {turn.edit.file: refusal(crate.name, turn, lines, known) for turn in turns}
+    told = rounds.by_function(crate.name, lines, known)
+    found = {turn.edit.file: refusal(told[turn.function]) for turn in turns}
     if not is_told(rt, ran, lines, {turn.function.file for turn in turns}):
         found = {}
     return [(True, "refused: " + found[file][:160]) if found.get(file) else alone(rt, crate, file)
@@ -71,9 +73,8 @@ def is_told(rt, ran, lines, changed):
             and not rt.rtlib.STALE.search(ran.stdout))
 
 
-def refusal(crate, turn, lines, known):
-    """What refuses an edit at its own function, or nothing."""
-    told = (line for line in lines if rounds.is_at(crate, turn.function, line, known))
+def refusal(told):
+    """What of the lines at its function refuses an edit, or nothing."""
     return next((line for line in told if not NAMES.match(line)), "")
 
 

@@ -24,7 +24,7 @@ const UNITS: &[(&str, u64)] = &[
     ("TB", 1000000000000),
 ];
 
-/// What a unit of this table multiplies by. `None` where the text is none of them.
+/// What a unit of this table multiplies by, and `None` for any other text.
 fn find_unit(units: &[(&str, u64)], text: &str) -> Option<u64>
     ensures { result ≡ beside (map (λ row. (row.0.now, row.1)) units.now) text.now }
 {

@@ -130,11 +130,8 @@ fn refuses_half_a_part(rt: HostRuntime) -> Result<(), Fail> {
         let wanted = format!(in rt.alloc();
             "error: {why}\n\nUsage: ocfl-scrub {usage}\n\nFor more information, try '--help'.\n"
         )?;
-        assert_eq!(rt;
-            usage_text(rt.alloc(), line)?.as_str(),
-            wanted.as_str(),
-            "{name}"
-        );
+        let shown = usage_text(rt.alloc(), line)?;
+        assert_eq!(rt; shown.as_str(), wanted.as_str(), "{name}");
     }
     Ok(())
 }

@@ -196,11 +196,8 @@ fn says_what_a_size_is(rt: HostRuntime) -> Result<(), Fail> {
              K, M, G, T, KiB, MiB, GiB or TiB (powers of 1024), or kB, MB, GB or TB (powers of \
              1000)\n\nUsage: ocfl-scrub {usage}\n\nFor more information, try '--help'.\n"
         )?;
-        assert_eq!(rt;
-            usage_text(alloc, line)?.as_str(),
-            wanted.as_str(),
-            "{line}"
-        );
+        let shown = usage_text(alloc, line)?;
+        assert_eq!(rt; shown.as_str(), wanted.as_str(), "{line}");
     }
     Ok(())
 }

@@ -9,7 +9,8 @@ use Rattle.ocfl_tree.specs.Place.{Place, place_cmp, place_eq}
 use Rattle.ocfl_tree.specs.Ascending.{IsAscending, IsAmong}
 use Rattle.ocfl_tree.specs.StorageRoot.{StorageRoot}
 use Rattle.ocfl_tree.proofs.Orders.{place_cmp_exact, true_not_false, among_from_filter}
-use Rattle.ocfl_report.specs.Line.{Item, lines_at}
+use Rattle.ocfl_report.specs.Line.{Item}
+use Rattle.ocfl_inventory.specs.Note.{lines_at}
 use Rattle.ocfl_report.specs.Text.{lines_text, text}
 use Rattle.ocfl_audit.specs.Lines.{notes, cost}
 use Rattle.ocfl_audit.specs.Audit.{Unread, given_by, item_of, audit, total_cost}

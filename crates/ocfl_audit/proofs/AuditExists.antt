@@ -7,12 +7,12 @@ use Rattle.std.specs.declared.cmp.Ordering.{Ordering}
 use Rattle.std.specs.declared.cmp.Ordering.TheVariants.{Less, Equal, Greater}
 use Rattle.ocfl_tree.specs.Place.{Place, Text, place_cmp, place_eq}
 use Rattle.ocfl_tree.specs.Ascending.{ascending, IsAscending, IsAmong}
-use Rattle.ocfl_tree.specs.StorageRoot.{StorageRoot, Leaf, file, dir, other, lookup, at_below, at, is_dir_leaf, files_in}
-use Rattle.ocfl_report.specs.Line.{Note, lines_at}
-use Rattle.ocfl_inventory.specs.Declaration.{undeclared, declared, is_declared}
+use Rattle.ocfl_tree.specs.StorageRoot.{StorageRoot, Leaf, file, dir, other, lookup, at_below, at, is_dir_leaf}
+use Rattle.ocfl_inventory.specs.Note.{Note, lines_at}
+use Rattle.ocfl_inventory.specs.Declaration.{undeclared, declared}
 use Rattle.ocfl_inventory.specs.Table.{Table, Triple, Named, named, paths_of}
 use Rattle.ocfl_inventory.specs.declared.declaration.Level.TheVariants.{Object}
-use Rattle.ocfl_audit.specs.Zone.{Zone, skipped, hierarchy, inside, object_zone, object_declared, zone, table_at, seen, max_listed_depth}
+use Rattle.ocfl_audit.specs.Zone.{Zone, skipped, hierarchy, inside, object_zone, object_declared, zone, table_at, seen, max_listed_depth, files_in, is_declared}
 use Rattle.ocfl_audit.specs.Audit.{Unread, item_of, has_lines, candidates, named_places, audit, given_by, IsAudit}
 use Rattle.ocfl_audit.specs.Lines.{is_empty, notes, notes_in, hierarchy_notes, missing_notes, within_notes, object_notes}
 use Rattle.ocfl_tree.proofs.Orders.{place_cmp_total, place_cmp_exact, true_not_false, among_map, among_left, among_right, among_ascending, among_filter, among_from_filter, ascends_filter, ascends_ascending}

@@ -5,7 +5,7 @@ use Rattle.std.proofs.lemmas.List.{length-append}
 use Rattle.std.specs.Prelude.{cond, flat_map, nat_le, nat_lt, not, is_some, ◌&&◌, ◌||◌}
 use Rattle.std.specs.List.{starts_with, ends_with, list_any, list_all}
 use Rattle.std.specs.Prelude.{nat_eq, codes}
-use Rattle.ocfl_tree.specs.Place.{Place, Text, beginnings, begins}
+use Rattle.ocfl_tree.specs.Place.{Place, Text, begins}
 use Rattle.std.specs.Ordering.{match_ordering}
 use Rattle.std.specs.declared.cmp.Ordering.{Ordering}
 use Rattle.std.specs.declared.cmp.Ordering.TheVariants.{Less, Equal, Greater}
@@ -17,7 +17,7 @@ use Rattle.ocfl_inventory.specs.Table.{Table, Triple, triple_cmp, triples_of, ta
 use Rattle.ocfl_inventory.specs.Reading.{Inventory, Block, Reading, inventory_of}
 use Rattle.ocfl_tree.specs.Path.{elements}
 use Rattle.ocfl_inventory.specs.ListedPath.{is_empty_or_dots, is_too_long_or_nul, is_content_path, is_kept}
-use Rattle.ocfl_audit.specs.Zone.{zone, table_at, inventory_at, inventory_limit, seen, is_entered, is_listed_zone, max_listed_depth}
+use Rattle.ocfl_audit.specs.Zone.{zone, table_at, inventory_at, inventory_limit, seen, is_entered, is_listed_zone, max_listed_depth, beginnings}
 use Rattle.ocfl_audit.specs.Lines.{notes}
 use Rattle.ocfl_audit.specs.Walk.{is_reached, IsClosed}
 use Rattle.ocfl_audit.specs.Stack.{Frame, listed_at}

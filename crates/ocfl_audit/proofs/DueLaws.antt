@@ -4,7 +4,8 @@ use Rattle.std.specs.Ordering.{is_lt}
 use Rattle.ocfl_tree.specs.Place.{Place, place_cmp}
 use Rattle.ocfl_tree.specs.Ascending.{ascending}
 use Rattle.ocfl_tree.specs.StorageRoot.{StorageRoot}
-use Rattle.ocfl_report.specs.Line.{Note, lines_at, Item}
+use Rattle.ocfl_report.specs.Line.{Item}
+use Rattle.ocfl_inventory.specs.Note.{Note, lines_at}
 use Rattle.ocfl_audit.specs.Audit.{Unread, candidates, given_by, item_of, has_lines, audit, after}
 use Rattle.ocfl_audit.specs.Lines.{notes, is_empty, cost}
 use Rattle.ocfl_audit.proofs.UnreadLaws.{notes_alike}

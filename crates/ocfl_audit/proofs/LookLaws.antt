@@ -3,11 +3,11 @@ use Rattle.std.proofs.Common.{◌≡◌, ◌≢◌, ◌↔◌, ◌⊎◌, inl, i
 use Rattle.std.proofs.lemmas.Bool.{le-leb}
 use Rattle.std.specs.Prelude.{cond, ◌&&◌, nat_le, length}
 use Rattle.std.specs.List.{list_all}
-use Rattle.ocfl_tree.specs.Place.{Place, Text, beginnings}
+use Rattle.ocfl_tree.specs.Place.{Place, Text}
 use Rattle.ocfl_tree.specs.StorageRoot.{StorageRoot, dir, at, is_dir, is_dir_leaf}
 use Rattle.ocfl_tree.proofs.Orders.{true_not_false}
 use Rattle.ocfl_inventory.specs.Table.{Table}
-use Rattle.ocfl_audit.specs.Zone.{Zone, skipped, hierarchy, inside, zone, seen, table_at, is_entered, is_listed_in_object}
+use Rattle.ocfl_audit.specs.Zone.{Zone, skipped, hierarchy, inside, zone, seen, table_at, is_entered, is_listed_in_object, beginnings}
 use Rattle.ocfl_audit.specs.Between.{shows_entries, is_looked_into}
 use Rattle.ocfl_audit.specs.Objects.{ShowsEntries, of_hierarchy, object_root, listed_in_object, IsLookedInto}
 use Rattle.ocfl_audit.proofs.AuditExists.{some_not_none, append_nothing, zone_is}

@@ -4,7 +4,7 @@ use Rattle.std.proofs.lemmas.List.{map-append}
 use Rattle.std.specs.Prelude.{cond, ◌||◌, ◌&&◌, not, nat_lt, length}
 use Rattle.ocfl_tree.specs.Place.{Place, Text, text_eq, place_eq}
 use Rattle.ocfl_tree.specs.StorageRoot.{StorageRoot, Leaf, file, dir, other, at, is_dir, is_dir_leaf, names_in}
-use Rattle.ocfl_report.specs.Line.{Note, plain}
+use Rattle.ocfl_inventory.specs.Note.{Note, plain}
 use Rattle.ocfl_report.specs.declared.code.Code.TheVariants.{E001, E015, S05}
 use Rattle.ocfl_inventory.specs.ListedPath.{is_version_name}
 use Rattle.ocfl_inventory.specs.Table.{Table}

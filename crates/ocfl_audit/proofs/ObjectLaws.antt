@@ -6,12 +6,12 @@ use Rattle.std.specs.declared.cmp.Ordering.{Ordering}
 use Rattle.std.specs.declared.cmp.Ordering.TheVariants.{Less, Equal, Greater}
 use Rattle.ocfl_tree.specs.Place.{Place, Text, place_cmp, text_cmp}
 use Rattle.ocfl_tree.specs.Ascending.{IsAmong, IsAscending, IsBeforeAll}
-use Rattle.ocfl_tree.specs.StorageRoot.{StorageRoot, dir, file_at, files_in, is_dir}
+use Rattle.ocfl_tree.specs.StorageRoot.{StorageRoot, dir, file_at, is_dir}
 use Rattle.ocfl_tree.proofs.Orders.{true_not_false, among_map}
-use Rattle.ocfl_inventory.specs.Declaration.{Declared, undeclared, known, unknown, several, is_declaration, declared_by, is_known, is_declared}
+use Rattle.ocfl_inventory.specs.Declaration.{Declared, undeclared, known, unknown, several, is_declaration, declared_by}
 use Rattle.ocfl_inventory.specs.declared.declaration.Level.TheVariants.{Object}
 use Rattle.ocfl_inventory.specs.declared.declaration.Version.{Version}
-use Rattle.ocfl_audit.specs.Zone.{skipped, hierarchy, inside, zone, object_zone, seen, root_declared, object_declared, is_in_extensions, inventory_name, max_listed_depth}
+use Rattle.ocfl_audit.specs.Zone.{skipped, hierarchy, inside, zone, object_zone, seen, root_declared, object_declared, is_in_extensions, inventory_name, max_listed_depth, files_in, is_known, is_declared}
 use Rattle.ocfl_audit.specs.Trail.{is_head, reads_inventory, inventories}
 use Rattle.ocfl_audit.specs.Between.{IsBeyond, IsWithin, is_looked_into, looked_between, read_between}
 use Rattle.ocfl_audit.specs.Objects.{IsObjectRoot, HasInventory}

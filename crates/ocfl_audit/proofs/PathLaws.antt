@@ -7,7 +7,7 @@ use Rattle.std.specs.declared.cmp.Ordering.TheVariants.{Less, Equal, Greater}
 use Rattle.ocfl_tree.specs.Place.{Place, Text, place_eq}
 use Rattle.ocfl_tree.specs.Ascending.{insert_once, ascending, IsAmong}
 use Rattle.ocfl_tree.specs.StorageRoot.{StorageRoot, Leaf, file, dir, other}
-use Rattle.ocfl_report.specs.Line.{note}
+use Rattle.ocfl_inventory.specs.Note.{note}
 use Rattle.ocfl_digest.specs.Algorithm.{algorithm_name}
 use Rattle.ocfl_inventory.specs.Table.{Table, Triple, Named, named, paths_of}
 use Rattle.ocfl_inventory.specs.ListedPath.{is_content_path}

@@ -5,11 +5,11 @@ use Rattle.std.specs.List.{cons_option, list_all}
 use Rattle.std.specs.Ordering.{is_lt}
 use Rattle.std.specs.declared.cmp.Ordering.{Ordering}
 use Rattle.std.specs.declared.cmp.Ordering.TheVariants.{Less, Equal, Greater}
-use Rattle.ocfl_tree.specs.Place.{Place, Text, text_cmp, text_eq, place_cmp, place_eq, beginnings, child_name}
+use Rattle.ocfl_tree.specs.Place.{Place, Text, text_cmp, text_eq, place_cmp, place_eq, child_name}
 use Rattle.ocfl_tree.specs.Ascending.{IsAscending, IsAmong}
 use Rattle.ocfl_tree.specs.StorageRoot.{StorageRoot, Leaf, lookup, at, is_dir, is_dir_leaf, names_in}
 use Rattle.ocfl_inventory.specs.Table.{Table, paths_of}
-use Rattle.ocfl_audit.specs.Zone.{hierarchy, inside, zone, table_at, seen, is_entered, is_listed_zone, max_listed_depth}
+use Rattle.ocfl_audit.specs.Zone.{hierarchy, inside, zone, table_at, seen, is_entered, is_listed_zone, max_listed_depth, beginnings}
 use Rattle.ocfl_audit.specs.Walk.{is_reached, seen_names, IsClosed}
 use Rattle.ocfl_audit.specs.Stack.{Frame, seen_places, seen_in, seen_left, listed_at, NoneSeenBetween, NoPathBetween, NoneSeenAbove, NoPathAbove, IsStack, IsNextPath}
 use Rattle.ocfl_tree.proofs.Orders.{ascending_unique, ascends_ascending, place_cmp_total, place_cmp_exact, true_not_false, not_below_itself, not_both_below, below_from_greater, before_each, among_ascending, among_filter, among_from_filter, ascends_filter}

@@ -4,13 +4,13 @@ use Rattle.std.proofs.lemmas.Bool.{leb-true, le-leb}
 use Rattle.std.proofs.lemmas.List.{length-append}
 use Rattle.std.specs.Prelude.{cond, ◌&&◌, ◌||◌, not, nat_le, filter_map, if◌then◌else◌}
 use Rattle.std.specs.List.{list_all, cons_option}
-use Rattle.ocfl_tree.specs.Place.{Place, Text, beginnings, child_name}
+use Rattle.ocfl_tree.specs.Place.{Place, Text, child_name}
 use Rattle.ocfl_tree.specs.Ascending.{IsAmong}
-use Rattle.ocfl_tree.specs.StorageRoot.{StorageRoot, Leaf, file, dir, other, lookup, at_below, at, is_dir, is_dir_leaf, names_in, files_in}
-use Rattle.ocfl_inventory.specs.Declaration.{undeclared, declared, is_declared, is_known}
+use Rattle.ocfl_tree.specs.StorageRoot.{StorageRoot, Leaf, file, dir, other, lookup, at_below, at, is_dir, is_dir_leaf, names_in}
+use Rattle.ocfl_inventory.specs.Declaration.{undeclared, declared}
 use Rattle.ocfl_inventory.specs.Table.{Table, paths_of}
 use Rattle.ocfl_inventory.specs.declared.declaration.Level.TheVariants.{Object}
-use Rattle.ocfl_audit.specs.Zone.{Zone, skipped, hierarchy, inside, object_zone, object_declared, root_declared, is_in_extensions, zone, table_at, seen, max_listed_depth, is_entered, is_listed_zone}
+use Rattle.ocfl_audit.specs.Zone.{Zone, skipped, hierarchy, inside, object_zone, object_declared, root_declared, is_in_extensions, zone, table_at, seen, max_listed_depth, is_entered, is_listed_zone, beginnings, files_in, is_known, is_declared}
 use Rattle.ocfl_audit.specs.Lines.{notes, notes_in, hierarchy_notes, within_notes, object_notes}
 use Rattle.ocfl_audit.specs.Walk.{is_reached, seen_names, next_name, names_of_table, path_names_in, path_names, names_below, IsClosed, step_zone}
 use Rattle.ocfl_tree.proofs.Bools.{and_first, and_second, and_both}

@@ -5,7 +5,8 @@ use Rattle.std.specs.List.{AllByRecursion}
 use Rattle.ocfl_tree.specs.Place.{Place, place_cmp, place_eq}
 use Rattle.ocfl_tree.specs.Ascending.{ascending, IsAscending, IsAmong}
 use Rattle.ocfl_tree.specs.StorageRoot.{StorageRoot}
-use Rattle.ocfl_report.specs.Line.{Item, lines_at}
+use Rattle.ocfl_report.specs.Line.{Item}
+use Rattle.ocfl_inventory.specs.Note.{lines_at}
 use Rattle.ocfl_inventory.specs.Table.{Table, paths_of}
 use Rattle.ocfl_audit.specs.Zone.{table_at}
 use Rattle.ocfl_audit.specs.Lines.{is_empty, notes, cost}

@@ -2,11 +2,11 @@
 use Rattle.std.specs.Prelude.{◌≡◌, ◌≢◌, ◌≤◌, length, [], ◌∷◌, ◌++◌, true, false, Some, codes}
 use Rattle.ocfl_tree.specs.Place.{Text, Place}
 use Rattle.ocfl_tree.specs.StorageRoot.{StorageRoot, dir, file_at}
-use Rattle.ocfl_inventory.specs.Declaration.{known, is_known, is_declared, is_declaration}
+use Rattle.ocfl_inventory.specs.Declaration.{known, is_declaration}
 use Rattle.ocfl_inventory.specs.declared.declaration.Level.TheVariants.{Root, Object}
 use Rattle.ocfl_inventory.specs.declared.declaration.Version.{Version}
 use Rattle.ocfl_inventory.specs.Table.{Table}
-use Rattle.ocfl_audit.specs.Zone.{hierarchy, inside, zone, seen, table_at, is_listed_within, inventory_name, root_declared, object_declared, is_in_extensions}
+use Rattle.ocfl_audit.specs.Zone.{hierarchy, inside, zone, seen, table_at, is_listed_within, inventory_name, root_declared, object_declared, is_in_extensions, is_known, is_declared, max_listed_depth}
 
 -- an object's root: in a storage root of known version, outside its extensions, declared, and with no object above it
 pub record IsObjectRoot (root : StorageRoot) (o : Place) : Type 0 where
@@ -31,7 +31,7 @@ pub data ShowsEntries (root : StorageRoot) (d : Place) : Type 0 where
 -- a directory of at most 127 names that is seen, and whose entries are looked at
 pub record IsLookedInto (root : StorageRoot) (d : Place) : Type 0 where
   pub is_seen : seen root d ≡ Some dir
-  pub depth : length d ≤ 127
+  pub depth : length d ≤ max_listed_depth
   pub shows : ShowsEntries root d
 
 -- an inventory, or one of its sidecars

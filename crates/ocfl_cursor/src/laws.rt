@@ -6,7 +6,7 @@ ghost use Rattle.ocfl_cursor.specs.PartRefusal.{PartRefusedRightly};
 ghost use Rattle.ocfl_cursor.specs.Refusal.{IsTextOf, not_cursor};
 ghost use Rattle.ocfl_cursor.specs.Refused.{IsRefused};
 ghost use Rattle.ocfl_cursor.specs.Shown.{AreShown, IsOfNoBytes, UnshownRightly};
-ghost use Rattle.ocfl_cursor.specs.Stop.{PartStopsRightly};
+ghost use Rattle.ocfl_cursor.specs.Stop.{PartStopsRightly, max_part_text};
 ghost use Rattle.ocfl_cursor.specs.declared.ends.PartEnds.{PartEnds as ModelEnds};
 ghost use Rattle.ocfl_cursor.specs.declared.part_reading.PartCursorStop as part_stop;
 ghost use Rattle.ocfl_cursor.specs.declared.showing.ShowStop.{ShowStop as ModelShowStop};
@@ -64,7 +64,7 @@ pub fn parts_and_whole_are_apart()
 /// memory alone, unless they are more than are read.
 pub fn no_stored_part_is_refused()
     ensures { (b : List ℕ) (e : ModelEnds) (c : ModelCursor) → IsPartText e b c
-        → length b ≤ 67108864 → (why : part_stop.PartCursorStop) → PartStopsRightly e b why
+        → length b ≤ max_part_text → (why : part_stop.PartCursorStop) → PartStopsRightly e b why
         → (why ≡ PartCursorStop.Read) ⊎ (why ≡ PartCursorStop.Refused PartRefused.Memory) }
 {}
 

@@ -5,6 +5,7 @@ ghost use Rattle.ocfl_cursor.specs.Refused.{RefusedRightly};
 ghost use Rattle.ocfl_cursor.specs.Shown.{AreShown, AreWholeLines, IsShownFrom};
 ghost use Rattle.ocfl_cursor.specs.Shown.{PartUnshownRightly, UnshownRightly};
 ghost use Rattle.ocfl_cursor.specs.Internal.Part.{ArePartTextLines};
+ghost use Rattle.ocfl_cursor.specs.Stop.{max_part_text};
 
 use crate::decoding::decode;
 use crate::encoding::cursor_lines;
@@ -49,7 +50,7 @@ pub fn read_shown<R: Read>(alloc: Global, reader: &mut R) -> Result<Vec<u8>, Sho
 
 /// The lines that are shown of the cursor whose text the bytes are.
 fn shown_lines(alloc: Global, text: &[u8]) -> Result<Vec<u8>, ShowStop>
-    requires short { length text.now ≤ 67108864 }
+    requires short { length text.now ≤ max_part_text }
     ensures lines { IfOk result (λ lines. AreShown text.now lines.items) }
     ensures refused { IfErr result (λ stop. UnshownRightly text.now stop) }
 {

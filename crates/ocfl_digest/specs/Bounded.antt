@@ -10,6 +10,10 @@ use Rattle.ocfl_tree.specs.declared.store.Trouble.TheVariants.{Device, Absent, M
 use Rattle.ocfl_digest.specs.declared.bounded.Bounded.{Bounded}
 use Rattle.ocfl_digest.specs.declared.bounded.Bounded.TheVariants.{Whole, Over}
 
+-- as many bytes are read at once
+abbrev pub small_block : ℕ
+small_block = 4096
+
 -- what is given whole has at most limit bytes
 abbrev pub IsWithin : ℕ → Bounded → Type 0
 IsWithin limit (Whole v) = length v.items ≤ limit
@@ -27,7 +31,7 @@ pub record ReadsBounded (root : StorageRoot) (s t : Store) (p : Place) (limit : 
   pub is_bounded : IsBoundedTo limit bytes b
   pub did : Did s t (opening p (min (length bytes) (limit + 1)) false ∷ []) [] 0
   pub closed : t.rest ≡ None
-  pub largest : t.largest ≡ max s.largest (min 4096 (limit + 1))
+  pub largest : t.largest ≡ max s.largest (min small_block (limit + 1))
 
 -- the openings of a reading that stops
 abbrev pub IsStopTrail : Place → ℕ → Trouble → List Opening → Type 0
@@ -42,4 +46,4 @@ pub record StopsReading (root : StorageRoot) (s t : Store) (p : Place) (limit : 
   pub did : Did s t openings [] (failures_of trouble)
   pub absent : trouble ≡ Absent → file_at root p ≡ None
   pub closed : t.rest ≡ None
-  pub largest : t.largest ≤ max s.largest 4096
+  pub largest : t.largest ≤ max s.largest small_block

@@ -1,6 +1,7 @@
 //! The entries of a directory, and what was seen of its files.
 ghost use Rattle.std.specs.Prelude.{◌≤◌, IsTrue, IfOk, length};
 ghost use Rattle.ocfl_tree.specs.Listing.{AreApart, IsOrdinary};
+ghost use Rattle.ocfl_tree.specs.StorageRoot.{max_entries};
 
 use crate::looks::{Looks, Node};
 use ocfl_tree::{Entry, Kind, Trouble};
@@ -11,7 +12,7 @@ use std::alloc::Global;
 pub(crate) struct Listed {
     entries: Vec<Entry>,
     looks: Looks,
-    ghost few: { length entries.items ≤ 1000000 },
+    ghost few: { length entries.items ≤ max_entries },
 }
 
 /// Whether each name is below the next.

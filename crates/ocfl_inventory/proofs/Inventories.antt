@@ -22,7 +22,7 @@ use Rattle.ocfl_tree.specs.Place.{Text, Place, text_cmp, place_cmp, place_eq, be
 use Rattle.ocfl_tree.specs.Ascending.{ascending}
 use Rattle.ocfl_tree.proofs.Orders.{place_cmp_total, place_cmp_exact, ascending_unique, ascends_ascending, ascends_filter, among_ascending, among_filter, among_from_filter}
 use Rattle.ocfl_digest.specs.declared.algorithm.Algorithm.{Algorithm}
-use Rattle.ocfl_report.specs.Line.{Note, note}
+use Rattle.ocfl_inventory.specs.Note.{note, Note}
 use Rattle.ocfl_report.specs.declared.code.Code.{Code}
 use Rattle.ocfl_report.specs.declared.code.Code.TheVariants.{E096, E101, S07}
 use Rattle.ocfl_tree.specs.Path.{elements, slashed}

@@ -10,7 +10,7 @@ use Rattle.std.proofs.lemmas.List.{drop_all, append-nil}
 use Rattle.std.proofs.lemmas.List.Splits.{slice_split_none, slice_split_first, length-slice_split}
 use Rattle.std.proofs.lemmas.List.Sums.{fails_before_first}
 use Rattle.std.proofs.lemmas.Str.Pattern.{IsSplitOnceResult, split_once_first}
-use Rattle.ocfl_report.specs.Line.{Note}
+use Rattle.ocfl_inventory.specs.Note.{Note}
 use Rattle.ocfl_tree.specs.Place.{Text, Place, text_eq}
 use Rattle.ocfl_tree.specs.Path.{elements}
 use Rattle.ocfl_tree.proofs.PathOrders.{some_element, slash_is}

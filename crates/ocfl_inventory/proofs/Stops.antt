@@ -12,7 +12,7 @@ use Rattle.std.proofs.lemmas.Map.Text.{is_eq-slice_cmp}
 use Rattle.std.specs.Str.{bytes_eq}
 use Rattle.ocfl_tree.specs.Place.{Text, text_eq}
 use Rattle.ocfl_digest.specs.declared.algorithm.Algorithm.TheVariants.{Sha256, Sha512}
-use Rattle.ocfl_report.specs.Line.{Note, note, plain}
+use Rattle.ocfl_inventory.specs.Note.{note, Note, plain}
 use Rattle.ocfl_inventory.specs.Reading.{Reading, or_stop, object_of, digest_algorithm, content_named}
 use Rattle.ocfl_report.specs.declared.code.Code.TheVariants.{E033, E025, E017, E018}
 use Rattle.std.specs.Prelude.{codes, length, ◌==◌, ◌||◌}

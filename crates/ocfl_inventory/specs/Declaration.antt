@@ -54,15 +54,3 @@ declaration_name level v = prefix level ++ version_text v
 -- its exact bytes: the name after `0=`, and a line feed
 abbrev pub declaration_bytes : Level → Version → Text
 declaration_bytes level v = drop 2 (declaration_name level v) ++ 10 ∷ []
-
-abbrev pub is_known : Declared → Bool
-is_known undeclared = false
-is_known (known v) = true
-is_known (unknown t) = false
-is_known several = false
-
-abbrev pub is_declared : Declared → Bool
-is_declared undeclared = false
-is_declared (known v) = true
-is_declared (unknown t) = true
-is_declared several = true

@@ -8,5 +8,6 @@ pub mod Table
 pub mod TripleView
 pub mod NextPath
 pub mod Notes
+pub mod Note
 pub mod Remark
 pub mod Internal

@@ -3,7 +3,7 @@ use Rattle.std.specs.Prelude.{nat_le, List, [], ◌∷◌, ◌++◌, Bool, Optio
 use Rattle.std.specs.declared.cmp.Ordering.{Ordering}
 use Rattle.ocfl_tree.specs.Place.{Text, Place, text_cmp, text_eq, place_cmp, begins}
 use Rattle.ocfl_tree.specs.Ascending.{ascending}
-use Rattle.ocfl_report.specs.Line.{Note, note}
+use Rattle.ocfl_inventory.specs.Note.{note, Note}
 use Rattle.ocfl_report.specs.declared.code.Code.TheVariants.{E096, E097, E101, S07}
 use Rattle.ocfl_digest.specs.Algorithm.{algorithm_name}
 use Rattle.ocfl_digest.specs.declared.algorithm.Algorithm.{Algorithm}

@@ -7,7 +7,7 @@ use Rattle.serde_json.specs.Find.{as_str, as_array, as_object, get_member}
 use Rattle.serde_json.specs.Read.{read}
 use Rattle.ocfl_tree.specs.Place.{Text, text_cmp, text_eq}
 use Rattle.ocfl_tree.specs.Ascending.{ascending}
-use Rattle.ocfl_report.specs.Line.{Note, note, plain}
+use Rattle.ocfl_inventory.specs.Note.{note, Note, plain}
 use Rattle.ocfl_report.specs.declared.code.Code.TheVariants.{E017, E018, E025, E033, E036, E041, S03}
 use Rattle.ocfl_digest.specs.Algorithm.{supported, algorithm_name, algorithm_named}
 use Rattle.ocfl_digest.specs.declared.algorithm.Algorithm.{Algorithm}

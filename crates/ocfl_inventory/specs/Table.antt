@@ -10,7 +10,7 @@ use Rattle.ocfl_digest.specs.declared.algorithm.Algorithm.{Algorithm}
 use Rattle.ocfl_inventory.specs.DigestText.{folded}
 use Rattle.ocfl_inventory.specs.Reading.{Reading, Block, Inventory, inventory_of}
 use Rattle.ocfl_tree.specs.Path.{elements}
-use Rattle.ocfl_inventory.specs.ListedPath.{is_kept}
+use Rattle.ocfl_inventory.specs.ListedPath.{is_kept, max_elements}
 
 -- which block of an inventory names a digest
 abbrev pub by_manifest : Bool
@@ -76,6 +76,6 @@ paths_of t = map (λ e. e.path) t.triples
 
 -- a table as it may be read of any bytes
 pub record IsFit (t : Table) : Type 0 where
-  pub short : AllByRecursion (λ q. length q ≤ 128) (paths_of t)
+  pub short : AllByRecursion (λ q. length q ≤ max_elements) (paths_of t)
   pub ascends : IsAscending triple_cmp t.triples
   pub few : length t.triples < 2 ^ 64

@@ -2,7 +2,7 @@
 ghost use Rattle.std.specs.Prelude.{◌≡◌, ◌++◌, ◌∷◌, [], map, flat_map, IfOk, OnOk, string_bytes};
 ghost use Rattle.std.specs.List.{cons_option};
 ghost use Rattle.ocfl_tree.specs.Path.{slashed};
-ghost use Rattle.ocfl_report.specs.Line.{note};
+ghost use Rattle.ocfl_inventory.specs.Note.{note};
 ghost use Rattle.ocfl_digest.specs.Algorithm.{algorithm_name};
 ghost use Rattle.ocfl_inventory.specs.Notes.{fault_note, fault_notes, folded_keys};
 ghost use Rattle.ocfl_inventory.specs.Notes.{repeated_digests, repeated_notes};

@@ -5,7 +5,7 @@ ghost use Rattle.std.specs.Result.{result_ok};
 ghost use Rattle.serde_json.specs.View.{view, members_view};
 ghost use Rattle.serde_json.specs.Find.{get_member};
 ghost use Rattle.ocfl_tree.specs.Place.{text_eq};
-ghost use Rattle.ocfl_report.specs.Line.{note};
+ghost use Rattle.ocfl_inventory.specs.Note.{note};
 ghost use Rattle.ocfl_digest.specs.Algorithm.{algorithm_name, algorithm_named};
 ghost use Rattle.ocfl_digest.specs.Algorithm.{supported as all_supported};
 ghost use Rattle.ocfl_inventory.specs.Reading.{object_of, digest_algorithm, algorithm_in};

@@ -10,8 +10,8 @@ use Rattle.ocfl_tree.specs.Store.{Store}
 use Rattle.ocfl_tree.specs.Listing.{IsListing, IsOrdinary}
 use Rattle.ocfl_tree.specs.declared.store.Entry.{Entry}
 use Rattle.ocfl_tree.specs.declared.store.Opening.{Opening}
-use Rattle.ocfl_report.specs.Line.{lines_at}
-use Rattle.ocfl_inventory.specs.Declaration.{Declared, undeclared, known, unknown, several, declaration_name, declared, is_declared, is_known}
+use Rattle.ocfl_inventory.specs.Note.{lines_at}
+use Rattle.ocfl_inventory.specs.Declaration.{Declared, undeclared, known, unknown, several, declaration_name, declared}
 use Rattle.ocfl_inventory.specs.Entries.{PointsAtOne, file_names, meaning}
 use Rattle.ocfl_inventory.specs.declared.declaration.Declared.{Declared as MadeDeclared}
 use Rattle.ocfl_inventory.specs.declared.declaration.Declared.TheVariants as made
@@ -19,7 +19,7 @@ use Rattle.ocfl_inventory.specs.declared.declaration.Level.TheVariants.{Root}
 use Rattle.ocfl_inventory.specs.declared.declaration.Version.{Version}
 use Rattle.ocfl_inventory.specs.declared.declaration.Version.TheVariants.{V1_0, V1_1}
 use Rattle.ocfl_digest.specs.declared.bounded.Bounded.{Bounded}
-use Rattle.ocfl_audit.specs.Zone.{skipped, hierarchy, inside, zone, root_declared, object_declared, is_in_extensions, is_listed_zone}
+use Rattle.ocfl_audit.specs.Zone.{skipped, hierarchy, inside, zone, root_declared, object_declared, is_in_extensions, is_listed_zone, is_known, is_declared}
 use Rattle.ocfl_audit.specs.Head.{root_notes_by}
 use Rattle.ocfl_item.specs.HeadFiles.{FilesStop, IsFileAt, ReadsFile, ReadsFiles, files_there}
 use Rattle.ocfl_audit.specs.Lines.{named_at, named_in, notes}

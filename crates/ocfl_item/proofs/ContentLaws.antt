@@ -3,12 +3,12 @@ use Rattle.std.proofs.Common.{◌≡◌, ◌≢◌, ℕ, ◌+◌, ◌≤◌, Lis
 use Rattle.std.proofs.lemmas.Bool.{lt-ltb}
 use Rattle.std.specs.Prelude.{option_map, nat_lt}
 use Rattle.std.specs.List.{list_all}
-use Rattle.ocfl_tree.specs.Place.{Place, Text, beginnings}
+use Rattle.ocfl_tree.specs.Place.{Place, Text}
 use Rattle.ocfl_tree.specs.Ascending.{IsAscending, IsAmong}
 use Rattle.ocfl_tree.specs.StorageRoot.{StorageRoot, Leaf, file, dir, other, at}
 use Rattle.ocfl_inventory.specs.ListedPath.{is_content_path}
 use Rattle.ocfl_inventory.specs.Table.{Table, Named, named_cmp, named, paths_of}
-use Rattle.ocfl_audit.specs.Zone.{Zone, skipped, hierarchy, inside, zone, seen, table_at, is_entered}
+use Rattle.ocfl_audit.specs.Zone.{Zone, skipped, hierarchy, inside, zone, seen, table_at, is_entered, beginnings}
 use Rattle.ocfl_audit.specs.Lines.{content_notes, object_notes, notes_in, notes, named_in, named_at, cost_of, cost, is_hashed, file_notes, missing_notes}
 use Rattle.ocfl_item.specs.Looking.{content_in, content_at, IsSight}
 use Rattle.ocfl_item.specs.Pending.{is_read, sight_notes}

@@ -10,12 +10,12 @@ use Rattle.ocfl_tree.specs.Place.{Text, Place, text_eq}
 use Rattle.ocfl_tree.specs.StorageRoot.{StorageRoot, file_at}
 use Rattle.ocfl_tree.specs.Store.{Store}
 use Rattle.ocfl_tree.specs.declared.store.Entry.{Entry}
-use Rattle.ocfl_report.specs.Line.{Note, lines_at, plain}
+use Rattle.ocfl_inventory.specs.Note.{Note, plain, lines_at}
 use Rattle.ocfl_report.specs.declared.code.Code.TheVariants.{E007, E063, S02}
 use Rattle.ocfl_digest.specs.declared.bounded.Bounded.{Bounded}
 use Rattle.ocfl_digest.specs.declared.bounded.Bounded.TheVariants as bounded
 use Rattle.ocfl_digest.specs.declared.algorithm.Algorithm.TheVariants.{Sha256, Sha512}
-use Rattle.ocfl_inventory.specs.Declaration.{Declared, undeclared, known, unknown, several, declaration_name, is_known}
+use Rattle.ocfl_inventory.specs.Declaration.{Declared, undeclared, known, unknown, several, declaration_name}
 use Rattle.ocfl_inventory.specs.Entries.{meaning}
 use Rattle.ocfl_inventory.specs.Reading.{algorithm_of}
 use Rattle.ocfl_inventory.specs.Table.{Table, table_of}
@@ -23,7 +23,7 @@ use Rattle.ocfl_inventory.specs.declared.declaration.Declared.{Declared as MadeD
 use Rattle.ocfl_inventory.specs.declared.declaration.Level.TheVariants as level
 use Rattle.ocfl_inventory.specs.declared.declaration.Version.{Version}
 use Rattle.ocfl_inventory.specs.declared.declaration.Version.TheVariants.{V1_0, V1_1}
-use Rattle.ocfl_audit.specs.Zone.{skipped, hierarchy, inside, zone, root_declared, object_declared, inventory_name, inventory_limit, table_at}
+use Rattle.ocfl_audit.specs.Zone.{skipped, hierarchy, inside, zone, root_declared, object_declared, inventory_name, inventory_limit, table_at, is_known}
 use Rattle.ocfl_audit.specs.Head.{on, or_clean, is_exact_declaration, sidecar_name, sidecars_notes, inventory_part, inventory_file_notes, head_notes_by}
 use Rattle.ocfl_audit.specs.Lines.{notes, notes_in}
 use Rattle.ocfl_audit.specs.Trail.{is_object_meta}

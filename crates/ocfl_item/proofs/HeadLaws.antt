@@ -11,7 +11,7 @@ use Rattle.ocfl_tree.specs.declared.store.Entry.{Entry}
 use Rattle.ocfl_tree.specs.declared.store.Kind.{Kind}
 use Rattle.ocfl_tree.specs.declared.store.Kind.TheVariants.{File, Dir, Other}
 use Rattle.ocfl_tree.proofs.Orders.{true_not_false}
-use Rattle.ocfl_report.specs.Line.{Note, note}
+use Rattle.ocfl_inventory.specs.Note.{note, Note}
 use Rattle.ocfl_report.specs.declared.code.Code.TheVariants.{S01}
 use Rattle.ocfl_digest.specs.Bounded.{IsBoundedTo}
 use Rattle.ocfl_digest.specs.Digest.{digest_bytes_of}
@@ -24,7 +24,8 @@ use Rattle.ocfl_digest.specs.declared.wanted.Wanted.{Wanted}
 use Rattle.ocfl_inventory.specs.Reading.{Reading, algorithm_of}
 use Rattle.ocfl_inventory.specs.Notes.{notes_of}
 use Rattle.ocfl_inventory.specs.Sidecar.{sidecar_digits}
-use Rattle.ocfl_inventory.specs.Declaration.{Declared, unknown, prefix, after_prefix, declaration_name, declaration_bytes, is_declaration, is_known}
+use Rattle.ocfl_inventory.specs.Declaration.{Declared, unknown, prefix, after_prefix, declaration_name, declaration_bytes, is_declaration}
+use Rattle.ocfl_audit.specs.Zone.{is_known}
 use Rattle.ocfl_inventory.specs.Entries.{is_file, is_counted, meaning, unknown_by, PointsAtOne}
 use Rattle.ocfl_inventory.specs.declared.declaration.Level.{Level}
 use Rattle.ocfl_inventory.specs.declared.declaration.Level.TheVariants.{Root, Object}

@@ -10,7 +10,7 @@ use Rattle.ocfl_tree.specs.declared.store.Entry.{Entry}
 use Rattle.ocfl_digest.specs.declared.algorithm.Algorithm.TheVariants.{Sha256, Sha512}
 use Rattle.ocfl_digest.specs.declared.bounded.Bounded.{Bounded}
 use Rattle.ocfl_digest.specs.declared.bounded.Bounded.TheVariants as bounded
-use Rattle.ocfl_inventory.specs.Declaration.{Declared, declaration_name, undeclared, known, unknown, several, is_known}
+use Rattle.ocfl_inventory.specs.Declaration.{Declared, declaration_name, undeclared, known, unknown, several}
 use Rattle.ocfl_inventory.specs.Entries.{meaning}
 use Rattle.ocfl_inventory.specs.Reading.{algorithm_of}
 use Rattle.ocfl_inventory.specs.Table.{Table, table_of}
@@ -19,7 +19,7 @@ use Rattle.ocfl_inventory.specs.declared.declaration.Declared.TheVariants as mad
 use Rattle.ocfl_inventory.specs.declared.declaration.Level.TheVariants as level
 use Rattle.ocfl_inventory.specs.declared.declaration.Version.{Version}
 use Rattle.ocfl_audit.specs.Head.{inventory_file_notes, inventory_part, sidecar_name, sidecars_notes}
-use Rattle.ocfl_audit.specs.Zone.{inventory_name, inventory_limit, object_declared}
+use Rattle.ocfl_audit.specs.Zone.{inventory_name, inventory_limit, object_declared, is_known}
 use Rattle.ocfl_item.specs.HeadFiles.{FilesStop, IsFileAt, OpensJust, ReadsFile, ReadsFiles, files_there, head_files, inventory_files, sidecars_for, table_in}
 use Rattle.ocfl_item.specs.Pending.{Adds}
 use Rattle.ocfl_item.specs.Ways.{IsDeclared, IsObject}

@@ -12,12 +12,12 @@ use Rattle.ocfl_inventory.specs.declared.declaration.Level.TheVariants.{Object}
 use Rattle.ocfl_inventory.specs.declared.declaration.Version.{Version}
 use Rattle.ocfl_inventory.specs.declared.declaration.Version.TheVariants.{V1_0, V1_1}
 use Rattle.ocfl_tree.proofs.Orders.{true_not_false}
-use Rattle.ocfl_audit.specs.Zone.{inside, zone, inventory_name}
+use Rattle.ocfl_audit.specs.Zone.{inside, zone, inventory_name, is_known}
 use Rattle.ocfl_audit.specs.Trail.{places_of, heads_of, inventory_of}
 use Rattle.ocfl_item.specs.Looking.{IsFront}
 use Rattle.ocfl_item.specs.Ways.{AreInventories}
 use Rattle.ocfl_audit.specs.Head.{sidecar_name}
-use Rattle.ocfl_inventory.specs.Declaration.{Declared, undeclared, known, unknown, several, is_known}
+use Rattle.ocfl_inventory.specs.Declaration.{Declared, undeclared, known, unknown, several}
 use Rattle.ocfl_audit.specs.Head.{on}
 use Rattle.ocfl_audit.specs.Trail.{is_head, reads_inventory}
 use Rattle.ocfl_audit.specs.Zone.{inventory_at, inventory_limit, object_declared}

@@ -2,13 +2,13 @@
 use Rattle.std.proofs.Common.{arith, ◌≡◌, ◌≢◌, List, [], ◌∷◌, refl, sym, ◌∙◌, ap, true, None}
 use Rattle.ocfl_tree.specs.Place.{Place}
 use Rattle.ocfl_tree.specs.StorageRoot.{StorageRoot}
-use Rattle.ocfl_report.specs.Line.{Note}
-use Rattle.ocfl_audit.specs.Zone.{Zone, skipped, hierarchy, inside, zone, object_declared}
+use Rattle.ocfl_inventory.specs.Note.{Note}
+use Rattle.ocfl_audit.specs.Zone.{Zone, skipped, hierarchy, inside, zone, object_declared, is_declared}
 use Rattle.ocfl_audit.specs.Lines.{notes}
 use Rattle.ocfl_audit.specs.Trail.{is_head}
 use Rattle.ocfl_item.specs.Pending.{HasLines, IsUnhashed}
 use Rattle.ocfl_item.specs.declared.lines.PlaceLines.{PlaceLines}
-use Rattle.ocfl_inventory.specs.Declaration.{Declared, undeclared, known, unknown, several, is_declared}
+use Rattle.ocfl_inventory.specs.Declaration.{Declared, undeclared, known, unknown, several}
 use Rattle.ocfl_audit.specs.Head.{or_clean, head_notes_by}
 use Rattle.ocfl_tree.proofs.Orders.{true_not_false}
 use Rattle.ocfl_audit.proofs.AuditExists.{zone_is, append_nothing}

@@ -7,7 +7,8 @@ use Rattle.ocfl_tree.specs.StorageRoot.{StorageRoot, file_at, bytes_of}
 use Rattle.ocfl_tree.specs.Store.{Store, Did}
 use Rattle.ocfl_tree.specs.Calls.{opening}
 use Rattle.ocfl_tree.specs.declared.store.Opening.{Opening}
-use Rattle.ocfl_report.specs.Line.{plain, line_of, lines_at}
+use Rattle.ocfl_report.specs.Line.{line_of}
+use Rattle.ocfl_inventory.specs.Note.{plain, lines_at}
 use Rattle.ocfl_report.specs.declared.code.Code.TheVariants.{S08}
 use Rattle.ocfl_report.specs.declared.line.Line.{Line as MadeLine}
 use Rattle.ocfl_digest.specs.Digest.{digest_bytes_of}

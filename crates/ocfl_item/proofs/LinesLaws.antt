@@ -3,7 +3,8 @@ use Rattle.std.proofs.Common.{◌≡◌, ◌≢◌, List, [], ◌++◌, Bool, fa
 use Rattle.std.proofs.lemmas.List.{append-nil, map-append}
 use Rattle.ocfl_tree.specs.Place.{Place}
 use Rattle.ocfl_tree.specs.StorageRoot.{StorageRoot}
-use Rattle.ocfl_report.specs.Line.{Note, line_of, lines_at}
+use Rattle.ocfl_report.specs.Line.{line_of}
+use Rattle.ocfl_inventory.specs.Note.{Note, lines_at}
 use Rattle.ocfl_audit.specs.Head.{on}
 use Rattle.ocfl_audit.specs.Lines.{named_at, notes}
 use Rattle.ocfl_item.specs.Pending.{Adds, HasLines, IsUnhashed}

@@ -2,7 +2,7 @@
 use Rattle.std.proofs.Common.{◌≡◌, ◌⊎◌, inl, inr, ℕ, List, [], ◌∷◌, ◌++◌, refl, sym, ◌∙◌, ap, subst, true, false, Bool, Option, Some, None, arith, append_assoc}
 use Rattle.std.proofs.lemmas.List.{append-nil}
 use Rattle.std.specs.Prelude.{cond, nat_lt, map, Ok}
-use Rattle.ocfl_tree.specs.Place.{Text, Place, beginnings}
+use Rattle.ocfl_tree.specs.Place.{Text, Place}
 use Rattle.ocfl_tree.specs.StorageRoot.{StorageRoot, Leaf, dir, at}
 use Rattle.ocfl_tree.specs.Store.{Store, Did}
 use Rattle.ocfl_tree.specs.Listing.{IsOrdinary}
@@ -12,7 +12,7 @@ use Rattle.ocfl_tree.specs.declared.store.Kind.{Kind}
 use Rattle.ocfl_tree.specs.declared.store.Kind.TheVariants as kind
 use Rattle.ocfl_tree.specs.declared.store.Trouble.{Trouble}
 use Rattle.ocfl_tree.specs.declared.store.Trouble.TheVariants.{Device, Absent, Memory}
-use Rattle.ocfl_inventory.specs.Declaration.{Declared, undeclared, known, unknown, several, declared, is_declared, is_known}
+use Rattle.ocfl_inventory.specs.Declaration.{Declared, undeclared, known, unknown, several, declared}
 use Rattle.ocfl_inventory.specs.Entries.{file_names, meaning, unknown_by, PointsAtOne}
 use Rattle.ocfl_inventory.specs.declared.declaration.Declared.{Declared as MadeDeclared}
 use Rattle.ocfl_inventory.specs.declared.declaration.Declared.TheVariants as made
@@ -22,7 +22,7 @@ use Rattle.ocfl_inventory.specs.declared.declaration.Level.TheVariants as level
 use Rattle.ocfl_item.specs.declared.folder.Head.{Head}
 use Rattle.ocfl_item.specs.declared.folder.Head.TheVariants as head
 use Rattle.ocfl_inventory.specs.Table.{Table, Named}
-use Rattle.ocfl_audit.specs.Zone.{is_entered, object_declared, seen}
+use Rattle.ocfl_audit.specs.Zone.{is_entered, object_declared, seen, beginnings, is_known, is_declared}
 use Rattle.ocfl_audit.specs.Lines.{cost_of, named_at, is_hashed}
 use Rattle.ocfl_item.specs.Looking.{way_to, IsFront}
 use Rattle.ocfl_item.specs.Ways.{fault_by, IsWayFault, Stops, SeekStops, ReadsMeta, ReadsTable, is_file_kind, is_listable, Enters, IsDeclared, IsHead, head_by, InHierarchy, IsObject, IsOpenObject, is_extensions_name, way_below}

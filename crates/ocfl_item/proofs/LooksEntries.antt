@@ -8,7 +8,7 @@ use Rattle.std.proofs.lemmas.Bool.{eqb-true}
 use Rattle.std.specs.Option.{option_map}
 use Rattle.ocfl_tree.specs.Place.{Text, Place, text_cmp, text_eq, place_eq, child_name}
 use Rattle.ocfl_tree.specs.Ascending.{IsAmong, IsAscending}
-use Rattle.ocfl_tree.specs.StorageRoot.{StorageRoot, Leaf, file, dir, other, at, bytes_of, file_at, is_dir, is_dir_leaf, lookup, names_in, files_in}
+use Rattle.ocfl_tree.specs.StorageRoot.{StorageRoot, Leaf, file, dir, other, at, bytes_of, file_at, is_dir, is_dir_leaf, lookup, names_in}
 use Rattle.ocfl_tree.specs.Listing.{kind_of, kind_in, AreApart, IsOrdinary, IsListing}
 use Rattle.ocfl_tree.specs.declared.store.Entry.{Entry}
 use Rattle.ocfl_tree.specs.declared.store.Kind.{Kind}
@@ -16,7 +16,7 @@ use Rattle.ocfl_tree.specs.declared.store.Kind.TheVariants.{File, Dir, Other}
 use Rattle.ocfl_inventory.specs.Declaration.{is_declaration, declared, declared_by}
 use Rattle.ocfl_inventory.specs.Entries.{is_file, file_names}
 use Rattle.ocfl_inventory.specs.declared.declaration.Level.{Level}
-use Rattle.ocfl_audit.specs.Zone.{max_listed_depth}
+use Rattle.ocfl_audit.specs.Zone.{max_listed_depth, files_in}
 use Rattle.ocfl_audit.specs.Lines.{is_empty}
 use Rattle.ocfl_item.specs.Ways.{is_dir_kind, is_file_kind, is_listable}
 use Rattle.ocfl_tree.proofs.Orders.{true_not_false, not_below_itself, before_each, ascends_ascending, among_ascending, ascends_filter, among_filter, among_from_filter}

@@ -4,16 +4,16 @@ use Rattle.std.proofs.lemmas.Bool.{leb-true, le-leb}
 use Rattle.std.proofs.lemmas.List.{length-append}
 use Rattle.std.specs.Prelude.{cond, ◌&&◌, ◌||◌, not, nat_le, option_and_then, codes}
 use Rattle.std.specs.List.{list_all}
-use Rattle.ocfl_tree.specs.Place.{Text, Place, text_eq, beginnings}
-use Rattle.ocfl_tree.specs.StorageRoot.{StorageRoot, Leaf, file, dir, other, at, file_at, is_dir, is_dir_leaf, files_in}
+use Rattle.ocfl_tree.specs.Place.{Text, Place, text_eq}
+use Rattle.ocfl_tree.specs.StorageRoot.{StorageRoot, Leaf, file, dir, other, at, file_at, is_dir, is_dir_leaf}
 use Rattle.ocfl_tree.specs.Listing.{kind_in, IsOrdinary, IsListing}
 use Rattle.ocfl_tree.specs.declared.store.Entry.{Entry}
-use Rattle.ocfl_inventory.specs.Declaration.{undeclared, declared, is_declared, is_known}
+use Rattle.ocfl_inventory.specs.Declaration.{undeclared, declared}
 use Rattle.ocfl_inventory.specs.Entries.{file_names}
 use Rattle.ocfl_inventory.specs.Table.{Table, table_of}
 use Rattle.ocfl_inventory.specs.ListedPath.{is_version_name}
 use Rattle.ocfl_inventory.specs.declared.declaration.Level.TheVariants as level
-use Rattle.ocfl_audit.specs.Zone.{Zone, skipped, hierarchy, inside, object_zone, object_declared, root_declared, is_in_extensions, zone, inventory_name, inventory_limit, table_at, max_listed_depth, is_entered, is_listed_zone, is_listed_in_object, seen}
+use Rattle.ocfl_audit.specs.Zone.{Zone, skipped, hierarchy, inside, object_zone, object_declared, root_declared, is_in_extensions, zone, inventory_name, inventory_limit, table_at, max_listed_depth, is_entered, is_listed_zone, is_listed_in_object, seen, beginnings, files_in, is_known, is_declared}
 use Rattle.ocfl_audit.specs.Walk.{step_zone, is_extensions, is_reached}
 use Rattle.ocfl_item.specs.Looking.{IsSight}
 use Rattle.ocfl_item.specs.Ways.{is_listable, is_extensions_name, IsAt, InHierarchy, IsObject, IsOpenObject}

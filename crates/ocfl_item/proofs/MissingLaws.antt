@@ -10,7 +10,8 @@ use Rattle.std.specs.declared.cmp.Ordering.{Ordering}
 use Rattle.std.specs.declared.cmp.Ordering.TheVariants.{Less, Equal, Greater}
 use Rattle.ocfl_tree.specs.Place.{Text, text_cmp}
 use Rattle.ocfl_tree.specs.Ascending.{IsAscending, insert_once, ascending}
-use Rattle.ocfl_report.specs.Line.{Note, note, line_of, lines_at}
+use Rattle.ocfl_report.specs.Line.{line_of}
+use Rattle.ocfl_inventory.specs.Note.{note, Note, lines_at}
 use Rattle.ocfl_digest.specs.Algorithm.{algorithm_name, algorithm_cmp}
 use Rattle.ocfl_inventory.specs.Table.{Named, named_cmp}
 use Rattle.ocfl_audit.specs.Head.{on}

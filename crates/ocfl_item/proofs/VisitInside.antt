@@ -3,11 +3,11 @@ use Rattle.std.proofs.Common.{◌≡◌, ℕ, zero, suc, ◌-◌, ◌+◌, ◌�
 use Rattle.std.specs.Prelude.{option_map}
 use Rattle.std.specs.List.{list_all}
 use Rattle.std.proofs.lemmas.List.{length-append}
-use Rattle.ocfl_tree.specs.Place.{Place, Text, beginnings}
+use Rattle.ocfl_tree.specs.Place.{Place, Text}
 use Rattle.ocfl_tree.specs.StorageRoot.{StorageRoot}
 use Rattle.ocfl_tree.specs.declared.store.Entry.{Entry}
 use Rattle.ocfl_inventory.specs.ListedPath.{is_version_name}
-use Rattle.ocfl_audit.specs.Zone.{inside, zone, is_entered, is_listed_in_object, is_listed_zone}
+use Rattle.ocfl_audit.specs.Zone.{inside, zone, is_entered, is_listed_in_object, is_listed_zone, beginnings}
 use Rattle.ocfl_item.specs.Looking.{content_at, content_in}
 use Rattle.ocfl_item.specs.Around.{IsMet}
 use Rattle.ocfl_item.specs.declared.meeting.Around.{Around}

@@ -4,24 +4,24 @@ use Rattle.std.specs.Prelude.{cond, nat_eq, nat_le, option_map, codes, ◌&&◌,
 use Rattle.std.specs.List.{list_all}
 use Rattle.std.proofs.lemmas.List.{length-append}
 use Rattle.std.proofs.lemmas.Bool.{eqb-true, le-leb, lt-ltb, le-ltb, lt-leb}
-use Rattle.ocfl_tree.specs.Place.{Place, Text, text_eq, beginnings}
-use Rattle.ocfl_tree.specs.StorageRoot.{StorageRoot, Leaf, file, other, at, is_dir, names_in, files_in}
+use Rattle.ocfl_tree.specs.Place.{Place, Text, text_eq}
+use Rattle.ocfl_tree.specs.StorageRoot.{StorageRoot, Leaf, file, other, at, is_dir, names_in}
 use Rattle.ocfl_tree.specs.Store.{Store, Did}
 use Rattle.ocfl_tree.specs.Listing.{kind_of, IsListing, IsOrdinary}
 use Rattle.ocfl_tree.specs.declared.store.Entry.{Entry}
 use Rattle.ocfl_tree.specs.declared.store.Kind.{Kind}
 use Rattle.ocfl_tree.specs.declared.store.Kind.TheVariants as kind
 use Rattle.ocfl_tree.proofs.Orders.{true_not_false}
-use Rattle.ocfl_report.specs.Line.{Note, plain}
+use Rattle.ocfl_inventory.specs.Note.{Note, plain}
 use Rattle.ocfl_report.specs.declared.code.Code.TheVariants.{E072, E073, S04, S05}
 use Rattle.ocfl_inventory.specs.Table.{Table}
-use Rattle.ocfl_inventory.specs.Declaration.{undeclared, declared, is_declared}
+use Rattle.ocfl_inventory.specs.Declaration.{undeclared, declared}
 use Rattle.ocfl_inventory.specs.Entries.{file_names, meaning, unknown_by, PointsAtOne}
 use Rattle.ocfl_inventory.specs.declared.declaration.Declared.{Declared as MadeDeclared}
 use Rattle.ocfl_inventory.specs.declared.declaration.Declared.TheVariants as made
 use Rattle.ocfl_inventory.specs.declared.declaration.Level.TheVariants as level
 use Rattle.ocfl_audit.specs.Head.{on}
-use Rattle.ocfl_audit.specs.Zone.{skipped, hierarchy, inside, zone, seen, table_at, is_entered, is_listed_zone, is_listed_in_object, max_listed_depth, object_declared}
+use Rattle.ocfl_audit.specs.Zone.{skipped, hierarchy, inside, zone, seen, table_at, is_entered, is_listed_zone, is_listed_in_object, max_listed_depth, object_declared, beginnings, files_in, is_declared}
 use Rattle.ocfl_audit.specs.Lines.{notes, notes_in, named_in, is_empty, listed_dir_notes, hierarchy_notes}
 use Rattle.ocfl_audit.specs.Walk.{is_extensions, is_reached, seen_names, step_zone}
 use Rattle.ocfl_audit.specs.Trail.{is_head}

@@ -8,7 +8,7 @@ use Rattle.ocfl_tree.specs.Ascending.{IsAmong}
 use Rattle.ocfl_digest.specs.Digest.{digest_bytes_of}
 use Rattle.ocfl_digest.specs.Digests.{digest_in}
 use Rattle.ocfl_digest.specs.declared.digests.Digests.{Digests}
-use Rattle.ocfl_inventory.specs.DigestText.{digest_of}
+use Rattle.ocfl_audit.specs.Head.{digest_of}
 use Rattle.ocfl_inventory.specs.Table.{Named}
 use Rattle.ocfl_inventory.specs.TripleView.{named_view}
 use Rattle.ocfl_inventory.specs.declared.triple.Named.{Named as MadeNamed}

@@ -1,11 +1,11 @@
 -- The way to a place; content places, and what is seen there.
 use Rattle.std.specs.Prelude.{◌≡◌, ℕ, List, [], ◌∷◌, ◌++◌, Option, Some, None, option_map}
-use Rattle.ocfl_tree.specs.Place.{Place, beginnings}
+use Rattle.ocfl_tree.specs.Place.{Place}
 use Rattle.ocfl_tree.specs.StorageRoot.{StorageRoot, file, dir, other}
-use Rattle.ocfl_report.specs.Line.{plain}
+use Rattle.ocfl_inventory.specs.Note.{plain}
 use Rattle.ocfl_report.specs.declared.code.Code.TheVariants.{E024, S05}
 use Rattle.ocfl_inventory.specs.Table.{Table}
-use Rattle.ocfl_audit.specs.Zone.{Zone, skipped, hierarchy, inside, zone, seen, table_at}
+use Rattle.ocfl_audit.specs.Zone.{Zone, skipped, hierarchy, inside, zone, seen, table_at, beginnings}
 use Rattle.ocfl_audit.specs.Lines.{listed_dir_notes}
 use Rattle.ocfl_item.specs.declared.fault.Fault.{Fault}
 use Rattle.ocfl_item.specs.declared.fault.Fault.TheVariants as fault

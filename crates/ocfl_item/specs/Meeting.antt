@@ -6,7 +6,7 @@ use Rattle.ocfl_tree.specs.Store.{Store, Did}
 use Rattle.ocfl_tree.specs.Listing.{IsListing, IsOrdinary}
 use Rattle.ocfl_tree.specs.declared.store.Opening.{Opening}
 use Rattle.ocfl_inventory.specs.Table.{IsFit, Table}
-use Rattle.ocfl_audit.specs.Zone.{inside, zone, table_at}
+use Rattle.ocfl_audit.specs.Zone.{inside, zone, table_at, max_listed_depth}
 use Rattle.ocfl_audit.specs.Lines.{notes, is_hashed}
 use Rattle.ocfl_audit.specs.Head.{on}
 use Rattle.ocfl_audit.specs.Trail.{content_trail, heads_of, is_head, reads_inventory}
@@ -70,10 +70,10 @@ pub record Visits (root : StorageRoot) (s t : Store) (e : Place) (r : Result Vis
 
 pub record IsFairFolder (e : Place) (f : Folder) : Type 0 where
   pub place : f.place ≡ e
-  pub depth : length e ≤ 127
+  pub depth : length e ≤ max_listed_depth
   pub entries : IsOrdinary f.entries.items
 
 pub record IsFairVisit (e : Place) (v : Visit) : Type 0 where
   pub item : IfSome v.item (λ p. p.place ≡ e)
   pub folder : IfSome v.folder (λ f. IsFairFolder e f)
-  pub table : IfSome v.table (λ t. IsFit t × (length e ≤ 127))
+  pub table : IfSome v.table (λ t. IsFit t × (length e ≤ max_listed_depth))

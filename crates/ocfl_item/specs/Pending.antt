@@ -2,7 +2,8 @@
 use Rattle.std.specs.Prelude.{◌≡◌, ◌≢◌, List, [], ◌∷◌, ◌++◌, Bool, false, not, Option, Some, None, map, codes}
 use Rattle.std.specs.Ordering.{is_eq}
 use Rattle.ocfl_tree.specs.StorageRoot.{StorageRoot}
-use Rattle.ocfl_report.specs.Line.{Note, note, plain, line_of, lines_at}
+use Rattle.ocfl_report.specs.Line.{line_of}
+use Rattle.ocfl_inventory.specs.Note.{note, Note, plain, lines_at}
 use Rattle.ocfl_report.specs.declared.code.Code.TheVariants.{E023, E024, S04, S05}
 use Rattle.ocfl_digest.specs.Algorithm.{algorithm_name}
 use Rattle.ocfl_inventory.specs.Table.{Named}

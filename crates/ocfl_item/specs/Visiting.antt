@@ -1,18 +1,18 @@
 -- What is known of an entry that the walk comes to.
 use Rattle.std.specs.Prelude.{AllPairs, ◌≢◌, ◌≡◌, ◌≤◌, List, [], ◌∷◌, cond, length, Result, MatchResult, true, false, Option, Some, None, option_map}
 use Rattle.std.specs.List.{list_all}
-use Rattle.ocfl_tree.specs.Place.{Place, beginnings}
+use Rattle.ocfl_tree.specs.Place.{Place}
 use Rattle.ocfl_tree.specs.StorageRoot.{StorageRoot, at, is_dir}
 use Rattle.ocfl_tree.specs.Listing.{kind_of, IsListing}
 use Rattle.ocfl_tree.specs.declared.store.Entry.{Entry}
 use Rattle.ocfl_tree.specs.declared.store.Kind.{Kind}
 use Rattle.ocfl_tree.specs.declared.store.Kind.TheVariants as kind
-use Rattle.ocfl_report.specs.Line.{Note, plain}
-use Rattle.ocfl_inventory.specs.Declaration.{is_declared, undeclared}
+use Rattle.ocfl_inventory.specs.Note.{Note, plain}
+use Rattle.ocfl_inventory.specs.Declaration.{undeclared}
 use Rattle.ocfl_inventory.specs.Entries.{meaning, PointsAtOne}
 use Rattle.ocfl_inventory.specs.declared.declaration.Declared.{Declared as MadeDeclared}
 use Rattle.ocfl_inventory.specs.declared.declaration.Level.TheVariants as level
-use Rattle.ocfl_audit.specs.Zone.{hierarchy, inside, zone, is_entered, is_listed_zone, object_declared, root_declared}
+use Rattle.ocfl_audit.specs.Zone.{hierarchy, inside, zone, is_entered, is_listed_zone, object_declared, root_declared, beginnings, is_declared, max_listed_depth}
 use Rattle.ocfl_audit.specs.Lines.{listed_dir_notes, notes, named_at}
 use Rattle.ocfl_audit.specs.Between.{is_looked_into}
 use Rattle.ocfl_audit.specs.Walk.{seen_names}
@@ -65,7 +65,7 @@ pub record IsDirectoryAt (root : StorageRoot) (e : Place) : Type 0 where
 -- one that was listed, and declares nothing
 pub record IsUndeclaredAt (root : StorageRoot) (e : Place) (es : List Entry) : Type 0 where
   pub directory : IsDirectoryAt root e
-  pub short : length e ≤ 127
+  pub short : length e ≤ max_listed_depth
   pub listing : IsListing root e es
   pub none : object_declared root e ≡ undeclared
 

@@ -1,7 +1,7 @@
 -- The way down to a place: what is known of a directory on it, and what was done to come there.
 use Rattle.std.specs.Prelude.{◌≡◌, ◌≢◌, ℕ, ◌&&◌, nat_le, length, filter, List, [], ◌∷◌, ◌++◌, Bool, true, false, Option, Some, None, Result, MatchResult, AllPairs, codes}
 use Rattle.std.specs.List.{list_all}
-use Rattle.ocfl_tree.specs.Place.{Text, Place, text_eq, beginnings}
+use Rattle.ocfl_tree.specs.Place.{Text, Place, text_eq}
 use Rattle.ocfl_tree.specs.StorageRoot.{StorageRoot, is_dir}
 use Rattle.ocfl_tree.specs.Store.{Store, Did}
 use Rattle.ocfl_tree.specs.Listing.{IsListing}
@@ -11,13 +11,13 @@ use Rattle.ocfl_tree.specs.declared.store.Kind.TheVariants as kind
 use Rattle.ocfl_tree.specs.declared.store.Opening.{Opening}
 use Rattle.ocfl_tree.specs.declared.store.Trouble.{Trouble}
 use Rattle.ocfl_tree.specs.declared.store.Trouble.TheVariants as trouble
-use Rattle.ocfl_inventory.specs.Declaration.{Declared, is_declared, is_known}
+use Rattle.ocfl_inventory.specs.Declaration.{Declared}
 use Rattle.ocfl_inventory.specs.Entries.{meaning, PointsAtOne}
 use Rattle.ocfl_inventory.specs.declared.declaration.Level.TheVariants as level
 use Rattle.ocfl_inventory.specs.declared.declaration.Declared.{Declared as MadeDeclared}
 use Rattle.ocfl_inventory.specs.declared.declaration.Declared.TheVariants as made
 use Rattle.ocfl_inventory.specs.Table.{Table}
-use Rattle.ocfl_audit.specs.Zone.{max_listed_depth, hierarchy, inside, zone, is_entered, object_declared, table_at}
+use Rattle.ocfl_audit.specs.Zone.{max_listed_depth, hierarchy, inside, zone, is_entered, object_declared, table_at, beginnings, is_known, is_declared}
 use Rattle.ocfl_audit.specs.Lines.{notes, is_hashed}
 use Rattle.ocfl_audit.specs.Head.{on}
 use Rattle.ocfl_audit.specs.Trail.{content_trail, heads_of, reads_inventory}

@@ -1,9 +1,10 @@
 //! The storage root: its lines, and its listing where it is entered.
 ghost use Rattle.std.specs.Prelude.{◌≡◌, ◌∷◌, [], false, IsTrue, IfOk, IfErr};
 ghost use Rattle.ocfl_tree.specs.StorageRoot.{StorageRoot};
-ghost use Rattle.ocfl_report.specs.Line.{plain};
+ghost use Rattle.ocfl_inventory.specs.Note.{plain};
 ghost use Rattle.ocfl_inventory.specs.Declaration.{declaration_name as declaration_name_of};
-ghost use Rattle.ocfl_inventory.specs.Declaration.{is_known, known};
+ghost use Rattle.ocfl_inventory.specs.Declaration.{known};
+ghost use Rattle.ocfl_audit.specs.Zone.{is_known};
 ghost use Rattle.ocfl_inventory.specs.Entries.{meaning};
 ghost use Rattle.ocfl_inventory.specs.Sidecar.{side_limit};
 ghost use Rattle.ocfl_inventory.specs.declared.declaration.Level.TheVariants as level;

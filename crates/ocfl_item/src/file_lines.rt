@@ -2,7 +2,8 @@
 ghost use Rattle.std.specs.Prelude.{◌≡◌, ◌++◌, ◌∷◌, [], IfOk, List, OnOk, Some, length, map};
 ghost use Rattle.hex.specs.Hex.{encode_lower};
 ghost use Rattle.ocfl_tree.specs.Place.{Text};
-ghost use Rattle.ocfl_report.specs.Line.{Note, line_of, lines_at, plain};
+ghost use Rattle.ocfl_report.specs.Line.{line_of};
+ghost use Rattle.ocfl_inventory.specs.Note.{Note, plain, lines_at};
 ghost use Rattle.ocfl_digest.specs.Digest.{digest_bytes_of};
 ghost use Rattle.ocfl_digest.specs.Digests.{digest_in};
 ghost use Rattle.ocfl_inventory.specs.TripleView.{named_view};

@@ -1,7 +1,7 @@
 //! The lines of one place, as they are gathered.
 ghost use Rattle.std.specs.Prelude.{◌≡◌, ◌∷◌, [], IfOk, OnOk, string_bytes};
 ghost use Rattle.hex.specs.Hex.{encode_lower};
-ghost use Rattle.ocfl_report.specs.Line.{note, plain};
+ghost use Rattle.ocfl_inventory.specs.Note.{note, plain};
 ghost use Rattle.ocfl_inventory.specs.TripleView.{named_view};
 ghost use Rattle.ocfl_audit.specs.Head.{mismatch};
 ghost use Rattle.ocfl_audit.specs.Lines.{block_code};

@@ -4,7 +4,7 @@ ghost use Rattle.std.specs.Prelude.{◌≡◌, ◌∷◌, ◌++◌, [], true, fa
 ghost use Rattle.std.specs.Prelude.{MatchOption, MatchResult, OnOk, not};
 ghost use Rattle.ocfl_tree.specs.StorageRoot.{StorageRoot, file_at};
 ghost use Rattle.ocfl_tree.specs.Listing.{IsListing, kind_in};
-ghost use Rattle.ocfl_report.specs.Line.{plain};
+ghost use Rattle.ocfl_inventory.specs.Note.{plain};
 ghost use Rattle.ocfl_digest.specs.declared.algorithm.Algorithm.TheVariants.{Sha256, Sha512};
 ghost use Rattle.ocfl_inventory.specs.Declaration.{declaration_name as declaration_name_of, known};
 ghost use Rattle.ocfl_inventory.specs.Reading.{algorithm_of};

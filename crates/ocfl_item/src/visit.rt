@@ -4,7 +4,7 @@ ghost use Rattle.std.specs.Prelude.{IsTrue, IfErr, IfOk, map, length};
 ghost use Rattle.ocfl_tree.specs.Place.{Place as ModelPlace};
 ghost use Rattle.ocfl_tree.specs.StorageRoot.{StorageRoot};
 ghost use Rattle.ocfl_tree.specs.Listing.{IsOrdinary};
-ghost use Rattle.ocfl_report.specs.Line.{plain};
+ghost use Rattle.ocfl_inventory.specs.Note.{plain};
 ghost use Rattle.ocfl_inventory.specs.Table.{Table as TableOf, named as digests_of};
 ghost use Rattle.ocfl_inventory.specs.TripleView.{named_view};
 ghost use Rattle.ocfl_audit.specs.Zone.{is_listed_zone, max_listed_depth, zone};

@@ -1,22 +1,10 @@
 -- What a report consists of.
-use Rattle.std.specs.Prelude.{ℕ, List, Bool, true, false, map, codes, string_bytes}
+use Rattle.std.specs.Prelude.{ℕ, List, Bool, true, false, string_bytes}
 use Rattle.std.specs.List.{list_any}
 use Rattle.ocfl_tree.specs.Place.{Text, Place}
 use Rattle.ocfl_report.specs.declared.code.Code.{Code}
 use Rattle.ocfl_report.specs.declared.code.Code.TheVariants.{Clean, S07}
 use Rattle.ocfl_report.specs.declared.line.Line.{Line as MadeLine}
-
--- a line without its place
-pub record Note : Type 0 where
-  pub code : Code
-  pub detail : Text
-
-abbrev pub note : Code → Text → Note
-note c d = record { code = c; detail = d }
-
--- a line whose detail is a dash
-abbrev pub plain : Code → Note
-plain c = note c (codes "-")
 
 -- a line of the report, its detail not yet escaped
 pub record Line : Type 0 where
@@ -27,10 +15,6 @@ pub record Line : Type 0 where
 -- what a line of the code says
 abbrev pub line_of : MadeLine → Line
 line_of l = record { code = l.code; place = l.place; detail = string_bytes l.detail }
-
--- each line of an item has the item's place
-abbrev pub lines_at : Place → List Note → List Line
-lines_at p ns = map (λ n. record { code = n.code; place = p; detail = n.detail }) ns
 
 -- a place with its lines, and what auditing it costs
 pub record Item : Type 0 where

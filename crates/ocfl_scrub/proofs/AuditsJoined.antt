@@ -10,7 +10,7 @@ use Rattle.ocfl_tree.specs.StorageRoot.{StorageRoot}
 use Rattle.ocfl_tree.specs.Store.{Store}
 use Rattle.ocfl_tree.specs.declared.store.Opening.{Opening}
 use Rattle.ocfl_tree.proofs.Orders.{place_cmp_total, place_cmp_exact, not_below_itself, before_each, among_from_filter}
-use Rattle.ocfl_report.specs.Line.{lines_at}
+use Rattle.ocfl_inventory.specs.Note.{lines_at}
 use Rattle.ocfl_audit.specs.Lines.{notes, cost, is_hashed}
 use Rattle.ocfl_audit.specs.Audit.{Unread, given_by, item_of}
 use Rattle.ocfl_audit.specs.Trail.{content_openings, content_trail, unread_of}

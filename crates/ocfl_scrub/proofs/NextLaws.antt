@@ -6,7 +6,7 @@ use Rattle.ocfl_tree.specs.Place.{Place, place_cmp}
 use Rattle.ocfl_tree.specs.Ascending.{IsAmong, IsAscending}
 use Rattle.ocfl_tree.specs.StorageRoot.{StorageRoot, dir}
 use Rattle.ocfl_tree.proofs.Orders.{true_not_false, before_each, among_filter, among_from_filter}
-use Rattle.ocfl_report.specs.Line.{Note}
+use Rattle.ocfl_inventory.specs.Note.{Note}
 use Rattle.ocfl_inventory.specs.Table.{Named}
 use Rattle.ocfl_inventory.specs.Declaration.{Declared, undeclared, known, unknown, several}
 use Rattle.ocfl_audit.specs.Zone.{root_declared, zone, inside}

@@ -7,7 +7,7 @@ use Rattle.ocfl_tree.specs.StorageRoot.{StorageRoot}
 use Rattle.ocfl_tree.specs.Store.{Store}
 use Rattle.ocfl_tree.specs.declared.store.Opening.{Opening}
 use Rattle.ocfl_tree.proofs.Orders.{place_cmp_total, place_cmp_exact, ascends_filter, ascends_ascending, among_ascending, among_filter, among_from_filter}
-use Rattle.ocfl_report.specs.Line.{Note}
+use Rattle.ocfl_inventory.specs.Note.{Note}
 use Rattle.ocfl_audit.specs.Audit.{candidates}
 use Rattle.ocfl_audit.specs.Between.{up_to, between, is_looked_into, looked_between, read_between}
 use Rattle.ocfl_audit.specs.Due.{places_after, item_places, hashed_among}

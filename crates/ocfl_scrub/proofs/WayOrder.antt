@@ -1,11 +1,11 @@
 -- What lies on the way to a place comes before all that lies above it.
 use Rattle.std.proofs.Common.{◌≡◌, ◌⊎◌, inl, inr, List, [], ◌∷◌, ◌++◌, refl, sym, ◌∙◌, ap, subst, Bool, true, false, cond, Option, Some, None, map, filter}
-use Rattle.ocfl_tree.specs.Place.{Text, Place, place_cmp, beginnings}
+use Rattle.ocfl_tree.specs.Place.{Text, Place, place_cmp}
 use Rattle.ocfl_tree.specs.Ascending.{IsAscending, IsAmong, IsBeforeAll}
 use Rattle.std.specs.declared.cmp.Ordering.TheVariants.{Less}
 use Rattle.ocfl_tree.specs.StorageRoot.{StorageRoot}
 use Rattle.ocfl_tree.proofs.Orders.{place_cmp_total}
-use Rattle.ocfl_audit.specs.Zone.{Zone, skipped, hierarchy, inside, zone}
+use Rattle.ocfl_audit.specs.Zone.{Zone, skipped, hierarchy, inside, zone, beginnings}
 use Rattle.ocfl_audit.specs.Between.{IsBeyond}
 use Rattle.ocfl_audit.specs.Parts.{Part}
 use Rattle.ocfl_audit.specs.Trail.{reads_inventory}

@@ -5,7 +5,8 @@ use Rattle.ocfl_tree.specs.Place.{Place}
 use Rattle.ocfl_tree.specs.StorageRoot.{StorageRoot}
 use Rattle.ocfl_tree.specs.Listing.{IsListing, IsOrdinary}
 use Rattle.ocfl_tree.specs.declared.store.Entry.{Entry}
-use Rattle.ocfl_inventory.specs.Declaration.{Declared, declared, is_declared, is_known}
+use Rattle.ocfl_inventory.specs.Declaration.{Declared, declared}
+use Rattle.ocfl_audit.specs.Zone.{is_known, is_declared}
 use Rattle.ocfl_inventory.specs.Entries.{file_names}
 use Rattle.ocfl_inventory.specs.declared.declaration.Level.TheVariants as level
 use Rattle.ocfl_item.specs.Ways.{IsHead, is_listable}

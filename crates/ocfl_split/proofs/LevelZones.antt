@@ -8,9 +8,8 @@ use Rattle.ocfl_tree.specs.Ascending.{IsAmong}
 use Rattle.ocfl_tree.specs.StorageRoot.{StorageRoot, dir, at, is_dir, is_dir_leaf, names_in}
 use Rattle.ocfl_tree.proofs.Bools.{and_both, and_first, and_second}
 use Rattle.ocfl_tree.proofs.Orders.{true_not_false, among_filter, among_from_filter, among_map, among_flat_map}
-use Rattle.ocfl_inventory.specs.Declaration.{is_declared, is_known}
 use Rattle.ocfl_audit.specs.Objects.{IsObjectRoot}
-use Rattle.ocfl_audit.specs.Zone.{Zone, skipped, hierarchy, inside, zone, root_declared, object_declared}
+use Rattle.ocfl_audit.specs.Zone.{Zone, skipped, hierarchy, inside, zone, root_declared, object_declared, is_known, is_declared}
 use Rattle.ocfl_audit.specs.Walk.{step_zone, is_extensions}
 use Rattle.ocfl_audit.proofs.BelowLaws.{from_flat_map}
 use Rattle.ocfl_audit.proofs.ObjectLaws.{object_by_zone}

@@ -2,8 +2,7 @@
 use Rattle.std.specs.Prelude.{◌≡◌, ◌⊎◌, ℕ, zero, suc, ◌&&◌, Some, List, [], ◌∷◌, ◌++◌, Bool, not, if◌then◌else◌, filter, flat_map, map}
 use Rattle.ocfl_tree.specs.Place.{Place}
 use Rattle.ocfl_tree.specs.StorageRoot.{StorageRoot, dir, at, is_dir, names_in}
-use Rattle.ocfl_inventory.specs.Declaration.{is_declared, is_known}
-use Rattle.ocfl_audit.specs.Zone.{hierarchy, zone, root_declared, object_declared}
+use Rattle.ocfl_audit.specs.Zone.{hierarchy, zone, root_declared, object_declared, is_known, is_declared}
 use Rattle.ocfl_audit.specs.Objects.{IsObjectRoot}
 use Rattle.ocfl_item.specs.Ways.{is_extensions_name}
 

@@ -4,6 +4,7 @@ use Rattle.std.specs.Option.{option_map_or, option_to_list}
 use Rattle.ocfl_tree.specs.Place.{Place}
 use Rattle.ocfl_tree.specs.StorageRoot.{StorageRoot}
 use Rattle.ocfl_tree.specs.Store.{Store, Did}
+use Rattle.ocfl_audit.specs.Zone.{max_listed_depth}
 use Rattle.ocfl_item.specs.Looking.{IsFront, failures_by}
 use Rattle.ocfl_item.specs.declared.fault.Fault.{Fault}
 use Rattle.ocfl_item.specs.declared.fault.Fault.TheVariants as fault
@@ -12,6 +13,10 @@ use Rattle.ocfl_split.specs.Levels.{level, level_below, directories_below}
 -- so many directories are held at most
 abbrev pub max_held : ℕ
 max_held = 1000000
+
+-- directories of this level are not listed
+abbrev pub deepest_level : ℕ
+deepest_level = max_listed_depth + 1
 
 -- ---- the level that is split
 
@@ -40,9 +45,9 @@ level_from (suc k) root count above ds =
     if nat_le count (length ds) then ds
     else option_map_or (λ next. level_from k root count (kept (wider above ds) next) next) (next_level root (room_below above ds) ds) (wider above ds)
 
--- directories with 128 names are the last: they are not listed
+-- of the whole hierarchy
 unfoldable pub split_level : StorageRoot → ℕ → List Place
-split_level root count = level_from 128 root count [] ([] ∷ [])
+split_level root count = level_from deepest_level root count [] ([] ∷ [])
 
 -- so many directories are in level n and in the last one that is reached
 abbrev pub held : StorageRoot → ℕ → ℕ → ℕ
@@ -56,7 +61,7 @@ pub record IsSplitLevel (root : StorageRoot) (count n : ℕ) : Type 0 where
   pub fewer : (k : ℕ) → k < last → length (level root k) < count
   pub widest : (k : ℕ) → k ≤ last → length (level root k) ≤ length (level root n)
   pub lowest : (k : ℕ) → n < k → k ≤ last → length (level root k) < length (level root n)
-  pub ends : (count ≤ length (level root n)) ⊎ ((level root (last + 1) ≡ []) ⊎ ((max_held < held root n last + length (level root (last + 1))) ⊎ (last ≡ 128)))
+  pub ends : (count ≤ length (level root n)) ⊎ ((level root (last + 1) ≡ []) ⊎ ((max_held < held root n last + length (level root (last + 1))) ⊎ (last ≡ deepest_level)))
 
 -- ---- at equal distances
 
@@ -89,7 +94,7 @@ listed_from (suc k) root count above ds =
 
 -- the directories that are listed, level by level
 unfoldable pub listed_for : StorageRoot → ℕ → List Place
-listed_for root count = listed_from 128 root count [] ([] ∷ [])
+listed_for root count = listed_from deepest_level root count [] ([] ∷ [])
 
 -- ---- what calls did
 

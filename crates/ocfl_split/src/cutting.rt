@@ -6,7 +6,8 @@ ghost use Rattle.ocfl_tree.specs.Place.{place_cmp};
 ghost use Rattle.ocfl_tree.specs.StorageRoot.{StorageRoot};
 ghost use Rattle.ocfl_item.specs.Ways.{IsWayFault};
 ghost use Rattle.ocfl_parts.specs.Separators.{AreSeparators};
-ghost use Rattle.ocfl_split.specs.Splitting.{ListsAll, ListsStop, cut_evenly, separators_of};
+ghost use Rattle.ocfl_split.specs.Splitting.{ListsAll, ListsStop, cut_evenly, max_held};
+ghost use Rattle.ocfl_split.specs.Splitting.{separators_of};
 ghost use Rattle.ocfl_split.specs.Splitting.{listed_for};
 
 use crate::descent::split_level;
@@ -35,7 +36,7 @@ fn add(separators: &mut Separators, place: &Place) -> Result<(), AllocError>
 /// directory if there are fewer. Gives the first directory of each part but the first.
 fn cut(alloc: Global, level: &[Place], count: usize) -> Result<Separators, AllocError>
     requires ascend { IsAscending place_cmp level.now }
-    requires few { length level.now ≤ 1000000 }
+    requires few { length level.now ≤ max_held }
     ensures cut { IfOk result (λ separators. separators ≡ cut_evenly count level.now) }
     ensures few { IfOk result (λ separators. length separators ≤ count - 1) }
 {

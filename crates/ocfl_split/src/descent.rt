@@ -4,7 +4,8 @@ ghost use Rattle.std.specs.Prelude.{IfSome, MatchResult};
 ghost use Rattle.std.specs.Option.{option_map};
 ghost use Rattle.ocfl_tree.specs.StorageRoot.{StorageRoot};
 ghost use Rattle.ocfl_item.specs.Ways.{IsWayFault};
-ghost use Rattle.ocfl_split.specs.Splitting.{ListsAll, ListsStop, split_level as level_to_split};
+ghost use Rattle.ocfl_split.specs.Splitting.{ListsAll, ListsStop, max_held};
+ghost use Rattle.ocfl_split.specs.Splitting.{split_level as level_to_split};
 ghost use Rattle.ocfl_split.specs.Splitting.{listed_for, next_level as level_after};
 ghost use Rattle.ocfl_split.specs.Splitting.{listed_within, kept, wider as wider_level};
 ghost use Rattle.ocfl_split.specs.Internal.Directories.{IsLevel, AreListable};
@@ -28,7 +29,7 @@ fn next_level<T: Tree>(
     room: usize,
 ) -> Result<Option<Vec<Place>>, Fault>
     ensures only { IfErr result (λ why. IsWayFault why) }
-    ensures fair { room ≤ 1000000 → IfOk result (λ next. IfSome next (λ places. (depth : ℕ)
+    ensures fair { room ≤ max_held → IfOk result (λ next. IfSome next (λ places. (depth : ℕ)
         → IsLevel depth level.now → IsLevel (depth + 1) places.items)) }
     ensures told { IsTrue T.told → (root : StorageRoot) → (T.state store.old).tree ≡ root
         → AreListable root level.now → MatchResult result

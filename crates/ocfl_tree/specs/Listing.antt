@@ -2,7 +2,7 @@
 use Rattle.std.specs.Prelude.{◌≡◌, ◌≤◌, List, [], ◌∷◌, ◌++◌, length, filter_map, if◌then◌else◌, Option, Some, None, ⊤}
 use Rattle.std.specs.Option.{option_map}
 use Rattle.ocfl_tree.specs.Place.{Text, Place, text_eq}
-use Rattle.ocfl_tree.specs.StorageRoot.{StorageRoot, Leaf, file, dir, other, at, names_in}
+use Rattle.ocfl_tree.specs.StorageRoot.{StorageRoot, Leaf, file, dir, other, at, names_in, max_entries}
 use Rattle.ocfl_tree.specs.declared.store.Kind.{Kind}
 use Rattle.ocfl_tree.specs.declared.store.Kind.TheVariants as kind
 use Rattle.ocfl_tree.specs.declared.store.Entry.{Entry}
@@ -36,7 +36,7 @@ AreApart (e ∷ es) = (kind_in es e.name ≡ None) × AreApart es
 -- what any store may list
 pub record IsOrdinary (es : List Entry) : Type 0 where
   pub once : AreApart es
-  pub few : length es ≤ 1000000
+  pub few : length es ≤ max_entries
 
 -- these are the entries of the directory at d, in any order
 pub record IsListing (root : StorageRoot) (d : Place) (es : List Entry) : Type 0 where

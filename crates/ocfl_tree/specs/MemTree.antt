@@ -2,7 +2,7 @@
 use Rattle.std.specs.Prelude.{◌≡◌, ℕ, ◌+◌, ◌-◌, ◌^◌, Bool, false, not, ◌&&◌, nat_lt, nat_le, [], ◌∷◌, ◌++◌, Option, Some, None, is_some, IsOkUnless, MatchOption, OnErr, OnOk, Result, Err, length, min, if◌then◌else◌, slice_get}
 use Rattle.std.specs.Option.{option_map_or}
 use Rattle.ocfl_tree.specs.Place.{Text, Place, place_eq, begins}
-use Rattle.ocfl_tree.specs.StorageRoot.{StorageRoot, Leaf, at, is_dir, names_in}
+use Rattle.ocfl_tree.specs.StorageRoot.{StorageRoot, Leaf, at, is_dir, names_in, max_entries}
 use Rattle.ocfl_tree.specs.Store.{Store}
 use Rattle.ocfl_tree.specs.Faults.{Faults, no_faults, is_struck, within_step}
 use Rattle.ocfl_tree.specs.declared.store.Opening.{Opening}
@@ -59,7 +59,7 @@ abbrev pub put_refusal : StorageRoot → Place → Option BuildStop
 put_refusal root p =
     if is_some (at root p) then Some Exists
     else (if not (is_dir root (parent p)) then Some NoParent
-    else (if nat_le 1000000 (length (names_in root (parent p))) then Some Full else None))
+    else (if nat_le max_entries (length (names_in root (parent p))) then Some Full else None))
 
 -- no file is open, and all else but the tree stays
 pub record Changes (s t : Store) : Type 0 where

@@ -1,5 +1,5 @@
 -- Places in a storage root, and their order.
-use Rattle.std.specs.Prelude.{ℕ, List, [], ◌∷◌, Bool, true, false, ◌&&◌, if◌then◌else◌, Option, Some, None, map}
+use Rattle.std.specs.Prelude.{ℕ, List, [], ◌∷◌, Bool, true, false, ◌&&◌, if◌then◌else◌, Option, Some, None}
 use Rattle.std.specs.Ordering.{nat_cmp, is_eq}
 use Rattle.std.specs.declared.cmp.Ordering.{Ordering}
 use Rattle.std.specs.Cmp.Lexicographic.{slice_cmp}
@@ -25,11 +25,6 @@ place_cmp = slice_cmp text_cmp
 
 abbrev pub place_eq : Place → Place → Bool
 place_eq p q = is_eq (place_cmp p q)
-
--- the proper beginnings of a place, the root first
-abbrev pub beginnings : Place → List Place
-beginnings [] = []
-beginnings (n ∷ p) = [] ∷ map (λ q. n ∷ q) (beginnings p)
 
 -- whether p is d or lies below it
 abbrev pub begins : Place → Place → Bool

@@ -1,5 +1,5 @@
 -- What a storage root holds: places with what lies at each, the first where one stands twice.
-use Rattle.std.specs.Prelude.{List, [], ◌∷◌, ◌++◌, Bool, true, false, if◌then◌else◌, Option, Some, None, filter, filter_map, is_some, option_and_then}
+use Rattle.std.specs.Prelude.{ℕ, List, [], ◌∷◌, ◌++◌, Bool, true, false, if◌then◌else◌, Option, Some, None, filter_map, option_and_then}
 use Rattle.ocfl_tree.specs.Place.{Text, Place, text_cmp, place_eq, child_name}
 use Rattle.ocfl_tree.specs.Ascending.{ascending}
 
@@ -44,10 +44,10 @@ file_at root p = option_and_then bytes_of (at root p)
 abbrev pub is_dir : StorageRoot → Place → Bool
 is_dir root p = is_dir_leaf (at root p)
 
+-- a directory of more entries cannot be listed
+abbrev pub max_entries : ℕ
+max_entries = 1000000
+
 -- the names of the entries right below a place, ascending
 abbrev pub names_in : StorageRoot → Place → List Text
 names_in root d = ascending text_cmp (filter_map (λ e. child_name d e.0) root)
-
--- those of them that lead to files
-abbrev pub files_in : StorageRoot → Place → List Text
-files_in root d = filter (λ n. is_some (file_at root (d ++ n ∷ []))) (names_in root d)

@@ -6,8 +6,7 @@ use Rattle.ocfl_tree.specs.Place.{Text, Place}
 use Rattle.ocfl_tree.specs.StorageRoot.{StorageRoot, is_dir}
 use Rattle.ocfl_tree.specs.Store.{Store, Did}
 use Rattle.ocfl_tree.specs.declared.store.Entry.{Entry}
-use Rattle.ocfl_inventory.specs.Declaration.{is_known}
-use Rattle.ocfl_audit.specs.Zone.{skipped, inside, object_zone, root_declared, is_in_extensions, zone, table_at, is_entered, is_listed_zone, is_listed_in_object}
+use Rattle.ocfl_audit.specs.Zone.{skipped, inside, object_zone, root_declared, is_in_extensions, zone, table_at, is_entered, is_listed_zone, is_listed_in_object, is_known}
 use Rattle.ocfl_audit.specs.Walk.{is_reached}
 use Rattle.ocfl_item.specs.Ways.{Enters, Stops, way_below, is_listable, is_extensions_name, IsAt, IsObject}
 use Rattle.ocfl_item.specs.Around.{IsPart, IsTableAround}

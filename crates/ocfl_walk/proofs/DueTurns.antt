@@ -6,7 +6,8 @@ use Rattle.ocfl_tree.specs.Place.{Place, place_cmp}
 use Rattle.ocfl_tree.specs.Ascending.{IsAmong}
 use Rattle.ocfl_tree.specs.StorageRoot.{StorageRoot, Leaf}
 use Rattle.ocfl_tree.proofs.Orders.{place_cmp_total, not_below_itself, among_filter, among_from_filter}
-use Rattle.ocfl_report.specs.Line.{Note, Item, lines_at}
+use Rattle.ocfl_report.specs.Line.{Item}
+use Rattle.ocfl_inventory.specs.Note.{Note, lines_at}
 use Rattle.ocfl_audit.specs.Audit.{Unread, item_of, audit, after}
 use Rattle.ocfl_audit.specs.Due.{due, items_at}
 use Rattle.ocfl_audit.specs.Head.{on}

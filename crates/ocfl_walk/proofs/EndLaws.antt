@@ -9,7 +9,7 @@ use Rattle.ocfl_tree.specs.Ascending.{IsAscending, IsAmong}
 use Rattle.ocfl_tree.specs.StorageRoot.{StorageRoot, dir}
 use Rattle.ocfl_tree.proofs.Bools.{and_first, and_second, and_both}
 use Rattle.ocfl_tree.proofs.Orders.{place_cmp_total, place_cmp_exact, true_not_false, not_below_itself, below_from_greater}
-use Rattle.ocfl_report.specs.Line.{Note}
+use Rattle.ocfl_inventory.specs.Note.{Note}
 use Rattle.ocfl_audit.specs.Zone.{seen}
 use Rattle.ocfl_audit.specs.Lines.{notes}
 use Rattle.ocfl_audit.specs.Due.{due, item_places}

@@ -6,10 +6,10 @@ use Rattle.ocfl_tree.specs.StorageRoot.{StorageRoot}
 use Rattle.ocfl_tree.specs.Store.{Store, Did}
 use Rattle.ocfl_tree.specs.Listing.{IsOrdinary}
 use Rattle.ocfl_tree.specs.declared.store.Entry.{Entry}
-use Rattle.ocfl_inventory.specs.Declaration.{declared, is_known}
+use Rattle.ocfl_inventory.specs.Declaration.{declared}
 use Rattle.ocfl_inventory.specs.Entries.{file_names}
 use Rattle.ocfl_inventory.specs.declared.declaration.Level.TheVariants as level
-use Rattle.ocfl_audit.specs.Zone.{hierarchy, skipped, root_declared, is_listed_zone, zone}
+use Rattle.ocfl_audit.specs.Zone.{hierarchy, skipped, root_declared, is_listed_zone, zone, is_known}
 use Rattle.ocfl_audit.specs.Walk.{is_reached}
 use Rattle.ocfl_audit.specs.Stack.{seen_places}
 use Rattle.ocfl_item.specs.Looking.{way_to}

@@ -4,7 +4,7 @@ use Rattle.std.proofs.lemmas.List.{append-nil}
 use Rattle.std.specs.Prelude.{cond, ◌&&◌, nat_le}
 use Rattle.std.specs.List.{list_all}
 use Rattle.std.specs.declared.cmp.Ordering.TheVariants.{Less}
-use Rattle.ocfl_tree.specs.Place.{Place, Text, place_cmp, begins, text_eq, beginnings}
+use Rattle.ocfl_tree.specs.Place.{Place, Text, place_cmp, begins, text_eq}
 use Rattle.ocfl_tree.specs.Ascending.{IsAmong}
 use Rattle.ocfl_tree.specs.StorageRoot.{StorageRoot, is_dir, names_in}
 use Rattle.ocfl_tree.specs.Store.{Store}
@@ -15,7 +15,7 @@ use Rattle.ocfl_audit.specs.Due.{due}
 use Rattle.ocfl_audit.specs.Lines.{notes}
 use Rattle.ocfl_audit.specs.Walk.{is_reached, seen_names}
 use Rattle.ocfl_audit.specs.Stack.{IsListed}
-use Rattle.ocfl_audit.specs.Zone.{Zone, skipped, hierarchy, inside, zone, table_at, is_entered, is_listed_zone, is_listed_in_object, max_listed_depth}
+use Rattle.ocfl_audit.specs.Zone.{Zone, skipped, hierarchy, inside, zone, table_at, is_entered, is_listed_zone, is_listed_in_object, max_listed_depth, beginnings}
 use Rattle.ocfl_walk.specs.Standing.{HaveEntries, IsAroundIf, IsHeld, IsOrderly, IsTaken, Pile, StandsAt, frames_of, next_of, still}
 use Rattle.ocfl_item.specs.Around.{IsMet, IsPart, IsTableAround}
 use Rattle.ocfl_item.specs.Meeting.{IsItemAt, Meets}

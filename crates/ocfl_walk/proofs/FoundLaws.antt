@@ -5,8 +5,7 @@ use Rattle.ocfl_tree.specs.Place.{Text, Place, text_eq}
 use Rattle.ocfl_tree.specs.StorageRoot.{StorageRoot}
 use Rattle.ocfl_tree.specs.Store.{Store, Did}
 use Rattle.ocfl_tree.specs.declared.store.Opening.{Opening}
-use Rattle.ocfl_inventory.specs.Declaration.{is_known}
-use Rattle.ocfl_audit.specs.Zone.{Zone, skipped, hierarchy, inside, inventory_name, is_in_extensions, object_zone, root_declared, zone}
+use Rattle.ocfl_audit.specs.Zone.{Zone, skipped, hierarchy, inside, inventory_name, is_in_extensions, object_zone, root_declared, zone, is_known}
 use Rattle.ocfl_audit.specs.Due.{hashed_among}
 use Rattle.ocfl_audit.specs.Lines.{is_hashed, notes, notes_in}
 use Rattle.ocfl_audit.specs.Between.{is_looked_into}

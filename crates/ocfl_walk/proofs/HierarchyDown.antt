@@ -12,8 +12,7 @@ use Rattle.ocfl_inventory.specs.declared.declaration.Declared.{Declared as MadeD
 use Rattle.ocfl_inventory.specs.declared.declaration.Declared.TheVariants as made
 use Rattle.ocfl_inventory.specs.declared.declaration.Version.{Version}
 use Rattle.ocfl_inventory.specs.declared.declaration.Level.TheVariants as level
-use Rattle.ocfl_inventory.specs.Declaration.{is_known}
-use Rattle.ocfl_audit.specs.Zone.{inside, table_at, zone}
+use Rattle.ocfl_audit.specs.Zone.{inside, table_at, zone, is_known}
 use Rattle.ocfl_item.specs.Ways.{InHierarchy, IsDeclared, IsObject}
 use Rattle.ocfl_item.specs.Meeting.{IsFairFolder}
 use Rattle.ocfl_walk.specs.Standing.{IsAroundIf}

@@ -1,9 +1,9 @@
 -- Whose inventory is read on the way down to a place, and which directories lie on it.
 use Rattle.std.proofs.Common.{◌≡◌, Bool, true, false, cond, [], ◌∷◌, ◌++◌, None, Some, inl, inr, filter, refl, ap, sym, ◌∙◌}
-use Rattle.ocfl_tree.specs.Place.{Place, beginnings}
+use Rattle.ocfl_tree.specs.Place.{Place}
 use Rattle.ocfl_tree.specs.Ascending.{IsAmong}
 use Rattle.ocfl_tree.specs.StorageRoot.{StorageRoot}
-use Rattle.ocfl_audit.specs.Zone.{Zone, skipped, hierarchy, inside, zone}
+use Rattle.ocfl_audit.specs.Zone.{Zone, skipped, hierarchy, inside, zone, beginnings}
 use Rattle.ocfl_audit.specs.Trail.{reads_inventory}
 use Rattle.ocfl_audit.proofs.AuditExists.{zone_is}
 use Rattle.ocfl_walk.specs.WalkCalls.{holder_of, holder, way_of}

@@ -4,11 +4,11 @@ use Rattle.std.proofs.lemmas.Bool.{leb-true}
 use Rattle.std.proofs.lemmas.List.{length-append}
 use Rattle.std.specs.Prelude.{◌&&◌, nat_le}
 use Rattle.std.specs.List.{list_all}
-use Rattle.ocfl_tree.specs.Place.{Text, Place, text_eq, beginnings}
+use Rattle.ocfl_tree.specs.Place.{Text, Place, text_eq}
 use Rattle.ocfl_tree.specs.StorageRoot.{StorageRoot, is_dir}
 use Rattle.ocfl_tree.specs.declared.store.Entry.{Entry}
 use Rattle.ocfl_inventory.specs.ListedPath.{is_version_name}
-use Rattle.ocfl_audit.specs.Zone.{inside, zone, table_at, is_entered, is_listed_zone, is_listed_in_object, is_listed_within, max_listed_depth}
+use Rattle.ocfl_audit.specs.Zone.{inside, zone, table_at, is_entered, is_listed_zone, is_listed_in_object, is_listed_within, max_listed_depth, beginnings}
 use Rattle.ocfl_audit.specs.Walk.{step_listed}
 use Rattle.ocfl_item.specs.Ways.{IsAt}
 use Rattle.ocfl_walk.specs.Standing.{IsAround, IsAroundIf}

@@ -4,10 +4,9 @@ use Rattle.std.specs.Prelude.{cond, IfSome}
 use Rattle.ocfl_tree.specs.Place.{Place, Text}
 use Rattle.ocfl_tree.specs.StorageRoot.{StorageRoot}
 use Rattle.ocfl_tree.specs.declared.store.Entry.{Entry}
-use Rattle.ocfl_inventory.specs.Declaration.{is_declared}
 use Rattle.ocfl_inventory.specs.Table.{IsFit, Table}
 use Rattle.ocfl_audit.specs.Trail.{is_head}
-use Rattle.ocfl_audit.specs.Zone.{skipped, hierarchy, inside, zone, table_at, object_declared}
+use Rattle.ocfl_audit.specs.Zone.{skipped, hierarchy, inside, zone, table_at, object_declared, is_declared}
 use Rattle.ocfl_audit.specs.Walk.{is_extensions, step_zone}
 use Rattle.ocfl_tree.specs.Listing.{IsOrdinary}
 use Rattle.ocfl_item.specs.declared.folder.Folder.{Folder}

@@ -2,12 +2,12 @@
 use Rattle.std.specs.Prelude.{◌≡◌, ◌≤◌, ℕ, List, [], ◌∷◌, ◌++◌, Bool, not, false, Option, Some, None, Result, MatchOption, MatchResult, length}
 use Rattle.std.specs.List.{AllByRecursion}
 use Rattle.ocfl_tree.specs.Place.{Text, Place}
-use Rattle.ocfl_tree.specs.StorageRoot.{StorageRoot}
+use Rattle.ocfl_tree.specs.StorageRoot.{StorageRoot, max_entries}
 use Rattle.ocfl_tree.specs.Store.{Store, Did}
 use Rattle.ocfl_tree.specs.Listing.{IsOrdinary}
 use Rattle.ocfl_tree.specs.declared.store.Entry.{Entry}
 use Rattle.ocfl_tree.specs.declared.store.Opening.{Opening}
-use Rattle.ocfl_audit.specs.Zone.{Zone, inside, root_declared, zone, table_at}
+use Rattle.ocfl_audit.specs.Zone.{Zone, inside, root_declared, zone, table_at, is_known, max_listed_depth}
 use Rattle.ocfl_audit.specs.Lines.{is_hashed}
 use Rattle.ocfl_audit.specs.Trail.{content_trail}
 use Rattle.ocfl_item.specs.Looking.{way_to, IsFront, failures_by}
@@ -16,7 +16,6 @@ use Rattle.ocfl_walk.specs.WalkCalls.{holder_of}
 use Rattle.ocfl_item.specs.Ways.{way_below, is_extensions_name, AreInventories, AreReached, Enters, InHierarchy, IsAt, Stops}
 use Rattle.ocfl_audit.specs.Walk.{is_reached, step_listed}
 use Rattle.ocfl_audit.specs.Stack.{seen_places, seen_left, listed_at, IsListed}
-use Rattle.ocfl_inventory.specs.Declaration.{is_known}
 use Rattle.ocfl_walk.specs.Standing.{Pile, frames_of, IsChain, IsAroundIf, HaveEntries}
 use Rattle.ocfl_item.specs.Around.{IsTableAround, IsPart}
 use Rattle.ocfl_audit.specs.Trail.{heads_of}
@@ -114,9 +113,9 @@ pub record Leads (root : StorageRoot) (s t : Store) (d : Place) (n : Text) (r : 
 -- on any store: a directory that was listed, and what was kept of those above it
 pub record IsComing (d : Place) (es : List Entry) (ps : List Pile) (around : Option Around) : Type 0 where
   pub chain : IsChain d (length d) (frames_of ps)
-  pub short : length d ≤ 127
+  pub short : length d ≤ max_listed_depth
   pub ordinary : IsOrdinary es
-  pub few : AllByRecursion (λ p. length p.1 ≤ 1000000) ps
+  pub few : AllByRecursion (λ p. length p.1 ≤ max_entries) ps
   pub object : IsAroundIf d around
 
 -- the listings from d to d ++ q, on top of others

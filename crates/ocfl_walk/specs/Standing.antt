@@ -6,11 +6,11 @@ use Rattle.std.specs.List.{AllByRecursion}
 use Rattle.std.specs.declared.cmp.Ordering.TheVariants.{Less}
 use Rattle.ocfl_tree.specs.Place.{Text, Place, text_cmp, place_cmp, begins}
 use Rattle.ocfl_tree.specs.Ascending.{IsAmong, IsAscending, IsBeforeAll}
-use Rattle.ocfl_tree.specs.StorageRoot.{StorageRoot}
+use Rattle.ocfl_tree.specs.StorageRoot.{StorageRoot, max_entries}
 use Rattle.ocfl_tree.specs.Listing.{kind_at}
 use Rattle.ocfl_tree.specs.declared.store.Entry.{Entry}
 use Rattle.ocfl_inventory.specs.Table.{IsFit, Table, paths_of}
-use Rattle.ocfl_audit.specs.Zone.{seen}
+use Rattle.ocfl_audit.specs.Zone.{seen, max_listed_depth}
 use Rattle.ocfl_audit.specs.Lines.{notes}
 use Rattle.ocfl_audit.specs.Due.{due}
 use Rattle.ocfl_inventory.specs.NextPath.{next_path}
@@ -24,6 +24,10 @@ use Rattle.ocfl_walk.specs.declared.stand.Turn.TheVariants as turn
 use Rattle.ocfl_item.specs.declared.folder.Folder.{Folder}
 use Rattle.ocfl_item.specs.declared.meeting.Around.{Around}
 use Rattle.ocfl_walk.specs.declared.stand.Stand.{Stand}
+
+-- how many lengths the places of listed directories have, that of the storage root among them
+abbrev pub levels : ℕ
+levels = max_listed_depth + 1
 
 -- ---- what is kept: the next entry stands last in a listing, the deepest listing last
 
@@ -92,7 +96,7 @@ IsFitIf (Some a) = IsFit a.table
 -- the last place lies in the object
 pub record IsAround (last : Place) (a : Around) : Type 0 where
   pub holds : begins a.place last ≡ true
-  pub depth : length a.place ≤ 127
+  pub depth : length a.place ≤ max_listed_depth
   pub fit : IsFit a.table
 
 abbrev pub IsAroundIf : Place → Option Around → Type 0
@@ -100,8 +104,8 @@ IsAroundIf last None = ⊤
 IsAroundIf last (Some a) = IsAround last a
 
 pub record IsOrderly (last : Place) (ps : List Pile) (around : Option Around) : Type 0 where
-  pub chain : IsChain last 128 (frames_of ps)
-  pub few : AllByRecursion (λ p. length p.1 ≤ 1000000) ps
+  pub chain : IsChain last levels (frames_of ps)
+  pub few : AllByRecursion (λ p. length p.1 ≤ max_entries) ps
   pub object : IsAroundIf last around
 
 -- nothing was taken yet, or all is in order
@@ -117,7 +121,7 @@ IsOrderlyStand s = IsOrderlyIf s.last (piles_in s.last s.listings.items) s.aroun
 -- a listing weighs so much for each entry that is left that all below an entry weighs less
 abbrev pub weigh : ℕ → List Pile → ℕ
 weigh w [] = 0
-weigh w (p ∷ ps) = length p.1 * w ^ (128 - length ps) + weigh w ps
+weigh w (p ∷ ps) = length p.1 * w ^ (levels - length ps) + weigh w ps
 
 abbrev pub paths_above : Place → Option Around → ℕ
 paths_above last None = 0
@@ -261,9 +265,9 @@ pushed (Some f) ps = pile_of f ∷ ps
 -- listed and put in order
 pub record IsFairPile (e : Place) (f : Folder) : Type 0 where
   pub place : f.place ≡ e
-  pub depth : length e ≤ 127
+  pub depth : length e ≤ max_listed_depth
   pub ascends : IsAscending text_cmp (left_names f)
-  pub few : length (left_of_folder f) ≤ 1000000
+  pub few : length (left_of_folder f) ≤ max_entries
 
 -- ---- where a walk goes on with one name of a directory
 

@@ -1,14 +1,14 @@
 //! What a walk did adds up, what lies on the way down to a place, and what a walk that begins at a
 //! place gives.
 ghost use Rattle.std.specs.Prelude.{◌≡◌, ◌++◌, ◌∷◌, [], Option, None, Some, true};
-ghost use Rattle.ocfl_tree.specs.Place.{Place, beginnings};
+ghost use Rattle.ocfl_tree.specs.Place.{Place};
 ghost use Rattle.ocfl_tree.specs.Ascending.{IsAmong};
 ghost use Rattle.ocfl_tree.specs.Store.{Store};
 ghost use Rattle.ocfl_tree.specs.StorageRoot.{StorageRoot};
 ghost use Rattle.ocfl_audit.specs.Between.{IsBeyond, IsWithin, looked_between, read_between};
 ghost use Rattle.ocfl_audit.specs.Due.{due, item_places};
 ghost use Rattle.ocfl_audit.specs.Trail.{reads_inventory};
-ghost use Rattle.ocfl_audit.specs.Zone.{inside, zone};
+ghost use Rattle.ocfl_audit.specs.Zone.{inside, zone, beginnings};
 ghost use Rattle.ocfl_item.specs.declared.fault.Fault.{Fault};
 ghost use Rattle.ocfl_walk.specs.Before.{place_before, places_from};
 ghost use Rattle.ocfl_walk.specs.WalkCalls.{Walks, WalkFails, holder, way_of};

@@ -12,7 +12,8 @@ ghost use Rattle.ocfl_audit.specs.Zone.{seen};
 ghost use Rattle.ocfl_item.specs.Ways.{IsWayFault};
 ghost use Rattle.ocfl_item.specs.Around.{IsMet, IsTableAround};
 ghost use Rattle.ocfl_item.specs.Meeting.{IsFairVisit, IsItemAt, IsVisit, MeetFails, Meets};
-ghost use Rattle.ocfl_walk.specs.Standing.{IsBelowNext, IsStanding, IsTurn, frames_of, popped};
+ghost use Rattle.ocfl_walk.specs.Standing.{IsBelowNext, IsStanding, IsTurn, frames_of, levels};
+ghost use Rattle.ocfl_walk.specs.Standing.{popped};
 ghost use Rattle.ocfl_walk.specs.Standing.{pushed, IsAroundIf, IsOrderlyStand, IsTaken, StandsAt};
 ghost use Rattle.ocfl_walk.specs.Standing.{next_of, path_from, piles_at, piles_in, still, trimmed};
 ghost use Rattle.ocfl_walk.specs.Standing.{IsHeld, IsNamedIn, around_of, cut_top, turn_before};
@@ -322,7 +323,7 @@ fn step_of(item: Option<Pending>) -> Step
 
 /// Puts the listing of the last place on top, if there is one.
 fn push_if(listings: &mut Listings, folder: Option<Folder>)
-    requires { IfSome folder (λ _. array_vec_len listings.old < 128) }
+    requires { IfSome folder (λ _. array_vec_len listings.old < levels) }
     ensures { (p : Spot) → IfSome folder (λ f. (f.place ≡ p)
         × (length p ≡ length listings.old.items))
         → piles_at p listings.new.items ≡ pushed folder (piles_at p listings.old.items) }

@@ -6,7 +6,7 @@ use Rattle.ocfl_tree.specs.StorageRoot.{StorageRoot, file}
 use Rattle.ocfl_report.specs.Line.{found}
 use Rattle.ocfl_report.specs.Text.{text}
 use Rattle.ocfl_digest.specs.declared.algorithm.Algorithm.TheVariants.{Md5, Sha1, Sha256, Sha512, Sha512_256}
-use Rattle.ocfl_inventory.specs.DigestText.{digest_of}
+use Rattle.ocfl_audit.specs.Head.{digest_of}
 use Rattle.ocfl_audit.specs.Audit.{audit, total_cost}
 use Rattle.ocfl_audit.specs.Due.{item_places, hashed_among}
 use Rattle.ocfl_audit.specs.Walk.{item_at}

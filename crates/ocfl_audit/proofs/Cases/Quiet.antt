@@ -4,7 +4,8 @@ use Rattle.std.specs.Prelude.{◌&&◌}
 use Prim.Native.String.{String}
 use Rattle.ocfl_tree.specs.Place.{Text, Place}
 use Rattle.ocfl_tree.specs.StorageRoot.{StorageRoot}
-use Rattle.ocfl_report.specs.Line.{Note, Item, plain}
+use Rattle.ocfl_report.specs.Line.{Item}
+use Rattle.ocfl_inventory.specs.Note.{Note, plain}
 use Rattle.ocfl_report.specs.Text.{text}
 use Rattle.ocfl_report.specs.declared.code.Code.TheVariants.{E058}
 use Rattle.ocfl_digest.specs.declared.algorithm.Algorithm.TheVariants.{Sha256, Sha512}

@@ -4,7 +4,8 @@ use Rattle.std.specs.Prelude.{cond, not, nat_le, if◌then◌else◌}
 use Rattle.ocfl_tree.specs.Place.{Text, Place, place_cmp, place_eq}
 use Rattle.ocfl_tree.specs.Ascending.{ascending}
 use Rattle.ocfl_tree.specs.StorageRoot.{StorageRoot, file_at}
-use Rattle.ocfl_report.specs.Line.{Note, Item, note, plain, lines_at}
+use Rattle.ocfl_report.specs.Line.{Item}
+use Rattle.ocfl_inventory.specs.Note.{note, Note, plain, lines_at}
 use Rattle.ocfl_report.specs.declared.code.Code.TheVariants.{E003, E007, S01, S02}
 use Rattle.ocfl_inventory.specs.Declaration.{Declared, undeclared, known, unknown, several}
 use Rattle.ocfl_inventory.specs.Reading.{algorithm_of}

@@ -3,7 +3,8 @@ use Rattle.std.proofs.Common.{◌≡◌, ◌≤◌, ◌⊎◌, inl, inr, ◌∙�
 use Prim.Native.String.{String}
 use Rattle.ocfl_tree.specs.Place.{Text}
 use Rattle.ocfl_tree.specs.StorageRoot.{StorageRoot}
-use Rattle.ocfl_report.specs.Line.{Item, note, plain, found}
+use Rattle.ocfl_report.specs.Line.{Item, found}
+use Rattle.ocfl_inventory.specs.Note.{note, plain}
 use Rattle.ocfl_report.specs.declared.code.Code.TheVariants.{E023, E092, E093}
 use Rattle.ocfl_report.specs.Text.{text, place_text}
 use Rattle.ocfl_audit.specs.Audit.{audit, after, total_cost}

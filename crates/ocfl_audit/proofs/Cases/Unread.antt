@@ -4,7 +4,8 @@ use Prim.Native.String.{String}
 use Rattle.ocfl_tree.specs.Place.{Text}
 use Rattle.ocfl_tree.specs.StorageRoot.{StorageRoot}
 use Rattle.ocfl_tree.specs.declared.store.Opening.{Opening}
-use Rattle.ocfl_report.specs.Line.{Item, plain, found}
+use Rattle.ocfl_report.specs.Line.{Item, found}
+use Rattle.ocfl_inventory.specs.Note.{plain}
 use Rattle.ocfl_report.specs.declared.code.Code.TheVariants.{S08}
 use Rattle.ocfl_report.specs.Text.{text}
 use Rattle.ocfl_audit.specs.Audit.{Unread, audit, total_cost}

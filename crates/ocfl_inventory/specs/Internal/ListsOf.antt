@@ -2,7 +2,7 @@
 use Rattle.std.specs.Prelude.{◌≡◌, List, ◌++◌, map, flat_map, string_bytes}
 use Rattle.ocfl_tree.specs.Place.{Text}
 use Rattle.ocfl_tree.specs.Path.{slashed}
-use Rattle.ocfl_report.specs.Line.{Note, note}
+use Rattle.ocfl_inventory.specs.Note.{note, Note}
 use Rattle.ocfl_report.specs.declared.code.Code.TheVariants.{E096, E101, S07}
 use Rattle.ocfl_digest.specs.declared.algorithm.Algorithm.{Algorithm}
 use Rattle.ocfl_inventory.specs.Reading.{Block}

@@ -9,7 +9,7 @@ use Rattle.serde_json.specs.declared.value.Value.{Value}
 use Rattle.serde_json.specs.Data.{Data, Members, no_members}
 use Rattle.serde_json.specs.Find.{as_str, get_member}
 use Rattle.ocfl_tree.specs.Place.{Text}
-use Rattle.ocfl_report.specs.Line.{Note}
+use Rattle.ocfl_inventory.specs.Note.{Note}
 use Rattle.ocfl_digest.specs.Algorithm.{algorithm_name}
 use Rattle.ocfl_inventory.specs.Reading.{Reading, Block, Inventory, block_of}
 use Rattle.ocfl_digest.specs.declared.algorithm.Algorithm.{Algorithm}

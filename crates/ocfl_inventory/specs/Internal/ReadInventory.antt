@@ -1,7 +1,8 @@
 -- What reading an inventory gives, beside the definitions.
 use Rattle.std.specs.Prelude.{◌≡◌, List, [], ◌∷◌, Result, Ok, Err, Vec, map}
 use Rattle.std.specs.declared.alloc.Global.{Global}
-use Rattle.ocfl_report.specs.Line.{Note, Line}
+use Rattle.ocfl_report.specs.Line.{Line}
+use Rattle.ocfl_inventory.specs.Note.{Note}
 use Rattle.ocfl_inventory.specs.Reading.{Reading, Inventory}
 use Rattle.ocfl_inventory.specs.Notes.{inventory_notes}
 use Rattle.ocfl_inventory.specs.Table.{Table, table_from}

@@ -6,6 +6,7 @@ use Rattle.ocfl_tree.specs.StorageRoot.{StorageRoot}
 use Rattle.ocfl_tree.specs.declared.store.Entry.{Entry}
 use Rattle.ocfl_item.specs.Ways.{is_dir_kind, is_extensions_name, is_listable}
 use Rattle.ocfl_split.specs.Levels.{directories_below}
+use Rattle.ocfl_split.specs.Splitting.{max_held}
 
 -- an entry of a directory of the hierarchy that is a directory of it too
 abbrev pub is_directory_entry : Place → Entry → Bool
@@ -35,7 +36,7 @@ pub record AddsAll (root : StorageRoot) (d : Place) (room : ℕ) (old new : List
 pub record IsLevel (depth : ℕ) (ps : List Place) : Type 0 where
   pub ascend : IsAscending place_cmp ps
   pub deep : All (λ p. length p ≡ depth) ps
-  pub few : length ps ≤ 1000000
+  pub few : length ps ≤ max_held
 
 abbrev pub AreListable : StorageRoot → List Place → Type 0
 AreListable root ds = All (λ d. is_listable root d ≡ true) ds

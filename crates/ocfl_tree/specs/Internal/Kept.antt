@@ -1,7 +1,7 @@
 -- How a tree in memory keeps what it tells.
 use Rattle.std.specs.Prelude.{◌≡◌, ℕ, ◌<◌, ◌≤◌, List, [], ◌∷◌, ◌++◌, Option, Some, None, length, drop, ⊤}
 use Rattle.ocfl_tree.specs.Place.{Text, Place}
-use Rattle.ocfl_tree.specs.StorageRoot.{StorageRoot, at}
+use Rattle.ocfl_tree.specs.StorageRoot.{StorageRoot, at, max_entries}
 use Rattle.ocfl_tree.specs.Faults.{Faults}
 use Rattle.ocfl_tree.specs.Internal.Nodes.{AreOnce, stands_at, kept_in, leaf_at, bytes_in}
 use Rattle.ocfl_tree.specs.MemTree.{Held}
@@ -29,7 +29,7 @@ IfOpen nodes openings (Some o) = IsOpen nodes openings o
 pub record IsKept (nodes : StorageRoot) (openings : List Opening) (reader : Option OpenFile) : Type 0 where
   pub once : AreOnce nodes
   pub rooted : (p : Place) → at nodes p ≡ stands_at nodes p
-  pub few : (p : Place) → length (kept_in nodes p) ≤ 1000000
+  pub few : (p : Place) → length (kept_in nodes p) ≤ max_entries
   pub reading : IfOpen nodes openings reader
 
 -- what is seen of the parts

@@ -1,7 +1,7 @@
 -- How a tree in memory keeps what lies at its places.
 use Rattle.std.specs.Prelude.{◌≡◌, ℕ, List, [], ◌∷◌, Option, Some, None, slice_index_or, length, is_some, not, nat_le, if◌then◌else◌, ⊤}
 use Rattle.ocfl_tree.specs.Place.{Text, Place, child_name}
-use Rattle.ocfl_tree.specs.StorageRoot.{StorageRoot, Leaf, file, dir, other, lookup, is_dir_leaf}
+use Rattle.ocfl_tree.specs.StorageRoot.{StorageRoot, Leaf, file, dir, other, lookup, is_dir_leaf, max_entries}
 use Rattle.ocfl_tree.specs.Listing.{kind_of}
 use Rattle.ocfl_tree.specs.MemTree.{parent}
 use Rattle.ocfl_tree.specs.declared.build.BuildStop.{BuildStop}
@@ -48,4 +48,4 @@ abbrev pub kept_refusal : StorageRoot → Place → Option BuildStop
 kept_refusal root p =
     if is_some (stands_at root p) then Some Exists
     else (if not (is_dir_leaf (stands_at root (parent p))) then Some NoParent
-    else (if nat_le 1000000 (length (kept_in root (parent p))) then Some Full else None))
+    else (if nat_le max_entries (length (kept_in root (parent p))) then Some Full else None))

@@ -2,7 +2,7 @@ use Rattle.std.proofs.Common.{◌≡◌, ◌++◌, ◌∙◌, ap, subst, List, S
 use Rattle.std.specs.Prelude.{OnOk}
 use Rattle.ocfl_tree.specs.Place.{Place}
 use Rattle.ocfl_tree.specs.Path.{slashed}
-use Rattle.ocfl_report.specs.Line.{Note, note}
+use Rattle.ocfl_inventory.specs.Note.{note, Note}
 use Rattle.ocfl_report.specs.declared.code.Code.TheVariants.{E101}
 use Rattle.ocfl_inventory.specs.Notes.{fault_notes}
 use Rattle.ocfl_inventory.specs.Remark.{remark_view}

@@ -1,6 +1,6 @@
 use Rattle.std.proofs.Common.{List, ap, ◌∙◌, ◌++◌, ◌∷◌, map}
 use Rattle.ocfl_tree.specs.Place.{Text}
-use Rattle.ocfl_report.specs.Line.{note}
+use Rattle.ocfl_inventory.specs.Note.{note}
 use Rattle.ocfl_report.specs.declared.code.Code.TheVariants.{E097}
 use Rattle.ocfl_digest.specs.Algorithm.{algorithm_name}
 use Rattle.ocfl_inventory.specs.Notes.{repeated_digests}

@@ -1,5 +1,5 @@
 use Rattle.std.proofs.Common.{◌≡◌, ◌++◌, ◌∷◌, map, take}
-use Rattle.ocfl_report.specs.Line.{note}
+use Rattle.ocfl_inventory.specs.Note.{note}
 use Rattle.ocfl_report.specs.declared.code.Code.TheVariants.{E097}
 use Rattle.ocfl_digest.specs.Algorithm.{algorithm_name}
 use Rattle.ocfl_inventory.specs.Remark.{remark_view}

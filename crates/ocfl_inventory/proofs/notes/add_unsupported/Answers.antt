@@ -1,5 +1,5 @@
 use Rattle.std.proofs.Common.{List, String, Global, ap, ◌∙◌, map, string_bytes}
-use Rattle.ocfl_report.specs.Line.{note}
+use Rattle.ocfl_inventory.specs.Note.{note}
 use Rattle.ocfl_report.specs.declared.code.Code.TheVariants.{S07}
 use Rattle.ocfl_inventory.specs.Remark.{remark_view}
 use Rattle.ocfl_inventory.proofs.Loops.{appended, appended_all, seen_more}

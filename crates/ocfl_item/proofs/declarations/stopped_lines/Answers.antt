@@ -1,5 +1,5 @@
 use Rattle.std.proofs.Common.{◌≡◌, [], false, ap, sym, subst}
-use Rattle.ocfl_inventory.specs.Declaration.{is_known}
+use Rattle.ocfl_audit.specs.Zone.{is_known}
 use Rattle.ocfl_inventory.specs.Entries.{meaning, PointsAtOne}
 use Rattle.ocfl_item.specs.HeadLines.{declared_notes}
 use Rattle.ocfl_item.specs.Pending.{HasLines}

@@ -1,5 +1,5 @@
 use Rattle.std.proofs.Common.{◌≡◌, ◌++◌, [], ◌∙◌, List, OnOk, Result, Ok, Err, map}
-use Rattle.ocfl_report.specs.Line.{Note}
+use Rattle.ocfl_inventory.specs.Note.{Note}
 use Rattle.ocfl_inventory.specs.TripleView.{named_view}
 use Rattle.ocfl_audit.specs.Lines.{unnamed_notes, wrong_notes}
 use Rattle.ocfl_item.specs.Pending.{HasLines}

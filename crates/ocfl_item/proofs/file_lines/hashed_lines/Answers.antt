@@ -1,5 +1,5 @@
 use Rattle.std.proofs.Common.{◌++◌, ◌∙◌, ap, map}
-use Rattle.ocfl_report.specs.Line.{lines_at}
+use Rattle.ocfl_inventory.specs.Note.{lines_at}
 use Rattle.ocfl_inventory.specs.TripleView.{named_view}
 use Rattle.ocfl_audit.specs.Lines.{or_bytes, unnamed_notes, wrong_notes}
 use Rattle.ocfl_item.proofs.file_lines.hashed_lines.Goals as goal

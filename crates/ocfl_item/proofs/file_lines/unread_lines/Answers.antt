@@ -1,5 +1,5 @@
 use Rattle.std.proofs.Common.{[], ◌∷◌, ◌++◌, ◌∙◌, ap, map}
-use Rattle.ocfl_report.specs.Line.{lines_at, plain}
+use Rattle.ocfl_inventory.specs.Note.{plain, lines_at}
 use Rattle.ocfl_report.specs.declared.code.Code.TheVariants.{S08}
 use Rattle.ocfl_inventory.specs.TripleView.{named_view}
 use Rattle.ocfl_audit.specs.Lines.{unnamed_notes}

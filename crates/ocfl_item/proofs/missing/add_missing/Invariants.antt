@@ -1,6 +1,7 @@
 use Rattle.std.proofs.Common.{◌≡◌, ◌++◌, drop, map, option_map, None}
 use Rattle.std.specs.Option.{option_copied}
-use Rattle.ocfl_report.specs.Line.{line_of, lines_at}
+use Rattle.ocfl_report.specs.Line.{line_of}
+use Rattle.ocfl_inventory.specs.Note.{lines_at}
 use Rattle.ocfl_inventory.specs.TripleView.{named_view}
 use Rattle.ocfl_item.proofs.MissingLaws.{notes_behind}
 use Rattle.ocfl_item.proofs.missing.add_missing.Given as goal

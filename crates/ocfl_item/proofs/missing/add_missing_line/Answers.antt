@@ -1,5 +1,5 @@
 use Rattle.std.proofs.Common.{◌∷◌, ◌++◌, [], OnOk, codes, ◌∙◌, ap, subst}
-use Rattle.ocfl_report.specs.Line.{note}
+use Rattle.ocfl_inventory.specs.Note.{note}
 use Rattle.ocfl_item.specs.Pending.{Adds}
 use Rattle.ocfl_item.proofs.missing.add_missing_line.Goals as goal
 

@@ -1,5 +1,5 @@
 use Rattle.std.proofs.Common.{[], ◌∷◌, ◌∙◌}
-use Rattle.ocfl_report.specs.Line.{plain}
+use Rattle.ocfl_inventory.specs.Note.{plain}
 use Rattle.ocfl_item.proofs.LinesLaws.{has_more}
 use Rattle.ocfl_item.proofs.lines.PlaceLines.plain.Goals as goal
 

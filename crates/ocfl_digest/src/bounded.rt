@@ -2,6 +2,7 @@
 ghost use Rattle.std.specs.Prelude.{◌≡◌, IsTrue, IfOk, MatchResult};
 ghost use Rattle.ocfl_tree.specs.StorageRoot.{StorageRoot};
 ghost use Rattle.ocfl_digest.specs.Bounded.{IsWithin, ReadsBounded, StopsReading};
+ghost use Rattle.ocfl_tree.specs.Store.{IfTold};
 
 use crate::pieces::read_piece;
 use ocfl_tree::{Place, Tree, Trouble};
@@ -33,10 +34,10 @@ pub fn read_bounded<T: Tree>(
     ensures within { IfOk result (IsWithin limit) }
 
     // Of a store that tells its tree.
-    ensures reads { IsTrue T.told → (root : StorageRoot) → (T.state store.old).tree ≡ root
-        → MatchResult result
+    ensures reads { IfTold T.told (T.state store.old) (λ root.
+        MatchResult result
         (ReadsBounded root (T.state store.old) (T.state store.new) place.now limit)
-        (StopsReading root (T.state store.old) (T.state store.new) place.now limit) }
+        (StopsReading root (T.state store.old) (T.state store.new) place.now limit)) }
 {
     store.open(place)?;
     let mut bytes = Vec::new(alloc);

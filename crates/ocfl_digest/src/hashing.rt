@@ -3,6 +3,7 @@ ghost use Rattle.std.specs.Prelude.{◌≡◌, ◌<◌, ◌≤◌, ◌^◌, ◌�
 ghost use Rattle.ocfl_tree.specs.StorageRoot.{StorageRoot};
 ghost use Rattle.ocfl_digest.specs.Digests.{AreDigestsOfSome};
 ghost use Rattle.ocfl_digest.specs.Hashing.{HashesFile, StopsHashing};
+ghost use Rattle.ocfl_tree.specs.Store.{IfTold};
 
 use crate::block::{BLOCK_LEN, Block};
 use crate::digests::Digests;
@@ -39,12 +40,12 @@ pub fn hash_open<T: Tree>(
     ensures memory { IfErr result (λ stop. stop.cause ≡ Cause.Memory → stop.bytes ≡ 0) }
 
     // Of a store that tells its tree.
-    ensures hashes { IsTrue T.told → (root : StorageRoot) → (T.state store.old).tree ≡ root
-        → MatchResult result
+    ensures hashes { IfTold T.told (T.state store.old) (λ root.
+        MatchResult result
         (λ hashed. HashesFile root (T.state store.old)
         (T.state store.new) place.now wanted hashed.0 hashed.1)
         (λ stop. StopsHashing root (T.state store.old)
-        (T.state store.new) place.now stop.bytes stop.cause) }
+        (T.state store.new) place.now stop.bytes stop.cause)) }
 {
     if let Err(trouble) = store.open(place) {
         return Err(ReadStop::after(0, trouble));

@@ -14,6 +14,7 @@ ghost use Rattle.ocfl_item.specs.Pending.{IsPending};
 ghost use Rattle.ocfl_item.specs.Meeting.{IsFairVisit, Visits};
 ghost use Rattle.ocfl_item.specs.Visiting.{IsBase};
 ghost use Rattle.ocfl_item.specs.Ways.{IsWayFault};
+ghost use Rattle.ocfl_tree.specs.Store.{IfTold};
 
 use crate::declarations::{is_exact, stopped_lines};
 use crate::fault::Fault;
@@ -50,13 +51,13 @@ fn known_item<T: Tree>(
 ) -> Result<Pending, Fault>
     ensures only { IfErr result (λ why. IsWayFault why) }
     ensures place { IfOk result (λ item. item.place ≡ folder.now.place) }
-    ensures told { IsTrue T.told → (root : StorageRoot) → (T.state store.old).tree ≡ root
-        → IsBase root folder.now.place folder.now.entries.items (Declared.One version)
-        → IfOk result (λ item. IsPending root item) }
-    ensures opened { IsTrue T.told → (root : StorageRoot) → (T.state store.old).tree ≡ root
-        → IsBase root folder.now.place folder.now.entries.items (Declared.One version)
+    ensures told { IfTold T.told (T.state store.old) (λ root.
+        IsBase root folder.now.place folder.now.entries.items (Declared.One version)
+        → IfOk result (λ item. IsPending root item)) }
+    ensures opened { IfTold T.told (T.state store.old) (λ root.
+        IsBase root folder.now.place folder.now.entries.items (Declared.One version)
         → OpensJust root (T.state store.old) (T.state store.new) folder.now.place
-        (declaration_name_of level.Root version ∷ []) result }
+        (declaration_name_of level.Root version ∷ []) result) }
 {
     let name = declaration_name(Level::Root, version);
     let code = known_code(version, &read_file(alloc, store, folder, name, SIDE_LIMIT)?);
@@ -80,8 +81,8 @@ fn stopped_item(alloc: Global, folder: &Folder, declared: Declared) -> Result<Pe
 pub fn visit_base<T: Tree>(alloc: Global, store: &mut T) -> Result<Visit, Fault>
     ensures only { IfErr result (λ why. IsWayFault why) }
     ensures fair { IfOk result (λ v. IsFairVisit [] v) }
-    ensures told { IsTrue T.told → (root : StorageRoot) → (T.state store.old).tree ≡ root
-        → Visits root (T.state store.old) (T.state store.new) [] result }
+    ensures told { IfTold T.told (T.state store.old) (λ root.
+        Visits root (T.state store.old) (T.state store.new) [] result) }
 {
     let folder = list(store, Place::root(alloc))?;
     match declaration(&folder.entries, Level::Root) {

@@ -10,6 +10,7 @@ ghost use Rattle.ocfl_audit.specs.Zone.{max_listed_depth};
 ghost use Rattle.ocfl_item.specs.Ways.{IsWayFault, fault_by, Stops, Enters, IsHead};
 ghost use Rattle.ocfl_item.specs.Ways.{head_by as head_by_declared, is_extensions_name};
 ghost use Rattle.ocfl_item.specs.Ways.{is_dir_kind, is_listable};
+ghost use Rattle.ocfl_tree.specs.Store.{IfTold};
 
 use crate::fault::Fault;
 use ocfl_inventory::declaration::declaration;
@@ -74,11 +75,11 @@ pub fn list<T: Tree>(store: &mut T, place: Place) -> Result<Folder, Fault>
     ensures only { IfErr result (λ why. IsWayFault why) }
     ensures place { IfOk result (λ folder. folder.place ≡ place) }
     ensures ordinary { IfOk result (λ folder. IsOrdinary folder.entries.items) }
-    ensures told { IsTrue T.told → (root : StorageRoot) → (T.state store.old).tree ≡ root
-        → is_listable root place ≡ true → MatchResult result
+    ensures told { IfTold T.told (T.state store.old) (λ root.
+        is_listable root place ≡ true → MatchResult result
         (λ folder. Enters root (T.state store.old) (T.state store.new) place
         folder.place folder.entries.items)
-        (λ why. Stops root (T.state store.old) (T.state store.new) (place ∷ []) [] why) }
+        (λ why. Stops root (T.state store.old) (T.state store.new) (place ∷ []) [] why)) }
 {
     match store.list(&place) {
         Ok(entries) => Ok(Folder { place, entries }),

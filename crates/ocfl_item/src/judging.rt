@@ -4,6 +4,7 @@ ghost use Rattle.std.specs.Prelude.{true};
 ghost use Rattle.ocfl_tree.specs.StorageRoot.{StorageRoot};
 ghost use Rattle.ocfl_item.specs.Judging.{CostFits, HasShortFiles, JudgeFails, Judges};
 ghost use Rattle.ocfl_item.specs.Pending.{IsPending};
+ghost use Rattle.ocfl_tree.specs.Store.{IfTold};
 
 use crate::fault::Fault;
 use crate::file_lines::{hashed_lines, unread_lines};
@@ -33,11 +34,11 @@ pub fn judge<T: Tree>(
     ensures closed { IsTrue T.told → pending.hashed ≡ true → (T.state store.new).rest ≡ None }
     ensures largest { IsTrue T.told → (T.state store.new).largest
         ≤ max (T.state store.old).largest 65536 }
-    ensures told { IsTrue T.told → (root : StorageRoot) → (T.state store.old).tree ≡ root
-        → HasShortFiles root → IsPending root pending → MatchResult result
+    ensures told { IfTold T.told (T.state store.old) (λ root.
+        HasShortFiles root → IsPending root pending → MatchResult result
         (λ judged. Judges root (T.state store.old)
         (T.state store.new) pending.place judged.0.items judged.1)
-        (λ _. JudgeFails root (T.state store.old) (T.state store.new) pending.place) }
+        (λ _. JudgeFails root (T.state store.old) (T.state store.new) pending.place)) }
 {
     if !pending.hashed {
         return Ok((pending.lines, 0));

@@ -8,6 +8,7 @@ ghost use Rattle.ocfl_audit.specs.Zone.{seen};
 ghost use Rattle.ocfl_item.specs.Around.{IsMet, IsTableAround};
 ghost use Rattle.ocfl_item.specs.Meeting.{IsFairVisit, IsItemAt, Visits};
 ghost use Rattle.ocfl_item.specs.Ways.{IsWayFault};
+ghost use Rattle.ocfl_tree.specs.Store.{IfTold};
 
 use crate::content::content_item;
 use crate::fault::Fault;
@@ -47,9 +48,9 @@ pub fn visit_entry<T: Tree>(
 ) -> Result<Visit, Fault>
     ensures only { IfErr result (λ why. IsWayFault why) }
     ensures fair { IfOk result (λ v. IsFairVisit place v) }
-    ensures told { IsTrue T.told → (root : StorageRoot) → (T.state store.old).tree ≡ root
-        → (d : ModelPlace) → IsMet root d around.now entry.now place
-        → Visits root (T.state store.old) (T.state store.new) place result }
+    ensures told { IfTold T.told (T.state store.old) (λ root.
+        (d : ModelPlace) → IsMet root d around.now entry.now place
+        → Visits root (T.state store.old) (T.state store.new) place result) }
 {
     let Some(around) = around else {
         let role = role_in_hierarchy(&place, entry);

@@ -22,6 +22,7 @@ ghost use Rattle.ocfl_item.specs.Pending.{Adds};
 ghost use Rattle.ocfl_item.specs.Visiting.{HeadRead};
 ghost use Rattle.ocfl_item.specs.Ways.{IsDeclared, IsObject, IsHeadOf, IsWayFault};
 ghost use Rattle.ocfl_item.specs.Ways.{is_file_kind};
+ghost use Rattle.ocfl_tree.specs.Store.{IfTold};
 
 use crate::declarations::stopped_lines;
 use crate::fault::Fault;
@@ -78,11 +79,11 @@ pub(crate) fn read_file<T: Tree>(
     limit: usize,
 ) -> Result<Option<Bounded>, Fault>
     ensures only { IfErr result (λ why. IsWayFault why) }
-    ensures told { IsTrue T.told → (root : StorageRoot) → (T.state store.old).tree ≡ root
-        → IsListing root folder.now.place folder.now.entries.items
+    ensures told { IfTold T.told (T.state store.old) (λ root.
+        IsListing root folder.now.place folder.now.entries.items
         → is_meta root (folder.now.place ++ name.now ∷ []) ≡ true
         → ReadsFile root (T.state store.old) (T.state store.new) folder.now.place name.now limit
-        result }
+        result) }
 {
     let Some(place) = place_of_file(folder, name)? else {
         return Ok(None);
@@ -101,19 +102,19 @@ fn read_sidecar<T: Tree>(
     algorithm: Algorithm,
 ) -> Result<Option<Bounded>, Fault>
     ensures only { IfErr result (λ why. IsWayFault why) }
-    ensures told { IsTrue T.told → (root : StorageRoot) → (T.state store.old).tree ≡ root
-        → IsListing root folder.now.place folder.now.entries.items
+    ensures told { IfTold T.told (T.state store.old) (λ root.
+        IsListing root folder.now.place folder.now.entries.items
         → is_meta root (folder.now.place ++ sidecar_name_of algorithm ∷ []) ≡ true
         → ReadsFile root (T.state store.old) (T.state store.new) folder.now.place
-        (sidecar_name_of algorithm) side_limit result }
+        (sidecar_name_of algorithm) side_limit result) }
 {
     read_file(alloc, store, folder, sidecar_name(algorithm), SIDE_LIMIT)
 }
 
 fn read_sidecars<T: Tree>(alloc: Global, store: &mut T, folder: &Folder) -> Result<Sidecars, Fault>
     ensures only { IfErr result (λ why. IsWayFault why) }
-    ensures told { IsTrue T.told → (root : StorageRoot) → (T.state store.old).tree ≡ root
-        → IsListing root folder.now.place folder.now.entries.items
+    ensures told { IfTold T.told (T.state store.old) (λ root.
+        IsListing root folder.now.place folder.now.entries.items
         → zone root folder.now.place ≡ inside folder.now.place []
         → MatchResult result
         (λ sidecars. ReadsFiles root (T.state store.old) (T.state store.new) folder.now.place
@@ -121,7 +122,7 @@ fn read_sidecars<T: Tree>(alloc: Global, store: &mut T, folder: &Folder) -> Resu
         × IsFileAt root (folder.now.place ++ sidecar_name_of Sha256 ∷ []) side_limit sidecars.short
         × IsFileAt root (folder.now.place ++ sidecar_name_of Sha512 ∷ []) side_limit sidecars.long)
         (λ why. FilesStop root (T.state store.old) (T.state store.new) folder.now.place
-        (sidecar_name_of Sha256 ∷ sidecar_name_of Sha512 ∷ []) why) }
+        (sidecar_name_of Sha256 ∷ sidecar_name_of Sha512 ∷ []) why)) }
 {
     let short = read_sidecar(alloc, store, folder, Algorithm::Sha256)?;
     let long = read_sidecar(alloc, store, folder, Algorithm::Sha512)?;
@@ -139,8 +140,8 @@ fn add_whole_inventory<T: Tree>(
     ensures only { IfErr result (λ why. IsWayFault why) }
     ensures fit { IfOk result (λ table. IfSome table (λ t. IsFit t)) }
     ensures place { OnOk result (lines.new.place ≡ lines.old.place) }
-    ensures told { IsTrue T.told → (root : StorageRoot) → (T.state store.old).tree ≡ root
-        → IsListing root folder.now.place folder.now.entries.items
+    ensures told { IfTold T.told (T.state store.old) (λ root.
+        IsListing root folder.now.place folder.now.entries.items
         → zone root folder.now.place ≡ inside folder.now.place []
         → MatchResult result
         (λ table. ReadsFiles root (T.state store.old) (T.state store.new) folder.now.place
@@ -149,7 +150,7 @@ fn add_whole_inventory<T: Tree>(
         × Adds lines.old lines.new (sidecars_notes root folder.now.place bytes.now
         ++ inventory_part root folder.now.place bytes.now (algorithm_of bytes.now)))
         (λ why. FilesStop root (T.state store.old) (T.state store.new) folder.now.place
-        (sidecar_name_of Sha256 ∷ sidecar_name_of Sha512 ∷ []) why) }
+        (sidecar_name_of Sha256 ∷ sidecar_name_of Sha512 ∷ []) why)) }
 {
     let sidecars = read_sidecars(alloc, store, folder)?;
     Ok(add_inventory(alloc, lines, bytes, &sidecars)?)
@@ -165,19 +166,19 @@ fn add_inventory_file<T: Tree>(
     ensures only { IfErr result (λ why. IsWayFault why) }
     ensures fit { IfOk result (λ table. IfSome table (λ t. IsFit t)) }
     ensures place { OnOk result (lines.new.place ≡ lines.old.place) }
-    ensures told { IsTrue T.told → (root : StorageRoot) → (T.state store.old).tree ≡ root
-        → IsListing root folder.now.place folder.now.entries.items
+    ensures told { IfTold T.told (T.state store.old) (λ root.
+        IsListing root folder.now.place folder.now.entries.items
         → zone root folder.now.place ≡ inside folder.now.place []
         → IfOk result
         (λ table. (table ≡ table_in (file_at root (folder.now.place ++ inventory_name ∷ [])))
         × Adds lines.old lines.new
         (inventory_file_notes root folder.now.place
-        (file_at root (folder.now.place ++ inventory_name ∷ [])))) }
-    ensures opened { IsTrue T.told → (root : StorageRoot) → (T.state store.old).tree ≡ root
-        → IsListing root folder.now.place folder.now.entries.items
+        (file_at root (folder.now.place ++ inventory_name ∷ []))))) }
+    ensures opened { IfTold T.told (T.state store.old) (λ root.
+        IsListing root folder.now.place folder.now.entries.items
         → zone root folder.now.place ≡ inside folder.now.place []
         → OpensJust root (T.state store.old) (T.state store.new) folder.now.place
-        (inventory_files root folder.now.place) result }
+        (inventory_files root folder.now.place) result) }
 {
     match read_file(alloc, store, folder, INVENTORY_NAME, INVENTORY_LIMIT)? {
         None => {
@@ -202,8 +203,8 @@ fn add_declaration_file<T: Tree>(
 ) -> Result<(), Fault>
     ensures only { IfErr result (λ why. IsWayFault why) }
     ensures place { OnOk result (lines.new.place ≡ lines.old.place) }
-    ensures told { IsTrue T.told → (root : StorageRoot) → (T.state store.old).tree ≡ root
-        → IsListing root folder.now.place folder.now.entries.items
+    ensures told { IfTold T.told (T.state store.old) (λ root.
+        IsListing root folder.now.place folder.now.entries.items
         → zone root folder.now.place ≡ inside folder.now.place []
         → MatchResult result
         (λ _. ReadsFiles root (T.state store.old) (T.state store.new) folder.now.place
@@ -212,7 +213,7 @@ fn add_declaration_file<T: Tree>(
         (on (not (is_exact_declaration root folder.now.place level.Object version))
         (plain Code.E007)))
         (λ why. FilesStop root (T.state store.old) (T.state store.new) folder.now.place
-        (declaration_name_of level.Object version ∷ []) why) }
+        (declaration_name_of level.Object version ∷ []) why)) }
 {
     let name = declaration_name(Level::Object, version);
     let declaration = read_file(alloc, store, folder, name, SIDE_LIMIT)?;
@@ -230,14 +231,14 @@ fn known_head<T: Tree>(
     ensures only { IfErr result (λ why. IsWayFault why) }
     ensures fit { IfOk result (λ p. IfSome p.1 (λ t. IsFit t)) }
     ensures place { IfOk result (λ p. p.0.place ≡ folder.now.place) }
-    ensures told { IsTrue T.told → (root : StorageRoot) → (T.state store.old).tree ≡ root
-        → IsObject root folder.now.place folder.now.entries.items
+    ensures told { IfTold T.told (T.state store.old) (λ root.
+        IsObject root folder.now.place folder.now.entries.items
         → object_declared root folder.now.place ≡ known version
-        → IfOk result (IsHeadOf root folder.now.place) }
-    ensures opened { IsTrue T.told → (root : StorageRoot) → (T.state store.old).tree ≡ root
-        → IsObject root folder.now.place folder.now.entries.items
+        → IfOk result (IsHeadOf root folder.now.place)) }
+    ensures opened { IfTold T.told (T.state store.old) (λ root.
+        IsObject root folder.now.place folder.now.entries.items
         → OpensJust root (T.state store.old) (T.state store.new) folder.now.place
-        (head_files root folder.now.place (known version)) result }
+        (head_files root folder.now.place (known version)) result) }
 {
     let mut lines = PlaceLines::new(alloc, folder.place.try_clone()?);
     add_declaration_file(alloc, store, folder, &mut lines, version)?;
@@ -258,13 +259,13 @@ pub(crate) fn head_lines<T: Tree>(
     ensures only { IfErr result (λ why. IsWayFault why) }
     ensures fit { IfOk result (λ p. IfSome p.1 (λ t. IsFit t)) }
     ensures place { IfOk result (λ p. p.0.place ≡ folder.now.place) }
-    ensures told { IsTrue T.told → (root : StorageRoot) → (T.state store.old).tree ≡ root
-        → IsDeclared root folder.now.place folder.now.entries.items declared
-        → HeadRead root (T.state store.old) (T.state store.new) folder.now.place result }
-    ensures opened { IsTrue T.told → (root : StorageRoot) → (T.state store.old).tree ≡ root
-        → IsDeclared root folder.now.place folder.now.entries.items declared
+    ensures told { IfTold T.told (T.state store.old) (λ root.
+        IsDeclared root folder.now.place folder.now.entries.items declared
+        → HeadRead root (T.state store.old) (T.state store.new) folder.now.place result) }
+    ensures opened { IfTold T.told (T.state store.old) (λ root.
+        IsDeclared root folder.now.place folder.now.entries.items declared
         → OpensJust root (T.state store.old) (T.state store.new) folder.now.place
-        (head_files root folder.now.place (object_declared root folder.now.place)) result }
+        (head_files root folder.now.place (object_declared root folder.now.place)) result) }
 {
     if let Declared::One(version) = declared {
         return known_head(alloc, store, folder, version);
@@ -290,13 +291,13 @@ pub fn table_of_object<T: Tree>(
     folder: &Folder,
 ) -> Result<Option<Table>, Fault>
     ensures only { IfErr result (λ why. IsWayFault why) }
-    ensures told { IsTrue T.told → (root : StorageRoot) → (T.state store.old).tree ≡ root
-        → IsObject root folder.now.place folder.now.entries.items
-        → IfOk result (λ table. table ≡ table_at root folder.now.place) }
-    ensures opened { IsTrue T.told → (root : StorageRoot) → (T.state store.old).tree ≡ root
-        → IsObject root folder.now.place folder.now.entries.items
+    ensures told { IfTold T.told (T.state store.old) (λ root.
+        IsObject root folder.now.place folder.now.entries.items
+        → IfOk result (λ table. table ≡ table_at root folder.now.place)) }
+    ensures opened { IfTold T.told (T.state store.old) (λ root.
+        IsObject root folder.now.place folder.now.entries.items
         → OpensJust root (T.state store.old) (T.state store.new) folder.now.place
-        (inventory_name ∷ []) result }
+        (inventory_name ∷ []) result) }
     ensures fit { IfOk result (λ o. IfSome o (λ t. IsFit t)) }
 {
     match read_file(alloc, store, folder, INVENTORY_NAME, INVENTORY_LIMIT)? {

@@ -15,6 +15,7 @@ ghost use Rattle.ocfl_item.specs.Looking.{IsSight, content_at};
 ghost use Rattle.ocfl_item.specs.Meeting.{IsFairVisit, IsVisit, Visits};
 ghost use Rattle.ocfl_item.specs.Visiting.{HasRole, IsDirectoryAt, IsEntryAt, IsListedAt};
 ghost use Rattle.ocfl_item.specs.Visiting.{IsPlainAt, IsUndeclaredAt, VisitsHead};
+ghost use Rattle.ocfl_tree.specs.Store.{IfTold};
 
 use crate::content::content_item;
 use crate::fault::Fault;
@@ -84,9 +85,9 @@ fn visit_plain(alloc: Global, place: Place, code: Code) -> Result<Visit, Fault>
 fn visit_listed<T: Tree>(alloc: Global, store: &mut T, place: Place) -> Result<Visit, Fault>
     ensures only { IfErr result (λ why. IsWayFault why) }
     ensures fair { IfOk result (λ v. IsFairVisit place v) }
-    ensures told { IsTrue T.told → (root : StorageRoot) → (T.state store.old).tree ≡ root
-        → IsListedAt root place → IsPlainAt root place (listed_dir_notes root place [])
-        → Visits root (T.state store.old) (T.state store.new) place result }
+    ensures told { IfTold T.told (T.state store.old) (λ root.
+        IsListedAt root place → IsPlainAt root place (listed_dir_notes root place [])
+        → Visits root (T.state store.old) (T.state store.new) place result) }
 {
     if place.depth() > MAX_LISTED_DEPTH {
         return visit_plain(alloc, place, Code::S05);
@@ -105,9 +106,9 @@ fn visit_object<T: Tree>(
     ensures only { IfErr result (λ why. IsWayFault why) }
     ensures fair { length folder.place ≤ max_listed_depth → IsOrdinary folder.entries.items
         → IfOk result (λ v. IsFairVisit folder.place v) }
-    ensures told { IsTrue T.told → (root : StorageRoot) → (T.state store.old).tree ≡ root
-        → IsDeclared root folder.place folder.entries.items declared
-        → VisitsHead root (T.state store.old) (T.state store.new) folder.place result }
+    ensures told { IfTold T.told (T.state store.old) (λ root.
+        IsDeclared root folder.place folder.entries.items declared
+        → VisitsHead root (T.state store.old) (T.state store.new) folder.place result) }
 {
     let (lines, table) = head_lines(alloc, store, &folder, declared)?;
     let item = Some(Pending::of_lines(lines));
@@ -140,9 +141,9 @@ fn visit_undeclared(alloc: Global, folder: Folder) -> Result<Visit, Fault>
 fn visit_directory<T: Tree>(alloc: Global, store: &mut T, place: Place) -> Result<Visit, Fault>
     ensures only { IfErr result (λ why. IsWayFault why) }
     ensures fair { IfOk result (λ v. IsFairVisit place v) }
-    ensures told { IsTrue T.told → (root : StorageRoot) → (T.state store.old).tree ≡ root
-        → IsDirectoryAt root place
-        → Visits root (T.state store.old) (T.state store.new) place result }
+    ensures told { IfTold T.told (T.state store.old) (λ root.
+        IsDirectoryAt root place
+        → Visits root (T.state store.old) (T.state store.new) place result) }
 {
     if place.depth() > MAX_LISTED_DEPTH {
         return visit_plain(alloc, place, Code::S05);
@@ -163,9 +164,9 @@ pub(crate) fn visit_by_role<T: Tree>(
 ) -> Result<Visit, Fault>
     ensures only { IfErr result (λ why. IsWayFault why) }
     ensures fair { IfOk result (λ v. IsFairVisit place v) }
-    ensures told { IsTrue T.told → (root : StorageRoot) → (T.state store.old).tree ≡ root
-        → HasRole root place role
-        → Visits root (T.state store.old) (T.state store.new) place result }
+    ensures told { IfTold T.told (T.state store.old) (λ root.
+        HasRole root place role
+        → Visits root (T.state store.old) (T.state store.new) place result) }
 {
     match role {
         Role::LeftAlone => Ok(Visit::of_item(None)),
@@ -201,10 +202,10 @@ fn visit_content_directory<T: Tree>(
 ) -> Result<Visit, Fault>
     ensures only { IfErr result (λ why. IsWayFault why) }
     ensures fair { IfOk result (λ v. IsFairVisit place v) }
-    ensures told { IsTrue T.told → (root : StorageRoot) → (T.state store.old).tree ≡ root
-        → IsListedAt root place → (t : TableOf) (q : ModelPlace)
+    ensures told { IfTold T.told (T.state store.old) (λ root.
+        IsListedAt root place → (t : TableOf) (q : ModelPlace)
         → content_at root place ≡ Some (t, q) → map named_view named.items ≡ digests_of t q
-        → Visits root (T.state store.old) (T.state store.new) place result }
+        → Visits root (T.state store.old) (T.state store.new) place result) }
 {
     if place.depth() > MAX_LISTED_DEPTH {
         return visit_unentered(alloc, place, named, Sight::DeepDir);
@@ -229,11 +230,11 @@ pub(crate) fn visit_in_content<T: Tree>(
 ) -> Result<Visit, Fault>
     ensures only { IfErr result (λ why. IsWayFault why) }
     ensures fair { IfOk result (λ v. IsFairVisit place v) }
-    ensures told { IsTrue T.told → (root : StorageRoot) → (T.state store.old).tree ≡ root
-        → IsEntryAt root place entry.now.kind → is_listed_zone root (zone root place) ≡ true
+    ensures told { IfTold T.told (T.state store.old) (λ root.
+        IsEntryAt root place entry.now.kind → is_listed_zone root (zone root place) ≡ true
         → (t : TableOf) (q : ModelPlace) → content_at root place ≡ Some (t, q)
         → map named_view named.items ≡ digests_of t q
-        → Visits root (T.state store.old) (T.state store.new) place result }
+        → Visits root (T.state store.old) (T.state store.new) place result) }
 {
     match entry.kind {
         Kind::File => visit_unentered(alloc, place, named, Sight::File),

@@ -10,6 +10,7 @@ ghost use Rattle.ocfl_scrub.specs.Taking.{WritesLines};
 ghost use Rattle.ocfl_audit.specs.Parts.{within};
 ghost use Rattle.ocfl_scrub.specs.Starting.{part_of};
 ghost use Rattle.ocfl_scrub.specs.WholeAudit.{AuditEnds, AuditEndsWithin};
+ghost use Rattle.ocfl_tree.specs.Store.{IfTold};
 
 use crate::checking::End;
 use crate::part::{Part, set_out};
@@ -52,15 +53,15 @@ pub fn audit<T: Tree, W: Write>(
     ensures none_found { result.last ≡ None → result.found ≡ false }
 
     // Of a store that tells its tree.
-    ensures told { IsTrue T.told → (root : StorageRoot) → (T.state store.old).tree ≡ root
-        → HasShortFiles root →
+    ensures told { IfTold T.told (T.state store.old) (λ root.
+        HasShortFiles root →
         AuditEnds root (T.state store.old) (T.state store.new) (W.contents out.old)
-        (W.contents out.new) result.last result.found result.end }
-    ensures unfailing { IsTrue T.told → (root : StorageRoot) → (T.state store.old).tree ≡ root
-        → HasShortFiles root → result.end ≡ End.Ended
+        (W.contents out.new) result.last result.found result.end) }
+    ensures unfailing { IfTold T.told (T.state store.old) (λ root.
+        HasShortFiles root → result.end ≡ End.Ended
         → (T.state store.new).failures ≡ (T.state store.old).failures
         → Appends (W.contents out.old) (W.contents out.new) (text (whole_audit root []))
-        × (result.found ≡ found_in (whole_audit root [])) }
+        × (result.found ≡ found_in (whole_audit root []))) }
 {
     let whole = Part::whole(alloc);
     audit_part(alloc, store, &whole, block, out)
@@ -84,16 +85,16 @@ pub fn audit_part<T: Tree, W: Write>(
     ensures none_found { result.last ≡ None → result.found ≡ false }
 
     // Of a store that tells its tree.
-    ensures told { IsTrue T.told → (root : StorageRoot) → (T.state store.old).tree ≡ root
-        → HasShortFiles root →
+    ensures told { IfTold T.told (T.state store.old) (λ root.
+        HasShortFiles root →
         AuditEndsWithin root (T.state store.old) (T.state store.new) (W.contents out.old)
-        (W.contents out.new) (part_of part.now) result.last result.found result.end }
-    ensures unfailing { IsTrue T.told → (root : StorageRoot) → (T.state store.old).tree ≡ root
-        → HasShortFiles root → result.end ≡ End.Ended
+        (W.contents out.new) (part_of part.now) result.last result.found result.end) }
+    ensures unfailing { IfTold T.told (T.state store.old) (λ root.
+        HasShortFiles root → result.end ≡ End.Ended
         → (T.state store.new).failures ≡ (T.state store.old).failures
         → let items = within (part_of part.now) (whole_audit root []) in
         Appends (W.contents out.old) (W.contents out.new) (text items)
-        × (result.found ≡ found_in items) }
+        × (result.found ≡ found_in items)) }
 {
     let mut walk = match set_out(alloc, store, part, None) {
         Ok(walk) => walk,

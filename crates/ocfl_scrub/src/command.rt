@@ -12,6 +12,7 @@ ghost use Rattle.ocfl_scrub.specs.Noting.{status_of, IsAuditNote, IsAuditSaid, I
 ghost use Rattle.ocfl_scrub.specs.Noting.{IsCheckSaid, IsRefused, IsStatus, IsStopNote, IsStopSaid};
 ghost use Rattle.ocfl_scrub.specs.Noting.{AuditsWithNote, ChecksWithNote, WritesWhole};
 ghost use Rattle.ocfl_scrub.specs.Noting.{WritesWithStatus};
+ghost use Rattle.ocfl_tree.specs.Store.{IfTold};
 
 use crate::auditing::{AuditEnd, audit};
 use crate::checking::{CheckEnd, End, check};
@@ -47,12 +48,12 @@ pub fn checked<T: Tree, W: Write>(
     ensures silent { result.1 ≢ Note.Nothing → result.1 ≢ Note.OutputFailed → out.new ≡ out.old }
 
     // Of a store that tells its tree.
-    ensures told { IsTrue T.told → (root : StorageRoot) → (T.state store.old).tree ≡ root
-        → HasShortFiles root → (p : ModelPlace) → IsPlace p → path.now ≡ place_text p
+    ensures told { IfTold T.told (T.state store.old) (λ root.
+        HasShortFiles root → (p : ModelPlace) → IsPlace p → path.now ≡ place_text p
         → ChecksWithNote root (T.state store.old) (T.state store.new) (W.contents out.old)
         (W.contents out.new) p result.0 result.1
         ⊎ ((result.0 ≡ 3) × (result.1 ≡ Note.OutOfMemory) × (store.new ≡ store.old)
-        × (out.new ≡ out.old)) }
+        × (out.new ≡ out.old))) }
 {
     match read_place(alloc, path.as_bytes()) {
         Ok(place) => describe_check(check(alloc, store, &place, block, out)),
@@ -78,15 +79,15 @@ pub fn audited<T: Tree, W: Write>(
         → WritesWhole (W.contents out.old) (W.contents out.new) }
 
     // Of a store that tells its tree.
-    ensures told { IsTrue T.told → (root : StorageRoot) → (T.state store.old).tree ≡ root
-        → HasShortFiles root →
+    ensures told { IfTold T.told (T.state store.old) (λ root.
+        HasShortFiles root →
         AuditsWithNote root (T.state store.old) (T.state store.new) (W.contents out.old)
-        (W.contents out.new) result.0 result.1 }
-    ensures unfailing { IsTrue T.told → (root : StorageRoot) → (T.state store.old).tree ≡ root
-        → HasShortFiles root → result.1 ≡ Note.Nothing
+        (W.contents out.new) result.0 result.1) }
+    ensures unfailing { IfTold T.told (T.state store.old) (λ root.
+        HasShortFiles root → result.1 ≡ Note.Nothing
         → (T.state store.new).failures ≡ (T.state store.old).failures
         → Appends (W.contents out.old) (W.contents out.new) (text (whole_audit root []))
-        × (result.0 ≡ status_of (found_in (whole_audit root []))) }
+        × (result.0 ≡ status_of (found_in (whole_audit root [])))) }
 {
     describe_audit(audit(alloc, store, block, out))
 }

@@ -10,6 +10,7 @@ ghost use Rattle.ocfl_scrub.specs.Cycling.{HeadlineOfPart};
 ghost use Rattle.ocfl_scrub.specs.Running.{limits_of};
 ghost use Rattle.ocfl_scrub.specs.Starting.{part_of};
 ghost use Rattle.ocfl_scrub.specs.Taking.{WritesLines};
+ghost use Rattle.ocfl_tree.specs.Store.{IfTold};
 
 use crate::part::Part;
 use crate::running::{RunEnd, RunStatus, run_part};
@@ -78,14 +79,14 @@ pub fn cycle<T: Tree, W: Write>(
         WritesLines (W.contents out.old) (W.contents out.new) result.found }
 
     // Of a store that tells its tree.
-    ensures told { IsTrue T.told → (root : StorageRoot) → (T.state store.old).tree ≡ root →
+    ensures told { IfTold T.told (T.state store.old) (λ root.
         HasShortFiles root →
         CyclesTo root (T.state store.old) (T.state store.new) (W.contents out.old)
-        (W.contents out.new) (map limits_of limits.now) result.cursor result.found result.end }
-    ensures headline { IsTrue T.told → (root : StorageRoot) → (T.state store.old).tree ≡ root →
+        (W.contents out.new) (map limits_of limits.now) result.cursor result.found result.end) }
+    ensures headline { IfTold T.told (T.state store.old) (λ root.
         HasShortFiles root → (T.state store.new).failures ≡ (T.state store.old).failures →
         HeadlineOf root (T.state store.old) (T.state store.new) (W.contents out.old)
-        (W.contents out.new) (map limits_of limits.now) result.runs result.end }
+        (W.contents out.new) (map limits_of limits.now) result.runs result.end) }
 {
     let whole = Part::whole(alloc);
     cycle_part(alloc, store, &whole, limits, block, out)
@@ -117,15 +118,15 @@ pub fn cycle_part<T: Tree, W: Write>(
         WritesLines (W.contents out.old) (W.contents out.new) result.found }
 
     // Of a store that tells its tree.
-    ensures told { IsTrue T.told → (root : StorageRoot) → (T.state store.old).tree ≡ root →
+    ensures told { IfTold T.told (T.state store.old) (λ root.
         HasShortFiles root →
         CyclesToWithin root (T.state store.old) (T.state store.new) (W.contents out.old)
         (W.contents out.new) (part_of part.now) (map limits_of limits.now) result.cursor
-        result.found result.end }
-    ensures headline { IsTrue T.told → (root : StorageRoot) → (T.state store.old).tree ≡ root →
+        result.found result.end) }
+    ensures headline { IfTold T.told (T.state store.old) (λ root.
         HasShortFiles root → (T.state store.new).failures ≡ (T.state store.old).failures →
         HeadlineOfPart root (T.state store.old) (T.state store.new) (W.contents out.old)
-        (W.contents out.new) (part_of part.now) (map limits_of limits.now) result.runs result.end }
+        (W.contents out.new) (part_of part.now) (map limits_of limits.now) result.runs result.end) }
 {
     let mut cursor = Cursor::new();
     let mut runs = 0;

@@ -8,6 +8,7 @@ ghost use Rattle.ocfl_walk.specs.WalkCalls.{GoDownFails, GoesDown};
 ghost use Rattle.ocfl_walk.specs.Walks.{IsLive, Stands};
 ghost use Rattle.ocfl_scrub.specs.Starting.{entry, first_place as first_of_part, part_of, stand};
 ghost use Rattle.ocfl_scrub.specs.Starting.{is_before as lies_before};
+ghost use Rattle.ocfl_tree.specs.Store.{IfTold};
 
 use ocfl_tree::{Place, Tree};
 use ocfl_walk::{End, Fault, Walk};
@@ -87,12 +88,12 @@ pub(crate) fn set_out<T: Tree>(
 ) -> Result<Walk, Fault>
     ensures only { IfErr result (λ why. IsWayFault why) }
     ensures live { IfOk result (λ walk. IsLive walk) }
-    ensures told { IsTrue T.told → (root : StorageRoot) → (T.state store.old).tree ≡ root
-        → let above = option_map (λ p. p.now) above.entry in MatchResult result
+    ensures told { IfTold T.told (T.state store.old) (λ root.
+        let above = option_map (λ p. p.now) above.entry in MatchResult result
         (λ walk. GoesDown root (T.state store.old) (T.state store.new)
         (entry (part_of part.now) above) × Stands root walk (stand root (part_of part.now) above))
         (λ why. GoDownFails root (T.state store.old) (T.state store.new)
-        (entry (part_of part.now) above) why) }
+        (entry (part_of part.now) above) why)) }
 {
     let Some(first) = part.first_place() else {
         return Walk::start(alloc, store, above);

@@ -16,6 +16,7 @@ ghost use Rattle.ocfl_scrub.specs.Scoping.{PartRefusesRightly, PartRunPerformed,
 ghost use Rattle.ocfl_scrub.specs.Scoping.{PerformsIn, RefusesRightlyIn};
 ghost use Rattle.ocfl_scrub.specs.Scoping.{part_between as part_of_ends};
 ghost use Rattle.ocfl_scrub.specs.declared.scope.Scope.TheVariants as scopes;
+ghost use Rattle.ocfl_tree.specs.Store.{IfTold};
 
 use crate::auditing::{AuditEnd, audit_part};
 use crate::checking::End;
@@ -72,11 +73,11 @@ pub fn perform_part<T: Tree, R: Read, W: Write>(
         (W.contents out.old) (W.contents out.new) }
 
     // Of a store that tells its tree.
-    ensures told { IsTrue T.told → (root : StorageRoot) → (T.state store.old).tree ≡ root →
+    ensures told { IfTold T.told (T.state store.old) (λ root.
         HasShortFiles root →
         PerformsIn deed.now scope.now (bytes_of R.remaining reader.entry) root (T.state store.old)
         (T.state store.new) (W.contents out.old) (W.contents out.new) result.status result.note
-        result.cursor }
+        result.cursor) }
 {
     match deed {
         Deed::Audit => match scope {
@@ -115,10 +116,10 @@ fn audited_branch<T: Tree, W: Write>(
     ensures empty { result.1 ≡ Note.EmptyBranch → out.new ≡ out.old }
 
     // Of a store that tells its tree.
-    ensures told { IsTrue T.told → (root : StorageRoot) → (T.state store.old).tree ≡ root
-        → HasShortFiles root →
+    ensures told { IfTold T.told (T.state store.old) (λ root.
+        HasShortFiles root →
         BranchPerformed root (T.state store.old) (T.state store.new) (W.contents out.old)
-        (W.contents out.new) place.now result.0 result.1 }
+        (W.contents out.new) place.now result.0 result.1) }
 {
     let Ok(part) = branch_at(place) else {
         return (3, Note::OutOfMemory);
@@ -157,10 +158,10 @@ fn audited_part<T: Tree, W: Write>(
         (W.contents out.new) result.0 }
 
     // Of a store that tells its tree.
-    ensures told { IsTrue T.told → (root : StorageRoot) → (T.state store.old).tree ≡ root
-        → HasShortFiles root →
+    ensures told { IfTold T.told (T.state store.old) (λ root.
+        HasShortFiles root →
         PartPerformed root (T.state store.old) (T.state store.new) (W.contents out.old)
-        (W.contents out.new) (part_of_ends ends.now) result.0 result.1 }
+        (W.contents out.new) (part_of_ends ends.now) result.0 result.1) }
 {
     let Ok(part) = part_between(alloc, ends) else {
         return (3, Note::OutOfMemory);
@@ -192,11 +193,11 @@ fn perform_part_run<T: Tree, R: Read, W: Write>(
         WritesWithStatus (W.contents out.old) (W.contents out.new) result.status }
 
     // Of a store that tells its tree.
-    ensures told { IsTrue T.told → (root : StorageRoot) → (T.state store.old).tree ≡ root →
+    ensures told { IfTold T.told (T.state store.old) (λ root.
         HasShortFiles root →
         PartRunPerformed ends.now (bytes_of R.remaining reader.entry) root (T.state store.old)
         (T.state store.new) (W.contents out.old) (W.contents out.new) (limits_of limits)
-        result.status result.note result.cursor }
+        result.status result.note result.cursor) }
 {
     let cursor = match first_part_cursor(alloc, ends, reader) {
         Ok(cursor) => cursor,

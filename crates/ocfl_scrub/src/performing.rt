@@ -17,6 +17,7 @@ ghost use Rattle.ocfl_scrub.specs.Performing.{Performs, RefusesPath, RefusesRigh
 ghost use Rattle.ocfl_scrub.specs.Performing.{ShowsWith, StopsWith, UnshownSaid, WritesBy};
 ghost use Rattle.ocfl_scrub.specs.Performing.{bytes_of};
 ghost use Rattle.ocfl_scrub.specs.Performing.{equal_limits as limits_of_each};
+ghost use Rattle.ocfl_tree.specs.Store.{IfTold};
 
 use crate::command::{audited, checked, status, stop_note};
 use crate::cycling::{CycleEnd, CycleStatus, cycle};
@@ -85,10 +86,11 @@ pub fn perform<T: Tree, R: Read, W: Write>(
         (W.contents out.old) (W.contents out.new) }
 
     // Of a store that tells its tree.
-    ensures told { IsTrue T.told → (root : StorageRoot) → (T.state store.old).tree ≡ root →
+    ensures told { IfTold T.told (T.state store.old) (λ root.
         HasShortFiles root →
         Performs (bytes_of R.remaining reader.entry) root (T.state store.old) (T.state store.new)
-        (W.contents out.old) (W.contents out.new) deed.now result.status result.note result.cursor }
+        (W.contents out.old) (W.contents out.new) deed.now result.status result.note
+        result.curso) }
 {
     match deed {
         Deed::Audit => without_cursor(audited(alloc, store, block, out)),
@@ -163,11 +165,11 @@ fn perform_run<T: Tree, R: Read, W: Write>(
         WritesWithStatus (W.contents out.old) (W.contents out.new) result.status }
 
     // Of a store that tells its tree.
-    ensures told { IsTrue T.told → (root : StorageRoot) → (T.state store.old).tree ≡ root →
+    ensures told { IfTold T.told (T.state store.old) (λ root.
         HasShortFiles root →
         RunPerformed (bytes_of R.remaining reader.entry) root (T.state store.old)
         (T.state store.new) (W.contents out.old) (W.contents out.new) (limits_of limits)
-        result.status result.note result.cursor }
+        result.status result.note result.cursor) }
 {
     let cursor = match first_cursor(alloc, reader) {
         Ok(cursor) => cursor,
@@ -258,10 +260,10 @@ fn perform_cycle<T: Tree, W: Write>(
         WritesWithStatus (W.contents out.old) (W.contents out.new) result.0 }
 
     // Of a store that tells its tree.
-    ensures told { IsTrue T.told → (root : StorageRoot) → (T.state store.old).tree ≡ root →
+    ensures told { IfTold T.told (T.state store.old) (λ root.
         HasShortFiles root →
         CyclePerformed root (T.state store.old) (T.state store.new) (W.contents out.old)
-        (W.contents out.new) (limits_of_each limits count) result.0 result.1 }
+        (W.contents out.new) (limits_of_each limits count) result.0 result.1) }
 {
     let Ok(each) = equal_limits(alloc, limits, count) else {
         return (3, Note::OutOfMemory);

@@ -14,6 +14,7 @@ ghost use Rattle.ocfl_scrub.specs.Running.{IsPaid, IsWorn, RunEndsWithin, RunsCl
 ghost use Rattle.ocfl_scrub.specs.Running.{RunsCleanlyWithin, RunsFrom, RunsFromWithin, begun};
 ghost use Rattle.ocfl_scrub.specs.Running.{limits_of, state_after};
 ghost use Rattle.ocfl_scrub.specs.Starting.{part_of};
+ghost use Rattle.ocfl_tree.specs.Store.{IfTold};
 
 use crate::part::{Part, set_out};
 use crate::taking::{either, take_item};
@@ -88,15 +89,15 @@ pub fn run<T: Tree, W: Write>(
         → WritesLines (W.contents out.old) (W.contents out.new) result.found }
 
     // Of a store that tells its tree.
-    ensures told { IsTrue T.told → (root : StorageRoot) → (T.state store.old).tree ≡ root
-        → HasShortFiles root → result.end ≢ RunStatus.Worn →
+    ensures told { IfTold T.told (T.state store.old) (λ root.
+        HasShortFiles root → result.end ≢ RunStatus.Worn →
         RunsFrom root (T.state store.old) (T.state store.new) (W.contents out.old)
         (W.contents out.new) cursor (limits_of limits) result.cursor result.spent result.files
-        result.found result.end }
-    ensures unfailing { IsTrue T.told → (root : StorageRoot) → (T.state store.old).tree ≡ root
-        → HasShortFiles root → (T.state store.new).failures ≡ (T.state store.old).failures →
+        result.found result.end) }
+    ensures unfailing { IfTold T.told (T.state store.old) (λ root.
+        HasShortFiles root → (T.state store.new).failures ≡ (T.state store.old).failures →
         RunsCleanly root (W.contents out.old) (W.contents out.new) cursor
-        (limits_of limits) result.spent result.files result.found result.end }
+        (limits_of limits) result.spent result.files result.found result.end) }
 {
     let whole = Part::whole(alloc);
     run_part(alloc, store, &whole, cursor, limits, block, out)
@@ -134,15 +135,15 @@ pub fn run_part<T: Tree, W: Write>(
         → WritesLines (W.contents out.old) (W.contents out.new) result.found }
 
     // Of a store that tells its tree.
-    ensures told { IsTrue T.told → (root : StorageRoot) → (T.state store.old).tree ≡ root
-        → HasShortFiles root → result.end ≢ RunStatus.Worn →
+    ensures told { IfTold T.told (T.state store.old) (λ root.
+        HasShortFiles root → result.end ≢ RunStatus.Worn →
         RunsFromWithin root (T.state store.old) (T.state store.new) (W.contents out.old)
         (W.contents out.new) (part_of part.now) cursor (limits_of limits) result.cursor
-        result.spent result.files result.found result.end }
-    ensures unfailing { IsTrue T.told → (root : StorageRoot) → (T.state store.old).tree ≡ root
-        → HasShortFiles root → (T.state store.new).failures ≡ (T.state store.old).failures →
+        result.spent result.files result.found result.end) }
+    ensures unfailing { IfTold T.told (T.state store.old) (λ root.
+        HasShortFiles root → (T.state store.new).failures ≡ (T.state store.old).failures →
         RunsCleanlyWithin root (W.contents out.old) (W.contents out.new) (part_of part.now)
-        cursor (limits_of limits) result.spent result.files result.found result.end }
+        cursor (limits_of limits) result.spent result.files result.found result.end) }
 {
     let (start, from) = match begin(cursor) {
         Ok(begun) => begun,
@@ -243,11 +244,11 @@ fn pass_from<T: Tree, W: Write>(
     ensures fits { result.spent ≤ 2 ^ 63 }
     ensures lines { result.end ≢ RunStatus.Stopped Fault.Output
         → WritesLines (W.contents out.old) (W.contents out.new) result.found }
-    ensures told { IsTrue T.told → (root : StorageRoot) → (T.state store.old).tree ≡ root
-        → HasShortFiles root →
+    ensures told { IfTold T.told (T.state store.old) (λ root.
+        HasShortFiles root →
         RunEndsWithin root (T.state store.old) (T.state store.new) (W.contents out.old)
         (W.contents out.new) (part_of part.now) from result.last
-        (limits_of limits) result.spent result.files result.found result.end }
+        (limits_of limits) result.spent result.files result.found result.end) }
 {
     let mut meter = Meter::new(limits);
     let mut walk = match set_out(alloc, store, part, from.as_ref()) {

@@ -7,6 +7,7 @@ ghost use Rattle.ocfl_report.specs.Text.{lines_text};
 ghost use Rattle.ocfl_item.specs.Judging.{CostFits, HasShortFiles};
 ghost use Rattle.ocfl_item.specs.Pending.{IsPending};
 ghost use Rattle.ocfl_scrub.specs.Taking.{Misses, Takes, WritesLines};
+ghost use Rattle.ocfl_tree.specs.Store.{IfTold};
 
 use ocfl_digest::Block;
 use ocfl_report::{Line, write_all_of};
@@ -45,12 +46,12 @@ pub(crate) fn take_item<T: Tree, W: Write>(
     ensures unwritten { IfErr result (λ why. why ≢ Fault.Output → out.new ≡ out.old) }
 
     // Of a store that tells its tree.
-    ensures told { IsTrue T.told → (root : StorageRoot) → (T.state store.old).tree ≡ root
-        → HasShortFiles root → IsPending root pending → MatchResult result
+    ensures told { IfTold T.told (T.state store.old) (λ root.
+        HasShortFiles root → IsPending root pending → MatchResult result
         (λ taken. Takes root (T.state store.old) (T.state store.new) (W.contents out.old)
         (W.contents out.new) pending.place taken.cost taken.found)
         (λ why. Misses root (T.state store.old) (T.state store.new) (W.contents out.old)
-        (W.contents out.new) pending.place why) }
+        (W.contents out.new) pending.place why)) }
 {
     // A place that is kept first cannot be wanting once the lines have gone out.
     let Ok(place) = pending.place().try_clone() else {

@@ -9,6 +9,7 @@ ghost use Rattle.ocfl_parts.specs.Separators.{AreSeparators};
 ghost use Rattle.ocfl_split.specs.Splitting.{ListsAll, ListsStop, cut_evenly, max_held};
 ghost use Rattle.ocfl_split.specs.Splitting.{separators_of};
 ghost use Rattle.ocfl_split.specs.Splitting.{listed_for};
+ghost use Rattle.ocfl_tree.specs.Store.{IfTold};
 
 use crate::descent::split_level;
 use ocfl_item::Fault;
@@ -69,12 +70,12 @@ fn cut(alloc: Global, level: &[Place], count: usize) -> Result<Separators, Alloc
 pub fn split<T: Tree>(alloc: Global, store: &mut T, count: usize) -> Result<Separators, Fault>
     ensures only { IfErr result (λ why. IsWayFault why) }
     ensures few { IfOk result (λ separators. length separators ≤ count - 1) }
-    ensures told { IsTrue T.told → (root : StorageRoot) → (T.state store.old).tree ≡ root
-        → MatchResult result
+    ensures told { IfTold T.told (T.state store.old) (λ root.
+        MatchResult result
         (λ separators. (separators ≡ separators_of root count)
         × ListsAll root (T.state store.old) (T.state store.new) (listed_for root count))
         (λ why. ListsStop root (T.state store.old) (T.state store.new)
-        (listed_for root count) why) }
+        (listed_for root count) why)) }
 {
     let level = split_level(alloc, store, count)?;
     Ok(cut(alloc, &level, count)?)

@@ -9,6 +9,7 @@ ghost use Rattle.ocfl_split.specs.Splitting.{split_level as level_to_split};
 ghost use Rattle.ocfl_split.specs.Splitting.{listed_for, next_level as level_after};
 ghost use Rattle.ocfl_split.specs.Splitting.{listed_within, kept, wider as wider_level};
 ghost use Rattle.ocfl_split.specs.Internal.Directories.{IsLevel, AreListable};
+ghost use Rattle.ocfl_tree.specs.Store.{IfTold};
 
 use crate::directories::add_below;
 use ocfl_item::Fault;
@@ -31,13 +32,13 @@ fn next_level<T: Tree>(
     ensures only { IfErr result (λ why. IsWayFault why) }
     ensures fair { room ≤ max_held → IfOk result (λ next. IfSome next (λ places. (depth : ℕ)
         → IsLevel depth level.now → IsLevel (depth + 1) places.items)) }
-    ensures told { IsTrue T.told → (root : StorageRoot) → (T.state store.old).tree ≡ root
-        → AreListable root level.now → MatchResult result
+    ensures told { IfTold T.told (T.state store.old) (λ root.
+        AreListable root level.now → MatchResult result
         (λ next. (option_map (λ places. places.items) next ≡ level_after root room level.now)
         × ListsAll root (T.state store.old) (T.state store.new)
         (listed_within root room level.now))
         (λ why. ListsStop root (T.state store.old) (T.state store.new)
-        (listed_within root room level.now) why) }
+        (listed_within root room level.now) why)) }
 {
     let mut next = Vec::new(alloc);
     for place in level {
@@ -89,12 +90,12 @@ pub(crate) fn split_level<T: Tree>(
 ) -> Result<Vec<Place>, Fault>
     ensures only { IfErr result (λ why. IsWayFault why) }
     ensures fair { IfOk result (λ level. (depth : ℕ) × IsLevel depth level.items) }
-    ensures told { IsTrue T.told → (root : StorageRoot) → (T.state store.old).tree ≡ root
-        → MatchResult result
+    ensures told { IfTold T.told (T.state store.old) (λ root.
+        MatchResult result
         (λ level. (level.items ≡ level_to_split root count)
         × ListsAll root (T.state store.old) (T.state store.new) (listed_for root count))
         (λ why. ListsStop root (T.state store.old) (T.state store.new)
-        (listed_for root count) why) }
+        (listed_for root count) why)) }
 {
     let mut above = Vec::new(alloc);
     let mut level = first_level(alloc)?;

@@ -10,6 +10,7 @@ ghost use Rattle.ocfl_split.specs.Levels.{leads_on};
 ghost use Rattle.ocfl_split.specs.Splitting.{ListsAll, ListsStop};
 ghost use Rattle.ocfl_split.specs.Internal.Directories.{is_directory_entry, directories_among};
 ghost use Rattle.ocfl_split.specs.Internal.Directories.{AddsBelow, AddsAll};
+ghost use Rattle.ocfl_tree.specs.Store.{IfTold};
 
 use ocfl_inventory::Level;
 use ocfl_item::{Fault, Folder, Head, head_of, is_extensions, list};
@@ -80,11 +81,11 @@ pub(crate) fn add_below<T: Tree>(
     ensures only { IfErr result (λ why. IsWayFault why) }
     ensures fair { IfOk result (λ fits. fits ≡ true
         → AddsBelow place.now room next.old.items next.new.items) }
-    ensures told { IsTrue T.told → (root : StorageRoot) → (T.state store.old).tree ≡ root
-        → is_listable root place.now ≡ true → MatchResult result
+    ensures told { IfTold T.told (T.state store.old) (λ root.
+        is_listable root place.now ≡ true → MatchResult result
         (λ fits. AddsAll root place.now room next.old.items next.new.items fits
         × ListsAll root (T.state store.old) (T.state store.new) (place.now ∷ []))
-        (λ why. ListsStop root (T.state store.old) (T.state store.new) (place.now ∷ []) why) }
+        (λ why. ListsStop root (T.state store.old) (T.state store.new) (place.now ∷ []) why)) }
 {
     let mut folder = list(store, place.try_clone()?)?;
     if !leads_on_from(&folder) {

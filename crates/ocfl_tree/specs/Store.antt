@@ -1,5 +1,5 @@
 -- What a store that tells its tree tells, and what a call did to that.
-use Rattle.std.specs.Prelude.{◌≡◌, ℕ, ◌+◌, List, ◌++◌, Option}
+use Rattle.std.specs.Prelude.{◌≡◌, ℕ, ◌+◌, List, ◌++◌, Bool, IsTrue, Option}
 use Rattle.ocfl_tree.specs.Place.{Text, Place}
 use Rattle.ocfl_tree.specs.StorageRoot.{StorageRoot}
 use Rattle.ocfl_tree.specs.declared.store.Opening.{Opening}
@@ -15,6 +15,10 @@ pub record Store : Type 0 where
   pub failures : ℕ
   -- the largest read that was asked
   pub largest : ℕ
+
+-- of a store that tells its tree, whatever that tree is
+abbrev pub IfTold : Bool → Store → (StorageRoot → Type 0) → Type 0
+IfTold told s Holds = IsTrue told → (root : StorageRoot) → s.tree ≡ root → Holds root
 
 -- from s to t the tree stayed, and these openings, listings and so many failures were added
 pub record Did (s t : Store) (openings : List Opening) (listings : List Place) (failures : ℕ) : Type 0 where

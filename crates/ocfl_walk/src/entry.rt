@@ -2,7 +2,7 @@
 ghost use Rattle.std.specs.Prelude.{◌≡◌, ◌∷◌, ◌++◌, [], length, None, Some, IsTrue};
 ghost use Rattle.std.specs.Prelude.{IfOk, IfErr, IfSome, MatchOption, MatchResult};
 ghost use Rattle.ocfl_tree.specs.StorageRoot.{StorageRoot};
-ghost use Rattle.ocfl_tree.specs.Store.{Store};
+ghost use Rattle.ocfl_tree.specs.Store.{Store, IfTold};
 ghost use Rattle.ocfl_tree.specs.Place.{Place as Spot, Text};
 ghost use Rattle.ocfl_tree.specs.Listing.{IsListing};
 ghost use Rattle.ocfl_inventory.specs.Table.{IsFit};
@@ -33,14 +33,14 @@ fn listed<T: Tree>(store: &mut T, folder: &Folder, name: &Name) -> Result<Option
     ensures only { IfErr result (λ why. IsWayFault why) }
     ensures fair { IfOk result (λ next. IfSome next
         (λ inner. IsFairFolder (folder.now.place ++ name.now ∷ []) inner)) }
-    ensures told { IsTrue T.told → (root : StorageRoot) → (T.state store.old).tree ≡ root
-        → IsListing root folder.now.place folder.now.entries.items
+    ensures told { IfTold T.told (T.state store.old) (λ root.
+        IsListing root folder.now.place folder.now.entries.items
         → let below = folder.now.place ++ name.now ∷ [] in MatchResult result
         (λ next. MatchOption next
         (StaysOut root (T.state store.old) (T.state store.new) below)
         (λ inner. Enters root (T.state store.old) (T.state store.new) below
         inner.place inner.entries.items))
-        (λ why. Stops root (T.state store.old) (T.state store.new) (below ∷ []) [] why) }
+        (λ why. Stops root (T.state store.old) (T.state store.new) (below ∷ []) [] why)) }
 {
     if !can_enter(folder, name) {
         return Ok(None);
@@ -53,8 +53,8 @@ fn listed<T: Tree>(store: &mut T, folder: &Folder, name: &Name) -> Result<Option
 pub(crate) fn known_root<T: Tree>(alloc: Global, store: &mut T) -> Result<Option<Folder>, Fault>
     ensures only { IfErr result (λ why. IsWayFault why) }
     ensures fair { IfOk result (λ next. IfSome next (λ base. IsFairFolder [] base)) }
-    ensures told { IsTrue T.told → (root : StorageRoot) → (T.state store.old).tree ≡ root
-        → ListsRoot root (T.state store.old) (T.state store.new) result }
+    ensures told { IfTold T.told (T.state store.old) (λ root.
+        ListsRoot root (T.state store.old) (T.state store.new) result) }
 {
     let base = list(store, Place::root(alloc))?;
     let Head::Known = head_of(&base, Level::Root) else {
@@ -68,9 +68,9 @@ fn opened<T: Tree>(alloc: Global, store: &mut T, folder: &Folder) -> Result<Opti
     ensures only { IfErr result (λ why. IsWayFault why) }
     ensures kept { IfOk result (λ next. IfSome next
         (λ object. (object.place ≡ folder.now.place) × IsFit object.table)) }
-    ensures told { IsTrue T.told → (root : StorageRoot) → (T.state store.old).tree ≡ root
-        → IsObject root folder.now.place folder.now.entries.items
-        → Opens root (T.state store.old) (T.state store.new) folder.now.place result }
+    ensures told { IfTold T.told (T.state store.old) (λ root.
+        IsObject root folder.now.place folder.now.entries.items
+        → Opens root (T.state store.old) (T.state store.new) folder.now.place result) }
 {
     let Some(table) = table_of_object(alloc, store, folder)? else {
         return Ok(None);
@@ -91,9 +91,9 @@ fn into_directory<T: Tree>(
     ensures only { IfErr result (λ why. IsWayFault why) }
     ensures fair { (d : Spot) (n : Text) → IsFairFolder (d ++ n ∷ []) inner
         → IfOk result (λ o. IsFairWay d n object.old object.new o) }
-    ensures told { IsTrue T.told → (root : StorageRoot) → (T.state store.old).tree ≡ root
-        → (s : Store) (d : Spot) (n : Text) → ListsBelow root s (T.state store.old) d n inner
-        → (r : Spot) → Leads root s (T.state store.new) d n r object.old object.new result }
+    ensures told { IfTold T.told (T.state store.old) (λ root.
+        (s : Store) (d : Spot) (n : Text) → ListsBelow root s (T.state store.old) d n inner
+        → (r : Spot) → Leads root s (T.state store.new) d n r object.old object.new result) }
 {
     match declaration(&inner.entries, Level::Object) {
         Declared::None => Ok(Some(inner)),
@@ -139,11 +139,11 @@ pub(crate) fn down<T: Tree>(
     requires { IsAroundIf folder.now.place object.old }
     ensures only { IfErr result (λ why. IsWayFault why) }
     ensures fair { IfOk result (λ o. IsFairWay folder.now.place name.now object.old object.new o) }
-    ensures told { IsTrue T.told → (root : StorageRoot) → (T.state store.old).tree ≡ root
-        → IsAt root folder.now.place folder.now.entries.items
+    ensures told { IfTold T.told (T.state store.old) (λ root.
+        IsAt root folder.now.place folder.now.entries.items
         → IsPart root folder.now.place object.old → (r : Spot)
         → Leads root (T.state store.old) (T.state store.new) folder.now.place name.now r object.old
-        object.new result }
+        object.new result) }
 {
     if !leads_on(object, folder, name) {
         return Ok(None);
@@ -173,8 +173,8 @@ fn go_down<T: Tree>(
     ensures last { stand.new.last ≡ stand.old.last }
     ensures orderly { IfOk result (λ _. IsOrderly (folder.place ++ names.now)
         (piles_in stand.new.last stand.new.listings.items) stand.new.around) }
-    ensures told { IsTrue T.told → (root : StorageRoot) → (T.state store.old).tree ≡ root
-        → IsAt root folder.place folder.entries.items → IsPart root folder.place stand.old.around
+    ensures told { IfTold T.told (T.state store.old) (λ root.
+        IsAt root folder.place folder.entries.items → IsPart root folder.place stand.old.around
         → let may = may_open stand.old.around
         (zone root (folder.place ++ names.now)) in MatchResult result
         (λ _. Descends root (T.state store.old) (T.state store.new)
@@ -182,7 +182,7 @@ fn go_down<T: Tree>(
         × IsBrought root folder.place names.now (piles_in stand.old.last stand.old.listings.items)
         (piles_in stand.new.last stand.new.listings.items) stand.new.around)
         (λ why. DescendFails root (T.state store.old) (T.state store.new)
-        (way_below folder.place names.now) may why) }
+        (way_below folder.place names.now) may why)) }
 {
     let Some((name, rest)) = names.split_first() else {
         stand.listings.push(sorted(folder).entries);
@@ -224,11 +224,11 @@ fn go_down_from_root<T: Tree>(
     ensures only { IfErr result (λ why. IsWayFault why) }
     ensures last { stand.new.last ≡ Some after.now }
     ensures orderly { IfOk result (λ _. IsOrderlyStand stand.new) }
-    ensures told { IsTrue T.told → (root : StorageRoot) → (T.state store.old).tree ≡ root
-        → MatchResult result
+    ensures told { IfTold T.told (T.state store.old) (λ root.
+        MatchResult result
         (λ _. Starts root (T.state store.old) (T.state store.new) after.now 0
         × StandsAt root stand.new (Some after.now))
-        (λ why. StartFails root (T.state store.old) (T.state store.new) after.now why) }
+        (λ why. StartFails root (T.state store.old) (T.state store.new) after.now why)) }
 {
     let names = after.names()?;
     let Some(base) = known_root(alloc, store)? else {
@@ -242,11 +242,11 @@ pub(crate) fn stand_at<T: Tree>(alloc: Global, store: &mut T, after: &Place) -> 
     ensures only { IfErr result (λ why. IsWayFault why) }
     ensures last { IfOk result (λ stand. stand.last ≡ Some after.now) }
     ensures orderly { IfOk result (λ stand. IsOrderlyStand stand) }
-    ensures told { IsTrue T.told → (root : StorageRoot) → (T.state store.old).tree ≡ root
-        → MatchResult result
+    ensures told { IfTold T.told (T.state store.old) (λ root.
+        MatchResult result
         (λ stand. Starts root (T.state store.old) (T.state store.new) after.now 0
         × StandsAt root stand (Some after.now))
-        (λ why. StartFails root (T.state store.old) (T.state store.new) after.now why) }
+        (λ why. StartFails root (T.state store.old) (T.state store.new) after.now why)) }
 {
     let mut stand = stand_without_listings(alloc, after)?;
     go_down_from_root(alloc, store, &mut stand, after)?;

@@ -8,6 +8,7 @@ ghost use Rattle.ocfl_item.specs.Ways.{IsAt, IsWayFault, way_below};
 ghost use Rattle.ocfl_walk.specs.Entering.{may_open};
 ghost use Rattle.ocfl_walk.specs.Finding.{FindsItem};
 ghost use Rattle.ocfl_walk.specs.Standing.{IsAroundIf};
+ghost use Rattle.ocfl_tree.specs.Store.{IfTold};
 
 use crate::entry::down;
 use ocfl_item::{Around, Fault, Folder, Pending, visit_entry, visit_path};
@@ -37,12 +38,12 @@ fn item_in<T: Tree>(
     name: &Name,
 ) -> Result<Option<Pending>, Fault>
     ensures only { IfErr result (λ why. IsWayFault why) }
-    ensures told { IsTrue T.told → (root : StorageRoot) → (T.state store.old).tree ≡ root
-        → IsAt root folder.now.place folder.now.entries.items
+    ensures told { IfTold T.told (T.state store.old) (λ root.
+        IsAt root folder.now.place folder.now.entries.items
         → IsPart root folder.now.place around.now
         → place.now ≡ folder.now.place ++ name.now ∷ []
         → FindsItem root (T.state store.old) (T.state store.new) (place.now ∷ [])
-        (may_open around.now (zone root place.now)) place.now result }
+        (may_open around.now (zone root place.now)) place.now result) }
 {
     match entry_named(&folder.entries, name) {
         Some(entry) => Ok(visit_entry(alloc, store, around, place.try_clone()?, entry)?.item),
@@ -62,12 +63,12 @@ pub(crate) fn find_below<T: Tree>(
 ) -> Result<Option<Pending>, Fault>
     requires { IsAroundIf folder.place around }
     ensures only { IfErr result (λ why. IsWayFault why) }
-    ensures told { IsTrue T.told → (root : StorageRoot) → (T.state store.old).tree ≡ root
-        → IsAt root folder.place folder.entries.items → IsPart root folder.place around
+    ensures told { IfTold T.told (T.state store.old) (λ root.
+        IsAt root folder.place folder.entries.items → IsPart root folder.place around
         → place.now ≡ folder.place ++ name.now ∷ rest.now
         → FindsItem root (T.state store.old) (T.state store.new)
         (way_below folder.place (name.now ∷ rest.now))
-        (may_open around (zone root place.now)) place.now result }
+        (may_open around (zone root place.now)) place.now result) }
 {
     let Some((next, behind)) = rest.split_first() else {
         return item_in(alloc, store, place, &around, &folder, name);

@@ -4,6 +4,7 @@ ghost use Rattle.ocfl_tree.specs.StorageRoot.{StorageRoot};
 ghost use Rattle.ocfl_item.specs.Meeting.{IsItemAt};
 ghost use Rattle.ocfl_item.specs.Ways.{IsWayFault};
 ghost use Rattle.ocfl_walk.specs.WalkCalls.{GoDownFails, GoesDown};
+ghost use Rattle.ocfl_tree.specs.Store.{IfTold};
 
 use crate::entry::known_root;
 use crate::find::find_below;
@@ -26,11 +27,11 @@ pub fn item_at<T: Tree>(
     place: &Place,
 ) -> Result<Option<Pending>, Fault>
     ensures only { IfErr result (λ why. IsWayFault why) }
-    ensures told { IsTrue T.told → (root : StorageRoot) → (T.state store.old).tree ≡ root
-        → MatchResult result
+    ensures told { IfTold T.told (T.state store.old) (λ root.
+        MatchResult result
         (λ o. GoesDown root (T.state store.old) (T.state store.new) (Some place.now)
         × IsItemAt root place.now o)
-        (λ why. GoDownFails root (T.state store.old) (T.state store.new) (Some place.now) why) }
+        (λ why. GoDownFails root (T.state store.old) (T.state store.new) (Some place.now) why)) }
 {
     let names = place.names()?;
     let Some((name, rest)) = names.split_first() else {

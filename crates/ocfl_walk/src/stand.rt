@@ -6,7 +6,7 @@ ghost use Rattle.std.specs.declared.cmp.Ordering.TheVariants.{Less};
 ghost use Rattle.arrayvec.specs.ArrayVec.{array_vec_len};
 ghost use Rattle.ocfl_tree.specs.Place.{Place as Spot, place_cmp};
 ghost use Rattle.ocfl_tree.specs.StorageRoot.{StorageRoot};
-ghost use Rattle.ocfl_tree.specs.Store.{Store};
+ghost use Rattle.ocfl_tree.specs.Store.{Store, IfTold};
 ghost use Rattle.ocfl_audit.specs.Walk.{seen_names};
 ghost use Rattle.ocfl_audit.specs.Zone.{seen};
 ghost use Rattle.ocfl_item.specs.Ways.{IsWayFault};
@@ -300,12 +300,12 @@ fn meet<T: Tree>(
     ensures only { IfErr result (λ why. IsWayFault why) }
     ensures fair { IsAroundIf place.now (still around place.now)
         → IfOk result (λ m. IsFairMet place.now m) }
-    ensures told { IsTrue T.told → (root : StorageRoot) → (T.state store.old).tree ≡ root
-        → (d : Spot) → IsMet root d (still around place.now) entry.now place.now
+    ensures told { IfTold T.told (T.state store.old) (λ root.
+        (d : Spot) → IsMet root d (still around place.now) entry.now place.now
         → MatchResult result
         (λ m. Meets root (T.state store.old) (T.state store.new) place.now
         × IsMeeting root place.now m)
-        (λ why. MeetFails root (T.state store.old) (T.state store.new) place.now why) }
+        (λ why. MeetFails root (T.state store.old) (T.state store.new) place.now why)) }
 {
     let around = still_around(around, place);
     let visit = visit_entry(alloc, store, &around, place.try_clone()?, entry)?;
@@ -342,8 +342,8 @@ impl Stand {
         ensures only { IfErr result (λ why. IsWayFault why) }
         ensures goes_on { IfOk result (λ step. GoesOn self.old self.new step) }
         ensures there { IfOk result (λ step. GoesTo self.new [] step) }
-        ensures told { IsTrue T.told → (root : StorageRoot) → (T.state store.old).tree ≡ root
-            → StepsTo root (T.state store.old) (T.state store.new) None [] self.new result }
+        ensures told { IfTold T.told (T.state store.old) (λ root.
+            StepsTo root (T.state store.old) (T.state store.new) None [] self.new result) }
     {
         let Visit { item, folder, .. } = visit_base(alloc, store)?;
         push_if(&mut self.listings, sorted_if(folder));
@@ -364,13 +364,13 @@ impl Stand {
         ensures only { IfErr result (λ why. IsWayFault why) }
         ensures goes_on { IfOk result (λ step. GoesOn self.old self.new step) }
         ensures there { IfOk result (λ step. GoesTo self.new place step) }
-        ensures told { IsTrue T.told → (root : StorageRoot) → (T.state store.old).tree ≡ root
-            → (stood last : Spot) → self.old.last ≡ Some stood
+        ensures told { IfTold T.told (T.state store.old) (λ root.
+            (stood last : Spot) → self.old.last ≡ Some stood
             → IsHeld root stood (piles_in self.old.last self.old.listings.items) self.old.around
             → IsTurn root last place ((place, seen_names root place)
             ∷ popped (piles_in self.old.last self.old.listings.items))
             → StepsTo root (T.state store.old) (T.state store.new) (Some last) place self.new
-            result }
+            result) }
     {
         let Some(entry) = take_entry(&mut self.listings) else {
             return Ok(Step::End);
@@ -449,11 +449,11 @@ impl Stand {
         ensures only { IfErr result (λ why. IsWayFault why) }
         ensures goes_on { IfOk result (λ step. GoesAt self.old self.new step) }
         ensures before { IfOk result (λ step. IsBefore end.now self.new step) }
-        ensures told { IsTrue T.told → (root : StorageRoot) → (T.state store.old).tree ≡ root
-            → (d q : Spot) → StandsAt root self.old (Some d)
+        ensures told { IfTold T.told (T.state store.old) (λ root.
+            (d q : Spot) → StandsAt root self.old (Some d)
             → place_before root (d ++ name.now ∷ []) ≡ Some q
             → StepsAtTo root (T.state store.old) (T.state store.new) q end.now self.old self.new
-            result }
+            result) }
     {
         let Some(directory) = &self.last else {
             return Ok(Step::End);
@@ -478,9 +478,10 @@ impl Stand {
         ensures only { IfErr result (λ why. IsWayFault why) }
         ensures goes_on { IfOk result (λ step. GoesOn self.old self.new step) }
         ensures before { IfOk result (λ step. IsBefore end.now self.new step) }
-        ensures told { IsTrue T.told → (root : StorageRoot) → (T.state store.old).tree ≡ root
-            → (last : Option Spot) → StandsAt root self.old last
-            → StepsOutTo root (T.state store.old) (T.state store.new) last end.now self.new result }
+        ensures told { IfTold T.told (T.state store.old) (λ root.
+            (last : Option Spot) → StandsAt root self.old last
+            → StepsOutTo root (T.state store.old) (T.state store.new) last end.now self.new
+            resul) }
     {
         drop_empty(&mut self.listings);
         let turn = choose(&self.listings, &self.around, &self.last)?;
@@ -504,10 +505,10 @@ impl Stand {
         ensures only { IfErr result (λ why. IsWayFault why) }
         ensures goes_on { IfOk result (λ o. NextGoesOn self.old self.new o) }
         ensures before { IfOk result (λ o. IfSome o (λ p. is_past end.now p.place ≡ false)) }
-        ensures told { IsTrue T.told → (root : StorageRoot) → (T.state store.old).tree ≡ root
-            → (last : Option Spot) → StandsAt root self.old last → MatchResult result
+        ensures told { IfTold T.told (T.state store.old) (λ root.
+            (last : Option Spot) → StandsAt root self.old last → MatchResult result
             (λ o. NextTold root (T.state store.old) (T.state store.new) last end.now self.new o)
-            (λ why. FailsOut root (T.state store.old) (T.state store.new) last end.now why) }
+            (λ why. FailsOut root (T.state store.old) (T.state store.new) last end.now why)) }
     {
         loop {
             match self.step(alloc, store, end)? {

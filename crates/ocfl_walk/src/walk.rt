@@ -9,6 +9,7 @@ ghost use Rattle.ocfl_walk.specs.Before.{directory_of, place_before};
 ghost use Rattle.ocfl_walk.specs.Ends.{is_past};
 ghost use Rattle.ocfl_walk.specs.WalkCalls.{FailsOut, GoDownFails, GoesDown, WalkFails};
 ghost use Rattle.ocfl_walk.specs.Orderly.{is_orderly};
+ghost use Rattle.ocfl_tree.specs.Store.{IfTold};
 
 use crate::end::End;
 use crate::entry::stand_at;
@@ -51,12 +52,12 @@ impl Walk {
         ensures last { IfOk result (λ walk. last_of walk ≡ option_map (λ p. p.now) after.entry) }
         ensures untouched { after.entry ≡ None → store.new ≡ store.old }
         ensures ready { after.entry ≡ None → IfErr result (λ _. ⊥) }
-        ensures inventories { IsTrue T.told → (root : StorageRoot) → (T.state store.old).tree ≡ root
-            → OpensInventories root (T.state store.old) (T.state store.new) }
-        ensures told { IsTrue T.told → (root : StorageRoot) → (T.state store.old).tree ≡ root
-            → let p = option_map (λ p. p.now) after.entry in MatchResult result
+        ensures inventories { IfTold T.told (T.state store.old) (λ root.
+            OpensInventories root (T.state store.old) (T.state store.new)) }
+        ensures told { IfTold T.told (T.state store.old) (λ root.
+            let p = option_map (λ p. p.now) after.entry in MatchResult result
             (λ walk. GoesDown root (T.state store.old) (T.state store.new) p × Stands root walk p)
-            (λ why. GoDownFails root (T.state store.old) (T.state store.new) p why) }
+            (λ why. GoDownFails root (T.state store.old) (T.state store.new) p why)) }
     {
         let Some(place) = after else {
             return Ok(Walk {
@@ -91,13 +92,13 @@ impl Walk {
         ensures last { IfOk result (λ walk. last_of walk ≡ directory_of from.now) }
         ensures untouched { from.now ≡ [] → store.new ≡ store.old }
         ensures ready { from.now ≡ [] → IfErr result (λ _. ⊥) }
-        ensures inventories { IsTrue T.told → (root : StorageRoot) → (T.state store.old).tree ≡ root
-            → OpensInventories root (T.state store.old) (T.state store.new) }
-        ensures told { IsTrue T.told → (root : StorageRoot) → (T.state store.old).tree ≡ root
-            → let d = directory_of from.now in MatchResult result
+        ensures inventories { IfTold T.told (T.state store.old) (λ root.
+            OpensInventories root (T.state store.old) (T.state store.new)) }
+        ensures told { IfTold T.told (T.state store.old) (λ root.
+            let d = directory_of from.now in MatchResult result
             (λ walk. GoesDown root (T.state store.old) (T.state store.new) d
             × Stands root walk (place_before root from.now))
-            (λ why. GoDownFails root (T.state store.old) (T.state store.new) d why) }
+            (λ why. GoDownFails root (T.state store.old) (T.state store.new) d why)) }
     {
         if from.depth() == 0 {
             return Walk::start(alloc, store, None);
@@ -124,11 +125,11 @@ impl Walk {
         ensures stays { IsBroken self.old → (result ≡ Err Fault.Broken) × (store.new ≡ store.old) }
         ensures goes_on { IsLive self.old → IfOk result
             (λ o. IsLive self.new × GoesOn self.old self.new o) }
-        ensures told { IsTrue T.told → (root : StorageRoot) → (T.state store.old).tree ≡ root
-            → IsLive self.old
+        ensures told { IfTold T.told (T.state store.old) (λ root.
+            IsLive self.old
             → (last : Option Spot) → Stands root self.old last → MatchResult result
             (λ o. Gives root (T.state store.old) (T.state store.new) last self.new o)
-            (λ why. WalkFails root (T.state store.old) (T.state store.new) last why) }
+            (λ why. WalkFails root (T.state store.old) (T.state store.new) last why)) }
     {
         let end = End::of_all(self.alloc);
         self.next_within(store, &end)
@@ -150,11 +151,11 @@ impl Walk {
         ensures goes_on { IsLive self.old → IfOk result
             (λ o. IsLive self.new × GoesOn self.old self.new o) }
         ensures before { IfOk result (λ o. IfSome o (λ p. is_past end.now p.place ≡ false)) }
-        ensures told { IsTrue T.told → (root : StorageRoot) → (T.state store.old).tree ≡ root
-            → IsLive self.old
+        ensures told { IfTold T.told (T.state store.old) (λ root.
+            IsLive self.old
             → (last : Option Spot) → Stands root self.old last → MatchResult result
             (λ o. GivesOut root (T.state store.old) (T.state store.new) last end.now self.new o)
-            (λ why. FailsOut root (T.state store.old) (T.state store.new) last end.now why) }
+            (λ why. FailsOut root (T.state store.old) (T.state store.new) last end.now why)) }
     {
         if self.broken {
             return Err(Fault::Broken);
@@ -174,10 +175,10 @@ impl Walk {
         ensures stays { self.new.broken ≡ self.old.broken }
         ensures goes_on { IfOk result (λ o. GoesOn self.old self.new o) }
         ensures before { IfOk result (λ o. IfSome o (λ p. is_past end.now p.place ≡ false)) }
-        ensures told { IsTrue T.told → (root : StorageRoot) → (T.state store.old).tree ≡ root
-            → (last : Option Spot) → Stands root self.old last → MatchResult result
+        ensures told { IfTold T.told (T.state store.old) (λ root.
+            (last : Option Spot) → Stands root self.old last → MatchResult result
             (λ o. GivesOut root (T.state store.old) (T.state store.new) last end.now self.new o)
-            (λ why. FailsOut root (T.state store.old) (T.state store.new) last end.now why) }
+            (λ why. FailsOut root (T.state store.old) (T.state store.new) last end.now why)) }
     {
         let Some(name) = self.first.take() else {
             return self.stand.next(self.alloc, store, end);

@@ -20,7 +20,8 @@ Turn = collections.namedtuple("Turn", "edit function turned changes")
 
 
 def share(crate, edits):
-    """Shares out the edits of a crate: the rounds, and those that must be tried alone."""
+    """Shares out the edits of a crate: the rounds, the largest first, and those that must be tried
+    alone."""
     known = functions.functions_of(crate)
     rounds, alone = [], []
     for edit in edits:
@@ -33,8 +34,8 @@ def share(crate, edits):
         if found is None:
             rounds.append(found := [])
         found.append(turn)
-    alone += [it[0].edit for it in rounds if len(it) == 1]
-    return [it for it in rounds if len(it) > 1], alone
+    rounds = sorted(([turn.edit for turn in it] for it in rounds), key=len, reverse=True)
+    return [it for it in rounds if len(it) > 1], alone + [it[0] for it in rounds if len(it) == 1]
 
 
 def turn_of(crate, edit, known):

@@ -50,13 +50,15 @@ def alone(rt, crate, file):
     return verdict in (rt.REFUSED, rt.AT_LIMIT), text.split(": ", 1)[-1]
 
 
-def together(rt, crate, files):
-    """Checks a crate with several edits, and then one by one those that were not refused so."""
+def together(rt, crate, files, jobs="1", first=False):
+    """Checks a crate with several edits, and then one by one those that were not refused so. The
+    first check of a crate keeps what it proves."""
     chosen = [edit for edit in collection.every_edit() if edit.file in files]
     known = functions.functions_of(crate.name)
     turns = [rounds.turn_of(crate.name, edit, known) for edit in chosen]
-    with over(crate) as kept:
-        ran = rt.checked(crate, rounds.texts_of(crate.name, turns), ["--jobs", "1"], kept)
+    begun = contextlib.nullcontext(os.path.join(crate.folder, KEPT))
+    with begun if first else over(crate) as kept:
+        ran = rt.checked(crate, rounds.texts_of(crate.name, turns), ["--jobs", jobs], kept)
     lines = ran.stdout.rstrip("\n").split("\n")
     told = rounds.by_function(crate.name, lines, known)
     found = {turn.edit.file: refusal(told[turn.function]) for turn in turns}
@@ -83,7 +85,9 @@ def main():
     rt = toolchain.load()
     os.environ.pop(rt.rtlib.ALLOW_C, None)
     crate = toolchain.crates_of(rt, folder)[name]
-    if kind == "edits":
+    if kind == "seed":
+        told = together(rt, crate, files, jobs, first=True)
+    elif kind == "edits":
         told = together(rt, crate, files) if len(files) > 1 else [alone(rt, crate, files[0])]
     else:
         told = [(library if kind == "library" else whole)(rt, crate, ["--jobs", jobs])]

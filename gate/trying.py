@@ -1,5 +1,8 @@
 """Tries edits over kept work: each crate is proved once, and its edits are then checked over links
-to what that proof kept, so that what they do not turn is not checked again."""
+to what that proof kept, so that what they do not turn is not checked again.
+
+Where nothing is kept of a crate, its largest round of edits comes before that proof: what the round
+does not turn is proved and kept by it, and the proof adds the rest."""
 import collections
 import functools
 import json
@@ -11,6 +14,7 @@ import threading
 import time
 
 from gate import rounds, toolchain
+from gate.step import KEPT
 from gate.commands import fail, say
 from gate.repository import TOP, below, copy_to, crates
 
@@ -57,14 +61,16 @@ def tasks_of(rt, folder, edits):
             tasks[key] = waits, work, memory, call
             return key
 
-        waits = [(it.name, "library", ()) for it in made[name].below()]
+        waits, tried = [(it.name, "library", ()) for it in made[name].below()], []
+        shared, alone = rounds.share(name, [it for it in edits if it.crate == name])
+        if shared and not os.path.isdir(os.path.join(made[name].folder, KEPT)):
+            tried = [add("seed", waits, lines, *shared.pop(0))]
+            waits = waits + tried
         if name in lower:
             waits = [add("library", waits, lines)]
         if name in chosen:
             proof = add("proof", waits, lines)
-            shared, alone = rounds.share(name, [it for it in edits if it.crate == name])
-            tried = [add("edits", [proof], len(it) * lines // 20, *(turn.edit for turn in it))
-                     for it in shared]
+            tried += [add("edits", [proof], len(it) * lines // 20, *it) for it in shared]
             tried += [add("edits", [proof], lines // 10, it) for it in alone]
             add("end", tried, lines // 10)
     return tasks
@@ -72,13 +78,13 @@ def tasks_of(rt, folder, edits):
 
 def step(folder, key, waits, given, jobs):
     """Takes one step in a process of its own, once those that it waits for went well, and says how
-    it went; the check at the end is made whatever the edits gave."""
+    it went. Whatever edits gave, what waits for them goes on."""
     crate, kind, edits = key
-    if kind != "end" and not all(well for it in waits for well, _ in given[it].told):
+    if not all(well for it in waits if not it[2] for well, _ in given[it].told):
         return said(key, not_tried(key, "not tried, since a step before it failed"))
     files = [edit.file for edit in edits]
     command = [sys.executable, "-B", "-m", "gate.step", folder, crate, kind, str(jobs), *files]
-    limit = EDIT_LIMIT * len(edits) or PROOF_LIMIT
+    limit = EDIT_LIMIT * len(edits) + (0 if kind == "edits" else PROOF_LIMIT)
     how = {"cwd": TOP, "stdin": subprocess.DEVNULL, "stdout": subprocess.PIPE, "text": True}
     how["env"] = {**os.environ, "TMPDIR": folder}
     try:
@@ -113,7 +119,7 @@ def tell(given, seconds):
     """Says how many edits of each crate were refused, and what that took."""
     for crate in crates():
         own = {key: step for key, step in given.items() if key[0] == crate}
-        tried = [step for key, step in own.items() if key[1] == "edits"]
+        tried = [step for key, step in own.items() if key[2]]
         minutes = [sum(step.seconds for step in steps) / 60
                    for steps in (tried, [step for step in own.values() if step not in tried])]
         if tried:

@@ -481,7 +481,7 @@ impl Stand {
         ensures told { IfTold T.told (T.state store.old) (λ root.
             (last : Option Spot) → StandsAt root self.old last
             → StepsOutTo root (T.state store.old) (T.state store.new) last end.now self.new
-            resul) }
+            result) }
     {
         drop_empty(&mut self.listings);
         let turn = choose(&self.listings, &self.around, &self.last)?;

@@ -4,7 +4,7 @@ ghost use Rattle.ocfl_tree.specs.Listing.{AreApart, IsOrdinary};
 ghost use Rattle.ocfl_tree.specs.StorageRoot.{max_entries};
 
 use crate::looks::{Looks, Node};
-use ocfl_tree::{Entry, Kind, Trouble};
+use ocfl_tree::{Entry, Kind, MAX_ENTRIES, Trouble};
 use std::alloc::Global;
 
 /// At most 1,000,000 entries, and the looks that are kept at files among them.
@@ -35,10 +35,10 @@ impl Listed {
         }
     }
 
-    /// Appends an entry, and keeps the look at a file. `Device` if there are 1,000,000 already,
+    /// Appends an entry, and keeps the look at a file. `Device` if there are [`MAX_ENTRIES`] already,
     /// `Memory` if memory is refused.
     pub(crate) fn add(&mut self, entry: Entry, node: Node) -> Result<(), Trouble> {
-        if self.entries.len() >= 1_000_000 {
+        if self.entries.len() >= MAX_ENTRIES {
             return Err(Trouble::Device);
         }
         if entry.kind == Kind::File {

@@ -21,6 +21,6 @@ pub use name::{Name, NameStop};
 pub use order::cmp_elements;
 pub use place::Place;
 pub use plan::Point;
-pub use store::{Entry, Kind, Opening, Trouble};
+pub use store::{Entry, Kind, MAX_ENTRIES, Opening, Trouble};
 pub use text::{is_bytes, is_text};
 pub use tree::Tree;

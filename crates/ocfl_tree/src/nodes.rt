@@ -15,7 +15,7 @@ ghost use Rattle.ocfl_tree.specs.Internal.Nodes.{kept_refusal};
 use crate::build::BuildStop;
 use crate::name::Name;
 use crate::place::Place;
-use crate::store::{Entry, Kind, Trouble};
+use crate::store::{Entry, Kind, MAX_ENTRIES, Trouble};
 use std::alloc::{AllocError, Global};
 use std::marker::Model;
 
@@ -217,7 +217,7 @@ pub(crate) fn put(
     if !is_dir(nodes, parent) {
         return Err(BuildStop::NoParent);
     }
-    if count(nodes, parent) >= 1_000_000 {
+    if count(nodes, parent) >= MAX_ENTRIES {
         return Err(BuildStop::Full);
     }
     let Ok(place) = place.try_clone() else {

@@ -6,6 +6,9 @@ use crate::name::Name;
 use crate::place::Place;
 use std::alloc::{AllocError, AllocFailed};
 
+/// A directory of more entries cannot be listed.
+pub const MAX_ENTRIES: usize = 1_000_000;
+
 /// What an entry of a directory is. A link is `Other`, and so is everything that is neither a file
 /// nor a directory.
 #[derive(Clone, Copy, Debug, PartialEq, Eq, PartialOrd, Ord)]

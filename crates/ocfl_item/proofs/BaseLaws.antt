@@ -21,13 +21,15 @@ use Rattle.ocfl_inventory.specs.declared.declaration.Version.TheVariants.{V1_0, 
 use Rattle.ocfl_digest.specs.declared.bounded.Bounded.{Bounded}
 use Rattle.ocfl_audit.specs.Zone.{skipped, hierarchy, inside, zone, root_declared, object_declared, is_in_extensions, is_listed_zone, is_known, is_declared}
 use Rattle.ocfl_audit.specs.Head.{root_notes_by}
-use Rattle.ocfl_item.specs.HeadFiles.{FilesStop, IsFileAt, ReadsFile, ReadsFiles, files_there}
+use Rattle.ocfl_item.specs.HeadFiles.{FilesStop, ReadsFiles, files_there}
+use Rattle.ocfl_item.specs.Internal.HeadFiles.{IsFileAt, ReadsFile}
 use Rattle.ocfl_audit.specs.Lines.{named_at, named_in, notes}
 use Rattle.ocfl_item.specs.Looking.{IsFront, failures_by}
-use Rattle.ocfl_item.specs.Pending.{HasLines, IsPending, IsUnhashed}
+use Rattle.ocfl_item.specs.Pending.{IsPending}
+use Rattle.ocfl_item.specs.Internal.Lines.{HasLines, IsUnhashed}
 use Rattle.ocfl_audit.specs.Trail.{reads_inventory, content_trail, heads_of, inventory_of, is_head, is_meta, places_of}
 use Rattle.ocfl_item.specs.Meeting.{IsItemAt, IsVisit, MeetFails, Meets}
-use Rattle.ocfl_item.specs.Visiting.{IsBase}
+use Rattle.ocfl_item.specs.Internal.Visiting.{IsBase}
 use Rattle.ocfl_item.specs.Ways.{Enters, Stops}
 use Rattle.ocfl_item.specs.declared.fault.Fault.{Fault}
 use Rattle.ocfl_item.specs.declared.fault.Fault.TheVariants as fault

@@ -10,8 +10,8 @@ use Rattle.ocfl_inventory.specs.ListedPath.{is_content_path}
 use Rattle.ocfl_inventory.specs.Table.{Table, Named, named_cmp, named, paths_of}
 use Rattle.ocfl_audit.specs.Zone.{Zone, skipped, hierarchy, inside, zone, seen, table_at, is_entered, beginnings}
 use Rattle.ocfl_audit.specs.Lines.{content_notes, object_notes, notes_in, notes, named_in, named_at, cost_of, cost, is_hashed, file_notes, missing_notes}
-use Rattle.ocfl_item.specs.Looking.{content_in, content_at, IsSight}
-use Rattle.ocfl_item.specs.Pending.{is_read, sight_notes}
+use Rattle.ocfl_item.specs.Internal.Content.{content_in, content_at, IsSight}
+use Rattle.ocfl_item.specs.Internal.Content.{is_read, sight_notes}
 use Rattle.ocfl_item.specs.declared.sight.Sight.{Sight}
 use Rattle.ocfl_item.specs.declared.sight.Sight.TheVariants as sight
 use Rattle.ocfl_tree.proofs.Orders.{true_not_false}

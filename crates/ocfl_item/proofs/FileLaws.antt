@@ -21,8 +21,9 @@ use Rattle.ocfl_audit.specs.Lines.{is_hashed}
 use Rattle.ocfl_audit.specs.Trail.{is_root_meta, is_meta_zone, is_meta, is_object_meta, places_of, content_trail}
 use Rattle.ocfl_item.specs.Looking.{IsFront, failures_by}
 use Rattle.ocfl_item.specs.Auditing.{FailedAt, IsMetadataRead, in_opening}
-use Rattle.ocfl_item.specs.Ways.{fault_by, AreMeta, ReadsMeta, SeekStops, is_file_kind}
-use Rattle.ocfl_item.specs.HeadFiles.{files_there, ReadsFiles, FilesStop, ReadsFile, ReadsSome}
+use Rattle.ocfl_item.specs.Internal.Ways.{fault_by, AreMeta, ReadsMeta, SeekStops, is_file_kind}
+use Rattle.ocfl_item.specs.HeadFiles.{files_there, ReadsFiles, FilesStop}
+use Rattle.ocfl_item.specs.Internal.HeadFiles.{ReadsFile, ReadsSome}
 use Rattle.ocfl_item.specs.declared.fault.Fault.{Fault}
 use Rattle.ocfl_item.specs.declared.fault.Fault.TheVariants as fault
 use Rattle.ocfl_tree.proofs.Orders.{true_not_false}

@@ -27,9 +27,11 @@ use Rattle.ocfl_audit.specs.Zone.{skipped, hierarchy, inside, zone, root_declare
 use Rattle.ocfl_audit.specs.Head.{on, or_clean, is_exact_declaration, sidecar_name, sidecars_notes, inventory_part, inventory_file_notes, head_notes_by}
 use Rattle.ocfl_audit.specs.Lines.{notes, notes_in}
 use Rattle.ocfl_audit.specs.Trail.{is_object_meta}
-use Rattle.ocfl_item.specs.Pending.{Adds, HasLines}
-use Rattle.ocfl_item.specs.Ways.{ReadsTable, IsObject, IsDeclared, IsHeadOf}
-use Rattle.ocfl_item.specs.HeadFiles.{IsFileAt, OpensJust, ReadsFiles, FilesStop, ReadsFile, ReadsSome, head_files, head_names, sidecars_for, table_in}
+use Rattle.ocfl_item.specs.Internal.Lines.{Adds, HasLines}
+use Rattle.ocfl_item.specs.Ways.{IsObject}
+use Rattle.ocfl_item.specs.Internal.Ways.{ReadsTable, IsDeclared, IsHeadOf}
+use Rattle.ocfl_item.specs.HeadFiles.{OpensJust, ReadsFiles, FilesStop}
+use Rattle.ocfl_item.specs.Internal.HeadFiles.{IsFileAt, ReadsFile, ReadsSome, head_files, head_names, sidecars_for, table_in}
 use Rattle.ocfl_item.specs.declared.fault.Fault.{Fault}
 use Rattle.ocfl_item.specs.declared.fault.Fault.TheVariants as fault
 use Rattle.ocfl_item.specs.declared.lines.PlaceLines.{PlaceLines}

@@ -34,8 +34,8 @@ use Rattle.ocfl_inventory.specs.declared.declaration.Declared.TheVariants as mad
 use Rattle.ocfl_inventory.specs.declared.declaration.Version.{Version}
 use Rattle.ocfl_inventory.specs.declared.declaration.Version.TheVariants.{V1_0, V1_1}
 use Rattle.ocfl_audit.specs.Head.{is_exact_declaration, inventory_part}
-use Rattle.ocfl_item.specs.HeadFiles.{IsFileAt}
-use Rattle.ocfl_item.specs.HeadLines.{HasDigestFor, declared_notes, named_notes}
+use Rattle.ocfl_item.specs.Internal.HeadFiles.{IsFileAt}
+use Rattle.ocfl_item.specs.Internal.HeadLines.{HasDigestFor, declared_notes, named_notes}
 use Rattle.ocfl_audit.proofs.BelowLaws.{text_from_test}
 use Rattle.ocfl_item.proofs.InventoryLaws.{stopped_notes, stated_has_sidecar}
 

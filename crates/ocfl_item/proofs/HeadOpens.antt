@@ -20,9 +20,11 @@ use Rattle.ocfl_inventory.specs.declared.declaration.Level.TheVariants as level
 use Rattle.ocfl_inventory.specs.declared.declaration.Version.{Version}
 use Rattle.ocfl_audit.specs.Head.{inventory_file_notes, inventory_part, sidecar_name, sidecars_notes}
 use Rattle.ocfl_audit.specs.Zone.{inventory_name, inventory_limit, object_declared, is_known}
-use Rattle.ocfl_item.specs.HeadFiles.{FilesStop, IsFileAt, OpensJust, ReadsFile, ReadsFiles, files_there, head_files, inventory_files, sidecars_for, table_in}
-use Rattle.ocfl_item.specs.Pending.{Adds}
-use Rattle.ocfl_item.specs.Ways.{IsDeclared, IsObject}
+use Rattle.ocfl_item.specs.HeadFiles.{FilesStop, OpensJust, ReadsFiles, files_there}
+use Rattle.ocfl_item.specs.Internal.HeadFiles.{IsFileAt, ReadsFile, head_files, inventory_files, sidecars_for, table_in}
+use Rattle.ocfl_item.specs.Internal.Lines.{Adds}
+use Rattle.ocfl_item.specs.Ways.{IsObject}
+use Rattle.ocfl_item.specs.Internal.Ways.{IsDeclared}
 use Rattle.ocfl_item.specs.declared.fault.Fault.{Fault}
 use Rattle.ocfl_item.specs.declared.fault.Fault.TheVariants as fault
 use Rattle.ocfl_item.specs.declared.lines.PlaceLines.{PlaceLines}

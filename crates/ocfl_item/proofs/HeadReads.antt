@@ -12,9 +12,10 @@ use Rattle.ocfl_tree.specs.declared.store.Opening.{Opening}
 use Rattle.ocfl_audit.specs.Head.{on}
 use Rattle.ocfl_audit.specs.Trail.{heads_of, places_of, reads_inventory}
 use Rattle.ocfl_audit.specs.Zone.{inside, object_declared, zone}
-use Rattle.ocfl_item.specs.HeadFiles.{OpensJust, files_there, head_files}
-use Rattle.ocfl_item.specs.Ways.{IsHeadOf}
-use Rattle.ocfl_item.specs.Visiting.{HeadRead}
+use Rattle.ocfl_item.specs.HeadFiles.{OpensJust, files_there}
+use Rattle.ocfl_item.specs.Internal.HeadFiles.{head_files}
+use Rattle.ocfl_item.specs.Internal.Ways.{IsHeadOf}
+use Rattle.ocfl_item.specs.Internal.Visiting.{HeadRead}
 use Rattle.ocfl_item.specs.declared.fault.Fault.{Fault}
 use Rattle.ocfl_item.specs.declared.lines.PlaceLines.{PlaceLines}
 use Rattle.ocfl_item.proofs.FileLaws.{some_is_meta, some_of, stop_is_meta}

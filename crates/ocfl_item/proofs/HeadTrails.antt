@@ -21,7 +21,8 @@ use Rattle.ocfl_inventory.specs.Declaration.{Declared, undeclared, known, unknow
 use Rattle.ocfl_audit.specs.Head.{on}
 use Rattle.ocfl_audit.specs.Trail.{is_head, reads_inventory}
 use Rattle.ocfl_audit.specs.Zone.{inventory_at, inventory_limit, object_declared}
-use Rattle.ocfl_item.specs.HeadFiles.{files_there, head_files, sidecars_for}
+use Rattle.ocfl_item.specs.HeadFiles.{files_there}
+use Rattle.ocfl_item.specs.Internal.HeadFiles.{head_files, sidecars_for}
 use Rattle.ocfl_item.proofs.FileLaws.{there_then}
 use Rattle.ocfl_item.proofs.LooksZones.{inside_on}
 

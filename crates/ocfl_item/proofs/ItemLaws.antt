@@ -6,7 +6,7 @@ use Rattle.ocfl_inventory.specs.Note.{Note}
 use Rattle.ocfl_audit.specs.Zone.{Zone, skipped, hierarchy, inside, zone, object_declared, is_declared}
 use Rattle.ocfl_audit.specs.Lines.{notes}
 use Rattle.ocfl_audit.specs.Trail.{is_head}
-use Rattle.ocfl_item.specs.Pending.{HasLines, IsUnhashed}
+use Rattle.ocfl_item.specs.Internal.Lines.{HasLines, IsUnhashed}
 use Rattle.ocfl_item.specs.declared.lines.PlaceLines.{PlaceLines}
 use Rattle.ocfl_inventory.specs.Declaration.{Declared, undeclared, known, unknown, several}
 use Rattle.ocfl_audit.specs.Head.{or_clean, head_notes_by}

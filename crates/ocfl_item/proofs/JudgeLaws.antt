@@ -22,7 +22,7 @@ use Rattle.ocfl_inventory.specs.TripleView.{named_view}
 use Rattle.ocfl_inventory.specs.declared.triple.Named.{Named as MadeNamed}
 use Rattle.ocfl_audit.specs.Audit.{given_by}
 use Rattle.ocfl_audit.specs.Due.{items_at, hashed_among}
-use Rattle.ocfl_item.specs.FileLines.{HasDigests}
+use Rattle.ocfl_item.specs.Internal.FileLines.{HasDigests}
 use Rattle.ocfl_item.specs.Judging.{HasShortFiles, Judges, JudgeFails}
 use Rattle.ocfl_audit.specs.Lines.{notes, named_at, is_hashed, cost, file_notes, or_bytes, unnamed_notes, wrong_notes}
 use Rattle.ocfl_item.specs.Pending.{IsPending}

@@ -7,7 +7,7 @@ use Rattle.ocfl_report.specs.Line.{line_of}
 use Rattle.ocfl_inventory.specs.Note.{Note, lines_at}
 use Rattle.ocfl_audit.specs.Head.{on}
 use Rattle.ocfl_audit.specs.Lines.{named_at, notes}
-use Rattle.ocfl_item.specs.Pending.{Adds, HasLines, IsUnhashed}
+use Rattle.ocfl_item.specs.Internal.Lines.{Adds, HasLines, IsUnhashed}
 use Rattle.ocfl_item.specs.declared.lines.PlaceLines.{PlaceLines}
 
 pub adds_both : (old mid new : PlaceLines) (ms ns : List Note) → Adds old mid ms → Adds mid new ns → Adds old new (ms ++ ns)

@@ -25,7 +25,8 @@ use Rattle.ocfl_inventory.specs.Table.{Table, Named}
 use Rattle.ocfl_audit.specs.Zone.{is_entered, object_declared, seen, beginnings, is_known, is_declared}
 use Rattle.ocfl_audit.specs.Lines.{cost_of, named_at, is_hashed}
 use Rattle.ocfl_item.specs.Looking.{way_to, IsFront}
-use Rattle.ocfl_item.specs.Ways.{fault_by, IsWayFault, Stops, SeekStops, ReadsMeta, ReadsTable, is_file_kind, is_listable, Enters, IsDeclared, IsHead, head_by, InHierarchy, IsObject, IsOpenObject, is_extensions_name, way_below}
+use Rattle.ocfl_item.specs.Ways.{IsWayFault, Stops, is_listable, Enters, IsHead, InHierarchy, IsObject, is_extensions_name, way_below}
+use Rattle.ocfl_item.specs.Internal.Ways.{fault_by, SeekStops, ReadsMeta, ReadsTable, is_file_kind, IsDeclared, head_by, IsOpenObject}
 use Rattle.ocfl_item.specs.declared.fault.Fault.TheVariants as fault
 use Rattle.ocfl_tree.proofs.Orders.{true_not_false}
 use Rattle.ocfl_item.proofs.AuditingLaws.{failed_listing}

@@ -18,7 +18,8 @@ use Rattle.ocfl_inventory.specs.Entries.{is_file, file_names}
 use Rattle.ocfl_inventory.specs.declared.declaration.Level.{Level}
 use Rattle.ocfl_audit.specs.Zone.{max_listed_depth, files_in}
 use Rattle.ocfl_audit.specs.Lines.{is_empty}
-use Rattle.ocfl_item.specs.Ways.{is_dir_kind, is_file_kind, is_listable}
+use Rattle.ocfl_item.specs.Ways.{is_dir_kind, is_listable}
+use Rattle.ocfl_item.specs.Internal.Ways.{is_file_kind}
 use Rattle.ocfl_tree.proofs.Orders.{true_not_false, not_below_itself, before_each, ascends_ascending, among_ascending, ascends_filter, among_filter, among_from_filter}
 use Rattle.ocfl_audit.proofs.AuditExists.{some_not_none}
 use Rattle.ocfl_audit.proofs.BelowLaws.{text_cmp_total, text_cmp_exact, text_from_test, text_same, place_same}

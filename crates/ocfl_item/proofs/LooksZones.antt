@@ -15,8 +15,9 @@ use Rattle.ocfl_inventory.specs.ListedPath.{is_version_name}
 use Rattle.ocfl_inventory.specs.declared.declaration.Level.TheVariants as level
 use Rattle.ocfl_audit.specs.Zone.{Zone, skipped, hierarchy, inside, object_zone, object_declared, root_declared, is_in_extensions, zone, inventory_name, inventory_limit, table_at, max_listed_depth, is_entered, is_listed_zone, is_listed_in_object, seen, beginnings, files_in, is_known, is_declared}
 use Rattle.ocfl_audit.specs.Walk.{step_zone, is_extensions, is_reached}
-use Rattle.ocfl_item.specs.Looking.{IsSight}
-use Rattle.ocfl_item.specs.Ways.{is_listable, is_extensions_name, IsAt, InHierarchy, IsObject, IsOpenObject}
+use Rattle.ocfl_item.specs.Internal.Content.{IsSight}
+use Rattle.ocfl_item.specs.Ways.{is_listable, is_extensions_name, IsAt, InHierarchy, IsObject}
+use Rattle.ocfl_item.specs.Internal.Ways.{IsOpenObject}
 use Rattle.ocfl_item.specs.declared.sight.Sight.TheVariants as sight
 use Rattle.ocfl_tree.proofs.Bools.{and_first, and_second, and_both}
 use Rattle.ocfl_tree.proofs.Orders.{true_not_false}

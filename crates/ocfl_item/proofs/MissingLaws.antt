@@ -17,7 +17,7 @@ use Rattle.ocfl_inventory.specs.Table.{Named, named_cmp}
 use Rattle.ocfl_audit.specs.Head.{on}
 use Rattle.ocfl_audit.specs.Lines.{block_cmp, missing_notes}
 use Rattle.ocfl_inventory.specs.TripleView.{named_view}
-use Rattle.ocfl_item.specs.Pending.{Adds, is_repeated, missing_note}
+use Rattle.ocfl_item.specs.Internal.Lines.{Adds, is_repeated, missing_note}
 use Rattle.ocfl_item.specs.declared.lines.PlaceLines.{PlaceLines}
 use Rattle.ocfl_inventory.specs.declared.triple.Named.{Named as MadeNamed}
 use Rattle.ocfl_item.proofs.NamedLaws.{algorithm_cmp_total}

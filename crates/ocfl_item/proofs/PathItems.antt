@@ -7,7 +7,7 @@ use Rattle.ocfl_inventory.specs.TripleView.{named_view}
 use Rattle.ocfl_inventory.specs.declared.triple.Named.{Named as MadeNamed}
 use Rattle.ocfl_audit.specs.Zone.{Zone, skipped, hierarchy, inside, zone, seen, table_at}
 use Rattle.ocfl_audit.specs.Lines.{content_notes, hierarchy_notes, named_at, named_in, notes, notes_in, object_entry_notes, object_notes, version_entry_notes, within_notes}
-use Rattle.ocfl_item.specs.Looking.{content_at, content_in}
+use Rattle.ocfl_item.specs.Internal.Content.{content_at, content_in}
 use Rattle.ocfl_item.specs.Around.{IsTableAround}
 use Rattle.ocfl_item.specs.declared.meeting.Around.{Around}
 use Rattle.ocfl_audit.proofs.AuditExists.{append_nothing, some_not_none, zone_is}

@@ -9,9 +9,11 @@ use Rattle.ocfl_report.specs.declared.line.Line.{Line as MadeLine}
 use Rattle.ocfl_inventory.specs.Table.{Table, named, named_cmp}
 use Rattle.ocfl_tree.specs.Ascending.{IsAscending}
 use Rattle.ocfl_audit.specs.Lines.{is_empty, notes, missing_notes, is_hashed, named_at}
-use Rattle.ocfl_item.specs.Looking.{IsSight, content_at}
+use Rattle.ocfl_item.specs.Internal.Content.{IsSight, content_at}
 use Rattle.ocfl_inventory.specs.TripleView.{named_view}
-use Rattle.ocfl_item.specs.Pending.{HasLines, IsPending, is_read, sight_notes}
+use Rattle.ocfl_item.specs.Pending.{IsPending}
+use Rattle.ocfl_item.specs.Internal.Content.{is_read, sight_notes}
+use Rattle.ocfl_item.specs.Internal.Lines.{HasLines}
 use Rattle.ocfl_inventory.specs.declared.triple.Named.{Named as MadeNamed}
 use Rattle.ocfl_item.specs.declared.lines.PlaceLines.{PlaceLines}
 use Rattle.ocfl_item.specs.declared.pending.Pending.{Pending}

@@ -13,7 +13,7 @@ use Rattle.ocfl_audit.specs.Walk.{is_reached, seen_names}
 use Rattle.ocfl_audit.specs.Trail.{is_head, reads_inventory}
 use Rattle.ocfl_audit.specs.Between.{is_looked_into, shows_entries}
 use Rattle.ocfl_audit.proofs.BetweenLaws.{looked_seen, read_seen, seen_reached}
-use Rattle.ocfl_item.specs.Visiting.{IsShut}
+use Rattle.ocfl_item.specs.Internal.Visiting.{IsShut}
 use Rattle.ocfl_item.specs.Ways.{is_listable}
 use Rattle.ocfl_item.proofs.LooksZones.{not_entered, out_of_zone}
 

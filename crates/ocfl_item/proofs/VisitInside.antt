@@ -8,7 +8,7 @@ use Rattle.ocfl_tree.specs.StorageRoot.{StorageRoot}
 use Rattle.ocfl_tree.specs.declared.store.Entry.{Entry}
 use Rattle.ocfl_inventory.specs.ListedPath.{is_version_name}
 use Rattle.ocfl_audit.specs.Zone.{inside, zone, is_entered, is_listed_in_object, is_listed_zone, beginnings}
-use Rattle.ocfl_item.specs.Looking.{content_at, content_in}
+use Rattle.ocfl_item.specs.Internal.Content.{content_at, content_in}
 use Rattle.ocfl_item.specs.Around.{IsMet}
 use Rattle.ocfl_item.specs.declared.meeting.Around.{Around}
 use Rattle.ocfl_audit.proofs.AuditExists.{zone_is}

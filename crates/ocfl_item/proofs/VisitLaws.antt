@@ -26,11 +26,13 @@ use Rattle.ocfl_audit.specs.Head.{on}
 use Rattle.ocfl_audit.specs.Walk.{is_reached, seen_names}
 use Rattle.ocfl_audit.specs.Trail.{heads_of, is_head, reads_inventory}
 use Rattle.ocfl_audit.specs.Between.{is_looked_into, shows_entries}
-use Rattle.ocfl_item.specs.Looking.{IsFront, IsSight, content_in, content_at}
-use Rattle.ocfl_item.specs.Pending.{HasLines, IsPending, IsUnhashed}
+use Rattle.ocfl_item.specs.Looking.{IsFront}
+use Rattle.ocfl_item.specs.Internal.Content.{IsSight, content_in, content_at}
+use Rattle.ocfl_item.specs.Pending.{IsPending}
+use Rattle.ocfl_item.specs.Internal.Lines.{HasLines, IsUnhashed}
 use Rattle.ocfl_item.specs.Ways.{Enters, Stops, is_listable}
 use Rattle.ocfl_item.specs.Meeting.{IsFolderAt, IsItemAt, IsTableAt, IsVisit, Meets, MeetFails, Visits}
-use Rattle.ocfl_item.specs.Visiting.{HasRole, IsEntryAt, IsListedAt, IsPlainAt, IsShut}
+use Rattle.ocfl_item.specs.Internal.Visiting.{HasRole, IsEntryAt, IsListedAt, IsPlainAt, IsShut}
 use Rattle.ocfl_item.specs.declared.fault.Fault.{Fault}
 use Rattle.ocfl_item.specs.declared.fault.Fault.TheVariants as fault
 use Rattle.ocfl_item.specs.declared.folder.Folder.{Folder}

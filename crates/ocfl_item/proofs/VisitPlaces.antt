@@ -26,11 +26,13 @@ use Rattle.ocfl_audit.specs.Lines.{notes, notes_in, named_in, is_empty, listed_d
 use Rattle.ocfl_audit.specs.Walk.{is_extensions, is_reached, seen_names, step_zone}
 use Rattle.ocfl_audit.specs.Trail.{is_head}
 use Rattle.ocfl_item.specs.Looking.{IsFront, failures_by}
-use Rattle.ocfl_item.specs.Pending.{HasLines, IsPending, IsUnhashed}
-use Rattle.ocfl_item.specs.Ways.{Enters, IsDeclared, is_listable}
+use Rattle.ocfl_item.specs.Pending.{IsPending}
+use Rattle.ocfl_item.specs.Internal.Lines.{HasLines, IsUnhashed}
+use Rattle.ocfl_item.specs.Ways.{Enters, is_listable}
+use Rattle.ocfl_item.specs.Internal.Ways.{IsDeclared}
 use Rattle.ocfl_item.specs.Meeting.{IsFairVisit, IsFolderAt, IsItemAt, IsTableAt, IsVisit, Meets, MeetFails, Visits}
 use Rattle.ocfl_item.specs.Around.{IsMet}
-use Rattle.ocfl_item.specs.Visiting.{HasRole, HeadRead, IsDirectoryAt, IsEntryAt, IsPlainAt, IsUndeclaredAt, ReadsOne, ReadOneFails, VisitsHead}
+use Rattle.ocfl_item.specs.Internal.Visiting.{HasRole, HeadRead, IsDirectoryAt, IsEntryAt, IsPlainAt, IsUndeclaredAt, ReadsOne, ReadOneFails, VisitsHead}
 use Rattle.ocfl_item.specs.declared.fault.Fault.{Fault}
 use Rattle.ocfl_item.specs.declared.fault.Fault.TheVariants as fault
 use Rattle.ocfl_item.specs.declared.folder.Folder.{Folder}

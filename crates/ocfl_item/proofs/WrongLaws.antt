@@ -12,9 +12,9 @@ use Rattle.ocfl_audit.specs.Head.{digest_of}
 use Rattle.ocfl_inventory.specs.Table.{Named}
 use Rattle.ocfl_inventory.specs.TripleView.{named_view}
 use Rattle.ocfl_inventory.specs.declared.triple.Named.{Named as MadeNamed}
-use Rattle.ocfl_item.specs.FileLines.{HasDigests, wrong_by}
+use Rattle.ocfl_item.specs.Internal.FileLines.{HasDigests, wrong_by}
 use Rattle.ocfl_audit.specs.Lines.{wrong_notes}
-use Rattle.ocfl_item.specs.Pending.{Adds}
+use Rattle.ocfl_item.specs.Internal.Lines.{Adds}
 use Rattle.ocfl_item.specs.declared.lines.PlaceLines.{PlaceLines}
 use Rattle.ocfl_item.proofs.LinesLaws.{adds_both}
 use Rattle.ocfl_tree.proofs.Orders.{among_map}

@@ -1,28 +1,14 @@
 -- The files that an object's head is made of: its declaration, its inventory and the sidecars.
-use Rattle.std.specs.Prelude.{◌≡◌, ℕ, List, [], ◌∷◌, ◌++◌, Option, Some, None, Result, MatchResult, is_some, map, filter, option_and_then, if◌then◌else◌, nat_le, length}
+use Rattle.std.specs.Prelude.{◌≡◌, List, [], ◌∷◌, ◌++◌, Result, MatchResult, is_some, map, filter}
 use Rattle.ocfl_tree.specs.Place.{Text, Place}
 use Rattle.ocfl_tree.specs.StorageRoot.{StorageRoot, file_at}
 use Rattle.ocfl_tree.specs.Store.{Store, Did}
 use Rattle.ocfl_tree.specs.declared.store.Opening.{Opening}
-use Rattle.ocfl_digest.specs.Bounded.{IsBoundedTo}
-use Rattle.ocfl_digest.specs.declared.bounded.Bounded.{Bounded}
-use Rattle.ocfl_digest.specs.declared.algorithm.Algorithm.TheVariants.{Sha256, Sha512}
-use Rattle.ocfl_inventory.specs.Declaration.{Declared, undeclared, known, unknown, several, declaration_name}
-use Rattle.ocfl_inventory.specs.declared.declaration.Level.TheVariants.{Object}
-use Rattle.ocfl_inventory.specs.declared.declaration.Version.{Version}
-use Rattle.ocfl_inventory.specs.Table.{Table, table_of}
-use Rattle.ocfl_audit.specs.Zone.{inventory_name, inventory_limit}
-use Rattle.ocfl_audit.specs.Head.{sidecar_name}
 use Rattle.ocfl_audit.specs.Trail.{places_of}
 use Rattle.ocfl_item.specs.Looking.{IsFront}
 use Rattle.ocfl_item.specs.Auditing.{IsMetadataRead}
 use Rattle.ocfl_item.specs.Ways.{Stops}
 use Rattle.ocfl_item.specs.declared.fault.Fault.{Fault}
-
--- what was read of a file within a limit, and nothing where no file is there
-abbrev pub IsFileAt : StorageRoot → Place → ℕ → Option Bounded → Type 0
-IsFileAt root p limit None = file_at root p ≡ None
-IsFileAt root p limit (Some b) = (bytes : Text) × (file_at root p ≡ Some bytes) × IsBoundedTo limit bytes b
 
 -- the files of these names that are there in o
 abbrev pub files_there : StorageRoot → Place → List Text → List Place
@@ -42,45 +28,6 @@ pub record FilesStop (root : StorageRoot) (s t : Store) (o : Place) (names : Lis
   pub stops : Stops root s t [] trail why
   pub opened : IsFront (places_of trail) (files_there root o names)
 
--- the file of one name was read
-pub record ReadsFile (root : StorageRoot) (s t : Store) (o : Place) (name : Text) (limit : ℕ) (r : Result (Option Bounded) Fault) : Type 0 where
-  pub gives : MatchResult r (λ f. ReadsFiles root s t o (name ∷ []) × IsFileAt root (o ++ name ∷ []) limit f) (FilesStop root s t o (name ∷ []))
-
--- the first of them were opened, and nothing else
-pub record ReadsSome (root : StorageRoot) (s t : Store) (o : Place) (names : List Text) : Type 0 where
-  pub over : s.tree ≡ root
-  pub trail : List Opening
-  pub did : Did s t trail [] 0
-  pub read : IsMetadataRead root trail
-  pub opened : IsFront (places_of trail) (files_there root o names)
-
--- the files about an object's inventory, in the order in which they are read
-abbrev pub inventory_names : List Text
-inventory_names = inventory_name ∷ sidecar_name Sha256 ∷ sidecar_name Sha512 ∷ []
-
-abbrev pub head_names : Version → List Text
-head_names v = declaration_name Object v ∷ inventory_names
-
--- the sidecars are read where the inventory is there, and is not over its limit
-abbrev pub sidecars_for : Option Text → List Text
-sidecars_for None = []
-sidecars_for (Some bytes) = if nat_le (length bytes) inventory_limit then sidecar_name Sha256 ∷ sidecar_name Sha512 ∷ [] else []
-
--- what is read about the inventory of o
-abbrev pub inventory_files : StorageRoot → Place → List Text
-inventory_files root o = inventory_name ∷ sidecars_for (file_at root (o ++ inventory_name ∷ []))
-
--- what is read for the head of o by what it declares: nothing where it stops at that
-abbrev pub head_files : StorageRoot → Place → Declared → List Text
-head_files root o undeclared = []
-head_files root o (known v) = declaration_name Object v ∷ inventory_files root o
-head_files root o (unknown t) = []
-head_files root o several = []
-
 -- of these files those that are there were opened, in order, and none else; before a fault the first of them
 abbrev pub OpensJust : {A : Type 0} → StorageRoot → Store → Store → Place → List Text → Result A Fault → Type 0
 OpensJust root s t o names r = MatchResult r (λ x. ReadsFiles root s t o names) (FilesStop root s t o names)
-
--- the table of an inventory that was read, and none where the head stops
-abbrev pub table_in : Option Text → Option Table
-table_in file = option_and_then (λ bytes. if nat_le (length bytes) inventory_limit then table_of bytes else None) file

@@ -4,8 +4,6 @@ pub mod Ways
 pub mod Around
 pub mod Meeting
 pub mod HeadFiles
-pub mod HeadLines
 pub mod Judging
 pub mod Pending
-pub mod FileLines
-pub mod Visiting
+pub mod Internal

@@ -9,10 +9,11 @@ ghost use Rattle.ocfl_inventory.specs.Entries.{meaning};
 ghost use Rattle.ocfl_inventory.specs.Sidecar.{side_limit};
 ghost use Rattle.ocfl_inventory.specs.declared.declaration.Level.TheVariants as level;
 ghost use Rattle.ocfl_audit.specs.Head.{root_notes_by};
-ghost use Rattle.ocfl_item.specs.HeadFiles.{IsFileAt, OpensJust};
+ghost use Rattle.ocfl_item.specs.HeadFiles.{OpensJust};
+ghost use Rattle.ocfl_item.specs.Internal.HeadFiles.{IsFileAt};
 ghost use Rattle.ocfl_item.specs.Pending.{IsPending};
 ghost use Rattle.ocfl_item.specs.Meeting.{IsFairVisit, Visits};
-ghost use Rattle.ocfl_item.specs.Visiting.{IsBase};
+ghost use Rattle.ocfl_item.specs.Internal.Visiting.{IsBase};
 ghost use Rattle.ocfl_item.specs.Ways.{IsWayFault};
 ghost use Rattle.ocfl_tree.specs.Store.{IfTold};
 

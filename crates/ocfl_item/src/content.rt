@@ -7,8 +7,9 @@ ghost use Rattle.ocfl_tree.specs.StorageRoot.{StorageRoot};
 ghost use Rattle.ocfl_inventory.specs.Table.{Table, named as digests_of, named_cmp};
 ghost use Rattle.ocfl_inventory.specs.TripleView.{named_view};
 ghost use Rattle.ocfl_audit.specs.Lines.{missing_notes, notes};
-ghost use Rattle.ocfl_item.specs.Looking.{IsSight, content_at};
-ghost use Rattle.ocfl_item.specs.Pending.{Adds, HasLines, IsPending, is_read, sight_notes};
+ghost use Rattle.ocfl_item.specs.Internal.Content.{IsSight, content_at, is_read, sight_notes};
+ghost use Rattle.ocfl_item.specs.Pending.{IsPending};
+ghost use Rattle.ocfl_item.specs.Internal.Lines.{Adds, HasLines};
 
 use crate::lines::PlaceLines;
 use crate::missing::add_missing;

@@ -11,9 +11,9 @@ ghost use Rattle.ocfl_inventory.specs.Declaration.{declaration_name as name_of_d
 ghost use Rattle.ocfl_inventory.specs.Entries.{meaning, PointsAtOne};
 ghost use Rattle.ocfl_inventory.specs.Sidecar.{side_limit};
 ghost use Rattle.ocfl_audit.specs.Head.{is_exact_declaration};
-ghost use Rattle.ocfl_item.specs.HeadFiles.{IsFileAt};
-ghost use Rattle.ocfl_item.specs.HeadLines.{declared_notes};
-ghost use Rattle.ocfl_item.specs.Pending.{Adds, HasLines};
+ghost use Rattle.ocfl_item.specs.Internal.HeadFiles.{IsFileAt};
+ghost use Rattle.ocfl_item.specs.Internal.HeadLines.{declared_notes};
+ghost use Rattle.ocfl_item.specs.Internal.Lines.{Adds, HasLines};
 
 use crate::folder::Folder;
 use crate::lines::PlaceLines;

@@ -9,8 +9,8 @@ ghost use Rattle.ocfl_digest.specs.Digests.{digest_in};
 ghost use Rattle.ocfl_inventory.specs.TripleView.{named_view};
 ghost use Rattle.ocfl_audit.specs.Lines.{is_in_manifest as is_named_in_manifest, or_bytes};
 ghost use Rattle.ocfl_audit.specs.Lines.{unnamed_notes, wrong_notes};
-ghost use Rattle.ocfl_item.specs.FileLines.{HasDigests, wrong_by};
-ghost use Rattle.ocfl_item.specs.Pending.{Adds, HasLines};
+ghost use Rattle.ocfl_item.specs.Internal.FileLines.{HasDigests, wrong_by};
+ghost use Rattle.ocfl_item.specs.Internal.Lines.{Adds, HasLines};
 
 use crate::lines::{PlaceLines, code_of, hex_of};
 use ocfl_digest::Digests;

@@ -7,9 +7,9 @@ ghost use Rattle.ocfl_tree.specs.Listing.{IsOrdinary, kind_in};
 ghost use Rattle.ocfl_inventory.specs.Declaration.{declared as declared_by_files};
 ghost use Rattle.ocfl_inventory.specs.Entries.{file_names};
 ghost use Rattle.ocfl_audit.specs.Zone.{max_listed_depth};
-ghost use Rattle.ocfl_item.specs.Ways.{IsWayFault, fault_by, Stops, Enters, IsHead};
-ghost use Rattle.ocfl_item.specs.Ways.{head_by as head_by_declared, is_extensions_name};
+ghost use Rattle.ocfl_item.specs.Ways.{IsWayFault, Stops, Enters, IsHead, is_extensions_name};
 ghost use Rattle.ocfl_item.specs.Ways.{is_dir_kind, is_listable};
+ghost use Rattle.ocfl_item.specs.Internal.Ways.{fault_by, head_by as head_by_declared};
 ghost use Rattle.ocfl_tree.specs.Store.{IfTold};
 
 use crate::fault::Fault;

@@ -20,9 +20,10 @@ ghost use Rattle.ocfl_audit.specs.Head.{digest_of, is_exact_declaration, on, or_
 ghost use Rattle.ocfl_audit.specs.Head.{sidecar_name};
 ghost use Rattle.ocfl_audit.specs.Head.{sidecar_at, mismatch, sidecar_notes, are_sidecars_missing};
 ghost use Rattle.ocfl_audit.specs.Head.{sidecars_notes, inventory_part};
-ghost use Rattle.ocfl_item.specs.HeadFiles.{IsFileAt};
-ghost use Rattle.ocfl_item.specs.HeadLines.{AreSidecars, HasDigestFor, is_other_there, named_notes};
-ghost use Rattle.ocfl_item.specs.Pending.{Adds, HasLines};
+ghost use Rattle.ocfl_item.specs.Internal.HeadFiles.{IsFileAt};
+ghost use Rattle.ocfl_item.specs.Internal.HeadLines.{AreSidecars, HasDigestFor, is_other_there};
+ghost use Rattle.ocfl_item.specs.Internal.HeadLines.{named_notes};
+ghost use Rattle.ocfl_item.specs.Internal.Lines.{Adds, HasLines};
 
 use crate::declarations::is_exact;
 use crate::lines::{PlaceLines, hex_of};

@@ -5,7 +5,7 @@ ghost use Rattle.ocfl_inventory.specs.Note.{note, plain};
 ghost use Rattle.ocfl_inventory.specs.TripleView.{named_view};
 ghost use Rattle.ocfl_audit.specs.Head.{mismatch};
 ghost use Rattle.ocfl_audit.specs.Lines.{block_code};
-ghost use Rattle.ocfl_item.specs.Pending.{Adds, HasLines};
+ghost use Rattle.ocfl_item.specs.Internal.Lines.{Adds, HasLines};
 
 use ocfl_digest::Algorithm;
 use ocfl_inventory::Named;

@@ -6,7 +6,7 @@ ghost use Rattle.ocfl_inventory.specs.Table.{named_cmp};
 ghost use Rattle.ocfl_inventory.specs.TripleView.{named_view};
 ghost use Rattle.ocfl_audit.specs.Head.{on};
 ghost use Rattle.ocfl_audit.specs.Lines.{missing_notes};
-ghost use Rattle.ocfl_item.specs.Pending.{Adds, is_repeated, is_same_block, missing_note};
+ghost use Rattle.ocfl_item.specs.Internal.Lines.{Adds, is_repeated, is_same_block, missing_note};
 
 use crate::lines::{PlaceLines, code_of};
 use ocfl_inventory::Named;

@@ -16,12 +16,13 @@ ghost use Rattle.ocfl_audit.specs.Head.{is_exact_declaration, on, sidecars_notes
 ghost use Rattle.ocfl_audit.specs.Head.{sidecar_name as sidecar_name_of};
 ghost use Rattle.ocfl_audit.specs.Trail.{is_meta};
 ghost use Rattle.ocfl_audit.specs.Zone.{inside, inventory_name, object_declared, table_at, zone};
-ghost use Rattle.ocfl_item.specs.HeadFiles.{FilesStop, IsFileAt, OpensJust, ReadsFile, ReadsFiles};
-ghost use Rattle.ocfl_item.specs.HeadFiles.{head_files, inventory_files, table_in};
-ghost use Rattle.ocfl_item.specs.Pending.{Adds};
-ghost use Rattle.ocfl_item.specs.Visiting.{HeadRead};
-ghost use Rattle.ocfl_item.specs.Ways.{IsDeclared, IsObject, IsHeadOf, IsWayFault};
-ghost use Rattle.ocfl_item.specs.Ways.{is_file_kind};
+ghost use Rattle.ocfl_item.specs.HeadFiles.{FilesStop, OpensJust, ReadsFiles};
+ghost use Rattle.ocfl_item.specs.Internal.HeadFiles.{IsFileAt, ReadsFile, head_files};
+ghost use Rattle.ocfl_item.specs.Internal.HeadFiles.{inventory_files, table_in};
+ghost use Rattle.ocfl_item.specs.Internal.Lines.{Adds};
+ghost use Rattle.ocfl_item.specs.Internal.Visiting.{HeadRead};
+ghost use Rattle.ocfl_item.specs.Ways.{IsObject, IsWayFault};
+ghost use Rattle.ocfl_item.specs.Internal.Ways.{IsDeclared, IsHeadOf, is_file_kind};
 ghost use Rattle.ocfl_tree.specs.Store.{IfTold};
 
 use crate::declarations::stopped_lines;

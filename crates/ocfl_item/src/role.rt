@@ -10,7 +10,7 @@ ghost use Rattle.ocfl_inventory.specs.declared.declaration.Level.TheVariants as 
 ghost use Rattle.ocfl_audit.specs.Zone.{inside, table_at, zone};
 ghost use Rattle.ocfl_audit.specs.Lines.{is_inventory_or_sidecar as is_beside_inventory};
 ghost use Rattle.ocfl_item.specs.Around.{IsMet};
-ghost use Rattle.ocfl_item.specs.Visiting.{HasRole, IsEntryAt};
+ghost use Rattle.ocfl_item.specs.Internal.Visiting.{HasRole, IsEntryAt};
 
 use crate::folder::names_extensions;
 use crate::names::{INVENTORY_NAME, is_sidecar_name};

@@ -10,11 +10,12 @@ ghost use Rattle.ocfl_inventory.specs.TripleView.{named_view};
 ghost use Rattle.ocfl_audit.specs.Zone.{is_listed_zone, max_listed_depth, zone};
 ghost use Rattle.ocfl_audit.specs.Lines.{listed_dir_notes};
 ghost use Rattle.ocfl_audit.specs.Walk.{seen_names};
-ghost use Rattle.ocfl_item.specs.Ways.{IsDeclared, IsWayFault};
-ghost use Rattle.ocfl_item.specs.Looking.{IsSight, content_at};
+ghost use Rattle.ocfl_item.specs.Ways.{IsWayFault};
+ghost use Rattle.ocfl_item.specs.Internal.Ways.{IsDeclared};
+ghost use Rattle.ocfl_item.specs.Internal.Content.{IsSight, content_at};
 ghost use Rattle.ocfl_item.specs.Meeting.{IsFairVisit, IsVisit, Visits};
-ghost use Rattle.ocfl_item.specs.Visiting.{HasRole, IsDirectoryAt, IsEntryAt, IsListedAt};
-ghost use Rattle.ocfl_item.specs.Visiting.{IsPlainAt, IsUndeclaredAt, VisitsHead};
+ghost use Rattle.ocfl_item.specs.Internal.Visiting.{HasRole, IsDirectoryAt, IsEntryAt, IsListedAt};
+ghost use Rattle.ocfl_item.specs.Internal.Visiting.{IsPlainAt, IsUndeclaredAt, VisitsHead};
 ghost use Rattle.ocfl_tree.specs.Store.{IfTold};
 
 use crate::content::content_item;

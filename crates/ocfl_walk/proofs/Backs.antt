@@ -4,7 +4,8 @@ use Rattle.std.specs.Prelude.{cond, filter, slice_get, option_map, MatchOption, 
 use Rattle.std.specs.Option.{option_to_list}
 use Rattle.std.proofs.lemmas.Bool.{eqb-true, eqb-false}
 use Rattle.ocfl_tree.specs.declared.store.Entry.{Entry}
-use Rattle.ocfl_walk.specs.Standing.{IsTaken, back, back_onto, next_in, next_of, piles_of, pile_of, trimmed, trimmed_from}
+use Rattle.ocfl_walk.specs.Standing.{back, back_onto, piles_of, pile_of}
+use Rattle.ocfl_walk.specs.Internal.Standing.{IsTaken, next_in, next_of, trimmed, trimmed_from}
 use Rattle.ocfl_item.specs.declared.folder.Folder.{Folder}
 
 module _ {A B : Type 0} (f : A → B) where

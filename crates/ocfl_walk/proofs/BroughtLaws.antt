@@ -11,10 +11,11 @@ use Rattle.ocfl_audit.specs.Zone.{hierarchy, inside, zone}
 use Rattle.ocfl_audit.specs.Walk.{seen_names}
 use Rattle.ocfl_audit.specs.Stack.{IsListed, listed_at, seen_left, seen_places}
 use Rattle.ocfl_item.specs.Ways.{IsAt, way_below}
-use Rattle.ocfl_walk.specs.Standing.{AreEntries, HaveEntries, IsAroundIf, IsChain, IsOrderly, Pile, frames_of, left_names, left_of_folder, pile_of, piles_of}
+use Rattle.ocfl_walk.specs.Standing.{AreEntries, HaveEntries, Pile, frames_of, pile_of, piles_of}
+use Rattle.ocfl_walk.specs.Internal.Standing.{IsAroundIf, IsChain, IsOrderly, left_names, left_of_folder}
 use Rattle.ocfl_item.specs.Around.{IsPart, IsTableAround}
 use Rattle.ocfl_item.specs.Meeting.{IsFairFolder}
-use Rattle.ocfl_walk.specs.Entering.{Descends, DescendFails, IsBrought, IsComing, IsShut, Leads, may_open}
+use Rattle.ocfl_walk.specs.Internal.Entering.{Descends, DescendFails, IsBrought, IsComing, IsShut, Leads, may_open}
 use Rattle.ocfl_item.specs.declared.fault.Fault.{Fault}
 use Rattle.ocfl_item.specs.declared.folder.Folder.{Folder}
 use Rattle.ocfl_item.specs.declared.meeting.Around.{Around}

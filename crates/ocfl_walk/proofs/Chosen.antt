@@ -7,10 +7,12 @@ use Rattle.ocfl_tree.specs.Place.{Place, place_cmp}
 use Rattle.ocfl_tree.specs.StorageRoot.{StorageRoot}
 use Rattle.ocfl_tree.specs.Store.{Store}
 use Rattle.ocfl_tree.specs.declared.store.Entry.{Entry}
-use Rattle.ocfl_walk.specs.Standing.{IsBelowNext, IsOrderlyIf, IsStanding, Pile, StandsAt, TurnIs, next_of, path_from, size_of, stand_size, piles_in, trimmed, trimmed_from, is_turn_past, turn_before, turn_of}
+use Rattle.ocfl_walk.specs.Standing.{IsStanding, Pile, StandsAt, size_of, stand_size, piles_in}
+use Rattle.ocfl_walk.specs.Internal.Standing.{IsBelowNext, IsOrderlyIf, TurnIs, next_of, path_from, trimmed, trimmed_from, is_turn_past, turn_before, turn_of}
 use Rattle.ocfl_audit.specs.Between.{IsBeyond}
-use Rattle.ocfl_walk.specs.Walking.{GoesOn}
-use Rattle.ocfl_walk.specs.WalkCalls.{FailsOut, FailsTo}
+use Rattle.ocfl_walk.specs.Internal.Walking.{GoesOn}
+use Rattle.ocfl_walk.specs.WalkCalls.{FailsOut}
+use Rattle.ocfl_walk.specs.Internal.Walking.{FailsTo}
 use Rattle.ocfl_item.specs.declared.fault.Fault.{Fault}
 use Rattle.ocfl_item.specs.declared.fault.Fault.TheVariants as fault
 use Rattle.ocfl_item.specs.declared.meeting.Around.{Around}

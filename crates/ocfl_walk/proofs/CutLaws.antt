@@ -24,7 +24,8 @@ use Rattle.ocfl_audit.proofs.WayLaws.{head_seen, is_closed}
 use Rattle.ocfl_item.specs.Around.{IsTableAround}
 use Rattle.ocfl_item.specs.declared.meeting.Around.{Around}
 use Rattle.ocfl_item.proofs.LooksZones.{inside_step}
-use Rattle.ocfl_walk.specs.Standing.{AreEntries, HaveEntries, IsChain, IsOrderly, IsTurn, Pile, cut_top, entry_weight, frames_of, from_name, next_in, next_of, popped, popped_from, size_of, trimmed, weigh}
+use Rattle.ocfl_walk.specs.Standing.{AreEntries, HaveEntries, Pile, entry_weight, frames_of, size_of, weigh}
+use Rattle.ocfl_walk.specs.Internal.Standing.{IsChain, IsOrderly, IsTurn, cut_top, from_name, next_in, next_of, popped, popped_from, trimmed}
 use Rattle.ocfl_walk.proofs.BeforeLaws.{IsJustBefore, below_from, not_below}
 use Rattle.ocfl_walk.proofs.DueTurns.{turn_by}
 use Rattle.ocfl_walk.proofs.EndLaws.{not_false}

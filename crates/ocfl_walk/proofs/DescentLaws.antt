@@ -10,11 +10,13 @@ use Rattle.ocfl_inventory.specs.Table.{Table}
 use Rattle.ocfl_tree.proofs.Orders.{true_not_false}
 use Rattle.ocfl_audit.specs.Zone.{zone}
 use Rattle.ocfl_item.specs.Looking.{IsFront, failures_by}
-use Rattle.ocfl_item.specs.Ways.{AreInventories, AreReached, Stops, Opens, ReadsTable}
+use Rattle.ocfl_item.specs.Ways.{AreInventories, Stops}
+use Rattle.ocfl_item.specs.Internal.Ways.{Opens, ReadsTable}
+use Rattle.ocfl_walk.specs.Internal.Entering.{AreReached}
 use Rattle.ocfl_item.specs.Around.{IsTableAround}
 use Rattle.ocfl_audit.specs.Head.{on}
 use Rattle.ocfl_audit.specs.Trail.{heads_of, reads_inventory}
-use Rattle.ocfl_walk.specs.Entering.{Descends, DescendFails, Opens as Opened}
+use Rattle.ocfl_walk.specs.Internal.Entering.{Descends, DescendFails, Opens as Opened}
 use Rattle.ocfl_item.proofs.AuditingLaws.{failed_behind, read_behind, heads_append}
 use Rattle.ocfl_item.specs.declared.fault.Fault.{Fault}
 use Rattle.ocfl_item.specs.declared.fault.Fault.TheVariants as fault

@@ -10,7 +10,7 @@ use Rattle.ocfl_audit.specs.Zone.{skipped, inside, object_zone, root_declared, i
 use Rattle.ocfl_audit.specs.Walk.{is_reached}
 use Rattle.ocfl_item.specs.Ways.{Enters, Stops, way_below, is_listable, is_extensions_name, IsAt, IsObject}
 use Rattle.ocfl_item.specs.Around.{IsPart, IsTableAround}
-use Rattle.ocfl_walk.specs.Entering.{Descends, IsIn, IsShut, Leads, LeadsOn, Opens, may_open}
+use Rattle.ocfl_walk.specs.Internal.Entering.{Descends, IsIn, IsShut, Leads, LeadsOn, Opens, may_open}
 use Rattle.ocfl_walk.specs.WalkCalls.{holder_of}
 use Rattle.ocfl_item.specs.Looking.{IsFront}
 use Rattle.ocfl_item.specs.declared.fault.Fault.{Fault}

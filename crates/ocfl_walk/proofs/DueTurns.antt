@@ -15,7 +15,8 @@ use Rattle.ocfl_audit.specs.Lines.{notes, is_empty}
 use Rattle.ocfl_audit.specs.Walk.{item_at}
 use Rattle.ocfl_audit.specs.Stack.{Frame, IsListed, IsStack, NoPathBetween, NoneSeenBetween, seen_places}
 use Rattle.ocfl_audit.specs.Zone.{seen}
-use Rattle.ocfl_walk.specs.Standing.{Pile, IsFitIf, IsStanding, IsTurn, TurnIs, frames_of, next_of, path_from, place_by, trimmed, turn_of}
+use Rattle.ocfl_walk.specs.Standing.{Pile, IsStanding, frames_of}
+use Rattle.ocfl_walk.specs.Internal.Standing.{IsFitIf, IsTurn, TurnIs, next_of, path_from, place_by, trimmed, turn_of}
 use Rattle.ocfl_item.specs.declared.meeting.Around.{Around}
 use Rattle.ocfl_walk.specs.declared.stand.Turn.{Turn}
 use Rattle.ocfl_walk.specs.declared.stand.Turn.TheVariants as turn

@@ -14,9 +14,10 @@ use Rattle.ocfl_audit.specs.Walk.{is_reached}
 use Rattle.ocfl_audit.specs.Stack.{seen_places}
 use Rattle.ocfl_item.specs.Looking.{way_to}
 use Rattle.ocfl_item.specs.Ways.{Enters, IsHead, Stops, way_below}
-use Rattle.ocfl_walk.specs.Standing.{IsOrderly, IsOrderlyIf, IsOrderlyStand, IsStanding, Pile, StandsAt, folders_from, piles_in, piles_of, spot_of}
+use Rattle.ocfl_walk.specs.Standing.{IsStanding, Pile, StandsAt, folders_from, piles_in, piles_of, spot_of}
+use Rattle.ocfl_walk.specs.Internal.Standing.{IsOrderly, IsOrderlyIf, IsOrderlyStand}
 use Rattle.ocfl_walk.specs.WalkCalls.{holder_of}
-use Rattle.ocfl_walk.specs.Entering.{Descends, DescendFails, IsBrought, IsComing, ListsRoot, Starts, StartFails, may_open}
+use Rattle.ocfl_walk.specs.Internal.Entering.{Descends, DescendFails, IsBrought, IsComing, ListsRoot, Starts, StartFails, may_open}
 use Rattle.ocfl_walk.specs.WalkCalls.{holder_of}
 use Rattle.ocfl_item.specs.declared.fault.Fault.{Fault}
 use Rattle.ocfl_item.specs.declared.fault.Fault.TheVariants as fault

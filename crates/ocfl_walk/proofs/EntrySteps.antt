@@ -16,10 +16,11 @@ use Rattle.ocfl_audit.specs.Lines.{notes}
 use Rattle.ocfl_audit.specs.Walk.{is_reached, seen_names}
 use Rattle.ocfl_audit.specs.Stack.{IsListed}
 use Rattle.ocfl_audit.specs.Zone.{Zone, skipped, hierarchy, inside, zone, table_at, is_entered, is_listed_zone, is_listed_in_object, max_listed_depth, beginnings}
-use Rattle.ocfl_walk.specs.Standing.{HaveEntries, IsAroundIf, IsHeld, IsOrderly, IsTaken, Pile, StandsAt, frames_of, next_of, still}
+use Rattle.ocfl_walk.specs.Standing.{HaveEntries, Pile, StandsAt, frames_of}
+use Rattle.ocfl_walk.specs.Internal.Standing.{IsAroundIf, IsHeld, IsOrderly, IsTaken, next_of, still}
 use Rattle.ocfl_item.specs.Around.{IsMet, IsPart, IsTableAround}
 use Rattle.ocfl_item.specs.Meeting.{IsItemAt, Meets}
-use Rattle.ocfl_walk.specs.Walking.{Steps, step_from}
+use Rattle.ocfl_walk.specs.Internal.Walking.{Steps, step_from}
 use Rattle.ocfl_item.specs.declared.pending.Pending.{Pending}
 use Rattle.ocfl_item.specs.declared.meeting.Around.{Around}
 use Rattle.ocfl_walk.specs.declared.stand.Stand.{Stand}

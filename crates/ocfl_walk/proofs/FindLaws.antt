@@ -11,8 +11,8 @@ use Rattle.ocfl_tree.specs.declared.store.Opening.{Opening}
 use Rattle.ocfl_audit.specs.Zone.{Zone, skipped, hierarchy, inside, zone, seen}
 use Rattle.ocfl_audit.specs.Trail.{heads_of, is_head}
 use Rattle.ocfl_walk.specs.WalkCalls.{holder_of}
-use Rattle.ocfl_walk.specs.Entering.{Descends, DescendFails, Leads, may_open}
-use Rattle.ocfl_walk.specs.Finding.{Finds, FindFails, FindsItem}
+use Rattle.ocfl_walk.specs.Internal.Entering.{Descends, DescendFails, Leads, may_open}
+use Rattle.ocfl_walk.specs.Internal.Finding.{Finds, FindFails, FindsItem}
 use Rattle.ocfl_item.specs.Looking.{IsFront, failures_by}
 use Rattle.ocfl_item.specs.Auditing.{IsMetadataRead}
 use Rattle.ocfl_item.specs.Around.{IsMet, IsPart, IsTableAround}

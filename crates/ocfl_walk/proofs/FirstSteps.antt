@@ -33,8 +33,9 @@ use Rattle.ocfl_item.proofs.ShutLaws.{shut_unseen}
 use Rattle.ocfl_item.proofs.VisitLaws.{meets_shut}
 use Rattle.ocfl_walk.specs.Ends.{before_end, is_past}
 use Rattle.ocfl_walk.specs.Before.{place_before}
-use Rattle.ocfl_walk.specs.Standing.{HaveEntries, IsAroundIf, IsBelowNext, IsHeld, IsNamedIn, IsOrderly, IsOrderlyIf, IsOrderlyStand, IsStanding, IsTurn, cut_top, frames_of, next_of, piles_at, piles_in, popped, size_of, spot_of, stand_size, trimmed}
-use Rattle.ocfl_walk.specs.Walking.{GoesAt, GoesOn, GoesTo, IsBefore, Steps, StepsAtTo, StepsOutTo, step_from}
+use Rattle.ocfl_walk.specs.Standing.{HaveEntries, IsStanding, frames_of, piles_at, piles_in, size_of, spot_of, stand_size}
+use Rattle.ocfl_walk.specs.Internal.Standing.{IsAroundIf, IsBelowNext, IsHeld, IsNamedIn, IsOrderly, IsOrderlyIf, IsOrderlyStand, IsTurn, cut_top, next_of, popped, trimmed}
+use Rattle.ocfl_walk.specs.Internal.Walking.{GoesAt, GoesOn, GoesTo, IsBefore, Steps, StepsAtTo, StepsOutTo, step_from}
 use Rattle.ocfl_walk.specs.declared.end.End.{End}
 use Rattle.ocfl_walk.specs.declared.stand.Stand.{Stand}
 use Rattle.ocfl_walk.specs.declared.stand.Step.{Step}

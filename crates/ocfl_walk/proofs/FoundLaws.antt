@@ -12,8 +12,8 @@ use Rattle.ocfl_audit.specs.Between.{is_looked_into}
 use Rattle.ocfl_audit.specs.Trail.{content_openings, content_trail, heads_of, inventory_of, reads_inventory, unread_of}
 use Rattle.ocfl_item.specs.Auditing.{FailedAt, IsMetadataRead}
 use Rattle.ocfl_walk.specs.WalkCalls.{GoDownFails, GoesDown, holder, holder_of}
-use Rattle.ocfl_walk.specs.Entering.{Starts, StartFails}
-use Rattle.ocfl_walk.specs.Finding.{Finds, FindFails, FindsItem}
+use Rattle.ocfl_walk.specs.Internal.Entering.{Starts, StartFails}
+use Rattle.ocfl_walk.specs.Internal.Finding.{Finds, FindFails, FindsItem}
 use Rattle.ocfl_item.specs.Looking.{IsFront, failures_by, way_to}
 use Rattle.ocfl_item.specs.Meeting.{IsItemAt, Visits}
 use Rattle.ocfl_item.specs.Ways.{Stops, way_below}

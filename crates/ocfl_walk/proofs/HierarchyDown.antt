@@ -13,10 +13,11 @@ use Rattle.ocfl_inventory.specs.declared.declaration.Declared.TheVariants as mad
 use Rattle.ocfl_inventory.specs.declared.declaration.Version.{Version}
 use Rattle.ocfl_inventory.specs.declared.declaration.Level.TheVariants as level
 use Rattle.ocfl_audit.specs.Zone.{inside, table_at, zone, is_known}
-use Rattle.ocfl_item.specs.Ways.{InHierarchy, IsDeclared, IsObject}
+use Rattle.ocfl_item.specs.Ways.{InHierarchy, IsObject}
+use Rattle.ocfl_item.specs.Internal.Ways.{IsDeclared}
 use Rattle.ocfl_item.specs.Meeting.{IsFairFolder}
-use Rattle.ocfl_walk.specs.Standing.{IsAroundIf}
-use Rattle.ocfl_walk.specs.Entering.{Leads, ListsBelow, Opens}
+use Rattle.ocfl_walk.specs.Internal.Standing.{IsAroundIf}
+use Rattle.ocfl_walk.specs.Internal.Entering.{Leads, ListsBelow, Opens}
 use Rattle.ocfl_item.specs.declared.fault.Fault.{Fault}
 use Rattle.ocfl_item.specs.declared.folder.Folder.{Folder}
 use Rattle.ocfl_item.specs.declared.meeting.Around.{Around}

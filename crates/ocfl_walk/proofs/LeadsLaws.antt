@@ -11,7 +11,7 @@ use Rattle.ocfl_inventory.specs.ListedPath.{is_version_name}
 use Rattle.ocfl_audit.specs.Zone.{inside, zone, table_at, is_entered, is_listed_zone, is_listed_in_object, is_listed_within, max_listed_depth, beginnings}
 use Rattle.ocfl_audit.specs.Walk.{step_listed}
 use Rattle.ocfl_item.specs.Ways.{IsAt}
-use Rattle.ocfl_walk.specs.Standing.{IsAround, IsAroundIf}
+use Rattle.ocfl_walk.specs.Internal.Standing.{IsAround, IsAroundIf}
 use Rattle.ocfl_audit.proofs.BelowLaws.{begins_front, begins_rest}
 use Rattle.ocfl_walk.proofs.OrderlyLaws.{begins_on}
 use Rattle.ocfl_item.specs.declared.meeting.Around.{Around}

@@ -11,7 +11,7 @@ use Rattle.ocfl_audit.specs.Walk.{is_extensions, step_zone}
 use Rattle.ocfl_tree.specs.Listing.{IsOrdinary}
 use Rattle.ocfl_item.specs.declared.folder.Folder.{Folder}
 use Rattle.ocfl_walk.proofs.OrderlyLaws.{begins_own}
-use Rattle.ocfl_walk.specs.Standing.{IsAroundIf, around_of}
+use Rattle.ocfl_walk.specs.Internal.Standing.{IsAroundIf, around_of}
 use Rattle.ocfl_item.specs.Around.{IsMet, IsTableAround}
 use Rattle.ocfl_item.specs.Meeting.{IsFairFolder, IsTableAt}
 use Rattle.ocfl_item.specs.declared.meeting.Around.{Around}

@@ -10,7 +10,8 @@ use Rattle.ocfl_tree.specs.Place.{Place, Text, text_cmp, place_cmp, begins}
 use Rattle.ocfl_tree.specs.Ascending.{IsBeforeAll}
 use Rattle.ocfl_tree.specs.declared.store.Entry.{Entry}
 use Rattle.ocfl_audit.specs.Stack.{Frame}
-use Rattle.ocfl_walk.specs.Standing.{IsAroundIf, IsChain, IsFairPile, IsFitIf, IsOrderly, IsOrderlyIf, IsTaken, Pile, back_onto, frames_of, left_names, pushed, size_of, trimmed, trimmed_from, weigh, entry_weight, paths_above}
+use Rattle.ocfl_walk.specs.Standing.{Pile, back_onto, frames_of, size_of, weigh, entry_weight, paths_above}
+use Rattle.ocfl_walk.specs.Internal.Standing.{IsAroundIf, IsChain, IsFairPile, IsFitIf, IsOrderly, IsOrderlyIf, IsTaken, left_names, pushed, trimmed, trimmed_from}
 use Rattle.ocfl_item.specs.declared.folder.Folder.{Folder}
 use Rattle.ocfl_item.specs.declared.meeting.Around.{Around}
 use Rattle.ocfl_audit.proofs.BelowLaws.{above_self, above_name, begins_front, begins_rest}

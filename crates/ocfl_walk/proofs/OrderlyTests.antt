@@ -13,7 +13,8 @@ use Rattle.ocfl_audit.specs.Lines.{is_empty}
 use Rattle.ocfl_audit.specs.Stack.{Frame}
 use Rattle.ocfl_audit.proofs.BelowLaws.{less_from}
 use Rattle.ocfl_walk.specs.Orderly.{is_around, is_ascending, is_before_all, is_chain, is_orderly, is_orderly_if}
-use Rattle.ocfl_walk.specs.Standing.{IsAroundIf, IsChain, IsOrderlyIf, IsOrderlyStand, Pile, frames_of, piles_in}
+use Rattle.ocfl_walk.specs.Standing.{Pile, frames_of, piles_in}
+use Rattle.ocfl_walk.specs.Internal.Standing.{IsAroundIf, IsChain, IsOrderlyIf, IsOrderlyStand}
 use Rattle.ocfl_item.specs.declared.meeting.Around.{Around}
 use Rattle.ocfl_walk.specs.declared.stand.Stand.{Stand}
 use Rattle.ocfl_tree.proofs.Bools.{and_first, and_second, and_both}

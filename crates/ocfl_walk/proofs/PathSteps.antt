@@ -12,7 +12,8 @@ use Rattle.ocfl_tree.specs.declared.store.Entry.{Entry}
 use Rattle.ocfl_tree.proofs.Orders.{place_cmp_total, true_not_false, not_below_itself}
 use Rattle.ocfl_inventory.specs.Table.{paths_of}
 use Rattle.ocfl_inventory.specs.NextPath as table
-use Rattle.ocfl_walk.specs.Standing.{IsAroundIf, IsBelowNext, IsChain, IsOrderly, Pile, frames_of, next_of, path_from, paths_above, size_of, trimmed, trimmed_from}
+use Rattle.ocfl_walk.specs.Standing.{Pile, frames_of, paths_above, size_of}
+use Rattle.ocfl_walk.specs.Internal.Standing.{IsAroundIf, IsBelowNext, IsChain, IsOrderly, next_of, path_from, trimmed, trimmed_from}
 use Rattle.ocfl_item.specs.declared.meeting.Around.{Around}
 use Rattle.ocfl_audit.proofs.BelowLaws.{begins_front, begins_rest, cmp_behind, less_from, text_cmp_total, text_cmp_exact}
 use Rattle.ocfl_walk.proofs.OrderlyLaws.{before_names}

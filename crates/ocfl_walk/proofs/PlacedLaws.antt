@@ -10,7 +10,8 @@ use Rattle.ocfl_tree.specs.Place.{Place, Text, begins}
 use Rattle.ocfl_tree.specs.declared.store.Entry.{Entry}
 use Rattle.ocfl_audit.specs.Stack.{Frame}
 use Rattle.ocfl_audit.proofs.BelowLaws.{begins_front, begins_rest}
-use Rattle.ocfl_walk.specs.Standing.{IsChain, back, cut_top, from_name, IsFairPile, IsOrderly, IsOrderlyIf, IsTaken, Pile, folders_from, frames_of, next_of, pile_of, piles_at, piles_of, pushed, spot_of, trimmed}
+use Rattle.ocfl_walk.specs.Standing.{back, Pile, folders_from, frames_of, pile_of, piles_at, piles_of, spot_of}
+use Rattle.ocfl_walk.specs.Internal.Standing.{IsChain, cut_top, from_name, IsFairPile, IsOrderly, IsOrderlyIf, IsTaken, next_of, pushed, trimmed}
 use Rattle.ocfl_item.specs.declared.meeting.Around.{Around}
 use Rattle.ocfl_item.specs.declared.folder.Folder.{Folder}
 use Rattle.ocfl_walk.proofs.Backs.{next_of_last, piles_push, taken_at, trim_drops_by, trim_keeps_by}

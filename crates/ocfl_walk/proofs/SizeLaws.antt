@@ -7,9 +7,10 @@ use Rattle.std.specs.Ordering.{is_lt}
 use Rattle.ocfl_tree.specs.Place.{Place, place_cmp}
 use Rattle.ocfl_tree.specs.declared.store.Entry.{Entry}
 use Rattle.ocfl_inventory.specs.Table.{Triple, paths_of}
-use Rattle.ocfl_walk.specs.Standing.{IsAroundIf, IsFairPile, IsOrderly, IsTaken, Pile, entry_weight, frames_of, left_of_folder, paths_above, piles_in, pushed, size_of, stand_size, weigh}
+use Rattle.ocfl_walk.specs.Standing.{Pile, entry_weight, frames_of, paths_above, piles_in, size_of, stand_size, weigh}
+use Rattle.ocfl_walk.specs.Internal.Standing.{IsAroundIf, IsFairPile, IsOrderly, IsTaken, left_of_folder, pushed}
 use Rattle.ocfl_audit.specs.Between.{IsBeyond}
-use Rattle.ocfl_walk.specs.Walking.{GoesOn, GoesTo, step_from}
+use Rattle.ocfl_walk.specs.Internal.Walking.{GoesOn, GoesTo, step_from}
 use Rattle.ocfl_item.specs.declared.folder.Folder.{Folder}
 use Rattle.ocfl_item.specs.declared.pending.Pending.{Pending}
 use Rattle.ocfl_item.specs.declared.meeting.Around.{Around}

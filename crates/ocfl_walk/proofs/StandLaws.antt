@@ -10,10 +10,11 @@ use Rattle.ocfl_tree.proofs.Orders.{place_cmp_total}
 use Rattle.ocfl_audit.specs.Zone.{inside, zone}
 use Rattle.ocfl_audit.specs.Walk.{seen_names}
 use Rattle.ocfl_audit.specs.Stack.{Frame, IsStack, IsListed}
-use Rattle.ocfl_walk.specs.Standing.{StandsAt, stand_size, AreEntries, HaveEntries, IsStanding, IsTaken, IsTurn, Pile, frames_of, left_names, left_of_folder, path_from, popped, pushed}
+use Rattle.ocfl_walk.specs.Standing.{StandsAt, stand_size, AreEntries, HaveEntries, IsStanding, Pile, frames_of}
+use Rattle.ocfl_walk.specs.Internal.Standing.{IsTaken, IsTurn, left_names, left_of_folder, path_from, popped, pushed}
 use Rattle.ocfl_item.specs.Around.{IsTableAround}
 use Rattle.ocfl_walk.specs.Ends.{before_end, is_past}
-use Rattle.ocfl_walk.specs.Walking.{GoesOn, GoesTo, IsBefore, NextGoesOn, NextTold, Onward, SoFar, Steps, StepsOut, StepsOutTo, StepsTo, IsPileAt}
+use Rattle.ocfl_walk.specs.Internal.Walking.{GoesOn, GoesTo, IsBefore, NextGoesOn, NextTold, Onward, SoFar, Steps, StepsOut, StepsOutTo, StepsTo, IsPileAt}
 use Rattle.ocfl_item.specs.declared.fault.Fault.{Fault}
 use Rattle.ocfl_item.specs.declared.folder.Folder.{Folder}
 use Rattle.ocfl_item.specs.declared.meeting.Around.{Around}

@@ -22,9 +22,10 @@ use Rattle.ocfl_item.specs.declared.meeting.Around.{Around}
 use Rattle.ocfl_item.specs.declared.pending.Pending.{Pending}
 use Rattle.ocfl_item.proofs.ShutLaws.{shut_unseen}
 use Rattle.ocfl_item.proofs.VisitLaws.{meets_shut}
-use Rattle.ocfl_walk.specs.Standing.{IsAroundIf, IsBelowNext, IsFairPile, IsHeld, IsOrderly, IsOrderlyIf, IsOrderlyStand, IsStanding, IsTaken, IsTurn, Pile, StandsAt, TurnIs, frames_of, next_of, path_from, piles_at, piles_in, popped, pushed, spot_of, still, trimmed, is_turn_past, turn_before, turn_of}
+use Rattle.ocfl_walk.specs.Standing.{IsStanding, Pile, StandsAt, frames_of, piles_at, piles_in, spot_of}
+use Rattle.ocfl_walk.specs.Internal.Standing.{IsAroundIf, IsBelowNext, IsFairPile, IsHeld, IsOrderly, IsOrderlyIf, IsOrderlyStand, IsTaken, IsTurn, TurnIs, next_of, path_from, popped, pushed, still, trimmed, is_turn_past, turn_before, turn_of}
 use Rattle.ocfl_walk.specs.Ends.{before_end, is_past}
-use Rattle.ocfl_walk.specs.Walking.{GoesOn, GoesTo, IsFairMet, IsMeeting, IsPileAt, Steps, StepsOut, step_from}
+use Rattle.ocfl_walk.specs.Internal.Walking.{GoesOn, GoesTo, IsFairMet, IsMeeting, IsPileAt, Steps, StepsOut, step_from}
 use Rattle.ocfl_walk.specs.declared.end.End.{End}
 use Rattle.ocfl_walk.specs.declared.stand.Met.{Met}
 use Rattle.ocfl_walk.specs.declared.stand.Stand.{Stand}

@@ -11,9 +11,10 @@ use Rattle.ocfl_tree.specs.Store.{Store}
 use Rattle.ocfl_audit.specs.Due.{due}
 use Rattle.ocfl_audit.specs.Walk.{seen_names}
 use Rattle.ocfl_audit.specs.Stack.{IsStack, seen_left, seen_places}
-use Rattle.ocfl_walk.specs.Standing.{AreEntries, IsFairPile, IsOrderly, IsOrderlyIf, IsStanding, Pile, StandsAt, entry_weight, left_names, left_of_folder, piles_at, piles_in, pushed, size_of, stand_size, weigh}
+use Rattle.ocfl_walk.specs.Standing.{AreEntries, IsStanding, Pile, StandsAt, entry_weight, piles_at, piles_in, size_of, stand_size, weigh}
+use Rattle.ocfl_walk.specs.Internal.Standing.{IsFairPile, IsOrderly, IsOrderlyIf, left_names, left_of_folder, pushed}
 use Rattle.ocfl_item.specs.Meeting.{IsItemAt, Meets}
-use Rattle.ocfl_walk.specs.Walking.{IsPileAt, Steps, step_from}
+use Rattle.ocfl_walk.specs.Internal.Walking.{IsPileAt, Steps, step_from}
 use Rattle.ocfl_item.specs.declared.folder.Folder.{Folder}
 use Rattle.ocfl_item.specs.declared.pending.Pending.{Pending}
 use Rattle.ocfl_item.specs.declared.meeting.Around.{Around}

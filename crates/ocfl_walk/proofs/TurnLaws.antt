@@ -15,7 +15,8 @@ use Rattle.ocfl_inventory.specs.NextPath as table
 use Rattle.ocfl_audit.specs.Zone.{Zone, skipped, hierarchy, inside, zone, table_at}
 use Rattle.ocfl_audit.specs.Walk.{IsClosed, seen_names}
 use Rattle.ocfl_audit.specs.Stack.{IsListed, seen_places, seen_left, next_entry, next_path, next_path_in, next_path_of, next_place, lesser, least_path, first_of_list}
-use Rattle.ocfl_walk.specs.Standing.{Pile, frames_of, trimmed, trimmed_from, next_of, path_from, turn_of, place_by, IsStanding, IsFitIf, AreEntries, HaveEntries}
+use Rattle.ocfl_walk.specs.Standing.{Pile, frames_of, IsStanding, AreEntries, HaveEntries}
+use Rattle.ocfl_walk.specs.Internal.Standing.{trimmed, trimmed_from, next_of, path_from, turn_of, place_by, IsFitIf}
 use Rattle.ocfl_item.specs.Around.{IsTableAround}
 use Rattle.ocfl_item.specs.declared.meeting.Around.{Around}
 use Rattle.ocfl_walk.specs.declared.stand.Turn.TheVariants as turn

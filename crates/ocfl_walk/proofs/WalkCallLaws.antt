@@ -12,7 +12,8 @@ use Rattle.ocfl_item.specs.Looking.{IsFront, failures_by}
 use Rattle.ocfl_item.specs.Auditing.{Audits}
 use Rattle.ocfl_item.proofs.AuditingLaws.{audits_nothing, audits_on, audits_fail, audits_meta, fails_meta, fails_nothing, front_behind, front_more, front_none}
 use Rattle.ocfl_walk.specs.Ends.{before_end, is_past}
-use Rattle.ocfl_walk.specs.WalkCalls.{FailsOut, FailsTo, Walks, WalkFails, WalksOut}
+use Rattle.ocfl_walk.specs.WalkCalls.{FailsOut, Walks, WalkFails, WalksOut}
+use Rattle.ocfl_walk.specs.Internal.Walking.{FailsTo}
 use Rattle.ocfl_walk.specs.declared.end.End.{End}
 use Rattle.ocfl_walk.proofs.EndLaws.{all_kept, looked_out, read_out}
 use Rattle.ocfl_item.specs.Meeting.{Meets, MeetFails}

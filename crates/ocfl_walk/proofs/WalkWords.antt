@@ -7,11 +7,11 @@ use Rattle.ocfl_tree.specs.Store.{Store}
 use Rattle.ocfl_tree.specs.StorageRoot.{StorageRoot}
 use Rattle.ocfl_walk.specs.Before.{directory_of, place_before}
 use Rattle.ocfl_walk.specs.Ends.{before_end}
-use Rattle.ocfl_walk.specs.Entering.{Descends}
+use Rattle.ocfl_walk.specs.Internal.Entering.{Descends}
 use Rattle.ocfl_walk.specs.Standing.{StandsAt}
 use Rattle.ocfl_audit.specs.Between.{IsBeyond}
 use Rattle.ocfl_audit.specs.Due.{due}
-use Rattle.ocfl_walk.specs.Walking.{GoesAt, NextGoesOn, NextTold, StepsAt}
+use Rattle.ocfl_walk.specs.Internal.Walking.{GoesAt, NextGoesOn, NextTold, StepsAt}
 use Rattle.ocfl_walk.specs.Walks.{Gives, GivesOut, GoesOn, HasEndedOut, OpensInventories, Stands, StandsFrom, first_size, walk_size}
 use Rattle.std.specs.Prelude.{IfOk, MatchResult, option_map}
 use Rattle.ocfl_item.specs.declared.fault.Fault.{Fault}

@@ -3,7 +3,5 @@ pub mod Before
 pub mod WalkCalls
 pub mod Standing
 pub mod Orderly
-pub mod Walking
-pub mod Entering
 pub mod Walks
-pub mod Finding
+pub mod Internal

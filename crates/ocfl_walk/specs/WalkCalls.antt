@@ -29,15 +29,6 @@ pub record WalkFails (root : StorageRoot) (s t : Store) (from : Option Place) (w
   pub listed_front : IsFront listed (looked_between root from None)
   pub heads_front : IsFront heads (read_between root from None)
 
--- the first of those up to another place, and then there was a fault
-pub record FailsTo (root : StorageRoot) (s t : Store) (from : Option Place) (to : Place) (why : Fault) : Type 0 where
-  pub trail : List Opening
-  pub listed : List Place
-  pub heads : List Place
-  pub fails : Fails root s t [] listed heads trail why
-  pub listed_front : IsFront listed (looked_between root from (Some to))
-  pub heads_front : IsFront heads (read_between root from (Some to))
-
 -- ---- from a place on to the end
 
 -- the directories from a place to the end were listed, and the inventories read

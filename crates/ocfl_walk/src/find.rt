@@ -5,9 +5,9 @@ ghost use Rattle.ocfl_tree.specs.Listing.{kind_in};
 ghost use Rattle.ocfl_audit.specs.Zone.{zone};
 ghost use Rattle.ocfl_item.specs.Around.{IsPart};
 ghost use Rattle.ocfl_item.specs.Ways.{IsAt, IsWayFault, way_below};
-ghost use Rattle.ocfl_walk.specs.Entering.{may_open};
-ghost use Rattle.ocfl_walk.specs.Finding.{FindsItem};
-ghost use Rattle.ocfl_walk.specs.Standing.{IsAroundIf};
+ghost use Rattle.ocfl_walk.specs.Internal.Entering.{may_open};
+ghost use Rattle.ocfl_walk.specs.Internal.Finding.{FindsItem};
+ghost use Rattle.ocfl_walk.specs.Internal.Standing.{IsAroundIf};
 ghost use Rattle.ocfl_tree.specs.Store.{IfTold};
 
 use crate::entry::down;

@@ -2,7 +2,7 @@ use Rattle.std.proofs.Common.{◌≡◌, [], refl, sym, ◌∙◌, ap, arith, ve
 use Rattle.std.proofs.lemmas.Bool.{eqb-true, eqb-false}
 use Rattle.std.proofs.lemmas.List.{nil_from_length}
 use Rattle.ocfl_inventory.specs.TripleView.{named_view}
-use Rattle.ocfl_item.specs.Pending.{is_read}
+use Rattle.ocfl_item.specs.Internal.Content.{is_read}
 use Rattle.ocfl_item.proofs.PendingLaws.{IsTold, known_lines_are, nothing_known, pending_hashed, pending_known}
 use Rattle.ocfl_item.proofs.content.content_item.Goals as goal
 

@@ -2,7 +2,7 @@ use Rattle.std.proofs.Common.{◌≡◌, ◌++◌, [], ◌∙◌, List, OnOk, Re
 use Rattle.ocfl_inventory.specs.Note.{Note}
 use Rattle.ocfl_inventory.specs.TripleView.{named_view}
 use Rattle.ocfl_audit.specs.Lines.{unnamed_notes, wrong_notes}
-use Rattle.ocfl_item.specs.Pending.{HasLines}
+use Rattle.ocfl_item.specs.Internal.Lines.{HasLines}
 use Rattle.ocfl_item.specs.declared.lines.PlaceLines.{PlaceLines}
 use Rattle.ocfl_item.proofs.LinesLaws.{has_more}
 use Rattle.ocfl_item.proofs.file_lines.add_hashed.Goals as goal

@@ -1,6 +1,6 @@
 use Rattle.std.proofs.Common.{map}
 use Rattle.ocfl_inventory.specs.Remark.{remark_view}
-use Rattle.ocfl_item.specs.Pending.{Adds}
+use Rattle.ocfl_item.specs.Internal.Lines.{Adds}
 use Rattle.ocfl_item.proofs.head_lines.add_remarks.Given as goal
 
 abbrev pub invariant-loop-remark : goal.invariant-loop-remark

@@ -2,7 +2,7 @@ use Rattle.std.proofs.Common.{◌≡◌, ◌∙◌, None, Some, ap, sym, subst, 
 use Rattle.ocfl_inventory.specs.TripleView.{named_view}
 use Rattle.ocfl_audit.specs.Zone.{seen}
 use Rattle.ocfl_item.specs.Around.{IsTableAround}
-use Rattle.ocfl_item.specs.Looking.{content_at}
+use Rattle.ocfl_item.specs.Internal.Content.{content_at}
 use Rattle.ocfl_item.specs.Meeting.{IsItemAt}
 use Rattle.ocfl_item.proofs.LooksEntries.{no_entries, some_entries}
 use Rattle.ocfl_item.proofs.PathItems.{named_around, named_content, some_named, unseen_notes, untabled}

@@ -1,6 +1,6 @@
 use Rattle.std.proofs.Common.{◌∷◌, ◌++◌, [], OnOk, codes, ◌∙◌, ap, subst}
 use Rattle.ocfl_inventory.specs.Note.{note}
-use Rattle.ocfl_item.specs.Pending.{Adds}
+use Rattle.ocfl_item.specs.Internal.Lines.{Adds}
 use Rattle.ocfl_item.proofs.missing.add_missing_line.Goals as goal
 
 pub returns : goal.returns

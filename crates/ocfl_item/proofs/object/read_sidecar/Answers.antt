@@ -1,7 +1,7 @@
 use Rattle.std.proofs.Common.{◌≡◌, ◌∷◌, ◌++◌, [], true, subst, sym}
 use Rattle.ocfl_audit.specs.Trail.{is_meta}
 use Rattle.ocfl_inventory.specs.Sidecar.{side_limit}
-use Rattle.ocfl_item.specs.HeadFiles.{ReadsFile}
+use Rattle.ocfl_item.specs.Internal.HeadFiles.{ReadsFile}
 use Rattle.ocfl_item.proofs.object.read_sidecar.Goals as goal
 
 pub returns-clause-told : goal.returns-clause-told

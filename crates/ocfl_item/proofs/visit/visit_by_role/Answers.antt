@@ -1,5 +1,5 @@
 use Rattle.std.proofs.Common.{subst}
-use Rattle.ocfl_item.specs.Visiting.{HasRole}
+use Rattle.ocfl_item.specs.Internal.Visiting.{HasRole}
 use Rattle.ocfl_item.proofs.VisitLaws.{nothing_visits, shut_visits}
 use Rattle.ocfl_item.proofs.visit.visit_by_role.Goals as goal
 

@@ -1,6 +1,6 @@
 use Rattle.std.proofs.Common.{◌≡◌, ◌<◌, ◌≤◌, ◌∙◌, sym, subst, Some, length, rules}
 use Rattle.std.proofs.lemmas.Result.{err_from_is_err_and}
-use Rattle.ocfl_item.specs.Looking.{IsSight, content_at}
+use Rattle.ocfl_item.specs.Internal.Content.{IsSight, content_at}
 use Rattle.ocfl_item.specs.Meeting.{IsItemAt}
 use Rattle.ocfl_item.proofs.LooksEntries.{no_entries, some_entries}
 use Rattle.ocfl_item.proofs.ShutLaws.{shut_deep}

@@ -2,7 +2,7 @@ use Rattle.std.proofs.Common.{◌≡◌, ◌∙◌, ◌<◌, sym, ap, subst, ari
 use Rattle.ocfl_item.specs.Ways.{IsAt}
 use Rattle.ocfl_item.specs.Around.{IsPart}
 use Rattle.ocfl_walk.specs.Standing.{folders_from, piles_in, spot_of}
-use Rattle.ocfl_walk.specs.Entering.{IsComing}
+use Rattle.ocfl_walk.specs.Internal.Entering.{IsComing}
 use Rattle.std.proofs.lemmas.Result.{err_from_is_err_and}
 use Rattle.ocfl_walk.proofs.DescentLaws.{descends_not}
 use Rattle.ocfl_item.proofs.LooksCalls.{did_nothing}

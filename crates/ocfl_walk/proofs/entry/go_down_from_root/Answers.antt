@@ -2,7 +2,7 @@ use Rattle.std.proofs.Common.{◌∙◌, sym, ap, subst, length, ◌++◌, Some}
 use Rattle.std.proofs.lemmas.Result.{err_from_is_err_and}
 use Rattle.ocfl_item.specs.Around.{IsPart}
 use Rattle.ocfl_walk.specs.Standing.{folders_from, piles_in, spot_of}
-use Rattle.ocfl_walk.specs.Entering.{IsComing}
+use Rattle.ocfl_walk.specs.Internal.Entering.{IsComing}
 use Rattle.ocfl_walk.proofs.PlacedLaws.{folders_none}
 use Rattle.ocfl_walk.proofs.EnterLaws.{coming_root, orderly_brought, orderly_start, stands_start, start_goes, start_listed, start_memory, start_unlisted}
 use Rattle.ocfl_walk.proofs.entry.go_down_from_root.Goals as goal

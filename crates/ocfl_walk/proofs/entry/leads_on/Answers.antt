@@ -1,7 +1,7 @@
 use Rattle.std.proofs.Common.{◌≡◌, sym, subst, ◌∙◌, length, ◌-◌, arith, true}
 use Rattle.ocfl_tree.specs.Place.{text_eq}
 use Rattle.ocfl_inventory.specs.ListedPath.{is_version_name}
-use Rattle.ocfl_walk.specs.Entering.{LeadsOn}
+use Rattle.ocfl_walk.specs.Internal.Entering.{LeadsOn}
 use Rattle.ocfl_walk.proofs.LeadsLaws.{leads_zero, leads_one, leads_more, not_deeper}
 use Rattle.ocfl_walk.proofs.entry.leads_on.Goals as goal
 

@@ -1,5 +1,5 @@
 use Rattle.std.proofs.Common.{sym, subst}
-use Rattle.ocfl_walk.specs.Standing.{IsAroundIf}
+use Rattle.ocfl_walk.specs.Internal.Standing.{IsAroundIf}
 use Rattle.ocfl_item.specs.Around.{IsTableAround}
 use Rattle.ocfl_walk.proofs.MeetLaws.{ordinary}
 use Rattle.ocfl_walk.proofs.stand.met_by.Goals as goal

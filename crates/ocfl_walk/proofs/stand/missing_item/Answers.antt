@@ -4,7 +4,7 @@ use Rattle.ocfl_inventory.specs.Table.{named}
 use Rattle.ocfl_item.specs.Around.{IsTableAround}
 use Rattle.ocfl_item.proofs.LooksEntries.{no_entries, some_entries}
 use Rattle.ocfl_item.proofs.PathItems.{named_around, some_named, unseen_notes, untabled}
-use Rattle.ocfl_walk.specs.Standing.{IsNamedIn}
+use Rattle.ocfl_walk.specs.Internal.Standing.{IsNamedIn}
 use Rattle.ocfl_walk.proofs.FirstSteps.{named_path, named_too}
 use Rattle.ocfl_walk.proofs.stand.missing_item.Goals as goal
 

@@ -1,6 +1,6 @@
 use Rattle.std.proofs.Common.{refl, subst, inl}
 use Rattle.std.proofs.lemmas.Result.{err_from_is_err_and}
-use Rattle.ocfl_walk.specs.Walking.{GoesOn, IsBefore}
+use Rattle.ocfl_walk.specs.Internal.Walking.{GoesOn, IsBefore}
 use Rattle.ocfl_walk.proofs.StandLaws.{onward_step, onward_item, so_far_step, so_far_item, so_far_end, so_far_fails}
 use Rattle.ocfl_walk.proofs.stand.Stand.next.Goals as goal
 

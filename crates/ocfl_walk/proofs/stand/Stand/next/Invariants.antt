@@ -1,8 +1,9 @@
 use Rattle.std.proofs.Common.{◌≡◌, IsTrue, Option}
 use Rattle.ocfl_tree.specs.Place.{Place}
 use Rattle.ocfl_tree.specs.StorageRoot.{StorageRoot}
-use Rattle.ocfl_walk.specs.Standing.{IsOrderlyStand, StandsAt, stand_size}
-use Rattle.ocfl_walk.specs.Walking.{Onward, SoFar}
+use Rattle.ocfl_walk.specs.Standing.{StandsAt, stand_size}
+use Rattle.ocfl_walk.specs.Internal.Standing.{IsOrderlyStand}
+use Rattle.ocfl_walk.specs.Internal.Walking.{Onward, SoFar}
 use Rattle.ocfl_walk.proofs.stand.Stand.next.Given as goal
 
 abbrev pub invariant-loop-item : goal.invariant-loop-item

@@ -1,7 +1,7 @@
 use Rattle.std.proofs.Common.{[], refl, sym, ◌∙◌, Some, None}
 use Rattle.std.proofs.lemmas.Result.{err_from_is_err_and}
 use Rattle.ocfl_walk.specs.Standing.{piles_in, spot_of}
-use Rattle.ocfl_walk.specs.Walking.{StepsOutTo}
+use Rattle.ocfl_walk.specs.Internal.Walking.{StepsOutTo}
 use Rattle.ocfl_walk.specs.declared.stand.Stand.{Stand}
 use Rattle.ocfl_walk.specs.declared.stand.Turn.TheVariants as turn
 use Rattle.ocfl_walk.proofs.Chosen.{at_first, chosen_base, chosen_entry, chosen_path, goes_from, kept_turn, mid_orderly, no_memory, sizes, trim_stays}

@@ -1,6 +1,6 @@
 use Rattle.std.proofs.Common.{sym, subst, Some}
 use Rattle.std.proofs.lemmas.Result.{err_from_is_err_and}
-use Rattle.ocfl_walk.specs.WalkCalls.{FailsTo}
+use Rattle.ocfl_walk.specs.Internal.Walking.{FailsTo}
 use Rattle.ocfl_walk.proofs.Chosen.{no_memory_to}
 use Rattle.ocfl_walk.proofs.FirstSteps.{missing_goes_on, missing_orderly, missing_there, missing_told}
 use Rattle.ocfl_walk.proofs.stand.Stand.take_missing.Goals as goal

@@ -1,6 +1,6 @@
 use Rattle.std.proofs.Common.{◌∙◌, refl, subst, sym, Some}
 use Rattle.std.proofs.lemmas.Result.{err_from_is_err_and}
-use Rattle.ocfl_walk.specs.Walking.{GoesAt, StepsAt}
+use Rattle.ocfl_walk.specs.Internal.Walking.{GoesAt, StepsAt}
 use Rattle.ocfl_walk.specs.declared.walk.Walk.{Walk}
 use Rattle.ocfl_walk.proofs.OrderlyTests.{orderly_from, orderly_to}
 use Rattle.ocfl_walk.proofs.WalkCallLaws.{walks_over}

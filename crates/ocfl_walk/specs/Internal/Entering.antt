@@ -1,5 +1,5 @@
 -- The entry at a place: the listings on the way to it, of each what lies above it.
-use Rattle.std.specs.Prelude.{◌≡◌, ◌≤◌, ℕ, List, [], ◌∷◌, ◌++◌, Bool, not, false, Option, Some, None, Result, MatchOption, MatchResult, length}
+use Rattle.std.specs.Prelude.{◌≡◌, ◌≤◌, ℕ, List, [], ◌∷◌, ◌++◌, Bool, not, false, Option, Some, None, Result, MatchOption, MatchResult, length, filter}
 use Rattle.std.specs.List.{AllByRecursion}
 use Rattle.ocfl_tree.specs.Place.{Text, Place}
 use Rattle.ocfl_tree.specs.StorageRoot.{StorageRoot, max_entries}
@@ -9,18 +9,17 @@ use Rattle.ocfl_tree.specs.declared.store.Entry.{Entry}
 use Rattle.ocfl_tree.specs.declared.store.Opening.{Opening}
 use Rattle.ocfl_audit.specs.Zone.{Zone, inside, root_declared, zone, table_at, is_known, max_listed_depth}
 use Rattle.ocfl_audit.specs.Lines.{is_hashed}
-use Rattle.ocfl_audit.specs.Trail.{content_trail}
+use Rattle.ocfl_audit.specs.Trail.{content_trail, heads_of, reads_inventory}
 use Rattle.ocfl_item.specs.Looking.{way_to, IsFront, failures_by}
 use Rattle.ocfl_item.specs.Auditing.{FailedAt, IsMetadataRead}
 use Rattle.ocfl_walk.specs.WalkCalls.{holder_of}
-use Rattle.ocfl_item.specs.Ways.{way_below, is_extensions_name, AreInventories, AreReached, Enters, InHierarchy, IsAt, Stops}
+use Rattle.ocfl_item.specs.Ways.{way_below, is_extensions_name, is_listable, AreInventories, Enters, InHierarchy, IsAt, Stops}
 use Rattle.ocfl_audit.specs.Walk.{is_reached, step_listed}
 use Rattle.ocfl_audit.specs.Stack.{seen_places, seen_left, listed_at, IsListed}
-use Rattle.ocfl_walk.specs.Standing.{Pile, frames_of, IsChain, IsAroundIf, HaveEntries}
+use Rattle.ocfl_walk.specs.Standing.{Pile, frames_of, HaveEntries}
+use Rattle.ocfl_walk.specs.Internal.Standing.{IsChain, IsAroundIf}
 use Rattle.ocfl_item.specs.Around.{IsTableAround, IsPart}
-use Rattle.ocfl_audit.specs.Trail.{heads_of}
 use Rattle.ocfl_item.specs.Meeting.{IsFairFolder}
-use Rattle.ocfl_walk.specs.WalkCalls.{holder_of}
 use Rattle.ocfl_item.specs.declared.fault.Fault.{Fault}
 use Rattle.ocfl_item.specs.declared.fault.Fault.TheVariants as fault
 use Rattle.ocfl_item.specs.declared.folder.Folder.{Folder}
@@ -32,6 +31,10 @@ use Rattle.ocfl_item.specs.declared.meeting.Around.{Around}
 abbrev pub may_open : Option Around → Zone → List Place
 may_open None z = holder_of z
 may_open (Some a) z = []
+
+-- each inventory that was opened is that of an object whose head reaches it
+abbrev pub AreReached : StorageRoot → List Opening → Type 0
+AreReached root trail = heads_of root trail ≡ filter (reads_inventory root) (heads_of root trail)
 
 -- from s to t directories of a way were listed in order, with more of it left, and the inventories of some objects, whose heads reach them, were read in order, with more of them left
 pub record Descends (root : StorageRoot) (s t : Store) (way more may left : List Place) (failures : ℕ) : Type 0 where
@@ -70,6 +73,11 @@ pub record Opens (root : StorageRoot) (s t : Store) (o : Place) (r : Result (Opt
       (λ why. DescendFails root s t [] (o ∷ []) why)
 
 -- ---- one name further
+
+-- it was not listed since it cannot be
+pub record StaysOut (root : StorageRoot) (s t : Store) (d : Place) : Type 0 where
+  pub did : Did s t [] [] 0
+  pub closed : is_listable root d ≡ false
 
 -- whether a name leads on from d: in an object by its table, else unless it is the storage root's extensions
 abbrev pub LeadsOn : StorageRoot → Place → Text → Option Around → Bool → Type 0

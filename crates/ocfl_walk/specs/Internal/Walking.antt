@@ -1,16 +1,20 @@
 -- What a walk does to a store that tells its tree.
-use Rattle.std.specs.Prelude.{◌≡◌, ◌⊎◌, ◌≤◌, [], ◌∷◌, false, Option, Some, None, Result, MatchOption, MatchResult, IfSome, length, ◌<◌, ⊤}
+use Rattle.std.specs.Prelude.{List, ◌≡◌, ◌⊎◌, ◌≤◌, [], ◌∷◌, false, Option, Some, None, Result, MatchOption, MatchResult, IfSome, length, ◌<◌, ⊤}
 use Rattle.ocfl_tree.specs.Place.{Place}
 use Rattle.ocfl_tree.specs.StorageRoot.{StorageRoot}
 use Rattle.ocfl_tree.specs.Store.{Store}
+use Rattle.ocfl_tree.specs.declared.store.Opening.{Opening}
 use Rattle.ocfl_audit.specs.Due.{due}
-use Rattle.ocfl_audit.specs.Between.{IsBeyond}
+use Rattle.ocfl_audit.specs.Between.{IsBeyond, looked_between, read_between}
+use Rattle.ocfl_item.specs.Auditing.{Fails}
+use Rattle.ocfl_item.specs.Looking.{IsFront}
 use Rattle.ocfl_item.specs.Meeting.{IsItemAt}
 use Rattle.ocfl_walk.specs.Ends.{before_end, is_past}
-use Rattle.ocfl_walk.specs.WalkCalls.{FailsOut, FailsTo, Walks, WalksOut}
+use Rattle.ocfl_walk.specs.WalkCalls.{FailsOut, Walks, WalksOut}
 use Rattle.ocfl_item.specs.Pending.{IsPending}
 use Rattle.ocfl_audit.specs.Walk.{seen_names}
-use Rattle.ocfl_walk.specs.Standing.{AreEntries, IsFairPile, left_names, left_of_folder, IsAroundIf, StandsAt, stand_size}
+use Rattle.ocfl_walk.specs.Standing.{AreEntries, StandsAt, stand_size}
+use Rattle.ocfl_walk.specs.Internal.Standing.{IsFairPile, left_names, left_of_folder, IsAroundIf}
 use Rattle.ocfl_item.specs.Around.{IsTableAround}
 use Rattle.ocfl_item.specs.declared.fault.Fault.{Fault}
 use Rattle.ocfl_item.specs.declared.folder.Folder.{Folder}
@@ -50,6 +54,15 @@ pub record IsNext (root : StorageRoot) (last : Option Place) (p : Pending) : Typ
 abbrev pub step_from : Option Pending → Step
 step_from None = step.Nothing
 step_from (Some p) = step.Item p
+
+-- the first of those up to another place, and then there was a fault
+pub record FailsTo (root : StorageRoot) (s t : Store) (from : Option Place) (to : Place) (why : Fault) : Type 0 where
+  pub trail : List Opening
+  pub listed : List Place
+  pub heads : List Place
+  pub fails : Fails root s t [] listed heads trail why
+  pub listed_front : IsFront listed (looked_between root from (Some to))
+  pub heads_front : IsFront heads (read_between root from (Some to))
 
 -- one step to a place
 abbrev pub Steps : StorageRoot → Store → Store → Option Place → Stand → Step → Type 0

@@ -13,7 +13,7 @@ use Rattle.ocfl_inventory.specs.Entries.{meaning, PointsAtOne}
 use Rattle.ocfl_inventory.specs.declared.declaration.Declared.{Declared as MadeDeclared}
 use Rattle.ocfl_inventory.specs.declared.declaration.Level.TheVariants as level
 use Rattle.ocfl_audit.specs.Zone.{hierarchy, inside, zone, is_entered, is_listed_zone, object_declared, root_declared, beginnings, is_declared, max_listed_depth}
-use Rattle.ocfl_audit.specs.Lines.{listed_dir_notes, notes, named_at}
+use Rattle.ocfl_audit.specs.Lines.{listed_dir_notes, notes, named_at, is_hashed}
 use Rattle.ocfl_audit.specs.Between.{is_looked_into}
 use Rattle.ocfl_audit.specs.Walk.{seen_names}
 use Rattle.ocfl_tree.specs.Store.{Store, Did}
@@ -23,8 +23,7 @@ use Rattle.ocfl_audit.specs.Head.{on}
 use Rattle.ocfl_audit.specs.Trail.{content_trail, is_head, heads_of, reads_inventory}
 use Rattle.ocfl_item.specs.Auditing.{FailedAt, IsMetadataRead}
 use Rattle.ocfl_item.specs.Looking.{IsFront, failures_by}
-use Rattle.ocfl_item.specs.Ways.{IsHeadOf}
-use Rattle.ocfl_audit.specs.Lines.{is_hashed}
+use Rattle.ocfl_item.specs.Internal.Ways.{IsHeadOf}
 use Rattle.ocfl_item.specs.Meeting.{IsVisit}
 use Rattle.ocfl_item.specs.declared.fault.Fault.{Fault}
 use Rattle.ocfl_item.specs.declared.lines.PlaceLines.{PlaceLines}

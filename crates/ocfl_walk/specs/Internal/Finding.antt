@@ -9,7 +9,7 @@ use Rattle.ocfl_audit.specs.Trail.{content_trail, heads_of}
 use Rattle.ocfl_item.specs.Looking.{IsFront, failures_by}
 use Rattle.ocfl_item.specs.Auditing.{FailedAt, IsMetadataRead}
 use Rattle.ocfl_item.specs.Meeting.{IsItemAt}
-use Rattle.ocfl_item.specs.Ways.{AreReached}
+use Rattle.ocfl_walk.specs.Internal.Entering.{AreReached}
 use Rattle.ocfl_item.specs.declared.fault.Fault.{Fault}
 use Rattle.ocfl_item.specs.declared.fault.Fault.TheVariants as fault
 use Rattle.ocfl_item.specs.declared.pending.Pending.{Pending}

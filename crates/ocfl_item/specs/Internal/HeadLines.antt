@@ -9,7 +9,7 @@ use Rattle.ocfl_digest.specs.declared.algorithm.Algorithm.{Algorithm}
 use Rattle.ocfl_digest.specs.declared.algorithm.Algorithm.TheVariants.{Sha256, Sha512}
 use Rattle.ocfl_digest.specs.declared.bounded.Bounded.{Bounded}
 use Rattle.ocfl_digest.specs.declared.digests.Digests.{Digests}
-use Rattle.ocfl_item.specs.HeadFiles.{IsFileAt}
+use Rattle.ocfl_item.specs.Internal.HeadFiles.{IsFileAt}
 use Rattle.ocfl_item.specs.declared.head_lines.Sidecars.{Sidecars}
 use Rattle.ocfl_inventory.specs.Declaration.{Declared}
 use Rattle.ocfl_inventory.specs.Sidecar.{side_limit}

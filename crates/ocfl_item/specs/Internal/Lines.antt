@@ -1,0 +1,36 @@
+-- The lines of one place, as they are gathered.
+use Rattle.std.specs.Prelude.{List, Bool, false, Option, Some, None, map, codes, ◌≡◌, ◌≢◌, [], ◌++◌}
+use Rattle.std.specs.Ordering.{is_eq}
+use Rattle.ocfl_tree.specs.StorageRoot.{StorageRoot}
+use Rattle.ocfl_report.specs.Line.{line_of}
+use Rattle.ocfl_inventory.specs.Note.{note, Note, lines_at}
+use Rattle.ocfl_digest.specs.Algorithm.{algorithm_name}
+use Rattle.ocfl_inventory.specs.Table.{Named}
+use Rattle.ocfl_item.specs.declared.lines.PlaceLines.{PlaceLines}
+use Rattle.ocfl_audit.specs.Lines.{notes, named_at, block_cmp, block_code}
+
+-- these are the lines
+abbrev pub HasLines : PlaceLines → List Note → Type 0
+HasLines l ns = map line_of l.lines.items ≡ lines_at l.place ns
+
+-- behind the old lines stand these, of the same place
+abbrev pub Adds : PlaceLines → PlaceLines → List Note → Type 0
+Adds old new ns = (new.place ≡ old.place) × (map line_of new.lines.items ≡ map line_of old.lines.items ++ lines_at old.place ns)
+
+-- the lines of a place at which no file is hashed and for which no digest is named
+pub record IsUnhashed (root : StorageRoot) (l : PlaceLines) : Type 0 where
+  pub some : notes root None l.place ≢ []
+  pub named : named_at root l.place ≡ []
+  pub lines : HasLines l (notes root None l.place)
+
+-- the line for one block and algorithm whose file is missing
+abbrev pub missing_note : Named → Note
+missing_note n = note (block_code n) (algorithm_name n.algorithm ++ codes " missing")
+
+abbrev pub is_same_block : Named → Named → Bool
+is_same_block a b = is_eq (block_cmp a b)
+
+-- whether the one before is of the same block and algorithm
+abbrev pub is_repeated : Option Named → Named → Bool
+is_repeated None n = false
+is_repeated (Some before) n = is_same_block before n

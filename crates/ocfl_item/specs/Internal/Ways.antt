@@ -1,0 +1,101 @@
+-- What reading an object's own files did, and what is known of an object whose declarations were read.
+use Rattle.std.specs.Prelude.{List, Bool, true, false, Option, Some, None, Result, MatchResult, AllPairs, ◌≡◌, ◌≢◌, []}
+use Rattle.std.specs.List.{list_all}
+use Rattle.ocfl_tree.specs.Place.{Place}
+use Rattle.ocfl_tree.specs.StorageRoot.{StorageRoot}
+use Rattle.ocfl_tree.specs.Store.{Store, Did}
+use Rattle.ocfl_tree.specs.Listing.{IsListing}
+use Rattle.ocfl_tree.specs.declared.store.Entry.{Entry}
+use Rattle.ocfl_tree.specs.declared.store.Kind.{Kind}
+use Rattle.ocfl_tree.specs.declared.store.Opening.{Opening}
+use Rattle.ocfl_tree.specs.declared.store.Trouble.{Trouble}
+use Rattle.ocfl_inventory.specs.Entries.{meaning, PointsAtOne}
+use Rattle.ocfl_inventory.specs.declared.declaration.Declared.{Declared as MadeDeclared}
+use Rattle.ocfl_inventory.specs.Table.{Table}
+use Rattle.ocfl_audit.specs.Zone.{inside, zone, is_entered, object_declared, table_at, beginnings}
+use Rattle.ocfl_audit.specs.Lines.{notes}
+use Rattle.ocfl_audit.specs.Head.{on}
+use Rattle.ocfl_audit.specs.Trail.{content_trail, heads_of, reads_inventory}
+use Rattle.ocfl_item.specs.Looking.{IsFront}
+use Rattle.ocfl_item.specs.Auditing.{IsMetadataRead}
+use Rattle.ocfl_item.specs.Internal.Lines.{HasLines}
+use Rattle.ocfl_item.specs.declared.fault.Fault.{Fault}
+use Rattle.ocfl_item.specs.declared.lines.PlaceLines.{PlaceLines}
+use Rattle.ocfl_item.specs.declared.folder.Head.{Head}
+use Rattle.ocfl_item.specs.Ways.{Stops, is_listable, AreInventories, IsAt}
+use Rattle.ocfl_tree.specs.declared.store.Kind.TheVariants as kind
+use Rattle.ocfl_tree.specs.declared.store.Trouble.TheVariants as trouble
+use Rattle.ocfl_inventory.specs.declared.declaration.Level.TheVariants as level
+use Rattle.ocfl_inventory.specs.declared.declaration.Declared.TheVariants as made
+use Rattle.ocfl_item.specs.declared.fault.Fault.TheVariants as fault
+use Rattle.ocfl_item.specs.declared.folder.Head.TheVariants as head
+
+-- the fault where a store did not answer at a place
+abbrev pub fault_by : Place → Trouble → Fault
+fault_by p trouble.Device = fault.Store p
+fault_by p trouble.Absent = fault.Store p
+fault_by p trouble.Memory = fault.Memory
+
+-- openings of metadata, each file once
+pub record AreMeta (root : StorageRoot) (trail : List Opening) : Type 0 where
+  pub meta : content_trail root trail ≡ []
+  pub once : AllPairs (λ a b. a.place ≢ b.place) trail
+
+pub record SeekStops (root : StorageRoot) (s t : Store) (way : List Place) (why : Fault) : Type 0 where
+  pub trail : List Opening
+  pub stops : Stops root s t way trail why
+  pub meta : AreMeta root trail
+
+-- from s to t metadata was read, and nothing was listed
+pub record ReadsMeta (root : StorageRoot) (s t : Store) : Type 0 where
+  pub over : s.tree ≡ root
+  pub trail : List Opening
+  pub did : Did s t trail [] 0
+  pub read : IsMetadataRead root trail
+  pub meta : AreMeta root trail
+
+-- and of inventories at most that of o, where its head reaches it
+pub record Opens (root : StorageRoot) (s t : Store) (o : Place) : Type 0 where
+  pub reads : ReadsMeta root s t
+  pub heads : IsFront (heads_of root reads.trail) (on (reads_inventory root o) o)
+
+-- and then there was a fault
+pub record OpensStop (root : StorageRoot) (s t : Store) (o : Place) (why : Fault) : Type 0 where
+  pub stops : SeekStops root s t [] why
+  pub heads : IsFront (heads_of root stops.trail) (on (reads_inventory root o) o)
+
+abbrev pub is_file_kind : Option Kind → Bool
+is_file_kind None = false
+is_file_kind (Some kind.File) = true
+is_file_kind (Some kind.Dir) = false
+is_file_kind (Some kind.Other) = false
+
+-- an object's table, with its inventory read for it, and no other file
+pub record ReadsTable (root : StorageRoot) (s t : Store) (o : Place) (r : Result (Option Table) Fault) : Type 0 where
+  pub gives : MatchResult r (λ table. (opens : Opens root s t o) × (table ≡ table_at root o) × AreInventories root opens.reads.trail) (λ why. (stop : OpensStop root s t o why) × AreInventories root stop.stops.trail)
+
+-- the lines of an object's head, and its table
+abbrev pub IsHeadOf : StorageRoot → Place → PlaceLines × Option Table → Type 0
+IsHeadOf root o p = HasLines p.0 (notes root None o) × (p.1 ≡ table_at root o)
+
+-- no declaration, a known version, or a declaration at which the head stops
+abbrev pub head_by : MadeDeclared → Head
+head_by made.None = head.Undeclared
+head_by (made.One v) = head.Known
+head_by (made.Unknown i) = head.Stops
+head_by made.Several = head.Stops
+
+-- an object, and what its declarations were read to be
+pub record IsDeclared (root : StorageRoot) (o : Place) (es : List Entry) (d : MadeDeclared) : Type 0 where
+  pub listing : IsListing root o es
+  pub way : list_all (is_entered root) (beginnings o) ≡ true
+  pub listable : is_listable root o ≡ true
+  pub zone : zone root o ≡ inside o []
+  pub says : meaning level.Object es d ≡ object_declared root o
+  pub points : PointsAtOne level.Object es d
+
+-- an object whose head does not stop
+pub record IsOpenObject (root : StorageRoot) (o : Place) (es : List Entry) (t : Table) : Type 0 where
+  pub here : IsAt root o es
+  pub zone : zone root o ≡ inside o []
+  pub table : table_at root o ≡ Some t

@@ -154,15 +154,6 @@ module _ (root : StorageRoot) (o : Place) where
     opened = places_then h.trail k.trail ∙ (λ i. h.opened i ++ k.opened i) ∙ sym (there_then ns ms);
   }
 
-  pub some_then : (s t u : Store) (ns ms : List Text) → ReadsFiles root s t o ns → ReadsSome root t u o ms → ReadsSome root s u o (ns ++ ms)
-  some_then s t u ns ms h k = record {
-    over = h.over;
-    trail = h.trail ++ k.trail;
-    did = did_then s t u h.trail k.trail [] [] 0 h.did k.did;
-    read = read_behind root h.trail k.trail h.read k.read;
-    opened = joined h.trail k.trail ns ms h.opened k.opened;
-  }
-
   abbrev pub some_of : (s t : Store) (ns : List Text) → ReadsFiles root s t o ns → ReadsSome root s t o ns
   some_of s t ns h = record { over = h.over; trail = h.trail; did = h.did; read = h.read; opened = whole_front h.trail ns h.opened }
 

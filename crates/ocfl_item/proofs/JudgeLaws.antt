@@ -1,6 +1,7 @@
 -- What judging one item does to a store that tells its tree.
 use Rattle.std.proofs.Common.{◌≡◌, ◌≢◌, ℕ, ◌+◌, ◌<◌, ◌≤◌, ◌^◌, List, [], ◌∷◌, ◌++◌, length, cond, map, filter, refl, sym, ◌∙◌, ap, subst, true, false, Bool, Option, Some, None, not, arith}
-use Rattle.std.specs.Prelude.{option_and_then}
+use Rattle.std.specs.Prelude.{option_and_then, max, IfErr, IfOk, MatchResult, Result, Ok, Err, Vec}
+use Rattle.std.specs.declared.alloc.Global.{Global}
 use Rattle.ocfl_tree.specs.Place.{Place, Text}
 use Rattle.ocfl_tree.specs.Ascending.{IsAmong}
 use Rattle.ocfl_tree.specs.StorageRoot.{StorageRoot, file_at, bytes_of}
@@ -15,6 +16,7 @@ use Rattle.ocfl_digest.specs.Digest.{digest_bytes_of}
 use Rattle.ocfl_digest.specs.Hashing.{HashesFile, StopsHashing, StopFits, stop_trail, stop_failures}
 use Rattle.ocfl_digest.specs.declared.digests.Digests.{Digests}
 use Rattle.ocfl_digest.specs.declared.stop.Cause.{Cause}
+use Rattle.ocfl_digest.specs.declared.stop.ReadStop.{ReadStop}
 use Rattle.ocfl_digest.specs.declared.stop.Cause.TheVariants.{Device, Absent, Memory, TooLong}
 use Rattle.ocfl_digest.specs.declared.wanted.Wanted.{Wanted}
 use Rattle.ocfl_inventory.specs.Table.{Named}
@@ -22,7 +24,7 @@ use Rattle.ocfl_inventory.specs.TripleView.{named_view}
 use Rattle.ocfl_inventory.specs.declared.triple.Named.{Named as MadeNamed}
 use Rattle.ocfl_audit.specs.Audit.{given_by}
 use Rattle.ocfl_audit.specs.Due.{items_at, hashed_among}
-use Rattle.ocfl_item.specs.Internal.FileLines.{HasDigests}
+use Rattle.ocfl_item.specs.Internal.FileLines.{HasDigests, given_in}
 use Rattle.ocfl_item.specs.Judging.{HasShortFiles, Judges, JudgeFails}
 use Rattle.ocfl_audit.specs.Lines.{notes, named_at, is_hashed, cost, file_notes, or_bytes, unnamed_notes, wrong_notes}
 use Rattle.ocfl_item.specs.Pending.{IsPending}
@@ -34,6 +36,7 @@ use Rattle.ocfl_item.proofs.ContentLaws.{IsHashedFile, hashed_file, unhashed_cos
 use Rattle.ocfl_audit.proofs.PathLaws.{hashed_no_meta, hashed_path}
 use Rattle.ocfl_item.specs.Auditing.{IsMetadataRead}
 use Rattle.ocfl_item.proofs.AuditingLaws.{did_nothing}
+use Rattle.ocfl_item.specs.declared.fault.Fault.{Fault}
 use Rattle.ocfl_item.specs.declared.fault.Fault.TheVariants as fault
 use Rattle.ocfl_item.proofs.WantedLaws.{AreWanted}
 
@@ -206,9 +209,57 @@ module _ (root : StorageRoot) (s t : Store) (made : Pending) (over : s.tree ≡ 
       (ap (lines_at made.place) (f.lines (Some n) ∙ file_part f.bytes (named_at root made.place) n f.digests ∙ ap (λ xs. unnamed_notes xs ++ plain S08 ∷ []) (sym names)) ∙ sym are)
       (f.part n)
 
--- where memory was refused the file was not opened
-pub refused : (root : StorageRoot) (s t : Store) (p : Place) (n : ℕ) (cause : Cause) → s.tree ≡ root → StopsHashing root s t p n cause → cause ≡ Memory → JudgeFails root s t p
-refused root s t p n cause over stops e = by (subst (StopsHashing root s t p n) e stops)
-  where
-    by : StopsHashing root s t p n Memory → JudgeFails root s t p
-    by h = nothing_judged root s t p over h.did
+  -- where memory was refused the file was not opened
+  refused : (n : ℕ) → StopsHashing root s t made.place n Memory → JudgeFails root s t made.place
+  refused n h = nothing_judged root s t made.place over h.did
+
+-- ---- by what came of reading the file
+
+-- what a reading did
+abbrev Read : StorageRoot → Store → Store → Place → Wanted → Result (Digests × ℕ) ReadStop → Type 0
+Read root s t p w read = MatchResult read (λ hashed. HashesFile root s t p w hashed.0 hashed.1) (λ stop. StopsHashing root s t p stop.bytes stop.cause)
+
+pub read_closed : (root : StorageRoot) (s t : Store) (p : Place) (w : Wanted) (read : Result (Digests × ℕ) ReadStop) → Read root s t p w read → t.rest ≡ None
+read_closed root s t p w (Ok hashed) h = h.closed
+read_closed root s t p w (Err stop) h = h.closed
+
+pub read_largest : (root : StorageRoot) (s t : Store) (p : Place) (w : Wanted) (read : Result (Digests × ℕ) ReadStop) → Read root s t p w read → t.largest ≤ max s.largest 65536
+read_largest root s t p w (Ok hashed) h = let e = h.largest in omega (arith, e)
+read_largest root s t p w (Err stop) h = h.largest
+
+-- what memory refuses is not opened, and all else is the device's
+by_cause : {X : Type 0} (cause : Cause) → (cause ≡ Memory → X) → (cause ≢ Memory → X) → X
+by_cause Device k l = l (λ e. cc)
+by_cause Absent k l = l (λ e. cc)
+by_cause Memory k l = k refl
+by_cause TooLong k l = l (λ e. cc)
+
+abbrev Made : Type 0
+Made = Vec MadeLine Global × ℕ
+
+module _ (root : StorageRoot) (s t : Store) (made : Pending) (over : s.tree ≡ root) (pending : IsPending root made) (hashed : made.hashed ≡ true) (short : HasShortFiles root) (w : Wanted) (wanted : AreWanted w (map (λ m. m.algorithm) made.named.items)) where
+  abbrev names : List Named
+  names = map named_view made.named.items
+
+  abbrev IsJudged : Result Made Fault → Type 0
+  IsJudged r = MatchResult r (λ j. Judges root s t made.place j.0.items j.1) (λ why. JudgeFails root s t made.place)
+
+  whole_is : (read : Digests × ℕ) (r : Result Made Fault) → HashesFile root s t made.place w read.0 read.1 → IfOk r (λ j. j.1 ≡ read.1 + 1)
+      → ((bytes : Text) → HasDigests (map (λ m. m.algorithm) made.named.items) bytes read.0 → read.1 ≡ length bytes → IfOk r (λ j. map line_of j.0.items ≡ lines_at made.place (or_bytes bytes (unnamed_notes names ++ wrong_notes bytes names)))) → IsJudged r
+  whole_is read (Ok j) h cost are = subst (Judges root s t made.place j.0.items) (sym cost) (judged_whole root s t made over pending hashed w read.0 read.1 made.named.items j.0.items refl wanted h are)
+  whole_is read (Err why) h cost are = failed_whole root s t made over pending hashed w read.0 read.1 h
+
+  part_is : (stop : ReadStop) (r : Result Made Fault) → StopsHashing root s t made.place stop.bytes stop.cause → IfOk r (λ j. j.1 ≡ stop.bytes + 1) → (stop.cause ≡ Memory → IfOk r (λ j. ⊥))
+      → (stop.cause ≢ Memory → IfOk r (λ j. map line_of j.0.items ≡ lines_at made.place (unnamed_notes names ++ plain S08 ∷ []))) → IsJudged r
+  part_is stop (Ok j) h cost none are =
+      by_cause stop.cause (λ e. absurd (none e))
+      (λ kept. subst (Judges root s t made.place j.0.items) (sym cost) (judged_part root s t made over pending hashed short stop.bytes stop.cause made.named.items j.0.items refl h kept (are kept)))
+  part_is stop (Err why) h cost none are =
+      by_cause stop.cause (λ e. refused root s t made over pending hashed stop.bytes (subst (StopsHashing root s t made.place stop.bytes) e h))
+      (λ kept. failed_part root s t made over pending hashed short stop.bytes stop.cause h kept)
+
+  pub judged_is : (read : Result (Digests × ℕ) ReadStop) (r : Result Made Fault) → Read root s t made.place w read → IfOk r (λ j. j.1 ≡ given_in read + 1) → IfErr read (λ stop. stop.cause ≡ Memory → IfOk r (λ j. ⊥))
+      → IfOk read (λ h. (bytes : Text) → HasDigests (map (λ m. m.algorithm) made.named.items) bytes h.0 → h.1 ≡ length bytes → IfOk r (λ j. map line_of j.0.items ≡ lines_at made.place (or_bytes bytes (unnamed_notes names ++ wrong_notes bytes names))))
+      → IfErr read (λ stop. stop.cause ≢ Memory → IfOk r (λ j. map line_of j.0.items ≡ lines_at made.place (unnamed_notes names ++ plain S08 ∷ []))) → IsJudged r
+  judged_is (Ok h) r did cost none whole part = whole_is h r did cost whole
+  judged_is (Err stop) r did cost none whole part = part_is stop r did cost none part

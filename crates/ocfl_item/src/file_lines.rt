@@ -99,37 +99,17 @@ fn add_each_wrong(
     Ok(())
 }
 
-/// Appends the line of a clean file, of so many bytes, where there is no line.
-fn add_clean_file(alloc: Global, lines: &mut PlaceLines, count: u64) -> Result<(), AllocError>
-    ensures place { OnOk result (lines.new.place ≡ lines.old.place) }
-    ensures lines { (bytes : Text) (ns : List Note) → count ≡ length bytes → HasLines lines.old ns
-        → OnOk result (HasLines lines.new (or_bytes bytes ns)) }
+/// The lines, or, where there are none, that of a clean file of so many bytes.
+fn or_clean_file(alloc: Global, lines: PlaceLines, count: u64) -> Result<Vec<Line>, AllocError>
+    ensures { (bytes : Text) (ns : List Note) → count ≡ length bytes → HasLines lines ns
+        → IfOk result (λ made. map line_of made.items
+        ≡ lines_at lines.place (or_bytes bytes ns)) }
 {
     if !lines.lines.is_empty() {
-        return Ok(());
+        return Ok(lines.lines);
     }
     let detail = count.to_string(alloc)?;
-    lines.add(Code::Clean, detail)
-}
-
-/// Appends the lines of a content file that was read to its end, if it has no line yet.
-fn add_hashed(
-    alloc: Global,
-    lines: &mut PlaceLines,
-    named: &[Named],
-    digests: &Digests,
-    count: u64,
-) -> Result<(), AllocError>
-    ensures { (bytes : Text) → HasDigests (map (λ n. n.algorithm) named.now) bytes digests.now
-        → count ≡ length bytes → HasLines lines.old []
-        → OnOk result ((lines.new.place ≡ lines.old.place)
-        × HasLines lines.new (or_bytes bytes
-        (unnamed_notes (map named_view named.now)
-        ++ wrong_notes bytes (map named_view named.now)))) }
-{
-    add_unnamed(lines, named)?;
-    add_each_wrong(alloc, lines, named, digests)?;
-    add_clean_file(alloc, lines, count)
+    lines.with_last(Code::Clean, detail)
 }
 
 /// The lines of a content file that was read to its end: its digests, and how many bytes it has.
@@ -148,8 +128,9 @@ pub(crate) fn hashed_lines(
         ++ wrong_notes bytes (map named_view named.now)))) }
 {
     let mut lines = PlaceLines::new(alloc, place);
-    add_hashed(alloc, &mut lines, named, digests, count)?;
-    Ok(lines.lines)
+    add_unnamed(&mut lines, named)?;
+    add_each_wrong(alloc, &mut lines, named, digests)?;
+    or_clean_file(alloc, lines, count)
 }
 
 /// The lines of a content file that could not be read.
@@ -163,6 +144,6 @@ pub(crate) fn unread_lines(
 {
     let mut lines = PlaceLines::new(alloc, place);
     add_unnamed(&mut lines, named)?;
-    lines.add_plain(Code::S08)?;
-    Ok(lines.lines)
+    let detail = String::from_str(alloc, "-")?;
+    lines.with_last(Code::S08, detail)
 }

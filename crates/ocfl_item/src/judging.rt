@@ -1,7 +1,13 @@
 //! Judging an item: its lines and its cost.
-ghost use Rattle.std.specs.Prelude.{◌≡◌, ◌≤◌, IfErr, IfOk, IsTrue, MatchResult, None, false, max};
-ghost use Rattle.std.specs.Prelude.{true};
+ghost use Rattle.std.specs.Prelude.{◌≡◌, ◌≢◌, ◌≤◌, ◌<◌, ◌+◌, ◌^◌, ◌++◌, ◌∷◌, [], IfErr, IfOk};
+ghost use Rattle.std.specs.Prelude.{IsTrue, MatchResult, None, false, length, map, max, true};
+ghost use Rattle.ocfl_tree.specs.Place.{Text};
 ghost use Rattle.ocfl_tree.specs.StorageRoot.{StorageRoot};
+ghost use Rattle.ocfl_report.specs.Line.{line_of};
+ghost use Rattle.ocfl_inventory.specs.Note.{lines_at, plain};
+ghost use Rattle.ocfl_inventory.specs.TripleView.{named_view};
+ghost use Rattle.ocfl_audit.specs.Lines.{or_bytes, unnamed_notes, wrong_notes};
+ghost use Rattle.ocfl_item.specs.Internal.FileLines.{HasDigests, given_in};
 ghost use Rattle.ocfl_item.specs.Judging.{CostFits, HasShortFiles, JudgeFails, Judges};
 ghost use Rattle.ocfl_item.specs.Pending.{IsPending};
 ghost use Rattle.ocfl_tree.specs.Store.{IfTold};
@@ -9,10 +15,46 @@ ghost use Rattle.ocfl_tree.specs.Store.{IfTold};
 use crate::fault::Fault;
 use crate::file_lines::{hashed_lines, unread_lines};
 use crate::pending::Pending;
-use ocfl_digest::{Block, Cause, hash_open};
-use ocfl_report::Line;
+use ocfl_digest::{Block, Cause, Digests, ReadStop, hash_open};
+use ocfl_report::{Code, Line};
 use ocfl_tree::Tree;
 use std::alloc::Global;
+
+/// The lines of an item whose file was read, and its cost, by what came of that.
+fn judged(
+    alloc: Global,
+    pending: Pending,
+    read: Result<(Digests, u64), ReadStop>,
+) -> Result<(Vec<Line>, u64), Fault>
+    requires short { IfOk read (λ hashed. hashed.1 < 2 ^ 62) }
+    requires given { IfErr read (λ stop. stop.bytes ≤ 2 ^ 62) }
+    ensures cost { IfOk result (λ judged. judged.1 ≡ given_in read + 1) }
+    ensures only { IfErr result (λ why. why ≡ Fault.Memory) }
+    ensures refused { IfErr read (λ stop. stop.cause ≡ Cause.Memory → IfOk result (λ _. ⊥)) }
+    ensures whole { IfOk read (λ hashed. (bytes : Text)
+        → HasDigests (map (λ n. n.algorithm) pending.named.items) bytes hashed.0
+        → hashed.1 ≡ length bytes
+        → IfOk result (λ judged. map line_of judged.0.items
+        ≡ lines_at pending.place (or_bytes bytes
+        (unnamed_notes (map named_view pending.named.items)
+        ++ wrong_notes bytes (map named_view pending.named.items))))) }
+    ensures part { IfErr read (λ stop. stop.cause ≢ Cause.Memory
+        → IfOk result (λ judged. map line_of judged.0.items
+        ≡ lines_at pending.place (unnamed_notes (map named_view pending.named.items)
+        ++ plain Code.S08 ∷ []))) }
+{
+    match read {
+        Ok((digests, count)) => {
+            let lines = hashed_lines(alloc, pending.place, &pending.named, &digests, count)?;
+            Ok((lines, count + 1))
+        }
+        Err(stop) if stop.cause == Cause::Memory => Err(Fault::Memory),
+        Err(stop) => {
+            let lines = unread_lines(alloc, pending.place, &pending.named)?;
+            Ok((lines, stop.bytes + 1))
+        }
+    }
+}
 
 /// The lines of an item, and its cost. An item is judged once, so it is handed over.
 ///
@@ -43,15 +85,6 @@ pub fn judge<T: Tree>(
     if !pending.hashed {
         return Ok((pending.lines, 0));
     }
-    match hash_open(store, &pending.place, pending.wanted(), block) {
-        Ok((digests, count)) => {
-            let lines = hashed_lines(alloc, pending.place, &pending.named, &digests, count)?;
-            Ok((lines, count + 1))
-        }
-        Err(stop) if stop.cause == Cause::Memory => Err(Fault::Memory),
-        Err(stop) => {
-            let lines = unread_lines(alloc, pending.place, &pending.named)?;
-            Ok((lines, stop.bytes + 1))
-        }
-    }
+    let read = hash_open(store, &pending.place, pending.wanted(), block);
+    judged(alloc, pending, read)
 }

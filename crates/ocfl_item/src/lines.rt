@@ -1,7 +1,8 @@
 //! The lines of one place, as they are gathered.
-ghost use Rattle.std.specs.Prelude.{◌≡◌, ◌∷◌, [], IfOk, OnOk, string_bytes};
+ghost use Rattle.std.specs.Prelude.{◌≡◌, ◌++◌, ◌∷◌, [], IfOk, List, OnOk, map, string_bytes};
 ghost use Rattle.hex.specs.Hex.{encode_lower};
-ghost use Rattle.ocfl_inventory.specs.Note.{note, plain};
+ghost use Rattle.ocfl_report.specs.Line.{line_of};
+ghost use Rattle.ocfl_inventory.specs.Note.{Note, lines_at, note, plain};
 ghost use Rattle.ocfl_inventory.specs.TripleView.{named_view};
 ghost use Rattle.ocfl_audit.specs.Head.{mismatch};
 ghost use Rattle.ocfl_audit.specs.Lines.{block_code};
@@ -53,6 +54,21 @@ impl PlaceLines {
             detail,
         })?;
         Ok(())
+    }
+
+    /// The lines with one more behind them, the last, which takes the place.
+    pub(crate) fn with_last(self, code: Code, detail: String) -> Result<Vec<Line>, AllocError>
+        ensures { (ns : List Note) → HasLines self ns
+            → IfOk result (λ lines. map line_of lines.items
+            ≡ lines_at self.place (ns ++ note code (string_bytes detail) ∷ [])) }
+    {
+        let PlaceLines { place, mut lines } = self;
+        lines.push(Line {
+            code,
+            place,
+            detail,
+        })?;
+        Ok(lines)
     }
 
     /// Appends a line whose detail is a dash.

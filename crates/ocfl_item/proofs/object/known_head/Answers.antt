@@ -4,49 +4,28 @@ use Rattle.ocfl_item.proofs.HeadCalls.{known_lines, known_table}
 use Rattle.ocfl_item.proofs.HeadOpens.{declaration_stops, head_memory, head_opened, inventory_stops, none_memory}
 use Rattle.ocfl_item.proofs.object.known_head.Goals as goal
 
-pub returns-in_err-try_clone : goal.returns-in_err-try_clone
-returns-in_err-try_clone g c =
+pub returns-in_err-try_clone-clause-opened : goal.returns-in_err-try_clone-clause-opened
+returns-in_err-try_clone-clause-opened g c = λ h root over here.
     let p = err_from_is_err_and c.from_residual.result c.from_residual.ensures.1 in
-    rw (p.1, p.2) (record { only = (λ e. cc, λ e. cc); fit = tt; place = tt; told = λ h root over here known. tt; opened = λ h root over here. none_memory root _ _ _ over })
+    rw (p.1, p.2) (none_memory root _ _ _ over)
 
-pub returns-in_err-add_declaration_file : goal.returns-in_err-add_declaration_file
-returns-in_err-add_declaration_file g c =
+pub returns-in_err-add_declaration_file-clause-opened :
+    goal.returns-in_err-add_declaration_file-clause-opened
+returns-in_err-add_declaration_file-clause-opened g c = λ h root over here.
     let p = err_from_is_err_and c.from_residual-in_err-add_declaration_file.result c.from_residual-in_err-add_declaration_file.ensures.1 in
-    let stop = c.in_err-add_declaration_file.ensures in
-    rw (p.1, p.2) (record {
-      only = stop.only;
-      fit = tt;
-      place = tt;
-      told = λ h root over here known. tt;
-      opened = λ h root over here. declaration_stops root _ _ _ c.args.version _ (stop.told h root over here.listing here.zone);
-    })
+    rw (p.1, p.2) (declaration_stops root _ _ _ c.args.version _ (c.in_err-add_declaration_file.ensures.told h root over here.listing here.zone))
 
-pub returns-in_err-table : goal.returns-in_err-table
-returns-in_err-table g c =
+pub returns-in_err-table-clause-opened : goal.returns-in_err-table-clause-opened
+returns-in_err-table-clause-opened g c = λ h root over here.
     let p = err_from_is_err_and c.from_residual-in_err-table.result c.from_residual-in_err-table.ensures.1 in
-    let stop = c.in_err-table.ensures in
-    rw (p.1, p.2) (record {
-      only = stop.only;
-      fit = tt;
-      place = tt;
-      told = λ h root over here known. tt;
-      opened = λ h root over here.
-          let read = c.in_ok-add_declaration_file.ensures.told h root over here.listing here.zone in
-          inventory_stops root _ _ _ _ c.args.version _ read.0 (stop.opened h root (read.0.did.tree ∙ read.0.over) here.listing here.zone);
-    })
+    let read = c.in_ok-add_declaration_file.ensures.told h root over here.listing here.zone in
+    rw (p.1, p.2) (inventory_stops root _ _ _ _ c.args.version _ read.0 (c.in_err-table.ensures.opened h root (read.0.did.tree ∙ read.0.over) here.listing here.zone))
 
-pub returns-in_err-add_clean : goal.returns-in_err-add_clean
-returns-in_err-add_clean g c =
+pub returns-in_err-add_clean-clause-opened : goal.returns-in_err-add_clean-clause-opened
+returns-in_err-add_clean-clause-opened g c = λ h root over here.
     let p = err_from_is_err_and c.from_residual-in_err-add_clean.result c.from_residual-in_err-add_clean.ensures.1 in
-    rw (p.1, p.2) (record {
-      only = (λ e. cc, λ e. cc);
-      fit = tt;
-      place = tt;
-      told = λ h root over here known. tt;
-      opened = λ h root over here.
-          let read = c.in_ok-add_declaration_file.ensures.told h root over here.listing here.zone in
-          head_memory root _ _ _ _ c.args.version read.0 (c.in_ok-table.ensures.opened h root (read.0.did.tree ∙ read.0.over) here.listing here.zone);
-    })
+    let read = c.in_ok-add_declaration_file.ensures.told h root over here.listing here.zone in
+    rw (p.1, p.2) (head_memory root _ _ _ _ c.args.version read.0 (c.in_ok-table.ensures.opened h root (read.0.did.tree ∙ read.0.over) here.listing here.zone))
 
 pub returns : goal.returns
 returns g c = record {

@@ -1,9 +1,11 @@
 -- The object that holds a place, and an entry that is met in it.
-use Rattle.std.specs.Prelude.{◌≡◌, [], ◌∷◌, ◌++◌, true, Option, Some, None}
+use Rattle.std.specs.Prelude.{◌≡◌, [], ◌∷◌, ◌++◌, true, Option, Some, None, drop, length}
 use Rattle.ocfl_tree.specs.Place.{Place}
+use Rattle.ocfl_tree.specs.Ascending.{IsAmong}
 use Rattle.ocfl_tree.specs.StorageRoot.{StorageRoot}
 use Rattle.ocfl_tree.specs.Listing.{kind_at}
 use Rattle.ocfl_tree.specs.declared.store.Entry.{Entry}
+use Rattle.ocfl_inventory.specs.Table.{paths_of}
 use Rattle.ocfl_audit.specs.Zone.{hierarchy, inside, zone, table_at}
 use Rattle.ocfl_audit.specs.Walk.{is_reached}
 use Rattle.ocfl_item.specs.declared.meeting.Around.{Around}
@@ -24,3 +26,8 @@ pub record IsMet (root : StorageRoot) (d : Place) (around : Option Around) (entr
   pub reached : is_reached root d ≡ true
   pub part : IsPart root d around
   pub kind : kind_at root d entry.name ≡ Some entry.kind
+
+-- the table of the object that holds a place names it
+abbrev pub IsNamedIn : Place → Option Around → Type 0
+IsNamedIn p None = ⊥
+IsNamedIn p (Some a) = IsAmong (paths_of a.table) (drop (length a.place) p)

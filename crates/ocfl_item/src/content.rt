@@ -1,14 +1,14 @@
 //! What is met in a content directory, by the digests that name it.
-ghost use Rattle.std.specs.Prelude.{◌≡◌, ◌++◌, [], IfOk, IfSome, MatchOption, None, OnOk, Some};
+ghost use Rattle.std.specs.Prelude.{◌≡◌, ◌++◌, [], IfOk, IfSome, OnOk, Some};
 ghost use Rattle.std.specs.Prelude.{map};
 ghost use Rattle.ocfl_tree.specs.Ascending.{IsAscending};
 ghost use Rattle.ocfl_tree.specs.Place.{Place as ModelPlace};
 ghost use Rattle.ocfl_tree.specs.StorageRoot.{StorageRoot};
 ghost use Rattle.ocfl_inventory.specs.Table.{Table, named as digests_of, named_cmp};
 ghost use Rattle.ocfl_inventory.specs.TripleView.{named_view};
-ghost use Rattle.ocfl_audit.specs.Lines.{missing_notes, notes};
+ghost use Rattle.ocfl_audit.specs.Lines.{missing_notes};
 ghost use Rattle.ocfl_item.specs.Internal.Content.{IsSight, content_at, is_read, sight_notes};
-ghost use Rattle.ocfl_item.specs.Pending.{IsPending};
+ghost use Rattle.ocfl_item.specs.Meeting.{IsItemAt};
 ghost use Rattle.ocfl_item.specs.Internal.Lines.{Adds, HasLines};
 
 use crate::lines::PlaceLines;
@@ -73,8 +73,7 @@ pub(crate) fn content_item(
     ensures told { (root : StorageRoot) (t : Table) (q : ModelPlace)
         → content_at root place ≡ Some (t, q)
         → map named_view named.items ≡ digests_of t q → IsSight root place sight
-        → IfOk result (λ item. MatchOption item (notes root None place ≡ [])
-        (λ pending. IsPending root pending × (pending.place ≡ place))) }
+        → IfOk result (λ item. IsItemAt root place item) }
 {
     if is_hashed(&named, sight) {
         return Ok(Some(Pending {
@@ -94,4 +93,20 @@ pub(crate) fn content_item(
         named,
         lines: known.lines,
     }))
+}
+
+/// The same of a place that is kept: it is copied for its item.
+pub(crate) fn content_item_at(
+    alloc: Global,
+    place: &Place,
+    named: Vec<Named>,
+    sight: Sight,
+) -> Result<Option<Pending>, AllocError>
+    ensures place { IfOk result (λ item. IfSome item (λ pending. pending.place ≡ place.now)) }
+    ensures told { (root : StorageRoot) (t : Table) (q : ModelPlace)
+        → content_at root place.now ≡ Some (t, q)
+        → map named_view named.items ≡ digests_of t q → IsSight root place.now sight
+        → IfOk result (λ item. IsItemAt root place.now item) }
+{
+    content_item(alloc, place.try_clone()?, named, sight)
 }

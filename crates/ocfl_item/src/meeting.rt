@@ -5,12 +5,12 @@ ghost use Rattle.ocfl_tree.specs.StorageRoot.{StorageRoot};
 ghost use Rattle.ocfl_inventory.specs.Table.{named as digests_of};
 ghost use Rattle.ocfl_inventory.specs.TripleView.{named_view};
 ghost use Rattle.ocfl_audit.specs.Zone.{seen};
-ghost use Rattle.ocfl_item.specs.Around.{IsMet, IsTableAround};
+ghost use Rattle.ocfl_item.specs.Around.{IsMet, IsNamedIn, IsTableAround};
 ghost use Rattle.ocfl_item.specs.Meeting.{IsFairVisit, IsItemAt, Visits};
 ghost use Rattle.ocfl_item.specs.Ways.{IsWayFault};
 ghost use Rattle.ocfl_tree.specs.Store.{IfTold};
 
-use crate::content::content_item;
+use crate::content::content_item_at;
 use crate::fault::Fault;
 use crate::pending::Pending;
 use crate::role::{role_in_hierarchy, role_in_object, role_in_version};
@@ -74,6 +74,7 @@ pub fn visit_path(
 ) -> Result<Option<Pending>, Fault>
     ensures only { IfErr result (λ why. why ≡ Fault.Memory) }
     ensures fair { IfOk result (λ o. IfSome o (λ p. p.place ≡ place.now)) }
+    ensures named { IfOk result (λ o. IfSome o (λ _. IsNamedIn place.now around.now)) }
     ensures told { (root : StorageRoot) → IsTableAround root place.now around.now
         → seen root place.now ≡ None
         → IfOk result (λ o. IsItemAt root place.now o) }
@@ -85,5 +86,5 @@ pub fn visit_path(
     if named.is_empty() {
         return Ok(None);
     }
-    Ok(content_item(alloc, place.try_clone()?, named, Sight::Nothing)?)
+    Ok(content_item_at(alloc, place, named, Sight::Nothing)?)
 }

@@ -18,7 +18,7 @@ ghost use Rattle.ocfl_item.specs.Internal.Visiting.{HasRole, IsDirectoryAt, IsEn
 ghost use Rattle.ocfl_item.specs.Internal.Visiting.{IsPlainAt, IsUndeclaredAt, VisitsHead};
 ghost use Rattle.ocfl_tree.specs.Store.{IfTold};
 
-use crate::content::content_item;
+use crate::content::{content_item, content_item_at};
 use crate::fault::Fault;
 use crate::folder::{Folder, MAX_LISTED_DEPTH, list};
 use crate::lines::PlaceLines;
@@ -217,7 +217,7 @@ fn visit_content_directory<T: Tree>(
     } else {
         Sight::Dir
     };
-    let item = content_item(alloc, folder.place.try_clone()?, named, sight)?;
+    let item = content_item_at(alloc, &folder.place, named, sight)?;
     Ok(Visit::of_folder(item, folder))
 }
 

@@ -1,11 +1,8 @@
-use Rattle.std.proofs.Common.{◌≡◌, ◌∙◌, None, Some, ap, sym, subst, [], length, drop, map}
+use Rattle.std.proofs.Common.{◌≡◌, ◌∙◌, ap, sym, subst, [], length, drop, map}
 use Rattle.ocfl_inventory.specs.TripleView.{named_view}
-use Rattle.ocfl_audit.specs.Zone.{seen}
 use Rattle.ocfl_item.specs.Around.{IsTableAround}
-use Rattle.ocfl_item.specs.Internal.Content.{content_at}
-use Rattle.ocfl_item.specs.Meeting.{IsItemAt}
 use Rattle.ocfl_item.proofs.LooksEntries.{no_entries, some_entries}
-use Rattle.ocfl_item.proofs.PathItems.{named_around, named_content, some_named, unseen_notes, untabled}
+use Rattle.ocfl_item.proofs.PathItems.{named_around, named_content, named_in_table, some_named, unseen_notes, untabled}
 use Rattle.ocfl_item.proofs.meeting.visit_path.Goals as goal
 
 pub returns-in_default-clause-told : goal.returns-in_default-clause-told
@@ -21,6 +18,12 @@ returns-then-is_empty-clause-told c = λ root h unseen.
     let none : items ≡ [] = no_entries items c.in_ok-named.named.len c.in_ok-named.named.ok.0 (sym c.if-is_empty.true ∙ c.is_empty.ensures) in
     unseen_notes root p unseen (named_around root p a around ∙ sym c.in_ok-named.ensures ∙ ap (map named_view) none)
 
+pub returns-clause-named : goal.returns-clause-named
+returns-clause-named c =
+    let items = c.in_ok-named.named.items in
+    let some = some_named items (some_entries items c.in_ok-named.named.len c.in_ok-named.named.ok.0 (sym c.if-is_empty.false ∙ c.is_empty.ensures)) in
+    named_in_table c.args.place.now c.args.around.now c.in-Some.around c.in-Some.is (λ e. some (c.in_ok-named.ensures ∙ e)) c.in_ok-content_item_at.field-0
+
 pub returns-clause-told : goal.returns-clause-told
 returns-clause-told c = λ root h unseen.
     let p = c.args.place.now in
@@ -29,8 +32,4 @@ returns-clause-told c = λ root h unseen.
     let items = c.in_ok-named.named.items in
     let some = some_named items (some_entries items c.in_ok-named.named.len c.in_ok-named.named.ok.0 (sym c.if-is_empty.false ∙ c.is_empty.ensures)) in
     let content = named_content root p a around (λ e. some (c.in_ok-named.ensures ∙ sym (named_around root p a around) ∙ e)) in
-    let q = drop (length a.place) p in
-    let copy = c.in_ok-try_clone.ensures in
-    let content_there = subst (λ x. content_at root x ≡ Some (a.table, q)) (sym copy) content in
-    let item = c.in_ok-content_item.ensures.told root a.table q content_there c.in_ok-named.ensures (subst (λ x. seen root x ≡ None) (sym copy) unseen) in
-    subst (λ x. IsItemAt root x c.in_ok-content_item.field-0) copy item
+    c.in_ok-content_item_at.ensures.told root a.table (drop (length a.place) p) content c.in_ok-named.ensures unseen

@@ -23,14 +23,6 @@ returns-in_err-item-clause-told g c = λ h root over here t q content digests.
     let p = err_from_is_err_and c.from_residual-in_err-item.result c.from_residual-in_err-item.ensures.1 in
     rw (p.1, p.2) (visits_memory root _ _ e (entered_meets root _ _ e _ _ over inner (looked_listed root e here short) (content_no_head root e (t, q) content)))
 
-pub returns-in_err-try_clone-clause-told : goal.returns-in_err-try_clone-clause-told
-returns-in_err-try_clone-clause-told g c = λ h root over here t q content digests.
-    let e = c.args.place in
-    let short : length e ≤ 127 = search rules in
-    let inner = c.in_ok-folder.ensures.told h root over (listable root e here short) in
-    let p = err_from_is_err_and c.from_residual-in_err-try_clone.result c.from_residual-in_err-try_clone.ensures.1 in
-    rw (p.1, p.2) (visits_memory root _ _ e (entered_meets root _ _ e _ _ over inner (looked_listed root e here short) (content_no_head root e (t, q) content)))
-
 pub returns-clause-told : goal.returns-clause-told
 returns-clause-told g c = λ h root over here t q content digests.
     let e = c.args.place in
@@ -42,10 +34,9 @@ returns-clause-told g c = λ h root over here t q content digests.
       | then-is_empty w ↦ subst (IsSight root e) (sym w.sight-is) (empty_sight root e here f.entries.items short inner.listing (no_entries f.entries.items f.entries.len f.entries.ok.0 (sym w.if-is_empty.true ∙ c.is_empty.ensures)))
       | else-is_empty w ↦ subst (IsSight root e) (sym w.sight-is) (dir_sight root e here f.entries.items short inner.listing (some_entries f.entries.items f.entries.len f.entries.ok.0 (sym w.if-is_empty.false ∙ c.is_empty.ensures)))
     ] in
-    let copy = c.in_ok-try_clone.ensures ∙ inner.is in
-    let item = c.in_ok-item.ensures.told root t q (subst (λ x. content_at root x ≡ Some (t, q)) (sym copy) content) digests (subst (λ x. IsSight root x c.if-is_empty.sight) (sym copy) sight) in
+    let item = c.in_ok-item.ensures.told root t q (subst (λ x. content_at root x ≡ Some (t, q)) (sym inner.is) content) digests (subst (λ x. IsSight root x c.if-is_empty.sight) (sym inner.is) sight) in
     visits_told root _ _ e _ (entered_meets root _ _ e _ _ over inner (looked_listed root e here short) (content_no_head root e (t, q) content))
-    (visit_of_folder root e c.of_folder.result f (subst (IsItemAt root e) (sym c.of_folder.ensures.item) (subst (λ x. IsItemAt root x c.in_ok-item.item) copy item)) c.of_folder.ensures.folder c.of_folder.ensures.table (content_no_head root e (t, q) content) inner.is (reached_here root e here short) inner.listing)
+    (visit_of_folder root e c.of_folder.result f (subst (IsItemAt root e) (sym c.of_folder.ensures.item) (subst (λ x. IsItemAt root x c.in_ok-item.item) inner.is item)) c.of_folder.ensures.folder c.of_folder.ensures.table (content_no_head root e (t, q) content) inner.is (reached_here root e here short) inner.listing)
 
 pub returns-in_err-folder-clause-told : goal.returns-in_err-folder-clause-told
 returns-in_err-folder-clause-told g c = λ h root over here t q content digests.

@@ -2,7 +2,6 @@
 ghost use Rattle.std.specs.Prelude.{◌≡◌, ◌≢◌, ◌≤◌, ◌<◌, ◌+◌, ◌^◌, ◌++◌, ◌∷◌, [], IfErr, IfOk};
 ghost use Rattle.std.specs.Prelude.{IsTrue, MatchResult, None, false, length, map, max, true};
 ghost use Rattle.ocfl_tree.specs.Place.{Text};
-ghost use Rattle.ocfl_tree.specs.StorageRoot.{StorageRoot};
 ghost use Rattle.ocfl_report.specs.Line.{line_of};
 ghost use Rattle.ocfl_inventory.specs.Note.{lines_at, plain};
 ghost use Rattle.ocfl_inventory.specs.TripleView.{named_view};

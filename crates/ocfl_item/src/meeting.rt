@@ -1,5 +1,5 @@
 //! What is met at a place below the storage root, by the part of the root that it lies in.
-ghost use Rattle.std.specs.Prelude.{◌≡◌, None, IsTrue, IfErr, IfOk, IfSome, drop, length, map};
+ghost use Rattle.std.specs.Prelude.{◌≡◌, None, IfErr, IfOk, IfSome, drop, length, map};
 ghost use Rattle.ocfl_tree.specs.Place.{Place as ModelPlace};
 ghost use Rattle.ocfl_tree.specs.StorageRoot.{StorageRoot};
 ghost use Rattle.ocfl_inventory.specs.Table.{named as digests_of};

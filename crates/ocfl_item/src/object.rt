@@ -1,8 +1,8 @@
 //! An object's own files: its declaration, its inventory and the sidecars. They are read for its
 //! head with its table, or for the table alone; a file of the storage root is read in the same way.
-ghost use Rattle.std.specs.Prelude.{◌≡◌, ◌∷◌, ◌++◌, [], true, false, IsTrue, IfErr, IfOk, IfSome};
+ghost use Rattle.std.specs.Prelude.{◌≡◌, ◌∷◌, ◌++◌, [], true, false, IfErr, IfOk, IfSome};
 ghost use Rattle.std.specs.Prelude.{MatchOption, MatchResult, OnOk, not};
-ghost use Rattle.ocfl_tree.specs.StorageRoot.{StorageRoot, file_at};
+ghost use Rattle.ocfl_tree.specs.StorageRoot.{file_at};
 ghost use Rattle.ocfl_tree.specs.Listing.{IsListing, kind_in};
 ghost use Rattle.ocfl_inventory.specs.Note.{plain};
 ghost use Rattle.ocfl_digest.specs.declared.algorithm.Algorithm.TheVariants.{Sha256, Sha512};

@@ -1,6 +1,6 @@
 //! What is met at an entry of a directory.
 ghost use Rattle.std.specs.Prelude.{◌≡◌, ◌≤◌, ◌∷◌, [], None, Some, true};
-ghost use Rattle.std.specs.Prelude.{IsTrue, IfErr, IfOk, map, length};
+ghost use Rattle.std.specs.Prelude.{IfErr, IfOk, map, length};
 ghost use Rattle.ocfl_tree.specs.Place.{Place as ModelPlace};
 ghost use Rattle.ocfl_tree.specs.StorageRoot.{StorageRoot};
 ghost use Rattle.ocfl_tree.specs.Listing.{IsOrdinary};

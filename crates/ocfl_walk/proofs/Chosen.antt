@@ -22,7 +22,8 @@ use Rattle.ocfl_walk.specs.declared.stand.Step.{Step}
 use Rattle.ocfl_walk.specs.declared.stand.Step.TheVariants as step
 use Rattle.ocfl_walk.specs.declared.stand.Turn.{Turn}
 use Rattle.ocfl_walk.specs.declared.stand.Turn.TheVariants as turn
-use Rattle.ocfl_audit.proofs.BelowLaws.{less_from}
+use Rattle.ocfl_audit.proofs.BelowLaws.{equal_itself, less_from}
+use Rattle.ocfl_tree.proofs.Orders.{place_cmp_total}
 use Rattle.ocfl_walk.proofs.DueTurns.{turn_comes}
 use Rattle.ocfl_walk.proofs.OrderlyLaws.{fit_of, orderly_trimmed, size_trimmed}
 use Rattle.ocfl_walk.proofs.WalkCallLaws.{fails_out_nothing, fails_to_nothing}
@@ -75,6 +76,13 @@ module _ (last : Option Place) (o : Option Place) (a : Option Around) (t : Turn)
 
   pub chosen_path : (x : Place) → t ≡ turn.Path x → (p : Place) → last ≡ Some p → (path_from p a ≡ Some x) × IsBelowNext x o
   chosen_path x e p g = path_next o (path_from p a) x (sym e ∙ next p g)
+
+  pub chosen_begun : (x : Place) → t ≡ turn.Path x → last ≢ None
+  chosen_begun x e g = let two : turn.Base ≡ turn.Path x = sym (base g) ∙ e in cc
+
+-- an entry that is the table's next path is taken as an entry
+pub tie : (o p : Option Place) (x : Place) → o ≡ Some x → p ≡ Some x → turn.Entry x ≡ turn_of o p
+tie o p x e f = ap (λ r. cond (is_lt r) (turn.Path x) (turn.Entry x)) (sym (equal_itself place_cmp_total x)) ∙ (λ i. turn_of (sym e i) (sym f i))
 
 trimmed_twice : (ps : List Pile) → trimmed (trimmed ps) ≡ trimmed ps
 trimmed_twice [] = refl

@@ -16,7 +16,7 @@ use Rattle.ocfl_audit.specs.Stack.{Frame, IsListed, IsStack, seen_in, seen_left,
 use Rattle.ocfl_audit.specs.Walk.{seen_names}
 use Rattle.ocfl_audit.specs.Zone.{inside, seen, table_at, zone}
 use Rattle.ocfl_audit.proofs.AuditExists.{object_at, object_key, path_candidate, seen_candidate, zone_is}
-use Rattle.ocfl_audit.proofs.BelowLaws.{above, above_self, begins_front, begins_rest, cmp_behind, from_append, from_flat_map, less_from}
+use Rattle.ocfl_audit.proofs.BelowLaws.{above, above_self, begins_front, begins_rest, cmp_behind, from_append, from_flat_map, less_from, equal_itself}
 use Rattle.ocfl_audit.proofs.NextLaws.{same_above, seen_ascend, seen_from, seen_to}
 use Rattle.ocfl_audit.proofs.StackLaws.{entry_seen, stack_pops}
 use Rattle.ocfl_audit.proofs.Trails.{filter_append}
@@ -310,16 +310,8 @@ module _ (root : StorageRoot) (d : Place) (n : Text) (q : Place) (j : IsJustBefo
     ahead : (x : Place) → IsAmong xs x → place_cmp q x ≡ Less → place_cmp p x ≡ Less
     ahead x i l = chain_over xs p 128 (frames_of ps) h.chain x (subst (λ ys. IsAmong ys x) (sym st) (among_filter (above q) xs x i (ap is_lt l)))
 
-    itself : is_lt (place_cmp p p) ≡ false
-    itself = go (place_cmp p p) refl
-      where
-        go : (r : Ordering) → place_cmp p p ≡ r → is_lt r ≡ false
-        go Less e = absurd (not_below_itself place_cmp_total p e)
-        go Equal e = refl
-        go Greater e = refl
-
     pub turn_path : IsListed root (frames_of ps) → IsTurn root q p (frames_of ps)
-    turn_path listed = turn_low p itself (frames_of ps) j.less (st ∙ same_above xs (seen_ascend root) q p ahead (λ y i l. place_cmp_total.trans q p y j.less l)) listed
+    turn_path listed = turn_low p (ap is_lt (equal_itself place_cmp_total p)) (frames_of ps) j.less (st ∙ same_above xs (seen_ascend root) q p ahead (λ y i l. place_cmp_total.trans q p y j.less l)) listed
 
     pub path_unseen : seen root p ≡ None
     path_unseen = by (seen root p) refl

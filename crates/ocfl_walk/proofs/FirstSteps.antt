@@ -1,40 +1,36 @@
 -- The first step of a walk that begins at a place.
-use Rattle.std.proofs.Common.{◌≡◌, ◌≢◌, inl, inr, ℕ, ◌+◌, ◌≤◌, List, [], ◌∷◌, ◌++◌, refl, sym, ◌∙◌, ap, subst, true, false, Bool, map, Option, Some, None, Result, Ok, Err, length, drop, arith}
-use Rattle.std.proofs.lemmas.List.{length-append}
-use Rattle.std.proofs.Math.Seq.{drop-append_seam}
+use Rattle.std.proofs.Common.{◌≡◌, ◌≢◌, ℕ, ◌<◌, ◌≤◌, [], ◌∷◌, ◌++◌, refl, sym, ◌∙◌, ap, subst, true, false, Option, Some, None, Result, Ok, Err, length, arith}
 use Rattle.std.specs.declared.alloc.Global.{Global}
-use Rattle.std.specs.Prelude.{IfOk, IfSome, Vec, cond, filter_map}
-use Rattle.std.specs.List.{AllByRecursion, cons_option}
+use Rattle.std.specs.Prelude.{IfOk, IfSome, Vec}
 use Rattle.std.specs.Ordering.{is_lt}
 use Rattle.std.specs.declared.cmp.Ordering.{Ordering}
 use Rattle.std.specs.declared.cmp.Ordering.TheVariants.{Less, Equal, Greater}
 use Rattle.arrayvec.specs.ArrayVec.{ArrayVec}
-use Rattle.ocfl_tree.specs.Place.{Place, Text, place_cmp, place_eq}
+use Rattle.ocfl_tree.specs.Place.{Place, Text, place_cmp}
 use Rattle.ocfl_tree.specs.Ascending.{IsAmong}
 use Rattle.ocfl_tree.specs.StorageRoot.{StorageRoot, dir}
 use Rattle.ocfl_tree.specs.Store.{Store}
 use Rattle.ocfl_tree.specs.declared.store.Entry.{Entry}
 use Rattle.ocfl_tree.proofs.Orders.{place_cmp_exact, place_cmp_total, below_from_greater, true_not_false}
-use Rattle.ocfl_inventory.specs.Table.{Table, Triple, named, paths_of}
 use Rattle.ocfl_audit.specs.Audit.{candidates}
 use Rattle.ocfl_audit.specs.Between.{IsBeyond, looked_between, read_between}
 use Rattle.ocfl_audit.specs.Due.{due, item_places}
 use Rattle.ocfl_audit.specs.Stack.{IsListed, IsStack}
 use Rattle.ocfl_audit.specs.Walk.{seen_names}
 use Rattle.ocfl_audit.specs.Zone.{seen}
-use Rattle.ocfl_audit.proofs.AuditExists.{place_from_test, seen_candidate}
-use Rattle.ocfl_audit.proofs.BelowLaws.{above_self, begins_rest}
+use Rattle.ocfl_audit.proofs.AuditExists.{seen_candidate}
+use Rattle.ocfl_audit.proofs.BelowLaws.{above_self}
 use Rattle.ocfl_audit.proofs.BetweenLaws.{directories, from_directory, from_object, looked_seen, objects, read_seen}
+use Rattle.ocfl_item.specs.Around.{IsNamedIn}
 use Rattle.ocfl_item.specs.Meeting.{IsItemAt}
 use Rattle.ocfl_item.specs.declared.fault.Fault.{Fault}
-use Rattle.ocfl_item.specs.declared.meeting.Around.{Around}
 use Rattle.ocfl_item.specs.declared.pending.Pending.{Pending}
 use Rattle.ocfl_item.proofs.ShutLaws.{shut_unseen}
 use Rattle.ocfl_item.proofs.VisitLaws.{meets_shut}
 use Rattle.ocfl_walk.specs.Ends.{before_end, is_past}
 use Rattle.ocfl_walk.specs.Before.{place_before}
 use Rattle.ocfl_walk.specs.Standing.{HaveEntries, IsStanding, frames_of, piles_at, piles_in, size_of, spot_of, stand_size}
-use Rattle.ocfl_walk.specs.Internal.Standing.{IsAroundIf, IsBelowNext, IsHeld, IsNamedIn, IsOrderly, IsOrderlyIf, IsOrderlyStand, IsTurn, cut_top, next_of, popped, trimmed}
+use Rattle.ocfl_walk.specs.Internal.Standing.{IsAroundIf, IsBelowNext, IsHeld, IsOrderly, IsOrderlyIf, IsOrderlyStand, IsTurn, cut_top, next_of, popped, trimmed}
 use Rattle.ocfl_walk.specs.Internal.Walking.{GoesAt, GoesOn, GoesTo, IsBefore, Steps, StepsAtTo, StepsOutTo, step_from}
 use Rattle.ocfl_walk.specs.declared.end.End.{End}
 use Rattle.ocfl_walk.specs.declared.stand.Stand.{Stand}
@@ -47,47 +43,13 @@ use Rattle.ocfl_walk.proofs.DueTurns.{near_turn}
 use Rattle.ocfl_walk.proofs.EndLaws.{over, past_up}
 use Rattle.ocfl_walk.proofs.EntrySteps.{step_to}
 use Rattle.ocfl_walk.proofs.LeadsLaws.{around_on}
-use Rattle.ocfl_walk.proofs.PathSteps.{orderly_on, size_on}
+use Rattle.ocfl_walk.proofs.PathSteps.{named_short, orderly_on, size_named, size_on}
 use Rattle.ocfl_walk.proofs.PlacedLaws.{begun_if, path_shared, top_here}
 use Rattle.ocfl_walk.proofs.SizeLaws.{goes_here}
 use Rattle.ocfl_walk.proofs.WalkCallLaws.{walks_out_nothing}
 
 abbrev Listings : Type 0
 Listings = ArrayVec (Vec Entry Global)
-
--- ---- a place that a table names
-
--- a path that digests are named for is one of the table's
-pub named_path : (t : Table) (q : Place) → named t q ≢ [] → IsAmong (paths_of t) q
-named_path t q some = by t.triples some
-  where
-    by : (es : List Triple) → filter_map (λ e. cond (place_eq e.path q) (Some e.named) None) es ≢ [] → IsAmong (map (λ e. e.path) es) q
-    by [] n = absurd (n refl)
-    by (e ∷ es) n = go (place_eq e.path q) refl n (by es)
-      where
-        go : (b : Bool) → place_eq e.path q ≡ b → cons_option (cond b (Some e.named) None) (filter_map (λ x. cond (place_eq x.path q) (Some x.named) None) es) ≢ [] → (filter_map (λ x. cond (place_eq x.path q) (Some x.named) None) es ≢ [] → IsAmong (map (λ x. x.path) es) q) → IsAmong (map (λ x. x.path) (e ∷ es)) q
-        go true f m k = inl (sym (place_from_test e.path q f))
-        go false f m k = inr (k m)
-
-pub named_too : (x : Place) (a : Option Around) → IsNamedIn x a → (r : Result (Option Pending) Fault) → IfOk r (λ o. IfSome o (λ p. p.place ≡ x)) → IfOk r (λ o. IfSome o (λ p. (p.place ≡ x) × IsNamedIn x a))
-named_too x a n (Err why) h = tt
-named_too x a n (Ok None) h = tt
-named_too x a n (Ok (Some p)) h = (h, n)
-
--- an object's place has at most 127 names, and a path of its table at most 128
-named_short : (x : Place) (a : Option Around) → IsAroundIf x a → IsNamedIn x a → length x ≤ 255
-named_short x None h n = absurd n
-named_short x (Some o) h n =
-    let r = begins_rest o.place x h.holds in
-    let l : length x ≡ length o.place + length r.0 = ap length r.1 ∙ length-append o.place r.0 in
-    let inner : drop (length o.place) x ≡ r.0 = ap (drop (length o.place)) r.1 ∙ drop-append_seam o.place r.0 in
-    let s = fits (paths_of o.table) r.0 h.fit.short (subst (IsAmong (paths_of o.table)) inner n) in
-    omega (arith, l, s, h.depth)
-  where
-    fits : (qs : List Place) (q : Place) → AllByRecursion (λ y. length y ≤ 128) qs → IsAmong qs q → length q ≤ 128
-    fits [] q k i = absurd i
-    fits (y ∷ qs) q k (inl e) = subst (λ z. length z ≤ 128) (sym e) k.0
-    fits (y ∷ qs) q k (inr i) = fits qs q k.1 i
 
 -- ---- to a place at which nothing is seen
 
@@ -118,16 +80,23 @@ module _ (old : Stand) (x : Place) (orderly : IsOrderlyStand old) (some : old.la
       (subst (λ l. size_of (Some x) (piles_in old.last old.listings.items) old.around ≤ size_of l (piles_in old.last old.listings.items) old.around) (sym gone.0)
       (size_on (spot_of old.last) x (piles_in old.last old.listings.items) old.around gone.1 ahead.0))
 
+  pub missing_falls : IsNamedIn x old.around → stand_size at_missing < stand_size old
+  unfolding stand_size
+  missing_falls n =
+      subst (λ ps. size_of (Some x) ps old.around < size_of old.last (piles_in old.last old.listings.items) old.around) (sym missing_piles)
+      (subst (λ l. size_of (Some x) (piles_in old.last old.listings.items) old.around < size_of l (piles_in old.last old.listings.items) old.around) (sym gone.0)
+      (size_named (spot_of old.last) x (piles_in old.last old.listings.items) old.around ahead.0 ahead.1 n))
+
   module _ (item : Option Pending) (r : Step) (is : r ≡ step_from item) where
-    pub missing_goes_on : IfSome item (λ p. (p.place ≡ x) × IsNamedIn x old.around) → GoesAt old at_missing r
-    missing_goes_on i = subst (GoesAt old at_missing) (sym is) (by item i)
+    pub missing_goes_on : IfSome item (λ p. p.place ≡ x) → IfSome item (λ p. IsNamedIn x old.around) → GoesAt old at_missing r
+    missing_goes_on i n = subst (GoesAt old at_missing) (sym is) (by item i n)
       where
         beyond : IsBeyond old.last x
         beyond = subst (λ l. IsBeyond l x) (sym gone.0) ahead.0
 
-        by : (item : Option Pending) → IfSome item (λ p. (p.place ≡ x) × IsNamedIn x old.around) → GoesAt old at_missing (step_from item)
-        by None i = (x, refl, beyond, missing_size)
-        by (Some p) i = (ap (λ y. Some y) (sym i.0), subst (IsBeyond old.last) (sym i.0) beyond, missing_size, subst (λ y. length y ≤ 255) (sym i.0) (named_short x old.around ahead.1 i.1))
+        by : (item : Option Pending) → IfSome item (λ p. p.place ≡ x) → IfSome item (λ p. IsNamedIn x old.around) → GoesAt old at_missing (step_from item)
+        by None i n = (x, refl, beyond, missing_size)
+        by (Some p) i n = (ap (λ y. Some y) (sym i), subst (IsBeyond old.last) (sym i) beyond, missing_size, subst (λ y. length y ≤ 255) (sym i) (named_short x old.around ahead.1 n))
 
     pub missing_there : GoesTo at_missing x r
     missing_there = subst (GoesTo at_missing x) (sym is) (goes_here at_missing x item refl)
@@ -241,6 +210,13 @@ module _ (old mid new : Stand) (x : Place) (same : mid.last ≡ old.last) (less 
   goes_at_missing (Ok (step.Item p)) g h = (g.0, subst (λ l. IsBeyond l p.place) same g.1, omega (arith, less, g.2), g.3)
   goes_at_missing (Ok step.Nothing) g h = (g.0, g.1, subst (λ l. IsBeyond l g.0) same g.2, omega (arith, less, g.3))
   goes_at_missing (Ok step.End) g h = absurd h
+
+-- a step that leaves less
+pub goes_less : (old new : Stand) (x : Place) (r : Result Step Fault) → IfOk r (λ s. GoesAt old new s) → IfOk r (λ s. GoesTo new x s) → IfOk r (λ s. stand_size new < stand_size old) → IfOk r (λ s. GoesOn old new s)
+goes_less old new x (Err why) g h l = tt
+goes_less old new x (Ok (step.Item p)) g h l = (g.0, g.1, l, g.3)
+goes_less old new x (Ok step.Nothing) g h l = (g.0, g.1, g.2, l)
+goes_less old new x (Ok step.End) g h l = absurd h
 
 pub stays_before : (e : End) (old new : Stand) (x : Place) → is_past e x ≡ false → (r : Result Step Fault) → IfOk r (λ q. GoesAt old new q) → IfOk r (λ q. GoesTo new x q) → IfOk r (λ q. IsBefore e new q)
 stays_before e old new x n (Err why) g h = tt

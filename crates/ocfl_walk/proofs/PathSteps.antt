@@ -14,8 +14,9 @@ use Rattle.ocfl_inventory.specs.Table.{paths_of}
 use Rattle.ocfl_inventory.specs.NextPath as table
 use Rattle.ocfl_walk.specs.Standing.{Pile, frames_of, paths_above, size_of}
 use Rattle.ocfl_walk.specs.Internal.Standing.{IsAroundIf, IsBelowNext, IsChain, IsOrderly, next_of, path_from, trimmed, trimmed_from}
+use Rattle.ocfl_item.specs.Around.{IsNamedIn}
 use Rattle.ocfl_item.specs.declared.meeting.Around.{Around}
-use Rattle.ocfl_audit.proofs.BelowLaws.{begins_front, begins_rest, cmp_behind, less_from, text_cmp_total, text_cmp_exact}
+use Rattle.ocfl_audit.proofs.BelowLaws.{begins_front, begins_rest, cmp_behind, equal_itself, less_from, text_cmp_total, text_cmp_exact}
 use Rattle.ocfl_walk.proofs.OrderlyLaws.{before_names}
 use Rattle.std.proofs.Math.Seq.{drop-append_seam}
 
@@ -28,13 +29,13 @@ found test (p ∷ ps) q e = by (test p) refl e (found test ps q)
     by true f g k = let same : p ≡ q = cc in (ap test (sym same) ∙ f, inl (sym same))
     by false f g k = let w = k g in (w.0, inr w.1)
 
-pub record IsOnward (last b : Place) (a : Around) : Type 0 where
+record IsOnward (last b : Place) (a : Around) : Type 0 where
   pub path : Place
   pub is : b ≡ a.place ++ path
   pub among : IsAmong (paths_of a.table) path
   pub above : place_cmp last b ≡ Less
 
-pub onward : (last b : Place) (a : Around) → begins a.place last ≡ true → path_from last (Some a) ≡ Some b → IsOnward last b a
+onward : (last b : Place) (a : Around) → begins a.place last ≡ true → path_from last (Some a) ≡ Some b → IsOnward last b a
 onward last b a h e = by (table.next_path a.table (Some (drop (length a.place) last))) refl e
   where
     rest : (r : Place) × (last ≡ a.place ++ r)
@@ -135,57 +136,46 @@ module _ (last b : Place) (ps : List Pile) (a : Option Around) (h : IsOrderly la
               names : (d : Place) (n : Text) (ns : List Text) → IsBeforeAll text_cmp n ns → IsBeforeAll place_cmp (d ++ n ∷ []) (map (λ m. d ++ m ∷ []) ns)
               names d n ns g = before_names d n ns g
 
-module _ (last b : Place) (ps : List Pile) (a : Option Around) (h : IsOrderly last ps a) (p : path_from last a ≡ Some b) where
-  pub path_above : place_cmp last b ≡ Less
-  path_above = by a h.object p
+-- ---- to a place that the table names
+
+inner_is : (o x : Place) → begins o x ≡ true → x ≡ o ++ drop (length o) x
+inner_is o x h = let r = begins_rest o x h in r.1 ∙ ap (λ y. o ++ y) (sym (ap (drop (length o)) r.1 ∙ drop-append_seam o r.0))
+
+-- an object's place has at most 127 names, and a path of its table at most 128
+pub named_short : (x : Place) (a : Option Around) → IsAroundIf x a → IsNamedIn x a → length x ≤ 255
+named_short x None h n = absurd n
+named_short x (Some o) h n =
+    let l : length x ≡ length o.place + length (drop (length o.place) x) = ap length (inner_is o.place x h.holds) ∙ length-append o.place (drop (length o.place) x) in
+    let s = fits (paths_of o.table) (drop (length o.place) x) h.fit.short n in
+    omega (arith, l, s, h.depth)
+  where
+    fits : (qs : List Place) (q : Place) → AllByRecursion (λ y. length y ≤ 128) qs → IsAmong qs q → length q ≤ 128
+    fits [] q k i = absurd i
+    fits (y ∷ qs) q k (inl e) = subst (λ z. length z ≤ 128) (sym e) k.0
+    fits (y ∷ qs) q k (inr i) = fits qs q k.1 i
+
+module _ (last b : Place) (ps : List Pile) (a : Option Around) (over : place_cmp last b ≡ Less) (object : IsAroundIf b a) (named : IsNamedIn b a) where
+  named_fewer : paths_above b a < paths_above last a
+  named_fewer = by a object named
     where
-      by : (a : Option Around) → IsAroundIf last a → path_from last a ≡ Some b → place_cmp last b ≡ Less
-      by None k e = absurd cc
-      by (Some o) k e = (onward last b o k.holds e).above
+      by : (a : Option Around) → IsAroundIf b a → IsNamedIn b a → paths_above b a < paths_above last a
+      by None k n = absurd n
+      by (Some o) k n =
+          let is = inner_is o.place b k.holds in
+          fewer (λ q. is_lt (place_cmp last (o.place ++ q))) (λ q. is_lt (place_cmp b (o.place ++ q))) (paths_of o.table) (drop (length o.place) b)
+          (λ q u. ap is_lt (place_cmp_total.trans last b (o.place ++ q) over (less_from _ u))) n (ap is_lt (ap (place_cmp last) (sym is) ∙ over))
+          (ap is_lt (ap (place_cmp b) (sym is) ∙ equal_itself place_cmp_total b))
 
-  pub path_fewer : paths_above b a < paths_above last a
-  path_fewer = by a h.object p
-    where
-      by : (a : Option Around) → IsAroundIf last a → path_from last a ≡ Some b → paths_above b a < paths_above last a
-      by None k e = absurd cc
-      by (Some o) k e =
-          let w = onward last b o k.holds e in
-          fewer (λ q. is_lt (place_cmp last (o.place ++ q))) (λ q. is_lt (place_cmp b (o.place ++ q))) (paths_of o.table) w.path
-          (λ q u. ap is_lt (place_cmp_total.trans last b (o.place ++ q) w.above (less_from _ u)))
-          w.among (ap is_lt (ap (place_cmp last) (sym w.is) ∙ w.above)) (no w.path w.is)
-        where
-          no : (q : Place) → b ≡ o.place ++ q → is_lt (place_cmp b (o.place ++ q)) ≡ false
-          no q e = go (place_cmp b (o.place ++ q)) refl
-            where
-              go : (r : Ordering) → place_cmp b (o.place ++ q) ≡ r → is_lt r ≡ false
-              go Less f = absurd (not_below_itself place_cmp_total b (ap (place_cmp b) e ∙ f))
-              go Equal f = refl
-              go Greater f = refl
-
-  -- an object's place has at most 127 names, and a path of its table at most 128
-  pub path_short : length b ≤ 255
-  path_short = by a h.object p
-    where
-      fits : (qs : List Place) (q : Place) → AllByRecursion (λ x. length x ≤ 128) qs → IsAmong qs q → length q ≤ 128
-      fits [] q k i = absurd i
-      fits (x ∷ qs) q k (inl e) = subst (λ y. length y ≤ 128) (sym e) k.0
-      fits (x ∷ qs) q k (inr i) = fits qs q k.1 i
-
-      by : (a : Option Around) → IsAroundIf last a → path_from last a ≡ Some b → length b ≤ 255
-      by None k e = absurd cc
-      by (Some o) k e =
-          let w = onward last b o k.holds e in
-          let l : length b ≡ length o.place + length w.path = ap length w.is ∙ length-append o.place w.path in
-          let s = fits (paths_of o.table) w.path k.fit.short w.among in
-          omega (arith, l, s, k.depth)
-
-  pub size_path : size_of (Some b) ps a < size_of (Some last) ps a
+  pub size_named : size_of (Some b) ps a < size_of (Some last) ps a
   unfolding size_of
-  size_path = let f = path_fewer in omega (arith, f)
+  size_named = let f = named_fewer in omega (arith, f)
 
-  pub orderly_path : trimmed ps ≡ ps → IsBelowNext b (next_of ps) → IsOrderly b ps a
-  orderly_path t n = orderly_on last b ps a h path_above (around a h.object p) t n
-    where
-      around : (a : Option Around) → IsAroundIf last a → path_from last a ≡ Some b → IsAroundIf b a
-      around None k e = tt
-      around (Some o) k e = let w = onward last b o k.holds e in record { holds = subst (λ x. begins o.place x ≡ true) (sym w.is) (begins_front o.place w.path); depth = k.depth; fit = k.fit }
+-- the table's next path lies above the last place and in the object, and is one of the table's
+pub path_ahead : (last b : Place) (a : Option Around) → IsAroundIf last a → path_from last a ≡ Some b → (place_cmp last b ≡ Less) × IsAroundIf b a × IsNamedIn b a
+path_ahead last b None k e = absurd cc
+path_ahead last b (Some o) k e =
+    let w = onward last b o k.holds e in (
+      w.above,
+      record { holds = subst (λ x. begins o.place x ≡ true) (sym w.is) (begins_front o.place w.path); depth = k.depth; fit = k.fit },
+      subst (IsAmong (paths_of o.table)) (sym (ap (drop (length o.place)) w.is ∙ drop-append_seam o.place w.path)) w.among,
+    )

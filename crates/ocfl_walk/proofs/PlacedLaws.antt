@@ -1,10 +1,10 @@
 -- Listings with their places: the one at an index is that of so many names of a place.
 use Rattle.std.specs.declared.alloc.Global.{Global}
-use Rattle.std.proofs.Common.{◌≡◌, ℕ, zero, suc, ◌+◌, ◌-◌, ◌<◌, ◌≤◌, List, [], ◌∷◌, ◌++◌, refl, sym, ◌∙◌, ap, subst, true, false, Bool, Option, Some, None, length, take, arith, vec_len}
+use Rattle.std.proofs.Common.{◌≡◌, ℕ, zero, suc, ◌+◌, ◌-◌, ◌<◌, ◌≤◌, List, [], ◌∷◌, ◌++◌, refl, sym, ◌∙◌, ap, subst, true, false, Bool, Option, Some, None, length, take, drop, arith, vec_len}
 use Rattle.std.proofs.lemmas.Bool.{leb-true, leb-false, le-leb}
-use Rattle.std.proofs.lemmas.List.{length-append, length-take-le, take-append-le}
+use Rattle.std.proofs.lemmas.List.{length-append, length-take, length-take-le, same_from_push, take-append-drop, take-append-le, take_min}
 use Rattle.std.proofs.Math.Seq.{take-append_seam, take-length}
-use Rattle.std.specs.Prelude.{Vec, ◌==◌, IfSome, MatchOption, cond, nat_le, option_map, slice_get}
+use Rattle.std.specs.Prelude.{Vec, ◌==◌, IfSome, MatchOption, cond, nat_le, min, option_map, slice_get}
 use Rattle.std.specs.Option.{option_to_list}
 use Rattle.ocfl_tree.specs.Place.{Place, Text, begins}
 use Rattle.ocfl_tree.specs.declared.store.Entry.{Entry}
@@ -79,6 +79,32 @@ pub next_at : (p : Place) (vs above xs : List (Vec Entry Global)) (v : Vec Entry
     → next_of (piles_at p vs) ≡ option_map (λ e. take (length above) p ++ e.name ∷ []) o
 next_at p vs above xs v es o same split items last =
     next_of_last (folders_from 0 p above) (folders_from 0 p vs) (record { place = take (length above) p; entries = v }) o (folders_push p above vs v (sym same ∙ split)) (subst (λ ys. o ≡ slice_get ys (length ys - 1)) items last)
+
+-- ---- whether the next entry lies at a place
+
+module _ (last x d : Place) (n m : Text) (k : ℕ) (is : x ≡ d ++ n ∷ []) (o : Option Place) (next : o ≡ Some (take k last ++ m ∷ [])) where
+  depth : length x ≡ length d + 1
+  depth = ap length is ∙ length-append d (n ∷ [])
+
+  pub next_is : n ≡ m → begins d last ≡ true → length x - 1 ≡ min (length last) k → o ≡ Some x
+  next_is same h deep =
+      let r = begins_rest d last h in
+      let least : length d ≡ min k (length last) = omega (arith, deep, depth) in
+      let front : take k last ≡ d = sym (take_min k last) ∙ ap (λ j. take j last) (sym least) ∙ ap (take (length d)) r.1 ∙ take-append_seam d r.0 in
+      next ∙ ap (λ y. Some y) ((λ i. front i ++ sym same i ∷ []) ∙ sym is)
+
+  pub next_fits : o ≡ Some x → (n ≡ m) × (begins d last ≡ true) × (length x - 1 ≡ min (length last) k)
+  next_fits e =
+      let w = same_from_push (take k last) d m n (one (sym next ∙ e) ∙ is) in
+      let long = ap length w.0 in
+      let least = length-take k last in (
+        sym w.1,
+        subst (λ y. begins y last ≡ true) w.0 (subst (λ y. begins (take k last) y ≡ true) (take-append-drop k last) (begins_front (take k last) (drop k last))),
+        omega (arith, depth, long, least),
+      )
+    where
+      one : {y z : Place} → Some y ≡ Some z → y ≡ z
+      one f = cc
 
 -- the deepest listing's entry is taken off
 pub taken_here : (p : Place) (vs old new : List (Vec Entry Global)) (v w : Vec Entry Global) (o : Option Entry) → old ≡ vs ++ v ∷ [] → new ≡ vs ++ w ∷ [] → v.items ≡ w.items ++ option_to_list o

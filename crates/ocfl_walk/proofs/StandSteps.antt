@@ -14,15 +14,12 @@ use Rattle.ocfl_audit.specs.Stack.{Frame}
 use Rattle.ocfl_audit.proofs.BetweenLaws.{looked_end, read_end}
 use Rattle.ocfl_tree.proofs.Orders.{true_not_false}
 use Rattle.ocfl_audit.specs.Walk.{seen_names}
-use Rattle.ocfl_audit.specs.Zone.{seen}
-use Rattle.ocfl_item.specs.Around.{IsMet, IsTableAround}
+use Rattle.ocfl_item.specs.Around.{IsMet, IsNamedIn}
 use Rattle.ocfl_item.specs.Meeting.{IsItemAt, Meets}
 use Rattle.ocfl_item.specs.declared.folder.Folder.{Folder}
 use Rattle.ocfl_item.specs.declared.meeting.Around.{Around}
 use Rattle.ocfl_item.specs.declared.pending.Pending.{Pending}
-use Rattle.ocfl_item.proofs.ShutLaws.{shut_unseen}
-use Rattle.ocfl_item.proofs.VisitLaws.{meets_shut}
-use Rattle.ocfl_walk.specs.Standing.{IsStanding, Pile, StandsAt, frames_of, piles_at, piles_in, spot_of}
+use Rattle.ocfl_walk.specs.Standing.{IsStanding, Pile, StandsAt, piles_at, piles_in, spot_of}
 use Rattle.ocfl_walk.specs.Internal.Standing.{IsAroundIf, IsBelowNext, IsFairPile, IsHeld, IsOrderly, IsOrderlyIf, IsOrderlyStand, IsTaken, IsTurn, TurnIs, next_of, path_from, popped, pushed, still, trimmed, is_turn_past, turn_before, turn_of}
 use Rattle.ocfl_walk.specs.Ends.{before_end, is_past}
 use Rattle.ocfl_walk.specs.Internal.Walking.{GoesOn, GoesTo, IsFairMet, IsMeeting, IsPileAt, Steps, StepsOut, step_from}
@@ -39,10 +36,10 @@ use Rattle.ocfl_walk.proofs.WalkCallLaws.{walks_out_nothing}
 use Rattle.ocfl_walk.proofs.DueTurns.{near_turn}
 use Rattle.ocfl_walk.proofs.EntrySteps.{entry_met, step_to, still_around, taken_place}
 use Rattle.ocfl_walk.proofs.OrderlyLaws.{entry_after, entry_short, orderly_entry}
-use Rattle.ocfl_walk.proofs.PathSteps.{orderly_path, path_above, path_short, size_path}
-use Rattle.ocfl_walk.proofs.PlacedLaws.{begun, begun_if, entry_pushed, entry_room, path_shared}
+use Rattle.ocfl_walk.proofs.PathSteps.{path_ahead}
+use Rattle.ocfl_walk.proofs.PlacedLaws.{begun, entry_pushed, entry_room}
 use Rattle.ocfl_walk.proofs.SizeLaws.{goes_here, goes_to, size_entry, sizes_fall}
-use Rattle.ocfl_walk.proofs.StandLaws.{entry_stands, path_stands}
+use Rattle.ocfl_walk.proofs.StandLaws.{entry_stands}
 use Rattle.ocfl_walk.proofs.StartLaws.{first_pushed, first_room, first_stands, item_first, orderly_first, root_short, size_begins, size_first, step_first}
 
 abbrev Listings : Type 0
@@ -148,45 +145,18 @@ module _ (old : Stand) (entry : Entry) (x : Place) (mid : Listings) (orderly : I
 
 -- ---- to a path of the table
 
-module _ (old : Stand) (x : Place) (orderly : IsOrderlyStand old) (some : old.last ≢ None) (trim : trimmed (piles_in old.last old.listings.items) ≡ piles_in old.last old.listings.items)
-    (next : (l : Place) → old.last ≡ Some l → (path_from l old.around ≡ Some x) × IsBelowNext x (next_of (piles_in old.last old.listings.items))) where
-  abbrev at_path : Stand
-  at_path = record { listings = old.listings; around = old.around; last = Some x }
+module _ (ps : List Pile) (a : Option Around) (x : Place) where
+  -- what a turn to a path says of it
+  abbrev IsPathNext : Option Place → Type 0
+  IsPathNext last = (p : Place) → last ≡ Some p → (path_from p a ≡ Some x) × IsBelowNext x (next_of ps)
 
-  gone : (old.last ≡ Some (spot_of old.last)) × IsOrderly (spot_of old.last) (piles_in old.last old.listings.items) old.around
-  gone = begun_if old.last (piles_in old.last old.listings.items) old.around orderly some
+  pub path_next : (last : Option Place) → IsOrderlyIf last ps a → IsPathNext last → IfSome last (λ l. (place_cmp l x ≡ Less) × IsAroundIf x a × IsBelowNext x (next_of ps))
+  path_next None h n = tt
+  path_next (Some p) h n = let k = n p refl in let w = path_ahead p x a h.object k.0 in (w.0, w.1, k.1)
 
-  path : (path_from (spot_of old.last) old.around ≡ Some x) × IsBelowNext x (next_of (piles_in old.last old.listings.items))
-  path = next (spot_of old.last) gone.0
-
-  beside : IsOrderly x (piles_in old.last old.listings.items) old.around
-  beside = orderly_path (spot_of old.last) x (piles_in old.last old.listings.items) old.around gone.1 path.0 trim path.1
-
-  path_piles : piles_at x old.listings.items ≡ piles_in old.last old.listings.items
-  path_piles = path_shared (spot_of old.last) x old.listings.items old.around gone.1 beside
-
-  pub path_orderly : IsOrderlyStand at_path
-  path_orderly = subst (λ ps. IsOrderly x ps old.around) (sym path_piles) beside
-
-  module _ (item : Option Pending) (r : Step) (is : r ≡ step_from item) where
-    pub path_goes_on : IfSome item (λ p. p.place ≡ x) → GoesOn old at_path r
-    path_goes_on i =
-        let above = path_above (spot_of old.last) x (piles_in old.last old.listings.items) old.around gone.1 path.0 in
-        let small = size_path (spot_of old.last) x (piles_in old.last old.listings.items) old.around gone.1 path.0 in
-        subst (GoesOn old at_path) (sym is)
-        (goes_to old at_path x item i refl (subst (λ y. IsBeyond y x) (sym gone.0) above)
-        (sizes_fall old at_path (spot_of old.last) x _ _ old.around old.around gone.0 refl refl refl path_piles refl small)
-        (path_short (spot_of old.last) x (piles_in old.last old.listings.items) old.around gone.1 path.0))
-
-    pub path_there : GoesTo at_path x r
-    path_there = subst (GoesTo at_path x) (sym is) (goes_here at_path x item refl)
-
-    pub path_told : (root : StorageRoot) (s : Store) (l : Place) → s.tree ≡ root → old.last ≡ Some l → IsStanding root l (piles_in old.last old.listings.items) old.around → IsTurn root l x (frames_of (piles_in old.last old.listings.items)) → seen root x ≡ None
-        → (IsTableAround root x old.around → IsItemAt root x item) → Steps root s s (Some l) at_path r
-    path_told root s l over e st go unseen i =
-        let here = path_stands root l x (piles_in old.last old.listings.items) old.around st go (next l e).0 in
-        subst (Steps root s s (Some l) at_path) (sym is)
-        (step_to root s s l x at_path item (meets_shut root s x over (shut_unseen root x unseen)) (i here.table) (near_turn root l x _ go) (refl, subst (λ ps. IsStanding root x ps old.around) (sym path_piles) here) go.some go.none)
+  pub path_named : (last : Option Place) → IsOrderlyIf last ps a → last ≢ None → IsPathNext last → IsNamedIn x a
+  path_named None h some n = absurd (some refl)
+  path_named (Some p) h some n = (path_ahead p x a h.object (n p refl).0).2
 
 -- ---- by the turn that is chosen
 

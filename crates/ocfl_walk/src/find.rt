@@ -1,6 +1,5 @@
 //! One place, looked up in the listings on the way down to it.
-ghost use Rattle.std.specs.Prelude.{◌≡◌, ◌∷◌, ◌++◌, [], None, Some, IsTrue, IfErr, MatchOption};
-ghost use Rattle.ocfl_tree.specs.StorageRoot.{StorageRoot};
+ghost use Rattle.std.specs.Prelude.{◌≡◌, ◌∷◌, ◌++◌, [], None, Some, IfErr, MatchOption};
 ghost use Rattle.ocfl_tree.specs.Listing.{kind_in};
 ghost use Rattle.ocfl_audit.specs.Zone.{zone};
 ghost use Rattle.ocfl_item.specs.Around.{IsPart};

@@ -1,6 +1,5 @@
 //! The item at one place.
-ghost use Rattle.std.specs.Prelude.{◌≡◌, None, Some, IsTrue, IfErr, MatchResult};
-ghost use Rattle.ocfl_tree.specs.StorageRoot.{StorageRoot};
+ghost use Rattle.std.specs.Prelude.{None, Some, IfErr, MatchResult};
 ghost use Rattle.ocfl_item.specs.Meeting.{IsItemAt};
 ghost use Rattle.ocfl_item.specs.Ways.{IsWayFault};
 ghost use Rattle.ocfl_walk.specs.WalkCalls.{GoDownFails, GoesDown};

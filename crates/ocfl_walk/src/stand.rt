@@ -1,6 +1,7 @@
 //! Where a walk stands, and its steps.
 ghost use Rattle.std.specs.Prelude.{◌≡◌, ◌≢◌, ◌<◌, ◌∷◌, ◌++◌, [], false, Option, Some, None};
-ghost use Rattle.std.specs.Prelude.{IsTrue, IfOk, IfErr, IfSome, MatchOption, MatchResult, length};
+ghost use Rattle.std.specs.Prelude.{◌↔◌, IsTrue, IfOk, IfErr, IfSome, MatchOption, MatchResult};
+ghost use Rattle.std.specs.Prelude.{length, take};
 ghost use Rattle.std.specs.Ordering.{is_lt};
 ghost use Rattle.std.specs.declared.cmp.Ordering.TheVariants.{Less};
 ghost use Rattle.arrayvec.specs.ArrayVec.{array_vec_len};
@@ -10,14 +11,14 @@ ghost use Rattle.ocfl_tree.specs.Store.{Store, IfTold};
 ghost use Rattle.ocfl_audit.specs.Walk.{seen_names};
 ghost use Rattle.ocfl_audit.specs.Zone.{seen};
 ghost use Rattle.ocfl_item.specs.Ways.{IsWayFault};
-ghost use Rattle.ocfl_item.specs.Around.{IsMet, IsTableAround};
-ghost use Rattle.ocfl_item.specs.Meeting.{IsFairVisit, IsItemAt, IsVisit, MeetFails, Meets};
-ghost use Rattle.ocfl_walk.specs.Standing.{IsStanding, frames_of, levels, StandsAt, piles_at};
-ghost use Rattle.ocfl_walk.specs.Standing.{piles_in};
-ghost use Rattle.ocfl_walk.specs.Internal.Standing.{IsBelowNext, IsTurn, popped, pushed};
-ghost use Rattle.ocfl_walk.specs.Internal.Standing.{IsAroundIf, IsOrderlyStand, IsTaken, next_of};
-ghost use Rattle.ocfl_walk.specs.Internal.Standing.{path_from, still, trimmed, IsHeld, IsNamedIn};
-ghost use Rattle.ocfl_walk.specs.Internal.Standing.{around_of, cut_top, turn_before, turn_of};
+ghost use Rattle.ocfl_item.specs.Around.{IsMet, IsNamedIn, IsTableAround};
+ghost use Rattle.ocfl_item.specs.Meeting.{IsFairVisit, IsVisit, MeetFails, Meets};
+ghost use Rattle.ocfl_walk.specs.Standing.{StandsAt, frames_of, levels, piles_at, piles_in};
+ghost use Rattle.ocfl_walk.specs.Standing.{stand_size};
+ghost use Rattle.ocfl_walk.specs.Internal.Standing.{IsAroundIf, IsBelowNext, IsHeld};
+ghost use Rattle.ocfl_walk.specs.Internal.Standing.{IsOrderlyStand, IsTaken, IsTurn, around_of};
+ghost use Rattle.ocfl_walk.specs.Internal.Standing.{cut_top, next_of, path_from, popped, pushed};
+ghost use Rattle.ocfl_walk.specs.Internal.Standing.{still, trimmed, turn_before, turn_of};
 ghost use Rattle.ocfl_walk.specs.Before.{place_before};
 ghost use Rattle.ocfl_walk.specs.Ends.{is_past};
 ghost use Rattle.ocfl_walk.specs.Internal.Walking.{step_from, GoesOn, GoesTo, IsBefore, IsFairMet};
@@ -30,7 +31,7 @@ use crate::listing::{keep_from, sorted_if};
 use arrayvec::ArrayVec;
 use ocfl_inventory::Table;
 use ocfl_item::{Around, Fault, Folder, Pending, Visit, visit_base, visit_entry, visit_path};
-use ocfl_tree::{Entry, Name, Place, Tree};
+use ocfl_tree::{Entry, Name, Place, Tree, is_text};
 use std::alloc::{AllocError, Global};
 
 /// The listings on the way to a place, of each what is left, the next entry last: the listing at an
@@ -90,18 +91,50 @@ fn drop_empty(listings: &mut Listings)
     }
 }
 
+/// The next entry, and how many names lead to its directory.
+fn next_listed(listings: &Listings) -> Option<(&Entry, usize)>
+    ensures { (p : Spot) → MatchOption result (next_of (piles_at p listings.now.items) ≡ None)
+        (λ next. next_of (piles_at p listings.now.items)
+        ≡ Some (take next.1 p ++ next.0.now.name ∷ [])) }
+{
+    let Some((entries, above)) = listings.as_slice().split_last() else {
+        return None;
+    };
+    let Some(entry) = entries.last() else {
+        return None;
+    };
+    Some((entry, above.len()))
+}
+
 /// The place of the next entry.
 fn next_entry(listings: &Listings, last: &Place) -> Result<Option<Place>, AllocError>
     ensures { IfOk result (λ o. o ≡ next_of (piles_at last.now listings.now.items)) }
 {
-    let Some((entries, above)) = listings.as_slice().split_last() else {
+    let Some((entry, names)) = next_listed(listings) else {
         return Ok(None);
     };
-    let Some(entry) = entries.last() else {
-        return Ok(None);
-    };
-    let directory = last.first(above.len())?;
+    let directory = last.first(names)?;
     Ok(Some(directory.child(&entry.name)?))
+}
+
+/// Whether the next entry lies at a place.
+fn is_next_entry(listings: &Listings, last: &Place, place: &Place) -> bool
+    ensures { IsTrue result
+        ↔ (next_of (piles_at last.now listings.now.items) ≡ Some place.now) }
+{
+    let Some((entry, names)) = next_listed(listings) else {
+        return false;
+    };
+    let Some((directory, name)) = place.split_last() else {
+        return false;
+    };
+    if !is_text(name, entry.name.as_str()) {
+        return false;
+    }
+    if !last.starts_with_path(directory) {
+        return false;
+    }
+    place.depth().saturating_sub(1) == last.depth().min(names)
 }
 
 /// The place of the table's next path.
@@ -150,9 +183,14 @@ fn choose(
     let Some(last) = last else {
         return Ok(Turn::Base);
     };
-    let entry = next_entry(listings, last)?;
-    let path = next_path(around, last)?;
-    Ok(lesser(entry, path))
+    let Some(path) = next_path(around, last)? else {
+        return Ok(lesser(next_entry(listings, last)?, None));
+    };
+    // Mostly the next entry is a file that the table names: its place is made once.
+    if is_next_entry(listings, last, &path) {
+        return Ok(Turn::Entry(path));
+    }
+    Ok(lesser(next_entry(listings, last)?, Some(path)))
 }
 
 /// The same turn, where it does not lead past the end.
@@ -214,30 +252,6 @@ fn unless_above(entry: Option<Place>, place: &Place) -> Option<Place>
         }
         None => None,
     }
-}
-
-/// The item of a place at which nothing is seen, where a table names it.
-fn missing_item(
-    alloc: Global,
-    around: &Option<Around>,
-    place: &Place,
-) -> Result<Option<Pending>, Fault>
-    ensures only { IfErr result (λ why. why ≡ Fault.Memory) }
-    ensures fair { IfOk result (λ o. IfSome o (λ p. (p.place ≡ place.now)
-        × IsNamedIn place.now around.now)) }
-    ensures told { (root : StorageRoot) → IsTableAround root place.now around.now
-        → seen root place.now ≡ None
-        → IfOk result (λ o. IsItemAt root place.now o) }
-{
-    let Some(object) = around else {
-        return Ok(None);
-    };
-    let inner = place.behind(object.place.depth())?;
-    let named = object.table.named(alloc, &inner)?;
-    if named.is_empty() {
-        return Ok(None);
-    }
-    visit_path(alloc, around, place)
 }
 
 /// The object, where the place lies in it.
@@ -387,32 +401,8 @@ impl Stand {
         Ok(step_of(item))
     }
 
-    /// Takes the table's next path, at which nothing is seen.
-    fn take_path(&mut self, alloc: Global, place: Place) -> Result<Step, Fault>
-        requires orderly { IsOrderlyStand self.old }
-        requires next { (last : Spot) → self.old.last ≡ Some last
-            → (path_from last self.old.around ≡ Some place)
-            × IsBelowNext place (next_of (piles_in self.old.last self.old.listings.items)) }
-        requires some { self.old.last ≢ None }
-        requires trim { trimmed (piles_in self.old.last self.old.listings.items)
-            ≡ piles_in self.old.last self.old.listings.items }
-        ensures orderly { IsOrderlyStand self.new }
-        ensures only { IfErr result (λ why. IsWayFault why) }
-        ensures goes_on { IfOk result (λ step. GoesOn self.old self.new step) }
-        ensures there { IfOk result (λ step. GoesTo self.new place step) }
-        ensures told { (s : Store) (root : StorageRoot) → s.tree ≡ root
-            → (last : Spot) → self.old.last ≡ Some last
-            → IsStanding root last (piles_in self.old.last self.old.listings.items)
-            self.old.around
-            → IsTurn root last place (frames_of (piles_in self.old.last self.old.listings.items))
-            → seen root place ≡ None → StepsTo root s s (Some last) place self.new result }
-    {
-        let item = visit_path(alloc, &self.around, &place)?;
-        self.last = Some(place);
-        Ok(step_of(item))
-    }
-
-    /// Takes a place at which nothing is seen, before the next entry.
+    /// Takes a place at which nothing is seen, before the next entry: a path of the table, or the
+    /// place that the walk begins at.
     fn take_missing(&mut self, alloc: Global, place: Place) -> Result<Step, Fault>
         requires orderly { IsOrderlyStand self.old }
         requires next { IfSome self.old.last (λ last. (place_cmp last place ≡ Less)
@@ -424,13 +414,15 @@ impl Stand {
         ensures orderly { IsOrderlyStand self.new }
         ensures only { IfErr result (λ why. IsWayFault why) }
         ensures goes_on { IfOk result (λ step. GoesAt self.old self.new step) }
+        ensures falls { IsNamedIn place self.old.around
+            → IfOk result (λ _. stand_size self.new < stand_size self.old) }
         ensures there { IfOk result (λ step. GoesTo self.new place step) }
         ensures told { (s : Store) (root : StorageRoot) → s.tree ≡ root → (last : Spot)
             → IsHeld root place (piles_in self.old.last self.old.listings.items) self.old.around
             → IsTurn root last place (frames_of (piles_in self.old.last self.old.listings.items))
             → seen root place ≡ None → StepsTo root s s (Some last) place self.new result }
     {
-        let item = missing_item(alloc, &self.around, &place)?;
+        let item = visit_path(alloc, &self.around, &place)?;
         self.last = Some(place);
         Ok(step_of(item))
     }
@@ -488,7 +480,7 @@ impl Stand {
         match unless_past(alloc, turn, end) {
             Turn::Base => self.take_base(alloc, store),
             Turn::Entry(place) => self.take_entry(alloc, store, place),
-            Turn::Path(place) => self.take_path(alloc, place),
+            Turn::Path(place) => self.take_missing(alloc, place),
             Turn::End => Ok(Step::End),
         }
     }

@@ -1,9 +1,8 @@
 //! The walk: items in order, from a stack of sorted listings and the table of one object.
 ghost use Rattle.std.specs.Prelude.{◌≡◌, ◌≢◌, ◌∷◌, ◌++◌, [], Option, option_map, true, false};
-ghost use Rattle.std.specs.Prelude.{None, Some, IsTrue};
+ghost use Rattle.std.specs.Prelude.{None, Some};
 ghost use Rattle.std.specs.Prelude.{Err, IfOk, IfErr, IfSome, MatchResult};
 ghost use Rattle.ocfl_tree.specs.Place.{Place as Spot};
-ghost use Rattle.ocfl_tree.specs.StorageRoot.{StorageRoot};
 ghost use Rattle.ocfl_item.specs.Ways.{IsWayFault};
 ghost use Rattle.ocfl_walk.specs.Before.{directory_of, place_before};
 ghost use Rattle.ocfl_walk.specs.Ends.{is_past};

@@ -4,10 +4,10 @@ use Rattle.std.specs.Ordering.{is_lt}
 use Rattle.std.specs.List.{AllByRecursion}
 use Rattle.std.specs.declared.cmp.Ordering.TheVariants.{Less}
 use Rattle.ocfl_tree.specs.Place.{Text, Place, text_cmp, place_cmp, begins}
-use Rattle.ocfl_tree.specs.Ascending.{IsAmong, IsAscending, IsBeforeAll}
+use Rattle.ocfl_tree.specs.Ascending.{IsAscending, IsBeforeAll}
 use Rattle.ocfl_tree.specs.StorageRoot.{StorageRoot, max_entries}
 use Rattle.ocfl_tree.specs.declared.store.Entry.{Entry}
-use Rattle.ocfl_inventory.specs.Table.{IsFit, Table, paths_of}
+use Rattle.ocfl_inventory.specs.Table.{IsFit, Table}
 use Rattle.ocfl_audit.specs.Zone.{seen, max_listed_depth}
 use Rattle.ocfl_audit.specs.Lines.{notes}
 use Rattle.ocfl_audit.specs.Due.{due}
@@ -192,8 +192,3 @@ from_name n es = filter (λ e. not (is_lt (text_cmp e.name n))) es
 abbrev pub cut_top : ℕ → Text → List Pile → List Pile
 cut_top k n [] = []
 cut_top k n (p ∷ ps) = if nat_le k (length ps) then (p.0, from_name n p.1) ∷ ps else p ∷ ps
-
--- the table of the object that holds a place names it
-abbrev pub IsNamedIn : Place → Option Around → Type 0
-IsNamedIn p None = ⊥
-IsNamedIn p (Some a) = IsAmong (paths_of a.table) (drop (length a.place) p)

@@ -2,7 +2,7 @@ use Rattle.std.proofs.Common.{sym, subst, Some}
 use Rattle.std.proofs.lemmas.Result.{err_from_is_err_and}
 use Rattle.ocfl_walk.specs.Internal.Walking.{FailsTo}
 use Rattle.ocfl_walk.proofs.Chosen.{no_memory_to}
-use Rattle.ocfl_walk.proofs.FirstSteps.{missing_goes_on, missing_orderly, missing_there, missing_told}
+use Rattle.ocfl_walk.proofs.FirstSteps.{missing_falls, missing_goes_on, missing_orderly, missing_there, missing_told}
 use Rattle.ocfl_walk.proofs.stand.Stand.take_missing.Goals as goal
 
 pub returns-in_err-item-clause-told : goal.returns-in_err-item-clause-told
@@ -14,7 +14,10 @@ pub returns-clause-orderly : goal.returns-clause-orderly
 returns-clause-orderly c = missing_orderly c.args.self.now c.args.place c.requires.orderly c.requires.some c.requires.trim c.requires.next
 
 pub returns-clause-goes_on : goal.returns-clause-goes_on
-returns-clause-goes_on c = missing_goes_on c.args.self.now c.args.place c.requires.orderly c.requires.some c.requires.trim c.requires.next c.in_ok-item.item c.step_of.result c.step_of.ensures c.in_ok-item.ensures.fair
+returns-clause-goes_on c = missing_goes_on c.args.self.now c.args.place c.requires.orderly c.requires.some c.requires.trim c.requires.next c.in_ok-item.item c.step_of.result c.step_of.ensures c.in_ok-item.ensures.fair c.in_ok-item.ensures.named
+
+pub returns-clause-falls : goal.returns-clause-falls
+returns-clause-falls c = missing_falls c.args.self.now c.args.place c.requires.orderly c.requires.some c.requires.trim c.requires.next
 
 pub returns-clause-there : goal.returns-clause-there
 returns-clause-there c = missing_there c.args.self.now c.args.place c.requires.orderly c.requires.some c.requires.trim c.requires.next c.in_ok-item.item c.step_of.result c.step_of.ensures

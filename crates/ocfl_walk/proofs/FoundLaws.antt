@@ -41,13 +41,13 @@ none_mapped : {A B : Type 0} (f : A → B) (xs : List A) → map f xs ≡ [] →
 none_mapped f [] h = refl
 none_mapped f (x ∷ xs) h = absurd cc
 
-none_hashed : (root : StorageRoot) → hashed_among root [] ≡ []
+pub none_hashed : (root : StorageRoot) → hashed_among root [] ≡ []
 unfolding hashed_among
 none_hashed root = refl
 
 module _ (root : StorageRoot) where
   -- where no content was opened none was unreadable
-  none_unread : (trail : List Opening) → content_trail root trail ≡ [] → length (unread_of root trail) ≡ 0
+  pub none_unread : (trail : List Opening) → content_trail root trail ≡ [] → length (unread_of root trail) ≡ 0
   none_unread trail h = ap (λ os. length {A = Place × ℕ} (map (λ o. (o.place, o.given)) (filter (λ o. o.failed) os))) (none_mapped (λ o. o.place) (content_openings root trail) h)
 
   did_so : (s t : Store) (trail : List Opening) (listed : List Place) (f : ℕ) → content_trail root trail ≡ [] → Did s t trail listed f → Did s t trail listed (length (unread_of root trail) + f)

@@ -27,5 +27,6 @@ pub mod FindLaws
 pub mod FoundLaws
 pub mod StandSteps
 pub mod HolderLaws
+pub mod WayDownLaws
 pub mod CutLaws
 pub mod FirstSteps

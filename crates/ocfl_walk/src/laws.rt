@@ -1,17 +1,19 @@
 //! What a walk did adds up, what lies on the way down to a place, and what a walk that begins at a
 //! place gives.
-ghost use Rattle.std.specs.Prelude.{◌≡◌, ◌++◌, ◌∷◌, [], Option, None, Some, true};
+ghost use Rattle.std.specs.Prelude.{◌≡◌, ◌++◌, ◌∷◌, [], List, Option, None, Some, codes, true};
 ghost use Rattle.ocfl_tree.specs.Place.{Place};
 ghost use Rattle.ocfl_tree.specs.Ascending.{IsAmong};
 ghost use Rattle.ocfl_tree.specs.Store.{Store};
+ghost use Rattle.ocfl_tree.specs.declared.store.Opening.{Opening};
 ghost use Rattle.ocfl_tree.specs.StorageRoot.{StorageRoot};
 ghost use Rattle.ocfl_audit.specs.Between.{IsBeyond, IsWithin, looked_between, read_between};
 ghost use Rattle.ocfl_audit.specs.Due.{due, item_places};
-ghost use Rattle.ocfl_audit.specs.Trail.{reads_inventory};
+ghost use Rattle.ocfl_audit.specs.Objects.{IsObjectRoot};
+ghost use Rattle.ocfl_audit.specs.Trail.{is_meta, reads_inventory};
 ghost use Rattle.ocfl_audit.specs.Zone.{inside, zone, beginnings};
 ghost use Rattle.ocfl_item.specs.declared.fault.Fault.{Fault};
 ghost use Rattle.ocfl_walk.specs.Before.{place_before, places_from};
-ghost use Rattle.ocfl_walk.specs.WalkCalls.{Walks, WalkFails, holder, way_of};
+ghost use Rattle.ocfl_walk.specs.WalkCalls.{GoesDown, Walks, WalkFails, holder, way_of};
 
 /// What a walk did from one place to another, and from there on, it did all the way.
 #[tactic(auto, using(crate::proofs::WalkCallLaws::walks_on, crate::proofs::WalkCallLaws::walks_fail))]
@@ -34,6 +36,25 @@ pub fn the_way_down_is_exact()
         → reads_inventory root o ≡ true → holder root (Some p) ≡ o ∷ [] }
     ensures way { (p : Place) → way_of (Some p) ≡ beginnings p ++ p ∷ [] }
     ensures none { (root : StorageRoot) → (holder root None ≡ []) × (way_of None ≡ []) }
+{}
+
+/// On the way down to a place no call failed. Of files only metadata was opened, and of inventories
+/// only that of the object that holds the place, where its head reaches it. Of directories only the
+/// beginnings of the place were listed, and the place.
+pub fn the_way_down_opens_one_inventory()
+    ensures inventories { (root : StorageRoot) (s t : Store) (p : Option Place)
+        → GoesDown root s t p → (trail : List Opening) × ((t.openings ≡ s.openings ++ trail)
+        × ((x : Opening) (o : Place) → IsAmong trail x → IsObjectRoot root o
+        → x.place ≡ o ++ codes "inventory.json" ∷ []
+        → (reads_inventory root o ≡ true) × ((q : Place) × (p ≡ Some (o ++ q))))) }
+    ensures metadata { (root : StorageRoot) (s t : Store) (p : Option Place)
+        → GoesDown root s t p → (trail : List Opening) × ((t.openings ≡ s.openings ++ trail)
+        × ((x : Opening) → IsAmong trail x → is_meta root x.place ≡ true)) }
+    ensures listed { (root : StorageRoot) (s t : Store) (p : Option Place)
+        → GoesDown root s t p → (listed : List Place) × ((t.listings ≡ s.listings ++ listed)
+        × ((d : Place) → IsAmong listed d → (q : Place) × (p ≡ Some (d ++ q)))) }
+    ensures unfailing { (root : StorageRoot) (s t : Store) (p : Option Place)
+        → GoesDown root s t p → t.failures ≡ s.failures }
 {}
 
 /// Above the place before a place lies what is not less than that: what is due there, and which

@@ -1,0 +1,95 @@
+-- What was done on the way down to a place, in words of single calls.
+use Rattle.std.proofs.Common.{◌≡◌, ◌⊎◌, inl, inr, ℕ, ◌+◌, List, [], ◌∷◌, ◌++◌, refl, sym, ◌∙◌, ap, subst, true, false, Bool, map, filter, Option, Some, None, arith, length}
+use Rattle.std.proofs.lemmas.List.{append-nil}
+use Rattle.std.specs.Prelude.{codes, cond, not}
+use Rattle.ocfl_tree.specs.Place.{Place, Text}
+use Rattle.ocfl_tree.specs.Ascending.{IsAmong}
+use Rattle.ocfl_tree.specs.StorageRoot.{StorageRoot}
+use Rattle.ocfl_tree.specs.Store.{Store}
+use Rattle.ocfl_tree.specs.declared.store.Opening.{Opening}
+use Rattle.ocfl_tree.proofs.Orders.{among_left, among_right}
+use Rattle.ocfl_audit.specs.Objects.{IsObjectRoot}
+use Rattle.ocfl_audit.specs.Trail.{content_trail, heads_of, inventory_of, is_meta, reads_inventory, unread_of}
+use Rattle.ocfl_audit.specs.Zone.{beginnings, zone}
+use Rattle.ocfl_audit.proofs.MetaLaws.{head_shown}
+use Rattle.ocfl_item.specs.Looking.{way_to}
+use Rattle.ocfl_item.proofs.WantedLaws.{among_last}
+use Rattle.ocfl_walk.specs.WalkCalls.{GoesDown, holder, way_of}
+use Rattle.ocfl_walk.proofs.FoundLaws.{none_hashed, none_unread}
+use Rattle.ocfl_walk.proofs.HolderLaws.{held_above}
+
+-- ---- places on the way
+
+-- a place that another begins with
+abbrev IsBeginning : Place → Place → Type 0
+IsBeginning p d = (q : Place) × (p ≡ d ++ q)
+
+mapped : (n : Text) (ps : List Place) (d : Place) → IsAmong (map (λ q. n ∷ q) ps) d → (e : Place) × IsAmong ps e × (d ≡ n ∷ e)
+mapped n [] d i = absurd i
+mapped n (e ∷ ps) d (inl f) = (e, inl refl, f)
+mapped n (e ∷ ps) d (inr i) = let k = mapped n ps d i in (k.0, inr k.1, k.2)
+
+begun : (p d : Place) → IsAmong (beginnings p) d → IsBeginning p d
+begun [] d i = absurd i
+begun (n ∷ p) d (inl e) = (n ∷ p, ap (λ x. x ++ n ∷ p) (sym e))
+begun (n ∷ p) d (inr i) =
+    let k = mapped n (beginnings p) d i in
+    let q = begun p k.0 k.1 in
+    (q.0, ap (λ x. n ∷ x) q.1 ∙ ap (λ x. x ++ q.0) (sym k.2))
+
+on_way : (p d : Place) → IsAmong (way_to p) d → IsBeginning p d
+on_way p d i = by ((among_last (beginnings p) p d).0 i)
+  where
+    by : IsAmong (beginnings p) d ⊎ (d ≡ p) → IsBeginning p d
+    by (inl k) = begun p d k
+    by (inr e) = ([], sym e ∙ sym (append-nil d))
+
+-- ---- openings of inventories
+
+one_head : (root : StorageRoot) (trail : List Opening) (x : Opening) (o : Place) → IsAmong trail x → heads_of root (x ∷ []) ≡ o ∷ [] → IsAmong (heads_of root trail) o
+one_head root [] x o i h = absurd i
+one_head root (y ∷ trail) x o (inl e) h =
+    let own : inventory_of (zone root y.place) ≡ o ∷ [] = ap (λ z. inventory_of (zone root z.place)) (sym e) ∙ sym (append-nil (inventory_of (zone root x.place))) ∙ h in
+    among_left (inventory_of (zone root y.place)) (heads_of root trail) o (subst (λ os. IsAmong os o) (sym own) (inl refl))
+one_head root (y ∷ trail) x o (inr i) h = among_right (inventory_of (zone root y.place)) (heads_of root trail) o (one_head root trail x o i h)
+
+no_content : (root : StorageRoot) (trail : List Opening) → content_trail root trail ≡ [] → (x : Opening) → IsAmong trail x → is_meta root x.place ≡ true
+no_content root [] h x i = absurd i
+no_content root (y ∷ trail) h x i = by (is_meta root y.place) refl h i (λ k j. no_content root trail k x j)
+  where
+    by : (b : Bool) → is_meta root y.place ≡ b → map (λ o. o.place) (cond (not b) (y ∷ filter (λ o. not (is_meta root o.place)) trail) (filter (λ o. not (is_meta root o.place)) trail)) ≡ [] → IsAmong (y ∷ trail) x
+        → (content_trail root trail ≡ [] → IsAmong trail x → is_meta root x.place ≡ true) → is_meta root x.place ≡ true
+    by false e k j more = absurd cc
+    by true e k (inl f) more = ap (λ o. is_meta root o.place) f ∙ e
+    by true e k (inr j) more = more k j
+
+-- ---- the way down
+
+module _ (root : StorageRoot) (s t : Store) (p : Option Place) (g : GoesDown root s t p) where
+  nothing_opened : content_trail root g.trail ≡ []
+  nothing_opened = g.audits.opened ∙ none_hashed root
+
+  pub down_inventories : (trail : List Opening) × ((t.openings ≡ s.openings ++ trail) × ((x : Opening) (o : Place) → IsAmong trail x → IsObjectRoot root o → x.place ≡ o ++ codes "inventory.json" ∷ [] → (reads_inventory root o ≡ true) × ((q : Place) × (p ≡ Some (o ++ q)))))
+  down_inventories = (g.trail, (g.audits.did.openings_are, λ x o i object is. by p o (held x o i object is)))
+    where
+      held : (x : Opening) (o : Place) → IsAmong g.trail x → IsObjectRoot root o → x.place ≡ o ++ codes "inventory.json" ∷ [] → IsAmong (holder root p) o
+      held x o i object is =
+          let opened : IsAmong g.heads o = subst (λ os. IsAmong os o) g.audits.heads_are (one_head root g.trail x o i (head_shown root x o object is)) in
+          subst (λ os. IsAmong os o) (sym g.heads_front.1) (among_left g.heads g.heads_front.0 o opened)
+
+      by : (p : Option Place) (o : Place) → IsAmong (holder root p) o → (reads_inventory root o ≡ true) × ((q : Place) × (p ≡ Some (o ++ q)))
+      by None o i = absurd i
+      by (Some d) o i = let k = held_above root d o i in (k.0, (k.1.0, ap (λ y. Some y) k.1.1))
+
+  pub down_metadata : (trail : List Opening) × ((t.openings ≡ s.openings ++ trail) × ((x : Opening) → IsAmong trail x → is_meta root x.place ≡ true))
+  down_metadata = (g.trail, (g.audits.did.openings_are, no_content root g.trail nothing_opened))
+
+  pub down_listed : (listed : List Place) × ((t.listings ≡ s.listings ++ listed) × ((d : Place) → IsAmong listed d → (q : Place) × (p ≡ Some (d ++ q))))
+  down_listed = (g.listed, (g.audits.did.listings_are, λ d i. by p d (subst (λ ds. IsAmong ds d) (sym g.listed_front.1) (among_left g.listed g.listed_front.0 d i))))
+    where
+      by : (p : Option Place) (d : Place) → IsAmong (way_of p) d → (q : Place) × (p ≡ Some (d ++ q))
+      by None d i = absurd i
+      by (Some e) d i = let k = on_way e d i in (k.0, ap (λ y. Some y) k.1)
+
+  pub down_unfailing : t.failures ≡ s.failures
+  down_unfailing = let none = none_unread root g.trail nothing_opened in let all = g.audits.did.failures_are in omega (arith, none, all)

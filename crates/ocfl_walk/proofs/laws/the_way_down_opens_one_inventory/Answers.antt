@@ -1,0 +1,14 @@
+use Rattle.ocfl_walk.proofs.WayDownLaws.{down_inventories, down_listed, down_metadata, down_unfailing}
+use Rattle.ocfl_walk.proofs.laws.the_way_down_opens_one_inventory.Goals as goal
+
+pub returns-clause-inventories : goal.returns-clause-inventories
+returns-clause-inventories c = down_inventories
+
+pub returns-clause-metadata : goal.returns-clause-metadata
+returns-clause-metadata c = down_metadata
+
+pub returns-clause-listed : goal.returns-clause-listed
+returns-clause-listed c = down_listed
+
+pub returns-clause-unfailing : goal.returns-clause-unfailing
+returns-clause-unfailing c = down_unfailing

@@ -24,7 +24,7 @@ use Rattle.ocfl_item.specs.HeadFiles.{FilesStop, OpensJust, ReadsFiles, files_th
 use Rattle.ocfl_item.specs.Internal.HeadFiles.{IsFileAt, ReadsFile, head_files, inventory_files, sidecars_for, table_in}
 use Rattle.ocfl_item.specs.Internal.Lines.{Adds}
 use Rattle.ocfl_item.specs.Ways.{IsObject}
-use Rattle.ocfl_item.specs.Internal.Ways.{IsDeclared}
+use Rattle.ocfl_item.specs.Internal.Ways.{IsDeclared, IsListedObject}
 use Rattle.ocfl_item.specs.declared.fault.Fault.{Fault}
 use Rattle.ocfl_item.specs.declared.fault.Fault.TheVariants as fault
 use Rattle.ocfl_item.specs.declared.lines.PlaceLines.{PlaceLines}
@@ -34,6 +34,9 @@ use Rattle.ocfl_item.proofs.LooksCalls.{did_nothing, memory_no_store}
 
 abbrev both : List Text
 both = sidecar_name Sha256 ∷ sidecar_name Sha512 ∷ []
+
+pub listed_object : (root : StorageRoot) (o : Place) (es : List Entry) → IsObject root o es → IsListedObject root o es
+listed_object root o es h = record { listing = h.listing; zone = h.zone }
 
 module _ (root : StorageRoot) (o : Place) where
   -- ---- which sidecars are read

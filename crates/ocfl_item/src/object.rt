@@ -22,7 +22,8 @@ ghost use Rattle.ocfl_item.specs.Internal.HeadFiles.{inventory_files, table_in};
 ghost use Rattle.ocfl_item.specs.Internal.Lines.{Adds};
 ghost use Rattle.ocfl_item.specs.Internal.Visiting.{HeadRead};
 ghost use Rattle.ocfl_item.specs.Ways.{IsObject, IsWayFault};
-ghost use Rattle.ocfl_item.specs.Internal.Ways.{IsDeclared, IsHeadOf, is_file_kind};
+ghost use Rattle.ocfl_item.specs.Internal.Ways.{IsDeclared, IsHeadOf, IsListedObject};
+ghost use Rattle.ocfl_item.specs.Internal.Ways.{is_file_kind};
 ghost use Rattle.ocfl_tree.specs.Store.{IfTold};
 
 use crate::declarations::stopped_lines;
@@ -115,8 +116,7 @@ fn read_sidecar<T: Tree>(
 fn read_sidecars<T: Tree>(alloc: Global, store: &mut T, folder: &Folder) -> Result<Sidecars, Fault>
     ensures only { IfErr result (λ why. IsWayFault why) }
     ensures told { IfTold T.told (T.state store.old) (λ root.
-        IsListing root folder.now.place folder.now.entries.items
-        → zone root folder.now.place ≡ inside folder.now.place []
+        IsListedObject root folder.now.place folder.now.entries.items
         → MatchResult result
         (λ sidecars. ReadsFiles root (T.state store.old) (T.state store.new) folder.now.place
         (sidecar_name_of Sha256 ∷ sidecar_name_of Sha512 ∷ [])
@@ -142,8 +142,7 @@ fn add_whole_inventory<T: Tree>(
     ensures fit { IfOk result (λ table. IfSome table (λ t. IsFit t)) }
     ensures place { OnOk result (lines.new.place ≡ lines.old.place) }
     ensures told { IfTold T.told (T.state store.old) (λ root.
-        IsListing root folder.now.place folder.now.entries.items
-        → zone root folder.now.place ≡ inside folder.now.place []
+        IsListedObject root folder.now.place folder.now.entries.items
         → MatchResult result
         (λ table. ReadsFiles root (T.state store.old) (T.state store.new) folder.now.place
         (sidecar_name_of Sha256 ∷ sidecar_name_of Sha512 ∷ [])
@@ -168,16 +167,14 @@ fn add_inventory_file<T: Tree>(
     ensures fit { IfOk result (λ table. IfSome table (λ t. IsFit t)) }
     ensures place { OnOk result (lines.new.place ≡ lines.old.place) }
     ensures told { IfTold T.told (T.state store.old) (λ root.
-        IsListing root folder.now.place folder.now.entries.items
-        → zone root folder.now.place ≡ inside folder.now.place []
+        IsListedObject root folder.now.place folder.now.entries.items
         → IfOk result
         (λ table. (table ≡ table_in (file_at root (folder.now.place ++ inventory_name ∷ [])))
         × Adds lines.old lines.new
         (inventory_file_notes root folder.now.place
         (file_at root (folder.now.place ++ inventory_name ∷ []))))) }
     ensures opened { IfTold T.told (T.state store.old) (λ root.
-        IsListing root folder.now.place folder.now.entries.items
-        → zone root folder.now.place ≡ inside folder.now.place []
+        IsListedObject root folder.now.place folder.now.entries.items
         → OpensJust root (T.state store.old) (T.state store.new) folder.now.place
         (inventory_files root folder.now.place) result) }
 {
@@ -205,8 +202,7 @@ fn add_declaration_file<T: Tree>(
     ensures only { IfErr result (λ why. IsWayFault why) }
     ensures place { OnOk result (lines.new.place ≡ lines.old.place) }
     ensures told { IfTold T.told (T.state store.old) (λ root.
-        IsListing root folder.now.place folder.now.entries.items
-        → zone root folder.now.place ≡ inside folder.now.place []
+        IsListedObject root folder.now.place folder.now.entries.items
         → MatchResult result
         (λ _. ReadsFiles root (T.state store.old) (T.state store.new) folder.now.place
         (declaration_name_of level.Object version ∷ [])

@@ -12,11 +12,10 @@ use Rattle.ocfl_audit.specs.Zone.{zone}
 use Rattle.ocfl_item.specs.Looking.{IsFront, failures_by}
 use Rattle.ocfl_item.specs.Ways.{AreInventories, Stops}
 use Rattle.ocfl_item.specs.Internal.Ways.{Opens, ReadsTable}
-use Rattle.ocfl_walk.specs.Internal.Entering.{AreReached}
+use Rattle.ocfl_walk.specs.Internal.Entering.{AreReached, Calls, NamesFailed, Descends, DescendFails, Opens as Opened}
 use Rattle.ocfl_item.specs.Around.{IsTableAround}
 use Rattle.ocfl_audit.specs.Head.{on}
 use Rattle.ocfl_audit.specs.Trail.{heads_of, reads_inventory}
-use Rattle.ocfl_walk.specs.Internal.Entering.{Descends, DescendFails, Opens as Opened}
 use Rattle.ocfl_item.proofs.AuditingLaws.{failed_behind, read_behind, heads_append}
 use Rattle.ocfl_item.specs.declared.fault.Fault.{Fault}
 use Rattle.ocfl_item.specs.declared.fault.Fault.TheVariants as fault
@@ -67,53 +66,83 @@ module _ (root : StorageRoot) where
       let all = ap length (heads_append root os os') in
       omega (arith, h, k, all, length-append os os', length-append (heads_of root os) (heads_of root os'))
 
-  abbrev pub descends_on : (s t u : Store) (way more more' may left left' : List Place) (f : ℕ) → Descends root s t way more may left 0 → Descends root t u more more' left left' f → Descends root s u way more' may left' f
-  descends_on s t u way more more' may left left' f h g = record {
+  -- one after the other
+  abbrev pub calls_then : (s t u : Store) (f : ℕ) → Calls root s t 0 → Calls root t u f → Calls root s u f
+  calls_then s t u f h g = record {
     over = h.over;
     trail = h.trail ++ g.trail;
     listings = h.listings ++ g.listings;
     did = did_then s t u h.trail g.trail h.listings g.listings f h.did g.did;
     read = λ e. read_behind root h.trail g.trail (h.read refl) (g.read e);
     meta = content_behind root h.trail g.trail h.meta ∙ g.meta;
-    only = both_inventories h.trail g.trail h.only g.only;
     reached = both_reached h.trail g.trail h.reached g.reached;
-    listed = front_on h.listings more way g.listings more' h.listed g.listed;
-    heads = subst (λ x. IsFront (x ++ left') may) (sym (heads_append root h.trail g.trail)) (front_on (heads_of root h.trail) left may (heads_of root g.trail) left' h.heads g.heads);
   }
+
+  pub failed_then : (s t u : Store) (why : Fault) (h : Calls root s t 0) (g : Calls root t u (failures_by why)) → NamesFailed root t u why g → NamesFailed root s u why (calls_then s t u (failures_by why) h g)
+  failed_then s t u why h g k = λ q e. let f = k q e in (f.0, failed_behind root h.listings g.listings h.trail g.trail q (h.read refl) f.1)
+
+  abbrev pub no_calls : (s t : Store) → s.tree ≡ root → Did s t [] [] 0 → Calls root s t 0
+  no_calls s t over did = record { over = over; trail = []; listings = []; did = did; read = λ e. refl; meta = refl; reached = refl }
+
+  abbrev pub descends_on : (s t u : Store) (way more more' may left left' : List Place) (f : ℕ) → Descends root s t way more may left 0 → Descends root t u more more' left left' f → Descends root s u way more' may left' f
+  descends_on s t u way more more' may left left' f h g =
+      let a = h.calls in
+      let b = g.calls in
+      record {
+        calls = calls_then s t u f a b;
+        only = both_inventories a.trail b.trail h.only g.only;
+        listed = front_on a.listings more way b.listings more' h.listed g.listed;
+        heads = subst (λ x. IsFront (x ++ left') may) (sym (heads_append root a.trail b.trail)) (front_on (heads_of root a.trail) left may (heads_of root b.trail) left' h.heads g.heads);
+      }
 
   pub descent_fails_on : (s t u : Store) (way more may left : List Place) (why : Fault) → Descends root s t way more may left 0 → DescendFails root t u more left why → DescendFails root s u way may why
   descent_fails_on s t u way more may left why h g = record {
     goes = descends_on s t u way more [] may left [] (failures_by why) h g.goes;
-    store = λ q e. let k = g.store q e in (k.0, failed_behind root h.listings g.goes.listings h.trail g.goes.trail q (h.read refl) k.1);
+    store = failed_then s t u why h.calls g.goes.calls g.store;
   }
 
   -- nothing was done
   pub descends_not : (s t : Store) (way may : List Place) → s.tree ≡ root → Did s t [] [] 0 → Descends root s t way [] may [] 0
-  descends_not s t way may over did = record { over = over; trail = []; listings = []; did = did; read = λ e. refl; meta = refl; only = refl; reached = refl; listed = (way, refl); heads = (may, refl) }
+  descends_not s t way may over did = record { calls = no_calls s t over did; only = refl; listed = (way, refl); heads = (may, refl) }
 
   pub descent_memory : (s : Store) (way may : List Place) → s.tree ≡ root → DescendFails root s s way may fault.Memory
   descent_memory s way may over = record { goes = descends_not s s way may over (did_nothing s); store = λ q e. absurd (memory_no_store q e) }
 
   -- one directory was listed
   pub descends_one : (s t : Store) (d : Place) (way may : List Place) → s.tree ≡ root → Did s t [] (d ∷ []) 0 → Descends root s t (d ∷ way) way may may 0
-  descends_one s t d way may over did = record { over = over; trail = []; listings = d ∷ []; did = did; read = λ e. refl; meta = refl; only = refl; reached = refl; listed = ([], sym (append-nil (d ∷ way))); heads = ([], sym (append-nil may)) }
+  descends_one s t d way may over did = record {
+    calls = record { over = over; trail = []; listings = d ∷ []; did = did; read = λ e. refl; meta = refl; reached = refl };
+    only = refl;
+    listed = ([], sym (append-nil (d ∷ way)));
+    heads = ([], sym (append-nil may));
+  }
 
   -- what was done, on another way
-  abbrev pub descends_as : (s t : Store) (way more may left way' more' may' left' : List Place) (f : ℕ) (h : Descends root s t way more may left f) → IsFront (h.listings ++ more') way' → IsFront (heads_of root h.trail ++ left') may' → Descends root s t way' more' may' left' f
-  descends_as s t way more may left way' more' may' left' f h listed heads = record { over = h.over; trail = h.trail; listings = h.listings; did = h.did; read = h.read; meta = h.meta; only = h.only; reached = h.reached; listed = listed; heads = heads }
+  abbrev pub descends_as : (s t : Store) (way more may left way' more' may' left' : List Place) (f : ℕ) (h : Descends root s t way more may left f) → IsFront (h.calls.listings ++ more') way' → IsFront (heads_of root h.calls.trail ++ left') may' → Descends root s t way' more' may' left' f
+  descends_as s t way more may left way' more' may' left' f h listed heads = record { calls = h.calls; only = h.only; listed = listed; heads = heads }
 
   -- no more is done
   abbrev pub descends_end : (s t : Store) (way more may left : List Place) (f : ℕ) → Descends root s t way more may left f → Descends root s t way [] may [] f
   descends_end s t way more may left f h =
+      let ls = h.calls.listings in
+      let os = heads_of root h.calls.trail in
       descends_as s t way more may left way [] may [] f h
-      (more ++ h.listed.0, h.listed.1 ∙ append_assoc h.listings more h.listed.0 ∙ ap (λ x. x ++ (more ++ h.listed.0)) (sym (append-nil h.listings)))
-      (left ++ h.heads.0, h.heads.1 ∙ append_assoc (heads_of root h.trail) left h.heads.0 ∙ ap (λ x. x ++ (left ++ h.heads.0)) (sym (append-nil (heads_of root h.trail))))
+      (more ++ h.listed.0, h.listed.1 ∙ append_assoc ls more h.listed.0 ∙ ap (λ x. x ++ (more ++ h.listed.0)) (sym (append-nil ls)))
+      (left ++ h.heads.0, h.heads.1 ∙ append_assoc os left h.heads.0 ∙ ap (λ x. x ++ (left ++ h.heads.0)) (sym (append-nil os)))
 
   -- a listing that failed
   pub listing_fails : (s t : Store) (d : Place) (way may : List Place) (why : Fault) → Stops root s t (d ∷ []) [] why → DescendFails root s t (d ∷ way) may why
   listing_fails s t d way may why h =
       let listed : IsFront (h.goes.listings ++ []) (d ∷ way) = (h.goes.listed.0 ++ way, ap (λ x. x ++ way) h.goes.listed.1 ∙ append_assoc h.goes.listings h.goes.listed.0 way ∙ ap (λ x. x ++ (h.goes.listed.0 ++ way)) (sym (append-nil h.goes.listings))) in
-      record { goes = record { over = h.goes.over; trail = []; listings = h.goes.listings; did = h.goes.did; read = λ e. refl; meta = refl; only = refl; reached = refl; listed = listed; heads = (may, refl) }; store = h.store }
+      record {
+        goes = record {
+          calls = record { over = h.goes.over; trail = []; listings = h.goes.listings; did = h.goes.did; read = λ e. refl; meta = refl; reached = refl };
+          only = refl;
+          listed = listed;
+          heads = (may, refl);
+        };
+        store = h.store;
+      }
 
   -- ---- an object's inventory
 
@@ -121,7 +150,12 @@ module _ (root : StorageRoot) where
   opens_front o trail h = subst (λ x. IsFront x (o ∷ [])) (sym (append-nil (heads_of root trail))) (front_within o (reads_inventory root o) (heads_of root trail) h)
 
   descends_read : (s t : Store) (o : Place) (m : Opens root s t o) → AreInventories root m.reads.trail → Descends root s t [] [] (o ∷ []) [] 0
-  descends_read s t o m only = record { over = m.reads.over; trail = m.reads.trail; listings = []; did = m.reads.did; read = λ e. m.reads.read; meta = m.reads.meta.meta; only = only; reached = own_inventory_reached root o m.reads.trail m.heads; listed = ([], refl); heads = opens_front o m.reads.trail m.heads }
+  descends_read s t o m only = record {
+    calls = record { over = m.reads.over; trail = m.reads.trail; listings = []; did = m.reads.did; read = λ e. m.reads.read; meta = m.reads.meta.meta; reached = own_inventory_reached root o m.reads.trail m.heads };
+    only = only;
+    listed = ([], refl);
+    heads = opens_front o m.reads.trail m.heads;
+  }
 
   pub opened_stops : (s t : Store) (o : Place) (why : Fault) → ReadsTable root s t o (Err why) → Opened root s t o (Err why)
   opened_stops s t o why r =
@@ -129,14 +163,16 @@ module _ (root : StorageRoot) where
       record {
         gives = record {
           goes = record {
-            over = k.stops.goes.over;
-            trail = k.trail;
-            listings = k.stops.goes.listings;
-            did = k.stops.goes.did;
-            read = k.stops.goes.read;
-            meta = k.meta.meta;
+            calls = record {
+              over = k.stops.goes.over;
+              trail = k.trail;
+              listings = k.stops.goes.listings;
+              did = k.stops.goes.did;
+              read = k.stops.goes.read;
+              meta = k.meta.meta;
+              reached = own_inventory_reached root o k.trail r.gives.0.heads;
+            };
             only = r.gives.1;
-            reached = own_inventory_reached root o k.trail r.gives.0.heads;
             listed = subst (λ x. IsFront x []) (sym (append-nil k.stops.goes.listings)) k.stops.goes.listed;
             heads = opens_front o k.trail r.gives.0.heads;
           };

@@ -123,7 +123,7 @@ module _ (root : StorageRoot) where
 
   abbrev descends_beside : (s t : Store) (way may left : List Place) (f : ℕ) → Descends root s t [] [] may left f → Descends root s t way way may left f
   descends_beside s t way may left f h =
-      let none : h.listings ≡ [] = nothing_more h.listings h.listed.0 h.listed.1 in
+      let none : h.calls.listings ≡ [] = nothing_more h.calls.listings h.listed.0 h.listed.1 in
       descends_as root s t [] [] may left way way may left f h (subst (λ ls. IsFront (ls ++ way) way) (sym none) ([], sym (append-nil way))) h.heads
 
   module _ (s t u : Store) (d : Place) (n : Text) (r : Place) (over : s.tree ≡ root) (did : Did s t [] ((d ++ n ∷ []) ∷ []) 0) (z : zone root (d ++ n ∷ []) ≡ inside (d ++ n ∷ []) []) where

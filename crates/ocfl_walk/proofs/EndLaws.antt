@@ -1,5 +1,6 @@
 -- What lies past the end of a walk.
 use Rattle.std.proofs.Common.{◌≡◌, ◌≢◌, inl, inr, List, [], ◌∷◌, ◌++◌, refl, sym, ◌∙◌, ap, subst, true, false, Bool, Option, Some, None}
+use Rattle.std.proofs.lemmas.List.{append-nil}
 use Rattle.std.specs.Prelude.{cond, not, ◌&&◌, ◌||◌}
 use Rattle.std.specs.Ordering.{is_lt, is_eq, ordering_then}
 use Rattle.std.specs.declared.cmp.Ordering.{Ordering}
@@ -23,14 +24,14 @@ use Rattle.ocfl_walk.specs.declared.end.End.{End}
 
 -- ---- what lies above a place past the end is past it
 
--- what lies between a place and another that begins with it begins with it
-between_begins : (u r x : Place) → place_cmp u x ≡ Less → place_cmp x (u ++ r) ≡ Less → begins u x ≡ true
-between_begins [] r x h k = refl
-between_begins (m ∷ u) r [] h k = absurd cc
-between_begins (m ∷ u) r (c ∷ x) h k = by (text_cmp m c) refl (text_cmp c m) refl h k (between_begins u r x)
+-- what lies between two places that begin with a place begins with it
+pub begins_between : (u q r x : Place) → place_cmp (u ++ q) x ≡ Less → place_cmp x (u ++ r) ≡ Less → begins u x ≡ true
+begins_between [] q r x h k = refl
+begins_between (m ∷ u) q r [] h k = absurd cc
+begins_between (m ∷ u) q r (c ∷ x) h k = by (text_cmp m c) refl (text_cmp c m) refl h k (begins_between u q r x)
   where
-    by : (o : Ordering) → text_cmp m c ≡ o → (v : Ordering) → text_cmp c m ≡ v → ordering_then o (place_cmp u x) ≡ Less → ordering_then v (place_cmp x (u ++ r)) ≡ Less
-        → (place_cmp u x ≡ Less → place_cmp x (u ++ r) ≡ Less → begins u x ≡ true) → is_eq (text_cmp m c) && begins u x ≡ true
+    by : (o : Ordering) → text_cmp m c ≡ o → (v : Ordering) → text_cmp c m ≡ v → ordering_then o (place_cmp (u ++ q) x) ≡ Less → ordering_then v (place_cmp x (u ++ r)) ≡ Less
+        → (place_cmp (u ++ q) x ≡ Less → place_cmp x (u ++ r) ≡ Less → begins u x ≡ true) → is_eq (text_cmp m c) && begins u x ≡ true
     by Equal e Equal f g i j = ap (λ y. is_eq y && begins u x) e ∙ j g i
     by Less e Less f g i j = absurd (not_below_itself text_cmp_total m (text_cmp_total.trans m c m e f))
     by Less e Equal f g i j = absurd (not_below_itself text_cmp_total m (ap (text_cmp m) (sym (text_cmp_exact c m f)) ∙ e))
@@ -54,7 +55,7 @@ branch_up u x y h l = and_both (is_lt (place_cmp u y)) (not (begins u y)) (ap is
 
     apart : (b : Bool) → begins u y ≡ b → begins u y ≡ false
     apart false e = e
-    apart true e = let r = begins_rest u y e in absurd (true_not_false (sym (between_begins u r.0 x over (subst (λ z. place_cmp x z ≡ Less) r.1 l)) ∙ out))
+    apart true e = let r = begins_rest u y e in absurd (true_not_false (sym (begins_between u [] r.0 x (subst (λ z. place_cmp z x ≡ Less) (sym (append-nil u)) over) (subst (λ z. place_cmp x z ≡ Less) r.1 l)) ∙ out))
 
 bound_up : (b : Option Place) (x y : Place) → is_at_bound b x ≡ true → place_cmp x y ≡ Less → is_at_bound b y ≡ true
 bound_up None x y h l = h

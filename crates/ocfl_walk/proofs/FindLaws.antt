@@ -9,7 +9,7 @@ use Rattle.ocfl_tree.specs.Listing.{kind_at, kind_in}
 use Rattle.ocfl_tree.specs.declared.store.Entry.{Entry}
 use Rattle.ocfl_tree.specs.declared.store.Opening.{Opening}
 use Rattle.ocfl_audit.specs.Zone.{Zone, skipped, hierarchy, inside, zone, seen}
-use Rattle.ocfl_audit.specs.Trail.{heads_of, is_head}
+use Rattle.ocfl_audit.specs.Trail.{heads_of, is_head, content_trail, reads_inventory}
 use Rattle.ocfl_walk.specs.WalkCalls.{holder_of}
 use Rattle.ocfl_walk.specs.Internal.Entering.{Descends, DescendFails, Leads, may_open}
 use Rattle.ocfl_walk.specs.Internal.Finding.{Finds, FindFails, FindsItem}
@@ -26,18 +26,15 @@ use Rattle.ocfl_item.specs.declared.meeting.Around.{Around}
 use Rattle.ocfl_item.specs.declared.visit.Visit.{Visit}
 use Rattle.ocfl_tree.proofs.Orders.{true_not_false}
 use Rattle.ocfl_audit.proofs.AuditExists.{append_one, some_not_none}
-use Rattle.ocfl_audit.proofs.Trails.{content_behind}
 use Rattle.ocfl_audit.proofs.WayLaws.{head_seen, is_closed}
 use Rattle.ocfl_audit.specs.Head.{on}
 use Rattle.ocfl_audit.specs.Between.{is_looked_into}
-use Rattle.ocfl_audit.specs.Trail.{content_trail, reads_inventory}
-use Rattle.ocfl_walk.proofs.DescentLaws.{both_reached, front_on, front_within, own_inventory_reached}
-use Rattle.ocfl_item.proofs.AuditingLaws.{failed_behind, read_behind, few_once, front_all, none_once, heads_append}
+use Rattle.ocfl_walk.proofs.DescentLaws.{calls_then, failed_then, front_on, front_within, no_calls, own_inventory_reached}
+use Rattle.ocfl_item.proofs.AuditingLaws.{few_once, front_all, none_once, heads_append}
 use Rattle.ocfl_item.proofs.ItemLaws.{head_zone}
 use Rattle.ocfl_item.proofs.LooksCalls.{did_nothing, memory_no_store}
 use Rattle.ocfl_item.proofs.LooksZones.{inside_step, sight_nothing, unseen_behind}
 use Rattle.ocfl_walk.proofs.MeetLaws.{own_head}
-use Rattle.ocfl_tree.proofs.Stores.{did_then}
 
 -- ---- lists
 
@@ -78,19 +75,14 @@ module _ (root : StorageRoot) where
 
   abbrev pub finds_descended : (s t : Store) (way more may left : List Place) (f : ℕ) → length may ≤ 1 → Descends root s t way more may left f → Finds root s t way may f
   finds_descended s t way more may left f few h =
-      let all = few_openings h.trail left may h.only h.heads in
+      let trail = h.calls.trail in
+      let all = few_openings trail left may h.only h.heads in
       record {
-        over = h.over;
-        trail = h.trail;
-        listings = h.listings;
-        did = h.did;
-        read = h.read;
-        meta = h.meta;
-        once = few_once h.trail (omega (arith, few, all));
-        closed = λ e. none_is h.trail (let none = ap length e in omega (arith, none, all));
-        listed = front_of h.listings more way h.listed;
-        reached = h.reached;
-        heads = front_of (heads_of root h.trail) left may h.heads;
+        calls = h.calls;
+        once = few_once trail (omega (arith, few, all));
+        closed = λ e. none_is trail (let none = ap length e in omega (arith, none, all));
+        listed = front_of h.calls.listings more way h.listed;
+        heads = front_of (heads_of root trail) left may h.heads;
       }
 
   pub finds_stopped : (s t : Store) (way may : List Place) (why : Fault) → length may ≤ 1 → DescendFails root s t way may why → FindFails root s t way may why
@@ -103,39 +95,35 @@ module _ (root : StorageRoot) where
       few_once (x ∷ os ++ os') (omega (arith, few, none, length-append (x ∷ os) os'))
 
   module _ (s t u : Store) (way more may left : List Place) (few : length may ≤ 1) (h : Descends root s t way more may left 0) where
-    all : length h.trail + length left ≤ length may
-    all = few_openings h.trail left may h.only h.heads
+    abbrev trail : List Opening
+    trail = h.calls.trail
+
+    all : length trail + length left ≤ length may
+    all = few_openings trail left may h.only h.heads
 
     abbrev finds_on : (f : ℕ) → Finds root t u more left f → Finds root s u way may f
-    finds_on f g = record {
-      over = h.over;
-      trail = h.trail ++ g.trail;
-      listings = h.listings ++ g.listings;
-      did = did_then s t u h.trail g.trail h.listings g.listings f h.did g.did;
-      read = λ e. read_behind root h.trail g.trail (h.read refl) (g.read e);
-      meta = content_behind root h.trail g.trail h.meta ∙ g.meta;
-      once = both_once left h.trail g.trail (omega (arith, all, few)) g.closed g.once;
-      closed = λ e.
-          let none = ap length e in
-          let before = none_is h.trail (omega (arith, none, all)) in
-          let behind = g.closed (none_is left (omega (arith, none, all))) in
-          (λ i. before i ++ behind i);
-      listed = front_next h.listings more way g.listings h.listed g.listed;
-      reached = both_reached root h.trail g.trail h.reached g.reached;
-      heads = subst (λ x. IsFront x may) (sym (heads_append root h.trail g.trail)) (front_next (heads_of root h.trail) left may (heads_of root g.trail) h.heads g.heads);
-    }
+    finds_on f g =
+        let behind = g.calls.trail in
+        record {
+          calls = calls_then root s t u f h.calls g.calls;
+          once = both_once left trail behind (omega (arith, all, few)) g.closed g.once;
+          closed = λ e.
+              let none = ap length e in
+              let before = none_is trail (omega (arith, none, all)) in
+              let after = g.closed (none_is left (omega (arith, none, all))) in
+              (λ i. before i ++ after i);
+          listed = front_next h.calls.listings more way g.calls.listings h.listed g.listed;
+          heads = subst (λ x. IsFront x may) (sym (heads_append root trail behind)) (front_next (heads_of root trail) left may (heads_of root behind) h.heads g.heads);
+        }
 
     pub item_on : (p : Place) (r : Result (Option Pending) Fault) → FindsItem root t u more left p r → FindsItem root s u way may p r
     item_on p (Ok o) k = record { gives = (finds_on 0 k.gives.0, k.gives.1) }
     item_on p (Err why) k = record {
-      gives = record {
-        finds = finds_on (failures_by why) k.gives.finds;
-        store = λ q e. let f = k.gives.store q e in (f.0, failed_behind root h.listings k.gives.finds.listings h.trail k.gives.finds.trail q (h.read refl) f.1);
-      };
+      gives = record { finds = finds_on (failures_by why) k.gives.finds; store = failed_then root s t u why h.calls k.gives.finds.calls k.gives.store };
     }
 
   pub finds_nothing : (s : Store) (way may : List Place) → s.tree ≡ root → Finds root s s way may 0
-  finds_nothing s way may over = record { over = over; trail = []; listings = []; did = did_nothing s; read = λ e. refl; meta = refl; once = none_once; closed = λ e. refl; listed = (way, refl); reached = refl; heads = (may, refl) }
+  finds_nothing s way may over = record { calls = no_calls root s s over (did_nothing s); once = none_once; closed = λ e. refl; listed = (way, refl); heads = (may, refl) }
 
   -- an item that is known without the store
   pub item_known : (s t : Store) (way may : List Place) (p : Place) (r : Result (Option Pending) Fault) → Finds root s t way may 0 → IfErr r (λ why. why ≡ fault.Memory) → IfOk r (λ o. IsItemAt root p o) → FindsItem root s t way may p r
@@ -180,16 +168,10 @@ module _ (root : StorageRoot) where
 
       abbrev finds_met : (f : ℕ) (listings : List Place) → s.tree ≡ root → Did s t trail listings f → (f ≡ 0 → IsMetadataRead root trail) → content_trail root trail ≡ [] → AllPairs (λ x y. x.place ≢ y.place) trail → IsFront listings (e ∷ []) → Finds root s t (e ∷ []) (may_open a (zone root e)) f
       finds_met f listings over did read meta once listed = record {
-        over = over;
-        trail = trail;
-        listings = listings;
-        did = did;
-        read = read;
-        meta = meta;
+        calls = record { over = over; trail = trail; listings = listings; did = did; read = read; meta = meta; reached = own_inventory_reached root e trail heads };
         once = once;
         closed = own_closed (is_head (zone root e)) refl;
         listed = listed;
-        reached = own_inventory_reached root e trail heads;
         heads = own_heads (is_head (zone root e)) refl;
       }
 

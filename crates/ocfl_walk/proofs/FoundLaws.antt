@@ -81,14 +81,14 @@ module _ (root : StorageRoot) where
       }
 
     -- of the object that holds it the inventory is read only where its head reads it
-    held : (may : List Place) (f : ℕ) (h : Finds root s t (way_to p) may f) → IsFront (heads_of root h.trail) (filter (reads_inventory root) may)
-    held may f h = front_kept (reads_inventory root) (heads_of root h.trail) may h.reached h.heads
+    held : (may : List Place) (f : ℕ) (h : Finds root s t (way_to p) may f) → IsFront (heads_of root h.calls.trail) (filter (reads_inventory root) may)
+    held may f h = front_kept (reads_inventory root) (heads_of root h.calls.trail) may h.calls.reached h.heads
 
     pub goes_down : Finds root s t (way_to p) (holder_of (zone root p)) 0 → GoesDown root s t (Some p)
-    goes_down h = went h.trail h.listings h.over h.meta h.once h.listed (held (holder_of (zone root p)) 0 h) h.did (h.read refl)
+    goes_down h = let k = h.calls in went k.trail k.listings k.over k.meta h.once h.listed (held (holder_of (zone root p)) 0 h) k.did (k.read refl)
 
     pub go_down_fails : (why : Fault) → FindFails root s t (way_to p) (holder_of (zone root p)) why → GoDownFails root s t (Some p) why
-    go_down_fails why h = went_wrong h.finds.trail h.finds.listings h.finds.over h.finds.meta h.finds.once h.finds.listed (held (holder_of (zone root p)) (failures_by why) h.finds) why h.store h.finds.did
+    go_down_fails why h = let k = h.finds.calls in went_wrong k.trail k.listings k.over k.meta h.finds.once h.finds.listed (held (holder_of (zone root p)) (failures_by why) h.finds) why h.store k.did
 
     -- the start of a walk is such a way
     pub start_goes_down : Starts root s t p 0 → GoesDown root s t (Some p)

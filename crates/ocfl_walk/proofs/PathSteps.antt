@@ -1,22 +1,22 @@
 -- A step to a path of the table at which nothing is seen.
 use Rattle.std.proofs.Common.{◌≡◌, inl, inr, ◌+◌, ◌<◌, ◌≤◌, List, [], ◌∷◌, ◌++◌, refl, sym, ◌∙◌, ap, subst, true, false, Bool, map, filter, Option, Some, None, length, drop, arith}
 use Rattle.std.proofs.lemmas.List.{length-append}
-use Rattle.std.specs.Prelude.{cond, find, option_map, ◌&&◌}
+use Rattle.std.specs.Prelude.{cond, find, option_map}
 use Rattle.std.specs.List.{AllByRecursion}
-use Rattle.std.specs.Ordering.{is_lt, is_eq, ordering_then}
-use Rattle.std.specs.declared.cmp.Ordering.{Ordering}
-use Rattle.std.specs.declared.cmp.Ordering.TheVariants.{Less, Equal, Greater}
+use Rattle.std.specs.Ordering.{is_lt}
+use Rattle.std.specs.declared.cmp.Ordering.TheVariants.{Less}
 use Rattle.ocfl_tree.specs.Place.{Place, Text, text_cmp, place_cmp, begins}
 use Rattle.ocfl_tree.specs.Ascending.{IsAmong, IsBeforeAll}
 use Rattle.ocfl_tree.specs.declared.store.Entry.{Entry}
-use Rattle.ocfl_tree.proofs.Orders.{place_cmp_total, true_not_false, not_below_itself}
+use Rattle.ocfl_tree.proofs.Orders.{place_cmp_total, true_not_false}
 use Rattle.ocfl_inventory.specs.Table.{paths_of}
 use Rattle.ocfl_inventory.specs.NextPath as table
 use Rattle.ocfl_walk.specs.Standing.{Pile, frames_of, paths_above, size_of}
 use Rattle.ocfl_walk.specs.Internal.Standing.{IsAroundIf, IsBelowNext, IsChain, IsOrderly, next_of, path_from, trimmed, trimmed_from}
 use Rattle.ocfl_item.specs.Around.{IsNamedIn}
 use Rattle.ocfl_item.specs.declared.meeting.Around.{Around}
-use Rattle.ocfl_audit.proofs.BelowLaws.{begins_front, begins_rest, cmp_behind, equal_itself, less_from, text_cmp_total, text_cmp_exact}
+use Rattle.ocfl_audit.proofs.BelowLaws.{begins_front, begins_rest, cmp_behind, equal_itself, less_from}
+use Rattle.ocfl_walk.proofs.EndLaws.{begins_between}
 use Rattle.ocfl_walk.proofs.OrderlyLaws.{before_names}
 use Rattle.std.proofs.Math.Seq.{drop-append_seam}
 
@@ -55,22 +55,6 @@ onward last b a h e = by (table.next_path a.table (Some (drop (length a.place) l
           among = k.1;
           above = (λ i. place_cmp (rest.1 i) (is i)) ∙ cmp_behind a.place rest.0 q ∙ ap (λ r. place_cmp r q) (sym inner) ∙ less_from _ k.0;
         }
-
--- what lies between a place below d and an entry of d lies below d
-begins_between : (d r b : Place) (n : Text) → place_cmp (d ++ r) b ≡ Less → place_cmp b (d ++ n ∷ []) ≡ Less → begins d b ≡ true
-begins_between [] r b n h k = refl
-begins_between (m ∷ d) r [] n h k = absurd cc
-begins_between (m ∷ d) r (c ∷ b) n h k = by (text_cmp m c) refl (text_cmp c m) refl h k (begins_between d r b n)
-  where
-    by : (o : Ordering) → text_cmp m c ≡ o → (u : Ordering) → text_cmp c m ≡ u → ordering_then o (place_cmp (d ++ r) b) ≡ Less → ordering_then u (place_cmp b (d ++ n ∷ [])) ≡ Less
-        → (place_cmp (d ++ r) b ≡ Less → place_cmp b (d ++ n ∷ []) ≡ Less → begins d b ≡ true) → is_eq (text_cmp m c) && begins d b ≡ true
-    by Equal e Equal f g i j = ap (λ x. is_eq x && begins d b) e ∙ j g i
-    by Less e Less f g i j = absurd (not_below_itself text_cmp_total m (text_cmp_total.trans m c m e f))
-    by Less e Equal f g i j = absurd (not_below_itself text_cmp_total m (ap (text_cmp m) (sym (text_cmp_exact c m f)) ∙ e))
-    by Less e Greater f g i j = absurd cc
-    by Equal e Less f g i j = absurd (not_below_itself text_cmp_total c (ap (text_cmp c) (sym (text_cmp_exact m c e)) ∙ f))
-    by Equal e Greater f g i j = absurd cc
-    by Greater e u f g i j = absurd cc
 
 above_all : (b x : Place) (ys : List Place) → place_cmp b x ≡ Less → IsBeforeAll place_cmp x ys → IsBeforeAll place_cmp b ys
 above_all b x [] l h = tt
@@ -131,7 +115,7 @@ module _ (last b : Place) (ps : List Pile) (a : Option Around) (h : IsOrderly la
           by d [] t n c = absurd (head_some ((d, []) ∷ ps) ps d t)
           by d (e ∷ es) t n c =
               let r = begins_rest d last c.0 in
-              (begins_between d r.0 b e.name (subst (λ x. place_cmp x b ≡ Less) r.1 over) n, c.1, (n, above_all b (d ++ e.name ∷ []) (map (λ m. d ++ m ∷ []) (map (λ x. x.name) es)) n (names d e.name (map (λ x. x.name) es) c.3.0)), c.3, c.4)
+              (begins_between d r.0 (e.name ∷ []) b (subst (λ x. place_cmp x b ≡ Less) r.1 over) n, c.1, (n, above_all b (d ++ e.name ∷ []) (map (λ m. d ++ m ∷ []) (map (λ x. x.name) es)) n (names d e.name (map (λ x. x.name) es) c.3.0)), c.3, c.4)
             where
               names : (d : Place) (n : Text) (ns : List Text) → IsBeforeAll text_cmp n ns → IsBeforeAll place_cmp (d ++ n ∷ []) (map (λ m. d ++ m ∷ []) ns)
               names d n ns g = before_names d n ns g

@@ -65,7 +65,7 @@ module _ (old new : Walk) (none : new.first ≡ None) where
 
 -- on the way down only inventories are opened
 pub opens_down : (root : StorageRoot) (s t : Store) (way more may left : List Place) (failures : ℕ) → Descends root s t way more may left failures → OpensInventories root s t
-opens_down root s t way more may left failures h = record { trail = h.trail; opened = h.did.openings_are; only = h.only }
+opens_down root s t way more may left failures h = record { trail = h.calls.trail; opened = h.calls.did.openings_are; only = h.only }
 
 pub opens_nothing : (root : StorageRoot) (s : Store) → OpensInventories root s s
 opens_nothing root s = record { trail = []; opened = sym (append-nil s.openings); only = refl }

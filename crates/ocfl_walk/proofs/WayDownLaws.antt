@@ -1,5 +1,5 @@
 -- What was done on the way down to a place, in words of single calls.
-use Rattle.std.proofs.Common.{◌≡◌, ◌⊎◌, inl, inr, ℕ, ◌+◌, List, [], ◌∷◌, ◌++◌, refl, sym, ◌∙◌, ap, subst, true, false, Bool, map, filter, Option, Some, None, arith, length}
+use Rattle.std.proofs.Common.{◌≡◌, ◌⊎◌, inl, inr, List, [], ◌∷◌, ◌++◌, refl, sym, ◌∙◌, ap, subst, true, false, Bool, map, filter, Option, Some, None, arith}
 use Rattle.std.proofs.lemmas.List.{append-nil}
 use Rattle.std.specs.Prelude.{codes, cond, not}
 use Rattle.ocfl_tree.specs.Place.{Place, Text}
@@ -9,7 +9,7 @@ use Rattle.ocfl_tree.specs.Store.{Store}
 use Rattle.ocfl_tree.specs.declared.store.Opening.{Opening}
 use Rattle.ocfl_tree.proofs.Orders.{among_left, among_right}
 use Rattle.ocfl_audit.specs.Objects.{IsObjectRoot}
-use Rattle.ocfl_audit.specs.Trail.{content_trail, heads_of, inventory_of, is_meta, reads_inventory, unread_of}
+use Rattle.ocfl_audit.specs.Trail.{content_trail, heads_of, inventory_of, is_meta, reads_inventory}
 use Rattle.ocfl_audit.specs.Zone.{beginnings, zone}
 use Rattle.ocfl_audit.proofs.MetaLaws.{head_shown}
 use Rattle.ocfl_item.specs.Looking.{way_to}

@@ -85,6 +85,11 @@ head_by (made.One v) = head.Known
 head_by (made.Unknown i) = head.Stops
 head_by made.Several = head.Stops
 
+-- an object's root that was listed
+pub record IsListedObject (root : StorageRoot) (o : Place) (es : List Entry) : Type 0 where
+  pub listing : IsListing root o es
+  pub zone : zone root o ≡ inside o []
+
 -- an object, and what its declarations were read to be
 pub record IsDeclared (root : StorageRoot) (o : Place) (es : List Entry) (d : MadeDeclared) : Type 0 where
   pub listing : IsListing root o es

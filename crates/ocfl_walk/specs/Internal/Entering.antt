@@ -36,23 +36,31 @@ may_open (Some a) z = []
 abbrev pub AreReached : StorageRoot → List Opening → Type 0
 AreReached root trail = heads_of root trail ≡ filter (reads_inventory root) (heads_of root trail)
 
--- from s to t directories of a way were listed in order, with more of it left, and the inventories of some objects, whose heads reach them, were read in order, with more of them left
-pub record Descends (root : StorageRoot) (s t : Store) (way more may left : List Place) (failures : ℕ) : Type 0 where
+-- from s to t directories were listed and metadata was read, of inventories only those that heads reach
+pub record Calls (root : StorageRoot) (s t : Store) (failures : ℕ) : Type 0 where
   pub over : s.tree ≡ root
   pub trail : List Opening
   pub listings : List Place
   pub did : Did s t trail listings failures
   pub read : failures ≡ 0 → IsMetadataRead root trail
   pub meta : content_trail root trail ≡ []
-  pub only : AreInventories root trail
   pub reached : AreReached root trail
-  pub listed : IsFront (listings ++ more) way
-  pub heads : IsFront (heads_of root trail ++ left) may
+
+-- a fault of the store names the place at which the last call failed
+abbrev pub NamesFailed : (root : StorageRoot) (s t : Store) (why : Fault) → Calls root s t (failures_by why) → Type 0
+NamesFailed root s t why calls = (q : Place) → why ≡ fault.Store q → (is_hashed root q ≡ false) × FailedAt root calls.listings calls.trail q
+
+-- from s to t directories of a way were listed in order, with more of it left, and the inventories of some objects were read in order, with more of them left, and nothing else
+pub record Descends (root : StorageRoot) (s t : Store) (way more may left : List Place) (failures : ℕ) : Type 0 where
+  pub calls : Calls root s t failures
+  pub only : AreInventories root calls.trail
+  pub listed : IsFront (calls.listings ++ more) way
+  pub heads : IsFront (heads_of root calls.trail ++ left) may
 
 -- and then there was a fault
 pub record DescendFails (root : StorageRoot) (s t : Store) (way may : List Place) (why : Fault) : Type 0 where
   pub goes : Descends root s t way [] may [] (failures_by why)
-  pub store : (q : Place) → why ≡ fault.Store q → (is_hashed root q ≡ false) × FailedAt root goes.listings goes.trail q
+  pub store : NamesFailed root s t why goes.calls
 
 -- ---- the storage root
 

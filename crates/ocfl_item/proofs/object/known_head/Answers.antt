@@ -1,7 +1,7 @@
 use Rattle.std.proofs.Common.{◌∙◌}
 use Rattle.std.proofs.lemmas.Result.{err_from_is_err_and}
 use Rattle.ocfl_item.proofs.HeadCalls.{known_lines, known_table}
-use Rattle.ocfl_item.proofs.HeadOpens.{declaration_stops, head_memory, head_opened, inventory_stops, none_memory}
+use Rattle.ocfl_item.proofs.HeadOpens.{declaration_stops, head_memory, head_opened, inventory_stops, listed_object, none_memory}
 use Rattle.ocfl_item.proofs.object.known_head.Goals as goal
 
 pub returns-in_err-try_clone-clause-opened : goal.returns-in_err-try_clone-clause-opened
@@ -13,19 +13,19 @@ pub returns-in_err-add_declaration_file-clause-opened :
     goal.returns-in_err-add_declaration_file-clause-opened
 returns-in_err-add_declaration_file-clause-opened g c = λ h root over here.
     let p = err_from_is_err_and c.from_residual-in_err-add_declaration_file.result c.from_residual-in_err-add_declaration_file.ensures.1 in
-    rw (p.1, p.2) (declaration_stops root _ _ _ c.args.version _ (c.in_err-add_declaration_file.ensures.told h root over here.listing here.zone))
+    rw (p.1, p.2) (declaration_stops root _ _ _ c.args.version _ (c.in_err-add_declaration_file.ensures.told h root over (listed_object root _ _ here)))
 
 pub returns-in_err-table-clause-opened : goal.returns-in_err-table-clause-opened
 returns-in_err-table-clause-opened g c = λ h root over here.
     let p = err_from_is_err_and c.from_residual-in_err-table.result c.from_residual-in_err-table.ensures.1 in
-    let read = c.in_ok-add_declaration_file.ensures.told h root over here.listing here.zone in
-    rw (p.1, p.2) (inventory_stops root _ _ _ _ c.args.version _ read.0 (c.in_err-table.ensures.opened h root (read.0.did.tree ∙ read.0.over) here.listing here.zone))
+    let read = c.in_ok-add_declaration_file.ensures.told h root over (listed_object root _ _ here) in
+    rw (p.1, p.2) (inventory_stops root _ _ _ _ c.args.version _ read.0 (c.in_err-table.ensures.opened h root (read.0.did.tree ∙ read.0.over) (listed_object root _ _ here)))
 
 pub returns-in_err-add_clean-clause-opened : goal.returns-in_err-add_clean-clause-opened
 returns-in_err-add_clean-clause-opened g c = λ h root over here.
     let p = err_from_is_err_and c.from_residual-in_err-add_clean.result c.from_residual-in_err-add_clean.ensures.1 in
-    let read = c.in_ok-add_declaration_file.ensures.told h root over here.listing here.zone in
-    rw (p.1, p.2) (head_memory root _ _ _ _ c.args.version read.0 (c.in_ok-table.ensures.opened h root (read.0.did.tree ∙ read.0.over) here.listing here.zone))
+    let read = c.in_ok-add_declaration_file.ensures.told h root over (listed_object root _ _ here) in
+    rw (p.1, p.2) (head_memory root _ _ _ _ c.args.version read.0 (c.in_ok-table.ensures.opened h root (read.0.did.tree ∙ read.0.over) (listed_object root _ _ here)))
 
 pub returns : goal.returns
 returns g c = record {
@@ -33,12 +33,12 @@ returns g c = record {
   fit = c.in_ok-table.ensures.fit;
   place = c.in_ok-add_clean.ensures.place ∙ c.in_ok-table.ensures.place ∙ c.in_ok-add_declaration_file.ensures.place ∙ c.new-lines.ensures.place ∙ c.in_ok-try_clone.ensures;
   told = λ h root over here known.
-      let read = c.in_ok-add_declaration_file.ensures.told h root over here.listing here.zone in
-      let more = c.in_ok-table.ensures.told h root (read.0.did.tree ∙ read.0.over) here.listing here.zone in (
+      let read = c.in_ok-add_declaration_file.ensures.told h root over (listed_object root _ _ here) in
+      let more = c.in_ok-table.ensures.told h root (read.0.did.tree ∙ read.0.over) (listed_object root _ _ here) in (
         known_lines root _ here.zone c.args.version c.new-lines.result c.add_declaration_file.new.lines c.add_inventory_file.new.lines c.add_clean.new.lines known c.new-lines.ensures.lines read.1 more.1 c.in_ok-add_clean.ensures.lines,
         known_table root _ c.args.version _ known more.0,
       );
   opened = λ h root over here.
-      let read = c.in_ok-add_declaration_file.ensures.told h root over here.listing here.zone in
-      head_opened root _ _ _ _ c.args.version read.0 (c.in_ok-table.ensures.opened h root (read.0.did.tree ∙ read.0.over) here.listing here.zone);
+      let read = c.in_ok-add_declaration_file.ensures.told h root over (listed_object root _ _ here) in
+      head_opened root _ _ _ _ c.args.version read.0 (c.in_ok-table.ensures.opened h root (read.0.did.tree ∙ read.0.over) (listed_object root _ _ here));
 }

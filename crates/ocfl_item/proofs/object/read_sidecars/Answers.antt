@@ -5,17 +5,17 @@ use Rattle.ocfl_item.proofs.FileLaws.{file_is_meta}
 use Rattle.ocfl_item.proofs.object.read_sidecars.Goals as goal
 
 pub returns-in_err-short-clause-told : goal.returns-in_err-short-clause-told
-returns-in_err-short-clause-told g c = λ h root over listing z.
+returns-in_err-short-clause-told g c = λ h root over here.
     let p = err_from_is_err_and c.from_residual.result c.from_residual.ensures.1 in
-    rw (p.1, p.2) (first_stops root _ _ _ _ _ _ _ (c.in_err-short.ensures.told h root over listing (file_is_meta root _ _ z refl)))
+    rw (p.1, p.2) (first_stops root _ _ _ _ _ _ _ (c.in_err-short.ensures.told h root over here.listing (file_is_meta root _ _ here.zone refl)))
 
 pub returns-in_err-long-clause-told : goal.returns-in_err-long-clause-told
-returns-in_err-long-clause-told g c = λ h root over listing z.
+returns-in_err-long-clause-told g c = λ h root over here.
     let p = err_from_is_err_and c.from_residual-in_err-long.result c.from_residual-in_err-long.ensures.1 in
-    let short = c.in_ok-short.ensures.told h root over listing (file_is_meta root _ _ z refl) in
-    rw (p.1, p.2) (second_stops root _ _ _ _ _ _ _ _ _ short (c.in_err-long.ensures.told h root (over_file root _ _ _ _ _ _ short) listing (file_is_meta root _ _ z refl)))
+    let short = c.in_ok-short.ensures.told h root over here.listing (file_is_meta root _ _ here.zone refl) in
+    rw (p.1, p.2) (second_stops root _ _ _ _ _ _ _ _ _ short (c.in_err-long.ensures.told h root (over_file root _ _ _ _ _ _ short) here.listing (file_is_meta root _ _ here.zone refl)))
 
 pub returns-clause-told : goal.returns-clause-told
-returns-clause-told g c = λ h root over listing z.
-    let short = c.in_ok-short.ensures.told h root over listing (file_is_meta root _ _ z refl) in
-    both_read root _ _ _ _ _ _ _ _ _ short (c.in_ok-long.ensures.told h root (over_file root _ _ _ _ _ _ short) listing (file_is_meta root _ _ z refl))
+returns-clause-told g c = λ h root over here.
+    let short = c.in_ok-short.ensures.told h root over here.listing (file_is_meta root _ _ here.zone refl) in
+    both_read root _ _ _ _ _ _ _ _ _ short (c.in_ok-long.ensures.told h root (over_file root _ _ _ _ _ _ short) here.listing (file_is_meta root _ _ here.zone refl))

@@ -64,7 +64,7 @@ returns-in-Some-inner-clause-told g t c = λ h root over at part.
     let leads = rw c.in-Some-inner.is at c.in_ok-inner.ensures.told h root over at part c.in-Some.rest.now in
     came_on root c.args.folder.place _ (folders_from 0 (spot_of c.args.stand.now.last) c.args.stand.now.listings.items) (folders_from 0 (spot_of c.args.stand.now.last) c.push-2.new.self.items) (kept_at c.args.stand.now.last c.args.stand.now.listings.items c.keep_above.new.entries) (folders_push (spot_of c.args.stand.now.last) c.args.stand.now.listings.items c.push-2.new.self.items c.keep_above.new.entries c.push-2.ensures.items) (kept_place c.args.stand.now.last c.args.stand.now.listings.items c.keep_above.new.entries c.args.folder.place c.args.names.now c.requires.way c.requires.depth) at c.in-Some.name.now _ c.keep_above.ensures told.0 told.1
     (g.T.Tree.state c.args.store.now) (g.T.Tree.state c.down.new.store) c.in-Some.rest.now c.args.names.now parts.0 c.args.stand.now.around c.down.new.object (g.T.Tree.state c.go_down.new.store) c.in-Some-inner.inner (folders_from 0 (spot_of c.go_down.new.stand.last) c.go_down.new.stand.listings.items) c.go_down.new.stand.around leads c.go_down.result
-    (c.go_down.ensures.told h root (leads.gives.0.did.tree ∙ over) (subst (λ e. IsAt root e c.in-Some-inner.inner.entries.items) (sym leads.gives.1.place) leads.gives.1.here) (subst (λ e. IsPart root e c.down.new.object) (sym leads.gives.1.place) leads.gives.1.part))
+    (c.go_down.ensures.told h root (leads.gives.0.calls.did.tree ∙ over) (subst (λ e. IsAt root e c.in-Some-inner.inner.entries.items) (sym leads.gives.1.place) leads.gives.1.here) (subst (λ e. IsPart root e c.down.new.object) (sym leads.gives.1.place) leads.gives.1.part))
 
 pub returns-in-Some-inner-clause-orderly : goal.returns-in-Some-inner-clause-orderly
 returns-in-Some-inner-clause-orderly g t c =

@@ -15,7 +15,8 @@ use Rattle.ocfl_cursor.specs.Internal.Body.{version_line, files_line, FilesFit, 
 use Rattle.ocfl_cursor.specs.Refusal.{IsTextOf}
 use Rattle.ocfl_cursor.specs.declared.form.Version.{Version}
 use Rattle.ocfl_cursor.specs.declared.form.Version.TheVariants.{One, Two}
-use Rattle.ocfl_cursor.proofs.Numbers.{wide, number_line_determines}
+use Rattle.ocfl_report.proofs.Numbers.{wide}
+use Rattle.ocfl_cursor.proofs.Numbers.{number_line_determines}
 use Rattle.ocfl_cursor.proofs.Paths.{length-place_text}
 
 -- ---- the first line

@@ -1,4 +1,3 @@
 -- What private functions and fields say: a reader of the public contracts needs none of it.
 pub mod Body
-pub mod Number
 pub mod Part

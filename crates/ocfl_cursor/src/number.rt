@@ -1,11 +1,9 @@
 //! The decimal numbers of a cursor's text.
-ghost use Rattle.std.specs.Prelude.{◌≡◌, ◌≢◌, ℕ, ◌^◌, ◌<◌, List, ◌++◌, decimal, IsTrue, IfSome};
-ghost use Rattle.std.specs.Prelude.{IsNone, OnOk, ◌↔◌};
+ghost use Rattle.std.specs.Prelude.{◌≡◌, ◌≢◌, ℕ, ◌^◌, ◌<◌, List, ◌++◌, IfSome, IsNone, OnOk};
 ghost use Rattle.ocfl_cursor.specs.Cursor.{number_line};
-ghost use Rattle.ocfl_cursor.specs.Internal.Number.{IsPlain};
 
 use crate::pieces::after_prefix;
-use ocfl_report::split_once;
+use ocfl_report::{read_decimal, split_once};
 use std::alloc::{AllocError, Global};
 
 /// Appends the line of a number: its name, a space, the number in decimal, and a line feed.
@@ -21,32 +19,6 @@ pub(crate) fn put_number(
     text.extend_from_slice(line.as_bytes())
 }
 
-/// Whether digits begin as a number that has no sign and no leading zero: `parse` takes both.
-fn is_plain(digits: &[u8]) -> bool
-    ensures { IsTrue result ↔ IsPlain digits.now }
-{
-    match digits.first() {
-        Some(b'0') => digits.len() == 1,
-        Some(first) => *first != b'+',
-        None => false,
-    }
-}
-
-/// The number that decimal digits stand for, where they are the text of that number.
-fn read_digits(digits: &[u8]) -> Option<u128>
-    ensures found { IfSome result (λ n. digits.now ≡ decimal n) }
-    ensures fits { IfSome result (λ n. n < 2 ^ 128) }
-    ensures missing { IsNone result → (n : ℕ) → n < 2 ^ 128 → digits.now ≢ decimal n }
-{
-    if !is_plain(digits) {
-        return None;
-    }
-    match std::str::from_utf8(digits) {
-        Ok(text) => text.parse().ok(),
-        Err(_) => None,
-    }
-}
-
 /// Reads the line of the number with this name at the front of the text. Gives the number, and
 /// what follows the line.
 pub(crate) fn read_number<'a>(name: &str, text: &'a [u8]) -> Option<(u128, &'a [u8])>
@@ -57,7 +29,7 @@ pub(crate) fn read_number<'a>(name: &str, text: &'a [u8]) -> Option<(u128, &'a [
 {
     let after_name = after_prefix(name.as_bytes(), text)?;
     let (digits, rest) = split_once(after_prefix(b" ", after_name)?, b'\n')?;
-    Some((read_digits(digits)?, rest))
+    Some((read_decimal(digits)?, rest))
 }
 
 /// Reads such a line of a number below 2^64.

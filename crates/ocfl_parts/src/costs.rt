@@ -1,18 +1,16 @@
 //! What a line of a report says of its place: how much it cost.
-ghost use Rattle.std.specs.Prelude.{◌≡◌, ◌≢◌, ℕ, ◌^◌, ◌<◌, decimal, true, false, IsTrue, IfOk};
-ghost use Rattle.std.specs.Prelude.{IfSome, IsNone, ◌↔◌};
+ghost use Rattle.std.specs.Prelude.{◌≡◌, ◌^◌, ◌<◌, true, false, IfOk, IfSome, IsNone};
 ghost use Rattle.std.specs.Str.Parse.{digits_value};
 ghost use Rattle.ocfl_report.specs.Line.{Line as ModelLine};
 ghost use Rattle.ocfl_report.specs.Text.{IsLineText};
 ghost use Rattle.ocfl_parts.specs.Costs.{is_size, told_cost, told};
-ghost use Rattle.ocfl_parts.specs.Internal.Digits.{IsPlain};
 
-use ocfl_report::{Code, LineStop, read_line};
+use ocfl_report::{Code, LineStop, read_decimal, read_line};
 use ocfl_tree::Place;
 use std::alloc::Global;
 
 /// Content files have fewer bytes.
-const SIZE_LIMIT: u64 = 1 << 62;
+const SIZE_LIMIT: u128 = 1 << 62;
 
 /// A place, and how much a report says that it cost.
 #[derive(Drop)]
@@ -55,29 +53,10 @@ fn size_of(detail: &str) -> Option<u64>
     ensures fits { IfSome result (λ n. n < 2 ^ 62) }
     ensures none { IsNone result → is_size detail.now ≡ false }
 {
-    let size = read_digits(detail)?;
-    if size < SIZE_LIMIT { Some(size) } else { None }
-}
-
-/// The number that decimal digits stand for, where they are the text of that number.
-fn read_digits(digits: &str) -> Option<u64>
-    ensures found { IfSome result (λ n. digits.now ≡ decimal n) }
-    ensures fits { IfSome result (λ n. n < 2 ^ 64) }
-    ensures missing { IsNone result → (n : ℕ) → n < 2 ^ 64 → digits.now ≢ decimal n }
-{
-    if !is_plain(digits.as_bytes()) {
-        return None;
-    }
-    digits.parse().ok()
-}
-
-/// Whether digits begin as a number that has no sign and no leading zero: `parse` takes both.
-fn is_plain(digits: &[u8]) -> bool
-    ensures { IsTrue result ↔ IsPlain digits.now }
-{
-    match digits.first() {
-        Some(b'0') => digits.len() == 1,
-        Some(first) => *first != b'+',
-        None => false,
+    let size = read_decimal(detail.as_bytes())?;
+    if size < SIZE_LIMIT {
+        Some(size as u64)
+    } else {
+        None
     }
 }

@@ -1,5 +1,6 @@
 pub mod Bytes
 pub mod Separators
+pub mod Numbers
 pub mod Escapes
 pub mod Encoded
 pub mod CodeTexts

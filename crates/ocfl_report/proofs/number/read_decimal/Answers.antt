@@ -2,10 +2,9 @@ use Rattle.std.proofs.Common.{◌≡◌, decimal, Ok, sym, subst, ap, ◌∙◌}
 use Rattle.std.specs.Result.{result_ok}
 use Rattle.std.specs.Str.{IsUtf8}
 use Rattle.std.proofs.lemmas.Fmt.{parse-decimal_wide}
-use Rattle.ocfl_cursor.specs.Internal.Number.{IsPlain}
-use Rattle.ocfl_cursor.proofs.Options.{IfSome-result_ok, IsNone-not_some}
-use Rattle.ocfl_cursor.proofs.Numbers.{wide, read_is_decimal, decimal_plain, decimal_utf8}
-use Rattle.ocfl_cursor.proofs.number.read_digits.Goals as goal
+use Rattle.ocfl_report.specs.Internal.Number.{IsPlain}
+use Rattle.ocfl_report.proofs.Numbers.{wide, read_is_decimal, decimal_plain, decimal_utf8, IfSome-result_ok, IsNone-not_some}
+use Rattle.ocfl_report.proofs.number.read_decimal.Goals as goal
 
 pub returns-then-not-is_plain-clause-missing : goal.returns-then-not-is_plain-clause-missing
 returns-then-not-is_plain-clause-missing c = λ e n l f. let plain = c.is_plain.ensures.1 (subst IsPlain (sym f) (decimal_plain n l)) in cc

@@ -1,4 +1,4 @@
--- The numbers of a cursor's text.
+-- Numbers in decimal.
 use Rattle.std.specs.Prelude.{◌≡◌, ◌≢◌, ◌<◌, length, slice_index}
 use Rattle.ocfl_tree.specs.Place.{Text}
 

@@ -6,7 +6,7 @@ use Rattle.ocfl_tree.specs.Place.{Text, Place}
 use Rattle.ocfl_tree.specs.Name.{IsPlace}
 use Rattle.ocfl_report.specs.Text.{place_text}
 use Rattle.ocfl_report.proofs.Bytes.{IsPrintable}
-use Rattle.ocfl_report.proofs.Separators.{first_parts, separator_is_there}
+use Rattle.ocfl_report.proofs.Separators.{first_parts, separated_not_empty, separator_is_there}
 use Rattle.ocfl_report.proofs.PlaceTexts.{place_text_determines, place_text_printable}
 use Rattle.ocfl_parts.specs.Separators.{AreSeparators, part_line, parts_text}
 use Rattle.ocfl_parts.specs.Parts.{max_separators, max_bytes, IsPartsText, BeginsWith, IsFirstBad, HasMoreLines, IsBadLine}
@@ -26,11 +26,7 @@ first_lines p q r s h k e =
 
 -- a line is not empty
 line_is_there : (p : Place) (r : Text) → part_line p ++ r ≢ []
-line_is_there p r e = by (place_text p) (sym (part_line-append p r) ∙ e)
-  where
-    by : (t : Text) → t ++ 10 ∷ r ≡ [] → ⊥
-    by [] f = cc
-    by (b ∷ t) f = cc
+line_is_there p r e = separated_not_empty 10 (place_text p) r (sym (part_line-append p r) ∙ e)
 
 lines_determine : (ps qs : List Place) → All IsPlace ps → All IsPlace qs → parts_text ps ≡ parts_text qs → ps ≡ qs
 lines_determine [] [] h k e = refl

@@ -7,7 +7,7 @@ use Rattle.ocfl_tree.specs.Place.{Text}
 use Rattle.ocfl_report.specs.Line.{Line, Item}
 use Rattle.ocfl_report.specs.Text.{code_text, place_text, escape, line_text, lines_text, text, IsLine, IsLineText}
 use Rattle.ocfl_report.proofs.Bytes.{IsPrintable, utf8_bytes}
-use Rattle.ocfl_report.proofs.Separators.{first_parts}
+use Rattle.ocfl_report.proofs.Separators.{first_parts, separated_not_empty}
 use Rattle.ocfl_report.proofs.Escapes.{escape_injective, escape_printable}
 use Rattle.ocfl_report.proofs.CodeTexts.{code_text_injective, code_text_printable}
 use Rattle.ocfl_report.proofs.PlaceTexts.{place_text_determines, place_text_printable}
@@ -42,11 +42,7 @@ line_text_determines l m h k e = (first_lines l m [] [] h k (ap (λ t. t ++ []) 
 
 -- a line's text is not empty
 line_text_not_empty : (l : Line) (rest : Text) → line_text l ++ rest ≢ []
-line_text_not_empty l rest e = by (code_text l.code) (sym (line_text-append l rest) ∙ e)
-  where
-    by : (t : Text) → t ++ 9 ∷ (place_text l.place ++ 9 ∷ (escape l.detail ++ 10 ∷ rest)) ≡ [] → ⊥
-    by [] f = cc
-    by (b ∷ t) f = cc
+line_text_not_empty l rest e = separated_not_empty 9 (code_text l.code) (place_text l.place ++ 9 ∷ (escape l.detail ++ 10 ∷ rest)) (sym (line_text-append l rest) ∙ e)
 
 -- lists of lines are equal if their texts are
 pub lines_text_determines : (ls ms : List Line) → All IsLine ls → All IsLine ms → lines_text ls ≡ lines_text ms → ls ≡ ms

@@ -17,6 +17,11 @@ first_parts c (x ∷ xs) (y ∷ ys) r s h k e =
     let m = first_parts c xs ys r s (All-tail (λ b. b ≢ c) x xs h) (All-tail (λ b. b ≢ c) y ys k) g in
     ((λ i. f i ∷ m.0 i), m.1)
 
+-- a text with a separator is not empty
+pub separated_not_empty : (c : ℕ) (xs r : Text) → xs ++ c ∷ r ≢ []
+separated_not_empty c [] r e = cc
+separated_not_empty c (x ∷ xs) r e = cc
+
 -- a text with a separator has it
 pub separator_is_there : (c : ℕ) (xs r : Text) → All (λ b. b ≢ c) (xs ++ c ∷ r) → ⊥
 separator_is_there c xs r h = All-get_or (λ b. b ≢ c) (xs ++ c ∷ r) (length xs) 0 (omega (arith, length-append xs (c ∷ r))) h (get_or_at xs c r 0 (length xs) refl)

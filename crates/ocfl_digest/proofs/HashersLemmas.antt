@@ -3,7 +3,7 @@ use Rattle.std.proofs.Common.{◌≡◌, ℕ, List, Bool, true, false, if◌then
 use Rattle.ocfl_tree.specs.Place.{Text}
 use Rattle.ocfl_digest.specs.Digest.{digest_bytes_of}
 use Rattle.ocfl_digest.specs.Digests.{digest_in, AreDigests}
-use Rattle.ocfl_digest.specs.Hashers.{IsFed}
+use Rattle.ocfl_digest.specs.Internal.Hashers.{IsFed}
 use Rattle.ocfl_digest.specs.Wanted.{wants}
 use Rattle.ocfl_digest.specs.declared.algorithm.Algorithm.TheVariants.{Md5, Sha1, Sha256, Sha512, Sha512_256}
 use Rattle.ocfl_digest.specs.declared.digests.Digests.{Digests}

@@ -9,9 +9,9 @@ use Rattle.ocfl_tree.specs.Reading.{IsReading}
 use Rattle.ocfl_tree.specs.declared.store.Trouble.{Trouble}
 use Rattle.ocfl_tree.specs.declared.store.Trouble.TheVariants.{Device, Absent, Memory}
 use Rattle.ocfl_digest.specs.Digests.{AreDigests, AreDigestsOfSome}
-use Rattle.ocfl_digest.specs.Hashers.{AreFed}
+use Rattle.ocfl_digest.specs.Internal.Hashers.{AreFed}
 use Rattle.ocfl_digest.specs.Hashing.{HashesFile, StopsHashing}
-use Rattle.ocfl_digest.specs.Pieces.{FeedsPiece}
+use Rattle.ocfl_digest.specs.Internal.Pieces.{FeedsPiece}
 use Rattle.ocfl_digest.specs.Stop.{cause_of}
 use Rattle.ocfl_digest.specs.declared.digests.Digests.{Digests}
 use Rattle.ocfl_digest.specs.declared.hashers.Hashers.{Hashers}

@@ -2,8 +2,7 @@ pub mod Algorithm
 pub mod Digest
 pub mod Wanted
 pub mod Digests
-pub mod Hashers
-pub mod Pieces
 pub mod Stop
 pub mod Hashing
 pub mod Bounded
+pub mod Internal

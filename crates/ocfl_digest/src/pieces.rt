@@ -2,7 +2,7 @@
 ghost use Rattle.std.specs.Prelude.{◌≡◌, ◌≢◌, ◌≤◌, IsTrue, IfOk, IfErr, MatchResult, Err, take};
 ghost use Rattle.std.specs.Prelude.{max};
 ghost use Rattle.ocfl_tree.specs.Calls.{Reads, ReadFails};
-ghost use Rattle.ocfl_digest.specs.Pieces.{FeedsPiece};
+ghost use Rattle.ocfl_digest.specs.Internal.Pieces.{FeedsPiece};
 
 use crate::block::BLOCK_LEN;
 use crate::hashers::Hashers;

@@ -3,7 +3,7 @@ use Rattle.std.specs.Prelude.{◌≡◌, ℕ, ◌++◌, length, Bool, IsTrue}
 use Rattle.ocfl_tree.specs.Place.{Text}
 use Rattle.ocfl_tree.specs.Store.{Store}
 use Rattle.ocfl_tree.specs.Calls.{Reads}
-use Rattle.ocfl_digest.specs.Hashers.{AreFed}
+use Rattle.ocfl_digest.specs.Internal.Hashers.{AreFed}
 use Rattle.ocfl_digest.specs.declared.hashers.Hashers.{Hashers}
 use Rattle.ocfl_digest.specs.declared.wanted.Wanted.{Wanted}
 

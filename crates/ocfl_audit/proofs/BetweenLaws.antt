@@ -23,6 +23,15 @@ use Rattle.ocfl_audit.proofs.WayLaws.{head_seen, is_closed}
 
 -- ---- what lies between two places, by order alone
 
+-- no place is less than itself
+pub not_less_itself : (p : Place) → is_lt (place_cmp p p) ≡ false
+not_less_itself p = by (place_cmp p p) refl
+  where
+    by : (r : Ordering) → place_cmp p p ≡ r → is_lt r ≡ false
+    by Less e = absurd (not_below_itself place_cmp_total p e)
+    by Equal e = refl
+    by Greater e = refl
+
 not_true : (b : Bool) → not b ≡ true → b ≡ false
 not_true true h = absurd (true_not_false (sym h))
 not_true false h = refl
@@ -134,16 +143,8 @@ module _ (ps : List Place) where
         to z true e i = let k = from_between from (Some b) z i in inl (same z k.0 k.1 k.2)
         to z false e i = let k = from_between from (Some b) z i in absurd (out e (subst (IsAmong ps) (same z k.0 k.1 k.2) k.0))
 
-        itself : is_lt (place_cmp b b) ≡ false
-        itself = by (place_cmp b b) refl
-          where
-            by : (r : Ordering) → place_cmp b b ≡ r → is_lt r ≡ false
-            by Less e = absurd (not_below_itself place_cmp_total b e)
-            by Equal e = refl
-            by Greater e = refl
-
         back : (z : Place) (t : Bool) → test ≡ t → IsAmong (on t b) z → IsAmong (between ps from (Some b)) z
-        back z true e (inl i) = subst (IsAmong (between ps from (Some b))) (sym i) (among_between from (Some b) b (here e) l itself)
+        back z true e (inl i) = subst (IsAmong (between ps from (Some b))) (sym i) (among_between from (Some b) b (here e) l (not_less_itself b))
         back z true e (inr i) = absurd i
         back z false e i = absurd i
 

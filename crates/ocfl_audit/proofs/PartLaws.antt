@@ -22,7 +22,7 @@ use Rattle.ocfl_audit.proofs.AuditExists.{audit_is}
 use Rattle.ocfl_audit.proofs.Lists.{map_filter, filter_same}
 use Rattle.ocfl_audit.proofs.BelowLaws.{less_from}
 use Rattle.ocfl_audit.proofs.DueLaws.{audit_by_places}
-use Rattle.ocfl_audit.proofs.RunLaws.{large_whole, large_few}
+use Rattle.ocfl_audit.proofs.RunLaws.{large_whole, large_few, cost_append, files_append}
 
 -- ---- lists
 
@@ -41,7 +41,7 @@ module _ {A : Type 0} where
   filter_all (x ∷ xs) = ap (λ l. x ∷ l) (filter_all xs)
 
   -- two filters are one
-  filter_twice : (f g : A → Bool) (xs : List A) → filter f (filter g xs) ≡ filter (λ x. g x && f x) xs
+  pub filter_twice : (f g : A → Bool) (xs : List A) → filter f (filter g xs) ≡ filter (λ x. g x && f x) xs
   filter_twice f g [] = refl
   filter_twice f g (x ∷ xs) = by (g x) (filter_twice f g xs)
     where
@@ -205,14 +205,6 @@ module _ (root : StorageRoot) (ps : List Place) (up : IsAscending place_cmp ps) 
       ∙ ap (filter (is_hashed root)) (places_join ps (item_places root) up (items_ascend root))
 
 -- ---- costs and files
-
-cost_append : (xs ys : List Item) → total_cost (xs ++ ys) ≡ total_cost xs + total_cost ys
-cost_append [] ys = omega arith
-cost_append (x ∷ xs) ys = let m = cost_append xs ys in omega (arith, m)
-
-files_append : (xs ys : List Item) → total_files (xs ++ ys) ≡ total_files xs + total_files ys
-files_append [] ys = omega arith
-files_append (x ∷ xs) ys = let m = files_append xs ys in omega (arith, m)
 
 module _ {A : Type 0} (items_of : A → List Item) where
   pub costs_sum : (xs : List A) → sum_of (map (λ x. total_cost (items_of x)) xs) ≡ total_cost (flat_map items_of xs)

@@ -3,7 +3,7 @@ use Rattle.std.proofs.Common.{◌≡◌, ◌≢◌, ◌⊎◌, inl, inr, ℕ, ze
 use Rattle.std.proofs.lemmas.Bool.{eqb-false, lt-ltb}
 use Rattle.std.proofs.lemmas.Nat.{le-div}
 use Rattle.std.proofs.Math.Nat.{lt-mul-div-succ, div-mul-le_self}
-use Rattle.std.proofs.lemmas.List.{take-replicate, length-replicate}
+use Rattle.std.proofs.lemmas.List.{take-append-drop, take-replicate, length-replicate}
 use Rattle.std.proofs.lemmas.List.Elements.{All-nil, All-cons, All-head, All-tail, All-weaker}
 use Rattle.std.specs.Prelude.{cond, ◌==◌, ◌||◌, ◌&&◌, nat_lt, nat_le, slice_get}
 use Rattle.ocfl_report.specs.Line.{Item}
@@ -136,24 +136,19 @@ cut_only items l n h =
 
 -- ---- costs and files of parts
 
-take_drop_joined : (n : ℕ) (items : List Item) → take n items ++ drop n items ≡ items
-take_drop_joined zero items = refl
-take_drop_joined (suc n) [] = refl
-take_drop_joined (suc n) (i ∷ items) = ap (λ xs. i ∷ xs) (take_drop_joined n items)
+pub cost_append : (xs ys : List Item) → total_cost (xs ++ ys) ≡ total_cost xs + total_cost ys
+cost_append [] ys = omega arith
+cost_append (x ∷ xs) ys = let m = cost_append xs ys in omega (arith, m)
 
-total_append : (xs ys : List Item) → total_cost (xs ++ ys) ≡ total_cost xs + total_cost ys
-total_append [] ys = omega arith
-total_append (x ∷ xs) ys = let m = total_append xs ys in omega (arith, m)
-
-files_append : (xs ys : List Item) → total_files (xs ++ ys) ≡ total_files xs + total_files ys
+pub files_append : (xs ys : List Item) → total_files (xs ++ ys) ≡ total_files xs + total_files ys
 files_append [] ys = omega arith
 files_append (x ∷ xs) ys = let m = files_append xs ys in omega (arith, m)
 
 joined_parts : (items : List Item) (l : Limits) → cut items l ++ left items l ≡ items
-joined_parts items l = take_drop_joined _ items
+joined_parts items l = take-append-drop _ items
 
 costs_of_parts : (items : List Item) (l : Limits) → total_cost items ≡ total_cost (cut items l) + total_cost (left items l)
-costs_of_parts items l = ap total_cost (sym (joined_parts items l)) ∙ total_append (cut items l) (left items l)
+costs_of_parts items l = ap total_cost (sym (joined_parts items l)) ∙ cost_append (cut items l) (left items l)
 
 files_of_parts : (items : List Item) (l : Limits) → total_files items ≡ total_files (cut items l) + total_files (left items l)
 files_of_parts items l = ap total_files (sym (joined_parts items l)) ∙ files_append (cut items l) (left items l)
@@ -309,10 +304,10 @@ module _ (b : ℕ) where
       by false e g k = let m = (left_over b s i.cost e).0 in omega (arith, m)
 
 cut_and_left : (items : List Item) (b : ℕ) → budget_cut items b ++ budget_left items b ≡ items
-cut_and_left items b = take_drop_joined _ items
+cut_and_left items b = take-append-drop _ items
 
 cost_split : (items : List Item) (b : ℕ) → total_cost items ≡ total_cost (budget_cut items b) + total_cost (budget_left items b)
-cost_split items b = ap total_cost (sym (cut_and_left items b)) ∙ total_append (budget_cut items b) (budget_left items b)
+cost_split items b = ap total_cost (sym (cut_and_left items b)) ∙ cost_append (budget_cut items b) (budget_left items b)
 
 -- nothing, or something that costs
 abbrev HasCost : List Item → Type 0

@@ -1,6 +1,9 @@
-//! The laws of a cursor's text: it determines the cursor, and it reads back.
-ghost use Rattle.std.specs.Prelude.{◌≡◌, ◌⊎◌, ◌≤◌, List, ℕ, length, IfOk, IfErr};
-ghost use Rattle.ocfl_cursor.specs.Cursor.{Cursor as ModelCursor};
+//! The laws of a cursor's text: it determines the cursor, and it reads back. The laws of a meter.
+ghost use Rattle.std.specs.Prelude.{◌≡◌, ◌⊎◌, ◌+◌, ◌^◌, ◌<◌, ◌≤◌, List, ℕ, length, IfOk, IfErr};
+ghost use Rattle.ocfl_cursor.specs.Cursor.{Cursor as ModelCursor, State as ModelState};
+ghost use Rattle.ocfl_cursor.specs.Cursor.{IsCursor, IsShortPlace};
+ghost use Rattle.ocfl_cursor.specs.Meter.{Meter as ModelMeter, IsMeter, MayStart};
+ghost use Rattle.ocfl_cursor.specs.Moves.{after_run};
 ghost use Rattle.ocfl_cursor.specs.Part.{IsPartText};
 ghost use Rattle.ocfl_cursor.specs.PartRefusal.{PartRefusedRightly};
 ghost use Rattle.ocfl_cursor.specs.Refusal.{IsTextOf, not_cursor};
@@ -90,3 +93,18 @@ pub fn part_reads_back(
         Err(_) => Err(PartRefused::Memory),
     }
 }
+
+/// What a run's meter charged may be added to any cursor: it is at most 2^63, and no less than the
+/// files that were started. Only the count of runs, or a place of more than 255 names, can keep a
+/// cursor from going on.
+pub fn what_a_meter_charged_fits_a_cursor()
+    ensures { (c : ModelCursor) (m : ModelMeter) (s : ModelState) → IsCursor c → IsMeter m
+        → c.runs + 1 < 2 ^ 64 → IsShortPlace s → IsCursor (after_run c m.spent m.files s) }
+{}
+
+/// Where a meter starts no further file, the budget is spent, or just as many files were started
+/// as may be.
+pub fn a_meter_stops_at_its_limits()
+    ensures { (m : ModelMeter) → IsMeter m → (MayStart m → ⊥)
+        → (m.limits.budget ≤ m.spent) ⊎ (m.files ≡ m.limits.files) }
+{}

@@ -25,9 +25,9 @@ pub use decoding::decode;
 pub use encoding::{cursor_lines, encode};
 pub use ends::{PartEnds, every_part_has_ends};
 pub use laws::{
-    cursor_reads_back, no_part_is_refused, no_stored_part_is_refused, part_reads_back,
-    parts_and_whole_are_apart, text_determines_the_cursor, text_determines_the_part,
-    text_determines_what_is_shown,
+    a_meter_stops_at_its_limits, cursor_reads_back, no_part_is_refused, no_stored_part_is_refused,
+    part_reads_back, parts_and_whole_are_apart, text_determines_the_cursor,
+    text_determines_the_part, text_determines_what_is_shown, what_a_meter_charged_fits_a_cursor,
 };
 pub use limits::{Budget, FileLimit, Limits};
 pub use meter::Meter;

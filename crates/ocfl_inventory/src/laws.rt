@@ -1,11 +1,14 @@
-//! The laws of sidecars and declarations.
+//! The laws of sidecars, declarations and lines.
 ghost use Rattle.std.specs.Prelude.{◌≡◌, ◌↔◌, Some, ℕ, List, IsPermutation};
-ghost use Rattle.ocfl_tree.specs.Place.{Text};
+ghost use Rattle.ocfl_tree.specs.Ascending.{IsAmong};
+ghost use Rattle.ocfl_tree.specs.Place.{Text, Place};
 ghost use Rattle.ocfl_tree.specs.declared.store.Entry.{Entry};
+ghost use Rattle.ocfl_report.specs.Line.{Line};
 ghost use Rattle.ocfl_digest.specs.declared.algorithm.Algorithm.{Algorithm};
 ghost use Rattle.ocfl_inventory.specs.Declaration.{declared};
 ghost use Rattle.ocfl_inventory.specs.Entries.{file_names};
 ghost use Rattle.ocfl_inventory.specs.declared.declaration.Level.{Level};
+ghost use Rattle.ocfl_inventory.specs.Note.{Note, lines_at};
 ghost use Rattle.ocfl_inventory.specs.Sidecar.{IsSidecar, sidecar_of};
 
 /// The computed digest of a sidecar is that of the grammar, and there is one exactly where the
@@ -19,4 +22,9 @@ pub fn sidecar_meets_the_grammar()
 pub fn declarations_have_no_order()
     ensures { (level : Level) (entries others : List Entry) → IsPermutation entries others
         → declared level (file_names entries) ≡ declared level (file_names others) }
+{}
+
+/// Each line of an item stands at the item's place.
+pub fn lines_stand_at_their_place()
+    ensures { (p : Place) (ns : List Note) (l : Line) → IsAmong (lines_at p ns) l → l.place ≡ p }
 {}

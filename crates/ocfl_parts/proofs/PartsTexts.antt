@@ -6,7 +6,7 @@ use Rattle.ocfl_tree.specs.Place.{Text, Place}
 use Rattle.ocfl_tree.specs.Name.{IsPlace}
 use Rattle.ocfl_report.specs.Text.{place_text}
 use Rattle.ocfl_report.proofs.Bytes.{IsPrintable}
-use Rattle.ocfl_report.proofs.Separators.{first_parts, separated_not_empty, separator_is_there}
+use Rattle.ocfl_report.proofs.Separators.{first_parts, separated_not_empty, separator_is_there, texts_determine}
 use Rattle.ocfl_report.proofs.PlaceTexts.{place_text_determines, place_text_printable}
 use Rattle.ocfl_parts.specs.Separators.{AreSeparators, part_line, parts_text}
 use Rattle.ocfl_parts.specs.Parts.{max_separators, max_bytes, IsPartsText, BeginsWith, IsFirstBad, HasMoreLines, IsBadLine}
@@ -28,17 +28,8 @@ first_lines p q r s h k e =
 line_is_there : (p : Place) (r : Text) → part_line p ++ r ≢ []
 line_is_there p r e = separated_not_empty 10 (place_text p) r (sym (part_line-append p r) ∙ e)
 
-lines_determine : (ps qs : List Place) → All IsPlace ps → All IsPlace qs → parts_text ps ≡ parts_text qs → ps ≡ qs
-lines_determine [] [] h k e = refl
-lines_determine [] (q ∷ qs) h k e = absurd (line_is_there q (parts_text qs) (sym e))
-lines_determine (p ∷ ps) [] h k e = absurd (line_is_there p (parts_text ps) e)
-lines_determine (p ∷ ps) (q ∷ qs) h k e =
-    let first = first_lines p q (parts_text ps) (parts_text qs) (All-head IsPlace p ps h) (All-head IsPlace q qs k) e in
-    let rest = lines_determine ps qs (All-tail IsPlace p ps h) (All-tail IsPlace q qs k) first.1 in
-    λ i. first.0 i ∷ rest i
-
 pub parts_text_determines : (ps qs : List Place) → AreSeparators ps → AreSeparators qs → parts_text ps ≡ parts_text qs → ps ≡ qs
-parts_text_determines ps qs h k e = lines_determine ps qs h.names k.names e
+parts_text_determines ps qs h k e = texts_determine IsPlace part_line first_lines line_is_there ps qs h.names k.names e
 
 -- ---- one line more
 
@@ -111,3 +102,31 @@ not_bad b n ps h k = no_bad_line b n ps h.separators h.is k.first
 pub not_long : (b : Text) (ps : List Place) → IsPartsText b ps → (max_bytes < length b) ⊎ HasMoreLines b → ⊥
 not_long b ps h (inl l) = omega (arith, l, h.short)
 not_long b ps h (inr k) = omega (arith, more_than_may_be b ps h.separators h.is k, h.few)
+
+-- ---- why bytes are refused is one thing
+
+-- where more lines are those of separators, what follows the first of them is the line of one more
+record GoesOnBefore (ps before : List Place) (tail rest : Text) : Type 0 where
+  pub next : Place
+  pub more : List Place
+  pub is : ps ≡ before ++ next ∷ more
+  pub text : rest ≡ part_line next ++ (parts_text more ++ tail)
+
+goes_on_before : (ps before : List Place) (tail rest : Text) → All IsPlace ps → All IsPlace before → length before < length ps → parts_text ps ++ tail ≡ parts_text before ++ rest → GoesOnBefore ps before tail rest
+goes_on_before [] before tail rest h k l e = absurd (omega arith)
+goes_on_before (p ∷ ps) [] tail rest h k l e = record { next = p; more = ps; is = refl; text = sym e ∙ append_assoc (part_line p) (parts_text ps) tail }
+goes_on_before (p ∷ ps) (q ∷ qs) tail rest h k l e =
+    let first = first_lines p q (parts_text ps ++ tail) (parts_text qs ++ rest) (All-head IsPlace p ps h) (All-head IsPlace q qs k) (sym (append_assoc (part_line p) (parts_text ps) tail) ∙ e ∙ append_assoc (part_line q) (parts_text qs) rest) in
+    let on = goes_on_before ps qs tail rest (All-tail IsPlace p ps h) (All-tail IsPlace q qs k) (omega arith) first.1 in
+    record { next = on.next; more = on.more; is = (λ i. first.0 i ∷ on.is i); text = on.text }
+
+-- bytes with a bad line do not begin with as many lines as there may be
+pub not_bad_and_more : (b : Text) (n : ℕ) → IsFirstBad b n → HasMoreLines b → ⊥
+not_bad_and_more b n f m =
+    let on = goes_on_before m.before f.before m.rest f.rest m.begins.separators.names f.begins.separators.names (omega (arith, f.number, f.counted, m.all)) (sym m.begins.is ∙ f.begins.is) in
+    let whole : AreSeparators ((f.before ++ on.next ∷ []) ++ on.more) = subst AreSeparators (on.is ∙ sym (append_assoc f.before (on.next ∷ []) on.more)) m.begins.separators in
+    f.bad on.next (parts_text on.more ++ m.rest) (AreSeparators-front (f.before ++ on.next ∷ []) on.more whole) on.text
+
+pub not_bad_and_long : (b : Text) (n : ℕ) → IsBadLine b n → (max_bytes < length b) ⊎ HasMoreLines b → ⊥
+not_bad_and_long b n h (inl l) = omega (arith, l, h.short)
+not_bad_and_long b n h (inr m) = not_bad_and_more b n h.first m

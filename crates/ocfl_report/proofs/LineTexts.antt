@@ -7,7 +7,7 @@ use Rattle.ocfl_tree.specs.Place.{Text}
 use Rattle.ocfl_report.specs.Line.{Line, Item}
 use Rattle.ocfl_report.specs.Text.{code_text, place_text, escape, line_text, lines_text, text, IsLine, IsLineText}
 use Rattle.ocfl_report.proofs.Bytes.{IsPrintable, utf8_bytes}
-use Rattle.ocfl_report.proofs.Separators.{first_parts, separated_not_empty}
+use Rattle.ocfl_report.proofs.Separators.{first_parts, separated_not_empty, texts_determine}
 use Rattle.ocfl_report.proofs.Escapes.{escape_injective, escape_printable}
 use Rattle.ocfl_report.proofs.CodeTexts.{code_text_injective, code_text_printable}
 use Rattle.ocfl_report.proofs.PlaceTexts.{place_text_determines, place_text_printable}
@@ -46,13 +46,7 @@ line_text_not_empty l rest e = separated_not_empty 9 (code_text l.code) (place_t
 
 -- lists of lines are equal if their texts are
 pub lines_text_determines : (ls ms : List Line) → All IsLine ls → All IsLine ms → lines_text ls ≡ lines_text ms → ls ≡ ms
-lines_text_determines [] [] h k e = refl
-lines_text_determines [] (m ∷ ms) h k e = absurd (line_text_not_empty m (lines_text ms) (sym e))
-lines_text_determines (l ∷ ls) [] h k e = absurd (line_text_not_empty l (lines_text ls) e)
-lines_text_determines (l ∷ ls) (m ∷ ms) h k e =
-    let first = first_lines l m (lines_text ls) (lines_text ms) (All-head IsLine l ls h) (All-head IsLine m ms k) e in
-    let rest = lines_text_determines ls ms (All-tail IsLine l ls h) (All-tail IsLine m ms k) first.1 in
-    λ i. first.0 i ∷ rest i
+lines_text_determines = texts_determine IsLine line_text first_lines line_text_not_empty
 
 -- the text of items is that of all their lines
 pub text_is_lines_text : (items : List Item) → text items ≡ lines_text (flat_map (λ i. i.lines) items)

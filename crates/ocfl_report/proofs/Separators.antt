@@ -1,5 +1,5 @@
 -- Texts with separators between them are told apart again.
-use Rattle.std.proofs.Common.{◌≡◌, ◌≢◌, ℕ, List, [], ◌∷◌, ◌++◌, ◌==◌, eq-eqb, false, All, length, length-append, arith, refl, ap, subst, ◌∙◌}
+use Rattle.std.proofs.Common.{◌≡◌, ◌≢◌, ℕ, List, [], ◌∷◌, ◌++◌, ◌==◌, eq-eqb, false, All, flat_map, length, length-append, arith, refl, sym, ap, subst, ◌∙◌}
 use Rattle.std.specs.List.{join_with_byte, slice_split}
 use Rattle.std.proofs.lemmas.List.Splits.{slice_split_none, slice_split_at}
 use Rattle.std.proofs.lemmas.List.{get_or_at}
@@ -21,6 +21,17 @@ first_parts c (x ∷ xs) (y ∷ ys) r s h k e =
 pub separated_not_empty : (c : ℕ) (xs r : Text) → xs ++ c ∷ r ≢ []
 separated_not_empty c [] r e = cc
 separated_not_empty c (x ∷ xs) r e = cc
+
+-- texts in a row determine what they are of, where none is empty and each is told apart from what follows it
+module _ {A : Type 0} (Is : A → Type 0) (line : A → Text) (first : (x y : A) (r s : Text) → Is x → Is y → line x ++ r ≡ line y ++ s → (x ≡ y) × (r ≡ s)) (some : (x : A) (r : Text) → line x ++ r ≢ []) where
+  pub texts_determine : (xs ys : List A) → All Is xs → All Is ys → flat_map line xs ≡ flat_map line ys → xs ≡ ys
+  texts_determine [] [] h k e = refl
+  texts_determine [] (y ∷ ys) h k e = absurd (some y (flat_map line ys) (sym e))
+  texts_determine (x ∷ xs) [] h k e = absurd (some x (flat_map line xs) e)
+  texts_determine (x ∷ xs) (y ∷ ys) h k e =
+      let both = first x y (flat_map line xs) (flat_map line ys) (All-head Is x xs h) (All-head Is y ys k) e in
+      let rest = texts_determine xs ys (All-tail Is x xs h) (All-tail Is y ys k) both.1 in
+      λ i. both.0 i ∷ rest i
 
 -- a text with a separator has it
 pub separator_is_there : (c : ℕ) (xs r : Text) → All (λ b. b ≢ c) (xs ++ c ∷ r) → ⊥

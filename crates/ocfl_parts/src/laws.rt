@@ -25,6 +25,12 @@ pub fn no_separators_are_refused()
         → IsPartsText b ps → (max_bytes < length b) ⊎ HasMoreLines b → ⊥ }
 {}
 
+/// Bytes that are refused have a bad line or are too long, and never both.
+pub fn refused_separators_have_one_fault()
+    ensures { (b : Text) (n : ℕ) → IsBadLine b n
+        → (max_bytes < length b) ⊎ HasMoreLines b → ⊥ }
+{}
+
 /// What is written of separators is read as those, unless memory runs out or the text is too long.
 pub fn parts_read_back(alloc: Global, separators: &Separators) -> Result<Separators, PartsStop>
     ensures same { IfOk result (λ read. read ≡ separators.now) }

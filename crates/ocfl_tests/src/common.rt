@@ -1,4 +1,6 @@
 //! What the tests share: places, digests, storage roots in memory, and what fails oddly.
+use std::process::Abort;
+
 pub mod digests;
 pub mod object;
 pub mod odd_store;
@@ -6,3 +8,8 @@ pub mod output;
 pub mod roots;
 pub mod store;
 mod tests;
+
+/// What a helper needs of the runtime: it stops at a failed assertion, and has memory.
+pub trait Runtime: Abort + AllocGlobal {}
+
+impl<R: Abort + AllocGlobal> Runtime for R {}

@@ -1,4 +1,5 @@
 //! Cursors and their text, refusals, limits and meters.
+use crate::common::Runtime;
 use crate::common::store::place_of;
 use ocfl_cursor::{
     Budget, Cursor, CursorStop, FileLimit, Limits, Meter, Refused, State, cursor_lines,
@@ -8,7 +9,6 @@ use ocfl_tree::{Name, Place};
 use sha2::{Digest, Sha256};
 use std::alloc::Global;
 use std::io::{self, ErrorKind, Read};
-use std::process::Abort;
 use std::test::Fail;
 
 mod part;
@@ -158,7 +158,7 @@ fn reads_a_long_text_of_version_one(rt: HostRuntime) -> Result<(), Fail> {
 
 /// The text is refused so where it is cut before this byte, and where this byte is changed.
 fn expect_damaged_at(
-    rt: &(impl Abort + AllocGlobal),
+    rt: &impl Runtime,
     version: &str,
     whole: &[u8],
     place: usize,

@@ -1,4 +1,5 @@
 //! Algorithms and digests, the block, and files that are read once.
+use crate::common::Runtime;
 use crate::common::digests::with_digests;
 use crate::common::store::place_of;
 use ocfl_digest::{
@@ -9,7 +10,6 @@ use ocfl_folder::FsTree;
 use ocfl_tree::{MemTree, Point, Tree, Trouble};
 use std::alloc::Global;
 use std::fs;
-use std::process::Abort;
 use std::test::Fail;
 
 const ALL: [Algorithm; 5] = [
@@ -87,12 +87,7 @@ fn text_of(alloc: Global, digest: Option<&[u8]>) -> Result<String, Fail> {
     Ok(text)
 }
 
-fn are(
-    rt: &(impl Abort + AllocGlobal),
-    row: &str,
-    digests: &Digests,
-    want: &[&str; 5],
-) -> Result<(), Fail> {
+fn are(rt: &impl Runtime, row: &str, digests: &Digests, want: &[&str; 5]) -> Result<(), Fail> {
     for (algorithm, want) in ALL.iter().zip(want) {
         let text = text_of(rt.alloc(), digests.get(*algorithm))?;
         let want = with_digests(rt.alloc(), want)?;
@@ -103,7 +98,7 @@ fn are(
 
 /// The file `f` was opened once, gave so many bytes, and nothing was listed.
 fn opened_once(
-    rt: &(impl Abort + AllocGlobal),
+    rt: &impl Runtime,
     row: &str,
     store: &MemTree,
     given: u64,
@@ -178,7 +173,7 @@ fn read_within<T: Tree>(
 
 /// Hashing a file of these bytes by all algorithms gives these digests, by one opening.
 fn expect_all(
-    rt: &(impl Abort + AllocGlobal),
+    rt: &impl Runtime,
     row: &str,
     bytes: Vec<u8>,
     step: usize,

@@ -1,4 +1,5 @@
 //! A storage root in a folder of the file system, against the same tree in memory.
+use crate::common::Runtime;
 use crate::common::store::{change, place_of, put};
 use crate::tree::{lists, sorted, whole};
 use ocfl_folder::FsTree;
@@ -6,7 +7,6 @@ use ocfl_tree::{MemTree, Place, Tree, Trouble};
 use std::alloc::Global;
 use std::fs;
 use std::os::unix;
-use std::process::Abort;
 use std::test::Fail;
 
 mod exchange;
@@ -162,7 +162,7 @@ const GROWS: [(&str, usize, &[usize], &[usize]); 5] = [
 
 /// Reads with this room, which give so many bytes each.
 fn expect_reads<T: Tree>(
-    rt: &(impl Abort + AllocGlobal),
+    rt: &impl Runtime,
     row: &str,
     store: &mut T,
     room: usize,

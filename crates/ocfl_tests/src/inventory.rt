@@ -1,4 +1,5 @@
 //! Declarations, sidecars, inventories and their tables.
+use crate::common::Runtime;
 use crate::common::digests::{ABC_SHA256, with_digests};
 use crate::common::store::place_of;
 use ocfl_digest::Algorithm;
@@ -9,7 +10,6 @@ use ocfl_inventory::{
 };
 use ocfl_tree::{Entry, Kind, Name, Place};
 use std::alloc::Global;
-use std::process::Abort;
 use std::test::Fail;
 
 /// The text of an inventory with a manifest and further members.
@@ -33,7 +33,7 @@ fn lines(alloc: Global, bytes: &[u8]) -> Result<(String, bool), Fail> {
 
 /// What a reading of these bytes says, and whether it goes on to a table.
 fn expect(
-    rt: &(impl Abort + AllocGlobal),
+    rt: &impl Runtime,
     row: &str,
     bytes: &[u8],
     wanted: &str,
@@ -331,7 +331,7 @@ fn named(alloc: Global, table: &Table, path: &str) -> Result<String, Fail> {
 }
 
 /// The table names for each of three hundred paths one digest of the manifest and one of fixity.
-fn names_three_hundred(rt: &impl Abort, alloc: Global, table: Option<Table>) -> Result<(), Fail> {
+fn names_three_hundred(rt: &impl Runtime, alloc: Global, table: Option<Table>) -> Result<(), Fail> {
     let Some(table) = table else {
         return Err(Fail::new("no table"));
     };
@@ -613,7 +613,12 @@ fn declarations_are_files_of_a_name(rt: HostRuntime) -> Result<(), Fail> {
 }
 
 /// One reading gives what the calls for its parts give.
-fn reads_as_its_parts(rt: &impl Abort, row: &str, alloc: Global, bytes: &[u8]) -> Result<(), Fail> {
+fn reads_as_its_parts(
+    rt: &impl Runtime,
+    row: &str,
+    alloc: Global,
+    bytes: &[u8],
+) -> Result<(), Fail> {
     let read = read_inventory(alloc, bytes)?;
     let (lines, table) = Table::read(alloc, bytes)?;
     assert_eq!(rt; read.algorithm, algorithm_of(alloc, bytes)?, "{row}");

@@ -7,7 +7,6 @@ use ocfl_parts::laws::text_determines_the_separators;
 use ocfl_parts::{PartsStop, PushStop, Separators, SplitStop, put_parts, read_parts};
 use std::alloc::Global;
 use std::io::{self, ErrorKind, Read};
-use std::process::Abort;
 use std::test::Fail;
 
 /// Reads separators and gives their text again.

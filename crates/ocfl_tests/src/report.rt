@@ -1,4 +1,5 @@
 //! Codes, the text of places and lines, and output that stops.
+use crate::common::Runtime;
 use crate::common::store::place_of;
 use ocfl_report::laws::line_reads_back;
 use ocfl_report::{
@@ -8,7 +9,6 @@ use ocfl_report::{
 use ocfl_tree::Place;
 use std::alloc::Global;
 use std::io::{self, ErrorKind, Write};
-use std::process::Abort;
 use std::test::Fail;
 
 /// What a call of `write` does.
@@ -114,7 +114,7 @@ fn line_text(alloc: Global, code: Code, path: &str, detail: &str) -> Result<Vec<
 }
 
 fn is_text_of(
-    rt: &impl Abort,
+    rt: &impl Runtime,
     alloc: Global,
     row: &str,
     text: &str,

@@ -6,7 +6,6 @@ use ocfl_parts::put_parts;
 use ocfl_split::split;
 use ocfl_tree::{MemTree, Point};
 use std::alloc::Global;
-use std::process::Abort;
 use std::test::Fail;
 
 /// Three objects, the second with a version.

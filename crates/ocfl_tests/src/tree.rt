@@ -1,8 +1,8 @@
 //! Names, places, their order, and what the tests of stores share.
+use crate::common::Runtime;
 use crate::common::store::place_of;
 use ocfl_tree::{Entry, Name, NameStop, Place, Tree, is_bytes, is_text};
 use std::alloc::Global;
-use std::process::Abort;
 use std::test::Fail;
 
 mod memory;
@@ -49,7 +49,7 @@ fn text_of(alloc: Global, entries: &[Entry]) -> Result<String, Fail> {
 
 /// The directory at a place lists these entries.
 pub(crate) fn lists<T: Tree>(
-    rt: &(impl Abort + AllocGlobal),
+    rt: &impl Runtime,
     row: &str,
     store: &mut T,
     place: &Place,

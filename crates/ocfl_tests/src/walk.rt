@@ -1,4 +1,5 @@
 //! Walks over whole storage roots, and what the tests of walks share.
+use crate::common::Runtime;
 use crate::common::digests::lines_of;
 use crate::common::object::{bare_root, put_object};
 use crate::common::roots::{ROOTS, built, missing_and_there, nested, right_object};
@@ -7,7 +8,6 @@ use ocfl_digest::Block;
 use ocfl_tree::{MemTree, Place, Point, Tree};
 use ocfl_walk::{Fault, Pending, Walk, item_at, judge};
 use std::alloc::Global;
-use std::process::Abort;
 use std::test::Fail;
 
 mod find;
@@ -57,7 +57,7 @@ pub(crate) fn judged<T: Tree>(
 /// Judging the item at a place gives these lines, with a bar for each tab and names of digests, and
 /// costs this much; no lines where there is no item.
 pub(crate) fn expect_item<T: Tree>(
-    rt: &(impl Abort + AllocGlobal),
+    rt: &impl Runtime,
     row: &str,
     store: &mut T,
     path: &str,
@@ -123,7 +123,7 @@ fn walked(alloc: Global, store: &mut MemTree, after: &str) -> Result<Gathered, F
 /// A walk over all of the store gives these lines and costs this much. It opens each content file
 /// once that it hashes, and no other.
 pub(crate) fn expect(
-    rt: &(impl Abort + AllocGlobal),
+    rt: &impl Runtime,
     store: &mut MemTree,
     want: &str,
     want_cost: u64,
@@ -133,7 +133,7 @@ pub(crate) fn expect(
 
 /// The same of one row of a table.
 pub(crate) fn expect_row(
-    rt: &(impl Abort + AllocGlobal),
+    rt: &impl Runtime,
     row: &str,
     store: &mut MemTree,
     want: &str,
@@ -152,7 +152,7 @@ pub(crate) fn expect_row(
 
 /// Walks that are entered at these places give these lines.
 pub(crate) fn expect_after(
-    rt: &(impl Abort + AllocGlobal),
+    rt: &impl Runtime,
     store: &mut MemTree,
     rows: &[(&str, &str)],
 ) -> Result<(), Fail> {

@@ -1,6 +1,7 @@
 //! Cursors that a reader gives: those of a part, and what is shown of any.
 use super::part::ends_of;
 use super::{BODY, Halting, old_text, seal, whole_text};
+use crate::common::Runtime;
 use ocfl_cursor::{
     Cursor, CursorStop, PartCursorStop, PartRefused, Refused, ShowStop, encode_part,
     no_stored_part_is_refused, part_lines, read_part_cursor, read_shown,
@@ -8,7 +9,6 @@ use ocfl_cursor::{
 };
 use std::alloc::Global;
 use std::io::{self, ErrorKind, Read};
-use std::process::Abort;
 use std::test::Fail;
 
 /// The text of a cursor of the part from `o/v1/content/b` on, before its digest line.
@@ -34,7 +34,7 @@ fn part_stop(
 
 /// Reading these bytes as the cursor of the part of these ends stops so.
 fn expect_stop(
-    rt: &(impl Abort + AllocGlobal),
+    rt: &impl Runtime,
     row: &str,
     bytes: &[u8],
     fails: Option<ErrorKind>,
@@ -49,7 +49,7 @@ fn expect_stop(
 
 /// Showing these bytes stops so.
 fn expect_unshown(
-    rt: &(impl Abort + AllocGlobal),
+    rt: &impl Runtime,
     row: &str,
     left: &[u8],
     fails: Option<ErrorKind>,

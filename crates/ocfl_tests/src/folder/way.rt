@@ -1,11 +1,11 @@
 //! The names on the way to a place in a folder.
+use crate::common::Runtime;
 use crate::common::store::place_of;
 use crate::tree::{lists, whole};
 use ocfl_folder::FsTree;
 use ocfl_tree::{Place, Tree, Trouble};
 use std::fs;
 use std::os::unix;
-use std::process::Abort;
 use std::test::Fail;
 
 /// Makes a folder of these entries, which a blank parts: directories end in a slash, `to->d` is a
@@ -31,7 +31,7 @@ fn made(rt: &HostRuntime, top: &str, entries: &str) -> Result<FsTree<HostRuntime
 
 /// Tries each wrong place where the directory was listed right before.
 fn wrong_behind<T: Tree>(
-    rt: &(impl Abort + AllocGlobal),
+    rt: &impl Runtime,
     store: &mut T,
     listed: &str,
     wrong: &[&str],
@@ -50,7 +50,7 @@ fn wrong_behind<T: Tree>(
 
 /// Whether the file at a place has its path in it.
 fn holds_its_path<T: Tree>(
-    rt: &(impl Abort + AllocGlobal),
+    rt: &impl Runtime,
     row: &str,
     store: &mut T,
     path: &str,

@@ -1,8 +1,8 @@
 //! The lines of an object's head, by its declarations, its inventory and its sidecars.
+use crate::common::Runtime;
 use crate::common::object::bare_root;
 use crate::common::store::put;
 use crate::walk::expect_item;
-use std::process::Abort;
 use std::test::Fail;
 
 const BY_SHA512: &str = "{\"digestAlgorithm\":\"sha512\",\"manifest\":{}}";
@@ -16,12 +16,7 @@ const RIGHT_LONG: &str =
 
 /// The head of the object `p/o` with files of these names and texts, in which digests may be named,
 /// has these lines.
-fn says(
-    rt: &(impl Abort + AllocGlobal),
-    row: &str,
-    files: &[(&str, &str)],
-    want: &str,
-) -> Result<(), Fail> {
+fn says(rt: &impl Runtime, row: &str, files: &[(&str, &str)], want: &str) -> Result<(), Fail> {
     let alloc = rt.alloc();
     let mut store = bare_root(alloc)?;
     for (name, text) in files {
@@ -181,7 +176,7 @@ const INVENTORIES: [(&str, &str, Option<&str>, Option<&str>, &str); 14] = [
 
 /// An inventory of this text, with these sidecars for sha256 and sha512, gives these lines.
 fn inventory_says(
-    rt: &(impl Abort + AllocGlobal),
+    rt: &impl Runtime,
     row: &str,
     text: &str,
     sidecars: (Option<&str>, Option<&str>),

@@ -10,7 +10,6 @@ use ocfl_item::{
 };
 use ocfl_tree::{MemTree, Name};
 use std::alloc::Global;
-use std::process::Abort;
 use std::test::Fail;
 
 /// A storage root with the object `o`, whose files `v1/content/f` and `v2/content/m` are listed, of

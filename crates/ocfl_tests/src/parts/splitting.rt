@@ -3,7 +3,6 @@ use super::{Failing, place_of};
 use ocfl_parts::{SplitStop, put_parts, split_by};
 use std::alloc::Global;
 use std::io::{BufReader, ErrorKind};
-use std::process::Abort;
 use std::test::Fail;
 
 /// The report of a root with an object of three files, which cost 4, 1 and 4.

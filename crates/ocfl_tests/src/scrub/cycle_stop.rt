@@ -2,6 +2,7 @@
 use super::cycle::cycle_into;
 use super::run_figures::{MOST, due_of, equal_limits, items_in, limits};
 use super::stop::{Tried, root_by};
+use crate::common::Runtime;
 use crate::common::output::Narrow;
 use crate::common::store::listed_from;
 use ocfl_cursor::Cursor;
@@ -10,7 +11,6 @@ use ocfl_scrub::{CycleEnd, CycleStatus, cycle, run};
 use ocfl_tree::MemTree;
 use ocfl_walk::Fault;
 use std::alloc::Global;
-use std::process::Abort;
 use std::test::Fail;
 
 /// A storage root of `root_by`, the budget of each run, and the run that takes each item.
@@ -41,7 +41,7 @@ fn rest_from(alloc: Global, store: &mut MemTree, cursor: Cursor) -> Result<Strin
 /// The cycle and its cursor say so many runs of a first cycle, and pay for the items that went out
 /// whole; a run from the cursor writes the rest of the report.
 fn expect_stop(
-    rt: &(impl Abort + AllocGlobal),
+    rt: &impl Runtime,
     row: &str,
     root: &mut Tried,
     stopped: CycleEnd,
@@ -64,7 +64,7 @@ fn expect_stop(
 /// A cycle whose output takes so many bytes of the report stops in the run that takes the item
 /// which the next byte is of.
 fn expect_cut_cycle(
-    rt: &(impl Abort + AllocGlobal),
+    rt: &impl Runtime,
     root: &mut Tried,
     budget: u64,
     taken: &[usize],
@@ -109,7 +109,7 @@ fn runs_begun(alloc: Global, store: &MemTree) -> Result<usize, Fail> {
 /// The runs of a cycle are those that were begun until a call failed, and of these the last is the
 /// one that takes the last item that went out, or the next one, or lies between.
 fn expect_failing_cycle(
-    rt: &(impl Abort + AllocGlobal),
+    rt: &impl Runtime,
     root: &mut Tried,
     budget: u64,
     taken: &[usize],

@@ -1,11 +1,11 @@
 //! A walk that is entered at a place gives what the whole walk gives above that place.
 use super::seeded::{Dice, grow};
+use crate::common::Runtime;
 use crate::common::store::place_of;
 use ocfl_digest::Block;
 use ocfl_tree::{MemTree, Place};
 use ocfl_walk::{Fault, Walk, judge};
 use std::alloc::Global;
-use std::process::Abort;
 use std::test::Fail;
 
 /// A place, and the text of its lines.
@@ -95,11 +95,7 @@ pub(crate) fn some_place(alloc: Global, dice: &mut Dice, places: &[Place]) -> Re
 
 /// A walk that is entered at a random place of the root gives what a whole walk gives above it, and
 /// lists nothing before the place but what is on the way.
-fn expect_entered(
-    rt: &(impl Abort + AllocGlobal),
-    seed: u64,
-    block: &mut Block,
-) -> Result<(), Fail> {
+fn expect_entered(rt: &impl Runtime, seed: u64, block: &mut Block) -> Result<(), Fail> {
     let alloc = rt.alloc();
     let mut grown = grow(alloc, seed)?;
     let mut dice = Dice { state: seed };

@@ -1,11 +1,11 @@
 //! What checks and audits of storage roots are to do. Texts have a bar for each tab and may name
 //! digests.
+use crate::common::Runtime;
 use crate::common::digests::lines_of;
 use crate::common::object::FILE;
 use ocfl_digest::Block;
 use ocfl_scrub::{Note, audited, checked};
 use ocfl_tree::{MemTree, Tree};
-use std::process::Abort;
 use std::test::Fail;
 
 /// The line of the content file `f`, which is right.
@@ -16,7 +16,7 @@ pub(crate) const HEADS: &str = "ok|.|-\nok|o|-\n";
 
 /// What was written is this text, and the status and the note are these.
 fn expect_said(
-    rt: &(impl Abort + AllocGlobal),
+    rt: &impl Runtime,
     out: Vec<u8>,
     got: (u8, Note),
     want: (&str, u8, &str),
@@ -37,7 +37,7 @@ fn expect_said(
 
 /// Checking the path writes this text, and ends with this status and this note.
 pub(crate) fn expect<T: Tree>(
-    rt: &(impl Abort + AllocGlobal),
+    rt: &impl Runtime,
     row: &str,
     store: &mut T,
     path: &str,
@@ -59,7 +59,7 @@ pub(crate) fn expect<T: Tree>(
 
 /// An audit of the storage root writes this text, and ends with this status and this note.
 pub(crate) fn expect_audit<T: Tree>(
-    rt: &(impl Abort + AllocGlobal),
+    rt: &impl Runtime,
     row: &str,
     store: &mut T,
     text: &str,
@@ -73,7 +73,7 @@ pub(crate) fn expect_audit<T: Tree>(
 
 /// The head of the object has these lines; all but a clean one's are findings.
 pub(crate) fn finds(
-    rt: &(impl Abort + AllocGlobal),
+    rt: &impl Runtime,
     row: &str,
     store: &mut MemTree,
     lines: &str,
@@ -91,7 +91,7 @@ pub(crate) const STOPS: Option<&str> = Some("");
 /// The head of the object has these lines, and checking its content writes this where it is asked;
 /// there is no item for no text.
 pub(crate) fn expect_head(
-    rt: &(impl Abort + AllocGlobal),
+    rt: &impl Runtime,
     row: &str,
     store: &mut MemTree,
     lines: &str,

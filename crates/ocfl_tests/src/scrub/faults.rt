@@ -1,6 +1,7 @@
 //! Each failure that a store or an output can have, at each place where it can have it.
 use super::run_figures::{MOST, limits};
 use super::stop::{ROOTS, Tried, root_by};
+use crate::common::Runtime;
 use ocfl_cursor::Cursor;
 use ocfl_digest::Block;
 use ocfl_scrub::{RunEnd, RunStatus, run};
@@ -8,7 +9,6 @@ use ocfl_tree::{Opening, Place, Point, Tree};
 use ocfl_walk::Fault;
 use std::alloc::Global;
 use std::io;
-use std::process::Abort;
 use std::test::Fail;
 
 /// What a run without limits that matter wrote, and how it ended.
@@ -58,7 +58,7 @@ fn with_unread(alloc: Global, report: &str, openings: &[Opening]) -> Result<Stri
 
 /// What was written begins the report with whole items, and the rest of it comes from the cursor.
 pub(crate) fn expect_rest(
-    rt: &(impl Abort + AllocGlobal),
+    rt: &impl Runtime,
     number: u64,
     all: &str,
     first: Outcome,
@@ -77,7 +77,7 @@ pub(crate) fn expect_rest(
 /// A store that fails so gives the report with the files that it did not read, or stops a run that
 /// goes on where it stopped.
 fn expect_fault(
-    rt: &(impl Abort + AllocGlobal),
+    rt: &impl Runtime,
     number: u64,
     all: &str,
     place: &Place,
@@ -111,7 +111,7 @@ fn expect_fault(
 
 /// Reads fail so at each offset of content, and at the first and the last of another file.
 fn expect_faults_in(
-    rt: &(impl Abort + AllocGlobal),
+    rt: &impl Runtime,
     number: u64,
     all: &str,
     opening: &Opening,
@@ -162,11 +162,7 @@ impl io::Write for Drops {
 
 /// A run over such an output is cut where its room is less than the report, and a run from its
 /// cursor writes the rest.
-pub(crate) fn expect_dropped(
-    rt: &(impl Abort + AllocGlobal),
-    root: &mut Tried,
-    room: usize,
-) -> Result<(), Fail> {
+pub(crate) fn expect_dropped(rt: &impl Runtime, root: &mut Tried, room: usize) -> Result<(), Fail> {
     let alloc = rt.alloc();
     let row = format!(in alloc; "root {}, room {room}", root.number)?;
     let kept = Vec::new(alloc);

@@ -1,6 +1,7 @@
 //! Checks of an object as a whole: the lines of its head, and whether its content is checked behind
 //! them.
 use super::expected::{FILE_IS_OK, GOES_ON, STOPS, expect, expect_audit, expect_head, finds};
+use crate::common::Runtime;
 use crate::common::object::{
     DECLARATION, INVENTORY, LONG_SIDECAR, SHORT_SIDECAR, inventory, listing, long_sidecar,
     object_with, short_digits,
@@ -9,7 +10,6 @@ use crate::common::roots::right_object;
 use crate::common::store::{change, place_of, put, times_opened};
 use ocfl_tree::{MemTree, Point};
 use std::alloc::Global;
-use std::process::Abort;
 use std::test::Fail;
 
 #[test]
@@ -347,12 +347,7 @@ const SIDECARS: [(&str, &str, &str); 10] = [
 
 /// With the right digits and this after them in its sidecar, the head of the object has this line,
 /// and its content is checked.
-fn expect_sidecar(
-    rt: &(impl Abort + AllocGlobal),
-    row: &str,
-    behind: &str,
-    lines: &str,
-) -> Result<(), Fail> {
+fn expect_sidecar(rt: &impl Runtime, row: &str, behind: &str, lines: &str) -> Result<(), Fail> {
     let mut store = object_with_digits_and(rt.alloc(), behind)?;
     expect_head(rt, row, &mut store, lines, GOES_ON)?;
     let text = format!(in rt.alloc(); "ok|.|-\n{lines}{FILE_IS_OK}")?;
@@ -405,12 +400,7 @@ fn object_with_both_sidecars(alloc: Global) -> Result<MemTree, Fail> {
 
 /// With this call failing, the check of the object stops: it writes nothing, and opens no file
 /// after that one.
-fn stops_at(
-    rt: &(impl Abort + AllocGlobal),
-    call: &str,
-    place: &str,
-    point: Point,
-) -> Result<(), Fail> {
+fn stops_at(rt: &impl Runtime, call: &str, place: &str, point: Point) -> Result<(), Fail> {
     let mut store = object_with_both_sidecars(rt.alloc())?;
     let failing = place_of(rt.alloc(), place)?;
     store.fail_at(&failing, point)?;

@@ -1,6 +1,7 @@
 //! Many lines, places, members and runs: memory for them is there, so none of them may be given up.
 use super::expected::{FILE_IS_OK, HEADS, expect, expect_audit};
 use super::run_figures::{MOST, items_in, limits};
+use crate::common::Runtime;
 use crate::common::digests::lines_of;
 use crate::common::object::{FILE, inventory, listing, object_listing, object_with};
 use crate::common::odd_store::{Odd, Oddity};
@@ -13,7 +14,6 @@ use ocfl_digest::Block;
 use ocfl_scrub::{audited, checked, perform, run};
 use ocfl_tree::{MemTree, Point};
 use std::alloc::Global;
-use std::process::Abort;
 use std::test::Fail;
 
 /// The numbers from 10,000 on, so many, each in a text of its own.
@@ -140,7 +140,7 @@ fn unread_content_is_no_lack_of_memory(rt: HostRuntime) -> Result<(), Fail> {
 // ---- one write for each item
 
 /// The writer was called once for each item of these lines.
-fn expect_calls(rt: &impl Abort, row: &str, out: &Counting, lines: &str) {
+fn expect_calls(rt: &impl Runtime, row: &str, out: &Counting, lines: &str) {
     assert!(rt; out.kept.as_slice() == lines.as_bytes(), "{row}: {lines}");
     assert_eq!(rt; out.calls, items_in(lines), "{row}: {lines}");
 }

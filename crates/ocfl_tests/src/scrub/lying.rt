@@ -5,13 +5,13 @@ ghost use Rattle.ocfl_tree.specs.MemTree.{empty_store};
 use super::faults::{expect_rest, ran};
 use super::run_figures::{MOST, limits};
 use super::stop::{ROOTS, Tried, root_by};
+use crate::common::Runtime;
 use ocfl_cursor::Cursor;
 use ocfl_digest::Block;
 use ocfl_report::read_place;
 use ocfl_scrub::{RunEnd, RunStatus, run};
 use ocfl_tree::{Entry, MemTree, Place, Tree, Trouble};
 use ocfl_walk::Fault;
-use std::process::Abort;
 use std::test::Fail;
 
 /// A store that tells of one root and of another by turns, with each call.
@@ -67,7 +67,7 @@ impl Tree for Restless {
 }
 
 /// The places of a report's lines do not descend.
-fn expect_ascending(rt: &(impl Abort + AllocGlobal), report: &str, what: &str) -> Result<(), Fail> {
+fn expect_ascending(rt: &impl Runtime, report: &str, what: &str) -> Result<(), Fail> {
     let alloc = rt.alloc();
     let mut before = Place::root(alloc);
     for line in report.lines() {
@@ -80,11 +80,7 @@ fn expect_ascending(rt: &(impl Abort + AllocGlobal), report: &str, what: &str) -
 }
 
 /// Runs over a store that changes end, cost what their limits allow, and report in order.
-fn expect_order(
-    rt: &(impl Abort + AllocGlobal),
-    store: &mut Restless,
-    what: &str,
-) -> Result<(), Fail> {
+fn expect_order(rt: &impl Runtime, store: &mut Restless, what: &str) -> Result<(), Fail> {
     let alloc = rt.alloc();
     let mut block = Block::new(alloc)?;
     let mut cursor = Cursor::new();

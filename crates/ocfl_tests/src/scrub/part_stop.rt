@@ -1,6 +1,7 @@
 //! Audits, runs and cycles of parts that begin inside an object, with each call of the store
 //! failing in turn.
 use super::run_figures::{MOST, cursor_of, due_of, equal_limits, limits};
+use crate::common::Runtime;
 use crate::common::roots::right_objects;
 use crate::common::store::place_of;
 use ocfl_cursor::{Cursor, State};
@@ -11,7 +12,6 @@ use ocfl_scrub::{
 use ocfl_tree::MemTree;
 use ocfl_walk::Fault;
 use std::alloc::Global;
-use std::process::Abort;
 use std::test::Fail;
 
 /// The places between which a part of the root of two objects lies, `-` for none, and its report.
@@ -157,7 +157,7 @@ fn try_call(alloc: Global, call: &str, store: &mut MemTree, part: &Part) -> Resu
 
 /// What the store was asked begins what it is asked where nothing fails.
 fn asks_a_front(
-    rt: &(impl Abort + AllocGlobal),
+    rt: &impl Runtime,
     row: &str,
     store: &MemTree,
     clean: &MemTree,
@@ -175,7 +175,7 @@ fn asks_a_front(
 /// What went out before a stop is whole items that begin the report, and the cursor pays for them.
 /// A run from it writes the rest.
 fn expect_rest(
-    rt: &(impl Abort + AllocGlobal),
+    rt: &impl Runtime,
     row: &str,
     inside: &Inside,
     store: &mut MemTree,
@@ -206,7 +206,7 @@ fn expect_rest(
 
 /// The report where the file of one of the objects cannot be read.
 fn expect_unread(
-    rt: &(impl Abort + AllocGlobal),
+    rt: &impl Runtime,
     row: &str,
     inside: &Inside,
     ending: &Ending,
@@ -226,7 +226,7 @@ fn expect_unread(
 /// Tries the call with this call of the store failing. It says whether there is such a call, and
 /// whether it stopped.
 fn expect_failing_part(
-    rt: &(impl Abort + AllocGlobal),
+    rt: &impl Runtime,
     inside: &Inside,
     call: &str,
     number: u64,

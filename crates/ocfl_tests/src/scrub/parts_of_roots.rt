@@ -5,6 +5,7 @@ use super::run_figures::{
     A, ALL, B, C, MOST, cursor_after, cycle_says, equal_limits, expect_text, limits, run_says,
     why_says,
 };
+use crate::common::Runtime;
 use crate::common::roots::{long_object, missing_and_there, right_objects, three_files, two_files};
 use crate::common::store::{listed_from, opened_from, place_of, was_not_called};
 use ocfl_cursor::Cursor;
@@ -13,7 +14,6 @@ use ocfl_report::DisplayPlace;
 use ocfl_scrub::{AuditEnd, End, Part, RunEnd, audit_part, cycle_part, run_part};
 use ocfl_tree::{MemTree, Place, Point};
 use std::alloc::Global;
-use std::process::Abort;
 use std::test::Fail;
 
 /// The parts that these separators make.
@@ -74,7 +74,7 @@ const CALLS: [&str; 3] = ["audit", "run", "cycle"];
 /// Such a call over a part, with nothing that limits it, writes these pieces. It gives what the
 /// call says.
 fn take_part(
-    rt: &(impl Abort + AllocGlobal),
+    rt: &impl Runtime,
     row: &str,
     call: &str,
     store: &mut MemTree,
@@ -110,7 +110,7 @@ type Taken = (
 
 /// Each call takes all of the part, and says so.
 fn expect_taken(
-    rt: &(impl Abort + AllocGlobal),
+    rt: &impl Runtime,
     row: &str,
     root: &str,
     part: &Part,
@@ -266,12 +266,7 @@ fn part_that_is_all_of_a_root(rt: HostRuntime) -> Result<(), Fail> {
 type Looked = (&'static str, &'static str, &'static str, &'static str);
 
 /// Each call takes all of the part of the root of three objects, and lists and opens just this.
-fn expect_looked(
-    rt: &(impl Abort + AllocGlobal),
-    row: &str,
-    part: &Part,
-    looked: &Looked,
-) -> Result<(), Fail> {
+fn expect_looked(rt: &impl Runtime, row: &str, part: &Part, looked: &Looked) -> Result<(), Fail> {
     let alloc = rt.alloc();
     let (text, listed, inventories, contents) = looked;
     for call in CALLS {
@@ -426,7 +421,7 @@ fn listing_that_fails_stops_its_own_part(rt: HostRuntime) -> Result<(), Fail> {
 /// A run of a part of the root of three files from the cursor writes these pieces and says this. It
 /// gives its cursor.
 fn expect_part_run(
-    rt: &(impl Abort + AllocGlobal),
+    rt: &impl Runtime,
     row: &str,
     part: &Part,
     cursor: Cursor,

@@ -2,6 +2,7 @@
 use super::expected::{FILE_IS_OK, HEADS};
 use super::run_figures::{A, ALL, B, C, MOST, cursor_of, limits};
 use super::stop::{STOPS, stopping};
+use crate::common::Runtime;
 use crate::common::digests::lines_of;
 use crate::common::object::{FILE, listing, object_with};
 use crate::common::output::Narrow;
@@ -15,7 +16,6 @@ use ocfl_tree::Tree;
 use sha2::{Digest, Sha256};
 use std::alloc::Global;
 use std::io::{self, ErrorKind, Read};
-use std::process::Abort;
 use std::test::Fail;
 
 /// The text of a cursor behind `o/v1/content/c`, with its digest by `sha256sum`.
@@ -30,7 +30,7 @@ const OLD: &str = "ocfl-scrub cursor 1\ncycle 3\nruns 2\nspent 9\nafter o/v1/con
 /// Doing the deed, with these bytes as the stored cursor, writes this text and ends with this
 /// status and this note. It gives the cursor to be stored.
 fn expect<T: Tree>(
-    rt: &(impl Abort + AllocGlobal),
+    rt: &impl Runtime,
     row: &str,
     store: &mut T,
     deed: &Deed,
@@ -59,7 +59,7 @@ fn expect<T: Tree>(
 
 /// The same over three files, and no call of the store is made and no cursor stored.
 fn expect_silent(
-    rt: &(impl Abort + AllocGlobal),
+    rt: &impl Runtime,
     row: &str,
     deed: &Deed,
     file: Option<&[u8]>,
@@ -419,7 +419,7 @@ fn commands_that_a_call_stops(rt: HostRuntime) -> Result<(), Fail> {
 
 /// What comes of the deed where the output takes ten bytes: what was written, and the cursor.
 fn with_ten_bytes(
-    rt: &(impl Abort + AllocGlobal),
+    rt: &impl Runtime,
     row: &str,
     deed: &Deed,
 ) -> Result<(Vec<u8>, Option<Vec<u8>>), Fail> {

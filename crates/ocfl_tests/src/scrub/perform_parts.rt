@@ -2,6 +2,7 @@
 use super::expected::HEADS;
 use super::run_figures::{A, B, C, MOST, limits};
 use super::stop::stopping;
+use crate::common::Runtime;
 use crate::common::digests::lines_of;
 use crate::common::roots::{right_objects, three_files};
 use crate::common::store::{place_of, was_not_called};
@@ -12,13 +13,12 @@ use ocfl_scrub::{Performed, Scope, perform_part};
 use ocfl_tree::{Place, Point, Tree};
 use sha2::{Digest, Sha256};
 use std::alloc::Global;
-use std::process::Abort;
 use std::test::Fail;
 
 /// Doing the deed within the scope, with these bytes as the stored cursor, writes this text and
 /// ends with this status and this note. It gives the cursor to be stored.
 fn expect<T: Tree>(
-    rt: &(impl Abort + AllocGlobal),
+    rt: &impl Runtime,
     row: &str,
     store: &mut T,
     deed: &Deed,
@@ -254,7 +254,7 @@ fn runs_of_a_part_from_anywhere(rt: HostRuntime) -> Result<(), Fail> {
 
 /// A run within this scope from these bytes is refused so: it looks at nothing.
 fn expect_refused(
-    rt: &(impl Abort + AllocGlobal),
+    rt: &impl Runtime,
     row: &str,
     file: &[u8],
     scope: &Scope,

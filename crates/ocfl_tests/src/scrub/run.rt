@@ -4,6 +4,7 @@ use super::run_figures::{
     A, ALL, B, C, MOST, cursor_after, cursor_of, equal_limits, expect_cycle, expect_run,
     expect_runs, limits, run_says,
 };
+use crate::common::Runtime;
 use crate::common::object::{bare_root, object_listing};
 use crate::common::output::Narrow;
 use crate::common::roots::{missing_and_there, right_object, right_objects, three_files};
@@ -14,7 +15,6 @@ use ocfl_cursor::{Cursor, State};
 use ocfl_digest::Block;
 use ocfl_scrub::run;
 use ocfl_tree::MemTree;
-use std::process::Abort;
 use std::test::Fail;
 
 const THREE_ENDED: &str = "spent 9 files 3 clean, ended; cycle 1 runs 1 spent 9 files 3 ended";
@@ -152,7 +152,7 @@ fn slash_before_dash(rt: HostRuntime) -> Result<(), Fail> {
 
 /// Runs from behind these places write these pieces and say this.
 fn expect_behind(
-    rt: &(impl Abort + AllocGlobal),
+    rt: &impl Runtime,
     store: &mut MemTree,
     rows: &[(&str, &[&str], &str)],
 ) -> Result<(), Fail> {
@@ -233,12 +233,7 @@ fn largest_limits_and_figures(rt: HostRuntime) -> Result<(), Fail> {
 const LAST: u64 = 18_446_744_073_709_551_615;
 
 /// A run from the cursor reads all of the three files, and its own cursor then says this.
-fn expect_whole_run(
-    rt: &(impl Abort + AllocGlobal),
-    row: &str,
-    cursor: Cursor,
-    says: &str,
-) -> Result<(), Fail> {
+fn expect_whole_run(rt: &impl Runtime, row: &str, cursor: Cursor, says: &str) -> Result<(), Fail> {
     let alloc = rt.alloc();
     let mut store = three_files(alloc)?;
     let said = format!(in alloc; "spent 9 files 3 clean, ended; {says} spent 9 files 3 ended")?;
@@ -290,7 +285,7 @@ fn run_behind_the_end_of_a_cycle(rt: HostRuntime) -> Result<(), Fail> {
 
 /// The cursor, which says this, is worn: its run makes no call and writes nothing, even where both
 /// would fail.
-fn is_worn(rt: &(impl Abort + AllocGlobal), cursor: Cursor, says: &str) -> Result<(), Fail> {
+fn is_worn(rt: &impl Runtime, cursor: Cursor, says: &str) -> Result<(), Fail> {
     let alloc = rt.alloc();
     let mut store = three_files(alloc)?;
     store.fail_call(1);

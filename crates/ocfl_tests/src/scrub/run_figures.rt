@@ -1,5 +1,6 @@
 //! What the tests of runs share: limits, cursors, and what runs and cycles say.
 use super::expected::HEADS;
+use crate::common::Runtime;
 use crate::common::digests::{ABC_SHA256, NOTHING_SHA256, lines_of};
 use crate::common::store::place_of;
 use ocfl_cursor::{Budget, Cursor, FileLimit, Limits, State};
@@ -9,7 +10,6 @@ use ocfl_scrub::{CycleEnd, CycleStatus, RunEnd, RunStatus, cycle, run};
 use ocfl_tree::Tree;
 use ocfl_walk::Fault;
 use std::alloc::Global;
-use std::process::Abort;
 use std::test::Fail;
 
 /// The largest limit of files, and the largest budget.
@@ -125,7 +125,7 @@ pub(crate) fn cycle_says(alloc: Global, cycle: &CycleEnd) -> Result<String, Fail
 
 /// A run from the cursor writes these pieces, and says this. It gives its cursor.
 pub(crate) fn expect_run<T: Tree>(
-    rt: &(impl Abort + AllocGlobal),
+    rt: &impl Runtime,
     row: &str,
     store: &mut T,
     cursor: Cursor,
@@ -146,7 +146,7 @@ pub(crate) fn expect_run<T: Tree>(
 
 /// These bytes are the pieces, one after the other, with tabs for their bars.
 pub(crate) fn expect_text(
-    rt: &(impl Abort + AllocGlobal),
+    rt: &impl Runtime,
     row: &str,
     out: Vec<u8>,
     pieces: &[&str],
@@ -168,7 +168,7 @@ pub(crate) fn expect_text(
 /// The runs of a first cycle, each with its budget and all with this limit of files, write these
 /// pieces and say this.
 pub(crate) fn expect_runs<T: Tree>(
-    rt: &(impl Abort + AllocGlobal),
+    rt: &impl Runtime,
     row: &str,
     store: &mut T,
     files: u64,
@@ -191,7 +191,7 @@ pub(crate) fn expect_runs<T: Tree>(
 
 /// A cycle with these limits writes these pieces, and says this.
 pub(crate) fn expect_cycle<T: Tree>(
-    rt: &(impl Abort + AllocGlobal),
+    rt: &impl Runtime,
     row: &str,
     store: &mut T,
     limits: &[Limits],

@@ -2,6 +2,7 @@
 use super::expected::{FILE_IS_OK, HEADS};
 use super::run_figures::{MOST, cursor_after, due_of, expect_run, limits, run_says};
 use super::stop::{ROOTS, Tried, root_by};
+use crate::common::Runtime;
 use crate::common::output::Narrow;
 use crate::common::roots::{long_object, three_files};
 use crate::common::store::place_of;
@@ -11,7 +12,6 @@ use ocfl_scrub::{RunEnd, RunStatus, run};
 use ocfl_tree::{MemTree, Point};
 use ocfl_walk::Fault;
 use std::alloc::Global;
-use std::process::Abort;
 use std::test::Fail;
 
 #[test]
@@ -122,11 +122,7 @@ fn runs_joined(alloc: Global, store: &mut MemTree, budget: u64) -> Result<(Strin
 
 /// With each call of the store failing in turn, the runs of such a budget write the report, or say
 /// which file they did not read. Some calls stop a run.
-fn expect_failing_runs(
-    rt: &(impl Abort + AllocGlobal),
-    root: &Tried,
-    budget: u64,
-) -> Result<(), Fail> {
+fn expect_failing_runs(rt: &impl Runtime, root: &Tried, budget: u64) -> Result<(), Fail> {
     let number = root.number;
     let mut stops = false;
     for call in 1..1_000u64 {
@@ -187,7 +183,7 @@ fn until_stopped(
 /// Runs whose output takes so many bytes of the report pay for the items that went out whole, and a
 /// run from the cursor writes the rest.
 pub(crate) fn expect_cut_runs(
-    rt: &(impl Abort + AllocGlobal),
+    rt: &impl Runtime,
     root: &mut Tried,
     room: usize,
     budget: u64,

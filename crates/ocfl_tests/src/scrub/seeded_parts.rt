@@ -3,6 +3,7 @@ use super::entered::some_place;
 use super::parts_of_roots::parts_between;
 use super::run_figures::{Figures, equal_limits, limits, reckoned};
 use super::seeded::{Dice, grow};
+use crate::common::Runtime;
 use crate::common::store::place_of;
 use ocfl_cursor::{Cursor, PartEnds, decode_part, encode_part};
 use ocfl_digest::Block;
@@ -11,7 +12,6 @@ use ocfl_scrub::{
 };
 use ocfl_tree::{MemTree, Place};
 use std::alloc::Global;
-use std::process::Abort;
 use std::test::Fail;
 
 /// Separators at places that have lines, near these, at the root and above all.
@@ -63,7 +63,7 @@ fn may_list(part: &Part, place: &Place) -> bool {
 
 /// What an audit of the part writes. It says what its own text says, and lists nothing outside.
 fn audit_of(
-    rt: &(impl Abort + AllocGlobal),
+    rt: &impl Runtime,
     row: &str,
     store: &mut MemTree,
     part: &Part,
@@ -94,7 +94,7 @@ struct Ran {
 
 /// Makes one more run, from the cursor as it is read from its text. It says whether items are left.
 fn runs_on(
-    rt: &(impl Abort + AllocGlobal),
+    rt: &impl Runtime,
     row: &str,
     store: &mut MemTree,
     part: &Part,
@@ -146,7 +146,7 @@ fn most_runs(due: &Figures, budget: u64, files: u64) -> Result<u64, Fail> {
 /// Runs with small limits of all kinds write, joined, the text, and are not many. It gives their
 /// number.
 fn expect_part_runs(
-    rt: &(impl Abort + AllocGlobal),
+    rt: &impl Runtime,
     row: &str,
     store: &mut MemTree,
     part: &Part,
@@ -178,7 +178,7 @@ fn expect_part_runs(
 
 /// A cycle with equal limits, as many as it may need, writes the text and ends.
 fn expect_part_cycle(
-    rt: &(impl Abort + AllocGlobal),
+    rt: &impl Runtime,
     row: &str,
     store: &mut MemTree,
     part: &Part,
@@ -220,7 +220,7 @@ struct Sames {
 
 /// Takes each part of the root in each way. It gives their reports, joined.
 fn all_parts(
-    rt: &(impl Abort + AllocGlobal),
+    rt: &impl Runtime,
     row: &str,
     sames: &mut Sames,
     parts: &[Part],
@@ -247,7 +247,7 @@ fn all_parts(
 }
 
 /// The parts of the root of this seed make its audit, and open its files, each once.
-fn parts_of_seed(rt: &(impl Abort + AllocGlobal), seed: u64, met: &mut Met) -> Result<(), Fail> {
+fn parts_of_seed(rt: &impl Runtime, seed: u64, met: &mut Met) -> Result<(), Fail> {
     let alloc = rt.alloc();
     let row = format!(in alloc; "seed {seed}")?;
     let row = row.as_str();

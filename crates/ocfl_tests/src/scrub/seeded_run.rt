@@ -2,13 +2,13 @@
 use super::run_figures::{Figures, limits, reckoned};
 use super::seeded::{Dice, grow};
 use super::stop::whole;
+use crate::common::Runtime;
 use crate::common::store::opened_from;
 use ocfl_cursor::{Cursor, Limits};
 use ocfl_digest::Block;
 use ocfl_scrub::{CycleStatus, RunEnd, RunStatus, cycle, run};
 use ocfl_tree::MemTree;
 use std::alloc::Global;
-use std::process::Abort;
 use std::test::Fail;
 
 /// What the runs of one cycle did, by themselves and together.
@@ -24,7 +24,7 @@ struct Done {
 
 /// Makes one more run. Its figures are those of its own report. It says whether items are left.
 fn one_more(
-    rt: &(impl Abort + AllocGlobal),
+    rt: &impl Runtime,
     row: &str,
     store: &mut MemTree,
     done: &mut Done,
@@ -57,7 +57,7 @@ fn one_more(
 
 /// Makes runs with limits of all kinds until no item is left.
 fn runs_of(
-    rt: &(impl Abort + AllocGlobal),
+    rt: &impl Runtime,
     row: &str,
     store: &mut MemTree,
     dice: &mut Dice,
@@ -95,12 +95,7 @@ fn contents(store: &MemTree) -> usize {
 }
 
 /// The runs are no more than the sums and the least limits allow.
-fn within(
-    rt: &(impl Abort + AllocGlobal),
-    row: &str,
-    done: &Done,
-    all: &Figures,
-) -> Result<(), Fail> {
+fn within(rt: &impl Runtime, row: &str, done: &Done, all: &Figures) -> Result<(), Fail> {
     let by_cost = all.spent.checked_div(done.least_budget).ok_or("no budget")?;
     let by_files = all.files.checked_div(done.least_files).ok_or("no limit")?;
     let most = by_cost.checked_add(by_files).ok_or("too many")?;
@@ -113,7 +108,7 @@ fn within(
 
 /// Each file was opened once, and an inventory once more for each run behind the first at most.
 fn opened_once(
-    rt: &(impl Abort + AllocGlobal),
+    rt: &impl Runtime,
     row: &str,
     once: &MemTree,
     store: &MemTree,
@@ -129,7 +124,7 @@ fn opened_once(
 
 /// A cycle with the limits of these runs writes this report, and has its figures.
 fn cycle_is_the_audit(
-    rt: &(impl Abort + AllocGlobal),
+    rt: &impl Runtime,
     row: &str,
     store: &mut MemTree,
     done: &mut Done,
@@ -150,7 +145,7 @@ fn cycle_is_the_audit(
 
 /// The runs of the root of this seed write, joined, what an audit of it writes, and so does a cycle
 /// with the same limits.
-fn root_of_seed(rt: &(impl Abort + AllocGlobal), seed: u64) -> Result<(), Fail> {
+fn root_of_seed(rt: &impl Runtime, seed: u64) -> Result<(), Fail> {
     let alloc = rt.alloc();
     let row = format!(in alloc; "seed {seed}")?;
     let row = row.as_str();

@@ -4,6 +4,7 @@ use super::expected::expect_audit;
 use super::faults::expect_dropped;
 use super::run_figures::{MOST, budgets, expect_cycle, expect_run, limits};
 use super::run_stop::expect_cut_runs;
+use crate::common::Runtime;
 use crate::common::output::Narrow;
 use crate::common::roots::{
     long_object, missing_and_there, right_objects, three_files, two_files, under_four_algorithms,
@@ -15,7 +16,6 @@ use ocfl_scrub::{End, audit, audited};
 use ocfl_tree::{MemTree, Place, Point};
 use ocfl_walk::Fault;
 use std::alloc::Global;
-use std::process::Abort;
 use std::test::Fail;
 
 /// Calls that fail over the root of an object by sha512: their places, what was written before, the
@@ -151,11 +151,7 @@ impl Tried {
 
 /// An audit whose output takes so many bytes of the report says so. A walk behind its last place
 /// gives the rest, so that of the item that did not go out whole at most a beginning went out.
-fn expect_cut_audit(
-    rt: &(impl Abort + AllocGlobal),
-    root: &mut Tried,
-    room: usize,
-) -> Result<(), Fail> {
+fn expect_cut_audit(rt: &impl Runtime, root: &mut Tried, room: usize) -> Result<(), Fail> {
     let alloc = rt.alloc();
     let mut block = Block::new(alloc)?;
     let row = format!(in alloc; "root {}, room {room}", root.number)?;
@@ -193,11 +189,7 @@ fn output_that_fails_at_each_byte(rt: HostRuntime) -> Result<(), Fail> {
 
 /// An audit of a store whose call fails writes whole items of the report, or says which file it
 /// did not read. A walk behind the last place gives the rest. It says whether there is such a call.
-fn expect_failing_audit(
-    rt: &(impl Abort + AllocGlobal),
-    root: &Tried,
-    call: u64,
-) -> Result<bool, Fail> {
+fn expect_failing_audit(rt: &impl Runtime, root: &Tried, call: u64) -> Result<bool, Fail> {
     let alloc = rt.alloc();
     let (mut block, mut out) = (Block::new(alloc)?, Vec::new(alloc));
     let mut store = root_by(alloc, root.number)?;

@@ -1,11 +1,11 @@
 //! The items at single places, and what looking for them opens and lists.
+use crate::common::Runtime;
 use crate::common::digests::lines_of;
 use crate::common::object::bare_root;
 use crate::common::store::{change, listed_from, opened_from, place_of, put_dir};
 use crate::walk::{failed_place, item, judged};
 use ocfl_tree::{MemTree, Point};
 use std::alloc::Global;
-use std::process::Abort;
 use std::test::Fail;
 
 const INVENTORY: &str =
@@ -57,11 +57,7 @@ fn text_at(store: &mut MemTree, alloc: Global, text: &str) -> Result<String, Fai
 }
 
 /// The items at these places have this text, with a bar for each tab.
-fn expect(
-    rt: &(impl Abort + AllocGlobal),
-    store: &mut MemTree,
-    rows: &[(&str, &str)],
-) -> Result<(), Fail> {
+fn expect(rt: &impl Runtime, store: &mut MemTree, rows: &[(&str, &str)]) -> Result<(), Fail> {
     for (place, want) in rows {
         let text = text_at(store, rt.alloc(), place)?;
         assert_eq!(rt;

@@ -1,4 +1,5 @@
 //! Walks that begin at a place, and what they list and read there.
+use crate::common::Runtime;
 use crate::common::roots::{missing_and_there, right_objects};
 use crate::common::store::{listed_from, place_of};
 use crate::walk::said;
@@ -6,7 +7,6 @@ use crate::walk::stack::{expect_inventories, step};
 use ocfl_tree::{MemTree, Place};
 use ocfl_walk::{End, Walk};
 use std::alloc::Global;
-use std::process::Abort;
 use std::test::Fail;
 
 fn begun(alloc: Global, store: &mut MemTree, from: &str) -> Result<Walk, Fail> {
@@ -16,7 +16,7 @@ fn begun(alloc: Global, store: &mut MemTree, from: &str) -> Result<Walk, Fail> {
 /// A walk that begins at a place gives these items, having listed these directories when it gave
 /// each of them.
 fn steps(
-    rt: &(impl Abort + AllocGlobal),
+    rt: &impl Runtime,
     store: &mut MemTree,
     from: &str,
     rows: &[(&str, &str)],

@@ -1,4 +1,5 @@
 //! Walks entered at a place, and what they list and read on the way.
+use crate::common::Runtime;
 use crate::common::object::{bare_root, listing, object_listing, put_object};
 use crate::common::roots::{missing_and_there, right_object, right_objects};
 use crate::common::store::{change, listed_from, opened_from};
@@ -6,7 +7,6 @@ use crate::walk::{entered, expect, expect_after, said};
 use ocfl_tree::MemTree;
 use ocfl_walk::Walk;
 use std::alloc::Global;
-use std::process::Abort;
 use std::test::Fail;
 
 /// The path of the next item; a dash where there are no more.
@@ -21,7 +21,7 @@ pub(crate) fn step(alloc: Global, store: &mut MemTree, walk: &mut Walk) -> Resul
 /// A walk entered at a place gives these items, having listed these directories when it gave each
 /// of them.
 fn steps(
-    rt: &(impl Abort + AllocGlobal),
+    rt: &impl Runtime,
     store: &mut MemTree,
     after: &str,
     rows: &[(&str, &str)],
@@ -76,7 +76,7 @@ fn listings_after_each_item(rt: HostRuntime) -> Result<(), Fail> {
 
 /// The inventories that were opened are these.
 pub(crate) fn expect_inventories(
-    rt: &(impl Abort + AllocGlobal),
+    rt: &impl Runtime,
     store: &MemTree,
     want: &str,
 ) -> Result<(), Fail> {

@@ -1,51 +1,22 @@
 //! Cursors and their text, refusals, limits and meters.
-use crate::common::Runtime;
+use crate::common::cursors::{
+    BODY, DIGEST, LINES, OLD_BODY, OLD_DIGEST, OLD_LINES, old_text, sealed, whole_text,
+};
+use crate::common::input::{Slow, Then, failures};
 use crate::common::store::place_of;
+use crate::common::{Runtime, expect_shown};
 use ocfl_cursor::{
     Budget, Cursor, CursorStop, FileLimit, Limits, Meter, Refused, State, cursor_lines,
     cursor_reads_back, decode, encode, read_cursor, text_determines_the_cursor,
 };
+use ocfl_report::DisplayPlace;
 use ocfl_tree::{Name, Place};
-use sha2::{Digest, Sha256};
 use std::alloc::Global;
-use std::io::{self, ErrorKind, Read};
+use std::fmt::Display;
 use std::test::Fail;
 
 mod part;
 mod stored;
-
-/// A text of a cursor behind `o/v1/content/c`, before its digest line.
-const BODY: &str = "ocfl-scrub cursor 2\ncycle 3\nruns 2\nspent 9\nfiles 3\nafter o/v1/content/c\n";
-
-/// The SHA-256 of that, by `sha256sum`.
-const DIGEST: &str = "894422823bd158b8102505a5075ffb65b0f4cfeb1067789d3830a518ec8f4b26";
-
-/// The same of version 1, which does not tell the files.
-const OLD_BODY: &str = "ocfl-scrub cursor 1\ncycle 3\nruns 2\nspent 9\nafter o/v1/content/c\n";
-
-/// The SHA-256 of that, by `sha256sum`.
-const OLD_DIGEST: &str = "822836e04ff6618e0a7571237f0049f590a6f9890506f09338f0505902d351d7";
-
-/// The whole text.
-fn whole_text(alloc: Global) -> Result<Vec<u8>, Fail> {
-    let text = format!(in alloc; "{BODY}digest {DIGEST}\n")?;
-    Ok(Vec::from_slice(alloc, text.as_bytes())?)
-}
-
-/// The whole text of version 1.
-fn old_text(alloc: Global) -> Result<Vec<u8>, Fail> {
-    let text = format!(in alloc; "{OLD_BODY}digest {OLD_DIGEST}\n")?;
-    Ok(Vec::from_slice(alloc, text.as_bytes())?)
-}
-
-/// The text with its right digest line.
-fn seal(alloc: Global, body: &[u8]) -> Result<Vec<u8>, Fail> {
-    let mut text = Vec::from_slice(alloc, body)?;
-    text.extend_from_slice(b"digest ")?;
-    text.extend_from_slice(hex::encode(alloc, Sha256::digest(body))?.as_bytes())?;
-    text.extend_from_slice(b"\n")?;
-    Ok(text)
-}
 
 /// A place of so many names, each 255 bytes 0x01.
 fn long_place(alloc: Global, count: usize) -> Result<Place, Fail> {
@@ -59,6 +30,12 @@ fn long_place(alloc: Global, count: usize) -> Result<Place, Fail> {
 
 fn cursor_behind(place: Place) -> Result<Cursor, Fail> {
     Ok(Cursor::from_parts(1, 1, 0, 0, State::After(place)).ok_or("a place of at most 255 names")?)
+}
+
+/// The sealed text of a cursor that begins so and stands behind this place.
+fn text_behind(alloc: Global, front: &str, place: &Place) -> Result<Vec<u8>, Fail> {
+    let body = format!(in alloc; "{front}after {}\n", DisplayPlace(place))?;
+    sealed(alloc, body.as_str())
 }
 
 fn refusal_of(alloc: Global, text: &[u8]) -> Option<Refused> {
@@ -89,8 +66,7 @@ fn writes_seven_lines(rt: HostRuntime) -> Result<(), Fail> {
     let text = encode(alloc, &cursor)?;
     assert_eq!(rt; text.len(), 144);
     assert_eq!(rt; text, whole_text(alloc)?);
-    let shown = "cycle 3\nruns 2\nspent 9\nfiles 3\nafter o/v1/content/c\n";
-    assert_eq!(rt; cursor_lines(alloc, &cursor)?.as_slice(), shown.as_bytes());
+    assert_eq!(rt; cursor_lines(alloc, &cursor)?.as_slice(), LINES.as_bytes());
     Ok(())
 }
 
@@ -125,8 +101,8 @@ fn reads_version_one(rt: HostRuntime) -> Result<(), Fail> {
     let cursor = decode(alloc, &text)?;
     assert_eq!(rt; (cursor.cycle(), cursor.runs()), (3, 2));
     assert_eq!(rt; (cursor.spent(), cursor.files()), (9, 0));
-    let shown = "cycle 3\nruns 2\nspent 9\nfiles 0\nafter o/v1/content/c\n";
-    assert_eq!(rt; cursor_lines(alloc, &cursor)?.as_slice(), shown.as_bytes());
+    let shown = cursor_lines(alloc, &cursor)?;
+    assert_eq!(rt; shown.as_slice(), OLD_LINES.as_bytes());
     let place = place_of(alloc, "o/v1/content/c")?;
     assert_eq!(rt; cursor.into_state(), State::After(place));
     // As another version, it is not what its digest line seals.
@@ -144,13 +120,8 @@ fn reads_version_one(rt: HostRuntime) -> Result<(), Fail> {
 fn reads_a_long_text_of_version_one(rt: HostRuntime) -> Result<(), Fail> {
     let alloc = rt.alloc();
     let place = long_place(alloc, 255)?;
-    let mut body = Vec::from_slice(
-        alloc,
-        b"ocfl-scrub cursor 1\ncycle 1\nruns 1\nspent 0\nafter ",
-    )?;
-    ocfl_report::put_place(&place, &mut body)?;
-    body.extend_from_slice(b"\n")?;
-    let text = seal(alloc, &body)?;
+    let front = "ocfl-scrub cursor 1\ncycle 1\nruns 1\nspent 0\n";
+    let text = text_behind(alloc, front, &place)?;
     assert_eq!(rt; text.len(), 195_451);
     assert_eq!(rt; decode(alloc, &text)?.into_state(), State::After(place));
     Ok(())
@@ -193,20 +164,20 @@ fn refuses_texts_that_are_cut_or_changed(rt: HostRuntime) -> Result<(), Fail> {
     Ok(())
 }
 
+/// What the body of a text is refused for, where this is put for that in it.
+fn refusal_with(alloc: Global, body: &str, from: &str, to: &str) -> Result<Option<Refused>, Fail> {
+    let body = body.replace(alloc, from, to)?;
+    Ok(refusal_of(alloc, &sealed(alloc, body.as_str())?))
+}
+
 #[test]
 fn refuses_other_texts(rt: HostRuntime) -> Result<(), Fail> {
     let alloc = rt.alloc();
-    let third = BODY.replace(alloc, "cursor 2", "cursor 3")?;
-    assert_eq!(rt;
-        refusal_of(alloc, &seal(alloc, third.as_bytes())?),
-        Some(Refused::Version)
-    );
+    let third = refusal_with(alloc, BODY, "cursor 2", "cursor 3")?;
+    assert_eq!(rt; third, Some(Refused::Version));
     // A carriage return in the first line is part of the version.
-    let returns = BODY.replace(alloc, "\n", "\r\n")?;
-    assert_eq!(rt;
-        refusal_of(alloc, &seal(alloc, returns.as_bytes())?),
-        Some(Refused::Version)
-    );
+    let returns = refusal_with(alloc, BODY, "\n", "\r\n")?;
+    assert_eq!(rt; returns, Some(Refused::Version));
     let capitals = format!(in alloc; "{BODY}digest {}\n", DIGEST.to_ascii_uppercase(alloc)?)?;
     assert_eq!(rt;
         refusal_of(alloc, capitals.as_bytes()),
@@ -220,120 +191,125 @@ fn refuses_other_texts(rt: HostRuntime) -> Result<(), Fail> {
     Ok(())
 }
 
+/// What is put in place of a text, each with a name.
+type Changes = (&'static str, &'static [(&'static str, &'static str)]);
+
 /// What is put for what in the body of either version, so that no cursor has it.
-const CHANGES: [(&str, &str, &str); 26] = [
-    ("a cycle with a leading zero", "cycle 3\n", "cycle 03\n"),
-    ("cycle 0", "cycle 3\n", "cycle 0\n"),
+const CHANGES: [Changes; 7] = [
     (
-        "a cycle above 64 bits",
         "cycle 3\n",
-        "cycle 18446744073709551616\n",
+        &[
+            ("a cycle with a leading zero", "cycle 03\n"),
+            ("cycle 0", "cycle 0\n"),
+            ("a cycle above 64 bits", "cycle 18446744073709551616\n"),
+            ("a cycle without a number", "cycle \n"),
+            ("two blanks before the cycle", "cycle  3\n"),
+            ("a blank after the cycle", "cycle 3 \n"),
+            ("no cycle", ""),
+        ],
     ),
-    ("a cycle without a number", "cycle 3\n", "cycle \n"),
-    ("two blanks before the cycle", "cycle 3\n", "cycle  3\n"),
-    ("a blank after the cycle", "cycle 3\n", "cycle 3 \n"),
-    ("no cycle", "cycle 3\n", ""),
     (
-        "runs before the cycle",
         "cycle 3\nruns 2\n",
-        "runs 2\ncycle 3\n",
+        &[("runs before the cycle", "runs 2\ncycle 3\n")],
     ),
-    ("runs with two zeros", "runs 2\n", "runs 00\n"),
-    ("no runs", "runs 2\n", ""),
     (
-        "runs above 64 bits",
         "runs 2\n",
-        "runs 18446744073709551616\n",
+        &[
+            ("runs with two zeros", "runs 00\n"),
+            ("no runs", ""),
+            ("runs above 64 bits", "runs 18446744073709551616\n"),
+        ],
     ),
-    ("a cost with a sign", "spent 9\n", "spent +1\n"),
     (
-        "a cost above 128 bits",
         "spent 9\n",
-        "spent 340282366920938463463374607431768211456\n",
+        &[
+            ("a cost with a sign", "spent +1\n"),
+            (
+                "a cost above 128 bits",
+                "spent 340282366920938463463374607431768211456\n",
+            ),
+            ("two costs", "spent 9\nspent 9\n"),
+            ("no cost", ""),
+        ],
     ),
-    ("two costs", "spent 9\n", "spent 9\nspent 9\n"),
-    ("no cost", "spent 9\n", ""),
-    ("no state", "after o/v1/content/c\n", ""),
-    ("no blank and no place", "after o/v1/content/c\n", "after\n"),
-    ("no place", "after o/v1/content/c\n", "after \n"),
     (
-        "a place that ends in a slash",
         "after o/v1/content/c\n",
-        "after a/\n",
+        &[
+            ("no state", ""),
+            ("no blank and no place", "after\n"),
+            ("no place", "after \n"),
+            ("a place that ends in a slash", "after a/\n"),
+            ("an escape that is not needed", "after %61\n"),
+            ("another state", "started\n"),
+            ("an empty line at the end", "after o/v1/content/c\n\n"),
+            ("two states", "after o/v1/content/c\nended\n"),
+        ],
     ),
     (
-        "an escape that is not needed",
-        "after o/v1/content/c\n",
-        "after %61\n",
-    ),
-    ("another state", "after o/v1/content/c\n", "started\n"),
-    (
-        "an empty line at the end",
-        "after o/v1/content/c\n",
-        "after o/v1/content/c\n\n",
-    ),
-    (
-        "two states",
-        "after o/v1/content/c\n",
-        "after o/v1/content/c\nended\n",
-    ),
-    ("no line feed at the end", "/content/c\n", "/content/c"),
-    (
-        "carriage returns after the counts",
-        "cycle 3\nruns 2\nspent 9\n",
-        "cycle 3\r\nruns 2\r\nspent 9\r\n",
-    ),
-    (
-        "a carriage return after the place",
         "/content/c\n",
-        "/content/c\r\n",
+        &[
+            ("no line feed at the end", "/content/c"),
+            ("a carriage return after the place", "/content/c\r\n"),
+        ],
+    ),
+    (
+        "cycle 3\nruns 2\nspent 9\n",
+        &[(
+            "carriage returns after the counts",
+            "cycle 3\r\nruns 2\r\nspent 9\r\n",
+        )],
     ),
 ];
 
 /// What is put for the line of the files, so that no cursor has it.
-const FILES_CHANGES: [(&str, &str, &str); 8] = [
-    ("no files", "files 3\n", ""),
-    ("more files than their cost", "files 3\n", "files 10\n"),
-    ("files with a leading zero", "files 3\n", "files 03\n"),
-    ("files without a number", "files 3\n", "files \n"),
-    ("two lines of files", "files 3\n", "files 3\nfiles 3\n"),
+const FILES_CHANGES: [Changes; 3] = [
     (
-        "files before the cost",
-        "spent 9\nfiles 3\n",
-        "files 3\nspent 9\n",
-    ),
-    (
-        "files above 128 bits",
         "files 3\n",
-        "files 340282366920938463463374607431768211456\n",
+        &[
+            ("no files", ""),
+            ("more files than their cost", "files 10\n"),
+            ("files with a leading zero", "files 03\n"),
+            ("files without a number", "files \n"),
+            ("two lines of files", "files 3\nfiles 3\n"),
+            (
+                "files above 128 bits",
+                "files 340282366920938463463374607431768211456\n",
+            ),
+        ],
     ),
-    ("files in version 1", "cursor 2\n", "cursor 1\n"),
+    (
+        "spent 9\nfiles 3\n",
+        &[("files before the cost", "files 3\nspent 9\n")],
+    ),
+    ("cursor 2\n", &[("files in version 1", "cursor 1\n")]),
 ];
 
-/// What the body of a text is refused for, where this is put for that in it.
-fn refusal_with(alloc: Global, body: &str, from: &str, to: &str) -> Result<Option<Refused>, Fail> {
-    let body = body.replace(alloc, from, to)?;
-    Ok(refusal_of(alloc, &seal(alloc, body.as_bytes())?))
+/// With each of these changes the body is that of no cursor.
+fn expect_malformed(
+    rt: &impl Runtime,
+    version: &str,
+    body: &str,
+    tables: &[Changes],
+) -> Result<(), Fail> {
+    for (from, changes) in tables {
+        for (row, to) in *changes {
+            let refused = refusal_with(rt.alloc(), body, from, to)?;
+            assert_eq!(rt; refused, Some(Refused::Malformed), "{row}, {version}");
+        }
+    }
+    Ok(())
 }
 
 #[test]
 fn refuses_forms_of_no_cursor(rt: HostRuntime) -> Result<(), Fail> {
-    let malformed = Some(Refused::Malformed);
-    for (row, from, to) in CHANGES {
-        for (version, body) in [("version 2", BODY), ("version 1", OLD_BODY)] {
-            let refused = refusal_with(rt.alloc(), body, from, to)?;
-            assert_eq!(rt; refused, malformed, "{row}, {version}");
-        }
-    }
-    for (row, from, to) in FILES_CHANGES {
-        let refused = refusal_with(rt.alloc(), BODY, from, to)?;
-        assert_eq!(rt; refused, malformed, "{row}");
-    }
+    expect_malformed(&rt, "version 2", BODY, &CHANGES)?;
+    expect_malformed(&rt, "version 1", OLD_BODY, &CHANGES)?;
+    expect_malformed(&rt, "version 2", BODY, &FILES_CHANGES)?;
     // A text of version 1 has no such line, even of no files.
     let none = refusal_with(rt.alloc(), OLD_BODY, "spent 9\n", "spent 9\nfiles 0\n")?;
-    assert_eq!(rt; none, malformed);
+    assert_eq!(rt; none, Some(Refused::Malformed));
     let all = BODY.replace(rt.alloc(), "files 3\n", "files 9\n")?;
-    let cursor = decode(rt.alloc(), &seal(rt.alloc(), all.as_bytes())?)?;
+    let cursor = decode(rt.alloc(), &sealed(rt.alloc(), all.as_str())?)?;
     assert_eq!(rt; cursor.files(), 9);
     Ok(())
 }
@@ -348,7 +324,7 @@ fn keeps_the_limits_of_a_cursor(rt: HostRuntime) -> Result<(), Fail> {
         let counts = format!(in alloc; "runs 1\nspent {spent}\n")?;
         for (version, whole) in [("version 2", BODY), ("version 1", OLD_BODY)] {
             let body = whole.replace(alloc, "runs 2\nspent 9\n", counts.as_str())?;
-            let read = decode(alloc, &seal(alloc, body.as_bytes())?);
+            let read = decode(alloc, &sealed(alloc, body.as_str())?);
             assert_eq!(rt; read.is_ok(), fits, "spent {spent}, {version}");
             assert_eq!(rt;
                 read.err(),
@@ -357,16 +333,9 @@ fn keeps_the_limits_of_a_cursor(rt: HostRuntime) -> Result<(), Fail> {
             );
         }
     }
-    let mut body = Vec::from_slice(
-        alloc,
-        b"ocfl-scrub cursor 2\ncycle 1\nruns 1\nspent 0\nfiles 0\nafter ",
-    )?;
-    ocfl_report::put_place(&long_place(alloc, 256)?, &mut body)?;
-    body.extend_from_slice(b"\n")?;
-    assert_eq!(rt;
-        refusal_of(alloc, &seal(alloc, &body)?),
-        Some(Refused::Malformed)
-    );
+    let front = "ocfl-scrub cursor 2\ncycle 1\nruns 1\nspent 0\nfiles 0\n";
+    let text = text_behind(alloc, front, &long_place(alloc, 256)?)?;
+    assert_eq!(rt; refusal_of(alloc, &text), Some(Refused::Malformed));
     assert!(rt; Cursor::from_parts(0, 0, 0, 0, State::Start).is_none());
     assert!(rt; Cursor::from_parts(1, 0, 1, 0, State::Start).is_none());
     assert!(rt; Cursor::from_parts(1, 2, 1 << 64, 0, State::Ended).is_some());
@@ -405,18 +374,27 @@ fn moves_on(rt: HostRuntime) -> Result<(), Fail> {
     Ok(())
 }
 
-#[test]
-fn reasons_have_their_texts(rt: HostRuntime) -> Result<(), Fail> {
-    for (refused, text) in [
-        (Refused::NotCursor, "not a cursor"),
-        (Refused::Version, "version"),
-        (Refused::Damaged, "damaged"),
-        (Refused::Malformed, "malformed"),
-        (Refused::Memory, "out of memory"),
-    ] {
-        assert_eq!(rt; refused.to_string(rt.alloc())?.as_str(), text, "{text}");
+/// The reasons that refusals of the whole and of a part have in common, and their texts.
+fn expect_reasons(rt: &impl Runtime, reasons: &[impl Display; 4]) -> Result<(), Fail> {
+    let texts = ["not a cursor", "damaged", "malformed", "out of memory"];
+    for (reason, text) in reasons.iter().zip(texts) {
+        expect_shown(rt, text, reason, text)?;
     }
     Ok(())
+}
+
+#[test]
+fn reasons_have_their_texts(rt: HostRuntime) -> Result<(), Fail> {
+    expect_reasons(
+        &rt,
+        &[
+            Refused::NotCursor,
+            Refused::Damaged,
+            Refused::Malformed,
+            Refused::Memory,
+        ],
+    )?;
+    expect_shown(&rt, "version", &Refused::Version, "version")
 }
 
 /// A meter of this budget, for a run that may start so many files.
@@ -478,58 +456,33 @@ fn meters_the_files_of_a_run(rt: HostRuntime) -> Result<(), Fail> {
     Ok(())
 }
 
-/// A reader that gives at most seven bytes a call, and then fails or ends.
-#[derive(Drop)]
-struct Halting<'a> {
-    left: &'a [u8],
-    fails: Option<ErrorKind>,
-}
-
-impl Read for Halting<'_> {
-    fn read(&mut self, buf: &mut [u8]) -> io::Result<usize> {
-        if self.left.is_empty() {
-            return match self.fails {
-                Some(kind) => Err(io::Error::from(kind)),
-                None => Ok(0),
-            };
-        }
-        let count = self.left.len().min(buf.len()).min(7);
-        let (given, left) = self.left.split_at(count);
-        buf[..count].copy_from_slice(given);
-        self.left = left;
-        Ok(count)
-    }
-}
-
-/// What reading stops with, for a reader of these bytes that then fails or ends.
-fn stop_of(alloc: Global, left: &[u8], fails: Option<ErrorKind>) -> Option<CursorStop> {
-    read_cursor(alloc, &mut Halting { left, fails }).err()
+/// What reading stops with, for a reader of these bytes.
+fn stop_of(alloc: Global, left: &[u8], then: Then) -> Option<CursorStop> {
+    read_cursor(alloc, &mut Slow { left, then }).err()
 }
 
 #[test]
 fn reads_from_readers(rt: HostRuntime) -> Result<(), Fail> {
     let alloc = rt.alloc();
     let whole = whole_text(alloc)?;
-    assert_eq!(rt; stop_of(alloc, &whole, None), None);
+    assert_eq!(rt; stop_of(alloc, &whole, Then::Ends), None);
     let mut slice = whole.as_slice();
     let cursor = read_cursor(alloc, &mut slice).ok().ok_or("a cursor")?;
     assert_eq!(rt; encode(alloc, &cursor)?, whole);
     let not_cursor = Some(CursorStop::Refused(Refused::NotCursor));
-    assert_eq!(rt; stop_of(alloc, b"", None), not_cursor);
+    assert_eq!(rt; stop_of(alloc, b"", Then::Ends), not_cursor);
     let damaged = Some(CursorStop::Refused(Refused::Damaged));
-    assert_eq!(rt; stop_of(alloc, &whole[..whole.len() - 1], None), damaged);
-    let failing = Some(ErrorKind::PermissionDenied);
-    assert_eq!(rt; stop_of(alloc, &whole, failing), Some(CursorStop::Read));
-    let memory = Some(CursorStop::Refused(Refused::Memory));
-    assert_eq!(rt;
-        stop_of(alloc, &whole, Some(ErrorKind::OutOfMemory)),
-        memory
-    );
+    let short = &whole[..whole.len() - 1];
+    assert_eq!(rt; stop_of(alloc, short, Then::Ends), damaged);
     let mut long = whole_text(alloc)?;
     long.resize(262_144, b'\n')?;
-    assert_eq!(rt; stop_of(alloc, &long, None), damaged);
+    assert_eq!(rt; stop_of(alloc, &long, Then::Ends), damaged);
     // From one byte more on the reader is not asked for its end.
     long.push(b'\n')?;
-    assert_eq!(rt; stop_of(alloc, &long, failing), not_cursor);
+    for (row, kind, wanted) in failures(CursorStop::Read, CursorStop::Refused(Refused::Memory)) {
+        let failing = Then::Fails(kind);
+        assert_eq!(rt; stop_of(alloc, &whole, failing), Some(wanted), "{row}");
+        assert_eq!(rt; stop_of(alloc, &long, failing), not_cursor, "{row}");
+    }
     Ok(())
 }

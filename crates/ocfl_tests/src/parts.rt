@@ -1,21 +1,19 @@
-//! Separators, their text, and readers that fail.
-
-mod splitting;
-
+//! Separators and their text, and readers that fail.
+use crate::common::expect_shown;
+use crate::common::input::{Slow, Then, failures};
 use crate::common::store::place_of;
 use ocfl_parts::laws::text_determines_the_separators;
 use ocfl_parts::{PartsStop, PushStop, Separators, SplitStop, put_parts, read_parts};
 use std::alloc::Global;
-use std::io::{self, ErrorKind, Read};
 use std::test::Fail;
 
-/// Reads separators and gives their text again.
-fn text_of(alloc: Global, bytes: &[u8]) -> Result<Vec<u8>, Fail> {
-    let mut reader = bytes;
-    let separators = read_parts(alloc, &mut reader)?;
+mod splitting;
+
+/// The text of separators.
+pub(crate) fn text_of(alloc: Global, separators: &Separators) -> Result<String, Fail> {
     let mut text = Vec::new(alloc);
-    put_parts(&separators, &mut text)?;
-    Ok(text)
+    put_parts(separators, &mut text)?;
+    Ok(String::from_utf8(text)?)
 }
 
 fn stop_of(alloc: Global, bytes: &[u8]) -> Option<PartsStop> {
@@ -39,10 +37,7 @@ fn separators_are_read(rt: HostRuntime) -> Result<(), Fail> {
         let separators = read_parts(alloc, &mut reader)?;
         assert_eq!(rt; separators.len(), count, "{text}");
         assert_eq!(rt; separators.is_empty(), count == 0, "{text}");
-        assert_eq!(rt;
-            text_of(alloc, text.as_bytes())?.as_slice(),
-            text.as_bytes()
-        );
+        assert_eq!(rt; text_of(alloc, &separators)?.as_str(), text, "{text}");
     }
     let mut reader = b"a\nb/c\n".as_slice();
     let separators = read_parts(alloc, &mut reader)?;
@@ -52,28 +47,34 @@ fn separators_are_read(rt: HostRuntime) -> Result<(), Fail> {
     Ok(())
 }
 
+/// The number of the line that is bad, in each of these texts.
+const BAD_LINES: [(usize, &[&str]); 4] = [
+    (1, &["a", "/a\n", "\n", "%c3%a9\n"]),
+    (
+        2,
+        &[
+            "b\na\n",
+            "a\na\n",
+            "a\n\nb\n",
+            "a-b\na/b\n",
+            "a/b\na\n",
+            "a\n.\n",
+            "a\nb\r\nc\n",
+            "a\n%62\n",
+            "b\na\n/\n",
+        ],
+    ),
+    (3, &["a\nb\nc"]),
+    (4, &["a\nb\nc\na/\n"]),
+];
+
 #[test]
 fn bad_lines_are_counted(rt: HostRuntime) -> Result<(), Fail> {
-    let alloc = rt.alloc();
-    for (text, line) in [
-        ("b\na\n", 2usize),
-        ("a", 1),
-        ("a\na\n", 2),
-        ("/a\n", 1),
-        ("\n", 1),
-        ("a\n\nb\n", 2),
-        ("a\nb\nc", 3),
-        ("a-b\na/b\n", 2),
-        ("a/b\na\n", 2),
-        ("a\n.\n", 2),
-        ("a\nb\r\nc\n", 2),
-        ("a\n%62\n", 2),
-        ("%c3%a9\n", 1),
-        ("b\na\n/\n", 2),
-        ("a\nb\nc\na/\n", 4),
-    ] {
-        let stop = stop_of(alloc, text.as_bytes());
-        assert_eq!(rt; stop, Some(PartsStop::Line(line)), "{text}");
+    for (line, texts) in BAD_LINES {
+        for text in texts {
+            let stop = stop_of(rt.alloc(), text.as_bytes());
+            assert_eq!(rt; stop, Some(PartsStop::Line(line)), "{text}");
+        }
     }
     Ok(())
 }
@@ -159,64 +160,29 @@ fn parts_have_ends(rt: HostRuntime) -> Result<(), Fail> {
 
 #[test]
 fn stops_have_texts(rt: HostRuntime) -> Result<(), Fail> {
-    let alloc = rt.alloc();
-    for (name, stop, wanted) in [
-        ("line", PartsStop::Line(2), "bad parts: line 2"),
-        ("long", PartsStop::Long, "bad parts: too long"),
-        ("read", PartsStop::Read, "parts file failed"),
-        ("memory", PartsStop::Memory, "out of memory"),
-    ] {
-        assert_eq!(rt; format!(in alloc; "{stop}")?.as_str(), wanted, "{name}");
-    }
-    for (name, stop, wanted) in [
-        ("line", SplitStop::Line(2), "bad report: line 2"),
-        ("many", SplitStop::Many, "too many parts"),
-        ("read", SplitStop::Read, "report failed"),
-        ("memory", SplitStop::Memory, "out of memory"),
-    ] {
-        assert_eq!(rt; format!(in alloc; "{stop}")?.as_str(), wanted, "{name}");
-    }
-    Ok(())
-}
-
-/// A reader that gives these bytes, at most three a call, and then fails.
-#[derive(Drop)]
-struct Failing<'a> {
-    left: &'a [u8],
-    kind: ErrorKind,
-}
-
-impl Read for Failing<'_> {
-    fn read(&mut self, buf: &mut [u8]) -> io::Result<usize> {
-        if self.left.is_empty() {
-            return Err(io::Error::from(self.kind));
-        }
-        let count = self.left.len().min(buf.len()).min(3);
-        let (given, left) = self.left.split_at(count);
-        buf[..count].copy_from_slice(given);
-        self.left = left;
-        Ok(count)
-    }
+    let line = PartsStop::Line(2);
+    expect_shown(&rt, "line", &line, "bad parts: line 2")?;
+    expect_shown(&rt, "long", &PartsStop::Long, "bad parts: too long")?;
+    expect_shown(&rt, "read", &PartsStop::Read, "parts file failed")?;
+    expect_shown(&rt, "memory", &PartsStop::Memory, "out of memory")?;
+    let line = SplitStop::Line(2);
+    expect_shown(&rt, "line", &line, "bad report: line 2")?;
+    expect_shown(&rt, "many", &SplitStop::Many, "too many parts")?;
+    expect_shown(&rt, "read", &SplitStop::Read, "report failed")?;
+    expect_shown(&rt, "memory", &SplitStop::Memory, "out of memory")
 }
 
 #[test]
 fn readers_that_fail_are_told(rt: HostRuntime) -> Result<(), Fail> {
-    let alloc = rt.alloc();
-    for (row, kind, wanted) in [
-        (
-            "no permission",
-            ErrorKind::PermissionDenied,
-            PartsStop::Read,
-        ),
-        ("no memory", ErrorKind::OutOfMemory, PartsStop::Memory),
-    ] {
+    for (row, kind, wanted) in failures(PartsStop::Read, PartsStop::Memory) {
         // Bad lines do not come before the failure: all bytes are read first.
-        for (lines, left) in [
-            ("two places", b"a\nb\n".as_slice()),
-            ("places out of order", b"b\na\n"),
-            ("nothing", b""),
+        for (lines, text) in [
+            ("two places", "a\nb\n"),
+            ("places out of order", "b\na\n"),
+            ("nothing", ""),
         ] {
-            let stop = read_parts(alloc, &mut Failing { left, kind }).err();
+            let (left, then) = (text.as_bytes(), Then::Fails(kind));
+            let stop = read_parts(rt.alloc(), &mut Slow { left, then }).err();
             assert_eq!(rt; stop, Some(wanted), "{row} after {lines}");
         }
     }

@@ -1,6 +1,6 @@
 //! Splitting by listing: which directories are given, which are listed, and what stops it.
 use crate::common::object::bare_root;
-use crate::common::store::{change, listed_from, place_of};
+use crate::common::store::{change, expect_listed, place_of};
 use ocfl_item::Fault;
 use ocfl_parts::put_parts;
 use ocfl_split::split;
@@ -123,8 +123,7 @@ fn a_level_is_cut_evenly(rt: HostRuntime) -> Result<(), Fail> {
         let mut store = root_with(alloc, changes)?;
         let text = text_of(alloc, &mut store, count)?;
         assert_eq!(rt; text.as_str(), separators, "{row}");
-        let listed = listed_from(alloc, &store, 0)?;
-        assert_eq!(rt; listed.as_str(), listings, "{row}");
+        expect_listed(&rt, row, &store, listings)?;
         assert!(rt; store.openings().is_empty(), "{row}");
         assert_eq!(rt; store.failures(), 0, "{row}");
     }
@@ -146,8 +145,7 @@ fn nothing_is_split_in_an_unknown_root(rt: HostRuntime) -> Result<(), Fail> {
     ] {
         let mut store = root_with(alloc, &changes)?;
         assert_eq!(rt; text_of(alloc, &mut store, 2)?.as_str(), "", "{row}");
-        let listed = listed_from(alloc, &store, 0)?;
-        assert_eq!(rt; listed.as_str(), ";", "{row}");
+        expect_listed(&rt, row, &store, ";")?;
     }
     Ok(())
 }
@@ -167,8 +165,7 @@ fn listings_that_fail_stop_it(rt: HostRuntime) -> Result<(), Fail> {
             Err(Fault::Store(stopped)) => assert_eq!(rt; stopped, place, "{row}"),
             _ => return Err("no fault".into()),
         }
-        let listed = listed_from(alloc, &store, 0)?;
-        assert_eq!(rt; listed.as_str(), listings, "{row}");
+        expect_listed(&rt, row, &store, listings)?;
         assert_eq!(rt; store.failures(), 1, "{row}");
     }
     Ok(())

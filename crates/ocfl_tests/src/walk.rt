@@ -3,7 +3,7 @@ use crate::common::Runtime;
 use crate::common::digests::lines_of;
 use crate::common::object::{bare_root, put_object};
 use crate::common::roots::{ROOTS, built, missing_and_there, nested, right_object};
-use crate::common::store::{change, listed_from, place_of};
+use crate::common::store::{change, expect_listed, place_of};
 use ocfl_digest::Block;
 use ocfl_tree::{MemTree, Place, Point, Tree};
 use ocfl_walk::{Fault, Pending, Walk, item_at, judge};
@@ -253,8 +253,7 @@ fn lists_step_by_step(rt: HostRuntime) -> Result<(), Fail> {
     let mut walk = entered(rt.alloc(), &mut store, "")?;
     for want in [";", ";o;", ";o;o/v1;o/v1/content;"] {
         assert!(rt; walk.next(&mut store).map_err(said)?.is_some(), "{want}");
-        let listed = listed_from(rt.alloc(), &store, 0)?;
-        assert_eq!(rt; listed.as_str(), want, "{want}");
+        expect_listed(&rt, want, &store, want)?;
     }
     assert_eq!(rt; store.openings().len(), 4);
     Ok(())
@@ -273,11 +272,7 @@ fn entering_lists_the_way(rt: HostRuntime) -> Result<(), Fail> {
     ] {
         let mut store = missing_and_there(rt.alloc())?;
         entered(rt.alloc(), &mut store, after)?;
-        assert_eq!(rt;
-            listed_from(rt.alloc(), &store, 0)?.as_str(),
-            want,
-            "after {after}"
-        );
+        expect_listed(&rt, after, &store, want)?;
         assert_eq!(rt; store.openings().len(), opened, "after {after}");
     }
     Ok(())

@@ -1,4 +1,5 @@
 //! Trees in memory: what lies in them, and what was asked of them.
+use crate::common::Runtime;
 use ocfl_tree::{MemTree, Name, Place};
 use std::alloc::Global;
 use std::test::Fail;
@@ -103,4 +104,29 @@ pub fn opened_from(
         text.push(';')?;
     }
     Ok(text)
+}
+
+/// These directories were listed, oldest first.
+pub fn expect_listed(
+    rt: &impl Runtime,
+    row: &str,
+    store: &MemTree,
+    want: &str,
+) -> Result<(), Fail> {
+    let listed = listed_from(rt.alloc(), store, 0)?;
+    assert_eq!(rt; listed.as_str(), want, "listed: {row}");
+    Ok(())
+}
+
+/// Of the files whose paths end so, these were opened, oldest first.
+pub fn expect_opened(
+    rt: &impl Runtime,
+    row: &str,
+    store: &MemTree,
+    ending: &str,
+    want: &str,
+) -> Result<(), Fail> {
+    let opened = opened_from(rt.alloc(), store, 0, ending)?;
+    assert_eq!(rt; opened.as_str(), want, "opened: {row}");
+    Ok(())
 }

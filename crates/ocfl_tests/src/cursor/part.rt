@@ -1,28 +1,14 @@
 //! Cursors of one part of a storage root, and why their texts are refused.
-use super::{long_place, old_text, refusal_of, seal, whole_text};
+use super::{expect_reasons, long_place, refusal_of};
+use crate::common::cursors::{LINES, ends_of, old_text, sealed, whole_text};
 use crate::common::store::place_of;
+use crate::common::{Runtime, expect_shown};
 use ocfl_cursor::{
     Cursor, PartEnds, PartRefused, Refused, State, decode_part, encode_part, every_part_has_ends,
     no_part_is_refused, part_reads_back, parts_and_whole_are_apart, text_determines_the_part,
 };
-use ocfl_tree::Place;
 use std::alloc::Global;
 use std::test::Fail;
-
-/// The ends of a part, by their paths; `-` is no place.
-pub(super) fn ends_of(alloc: Global, from: &str, below: &str) -> Result<PartEnds, Fail> {
-    let end_of = |path: &str| -> Result<Option<Place>, Fail> {
-        if path == "-" {
-            Ok(None)
-        } else {
-            Ok(Some(place_of(alloc, path)?))
-        }
-    };
-    Ok(PartEnds {
-        from: end_of(from)?,
-        below: end_of(below)?,
-    })
-}
 
 /// Parts, what a text says of their ends and of a new cursor, and its SHA-256 by `sha256sum`.
 const PARTS: [(&str, &str, &str, &str, &str); 4] = [
@@ -124,34 +110,41 @@ fn cursors_of_parts_are_read_back(rt: HostRuntime) -> Result<(), Fail> {
 /// Why the sealed text is refused to the part of `b` and `d`.
 fn part_refusal(alloc: Global, body: &str) -> Result<Option<PartRefused>, Fail> {
     let ends = ends_of(alloc, "b", "d")?;
-    let text = seal(alloc, body.as_bytes())?;
+    let text = sealed(alloc, body)?;
     Ok(decode_part(alloc, &text, &ends).err())
 }
 
-const LINES: &str = "cycle 3\nruns 2\nspent 9\nfiles 3\nafter o/v1/content/c\n";
+/// The first line of a part's cursor.
+const FIRST: &str = "ocfl-scrub part cursor 1\n";
+
+/// The text of a cursor of the part of `b` and `d`, before its digest line.
+fn right_body(alloc: Global) -> Result<String, Fail> {
+    Ok(format!(in alloc; "{FIRST}from b\nbelow d\n{LINES}")?)
+}
+
+/// What stands in place of the first line.
+const NO_FIRST_LINES: [(&str, &str); 7] = [
+    ("no first line", ""),
+    ("no line feed", "ocfl-scrub part cursor 1"),
+    ("a blank after the version", "ocfl-scrub part cursor 1 \n"),
+    ("version 2", "ocfl-scrub part cursor 2\n"),
+    ("no version", "ocfl-scrub part cursor\n"),
+    ("the first line of a whole root", "ocfl-scrub cursor 2\n"),
+    ("ends come first", "from b\n"),
+];
 
 #[test]
 fn other_texts_are_no_part(rt: HostRuntime) -> Result<(), Fail> {
     let alloc = rt.alloc();
-    let first = "ocfl-scrub part cursor 1\n";
-    let right = format!(in alloc; "{first}from b\nbelow d\n{LINES}")?;
-    assert_eq!(rt; part_refusal(alloc, right.as_str())?, None);
+    assert_eq!(rt; part_refusal(alloc, right_body(alloc)?.as_str())?, None);
+    let ends = ends_of(alloc, "b", "d")?;
     // The first line comes first, and then the seal.
-    for (row, front) in [
-        ("no first line", ""),
-        ("no line feed", "ocfl-scrub part cursor 1"),
-        ("a blank after the version", "ocfl-scrub part cursor 1 \n"),
-        ("version 2", "ocfl-scrub part cursor 2\n"),
-        ("no version", "ocfl-scrub part cursor\n"),
-        ("the first line of a whole root", "ocfl-scrub cursor 2\n"),
-        ("ends come first", "from b\n"),
-    ] {
-        let ends = ends_of(alloc, "b", "d")?;
-        let refused = decode_part(alloc, front.as_bytes(), &ends).err();
-        assert_eq!(rt; refused, Some(PartRefused::NotCursor), "{row}");
-        let sealed = format!(in alloc; "{front}from b\nbelow d\n{LINES}")?;
-        let refused = part_refusal(alloc, sealed.as_str())?;
-        assert_eq!(rt; refused, Some(PartRefused::NotCursor), "{row}");
+    for (row, front) in NO_FIRST_LINES {
+        let unsealed = decode_part(alloc, front.as_bytes(), &ends).err();
+        assert_eq!(rt; unsealed, Some(PartRefused::NotCursor), "{row}");
+        let body = format!(in alloc; "{front}from b\nbelow d\n{LINES}")?;
+        let refused = part_refusal(alloc, body.as_str())?;
+        assert_eq!(rt; refused, Some(PartRefused::NotCursor), "{row}, sealed");
     }
     Ok(())
 }
@@ -159,22 +152,20 @@ fn other_texts_are_no_part(rt: HostRuntime) -> Result<(), Fail> {
 #[test]
 fn damaged_parts_are_refused(rt: HostRuntime) -> Result<(), Fail> {
     let alloc = rt.alloc();
-    let first = "ocfl-scrub part cursor 1\n";
-    let right = format!(in alloc; "{first}from b\nbelow d\n{LINES}")?;
     let ends = ends_of(alloc, "b", "d")?;
     let other = ends_of(alloc, "b", "e")?;
-    let text = seal(alloc, right.as_bytes())?;
+    let text = sealed(alloc, right_body(alloc)?.as_str())?;
     for (row, end) in [
-        ("after the first line", first.len()),
-        ("within the ends", first.len() + 7),
+        ("after the first line", FIRST.len()),
+        ("within the ends", FIRST.len() + 7),
         ("before the digest line", text.len() - 72),
         ("without the last byte", text.len() - 1),
     ] {
         let refused = decode_part(alloc, &text[..end], &ends).err();
         assert_eq!(rt; refused, Some(PartRefused::Damaged), "{row}");
     }
-    let mut changed = seal(alloc, right.as_bytes())?;
-    changed[first.len() + 5] = b'c';
+    let mut changed = text;
+    changed[FIRST.len() + 5] = b'c';
     // Damage is told before another part.
     for (row, ends) in [("its own part", &ends), ("another part", &other)] {
         let refused = decode_part(alloc, &changed, ends).err();
@@ -229,23 +220,26 @@ const NO_LINES: [(&str, &str); 7] = [
     ),
 ];
 
+/// The sealed text of a part with these lines is malformed.
+fn expect_malformed(rt: &impl Runtime, row: &str, ends: &str, lines: &str) -> Result<(), Fail> {
+    let body = format!(in rt.alloc(); "{FIRST}{ends}{lines}")?;
+    let refused = part_refusal(rt.alloc(), body.as_str())?;
+    assert_eq!(rt; refused, Some(PartRefused::Malformed), "{row}");
+    Ok(())
+}
+
 #[test]
 fn malformed_parts_are_refused(rt: HostRuntime) -> Result<(), Fail> {
-    let alloc = rt.alloc();
-    let first = "ocfl-scrub part cursor 1\n";
     for (row, ends) in NO_ENDS {
-        let body = format!(in alloc; "{first}{ends}{LINES}")?;
-        let refused = part_refusal(alloc, body.as_str())?;
-        assert_eq!(rt; refused, Some(PartRefused::Malformed), "{row}");
+        expect_malformed(&rt, row, ends, LINES)?;
     }
     for (row, lines) in NO_LINES {
         for (part, ends) in [
             ("of its part", "from b\nbelow d\n"),
             ("of the whole root", "from start\nbelow end\n"),
         ] {
-            let body = format!(in alloc; "{first}{ends}{lines}")?;
-            let refused = part_refusal(alloc, body.as_str())?;
-            assert_eq!(rt; refused, Some(PartRefused::Malformed), "{row}, {part}");
+            let row = format!(in rt.alloc(); "{row}, {part}")?;
+            expect_malformed(&rt, row.as_str(), ends, lines)?;
         }
     }
     Ok(())
@@ -253,17 +247,16 @@ fn malformed_parts_are_refused(rt: HostRuntime) -> Result<(), Fail> {
 
 #[test]
 fn refused_parts_have_their_texts(rt: HostRuntime) -> Result<(), Fail> {
-    let alloc = rt.alloc();
-    for (refused, text) in [
-        (PartRefused::NotCursor, "not a cursor"),
-        (PartRefused::Damaged, "damaged"),
-        (PartRefused::Malformed, "malformed"),
-        (PartRefused::OtherPart, "another part"),
-        (PartRefused::Memory, "out of memory"),
-    ] {
-        assert_eq!(rt; format!(in alloc; "{refused}")?.as_str(), text, "{text}");
-    }
-    Ok(())
+    expect_reasons(
+        &rt,
+        &[
+            PartRefused::NotCursor,
+            PartRefused::Damaged,
+            PartRefused::Malformed,
+            PartRefused::Memory,
+        ],
+    )?;
+    expect_shown(&rt, "another part", &PartRefused::OtherPart, "another part")
 }
 
 #[test]

@@ -1,6 +1,6 @@
 //! What the head of an object opens, and how it stops.
 use crate::common::object::bare_root;
-use crate::common::store::{change, opened_from, place_of};
+use crate::common::store::{change, expect_opened, place_of};
 use crate::walk::{expect_item, failed_place};
 use ocfl_tree::{MemTree, Point};
 use std::alloc::Global;
@@ -34,10 +34,9 @@ fn root(alloc: Global) -> Result<MemTree, Fail> {
 fn a_head_opens_its_files_in_order(rt: HostRuntime) -> Result<(), Fail> {
     let mut store = root(rt.alloc())?;
     expect_item(&rt, "a right object", &mut store, "p/o", "ok|p/o|-\n", 0)?;
-    let opened = opened_from(rt.alloc(), &store, 0, "")?;
     let want =
         "p/o/0=ocfl_object_1.1;p/o/inventory.json;p/o/inventory.json.sha256;p/o/inventory.json.sha512;";
-    assert_eq!(rt; opened.as_str(), want);
+    expect_opened(&rt, "a right object", &store, "", want)?;
     assert!(rt; store.openings().iter().all(|opening| !opening.failed));
     assert_eq!(rt; store.listings().len(), 3);
     Ok(())

@@ -1,7 +1,10 @@
 //! What is met at single places, by the calls that a walk is made of.
+use crate::common::Runtime;
 use crate::common::digests::lines_of;
 use crate::common::object::object_listing;
-use crate::common::store::{change, listed_from, opened_from, place_of};
+use crate::common::store::{
+    change, expect_listed, expect_opened, listed_from, opened_from, place_of,
+};
 use crate::walk::{judged, said};
 use ocfl_inventory::Level;
 use ocfl_item::{
@@ -81,6 +84,20 @@ fn text_of(alloc: Global, store: &mut MemTree, visit: Visit) -> Result<String, F
     Ok(text)
 }
 
+/// What was met has this text, with a bar for each tab.
+fn expect_met(
+    rt: &impl Runtime,
+    row: &str,
+    store: &mut MemTree,
+    visit: Visit,
+    want: &str,
+) -> Result<(), Fail> {
+    let text = text_of(rt.alloc(), store, visit)?;
+    let want = lines_of(rt.alloc(), want)?;
+    assert_eq!(rt; text.as_str(), want.as_str(), "{row}");
+    Ok(())
+}
+
 /// Entries, each by its directory and its name, and what is met there.
 const ENTRIES: [(&str, &str, &str, &str); 11] = [
     // in the hierarchy
@@ -110,16 +127,14 @@ const ENTRIES: [(&str, &str, &str, &str); 11] = [
 
 #[test]
 fn entries_are_met_by_the_part_that_they_lie_in(rt: HostRuntime) -> Result<(), Fail> {
-    let alloc = rt.alloc();
     for (row, directory, name, want) in ENTRIES {
-        let mut store = root(alloc)?;
+        let mut store = root(rt.alloc())?;
         let around = match directory.starts_with("o") {
-            true => object(alloc, &mut store)?,
+            true => object(rt.alloc(), &mut store)?,
             false => None,
         };
-        let visit = met(alloc, &mut store, &around, directory, name)?;
-        let text = text_of(alloc, &mut store, visit)?;
-        assert_eq!(rt; text.as_str(), lines_of(alloc, want)?.as_str(), "{row}");
+        let visit = met(rt.alloc(), &mut store, &around, directory, name)?;
+        expect_met(&rt, row, &mut store, visit, want)?;
     }
     Ok(())
 }
@@ -130,11 +145,8 @@ fn meeting_an_object_lists_it_and_reads_its_own_files(rt: HostRuntime) -> Result
     let mut store = root(alloc)?;
     met(alloc, &mut store, &None, "", "o")?;
     assert_eq!(rt; listed_from(alloc, &store, 1)?.as_str(), "o;");
-    assert_eq!(rt;
-        opened_from(alloc, &store, 0, "")?.as_str(),
-        "o/0=ocfl_object_1.1;o/inventory.json;o/inventory.json.sha256;"
-    );
-    Ok(())
+    let opened = "o/0=ocfl_object_1.1;o/inventory.json;o/inventory.json.sha256;";
+    expect_opened(&rt, "an object", &store, "", opened)
 }
 
 #[test]
@@ -159,14 +171,9 @@ fn the_storage_root_is_met_with_its_listing(rt: HostRuntime) -> Result<(), Fail>
         let mut store = root(alloc)?;
         change(alloc, &mut store, &[(path, "abc")])?;
         let visit = visit_base(alloc, &mut store).map_err(said)?;
-        assert_eq!(rt; listed_from(alloc, &store, 0)?.as_str(), ";", "{row}");
-        assert_eq!(rt;
-            opened_from(alloc, &store, 0, "")?.as_str(),
-            opened,
-            "{row}"
-        );
-        let text = text_of(alloc, &mut store, visit)?;
-        assert_eq!(rt; text.as_str(), lines_of(alloc, want)?.as_str(), "{row}");
+        expect_listed(&rt, row, &store, ";")?;
+        expect_opened(&rt, row, &store, "", opened)?;
+        expect_met(&rt, row, &mut store, visit, want)?;
     }
     Ok(())
 }
@@ -199,8 +206,7 @@ fn a_path_that_is_not_seen_is_missing_where_the_table_names_it(
             folder: None,
             table: None,
         };
-        let text = text_of(alloc, &mut store, visit)?;
-        assert_eq!(rt; text.as_str(), lines_of(alloc, want)?.as_str(), "{row}");
+        expect_met(&rt, row, &mut store, visit, want)?;
     }
     Ok(())
 }
@@ -210,10 +216,7 @@ fn a_table_is_read_from_the_inventory_alone(rt: HostRuntime) -> Result<(), Fail>
     let alloc = rt.alloc();
     let mut store = root(alloc)?;
     assert!(rt; object(alloc, &mut store)?.is_some());
-    assert_eq!(rt;
-        opened_from(alloc, &store, 0, "")?.as_str(),
-        "o/inventory.json;"
-    );
+    expect_opened(&rt, "the table", &store, "", "o/inventory.json;")?;
     change(alloc, &mut store, &[("-o/inventory.json", "")])?;
     assert!(rt; object(alloc, &mut store)?.is_none());
     assert_eq!(rt; opened_from(alloc, &store, 1, "")?.as_str(), "");

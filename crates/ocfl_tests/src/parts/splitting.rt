@@ -1,6 +1,8 @@
 //! Reports, and the separators that cut them into parts of about one cost.
-use super::{Failing, place_of};
-use ocfl_parts::{SplitStop, put_parts, split_by};
+use crate::common::input::{Slow, Then, failures};
+use crate::common::store::place_of;
+use crate::parts::text_of;
+use ocfl_parts::{SplitStop, split_by};
 use std::alloc::Global;
 use std::io::{BufReader, ErrorKind};
 use std::test::Fail;
@@ -10,12 +12,9 @@ const THREE_FILES: &str = "ok\t.\t-\nok\to\t-\nok\to/v1/content/a\t3\nok\to/v1/c
 ok\to/v1/content/c\t3\n";
 
 /// Splits a report and gives the separators' text.
-fn text_of(alloc: Global, budget: u64, report: &str) -> Result<String, Fail> {
+fn split_text(alloc: Global, budget: u64, report: &str) -> Result<String, Fail> {
     let mut reader = report.as_bytes();
-    let separators = split_by(alloc, &mut reader, budget)?;
-    let mut text = Vec::new(alloc);
-    put_parts(&separators, &mut text)?;
-    Ok(String::from_utf8(text)?)
+    text_of(alloc, &split_by(alloc, &mut reader, budget)?)
 }
 
 fn stop_of(alloc: Global, budget: u64, report: &[u8]) -> Option<SplitStop> {
@@ -33,7 +32,7 @@ fn parts_are_the_runs(rt: HostRuntime) -> Result<(), Fail> {
         (9, ""),
         (u64::MAX, ""),
     ] {
-        let text = text_of(alloc, budget, THREE_FILES)?;
+        let text = split_text(alloc, budget, THREE_FILES)?;
         assert_eq!(rt; text.as_str(), wanted, "{budget}");
     }
     let mut reader = THREE_FILES.as_bytes();
@@ -65,7 +64,7 @@ fn only_content_files_that_are_right_cost(rt: HostRuntime) -> Result<(), Fail> {
         ("E092\tb\tsha256 missing\nE093\tb\tmd5 missing\n", "c\n"),
     ] {
         let report = format!(in alloc; "ok\ta\t3\n{line}ok\tc\t0\n")?;
-        let text = text_of(alloc, 4, report.as_str())?;
+        let text = split_text(alloc, 4, report.as_str())?;
         let first = text.as_str().split_once('\n').map(|(first, _)| first);
         assert_eq!(rt; first, wanted.strip_suffix("\n"), "{line}");
     }
@@ -85,7 +84,7 @@ fn lines_of_one_place_are_one_item(rt: HostRuntime) -> Result<(), Fail> {
         ("ok\ta/b\t3\nok\ta-b\t3\n", 1, "a-b\n"),
         ("ok\t.\t-\nok\ta\t3\nE092\tb\tmd5 missing\n", 1, ""),
     ] {
-        let text = text_of(alloc, budget, report)?;
+        let text = split_text(alloc, budget, report)?;
         assert_eq!(rt; text.as_str(), wanted, "{report}");
     }
     // Costs that sum to more than a number of the machine are more than any budget.
@@ -94,29 +93,40 @@ fn lines_of_one_place_are_one_item(rt: HostRuntime) -> Result<(), Fail> {
         report.push_str("ok\ta\t4611686018427387903\n")?;
     }
     report.push_str("ok\tb\t0\n")?;
-    assert_eq!(rt; text_of(alloc, u64::MAX, report.as_str())?.as_str(), "b\n");
+    assert_eq!(rt;
+        split_text(alloc, u64::MAX, report.as_str())?.as_str(),
+        "b\n"
+    );
     Ok(())
 }
 
+/// The number of the line that is bad, in each of these reports.
+const BAD_LINES: [(u64, &[&str]); 3] = [
+    (1, &["ok\t.\t-", "\n"]),
+    (
+        2,
+        &[
+            "ok\t.\t-\n\n",
+            "ok\t.\t-\nok\ta\n",
+            "ok\t.\t-\nOK\ta\t3\n",
+            "ok\t.\t-\nok\ta\t3\r\nok\tb\t3\n",
+            "ok\t.\t-\nok\t/a\t3\n",
+            "ok\t.\t-\nok\ta\t%c3%a9\n",
+            "ok\tb\t3\nok\ta\t3\n",
+            "ok\ta-b\t3\nok\ta/b\t3\n",
+            "ok\ta\t3\nok\t.\t-\n",
+        ],
+    ),
+    (3, &["ok\tb\t3\nok\tb\t3\nok\ta\t3\n"]),
+];
+
 #[test]
 fn bad_report_lines_are_counted(rt: HostRuntime) -> Result<(), Fail> {
-    let alloc = rt.alloc();
-    for (report, line) in [
-        ("ok\t.\t-", 1u64),
-        ("\n", 1),
-        ("ok\t.\t-\n\n", 2),
-        ("ok\t.\t-\nok\ta\n", 2),
-        ("ok\t.\t-\nOK\ta\t3\n", 2),
-        ("ok\t.\t-\nok\ta\t3\r\nok\tb\t3\n", 2),
-        ("ok\t.\t-\nok\t/a\t3\n", 2),
-        ("ok\t.\t-\nok\ta\t%c3%a9\n", 2),
-        ("ok\tb\t3\nok\ta\t3\n", 2),
-        ("ok\tb\t3\nok\tb\t3\nok\ta\t3\n", 3),
-        ("ok\ta-b\t3\nok\ta/b\t3\n", 2),
-        ("ok\ta\t3\nok\t.\t-\n", 2),
-    ] {
-        let stop = stop_of(alloc, 1, report.as_bytes());
-        assert_eq!(rt; stop, Some(SplitStop::Line(line)), "{report}");
+    for (line, reports) in BAD_LINES {
+        for report in reports {
+            let stop = stop_of(rt.alloc(), 1, report.as_bytes());
+            assert_eq!(rt; stop, Some(SplitStop::Line(line)), "{report}");
+        }
     }
     Ok(())
 }
@@ -136,34 +146,31 @@ fn separators_have_a_limit(rt: HostRuntime) -> Result<(), Fail> {
     Ok(())
 }
 
+/// What splitting a report of these bytes stops with, where its reader then fails so.
+fn failed_stop(alloc: Global, text: &str, kind: ErrorKind) -> Result<Option<SplitStop>, Fail> {
+    let (left, then) = (text.as_bytes(), Then::Fails(kind));
+    let mut reader = BufReader::new(alloc, Slow { left, then })?;
+    Ok(split_by(alloc, &mut reader, 1).err())
+}
+
 #[test]
 fn failing_reports_are_told(rt: HostRuntime) -> Result<(), Fail> {
-    let alloc = rt.alloc();
-    for (row, kind, wanted) in [
-        (
-            "no permission",
-            ErrorKind::PermissionDenied,
-            SplitStop::Read,
-        ),
-        ("no memory", ErrorKind::OutOfMemory, SplitStop::Memory),
-    ] {
-        for (lines, left) in [
-            ("a line", b"ok\ta\t3\n".as_slice()),
-            ("a line and a half", b"ok\ta\t3\nok"),
-            ("nothing", b""),
+    for (row, kind, wanted) in failures(SplitStop::Read, SplitStop::Memory) {
+        for (lines, text) in [
+            ("a line", "ok\ta\t3\n"),
+            ("a line and a half", "ok\ta\t3\nok"),
+            ("nothing", ""),
         ] {
-            let mut reader = BufReader::new(alloc, Failing { left, kind })?;
-            let stop = split_by(alloc, &mut reader, 1).err();
+            let stop = failed_stop(rt.alloc(), text, kind)?;
             assert_eq!(rt; stop, Some(wanted), "{row} after {lines}");
         }
     }
     // A line that is bad comes before the failure behind it.
-    let left = b"ok\tb\t3\nok\ta\t3\n".as_slice();
-    let kind = ErrorKind::PermissionDenied;
-    let mut reader = BufReader::new(alloc, Failing { left, kind })?;
-    assert_eq!(rt;
-        split_by(alloc, &mut reader, 1).err(),
-        Some(SplitStop::Line(2))
-    );
+    let stop = failed_stop(
+        rt.alloc(),
+        "ok\tb\t3\nok\ta\t3\n",
+        ErrorKind::PermissionDenied,
+    )?;
+    assert_eq!(rt; stop, Some(SplitStop::Line(2)));
     Ok(())
 }

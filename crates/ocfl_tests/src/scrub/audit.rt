@@ -5,7 +5,7 @@ use crate::common::roots::{
     ROOTS, built, first_fails, long_file_fails, long_object, nested, under_four_algorithms,
     unread_in_fixity_alone,
 };
-use crate::common::store::{listed_from, times_opened};
+use crate::common::store::{expect_listed, times_opened};
 use ocfl_tree::Point;
 use std::test::Fail;
 
@@ -24,8 +24,7 @@ fn right_object_and_its_listings(rt: HostRuntime) -> Result<(), Fail> {
         let mut store = long_object(rt.alloc(), digest)?;
         let text = "ok|.|-\nok|o|-\nok|o/v1/content/f|3\n";
         expect_audit(&rt, digest, &mut store, text, 0, "")?;
-        let listed = listed_from(rt.alloc(), &store, 0)?;
-        assert_eq!(rt; listed.as_str(), ";o;o/v1;o/v1/content;", "{digest}");
+        expect_listed(&rt, digest, &store, ";o;o/v1;o/v1/content;")?;
         assert_eq!(rt; store.listings().len(), 4, "{digest}");
     }
     Ok(())

@@ -6,7 +6,7 @@ use super::run_figures::{
 use crate::common::object::{bare_root, object_listing};
 use crate::common::output::Narrow;
 use crate::common::roots::{long_object, right_objects, three_files};
-use crate::common::store::{opened_from, place_of, put, times_opened, was_not_called};
+use crate::common::store::{expect_opened, place_of, put, times_opened, was_not_called};
 use ocfl_cursor::Limits;
 use ocfl_digest::Block;
 use ocfl_scrub::{CycleEnd, cycle};
@@ -116,11 +116,9 @@ fn inventories_of_three_runs(rt: HostRuntime) -> Result<(), Fail> {
     let said = "runs 3 spent 12 files 3 clean, ended; cycle 1 runs 3 spent 12 files 3 ended";
     let row = "three objects";
     expect_cycle(&rt, row, &mut store, limits.as_slice(), &pieces, said)?;
-    let paths = opened_from(rt.alloc(), &store, 0, "/inventory.json")?;
     let want =
         "o1/inventory.json;o2/inventory.json;o2/inventory.json;o3/inventory.json;o3/inventory.json;";
-    assert_eq!(rt; paths.as_str(), want);
-    Ok(())
+    expect_opened(&rt, row, &store, "/inventory.json", want)
 }
 
 #[test]

@@ -2,7 +2,7 @@
 use crate::common::Runtime;
 use crate::common::digests::lines_of;
 use crate::common::object::bare_root;
-use crate::common::store::{change, listed_from, opened_from, place_of, put_dir};
+use crate::common::store::{change, expect_listed, expect_opened, place_of, put_dir};
 use crate::walk::{failed_place, item, judged};
 use ocfl_tree::{MemTree, Point};
 use std::alloc::Global;
@@ -160,16 +160,8 @@ fn only_the_way_is_listed_and_one_inventory_read(rt: HostRuntime) -> Result<(), 
     for (place, listings, openings) in WAYS {
         let mut store = root(rt.alloc())?;
         text_at(&mut store, rt.alloc(), place)?;
-        assert_eq!(rt;
-            listed_from(rt.alloc(), &store, 0)?.as_str(),
-            listings,
-            "{place}"
-        );
-        assert_eq!(rt;
-            opened_from(rt.alloc(), &store, 0, "")?.as_str(),
-            openings,
-            "{place}"
-        );
+        expect_listed(&rt, place, &store, listings)?;
+        expect_opened(&rt, place, &store, "", openings)?;
     }
     Ok(())
 }

@@ -2,7 +2,7 @@
 use crate::common::Runtime;
 use crate::common::object::{bare_root, listing, object_listing, put_object};
 use crate::common::roots::{missing_and_there, right_object, right_objects};
-use crate::common::store::{change, listed_from, opened_from};
+use crate::common::store::{change, expect_listed, expect_opened, opened_from};
 use crate::walk::{entered, expect, expect_after, said};
 use ocfl_tree::MemTree;
 use ocfl_walk::Walk;
@@ -18,58 +18,67 @@ pub(crate) fn step(alloc: Global, store: &mut MemTree, walk: &mut Walk) -> Resul
     Ok(text)
 }
 
-/// A walk entered at a place gives these items, having listed these directories when it gave each
-/// of them.
-fn steps(
+/// The path of an item, a dash where there are no more, and all directories that were listed when
+/// it was given.
+type Step = (&'static str, &'static str);
+
+/// A walk that is started so at a place gives these items.
+pub(crate) fn expect_steps(
     rt: &impl Runtime,
+    start: fn(Global, &mut MemTree, &str) -> Result<Walk, Fail>,
     store: &mut MemTree,
-    after: &str,
-    rows: &[(&str, &str)],
+    place: &str,
+    steps: &[Step],
 ) -> Result<(), Fail> {
-    let mut walk = entered(rt.alloc(), store, after)?;
-    for (item, listings) in rows {
+    let mut walk = start(rt.alloc(), store, place)?;
+    for (item, listings) in steps {
         let path = step(rt.alloc(), store, &mut walk)?;
-        assert_eq!(rt; path.as_str(), *item, "after {after}");
-        assert_eq!(rt;
-            listed_from(rt.alloc(), store, 0)?.as_str(),
-            *listings,
-            "after {after}"
-        );
+        assert_eq!(rt; path.as_str(), *item, "at {place}");
+        expect_listed(rt, place, store, listings)?;
     }
     Ok(())
 }
 
 const ALL_LISTED: &str = ";o;o/v1;o/v1/content;";
 
-const A: (&str, &str) = ("o/v1/content/a", ALL_LISTED);
+const O: Step = ("o", ";o;");
 
-const B: (&str, &str) = ("o/v1/content/b", ALL_LISTED);
+const A: Step = ("o/v1/content/a", ALL_LISTED);
 
-const END: (&str, &str) = ("-", ALL_LISTED);
+const B: Step = ("o/v1/content/b", ALL_LISTED);
 
-/// Where walks are entered, and their steps.
-const STEPS: [(&str, &[(&str, &str)]); 15] = [
-    ("n", &[("o", ";o;"), A, B, END]),
-    ("o", &[A, B, END]),
-    ("o/v0", &[A, B, END]),
-    ("o/v1", &[A, B, END]),
-    ("o/v1/content", &[A, B, END]),
-    ("o/v1/content/a", &[B, END]),
-    ("o/v1/content/a/x", &[B, END]),
-    ("o/v1/content/aa", &[B, END]),
-    ("o/v1/content/b", &[END]),
-    ("o/v1/content/b/x", &[END]),
-    ("o/v1/content/c", &[END]),
-    ("o/v1/d", &[("-", ";o;o/v1;")]),
-    ("o/v2", &[("-", ";o;")]),
-    ("o-x", &[("-", ";")]),
-    ("p/q", &[("-", ";")]),
+const END: Step = ("-", ALL_LISTED);
+
+/// Places, with the steps of a walk that is entered behind each, and of one that begins at it.
+pub(crate) const STEPS: [(&str, &[Step], &[Step]); 16] = [
+    ("", &[("", ";"), O, A, B, END], &[("", ";"), O, A, B, END]),
+    ("n", &[O, A, B, END], &[O, A, B, END]),
+    ("o", &[A, B, END], &[O, A, B, END]),
+    ("o/v0", &[A, B, END], &[A, B, END]),
+    ("o/v1", &[A, B, END], &[A, B, END]),
+    ("o/v1/content", &[A, B, END], &[A, B, END]),
+    ("o/v1/content/a", &[B, END], &[A, B, END]),
+    ("o/v1/content/a/x", &[B, END], &[B, END]),
+    ("o/v1/content/aa", &[B, END], &[B, END]),
+    ("o/v1/content/b", &[END], &[B, END]),
+    ("o/v1/content/b/x", &[END], &[END]),
+    ("o/v1/content/c", &[END], &[END]),
+    ("o/v1/d", &[("-", ";o;o/v1;")], &[("-", ";o;o/v1;")]),
+    ("o/v2", &[("-", ";o;")], &[("-", ";o;")]),
+    ("o-x", &[("-", ";")], &[("-", ";")]),
+    ("p/q", &[("-", ";")], &[("-", ";")]),
 ];
 
 #[test]
 fn listings_after_each_item(rt: HostRuntime) -> Result<(), Fail> {
-    for (after, rows) in STEPS {
-        steps(&rt, &mut missing_and_there(rt.alloc())?, after, rows)?;
+    for (place, after, _) in STEPS {
+        expect_steps(
+            &rt,
+            entered,
+            &mut missing_and_there(rt.alloc())?,
+            place,
+            after,
+        )?;
     }
     Ok(())
 }
@@ -80,9 +89,7 @@ pub(crate) fn expect_inventories(
     store: &MemTree,
     want: &str,
 ) -> Result<(), Fail> {
-    let opened = opened_from(rt.alloc(), store, 0, "/inventory.json")?;
-    assert_eq!(rt; opened.as_str(), want);
-    Ok(())
+    expect_opened(rt, "inventories", store, "/inventory.json", want)
 }
 
 #[test]
@@ -110,7 +117,7 @@ fn one_inventory_for_the_place_of_entry(rt: HostRuntime) -> Result<(), Fail> {
 
 /// A part of a walk goes on to the first file that it leaves to the next part. Where parts begin,
 /// their steps, and the inventories that they open.
-const PARTS: [(&str, &[(&str, &str)], &str); 3] = [
+const PARTS: [(&str, &[Step], &str); 3] = [
     (
         "",
         &[
@@ -151,7 +158,7 @@ const PARTS: [(&str, &[(&str, &str)], &str); 3] = [
 fn three_objects_in_three_parts(rt: HostRuntime) -> Result<(), Fail> {
     for (after, rows, inventories) in PARTS {
         let mut store = right_objects(rt.alloc(), &["o1", "o2", "o3"])?;
-        steps(&rt, &mut store, after, rows)?;
+        expect_steps(&rt, entered, &mut store, after, rows)?;
         expect_inventories(&rt, &store, inventories)?;
     }
     Ok(())

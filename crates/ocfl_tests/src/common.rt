@@ -6,6 +6,7 @@ use std::test::Fail;
 pub mod cursors;
 pub mod digests;
 pub mod input;
+pub mod inventories;
 pub mod object;
 pub mod odd_store;
 pub mod output;

@@ -1,6 +1,7 @@
 //! Declarations, sidecars, inventories and their tables.
 use crate::common::Runtime;
 use crate::common::digests::{ABC_SHA256, with_digests};
+use crate::common::inventories::{NO_OBJECTS, STOPPING};
 use crate::common::store::place_of;
 use ocfl_digest::Algorithm;
 use ocfl_inventory::declaration::declaration;
@@ -61,203 +62,113 @@ fn inventories_nest_to_127(rt: HostRuntime) -> Result<(), Fail> {
     expect(&rt, "127 arrays", bytes.as_bytes(), "E033 -\n", false)
 }
 
-/// The line that stops, and inventories that have it, each with a name.
-const STOPS: [(&str, &[(&str, &str)]); 11] = [
-    // what is no object in JSON
-    (
-        "E033 -\n",
-        &[
-            ("an array", "[]"),
-            ("no JSON", "abc"),
-            ("no byte", ""),
-            ("an object without an end", r#"{"digestAlgorithm":"#),
-            ("a number too large", r#"{"a":1e999}"#),
-            ("half of a pair", r#"{"a":"\ud800"}"#),
-            ("two objects", "{} {}"),
-        ],
-    ),
-    // keys that stop
-    ("E036 digestAlgorithm\n", &[("no algorithm", "{}")]),
-    (
-        "E025 SHA256\n",
-        &[(
-            "an algorithm in capitals",
-            r#"{"digestAlgorithm":"SHA256"}"#,
-        )],
-    ),
-    (
-        "E025 sha512/256\n",
-        &[(
-            "an algorithm that no inventory may have",
-            r#"{"digestAlgorithm":"sha512/256"}"#,
-        )],
-    ),
-    (
-        "S03 digestAlgorithm\n",
-        &[("an algorithm that is a number", r#"{"digestAlgorithm":7}"#)],
-    ),
-    (
-        "E017 a/b\n",
-        &[(
-            "a content directory of two names",
-            r#"{"digestAlgorithm":"sha512","contentDirectory":"a/b"}"#,
-        )],
-    ),
-    (
-        "E018 ..\n",
-        &[(
-            "a content directory of two dots",
-            r#"{"digestAlgorithm":"sha512","contentDirectory":".."}"#,
-        )],
-    ),
-    (
-        "S03 contentDirectory\n",
-        &[
-            (
-                "an empty content directory",
-                r#"{"digestAlgorithm":"sha512","contentDirectory":""}"#,
-            ),
-            (
-                "a content directory that is a number",
-                r#"{"digestAlgorithm":"sha512","contentDirectory":7}"#,
-            ),
-        ],
-    ),
-    (
-        "E041 manifest\n",
-        &[("no manifest", r#"{"digestAlgorithm":"sha512"}"#)],
-    ),
-    (
-        "S03 manifest\n",
-        &[
-            (
-                "a manifest that is an array",
-                r#"{"digestAlgorithm":"sha512","manifest":[]}"#,
-            ),
-            (
-                "a digest with a text",
-                r#"{"digestAlgorithm":"sha512","manifest":{"a":"v1/content/f"}}"#,
-            ),
-            (
-                "a path that is a number",
-                r#"{"digestAlgorithm":"sha512","manifest":{"a":[7]}}"#,
-            ),
-        ],
-    ),
-    (
-        "S03 fixity\n",
-        &[
-            (
-                "a fixity block that is an array",
-                r#"{"digestAlgorithm":"sha512","manifest":{},"fixity":[]}"#,
-            ),
-            (
-                "a fixity algorithm that is a number",
-                r#"{"digestAlgorithm":"sha512","manifest":{},"fixity":{"md5":7}}"#,
-            ),
-            (
-                "sha512/256 that is a number",
-                r#"{"digestAlgorithm":"sha512","manifest":{},"fixity":{"sha512/256":7}}"#,
-            ),
-        ],
-    ),
-];
-
 #[test]
 fn inventories_that_stop(rt: HostRuntime) -> Result<(), Fail> {
-    for (wanted, inventories) in STOPS {
-        for (row, text) in inventories {
-            expect(&rt, row, text.as_bytes(), wanted, false)?;
-        }
+    for (row, text) in NO_OBJECTS {
+        expect(&rt, row, text.as_bytes(), "E033 -\n", false)?;
     }
     let bytes = b"{\"a\":\"\xFF\"}";
-    expect(&rt, "a byte that is not UTF-8", bytes, "E033 -\n", false)
+    expect(&rt, "a byte that is not UTF-8", bytes, "E033 -\n", false)?;
+    expect(&rt, "no algorithm", b"{}", "E036 digestAlgorithm\n", false)?;
+    let text = r#"{"digestAlgorithm":"sha512"}"#;
+    expect(
+        &rt,
+        "no manifest",
+        text.as_bytes(),
+        "E041 manifest\n",
+        false,
+    )?;
+    for (code, detail, inventories) in STOPPING {
+        let wanted = format!(in rt.alloc(); "{code} {detail}\n")?;
+        for (row, members) in inventories {
+            let text = format!(in rt.alloc(); "{{{members}}}")?;
+            expect(&rt, row, text.as_bytes(), wanted.as_str(), false)?;
+        }
+    }
+    Ok(())
 }
 
-/// Manifests, each with what follows the manifest and the lines.
-const GO_ON: [(&str, &str, &str, &str); 13] = [
+/// Manifests, each with its lines.
+const MANIFESTS: [(&str, &str, &str); 8] = [
     // bad paths of each kind
     (
         "a bad path of each kind",
         r#"{"a":["x/content/a","/a","v1/content/f","v1/content/../b"]}"#,
-        "",
         "E100 /a\nE099 v1/content/../b\nS06 x/content/a\n",
     ),
     (
         "paths that are nearly content paths",
         r#"{"a":["","v1/content/f/","v1//f","v1/content","v/content/f","v1/c/f","v1a/content/f"]}"#,
-        "",
         "E099 \nS06 v/content/f\nE099 v1//f\nS06 v1/c/f\nS06 v1/content\nE100 v1/content/f/\nS06 v1a/content/f\n",
-    ),
-    // each bad text once in the manifest, and once in all of fixity
-    (
-        "a bad path in the manifest and twice in fixity",
-        r#"{"a":["v1/content/f","/x"]}"#,
-        r#","fixity":{"md5":{"b":["/x"]},"sha1":{"c":["/x"]}}"#,
-        "E100 /x\nE100 /x\n",
     ),
     // a digest twice in different case, also with no paths
     (
         "a digest in three cases, without paths",
         r#"{"ab":[],"AB":[],"aB":[],"b":[]}"#,
-        "",
         "E096 ab\n",
     ),
     (
         "a path under a digest in two cases",
         r#"{"a":["v1/content/f"],"A":["v1/content/f"]}"#,
-        "",
         "E096 a\nE101 v1/content/f\n",
     ),
-    (
-        "digests in two cases in fixity",
-        "{}",
-        r#","fixity":{"sha1":{"a":[],"A":[]},"md5":{"x":[],"X":[],"W":[],"w":[]}}"#,
-        "E097 md5 w\nE097 md5 x\nE097 sha1 a\n",
-    ),
-    // a path that another one begins with by elements, and no path of the fixity block
+    // a path that another one begins with by elements
     (
         "a path below another one",
         r#"{"a":["v1/content/f","v1/content/f/g","v1/content/f-g"]}"#,
-        "",
         "E101 v1/content/f\n",
     ),
     (
         "paths that begin alike",
         r#"{"a":["v1/content/f","v1/content/f-g","v1/content/ff"]}"#,
         "",
-        "",
     ),
     (
         "paths below one another",
         r#"{"a":["v1/content/a/b/c","v1/content/a-b","v1/content/a","v1/content/a/b"]}"#,
-        "",
         "E101 v1/content/a\nE101 v1/content/a/b\n",
     ),
     (
         "a path three times",
         r#"{"a":["v1/content/f","v1/content/f","v1/content/f"]}"#,
-        "",
         "E101 v1/content/f\n",
     ),
+];
+
+/// Manifests and fixity blocks, with their lines.
+const FIXITY_BLOCKS: [(&str, &str, &str, &str); 5] = [
+    // each bad text once in the manifest, and once in all of fixity
+    (
+        "a bad path in the manifest and twice in fixity",
+        r#"{"a":["v1/content/f","/x"]}"#,
+        r#"{"md5":{"b":["/x"]},"sha1":{"c":["/x"]}}"#,
+        "E100 /x\nE100 /x\n",
+    ),
+    (
+        "digests in two cases in fixity",
+        "{}",
+        r#"{"sha1":{"a":[],"A":[]},"md5":{"x":[],"X":[],"W":[],"w":[]}}"#,
+        "E097 md5 w\nE097 md5 x\nE097 sha1 a\n",
+    ),
+    // no path of the fixity block is one that another one begins with
     (
         "a path twice in fixity",
         "{}",
-        r#","fixity":{"md5":{"a":["v1/content/f","v1/content/f"]}}"#,
+        r#"{"md5":{"a":["v1/content/f","v1/content/f"]}}"#,
         "",
     ),
     // algorithms that are not computed
     (
         "algorithms that are not computed",
         "{}",
-        r#","fixity":{"blake2b-512":7,"MD5":[],"md5":{}}"#,
+        r#"{"blake2b-512":7,"MD5":[],"md5":{}}"#,
         "S07 MD5\nS07 blake2b-512\n",
     ),
     // all of them, in order
     (
         "a line of each kind",
         r#"{"a":["v1/content/f","/x"],"A":["v1/content/f/g"]}"#,
-        r#","fixity":{"b":0,"md5":{"c":["/a"],"C":[]}}"#,
+        r#"{"b":0,"md5":{"c":["/a"],"C":[]}}"#,
         "E096 a\nE097 md5 c\nE100 /x\nE100 /a\nE101 v1/content/f\nS07 b\n",
     ),
 ];
@@ -265,8 +176,13 @@ const GO_ON: [(&str, &str, &str, &str); 13] = [
 #[test]
 fn lines_that_do_not_stop(rt: HostRuntime) -> Result<(), Fail> {
     let alloc = rt.alloc();
-    for (row, manifest, further, wanted) in GO_ON {
-        let text = inventory(alloc, manifest, further)?;
+    for (row, manifest, wanted) in MANIFESTS {
+        let text = inventory(alloc, manifest, "")?;
+        expect(&rt, row, text.as_bytes(), wanted, true)?;
+    }
+    for (row, manifest, fixity, wanted) in FIXITY_BLOCKS {
+        let further = format!(in alloc; ",\"fixity\":{fixity}")?;
+        let text = inventory(alloc, manifest, further.as_str())?;
         expect(&rt, row, text.as_bytes(), wanted, true)?;
     }
     Ok(())

@@ -2,10 +2,11 @@
 mod chosen;
 mod sizes;
 
+use crate::common::Runtime;
 use clap::error::ErrorKind;
 use ocfl_cursor::{Budget, FileLimit, Limits};
 use ocfl_deed::Deed;
-use ocfl_line::{Asked, LineStop, Task, asked};
+use ocfl_line::{Asked, LineStop, Split, Task, asked};
 use std::alloc::{AllocError, Global};
 use std::test::Fail;
 
@@ -57,11 +58,32 @@ fn fault(alloc: Global, line: &str) -> Option<ErrorKind> {
     }
 }
 
-/// Whether a line asks for this run over the root `R` with the cursor `F`.
-fn is_run(alloc: Global, line: &str, limits: Limits) -> Result<bool, Fail> {
-    let asked = read_task(alloc, line)?;
-    let places = asked.root.as_deref() == Some("R") && asked.file.as_deref() == Some("F");
-    Ok(asked.deed == Deed::Run(limits) && places)
+/// The task that a line asks for has this deed, this root and this file. It gives the task.
+fn expect_task(
+    rt: &impl Runtime,
+    row: &str,
+    line: &str,
+    (deed, root, file): (Deed, Option<&str>, Option<&str>),
+) -> Result<Task, Fail> {
+    let task = read_task(rt.alloc(), line)?;
+    assert_eq!(rt; task.deed, deed, "{row}");
+    assert_eq!(rt; task.root.as_deref(), root, "{row}");
+    assert_eq!(rt; task.file.as_deref(), file, "{row}");
+    Ok(task)
+}
+
+/// A line asks for this run over the root `R` with the cursor `F`.
+fn expect_run(rt: &impl Runtime, row: &str, line: &str, limits: Limits) -> Result<(), Fail> {
+    expect_task(rt, row, line, (Deed::Run(limits), Some("R"), Some("F")))?;
+    Ok(())
+}
+
+/// A line asks for splitting the report `P` by this budget.
+fn expect_split(rt: &impl Runtime, row: &str, line: &str, budget: u64) -> Result<(), Fail> {
+    let report = String::from_str(rt.alloc(), "P")?;
+    let wanted = Asked::Split(Split::Report { budget, report });
+    assert_eq!(rt; read(rt.alloc(), line)?, wanted, "{row}");
+    Ok(())
 }
 
 /// The text of a line's fault, or of the help that it asks for.
@@ -74,43 +96,56 @@ fn usage_text(alloc: Global, line: &str) -> Result<String, Fail> {
 
 #[test]
 fn reads_a_cycle(rt: HostRuntime) -> Result<(), Fail> {
-    let alloc = rt.alloc();
-    let asked = read_task(alloc, "cycle --budget 1 --runs 2 R")?;
-    assert_eq!(rt; asked.deed, Deed::Cycle(limits(1, MOST)?, 2));
-    assert!(rt; asked.root.as_deref() == Some("R") && asked.file.is_none());
-    let asked = read_task(alloc, "cycle --runs 100000 --files 3 --budget 2 R")?;
-    assert_eq!(rt; asked.deed, Deed::Cycle(limits(2, 3)?, 100000));
+    for (row, line, budget, files, runs) in [
+        ("a budget", "cycle --budget 1 --runs 2 R", 1, MOST, 2),
+        (
+            "a budget and files",
+            "cycle --runs 100000 --files 3 --budget 2 R",
+            2,
+            3,
+            100000,
+        ),
+    ] {
+        let deed = Deed::Cycle(limits(budget, files)?, runs);
+        expect_task(&rt, row, line, (deed, Some("R"), None))?;
+    }
     Ok(())
 }
 
 #[test]
 fn reads_a_run(rt: HostRuntime) -> Result<(), Fail> {
-    let alloc = rt.alloc();
-    assert!(rt; is_run(alloc, "run --cursor F --budget 9 R", limits(9, MOST)?)?);
-    assert!(rt;
-        is_run(
-            alloc,
+    for (row, line, files) in [
+        ("a budget", "run --cursor F --budget 9 R", MOST),
+        (
+            "in another order",
             "run --files 3 R --budget=9 --cursor F",
-            limits(9, 3)?
-        )?
-    );
-    let line = "run --cursor F --budget 9 --files 4611686018427387904 R";
-    assert!(rt; is_run(alloc, line, limits(9, MOST)?)?);
+            3,
+        ),
+        (
+            "the most files",
+            "run --cursor F --budget 9 --files 4611686018427387904 R",
+            MOST,
+        ),
+    ] {
+        expect_run(&rt, row, line, limits(9, files)?)?;
+    }
     Ok(())
 }
 
 #[test]
 fn reads_the_others(rt: HostRuntime) -> Result<(), Fail> {
-    let alloc = rt.alloc();
-    let audit = read_task(alloc, "audit R")?;
-    assert_eq!(rt; audit.deed, Deed::Audit);
-    assert!(rt; audit.root.as_deref() == Some("R") && audit.file.is_none());
-    let check = read_task(alloc, "check R o/v1")?;
-    assert!(rt; matches!(&check.deed, Deed::Check(path) if path.as_str() == "o/v1"));
-    assert!(rt; check.root.as_deref() == Some("R") && check.file.is_none());
-    let show = read_task(alloc, "show F")?;
-    assert_eq!(rt; show.deed, Deed::Show);
-    assert!(rt; show.root.is_none() && show.file.as_deref() == Some("F"));
+    let place = String::from_str(rt.alloc(), "o/v1")?;
+    for (row, line, wanted) in [
+        ("an audit", "audit R", (Deed::Audit, Some("R"), None)),
+        (
+            "a check",
+            "check R o/v1",
+            (Deed::Check(place), Some("R"), None),
+        ),
+        ("a cursor", "show F", (Deed::Show, None, Some("F"))),
+    ] {
+        expect_task(&rt, row, line, wanted)?;
+    }
     Ok(())
 }
 

@@ -1,6 +1,6 @@
 //! Separators and their text, and readers that fail.
 use crate::common::expect_shown;
-use crate::common::input::{Slow, Then, failures};
+use crate::common::input::expect_failures;
 use crate::common::store::place_of;
 use ocfl_parts::laws::text_determines_the_separators;
 use ocfl_parts::{PartsStop, PushStop, Separators, SplitStop, put_parts, read_parts};
@@ -174,17 +174,14 @@ fn stops_have_texts(rt: HostRuntime) -> Result<(), Fail> {
 
 #[test]
 fn readers_that_fail_are_told(rt: HostRuntime) -> Result<(), Fail> {
-    for (row, kind, wanted) in failures(PartsStop::Read, PartsStop::Memory) {
-        // Bad lines do not come before the failure: all bytes are read first.
-        for (lines, text) in [
-            ("two places", "a\nb\n"),
-            ("places out of order", "b\na\n"),
-            ("nothing", ""),
-        ] {
-            let (left, then) = (text.as_bytes(), Then::Fails(kind));
-            let stop = read_parts(rt.alloc(), &mut Slow { left, then }).err();
-            assert_eq!(rt; stop, Some(wanted), "{row} after {lines}");
-        }
-    }
-    Ok(())
+    // Bad lines do not come before the failure: all bytes are read first.
+    let given = [
+        ("two places", b"a\nb\n".as_slice()),
+        ("places out of order", b"b\na\n"),
+        ("nothing", b""),
+    ];
+    let stops = (PartsStop::Read, PartsStop::Memory);
+    expect_failures(&rt, &given, stops, |mut reader| {
+        Ok(read_parts(rt.alloc(), &mut reader).err())
+    })
 }

@@ -1,150 +1,149 @@
 //! Splitting by listing: which directories are given, which are listed, and what stops it.
 use crate::common::object::bare_root;
-use crate::common::store::{change, expect_listed, place_of};
+use crate::common::store::{change, expect_listed, place_of, put};
+use crate::parts::text_of;
+use crate::walk::said;
 use ocfl_item::Fault;
-use ocfl_parts::put_parts;
 use ocfl_split::split;
 use ocfl_tree::{MemTree, Point};
 use std::alloc::Global;
 use std::test::Fail;
 
+/// The paths of the objects of a storage root, and what else is put there.
+type Root = (
+    &'static [&'static str],
+    &'static [(&'static str, &'static str)],
+);
+
 /// Three objects, the second with a version.
-const OBJECTS: [(&str, &str); 4] = [
-    ("o1/0=ocfl_object_1.1", "ocfl_object_1.1\n"),
-    ("o2/0=ocfl_object_1.1", "ocfl_object_1.1\n"),
-    ("o2/v1/content/f", "abc"),
-    ("o3/0=ocfl_object_1.1", "ocfl_object_1.1\n"),
-];
+const OBJECTS: Root = (&["o1", "o2", "o3"], &[("o2/v1/content/f", "abc")]);
 
 /// Objects one level further down.
-const LEVELS: [(&str, &str); 3] = [
-    ("a/o1/0=ocfl_object_1.1", "ocfl_object_1.1\n"),
-    ("a/o2/0=ocfl_object_1.1", "ocfl_object_1.1\n"),
-    ("b/o3/0=ocfl_object_1.1", "ocfl_object_1.1\n"),
-];
+const LEVELS: Root = (&["a/o1", "a/o2", "b/o3"], &[]);
 
 /// A level that is narrower than the one above it.
-const NARROWING: [(&str, &str); 3] = [
-    ("a/o/0=ocfl_object_1.1", "ocfl_object_1.1\n"),
-    ("o1/0=ocfl_object_1.1", "ocfl_object_1.1\n"),
-    ("o2/0=ocfl_object_1.1", "ocfl_object_1.1\n"),
-];
+const NARROWING: Root = (&["a/o", "o1", "o2"], &[]);
 
 /// A narrow level between two that are equally wide.
-const WAIST: [(&str, &str); 3] = [
-    ("a/b/o1/0=ocfl_object_1.1", "ocfl_object_1.1\n"),
-    ("a/b/o2/0=ocfl_object_1.1", "ocfl_object_1.1\n"),
-    ("o/0=ocfl_object_1.1", "ocfl_object_1.1\n"),
-];
+const WAIST: Root = (&["a/b/o1", "a/b/o2", "o"], &[]);
 
 /// What is no directory of the hierarchy, and names that sort otherwise than their places.
-const ODD: [(&str, &str); 6] = [
-    ("a/x/", ""),
-    ("a-b/x/", ""),
-    ("extensions/x/", ""),
-    ("b/extensions/", ""),
-    ("f", "abc"),
-    ("l@", ""),
-];
+const ODD: Root = (
+    &[],
+    &[
+        ("a/x/", ""),
+        ("a-b/x/", ""),
+        ("extensions/x/", ""),
+        ("b/extensions/", ""),
+        ("f", "abc"),
+        ("l@", ""),
+    ],
+);
 
-/// A storage root with these changes.
-fn root_with(alloc: Global, changes: &[(&str, &str)]) -> Result<MemTree, Fail> {
+const NOTHING: Root = (&[], &[]);
+
+/// That storage root.
+fn root_with(alloc: Global, (objects, changes): &Root) -> Result<MemTree, Fail> {
     let mut store = bare_root(alloc)?;
+    for object in *objects {
+        let declaration = format!(in alloc; "{object}/0=ocfl_object_1.1")?;
+        put(
+            alloc,
+            &mut store,
+            declaration.as_str(),
+            b"ocfl_object_1.1\n",
+        )?;
+    }
     change(alloc, &mut store, changes)?;
     Ok(store)
 }
 
-fn said(fault: Fault) -> Fail {
-    match fault {
-        Fault::Store(_) => "store".into(),
-        Fault::Memory => "memory".into(),
-        Fault::Output => "output".into(),
-        Fault::Broken => "broken".into(),
-    }
-}
-
 /// Splits a root into so many parts. Gives the text of the separators.
-fn text_of(alloc: Global, store: &mut MemTree, count: usize) -> Result<String, Fail> {
-    let separators = split(alloc, store, count).map_err(said)?;
-    let mut text = Vec::new(alloc);
-    put_parts(&separators, &mut text)?;
-    Ok(String::from_utf8(text)?)
+fn split_text(alloc: Global, store: &mut MemTree, count: usize) -> Result<String, Fail> {
+    text_of(alloc, &split(alloc, store, count).map_err(said)?)
 }
 
-/// Splits of a root with these changes into so many parts: the text of the separators, and the
-/// directories that are listed.
-const CUTS: [(&str, &[(&str, &str)], usize, &str, &str); 16] = [
-    ("no parts", &OBJECTS, 0, "", ""),
-    ("one part", &OBJECTS, 1, "", ""),
-    ("two of three objects", &OBJECTS, 2, "o2\n", ";"),
-    ("three of three", &OBJECTS, 3, "o2\no3\n", ";"),
-    ("four of three", &OBJECTS, 4, "o2\no3\n", ";o1;o2;o3;"),
-    ("ten of three", &OBJECTS, 10, "o2\no3\n", ";o1;o2;o3;"),
-    ("first level", &LEVELS, 2, "b\n", ";"),
-    ("second level", &LEVELS, 3, "a/o2\nb/o3\n", ";a;b;"),
+/// A name, a number of parts, the text of the separators, and the directories that are listed.
+type Cut = (&'static str, usize, &'static str, &'static str);
+
+/// Splits of storage roots.
+const CUTS: [(Root, &[Cut]); 6] = [
     (
-        "last level",
-        &LEVELS,
-        4,
-        "a/o2\nb/o3\n",
-        ";a;b;a/o1;a/o2;b/o3;",
-    ),
-    ("three of a level", &NARROWING, 3, "o1\no2\n", ";"),
-    (
-        "more than any level has",
-        &NARROWING,
-        4,
-        "o1\no2\n",
-        ";a;o1;o2;a/o;",
+        OBJECTS,
+        &[
+            ("no parts", 0, "", ""),
+            ("one part", 1, "", ""),
+            ("two of three objects", 2, "o2\n", ";"),
+            ("three of three", 3, "o2\no3\n", ";"),
+            ("four of three", 4, "o2\no3\n", ";o1;o2;o3;"),
+            ("ten of three", 10, "o2\no3\n", ";o1;o2;o3;"),
+        ],
     ),
     (
-        "the lower of equal levels",
-        &WAIST,
-        3,
-        "a/b/o2\n",
-        ";a;o;a/b;a/b/o1;a/b/o2;",
+        LEVELS,
+        &[
+            ("first level", 2, "b\n", ";"),
+            ("second level", 3, "a/o2\nb/o3\n", ";a;b;"),
+            ("last level", 4, "a/o2\nb/o3\n", ";a;b;a/o1;a/o2;b/o3;"),
+        ],
     ),
-    ("odd names", &ODD, 2, "a-b\n", ";"),
-    ("in order", &ODD, 3, "a-b\nb\n", ";"),
     (
-        "below them",
-        &ODD,
-        4,
-        "a-b/x\nb/extensions\n",
-        ";a;a-b;b;a/x;a-b/x;b/extensions;",
+        NARROWING,
+        &[
+            ("three of a level", 3, "o1\no2\n", ";"),
+            ("more than any level has", 4, "o1\no2\n", ";a;o1;o2;a/o;"),
+        ],
     ),
-    ("nothing there", &[], 2, "", ";"),
+    (
+        WAIST,
+        &[(
+            "the lower of equal levels",
+            3,
+            "a/b/o2\n",
+            ";a;o;a/b;a/b/o1;a/b/o2;",
+        )],
+    ),
+    (
+        ODD,
+        &[
+            ("odd names", 2, "a-b\n", ";"),
+            ("in order", 3, "a-b\nb\n", ";"),
+            (
+                "below them",
+                4,
+                "a-b/x\nb/extensions\n",
+                ";a;a-b;b;a/x;a-b/x;b/extensions;",
+            ),
+        ],
+    ),
+    (NOTHING, &[("nothing there", 2, "", ";")]),
 ];
 
 #[test]
 fn a_level_is_cut_evenly(rt: HostRuntime) -> Result<(), Fail> {
-    let alloc = rt.alloc();
-    for (row, changes, count, separators, listings) in CUTS {
-        let mut store = root_with(alloc, changes)?;
-        let text = text_of(alloc, &mut store, count)?;
-        assert_eq!(rt; text.as_str(), separators, "{row}");
-        expect_listed(&rt, row, &store, listings)?;
-        assert!(rt; store.openings().is_empty(), "{row}");
-        assert_eq!(rt; store.failures(), 0, "{row}");
+    for (root, cuts) in CUTS {
+        for (row, count, separators, listings) in cuts {
+            let mut store = root_with(rt.alloc(), &root)?;
+            let text = split_text(rt.alloc(), &mut store, *count)?;
+            assert_eq!(rt; text.as_str(), *separators, "{row}");
+            expect_listed(&rt, row, &store, listings)?;
+            assert!(rt; store.openings().is_empty(), "{row}");
+            assert_eq!(rt; store.failures(), 0, "{row}");
+        }
     }
     Ok(())
 }
 
 #[test]
 fn nothing_is_split_in_an_unknown_root(rt: HostRuntime) -> Result<(), Fail> {
-    let alloc = rt.alloc();
-    for (row, changes) in [
-        (
-            "no declaration",
-            [("-0=ocfl_1.1", ""), ("a/", ""), ("b/", "")],
-        ),
-        (
-            "two",
-            [("0=ocfl_1.0", "ocfl_1.0\n"), ("a/", ""), ("b/", "")],
-        ),
+    for (row, declared) in [
+        ("no declaration", ("-0=ocfl_1.1", "")),
+        ("two", ("0=ocfl_1.0", "ocfl_1.0\n")),
     ] {
-        let mut store = root_with(alloc, &changes)?;
-        assert_eq!(rt; text_of(alloc, &mut store, 2)?.as_str(), "", "{row}");
+        let mut store = bare_root(rt.alloc())?;
+        change(rt.alloc(), &mut store, &[declared, ("a/", ""), ("b/", "")])?;
+        let text = split_text(rt.alloc(), &mut store, 2)?;
+        assert_eq!(rt; text.as_str(), "", "{row}");
         expect_listed(&rt, row, &store, ";")?;
     }
     Ok(())

@@ -40,6 +40,12 @@ pub fn sealed(alloc: Global, body: &str) -> Result<Vec<u8>, Fail> {
     Ok(format!(in alloc; "{body}digest {digest}\n")?.into_bytes())
 }
 
+/// The text without its last byte.
+pub fn cut(mut text: Vec<u8>) -> Vec<u8> {
+    text.pop();
+    text
+}
+
 /// The place of a path; `-` is none.
 pub fn end_at(alloc: Global, path: &str) -> Result<Option<Place>, Fail> {
     if path == "-" {

@@ -1,5 +1,8 @@
 //! Readers that give a few bytes a call, and how they fail.
+use crate::common::Runtime;
+use std::fmt::Debug;
 use std::io::{self, ErrorKind, Read};
+use std::test::Fail;
 
 /// What a reader does once it has given its bytes.
 #[derive(Clone, Copy)]
@@ -50,4 +53,21 @@ pub fn failures<T>(denied: T, memory: T) -> [(&'static str, ErrorKind, T); 2] {
         ("no permission", ErrorKind::PermissionDenied, denied),
         ("no memory", ErrorKind::OutOfMemory, memory),
     ]
+}
+
+/// Whatever a reader gave before it failed, each after a name, what is told of it is one of these.
+pub fn expect_failures<T: Copy + Debug + PartialEq>(
+    rt: &impl Runtime,
+    given: &[(&str, &[u8])],
+    (denied, memory): (T, T),
+    told_of: impl Fn(Slow<'_>) -> Result<Option<T>, Fail>,
+) -> Result<(), Fail> {
+    for (row, kind, wanted) in failures(denied, memory) {
+        for (name, left) in given {
+            let then = Then::Fails(kind);
+            let told = told_of(Slow { left, then })?;
+            assert_eq!(rt; told, Some(wanted), "{name}, {row}");
+        }
+    }
+    Ok(())
 }

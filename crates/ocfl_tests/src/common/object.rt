@@ -9,6 +9,30 @@ use std::test::Fail;
 /// The content file of the object `o`.
 pub const FILE: &str = "o/v1/content/f";
 
+/// What lists it in a manifest, with the bytes `abc`.
+pub const LISTS_F: &str = r#""ABC_SHA256":["v1/content/f"]"#;
+
+/// What else may lie where it is listed: a name, what is put there, and the first line of its place.
+/// A directory with something in it is no item.
+pub const NO_FILE: [(&str, &[(&str, &str)], &str); 4] = [
+    ("nothing", &[], ""),
+    (
+        "a link",
+        &[("o/v1/content/f@", "")],
+        "S04|o/v1/content/f|-\n",
+    ),
+    (
+        "a directory without files",
+        &[("o/v1/content/f/", "")],
+        "E024|o/v1/content/f|-\n",
+    ),
+    (
+        "a directory with a directory",
+        &[("o/v1/content/f/g/", "")],
+        "",
+    ),
+];
+
 // The files of the object as a whole.
 pub const DECLARATION: &str = "o/0=ocfl_object_1.1";
 
@@ -114,7 +138,7 @@ pub fn object_listing(alloc: Global, paths: &str) -> Result<MemTree, Fail> {
 
 /// Puts an object that lists its file `f` of the bytes `abc`: all of it is right.
 pub fn put_right_object(alloc: Global, store: &mut MemTree, object: &str) -> Result<(), Fail> {
-    let inventory = listing(alloc, "\"ABC_SHA256\":[\"v1/content/f\"]", "")?;
+    let inventory = listing(alloc, LISTS_F, "")?;
     put_object(alloc, store, object, inventory.as_str())?;
     let file = format!(in alloc; "{object}/v1/content/f")?;
     put(alloc, store, file.as_str(), b"abc")

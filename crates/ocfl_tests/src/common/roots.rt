@@ -1,7 +1,7 @@
 //! Storage roots that the tests of more than one crate walk, audit or check.
 use crate::common::object::{
-    FILE, LONG_SIDECAR, SHORT_SIDECAR, bare_root, inventory, listing, long_sidecar, object_listing,
-    object_with, object_without_files, put_right_object,
+    FILE, LISTS_F, LONG_SIDECAR, SHORT_SIDECAR, bare_root, inventory, listing, long_sidecar,
+    object_listing, object_with, object_without_files, put_right_object,
 };
 use crate::common::store::{change, place_of, put};
 use ocfl_tree::{MemTree, Point};
@@ -20,7 +20,7 @@ pub type Root = (
 );
 
 /// What lists the file `f` of the bytes `abc`.
-const F_OF_ABC: Option<(&str, &str)> = Some((r#""ABC_SHA256":["v1/content/f"]"#, ""));
+const F_OF_ABC: Option<(&str, &str)> = Some((LISTS_F, ""));
 
 /// What lists a file of each of three versions.
 const THREE_VERSIONS: Option<(&str, &str)> = Some((
@@ -43,10 +43,7 @@ const UNDER_FOUR_ALGORITHMS: Root = (
 /// A file that has the right digest in the manifest, and a wrong one in fixity.
 const WRONG_FIXITY: Root = (
     "a wrong digest in fixity",
-    Some((
-        r#""ABC_SHA256":["v1/content/f"]"#,
-        r#""md5":{"NOTHING_MD5":["v1/content/f"]}"#,
-    )),
+    Some((LISTS_F, r#""md5":{"NOTHING_MD5":["v1/content/f"]}"#)),
     &[(FILE, "abc")],
     "ok|.|-\nok|o|-\nE093|o/v1/content/f|md5 NOTHING_MD5 ABC_MD5\n",
     (4, 1),
@@ -233,7 +230,7 @@ pub const ROOTS: [Root; 34] = [
     ),
     (
         "an algorithm that is not computed",
-        Some((r#""ABC_SHA256":["v1/content/f"]"#, r#""blake2b-512":7"#)),
+        Some((LISTS_F, r#""blake2b-512":7"#)),
         &[(FILE, "abc")],
         "ok|.|-\nS07|o|blake2b-512\nok|o/v1/content/f|3\n",
         (4, 0),

@@ -1,7 +1,7 @@
 //! Cursors that a reader gives: those of a part, and what is shown of any.
 use crate::common::Runtime;
-use crate::common::cursors::{BODY, LINES, OLD_LINES, ends_of, old_text, sealed, whole_text};
-use crate::common::input::{Slow, Then, failures};
+use crate::common::cursors::{BODY, LINES, OLD_LINES, cut, ends_of, old_text, sealed, whole_text};
+use crate::common::input::{Slow, Then, expect_failures};
 use ocfl_cursor::{
     Cursor, CursorStop, PartCursorStop, PartRefused, Refused, ShowStop, encode_part,
     no_stored_part_is_refused, part_lines, read_part_cursor, read_shown,
@@ -72,6 +72,7 @@ fn other_bytes_are_refused_to_a_part(rt: HostRuntime) -> Result<(), Fail> {
     let malformed = sealed(alloc, "ocfl-scrub part cursor 1\n")?;
     let short = &text[..text.len() - 1];
     let memory = PartCursorStop::Refused(PartRefused::Memory);
+    let stops = (PartCursorStop::Read, memory);
     // For its own part and for another one.
     for ends in [("o/v1/content/b", "-"), ("-", "o/v1/content/b")] {
         for (row, bytes, wanted) in [
@@ -83,9 +84,11 @@ fn other_bytes_are_refused_to_a_part(rt: HostRuntime) -> Result<(), Fail> {
             let refused = Some(PartCursorStop::Refused(wanted));
             expect_stop(&rt, row, bytes, Then::Ends, ends, refused)?;
         }
-        for (row, kind, wanted) in failures(PartCursorStop::Read, memory) {
-            expect_stop(&rt, row, &text, Then::Fails(kind), ends, Some(wanted))?;
-        }
+        let part = ends_of(alloc, ends.0, ends.1)?;
+        let given = [("a reader that fails", text.as_slice())];
+        expect_failures(&rt, &given, stops, |mut reader| {
+            Ok(read_part_cursor(alloc, &mut reader, &part).err())
+        })?;
     }
     Ok(())
 }
@@ -129,31 +132,41 @@ fn stored_cursors_are_shown(rt: HostRuntime) -> Result<(), Fail> {
 #[test]
 fn nothing_is_shown_of_other_bytes(rt: HostRuntime) -> Result<(), Fail> {
     let alloc = rt.alloc();
-    let text = sealed(alloc, PART)?;
-    let whole = whole_text(alloc)?;
-    let malformed = sealed(alloc, "ocfl-scrub part cursor 1\n")?;
-    let second = sealed(alloc, "ocfl-scrub part cursor 2\n")?;
-    let third = sealed(alloc, "ocfl-scrub cursor 3\n")?;
-    let short = &text[..text.len() - 1];
-    let short_whole = &whole[..whole.len() - 1];
     let of_whole = |refused| ShowStop::Whole(CursorStop::Refused(refused));
-    let then = Then::Ends;
-    for (row, bytes, wanted) in [
-        ("no byte", b"".as_slice(), Refused::NotCursor),
-        ("version 2 of a part's cursor", &second, Refused::NotCursor),
-        ("version 3", &third, Refused::Version),
-        ("a whole root's, cut", short_whole, Refused::Damaged),
+    for (row, text, wanted) in [
+        ("no byte", Vec::new(alloc), of_whole(Refused::NotCursor)),
+        (
+            "version 2 of a part's cursor",
+            sealed(alloc, "ocfl-scrub part cursor 2\n")?,
+            of_whole(Refused::NotCursor),
+        ),
+        (
+            "version 3",
+            sealed(alloc, "ocfl-scrub cursor 3\n")?,
+            of_whole(Refused::Version),
+        ),
+        (
+            "a whole root's, cut",
+            cut(whole_text(alloc)?),
+            of_whole(Refused::Damaged),
+        ),
+        (
+            "a part's without its last byte",
+            cut(sealed(alloc, PART)?),
+            ShowStop::Part(PartRefused::Damaged),
+        ),
+        (
+            "a part without lines",
+            sealed(alloc, "ocfl-scrub part cursor 1\n")?,
+            ShowStop::Part(PartRefused::Malformed),
+        ),
     ] {
-        expect_unshown(&rt, row, bytes, then, of_whole(wanted));
+        expect_unshown(&rt, row, &text, Then::Ends, wanted);
     }
-    let row = "a part's without its last byte";
-    expect_unshown(&rt, row, short, then, ShowStop::Part(PartRefused::Damaged));
-    let row = "a part without lines";
-    let stop = ShowStop::Part(PartRefused::Malformed);
-    expect_unshown(&rt, row, &malformed, then, stop);
-    let failed = ShowStop::Whole(CursorStop::Read);
-    for (row, kind, wanted) in failures(failed, of_whole(Refused::Memory)) {
-        expect_unshown(&rt, row, &text, Then::Fails(kind), wanted);
-    }
-    Ok(())
+    let text = sealed(alloc, PART)?;
+    let given = [("a reader that fails", text.as_slice())];
+    let stops = (ShowStop::Whole(CursorStop::Read), of_whole(Refused::Memory));
+    expect_failures(&rt, &given, stops, |mut reader| {
+        Ok(read_shown(alloc, &mut reader).err())
+    })
 }

@@ -1,13 +1,13 @@
 //! The lines of content places, and what they cost.
-use crate::common::object::{FILE, listing, object_listing, object_without_files};
+use crate::common::object::{
+    FILE, LISTS_F, NO_FILE, listing, object_listing, object_without_files,
+};
 use crate::common::roots::unread_in_fixity_alone;
 use crate::common::store::{change, place_of, put_dir, times_opened};
 use crate::walk::expect_item;
 use ocfl_tree::{MemTree, Point};
 use std::alloc::Global;
 use std::test::Fail;
-
-const LISTS_F: &str = r#""ABC_SHA256":["v1/content/f"]"#;
 
 /// What lists `f` twice in the manifest, and in fixity.
 const LISTS_F_TWICE: &str = r#""ABC_SHA256":["v1/content/f"],"no digest":["v1/content/f"]"#;
@@ -26,121 +26,60 @@ fn object(
     Ok(store)
 }
 
-/// A name, a manifest, a fixity block, what is changed, the lines of `f`, their cost, and how often
-/// `f` is opened.
-type Judged = (
-    &'static str,
-    &'static str,
-    &'static str,
-    &'static [(&'static str, &'static str)],
-    &'static str,
-    u64,
-    usize,
-);
-
-const JUDGED: [Judged; 10] = [
-    (
-        "a right file",
-        LISTS_F,
-        "",
-        &[(FILE, "abc")],
-        "ok|o/v1/content/f|3\n",
-        4,
-        1,
-    ),
+/// The file `f` of the bytes `abc`: a name, a manifest, a fixity block, the lines of `f`, their cost,
+/// and how often `f` is opened.
+const THERE: [(&str, &str, &str, &str, (u64, usize)); 5] = [
+    ("a right file", LISTS_F, "", "ok|o/v1/content/f|3\n", (4, 1)),
     (
         "a wrong digest in fixity",
         LISTS_F,
         r#""md5":{"NOTHING_MD5":["v1/content/f"]}"#,
-        &[(FILE, "abc")],
         "E093|o/v1/content/f|md5 NOTHING_MD5 ABC_MD5\n",
-        4,
-        1,
+        (4, 1),
     ),
     // the manifest does not name the file
     (
         "a file that nothing names",
         "",
         "",
-        &[(FILE, "abc")],
         "E023|o/v1/content/f|-\n",
-        0,
-        0,
+        (0, 0),
     ),
     (
         "a file that fixity alone names",
         "",
         r#""md5":{"ABC_MD5":["v1/content/f"]}"#,
-        &[(FILE, "abc")],
         "E023|o/v1/content/f|-\n",
-        4,
-        1,
+        (4, 1),
     ),
     (
         "a file that sha512/256 alone names",
         "",
         r#""sha512/256":{"ABC_SHA512/256":["v1/content/f"]}"#,
-        &[(FILE, "abc")],
         "E023|o/v1/content/f|-\n",
-        4,
-        1,
-    ),
-    // no file is there
-    (
-        "nothing",
-        LISTS_F_TWICE,
-        SHA1_OF_F,
-        &[],
-        "E092|o/v1/content/f|sha256 missing\nE093|o/v1/content/f|sha1 missing\n",
-        0,
-        0,
-    ),
-    (
-        "a directory without files",
-        LISTS_F_TWICE,
-        SHA1_OF_F,
-        &[("o/v1/content/f/", "")],
-        "E024|o/v1/content/f|-\nE092|o/v1/content/f|sha256 missing\nE093|o/v1/content/f|sha1 missing\n",
-        0,
-        0,
-    ),
-    (
-        "a directory with a directory",
-        LISTS_F_TWICE,
-        SHA1_OF_F,
-        &[("o/v1/content/f/g/", "")],
-        "E092|o/v1/content/f|sha256 missing\nE093|o/v1/content/f|sha1 missing\n",
-        0,
-        0,
-    ),
-    (
-        "a link",
-        LISTS_F_TWICE,
-        SHA1_OF_F,
-        &[("o/v1/content/f@", "")],
-        "S04|o/v1/content/f|-\nE092|o/v1/content/f|sha256 missing\nE093|o/v1/content/f|sha1 missing\n",
-        0,
-        0,
-    ),
-    // a directory that holds something is no item
-    (
-        "a directory that nothing names",
-        "",
-        "",
-        &[("o/v1/content/f/g/", "")],
-        "",
-        0,
-        0,
+        (4, 1),
     ),
 ];
 
 #[test]
 fn lines_and_costs_of_a_content_place(rt: HostRuntime) -> Result<(), Fail> {
-    for (row, manifest, fixity, changes, want, cost, opened) in JUDGED {
-        let mut store = object(rt.alloc(), manifest, fixity, changes)?;
+    for (row, manifest, fixity, want, (cost, opened)) in THERE {
+        let mut store = object(rt.alloc(), manifest, fixity, &[(FILE, "abc")])?;
         expect_item(&rt, row, &mut store, FILE, want, cost)?;
         assert_eq!(rt; times_opened(rt.alloc(), &store, FILE)?, opened, "{row}");
     }
+    let missing = "E092|o/v1/content/f|sha256 missing\nE093|o/v1/content/f|sha1 missing\n";
+    for (row, changes, line) in NO_FILE {
+        let mut store = object(rt.alloc(), LISTS_F_TWICE, SHA1_OF_F, changes)?;
+        let want = format!(in rt.alloc(); "{line}{missing}")?;
+        expect_item(&rt, row, &mut store, FILE, want.as_str(), 0)?;
+        assert_eq!(rt; times_opened(rt.alloc(), &store, FILE)?, 0, "{row}");
+    }
+    // A directory that holds something is no item.
+    let mut store = object(rt.alloc(), "", "", &[("o/v1/content/f/g/", "")])?;
+    let row = "a directory that nothing names";
+    expect_item(&rt, row, &mut store, FILE, "", 0)?;
+    assert_eq!(rt; times_opened(rt.alloc(), &store, FILE)?, 0, "{row}");
     Ok(())
 }
 

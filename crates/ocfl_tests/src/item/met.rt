@@ -50,14 +50,14 @@ fn object(alloc: Global, store: &mut MemTree) -> Result<Option<Around>, Fail> {
     }))
 }
 
-/// The entry of a name in a directory, met in the part of the storage root that it lies in.
+/// The entry at a path, met in the part of the storage root that it lies in.
 fn met(
     alloc: Global,
     store: &mut MemTree,
     around: &Option<Around>,
-    directory: &str,
-    name: &str,
+    path: &str,
 ) -> Result<Visit, Fail> {
+    let (directory, name) = path.rsplit_once('/').unwrap_or(("", path));
     let folder = listed(alloc, store, directory)?;
     for entry in &folder.entries {
         if entry.name.as_str() == name {
@@ -98,42 +98,32 @@ fn expect_met(
     Ok(())
 }
 
-/// Entries, each by its directory and its name, and what is met there.
-const ENTRIES: [(&str, &str, &str, &str); 11] = [
+/// Paths, and what is met there.
+const ENTRIES: [(&str, &str, &str); 11] = [
     // in the hierarchy
-    ("the root's declaration", "", "0=ocfl_1.1", ""),
-    ("extensions", "", "extensions", ""),
-    ("a file in the root", "", "notes", ""),
-    ("an object", "", "o", "ok|o|-\nlisting\ntable\n"),
-    ("a directory", "", "p", "listing\n"),
-    ("a file in the hierarchy", "p", "notes", "E072|p/notes|-\n"),
+    ("the root's declaration", "0=ocfl_1.1", ""),
+    ("extensions", "extensions", ""),
+    ("a file in the root", "notes", ""),
+    ("an object", "o", "ok|o|-\nlisting\ntable\n"),
+    ("a directory", "p", "listing\n"),
+    ("a file in the hierarchy", "p/notes", "E072|p/notes|-\n"),
     // in the object
-    ("logs", "o", "logs", ""),
-    ("a file in an object", "o", "notes", "E001|o/notes|-\n"),
-    ("a version", "o", "v1", "listing\n"),
-    (
-        "a file in a version",
-        "o/v1",
-        "notes",
-        "E015|o/v1/notes|-\n",
-    ),
-    (
-        "a content file",
-        "o/v1/content",
-        "f",
-        "ok|o/v1/content/f|3\n",
-    ),
+    ("logs", "o/logs", ""),
+    ("a file in an object", "o/notes", "E001|o/notes|-\n"),
+    ("a version", "o/v1", "listing\n"),
+    ("a file in a version", "o/v1/notes", "E015|o/v1/notes|-\n"),
+    ("a content file", "o/v1/content/f", "ok|o/v1/content/f|3\n"),
 ];
 
 #[test]
 fn entries_are_met_by_the_part_that_they_lie_in(rt: HostRuntime) -> Result<(), Fail> {
-    for (row, directory, name, want) in ENTRIES {
+    for (row, path, want) in ENTRIES {
         let mut store = root(rt.alloc())?;
-        let around = match directory.starts_with("o") {
+        let around = match path.starts_with("o/") {
             true => object(rt.alloc(), &mut store)?,
             false => None,
         };
-        let visit = met(rt.alloc(), &mut store, &around, directory, name)?;
+        let visit = met(rt.alloc(), &mut store, &around, path)?;
         expect_met(&rt, row, &mut store, visit, want)?;
     }
     Ok(())
@@ -141,10 +131,9 @@ fn entries_are_met_by_the_part_that_they_lie_in(rt: HostRuntime) -> Result<(), F
 
 #[test]
 fn meeting_an_object_lists_it_and_reads_its_own_files(rt: HostRuntime) -> Result<(), Fail> {
-    let alloc = rt.alloc();
-    let mut store = root(alloc)?;
-    met(alloc, &mut store, &None, "", "o")?;
-    assert_eq!(rt; listed_from(alloc, &store, 1)?.as_str(), "o;");
+    let mut store = root(rt.alloc())?;
+    met(rt.alloc(), &mut store, &None, "o")?;
+    assert_eq!(rt; listed_from(rt.alloc(), &store, 1)?.as_str(), "o;");
     let opened = "o/0=ocfl_object_1.1;o/inventory.json;o/inventory.json.sha256;";
     expect_opened(&rt, "an object", &store, "", opened)
 }

@@ -1,11 +1,11 @@
 //! Branches and parts on the command line, and splitting.
 
-use super::{fault, read, read_task, usage_text};
+use super::{MOST, expect_split, expect_task, fault, limits, read, read_task, usage_text};
+use crate::common::Runtime;
 use clap::error::ErrorKind;
 use ocfl_deed::Deed;
 use ocfl_line::{Asked, Chosen, Split};
 use std::alloc::{AllocError, Global};
-use std::process::Abort;
 use std::test::Fail;
 
 fn branch(alloc: Global, place: &str) -> Result<Chosen, AllocError> {
@@ -17,21 +17,8 @@ fn part(alloc: Global, number: usize) -> Result<Chosen, AllocError> {
     Ok(Chosen::Part { parts, number })
 }
 
-fn listing(alloc: Global, count: usize) -> Result<Split, AllocError> {
-    let root = String::from_str(alloc, "R")?;
-    Ok(Split::Listing { count, root })
-}
-
-fn report(alloc: Global, budget: u64) -> Result<Split, AllocError> {
-    let report = String::from_str(alloc, "P")?;
-    Ok(Split::Report { budget, report })
-}
-
-/// Asserts that each line, after its name, has a fault of usage of this kind.
-fn each_has_fault<R>(rt: &R, kind: ErrorKind, rows: &[(&str, &str)])
-where
-    R: Abort + AllocGlobal,
-{
+/// Each line, after its name, has a fault of usage of this kind.
+fn each_has_fault(rt: &impl Runtime, kind: ErrorKind, rows: &[(&str, &str)]) {
     for &(name, line) in rows {
         assert_eq!(rt; fault(rt.alloc(), line), Some(kind), "{name}");
     }
@@ -82,41 +69,39 @@ fn chooses_items(rt: HostRuntime) -> Result<(), Fail> {
 
 #[test]
 fn takes_a_part_with_its_deed(rt: HostRuntime) -> Result<(), Fail> {
-    let alloc = rt.alloc();
-    let audit = read_task(alloc, "audit --parts F --part 1 R")?;
-    assert_eq!(rt; audit.deed, Deed::Audit);
-    assert!(rt; audit.root.as_deref() == Some("R") && audit.file.is_none());
-    let run = read_task(
-        alloc,
-        "run --cursor C --budget 1 --parts F --part 2 --quiet R",
-    )?;
-    assert!(rt; matches!(run.deed, Deed::Run(_)) && run.quiet);
-    assert!(rt; run.root.as_deref() == Some("R") && run.file.as_deref() == Some("C"));
+    let line = "audit --parts F --part 1 R";
+    expect_task(&rt, "an audit", line, (Deed::Audit, Some("R"), None))?;
+    let line = "run --cursor C --budget 1 --parts F --part 2 --quiet R";
+    let wanted = (Deed::Run(limits(1, MOST)?), Some("R"), Some("C"));
+    let run = expect_task(&rt, "a run", line, wanted)?;
+    assert!(rt; run.quiet);
     Ok(())
 }
 
+/// Lines that choose half a part, or a part and a branch.
+const HALF_PARTS: [(&str, &str); 7] = [
+    ("no number", "audit --parts F R"),
+    ("no file", "audit --part 1 R"),
+    (
+        "a branch and a part",
+        "audit --under o --parts F --part 1 R",
+    ),
+    ("a branch and a file", "audit --under o --parts F R"),
+    ("a branch and a number", "audit --under o --part 1 R"),
+    (
+        "a run without a number",
+        "run --cursor C --budget 1 --parts F R",
+    ),
+    (
+        "a run without a file",
+        "run --cursor C --budget 1 --part 1 R",
+    ),
+];
+
 #[test]
 fn refuses_half_a_part(rt: HostRuntime) -> Result<(), Fail> {
-    let rows = [
-        ("no number", "audit --parts F R"),
-        ("no file", "audit --part 1 R"),
-        (
-            "a branch and a part",
-            "audit --under o --parts F --part 1 R",
-        ),
-        ("a branch and a file", "audit --under o --parts F R"),
-        ("a branch and a number", "audit --under o --part 1 R"),
-        (
-            "a run without a number",
-            "run --cursor C --budget 1 --parts F R",
-        ),
-        (
-            "a run without a file",
-            "run --cursor C --budget 1 --part 1 R",
-        ),
-    ];
-    each_has_fault(&rt, ErrorKind::ValueValidation, &rows);
-    for (name, line) in rows {
+    each_has_fault(&rt, ErrorKind::ValueValidation, &HALF_PARTS);
+    for (name, line) in HALF_PARTS {
         let usage = if line.starts_with("audit") {
             "audit [OPTIONS] <ROOT>"
         } else {
@@ -138,103 +123,103 @@ fn refuses_half_a_part(rt: HostRuntime) -> Result<(), Fail> {
 
 #[test]
 fn refuses_other_part_numbers(rt: HostRuntime) {
-    let rows = [
-        ("none", "audit --parts F --part 0 R"),
-        ("one too many", "audit --parts F --part 100002 R"),
-        ("no number", "audit --parts F --part x R"),
-        (
-            "none of a run",
-            "run --cursor C --budget 1 --parts F --part 0 R",
-        ),
-        (
-            "of a unit",
-            "run --cursor C --budget 1 --parts F --part 1K R",
-        ),
-    ];
-    each_has_fault(&rt, ErrorKind::ValueValidation, &rows);
+    each_has_fault(
+        &rt,
+        ErrorKind::ValueValidation,
+        &[
+            ("none", "audit --parts F --part 0 R"),
+            ("one too many", "audit --parts F --part 100002 R"),
+            ("no number", "audit --parts F --part x R"),
+            (
+                "none of a run",
+                "run --cursor C --budget 1 --parts F --part 0 R",
+            ),
+            (
+                "of a unit",
+                "run --cursor C --budget 1 --parts F --part 1K R",
+            ),
+        ],
+    );
 }
 
 #[test]
 fn has_parts_only_where_they_are_taken(rt: HostRuntime) {
-    let rows = [
-        ("a branch of a run", "run --cursor C --budget 1 --under o R"),
-        (
-            "a part of a cycle",
-            "cycle --budget 1 --runs 1 --parts F --part 1 R",
-        ),
-        ("a part of a check", "check --parts F --part 1 R o"),
-        ("a branch of a check", "check --under o R o"),
-        ("a part of a cursor", "show --parts F --part 1 C"),
-        ("a number to split", "split --part 1 R"),
-        ("a branch to split", "split --parts 2 --under o R"),
-    ];
-    each_has_fault(&rt, ErrorKind::UnknownArgument, &rows);
-    let rows = [
-        ("two branches", "audit --under o --under p R"),
-        ("two files", "audit --parts F --parts G --part 1 R"),
-        ("two numbers", "audit --parts F --part 1 --part 2 R"),
-        ("two counts", "split --parts 1 --parts 2 R"),
-    ];
-    each_has_fault(&rt, ErrorKind::ArgumentConflict, &rows);
+    each_has_fault(
+        &rt,
+        ErrorKind::UnknownArgument,
+        &[
+            ("a branch of a run", "run --cursor C --budget 1 --under o R"),
+            (
+                "a part of a cycle",
+                "cycle --budget 1 --runs 1 --parts F --part 1 R",
+            ),
+            ("a part of a check", "check --parts F --part 1 R o"),
+            ("a branch of a check", "check --under o R o"),
+            ("a part of a cursor", "show --parts F --part 1 C"),
+            ("a number to split", "split --part 1 R"),
+            ("a branch to split", "split --parts 2 --under o R"),
+        ],
+    );
+    each_has_fault(
+        &rt,
+        ErrorKind::ArgumentConflict,
+        &[
+            ("two branches", "audit --under o --under p R"),
+            ("two files", "audit --parts F --parts G --part 1 R"),
+            ("two numbers", "audit --parts F --part 1 --part 2 R"),
+            ("two counts", "split --parts 1 --parts 2 R"),
+        ],
+    );
 }
 
 #[test]
 fn splits_by_either(rt: HostRuntime) -> Result<(), Fail> {
-    let alloc = rt.alloc();
-    for (name, line, wanted) in [
-        ("into one", "split --parts 1 R", listing(alloc, 1)?),
-        (
-            "into the most",
-            "split R --parts 100000",
-            listing(alloc, 100000)?,
-        ),
-        (
-            "by the least budget",
-            "split --budget 1 --report P",
-            report(alloc, 1)?,
-        ),
-        (
-            "by a unit",
-            "split --report P --budget 10G",
-            report(alloc, 10737418240)?,
-        ),
-        (
-            "by the most",
-            "split --report P --budget 4194304T",
-            report(alloc, 1 << 62)?,
-        ),
+    for (name, line, count) in [
+        ("into one", "split --parts 1 R", 1),
+        ("into the most", "split R --parts 100000", 100000),
     ] {
-        assert_eq!(rt; read(alloc, line)?, Asked::Split(wanted), "{name}");
+        let root = String::from_str(rt.alloc(), "R")?;
+        let wanted = Asked::Split(Split::Listing { count, root });
+        assert_eq!(rt; read(rt.alloc(), line)?, wanted, "{name}");
+    }
+    for (name, line, budget) in [
+        ("by the least budget", "split --budget 1 --report P", 1),
+        ("by a unit", "split --report P --budget 10G", 10737418240),
+        ("by the most", "split --report P --budget 4194304T", 1 << 62),
+    ] {
+        expect_split(&rt, name, line, budget)?;
     }
     Ok(())
 }
 
+/// Lines that split by neither, by half of one, or by both.
+const OTHER_SPLITS: [(&str, &str); 12] = [
+    ("neither", "split"),
+    ("only a folder", "split R"),
+    ("no folder", "split --parts 3"),
+    ("no report", "split --budget 1"),
+    ("no budget", "split --report P"),
+    ("a budget of a folder", "split --budget 1 R"),
+    ("a report of a folder", "split --report P R"),
+    ("a count and a budget", "split --parts 3 --budget 1 R"),
+    ("a count and a report", "split --parts 3 --report P R"),
+    (
+        "a count in place of a folder",
+        "split --parts 3 --budget 1 --report P",
+    ),
+    ("a report and a folder", "split --budget 1 --report P R"),
+    ("both", "split --parts 3 --budget 1 --report P R"),
+];
+
 #[test]
 fn refuses_other_splits(rt: HostRuntime) -> Result<(), Fail> {
-    let rows = [
-        ("neither", "split"),
-        ("only a folder", "split R"),
-        ("no folder", "split --parts 3"),
-        ("no report", "split --budget 1"),
-        ("no budget", "split --report P"),
-        ("a budget of a folder", "split --budget 1 R"),
-        ("a report of a folder", "split --report P R"),
-        ("a count and a budget", "split --parts 3 --budget 1 R"),
-        ("a count and a report", "split --parts 3 --report P R"),
-        (
-            "a count in place of a folder",
-            "split --parts 3 --budget 1 --report P",
-        ),
-        ("a report and a folder", "split --budget 1 --report P R"),
-        ("both", "split --parts 3 --budget 1 --report P R"),
-    ];
-    each_has_fault(&rt, ErrorKind::ValueValidation, &rows);
+    each_has_fault(&rt, ErrorKind::ValueValidation, &OTHER_SPLITS);
     let wanted = "error: 'split' takes either '--parts <COUNT>' and '<ROOT>', \
                   or '--budget <N>' and '--report <FILE>'\n\n\
                   Usage: ocfl-scrub split --parts <COUNT> <ROOT>\n       \
                   ocfl-scrub split --budget <N> --report <FILE>\n\n\
                   For more information, try '--help'.\n";
-    for (name, line) in rows {
+    for (name, line) in OTHER_SPLITS {
         assert_eq!(rt; usage_text(rt.alloc(), line)?.as_str(), wanted, "{name}");
     }
     Ok(())
@@ -242,18 +227,21 @@ fn refuses_other_splits(rt: HostRuntime) -> Result<(), Fail> {
 
 #[test]
 fn refuses_other_counts_and_budgets(rt: HostRuntime) {
-    let rows = [
-        ("into none", "split --parts 0 R"),
-        ("into one too many", "split --parts 100001 R"),
-        ("into a word", "split --parts x R"),
-        ("by nothing", "split --budget 0 --report P"),
-        (
-            "by too much",
-            "split --budget 4611686018427387905 --report P",
-        ),
-        ("by a part of a unit", "split --budget 1Ki --report P"),
-    ];
-    each_has_fault(&rt, ErrorKind::ValueValidation, &rows);
+    each_has_fault(
+        &rt,
+        ErrorKind::ValueValidation,
+        &[
+            ("into none", "split --parts 0 R"),
+            ("into one too many", "split --parts 100001 R"),
+            ("into a word", "split --parts x R"),
+            ("by nothing", "split --budget 0 --report P"),
+            (
+                "by too much",
+                "split --budget 4611686018427387905 --report P",
+            ),
+            ("by a part of a unit", "split --budget 1Ki --report P"),
+        ],
+    );
 }
 
 #[test]

@@ -1,7 +1,6 @@
 //! Sizes on a command line: what each text says, and what is refused.
-use super::{MOST, fault, is_run, limits, read, usage_text, words_fault};
+use super::{MOST, expect_run, expect_split, fault, limits, usage_text, words_fault};
 use clap::error::ErrorKind;
-use ocfl_line::{Asked, Split};
 use std::test::Fail;
 
 /// Texts of sizes, each with a name and the number that it says.
@@ -95,40 +94,36 @@ const REFUSED: &[(&str, &str)] = &[
     ("a digit that is not ASCII", "\u{0661}"),
 ];
 
-#[test]
-fn reads_sizes_of_budgets(rt: HostRuntime) -> Result<(), Fail> {
-    let alloc = rt.alloc();
-    for &(name, text, number) in SIZES {
-        let line = format!(in alloc; "run --cursor F --budget {text} R")?;
-        let as_wanted = is_run(alloc, line.as_str(), limits(number, MOST)?)?;
-        assert!(rt; as_wanted, "{name}");
+/// Reads each of the sizes in a line.
+fn each_size(read: impl Fn(&str, &str, u64) -> Result<(), Fail>) -> Result<(), Fail> {
+    for (name, text, number) in SIZES {
+        read(name, text, *number)?;
     }
     Ok(())
+}
+
+#[test]
+fn reads_sizes_of_budgets(rt: HostRuntime) -> Result<(), Fail> {
+    each_size(|name, text, number| {
+        let line = format!(in rt.alloc(); "run --cursor F --budget {text} R")?;
+        expect_run(&rt, name, line.as_str(), limits(number, MOST)?)
+    })
 }
 
 #[test]
 fn reads_sizes_of_file_limits(rt: HostRuntime) -> Result<(), Fail> {
-    let alloc = rt.alloc();
-    for &(name, text, number) in SIZES {
-        let line = format!(in alloc; "run --cursor F --budget 9 --files {text} R")?;
-        let as_wanted = is_run(alloc, line.as_str(), limits(9, number)?)?;
-        assert!(rt; as_wanted, "{name}");
-    }
-    Ok(())
+    each_size(|name, text, number| {
+        let line = format!(in rt.alloc(); "run --cursor F --budget 9 --files {text} R")?;
+        expect_run(&rt, name, line.as_str(), limits(9, number)?)
+    })
 }
 
 #[test]
 fn reads_sizes_of_parts(rt: HostRuntime) -> Result<(), Fail> {
-    let alloc = rt.alloc();
-    for &(name, text, number) in SIZES {
-        let line = format!(in alloc; "split --budget {text} --report P")?;
-        let wanted = Asked::Split(Split::Report {
-            budget: number,
-            report: String::from_str(alloc, "P")?,
-        });
-        assert!(rt; read(alloc, line.as_str())? == wanted, "{name}");
-    }
-    Ok(())
+    each_size(|name, text, number| {
+        let line = format!(in rt.alloc(); "split --budget {text} --report P")?;
+        expect_split(&rt, name, line.as_str(), number)
+    })
 }
 
 #[test]
@@ -161,42 +156,44 @@ fn refuses_what_is_no_size(rt: HostRuntime) {
     assert_eq!(rt; negative, Some(ErrorKind::UnknownArgument));
 }
 
+/// Lines with a bad size, what they say it is of, and the usage that they show.
+const BAD_SIZES: [(&str, &str, &str); 5] = [
+    (
+        "run --cursor F --budget 10x R",
+        "'10x' for '--budget <N>'",
+        "run [OPTIONS] --cursor <FILE> --budget <N> <ROOT>",
+    ),
+    (
+        "run --cursor F --budget 1 --files 5Ki R",
+        "'5Ki' for '--files <N>'",
+        "run [OPTIONS] --cursor <FILE> --budget <N> <ROOT>",
+    ),
+    (
+        "cycle --budget 1.5G --runs 2 R",
+        "'1.5G' for '--budget <N>'",
+        "cycle [OPTIONS] --budget <N> --runs <COUNT> <ROOT>",
+    ),
+    (
+        "cycle --budget 1 --files 0 --runs 2 R",
+        "'0' for '--files <N>'",
+        "cycle [OPTIONS] --budget <N> --runs <COUNT> <ROOT>",
+    ),
+    (
+        "split --budget= --report P",
+        "'' for '--budget <N>'",
+        "split --parts <COUNT> <ROOT>\n       ocfl-scrub split --budget <N> --report <FILE>",
+    ),
+];
+
 #[test]
 fn says_what_a_size_is(rt: HostRuntime) -> Result<(), Fail> {
-    let alloc = rt.alloc();
-    for (line, value, usage) in [
-        (
-            "run --cursor F --budget 10x R",
-            "'10x' for '--budget <N>'",
-            "run [OPTIONS] --cursor <FILE> --budget <N> <ROOT>",
-        ),
-        (
-            "run --cursor F --budget 1 --files 5Ki R",
-            "'5Ki' for '--files <N>'",
-            "run [OPTIONS] --cursor <FILE> --budget <N> <ROOT>",
-        ),
-        (
-            "cycle --budget 1.5G --runs 2 R",
-            "'1.5G' for '--budget <N>'",
-            "cycle [OPTIONS] --budget <N> --runs <COUNT> <ROOT>",
-        ),
-        (
-            "cycle --budget 1 --files 0 --runs 2 R",
-            "'0' for '--files <N>'",
-            "cycle [OPTIONS] --budget <N> --runs <COUNT> <ROOT>",
-        ),
-        (
-            "split --budget= --report P",
-            "'' for '--budget <N>'",
-            "split --parts <COUNT> <ROOT>\n       ocfl-scrub split --budget <N> --report <FILE>",
-        ),
-    ] {
-        let wanted = format!(in alloc;
+    for (line, value, usage) in BAD_SIZES {
+        let wanted = format!(in rt.alloc();
             "error: invalid value {value}: N is 1 to 4611686018427387904, as digits alone or with \
              K, M, G, T, KiB, MiB, GiB or TiB (powers of 1024), or kB, MB, GB or TB (powers of \
              1000)\n\nUsage: ocfl-scrub {usage}\n\nFor more information, try '--help'.\n"
         )?;
-        let shown = usage_text(alloc, line)?;
+        let shown = usage_text(rt.alloc(), line)?;
         assert_eq!(rt; shown.as_str(), wanted.as_str(), "{line}");
     }
     Ok(())

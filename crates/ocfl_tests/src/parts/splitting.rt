@@ -1,5 +1,5 @@
 //! Reports, and the separators that cut them into parts of about one cost.
-use crate::common::input::{Slow, Then, failures};
+use crate::common::input::{Slow, Then, expect_failures};
 use crate::common::store::place_of;
 use crate::parts::text_of;
 use ocfl_parts::{SplitStop, split_by};
@@ -146,31 +146,26 @@ fn separators_have_a_limit(rt: HostRuntime) -> Result<(), Fail> {
     Ok(())
 }
 
-/// What splitting a report of these bytes stops with, where its reader then fails so.
-fn failed_stop(alloc: Global, text: &str, kind: ErrorKind) -> Result<Option<SplitStop>, Fail> {
-    let (left, then) = (text.as_bytes(), Then::Fails(kind));
-    let mut reader = BufReader::new(alloc, Slow { left, then })?;
+/// What splitting a report stops with that is read so.
+fn read_stop(alloc: Global, slow: Slow<'_>) -> Result<Option<SplitStop>, Fail> {
+    let mut reader = BufReader::new(alloc, slow)?;
     Ok(split_by(alloc, &mut reader, 1).err())
 }
 
 #[test]
 fn failing_reports_are_told(rt: HostRuntime) -> Result<(), Fail> {
-    for (row, kind, wanted) in failures(SplitStop::Read, SplitStop::Memory) {
-        for (lines, text) in [
-            ("a line", "ok\ta\t3\n"),
-            ("a line and a half", "ok\ta\t3\nok"),
-            ("nothing", ""),
-        ] {
-            let stop = failed_stop(rt.alloc(), text, kind)?;
-            assert_eq!(rt; stop, Some(wanted), "{row} after {lines}");
-        }
-    }
+    let alloc = rt.alloc();
+    let given = [
+        ("a line", b"ok\ta\t3\n".as_slice()),
+        ("a line and a half", b"ok\ta\t3\nok"),
+        ("nothing", b""),
+    ];
+    let stops = (SplitStop::Read, SplitStop::Memory);
+    expect_failures(&rt, &given, stops, |slow| read_stop(alloc, slow))?;
     // A line that is bad comes before the failure behind it.
-    let stop = failed_stop(
-        rt.alloc(),
-        "ok\tb\t3\nok\ta\t3\n",
-        ErrorKind::PermissionDenied,
-    )?;
+    let left = b"ok\tb\t3\nok\ta\t3\n";
+    let then = Then::Fails(ErrorKind::PermissionDenied);
+    let stop = read_stop(alloc, Slow { left, then })?;
     assert_eq!(rt; stop, Some(SplitStop::Line(2)));
     Ok(())
 }

@@ -1,14 +1,16 @@
 //! Checks of content places.
 use super::expected::{FILE_IS_OK, expect};
+use crate::common::Runtime;
 use crate::common::digests::with_digests;
-use crate::common::object::{FILE, inventory, long_sidecar, object_with};
+use crate::common::object::{FILE, NO_FILE, inventory, long_sidecar, object_with};
 use crate::common::output::Narrow;
 use crate::common::roots::{right_object, under_four_algorithms};
 use crate::common::store::{change, place_of, times_opened, was_not_called};
 use ocfl_digest::Block;
 use ocfl_folder::FsTree;
 use ocfl_scrub::checked;
-use ocfl_tree::Point;
+use ocfl_tree::{MemTree, Point};
+use std::alloc::Global;
 use std::fs;
 use std::test::Fail;
 
@@ -18,214 +20,177 @@ const BY_SHA512: &str =
 const DATA: &str =
     r#""digestAlgorithm":"sha256","contentDirectory":"data","manifest":{"ABC_SHA256":["v1/data/f"]}"#;
 
+/// All that names an empty file.
+const BY_FIVE: &str =
+    r#""digestAlgorithm":"sha256","manifest":{"NOTHING_SHA256":["v1/content/f"]},"fixity":{"md5":{"NOTHING_MD5":["v1/content/f"]},"sha1":{"NOTHING_SHA1":["v1/content/f"]},"sha512":{"NOTHING_SHA512":["v1/content/f"]},"sha512/256":{"NOTHING_SHA512/256":["v1/content/f"]}}"#;
+
 const TWO_DIGESTS_AND_FIXITY: &str =
     r#""digestAlgorithm":"sha256","manifest":{"NOTHING_SHA256":["v1/content/f"],"ABC_SHA256":["v1/content/f"]},"fixity":{"md5":{"NOTHING_MD5":["v1/content/f"]}}"#;
 
-/// A name, the members of an inventory, what is changed in the object with it and the file `f`, the
-/// path that is checked, its text, the status, and how often the path is opened. Where there is no
-/// text there is no item.
-type Check = (
-    &'static str,
-    &'static str,
-    &'static [(&'static str, &'static str)],
-    &'static str,
-    &'static str,
-    u8,
-    usize,
-);
-
-const CHECKS: [Check; 21] = [
-    ("a right file", BY_SHA512, &[], FILE, FILE_IS_OK, 0, 1),
+/// Inventories of an object, by their members, and what checking its file `f` writes and ends with.
+const LISTED: [(&str, &str, &str, u8); 7] = [
     (
         "a digest in capitals",
         r#""digestAlgorithm":"sha512","manifest":{"ABC_LONG_CAPITALS":["v1/content/f"]}"#,
-        &[],
-        FILE,
         FILE_IS_OK,
         0,
-        1,
-    ),
-    (
-        "an empty file",
-        BY_SHA512,
-        &[(FILE, "")],
-        FILE,
-        "E092|o/v1/content/f|sha512 ABC_SHA512 NOTHING_SHA512\n",
-        1,
-        1,
-    ),
-    // what nothing names
-    (
-        "a file that nothing names",
-        BY_SHA512,
-        &[("o/v1/content/g", "abc")],
-        "o/v1/content/g",
-        "E023|o/v1/content/g|-\n",
-        1,
-        0,
-    ),
-    (
-        "a path that nothing names",
-        BY_SHA512,
-        &[],
-        "o/v1/content/h",
-        "",
-        0,
-        0,
-    ),
-    ("no object", BY_SHA512, &[("-o", "")], FILE, "", 0, 0),
-    // heads that stop, and a wrong sidecar, which does not matter
-    (
-        "an inventory that is no JSON",
-        BY_SHA512,
-        &[("o/inventory.json", "abc")],
-        FILE,
-        "",
-        0,
-        0,
-    ),
-    (
-        "no algorithm",
-        BY_SHA512,
-        &[("o/inventory.json", "{}")],
-        FILE,
-        "",
-        0,
-        0,
-    ),
-    (
-        "no inventory",
-        BY_SHA512,
-        &[("-o/inventory.json", "")],
-        FILE,
-        "",
-        0,
-        0,
-    ),
-    (
-        "a wrong sidecar",
-        BY_SHA512,
-        &[("o/inventory.json.sha512", "wrong")],
-        FILE,
-        FILE_IS_OK,
-        0,
-        1,
     ),
     // fixity is compared too
     (
         "one wrong digest in fixity",
         r#""digestAlgorithm":"sha512","manifest":{"ABC_SHA512":["v1/content/f"]},"fixity":{"md5":{"NOTHING_MD5":["v1/content/f"]},"sha512/256":{"ABC_SHA512/256":["v1/content/f"]}}"#,
-        &[],
-        FILE,
         "E093|o/v1/content/f|md5 NOTHING_MD5 ABC_MD5\n",
-        1,
         1,
     ),
     (
         "fixity alone names the file",
         r#""digestAlgorithm":"sha256","manifest":{},"fixity":{"md5":{"ABC_MD5":["v1/content/f"]}}"#,
-        &[],
-        FILE,
         "E023|o/v1/content/f|-\n",
-        1,
         1,
     ),
     (
         "two digests, one of them wrong, and fixity",
         TWO_DIGESTS_AND_FIXITY,
-        &[],
-        FILE,
         "E092|o/v1/content/f|sha256 NOTHING_SHA256 ABC_SHA256\nE093|o/v1/content/f|md5 NOTHING_MD5 ABC_MD5\n",
-        1,
         1,
     ),
     // the fifth algorithm
     (
         "a right sha512/256",
         r#""digestAlgorithm":"sha256","manifest":{"ABC_SHA256":["v1/content/f"]},"fixity":{"sha512/256":{"ABC_SHA512/256":["v1/content/f"]}}"#,
-        &[],
-        FILE,
         FILE_IS_OK,
         0,
-        1,
     ),
     (
         "a wrong sha512/256",
         r#""digestAlgorithm":"sha256","manifest":{"ABC_SHA256":["v1/content/f"]},"fixity":{"sha512/256":{"ABC_SHA256":["v1/content/f"]}}"#,
-        &[],
-        FILE,
         "E093|o/v1/content/f|sha512/256 ABC_SHA256 ABC_SHA512/256\n",
-        1,
-        1,
-    ),
-    (
-        "an empty file under five algorithms",
-        r#""digestAlgorithm":"sha256","manifest":{"NOTHING_SHA256":["v1/content/f"]},"fixity":{"md5":{"NOTHING_MD5":["v1/content/f"]},"sha1":{"NOTHING_SHA1":["v1/content/f"]},"sha512":{"NOTHING_SHA512":["v1/content/f"]},"sha512/256":{"NOTHING_SHA512/256":["v1/content/f"]}}"#,
-        &[(FILE, "")],
-        FILE,
-        "ok|o/v1/content/f|0\n",
-        0,
         1,
     ),
     (
         "sha512/256 alone",
         r#""digestAlgorithm":"sha256","manifest":{},"fixity":{"sha512/256":{"ABC_SHA512/256":["v1/content/f"]}}"#,
-        &[],
-        FILE,
         "E023|o/v1/content/f|-\n",
         1,
-        1,
     ),
-    // another content directory
-    ("another content directory", DATA, &[], FILE, "", 0, 0),
+];
+
+/// What is changed in an object by sha512; the path that is checked, its text, the status, and how
+/// often the path is opened.
+type Changed = (
+    &'static str,
+    &'static [(&'static str, &'static str)],
+    &'static str,
+    &'static str,
+    (u8, usize),
+);
+
+const CHANGED: [Changed; 6] = [
+    ("a right file", &[], FILE, FILE_IS_OK, (0, 1)),
     (
-        "a file in another content directory",
-        DATA,
-        &[("o/v1/data/f", "abc")],
-        "o/v1/data/f",
-        "ok|o/v1/data/f|3\n",
-        0,
-        1,
+        "an empty file",
+        &[(FILE, "")],
+        FILE,
+        "E092|o/v1/content/f|sha512 ABC_SHA512 NOTHING_SHA512\n",
+        (1, 1),
     ),
-    // an inventory without a sidecar, and a path of another kind of place
+    (
+        "a file that nothing names",
+        &[("o/v1/content/g", "abc")],
+        "o/v1/content/g",
+        "E023|o/v1/content/g|-\n",
+        (1, 0),
+    ),
+    (
+        "a wrong sidecar",
+        &[("o/inventory.json.sha512", "wrong")],
+        FILE,
+        FILE_IS_OK,
+        (0, 1),
+    ),
     (
         "no sidecar",
-        BY_SHA512,
         &[("-o/inventory.json.sha256", "")],
         FILE,
         FILE_IS_OK,
-        0,
-        1,
+        (0, 1),
     ),
-    ("the storage root", BY_SHA512, &[], ".", "ok|.|-\n", 0, 0),
+    ("the storage root", &[], ".", "ok|.|-\n", (0, 0)),
 ];
 
-#[test]
-fn content_places(rt: HostRuntime) -> Result<(), Fail> {
-    for (row, members, changes, path, text, status, opened) in CHECKS {
-        let mut store = object_with(rt.alloc(), inventory(rt.alloc(), members)?.as_str())?;
-        change(rt.alloc(), &mut store, changes)?;
-        let note = if text.is_empty() { "no item" } else { "" };
-        expect(&rt, row, &mut store, path, text, status, note)?;
-        assert_eq!(rt; times_opened(rt.alloc(), &store, path)?, opened, "{row}");
-    }
+/// Paths without an item: a name, the members of an inventory, what is changed, and the path.
+const NO_ITEM: [(&str, &str, &[(&str, &str)], &str); 6] = [
+    (
+        "a path that nothing names",
+        BY_SHA512,
+        &[],
+        "o/v1/content/h",
+    ),
+    ("no object", BY_SHA512, &[("-o", "")], FILE),
+    // heads that stop
+    (
+        "an inventory that is no JSON",
+        BY_SHA512,
+        &[("o/inventory.json", "abc")],
+        FILE,
+    ),
+    (
+        "no algorithm",
+        BY_SHA512,
+        &[("o/inventory.json", "{}")],
+        FILE,
+    ),
+    (
+        "no inventory",
+        BY_SHA512,
+        &[("-o/inventory.json", "")],
+        FILE,
+    ),
+    ("another content directory", DATA, &[], FILE),
+];
+
+/// An object whose inventory has these members, and the file `f`, with these changes.
+fn object_by(alloc: Global, members: &str, changes: &[(&str, &str)]) -> Result<MemTree, Fail> {
+    let mut store = object_with(alloc, inventory(alloc, members)?.as_str())?;
+    change(alloc, &mut store, changes)?;
+    Ok(store)
+}
+
+/// Checking the path in that object writes this text, ends with this status and this note, and
+/// opens the path so often.
+fn expect_check(
+    rt: &impl Runtime,
+    row: &str,
+    (members, changes): (&str, &[(&str, &str)]),
+    path: &str,
+    (text, status, note): (&str, u8, &str),
+    opened: usize,
+) -> Result<(), Fail> {
+    let mut store = object_by(rt.alloc(), members, changes)?;
+    expect(rt, row, &mut store, path, text, status, note)?;
+    assert_eq!(rt; times_opened(rt.alloc(), &store, path)?, opened, "{row}");
     Ok(())
 }
 
-/// What else may lie where the file is listed, and the first line then.
-const NO_FILE: [(&str, &[(&str, &str)], &str); 3] = [
-    ("nothing", &[], ""),
-    (
-        "a link",
-        &[("o/v1/content/f@", "")],
-        "S04|o/v1/content/f|-\n",
-    ),
-    (
-        "a directory",
-        &[("o/v1/content/f/", "")],
-        "E024|o/v1/content/f|-\n",
-    ),
-];
+#[test]
+fn content_places(rt: HostRuntime) -> Result<(), Fail> {
+    for (row, members, text, status) in LISTED {
+        expect_check(&rt, row, (members, &[]), FILE, (text, status, ""), 1)?;
+    }
+    for (row, changes, path, text, (status, opened)) in CHANGED {
+        let object = (BY_SHA512, changes);
+        expect_check(&rt, row, object, path, (text, status, ""), opened)?;
+    }
+    for (row, members, changes, path) in NO_ITEM {
+        expect_check(&rt, row, (members, changes), path, ("", 0, "no item"), 0)?;
+    }
+    let (row, empty) = ("an empty file under five algorithms", (FILE, ""));
+    let wanted = ("ok|o/v1/content/f|0\n", 0, "");
+    expect_check(&rt, row, (BY_FIVE, &[empty]), FILE, wanted, 1)?;
+    let (row, path) = ("a file in another content directory", "o/v1/data/f");
+    let wanted = ("ok|o/v1/data/f|3\n", 0, "");
+    expect_check(&rt, row, (DATA, &[(path, "abc")]), path, wanted, 1)
+}
 
 #[test]
 fn what_is_no_file(rt: HostRuntime) -> Result<(), Fail> {
@@ -243,8 +208,7 @@ fn what_is_no_file(rt: HostRuntime) -> Result<(), Fail> {
     ] {
         for (there, changes, line) in NO_FILE {
             let row = format!(in rt.alloc(); "{there} under {listed}")?;
-            let mut store = object_with(rt.alloc(), inventory(rt.alloc(), members)?.as_str())?;
-            store.remove(&place_of(rt.alloc(), FILE)?)?;
+            let mut store = object_by(rt.alloc(), members, &[("-o/v1/content/f", "")])?;
             change(rt.alloc(), &mut store, changes)?;
             let text = format!(in rt.alloc(); "{line}{missing}")?;
             expect(&rt, row.as_str(), &mut store, FILE, text.as_str(), 1, "")?;

@@ -15,7 +15,7 @@ pub(crate) const FILE_IS_OK: &str = "ok|o/v1/content/f|3\n";
 pub(crate) const HEADS: &str = "ok|.|-\nok|o|-\n";
 
 /// What was written is this text, and the status and the note are these.
-fn expect_said(
+pub(crate) fn expect_said(
     rt: &impl Runtime,
     out: Vec<u8>,
     got: (u8, Note),

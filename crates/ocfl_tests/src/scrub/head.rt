@@ -3,7 +3,7 @@
 use super::expected::{FILE_IS_OK, GOES_ON, STOPS, expect, expect_audit, expect_head, finds};
 use crate::common::Runtime;
 use crate::common::object::{
-    DECLARATION, INVENTORY, LONG_SIDECAR, SHORT_SIDECAR, inventory, listing, long_sidecar,
+    DECLARATION, INVENTORY, LISTS_F, LONG_SIDECAR, SHORT_SIDECAR, inventory, listing, long_sidecar,
     object_with, short_digits,
 };
 use crate::common::roots::right_object;
@@ -24,230 +24,237 @@ fn right_object_without_reading_content(rt: HostRuntime) -> Result<(), Fail> {
     expect_head(&rt, "a right object", &mut store, "ok|o|-\n", GOES_ON)
 }
 
-/// A name, what is changed in the root of a right object, the lines of its head then, and what
-/// checking its content writes.
-type Head = (
-    &'static str,
-    &'static [(&'static str, &'static str)],
+/// The lines of a head, what checking its content writes, and what is changed in the root of a right
+/// object so that it has them, each with a name.
+type Heads = (
     &'static str,
     Option<&'static str>,
+    &'static [(&'static str, &'static [(&'static str, &'static str)])],
 );
 
 /// Heads of objects.
-const HEADS: [Head; 25] = [
-    // declarations that are not exact, and those of the older version
+const HEADS: [Heads; 14] = [
+    // declarations that are not exact
     (
-        "an empty declaration",
-        &[(DECLARATION, "")],
         "E007|o|-\n",
         GOES_ON,
-    ),
-    (
-        "a declaration without its line feed",
-        &[(DECLARATION, "ocfl_object_1.1")],
-        "E007|o|-\n",
-        GOES_ON,
-    ),
-    (
-        "a declaration of another version",
-        &[(DECLARATION, "ocfl_object_1.0\n")],
-        "E007|o|-\n",
-        GOES_ON,
-    ),
-    (
-        "a declaration with a carriage return",
-        &[(DECLARATION, "ocfl_object_1.1\r\n")],
-        "E007|o|-\n",
-        GOES_ON,
-    ),
-    (
-        "the older version",
         &[
-            ("-o/0=ocfl_object_1.1", ""),
-            ("o/0=ocfl_object_1.0", "ocfl_object_1.0\n"),
+            ("an empty declaration", &[(DECLARATION, "")]),
+            (
+                "a declaration without its line feed",
+                &[(DECLARATION, "ocfl_object_1.1")],
+            ),
+            (
+                "a declaration of another version",
+                &[(DECLARATION, "ocfl_object_1.0\n")],
+            ),
+            (
+                "a declaration with a carriage return",
+                &[(DECLARATION, "ocfl_object_1.1\r\n")],
+            ),
+            (
+                "the older version without its line feed",
+                &[
+                    ("-o/0=ocfl_object_1.1", ""),
+                    ("o/0=ocfl_object_1.0", "ocfl_object_1.0"),
+                ],
+            ),
         ],
+    ),
+    // the older version, what declares no version, and storage roots whose version is known
+    (
         "ok|o|-\n",
         GOES_ON,
-    ),
-    (
-        "the older version without its line feed",
         &[
-            ("-o/0=ocfl_object_1.1", ""),
-            ("o/0=ocfl_object_1.0", "ocfl_object_1.0"),
+            (
+                "the older version",
+                &[
+                    ("-o/0=ocfl_object_1.1", ""),
+                    ("o/0=ocfl_object_1.0", "ocfl_object_1.0\n"),
+                ],
+            ),
+            (
+                "a directory and a link named like declarations",
+                &[("o/0=ocfl_object_1.0/", ""), ("o/0=ocfl_object_2.0@", "")],
+            ),
+            (
+                "a bad declaration of the storage root",
+                &[("0=ocfl_1.1", "ocfl_1.1")],
+            ),
+            (
+                "a storage root of 1.0",
+                &[("-0=ocfl_1.1", ""), ("0=ocfl_1.0", "ocfl_1.0\n")],
+            ),
         ],
-        "E007|o|-\n",
-        GOES_ON,
-    ),
-    // only files declare a version
-    (
-        "a directory and a link named like declarations",
-        &[("o/0=ocfl_object_1.0/", ""), ("o/0=ocfl_object_2.0@", "")],
-        "ok|o|-\n",
-        GOES_ON,
     ),
     // no sidecar, and none of the named algorithm
     (
-        "no sidecar",
-        &[("-o/inventory.json.sha256", "")],
         "E058|o|-\n",
         GOES_ON,
-    ),
-    (
-        "a directory and a link named like sidecars",
         &[
-            ("-o/inventory.json.sha256", ""),
-            ("o/inventory.json.sha256/", ""),
-            ("o/inventory.json.sha512@", ""),
+            ("no sidecar", &[("-o/inventory.json.sha256", "")]),
+            (
+                "a directory and a link named like sidecars",
+                &[
+                    ("-o/inventory.json.sha256", ""),
+                    ("o/inventory.json.sha256/", ""),
+                    ("o/inventory.json.sha512@", ""),
+                ],
+            ),
         ],
-        "E058|o|-\n",
-        GOES_ON,
     ),
     (
-        "a sidecar of another algorithm alone",
-        &[("-o/inventory.json.sha256", ""), (LONG_SIDECAR, "")],
         "E061|o|sha512\nE058|o|sha256\n",
         GOES_ON,
-    ),
-    // storage roots whose version is known
-    (
-        "a bad declaration of the storage root",
-        &[("0=ocfl_1.1", "ocfl_1.1")],
-        "ok|o|-\n",
-        GOES_ON,
-    ),
-    (
-        "a storage root of 1.0",
-        &[("-0=ocfl_1.1", ""), ("0=ocfl_1.0", "ocfl_1.0\n")],
-        "ok|o|-\n",
-        GOES_ON,
+        &[(
+            "a sidecar of another algorithm alone",
+            &[("-o/inventory.json.sha256", ""), (LONG_SIDECAR, "")],
+        )],
     ),
     // no file of the name of an inventory
     (
-        "no inventory",
-        &[("-o/inventory.json", "")],
         "E063|o|-\n",
         STOPS,
-    ),
-    (
-        "a directory named like the inventory",
-        &[("-o/inventory.json", ""), ("o/inventory.json/", "")],
-        "E063|o|-\n",
-        STOPS,
-    ),
-    (
-        "a link named like the inventory",
-        &[("-o/inventory.json", ""), ("o/inventory.json@", "")],
-        "E063|o|-\n",
-        STOPS,
-    ),
-    (
-        "a link for the inventory and a bad declaration",
         &[
-            ("-o/inventory.json", ""),
-            ("o/inventory.json@", ""),
-            (DECLARATION, ""),
+            ("no inventory", &[("-o/inventory.json", "")]),
+            (
+                "a directory named like the inventory",
+                &[("-o/inventory.json", ""), ("o/inventory.json/", "")],
+            ),
+            (
+                "a link named like the inventory",
+                &[("-o/inventory.json", ""), ("o/inventory.json@", "")],
+            ),
         ],
+    ),
+    (
         "E007|o|-\nE063|o|-\n",
         STOPS,
+        &[(
+            "a link for the inventory and a bad declaration",
+            &[
+                ("-o/inventory.json", ""),
+                ("o/inventory.json@", ""),
+                (DECLARATION, ""),
+            ],
+        )],
     ),
     // inventories that are none, with their sidecars
     (
-        "half of an inventory and no sidecar",
-        &[
-            ("-o/inventory.json.sha256", ""),
-            ("o/inventory.json.sha512@", ""),
-            (INVENTORY, "{\"digestAlgorithm\":"),
-        ],
         "E058|o|-\nE033|o|-\n",
         STOPS,
+        &[(
+            "half of an inventory and no sidecar",
+            &[
+                ("-o/inventory.json.sha256", ""),
+                ("o/inventory.json.sha512@", ""),
+                (INVENTORY, "{\"digestAlgorithm\":"),
+            ],
+        )],
     ),
     (
-        "no JSON and a wrong sidecar",
-        &[
-            (INVENTORY, "abc"),
-            (SHORT_SIDECAR, "ZEROS inventory.json\n"),
-        ],
         "E060|o|sha256 ZEROS ABC_SHA256\nE033|o|-\n",
         STOPS,
+        &[(
+            "no JSON and a wrong sidecar",
+            &[
+                (INVENTORY, "abc"),
+                (SHORT_SIDECAR, "ZEROS inventory.json\n"),
+            ],
+        )],
     ),
     (
-        "no algorithm and a right sidecar",
-        &[
-            (INVENTORY, "{}"),
-            (SHORT_SIDECAR, "BRACES_SHA256 inventory.json\n"),
-        ],
         "E036|o|digestAlgorithm\n",
         STOPS,
+        &[
+            (
+                "no algorithm and a right sidecar",
+                &[
+                    (INVENTORY, "{}"),
+                    (SHORT_SIDECAR, "BRACES_SHA256 inventory.json\n"),
+                ],
+            ),
+            (
+                "no algorithm and a sidecar in capitals",
+                &[
+                    (INVENTORY, "{}"),
+                    (SHORT_SIDECAR, "BRACES_CAPITALS inventory.json\n"),
+                ],
+            ),
+        ],
     ),
     (
-        "no algorithm and a sidecar in capitals",
-        &[
-            (INVENTORY, "{}"),
-            (SHORT_SIDECAR, "BRACES_CAPITALS inventory.json\n"),
-        ],
-        "E036|o|digestAlgorithm\n",
-        STOPS,
-    ),
-    (
-        "no algorithm and a wrong sidecar",
-        &[
-            (INVENTORY, "{}"),
-            (SHORT_SIDECAR, "ABC_CAPITALS inventory.json\n"),
-        ],
         "E060|o|sha256 ABC_SHA256 BRACES_SHA256\nE036|o|digestAlgorithm\n",
         STOPS,
+        &[(
+            "no algorithm and a wrong sidecar",
+            &[
+                (INVENTORY, "{}"),
+                (SHORT_SIDECAR, "ABC_CAPITALS inventory.json\n"),
+            ],
+        )],
     ),
     (
-        "no JSON, a bad sidecar and a wrong one",
-        &[
-            (INVENTORY, "abc"),
-            (SHORT_SIDECAR, "abc"),
-            (LONG_SIDECAR, "NOTHING_SHA512 inventory.json\n"),
-        ],
         "E061|o|sha256\nE060|o|sha512 NOTHING_SHA512 ABC_SHA512\nE033|o|-\n",
         STOPS,
+        &[(
+            "no JSON, a bad sidecar and a wrong one",
+            &[
+                (INVENTORY, "abc"),
+                (SHORT_SIDECAR, "abc"),
+                (LONG_SIDECAR, "NOTHING_SHA512 inventory.json\n"),
+            ],
+        )],
     ),
     (
-        "no algorithm and no sidecar",
-        &[(INVENTORY, "{}"), ("-o/inventory.json.sha256", "")],
         "E058|o|-\nE036|o|digestAlgorithm\n",
         STOPS,
+        &[(
+            "no algorithm and no sidecar",
+            &[(INVENTORY, "{}"), ("-o/inventory.json.sha256", "")],
+        )],
     ),
     // the short sidecar before the long one, and many lines in their order
     (
-        "a bad short sidecar and a wrong long one",
-        &[
-            (
-                INVENTORY,
-                "{\"digestAlgorithm\":\"sha512\",\"manifest\":{}}",
-            ),
-            (SHORT_SIDECAR, "abc"),
-            (LONG_SIDECAR, "ABC_SHA512 inventory.json\n"),
-        ],
         "E061|o|sha256\nE060|o|sha512 ABC_SHA512 1fee355098cee18e19b2a9beac6535bed2d76868179d693195ee0968527da477cff7765fa11a35489704a35e3964ff000b461f1fe4dbcbf7d7527ee4c01a2544\n",
         None,
+        &[(
+            "a bad short sidecar and a wrong long one",
+            &[
+                (
+                    INVENTORY,
+                    "{\"digestAlgorithm\":\"sha512\",\"manifest\":{}}",
+                ),
+                (SHORT_SIDECAR, "abc"),
+                (LONG_SIDECAR, "ABC_SHA512 inventory.json\n"),
+            ],
+        )],
     ),
     (
-        "a line of nearly each kind",
-        &[
-            (
-                INVENTORY,
-                r#"{"digestAlgorithm":"sha512","manifest":{"ab":["v1/content/f","/x"],"AB":["v1//f","v1/content/f"]},"fixity":{"crc32":7,"md5":{"cd":["/a"],"CD":["v2"]}}}"#,
-            ),
-            (DECLARATION, "ocfl_object_1.1"),
-            (SHORT_SIDECAR, "ZEROS inventory.json\n"),
-        ],
         "E007|o|-\nE060|o|sha256 ZEROS cd08aa9a85c70c89a256d6fc5e21547dfb0948b017a1dde65f187744033424d5\nE058|o|sha512\nE096|o|ab\nE097|o|md5 cd\nE100|o|/x\nE099|o|v1//f\nE100|o|/a\nS06|o|v2\nE101|o|v1/content/f\nS07|o|crc32\n",
         None,
+        &[(
+            "a line of nearly each kind",
+            &[
+                (
+                    INVENTORY,
+                    r#"{"digestAlgorithm":"sha512","manifest":{"ab":["v1/content/f","/x"],"AB":["v1//f","v1/content/f"]},"fixity":{"crc32":7,"md5":{"cd":["/a"],"CD":["v2"]}}}"#,
+                ),
+                (DECLARATION, "ocfl_object_1.1"),
+                (SHORT_SIDECAR, "ZEROS inventory.json\n"),
+            ],
+        )],
     ),
 ];
 
 #[test]
 fn heads_of_objects(rt: HostRuntime) -> Result<(), Fail> {
-    for (row, changes, lines, content) in HEADS {
-        let mut store = right_object(rt.alloc())?;
-        change(rt.alloc(), &mut store, changes)?;
-        expect_head(&rt, row, &mut store, lines, content)?;
+    for (lines, content, heads) in HEADS {
+        for (row, changes) in heads {
+            let mut store = right_object(rt.alloc())?;
+            change(rt.alloc(), &mut store, changes)?;
+            expect_head(&rt, row, &mut store, lines, content)?;
+        }
     }
     let behind = "\n".repeat(rt.alloc(), 4081)?;
     let long = format!(in rt.alloc(); "ocfl_object_1.1\n{behind}")?;
@@ -306,7 +313,7 @@ fn heads_that_stop_at_declarations(rt: HostRuntime) -> Result<(), Fail> {
 
 /// The root of a right object, its sidecar the right digits with this behind them.
 fn object_with_digits_and(alloc: Global, behind: &str) -> Result<MemTree, Fail> {
-    let inventory = listing(alloc, "\"ABC_SHA256\":[\"v1/content/f\"]", "")?;
+    let inventory = listing(alloc, LISTS_F, "")?;
     let digits = short_digits(alloc, inventory.as_bytes())?;
     let mut store = object_with(alloc, inventory.as_str())?;
     let text = format!(in alloc; "{digits}{behind}")?;
@@ -391,7 +398,7 @@ fn no_sidecar_of_the_named_algorithm(rt: HostRuntime) -> Result<(), Fail> {
 
 /// The root of a right object with both sidecars.
 fn object_with_both_sidecars(alloc: Global) -> Result<MemTree, Fail> {
-    let inventory = listing(alloc, "\"ABC_SHA256\":[\"v1/content/f\"]", "")?;
+    let inventory = listing(alloc, LISTS_F, "")?;
     let long = long_sidecar(alloc, inventory.as_str())?;
     let mut store = object_with(alloc, inventory.as_str())?;
     put(alloc, &mut store, LONG_SIDECAR, long.as_bytes())?;

@@ -1,7 +1,8 @@
 //! Checks of objects by what their inventories hold.
 use super::expected::{FILE_IS_OK, GOES_ON, STOPS, expect, expect_head, finds};
+use crate::common::inventories::{NO_OBJECTS, STOPPING};
 use crate::common::object::{
-    FILE, INVENTORY, SHORT_SIDECAR, inventory, listing, object_with, short_digits,
+    FILE, INVENTORY, LISTS_F, SHORT_SIDECAR, inventory, listing, object_with, short_digits,
 };
 use crate::common::store::put;
 use ocfl_tree::MemTree;
@@ -19,21 +20,13 @@ fn with_state(alloc: Global, state: &str) -> Result<String, Fail> {
 fn inventories_that_are_no_object_in_json(rt: HostRuntime) -> Result<(), Fail> {
     let number = with_state(rt.alloc(), "1e999")?;
     let surrogate = with_state(rt.alloc(), "\"\\ud800\"")?;
-    for (row, text) in [
-        ("an array", "[]"),
-        ("no JSON", "abc"),
-        ("no byte", ""),
-        ("two objects", "{} {}"),
-        ("a number too large", number.as_str()),
-        ("half of a pair", surrogate.as_str()),
-    ] {
-        expect_head(
-            &rt,
-            row,
-            &mut object_with(rt.alloc(), text)?,
-            "E033|o|-\n",
-            STOPS,
-        )?;
+    let in_the_state = [
+        ("a number too large in the state", number.as_str()),
+        ("half of a pair in the state", surrogate.as_str()),
+    ];
+    for (row, text) in NO_OBJECTS.iter().chain(&in_the_state) {
+        let mut store = object_with(rt.alloc(), text)?;
+        expect_head(&rt, row, &mut store, "E033|o|-\n", STOPS)?;
     }
     Ok(())
 }
@@ -75,119 +68,27 @@ fn arrays_nest_to_126_in_the_inventory(rt: HostRuntime) -> Result<(), Fail> {
     Ok(())
 }
 
-/// Members of inventories, each with the line that the head stops with.
-const STOPPING: [(&str, &str, &str); 20] = [
-    (
-        "no algorithm",
-        r#""manifest":{},"fixity":{}"#,
-        "E036|o|digestAlgorithm\n",
-    ),
-    (
-        "an algorithm that is a number",
-        r#""digestAlgorithm":7,"manifest":{},"fixity":{}"#,
-        "S03|o|digestAlgorithm\n",
-    ),
-    (
-        "an algorithm in capitals",
-        r#""digestAlgorithm":"SHA256","manifest":{},"fixity":{}"#,
-        "E025|o|SHA256\n",
-    ),
-    (
-        "md5",
-        r#""digestAlgorithm":"md5","manifest":{},"fixity":{}"#,
-        "E025|o|md5\n",
-    ),
-    (
-        "sha512/256",
-        r#""digestAlgorithm":"sha512/256","manifest":{},"fixity":{}"#,
-        "E025|o|sha512/256\n",
-    ),
-    (
-        "an algorithm with odd letters",
-        r#""digestAlgorithm":"% /é\t","manifest":{},"fixity":{}"#,
-        "E025|o|%25 /%C3%A9%09\n",
-    ),
-    (
-        "a content directory that is a number",
-        r#""digestAlgorithm":"sha256","contentDirectory":7,"manifest":{}"#,
-        "S03|o|contentDirectory\n",
-    ),
-    (
-        "an empty content directory",
-        r#""digestAlgorithm":"sha256","contentDirectory":"","manifest":{}"#,
-        "S03|o|contentDirectory\n",
-    ),
-    (
-        "a content directory of two names",
-        r#""digestAlgorithm":"sha256","contentDirectory":"a/b","manifest":{}"#,
-        "E017|o|a/b\n",
-    ),
-    (
-        "a content directory of one dot",
-        r#""digestAlgorithm":"sha256","contentDirectory":".","manifest":{}"#,
-        "E018|o|.\n",
-    ),
-    (
-        "a content directory of two dots",
-        r#""digestAlgorithm":"sha256","contentDirectory":"..","manifest":{}"#,
-        "E018|o|..\n",
-    ),
-    // the content directory is looked at before the manifest, and this before the fixity block
-    (
-        "a bad content directory and no manifest",
-        r#""digestAlgorithm":"sha256","contentDirectory":"..""#,
-        "E018|o|..\n",
-    ),
-    (
-        "no manifest and a bad fixity block",
-        r#""digestAlgorithm":"sha256","fixity":7"#,
-        "E041|o|manifest\n",
-    ),
-    (
-        "a manifest that is an array",
-        r#""digestAlgorithm":"sha256","manifest":[],"fixity":{}"#,
-        "S03|o|manifest\n",
-    ),
-    (
-        "a digest with a text",
-        r#""digestAlgorithm":"sha256","manifest":{"ABC_SHA256":"v1/content/f"},"fixity":{}"#,
-        "S03|o|manifest\n",
-    ),
-    (
-        "a path that is a number",
-        r#""digestAlgorithm":"sha256","manifest":{"ABC_SHA256":[7]},"fixity":{}"#,
-        "S03|o|manifest\n",
-    ),
-    (
-        "a fixity block that is an array",
-        r#""digestAlgorithm":"sha256","manifest":{},"fixity":[]"#,
-        "S03|o|fixity\n",
-    ),
-    (
-        "a fixity algorithm that is a number",
-        r#""digestAlgorithm":"sha256","manifest":{},"fixity":{"md5":7}"#,
-        "S03|o|fixity\n",
-    ),
-    (
-        "a path in fixity that is a number",
-        r#""digestAlgorithm":"sha256","manifest":{},"fixity":{"md5":{"ABC_MD5":["v1/content/f",7]}}"#,
-        "S03|o|fixity\n",
-    ),
-    (
-        "sha512/256 that is a number",
-        r#""digestAlgorithm":"sha256","manifest":{},"fixity":{"sha512/256":7}"#,
-        "S03|o|fixity\n",
-    ),
-];
-
 #[test]
 fn inventories_that_stop_the_head(rt: HostRuntime) -> Result<(), Fail> {
-    for (row, members, line) in STOPPING {
-        let inventory = inventory(rt.alloc(), members)?;
-        let mut store = object_with(rt.alloc(), inventory.as_str())?;
-        expect_head(&rt, row, &mut store, line, STOPS)?;
+    for (code, detail, inventories) in STOPPING {
+        let line = format!(in rt.alloc(); "{code}|o|{detail}\n")?;
+        for (row, members) in inventories {
+            let inventory = inventory(rt.alloc(), members)?;
+            let mut store = object_with(rt.alloc(), inventory.as_str())?;
+            expect_head(&rt, row, &mut store, line.as_str(), STOPS)?;
+        }
     }
-    Ok(())
+    let members = r#""digestAlgorithm":"% /é\t","manifest":{},"fixity":{}"#;
+    let inventory = inventory(rt.alloc(), members)?;
+    let mut store = object_with(rt.alloc(), inventory.as_str())?;
+    let line = "E025|o|%25 /%C3%A9%09\n";
+    expect_head(
+        &rt,
+        "an algorithm with odd letters",
+        &mut store,
+        line,
+        STOPS,
+    )
 }
 
 /// A manifest and a fixity block without their braces, and the lines of a head that does not stop.
@@ -260,20 +161,20 @@ const GO_ON: [(&str, &str, &str, &str); 13] = [
     ),
     (
         "a digest of fixity in two cases",
-        r#""ABC_SHA256":["v1/content/f"]"#,
+        LISTS_F,
         r#""md5":{"ABC_MD5":["v1/content/f"],"900150983CD24FB0D6963F7D28E17F72":["v1/content/f"]}"#,
         "E097|o|md5 ABC_MD5\n",
     ),
     (
         "digests in two cases under three algorithms",
-        r#""ABC_SHA256":["v1/content/f"]"#,
+        LISTS_F,
         r#""sha512/256":{"b":[],"B":[]},"sha1":{"a":[],"A":[]},"md5":{"x":[],"X":[],"W":[],"w":[]}"#,
         "E097|o|md5 w\nE097|o|md5 x\nE097|o|sha1 a\nE097|o|sha512/256 b\n",
     ),
     // algorithms that are computed are not noted
     (
         "algorithms that are computed",
-        r#""ABC_SHA256":["v1/content/f"]"#,
+        LISTS_F,
         r#""sha512/256":{"ABC_SHA512/256":["v1/content/f"]},"md5":{},"sha1":{},"sha256":{},"sha512":{}"#,
         "ok|o|-\n",
     ),
@@ -299,7 +200,7 @@ fn algorithms_that_are_not_computed_are_no_findings(rt: HostRuntime) -> Result<(
             "S07|o|MD5\nS07|o|blake2b-512\nS07|o|sha3\n",
         ),
     ] {
-        let inventory = listing(rt.alloc(), r#""ABC_SHA256":["v1/content/f"]"#, fixity)?;
+        let inventory = listing(rt.alloc(), LISTS_F, fixity)?;
         let mut store = object_with(rt.alloc(), inventory.as_str())?;
         expect(&rt, row, &mut store, "o", lines, 0, "")?;
         expect(&rt, row, &mut store, FILE, FILE_IS_OK, 0, "")?;

@@ -2,8 +2,8 @@
 //! failing in turn.
 use super::run_figures::{MOST, cursor_of, due_of, equal_limits, limits};
 use crate::common::Runtime;
+use crate::common::cursors::end_at;
 use crate::common::roots::right_objects;
-use crate::common::store::place_of;
 use ocfl_cursor::{Cursor, State};
 use ocfl_digest::Block;
 use ocfl_scrub::{
@@ -47,15 +47,10 @@ impl Inside {
         row: &(&'static str, &'static str, &'static str),
     ) -> Result<Inside, Fail> {
         let (from, below, text) = *row;
-        let from_place = Some(place_of(alloc, from)?);
-        let below = if below == "-" {
-            None
-        } else {
-            Some(place_of(alloc, below)?)
-        };
+        let part = Part::between(alloc, end_at(alloc, from)?, end_at(alloc, below)?);
         Ok(Inside {
             row: from,
-            part: Part::between(alloc, from_place, below),
+            part,
             text,
         })
     }
@@ -79,8 +74,8 @@ struct Ending {
     found: bool,
 }
 
-/// The call wrote this, and either stopped at a place or ended.
-fn ending(
+/// The ending of a call that wrote this, and either stopped at a place or ended.
+fn ending_of(
     out: Vec<u8>,
     (stopped, ended): (bool, bool),
     cursor: Cursor,
@@ -110,37 +105,30 @@ fn try_audit(alloc: Global, store: &mut MemTree, part: &Part) -> Result<Ending, 
     };
     let stopped = matches!(end, End::Stopped(Fault::Store(_)));
     let ends = (stopped, matches!(end, End::Ended));
-    ending(out, ends, cursor, false, found)
+    ending_of(out, ends, cursor, false, found)
 }
 
 fn try_run(alloc: Global, store: &mut MemTree, part: &Part) -> Result<Ending, Fail> {
     let (mut block, mut out) = (Block::new(alloc)?, Vec::new(alloc));
     let (start, most) = (Cursor::new(), limits(MOST, MOST)?);
     let made = run_part(alloc, store, part, start, most, &mut block, &mut out);
-    let RunEnd {
-        cursor,
-        found,
-        end,
-        ..
-    } = made;
-    let stopped = matches!(end, RunStatus::Stopped(Fault::Store(_)));
-    let ends = (stopped, matches!(end, RunStatus::Ended));
-    ending(out, ends, cursor, true, found)
+    let stopped = matches!(made.end, RunStatus::Stopped(Fault::Store(_)));
+    let (ends, found) = ((stopped, matches!(made.end, RunStatus::Ended)), made.found);
+    let RunEnd { cursor, .. } = made;
+    ending_of(out, ends, cursor, true, found)
 }
 
 fn try_cycle(alloc: Global, store: &mut MemTree, part: &Part) -> Result<Ending, Fail> {
     let (mut block, mut out) = (Block::new(alloc)?, Vec::new(alloc));
     let each = equal_limits(alloc, 9, MOST, 1)?;
     let made = cycle_part(alloc, store, part, each.as_slice(), &mut block, &mut out);
-    let CycleEnd {
-        cursor,
-        found,
-        end,
-        ..
-    } = made;
-    let stopped = matches!(end, CycleStatus::Stopped(Fault::Store(_)));
-    let ends = (stopped, matches!(end, CycleStatus::Ended));
-    ending(out, ends, cursor, true, found)
+    let stopped = matches!(made.end, CycleStatus::Stopped(Fault::Store(_)));
+    let (ends, found) = (
+        (stopped, matches!(made.end, CycleStatus::Ended)),
+        made.found,
+    );
+    let CycleEnd { cursor, .. } = made;
+    ending_of(out, ends, cursor, true, found)
 }
 
 /// The calls over a part that are tried: an audit, a run that nothing limits, and a cycle of runs

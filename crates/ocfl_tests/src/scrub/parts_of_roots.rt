@@ -2,16 +2,16 @@
 //! and open.
 use super::expected::HEADS;
 use super::run_figures::{
-    A, ALL, B, C, MOST, cursor_after, cycle_says, equal_limits, expect_text, limits, run_says,
-    why_says,
+    A, ALL, B, C, MOST, cursor_after, cycle_says, equal_limits, expect_run_end, expect_text,
+    limits, run_says, why_says,
 };
 use crate::common::Runtime;
 use crate::common::roots::{long_object, missing_and_there, right_objects, three_files, two_files};
-use crate::common::store::{listed_from, opened_from, place_of, was_not_called};
+use crate::common::store::{expect_listed, expect_opened, place_of, was_not_called};
 use ocfl_cursor::Cursor;
 use ocfl_digest::Block;
 use ocfl_report::DisplayPlace;
-use ocfl_scrub::{AuditEnd, End, Part, RunEnd, audit_part, cycle_part, run_part};
+use ocfl_scrub::{AuditEnd, End, Part, audit_part, cycle_part, run_part};
 use ocfl_tree::{MemTree, Place, Point};
 use std::alloc::Global;
 use std::test::Fail;
@@ -36,6 +36,23 @@ fn parts_by(alloc: Global, paths: &[&str]) -> Result<Vec<Part>, Fail> {
         separators.push(place_of(alloc, path)?)?;
     }
     parts_between(alloc, separators.as_slice())
+}
+
+/// Each of the parts that the separators at these paths make is as its row says.
+fn expect_each<T>(
+    rt: &impl Runtime,
+    row: &str,
+    separators: &[&str],
+    rows: &[T],
+    expect: impl Fn(&str, &Part, &T) -> Result<(), Fail>,
+) -> Result<(), Fail> {
+    let parts = parts_by(rt.alloc(), separators)?;
+    assert_eq!(rt; parts.len(), rows.len(), "{row}");
+    for ((part, wanted), number) in parts.iter().zip(rows).zip(1u64..) {
+        let row = format!(in rt.alloc(); "{row}, part {number}")?;
+        expect(row.as_str(), part, wanted)?;
+    }
+    Ok(())
 }
 
 /// The storage root of a name.
@@ -236,14 +253,10 @@ const SEPARATED: [(&str, &str, &[&str], &[Taken]); 7] = [
 
 #[test]
 fn parts_that_separators_make(rt: HostRuntime) -> Result<(), Fail> {
-    let alloc = rt.alloc();
     for (row, root, separators, taken) in SEPARATED {
-        let parts = parts_by(alloc, separators)?;
-        assert_eq!(rt; parts.len(), taken.len(), "{row}");
-        for (number, part) in parts.iter().enumerate() {
-            let row = format!(in alloc; "{row}, part {}", number.saturating_add(1))?;
-            expect_taken(&rt, row.as_str(), root, part, &taken[number])?;
-        }
+        expect_each(&rt, row, separators, taken, |row, part, taken| {
+            expect_taken(&rt, row, root, part, taken)
+        })?;
     }
     Ok(())
 }
@@ -262,22 +275,33 @@ fn part_that_is_all_of_a_root(rt: HostRuntime) -> Result<(), Fail> {
 
 // ---- what is listed, and what is opened
 
-/// A part: what is written of it, what is listed, and the inventories and content that are opened.
-type Looked = (&'static str, &'static str, &'static str, &'static str);
+/// What is written of a part, what is listed, and the inventories and content that are opened.
+#[derive(Drop)]
+struct Looked {
+    text: &'static str,
+    listed: &'static str,
+    inventories: &'static str,
+    contents: &'static str,
+}
+
+const NOT_LOOKED_AT: Looked = Looked {
+    text: "",
+    listed: "",
+    inventories: "",
+    contents: "",
+};
 
 /// Each call takes all of the part of the root of three objects, and lists and opens just this.
 fn expect_looked(rt: &impl Runtime, row: &str, part: &Part, looked: &Looked) -> Result<(), Fail> {
     let alloc = rt.alloc();
-    let (text, listed, inventories, contents) = looked;
     for call in CALLS {
         let mut store = root_named(alloc, "three objects")?;
-        take_part(rt, row, call, &mut store, part, &[text])?;
-        let lists = listed_from(alloc, &store, 0)?;
-        assert_eq!(rt; lists.as_str(), *listed, "{row}, {call}");
-        let opened = opened_from(alloc, &store, 0, "/inventory.json")?;
-        assert_eq!(rt; opened.as_str(), *inventories, "{row}, {call}");
-        let opened = opened_from(alloc, &store, 0, "/content/f")?;
-        assert_eq!(rt; opened.as_str(), *contents, "{row}, {call}");
+        take_part(rt, row, call, &mut store, part, &[looked.text])?;
+        let row = format!(in alloc; "{row}, {call}")?;
+        let row = row.as_str();
+        expect_listed(rt, row, &store, looked.listed)?;
+        expect_opened(rt, row, &store, "/inventory.json", looked.inventories)?;
+        expect_opened(rt, row, &store, "/content/f", looked.contents)?;
     }
     Ok(())
 }
@@ -288,50 +312,46 @@ const APART: [(&str, &[&str], &[Looked]); 2] = [
         "at the second object",
         &["o2"],
         &[
-            (
-                "ok|.|-\nok|o1|-\nok|o1/v1/content/f|3\n",
-                ";o1;o1/v1;o1/v1/content;",
-                "o1/inventory.json;",
-                "o1/v1/content/f;",
-            ),
-            (
-                "ok|o2|-\nok|o2/v1/content/f|3\nok|o3|-\nok|o3/v1/content/f|3\n",
-                ";o2;o2/v1;o2/v1/content;o3;o3/v1;o3/v1/content;",
-                "o2/inventory.json;o3/inventory.json;",
-                "o2/v1/content/f;o3/v1/content/f;",
-            ),
+            Looked {
+                text: "ok|.|-\nok|o1|-\nok|o1/v1/content/f|3\n",
+                listed: ";o1;o1/v1;o1/v1/content;",
+                inventories: "o1/inventory.json;",
+                contents: "o1/v1/content/f;",
+            },
+            Looked {
+                text: "ok|o2|-\nok|o2/v1/content/f|3\nok|o3|-\nok|o3/v1/content/f|3\n",
+                listed: ";o2;o2/v1;o2/v1/content;o3;o3/v1;o3/v1/content;",
+                inventories: "o2/inventory.json;o3/inventory.json;",
+                contents: "o2/v1/content/f;o3/v1/content/f;",
+            },
         ],
     ),
     (
         "at the file of the second object",
         &["o2/v1/content/f"],
         &[
-            (
-                "ok|.|-\nok|o1|-\nok|o1/v1/content/f|3\nok|o2|-\n",
-                ";o1;o1/v1;o1/v1/content;o2;o2/v1;o2/v1/content;",
-                "o1/inventory.json;o2/inventory.json;",
-                "o1/v1/content/f;",
-            ),
-            (
-                "ok|o2/v1/content/f|3\nok|o3|-\nok|o3/v1/content/f|3\n",
-                ";o2;o2/v1;o2/v1/content;o3;o3/v1;o3/v1/content;",
-                "o2/inventory.json;o3/inventory.json;",
-                "o2/v1/content/f;o3/v1/content/f;",
-            ),
+            Looked {
+                text: "ok|.|-\nok|o1|-\nok|o1/v1/content/f|3\nok|o2|-\n",
+                listed: ";o1;o1/v1;o1/v1/content;o2;o2/v1;o2/v1/content;",
+                inventories: "o1/inventory.json;o2/inventory.json;",
+                contents: "o1/v1/content/f;",
+            },
+            Looked {
+                text: "ok|o2/v1/content/f|3\nok|o3|-\nok|o3/v1/content/f|3\n",
+                listed: ";o2;o2/v1;o2/v1/content;o3;o3/v1;o3/v1/content;",
+                inventories: "o2/inventory.json;o3/inventory.json;",
+                contents: "o2/v1/content/f;o3/v1/content/f;",
+            },
         ],
     ),
 ];
 
 #[test]
 fn parts_look_at_their_own_objects(rt: HostRuntime) -> Result<(), Fail> {
-    let alloc = rt.alloc();
     for (row, separators, looked) in APART {
-        let parts = parts_by(alloc, separators)?;
-        assert_eq!(rt; parts.len(), looked.len(), "{row}");
-        for (number, part) in parts.iter().enumerate() {
-            let row = format!(in alloc; "{row}, part {}", number.saturating_add(1))?;
-            expect_looked(&rt, row.as_str(), part, &looked[number])?;
-        }
+        expect_each(&rt, row, separators, looked, |row, part, looked| {
+            expect_looked(&rt, row, part, looked)
+        })?;
     }
     Ok(())
 }
@@ -340,33 +360,49 @@ fn parts_look_at_their_own_objects(rt: HostRuntime) -> Result<(), Fail> {
 const BRANCHES: [(&str, Looked); 5] = [
     (
         "o2",
-        (
-            "ok|o2|-\nok|o2/v1/content/f|3\n",
-            ";o2;o2/v1;o2/v1/content;",
-            "o2/inventory.json;",
-            "o2/v1/content/f;",
-        ),
+        Looked {
+            text: "ok|o2|-\nok|o2/v1/content/f|3\n",
+            listed: ";o2;o2/v1;o2/v1/content;",
+            inventories: "o2/inventory.json;",
+            contents: "o2/v1/content/f;",
+        },
     ),
     (
         "o2/v1",
-        (
-            "ok|o2/v1/content/f|3\n",
-            ";o2;o2/v1;o2/v1/content;",
-            "o2/inventory.json;",
-            "o2/v1/content/f;",
-        ),
+        Looked {
+            text: "ok|o2/v1/content/f|3\n",
+            listed: ";o2;o2/v1;o2/v1/content;",
+            inventories: "o2/inventory.json;",
+            contents: "o2/v1/content/f;",
+        },
     ),
     (
         "o2/v1/content/f",
-        (
-            "ok|o2/v1/content/f|3\n",
-            ";o2;o2/v1;o2/v1/content;",
-            "o2/inventory.json;",
-            "o2/v1/content/f;",
-        ),
+        Looked {
+            text: "ok|o2/v1/content/f|3\n",
+            listed: ";o2;o2/v1;o2/v1/content;",
+            inventories: "o2/inventory.json;",
+            contents: "o2/v1/content/f;",
+        },
     ),
-    ("zz", ("", ";", "", "")),
-    ("o2/v2", ("", ";o2;", "o2/inventory.json;", "")),
+    (
+        "zz",
+        Looked {
+            text: "",
+            listed: ";",
+            inventories: "",
+            contents: "",
+        },
+    ),
+    (
+        "o2/v2",
+        Looked {
+            text: "",
+            listed: ";o2;",
+            inventories: "o2/inventory.json;",
+            contents: "",
+        },
+    ),
 ];
 
 #[test]
@@ -381,7 +417,7 @@ fn branches_look_at_nothing_else(rt: HostRuntime) -> Result<(), Fail> {
 #[test]
 fn nothing_is_looked_at_below_the_root(rt: HostRuntime) -> Result<(), Fail> {
     let parts = parts_by(rt.alloc(), &["."])?;
-    expect_looked(&rt, "a part below the root", &parts[0], &("", "", "", ""))
+    expect_looked(&rt, "a part below the root", &parts[0], &NOT_LOOKED_AT)
 }
 
 /// Parts beside an object that cannot be listed: what is written of each, how it ends, the last
@@ -408,9 +444,9 @@ fn listing_that_fails_stops_its_own_part(rt: HostRuntime) -> Result<(), Fail> {
                 "run" => run,
                 _ => format!(in alloc; "runs 1 {run}")?,
             };
-            assert_eq!(rt; says.as_str(), said.as_str(), "{row}, {call}");
-            let lists = listed_from(alloc, &store, 0)?;
-            assert_eq!(rt; lists.as_str(), *listed, "{row}, {call}");
+            let row = format!(in alloc; "{row}, {call}")?;
+            assert_eq!(rt; says.as_str(), said.as_str(), "{row}");
+            expect_listed(&rt, row.as_str(), &store, listed)?;
         }
     }
     Ok(())
@@ -426,8 +462,7 @@ fn expect_part_run(
     part: &Part,
     cursor: Cursor,
     budget: u64,
-    pieces: &[&str],
-    said: &str,
+    wanted: (&[&str], &str),
 ) -> Result<Cursor, Fail> {
     let alloc = rt.alloc();
     let mut store = three_files(alloc)?;
@@ -436,10 +471,7 @@ fn expect_part_run(
     let end = run_part(
         alloc, &mut store, part, cursor, limits, &mut block, &mut out,
     );
-    expect_text(rt, row, out, pieces, said)?;
-    assert_eq!(rt; run_says(alloc, &end)?.as_str(), said, "{row}");
-    let RunEnd { cursor, .. } = end;
-    Ok(cursor)
+    expect_run_end(rt, row, end, out, wanted)
 }
 
 /// The runs of the part from the second file on, each with a budget of 1.
@@ -466,7 +498,7 @@ fn next_cycle_begins_with_the_part(rt: HostRuntime) -> Result<(), Fail> {
     let parts = parts_by(rt.alloc(), &[FILE_B])?;
     let mut cursor = Cursor::new();
     for (row, pieces, said) in ONE_AFTER_THE_OTHER {
-        cursor = expect_part_run(&rt, row, &parts[1], cursor, 1, pieces, said)?;
+        cursor = expect_part_run(&rt, row, &parts[1], cursor, 1, (pieces, said))?;
     }
     Ok(())
 }
@@ -476,22 +508,15 @@ fn cursor_outside_the_part(rt: HostRuntime) -> Result<(), Fail> {
     let parts = parts_by(rt.alloc(), &[FILE_B])?;
     let cursor = cursor_after(rt.alloc(), "o")?;
     let said = "spent 5 files 2 clean, ended; cycle 1 runs 1 spent 5 files 2 ended";
-    expect_part_run(&rt, "before it", &parts[1], cursor, 9, &[B, C], said)?;
+    expect_part_run(&rt, "before it", &parts[1], cursor, 9, (&[B, C], said))?;
     let cursor = cursor_after(rt.alloc(), "o/v1/content/c")?;
     let said = "spent 0 files 0 clean, ended; cycle 1 runs 1 spent 0 files 0 ended";
-    expect_part_run(&rt, "after it", &parts[0], cursor, 9, &[], said)?;
+    expect_part_run(&rt, "after it", &parts[0], cursor, 9, (&[], said))?;
     Ok(())
 }
 
-/// A name, separators and the number of a part that they make of the root of three files; how many
-/// limits a cycle has, the budget and the files of each; what it writes, and what it says.
-type Cycled = (
-    &'static str,
-    (&'static [&'static str], usize),
-    (usize, u64, u64),
-    &'static [&'static str],
-    &'static str,
-);
+/// How many limits a cycle has, the budget and the files of each; what it writes, and what it says.
+type Cycled = ((usize, u64, u64), &'static [&'static str], &'static str);
 
 const NO_COST: &str = "runs 1 spent 0 files 0 clean, ended; cycle 1 runs 1 spent 0 files 0 ended";
 
@@ -506,99 +531,65 @@ const TWO_RUNS_OF_5: &str =
 
 const NO_RUN: &str = "runs 0 spent 0 files 0 clean, open; cycle 1 runs 0 spent 0 files 0 start";
 
-const CYCLED: [Cycled; 11] = [
-    (
-        "heads alone",
-        (&[FILE_A, FILE_B], 0),
-        (4, 1, 1),
-        &[HEADS],
-        NO_COST,
-    ),
-    (
-        "one file",
-        (&[FILE_A, FILE_B], 1),
-        (4, 1, 1),
-        &[A],
-        ONE_RUN_OF_4,
-    ),
+const OPEN_BEHIND_B: &str =
+    "runs 1 spent 1 files 1 clean, open; cycle 1 runs 1 spent 1 files 1 after o/v1/content/b";
+
+/// A name, the number of one of the parts from and to the first two files, and a cycle of it.
+const CYCLED: [(&str, usize, Cycled); 7] = [
+    ("heads alone", 0, ((4, 1, 1), &[HEADS], NO_COST)),
+    ("one file", 1, ((4, 1, 1), &[A], ONE_RUN_OF_4)),
     (
         "two files and a budget of 1",
-        (&[FILE_A, FILE_B], 2),
-        (4, 1, MOST),
-        &[B, C],
-        TWO_RUNS_OF_5,
+        2,
+        ((4, 1, MOST), &[B, C], TWO_RUNS_OF_5),
     ),
     (
         "two files and one file a run",
-        (&[FILE_A, FILE_B], 2),
-        (4, 9, 1),
-        &[B, C],
-        TWO_RUNS_OF_5,
+        2,
+        ((4, 9, 1), &[B, C], TWO_RUNS_OF_5),
     ),
     (
         "two files and a budget of 2",
-        (&[FILE_A, FILE_B], 2),
-        (4, 2, 2),
-        &[B, C],
-        ONE_RUN_OF_5,
+        2,
+        ((4, 2, 2), &[B, C], ONE_RUN_OF_5),
     ),
     (
         "two files and a run too few",
-        (&[FILE_A, FILE_B], 2),
-        (1, 1, MOST),
-        &[B],
-        "runs 1 spent 1 files 1 clean, open; cycle 1 runs 1 spent 1 files 1 after o/v1/content/b",
+        2,
+        ((1, 1, MOST), &[B], OPEN_BEHIND_B),
     ),
-    (
-        "two files and no limits",
-        (&[FILE_A, FILE_B], 2),
-        (0, 1, 1),
-        &[],
-        NO_RUN,
-    ),
-    (
-        "an empty part before all items, without limits",
-        (&["."], 0),
-        (0, 1, 1),
-        &[],
-        NO_RUN,
-    ),
-    (
-        "an empty part before all items",
-        (&["."], 0),
-        (4, 1, 1),
-        &[],
-        NO_COST,
-    ),
-    (
-        "an empty part after all items, without limits",
-        (&["p"], 1),
-        (0, 1, 1),
-        &[],
-        NO_RUN,
-    ),
-    (
-        "an empty part after all items",
-        (&["p"], 1),
-        (4, 1, 1),
-        &[],
-        NO_COST,
-    ),
+    ("two files and no limits", 2, ((0, 1, 1), &[], NO_RUN)),
 ];
+
+/// A cycle of the part of the root of three files.
+fn expect_cycled(rt: &impl Runtime, row: &str, part: &Part, cycled: Cycled) -> Result<(), Fail> {
+    let alloc = rt.alloc();
+    let ((count, budget, files), pieces, said) = cycled;
+    let mut store = three_files(alloc)?;
+    let (mut block, mut out) = (Block::new(alloc)?, Vec::new(alloc));
+    let each = equal_limits(alloc, count, budget, files)?;
+    let each = each.as_slice();
+    let end = cycle_part(alloc, &mut store, part, each, &mut block, &mut out);
+    expect_text(rt, row, out, pieces, said)?;
+    assert_eq!(rt; cycle_says(alloc, &end)?.as_str(), said, "{row}");
+    assert!(rt; was_not_called(&store) || count > 0, "{row}");
+    Ok(())
+}
 
 #[test]
 fn cycles_of_parts_with_equal_limits(rt: HostRuntime) -> Result<(), Fail> {
-    let alloc = rt.alloc();
-    for (row, (separators, number), (count, budget, files), pieces, said) in CYCLED {
-        let parts = parts_by(alloc, separators)?;
-        let mut store = three_files(alloc)?;
-        let (mut block, mut out) = (Block::new(alloc)?, Vec::new(alloc));
-        let each = equal_limits(alloc, count, budget, files)?;
-        let (part, each) = (&parts[number], each.as_slice());
-        let end = cycle_part(alloc, &mut store, part, each, &mut block, &mut out);
-        expect_text(&rt, row, out, pieces, said)?;
-        assert_eq!(rt; cycle_says(alloc, &end)?.as_str(), said, "{row}");
-        assert!(rt; was_not_called(&store) || count > 0, "{row}");
+    let parts = parts_by(rt.alloc(), &[FILE_A, FILE_B])?;
+    for (row, number, cycled) in CYCLED {
+        expect_cycled(&rt, row, &parts[number], cycled)?;
+    }
+    for (row, separator, number) in [
+        ("an empty part before all items", ".", 0),
+        ("an empty part after all items", "p", 1),
+    ] {
+        let parts = parts_by(rt.alloc(), &[separator])?;
+        expect_cycled(&rt, row, &parts[number], ((4, 1, 1), &[], NO_COST))?;
+        let row = format!(in rt.alloc(); "{row}, without limits")?;
+        expect_cycled(&rt, row.as_str(), &parts[number], ((0, 1, 1), &[], NO_RUN))?;
     }
     Ok(())
 }

@@ -1,60 +1,58 @@
 //! What the program does for each command: its status, its text, and the cursor that it stores.
-use super::expected::{FILE_IS_OK, HEADS};
+use super::expected::{FILE_IS_OK, HEADS, expect_said};
 use super::run_figures::{A, ALL, B, C, MOST, cursor_of, limits};
 use super::stop::{STOPS, stopping};
-use crate::common::Runtime;
-use crate::common::digests::lines_of;
-use crate::common::object::{FILE, listing, object_with};
+use crate::common::cursors::{LINES, OLD_LINES, cut, old_text, sealed, whole_text};
+use crate::common::input::{Slow, Then, failures};
+use crate::common::object::{FILE, LISTS_F, listing, object_with};
 use crate::common::output::Narrow;
 use crate::common::roots::{long_object, right_object, three_files, wrong_fixity};
 use crate::common::store::{place_of, was_not_called};
+use crate::common::{Runtime, expect_shown};
 use ocfl_cursor::{State, encode};
 use ocfl_deed::Deed;
 use ocfl_digest::Block;
-use ocfl_scrub::{Performed, perform};
+use ocfl_scrub::{Performed, Scope, perform, perform_part};
 use ocfl_tree::Tree;
-use sha2::{Digest, Sha256};
-use std::alloc::Global;
-use std::io::{self, ErrorKind, Read};
 use std::test::Fail;
 
-/// The text of a cursor behind `o/v1/content/c`, with its digest by `sha256sum`.
-const STORED: &str =
-    "ocfl-scrub cursor 2\ncycle 3\nruns 2\nspent 9\nfiles 3\nafter o/v1/content/c\n\
-    digest 894422823bd158b8102505a5075ffb65b0f4cfeb1067789d3830a518ec8f4b26\n";
+/// Doing the deed, within a scope if there is one, with these bytes as the stored cursor, writes
+/// this text and ends with this status and this note. It gives the cursor to be stored.
+pub(crate) fn expect_within<T: Tree>(
+    rt: &impl Runtime,
+    row: &str,
+    store: &mut T,
+    deed: &Deed,
+    scope: Option<&Scope>,
+    mut file: Option<&[u8]>,
+    wanted: (&str, u8, &str),
+) -> Result<Option<Vec<u8>>, Fail> {
+    let alloc = rt.alloc();
+    let (mut block, mut out) = (Block::new(alloc)?, Vec::new(alloc));
+    let reader = file.as_mut();
+    let done = match scope {
+        Some(scope) => perform_part(alloc, store, deed, scope, reader, &mut block, &mut out),
+        None => perform(alloc, store, deed, reader, &mut block, &mut out),
+    };
+    let Performed {
+        status,
+        note,
+        cursor,
+    } = done;
+    expect_said(rt, out, (status, note), wanted, row)?;
+    Ok(cursor)
+}
 
-/// The same of version 1, which does not tell the files.
-const OLD: &str = "ocfl-scrub cursor 1\ncycle 3\nruns 2\nspent 9\nafter o/v1/content/c\n\
-    digest 822836e04ff6618e0a7571237f0049f590a6f9890506f09338f0505902d351d7\n";
-
-/// Doing the deed, with these bytes as the stored cursor, writes this text and ends with this
-/// status and this note. It gives the cursor to be stored.
+/// The same without a scope.
 fn expect<T: Tree>(
     rt: &impl Runtime,
     row: &str,
     store: &mut T,
     deed: &Deed,
     file: Option<&[u8]>,
-    text: &str,
-    status: u8,
-    note: &str,
+    wanted: (&str, u8, &str),
 ) -> Result<Option<Vec<u8>>, Fail> {
-    let alloc = rt.alloc();
-    let mut out = Vec::new(alloc);
-    let mut block = Block::new(alloc)?;
-    let mut bytes = file.unwrap_or_default();
-    let reader = match file {
-        Some(_) => Some(&mut bytes),
-        None => None,
-    };
-    let done = perform(alloc, store, deed, reader, &mut block, &mut out);
-    let wrote = String::from_utf8(out)?;
-    let said = format!(in alloc; "{}", done.note)?;
-    assert_eq!(rt; wrote.as_str(), lines_of(alloc, text)?.as_str(), "{row}");
-    assert_eq!(rt; said.as_str(), note, "{row}");
-    assert_eq!(rt; done.status, status, "{row}");
-    let Performed { cursor, .. } = done;
-    Ok(cursor)
+    expect_within(rt, row, store, deed, None, file, wanted)
 }
 
 /// The same over three files, and no call of the store is made and no cursor stored.
@@ -63,35 +61,29 @@ fn expect_silent(
     row: &str,
     deed: &Deed,
     file: Option<&[u8]>,
-    text: &str,
-    status: u8,
-    note: &str,
+    wanted: (&str, u8, &str),
 ) -> Result<(), Fail> {
     let mut store = three_files(rt.alloc())?;
-    let stored = expect(rt, row, &mut store, deed, file, text, status, note)?;
+    let stored = expect(rt, row, &mut store, deed, file, wanted)?;
     assert!(rt; stored.is_none(), "{row}");
-    assert!(rt; store.openings().is_empty(), "{row}");
-    assert!(rt; store.listings().is_empty(), "{row}");
+    assert!(rt; was_not_called(&store), "{row}");
     Ok(())
 }
 
-fn run_of(budget: u64) -> Result<Deed, Fail> {
+/// The cursor to be stored is this text, with its right digest line.
+pub(crate) fn expect_stored(
+    rt: &impl Runtime,
+    row: &str,
+    stored: Option<Vec<u8>>,
+    body: &str,
+) -> Result<(), Fail> {
+    let right = sealed(rt.alloc(), body)?;
+    assert!(rt; stored == Some(right), "{row}");
+    Ok(())
+}
+
+pub(crate) fn run_of(budget: u64) -> Result<Deed, Fail> {
     Ok(Deed::Run(limits(budget, MOST)?))
-}
-
-/// A text with its right digest line.
-fn sealed(alloc: Global, body: &str) -> Result<String, Fail> {
-    let digest = hex::encode(alloc, Sha256::digest(body.as_bytes()))?;
-    Ok(format!(in alloc; "{body}digest {digest}\n")?)
-}
-
-/// The pieces, one after the other.
-fn joined(alloc: Global, pieces: &[&str]) -> Result<String, Fail> {
-    let mut text = String::new(alloc);
-    for piece in pieces {
-        text.push_str(piece)?;
-    }
-    Ok(text)
 }
 
 /// The budget and the limit of files of so many runs, what their cycle writes, and the note.
@@ -134,11 +126,11 @@ const CYCLES: [(&str, u64, u64, usize, &[&str], &str); 5] = [
 #[test]
 fn cycles(rt: HostRuntime) -> Result<(), Fail> {
     for (row, budget, files, count, pieces, note) in CYCLES {
-        let text = joined(rt.alloc(), pieces)?;
+        let text = pieces.concat(rt.alloc())?;
         let deed = Deed::Cycle(limits(budget, files)?, count);
         let mut store = three_files(rt.alloc())?;
-        let text = text.as_str();
-        let stored = expect(&rt, row, &mut store, &deed, None, text, 0, note)?;
+        let wanted = (text.as_str(), 0, note);
+        let stored = expect(&rt, row, &mut store, &deed, None, wanted)?;
         assert!(rt; stored.is_none(), "{row}");
     }
     Ok(())
@@ -178,18 +170,9 @@ fn runs_that_go_on(rt: HostRuntime) -> Result<(), Fail> {
     let mut store = three_files(rt.alloc())?;
     let mut stored: Option<Vec<u8>> = None;
     for (row, budget, pieces, note, right) in RUNS {
-        let text = joined(rt.alloc(), pieces)?;
-        let file = stored.as_deref();
-        stored = expect(
-            &rt,
-            row,
-            &mut store,
-            &run_of(budget)?,
-            file,
-            text.as_str(),
-            0,
-            note,
-        )?;
+        let text = pieces.concat(rt.alloc())?;
+        let (file, wanted) = (stored.as_deref(), (text.as_str(), 0, note));
+        stored = expect(&rt, row, &mut store, &run_of(budget)?, file, wanted)?;
         assert!(rt; stored.as_deref() == Some(right.as_bytes()), "{row}");
     }
     Ok(())
@@ -198,101 +181,90 @@ fn runs_that_go_on(rt: HostRuntime) -> Result<(), Fail> {
 #[test]
 fn run_from_a_stored_cursor(rt: HostRuntime) -> Result<(), Fail> {
     let alloc = rt.alloc();
-    let note = "cycle 3, run 3, cost 0, ended";
-    for (row, file, files) in [("version 2", STORED, 3), ("version 1", OLD, 0)] {
+    let wanted = ("", 0, "cycle 3, run 3, cost 0, ended");
+    for (row, file, files) in [
+        ("version 2", whole_text(alloc)?, 3),
+        ("version 1", old_text(alloc)?, 0),
+    ] {
         let mut store = three_files(alloc)?;
-        let file = Some(file.as_bytes());
-        let stored = expect(&rt, row, &mut store, &run_of(9)?, file, "", 0, note)?;
+        let file = Some(file.as_slice());
+        let stored = expect(&rt, row, &mut store, &run_of(9)?, file, wanted)?;
         let body = format!(in alloc;
             "ocfl-scrub cursor 2\ncycle 3\nruns 3\nspent 9\nfiles {files}\nended\n"
         )?;
-        let right = sealed(alloc, body.as_str())?;
-        assert!(rt; stored.as_deref() == Some(right.as_bytes()), "{row}");
+        expect_stored(&rt, row, stored, body.as_str())?;
     }
     Ok(())
 }
 
 #[test]
 fn cursors_that_are_shown(rt: HostRuntime) -> Result<(), Fail> {
-    let lines = "cycle 3\nruns 2\nspent 9\nfiles 3\nafter o/v1/content/c\n";
-    let file = Some(STORED.as_bytes());
-    expect_silent(&rt, "version 2", &Deed::Show, file, lines, 0, "")?;
-    let lines = "cycle 3\nruns 2\nspent 9\nfiles 0\nafter o/v1/content/c\n";
-    let file = Some(OLD.as_bytes());
-    expect_silent(&rt, "version 1", &Deed::Show, file, lines, 0, "")?;
-    let note = "cursor file failed";
-    expect_silent(&rt, "no cursor file", &Deed::Show, None, "", 3, note)
+    for (row, file, lines) in [
+        ("version 2", whole_text(rt.alloc())?, LINES),
+        ("version 1", old_text(rt.alloc())?, OLD_LINES),
+    ] {
+        let file = Some(file.as_slice());
+        expect_silent(&rt, row, &Deed::Show, file, (lines, 0, ""))?;
+    }
+    let wanted = ("", 3, "cursor file failed");
+    expect_silent(&rt, "no cursor file", &Deed::Show, None, wanted)
 }
 
 #[test]
 fn cursors_that_are_refused(rt: HostRuntime) -> Result<(), Fail> {
     let alloc = rt.alloc();
-    let damaged = &STORED.as_bytes()[..STORED.len() - 1];
-    let body = "cycle 3\nruns 2\nspent 9\nfiles 3\nafter o/v1/content/c\n";
-    let other = sealed(
-        alloc,
-        format!(in alloc; "ocfl-scrub cursor 3\n{body}")?.as_str(),
-    )?;
-    let malformed = sealed(
-        alloc,
-        format!(in alloc; "ocfl-scrub cursor 2\n{body}0")?.as_str(),
-    )?;
+    let other = format!(in alloc; "ocfl-scrub cursor 3\n{LINES}")?;
+    let malformed = format!(in alloc; "ocfl-scrub cursor 2\n{LINES}0")?;
     let zero = "ocfl-scrub cursor 2\ncycle 03\nruns 2\nspent 9\nfiles 3\nended\n";
-    let zero = sealed(alloc, zero)?;
-    let cases = [
-        ("no byte", b"".as_slice(), "cursor refused: not a cursor"),
-        ("version 3", other.as_bytes(), "cursor refused: version"),
-        ("without its last byte", damaged, "cursor refused: damaged"),
+    for (row, file, note) in [
+        ("no byte", Vec::new(alloc), "cursor refused: not a cursor"),
+        (
+            "version 3",
+            sealed(alloc, other.as_str())?,
+            "cursor refused: version",
+        ),
+        (
+            "without its last byte",
+            cut(whole_text(alloc)?),
+            "cursor refused: damaged",
+        ),
         (
             "a digit after the place",
-            malformed.as_bytes(),
+            sealed(alloc, malformed.as_str())?,
             "cursor refused: malformed",
         ),
         (
             "a cycle with a leading zero",
-            zero.as_bytes(),
+            sealed(alloc, zero)?,
             "cursor refused: malformed",
         ),
-    ];
-    for (row, file, note) in cases {
+    ] {
         for (command, deed) in [("run", run_of(1)?), ("show", Deed::Show)] {
             let row = format!(in alloc; "{command}, {row}")?;
-            expect_silent(&rt, row.as_str(), &deed, Some(file), "", 4, note)?;
+            let file = Some(file.as_slice());
+            expect_silent(&rt, row.as_str(), &deed, file, ("", 4, note))?;
         }
     }
     Ok(())
 }
 
-/// A reader that fails.
-#[derive(Drop)]
-struct Failing(ErrorKind);
-
-impl Read for Failing {
-    fn read(&mut self, _buf: &mut [u8]) -> io::Result<usize> {
-        Err(io::Error::from(self.0))
-    }
-}
-
 #[test]
 fn cursor_files_that_fail(rt: HostRuntime) -> Result<(), Fail> {
     let alloc = rt.alloc();
-    let cases = [
-        (ErrorKind::PermissionDenied, "cursor file failed"),
-        (ErrorKind::OutOfMemory, "out of memory"),
-    ];
-    for (kind, note) in cases {
+    for (_, kind, note) in failures("cursor file failed", "out of memory") {
         for (command, deed) in [("run", run_of(1)?), ("show", Deed::Show)] {
             let row = format!(in alloc; "{command}, {kind:?}")?;
             let mut store = three_files(alloc)?;
-            let mut block = Block::new(alloc)?;
-            let mut out = Vec::new(alloc);
-            let mut reader = Failing(kind);
-            let reader = Some(&mut reader);
+            let (mut block, mut out) = (Block::new(alloc)?, Vec::new(alloc));
+            let mut file = Slow {
+                left: b"",
+                then: Then::Fails(kind),
+            };
+            let reader = Some(&mut file);
             let done = perform(alloc, &mut store, &deed, reader, &mut block, &mut out);
-            let said = format!(in alloc; "{}", done.note)?;
-            assert_eq!(rt; said.as_str(), note, "{row}");
-            assert_eq!(rt; done.status, 3, "{row}");
-            assert!(rt; done.cursor.is_none() && out.is_empty(), "{row}");
+            assert!(rt; done.cursor.is_none() && done.status == 3, "{row}");
+            expect_shown(&rt, row.as_str(), &done.note, note)?;
+            assert!(rt; out.is_empty(), "{row}");
             assert!(rt; was_not_called(&store), "{row}");
         }
     }
@@ -307,15 +279,8 @@ fn commands_on_worn_cursors(rt: HostRuntime) -> Result<(), Fail> {
         ("the end of the last cycle", u64::MAX, 0, State::Ended),
     ] {
         let file = encode(alloc, &cursor_of(cycle, runs, state)?)?;
-        expect_silent(
-            &rt,
-            row,
-            &run_of(9)?,
-            Some(file.as_slice()),
-            "",
-            3,
-            "cursor worn",
-        )?;
+        let file = Some(file.as_slice());
+        expect_silent(&rt, row, &run_of(9)?, file, ("", 3, "cursor worn"))?;
     }
     Ok(())
 }
@@ -334,7 +299,7 @@ fn findings(rt: HostRuntime) -> Result<(), Fail> {
         ),
     ] {
         let mut store = wrong_fixity(rt.alloc())?;
-        let stored = expect(&rt, row, &mut store, &deed, None, text, 1, note)?;
+        let stored = expect(&rt, row, &mut store, &deed, None, (text, 1, note))?;
         assert_eq!(rt; stored.is_some(), stores, "{row}");
     }
     Ok(())
@@ -349,26 +314,13 @@ fn what_cannot_be_computed_is_no_finding(rt: HostRuntime) -> Result<(), Fail> {
             "E023|o/v1/content/f|-\n",
             1,
         ),
-        (
-            "a right file",
-            r#""ABC_SHA256":["v1/content/f"]"#,
-            FILE_IS_OK,
-            0,
-        ),
+        ("a right file", LISTS_F, FILE_IS_OK, 0),
     ] {
         let inventory = listing(rt.alloc(), manifest, r#""blake2b-512":7"#)?;
         let mut store = object_with(rt.alloc(), inventory.as_str())?;
         let text = format!(in rt.alloc(); "ok|.|-\nS07|o|blake2b-512\n{line}")?;
-        let stored = expect(
-            &rt,
-            row,
-            &mut store,
-            &Deed::Audit,
-            None,
-            text.as_str(),
-            status,
-            "",
-        )?;
+        let wanted = (text.as_str(), status, "");
+        let stored = expect(&rt, row, &mut store, &Deed::Audit, None, wanted)?;
         assert!(rt; stored.is_none(), "{row}");
     }
     Ok(())
@@ -377,20 +329,19 @@ fn what_cannot_be_computed_is_no_finding(rt: HostRuntime) -> Result<(), Fail> {
 #[test]
 fn places_that_are_checked(rt: HostRuntime) -> Result<(), Fail> {
     let alloc = rt.alloc();
-    let cases = [
-        (FILE, FILE_IS_OK, 0, ""),
-        (".", "ok|.|-\n", 0, ""),
-        ("o/v1/content/h", "", 0, "no item"),
-        ("o//f", "", 2, "bad path"),
-    ];
-    for (path, text, status, note) in cases {
+    for (path, wanted) in [
+        (FILE, (FILE_IS_OK, 0, "")),
+        (".", ("ok|.|-\n", 0, "")),
+        ("o/v1/content/h", ("", 0, "no item")),
+        ("o//f", ("", 2, "bad path")),
+    ] {
         let deed = Deed::Check(format!(in alloc; "{path}")?);
         let mut store = right_object(alloc)?;
-        let stored = expect(&rt, path, &mut store, &deed, None, text, status, note)?;
+        let stored = expect(&rt, path, &mut store, &deed, None, wanted)?;
         assert!(rt; stored.is_none(), "{path}");
     }
     let deed = Deed::Check(format!(in alloc; "o//f")?);
-    expect_silent(&rt, "no call", &deed, None, "", 2, "bad path")
+    expect_silent(&rt, "no call", &deed, None, ("", 2, "bad path"))
 }
 
 #[test]
@@ -398,19 +349,19 @@ fn commands_that_a_call_stops(rt: HostRuntime) -> Result<(), Fail> {
     let alloc = rt.alloc();
     for (row, place, point, text, note, state) in STOPS {
         let mut store = stopping(alloc, place, point)?;
-        let stored = expect(&rt, row, &mut store, &run_of(9)?, None, text, 3, note)?;
+        let wanted = (text, 3, note);
+        let stored = expect(&rt, row, &mut store, &run_of(9)?, None, wanted)?;
         let body = format!(in alloc;
             "ocfl-scrub cursor 2\ncycle 1\nruns 1\nspent 0\nfiles 0\n{state}\n"
         )?;
-        let right = sealed(alloc, body.as_str())?;
-        assert!(rt; stored.as_deref() == Some(right.as_bytes()), "{row}");
+        expect_stored(&rt, row, stored, body.as_str())?;
         for (command, deed) in [
             ("audit", Deed::Audit),
             ("cycle", Deed::Cycle(limits(9, MOST)?, 2)),
         ] {
             let row = format!(in alloc; "{command}, {row}")?;
             let mut store = stopping(alloc, place, point)?;
-            let stored = expect(&rt, row.as_str(), &mut store, &deed, None, text, 3, note)?;
+            let stored = expect(&rt, row.as_str(), &mut store, &deed, None, wanted)?;
             assert!(rt; stored.is_none(), "{row}");
         }
     }
@@ -426,7 +377,8 @@ fn with_ten_bytes(
     let alloc = rt.alloc();
     let mut store = long_object(alloc, "ABC_SHA512")?;
     let (mut block, mut out) = (Block::new(alloc)?, Narrow::new(alloc, 10));
-    let mut file = STORED.as_bytes();
+    let file = whole_text(alloc)?;
+    let mut file = file.as_slice();
     let reader = match deed {
         Deed::Show => Some(&mut file),
         _ => None,
@@ -466,13 +418,6 @@ fn commands_into_ten_bytes(rt: HostRuntime) -> Result<(), Fail> {
 #[test]
 fn limits_of_more_runs_than_memory_holds(rt: HostRuntime) -> Result<(), Fail> {
     let deed = Deed::Cycle(limits(9, MOST)?, usize::MAX);
-    expect_silent(
-        &rt,
-        "more runs than memory",
-        &deed,
-        None,
-        "",
-        3,
-        "out of memory",
-    )
+    let wanted = ("", 3, "out of memory");
+    expect_silent(&rt, "more runs than memory", &deed, None, wanted)
 }

@@ -1,17 +1,15 @@
 //! What the program does for a command on a branch or on one part of a storage root.
 use super::expected::HEADS;
-use super::run_figures::{A, B, C, MOST, limits};
+use super::perform::{expect_stored, expect_within, run_of};
+use super::run_figures::{A, B, C};
 use super::stop::stopping;
 use crate::common::Runtime;
-use crate::common::digests::lines_of;
+use crate::common::cursors::{cut, ends_of, sealed};
 use crate::common::roots::{right_objects, three_files};
 use crate::common::store::{place_of, was_not_called};
-use ocfl_cursor::PartEnds;
 use ocfl_deed::Deed;
-use ocfl_digest::Block;
-use ocfl_scrub::{Performed, Scope, perform_part};
-use ocfl_tree::{Place, Point, Tree};
-use sha2::{Digest, Sha256};
+use ocfl_scrub::Scope;
+use ocfl_tree::{Point, Tree};
 use std::alloc::Global;
 use std::test::Fail;
 
@@ -26,48 +24,19 @@ fn expect<T: Tree>(
     file: Option<&[u8]>,
     wanted: (&str, u8, &str),
 ) -> Result<Option<Vec<u8>>, Fail> {
-    let alloc = rt.alloc();
-    let (text, status, note) = wanted;
-    let mut out = Vec::new(alloc);
-    let mut block = Block::new(alloc)?;
-    let mut bytes = file.unwrap_or_default();
-    let reader = match file {
-        Some(_) => Some(&mut bytes),
-        None => None,
-    };
-    let done = perform_part(alloc, store, deed, scope, reader, &mut block, &mut out);
-    let wrote = String::from_utf8(out)?;
-    let said = format!(in alloc; "{}", done.note)?;
-    assert_eq!(rt; wrote.as_str(), lines_of(alloc, text)?.as_str(), "{row}");
-    assert_eq!(rt; said.as_str(), note, "{row}");
-    assert_eq!(rt; done.status, status, "{row}");
-    let Performed { cursor, .. } = done;
-    Ok(cursor)
+    expect_within(rt, row, store, deed, Some(scope), file, wanted)
 }
 
 /// The part between two places; `-` is no place.
 fn part(alloc: Global, from: &str, below: &str) -> Result<Scope, Fail> {
-    let end_of = |path: &str| -> Result<Option<Place>, Fail> {
-        if path == "-" {
-            Ok(None)
-        } else {
-            Ok(Some(place_of(alloc, path)?))
-        }
-    };
-    Ok(Scope::Part(PartEnds {
-        from: end_of(from)?,
-        below: end_of(below)?,
-    }))
+    Ok(Scope::Part(ends_of(alloc, from, below)?))
 }
 
-fn run_of(budget: u64) -> Result<Deed, Fail> {
-    Ok(Deed::Run(limits(budget, MOST)?))
-}
-
-/// A text with its right digest line.
-fn sealed(alloc: Global, body: &str) -> Result<String, Fail> {
-    let digest = hex::encode(alloc, Sha256::digest(body.as_bytes()))?;
-    Ok(format!(in alloc; "{body}digest {digest}\n")?)
+/// The first lines of a cursor of that part.
+fn front_of(alloc: Global, from: &str, below: &str) -> Result<String, Fail> {
+    let from = if from == "-" { "start" } else { from };
+    let below = if below == "-" { "end" } else { below };
+    Ok(format!(in alloc; "ocfl-scrub part cursor 1\nfrom {from}\nbelow {below}\n")?)
 }
 
 const FILE_A: &str = "o/v1/content/a";
@@ -99,10 +68,7 @@ fn audits_of_parts(rt: HostRuntime) -> Result<(), Fail> {
     let alloc = rt.alloc();
     for (row, from, below, pieces) in PARTS {
         let scope = part(alloc, from, below)?;
-        let mut text = String::new(alloc);
-        for piece in pieces {
-            text.push_str(piece)?;
-        }
+        let text = pieces.concat(alloc)?;
         let wanted = (text.as_str(), 0, "");
         let mut store = three_files(alloc)?;
         let stored = expect(&rt, row, &mut store, &Deed::Audit, &scope, None, wanted)?;
@@ -119,9 +85,7 @@ fn audits_of_parts(rt: HostRuntime) -> Result<(), Fail> {
         let wanted = (text.as_str(), 0, note.as_str());
         let stored = expect(&rt, row, &mut store, &run_of(9)?, &scope, None, wanted)?;
         let stored = String::from_utf8(stored.ok_or("a cursor")?)?;
-        let from = if from == "-" { "start" } else { from };
-        let below = if below == "-" { "end" } else { below };
-        let front = format!(in alloc; "ocfl-scrub part cursor 1\nfrom {from}\nbelow {below}\n")?;
+        let front = front_of(alloc, from, below)?;
         assert!(rt; stored.as_str().starts_with(front.as_str()), "{row}");
     }
     Ok(())
@@ -189,7 +153,7 @@ fn runs_of_a_part_go_on(rt: HostRuntime) -> Result<(), Fail> {
         let wanted = (text, 0, note);
         stored = expect(&rt, row, &mut store, &run_of(budget)?, &scope, file, wanted)?;
         let right = sealed(alloc, format!(in alloc; "{FROM_B}{lines}")?.as_str())?;
-        assert!(rt; stored.as_deref() == Some(right.as_bytes()), "{row}");
+        assert!(rt; stored.as_deref() == Some(right.as_slice()), "{row}");
     }
     Ok(())
 }
@@ -228,26 +192,20 @@ fn runs_of_a_part_from_anywhere(rt: HostRuntime) -> Result<(), Fail> {
     let alloc = rt.alloc();
     for (row, state, from, below, pieces, cost) in STANDS {
         let scope = part(alloc, from, below)?;
-        let from = if from == "-" { "start" } else { from };
-        let below = if below == "-" { "end" } else { below };
-        let front = format!(in alloc; "ocfl-scrub part cursor 1\nfrom {from}\nbelow {below}\n")?;
+        let front = front_of(alloc, from, below)?;
         let body = format!(in alloc; "{front}cycle 1\nruns 0\nspent 0\nfiles 0\n{state}\n")?;
         let file = sealed(alloc, body.as_str())?;
-        let mut text = String::new(alloc);
-        for piece in pieces {
-            text.push_str(piece)?;
-        }
+        let text = pieces.concat(alloc)?;
         let note = format!(in alloc; "cycle 1, run 1, cost {cost}, ended")?;
         let wanted = (text.as_str(), 0, note.as_str());
         let mut store = three_files(alloc)?;
-        let file = Some(file.as_bytes());
+        let file = Some(file.as_slice());
         let stored = expect(&rt, row, &mut store, &run_of(9)?, &scope, file, wanted)?;
         let files = pieces.len();
         let body = format!(in alloc;
             "{front}cycle 1\nruns 1\nspent {cost}\nfiles {files}\nended\n"
         )?;
-        let right = sealed(alloc, body.as_str())?;
-        assert!(rt; stored.as_deref() == Some(right.as_bytes()), "{row}");
+        expect_stored(&rt, row, stored, body.as_str())?;
     }
     Ok(())
 }
@@ -268,51 +226,49 @@ fn expect_refused(
     Ok(())
 }
 
+/// The lines of a cursor after the first run of that part.
+const BEHIND_B: &str = "cycle 1\nruns 1\nspent 1\nfiles 1\nafter o/v1/content/b\n";
+
+/// The text of that cursor, with this behind its lines.
+fn behind_b(alloc: Global, more: &str) -> Result<Vec<u8>, Fail> {
+    sealed(
+        alloc,
+        format!(in alloc; "{FROM_B}{BEHIND_B}{more}")?.as_str(),
+    )
+}
+
 #[test]
 fn cursors_of_other_parts(rt: HostRuntime) -> Result<(), Fail> {
     let alloc = rt.alloc();
-    let lines = "cycle 1\nruns 1\nspent 1\nfiles 1\nafter o/v1/content/b\n";
-    let of_part = sealed(alloc, format!(in alloc; "{FROM_B}{lines}")?.as_str())?;
-    let of_whole = format!(in alloc; "ocfl-scrub cursor 2\n{lines}")?;
-    let of_whole = sealed(alloc, of_whole.as_str())?;
-    let file = of_part.as_bytes();
+    let file = behind_b(alloc, "")?;
     let another = "cursor refused: another part";
     for (row, scope) in [
         ("the part before it", part(alloc, "-", FILE_B)?),
         ("a part that begins later", part(alloc, FILE_C, "-")?),
     ] {
-        expect_refused(&rt, row, file, &scope, another)?;
+        expect_refused(&rt, row, &file, &scope, another)?;
     }
     let none = "cursor refused: not a cursor";
-    expect_refused(&rt, "the whole root", file, &Scope::Whole, none)?;
+    expect_refused(&rt, "the whole root", &file, &Scope::Whole, none)?;
     let branch = Scope::Branch(place_of(alloc, "o")?);
-    expect_refused(&rt, "a branch", file, &branch, none)?;
-    let (row, file) = ("the whole root's", of_whole.as_bytes());
-    expect_refused(&rt, row, file, &part(alloc, "-", "-")?, none)
+    expect_refused(&rt, "a branch", &file, &branch, none)?;
+    let of_whole = format!(in alloc; "ocfl-scrub cursor 2\n{BEHIND_B}")?;
+    let (row, file) = ("the whole root's", sealed(alloc, of_whole.as_str())?);
+    expect_refused(&rt, row, &file, &part(alloc, "-", "-")?, none)
 }
 
 #[test]
 fn bytes_that_are_no_cursor_of_a_part(rt: HostRuntime) -> Result<(), Fail> {
-    let alloc = rt.alloc();
-    let lines = "cycle 1\nruns 1\nspent 1\nfiles 1\nafter o/v1/content/b\n";
-    let text = sealed(alloc, format!(in alloc; "{FROM_B}{lines}")?.as_str())?;
-    let damaged = &text.as_bytes()[..text.len() - 1];
-    let malformed = sealed(alloc, format!(in alloc; "{FROM_B}{lines}0\n")?.as_str())?;
-    let scope = part(alloc, FILE_B, "-")?;
-    for (row, file, note) in [
-        ("no byte", b"".as_slice(), "cursor refused: not a cursor"),
-        (
-            "its last byte is missing",
-            damaged,
-            "cursor refused: damaged",
-        ),
-        (
-            "one line more",
-            malformed.as_bytes(),
-            "cursor refused: malformed",
-        ),
+    let scope = part(rt.alloc(), FILE_B, "-")?;
+    let damaged = cut(behind_b(rt.alloc(), "")?);
+    let malformed = behind_b(rt.alloc(), "0\n")?;
+    for (row, file, why) in [
+        ("no byte", b"".as_slice(), "not a cursor"),
+        ("its last byte is missing", &damaged, "damaged"),
+        ("one line more", &malformed, "malformed"),
     ] {
-        expect_refused(&rt, row, file, &scope, note)?;
+        let note = format!(in rt.alloc(); "cursor refused: {why}")?;
+        expect_refused(&rt, row, file, &scope, note.as_str())?;
     }
     Ok(())
 }
@@ -320,72 +276,55 @@ fn bytes_that_are_no_cursor_of_a_part(rt: HostRuntime) -> Result<(), Fail> {
 #[test]
 fn cursors_of_parts_that_are_shown(rt: HostRuntime) -> Result<(), Fail> {
     let alloc = rt.alloc();
-    let lines = "cycle 1\nruns 1\nspent 1\nfiles 1\nafter o/v1/content/b\n";
-    let text = sealed(alloc, format!(in alloc; "{FROM_B}{lines}")?.as_str())?;
-    let shown = format!(in alloc; "from o/v1/content/b\nbelow end\n{lines}")?;
-    let damaged = &text.as_bytes()[..text.len() - 1];
-    let malformed = sealed(alloc, format!(in alloc; "{FROM_B}{lines}0\n")?.as_str())?;
+    let right = behind_b(alloc, "")?;
+    let shown = format!(in alloc; "from o/v1/content/b\nbelow end\n{BEHIND_B}")?;
+    let damaged = cut(behind_b(alloc, "")?);
+    let malformed = behind_b(alloc, "0\n")?;
     for (row, file, wanted) in [
-        ("right", text.as_bytes(), (shown.as_str(), 0, "")),
+        ("right", right.as_slice(), (shown.as_str(), 0, "")),
         (
             "without its last byte",
-            damaged,
+            &damaged,
             ("", 4, "cursor refused: damaged"),
         ),
         (
             "one line more",
-            malformed.as_bytes(),
+            &malformed,
             ("", 4, "cursor refused: malformed"),
         ),
     ] {
         // Within any scope.
         for scope in [Scope::Whole, part(alloc, "-", FILE_B)?] {
             let mut store = three_files(alloc)?;
-            let stored = expect(
-                &rt,
-                row,
-                &mut store,
-                &Deed::Show,
-                &scope,
-                Some(file),
-                wanted,
-            )?;
+            let (deed, file) = (Deed::Show, Some(file));
+            let stored = expect(&rt, row, &mut store, &deed, &scope, file, wanted)?;
             assert!(rt; stored.is_none() && store.listings().is_empty(), "{row}");
         }
     }
     Ok(())
 }
 
-/// Three parts of a root in which the object `o` cannot be listed: their ends as places and in
-/// texts, what each writes, the status, the notes of an audit and of a run, and the cursor's state.
-const BESIDE: [(&str, &str, &str, &str, u8, &str, &str, &str); 3] = [
+/// Parts of a root in which the object `o` cannot be listed: their ends as places and in texts, what
+/// an audit of each writes with its status and note, the note of a run, and its cursor's state.
+const BESIDE: [((&str, &str), &str, (&str, u8, &str), &str, &str); 3] = [
     (
-        "-",
-        "o",
+        ("-", "o"),
         "from start\nbelow o\n",
-        "ok|.|-\n",
-        0,
-        "",
+        ("ok|.|-\n", 0, ""),
         "cycle 1, run 1, cost 0, ended",
         "ended",
     ),
     (
-        "o",
-        "o\u{1}",
+        ("o", "o\u{1}"),
         "from o\nbelow o%01\n",
-        "",
-        3,
-        "stopped at o",
+        ("", 3, "stopped at o"),
         "stopped at o",
         "start",
     ),
     (
-        "o\u{1}",
-        "-",
+        ("o\u{1}", "-"),
         "from o%01\nbelow end\n",
-        "",
-        0,
-        "",
+        ("", 0, ""),
         "cycle 1, run 1, cost 0, ended",
         "ended",
     ),
@@ -394,20 +333,19 @@ const BESIDE: [(&str, &str, &str, &str, u8, &str, &str, &str); 3] = [
 #[test]
 fn parts_beside_one_that_stops(rt: HostRuntime) -> Result<(), Fail> {
     let alloc = rt.alloc();
-    for (from, below, ends, text, status, audited, ran, state) in BESIDE {
+    for ((from, below), ends, audited, note, state) in BESIDE {
         let scope = part(alloc, from, below)?;
         let mut store = stopping(alloc, "o", Point::List)?;
-        let wanted = (text, status, audited);
-        let stored = expect(&rt, ends, &mut store, &Deed::Audit, &scope, None, wanted)?;
+        let stored = expect(&rt, ends, &mut store, &Deed::Audit, &scope, None, audited)?;
         assert!(rt; stored.is_none(), "{ends}");
         let mut store = stopping(alloc, "o", Point::List)?;
-        let wanted = (text, status, ran);
+        let (text, status, _) = audited;
+        let wanted = (text, status, note);
         let stored = expect(&rt, ends, &mut store, &run_of(9)?, &scope, None, wanted)?;
         let body = format!(in alloc;
             "ocfl-scrub part cursor 1\n{ends}cycle 1\nruns 1\nspent 0\nfiles 0\n{state}\n"
         )?;
-        let right = sealed(alloc, body.as_str())?;
-        assert!(rt; stored.as_deref() == Some(right.as_bytes()), "{ends}");
+        expect_stored(&rt, ends, stored, body.as_str())?;
     }
     Ok(())
 }

@@ -134,11 +134,21 @@ pub(crate) fn expect_run<T: Tree>(
     said: &str,
 ) -> Result<Cursor, Fail> {
     let alloc = rt.alloc();
-    let mut out = Vec::new(alloc);
-    let mut block = Block::new(alloc)?;
+    let (mut block, mut out) = (Block::new(alloc)?, Vec::new(alloc));
     let end = run(alloc, store, cursor, limits, &mut block, &mut out);
+    expect_run_end(rt, row, end, out, (pieces, said))
+}
+
+/// A run that ended so wrote these pieces, and says this. It gives its cursor.
+pub(crate) fn expect_run_end(
+    rt: &impl Runtime,
+    row: &str,
+    end: RunEnd,
+    out: Vec<u8>,
+    (pieces, said): (&[&str], &str),
+) -> Result<Cursor, Fail> {
     expect_text(rt, row, out, pieces, said)?;
-    let says = run_says(alloc, &end)?;
+    let says = run_says(rt.alloc(), &end)?;
     assert_eq!(rt; says.as_str(), said, "{row}");
     let RunEnd { cursor, .. } = end;
     Ok(cursor)
@@ -152,16 +162,10 @@ pub(crate) fn expect_text(
     pieces: &[&str],
     said: &str,
 ) -> Result<(), Fail> {
-    let mut text = String::new(rt.alloc());
-    for piece in pieces {
-        text.push_str(piece)?;
-    }
+    let text = pieces.concat(rt.alloc())?;
+    let wanted = lines_of(rt.alloc(), text.as_str())?;
     let wrote = String::from_utf8(out)?;
-    assert_eq!(rt;
-        wrote.as_str(),
-        lines_of(rt.alloc(), text.as_str())?.as_str(),
-        "{row}: {said}"
-    );
+    assert_eq!(rt; wrote.as_str(), wanted.as_str(), "{row}: {said}");
     Ok(())
 }
 
@@ -199,8 +203,7 @@ pub(crate) fn expect_cycle<T: Tree>(
     said: &str,
 ) -> Result<(), Fail> {
     let alloc = rt.alloc();
-    let mut out = Vec::new(alloc);
-    let mut block = Block::new(alloc)?;
+    let (mut block, mut out) = (Block::new(alloc)?, Vec::new(alloc));
     let end = cycle(alloc, store, limits, &mut block, &mut out);
     expect_text(rt, row, out, pieces, said)?;
     let says = cycle_says(alloc, &end)?;

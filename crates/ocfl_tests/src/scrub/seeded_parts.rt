@@ -1,15 +1,14 @@
 //! The reports of the parts of random storage roots, joined, are the audit of the root.
 use super::entered::some_place;
 use super::parts_of_roots::parts_between;
-use super::run_figures::{Figures, equal_limits, limits, reckoned};
+use super::run_figures::{equal_limits, reckoned};
 use super::seeded::{Dice, grow};
+use super::seeded_run::{Runs, most_runs};
 use crate::common::Runtime;
 use crate::common::store::place_of;
-use ocfl_cursor::{Cursor, PartEnds, decode_part, encode_part};
+use ocfl_cursor::{PartEnds, decode_part, encode_part};
 use ocfl_digest::Block;
-use ocfl_scrub::{
-    CycleStatus, End, Part, RunEnd, RunStatus, audit, audit_part, cycle_part, run_part,
-};
+use ocfl_scrub::{CycleStatus, End, Part, audit, audit_part, cycle_part, run_part};
 use ocfl_tree::{MemTree, Place};
 use std::alloc::Global;
 use std::test::Fail;
@@ -83,48 +82,8 @@ fn audit_of(
     Ok(text)
 }
 
-/// What the runs of one cycle of a part wrote, the cursor of the last one, and the least limits.
-#[derive(Drop)]
-struct Ran {
-    joined: String,
-    cursor: Cursor,
-    least_budget: u64,
-    least_files: u64,
-}
-
-/// Makes one more run, from the cursor as it is read from its text. It says whether items are left.
-fn runs_on(
-    rt: &impl Runtime,
-    row: &str,
-    store: &mut MemTree,
-    part: &Part,
-    ran: &mut Ran,
-    most: (u64, u64),
-) -> Result<bool, Fail> {
-    let alloc = rt.alloc();
-    ran.least_budget = ran.least_budget.min(most.0);
-    ran.least_files = ran.least_files.min(most.1);
-    let ends = ends_of(part)?;
-    let stored = encode_part(alloc, &ends, &ran.cursor)?;
-    let from = decode_part(alloc, &stored, &ends)?;
-    let limits = limits(most.0, most.1)?;
-    let (mut block, mut out) = (Block::new(alloc)?, Vec::new(alloc));
-    let made = run_part(alloc, store, part, from, limits, &mut block, &mut out);
-    let text = String::from_utf8(out)?;
-    let due = reckoned(text.as_str())?;
-    assert_eq!(rt; made.spent, due.spent, "{row}: {text}");
-    assert_eq!(rt; made.files, due.files, "{row}: {text}");
-    assert_eq!(rt; made.found, due.found, "{row}: {text}");
-    ran.joined.push_str(text.as_str())?;
-    let RunEnd { cursor, end, .. } = made;
-    ran.cursor = cursor;
-    let goes_on = matches!(end, RunStatus::Spent);
-    assert!(rt; goes_on || matches!(end, RunStatus::Ended), "{row}: {text}");
-    Ok(goes_on)
-}
-
 /// The ends of a part, as its cursors name them.
-fn ends_of(part: &Part) -> Result<PartEnds, Fail> {
+fn ends_named(part: &Part) -> Result<PartEnds, Fail> {
     let from = match &part.from {
         Some(from) => Some(from.try_clone()?),
         None => None,
@@ -136,69 +95,65 @@ fn ends_of(part: &Part) -> Result<PartEnds, Fail> {
     Ok(PartEnds { from, below })
 }
 
-/// How many runs a cycle has at most, by these figures and limits.
-fn most_runs(due: &Figures, budget: u64, files: u64) -> Result<u64, Fail> {
-    let by_cost = due.spent.checked_div(budget).ok_or("no budget")?;
-    let by_files = due.files.checked_div(files).ok_or("no limit")?;
-    Ok(by_cost.saturating_add(by_files).saturating_add(1))
+/// A part, and what an audit of it writes.
+#[derive(Drop)]
+struct Audited<'a> {
+    part: &'a Part,
+    text: &'a str,
 }
 
-/// Runs with small limits of all kinds write, joined, the text, and are not many. It gives their
-/// number.
-fn expect_part_runs(
-    rt: &impl Runtime,
-    row: &str,
-    store: &mut MemTree,
-    part: &Part,
-    dice: &mut Dice,
-    text: &str,
-) -> Result<u64, Fail> {
-    let mut ran = Ran {
-        joined: String::new(rt.alloc()),
-        cursor: Cursor::new(),
-        least_budget: u64::MAX,
-        least_files: u64::MAX,
-    };
-    for _ in 0..100u64 {
-        let budget = dice.throw(6).saturating_add(1);
-        let files = dice.throw(2).saturating_add(1);
-        if !runs_on(rt, row, store, part, &mut ran, (budget, files))? {
-            break;
+impl Audited<'_> {
+    /// Runs with small limits of all kinds, each from the cursor as it is read from its text,
+    /// write, joined, the text, and are not many. It gives their number.
+    fn expect_runs(
+        &self,
+        rt: &impl Runtime,
+        row: &str,
+        store: &mut MemTree,
+        dice: &mut Dice,
+    ) -> Result<u64, Fail> {
+        let alloc = rt.alloc();
+        let ends = ends_named(self.part)?;
+        let mut block = Block::new(alloc)?;
+        let mut runs = Runs::new(alloc);
+        for _ in 0..100u64 {
+            let goes_on = runs.one_more(rt, row, dice, (6, 2), |from, limits, out| {
+                let stored = encode_part(alloc, &ends, &from)?;
+                let from = decode_part(alloc, &stored, &ends)?;
+                Ok(run_part(alloc, store, self.part, from, limits, &mut block, out))
+            })?;
+            if !goes_on {
+                break;
+            }
         }
+        runs.expect_report(rt, row, self.text)?;
+        Ok(runs.cursor.runs())
     }
-    assert_eq!(rt; ran.joined.as_str(), text, "{row}");
-    let due = reckoned(text)?;
-    let most = most_runs(&due, ran.least_budget, ran.least_files)?;
-    let runs = ran.cursor.runs();
-    assert!(rt; runs <= most, "{row}: {runs} runs");
-    assert_eq!(rt; ran.cursor.spent(), u128::from(due.spent), "{row}");
-    assert_eq!(rt; ran.cursor.files(), u128::from(due.files), "{row}");
-    Ok(runs)
-}
 
-/// A cycle with equal limits, as many as it may need, writes the text and ends.
-fn expect_part_cycle(
-    rt: &impl Runtime,
-    row: &str,
-    store: &mut MemTree,
-    part: &Part,
-    dice: &mut Dice,
-    text: &str,
-) -> Result<(), Fail> {
-    let alloc = rt.alloc();
-    let budget = dice.throw(8).saturating_add(1);
-    let files = dice.throw(3).saturating_add(1);
-    let due = reckoned(text)?;
-    let most = most_runs(&due, budget, files)? as usize;
-    let each = equal_limits(alloc, most, budget, files)?;
-    let (mut block, mut out) = (Block::new(alloc)?, Vec::new(alloc));
-    let end = cycle_part(alloc, store, part, each.as_slice(), &mut block, &mut out);
-    assert_eq!(rt; String::from_utf8(out)?.as_str(), text, "{row}");
-    assert!(rt; matches!(end.end, CycleStatus::Ended), "{row}");
-    assert_eq!(rt; end.spent, u128::from(due.spent), "{row}");
-    assert_eq!(rt; end.files, u128::from(due.files), "{row}");
-    assert_eq!(rt; end.found, due.found, "{row}");
-    Ok(())
+    /// A cycle with equal limits, as many as it may need, writes the text and ends.
+    fn expect_cycle(
+        &self,
+        rt: &impl Runtime,
+        row: &str,
+        store: &mut MemTree,
+        dice: &mut Dice,
+    ) -> Result<(), Fail> {
+        let alloc = rt.alloc();
+        let budget = dice.throw(8).saturating_add(1);
+        let files = dice.throw(3).saturating_add(1);
+        let due = reckoned(self.text)?;
+        let most = most_runs(&due, budget, files)? as usize;
+        let each = equal_limits(alloc, most, budget, files)?;
+        let (mut block, mut out) = (Block::new(alloc)?, Vec::new(alloc));
+        let each = each.as_slice();
+        let end = cycle_part(alloc, store, self.part, each, &mut block, &mut out);
+        assert_eq!(rt; String::from_utf8(out)?.as_str(), self.text, "{row}");
+        assert!(rt; matches!(end.end, CycleStatus::Ended), "{row}");
+        assert_eq!(rt; end.spent, u128::from(due.spent), "{row}");
+        assert_eq!(rt; end.files, u128::from(due.files), "{row}");
+        assert_eq!(rt; end.found, due.found, "{row}");
+        Ok(())
+    }
 }
 
 /// How many of the parts that were tried have no item, how many begin inside an object with some of
@@ -232,8 +187,10 @@ fn all_parts(
         let row = format!(in rt.alloc(); "{row}, part {}", number.saturating_add(1))?;
         let row = row.as_str();
         let text = audit_of(rt, row, &mut sames.audited, part)?;
-        let runs = expect_part_runs(rt, row, &mut sames.ran, part, dice, text.as_str())?;
-        expect_part_cycle(rt, row, &mut sames.cycled, part, dice, text.as_str())?;
+        let text = text.as_str();
+        let audited = Audited { part, text };
+        let runs = audited.expect_runs(rt, row, &mut sames.ran, dice)?;
+        audited.expect_cycle(rt, row, &mut sames.cycled, dice)?;
         let begins_inside = part
             .from
             .as_ref()
@@ -241,7 +198,7 @@ fn all_parts(
         met.empty += usize::from(text.is_empty());
         met.inside += usize::from(begins_inside && !text.is_empty());
         met.long += usize::from(runs > 1);
-        joined.push_str(text.as_str())?;
+        joined.push_str(text)?;
     }
     Ok(joined)
 }

@@ -11,48 +11,84 @@ use ocfl_tree::MemTree;
 use std::alloc::Global;
 use std::test::Fail;
 
-/// What the runs of one cycle did, by themselves and together.
+/// What the runs of one cycle did.
 #[derive(Drop)]
-struct Done {
+pub(crate) struct Runs {
     joined: String,
     limits: Vec<Limits>,
     least_budget: u64,
     least_files: u64,
-    cursor: Cursor,
-    block: Block,
+    pub(crate) cursor: Cursor,
 }
 
-/// Makes one more run. Its figures are those of its own report. It says whether items are left.
-fn one_more(
-    rt: &impl Runtime,
-    row: &str,
-    store: &mut MemTree,
-    done: &mut Done,
-    dice: &mut Dice,
-) -> Result<bool, Fail> {
-    let alloc = rt.alloc();
-    let budget = dice.throw(12).saturating_add(1);
-    let files = dice.throw(5).saturating_add(1);
-    done.least_budget = done.least_budget.min(budget);
-    done.least_files = done.least_files.min(files);
-    let limits = limits(budget, files)?;
-    done.limits.push(limits)?;
-    let from = std::mem::replace(&mut done.cursor, Cursor::new());
-    let mut out = Vec::new(alloc);
-    let end = run(alloc, store, from, limits, &mut done.block, &mut out);
-    let text = String::from_utf8(out)?;
-    let due = reckoned(text.as_str())?;
-    assert_eq!(rt; end.spent, due.spent, "{row}: {text}");
-    assert_eq!(rt; end.files, due.files, "{row}: {text}");
-    assert_eq!(rt; end.found, due.found, "{row}: {text}");
-    done.joined.push_str(text.as_str())?;
-    let RunEnd { cursor, end, .. } = end;
-    done.cursor = cursor;
-    assert!(rt;
-        matches!(end, RunStatus::Spent | RunStatus::Ended),
-        "{row}: {text}"
-    );
-    Ok(matches!(end, RunStatus::Spent))
+impl Runs {
+    pub(crate) fn new(alloc: Global) -> Runs {
+        Runs {
+            joined: String::new(alloc),
+            limits: Vec::new(alloc),
+            least_budget: u64::MAX,
+            least_files: u64::MAX,
+            cursor: Cursor::new(),
+        }
+    }
+
+    /// Makes one more run, by this call, with random limits up to these. Its figures are those of
+    /// its own report. It says whether items are left.
+    pub(crate) fn one_more(
+        &mut self,
+        rt: &impl Runtime,
+        row: &str,
+        dice: &mut Dice,
+        most: (u64, u64),
+        run: impl FnOnce(Cursor, Limits, &mut Vec<u8>) -> Result<RunEnd, Fail>,
+    ) -> Result<bool, Fail> {
+        let budget = dice.throw(most.0).saturating_add(1);
+        let files = dice.throw(most.1).saturating_add(1);
+        self.least_budget = self.least_budget.min(budget);
+        self.least_files = self.least_files.min(files);
+        let limits = limits(budget, files)?;
+        self.limits.push(limits)?;
+        let from = std::mem::replace(&mut self.cursor, Cursor::new());
+        let mut out = Vec::new(rt.alloc());
+        let made = run(from, limits, &mut out)?;
+        let text = String::from_utf8(out)?;
+        let due = reckoned(text.as_str())?;
+        assert_eq!(rt; made.spent, due.spent, "{row}: {text}");
+        assert_eq!(rt; made.files, due.files, "{row}: {text}");
+        assert_eq!(rt; made.found, due.found, "{row}: {text}");
+        self.joined.push_str(text.as_str())?;
+        let RunEnd { cursor, end, .. } = made;
+        self.cursor = cursor;
+        let goes_on = matches!(end, RunStatus::Spent);
+        assert!(rt; goes_on || matches!(end, RunStatus::Ended), "{row}: {text}");
+        Ok(goes_on)
+    }
+
+    /// Joined, the runs of a first cycle wrote this report. They are no more than its sums and the
+    /// least limits allow.
+    pub(crate) fn expect_report(
+        &self,
+        rt: &impl Runtime,
+        row: &str,
+        report: &str,
+    ) -> Result<(), Fail> {
+        assert_eq!(rt; self.joined.as_str(), report, "{row}");
+        let all = reckoned(report)?;
+        let most = most_runs(&all, self.least_budget, self.least_files)?;
+        let runs = self.cursor.runs();
+        assert!(rt; runs <= most, "{row}: {runs} runs");
+        assert_eq!(rt; self.cursor.spent(), u128::from(all.spent), "{row}");
+        assert_eq!(rt; self.cursor.files(), u128::from(all.files), "{row}");
+        assert_eq!(rt; self.cursor.cycle(), 1, "{row}");
+        Ok(())
+    }
+}
+
+/// How many runs a cycle has at most, by these figures and limits.
+pub(crate) fn most_runs(due: &Figures, budget: u64, files: u64) -> Result<u64, Fail> {
+    let by_cost = due.spent.checked_div(budget).ok_or("no budget")?;
+    let by_files = due.files.checked_div(files).ok_or("no limit")?;
+    Ok(by_cost.saturating_add(by_files).saturating_add(1))
 }
 
 /// Makes runs with limits of all kinds until no item is left.
@@ -61,19 +97,15 @@ fn runs_of(
     row: &str,
     store: &mut MemTree,
     dice: &mut Dice,
-) -> Result<Done, Fail> {
-    let alloc = rt.alloc();
-    let mut done = Done {
-        joined: String::new(alloc),
-        limits: Vec::new(alloc),
-        least_budget: u64::MAX,
-        least_files: u64::MAX,
-        cursor: Cursor::new(),
-        block: Block::new(alloc)?,
-    };
+) -> Result<Runs, Fail> {
+    let mut block = Block::new(rt.alloc())?;
+    let mut runs = Runs::new(rt.alloc());
     for _ in 0..1_000u64 {
-        if !one_more(rt, row, store, &mut done, dice)? {
-            return Ok(done);
+        let goes_on = runs.one_more(rt, row, dice, (12, 5), |from, limits, out| {
+            Ok(run(rt.alloc(), store, from, limits, &mut block, out))
+        })?;
+        if !goes_on {
+            return Ok(runs);
         }
     }
     Err("no end within 1,000 runs".into())
@@ -94,31 +126,18 @@ fn contents(store: &MemTree) -> usize {
         .count()
 }
 
-/// The runs are no more than the sums and the least limits allow.
-fn within(rt: &impl Runtime, row: &str, done: &Done, all: &Figures) -> Result<(), Fail> {
-    let by_cost = all.spent.checked_div(done.least_budget).ok_or("no budget")?;
-    let by_files = all.files.checked_div(done.least_files).ok_or("no limit")?;
-    let most = by_cost.checked_add(by_files).ok_or("too many")?;
-    assert!(rt; done.cursor.runs() <= most.saturating_add(1), "{row}");
-    assert_eq!(rt; done.cursor.spent(), u128::from(all.spent), "{row}");
-    assert_eq!(rt; done.cursor.files(), u128::from(all.files), "{row}");
-    assert_eq!(rt; done.cursor.cycle(), 1, "{row}");
-    Ok(())
-}
-
 /// Each file was opened once, and an inventory once more for each run behind the first at most.
 fn opened_once(
     rt: &impl Runtime,
     row: &str,
     once: &MemTree,
     store: &MemTree,
-    done: &Done,
+    runs: &Runs,
 ) -> Result<(), Fail> {
-    let alloc = rt.alloc();
-    assert_eq!(rt; done.cursor.files(), contents(store) as u128, "{row}");
-    let spare = done.limits.len().saturating_sub(1);
-    let most = inventories(alloc, once)?.saturating_add(spare);
-    assert!(rt; inventories(alloc, store)? <= most, "{row}");
+    assert_eq!(rt; runs.cursor.files(), contents(store) as u128, "{row}");
+    let spare = runs.limits.len().saturating_sub(1);
+    let most = inventories(rt.alloc(), once)?.saturating_add(spare);
+    assert!(rt; inventories(rt.alloc(), store)? <= most, "{row}");
     Ok(())
 }
 
@@ -127,13 +146,13 @@ fn cycle_is_the_audit(
     rt: &impl Runtime,
     row: &str,
     store: &mut MemTree,
-    done: &mut Done,
+    limits: &[Limits],
     text: &str,
-    all: &Figures,
 ) -> Result<(), Fail> {
-    let mut out = Vec::new(rt.alloc());
-    let limits = done.limits.as_slice();
-    let end = cycle(rt.alloc(), store, limits, &mut done.block, &mut out);
+    let alloc = rt.alloc();
+    let (mut block, mut out) = (Block::new(alloc)?, Vec::new(alloc));
+    let end = cycle(alloc, store, limits, &mut block, &mut out);
+    let all = reckoned(text)?;
     assert!(rt; matches!(end.end, CycleStatus::Ended), "{row}");
     assert_eq!(rt; end.runs, limits.len(), "{row}");
     assert_eq!(rt; end.spent, u128::from(all.spent), "{row}");
@@ -151,17 +170,16 @@ fn root_of_seed(rt: &impl Runtime, seed: u64) -> Result<(), Fail> {
     let row = row.as_str();
     let mut once = grow(alloc, seed)?;
     let text = whole(alloc, &mut once.store)?;
-    let all = reckoned(text.as_str())?;
     let mut grown = grow(alloc, seed)?;
     let mut dice = Dice {
         state: seed.wrapping_add(1_000_000),
     };
-    let mut done = runs_of(rt, row, &mut grown.store, &mut dice)?;
-    assert_eq!(rt; done.joined.as_str(), text.as_str(), "{row}");
-    within(rt, row, &done, &all)?;
-    opened_once(rt, row, &once.store, &grown.store, &done)?;
+    let runs = runs_of(rt, row, &mut grown.store, &mut dice)?;
+    runs.expect_report(rt, row, text.as_str())?;
+    opened_once(rt, row, &once.store, &grown.store, &runs)?;
     let mut again = grow(alloc, seed)?;
-    cycle_is_the_audit(rt, row, &mut again.store, &mut done, text.as_str(), &all)
+    let limits = runs.limits.as_slice();
+    cycle_is_the_audit(rt, row, &mut again.store, limits, text.as_str())
 }
 
 #[test]

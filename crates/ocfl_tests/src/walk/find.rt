@@ -134,34 +134,37 @@ fn a_root_of_no_known_version_has_one_item(rt: HostRuntime) -> Result<(), Fail> 
     Ok(())
 }
 
-/// Places, and what is listed and opened to find the items at them.
-const WAYS: [(&str, &str, &str); 9] = [
-    (".", ";", "0=ocfl_1.1;"),
-    ("notes", ";", ""),
-    ("p/f", ";p;", ""),
-    ("extensions/e", ";", ""),
-    ("p/s", ";p;p/s;", "p/s/0=ocfl_object_1.1;"),
+/// What is opened to find the items at places, and the places, each with what is listed for it.
+const WAYS: [(&str, &[(&str, &str)]); 5] = [
+    ("0=ocfl_1.1;", &[(".", ";")]),
+    ("", &[("notes", ";"), ("p/f", ";p;"), ("extensions/e", ";")]),
+    ("p/s/0=ocfl_object_1.1;", &[("p/s", ";p;p/s;")]),
     (
-        "p/o",
-        ";p;p/o;",
         "p/o/0=ocfl_object_1.1;p/o/inventory.json;",
+        &[("p/o", ";p;p/o;")],
     ),
-    ("p/o/v1", ";p;p/o;p/o/v1;", "p/o/inventory.json;"),
-    ("p/o/v2/data/f", ";p;p/o;", "p/o/inventory.json;"),
     (
-        "p/o/v1/data/d/u",
-        ";p;p/o;p/o/v1;p/o/v1/data;p/o/v1/data/d;",
         "p/o/inventory.json;",
+        &[
+            ("p/o/v1", ";p;p/o;p/o/v1;"),
+            ("p/o/v2/data/f", ";p;p/o;"),
+            (
+                "p/o/v1/data/d/u",
+                ";p;p/o;p/o/v1;p/o/v1/data;p/o/v1/data/d;",
+            ),
+        ],
     ),
 ];
 
 #[test]
 fn only_the_way_is_listed_and_one_inventory_read(rt: HostRuntime) -> Result<(), Fail> {
-    for (place, listings, openings) in WAYS {
-        let mut store = root(rt.alloc())?;
-        text_at(&mut store, rt.alloc(), place)?;
-        expect_listed(&rt, place, &store, listings)?;
-        expect_opened(&rt, place, &store, "", openings)?;
+    for (openings, places) in WAYS {
+        for (place, listings) in places {
+            let mut store = root(rt.alloc())?;
+            text_at(&mut store, rt.alloc(), place)?;
+            expect_listed(&rt, place, &store, listings)?;
+            expect_opened(&rt, place, &store, "", openings)?;
+        }
     }
     Ok(())
 }

@@ -15,7 +15,8 @@ fn begun(alloc: Global, store: &mut MemTree, from: &str) -> Result<Walk, Fail> {
 #[test]
 fn items_at_a_place_and_above_it(rt: HostRuntime) -> Result<(), Fail> {
     for (place, _, from) in STEPS {
-        expect_steps(&rt, begun, &mut missing_and_there(rt.alloc())?, place, from)?;
+        let mut store = missing_and_there(rt.alloc())?;
+        expect_steps(&rt, begun, &mut store, place, from)?;
     }
     Ok(())
 }

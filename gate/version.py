@@ -11,7 +11,7 @@ NUMBER = r"\d+\.\d+\.\d+"
 # The files that name the version, each with what comes before it there.
 PLACES = {
     "crates/ocfl_line/src/command.rt": r'const VERSION: &str = "',
-    "crates/ocfl_tests/src/line.rt": r'"ocfl-scrub ',
+    "crates/ocfl_tests/src/tests/line.rt": r'"ocfl-scrub ',
     "contrib/man/ocfl-scrub.1": r"ocfl\\-scrub ",
     "contrib/README.md": r"Program: ocfl-scrub ",
     "README.md": r"ocfl-scrub_",

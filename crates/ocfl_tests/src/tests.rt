@@ -1,0 +1,15 @@
+//! The tests, in a module for each crate. The first column of a table names its rows, and each
+//! assertion on a row carries that name.
+mod common;
+mod cursor;
+mod digest;
+mod folder;
+mod inventory;
+mod item;
+mod line;
+mod parts;
+mod report;
+mod scrub;
+mod split;
+mod tree;
+mod walk;

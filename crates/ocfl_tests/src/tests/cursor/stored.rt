@@ -1,0 +1,174 @@
+//! Cursors that a reader gives: those of a part, and what is shown of any.
+use crate::tests::common::Runtime;
+use crate::tests::common::cursors::{
+    BODY, LINES, OLD_LINES, cut, ends_of, old_text, sealed, whole_text,
+};
+use crate::tests::common::input::{Slow, Then, expect_failures};
+use ocfl_cursor::{
+    Cursor, CursorStop, PartCursorStop, PartRefused, Refused, ShowStop, encode_part,
+    no_stored_part_is_refused, part_lines, read_part_cursor, read_shown,
+    text_determines_what_is_shown,
+};
+use std::test::Fail;
+
+/// The text of a cursor of the part from `o/v1/content/b` on, before its digest line.
+const PART: &str = "ocfl-scrub part cursor 1\nfrom o/v1/content/b\nbelow end\n\
+    cycle 3\nruns 2\nspent 9\nfiles 3\nafter o/v1/content/c\n";
+
+/// Its lines.
+const PART_LINES: &str = "from o/v1/content/b\nbelow end\n\
+    cycle 3\nruns 2\nspent 9\nfiles 3\nafter o/v1/content/c\n";
+
+/// Reading these bytes as the cursor of the part of these ends stops so.
+fn expect_stop(
+    rt: &impl Runtime,
+    row: &str,
+    left: &[u8],
+    then: Then,
+    (from, below): (&str, &str),
+    wanted: Option<PartCursorStop>,
+) -> Result<(), Fail> {
+    let ends = ends_of(rt.alloc(), from, below)?;
+    let stop = read_part_cursor(rt.alloc(), &mut Slow { left, then }, &ends).err();
+    assert_eq!(rt; stop, wanted, "{row}");
+    Ok(())
+}
+
+/// Showing these bytes stops so.
+fn expect_unshown(rt: &impl Runtime, row: &str, left: &[u8], then: Then, wanted: ShowStop) {
+    let stop = read_shown(rt.alloc(), &mut Slow { left, then }).err();
+    assert_eq!(rt; stop, Some(wanted), "{row}");
+}
+
+#[test]
+fn cursors_of_parts_are_read_from_readers(rt: HostRuntime) -> Result<(), Fail> {
+    let alloc = rt.alloc();
+    let text = sealed(alloc, PART)?;
+    let b = "o/v1/content/b";
+    let ends = ends_of(alloc, b, "-")?;
+    let mut slice = text.as_slice();
+    let cursor = read_part_cursor(alloc, &mut slice, &ends)
+        .ok()
+        .ok_or("a cursor")?;
+    assert_eq!(rt; encode_part(alloc, &ends, &cursor)?, text);
+    let then = Then::Ends;
+    expect_stop(&rt, "its own part", &text, then, (b, "-"), None)?;
+    let other = PartCursorStop::Refused(PartRefused::OtherPart);
+    for (row, ends) in [
+        ("the part before it", ("-", b)),
+        ("the part that begins later", ("o/v1/content/c", "-")),
+        ("a part that ends sooner", (b, "o/v1/content/c")),
+        ("the part without ends", ("-", "-")),
+    ] {
+        expect_stop(&rt, row, &text, then, ends, Some(other))?;
+    }
+    no_stored_part_is_refused();
+    Ok(())
+}
+
+#[test]
+fn other_bytes_are_refused_to_a_part(rt: HostRuntime) -> Result<(), Fail> {
+    let alloc = rt.alloc();
+    let text = sealed(alloc, PART)?;
+    let whole = whole_text(alloc)?;
+    let malformed = sealed(alloc, "ocfl-scrub part cursor 1\n")?;
+    let short = &text[..text.len() - 1];
+    let memory = PartCursorStop::Refused(PartRefused::Memory);
+    let stops = (PartCursorStop::Read, memory);
+    // For its own part and for another one.
+    for ends in [("o/v1/content/b", "-"), ("-", "o/v1/content/b")] {
+        for (row, bytes, wanted) in [
+            ("no byte", b"".as_slice(), PartRefused::NotCursor),
+            ("a cursor of the whole", &whole, PartRefused::NotCursor),
+            ("without its last byte", short, PartRefused::Damaged),
+            ("no lines", &malformed, PartRefused::Malformed),
+        ] {
+            let refused = Some(PartCursorStop::Refused(wanted));
+            expect_stop(&rt, row, bytes, Then::Ends, ends, refused)?;
+        }
+        let part = ends_of(alloc, ends.0, ends.1)?;
+        let given = [("a reader that fails", text.as_slice())];
+        expect_failures(&rt, &given, stops, |mut reader| {
+            Ok(read_part_cursor(alloc, &mut reader, &part).err())
+        })?;
+    }
+    Ok(())
+}
+
+#[test]
+fn bytes_without_end_are_no_cursor(rt: HostRuntime) -> Result<(), Fail> {
+    let refused = PartCursorStop::Refused(PartRefused::NotCursor);
+    let unshown = ShowStop::Whole(CursorStop::Refused(Refused::NotCursor));
+    for (row, text) in [("a part's cursor", PART), ("a whole root's", BODY)] {
+        let (left, then) = (text.as_bytes(), Then::GoesOn);
+        expect_stop(&rt, row, left, then, ("-", "-"), Some(refused))?;
+        expect_unshown(&rt, row, left, then, unshown);
+    }
+    Ok(())
+}
+
+#[test]
+fn stored_cursors_are_shown(rt: HostRuntime) -> Result<(), Fail> {
+    let alloc = rt.alloc();
+    for (row, text, lines) in [
+        ("version 2", whole_text(alloc)?, LINES),
+        ("version 1", old_text(alloc)?, OLD_LINES),
+        ("a part", sealed(alloc, PART)?, PART_LINES),
+    ] {
+        let shown = read_shown(alloc, &mut text.as_slice());
+        let shown = shown.ok().ok_or("lines")?;
+        assert_eq!(rt; shown.as_slice(), lines.as_bytes(), "{row}");
+    }
+    let ends = ends_of(alloc, "start", "end")?;
+    let lines = part_lines(alloc, &ends, &Cursor::new())?;
+    let wanted = "from ./start\nbelow ./end\ncycle 1\nruns 0\nspent 0\nfiles 0\nstart\n";
+    assert_eq!(rt; lines.as_slice(), wanted.as_bytes());
+    let body = format!(in alloc; "ocfl-scrub part cursor 1\n{wanted}")?;
+    let text = sealed(alloc, body.as_str())?;
+    let shown = read_shown(alloc, &mut text.as_slice());
+    assert_eq!(rt; shown.ok().ok_or("lines")?, lines);
+    text_determines_what_is_shown();
+    Ok(())
+}
+
+#[test]
+fn nothing_is_shown_of_other_bytes(rt: HostRuntime) -> Result<(), Fail> {
+    let alloc = rt.alloc();
+    let of_whole = |refused| ShowStop::Whole(CursorStop::Refused(refused));
+    for (row, text, wanted) in [
+        ("no byte", Vec::new(alloc), of_whole(Refused::NotCursor)),
+        (
+            "version 2 of a part's cursor",
+            sealed(alloc, "ocfl-scrub part cursor 2\n")?,
+            of_whole(Refused::NotCursor),
+        ),
+        (
+            "version 3",
+            sealed(alloc, "ocfl-scrub cursor 3\n")?,
+            of_whole(Refused::Version),
+        ),
+        (
+            "a whole root's, cut",
+            cut(whole_text(alloc)?),
+            of_whole(Refused::Damaged),
+        ),
+        (
+            "a part's without its last byte",
+            cut(sealed(alloc, PART)?),
+            ShowStop::Part(PartRefused::Damaged),
+        ),
+        (
+            "a part without lines",
+            sealed(alloc, "ocfl-scrub part cursor 1\n")?,
+            ShowStop::Part(PartRefused::Malformed),
+        ),
+    ] {
+        expect_unshown(&rt, row, &text, Then::Ends, wanted);
+    }
+    let text = sealed(alloc, PART)?;
+    let given = [("a reader that fails", text.as_slice())];
+    let stops = (ShowStop::Whole(CursorStop::Read), of_whole(Refused::Memory));
+    expect_failures(&rt, &given, stops, |mut reader| {
+        Ok(read_shown(alloc, &mut reader).err())
+    })
+}

@@ -1,5 +1,5 @@
 -- A pass over all items of a part is its audit, and the whole is one part.
-use Rattle.std.proofs.Common.{◌≡◌, ◌≢◌, ℕ, zero, suc, ◌+◌, List, [], ◌∷◌, ◌++◌, refl, sym, ◌∙◌, ap, subst, Bool, false, None, Option, append-nil, length, map, take, arith}
+use Rattle.std.proofs.Common.{◌≡◌, ◌≢◌, ℕ, zero, suc, ◌+◌, List, [], ◌∷◌, ◌++◌, refl, sym, ◌∙◌, ap, subst, Bool, false, None, Option, length, map, take, arith}
 use Rattle.std.specs.Io.KnownBytes.{Appends}
 use Rattle.std.proofs.KnownBytes.{Appends-nil}
 use Rattle.ocfl_tree.specs.Place.{Place}
@@ -18,18 +18,18 @@ use Rattle.ocfl_audit.proofs.Trails.{unread_behind}
 use Rattle.ocfl_item.specs.Looking.{IsFront}
 use Rattle.ocfl_item.specs.Ways.{IsWayFault}
 use Rattle.ocfl_item.specs.Auditing.{Audits, Fails}
-use Rattle.ocfl_item.proofs.AuditingLaws.{audits_fail, audits_on}
 use Rattle.ocfl_walk.specs.Ends.{before_end}
 use Rattle.ocfl_walk.specs.WalkCalls.{GoesDown, GoDownFails}
 use Rattle.ocfl_item.specs.declared.fault.Fault.{Fault}
 use Rattle.ocfl_item.specs.declared.fault.Fault.TheVariants.{Output}
+use Rattle.ocfl_scrub.specs.Call.{call_of}
 use Rattle.ocfl_scrub.specs.Taking.{PartOf}
 use Rattle.ocfl_scrub.specs.Written.{places, last_of, StopsWithin}
 use Rattle.ocfl_scrub.specs.Running.{items_above_in}
-use Rattle.ocfl_scrub.specs.Starting.{end_of, entry, stand, looked_in, read_in}
+use Rattle.ocfl_scrub.specs.Starting.{end_of, entry, stand, looked_in, read_in, LooksOver, StopsLooking}
 use Rattle.ocfl_scrub.proofs.PartStarts.{above_in, due_starts, looked_all, read_all}
 use Rattle.ocfl_scrub.proofs.Passing.{due_in, Finishes, Halts}
-use Rattle.ocfl_scrub.proofs.WayOrder.{listed_once_in, read_once_in}
+use Rattle.ocfl_scrub.proofs.LookLaws.{looks_over, stops_looking, stops_above}
 use Rattle.ocfl_scrub.specs.WholeAudit.{items_in, AuditsWithin, AuditStopsWithin, AuditEndsWithin, AuditsAll, AuditStops, AuditEnds}
 use Rattle.ocfl_scrub.specs.declared.checking.End.{End}
 use Rattle.ocfl_scrub.specs.declared.checking.End.TheVariants.{Ended, Stopped}
@@ -75,7 +75,7 @@ module _ (root : StorageRoot) (part : Part) (s t : Store) (from : Option Place) 
 -- ---- a pass over all items of a part
 
 module _ (root : StorageRoot) (part : Part) (s t u : Store) (old new : Option (List ℕ)) (stood last : Option Place) (finding : Bool) (g : GoesDown root s t (entry part None)) where
-  pub finish_part : (h : Finishes root (end_of part) t u old new (stand root part None) stood finding) → last ≡ last_of None (due_in root (end_of part) (stand root part None)) → AuditsWithin root s u old new part last finding
+  pub finish_part : (h : Finishes root (end_of part) t u old new (stand root part None) stood finding) → last ≡ last_of None (due_in root (end_of part) (stand root part None)) → AuditsWithin (call_of root s u old new) part last finding
   finish_part h last_is =
       let all : List Place = due_in root (end_of part) (stand root part None) in
       let items : items_at root h.trail all ≡ items_in root (g.trail ++ h.trail) part = sym (above_at root part s t None g h.trail) in
@@ -85,20 +85,13 @@ module _ (root : StorageRoot) (part : Part) (s t u : Store) (old new : Option (L
       (subst (λ ls. Audits root t u all ls (before_end (end_of part) (read_between root (stand root part None) None)) h.trail) (looked_all root part None) h.audits) in
       record {
         trail = g.trail ++ h.trail;
-        down = g.listed;
-        held = g.heads;
-        audits = subst (λ ps. Audits root s u ps (g.listed ++ looked_in root part None None) (g.heads ++ read_in root part None None) (g.trail ++ h.trail)) at_places
-            (audits_on root s t u [] all g.listed (looked_in root part None None) g.heads (read_in root part None None) g.trail h.trail g.audits below);
-        down_front = g.listed_front;
-        held_front = g.heads_front;
-        lists_once = listed_once_in root part None None g.listed (looked_in root part None None) g.listed_front ([], sym (append-nil _));
-        reads_once = read_once_in root part None None g.heads (read_in root part None None) g.heads_front ([], sym (append-nil _));
+        looks = subst (λ ps. LooksOver (call_of root s u old new) part None None ps (g.trail ++ h.trail)) at_places (looks_over root part s t u old new None g None all h.trail below);
         wrote = subst (λ is. Appends old new (text is)) items h.wrote;
         last_is = last_is ∙ ap (last_of None) at_places;
         found_is = h.found_is ∙ ap found items;
       }
 
-  pub halt_part : (why : Fault) (h : Halts root (end_of part) t u old new (stand root part None) stood finding why) → last ≡ last_of None h.done → AuditStopsWithin root s u old new part last finding why
+  pub halt_part : (why : Fault) (h : Halts root (end_of part) t u old new (stand root part None) stood finding why) → last ≡ last_of None h.done → AuditStopsWithin (call_of root s u old new) part last finding why
   halt_part why h last_is =
       let left : List Place = due_in root (end_of part) stood in
       let next : items_at root h.trail (take 1 left) ≡ take 1 (items_at root h.trail left) = sym (take_items root h.trail 1 left) in
@@ -119,18 +112,8 @@ module _ (root : StorageRoot) (part : Part) (s t u : Store) (old new : Option (L
           last_is = last_is ∙ ap (last_of None) whole_places;
         };
         found_is = h.found_is;
-        down = g.listed;
-        listed = h.listed;
-        held = g.heads;
-        heads = h.heads;
-        fails = subst (λ ps. Fails root s u (ps ++ h.begun) (g.listed ++ h.listed) (g.heads ++ h.heads) (g.trail ++ h.trail) why) whole_places
-            (audits_fail root s t u [] (h.done ++ h.begun) g.listed h.listed g.heads h.heads g.trail h.trail why g.audits h.fails);
-        down_front = g.listed_front;
-        listed_front = listed_front;
-        held_front = g.heads_front;
-        heads_front = heads_front;
-        lists_once = listed_once_in root part None None g.listed h.listed g.listed_front listed_front;
-        reads_once = read_once_in root part None None g.heads h.heads g.heads_front heads_front;
+        looks = subst (λ ps. StopsLooking (call_of root s u old new) part None (ps ++ h.begun) (g.trail ++ h.trail) why) whole_places
+            (stops_looking root part s t u old new None g why (h.done ++ h.begun) h.listed h.heads h.trail h.fails listed_front heads_front);
       }
 
 -- nothing went out
@@ -148,23 +131,13 @@ nothing_out items old last why other = record {
 }
 
 -- no walk was started
-pub unstarted : (root : StorageRoot) (part : Part) (s t : Store) (old : Option (List ℕ)) (why : Fault) → IsWayFault why → GoDownFails root s t (entry part None) why → AuditStopsWithin root s t old old part None false why
+pub unstarted : (root : StorageRoot) (part : Part) (s t : Store) (old : Option (List ℕ)) (why : Fault) → IsWayFault why → GoDownFails root s t (entry part None) why → AuditStopsWithin (call_of root s t old old) part None false why
 unfolding nothing_out
 unstarted root part s t old why only g = record {
   trail = g.trail;
   stops = nothing_out (items_in root g.trail part) old None why only.0;
   found_is = refl;
-  down = g.listed;
-  listed = [];
-  held = g.heads;
-  heads = [];
-  fails = subst (λ ls. Fails root s t [] ls (g.heads ++ []) g.trail why) (sym (append-nil g.listed)) (subst (λ hs. Fails root s t [] g.listed hs g.trail why) (sym (append-nil g.heads)) g.fails);
-  down_front = g.listed_front;
-  listed_front = (looked_in root part None None, refl);
-  held_front = g.heads_front;
-  heads_front = (read_in root part None None, refl);
-  lists_once = listed_once_in root part None None g.listed [] g.listed_front (looked_in root part None None, refl);
-  reads_once = read_once_in root part None None g.heads [] g.heads_front (read_in root part None None, refl);
+  looks = stops_above root part s t old old None why g;
 }
 
 -- ---- the whole is one part
@@ -173,31 +146,31 @@ module _ (root : StorageRoot) (s t : Store) (old new : Option (List ℕ)) (last 
   all_places : (os : List Opening) → places (items_in root os whole) ≡ item_places root
   all_places os = ap places (after_is_due root os None) ∙ places_of_items root os (due root None) ∙ due_all root
 
-  whole_audit : AuditsWithin root s t old new whole last finding → AuditsAll root s t old new last finding
+  whole_audit : AuditsWithin (call_of root s t old new) whole last finding → AuditsAll (call_of root s t old new) last finding
   whole_audit h = record {
     trail = h.trail;
     audits = subst (λ ps. Audits root s t ps (looked_between root None None) (read_between root None None) h.trail) (all_places h.trail)
-        (subst (λ xs. Audits root s t (places (items_in root h.trail whole)) (looked_between root None None) (xs ++ read_between root None None) h.trail) (nothing_front h.held h.held_front)
-        (subst (λ xs. Audits root s t (places (items_in root h.trail whole)) (xs ++ looked_between root None None) (h.held ++ read_between root None None) h.trail) (nothing_front h.down h.down_front) h.audits));
+        (subst (λ xs. Audits root s t (places (items_in root h.trail whole)) (looked_between root None None) (xs ++ read_between root None None) h.trail) (nothing_front h.looks.held h.looks.held_front)
+        (subst (λ xs. Audits root s t (places (items_in root h.trail whole)) (xs ++ looked_between root None None) (h.looks.held ++ read_between root None None) h.trail) (nothing_front h.looks.down h.looks.down_front) h.looks.audits));
     wrote = h.wrote;
     last_is = h.last_is ∙ ap (last_of None) (all_places h.trail);
     found_is = h.found_is;
   }
 
-  whole_stop : (why : Fault) → AuditStopsWithin root s t old new whole last finding why → AuditStops root s t old new last finding why
+  whole_stop : (why : Fault) → AuditStopsWithin (call_of root s t old new) whole last finding why → AuditStops (call_of root s t old new) last finding why
   whole_stop why h = record {
     trail = h.trail;
     stops = h.stops;
     found_is = h.found_is;
-    listed = h.listed;
-    heads = h.heads;
-    fails = subst (λ xs. Fails root s t (places h.stops.whole ++ h.stops.begun) h.listed (xs ++ h.heads) h.trail why) (nothing_front h.held h.held_front)
-        (subst (λ xs. Fails root s t (places h.stops.whole ++ h.stops.begun) (xs ++ h.listed) (h.held ++ h.heads) h.trail why) (nothing_front h.down h.down_front) h.fails);
-    listed_front = h.listed_front;
-    heads_front = h.heads_front;
+    listed = h.looks.listed;
+    heads = h.looks.heads;
+    fails = subst (λ xs. Fails root s t (places h.stops.whole ++ h.stops.begun) h.looks.listed (xs ++ h.looks.heads) h.trail why) (nothing_front h.looks.held h.looks.held_front)
+        (subst (λ xs. Fails root s t (places h.stops.whole ++ h.stops.begun) (xs ++ h.looks.listed) (h.looks.held ++ h.looks.heads) h.trail why) (nothing_front h.looks.down h.looks.down_front) h.looks.fails);
+    listed_front = h.looks.listed_front;
+    heads_front = h.looks.heads_front;
   }
 
-  pub whole_told : (end : End) → AuditEndsWithin root s t old new whole last finding end → AuditEnds root s t old new last finding end
+  pub whole_told : (end : End) → AuditEndsWithin (call_of root s t old new) whole last finding end → AuditEnds (call_of root s t old new) last finding end
   whole_told Ended h = whole_audit h
   whole_told (Stopped why) h = whole_stop why h
 
@@ -208,10 +181,10 @@ none_left [] n e = refl
 none_left (x ∷ xs) n e = absurd (omega (arith, e))
 
 -- what was written is the text of the audit of files that can all be read
-pub nothing_unread : (root : StorageRoot) (part : Part) (s t : Store) (old new : Option (List ℕ)) (last : Option Place) (finding : Bool) (end : End) → AuditEndsWithin root s t old new part last finding end → end ≡ Ended
+pub nothing_unread : (root : StorageRoot) (part : Part) (s t : Store) (old new : Option (List ℕ)) (last : Option Place) (finding : Bool) (end : End) → AuditEndsWithin (call_of root s t old new) part last finding end → end ≡ Ended
     → t.failures ≡ s.failures → Appends old new (text (within part (audit root []))) × (finding ≡ found (within part (audit root [])))
 nothing_unread root part s t old new last finding Ended h e same =
-    let none : unread_of root h.trail ≡ [] = none_left (unread_of root h.trail) s.failures (sym same ∙ h.audits.did.failures_are) in
+    let none : unread_of root h.trail ≡ [] = none_left (unread_of root h.trail) s.failures (sym same ∙ h.looks.audits.did.failures_are) in
     (subst (λ u. Appends old new (text (within part (audit root u)))) none h.wrote, h.found_is ∙ ap (λ u. found (within part (audit root u))) none)
 nothing_unread root part s t old new last finding (Stopped why) h e same = absurd cc
 

@@ -15,6 +15,7 @@ use Rattle.ocfl_item.specs.Ways.{IsWayFault}
 use Rattle.ocfl_item.specs.declared.fault.Fault.{Fault}
 use Rattle.ocfl_item.specs.declared.pending.Pending.{Pending}
 use Rattle.ocfl_walk.specs.declared.walk.Walk.{Walk}
+use Rattle.ocfl_scrub.specs.Call.{call_of}
 use Rattle.ocfl_scrub.specs.Starting.{end_of, entry, stand}
 use Rattle.ocfl_scrub.specs.Taking.{Takes, Misses}
 use Rattle.ocfl_scrub.specs.WholeAudit.{AuditsWithin, AuditStopsWithin}
@@ -52,7 +53,7 @@ module _ {root : StorageRoot} {s t : Store} {old mid : Option (List ℕ)} {walk 
     (way : IsUnderWay walk old mid finding) (h : HasTaken root part s t old mid walk last finding) (u : Store) where
   module _ {o : Option Pending} (next : Walk) (gave : GivesNext root (end_of part) t u walk next o) where
     -- nothing is left before the end
-    pub audit_ended : o ≡ None → AuditsWithin root s u old mid part last finding
+    pub audit_ended : o ≡ None → AuditsWithin (call_of root s u old mid) part last finding
     audit_ended is =
         let gives : GivesOut root t u h.stood (end_of part) next None = subst (GivesOut root t u h.stood (end_of part) next) is (gave (passes_over h.passes) way.live h.stood h.stands) in
         let all = all_done root (end_of part) h.begun t u old mid (stand root part None) h.stood finding h.beyond h.passes gives.1 in
@@ -69,7 +70,7 @@ module _ {root : StorageRoot} {s t : Store} {old mid : Option (List ℕ)} {walk 
       in_front : is_past (end_of part) q.place ≡ false
       in_front = is_in_front (end_of part) is before
 
-      pub audit_took : (place : Place) (cost : ℕ) (more either : Bool) → place ≡ q.place → either ≡ (finding || more) → (u.tree ≡ root → IsPending root q → Takes root u v mid new q.place cost more)
+      pub audit_took : (place : Place) (cost : ℕ) (more either : Bool) → place ≡ q.place → either ≡ (finding || more) → (u.tree ≡ root → IsPending root q → Takes (call_of root u v mid new) q.place cost more)
           → HasTaken root part s v old new next (Some place) either
       unfolding passes_took
       audit_took place cost more either e f takes = subst (λ p. HasTaken root part s v old new next (Some p) either) (sym e) (record {
@@ -82,13 +83,13 @@ module _ {root : StorageRoot} {s t : Store} {old mid : Option (List ℕ)} {walk 
         last_is = sym (last_append None h.passes.done q.place);
       })
 
-      pub audit_missed : (why : Fault) → (u.tree ≡ root → IsPending root q → Misses root u v mid new q.place why) → AuditStopsWithin root s v old new part last finding why
+      pub audit_missed : (why : Fault) → (u.tree ≡ root → IsPending root q → Misses (call_of root u v mid new) q.place why) → AuditStopsWithin (call_of root s v old new) part last finding why
       unfolding passes_missed
       audit_missed why misses = halt_part root part s h.begun v old new h.stood last finding h.down why
           (passes_missed root (end_of part) h.begun t u old mid (stand root part None) h.stood finding h.beyond h.passes q.place above gives.3 in_front gives.0 v new why (misses (walked_over gives.0) gives.2)) h.last_is
 
   -- the walk did not get to its next item
-  pub audit_lost : (why : Fault) → (IsLive walk → IsWayFault why) → (t.tree ≡ root → IsLive walk → (p : Option Place) → Stands root walk p → FailsOut root t u p (end_of part) why) → AuditStopsWithin root s u old mid part last finding why
+  pub audit_lost : (why : Fault) → (IsLive walk → IsWayFault why) → (t.tree ≡ root → IsLive walk → (p : Option Place) → Stands root walk p → FailsOut root t u p (end_of part) why) → AuditStopsWithin (call_of root s u old mid) part last finding why
   unfolding passes_lost
   audit_lost why only lost = halt_part root part s h.begun u old mid h.stood last finding h.down why
       (passes_lost root (end_of part) h.begun t u old mid (stand root part None) h.stood finding h.beyond h.passes why (only way.live).0 (lost (passes_over h.passes) way.live h.stood h.stands)) h.last_is

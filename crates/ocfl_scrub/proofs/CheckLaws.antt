@@ -28,6 +28,7 @@ use Rattle.ocfl_item.specs.Pending.{IsPending}
 use Rattle.ocfl_item.specs.Meeting.{IsItemAt}
 use Rattle.ocfl_item.specs.declared.fault.Fault.{Fault}
 use Rattle.ocfl_item.specs.declared.pending.Pending.{Pending}
+use Rattle.ocfl_scrub.specs.Call.{call_of}
 use Rattle.ocfl_scrub.specs.Taking.{PartOf, Takes, Misses}
 use Rattle.ocfl_scrub.specs.Checking.{checked_item, AreOnce, IsJustFor, Checks, CheckStops, CheckEnds}
 use Rattle.ocfl_scrub.specs.declared.checking.End.{End}
@@ -127,7 +128,7 @@ module _ (root : StorageRoot) (p : Place) where
   place_bare o e h = subst (IsItemAt root p) e h
 
   module _ (s t : Store) where
-    pub nothing_there : (old : Option (List ℕ)) → GoesDown root s t (Some p) → notes root None p ≡ [] → Checks root s t old old p false false
+    pub nothing_there : (old : Option (List ℕ)) → GoesDown root s t (Some p) → notes root None p ≡ [] → Checks (call_of root s t old old) p false false
     nothing_there old g none =
         let e : checked_item root g.trail p ≡ [] = none_item root g.trail p none in
         record {
@@ -141,7 +142,7 @@ module _ (root : StorageRoot) (p : Place) where
           found_is = sym (ap found e);
         }
 
-    pub not_gone_down : (old : Option (List ℕ)) (why : Fault) → IsWayFault why → GoDownFails root s t (Some p) why → CheckStops root s t old old p why
+    pub not_gone_down : (old : Option (List ℕ)) (why : Fault) → IsWayFault why → GoDownFails root s t (Some p) why → CheckStops (call_of root s t old old) p why
     not_gone_down old why only g = record {
       trail = g.trail;
       begun = [];
@@ -162,7 +163,7 @@ module _ (root : StorageRoot) (p : Place) where
     just_then : (trail : List Opening) → IsOne root p trail → IsJustFor root p g.listed g.heads (g.trail ++ trail)
     just_then trail one = record { listed_front = g.listed_front; heads_front = g.heads_front; once = then_one root p g.trail trail meta g.once one }
 
-    pub down_and_taken : (cost : ℕ) (finding : Bool) → Takes root t u old new p cost finding → Checks root s u old new p true finding
+    pub down_and_taken : (cost : ℕ) (finding : Bool) → Takes (call_of root t u old new) p cost finding → Checks (call_of root s u old new) p true finding
     down_and_taken cost finding k =
         let items : checked_item root (g.trail ++ k.trail) p ≡ items_at root k.trail (p ∷ []) = joined_item root g.trail k.trail p meta some in
         record {
@@ -178,7 +179,7 @@ module _ (root : StorageRoot) (p : Place) where
           found_is = k.found_is ∙ sym (ap found items);
         }
 
-    pub down_and_missed : (why : Fault) → Misses root t u old new p why → CheckStops root s u old new p why
+    pub down_and_missed : (why : Fault) → Misses (call_of root t u old new) p why → CheckStops (call_of root s u old new) p why
     down_and_missed why k =
         let items : checked_item root (g.trail ++ k.trail) p ≡ items_at root k.trail (p ∷ []) = joined_item root g.trail k.trail p meta some in
         record {
@@ -198,14 +199,14 @@ module _ (root : StorageRoot) (p : Place) where
 
 -- ---- at the ends that a call gives
 
-pub check_stopped : (root : StorageRoot) (s t : Store) (old new : Option (List ℕ)) (p : Place) (item finding : Bool) (why : Fault) (end : End) → end ≡ Stopped why → CheckStops root s t old new p why → CheckEnds root s t old new p item finding end
-check_stopped root s t old new p item finding why end e w = subst (λ x. CheckEnds root s t old new p item finding x) (sym e) w
+pub check_stopped : (root : StorageRoot) (s t : Store) (old new : Option (List ℕ)) (p : Place) (item finding : Bool) (why : Fault) (end : End) → end ≡ Stopped why → CheckStops (call_of root s t old new) p why → CheckEnds (call_of root s t old new) p item finding end
+check_stopped root s t old new p item finding why end e w = subst (λ x. CheckEnds (call_of root s t old new) p item finding x) (sym e) w
 
-pub check_took : (root : StorageRoot) (s t u : Store) (old new : Option (List ℕ)) (p q : Place) (cost : ℕ) (finding : Bool) → q ≡ p → GoesDown root s t (Some p) → notes root None p ≢ [] → Takes root t u old new q cost finding
-    → Checks root s u old new p true finding
-check_took root s t u old new p q cost finding e g some k = down_and_taken root p s t u old new g some cost finding (subst (λ x. Takes root t u old new x cost finding) e k)
+pub check_took : (root : StorageRoot) (s t u : Store) (old new : Option (List ℕ)) (p q : Place) (cost : ℕ) (finding : Bool) → q ≡ p → GoesDown root s t (Some p) → notes root None p ≢ [] → Takes (call_of root t u old new) q cost finding
+    → Checks (call_of root s u old new) p true finding
+check_took root s t u old new p q cost finding e g some k = down_and_taken root p s t u old new g some cost finding (subst (λ x. Takes (call_of root t u old new) x cost finding) e k)
 
 pub check_missed : (root : StorageRoot) (s t u : Store) (old new : Option (List ℕ)) (p q : Place) (item finding : Bool) (why : Fault) (end : End) → end ≡ Stopped why → q ≡ p → GoesDown root s t (Some p) → notes root None p ≢ []
-    → Misses root t u old new q why → CheckEnds root s u old new p item finding end
+    → Misses (call_of root t u old new) q why → CheckEnds (call_of root s u old new) p item finding end
 check_missed root s t u old new p q item finding why end f e g some k =
-    check_stopped root s u old new p item finding why end f (down_and_missed root p s t u old new g some why (subst (λ x. Misses root t u old new x why) e k))
+    check_stopped root s u old new p item finding why end f (down_and_missed root p s t u old new g some why (subst (λ x. Misses (call_of root t u old new) x why) e k))

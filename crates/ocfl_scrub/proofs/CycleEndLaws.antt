@@ -24,11 +24,12 @@ use Rattle.ocfl_cursor.specs.Cursor.{Cursor}
 use Rattle.ocfl_item.specs.Looking.{IsFront}
 use Rattle.ocfl_item.specs.Auditing.{Audits, Fails}
 use Rattle.ocfl_item.specs.declared.fault.Fault.{Fault}
+use Rattle.ocfl_scrub.specs.Call.{call_of}
 use Rattle.ocfl_scrub.specs.Written.{places, last_of, Figures}
 use Rattle.ocfl_audit.specs.Parts.{Part, whole, within, places_within}
 use Rattle.ocfl_scrub.specs.WholeAudit.{items_in}
 use Rattle.ocfl_scrub.specs.Starting.{due_within}
-use Rattle.ocfl_scrub.specs.Cycling.{audit_of, all_runs, all_taken, enough, Cycles, CycleStops, CycleEnds, CyclesTo, Headline, HeadlineOf}
+use Rattle.ocfl_scrub.specs.Cycling.{enough, Headline, HeadlineOf}
 use Rattle.ocfl_scrub.specs.Cycling.{runs_in, all_in, inventories_in, CyclesWithin, CycleStopsWithin, CycleEndsWithin, CyclesToWithin, HeadlineWithin, HeadlineOfPart}
 use Rattle.ocfl_scrub.specs.declared.cycling.CycleStatus.{CycleStatus}
 use Rattle.ocfl_scrub.specs.declared.cycling.CycleStatus.TheVariants.{Ended, Spent, Stopped}
@@ -76,7 +77,7 @@ part_is : (root : StorageRoot) (part : Part) (os : List Opening) → items_in ro
 part_is root part os = above_in root part None os
 
 module _ (root : StorageRoot) (part : Part) (s t : Store) (old new : Option (List ℕ)) (last : Option Place) (limits : List Limits) (spent files : ℕ) (finding : Bool) (count : ℕ) where
-  pub cycles : (ended : Bool) → Parts root part s t old new None last limits spent files finding count ended → CyclesWithin root s t old new part last limits spent files finding count ended
+  pub cycles : (ended : Bool) → Parts root part s t old new None last limits spent files finding count ended → CyclesWithin (call_of root s t old new) part last limits spent files finding count ended
   cycles ended h =
       let k = h.took in
       let items : List Item = items_in root k.trail part in
@@ -104,7 +105,7 @@ module _ (root : StorageRoot) (part : Part) (s t : Store) (old new : Option (Lis
             (to_end (limits_join limits items (omega (arith, p, fits)) files_fit (omega (arith, sum, w))), omega (arith, counted, m));
       }
 
-  pub cycle_stops : (why : Fault) → 1 ≤ count → PartsStop root part s t old new None last limits spent files finding count why → CycleStopsWithin root s t old new part last limits spent files finding count why
+  pub cycle_stops : (why : Fault) → 1 ≤ count → PartsStop root part s t old new None last limits spent files finding count why → CycleStopsWithin (call_of root s t old new) part last limits spent files finding count why
   cycle_stops why some h =
       let whole : List Item = items_at root h.trail h.done in
       let at_places : h.done ≡ places whole = sym (places_of_items root h.trail h.done) in
@@ -136,7 +137,7 @@ module _ (root : StorageRoot) (part : Part) (s t : Store) (old new : Option (Lis
   part_places : (os : List Opening) → places (items_in root os part) ≡ places_within part (item_places root)
   part_places os = ap places (part_is root part os) ∙ places_of_items root os (due_within root part None) ∙ ap (places_within part) (due_all root)
 
-  part_headline : (ends : Bool) → CyclesWithin root s t old new part last limits spent files finding count ends → t.failures ≡ s.failures → HeadlineWithin root s t old new part limits count ends
+  part_headline : (ends : Bool) → CyclesWithin (call_of root s t old new) part last limits spent files finding count ends → t.failures ≡ s.failures → HeadlineWithin (call_of root s t old new) part limits count ends
   part_headline ends h same =
       let none : unread_of root h.trail ≡ [] = none_left (unread_of root h.trail) s.failures (sym same ∙ h.audits.did.failures_are) in
       record {
@@ -152,19 +153,19 @@ module _ (root : StorageRoot) (part : Part) (s t : Store) (old new : Option (Lis
         );
       }
 
-  headline_ends : (end : CycleStatus) → CycleEndsWithin root s t old new part last limits spent files finding count end → t.failures ≡ s.failures → HeadlineOfPart root s t old new part limits count end
+  headline_ends : (end : CycleStatus) → CycleEndsWithin (call_of root s t old new) part last limits spent files finding count end → t.failures ≡ s.failures → HeadlineOfPart (call_of root s t old new) part limits count end
   headline_ends Ended h same = part_headline true h same
   headline_ends Spent h same = part_headline false h same
   headline_ends (Stopped why) h same = tt
 
 pub headline_of_part : (root : StorageRoot) (part : Part) (s t : Store) (old new : Option (List ℕ)) (limits : List Limits) (c : Cursor) (finding : Bool) (end : CycleStatus) (count : ℕ) → count ≡ c.runs
-    → CyclesToWithin root s t old new part limits c finding end → t.failures ≡ s.failures → HeadlineOfPart root s t old new part limits count end
+    → CyclesToWithin (call_of root s t old new) part limits c finding end → t.failures ≡ s.failures → HeadlineOfPart (call_of root s t old new) part limits count end
 headline_of_part root part s t old new limits c finding end count is h same =
-    subst (λ n. HeadlineOfPart root s t old new part limits n end) (sym is) (headline_ends root part s t old new h.last limits c.spent c.files finding c.runs end h.cycle same)
+    subst (λ n. HeadlineOfPart (call_of root s t old new) part limits n end) (sym is) (headline_ends root part s t old new h.last limits c.spent c.files finding c.runs end h.cycle same)
 
 -- without limits nothing is done
-pub cycles_none : (root : StorageRoot) (part : Part) (s : Store) (old : Option (List ℕ)) (limits : List Limits) → limits ≡ [] → s.tree ≡ root → CyclesWithin root s s old old part None limits 0 0 false 0 false
-cycles_none root part s old limits e over = subst (λ ls. CyclesWithin root s s old old part None ls 0 0 false 0 false) (sym e) (record {
+pub cycles_none : (root : StorageRoot) (part : Part) (s : Store) (old : Option (List ℕ)) (limits : List Limits) → limits ≡ [] → s.tree ≡ root → CyclesWithin (call_of root s s old old) part None limits 0 0 false 0 false
+cycles_none root part s old limits e over = subst (λ ls. CyclesWithin (call_of root s s old old) part None ls 0 0 false 0 false) (sym e) (record {
   trail = [];
   listed = [];
   heads = [];
@@ -182,61 +183,22 @@ cycles_none root part s old limits e over = subst (λ ls. CyclesWithin root s s 
 
 -- ---- the whole is one part
 
-module _ (root : StorageRoot) (s t : Store) (old new : Option (List ℕ)) (last : Option Place) (limits : List Limits) (spent files : ℕ) (finding : Bool) (count : ℕ) where
+module _ (root : StorageRoot) (limits : List Limits) (count : ℕ) where
   -- the audit has an item, so what is taken of it is not all before a run was made
-  some_run : (os : List Opening) → count ≡ length (all_runs root os limits) → all_taken root os limits ≡ audit_of root os → 1 ≤ count
-  some_run os counted e = by (all_runs root os limits) refl
+  pub some_run : (os : List Opening) → count ≡ length (runs (audit root (unread_of root os)) limits) → joined (runs (audit root (unread_of root os)) limits) ≡ audit root (unread_of root os) → 1 ≤ count
+  some_run os counted e = by (runs (audit root (unread_of root os)) limits) refl
     where
-      some_items : is_empty (audit_of root os) ≡ false
+      some_items : is_empty (audit root (unread_of root os)) ≡ false
       some_items = ap is_empty (part_is root whole os) ∙ items_there root os (due root None) (root_is_due root)
 
-      by : (rs : List (List Item)) → all_runs root os limits ≡ rs → 1 ≤ count
-      by [] f = absurd (let g : is_empty (audit_of root os) ≡ true = sym (ap is_empty (sym (ap joined f) ∙ e)) in true_not_false (sym g ∙ some_items))
+      by : (rs : List (List Item)) → runs (audit root (unread_of root os)) limits ≡ rs → 1 ≤ count
+      by [] f = absurd (let g : is_empty (audit root (unread_of root os)) ≡ true = sym (ap is_empty (sym (ap joined f) ∙ e)) in true_not_false (sym g ∙ some_items))
       by (r ∷ rs) f = let n : count ≡ length (r ∷ rs) = counted ∙ ap length f in omega (arith, n)
 
-  few_inventories : (heads : List Place) → length heads < inventories_in root whole + count → length heads < length (inventories root) + count
-  few_inventories heads h = let n = inventory_count root in omega (arith, h, n)
+pub few_inventories : (root : StorageRoot) (count : ℕ) (heads : List Place) → length heads < inventories_in root whole + count → length heads < length (inventories root) + count
+few_inventories root count heads h = let n = inventory_count root in omega (arith, h, n)
 
-  whole_cycles : (ends : Bool) → CyclesWithin root s t old new whole last limits spent files finding count ends → Cycles root s t old new last limits spent files finding count ends
-  whole_cycles ends h = record {
-    trail = h.trail;
-    listed = h.listed;
-    heads = h.heads;
-    audits = h.audits;
-    inventories_read = λ some. few_inventories h.heads (h.inventories_read some);
-    wrote = h.wrote;
-    figures = h.figures;
-    count_is = h.count_is;
-    last_is = h.last_is;
-    whole_is = (λ e. (h.ends_is.0 e).1, λ e. h.ends_is.1 (some_run h.trail h.count_is e, e));
-    few = h.few;
-    suffice = h.suffice;
-    by_sum = h.by_sum;
-  }
-
-  whole_stops : (why : Fault) → CycleStopsWithin root s t old new whole last limits spent files finding count why → CycleStops root s t old new last limits spent files finding count why
-  whole_stops why h = record {
-    trail = h.trail;
-    some = h.made;
-    count_fits = h.count_fits;
-    stops = h.stops;
-    runs_before = h.runs_before;
-    figures = h.figures;
-    listed = h.listed;
-    heads = h.heads;
-    fails = h.fails;
-    inventories_read = few_inventories h.heads h.inventories_read;
-  }
-
-  whole_ends : (end : CycleStatus) → CycleEndsWithin root s t old new whole last limits spent files finding count end → CycleEnds root s t old new last limits spent files finding count end
-  whole_ends Ended h = whole_cycles true h
-  whole_ends Spent h = whole_cycles false h
-  whole_ends (Stopped why) h = whole_stops why h
-
-pub whole_cycle : (root : StorageRoot) (s t : Store) (old new : Option (List ℕ)) (limits : List Limits) (c : Cursor) (finding : Bool) (end : CycleStatus) → CyclesToWithin root s t old new whole limits c finding end → CyclesTo root s t old new limits c finding end
-whole_cycle root s t old new limits c finding end h = record { last = h.last; cycle = whole_ends root s t old new h.last limits c.spent c.files finding c.runs end h.cycle; cursor_is = h.reached_is }
-
-whole_headline : (root : StorageRoot) (s t : Store) (old new : Option (List ℕ)) (limits : List Limits) (count : ℕ) (ends : Bool) → HeadlineWithin root s t old new whole limits count ends → Headline root s t old new limits count ends
+whole_headline : (root : StorageRoot) (s t : Store) (old new : Option (List ℕ)) (limits : List Limits) (count : ℕ) (ends : Bool) → HeadlineWithin (call_of root s t old new) whole limits count ends → Headline (call_of root s t old new) limits count ends
 whole_headline root s t old new limits count ends h = record {
   trail = h.trail;
   opened = h.opened;
@@ -247,7 +209,7 @@ whole_headline root s t old new limits count ends h = record {
   ends_within = h.ends_within;
 }
 
-pub headline_of : (root : StorageRoot) (s t : Store) (old new : Option (List ℕ)) (limits : List Limits) (count : ℕ) (end : CycleStatus) → HeadlineOfPart root s t old new whole limits count end → HeadlineOf root s t old new limits count end
+pub headline_of : (root : StorageRoot) (s t : Store) (old new : Option (List ℕ)) (limits : List Limits) (count : ℕ) (end : CycleStatus) → HeadlineOfPart (call_of root s t old new) whole limits count end → HeadlineOf (call_of root s t old new) limits count end
 headline_of root s t old new limits count Ended h = whole_headline root s t old new limits count true h
 headline_of root s t old new limits count Spent h = whole_headline root s t old new limits count false h
 headline_of root s t old new limits count (Stopped why) h = tt

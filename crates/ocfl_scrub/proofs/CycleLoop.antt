@@ -11,6 +11,7 @@ use Rattle.ocfl_cursor.specs.Moves.{after_run}
 use Rattle.ocfl_cursor.specs.declared.limits.Limits.{Limits as MadeLimits}
 use Rattle.ocfl_item.specs.declared.fault.Fault.{Fault}
 use Rattle.ocfl_item.specs.declared.fault.Fault.TheVariants.{Output}
+use Rattle.ocfl_scrub.specs.Call.{call_of}
 use Rattle.ocfl_scrub.specs.Taking.{WritesLines}
 use Rattle.ocfl_scrub.specs.Running.{limits_of, state_at, state_after, begun_in, begun}
 use Rattle.ocfl_audit.specs.Parts.{Part}
@@ -85,6 +86,6 @@ pub lines_said : (old new : Option (List ℕ)) (finding reported : Bool) → rep
 lines_said old new finding reported e h = subst (WritesLines old new) (sym e) h
 
 pub cycle_said : (root : StorageRoot) (part : Part) (s t : Store) (old new : Option (List ℕ)) (all : List Limits) (c d : Cursor) (finding reported : Bool) (end last_end : CycleStatus) → d ≡ c → reported ≡ finding → last_end ≡ end
-    → CyclesToWithin root s t old new part all c finding end → CyclesToWithin root s t old new part all d reported last_end
+    → CyclesToWithin (call_of root s t old new) part all c finding end → CyclesToWithin (call_of root s t old new) part all d reported last_end
 cycle_said root part s t old new all c d finding reported end last_end e f g h =
-    subst (CyclesToWithin root s t old new part all d reported) (sym g) (subst (λ v. CyclesToWithin root s t old new part all d v end) (sym f) (subst (λ x. CyclesToWithin root s t old new part all x finding end) (sym e) h))
+    subst (CyclesToWithin (call_of root s t old new) part all d reported) (sym g) (subst (λ v. CyclesToWithin (call_of root s t old new) part all d v end) (sym f) (subst (λ x. CyclesToWithin (call_of root s t old new) part all x finding end) (sym e) h))

@@ -24,7 +24,7 @@ use Rattle.ocfl_deed.specs.declared.deed.Deed.TheVariants as deed
 use Rattle.ocfl_item.specs.declared.fault.Fault.{Fault}
 use Rattle.ocfl_item.specs.declared.fault.Fault.TheVariants as fault
 use Rattle.ocfl_scrub.specs.Noting.{IsRunNote, IsStopNote}
-use Rattle.ocfl_scrub.specs.Performing.{RefusesRightly, UnshownSaid, IsWithoutFile, ShowsWith, HandsBack, HandedBack}
+use Rattle.ocfl_scrub.specs.Performing.{BeginsWith, RefusesRightly, UnshownSaid, IsWithoutFile, ShowsWith, HandsBack, HandedBack}
 use Rattle.ocfl_scrub.specs.Running.{IsPaid, begun, limits_of, state_after}
 use Rattle.ocfl_scrub.specs.declared.note.Note.{Note}
 use Rattle.ocfl_scrub.specs.declared.note.Note.TheVariants as note
@@ -151,7 +151,7 @@ LedFrom c limits cycle runs cost whole text = (files : ℕ) × ((last : Option P
     × (text ≡ cursor_text (after_run (begun c) cost files (state_after (ended_as whole) last)))))))
 
 led_from : (known : Option (Option Text)) (limits : Limits) (status cycle runs cost : ℕ) (whole : Bool) (text : Text) (c : Cursor)
-    → (h : HandedBack known limits status (note.RunMade cycle runs cost whole) text) → h.from ≡ c → LedFrom c limits cycle runs cost whole text
+    → (h : HandedBack (BeginsWith known) cursor_text limits status (note.RunMade cycle runs cost whole) text) → h.from ≡ c → LedFrom c limits cycle runs cost whole text
 led_from known limits status cycle runs cost whole text c h same =
     let u = summed_up h.ran.cursor h.ran.spent h.ran.found h.ran.end status cycle runs cost whole h.says in
     let paid : IsPaid limits cost h.ran.files = subst (λ k. IsPaid limits k h.ran.files) u.cost_is h.paid in

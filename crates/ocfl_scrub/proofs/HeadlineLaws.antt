@@ -1,5 +1,5 @@
 -- What the headline of a cycle says where it has ended, and where it has not.
-use Rattle.std.proofs.Common.{◌≡◌, refl, ℕ, ◌+◌, ◌/◌, ◌≤◌, List, [], ◌++◌, length, All, Option, Some}
+use Rattle.std.proofs.Common.{◌≡◌, refl, ℕ, ◌+◌, ◌/◌, ◌≤◌, List, [], ◌++◌, length, All}
 use Rattle.std.proofs.lemmas.Bool.{false≢true}
 use Rattle.ocfl_tree.specs.Place.{Text}
 use Rattle.ocfl_tree.specs.StorageRoot.{StorageRoot}
@@ -10,27 +10,27 @@ use Rattle.ocfl_audit.specs.Audit.{audit, total_cost}
 use Rattle.ocfl_audit.specs.Due.{hashed_among, item_places}
 use Rattle.ocfl_audit.specs.Runs.{Limits, IsAtLeast, joined, runs, total_files}
 use Rattle.ocfl_audit.specs.Trail.{content_trail}
+use Rattle.ocfl_scrub.specs.Call.{Call, known_call}
 use Rattle.ocfl_scrub.specs.Cycling.{HeadlineOf}
 use Rattle.ocfl_scrub.specs.declared.cycling.CycleStatus.TheVariants as cycle
 
-module _ (root : StorageRoot) (s t : Store) (limits : List Limits) (count : ℕ) where
-  module _ (before behind : Text) where
-    pub whole_audit : HeadlineOf root s t (Some before) (Some behind) limits count cycle.Ended → behind ≡ before ++ text (audit root [])
-    whole_audit h = h.whole_audit refl
+module _ (root : StorageRoot) (s t : Store) (limits : List Limits) (count : ℕ) (before behind : Text) where
+  pub whole_audit : HeadlineOf (known_call root s t before behind) limits count cycle.Ended → behind ≡ before ++ text (audit root [])
+  whole_audit h = h.whole_audit refl
 
-    pub part_of_it : HeadlineOf root s t (Some before) (Some behind) limits count cycle.Spent → behind ≡ before ++ text (joined (runs (audit root []) limits))
-    part_of_it h = h.reports
+  pub part_of_it : HeadlineOf (known_call root s t before behind) limits count cycle.Spent → behind ≡ before ++ text (joined (runs (audit root []) limits))
+  part_of_it h = h.reports
 
-  module _ (old new : Option (List ℕ)) where
-    pub each_file : HeadlineOf root s t old new limits count cycle.Ended
-        → (trail : List Opening) × ((t.openings ≡ s.openings ++ trail) × (content_trail root trail ≡ hashed_among root (item_places root)))
-    each_file h = (h.trail, (h.opened, h.opened_once refl))
+module _ (call : Call) (limits : List Limits) (count : ℕ) where
+  pub each_file : HeadlineOf call limits count cycle.Ended
+      → (trail : List Opening) × ((call.after.openings ≡ call.before.openings ++ trail) × (content_trail call.root trail ≡ hashed_among call.root (item_places call.root)))
+  each_file h = (h.trail, (h.opened, h.opened_once refl))
 
-    pub few_runs : (b n : ℕ) → HeadlineOf root s t old new limits count cycle.Ended → 1 ≤ b → 1 ≤ n → All (IsAtLeast b n) limits
-        → total_cost (audit root []) / b + total_files (audit root []) / n + 1 ≤ length limits
-        → count ≤ total_cost (audit root []) / b + total_files (audit root []) / n + 1
-    few_runs b n h some more large fit = (h.ends_within b n some more large fit).1
+  pub few_runs : (b n : ℕ) → HeadlineOf call limits count cycle.Ended → 1 ≤ b → 1 ≤ n → All (IsAtLeast b n) limits
+      → total_cost (audit call.root []) / b + total_files (audit call.root []) / n + 1 ≤ length limits
+      → count ≤ total_cost (audit call.root []) / b + total_files (audit call.root []) / n + 1
+  few_runs b n h some more large fit = (h.ends_within b n some more large fit).1
 
-    pub enough_runs : (b n : ℕ) → HeadlineOf root s t old new limits count cycle.Spent → 1 ≤ b → 1 ≤ n → All (IsAtLeast b n) limits
-        → total_cost (audit root []) / b + total_files (audit root []) / n + 1 ≤ length limits → ⊥
-    enough_runs b n h some more large fit = false≢true (h.ends_within b n some more large fit).0
+  pub enough_runs : (b n : ℕ) → HeadlineOf call limits count cycle.Spent → 1 ≤ b → 1 ≤ n → All (IsAtLeast b n) limits
+      → total_cost (audit call.root []) / b + total_files (audit call.root []) / n + 1 ≤ length limits → ⊥
+  enough_runs b n h some more large fit = false≢true (h.ends_within b n some more large fit).0

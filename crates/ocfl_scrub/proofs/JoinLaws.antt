@@ -18,6 +18,7 @@ use Rattle.ocfl_audit.proofs.PartLaws.{texts_join, hashed_join, within_by_places
 use Rattle.ocfl_audit.proofs.RunLaws.{large_few}
 use Rattle.ocfl_item.proofs.AuditingLaws.{hashed_append}
 use Rattle.ocfl_cursor.specs.Cursor.{Cursor}
+use Rattle.ocfl_scrub.specs.Call.{known_call}
 use Rattle.ocfl_scrub.specs.Written.{places, last_of}
 use Rattle.ocfl_scrub.specs.Running.{first_of, place_in, state_after, RunsWithin, RunEndsWithin}
 use Rattle.ocfl_scrub.specs.Joining.{PartRun, RanWell, AreRuns, reports_of, opened_by, PartCycle, IsPartCycle}
@@ -48,38 +49,38 @@ module _ (root : StorageRoot) (part : Part) where
     goes_on : above last ≡ left (above (place_in c.state)) r.limits
 
   step : (c : Cursor) (r : PartRun) (next last : Option Place) (w : RanWell root part c r)
-      → RunsWithin root w.before w.behind (Some w.old) (Some (w.old ++ r.report)) part (place_in c.state) last r.limits r.spent r.files r.finding next → Step c r next last
+      → RunsWithin (known_call root w.before w.behind w.old (w.old ++ r.report)) part (place_in c.state) last r.limits r.ran.spent r.ran.files r.ran.found next → Step c r next last
   step c r next last w h =
       let from : Option Place = place_in c.state in
-      let none : unread_of root h.trail ≡ [] = none_left (unread_of root h.trail) w.before.failures (sym w.unfailing ∙ h.audits.did.failures_are) in
-      let same_trail : r.opened ≡ h.trail = append_cancel_left w.before.openings r.opened h.trail (sym w.opened_is ∙ h.audits.did.openings_are) in
+      let none : unread_of root h.trail ≡ [] = none_left (unread_of root h.trail) w.before.failures (sym w.unfailing ∙ h.looks.audits.did.failures_are) in
+      let same_trail : r.opened ≡ h.trail = append_cancel_left w.before.openings r.opened h.trail (sym w.opened_is ∙ h.looks.audits.did.openings_are) in
       let last_is : last ≡ last_of from (places (cut (above from) r.limits)) = h.last_is ∙ ap (λ u. last_of from (places (cut (after (within part (audit root u)) from) r.limits))) none in
       record {
         wrote = append_cancel_left w.old r.report (text (cut (above from) r.limits)) (h.wrote ∙ ap (λ u. w.old ++ text (cut (after (within part (audit root u)) from) r.limits)) none);
-        opened = ap (content_trail root) same_trail ∙ h.audits.opened ∙ ap (λ u. hashed_among root (places (cut (after (within part (audit root u)) from) r.limits))) none;
+        opened = ap (content_trail root) same_trail ∙ h.looks.audits.opened ∙ ap (λ u. hashed_among root (places (cut (after (within part (audit root u)) from) r.limits))) none;
         next_is = h.next_is ∙ ap (λ u. first_of (left (after (within part (audit root u)) from) r.limits)) none;
         goes_on = ap above last_is ∙ after_front root [] part from (cut (above from) r.limits) (left (above from) r.limits) (sym (cut_and_left (above from) r.limits));
       }
 
   -- the run that ended the cycle
-  last_step : (c : Cursor) (r : PartRun) (w : RanWell root part c r) → r.end ≡ status.Ended → Step c r None w.ran.last
+  last_step : (c : Cursor) (r : PartRun) (w : RanWell root part c r) → r.ran.end ≡ status.Ended → Step c r None w.runs.last
   last_step c r w e =
-      step c r None w.ran.last w
-      (subst (RunEndsWithin root w.before w.behind (Some w.old) (Some (w.old ++ r.report)) part (place_in c.state) w.ran.last r.limits r.spent r.files r.finding) e w.ran.run)
+      step c r None w.runs.last w
+      (subst (RunEndsWithin (known_call root w.before w.behind w.old (w.old ++ r.report)) part (place_in c.state) w.runs.last r.limits r.ran.spent r.ran.files r.ran.found) e w.runs.run)
 
   -- a run that left something, and the next one begins there
   record IsOn (c : Cursor) (r : PartRun) : Type 0 where
     next : Place
     last : Option Place
     took : Step c r (Some next) last
-    there : above (place_in r.reached.state) ≡ left (above (place_in c.state)) r.limits
+    there : above (place_in r.ran.cursor.state) ≡ left (above (place_in c.state)) r.limits
 
-  next_step : (c : Cursor) (r : PartRun) (w : RanWell root part c r) → r.end ≡ status.Spent → IsOn c r
+  next_step : (c : Cursor) (r : PartRun) (w : RanWell root part c r) → r.ran.end ≡ status.Spent → IsOn c r
   next_step c r w e =
-      let run = subst (RunEndsWithin root w.before w.behind (Some w.old) (Some (w.old ++ r.report)) part (place_in c.state) w.ran.last r.limits r.spent r.files r.finding) e w.ran.run in
-      let took : Step c r (Some run.0) w.ran.last = step c r (Some run.0) w.ran.last w run.1 in
-      let place_is : place_in r.reached.state ≡ w.ran.last = ap (λ x. place_in x.state) w.ran.cursor_is ∙ ap (λ x. place_in (state_after x w.ran.last)) e ∙ place_there w.ran.last in
-      record { next = run.0; last = w.ran.last; took = took; there = ap above place_is ∙ took.goes_on }
+      let run = subst (RunEndsWithin (known_call root w.before w.behind w.old (w.old ++ r.report)) part (place_in c.state) w.runs.last r.limits r.ran.spent r.ran.files r.ran.found) e w.runs.run in
+      let took : Step c r (Some run.0) w.runs.last = step c r (Some run.0) w.runs.last w run.1 in
+      let place_is : place_in r.ran.cursor.state ≡ w.runs.last = ap (λ x. place_in x.state) w.runs.cursor_is ∙ ap (λ x. place_in (state_after x w.runs.last)) e ∙ place_there w.runs.last in
+      record { next = run.0; last = w.runs.last; took = took; there = ap above place_is ∙ took.goes_on }
 
   -- what the runs wrote and opened together
   pub record Took (from : Option Place) (rs : List PartRun) : Type 0 where
@@ -102,7 +103,7 @@ module _ (root : StorageRoot) (part : Part) where
   took_all c (r ∷ q ∷ rs) h =
       let k = next_step c r h.0 h.1.0 in
       let from : Option Place = place_in c.state in
-      let later = took_all r.reached (q ∷ rs) h.1.1 in
+      let later = took_all r.ran.cursor (q ∷ rs) h.1.1 in
       let first : List Item = cut (above from) r.limits in
       let rest : List Item = left (above from) r.limits in
       let both : first ++ rest ≡ above from = cut_and_left (above from) r.limits in

@@ -7,6 +7,7 @@ pub mod PartStarts
 pub mod Passing
 pub mod PassLaws
 pub mod LoopLaws
+pub mod LookLaws
 pub mod AuditLaws
 pub mod AuditTurns
 pub mod OrderLaws

@@ -19,7 +19,7 @@ use Rattle.ocfl_item.specs.declared.fault.Fault.{Fault}
 use Rattle.ocfl_item.specs.declared.fault.Fault.TheVariants as fault
 use Rattle.ocfl_deed.specs.declared.deed.Deed.{Deed}
 use Rattle.ocfl_deed.specs.declared.deed.Deed.TheVariants as deed
-use Rattle.ocfl_scrub.specs.Noting.{IsStatus, IsStopSaid, IsRunSaid, IsStopNote, IsAuditSaid, IsCheckSaid, IsCycleSaid, IsShowSaid, IsCheckNote, IsAuditNote, IsRunNote, IsCycleNote, IsUnreadNote, IsUnshownNote, IsRanSaid}
+use Rattle.ocfl_scrub.specs.Noting.{IsStatus, IsStopSaid, IsRunSaid, IsStopNote, IsAuditSaid, IsCheckSaid, IsCycleSaid, IsShowSaid, IsCheckNote, IsAuditNote, IsRunNote, IsCycleNote, IsUnreadNote, IsPartRefusedNote, IsUnshownNote, IsRanSaid}
 use Rattle.ocfl_scrub.specs.Performing.{IsKept, IsKeptBy, IsSilent, IsWhole}
 use Rattle.ocfl_scrub.specs.Scoping.{IsBranchNote, IsBranchSaid, IsPartRunSaid, IsPartUnreadNote}
 use Rattle.ocfl_scrub.specs.declared.checking.End.{End}
@@ -257,13 +257,16 @@ module _ (a b : ℕ) (m n : Note) where
   unread_says_one (stop.Refused refused.Damaged) h k = (h.0 ∙ sym k.0, h.1 ∙ sym k.1)
   unread_says_one (stop.Refused refused.Malformed) h k = (h.0 ∙ sym k.0, h.1 ∙ sym k.1)
 
+  part_refused_says_one : (why : PartRefused) → IsPartRefusedNote why a m → IsPartRefusedNote why b n → (a ≡ b) × (m ≡ n)
+  part_refused_says_one part.Memory h k = (h.0 ∙ sym k.0, h.1 ∙ sym k.1)
+  part_refused_says_one part.NotCursor h k = (h.0 ∙ sym k.0, h.1 ∙ sym k.1)
+  part_refused_says_one part.Damaged h k = (h.0 ∙ sym k.0, h.1 ∙ sym k.1)
+  part_refused_says_one part.Malformed h k = (h.0 ∙ sym k.0, h.1 ∙ sym k.1)
+  part_refused_says_one part.OtherPart h k = (h.0 ∙ sym k.0, h.1 ∙ sym k.1)
+
   pub unshown_says_one : (why : ShowStop) → IsUnshownNote why a m → IsUnshownNote why b n → (a ≡ b) × (m ≡ n)
   unshown_says_one (show.Whole why) h k = unread_says_one why h k
-  unshown_says_one (show.Part part.Memory) h k = (h.0 ∙ sym k.0, h.1 ∙ sym k.1)
-  unshown_says_one (show.Part part.NotCursor) h k = (h.0 ∙ sym k.0, h.1 ∙ sym k.1)
-  unshown_says_one (show.Part part.Damaged) h k = (h.0 ∙ sym k.0, h.1 ∙ sym k.1)
-  unshown_says_one (show.Part part.Malformed) h k = (h.0 ∙ sym k.0, h.1 ∙ sym k.1)
-  unshown_says_one (show.Part part.OtherPart) h k = (h.0 ∙ sym k.0, h.1 ∙ sym k.1)
+  unshown_says_one (show.Part why) h k = part_refused_says_one why h k
 
   pub branch_says_one : (finding : Bool) (how : End) (last : Option Place) → IsBranchNote finding how last a m → IsBranchNote finding how last b n → (a ≡ b) × (m ≡ n)
   branch_says_one finding end.Ended None h k = (h.0 ∙ sym k.0, h.1 ∙ sym k.1)
@@ -272,11 +275,7 @@ module _ (a b : ℕ) (m n : Note) where
 
   pub part_unread_says_one : (why : PartCursorStop) → IsPartUnreadNote why a m → IsPartUnreadNote why b n → (a ≡ b) × (m ≡ n)
   part_unread_says_one stops.Read h k = (h.0 ∙ sym k.0, h.1 ∙ sym k.1)
-  part_unread_says_one (stops.Refused part.Memory) h k = (h.0 ∙ sym k.0, h.1 ∙ sym k.1)
-  part_unread_says_one (stops.Refused part.NotCursor) h k = (h.0 ∙ sym k.0, h.1 ∙ sym k.1)
-  part_unread_says_one (stops.Refused part.Damaged) h k = (h.0 ∙ sym k.0, h.1 ∙ sym k.1)
-  part_unread_says_one (stops.Refused part.Malformed) h k = (h.0 ∙ sym k.0, h.1 ∙ sym k.1)
-  part_unread_says_one (stops.Refused part.OtherPart) h k = (h.0 ∙ sym k.0, h.1 ∙ sym k.1)
+  part_unread_says_one (stops.Refused why) h k = part_refused_says_one why h k
 
 -- ---- what a command says is said of one of its ends
 
@@ -339,11 +338,11 @@ run_said status (note.CursorRefused why) e h = inr (unread_said status why e)
 run_said status n e h = inl (ran_said status n e h)
 
 -- why a part's cursor is refused, as its text says
-part_refused_said : (status : ℕ) (why : PartRefused) → (status ≡ 4) × (why ≢ part.Memory) → IsPartUnreadNote (stops.Refused why) status (note.PartCursorRefused why) × IsUnshownNote (show.Part why) status (note.PartCursorRefused why)
-part_refused_said status part.NotCursor e = ((e.0, refl), (e.0, refl))
-part_refused_said status part.Damaged e = ((e.0, refl), (e.0, refl))
-part_refused_said status part.Malformed e = ((e.0, refl), (e.0, refl))
-part_refused_said status part.OtherPart e = ((e.0, refl), (e.0, refl))
+part_refused_said : (status : ℕ) (why : PartRefused) → (status ≡ 4) × (why ≢ part.Memory) → IsPartRefusedNote why status (note.PartCursorRefused why)
+part_refused_said status part.NotCursor e = (e.0, refl)
+part_refused_said status part.Damaged e = (e.0, refl)
+part_refused_said status part.Malformed e = (e.0, refl)
+part_refused_said status part.OtherPart e = (e.0, refl)
 part_refused_said status part.Memory e = absurd (e.1 refl)
 
 pub show_said : (status : ℕ) (n : Note) → IsStatus status n → IsShowSaid n → (n ≡ note.Nothing) ⊎ ((n ≡ note.OutputFailed) ⊎ ((how : ShowStop) × IsUnshownNote how status n))
@@ -352,7 +351,7 @@ show_said status note.OutputFailed e h = inr (inl refl)
 show_said status note.OutOfMemory e h = inr (inr (show.Whole (stop.Refused refused.Memory), (e, refl)))
 show_said status note.CursorFileFailed e h = inr (inr (show.Whole stop.Read, (e, refl)))
 show_said status (note.CursorRefused why) e h = let how = unread_said status why e in inr (inr (show.Whole how.0, how.1))
-show_said status (note.PartCursorRefused why) e h = inr (inr (show.Part why, (part_refused_said status why e).1))
+show_said status (note.PartCursorRefused why) e h = inr (inr (show.Part why, part_refused_said status why e))
 show_said status n e h = absurd h
 
 pub branch_said : (status : ℕ) (n : Note) → IsStatus status n → IsBranchSaid n → (finding : Bool) × ((how : End) × ((last : Option Place) × IsBranchNote finding how last status n))
@@ -367,5 +366,5 @@ branch_said status n e h = absurd h
 pub part_run_said : (status : ℕ) (n : Note) → IsStatus status n → IsPartRunSaid n
     → ((c : Cursor) × ((spent : ℕ) × ((finding : Bool) × ((how : RunStatus) × IsRunNote c spent finding how status n)))) ⊎ ((how : PartCursorStop) × IsPartUnreadNote how status n)
 part_run_said status note.CursorFileFailed e h = inr (stops.Read, (e, refl))
-part_run_said status (note.PartCursorRefused why) e h = inr (stops.Refused why, (part_refused_said status why e).0)
+part_run_said status (note.PartCursorRefused why) e h = inr (stops.Refused why, part_refused_said status why e)
 part_run_said status n e h = inl (ran_said status n e h)

@@ -1,10 +1,9 @@
 -- What an audit opens and lists ascends.
-use Rattle.std.proofs.Common.{◌≡◌, ◌≢◌, ◌↔◌, ℕ, List, [], ◌∷◌, ◌++◌, refl, sym, subst, Bool, true, Option, Some, None, not, map}
+use Rattle.std.proofs.Common.{◌≡◌, ◌≢◌, ◌↔◌, List, [], ◌∷◌, ◌++◌, refl, sym, subst, Bool, true, Option, Some, None, not, map}
 use Rattle.std.specs.Ordering.{is_lt}
 use Rattle.ocfl_tree.specs.Place.{Place, place_cmp}
 use Rattle.ocfl_tree.specs.Ascending.{ascending, IsAscending, IsAmong}
 use Rattle.ocfl_tree.specs.StorageRoot.{StorageRoot}
-use Rattle.ocfl_tree.specs.Store.{Store}
 use Rattle.ocfl_tree.specs.declared.store.Opening.{Opening}
 use Rattle.ocfl_tree.proofs.Orders.{place_cmp_total, place_cmp_exact, ascends_filter, ascends_ascending, among_ascending, among_filter, among_from_filter}
 use Rattle.ocfl_inventory.specs.Note.{Note}
@@ -16,6 +15,7 @@ use Rattle.ocfl_audit.specs.Trail.{heads_of, reads_inventory}
 use Rattle.ocfl_audit.specs.Parts.{Part}
 use Rattle.ocfl_audit.proofs.AuditExists.{notes_candidate}
 use Rattle.ocfl_audit.proofs.PathLaws.{hashed_lines}
+use Rattle.ocfl_scrub.specs.Call.{Call}
 use Rattle.ocfl_scrub.specs.WholeAudit.{AuditEndsWithin}
 use Rattle.ocfl_scrub.specs.declared.checking.End.{End}
 use Rattle.ocfl_scrub.specs.declared.checking.End.TheVariants as end
@@ -67,11 +67,11 @@ read_ascend root from to =
 
 -- ---- the audit of a part
 
-module _ (root : StorageRoot) (s t : Store) (old new : Option (List ℕ)) (part : Part) (last : Option Place) (finding : Bool) where
-  pub part_lists_once : (how : End) → AuditEndsWithin root s t old new part last finding how → (listed : List Place) × ((t.listings ≡ s.listings ++ listed) × IsAscending place_cmp listed)
-  part_lists_once end.Ended h = (_, (h.audits.did.listings_are, h.lists_once))
-  part_lists_once (end.Stopped why) h = (_, (h.fails.did.listings_are, h.lists_once))
+module _ (call : Call) (part : Part) (last : Option Place) (finding : Bool) where
+  pub part_lists_once : (how : End) → AuditEndsWithin call part last finding how → (listed : List Place) × ((call.after.listings ≡ call.before.listings ++ listed) × IsAscending place_cmp listed)
+  part_lists_once end.Ended h = (_, (h.looks.audits.did.listings_are, h.looks.lists_once))
+  part_lists_once (end.Stopped why) h = (_, (h.looks.fails.did.listings_are, h.looks.lists_once))
 
-  pub part_reads_once : (how : End) → AuditEndsWithin root s t old new part last finding how → (trail : List Opening) × ((t.openings ≡ s.openings ++ trail) × IsAscending place_cmp (heads_of root trail))
-  part_reads_once end.Ended h = (h.trail, (h.audits.did.openings_are, subst (IsAscending place_cmp) (sym h.audits.heads_are) h.reads_once))
-  part_reads_once (end.Stopped why) h = (h.trail, (h.fails.did.openings_are, subst (IsAscending place_cmp) (sym h.fails.heads_are) h.reads_once))
+  pub part_reads_once : (how : End) → AuditEndsWithin call part last finding how → (trail : List Opening) × ((call.after.openings ≡ call.before.openings ++ trail) × IsAscending place_cmp (heads_of call.root trail))
+  part_reads_once end.Ended h = (h.trail, (h.looks.audits.did.openings_are, subst (IsAscending place_cmp) (sym h.looks.audits.heads_are) h.looks.reads_once))
+  part_reads_once (end.Stopped why) h = (h.trail, (h.looks.fails.did.openings_are, subst (IsAscending place_cmp) (sym h.looks.fails.heads_are) h.looks.reads_once))

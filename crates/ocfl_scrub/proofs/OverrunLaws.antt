@@ -2,11 +2,10 @@
 use Rattle.std.proofs.Common.{◌≡◌, ℕ, ◌+◌, ◌<◌, List, [], ◌∷◌, ◌++◌, refl, ◌∙◌, ap, true, false, Bool, Option, arith, eqb-true}
 use Rattle.std.specs.Prelude.{cond, ◌==◌}
 use Rattle.ocfl_tree.specs.Place.{Place}
-use Rattle.ocfl_tree.specs.StorageRoot.{StorageRoot}
-use Rattle.ocfl_tree.specs.Store.{Store}
 use Rattle.ocfl_report.specs.Line.{Item}
 use Rattle.ocfl_audit.specs.Audit.{total_cost}
 use Rattle.ocfl_audit.specs.Runs.{Limits}
+use Rattle.ocfl_scrub.specs.Call.{Call}
 use Rattle.ocfl_scrub.specs.Running.{last_cost, taken, Runs}
 use Rattle.ocfl_scrub.proofs.CutLaws.{cost_append, no_cost}
 
@@ -22,14 +21,14 @@ last_is : (front : List Item) (last : Item) (behind : List Item) → 0 < last.co
 last_is [] last behind h k = ap (λ n. cond (n == 0) last.cost n) (no_cost behind k)
 last_is (i ∷ front) last behind h k = ap (λ n. cond (n == 0) i.cost n) (last_is front last behind h k) ∙ some_cost last.cost h i.cost
 
-pub less_than_the_last : (root : StorageRoot) (s t : Store) (old new : Option (List ℕ)) (from to next : Option Place) (limits : Limits) (spent files : ℕ) (finding : Bool)
-    (run : Runs root s t old new from to limits spent files finding next) (front behind : List Item) (last : Item)
-    → taken root run.trail from limits ≡ front ++ last ∷ behind → 0 < last.cost → total_cost behind ≡ 0 → spent < limits.budget + last.cost
-less_than_the_last root s t old new from to next limits spent files finding run front behind last are h k =
+pub less_than_the_last : (call : Call) (from to next : Option Place) (limits : Limits) (spent files : ℕ) (finding : Bool)
+    (run : Runs call from to limits spent files finding next) (front behind : List Item) (last : Item)
+    → taken call.root run.trail from limits ≡ front ++ last ∷ behind → 0 < last.cost → total_cost behind ≡ 0 → spent < limits.budget + last.cost
+less_than_the_last call from to next limits spent files finding run front behind last are h k =
     let a = run.figures.spent_is in
-    let e : total_cost (taken root run.trail from limits) ≡ total_cost (front ++ last ∷ behind) = ap total_cost are in
+    let e : total_cost (taken call.root run.trail from limits) ≡ total_cost (front ++ last ∷ behind) = ap total_cost are in
     let f = cost_append front (last ∷ behind) in
-    let c : last_cost (taken root run.trail from limits) ≡ last.cost = ap last_cost are ∙ last_is front last behind h k in
+    let c : last_cost (taken call.root run.trail from limits) ≡ last.cost = ap last_cost are ∙ last_is front last behind h k in
     let some : 0 < spent = omega (arith, a, e, f, h) in
     let m = run.overrun some in
     omega (arith, m, c)

@@ -26,6 +26,7 @@ use Rattle.ocfl_walk.specs.Ends.{is_past, before_end}
 use Rattle.ocfl_walk.specs.declared.end.End.{End}
 use Rattle.ocfl_item.specs.declared.fault.Fault.{Fault}
 use Rattle.ocfl_item.specs.declared.fault.Fault.TheVariants.{Output}
+use Rattle.ocfl_scrub.specs.Call.{call_of}
 use Rattle.ocfl_scrub.specs.Taking.{WritesLines, PartOf, Takes, Misses}
 use Rattle.ocfl_scrub.specs.Written.{last_of}
 use Rattle.ocfl_scrub.proofs.Passing.{up_to_last, due_in, Passes, Finishes, Halts}
@@ -149,7 +150,7 @@ module _ (root : StorageRoot) (e : End) (s t u : Store) (old mid : Option (List 
     pub with_ascends : IsAscending place_cmp (h.done ++ p ∷ [])
     with_ascends = front_ascends root from h.done (p ∷ []) (due root (Some p)) due_with
 
-    module _ (cost : ℕ) (more : Bool) (k : Takes root u v mid new p cost more) where
+    module _ (cost : ℕ) (more : Bool) (k : Takes (call_of root u v mid new) p cost more) where
       pub taken_there : Audits root t v (p ∷ []) (looked_between root last (Some p)) (read_between root last (Some p)) (w.trail ++ k.trail)
       taken_there = walk_then root t u v last (Some p) w (p ∷ []) k.trail k.audits
 
@@ -158,7 +159,7 @@ module _ (root : StorageRoot) (e : End) (s t u : Store) (old mid : Option (List 
           items_then root h.trail (w.trail ++ k.trail) h.done (p ∷ []) with_ascends h.audits.opened taken_there.opened
           ∙ ap (λ is. items_at root h.trail h.done ++ is) (walked_items root p w.trail w.audits.opened k.trail)
 
-    unfoldable pub passes_took : (cost : ℕ) (more either : Bool) → Takes root u v mid new p cost more → either ≡ (finding || more) → Passes root e s v old new from (Some p) either
+    unfoldable pub passes_took : (cost : ℕ) (more either : Bool) → Takes (call_of root u v mid new) p cost more → either ≡ (finding || more) → Passes root e s v old new from (Some p) either
     passes_took cost more either k f =
         let both = taken_there cost more k in
         let same = took_items cost more k in
@@ -177,7 +178,7 @@ module _ (root : StorageRoot) (e : End) (s t u : Store) (old mid : Option (List 
         }
 
     -- the item was not taken
-    module _ (why : Fault) (k : Misses root u v mid new p why) where
+    module _ (why : Fault) (k : Misses (call_of root u v mid new) p why) where
       pub missed_there : Fails root t v k.begun (looked_between root last (Some p)) (read_between root last (Some p)) (w.trail ++ k.trail) why
       missed_there = walk_then_fails root t u v last (Some p) w k.begun k.trail why k.fails
 
@@ -193,7 +194,7 @@ module _ (root : StorageRoot) (e : End) (s t u : Store) (old mid : Option (List 
     pub next_is : take 1 (due_in root e last) ≡ p ∷ []
     next_is = ap (take 1) due_next ∙ ap (λ ps. p ∷ ps) (take_nothing (due_in root e (Some p)))
 
-    unfoldable pub passes_missed : (why : Fault) → Misses root u v mid new p why → Halts root e s v old new from last finding why
+    unfoldable pub passes_missed : (why : Fault) → Misses (call_of root u v mid new) p why → Halts root e s v old new from last finding why
     passes_missed why k =
         let trail : List Opening = h.trail ++ (w.trail ++ k.trail) in
         let both = missed_there why k in

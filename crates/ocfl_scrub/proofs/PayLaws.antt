@@ -20,6 +20,7 @@ use Rattle.ocfl_walk.specs.Ends.{is_past}
 use Rattle.ocfl_walk.specs.declared.end.End.{End}
 use Rattle.ocfl_item.specs.declared.fault.Fault.{Fault}
 use Rattle.ocfl_item.specs.declared.fault.Fault.TheVariants.{Output}
+use Rattle.ocfl_scrub.specs.Call.{call_of}
 use Rattle.ocfl_scrub.specs.Taking.{Takes, Misses}
 use Rattle.ocfl_scrub.proofs.Passing.{up_to_last, due_in}
 use Rattle.ocfl_scrub.proofs.Paying.{Paid, Counts, IsWithinBoth, Pays, PaysAll, PaysUpTo, PaysHalting}
@@ -84,7 +85,7 @@ pays_over h = h.passes.audits.did.tree ∙ h.passes.audits.over
 module _ (root : StorageRoot) (end : End) (s t u : Store) (old mid : Option (List ℕ)) (from last : Option Place) (l : Limits) (spent files : ℕ) (finding : Bool) (low : HasGoneOn end from last) (h : Pays root end s t old mid from last l spent files finding) where
   module _ (p : Place) (up : IsBeyond last p) (least : due root last ≡ p ∷ due root (Some p)) (in_front : is_past end p ≡ false) (w : Walks root t u last (Some p)) where
     module _ (v : Store) (new : Option (List ℕ)) (may : is_hashed root p ≡ true → IsWithinBoth l spent files) where
-      unfoldable pub pays_took : (cost charged started : ℕ) (more either : Bool) → Takes root u v mid new p cost more → charged ≡ spent + cost → started ≡ files + files_of cost → either ≡ (finding || more)
+      unfoldable pub pays_took : (cost charged started : ℕ) (more either : Bool) → Takes (call_of root u v mid new) p cost more → charged ≡ spent + cost → started ≡ files + files_of cost → either ≡ (finding || more)
           → Pays root end s v old new from (Some p) l charged started either
       unfolding passes_took
       pays_took cost charged started more either k e g f = record {
@@ -95,7 +96,7 @@ module _ (root : StorageRoot) (end : End) (s t u : Store) (old mid : Option (Lis
       }
 
       -- the item was not taken
-      unfoldable pub pays_missed : (why : Fault) → Misses root u v mid new p why → PaysHalting root end s v old new from last l spent files finding why
+      unfoldable pub pays_missed : (why : Fault) → Misses (call_of root u v mid new) p why → PaysHalting root end s v old new from last l spent files finding why
       unfolding passes_missed
       pays_missed why k =
           let trail : List Opening = h.passes.trail ++ (w.trail ++ k.trail) in

@@ -1,18 +1,18 @@
 -- What is said and handed back after a run.
-use Rattle.std.proofs.Common.{◌≡◌, refl, ℕ, List, Option, Some, None, Vec, inl, inr}
+use Rattle.std.proofs.Common.{◌≡◌, refl, subst, ℕ, Option, Some, None, Vec, inl, inr}
 use Rattle.std.specs.Prelude.{◌≢◌, IsNone, IfSome, ◌⊎◌, String, string_bytes}
 use Rattle.std.specs.declared.alloc.Global.{Global}
 use Rattle.ocfl_tree.specs.Place.{Text, Place}
-use Rattle.ocfl_tree.specs.StorageRoot.{StorageRoot}
-use Rattle.ocfl_tree.specs.Store.{Store}
+use Rattle.ocfl_audit.specs.Parts.{Part}
 use Rattle.ocfl_audit.specs.Runs.{Limits}
 use Rattle.ocfl_cursor.specs.Cursor.{Cursor}
 use Rattle.ocfl_cursor.specs.Moves.{after_run}
 use Rattle.ocfl_deed.specs.declared.deed.Deed.{Deed}
 use Rattle.ocfl_deed.specs.declared.deed.Deed.TheVariants as deed
+use Rattle.ocfl_scrub.specs.Call.{Call, IsUnfailing}
 use Rattle.ocfl_scrub.specs.Noting.{IsRefused, IsStoredNote}
-use Rattle.ocfl_scrub.specs.Performing.{BeginsWith, HandedBack, IsNoPath, RefusesPath, RunPerformed}
-use Rattle.ocfl_scrub.specs.Running.{IsPaid, IsWorn, RunsCleanly, RunsFrom, begun, state_after}
+use Rattle.ocfl_scrub.specs.Performing.{HandedBack, IsNoPath, RefusesPath, RunMade, RunUnmade, RunWorn}
+use Rattle.ocfl_scrub.specs.Running.{IsPaid, IsWorn, RunsCleanlyWithin, RunsFromWithin, begun, state_after}
 use Rattle.ocfl_scrub.specs.declared.note.Note.{Note}
 use Rattle.ocfl_scrub.specs.declared.note.Note.TheVariants as note
 use Rattle.ocfl_scrub.specs.declared.performing.Performed.{Performed}
@@ -27,22 +27,22 @@ worn_or_not run.Spent = inr (λ e. cc)
 worn_or_not (run.Stopped why) = inr (λ e. cc)
 
 -- what is known of a run from a cursor and of what is said after it, on any store
-pub record Made (known : Option (Option Text)) (limits : Limits) (from : Cursor) (ran : RunEnd) (said : Performed) : Type 0 where
-  pub begins : BeginsWith known from
+pub record Made (Begins : Cursor → Type 0) (text_of : Cursor → Text) (limits : Limits) (from : Cursor) (ran : RunEnd) (said : Performed) : Type 0 where
+  pub begins : Begins from
   pub paid : IsPaid limits ran.spent ran.files
   pub leads : ran.end ≢ run.Worn → (last : Option Place) × (ran.cursor ≡ after_run (begun from) ran.spent ran.files (state_after ran.end last))
   pub is_worn : ran.end ≡ run.Worn → IsWorn from
   pub worn_says : ran.end ≡ run.Worn → said.note ≡ note.CursorWorn
   pub worn_ends : ran.end ≡ run.Worn → (said.status ≡ 3) × IsNone said.cursor
-  pub says : ran.end ≢ run.Worn → IsStoredNote ran.cursor ran.spent ran.found ran.end said.status said.note said.cursor
+  pub says : ran.end ≢ run.Worn → IsStoredNote text_of ran.cursor ran.spent ran.found ran.end said.status said.note said.cursor
 
-module _ (known : Option (Option Text)) (limits : Limits) (from : Cursor) (ran : RunEnd) (said : Performed) where
+module _ {Begins : Cursor → Type 0} {text_of : Cursor → Text} {limits : Limits} {from : Cursor} {ran : RunEnd} {said : Performed} (h : Made Begins text_of limits from ran said) where
   -- a text that is handed back is that of the cursor that the run answered
-  pub handed_back : Made known limits from ran said → IfSome said.cursor (λ handed. HandedBack known limits said.status said.note handed.items)
-  handed_back h = by said.cursor h.worn_ends h.says
+  pub handed_back : IfSome said.cursor (λ handed. HandedBack Begins text_of limits said.status said.note handed.items)
+  handed_back = by said.cursor h.worn_ends h.says
     where
-      by : (stored : Option (Vec ℕ Global)) → (ran.end ≡ run.Worn → (said.status ≡ 3) × IsNone stored) → (ran.end ≢ run.Worn → IsStoredNote ran.cursor ran.spent ran.found ran.end said.status said.note stored)
-          → IfSome stored (λ handed. HandedBack known limits said.status said.note handed.items)
+      by : (stored : Option (Vec ℕ Global)) → (ran.end ≡ run.Worn → (said.status ≡ 3) × IsNone stored) → (ran.end ≢ run.Worn → IsStoredNote text_of ran.cursor ran.spent ran.found ran.end said.status said.note stored)
+          → IfSome stored (λ handed. HandedBack Begins text_of limits said.status said.note handed.items)
       by None ends says = tt
       by (Some v) ends says =
           let unworn : ran.end ≢ run.Worn = λ e. let gone = (ends e).1 in cc in
@@ -58,23 +58,28 @@ module _ (known : Option (Option Text)) (limits : Limits) (from : Cursor) (ran :
           }
 
   -- the same run on a store that tells its tree
-  module _ (root : StorageRoot) (s t : Store) (old new : Option (List ℕ)) (h : Made known limits from ran said) where
-    pub run_performed : (ran.end ≡ run.Worn → (t ≡ s) × (new ≡ old)) → (ran.end ≢ run.Worn → RunsFrom root s t old new from limits ran.cursor ran.spent ran.files ran.found ran.end)
-        → (t.failures ≡ s.failures → RunsCleanly root old new from limits ran.spent ran.files ran.found ran.end) → RunPerformed known root s t old new limits said.status said.note said.cursor
-    run_performed silent runs clean = by (worn_or_not ran.end)
-      where
-        by : (ran.end ≡ run.Worn) ⊎ (ran.end ≢ run.Worn) → RunPerformed known root s t old new limits said.status said.note said.cursor
-        by (inl worn) = inr (record {
-          why = inr (record { from = from; begins = h.begins; worn = h.is_worn worn; status_is = (h.worn_ends worn).0; says = h.worn_says worn });
-          uncalled = (silent worn).0;
-          unwritten = (silent worn).1;
-          unkept = (h.worn_ends worn).1;
-        })
-        by (inr made) = inl (record {
-          from = from;
-          begins = h.begins;
-          runs = record { ran = ran; runs = runs made; clean = clean; says = h.says made };
-        })
+  pub run_performed : {Why : Type 0} (call : Call) (made part : Part) → made ≡ part → (RunWorn Begins said.status said.note → Why) → (ran.end ≡ run.Worn → (call.after ≡ call.before) × (call.new ≡ call.old))
+      → (ran.end ≢ run.Worn → RunsFromWithin call made from limits ran) → (IsUnfailing call → RunsCleanlyWithin call made from limits ran.spent ran.files ran.found ran.end)
+      → RunMade Begins text_of call part limits said.status said.note said.cursor ⊎ RunUnmade Why call said.cursor
+  run_performed {Why} call made part same unmade silent runs clean = by (worn_or_not ran.end)
+    where
+      by : (ran.end ≡ run.Worn) ⊎ (ran.end ≢ run.Worn) → RunMade Begins text_of call part limits said.status said.note said.cursor ⊎ RunUnmade Why call said.cursor
+      by (inl worn) = inr (record {
+        why = unmade (record { from = from; begins = h.begins; worn = h.is_worn worn; status_is = (h.worn_ends worn).0; says = h.worn_says worn });
+        uncalled = (silent worn).0;
+        unwritten = (silent worn).1;
+        unkept = (h.worn_ends worn).1;
+      })
+      by (inr went) = inl (record {
+        from = from;
+        begins = h.begins;
+        runs = record {
+          ran = ran;
+          runs = subst (λ q. RunsFromWithin call q from limits ran) same (runs went);
+          clean = λ f. subst (λ q. RunsCleanlyWithin call q from limits ran.spent ran.files ran.found ran.end) same (clean f);
+          says = h.says went;
+        };
+      })
 
 -- a path that was checked is refused as the check refuses it
 pub path_refused : (d : Deed) (path : String Global) (read : Text) (status status' : ℕ) (n n' : Note)

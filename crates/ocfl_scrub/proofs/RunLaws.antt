@@ -20,27 +20,27 @@ use Rattle.ocfl_cursor.specs.Cursor.{State, Cursor, IsShortPlace, IsCursor}
 use Rattle.ocfl_cursor.specs.Moves.{after_run}
 use Rattle.ocfl_item.specs.Looking.{IsFront}
 use Rattle.ocfl_item.specs.Ways.{IsWayFault}
-use Rattle.ocfl_item.specs.Auditing.{Audits, Fails}
+use Rattle.ocfl_item.specs.Auditing.{Audits}
 use Rattle.ocfl_walk.specs.WalkCalls.{GoesDown, GoDownFails}
 use Rattle.ocfl_walk.specs.Ends.{before_end}
 use Rattle.ocfl_item.specs.declared.fault.Fault.{Fault}
 use Rattle.ocfl_item.specs.declared.fault.Fault.TheVariants.{Output}
+use Rattle.ocfl_scrub.specs.Call.{call_of}
 use Rattle.ocfl_scrub.specs.Taking.{PartOf}
 use Rattle.ocfl_scrub.specs.Written.{places, last_of, Figures}
 use Rattle.ocfl_scrub.specs.Running.{items_above_in, taken_in, rest_in, first_of, last_cost, place_in, RunsWithin, RunStopsWithin, RunEndsWithin, RunsFromWithin, RunsCleanWithin, RunsCleanlyWithin, IsPaid, begun, state_after}
-use Rattle.ocfl_scrub.specs.Starting.{end_of, entry, stand, looked_in, read_in}
+use Rattle.ocfl_scrub.specs.Starting.{end_of, entry, stand, looked_in, read_in, LooksOver, StopsLooking}
 use Rattle.ocfl_scrub.specs.Beginning.{Begins}
 use Rattle.ocfl_scrub.proofs.Paying.{Paid, Counts, IsWithinBoth, PaysAll, PaysUpTo, PaysHalting}
 use Rattle.ocfl_scrub.specs.declared.running.RunStatus.{RunStatus}
 use Rattle.ocfl_scrub.specs.declared.running.RunStatus.TheVariants.{Ended, Spent, Stopped, Worn}
-use Rattle.ocfl_item.proofs.AuditingLaws.{audits_fail, audits_on}
 use Rattle.ocfl_scrub.proofs.AuditLaws.{places_of_items, take_items, nothing_out, none_left, above_are}
 use Rattle.ocfl_scrub.proofs.PassLaws.{take_nothing}
 use Rattle.ocfl_scrub.proofs.TakeLaws.{nothing_of}
 use Rattle.ocfl_scrub.proofs.MeterLaws.{paid_files}
 use Rattle.ocfl_scrub.proofs.Passing.{due_in}
 use Rattle.ocfl_scrub.proofs.PartStarts.{looked_all, read_all, looked_to, read_to}
-use Rattle.ocfl_scrub.proofs.WayOrder.{listed_once_in, read_once_in}
+use Rattle.ocfl_scrub.proofs.LookLaws.{looks_over, stops_looking, stops_above}
 use Rattle.ocfl_scrub.proofs.CutLaws.{IsStop, paid_begins, cut_of_paid, left_of_paid, paid_passes, test_unpaid, hashed_costs}
 
 -- ---- where a cut ends
@@ -61,9 +61,6 @@ none_first root os = refl
 some_first : (root : StorageRoot) (os : List Opening) (p : Place) (ps : List Place) → Some p ≡ first_of (items_at root os (p ∷ ps))
 unfolding items_at
 some_first root os p ps = refl
-
-all_front : (xs : List Place) → IsFront xs xs
-all_front xs = ([], sym (append-nil xs))
 
 -- the next item is in the cut where it is paid for
 first_taken : (l : Limits) (s f : ℕ) (ys : List Item) → Paid l s f (take 1 ys) → take 1 (take (cut_len l s f ys) ys) ≡ take 1 ys
@@ -108,19 +105,12 @@ module _ (root : StorageRoot) (part : Part) (s t u : Store) (old new : Option (L
         rest_are = ap (λ is. left is l) are ∙ left_of_paid l _ _ counts.paid stop_there
 
         runs_of : next ≡ first_of (items_at root os later) → Audits root t u done (looked_in root part from next) (read_in root part from next) os
-            → Appends old new (text (items_at root os done)) → finding ≡ found (items_at root os done) → last ≡ last_of from done → RunsWithin root s u old new part from last l spent files finding next
+            → Appends old new (text (items_at root os done)) → finding ≡ found (items_at root os done) → last ≡ last_of from done → RunsWithin (call_of root s u old new) part from last l spent files finding next
         runs_of next_is k wrote found_is last_is =
             let at_places : places (taken_in root (g.trail ++ os) part from l) ≡ done = ap places taken_are ∙ places_of_items root os done in
             record {
               trail = g.trail ++ os;
-              down = g.listed;
-              held = g.heads;
-              audits = subst (λ ps. Audits root s u ps (g.listed ++ looked_in root part from next) (g.heads ++ read_in root part from next) (g.trail ++ os)) (sym at_places)
-                  (audits_on root s t u [] done g.listed (looked_in root part from next) g.heads (read_in root part from next) g.trail os g.audits k);
-              down_front = g.listed_front;
-              held_front = g.heads_front;
-              lists_once = listed_once_in root part from next g.listed (looked_in root part from next) g.listed_front (all_front _);
-              reads_once = read_once_in root part from next g.heads (read_in root part from next) g.heads_front (all_front _);
+              looks = subst (λ ps. LooksOver (call_of root s u old new) part from next ps (g.trail ++ os)) (sym at_places) (looks_over root part s t u old new from g next done os k);
               wrote = subst (λ is. Appends old new (text is)) (sym taken_are) wrote;
               figures = subst (λ is. Figures is spent files finding) (sym taken_are) (record { spent_is = counts.spent_is; files_is = counts.files_is; found_is = found_is });
               last_is = last_is ∙ ap (last_of from) (sym at_places);
@@ -134,7 +124,7 @@ module _ (root : StorageRoot) (part : Part) (s t u : Store) (old new : Option (L
 
   -- all were taken
   pub ended : (h : PaysAll root (end_of part) t u old new (stand root part from) stood l spent files finding) → last ≡ last_of from (due_in root (end_of part) (stand root part from))
-      → RunsWithin root s u old new part from last l spent files finding None
+      → RunsWithin (call_of root s u old new) part from last l spent files finding None
   ended h last_is =
       let k = h.finishes in
       let all : List Place = due_in root (end_of part) (stand root part from) in
@@ -144,7 +134,7 @@ module _ (root : StorageRoot) (part : Part) (s t u : Store) (old new : Option (L
 
   -- the limits were reached
   pub spent_all : (h : PaysUpTo root (end_of part) t u old new (stand root part from) stood l spent files finding) → last ≡ last_of from h.done
-      → RunsWithin root s u old new part from last l spent files finding (Some h.next)
+      → RunsWithin (call_of root s u old new) part from last l spent files finding (Some h.next)
   spent_all h last_is =
       runs_of h.trail h.done (h.next ∷ due_in root (end_of part) (Some h.next)) h.due_are h.counts (Some h.next) (unpaid_stops root h.trail l spent files h.next _ h.hashed h.reached) (some_first root h.trail h.next _)
       (subst (λ hs. Audits root t u h.done (looked_in root part from (Some h.next)) hs h.trail) (read_to root part from h.next h.in_front)
@@ -152,7 +142,7 @@ module _ (root : StorageRoot) (part : Part) (s t u : Store) (old new : Option (L
 
   -- there was a fault
   pub stopped : (why : Fault) (h : PaysHalting root (end_of part) t u old new (stand root part from) stood l spent files finding why) → last ≡ last_of from h.halts.done
-      → RunStopsWithin root s u old new part from last l spent files finding why
+      → RunStopsWithin (call_of root s u old new) part from last l spent files finding why
   stopped why h last_is =
       let k = h.halts in
       let trail : List Opening = g.trail ++ k.trail in
@@ -186,18 +176,8 @@ module _ (root : StorageRoot) (part : Part) (s t u : Store) (old new : Option (L
           last_is = last_is ∙ ap (last_of from) whole_places;
         };
         figures = record { spent_is = h.counts.spent_is; files_is = h.counts.files_is; found_is = k.found_is };
-        down = g.listed;
-        listed = k.listed;
-        held = g.heads;
-        heads = k.heads;
-        fails = subst (λ ps. Fails root s u (ps ++ k.begun) (g.listed ++ k.listed) (g.heads ++ k.heads) trail why) whole_places
-            (audits_fail root s t u [] (k.done ++ k.begun) g.listed k.listed g.heads k.heads g.trail k.trail why g.audits k.fails);
-        down_front = g.listed_front;
-        listed_front = listed_front;
-        held_front = g.heads_front;
-        heads_front = heads_front;
-        lists_once = listed_once_in root part from None g.listed k.listed g.listed_front listed_front;
-        reads_once = read_once_in root part from None g.heads k.heads g.heads_front heads_front;
+        looks = subst (λ ps. StopsLooking (call_of root s u old new) part from (ps ++ k.begun) trail why) whole_places
+            (stops_looking root part s t u old new from g why (k.done ++ k.begun) k.listed k.heads k.trail k.fails listed_front heads_front);
       }
 
 -- the place that a walk is given by reference
@@ -207,23 +187,13 @@ lent_place (Some p) from e = e
 
 -- no walk was started
 pub not_run : (root : StorageRoot) (part : Part) (s t : Store) (old : Option (List ℕ)) (from : Option Place) (l : Limits) (why : Fault) → IsWayFault why → GoDownFails root s t (entry part from) why
-    → RunStopsWithin root s t old old part from from l 0 0 false why
+    → RunStopsWithin (call_of root s t old old) part from from l 0 0 false why
 unfolding nothing_out
 not_run root part s t old from l why only g = record {
   trail = g.trail;
   stops = nothing_out (taken_in root g.trail part from l) old from why only.0;
   figures = record { spent_is = refl; files_is = refl; found_is = refl };
-  down = g.listed;
-  listed = [];
-  held = g.heads;
-  heads = [];
-  fails = subst (λ ls. Fails root s t [] ls (g.heads ++ []) g.trail why) (sym (append-nil g.listed)) (subst (λ hs. Fails root s t [] g.listed hs g.trail why) (sym (append-nil g.heads)) g.fails);
-  down_front = g.listed_front;
-  listed_front = (looked_in root part from None, refl);
-  held_front = g.heads_front;
-  heads_front = (read_in root part from None, refl);
-  lists_once = listed_once_in root part from None g.listed [] g.listed_front (looked_in root part from None, refl);
-  reads_once = read_once_in root part from None g.heads [] g.heads_front (read_in root part from None, refl);
+  looks = stops_above root part s t old old from why g;
 }
 
 -- ---- where no failure was counted
@@ -237,10 +207,10 @@ a_first [] p e f = absurd cc
 a_first (i ∷ items) p e f = cc
 
 module _ (root : StorageRoot) (part : Part) (s t : Store) (old new : Option (List ℕ)) (c : Cursor) (last : Option Place) (l : Limits) (spent files : ℕ) (finding : Bool) (same : t.failures ≡ s.failures) where
-  all_read : (next : Option Place) (h : RunsWithin root s t old new part (place_in c.state) last l spent files finding next) → unread_of root h.trail ≡ []
-  all_read next h = none_left (unread_of root h.trail) s.failures (sym same ∙ h.audits.did.failures_are)
+  all_read : (next : Option Place) (h : RunsWithin (call_of root s t old new) part (place_in c.state) last l spent files finding next) → unread_of root h.trail ≡ []
+  all_read next h = none_left (unread_of root h.trail) s.failures (sym same ∙ h.looks.audits.did.failures_are)
 
-  cleanly : (next : Option Place) → RunsWithin root s t old new part (place_in c.state) last l spent files finding next → RunsCleanWithin root old new part (place_in c.state) l spent files finding
+  cleanly : (next : Option Place) → RunsWithin (call_of root s t old new) part (place_in c.state) last l spent files finding next → RunsCleanWithin (call_of root s t old new) part (place_in c.state) l spent files finding
   cleanly next h =
       let e = all_read next h in
       record {
@@ -248,7 +218,7 @@ module _ (root : StorageRoot) (part : Part) (s t : Store) (old new : Option (Lis
         figures = subst (λ u. Figures (cut (after (within part (audit root u)) (place_in c.state)) l) spent files finding) e h.figures;
       }
 
-  pub runs_cleanly : (end : RunStatus) → RunEndsWithin root s t old new part (place_in c.state) last l spent files finding end → RunsCleanlyWithin root old new part c l spent files finding end
+  pub runs_cleanly : (end : RunStatus) → RunEndsWithin (call_of root s t old new) part (place_in c.state) last l spent files finding end → RunsCleanlyWithin (call_of root s t old new) part c l spent files finding end
   runs_cleanly Ended h = (cleanly None h, subst (λ u. left (after (within part (audit root u)) (place_in c.state)) l ≡ []) (all_read None h) (no_first _ h.next_is))
   runs_cleanly Spent h = (cleanly (Some h.0) h.1, subst (λ u. left (after (within part (audit root u)) (place_in c.state)) l ≢ []) (all_read (Some h.0) h.1) (a_first _ h.0 h.1.next_is))
   runs_cleanly (Stopped why) h = tt
@@ -272,16 +242,16 @@ run_counted b l spent files state h room fits p short =
     }
 
 module _ (root : StorageRoot) (part : Part) (s t : Store) (old new : Option (List ℕ)) (c b : Cursor) (from last : Option Place) (l : Limits) (spent files : ℕ) (finding : Bool) (end : RunStatus) (h : Begins c b from)
-    (run : RunEndsWithin root s t old new part from last l spent files finding end) where
-  begun_there : RunEndsWithin root s t old new part (place_in c.state) last l spent files finding end
-  begun_there = subst (λ x. RunEndsWithin root s t old new part x last l spent files finding end) h.from_is run
+    (run : RunEndsWithin (call_of root s t old new) part from last l spent files finding end) where
+  begun_there : RunEndsWithin (call_of root s t old new) part (place_in c.state) last l spent files finding end
+  begun_there = subst (λ x. RunEndsWithin (call_of root s t old new) part x last l spent files finding end) h.from_is run
 
-  pub runs_from : (reached : Cursor) (state : State) → reached ≡ after_run b spent files state → state ≡ state_after end last → RunsFromWithin root s t old new part c l reached spent files finding end
+  pub runs_from : (reached : Cursor) (state : State) → reached ≡ after_run b spent files state → state ≡ state_after end last → RunsFromWithin (call_of root s t old new) part c l (record { cursor = reached; spent = spent; files = files; found = finding; end = end })
   runs_from reached state e f = record {
     last = last;
     run = begun_there;
     cursor_is = e ∙ ap (λ x. after_run x spent files state) h.begun_is ∙ ap (λ x. after_run (begun c) spent files x) f;
   }
 
-  pub clean_from : t.failures ≡ s.failures → RunsCleanlyWithin root old new part c l spent files finding end
+  pub clean_from : t.failures ≡ s.failures → RunsCleanlyWithin (call_of root s t old new) part c l spent files finding end
   clean_from same = runs_cleanly root part s t old new c last l spent files finding same end begun_there

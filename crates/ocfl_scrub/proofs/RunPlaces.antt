@@ -17,6 +17,7 @@ use Rattle.ocfl_audit.proofs.AfterLaws.{after_is_end, after_item}
 use Rattle.ocfl_item.specs.Looking.{IsFront}
 use Rattle.ocfl_item.specs.Auditing.{Audits}
 use Rattle.ocfl_walk.specs.WalkCalls.{holder}
+use Rattle.ocfl_scrub.specs.Call.{call_of}
 use Rattle.ocfl_scrub.specs.Written.{places, last_of, Figures}
 use Rattle.ocfl_scrub.proofs.Paying.{Paid}
 use Rattle.ocfl_scrub.specs.Running.{items_above_in, taken_in, rest_in, first_of, RunsWithin}
@@ -113,7 +114,7 @@ first_places [] = refl
 first_places (i ∷ items) = refl
 
 module _ (root : StorageRoot) (part : Part) (s t : Store) (old new : Option (List ℕ)) (from last : Option Place) (limits : Limits) (spent files : ℕ) (finding : Bool) where
-  pub turn_of : (next : Option Place) → RunsWithin root s t old new part from last limits spent files finding next → Turn root part s t old new from last limits spent files finding next
+  pub turn_of : (next : Option Place) → RunsWithin (call_of root s t old new) part from last limits spent files finding next → Turn root part s t old new from last limits spent files finding next
   turn_of next h =
       let cut_items : List Item = taken_in root h.trail part from limits in
       let left_items : List Item = rest_in root h.trail part from limits in
@@ -128,8 +129,8 @@ module _ (root : StorageRoot) (part : Part) (s t : Store) (old new : Option (Lis
           done = done;
           trail = h.trail;
           listed = _;
-          heads = h.held ++ read_in root part from next;
-          audits = h.audits;
+          heads = h.looks.held ++ read_in root part from next;
+          audits = h.looks.audits;
           due_are = due_parts root part h.trail from cut_items left_items split ∙ ap (λ l. done ++ due_within root part l) is_last;
           last_is = h.last_is;
           wrote = subst (λ is. Appends old new (text is)) taken_is h.wrote;
@@ -138,5 +139,5 @@ module _ (root : StorageRoot) (part : Part) (s t : Store) (old new : Option (Lis
         next_is = h.next_is ∙ first_places left_items ∙ ap first_place (ap places left_is ∙ places_of_items root h.trail (due_within root part last));
         paid = subst (Paid limits 0 0) taken_is (cut_paid limits above);
         stops = subst (IsStop limits _ _) left_is (subst (λ is. IsStop limits (total_cost is) (total_files is) left_items) taken_is (cut_stops limits above));
-        read = let f = front_length h.held (holder root (entry part from)) h.held_front in let e = length-append h.held (read_in root part from next) in omega (arith, e, f);
+        read = let f = front_length h.looks.held (holder root (entry part from)) h.looks.held_front in let e = length-append h.looks.held (read_in root part from next) in omega (arith, e, f);
       }

@@ -20,6 +20,7 @@ use Rattle.ocfl_item.specs.Ways.{IsWayFault}
 use Rattle.ocfl_item.specs.declared.fault.Fault.{Fault}
 use Rattle.ocfl_item.specs.declared.pending.Pending.{Pending}
 use Rattle.ocfl_walk.specs.declared.walk.Walk.{Walk}
+use Rattle.ocfl_scrub.specs.Call.{call_of}
 use Rattle.ocfl_scrub.specs.Running.{limits_of, IsPaid, RunsWithin, RunStopsWithin}
 use Rattle.ocfl_scrub.specs.Starting.{end_of, entry, stand}
 use Rattle.ocfl_scrub.specs.Taking.{Takes, Misses}
@@ -76,7 +77,7 @@ module _ {root : StorageRoot} {s t : Store} {old mid : Option (List ℕ)} {walk 
     (way : IsUnderWay walk old mid finding) (h : HasPaid root part s t old mid walk from last l spent files finding) (u : Store) where
   module _ {o : Option Pending} (next : Walk) (gave : GivesNext root (end_of part) t u walk next o) where
     -- nothing is left before the end
-    pub run_ended : o ≡ None → RunsWithin root s u old mid part from last l spent files finding None
+    pub run_ended : o ≡ None → RunsWithin (call_of root s u old mid) part from last l spent files finding None
     run_ended is =
         let gives : GivesOut root t u h.stood (end_of part) next None = subst (GivesOut root t u h.stood (end_of part) next) is (gave (pays_over h.pays) way.live h.stood h.stands) in
         let all = all_done root (end_of part) h.begun t u old mid (stand root part from) h.stood finding h.beyond h.pays.passes gives.1 in
@@ -96,7 +97,7 @@ module _ {root : StorageRoot} {s t : Store} {old mid : Option (List ℕ)} {walk 
       hashed_too : {P : Type 0} → (q.hashed ≡ true → P) → is_hashed root q.place ≡ true → P
       hashed_too f e = f (gives.2.hashed ∙ e)
 
-      pub run_spent : q.hashed ≡ true → (IsWithinBoth l spent files → ⊥) → (p : Place) × RunsWithin root s u old mid part from last l spent files finding (Some p)
+      pub run_spent : q.hashed ≡ true → (IsWithinBoth l spent files → ⊥) → (p : Place) × RunsWithin (call_of root s u old mid) part from last l spent files finding (Some p)
       unfolding pays_up_to
       run_spent e k =
           let up_to = pays_up_to root (end_of part) h.begun t u old mid (stand root part from) h.stood l spent files finding h.beyond h.pays q.place above gives.3 in_front gives.0 (sym gives.2.hashed ∙ e) k in
@@ -104,7 +105,7 @@ module _ {root : StorageRoot} {s t : Store} {old mid : Option (List ℕ)} {walk 
 
       module _ (may : q.hashed ≡ true → IsWithinBoth l spent files) (v : Store) (new : Option (List ℕ)) where
         pub run_took : (place : Place) (cost charged started : ℕ) (more either : Bool) → place ≡ q.place → charged ≡ spent + cost → started ≡ files + files_of cost → either ≡ (finding || more)
-            → (u.tree ≡ root → IsPending root q → Takes root u v mid new q.place cost more) → HasPaid root part s v old new next from (Some place) l charged started either
+            → (u.tree ≡ root → IsPending root q → Takes (call_of root u v mid new) q.place cost more) → HasPaid root part s v old new next from (Some place) l charged started either
         unfolding passes_took pays_took
         run_took place cost charged started more either e f g i takes = subst (λ p. HasPaid root part s v old new next from (Some p) l charged started either) (sym e) (record {
           begun = h.begun;
@@ -117,7 +118,7 @@ module _ {root : StorageRoot} {s t : Store} {old mid : Option (List ℕ)} {walk 
           last_is = sym (last_append from h.pays.passes.done q.place);
         })
 
-        pub run_missed : (why : Fault) → (u.tree ≡ root → IsPending root q → Misses root u v mid new q.place why) → RunStopsWithin root s v old new part from last l spent files finding why
+        pub run_missed : (why : Fault) → (u.tree ≡ root → IsPending root q → Misses (call_of root u v mid new) q.place why) → RunStopsWithin (call_of root s v old new) part from last l spent files finding why
         unfolding passes_missed pays_missed
         run_missed why misses = stopped root part s h.begun v old new from h.stood last l spent files finding h.down why
             (pays_missed root (end_of part) h.begun t u old mid (stand root part from) h.stood l spent files finding h.beyond h.pays q.place above gives.3 in_front gives.0 v new (hashed_too may) why (misses (walked_over gives.0) gives.2))
@@ -125,7 +126,7 @@ module _ {root : StorageRoot} {s t : Store} {old mid : Option (List ℕ)} {walk 
 
   -- the walk did not get to its next item
   pub run_lost : (why : Fault) → (IsLive walk → IsWayFault why) → (t.tree ≡ root → IsLive walk → (p : Option Place) → Stands root walk p → FailsOut root t u p (end_of part) why)
-      → RunStopsWithin root s u old mid part from last l spent files finding why
+      → RunStopsWithin (call_of root s u old mid) part from last l spent files finding why
   unfolding passes_lost pays_lost
   run_lost why only lost = stopped root part s h.begun u old mid from h.stood last l spent files finding h.down why
       (pays_lost root (end_of part) h.begun t u old mid (stand root part from) h.stood l spent files finding h.beyond h.pays why (only way.live).0 (lost (pays_over h.pays) way.live h.stood h.stands)) h.last_is

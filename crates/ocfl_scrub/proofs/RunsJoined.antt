@@ -23,6 +23,7 @@ use Rattle.ocfl_item.specs.Auditing.{Fails}
 use Rattle.ocfl_walk.specs.WalkCalls.{holder, holder_of}
 use Rattle.ocfl_item.specs.declared.fault.Fault.{Fault}
 use Rattle.ocfl_item.specs.declared.fault.Fault.TheVariants.{Memory, Store as AtStore}
+use Rattle.ocfl_scrub.specs.Call.{call_of}
 use Rattle.ocfl_scrub.specs.Taking.{PartOf}
 use Rattle.ocfl_scrub.specs.Written.{places, last_of, Figures}
 use Rattle.ocfl_scrub.specs.Running.{items_above_in, rest_in as rest_of, RunStopsWithin}
@@ -218,7 +219,7 @@ module _ (root : StorageRoot) (part : Part) (s t : Store) (old mid : Option (Lis
       }
 
   -- it stopped
-  pub parts_stopped : (why : Fault) → RunStopsWithin root s t old mid part from mid_last l spent files finding why → PartsStop root part s t old mid from mid_last (l ∷ ls) spent files finding 1 why
+  pub parts_stopped : (why : Fault) → RunStopsWithin (call_of root s t old mid) part from mid_last l spent files finding why → PartsStop root part s t old mid from mid_last (l ∷ ls) spent files finding 1 why
   parts_stopped why h =
       let w = h.stops in
       let above : List Item = items_above_in root h.trail part from in
@@ -241,9 +242,9 @@ module _ (root : StorageRoot) (part : Part) (s t : Store) (old mid : Option (Lis
         rest = behind;
         trail = h.trail;
         others = w.others;
-        listed = h.down ++ h.listed;
-        heads = h.held ++ h.heads;
-        fails = h.fails;
+        listed = h.looks.down ++ h.looks.listed;
+        heads = h.looks.held ++ h.looks.heads;
+        fails = h.looks.fails;
         due_are = due_parts root part h.trail from w.whole (w.others ++ left_items) split ∙ ap (λ ps. done ++ ps) next_begun ∙ sym (append_assoc done w.begun behind);
         last_is = w.last_is;
         runs_begin = joined_one _ later ∙ ap (λ is. cut is l) (sym (above_in root part from h.trail)) ∙ w.items_are ∙ ap (λ is. is ++ w.others) done_is;
@@ -257,9 +258,9 @@ module _ (root : StorageRoot) (part : Part) (s t : Store) (old mid : Option (Lis
         read = record {
           none = λ e. absurd (omega (arith, e));
           some = λ e.
-              let f = front_length h.held (holder root (entry part from)) h.held_front in
-              let g = front_length h.heads (read_in root part from None) h.heads_front in
-              let m = length-append h.held h.heads in
+              let f = front_length h.looks.held (holder root (entry part from)) h.looks.held_front in
+              let g = front_length h.looks.heads (read_in root part from None) h.looks.heads_front in
+              let m = length-append h.looks.held h.looks.heads in
               omega (arith, f, g, m);
         };
       }

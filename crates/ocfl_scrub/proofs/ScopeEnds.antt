@@ -4,8 +4,6 @@ use Rattle.std.specs.Prelude.{◌≢◌, ◌⊎◌}
 use Rattle.std.specs.declared.alloc.Global.{Global}
 use Rattle.std.proofs.lemmas.Bool.{true≢false}
 use Rattle.ocfl_tree.specs.Place.{Text, Place}
-use Rattle.ocfl_tree.specs.StorageRoot.{StorageRoot}
-use Rattle.ocfl_tree.specs.Store.{Store}
 use Rattle.ocfl_tree.specs.declared.store.Opening.{Opening}
 use Rattle.ocfl_report.specs.Line.{Item}
 use Rattle.ocfl_audit.specs.Audit.{audit}
@@ -24,6 +22,7 @@ use Rattle.ocfl_deed.specs.declared.deed.Deed.{Deed}
 use Rattle.ocfl_deed.specs.declared.deed.Deed.TheVariants as deed
 use Rattle.ocfl_item.specs.declared.fault.Fault.{Fault}
 use Rattle.ocfl_item.specs.declared.fault.Fault.TheVariants as fault
+use Rattle.ocfl_scrub.specs.Call.{Call}
 use Rattle.ocfl_scrub.specs.Noting.{IsStopNote}
 use Rattle.ocfl_scrub.specs.Performing.{HandsBack, IsSaid, Performs, RefusesRightly}
 use Rattle.ocfl_scrub.specs.Scoping.{BranchAudited, HandsBackIn, IsBranchNote, IsSaidIn, PartRefusesRightly, PerformsIn, RefusesRightlyIn}
@@ -49,10 +48,10 @@ pub whole_handed_back : (d : Deed) (known : Option (Option (List ℕ))) (status 
 whole_handed_back deed.Audit known status n stored h = h
 whole_handed_back d known status n stored h = h
 
-pub whole_told : (d : Deed) (known : Option (Option (List ℕ))) (root : StorageRoot) (s t : Store) (old new : Option (List ℕ)) (status : ℕ) (n : Note) (stored : Option (Vec ℕ Global))
-    → PerformsIn d scope.Whole known root s t old new status n stored → Performs known root s t old new d status n stored
-whole_told deed.Audit known root s t old new status n stored h = h
-whole_told d known root s t old new status n stored h = h
+pub whole_told : (call : Call) (d : Deed) (known : Option (Option (List ℕ))) (status : ℕ) (n : Note) (stored : Option (Vec ℕ Global))
+    → PerformsIn call d scope.Whole known status n stored → Performs call known d status n stored
+whole_told call deed.Audit known status n stored h = h
+whole_told call d known status n stored h = h
 
 -- ---- branches
 
@@ -75,24 +74,24 @@ no_items [] e = refl
 no_items (i ∷ items) e = absurd (last_of_more i.place (places items) e)
 
 -- the items of a branch, as the audit that ended could read them
-abbrev Ended : StorageRoot → Store → Store → Place → (List Item → Type 0) → Type 0
-Ended root s t p holds = (trail : List Opening) × ((t.openings ≡ s.openings ++ trail) × holds (within (branch p) (audit root (unread_of root trail))))
+abbrev Ended : Call → Place → (List Item → Type 0) → Type 0
+Ended call p holds = (trail : List Opening) × ((call.after.openings ≡ call.before.openings ++ trail) × holds (within (branch p) (audit call.root (unread_of call.root trail))))
 
-module _ (root : StorageRoot) (s t : Store) (old new : Option (List ℕ)) (p : Place) (status : ℕ) where
-  pub no_item : BranchAudited root s t old new p status note.EmptyBranch → Ended root s t p (λ items. items ≡ [])
+module _ (call : Call) (p : Place) (status : ℕ) where
+  pub no_item : BranchAudited call p status note.EmptyBranch → Ended call p (λ items. items ≡ [])
   no_item h = by h.ran.end h.ran.last h.audits h.says
     where
-      by : (how : End) (last : Option Place) → AuditEndsWithin root s t old new (branch p) last h.ran.found how → IsBranchNote h.ran.found how last status note.EmptyBranch → Ended root s t p (λ items. items ≡ [])
-      by end.Ended None a says = (a.trail, (a.audits.did.openings_are, no_items _ (sym a.last_is)))
+      by : (how : End) (last : Option Place) → AuditEndsWithin call (branch p) last h.ran.found how → IsBranchNote h.ran.found how last status note.EmptyBranch → Ended call p (λ items. items ≡ [])
+      by end.Ended None a says = (a.trail, (a.looks.audits.did.openings_are, no_items _ (sym a.last_is)))
       by end.Ended (Some q) a says = absurd (let e = says.1 in cc)
       by (end.Stopped why) last a says = absurd (no_stop why note.EmptyBranch (inl refl) says.1)
 
-  pub some_item : BranchAudited root s t old new p status note.Nothing → Ended root s t p (λ items. items ≢ [])
+  pub some_item : BranchAudited call p status note.Nothing → Ended call p (λ items. items ≢ [])
   some_item h = by h.ran.end h.ran.last h.audits h.says
     where
-      by : (how : End) (last : Option Place) → AuditEndsWithin root s t old new (branch p) last h.ran.found how → IsBranchNote h.ran.found how last status note.Nothing → Ended root s t p (λ items. items ≢ [])
+      by : (how : End) (last : Option Place) → AuditEndsWithin call (branch p) last h.ran.found how → IsBranchNote h.ran.found how last status note.Nothing → Ended call p (λ items. items ≢ [])
       by end.Ended None a says = absurd (let e = says.1 in cc)
-      by end.Ended (Some q) a says = (a.trail, (a.audits.did.openings_are, λ none. let last = a.last_is ∙ ap (λ items. last_of None (places items)) none in cc))
+      by end.Ended (Some q) a says = (a.trail, (a.looks.audits.did.openings_are, λ none. let last = a.last_is ∙ ap (λ items. last_of None (places items)) none in cc))
       by (end.Stopped why) last a says = absurd (no_stop why note.Nothing (inr refl) says.1)
 
 -- ---- cursors of parts

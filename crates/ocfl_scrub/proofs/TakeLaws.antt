@@ -17,6 +17,7 @@ use Rattle.ocfl_item.specs.Auditing.{Fails}
 use Rattle.ocfl_item.specs.Judging.{Judges, JudgeFails}
 use Rattle.ocfl_item.specs.declared.fault.Fault.{Fault}
 use Rattle.ocfl_item.specs.declared.fault.Fault.TheVariants.{Store as AtStore, Memory, Output}
+use Rattle.ocfl_scrub.specs.Call.{call_of}
 use Rattle.ocfl_scrub.specs.Taking.{WritesLines, PartOf, Takes, Misses}
 use Rattle.ocfl_scrub.proofs.AuditsJoined.{nothing_hashed}
 use Rattle.ocfl_item.proofs.AuditingLaws.{audits_nothing}
@@ -61,7 +62,7 @@ module _ (root : StorageRoot) (s t : Store) (p : Place) (lines : List MadeLine) 
   judged_found = ap found j.item ∙ or_none (list_any (λ l. is_finding_code l.code) (map line_of lines))
 
   pub judged_takes : (old new : Option (List ℕ)) (piece : List ℕ) (finding : Bool) → piece ≡ lines_text (map line_of lines) → finding ≡ list_any (λ l. is_finding_code l.code) (map line_of lines)
-      → Appends old new piece → Takes root s t old new p cost finding
+      → Appends old new piece → Takes (call_of root s t old new) p cost finding
   judged_takes old new piece finding e f sent = record {
     trail = j.trail;
     audits = j.audits;
@@ -81,7 +82,7 @@ module _ (root : StorageRoot) (s t : Store) (p : Place) (lines : List MadeLine) 
   }
 
   -- no room for the text
-  pub judged_memory : (old : Option (List ℕ)) → Misses root s t old old p Memory
+  pub judged_memory : (old : Option (List ℕ)) → Misses (call_of root s t old old) p Memory
   judged_memory old = record {
     trail = j.trail;
     begun = p ∷ [];
@@ -102,7 +103,7 @@ none_or_hashed root p true = refl
 none_or_hashed root p false = sym (nothing_hashed root)
 
 -- the item was not judged
-pub unjudged : (root : StorageRoot) (s t : Store) (old : Option (List ℕ)) (p : Place) → JudgeFails root s t p → Misses root s t old old p Memory
+pub unjudged : (root : StorageRoot) (s t : Store) (old : Option (List ℕ)) (p : Place) → JudgeFails root s t p → Misses (call_of root s t old old) p Memory
 unjudged root s t old p j = record {
   trail = j.trail;
   begun = cond j.part (p ∷ []) [];
@@ -115,7 +116,7 @@ unjudged root s t old p j = record {
 }
 
 -- nothing was done
-pub unbegun : (root : StorageRoot) (s : Store) (old : Option (List ℕ)) (p : Place) → s.tree ≡ root → Misses root s s old old p Memory
+pub unbegun : (root : StorageRoot) (s : Store) (old : Option (List ℕ)) (p : Place) → s.tree ≡ root → Misses (call_of root s s old old) p Memory
 unbegun root s old p over =
     let none = audits_nothing root s over in
     record {

@@ -1,9 +1,7 @@
 -- What checking one place does.
-use Rattle.std.specs.Prelude.{◌≡◌, ◌≢◌, ℕ, List, [], ◌∷◌, Bool, not, Option, Some, AllPairs}
-use Rattle.std.specs.Io.KnownBytes.{Appends}
+use Rattle.std.specs.Prelude.{◌≡◌, ◌≢◌, List, [], ◌∷◌, Bool, not, Some, AllPairs}
 use Rattle.ocfl_tree.specs.Place.{Text, Place}
 use Rattle.ocfl_tree.specs.StorageRoot.{StorageRoot}
-use Rattle.ocfl_tree.specs.Store.{Store}
 use Rattle.ocfl_tree.specs.declared.store.Opening.{Opening}
 use Rattle.ocfl_report.specs.Line.{Item, found}
 use Rattle.ocfl_report.specs.Text.{text}
@@ -14,6 +12,7 @@ use Rattle.ocfl_item.specs.Looking.{way_to, IsFront}
 use Rattle.ocfl_item.specs.Auditing.{Audits, Fails}
 use Rattle.ocfl_walk.specs.WalkCalls.{holder}
 use Rattle.ocfl_item.specs.declared.fault.Fault.{Fault}
+use Rattle.ocfl_scrub.specs.Call.{Call, Writes}
 use Rattle.ocfl_scrub.specs.Taking.{PartOf}
 use Rattle.ocfl_scrub.specs.declared.checking.End.{End}
 use Rattle.ocfl_scrub.specs.declared.checking.End.TheVariants as end
@@ -32,30 +31,30 @@ pub record IsJustFor (root : StorageRoot) (p : Place) (listed heads : List Place
   pub heads_front : IsFront heads (holder root (Some p))
   pub once : AreOnce trail
 
--- from s to t the place was checked: its lines were written, its file was opened if it is hashed and no other content, only directories on the way to it were listed, each once, and at most the inventory of its object was read
-pub record Checks (root : StorageRoot) (s t : Store) (old new : Option (List ℕ)) (p : Place) (item finding : Bool) : Type 0 where
+-- the place was checked: its lines were written, its file was opened if it is hashed and no other content, only directories on the way to it were listed, each once, and at most the inventory of its object was read
+pub record Checks (call : Call) (p : Place) (item finding : Bool) : Type 0 where
   pub trail : List Opening
   pub listed : List Place
   pub heads : List Place
-  pub audits : Audits root s t (p ∷ []) listed heads trail
-  pub just : IsJustFor root p listed heads trail
-  pub wrote : Appends old new (text (checked_item root trail p))
-  pub item_is : item ≡ not (is_empty (checked_item root trail p))
-  pub found_is : finding ≡ found (checked_item root trail p)
+  pub audits : Audits call.root call.before call.after (p ∷ []) listed heads trail
+  pub just : IsJustFor call.root p listed heads trail
+  pub wrote : Writes call (text (checked_item call.root trail p))
+  pub item_is : item ≡ not (is_empty (checked_item call.root trail p))
+  pub found_is : finding ≡ found (checked_item call.root trail p)
 
--- from s to t checking the place stopped: at most a proper beginning of its text went out, and nothing where it was not the output that failed
-pub record CheckStops (root : StorageRoot) (s t : Store) (old new : Option (List ℕ)) (p : Place) (why : Fault) : Type 0 where
+-- checking the place stopped: at most a proper beginning of its text went out, and nothing where it was not the output that failed
+pub record CheckStops (call : Call) (p : Place) (why : Fault) : Type 0 where
   pub trail : List Opening
   pub begun : List Place
   pub one : IsFront begun (p ∷ [])
   pub listed : List Place
   pub heads : List Place
-  pub fails : Fails root s t begun listed heads trail why
-  pub just : IsJustFor root p listed heads trail
+  pub fails : Fails call.root call.before call.after begun listed heads trail why
+  pub just : IsJustFor call.root p listed heads trail
   pub part : Text
-  pub wrote : Appends old new part
-  pub part_of : PartOf why (text (checked_item root trail p)) part
+  pub wrote : Writes call part
+  pub part_of : PartOf why (text (checked_item call.root trail p)) part
 
-abbrev pub CheckEnds : StorageRoot → Store → Store → Option (List ℕ) → Option (List ℕ) → Place → Bool → Bool → End → Type 0
-CheckEnds root s t old new p item finding end.Ended = Checks root s t old new p item finding
-CheckEnds root s t old new p item finding (end.Stopped why) = CheckStops root s t old new p why
+abbrev pub CheckEnds : Call → Place → Bool → Bool → End → Type 0
+CheckEnds call p item finding end.Ended = Checks call p item finding
+CheckEnds call p item finding (end.Stopped why) = CheckStops call p why

@@ -1,5 +1,5 @@
 -- Runs of a part made one after the other, by whatever processes, and the parts of a storage root together.
-use Rattle.std.specs.Prelude.{◌≡◌, ℕ, List, [], ◌∷◌, ◌++◌, Bool, Some, None, flat_map}
+use Rattle.std.specs.Prelude.{◌≡◌, List, [], ◌∷◌, ◌++◌, None, flat_map}
 use Rattle.ocfl_tree.specs.Place.{Text, Place}
 use Rattle.ocfl_tree.specs.StorageRoot.{StorageRoot}
 use Rattle.ocfl_tree.specs.Store.{Store}
@@ -8,8 +8,9 @@ use Rattle.ocfl_audit.specs.Parts.{Part}
 use Rattle.ocfl_audit.specs.Runs.{Limits}
 use Rattle.ocfl_audit.specs.Trail.{content_trail}
 use Rattle.ocfl_cursor.specs.Cursor.{Cursor}
+use Rattle.ocfl_scrub.specs.Call.{known_call}
 use Rattle.ocfl_scrub.specs.Running.{place_in, RunsFromWithin}
-use Rattle.ocfl_scrub.specs.declared.running.RunStatus.{RunStatus}
+use Rattle.ocfl_scrub.specs.declared.running.RunEnd.{RunEnd}
 use Rattle.ocfl_scrub.specs.declared.running.RunStatus.TheVariants as status
 
 -- what a run was given, what it wrote and opened, and what it answered
@@ -17,26 +18,22 @@ pub record PartRun : Type 0 where
   pub limits : Limits
   pub report : Text
   pub opened : List Opening
-  pub reached : Cursor
-  pub spent : ℕ
-  pub files : ℕ
-  pub finding : Bool
-  pub end : RunStatus
+  pub ran : RunEnd
 
 -- it was made from a cursor, and no failure was counted
 pub record RanWell (root : StorageRoot) (part : Part) (c : Cursor) (r : PartRun) : Type 0 where
   pub before : Store
   pub behind : Store
   pub old : Text
-  pub ran : RunsFromWithin root before behind (Some old) (Some (old ++ r.report)) part c r.limits r.reached r.spent r.files r.finding r.end
+  pub runs : RunsFromWithin (known_call root before behind old (old ++ r.report)) part c r.limits r.ran
   pub opened_is : behind.openings ≡ before.openings ++ r.opened
   pub unfailing : behind.failures ≡ before.failures
 
 -- each was made from the cursor that the one before it answered, and the last ended the cycle
 abbrev pub AreRuns : StorageRoot → Part → Cursor → List PartRun → Type 0
 AreRuns root part c [] = ⊥
-AreRuns root part c (r ∷ []) = RanWell root part c r × (r.end ≡ status.Ended)
-AreRuns root part c (r ∷ q ∷ runs) = RanWell root part c r × ((r.end ≡ status.Spent) × AreRuns root part r.reached (q ∷ runs))
+AreRuns root part c (r ∷ []) = RanWell root part c r × (r.ran.end ≡ status.Ended)
+AreRuns root part c (r ∷ q ∷ runs) = RanWell root part c r × ((r.ran.end ≡ status.Spent) × AreRuns root part r.ran.cursor (q ∷ runs))
 
 -- what they wrote and opened together
 abbrev pub reports_of : List PartRun → Text

@@ -1,18 +1,18 @@
 -- The status and the text that a command ends with.
 use Rattle.std.specs.Prelude.{◌≡◌, ◌≢◌, ◌⊎◌, ℕ, List, Bool, true, false, Option, Some, None, Vec, ⊤}
 use Rattle.std.specs.declared.alloc.Global.{Global}
-use Rattle.ocfl_tree.specs.Place.{Place}
-use Rattle.ocfl_tree.specs.StorageRoot.{StorageRoot}
-use Rattle.ocfl_tree.specs.Store.{Store}
-use Rattle.ocfl_cursor.specs.Cursor.{Cursor, cursor_text}
+use Rattle.ocfl_tree.specs.Place.{Text, Place}
+use Rattle.ocfl_cursor.specs.Cursor.{Cursor}
 use Rattle.ocfl_cursor.specs.declared.reading.CursorStop.{CursorStop}
 use Rattle.ocfl_cursor.specs.declared.reading.CursorStop.TheVariants as stop
+use Rattle.ocfl_cursor.specs.declared.refused.PartRefused.{PartRefused}
 use Rattle.ocfl_cursor.specs.declared.refused.PartRefused.TheVariants as part
 use Rattle.ocfl_cursor.specs.declared.refused.Refused.TheVariants as refused
 use Rattle.ocfl_cursor.specs.declared.showing.ShowStop.{ShowStop}
 use Rattle.ocfl_cursor.specs.declared.showing.ShowStop.TheVariants as show
 use Rattle.ocfl_item.specs.declared.fault.Fault.{Fault}
 use Rattle.ocfl_item.specs.declared.fault.Fault.TheVariants as fault
+use Rattle.ocfl_scrub.specs.Call.{Call, IsUnfailing}
 use Rattle.ocfl_scrub.specs.Taking.{WritesLines}
 use Rattle.ocfl_scrub.specs.Checking.{CheckEnds}
 use Rattle.ocfl_scrub.specs.WholeAudit.{AuditEnds}
@@ -20,8 +20,9 @@ use Rattle.ocfl_scrub.specs.declared.auditing.AuditEnd.{AuditEnd}
 use Rattle.ocfl_scrub.specs.declared.checking.CheckEnd.{CheckEnd}
 use Rattle.ocfl_scrub.specs.declared.checking.End.{End}
 use Rattle.ocfl_scrub.specs.declared.checking.End.TheVariants as end
+use Rattle.ocfl_audit.specs.Parts.{Part}
 use Rattle.ocfl_audit.specs.Runs.{Limits}
-use Rattle.ocfl_scrub.specs.Running.{RunsFrom, RunsCleanly}
+use Rattle.ocfl_scrub.specs.Running.{RunsFromWithin, RunsCleanlyWithin}
 use Rattle.ocfl_scrub.specs.Cycling.{CyclesTo, HeadlineOf}
 use Rattle.ocfl_scrub.specs.declared.running.RunEnd.{RunEnd}
 use Rattle.ocfl_scrub.specs.declared.running.RunStatus.{RunStatus}
@@ -167,41 +168,45 @@ IsUnreadNote (stop.Refused refused.Version) status n = (status ≡ 4) × (n ≡ 
 IsUnreadNote (stop.Refused refused.Damaged) status n = (status ≡ 4) × (n ≡ note.CursorRefused refused.Damaged)
 IsUnreadNote (stop.Refused refused.Malformed) status n = (status ≡ 4) × (n ≡ note.CursorRefused refused.Malformed)
 
+-- what it is ended with where the cursor of a part is refused
+abbrev pub IsPartRefusedNote : PartRefused → ℕ → Note → Type 0
+IsPartRefusedNote part.Memory status n = (status ≡ 3) × (n ≡ note.OutOfMemory)
+IsPartRefusedNote why status n = (status ≡ 4) × (n ≡ note.PartCursorRefused why)
+
 -- what it is ended with where nothing is shown
 abbrev pub IsUnshownNote : ShowStop → ℕ → Note → Type 0
 IsUnshownNote (show.Whole why) status n = IsUnreadNote why status n
-IsUnshownNote (show.Part part.Memory) status n = (status ≡ 3) × (n ≡ note.OutOfMemory)
-IsUnshownNote (show.Part why) status n = (status ≡ 4) × (n ≡ note.PartCursorRefused why)
+IsUnshownNote (show.Part why) status n = IsPartRefusedNote why status n
 
 -- the place was checked, and the status and the text are those of the check
-pub record ChecksWithNote (root : StorageRoot) (s t : Store) (old new : Option (List ℕ)) (p : Place) (status : ℕ) (n : Note) : Type 0 where
+pub record ChecksWithNote (call : Call) (p : Place) (status : ℕ) (n : Note) : Type 0 where
   pub ran : CheckEnd
-  pub checks : CheckEnds root s t old new p ran.item ran.found ran.end
+  pub checks : CheckEnds call p ran.item ran.found ran.end
   pub says : IsCheckNote ran.item ran.found ran.end status n
 
 -- the root was audited, and the status and the text are those of the audit
-pub record AuditsWithNote (root : StorageRoot) (s t : Store) (old new : Option (List ℕ)) (status : ℕ) (n : Note) : Type 0 where
+pub record AuditsWithNote (call : Call) (status : ℕ) (n : Note) : Type 0 where
   pub ran : AuditEnd
-  pub audits : AuditEnds root s t old new ran.last ran.found ran.end
+  pub audits : AuditEnds call ran.last ran.found ran.end
   pub says : IsAuditNote ran.found ran.end status n
 
--- the same where the cursor's text is handed back, or where there was no memory for it
-abbrev pub IsStoredNote : Cursor → ℕ → Bool → RunStatus → ℕ → Note → Option (Vec ℕ Global) → Type 0
-IsStoredNote c spent finding how status n None = (status ≡ 3) × (n ≡ note.OutOfMemory)
-IsStoredNote c spent finding how status n (Some stored) = (stored.items ≡ cursor_text c) × IsRunNote c spent finding how status n
+-- the same where the text of the cursor is handed back, or where there was no memory for it
+abbrev pub IsStoredNote : (Cursor → Text) → Cursor → ℕ → Bool → RunStatus → ℕ → Note → Option (Vec ℕ Global) → Type 0
+IsStoredNote text_of c spent finding how status n None = (status ≡ 3) × (n ≡ note.OutOfMemory)
+IsStoredNote text_of c spent finding how status n (Some stored) = (stored.items ≡ text_of c) × IsRunNote c spent finding how status n
 
--- a run was made from a cursor, and the status, the text and what is handed back are those of the run
-pub record RunsWithNote (root : StorageRoot) (s t : Store) (old new : Option (List ℕ)) (c : Cursor) (limits : Limits) (status : ℕ) (n : Note) (stored : Option (Vec ℕ Global)) : Type 0 where
+-- a run of a part was made from a cursor, and the status, the text and what is handed back are those of the run
+pub record RunsWithNote (call : Call) (part : Part) (text_of : Cursor → Text) (c : Cursor) (limits : Limits) (status : ℕ) (n : Note) (stored : Option (Vec ℕ Global)) : Type 0 where
   pub ran : RunEnd
-  pub runs : RunsFrom root s t old new c limits ran.cursor ran.spent ran.files ran.found ran.end
-  pub clean : t.failures ≡ s.failures → RunsCleanly root old new c limits ran.spent ran.files ran.found ran.end
-  pub says : IsStoredNote ran.cursor ran.spent ran.found ran.end status n stored
+  pub runs : RunsFromWithin call part c limits ran
+  pub clean : IsUnfailing call → RunsCleanlyWithin call part c limits ran.spent ran.files ran.found ran.end
+  pub says : IsStoredNote text_of ran.cursor ran.spent ran.found ran.end status n stored
 
 -- a cycle was made, and the status and the text are those of the cycle
-pub record CyclesWithNote (root : StorageRoot) (s t : Store) (old new : Option (List ℕ)) (limits : List Limits) (status : ℕ) (n : Note) : Type 0 where
+pub record CyclesWithNote (call : Call) (limits : List Limits) (status : ℕ) (n : Note) : Type 0 where
   pub ran : CycleEnd
-  pub cycles : CyclesTo root s t old new limits ran.cursor ran.found ran.end
-  pub headline : t.failures ≡ s.failures → HeadlineOf root s t old new limits ran.runs ran.end
+  pub cycles : CyclesTo call limits ran.cursor ran.found ran.end
+  pub headline : IsUnfailing call → HeadlineOf call limits ran.runs ran.end
   pub count_is : ran.runs ≡ ran.cursor.runs
   pub spent_is : ran.spent ≡ ran.cursor.spent
   pub says : IsCycleNote ran.runs ran.spent ran.found ran.end status n

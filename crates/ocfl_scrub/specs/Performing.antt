@@ -5,11 +5,10 @@ use Rattle.std.specs.Borrow.{MutBor}
 use Rattle.std.specs.Io.KnownBytes.{Appends}
 use Rattle.ocfl_tree.specs.Place.{Text, Place}
 use Rattle.ocfl_tree.specs.Name.{IsPlace}
-use Rattle.ocfl_tree.specs.StorageRoot.{StorageRoot}
-use Rattle.ocfl_tree.specs.Store.{Store}
 use Rattle.ocfl_report.specs.Line.{found}
 use Rattle.ocfl_report.specs.Text.{place_text, text}
 use Rattle.ocfl_audit.specs.Audit.{audit}
+use Rattle.ocfl_audit.specs.Parts.{Part, whole}
 use Rattle.ocfl_audit.specs.Runs.{Limits}
 use Rattle.ocfl_cursor.specs.Cursor.{Cursor, new_cursor, cursor_text}
 use Rattle.ocfl_cursor.specs.Moves.{after_run}
@@ -23,6 +22,7 @@ use Rattle.ocfl_cursor.specs.declared.showing.ShowStop.{ShowStop}
 use Rattle.ocfl_cursor.specs.declared.showing.ShowStop.TheVariants as show
 use Rattle.ocfl_deed.specs.declared.deed.Deed.{Deed}
 use Rattle.ocfl_deed.specs.declared.deed.Deed.TheVariants as deed
+use Rattle.ocfl_scrub.specs.Call.{Call, Writes, IsUnfailing}
 use Rattle.ocfl_scrub.specs.Noting.{status_of, IsAuditSaid, IsCheckSaid, IsRunSaid, IsCycleSaid, IsFileSaid, IsShowSaid, IsRefused, IsRunNote, IsUnreadNote, WritesWithStatus, AuditsWithNote, ChecksWithNote, RunsWithNote, CyclesWithNote}
 use Rattle.ocfl_scrub.specs.Running.{IsPaid, IsWorn, begun, limits_of, state_after}
 use Rattle.ocfl_scrub.specs.declared.running.RunEnd.{RunEnd}
@@ -102,19 +102,19 @@ abbrev pub IsKeptBy : Deed → Note → Option (Vec ℕ Global) → Type 0
 IsKeptBy (deed.Run limits) n stored = IsKept n stored
 IsKeptBy deed n stored = IsNone stored
 
--- the text that is handed back is that of the cursor to which a run led from the one that it begins with, and the status and what is said are those of that run
-pub record HandedBack (known : Option (Option Text)) (limits : Limits) (status : ℕ) (n : Note) (handed : Text) : Type 0 where
+-- the text that is handed back is that of the cursor to which a run led from one with which it may begin, and the status and what is said are those of that run
+pub record HandedBack (Begins : Cursor → Type 0) (text_of : Cursor → Text) (limits : Limits) (status : ℕ) (n : Note) (handed : Text) : Type 0 where
   pub from : Cursor
-  pub begins : BeginsWith known from
+  pub begins : Begins from
   pub ran : RunEnd
   pub paid : IsPaid limits ran.spent ran.files
   pub last : Option Place
   pub cursor_is : ran.cursor ≡ after_run (begun from) ran.spent ran.files (state_after ran.end last)
-  pub handed_is : handed ≡ cursor_text ran.cursor
+  pub handed_is : handed ≡ text_of ran.cursor
   pub says : IsRunNote ran.cursor ran.spent ran.found ran.end status n
 
 abbrev pub HandsBack : Option (Option Text) → Deed → ℕ → Note → Option (Vec ℕ Global) → Type 0
-HandsBack known (deed.Run limits) status n stored = IfSome stored (λ handed. HandedBack known (limits_of limits) status n handed.items)
+HandsBack known (deed.Run limits) status n stored = IfSome stored (λ handed. HandedBack (BeginsWith known) cursor_text (limits_of limits) status n handed.items)
 HandsBack known deed status n stored = ⊤
 
 -- without a reader a run has a new cursor, and there is none to show
@@ -165,63 +165,67 @@ WritesBy known deed status n old new = IsWhole n → WritesWithStatus old new st
 -- ---- of a store that tells its tree
 
 -- where no failure was counted, the whole audit went out
-pub record AuditPerformed (root : StorageRoot) (s t : Store) (old new : Option (List ℕ)) (status : ℕ) (n : Note) : Type 0 where
-  pub audits : AuditsWithNote root s t old new status n
-  pub clean : n ≡ note.Nothing → t.failures ≡ s.failures → Appends old new (text (audit root [])) × (status ≡ status_of (found (audit root [])))
+pub record AuditPerformed (call : Call) (status : ℕ) (n : Note) : Type 0 where
+  pub audits : AuditsWithNote call status n
+  pub clean : n ≡ note.Nothing → IsUnfailing call → Writes call (text (audit call.root [])) × (status ≡ status_of (found (audit call.root [])))
 
 -- nothing was done because memory ran out
-pub record OutOfMemoryFirst (s t : Store) (old new : Option (List ℕ)) (status : ℕ) (n : Note) : Type 0 where
+pub record OutOfMemoryFirst (call : Call) (status : ℕ) (n : Note) : Type 0 where
   pub status_is : status ≡ 3
   pub says : n ≡ note.OutOfMemory
-  pub uncalled : t ≡ s
-  pub unwritten : new ≡ old
+  pub uncalled : call.after ≡ call.before
+  pub unwritten : call.new ≡ call.old
 
-abbrev pub CheckPerformed : StorageRoot → Store → Store → Option (List ℕ) → Option (List ℕ) → Text → ℕ → Note → Type 0
-CheckPerformed root s t old new path status n = (p : Place) → IsPlace p → path ≡ place_text p →
-    ChecksWithNote root s t old new p status n ⊎ OutOfMemoryFirst s t old new status n
+abbrev pub CheckPerformed : Call → Text → ℕ → Note → Type 0
+CheckPerformed call path status n = (p : Place) → IsPlace p → path ≡ place_text p →
+    ChecksWithNote call p status n ⊎ OutOfMemoryFirst call status n
 
--- no cursor was read
-pub record RunUnread (known : Option (Option Text)) (status : ℕ) (n : Note) : Type 0 where
-  pub why : CursorStop
-  pub stops : StopsWith known why
-  pub says : IsUnreadNote why status n
+-- no cursor was read, for a reason that is said
+pub record RunUnread {Why : Type 0} (Stops : Why → Type 0) (Says : Why → ℕ → Note → Type 0) (status : ℕ) (n : Note) : Type 0 where
+  pub why : Why
+  pub stops : Stops why
+  pub says : Says why status n
 
--- the cursor that was read is worn
-pub record RunWorn (known : Option (Option Text)) (status : ℕ) (n : Note) : Type 0 where
+-- the cursor with which the run was to begin is worn
+pub record RunWorn (Begins : Cursor → Type 0) (status : ℕ) (n : Note) : Type 0 where
   pub from : Cursor
-  pub begins : BeginsWith known from
+  pub begins : Begins from
   pub worn : IsWorn from
   pub status_is : status ≡ 3
   pub says : n ≡ note.CursorWorn
 
--- no run was made, no call of the store, and nothing was written or handed back
-pub record RunUnmade (known : Option (Option Text)) (s t : Store) (old new : Option (List ℕ)) (status : ℕ) (n : Note) (stored : Option (Vec ℕ Global)) : Type 0 where
-  pub why : RunUnread known status n ⊎ RunWorn known status n
-  pub uncalled : t ≡ s
-  pub unwritten : new ≡ old
+-- for this reason no run was made, no call of the store, and nothing was written or handed back
+pub record RunUnmade (Why : Type 0) (call : Call) (stored : Option (Vec ℕ Global)) : Type 0 where
+  pub why : Why
+  pub uncalled : call.after ≡ call.before
+  pub unwritten : call.new ≡ call.old
   pub unkept : IsNone stored
 
--- a run was made from the cursor that was read
-pub record RunMade (known : Option (Option Text)) (root : StorageRoot) (s t : Store) (old new : Option (List ℕ)) (limits : Limits) (status : ℕ) (n : Note) (stored : Option (Vec ℕ Global)) : Type 0 where
+-- a run of a part was made from a cursor with which it may begin
+pub record RunMade (Begins : Cursor → Type 0) (text_of : Cursor → Text) (call : Call) (part : Part) (limits : Limits) (status : ℕ) (n : Note) (stored : Option (Vec ℕ Global)) : Type 0 where
   pub from : Cursor
-  pub begins : BeginsWith known from
-  pub runs : RunsWithNote root s t old new from limits status n stored
+  pub begins : Begins from
+  pub runs : RunsWithNote call part text_of from limits status n stored
 
-abbrev pub RunPerformed : Option (Option Text) → StorageRoot → Store → Store → Option (List ℕ) → Option (List ℕ) → Limits → ℕ → Note → Option (Vec ℕ Global) → Type 0
-RunPerformed known root s t old new limits status n stored =
-    RunMade known root s t old new limits status n stored ⊎ RunUnmade known s t old new status n stored
+-- why no run of the whole was made
+abbrev pub WhyNoRun : Option (Option Text) → ℕ → Note → Type 0
+WhyNoRun known status n = RunUnread (StopsWith known) IsUnreadNote status n ⊎ RunWorn (BeginsWith known) status n
+
+abbrev pub RunPerformed : Call → Option (Option Text) → Limits → ℕ → Note → Option (Vec ℕ Global) → Type 0
+RunPerformed call known limits status n stored =
+    RunMade (BeginsWith known) cursor_text call whole limits status n stored ⊎ RunUnmade (WhyNoRun known status n) call stored
 
 -- so many runs, each within the same limits
 abbrev pub equal_limits : MadeLimits → ℕ → List Limits
 equal_limits limits count = map limits_of (replicate count limits)
 
-abbrev pub CyclePerformed : StorageRoot → Store → Store → Option (List ℕ) → Option (List ℕ) → List Limits → ℕ → Note → Type 0
-CyclePerformed root s t old new limits status n = CyclesWithNote root s t old new limits status n ⊎ OutOfMemoryFirst s t old new status n
+abbrev pub CyclePerformed : Call → List Limits → ℕ → Note → Type 0
+CyclePerformed call limits status n = CyclesWithNote call limits status n ⊎ OutOfMemoryFirst call status n
 
--- from s to t the deed was done
-abbrev pub Performs : Option (Option Text) → StorageRoot → Store → Store → Option (List ℕ) → Option (List ℕ) → Deed → ℕ → Note → Option (Vec ℕ Global) → Type 0
-Performs known root s t old new deed.Audit status n stored = AuditPerformed root s t old new status n
-Performs known root s t old new (deed.Check path) status n stored = CheckPerformed root s t old new (string_bytes path) status n
-Performs known root s t old new (deed.Run limits) status n stored = RunPerformed known root s t old new (limits_of limits) status n stored
-Performs known root s t old new (deed.Cycle limits count) status n stored = CyclePerformed root s t old new (equal_limits limits count) status n
-Performs known root s t old new deed.Show status n stored = t ≡ s
+-- the deed was done
+abbrev pub Performs : Call → Option (Option Text) → Deed → ℕ → Note → Option (Vec ℕ Global) → Type 0
+Performs call known deed.Audit status n stored = AuditPerformed call status n
+Performs call known (deed.Check path) status n stored = CheckPerformed call (string_bytes path) status n
+Performs call known (deed.Run limits) status n stored = RunPerformed call known (limits_of limits) status n stored
+Performs call known (deed.Cycle limits count) status n stored = CyclePerformed call (equal_limits limits count) status n
+Performs call known deed.Show status n stored = call.after ≡ call.before

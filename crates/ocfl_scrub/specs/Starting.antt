@@ -1,13 +1,20 @@
 -- Where a walk over a part of a storage root begins, and what of the root is looked at from there on.
-use Rattle.std.specs.Prelude.{List, [], ◌∷◌, Bool, true, Option, Some, None, if◌then◌else◌}
+use Rattle.std.specs.Prelude.{List, [], ◌∷◌, ◌++◌, Bool, true, Option, Some, None, if◌then◌else◌}
 use Rattle.std.specs.Ordering.{is_lt}
 use Rattle.ocfl_tree.specs.Place.{Place, place_cmp}
+use Rattle.ocfl_tree.specs.Ascending.{IsAscending}
 use Rattle.ocfl_tree.specs.StorageRoot.{StorageRoot}
+use Rattle.ocfl_tree.specs.declared.store.Opening.{Opening}
 use Rattle.ocfl_audit.specs.Due.{due}
 use Rattle.ocfl_audit.specs.Between.{looked_between, read_between}
 use Rattle.ocfl_audit.specs.Parts.{Part, places_within}
+use Rattle.ocfl_item.specs.Looking.{IsFront}
+use Rattle.ocfl_item.specs.Auditing.{Audits, Fails}
+use Rattle.ocfl_item.specs.declared.fault.Fault.{Fault}
+use Rattle.ocfl_walk.specs.WalkCalls.{way_of, holder}
 use Rattle.ocfl_walk.specs.Before.{directory_of, place_before}
 use Rattle.ocfl_walk.specs.declared.end.End.{End}
+use Rattle.ocfl_scrub.specs.Call.{Call}
 use Rattle.ocfl_scrub.specs.declared.part.Part.{Part as MadePart}
 
 -- the part that a call is given
@@ -63,3 +70,27 @@ looked_in root part from to = places_within part (looked_between root from to)
 
 abbrev pub read_in : StorageRoot → Part → Option Place → Option Place → List Place
 read_in root part from to = places_within part (read_between root from to)
+
+-- a call over a part audited these places of it, the first of those above one, and came to another. Listed were the first directories on the way down to where it began, and those of the part between the two places that are looked into, in order. Read were at most the inventory of the object that holds the place gone down to, and those of the part between the two places
+pub record LooksOver (call : Call) (part : Part) (from to : Option Place) (audited : List Place) (trail : List Opening) : Type 0 where
+  pub down : List Place
+  pub held : List Place
+  pub audits : Audits call.root call.before call.after audited (down ++ looked_in call.root part from to) (held ++ read_in call.root part from to) trail
+  pub down_front : IsFront down (way_of (entry part from))
+  pub held_front : IsFront held (holder call.root (entry part from))
+  pub lists_once : IsAscending place_cmp (down ++ looked_in call.root part from to)
+  pub reads_once : IsAscending place_cmp (held ++ read_in call.root part from to)
+
+-- such a call stopped, and had begun with these places
+pub record StopsLooking (call : Call) (part : Part) (from : Option Place) (begun : List Place) (trail : List Opening) (why : Fault) : Type 0 where
+  pub down : List Place
+  pub listed : List Place
+  pub held : List Place
+  pub heads : List Place
+  pub fails : Fails call.root call.before call.after begun (down ++ listed) (held ++ heads) trail why
+  pub down_front : IsFront down (way_of (entry part from))
+  pub listed_front : IsFront listed (looked_in call.root part from None)
+  pub held_front : IsFront held (holder call.root (entry part from))
+  pub heads_front : IsFront heads (read_in call.root part from None)
+  pub lists_once : IsAscending place_cmp (down ++ listed)
+  pub reads_once : IsAscending place_cmp (held ++ heads)

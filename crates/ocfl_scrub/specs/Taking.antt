@@ -3,8 +3,6 @@ use Rattle.std.specs.Prelude.{◌≡◌, ◌≢◌, ◌<◌, ℕ, List, [], ◌�
 use Rattle.std.specs.List.{list_any}
 use Rattle.std.specs.Io.KnownBytes.{Appends}
 use Rattle.ocfl_tree.specs.Place.{Text, Place}
-use Rattle.ocfl_tree.specs.StorageRoot.{StorageRoot}
-use Rattle.ocfl_tree.specs.Store.{Store}
 use Rattle.ocfl_tree.specs.declared.store.Opening.{Opening}
 use Rattle.ocfl_report.specs.Line.{Line, is_finding_code, found}
 use Rattle.ocfl_report.specs.Text.{lines_text, text}
@@ -15,6 +13,7 @@ use Rattle.ocfl_item.specs.Looking.{IsFront}
 use Rattle.ocfl_item.specs.Auditing.{Audits, Fails}
 use Rattle.ocfl_item.specs.declared.fault.Fault.{Fault}
 use Rattle.ocfl_item.specs.declared.fault.Fault.TheVariants as fault
+use Rattle.ocfl_scrub.specs.Call.{Call, Writes}
 
 -- on every store: the text of some lines went out, and it is said whether one of them is a finding
 abbrev pub WritesLines : Option (List ℕ) → Option (List ℕ) → Bool → Type 0
@@ -27,22 +26,22 @@ pub record PartOf (why : Fault) (whole part : Text) : Type 0 where
   pub proper : why ≡ fault.Output → gone < length whole
   pub none : why ≢ fault.Output → gone ≡ 0
 
--- from s to t the item at p was judged, its file alone was opened if it is hashed, and its lines went out whole
-pub record Takes (root : StorageRoot) (s t : Store) (old new : Option (List ℕ)) (p : Place) (cost : ℕ) (finding : Bool) : Type 0 where
+-- the item at p was judged, its file alone was opened if it is hashed, and its lines went out whole
+pub record Takes (call : Call) (p : Place) (cost : ℕ) (finding : Bool) : Type 0 where
   pub trail : List Opening
-  pub audits : Audits root s t (p ∷ []) [] [] trail
-  pub alone : places_of trail ≡ hashed_among root (p ∷ [])
-  pub wrote : Appends old new (text (items_at root trail (p ∷ [])))
-  pub cost_is : cost ≡ total_cost (items_at root trail (p ∷ []))
-  pub found_is : finding ≡ found (items_at root trail (p ∷ []))
+  pub audits : Audits call.root call.before call.after (p ∷ []) [] [] trail
+  pub alone : places_of trail ≡ hashed_among call.root (p ∷ [])
+  pub wrote : Writes call (text (items_at call.root trail (p ∷ [])))
+  pub cost_is : cost ≡ total_cost (items_at call.root trail (p ∷ []))
+  pub found_is : finding ≡ found (items_at call.root trail (p ∷ []))
 
--- from s to t it was judged, or not even begun, and its lines did not go out whole
-pub record Misses (root : StorageRoot) (s t : Store) (old new : Option (List ℕ)) (p : Place) (why : Fault) : Type 0 where
+-- it was judged, or not even begun, and its lines did not go out whole
+pub record Misses (call : Call) (p : Place) (why : Fault) : Type 0 where
   pub trail : List Opening
   pub begun : List Place
   pub one : IsFront begun (p ∷ [])
-  pub fails : Fails root s t begun [] [] trail why
-  pub alone : places_of trail ≡ hashed_among root begun
+  pub fails : Fails call.root call.before call.after begun [] [] trail why
+  pub alone : places_of trail ≡ hashed_among call.root begun
   pub part : Text
-  pub wrote : Appends old new part
-  pub part_of : PartOf why (text (items_at root trail (p ∷ []))) part
+  pub wrote : Writes call part
+  pub part_of : PartOf why (text (items_at call.root trail (p ∷ []))) part

@@ -1,16 +1,12 @@
 //! The audit of a storage root, or of a part of it.
-ghost use Rattle.std.specs.Prelude.{◌≡◌, ◌≢◌, [], None, false, IsTrue};
-ghost use Rattle.std.specs.Io.KnownBytes.{Appends};
-ghost use Rattle.ocfl_tree.specs.StorageRoot.{StorageRoot};
+ghost use Rattle.std.specs.Prelude.{◌≡◌, [], None, false};
 ghost use Rattle.ocfl_report.specs.Line.{found as found_in};
 ghost use Rattle.ocfl_report.specs.Text.{text};
 ghost use Rattle.ocfl_audit.specs.Audit.{audit as whole_audit};
-ghost use Rattle.ocfl_item.specs.Judging.{HasShortFiles};
-ghost use Rattle.ocfl_scrub.specs.Taking.{WritesLines};
+ghost use Rattle.ocfl_scrub.specs.Call.{IsUnfailing, WhereTold, Writes};
 ghost use Rattle.ocfl_audit.specs.Parts.{within};
 ghost use Rattle.ocfl_scrub.specs.Starting.{part_of};
-ghost use Rattle.ocfl_scrub.specs.WholeAudit.{AuditEnds, AuditEndsWithin};
-ghost use Rattle.ocfl_tree.specs.Store.{IfTold};
+ghost use Rattle.ocfl_scrub.specs.WholeAudit.{AuditEnds, AuditEndsWithin, AuditsOnAnyStore};
 
 use crate::checking::End;
 use crate::part::{Part, set_out};
@@ -44,24 +40,13 @@ pub fn audit<T: Tree, W: Write>(
     block: &mut Block,
     out: &mut W,
 ) -> AuditEnd
-    // Of every store.
-    ensures whole { result.end ≢ End.Stopped Fault.Broken }
-    ensures lines { result.end ≢ End.Stopped Fault.Output
-        → WritesLines (W.contents out.old) (W.contents out.new) result.found }
-    ensures silent { result.last ≡ None → result.end ≢ End.Stopped Fault.Output
-        → out.new ≡ out.old }
-    ensures none_found { result.last ≡ None → result.found ≡ false }
-
-    // Of a store that tells its tree.
-    ensures told { IfTold T.told (T.state store.old) (λ root.
-        HasShortFiles root →
-        AuditEnds root (T.state store.old) (T.state store.new) (W.contents out.old)
-        (W.contents out.new) result.last result.found result.end) }
-    ensures unfailing { IfTold T.told (T.state store.old) (λ root.
-        HasShortFiles root → result.end ≡ End.Ended
-        → (T.state store.new).failures ≡ (T.state store.old).failures
-        → Appends (W.contents out.old) (W.contents out.new) (text (whole_audit root []))
-        × (result.found ≡ found_in (whole_audit root []))) }
+    ensures any_store { AuditsOnAnyStore W.contents out.old out.new result }
+    ensures told { WhereTold T.told T.state W.contents store.old store.new out.old out.new (λ call.
+        AuditEnds call result.last result.found result.end) }
+    ensures unfailing { WhereTold T.told T.state W.contents store.old store.new out.old out.new
+        (λ call. result.end ≡ End.Ended → IsUnfailing call
+        → Writes call (text (whole_audit call.root []))
+        × (result.found ≡ found_in (whole_audit call.root []))) }
 {
     let whole = Part::whole(alloc);
     audit_part(alloc, store, &whole, block, out)
@@ -76,25 +61,13 @@ pub fn audit_part<T: Tree, W: Write>(
     block: &mut Block,
     out: &mut W,
 ) -> AuditEnd
-    // Of every store.
-    ensures whole { result.end ≢ End.Stopped Fault.Broken }
-    ensures lines { result.end ≢ End.Stopped Fault.Output
-        → WritesLines (W.contents out.old) (W.contents out.new) result.found }
-    ensures silent { result.last ≡ None → result.end ≢ End.Stopped Fault.Output
-        → out.new ≡ out.old }
-    ensures none_found { result.last ≡ None → result.found ≡ false }
-
-    // Of a store that tells its tree.
-    ensures told { IfTold T.told (T.state store.old) (λ root.
-        HasShortFiles root →
-        AuditEndsWithin root (T.state store.old) (T.state store.new) (W.contents out.old)
-        (W.contents out.new) (part_of part.now) result.last result.found result.end) }
-    ensures unfailing { IfTold T.told (T.state store.old) (λ root.
-        HasShortFiles root → result.end ≡ End.Ended
-        → (T.state store.new).failures ≡ (T.state store.old).failures
-        → let items = within (part_of part.now) (whole_audit root []) in
-        Appends (W.contents out.old) (W.contents out.new) (text items)
-        × (result.found ≡ found_in items)) }
+    ensures any_store { AuditsOnAnyStore W.contents out.old out.new result }
+    ensures told { WhereTold T.told T.state W.contents store.old store.new out.old out.new (λ call.
+        AuditEndsWithin call (part_of part.now) result.last result.found result.end) }
+    ensures unfailing { WhereTold T.told T.state W.contents store.old store.new out.old out.new
+        (λ call. result.end ≡ End.Ended → IsUnfailing call
+        → let items = within (part_of part.now) (whole_audit call.root []) in
+        Writes call (text items) × (result.found ≡ found_in items)) }
 {
     let mut walk = match set_out(alloc, store, part, None) {
         Ok(walk) => walk,

@@ -1,10 +1,8 @@
 //! Checking one place.
-ghost use Rattle.std.specs.Prelude.{◌≡◌, ◌≢◌, true, false, IsTrue};
-ghost use Rattle.ocfl_tree.specs.StorageRoot.{StorageRoot};
-ghost use Rattle.ocfl_item.specs.Judging.{HasShortFiles};
+ghost use Rattle.std.specs.Prelude.{◌≡◌, ◌≢◌, true, false};
+ghost use Rattle.ocfl_scrub.specs.Call.{WhereTold};
 ghost use Rattle.ocfl_scrub.specs.Checking.{CheckEnds};
 ghost use Rattle.ocfl_scrub.specs.Taking.{WritesLines};
-ghost use Rattle.ocfl_tree.specs.Store.{IfTold};
 
 use crate::taking::take_item;
 use ocfl_digest::Block;
@@ -52,10 +50,8 @@ pub fn check<T: Tree, W: Write>(
         (W.contents out.new) result.found }
 
     // Of a store that tells its tree.
-    ensures told { IfTold T.told (T.state store.old) (λ root.
-        HasShortFiles root →
-        CheckEnds root (T.state store.old) (T.state store.new) (W.contents out.old)
-        (W.contents out.new) place.now result.item result.found result.end) }
+    ensures told { WhereTold T.told T.state W.contents store.old store.new out.old out.new (λ call.
+        CheckEnds call place.now result.item result.found result.end) }
 {
     let pending = match item_at(alloc, store, place) {
         Ok(Some(pending)) => pending,

@@ -1,18 +1,15 @@
 //! The commands `check` and `audit`: status and note.
-ghost use Rattle.std.specs.Prelude.{◌≡◌, ◌≢◌, ◌⊎◌, [], false, true, IsTrue};
-ghost use Rattle.std.specs.Io.KnownBytes.{Appends};
+ghost use Rattle.std.specs.Prelude.{◌≡◌, ◌≢◌, ◌⊎◌, [], false, true};
 ghost use Rattle.ocfl_tree.specs.Place.{Place as ModelPlace};
 ghost use Rattle.ocfl_tree.specs.Name.{IsPlace};
-ghost use Rattle.ocfl_tree.specs.StorageRoot.{StorageRoot};
 ghost use Rattle.ocfl_report.specs.Line.{found as found_in};
 ghost use Rattle.ocfl_report.specs.Text.{place_text, text};
 ghost use Rattle.ocfl_audit.specs.Audit.{audit as whole_audit};
-ghost use Rattle.ocfl_item.specs.Judging.{HasShortFiles};
+ghost use Rattle.ocfl_scrub.specs.Call.{IsUnfailing, WhereTold, Writes};
 ghost use Rattle.ocfl_scrub.specs.Noting.{status_of, IsAuditNote, IsAuditSaid, IsCheckNote};
 ghost use Rattle.ocfl_scrub.specs.Noting.{IsCheckSaid, IsRefused, IsStatus, IsStopNote, IsStopSaid};
 ghost use Rattle.ocfl_scrub.specs.Noting.{AuditsWithNote, ChecksWithNote, WritesWhole};
 ghost use Rattle.ocfl_scrub.specs.Noting.{WritesWithStatus};
-ghost use Rattle.ocfl_tree.specs.Store.{IfTold};
 
 use crate::auditing::{AuditEnd, audit};
 use crate::checking::{CheckEnd, End, check};
@@ -48,12 +45,10 @@ pub fn checked<T: Tree, W: Write>(
     ensures silent { result.1 ≢ Note.Nothing → result.1 ≢ Note.OutputFailed → out.new ≡ out.old }
 
     // Of a store that tells its tree.
-    ensures told { IfTold T.told (T.state store.old) (λ root.
-        HasShortFiles root → (p : ModelPlace) → IsPlace p → path.now ≡ place_text p
-        → ChecksWithNote root (T.state store.old) (T.state store.new) (W.contents out.old)
-        (W.contents out.new) p result.0 result.1
-        ⊎ ((result.0 ≡ 3) × (result.1 ≡ Note.OutOfMemory) × (store.new ≡ store.old)
-        × (out.new ≡ out.old))) }
+    ensures told { WhereTold T.told T.state W.contents store.old store.new out.old out.new (λ call.
+        (p : ModelPlace) → IsPlace p → path.now ≡ place_text p
+        → ChecksWithNote call p result.0 result.1 ⊎ ((result.0 ≡ 3)
+        × (result.1 ≡ Note.OutOfMemory) × (store.new ≡ store.old) × (out.new ≡ out.old))) }
 {
     match read_place(alloc, path.as_bytes()) {
         Ok(place) => describe_check(check(alloc, store, &place, block, out)),
@@ -79,15 +74,12 @@ pub fn audited<T: Tree, W: Write>(
         → WritesWhole (W.contents out.old) (W.contents out.new) }
 
     // Of a store that tells its tree.
-    ensures told { IfTold T.told (T.state store.old) (λ root.
-        HasShortFiles root →
-        AuditsWithNote root (T.state store.old) (T.state store.new) (W.contents out.old)
-        (W.contents out.new) result.0 result.1) }
-    ensures unfailing { IfTold T.told (T.state store.old) (λ root.
-        HasShortFiles root → result.1 ≡ Note.Nothing
-        → (T.state store.new).failures ≡ (T.state store.old).failures
-        → Appends (W.contents out.old) (W.contents out.new) (text (whole_audit root []))
-        × (result.0 ≡ status_of (found_in (whole_audit root [])))) }
+    ensures told { WhereTold T.told T.state W.contents store.old store.new out.old out.new (λ call.
+        AuditsWithNote call result.0 result.1) }
+    ensures unfailing { WhereTold T.told T.state W.contents store.old store.new out.old out.new
+        (λ call. result.1 ≡ Note.Nothing → IsUnfailing call
+        → Writes call (text (whole_audit call.root []))
+        × (result.0 ≡ status_of (found_in (whole_audit call.root [])))) }
 {
     describe_audit(audit(alloc, store, block, out))
 }

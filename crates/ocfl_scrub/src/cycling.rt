@@ -1,16 +1,12 @@
 //! A cycle of runs from the first item of a storage root, or of a part of it, each with limits of
 //! its own.
-ghost use Rattle.std.specs.Prelude.{◌≡◌, ◌≢◌, ◌↔◌, ◌≤◌, [], false, map, length, IfErr, IfOk};
-ghost use Rattle.std.specs.Prelude.{IsTrue};
-ghost use Rattle.ocfl_tree.specs.StorageRoot.{StorageRoot};
-ghost use Rattle.ocfl_item.specs.Judging.{HasShortFiles};
-ghost use Rattle.ocfl_cursor.specs.Cursor.{ended, new_cursor};
-ghost use Rattle.ocfl_scrub.specs.Cycling.{CyclesTo, CyclesToWithin, HeadlineOf};
-ghost use Rattle.ocfl_scrub.specs.Cycling.{HeadlineOfPart};
+ghost use Rattle.std.specs.Prelude.{◌≡◌, ◌≤◌, false, map, IfErr, IfOk};
+ghost use Rattle.ocfl_cursor.specs.Cursor.{new_cursor};
+ghost use Rattle.ocfl_scrub.specs.Call.{IsUnfailing, WhereTold};
+ghost use Rattle.ocfl_scrub.specs.Cycling.{CyclesOnAnyStore, CyclesTo, CyclesToWithin};
+ghost use Rattle.ocfl_scrub.specs.Cycling.{HeadlineOf, HeadlineOfPart};
 ghost use Rattle.ocfl_scrub.specs.Running.{limits_of};
 ghost use Rattle.ocfl_scrub.specs.Starting.{part_of};
-ghost use Rattle.ocfl_scrub.specs.Taking.{WritesLines};
-ghost use Rattle.ocfl_tree.specs.Store.{IfTold};
 
 use crate::part::Part;
 use crate::running::{RunEnd, RunStatus, run_part};
@@ -63,30 +59,13 @@ pub fn cycle<T: Tree, W: Write>(
     block: &mut Block,
     out: &mut W,
 ) -> CycleEnd
-    // Of every store.
-    ensures whole { result.end ≢ CycleStatus.Stopped Fault.Broken }
-    ensures none { limits.now ≡ [] →
-        (result.cursor ≡ new_cursor) × (result.end ≡ CycleStatus.Spent) × (result.found ≡ false)
-        × (store.new ≡ store.old) × (out.new ≡ out.old) }
-    ensures counted { result.runs ≤ length limits.now }
-    ensures made { 1 ≤ length limits.now → 1 ≤ result.runs }
-    ensures first { result.cursor.cycle ≡ 1 }
-    ensures runs { result.runs ≡ result.cursor.runs }
-    ensures spent { result.spent ≡ result.cursor.spent }
-    ensures files { result.files ≡ result.cursor.files }
-    ensures ended { (result.end ≡ CycleStatus.Ended) ↔ (result.cursor.state ≡ ended) }
-    ensures lines { result.end ≢ CycleStatus.Stopped Fault.Output →
-        WritesLines (W.contents out.old) (W.contents out.new) result.found }
-
-    // Of a store that tells its tree.
-    ensures told { IfTold T.told (T.state store.old) (λ root.
-        HasShortFiles root →
-        CyclesTo root (T.state store.old) (T.state store.new) (W.contents out.old)
-        (W.contents out.new) (map limits_of limits.now) result.cursor result.found result.end) }
-    ensures headline { IfTold T.told (T.state store.old) (λ root.
-        HasShortFiles root → (T.state store.new).failures ≡ (T.state store.old).failures →
-        HeadlineOf root (T.state store.old) (T.state store.new) (W.contents out.old)
-        (W.contents out.new) (map limits_of limits.now) result.runs result.end) }
+    ensures any_store { CyclesOnAnyStore W.contents store.old store.new out.old out.new
+        limits.now result }
+    ensures told { WhereTold T.told T.state W.contents store.old store.new out.old out.new (λ call.
+        CyclesTo call (map limits_of limits.now) result.cursor result.found result.end) }
+    ensures headline { WhereTold T.told T.state W.contents store.old store.new out.old out.new
+        (λ call. IsUnfailing call → HeadlineOf call (map limits_of limits.now)
+        result.runs result.end) }
 {
     let whole = Part::whole(alloc);
     cycle_part(alloc, store, &whole, limits, block, out)
@@ -102,31 +81,14 @@ pub fn cycle_part<T: Tree, W: Write>(
     block: &mut Block,
     out: &mut W,
 ) -> CycleEnd
-    // Of every store.
-    ensures whole { result.end ≢ CycleStatus.Stopped Fault.Broken }
-    ensures none { limits.now ≡ [] →
-        (result.cursor ≡ new_cursor) × (result.end ≡ CycleStatus.Spent) × (result.found ≡ false)
-        × (store.new ≡ store.old) × (out.new ≡ out.old) }
-    ensures counted { result.runs ≤ length limits.now }
-    ensures made { 1 ≤ length limits.now → 1 ≤ result.runs }
-    ensures first { result.cursor.cycle ≡ 1 }
-    ensures runs { result.runs ≡ result.cursor.runs }
-    ensures spent { result.spent ≡ result.cursor.spent }
-    ensures files { result.files ≡ result.cursor.files }
-    ensures ended { (result.end ≡ CycleStatus.Ended) ↔ (result.cursor.state ≡ ended) }
-    ensures lines { result.end ≢ CycleStatus.Stopped Fault.Output →
-        WritesLines (W.contents out.old) (W.contents out.new) result.found }
-
-    // Of a store that tells its tree.
-    ensures told { IfTold T.told (T.state store.old) (λ root.
-        HasShortFiles root →
-        CyclesToWithin root (T.state store.old) (T.state store.new) (W.contents out.old)
-        (W.contents out.new) (part_of part.now) (map limits_of limits.now) result.cursor
-        result.found result.end) }
-    ensures headline { IfTold T.told (T.state store.old) (λ root.
-        HasShortFiles root → (T.state store.new).failures ≡ (T.state store.old).failures →
-        HeadlineOfPart root (T.state store.old) (T.state store.new) (W.contents out.old)
-        (W.contents out.new) (part_of part.now) (map limits_of limits.now) result.runs result.end) }
+    ensures any_store { CyclesOnAnyStore W.contents store.old store.new out.old out.new
+        limits.now result }
+    ensures told { WhereTold T.told T.state W.contents store.old store.new out.old out.new (λ call.
+        CyclesToWithin call (part_of part.now) (map limits_of limits.now)
+        result.cursor result.found result.end) }
+    ensures headline { WhereTold T.told T.state W.contents store.old store.new out.old out.new
+        (λ call. IsUnfailing call → HeadlineOfPart call (part_of part.now)
+        (map limits_of limits.now) result.runs result.end) }
 {
     let mut cursor = Cursor::new();
     let mut runs = 0;

@@ -33,6 +33,7 @@ ghost use Rattle.ocfl_cursor.specs.declared.refused.Refused.{Refused};
 ghost use Rattle.ocfl_cursor.specs.declared.refused.Refused.TheVariants as refused;
 ghost use Rattle.ocfl_deed.specs.declared.deed.Deed.{Deed};
 ghost use Rattle.ocfl_deed.specs.declared.deed.Deed.TheVariants as deed;
+ghost use Rattle.ocfl_scrub.specs.Call.{Call, known_call};
 ghost use Rattle.ocfl_scrub.specs.Cycling.{HeadlineOf};
 ghost use Rattle.ocfl_scrub.specs.Noting.{IsAuditNote, IsAuditSaid, IsCheckNote, IsCheckSaid};
 ghost use Rattle.ocfl_scrub.specs.Noting.{IsCycleNote, IsCycleSaid, IsRunNote, IsRunSaid};
@@ -75,11 +76,10 @@ pub fn listed_and_read_ascend()
 
 /// What a run spends passes its budget by less than the cost of the last file that it takes.
 pub fn overrun_is_less_than_the_last_file()
-    ensures { (root : StorageRoot) (s t : Store) (old new : Option (List ℕ))
-        (from to next : Option Place) (limits : Limits) (spent files : ℕ) (finding : Bool)
-        (run : Runs root s t old new from to limits spent files finding next)
+    ensures { (call : Call) (from to next : Option Place) (limits : Limits) (spent files : ℕ)
+        (finding : Bool) (run : Runs call from to limits spent files finding next)
         (front behind : List Item) (last : Item)
-        → taken root run.trail from limits ≡ front ++ last ∷ behind → 0 < last.cost
+        → taken call.root run.trail from limits ≡ front ++ last ∷ behind → 0 < last.cost
         → total_cost behind ≡ 0 → spent < limits.budget + last.cost }
 {}
 
@@ -262,26 +262,23 @@ pub fn a_run_goes_on_from_the_stored_cursor()
 pub fn a_cycle_without_failures_is_the_audit()
     ensures whole { (root : StorageRoot) (s t : Store) (limits : List Limits) (count : ℕ)
         (before after : List ℕ)
-        → HeadlineOf root s t (Some before) (Some after) limits count cycle.Ended
+        → HeadlineOf (known_call root s t before after) limits count cycle.Ended
         → after ≡ before ++ text (audit root []) }
     ensures part { (root : StorageRoot) (s t : Store) (limits : List Limits) (count : ℕ)
         (before after : List ℕ)
-        → HeadlineOf root s t (Some before) (Some after) limits count cycle.Spent
+        → HeadlineOf (known_call root s t before after) limits count cycle.Spent
         → after ≡ before ++ text (joined (runs (audit root []) limits)) }
-    ensures opened { (root : StorageRoot) (s t : Store) (limits : List Limits) (count : ℕ)
-        (old new : Option (List ℕ)) → HeadlineOf root s t old new limits count cycle.Ended
-        → (trail : List Opening) × ((t.openings ≡ s.openings ++ trail)
-        × (content_trail root trail ≡ hashed_among root (item_places root))) }
-    ensures few { (root : StorageRoot) (s t : Store) (limits : List Limits) (count : ℕ)
-        (old new : Option (List ℕ)) (b n : ℕ)
-        → HeadlineOf root s t old new limits count cycle.Ended → 1 ≤ b → 1 ≤ n
-        → All (IsAtLeast b n) limits
-        → total_cost (audit root []) / b + total_files (audit root []) / n + 1 ≤ length limits
-        → count ≤ total_cost (audit root []) / b + total_files (audit root []) / n + 1 }
-    ensures enough { (root : StorageRoot) (s t : Store) (limits : List Limits) (count : ℕ)
-        (old new : Option (List ℕ)) (b n : ℕ)
-        → HeadlineOf root s t old new limits count cycle.Spent → 1 ≤ b → 1 ≤ n
-        → All (IsAtLeast b n) limits
-        → total_cost (audit root []) / b + total_files (audit root []) / n + 1 ≤ length limits
-        → ⊥ }
+    ensures opened { (call : Call) (limits : List Limits) (count : ℕ)
+        → HeadlineOf call limits count cycle.Ended → (trail : List Opening)
+        × ((call.after.openings ≡ call.before.openings ++ trail)
+        × (content_trail call.root trail ≡ hashed_among call.root (item_places call.root))) }
+    ensures few { (call : Call) (limits : List Limits) (count : ℕ) (b n : ℕ)
+        → HeadlineOf call limits count cycle.Ended → 1 ≤ b → 1 ≤ n → All (IsAtLeast b n) limits
+        → total_cost (audit call.root []) / b + total_files (audit call.root []) / n + 1
+        ≤ length limits
+        → count ≤ total_cost (audit call.root []) / b + total_files (audit call.root []) / n + 1 }
+    ensures enough { (call : Call) (limits : List Limits) (count : ℕ) (b n : ℕ)
+        → HeadlineOf call limits count cycle.Spent → 1 ≤ b → 1 ≤ n → All (IsAtLeast b n) limits
+        → total_cost (audit call.root []) / b + total_files (audit call.root []) / n + 1
+        ≤ length limits → ⊥ }
 {}

@@ -1,7 +1,6 @@
 //! Parts of a storage root.
-ghost use Rattle.std.specs.Prelude.{◌≡◌, [], None, Some, Option, option_map, IfErr, IfOk, IsTrue};
+ghost use Rattle.std.specs.Prelude.{◌≡◌, [], None, Some, Option, option_map, IfErr, IfOk};
 ghost use Rattle.std.specs.Prelude.{MatchResult};
-ghost use Rattle.ocfl_tree.specs.StorageRoot.{StorageRoot};
 ghost use Rattle.ocfl_audit.specs.Parts.{branch, whole};
 ghost use Rattle.ocfl_item.specs.Ways.{IsWayFault};
 ghost use Rattle.ocfl_walk.specs.WalkCalls.{GoDownFails, GoesDown};

@@ -1,34 +1,30 @@
 //! What the program does for a command within a scope: on the whole storage root, on a branch of
 //! it, or on one part.
-ghost use Rattle.std.specs.Prelude.{◌≡◌, ◌≢◌, ◌↔◌, ◌≤◌, IfErr, IfOk, IsNone, IsTrue, None, Some};
-ghost use Rattle.ocfl_tree.specs.StorageRoot.{StorageRoot};
-ghost use Rattle.ocfl_item.specs.Judging.{HasShortFiles};
+ghost use Rattle.std.specs.Prelude.{◌≡◌, ◌≢◌, ◌↔◌, ◌≤◌, IfErr, IfOk, None, Some};
+ghost use Rattle.ocfl_scrub.specs.Call.{WhereTold};
 ghost use Rattle.ocfl_scrub.specs.Running.{limits_of};
-ghost use Rattle.ocfl_scrub.specs.Noting.{IsAuditSaid, IsRanSaid, IsStatus, IsUnreadSaid};
+ghost use Rattle.ocfl_scrub.specs.Noting.{IsAuditSaid, IsStatus, IsUnreadSaid};
 ghost use Rattle.ocfl_scrub.specs.Noting.{WritesWithStatus, status_of};
 ghost use Rattle.ocfl_scrub.specs.Performing.{HasBadPath, IsKept, IsKeptBy, IsSilent, IsWhole};
 ghost use Rattle.ocfl_scrub.specs.Performing.{IsWithoutFile, RefusesPath, UnshownSaid, WritesBy};
 ghost use Rattle.ocfl_scrub.specs.Performing.{bytes_of};
 ghost use Rattle.ocfl_scrub.specs.Scoping.{BeginsPartWith, BranchPerformed, HandsBackIn};
 ghost use Rattle.ocfl_scrub.specs.Scoping.{IsBranchNote, IsBranchSaid, IsPartRunSaid, IsSaidIn};
-ghost use Rattle.ocfl_scrub.specs.Scoping.{IsPartStoredNote, IsPartUnreadNote, PartPerformed};
+ghost use Rattle.ocfl_scrub.specs.Scoping.{IsPartUnreadNote, PartPerformed};
 ghost use Rattle.ocfl_scrub.specs.Scoping.{PartRefusesRightly, PartRunPerformed, PartStopsWith};
 ghost use Rattle.ocfl_scrub.specs.Scoping.{PerformsIn, RefusesRightlyIn};
 ghost use Rattle.ocfl_scrub.specs.Scoping.{part_between as part_of_ends};
 ghost use Rattle.ocfl_scrub.specs.declared.scope.Scope.TheVariants as scopes;
-ghost use Rattle.ocfl_tree.specs.Store.{IfTold};
 
 use crate::auditing::{AuditEnd, audit_part};
 use crate::checking::End;
 use crate::command::describe_audit;
 use crate::note::Note;
 use crate::part::Part;
-use crate::performing::{Performed, describe_run, perform, without_cursor};
-use crate::running::{RunEnd, RunStatus, run_part};
+use crate::performing::{Performed, conclude_run, describe_part_refused, perform, without_cursor};
+use crate::running::run_part;
 use crate::scope::{Scope, branch_at, part_between};
-use ocfl_cursor::{
-    Cursor, Limits, PartCursorStop, PartEnds, PartRefused, encode_part, read_part_cursor,
-};
+use ocfl_cursor::{Cursor, Limits, PartCursorStop, PartEnds, encode_part, read_part_cursor};
 use ocfl_deed::Deed;
 use ocfl_digest::Block;
 use ocfl_tree::{Place, Tree};
@@ -73,11 +69,9 @@ pub fn perform_part<T: Tree, R: Read, W: Write>(
         (W.contents out.old) (W.contents out.new) }
 
     // Of a store that tells its tree.
-    ensures told { IfTold T.told (T.state store.old) (λ root.
-        HasShortFiles root →
-        PerformsIn deed.now scope.now (bytes_of R.remaining reader.entry) root (T.state store.old)
-        (T.state store.new) (W.contents out.old) (W.contents out.new) result.status result.note
-        result.cursor) }
+    ensures told { WhereTold T.told T.state W.contents store.old store.new out.old out.new (λ call.
+        PerformsIn call deed.now scope.now (bytes_of R.remaining reader.entry)
+        result.status result.note result.cursor) }
 {
     match deed {
         Deed::Audit => match scope {
@@ -116,10 +110,8 @@ fn audited_branch<T: Tree, W: Write>(
     ensures empty { result.1 ≡ Note.EmptyBranch → out.new ≡ out.old }
 
     // Of a store that tells its tree.
-    ensures told { IfTold T.told (T.state store.old) (λ root.
-        HasShortFiles root →
-        BranchPerformed root (T.state store.old) (T.state store.new) (W.contents out.old)
-        (W.contents out.new) place.now result.0 result.1) }
+    ensures told { WhereTold T.told T.state W.contents store.old store.new out.old out.new (λ call.
+        BranchPerformed call place.now result.0 result.1) }
 {
     let Ok(part) = branch_at(place) else {
         return (3, Note::OutOfMemory);
@@ -158,10 +150,8 @@ fn audited_part<T: Tree, W: Write>(
         (W.contents out.new) result.0 }
 
     // Of a store that tells its tree.
-    ensures told { IfTold T.told (T.state store.old) (λ root.
-        HasShortFiles root →
-        PartPerformed root (T.state store.old) (T.state store.new) (W.contents out.old)
-        (W.contents out.new) (part_of_ends ends.now) result.0 result.1) }
+    ensures told { WhereTold T.told T.state W.contents store.old store.new out.old out.new (λ call.
+        PartPerformed call (part_of_ends ends.now) result.0 result.1) }
 {
     let Ok(part) = part_between(alloc, ends) else {
         return (3, Note::OutOfMemory);
@@ -193,11 +183,9 @@ fn perform_part_run<T: Tree, R: Read, W: Write>(
         WritesWithStatus (W.contents out.old) (W.contents out.new) result.status }
 
     // Of a store that tells its tree.
-    ensures told { IfTold T.told (T.state store.old) (λ root.
-        HasShortFiles root →
-        PartRunPerformed ends.now (bytes_of R.remaining reader.entry) root (T.state store.old)
-        (T.state store.new) (W.contents out.old) (W.contents out.new) (limits_of limits)
-        result.status result.note result.cursor) }
+    ensures told { WhereTold T.told T.state W.contents store.old store.new out.old out.new (λ call.
+        PartRunPerformed call ends.now (bytes_of R.remaining reader.entry)
+        (limits_of limits) result.status result.note result.cursor) }
 {
     let cursor = match first_part_cursor(alloc, ends, reader) {
         Ok(cursor) => cursor,
@@ -207,7 +195,8 @@ fn perform_part_run<T: Tree, R: Read, W: Write>(
         return without_cursor((3, Note::OutOfMemory));
     };
     let end = run_part(alloc, store, &part, cursor, limits, block, out);
-    conclude_part_run(alloc, ends, end)
+    let text = encode_part(alloc, ends, &end.cursor);
+    conclude_run(end, text)
 }
 
 // The cursor that a run of a part begins with.
@@ -234,43 +223,6 @@ fn describe_part_unread(why: PartCursorStop) -> (u8, Note)
 {
     match why {
         PartCursorStop::Read => (3, Note::CursorFileFailed),
-        PartCursorStop::Refused(PartRefused::Memory) => (3, Note::OutOfMemory),
-        PartCursorStop::Refused(why) => (4, Note::PartCursorRefused(why)),
-    }
-}
-
-// Describes what a run of a part ended with, and writes the text of its cursor, which names the
-// part.
-fn conclude_part_run(alloc: Global, ends: &PartEnds, end: RunEnd) -> Performed
-    requires whole { end.end ≢ RunStatus.Stopped Fault.Broken }
-    ensures status { IsStatus result.status result.note }
-    ensures said { IsRanSaid result.note }
-    ensures worn { (result.note ≡ Note.CursorWorn) ↔ (end.end ≡ RunStatus.Worn) }
-    ensures worn_ends { end.end ≡ RunStatus.Worn → (result.status ≡ 3) × IsNone result.cursor }
-    ensures kept { IsKept result.note result.cursor }
-    ensures note { end.end ≢ RunStatus.Worn →
-        IsPartStoredNote ends.now end.cursor end.spent end.found end.end result.status result.note
-        result.cursor }
-    ensures lines { IsWhole result.note →
-        (end.end ≢ RunStatus.Stopped Fault.Output) × (result.status ≡ status_of end.found) }
-{
-    let RunEnd {
-        cursor,
-        spent,
-        found,
-        end,
-        ..
-    } = end;
-    if matches!(end, RunStatus::Worn) {
-        return without_cursor((3, Note::CursorWorn));
-    }
-    let Ok(text) = encode_part(alloc, ends, &cursor) else {
-        return without_cursor((3, Note::OutOfMemory));
-    };
-    let (status, note) = describe_run(&cursor, spent, found, end);
-    Performed {
-        status,
-        note,
-        cursor: Some(text),
+        PartCursorStop::Refused(why) => describe_part_refused(why),
     }
 }

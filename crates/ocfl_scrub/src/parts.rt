@@ -6,7 +6,6 @@ ghost use Rattle.std.specs.List.{AllByRecursion};
 ghost use Rattle.ocfl_tree.specs.Place.{Place, place_cmp};
 ghost use Rattle.ocfl_tree.specs.Ascending.{IsAscending};
 ghost use Rattle.ocfl_tree.specs.StorageRoot.{StorageRoot};
-ghost use Rattle.ocfl_tree.specs.Store.{Store};
 ghost use Rattle.ocfl_tree.specs.declared.store.Opening.{Opening};
 ghost use Rattle.ocfl_report.specs.Text.{text};
 ghost use Rattle.ocfl_audit.specs.Audit.{audit, total_cost};
@@ -15,6 +14,7 @@ ghost use Rattle.ocfl_audit.specs.Parts.{Part, parts_of, places_within, within};
 ghost use Rattle.ocfl_audit.specs.Runs.{IsAtLeast, total_files};
 ghost use Rattle.ocfl_audit.specs.Trail.{heads_of};
 ghost use Rattle.ocfl_cursor.specs.Cursor.{Cursor};
+ghost use Rattle.ocfl_scrub.specs.Call.{Call};
 ghost use Rattle.ocfl_scrub.specs.Running.{place_in};
 ghost use Rattle.ocfl_scrub.specs.Joining.{AreRuns, IsPartCycle, PartCycle, PartRun, opened_by};
 ghost use Rattle.ocfl_scrub.specs.Joining.{reports_of};
@@ -62,14 +62,11 @@ pub fn parts_join_to_the_audit()
 /// it ends or stops.
 #[tactic(auto, using(crate::proofs::OrderLaws::part_lists_once, crate::proofs::OrderLaws::part_reads_once))]
 pub fn an_audit_of_a_part_looks_once()
-    ensures listed { (root : StorageRoot) (s t : Store) (old new : Option (List ℕ)) (part : Part)
-        (last : Option Place) (finding : Bool) (end : End)
-        → AuditEndsWithin root s t old new part last finding end
-        → (listed : List Place) × ((t.listings ≡ s.listings ++ listed)
-        × IsAscending place_cmp listed) }
-    ensures read { (root : StorageRoot) (s t : Store) (old new : Option (List ℕ)) (part : Part)
-        (last : Option Place) (finding : Bool) (end : End)
-        → AuditEndsWithin root s t old new part last finding end
-        → (trail : List Opening) × ((t.openings ≡ s.openings ++ trail)
-        × IsAscending place_cmp (heads_of root trail)) }
+    ensures listed { (call : Call) (part : Part) (last : Option Place) (finding : Bool)
+        (end : End) → AuditEndsWithin call part last finding end → (listed : List Place)
+        × ((call.after.listings ≡ call.before.listings ++ listed) × IsAscending place_cmp listed) }
+    ensures read { (call : Call) (part : Part) (last : Option Place) (finding : Bool) (end : End)
+        → AuditEndsWithin call part last finding end → (trail : List Opening)
+        × ((call.after.openings ≡ call.before.openings ++ trail)
+        × IsAscending place_cmp (heads_of call.root trail)) }
 {}

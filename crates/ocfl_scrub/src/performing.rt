@@ -1,13 +1,14 @@
 //! What the program does for a command: the one function that the program and the tests call.
-ghost use Rattle.std.specs.Prelude.{◌≡◌, ◌≢◌, ◌↔◌, ◌≤◌, ℕ, IfErr, IfOk, IsNone, IsTrue, Some, Vec};
-ghost use Rattle.std.specs.Prelude.{replicate};
+ghost use Rattle.std.specs.Prelude.{◌≡◌, ◌≢◌, ◌↔◌, ◌≤◌, ℕ, IfErr, IfOk, IsNone, Some, Vec};
+ghost use Rattle.std.specs.Prelude.{List, replicate};
 ghost use Rattle.std.specs.declared.alloc.Global.{Global};
-ghost use Rattle.ocfl_tree.specs.StorageRoot.{StorageRoot};
-ghost use Rattle.ocfl_item.specs.Judging.{HasShortFiles};
+ghost use Rattle.ocfl_cursor.specs.Cursor.{Cursor as CursorModel};
+ghost use Rattle.ocfl_scrub.specs.Call.{WhereTold};
 ghost use Rattle.ocfl_scrub.specs.Running.{limits_of};
 ghost use Rattle.ocfl_scrub.specs.Noting.{IsCycleNote, IsCycleSaid, IsRanSaid, IsRunNote};
 ghost use Rattle.ocfl_scrub.specs.Noting.{IsRunSaid, IsShowSaid, IsStatus, IsStoredNote};
-ghost use Rattle.ocfl_scrub.specs.Noting.{IsUnreadNote, IsUnreadSaid, IsUnshownNote};
+ghost use Rattle.ocfl_scrub.specs.Noting.{IsPartRefusedNote, IsUnreadNote, IsUnreadSaid};
+ghost use Rattle.ocfl_scrub.specs.Noting.{IsUnshownNote};
 ghost use Rattle.ocfl_scrub.specs.Noting.{WritesWithStatus};
 ghost use Rattle.ocfl_scrub.specs.Noting.{run_summary as summary_of_run, status_of};
 ghost use Rattle.ocfl_scrub.specs.Performing.{BeginsWith, CyclePerformed, HandsBack, IsKept};
@@ -17,7 +18,6 @@ ghost use Rattle.ocfl_scrub.specs.Performing.{Performs, RefusesPath, RefusesRigh
 ghost use Rattle.ocfl_scrub.specs.Performing.{ShowsWith, StopsWith, UnshownSaid, WritesBy};
 ghost use Rattle.ocfl_scrub.specs.Performing.{bytes_of};
 ghost use Rattle.ocfl_scrub.specs.Performing.{equal_limits as limits_of_each};
-ghost use Rattle.ocfl_tree.specs.Store.{IfTold};
 
 use crate::command::{audited, checked, status, stop_note};
 use crate::cycling::{CycleEnd, CycleStatus, cycle};
@@ -86,11 +86,9 @@ pub fn perform<T: Tree, R: Read, W: Write>(
         (W.contents out.old) (W.contents out.new) }
 
     // Of a store that tells its tree.
-    ensures told { IfTold T.told (T.state store.old) (λ root.
-        HasShortFiles root →
-        Performs (bytes_of R.remaining reader.entry) root (T.state store.old) (T.state store.new)
-        (W.contents out.old) (W.contents out.new) deed.now result.status result.note
-        result.curso) }
+    ensures told { WhereTold T.told T.state W.contents store.old store.new out.old out.new (λ call.
+        Performs call (bytes_of R.remaining reader.entry) deed.now
+        result.status result.note result.cursor) }
 {
     match deed {
         Deed::Audit => without_cursor(audited(alloc, store, block, out)),
@@ -165,31 +163,32 @@ fn perform_run<T: Tree, R: Read, W: Write>(
         WritesWithStatus (W.contents out.old) (W.contents out.new) result.status }
 
     // Of a store that tells its tree.
-    ensures told { IfTold T.told (T.state store.old) (λ root.
-        HasShortFiles root →
-        RunPerformed (bytes_of R.remaining reader.entry) root (T.state store.old)
-        (T.state store.new) (W.contents out.old) (W.contents out.new) (limits_of limits)
-        result.status result.note result.cursor) }
+    ensures told { WhereTold T.told T.state W.contents store.old store.new out.old out.new (λ call.
+        RunPerformed call (bytes_of R.remaining reader.entry)
+        (limits_of limits) result.status result.note result.cursor) }
 {
     let cursor = match first_cursor(alloc, reader) {
         Ok(cursor) => cursor,
         Err(why) => return without_cursor(describe_unread(why)),
     };
     let end = run(alloc, store, cursor, limits, block, out);
-    conclude_run(alloc, end)
+    let text = encode(alloc, &end.cursor);
+    conclude_run(end, text)
 }
 
-// Describes what a run ended with, and writes the text of its cursor.
-fn conclude_run(alloc: Global, end: RunEnd) -> Performed
+// Describes what a run ended with, and hands back the text of its cursor, for which there may have
+// been no memory.
+pub(crate) fn conclude_run(end: RunEnd, text: Result<Vec<u8>, AllocError>) -> Performed
     requires whole { end.end ≢ RunStatus.Stopped Fault.Broken }
     ensures status { IsStatus result.status result.note }
     ensures said { IsRanSaid result.note }
     ensures worn { (result.note ≡ Note.CursorWorn) ↔ (end.end ≡ RunStatus.Worn) }
     ensures worn_ends { end.end ≡ RunStatus.Worn → (result.status ≡ 3) × IsNone result.cursor }
     ensures kept { IsKept result.note result.cursor }
-    ensures note { end.end ≢ RunStatus.Worn →
-        IsStoredNote end.cursor end.spent end.found end.end result.status result.note
-        result.cursor }
+    ensures note { end.end ≢ RunStatus.Worn → (text_of : CursorModel → List ℕ)
+        → IfOk text (λ bytes. bytes.items ≡ text_of end.cursor)
+        → IsStoredNote text_of end.cursor end.spent end.found end.end
+        result.status result.note result.cursor }
     ensures lines { IsWhole result.note →
         (end.end ≢ RunStatus.Stopped Fault.Output) × (result.status ≡ status_of end.found) }
 {
@@ -203,7 +202,7 @@ fn conclude_run(alloc: Global, end: RunEnd) -> Performed
     if matches!(end, RunStatus::Worn) {
         return without_cursor((3, Note::CursorWorn));
     }
-    let Ok(text) = encode(alloc, &cursor) else {
+    let Ok(text) = text else {
         return without_cursor((3, Note::OutOfMemory));
     };
     let (status, note) = describe_run(&cursor, spent, found, end);
@@ -260,10 +259,8 @@ fn perform_cycle<T: Tree, W: Write>(
         WritesWithStatus (W.contents out.old) (W.contents out.new) result.0 }
 
     // Of a store that tells its tree.
-    ensures told { IfTold T.told (T.state store.old) (λ root.
-        HasShortFiles root →
-        CyclePerformed root (T.state store.old) (T.state store.new) (W.contents out.old)
-        (W.contents out.new) (limits_of_each limits count) result.0 result.1) }
+    ensures told { WhereTold T.told T.state W.contents store.old store.new out.old out.new (λ call.
+        CyclePerformed call (limits_of_each limits count) result.0 result.1) }
 {
     let Ok(each) = equal_limits(alloc, limits, count) else {
         return (3, Note::OutOfMemory);
@@ -323,8 +320,20 @@ fn describe_unshown(why: ShowStop) -> (u8, Note)
 {
     match why {
         ShowStop::Whole(why) => describe_unread(why),
-        ShowStop::Part(PartRefused::Memory) => (3, Note::OutOfMemory),
-        ShowStop::Part(why) => (4, Note::PartCursorRefused(why)),
+        ShowStop::Part(why) => describe_part_refused(why),
+    }
+}
+
+// Describes why the cursor of a part is refused.
+pub(crate) fn describe_part_refused(why: PartRefused) -> (u8, Note)
+    ensures note { IsPartRefusedNote why result.0 result.1 }
+    ensures status { IsStatus result.0 result.1 }
+    ensures stops { 3 ≤ result.0 }
+    ensures said { IsUnreadSaid result.1 }
+{
+    match why {
+        PartRefused::Memory => (3, Note::OutOfMemory),
+        why => (4, Note::PartCursorRefused(why)),
     }
 }
 

@@ -27,6 +27,7 @@ ghost use Rattle.ocfl_walk.specs.WalkCalls.{holder, way_of};
 ghost use Rattle.ocfl_cursor.specs.Cursor.{Cursor, start, behind, ended, cursor_text};
 ghost use Rattle.ocfl_cursor.specs.declared.limits.Limits.{Limits as MadeLimits};
 ghost use Rattle.ocfl_deed.specs.declared.deed.Deed.TheVariants as deed;
+ghost use Rattle.ocfl_scrub.specs.Call.{Call, IsUnfailing, known_call};
 ghost use Rattle.ocfl_scrub.specs.Running.{place_in, limits_of, Runs, RunStops, RunEnds, RunsFrom};
 ghost use Rattle.ocfl_scrub.specs.Running.{RunsCleanly};
 ghost use Rattle.ocfl_scrub.specs.Cycling.{Cycles, CycleStops, CycleEnds, CyclesTo, HeadlineOf};
@@ -39,7 +40,6 @@ ghost use Rattle.ocfl_scrub.specs.declared.auditing.AuditEnd.{AuditEnd};
 ghost use Rattle.ocfl_scrub.specs.declared.checking.CheckEnd.{CheckEnd};
 ghost use Rattle.ocfl_scrub.specs.declared.checking.End.TheVariants as end;
 ghost use Rattle.ocfl_scrub.specs.declared.running.RunEnd.{RunEnd};
-ghost use Rattle.ocfl_scrub.specs.declared.running.RunStatus.{RunStatus};
 ghost use Rattle.ocfl_scrub.specs.declared.running.RunStatus.TheVariants as run;
 ghost use Rattle.ocfl_scrub.specs.declared.cycling.CycleEnd.{CycleEnd};
 ghost use Rattle.ocfl_scrub.specs.declared.cycling.CycleStatus.{CycleStatus};
@@ -53,51 +53,47 @@ ghost use Rattle.ocfl_scrub.specs.declared.note.Note.TheVariants as note;
 /// place.
 pub fn a_check_looks_at_its_place_alone()
     ensures lines { (root : StorageRoot) (s t : Store) (before written : List ℕ) (p : Place)
-        (item finding : Bool) → Checks root s t (Some before) (Some written) p item finding
+        (item finding : Bool) → Checks (known_call root s t before written) p item finding
         → (trail : List Opening) × ((t.openings ≡ s.openings ++ trail)
         × ((t.failures ≡ s.failures + length (unread_of root trail))
         × ((written ≡ before ++ text (item_at root (unread_of root trail) p))
         × ((item ≡ not (is_empty (item_at root (unread_of root trail) p)))
         × (finding ≡ found (item_at root (unread_of root trail) p)))))) }
-    ensures opened { (root : StorageRoot) (s t : Store) (before written : List ℕ) (p : Place)
-        (item finding : Bool) → Checks root s t (Some before) (Some written) p item finding
-        → (trail : List Opening) × ((t.openings ≡ s.openings ++ trail)
-        × ((content_trail root trail ≡ hashed_among root (p ∷ []))
+    ensures opened { (call : Call) (p : Place) (item finding : Bool) → Checks call p item finding
+        → (trail : List Opening) × ((call.after.openings ≡ call.before.openings ++ trail)
+        × ((content_trail call.root trail ≡ hashed_among call.root (p ∷ []))
         × (AllPairs (λ a b. a.place ≢ b.place) trail))) }
-    ensures listed { (root : StorageRoot) (s t : Store) (before written : List ℕ) (p : Place)
-        (item finding : Bool) → Checks root s t (Some before) (Some written) p item finding
-        → (listed : List Place) × ((rest : List Place) × ((t.listings ≡ s.listings ++ listed)
-        × (way_to p ≡ listed ++ rest))) }
-    ensures read { (root : StorageRoot) (s t : Store) (before written : List ℕ) (p : Place)
-        (item finding : Bool) → Checks root s t (Some before) (Some written) p item finding
-        → (trail : List Opening) × ((rest : List Place) × ((t.openings ≡ s.openings ++ trail)
-        × (holder root (Some p) ≡ heads_of root trail ++ rest))) }
+    ensures listed { (call : Call) (p : Place) (item finding : Bool) → Checks call p item finding
+        → (listed : List Place) × ((rest : List Place)
+        × ((call.after.listings ≡ call.before.listings ++ listed) × (way_to p ≡ listed ++ rest))) }
+    ensures read { (call : Call) (p : Place) (item finding : Bool)
+        → Checks call p item finding → (trail : List Opening)
+        × ((rest : List Place) × ((call.after.openings ≡ call.before.openings ++ trail)
+        × (holder call.root (Some p) ≡ heads_of call.root trail ++ rest))) }
 {}
 
 /// A check that stopped wrote a proper beginning of its lines, and nothing unless the output
 /// failed. It opened, listed and read no more than one that ends.
 pub fn a_check_that_stops_wrote_a_beginning()
     ensures lines { (root : StorageRoot) (s t : Store) (before written : List ℕ) (p : Place)
-        (why : Fault) → CheckStops root s t (Some before) (Some written) p why
+        (why : Fault) → CheckStops (known_call root s t before written) p why
         → (trail : List Opening) × ((gone : ℕ) × ((t.openings ≡ s.openings ++ trail)
         × ((written ≡ before ++ take gone (text (item_at root (unread_of root trail) p)))
         × ((why ≡ fault.Output → gone < length (text (item_at root (unread_of root trail) p)))
         × (why ≢ fault.Output → gone ≡ 0))))) }
-    ensures opened { (root : StorageRoot) (s t : Store) (before written : List ℕ) (p : Place)
-        (why : Fault) → CheckStops root s t (Some before) (Some written) p why
+    ensures opened { (call : Call) (p : Place) (why : Fault) → CheckStops call p why
         → (trail : List Opening) × ((begun : List Place) × ((rest : List Place)
-        × ((t.openings ≡ s.openings ++ trail) × ((p ∷ [] ≡ begun ++ rest)
-        × ((content_trail root trail ≡ hashed_among root begun)
+        × ((call.after.openings ≡ call.before.openings ++ trail) × ((p ∷ [] ≡ begun ++ rest)
+        × ((content_trail call.root trail ≡ hashed_among call.root begun)
         × (AllPairs (λ a b. a.place ≢ b.place) trail)))))) }
-    ensures listed { (root : StorageRoot) (s t : Store) (before written : List ℕ) (p : Place)
-        (why : Fault) → CheckStops root s t (Some before) (Some written) p why
-        → (listed : List Place) × ((rest : List Place) × ((t.listings ≡ s.listings ++ listed)
-        × (way_to p ≡ listed ++ rest))) }
-    ensures read { (root : StorageRoot) (s t : Store) (before written : List ℕ) (p : Place)
-        (why : Fault) → CheckStops root s t (Some before) (Some written) p why
-        → (trail : List Opening) × ((rest : List Place) × ((t.openings ≡ s.openings ++ trail)
-        × ((t.failures ≡ s.failures + (length (unread_of root trail) + failures_by why))
-        × (holder root (Some p) ≡ heads_of root trail ++ rest)))) }
+    ensures listed { (call : Call) (p : Place) (why : Fault) → CheckStops call p why
+        → (listed : List Place) × ((rest : List Place)
+        × ((call.after.listings ≡ call.before.listings ++ listed) × (way_to p ≡ listed ++ rest))) }
+    ensures read { (call : Call) (p : Place) (why : Fault) → CheckStops call p why
+        → (trail : List Opening) × ((rest : List Place)
+        × ((call.after.openings ≡ call.before.openings ++ trail) × ((call.after.failures
+        ≡ call.before.failures + (length (unread_of call.root trail) + failures_by why))
+        × (holder call.root (Some p) ≡ heads_of call.root trail ++ rest)))) }
 {}
 
 /// An audit that ended wrote the text of the whole audit, in which the openings show what failed.
@@ -106,25 +102,22 @@ pub fn a_check_that_stops_wrote_a_beginning()
 pub fn an_audit_reads_each_file_once()
     ensures lines { (root : StorageRoot) (s t : Store) (before written : List ℕ)
         (last : Option Place) (finding : Bool)
-        → AuditsAll root s t (Some before) (Some written) last finding → (trail : List Opening)
+        → AuditsAll (known_call root s t before written) last finding → (trail : List Opening)
         × ((t.openings ≡ s.openings ++ trail)
         × ((t.failures ≡ s.failures + length (unread_of root trail))
         × ((written ≡ before ++ text (audit root (unread_of root trail)))
         × (finding ≡ found (audit root (unread_of root trail)))))) }
-    ensures opened { (root : StorageRoot) (s t : Store) (before written : List ℕ)
-        (last : Option Place) (finding : Bool)
-        → AuditsAll root s t (Some before) (Some written) last finding → (trail : List Opening)
-        × ((t.openings ≡ s.openings ++ trail)
-        × ((content_trail root trail ≡ hashed_among root (item_places root))
-        × (heads_of root trail ≡ read_between root None None))) }
-    ensures listed { (root : StorageRoot) (s t : Store) (before written : List ℕ)
-        (last : Option Place) (finding : Bool)
-        → AuditsAll root s t (Some before) (Some written) last finding
-        → t.listings ≡ s.listings ++ looked_between root None None }
-    ensures last { (root : StorageRoot) (s t : Store) (before written : List ℕ)
-        (last : Option Place) (finding : Bool) (front : List Place) (p : Place)
-        → AuditsAll root s t (Some before) (Some written) last finding
-        → item_places root ≡ front ++ p ∷ [] → last ≡ Some p }
+    ensures opened { (call : Call) (last : Option Place) (finding : Bool)
+        → AuditsAll call last finding
+        → (trail : List Opening) × ((call.after.openings ≡ call.before.openings ++ trail)
+        × ((content_trail call.root trail ≡ hashed_among call.root (item_places call.root))
+        × (heads_of call.root trail ≡ read_between call.root None None))) }
+    ensures listed { (call : Call) (last : Option Place) (finding : Bool)
+        → AuditsAll call last finding
+        → call.after.listings ≡ call.before.listings ++ looked_between call.root None None }
+    ensures last { (call : Call) (last : Option Place) (finding : Bool) (front : List Place)
+        (p : Place) → AuditsAll call last finding → item_places call.root ≡ front ++ p ∷ []
+        → last ≡ Some p }
 {}
 
 /// An audit that stopped wrote its first items whole, and of the next a proper beginning, which is
@@ -133,33 +126,28 @@ pub fn an_audit_reads_each_file_once()
 pub fn an_audit_that_stops_wrote_its_first_items()
     ensures lines { (root : StorageRoot) (s t : Store) (before written : List ℕ)
         (last : Option Place) (finding : Bool) (why : Fault)
-        → AuditStops root s t (Some before) (Some written) last finding why → (trail : List Opening)
-        × ((whole : List Item) × ((others : List Item) × ((gone : ℕ)
-        × ((t.openings ≡ s.openings ++ trail)
-        × ((audit root (unread_of root trail) ≡ whole ++ others)
-        × ((written ≡ before ++ (text whole ++ take gone (text (take 1 others))))
+        → AuditStops (known_call root s t before written) last finding why → (trail : List Opening)
+        × ((whole : List Item) × ((others : List Item)
+        × ((gone : ℕ) × ((t.openings ≡ s.openings ++ trail) × ((audit root (unread_of root trail)
+        ≡ whole ++ others) × ((written ≡ before ++ (text whole ++ take gone (text (take 1 others))))
         × ((why ≡ fault.Output → gone < length (text (take 1 others))) × ((why ≢ fault.Output
         → gone ≡ 0) × (finding ≡ found whole))))))))) }
-    ensures opened { (root : StorageRoot) (s t : Store) (before written : List ℕ)
-        (last : Option Place) (finding : Bool) (why : Fault)
-        → AuditStops root s t (Some before) (Some written) last finding why → (trail : List Opening)
+    ensures opened { (call : Call) (last : Option Place) (finding : Bool)
+        (why : Fault) → AuditStops call last finding why → (trail : List Opening)
         × ((whole : List Item) × ((others : List Item) × ((begun : List Place)
-        × ((rest : List Place) × ((t.openings ≡ s.openings ++ trail)
-        × ((audit root (unread_of root trail) ≡ whole ++ others)
-        × ((map (λ i. i.place) (take 1 others) ≡ begun ++ rest)
-        × (content_trail root trail
-        ≡ hashed_among root (map (λ i. i.place) whole ++ begun))))))))) }
-    ensures listed { (root : StorageRoot) (s t : Store) (before written : List ℕ)
-        (last : Option Place) (finding : Bool) (why : Fault)
-        → AuditStops root s t (Some before) (Some written) last finding why → (listed : List Place)
-        × ((rest : List Place) × ((t.listings ≡ s.listings ++ listed)
-        × (looked_between root None None ≡ listed ++ rest))) }
-    ensures read { (root : StorageRoot) (s t : Store) (before written : List ℕ)
-        (last : Option Place) (finding : Bool) (why : Fault)
-        → AuditStops root s t (Some before) (Some written) last finding why → (trail : List Opening)
-        × ((rest : List Place) × ((t.openings ≡ s.openings ++ trail)
-        × ((t.failures ≡ s.failures + (length (unread_of root trail) + failures_by why))
-        × (read_between root None None ≡ heads_of root trail ++ rest)))) }
+        × ((rest : List Place) × ((call.after.openings ≡ call.before.openings ++ trail)
+        × ((audit call.root (unread_of call.root trail) ≡ whole ++ others)
+        × ((map (λ i. i.place) (take 1 others) ≡ begun ++ rest) × (content_trail call.root trail
+        ≡ hashed_among call.root (map (λ i. i.place) whole ++ begun))))))))) }
+    ensures listed { (call : Call) (last : Option Place) (finding : Bool)
+        (why : Fault) → AuditStops call last finding why → (listed : List Place)
+        × ((rest : List Place) × ((call.after.listings ≡ call.before.listings ++ listed)
+        × (looked_between call.root None None ≡ listed ++ rest))) }
+    ensures read { (call : Call) (last : Option Place) (finding : Bool) (why : Fault)
+        → AuditStops call last finding why → (trail : List Opening) × ((rest : List Place)
+        × ((call.after.openings ≡ call.before.openings ++ trail) × ((call.after.failures
+        ≡ call.before.failures + (length (unread_of call.root trail) + failures_by why))
+        × (read_between call.root None None ≡ heads_of call.root trail ++ rest)))) }
 {}
 
 /// A run that did not stop wrote the cut that its limits allow of the items above its cursor's
@@ -168,49 +156,42 @@ pub fn an_audit_that_stops_wrote_its_first_items()
 pub fn a_run_takes_the_cut_of_its_limits()
     ensures lines { (root : StorageRoot) (s t : Store) (before written : List ℕ)
         (from last next : Option Place) (limits : Limits) (spent files : ℕ) (finding : Bool)
-        → Runs root s t (Some before) (Some written) from last limits spent files finding next
+        → Runs (known_call root s t before written) from last limits spent files finding next
         → (trail : List Opening) × ((t.openings ≡ s.openings ++ trail)
         × ((t.failures ≡ s.failures + length (unread_of root trail))
         × ((written ≡ before ++ text (cut (after (audit root (unread_of root trail)) from) limits))
         × ((spent ≡ total_cost (cut (after (audit root (unread_of root trail)) from) limits))
         × ((files ≡ total_files (cut (after (audit root (unread_of root trail)) from) limits))
         × (finding ≡ found (cut (after (audit root (unread_of root trail)) from) limits))))))) }
-    ensures opened { (root : StorageRoot) (s t : Store) (before written : List ℕ)
-        (from last next : Option Place) (limits : Limits) (spent files : ℕ) (finding : Bool)
-        → Runs root s t (Some before) (Some written) from last limits spent files finding next
-        → (trail : List Opening) × ((t.openings ≡ s.openings ++ trail)
-        × (content_trail root trail ≡ hashed_among root (map (λ i. i.place) (cut (after (audit root
-        (unread_of root trail)) from) limits)))) }
-    ensures listed { (root : StorageRoot) (s t : Store) (before written : List ℕ)
-        (from last next : Option Place) (limits : Limits) (spent files : ℕ) (finding : Bool)
-        → Runs root s t (Some before) (Some written) from last limits spent files finding next
-        → (down : List Place) × ((rest : List Place)
-        × ((t.listings ≡ s.listings ++ (down ++ looked_between root from next))
-        × ((way_of from ≡ down ++ rest)
-        × (IsAscending place_cmp (down ++ looked_between root from next))))) }
-    ensures read { (root : StorageRoot) (s t : Store) (before written : List ℕ)
-        (from last next : Option Place) (limits : Limits) (spent files : ℕ) (finding : Bool)
-        → Runs root s t (Some before) (Some written) from last limits spent files finding next
+    ensures opened { (call : Call) (from last next : Option Place) (limits : Limits)
+        (spent files : ℕ) (finding : Bool) → Runs call from last limits spent files finding next
+        → (trail : List Opening) × ((call.after.openings ≡ call.before.openings ++ trail)
+        × (content_trail call.root trail ≡ hashed_among call.root (map (λ i. i.place) (cut (after
+        (audit call.root (unread_of call.root trail)) from) limits)))) }
+    ensures listed { (call : Call) (from last next : Option Place) (limits : Limits)
+        (spent files : ℕ) (finding : Bool) → Runs call from last limits spent files finding next
+        → (down : List Place) × ((rest : List Place) × ((call.after.listings ≡ call.before.listings
+        ++ (down ++ looked_between call.root from next)) × ((way_of from ≡ down ++ rest)
+        × (IsAscending place_cmp (down ++ looked_between call.root from next))))) }
+    ensures read { (call : Call) (from last next : Option Place) (limits : Limits)
+        (spent files : ℕ) (finding : Bool) → Runs call from last limits spent files finding next
         → (trail : List Opening) × ((held : List Place) × ((rest : List Place)
-        × ((t.openings ≡ s.openings ++ trail)
-        × ((heads_of root trail ≡ held ++ read_between root from next)
-        × ((holder root from ≡ held ++ rest)
-        × (IsAscending place_cmp (held ++ read_between root from next))))))) }
-    ensures next { (root : StorageRoot) (s t : Store) (before written : List ℕ)
-        (from last next : Option Place) (limits : Limits) (spent files : ℕ) (finding : Bool)
-        → Runs root s t (Some before) (Some written) from last limits spent files finding next
-        → (trail : List Opening) × ((t.openings ≡ s.openings ++ trail)
-        × ((left (after (audit root (unread_of root trail)) from) limits ≡ [] → next ≡ None)
-        × ((i : Item) (items : List Item)
-        → left (after (audit root (unread_of root trail)) from) limits ≡ i ∷ items
+        × ((call.after.openings ≡ call.before.openings ++ trail) × ((heads_of call.root trail
+        ≡ held ++ read_between call.root from next) × ((holder call.root from ≡ held ++ rest)
+        × (IsAscending place_cmp (held ++ read_between call.root from next))))))) }
+    ensures next { (call : Call) (from last next : Option Place) (limits : Limits)
+        (spent files : ℕ) (finding : Bool) → Runs call from last limits spent files finding next
+        → (trail : List Opening) × ((call.after.openings ≡ call.before.openings ++ trail)
+        × ((left (after (audit call.root (unread_of call.root trail)) from) limits ≡ []
+        → next ≡ None) × ((i : Item) (items : List Item)
+        → left (after (audit call.root (unread_of call.root trail)) from) limits ≡ i ∷ items
         → next ≡ Some i.place))) }
-    ensures last { (root : StorageRoot) (s t : Store) (before written : List ℕ)
-        (from last next : Option Place) (limits : Limits) (spent files : ℕ) (finding : Bool)
-        → Runs root s t (Some before) (Some written) from last limits spent files finding next
-        → (trail : List Opening) × ((t.openings ≡ s.openings ++ trail)
-        × ((cut (after (audit root (unread_of root trail)) from) limits ≡ [] → last ≡ from)
-        × ((front : List Item) (i : Item)
-        → cut (after (audit root (unread_of root trail)) from) limits ≡ front ++ i ∷ []
+    ensures last { (call : Call) (from last next : Option Place) (limits : Limits)
+        (spent files : ℕ) (finding : Bool) → Runs call from last limits spent files finding next
+        → (trail : List Opening) × ((call.after.openings ≡ call.before.openings ++ trail)
+        × ((cut (after (audit call.root (unread_of call.root trail)) from) limits ≡ []
+        → last ≡ from) × ((front : List Item) (i : Item)
+        → cut (after (audit call.root (unread_of call.root trail)) from) limits ≡ front ++ i ∷ []
         → last ≡ Some i.place))) }
 {}
 
@@ -221,49 +202,42 @@ pub fn a_run_that_stops_took_the_first_of_its_cut()
     ensures lines { (root : StorageRoot) (s t : Store) (before written : List ℕ)
         (from last : Option Place) (limits : Limits) (spent files : ℕ) (finding : Bool)
         (why : Fault)
-        → RunStops root s t (Some before) (Some written) from last limits spent files finding why
-        → (trail : List Opening) × ((whole : List Item) × ((others : List Item) × ((gone : ℕ)
-        × ((t.openings ≡ s.openings ++ trail)
+        → RunStops (known_call root s t before written) from last limits spent files finding why
+        → (trail : List Opening) × ((whole : List Item)
+        × ((others : List Item) × ((gone : ℕ) × ((t.openings ≡ s.openings ++ trail)
         × ((cut (after (audit root (unread_of root trail)) from) limits ≡ whole ++ others)
         × ((written ≡ before ++ (text whole ++ take gone (text (take 1 others))))
         × ((why ≡ fault.Output → gone < length (text (take 1 others))) × ((why ≢ fault.Output
         → gone ≡ 0) × ((spent ≡ total_cost whole) × ((files ≡ total_files whole)
         × (finding ≡ found whole))))))))))) }
-    ensures opened { (root : StorageRoot) (s t : Store) (before written : List ℕ)
-        (from last : Option Place) (limits : Limits) (spent files : ℕ) (finding : Bool)
-        (why : Fault)
-        → RunStops root s t (Some before) (Some written) from last limits spent files finding why
-        → (trail : List Opening) × ((whole : List Item) × ((others : List Item)
-        × ((begun : List Place) × ((rest : List Place) × ((t.openings ≡ s.openings ++ trail)
-        × ((cut (after (audit root (unread_of root trail)) from) limits ≡ whole ++ others)
-        × ((map (λ i. i.place) (take 1 others) ≡ begun ++ rest)
-        × (content_trail root trail
-        ≡ hashed_among root (map (λ i. i.place) whole ++ begun))))))))) }
-    ensures listed { (root : StorageRoot) (s t : Store) (before written : List ℕ)
-        (from last : Option Place) (limits : Limits) (spent files : ℕ) (finding : Bool)
-        (why : Fault)
-        → RunStops root s t (Some before) (Some written) from last limits spent files finding why
+    ensures opened { (call : Call) (from last : Option Place) (limits : Limits) (spent files : ℕ)
+        (finding : Bool) (why : Fault)
+        → RunStops call from last limits spent files finding why → (trail : List Opening)
+        × ((whole : List Item) × ((others : List Item) × ((begun : List Place)
+        × ((rest : List Place) × ((call.after.openings ≡ call.before.openings ++ trail)
+        × ((cut (after (audit call.root (unread_of call.root trail)) from) limits ≡ whole ++ others)
+        × ((map (λ i. i.place) (take 1 others) ≡ begun ++ rest) × (content_trail call.root trail
+        ≡ hashed_among call.root (map (λ i. i.place) whole ++ begun))))))))) }
+    ensures listed { (call : Call) (from last : Option Place) (limits : Limits) (spent files : ℕ)
+        (finding : Bool) (why : Fault) → RunStops call from last limits spent files finding why
         → (down : List Place) × ((below : List Place) × ((listed : List Place)
-        × ((rest : List Place) × ((t.listings ≡ s.listings ++ (down ++ listed))
-        × ((way_of from ≡ down ++ below) × ((looked_between root from None ≡ listed ++ rest)
+        × ((rest : List Place) × ((call.after.listings ≡ call.before.listings ++ (down ++ listed))
+        × ((way_of from ≡ down ++ below) × ((looked_between call.root from None ≡ listed ++ rest)
         × (IsAscending place_cmp (down ++ listed)))))))) }
-    ensures read { (root : StorageRoot) (s t : Store) (before written : List ℕ)
-        (from last : Option Place) (limits : Limits) (spent files : ℕ) (finding : Bool)
-        (why : Fault)
-        → RunStops root s t (Some before) (Some written) from last limits spent files finding why
-        → (trail : List Opening) × ((held : List Place) × ((below : List Place)
-        × ((heads : List Place) × ((rest : List Place) × ((t.openings ≡ s.openings ++ trail)
-        × ((t.failures ≡ s.failures + (length (unread_of root trail) + failures_by why))
-        × ((heads_of root trail ≡ held ++ heads) × ((holder root from ≡ held ++ below)
-        × ((read_between root from None ≡ heads ++ rest)
+    ensures read { (call : Call) (from last : Option Place) (limits : Limits) (spent files : ℕ)
+        (finding : Bool) (why : Fault) → RunStops call from last limits spent files finding why
+        → (trail : List Opening) × ((held : List Place)
+        × ((below : List Place) × ((heads : List Place) × ((rest : List Place)
+        × ((call.after.openings ≡ call.before.openings ++ trail) × ((call.after.failures
+        ≡ call.before.failures + (length (unread_of call.root trail) + failures_by why))
+        × ((heads_of call.root trail ≡ held ++ heads) × ((holder call.root from ≡ held ++ below)
+        × ((read_between call.root from None ≡ heads ++ rest)
         × (IsAscending place_cmp (held ++ heads))))))))))) }
-    ensures last { (root : StorageRoot) (s t : Store) (before written : List ℕ)
-        (from last : Option Place) (limits : Limits) (spent files : ℕ) (finding : Bool)
-        (why : Fault)
-        → RunStops root s t (Some before) (Some written) from last limits spent files finding why
-        → (trail : List Opening) × ((whole : List Item) × ((others : List Item)
-        × ((t.openings ≡ s.openings ++ trail)
-        × ((cut (after (audit root (unread_of root trail)) from) limits ≡ whole ++ others)
+    ensures last { (call : Call) (from last : Option Place) (limits : Limits) (spent files : ℕ)
+        (finding : Bool) (why : Fault) → RunStops call from last limits spent files finding why
+        → (trail : List Opening) × ((whole : List Item)
+        × ((others : List Item) × ((call.after.openings ≡ call.before.openings ++ trail)
+        × ((cut (after (audit call.root (unread_of call.root trail)) from) limits ≡ whole ++ others)
         × ((spent ≡ total_cost whole) × ((whole ≡ [] → last ≡ from) × ((front : List Item)
         (i : Item) → whole ≡ front ++ i ∷ [] → last ≡ Some i.place))))))) }
 {}
@@ -273,60 +247,55 @@ pub fn a_run_that_stops_took_the_first_of_its_cut()
 /// exactly if that is the whole audit, made one run for each cut, and read at most as many
 /// inventories as there are, and one more for each run after the first.
 pub fn a_cycle_takes_the_cuts_of_its_limits()
-    ensures lines { (root : StorageRoot) (s t : Store) (before written : List ℕ)
-        (last : Option Place) (limits : List Limits) (spent files : ℕ) (finding : Bool) (count : ℕ)
-        (whole : Bool)
-        → Cycles root s t (Some before) (Some written) last limits spent files finding count whole
+    ensures lines { (root : StorageRoot) (s t : Store)
+        (before written : List ℕ) (last : Option Place)
+        (limits : List Limits) (spent files : ℕ) (finding : Bool) (count : ℕ) (whole : Bool)
+        → Cycles (known_call root s t before written) last limits spent files finding count whole
         → (trail : List Opening) × ((t.openings ≡ s.openings ++ trail)
         × ((t.failures ≡ s.failures + length (unread_of root trail))
         × ((written ≡ before ++ text (joined (runs (audit root (unread_of root trail)) limits)))
         × ((spent ≡ total_cost (joined (runs (audit root (unread_of root trail)) limits)))
         × ((files ≡ total_files (joined (runs (audit root (unread_of root trail)) limits)))
         × (finding ≡ found (joined (runs (audit root (unread_of root trail)) limits)))))))) }
-    ensures opened { (root : StorageRoot) (s t : Store) (before written : List ℕ)
-        (last : Option Place) (limits : List Limits) (spent files : ℕ) (finding : Bool) (count : ℕ)
-        (whole : Bool)
-        → Cycles root s t (Some before) (Some written) last limits spent files finding count whole
-        → (trail : List Opening) × ((t.openings ≡ s.openings ++ trail)
-        × ((content_trail root trail ≡ hashed_among root (map (λ i. i.place) (joined (runs (audit
-        root (unread_of root trail)) limits)))) × (1 ≤ count
-        → length (heads_of root trail) < length (inventories root) + count))) }
-    ensures ended { (root : StorageRoot) (s t : Store) (before written : List ℕ)
-        (last : Option Place) (limits : List Limits) (spent files : ℕ) (finding : Bool) (count : ℕ)
-        (whole : Bool)
-        → Cycles root s t (Some before) (Some written) last limits spent files finding count whole
-        → (trail : List Opening) × ((t.openings ≡ s.openings ++ trail)
-        × ((count ≡ length (runs (audit root (unread_of root trail)) limits)) × ((whole ≡ true
-        → joined (runs (audit root (unread_of root trail)) limits) ≡ audit root (unread_of root
-        trail))
-        × (joined (runs (audit root (unread_of root trail)) limits) ≡ audit root (unread_of root
-        trail) → whole ≡ true)))) }
-    ensures few { (root : StorageRoot) (s t : Store) (before written : List ℕ) (last : Option Place)
-        (limits : List Limits) (spent files : ℕ) (finding : Bool) (count : ℕ) (whole : Bool)
-        (b n : ℕ)
-        → Cycles root s t (Some before) (Some written) last limits spent files finding count whole
-        → 1 ≤ b → 1 ≤ n → All (IsAtLeast b n) limits → (trail : List Opening)
-        × ((t.openings ≡ s.openings ++ trail)
-        × ((count ≤ total_cost (audit root (unread_of root trail)) / b + total_files (audit root
-        (unread_of root trail)) / n + 1)
-        × (total_cost (audit root (unread_of root trail)) / b + total_files (audit root (unread_of
-        root trail)) / n + 1 ≤ length limits → whole ≡ true))) }
-    ensures by_sum { (root : StorageRoot) (s t : Store) (before written : List ℕ)
-        (last : Option Place) (limits : List Limits) (spent files : ℕ) (finding : Bool) (count : ℕ)
-        (whole : Bool) (k : ℕ)
-        → Cycles root s t (Some before) (Some written) last limits spent files finding count whole
-        → 1 ≤ k → k ≤ length limits → (trail : List Opening) × ((t.openings ≡ s.openings ++ trail)
-        × (FilesFit (audit root (unread_of root trail)) limits
-        → total_cost (audit root (unread_of root trail)) ≤ sum_of (take k (map (λ l. l.budget)
-        limits)) → (whole ≡ true) × (count ≤ k))) }
-    ensures last { (root : StorageRoot) (s t : Store) (before written : List ℕ)
-        (last : Option Place) (limits : List Limits) (spent files : ℕ) (finding : Bool) (count : ℕ)
-        (whole : Bool)
-        → Cycles root s t (Some before) (Some written) last limits spent files finding count whole
-        → (trail : List Opening) × ((t.openings ≡ s.openings ++ trail)
-        × ((joined (runs (audit root (unread_of root trail)) limits) ≡ [] → last ≡ None)
+    ensures opened { (call : Call) (last : Option Place) (limits : List Limits) (spent files : ℕ)
+        (finding : Bool)
+        (count : ℕ) (whole : Bool) → Cycles call last limits spent files finding count whole
+        → (trail : List Opening) × ((call.after.openings ≡ call.before.openings ++ trail)
+        × ((content_trail call.root trail ≡ hashed_among call.root (map (λ i. i.place) (joined (runs
+        (audit call.root (unread_of call.root trail)) limits)))) × (1 ≤ count
+        → length (heads_of call.root trail) < length (inventories call.root) + count))) }
+    ensures ended { (call : Call) (last : Option Place) (limits : List Limits) (spent files : ℕ)
+        (finding : Bool)
+        (count : ℕ) (whole : Bool) → Cycles call last limits spent files finding count whole
+        → (trail : List Opening) × ((call.after.openings ≡ call.before.openings ++ trail)
+        × ((count ≡ length (runs (audit call.root (unread_of call.root trail)) limits))
+        × ((whole ≡ true → joined (runs (audit call.root (unread_of call.root trail)) limits)
+        ≡ audit call.root (unread_of call.root trail))
+        × (joined (runs (audit call.root (unread_of call.root trail)) limits)
+        ≡ audit call.root (unread_of call.root trail) → whole ≡ true)))) }
+    ensures few { (call : Call) (last : Option Place) (limits : List Limits)
+        (spent files : ℕ) (finding : Bool) (count : ℕ) (whole : Bool)
+        (b n : ℕ) → Cycles call last limits spent files finding count whole → 1 ≤ b → 1 ≤ n
+        → All (IsAtLeast b n) limits → (trail : List Opening)
+        × ((call.after.openings ≡ call.before.openings ++ trail)
+        × ((count ≤ total_cost (audit call.root (unread_of call.root trail)) / b
+        + total_files (audit call.root (unread_of call.root trail)) / n + 1)
+        × (total_cost (audit call.root (unread_of call.root trail)) / b + total_files
+        (audit call.root (unread_of call.root trail)) / n + 1 ≤ length limits → whole ≡ true))) }
+    ensures by_sum { (call : Call) (last : Option Place) (limits : List Limits)
+        (spent files : ℕ) (finding : Bool) (count : ℕ) (whole : Bool) (k : ℕ)
+        → Cycles call last limits spent files finding count whole → 1 ≤ k → k ≤ length limits
+        → (trail : List Opening) × ((call.after.openings ≡ call.before.openings ++ trail)
+        × (FilesFit (audit call.root (unread_of call.root trail)) limits
+        → total_cost (audit call.root (unread_of call.root trail))
+        ≤ sum_of (take k (map (λ l. l.budget) limits)) → (whole ≡ true) × (count ≤ k))) }
+    ensures last { (call : Call) (last : Option Place) (limits : List Limits)
+        (spent files : ℕ) (finding : Bool) (count : ℕ) (whole : Bool)
+        → Cycles call last limits spent files finding count whole
+        → (trail : List Opening) × ((call.after.openings ≡ call.before.openings ++ trail)
+        × ((joined (runs (audit call.root (unread_of call.root trail)) limits) ≡ [] → last ≡ None)
         × ((front : List Item) (i : Item)
-        → joined (runs (audit root (unread_of root trail)) limits) ≡ front ++ i ∷ []
+        → joined (runs (audit call.root (unread_of call.root trail)) limits) ≡ front ++ i ∷ []
         → last ≡ Some i.place))) }
 {}
 
@@ -334,168 +303,133 @@ pub fn a_cycle_takes_the_cuts_of_its_limits()
 /// items that these take whole, those of the runs before the last among them, and of the next a
 /// proper beginning, which is empty unless the output failed.
 pub fn a_cycle_that_stops_took_the_first_of_its_cuts()
-    ensures lines { (root : StorageRoot) (s t : Store) (before written : List ℕ)
-        (last : Option Place) (limits : List Limits) (spent files : ℕ) (finding : Bool) (count : ℕ)
-        (why : Fault)
-        → CycleStops root s t (Some before) (Some written) last limits spent files finding count why
-        → (trail : List Opening) × ((whole : List Item) × ((others : List Item) × ((gone : ℕ)
-        × ((t.openings ≡ s.openings ++ trail)
+    ensures lines { (root : StorageRoot) (s t : Store)
+        (before written : List ℕ) (last : Option Place)
+        (limits : List Limits) (spent files : ℕ) (finding : Bool) (count : ℕ) (why : Fault)
+        → CycleStops (known_call root s t before written) last limits spent files finding count why
+        → (trail : List Opening) × ((whole : List Item)
+        × ((others : List Item) × ((gone : ℕ) × ((t.openings ≡ s.openings ++ trail)
         × ((joined (take count (runs (audit root (unread_of root trail)) limits)) ≡ whole ++ others)
         × ((written ≡ before ++ (text whole ++ take gone (text (take 1 others))))
         × ((why ≡ fault.Output → gone < length (text (take 1 others))) × ((why ≢ fault.Output
         → gone ≡ 0) × ((spent ≡ total_cost whole) × ((files ≡ total_files whole)
         × (finding ≡ found whole))))))))))) }
-    ensures counted { (root : StorageRoot) (s t : Store) (before written : List ℕ)
-        (last : Option Place) (limits : List Limits) (spent files : ℕ) (finding : Bool) (count : ℕ)
-        (why : Fault)
-        → CycleStops root s t (Some before) (Some written) last limits spent files finding count why
-        → (trail : List Opening) × ((whole : List Item) × ((rest : List Item)
-        × ((t.openings ≡ s.openings ++ trail) × ((1 ≤ count)
-        × ((count ≤ length (runs (audit root (unread_of root trail)) limits))
-        × ((spent ≡ total_cost whole)
-        × ((whole ≡ joined (take (count - 1) (runs (audit root (unread_of root trail)) limits)) ++
-        rest) × (length (heads_of root trail) < length (inventories root) + count)))))))) }
-    ensures opened { (root : StorageRoot) (s t : Store) (before written : List ℕ)
-        (last : Option Place) (limits : List Limits) (spent files : ℕ) (finding : Bool) (count : ℕ)
-        (why : Fault)
-        → CycleStops root s t (Some before) (Some written) last limits spent files finding count why
-        → (trail : List Opening) × ((whole : List Item) × ((others : List Item)
-        × ((begun : List Place) × ((rest : List Place) × ((t.openings ≡ s.openings ++ trail)
-        × ((t.failures ≡ s.failures + (length (unread_of root trail) + failures_by why))
-        × ((joined (take count (runs (audit root (unread_of root trail)) limits)) ≡ whole ++ others)
-        × ((map (λ i. i.place) (take 1 others) ≡ begun ++ rest)
-        × (content_trail root trail
-        ≡ hashed_among root (map (λ i. i.place) whole ++ begun)))))))))) }
-    ensures last { (root : StorageRoot) (s t : Store) (before written : List ℕ)
-        (last : Option Place) (limits : List Limits) (spent files : ℕ) (finding : Bool) (count : ℕ)
-        (why : Fault)
-        → CycleStops root s t (Some before) (Some written) last limits spent files finding count why
-        → (trail : List Opening) × ((whole : List Item) × ((t.openings ≡ s.openings ++ trail)
+    ensures counted { (call : Call) (last : Option Place) (limits : List Limits) (spent files : ℕ)
+        (finding : Bool) (count : ℕ) (why : Fault)
+        → CycleStops call last limits spent files finding count why → (trail : List Opening)
+        × ((whole : List Item) × ((rest : List Item)
+        × ((call.after.openings ≡ call.before.openings ++ trail) × ((1 ≤ count)
+        × ((count ≤ length (runs (audit call.root (unread_of call.root trail)) limits))
+        × ((spent ≡ total_cost whole) × ((whole ≡ joined (take (count - 1) (runs
+        (audit call.root (unread_of call.root trail)) limits)) ++ rest)
+        × (length (heads_of call.root trail) < length (inventories call.root) + count)))))))) }
+    ensures opened { (call : Call) (last : Option Place) (limits : List Limits) (spent files : ℕ)
+        (finding : Bool) (count : ℕ) (why : Fault)
+        → CycleStops call last limits spent files finding count why → (trail : List Opening)
+        × ((whole : List Item)
+        × ((others : List Item) × ((begun : List Place) × ((rest : List Place)
+        × ((call.after.openings ≡ call.before.openings ++ trail) × ((call.after.failures
+        ≡ call.before.failures + (length (unread_of call.root trail) + failures_by why)) × ((joined
+        (take count (runs (audit call.root (unread_of call.root trail)) limits)) ≡ whole ++ others)
+        × ((map (λ i. i.place) (take 1 others) ≡ begun ++ rest) × (content_trail call.root trail
+        ≡ hashed_among call.root (map (λ i. i.place) whole ++ begun)))))))))) }
+    ensures last { (call : Call) (last : Option Place) (limits : List Limits)
+        (spent files : ℕ) (finding : Bool) (count : ℕ) (why : Fault)
+        → CycleStops call last limits spent files finding count why → (trail : List Opening)
+        × ((whole : List Item) × ((call.after.openings ≡ call.before.openings ++ trail)
         × ((spent ≡ total_cost whole) × ((whole ≡ [] → last ≡ None) × ((front : List Item)
         (i : Item) → whole ≡ front ++ i ∷ [] → last ≡ Some i.place))))) }
 {}
 
 /// How a check, an audit, a run and a cycle ended says which of these they did.
 pub fn each_end_says_what_was_done()
-    ensures check { (root : StorageRoot) (s t : Store) (old new : Option (List ℕ)) (p : Place)
-        (item finding : Bool) → CheckEnds root s t old new p item finding end.Ended
-        → Checks root s t old new p item finding }
-    ensures stopped_check { (root : StorageRoot) (s t : Store) (old new : Option (List ℕ))
-        (p : Place) (item finding : Bool) (why : Fault)
-        → CheckEnds root s t old new p item finding (end.Stopped why)
-        → CheckStops root s t old new p why }
-    ensures audit { (root : StorageRoot) (s t : Store) (old new : Option (List ℕ))
-        (last : Option Place) (finding : Bool) → AuditEnds root s t old new last finding end.Ended
-        → AuditsAll root s t old new last finding }
-    ensures stopped_audit { (root : StorageRoot) (s t : Store) (old new : Option (List ℕ))
-        (last : Option Place) (finding : Bool) (why : Fault)
-        → AuditEnds root s t old new last finding (end.Stopped why)
-        → AuditStops root s t old new last finding why }
-    ensures ended_run { (root : StorageRoot) (s t : Store) (old new : Option (List ℕ))
-        (from last : Option Place) (limits : Limits) (spent files : ℕ) (finding : Bool)
-        → RunEnds root s t old new from last limits spent files finding run.Ended
-        → Runs root s t old new from last limits spent files finding None }
-    ensures spent_run { (root : StorageRoot) (s t : Store) (old new : Option (List ℕ))
-        (from last : Option Place) (limits : Limits) (spent files : ℕ) (finding : Bool)
-        → RunEnds root s t old new from last limits spent files finding run.Spent → (next : Place)
-        × Runs root s t old new from last limits spent files finding (Some next) }
-    ensures stopped_run { (root : StorageRoot) (s t : Store) (old new : Option (List ℕ))
-        (from last : Option Place) (limits : Limits) (spent files : ℕ) (finding : Bool)
-        (why : Fault)
-        → RunEnds root s t old new from last limits spent files finding (run.Stopped why)
-        → RunStops root s t old new from last limits spent files finding why }
-    ensures no_run { (root : StorageRoot) (s t : Store) (old new : Option (List ℕ))
-        (from last : Option Place) (limits : Limits) (spent files : ℕ) (finding : Bool)
-        → RunEnds root s t old new from last limits spent files finding run.Worn → ⊥ }
-    ensures ended_cycle { (root : StorageRoot) (s t : Store) (old new : Option (List ℕ))
-        (last : Option Place) (limits : List Limits) (spent files : ℕ) (finding : Bool) (count : ℕ)
-        → CycleEnds root s t old new last limits spent files finding count cycle.Ended
-        → Cycles root s t old new last limits spent files finding count true }
-    ensures spent_cycle { (root : StorageRoot) (s t : Store) (old new : Option (List ℕ))
-        (last : Option Place) (limits : List Limits) (spent files : ℕ) (finding : Bool) (count : ℕ)
-        → CycleEnds root s t old new last limits spent files finding count cycle.Spent
-        → Cycles root s t old new last limits spent files finding count false }
-    ensures stopped_cycle { (root : StorageRoot) (s t : Store) (old new : Option (List ℕ))
-        (last : Option Place) (limits : List Limits) (spent files : ℕ) (finding : Bool) (count : ℕ)
-        (why : Fault)
-        → CycleEnds root s t old new last limits spent files finding count (cycle.Stopped why)
-        → CycleStops root s t old new last limits spent files finding count why }
+    ensures check { (call : Call) (p : Place) (item finding : Bool)
+        → CheckEnds call p item finding end.Ended → Checks call p item finding }
+    ensures stopped_check { (call : Call) (p : Place) (item finding : Bool) (why : Fault)
+        → CheckEnds call p item finding (end.Stopped why) → CheckStops call p why }
+    ensures audit { (call : Call) (last : Option Place) (finding : Bool)
+        → AuditEnds call last finding end.Ended → AuditsAll call last finding }
+    ensures stopped_audit { (call : Call) (last : Option Place) (finding : Bool) (why : Fault)
+        → AuditEnds call last finding (end.Stopped why) → AuditStops call last finding why }
+    ensures ended_run { (call : Call) (from last : Option Place) (limits : Limits) (spent files : ℕ)
+        (finding : Bool) → RunEnds call from last limits spent files finding run.Ended
+        → Runs call from last limits spent files finding None }
+    ensures spent_run { (call : Call) (from last : Option Place) (limits : Limits) (spent files : ℕ)
+        (finding : Bool) → RunEnds call from last limits spent files finding run.Spent
+        → (next : Place) × Runs call from last limits spent files finding (Some next) }
+    ensures stopped_run { (call : Call) (from last : Option Place)
+        (limits : Limits) (spent files : ℕ) (finding : Bool) (why : Fault)
+        → RunEnds call from last limits spent files finding (run.Stopped why)
+        → RunStops call from last limits spent files finding why }
+    ensures no_run { (call : Call) (from last : Option Place) (limits : Limits) (spent files : ℕ)
+        (finding : Bool) → RunEnds call from last limits spent files finding run.Worn → ⊥ }
+    ensures ended_cycle { (call : Call) (last : Option Place) (limits : List Limits)
+        (spent files : ℕ) (finding : Bool) (count : ℕ)
+        → CycleEnds call last limits spent files finding count cycle.Ended
+        → Cycles call last limits spent files finding count true }
+    ensures spent_cycle { (call : Call) (last : Option Place) (limits : List Limits)
+        (spent files : ℕ) (finding : Bool) (count : ℕ)
+        → CycleEnds call last limits spent files finding count cycle.Spent
+        → Cycles call last limits spent files finding count false }
+    ensures stopped_cycle { (call : Call) (last : Option Place) (limits : List Limits)
+        (spent files : ℕ) (finding : Bool) (count : ℕ) (why : Fault)
+        → CycleEnds call last limits spent files finding count (cycle.Stopped why)
+        → CycleStops call last limits spent files finding count why }
 {}
 
 /// A run goes on above its cursor's place, or begins at the first item, and at the next cycle where
 /// the cursor had ended. It counts itself, adds what it spent and started, and leaves the cursor
 /// after the last item that it took, or ended.
 pub fn a_run_leaves_its_cursor_after_what_it_took()
-    ensures begins { (root : StorageRoot) (s t : Store) (old new : Option (List ℕ)) (c : Cursor)
-        (limits : Limits) (reached : Cursor) (spent files : ℕ) (finding : Bool) (how : RunStatus)
-        → c.state ≡ start → RunsFrom root s t old new c limits reached spent files finding how
-        → (last : Option Place)
-        × RunEnds root s t old new None last limits spent files finding how }
-    ensures begins_again { (root : StorageRoot) (s t : Store) (old new : Option (List ℕ))
-        (c : Cursor) (limits : Limits) (reached : Cursor) (spent files : ℕ) (finding : Bool)
-        (how : RunStatus) → c.state ≡ ended
-        → RunsFrom root s t old new c limits reached spent files finding how → (last : Option Place)
-        × RunEnds root s t old new None last limits spent files finding how }
-    ensures goes_on { (root : StorageRoot) (s t : Store) (old new : Option (List ℕ)) (c : Cursor)
-        (limits : Limits) (reached : Cursor) (spent files : ℕ) (finding : Bool) (how : RunStatus)
-        (p : Place) → c.state ≡ behind p
-        → RunsFrom root s t old new c limits reached spent files finding how → (last : Option Place)
-        × RunEnds root s t old new (Some p) last limits spent files finding how }
-    ensures first { (root : StorageRoot) (s t : Store) (old new : Option (List ℕ)) (c : Cursor)
-        (limits : Limits) (reached : Cursor) (spent files : ℕ) (finding : Bool) (how : RunStatus)
-        → c.state ≡ start → RunsFrom root s t old new c limits reached spent files finding how
-        → (reached.cycle ≡ c.cycle) × ((reached.runs ≡ c.runs + 1)
-        × ((reached.spent ≡ c.spent + spent) × (reached.files ≡ c.files + files))) }
-    ensures further { (root : StorageRoot) (s t : Store) (old new : Option (List ℕ)) (c : Cursor)
-        (limits : Limits) (reached : Cursor) (spent files : ℕ) (finding : Bool) (how : RunStatus)
-        (p : Place) → c.state ≡ behind p
-        → RunsFrom root s t old new c limits reached spent files finding how
-        → (reached.cycle ≡ c.cycle) × ((reached.runs ≡ c.runs + 1)
-        × ((reached.spent ≡ c.spent + spent) × (reached.files ≡ c.files + files))) }
-    ensures next { (root : StorageRoot) (s t : Store) (old new : Option (List ℕ)) (c : Cursor)
-        (limits : Limits) (reached : Cursor) (spent files : ℕ) (finding : Bool) (how : RunStatus)
-        → c.state ≡ ended → RunsFrom root s t old new c limits reached spent files finding how
-        → (reached.cycle ≡ c.cycle + 1) × ((reached.runs ≡ 1) × ((reached.spent ≡ spent)
-        × (reached.files ≡ files))) }
-    ensures ended { (root : StorageRoot) (s t : Store) (old new : Option (List ℕ)) (c : Cursor)
-        (limits : Limits) (reached : Cursor) (spent files : ℕ) (finding : Bool)
-        → RunsFrom root s t old new c limits reached spent files finding run.Ended
-        → reached.state ≡ ended }
-    ensures spent { (root : StorageRoot) (s t : Store) (old new : Option (List ℕ)) (c : Cursor)
-        (limits : Limits) (reached : Cursor) (spent files : ℕ) (finding : Bool)
-        → RunsFrom root s t old new c limits reached spent files finding run.Spent
-        → (last : Option Place)
-        × (RunEnds root s t old new (place_in c.state) last limits spent files finding run.Spent
-        × ((last ≡ None → reached.state ≡ start) × ((p : Place) → last ≡ Some p
-        → reached.state ≡ behind p))) }
-    ensures stopped { (root : StorageRoot) (s t : Store) (old new : Option (List ℕ)) (c : Cursor)
-        (limits : Limits) (reached : Cursor) (spent files : ℕ) (finding : Bool) (why : Fault)
-        → RunsFrom root s t old new c limits reached spent files finding (run.Stopped why)
-        → (last : Option Place)
-        × (RunEnds root s t old new (place_in c.state) last limits spent files finding (run.Stopped
-        why) × ((last ≡ None → reached.state ≡ start) × ((p : Place) → last ≡ Some p
-        → reached.state ≡ behind p))) }
+    ensures begins { (call : Call) (c : Cursor) (limits : Limits) (ran : RunEnd) → c.state ≡ start
+        → RunsFrom call c limits ran → (last : Option Place)
+        × RunEnds call None last limits ran.spent ran.files ran.found ran.end }
+    ensures begins_again { (call : Call) (c : Cursor) (limits : Limits) (ran : RunEnd)
+        → c.state ≡ ended → RunsFrom call c limits ran → (last : Option Place)
+        × RunEnds call None last limits ran.spent ran.files ran.found ran.end }
+    ensures goes_on { (call : Call) (c : Cursor) (limits : Limits) (ran : RunEnd) (p : Place)
+        → c.state ≡ behind p → RunsFrom call c limits ran → (last : Option Place)
+        × RunEnds call (Some p) last limits ran.spent ran.files ran.found ran.end }
+    ensures first { (call : Call) (c : Cursor) (limits : Limits) (ran : RunEnd)
+        → c.state ≡ start → RunsFrom call c limits ran → (ran.cursor.cycle ≡ c.cycle)
+        × ((ran.cursor.runs ≡ c.runs + 1) × ((ran.cursor.spent ≡ c.spent + ran.spent)
+        × (ran.cursor.files ≡ c.files + ran.files))) }
+    ensures further { (call : Call) (c : Cursor) (limits : Limits) (ran : RunEnd) (p : Place)
+        → c.state ≡ behind p → RunsFrom call c limits ran → (ran.cursor.cycle ≡ c.cycle)
+        × ((ran.cursor.runs ≡ c.runs + 1) × ((ran.cursor.spent ≡ c.spent + ran.spent)
+        × (ran.cursor.files ≡ c.files + ran.files))) }
+    ensures next { (call : Call) (c : Cursor) (limits : Limits) (ran : RunEnd) → c.state ≡ ended
+        → RunsFrom call c limits ran → (ran.cursor.cycle ≡ c.cycle + 1) × ((ran.cursor.runs ≡ 1)
+        × ((ran.cursor.spent ≡ ran.spent) × (ran.cursor.files ≡ ran.files))) }
+    ensures ended { (call : Call) (c : Cursor) (limits : Limits) (ran : RunEnd)
+        → RunsFrom call c limits ran → ran.end ≡ run.Ended → ran.cursor.state ≡ ended }
+    ensures spent { (call : Call) (c : Cursor) (limits : Limits) (ran : RunEnd)
+        → RunsFrom call c limits ran → ran.end ≡ run.Spent → (last : Option Place)
+        × (RunEnds call (place_in c.state) last limits ran.spent ran.files ran.found ran.end
+        × ((last ≡ None → ran.cursor.state ≡ start) × ((p : Place) → last ≡ Some p
+        → ran.cursor.state ≡ behind p))) }
+    ensures stopped { (call : Call) (c : Cursor) (limits : Limits) (ran : RunEnd) (why : Fault)
+        → RunsFrom call c limits ran → ran.end ≡ run.Stopped why → (last : Option Place)
+        × (RunEnds call (place_in c.state) last limits ran.spent ran.files ran.found ran.end
+        × ((last ≡ None → ran.cursor.state ≡ start) × ((p : Place) → last ≡ Some p
+        → ran.cursor.state ≡ behind p))) }
 {}
 
 /// A cycle's cursor is of the first cycle and counts its runs. It is ended, or after the last item
 /// that these took.
 pub fn a_cycle_leaves_its_cursor_after_what_it_took()
-    ensures cycle { (root : StorageRoot) (s t : Store) (old new : Option (List ℕ))
-        (limits : List Limits) (c : Cursor) (finding : Bool) (how : CycleStatus)
-        → CyclesTo root s t old new limits c finding how → (c.cycle ≡ 1) × ((last : Option Place)
-        × CycleEnds root s t old new last limits c.spent c.files finding c.runs how) }
-    ensures ended { (root : StorageRoot) (s t : Store) (old new : Option (List ℕ))
-        (limits : List Limits) (c : Cursor) (finding : Bool)
-        → CyclesTo root s t old new limits c finding cycle.Ended → c.state ≡ ended }
-    ensures spent { (root : StorageRoot) (s t : Store) (old new : Option (List ℕ))
-        (limits : List Limits) (c : Cursor) (finding : Bool)
-        → CyclesTo root s t old new limits c finding cycle.Spent → (last : Option Place)
-        × (CycleEnds root s t old new last limits c.spent c.files finding c.runs cycle.Spent
-        × ((last ≡ None → c.state ≡ start) × ((p : Place) → last ≡ Some p → c.state ≡ behind p))) }
-    ensures stopped { (root : StorageRoot) (s t : Store) (old new : Option (List ℕ))
-        (limits : List Limits) (c : Cursor) (finding : Bool) (why : Fault)
-        → CyclesTo root s t old new limits c finding (cycle.Stopped why) → (last : Option Place)
-        × (CycleEnds root s t old new last limits c.spent c.files finding c.runs (cycle.Stopped why)
+    ensures cycle { (call : Call) (limits : List Limits) (c : Cursor) (finding : Bool)
+        (how : CycleStatus) → CyclesTo call limits c finding how → (c.cycle ≡ 1)
+        × ((last : Option Place) × CycleEnds call last limits c.spent c.files finding c.runs how) }
+    ensures ended { (call : Call) (limits : List Limits) (c : Cursor) (finding : Bool)
+        → CyclesTo call limits c finding cycle.Ended → c.state ≡ ended }
+    ensures spent { (call : Call) (limits : List Limits) (c : Cursor) (finding : Bool)
+        → CyclesTo call limits c finding cycle.Spent → (last : Option Place)
+        × (CycleEnds call last limits c.spent c.files finding c.runs cycle.Spent × ((last ≡ None
+        → c.state ≡ start) × ((p : Place) → last ≡ Some p → c.state ≡ behind p))) }
+    ensures stopped { (call : Call) (limits : List Limits) (c : Cursor) (finding : Bool)
+        (why : Fault) → CyclesTo call limits c finding (cycle.Stopped why) → (last : Option Place)
+        × (CycleEnds call last limits c.spent c.files finding c.runs (cycle.Stopped why)
         × ((last ≡ None → c.state ≡ start) × ((p : Place) → last ≡ Some p → c.state ≡ behind p))) }
 {}
 
@@ -503,72 +437,66 @@ pub fn a_cycle_leaves_its_cursor_after_what_it_took()
 /// counted that. It ended the cycle exactly if it left nothing. A cycle without failures made one
 /// run for each cut.
 pub fn a_run_without_failures_takes_the_audits_items()
-    ensures ended { (root : StorageRoot) (s t : Store) (before written : List ℕ) (c : Cursor)
-        (limits : Limits) (spent files : ℕ) (finding : Bool)
-        → RunsCleanly root (Some before) (Some written) c limits spent files finding run.Ended
+    ensures ended { (root : StorageRoot) (s t : Store)
+        (before written : List ℕ) (c : Cursor) (limits : Limits) (spent files : ℕ) (finding : Bool)
+        → RunsCleanly (known_call root s t before written) c limits spent files finding run.Ended
         → (left (after (audit root []) (place_in c.state)) limits ≡ [])
         × ((written ≡ before ++ text (cut (after (audit root []) (place_in c.state)) limits))
         × ((spent ≡ total_cost (cut (after (audit root []) (place_in c.state)) limits))
         × ((files ≡ total_files (cut (after (audit root []) (place_in c.state)) limits))
         × (finding ≡ found (cut (after (audit root []) (place_in c.state)) limits))))) }
-    ensures spent { (root : StorageRoot) (s t : Store) (before written : List ℕ) (c : Cursor)
-        (limits : Limits) (spent files : ℕ) (finding : Bool)
-        → RunsCleanly root (Some before) (Some written) c limits spent files finding run.Spent
+    ensures spent { (root : StorageRoot) (s t : Store)
+        (before written : List ℕ) (c : Cursor) (limits : Limits) (spent files : ℕ) (finding : Bool)
+        → RunsCleanly (known_call root s t before written) c limits spent files finding run.Spent
         → (left (after (audit root []) (place_in c.state)) limits ≢ [])
         × ((written ≡ before ++ text (cut (after (audit root []) (place_in c.state)) limits))
         × ((spent ≡ total_cost (cut (after (audit root []) (place_in c.state)) limits))
         × ((files ≡ total_files (cut (after (audit root []) (place_in c.state)) limits))
         × (finding ≡ found (cut (after (audit root []) (place_in c.state)) limits))))) }
-    ensures counted { (root : StorageRoot) (s t : Store) (old new : Option (List ℕ))
-        (limits : List Limits) (count : ℕ) → HeadlineOf root s t old new limits count cycle.Spent
-        → count ≡ length (runs (audit root []) limits) }
-    ensures counted_whole { (root : StorageRoot) (s t : Store) (old new : Option (List ℕ))
-        (limits : List Limits) (count : ℕ) → HeadlineOf root s t old new limits count cycle.Ended
-        → count ≡ length (runs (audit root []) limits) }
+    ensures counted { (call : Call)
+        (limits : List Limits) (count : ℕ) → HeadlineOf call limits count cycle.Spent
+        → count ≡ length (runs (audit call.root []) limits) }
+    ensures counted_whole { (call : Call) (limits : List Limits) (count : ℕ)
+        → HeadlineOf call limits count cycle.Ended
+        → count ≡ length (runs (audit call.root []) limits) }
 {}
 
 /// Over a store that tells its tree a command audits, checks, runs or makes a cycle as these say,
 /// and ends with the status and the text of what they answered. Or it did nothing, since memory ran
 /// out first, no cursor was read, or the cursor is worn.
 pub fn a_command_does_what_it_is_asked_for()
-    ensures audit { (known : Option (Option (List ℕ))) (root : StorageRoot) (s t : Store)
-        (old new : Option (List ℕ)) (status : ℕ) (n : Note) (stored : Option (Vec ℕ Global))
-        → Performs known root s t old new deed.Audit status n stored → (ran : AuditEnd)
-        × (AuditEnds root s t old new ran.last ran.found ran.end
+    ensures audit { (call : Call) (known : Option (Option (List ℕ))) (status : ℕ) (n : Note)
+        (stored : Option (Vec ℕ Global)) → Performs call known deed.Audit status n stored
+        → (ran : AuditEnd) × (AuditEnds call ran.last ran.found ran.end
         × IsAuditNote ran.found ran.end status n) }
     ensures clean_audit { (known : Option (Option (List ℕ))) (root : StorageRoot) (s t : Store)
         (before written : List ℕ) (status : ℕ) (n : Note) (stored : Option (Vec ℕ Global))
-        → Performs known root s t (Some before) (Some written) deed.Audit status n stored
+        → Performs (known_call root s t before written) known deed.Audit status n stored
         → n ≡ note.Nothing → t.failures ≡ s.failures → (written ≡ before ++ text (audit root []))
         × (status ≡ status_of (found (audit root []))) }
-    ensures check { (known : Option (Option (List ℕ))) (root : StorageRoot) (s t : Store)
-        (old new : Option (List ℕ)) (path : String Global) (p : Place) (status : ℕ) (n : Note)
-        (stored : Option (Vec ℕ Global)) → IsPlace p → string_bytes path ≡ place_text p
-        → Performs known root s t old new (deed.Check path) status n stored → ((ran : CheckEnd)
-        × (CheckEnds root s t old new p ran.item ran.found ran.end
+    ensures check { (call : Call) (known : Option (Option (List ℕ))) (path : String Global)
+        (p : Place) (status : ℕ) (n : Note) (stored : Option (Vec ℕ Global)) → IsPlace p
+        → string_bytes path ≡ place_text p → Performs call known (deed.Check path) status n stored
+        → ((ran : CheckEnd) × (CheckEnds call p ran.item ran.found ran.end
         × IsCheckNote ran.item ran.found ran.end status n)) ⊎ ((status ≡ 3)
-        × ((n ≡ note.OutOfMemory) × ((t ≡ s) × (new ≡ old)))) }
-    ensures cycle { (known : Option (Option (List ℕ))) (root : StorageRoot) (s t : Store)
-        (old new : Option (List ℕ)) (limits : MadeLimits) (count : ℕ) (status : ℕ) (n : Note)
-        (stored : Option (Vec ℕ Global))
-        → Performs known root s t old new (deed.Cycle limits count) status n stored
-        → ((ran : CycleEnd)
-        × (CyclesTo root s t old new (map limits_of (replicate count limits)) ran.cursor ran.found
-        ran.end × ((ran.runs ≡ ran.cursor.runs) × ((ran.spent ≡ ran.cursor.spent)
-        × (IsCycleNote ran.runs ran.spent ran.found ran.end status n × (t.failures ≡ s.failures
-        → HeadlineOf root s t old new (map limits_of (replicate count limits)) ran.runs
-        ran.end)))))) ⊎ ((status ≡ 3) × ((n ≡ note.OutOfMemory) × ((t ≡ s) × (new ≡ old)))) }
-    ensures run { (known : Option (Option (List ℕ))) (root : StorageRoot) (s t : Store)
-        (old new : Option (List ℕ)) (limits : MadeLimits) (status : ℕ) (n : Note)
-        (stored : Vec ℕ Global)
-        → Performs known root s t old new (deed.Run limits) status n (Some stored) → (c : Cursor)
+        × ((n ≡ note.OutOfMemory) × ((call.after ≡ call.before) × (call.new ≡ call.old)))) }
+    ensures cycle { (call : Call) (known : Option (Option (List ℕ))) (limits : MadeLimits)
+        (count : ℕ) (status : ℕ) (n : Note) (stored : Option (Vec ℕ Global))
+        → Performs call known (deed.Cycle limits count) status n stored → ((ran : CycleEnd)
+        × (CyclesTo call (map limits_of (replicate count limits)) ran.cursor ran.found ran.end
+        × ((ran.runs ≡ ran.cursor.runs) × ((ran.spent ≡ ran.cursor.spent)
+        × (IsCycleNote ran.runs ran.spent ran.found ran.end status n × (IsUnfailing call
+        → HeadlineOf call (map limits_of (replicate count limits)) ran.runs ran.end)))))) ⊎ ((status
+        ≡ 3) × ((n ≡ note.OutOfMemory) × ((call.after ≡ call.before) × (call.new ≡ call.old)))) }
+    ensures run { (call : Call) (known : Option (Option (List ℕ))) (limits : MadeLimits)
+        (status : ℕ) (n : Note) (stored : Vec ℕ Global)
+        → Performs call known (deed.Run limits) status n (Some stored) → (c : Cursor)
         × ((ran : RunEnd) × (BeginsWith known c
-        × (RunsFrom root s t old new c (limits_of limits) ran.cursor ran.spent ran.files ran.found
-        ran.end × ((t.failures ≡ s.failures
-        → RunsCleanly root old new c (limits_of limits) ran.spent ran.files ran.found ran.end)
+        × (RunsFrom call c (limits_of limits) ran × ((IsUnfailing call
+        → RunsCleanly call c (limits_of limits) ran.spent ran.files ran.found ran.end)
         × ((stored.items ≡ cursor_text ran.cursor)
         × IsRunNote ran.cursor ran.spent ran.found ran.end status n))))) }
-    ensures show { (known : Option (Option (List ℕ))) (root : StorageRoot) (s t : Store)
-        (old new : Option (List ℕ)) (status : ℕ) (n : Note) (stored : Option (Vec ℕ Global))
-        → Performs known root s t old new deed.Show status n stored → t ≡ s }
+    ensures show { (call : Call) (known : Option (Option (List ℕ))) (status : ℕ) (n : Note)
+        (stored : Option (Vec ℕ Global)) → Performs call known deed.Show status n stored
+        → call.after ≡ call.before }
 {}

@@ -1,20 +1,16 @@
 //! One run: the items of a part above the cursor's place, as far as the limits allow.
-ghost use Rattle.std.specs.Prelude.{◌≡◌, ◌≢◌, ◌↔◌, ◌+◌, ◌≤◌, ◌^◌, Option, true, false, IsTrue};
+ghost use Rattle.std.specs.Prelude.{◌≡◌, ◌≢◌, ◌≤◌, ◌^◌, true, false};
 ghost use Rattle.std.specs.Prelude.{IfErr, IfOk};
-ghost use Rattle.ocfl_tree.specs.Place.{Place as Spot};
-ghost use Rattle.ocfl_tree.specs.StorageRoot.{StorageRoot};
-ghost use Rattle.ocfl_item.specs.Judging.{HasShortFiles};
 ghost use Rattle.ocfl_cursor.specs.Cursor.{IsShortPlace};
 ghost use Rattle.ocfl_cursor.specs.Meter.{IsMeter, MayStart};
-ghost use Rattle.ocfl_cursor.specs.Moves.{after_run};
 ghost use Rattle.ocfl_cursor.specs.State.{state_of};
+ghost use Rattle.ocfl_scrub.specs.Call.{IsUnfailing, WhereTold};
 ghost use Rattle.ocfl_scrub.specs.Taking.{WritesLines};
 ghost use Rattle.ocfl_scrub.specs.Beginning.{Begins, IsShort};
 ghost use Rattle.ocfl_scrub.specs.Running.{IsPaid, IsWorn, RunEndsWithin, RunsCleanly};
-ghost use Rattle.ocfl_scrub.specs.Running.{RunsCleanlyWithin, RunsFrom, RunsFromWithin, begun};
-ghost use Rattle.ocfl_scrub.specs.Running.{limits_of, state_after};
+ghost use Rattle.ocfl_scrub.specs.Running.{RunsCleanlyWithin, RunsFrom, RunsFromWithin};
+ghost use Rattle.ocfl_scrub.specs.Running.{RunsOnAnyStore, limits_of, state_after};
 ghost use Rattle.ocfl_scrub.specs.Starting.{part_of};
-ghost use Rattle.ocfl_tree.specs.Store.{IfTold};
 
 use crate::part::{Part, set_out};
 use crate::taking::{either, take_item};
@@ -72,31 +68,12 @@ pub fn run<T: Tree, W: Write>(
     block: &mut Block,
     out: &mut W,
 ) -> RunEnd
-    // Of every store.
-    ensures whole { result.end ≢ RunStatus.Stopped Fault.Broken }
-    ensures worn { (result.end ≡ RunStatus.Worn) ↔ IsWorn cursor }
-    ensures worn_cursor { result.end ≡ RunStatus.Worn → result.cursor ≡ cursor }
-    ensures worn_figures { result.end ≡ RunStatus.Worn
-        → (result.spent ≡ 0) × (result.files ≡ 0) × (result.found ≡ false) }
-    ensures worn_silent { result.end ≡ RunStatus.Worn
-        → (store.new ≡ store.old) × (out.new ≡ out.old) }
-    ensures cursor { result.end ≢ RunStatus.Worn
-        → (last : Option Spot) × (result.cursor
-        ≡ after_run (begun cursor) result.spent result.files (state_after result.end last)) }
-    ensures paid { IsPaid (limits_of limits) result.spent result.files }
-    ensures overrun { result.spent ≤ limits.budget + 2 ^ 62 }
-    ensures lines { result.end ≢ RunStatus.Stopped Fault.Output
-        → WritesLines (W.contents out.old) (W.contents out.new) result.found }
-
-    // Of a store that tells its tree.
-    ensures told { IfTold T.told (T.state store.old) (λ root.
-        HasShortFiles root → result.end ≢ RunStatus.Worn →
-        RunsFrom root (T.state store.old) (T.state store.new) (W.contents out.old)
-        (W.contents out.new) cursor (limits_of limits) result.cursor result.spent result.files
-        result.found result.end) }
-    ensures unfailing { IfTold T.told (T.state store.old) (λ root.
-        HasShortFiles root → (T.state store.new).failures ≡ (T.state store.old).failures →
-        RunsCleanly root (W.contents out.old) (W.contents out.new) cursor
+    ensures any_store { RunsOnAnyStore W.contents store.old store.new out.old out.new
+        cursor limits result }
+    ensures told { WhereTold T.told T.state W.contents store.old store.new out.old out.new (λ call.
+        result.end ≢ RunStatus.Worn → RunsFrom call cursor (limits_of limits) result) }
+    ensures unfailing { WhereTold T.told T.state W.contents store.old store.new out.old out.new
+        (λ call. IsUnfailing call → RunsCleanly call cursor
         (limits_of limits) result.spent result.files result.found result.end) }
 {
     let whole = Part::whole(alloc);
@@ -118,32 +95,14 @@ pub fn run_part<T: Tree, W: Write>(
     block: &mut Block,
     out: &mut W,
 ) -> RunEnd
-    // Of every store.
-    ensures whole { result.end ≢ RunStatus.Stopped Fault.Broken }
-    ensures worn { (result.end ≡ RunStatus.Worn) ↔ IsWorn cursor }
-    ensures worn_cursor { result.end ≡ RunStatus.Worn → result.cursor ≡ cursor }
-    ensures worn_figures { result.end ≡ RunStatus.Worn
-        → (result.spent ≡ 0) × (result.files ≡ 0) × (result.found ≡ false) }
-    ensures worn_silent { result.end ≡ RunStatus.Worn
-        → (store.new ≡ store.old) × (out.new ≡ out.old) }
-    ensures cursor { result.end ≢ RunStatus.Worn
-        → (last : Option Spot) × (result.cursor
-        ≡ after_run (begun cursor) result.spent result.files (state_after result.end last)) }
-    ensures paid { IsPaid (limits_of limits) result.spent result.files }
-    ensures overrun { result.spent ≤ limits.budget + 2 ^ 62 }
-    ensures lines { result.end ≢ RunStatus.Stopped Fault.Output
-        → WritesLines (W.contents out.old) (W.contents out.new) result.found }
-
-    // Of a store that tells its tree.
-    ensures told { IfTold T.told (T.state store.old) (λ root.
-        HasShortFiles root → result.end ≢ RunStatus.Worn →
-        RunsFromWithin root (T.state store.old) (T.state store.new) (W.contents out.old)
-        (W.contents out.new) (part_of part.now) cursor (limits_of limits) result.cursor
-        result.spent result.files result.found result.end) }
-    ensures unfailing { IfTold T.told (T.state store.old) (λ root.
-        HasShortFiles root → (T.state store.new).failures ≡ (T.state store.old).failures →
-        RunsCleanlyWithin root (W.contents out.old) (W.contents out.new) (part_of part.now)
-        cursor (limits_of limits) result.spent result.files result.found result.end) }
+    ensures any_store { RunsOnAnyStore W.contents store.old store.new out.old out.new
+        cursor limits result }
+    ensures told { WhereTold T.told T.state W.contents store.old store.new out.old out.new (λ call.
+        result.end ≢ RunStatus.Worn →
+        RunsFromWithin call (part_of part.now) cursor (limits_of limits) result) }
+    ensures unfailing { WhereTold T.told T.state W.contents store.old store.new out.old out.new
+        (λ call. IsUnfailing call → RunsCleanlyWithin call (part_of part.now) cursor
+        (limits_of limits) result.spent result.files result.found result.end) }
 {
     let (start, from) = match begin(cursor) {
         Ok(begun) => begun,
@@ -244,10 +203,8 @@ fn pass_from<T: Tree, W: Write>(
     ensures fits { result.spent ≤ 2 ^ 63 }
     ensures lines { result.end ≢ RunStatus.Stopped Fault.Output
         → WritesLines (W.contents out.old) (W.contents out.new) result.found }
-    ensures told { IfTold T.told (T.state store.old) (λ root.
-        HasShortFiles root →
-        RunEndsWithin root (T.state store.old) (T.state store.new) (W.contents out.old)
-        (W.contents out.new) (part_of part.now) from result.last
+    ensures told { WhereTold T.told T.state W.contents store.old store.new out.old out.new (λ call.
+        RunEndsWithin call (part_of part.now) from result.last
         (limits_of limits) result.spent result.files result.found result.end) }
 {
     let mut meter = Meter::new(limits);

@@ -3,8 +3,6 @@ ghost use Rattle.std.specs.Prelude.{◌≡◌, ◌≢◌, ◌⊎◌, ◌≤◌, 
 ghost use Rattle.std.specs.Prelude.{length};
 ghost use Rattle.std.specs.declared.alloc.Global.{Global};
 ghost use Rattle.ocfl_tree.specs.Place.{Place};
-ghost use Rattle.ocfl_tree.specs.StorageRoot.{StorageRoot};
-ghost use Rattle.ocfl_tree.specs.Store.{Store};
 ghost use Rattle.ocfl_tree.specs.declared.store.Opening.{Opening};
 ghost use Rattle.ocfl_audit.specs.Audit.{audit};
 ghost use Rattle.ocfl_audit.specs.Parts.{branch, within};
@@ -17,6 +15,7 @@ ghost use Rattle.ocfl_cursor.specs.declared.ends.PartEnds.{PartEnds};
 ghost use Rattle.ocfl_cursor.specs.declared.refused.PartRefused.{PartRefused};
 ghost use Rattle.ocfl_cursor.specs.declared.refused.PartRefused.TheVariants as refused;
 ghost use Rattle.ocfl_deed.specs.declared.deed.Deed.{Deed};
+ghost use Rattle.ocfl_scrub.specs.Call.{Call};
 ghost use Rattle.ocfl_scrub.specs.Performing.{HandsBack, IsSaid, Performs, RefusesRightly};
 ghost use Rattle.ocfl_scrub.specs.Scoping.{BranchAudited, HandsBackIn, IsSaidIn};
 ghost use Rattle.ocfl_scrub.specs.Scoping.{PartRefusesRightly, PerformsIn, RefusesRightlyIn};
@@ -32,23 +31,21 @@ pub fn the_whole_is_no_other_scope()
     ensures handed_back { (d : Deed) (known : Option (Option (List ℕ))) (status : ℕ) (n : Note)
         (stored : Option (Vec ℕ Global)) → HandsBackIn d scope.Whole known status n stored
         → HandsBack known d status n stored }
-    ensures told { (d : Deed) (known : Option (Option (List ℕ))) (root : StorageRoot)
-        (s t : Store) (old new : Option (List ℕ)) (status : ℕ) (n : Note)
-        (stored : Option (Vec ℕ Global))
-        → PerformsIn d scope.Whole known root s t old new status n stored
-        → Performs known root s t old new d status n stored }
+    ensures told { (call : Call) (d : Deed) (known : Option (Option (List ℕ))) (status : ℕ)
+        (n : Note) (stored : Option (Vec ℕ Global))
+        → PerformsIn call d scope.Whole known status n stored
+        → Performs call known d status n stored }
 {}
 
 /// If the audit of a branch did not stop, it reports the branch as empty exactly if it has no item.
 pub fn an_empty_branch_has_no_item()
-    ensures empty { (root : StorageRoot) (s t : Store) (old new : Option (List ℕ)) (p : Place)
-        (status : ℕ) → BranchAudited root s t old new p status note.EmptyBranch
-        → (trail : List Opening) × ((t.openings ≡ s.openings ++ trail)
-        × (within (branch p) (audit root (unread_of root trail)) ≡ [])) }
-    ensures some { (root : StorageRoot) (s t : Store) (old new : Option (List ℕ)) (p : Place)
-        (status : ℕ) → BranchAudited root s t old new p status note.Nothing
-        → (trail : List Opening) × ((t.openings ≡ s.openings ++ trail)
-        × (within (branch p) (audit root (unread_of root trail)) ≢ [])) }
+    ensures empty { (call : Call) (p : Place) (status : ℕ)
+        → BranchAudited call p status note.EmptyBranch → (trail : List Opening)
+        × ((call.after.openings ≡ call.before.openings ++ trail)
+        × (within (branch p) (audit call.root (unread_of call.root trail)) ≡ [])) }
+    ensures some { (call : Call) (p : Place) (status : ℕ) → BranchAudited call p status note.Nothing
+        → (trail : List Opening) × ((call.after.openings ≡ call.before.openings ++ trail)
+        × (within (branch p) (audit call.root (unread_of call.root trail)) ≢ [])) }
 {}
 
 /// A run of a part refuses its own cursor, of at most 67,108,864 bytes, only for want of memory. It

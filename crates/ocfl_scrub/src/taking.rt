@@ -1,13 +1,12 @@
 //! One item: it is judged, and its lines go out as one piece.
-ghost use Rattle.std.specs.Prelude.{◌≡◌, ◌≢◌, ◌⊎◌, ◌||◌, ℕ, IsTrue, IfErr, IfOk, map, MatchResult};
+ghost use Rattle.std.specs.Prelude.{◌≡◌, ◌≢◌, ◌⊎◌, ◌||◌, IfErr, IfOk, map, MatchResult};
 ghost use Rattle.std.specs.List.{list_any};
-ghost use Rattle.ocfl_tree.specs.StorageRoot.{StorageRoot};
 ghost use Rattle.ocfl_report.specs.Line.{line_of, is_finding_code};
 ghost use Rattle.ocfl_report.specs.Text.{lines_text};
-ghost use Rattle.ocfl_item.specs.Judging.{CostFits, HasShortFiles};
+ghost use Rattle.ocfl_item.specs.Judging.{CostFits};
 ghost use Rattle.ocfl_item.specs.Pending.{IsPending};
+ghost use Rattle.ocfl_scrub.specs.Call.{WhereTold};
 ghost use Rattle.ocfl_scrub.specs.Taking.{Misses, Takes, WritesLines};
-ghost use Rattle.ocfl_tree.specs.Store.{IfTold};
 
 use ocfl_digest::Block;
 use ocfl_report::{Line, write_all_of};
@@ -46,12 +45,10 @@ pub(crate) fn take_item<T: Tree, W: Write>(
     ensures unwritten { IfErr result (λ why. why ≢ Fault.Output → out.new ≡ out.old) }
 
     // Of a store that tells its tree.
-    ensures told { IfTold T.told (T.state store.old) (λ root.
-        HasShortFiles root → IsPending root pending → MatchResult result
-        (λ taken. Takes root (T.state store.old) (T.state store.new) (W.contents out.old)
-        (W.contents out.new) pending.place taken.cost taken.found)
-        (λ why. Misses root (T.state store.old) (T.state store.new) (W.contents out.old)
-        (W.contents out.new) pending.place why)) }
+    ensures told { WhereTold T.told T.state W.contents store.old store.new out.old out.new (λ call.
+        IsPending call.root pending → MatchResult result
+        (λ taken. Takes call pending.place taken.cost taken.found)
+        (λ why. Misses call pending.place why)) }
 {
     // A place that is kept first cannot be wanting once the lines have gone out.
     let Ok(place) = pending.place().try_clone() else {

@@ -8,4 +8,4 @@ returns-clause-told g c told root over short = record {
 }
 
 pub returns-clause-uncut : goal.returns-clause-uncut
-returns-clause-uncut g c whole = (c.audit.result.found, c.audit.ensures.lines (c.describe_audit.ensures.uncut whole))
+returns-clause-uncut g c whole = (c.audit.result.found, c.audit.ensures.any_store.lines (c.describe_audit.ensures.uncut whole))

@@ -5,6 +5,7 @@ use Rattle.ocfl_tree.specs.Store.{Store}
 use Rattle.std.specs.Prelude.{List, ℕ, Option}
 use Rattle.ocfl_report.specs.Text.{place_text}
 use Rattle.ocfl_report.proofs.PlaceTexts.{place_text_determines}
+use Rattle.ocfl_scrub.specs.Call.{call_of}
 use Rattle.ocfl_scrub.specs.Checking.{CheckEnds}
 use Rattle.ocfl_scrub.specs.Noting.{IsCheckNote, ChecksWithNote}
 use Rattle.ocfl_scrub.specs.declared.checking.CheckEnd.{CheckEnd}
@@ -13,10 +14,10 @@ use Rattle.ocfl_scrub.proofs.command.checked.Goals as goal
 
 -- a check of the place that was read is one of the place that was meant
 checked_there : (root : StorageRoot) (s t : Store) (old new : Option (List ℕ)) (p q : Place) (ran : CheckEnd) (status : ℕ) (n : Note)
-    → q ≡ p → CheckEnds root s t old new q ran.item ran.found ran.end → IsCheckNote ran.item ran.found ran.end status n → ChecksWithNote root s t old new p status n
+    → q ≡ p → CheckEnds (call_of root s t old new) q ran.item ran.found ran.end → IsCheckNote ran.item ran.found ran.end status n → ChecksWithNote (call_of root s t old new) p status n
 checked_there root s t old new p q ran status n e checks says = record {
   ran = ran;
-  checks = subst (λ x. CheckEnds root s t old new x ran.item ran.found ran.end) e checks;
+  checks = subst (λ x. CheckEnds (call_of root s t old new) x ran.item ran.found ran.end) e checks;
   says = says;
 }
 

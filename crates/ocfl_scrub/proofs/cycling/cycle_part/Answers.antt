@@ -1,4 +1,4 @@
-use Rattle.std.proofs.Common.{refl, sym, ◌∙◌, ap, ◌+◌, map, arith}
+use Rattle.std.proofs.Common.{refl, sym, ◌∙◌, ap, ◌+◌, map, arith, rules}
 use Rattle.ocfl_scrub.specs.Running.{limits_of}
 use Rattle.ocfl_scrub.specs.Starting.{part_of}
 use Rattle.ocfl_scrub.proofs.TakeLaws.{nothing_written}
@@ -27,9 +27,19 @@ returns-in_default-clause-told g c told root over short =
     let e = c.cycle_end.ensures in
     cycle_said root (part_of c.args.part.now) _ _ _ _ _ _ _ _ _ _ _ e.cursor e.found e.end (goes_unbegun root (part_of c.args.part.now) _ _ _ _ _ _ _ _ (c.loop-one.invariant.told told root over short) (omega (arith, c.in_default.ensures.further, c.loop-one.invariant.counts)))
 
-pub returns-in-Ended-clause-lines : goal.returns-in-Ended-clause-lines
-returns-in-Ended-clause-lines g c wrote =
-    lines_said _ _ _ _ c.cycle_end-in-Ended.ensures.found (lines_then _ _ _ _ _ _ c.loop-one.invariant.lines (c.run_part-reached.ensures.lines (ended_wrote _ c.in-Ended.is)) c.either-found.ensures)
+pub returns-in-Ended-clause-any_store : goal.returns-in-Ended-clause-any_store
+returns-in-Ended-clause-any_store g c = record {
+  unbroken = search rules;
+  none = search rules;
+  counted = search rules;
+  made = search rules;
+  first = search rules;
+  runs_are = search rules;
+  spent_is = search rules;
+  files_are = search rules;
+  ended_is = search rules;
+  lines = λ wrote. lines_said _ _ _ _ c.cycle_end-in-Ended.ensures.found (lines_then _ _ _ _ _ _ c.loop-one.invariant.lines (c.run_part-reached.ensures.any_store.lines (ended_wrote _ c.in-Ended.is)) c.either-found.ensures);
+}
 
 pub returns-in-Ended-clause-told : goal.returns-in-Ended-clause-told
 returns-in-Ended-clause-told g c told root over short =
@@ -38,23 +48,34 @@ returns-in-Ended-clause-told g c told root over short =
     let next = limits_next c.args.limits.now c.loop-one.one-index c.one-item.result c.loop-one-test.true c.one-item.is in
     let took = c.run_part-reached.ensures.told told root (goes_over root (part_of c.args.part.now) _ _ _ _ _ _ _ _ goes) short (ended_not_worn _ c.in-Ended.is) in
     cycle_said root (part_of c.args.part.now) _ _ _ _ _ _ _ _ _ _ _ e.cursor e.found e.end
-    (turn_ended root (part_of c.args.part.now) _ _ _ _ _ _ _ _ goes _ _ _ _ _ _ _ _ _ _ _ next c.in-Ok.ensures.same took c.either-found.ensures c.in-Ended.is)
+    (turn_ended root (part_of c.args.part.now) _ _ _ _ _ _ _ _ goes _ _ _ _ _ _ _ next c.in-Ok.ensures.same took c.either-found.ensures c.in-Ended.is)
 
 pub returns-in-Ended-clause-headline : goal.returns-in-Ended-clause-headline
 returns-in-Ended-clause-headline g c told root over short same =
     let i = c.loop-one.invariant in
     let ran = c.run_part-reached.result in
-    let moved = c.run_part-reached.ensures.cursor (ended_not_worn _ c.in-Ended.is) in
+    let moved = c.run_part-reached.ensures.any_store.cursor (ended_not_worn _ c.in-Ended.is) in
     let e = c.cycle_end-in-Ended.ensures in
     let counted = e.runs ∙ sym (ap (λ x. x.runs) e.cursor ∙ one_run_more c.loop-one.cursor c.in-Ok.begun ran.cursor ran.spent ran.files ran.end moved.0 c.in-Ok.ensures.same i.unended moved.1 _ i.counts) in
     let end = c.cycle_end-in-Ended.result in
     headline_of_part root (part_of c.args.part.now) (g.T.Tree.state c.args.store.now) (g.T.Tree.state c.run_part-reached.new.store) (g.W.Write.contents c.args.out.now) (g.W.Write.contents c.run_part-reached.new.out) (map limits_of c.args.limits.now) end.cursor end.found end.end end.runs
     counted (returns-in-Ended-clause-told g c told root over short) same
 
-pub returns-in-Stopped-clause-lines : goal.returns-in-Stopped-clause-lines
-returns-in-Stopped-clause-lines g c wrote =
+pub returns-in-Stopped-clause-any_store : goal.returns-in-Stopped-clause-any_store
+returns-in-Stopped-clause-any_store g c =
     let e = c.cycle_end-in-Stopped.ensures in
-    lines_said _ _ _ _ e.found (lines_then _ _ _ _ _ _ c.loop-one.invariant.lines (c.run_part-reached.ensures.lines (stopped_wrote _ _ _ c.in-Stopped.is e.end wrote)) c.either-found.ensures)
+    record {
+      unbroken = search rules;
+      none = search rules;
+      counted = search rules;
+      made = search rules;
+      first = search rules;
+      runs_are = search rules;
+      spent_is = search rules;
+      files_are = search rules;
+      ended_is = search rules;
+      lines = λ wrote. lines_said _ _ _ _ e.found (lines_then _ _ _ _ _ _ c.loop-one.invariant.lines (c.run_part-reached.ensures.any_store.lines (stopped_wrote _ _ _ c.in-Stopped.is e.end wrote)) c.either-found.ensures);
+    }
 
 pub returns-in-Stopped-clause-told : goal.returns-in-Stopped-clause-told
 returns-in-Stopped-clause-told g c told root over short =
@@ -63,14 +84,14 @@ returns-in-Stopped-clause-told g c told root over short =
     let next = limits_next c.args.limits.now c.loop-one.one-index c.one-item.result c.loop-one-test.true c.one-item.is in
     let took = c.run_part-reached.ensures.told told root (goes_over root (part_of c.args.part.now) _ _ _ _ _ _ _ _ goes) short (stopped_not_worn _ _ c.in-Stopped.is) in
     cycle_said root (part_of c.args.part.now) _ _ _ _ _ _ _ _ _ _ _ e.cursor e.found e.end
-    (turn_stopped root (part_of c.args.part.now) _ _ _ _ _ _ _ _ goes _ _ _ _ _ _ _ _ _ _ _ next c.in-Ok.ensures.same took c.either-found.ensures _ c.in-Stopped.is)
+    (turn_stopped root (part_of c.args.part.now) _ _ _ _ _ _ _ _ goes _ _ _ _ _ _ _ next c.in-Ok.ensures.same took c.either-found.ensures _ c.in-Stopped.is)
 
 pub loop-one-preserved : goal.loop-one-preserved
 loop-one-preserved g c =
     let i = c.loop-one.invariant in
     let ran = c.run_part-reached.result in
     let going = c.in-Spent.is in
-    let moved = c.run_part-reached.ensures.cursor (spent_not_worn _ going) in
+    let moved = c.run_part-reached.ensures.any_store.cursor (spent_not_worn _ going) in
     record {
       counted = ap (λ n. n + 1) i.counted;
       counts = one_run_more c.loop-one.cursor c.in-Ok.begun ran.cursor ran.spent ran.files ran.end moved.0 c.in-Ok.ensures.same i.unended moved.1 _ i.counts;
@@ -80,12 +101,12 @@ loop-one-preserved g c =
       none_found = λ e. absurd (omega (arith, e));
       silent = λ e. absurd (omega (arith, e));
       untouched = λ e. absurd (omega (arith, e));
-      lines = lines_then _ _ _ _ _ _ i.lines (c.run_part-reached.ensures.lines (spent_wrote _ going)) c.either-found.ensures;
+      lines = lines_then _ _ _ _ _ _ i.lines (c.run_part-reached.ensures.any_store.lines (spent_wrote _ going)) c.either-found.ensures;
       told = λ told root over short.
           let goes = i.told told root over short in
           let next = limits_next c.args.limits.now c.loop-one.one-index c.one-item.result c.loop-one-test.true c.one-item.is in
           let took = c.run_part-reached.ensures.told told root (goes_over root (part_of c.args.part.now) _ _ _ _ _ _ _ _ goes) short (spent_not_worn _ going) in
-          turn_spent root (part_of c.args.part.now) _ _ _ _ _ _ _ _ goes _ _ _ _ _ _ _ _ _ _ _ next c.in-Ok.ensures.same took c.either-found.ensures going;
+          turn_spent root (part_of c.args.part.now) _ _ _ _ _ _ _ _ goes _ _ _ _ _ _ _ next c.in-Ok.ensures.same took c.either-found.ensures going;
     }
 
 pub returns-clause-told : goal.returns-clause-told

@@ -1,5 +1,5 @@
 use Rattle.std.proofs.Common.{refl}
-use Rattle.ocfl_scrub.proofs.ScopeLaws.{as_whole}
+use Rattle.ocfl_scrub.proofs.ScopeLaws.{as_asked, as_whole}
 use Rattle.ocfl_scrub.proofs.part_performing.perform_part.Goals as goal
 
 pub returns-in-Whole-clause-told : goal.returns-in-Whole-clause-told
@@ -21,3 +21,7 @@ returns-in-Check-clause-told g c told root over short =
 pub returns-in-Cycle-clause-told : goal.returns-in-Cycle-clause-told
 returns-in-Cycle-clause-told g c told root over short =
     as_whole _ _ _ _ _ root _ _ _ _ _ _ _ c.in-Cycle.is refl (λ h. h) (c.perform-in-Cycle.ensures.told told root over short)
+
+pub returns-in-Part-scope-clause-told : goal.returns-in-Part-scope-clause-told
+returns-in-Part-scope-clause-told g c told root over short =
+    as_asked _ _ _ _ _ root _ _ _ _ _ _ _ c.in-Run.is c.in-Part-scope.is (c.perform_part_run.ensures.told told root over short)

@@ -1,4 +1,4 @@
-use Rattle.std.proofs.Common.{◌≡◌, false, true}
+use Rattle.std.proofs.Common.{◌≡◌, false, true, rules}
 use Rattle.ocfl_scrub.specs.Running.{limits_of}
 use Rattle.ocfl_scrub.specs.Starting.{part_of}
 use Rattle.ocfl_scrub.proofs.MeterLaws.{paid_within}
@@ -12,8 +12,18 @@ unreachable-requires g c =
     let e : false ≡ true = c.in-None.ensures.keeps.1 (run_counted _ _ _ _ _ b.keeps b.room p.fits p.paid c.left_state-left.ensures.short) in
     cc
 
-pub returns-clause-overrun : goal.returns-clause-overrun
-returns-clause-overrun g c = paid_within (limits_of c.args.limits) _ _ c.pass_from-last.ensures.paid
+pub returns-clause-any_store : goal.returns-clause-any_store
+returns-clause-any_store g c = record {
+  unbroken = search rules;
+  worn = search rules;
+  worn_cursor = search rules;
+  worn_figures = search rules;
+  worn_silent = search rules;
+  cursor = search rules;
+  paid = search rules;
+  overrun = paid_within (limits_of c.args.limits) _ _ c.pass_from-last.ensures.paid;
+  lines = search rules;
+}
 
 pub returns-clause-told : goal.returns-clause-told
 returns-clause-told g c told root over short worked =

@@ -1,0 +1,65 @@
+-- What a call over a part looks at, behind the way down to where it begins.
+use Rattle.std.proofs.Common.{◌++◌, [], List, Option, None, refl, sym, subst, append-nil, ℕ}
+use Rattle.ocfl_tree.specs.Place.{Place}
+use Rattle.ocfl_tree.specs.StorageRoot.{StorageRoot}
+use Rattle.ocfl_tree.specs.Store.{Store}
+use Rattle.ocfl_tree.specs.declared.store.Opening.{Opening}
+use Rattle.ocfl_audit.specs.Parts.{Part}
+use Rattle.ocfl_item.specs.Looking.{IsFront}
+use Rattle.ocfl_item.specs.Auditing.{Audits, Fails}
+use Rattle.ocfl_item.specs.declared.fault.Fault.{Fault}
+use Rattle.ocfl_item.proofs.AuditingLaws.{audits_fail, audits_on}
+use Rattle.ocfl_walk.specs.WalkCalls.{GoesDown, GoDownFails}
+use Rattle.ocfl_scrub.specs.Call.{call_of}
+use Rattle.ocfl_scrub.specs.Starting.{entry, looked_in, read_in, LooksOver, StopsLooking}
+use Rattle.ocfl_scrub.proofs.WayOrder.{listed_once_in, read_once_in}
+
+all_front : (xs : List Place) → IsFront xs xs
+all_front xs = ([], sym (append-nil xs))
+
+module _ (root : StorageRoot) (part : Part) (s t u : Store) (old new : Option (List ℕ)) (from : Option Place) (g : GoesDown root s t (entry part from)) where
+  pub looks_over : (to : Option Place) (done : List Place) (os : List Opening) → Audits root t u done (looked_in root part from to) (read_in root part from to) os → LooksOver (call_of root s u old new) part from to done (g.trail ++ os)
+  looks_over to done os k = record {
+    down = g.listed;
+    held = g.heads;
+    audits = audits_on root s t u [] done g.listed (looked_in root part from to) g.heads (read_in root part from to) g.trail os g.audits k;
+    down_front = g.listed_front;
+    held_front = g.heads_front;
+    lists_once = listed_once_in root part from to g.listed (looked_in root part from to) g.listed_front (all_front _);
+    reads_once = read_once_in root part from to g.heads (read_in root part from to) g.heads_front (all_front _);
+  }
+
+  pub stops_looking : (why : Fault) (begun listed heads : List Place) (os : List Opening) → Fails root t u begun listed heads os why → IsFront listed (looked_in root part from None) → IsFront heads (read_in root part from None)
+      → StopsLooking (call_of root s u old new) part from begun (g.trail ++ os) why
+  stops_looking why begun listed heads os k listed_front heads_front = record {
+    down = g.listed;
+    listed = listed;
+    held = g.heads;
+    heads = heads;
+    fails = audits_fail root s t u [] begun g.listed listed g.heads heads g.trail os why g.audits k;
+    down_front = g.listed_front;
+    listed_front = listed_front;
+    held_front = g.heads_front;
+    heads_front = heads_front;
+    lists_once = listed_once_in root part from None g.listed listed g.listed_front listed_front;
+    reads_once = read_once_in root part from None g.heads heads g.heads_front heads_front;
+  }
+
+-- it did not come to where it begins
+pub stops_above : (root : StorageRoot) (part : Part) (s t : Store) (old new : Option (List ℕ)) (from : Option Place) (why : Fault) (g : GoDownFails root s t (entry part from) why) → StopsLooking (call_of root s t old new) part from [] g.trail why
+stops_above root part s t old new from why g =
+    let no_directory : IsFront [] (looked_in root part from None) = (looked_in root part from None, refl) in
+    let no_head : IsFront [] (read_in root part from None) = (read_in root part from None, refl) in
+    record {
+      down = g.listed;
+      listed = [];
+      held = g.heads;
+      heads = [];
+      fails = subst (λ ls. Fails root s t [] ls (g.heads ++ []) g.trail why) (sym (append-nil g.listed)) (subst (λ hs. Fails root s t [] g.listed hs g.trail why) (sym (append-nil g.heads)) g.fails);
+      down_front = g.listed_front;
+      listed_front = no_directory;
+      held_front = g.heads_front;
+      heads_front = no_head;
+      lists_once = listed_once_in root part from None g.listed [] g.listed_front no_directory;
+      reads_once = read_once_in root part from None g.heads [] g.heads_front no_head;
+    }

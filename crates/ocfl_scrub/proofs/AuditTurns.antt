@@ -4,13 +4,11 @@ use Rattle.std.specs.Prelude.{◌||◌, IfSome}
 use Rattle.ocfl_tree.specs.Place.{Place}
 use Rattle.ocfl_tree.specs.StorageRoot.{StorageRoot}
 use Rattle.ocfl_tree.specs.Store.{Store}
-use Rattle.ocfl_audit.specs.Between.{IsBeyond}
-use Rattle.ocfl_audit.specs.Due.{due}
 use Rattle.ocfl_audit.specs.Parts.{Part}
 use Rattle.ocfl_walk.specs.Ends.{is_past}
 use Rattle.ocfl_walk.specs.WalkCalls.{GoesDown, FailsOut}
 use Rattle.ocfl_item.specs.Pending.{IsPending}
-use Rattle.ocfl_walk.specs.Walks.{IsLive, Stands, Gives, GivesOut}
+use Rattle.ocfl_walk.specs.Walks.{IsLive, Stands, GivesOut}
 use Rattle.ocfl_item.specs.Ways.{IsWayFault}
 use Rattle.ocfl_item.specs.declared.fault.Fault.{Fault}
 use Rattle.ocfl_item.specs.declared.pending.Pending.{Pending}
@@ -24,8 +22,8 @@ use Rattle.ocfl_scrub.proofs.AuditsJoined.{audits_over}
 use Rattle.ocfl_scrub.proofs.BetweenLaws.{HasGoneOn, gone_self, gone_next}
 use Rattle.ocfl_scrub.proofs.Passing.{Passes}
 use Rattle.ocfl_scrub.proofs.AuditLaws.{finish_part, halt_part}
-use Rattle.ocfl_scrub.proofs.PassLaws.{passes_none, passes_over, passes_took, passes_missed, passes_lost, passes_finish, all_done, due_beyond, last_append}
-use Rattle.ocfl_scrub.proofs.LoopLaws.{IsUnderWay, GivesNext, is_in_front, walked_over}
+use Rattle.ocfl_scrub.proofs.PassLaws.{passes_none, passes_over, passes_took, passes_missed, passes_lost, passes_finish, all_done, last_append}
+use Rattle.ocfl_scrub.proofs.LoopLaws.{IsUnderWay, GivesNext, GivesItem, gives_item, walked_over}
 
 -- from s to t a walk went down to where a part begins, the items from there on were taken, and the walk stands after the last of them
 pub record HasTaken (root : StorageRoot) (part : Part) (s t : Store) (old new : Option (List ℕ)) (walk : Walk) (last : Option Place) (finding : Bool) : Type 0 where
@@ -61,14 +59,8 @@ module _ {root : StorageRoot} {s t : Store} {old mid : Option (List ℕ)} {walk 
         (passes_finish root (end_of part) h.begun t u old mid (stand root part None) h.stood finding h.beyond h.passes gives.0 gives.1) (h.last_is ∙ ap (last_of None) all)
 
     module _ {q : Pending} (is : o ≡ Some q) (before : IfSome o (λ p. is_past (end_of part) p.place ≡ false)) (v : Store) (new : Option (List ℕ)) where
-      gives : Gives root t u h.stood next (Some q)
-      gives = subst (GivesOut root t u h.stood (end_of part) next) is (gave (passes_over h.passes) way.live h.stood h.stands)
-
-      above : IsBeyond h.stood q.place
-      above = due_beyond root h.stood q.place (due root (Some q.place)) gives.3
-
-      in_front : is_past (end_of part) q.place ≡ false
-      in_front = is_in_front (end_of part) is before
+      item : GivesItem root (end_of part) t u h.stood next q
+      item = gives_item root (end_of part) t u walk next h.stood _ _ gave (passes_over h.passes) way.live h.stands is before
 
       pub audit_took : (place : Place) (cost : ℕ) (more either : Bool) → place ≡ q.place → either ≡ (finding || more) → (u.tree ≡ root → IsPending root q → Takes (call_of root u v mid new) q.place cost more)
           → HasTaken root part s v old new next (Some place) either
@@ -77,16 +69,16 @@ module _ {root : StorageRoot} {s t : Store} {old mid : Option (List ℕ)} {walk 
         begun = h.begun;
         stood = Some q.place;
         down = h.down;
-        stands = gives.1;
-        beyond = gone_next (end_of part) (stand root part None) h.stood q.place h.beyond above in_front;
-        passes = passes_took root (end_of part) h.begun t u old mid (stand root part None) h.stood finding h.beyond h.passes q.place above gives.3 in_front gives.0 v new cost more either (takes (walked_over gives.0) gives.2) f;
+        stands = item.gives.1;
+        beyond = gone_next (end_of part) (stand root part None) h.stood q.place h.beyond item.above item.in_front;
+        passes = passes_took root (end_of part) h.begun t u old mid (stand root part None) h.stood finding h.beyond h.passes q.place item.above item.gives.3 item.in_front item.gives.0 v new cost more either (takes (walked_over item.gives.0) item.gives.2) f;
         last_is = sym (last_append None h.passes.done q.place);
       })
 
       pub audit_missed : (why : Fault) → (u.tree ≡ root → IsPending root q → Misses (call_of root u v mid new) q.place why) → AuditStopsWithin (call_of root s v old new) part last finding why
       unfolding passes_missed
       audit_missed why misses = halt_part root part s h.begun v old new h.stood last finding h.down why
-          (passes_missed root (end_of part) h.begun t u old mid (stand root part None) h.stood finding h.beyond h.passes q.place above gives.3 in_front gives.0 v new why (misses (walked_over gives.0) gives.2)) h.last_is
+          (passes_missed root (end_of part) h.begun t u old mid (stand root part None) h.stood finding h.beyond h.passes q.place item.above item.gives.3 item.in_front item.gives.0 v new why (misses (walked_over item.gives.0) item.gives.2)) h.last_is
 
   -- the walk did not get to its next item
   pub audit_lost : (why : Fault) → (IsLive walk → IsWayFault why) → (t.tree ≡ root → IsLive walk → (p : Option Place) → Stands root walk p → FailsOut root t u p (end_of part) why) → AuditStopsWithin (call_of root s u old mid) part last finding why

@@ -4,15 +4,17 @@ use Rattle.std.specs.Prelude.{◌||◌, IfSome}
 use Rattle.ocfl_tree.specs.Place.{Place}
 use Rattle.ocfl_tree.specs.StorageRoot.{StorageRoot}
 use Rattle.ocfl_tree.specs.Store.{Store}
+use Rattle.ocfl_audit.specs.Between.{IsBeyond}
+use Rattle.ocfl_audit.specs.Due.{due}
 use Rattle.ocfl_walk.specs.Ends.{is_past}
 use Rattle.ocfl_walk.specs.WalkCalls.{Walks}
-use Rattle.ocfl_walk.specs.Walks.{IsLive, Stands, GivesOut, GoesOn}
+use Rattle.ocfl_walk.specs.Walks.{IsLive, Stands, Gives, GivesOut, GoesOn}
 use Rattle.ocfl_item.specs.declared.pending.Pending.{Pending}
 use Rattle.ocfl_walk.specs.declared.end.End.{End}
 use Rattle.ocfl_walk.specs.declared.walk.Walk.{Walk}
 use Rattle.ocfl_scrub.specs.Taking.{WritesLines}
 use Rattle.ocfl_scrub.specs.Beginning.{IsShort}
-use Rattle.ocfl_scrub.proofs.PassLaws.{lines_then}
+use Rattle.ocfl_scrub.proofs.PassLaws.{lines_then, due_beyond}
 use Rattle.ocfl_scrub.proofs.TakeLaws.{nothing_written}
 
 -- ---- on every store
@@ -43,9 +45,21 @@ module _ {walk : Walk} {old mid : Option (List ℕ)} {finding : Bool} {o : Optio
 abbrev pub GivesNext : StorageRoot → End → Store → Store → Walk → Walk → Option Pending → Type 0
 GivesNext root e t u walk next o = t.tree ≡ root → IsLive walk → (last : Option Place) → Stands root walk last → GivesOut root t u last e next o
 
--- it lies before the end
-pub is_in_front : (e : End) {o : Option Pending} {q : Pending} → o ≡ Some q → IfSome o (λ p. is_past e p.place ≡ false) → is_past e q.place ≡ false
-is_in_front e is h = subst (λ x. IfSome x (λ p. is_past e p.place ≡ false)) is h
+-- an item that a walk gives: it lies behind where the walk stood, and before the end
+pub record GivesItem (root : StorageRoot) (e : End) (t u : Store) (stood : Option Place) (next : Walk) (q : Pending) : Type 0 where
+  pub gives : Gives root t u stood next (Some q)
+  pub above : IsBeyond stood q.place
+  pub in_front : is_past e q.place ≡ false
+
+pub gives_item : (root : StorageRoot) (e : End) (t u : Store) (walk next : Walk) (stood : Option Place) (o : Option Pending) (q : Pending) → GivesNext root e t u walk next o → t.tree ≡ root → IsLive walk → Stands root walk stood
+    → o ≡ Some q → IfSome o (λ p. is_past e p.place ≡ false) → GivesItem root e t u stood next q
+gives_item root e t u walk next stood o q gave over live stands is before =
+    let gives : Gives root t u stood next (Some q) = subst (GivesOut root t u stood e next) is (gave over live stood stands) in
+    record {
+      gives = gives;
+      above = due_beyond root stood q.place (due root (Some q.place)) gives.3;
+      in_front = subst (λ x. IfSome x (λ p. is_past e p.place ≡ false)) is before;
+    }
 
 pub walked_over : {root : StorageRoot} {s t : Store} {from to : Option Place} → Walks root s t from to → t.tree ≡ root
 walked_over w = w.audits.did.tree ∙ w.audits.over

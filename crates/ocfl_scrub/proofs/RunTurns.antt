@@ -4,8 +4,6 @@ use Rattle.std.specs.Prelude.{◌||◌, IfSome}
 use Rattle.ocfl_tree.specs.Place.{Place}
 use Rattle.ocfl_tree.specs.StorageRoot.{StorageRoot}
 use Rattle.ocfl_tree.specs.Store.{Store}
-use Rattle.ocfl_audit.specs.Between.{IsBeyond}
-use Rattle.ocfl_audit.specs.Due.{due}
 use Rattle.ocfl_audit.specs.Lines.{is_hashed}
 use Rattle.ocfl_audit.specs.Parts.{Part}
 use Rattle.ocfl_audit.specs.Runs.{Limits, files_of}
@@ -15,7 +13,7 @@ use Rattle.ocfl_walk.specs.Ends.{is_past}
 use Rattle.ocfl_walk.specs.WalkCalls.{GoesDown, FailsOut}
 use Rattle.ocfl_item.specs.Judging.{CostFits}
 use Rattle.ocfl_item.specs.Pending.{IsPending}
-use Rattle.ocfl_walk.specs.Walks.{IsLive, Stands, Gives, GivesOut}
+use Rattle.ocfl_walk.specs.Walks.{IsLive, Stands, GivesOut}
 use Rattle.ocfl_item.specs.Ways.{IsWayFault}
 use Rattle.ocfl_item.specs.declared.fault.Fault.{Fault}
 use Rattle.ocfl_item.specs.declared.pending.Pending.{Pending}
@@ -31,8 +29,8 @@ use Rattle.ocfl_scrub.proofs.Paying.{IsWithinBoth, Pays}
 use Rattle.ocfl_scrub.proofs.PayLaws.{pays_none, pays_over, pays_took, pays_missed, pays_lost, pays_up_to, pays_finish}
 use Rattle.ocfl_scrub.proofs.RunLaws.{ended, spent_all, stopped}
 use Rattle.ocfl_scrub.proofs.BetweenLaws.{HasGoneOn, gone_self, gone_next}
-use Rattle.ocfl_scrub.proofs.PassLaws.{passes_none, passes_took, passes_missed, passes_lost, all_done, due_beyond, last_append}
-use Rattle.ocfl_scrub.proofs.LoopLaws.{IsUnderWay, GivesNext, is_in_front, walked_over}
+use Rattle.ocfl_scrub.proofs.PassLaws.{passes_none, passes_took, passes_missed, passes_lost, all_done, last_append}
+use Rattle.ocfl_scrub.proofs.LoopLaws.{IsUnderWay, GivesNext, GivesItem, gives_item, walked_over}
 
 -- ---- on every store
 
@@ -85,22 +83,16 @@ module _ {root : StorageRoot} {s t : Store} {old mid : Option (List ℕ)} {walk 
         (pays_finish root (end_of part) h.begun t u old mid (stand root part from) h.stood l spent files finding h.beyond h.pays gives.0 gives.1) (h.last_is ∙ ap (last_of from) all)
 
     module _ {q : Pending} (is : o ≡ Some q) (before : IfSome o (λ p. is_past (end_of part) p.place ≡ false)) where
-      gives : Gives root t u h.stood next (Some q)
-      gives = subst (GivesOut root t u h.stood (end_of part) next) is (gave (pays_over h.pays) way.live h.stood h.stands)
-
-      above : IsBeyond h.stood q.place
-      above = due_beyond root h.stood q.place (due root (Some q.place)) gives.3
-
-      in_front : is_past (end_of part) q.place ≡ false
-      in_front = is_in_front (end_of part) is before
+      item : GivesItem root (end_of part) t u h.stood next q
+      item = gives_item root (end_of part) t u walk next h.stood _ _ gave (pays_over h.pays) way.live h.stands is before
 
       hashed_too : {P : Type 0} → (q.hashed ≡ true → P) → is_hashed root q.place ≡ true → P
-      hashed_too f e = f (gives.2.hashed ∙ e)
+      hashed_too f e = f (item.gives.2.hashed ∙ e)
 
       pub run_spent : q.hashed ≡ true → (IsWithinBoth l spent files → ⊥) → (p : Place) × RunsWithin (call_of root s u old mid) part from last l spent files finding (Some p)
       unfolding pays_up_to
       run_spent e k =
-          let up_to = pays_up_to root (end_of part) h.begun t u old mid (stand root part from) h.stood l spent files finding h.beyond h.pays q.place above gives.3 in_front gives.0 (sym gives.2.hashed ∙ e) k in
+          let up_to = pays_up_to root (end_of part) h.begun t u old mid (stand root part from) h.stood l spent files finding h.beyond h.pays q.place item.above item.gives.3 item.in_front item.gives.0 (sym item.gives.2.hashed ∙ e) k in
           (up_to.next, spent_all root part s h.begun u old mid from h.stood last l spent files finding h.down up_to h.last_is)
 
       module _ (may : q.hashed ≡ true → IsWithinBoth l spent files) (v : Store) (new : Option (List ℕ)) where
@@ -111,17 +103,17 @@ module _ {root : StorageRoot} {s t : Store} {old mid : Option (List ℕ)} {walk 
           begun = h.begun;
           stood = Some q.place;
           down = h.down;
-          stands = gives.1;
-          beyond = gone_next (end_of part) (stand root part from) h.stood q.place h.beyond above in_front;
-          pays = pays_took root (end_of part) h.begun t u old mid (stand root part from) h.stood l spent files finding h.beyond h.pays q.place above gives.3 in_front gives.0 v new (hashed_too may) cost charged started more either
-              (takes (walked_over gives.0) gives.2) f g i;
+          stands = item.gives.1;
+          beyond = gone_next (end_of part) (stand root part from) h.stood q.place h.beyond item.above item.in_front;
+          pays = pays_took root (end_of part) h.begun t u old mid (stand root part from) h.stood l spent files finding h.beyond h.pays q.place item.above item.gives.3 item.in_front item.gives.0 v new (hashed_too may) cost charged started more either
+              (takes (walked_over item.gives.0) item.gives.2) f g i;
           last_is = sym (last_append from h.pays.passes.done q.place);
         })
 
         pub run_missed : (why : Fault) → (u.tree ≡ root → IsPending root q → Misses (call_of root u v mid new) q.place why) → RunStopsWithin (call_of root s v old new) part from last l spent files finding why
         unfolding passes_missed pays_missed
         run_missed why misses = stopped root part s h.begun v old new from h.stood last l spent files finding h.down why
-            (pays_missed root (end_of part) h.begun t u old mid (stand root part from) h.stood l spent files finding h.beyond h.pays q.place above gives.3 in_front gives.0 v new (hashed_too may) why (misses (walked_over gives.0) gives.2))
+            (pays_missed root (end_of part) h.begun t u old mid (stand root part from) h.stood l spent files finding h.beyond h.pays q.place item.above item.gives.3 item.in_front item.gives.0 v new (hashed_too may) why (misses (walked_over item.gives.0) item.gives.2))
             h.last_is
 
   -- the walk did not get to its next item

@@ -1,5 +1,5 @@
 -- What the function of the program does, by what is asked for.
-use Rattle.std.specs.Prelude.{◌≡◌, ◌≢◌, ◌⊎◌, ◌<◌, ℕ, List, [], Option, Some, None, Vec, IfSome, IsNone, IsSome, map, replicate, take, length, string_bytes, ⊤}
+use Rattle.std.specs.Prelude.{◌≡◌, ◌≢◌, ◌↔◌, ◌⊎◌, ◌<◌, ℕ, List, [], Option, Some, None, Vec, IfSome, IsNone, IsSome, map, replicate, take, length, string_bytes, ⊤}
 use Rattle.std.specs.declared.alloc.Global.{Global}
 use Rattle.std.specs.Borrow.{MutBor}
 use Rattle.std.specs.Io.KnownBytes.{Appends}
@@ -23,8 +23,9 @@ use Rattle.ocfl_cursor.specs.declared.showing.ShowStop.TheVariants as show
 use Rattle.ocfl_deed.specs.declared.deed.Deed.{Deed}
 use Rattle.ocfl_deed.specs.declared.deed.Deed.TheVariants as deed
 use Rattle.ocfl_scrub.specs.Call.{Call, Writes, IsUnfailing}
-use Rattle.ocfl_scrub.specs.Noting.{status_of, IsAuditSaid, IsCheckSaid, IsRunSaid, IsCycleSaid, IsFileSaid, IsShowSaid, IsRefused, IsRunNote, IsUnreadNote, WritesWithStatus, AuditsWithNote, ChecksWithNote, RunsWithNote, CyclesWithNote}
+use Rattle.ocfl_scrub.specs.Noting.{IsStatus, status_of, IsAuditSaid, IsCheckSaid, IsRunSaid, IsCycleSaid, IsFileSaid, IsShowSaid, IsRefused, IsRunNote, IsUnreadNote, WritesWithStatus, AuditsWithNote, ChecksWithNote, RunsWithNote, CyclesWithNote}
 use Rattle.ocfl_scrub.specs.Running.{IsPaid, IsWorn, begun, limits_of, state_after}
+use Rattle.ocfl_scrub.specs.declared.performing.Performed.{Performed}
 use Rattle.ocfl_scrub.specs.declared.running.RunEnd.{RunEnd}
 use Rattle.ocfl_scrub.specs.declared.note.Note.{Note}
 use Rattle.ocfl_scrub.specs.declared.note.Note.TheVariants as note
@@ -161,6 +162,19 @@ ShowsWith known n old new = new ≡ old
 abbrev pub WritesBy : Option (Option Text) → Deed → ℕ → Note → Option (List ℕ) → Option (List ℕ) → Type 0
 WritesBy known deed.Show status n old new = ShowsWith known n old new
 WritesBy known deed status n old new = IsWhole n → WritesWithStatus old new status
+
+-- what a command ends with on any store, by what the store and the output are before it and after it, and by the bytes of the cursor that it reads
+pub record AnswersOnAnyStore {S O : Type 0} (contents : O → Option (List ℕ)) (before after : S) (old new : O) (known : Option (Option Text)) (d : Deed) (said : Performed) : Type 0 where
+  pub status : IsStatus said.status said.note
+  pub silent : IsSilent said.note → (after ≡ before) × (new ≡ old)
+  pub show_calls : d ≡ deed.Show → after ≡ before
+  pub show_ends : d ≡ deed.Show → (said.status ≡ 0) ↔ (said.note ≡ note.Nothing)
+  pub unshown : UnshownSaid d known said.note
+  pub kept : IsKeptBy d said.note said.cursor
+  pub without_file : IsWithoutFile known d said.note
+  pub bad_path : RefusesPath d said.status said.note
+  pub bad_path_silent : HasBadPath d → (after ≡ before) × (new ≡ old)
+  pub lines : WritesBy known d said.status said.note (contents old) (contents new)
 
 -- ---- of a store that tells its tree
 

@@ -1,12 +1,11 @@
 //! What the program does for a command within a scope: on the whole storage root, on a branch of
 //! it, or on one part.
-ghost use Rattle.std.specs.Prelude.{◌≡◌, ◌≢◌, ◌↔◌, ◌≤◌, IfErr, IfOk, None, Some};
+ghost use Rattle.std.specs.Prelude.{◌≡◌, ◌≢◌, ◌≤◌, IfErr, IfOk, None, Some};
 ghost use Rattle.ocfl_scrub.specs.Call.{WhereTold};
 ghost use Rattle.ocfl_scrub.specs.Running.{limits_of};
 ghost use Rattle.ocfl_scrub.specs.Noting.{IsAuditSaid, IsStatus, IsUnreadSaid};
 ghost use Rattle.ocfl_scrub.specs.Noting.{WritesWithStatus, status_of};
-ghost use Rattle.ocfl_scrub.specs.Performing.{HasBadPath, IsKept, IsKeptBy, IsSilent, IsWhole};
-ghost use Rattle.ocfl_scrub.specs.Performing.{IsWithoutFile, RefusesPath, UnshownSaid, WritesBy};
+ghost use Rattle.ocfl_scrub.specs.Performing.{AnswersOnAnyStore};
 ghost use Rattle.ocfl_scrub.specs.Performing.{bytes_of};
 ghost use Rattle.ocfl_scrub.specs.Scoping.{BeginsPartWith, BranchPerformed, HandsBackIn};
 ghost use Rattle.ocfl_scrub.specs.Scoping.{IsBranchNote, IsBranchSaid, IsPartRunSaid, IsSaidIn};
@@ -47,28 +46,14 @@ pub fn perform_part<T: Tree, R: Read, W: Write>(
     block: &mut Block,
     out: &mut W,
 ) -> Performed
-    // Of every store.
-    ensures status { IsStatus result.status result.note }
+    ensures any_store { AnswersOnAnyStore W.contents store.old store.new out.old out.new
+        (bytes_of R.remaining reader.entry) deed.now result }
     ensures said { IsSaidIn deed.now scope.now result.note }
-    ensures silent { IsSilent result.note → (store.new ≡ store.old) × (out.new ≡ out.old) }
     ensures empty { result.note ≡ Note.EmptyBranch → out.new ≡ out.old }
-    ensures show_calls { deed.now ≡ Deed.Show → store.new ≡ store.old }
-    ensures show_ends { deed.now ≡ Deed.Show
-        → (result.status ≡ 0) ↔ (result.note ≡ Note.Nothing) }
     ensures refused { RefusesRightlyIn deed.now scope.now (bytes_of R.remaining reader.entry)
         result.note }
-    ensures unshown { UnshownSaid deed.now (bytes_of R.remaining reader.entry) result.note }
-    ensures kept { IsKeptBy deed.now result.note result.cursor }
     ensures handed_back { HandsBackIn deed.now scope.now (bytes_of R.remaining reader.entry)
         result.status result.note result.cursor }
-    ensures without_file { IsWithoutFile (bytes_of R.remaining reader.entry) deed.now result.note }
-    ensures bad_path { RefusesPath deed.now result.status result.note }
-    ensures bad_path_silent { HasBadPath deed.now
-        → (store.new ≡ store.old) × (out.new ≡ out.old) }
-    ensures lines { WritesBy (bytes_of R.remaining reader.entry) deed.now result.status result.note
-        (W.contents out.old) (W.contents out.new) }
-
-    // Of a store that tells its tree.
     ensures told { WhereTold T.told T.state W.contents store.old store.new out.old out.new (λ call.
         PerformsIn call deed.now scope.now (bytes_of R.remaining reader.entry)
         result.status result.note result.cursor) }
@@ -169,20 +154,12 @@ fn perform_part_run<T: Tree, R: Read, W: Write>(
     block: &mut Block,
     out: &mut W,
 ) -> Performed
-    // Of every store.
-    ensures status { IsStatus result.status result.note }
+    ensures any_store { AnswersOnAnyStore W.contents store.old store.new out.old out.new
+        (bytes_of R.remaining reader.entry) (Deed.Run limits) result }
     ensures said { IsPartRunSaid result.note }
-    ensures silent { IsSilent result.note → (store.new ≡ store.old) × (out.new ≡ out.old) }
     ensures refused { PartRefusesRightly ends.now (bytes_of R.remaining reader.entry) result.note }
-    ensures kept { IsKept result.note result.cursor }
     ensures handed_back { HandsBackIn (Deed.Run limits) (scopes.Part ends.now)
         (bytes_of R.remaining reader.entry) result.status result.note result.cursor }
-    ensures without_file { IsWithoutFile (bytes_of R.remaining reader.entry) (Deed.Run limits)
-        result.note }
-    ensures lines { IsWhole result.note →
-        WritesWithStatus (W.contents out.old) (W.contents out.new) result.status }
-
-    // Of a store that tells its tree.
     ensures told { WhereTold T.told T.state W.contents store.old store.new out.old out.new (λ call.
         PartRunPerformed call ends.now (bytes_of R.remaining reader.entry)
         (limits_of limits) result.status result.note result.cursor) }

@@ -11,11 +11,12 @@ ghost use Rattle.ocfl_scrub.specs.Noting.{IsPartRefusedNote, IsUnreadNote, IsUnr
 ghost use Rattle.ocfl_scrub.specs.Noting.{IsUnshownNote};
 ghost use Rattle.ocfl_scrub.specs.Noting.{WritesWithStatus};
 ghost use Rattle.ocfl_scrub.specs.Noting.{run_summary as summary_of_run, status_of};
+ghost use Rattle.ocfl_scrub.specs.Performing.{AnswersOnAnyStore};
 ghost use Rattle.ocfl_scrub.specs.Performing.{BeginsWith, CyclePerformed, HandsBack, IsKept};
-ghost use Rattle.ocfl_scrub.specs.Performing.{HasBadPath, IsKeptBy, IsSaid, IsSilent, IsWhole};
+ghost use Rattle.ocfl_scrub.specs.Performing.{IsSaid, IsSilent, IsWhole};
 ghost use Rattle.ocfl_scrub.specs.Performing.{IsWithoutFile};
-ghost use Rattle.ocfl_scrub.specs.Performing.{Performs, RefusesPath, RefusesRightly, RunPerformed};
-ghost use Rattle.ocfl_scrub.specs.Performing.{ShowsWith, StopsWith, UnshownSaid, WritesBy};
+ghost use Rattle.ocfl_scrub.specs.Performing.{Performs, RefusesRightly, RunPerformed};
+ghost use Rattle.ocfl_scrub.specs.Performing.{ShowsWith, StopsWith, UnshownSaid};
 ghost use Rattle.ocfl_scrub.specs.Performing.{bytes_of};
 ghost use Rattle.ocfl_scrub.specs.Performing.{equal_limits as limits_of_each};
 
@@ -66,26 +67,12 @@ pub fn perform<T: Tree, R: Read, W: Write>(
     block: &mut Block,
     out: &mut W,
 ) -> Performed
-    // Of every store.
-    ensures status { IsStatus result.status result.note }
+    ensures any_store { AnswersOnAnyStore W.contents store.old store.new out.old out.new
+        (bytes_of R.remaining reader.entry) deed.now result }
     ensures said { IsSaid deed.now result.note }
-    ensures silent { IsSilent result.note → (store.new ≡ store.old) × (out.new ≡ out.old) }
-    ensures show_calls { deed.now ≡ Deed.Show → store.new ≡ store.old }
-    ensures show_ends { deed.now ≡ Deed.Show
-        → (result.status ≡ 0) ↔ (result.note ≡ Note.Nothing) }
     ensures refused { RefusesRightly (bytes_of R.remaining reader.entry) result.note }
-    ensures unshown { UnshownSaid deed.now (bytes_of R.remaining reader.entry) result.note }
-    ensures kept { IsKeptBy deed.now result.note result.cursor }
     ensures handed_back { HandsBack (bytes_of R.remaining reader.entry) deed.now
         result.status result.note result.cursor }
-    ensures without_file { IsWithoutFile (bytes_of R.remaining reader.entry) deed.now result.note }
-    ensures bad_path { RefusesPath deed.now result.status result.note }
-    ensures bad_path_silent { HasBadPath deed.now
-        → (store.new ≡ store.old) × (out.new ≡ out.old) }
-    ensures lines { WritesBy (bytes_of R.remaining reader.entry) deed.now result.status result.note
-        (W.contents out.old) (W.contents out.new) }
-
-    // Of a store that tells its tree.
     ensures told { WhereTold T.told T.state W.contents store.old store.new out.old out.new (λ call.
         Performs call (bytes_of R.remaining reader.entry) deed.now
         result.status result.note result.cursor) }
@@ -149,20 +136,12 @@ fn perform_run<T: Tree, R: Read, W: Write>(
     block: &mut Block,
     out: &mut W,
 ) -> Performed
-    // Of every store.
-    ensures status { IsStatus result.status result.note }
+    ensures any_store { AnswersOnAnyStore W.contents store.old store.new out.old out.new
+        (bytes_of R.remaining reader.entry) (Deed.Run limits) result }
     ensures said { IsRunSaid result.note }
-    ensures silent { IsSilent result.note → (store.new ≡ store.old) × (out.new ≡ out.old) }
     ensures refused { RefusesRightly (bytes_of R.remaining reader.entry) result.note }
-    ensures kept { IsKept result.note result.cursor }
     ensures handed_back { HandsBack (bytes_of R.remaining reader.entry) (Deed.Run limits)
         result.status result.note result.cursor }
-    ensures without_file { IsWithoutFile (bytes_of R.remaining reader.entry) (Deed.Run limits)
-        result.note }
-    ensures lines { IsWhole result.note →
-        WritesWithStatus (W.contents out.old) (W.contents out.new) result.status }
-
-    // Of a store that tells its tree.
     ensures told { WhereTold T.told T.state W.contents store.old store.new out.old out.new (λ call.
         RunPerformed call (bytes_of R.remaining reader.entry)
         (limits_of limits) result.status result.note result.cursor) }

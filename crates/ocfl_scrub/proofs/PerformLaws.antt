@@ -1,18 +1,20 @@
 -- What is said and handed back after a run.
-use Rattle.std.proofs.Common.{◌≡◌, refl, subst, ℕ, Option, Some, None, Vec, inl, inr}
+use Rattle.std.proofs.Common.{◌≡◌, refl, ap, subst, ℕ, List, Option, Some, None, Vec, inl, inr}
 use Rattle.std.specs.Prelude.{◌≢◌, IsNone, IfSome, ◌⊎◌, String, string_bytes}
 use Rattle.std.specs.declared.alloc.Global.{Global}
 use Rattle.ocfl_tree.specs.Place.{Text, Place}
+use Rattle.ocfl_tree.specs.Store.{Store}
 use Rattle.ocfl_audit.specs.Parts.{Part}
 use Rattle.ocfl_audit.specs.Runs.{Limits}
 use Rattle.ocfl_cursor.specs.Cursor.{Cursor}
 use Rattle.ocfl_cursor.specs.Moves.{after_run}
+use Rattle.ocfl_cursor.specs.declared.limits.Limits.{Limits as MadeLimits}
 use Rattle.ocfl_deed.specs.declared.deed.Deed.{Deed}
 use Rattle.ocfl_deed.specs.declared.deed.Deed.TheVariants as deed
 use Rattle.ocfl_scrub.specs.Call.{Call, IsUnfailing}
 use Rattle.ocfl_scrub.specs.Noting.{IsRefused, IsStoredNote}
 use Rattle.ocfl_scrub.specs.Performing.{HandedBack, IsNoPath, RefusesPath, RunMade, RunUnmade, RunWorn}
-use Rattle.ocfl_scrub.specs.Running.{IsPaid, IsWorn, RunsCleanlyWithin, RunsFromWithin, begun, state_after}
+use Rattle.ocfl_scrub.specs.Running.{IsPaid, IsWorn, RunsCleanlyWithin, RunsFromWithin, RunsOnAnyStore, begun, limits_of, state_after}
 use Rattle.ocfl_scrub.specs.declared.note.Note.{Note}
 use Rattle.ocfl_scrub.specs.declared.note.Note.TheVariants as note
 use Rattle.ocfl_scrub.specs.declared.performing.Performed.{Performed}
@@ -35,6 +37,23 @@ pub record Made (Begins : Cursor → Type 0) (text_of : Cursor → Text) (limits
   pub worn_says : ran.end ≡ run.Worn → said.note ≡ note.CursorWorn
   pub worn_ends : ran.end ≡ run.Worn → (said.status ≡ 3) × IsNone said.cursor
   pub says : ran.end ≢ run.Worn → IsStoredNote text_of ran.cursor ran.spent ran.found ran.end said.status said.note said.cursor
+
+-- what a run does on any store
+module _ {S O : Type 0} {contents : O → Option (List ℕ)} {before after : S} {old new : O} {from : Cursor} {limits : MadeLimits} {ran : RunEnd} (r : RunsOnAnyStore contents before after old new from limits ran) where
+  pub made_by : {Begins : Cursor → Type 0} {text_of : Cursor → Text} {said : Performed} → Begins from → (ran.end ≡ run.Worn → said.note ≡ note.CursorWorn) → (ran.end ≡ run.Worn → (said.status ≡ 3) × IsNone said.cursor)
+      → (ran.end ≢ run.Worn → IsStoredNote text_of ran.cursor ran.spent ran.found ran.end said.status said.note said.cursor) → Made Begins text_of (limits_of limits) from ran said
+  made_by begins worn_says worn_ends says = record {
+    begins = begins;
+    paid = r.paid;
+    leads = r.cursor;
+    is_worn = r.worn.0;
+    worn_says = worn_says;
+    worn_ends = worn_ends;
+    says = says;
+  }
+
+  pub worn_silent : (state : S → Store) → ran.end ≡ run.Worn → (state after ≡ state before) × (contents new ≡ contents old)
+  worn_silent state worn = (ap state (r.worn_silent worn).0, ap contents (r.worn_silent worn).1)
 
 module _ {Begins : Cursor → Type 0} {text_of : Cursor → Text} {limits : Limits} {from : Cursor} {ran : RunEnd} {said : Performed} (h : Made Begins text_of limits from ran said) where
   -- a text that is handed back is that of the cursor that the run answered

@@ -1,5 +1,5 @@
 -- The status and the text that a command ends with.
-use Rattle.std.specs.Prelude.{◌≡◌, ◌≢◌, ◌⊎◌, ℕ, List, Bool, true, false, Option, Some, None, Vec, ⊤}
+use Rattle.std.specs.Prelude.{◌≡◌, ◌≢◌, ◌⊎◌, ◌≤◌, ℕ, List, Bool, true, false, Option, Some, None, Vec, ⊤}
 use Rattle.std.specs.declared.alloc.Global.{Global}
 use Rattle.ocfl_tree.specs.Place.{Text, Place}
 use Rattle.ocfl_cursor.specs.Cursor.{Cursor}
@@ -117,6 +117,17 @@ WritesWithStatus old new status = (finding : Bool) × ((status ≡ status_of fin
 -- some lines went out, each whole
 abbrev pub WritesWhole : Option (List ℕ) → Option (List ℕ) → Type 0
 WritesWhole old new = (finding : Bool) × WritesLines old new finding
+
+-- what a check or an audit is ended with on any store, by what the output is before it and after it
+pub record ReportsOnAnyStore {O : Type 0} (contents : O → Option (List ℕ)) (old new : O) (status : ℕ) (n : Note) : Type 0 where
+  pub status_is : IsStatus status n
+  pub lines : n ≡ note.Nothing → WritesWithStatus (contents old) (contents new) status
+
+-- what a command is ended with where no cursor was read
+pub record EndsUnread (status : ℕ) (n : Note) : Type 0 where
+  pub status_is : IsStatus status n
+  pub stops : 3 ≤ status
+  pub said : IsUnreadSaid n
 
 -- ---- how a call ended, and what is said
 

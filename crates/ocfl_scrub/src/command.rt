@@ -9,7 +9,7 @@ ghost use Rattle.ocfl_scrub.specs.Call.{IsUnfailing, WhereTold, Writes};
 ghost use Rattle.ocfl_scrub.specs.Noting.{status_of, IsAuditNote, IsAuditSaid, IsCheckNote};
 ghost use Rattle.ocfl_scrub.specs.Noting.{IsCheckSaid, IsRefused, IsStatus, IsStopNote, IsStopSaid};
 ghost use Rattle.ocfl_scrub.specs.Noting.{AuditsWithNote, ChecksWithNote, WritesWhole};
-ghost use Rattle.ocfl_scrub.specs.Noting.{WritesWithStatus};
+ghost use Rattle.ocfl_scrub.specs.Noting.{ReportsOnAnyStore};
 
 use crate::auditing::{AuditEnd, audit};
 use crate::checking::{CheckEnd, End, check};
@@ -38,10 +38,8 @@ pub fn checked<T: Tree, W: Write>(
         → IsRefused result.0 result.1 × (store.new ≡ store.old) × (out.new ≡ out.old) }
     ensures only_bad { result.1 ≡ Note.BadPath → (p : ModelPlace) → IsPlace p
         → path.now ≢ place_text p }
-    ensures status { IsStatus result.0 result.1 }
+    ensures any_store { ReportsOnAnyStore W.contents out.old out.new result.0 result.1 }
     ensures said { IsCheckSaid result.1 }
-    ensures lines { result.1 ≡ Note.Nothing → WritesWithStatus (W.contents out.old)
-        (W.contents out.new) result.0 }
     ensures silent { result.1 ≢ Note.Nothing → result.1 ≢ Note.OutputFailed → out.new ≡ out.old }
 
     // Of a store that tells its tree.
@@ -66,10 +64,8 @@ pub fn audited<T: Tree, W: Write>(
     out: &mut W,
 ) -> (u8, Note)
     // Of every store.
-    ensures status { IsStatus result.0 result.1 }
+    ensures any_store { ReportsOnAnyStore W.contents out.old out.new result.0 result.1 }
     ensures said { IsAuditSaid result.1 }
-    ensures lines { result.1 ≡ Note.Nothing → WritesWithStatus (W.contents out.old)
-        (W.contents out.new) result.0 }
     ensures uncut { result.1 ≢ Note.OutputFailed
         → WritesWhole (W.contents out.old) (W.contents out.new) }
 

@@ -1,10 +1,10 @@
 //! What the program does for a command within a scope: on the whole storage root, on a branch of
 //! it, or on one part.
-ghost use Rattle.std.specs.Prelude.{◌≡◌, ◌≢◌, ◌≤◌, IfErr, IfOk, None, Some};
+ghost use Rattle.std.specs.Prelude.{◌≡◌, ◌≢◌, IfErr, IfOk, None, Some};
 ghost use Rattle.ocfl_scrub.specs.Call.{WhereTold};
 ghost use Rattle.ocfl_scrub.specs.Running.{limits_of};
-ghost use Rattle.ocfl_scrub.specs.Noting.{IsAuditSaid, IsStatus, IsUnreadSaid};
-ghost use Rattle.ocfl_scrub.specs.Noting.{WritesWithStatus, status_of};
+ghost use Rattle.ocfl_scrub.specs.Noting.{EndsUnread, IsAuditSaid, IsStatus};
+ghost use Rattle.ocfl_scrub.specs.Noting.{ReportsOnAnyStore, status_of};
 ghost use Rattle.ocfl_scrub.specs.Performing.{AnswersOnAnyStore};
 ghost use Rattle.ocfl_scrub.specs.Performing.{bytes_of};
 ghost use Rattle.ocfl_scrub.specs.Scoping.{BeginsPartWith, BranchPerformed, HandsBackIn};
@@ -88,10 +88,8 @@ fn audited_branch<T: Tree, W: Write>(
     out: &mut W,
 ) -> (u8, Note)
     // Of every store.
-    ensures status { IsStatus result.0 result.1 }
+    ensures any_store { ReportsOnAnyStore W.contents out.old out.new result.0 result.1 }
     ensures said { IsBranchSaid result.1 }
-    ensures lines { result.1 ≡ Note.Nothing → WritesWithStatus (W.contents out.old)
-        (W.contents out.new) result.0 }
     ensures empty { result.1 ≡ Note.EmptyBranch → out.new ≡ out.old }
 
     // Of a store that tells its tree.
@@ -129,10 +127,8 @@ fn audited_part<T: Tree, W: Write>(
     out: &mut W,
 ) -> (u8, Note)
     // Of every store.
-    ensures status { IsStatus result.0 result.1 }
+    ensures any_store { ReportsOnAnyStore W.contents out.old out.new result.0 result.1 }
     ensures said { IsAuditSaid result.1 }
-    ensures lines { result.1 ≡ Note.Nothing → WritesWithStatus (W.contents out.old)
-        (W.contents out.new) result.0 }
 
     // Of a store that tells its tree.
     ensures told { WhereTold T.told T.state W.contents store.old store.new out.old out.new (λ call.
@@ -194,9 +190,7 @@ fn first_part_cursor<R: Read>(
 // Describes why no cursor of a part was read.
 fn describe_part_unread(why: PartCursorStop) -> (u8, Note)
     ensures note { IsPartUnreadNote why result.0 result.1 }
-    ensures status { IsStatus result.0 result.1 }
-    ensures stops { 3 ≤ result.0 }
-    ensures said { IsUnreadSaid result.1 }
+    ensures unread { EndsUnread result.0 result.1 }
 {
     match why {
         PartCursorStop::Read => (3, Note::CursorFileFailed),

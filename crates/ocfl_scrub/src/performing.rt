@@ -1,5 +1,5 @@
 //! What the program does for a command: the one function that the program and the tests call.
-ghost use Rattle.std.specs.Prelude.{◌≡◌, ◌≢◌, ◌↔◌, ◌≤◌, ℕ, IfErr, IfOk, IsNone, Some, Vec};
+ghost use Rattle.std.specs.Prelude.{◌≡◌, ◌≢◌, ◌↔◌, ℕ, IfErr, IfOk, IsNone, Some, Vec};
 ghost use Rattle.std.specs.Prelude.{List, replicate};
 ghost use Rattle.std.specs.declared.alloc.Global.{Global};
 ghost use Rattle.ocfl_cursor.specs.Cursor.{Cursor as CursorModel};
@@ -7,7 +7,7 @@ ghost use Rattle.ocfl_scrub.specs.Call.{WhereTold};
 ghost use Rattle.ocfl_scrub.specs.Running.{limits_of};
 ghost use Rattle.ocfl_scrub.specs.Noting.{IsCycleNote, IsCycleSaid, IsRanSaid, IsRunNote};
 ghost use Rattle.ocfl_scrub.specs.Noting.{IsRunSaid, IsShowSaid, IsStatus, IsStoredNote};
-ghost use Rattle.ocfl_scrub.specs.Noting.{IsPartRefusedNote, IsUnreadNote, IsUnreadSaid};
+ghost use Rattle.ocfl_scrub.specs.Noting.{EndsUnread, IsPartRefusedNote, IsUnreadNote};
 ghost use Rattle.ocfl_scrub.specs.Noting.{IsUnshownNote};
 ghost use Rattle.ocfl_scrub.specs.Noting.{WritesWithStatus};
 ghost use Rattle.ocfl_scrub.specs.Noting.{run_summary as summary_of_run, status_of};
@@ -116,9 +116,7 @@ fn first_cursor<R: Read>(alloc: Global, reader: Option<&mut R>) -> Result<Cursor
 // Describes why no cursor was read.
 fn describe_unread(why: CursorStop) -> (u8, Note)
     ensures note { IsUnreadNote why result.0 result.1 }
-    ensures status { IsStatus result.0 result.1 }
-    ensures stops { 3 ≤ result.0 }
-    ensures said { IsUnreadSaid result.1 }
+    ensures unread { EndsUnread result.0 result.1 }
 {
     match why {
         CursorStop::Read => (3, Note::CursorFileFailed),
@@ -293,9 +291,7 @@ fn describe_cycle(end: CycleEnd) -> (u8, Note)
 // Describes why nothing is shown.
 fn describe_unshown(why: ShowStop) -> (u8, Note)
     ensures note { IsUnshownNote why result.0 result.1 }
-    ensures status { IsStatus result.0 result.1 }
-    ensures stops { 3 ≤ result.0 }
-    ensures said { IsUnreadSaid result.1 }
+    ensures unread { EndsUnread result.0 result.1 }
 {
     match why {
         ShowStop::Whole(why) => describe_unread(why),
@@ -306,9 +302,7 @@ fn describe_unshown(why: ShowStop) -> (u8, Note)
 // Describes why the cursor of a part is refused.
 pub(crate) fn describe_part_refused(why: PartRefused) -> (u8, Note)
     ensures note { IsPartRefusedNote why result.0 result.1 }
-    ensures status { IsStatus result.0 result.1 }
-    ensures stops { 3 ≤ result.0 }
-    ensures said { IsUnreadSaid result.1 }
+    ensures unread { EndsUnread result.0 result.1 }
 {
     match why {
         PartRefused::Memory => (3, Note::OutOfMemory),

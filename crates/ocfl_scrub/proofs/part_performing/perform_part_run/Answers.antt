@@ -1,27 +1,18 @@
-use Rattle.std.proofs.Common.{ap, inl, inr}
+use Rattle.std.proofs.Common.{inl, inr}
 use Rattle.ocfl_cursor.specs.Part.{part_text}
 use Rattle.ocfl_scrub.specs.Call.{call_of}
 use Rattle.ocfl_scrub.specs.Performing.{bytes_of}
 use Rattle.ocfl_scrub.specs.Running.{limits_of}
 use Rattle.ocfl_scrub.specs.Scoping.{BeginsPartWith}
-use Rattle.ocfl_scrub.proofs.PerformLaws.{Made, handed_back, run_performed}
+use Rattle.ocfl_scrub.proofs.PerformLaws.{Made, handed_back, made_by, run_performed, worn_silent}
 use Rattle.ocfl_scrub.proofs.part_performing.perform_part_run.Given as given
 use Rattle.ocfl_scrub.proofs.part_performing.perform_part_run.Goals as goal
 use Rattle.ocfl_scrub.proofs.part_performing.perform_part_run.Goals.{Joined-part-2}
 
 made : (g : given.Over) (c : Joined-part-2 g) → Made (BeginsPartWith c.args.ends.now (bytes_of g.R.Read.remaining c.args.reader)) (part_text c.args.ends.now) (limits_of c.args.limits) c.in-Ok.cursor c.run_part-end.result c.conclude_run.result
 made g c =
-    let r = c.run_part-end.ensures.any_store in
     let e = c.conclude_run.ensures in
-    record {
-      begins = c.in-Ok.ensures.cursor;
-      paid = r.paid;
-      leads = r.cursor;
-      is_worn = r.worn.0;
-      worn_says = e.worn.1;
-      worn_ends = e.worn_ends;
-      says = λ went. e.note went (part_text c.args.ends.now) c.encode_part-text.ensures.text;
-    }
+    made_by c.run_part-end.ensures.any_store c.in-Ok.ensures.cursor e.worn.1 e.worn_ends (λ went. e.note went (part_text c.args.ends.now) c.encode_part-text.ensures.text)
 
 pub returns-clause-handed_back : goal.returns-clause-handed_back
 returns-clause-handed_back g c = handed_back (made g c)
@@ -29,5 +20,5 @@ returns-clause-handed_back g c = handed_back (made g c)
 pub returns-clause-told : goal.returns-clause-told
 returns-clause-told g c told root over short =
     let r = c.run_part-end.ensures in
-    run_performed (made g c) (call_of root _ _ _ _) _ _ c.in-Ok-part_between.ensures (λ worn. inr (inl worn)) (λ worn. let same = r.any_store.worn_silent worn in (ap g.T.Tree.state same.0, ap g.W.Write.contents same.1))
+    run_performed (made g c) (call_of root _ _ _ _) _ _ c.in-Ok-part_between.ensures (λ worn. inr (inl worn)) (worn_silent r.any_store g.T.Tree.state)
     (r.told told root over short) (r.unfailing told root over short)

@@ -1,26 +1,17 @@
-use Rattle.std.proofs.Common.{ap, inr, refl}
+use Rattle.std.proofs.Common.{inr, refl}
 use Rattle.ocfl_audit.specs.Parts.{whole}
 use Rattle.ocfl_cursor.specs.Cursor.{cursor_text}
 use Rattle.ocfl_scrub.specs.Call.{call_of}
 use Rattle.ocfl_scrub.specs.Performing.{BeginsWith, bytes_of}
 use Rattle.ocfl_scrub.specs.Running.{limits_of}
-use Rattle.ocfl_scrub.proofs.PerformLaws.{Made, handed_back, run_performed}
+use Rattle.ocfl_scrub.proofs.PerformLaws.{Made, handed_back, made_by, run_performed, worn_silent}
 use Rattle.ocfl_scrub.proofs.performing.perform_run.Given as given
 use Rattle.ocfl_scrub.proofs.performing.perform_run.Goals as goal
 
 made : (g : given.Over) (c : goal.After-conclude_run g) → Made (BeginsWith (bytes_of g.R.Read.remaining c.args.reader)) cursor_text (limits_of c.args.limits) c.in-Ok.cursor c.run-end.result c.conclude_run.result
 made g c =
-    let r = c.run-end.ensures.any_store in
     let e = c.conclude_run.ensures in
-    record {
-      begins = c.in-Ok.ensures.cursor;
-      paid = r.paid;
-      leads = r.cursor;
-      is_worn = r.worn.0;
-      worn_says = e.worn.1;
-      worn_ends = e.worn_ends;
-      says = λ went. e.note went cursor_text c.encode-text.ensures.text;
-    }
+    made_by c.run-end.ensures.any_store c.in-Ok.ensures.cursor e.worn.1 e.worn_ends (λ went. e.note went cursor_text c.encode-text.ensures.text)
 
 pub returns-clause-handed_back : goal.returns-clause-handed_back
 returns-clause-handed_back g c = handed_back (made g c)
@@ -28,5 +19,5 @@ returns-clause-handed_back g c = handed_back (made g c)
 pub returns-clause-told : goal.returns-clause-told
 returns-clause-told g c told root over short =
     let r = c.run-end.ensures in
-    run_performed (made g c) (call_of root _ _ _ _) whole whole refl (λ worn. inr worn) (λ worn. let same = r.any_store.worn_silent worn in (ap g.T.Tree.state same.0, ap g.W.Write.contents same.1))
+    run_performed (made g c) (call_of root _ _ _ _) whole whole refl (λ worn. inr worn) (worn_silent r.any_store g.T.Tree.state)
     (r.told told root over short) (r.unfailing told root over short)

@@ -21,7 +21,7 @@ use Rattle.ocfl_audit.proofs.BelowLaws.{less_from, begins_rest, cmp_behind}
 use Rattle.ocfl_audit.proofs.BetweenLaws.{from_between}
 use Rattle.ocfl_audit.proofs.DueLaws.{after_is_due}
 use Rattle.ocfl_audit.proofs.Lists.{map_filter, filter_same}
-use Rattle.ocfl_audit.proofs.PartLaws.{and_true, and_false, within_is, places_within_is, part_goes_on}
+use Rattle.ocfl_audit.proofs.PartLaws.{and_true, and_false, filter_twice, within_is, places_within_is, part_goes_on}
 use Rattle.ocfl_walk.specs.Before.{directory_of, place_before, places_from}
 use Rattle.ocfl_walk.specs.Ends.{is_above_branch, is_at_bound, is_past, before_end}
 use Rattle.ocfl_walk.proofs.BeforeLaws.{below_from, due_from, looked_from, read_from, not_below}
@@ -30,17 +30,6 @@ use Rattle.ocfl_scrub.specs.Starting.{end_of, greater_of, unless_root, first_pla
 use Rattle.ocfl_scrub.specs.Running.{items_above_in}
 use Rattle.ocfl_scrub.proofs.OrderLaws.{looked_ascend, read_ascend}
 use Rattle.ocfl_scrub.proofs.PassLaws.{due_ascends}
-
--- ---- filters
-
--- two filters are one
-filter_twice : {A : Type 0} (f g : A → Bool) (xs : List A) → filter f (filter g xs) ≡ filter (λ x. g x && f x) xs
-filter_twice f g [] = refl
-filter_twice f g (x ∷ xs) = by (g x) (filter_twice f g xs)
-  where
-    by : (b : Bool) → filter f (filter g xs) ≡ filter (λ y. g y && f y) xs → filter f (cond b (x ∷ filter g xs) (filter g xs)) ≡ cond (b && f x) (x ∷ filter (λ y. g y && f y) xs) (filter (λ y. g y && f y) xs)
-    by true e = ap (λ l. cond (f x) (x ∷ l) l) e
-    by false e = e
 
 -- ---- what lies in a part: what is not less than its first place, and not past its end
 

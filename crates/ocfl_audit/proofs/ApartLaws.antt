@@ -1,4 +1,5 @@
--- Parts that are audited apart, each with what it could not read, are the audit of what they could not read together.
+-- Parts that are audited apart, each with what it could not read, are the audit of what they could
+-- not read together.
 use Rattle.std.proofs.Common.{◌≡◌, inl, inr, ℕ, List, [], ◌∷◌, ◌++◌, refl, sym, ◌∙◌, ap, true, false, Bool, map, filter, Option, Some, None}
 use Rattle.std.specs.Prelude.{cond, flat_map}
 use Rattle.std.specs.List.{AllByRecursion}
@@ -59,7 +60,8 @@ module _ (z : Place) where
     given_out_kept [] h = refl
     given_out_kept (e ∷ u) h = by (lies_in part e.0) refl (given_out_kept u h)
       where
-        other : (t : Ordering) → place_cmp e.0 z ≡ t → lies_in part e.0 ≡ true → cond (is_eq t) (Some e.1) (given_by (filter (λ e. lies_in part e.0) u) z) ≡ given_by (filter (λ e. lies_in part e.0) u) z
+        other : (t : Ordering) → place_cmp e.0 z ≡ t → lies_in part e.0 ≡ true
+            → cond (is_eq t) (Some e.1) (given_by (filter (λ e. lies_in part e.0) u) z) ≡ given_by (filter (λ e. lies_in part e.0) u) z
         other Less f g = refl
         other Equal f g = absurd (true_not_false (sym g ∙ ap (lies_in part) (place_cmp_exact e.0 z f) ∙ h))
         other Greater f g = refl
@@ -113,7 +115,8 @@ module _ (z : Place) where
           let others : filter (λ part. lies_in part z) (map (λ e. e.0) parts) ≡ [] = cc in
           (λ g. sym (given_left (unread_in e.0 e.1) (together parts) (none_given parts others) ∙ given_in e.0 e.1 f), nothing_to_say (unread_in e.0 e.1 ++ together parts) parts others)
       by false f k more =
-          (λ g. absurd (true_not_false (sym g ∙ f)), agree_also (together parts) (unread_in e.0 e.1 ++ together parts) (sym (given_right (unread_in e.0 e.1) (together parts) (given_out e.0 e.1 f))) parts (more k))
+          (λ g. absurd (true_not_false (sym g ∙ f)), agree_also (together parts) (unread_in e.0 e.1 ++ together parts)
+              (sym (given_right (unread_in e.0 e.1) (together parts) (given_out e.0 e.1 f))) parts (more k))
 
 -- ---- items where what was read agrees
 

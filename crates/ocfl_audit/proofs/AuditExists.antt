@@ -46,7 +46,8 @@ at_below_lookup : (root : StorageRoot) (front : Place) (n : Text) (p : Place) (l
 at_below_lookup root front n [] leaf h = h
 at_below_lookup root front n (m ∷ p) leaf h = by (is_dir_leaf (lookup root (front ++ n ∷ []))) h (at_below_lookup root (front ++ n ∷ []) m p leaf)
   where
-    by : (b : Bool) → cond b (at_below root (front ++ n ∷ []) m p) None ≡ Some leaf → (at_below root (front ++ n ∷ []) m p ≡ Some leaf → lookup root ((front ++ n ∷ []) ++ m ∷ p) ≡ Some leaf) → lookup root (front ++ n ∷ m ∷ p) ≡ Some leaf
+    by : (b : Bool) → cond b (at_below root (front ++ n ∷ []) m p) None ≡ Some leaf
+        → (at_below root (front ++ n ∷ []) m p ≡ Some leaf → lookup root ((front ++ n ∷ []) ++ m ∷ p) ≡ Some leaf) → lookup root (front ++ n ∷ m ∷ p) ≡ Some leaf
     by true e k = ap (lookup root) (sym (append_one front (m ∷ p) n)) ∙ k e
     by false e k = absurd (some_not_none leaf e)
 
@@ -109,7 +110,8 @@ zone_is root p o q h = by _ h
 pub object_at : (root : StorageRoot) (o : Place) → is_declared (object_declared root o) ≡ true → at root o ≡ Some dir
 object_at root o d = by (at root o) refl d
   where
-    by : (leaf : Option Leaf) → at root o ≡ leaf → is_declared (cond (is_dir_leaf leaf && nat_le (length o) max_listed_depth) (declared Object (files_in root o)) undeclared) ≡ true → at root o ≡ Some dir
+    by : (leaf : Option Leaf) → at root o ≡ leaf
+        → is_declared (cond (is_dir_leaf leaf && nat_le (length o) max_listed_depth) (declared Object (files_in root o)) undeclared) ≡ true → at root o ≡ Some dir
     by None e h = absurd (true_not_false (sym h))
     by (Some (file bytes)) e h = absurd (true_not_false (sym h))
     by (Some dir) e h = e
@@ -125,7 +127,9 @@ named_among : (q : Place) (ts : List Triple) (n : Named) → IsAmong (filter_map
 named_among q [] n i = absurd i
 named_among q (e ∷ ts) n i = by (place_eq e.path q) refl i (named_among q ts n)
   where
-    by : (b : Bool) → place_eq e.path q ≡ b → IsAmong (cons_option (cond b (Some e.named) None) (filter_map (λ x. if place_eq x.path q then Some x.named else None) ts)) n → (IsAmong (filter_map (λ x. if place_eq x.path q then Some x.named else None) ts) n → IsAmong (map (λ x. x.path) ts) q) → IsAmong (map (λ x. x.path) (e ∷ ts)) q
+    by : (b : Bool) → place_eq e.path q ≡ b
+        → IsAmong (cons_option (cond b (Some e.named) None) (filter_map (λ x. if place_eq x.path q then Some x.named else None) ts)) n
+        → (IsAmong (filter_map (λ x. if place_eq x.path q then Some x.named else None) ts) n → IsAmong (map (λ x. x.path) ts) q) → IsAmong (map (λ x. x.path) (e ∷ ts)) q
     by true f j k = inl (sym (place_from_test e.path q f))
     by false f j k = inr (k j)
 
@@ -152,7 +156,8 @@ pub missing_named : (ns : List Named) → missing_notes ns ≢ [] → ns ≢ []
 missing_named ns h e = h (ap missing_notes e)
 
 -- lines within an object stand at a place of the tree, or at one that the table names
-within_candidate : (root : StorageRoot) (p o q : Place) (t : Table) → table_at root o ≡ Some t → p ≡ o ++ q → IsAmong (map (λ e. e.0) root) o → (leaf : Option Leaf) → seen root p ≡ leaf → (u : Option ℕ) → within_notes root p u leaf t q ≢ [] → IsAmong (candidates root) p
+within_candidate : (root : StorageRoot) (p o q : Place) (t : Table) → table_at root o ≡ Some t → p ≡ o ++ q → IsAmong (map (λ e. e.0) root) o
+    → (leaf : Option Leaf) → seen root p ≡ leaf → (u : Option ℕ) → within_notes root p u leaf t q ≢ [] → IsAmong (candidates root) p
 within_candidate root p o q t h whole key (Some leaf) e u some = seen_candidate root p leaf e
 within_candidate root p o [] t h whole key None e u some = absurd (some refl)
 within_candidate root p o (v ∷ []) t h whole key None e u some = absurd (some refl)
@@ -160,7 +165,8 @@ within_candidate root p o (v ∷ c ∷ []) t h whole key None e u some = absurd 
 within_candidate root p o (v ∷ c ∷ n ∷ q) t h whole key None e u some =
     subst (IsAmong (candidates root)) (sym whole) (path_candidate root o (v ∷ c ∷ n ∷ q) t h key (path_among t (v ∷ c ∷ n ∷ q) (missing_named _ some)))
 
-object_candidate : (root : StorageRoot) (p o q : Place) (u : Option ℕ) → p ≡ o ++ q → IsAmong (map (λ e. e.0) root) o → (table : Option Table) → table_at root o ≡ table → object_notes root p u table q ≢ [] → IsAmong (candidates root) p
+object_candidate : (root : StorageRoot) (p o q : Place) (u : Option ℕ) → p ≡ o ++ q → IsAmong (map (λ e. e.0) root) o → (table : Option Table)
+    → table_at root o ≡ table → object_notes root p u table q ≢ [] → IsAmong (candidates root) p
 object_candidate root p o q u whole key None e some = absurd (some refl)
 object_candidate root p o q u whole key (Some t) e some = within_candidate root p o q t e whole key (seen root p) refl u some
 
@@ -198,7 +204,8 @@ module _ (root : StorageRoot) (unread : Unread) where
   places_kept (p ∷ ps) = by (has_lines (item_of root unread p)) (places_kept ps)
     where
       by : (b : Bool) → map (λ i. i.place) (filter has_lines (map (item_of root unread) ps)) ≡ filter (λ q. has_lines (item_of root unread q)) ps
-          → map (λ i. i.place) (cond b (item_of root unread p ∷ filter has_lines (map (item_of root unread) ps)) (filter has_lines (map (item_of root unread) ps))) ≡ cond b (p ∷ filter (λ q. has_lines (item_of root unread q)) ps) (filter (λ q. has_lines (item_of root unread q)) ps)
+          → map (λ i. i.place) (cond b (item_of root unread p ∷ filter has_lines (map (item_of root unread) ps))
+              (filter has_lines (map (item_of root unread) ps))) ≡ cond b (p ∷ filter (λ q. has_lines (item_of root unread q)) ps) (filter (λ q. has_lines (item_of root unread q)) ps)
       by true e = ap (λ x. p ∷ x) e
       by false e = e
 
@@ -206,7 +213,8 @@ module _ (root : StorageRoot) (unread : Unread) where
   each_kept [] = tt
   each_kept (p ∷ ps) = by (has_lines (item_of root unread p)) (each_kept ps)
     where
-      by : (b : Bool) → AllByRecursion (λ i. i ≡ item_of root unread i.place) (filter has_lines (map (item_of root unread) ps)) → AllByRecursion (λ i. i ≡ item_of root unread i.place) (cond b (item_of root unread p ∷ filter has_lines (map (item_of root unread) ps)) (filter has_lines (map (item_of root unread) ps)))
+      by : (b : Bool) → AllByRecursion (λ i. i ≡ item_of root unread i.place) (filter has_lines (map (item_of root unread) ps))
+          → AllByRecursion (λ i. i ≡ item_of root unread i.place) (cond b (item_of root unread p ∷ filter has_lines (map (item_of root unread) ps)) (filter has_lines (map (item_of root unread) ps)))
       by true k = (refl, k)
       by false k = k
 
@@ -223,6 +231,8 @@ module _ (root : StorageRoot) (unread : Unread) where
     each = each_kept _;
     exactly = λ p. (
       (λ i. (lines_from_notes p _).0 (among_from_filter (λ x. has_lines (item_of root unread x)) (ascending place_cmp (candidates root)) p (subst (λ xs. IsAmong xs p) (places_kept _) i)).1),
-      (λ h. subst (λ xs. IsAmong xs p) (sym (places_kept _)) (among_filter (λ x. has_lines (item_of root unread x)) (ascending place_cmp (candidates root)) p ((among_ascending place_cmp_exact (candidates root) p).0 (notes_candidate root (given_by unread p) p h)) ((lines_from_notes p _).1 h))),
+      (λ h. subst (λ xs. IsAmong xs p) (sym (places_kept _))
+          (among_filter (λ x. has_lines (item_of root unread x)) (ascending place_cmp (candidates root)) p
+          ((among_ascending place_cmp_exact (candidates root) p).0 (notes_candidate root (given_by unread p) p h)) ((lines_from_notes p _).1 h))),
     );
   }

@@ -74,7 +74,8 @@ module _ (ps : List Place) where
     -- on to b, and from there on
     pub between_on : (from to : Option Place) (b : Place) → IsBeyond from b → IsWithin to b → between ps from (Some b) ++ between ps (Some b) to ≡ between ps from to
     between_on from to b l u =
-        ascending_unique place_cmp_total place_cmp_exact _ _ (ascends_append place_cmp (between ps from (Some b)) (between ps (Some b) to) (between_ascends from (Some b)) (between_ascends (Some b) to) apart) (between_ascends from to)
+        ascending_unique place_cmp_total place_cmp_exact _ _
+            (ascends_append place_cmp (between ps from (Some b)) (between ps (Some b) to) (between_ascends from (Some b)) (between_ascends (Some b) to) apart) (between_ascends from to)
         (λ z. (to_whole z, to_parts z))
       where
         -- what is not past b lies before what is above b
@@ -122,7 +123,8 @@ module _ (ps : List Place) where
             by m f t false e = among_left (between ps from (Some b)) (between ps (Some b) to) z (among_between from (Some b) z m f e)
 
     -- on to b, where nothing lies before it but past from
-    pub between_step : (from : Option Place) (b : Place) (test : Bool) → IsBeyond from b → (test ≡ true → IsAmong ps b) → (test ≡ false → IsAmong ps b → ⊥) → ((y : Place) → IsAmong ps y → IsBeyond from y → place_cmp y b ≡ Less → ⊥)
+    pub between_step : (from : Option Place) (b : Place) (test : Bool) → IsBeyond from b → (test ≡ true → IsAmong ps b) → (test ≡ false → IsAmong ps b → ⊥)
+        → ((y : Place) → IsAmong ps y → IsBeyond from y → place_cmp y b ≡ Less → ⊥)
         → between ps from (Some b) ≡ on test b
     between_step from b test l here out none =
         ascending_unique place_cmp_total place_cmp_exact _ _ (between_ascends from (Some b)) (single test) (λ z. (to z test refl, back z test refl))
@@ -230,7 +232,8 @@ module _ (root : StorageRoot) where
       ap (λ b. cond b (at root p) None) (and_first way (is_entered root p) h) ∙ dir_leaf (at root p) there
 
   pub is_directory : (p : Place) → is_looked_into root p ≡ true → IsAmong (directories root) p
-  is_directory p h = among_filter (is_looked_into root) (ascending place_cmp (candidates root)) p ((among_ascending place_cmp_exact (candidates root) p).0 (seen_candidate root p dir (looked_seen p h))) h
+  is_directory p h = among_filter (is_looked_into root) (ascending place_cmp (candidates root)) p
+      ((among_ascending place_cmp_exact (candidates root) p).0 (seen_candidate root p dir (looked_seen p h))) h
 
   pub from_directory : (p : Place) → IsAmong (directories root) p → is_looked_into root p ≡ true
   from_directory p i = (among_from_filter (is_looked_into root) (ascending place_cmp (candidates root)) p i).1

@@ -105,9 +105,12 @@ table_from_inventory root o t h = by (inventory_at root o) h
         go false f = absurd (some_not_none t f)
 
 pub kept_short : (content x : Text) → is_kept content x ≡ true → (is_content_path content (elements x) ≡ true) × (nat_lt 128 (length (elements x)) ≡ false)
-kept_short content x h = by (starts_with nat_eq x (codes "/") || ends_with nat_eq x (codes "/")) (list_any is_empty_or_dots (elements x)) (is_content_path content (elements x)) (nat_lt 128 (length (elements x))) (list_any is_too_long_or_nul (elements x)) refl refl h
+kept_short content x h = by (starts_with nat_eq x (codes "/") || ends_with nat_eq x (codes "/")) (list_any is_empty_or_dots (elements x))
+    (is_content_path content (elements x)) (nat_lt 128 (length (elements x))) (list_any is_too_long_or_nul (elements x)) refl refl h
   where
-    by : (a b c d e : Bool) → is_content_path content (elements x) ≡ c → nat_lt 128 (length (elements x)) ≡ d → not (is_some (cond a (Some E100) (cond b (Some E099) (cond (not c || d || e) (Some S06) None)))) ≡ true → (is_content_path content (elements x) ≡ true) × (nat_lt 128 (length (elements x)) ≡ false)
+    by : (a b c d e : Bool) → is_content_path content (elements x) ≡ c → nat_lt 128 (length (elements x)) ≡ d
+        → not (is_some (cond a (Some E100) (cond b (Some E099) (cond (not c || d || e) (Some S06) None)))) ≡ true
+        → (is_content_path content (elements x) ≡ true) × (nat_lt 128 (length (elements x)) ≡ false)
     by true b c d e f g k = absurd (true_not_false (sym k))
     by false true c d e f g k = absurd (true_not_false (sym k))
     by false false true false e f g k = (f, g)

@@ -50,7 +50,8 @@ module _ (root : StorageRoot) where
   looked [] some h = absurd (some refl)
   looked (n ∷ d) some h = by (list_all (is_entered root) (beginnings (n ∷ d))) (nat_le (length (n ∷ d)) 127) (is_dir root (n ∷ d)) (shows_entries root (zone root (n ∷ d))) refl refl refl refl h
     where
-      by : (a b c e : Bool) → list_all (is_entered root) (beginnings (n ∷ d)) ≡ a → nat_le (length (n ∷ d)) 127 ≡ b → is_dir root (n ∷ d) ≡ c → shows_entries root (zone root (n ∷ d)) ≡ e → (a && (b && (c && e))) ≡ true → IsLookedInto root (n ∷ d)
+      by : (a b c e : Bool) → list_all (is_entered root) (beginnings (n ∷ d)) ≡ a → nat_le (length (n ∷ d)) 127 ≡ b → is_dir root (n ∷ d) ≡ c
+          → shows_entries root (zone root (n ∷ d)) ≡ e → (a && (b && (c && e))) ≡ true → IsLookedInto root (n ∷ d)
       by true true true true f g k l m = record {
         is_seen = ap (λ x. cond x (at root (n ∷ d)) None) f ∙ dir_there (at root (n ∷ d)) k;
         depth = leb-true _ _ g;

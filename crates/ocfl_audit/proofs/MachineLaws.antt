@@ -36,7 +36,8 @@ fewer : (ps : List Place) (last x : Place) → place_cmp last x ≡ Less → IsA
 fewer [] last x l i = absurd i
 fewer (p ∷ ps) last x l i = by (above x p) (above last p) refl refl i (fewer_or_same ps last x l) (fewer ps last x l)
   where
-    by : (a b : Bool) → above x p ≡ a → above last p ≡ b → IsAmong (p ∷ ps) x → length (filter (above x) ps) ≤ length (filter (above last) ps) → (IsAmong ps x → length (filter (above x) ps) < length (filter (above last) ps))
+    by : (a b : Bool) → above x p ≡ a → above last p ≡ b → IsAmong (p ∷ ps) x → length (filter (above x) ps) ≤ length (filter (above last) ps)
+        → (IsAmong ps x → length (filter (above x) ps) < length (filter (above last) ps))
         → length (cond a (p ∷ filter (above x) ps) (filter (above x) ps)) < length (cond b (p ∷ filter (above last) ps) (filter (above last) ps))
     by true b e f (inl g) h k = absurd (not_below_itself place_cmp_total x (ap (place_cmp x) g ∙ less_from _ e))
     by true true e f (inr j) h k = let m = k j in omega (arith, m)
@@ -63,7 +64,8 @@ module _ (root : StorageRoot) (closed : IsClosed root) where
   entry_is last [] h l = stack_ends root closed last h
   entry_is last (f ∷ fs) h l = by f.0 f.1 h l.0 (λ g. entry_is last fs g l.1)
     where
-      by : (d : Place) (ns : List Text) → IsStack root last ((d, ns) ∷ fs) → ((n : Text) → IsAmong ns n → IsAmong (seen_names root d) n) → (IsStack root last fs → EntryIs last (next_entry root fs)) → EntryIs last (entry_of root d ns fs (next_entry root fs))
+      by : (d : Place) (ns : List Text) → IsStack root last ((d, ns) ∷ fs) → ((n : Text) → IsAmong ns n → IsAmong (seen_names root d) n)
+          → (IsStack root last fs → EntryIs last (next_entry root fs)) → EntryIs last (entry_of root d ns fs (next_entry root fs))
       by d [] g m k = k g
       by d (n ∷ ns) g m k =
           let e = entry_seen root d n (m n (inl refl)) in
@@ -93,8 +95,10 @@ module _ (root : StorageRoot) (closed : IsClosed root) where
       no_skipped : (o s : Place) → skipped ≡ inside o s → ⊥
       no_skipped o s e = cc
 
-      least : (o s : Place) (t : Table) → zone root last ≡ inside o s → table_at root o ≡ Some t → (ps : List Place) → ps ≡ filter (above s) (ascending place_cmp (paths_of t)) → PathIs last (option_map (λ q. o ++ q) (first_of_list ps))
-      least o s t z h [] e = path_none root last o s t z h (λ q i l. subst (λ xs. IsAmong xs q) (sym e) (among_filter (above s) (ascending place_cmp (paths_of t)) q ((among_ascending place_cmp_exact (paths_of t) q).0 i) (ap is_lt l)))
+      least : (o s : Place) (t : Table) → zone root last ≡ inside o s → table_at root o ≡ Some t → (ps : List Place)
+          → ps ≡ filter (above s) (ascending place_cmp (paths_of t)) → PathIs last (option_map (λ q. o ++ q) (first_of_list ps))
+      least o s t z h [] e = path_none root last o s t z h
+          (λ q i l. subst (λ xs. IsAmong xs q) (sym e) (among_filter (above s) (ascending place_cmp (paths_of t)) q ((among_ascending place_cmp_exact (paths_of t) q).0 i) (ap is_lt l)))
       least o s t z h (b ∷ ps) e =
           let here = among_from_filter (above s) (ascending place_cmp (paths_of t)) b (subst (λ xs. IsAmong xs b) e (inl refl)) in
           let among : IsAmong (paths_of t) b = (among_ascending place_cmp_exact (paths_of t) b).1 here.0 in
@@ -143,7 +147,8 @@ module _ (root : StorageRoot) (closed : IsClosed root) where
   NextIs last (Some k) = IsNext last k
 
   -- a path that no entry reaches is not seen
-  path_taken : (last b : Place) (fs : List Frame) → IsStack root last fs → IsListed root fs → IsPath last b → NoneSeenBetween root last b → ((leaf : Leaf) → seen root b ≡ Some leaf → ⊥) → IsNext last (b, fs)
+  path_taken : (last b : Place) (fs : List Frame) → IsStack root last fs → IsListed root fs → IsPath last b → NoneSeenBetween root last b
+      → ((leaf : Leaf) → seen root b ≡ Some leaf → ⊥) → IsNext last (b, fs)
   path_taken last b fs h l p none unseen = record {
     above_last = p.above_last;
     none_seen = none;
@@ -157,7 +162,8 @@ module _ (root : StorageRoot) (closed : IsClosed root) where
       by None k = refl
       by (Some leaf) k = absurd (k leaf refl)
 
-  both : (last : Place) (fs : List Frame) → IsStack root last fs → IsListed root fs → (e : Option (Place × List Frame)) → EntryIs last e → (p : Option Place) → PathIs last p → NextIs last (lesser fs e p)
+  both : (last : Place) (fs : List Frame) → IsStack root last fs → IsListed root fs → (e : Option (Place × List Frame)) → EntryIs last e → (p : Option Place)
+      → PathIs last p → NextIs last (lesser fs e p)
   both last fs h l None e None p = (e, p)
   both last fs h l (Some k) e None p = record {
     above_last = e.above_last;
@@ -188,11 +194,14 @@ module _ (root : StorageRoot) (closed : IsClosed root) where
 
   -- ---- all of it
 
-  pub taken_is : (unread : Unread) (k : ℕ) (last : Place) (fs : List Frame) → IsStack root last fs → IsListed root fs → length (filter (above last) (candidates root)) < k → taken k root unread last fs ≡ after (audit root unread) (Some last)
+  pub taken_is : (unread : Unread) (k : ℕ) (last : Place) (fs : List Frame) → IsStack root last fs → IsListed root fs
+      → length (filter (above last) (candidates root)) < k → taken k root unread last fs ≡ after (audit root unread) (Some last)
   taken_is unread zero last fs h l m = absurd (omega (arith, m))
   taken_is unread (suc k) last fs h l m = by (next_place root last fs) (next_place_is last fs h l) (taken_is unread k)
     where
-      by : (o : Option (Place × List Frame)) → NextIs last o → ((last' : Place) (fs' : List Frame) → IsStack root last' fs' → IsListed root fs' → length (filter (above last') (candidates root)) < k → taken k root unread last' fs' ≡ after (audit root unread) (Some last'))
+      by : (o : Option (Place × List Frame)) → NextIs last o
+          → ((last' : Place) (fs' : List Frame) → IsStack root last' fs' → IsListed root fs' → length (filter (above last') (candidates root)) < k
+          → taken k root unread last' fs' ≡ after (audit root unread) (Some last'))
           → taken_with root unread (taken k root unread) o ≡ after (audit root unread) (Some last)
       by None n ih = sym (walk_ends root closed unread last n.0 n.1)
       by (Some x) n ih =
@@ -217,7 +226,8 @@ module _ (root : StorageRoot) (closed : IsClosed root) where
 
   -- from the start: the root's item, and then what is above the root
   pub from_root : (unread : Unread) → audit root unread ≡ item_at root unread [] ++ after (audit root unread) (Some [])
-  from_root unread = sym (under_root root closed unread) ∙ items_by_name root closed unread [] ∙ ap (λ xs. item_at root unread [] ++ xs) (sym (items_after_self root closed unread []) ∙ ap (λ xs. after xs (Some [])) (under_root root closed unread))
+  from_root unread = sym (under_root root closed unread) ∙ items_by_name root closed unread []
+      ∙ ap (λ xs. item_at root unread [] ++ xs) (sym (items_after_self root closed unread []) ∙ ap (λ xs. after xs (Some [])) (under_root root closed unread))
 
   -- ---- what is listed
 
@@ -226,16 +236,19 @@ module _ (root : StorageRoot) (closed : IsClosed root) where
   all_below p x (y ∷ ps) l h = (place_cmp_total.trans p x y l h.0, all_below p x ps l h.1)
 
   -- only what is above last, in order, and so nothing twice
-  pub lists_ascend : (k : ℕ) (last : Place) (fs : List Frame) → IsStack root last fs → IsListed root fs → IsBeforeAll place_cmp last (lists k root last fs) × IsAscending place_cmp (lists k root last fs)
+  pub lists_ascend : (k : ℕ) (last : Place) (fs : List Frame) → IsStack root last fs → IsListed root fs → IsBeforeAll place_cmp last (lists k root last fs)
+      × IsAscending place_cmp (lists k root last fs)
   lists_ascend zero last fs h l = (tt, tt)
   lists_ascend (suc k) last fs h l = by (next_place root last fs) (next_place_is last fs h l) (lists_ascend k)
     where
-      by : (o : Option (Place × List Frame)) → NextIs last o → ((last' : Place) (fs' : List Frame) → IsStack root last' fs' → IsListed root fs' → IsBeforeAll place_cmp last' (lists k root last' fs') × IsAscending place_cmp (lists k root last' fs'))
+      by : (o : Option (Place × List Frame)) → NextIs last o
+          → ((last' : Place) (fs' : List Frame) → IsStack root last' fs' → IsListed root fs' → IsBeforeAll place_cmp last' (lists k root last' fs') × IsAscending place_cmp (lists k root last' fs'))
           → IsBeforeAll place_cmp last (lists_with root (lists k root) o) × IsAscending place_cmp (lists_with root (lists k root) o)
       by None n ih = (tt, tt)
       by (Some x) n ih = go (is_reached root x.0) (ih x.0 x.1 n.stack n.listed)
         where
-          go : (b : Bool) → IsBeforeAll place_cmp x.0 (lists k root x.0 x.1) × IsAscending place_cmp (lists k root x.0 x.1) → IsBeforeAll place_cmp last (on b x.0 ++ lists k root x.0 x.1) × IsAscending place_cmp (on b x.0 ++ lists k root x.0 x.1)
+          go : (b : Bool) → IsBeforeAll place_cmp x.0 (lists k root x.0 x.1) × IsAscending place_cmp (lists k root x.0 x.1)
+              → IsBeforeAll place_cmp last (on b x.0 ++ lists k root x.0 x.1) × IsAscending place_cmp (on b x.0 ++ lists k root x.0 x.1)
           go true m = ((n.above_last, all_below last x.0 (lists k root x.0 x.1) n.above_last m.0), m)
           go false m = (all_below last x.0 (lists k root x.0 x.1) n.above_last m.0, m.1)
 

@@ -70,7 +70,8 @@ pub version_files : (root : StorageRoot) (t : Table) (p : Place) (n bytes : Text
 version_files root t p n bytes = (λ e. inventory_file n (none_of (is_inventory_or_sidecar n) (plain E015) e), λ h. ap (λ b. on (not b) (plain E015)) (inventory_test n h))
 
 -- a directory that an object's root may not hold
-pub object_directories : (root : StorageRoot) (p : Place) (n : Text) → (object_entry_notes root p n (Some dir) ≡ plain E001 ∷ []) ↔ ((is_version_name n ≡ false) × ((n ≢ codes "extensions") × (n ≢ codes "logs")))
+pub object_directories : (root : StorageRoot) (p : Place) (n : Text)
+    → (object_entry_notes root p n (Some dir) ≡ plain E001 ∷ []) ↔ ((is_version_name n ≡ false) × ((n ≢ codes "extensions") × (n ≢ codes "logs")))
 object_directories root p n = (to, back)
   where
     apart : (b : Bool) → cond b (plain S05 ∷ []) (cond (is_empty (names_in root p)) [] []) ≡ plain E001 ∷ [] → ⊥
@@ -87,7 +88,8 @@ object_directories root p n = (to, back)
     to : object_entry_notes root p n (Some dir) ≡ plain E001 ∷ [] → (is_version_name n ≡ false) × ((n ≢ codes "extensions") × (n ≢ codes "logs"))
     to h = by (is_version_name n) (text_eq n (codes "extensions")) (text_eq n (codes "logs")) refl refl refl h
       where
-        by : (a b c : Bool) → is_version_name n ≡ a → text_eq n (codes "extensions") ≡ b → text_eq n (codes "logs") ≡ c → cond a (listed_dir_notes root p []) (on (not (b || c)) (plain E001)) ≡ plain E001 ∷ []
+        by : (a b c : Bool) → is_version_name n ≡ a → text_eq n (codes "extensions") ≡ b → text_eq n (codes "logs") ≡ c
+            → cond a (listed_dir_notes root p []) (on (not (b || c)) (plain E001)) ≡ plain E001 ∷ []
             → (is_version_name n ≡ false) × ((n ≢ codes "extensions") × (n ≢ codes "logs"))
         by true b c e f g k = absurd (apart (nat_lt max_listed_depth (length p)) k)
         by false true c e f g k = absurd cc
@@ -164,7 +166,8 @@ module _ (root : StorageRoot) where
 
   is_there : (p : Place) → IsMetadata root p → is_meta root p ≡ true
   is_there p (of_root n h whole) = ap (is_meta root) whole ∙ ap (λ b. b || is_meta_zone (zone root (n ∷ []))) h
-  is_there p (of_object o n is h whole) = ap (is_meta root) whole ∙ or_right (is_root_meta (o ++ n ∷ [])) (is_meta_zone (zone root (o ++ n ∷ []))) (ap is_meta_zone (entry_zone o n is) ∙ object_test n h)
+  is_there p (of_object o n is h whole) = ap (is_meta root) whole
+      ∙ or_right (is_root_meta (o ++ n ∷ [])) (is_meta_zone (zone root (o ++ n ∷ []))) (ap is_meta_zone (entry_zone o n is) ∙ object_test n h)
 
   pub meta_is : (p : Place) → (is_meta root p ≡ true) ↔ IsMetadata root p
   meta_is p = (metadata p, is_there p)
@@ -247,7 +250,8 @@ module _ (root : StorageRoot) where
 
   pub heads_on : (front trail : List Opening) → heads_of root (front ++ trail) ≡ heads_of root front ++ heads_of root trail
   heads_on [] trail = refl
-  heads_on (x ∷ front) trail = ap (λ l. inventory_of (zone root x.place) ++ l) (heads_on front trail) ∙ sym (append_assoc (inventory_of (zone root x.place)) (heads_of root front) (heads_of root trail))
+  heads_on (x ∷ front) trail = ap (λ l. inventory_of (zone root x.place) ++ l) (heads_on front trail)
+      ∙ sym (append_assoc (inventory_of (zone root x.place)) (heads_of root front) (heads_of root trail))
 
 -- ---- what a content file gave
 

@@ -27,7 +27,8 @@ module _ (ps : List Place) (ascends : IsAscending place_cmp ps) where
   -- the least above p comes first
   pub least_above : (p x : Place) → IsAmong ps x → place_cmp p x ≡ Less → ((y : Place) → IsAmong ps y → place_cmp p y ≡ Less → place_cmp y x ≡ Less → ⊥)
       → filter (above p) ps ≡ x ∷ filter (above x) ps
-  least_above p x i l least = ascending_unique place_cmp_total place_cmp_exact _ _ (ascends_filter place_cmp (above p) ps ascends) (before, ascends_filter place_cmp (above x) ps ascends) (λ z. (to z, from z))
+  least_above p x i l least = ascending_unique place_cmp_total place_cmp_exact _ _ (ascends_filter place_cmp (above p) ps ascends)
+      (before, ascends_filter place_cmp (above x) ps ascends) (λ z. (to z, from z))
     where
       all_above : (ys : List Place) → IsBeforeAll place_cmp x (filter (above x) ys)
       all_above [] = tt
@@ -75,7 +76,8 @@ module _ (root : StorageRoot) (unread : Unread) where
   after_kept p = ap (λ xs. after xs (Some p)) (audit_places root unread) ∙ filter_items root unread (above p) (item_places root unread)
 
   -- the least place with lines above p is the next item
-  pub next_is : (p x : Place) → has_lines (item_of root unread x) ≡ true → place_cmp p x ≡ Less → ((y : Place) → has_lines (item_of root unread y) ≡ true → place_cmp p y ≡ Less → place_cmp y x ≡ Less → ⊥)
+  pub next_is : (p x : Place) → has_lines (item_of root unread x) ≡ true → place_cmp p x ≡ Less
+      → ((y : Place) → has_lines (item_of root unread y) ≡ true → place_cmp p y ≡ Less → place_cmp y x ≡ Less → ⊥)
       → after (audit root unread) (Some p) ≡ item_of root unread x ∷ after (audit root unread) (Some x)
   next_is p x h l least =
       after_kept p ∙ ap (map (item_of root unread)) (least_above (item_places root unread) (places_ascend root unread) p x (has_place root unread x h) l (λ y i. least y (lined y i)))
@@ -85,7 +87,9 @@ module _ (root : StorageRoot) (unread : Unread) where
       lined y i = (among_from_filter (λ z. has_lines (item_of root unread z)) (ascending place_cmp (candidates root)) y i).1
 
   pub nothing_next : (p : Place) → ((y : Place) → has_lines (item_of root unread y) ≡ true → place_cmp p y ≡ Less → ⊥) → after (audit root unread) (Some p) ≡ []
-  nothing_next p h = after_kept p ∙ ap (map (item_of root unread)) (none_above (item_places root unread) (places_ascend root unread) p (λ y i. h y (among_from_filter (λ z. has_lines (item_of root unread z)) (ascending place_cmp (candidates root)) y i).1))
+  nothing_next p h = after_kept p
+      ∙ ap (map (item_of root unread))
+      (none_above (item_places root unread) (places_ascend root unread) p (λ y i. h y (among_from_filter (λ z. has_lines (item_of root unread z)) (ascending place_cmp (candidates root)) y i).1))
 
 -- ---- what is seen, in the order of a stack of listings
 
@@ -103,7 +107,8 @@ module _ (root : StorageRoot) where
   seen_from p i = is_some_from (seen root p) (among_from_filter (λ x. is_some (seen root x)) (ascending place_cmp (candidates root)) p i).1
 
   pub seen_to : (p : Place) (l : Leaf) → seen root p ≡ Some l → IsAmong (seen_places root) p
-  seen_to p l h = among_filter (λ x. is_some (seen root x)) (ascending place_cmp (candidates root)) p ((among_ascending place_cmp_exact (candidates root) p).0 (seen_candidate root p l h)) (ap is_some h)
+  seen_to p l h = among_filter (λ x. is_some (seen root x)) (ascending place_cmp (candidates root)) p
+      ((among_ascending place_cmp_exact (candidates root) p).0 (seen_candidate root p l h)) (ap is_some h)
 
   seen_names_ascend : (d : Place) → IsAscending text_cmp (seen_names root d)
   seen_names_ascend d = by (is_reached root d)
@@ -113,7 +118,8 @@ module _ (root : StorageRoot) where
       by false = tt
 
   seen_here : (d : Place) → filter (place_eq d) (seen_places root) ≡ on (is_some (seen root d)) d
-  seen_here d = ascending_unique place_cmp_total place_cmp_exact _ _ (ascends_filter place_cmp (place_eq d) (seen_places root) seen_ascend) (alone (is_some (seen root d))) (λ z. (to z, from z (seen root d) refl))
+  seen_here d = ascending_unique place_cmp_total place_cmp_exact _ _ (ascends_filter place_cmp (place_eq d) (seen_places root) seen_ascend)
+      (alone (is_some (seen root d))) (λ z. (to z, from z (seen root d) refl))
     where
       alone : (b : Bool) → IsAscending place_cmp (on b d)
       alone true = (tt, tt)
@@ -136,15 +142,20 @@ module _ (root : StorageRoot) (closed : IsClosed root) where
   cover_seen d n r i = let l = seen_from root (d ++ n ∷ r) i in seen_way root closed d n r l.0 l.1
 
   pub seen_by_name : (d : Place) → under (seen_places root) d ≡ on (is_some (seen root d)) d ++ flat_map (λ n. under (seen_places root) (d ++ n ∷ [])) (seen_names root d)
-  seen_by_name d = split_names (seen_places root) (seen_ascend root) d (seen_names root d) (seen_names_ascend root d) (cover_seen d) ∙ ap (λ l. l ++ flat_map (λ n. under (seen_places root) (d ++ n ∷ [])) (seen_names root d)) (seen_here root d)
+  seen_by_name d = split_names (seen_places root) (seen_ascend root) d (seen_names root d) (seen_names_ascend root d) (cover_seen d)
+      ∙ ap (λ l. l ++ flat_map (λ n. under (seen_places root) (d ++ n ∷ [])) (seen_names root d)) (seen_here root d)
 
   pub listed_left : (d q : Place) (fs : List Frame) → seen_left (seen_places root) (listed_at root d q fs) ≡ filter (above (d ++ q)) (under (seen_places root) d) ++ seen_left (seen_places root) fs
   listed_left d [] fs =
-      ap (λ l. l ++ seen_left (seen_places root) fs) (sym (split_self (seen_places root) (seen_ascend root) d (seen_names root d) (seen_names_ascend root d) (cover_seen d)) ∙ ap (λ p. filter (above p) (under (seen_places root) d)) (sym (append_nothing d)))
+      ap (λ l. l ++ seen_left (seen_places root) fs)
+          (sym (split_self (seen_places root) (seen_ascend root) d (seen_names root d) (seen_names_ascend root d) (cover_seen d))
+          ∙ ap (λ p. filter (above p) (under (seen_places root) d)) (sym (append_nothing d)))
   listed_left d (n ∷ q) fs =
       listed_left (d ++ n ∷ []) q ((d, filter (λ m. is_lt (text_cmp n m)) (seen_names root d)) ∷ fs)
-      ∙ ap (λ p. filter (above p) (under (seen_places root) (d ++ n ∷ [])) ++ (flat_map (λ m. under (seen_places root) (d ++ m ∷ [])) (filter (λ m. is_lt (text_cmp n m)) (seen_names root d)) ++ seen_left (seen_places root) fs)) (append_one d q n)
-      ∙ sym (append_assoc (filter (above (d ++ n ∷ q)) (under (seen_places root) (d ++ n ∷ []))) (flat_map (λ m. under (seen_places root) (d ++ m ∷ [])) (filter (λ m. is_lt (text_cmp n m)) (seen_names root d))) (seen_left (seen_places root) fs))
+      ∙ ap (λ p. filter (above p) (under (seen_places root) (d ++ n ∷ []))
+          ++ (flat_map (λ m. under (seen_places root) (d ++ m ∷ [])) (filter (λ m. is_lt (text_cmp n m)) (seen_names root d)) ++ seen_left (seen_places root) fs)) (append_one d q n)
+      ∙ sym (append_assoc (filter (above (d ++ n ∷ q)) (under (seen_places root) (d ++ n ∷ [])))
+          (flat_map (λ m. under (seen_places root) (d ++ m ∷ [])) (filter (λ m. is_lt (text_cmp n m)) (seen_names root d))) (seen_left (seen_places root) fs))
       ∙ ap (λ l. l ++ seen_left (seen_places root) fs) (sym (split_after (seen_places root) (seen_ascend root) d (seen_names root d) (seen_names_ascend root d) (cover_seen d) n q))
 
   pub listed_is : (q : Place) → seen_left (seen_places root) (listed_at root [] q []) ≡ filter (above q) (seen_places root)
@@ -162,7 +173,8 @@ module _ (root : StorageRoot) (closed : IsClosed root) where
   pub listing_step : (d : Place) (n : Text) (ns : List Text) (fs : List Frame) (leaf : Leaf) → seen root (d ++ n ∷ []) ≡ Some leaf
       → seen_left (seen_places root) ((d, n ∷ ns) ∷ fs) ≡ (d ++ n ∷ []) ∷ seen_left (seen_places root) ((d ++ n ∷ [], seen_names root (d ++ n ∷ [])) ∷ (d, ns) ∷ fs)
   listing_step d n ns fs leaf h =
-      ap (λ l. (l ++ seen_in (seen_places root) (d, ns)) ++ seen_left (seen_places root) fs) (seen_by_name (d ++ n ∷ []) ∙ ap (λ o. on (is_some o) (d ++ n ∷ []) ++ flat_map (λ m. under (seen_places root) ((d ++ n ∷ []) ++ m ∷ [])) (seen_names root (d ++ n ∷ []))) h)
+      ap (λ l. (l ++ seen_in (seen_places root) (d, ns)) ++ seen_left (seen_places root) fs)
+          (seen_by_name (d ++ n ∷ []) ∙ ap (λ o. on (is_some o) (d ++ n ∷ []) ++ flat_map (λ m. under (seen_places root) ((d ++ n ∷ []) ++ m ∷ [])) (seen_names root (d ++ n ∷ []))) h)
       ∙ regroup (d ++ n ∷ []) (seen_in (seen_places root) (d ++ n ∷ [], seen_names root (d ++ n ∷ []))) (seen_in (seen_places root) (d, ns)) (seen_left (seen_places root) fs)
     where
       regroup : (x : Place) (b c e : List Place) → (x ∷ b ++ c) ++ e ≡ x ∷ (b ++ (c ++ e))
@@ -193,7 +205,8 @@ module _ (root : StorageRoot) (closed : IsClosed root) where
       alike e (inl g) = inl (ap (λ x. is_eq (text_cmp a x) && begins o l) e ∙ ap (λ x. x && begins o l) (text_same a) ∙ g)
       alike e (inr g) = inr (ap (λ x. ordering_then (text_cmp x a) (place_cmp l o)) e ∙ ap (λ r. ordering_then r (place_cmp l o)) (equal_itself text_cmp_total a) ∙ g)
 
-      by : (r : Ordering) → text_cmp b a ≡ r → ordering_then r (place_cmp l (o ++ q)) ≡ Less → (place_cmp l (o ++ q) ≡ Less → (begins o l ≡ true) ⊎ (place_cmp l o ≡ Less)) → (begins (a ∷ o) (b ∷ l) ≡ true) ⊎ (place_cmp (b ∷ l) (a ∷ o) ≡ Less)
+      by : (r : Ordering) → text_cmp b a ≡ r → ordering_then r (place_cmp l (o ++ q)) ≡ Less
+          → (place_cmp l (o ++ q) ≡ Less → (begins o l ≡ true) ⊎ (place_cmp l o ≡ Less)) → (begins (a ∷ o) (b ∷ l) ≡ true) ⊎ (place_cmp (b ∷ l) (a ∷ o) ≡ Less)
       by Less e g k = inr (ap (λ r. ordering_then r (place_cmp l o)) e)
       by Equal e g k = alike (text_cmp_exact b a e) (k g)
       by Greater e g k = absurd (no g)
@@ -209,7 +222,8 @@ module _ (root : StorageRoot) (closed : IsClosed root) where
           let head : zone root (o ++ []) ≡ inside o [] = zone_part root closed p o [] q z in
           in_table o k.0 q t (ap (zone root) (k.1 ∙ ap (λ x. x ++ k.0) (sym (append_nothing o))) ∙ zone_longer (o ++ []) o [] k.0 head) h i e
 
-      apart : (o q : Place) (t : Table) → zone root p ≡ inside o q → table_at root o ≡ Some t → IsAmong (paths_of t) q → p ≡ o ++ q → (begins o last ≡ true) ⊎ (place_cmp last o ≡ Less) → Ahead root last p
+      apart : (o q : Place) (t : Table) → zone root p ≡ inside o q → table_at root o ≡ Some t → IsAmong (paths_of t) q → p ≡ o ++ q → (begins o last ≡ true)
+          ⊎ (place_cmp last o ≡ Less) → Ahead root last p
       apart o q t z h i e (inl b) = within o q t z h i e (begins_rest o last b)
       apart o q t z h i e (inr m) = in_later o q (head_seen root closed p o q z) m e
 

@@ -124,7 +124,8 @@ module _ (root : StorageRoot) where
   some_bytes (Some bytes) h = (bytes, refl)
 
   has_inventory : (o : Place) → reads_inventory root o ≡ true → HasInventory root o
-  has_inventory o h = by (is_head (zone root o)) (is_known (object_declared root o)) (is_some (file_at root (o ++ inventory_name ∷ []))) refl refl refl (ap (λ b. is_head (zone root o) && b) (sym (of_cond (is_known (object_declared root o)) (file_at root (o ++ inventory_name ∷ [])))) ∙ h)
+  has_inventory o h = by (is_head (zone root o)) (is_known (object_declared root o)) (is_some (file_at root (o ++ inventory_name ∷ []))) refl refl refl
+      (ap (λ b. is_head (zone root o) && b) (sym (of_cond (is_known (object_declared root o)) (file_at root (o ++ inventory_name ∷ [])))) ∙ h)
     where
       of_cond : (b : Bool) (f : Option Text) → is_some (cond b f None) ≡ b && is_some f
       of_cond true f = refl
@@ -208,7 +209,8 @@ module _ (root : StorageRoot) where
   no_nest : (a b : Place) → HasInventory root a → HasInventory root b → (n : Text) (r : Place) → b ≡ a ++ n ∷ r → ⊥
   no_nest a b h k n r e = true_not_false (sym h.object.declares ∙ k.object.outermost a n r e h.object.below_root)
 
-  inventories_before : (o : Place) (os : List Place) → HasInventory root o → ((b : Place) → IsAmong os b → HasInventory root b) → IsBeforeAll place_cmp o os → IsBeforeAll place_cmp (o ++ inventory_name ∷ []) (map (λ b. b ++ inventory_name ∷ []) os)
+  inventories_before : (o : Place) (os : List Place) → HasInventory root o → ((b : Place) → IsAmong os b → HasInventory root b) → IsBeforeAll place_cmp o os
+      → IsBeforeAll place_cmp (o ++ inventory_name ∷ []) (map (λ b. b ++ inventory_name ∷ []) os)
   inventories_before o [] h all k = tt
   inventories_before o (b ∷ os) h all k =
       (still_less o b (inventory_name ∷ []) (inventory_name ∷ []) k.0 (no_nest o b h (all b (inl refl))), inventories_before o os h (λ c i. all c (inr i)) k.1)
@@ -229,7 +231,8 @@ module _ (root : StorageRoot) where
   declared_once : (o : Place) (v : Version) → object_declared root o ≡ known v → (n : Text) × (filter (is_declaration Object) (files_in root o) ≡ n ∷ [])
   declared_once o v h = by (is_dir root o && nat_le (length o) max_listed_depth) (filter (is_declaration Object) (files_in root o)) refl h
     where
-      by : (b : Bool) (ns : List Text) → filter (is_declaration Object) (files_in root o) ≡ ns → cond b (declared_by Object ns) undeclared ≡ known v → (n : Text) × (filter (is_declaration Object) (files_in root o) ≡ n ∷ [])
+      by : (b : Bool) (ns : List Text) → filter (is_declaration Object) (files_in root o) ≡ ns → cond b (declared_by Object ns) undeclared ≡ known v
+          → (n : Text) × (filter (is_declaration Object) (files_in root o) ≡ n ∷ [])
       by true [] e g = absurd cc
       by true (n ∷ []) e g = (n, e)
       by true (n ∷ m ∷ ns) e g = absurd cc

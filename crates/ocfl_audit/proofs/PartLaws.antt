@@ -45,7 +45,8 @@ module _ {A : Type 0} where
   filter_twice f g [] = refl
   filter_twice f g (x ∷ xs) = by (g x) (filter_twice f g xs)
     where
-      by : (b : Bool) → filter f (filter g xs) ≡ filter (λ y. g y && f y) xs → filter f (cond b (x ∷ filter g xs) (filter g xs)) ≡ cond (b && f x) (x ∷ filter (λ y. g y && f y) xs) (filter (λ y. g y && f y) xs)
+      by : (b : Bool) → filter f (filter g xs) ≡ filter (λ y. g y && f y) xs
+          → filter f (cond b (x ∷ filter g xs) (filter g xs)) ≡ cond (b && f x) (x ∷ filter (λ y. g y && f y) xs) (filter (λ y. g y && f y) xs)
       by true e = ap (λ l. cond (f x) (x ∷ l) l) e
       by false e = e
 
@@ -139,7 +140,8 @@ from_both a p ps z f = by (is_lt (place_cmp z p)) refl
 
 module _ {A : Type 0} (place_of : A → Place) where
   -- of an ascending list, from one that is not below p on, nothing is
-  none_below : (test : A → Bool) (p q : Place) (xs : List A) → is_lt (place_cmp q p) ≡ false → IsBeforeAll place_cmp q (map place_of xs) → filter (λ x. test x && is_lt (place_cmp (place_of x) p)) xs ≡ []
+  none_below : (test : A → Bool) (p q : Place) (xs : List A) → is_lt (place_cmp q p) ≡ false → IsBeforeAll place_cmp q (map place_of xs)
+      → filter (λ x. test x && is_lt (place_cmp (place_of x) p)) xs ≡ []
   none_below test p q [] h up = refl
   none_below test p q (x ∷ xs) h up =
       let rest : List A = filter (λ x. test x && is_lt (place_cmp (place_of x) p)) xs in
@@ -247,7 +249,9 @@ module _ (z : Place) where
       (last, ap (λ t. cond (t && true) (last ∷ []) []) h)
   one_lies a (p ∷ ps) up h = by (is_lt (place_cmp z p)) refl (λ e. one_lies (Some p) ps up.1 e)
     where
-      by : (t : Bool) → is_lt (place_cmp z p) ≡ t → (is_from (Some p) z ≡ true → (part : Part) × (filter (λ part. lies_in part z) (parts_from (Some p) ps) ≡ part ∷ [])) → (part : Part) × (filter (λ part. lies_in part z) (parts_from a (p ∷ ps)) ≡ part ∷ [])
+      by : (t : Bool) → is_lt (place_cmp z p) ≡ t
+          → (is_from (Some p) z ≡ true → (part : Part) × (filter (λ part. lies_in part z) (parts_from (Some p) ps) ≡ part ∷ [])) → (part : Part)
+          × (filter (λ part. lies_in part z) (parts_from a (p ∷ ps)) ≡ part ∷ [])
       by true e later =
           let first : Part = record { under = []; from = a; below = Some p } in
           let rest : List Part = filter (λ part. lies_in part z) (parts_from (Some p) ps) in
@@ -265,7 +269,8 @@ module _ (z : Place) where
 
 module _ (root : StorageRoot) (unread : Unread) (part : Part) where
   pub part_runs_join : (b n : ℕ) (limits : List Limits) → 1 ≤ b → 1 ≤ n → All (IsAtLeast b n) limits
-      → total_cost (within part (audit root unread)) / b + total_files (within part (audit root unread)) / n + 1 ≤ length limits → joined (runs (within part (audit root unread)) limits) ≡ within part (audit root unread)
+      → total_cost (within part (audit root unread)) / b + total_files (within part (audit root unread)) / n + 1 ≤ length limits
+          → joined (runs (within part (audit root unread)) limits) ≡ within part (audit root unread)
   part_runs_join b n limits some_budget some_files large enough = large_whole b n some_budget some_files limits (within part (audit root unread)) large enough
 
   pub part_runs_few : (b n : ℕ) (limits : List Limits) → 1 ≤ b → 1 ≤ n → All (IsAtLeast b n) limits

@@ -225,7 +225,8 @@ same_after (l ∷ ls) [] h = refl
 same_after (l ∷ ls) (i ∷ items) h =
     let budgets : List ℕ = map (λ k. k.budget) ls in
     let fits = All-head (FileLimitFits (i ∷ items)) l ls h in
-    ap₂ (λ c r. c ∷ r) (same_cut (i ∷ items) l fits) (same_after ls (left (i ∷ items) l) (left_fits (i ∷ items) l ls (All-tail (FileLimitFits (i ∷ items)) l ls h)) ∙ ap (budget_runs_after budgets) (same_left (i ∷ items) l fits))
+    ap₂ (λ c r. c ∷ r) (same_cut (i ∷ items) l fits)
+        (same_after ls (left (i ∷ items) l) (left_fits (i ∷ items) l ls (All-tail (FileLimitFits (i ∷ items)) l ls h)) ∙ ap (budget_runs_after budgets) (same_left (i ∷ items) l fits))
 
 pub same_runs : (items : List Item) (ls : List Limits) → FilesFit items ls → runs items ls ≡ budget_runs items (map (λ l. l.budget) ls)
 same_runs items [] h = refl
@@ -348,9 +349,12 @@ joined_after [] (i ∷ items) (inl e) h = absurd (no e)
 joined_after [] (i ∷ items) (inr c) h = absurd (omega (arith, c, h))
 joined_after (b ∷ bs) [] c h = refl
 joined_after (b ∷ bs) (i ∷ items) c h =
-    ap (λ xs. budget_cut (i ∷ items) b ++ xs) (by (rest_fits (i ∷ items) b (sum_of bs) h (left_has_cost (i ∷ items) b)) (joined_after bs (budget_left (i ∷ items) b) (left_has_cost (i ∷ items) b))) ∙ cut_and_left (i ∷ items) b
+    ap (λ xs. budget_cut (i ∷ items) b ++ xs)
+        (by (rest_fits (i ∷ items) b (sum_of bs) h (left_has_cost (i ∷ items) b)) (joined_after bs (budget_left (i ∷ items) b) (left_has_cost (i ∷ items) b))) ∙ cut_and_left (i ∷ items) b
   where
-    by : (budget_left (i ∷ items) b ≡ []) ⊎ (total_cost (budget_left (i ∷ items) b) ≤ sum_of bs) → (total_cost (budget_left (i ∷ items) b) ≤ sum_of bs → joined (budget_runs_after bs (budget_left (i ∷ items) b)) ≡ budget_left (i ∷ items) b) → joined (budget_runs_after bs (budget_left (i ∷ items) b)) ≡ budget_left (i ∷ items) b
+    by : (budget_left (i ∷ items) b ≡ []) ⊎ (total_cost (budget_left (i ∷ items) b) ≤ sum_of bs)
+        → (total_cost (budget_left (i ∷ items) b) ≤ sum_of bs → joined (budget_runs_after bs (budget_left (i ∷ items) b)) ≡ budget_left (i ∷ items) b)
+        → joined (budget_runs_after bs (budget_left (i ∷ items) b)) ≡ budget_left (i ∷ items) b
     by (inl e) k = ap (λ xs. joined (budget_runs_after bs xs)) e ∙ joined_nothing bs ∙ sym e
     by (inr m) k = k m
 
@@ -452,7 +456,8 @@ length-budgets : (limits : List Limits) → length (map (λ l. l.budget) limits)
 length-budgets [] = refl
 length-budgets (l ∷ ls) = ap suc (length-budgets ls)
 
-pub limits_few : (k : ℕ) (limits : List Limits) (items : List Item) → 1 ≤ k → k ≤ length limits → FilesFit items limits → total_cost items ≤ sum_of (take k (map (λ l. l.budget) limits)) → length (runs items limits) ≤ k
+pub limits_few : (k : ℕ) (limits : List Limits) (items : List Item) → 1 ≤ k → k ≤ length limits → FilesFit items limits
+    → total_cost items ≤ sum_of (take k (map (λ l. l.budget) limits)) → length (runs items limits) ≤ k
 limits_few k limits items some fits fit h =
     let e : length (runs items limits) ≡ length (budget_runs items (map (λ l. l.budget) limits)) = ap length (same_runs items limits fit) in
     let m = (few_runs k (map (λ l. l.budget) limits) items some (let n = length-budgets limits in omega (arith, n, fits)) h).1 in
@@ -475,7 +480,8 @@ same_few items l n h some c =
     let m = equal_few items l.budget n some c in
     omega (arith, e, m)
 
-pub same_join : (items : List Item) (l : Limits) (n : ℕ) → FileLimitFits items l → 1 ≤ l.budget → 1 ≤ total_cost items → (total_cost items - 1) / l.budget + 1 ≤ n → joined (runs items (replicate n l)) ≡ items
+pub same_join : (items : List Item) (l : Limits) (n : ℕ) → FileLimitFits items l → 1 ≤ l.budget → 1 ≤ total_cost items
+    → (total_cost items - 1) / l.budget + 1 ≤ n → joined (runs items (replicate n l)) ≡ items
 same_join items l n h some c fits = ap joined (same_equal items l n h) ∙ equal_whole items l.budget n some c fits
 
 no_files : (items : List Item) (l : Limits) → total_cost items ≡ 0 → FileLimitFits items l
@@ -506,7 +512,8 @@ module _ (b n : ℕ) (some_budget : 1 ≤ b) (some_files : 1 ≤ n) where
 
   -- each run that leaves something makes them one less
   due_less : (items : List Item) (l : Limits) → IsAtLeast b n l → left items l ≢ [] → due (left items l) + 1 ≤ due items
-  due_less items l h more = subst (λ c. due (left items l) + 1 ≤ c / b + total_files items / n) (sym (costs_of_parts items l)) (subst (λ f. due (left items l) + 1 ≤ (total_cost (cut items l) + total_cost (left items l)) / b + f / n) (sym (files_of_parts items l)) (by (reaches l 0 0 items more)))
+  due_less items l h more = subst (λ c. due (left items l) + 1 ≤ c / b + total_files items / n) (sym (costs_of_parts items l))
+      (subst (λ f. due (left items l) + 1 ≤ (total_cost (cut items l) + total_cost (left items l)) / b + f / n) (sym (files_of_parts items l)) (by (reaches l 0 0 items more)))
     where
       cost : ℕ
       cost = total_cost (cut items l)
@@ -543,9 +550,11 @@ module _ (b n : ℕ) (some_budget : 1 ≤ b) (some_files : 1 ≤ n) where
   whole_after : (ls : List Limits) (items : List Item) → All (IsAtLeast b n) ls → due items + 1 ≤ length ls → joined (runs_after ls items) ≡ items
   whole_after [] items a h = absurd (omega (arith, h))
   whole_after (l ∷ ls) [] a h = refl
-  whole_after (l ∷ ls) (i ∷ items) a h = ap (λ xs. cut (i ∷ items) l ++ xs) (by (left_over_or (left (i ∷ items) l)) (whole_after ls (left (i ∷ items) l) (All-tail (IsAtLeast b n) l ls a))) ∙ joined_parts (i ∷ items) l
+  whole_after (l ∷ ls) (i ∷ items) a h =
+      ap (λ xs. cut (i ∷ items) l ++ xs) (by (left_over_or (left (i ∷ items) l)) (whole_after ls (left (i ∷ items) l) (All-tail (IsAtLeast b n) l ls a))) ∙ joined_parts (i ∷ items) l
     where
-      by : IsLeftOver (left (i ∷ items) l) → (due (left (i ∷ items) l) + 1 ≤ length ls → joined (runs_after ls (left (i ∷ items) l)) ≡ left (i ∷ items) l) → joined (runs_after ls (left (i ∷ items) l)) ≡ left (i ∷ items) l
+      by : IsLeftOver (left (i ∷ items) l) → (due (left (i ∷ items) l) + 1 ≤ length ls → joined (runs_after ls (left (i ∷ items) l)) ≡ left (i ∷ items) l)
+          → joined (runs_after ls (left (i ∷ items) l)) ≡ left (i ∷ items) l
       by (inl e) k = ap (λ xs. joined (runs_after ls xs)) e ∙ nothing_joined ls ∙ sym e
       by (inr m) k = let d = due_less (i ∷ items) l (All-head (IsAtLeast b n) l ls a) m in k (omega (arith, d, h))
 

@@ -36,7 +36,8 @@ key_from_entry : (d : Place) (n : Text) (root : StorageRoot) → IsAmong (filter
 key_from_entry d n [] i = absurd i
 key_from_entry d n (e ∷ root) i = by (child_name d e.0) refl i (key_from_entry d n root)
   where
-    by : (o : Option Text) → child_name d e.0 ≡ o → IsAmong (cons_option o (filter_map (λ x. child_name d x.0) root)) n → (IsAmong (filter_map (λ x. child_name d x.0) root) n → IsAmong (map (λ x. x.0) root) (d ++ n ∷ [])) → IsAmong (map (λ x. x.0) (e ∷ root)) (d ++ n ∷ [])
+    by : (o : Option Text) → child_name d e.0 ≡ o → IsAmong (cons_option o (filter_map (λ x. child_name d x.0) root)) n
+        → (IsAmong (filter_map (λ x. child_name d x.0) root) n → IsAmong (map (λ x. x.0) root) (d ++ n ∷ [])) → IsAmong (map (λ x. x.0) (e ∷ root)) (d ++ n ∷ [])
     by None f j k = inr (k j)
     by (Some m) f (inl g) k = inl (sym (child_whole d e.0 n (f ∙ ap (λ x. Some x) (sym g))))
     by (Some m) f (inr j) k = inr (k j)
@@ -45,7 +46,8 @@ key_lookup : (root : StorageRoot) (p : Place) → IsAmong (map (λ e. e.0) root)
 key_lookup [] p i = absurd i
 key_lookup (e ∷ root) p i = by (place_eq e.0 p) refl i (key_lookup root p)
   where
-    by : (b : Bool) → place_eq e.0 p ≡ b → IsAmong (map (λ x. x.0) (e ∷ root)) p → (IsAmong (map (λ x. x.0) root) p → (leaf : Leaf) × (lookup root p ≡ Some leaf)) → (leaf : Leaf) × (cond b (Some e.1) (lookup root p) ≡ Some leaf)
+    by : (b : Bool) → place_eq e.0 p ≡ b → IsAmong (map (λ x. x.0) (e ∷ root)) p
+        → (IsAmong (map (λ x. x.0) root) p → (leaf : Leaf) × (lookup root p ≡ Some leaf)) → (leaf : Leaf) × (cond b (Some e.1) (lookup root p) ≡ Some leaf)
     by true f j k = (e.1, refl)
     by false f (inl g) k = absurd (true_not_false (sym (place_same p) ∙ ap (λ x. place_eq x p) g ∙ f))
     by false f (inr j) k = k j

@@ -21,7 +21,8 @@ object_zone_step root front [] n = ap (λ x. step_zone root x n hierarchy) (sym 
 object_zone_step root front (m ∷ d) n = by (is_declared (object_declared root (front ++ m ∷ []))) (object_zone_step root (front ++ m ∷ []) d n)
   where
     by : (b : Bool) → object_zone root (front ++ m ∷ []) (d ++ n ∷ []) ≡ step_zone root ((front ++ m ∷ []) ++ d) n (object_zone root (front ++ m ∷ []) d)
-        → cond b (inside (front ++ m ∷ []) (d ++ n ∷ [])) (object_zone root (front ++ m ∷ []) (d ++ n ∷ [])) ≡ step_zone root (front ++ m ∷ d) n (cond b (inside (front ++ m ∷ []) d) (object_zone root (front ++ m ∷ []) d))
+        → cond b (inside (front ++ m ∷ []) (d ++ n ∷ [])) (object_zone root (front ++ m ∷ []) (d ++ n ∷ [])) ≡ step_zone root (front ++ m ∷ d) n
+            (cond b (inside (front ++ m ∷ []) d) (object_zone root (front ++ m ∷ []) d))
     by true h = refl
     by false h = h ∙ ap (λ x. step_zone root x n (object_zone root (front ++ m ∷ []) d)) (append_one front d m)
 
@@ -41,7 +42,8 @@ and_true false = refl
 pub all_beginnings_step : (test : Place → Bool) (d : Place) (n : Text) → list_all test (beginnings (d ++ n ∷ [])) ≡ list_all test (beginnings d) && test d
 all_beginnings_step test [] n = and_true (test [])
 all_beginnings_step test (m ∷ d) n =
-    ap (λ b. test [] && b) (all_map (λ q. m ∷ q) test (beginnings (d ++ n ∷ [])) ∙ all_beginnings_step (λ q. test (m ∷ q)) d n ∙ ap (λ b. b && test (m ∷ d)) (sym (all_map (λ q. m ∷ q) test (beginnings d))))
+    ap (λ b. test [] && b) (all_map (λ q. m ∷ q) test (beginnings (d ++ n ∷ [])) ∙ all_beginnings_step (λ q. test (m ∷ q)) d n
+        ∙ ap (λ b. b && test (m ∷ d)) (sym (all_map (λ q. m ∷ q) test (beginnings d))))
     ∙ sym (and_assoc (test []) (list_all test (map (λ q. m ∷ q) (beginnings d))) (test (m ∷ d)))
 
 -- ---- one name further
@@ -56,7 +58,8 @@ zone_step root [] n = by (not (is_known (root_declared root))) (is_in_extensions
     by false false = refl
 zone_step root (m ∷ d) n = by (not (is_known (root_declared root)) || is_in_extensions root (m ∷ d)) (object_zone_step root [] (m ∷ d) n)
   where
-    by : (x : Bool) → object_zone root [] (m ∷ (d ++ n ∷ [])) ≡ step_zone root (m ∷ d) n (object_zone root [] (m ∷ d)) → cond x skipped (object_zone root [] (m ∷ (d ++ n ∷ []))) ≡ step_zone root (m ∷ d) n (cond x skipped (object_zone root [] (m ∷ d)))
+    by : (x : Bool) → object_zone root [] (m ∷ (d ++ n ∷ [])) ≡ step_zone root (m ∷ d) n (object_zone root [] (m ∷ d))
+        → cond x skipped (object_zone root [] (m ∷ (d ++ n ∷ []))) ≡ step_zone root (m ∷ d) n (cond x skipped (object_zone root [] (m ∷ d)))
     by true h = refl
     by false h = h
 

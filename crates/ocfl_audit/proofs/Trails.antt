@@ -32,12 +32,14 @@ pub all_meta : (root : StorageRoot) (trail : List Opening) → content_trail roo
 all_meta root [] h = tt
 all_meta root (o ∷ trail) h = by (is_meta root o.place) refl h (all_meta root trail)
   where
-    by : (b : Bool) → is_meta root o.place ≡ b → map (λ x. x.place) (cond (not b) (o ∷ content_openings root trail) (content_openings root trail)) ≡ [] → (content_trail root trail ≡ [] → AllByRecursion (λ x. is_meta root x.place ≡ true) trail)
+    by : (b : Bool) → is_meta root o.place ≡ b → map (λ x. x.place) (cond (not b) (o ∷ content_openings root trail) (content_openings root trail)) ≡ []
+        → (content_trail root trail ≡ [] → AllByRecursion (λ x. is_meta root x.place ≡ true) trail)
         → AllByRecursion (λ x. is_meta root x.place ≡ true) (o ∷ trail)
     by true e k rest = (e, rest k)
     by false e k rest = absurd cc
 
-pub meta_at : (root : StorageRoot) (trail : List Opening) (i : ℕ) (d : Opening) → i < length trail → AllByRecursion (λ o. is_meta root o.place ≡ true) trail → is_meta root (get_or trail i d).place ≡ true
+pub meta_at : (root : StorageRoot) (trail : List Opening) (i : ℕ) (d : Opening) → i < length trail → AllByRecursion (λ o. is_meta root o.place ≡ true) trail
+    → is_meta root (get_or trail i d).place ≡ true
 meta_at root [] i d l h = absurd (omega (arith, l))
 meta_at root (o ∷ trail) zero d l h = h.0
 meta_at root (o ∷ trail) (suc i) d l h = meta_at root trail i d (omega (arith, l)) h.1

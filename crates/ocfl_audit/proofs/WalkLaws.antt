@@ -51,7 +51,8 @@ module _ (root : StorageRoot) (unread : Unread) where
   filter_items test (p ∷ ps) = by (test p) (filter_items test ps)
     where
       by : (b : Bool) → filter (λ i. test i.place) (map (item_of root unread) ps) ≡ map (item_of root unread) (filter test ps)
-          → cond b (item_of root unread p ∷ filter (λ i. test i.place) (map (item_of root unread) ps)) (filter (λ i. test i.place) (map (item_of root unread) ps)) ≡ map (item_of root unread) (cond b (p ∷ filter test ps) (filter test ps))
+          → cond b (item_of root unread p ∷ filter (λ i. test i.place) (map (item_of root unread) ps))
+              (filter (λ i. test i.place) (map (item_of root unread) ps)) ≡ map (item_of root unread) (cond b (p ∷ filter test ps) (filter test ps))
       by true e = ap (λ l. item_of root unread p ∷ l) e
       by false e = e
 
@@ -60,7 +61,8 @@ module _ (root : StorageRoot) (unread : Unread) where
   filter_lines (p ∷ ps) = by (has_lines (item_of root unread p)) (filter_lines ps)
     where
       by : (b : Bool) → filter has_lines (map (item_of root unread) ps) ≡ map (item_of root unread) (filter (λ q. has_lines (item_of root unread q)) ps)
-          → cond b (item_of root unread p ∷ filter has_lines (map (item_of root unread) ps)) (filter has_lines (map (item_of root unread) ps)) ≡ map (item_of root unread) (cond b (p ∷ filter (λ q. has_lines (item_of root unread q)) ps) (filter (λ q. has_lines (item_of root unread q)) ps))
+          → cond b (item_of root unread p ∷ filter has_lines (map (item_of root unread) ps)) (filter has_lines (map (item_of root unread) ps)) ≡ map
+              (item_of root unread) (cond b (p ∷ filter (λ q. has_lines (item_of root unread q)) ps) (filter (λ q. has_lines (item_of root unread q)) ps))
       by true e = ap (λ l. item_of root unread p ∷ l) e
       by false e = e
 
@@ -78,7 +80,8 @@ module _ (root : StorageRoot) (unread : Unread) where
   after_places d p = ap (λ xs. after xs (Some p)) (under_places d) ∙ filter_items (above p) (under item_places d)
 
   parts_places : (d : Place) (ns : List Text) → flat_map (λ n. items_under (d ++ n ∷ []) (audit root unread)) ns ≡ map (item_of root unread) (flat_map (λ n. under item_places (d ++ n ∷ [])) ns)
-  parts_places d ns = flat_map_alike (λ n. items_under (d ++ n ∷ []) (audit root unread)) (λ n. map (item_of root unread) (under item_places (d ++ n ∷ []))) ns (λ n. under_places (d ++ n ∷ [])) ∙ sym (map_flat_map (item_of root unread) (λ n. under item_places (d ++ n ∷ [])) ns)
+  parts_places d ns = flat_map_alike (λ n. items_under (d ++ n ∷ []) (audit root unread)) (λ n. map (item_of root unread) (under item_places (d ++ n ∷ []))) ns
+      (λ n. under_places (d ++ n ∷ [])) ∙ sym (map_flat_map (item_of root unread) (λ n. under item_places (d ++ n ∷ [])) ns)
 
   pub place_has : (p : Place) → IsAmong item_places p → notes root (given_by unread p) p ≢ []
   place_has p i = (lines_from_notes root unread p _).0 (among_from_filter (λ x. has_lines (item_of root unread x)) (ascending place_cmp (candidates root)) p i).1
@@ -90,7 +93,8 @@ module _ (root : StorageRoot) (unread : Unread) where
   -- ---- the item at one place
 
   here_places : (d : Place) → filter (place_eq d) item_places ≡ on (has_lines (item_of root unread d)) d
-  here_places d = ascending_unique place_cmp_total place_cmp_exact _ _ (ascends_filter place_cmp (place_eq d) item_places places_ascend) (alone (has_lines (item_of root unread d))) (λ z. (to z, from z (has_lines (item_of root unread d)) refl))
+  here_places d = ascending_unique place_cmp_total place_cmp_exact _ _ (ascends_filter place_cmp (place_eq d) item_places places_ascend)
+      (alone (has_lines (item_of root unread d))) (λ z. (to z, from z (has_lines (item_of root unread d)) refl))
     where
       alone : (b : Bool) → IsAscending place_cmp (on b d)
       alone true = (tt, tt)
@@ -139,9 +143,11 @@ module _ (root : StorageRoot) (closed : IsClosed root) (unread : Unread) where
 
   -- those above a place below d: what is above it under its next name, and then all under greater names
   pub items_after_name : (d : Place) (n : Text) (q : Place) → after (items_under d (audit root unread)) (Some (d ++ n ∷ q))
-      ≡ after (items_under (d ++ n ∷ []) (audit root unread)) (Some (d ++ n ∷ q)) ++ flat_map (λ m. items_under (d ++ m ∷ []) (audit root unread)) (filter (λ m. is_lt (text_cmp n m)) (names_below root d))
+      ≡ after (items_under (d ++ n ∷ []) (audit root unread)) (Some (d ++ n ∷ q)) ++ flat_map (λ m. items_under (d ++ m ∷ []) (audit root unread))
+          (filter (λ m. is_lt (text_cmp n m)) (names_below root d))
   items_after_name d n q =
-      after_places root unread d (d ++ n ∷ q) ∙ ap (map (item_of root unread)) (split_after (item_places root unread) (places_ascend root unread) d (names_below root d) (names_ascend root d) (cover d) n q)
+      after_places root unread d (d ++ n ∷ q)
+          ∙ ap (map (item_of root unread)) (split_after (item_places root unread) (places_ascend root unread) d (names_below root d) (names_ascend root d) (cover d) n q)
       ∙ map_append (item_of root unread) (filter (above (d ++ n ∷ q)) (under (item_places root unread) (d ++ n ∷ []))) _
       ∙ append_at (sym (after_places root unread (d ++ n ∷ []) (d ++ n ∷ q))) (sym (parts_places root unread d (filter (λ m. is_lt (text_cmp n m)) (names_below root d))))
     where
@@ -150,7 +156,8 @@ module _ (root : StorageRoot) (closed : IsClosed root) (unread : Unread) where
 
   -- ---- the walk
 
-  deeper : (k : ℕ) (d : Place) (n : Text) → ((r : Place) → IsAmong (item_places root unread) (d ++ r) → length r < suc k) → (r : Place) → IsAmong (item_places root unread) ((d ++ n ∷ []) ++ r) → length r < k
+  deeper : (k : ℕ) (d : Place) (n : Text) → ((r : Place) → IsAmong (item_places root unread) (d ++ r) → length r < suc k) → (r : Place)
+      → IsAmong (item_places root unread) ((d ++ n ∷ []) ++ r) → length r < k
   deeper k d n h r i = let m : length (n ∷ r) < suc k = h (n ∷ r) (subst (IsAmong (item_places root unread)) (append_one d r n) i) in omega (arith, m)
 
   nothing_under : (d : Place) → ((r : Place) → IsAmong (item_places root unread) (d ++ r) → length r < 0) → items_under d (audit root unread) ≡ []
@@ -166,17 +173,20 @@ module _ (root : StorageRoot) (closed : IsClosed root) (unread : Unread) where
   pub walk_under : (k : ℕ) (d : Place) → ((r : Place) → IsAmong (item_places root unread) (d ++ r) → length r < k) → walk k root unread d ≡ items_under d (audit root unread)
   walk_under zero d h = sym (nothing_under d h)
   walk_under (suc k) d h =
-      ap (λ l. item_at root unread d ++ l) (flat_map_alike (λ n. walk k root unread (d ++ n ∷ [])) (λ n. items_under (d ++ n ∷ []) (audit root unread)) (names_below root d) (λ n. walk_under k (d ++ n ∷ []) (deeper k d n h)))
+      ap (λ l. item_at root unread d ++ l)
+          (flat_map_alike (λ n. walk k root unread (d ++ n ∷ [])) (λ n. items_under (d ++ n ∷ []) (audit root unread)) (names_below root d) (λ n. walk_under k (d ++ n ∷ []) (deeper k d n h)))
       ∙ sym (items_by_name d)
 
-  pub walk_after_under : (k : ℕ) (d q : Place) → ((r : Place) → IsAmong (item_places root unread) (d ++ r) → length r < k) → walk_after k root unread d q ≡ after (items_under d (audit root unread)) (Some (d ++ q))
+  pub walk_after_under : (k : ℕ) (d q : Place) → ((r : Place) → IsAmong (item_places root unread) (d ++ r) → length r < k)
+      → walk_after k root unread d q ≡ after (items_under d (audit root unread)) (Some (d ++ q))
   walk_after_under zero d q h = ap (λ xs. after xs (Some (d ++ q))) (sym (nothing_under d h))
   walk_after_under (suc k) d [] h =
       flat_map_alike (λ n. walk k root unread (d ++ n ∷ [])) (λ n. items_under (d ++ n ∷ []) (audit root unread)) (names_below root d) (λ n. walk_under k (d ++ n ∷ []) (deeper k d n h))
       ∙ sym (items_after_self d) ∙ ap (λ p. after (items_under d (audit root unread)) (Some p)) (sym (append_nothing d))
   walk_after_under (suc k) d (n ∷ q) h =
       append_at (walk_after_under k (d ++ n ∷ []) q (deeper k d n h) ∙ ap (λ p. after (items_under (d ++ n ∷ []) (audit root unread)) (Some p)) (append_one d q n))
-      (flat_map_alike (λ m. walk k root unread (d ++ m ∷ [])) (λ m. items_under (d ++ m ∷ []) (audit root unread)) (filter (λ m. is_lt (text_cmp n m)) (names_below root d)) (λ m. walk_under k (d ++ m ∷ []) (deeper k d m h)))
+      (flat_map_alike (λ m. walk k root unread (d ++ m ∷ [])) (λ m. items_under (d ++ m ∷ []) (audit root unread))
+          (filter (λ m. is_lt (text_cmp n m)) (names_below root d)) (λ m. walk_under k (d ++ m ∷ []) (deeper k d m h)))
       ∙ sym (items_after_name d n q)
     where
       append_at : {a b c e : List Item} → a ≡ b → c ≡ e → a ++ c ≡ b ++ e
@@ -198,12 +208,15 @@ module _ (root : StorageRoot) (closed : IsClosed root) (unread : Unread) where
   -- ---- the stack
 
   -- entered at a place, a stack leads to the items above it
-  pub entered_left : (d q : Place) (fs : List Frame) → left_of (audit root unread) (entered_at root d q fs) ≡ after (items_under d (audit root unread)) (Some (d ++ q)) ++ left_of (audit root unread) fs
+  pub entered_left : (d q : Place) (fs : List Frame)
+      → left_of (audit root unread) (entered_at root d q fs) ≡ after (items_under d (audit root unread)) (Some (d ++ q)) ++ left_of (audit root unread) fs
   entered_left d [] fs = ap (λ l. l ++ left_of (audit root unread) fs) (sym (items_after_self d) ∙ ap (λ p. after (items_under d (audit root unread)) (Some p)) (sym (append_nothing d)))
   entered_left d (n ∷ q) fs =
       entered_left (d ++ n ∷ []) q ((d, filter (λ m. is_lt (text_cmp n m)) (names_below root d)) ∷ fs)
-      ∙ ap (λ p. after (items_under (d ++ n ∷ []) (audit root unread)) (Some p) ++ (flat_map (λ m. items_under (d ++ m ∷ []) (audit root unread)) (filter (λ m. is_lt (text_cmp n m)) (names_below root d)) ++ left_of (audit root unread) fs)) (append_one d q n)
-      ∙ sym (append_assoc (after (items_under (d ++ n ∷ []) (audit root unread)) (Some (d ++ n ∷ q))) (flat_map (λ m. items_under (d ++ m ∷ []) (audit root unread)) (filter (λ m. is_lt (text_cmp n m)) (names_below root d))) (left_of (audit root unread) fs))
+      ∙ ap (λ p. after (items_under (d ++ n ∷ []) (audit root unread)) (Some p)
+          ++ (flat_map (λ m. items_under (d ++ m ∷ []) (audit root unread)) (filter (λ m. is_lt (text_cmp n m)) (names_below root d)) ++ left_of (audit root unread) fs)) (append_one d q n)
+      ∙ sym (append_assoc (after (items_under (d ++ n ∷ []) (audit root unread)) (Some (d ++ n ∷ q)))
+          (flat_map (λ m. items_under (d ++ m ∷ []) (audit root unread)) (filter (λ m. is_lt (text_cmp n m)) (names_below root d))) (left_of (audit root unread) fs))
       ∙ ap (λ l. l ++ left_of (audit root unread) fs) (sym (items_after_name d n q))
 
   pub entered_is : (q : Place) → left_of (audit root unread) (entered_at root [] q []) ≡ after (audit root unread) (Some q)

@@ -25,7 +25,8 @@ use Rattle.ocfl_audit.proofs.BelowLaws.{text_cmp_exact, text_same}
 pub all_beginnings_append : (test : Place → Bool) (d r : Place) → list_all test (beginnings (d ++ r)) ≡ list_all test (beginnings d) && list_all (λ q. test (d ++ q)) (beginnings r)
 all_beginnings_append test [] r = refl
 all_beginnings_append test (m ∷ d) r =
-    ap (λ b. test [] && b) (all_map (λ q. m ∷ q) test (beginnings (d ++ r)) ∙ all_beginnings_append (λ q. test (m ∷ q)) d r ∙ ap (λ b. b && list_all (λ q. test (m ∷ (d ++ q))) (beginnings r)) (sym (all_map (λ q. m ∷ q) test (beginnings d))))
+    ap (λ b. test [] && b) (all_map (λ q. m ∷ q) test (beginnings (d ++ r)) ∙ all_beginnings_append (λ q. test (m ∷ q)) d r
+        ∙ ap (λ b. b && list_all (λ q. test (m ∷ (d ++ q))) (beginnings r)) (sym (all_map (λ q. m ∷ q) test (beginnings d))))
     ∙ sym (and_assoc (test []) (list_all test (map (λ q. m ∷ q) (beginnings d))) (list_all (λ q. test (m ∷ (d ++ q))) (beginnings r)))
 
 -- what lies on an entered way is entered
@@ -73,7 +74,8 @@ entry_named root d n leaf h = (among_ascending text_cmp_exact (filter_map (λ e.
 
 -- ---- what lies one name further
 
-at_below_step : (root : StorageRoot) (front : Place) (m : Text) (p : Place) (n : Text) → at_below root front m (p ++ n ∷ []) ≡ (if is_dir_leaf (at_below root front m p) then lookup root (front ++ m ∷ p ++ n ∷ []) else None)
+at_below_step : (root : StorageRoot) (front : Place) (m : Text) (p : Place) (n : Text)
+    → at_below root front m (p ++ n ∷ []) ≡ (if is_dir_leaf (at_below root front m p) then lookup root (front ++ m ∷ p ++ n ∷ []) else None)
 at_below_step root front m [] n = refl
 at_below_step root front m (k ∷ p) n = by (is_dir_leaf (lookup root (front ++ m ∷ []))) (at_below_step root (front ++ m ∷ []) k p n)
   where
@@ -139,7 +141,8 @@ module _ (root : StorageRoot) (closed : IsClosed root) where
       later : (s : Place) × (o ≡ (front ++ n ∷ []) ++ s) → (s : Place) × (o ≡ front ++ s)
       later k = (n ∷ k.0, k.1 ∙ append_one front k.0 n)
 
-      by : (b : Bool) → cond b (inside (front ++ n ∷ []) rest) (object_zone root (front ++ n ∷ []) rest) ≡ inside o q → (object_zone root (front ++ n ∷ []) rest ≡ inside o q → (s : Place) × (o ≡ (front ++ n ∷ []) ++ s)) → (s : Place) × (o ≡ front ++ s)
+      by : (b : Bool) → cond b (inside (front ++ n ∷ []) rest) (object_zone root (front ++ n ∷ []) rest) ≡ inside o q
+          → (object_zone root (front ++ n ∷ []) rest ≡ inside o q → (s : Place) × (o ≡ (front ++ n ∷ []) ++ s)) → (s : Place) × (o ≡ front ++ s)
       by true e k = let a : o ≡ front ++ n ∷ [] = cc in (n ∷ [], a)
       by false e k = later (k e)
 
@@ -191,7 +194,8 @@ module _ (root : StorageRoot) (closed : IsClosed root) where
       no : skipped ≡ inside o q → ⊥
       no f = cc
 
-      named_by : (x : Bool) → (b r : Place) → cond (x || is_in_extensions root (b ++ r)) skipped (object_zone root [] (b ++ r)) ≡ inside o q → cond (x || is_in_extensions root b) skipped (object_zone root [] b) ≡ object_zone root [] b
+      named_by : (x : Bool) → (b r : Place) → cond (x || is_in_extensions root (b ++ r)) skipped (object_zone root [] (b ++ r)) ≡ inside o q
+          → cond (x || is_in_extensions root b) skipped (object_zone root [] b) ≡ object_zone root [] b
       named_by true b r f = absurd (no f)
       named_by false [] r f = refl
       named_by false (n ∷ b) r f = go (is_in_extensions root (n ∷ b)) f
@@ -200,7 +204,8 @@ module _ (root : StorageRoot) (closed : IsClosed root) where
           go true g = absurd (no g)
           go false g = refl
 
-      by : (x : Bool) → cond (x || is_in_extensions root (b ++ r)) skipped (object_zone root [] (b ++ r)) ≡ inside o q → cond (x || is_in_extensions root b) skipped (object_zone root [] b) ≡ object_zone root [] b
+      by : (x : Bool) → cond (x || is_in_extensions root (b ++ r)) skipped (object_zone root [] (b ++ r)) ≡ inside o q
+          → cond (x || is_in_extensions root b) skipped (object_zone root [] b) ≡ object_zone root [] b
       by x f = named_by x b r f
 
   object_zone_from : (p o q : Place) → zone root p ≡ inside o q → object_zone root [] p ≡ inside o q
@@ -220,7 +225,8 @@ module _ (root : StorageRoot) (closed : IsClosed root) where
       no e = cc
   object_zone_part front (n ∷ rest) o q s h = by (is_declared (object_declared root (front ++ n ∷ []))) refl h (object_zone_part (front ++ n ∷ []) rest o q s)
     where
-      later : is_declared (object_declared root (front ++ n ∷ [])) ≡ false → (r : Place) × (((front ++ n ∷ []) ++ r ≡ o ++ q) × (object_zone root (front ++ n ∷ []) r ≡ inside o q)) → (r : Place) × ((front ++ r ≡ o ++ q) × (object_zone root front r ≡ inside o q))
+      later : is_declared (object_declared root (front ++ n ∷ [])) ≡ false → (r : Place)
+          × (((front ++ n ∷ []) ++ r ≡ o ++ q) × (object_zone root (front ++ n ∷ []) r ≡ inside o q)) → (r : Place) × ((front ++ r ≡ o ++ q) × (object_zone root front r ≡ inside o q))
       later e k = (n ∷ k.0, (sym (append_one front k.0 n) ∙ k.1.0, ap (λ b. cond b (inside (front ++ n ∷ []) k.0) (object_zone root (front ++ n ∷ []) k.0)) e ∙ k.1.1))
 
       by : (b : Bool) → is_declared (object_declared root (front ++ n ∷ [])) ≡ b → cond b (inside (front ++ n ∷ []) rest) (object_zone root (front ++ n ∷ []) rest) ≡ inside o (q ++ s)
@@ -244,7 +250,8 @@ split_append d n r [] q h = inl (d, (refl, sym h))
 split_append [] n r (m ∷ o) q h = let e : m ≡ n = cc in inr (o, ap (λ x. x ∷ o) e)
 split_append (a ∷ d) n r (m ∷ o) q h = let e : a ≡ m = cc in let f : d ++ n ∷ r ≡ o ++ q = cc in by e (split_append d n r o q f)
   where
-    by : a ≡ m → ((x : Place) × ((d ≡ o ++ x) × (q ≡ x ++ n ∷ r))) ⊎ ((s : Place) × (o ≡ d ++ n ∷ s)) → ((x : Place) × ((a ∷ d ≡ m ∷ o ++ x) × (q ≡ x ++ n ∷ r))) ⊎ ((s : Place) × (m ∷ o ≡ a ∷ d ++ n ∷ s))
+    by : a ≡ m → ((x : Place) × ((d ≡ o ++ x) × (q ≡ x ++ n ∷ r))) ⊎ ((s : Place) × (o ≡ d ++ n ∷ s))
+        → ((x : Place) × ((a ∷ d ≡ m ∷ o ++ x) × (q ≡ x ++ n ∷ r))) ⊎ ((s : Place) × (m ∷ o ≡ a ∷ d ++ n ∷ s))
     by e (inl k) = inl (k.0, ((λ i. e i ∷ k.1.0 i), k.1.1))
     by e (inr k) = inr (k.0, λ i. sym e i ∷ k.1 i)
 
@@ -261,7 +268,8 @@ module _ (root : StorageRoot) (closed : IsClosed root) where
   way_of_seen p leaf h d n r e = seen_below d n (seen_way root closed d n r leaf (ap (seen root) (sym e) ∙ h))
 
   -- a path of a table
-  way_of_path : (p o q : Place) (t : Table) → zone root p ≡ inside o q → table_at root o ≡ Some t → IsAmong (paths_of t) q → (d : Place) (n : Text) (r : Place) → p ≡ d ++ n ∷ r → IsAmong (names_below root d) n
+  way_of_path : (p o q : Place) (t : Table) → zone root p ≡ inside o q → table_at root o ≡ Some t → IsAmong (paths_of t) q → (d : Place) (n : Text) (r : Place)
+      → p ≡ d ++ n ∷ r → IsAmong (names_below root d) n
   way_of_path p o q t z h path d n r e = by (split_append d n r o q (sym e ∙ (zone_is root p o q z).whole))
     where
       inner : (x : Place) → d ≡ o ++ x → q ≡ x ++ n ∷ r → IsAmong (path_names root d) n
@@ -279,7 +287,8 @@ module _ (root : StorageRoot) (closed : IsClosed root) where
     by_sight : (leaf : Leaf) → seen root p ≡ Some leaf → Reason p
     by_table : (o q : Place) (t : Table) → zone root p ≡ inside o q → table_at root o ≡ Some t → IsAmong (paths_of t) q → Reason p
 
-  within_reason : (p o : Place) (u : Option ℕ) (t : Table) (q : Place) → zone root p ≡ inside o q → table_at root o ≡ Some t → (leaf : Option Leaf) → seen root p ≡ leaf → within_notes root p u leaf t q ≢ [] → Reason p
+  within_reason : (p o : Place) (u : Option ℕ) (t : Table) (q : Place) → zone root p ≡ inside o q → table_at root o ≡ Some t → (leaf : Option Leaf)
+      → seen root p ≡ leaf → within_notes root p u leaf t q ≢ [] → Reason p
   within_reason p o u t q z h (Some leaf) e some = by_sight leaf e
   within_reason p o u t [] z h None e some = absurd (some refl)
   within_reason p o u t (v ∷ []) z h None e some = absurd (some refl)

@@ -49,7 +49,8 @@ abbrev pub total_cost : List Item → ℕ
 total_cost [] = 0
 total_cost (i ∷ items) = i.cost + total_cost items
 
--- the same said without a computation: the items ascend, are those of their places, and stand for just the places with lines
+-- the same said without a computation: the items ascend, are those of their places, and stand for
+-- just the places with lines
 pub record IsAudit (root : StorageRoot) (unread : Unread) (items : List Item) : Type 0 where
   pub ascends : IsAscending place_cmp (map (λ i. i.place) items)
   pub each : AllByRecursion (λ i. i ≡ item_of root unread i.place) items

@@ -11,7 +11,8 @@ use Rattle.ocfl_audit.specs.Audit.{candidates}
 use Rattle.ocfl_audit.specs.Due.{places_after}
 use Rattle.ocfl_audit.specs.Trail.{reads_inventory}
 
--- a directory of the storage hierarchy, an object's root, also where its head stops, since its entries declare it, or a directory of an object that is listed
+-- a directory of the storage hierarchy, an object's root, also where its head stops, since its
+-- entries declare it, or a directory of an object that is listed
 abbrev pub shows_entries : StorageRoot → Zone → Bool
 shows_entries root skipped = false
 shows_entries root hierarchy = true

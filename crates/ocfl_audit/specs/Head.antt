@@ -1,4 +1,5 @@
--- The lines of the storage root, and of an object: its head (OCFL 1.1, 3 OCFL Object and 4 OCFL Storage Root).
+-- The lines of the storage root, and of an object: its head (OCFL 1.1, 3 OCFL Object and 4 OCFL
+-- Storage Root).
 use Rattle.std.specs.Prelude.{ℕ, ◌&&◌, nat_le, List, [], ◌∷◌, ◌++◌, Bool, false, not, length, if◌then◌else◌, Option, Some, None, is_some, Ok, Err}
 use Rattle.hex.specs.Hex.{encode_lower}
 use Rattle.ocfl_tree.specs.Place.{Text, Place, text_eq}

@@ -146,7 +146,8 @@ cost_of (n ∷ ns) (Some given) (Some (file bytes)) = given + 1
 cost_of (n ∷ ns) u (Some dir) = 0
 cost_of (n ∷ ns) u (Some other) = 0
 
--- what auditing a place costs: one more than the bytes that were delivered, if its file is hashed, and else nothing
+-- what auditing a place costs: one more than the bytes that were delivered, if its file is hashed,
+-- and else nothing
 abbrev pub cost : StorageRoot → Option ℕ → Place → ℕ
 cost root u p = cost_of (named_at root p) u (seen root p)
 

@@ -1,4 +1,5 @@
--- Which objects an audit reaches, which of them have an inventory that it reads, which directories it looks into, and what is metadata.
+-- Which objects an audit reaches, which of them have an inventory that it reads, which directories
+-- it looks into, and what is metadata.
 use Rattle.std.specs.Prelude.{◌≡◌, ◌≢◌, ◌≤◌, length, [], ◌∷◌, ◌++◌, true, false, Some, codes}
 use Rattle.ocfl_tree.specs.Place.{Text, Place}
 use Rattle.ocfl_tree.specs.StorageRoot.{StorageRoot, dir, file_at}
@@ -8,7 +9,8 @@ use Rattle.ocfl_inventory.specs.declared.declaration.Version.{Version}
 use Rattle.ocfl_inventory.specs.Table.{Table}
 use Rattle.ocfl_audit.specs.Zone.{hierarchy, inside, zone, seen, table_at, is_listed_within, inventory_name, root_declared, object_declared, is_in_extensions, is_known, is_declared, max_listed_depth}
 
--- an object's root: in a storage root of known version, outside its extensions, declared, and with no object above it
+-- an object's root: in a storage root of known version, outside its extensions, declared, and with
+-- no object above it
 pub record IsObjectRoot (root : StorageRoot) (o : Place) : Type 0 where
   pub in_root : is_known (root_declared root) ≡ true
   pub below_root : o ≢ []
@@ -16,13 +18,15 @@ pub record IsObjectRoot (root : StorageRoot) (o : Place) : Type 0 where
   pub declares : is_declared (object_declared root o) ≡ true
   pub outermost : (b : Place) (n : Text) (q : Place) → o ≡ b ++ n ∷ q → b ≢ [] → is_declared (object_declared root b) ≡ false
 
--- an object's root that declares one version, a known one, and holds a file `inventory.json`, of whatever size
+-- an object's root that declares one version, a known one, and holds a file `inventory.json`, of
+-- whatever size
 pub record HasInventory (root : StorageRoot) (o : Place) : Type 0 where
   pub object : IsObjectRoot root o
   pub version : (v : Version) × (object_declared root o ≡ known v)
   pub inventory : (bytes : Text) × (file_at root (o ++ inventory_name ∷ []) ≡ Some bytes)
 
--- whose entries an audit looks at: a place in the storage hierarchy, an object's root, and what is listed within an object whose head goes on
+-- whose entries an audit looks at: a place in the storage hierarchy, an object's root, and what is
+-- listed within an object whose head goes on
 pub data ShowsEntries (root : StorageRoot) (d : Place) : Type 0 where
   of_hierarchy : zone root d ≡ hierarchy → ShowsEntries root d
   object_root : IsObjectRoot root d → ShowsEntries root d

@@ -8,7 +8,8 @@ use Rattle.ocfl_audit.specs.Lines.{is_empty}
 use Rattle.ocfl_audit.specs.Audit.{Unread, audit, total_cost}
 use Rattle.ocfl_audit.specs.Runs.{total_files}
 
--- the places at `under` and below it, not less than `from` and less than `below`, where these are given; no item need be at any of them
+-- the places at `under` and below it, not less than `from` and less than `below`, where these are
+-- given; no item need be at any of them
 pub record Part : Type 0 where
   pub under : Place
   pub from : Option Place
@@ -61,7 +62,8 @@ abbrev pub parts_from : Option Place → List Place → List Part
 parts_from from [] = record { under = []; from = from; below = None } ∷ []
 parts_from from (s ∷ separators) = record { under = []; from = from; below = Some s } ∷ parts_from (Some s) separators
 
--- the parts that separators make of the whole: one more than there are separators, each of which begins a part
+-- the parts that separators make of the whole: one more than there are separators, each of which
+-- begins a part
 abbrev pub parts_of : List Place → List Part
 parts_of separators = parts_from None separators
 

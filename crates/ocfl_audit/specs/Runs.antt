@@ -16,7 +16,8 @@ abbrev pub total_files : List Item → ℕ
 total_files [] = 0
 total_files (i ∷ items) = files_of i.cost + total_files items
 
--- an item that costs nothing is always taken, and another only while less than the budget is spent and fewer files than their limit are started
+-- an item that costs nothing is always taken, and another only while less than the budget is spent
+-- and fewer files than their limit are started
 abbrev pub may_take : Limits → ℕ → ℕ → ℕ → Bool
 may_take limits spent files cost = cost == 0 || (nat_lt spent limits.budget && nat_lt files limits.files)
 
@@ -31,7 +32,8 @@ cut items limits = take (cut_len limits 0 0 items) items
 abbrev pub left : List Item → Limits → List Item
 left items limits = drop (cut_len limits 0 0 items) items
 
--- before each hashed item among the first n the costs sum to less than the budget, and the hashed items are fewer than their limit
+-- before each hashed item among the first n the costs sum to less than the budget, and the hashed
+-- items are fewer than their limit
 abbrev pub StaysWithin : List Item → Limits → ℕ → Type 0
 StaysWithin items limits n = (k : ℕ) (i : Item) → k < n → slice_get items k ≡ Some i → 0 < i.cost
     → (total_cost (take k items) < limits.budget) × (total_files (take k items) < limits.files)
@@ -42,7 +44,8 @@ pub record IsCut (items : List Item) (limits : Limits) (n : ℕ) : Type 0 where
   pub fits : n ≤ length items
   pub greatest : (m : ℕ) → m ≤ length items → StaysWithin items limits m → m ≤ n
 
--- the cuts of the successive limits, until nothing is left. A cycle makes its first run on any items, and a further one only where items are left
+-- the cuts of the successive limits, until nothing is left. A cycle makes its first run on any
+-- items, and a further one only where items are left
 abbrev pub runs_after : List Limits → List Item → List (List Item)
 runs_after [] items = []
 runs_after (l ∷ limits) [] = []
@@ -63,7 +66,8 @@ pub record IsAtLeast (b n : ℕ) (limits : Limits) : Type 0 where
 
 -- ---- budgets alone
 
--- a limit on files that ends no run of these items: it is at least the budget, since each file costs something, or at least the number of files
+-- a limit on files that ends no run of these items: it is at least the budget, since each file
+-- costs something, or at least the number of files
 abbrev pub FileLimitFits : List Item → Limits → Type 0
 FileLimitFits items l = (l.budget ≤ l.files) ⊎ (total_files items ≤ l.files)
 

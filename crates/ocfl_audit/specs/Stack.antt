@@ -53,7 +53,8 @@ abbrev pub listed_at : StorageRoot → Place → Place → List Frame → List F
 listed_at root d [] fs = (d, seen_names root d) ∷ fs
 listed_at root d (n ∷ q) fs = listed_at root (d ++ n ∷ []) q ((d, filter (λ m. is_lt (text_cmp n m)) (seen_names root d)) ∷ fs)
 
--- why a place above last may have lines: it is seen, the table of the object that holds last names it, or it lies in an object that is seen above last
+-- why a place above last may have lines: it is seen, the table of the object that holds last names
+-- it, or it lies in an object that is seen above last
 pub data Ahead (root : StorageRoot) (last p : Place) : Type 0 where
   in_sight : (leaf : Leaf) → seen root p ≡ Some leaf → Ahead root last p
   in_table : (o s q : Place) (t : Table) → zone root last ≡ inside o s → table_at root o ≡ Some t → IsAmong (paths_of t) q → p ≡ o ++ q → Ahead root last p

@@ -18,7 +18,8 @@ place t = slice_split (λ b. b == 47) (codes t)
 abbrev third_cycle : Cursor
 third_cycle = record { cycle = 3; runs = 2; spent = 9; files = 3; state = behind (place "o/v1/content/c") }
 
-text_of_a_cursor : cursor_text third_cycle ≡ codes "ocfl-scrub cursor 2\ncycle 3\nruns 2\nspent 9\nfiles 3\nafter o/v1/content/c\ndigest 894422823bd158b8102505a5075ffb65b0f4cfeb1067789d3830a518ec8f4b26\n"
+text_of_a_cursor : cursor_text third_cycle ≡ codes
+    "ocfl-scrub cursor 2\ncycle 3\nruns 2\nspent 9\nfiles 3\nafter o/v1/content/c\ndigest 894422823bd158b8102505a5075ffb65b0f4cfeb1067789d3830a518ec8f4b26\n"
 unfolding cursor_on_literals
 text_of_a_cursor = refl
 
@@ -37,12 +38,14 @@ text_of_a_new_cursor = refl
 abbrev without_files : Cursor
 without_files = record third_cycle { files = 0 }
 
-version_one_of_a_cursor : version_one_text without_files ≡ codes "ocfl-scrub cursor 1\ncycle 3\nruns 2\nspent 9\nafter o/v1/content/c\ndigest 822836e04ff6618e0a7571237f0049f590a6f9890506f09338f0505902d351d7\n"
+version_one_of_a_cursor : version_one_text without_files ≡ codes
+    "ocfl-scrub cursor 1\ncycle 3\nruns 2\nspent 9\nafter o/v1/content/c\ndigest 822836e04ff6618e0a7571237f0049f590a6f9890506f09338f0505902d351d7\n"
 unfolding cursor_on_literals
 version_one_of_a_cursor = refl
 
 -- it is read as that cursor
-version_one_is_read : IsCursor without_files → IsTextOf (codes "ocfl-scrub cursor 1\ncycle 3\nruns 2\nspent 9\nafter o/v1/content/c\ndigest 822836e04ff6618e0a7571237f0049f590a6f9890506f09338f0505902d351d7\n") without_files
+version_one_is_read : IsCursor without_files
+    → IsTextOf (codes "ocfl-scrub cursor 1\ncycle 3\nruns 2\nspent 9\nafter o/v1/content/c\ndigest 822836e04ff6618e0a7571237f0049f590a6f9890506f09338f0505902d351d7\n") without_files
 version_one_is_read keeps = record { keeps = keeps; is = inr (refl, sym version_one_of_a_cursor) }
 
 -- and shown with the line of its files
@@ -84,7 +87,8 @@ unfolding cursor_on_literals
 bodies_behind_the_root = refl
 
 bodies_of_an_ended_cursor : bodies (record { cycle = 18446744073709551615; runs = 10; spent = 9223372036854775808; files = 12; state = ended })
-    ≡ (codes "ocfl-scrub cursor 2\ncycle 18446744073709551615\nruns 10\nspent 9223372036854775808\nfiles 12\nended\n", codes "ocfl-scrub cursor 1\ncycle 18446744073709551615\nruns 10\nspent 9223372036854775808\nended\n")
+    ≡ (codes "ocfl-scrub cursor 2\ncycle 18446744073709551615\nruns 10\nspent 9223372036854775808\nfiles 12\nended\n", codes
+        "ocfl-scrub cursor 1\ncycle 18446744073709551615\nruns 10\nspent 9223372036854775808\nended\n")
 unfolding cursor_on_literals
 bodies_of_an_ended_cursor = refl
 

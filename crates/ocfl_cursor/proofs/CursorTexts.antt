@@ -33,7 +33,8 @@ version_line_determines Two One r s e = absurd (versions_differ s r (sym e))
 version_line_determines Two Two r s e = (refl, append_cancel_left (codes "ocfl-scrub cursor 2\n") _ _ e)
 
 -- a text without either line has none
-pub no_version_line : (body : Text) → ((r : Text) → body ≡ codes "ocfl-scrub cursor 2\n" ++ r → ⊥) → ((r : Text) → body ≡ codes "ocfl-scrub cursor 1\n" ++ r → ⊥) → (v : Version) (r : Text) → body ≡ version_line v ++ r → ⊥
+pub no_version_line : (body : Text) → ((r : Text) → body ≡ codes "ocfl-scrub cursor 2\n" ++ r → ⊥)
+    → ((r : Text) → body ≡ codes "ocfl-scrub cursor 1\n" ++ r → ⊥) → (v : Version) (r : Text) → body ≡ version_line v ++ r → ⊥
 no_version_line body two one One r e = one r e
 no_version_line body two one Two r e = two r e
 
@@ -84,7 +85,8 @@ pub record SameCounts (n m k f n' m' k' f' : ℕ) (r s : Text) : Type 0 where
   pub files : f ≡ f'
   pub rest : r ≡ s
 
-pub counts_text_determines : (v : Version) (n m k f n' m' k' f' : ℕ) (r s : Text) → CountsFit v n m k f → CountsFit v n' m' k' f' → counts_text v n m k f ++ r ≡ counts_text v n' m' k' f' ++ s → SameCounts n m k f n' m' k' f' r s
+pub counts_text_determines : (v : Version) (n m k f n' m' k' f' : ℕ) (r s : Text) → CountsFit v n m k f → CountsFit v n' m' k' f'
+    → counts_text v n m k f ++ r ≡ counts_text v n' m' k' f' ++ s → SameCounts n m k f n' m' k' f' r s
 counts_text_determines v n m k f n' m' k' f' r s h h' e =
     let first = number_line_determines (codes "cycle") n n' _ _ (wide_cycle h) (wide_cycle h') (sym (counts_text-append v n m k f r) ∙ e ∙ counts_text-append v n' m' k' f' s) in
     let second = number_line_determines (codes "runs") m m' _ _ (wide_runs h) (wide_runs h') first.1 in
@@ -160,7 +162,8 @@ without_files : (a b d e t u : Text) → a ++ b ++ d ++ e ++ t ++ u ≡ a ++ (b 
 without_files a b d e t u = simp append_assoc
 
 version_one_parts : (c : Cursor) → version_one_body c ≡ version_line One ++ one_lines c
-version_one_parts c = without_files (codes "ocfl-scrub cursor 1\n") (number_line (codes "cycle") c.cycle) (number_line (codes "runs") c.runs) (number_line (codes "spent") c.spent) (state_text c.state) (10 ∷ [])
+version_one_parts c = without_files (codes "ocfl-scrub cursor 1\n") (number_line (codes "cycle") c.cycle) (number_line (codes "runs") c.runs)
+    (number_line (codes "spent") c.spent) (state_text c.state) (10 ∷ [])
 
 -- a body is written in version 2, or in version 1
 pub written_body : (body : Text) (c : Cursor) → IsBodyOf body c → (v : Version) × ((lines : Text) × IsWritten v lines body c)
@@ -308,17 +311,20 @@ all_lines_left v a n m k f r h e = record { fits = h; is = e ∙ counts_text-app
 pub after_cycle_line : (w : Version) (a b : Text) (i n m k f : ℕ) (r : Text) → LinesLeft w a n m k f r → i < 2 ^ 64 → a ≡ number_line (codes "cycle") i ++ b → b ≡ from_runs w m k f r
 after_cycle_line w a b i n m k f r h l q = (number_line_determines (codes "cycle") i n b _ (omega arith) (wide_cycle h.fits) (sym q ∙ h.is)).1
 
-pub after_runs_line : (w : Version) (a b d : Text) (i j n m k f : ℕ) (r : Text) → LinesLeft w a n m k f r → i < 2 ^ 64 → j < 2 ^ 64 → a ≡ number_line (codes "cycle") i ++ b → b ≡ number_line (codes "runs") j ++ d → d ≡ from_spent w k f r
+pub after_runs_line : (w : Version) (a b d : Text) (i j n m k f : ℕ) (r : Text) → LinesLeft w a n m k f r → i < 2 ^ 64 → j < 2 ^ 64
+    → a ≡ number_line (codes "cycle") i ++ b → b ≡ number_line (codes "runs") j ++ d → d ≡ from_spent w k f r
 after_runs_line w a b d i j n m k f r h l l' q q' = (number_line_determines (codes "runs") j m d _ (omega arith) (wide_runs h.fits) (sym q' ∙ after_cycle_line w a b i n m k f r h l q)).1
 
-pub after_spent_line : (w : Version) (a b d e : Text) (i j u n m k f : ℕ) (r : Text) → LinesLeft w a n m k f r → i < 2 ^ 64 → j < 2 ^ 64 → u < 2 ^ 128 → a ≡ number_line (codes "cycle") i ++ b → b ≡ number_line (codes "runs") j ++ d → d ≡ number_line (codes "spent") u ++ e
+pub after_spent_line : (w : Version) (a b d e : Text) (i j u n m k f : ℕ) (r : Text) → LinesLeft w a n m k f r → i < 2 ^ 64 → j < 2 ^ 64 → u < 2 ^ 128
+    → a ≡ number_line (codes "cycle") i ++ b → b ≡ number_line (codes "runs") j ++ d → d ≡ number_line (codes "spent") u ++ e
     → e ≡ from_files w f r
 after_spent_line w a b d e i j u n m k f r h l l' l'' q q' q'' = (number_line_determines (codes "spent") u k e _ l'' h.fits.spent (sym q'' ∙ after_runs_line w a b d i j n m k f r h l l' q q')).1
 
 -- ---- lines whose parts are read
 
 -- what follows the numbers is the line of the cursor's state, and the numbers are the cursor's
-same_parts : (lines line : Text) (v : Version) (n m k f : ℕ) (c : Cursor) → CountsFit v n m k f → lines ≡ counts_text v n m k f ++ line → AreLinesOf v lines c → SameCounts n m k f c.cycle c.runs c.spent c.files line (state_text c.state ++ 10 ∷ [])
+same_parts : (lines line : Text) (v : Version) (n m k f : ℕ) (c : Cursor) → CountsFit v n m k f → lines ≡ counts_text v n m k f ++ line → AreLinesOf v lines c
+    → SameCounts n m k f c.cycle c.runs c.spent c.files line (state_text c.state ++ 10 ∷ [])
 same_parts lines line v n m k f c fit e h =
     counts_text_determines v n m k f c.cycle c.runs c.spent c.files line _ fit (CountsFit-lines v lines c h) (sym e ∙ lines_parts v lines c h)
 

@@ -1,4 +1,5 @@
--- What the first bytes of a reader tell of all of them, where one more is read than is taken as a part's cursor.
+-- What the first bytes of a reader tell of all of them, where one more is read than is taken as a
+-- part's cursor.
 use Rattle.std.proofs.Common.{◌≡◌, ◌⊎◌, inl, inr, ℕ, ◌<◌, ◌≤◌, ◌&&◌, nat_le, true, false, min, length, take, Option, Some, None, IfSome, refl, sym, ap, ap₂, subst, ◌∙◌, arith, length-take}
 use Rattle.std.proofs.lemmas.Bool.{le-leb, lt-leb, and_right, true≢false}
 use Rattle.std.proofs.lemmas.List.{take_all}
@@ -62,7 +63,8 @@ module _ (known : Option Text) (read : Text) where
       by None g = tt
       by (Some b) g = subst (λ t. IsPartText e t c) (all_read b read g few) h
 
-  pub part_stops_read : (e : PartEnds) (r : PartRefused) → IsReadTo part_limit known read → length read ≤ max_part_text → PartRefusedRightly e read r → IfSome known (λ b. PartStopsRightly e b (part.Refused r))
+  pub part_stops_read : (e : PartEnds) (r : PartRefused) → IsReadTo part_limit known read → length read ≤ max_part_text → PartRefusedRightly e read r
+      → IfSome known (λ b. PartStopsRightly e b (part.Refused r))
   part_stops_read e r is few h = by known is
     where
       by : (k : Option Text) → IsReadTo part_limit k read → IfSome k (λ b. PartStopsRightly e b (part.Refused r))
@@ -115,7 +117,8 @@ unshown_early (Some b) why (inr s) = subst (λ w. UnshownRightly b (show.Whole w
 
 -- ---- the text of a part's cursor that is not too long is refused for want of memory alone
 
-pub only_memory_stops : (b : Text) (e : PartEnds) (c : Cursor) → IsPartText e b c → length b ≤ max_part_text → (why : PartCursorStop) → PartStopsRightly e b why → (why ≡ part.Read) ⊎ (why ≡ part.Refused Memory)
+pub only_memory_stops : (b : Text) (e : PartEnds) (c : Cursor) → IsPartText e b c → length b ≤ max_part_text → (why : PartCursorStop) → PartStopsRightly e b why
+    → (why ≡ part.Read) ⊎ (why ≡ part.Refused Memory)
 only_memory_stops b e c h few part.Read k = inl refl
 only_memory_stops b e c h few (part.Refused NotCursor) k = absurd (true≢false (sym (read_as_part b (front-part_text e b c h) few) ∙ k))
 only_memory_stops b e c h few (part.Refused Damaged) k = inr (ap (λ r. part.Refused r) (only_memory e b c h Damaged k.1))

@@ -43,7 +43,8 @@ refused_after_seal e b body r front is (inl m) none =
 refused_after_seal e b body r front is (inr m) none = subst (PartRefusedRightly e b) (sym m) (sealed_part b body front is)
 
 -- the same of a result that passes an answer on
-pub part_refused : {A : Type 0} (e : PartEnds) (b body : Text) (r : Result A PartRefused) (passed known : PartRefused) → r ≡ Err passed → passed ≡ known → is_part_front b ≡ true → b ≡ body ++ digest_line body
+pub part_refused : {A : Type 0} (e : PartEnds) (b body : Text) (r : Result A PartRefused) (passed known : PartRefused) → r ≡ Err passed → passed ≡ known
+    → is_part_front b ≡ true → b ≡ body ++ digest_line body
     → (known ≡ Malformed) ⊎ (known ≡ Memory) → (known ≡ Malformed → (f : PartEnds) (c : Cursor) → IsPartBody f body c → ⊥) → IfErr r (λ s. PartRefusedRightly e b s)
 part_refused {A} e b body r passed known p q front is errors none =
     subst (λ (s : Result A PartRefused). IfErr s (λ t. PartRefusedRightly e b t)) (sym (p ∙ ap Err q)) (refused_after_seal e b body known front is errors none)

@@ -83,7 +83,8 @@ end_of_path word text p other e = by (text_eq (place_text p) word) (ap (λ t. te
     by false f = e
 
 -- no end has the text where the word, and a place of its path, are ruled out
-pub no_end_of_word : (word text : Text) → text_eq text word ≡ false → text ≡ codes "./" ++ word → ((p : Place) → IsPlace p → word ≡ place_text p → ⊥) → (end : Option Place) → HasNames end → text ≡ end_text word end → ⊥
+pub no_end_of_word : (word text : Text) → text_eq text word ≡ false → text ≡ codes "./" ++ word → ((p : Place) → IsPlace p → word ≡ place_text p → ⊥)
+    → (end : Option Place) → HasNames end → text ≡ end_text word end → ⊥
 no_end_of_word word text other is none None h e = true≢false (sym ((text_eq-Decides _ _).1 e) ∙ other)
 no_end_of_word word text other is none (Some p) h e = by (text_eq (place_text p) word) refl e
   where
@@ -91,7 +92,8 @@ no_end_of_word word text other is none (Some p) h e = by (text_eq (place_text p)
     by true f g = none p h (append_cancel_left (codes "./") _ _ (sym is ∙ g))
     by false f g = no_dot_name p h word (sym g ∙ is)
 
-pub no_end_of_path : (word text : Text) → text_eq text word ≡ false → (text ≡ codes "./" ++ word → ⊥) → ((p : Place) → IsPlace p → text ≡ place_text p → ⊥) → (end : Option Place) → HasNames end → text ≡ end_text word end → ⊥
+pub no_end_of_path : (word text : Text) → text_eq text word ≡ false → (text ≡ codes "./" ++ word → ⊥) → ((p : Place) → IsPlace p → text ≡ place_text p → ⊥)
+    → (end : Option Place) → HasNames end → text ≡ end_text word end → ⊥
 no_end_of_path word text other unmarked none None h e = true≢false (sym ((text_eq-Decides _ _).1 e) ∙ other)
 no_end_of_path word text other unmarked none (Some p) h e = by (text_eq (place_text p) word) refl e
   where
@@ -124,18 +126,21 @@ pub after_front : (front word text line : Text) (end : Option Place) (r : Text) 
 after_front front word text line end r e f = append_cancel_left front _ _ (sym e ∙ f ∙ end_line-append front word end r)
 
 -- what stands before the line feed, and what follows it
-pub before_feed : (front word text line before after : Text) (end : Option Place) (r : Text) → All (λ b. b ≢ 10) word → HasNames end → text ≡ front ++ line → line ≡ before ++ 10 ∷ after → All (λ b. b ≢ 10) before
+pub before_feed : (front word text line before after : Text) (end : Option Place) (r : Text) → All (λ b. b ≢ 10) word → HasNames end → text ≡ front ++ line
+    → line ≡ before ++ 10 ∷ after → All (λ b. b ≢ 10) before
     → text ≡ end_line front word end ++ r → (before ≡ end_text word end) × (after ≡ r)
 before_feed front word text line before after end r plain h e f first g =
     first_parts 10 before (end_text word end) after r first (end_text_one_line word end plain h) (sym f ∙ after_front front word text line end r e g)
 
 -- the line of an end that was read
-pub end_line_read : (front word text line before after : Text) (end : Option Place) → text ≡ front ++ line → line ≡ before ++ 10 ∷ after → before ≡ end_text word end → text ≡ end_line front word end ++ after
+pub end_line_read : (front word text line before after : Text) (end : Option Place) → text ≡ front ++ line → line ≡ before ++ 10 ∷ after
+    → before ≡ end_text word end → text ≡ end_line front word end ++ after
 end_line_read front word text line before after end e f g =
     e ∙ ap (λ t. front ++ t) (f ∙ ap (λ t. t ++ 10 ∷ after) g) ∙ sym (end_line-append front word end after)
 
 -- ends are the same where texts begin with their lines, and so is what follows
-pub end_line_determines : (front word : Text) (p q : Option Place) (r s : Text) → All (λ b. b ≢ 10) word → HasNames p → HasNames q → end_line front word p ++ r ≡ end_line front word q ++ s → (p ≡ q) × (r ≡ s)
+pub end_line_determines : (front word : Text) (p q : Option Place) (r s : Text) → All (λ b. b ≢ 10) word → HasNames p → HasNames q
+    → end_line front word p ++ r ≡ end_line front word q ++ s → (p ≡ q) × (r ≡ s)
 end_line_determines front word p q r s plain h k e =
     let whole = append_cancel_left front _ _ (sym (end_line-append front word p r) ∙ e ∙ end_line-append front word q s) in
     let parts = first_parts 10 (end_text word p) (end_text word q) r s (end_text_one_line word p plain h) (end_text_one_line word q plain k) whole in
@@ -174,13 +179,15 @@ pub part_lines : (e : PartEnds) (body lines : Text) (c : Cursor) → IsPartBody 
 part_lines e body lines c h f = append_cancel_left (codes "ocfl-scrub part cursor 1\n") _ _ (sym f ∙ h.is ∙ part_body-append e c)
 
 -- what follows the lines of the ends, once these are read
-pub part_rest : (e f : PartEnds) (body lines rest : Text) (c : Cursor) → AreEnds f → IsPartBody e body c → body ≡ codes "ocfl-scrub part cursor 1\n" ++ lines → lines ≡ ends_lines f ++ rest → (e ≡ f) × AreLinesOf Two rest c
+pub part_rest : (e f : PartEnds) (body lines rest : Text) (c : Cursor) → AreEnds f → IsPartBody e body c → body ≡ codes "ocfl-scrub part cursor 1\n" ++ lines
+    → lines ≡ ends_lines f ++ rest → (e ≡ f) × AreLinesOf Two rest c
 part_rest e f body lines rest c names h g k =
     let same = ends_lines_determine e f (cursor_lines c) rest h.ends names (sym (part_lines e body lines c h g) ∙ k) in
     (same.0, subst (λ t. AreLinesOf Two t c) same.1 (AreLinesOf-cursor c h.keeps))
 
 -- a body whose parts are read
-pub part_body_read : (e : PartEnds) (body lines rest : Text) (c : Cursor) → AreEnds e → body ≡ codes "ocfl-scrub part cursor 1\n" ++ lines → lines ≡ ends_lines e ++ rest → AreLinesOf Two rest c → IsPartBody e body c
+pub part_body_read : (e : PartEnds) (body lines rest : Text) (c : Cursor) → AreEnds e → body ≡ codes "ocfl-scrub part cursor 1\n" ++ lines
+    → lines ≡ ends_lines e ++ rest → AreLinesOf Two rest c → IsPartBody e body c
 part_body_read e body lines rest c names f g h = record {
   ends = names;
   keeps = h.keeps;

@@ -12,7 +12,8 @@ pub data State : Type 0 where
   behind : Place → State
   ended : State
 
--- the cycle, how many runs it has had, what they have spent and how many files they have started, and where the next one begins
+-- the cycle, how many runs it has had, what they have spent and how many files they have started,
+-- and where the next one begins
 pub record Cursor : Type 0 where
   pub cycle : ℕ
   pub runs : ℕ

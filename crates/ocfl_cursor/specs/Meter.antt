@@ -17,7 +17,8 @@ pub record Meter : Type 0 where
   pub spent : ℕ
   pub files : ℕ
 
--- a run passes its budget by the last file that it started, at most; it starts no more files than their limit, and each costs something
+-- a run passes its budget by the last file that it started, at most; it starts no more files than
+-- their limit, and each costs something
 pub record IsMeter (m : Meter) : Type 0 where
   pub budget : IsBudget m.limits.budget
   pub limit : IsFileLimit m.limits.files

@@ -49,7 +49,8 @@ PartUnshownRightly b part.Malformed = IsMalformedPart b
 PartUnshownRightly b part.Memory = is_sealed b ≡ true
 PartUnshownRightly b r = ⊥
 
--- by the kind that the first line names, the bytes are rightly refused, unless the reader failed or memory was refused
+-- by the kind that the first line names, the bytes are rightly refused, unless the reader failed or
+-- memory was refused
 abbrev pub UnshownRightly : Text → ShowStop → Type 0
 UnshownRightly b (show.Whole stop.Read) = ⊤
 UnshownRightly b (show.Whole (stop.Refused refused.Memory)) = ⊤

@@ -91,9 +91,12 @@ bounding_passes told root s t u v p limit room bytes piece b is_room before read
     }
 
 pub open_stops : (root : StorageRoot) (s t : Store) (p : Place) (limit : ℕ) (trouble : Trouble) → OpenFails s t p trouble → s.tree ≡ root → StopsReading root s t p limit trouble
-open_stops root s t p limit Device h same = record { openings = _; opened = (0, omega arith, refl); did = h.fails.did; absent = λ e. absurd cc; closed = h.fails.closed; largest = let e = h.fails.largest in omega (arith, e) }
-open_stops root s t p limit Absent h same = record { openings = _; opened = refl; did = h.fails.did; absent = λ e. file_at-none s root p same (h.absent refl); closed = h.fails.closed; largest = let e = h.fails.largest in omega (arith, e) }
-open_stops root s t p limit Memory h same = record { openings = _; opened = inl refl; did = h.fails.did; absent = λ e. absurd cc; closed = h.fails.closed; largest = let e = h.fails.largest in omega (arith, e) }
+open_stops root s t p limit Device h same =
+    record { openings = _; opened = (0, omega arith, refl); did = h.fails.did; absent = λ e. absurd cc; closed = h.fails.closed; largest = let e = h.fails.largest in omega (arith, e) }
+open_stops root s t p limit Absent h same =
+    record { openings = _; opened = refl; did = h.fails.did; absent = λ e. file_at-none s root p same (h.absent refl); closed = h.fails.closed; largest = let e = h.fails.largest in omega (arith, e) }
+open_stops root s t p limit Memory h same =
+    record { openings = _; opened = inl refl; did = h.fails.did; absent = λ e. absurd cc; closed = h.fails.closed; largest = let e = h.fails.largest in omega (arith, e) }
 
 pub read_stops : (told : Bool) (root : StorageRoot) (s t u : Store) (p : Place) (limit room : ℕ) (bytes : Text) (trouble : Trouble)
     → IsRoom limit (length bytes) room → IsBounding told s t p limit bytes → ReadFails t u trouble → trouble ≢ Memory → u.largest ≡ max t.largest room

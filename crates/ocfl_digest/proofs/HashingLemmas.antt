@@ -105,7 +105,8 @@ hashing_digests told s t u p w h k d n room count before piece empty digests =
 
 pub open_stops : (root : StorageRoot) (s t : Store) (p : Place) (trouble : Trouble) → s.tree ≡ root → OpenFails s t p trouble → StopsHashing root s t p 0 (cause_of trouble)
 open_stops root s t p Device same h = record { fits = λ bytes is. omega arith; did = h.fails.did; closed = h.fails.closed; largest = let e = h.fails.largest in omega (arith, e) }
-open_stops root s t p Absent same h = record { fits = (file_at-none s root p same (h.absent refl), refl); did = h.fails.did; closed = h.fails.closed; largest = let e = h.fails.largest in omega (arith, e) }
+open_stops root s t p Absent same h =
+    record { fits = (file_at-none s root p same (h.absent refl), refl); did = h.fails.did; closed = h.fails.closed; largest = let e = h.fails.largest in omega (arith, e) }
 open_stops root s t p Memory same h = record { fits = refl; did = h.fails.did; closed = h.fails.closed; largest = let e = h.fails.largest in omega (arith, e) }
 
 -- what was given is no longer than the file

@@ -46,7 +46,8 @@ apart_from (a ∷ more) (suc i) apart = apart_from more i apart.1
 all_apart : AreApart supported
 all_apart = ((refl, (refl, (refl, (refl, tt)))), ((refl, (refl, (refl, tt))), ((refl, (refl, tt)), ((refl, tt), (tt, tt)))))
 
--- the members at the keys of some algorithms are as they were, and the blocks of these are still to be read behind those that were
+-- the members at the keys of some algorithms are as they were, and the blocks of these are still to
+-- be read behind those that were
 pub record AreLeft (ms now : Members) (front : Blocks) (algorithms : List Algorithm) : Type 0 where
   pub untouched : AllByRecursion (λ a. value_for a now ≡ value_for a ms) algorithms
   pub reads : with_blocks front (values_for algorithms ms) ≡ blocks_for ms supported
@@ -86,7 +87,8 @@ module _ (ms now : Members) (front : Blocks) (i : ℕ) (d : Algorithm) (value : 
   pub block_stops : (b : Bool) (more : Blocks) → b ≡ false → with_block front value (get_or supported i d) ≡ cond b (Some more) None → None ≡ blocks_for ms supported
   block_stops b more stopped read = read_first ms now front _ _ value from_here is None (read ∙ ap (λ x. cond x (Some more) None) stopped)
 
-  pub block_read : (b : Bool) (new : Members) (more : Blocks) → b ≡ true → ((a : Algorithm) → text_eq (algorithm_name a) (algorithm_name (get_or supported i d)) ≡ false → value_for a new ≡ value_for a now)
+  pub block_read : (b : Bool) (new : Members) (more : Blocks) → b ≡ true
+      → ((a : Algorithm) → text_eq (algorithm_name a) (algorithm_name (get_or supported i d)) ≡ false → value_for a new ≡ value_for a now)
       → with_block front value (get_or supported i d) ≡ cond b (Some more) None → AreLeft ms new more (drop (i + 1) supported)
   block_read b new more taken others read =
       left_after ms now front _ _ value from_here is new more (subst AreApart rest_is (apart_from supported i all_apart)) others (read ∙ ap (λ x. cond x (Some more) None) taken)

@@ -26,7 +26,8 @@ texts_tested : (vs : List Value) → list_all (λ v. is_some (as_str (view v))) 
 texts_tested [] = refl
 texts_tested (v ∷ vs) = by (as_str (view v)) (texts_of (items_view vs)) (texts_tested vs)
   where
-    by : (o : Option Text) (p : Option (List Text)) → list_all (λ w. is_some (as_str (view w))) vs ≡ is_some p → (is_some o && list_all (λ w. is_some (as_str (view w))) vs) ≡ is_some (option_and_then (λ t. option_map (λ ts. t ∷ ts) p) o)
+    by : (o : Option Text) (p : Option (List Text)) → list_all (λ w. is_some (as_str (view w))) vs ≡ is_some p
+        → (is_some o && list_all (λ w. is_some (as_str (view w))) vs) ≡ is_some (option_and_then (λ t. option_map (λ ts. t ∷ ts) p) o)
     by None p h = refl
     by (Some t) None h = h
     by (Some t) (Some ts) h = h

@@ -28,12 +28,14 @@ module _ (level : Level) where
   counted_names (e ∷ es) = by e.kind (counted_names es)
     where
       keep : (b : Bool) → filter (is_declaration level) (file_names es) ≡ map (λ x. x.name) (filter (is_counted level) es)
-          → cond b (e.name ∷ filter (is_declaration level) (file_names es)) (filter (is_declaration level) (file_names es)) ≡ map (λ x. x.name) (cond b (e ∷ filter (is_counted level) es) (filter (is_counted level) es))
+          → cond b (e.name ∷ filter (is_declaration level) (file_names es)) (filter (is_declaration level) (file_names es)) ≡ map (λ x. x.name)
+              (cond b (e ∷ filter (is_counted level) es) (filter (is_counted level) es))
       keep true h = ap (λ ns. e.name ∷ ns) h
       keep false h = h
 
       by : (k : Kind) → filter (is_declaration level) (file_names es) ≡ map (λ x. x.name) (filter (is_counted level) es)
-          → filter (is_declaration level) (cond (is_file k) (e.name ∷ file_names es) (file_names es)) ≡ map (λ x. x.name) (cond (is_file k && is_declaration level e.name) (e ∷ filter (is_counted level) es) (filter (is_counted level) es))
+          → filter (is_declaration level) (cond (is_file k) (e.name ∷ file_names es) (file_names es)) ≡ map (λ x. x.name)
+              (cond (is_file k && is_declaration level e.name) (e ∷ filter (is_counted level) es) (filter (is_counted level) es))
       by File h = keep (is_declaration level e.name) h
       by Dir h = h
       by Other h = h
@@ -55,7 +57,8 @@ module _ (level : Level) where
   pub none_declared : (es : List Entry) → IsNext level es 0 None → undeclared ≡ declared level (file_names es)
   none_declared es h = sym (ap (declared_by level) (counted_names es ∙ ap (map (λ e. e.name)) h))
 
-  several_left : (es : List Entry) (e : Entry) (rest : List Entry) (f : Entry) (more : List Entry) → filter (is_counted level) es ≡ e ∷ rest → rest ≡ f ∷ more → several ≡ declared level (file_names es)
+  several_left : (es : List Entry) (e : Entry) (rest : List Entry) (f : Entry) (more : List Entry) → filter (is_counted level) es ≡ e ∷ rest → rest ≡ f ∷ more
+      → several ≡ declared level (file_names es)
   several_left es e rest f more h k = sym (ap (declared_by level) (counted_names es ∙ ap (map (λ x. x.name)) (h ∙ ap (λ xs. e ∷ xs) k)))
 
   pub several_declared : (es : List Entry) (i j : ℕ) → IsNext level es 0 (Some i) → IsNext level es (i + 1) (Some j) → several ≡ declared level (file_names es)
@@ -106,11 +109,13 @@ module _ (level : Level) where
       let same : x ≡ w.0 = is ∙ get_or_from_slice_get es i w.0 x w.2 in
       one_declared es i w k ∙ ap (λ (y : Entry). version_named (after_prefix level y.name)) (sym same)
 
-  pub known_is : (es : List Entry) (x : Entry) (r : Option Version) (v : Version) → declared level (file_names es) ≡ version_named (after_prefix level x.name) → IsVersionOf (after_prefix level x.name) r → r ≡ Some v
+  pub known_is : (es : List Entry) (x : Entry) (r : Option Version) (v : Version) → declared level (file_names es) ≡ version_named (after_prefix level x.name)
+      → IsVersionOf (after_prefix level x.name) r → r ≡ Some v
       → known v ≡ declared level (file_names es)
   known_is es x r v h k e = sym (h ∙ subst (IsVersionOf (after_prefix level x.name)) e k)
 
-  pub unknown_is : (es : List Entry) (i : ℕ) (x : Entry) (r : Option Version) → i < length es → x ≡ get_or es i x → declared level (file_names es) ≡ version_named (after_prefix level x.name) → IsVersionOf (after_prefix level x.name) r → r ≡ None
+  pub unknown_is : (es : List Entry) (i : ℕ) (x : Entry) (r : Option Version) → i < length es → x ≡ get_or es i x
+      → declared level (file_names es) ≡ version_named (after_prefix level x.name) → IsVersionOf (after_prefix level x.name) r → r ≡ None
       → unknown_by level (slice_get es i) ≡ declared level (file_names es)
   unknown_is es i x r n is h k e = ap (unknown_by level) (slice_get-get_or es i x n ∙ ap Some (sym is)) ∙ sym (h ∙ subst (IsVersionOf (after_prefix level x.name)) e k)
 

@@ -23,7 +23,8 @@ IsShort t = length t.path ≤ 128
 short_kept : (content t : Text) → is_kept content t ≡ true → length (elements t) ≤ 128
 short_kept content t h = by (nat_lt 128 (length (elements t))) refl _ _ _ _ h
   where
-    by : (l : Bool) → nat_lt 128 (length (elements t)) ≡ l → (a b x y : Bool) → not (is_some (cond a (Some E100) (cond b (Some E099) (cond (x || l || y) (Some S06) None)))) ≡ true → length (elements t) ≤ 128
+    by : (l : Bool) → nat_lt 128 (length (elements t)) ≡ l → (a b x y : Bool)
+        → not (is_some (cond a (Some E100) (cond b (Some E099) (cond (x || l || y) (Some S06) None)))) ≡ true → length (elements t) ≤ 128
     by false e a b x y k = let n = ltb-false 128 (length (elements t)) e in omega (arith, n)
     by true e true b x y k = absurd (true_not_false (sym k))
     by true e false true x y k = absurd (true_not_false (sym k))
@@ -48,7 +49,8 @@ module _ where
   all_ascending [] h = tt
   all_ascending (x ∷ xs) h = all_insert x (ascending triple_cmp xs) h.0 (all_ascending xs h.1)
 
-  all_of_key : (fixity : Bool) (content : Text) (a : Algorithm) (key : Text) (ts : List Text) → AllByRecursion IsShort (map (λ t. record { path = elements t; named = named_digest fixity a key }) (filter (is_kept content) ts))
+  all_of_key : (fixity : Bool) (content : Text) (a : Algorithm) (key : Text) (ts : List Text)
+      → AllByRecursion IsShort (map (λ t. record { path = elements t; named = named_digest fixity a key }) (filter (is_kept content) ts))
   all_of_key fixity content a key [] = tt
   all_of_key fixity content a key (t ∷ ts) = by (is_kept content t) refl (all_of_key fixity content a key ts)
     where
@@ -73,7 +75,8 @@ abbrev all_of : Inventory → List Triple
 all_of i = triples_of false i.content i.algorithm i.manifest ++ flat_map (λ e. triples_of true i.content e.0 e.1) i.fixity
 
 short_all : (i : Inventory) → AllByRecursion IsShort (all_of i)
-short_all i = all_append (triples_of false i.content i.algorithm i.manifest) (flat_map (λ e. triples_of true i.content e.0 e.1) i.fixity) (all_of_block false i.content i.algorithm i.manifest) (all_of_fixity i.content i.fixity)
+short_all i = all_append (triples_of false i.content i.algorithm i.manifest) (flat_map (λ e. triples_of true i.content e.0 e.1) i.fixity)
+    (all_of_block false i.content i.algorithm i.manifest) (all_of_fixity i.content i.fixity)
 
 table_fits : (i : Inventory) → length (table_from i).triples < 2 ^ 64 → IsFit (table_from i)
 table_fits i few = record {

@@ -65,7 +65,8 @@ triples_up xs s = subst (IsUp triple_cmp) (itself xs) (up_from_sorted triple_tot
 same_place : (p q : Place) → pointwise (pointwise nat_eq) p q ≡ place_eq p q
 same_place = lists_ties (slice_cmp nat_cmp) texts_ties
 
-pub conflicting : (es : List Triple) (hs zs : List Place) → IsSorted triple_cmp es → hs ≡ hits begins (map (λ e. e.path) es) → IsFiltered (DiffersFromLast (pointwise (pointwise nat_eq))) [] hs zs → zs ≡ conflicts (map (λ e. e.path) es)
+pub conflicting : (es : List Triple) (hs zs : List Place) → IsSorted triple_cmp es → hs ≡ hits begins (map (λ e. e.path) es)
+    → IsFiltered (DiffersFromLast (pointwise (pointwise nat_eq))) [] hs zs → zs ≡ conflicts (map (λ e. e.path) es)
 conflicting es hs zs s h f =
     dedup_is (pointwise (pointwise nat_eq)) hs zs f
     ∙ (λ i. dedup (λ p q. same_place p q i) (h i))
@@ -97,7 +98,8 @@ kept_paths_of fixity content a (e ∷ b) =
 
 module _ {A : Type 0} (cmp : A → A → Ordering) (total : IsTotalOrder cmp) (exact : IsAntisymmetric cmp) (test : A → Bool) where
   pub ascending_filter : (xs : List A) → ascending cmp (filter test xs) ≡ filter test (ascending cmp xs)
-  ascending_filter xs = ascending_unique total exact (ascending cmp (filter test xs)) (filter test (ascending cmp xs)) (ascends_ascending total (filter test xs)) (ascends_filter cmp test (ascending cmp xs) (ascends_ascending total xs)) (λ z. (
+  ascending_filter xs = ascending_unique total exact (ascending cmp (filter test xs)) (filter test (ascending cmp xs))
+      (ascends_ascending total (filter test xs)) (ascends_filter cmp test (ascending cmp xs) (ascends_ascending total xs)) (λ z. (
     λ i. let w = among_from_filter test xs z ((among_ascending exact (filter test xs) z).1 i) in among_filter test (ascending cmp xs) z ((among_ascending exact xs z).0 w.0) w.1,
     λ i. let w = among_from_filter test (ascending cmp xs) z i in (among_ascending exact (filter test xs) z).0 (among_filter test xs z ((among_ascending exact xs z).1 w.0) w.1),
   ))
@@ -108,7 +110,8 @@ module _ (content : Text) where
   faults_left (t ∷ ts) = by (path_fault content t) refl (faults_left ts)
     where
       by : (o : Option Code) → path_fault content t ≡ o → filter_map (fault_note content) (filter (is_bad content) ts) ≡ filter_map (fault_note content) ts
-          → filter_map (fault_note content) (cond (is_some o) (t ∷ filter (is_bad content) ts) (filter (is_bad content) ts)) ≡ cons_option (option_map (λ c. note c t) o) (filter_map (fault_note content) ts)
+          → filter_map (fault_note content) (cond (is_some o) (t ∷ filter (is_bad content) ts) (filter (is_bad content) ts)) ≡ cons_option
+              (option_map (λ c. note c t) o) (filter_map (fault_note content) ts)
       by None e h = h
       by (Some code) e h = ap (λ o. cons_option (option_map (λ c. note c t) o) (filter_map (fault_note content) (filter (is_bad content) ts))) e ∙ ap (λ ns. note code t ∷ ns) h
 
@@ -145,7 +148,8 @@ lines_of_listed i l h =
 -- ---- the table's triples
 
 pub ascending_permuted : (es fs : List Triple) → IsPermutation es fs → ascending triple_cmp fs ≡ ascending triple_cmp es
-ascending_permuted es fs p = ascending_unique triple_total triple_exact (ascending triple_cmp fs) (ascending triple_cmp es) (ascends_ascending triple_total fs) (ascends_ascending triple_total es) (λ z. (
+ascending_permuted es fs p = ascending_unique triple_total triple_exact (ascending triple_cmp fs) (ascending triple_cmp es) (ascends_ascending triple_total fs)
+    (ascends_ascending triple_total es) (λ z. (
   λ i. (among_ascending triple_exact es z).0 (among_permuted triple_total triple_exact fs es (IsPermutation-sym es fs p) z ((among_ascending triple_exact fs z).1 i)),
   λ i. (among_ascending triple_exact fs z).0 (among_permuted triple_total triple_exact es fs p z ((among_ascending triple_exact es z).1 i)),
 ))

@@ -21,7 +21,8 @@ some_bytes : (c : ℕ) (n : Text) → (length (c ∷ n) == 0) ≡ false
 some_bytes c n = grind (arith, nat_tests)
 
 fits_is : (n : Text) → fits n ≡ not (is_empty_or_dots n || is_too_long n)
-fits_is n = by (length n == 0) (nat_le (length n) 255) (pointwise nat_eq n (codes ".")) (pointwise nat_eq n (codes "..")) (text_eq n []) (empty n) (text_eq n (codes ".")) (texts_ties n (codes ".")) (text_eq n (codes "..")) (texts_ties n (codes "..")) (is_too_long n) long
+fits_is n = by (length n == 0) (nat_le (length n) 255) (pointwise nat_eq n (codes ".")) (pointwise nat_eq n (codes "..")) (text_eq n []) (empty n)
+    (text_eq n (codes ".")) (texts_ties n (codes ".")) (text_eq n (codes "..")) (texts_ties n (codes "..")) (is_too_long n) long
   where
     empty : (n : Text) → (length n == 0) ≡ text_eq n []
     empty [] = refl
@@ -70,7 +71,8 @@ starts_dotted t h =
 ends_dotted : (t : Text) → ends_with nat_eq t (codes "/") ≡ true → list_any is_empty_or_dots (elements t) ≡ true
 ends_dotted t h =
     let e : t ≡ take (length t - 1) t ++ codes "/" = (ends_is Decides-eqb t (codes "/") (ends_with nat_eq t (codes "/")) refl).0 h in
-    ap (λ u. list_any is_empty_or_dots (elements u)) e ∙ ap (list_any is_empty_or_dots) (elements-append (take (length t - 1) t) []) ∙ dots_in_front (elements (take (length t - 1) t)) (elements []) refl
+    ap (λ u. list_any is_empty_or_dots (elements u)) e ∙ ap (list_any is_empty_or_dots) (elements-append (take (length t - 1) t) [])
+        ∙ dots_in_front (elements (take (length t - 1) t)) (elements []) refl
 
 -- ---- what is kept
 
@@ -78,7 +80,8 @@ abbrev pub lies_elsewhere : Text → Text → Bool
 lies_elsewhere content t = not (is_content_path content (elements t)) || nat_lt 128 (length (elements t))
 
 pub elsewhere_is_bad : (content t : Text) → lies_elsewhere content t ≡ true → is_kept content t ≡ false
-elsewhere_is_bad content t h = by (starts_with nat_eq t (codes "/") || ends_with nat_eq t (codes "/")) (list_any is_empty_or_dots (elements t)) (not (is_content_path content (elements t))) (nat_lt 128 (length (elements t))) (list_any is_too_long_or_nul (elements t)) h
+elsewhere_is_bad content t h = by (starts_with nat_eq t (codes "/") || ends_with nat_eq t (codes "/")) (list_any is_empty_or_dots (elements t))
+    (not (is_content_path content (elements t))) (nat_lt 128 (length (elements t))) (list_any is_too_long_or_nul (elements t)) h
   where
     by : (a b c d e : Bool) → c || d ≡ true → not (is_some (cond a (Some E100) (cond b (Some E099) (cond (c || d || e) (Some S06) None)))) ≡ false
     by true b c d e k = refl
@@ -88,9 +91,11 @@ elsewhere_is_bad content t h = by (starts_with nat_eq t (codes "/") || ends_with
     by false false false false e k = absurd (true_not_false (sym k))
 
 kept_by_tests : (content t : Text) → lies_elsewhere content t ≡ false → is_kept content t ≡ not (list_any is_empty_or_dots (elements t) || list_any is_too_long_or_nul (elements t))
-kept_by_tests content t h = by (starts_with nat_eq t (codes "/")) (ends_with nat_eq t (codes "/")) (list_any is_empty_or_dots (elements t)) (not (is_content_path content (elements t))) (nat_lt 128 (length (elements t))) (list_any is_too_long_or_nul (elements t)) (starts_dotted t) (ends_dotted t) h
+kept_by_tests content t h = by (starts_with nat_eq t (codes "/")) (ends_with nat_eq t (codes "/")) (list_any is_empty_or_dots (elements t))
+    (not (is_content_path content (elements t))) (nat_lt 128 (length (elements t))) (list_any is_too_long_or_nul (elements t)) (starts_dotted t) (ends_dotted t) h
   where
-    by : (a z b c d e : Bool) → (a ≡ true → b ≡ true) → (z ≡ true → b ≡ true) → c || d ≡ false → not (is_some (cond (a || z) (Some E100) (cond b (Some E099) (cond (c || d || e) (Some S06) None)))) ≡ not (b || e)
+    by : (a z b c d e : Bool) → (a ≡ true → b ≡ true) → (z ≡ true → b ≡ true) → c || d ≡ false
+        → not (is_some (cond (a || z) (Some E100) (cond b (Some E099) (cond (c || d || e) (Some S06) None)))) ≡ not (b || e)
     by true z true c d e f g k = refl
     by true z false c d e f g k = absurd (true_not_false (sym (f refl)))
     by false true true c d e f g k = refl
@@ -102,7 +107,8 @@ kept_by_tests content t h = by (starts_with nat_eq t (codes "/")) (ends_with nat
     by false false false false true e f g k = absurd (true_not_false k)
 
 tests : (t : Text) → not (list_any is_empty_or_dots (elements t) || list_any is_too_long_or_nul (elements t)) ≡ (list_all fits (elements t) && not (has_zero t))
-tests t = ap (λ b. not (list_any is_empty_or_dots (elements t) || b)) (too_long_or_nul_is t) ∙ same (list_any is_empty_or_dots (elements t)) (list_any is_too_long (elements t)) (has_zero t) ∙ ap (λ b. b && not (has_zero t)) (sym (all_fit_is (elements t)))
+tests t = ap (λ b. not (list_any is_empty_or_dots (elements t) || b)) (too_long_or_nul_is t)
+    ∙ same (list_any is_empty_or_dots (elements t)) (list_any is_too_long (elements t)) (has_zero t) ∙ ap (λ b. b && not (has_zero t)) (sym (all_fit_is (elements t)))
   where
     same : (a b c : Bool) → not (a || (b || c)) ≡ (not (a || b) && not c)
     same true b c = refl

@@ -22,12 +22,14 @@ pub seen_more : {A B N : Type 0} (g : B → N) (view : A → B) (xs : List A) (i
 seen_more g view xs i d n h same = ap (map g) (map_more view xs i d h) ∙ map_push g (map view (take i xs)) (view (get_or xs i d)) ∙ ap (λ m. map g (map view (take i xs)) ++ m ∷ []) (sym same)
 
 -- one more copy of an element
-pub copied_more : {A B N : Type 0} (f : B → N) (g : A → N) (xs : List A) (i : ℕ) (d : A) (old new : List B) (y : B) → i < length xs → f y ≡ g (get_or xs i d) → map f old ≡ map g (take i xs) → new ≡ old ++ y ∷ []
+pub copied_more : {A B N : Type 0} (f : B → N) (g : A → N) (xs : List A) (i : ℕ) (d : A) (old new : List B) (y : B) → i < length xs → f y ≡ g (get_or xs i d)
+    → map f old ≡ map g (take i xs) → new ≡ old ++ y ∷ []
     → map f new ≡ map g (take (i + 1) xs)
 copied_more f g xs i d old new y h same so_far e =
     ap (map f) e ∙ map_push f old y ∙ ap (λ ms. ms ++ f y ∷ []) so_far ∙ sym (mapped_more g xs i d (f y) h same)
 
-pub several_more : {A B N : Type 0} (view : A → B) (f : B → List N) (xs : List A) (i : ℕ) (x : A) (first old new : List N) → i < length xs → x ≡ get_or xs i x → old ≡ first ++ flat_map f (map view (take i xs)) → new ≡ old ++ f (view x)
+pub several_more : {A B N : Type 0} (view : A → B) (f : B → List N) (xs : List A) (i : ℕ) (x : A) (first old new : List N) → i < length xs → x ≡ get_or xs i x
+    → old ≡ first ++ flat_map f (map view (take i xs)) → new ≡ old ++ f (view x)
     → new ≡ first ++ flat_map f (map view (take (i + 1) xs))
 several_more view f xs i x first old new h is so_far e =
     joined_push view f (take i xs) x first old new so_far e

@@ -84,7 +84,8 @@ module _ {A : Type 0} {cmp : A → A → Ordering} (o : IsTotalOrder cmp) (exact
       on t (inl e) = inl e
       on t (inr i) = inr (t i)
 
-      by : (b : Bool) → alike x k ≡ b → (IsAmong (dedup_from alike k xs) z ↔ IsAmong (k ∷ xs) z) → (IsAmong (dedup_from alike x xs) z ↔ IsAmong (x ∷ xs) z) → IsAmong (cond b (dedup_from alike k xs) (k ∷ dedup_from alike x xs)) z ↔ IsAmong (k ∷ x ∷ xs) z
+      by : (b : Bool) → alike x k ≡ b → (IsAmong (dedup_from alike k xs) z ↔ IsAmong (k ∷ xs) z) → (IsAmong (dedup_from alike x xs) z ↔ IsAmong (x ∷ xs) z)
+          → IsAmong (cond b (dedup_from alike k xs) (k ∷ dedup_from alike x xs)) z ↔ IsAmong (k ∷ x ∷ xs) z
       by true e s t = (λ i. widen (s.0 i), λ i. s.1 (narrow (alike_is x k e) i))
       by false e s t = (off t.0, on t.1)
 
@@ -176,8 +177,11 @@ module _ {A : Type 0} {cmp : A → A → Ordering} (o : IsTotalOrder cmp) (exact
     same_tally xs ys z p = tally_is (test z) ys ∙ sum_by-IsPermutation (λ x. cond (test z x) 1 0) xs ys p ∙ sym (tally_is (test z) xs)
 
     -- those that pass the test with two or more, themselves among them: in a sorted list, with the next
-    pub sorted_hits : (p : A → Bool) (xs ys : List A) → ((z : A) → IsAmong xs z → p z ≡ nat_le 2 (count_by (test z) xs)) → IsPermutation xs ys → IsUp cmp ys → dedup alike (hits test ys) ≡ filter p (ascending cmp xs)
-    sorted_hits p xs ys is perm up = ascending_unique o exact (dedup alike (hits test ys)) (filter p (ascending cmp xs)) (ascends_dedup (hits test ys) (up_hits ys up)) (ascends_filter cmp p (ascending cmp xs) (ascends_ascending o xs)) (λ z. (there z, back z))
+    pub sorted_hits : (p : A → Bool) (xs ys : List A) → ((z : A) → IsAmong xs z → p z ≡ nat_le 2 (count_by (test z) xs)) → IsPermutation xs ys → IsUp cmp ys
+        → dedup alike (hits test ys) ≡ filter p (ascending cmp xs)
+    sorted_hits p xs ys is perm up =
+        ascending_unique o exact (dedup alike (hits test ys)) (filter p (ascending cmp xs)) (ascends_dedup (hits test ys) (up_hits ys up))
+        (ascends_filter cmp p (ascending cmp xs) (ascends_ascending o xs)) (λ z. (there z, back z))
       where
         there : (z : A) → IsAmong (dedup alike (hits test ys)) z → IsAmong (filter p (ascending cmp xs)) z
         there z i =
@@ -199,5 +203,6 @@ module _ {A : Type 0} {cmp : A → A → Ordering} (o : IsTotalOrder cmp) (exact
   alike_front = record {
     itself = alike_itself;
     later = λ x y h. let e : x ≡ y = alike_is x y h in subst (λ w. is_lt (cmp w x) ≡ false) e (not_below o exact x);
-    between = λ x y z h k t. let e : x ≡ z = alike_is x z t in let f : x ≡ y = both_ways o exact x y h (subst (λ w. is_lt (cmp w y) ≡ false) (sym e) k) in subst (λ w. alike x w ≡ true) f (alike_itself x);
+    between = λ x y z h k t. let e : x ≡ z = alike_is x z t in let f : x ≡ y = both_ways o exact x y h (subst (λ w. is_lt (cmp w y) ≡ false) (sym e) k) in subst
+        (λ w. alike x w ≡ true) f (alike_itself x);
   }

@@ -68,7 +68,9 @@ too_long_or_nul_is t = any_either is_too_long has_zero (elements t) ∙ ap (λ b
 pub cut_first : (t : Text) (r : Option (Bor Text × Bor Text)) → IsSplitOnceResult 47 t r → MatchOption r (elements t ≡ t ∷ []) (λ x. elements t ≡ x.0.now ∷ elements x.1.now)
 cut_first t r h = by r (split_once_first 47 t r h (lit< tt))
   where
-    by : (o : Option (Bor Text × Bor Text)) → MatchOption o (position_or_len (λ b. b == 47) t ≡ length t) (λ x. (position_or_len (λ b. b == 47) t < length t) × (x.0.now ≡ before_first (λ b. b == 47) t) × (x.1.now ≡ after_first (λ b. b == 47) t))
+    by : (o : Option (Bor Text × Bor Text))
+        → MatchOption o (position_or_len (λ b. b == 47) t ≡ length t)
+        (λ x. (position_or_len (λ b. b == 47) t < length t) × (x.0.now ≡ before_first (λ b. b == 47) t) × (x.1.now ≡ after_first (λ b. b == 47) t))
         → MatchOption o (elements t ≡ t ∷ []) (λ x. elements t ≡ x.0.now ∷ elements x.1.now)
     by None e = slice_split_none (λ b. b == 47) t (λ k d l. fails_before_first (λ b. b == 47) t k d (omega (arith, e, l)))
     by (Some x) w = slice_split_first (λ b. b == 47) t 0 w.0 ∙ (λ i. sym w.1 i ∷ elements (sym w.2 i))
@@ -89,11 +91,13 @@ faults_step content xs i d front total new h e so_far =
     let one : drop i xs ≡ get_or xs i d ∷ drop (i + 1) xs = drop-cons xs i d h ∙ ap (λ n. get_or xs i d ∷ drop n xs) (sym (add-one i)) in
     let later : List Note = filter_map (fault_note content) (map (λ x. x.now) (drop (i + 1) xs)) in
     let two : filter_map (fault_note content) (map (λ x. x.now) (drop i xs)) ≡ cons_option (fault_note content (get_or xs i d).now) later = ap (λ ys. filter_map (fault_note content) (map (λ x. x.now) ys)) one in
-    ap (λ ys. ys ++ later) e ∙ append_assoc front (cons_option (fault_note content (get_or xs i d).now) []) later ∙ ap (λ ys. front ++ ys) (joined (fault_note content (get_or xs i d).now) later ∙ sym two) ∙ so_far
+    ap (λ ys. ys ++ later) e ∙ append_assoc front (cons_option (fault_note content (get_or xs i d).now) []) later
+        ∙ ap (λ ys. front ++ ys) (joined (fault_note content (get_or xs i d).now) later ∙ sym two) ∙ so_far
   where
     joined : (o : Option Note) (ns : List Note) → cons_option o [] ++ ns ≡ cons_option o ns
     joined None ns = refl
     joined (Some n) ns = refl
 
-pub faults_done : (content : Text) (xs : List (Bor Text)) (i : ℕ) (front total : List Note) → length xs ≤ i → front ++ filter_map (fault_note content) (map (λ x. x.now) (drop i xs)) ≡ total → front ≡ total
+pub faults_done : (content : Text) (xs : List (Bor Text)) (i : ℕ) (front total : List Note) → length xs ≤ i
+    → front ++ filter_map (fault_note content) (map (λ x. x.now) (drop i xs)) ≡ total → front ≡ total
 faults_done content xs i front total h so_far = sym (ap (λ ys. front ++ filter_map (fault_note content) (map (λ x. x.now) ys)) (drop_all i xs h) ∙ append-nil front) ∙ so_far

@@ -129,7 +129,8 @@ module _ {A : Type 0} {cmp : A → A → Ordering} (o : IsTotalOrder cmp) (exact
             let t : test x y ≡ true = at_head x y ys up (subst (λ v. 2 ≤ tally (test v) (x ∷ y ∷ ys)) e h) in
             rw t (inl e)
 
-        tail : IsAmong (y ∷ ys) z → (b : Bool) → test z x ≡ b → 2 ≤ cond b (1 + tally (test z) (y ∷ ys)) (tally (test z) (y ∷ ys)) → (IsHit (y ∷ ys) z → IsAmong (hits test (y ∷ ys)) z) → IsAmong (hits test (x ∷ y ∷ ys)) z
+        tail : IsAmong (y ∷ ys) z → (b : Bool) → test z x ≡ b → 2 ≤ cond b (1 + tally (test z) (y ∷ ys)) (tally (test z) (y ∷ ys))
+            → (IsHit (y ∷ ys) z → IsAmong (hits test (y ∷ ys)) z) → IsAmong (hits test (x ∷ y ∷ ys)) z
         tail i true e h k = head (both_ways z x (front.later z x e) (under_each cmp x (y ∷ ys) up.0 z i)) (subst (λ b. 2 ≤ cond b (1 + tally (test z) (y ∷ ys)) (tally (test z) (y ∷ ys))) (sym e) h)
         tail i false e h k = keep x y ys z (test x y) (k (i, h))
 

@@ -18,7 +18,8 @@ module _ {P A : Type 0} (f : P → A) (test : A → A → Bool) (xs : List P) (i
       ∙ (λ j. cond (sym tested j) (f x ∷ hits test (map f (sym after_is j))) (hits test (map f (sym after_is j))))
 
   pub seen_hit : b ≡ true → (front ++ f x ∷ []) ++ hits test (map f (drop (i + 1 - 1) xs)) ≡ total
-  seen_hit h = append_assoc front (f x ∷ []) _ ∙ ap (λ ys. front ++ ys) (sym (now_is ∙ ap (λ c. cond c (f x ∷ hits test (map f (drop (i + 1 - 1) xs))) (hits test (map f (drop (i + 1 - 1) xs)))) h)) ∙ so_far
+  seen_hit h = append_assoc front (f x ∷ []) _
+      ∙ ap (λ ys. front ++ ys) (sym (now_is ∙ ap (λ c. cond c (f x ∷ hits test (map f (drop (i + 1 - 1) xs))) (hits test (map f (drop (i + 1 - 1) xs)))) h)) ∙ so_far
 
   pub seen_miss : b ≡ false → front ++ hits test (map f (drop (i + 1 - 1) xs)) ≡ total
   seen_miss h = ap (λ ys. front ++ ys) (sym (now_is ∙ ap (λ c. cond c (f x ∷ hits test (map f (drop (i + 1 - 1) xs))) (hits test (map f (drop (i + 1 - 1) xs)))) h)) ∙ so_far

@@ -58,7 +58,8 @@ starts_shared text other b h e =
 pub shared_so_far : (text other : Text) (n : ℕ) → take n text ≡ take n other → other ≡ take n text ++ drop n other
 shared_so_far text other n h = sym (take-append-drop n other) ∙ ap (λ t. t ++ drop n other) (sym h)
 
-pub shared_more : (text other : Text) (i a b : ℕ) → i < length text → i < length other → a ≡ get_or text i 0 → b ≡ get_or other i 0 → a ≡ b → take i text ≡ take i other → take (i + 1) text ≡ take (i + 1) other
+pub shared_more : (text other : Text) (i a b : ℕ) → i < length text → i < length other → a ≡ get_or text i 0 → b ≡ get_or other i 0 → a ≡ b
+    → take i text ≡ take i other → take (i + 1) text ≡ take (i + 1) other
 shared_more text other i a b h k e f same so_far =
     take_more text i 0 h ∙ (λ j. so_far j ++ (sym e ∙ same ∙ f) j ∷ []) ∙ sym (take_more other i 0 k)
 
@@ -71,7 +72,8 @@ shorter front n t h = record {
   known = h.known;
 }
 
-pub front_step : (front : Text) (n : ℕ) (xs : List Triple) (i : ℕ) (x : Triple) (text rest : Text) → i < length xs → x ≡ get_or xs i x → text ≡ slashed x.path → names_of text ≡ x.path → text ≡ take n front ++ rest
+pub front_step : (front : Text) (n : ℕ) (xs : List Triple) (i : ℕ) (x : Triple) (text rest : Text) → i < length xs → x ≡ get_or xs i x → text ≡ slashed x.path
+    → names_of text ≡ x.path → text ≡ take n front ++ rest
     → All (IsBelow front) (take i xs) → All (IsBelow (take n front)) (take (i + 1) xs)
 front_step front n xs i x text rest h is value known shared all =
     let P = IsBelow (take n front) in
@@ -81,7 +83,8 @@ front_step front n xs i x text rest h is value known shared all =
 
 -- ---- what a path begins, by its last bytes
 
-pub last_alike : (path other : Text) (from n m : ℕ) (b : Bool) → from ≤ length path → n ≡ length path - from → m ≡ n → b ≡ pointwise nat_eq (take n (drop from path)) (take m (drop from other)) → starts_with nat_eq other path ≡ true → b ≡ true
+pub last_alike : (path other : Text) (from n m : ℕ) (b : Bool) → from ≤ length path → n ≡ length path - from → m ≡ n
+    → b ≡ pointwise nat_eq (take n (drop from path)) (take m (drop from other)) → starts_with nat_eq other path ≡ true → b ≡ true
 last_alike path other from n m b low is as_many h begun =
     let rest = drop (length path) other in
     let whole : other ≡ path ++ rest = (starts_is Decides-eqb other path (starts_with nat_eq other path) refl).0 begun in

@@ -89,7 +89,8 @@ module _ (n : ℕ) (b : Text) (d : List ℕ) (a : Algorithm) (digits_are : sidec
       none : None ≡ Some d → ⊥
       none q = cc
 
-      build : nat_le (length b) 4096 ≡ true → length (take n b) == n ≡ true → nat_lt 0 (length gap) ≡ true → starts_with nat_eq name (codes "inventory.json") ≡ true → list_all is_tail (drop 14 name) ≡ true → decoded (take n b) ≡ Some d → IsSidecar b a d
+      build : nat_le (length b) 4096 ≡ true → length (take n b) == n ≡ true → nat_lt 0 (length gap) ≡ true
+          → starts_with nat_eq name (codes "inventory.json") ≡ true → list_all is_tail (drop 14 name) ≡ true → decoded (take n b) ≡ Some d → IsSidecar b a d
       build h1 h2 h3 h4 h5 h6 =
           let spelled : codes "inventory.json" ≡ take 14 name = (bytes_decides _ _).0 h4 in
           let name_is : name ≡ codes "inventory.json" ++ drop 14 name = sym (ap (λ x. x ++ drop 14 name) spelled ∙ take_drop_joined 14 name) in

@@ -7,7 +7,8 @@ use Rattle.ocfl_tree.specs.Place.{Text}
 use Rattle.ocfl_inventory.specs.Sidecar.{leading, is_blank, is_tail, decoded, is_after_digits, sidecar_of_len}
 use Rattle.std.proofs.lemmas.Bool.Decides.{nat_tests}
 
-pub leading_step : (p : ℕ → Bool) (t : Text) (i c : ℕ) (total : ℕ) → i < length t → p (get_or t i 0) ≡ true → i + length (leading p (drop i t)) ≡ total → i + 1 + length (leading p (drop (i + 1) t)) ≡ total
+pub leading_step : (p : ℕ → Bool) (t : Text) (i c : ℕ) (total : ℕ) → i < length t → p (get_or t i 0) ≡ true → i + length (leading p (drop i t)) ≡ total
+    → i + 1 + length (leading p (drop (i + 1) t)) ≡ total
 leading_step p t i c total h k so_far =
     let one : drop i t ≡ get_or t i 0 ∷ drop (i + 1) t = drop-cons t i 0 h ∙ ap (λ n. get_or t i 0 ∷ drop n t) (sym (add-one i)) in
     let two : leading p (drop i t) ≡ get_or t i 0 ∷ leading p (drop (i + 1) t) = ap (leading p) one ∙ ap (λ b. cond b (get_or t i 0 ∷ leading p (drop (i + 1) t)) []) k in
@@ -38,7 +39,8 @@ too_short n b h =
     let e : length (take n b) < n = simp length-take (omega arith) in
     no_sidecar n b (grind (arith, nat_tests))
 
-pub after_is : (rest part : Text) (gap : ℕ) (s a : Bool) → gap ≡ length (leading is_blank rest) → gap ≢ 0 → part ≡ drop gap rest → s ≡ starts_with nat_eq part (codes "inventory.json") → s ≡ true → a ≡ list_all is_tail (drop 14 part)
+pub after_is : (rest part : Text) (gap : ℕ) (s a : Bool) → gap ≡ length (leading is_blank rest) → gap ≢ 0 → part ≡ drop gap rest
+    → s ≡ starts_with nat_eq part (codes "inventory.json") → s ≡ true → a ≡ list_all is_tail (drop 14 part)
     → a ≡ is_after_digits rest
 after_is rest part gap s a g z e h k t =
     let name_is : part ≡ drop (length (leading is_blank rest)) rest = e ∙ ap (λ n. drop n rest) g in

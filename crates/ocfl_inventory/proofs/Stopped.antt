@@ -24,13 +24,15 @@ stopped_remarks (Ok x) stops.Memory read h f = absurd h
 stopped_remarks (Ok x) (stops.Because r) read h f = h ∙ ap reading_notes (sym f)
 stopped_remarks (Err x) e read h f = tt
 
-pub stopped_table : {E : Type 0} (o : Result InventoryReading E) (e : Stop) (read : Reading Inventory) → IfOk o (λ r. SaysAlone e (map remark_view r.remarks.items)) → IfOk o (λ r. r.table ≡ None) → Fails e read
+pub stopped_table : {E : Type 0} (o : Result InventoryReading E) (e : Stop) (read : Reading Inventory)
+    → IfOk o (λ r. SaysAlone e (map remark_view r.remarks.items)) → IfOk o (λ r. r.table ≡ None) → Fails e read
     → IfOk o (λ r. r.table ≡ table_from_reading read)
 stopped_table (Ok x) stops.Memory read h k f = absurd h
 stopped_table (Ok x) (stops.Because r) read h k f = k ∙ ap table_from_reading (sym f)
 stopped_table (Err x) e read h k f = tt
 
-pub stopped_algorithm : {E : Type 0} (o : Result InventoryReading E) (e : Stop) (read : Reading Algorithm) → IfOk o (λ r. SaysAlone e (map remark_view r.remarks.items)) → IfOk o (λ r. r.algorithm ≡ None) → Fails e read
+pub stopped_algorithm : {E : Type 0} (o : Result InventoryReading E) (e : Stop) (read : Reading Algorithm)
+    → IfOk o (λ r. SaysAlone e (map remark_view r.remarks.items)) → IfOk o (λ r. r.algorithm ≡ None) → Fails e read
     → IfOk o (λ r. r.algorithm ≡ result_ok read)
 stopped_algorithm (Ok x) stops.Memory read h k f = absurd h
 stopped_algorithm (Ok x) (stops.Because r) read h k f = k ∙ ap result_ok (sym f)

@@ -60,7 +60,8 @@ below_too p q r h k = by (place_cmp p q) refl
     by Equal e = ap (λ s. is_lt (place_cmp s r)) (place_cmp_exact p q e) ∙ k
     by Greater e = absurd (true_not_false (sym (ap is_lt (below_from_greater place_cmp_total p q e)) ∙ h))
 
-pub parted_from : (xs : List Triple) (q : Place) → IsAscending triple_cmp xs → (i j : ℕ) (d : Triple) → i ≤ j → j < length xs → is_lt (place_cmp (get_or xs j d).path q) ≡ true → is_lt (place_cmp (get_or xs i d).path q) ≡ true
+pub parted_from : (xs : List Triple) (q : Place) → IsAscending triple_cmp xs → (i j : ℕ) (d : Triple) → i ≤ j → j < length xs
+    → is_lt (place_cmp (get_or xs j d).path q) ≡ true → is_lt (place_cmp (get_or xs i d).path q) ≡ true
 parted_from xs q up i j d k l h = below_too (get_or xs i d).path (get_or xs j d).path q (paths_at xs up i j d k l) h
 
 not_true : (b : Bool) → not b ≡ true → b ≡ false
@@ -71,10 +72,13 @@ not_false : (b : Bool) → not b ≡ false → b ≡ true
 not_false true h = refl
 not_false false h = absurd (true_not_false h)
 
-pub parted_above : (xs : List Triple) (q : Place) → IsAscending triple_cmp xs → (i j : ℕ) (d : Triple) → i ≤ j → j < length xs → not (is_lt (place_cmp q (get_or xs j d).path)) ≡ true → not (is_lt (place_cmp q (get_or xs i d).path)) ≡ true
+pub parted_above : (xs : List Triple) (q : Place) → IsAscending triple_cmp xs → (i j : ℕ) (d : Triple) → i ≤ j → j < length xs
+    → not (is_lt (place_cmp q (get_or xs j d).path)) ≡ true → not (is_lt (place_cmp q (get_or xs i d).path)) ≡ true
 parted_above xs q up i j d k l h = ap not (no_fall place_cmp_total place_cmp_exact (get_or xs i d).path (get_or xs j d).path q (paths_at xs up i j d k l) (not_true _ h))
 
-pub above_point : (xs : List Triple) (q : Place) (n : ℕ) → IsPartitionPoint (λ t. not (is_lt (place_cmp q t.path)) ≡ true) (λ t. not (is_lt (place_cmp q t.path)) ≡ false) xs n → IsPartitionPoint (λ t. is_lt (place_cmp q t.path) ≡ false) (λ t. is_lt (place_cmp q t.path) ≡ true) xs n
+pub above_point : (xs : List Triple) (q : Place) (n : ℕ)
+    → IsPartitionPoint (λ t. not (is_lt (place_cmp q t.path)) ≡ true) (λ t. not (is_lt (place_cmp q t.path)) ≡ false) xs n
+    → IsPartitionPoint (λ t. is_lt (place_cmp q t.path) ≡ false) (λ t. is_lt (place_cmp q t.path) ≡ true) xs n
 above_point xs q n h = (λ k d a b. not_true _ (h.0 k d a b), λ k d a b. not_false _ (h.1 k d a b))
 
 -- ---- the digests of a place
@@ -129,7 +133,8 @@ module _ (q : Place) where
   picked_first [] (suc j) h w = refl
   picked_first (x ∷ xs) (suc j) h w =
       keep x _ (between_same x.path (h 0 x (omega arith) (omega arith)) (w.0 0 x (omega arith) (omega arith)))
-      ∙ ap (λ ys. x.named ∷ ys) (picked_first xs j (λ k d a b. h (suc k) d (omega arith) (omega arith)) (λ k d a b. w.0 (suc k) d (omega arith) (omega arith), λ k d a b. w.1 (suc k) d (omega arith) (omega arith)))
+      ∙ ap (λ ys. x.named ∷ ys) (picked_first xs j (λ k d a b. h (suc k) d (omega arith) (omega arith))
+          (λ k d a b. w.0 (suc k) d (omega arith) (omega arith), λ k d a b. w.1 (suc k) d (omega arith) (omega arith)))
 
   both_below : (p : Place) → is_lt (place_cmp p q) ≡ true → is_lt (place_cmp q p) ≡ true → ⊥
   both_below p h k = true_not_false (sym h ∙ ap is_lt (place_cmp_total.antisymm p q) ∙ by (place_cmp q p) k)
@@ -156,11 +161,13 @@ module _ (q : Place) where
   picked (x ∷ xs) (suc i) zero a low high = absurd (not_past (x ∷ xs) (suc i) zero a low high (omega arith))
   picked (x ∷ xs) (suc i) (suc j) a low high =
       skip x _ (below_apart x.path (low.0 0 x (omega arith) (omega arith)))
-      ∙ picked xs i j (omega (arith, a)) (λ k d b l. low.0 (suc k) d (omega arith) (omega arith), λ k d b l. low.1 (suc k) d (omega arith) (omega arith)) (λ k d b l. high.0 (suc k) d (omega arith) (omega arith), λ k d b l. high.1 (suc k) d (omega arith) (omega arith))
+      ∙ picked xs i j (omega (arith, a)) (λ k d b l. low.0 (suc k) d (omega arith) (omega arith), λ k d b l. low.1 (suc k) d (omega arith) (omega arith))
+          (λ k d b l. high.0 (suc k) d (omega arith) (omega arith), λ k d b l. high.1 (suc k) d (omega arith) (omega arith))
 
 -- ---- the next path
 
-pub found_at : (test : Place → Bool) (xs : List Triple) (n : ℕ) → IsPartitionPoint (λ t. test t.path ≡ false) (λ t. test t.path ≡ true) xs n → option_map (λ t. t.path) (slice_get xs n) ≡ find test (map (λ t. t.path) xs)
+pub found_at : (test : Place → Bool) (xs : List Triple) (n : ℕ) → IsPartitionPoint (λ t. test t.path ≡ false) (λ t. test t.path ≡ true) xs n
+    → option_map (λ t. t.path) (slice_get xs n) ≡ find test (map (λ t. t.path) xs)
 found_at test [] n w = refl
 found_at test (x ∷ xs) zero w = ap (λ b. cond b (Some x.path) (find test (map (λ t. t.path) xs))) (sym (w.1 0 x (omega arith) (omega arith)))
 found_at test (x ∷ xs) (suc n) w =

@@ -28,7 +28,8 @@ lent_sorted xs = (k : ℕ) (d : Bor Text) → 0 ≤ k → k + 1 < length xs → 
 
 lent_dedup_from : (k : Bor Text) (xs : List (Bor Text)) → lent (dedup_from same_lent k xs) ≡ dedup_from text_eq k.now (lent xs)
 lent_dedup_from k [] = refl
-lent_dedup_from k (x ∷ xs) = by (bytes_eq x.now k.now) (lent_dedup_from k xs) (lent_dedup_from x xs) ∙ ap (λ b. cond b (dedup_from text_eq k.now (lent xs)) (k.now ∷ dedup_from text_eq x.now (lent xs))) (sym (is_eq-slice_cmp x.now k.now))
+lent_dedup_from k (x ∷ xs) = by (bytes_eq x.now k.now) (lent_dedup_from k xs) (lent_dedup_from x xs)
+    ∙ ap (λ b. cond b (dedup_from text_eq k.now (lent xs)) (k.now ∷ dedup_from text_eq x.now (lent xs))) (sym (is_eq-slice_cmp x.now k.now))
   where
     by : (b : Bool) → lent (dedup_from same_lent k xs) ≡ dedup_from text_eq k.now (lent xs) → lent (dedup_from same_lent x xs) ≡ dedup_from text_eq x.now (lent xs)
         → lent (cond b (dedup_from same_lent k xs) (k ∷ dedup_from same_lent x xs)) ≡ cond b (dedup_from text_eq k.now (lent xs)) (k.now ∷ dedup_from text_eq x.now (lent xs))
@@ -48,9 +49,12 @@ lent_up xs s = up_from_sorted nat_list_cmp_total text_exact (λ t. t.now) xs (λ
 pub texts_once : (xs ys zs : List (Bor Text)) → IsPermutation xs ys → lent_sorted ys → IsFiltered (DiffersFromLast same_lent) [] ys zs → lent zs ≡ ascending text_cmp (lent xs)
 texts_once xs ys zs p s f = lent_dedup ys zs f ∙ sorted_once nat_list_cmp_total text_exact (lent xs) (lent ys) (IsPermutation-map (λ t. t.now) xs ys p) (lent_up ys s)
 
-pub keys_repeated : (xs ys hs zs : List Text) → IsPermutation xs ys → IsSorted text_cmp ys → hs ≡ hits text_eq ys → IsFiltered (DiffersFromLast (eq_by_cmp text_cmp)) [] hs zs → zs ≡ repeated text_cmp text_eq xs
+pub keys_repeated : (xs ys hs zs : List Text) → IsPermutation xs ys → IsSorted text_cmp ys → hs ≡ hits text_eq ys
+    → IsFiltered (DiffersFromLast (eq_by_cmp text_cmp)) [] hs zs → zs ≡ repeated text_cmp text_eq xs
 keys_repeated xs ys hs zs p s h f =
-    dedup_is (eq_by_cmp text_cmp) hs zs f ∙ ap (dedup text_eq) h ∙ sorted_hits nat_list_cmp_total text_exact (alike_front nat_list_cmp_total text_exact) _ xs ys (λ z i. refl) p (subst (IsUp text_cmp) (itself ys) (up_from_sorted nat_list_cmp_total text_exact (λ t. t) ys (λ k d l. s k d (omega arith) l)))
+    dedup_is (eq_by_cmp text_cmp) hs zs f ∙ ap (dedup text_eq) h
+        ∙ sorted_hits nat_list_cmp_total text_exact (alike_front nat_list_cmp_total text_exact) _ xs ys (λ z i. refl) p
+        (subst (IsUp text_cmp) (itself ys) (up_from_sorted nat_list_cmp_total text_exact (λ t. t) ys (λ k d l. s k d (omega arith) l)))
   where
     itself : (ts : List Text) → map (λ t. t) ts ≡ ts
     itself [] = refl

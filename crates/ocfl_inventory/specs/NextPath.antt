@@ -4,7 +4,8 @@ use Rattle.std.specs.Ordering.{is_lt}
 use Rattle.ocfl_tree.specs.Place.{Place, place_cmp}
 use Rattle.ocfl_inventory.specs.Table.{Table, paths_of}
 
--- the first path of a table above a place, of all paths for none; the paths ascend, so that it is the least of these
+-- the first path of a table above a place, of all paths for none; the paths ascend, so that it is
+-- the least of these
 abbrev pub next_path : Table → Option Place → Option Place
 next_path t None = slice_get (paths_of t) 0
 next_path t (Some q) = find (λ p. is_lt (place_cmp q p)) (paths_of t)

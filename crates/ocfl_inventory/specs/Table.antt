@@ -1,4 +1,5 @@
--- The digests that an inventory names for the paths of its object (OCFL 1.1, 3.5.2 Manifest and 3.5.4 Fixity).
+-- The digests that an inventory names for the paths of its object (OCFL 1.1, 3.5.2 Manifest and
+-- 3.5.4 Fixity).
 use Rattle.std.specs.Prelude.{◌≤◌, ◌<◌, ◌^◌, length, List, ◌++◌, Bool, true, false, if◌then◌else◌, Option, Some, None, Ok, Err, map, filter, filter_map, flat_map}
 use Rattle.std.specs.List.{AllByRecursion}
 use Rattle.std.specs.Ordering.{bool_cmp, ordering_then}

@@ -46,7 +46,8 @@ none_once i j d l k = absurd (omega (arith, l, k))
 
 pub heads_append : (root : StorageRoot) (xs ys : List Opening) → heads_of root (xs ++ ys) ≡ heads_of root xs ++ heads_of root ys
 heads_append root [] ys = refl
-heads_append root (x ∷ xs) ys = ap (λ zs. inventory_of (zone root x.place) ++ zs) (heads_append root xs ys) ∙ sym (append_assoc (inventory_of (zone root x.place)) (heads_of root xs) (heads_of root ys))
+heads_append root (x ∷ xs) ys = ap (λ zs. inventory_of (zone root x.place) ++ zs) (heads_append root xs ys)
+    ∙ sym (append_assoc (inventory_of (zone root x.place)) (heads_of root xs) (heads_of root ys))
 
 content_append : (root : StorageRoot) (xs ys : List Opening) → content_openings root (xs ++ ys) ≡ content_openings root xs ++ content_openings root ys
 content_append root xs ys = filter_append (λ o. not (is_meta root o.place)) xs ys
@@ -70,7 +71,8 @@ hashed_append root ps qs = filter_append (is_hashed root) ps qs
 -- ---- one call after the other
 
 module _ (root : StorageRoot) (s t u : Store) where
-  pub audits_on : (ps qs ls ls' hs hs' : List Place) (os os' : List Opening) → Audits root s t ps ls hs os → Audits root t u qs ls' hs' os' → Audits root s u (ps ++ qs) (ls ++ ls') (hs ++ hs') (os ++ os')
+  pub audits_on : (ps qs ls ls' hs hs' : List Place) (os os' : List Opening) → Audits root s t ps ls hs os → Audits root t u qs ls' hs' os'
+      → Audits root s u (ps ++ qs) (ls ++ ls') (hs ++ hs') (os ++ os')
   audits_on ps qs ls ls' hs hs' os os' h k = record {
     over = h.over;
     did = subst (Did s u (os ++ os') (ls ++ ls')) (sym (unread_count root os os')) (did_both s t u os os' ls ls' (length (unread_of root os)) (length (unread_of root os')) h.did k.did);
@@ -79,7 +81,8 @@ module _ (root : StorageRoot) (s t u : Store) where
     heads_are = heads_append root os os' ∙ ap (λ l. l ++ heads_of root os') h.heads_are ∙ ap (λ l. hs ++ l) k.heads_are;
   }
 
-  pub audits_fail : (ps qs ls ls' hs hs' : List Place) (os os' : List Opening) (why : Fault) → Audits root s t ps ls hs os → Fails root t u qs ls' hs' os' why → Fails root s u (ps ++ qs) (ls ++ ls') (hs ++ hs') (os ++ os') why
+  pub audits_fail : (ps qs ls ls' hs hs' : List Place) (os os' : List Opening) (why : Fault) → Audits root s t ps ls hs os → Fails root t u qs ls' hs' os' why
+      → Fails root s u (ps ++ qs) (ls ++ ls') (hs ++ hs') (os ++ os') why
   audits_fail ps qs ls ls' hs hs' os os' why h k = record {
     over = h.over;
     did =
@@ -103,19 +106,25 @@ audits_nothing root s over = record { over = over; did = did_nothing s; read = r
 
 pub fails_nothing : (root : StorageRoot) (s : Store) (why : Fault) → s.tree ≡ root → failures_by why ≡ 0 → ((q : Place) → why ≡ fault.Store q → ⊥) → Fails root s s [] [] [] [] why
 unfolding hashed_among
-fails_nothing root s why over none not = record { over = over; did = (let same : 0 ≡ 0 + failures_by why = omega (arith, none) in subst (Did s s [] []) same (did_nothing s)); opened = refl; heads_are = refl; store = λ q e. absurd (not q e) }
+fails_nothing root s why over none not =
+    record { over = over; did = (let same : 0 ≡ 0 + failures_by why = omega (arith, none) in subst (Did s s [] []) same (did_nothing s)); opened =
+    refl; heads_are = refl; store = λ q e. absurd (not q e) }
 
 -- where only metadata was read
-pub audits_meta : (root : StorageRoot) (s t : Store) (ls hs : List Place) (os : List Opening) → s.tree ≡ root → Did s t os ls 0 → IsMetadataRead root os → content_trail root os ≡ [] → heads_of root os ≡ hs → Audits root s t [] ls hs os
+pub audits_meta : (root : StorageRoot) (s t : Store) (ls hs : List Place) (os : List Opening) → s.tree ≡ root → Did s t os ls 0 → IsMetadataRead root os
+    → content_trail root os ≡ [] → heads_of root os ≡ hs → Audits root s t [] ls hs os
 unfolding hashed_among
-audits_meta root s t ls hs os over did read meta heads = record { over = over; did = subst (Did s t os ls) (sym (ap length (none_unread root os meta))) did; read = read; opened = meta; heads_are = heads }
+audits_meta root s t ls hs os over did read meta heads =
+    record { over = over; did = subst (Did s t os ls) (sym (ap length (none_unread root os meta))) did; read = read; opened = meta; heads_are = heads }
 
-pub fails_meta : (root : StorageRoot) (s t : Store) (ls hs : List Place) (os : List Opening) (why : Fault) → s.tree ≡ root → Did s t os ls (failures_by why) → content_trail root os ≡ [] → heads_of root os ≡ hs
+pub fails_meta : (root : StorageRoot) (s t : Store) (ls hs : List Place) (os : List Opening) (why : Fault) → s.tree ≡ root → Did s t os ls (failures_by why)
+    → content_trail root os ≡ [] → heads_of root os ≡ hs
     → ((q : Place) → why ≡ fault.Store q → (is_hashed root q ≡ false) × FailedAt root ls os q) → Fails root s t [] ls hs os why
 unfolding hashed_among
 fails_meta root s t ls hs os why over did meta heads store = record {
   over = over;
-  did = let none : length (unread_of root os) ≡ 0 = ap length (none_unread root os meta) in let same : failures_by why ≡ length (unread_of root os) + failures_by why = omega (arith, none) in subst (Did s t os ls) same did;
+  did = let none : length (unread_of root os) ≡ 0 = ap length (none_unread root os meta) in
+      let same : failures_by why ≡ length (unread_of root os) + failures_by why = omega (arith, none) in subst (Did s t os ls) same did;
   opened = meta;
   heads_are = heads;
   store = store;

@@ -102,7 +102,8 @@ module _ (root : StorageRoot) where
       let others = filter (λ o. not (is_meta root o.place)) trail in
       (ap (λ b. map (λ y. y.place) (cond (not b) (x ∷ others) others)) h.0.0 ∙ more.0, (λ i. h.0.1 i ++ more.1 i))
 
-  trail_quiet : (n : Text) (trail : List Opening) → is_meta root (n ∷ []) ≡ true → IsFront (places_of trail) (files_there root [] (n ∷ [])) → (content_trail root trail ≡ []) × (heads_of root trail ≡ [])
+  trail_quiet : (n : Text) (trail : List Opening) → is_meta root (n ∷ []) ≡ true → IsFront (places_of trail) (files_there root [] (n ∷ []))
+      → (content_trail root trail ≡ []) × (heads_of root trail ≡ [])
   trail_quiet n trail meta h = only_quiet trail (front_quiet (places_of trail) h.0 (subst (AllByRecursion IsQuiet) h.1 (by (is_some (file_at root ([] ++ n ∷ []))))))
     where
       by : (c : Bool) → AllByRecursion IsQuiet (map (λ m. [] ++ m ∷ []) (cond c (n ∷ []) []))
@@ -127,7 +128,8 @@ module _ (root : StorageRoot) where
   no_inventory = sym (ap (λ b. on b []) (root_unread root))
 
   abbrev pub base_listed : (s t : Store) (p e : Place) (es : List Entry) → p ≡ [] → s.tree ≡ root → Enters root s t p e es → Meets root s t []
-  base_listed s t p e es top over h = record { over = over; trail = []; listings = p ∷ []; did = h.did; read = refl; meta = refl; once = none_once; elsewhere = λ g k. refl; listed = ap (λ x. x ∷ []) top; heads = no_inventory }
+  base_listed s t p e es top over h =
+      record { over = over; trail = []; listings = p ∷ []; did = h.did; read = refl; meta = refl; once = none_once; elsewhere = λ g k. refl; listed = ap (λ x. x ∷ []) top; heads = no_inventory }
 
   pub base_memory : (s t : Store) → Meets root s t [] → MeetFails root s t [] fault.Memory
   base_memory s t m = meet_out root s t [] fault.Memory m refl
@@ -162,7 +164,8 @@ module _ (root : StorageRoot) where
         once = one_once n m.trail k.trail none k.opened;
         elsewhere = λ g e. absurd (e refl);
         listed = subst (IsFront (m.listings ++ k.stops.goes.listings)) (ap (λ l. m.listings ++ l) no_listing ∙ append-nil m.listings ∙ m.listed) (front_all (m.listings ++ k.stops.goes.listings));
-        heads = subst (IsFront (heads_of root (m.trail ++ k.trail))) (heads_append root m.trail k.trail ∙ ap (λ l. heads_of root m.trail ++ l) quiet.1 ∙ append-nil (heads_of root m.trail) ∙ m.heads) (front_all (heads_of root (m.trail ++ k.trail)));
+        heads = subst (IsFront (heads_of root (m.trail ++ k.trail)))
+            (heads_append root m.trail k.trail ∙ ap (λ l. heads_of root m.trail ++ l) quiet.1 ∙ append-nil (heads_of root m.trail) ∙ m.heads) (front_all (heads_of root (m.trail ++ k.trail)));
         store = λ q g. let w = k.stops.store q g in (w.0, failed_behind root m.listings k.stops.goes.listings m.trail k.trail q m.read w.1);
       }
     where
@@ -192,7 +195,8 @@ module _ (root : StorageRoot) where
         visit_of_folder root [] v f there folder table no_head (place ∙ h.top) (at_root root f.entries.items (known_is true is) listing).here.reached listing
 
     pub base_stopped : v.folder ≡ None → is_known (meaning Root es m) ≡ false → IsVisit root [] v
-    base_stopped folder is = visit_of_item root [] v there folder table no_head (ap (λ b. cond (is_listed_zone root (cond (not b || false) skipped hierarchy)) (names_in root []) []) (known_is false is))
+    base_stopped folder is = visit_of_item root [] v there folder table no_head
+        (ap (λ b. cond (is_listed_zone root (cond (not b || false) skipped hierarchy)) (names_in root []) []) (known_is false is))
 
   -- ---- what the declarations say
 
@@ -214,7 +218,9 @@ module _ (root : StorageRoot) where
   -- ---- its declaration
 
   -- it is read at the place that was listed
-  pub declaration_read : (t u : Store) (e : Place) (es : List Entry) (m : MadeDeclared) (v : Version) (limit : ℕ) (n : Text) (r : Result (Option Bounded) Fault) → IsBase root e es m → n ≡ declaration_name Root v → (IsListing root e es → is_meta root (e ++ n ∷ []) ≡ true → ReadsFile root t u e n limit r) → ReadsFile root t u e (declaration_name Root v) limit r
+  pub declaration_read : (t u : Store) (e : Place) (es : List Entry) (m : MadeDeclared) (v : Version) (limit : ℕ) (n : Text) (r : Result (Option Bounded) Fault)
+      → IsBase root e es m → n ≡ declaration_name Root v → (IsListing root e es → is_meta root (e ++ n ∷ []) ≡ true → ReadsFile root t u e n limit r)
+      → ReadsFile root t u e (declaration_name Root v) limit r
   declaration_read t u e es m v limit n r h same told = subst (λ x. ReadsFile root t u e x limit r) same (told h.listing (declaration_at_root root e n v h.top same))
 
   pub read_at_top : (s t : Store) (d : Place) (n : Text) (f : Option Bounded) → d ≡ [] → ReadsFile root s t d n 4096 (Ok f) → IsFileAt root (n ∷ []) 4096 f
@@ -231,4 +237,5 @@ module _ (root : StorageRoot) where
     declared_meets read = base_read s t u name (declaration_at_root root [] name v refl refl) (base_listed s t p e es top over there) refl (subst (λ x. ReadsFiles root t u x (name ∷ [])) at_base read)
 
     pub declared_fails : (why : Fault) → FilesStop root t u e (declaration_name Root v ∷ []) why → MeetFails root s u [] why
-    declared_fails why read = base_unread s t u name why (declaration_at_root root [] name v refl refl) (base_listed s t p e es top over there) refl (subst (λ x. FilesStop root t u x (name ∷ []) why) at_base read)
+    declared_fails why read = base_unread s t u name why (declaration_at_root root [] name v refl refl) (base_listed s t p e es top over there) refl
+        (subst (λ x. FilesStop root t u x (name ∷ []) why) at_base read)

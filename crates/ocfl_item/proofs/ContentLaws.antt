@@ -37,7 +37,8 @@ not_root : (root : StorageRoot) (p o q : Place) → zone root p ≡ inside o q �
 not_root root p o q z e = let is = zone_is root p o q z in is.below (filled_front o q (sym e ∙ is.whole))
 
 -- the lines of a place that a table may name
-pub content_by_table : (root : StorageRoot) (p o : Place) (v c n : Text) (r : Place) (t : Table) → zone root p ≡ inside o (v ∷ c ∷ n ∷ r) → table_at root o ≡ Some t → IsContent root p (named t (v ∷ c ∷ n ∷ r))
+pub content_by_table : (root : StorageRoot) (p o : Place) (v c n : Text) (r : Place) (t : Table) → zone root p ≡ inside o (v ∷ c ∷ n ∷ r)
+    → table_at root o ≡ Some t → IsContent root p (named t (v ∷ c ∷ n ∷ r))
 content_by_table root p o v c n r t z h = record {
   lines = λ u. notes_by_zone root u p (not_root root p o _ z) ∙ ap (notes_in root p u) z ∙ ap (λ y. object_notes root p u y (v ∷ c ∷ n ∷ r)) h;
   digests = ap (named_in root) z ∙ ap named_of h;
@@ -142,7 +143,8 @@ unhashed_cost root p h = by (cost root None p) h
 
 -- ---- what is known by sight
 
-pub known_by_sight : (root : StorageRoot) (p : Place) (ns : List Named) (u : Option ℕ) (s : Sight) → IsSight root p s → is_read s ns ≡ false → content_notes root p ns u (seen root p) ≡ sight_notes s ++ missing_notes ns
+pub known_by_sight : (root : StorageRoot) (p : Place) (ns : List Named) (u : Option ℕ) (s : Sight) → IsSight root p s → is_read s ns ≡ false
+    → content_notes root p ns u (seen root p) ≡ sight_notes s ++ missing_notes ns
 known_by_sight root p ns u sight.Nothing h e = ap (content_notes root p ns u) h
 known_by_sight root p [] u sight.File h e = ap (content_notes root p [] u) h.1
 known_by_sight root p (n ∷ ns) u sight.File h e = absurd (true_not_false e)

@@ -58,7 +58,8 @@ module _ (root : StorageRoot) (o : Place) (n : Text) (meta : is_meta root (o ++ 
       by true e = absurd (true_not_false (sym meta ∙ hashed_no_meta root (o ++ n ∷ []) e))
 
   module _ (es : List Entry) (listing : IsListing root o es) where
-    stops_by : (s t : Store) (limit : ℕ) (trouble : Trouble) → s.tree ≡ root → is_file_kind (kind_in es n) ≡ true → StopsReading root s t (o ++ n ∷ []) limit trouble → FilesStop root s t o (n ∷ []) (fault_by (o ++ n ∷ []) trouble)
+    stops_by : (s t : Store) (limit : ℕ) (trouble : Trouble) → s.tree ≡ root → is_file_kind (kind_in es n) ≡ true
+        → StopsReading root s t (o ++ n ∷ []) limit trouble → FilesStop root s t o (n ∷ []) (fault_by (o ++ n ∷ []) trouble)
     stops_by s t limit trouble over is k =
         let there = file_there root o n es listing (kind_is_file (kind_in es n) is) in
         let bytes : file_at root (o ++ n ∷ []) ≡ Some there.0 = ap (option_and_then bytes_of) there.1 in
@@ -67,12 +68,14 @@ module _ (root : StorageRoot) (o : Place) (n : Text) (meta : is_meta root (o ++ 
         one : (given : ℕ) (failed : Bool) (bytes : Text) → file_at root (o ++ n ∷ []) ≡ Some bytes → IsFront (places_of (opening (o ++ n ∷ []) given failed ∷ [])) (files_there root o (n ∷ []))
         one given failed bytes e = ([], ap (λ b. map (λ m. o ++ m ∷ []) (cond (is_some b) (n ∷ []) [])) e)
 
-        by : (trouble : Trouble) → StopsReading root s t (o ++ n ∷ []) limit trouble → {bytes : Text} → file_at root (o ++ n ∷ []) ≡ Some bytes → FilesStop root s t o (n ∷ []) (fault_by (o ++ n ∷ []) trouble)
+        by : (trouble : Trouble) → StopsReading root s t (o ++ n ∷ []) limit trouble → {bytes : Text} → file_at root (o ++ n ∷ []) ≡ Some bytes
+            → FilesStop root s t o (n ∷ []) (fault_by (o ++ n ∷ []) trouble)
         by Device k {bytes = bytes} e = record {
           trail = k.openings;
           stops = record {
             goes = record { over = over; listings = []; did = k.did; read = λ g. absurd (store_counts g); listed = ([], refl) };
-            store = λ q g. (ap (is_hashed root) (sym (store_place (o ++ n ∷ []) q g)) ∙ file_not_hashed, subst (FailedAt root [] k.openings) (store_place (o ++ n ∷ []) q g) (in_opening [] k.opened.0 k.opened.2));
+            store = λ q g. (ap (is_hashed root) (sym (store_place (o ++ n ∷ []) q g))
+                ∙ file_not_hashed, subst (FailedAt root [] k.openings) (store_place (o ++ n ∷ []) q g) (in_opening [] k.opened.0 k.opened.2));
           };
           opened = subst (λ os. IsFront (places_of os) (files_there root o (n ∷ []))) (sym k.opened.2) (one k.opened.0 true bytes e);
         }
@@ -91,10 +94,12 @@ module _ (root : StorageRoot) (o : Place) (n : Text) (meta : is_meta root (o ++ 
             quiet (inl g) = subst (IsMetadataRead root) (sym g) refl
             quiet (inr g) = subst (IsMetadataRead root) (sym g.2) refl
 
-    pub file_fails : (s t : Store) (p : Place) (limit : ℕ) (trouble : Trouble) (why : Fault) → s.tree ≡ root → (p ≡ o ++ n ∷ []) × (is_file_kind (kind_in es n) ≡ true) → StopsReading root s t p limit trouble → why ≡ fault_by p trouble
+    pub file_fails : (s t : Store) (p : Place) (limit : ℕ) (trouble : Trouble) (why : Fault) → s.tree ≡ root → (p ≡ o ++ n ∷ [])
+        × (is_file_kind (kind_in es n) ≡ true) → StopsReading root s t p limit trouble → why ≡ fault_by p trouble
         → ReadsFile root s t o n limit (Err why)
     file_fails s t p limit trouble why over there l e = record {
-      gives = subst (FilesStop root s t o (n ∷ [])) (sym (e ∙ ap (λ x. fault_by x trouble) there.0)) (stops_by s t limit trouble over there.1 (subst (λ x. StopsReading root s t x limit trouble) there.0 l));
+      gives = subst (FilesStop root s t o (n ∷ [])) (sym (e ∙ ap (λ x. fault_by x trouble) there.0))
+          (stops_by s t limit trouble over there.1 (subst (λ x. StopsReading root s t x limit trouble) there.0 l));
     }
 
     pub file_absent : (s : Store) (limit : ℕ) → s.tree ≡ root → is_file_kind (kind_in es n) ≡ false → ReadsFile root s s o n limit (Ok None)
@@ -107,7 +112,8 @@ module _ (root : StorageRoot) (o : Place) (n : Text) (meta : is_meta root (o ++ 
       let k = subst (λ x. ReadsBounded root s t x limit b) there l in
       record {
         gives = (
-          record { over = over; trail = opening (o ++ n ∷ []) (min (length k.bytes) (limit + 1)) false ∷ []; did = k.did; read = refl; opened = ap (λ x. map (λ m. o ++ m ∷ []) (cond (is_some x) (n ∷ []) [])) (sym k.is_file) },
+          record { over = over; trail = opening (o ++ n ∷ []) (min (length k.bytes) (limit + 1)) false ∷ []; did = k.did; read = refl; opened =
+              ap (λ x. map (λ m. o ++ m ∷ []) (cond (is_some x) (n ∷ []) [])) (sym k.is_file) },
           (k.bytes, k.is_file, k.is_bounded),
         );
       }
@@ -136,7 +142,8 @@ module _ (root : StorageRoot) (o : Place) where
   front_then_front : (xs ys zs : List Place) → IsFront ys zs → IsFront (xs ++ ys) (xs ++ zs)
   front_then_front xs ys zs h = (h.0, ap (λ l. xs ++ l) h.1 ∙ sym (append_assoc xs ys h.0))
 
-  joined : (os os' : List Opening) (ns ms : List Text) → places_of os ≡ files_there root o ns → IsFront (places_of os') (files_there root o ms) → IsFront (places_of (os ++ os')) (files_there root o (ns ++ ms))
+  joined : (os os' : List Opening) (ns ms : List Text) → places_of os ≡ files_there root o ns → IsFront (places_of os') (files_there root o ms)
+      → IsFront (places_of (os ++ os')) (files_there root o (ns ++ ms))
   joined os os' ns ms h k =
       let all : IsFront (files_there root o ns ++ places_of os') (files_there root o ns ++ files_there root o ms) = front_then_front (files_there root o ns) (places_of os') (files_there root o ms) k in
       subst (λ x. IsFront x (files_there root o (ns ++ ms))) (sym (places_then os os' ∙ ap (λ x. x ++ places_of os') h))
@@ -233,7 +240,8 @@ module _ (root : StorageRoot) (o : Place) (z : zone root o ≡ inside o []) (ns 
   there_meta [] h = refl
   there_meta (m ∷ ms) h = by (is_object_meta (m ∷ [])) refl h (is_some (file_at root (o ++ m ∷ []))) (there_meta ms)
     where
-      by : (b : Bool) → is_object_meta (m ∷ []) ≡ b → b && list_all (λ n. is_object_meta (n ∷ [])) ms ≡ true → (c : Bool) → (list_all (λ n. is_object_meta (n ∷ [])) ms ≡ true → list_all (is_meta root) (files_there root o ms) ≡ true)
+      by : (b : Bool) → is_object_meta (m ∷ []) ≡ b → b && list_all (λ n. is_object_meta (n ∷ [])) ms ≡ true → (c : Bool)
+          → (list_all (λ n. is_object_meta (n ∷ [])) ms ≡ true → list_all (is_meta root) (files_there root o ms) ≡ true)
           → list_all (is_meta root) (map (λ n. o ++ n ∷ []) (cond c (m ∷ filter (λ n. is_some (file_at root (o ++ n ∷ []))) ms) (filter (λ n. is_some (file_at root (o ++ n ∷ []))) ms))) ≡ true
       by false e k c rest = absurd (true_not_false (sym k))
       by true e k false rest = rest k

@@ -72,7 +72,8 @@ module _ (root : StorageRoot) (o : Place) (es : List Entry) (h : IsObject root o
   pub table_read_from : (s t : Store) (r : Result (Option Table) Fault) → OpensJust root s t o (inventory_name ∷ []) r → IfOk r (λ table. table ≡ table_at root o) → ReadsTable root s t o r
   table_read_from s t (Ok table) k is =
       let some = some_of root o s t (inventory_name ∷ []) k in
-      record { gives = (record { reads = some_is_meta root o h.zone (inventory_name ∷ []) refl one_apart s t some; heads = inventory_opened root o h.zone some.trail h.known some.opened }, is, inventory_alone root o h.zone k.trail some.opened) }
+      record { gives = (record { reads = some_is_meta root o h.zone (inventory_name ∷ []) refl one_apart s t some; heads =
+          inventory_opened root o h.zone some.trail h.known some.opened }, is, inventory_alone root o h.zone k.trail some.opened) }
   table_read_from s t (Err why) k is = record {
     gives = (
       record { stops = stop_is_meta root o h.zone (inventory_name ∷ []) refl one_apart s t why k; heads = inventory_opened root o h.zone k.trail h.known k.opened },
@@ -80,7 +81,8 @@ module _ (root : StorageRoot) (o : Place) (es : List Entry) (h : IsObject root o
     );
   }
 
-  pub table_whole : (s t : Store) (v : Vec ℕ Global) (table : Option Table) (bytes : Text) → ReadsFile root s t o inventory_name inventory_limit (Ok (Some (bounded.Whole v))) → bytes ≡ v.items → table ≡ table_of bytes → table ≡ table_at root o
+  pub table_whole : (s t : Store) (v : Vec ℕ Global) (table : Option Table) (bytes : Text)
+      → ReadsFile root s t o inventory_name inventory_limit (Ok (Some (bounded.Whole v))) → bytes ≡ v.items → table ≡ table_of bytes → table ≡ table_at root o
   table_whole s t v table bytes k same e = e ∙ ap table_of same ∙ sym (table_is_given (Some (bounded.Whole v)) k.gives.1)
 
   pub table_over : (s t : Store) → ReadsFile root s t o inventory_name inventory_limit (Ok (Some bounded.Over)) → None ≡ table_at root o
@@ -98,10 +100,12 @@ module _ (root : StorageRoot) (o : Place) where
   pub first_stops : (s t : Store) (n : Text) (ns : List Text) (limit : ℕ) (why : Fault) → ReadsFile root s t o n limit (Err why) → FilesStop root s t o (n ∷ ns) why
   first_stops s t n ns limit why h = stop_more root o s t (n ∷ []) ns why h.gives
 
-  pub later_stops : (s t u : Store) (n : Text) (ns : List Text) (limit : ℕ) (f : Option Bounded) (why : Fault) → ReadsFile root s t o n limit (Ok f) → FilesStop root t u o ns why → FilesStop root s u o (n ∷ ns) why
+  pub later_stops : (s t u : Store) (n : Text) (ns : List Text) (limit : ℕ) (f : Option Bounded) (why : Fault) → ReadsFile root s t o n limit (Ok f)
+      → FilesStop root t u o ns why → FilesStop root s u o (n ∷ ns) why
   later_stops s t u n ns limit f why h k = stop_then root o s t u (n ∷ []) ns why h.gives.0 k
 
-  pub second_stops : (s t u : Store) (n m : Text) (limit : ℕ) (f : Option Bounded) (why : Fault) → ReadsFile root s t o n limit (Ok f) → ReadsFile root t u o m limit (Err why) → FilesStop root s u o (n ∷ m ∷ []) why
+  pub second_stops : (s t u : Store) (n m : Text) (limit : ℕ) (f : Option Bounded) (why : Fault) → ReadsFile root s t o n limit (Ok f)
+      → ReadsFile root t u o m limit (Err why) → FilesStop root s u o (n ∷ m ∷ []) why
   second_stops s t u n m limit f why h k = later_stops s t u n (m ∷ []) limit f why h k.gives
 
   pub both_read : (s t u : Store) (n m : Text) (limit : ℕ) (f g : Option Bounded) → ReadsFile root s t o n limit (Ok f) → ReadsFile root t u o m limit (Ok g)
@@ -122,22 +126,27 @@ module _ (root : StorageRoot) (o : Place) where
   pub long_inventory_table : IsFileAt root (o ++ inventory_name ∷ []) inventory_limit (Some bounded.Over) → None ≡ table_in (file_at root (o ++ inventory_name ∷ []))
   long_inventory_table is = sym (ap table_in is.1 ∙ ap (λ b. cond b (table_of is.0) None) (not_within (length is.0) inventory_limit is.2))
 
-  pub inventory_table : (v : Vec ℕ Global) (bytes : Text) (table : Option Table) → IsFileAt root (o ++ inventory_name ∷ []) inventory_limit (Some (bounded.Whole v)) → bytes ≡ v.items → table ≡ table_of bytes
+  pub inventory_table : (v : Vec ℕ Global) (bytes : Text) (table : Option Table)
+      → IsFileAt root (o ++ inventory_name ∷ []) inventory_limit (Some (bounded.Whole v)) → bytes ≡ v.items → table ≡ table_of bytes
       → table ≡ table_in (file_at root (o ++ inventory_name ∷ []))
   inventory_table v bytes table is same h =
       h ∙ ap table_of (same ∙ is.2.0) ∙ sym (ap table_in is.1 ∙ ap (λ b. cond b (table_of is.0) None) (le-leb (length is.0) inventory_limit is.2.1))
 
   -- ---- the lines about an inventory
 
-  pub no_inventory_lines : (old new : PlaceLines) → file_at root (o ++ inventory_name ∷ []) ≡ None → Adds old new (plain E063 ∷ []) → Adds old new (inventory_file_notes root o (file_at root (o ++ inventory_name ∷ [])))
+  pub no_inventory_lines : (old new : PlaceLines) → file_at root (o ++ inventory_name ∷ []) ≡ None → Adds old new (plain E063 ∷ [])
+      → Adds old new (inventory_file_notes root o (file_at root (o ++ inventory_name ∷ [])))
   no_inventory_lines old new none h = subst (λ f. Adds old new (inventory_file_notes root o f)) (sym none) h
 
-  pub long_inventory_lines : (old new : PlaceLines) → IsFileAt root (o ++ inventory_name ∷ []) inventory_limit (Some bounded.Over) → Adds old new (plain S02 ∷ []) → Adds old new (inventory_file_notes root o (file_at root (o ++ inventory_name ∷ [])))
+  pub long_inventory_lines : (old new : PlaceLines) → IsFileAt root (o ++ inventory_name ∷ []) inventory_limit (Some bounded.Over)
+      → Adds old new (plain S02 ∷ []) → Adds old new (inventory_file_notes root o (file_at root (o ++ inventory_name ∷ [])))
   long_inventory_lines old new is h =
       subst (λ f. Adds old new (inventory_file_notes root o f)) (sym is.1)
       (subst (λ b. Adds old new (cond b (sidecars_notes root o is.0 ++ inventory_part root o is.0 (algorithm_of is.0)) (plain S02 ∷ []))) (sym (not_within (length is.0) inventory_limit is.2)) h)
 
-  pub inventory_lines : (old new : PlaceLines) (v : Vec ℕ Global) (bytes : Text) → IsFileAt root (o ++ inventory_name ∷ []) inventory_limit (Some (bounded.Whole v)) → bytes ≡ v.items → Adds old new (sidecars_notes root o bytes ++ inventory_part root o bytes (algorithm_of bytes))
+  pub inventory_lines : (old new : PlaceLines) (v : Vec ℕ Global) (bytes : Text)
+      → IsFileAt root (o ++ inventory_name ∷ []) inventory_limit (Some (bounded.Whole v)) → bytes ≡ v.items
+      → Adds old new (sidecars_notes root o bytes ++ inventory_part root o bytes (algorithm_of bytes))
       → Adds old new (inventory_file_notes root o (file_at root (o ++ inventory_name ∷ [])))
   inventory_lines old new v bytes is same h =
       let k : Adds old new (sidecars_notes root o is.0 ++ inventory_part root o is.0 (algorithm_of is.0)) = subst (λ b. Adds old new (sidecars_notes root o b ++ inventory_part root o b (algorithm_of b))) (same ∙ is.2.0) h in
@@ -216,20 +225,25 @@ declaration_is_meta n v e = ap (λ m. is_object_meta (m ∷ [])) e ∙ by v
     by V1_0 = refl
     by V1_1 = refl
 
-pub head_declaration : (root : StorageRoot) (o : Place) (s t : Store) (n m : Text) (limit : ℕ) (r : Result (Option Bounded) Fault) → n ≡ m → ReadsFile root s t o n limit r → ReadsFile root s t o m limit r
+pub head_declaration : (root : StorageRoot) (o : Place) (s t : Store) (n m : Text) (limit : ℕ) (r : Result (Option Bounded) Fault) → n ≡ m
+    → ReadsFile root s t o n limit r → ReadsFile root s t o m limit r
 head_declaration root o s t n m limit r e h = subst (λ x. ReadsFile root s t o x limit r) e h
 
 module _ (root : StorageRoot) (o : Place) (z : zone root o ≡ inside o []) (v : Version) where
-  pub known_lines : (none a b c : PlaceLines) → object_declared root o ≡ known v → HasLines none [] → Adds none a (on (not (is_exact_declaration root o level.Object v)) (plain E007)) → Adds a b (inventory_file_notes root o (file_at root (o ++ inventory_name ∷ [])))
+  pub known_lines : (none a b c : PlaceLines) → object_declared root o ≡ known v → HasLines none []
+      → Adds none a (on (not (is_exact_declaration root o level.Object v)) (plain E007)) → Adds a b (inventory_file_notes root o (file_at root (o ++ inventory_name ∷ [])))
       → ((ns : List Note) → HasLines b ns → HasLines c (or_clean ns)) → HasLines c (notes root None o)
   known_lines none a b c is has h k clean =
-      clean (on (not (is_exact_declaration root o level.Object v)) (plain E007) ++ inventory_file_notes root o (file_at root (o ++ inventory_name ∷ []))) (has_more none b [] _ has (adds_both none a b _ _ h k))
+      clean (on (not (is_exact_declaration root o level.Object v)) (plain E007) ++ inventory_file_notes root o (file_at root (o ++ inventory_name ∷ [])))
+          (has_more none b [] _ has (adds_both none a b _ _ h k))
       ∙ ap (lines_at c.place) (sym (head_notes_are root o z ∙ ap (head_notes_by root o) is))
 
-pub known_table : (root : StorageRoot) (o : Place) (v : Version) (table : Option Table) → object_declared root o ≡ known v → table ≡ table_in (file_at root (o ++ inventory_name ∷ [])) → table ≡ table_at root o
+pub known_table : (root : StorageRoot) (o : Place) (v : Version) (table : Option Table) → object_declared root o ≡ known v
+    → table ≡ table_in (file_at root (o ++ inventory_name ∷ [])) → table ≡ table_at root o
 known_table root o v table same given = given ∙ sym (ap (λ d. table_in (cond (is_known d) (file_at root (o ++ inventory_name ∷ [])) None)) same)
 
-pub stopped_head : (root : StorageRoot) (o : Place) (es : List Entry) (m : MadeDeclared) (lines : PlaceLines) → IsDeclared root o es m → is_known (meaning level.Object es m) ≡ false → HasLines lines (head_notes_by root o (meaning level.Object es m))
+pub stopped_head : (root : StorageRoot) (o : Place) (es : List Entry) (m : MadeDeclared) (lines : PlaceLines) → IsDeclared root o es m
+    → is_known (meaning level.Object es m) ≡ false → HasLines lines (head_notes_by root o (meaning level.Object es m))
     → IsHeadOf root o (lines, None)
 stopped_head root o es m lines h stops k = (
   k ∙ ap (lines_at lines.place) (sym (head_notes_are root o h.zone ∙ ap (head_notes_by root o) (sym h.says))),

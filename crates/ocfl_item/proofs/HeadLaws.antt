@@ -87,7 +87,8 @@ unknown_lines : (root : StorageRoot) (o : Place) (l : Level) (t : Text) → decl
 unknown_lines root o Root t = refl
 unknown_lines root o Object t = refl
 
-pub unknown_name : (root : StorageRoot) (o : Place) (l : Level) (es : List Entry) (d : MadeDeclared) (i : ℕ) (e : Entry) → d ≡ made.Unknown i → slice_get es i ≡ Some e → PointsAtOne l es d → IsUnknown root o l (meaning l es d) e.name
+pub unknown_name : (root : StorageRoot) (o : Place) (l : Level) (es : List Entry) (d : MadeDeclared) (i : ℕ) (e : Entry) → d ≡ made.Unknown i
+    → slice_get es i ≡ Some e → PointsAtOne l es d → IsUnknown root o l (meaning l es d) e.name
 unknown_name root o l es d i e is at points =
     let one : PointsAtOne l es (made.Unknown i) = subst (PointsAtOne l es) is points in
     let same : Some one.0 ≡ Some e = sym one.1 ∙ at in

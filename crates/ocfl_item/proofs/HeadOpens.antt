@@ -55,24 +55,30 @@ module _ (root : StorageRoot) (o : Place) where
   pub inventory_alone : (s t : Store) → sidecars_for (file_at root (o ++ inventory_name ∷ [])) ≡ [] → ReadsFiles root s t o (inventory_name ∷ []) → ReadsFiles root s t o (inventory_files root o)
   inventory_alone s t e h = subst (λ ns. ReadsFiles root s t o (inventory_name ∷ ns)) (sym e) h
 
-  pub with_sidecars : (s t u : Store) (f : Option Bounded) → sidecars_for (file_at root (o ++ inventory_name ∷ [])) ≡ both → ReadsFile root s t o inventory_name inventory_limit (Ok f) → ReadsFiles root t u o both → ReadsFiles root s u o (inventory_files root o)
+  pub with_sidecars : (s t u : Store) (f : Option Bounded) → sidecars_for (file_at root (o ++ inventory_name ∷ [])) ≡ both
+      → ReadsFile root s t o inventory_name inventory_limit (Ok f) → ReadsFiles root t u o both → ReadsFiles root s u o (inventory_files root o)
   with_sidecars s t u f e h k = subst (λ ns. ReadsFiles root s u o (inventory_name ∷ ns)) (sym e) (files_then root o s t u (inventory_name ∷ []) both h.gives.0 k)
 
-  pub sidecars_stop : (s t u : Store) (f : Option Bounded) (why : Fault) → sidecars_for (file_at root (o ++ inventory_name ∷ [])) ≡ both → ReadsFile root s t o inventory_name inventory_limit (Ok f) → FilesStop root t u o both why → FilesStop root s u o (inventory_files root o) why
+  pub sidecars_stop : (s t u : Store) (f : Option Bounded) (why : Fault) → sidecars_for (file_at root (o ++ inventory_name ∷ [])) ≡ both
+      → ReadsFile root s t o inventory_name inventory_limit (Ok f) → FilesStop root t u o both why → FilesStop root s u o (inventory_files root o) why
   sidecars_stop s t u f why e h k = subst (λ ns. FilesStop root s u o (inventory_name ∷ ns) why) (sym e) (later_stops root o s t u inventory_name both inventory_limit f why h k)
 
   -- what adding an inventory's lines gives, where its bytes were read: its table, and the lines
   abbrev ReadsWhole : Store → Store → PlaceLines → PlaceLines → Text → Result (Option Table) Fault → Type 0
   ReadsWhole s t old new bytes r =
-      MatchResult r (λ table. ReadsFiles root s t o both × (table ≡ table_of bytes) × Adds old new (sidecars_notes root o bytes ++ inventory_part root o bytes (algorithm_of bytes))) (λ why. FilesStop root s t o both why)
+      MatchResult r (λ table. ReadsFiles root s t o both × (table ≡ table_of bytes)
+          × Adds old new (sidecars_notes root o bytes ++ inventory_part root o bytes (algorithm_of bytes))) (λ why. FilesStop root s t o both why)
 
-  pub whole_opens : (s t u : Store) (f : Option Bounded) (old new : PlaceLines) (bytes : Text) (r : Result (Option Table) Fault) → sidecars_for (file_at root (o ++ inventory_name ∷ [])) ≡ both → ReadsFile root s t o inventory_name inventory_limit (Ok f)
+  pub whole_opens : (s t u : Store) (f : Option Bounded) (old new : PlaceLines) (bytes : Text) (r : Result (Option Table) Fault)
+      → sidecars_for (file_at root (o ++ inventory_name ∷ [])) ≡ both → ReadsFile root s t o inventory_name inventory_limit (Ok f)
       → ReadsWhole t u old new bytes r → OpensJust root s u o (inventory_files root o) r
   whole_opens s t u f old new bytes (Ok table) e h k = with_sidecars s t u f e h k.0
   whole_opens s t u f old new bytes (Err why) e h k = sidecars_stop s t u f why e h k
 
-  pub whole_told : (s t : Store) (old new : PlaceLines) (v : Vec ℕ Global) (bytes : Text) (r : Result (Option Table) Fault) → IsFileAt root (o ++ inventory_name ∷ []) inventory_limit (Some (bounded.Whole v)) → bytes ≡ v.items
-      → ReadsWhole s t old new bytes r → IfOk r (λ table. (table ≡ table_in (file_at root (o ++ inventory_name ∷ []))) × Adds old new (inventory_file_notes root o (file_at root (o ++ inventory_name ∷ []))))
+  pub whole_told : (s t : Store) (old new : PlaceLines) (v : Vec ℕ Global) (bytes : Text) (r : Result (Option Table) Fault)
+      → IsFileAt root (o ++ inventory_name ∷ []) inventory_limit (Some (bounded.Whole v)) → bytes ≡ v.items
+      → ReadsWhole s t old new bytes r
+          → IfOk r (λ table. (table ≡ table_in (file_at root (o ++ inventory_name ∷ []))) × Adds old new (inventory_file_notes root o (file_at root (o ++ inventory_name ∷ []))))
   whole_told s t old new v bytes (Ok table) is same k = (inventory_table root o v bytes table is same k.1, inventory_lines root o old new v bytes is same k.2)
   whole_told s t old new v bytes (Err why) is same k = tt
 
@@ -90,9 +96,11 @@ module _ (root : StorageRoot) (o : Place) where
   no_head_files (unknown t) h = refl
   no_head_files several h = refl
 
-  pub stop_opens_none : (es : List Entry) (m : MadeDeclared) (s : Store) → s.tree ≡ root → IsDeclared root o es m → is_known (meaning level.Object es m) ≡ false → ReadsFiles root s s o (head_files root o (object_declared root o))
+  pub stop_opens_none : (es : List Entry) (m : MadeDeclared) (s : Store) → s.tree ≡ root → IsDeclared root o es m → is_known (meaning level.Object es m) ≡ false
+      → ReadsFiles root s s o (head_files root o (object_declared root o))
   stop_opens_none es m s over h stops =
-      subst (ReadsFiles root s s o) (sym (ap (head_files root o) (sym h.says) ∙ no_head_files (meaning level.Object es m) stops)) (record { over = over; trail = []; did = did_nothing s; read = refl; opened = refl })
+      subst (ReadsFiles root s s o) (sym (ap (head_files root o) (sym h.says) ∙ no_head_files (meaning level.Object es m) stops))
+          (record { over = over; trail = []; did = did_nothing s; read = refl; opened = refl })
 
   pub none_memory : (s : Store) (ns : List Text) → s.tree ≡ root → FilesStop root s s o ns fault.Memory
   none_memory s ns over = record {
@@ -106,13 +114,16 @@ module _ (root : StorageRoot) (o : Place) where
   pub declaration_stops : (s t : Store) (v : Version) (why : Fault) → FilesStop root s t o (declaration_name level.Object v ∷ []) why → FilesStop root s t o (head_files root o (known v)) why
   declaration_stops s t v why h = stop_more root o s t (declaration_name level.Object v ∷ []) (inventory_files root o) why h
 
-  pub inventory_stops : (s t u : Store) (v : Version) (why : Fault) → ReadsFiles root s t o (declaration_name level.Object v ∷ []) → FilesStop root t u o (inventory_files root o) why → FilesStop root s u o (head_files root o (known v)) why
+  pub inventory_stops : (s t u : Store) (v : Version) (why : Fault) → ReadsFiles root s t o (declaration_name level.Object v ∷ [])
+      → FilesStop root t u o (inventory_files root o) why → FilesStop root s u o (head_files root o (known v)) why
   inventory_stops s t u v why h k = stop_then root o s t u (declaration_name level.Object v ∷ []) (inventory_files root o) why h k
 
-  pub head_opened : (s t u : Store) (v : Version) → ReadsFiles root s t o (declaration_name level.Object v ∷ []) → ReadsFiles root t u o (inventory_files root o) → ReadsFiles root s u o (head_files root o (known v))
+  pub head_opened : (s t u : Store) (v : Version) → ReadsFiles root s t o (declaration_name level.Object v ∷ [])
+      → ReadsFiles root t u o (inventory_files root o) → ReadsFiles root s u o (head_files root o (known v))
   head_opened s t u v h k = files_then root o s t u (declaration_name level.Object v ∷ []) (inventory_files root o) h k
 
-  pub head_memory : (s t u : Store) (v : Version) → ReadsFiles root s t o (declaration_name level.Object v ∷ []) → ReadsFiles root t u o (inventory_files root o) → FilesStop root s u o (head_files root o (known v)) fault.Memory
+  pub head_memory : (s t u : Store) (v : Version) → ReadsFiles root s t o (declaration_name level.Object v ∷ [])
+      → ReadsFiles root t u o (inventory_files root o) → FilesStop root s u o (head_files root o (known v)) fault.Memory
   head_memory s t u v h k = memory_after root o s u (head_files root o (known v)) (some_of root o s u (head_files root o (known v)) (head_opened s t u v h k))
 
   pub known_object : (es : List Entry) (m : MadeDeclared) (v : Version) → m ≡ made.One v → IsDeclared root o es m → IsObject root o es
@@ -124,6 +135,7 @@ module _ (root : StorageRoot) (o : Place) where
     known = ap is_known (sym h.says ∙ ap (meaning level.Object es) is);
   }
 
-  pub known_opens : {A : Type 0} (es : List Entry) (m : MadeDeclared) (v : Version) (s t : Store) (r : Result A Fault) → m ≡ made.One v → IsDeclared root o es m → OpensJust root s t o (head_files root o (known v)) r
+  pub known_opens : {A : Type 0} (es : List Entry) (m : MadeDeclared) (v : Version) (s t : Store) (r : Result A Fault) → m ≡ made.One v → IsDeclared root o es m
+      → OpensJust root s t o (head_files root o (known v)) r
       → OpensJust root s t o (head_files root o (object_declared root o)) r
   known_opens es m v s t r is h k = subst (λ d. OpensJust root s t o (head_files root o d) r) (sym (ap (meaning level.Object es) is) ∙ h.says) k

@@ -55,7 +55,8 @@ module _ (root : StorageRoot) (o : Place) (z : zone root o ≡ inside o []) wher
   heads_one : (ns : List Text) → list_all is_other ns ≡ true → heads_at root (files_there root o (inventory_name ∷ ns)) ≡ on (is_some (file_at root (o ++ inventory_name ∷ []))) o
   heads_one ns h = by (is_some (file_at root (o ++ inventory_name ∷ [])))
     where
-      by : (c : Bool) → heads_at root (map (λ m. o ++ m ∷ []) (cond c (inventory_name ∷ filter (λ m. is_some (file_at root (o ++ m ∷ []))) ns) (filter (λ m. is_some (file_at root (o ++ m ∷ []))) ns))) ≡ on c o
+      by : (c : Bool) → heads_at root
+          (map (λ m. o ++ m ∷ []) (cond c (inventory_name ∷ filter (λ m. is_some (file_at root (o ++ m ∷ []))) ns) (filter (λ m. is_some (file_at root (o ++ m ∷ []))) ns))) ≡ on c o
       by false = heads_none ns h
       by true = λ i. inventory_of (inside_on root o o [] (inventory_name ∷ []) z i) ++ heads_none ns h i
 
@@ -93,7 +94,8 @@ module _ (root : StorageRoot) (o : Place) (z : zone root o ≡ inside o []) wher
       by true = (refl, tt)
       by false = tt
 
-  pub inventory_opened : (trail : List Opening) → is_known (object_declared root o) ≡ true → IsFront (places_of trail) (files_there root o (inventory_name ∷ [])) → IsFront (heads_of root trail) (on (reads_inventory root o) o)
+  pub inventory_opened : (trail : List Opening) → is_known (object_declared root o) ≡ true
+      → IsFront (places_of trail) (files_there root o (inventory_name ∷ [])) → IsFront (heads_of root trail) (on (reads_inventory root o) o)
   inventory_opened trail version h =
       let front : IsFront (heads_at root (places_of trail)) (heads_at root (files_there root o (inventory_name ∷ []))) = (heads_at root h.0, ap (heads_at root) h.1 ∙ heads_append root (places_of trail) h.0) in
       subst (λ l. IsFront l (on (reads_inventory root o) o)) (sym (heads_are root trail))
@@ -103,7 +105,8 @@ module _ (root : StorageRoot) (o : Place) (z : zone root o ≡ inside o []) wher
   pub heads_exact : heads_at root (files_there root o (head_files root o (object_declared root o))) ≡ on (reads_inventory root o) o
   heads_exact = by (object_declared root o) refl
     where
-      behind : (n : Text) (ns : List Text) → is_other n ≡ true → list_all is_other ns ≡ true → heads_at root (files_there root o (n ∷ inventory_name ∷ ns)) ≡ on (is_some (file_at root (o ++ inventory_name ∷ []))) o
+      behind : (n : Text) (ns : List Text) → is_other n ≡ true → list_all is_other ns ≡ true
+          → heads_at root (files_there root o (n ∷ inventory_name ∷ ns)) ≡ on (is_some (file_at root (o ++ inventory_name ∷ []))) o
       behind n ns e h =
           ap (heads_at root) (there_then root o (n ∷ []) (inventory_name ∷ ns)) ∙ heads_append root (files_there root o (n ∷ [])) (files_there root o (inventory_name ∷ ns))
           ∙ ap (λ l. l ++ heads_at root (files_there root o (inventory_name ∷ ns))) (heads_none (n ∷ []) (ap (λ b. b && true) e)) ∙ heads_one ns h
@@ -122,6 +125,7 @@ module _ (root : StorageRoot) (o : Place) (z : zone root o ≡ inside o []) wher
 
       by : (d : Declared) → object_declared root o ≡ d → heads_at root (files_there root o (head_files root o d)) ≡ on (reads_inventory root o) o
       by undeclared e = sym (ap (λ b. on b o) (reads_is undeclared e))
-      by (known v) e = behind (declaration_name Object v) (sidecars_for (file_at root (o ++ inventory_name ∷ []))) (named v) (sides (file_at root (o ++ inventory_name ∷ []))) ∙ sym (ap (λ b. on b o) (reads_is (known v) e))
+      by (known v) e = behind (declaration_name Object v) (sidecars_for (file_at root (o ++ inventory_name ∷ []))) (named v)
+          (sides (file_at root (o ++ inventory_name ∷ []))) ∙ sym (ap (λ b. on b o) (reads_is (known v) e))
       by (unknown t) e = sym (ap (λ b. on b o) (reads_is (unknown t) e))
       by several e = sym (ap (λ b. on b o) (reads_is several e))

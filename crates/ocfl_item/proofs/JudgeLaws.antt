@@ -52,7 +52,8 @@ file_part bytes (n ∷ ns) given h = refl
 
 -- ---- one place and a trail
 
-item_is : (root : StorageRoot) (p : Place) (trail : List Opening) (u : Option ℕ) (lines : List MadeLine) (c : ℕ) → given_by (unread_of root trail) p ≡ u → lines_at p (notes root u p) ≡ map line_of lines → cost root u p ≡ c
+item_is : (root : StorageRoot) (p : Place) (trail : List Opening) (u : Option ℕ) (lines : List MadeLine) (c : ℕ) → given_by (unread_of root trail) p ≡ u
+    → lines_at p (notes root u p) ≡ map line_of lines → cost root u p ≡ c
     → items_at root trail (p ∷ []) ≡ record { place = p; lines = map line_of lines; cost = c } ∷ []
 unfolding items_at
 item_is root p trail u lines c e f k =
@@ -64,7 +65,8 @@ hashed_alone root p b h = ap (λ x. cond x (p ∷ []) []) h
 
 -- ---- an item whose file is not hashed
 
-pub judged_known : (root : StorageRoot) (s : Store) (made : Pending) (lines : List MadeLine) → s.tree ≡ root → IsPending root made → made.hashed ≡ false → map line_of lines ≡ map line_of made.lines.items → Judges root s s made.place lines 0
+pub judged_known : (root : StorageRoot) (s : Store) (made : Pending) (lines : List MadeLine) → s.tree ≡ root → IsPending root made → made.hashed ≡ false
+    → map line_of lines ≡ map line_of made.lines.items → Judges root s s made.place lines 0
 judged_known root s made lines over pending unhashed same =
     let free : is_hashed root made.place ≡ false = sym pending.hashed ∙ unhashed in
     record {
@@ -140,7 +142,8 @@ module _ (root : StorageRoot) (p : Place) (hashed : is_hashed root p ≡ true) w
   part_fails : (s t : Store) (n : ℕ) → s.tree ≡ root → Did s t (opening p n true ∷ []) [] 1 → JudgeFails root s t p
   part_fails s t n over did = opens_fails s t n true over (did_part s t n did)
 
-  opens_judges : (s t : Store) (n : ℕ) (failed : Bool) (u : Option ℕ) (lines : List MadeLine) → s.tree ≡ root → Did s t (opening p n failed ∷ []) [] (length (unread_of root (opening p n failed ∷ []))) → given_by (unread_of root (opening p n failed ∷ [])) p ≡ u
+  opens_judges : (s t : Store) (n : ℕ) (failed : Bool) (u : Option ℕ) (lines : List MadeLine) → s.tree ≡ root
+      → Did s t (opening p n failed ∷ []) [] (length (unread_of root (opening p n failed ∷ []))) → given_by (unread_of root (opening p n failed ∷ [])) p ≡ u
       → lines_at p (notes root u p) ≡ map line_of lines → cost root u p ≡ n + 1 → Judges root s t p lines (n + 1)
   opens_judges s t n failed u lines over did given are costs = record {
     trail = opening p n failed ∷ [];
@@ -149,11 +152,14 @@ module _ (root : StorageRoot) (p : Place) (hashed : is_hashed root p ≡ true) w
     item = item_is root p (opening p n failed ∷ []) u lines (n + 1) given are costs;
   }
 
-  whole_judges : (s t : Store) (n : ℕ) (lines : List MadeLine) → s.tree ≡ root → Did s t (opening p n false ∷ []) [] 0 → lines_at p (notes root None p) ≡ map line_of lines → cost root None p ≡ n + 1 → Judges root s t p lines (n + 1)
+  whole_judges : (s t : Store) (n : ℕ) (lines : List MadeLine) → s.tree ≡ root → Did s t (opening p n false ∷ []) [] 0
+      → lines_at p (notes root None p) ≡ map line_of lines → cost root None p ≡ n + 1 → Judges root s t p lines (n + 1)
   whole_judges s t n lines over did are costs = opens_judges s t n false None lines over (did_whole s t n did) (ap (λ u. given_by u p) (none_unread n)) are costs
 
-  part_judges : (s t : Store) (n : ℕ) (lines : List MadeLine) → s.tree ≡ root → Did s t (opening p n true ∷ []) [] 1 → lines_at p (notes root (Some n) p) ≡ map line_of lines → cost root (Some n) p ≡ n + 1 → Judges root s t p lines (n + 1)
-  part_judges s t n lines over did are costs = opens_judges s t n true (Some n) lines over (did_part s t n did) (ap (λ u. given_by u p) (one_unread n) ∙ ap (λ b. cond b (Some n) None) (place_same p)) are costs
+  part_judges : (s t : Store) (n : ℕ) (lines : List MadeLine) → s.tree ≡ root → Did s t (opening p n true ∷ []) [] 1
+      → lines_at p (notes root (Some n) p) ≡ map line_of lines → cost root (Some n) p ≡ n + 1 → Judges root s t p lines (n + 1)
+  part_judges s t n lines over did are costs =
+      opens_judges s t n true (Some n) lines over (did_part s t n did) (ap (λ u. given_by u p) (one_unread n) ∙ ap (λ b. cond b (Some n) None) (place_same p)) are costs
 
   -- a file that is there and short enough stops only by the device, or where memory was refused
   by_device : HasShortFiles root → (s t : Store) (n : ℕ) (cause : Cause) → StopsHashing root s t p n cause → cause ≢ Memory → Did s t (opening p n true ∷ []) [] 1
@@ -184,8 +190,10 @@ module _ (root : StorageRoot) (s t : Store) (made : Pending) (over : s.tree ≡ 
   pub failed_whole : (w : Wanted) (d : Digests) (n : ℕ) → HashesFile root s t made.place w d n → JudgeFails root s t made.place
   failed_whole w d n h = whole_fails root made.place file_is s t n over h.did
 
-  pub judged_whole : (w : Wanted) (d : Digests) (n : ℕ) (ns : List MadeNamed) (lines : List MadeLine) → ns ≡ made.named.items → AreWanted w (map (λ m. m.algorithm) made.named.items) → HashesFile root s t made.place w d n
-      → ((bytes : Text) → HasDigests (map (λ m. m.algorithm) ns) bytes d → n ≡ length bytes → map line_of lines ≡ lines_at made.place (or_bytes bytes (unnamed_notes (map named_view ns) ++ wrong_notes bytes (map named_view ns))))
+  pub judged_whole : (w : Wanted) (d : Digests) (n : ℕ) (ns : List MadeNamed) (lines : List MadeLine) → ns ≡ made.named.items
+      → AreWanted w (map (λ m. m.algorithm) made.named.items) → HashesFile root s t made.place w d n
+      → ((bytes : Text) → HasDigests (map (λ m. m.algorithm) ns) bytes d → n ≡ length bytes
+          → map line_of lines ≡ lines_at made.place (or_bytes bytes (unnamed_notes (map named_view ns) ++ wrong_notes bytes (map named_view ns))))
       → Judges root s t made.place lines (n + 1)
   judged_whole w d n ns lines same wanted h are =
       let f = hashed_file root made.place file_is in
@@ -194,7 +202,8 @@ module _ (root : StorageRoot) (s t : Store) (made : Pending) (over : s.tree ≡ 
       let names : map named_view ns ≡ named_at root made.place = ap (map named_view) same ∙ pending.named in
       let has : HasDigests (map (λ m. m.algorithm) ns) f.bytes d = subst (λ b. HasDigests (map (λ m. m.algorithm) ns) b d) bytes (λ a i. h.digests.each a ∙ ap (λ b. cond b (Some (digest_bytes_of a h.bytes)) None) ((wanted a).1 (subst (λ ms. IsAmong (map (λ m. m.algorithm) ms) a) same i))) in
       whole_judges root made.place file_is s t n lines over h.did
-      (ap (lines_at made.place) (f.lines None ∙ file_whole f.bytes (named_at root made.place) f.digests ∙ ap (λ xs. or_bytes f.bytes (unnamed_notes xs ++ wrong_notes f.bytes xs)) (sym names)) ∙ sym (are f.bytes has count))
+      (ap (lines_at made.place) (f.lines None ∙ file_whole f.bytes (named_at root made.place) f.digests
+          ∙ ap (λ xs. or_bytes f.bytes (unnamed_notes xs ++ wrong_notes f.bytes xs)) (sym names)) ∙ sym (are f.bytes has count))
       (f.whole ∙ ap (λ k. k + 1) (sym count))
 
   pub failed_part : HasShortFiles root → (n : ℕ) (cause : Cause) → StopsHashing root s t made.place n cause → cause ≢ Memory → JudgeFails root s t made.place
@@ -245,8 +254,10 @@ module _ (root : StorageRoot) (s t : Store) (made : Pending) (over : s.tree ≡ 
   IsJudged r = MatchResult r (λ j. Judges root s t made.place j.0.items j.1) (λ why. JudgeFails root s t made.place)
 
   whole_is : (read : Digests × ℕ) (r : Result Made Fault) → HashesFile root s t made.place w read.0 read.1 → IfOk r (λ j. j.1 ≡ read.1 + 1)
-      → ((bytes : Text) → HasDigests (map (λ m. m.algorithm) made.named.items) bytes read.0 → read.1 ≡ length bytes → IfOk r (λ j. map line_of j.0.items ≡ lines_at made.place (or_bytes bytes (unnamed_notes names ++ wrong_notes bytes names)))) → IsJudged r
-  whole_is read (Ok j) h cost are = subst (Judges root s t made.place j.0.items) (sym cost) (judged_whole root s t made over pending hashed w read.0 read.1 made.named.items j.0.items refl wanted h are)
+      → ((bytes : Text) → HasDigests (map (λ m. m.algorithm) made.named.items) bytes read.0 → read.1 ≡ length bytes
+          → IfOk r (λ j. map line_of j.0.items ≡ lines_at made.place (or_bytes bytes (unnamed_notes names ++ wrong_notes bytes names)))) → IsJudged r
+  whole_is read (Ok j) h cost are =
+      subst (Judges root s t made.place j.0.items) (sym cost) (judged_whole root s t made over pending hashed w read.0 read.1 made.named.items j.0.items refl wanted h are)
   whole_is read (Err why) h cost are = failed_whole root s t made over pending hashed w read.0 read.1 h
 
   part_is : (stop : ReadStop) (r : Result Made Fault) → StopsHashing root s t made.place stop.bytes stop.cause → IfOk r (λ j. j.1 ≡ stop.bytes + 1) → (stop.cause ≡ Memory → IfOk r (λ j. ⊥))
@@ -258,8 +269,10 @@ module _ (root : StorageRoot) (s t : Store) (made : Pending) (over : s.tree ≡ 
       by_cause stop.cause (λ e. refused root s t made over pending hashed stop.bytes (subst (StopsHashing root s t made.place stop.bytes) e h))
       (λ kept. failed_part root s t made over pending hashed short stop.bytes stop.cause h kept)
 
-  pub judged_is : (read : Result (Digests × ℕ) ReadStop) (r : Result Made Fault) → Read root s t made.place w read → IfOk r (λ j. j.1 ≡ given_in read + 1) → IfErr read (λ stop. stop.cause ≡ Memory → IfOk r (λ j. ⊥))
-      → IfOk read (λ h. (bytes : Text) → HasDigests (map (λ m. m.algorithm) made.named.items) bytes h.0 → h.1 ≡ length bytes → IfOk r (λ j. map line_of j.0.items ≡ lines_at made.place (or_bytes bytes (unnamed_notes names ++ wrong_notes bytes names))))
+  pub judged_is : (read : Result (Digests × ℕ) ReadStop) (r : Result Made Fault) → Read root s t made.place w read → IfOk r (λ j. j.1 ≡ given_in read + 1)
+      → IfErr read (λ stop. stop.cause ≡ Memory → IfOk r (λ j. ⊥))
+      → IfOk read (λ h. (bytes : Text) → HasDigests (map (λ m. m.algorithm) made.named.items) bytes h.0 → h.1 ≡ length bytes
+          → IfOk r (λ j. map line_of j.0.items ≡ lines_at made.place (or_bytes bytes (unnamed_notes names ++ wrong_notes bytes names))))
       → IfErr read (λ stop. stop.cause ≢ Memory → IfOk r (λ j. map line_of j.0.items ≡ lines_at made.place (unnamed_notes names ++ plain S08 ∷ []))) → IsJudged r
   judged_is (Ok h) r did cost none whole part = whole_is h r did cost whole
   judged_is (Err stop) r did cost none whole part = part_is stop r did cost none part

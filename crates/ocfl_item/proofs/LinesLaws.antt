@@ -32,7 +32,8 @@ pub adds_two : {X E : Type 0} (old mid new : PlaceLines) (r : Result X E) (ms ns
 adds_two old mid new (Ok _) ms ns h k = adds_both old mid new ms ns h k
 adds_two old mid new (Err e) ms ns h k = tt
 
-pub adds_three : {E : Type 0} (old one two new : PlaceLines) (r : Result (Unit {0}) E) (ls ms ns : List Note) → Adds old one ls → Adds one two ms → OnOk r (Adds two new ns) → OnOk r (Adds old new (ls ++ ms ++ ns))
+pub adds_three : {E : Type 0} (old one two new : PlaceLines) (r : Result (Unit {0}) E) (ls ms ns : List Note) → Adds old one ls → Adds one two ms
+    → OnOk r (Adds two new ns) → OnOk r (Adds old new (ls ++ ms ++ ns))
 adds_three old one two new r ls ms ns h k l = adds_two old two new r (ls ++ ms) ns (adds_both old one two ls ms h k) l
 
 -- ---- an item of lines alone

@@ -67,7 +67,8 @@ store_place p q e = cc
 pub memory_no_store : (q : Place) → fault.Memory ≡ fault.Store q → ⊥
 memory_no_store q e = cc
 
-pub list_stops : (root : StorageRoot) (s t : Store) (p : Place) (trouble : Trouble) → s.tree ≡ root → is_listable root p ≡ true → ListFails s t p trouble → Stops root s t (p ∷ []) [] (fault_by p trouble)
+pub list_stops : (root : StorageRoot) (s t : Store) (p : Place) (trouble : Trouble) → s.tree ≡ root → is_listable root p ≡ true → ListFails s t p trouble
+    → Stops root s t (p ∷ []) [] (fault_by p trouble)
 list_stops root s t p Device over l h = record {
   goes = record { over = over; listings = p ∷ []; did = h.fails.did; read = λ e. refl; listed = ([], refl) };
   store = λ q e. (ap (is_hashed root) (sym (store_place p q e)) ∙ dir_not_hashed root p (listable_dir root p l), failed_listing root p q (store_place p q e));
@@ -139,7 +140,8 @@ declares_as level es (made.Unknown i) e k =
 declares_as level es made.Several e k = (ap is_declared (sym e), ap is_known (sym e))
 
 -- the head that a declaration's answer is
-pub head_is : (level : Level) (files es : List Entry) (m : MadeDeclared) (h : Head) → files ≡ es → meaning level files m ≡ declared level (file_names files) → PointsAtOne level files m → h ≡ head_by m → IsHead (declared level (file_names es)) h
+pub head_is : (level : Level) (files es : List Entry) (m : MadeDeclared) (h : Head) → files ≡ es → meaning level files m ≡ declared level (file_names files)
+    → PointsAtOne level files m → h ≡ head_by m → IsHead (declared level (file_names es)) h
 head_is level files es m h same e k is =
     subst (λ x. IsHead (declared level (file_names x)) h) same (subst (IsHead (declared level (file_names files))) (sym is) (declares_as level files m e k))
 
@@ -168,7 +170,8 @@ module _ (root : StorageRoot) where
       (hierarchy_on root d n old es h out k.listable k.listing (ap is_declared (declared_object root (d ++ n ∷ []) es k.listable ordinary k.listing) ∙ none))
 
   -- an object, with what its declarations say
-  pub declared_entered : (s t : Store) (d e : Place) (n : Text) (old es given : List Entry) (m : MadeDeclared) → InHierarchy root d old → is_extensions_name d n ≡ false → IsOrdinary es → Enters root s t (d ++ n ∷ []) e es → given ≡ es
+  pub declared_entered : (s t : Store) (d e : Place) (n : Text) (old es given : List Entry) (m : MadeDeclared) → InHierarchy root d old
+      → is_extensions_name d n ≡ false → IsOrdinary es → Enters root s t (d ++ n ∷ []) e es → given ≡ es
       → meaning level.Object given m ≡ declared level.Object (file_names given) → PointsAtOne level.Object given m → (m ≡ made.None → ⊥) → IsDeclared root e es m
   declared_entered s t d e n old es given m h out ordinary k same said pointed some =
       let says : meaning level.Object es m ≡ declared level.Object (file_names es) = subst (λ xs. meaning level.Object xs m ≡ declared level.Object (file_names xs)) same said in
@@ -184,7 +187,8 @@ module _ (root : StorageRoot) where
         points = points;
       })
 
-  pub undeclared_entered : (s t : Store) (d e : Place) (n : Text) (old es given : List Entry) (m : MadeDeclared) → InHierarchy root d old → is_extensions_name d n ≡ false → IsOrdinary es → Enters root s t (d ++ n ∷ []) e es → given ≡ es
+  pub undeclared_entered : (s t : Store) (d e : Place) (n : Text) (old es given : List Entry) (m : MadeDeclared) → InHierarchy root d old
+      → is_extensions_name d n ≡ false → IsOrdinary es → Enters root s t (d ++ n ∷ []) e es → given ≡ es
       → meaning level.Object given m ≡ declared level.Object (file_names given) → m ≡ made.None → InHierarchy root e es
   undeclared_entered s t d e n old es given m h out ordinary k same said none =
       let says : meaning level.Object es m ≡ declared level.Object (file_names es) = subst (λ xs. meaning level.Object xs m ≡ declared level.Object (file_names xs)) same said in
@@ -199,7 +203,8 @@ module _ (root : StorageRoot) where
     known = ap is_known (sym h.says ∙ ap (meaning level.Object es) one);
   }
 
-  pub no_known : (o : Place) (es : List Entry) (m : MadeDeclared) → IsDeclared root o es m → (m ≡ made.None) ⊎ (((x : ℕ) × (m ≡ made.Unknown x)) ⊎ (m ≡ made.Several)) → is_known (meaning level.Object es m) ≡ false
+  pub no_known : (o : Place) (es : List Entry) (m : MadeDeclared) → IsDeclared root o es m → (m ≡ made.None)
+      ⊎ (((x : ℕ) × (m ≡ made.Unknown x)) ⊎ (m ≡ made.Several)) → is_known (meaning level.Object es m) ≡ false
   no_known o es m h (inl e) = ap (λ x. is_known (meaning level.Object es x)) e
   no_known o es m h (inr (inl k)) = ap (λ x. is_known (meaning level.Object es x)) k.1 ∙ ap (λ e. is_known (unknown_by level.Object e)) (subst (PointsAtOne level.Object es) k.1 h.points).1
   no_known o es m h (inr (inr e)) = ap (λ x. is_known (meaning level.Object es x)) e
@@ -212,7 +217,8 @@ module _ (root : StorageRoot) where
 
   -- ---- from the root
 
-  pub root_entered : (s t : Store) (e : Place) (es : List Entry) → IsOrdinary es → Enters root s t [] e es → (is_declared (declared level.Root (file_names es)) ≡ true) × (is_known (declared level.Root (file_names es)) ≡ true) → InHierarchy root e es
+  pub root_entered : (s t : Store) (e : Place) (es : List Entry) → IsOrdinary es → Enters root s t [] e es
+      → (is_declared (declared level.Root (file_names es)) ≡ true) × (is_known (declared level.Root (file_names es)) ≡ true) → InHierarchy root e es
   root_entered s t e es ordinary k says =
       subst (λ x. InHierarchy root x es) (sym k.is) (at_root root es (ap is_known (declared_root root es ordinary k.listing) ∙ says.1) k.listing)
 

@@ -32,10 +32,12 @@ kind_at_index es i e n h is =
     let one : drop i es ≡ e ∷ drop (i + 1) es = drop-cons es i e h ∙ (λ j. sym is j ∷ drop (sym (add-one i) j) es) in
     ap (λ xs. kind_in xs n) one
 
-pub kind_found : (es : List Entry) (i : ℕ) (e : Entry) (n : Text) (b : Bool) → i < length es → e ≡ get_or es i e → kind_in es n ≡ kind_in (drop i es) n → b ≡ text_eq e.name n → b ≡ true → Some e.kind ≡ kind_in es n
+pub kind_found : (es : List Entry) (i : ℕ) (e : Entry) (n : Text) (b : Bool) → i < length es → e ≡ get_or es i e → kind_in es n ≡ kind_in (drop i es) n
+    → b ≡ text_eq e.name n → b ≡ true → Some e.kind ≡ kind_in es n
 kind_found es i e n b h is so_far test holds = sym (so_far ∙ kind_at_index es i e n h is ∙ ap (λ x. cond x (Some e.kind) (kind_in (drop (i + 1) es) n)) (sym test ∙ holds))
 
-pub kind_goes_on : (es : List Entry) (i : ℕ) (e : Entry) (n : Text) (b : Bool) → i < length es → e ≡ get_or es i e → kind_in es n ≡ kind_in (drop i es) n → b ≡ text_eq e.name n → b ≡ false → kind_in es n ≡ kind_in (drop (i + 1) es) n
+pub kind_goes_on : (es : List Entry) (i : ℕ) (e : Entry) (n : Text) (b : Bool) → i < length es → e ≡ get_or es i e → kind_in es n ≡ kind_in (drop i es) n
+    → b ≡ text_eq e.name n → b ≡ false → kind_in es n ≡ kind_in (drop (i + 1) es) n
 kind_goes_on es i e n b h is so_far test fails = so_far ∙ kind_at_index es i e n h is ∙ ap (λ x. cond x (Some e.kind) (kind_in (drop (i + 1) es) n)) (sym test ∙ fails)
 
 pub named_same : (n m : Text) → text_eq n m ≡ true → n ≡ m
@@ -99,7 +101,8 @@ length_step : (d : Place) (n : Text) → length (d ++ n ∷ []) ≡ suc (length 
 length_step [] n = refl
 length_step (m ∷ d) n = ap suc (length_step d n)
 
-pub listable_is : (root : StorageRoot) (d : Place) (n : Text) (es : List Entry) → IsListing root d es → nat_le (suc (length d)) max_listed_depth && is_dir_kind (kind_in es n) ≡ is_listable root (d ++ n ∷ [])
+pub listable_is : (root : StorageRoot) (d : Place) (n : Text) (es : List Entry) → IsListing root d es
+    → nat_le (suc (length d)) max_listed_depth && is_dir_kind (kind_in es n) ≡ is_listable root (d ++ n ∷ [])
 listable_is root d n es h = λ i. nat_le (sym (length_step d n) i) max_listed_depth && dir_there root d n es h i
 
 -- ---- whether a listing is empty
@@ -126,7 +129,8 @@ named_from (e ∷ root) d n i = by (child_name d e.0) refl i (named_from root d 
         go true = (e.1, refl)
         go false = k
 
-    by : (o : Option Text) → child_name d e.0 ≡ o → IsAmong (cons_option o (filter_map (λ x. child_name d x.0) root)) n → (IsAmong (filter_map (λ x. child_name d x.0) root) n → (leaf : Leaf) × (lookup root (d ++ n ∷ []) ≡ Some leaf))
+    by : (o : Option Text) → child_name d e.0 ≡ o → IsAmong (cons_option o (filter_map (λ x. child_name d x.0) root)) n
+        → (IsAmong (filter_map (λ x. child_name d x.0) root) n → (leaf : Leaf) × (lookup root (d ++ n ∷ []) ≡ Some leaf))
         → (leaf : Leaf) × (lookup (e ∷ root) (d ++ n ∷ []) ≡ Some leaf)
     by None f j k = later (k j)
     by (Some m) f (inl g) k =
@@ -217,7 +221,8 @@ once_ascending : (xs : List Text) → IsAscending text_cmp xs → Once xs
 once_ascending [] h = tt
 once_ascending (x ∷ xs) h = ((λ i. not_below_itself text_cmp_total x (before_each text_cmp x xs h.0 x i)), once_ascending xs h.1)
 
-same_declared : (level : Level) (xs ys : List Text) → Once xs → Once ys → ((z : Text) → IsAmong xs z → IsAmong ys z) → ((z : Text) → IsAmong ys z → IsAmong xs z) → declared_by level xs ≡ declared_by level ys
+same_declared : (level : Level) (xs ys : List Text) → Once xs → Once ys → ((z : Text) → IsAmong xs z → IsAmong ys z)
+    → ((z : Text) → IsAmong ys z → IsAmong xs z) → declared_by level xs ≡ declared_by level ys
 same_declared level [] [] h k to from = refl
 same_declared level [] (y ∷ ys) h k to from = absurd (from y (inl refl))
 same_declared level (x ∷ xs) [] h k to from = absurd (to x (inl refl))
@@ -262,7 +267,9 @@ module _ (root : StorageRoot) (d : Place) (es : List Entry) (ordinary : IsOrdina
   pub declared_listing : (level : Level) → declared level (file_names es) ≡ declared level (files_in root d)
   declared_listing level = same_declared level (filter (is_declaration level) (file_names es)) (filter (is_declaration level) (files_in root d))
       (once_filter (is_declaration level) (file_names es) (once_files es ordinary.once))
-      (once_filter (is_declaration level) (files_in root d) (once_ascending (files_in root d) (ascends_filter text_cmp (λ n. is_some (file_at root (d ++ n ∷ []))) (names_in root d) (ascends_ascending text_cmp_total (filter_map (λ e. child_name d e.0) root)))))
+      (once_filter (is_declaration level) (files_in root d)
+          (once_ascending (files_in root d)
+          (ascends_filter text_cmp (λ n. is_some (file_at root (d ++ n ∷ []))) (names_in root d) (ascends_ascending text_cmp_total (filter_map (λ e. child_name d e.0) root)))))
       (λ z i. let k = among_from_filter (is_declaration level) (file_names es) z i in among_filter (is_declaration level) (files_in root d) z (listed_to_model z k.0) k.1)
       (λ z i. let k = among_from_filter (is_declaration level) (files_in root d) z i in among_filter (is_declaration level) (file_names es) z (model_to_listed z k.0) k.1)
 

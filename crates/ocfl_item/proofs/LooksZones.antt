@@ -46,10 +46,12 @@ listable_dir root d h = leaf_dir (at root d) (and_second (nat_le (length d) max_
 pub listable_object : (root : StorageRoot) (d : Place) → is_listable root d ≡ true → object_declared root d ≡ declared level.Object (files_in root d)
 listable_object root d h =
     ap (λ b. cond b (declared level.Object (files_in root d)) undeclared)
-    (and_both (is_dir root d) (nat_le (length d) max_listed_depth) (and_second (nat_le (length d) max_listed_depth) (is_dir root d) h) (and_first (nat_le (length d) max_listed_depth) (is_dir root d) h))
+    (and_both (is_dir root d) (nat_le (length d) max_listed_depth) (and_second (nat_le (length d) max_listed_depth) (is_dir root d) h)
+        (and_first (nat_le (length d) max_listed_depth) (is_dir root d) h))
 
 -- what a listing declares an object to be
-pub declared_object : (root : StorageRoot) (d : Place) (es : List Entry) → is_listable root d ≡ true → IsOrdinary es → IsListing root d es → object_declared root d ≡ declared level.Object (file_names es)
+pub declared_object : (root : StorageRoot) (d : Place) (es : List Entry) → is_listable root d ≡ true → IsOrdinary es → IsListing root d es
+    → object_declared root d ≡ declared level.Object (file_names es)
 declared_object root d es l ordinary h = listable_object root d l ∙ sym (declared_listing root d es ordinary h level.Object)
 
 -- below what is not listed no object lies
@@ -189,11 +191,13 @@ extensions_passed : (root : StorageRoot) (d : Place) (n : Text) → is_extension
 extensions_passed root [] n h = ap (λ b. b && is_dir root (n ∷ [])) h
 extensions_passed root (m ∷ d) n h = refl
 
-hierarchy_step : (root : StorageRoot) (d : Place) (n : Text) → zone root d ≡ hierarchy → is_extensions_name d n ≡ false → zone root (d ++ n ∷ []) ≡ cond (is_declared (object_declared root (d ++ n ∷ []))) (inside (d ++ n ∷ []) []) hierarchy
+hierarchy_step : (root : StorageRoot) (d : Place) (n : Text) → zone root d ≡ hierarchy → is_extensions_name d n ≡ false
+    → zone root (d ++ n ∷ []) ≡ cond (is_declared (object_declared root (d ++ n ∷ []))) (inside (d ++ n ∷ []) []) hierarchy
 hierarchy_step root d n z h =
     zone_step root d n ∙ ap (λ b. cond b skipped (step_zone root d n (zone root d))) (extensions_passed root d n h) ∙ ap (step_zone root d n) z
 
-pub hierarchy_on : (root : StorageRoot) (d : Place) (n : Text) (old es : List Entry) → InHierarchy root d old → is_extensions_name d n ≡ false → is_listable root (d ++ n ∷ []) ≡ true → IsListing root (d ++ n ∷ []) es → is_declared (object_declared root (d ++ n ∷ [])) ≡ false → InHierarchy root (d ++ n ∷ []) es
+pub hierarchy_on : (root : StorageRoot) (d : Place) (n : Text) (old es : List Entry) → InHierarchy root d old → is_extensions_name d n ≡ false
+    → is_listable root (d ++ n ∷ []) ≡ true → IsListing root (d ++ n ∷ []) es → is_declared (object_declared root (d ++ n ∷ [])) ≡ false → InHierarchy root (d ++ n ∷ []) es
 hierarchy_on root d n old es h e l listing none =
     let z : zone root (d ++ n ∷ []) ≡ hierarchy = hierarchy_step root d n h.zone e ∙ ap (λ b. cond b (inside (d ++ n ∷ []) []) hierarchy) none in
     record {
@@ -201,7 +205,8 @@ hierarchy_on root d n old es h e l listing none =
       zone = z;
     }
 
-pub object_zone_here : (root : StorageRoot) (d : Place) (n : Text) (old : List Entry) → InHierarchy root d old → is_extensions_name d n ≡ false → is_declared (object_declared root (d ++ n ∷ [])) ≡ true → zone root (d ++ n ∷ []) ≡ inside (d ++ n ∷ []) []
+pub object_zone_here : (root : StorageRoot) (d : Place) (n : Text) (old : List Entry) → InHierarchy root d old → is_extensions_name d n ≡ false
+    → is_declared (object_declared root (d ++ n ∷ [])) ≡ true → zone root (d ++ n ∷ []) ≡ inside (d ++ n ∷ []) []
 object_zone_here root d n old h e some = hierarchy_step root d n h.zone e ∙ ap (λ b. cond b (inside (d ++ n ∷ []) []) hierarchy) some
 
 -- ---- and in an object

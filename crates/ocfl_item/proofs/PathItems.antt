@@ -35,7 +35,9 @@ path_of_named t q some = by t.triples some
     by [] n = absurd (n refl)
     by (e ∷ es) n = go (place_eq e.path q) refl n (by es)
       where
-        go : (b : Bool) → place_eq e.path q ≡ b → cons_option (cond b (Some e.named) None) (filter_map (λ x. cond (place_eq x.path q) (Some x.named) None) es) ≢ [] → (filter_map (λ x. cond (place_eq x.path q) (Some x.named) None) es ≢ [] → IsAmong (map (λ x. x.path) es) q) → IsAmong (map (λ x. x.path) (e ∷ es)) q
+        go : (b : Bool) → place_eq e.path q ≡ b
+            → cons_option (cond b (Some e.named) None) (filter_map (λ x. cond (place_eq x.path q) (Some x.named) None) es) ≢ []
+            → (filter_map (λ x. cond (place_eq x.path q) (Some x.named) None) es ≢ [] → IsAmong (map (λ x. x.path) es) q) → IsAmong (map (λ x. x.path) (e ∷ es)) q
         go true f m k = inl (sym (place_from_test e.path q f))
         go false f m k = inr (k m)
 

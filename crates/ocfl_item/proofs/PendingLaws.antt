@@ -63,7 +63,8 @@ module _ (root : StorageRoot) (p q : Place) (t : Table) (ns : List MadeNamed) (s
 
   -- the lines that were made, at the place itself
   pub known_lines_are : (ms : List MadeNamed) (l : PlaceLines) → ms ≡ ns → l.place ≡ p
-      → (IsAscending named_cmp (map named_view ms) → HasLines l (sight_notes s ++ missing_notes (map named_view ms))) → map line_of l.lines.items ≡ lines_at p (sight_notes s ++ missing_notes (map named_view ns))
+      → (IsAscending named_cmp (map named_view ms) → HasLines l (sight_notes s ++ missing_notes (map named_view ms)))
+          → map line_of l.lines.items ≡ lines_at p (sight_notes s ++ missing_notes (map named_view ns))
   known_lines_are ms l same at made =
       made (subst (λ xs. IsAscending named_cmp (map named_view xs)) (sym same) names_ascend) ∙ (λ i. lines_at (at i) (sight_notes s ++ missing_notes (map named_view (same i))))
 
@@ -78,5 +79,6 @@ module _ (root : StorageRoot) (p q : Place) (t : Table) (ns : List MadeNamed) (s
         lines = λ _. known ∙ (λ i. lines_at (sym place i) (notes root None (sym place i)));
       }
 
-  pub nothing_known : (lines : List MadeLine) → is_read s (map named_view ns) ≡ false → map line_of lines ≡ lines_at p (sight_notes s ++ missing_notes (map named_view ns)) → lines ≡ [] → notes root None p ≡ []
+  pub nothing_known : (lines : List MadeLine) → is_read s (map named_view ns) ≡ false
+      → map line_of lines ≡ lines_at p (sight_notes s ++ missing_notes (map named_view ns)) → lines ≡ [] → notes root None p ≡ []
   nothing_known lines unread are none = no_notes p (notes root None p) (ap (lines_at p) (known_is unread) ∙ sym are ∙ ap (map line_of) none)

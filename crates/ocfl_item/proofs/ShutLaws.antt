@@ -53,7 +53,8 @@ module _ (root : StorageRoot) (e : Place) (some : e ≢ []) where
   shut_unlistable h = record {
     looked = looked e some h;
     read = unread (is_head (zone root e)) (inventory_at root e)
-        (ap (λ b. cond (is_known (cond b (declared level.Object (files_in root e)) undeclared)) (file_at root (e ++ inventory_name ∷ [])) None) (swapped (nat_le (length e) max_listed_depth) (is_dir root e) h));
+        (ap (λ b. cond (is_known (cond b (declared level.Object (files_in root e)) undeclared)) (file_at root (e ++ inventory_name ∷ [])) None)
+            (swapped (nat_le (length e) max_listed_depth) (is_dir root e) h));
     names = hidden root e (not_entered root e h);
   }
     where
@@ -127,7 +128,8 @@ and_three false b c d h k l = absurd (true_not_false (sym h))
 
 pub looked_at : (root : StorageRoot) (e : Place) → list_all (is_entered root) (beginnings e) ≡ true → is_listable root e ≡ true → shows_entries root (zone root e) ≡ true → is_looked_into root e ≡ true
 looked_at root [] way listable shows = refl
-looked_at root (n ∷ d) way listable shows = and_three (list_all (is_entered root) (beginnings (n ∷ d))) (nat_le (length (n ∷ d)) max_listed_depth) (is_dir root (n ∷ d)) (shows_entries root (zone root (n ∷ d))) way listable shows
+looked_at root (n ∷ d) way listable shows =
+    and_three (list_all (is_entered root) (beginnings (n ∷ d))) (nat_le (length (n ∷ d)) max_listed_depth) (is_dir root (n ∷ d)) (shows_entries root (zone root (n ∷ d))) way listable shows
 
 -- what is listed shows its entries
 pub listed_shows : (root : StorageRoot) (z : Zone) → is_listed_zone root z ≡ true → shows_entries root z ≡ true

@@ -43,7 +43,8 @@ module _ (root : StorageRoot) (d e : Place) (a : Around) (entry : Entry) (m : Is
   zone_here = ap (zone root) m.is ∙ inside_step root d a.place m.part.0 entry.name m.part.1
 
   listed_here : is_listed_in_object (Some a.table) m.part.0 ≡ true
-  listed_here = ap (λ x. is_listed_in_object x m.part.0) (sym m.part.2) ∙ ap (is_listed_zone root) (sym m.part.1) ∙ zone_of_entered root d (and_second (list_all (is_entered root) (beginnings d)) (is_entered root d) m.reached)
+  listed_here = ap (λ x. is_listed_in_object x m.part.0) (sym m.part.2) ∙ ap (is_listed_zone root) (sym m.part.1)
+      ∙ zone_of_entered root d (and_second (list_all (is_entered root) (beginnings d)) (is_entered root d) m.reached)
 
   pub in_object : r ≡ 1 → zone root e ≡ inside a.place (entry.name ∷ [])
   in_object h = by m.part.0 (let l = long in omega (arith, l, sub, h)) zone_here

@@ -52,7 +52,8 @@ use Rattle.ocfl_audit.proofs.AuditExists.{IsInside, zone_is}
 
 -- ---- the item of one line
 
-pub unhashed_pending : (root : StorageRoot) (l : PlaceLines) (made : Pending) → IsUnhashed root l → made.place ≡ l.place → made.lines ≡ l.lines → made.hashed ≡ false → made.named.items ≡ [] → IsPending root made
+pub unhashed_pending : (root : StorageRoot) (l : PlaceLines) (made : Pending) → IsUnhashed root l → made.place ≡ l.place → made.lines ≡ l.lines
+    → made.hashed ≡ false → made.named.items ≡ [] → IsPending root made
 unhashed_pending root l made h place lines unhashed unnamed = record {
   some = subst (λ x. notes root None x ≢ []) (sym place) h.some;
   hashed = unhashed ∙ sym (ap (is_hashed root) place ∙ ap (λ ns. nat_lt 0 (cost_of ns None (seen root l.place))) h.named);
@@ -99,11 +100,14 @@ no_notes root e h = short_notes root e [] h ∙ same_either (is_empty (names_in 
 
 -- nothing, at a place that is shut
 pub meets_shut : (root : StorageRoot) (s : Store) (e : Place) → s.tree ≡ root → IsShut root e → Meets root s s e
-meets_shut root s e over h = record { over = over; trail = []; listings = []; did = did_nothing s; read = refl; meta = refl; once = none_once; elsewhere = λ g k. refl; listed = sym (ap (λ b. on b e) h.looked); heads = sym (ap (λ b. on b e) h.read) }
+meets_shut root s e over h = record { over = over; trail = []; listings = []; did = did_nothing s; read = refl; meta = refl; once = none_once; elsewhere =
+    λ g k. refl; listed = sym (ap (λ b. on b e) h.looked); heads = sym (ap (λ b. on b e) h.read) }
 
 -- a directory that is no object was listed
 pub meets_listing : (root : StorageRoot) (s t : Store) (e : Place) → s.tree ≡ root → Did s t [] (e ∷ []) 0 → is_looked_into root e ≡ true → reads_inventory root e ≡ false → Meets root s t e
-meets_listing root s t e over did looked read = record { over = over; trail = []; listings = e ∷ []; did = did; read = refl; meta = refl; once = none_once; elsewhere = λ g k. refl; listed = sym (ap (λ b. on b e) looked); heads = sym (ap (λ b. on b e) read) }
+meets_listing root s t e over did looked read =
+    record { over = over; trail = []; listings = e ∷ []; did = did; read = refl; meta = refl; once = none_once; elsewhere = λ g k. refl; listed =
+    sym (ap (λ b. on b e) looked); heads = sym (ap (λ b. on b e) read) }
 
 pub meet_stop : (root : StorageRoot) (s t : Store) (e : Place) (why : Fault) → is_looked_into root e ≡ true → Stops root s t (e ∷ []) [] why → MeetFails root s t e why
 meet_stop root s t e why looked h = record {
@@ -162,7 +166,8 @@ visits_stop root s t e why looked h = record { gives = meet_stop root s t e why 
 -- ---- a directory that is listed
 
 -- its listing, and no table
-pub visit_of_folder : (root : StorageRoot) (e : Place) (v : Visit) (f : Folder) → IsItemAt root e v.item → v.folder ≡ Some f → v.table ≡ None → is_head (zone root e) ≡ false → f.place ≡ e → is_reached root e ≡ true → IsListing root e f.entries.items → IsVisit root e v
+pub visit_of_folder : (root : StorageRoot) (e : Place) (v : Visit) (f : Folder) → IsItemAt root e v.item → v.folder ≡ Some f → v.table ≡ None
+    → is_head (zone root e) ≡ false → f.place ≡ e → is_reached root e ≡ true → IsListing root e f.entries.items → IsVisit root e v
 visit_of_folder root e v f item folder table head place reached listing = record {
   item = item;
   folder = subst (IsFolderAt root e) (sym folder) (place, reached, listing);
@@ -263,7 +268,8 @@ pub visits_nothing : (root : StorageRoot) (s : Store) (e : Place) → s.tree ≡
 visits_nothing root s e over = record { gives = meet_nothing root s e over }
 
 -- a directory that is no object was listed
-pub entered_meets : (root : StorageRoot) (s t : Store) (e d : Place) (es : List Entry) → s.tree ≡ root → Enters root s t e d es → is_looked_into root e ≡ true → is_head (zone root e) ≡ false → Meets root s t e
+pub entered_meets : (root : StorageRoot) (s t : Store) (e d : Place) (es : List Entry) → s.tree ≡ root → Enters root s t e d es → is_looked_into root e ≡ true
+    → is_head (zone root e) ≡ false → Meets root s t e
 entered_meets root s t e d es over h looked head = meets_listing root s t e over h.did looked (no_head_unread root e head)
 
 -- one that is listed
@@ -323,7 +329,8 @@ object_plain root e o n t z h = record {
   head = ap is_head z;
 }
 
-pub version_plain : (root : StorageRoot) (e o : Place) (v n : Text) (t : Table) → zone root e ≡ inside o (v ∷ n ∷ []) → table_at root o ≡ Some t → IsPlainAt root e (version_entry_notes root t e n (seen root e))
+pub version_plain : (root : StorageRoot) (e o : Place) (v n : Text) (t : Table) → zone root e ≡ inside o (v ∷ n ∷ []) → table_at root o ≡ Some t
+    → IsPlainAt root e (version_entry_notes root t e n (seen root e))
 version_plain root e o v n t z h = record {
   lines = notes_at root None e (not_root root e o (v ∷ n ∷ []) z) ∙ ap (notes_in root e None) z ∙ ap (λ y. object_notes root e None y (v ∷ n ∷ [])) h;
   named = named_short root e o (v ∷ n ∷ []) z (omega arith);
@@ -359,7 +366,8 @@ module _ (root : StorageRoot) (e o : Place) (n : Text) (t : Table) (k : Kind) (h
   pub object_version : k ≡ kind.Dir → is_version_name n ≡ true → HasRole root e role.Listed
   object_version is b = (
     listed_entry root e k h is (ap (is_listed_zone root) z ∙ ap (λ x. is_listed_in_object x (n ∷ [])) table ∙ b),
-    of_object dir (listed_dir_notes root e []) (entry_dir root e k h is) (ap (λ x. cond x (listed_dir_notes root e []) (on (not (text_eq n (codes "extensions") || text_eq n (codes "logs"))) (plain E001))) b),
+    of_object dir (listed_dir_notes root e []) (entry_dir root e k h is)
+        (ap (λ x. cond x (listed_dir_notes root e []) (on (not (text_eq n (codes "extensions") || text_eq n (codes "logs"))) (plain E001))) b),
   )
 
   dir_else : k ≡ kind.Dir → is_version_name n ≡ false → object_entry_notes root e n (Some dir) ≡ on (not (text_eq n (codes "extensions") || text_eq n (codes "logs"))) (plain E001)

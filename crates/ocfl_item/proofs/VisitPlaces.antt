@@ -113,7 +113,8 @@ module _ (root : StorageRoot) (e d : Place) (n : Text) (is : e ≡ d ++ n ∷ []
   extensions_from h there = by d is
     where
       by : (d : Place) → e ≡ d ++ n ∷ [] → is_extensions root d n ≡ true
-      by [] g = and_both (text_eq n (codes "extensions")) (is_dir root (n ∷ [])) (ap (λ k. nat_eq (k - 1) 0 && text_eq n (codes "extensions")) (sym (ap length g)) ∙ h) (ap (is_dir root) (sym g) ∙ there)
+      by [] g = and_both (text_eq n (codes "extensions")) (is_dir root (n ∷ []))
+          (ap (λ k. nat_eq (k - 1) 0 && text_eq n (codes "extensions")) (sym (ap length g)) ∙ h) (ap (is_dir root) (sym g) ∙ there)
       by (m ∷ d) g =
           let one : length e - 1 ≡ 0 = eqb-true (length e - 1) 0 (and_first (nat_eq (length e - 1) 0) (text_eq n (codes "extensions")) h) in
           let long : length e ≡ suc (length (d ++ n ∷ [])) = ap length g in
@@ -148,7 +149,8 @@ module _ (root : StorageRoot) (e d : Place) (n : Text) (is : e ≡ d ++ n ∷ []
         clash x = cc
 
     pub file_deeper : k ≡ kind.File → 1 < length e → HasRole root e (role.Plain E072)
-    file_deeper g deep = let f = entry_file root e k h g in (in_hierarchy (file f.0) (plain E072 ∷ []) (no_file_dir g) f.1 (ap (λ b. on b (plain E072)) (lt-ltb 1 (length e) deep)), file_shut root e k h g)
+    file_deeper g deep = let f = entry_file root e k h g in
+        (in_hierarchy (file f.0) (plain E072 ∷ []) (no_file_dir g) f.1 (ap (λ b. on b (plain E072)) (lt-ltb 1 (length e) deep)), file_shut root e k h g)
 
     pub file_in_root : k ≡ kind.File → length e ≤ 1 → HasRole root e role.LeftAlone
     file_in_root g short = let f = entry_file root e k h g in (in_hierarchy (file f.0) [] (no_file_dir g) f.1 (ap (λ b. on b (plain E072)) (le-ltb 1 (length e) short)), file_shut root e k h g)
@@ -171,7 +173,8 @@ module _ (root : StorageRoot) (e : Place) (h : IsDirectoryAt root e) where
   undeclared_zone g = h.zone ∙ ap (λ x. cond (is_declared x) (inside e []) hierarchy) g
 
   directory_plain : (ns : List Note) → object_declared root e ≡ undeclared → listed_dir_notes root e (plain E073 ∷ []) ≡ ns → IsPlainAt root e ns
-  directory_plain ns g k = relined root e (hierarchy_notes root e (seen root e)) ns (ap (hierarchy_notes root e) (entry_dir root e kind.Dir h.here refl) ∙ k) (hierarchy_plain root e h.below (undeclared_zone g))
+  directory_plain ns g k = relined root e (hierarchy_notes root e (seen root e)) ns (ap (hierarchy_notes root e) (entry_dir root e kind.Dir h.here refl) ∙ k)
+      (hierarchy_plain root e h.below (undeclared_zone g))
 
   pub deep_plain : 127 < length e → IsPlainAt root e (plain S05 ∷ [])
   deep_plain deep = directory_plain (plain S05 ∷ []) (undeclared_deep root e deep) (deep_notes root e (plain E073 ∷ []) deep)
@@ -188,7 +191,8 @@ module _ (root : StorageRoot) (e : Place) (h : IsDirectoryAt root e) where
       by false = refl
 
   pub directory_reached : length e ≤ 127 → object_declared root e ≡ undeclared → is_reached root e ≡ true
-  directory_reached short g = and_both (list_all (is_entered root) (beginnings e)) (is_entered root e) h.here.way (entered_from root e (short_listable short) (ap (is_listed_zone root) (undeclared_zone g)))
+  directory_reached short g = and_both (list_all (is_entered root) (beginnings e)) (is_entered root e) h.here.way
+      (entered_from root e (short_listable short) (ap (is_listed_zone root) (undeclared_zone g)))
 
 -- ---- one that was listed, and declares nothing
 
@@ -210,10 +214,12 @@ module _ (root : StorageRoot) (e : Place) (es : List Entry) (h : IsUndeclaredAt 
   pub full_visit : (v : Visit) (f : Folder) → es ≢ [] → v.item ≡ None → v.folder ≡ Some f → v.table ≡ None → f.place ≡ e → f.entries.items ≡ es → IsVisit root e v
   full_visit v f full item folder table place entries =
       let k = listed_plain [] false (not_emptied root e es h.listing full) refl in
-      visit_of_folder root e v f (subst (IsItemAt root e) (sym item) k.lines) folder table k.head place (directory_reached root e h.directory h.short h.none) (subst (IsListing root e) (sym entries) h.listing)
+      visit_of_folder root e v f (subst (IsItemAt root e) (sym item) k.lines) folder table k.head place (directory_reached root e h.directory h.short h.none)
+          (subst (IsListing root e) (sym entries) h.listing)
 
 -- the listing, and then what the head reads
-pub listed_then : (root : StorageRoot) (s t u : Store) (e : Place) → is_head (zone root e) ≡ true → s.tree ≡ root → Did s t [] (e ∷ []) 0 → is_looked_into root e ≡ true → ReadsOne root t u e → Meets root s u e
+pub listed_then : (root : StorageRoot) (s t u : Store) (e : Place) → is_head (zone root e) ≡ true → s.tree ≡ root → Did s t [] (e ∷ []) 0
+    → is_looked_into root e ≡ true → ReadsOne root t u e → Meets root s u e
 listed_then root s t u e head over did looked h = record {
   over = over;
   trail = h.trail;
@@ -227,7 +233,8 @@ listed_then root s t u e head over did looked h = record {
   heads = h.heads;
 }
 
-listed_fails : (root : StorageRoot) (s t u : Store) (e : Place) (why : Fault) → is_head (zone root e) ≡ true → s.tree ≡ root → Did s t [] (e ∷ []) 0 → is_looked_into root e ≡ true → ReadOneFails root t u e why → MeetFails root s u e why
+listed_fails : (root : StorageRoot) (s t u : Store) (e : Place) (why : Fault) → is_head (zone root e) ≡ true → s.tree ≡ root → Did s t [] (e ∷ []) 0
+    → is_looked_into root e ≡ true → ReadOneFails root t u e why → MeetFails root s u e why
 listed_fails root s t u e why head over did looked h = record {
   over = over;
   trail = h.trail;
@@ -242,7 +249,8 @@ listed_fails root s t u e why head over did looked h = record {
   store = λ q g. let w = h.store q g in (w.0, failed_behind root (e ∷ []) [] [] h.trail q refl w.1);
 }
 
-pub visits_then : (root : StorageRoot) (s t u : Store) (e : Place) (r : Result Visit Fault) → is_head (zone root e) ≡ true → s.tree ≡ root → Did s t [] (e ∷ []) 0 → is_looked_into root e ≡ true → VisitsHead root t u e r → Visits root s u e r
+pub visits_then : (root : StorageRoot) (s t u : Store) (e : Place) (r : Result Visit Fault) → is_head (zone root e) ≡ true → s.tree ≡ root
+    → Did s t [] (e ∷ []) 0 → is_looked_into root e ≡ true → VisitsHead root t u e r → Visits root s u e r
 visits_then root s t u e (Ok v) head over did looked h = record { gives = (listed_then root s t u e head over did looked h.gives.0, h.gives.1) }
 visits_then root s t u e (Err why) head over did looked h = record { gives = listed_fails root s t u e why head over did looked h.gives }
 
@@ -264,7 +272,8 @@ pub record IsListedAs (root : StorageRoot) (s t : Store) (e : Place) (f : Folder
   pub says : meaning level.Object f.entries.items m ≡ declared level.Object (file_names f.entries.items)
   pub points : PointsAtOne level.Object f.entries.items m
 
-pub listed_as : (root : StorageRoot) (s t : Store) (e : Place) (f : Folder) (m : MadeDeclared) (given : List Entry) → s.tree ≡ root → IsDirectoryAt root e → length e ≤ 127 → (is_listable root e ≡ true → Enters root s t e f.place f.entries.items) → IsOrdinary f.entries.items → given ≡ f.entries.items
+pub listed_as : (root : StorageRoot) (s t : Store) (e : Place) (f : Folder) (m : MadeDeclared) (given : List Entry) → s.tree ≡ root → IsDirectoryAt root e
+    → length e ≤ 127 → (is_listable root e ≡ true → Enters root s t e f.place f.entries.items) → IsOrdinary f.entries.items → given ≡ f.entries.items
     → meaning level.Object given m ≡ declared level.Object (file_names given) → PointsAtOne level.Object given m → IsListedAs root s t e f m
 listed_as root s t e f m given over h short told ordinary same says points = record {
   over = over;
@@ -283,7 +292,8 @@ module _ (root : StorageRoot) (s t : Store) (e : Place) (f : Folder) (m : MadeDe
   says : object_declared root e ≡ meaning level.Object f.entries.items m
   says = declared_object root e f.entries.items (short_listable root e h.directory h.short) h.ordinary h.there.listing ∙ sym h.says
 
-  pub undeclared_visits : (r : Result Visit Fault) → m ≡ made.None → IfErr r (λ why. why ≡ fault.Memory) → (IsUndeclaredAt root f.place f.entries.items → IfOk r (λ v. IsVisit root f.place v)) → Visits root s t e r
+  pub undeclared_visits : (r : Result Visit Fault) → m ≡ made.None → IfErr r (λ why. why ≡ fault.Memory)
+      → (IsUndeclaredAt root f.place f.entries.items → IfOk r (λ v. IsVisit root f.place v)) → Visits root s t e r
   undeclared_visits r is only told =
       let none : object_declared root e ≡ undeclared = says ∙ ap (meaning level.Object f.entries.items) is in
       let here : IsUndeclaredAt root e f.entries.items = record { directory = h.directory; short = h.short; listing = h.there.listing; none = none } in
@@ -301,7 +311,8 @@ module _ (root : StorageRoot) (s t : Store) (e : Place) (f : Folder) (m : MadeDe
 
 pub head_memory : (root : StorageRoot) (s t : Store) (o : Place) → ReadsOne root s t o → VisitsHead root s t o (Err fault.Memory)
 head_memory root s t o h = record {
-  gives = record { over = h.over; trail = h.trail; did = h.did; read = λ g. h.read; meta = h.meta; once = h.once; heads = subst (IsFront (heads_of root h.trail)) h.heads (front_all (heads_of root h.trail)); store = λ q g. absurd cc };
+  gives = record { over = h.over; trail = h.trail; did = h.did; read = λ g. h.read; meta = h.meta; once = h.once; heads =
+      subst (IsFront (heads_of root h.trail)) h.heads (front_all (heads_of root h.trail)); store = λ q g. absurd cc };
 }
 
 pub head_stop : (root : StorageRoot) (s t : Store) (o : Place) (why : Fault) → HeadRead root s t o (Err why) → VisitsHead root s t o (Err why)
@@ -311,7 +322,8 @@ module _ (root : StorageRoot) (o : Place) (es : List Entry) (m : MadeDeclared) (
   pub head_here : is_head (zone root o) ≡ true
   head_here = ap is_head h.zone
 
-  pub head_item : (l : PlaceLines) (made : Pending) → HasLines l (notes root None o) → l.place ≡ o → made.place ≡ l.place → (IsUnhashed root l → IsPending root made) → IsPending root made × (made.place ≡ o)
+  pub head_item : (l : PlaceLines) (made : Pending) → HasLines l (notes root None o) → l.place ≡ o → made.place ≡ l.place
+      → (IsUnhashed root l → IsPending root made) → IsPending root made × (made.place ≡ o)
   head_item l made are at same told = (told (head_unhashed root o l head_here at are), same ∙ at)
 
   pub stopped_visit : (v : Visit) (p : Pending) → v.item ≡ Some p → v.folder ≡ None → v.table ≡ None → IsPending root p × (p.place ≡ o) → table_at root o ≡ None → IsVisit root o v
@@ -321,10 +333,13 @@ module _ (root : StorageRoot) (o : Place) (es : List Entry) (m : MadeDeclared) (
     table = subst (IsTableAt root o) (sym table) (λ g. none);
   }
 
-  pub open_visit : (v : Visit) (p : Pending) (f : Folder) (t : Table) → v.item ≡ Some p → v.folder ≡ Some f → v.table ≡ Some t → IsPending root p × (p.place ≡ o) → f.place ≡ o → f.entries.items ≡ es → table_at root o ≡ Some t → IsVisit root o v
+  pub open_visit : (v : Visit) (p : Pending) (f : Folder) (t : Table) → v.item ≡ Some p → v.folder ≡ Some f → v.table ≡ Some t → IsPending root p
+      × (p.place ≡ o) → f.place ≡ o → f.entries.items ≡ es → table_at root o ≡ Some t → IsVisit root o v
   open_visit v p f t item folder table pending place entries is = record {
     item = subst (IsItemAt root o) (sym item) pending;
-    folder = subst (IsFolderAt root o) (sym folder) (place, and_both (list_all (is_entered root) (beginnings o)) (is_entered root o) h.way (entered_from root o h.listable (ap (is_listed_zone root) h.zone ∙ ap (λ x. is_listed_in_object x []) is)), subst (IsListing root o) (sym entries) h.listing);
+    folder = subst (IsFolderAt root o) (sym folder)
+        (place, and_both (list_all (is_entered root) (beginnings o)) (is_entered root o) h.way
+        (entered_from root o h.listable (ap (is_listed_zone root) h.zone ∙ ap (λ x. is_listed_in_object x []) is)), subst (IsListing root o) (sym entries) h.listing);
     table = subst (IsTableAt root o) (sym table) (h.zone, is);
   }
 

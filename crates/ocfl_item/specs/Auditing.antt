@@ -1,4 +1,5 @@
--- What calls above the store did to a store that tells its tree: one record where they succeed, and one for a fault.
+-- What calls above the store did to a store that tells its tree: one record where they succeed, and
+-- one for a fault.
 use Rattle.std.specs.Prelude.{◌≡◌, ◌&&◌, ℕ, ◌+◌, List, [], ◌∷◌, ◌++◌, true, false, filter, length}
 use Rattle.ocfl_tree.specs.Place.{Place}
 use Rattle.ocfl_tree.specs.StorageRoot.{StorageRoot}
@@ -16,7 +17,9 @@ use Rattle.ocfl_item.specs.declared.fault.Fault.TheVariants as fault
 abbrev pub IsMetadataRead : StorageRoot → List Opening → Type 0
 IsMetadataRead root trail = filter (λ o. o.failed && is_meta root o.place) trail ≡ []
 
--- from s to t these places were audited: the content files of those that are hashed were opened, in order, and nothing failed but these openings; these directories were listed, and the inventories of these objects opened, in order
+-- from s to t these places were audited: the content files of those that are hashed were opened, in
+-- order, and nothing failed but these openings; these directories were listed, and the inventories
+-- of these objects opened, in order
 pub record Audits (root : StorageRoot) (s t : Store) (places listed heads : List Place) (trail : List Opening) : Type 0 where
   pub over : s.tree ≡ root
   pub did : Did s t trail listed (length (unread_of root trail))
@@ -29,7 +32,8 @@ pub data FailedAt (root : StorageRoot) (listed : List Place) (trail : List Openi
   in_listing : (before : List Place) → listed ≡ before ++ q ∷ [] → IsMetadataRead root trail → FailedAt root listed trail q
   in_opening : (before : List Opening) (given : ℕ) → trail ≡ before ++ opening q given true ∷ [] → FailedAt root listed trail q
 
--- the same, and then there was a fault; one of the store names the place at which it failed, which is no hashed file's
+-- the same, and then there was a fault; one of the store names the place at which it failed, which
+-- is no hashed file's
 pub record Fails (root : StorageRoot) (s t : Store) (places listed heads : List Place) (trail : List Opening) (why : Fault) : Type 0 where
   pub over : s.tree ≡ root
   pub did : Did s t trail listed (length (unread_of root trail) + failures_by why)

@@ -15,7 +15,8 @@ use Rattle.ocfl_item.specs.declared.fault.Fault.TheVariants as fault
 abbrev pub HasShortFiles : StorageRoot → Type 0
 HasShortFiles root = (p : Place) (bytes : Text) → at root p ≡ Some (file bytes) → length bytes < 2 ^ 62
 
--- from s to t the item at p was judged: its file was opened if it is hashed, and else nothing; nothing was listed
+-- from s to t the item at p was judged: its file was opened if it is hashed, and else nothing;
+-- nothing was listed
 pub record Judges (root : StorageRoot) (s t : Store) (p : Place) (lines : List MadeLine) (cost : ℕ) : Type 0 where
   pub trail : List Opening
   pub audits : Audits root s t (p ∷ []) [] [] trail

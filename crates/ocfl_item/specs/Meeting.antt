@@ -21,7 +21,9 @@ use Rattle.ocfl_item.specs.declared.folder.Folder.{Folder}
 use Rattle.ocfl_item.specs.declared.pending.Pending.{Pending}
 use Rattle.ocfl_item.specs.declared.visit.Visit.{Visit}
 
--- from s to t just what is looked into and read at one place was listed and read: this directory, and the inventory of this object; no file was opened twice, and none where neither an object nor the storage root is
+-- from s to t just what is looked into and read at one place was listed and read: this directory,
+-- and the inventory of this object; no file was opened twice, and none where neither an object nor
+-- the storage root is
 pub record Meets (root : StorageRoot) (s t : Store) (e : Place) : Type 0 where
   pub over : s.tree ≡ root
   pub trail : List Opening

@@ -87,7 +87,8 @@ saturated b c k d small e = by (nat_lt (c + k) (2 ^ 64)) refl
 
 -- an item that stays in its part
 pub item_stays : (b s t : ℕ) (i : Told) (items : List Told) → b < 2 ^ 64 → (i.cost ≡ 0) ⊎ (s < b) → t ≡ min (s + i.cost) (2 ^ 64 - 1) → cuts_from b s (i ∷ items) ≡ cuts_from b t items
-item_stays b s t i items small h e = ap (λ x. cond x (cuts_from b (s + i.cost) items) (i.place ∷ cuts_from b i.cost items)) (stays h) ∙ begun_alike b (s + i.cost) t items (saturated b s i.cost t small e)
+item_stays b s t i items small h e = ap (λ x. cond x (cuts_from b (s + i.cost) items) (i.place ∷ cuts_from b i.cost items)) (stays h)
+    ∙ begun_alike b (s + i.cost) t items (saturated b s i.cost t small e)
   where
     or_true : (z : Bool) → (z || true) ≡ true
     or_true true = refl
@@ -136,7 +137,8 @@ module _ (b : ℕ) (small : b < 2 ^ 64) (done : List Line) (ps : List Place) (s 
       → IsCutSoFar b (done ++ l ∷ []) ps s (Some (record { place = i.place; cost = cost }))
   joins i cost e f h = record {
     texts = texts_more h.texts;
-    order = subst (λ p. (more : List Line) → AreInOrder (Some p) more ↔ AreInOrder None ((done ++ l ∷ []) ++ more)) (sym (place_cmp_exact i.place l.place e)) (order_more (Some i) (λ g. not_equal (sym e ∙ g)) h.order);
+    order = subst (λ p. (more : List Line) → AreInOrder (Some p) more ↔ AreInOrder None ((done ++ l ∷ []) ++ more)) (sym (place_cmp_exact i.place l.place e))
+        (order_more (Some i) (λ g. not_equal (sym e ∙ g)) h.order);
     cuts = cuts_more (Some i) ps s (Some (record { place = i.place; cost = cost })) h.cuts (λ more. ap (λ xs. ps ++ xs) (same more));
     below = h.below;
     few = h.few;
@@ -166,7 +168,8 @@ module _ (b : ℕ) (small : b < 2 ^ 64) (done : List Line) (ps : List Place) (s 
       not_less g = cc
 
       apart : (more : List Line) → ps ++ cuts_from b s (items_from (Some i) (l ∷ more)) ≡ ps ++ cuts_from b s (i ∷ items_from (Some (told l)) more)
-      apart more = ap (λ o. ps ++ cuts_from b s (cond (is_eq o) (items_from (Some (record { place = i.place; cost = i.cost + told_cost l.code l.detail })) more) (i ∷ items_from (Some (told l)) more))) e
+      apart more = ap (λ o. ps ++ cuts_from b s
+          (cond (is_eq o) (items_from (Some (record { place = i.place; cost = i.cost + told_cost l.code l.detail })) more) (i ∷ items_from (Some (told l)) more))) e
 
 -- ---- as the code has it
 
@@ -179,11 +182,13 @@ module _ (b : ℕ) (small : b < 2 ^ 64) (done : List Line) (ps : List Place) (s 
   same_taken i said cost e o f l has g =
       joins b small done ps s l has i cost (ap (λ t. place_cmp i.place t.place) (sym g) ∙ o) (f ∙ ap (λ t. min (i.cost + t.cost) (2 ^ 64 - 1)) g) (subst (IsCutSoFar b done ps s) e h)
 
-  pub later_taken : (i said : Told) (qs : List Place) (t : ℕ) → item ≡ Some i → place_cmp i.place said.place ≡ Less → ((items : List Told) → ps ++ cuts_from b s (i ∷ items) ≡ qs ++ cuts_from b t items)
+  pub later_taken : (i said : Told) (qs : List Place) (t : ℕ) → item ≡ Some i → place_cmp i.place said.place ≡ Less
+      → ((items : List Told) → ps ++ cuts_from b s (i ∷ items) ≡ qs ++ cuts_from b t items)
       → ((p : Place) → IsPlace p → place_cmp i.place p ≡ Less → AreSeparators (qs ++ p ∷ [])) → (length ps ≤ max_separators → length qs ≤ max_separators)
       → (l : Line) → HasText l → said ≡ told l → IsCutSoFar b (done ++ l ∷ []) qs t (Some said)
   later_taken i said qs t e o closes above few l has g =
-      subst (λ x. IsCutSoFar b (done ++ l ∷ []) qs t (Some x)) (sym g) (goes_on b small done ps s l has i qs t (ap (λ x. place_cmp i.place x.place) (sym g) ∙ o) closes above few (subst (IsCutSoFar b done ps s) e h))
+      subst (λ x. IsCutSoFar b (done ++ l ∷ []) qs t (Some x)) (sym g)
+          (goes_on b small done ps s l has i qs t (ap (λ x. place_cmp i.place x.place) (sym g) ∙ o) closes above few (subst (IsCutSoFar b done ps s) e h))
 
   -- all cuts, where no line follows
   cuts_whole : cuts b done ≡ ps ++ cuts_from b s (items_from item [])
@@ -199,7 +204,8 @@ module _ (b : ℕ) (small : b < 2 ^ 64) (done : List Line) (ps : List Place) (s 
   too_many : (i : Told) → item ≡ Some i → max_separators < length (ps ++ cuts_from b s (i ∷ [])) → max_separators < length (cuts b done)
   too_many i e l = subst (λ xs. max_separators < length xs) (sym (cuts_whole ∙ ap (λ x. ps ++ cuts_from b s (items_from x [])) e)) l
 
-  pub close_refused : (i : Told) (number : ℕ) (p : Place) (stop : SplitStop) → item ≡ Some i → (stop ≡ Many) ⊎ (stop ≡ Memory) → (stop ≡ Many → max_separators < length (ps ++ cuts_from b s (i ∷ []))) → TakesNotPlace b done number p stop
+  pub close_refused : (i : Told) (number : ℕ) (p : Place) (stop : SplitStop) → item ≡ Some i → (stop ≡ Many) ⊎ (stop ≡ Memory)
+      → (stop ≡ Many → max_separators < length (ps ++ cuts_from b s (i ∷ []))) → TakesNotPlace b done number p stop
   close_refused i number p (BadLine n) e (inl f) many = cc
   close_refused i number p (BadLine n) e (inr f) many = cc
   close_refused i number p Many e d many = too_many i e (many refl)
@@ -224,7 +230,8 @@ none_taken b ps e = record {
 }
 
 -- a line that may not follow at its place may not follow
-pub place_refused : (b : ℕ) (done : List Line) (number : ℕ) (text : Text) (p : Place) (l : Line) (stop : SplitStop) → IsLineText text l → p ≡ l.place → TakesNotPlace b done number p stop → TakesNot b done number text stop
+pub place_refused : (b : ℕ) (done : List Line) (number : ℕ) (text : Text) (p : Place) (l : Line) (stop : SplitStop) → IsLineText text l → p ≡ l.place
+    → TakesNotPlace b done number p stop → TakesNot b done number text stop
 place_refused b done number text p l (BadLine n) it e h = (h.0, λ m is order. h.1 m (ap (λ x. x.place) (line_text_read text m l is it) ∙ sym e) order)
 place_refused b done number text p l Many it e h = h
 place_refused b done number text p l Read it e h = tt

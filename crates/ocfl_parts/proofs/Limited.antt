@@ -1,4 +1,5 @@
--- What the first bytes of a reader tell of all of them, where one more is read than the text of separators can have.
+-- What the first bytes of a reader tell of all of them, where one more is read than the text of
+-- separators can have.
 use Rattle.std.proofs.Common.{◌≡◌, ◌⊎◌, inl, inr, ℕ, ◌<◌, ◌≤◌, [], ◌++◌, List, length, take, take_all, Option, Some, None, Result, Ok, Err, IfSome, IfOk, IfErr, subst, ◌∙◌, arith, length-take}
 use Rattle.std.specs.Option.{option_map}
 use Rattle.std.proofs.lemmas.Bool.{cases_lt}
@@ -55,7 +56,8 @@ stop_read (Some b) read stop is h = stop_limited b stop (subst (λ t. StopsRight
 
 -- ---- of the lines
 
-pub parts_of_lines : {E : Type 0} (b : Text) (r : Result (List Place) E) → length b ≤ max_bytes → IfOk r (λ ps. b ≡ parts_text ps) → IfOk r AreSeparators → IfOk r (λ ps. length ps ≤ max_separators) → IfOk r (λ ps. IsPartsText b ps)
+pub parts_of_lines : {E : Type 0} (b : Text) (r : Result (List Place) E) → length b ≤ max_bytes → IfOk r (λ ps. b ≡ parts_text ps) → IfOk r AreSeparators
+    → IfOk r (λ ps. length ps ≤ max_separators) → IfOk r (λ ps. IsPartsText b ps)
 parts_of_lines b (Ok ps) short e h few = record { separators = h; few = few; short = short; is = e }
 parts_of_lines b (Err d) short e h few = tt
 

@@ -46,7 +46,8 @@ pub no_line : (text : Text) → All (λ b. b ≢ 10) text → (p : Place) (after
 no_line text none p after e = separator_is_there 10 (place_text p) after (subst (All (λ b. b ≢ 10)) (e ∙ part_line-append p after) none)
 
 -- where one place is refused as a separator, so is each with that text
-pub other_refused : (text path rest : Text) (before : List Place) (q : Place) → text ≡ path ++ 10 ∷ rest → All (λ b. b ≢ 10) path → path ≡ place_text q → IsPlace q → (AreSeparators (before ++ q ∷ []) → ⊥)
+pub other_refused : (text path rest : Text) (before : List Place) (q : Place) → text ≡ path ++ 10 ∷ rest → All (λ b. b ≢ 10) path → path ≡ place_text q
+    → IsPlace q → (AreSeparators (before ++ q ∷ []) → ⊥)
     → (p : Place) (after : Text) → AreSeparators (before ++ p ∷ []) → text ≢ part_line p ++ after
 other_refused text path rest before q e first is names refused p after k f =
     let name = names_last before p k.names in
@@ -112,7 +113,8 @@ record GoesOnBefore (ps before : List Place) (tail rest : Text) : Type 0 where
   pub is : ps ≡ before ++ next ∷ more
   pub text : rest ≡ part_line next ++ (parts_text more ++ tail)
 
-goes_on_before : (ps before : List Place) (tail rest : Text) → All IsPlace ps → All IsPlace before → length before < length ps → parts_text ps ++ tail ≡ parts_text before ++ rest → GoesOnBefore ps before tail rest
+goes_on_before : (ps before : List Place) (tail rest : Text) → All IsPlace ps → All IsPlace before → length before < length ps
+    → parts_text ps ++ tail ≡ parts_text before ++ rest → GoesOnBefore ps before tail rest
 goes_on_before [] before tail rest h k l e = absurd (omega arith)
 goes_on_before (p ∷ ps) [] tail rest h k l e = record { next = p; more = ps; is = refl; text = sym e ∙ append_assoc (part_line p) (parts_text ps) tail }
 goes_on_before (p ∷ ps) (q ∷ qs) tail rest h k l e =

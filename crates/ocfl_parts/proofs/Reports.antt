@@ -60,7 +60,8 @@ lines_text-push : (ls : List Line) (l : Line) → lines_text (ls ++ l ∷ []) �
 lines_text-push ls l = flat_map-append line_text ls (l ∷ []) ∙ ap (λ t. lines_text ls ++ t) (append-nil (line_text l))
 
 -- one more line was read
-pub more_read : (known left next : Option Text) (done : List Line) (l : Line) (text bytes : Text) → Consumes known left (lines_text done) → Consumes left next text → bytes ≡ text → IsLineText bytes l → Consumes known next (lines_text (done ++ l ∷ []))
+pub more_read : (known left next : Option Text) (done : List Line) (l : Line) (text bytes : Text) → Consumes known left (lines_text done)
+    → Consumes left next text → bytes ≡ text → IsLineText bytes l → Consumes known next (lines_text (done ++ l ∷ []))
 more_read None left next done l text bytes h k e it = tt
 more_read (Some b) None next done l text bytes h k e it = absurd h
 more_read (Some b) (Some c) None done l text bytes h k e it = absurd k
@@ -76,7 +77,8 @@ module _ (b : ℕ) (done : List Line) (ps : List Place) (s : ℕ) (item : Option
   lines : AreLines done
   lines = are_lines b done ps s item h ((h.order []).0 tt)
 
-  pub split_read : (known left : Option Text) (qs : List Place) → Consumes known left (lines_text done) → IfSome left (λ bytes. bytes ≡ []) → (qs ≡ cuts b done) × (length qs ≤ max_separators) → IfSome known (λ bytes. IsSplit b bytes qs)
+  pub split_read : (known left : Option Text) (qs : List Place) → Consumes known left (lines_text done) → IfSome left (λ bytes. bytes ≡ []) → (qs ≡ cuts b done)
+      × (length qs ≤ max_separators) → IfSome known (λ bytes. IsSplit b bytes qs)
   split_read None left qs read end is = tt
   split_read (Some k) None qs read end is = absurd read
   split_read (Some k) (Some rest) qs read end is = record { lines = done; are = lines; is = read ∙ ap (λ t. lines_text done ++ t) end ∙ append-nil (lines_text done); cuts = is.0; few = is.1 }
@@ -90,7 +92,8 @@ module _ (b : ℕ) (done : List Line) (ps : List Place) (s : ℕ) (item : Option
   end_read (Some k) (Some rest) Memory read h = tt
 
   -- a line that was not taken
-  pub line_read : (known left : Option Text) (number : ℕ) (text bytes : Text) (stop : SplitStop) → Consumes known left (lines_text done) → number ≡ length done + 1 → IfSome left (λ xs. text ≡ take_through 10 xs) → text ≢ [] → bytes ≡ text
+  pub line_read : (known left : Option Text) (number : ℕ) (text bytes : Text) (stop : SplitStop) → Consumes known left (lines_text done)
+      → number ≡ length done + 1 → IfSome left (λ xs. text ≡ take_through 10 xs) → text ≢ [] → bytes ≡ text
       → TakesNot b done number bytes stop → IfSome known (λ xs. SplitStopsRightly b xs stop)
   line_read None left number text bytes stop read count line some e h = tt
   line_read (Some k) None number text bytes stop read count line some e h = absurd read

@@ -24,7 +24,8 @@ pub record BeginsWith (b : Text) (ps : List Place) (rest : Text) : Type 0 where
   pub is : b ≡ parts_text ps ++ rest
   pub more : rest ≢ []
 
--- the lines before this one are those of separators, and this one is not the line of one more: no place with its line feed, or not above the last
+-- the lines before this one are those of separators, and this one is not the line of one more: no
+-- place with its line feed, or not above the last
 pub record IsFirstBad (b : Text) (n : ℕ) : Type 0 where
   pub before : List Place
   pub rest : Text

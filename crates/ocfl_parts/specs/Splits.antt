@@ -12,7 +12,8 @@ use Rattle.ocfl_parts.specs.declared.costs.Told.{Told}
 
 -- ---- items
 
--- lines of one place that follow one another are one item, which costs what they say together. The first item may have been begun
+-- lines of one place that follow one another are one item, which costs what they say together. The
+-- first item may have been begun
 abbrev pub items_from : Option Told → List Line → List Told
 items_from None [] = []
 items_from None (l ∷ ls) = items_from (Some (told l)) ls
@@ -25,7 +26,8 @@ items_told ls = items_from None ls
 
 -- ---- cuts
 
--- an item that costs nothing stays in its part, and so does another while the part has spent less than the budget. Else it begins the next part
+-- an item that costs nothing stays in its part, and so does another while the part has spent less
+-- than the budget. Else it begins the next part
 abbrev pub cuts_from : ℕ → ℕ → List Told → List Place
 cuts_from budget spent [] = []
 cuts_from budget spent (i ∷ items) = if i.cost == 0 || nat_lt spent budget then cuts_from budget (spent + i.cost) items else i.place ∷ cuts_from budget i.cost items
@@ -66,7 +68,8 @@ pub record IsSplit (budget : ℕ) (b : Text) (ps : List Place) : Type 0 where
   pub cuts : ps ≡ cuts budget lines
   pub few : length ps ≤ max_separators
 
--- the lines before this one are those of a report, and this one is not the line of one more: it is no line with its line feed, or its place is less than the one before
+-- the lines before this one are those of a report, and this one is not the line of one more: it is
+-- no line with its line feed, or its place is less than the one before
 pub record IsBadReportLine (b : Text) (n : ℕ) : Type 0 where
   pub before : List Line
   pub rest : Text

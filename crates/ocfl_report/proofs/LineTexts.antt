@@ -77,5 +77,6 @@ pub line_text_read : (bytes : Text) (l m : Line) → IsLineText bytes l → IsLi
 line_text_read bytes l m h k = line_text_determines l m (IsLine-from_text bytes l h) (IsLine-from_text bytes m k) (sym h.is ∙ k.is)
 
 -- the text of the fields that were read is the line's
-pub text_from_fields : (bytes code place detail : Text) (l : Line) → bytes ≡ code ++ 9 ∷ place ++ 9 ∷ detail ++ 10 ∷ [] → code ≡ code_text l.code → place ≡ place_text l.place → detail ≡ escape l.detail → bytes ≡ line_text l
+pub text_from_fields : (bytes code place detail : Text) (l : Line) → bytes ≡ code ++ 9 ∷ place ++ 9 ∷ detail ++ 10 ∷ [] → code ≡ code_text l.code
+    → place ≡ place_text l.place → detail ≡ escape l.detail → bytes ≡ line_text l
 text_from_fields bytes code place detail l e f g h = e ∙ (λ i. f i ++ 9 ∷ g i ++ 9 ∷ h i ++ 10 ∷ [])

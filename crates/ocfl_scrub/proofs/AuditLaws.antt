@@ -75,7 +75,8 @@ module _ (root : StorageRoot) (part : Part) (s t : Store) (from : Option Place) 
 -- ---- a pass over all items of a part
 
 module _ (root : StorageRoot) (part : Part) (s t u : Store) (old new : Option (List ℕ)) (stood last : Option Place) (finding : Bool) (g : GoesDown root s t (entry part None)) where
-  pub finish_part : (h : Finishes root (end_of part) t u old new (stand root part None) stood finding) → last ≡ last_of None (due_in root (end_of part) (stand root part None)) → AuditsWithin (call_of root s u old new) part last finding
+  pub finish_part : (h : Finishes root (end_of part) t u old new (stand root part None) stood finding)
+      → last ≡ last_of None (due_in root (end_of part) (stand root part None)) → AuditsWithin (call_of root s u old new) part last finding
   finish_part h last_is =
       let all : List Place = due_in root (end_of part) (stand root part None) in
       let items : items_at root h.trail all ≡ items_in root (g.trail ++ h.trail) part = sym (above_at root part s t None g h.trail) in
@@ -91,7 +92,8 @@ module _ (root : StorageRoot) (part : Part) (s t u : Store) (old new : Option (L
         found_is = h.found_is ∙ ap found items;
       }
 
-  pub halt_part : (why : Fault) (h : Halts root (end_of part) t u old new (stand root part None) stood finding why) → last ≡ last_of None h.done → AuditStopsWithin (call_of root s u old new) part last finding why
+  pub halt_part : (why : Fault) (h : Halts root (end_of part) t u old new (stand root part None) stood finding why) → last ≡ last_of None h.done
+      → AuditStopsWithin (call_of root s u old new) part last finding why
   halt_part why h last_is =
       let left : List Place = due_in root (end_of part) stood in
       let next : items_at root h.trail (take 1 left) ≡ take 1 (items_at root h.trail left) = sym (take_items root h.trail 1 left) in
@@ -131,7 +133,8 @@ nothing_out items old last why other = record {
 }
 
 -- no walk was started
-pub unstarted : (root : StorageRoot) (part : Part) (s t : Store) (old : Option (List ℕ)) (why : Fault) → IsWayFault why → GoDownFails root s t (entry part None) why → AuditStopsWithin (call_of root s t old old) part None false why
+pub unstarted : (root : StorageRoot) (part : Part) (s t : Store) (old : Option (List ℕ)) (why : Fault) → IsWayFault why
+    → GoDownFails root s t (entry part None) why → AuditStopsWithin (call_of root s t old old) part None false why
 unfolding nothing_out
 unstarted root part s t old why only g = record {
   trail = g.trail;
@@ -150,8 +153,10 @@ module _ (root : StorageRoot) (s t : Store) (old new : Option (List ℕ)) (last 
   whole_audit h = record {
     trail = h.trail;
     audits = subst (λ ps. Audits root s t ps (looked_between root None None) (read_between root None None) h.trail) (all_places h.trail)
-        (subst (λ xs. Audits root s t (places (items_in root h.trail whole)) (looked_between root None None) (xs ++ read_between root None None) h.trail) (nothing_front h.looks.held h.looks.held_front)
-        (subst (λ xs. Audits root s t (places (items_in root h.trail whole)) (xs ++ looked_between root None None) (h.looks.held ++ read_between root None None) h.trail) (nothing_front h.looks.down h.looks.down_front) h.looks.audits));
+        (subst (λ xs. Audits root s t (places (items_in root h.trail whole)) (looked_between root None None) (xs ++ read_between root None None) h.trail)
+            (nothing_front h.looks.held h.looks.held_front)
+        (subst (λ xs. Audits root s t (places (items_in root h.trail whole)) (xs ++ looked_between root None None) (h.looks.held ++ read_between root None None)
+            h.trail) (nothing_front h.looks.down h.looks.down_front) h.looks.audits));
     wrote = h.wrote;
     last_is = h.last_is ∙ ap (last_of None) (all_places h.trail);
     found_is = h.found_is;
@@ -165,7 +170,8 @@ module _ (root : StorageRoot) (s t : Store) (old new : Option (List ℕ)) (last 
     listed = h.looks.listed;
     heads = h.looks.heads;
     fails = subst (λ xs. Fails root s t (places h.stops.whole ++ h.stops.begun) h.looks.listed (xs ++ h.looks.heads) h.trail why) (nothing_front h.looks.held h.looks.held_front)
-        (subst (λ xs. Fails root s t (places h.stops.whole ++ h.stops.begun) (xs ++ h.looks.listed) (h.looks.held ++ h.looks.heads) h.trail why) (nothing_front h.looks.down h.looks.down_front) h.looks.fails);
+        (subst (λ xs. Fails root s t (places h.stops.whole ++ h.stops.begun) (xs ++ h.looks.listed) (h.looks.held ++ h.looks.heads) h.trail why)
+            (nothing_front h.looks.down h.looks.down_front) h.looks.fails);
     listed_front = h.looks.listed_front;
     heads_front = h.looks.heads_front;
   }
@@ -181,13 +187,15 @@ none_left [] n e = refl
 none_left (x ∷ xs) n e = absurd (omega (arith, e))
 
 -- what was written is the text of the audit of files that can all be read
-pub nothing_unread : (root : StorageRoot) (part : Part) (s t : Store) (old new : Option (List ℕ)) (last : Option Place) (finding : Bool) (end : End) → AuditEndsWithin (call_of root s t old new) part last finding end → end ≡ Ended
+pub nothing_unread : (root : StorageRoot) (part : Part) (s t : Store) (old new : Option (List ℕ)) (last : Option Place) (finding : Bool) (end : End)
+    → AuditEndsWithin (call_of root s t old new) part last finding end → end ≡ Ended
     → t.failures ≡ s.failures → Appends old new (text (within part (audit root []))) × (finding ≡ found (within part (audit root [])))
 nothing_unread root part s t old new last finding Ended h e same =
     let none : unread_of root h.trail ≡ [] = none_left (unread_of root h.trail) s.failures (sym same ∙ h.looks.audits.did.failures_are) in
     (subst (λ u. Appends old new (text (within part (audit root u)))) none h.wrote, h.found_is ∙ ap (λ u. found (within part (audit root u))) none)
 nothing_unread root part s t old new last finding (Stopped why) h e same = absurd cc
 
-pub whole_unread : (root : StorageRoot) (part : Part) (old new : Option (List ℕ)) (finding : Bool) → part ≡ whole → Appends old new (text (within part (audit root []))) × (finding ≡ found (within part (audit root [])))
+pub whole_unread : (root : StorageRoot) (part : Part) (old new : Option (List ℕ)) (finding : Bool) → part ≡ whole
+    → Appends old new (text (within part (audit root []))) × (finding ≡ found (within part (audit root [])))
     → Appends old new (text (audit root [])) × (finding ≡ found (audit root []))
 whole_unread root part old new finding e h = subst (λ p. Appends old new (text (within p (audit root []))) × (finding ≡ found (within p (audit root [])))) e h

@@ -25,7 +25,8 @@ use Rattle.ocfl_scrub.proofs.AuditLaws.{finish_part, halt_part}
 use Rattle.ocfl_scrub.proofs.PassLaws.{passes_none, passes_over, passes_took, passes_missed, passes_lost, passes_finish, all_done, last_append}
 use Rattle.ocfl_scrub.proofs.LoopLaws.{IsUnderWay, GivesNext, GivesItem, gives_item, walked_over}
 
--- from s to t a walk went down to where a part begins, the items from there on were taken, and the walk stands after the last of them
+-- from s to t a walk went down to where a part begins, the items from there on were taken, and the
+-- walk stands after the last of them
 pub record HasTaken (root : StorageRoot) (part : Part) (s t : Store) (old new : Option (List ℕ)) (walk : Walk) (last : Option Place) (finding : Bool) : Type 0 where
   pub begun : Store
   pub stood : Option Place
@@ -35,7 +36,8 @@ pub record HasTaken (root : StorageRoot) (part : Part) (s t : Store) (old new : 
   pub passes : Passes root (end_of part) begun t old new (stand root part None) stood finding
   pub last_is : last ≡ last_of None passes.done
 
-pub nothing_taken : (root : StorageRoot) (part : Part) (s t : Store) (old : Option (List ℕ)) (walk : Walk) → GoesDown root s t (entry part None) × Stands root walk (stand root part None) → HasTaken root part s t old old walk None false
+pub nothing_taken : (root : StorageRoot) (part : Part) (s t : Store) (old : Option (List ℕ)) (walk : Walk) → GoesDown root s t (entry part None)
+    × Stands root walk (stand root part None) → HasTaken root part s t old old walk None false
 unfolding passes_none
 nothing_taken root part s t old walk there = record {
   begun = t;
@@ -62,7 +64,8 @@ module _ {root : StorageRoot} {s t : Store} {old mid : Option (List ℕ)} {walk 
       item : GivesItem root (end_of part) t u h.stood next q
       item = gives_item root (end_of part) t u walk next h.stood _ _ gave (passes_over h.passes) way.live h.stands is before
 
-      pub audit_took : (place : Place) (cost : ℕ) (more either : Bool) → place ≡ q.place → either ≡ (finding || more) → (u.tree ≡ root → IsPending root q → Takes (call_of root u v mid new) q.place cost more)
+      pub audit_took : (place : Place) (cost : ℕ) (more either : Bool) → place ≡ q.place → either ≡ (finding || more)
+          → (u.tree ≡ root → IsPending root q → Takes (call_of root u v mid new) q.place cost more)
           → HasTaken root part s v old new next (Some place) either
       unfolding passes_took
       audit_took place cost more either e f takes = subst (λ p. HasTaken root part s v old new next (Some p) either) (sym e) (record {
@@ -71,17 +74,21 @@ module _ {root : StorageRoot} {s t : Store} {old mid : Option (List ℕ)} {walk 
         down = h.down;
         stands = item.gives.1;
         beyond = gone_next (end_of part) (stand root part None) h.stood q.place h.beyond item.above item.in_front;
-        passes = passes_took root (end_of part) h.begun t u old mid (stand root part None) h.stood finding h.beyond h.passes q.place item.above item.gives.3 item.in_front item.gives.0 v new cost more either (takes (walked_over item.gives.0) item.gives.2) f;
+        passes = passes_took root (end_of part) h.begun t u old mid (stand root part None) h.stood finding h.beyond h.passes q.place item.above item.gives.3
+            item.in_front item.gives.0 v new cost more either (takes (walked_over item.gives.0) item.gives.2) f;
         last_is = sym (last_append None h.passes.done q.place);
       })
 
       pub audit_missed : (why : Fault) → (u.tree ≡ root → IsPending root q → Misses (call_of root u v mid new) q.place why) → AuditStopsWithin (call_of root s v old new) part last finding why
       unfolding passes_missed
       audit_missed why misses = halt_part root part s h.begun v old new h.stood last finding h.down why
-          (passes_missed root (end_of part) h.begun t u old mid (stand root part None) h.stood finding h.beyond h.passes q.place item.above item.gives.3 item.in_front item.gives.0 v new why (misses (walked_over item.gives.0) item.gives.2)) h.last_is
+          (passes_missed root (end_of part) h.begun t u old mid (stand root part None) h.stood finding h.beyond h.passes q.place item.above item.gives.3
+              item.in_front item.gives.0 v new why (misses (walked_over item.gives.0) item.gives.2)) h.last_is
 
   -- the walk did not get to its next item
-  pub audit_lost : (why : Fault) → (IsLive walk → IsWayFault why) → (t.tree ≡ root → IsLive walk → (p : Option Place) → Stands root walk p → FailsOut root t u p (end_of part) why) → AuditStopsWithin (call_of root s u old mid) part last finding why
+  pub audit_lost : (why : Fault) → (IsLive walk → IsWayFault why)
+      → (t.tree ≡ root → IsLive walk → (p : Option Place) → Stands root walk p → FailsOut root t u p (end_of part) why) → AuditStopsWithin (call_of root s u old mid) part last finding why
   unfolding passes_lost
   audit_lost why only lost = halt_part root part s h.begun u old mid h.stood last finding h.down why
-      (passes_lost root (end_of part) h.begun t u old mid (stand root part None) h.stood finding h.beyond h.passes why (only way.live).0 (lost (passes_over h.passes) way.live h.stood h.stands)) h.last_is
+      (passes_lost root (end_of part) h.begun t u old mid (stand root part None) h.stood finding h.beyond h.passes why (only way.live).0
+          (lost (passes_over h.passes) way.live h.stood h.stands)) h.last_is

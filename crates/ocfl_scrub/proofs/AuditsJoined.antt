@@ -25,7 +25,8 @@ hashed_are_among : (root : StorageRoot) (ps : List Place) (p : Place) → IsAmon
 unfolding hashed_among
 hashed_are_among root ps p i = (among_from_filter (is_hashed root) ps p i).0
 
-failed_among : (os : List Opening) (p : Place) → IsAmong (map (λ (e : Place × ℕ). e.0) (map (λ (o : Opening). (o.place, o.given)) (filter (λ (o : Opening). o.failed) os))) p → IsAmong (map (λ o. o.place) os) p
+failed_among : (os : List Opening) (p : Place)
+    → IsAmong (map (λ (e : Place × ℕ). e.0) (map (λ (o : Opening). (o.place, o.given)) (filter (λ (o : Opening). o.failed) os))) p → IsAmong (map (λ o. o.place) os) p
 failed_among [] p i = i
 failed_among (o ∷ os) p i = by o.failed i (failed_among os p)
   where
@@ -61,7 +62,8 @@ module _ (p : Place) where
       by Greater f k = k
 
 -- a place that is none of ps is not unread in a trail over ps
-not_unread : (root : StorageRoot) (os : List Opening) (ps : List Place) (p : Place) → content_trail root os ≡ hashed_among root ps → (IsAmong ps p → ⊥) → IsAmong (map (λ (e : Place × ℕ). e.0) (unread_of root os)) p → ⊥
+not_unread : (root : StorageRoot) (os : List Opening) (ps : List Place) (p : Place) → content_trail root os ≡ hashed_among root ps → (IsAmong ps p → ⊥)
+    → IsAmong (map (λ (e : Place × ℕ). e.0) (unread_of root os)) p → ⊥
 not_unread root os ps p e h i = h (hashed_are_among root ps p (subst (λ qs. IsAmong qs p) e (failed_among (content_openings root os) p i)))
 
 not_after : (ps qs : List Place) (p : Place) → IsAscending place_cmp (ps ++ qs) → IsAmong ps p → IsAmong qs p → ⊥
@@ -76,21 +78,24 @@ AgreeAt u v (p ∷ ps) = (given_by u p ≡ given_by v p) × AgreeAt u v ps
 
 items_agree : (root : StorageRoot) (u v : Unread) (ps : List Place) → AgreeAt u v ps → map (item_of root u) ps ≡ map (item_of root v) ps
 items_agree root u v [] h = refl
-items_agree root u v (p ∷ ps) h = ap (λ g. record { place = p; lines = lines_at p (notes root g p); cost = cost root g p } ∷ map (item_of root u) ps) h.0 ∙ ap (λ is. item_of root v p ∷ is) (items_agree root u v ps h.1)
+items_agree root u v (p ∷ ps) h = ap (λ g. record { place = p; lines = lines_at p (notes root g p); cost = cost root g p } ∷ map (item_of root u) ps) h.0
+    ∙ ap (λ is. item_of root v p ∷ is) (items_agree root u v ps h.1)
 
 agree_all : (u v : Unread) (ps : List Place) → ((p : Place) → IsAmong ps p → given_by u p ≡ given_by v p) → AgreeAt u v ps
 agree_all u v [] h = tt
 agree_all u v (p ∷ ps) h = (h p (inl refl), agree_all u v ps (λ q i. h q (inr i)))
 
 -- a trail over later places changes nothing at earlier ones
-pub items_before : (root : StorageRoot) (os os' : List Opening) (ps qs : List Place) → IsAscending place_cmp (ps ++ qs) → content_trail root os' ≡ hashed_among root qs → items_at root (os ++ os') ps ≡ items_at root os ps
+pub items_before : (root : StorageRoot) (os os' : List Opening) (ps qs : List Place) → IsAscending place_cmp (ps ++ qs)
+    → content_trail root os' ≡ hashed_among root qs → items_at root (os ++ os') ps ≡ items_at root os ps
 unfolding items_at
 items_before root os os' ps qs h e =
     items_agree root _ _ ps (agree_all _ _ ps (λ p i.
     ap (λ u. given_by u p) (unread_append root os os') ∙ given_left p _ _ (given_none p (unread_of root os') (not_unread root os' qs p e (not_after ps qs p h i)))))
 
 -- nor the other way round
-pub items_behind : (root : StorageRoot) (os os' : List Opening) (ps qs : List Place) → IsAscending place_cmp (ps ++ qs) → content_trail root os ≡ hashed_among root ps → items_at root (os ++ os') qs ≡ items_at root os' qs
+pub items_behind : (root : StorageRoot) (os os' : List Opening) (ps qs : List Place) → IsAscending place_cmp (ps ++ qs)
+    → content_trail root os ≡ hashed_among root ps → items_at root (os ++ os') qs ≡ items_at root os' qs
 unfolding items_at
 items_behind root os os' ps qs h e =
     items_agree root _ _ qs (agree_all _ _ qs (λ p i.

@@ -61,7 +61,8 @@ unfolding items_at
 items_alike root p a b e = ap (λ v. item_of root v p ∷ []) e
 
 -- what was read on the way down has no part in it
-joined_item : (root : StorageRoot) (front trail : List Opening) (p : Place) → content_trail root front ≡ [] → notes root None p ≢ [] → checked_item root (front ++ trail) p ≡ items_at root trail (p ∷ [])
+joined_item : (root : StorageRoot) (front trail : List Opening) (p : Place) → content_trail root front ≡ [] → notes root None p ≢ []
+    → checked_item root (front ++ trail) p ≡ items_at root trail (p ∷ [])
 joined_item root front trail p meta some = some_item root (front ++ trail) p some ∙ items_alike root p (front ++ trail) trail (unread_behind root front trail meta)
 
 -- nothing is hashed where there are no lines
@@ -113,7 +114,8 @@ then_one : (root : StorageRoot) (p : Place) (front trail : List Opening) → con
 then_one root p front trail meta once (inl e) = subst AreOnce (sym (append-nil front) ∙ ap (λ os. front ++ os) (sym e)) once
 then_one root p front trail meta once (inr k) =
     subst (λ os. AreOnce (front ++ os)) (sym k.1.0)
-    (all_pairs_push (λ a b. a.place ≢ b.place) front k.0 once (λ i d l e. true_not_false (sym (meta_at root front i d l (all_meta root front meta)) ∙ ap (is_meta root) (e ∙ k.1.1.0) ∙ hashed_no_meta root p k.1.1.1)))
+    (all_pairs_push (λ a b. a.place ≢ b.place) front k.0 once
+        (λ i d l e. true_not_false (sym (meta_at root front i d l (all_meta root front meta)) ∙ ap (is_meta root) (e ∙ k.1.1.0) ∙ hashed_no_meta root p k.1.1.1)))
 
 -- ---- the way down, and then the item
 
@@ -135,7 +137,8 @@ module _ (root : StorageRoot) (p : Place) where
           trail = g.trail;
           listed = g.listed;
           heads = g.heads;
-          audits = record { over = g.audits.over; did = g.audits.did; read = g.audits.read; opened = g.audits.opened ∙ nothing_hashed root ∙ sym (lines_free root p none); heads_are = g.audits.heads_are };
+          audits = record { over = g.audits.over; did = g.audits.did; read = g.audits.read; opened = g.audits.opened ∙ nothing_hashed root
+              ∙ sym (lines_free root p none); heads_are = g.audits.heads_are };
           just = record { listed_front = g.listed_front; heads_front = g.heads_front; once = g.once };
           wrote = subst (λ is. Appends old old (text is)) (sym e) (Appends-nil old);
           item_is = sym (ap (λ is. not (is_empty is)) e);
@@ -199,14 +202,17 @@ module _ (root : StorageRoot) (p : Place) where
 
 -- ---- at the ends that a call gives
 
-pub check_stopped : (root : StorageRoot) (s t : Store) (old new : Option (List ℕ)) (p : Place) (item finding : Bool) (why : Fault) (end : End) → end ≡ Stopped why → CheckStops (call_of root s t old new) p why → CheckEnds (call_of root s t old new) p item finding end
+pub check_stopped : (root : StorageRoot) (s t : Store) (old new : Option (List ℕ)) (p : Place) (item finding : Bool) (why : Fault) (end : End)
+    → end ≡ Stopped why → CheckStops (call_of root s t old new) p why → CheckEnds (call_of root s t old new) p item finding end
 check_stopped root s t old new p item finding why end e w = subst (λ x. CheckEnds (call_of root s t old new) p item finding x) (sym e) w
 
-pub check_took : (root : StorageRoot) (s t u : Store) (old new : Option (List ℕ)) (p q : Place) (cost : ℕ) (finding : Bool) → q ≡ p → GoesDown root s t (Some p) → notes root None p ≢ [] → Takes (call_of root t u old new) q cost finding
+pub check_took : (root : StorageRoot) (s t u : Store) (old new : Option (List ℕ)) (p q : Place) (cost : ℕ) (finding : Bool) → q ≡ p → GoesDown root s t (Some p)
+    → notes root None p ≢ [] → Takes (call_of root t u old new) q cost finding
     → Checks (call_of root s u old new) p true finding
 check_took root s t u old new p q cost finding e g some k = down_and_taken root p s t u old new g some cost finding (subst (λ x. Takes (call_of root t u old new) x cost finding) e k)
 
-pub check_missed : (root : StorageRoot) (s t u : Store) (old new : Option (List ℕ)) (p q : Place) (item finding : Bool) (why : Fault) (end : End) → end ≡ Stopped why → q ≡ p → GoesDown root s t (Some p) → notes root None p ≢ []
+pub check_missed : (root : StorageRoot) (s t u : Store) (old new : Option (List ℕ)) (p q : Place) (item finding : Bool) (why : Fault) (end : End)
+    → end ≡ Stopped why → q ≡ p → GoesDown root s t (Some p) → notes root None p ≢ []
     → Misses (call_of root t u old new) q why → CheckEnds (call_of root s u old new) p item finding end
 check_missed root s t u old new p q item finding why end f e g some k =
     check_stopped root s u old new p item finding why end f (down_and_missed root p s t u old new g some why (subst (λ x. Misses (call_of root t u old new) x why) e k))

@@ -178,7 +178,8 @@ paid_by_less : (l : Limits) (s f : ℕ) (items : List Item) → Paid l s f items
 paid_by_less l s f [] h k = absurd (omega (arith, k))
 paid_by_less l s f (i ∷ items) h k = by (last_cost items == 0) refl (paid_by_less l (s + i.cost) (f + files_of i.cost) items h.1)
   where
-    by : (r : Bool) → last_cost items == 0 ≡ r → (0 < total_cost items → s + i.cost + total_cost items < l.budget + last_cost items) → s + (i.cost + total_cost items) < l.budget + cond r i.cost (last_cost items)
+    by : (r : Bool) → last_cost items == 0 ≡ r → (0 < total_cost items → s + i.cost + total_cost items < l.budget + last_cost items)
+        → s + (i.cost + total_cost items) < l.budget + cond r i.cost (last_cost items)
     by true e rest =
         let z = zero_costs items (eqb-true (last_cost items) 0 e) in
         let p : 0 < i.cost = omega (arith, z, k) in

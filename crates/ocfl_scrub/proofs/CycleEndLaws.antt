@@ -105,7 +105,8 @@ module _ (root : StorageRoot) (part : Part) (s t : Store) (old new : Option (Lis
             (to_end (limits_join limits items (omega (arith, p, fits)) files_fit (omega (arith, sum, w))), omega (arith, counted, m));
       }
 
-  pub cycle_stops : (why : Fault) → 1 ≤ count → PartsStop root part s t old new None last limits spent files finding count why → CycleStopsWithin (call_of root s t old new) part last limits spent files finding count why
+  pub cycle_stops : (why : Fault) → 1 ≤ count → PartsStop root part s t old new None last limits spent files finding count why
+      → CycleStopsWithin (call_of root s t old new) part last limits spent files finding count why
   cycle_stops why some h =
       let whole : List Item = items_at root h.trail h.done in
       let at_places : h.done ≡ places whole = sym (places_of_items root h.trail h.done) in
@@ -137,7 +138,8 @@ module _ (root : StorageRoot) (part : Part) (s t : Store) (old new : Option (Lis
   part_places : (os : List Opening) → places (items_in root os part) ≡ places_within part (item_places root)
   part_places os = ap places (part_is root part os) ∙ places_of_items root os (due_within root part None) ∙ ap (places_within part) (due_all root)
 
-  part_headline : (ends : Bool) → CyclesWithin (call_of root s t old new) part last limits spent files finding count ends → t.failures ≡ s.failures → HeadlineWithin (call_of root s t old new) part limits count ends
+  part_headline : (ends : Bool) → CyclesWithin (call_of root s t old new) part last limits spent files finding count ends → t.failures ≡ s.failures
+      → HeadlineWithin (call_of root s t old new) part limits count ends
   part_headline ends h same =
       let none : unread_of root h.trail ≡ [] = none_left (unread_of root h.trail) s.failures (sym same ∙ h.audits.did.failures_are) in
       record {
@@ -153,18 +155,21 @@ module _ (root : StorageRoot) (part : Part) (s t : Store) (old new : Option (Lis
         );
       }
 
-  headline_ends : (end : CycleStatus) → CycleEndsWithin (call_of root s t old new) part last limits spent files finding count end → t.failures ≡ s.failures → HeadlineOfPart (call_of root s t old new) part limits count end
+  headline_ends : (end : CycleStatus) → CycleEndsWithin (call_of root s t old new) part last limits spent files finding count end → t.failures ≡ s.failures
+      → HeadlineOfPart (call_of root s t old new) part limits count end
   headline_ends Ended h same = part_headline true h same
   headline_ends Spent h same = part_headline false h same
   headline_ends (Stopped why) h same = tt
 
-pub headline_of_part : (root : StorageRoot) (part : Part) (s t : Store) (old new : Option (List ℕ)) (limits : List Limits) (c : Cursor) (finding : Bool) (end : CycleStatus) (count : ℕ) → count ≡ c.runs
+pub headline_of_part : (root : StorageRoot) (part : Part) (s t : Store) (old new : Option (List ℕ)) (limits : List Limits) (c : Cursor) (finding : Bool)
+    (end : CycleStatus) (count : ℕ) → count ≡ c.runs
     → CyclesToWithin (call_of root s t old new) part limits c finding end → t.failures ≡ s.failures → HeadlineOfPart (call_of root s t old new) part limits count end
 headline_of_part root part s t old new limits c finding end count is h same =
     subst (λ n. HeadlineOfPart (call_of root s t old new) part limits n end) (sym is) (headline_ends root part s t old new h.last limits c.spent c.files finding c.runs end h.cycle same)
 
 -- without limits nothing is done
-pub cycles_none : (root : StorageRoot) (part : Part) (s : Store) (old : Option (List ℕ)) (limits : List Limits) → limits ≡ [] → s.tree ≡ root → CyclesWithin (call_of root s s old old) part None limits 0 0 false 0 false
+pub cycles_none : (root : StorageRoot) (part : Part) (s : Store) (old : Option (List ℕ)) (limits : List Limits) → limits ≡ [] → s.tree ≡ root
+    → CyclesWithin (call_of root s s old old) part None limits 0 0 false 0 false
 cycles_none root part s old limits e over = subst (λ ls. CyclesWithin (call_of root s s old old) part None ls 0 0 false 0 false) (sym e) (record {
   trail = [];
   listed = [];
@@ -185,7 +190,8 @@ cycles_none root part s old limits e over = subst (λ ls. CyclesWithin (call_of 
 
 module _ (root : StorageRoot) (limits : List Limits) (count : ℕ) where
   -- the audit has an item, so what is taken of it is not all before a run was made
-  pub some_run : (os : List Opening) → count ≡ length (runs (audit root (unread_of root os)) limits) → joined (runs (audit root (unread_of root os)) limits) ≡ audit root (unread_of root os) → 1 ≤ count
+  pub some_run : (os : List Opening) → count ≡ length (runs (audit root (unread_of root os)) limits)
+      → joined (runs (audit root (unread_of root os)) limits) ≡ audit root (unread_of root os) → 1 ≤ count
   some_run os counted e = by (runs (audit root (unread_of root os)) limits) refl
     where
       some_items : is_empty (audit root (unread_of root os)) ≡ false
@@ -198,7 +204,8 @@ module _ (root : StorageRoot) (limits : List Limits) (count : ℕ) where
 pub few_inventories : (root : StorageRoot) (count : ℕ) (heads : List Place) → length heads < inventories_in root whole + count → length heads < length (inventories root) + count
 few_inventories root count heads h = let n = inventory_count root in omega (arith, h, n)
 
-whole_headline : (root : StorageRoot) (s t : Store) (old new : Option (List ℕ)) (limits : List Limits) (count : ℕ) (ends : Bool) → HeadlineWithin (call_of root s t old new) whole limits count ends → Headline (call_of root s t old new) limits count ends
+whole_headline : (root : StorageRoot) (s t : Store) (old new : Option (List ℕ)) (limits : List Limits) (count : ℕ) (ends : Bool)
+    → HeadlineWithin (call_of root s t old new) whole limits count ends → Headline (call_of root s t old new) limits count ends
 whole_headline root s t old new limits count ends h = record {
   trail = h.trail;
   opened = h.opened;
@@ -209,7 +216,8 @@ whole_headline root s t old new limits count ends h = record {
   ends_within = h.ends_within;
 }
 
-pub headline_of : (root : StorageRoot) (s t : Store) (old new : Option (List ℕ)) (limits : List Limits) (count : ℕ) (end : CycleStatus) → HeadlineOfPart (call_of root s t old new) whole limits count end → HeadlineOf (call_of root s t old new) limits count end
+pub headline_of : (root : StorageRoot) (s t : Store) (old new : Option (List ℕ)) (limits : List Limits) (count : ℕ) (end : CycleStatus)
+    → HeadlineOfPart (call_of root s t old new) whole limits count end → HeadlineOf (call_of root s t old new) limits count end
 headline_of root s t old new limits count Ended h = whole_headline root s t old new limits count true h
 headline_of root s t old new limits count Spent h = whole_headline root s t old new limits count false h
 headline_of root s t old new limits count (Stopped why) h = tt

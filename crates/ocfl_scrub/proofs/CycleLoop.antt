@@ -85,7 +85,9 @@ module _ (c now reached : Cursor) (cost opened : ℕ) (end : RunStatus) (last : 
 pub lines_said : (old new : Option (List ℕ)) (finding reported : Bool) → reported ≡ finding → WritesLines old new finding → WritesLines old new reported
 lines_said old new finding reported e h = subst (WritesLines old new) (sym e) h
 
-pub cycle_said : (root : StorageRoot) (part : Part) (s t : Store) (old new : Option (List ℕ)) (all : List Limits) (c d : Cursor) (finding reported : Bool) (end last_end : CycleStatus) → d ≡ c → reported ≡ finding → last_end ≡ end
+pub cycle_said : (root : StorageRoot) (part : Part) (s t : Store) (old new : Option (List ℕ)) (all : List Limits) (c d : Cursor) (finding reported : Bool)
+    (end last_end : CycleStatus) → d ≡ c → reported ≡ finding → last_end ≡ end
     → CyclesToWithin (call_of root s t old new) part all c finding end → CyclesToWithin (call_of root s t old new) part all d reported last_end
 cycle_said root part s t old new all c d finding reported end last_end e f g h =
-    subst (CyclesToWithin (call_of root s t old new) part all d reported) (sym g) (subst (λ v. CyclesToWithin (call_of root s t old new) part all d v end) (sym f) (subst (λ x. CyclesToWithin (call_of root s t old new) part all x finding end) (sym e) h))
+    subst (CyclesToWithin (call_of root s t old new) part all d reported) (sym g)
+        (subst (λ v. CyclesToWithin (call_of root s t old new) part all d v end) (sym f) (subst (λ x. CyclesToWithin (call_of root s t old new) part all x finding end) (sym e) h))

@@ -24,11 +24,13 @@ use Rattle.ocfl_scrub.proofs.RunPlaces.{turn_of}
 use Rattle.ocfl_scrub.proofs.RunsJoined.{Parts, PartsStop, PartsEnd, parts_none, parts_unbegun, parts_ended, parts_stopped, next_some, ends_then}
 use Rattle.ocfl_scrub.proofs.CycleEndLaws.{cycles, cycle_stops, cycles_none}
 
--- where a cycle of all limits has come: whatever the runs of the limits that are left do from here, with them the cycle is whole
+-- where a cycle of all limits has come: whatever the runs of the limits that are left do from here,
+-- with them the cycle is whole
 pub record GoesOn (root : StorageRoot) (part : Part) (s t : Store) (old mid : Option (List ℕ)) (last : Option Place) (limits all : List Limits) (spent files : ℕ) (finding : Bool) (count : ℕ) : Type 0 where
   pub over : t.tree ≡ root
   pub out : limits ≡ [] → CyclesWithin (call_of root s t old mid) part last all spent files finding count false
-  pub go : (u : Store) (new : Option (List ℕ)) (last' : Option Place) (spent' files' : ℕ) (finding' : Bool) (n : ℕ) (end : CycleStatus) → PartsEnd root part t u mid new last last' limits spent' files' finding' n end
+  pub go : (u : Store) (new : Option (List ℕ)) (last' : Option Place) (spent' files' : ℕ) (finding' : Bool) (n : ℕ) (end : CycleStatus)
+      → PartsEnd root part t u mid new last last' limits spent' files' finding' n end
       → PartsEnd root part s u old new None last' all (spent + spent') (files + files') (finding || finding') (count + n) end
 
 -- the same of a cursor
@@ -60,7 +62,8 @@ or_assoc false b c = refl
 
 -- the figures of some runs, said another way
 module _ (root : StorageRoot) (part : Part) (s t : Store) (old new : Option (List ℕ)) (last : Option Place) (all : List Limits) where
-  figures : (end : CycleStatus) (a a' b b' n n' : ℕ) (v v' : Bool) → a ≡ a' → b ≡ b' → v ≡ v' → n ≡ n' → PartsEnd root part s t old new None last all a b v n end → PartsEnd root part s t old new None last all a' b' v' n' end
+  figures : (end : CycleStatus) (a a' b b' n n' : ℕ) (v v' : Bool) → a ≡ a' → b ≡ b' → v ≡ v' → n ≡ n'
+      → PartsEnd root part s t old new None last all a b v n end → PartsEnd root part s t old new None last all a' b' v' n' end
   figures end a a' b b' n n' v v' e f g h k =
       subst (λ m. PartsEnd root part s t old new None last all a' b' v' m end) h
       (subst (λ w. PartsEnd root part s t old new None last all a' b' w n end) g
@@ -77,7 +80,8 @@ goes_start root part s old all over = record {
 }
 
 module _ (root : StorageRoot) (part : Part) (s t u : Store) (old mid new : Option (List ℕ)) (last next_last : Option Place) (l : Limits) (ls all : List Limits) (spent files cost opened : ℕ) (finding more : Bool) (count : ℕ) (g : GoesOn root part s t old mid last (l ∷ ls) all spent files finding count) where
-  goes_run : (next : Place) → RunsWithin (call_of root t u mid new) part last next_last l cost opened more (Some next) → GoesOn root part s u old new next_last ls all (spent + cost) (files + opened) (finding || more) (count + 1)
+  goes_run : (next : Place) → RunsWithin (call_of root t u mid new) part last next_last l cost opened more (Some next)
+      → GoesOn root part s u old new next_last ls all (spent + cost) (files + opened) (finding || more) (count + 1)
   goes_run next h =
       let turn = turn_of root part t u mid new last next_last l cost opened more (Some next) h in
       let left = next_some root part t u mid new last next_last l cost opened more ls next turn in
@@ -94,10 +98,13 @@ module _ (root : StorageRoot) (part : Part) (s t u : Store) (old mid new : Optio
             (ends_then root part t u mid new last next_last l cost opened more ls next turn v out last' spent' files' finding' n end k));
       }
 
-  goes_ended : RunsWithin (call_of root t u mid new) part last next_last l cost opened more None → Parts root part s u old new None next_last all (spent + cost) (files + opened) (finding || more) (count + 1) true
-  goes_ended h = g.go u new next_last cost opened more 1 cycle.Ended (parts_ended root part t u mid new last next_last l cost opened more ls (turn_of root part t u mid new last next_last l cost opened more None h))
+  goes_ended : RunsWithin (call_of root t u mid new) part last next_last l cost opened more None
+      → Parts root part s u old new None next_last all (spent + cost) (files + opened) (finding || more) (count + 1) true
+  goes_ended h = g.go u new next_last cost opened more 1 cycle.Ended
+      (parts_ended root part t u mid new last next_last l cost opened more ls (turn_of root part t u mid new last next_last l cost opened more None h))
 
-  goes_stops : (why : Fault) → RunStopsWithin (call_of root t u mid new) part last next_last l cost opened more why → PartsStop root part s u old new None next_last all (spent + cost) (files + opened) (finding || more) (count + 1) why
+  goes_stops : (why : Fault) → RunStopsWithin (call_of root t u mid new) part last next_last l cost opened more why
+      → PartsStop root part s u old new None next_last all (spent + cost) (files + opened) (finding || more) (count + 1) why
   goes_stops why h = g.go u new next_last cost opened more 1 (cycle.Stopped why) (parts_stopped root part t u mid new last next_last l cost opened more ls why h)
 
 -- ---- the same, of cursors
@@ -107,7 +114,8 @@ module _ (root : StorageRoot) (part : Part) (s t : Store) (old new : Option (Lis
       → CyclesToWithin (call_of root s t old new) part all (cycle_cursor count spent files (cycle_state end last)) finding end
   cycles_to last count spent files finding cycle.Ended some k = record { last = last; cycle = cycles root part s t old new last all spent files finding count true k; cursor_is = refl }
   cycles_to last count spent files finding cycle.Spent some k = record { last = last; cycle = cycles root part s t old new last all spent files finding count false k; cursor_is = refl }
-  cycles_to last count spent files finding (cycle.Stopped why) some k = record { last = last; cycle = cycle_stops root part s t old new last all spent files finding count why some k; cursor_is = refl }
+  cycles_to last count spent files finding (cycle.Stopped why) some k =
+      record { last = last; cycle = cycle_stops root part s t old new last all spent files finding count why some k; cursor_is = refl }
 
 pub place_there : (last : Option Place) → place_in (state_at last) ≡ last
 place_there None = refl
@@ -117,7 +125,8 @@ begun_there : (c : Cursor) (last : Option Place) → begun_in c (state_at last) 
 begun_there c None = refl
 begun_there c (Some p) = refl
 
-pub cycle_begins : (root : StorageRoot) (part : Part) (s : Store) (old : Option (List ℕ)) (all : List Limits) (c : Cursor) → c ≡ new_cursor → s.tree ≡ root → CycleGoes root part s s old old all all c false
+pub cycle_begins : (root : StorageRoot) (part : Part) (s : Store) (old : Option (List ℕ)) (all : List Limits) (c : Cursor) → c ≡ new_cursor → s.tree ≡ root
+    → CycleGoes root part s s old old all all c false
 cycle_begins root part s old all c is over =
     subst (λ x. CycleGoes root part s s old old all all x false) (sym is) (record { last = None; cursor_is = refl; goes = goes_start root part s old all over })
 
@@ -159,15 +168,19 @@ module _ (root : StorageRoot) (part : Part) (s t : Store) (old mid : Option (Lis
     turn_spent e =
         let h = subst (RunEndsWithin (call_of root t u mid new) part g.last ran.last l made.spent made.files made.found) e from_last in
         subst (λ v. CycleGoes root part s u old new ls all made.cursor v) (sym is_either)
-        (subst (λ x. CycleGoes root part s u old new ls all x (finding || made.found)) (sym (reached_is ∙ ap (λ w. cycle_cursor (c.runs + 1) (c.spent + made.spent) (c.files + made.files) (state_after w ran.last)) e))
-        (record { last = ran.last; cursor_is = refl; goes = goes_run root part s t u old mid new g.last ran.last l ls all c.spent c.files made.spent made.files finding made.found c.runs here h.0 h.1 }))
+        (subst (λ x. CycleGoes root part s u old new ls all x (finding || made.found))
+            (sym (reached_is ∙ ap (λ w. cycle_cursor (c.runs + 1) (c.spent + made.spent) (c.files + made.files) (state_after w ran.last)) e))
+        (record { last = ran.last; cursor_is = refl; goes =
+            goes_run root part s t u old mid new g.last ran.last l ls all c.spent c.files made.spent made.files finding made.found c.runs here h.0 h.1 }))
 
     cycle_of : (w : RunStatus) (last_end : CycleStatus) → made.end ≡ w → cycle_state last_end ran.last ≡ state_after w ran.last
-        → PartsEnd root part s u old new None ran.last all (c.spent + made.spent) (c.files + made.files) (finding || made.found) (c.runs + 1) last_end → CyclesToWithin (call_of root s u old new) part all made.cursor either last_end
+        → PartsEnd root part s u old new None ran.last all (c.spent + made.spent) (c.files + made.files) (finding || made.found) (c.runs + 1) last_end
+            → CyclesToWithin (call_of root s u old new) part all made.cursor either last_end
     cycle_of w last_end e f k =
         subst (λ v. CyclesToWithin (call_of root s u old new) part all made.cursor v last_end) (sym is_either)
         (subst (λ x. CyclesToWithin (call_of root s u old new) part all x (finding || made.found) last_end)
-        (ap (cycle_cursor (c.runs + 1) (c.spent + made.spent) (c.files + made.files)) f ∙ sym (reached_is ∙ ap (λ y. cycle_cursor (c.runs + 1) (c.spent + made.spent) (c.files + made.files) (state_after y ran.last)) e))
+        (ap (cycle_cursor (c.runs + 1) (c.spent + made.spent) (c.files + made.files)) f
+            ∙ sym (reached_is ∙ ap (λ y. cycle_cursor (c.runs + 1) (c.spent + made.spent) (c.files + made.files) (state_after y ran.last)) e))
         (cycles_to root part s u old new all ran.last (c.runs + 1) (c.spent + made.spent) (c.files + made.files) (finding || made.found) last_end (omega arith) k))
 
     pub turn_ended : made.end ≡ run.Ended → CyclesToWithin (call_of root s u old new) part all made.cursor either cycle.Ended
@@ -178,4 +191,5 @@ module _ (root : StorageRoot) (part : Part) (s t : Store) (old mid : Option (Lis
     pub turn_stopped : (why : Fault) → made.end ≡ run.Stopped why → CyclesToWithin (call_of root s u old new) part all made.cursor either (cycle.Stopped why)
     turn_stopped why e =
         let h = subst (RunEndsWithin (call_of root t u mid new) part g.last ran.last l made.spent made.files made.found) e from_last in
-        cycle_of (run.Stopped why) (cycle.Stopped why) e refl (goes_stops root part s t u old mid new g.last ran.last l ls all c.spent c.files made.spent made.files finding made.found c.runs here why h)
+        cycle_of (run.Stopped why) (cycle.Stopped why) e refl
+            (goes_stops root part s t u old mid new g.last ran.last l ls all c.spent c.files made.spent made.files finding made.found c.runs here why h)

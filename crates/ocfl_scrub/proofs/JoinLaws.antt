@@ -136,7 +136,8 @@ module _ (root : StorageRoot) (part : Part) where
     pub part_opened : opened_by root rs ≡ hashed_among root (places_within part (item_places root))
     part_opened = took_part.opened ∙ ap (hashed_among root) places_are
 
-    pub part_runs : (b n : ℕ) → 1 ≤ b → 1 ≤ n → All (IsAtLeast b n) (map (λ r. r.limits) rs) → length rs ≤ total_cost (within part (audit root [])) / b + total_files (within part (audit root [])) / n + 1
+    pub part_runs : (b n : ℕ) → 1 ≤ b → 1 ≤ n → All (IsAtLeast b n) (map (λ r. r.limits) rs)
+        → length rs ≤ total_cost (within part (audit root [])) / b + total_files (within part (audit root [])) / n + 1
     part_runs b n p q large = let m = large_few b n p q (map (λ r. r.limits) rs) (within part (audit root [])) large in let e = took_part.count in omega (arith, m, e)
 
 -- ---- all parts
@@ -144,11 +145,14 @@ module _ (root : StorageRoot) (part : Part) where
 module _ (root : StorageRoot) where
   each_report : (ds : List PartCycle) → AllByRecursion (IsPartCycle root) ds → flat_map (λ d. reports_of d.runs) ds ≡ flat_map (λ part. text (within part (audit root []))) (map (λ d. d.part) ds)
   each_report [] h = refl
-  each_report (d ∷ ds) h = ap (λ x. x ++ flat_map (λ e. reports_of e.runs) ds) (part_reports root d.part d.first d.runs h.0.begins h.0.are) ∙ ap (λ x. text (within d.part (audit root [])) ++ x) (each_report ds h.1)
+  each_report (d ∷ ds) h = ap (λ x. x ++ flat_map (λ e. reports_of e.runs) ds) (part_reports root d.part d.first d.runs h.0.begins h.0.are)
+      ∙ ap (λ x. text (within d.part (audit root [])) ++ x) (each_report ds h.1)
 
-  each_opened : (ds : List PartCycle) → AllByRecursion (IsPartCycle root) ds → flat_map (λ d. opened_by root d.runs) ds ≡ flat_map (λ part. hashed_among root (places_within part (item_places root))) (map (λ d. d.part) ds)
+  each_opened : (ds : List PartCycle) → AllByRecursion (IsPartCycle root) ds
+      → flat_map (λ d. opened_by root d.runs) ds ≡ flat_map (λ part. hashed_among root (places_within part (item_places root))) (map (λ d. d.part) ds)
   each_opened [] h = refl
-  each_opened (d ∷ ds) h = ap (λ x. x ++ flat_map (λ e. opened_by root e.runs) ds) (part_opened root d.part d.first d.runs h.0.begins h.0.are) ∙ ap (λ x. hashed_among root (places_within d.part (item_places root)) ++ x) (each_opened ds h.1)
+  each_opened (d ∷ ds) h = ap (λ x. x ++ flat_map (λ e. opened_by root e.runs) ds) (part_opened root d.part d.first d.runs h.0.begins h.0.are)
+      ∙ ap (λ x. hashed_among root (places_within d.part (item_places root)) ++ x) (each_opened ds h.1)
 
   module _ (separators : List Place) (ds : List PartCycle) (up : IsAscending place_cmp separators) (are : map (λ d. d.part) ds ≡ parts_of separators) (done : AllByRecursion (IsPartCycle root) ds) where
     pub all_reports : flat_map (λ d. reports_of d.runs) ds ≡ text (audit root [])

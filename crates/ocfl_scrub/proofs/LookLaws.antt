@@ -18,7 +18,8 @@ all_front : (xs : List Place) → IsFront xs xs
 all_front xs = ([], sym (append-nil xs))
 
 module _ (root : StorageRoot) (part : Part) (s t u : Store) (old new : Option (List ℕ)) (from : Option Place) (g : GoesDown root s t (entry part from)) where
-  pub looks_over : (to : Option Place) (done : List Place) (os : List Opening) → Audits root t u done (looked_in root part from to) (read_in root part from to) os → LooksOver (call_of root s u old new) part from to done (g.trail ++ os)
+  pub looks_over : (to : Option Place) (done : List Place) (os : List Opening)
+      → Audits root t u done (looked_in root part from to) (read_in root part from to) os → LooksOver (call_of root s u old new) part from to done (g.trail ++ os)
   looks_over to done os k = record {
     down = g.listed;
     held = g.heads;
@@ -29,7 +30,8 @@ module _ (root : StorageRoot) (part : Part) (s t u : Store) (old new : Option (L
     reads_once = read_once_in root part from to g.heads (read_in root part from to) g.heads_front (all_front _);
   }
 
-  pub stops_looking : (why : Fault) (begun listed heads : List Place) (os : List Opening) → Fails root t u begun listed heads os why → IsFront listed (looked_in root part from None) → IsFront heads (read_in root part from None)
+  pub stops_looking : (why : Fault) (begun listed heads : List Place) (os : List Opening) → Fails root t u begun listed heads os why
+      → IsFront listed (looked_in root part from None) → IsFront heads (read_in root part from None)
       → StopsLooking (call_of root s u old new) part from begun (g.trail ++ os) why
   stops_looking why begun listed heads os k listed_front heads_front = record {
     down = g.listed;
@@ -46,7 +48,8 @@ module _ (root : StorageRoot) (part : Part) (s t u : Store) (old new : Option (L
   }
 
 -- it did not come to where it begins
-pub stops_above : (root : StorageRoot) (part : Part) (s t : Store) (old new : Option (List ℕ)) (from : Option Place) (why : Fault) (g : GoDownFails root s t (entry part from) why) → StopsLooking (call_of root s t old new) part from [] g.trail why
+pub stops_above : (root : StorageRoot) (part : Part) (s t : Store) (old new : Option (List ℕ)) (from : Option Place) (why : Fault)
+    (g : GoDownFails root s t (entry part from) why) → StopsLooking (call_of root s t old new) part from [] g.trail why
 stops_above root part s t old new from why g =
     let no_directory : IsFront [] (looked_in root part from None) = (looked_in root part from None, refl) in
     let no_head : IsFront [] (read_in root part from None) = (read_in root part from None, refl) in

@@ -51,7 +51,8 @@ pub record GivesItem (root : StorageRoot) (e : End) (t u : Store) (stood : Optio
   pub above : IsBeyond stood q.place
   pub in_front : is_past e q.place ≡ false
 
-pub gives_item : (root : StorageRoot) (e : End) (t u : Store) (walk next : Walk) (stood : Option Place) (o : Option Pending) (q : Pending) → GivesNext root e t u walk next o → t.tree ≡ root → IsLive walk → Stands root walk stood
+pub gives_item : (root : StorageRoot) (e : End) (t u : Store) (walk next : Walk) (stood : Option Place) (o : Option Pending) (q : Pending)
+    → GivesNext root e t u walk next o → t.tree ≡ root → IsLive walk → Stands root walk stood
     → o ≡ Some q → IfSome o (λ p. is_past e p.place ≡ false) → GivesItem root e t u stood next q
 gives_item root e t u walk next stood o q gave over live stands is before =
     let gives : Gives root t u stood next (Some q) = subst (GivesOut root t u stood e next) is (gave over live stood stands) in

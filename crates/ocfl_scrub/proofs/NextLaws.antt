@@ -1,4 +1,5 @@
--- Between the last item of a part that was taken and a hashed file that is next, no inventory of it is read: each object whose inventory is read is an item, and none of them is hashed.
+-- Between the last item of a part that was taken and a hashed file that is next, no inventory of it
+-- is read: each object whose inventory is read is an item, and none of them is hashed.
 use Rattle.std.proofs.Common.{◌≡◌, ◌≢◌, inl, inr, List, [], ◌∷◌, ◌++◌, refl, sym, ◌∙◌, ap, subst, true, false, ◌+◌, Option, Some, None, length, length-append, filter}
 use Rattle.std.specs.Prelude.{nat_lt}
 use Rattle.std.specs.Ordering.{is_lt}
@@ -103,7 +104,8 @@ module _ (root : StorageRoot) (part : Part) where
             absurd (no_object o i.1 k.0 k.1.0 k.1.1)
 
     -- what is read up to the next item and from the last one on is what is read in all
-    pub read_parts : (from : Option Place) → IsAmong (due_within root part from) next → length (read_in root part from (Some next)) + length (read_in root part last None) ≡ length (read_in root part from None)
+    pub read_parts : (from : Option Place) → IsAmong (due_within root part from) next
+        → length (read_in root part from (Some next)) + length (read_in root part last None) ≡ length (read_in root part from None)
     read_parts from i =
         let far : (x : Option Place) → IsAmong (due_within root part x) next → IsBeyond x next = λ x j. among_beyond root x next (from_due x next j).0 in
         let here : IsBeyond last next = far last (subst (λ ps. IsAmong ps next) (sym least) (inl refl)) in

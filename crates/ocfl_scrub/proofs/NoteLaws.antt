@@ -118,7 +118,8 @@ after_failures (note.PartCursorRefused why) = neither (λ h. let e = h.0 in omeg
 abbrev IsRefusedCursor : Note → Type 0
 IsRefusedCursor n = ((why : Refused) × ((n ≡ note.CursorRefused why) × (why ≢ refused.Memory))) ⊎ ((why : PartRefused) × ((n ≡ note.PartCursorRefused why) × (why ≢ part.Memory)))
 
-pub of_refused_cursors : (n : Note) → IsStatus 4 n ↔ (((why : Refused) × ((n ≡ note.CursorRefused why) × (why ≢ refused.Memory))) ⊎ ((why : PartRefused) × ((n ≡ note.PartCursorRefused why) × (why ≢ part.Memory))))
+pub of_refused_cursors : (n : Note)
+    → IsStatus 4 n ↔ (((why : Refused) × ((n ≡ note.CursorRefused why) × (why ≢ refused.Memory))) ⊎ ((why : PartRefused) × ((n ≡ note.PartCursorRefused why) × (why ≢ part.Memory))))
 of_refused_cursors note.Nothing = neither (not_small 2) (none_of (λ h. let e = h.1.0 in cc) (λ h. let e = h.1.0 in cc))
 of_refused_cursors note.NoItem = neither (λ e. omega (arith, e)) (none_of (λ h. let e = h.1.0 in cc) (λ h. let e = h.1.0 in cc))
 of_refused_cursors note.EmptyBranch = neither (λ e. omega (arith, e)) (none_of (λ h. let e = h.1.0 in cc) (λ h. let e = h.1.0 in cc))
@@ -171,7 +172,8 @@ nothing_done status note.EmptyBranch h = otherwise status note.EmptyBranch never
 nothing_done status (note.StoppedAt p) h = otherwise status (note.StoppedAt p) never (λ e. cc) (λ e. omega (arith, h, e)) (λ e. cc) (λ e. cc)
 nothing_done status note.OutOfMemory h = otherwise status note.OutOfMemory never (λ e. cc) (λ e. omega (arith, h, e)) (λ e. cc) (λ e. cc)
 nothing_done status note.OutputFailed h = otherwise status note.OutputFailed never (λ e. cc) (λ e. omega (arith, h, e)) (λ e. cc) (λ e. cc)
-nothing_done status (note.RunMade cycle runs cost ended) h = let m = small status h in otherwise status (note.RunMade cycle runs cost ended) never (λ e. cc) (λ e. omega (arith, m, e)) (λ e. cc) (λ e. cc)
+nothing_done status (note.RunMade cycle runs cost ended) h =
+    let m = small status h in otherwise status (note.RunMade cycle runs cost ended) never (λ e. cc) (λ e. omega (arith, m, e)) (λ e. cc) (λ e. cc)
 nothing_done status (note.CycleMade runs cost ended) h = let m = small status h in otherwise status (note.CycleMade runs cost ended) never (λ e. cc) (λ e. omega (arith, m, e)) (λ e. cc) (λ e. cc)
 nothing_done status note.CursorWorn h = agree tt (inr (inr (inl refl)))
 nothing_done status note.CursorFileFailed h = agree tt (inr (inr (inr refl)))

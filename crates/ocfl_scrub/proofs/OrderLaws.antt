@@ -72,6 +72,7 @@ module _ (call : Call) (part : Part) (last : Option Place) (finding : Bool) wher
   part_lists_once end.Ended h = (_, (h.looks.audits.did.listings_are, h.looks.lists_once))
   part_lists_once (end.Stopped why) h = (_, (h.looks.fails.did.listings_are, h.looks.lists_once))
 
-  pub part_reads_once : (how : End) → AuditEndsWithin call part last finding how → (trail : List Opening) × ((call.after.openings ≡ call.before.openings ++ trail) × IsAscending place_cmp (heads_of call.root trail))
+  pub part_reads_once : (how : End) → AuditEndsWithin call part last finding how → (trail : List Opening)
+      × ((call.after.openings ≡ call.before.openings ++ trail) × IsAscending place_cmp (heads_of call.root trail))
   part_reads_once end.Ended h = (h.trail, (h.looks.audits.did.openings_are, subst (IsAscending place_cmp) (sym h.looks.audits.heads_are) h.looks.reads_once))
   part_reads_once (end.Stopped why) h = (h.trail, (h.looks.fails.did.openings_are, subst (IsAscending place_cmp) (sym h.looks.fails.heads_are) h.looks.reads_once))

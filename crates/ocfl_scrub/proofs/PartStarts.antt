@@ -1,4 +1,5 @@
--- Where the walk over a part begins: what is left there before its end is what the part has above the place that it is given.
+-- Where the walk over a part begins: what is left there before its end is what the part has above
+-- the place that it is given.
 use Rattle.std.proofs.Common.{◌≡◌, List, [], ◌∷◌, ◌++◌, refl, sym, ◌∙◌, ap, subst, true, false, Bool, Option, Some, None, map, filter, append-nil}
 use Rattle.std.specs.Prelude.{cond, not, ◌&&◌, ◌||◌}
 use Rattle.std.specs.Option.{option_map}
@@ -125,7 +126,8 @@ module _ (part : Part) (x : Place) where
     where
       by : (b : Bool) → is_lt (place_cmp x (greater_of part.under part.from)) ≡ b → not (is_lt (place_cmp x (greater_of part.under part.from))) && not (is_past (end_of part) x) ≡ false
       by true e = ap (λ b. not b && not (is_past (end_of part) x)) e
-      by false e = ap (λ b. not (is_lt (place_cmp x (greater_of part.under part.from))) && not (b || is_at_bound part.below x)) (apart out (over_under e)) ∙ and_false (not (is_lt (place_cmp x (greater_of part.under part.from))))
+      by false e = ap (λ b. not (is_lt (place_cmp x (greater_of part.under part.from))) && not (b || is_at_bound part.below x)) (apart out (over_under e))
+          ∙ and_false (not (is_lt (place_cmp x (greater_of part.under part.from))))
 
   lies_exact : lies_in part x ≡ not (is_lt (place_cmp x (greater_of part.under part.from))) && not (is_past (end_of part) x)
   lies_exact = by (begins part.under x) refl
@@ -148,7 +150,8 @@ module _ (part : Part) where
       by : (g : Place) → greater_of part.under part.from ≡ g → before_end (end_of part) (from_first (unless_root (greater_of part.under part.from)) xs) ≡ filter (lies_in part) xs
       by [] e =
           ap (λ g. before_end (end_of part) (from_first (unless_root g) xs)) e
-          ∙ filter_same _ _ (λ x. sym (lies_exact part x ∙ ap (λ g. not (is_lt (place_cmp x g)) && not (is_past (end_of part) x)) e ∙ ap (λ b. not b && not (is_past (end_of part) x)) (nothing_less x))) xs
+          ∙ filter_same _ _ (λ x. sym (lies_exact part x ∙ ap (λ g. not (is_lt (place_cmp x g)) && not (is_past (end_of part) x)) e
+              ∙ ap (λ b. not b && not (is_past (end_of part) x)) (nothing_less x))) xs
       by (n ∷ g) e =
           ap (λ h. before_end (end_of part) (from_first (unless_root h) xs)) e
           ∙ filter_twice (λ z. not (is_past (end_of part) z)) (λ q. not (is_lt (place_cmp q (n ∷ g)))) xs

@@ -103,7 +103,8 @@ module _ (root : StorageRoot) (t u v : Store) (last to : Option Place) (w : Walk
       (subst (λ ls. Audits root t v qs ls (read_between root last to ++ []) (w.trail ++ os)) (append-nil (looked_between root last to))
       (audits_on root t u v [] qs (looked_between root last to) [] (read_between root last to) [] w.trail os w.audits k))
 
-  walk_then_fails : (qs : List Place) (os : List Opening) (why : Fault) → Fails root u v qs [] [] os why → Fails root t v qs (looked_between root last to) (read_between root last to) (w.trail ++ os) why
+  walk_then_fails : (qs : List Place) (os : List Opening) (why : Fault) → Fails root u v qs [] [] os why
+      → Fails root t v qs (looked_between root last to) (read_between root last to) (w.trail ++ os) why
   walk_then_fails qs os why k =
       subst (λ hs. Fails root t v qs (looked_between root last to) hs (w.trail ++ os) why) (append-nil (read_between root last to))
       (subst (λ ls. Fails root t v qs ls (read_between root last to ++ []) (w.trail ++ os) why) (append-nil (looked_between root last to))
@@ -167,7 +168,8 @@ module _ (root : StorageRoot) (e : End) (s t u : Store) (old mid : Option (List 
           done = h.done ++ p ∷ [];
           trail = h.trail ++ (w.trail ++ k.trail);
           audits = subst (λ hs. Audits root s v (h.done ++ p ∷ []) (looked_between root from (Some p)) hs (h.trail ++ (w.trail ++ k.trail))) (read_next root e from last low p up)
-              (subst (λ ls. Audits root s v (h.done ++ p ∷ []) ls (up_to_last (read_between root) from last ++ read_between root last (Some p)) (h.trail ++ (w.trail ++ k.trail))) (looked_next root e from last low p up)
+              (subst (λ ls. Audits root s v (h.done ++ p ∷ []) ls (up_to_last (read_between root) from last ++ read_between root last (Some p))
+                  (h.trail ++ (w.trail ++ k.trail))) (looked_next root e from last low p up)
               (audits_on root s t v h.done (p ∷ []) _ _ _ _ h.trail (w.trail ++ k.trail) h.audits both));
           due_are = due_with ∙ sym (append_assoc h.done (p ∷ []) (due root (Some p)));
           inside = filter_append (λ z. not (is_past e z)) h.done (p ∷ []) ∙ ap (λ ps. ps ++ before_end e (p ∷ [])) h.inside ∙ ap (λ b. h.done ++ cond (not b) (p ∷ []) []) in_front;

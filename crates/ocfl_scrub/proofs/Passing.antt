@@ -45,7 +45,8 @@ pub record Finishes (root : StorageRoot) (e : End) (s t : Store) (old new : Opti
   pub wrote : Appends old new (text (items_at root trail (due_in root e from)))
   pub found_is : finding ≡ found (items_at root trail (due_in root e from))
 
--- from s to t the items above from were taken up to last, and then there was a fault: of the next item before the end at most a proper beginning went out
+-- from s to t the items above from were taken up to last, and then there was a fault: of the next
+-- item before the end at most a proper beginning went out
 pub record Halts (root : StorageRoot) (e : End) (s t : Store) (old new : Option (List ℕ)) (from last : Option Place) (finding : Bool) (why : Fault) : Type 0 where
   pub done : List Place
   pub begun : List Place

@@ -32,7 +32,8 @@ use Rattle.ocfl_scrub.proofs.PassLaws.{no_items, halves, due_next, passes_none, 
 -- ---- what items cost
 
 -- a hashed item is paid for below both limits, and another is free
-pub payable : (root : StorageRoot) (p : Place) (l : Limits) (spent files : ℕ) (os : List Opening) → (is_hashed root p ≡ true → IsWithinBoth l spent files) → Paid l spent files (items_at root os (p ∷ []))
+pub payable : (root : StorageRoot) (p : Place) (l : Limits) (spent files : ℕ) (os : List Opening) → (is_hashed root p ≡ true → IsWithinBoth l spent files)
+    → Paid l spent files (items_at root os (p ∷ []))
 unfolding items_at
 payable root p l spent files os h = (by (is_hashed root p) refl h, tt)
   where
@@ -51,7 +52,8 @@ files_of_one root p os =
 pub counts_none : (l : Limits) (spent files : ℕ) → spent ≡ 0 → files ≡ 0 → Counts l spent files []
 counts_none l spent files e f = record { paid = tt; spent_is = e; files_is = f }
 
-pub counts_more : (l : Limits) (spent files cost charged started : ℕ) (xs ys both : List Item) → both ≡ xs ++ ys → Counts l spent files xs → Paid l spent files ys → cost ≡ total_cost ys → total_files ys ≡ files_of cost
+pub counts_more : (l : Limits) (spent files cost charged started : ℕ) (xs ys both : List Item) → both ≡ xs ++ ys → Counts l spent files xs
+    → Paid l spent files ys → cost ≡ total_cost ys → total_files ys ≡ files_of cost
     → charged ≡ spent + cost → started ≡ files + files_of cost → Counts l charged started both
 counts_more l spent files cost charged started xs ys both e h k c d m n =
     let s = h.spent_is in
@@ -70,14 +72,16 @@ counts_same l spent files xs ys e h = subst (Counts l spent files) (sym e) h
 
 -- ---- a pass begins
 
-unfoldable pub pays_none : (root : StorageRoot) (end : End) (s : Store) (old : Option (List ℕ)) (from : Option Place) (l : Limits) (spent files : ℕ) → s.tree ≡ root → spent ≡ 0 → files ≡ 0 → Pays root end s s old old from from l spent files false
+unfoldable pub pays_none : (root : StorageRoot) (end : End) (s : Store) (old : Option (List ℕ)) (from : Option Place) (l : Limits) (spent files : ℕ)
+    → s.tree ≡ root → spent ≡ 0 → files ≡ 0 → Pays root end s s old old from from l spent files false
 unfolding passes_none
 pays_none root end s old from l spent files over e f = record {
   passes = passes_none root end s old from over;
   counts = counts_same l spent files _ [] (no_items root []) (counts_none l spent files e f);
 }
 
-pub pays_over : {root : StorageRoot} {end : End} {s t : Store} {old new : Option (List ℕ)} {from last : Option Place} {l : Limits} {spent files : ℕ} {finding : Bool} → Pays root end s t old new from last l spent files finding → t.tree ≡ root
+pub pays_over : {root : StorageRoot} {end : End} {s t : Store} {old new : Option (List ℕ)} {from last : Option Place} {l : Limits} {spent files : ℕ}
+    {finding : Bool} → Pays root end s t old new from last l spent files finding → t.tree ≡ root
 pays_over h = h.passes.audits.did.tree ∙ h.passes.audits.over
 
 -- ---- a pass goes on
@@ -85,7 +89,8 @@ pays_over h = h.passes.audits.did.tree ∙ h.passes.audits.over
 module _ (root : StorageRoot) (end : End) (s t u : Store) (old mid : Option (List ℕ)) (from last : Option Place) (l : Limits) (spent files : ℕ) (finding : Bool) (low : HasGoneOn end from last) (h : Pays root end s t old mid from last l spent files finding) where
   module _ (p : Place) (up : IsBeyond last p) (least : due root last ≡ p ∷ due root (Some p)) (in_front : is_past end p ≡ false) (w : Walks root t u last (Some p)) where
     module _ (v : Store) (new : Option (List ℕ)) (may : is_hashed root p ≡ true → IsWithinBoth l spent files) where
-      unfoldable pub pays_took : (cost charged started : ℕ) (more either : Bool) → Takes (call_of root u v mid new) p cost more → charged ≡ spent + cost → started ≡ files + files_of cost → either ≡ (finding || more)
+      unfoldable pub pays_took : (cost charged started : ℕ) (more either : Bool) → Takes (call_of root u v mid new) p cost more → charged ≡ spent + cost
+          → started ≡ files + files_of cost → either ≡ (finding || more)
           → Pays root end s v old new from (Some p) l charged started either
       unfolding passes_took
       pays_took cost charged started more either k e g f = record {

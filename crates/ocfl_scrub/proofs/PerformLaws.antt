@@ -40,7 +40,8 @@ pub record Made (Begins : Cursor → Type 0) (text_of : Cursor → Text) (limits
 
 -- what a run does on any store
 module _ {S O : Type 0} {contents : O → Option (List ℕ)} {before after : S} {old new : O} {from : Cursor} {limits : MadeLimits} {ran : RunEnd} (r : RunsOnAnyStore contents before after old new from limits ran) where
-  pub made_by : {Begins : Cursor → Type 0} {text_of : Cursor → Text} {said : Performed} → Begins from → (ran.end ≡ run.Worn → said.note ≡ note.CursorWorn) → (ran.end ≡ run.Worn → (said.status ≡ 3) × IsNone said.cursor)
+  pub made_by : {Begins : Cursor → Type 0} {text_of : Cursor → Text} {said : Performed} → Begins from → (ran.end ≡ run.Worn → said.note ≡ note.CursorWorn)
+      → (ran.end ≡ run.Worn → (said.status ≡ 3) × IsNone said.cursor)
       → (ran.end ≢ run.Worn → IsStoredNote text_of ran.cursor ran.spent ran.found ran.end said.status said.note said.cursor) → Made Begins text_of (limits_of limits) from ran said
   made_by begins worn_says worn_ends says = record {
     begins = begins;
@@ -60,7 +61,8 @@ module _ {Begins : Cursor → Type 0} {text_of : Cursor → Text} {limits : Limi
   pub handed_back : IfSome said.cursor (λ handed. HandedBack Begins text_of limits said.status said.note handed.items)
   handed_back = by said.cursor h.worn_ends h.says
     where
-      by : (stored : Option (Vec ℕ Global)) → (ran.end ≡ run.Worn → (said.status ≡ 3) × IsNone stored) → (ran.end ≢ run.Worn → IsStoredNote text_of ran.cursor ran.spent ran.found ran.end said.status said.note stored)
+      by : (stored : Option (Vec ℕ Global)) → (ran.end ≡ run.Worn → (said.status ≡ 3) × IsNone stored)
+          → (ran.end ≢ run.Worn → IsStoredNote text_of ran.cursor ran.spent ran.found ran.end said.status said.note stored)
           → IfSome stored (λ handed. HandedBack Begins text_of limits said.status said.note handed.items)
       by None ends says = tt
       by (Some v) ends says =
@@ -77,7 +79,8 @@ module _ {Begins : Cursor → Type 0} {text_of : Cursor → Text} {limits : Limi
           }
 
   -- the same run on a store that tells its tree
-  pub run_performed : {Why : Type 0} (call : Call) (made part : Part) → made ≡ part → (RunWorn Begins said.status said.note → Why) → (ran.end ≡ run.Worn → (call.after ≡ call.before) × (call.new ≡ call.old))
+  pub run_performed : {Why : Type 0} (call : Call) (made part : Part) → made ≡ part → (RunWorn Begins said.status said.note → Why)
+      → (ran.end ≡ run.Worn → (call.after ≡ call.before) × (call.new ≡ call.old))
       → (ran.end ≢ run.Worn → RunsFromWithin call made from limits ran) → (IsUnfailing call → RunsCleanlyWithin call made from limits ran.spent ran.files ran.found ran.end)
       → RunMade Begins text_of call part limits said.status said.note said.cursor ⊎ RunUnmade Why call said.cursor
   run_performed {Why} call made part same unmade silent runs clean = by (worn_or_not ran.end)

@@ -55,36 +55,60 @@ fewer xs ys n e h = let same : length xs ≡ length ys = ap length e in omega (a
 
 -- ---- a check
 
-pub check_wrote : (root : StorageRoot) (s t : Store) (before written : List ℕ) (p : Place) (item finding : Bool) → Checks (known_call root s t before written) p item finding → (trail : List Opening) × ((t.openings ≡ s.openings ++ trail) × ((t.failures ≡ s.failures + length (unread_of root trail)) × ((written ≡ before ++ text (item_at root (unread_of root trail) p)) × ((item ≡ not (is_empty (item_at root (unread_of root trail) p))) × (finding ≡ found (item_at root (unread_of root trail) p))))))
+pub check_wrote : (root : StorageRoot) (s t : Store) (before written : List ℕ) (p : Place) (item finding : Bool)
+    → Checks (known_call root s t before written) p item finding → (trail : List Opening)
+    × ((t.openings ≡ s.openings ++ trail)
+    × ((t.failures ≡ s.failures + length (unread_of root trail))
+    × ((written ≡ before ++ text (item_at root (unread_of root trail) p))
+    × ((item ≡ not (is_empty (item_at root (unread_of root trail) p))) × (finding ≡ found (item_at root (unread_of root trail) p))))))
 check_wrote root s t before written p item finding h = (h.trail, (h.audits.did.openings_are, (h.audits.did.failures_are, (h.wrote, (h.item_is, h.found_is)))))
 
-pub check_opened : (call : Call) (p : Place) (item finding : Bool) → Checks call p item finding → (trail : List Opening) × ((call.after.openings ≡ call.before.openings ++ trail) × ((content_trail call.root trail ≡ hashed_among call.root (p ∷ [])) × (AllPairs (λ a b. a.place ≢ b.place) trail)))
+pub check_opened : (call : Call) (p : Place) (item finding : Bool) → Checks call p item finding → (trail : List Opening)
+    × ((call.after.openings ≡ call.before.openings ++ trail) × ((content_trail call.root trail ≡ hashed_among call.root (p ∷ [])) × (AllPairs (λ a b. a.place ≢ b.place) trail)))
 check_opened call p item finding h = (h.trail, (h.audits.did.openings_are, (h.audits.opened, h.just.once)))
 
-pub check_listed : (call : Call) (p : Place) (item finding : Bool) → Checks call p item finding → (listed : List Place) × ((rest : List Place) × ((call.after.listings ≡ call.before.listings ++ listed) × (way_to p ≡ listed ++ rest)))
+pub check_listed : (call : Call) (p : Place) (item finding : Bool) → Checks call p item finding → (listed : List Place)
+    × ((rest : List Place) × ((call.after.listings ≡ call.before.listings ++ listed) × (way_to p ≡ listed ++ rest)))
 check_listed call p item finding h = (h.listed, (h.just.listed_front.0, (h.audits.did.listings_are, h.just.listed_front.1)))
 
-pub check_read : (call : Call) (p : Place) (item finding : Bool) → Checks call p item finding → (trail : List Opening) × ((rest : List Place) × ((call.after.openings ≡ call.before.openings ++ trail) × (holder call.root (Some p) ≡ heads_of call.root trail ++ rest)))
+pub check_read : (call : Call) (p : Place) (item finding : Bool) → Checks call p item finding → (trail : List Opening)
+    × ((rest : List Place) × ((call.after.openings ≡ call.before.openings ++ trail) × (holder call.root (Some p) ≡ heads_of call.root trail ++ rest)))
 check_read call p item finding h = (h.trail, (h.just.heads_front.0, (h.audits.did.openings_are, (h.just.heads_front.1 ∙ ap (λ l. l ++ h.just.heads_front.0) (sym h.audits.heads_are)))))
 
-pub stopped_check_wrote : (root : StorageRoot) (s t : Store) (before written : List ℕ) (p : Place) (why : Fault) → CheckStops (known_call root s t before written) p why → (trail : List Opening) × ((gone : ℕ) × ((t.openings ≡ s.openings ++ trail) × ((written ≡ before ++ take gone (text (item_at root (unread_of root trail) p))) × ((why ≡ fault.Output → gone < length (text (item_at root (unread_of root trail) p))) × (why ≢ fault.Output → gone ≡ 0)))))
+pub stopped_check_wrote : (root : StorageRoot) (s t : Store) (before written : List ℕ) (p : Place) (why : Fault)
+    → CheckStops (known_call root s t before written) p why → (trail : List Opening)
+    × ((gone : ℕ) × ((t.openings ≡ s.openings ++ trail)
+    × ((written ≡ before ++ take gone (text (item_at root (unread_of root trail) p)))
+    × ((why ≡ fault.Output → gone < length (text (item_at root (unread_of root trail) p))) × (why ≢ fault.Output → gone ≡ 0)))))
 stopped_check_wrote root s t before written p why h = (h.trail, (h.part_of.gone, (h.fails.did.openings_are, ((h.wrote ∙ ap (λ u. before ++ u) h.part_of.is), (h.part_of.proper, h.part_of.none)))))
 
-pub stopped_check_opened : (call : Call) (p : Place) (why : Fault) → CheckStops call p why → (trail : List Opening) × ((begun : List Place) × ((rest : List Place) × ((call.after.openings ≡ call.before.openings ++ trail) × ((p ∷ [] ≡ begun ++ rest) × ((content_trail call.root trail ≡ hashed_among call.root begun) × (AllPairs (λ a b. a.place ≢ b.place) trail))))))
+pub stopped_check_opened : (call : Call) (p : Place) (why : Fault) → CheckStops call p why → (trail : List Opening)
+    × ((begun : List Place) × ((rest : List Place)
+    × ((call.after.openings ≡ call.before.openings ++ trail)
+    × ((p ∷ [] ≡ begun ++ rest) × ((content_trail call.root trail ≡ hashed_among call.root begun) × (AllPairs (λ a b. a.place ≢ b.place) trail))))))
 stopped_check_opened call p why h = (h.trail, (h.begun, (h.one.0, (h.fails.did.openings_are, (h.one.1, (h.fails.opened, h.just.once))))))
 
-pub stopped_check_listed : (call : Call) (p : Place) (why : Fault) → CheckStops call p why → (listed : List Place) × ((rest : List Place) × ((call.after.listings ≡ call.before.listings ++ listed) × (way_to p ≡ listed ++ rest)))
+pub stopped_check_listed : (call : Call) (p : Place) (why : Fault) → CheckStops call p why → (listed : List Place)
+    × ((rest : List Place) × ((call.after.listings ≡ call.before.listings ++ listed) × (way_to p ≡ listed ++ rest)))
 stopped_check_listed call p why h = (h.listed, (h.just.listed_front.0, (h.fails.did.listings_are, h.just.listed_front.1)))
 
-pub stopped_check_read : (call : Call) (p : Place) (why : Fault) → CheckStops call p why → (trail : List Opening) × ((rest : List Place) × ((call.after.openings ≡ call.before.openings ++ trail) × ((call.after.failures ≡ call.before.failures + (length (unread_of call.root trail) + failures_by why)) × (holder call.root (Some p) ≡ heads_of call.root trail ++ rest))))
-stopped_check_read call p why h = (h.trail, (h.just.heads_front.0, (h.fails.did.openings_are, (h.fails.did.failures_are, (h.just.heads_front.1 ∙ ap (λ l. l ++ h.just.heads_front.0) (sym h.fails.heads_are))))))
+pub stopped_check_read : (call : Call) (p : Place) (why : Fault) → CheckStops call p why → (trail : List Opening)
+    × ((rest : List Place) × ((call.after.openings ≡ call.before.openings ++ trail)
+    × ((call.after.failures ≡ call.before.failures + (length (unread_of call.root trail) + failures_by why)) × (holder call.root (Some p) ≡ heads_of call.root trail ++ rest))))
+stopped_check_read call p why h =
+    (h.trail, (h.just.heads_front.0, (h.fails.did.openings_are, (h.fails.did.failures_are, (h.just.heads_front.1 ∙ ap (λ l. l ++ h.just.heads_front.0) (sym h.fails.heads_are))))))
 
 -- ---- an audit
 
-pub audit_wrote : (root : StorageRoot) (s t : Store) (before written : List ℕ) (last : Option Place) (finding : Bool) → AuditsAll (known_call root s t before written) last finding → (trail : List Opening) × ((t.openings ≡ s.openings ++ trail) × ((t.failures ≡ s.failures + length (unread_of root trail)) × ((written ≡ before ++ text (audit root (unread_of root trail))) × (finding ≡ found (audit root (unread_of root trail))))))
+pub audit_wrote : (root : StorageRoot) (s t : Store) (before written : List ℕ) (last : Option Place) (finding : Bool)
+    → AuditsAll (known_call root s t before written) last finding → (trail : List Opening)
+    × ((t.openings ≡ s.openings ++ trail)
+    × ((t.failures ≡ s.failures + length (unread_of root trail)) × ((written ≡ before ++ text (audit root (unread_of root trail))) × (finding ≡ found (audit root (unread_of root trail))))))
 audit_wrote root s t before written last finding h = (h.trail, (h.audits.did.openings_are, (h.audits.did.failures_are, (h.wrote, h.found_is))))
 
-pub audit_opened : (call : Call) (last : Option Place) (finding : Bool) → AuditsAll call last finding → (trail : List Opening) × ((call.after.openings ≡ call.before.openings ++ trail) × ((content_trail call.root trail ≡ hashed_among call.root (item_places call.root)) × (heads_of call.root trail ≡ read_between call.root None None)))
+pub audit_opened : (call : Call) (last : Option Place) (finding : Bool) → AuditsAll call last finding → (trail : List Opening)
+    × ((call.after.openings ≡ call.before.openings ++ trail)
+    × ((content_trail call.root trail ≡ hashed_among call.root (item_places call.root)) × (heads_of call.root trail ≡ read_between call.root None None)))
 audit_opened call last finding h = (h.trail, (h.audits.did.openings_are, (h.audits.opened, h.audits.heads_are)))
 
 pub audit_listed : (call : Call) (last : Option Place) (finding : Bool) → AuditsAll call last finding → call.after.listings ≡ call.before.listings ++ looked_between call.root None None
@@ -93,84 +117,235 @@ audit_listed call last finding h = h.audits.did.listings_are
 pub audit_ended_at : (call : Call) (last : Option Place) (finding : Bool) (front : List Place) (p : Place) → AuditsAll call last finding → item_places call.root ≡ front ++ p ∷ [] → last ≡ Some p
 audit_ended_at call last finding front p h e = h.last_is ∙ ap (last_of None) e ∙ last_append None front p
 
-pub stopped_audit_wrote : (root : StorageRoot) (s t : Store) (before written : List ℕ) (last : Option Place) (finding : Bool) (why : Fault) → AuditStops (known_call root s t before written) last finding why → (trail : List Opening) × ((whole : List Item) × ((others : List Item) × ((gone : ℕ) × ((t.openings ≡ s.openings ++ trail) × ((audit root (unread_of root trail) ≡ whole ++ others) × ((written ≡ before ++ (text whole ++ take gone (text (take 1 others)))) × ((why ≡ fault.Output → gone < length (text (take 1 others))) × ((why ≢ fault.Output → gone ≡ 0) × (finding ≡ found whole)))))))))
-stopped_audit_wrote root s t before written last finding why h = (h.trail, (h.stops.whole, (h.stops.others, (h.stops.part_of.gone, (h.fails.did.openings_are, (h.stops.items_are, ((h.stops.wrote ∙ ap (λ u. before ++ (text h.stops.whole ++ u)) h.stops.part_of.is), (h.stops.part_of.proper, (h.stops.part_of.none, h.found_is)))))))))
+pub stopped_audit_wrote : (root : StorageRoot) (s t : Store) (before written : List ℕ) (last : Option Place) (finding : Bool) (why : Fault)
+    → AuditStops (known_call root s t before written) last finding why → (trail : List Opening)
+    × ((whole : List Item) × ((others : List Item)
+    × ((gone : ℕ) × ((t.openings ≡ s.openings ++ trail)
+    × ((audit root (unread_of root trail) ≡ whole ++ others)
+    × ((written ≡ before ++ (text whole ++ take gone (text (take 1 others))))
+    × ((why ≡ fault.Output → gone < length (text (take 1 others))) × ((why ≢ fault.Output → gone ≡ 0) × (finding ≡ found whole)))))))))
+stopped_audit_wrote root s t before written last finding why h =
+    (h.trail, (h.stops.whole, (h.stops.others,
+    (h.stops.part_of.gone, (h.fails.did.openings_are,
+    (h.stops.items_are, ((h.stops.wrote ∙ ap (λ u. before ++ (text h.stops.whole ++ u)) h.stops.part_of.is), (h.stops.part_of.proper, (h.stops.part_of.none, h.found_is)))))))))
 
-pub stopped_audit_opened : (call : Call) (last : Option Place) (finding : Bool) (why : Fault) → AuditStops call last finding why → (trail : List Opening) × ((whole : List Item) × ((others : List Item) × ((begun : List Place) × ((rest : List Place) × ((call.after.openings ≡ call.before.openings ++ trail) × ((audit call.root (unread_of call.root trail) ≡ whole ++ others) × ((map (λ i. i.place) (take 1 others) ≡ begun ++ rest) × (content_trail call.root trail ≡ hashed_among call.root (map (λ i. i.place) whole ++ begun)))))))))
-stopped_audit_opened call last finding why h = (h.trail, (h.stops.whole, (h.stops.others, (h.stops.begun, (h.stops.one.0, (h.fails.did.openings_are, (h.stops.items_are, (h.stops.one.1, h.fails.opened))))))))
+pub stopped_audit_opened : (call : Call) (last : Option Place) (finding : Bool) (why : Fault) → AuditStops call last finding why → (trail : List Opening)
+    × ((whole : List Item) × ((others : List Item)
+    × ((begun : List Place) × ((rest : List Place)
+    × ((call.after.openings ≡ call.before.openings ++ trail)
+    × ((audit call.root (unread_of call.root trail) ≡ whole ++ others)
+    × ((map (λ i. i.place) (take 1 others) ≡ begun ++ rest) × (content_trail call.root trail ≡ hashed_among call.root (map (λ i. i.place) whole ++ begun)))))))))
+stopped_audit_opened call last finding why h =
+    (h.trail, (h.stops.whole, (h.stops.others, (h.stops.begun, (h.stops.one.0, (h.fails.did.openings_are, (h.stops.items_are, (h.stops.one.1, h.fails.opened))))))))
 
-pub stopped_audit_listed : (call : Call) (last : Option Place) (finding : Bool) (why : Fault) → AuditStops call last finding why → (listed : List Place) × ((rest : List Place) × ((call.after.listings ≡ call.before.listings ++ listed) × (looked_between call.root None None ≡ listed ++ rest)))
+pub stopped_audit_listed : (call : Call) (last : Option Place) (finding : Bool) (why : Fault) → AuditStops call last finding why → (listed : List Place)
+    × ((rest : List Place) × ((call.after.listings ≡ call.before.listings ++ listed) × (looked_between call.root None None ≡ listed ++ rest)))
 stopped_audit_listed call last finding why h = (h.listed, (h.listed_front.0, (h.fails.did.listings_are, h.listed_front.1)))
 
-pub stopped_audit_read : (call : Call) (last : Option Place) (finding : Bool) (why : Fault) → AuditStops call last finding why → (trail : List Opening) × ((rest : List Place) × ((call.after.openings ≡ call.before.openings ++ trail) × ((call.after.failures ≡ call.before.failures + (length (unread_of call.root trail) + failures_by why)) × (read_between call.root None None ≡ heads_of call.root trail ++ rest))))
-stopped_audit_read call last finding why h = (h.trail, (h.heads_front.0, (h.fails.did.openings_are, (h.fails.did.failures_are, (h.heads_front.1 ∙ ap (λ l. l ++ h.heads_front.0) (sym h.fails.heads_are))))))
+pub stopped_audit_read : (call : Call) (last : Option Place) (finding : Bool) (why : Fault) → AuditStops call last finding why → (trail : List Opening)
+    × ((rest : List Place) × ((call.after.openings ≡ call.before.openings ++ trail)
+    × ((call.after.failures ≡ call.before.failures + (length (unread_of call.root trail) + failures_by why)) × (read_between call.root None None ≡ heads_of call.root trail ++ rest))))
+stopped_audit_read call last finding why h =
+    (h.trail, (h.heads_front.0, (h.fails.did.openings_are, (h.fails.did.failures_are, (h.heads_front.1 ∙ ap (λ l. l ++ h.heads_front.0) (sym h.fails.heads_are))))))
 
 -- ---- a run
 
-pub run_wrote : (root : StorageRoot) (s t : Store) (before written : List ℕ) (from last next : Option Place) (limits : Limits) (spent files : ℕ) (finding : Bool) → Runs (known_call root s t before written) from last limits spent files finding next → (trail : List Opening) × ((t.openings ≡ s.openings ++ trail) × ((t.failures ≡ s.failures + length (unread_of root trail)) × ((written ≡ before ++ text (cut (after (audit root (unread_of root trail)) from) limits)) × ((spent ≡ total_cost (cut (after (audit root (unread_of root trail)) from) limits)) × ((files ≡ total_files (cut (after (audit root (unread_of root trail)) from) limits)) × (finding ≡ found (cut (after (audit root (unread_of root trail)) from) limits)))))))
-run_wrote root s t before written from last next limits spent files finding h = (h.trail, (h.looks.audits.did.openings_are, (h.looks.audits.did.failures_are, (h.wrote, (h.figures.spent_is, (h.figures.files_is, h.figures.found_is))))))
+pub run_wrote : (root : StorageRoot) (s t : Store) (before written : List ℕ) (from last next : Option Place) (limits : Limits) (spent files : ℕ)
+    (finding : Bool) → Runs (known_call root s t before written) from last limits spent files finding next → (trail : List Opening)
+    × ((t.openings ≡ s.openings ++ trail)
+    × ((t.failures ≡ s.failures + length (unread_of root trail))
+    × ((written ≡ before ++ text (cut (after (audit root (unread_of root trail)) from) limits))
+    × ((spent ≡ total_cost (cut (after (audit root (unread_of root trail)) from) limits))
+    × ((files ≡ total_files (cut (after (audit root (unread_of root trail)) from) limits)) × (finding ≡ found (cut (after (audit root (unread_of root trail)) from) limits)))))))
+run_wrote root s t before written from last next limits spent files finding h =
+    (h.trail, (h.looks.audits.did.openings_are, (h.looks.audits.did.failures_are, (h.wrote, (h.figures.spent_is, (h.figures.files_is, h.figures.found_is))))))
 
-pub run_opened : (call : Call) (from last next : Option Place) (limits : Limits) (spent files : ℕ) (finding : Bool) → Runs call from last limits spent files finding next → (trail : List Opening) × ((call.after.openings ≡ call.before.openings ++ trail) × (content_trail call.root trail ≡ hashed_among call.root (map (λ i. i.place) (cut (after (audit call.root (unread_of call.root trail)) from) limits))))
+pub run_opened : (call : Call) (from last next : Option Place) (limits : Limits) (spent files : ℕ) (finding : Bool)
+    → Runs call from last limits spent files finding next → (trail : List Opening)
+    × ((call.after.openings ≡ call.before.openings ++ trail)
+    × (content_trail call.root trail ≡ hashed_among call.root (map (λ i. i.place) (cut (after (audit call.root (unread_of call.root trail)) from) limits))))
 run_opened call from last next limits spent files finding h = (h.trail, (h.looks.audits.did.openings_are, h.looks.audits.opened))
 
-pub run_listed : (call : Call) (from last next : Option Place) (limits : Limits) (spent files : ℕ) (finding : Bool) → Runs call from last limits spent files finding next → (down : List Place) × ((rest : List Place) × ((call.after.listings ≡ call.before.listings ++ (down ++ looked_between call.root from next)) × ((way_of from ≡ down ++ rest) × (IsAscending place_cmp (down ++ looked_between call.root from next)))))
+pub run_listed : (call : Call) (from last next : Option Place) (limits : Limits) (spent files : ℕ) (finding : Bool)
+    → Runs call from last limits spent files finding next → (down : List Place)
+    × ((rest : List Place) × ((call.after.listings ≡ call.before.listings ++ (down ++ looked_between call.root from next))
+    × ((way_of from ≡ down ++ rest) × (IsAscending place_cmp (down ++ looked_between call.root from next)))))
 run_listed call from last next limits spent files finding h = (h.looks.down, (h.looks.down_front.0, (h.looks.audits.did.listings_are, (h.looks.down_front.1, h.looks.lists_once))))
 
-pub run_read : (call : Call) (from last next : Option Place) (limits : Limits) (spent files : ℕ) (finding : Bool) → Runs call from last limits spent files finding next → (trail : List Opening) × ((held : List Place) × ((rest : List Place) × ((call.after.openings ≡ call.before.openings ++ trail) × ((heads_of call.root trail ≡ held ++ read_between call.root from next) × ((holder call.root from ≡ held ++ rest) × (IsAscending place_cmp (held ++ read_between call.root from next)))))))
-run_read call from last next limits spent files finding h = (h.trail, (h.looks.held, (h.looks.held_front.0, (h.looks.audits.did.openings_are, (h.looks.audits.heads_are, (h.looks.held_front.1, h.looks.reads_once))))))
+pub run_read : (call : Call) (from last next : Option Place) (limits : Limits) (spent files : ℕ) (finding : Bool)
+    → Runs call from last limits spent files finding next → (trail : List Opening)
+    × ((held : List Place) × ((rest : List Place)
+    × ((call.after.openings ≡ call.before.openings ++ trail)
+    × ((heads_of call.root trail ≡ held ++ read_between call.root from next) × ((holder call.root from ≡ held ++ rest) × (IsAscending place_cmp (held ++ read_between call.root from next)))))))
+run_read call from last next limits spent files finding h =
+    (h.trail, (h.looks.held, (h.looks.held_front.0, (h.looks.audits.did.openings_are, (h.looks.audits.heads_are, (h.looks.held_front.1, h.looks.reads_once))))))
 
-pub run_went_to : (call : Call) (from last next : Option Place) (limits : Limits) (spent files : ℕ) (finding : Bool) → Runs call from last limits spent files finding next → (trail : List Opening) × ((call.after.openings ≡ call.before.openings ++ trail) × ((left (after (audit call.root (unread_of call.root trail)) from) limits ≡ [] → next ≡ None) × ((i : Item) (items : List Item) → left (after (audit call.root (unread_of call.root trail)) from) limits ≡ i ∷ items → next ≡ Some i.place)))
+pub run_went_to : (call : Call) (from last next : Option Place) (limits : Limits) (spent files : ℕ) (finding : Bool)
+    → Runs call from last limits spent files finding next → (trail : List Opening)
+    × ((call.after.openings ≡ call.before.openings ++ trail)
+    × ((left (after (audit call.root (unread_of call.root trail)) from) limits ≡ [] → next ≡ None)
+    × ((i : Item) (items : List Item) → left (after (audit call.root (unread_of call.root trail)) from) limits ≡ i ∷ items → next ≡ Some i.place)))
 run_went_to call from last next limits spent files finding h = (h.trail, (h.looks.audits.did.openings_are, ((λ e. h.next_is ∙ ap first_of e), λ i items e. h.next_is ∙ ap first_of e)))
 
-pub run_ended_at : (call : Call) (from last next : Option Place) (limits : Limits) (spent files : ℕ) (finding : Bool) → Runs call from last limits spent files finding next → (trail : List Opening) × ((call.after.openings ≡ call.before.openings ++ trail) × ((cut (after (audit call.root (unread_of call.root trail)) from) limits ≡ [] → last ≡ from) × ((front : List Item) (i : Item) → cut (after (audit call.root (unread_of call.root trail)) from) limits ≡ front ++ i ∷ [] → last ≡ Some i.place)))
-run_ended_at call from last next limits spent files finding h = (h.trail, (h.looks.audits.did.openings_are, ((λ e. h.last_is ∙ ap (λ items. last_of from (places items)) e), λ front i e. h.last_is ∙ ap (λ items. last_of from (places items)) e ∙ last_item from front i)))
+pub run_ended_at : (call : Call) (from last next : Option Place) (limits : Limits) (spent files : ℕ) (finding : Bool)
+    → Runs call from last limits spent files finding next → (trail : List Opening)
+    × ((call.after.openings ≡ call.before.openings ++ trail)
+    × ((cut (after (audit call.root (unread_of call.root trail)) from) limits ≡ [] → last ≡ from)
+    × ((front : List Item) (i : Item) → cut (after (audit call.root (unread_of call.root trail)) from) limits ≡ front ++ i ∷ [] → last ≡ Some i.place)))
+run_ended_at call from last next limits spent files finding h =
+    (h.trail, (h.looks.audits.did.openings_are,
+    ((λ e. h.last_is ∙ ap (λ items. last_of from (places items)) e), λ front i e. h.last_is ∙ ap (λ items. last_of from (places items)) e ∙ last_item from front i)))
 
-pub stopped_run_wrote : (root : StorageRoot) (s t : Store) (before written : List ℕ) (from last : Option Place) (limits : Limits) (spent files : ℕ) (finding : Bool) (why : Fault) → RunStops (known_call root s t before written) from last limits spent files finding why → (trail : List Opening) × ((whole : List Item) × ((others : List Item) × ((gone : ℕ) × ((t.openings ≡ s.openings ++ trail) × ((cut (after (audit root (unread_of root trail)) from) limits ≡ whole ++ others) × ((written ≡ before ++ (text whole ++ take gone (text (take 1 others)))) × ((why ≡ fault.Output → gone < length (text (take 1 others))) × ((why ≢ fault.Output → gone ≡ 0) × ((spent ≡ total_cost whole) × ((files ≡ total_files whole) × (finding ≡ found whole)))))))))))
-stopped_run_wrote root s t before written from last limits spent files finding why h = (h.trail, (h.stops.whole, (h.stops.others, (h.stops.part_of.gone, (h.looks.fails.did.openings_are, (h.stops.items_are, ((h.stops.wrote ∙ ap (λ u. before ++ (text h.stops.whole ++ u)) h.stops.part_of.is), (h.stops.part_of.proper, (h.stops.part_of.none, (h.figures.spent_is, (h.figures.files_is, h.figures.found_is)))))))))))
+pub stopped_run_wrote : (root : StorageRoot) (s t : Store) (before written : List ℕ) (from last : Option Place) (limits : Limits) (spent files : ℕ)
+    (finding : Bool) (why : Fault) → RunStops (known_call root s t before written) from last limits spent files finding why → (trail : List Opening)
+    × ((whole : List Item) × ((others : List Item)
+    × ((gone : ℕ) × ((t.openings ≡ s.openings ++ trail)
+    × ((cut (after (audit root (unread_of root trail)) from) limits ≡ whole ++ others)
+    × ((written ≡ before ++ (text whole ++ take gone (text (take 1 others))))
+    × ((why ≡ fault.Output → gone < length (text (take 1 others))) × ((why ≢ fault.Output → gone ≡ 0) × ((spent ≡ total_cost whole) × ((files ≡ total_files whole) × (finding ≡ found whole)))))))))))
+stopped_run_wrote root s t before written from last limits spent files finding why h =
+    (h.trail, (h.stops.whole, (h.stops.others,
+    (h.stops.part_of.gone, (h.looks.fails.did.openings_are,
+    (h.stops.items_are, ((h.stops.wrote ∙ ap (λ u. before ++ (text h.stops.whole ++ u)) h.stops.part_of.is),
+    (h.stops.part_of.proper, (h.stops.part_of.none, (h.figures.spent_is, (h.figures.files_is, h.figures.found_is)))))))))))
 
-pub stopped_run_opened : (call : Call) (from last : Option Place) (limits : Limits) (spent files : ℕ) (finding : Bool) (why : Fault) → RunStops call from last limits spent files finding why → (trail : List Opening) × ((whole : List Item) × ((others : List Item) × ((begun : List Place) × ((rest : List Place) × ((call.after.openings ≡ call.before.openings ++ trail) × ((cut (after (audit call.root (unread_of call.root trail)) from) limits ≡ whole ++ others) × ((map (λ i. i.place) (take 1 others) ≡ begun ++ rest) × (content_trail call.root trail ≡ hashed_among call.root (map (λ i. i.place) whole ++ begun)))))))))
-stopped_run_opened call from last limits spent files finding why h = (h.trail, (h.stops.whole, (h.stops.others, (h.stops.begun, (h.stops.one.0, (h.looks.fails.did.openings_are, (h.stops.items_are, (h.stops.one.1, h.looks.fails.opened))))))))
+pub stopped_run_opened : (call : Call) (from last : Option Place) (limits : Limits) (spent files : ℕ) (finding : Bool) (why : Fault)
+    → RunStops call from last limits spent files finding why → (trail : List Opening)
+    × ((whole : List Item) × ((others : List Item)
+    × ((begun : List Place) × ((rest : List Place)
+    × ((call.after.openings ≡ call.before.openings ++ trail)
+    × ((cut (after (audit call.root (unread_of call.root trail)) from) limits ≡ whole ++ others)
+    × ((map (λ i. i.place) (take 1 others) ≡ begun ++ rest) × (content_trail call.root trail ≡ hashed_among call.root (map (λ i. i.place) whole ++ begun)))))))))
+stopped_run_opened call from last limits spent files finding why h =
+    (h.trail, (h.stops.whole, (h.stops.others, (h.stops.begun, (h.stops.one.0, (h.looks.fails.did.openings_are, (h.stops.items_are, (h.stops.one.1, h.looks.fails.opened))))))))
 
-pub stopped_run_listed : (call : Call) (from last : Option Place) (limits : Limits) (spent files : ℕ) (finding : Bool) (why : Fault) → RunStops call from last limits spent files finding why → (down : List Place) × ((below : List Place) × ((listed : List Place) × ((rest : List Place) × ((call.after.listings ≡ call.before.listings ++ (down ++ listed)) × ((way_of from ≡ down ++ below) × ((looked_between call.root from None ≡ listed ++ rest) × (IsAscending place_cmp (down ++ listed))))))))
-stopped_run_listed call from last limits spent files finding why h = (h.looks.down, (h.looks.down_front.0, (h.looks.listed, (h.looks.listed_front.0, (h.looks.fails.did.listings_are, (h.looks.down_front.1, (h.looks.listed_front.1, h.looks.lists_once)))))))
+pub stopped_run_listed : (call : Call) (from last : Option Place) (limits : Limits) (spent files : ℕ) (finding : Bool) (why : Fault)
+    → RunStops call from last limits spent files finding why → (down : List Place)
+    × ((below : List Place) × ((listed : List Place)
+    × ((rest : List Place) × ((call.after.listings ≡ call.before.listings ++ (down ++ listed))
+    × ((way_of from ≡ down ++ below) × ((looked_between call.root from None ≡ listed ++ rest) × (IsAscending place_cmp (down ++ listed))))))))
+stopped_run_listed call from last limits spent files finding why h =
+    (h.looks.down, (h.looks.down_front.0, (h.looks.listed, (h.looks.listed_front.0, (h.looks.fails.did.listings_are, (h.looks.down_front.1, (h.looks.listed_front.1, h.looks.lists_once)))))))
 
-pub stopped_run_read : (call : Call) (from last : Option Place) (limits : Limits) (spent files : ℕ) (finding : Bool) (why : Fault) → RunStops call from last limits spent files finding why → (trail : List Opening) × ((held : List Place) × ((below : List Place) × ((heads : List Place) × ((rest : List Place) × ((call.after.openings ≡ call.before.openings ++ trail) × ((call.after.failures ≡ call.before.failures + (length (unread_of call.root trail) + failures_by why)) × ((heads_of call.root trail ≡ held ++ heads) × ((holder call.root from ≡ held ++ below) × ((read_between call.root from None ≡ heads ++ rest) × (IsAscending place_cmp (held ++ heads)))))))))))
-stopped_run_read call from last limits spent files finding why h = (h.trail, (h.looks.held, (h.looks.held_front.0, (h.looks.heads, (h.looks.heads_front.0, (h.looks.fails.did.openings_are, (h.looks.fails.did.failures_are, (h.looks.fails.heads_are, (h.looks.held_front.1, (h.looks.heads_front.1, h.looks.reads_once))))))))))
+pub stopped_run_read : (call : Call) (from last : Option Place) (limits : Limits) (spent files : ℕ) (finding : Bool) (why : Fault)
+    → RunStops call from last limits spent files finding why → (trail : List Opening)
+    × ((held : List Place) × ((below : List Place)
+    × ((heads : List Place) × ((rest : List Place)
+    × ((call.after.openings ≡ call.before.openings ++ trail)
+    × ((call.after.failures ≡ call.before.failures + (length (unread_of call.root trail) + failures_by why))
+    × ((heads_of call.root trail ≡ held ++ heads) × ((holder call.root from ≡ held ++ below) × ((read_between call.root from None ≡ heads ++ rest) × (IsAscending place_cmp (held ++ heads)))))))))))
+stopped_run_read call from last limits spent files finding why h =
+    (h.trail, (h.looks.held, (h.looks.held_front.0,
+    (h.looks.heads, (h.looks.heads_front.0,
+    (h.looks.fails.did.openings_are, (h.looks.fails.did.failures_are, (h.looks.fails.heads_are, (h.looks.held_front.1, (h.looks.heads_front.1, h.looks.reads_once))))))))))
 
-pub stopped_run_ended_at : (call : Call) (from last : Option Place) (limits : Limits) (spent files : ℕ) (finding : Bool) (why : Fault) → RunStops call from last limits spent files finding why → (trail : List Opening) × ((whole : List Item) × ((others : List Item) × ((call.after.openings ≡ call.before.openings ++ trail) × ((cut (after (audit call.root (unread_of call.root trail)) from) limits ≡ whole ++ others) × ((spent ≡ total_cost whole) × ((whole ≡ [] → last ≡ from) × ((front : List Item) (i : Item) → whole ≡ front ++ i ∷ [] → last ≡ Some i.place)))))))
-stopped_run_ended_at call from last limits spent files finding why h = (h.trail, (h.stops.whole, (h.stops.others, (h.looks.fails.did.openings_are, (h.stops.items_are, (h.figures.spent_is, ((λ e. h.stops.last_is ∙ ap (λ items. last_of from (places items)) e), λ front i e. h.stops.last_is ∙ ap (λ items. last_of from (places items)) e ∙ last_item from front i)))))))
+pub stopped_run_ended_at : (call : Call) (from last : Option Place) (limits : Limits) (spent files : ℕ) (finding : Bool) (why : Fault)
+    → RunStops call from last limits spent files finding why → (trail : List Opening)
+    × ((whole : List Item) × ((others : List Item)
+    × ((call.after.openings ≡ call.before.openings ++ trail)
+    × ((cut (after (audit call.root (unread_of call.root trail)) from) limits ≡ whole ++ others)
+    × ((spent ≡ total_cost whole) × ((whole ≡ [] → last ≡ from) × ((front : List Item) (i : Item) → whole ≡ front ++ i ∷ [] → last ≡ Some i.place)))))))
+stopped_run_ended_at call from last limits spent files finding why h =
+    (h.trail, (h.stops.whole, (h.stops.others,
+    (h.looks.fails.did.openings_are,
+    (h.stops.items_are, (h.figures.spent_is,
+    ((λ e. h.stops.last_is ∙ ap (λ items. last_of from (places items)) e), λ front i e. h.stops.last_is ∙ ap (λ items. last_of from (places items)) e ∙ last_item from front i)))))))
 
 -- ---- a cycle
 
-pub cycle_wrote : (root : StorageRoot) (s t : Store) (before written : List ℕ) (last : Option Place) (limits : List Limits) (spent files : ℕ) (finding : Bool) (count : ℕ) (whole : Bool) → Cycles (known_call root s t before written) last limits spent files finding count whole → (trail : List Opening) × ((t.openings ≡ s.openings ++ trail) × ((t.failures ≡ s.failures + length (unread_of root trail)) × ((written ≡ before ++ text (joined (runs (audit root (unread_of root trail)) limits))) × ((spent ≡ total_cost (joined (runs (audit root (unread_of root trail)) limits))) × ((files ≡ total_files (joined (runs (audit root (unread_of root trail)) limits))) × (finding ≡ found (joined (runs (audit root (unread_of root trail)) limits))))))))
-cycle_wrote root s t before written last limits spent files finding count whole h = (h.trail, (h.audits.did.openings_are, (h.audits.did.failures_are, (h.wrote, (h.figures.spent_is, (h.figures.files_is, h.figures.found_is))))))
+pub cycle_wrote : (root : StorageRoot) (s t : Store) (before written : List ℕ) (last : Option Place) (limits : List Limits) (spent files : ℕ) (finding : Bool)
+    (count : ℕ) (whole : Bool) → Cycles (known_call root s t before written) last limits spent files finding count whole → (trail : List Opening)
+    × ((t.openings ≡ s.openings ++ trail)
+    × ((t.failures ≡ s.failures + length (unread_of root trail))
+    × ((written ≡ before ++ text (joined (runs (audit root (unread_of root trail)) limits)))
+    × ((spent ≡ total_cost (joined (runs (audit root (unread_of root trail)) limits)))
+    × ((files ≡ total_files (joined (runs (audit root (unread_of root trail)) limits))) × (finding ≡ found (joined (runs (audit root (unread_of root trail)) limits))))))))
+cycle_wrote root s t before written last limits spent files finding count whole h =
+    (h.trail, (h.audits.did.openings_are, (h.audits.did.failures_are, (h.wrote, (h.figures.spent_is, (h.figures.files_is, h.figures.found_is))))))
 
-pub cycle_opened : (call : Call) (last : Option Place) (limits : List Limits) (spent files : ℕ) (finding : Bool) (count : ℕ) (whole : Bool) → Cycles call last limits spent files finding count whole → (trail : List Opening) × ((call.after.openings ≡ call.before.openings ++ trail) × ((content_trail call.root trail ≡ hashed_among call.root (map (λ i. i.place) (joined (runs (audit call.root (unread_of call.root trail)) limits)))) × (1 ≤ count → length (heads_of call.root trail) < length (inventories call.root) + count)))
-cycle_opened call last limits spent files finding count whole h = (h.trail, (h.audits.did.openings_are, (h.audits.opened, λ some. fewer _ _ _ h.audits.heads_are (few_inventories call.root count h.heads (h.inventories_read some)))))
+pub cycle_opened : (call : Call) (last : Option Place) (limits : List Limits) (spent files : ℕ) (finding : Bool) (count : ℕ) (whole : Bool)
+    → Cycles call last limits spent files finding count whole → (trail : List Opening)
+    × ((call.after.openings ≡ call.before.openings ++ trail)
+    × ((content_trail call.root trail ≡ hashed_among call.root (map (λ i. i.place) (joined (runs (audit call.root (unread_of call.root trail)) limits))))
+    × (1 ≤ count → length (heads_of call.root trail) < length (inventories call.root) + count)))
+cycle_opened call last limits spent files finding count whole h =
+    (h.trail, (h.audits.did.openings_are, (h.audits.opened, λ some. fewer _ _ _ h.audits.heads_are (few_inventories call.root count h.heads (h.inventories_read some)))))
 
-pub cycle_ended : (call : Call) (last : Option Place) (limits : List Limits) (spent files : ℕ) (finding : Bool) (count : ℕ) (whole : Bool) → Cycles call last limits spent files finding count whole → (trail : List Opening) × ((call.after.openings ≡ call.before.openings ++ trail) × ((count ≡ length (runs (audit call.root (unread_of call.root trail)) limits)) × ((whole ≡ true → joined (runs (audit call.root (unread_of call.root trail)) limits) ≡ audit call.root (unread_of call.root trail)) × (joined (runs (audit call.root (unread_of call.root trail)) limits) ≡ audit call.root (unread_of call.root trail) → whole ≡ true))))
-cycle_ended call last limits spent files finding count whole h = (h.trail, (h.audits.did.openings_are, (h.count_is, ((λ e. (h.ends_is.0 e).1), λ e. h.ends_is.1 (some_run call.root limits count h.trail h.count_is e, e)))))
+pub cycle_ended : (call : Call) (last : Option Place) (limits : List Limits) (spent files : ℕ) (finding : Bool) (count : ℕ) (whole : Bool)
+    → Cycles call last limits spent files finding count whole → (trail : List Opening)
+    × ((call.after.openings ≡ call.before.openings ++ trail)
+    × ((count ≡ length (runs (audit call.root (unread_of call.root trail)) limits))
+    × ((whole ≡ true → joined (runs (audit call.root (unread_of call.root trail)) limits) ≡ audit call.root (unread_of call.root trail))
+    × (joined (runs (audit call.root (unread_of call.root trail)) limits) ≡ audit call.root (unread_of call.root trail) → whole ≡ true))))
+cycle_ended call last limits spent files finding count whole h =
+    (h.trail, (h.audits.did.openings_are, (h.count_is, ((λ e. (h.ends_is.0 e).1), λ e. h.ends_is.1 (some_run call.root limits count h.trail h.count_is e, e)))))
 
-pub cycle_took_few : (call : Call) (last : Option Place) (limits : List Limits) (spent files : ℕ) (finding : Bool) (count : ℕ) (whole : Bool) (b n : ℕ) → Cycles call last limits spent files finding count whole → 1 ≤ b → 1 ≤ n → All (IsAtLeast b n) limits → (trail : List Opening) × ((call.after.openings ≡ call.before.openings ++ trail) × ((count ≤ total_cost (audit call.root (unread_of call.root trail)) / b + total_files (audit call.root (unread_of call.root trail)) / n + 1) × (total_cost (audit call.root (unread_of call.root trail)) / b + total_files (audit call.root (unread_of call.root trail)) / n + 1 ≤ length limits → whole ≡ true)))
+pub cycle_took_few : (call : Call) (last : Option Place) (limits : List Limits) (spent files : ℕ) (finding : Bool) (count : ℕ) (whole : Bool) (b n : ℕ)
+    → Cycles call last limits spent files finding count whole → 1 ≤ b → 1 ≤ n → All (IsAtLeast b n) limits → (trail : List Opening)
+    × ((call.after.openings ≡ call.before.openings ++ trail)
+    × ((count ≤ total_cost (audit call.root (unread_of call.root trail)) / b + total_files (audit call.root (unread_of call.root trail)) / n + 1)
+    × (total_cost (audit call.root (unread_of call.root trail)) / b + total_files (audit call.root (unread_of call.root trail)) / n + 1 ≤ length limits → whole ≡ true)))
 cycle_took_few call last limits spent files finding count whole b n h some more large = (h.trail, (h.audits.did.openings_are, (h.few b n some more large, h.suffice b n some more large)))
 
-pub cycle_by_sum : (call : Call) (last : Option Place) (limits : List Limits) (spent files : ℕ) (finding : Bool) (count : ℕ) (whole : Bool) (k : ℕ) → Cycles call last limits spent files finding count whole → 1 ≤ k → k ≤ length limits → (trail : List Opening) × ((call.after.openings ≡ call.before.openings ++ trail) × (FilesFit (audit call.root (unread_of call.root trail)) limits → total_cost (audit call.root (unread_of call.root trail)) ≤ sum_of (take k (map (λ l. l.budget) limits)) → (whole ≡ true) × (count ≤ k)))
+pub cycle_by_sum : (call : Call) (last : Option Place) (limits : List Limits) (spent files : ℕ) (finding : Bool) (count : ℕ) (whole : Bool) (k : ℕ)
+    → Cycles call last limits spent files finding count whole → 1 ≤ k → k ≤ length limits → (trail : List Opening)
+    × ((call.after.openings ≡ call.before.openings ++ trail)
+    × (FilesFit (audit call.root (unread_of call.root trail)) limits
+    → total_cost (audit call.root (unread_of call.root trail)) ≤ sum_of (take k (map (λ l. l.budget) limits)) → (whole ≡ true) × (count ≤ k)))
 cycle_by_sum call last limits spent files finding count whole k h some enough_limits = (h.trail, (h.audits.did.openings_are, h.by_sum k some enough_limits))
 
-pub cycle_ended_at : (call : Call) (last : Option Place) (limits : List Limits) (spent files : ℕ) (finding : Bool) (count : ℕ) (whole : Bool) → Cycles call last limits spent files finding count whole → (trail : List Opening) × ((call.after.openings ≡ call.before.openings ++ trail) × ((joined (runs (audit call.root (unread_of call.root trail)) limits) ≡ [] → last ≡ None) × ((front : List Item) (i : Item) → joined (runs (audit call.root (unread_of call.root trail)) limits) ≡ front ++ i ∷ [] → last ≡ Some i.place)))
-cycle_ended_at call last limits spent files finding count whole h = (h.trail, (h.audits.did.openings_are, ((λ e. h.last_is ∙ ap (λ items. last_of None (places items)) e), λ front i e. h.last_is ∙ ap (λ items. last_of None (places items)) e ∙ last_item None front i)))
+pub cycle_ended_at : (call : Call) (last : Option Place) (limits : List Limits) (spent files : ℕ) (finding : Bool) (count : ℕ) (whole : Bool)
+    → Cycles call last limits spent files finding count whole → (trail : List Opening)
+    × ((call.after.openings ≡ call.before.openings ++ trail)
+    × ((joined (runs (audit call.root (unread_of call.root trail)) limits) ≡ [] → last ≡ None)
+    × ((front : List Item) (i : Item) → joined (runs (audit call.root (unread_of call.root trail)) limits) ≡ front ++ i ∷ [] → last ≡ Some i.place)))
+cycle_ended_at call last limits spent files finding count whole h =
+    (h.trail, (h.audits.did.openings_are,
+    ((λ e. h.last_is ∙ ap (λ items. last_of None (places items)) e), λ front i e. h.last_is ∙ ap (λ items. last_of None (places items)) e ∙ last_item None front i)))
 
-pub stopped_cycle_wrote : (root : StorageRoot) (s t : Store) (before written : List ℕ) (last : Option Place) (limits : List Limits) (spent files : ℕ) (finding : Bool) (count : ℕ) (why : Fault) → CycleStops (known_call root s t before written) last limits spent files finding count why → (trail : List Opening) × ((whole : List Item) × ((others : List Item) × ((gone : ℕ) × ((t.openings ≡ s.openings ++ trail) × ((joined (take count (runs (audit root (unread_of root trail)) limits)) ≡ whole ++ others) × ((written ≡ before ++ (text whole ++ take gone (text (take 1 others)))) × ((why ≡ fault.Output → gone < length (text (take 1 others))) × ((why ≢ fault.Output → gone ≡ 0) × ((spent ≡ total_cost whole) × ((files ≡ total_files whole) × (finding ≡ found whole)))))))))))
-stopped_cycle_wrote root s t before written last limits spent files finding count why h = (h.trail, (h.stops.whole, (h.stops.others, (h.stops.part_of.gone, (h.fails.did.openings_are, (h.stops.items_are, ((h.stops.wrote ∙ ap (λ u. before ++ (text h.stops.whole ++ u)) h.stops.part_of.is), (h.stops.part_of.proper, (h.stops.part_of.none, (h.figures.spent_is, (h.figures.files_is, h.figures.found_is)))))))))))
+pub stopped_cycle_wrote : (root : StorageRoot) (s t : Store) (before written : List ℕ) (last : Option Place) (limits : List Limits) (spent files : ℕ)
+    (finding : Bool) (count : ℕ) (why : Fault) → CycleStops (known_call root s t before written) last limits spent files finding count why
+    → (trail : List Opening) × ((whole : List Item)
+    × ((others : List Item) × ((gone : ℕ)
+    × ((t.openings ≡ s.openings ++ trail)
+    × ((joined (take count (runs (audit root (unread_of root trail)) limits)) ≡ whole ++ others)
+    × ((written ≡ before ++ (text whole ++ take gone (text (take 1 others))))
+    × ((why ≡ fault.Output → gone < length (text (take 1 others))) × ((why ≢ fault.Output → gone ≡ 0) × ((spent ≡ total_cost whole) × ((files ≡ total_files whole) × (finding ≡ found whole)))))))))))
+stopped_cycle_wrote root s t before written last limits spent files finding count why h =
+    (h.trail, (h.stops.whole, (h.stops.others,
+    (h.stops.part_of.gone, (h.fails.did.openings_are,
+    (h.stops.items_are, ((h.stops.wrote ∙ ap (λ u. before ++ (text h.stops.whole ++ u)) h.stops.part_of.is),
+    (h.stops.part_of.proper, (h.stops.part_of.none, (h.figures.spent_is, (h.figures.files_is, h.figures.found_is)))))))))))
 
-pub stopped_cycle_counted : (call : Call) (last : Option Place) (limits : List Limits) (spent files : ℕ) (finding : Bool) (count : ℕ) (why : Fault) → CycleStops call last limits spent files finding count why → (trail : List Opening) × ((whole : List Item) × ((rest : List Item) × ((call.after.openings ≡ call.before.openings ++ trail) × ((1 ≤ count) × ((count ≤ length (runs (audit call.root (unread_of call.root trail)) limits)) × ((spent ≡ total_cost whole) × ((whole ≡ joined (take (count - 1) (runs (audit call.root (unread_of call.root trail)) limits)) ++ rest) × (length (heads_of call.root trail) < length (inventories call.root) + count))))))))
-stopped_cycle_counted call last limits spent files finding count why h = (h.trail, (h.stops.whole, (h.runs_before.0, (h.fails.did.openings_are, (h.made, (h.count_fits, (h.figures.spent_is, (h.runs_before.1, fewer _ _ _ h.fails.heads_are (few_inventories call.root count h.heads h.inventories_read)))))))))
+pub stopped_cycle_counted : (call : Call) (last : Option Place) (limits : List Limits) (spent files : ℕ) (finding : Bool) (count : ℕ) (why : Fault)
+    → CycleStops call last limits spent files finding count why → (trail : List Opening)
+    × ((whole : List Item) × ((rest : List Item)
+    × ((call.after.openings ≡ call.before.openings ++ trail)
+    × ((1 ≤ count) × ((count ≤ length (runs (audit call.root (unread_of call.root trail)) limits))
+    × ((spent ≡ total_cost whole) × ((whole ≡ joined (take (count - 1) (runs (audit call.root (unread_of call.root trail)) limits)) ++ rest)
+    × (length (heads_of call.root trail) < length (inventories call.root) + count))))))))
+stopped_cycle_counted call last limits spent files finding count why h =
+    (h.trail, (h.stops.whole, (h.runs_before.0,
+    (h.fails.did.openings_are, (h.made, (h.count_fits, (h.figures.spent_is, (h.runs_before.1, fewer _ _ _ h.fails.heads_are (few_inventories call.root count h.heads h.inventories_read)))))))))
 
-pub stopped_cycle_opened : (call : Call) (last : Option Place) (limits : List Limits) (spent files : ℕ) (finding : Bool) (count : ℕ) (why : Fault) → CycleStops call last limits spent files finding count why → (trail : List Opening) × ((whole : List Item) × ((others : List Item) × ((begun : List Place) × ((rest : List Place) × ((call.after.openings ≡ call.before.openings ++ trail) × ((call.after.failures ≡ call.before.failures + (length (unread_of call.root trail) + failures_by why)) × ((joined (take count (runs (audit call.root (unread_of call.root trail)) limits)) ≡ whole ++ others) × ((map (λ i. i.place) (take 1 others) ≡ begun ++ rest) × (content_trail call.root trail ≡ hashed_among call.root (map (λ i. i.place) whole ++ begun))))))))))
-stopped_cycle_opened call last limits spent files finding count why h = (h.trail, (h.stops.whole, (h.stops.others, (h.stops.begun, (h.stops.one.0, (h.fails.did.openings_are, (h.fails.did.failures_are, (h.stops.items_are, (h.stops.one.1, h.fails.opened)))))))))
+pub stopped_cycle_opened : (call : Call) (last : Option Place) (limits : List Limits) (spent files : ℕ) (finding : Bool) (count : ℕ) (why : Fault)
+    → CycleStops call last limits spent files finding count why → (trail : List Opening)
+    × ((whole : List Item) × ((others : List Item)
+    × ((begun : List Place) × ((rest : List Place)
+    × ((call.after.openings ≡ call.before.openings ++ trail)
+    × ((call.after.failures ≡ call.before.failures + (length (unread_of call.root trail) + failures_by why))
+    × ((joined (take count (runs (audit call.root (unread_of call.root trail)) limits)) ≡ whole ++ others)
+    × ((map (λ i. i.place) (take 1 others) ≡ begun ++ rest) × (content_trail call.root trail ≡ hashed_among call.root (map (λ i. i.place) whole ++ begun))))))))))
+stopped_cycle_opened call last limits spent files finding count why h =
+    (h.trail, (h.stops.whole, (h.stops.others, (h.stops.begun, (h.stops.one.0, (h.fails.did.openings_are, (h.fails.did.failures_are, (h.stops.items_are, (h.stops.one.1, h.fails.opened)))))))))
 
-pub stopped_cycle_ended_at : (call : Call) (last : Option Place) (limits : List Limits) (spent files : ℕ) (finding : Bool) (count : ℕ) (why : Fault) → CycleStops call last limits spent files finding count why → (trail : List Opening) × ((whole : List Item) × ((call.after.openings ≡ call.before.openings ++ trail) × ((spent ≡ total_cost whole) × ((whole ≡ [] → last ≡ None) × ((front : List Item) (i : Item) → whole ≡ front ++ i ∷ [] → last ≡ Some i.place)))))
-stopped_cycle_ended_at call last limits spent files finding count why h = (h.trail, (h.stops.whole, (h.fails.did.openings_are, (h.figures.spent_is, ((λ e. h.stops.last_is ∙ ap (λ items. last_of None (places items)) e), λ front i e. h.stops.last_is ∙ ap (λ items. last_of None (places items)) e ∙ last_item None front i)))))
+pub stopped_cycle_ended_at : (call : Call) (last : Option Place) (limits : List Limits) (spent files : ℕ) (finding : Bool) (count : ℕ) (why : Fault)
+    → CycleStops call last limits spent files finding count why → (trail : List Opening)
+    × ((whole : List Item) × ((call.after.openings ≡ call.before.openings ++ trail)
+    × ((spent ≡ total_cost whole) × ((whole ≡ [] → last ≡ None) × ((front : List Item) (i : Item) → whole ≡ front ++ i ∷ [] → last ≡ Some i.place)))))
+stopped_cycle_ended_at call last limits spent files finding count why h =
+    (h.trail, (h.stops.whole, (h.fails.did.openings_are,
+    (h.figures.spent_is, ((λ e. h.stops.last_is ∙ ap (λ items. last_of None (places items)) e), λ front i e. h.stops.last_is ∙ ap (λ items. last_of None (places items)) e ∙ last_item None front i)))))
 
 -- ---- how they ended
 
@@ -186,45 +361,63 @@ audit_by_end call last finding h = h
 pub audit_by_stop : (call : Call) (last : Option Place) (finding : Bool) (why : Fault) → AuditEnds call last finding (end.Stopped why) → AuditStops call last finding why
 audit_by_stop call last finding why h = h
 
-pub run_by_end : (call : Call) (from last : Option Place) (limits : Limits) (spent files : ℕ) (finding : Bool) → RunEnds call from last limits spent files finding run.Ended → Runs call from last limits spent files finding None
+pub run_by_end : (call : Call) (from last : Option Place) (limits : Limits) (spent files : ℕ) (finding : Bool)
+    → RunEnds call from last limits spent files finding run.Ended → Runs call from last limits spent files finding None
 run_by_end call from last limits spent files finding h = h
 
-pub run_by_limits : (call : Call) (from last : Option Place) (limits : Limits) (spent files : ℕ) (finding : Bool) → RunEnds call from last limits spent files finding run.Spent → (next : Place) × Runs call from last limits spent files finding (Some next)
+pub run_by_limits : (call : Call) (from last : Option Place) (limits : Limits) (spent files : ℕ) (finding : Bool)
+    → RunEnds call from last limits spent files finding run.Spent → (next : Place) × Runs call from last limits spent files finding (Some next)
 run_by_limits call from last limits spent files finding h = h
 
-pub run_by_stop : (call : Call) (from last : Option Place) (limits : Limits) (spent files : ℕ) (finding : Bool) (why : Fault) → RunEnds call from last limits spent files finding (run.Stopped why) → RunStops call from last limits spent files finding why
+pub run_by_stop : (call : Call) (from last : Option Place) (limits : Limits) (spent files : ℕ) (finding : Bool) (why : Fault)
+    → RunEnds call from last limits spent files finding (run.Stopped why) → RunStops call from last limits spent files finding why
 run_by_stop call from last limits spent files finding why h = h
 
 pub no_run_where_worn : (call : Call) (from last : Option Place) (limits : Limits) (spent files : ℕ) (finding : Bool) → RunEnds call from last limits spent files finding run.Worn → ⊥
 no_run_where_worn call from last limits spent files finding h = h
 
-pub cycle_by_end : (call : Call) (last : Option Place) (limits : List Limits) (spent files : ℕ) (finding : Bool) (count : ℕ) → CycleEnds call last limits spent files finding count cycle.Ended → Cycles call last limits spent files finding count true
+pub cycle_by_end : (call : Call) (last : Option Place) (limits : List Limits) (spent files : ℕ) (finding : Bool) (count : ℕ)
+    → CycleEnds call last limits spent files finding count cycle.Ended → Cycles call last limits spent files finding count true
 cycle_by_end call last limits spent files finding count h = h
 
-pub cycle_by_limits : (call : Call) (last : Option Place) (limits : List Limits) (spent files : ℕ) (finding : Bool) (count : ℕ) → CycleEnds call last limits spent files finding count cycle.Spent → Cycles call last limits spent files finding count false
+pub cycle_by_limits : (call : Call) (last : Option Place) (limits : List Limits) (spent files : ℕ) (finding : Bool) (count : ℕ)
+    → CycleEnds call last limits spent files finding count cycle.Spent → Cycles call last limits spent files finding count false
 cycle_by_limits call last limits spent files finding count h = h
 
-pub cycle_by_stop : (call : Call) (last : Option Place) (limits : List Limits) (spent files : ℕ) (finding : Bool) (count : ℕ) (why : Fault) → CycleEnds call last limits spent files finding count (cycle.Stopped why) → CycleStops call last limits spent files finding count why
+pub cycle_by_stop : (call : Call) (last : Option Place) (limits : List Limits) (spent files : ℕ) (finding : Bool) (count : ℕ) (why : Fault)
+    → CycleEnds call last limits spent files finding count (cycle.Stopped why) → CycleStops call last limits spent files finding count why
 cycle_by_stop call last limits spent files finding count why h = h
 
 -- ---- cursors
 
-pub run_began_at_the_first : (call : Call) (c : Cursor) (limits : Limits) (ran : RunEnd) → c.state ≡ start → RunsFrom call c limits ran → (last : Option Place) × RunEnds call None last limits ran.spent ran.files ran.found ran.end
+pub run_began_at_the_first : (call : Call) (c : Cursor) (limits : Limits) (ran : RunEnd) → c.state ≡ start → RunsFrom call c limits ran → (last : Option Place)
+    × RunEnds call None last limits ran.spent ran.files ran.found ran.end
 run_began_at_the_first call c limits ran e h = (h.last, subst (λ state. RunEnds call (place_in state) h.last limits ran.spent ran.files ran.found ran.end) e h.run)
 
-pub run_began_again : (call : Call) (c : Cursor) (limits : Limits) (ran : RunEnd) → c.state ≡ ended → RunsFrom call c limits ran → (last : Option Place) × RunEnds call None last limits ran.spent ran.files ran.found ran.end
+pub run_began_again : (call : Call) (c : Cursor) (limits : Limits) (ran : RunEnd) → c.state ≡ ended → RunsFrom call c limits ran → (last : Option Place)
+    × RunEnds call None last limits ran.spent ran.files ran.found ran.end
 run_began_again call c limits ran e h = (h.last, subst (λ state. RunEnds call (place_in state) h.last limits ran.spent ran.files ran.found ran.end) e h.run)
 
-pub run_went_on : (call : Call) (c : Cursor) (limits : Limits) (ran : RunEnd) (p : Place) → c.state ≡ behind p → RunsFrom call c limits ran → (last : Option Place) × RunEnds call (Some p) last limits ran.spent ran.files ran.found ran.end
+pub run_went_on : (call : Call) (c : Cursor) (limits : Limits) (ran : RunEnd) (p : Place) → c.state ≡ behind p → RunsFrom call c limits ran
+    → (last : Option Place) × RunEnds call (Some p) last limits ran.spent ran.files ran.found ran.end
 run_went_on call c limits ran p e h = (h.last, subst (λ state. RunEnds call (place_in state) h.last limits ran.spent ran.files ran.found ran.end) e h.run)
 
-pub cursor_from_the_first : (call : Call) (c : Cursor) (limits : Limits) (ran : RunEnd) → c.state ≡ start → RunsFrom call c limits ran → (ran.cursor.cycle ≡ c.cycle) × ((ran.cursor.runs ≡ c.runs + 1) × ((ran.cursor.spent ≡ c.spent + ran.spent) × (ran.cursor.files ≡ c.files + ran.files)))
-cursor_from_the_first call c limits ran e h = let b : begun c ≡ c = ap (begun_in c) e in ((ap (λ r. r.cycle) h.cursor_is ∙ ap (λ r. r.cycle) b), ((ap (λ r. r.runs) h.cursor_is ∙ ap (λ r. r.runs + 1) b), ((ap (λ r. r.spent) h.cursor_is ∙ ap (λ r. r.spent + ran.spent) b), (ap (λ r. r.files) h.cursor_is ∙ ap (λ r. r.files + ran.files) b))))
+pub cursor_from_the_first : (call : Call) (c : Cursor) (limits : Limits) (ran : RunEnd) → c.state ≡ start → RunsFrom call c limits ran
+    → (ran.cursor.cycle ≡ c.cycle) × ((ran.cursor.runs ≡ c.runs + 1) × ((ran.cursor.spent ≡ c.spent + ran.spent) × (ran.cursor.files ≡ c.files + ran.files)))
+cursor_from_the_first call c limits ran e h =
+    let b : begun c ≡ c = ap (begun_in c) e in
+    ((ap (λ r. r.cycle) h.cursor_is ∙ ap (λ r. r.cycle) b),
+    ((ap (λ r. r.runs) h.cursor_is ∙ ap (λ r. r.runs + 1) b), ((ap (λ r. r.spent) h.cursor_is ∙ ap (λ r. r.spent + ran.spent) b), (ap (λ r. r.files) h.cursor_is ∙ ap (λ r. r.files + ran.files) b))))
 
-pub cursor_from_a_place : (call : Call) (c : Cursor) (limits : Limits) (ran : RunEnd) (p : Place) → c.state ≡ behind p → RunsFrom call c limits ran → (ran.cursor.cycle ≡ c.cycle) × ((ran.cursor.runs ≡ c.runs + 1) × ((ran.cursor.spent ≡ c.spent + ran.spent) × (ran.cursor.files ≡ c.files + ran.files)))
-cursor_from_a_place call c limits ran p e h = let b : begun c ≡ c = ap (begun_in c) e in ((ap (λ r. r.cycle) h.cursor_is ∙ ap (λ r. r.cycle) b), ((ap (λ r. r.runs) h.cursor_is ∙ ap (λ r. r.runs + 1) b), ((ap (λ r. r.spent) h.cursor_is ∙ ap (λ r. r.spent + ran.spent) b), (ap (λ r. r.files) h.cursor_is ∙ ap (λ r. r.files + ran.files) b))))
+pub cursor_from_a_place : (call : Call) (c : Cursor) (limits : Limits) (ran : RunEnd) (p : Place) → c.state ≡ behind p → RunsFrom call c limits ran
+    → (ran.cursor.cycle ≡ c.cycle) × ((ran.cursor.runs ≡ c.runs + 1) × ((ran.cursor.spent ≡ c.spent + ran.spent) × (ran.cursor.files ≡ c.files + ran.files)))
+cursor_from_a_place call c limits ran p e h =
+    let b : begun c ≡ c = ap (begun_in c) e in
+    ((ap (λ r. r.cycle) h.cursor_is ∙ ap (λ r. r.cycle) b),
+    ((ap (λ r. r.runs) h.cursor_is ∙ ap (λ r. r.runs + 1) b), ((ap (λ r. r.spent) h.cursor_is ∙ ap (λ r. r.spent + ran.spent) b), (ap (λ r. r.files) h.cursor_is ∙ ap (λ r. r.files + ran.files) b))))
 
-pub cursor_of_the_next_cycle : (call : Call) (c : Cursor) (limits : Limits) (ran : RunEnd) → c.state ≡ ended → RunsFrom call c limits ran → (ran.cursor.cycle ≡ c.cycle + 1) × ((ran.cursor.runs ≡ 1) × ((ran.cursor.spent ≡ ran.spent) × (ran.cursor.files ≡ ran.files)))
+pub cursor_of_the_next_cycle : (call : Call) (c : Cursor) (limits : Limits) (ran : RunEnd) → c.state ≡ ended → RunsFrom call c limits ran
+    → (ran.cursor.cycle ≡ c.cycle + 1) × ((ran.cursor.runs ≡ 1) × ((ran.cursor.spent ≡ ran.spent) × (ran.cursor.files ≡ ran.files)))
 cursor_of_the_next_cycle call c limits ran e h =
     let b : begun c ≡ next_cycle c = ap (begun_in c) e in
     let all : ran.cursor.spent ≡ 0 + ran.spent = ap (λ r. r.spent) h.cursor_is ∙ ap (λ r. r.spent + ran.spent) b in
@@ -234,34 +427,50 @@ cursor_of_the_next_cycle call c limits ran e h =
 pub cursor_of_the_end : (call : Call) (c : Cursor) (limits : Limits) (ran : RunEnd) → RunsFrom call c limits ran → ran.end ≡ run.Ended → ran.cursor.state ≡ ended
 cursor_of_the_end call c limits ran h e = ap (λ r. r.state) h.cursor_is ∙ ap (λ w. state_after w h.last) e
 
-pub cursor_of_a_spent_run : (call : Call) (c : Cursor) (limits : Limits) (ran : RunEnd) → RunsFrom call c limits ran → ran.end ≡ run.Spent → (last : Option Place) × (RunEnds call (place_in c.state) last limits ran.spent ran.files ran.found ran.end × ((last ≡ None → ran.cursor.state ≡ start) × ((p : Place) → last ≡ Some p → ran.cursor.state ≡ behind p)))
+pub cursor_of_a_spent_run : (call : Call) (c : Cursor) (limits : Limits) (ran : RunEnd) → RunsFrom call c limits ran → ran.end ≡ run.Spent
+    → (last : Option Place) × (RunEnds call (place_in c.state) last limits ran.spent ran.files ran.found ran.end
+    × ((last ≡ None → ran.cursor.state ≡ start) × ((p : Place) → last ≡ Some p → ran.cursor.state ≡ behind p)))
 cursor_of_a_spent_run call c limits ran h e =
     let there = ap (λ r. r.state) h.cursor_is ∙ ap (λ w. state_after w h.last) e in
     (h.last, (h.run, ((λ f. there ∙ ap state_at f), λ p f. there ∙ ap state_at f)))
 
-pub cursor_of_a_stopped_run : (call : Call) (c : Cursor) (limits : Limits) (ran : RunEnd) (why : Fault) → RunsFrom call c limits ran → ran.end ≡ run.Stopped why → (last : Option Place) × (RunEnds call (place_in c.state) last limits ran.spent ran.files ran.found ran.end × ((last ≡ None → ran.cursor.state ≡ start) × ((p : Place) → last ≡ Some p → ran.cursor.state ≡ behind p)))
+pub cursor_of_a_stopped_run : (call : Call) (c : Cursor) (limits : Limits) (ran : RunEnd) (why : Fault) → RunsFrom call c limits ran → ran.end ≡ run.Stopped why
+    → (last : Option Place) × (RunEnds call (place_in c.state) last limits ran.spent ran.files ran.found ran.end
+    × ((last ≡ None → ran.cursor.state ≡ start) × ((p : Place) → last ≡ Some p → ran.cursor.state ≡ behind p)))
 cursor_of_a_stopped_run call c limits ran why h e =
     let there = ap (λ r. r.state) h.cursor_is ∙ ap (λ w. state_after w h.last) e in
     (h.last, (h.run, ((λ f. there ∙ ap state_at f), λ p f. there ∙ ap state_at f)))
 
-pub cycle_is_the_first : (call : Call) (limits : List Limits) (c : Cursor) (finding : Bool) (how : CycleStatus) → CyclesTo call limits c finding how → (c.cycle ≡ 1) × ((last : Option Place) × CycleEnds call last limits c.spent c.files finding c.runs how)
+pub cycle_is_the_first : (call : Call) (limits : List Limits) (c : Cursor) (finding : Bool) (how : CycleStatus) → CyclesTo call limits c finding how
+    → (c.cycle ≡ 1) × ((last : Option Place) × CycleEnds call last limits c.spent c.files finding c.runs how)
 cycle_is_the_first call limits c finding how h = (ap (λ r. r.cycle) h.cursor_is, (h.last, h.cycle))
 
 pub cursor_of_the_last_run : (call : Call) (limits : List Limits) (c : Cursor) (finding : Bool) → CyclesTo call limits c finding cycle.Ended → c.state ≡ ended
 cursor_of_the_last_run call limits c finding h = ap (λ r. r.state) h.cursor_is
 
-pub cursor_of_a_spent_cycle : (call : Call) (limits : List Limits) (c : Cursor) (finding : Bool) → CyclesTo call limits c finding cycle.Spent → (last : Option Place) × (CycleEnds call last limits c.spent c.files finding c.runs cycle.Spent × ((last ≡ None → c.state ≡ start) × ((p : Place) → last ≡ Some p → c.state ≡ behind p)))
+pub cursor_of_a_spent_cycle : (call : Call) (limits : List Limits) (c : Cursor) (finding : Bool) → CyclesTo call limits c finding cycle.Spent
+    → (last : Option Place) × (CycleEnds call last limits c.spent c.files finding c.runs cycle.Spent × ((last ≡ None → c.state ≡ start) × ((p : Place) → last ≡ Some p → c.state ≡ behind p)))
 cursor_of_a_spent_cycle call limits c finding h = (h.last, (h.cycle, ((λ e. ap (λ r. r.state) h.cursor_is ∙ ap state_at e), λ p e. ap (λ r. r.state) h.cursor_is ∙ ap state_at e)))
 
-pub cursor_of_a_stopped_cycle : (call : Call) (limits : List Limits) (c : Cursor) (finding : Bool) (why : Fault) → CyclesTo call limits c finding (cycle.Stopped why) → (last : Option Place) × (CycleEnds call last limits c.spent c.files finding c.runs (cycle.Stopped why) × ((last ≡ None → c.state ≡ start) × ((p : Place) → last ≡ Some p → c.state ≡ behind p)))
+pub cursor_of_a_stopped_cycle : (call : Call) (limits : List Limits) (c : Cursor) (finding : Bool) (why : Fault)
+    → CyclesTo call limits c finding (cycle.Stopped why) → (last : Option Place)
+    × (CycleEnds call last limits c.spent c.files finding c.runs (cycle.Stopped why) × ((last ≡ None → c.state ≡ start) × ((p : Place) → last ≡ Some p → c.state ≡ behind p)))
 cursor_of_a_stopped_cycle call limits c finding why h = (h.last, (h.cycle, ((λ e. ap (λ r. r.state) h.cursor_is ∙ ap state_at e), λ p e. ap (λ r. r.state) h.cursor_is ∙ ap state_at e)))
 
 -- ---- without failures
 
-pub clean_end : (root : StorageRoot) (s t : Store) (before written : List ℕ) (c : Cursor) (limits : Limits) (spent files : ℕ) (finding : Bool) → RunsCleanly (known_call root s t before written) c limits spent files finding run.Ended → (left (after (audit root []) (place_in c.state)) limits ≡ []) × ((written ≡ before ++ text (cut (after (audit root []) (place_in c.state)) limits)) × ((spent ≡ total_cost (cut (after (audit root []) (place_in c.state)) limits)) × ((files ≡ total_files (cut (after (audit root []) (place_in c.state)) limits)) × (finding ≡ found (cut (after (audit root []) (place_in c.state)) limits)))))
+pub clean_end : (root : StorageRoot) (s t : Store) (before written : List ℕ) (c : Cursor) (limits : Limits) (spent files : ℕ) (finding : Bool)
+    → RunsCleanly (known_call root s t before written) c limits spent files finding run.Ended → (left (after (audit root []) (place_in c.state)) limits ≡ [])
+    × ((written ≡ before ++ text (cut (after (audit root []) (place_in c.state)) limits))
+    × ((spent ≡ total_cost (cut (after (audit root []) (place_in c.state)) limits))
+    × ((files ≡ total_files (cut (after (audit root []) (place_in c.state)) limits)) × (finding ≡ found (cut (after (audit root []) (place_in c.state)) limits)))))
 clean_end root s t before written c limits spent files finding h = (h.1, (h.0.wrote, (h.0.figures.spent_is, (h.0.figures.files_is, h.0.figures.found_is))))
 
-pub clean_limits : (root : StorageRoot) (s t : Store) (before written : List ℕ) (c : Cursor) (limits : Limits) (spent files : ℕ) (finding : Bool) → RunsCleanly (known_call root s t before written) c limits spent files finding run.Spent → (left (after (audit root []) (place_in c.state)) limits ≢ []) × ((written ≡ before ++ text (cut (after (audit root []) (place_in c.state)) limits)) × ((spent ≡ total_cost (cut (after (audit root []) (place_in c.state)) limits)) × ((files ≡ total_files (cut (after (audit root []) (place_in c.state)) limits)) × (finding ≡ found (cut (after (audit root []) (place_in c.state)) limits)))))
+pub clean_limits : (root : StorageRoot) (s t : Store) (before written : List ℕ) (c : Cursor) (limits : Limits) (spent files : ℕ) (finding : Bool)
+    → RunsCleanly (known_call root s t before written) c limits spent files finding run.Spent → (left (after (audit root []) (place_in c.state)) limits ≢ [])
+    × ((written ≡ before ++ text (cut (after (audit root []) (place_in c.state)) limits))
+    × ((spent ≡ total_cost (cut (after (audit root []) (place_in c.state)) limits))
+    × ((files ≡ total_files (cut (after (audit root []) (place_in c.state)) limits)) × (finding ≡ found (cut (after (audit root []) (place_in c.state)) limits)))))
 clean_limits root s t before written c limits spent files finding h = (h.1, (h.0.wrote, (h.0.figures.spent_is, (h.0.figures.files_is, h.0.figures.found_is))))
 
 pub clean_count : (call : Call) (limits : List Limits) (count : ℕ) → HeadlineOf call limits count cycle.Spent → count ≡ length (runs (audit call.root []) limits)
@@ -272,32 +481,63 @@ clean_whole_count call limits count h = h.each_run
 
 -- ---- commands
 
-pub audit_performed : (call : Call) (known : Option (Option (List ℕ))) (status : ℕ) (n : Note) (stored : Option (Vec ℕ Global)) → Performs call known deed.Audit status n stored → (ran : AuditEnd) × (AuditEnds call ran.last ran.found ran.end × IsAuditNote ran.found ran.end status n)
+pub audit_performed : (call : Call) (known : Option (Option (List ℕ))) (status : ℕ) (n : Note) (stored : Option (Vec ℕ Global))
+    → Performs call known deed.Audit status n stored → (ran : AuditEnd) × (AuditEnds call ran.last ran.found ran.end × IsAuditNote ran.found ran.end status n)
 audit_performed call known status n stored h = (h.audits.ran, (h.audits.audits, h.audits.says))
 
-pub clean_audit_performed : (known : Option (Option (List ℕ))) (root : StorageRoot) (s t : Store) (before written : List ℕ) (status : ℕ) (n : Note) (stored : Option (Vec ℕ Global)) → Performs (known_call root s t before written) known deed.Audit status n stored → n ≡ note.Nothing → t.failures ≡ s.failures → (written ≡ before ++ text (audit root [])) × (status ≡ status_of (found (audit root [])))
+pub clean_audit_performed : (known : Option (Option (List ℕ))) (root : StorageRoot) (s t : Store) (before written : List ℕ) (status : ℕ) (n : Note)
+    (stored : Option (Vec ℕ Global)) → Performs (known_call root s t before written) known deed.Audit status n stored → n ≡ note.Nothing
+    → t.failures ≡ s.failures → (written ≡ before ++ text (audit root [])) × (status ≡ status_of (found (audit root [])))
 clean_audit_performed known root s t before written status n stored h e f = h.clean e f
 
-pub check_performed : (call : Call) (known : Option (Option (List ℕ))) (path : String Global) (p : Place) (status : ℕ) (n : Note) (stored : Option (Vec ℕ Global)) → IsPlace p → string_bytes path ≡ place_text p → Performs call known (deed.Check path) status n stored → ((ran : CheckEnd) × (CheckEnds call p ran.item ran.found ran.end × IsCheckNote ran.item ran.found ran.end status n)) ⊎ ((status ≡ 3) × ((n ≡ note.OutOfMemory) × ((call.after ≡ call.before) × (call.new ≡ call.old))))
+pub check_performed : (call : Call) (known : Option (Option (List ℕ))) (path : String Global) (p : Place) (status : ℕ) (n : Note)
+    (stored : Option (Vec ℕ Global)) → IsPlace p → string_bytes path ≡ place_text p → Performs call known (deed.Check path) status n stored
+    → ((ran : CheckEnd) × (CheckEnds call p ran.item ran.found ran.end × IsCheckNote ran.item ran.found ran.end status n))
+    ⊎ ((status ≡ 3) × ((n ≡ note.OutOfMemory) × ((call.after ≡ call.before) × (call.new ≡ call.old))))
 check_performed call known path p status n stored names e h = by (h p names e)
   where
-    by : ChecksWithNote call p status n ⊎ OutOfMemoryFirst call status n → ((ran : CheckEnd) × (CheckEnds call p ran.item ran.found ran.end × IsCheckNote ran.item ran.found ran.end status n)) ⊎ ((status ≡ 3) × ((n ≡ note.OutOfMemory) × ((call.after ≡ call.before) × (call.new ≡ call.old))))
+    by : ChecksWithNote call p status n ⊎ OutOfMemoryFirst call status n
+        → ((ran : CheckEnd) × (CheckEnds call p ran.item ran.found ran.end × IsCheckNote ran.item ran.found ran.end status n))
+        ⊎ ((status ≡ 3) × ((n ≡ note.OutOfMemory) × ((call.after ≡ call.before) × (call.new ≡ call.old))))
     by (inl k) = inl (k.ran, (k.checks, k.says))
     by (inr k) = inr (k.status_is, (k.says, (k.uncalled, k.unwritten)))
 
-pub cycle_performed : (call : Call) (known : Option (Option (List ℕ))) (limits : MadeLimits) (count : ℕ) (status : ℕ) (n : Note) (stored : Option (Vec ℕ Global)) → Performs call known (deed.Cycle limits count) status n stored → ((ran : CycleEnd) × (CyclesTo call (map limits_of (replicate count limits)) ran.cursor ran.found ran.end × ((ran.runs ≡ ran.cursor.runs) × ((ran.spent ≡ ran.cursor.spent) × (IsCycleNote ran.runs ran.spent ran.found ran.end status n × (IsUnfailing call → HeadlineOf call (map limits_of (replicate count limits)) ran.runs ran.end)))))) ⊎ ((status ≡ 3) × ((n ≡ note.OutOfMemory) × ((call.after ≡ call.before) × (call.new ≡ call.old))))
+pub cycle_performed : (call : Call) (known : Option (Option (List ℕ))) (limits : MadeLimits) (count : ℕ) (status : ℕ) (n : Note)
+    (stored : Option (Vec ℕ Global)) → Performs call known (deed.Cycle limits count) status n stored
+    → ((ran : CycleEnd) × (CyclesTo call (map limits_of (replicate count limits)) ran.cursor ran.found ran.end
+    × ((ran.runs ≡ ran.cursor.runs)
+    × ((ran.spent ≡ ran.cursor.spent)
+    × (IsCycleNote ran.runs ran.spent ran.found ran.end status n
+    × (IsUnfailing call → HeadlineOf call (map limits_of (replicate count limits)) ran.runs ran.end))))))
+    ⊎ ((status ≡ 3) × ((n ≡ note.OutOfMemory) × ((call.after ≡ call.before) × (call.new ≡ call.old))))
 cycle_performed call known limits count status n stored h = by h
   where
-    by : CyclesWithNote call (equal_limits limits count) status n ⊎ OutOfMemoryFirst call status n → ((ran : CycleEnd) × (CyclesTo call (map limits_of (replicate count limits)) ran.cursor ran.found ran.end × ((ran.runs ≡ ran.cursor.runs) × ((ran.spent ≡ ran.cursor.spent) × (IsCycleNote ran.runs ran.spent ran.found ran.end status n × (IsUnfailing call → HeadlineOf call (map limits_of (replicate count limits)) ran.runs ran.end)))))) ⊎ ((status ≡ 3) × ((n ≡ note.OutOfMemory) × ((call.after ≡ call.before) × (call.new ≡ call.old))))
+    by : CyclesWithNote call (equal_limits limits count) status n ⊎ OutOfMemoryFirst call status n
+        → ((ran : CycleEnd) × (CyclesTo call (map limits_of (replicate count limits)) ran.cursor ran.found ran.end
+        × ((ran.runs ≡ ran.cursor.runs)
+        × ((ran.spent ≡ ran.cursor.spent)
+        × (IsCycleNote ran.runs ran.spent ran.found ran.end status n
+        × (IsUnfailing call → HeadlineOf call (map limits_of (replicate count limits)) ran.runs ran.end))))))
+        ⊎ ((status ≡ 3) × ((n ≡ note.OutOfMemory) × ((call.after ≡ call.before) × (call.new ≡ call.old))))
     by (inl k) = inl (k.ran, (k.cycles, (k.count_is, (k.spent_is, (k.says, k.headline)))))
     by (inr k) = inr (k.status_is, (k.says, (k.uncalled, k.unwritten)))
 
-pub run_performed : (call : Call) (known : Option (Option (List ℕ))) (limits : MadeLimits) (status : ℕ) (n : Note) (stored : Vec ℕ Global) → Performs call known (deed.Run limits) status n (Some stored) → (c : Cursor) × ((ran : RunEnd) × (BeginsWith known c × (RunsFrom call c (limits_of limits) ran × ((IsUnfailing call → RunsCleanly call c (limits_of limits) ran.spent ran.files ran.found ran.end) × ((stored.items ≡ cursor_text ran.cursor) × IsRunNote ran.cursor ran.spent ran.found ran.end status n)))))
+pub run_performed : (call : Call) (known : Option (Option (List ℕ))) (limits : MadeLimits) (status : ℕ) (n : Note) (stored : Vec ℕ Global)
+    → Performs call known (deed.Run limits) status n (Some stored) → (c : Cursor)
+    × ((ran : RunEnd) × (BeginsWith known c
+    × (RunsFrom call c (limits_of limits) ran
+    × ((IsUnfailing call → RunsCleanly call c (limits_of limits) ran.spent ran.files ran.found ran.end)
+    × ((stored.items ≡ cursor_text ran.cursor) × IsRunNote ran.cursor ran.spent ran.found ran.end status n)))))
 run_performed call known limits status n stored h = by h
   where
-    by : RunPerformed call known (limits_of limits) status n (Some stored) → (c : Cursor) × ((ran : RunEnd) × (BeginsWith known c × (RunsFrom call c (limits_of limits) ran × ((IsUnfailing call → RunsCleanly call c (limits_of limits) ran.spent ran.files ran.found ran.end) × ((stored.items ≡ cursor_text ran.cursor) × IsRunNote ran.cursor ran.spent ran.found ran.end status n)))))
+    by : RunPerformed call known (limits_of limits) status n (Some stored) → (c : Cursor)
+        × ((ran : RunEnd) × (BeginsWith known c
+        × (RunsFrom call c (limits_of limits) ran
+        × ((IsUnfailing call → RunsCleanly call c (limits_of limits) ran.spent ran.files ran.found ran.end)
+        × ((stored.items ≡ cursor_text ran.cursor) × IsRunNote ran.cursor ran.spent ran.found ran.end status n)))))
     by (inl k) = (k.from, (k.runs.ran, (k.begins, (k.runs.runs, (k.runs.clean, (k.runs.says.0, k.runs.says.1))))))
     by (inr k) = absurd (false≢true (sym k.unkept))
 
-pub show_performed : (call : Call) (known : Option (Option (List ℕ))) (status : ℕ) (n : Note) (stored : Option (Vec ℕ Global)) → Performs call known deed.Show status n stored → call.after ≡ call.before
+pub show_performed : (call : Call) (known : Option (Option (List ℕ))) (status : ℕ) (n : Note) (stored : Option (Vec ℕ Global))
+    → Performs call known deed.Show status n stored → call.after ≡ call.before
 show_performed call known status n stored h = h

@@ -50,7 +50,8 @@ unfolding items_at
 nothing_stops root os l spent files = tt
 
 -- the limits do not pay what is next, whatever could be read
-unpaid_stops : (root : StorageRoot) (os : List Opening) (l : Limits) (spent files : ℕ) (p : Place) (ps : List Place) → is_hashed root p ≡ true → (IsWithinBoth l spent files → ⊥) → IsStop l spent files (items_at root os (p ∷ ps))
+unpaid_stops : (root : StorageRoot) (os : List Opening) (l : Limits) (spent files : ℕ) (p : Place) (ps : List Place) → is_hashed root p ≡ true
+    → (IsWithinBoth l spent files → ⊥) → IsStop l spent files (items_at root os (p ∷ ps))
 unfolding items_at
 unpaid_stops root os l spent files p ps h k = test_unpaid l spent files _ (hashed_costs root (given_by (unread_of root os) p) p h) k
 
@@ -73,7 +74,8 @@ no_part : (why : Fault) → why ≢ Output → (whole part : Text) → PartOf wh
 no_part why other whole part h = h.is ∙ ap (λ n. take n whole) (h.none other) ∙ take_nothing whole
 
 -- what was begun and written of the next item is a beginning of the first that the cut has left
-ends_at : (root : StorageRoot) (os : List Opening) (why : Fault) (begun : List Place) (part : Text) (nexts : List Place) (first : List Item) → (first ≡ items_at root os nexts) ⊎ ((why ≢ Output) × (begun ≡ []))
+ends_at : (root : StorageRoot) (os : List Opening) (why : Fault) (begun : List Place) (part : Text) (nexts : List Place) (first : List Item)
+    → (first ≡ items_at root os nexts) ⊎ ((why ≢ Output) × (begun ≡ []))
     → IsFront begun nexts → PartOf why (text (items_at root os nexts)) part → IsFront begun (places first) × PartOf why (text first) part
 ends_at root os why begun part nexts first (inl e) one h =
     (subst (IsFront begun) (sym (places_of_items root os nexts) ∙ ap places (sym e)) one, subst (λ is. PartOf why (text is) part) (sym e) h)
@@ -105,7 +107,8 @@ module _ (root : StorageRoot) (part : Part) (s t u : Store) (old new : Option (L
         rest_are = ap (λ is. left is l) are ∙ left_of_paid l _ _ counts.paid stop_there
 
         runs_of : next ≡ first_of (items_at root os later) → Audits root t u done (looked_in root part from next) (read_in root part from next) os
-            → Appends old new (text (items_at root os done)) → finding ≡ found (items_at root os done) → last ≡ last_of from done → RunsWithin (call_of root s u old new) part from last l spent files finding next
+            → Appends old new (text (items_at root os done)) → finding ≡ found (items_at root os done) → last ≡ last_of from done
+                → RunsWithin (call_of root s u old new) part from last l spent files finding next
         runs_of next_is k wrote found_is last_is =
             let at_places : places (taken_in root (g.trail ++ os) part from l) ≡ done = ap places taken_are ∙ places_of_items root os done in
             record {
@@ -136,7 +139,8 @@ module _ (root : StorageRoot) (part : Part) (s t u : Store) (old new : Option (L
   pub spent_all : (h : PaysUpTo root (end_of part) t u old new (stand root part from) stood l spent files finding) → last ≡ last_of from h.done
       → RunsWithin (call_of root s u old new) part from last l spent files finding (Some h.next)
   spent_all h last_is =
-      runs_of h.trail h.done (h.next ∷ due_in root (end_of part) (Some h.next)) h.due_are h.counts (Some h.next) (unpaid_stops root h.trail l spent files h.next _ h.hashed h.reached) (some_first root h.trail h.next _)
+      runs_of h.trail h.done (h.next ∷ due_in root (end_of part) (Some h.next)) h.due_are h.counts (Some h.next)
+          (unpaid_stops root h.trail l spent files h.next _ h.hashed h.reached) (some_first root h.trail h.next _)
       (subst (λ hs. Audits root t u h.done (looked_in root part from (Some h.next)) hs h.trail) (read_to root part from h.next h.in_front)
       (subst (λ ls. Audits root t u h.done ls (read_between root (stand root part from) (Some h.next)) h.trail) (looked_to root part from h.next h.in_front) h.audits)) h.wrote h.found_is last_is
 
@@ -210,7 +214,8 @@ module _ (root : StorageRoot) (part : Part) (s t : Store) (old new : Option (Lis
   all_read : (next : Option Place) (h : RunsWithin (call_of root s t old new) part (place_in c.state) last l spent files finding next) → unread_of root h.trail ≡ []
   all_read next h = none_left (unread_of root h.trail) s.failures (sym same ∙ h.looks.audits.did.failures_are)
 
-  cleanly : (next : Option Place) → RunsWithin (call_of root s t old new) part (place_in c.state) last l spent files finding next → RunsCleanWithin (call_of root s t old new) part (place_in c.state) l spent files finding
+  cleanly : (next : Option Place) → RunsWithin (call_of root s t old new) part (place_in c.state) last l spent files finding next
+      → RunsCleanWithin (call_of root s t old new) part (place_in c.state) l spent files finding
   cleanly next h =
       let e = all_read next h in
       record {
@@ -218,7 +223,8 @@ module _ (root : StorageRoot) (part : Part) (s t : Store) (old new : Option (Lis
         figures = subst (λ u. Figures (cut (after (within part (audit root u)) (place_in c.state)) l) spent files finding) e h.figures;
       }
 
-  pub runs_cleanly : (end : RunStatus) → RunEndsWithin (call_of root s t old new) part (place_in c.state) last l spent files finding end → RunsCleanlyWithin (call_of root s t old new) part c l spent files finding end
+  pub runs_cleanly : (end : RunStatus) → RunEndsWithin (call_of root s t old new) part (place_in c.state) last l spent files finding end
+      → RunsCleanlyWithin (call_of root s t old new) part c l spent files finding end
   runs_cleanly Ended h = (cleanly None h, subst (λ u. left (after (within part (audit root u)) (place_in c.state)) l ≡ []) (all_read None h) (no_first _ h.next_is))
   runs_cleanly Spent h = (cleanly (Some h.0) h.1, subst (λ u. left (after (within part (audit root u)) (place_in c.state)) l ≢ []) (all_read (Some h.0) h.1) (a_first _ h.0 h.1.next_is))
   runs_cleanly (Stopped why) h = tt
@@ -227,7 +233,8 @@ module _ (root : StorageRoot) (part : Part) (s t : Store) (old new : Option (Lis
 -- ---- from the cursor that a run is given
 
 -- the run can be counted
-pub run_counted : (b : Cursor) (l : Limits) (spent files : ℕ) (state : State) → IsCursor b → b.runs + 1 < 2 ^ 64 → spent ≤ 2 ^ 63 → IsPaid l spent files → IsShortPlace state → IsCursor (after_run b spent files state)
+pub run_counted : (b : Cursor) (l : Limits) (spent files : ℕ) (state : State) → IsCursor b → b.runs + 1 < 2 ^ 64 → spent ≤ 2 ^ 63 → IsPaid l spent files
+    → IsShortPlace state → IsCursor (after_run b spent files state)
 run_counted b l spent files state h room fits p short =
     let s = h.spent in
     let f = h.files in
@@ -241,12 +248,14 @@ run_counted b l spent files state h room fits p short =
       place = short;
     }
 
-module _ (root : StorageRoot) (part : Part) (s t : Store) (old new : Option (List ℕ)) (c b : Cursor) (from last : Option Place) (l : Limits) (spent files : ℕ) (finding : Bool) (end : RunStatus) (h : Begins c b from)
+module _ (root : StorageRoot) (part : Part) (s t : Store) (old new : Option (List ℕ)) (c b : Cursor) (from last : Option Place) (l : Limits) (spent files : ℕ)
+    (finding : Bool) (end : RunStatus) (h : Begins c b from)
     (run : RunEndsWithin (call_of root s t old new) part from last l spent files finding end) where
   begun_there : RunEndsWithin (call_of root s t old new) part (place_in c.state) last l spent files finding end
   begun_there = subst (λ x. RunEndsWithin (call_of root s t old new) part x last l spent files finding end) h.from_is run
 
-  pub runs_from : (reached : Cursor) (state : State) → reached ≡ after_run b spent files state → state ≡ state_after end last → RunsFromWithin (call_of root s t old new) part c l (record { cursor = reached; spent = spent; files = files; found = finding; end = end })
+  pub runs_from : (reached : Cursor) (state : State) → reached ≡ after_run b spent files state → state ≡ state_after end last
+      → RunsFromWithin (call_of root s t old new) part c l (record { cursor = reached; spent = spent; files = files; found = finding; end = end })
   runs_from reached state e f = record {
     last = last;
     run = begun_there;

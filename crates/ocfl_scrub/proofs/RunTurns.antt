@@ -42,13 +42,15 @@ pub not_within : (limits : MadeLimits) (m : Meter) → m.limits ≡ limits → (
 not_within limits m e h k = h (subst (λ x. IsWithinBoth (limits_of x) m.spent m.files) (sym e) k)
 
 -- what was charged was paid for
-pub charged_item : (limits : MadeLimits) (m : Meter) (cost charged started : ℕ) (hashed : Bool) → m.limits ≡ limits → IsPaid (limits_of limits) m.spent m.files → CostFits hashed cost → (hashed ≡ true → MayStart m)
+pub charged_item : (limits : MadeLimits) (m : Meter) (cost charged started : ℕ) (hashed : Bool) → m.limits ≡ limits → IsPaid (limits_of limits) m.spent m.files
+    → CostFits hashed cost → (hashed ≡ true → MayStart m)
     → charged ≡ m.spent + cost → started ≡ m.files + files_of cost → IsPaid (limits_of limits) charged started
 charged_item limits m cost charged started hashed e h c may f g = paid_item (limits_of limits) m.spent m.files cost charged started hashed h c (λ i. within_both limits m e (may i)) f g
 
 -- ---- on a store that tells its tree
 
--- from s to t a walk went down to where a run of a part begins, the items from there on were taken and paid for, and the walk stands after the last of them
+-- from s to t a walk went down to where a run of a part begins, the items from there on were taken
+-- and paid for, and the walk stands after the last of them
 pub record HasPaid (root : StorageRoot) (part : Part) (s t : Store) (old new : Option (List ℕ)) (walk : Walk) (from last : Option Place) (l : Limits) (spent files : ℕ) (finding : Bool) : Type 0 where
   pub begun : Store
   pub stood : Option Place
@@ -105,15 +107,18 @@ module _ {root : StorageRoot} {s t : Store} {old mid : Option (List ℕ)} {walk 
           down = h.down;
           stands = item.gives.1;
           beyond = gone_next (end_of part) (stand root part from) h.stood q.place h.beyond item.above item.in_front;
-          pays = pays_took root (end_of part) h.begun t u old mid (stand root part from) h.stood l spent files finding h.beyond h.pays q.place item.above item.gives.3 item.in_front item.gives.0 v new (hashed_too may) cost charged started more either
+          pays = pays_took root (end_of part) h.begun t u old mid (stand root part from) h.stood l spent files finding h.beyond h.pays q.place item.above
+              item.gives.3 item.in_front item.gives.0 v new (hashed_too may) cost charged started more either
               (takes (walked_over item.gives.0) item.gives.2) f g i;
           last_is = sym (last_append from h.pays.passes.done q.place);
         })
 
-        pub run_missed : (why : Fault) → (u.tree ≡ root → IsPending root q → Misses (call_of root u v mid new) q.place why) → RunStopsWithin (call_of root s v old new) part from last l spent files finding why
+        pub run_missed : (why : Fault) → (u.tree ≡ root → IsPending root q → Misses (call_of root u v mid new) q.place why)
+            → RunStopsWithin (call_of root s v old new) part from last l spent files finding why
         unfolding passes_missed pays_missed
         run_missed why misses = stopped root part s h.begun v old new from h.stood last l spent files finding h.down why
-            (pays_missed root (end_of part) h.begun t u old mid (stand root part from) h.stood l spent files finding h.beyond h.pays q.place item.above item.gives.3 item.in_front item.gives.0 v new (hashed_too may) why (misses (walked_over item.gives.0) item.gives.2))
+            (pays_missed root (end_of part) h.begun t u old mid (stand root part from) h.stood l spent files finding h.beyond h.pays q.place item.above
+                item.gives.3 item.in_front item.gives.0 v new (hashed_too may) why (misses (walked_over item.gives.0) item.gives.2))
             h.last_is
 
   -- the walk did not get to its next item
@@ -121,4 +126,5 @@ module _ {root : StorageRoot} {s t : Store} {old mid : Option (List ℕ)} {walk 
       → RunStopsWithin (call_of root s u old mid) part from last l spent files finding why
   unfolding passes_lost pays_lost
   run_lost why only lost = stopped root part s h.begun u old mid from h.stood last l spent files finding h.down why
-      (pays_lost root (end_of part) h.begun t u old mid (stand root part from) h.stood l spent files finding h.beyond h.pays why (only way.live).0 (lost (pays_over h.pays) way.live h.stood h.stands)) h.last_is
+      (pays_lost root (end_of part) h.begun t u old mid (stand root part from) h.stood l spent files finding h.beyond h.pays why (only way.live).0
+          (lost (pays_over h.pays) way.live h.stood h.stands)) h.last_is

@@ -44,7 +44,8 @@ use Rattle.ocfl_scrub.proofs.RunPlaces.{Took, Turn, first_place, front_is, rest_
 
 -- ---- some runs
 
--- how many inventories runs read that begin above a place: none where there is no run, and else those from there on and one more for each run, but for the first where nothing holds that place
+-- how many inventories runs read that begin above a place: none where there is no run, and else
+-- those from there on and one more for each run, but for the first where nothing holds that place
 pub record ReadFew (root : StorageRoot) (part : Part) (from : Option Place) (heads : List Place) (count : ℕ) : Type 0 where
   pub none : count ≡ 0 → length heads ≡ 0
   pub some : 1 ≤ count → length heads < length (holder root (entry part from)) + length (read_in root part from None) + count
@@ -142,7 +143,8 @@ runs_end [] = refl
 runs_end (l ∷ ls) = refl
 
 -- no limits are left
-pub parts_none : (root : StorageRoot) (part : Part) (s : Store) (old : Option (List ℕ)) (last : Option Place) → s.tree ≡ root → is_empty (due_within root part last) ≡ false → Parts root part s s old old last last [] 0 0 false 0 false
+pub parts_none : (root : StorageRoot) (part : Part) (s : Store) (old : Option (List ℕ)) (last : Option Place) → s.tree ≡ root
+    → is_empty (due_within root part last) ≡ false → Parts root part s s old old last last [] 0 0 false 0 false
 unfolding items_at
 parts_none root part s old last over some = record {
   took = record {
@@ -167,7 +169,8 @@ not_of_store : (p : Place) → Memory ≡ AtStore p → ⊥
 not_of_store p e = cc
 
 -- out of memory before a run
-pub parts_unbegun : (root : StorageRoot) (part : Part) (s : Store) (old : Option (List ℕ)) (last : Option Place) (limits : List Limits) → s.tree ≡ root → PartsStop root part s s old old last last limits 0 0 false 0 Memory
+pub parts_unbegun : (root : StorageRoot) (part : Part) (s : Store) (old : Option (List ℕ)) (last : Option Place) (limits : List Limits) → s.tree ≡ root
+    → PartsStop root part s s old old last last limits 0 0 false 0 Memory
 unfolding items_at
 parts_unbegun root part s old last limits over =
     let none = audits_nothing root s over in
@@ -219,7 +222,8 @@ module _ (root : StorageRoot) (part : Part) (s t : Store) (old mid : Option (Lis
       }
 
   -- it stopped
-  pub parts_stopped : (why : Fault) → RunStopsWithin (call_of root s t old mid) part from mid_last l spent files finding why → PartsStop root part s t old mid from mid_last (l ∷ ls) spent files finding 1 why
+  pub parts_stopped : (why : Fault) → RunStopsWithin (call_of root s t old mid) part from mid_last l spent files finding why
+      → PartsStop root part s t old mid from mid_last (l ∷ ls) spent files finding 1 why
   parts_stopped why h =
       let w = h.stops in
       let above : List Item = items_above_in root h.trail part from in
@@ -232,7 +236,8 @@ module _ (root : StorageRoot) (part : Part) (s t : Store) (old mid : Option (Lis
       let next_is : due_within root part (last_of from done) ≡ places (w.others ++ left_items) =
       sym (places_of_items root h.trail (due_within root part (last_of from done))) ∙ ap places (rest_is root part h.trail from w.whole (w.others ++ left_items) split) in
       let first : places w.others ≡ w.begun ++ (w.one.0 ++ places (drop 1 w.others)) =
-      ap places (sym (take-append-drop 1 w.others)) ∙ map_append (λ i. i.place) (take 1 w.others) (drop 1 w.others) ∙ ap (λ ps. ps ++ places (drop 1 w.others)) w.one.1 ∙ append_assoc w.begun w.one.0 (places (drop 1 w.others)) in
+      ap places (sym (take-append-drop 1 w.others)) ∙ map_append (λ i. i.place) (take 1 w.others) (drop 1 w.others)
+          ∙ ap (λ ps. ps ++ places (drop 1 w.others)) w.one.1 ∙ append_assoc w.begun w.one.0 (places (drop 1 w.others)) in
       let behind : List Place = (w.one.0 ++ places (drop 1 w.others)) ++ places left_items in
       let next_begun : due_within root part (last_of from done) ≡ w.begun ++ behind =
       next_is ∙ map_append (λ i. i.place) w.others left_items ∙ ap (λ ps. ps ++ places left_items) first ∙ append_assoc w.begun (w.one.0 ++ places (drop 1 w.others)) (places left_items) in
@@ -300,7 +305,8 @@ module _ (root : StorageRoot) (part : Part) (s t : Store) (old mid : Option (Lis
       let spent_here : ℕ = total_cost (items_at root h.took.trail h.took.done) in
       let opened_here : ℕ = total_files (items_at root h.took.trail h.took.done) in
       let first = first_some next (due_within root part mid_last) h.next_is in
-      record { behind = first.0; due_is = first.1; hashed = stop_hashed root h.took.trail l spent_here opened_here next first.0 (subst (λ qs. IsStop l spent_here opened_here (items_at root h.took.trail qs)) first.1 h.stops) }
+      record { behind = first.0; due_is = first.1; hashed =
+          stop_hashed root h.took.trail l spent_here opened_here next first.0 (subst (λ qs. IsStop l spent_here opened_here (items_at root h.took.trail qs)) first.1 h.stops) }
 
   pub next_some : is_empty (due_within root part mid_last) ≡ false
   next_some = ap is_empty next_there.due_is
@@ -333,7 +339,8 @@ module _ (root : StorageRoot) (part : Part) (s t : Store) (old mid : Option (Lis
         let first : items_at root (h.took.trail ++ os) h.took.done ≡ items_at root h.took.trail h.took.done = items_before root h.took.trail os h.took.done ps up_front opened in
         let then : items_at root (h.took.trail ++ os) (due_within root part mid_last) ≡ items_at root os (due_within root part mid_last) = items_behind root h.took.trail os h.took.done (due_within root part mid_last) up h.took.audits.opened in
         let split : items_at root (h.took.trail ++ os) (due_within root part from) ≡ items_at root h.took.trail h.took.done ++ items_at root os (due_within root part mid_last) =
-        ap (items_at root (h.took.trail ++ os)) h.took.due_are ∙ items_append root (h.took.trail ++ os) h.took.done (due_within root part mid_last) ∙ ap (λ is. is ++ items_at root (h.took.trail ++ os) (due_within root part mid_last)) first ∙ ap (λ is. items_at root h.took.trail h.took.done ++ is) then in
+        ap (items_at root (h.took.trail ++ os)) h.took.due_are ∙ items_append root (h.took.trail ++ os) h.took.done (due_within root part mid_last)
+            ∙ ap (λ is. is ++ items_at root (h.took.trail ++ os) (due_within root part mid_last)) first ∙ ap (λ is. items_at root h.took.trail h.took.done ++ is) then in
         let stop = stop_alike root h.took.trail os l _ _ (due_within root part mid_last) h.stops in
         let some : is_empty (items_at root os (due_within root part mid_last)) ≡ false = ap (λ qs. is_empty (items_at root os qs)) next_there.due_is ∙ some_items root os next next_there.behind in
         ap (λ is. runs is (l ∷ ls)) split
@@ -400,7 +407,8 @@ module _ (root : StorageRoot) (part : Part) (s t : Store) (old mid : Option (Lis
               (audits_fail root s t u h.took.done (k.done ++ k.begun) h.took.listed k.listed h.took.heads k.heads h.took.trail k.trail why h.took.audits k.fails);
           due_are = due_are ∙ ap (λ qs. qs ++ k.rest) (sym both);
           last_is = k.last_is ∙ ap (λ x. last_of x k.done) h.took.last_is ∙ last_then from h.took.done k.done;
-          runs_begin = ap (λ xs. joined (take (1 + count) xs)) are ∙ joined_more count first later ∙ ap (λ is. first ++ is) k.runs_begin ∙ sym (append_assoc first second k.others) ∙ ap (λ is. is ++ k.others) (sym same);
+          runs_begin = ap (λ xs. joined (take (1 + count) xs)) are ∙ joined_more count first later ∙ ap (λ is. first ++ is) k.runs_begin
+              ∙ sym (append_assoc first second k.others) ∙ ap (λ is. is ++ k.others) (sym same);
           runs_before = subst (IsFront (joined (take (1 + count - 1) (runs (items_at root (h.took.trail ++ k.trail) (due_within root part from)) (l ∷ ls))))) (sym same)
               (subst (λ xs. IsFront (joined (take (1 + count - 1) xs)) (first ++ second)) (sym are) (front_more count first later second k.runs_before));
           one = k.one;

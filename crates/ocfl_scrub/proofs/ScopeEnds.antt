@@ -44,7 +44,8 @@ pub whole_refused : (d : Deed) (known : Option (Option (List ℕ))) (n : Note) �
 whole_refused deed.Audit known n h = h
 whole_refused d known n h = h
 
-pub whole_handed_back : (d : Deed) (known : Option (Option (List ℕ))) (status : ℕ) (n : Note) (stored : Option (Vec ℕ Global)) → HandsBackIn d scope.Whole known status n stored → HandsBack known d status n stored
+pub whole_handed_back : (d : Deed) (known : Option (Option (List ℕ))) (status : ℕ) (n : Note) (stored : Option (Vec ℕ Global))
+    → HandsBackIn d scope.Whole known status n stored → HandsBack known d status n stored
 whole_handed_back deed.Audit known status n stored h = h
 whole_handed_back d known status n stored h = h
 
@@ -96,21 +97,24 @@ module _ (call : Call) (p : Place) (status : ℕ) where
 
 -- ---- cursors of parts
 
-pub own_cursor : (e : PartEnds) (b : Text) (c : Cursor) (why : PartRefused) → IsPartText e b c → length b ≤ max_part_text → PartRefusesRightly e (Some (Some b)) (note.PartCursorRefused why) → why ≡ refused.Memory
+pub own_cursor : (e : PartEnds) (b : Text) (c : Cursor) (why : PartRefused) → IsPartText e b c → length b ≤ max_part_text
+    → PartRefusesRightly e (Some (Some b)) (note.PartCursorRefused why) → why ≡ refused.Memory
 own_cursor e b c refused.NotCursor h few k = absurd (true≢false (sym (read_as_part b (front-part_text e b c h) few) ∙ k))
 own_cursor e b c refused.Damaged h few k = only_memory e b c h refused.Damaged k.1
 own_cursor e b c refused.Malformed h few k = only_memory e b c h refused.Malformed k.1
 own_cursor e b c refused.OtherPart h few k = only_memory e b c h refused.OtherPart k.1
 own_cursor e b c refused.Memory h few k = refl
 
-pub cursor_of_a_part : (e f : PartEnds) (b : Text) (c : Cursor) (why : PartRefused) → IsPartText f b c → length b ≤ max_part_text → PartRefusesRightly e (Some (Some b)) (note.PartCursorRefused why) → (why ≡ refused.OtherPart) ⊎ (why ≡ refused.Memory)
+pub cursor_of_a_part : (e f : PartEnds) (b : Text) (c : Cursor) (why : PartRefused) → IsPartText f b c → length b ≤ max_part_text
+    → PartRefusesRightly e (Some (Some b)) (note.PartCursorRefused why) → (why ≡ refused.OtherPart) ⊎ (why ≡ refused.Memory)
 cursor_of_a_part e f b c refused.NotCursor h few k = absurd (true≢false (sym (read_as_part b (front-part_text f b c h) few) ∙ k))
 cursor_of_a_part e f b c refused.Damaged h few k = absurd (true≢false (sym (seal-part_text f b c h) ∙ k.1.1))
 cursor_of_a_part e f b c refused.Malformed h few k = absurd (k.1.no_cursor f c h)
 cursor_of_a_part e f b c refused.OtherPart h few k = inl refl
 cursor_of_a_part e f b c refused.Memory h few k = inr refl
 
-pub cursor_of_the_whole : (e : PartEnds) (b : Text) (c : Cursor) (why : PartRefused) → IsTextOf b c → PartRefusesRightly e (Some (Some b)) (note.PartCursorRefused why) → (why ≡ refused.NotCursor) ⊎ (why ≡ refused.Memory)
+pub cursor_of_the_whole : (e : PartEnds) (b : Text) (c : Cursor) (why : PartRefused) → IsTextOf b c
+    → PartRefusesRightly e (Some (Some b)) (note.PartCursorRefused why) → (why ≡ refused.NotCursor) ⊎ (why ≡ refused.Memory)
 cursor_of_the_whole e b c refused.NotCursor h k = inl refl
 cursor_of_the_whole e b c refused.Damaged h k = absurd (true≢false (sym k.1.0 ∙ whole_is_no_part b c h))
 cursor_of_the_whole e b c refused.Malformed h k = absurd (true≢false (sym k.1.sealed.front ∙ whole_is_no_part b c h))

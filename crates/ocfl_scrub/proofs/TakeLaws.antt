@@ -31,7 +31,8 @@ or_none false = refl
 pub nothing_written : (old : Option (List ℕ)) → WritesLines old old false
 nothing_written old = ([], Appends-nil old, refl)
 
-pub lines_written : (old new : Option (List ℕ)) (lines : List Line) (piece : List ℕ) (finding : Bool) → piece ≡ lines_text lines → Appends old new piece → finding ≡ list_any (λ l. is_finding_code l.code) lines → WritesLines old new finding
+pub lines_written : (old new : Option (List ℕ)) (lines : List Line) (piece : List ℕ) (finding : Bool) → piece ≡ lines_text lines → Appends old new piece
+    → finding ≡ list_any (λ l. is_finding_code l.code) lines → WritesLines old new finding
 lines_written old new lines piece finding e sent finds = (lines, subst (Appends old new) e sent, finds)
 
 -- ---- on a store that tells its tree

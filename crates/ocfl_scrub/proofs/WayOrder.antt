@@ -111,12 +111,14 @@ front_ascends : (whole xs : List Place) → IsFront xs whole → IsAscending pla
 front_ascends whole xs f h = ascends_left place_cmp xs f.0 (subst (IsAscending place_cmp) f.1 h)
 
 -- the directories on the way to a place, and then others above it
-listed_then : (from : Option Place) (down listed : List Place) → IsFront down (way_of from) → IsAscending place_cmp listed → ((y : Place) → IsAmong listed y → IsBeyond from y) → IsAscending place_cmp (down ++ listed)
+listed_then : (from : Option Place) (down listed : List Place) → IsFront down (way_of from) → IsAscending place_cmp listed
+    → ((y : Place) → IsAmong listed y → IsBeyond from y) → IsAscending place_cmp (down ++ listed)
 listed_then None down listed f up far = subst (λ xs. IsAscending place_cmp (xs ++ listed)) (sym (front_of_none down f)) up
 listed_then (Some p) down listed f up far = joined_ascends p down (way_to p) listed f (way_ascends p) (way_up_to p) up far
 
 -- the object that holds a place, and then others above it
-read_then : (root : StorageRoot) (from : Option Place) (held heads : List Place) → IsFront held (holder root from) → IsAscending place_cmp heads → ((y : Place) → IsAmong heads y → IsBeyond from y) → IsAscending place_cmp (held ++ heads)
+read_then : (root : StorageRoot) (from : Option Place) (held heads : List Place) → IsFront held (holder root from) → IsAscending place_cmp heads
+    → ((y : Place) → IsAmong heads y → IsBeyond from y) → IsAscending place_cmp (held ++ heads)
 read_then root None held heads f up far = subst (λ xs. IsAscending place_cmp (xs ++ heads)) (sym (front_of_none held f)) up
 read_then root (Some p) held heads f up far = joined_ascends p held (holder root (Some p)) heads f (holder_ascends root (zone root p)) (holder_up_to root p) up far
 

@@ -30,7 +30,8 @@ Writes call bytes = Appends call.old call.new bytes
 abbrev pub IsUnfailing : Call → Type 0
 IsUnfailing call = call.after.failures ≡ call.before.failures
 
--- of a call over a store that tells its tree, in which no file is too large, by what the store and the output are before it and after it
+-- of a call over a store that tells its tree, in which no file is too large, by what the store and
+-- the output are before it and after it
 abbrev pub WhereTold : {S O : Type 0} → Bool → (S → Store) → (O → Option (List ℕ)) → S → S → O → O → (Call → Type 0) → Type 0
 WhereTold told state contents before after old new Holds =
     IfTold told (state before) (λ root. HasShortFiles root → Holds (call_of root (state before) (state after) (contents old) (contents new)))

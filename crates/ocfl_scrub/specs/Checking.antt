@@ -25,13 +25,16 @@ checked_item root trail p = item_at root (unread_of root trail) p
 abbrev pub AreOnce : List Opening → Type 0
 AreOnce trail = AllPairs (λ a b. a.place ≢ b.place) trail
 
--- only directories on the way to a place were listed, at most the inventory of its object was read, where its head reaches it, and no file was opened twice
+-- only directories on the way to a place were listed, at most the inventory of its object was read,
+-- where its head reaches it, and no file was opened twice
 pub record IsJustFor (root : StorageRoot) (p : Place) (listed heads : List Place) (trail : List Opening) : Type 0 where
   pub listed_front : IsFront listed (way_to p)
   pub heads_front : IsFront heads (holder root (Some p))
   pub once : AreOnce trail
 
--- the place was checked: its lines were written, its file was opened if it is hashed and no other content, only directories on the way to it were listed, each once, and at most the inventory of its object was read
+-- the place was checked: its lines were written, its file was opened if it is hashed and no other
+-- content, only directories on the way to it were listed, each once, and at most the inventory of
+-- its object was read
 pub record Checks (call : Call) (p : Place) (item finding : Bool) : Type 0 where
   pub trail : List Opening
   pub listed : List Place
@@ -42,7 +45,8 @@ pub record Checks (call : Call) (p : Place) (item finding : Bool) : Type 0 where
   pub item_is : item ≡ not (is_empty (checked_item call.root trail p))
   pub found_is : finding ≡ found (checked_item call.root trail p)
 
--- checking the place stopped: at most a proper beginning of its text went out, and nothing where it was not the output that failed
+-- checking the place stopped: at most a proper beginning of its text went out, and nothing where it
+-- was not the output that failed
 pub record CheckStops (call : Call) (p : Place) (why : Fault) : Type 0 where
   pub trail : List Opening
   pub begun : List Place

@@ -63,11 +63,15 @@ runs_in root trail part limits = runs (items_in root trail part) limits
 abbrev pub all_in : StorageRoot → List Opening → Part → List Limits → List Item
 all_in root trail part limits = joined (runs_in root trail part limits)
 
--- how many inventories a run of a part may read: that of the object that holds the place where the part begins, and those of the part
+-- how many inventories a run of a part may read: that of the object that holds the place where the
+-- part begins, and those of the part
 abbrev pub inventories_in : StorageRoot → Part → ℕ
 inventories_in root part = length (holder root (entry part None)) + length (read_in root part None None)
 
--- a cycle made the runs of the limits over a part: what they take together was written. Each hashed file of it was opened once, in order. Inventories were read at most as often as one run may read any, and once more for each run after the first. The part has ended where a run was made and nothing of it is left
+-- a cycle made the runs of the limits over a part: what they take together was written. Each hashed
+-- file of it was opened once, in order. Inventories were read at most as often as one run may read
+-- any, and once more for each run after the first. The part has ended where a run was made and
+-- nothing of it is left
 pub record CyclesWithin (call : Call) (part : Part) (last : Option Place) (limits : List Limits) (spent files : ℕ) (finding : Bool) (count : ℕ) (ends : Bool) : Type 0 where
   pub trail : List Opening
   pub listed : List Place
@@ -87,7 +91,9 @@ pub record CyclesWithin (call : Call) (part : Part) (last : Option Place) (limit
 abbrev pub first_in : StorageRoot → List Opening → Part → List Limits → ℕ → List Item
 first_in root trail part limits count = joined (take count (runs_in root trail part limits))
 
--- a cycle over a part stopped, in its last run or before a further one began: the first items that its runs take went out whole, and of the next at most a proper beginning. Those of the runs before the last are among them, also where the last took none
+-- a cycle over a part stopped, in its last run or before a further one began: the first items that
+-- its runs take went out whole, and of the next at most a proper beginning. Those of the runs
+-- before the last are among them, also where the last took none
 pub record CycleStopsWithin (call : Call) (part : Part) (last : Option Place) (limits : List Limits) (spent files : ℕ) (finding : Bool) (count : ℕ) (why : Fault) : Type 0 where
   pub trail : List Opening
   pub made : 1 ≤ count
@@ -127,7 +133,11 @@ CyclesTo call limits c finding end = CyclesToWithin call whole limits c finding 
 
 -- ---- the headline: where no failure was counted
 
--- While the root stays unchanged and every call succeeds: the reports of the runs, joined, are the cuts of the audit by their limits, so that each run starts a file only while its cost is below its budget and its files below their limit; where the cycle has ended they are exactly the whole audit, and each hashed file was opened once, in order; and it has ended within as many runs as the cost by the budget and the files by their limit, each rounded down, and one more
+-- While the root stays unchanged and every call succeeds: the reports of the runs, joined, are the
+-- cuts of the audit by their limits, so that each run starts a file only while its cost is below
+-- its budget and its files below their limit; where the cycle has ended they are exactly the whole
+-- audit, and each hashed file was opened once, in order; and it has ended within as many runs as
+-- the cost by the budget and the files by their limit, each rounded down, and one more
 pub record Headline (call : Call) (limits : List Limits) (count : ℕ) (whole : Bool) : Type 0 where
   pub trail : List Opening
   pub opened : call.after.openings ≡ call.before.openings ++ trail
@@ -144,7 +154,10 @@ HeadlineOf call limits count (status.Stopped why) = ⊤
 
 -- ---- the headline of parts
 
--- The same of one part, while the root stays unchanged and every call succeeds. The reports of its runs, joined, are the cuts of what the audit has there. If its cycle has ended they are exactly that, and each hashed file of the part was opened once, in order. It has ended within as many runs as its cost by the budget and its files by their limit, each rounded down, and one more
+-- The same of one part, while the root stays unchanged and every call succeeds. The reports of its
+-- runs, joined, are the cuts of what the audit has there. If its cycle has ended they are exactly
+-- that, and each hashed file of the part was opened once, in order. It has ended within as many
+-- runs as its cost by the budget and its files by their limit, each rounded down, and one more
 pub record HeadlineWithin (call : Call) (part : Part) (limits : List Limits) (count : ℕ) (ends : Bool) : Type 0 where
   pub trail : List Opening
   pub opened : call.after.openings ≡ call.before.openings ++ trail

@@ -206,7 +206,8 @@ abbrev pub IsStoredNote : (Cursor → Text) → Cursor → ℕ → Bool → RunS
 IsStoredNote text_of c spent finding how status n None = (status ≡ 3) × (n ≡ note.OutOfMemory)
 IsStoredNote text_of c spent finding how status n (Some stored) = (stored.items ≡ text_of c) × IsRunNote c spent finding how status n
 
--- a run of a part was made from a cursor, and the status, the text and what is handed back are those of the run
+-- a run of a part was made from a cursor, and the status, the text and what is handed back are
+-- those of the run
 pub record RunsWithNote (call : Call) (part : Part) (text_of : Cursor → Text) (c : Cursor) (limits : Limits) (status : ℕ) (n : Note) (stored : Option (Vec ℕ Global)) : Type 0 where
   pub ran : RunEnd
   pub runs : RunsFromWithin call part c limits ran

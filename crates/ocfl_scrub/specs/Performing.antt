@@ -103,7 +103,8 @@ abbrev pub IsKeptBy : Deed → Note → Option (Vec ℕ Global) → Type 0
 IsKeptBy (deed.Run limits) n stored = IsKept n stored
 IsKeptBy deed n stored = IsNone stored
 
--- the text that is handed back is that of the cursor to which a run led from one with which it may begin, and the status and what is said are those of that run
+-- the text that is handed back is that of the cursor to which a run led from one with which it may
+-- begin, and the status and what is said are those of that run
 pub record HandedBack (Begins : Cursor → Type 0) (text_of : Cursor → Text) (limits : Limits) (status : ℕ) (n : Note) (handed : Text) : Type 0 where
   pub from : Cursor
   pub begins : Begins from
@@ -163,7 +164,8 @@ abbrev pub WritesBy : Option (Option Text) → Deed → ℕ → Note → Option 
 WritesBy known deed.Show status n old new = ShowsWith known n old new
 WritesBy known deed status n old new = IsWhole n → WritesWithStatus old new status
 
--- what a command ends with on any store, by what the store and the output are before it and after it, and by the bytes of the cursor that it reads
+-- what a command ends with on any store, by what the store and the output are before it and after
+-- it, and by the bytes of the cursor that it reads
 pub record AnswersOnAnyStore {S O : Type 0} (contents : O → Option (List ℕ)) (before after : S) (old new : O) (known : Option (Option Text)) (d : Deed) (said : Performed) : Type 0 where
   pub status : IsStatus said.status said.note
   pub silent : IsSilent said.note → (after ≡ before) × (new ≡ old)

@@ -1,4 +1,5 @@
--- What one run does: of a part of a storage root it takes what lies above its cursor's place, as far as its limits allow.
+-- What one run does: of a part of a storage root it takes what lies above its cursor's place, as
+-- far as its limits allow.
 use Rattle.std.specs.Prelude.{◌≡◌, ◌≢◌, ◌↔◌, ◌<◌, ◌≤◌, ◌+◌, ◌==◌, ◌^◌, ℕ, List, [], ◌∷◌, ◌++◌, Bool, false, Option, Some, None, length, if◌then◌else◌, ⊤}
 use Rattle.ocfl_tree.specs.Place.{Place}
 use Rattle.ocfl_tree.specs.StorageRoot.{StorageRoot}
@@ -66,7 +67,8 @@ IsWorn c = IsWornIn c c.state
 
 -- ---- of every store
 
--- costs of files, before each of which less than the budget was spent, and fewer files than their limit were started
+-- costs of files, before each of which less than the budget was spent, and fewer files than their
+-- limit were started
 abbrev pub ArePaid : Limits → ℕ → ℕ → List ℕ → Type 0
 ArePaid limits spent files [] = ⊤
 ArePaid limits spent files (c ∷ costs) =
@@ -125,7 +127,9 @@ taken_in root trail part from limits = cut (items_above_in root trail part from)
 abbrev pub rest_in : StorageRoot → List Opening → Part → Option Place → Limits → List Item
 rest_in root trail part from limits = left (items_above_in root trail part from) limits
 
--- a run took the cut of its limits from a part. Each hashed file of it was opened once, in order, and it looked over the part up to the first item that is left. What was spent passes the budget by less than the last file's cost
+-- a run took the cut of its limits from a part. Each hashed file of it was opened once, in order,
+-- and it looked over the part up to the first item that is left. What was spent passes the budget
+-- by less than the last file's cost
 pub record RunsWithin (call : Call) (part : Part) (from last : Option Place) (limits : Limits) (spent files : ℕ) (finding : Bool) (next : Option Place) : Type 0 where
   pub trail : List Opening
   pub looks : LooksOver call part from next (places (taken_in call.root trail part from limits)) trail

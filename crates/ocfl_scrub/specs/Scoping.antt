@@ -51,7 +51,8 @@ IsSaidIn deed.Audit (scope.Branch p) n = IsBranchSaid n
 IsSaidIn (deed.Run limits) (scope.Part e) n = IsPartRunSaid n
 IsSaidIn d w n = IsSaid d n
 
--- what the audit of a branch ended with: a branch in which no item went out, and which did not stop, is said to be empty
+-- what the audit of a branch ended with: a branch in which no item went out, and which did not
+-- stop, is said to be empty
 abbrev pub IsBranchNote : Bool → End → Option Place → ℕ → Note → Type 0
 IsBranchNote finding end.Ended None status n = (status ≡ 2) × (n ≡ note.EmptyBranch)
 IsBranchNote finding how last status n = IsAuditNote finding how status n
@@ -68,7 +69,8 @@ abbrev pub BeginsPartWith : PartEnds → Option (Option Text) → Cursor → Typ
 BeginsPartWith e None c = c ≡ new_cursor
 BeginsPartWith e (Some known) c = IfSome known (λ bytes. IsPartText e bytes c)
 
--- no cursor was read, and where the bytes are known they are rightly refused to this part; only a reader can be refused
+-- no cursor was read, and where the bytes are known they are rightly refused to this part; only a
+-- reader can be refused
 abbrev pub PartStopsWith : PartEnds → Option (Option Text) → PartCursorStop → Type 0
 PartStopsWith e None why = ⊥
 PartStopsWith e (Some known) why = IfSome known (λ bytes. PartStopsRightly e bytes why)
@@ -90,7 +92,8 @@ HandsBackIn d w known status n stored = HandsBack known d status n stored
 
 -- ---- of a store that tells its tree
 
--- a part was audited, and the status and the text are those of the audit; where no failure was counted and nothing is said, its items went out
+-- a part was audited, and the status and the text are those of the audit; where no failure was
+-- counted and nothing is said, its items went out
 pub record PartAudited (Says : AuditEnd → Type 0) (call : Call) (part : Part) (status : ℕ) (n : Note) : Type 0 where
   pub ran : AuditEnd
   pub audits : AuditEndsWithin call part ran.last ran.found ran.end

@@ -44,7 +44,8 @@ abbrev pub is_before : Option Place → Place → Bool
 is_before None first = true
 is_before (Some p) first = is_lt (place_cmp p first)
 
--- where the walk goes down to: the place above which items are taken, and the directory of the part's first place where that is greater, since what lies at that place is met
+-- where the walk goes down to: the place above which items are taken, and the directory of the
+-- part's first place where that is greater, since what lies at that place is met
 abbrev pub entry_by : Option Place → Option Place → Option Place
 entry_by None above = above
 entry_by (Some first) above = if is_before above first then directory_of first else above
@@ -64,14 +65,18 @@ stand root part above = stand_by root (first_place part) above
 abbrev pub due_within : StorageRoot → Part → Option Place → List Place
 due_within root part from = places_within part (due root from)
 
--- the directories of a part that are looked into between two places, and its objects whose inventories are read
+-- the directories of a part that are looked into between two places, and its objects whose
+-- inventories are read
 abbrev pub looked_in : StorageRoot → Part → Option Place → Option Place → List Place
 looked_in root part from to = places_within part (looked_between root from to)
 
 abbrev pub read_in : StorageRoot → Part → Option Place → Option Place → List Place
 read_in root part from to = places_within part (read_between root from to)
 
--- a call over a part audited these places of it, the first of those above one, and came to another. Listed were the first directories on the way down to where it began, and those of the part between the two places that are looked into, in order. Read were at most the inventory of the object that holds the place gone down to, and those of the part between the two places
+-- a call over a part audited these places of it, the first of those above one, and came to another.
+-- Listed were the first directories on the way down to where it began, and those of the part
+-- between the two places that are looked into, in order. Read were at most the inventory of the
+-- object that holds the place gone down to, and those of the part between the two places
 pub record LooksOver (call : Call) (part : Part) (from to : Option Place) (audited : List Place) (trail : List Opening) : Type 0 where
   pub down : List Place
   pub held : List Place

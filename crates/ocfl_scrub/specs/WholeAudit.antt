@@ -30,7 +30,8 @@ pub record AuditsOnAnyStore {O : Type 0} (contents : O → Option (List ℕ)) (o
   pub silent : ran.last ≡ None → ran.end ≢ end.Stopped fault.Output → new ≡ old
   pub none_found : ran.last ≡ None → ran.found ≡ false
 
--- the audit's text was written: each hashed file was opened once, in order, each directory that is looked into listed once, and each inventory read once
+-- the audit's text was written: each hashed file was opened once, in order, each directory that is
+-- looked into listed once, and each inventory read once
 pub record AuditsAll (call : Call) (last : Option Place) (finding : Bool) : Type 0 where
   pub trail : List Opening
   pub audits : Audits call.root call.before call.after (item_places call.root) (looked_between call.root None None) (read_between call.root None None) trail

@@ -24,7 +24,8 @@ pub record Figures (items : List Item) (spent files : ℕ) (finding : Bool) : Ty
   pub files_is : files ≡ total_files items
   pub found_is : finding ≡ found items
 
--- the first of some items went out whole, the last of those at last, and of the next, which was begun or not, at most a proper beginning
+-- the first of some items went out whole, the last of those at last, and of the next, which was
+-- begun or not, at most a proper beginning
 pub record StopsWithin (items : List Item) (old new : Option (List ℕ)) (from last : Option Place) (why : Fault) : Type 0 where
   pub whole : List Item
   pub others : List Item

@@ -54,7 +54,8 @@ two_levels_listed = (refl, refl, refl)
 
 -- an object beside a directory: the level below has the directory's objects alone
 abbrev uneven : StorageRoot
-uneven = known_root ++ folder "a" ∷ object_at "a/o1" "a/o1/0=ocfl_object_1.1" ++ object_at "a/o2" "a/o2/0=ocfl_object_1.1" ++ object_at "a/o3" "a/o3/0=ocfl_object_1.1" ++ object_at "o" "o/0=ocfl_object_1.1" ++ folder "o/v1" ∷ []
+uneven = known_root ++ folder "a" ∷ object_at "a/o1" "a/o1/0=ocfl_object_1.1" ++ object_at "a/o2" "a/o2/0=ocfl_object_1.1" ++ object_at "a/o3"
+    "a/o3/0=ocfl_object_1.1" ++ object_at "o" "o/0=ocfl_object_1.1" ++ folder "o/v1" ∷ []
 
 uneven_by_count : (separators_of uneven 2 ≡ places ("o" ∷ [])) × (separators_of uneven 3 ≡ places ("a/o2" ∷ "a/o3" ∷ []))
 unfolding split_level level_from

@@ -68,7 +68,8 @@ module _ (root : StorageRoot) where
         let room_left : room - length next - length (directories_below root d) ≡ room - length new = omega (arith, sum) in
         record {
           lists = subst (ListsAll root s u) (sym more) (lists_on root s t u (take i ds) (d ∷ []) so.lists h);
-          next = so.next ∙ ap (λ xs. next ++ level_below root xs) left ∙ sym (append_assoc next (directories_below root d) (level_below root (drop (i + 1) ds))) ∙ ap (λ xs. xs ++ level_below root (drop (i + 1) ds)) (sym e);
+          next = so.next ∙ ap (λ xs. next ++ level_below root xs) left ∙ sym (append_assoc next (directories_below root d) (level_below root (drop (i + 1) ds)))
+              ∙ ap (λ xs. xs ++ level_below root (drop (i + 1) ds)) (sym e);
           listed =
               so.listed
               ∙ ap (λ xs. take i ds ++ listed_within root (room - length next) xs) left
@@ -79,7 +80,8 @@ module _ (root : StorageRoot) where
         }
 
     -- there is no room for what lies below it
-    pub one_too_many : ListsAll root t u (d ∷ []) → length next ≤ room → room < length (next ++ directories_below root d) → (None ≡ next_level root room ds) × ListsAll root s u (listed_within root room ds)
+    pub one_too_many : ListsAll root t u (d ∷ []) → length next ≤ room → room < length (next ++ directories_below root d) → (None ≡ next_level root room ds)
+        × ListsAll root s u (listed_within root room ds)
     one_too_many h few many =
         let sum = length-append next (directories_below root d) in
         let over : nat_le (length (directories_below root d)) (room - length next) ≡ false = lt-leb (length (directories_below root d)) (room - length next) (omega (arith, sum, few, many)) in

@@ -62,7 +62,8 @@ module _ (root : StorageRoot) (count : ℕ) (above ds : List Place) where
   unfolding level_from
   level_last k h e = ap (λ b. cond b ds (option_map_or (split_in k) (next_level root (room_below above ds) ds) (wider above ds))) h ∙ ap (λ o. option_map_or (split_in k) o (wider above ds)) (sym e)
 
-  level_on : (k : ℕ) (next : List Place) → nat_le count (length ds) ≡ false → Some next ≡ next_level root (room_below above ds) ds → level_from (suc k) root count above ds ≡ level_from k root count (kept (wider above ds) next) next
+  level_on : (k : ℕ) (next : List Place) → nat_le count (length ds) ≡ false → Some next ≡ next_level root (room_below above ds) ds
+      → level_from (suc k) root count above ds ≡ level_from k root count (kept (wider above ds) next) next
   unfolding level_from
   level_on k next h e = ap (λ b. cond b ds (option_map_or (split_in k) (next_level root (room_below above ds) ds) (wider above ds))) h ∙ ap (λ o. option_map_or (split_in k) o (wider above ds)) (sym e)
 
@@ -151,7 +152,8 @@ module _ (root : StorageRoot) (count : ℕ) where
     split_ends l =
         let none : 128 - n ≡ 0 = omega (arith, l) in (
           sym (so.left ∙ ap (λ k. level_from k root count above ds) none ∙ level_end root count above ds),
-          subst (ListsAll root s t) (sym (so.listed ∙ ap (λ k. so.done ++ listed_from k root count above ds) none ∙ ap (λ xs. so.done ++ xs) (listed_end root count above ds) ∙ append-nil so.done)) so.lists,
+          subst (ListsAll root s t) (sym (so.listed ∙ ap (λ k. so.done ++ listed_from k root count above ds) none
+              ∙ ap (λ xs. so.done ++ xs) (listed_end root count above ds) ∙ append-nil so.done)) so.lists,
         )
 
     module _ (u : Store) (room : ℕ) (l : n < 128) (h : nat_le count (length ds) ≡ false) (e : room ≡ room_below above ds) where
@@ -182,14 +184,17 @@ module _ (root : StorageRoot) (count : ℕ) where
             subst (ListsAll root s u) (sym (more ∙ ap (λ o. (so.done ++ now) ++ option_map_or (listed_in root count above ds (127 - n)) o []) (sym none) ∙ append-nil (so.done ++ now))) (all_now k),
           )
 
-      pub split_on : (keep next : List Place) → keep ≡ kept (wider above ds) next → Some next ≡ next_level root room ds → ListsAll root t u (listed_within root room ds) → IsSplitSo root s u count (n + 1) keep next
+      pub split_on : (keep next : List Place) → keep ≡ kept (wider above ds) next → Some next ≡ next_level root room ds
+          → ListsAll root t u (listed_within root room ds) → IsSplitSo root s u count (n + 1) keep next
       split_on keep next is f k = subst (λ xs. IsSplitSo root s u count (n + 1) xs next) (sym is) (record {
         directories = AreDirectories-is root next (λ z i. level_directories root ds z (subst (λ xs. IsAmong xs z) (next_some _ (level_below root ds) next some) i));
         done = so.done ++ now;
         lists = all_now k;
         few = inr (kept_few above ds next count above_few (leb-false count (length ds) h));
-        left = so.left ∙ ap (λ i. level_from i root count above ds) down ∙ level_on root count above ds (127 - n) next h some ∙ ap (λ i. level_from i root count (kept (wider above ds) next) next) same;
-        listed = more ∙ ap (λ o. (so.done ++ now) ++ option_map_or (listed_in root count above ds (127 - n)) o []) (sym some) ∙ ap (λ i. (so.done ++ now) ++ listed_from i root count (kept (wider above ds) next) next) same;
+        left = so.left ∙ ap (λ i. level_from i root count above ds) down ∙ level_on root count above ds (127 - n) next h some
+            ∙ ap (λ i. level_from i root count (kept (wider above ds) next) next) same;
+        listed = more ∙ ap (λ o. (so.done ++ now) ++ option_map_or (listed_in root count above ds (127 - n)) o []) (sym some)
+            ∙ ap (λ i. (so.done ++ now) ++ listed_from i root count (kept (wider above ds) next) next) same;
       })
         where
           some : Some next ≡ next_level root (room_below above ds) ds

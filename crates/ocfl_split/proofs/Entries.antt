@@ -72,7 +72,8 @@ pub children_rise : (d : Place) (ns : List Text) → IsAscending text_cmp ns →
 children_rise d [] h = tt
 children_rise d (n ∷ ns) h = (before_names d n ns h.0, children_rise d ns h.1)
 
-before_kept : (test : Entry → Bool) (d : Place) (p : Place) (es : List Entry) → IsBeforeAll place_cmp p (map (λ e. d ++ e.name ∷ []) es) → IsBeforeAll place_cmp p (map (λ e. d ++ e.name ∷ []) (filter test es))
+before_kept : (test : Entry → Bool) (d : Place) (p : Place) (es : List Entry) → IsBeforeAll place_cmp p (map (λ e. d ++ e.name ∷ []) es)
+    → IsBeforeAll place_cmp p (map (λ e. d ++ e.name ∷ []) (filter test es))
 before_kept test d p [] h = tt
 before_kept test d p (e ∷ es) h = by (test e) (before_kept test d p es h.1)
   where
@@ -132,7 +133,8 @@ entry_of : (es : List Entry) (n : Text) (k : Kind) → kind_in es n ≡ Some k �
 entry_of [] n k h = absurd (some_not_none k h)
 entry_of (x ∷ es) n k h = by (text_eq x.name n) refl h (entry_of es n k)
   where
-    by : (b : Bool) → text_eq x.name n ≡ b → cond b (Some x.kind) (kind_in es n) ≡ Some k → (kind_in es n ≡ Some k → (e : Entry) × IsAmong es e × (e.name ≡ n) × (e.kind ≡ k)) → (e : Entry) × IsAmong (x ∷ es) e × (e.name ≡ n) × (e.kind ≡ k)
+    by : (b : Bool) → text_eq x.name n ≡ b → cond b (Some x.kind) (kind_in es n) ≡ Some k
+        → (kind_in es n ≡ Some k → (e : Entry) × IsAmong es e × (e.name ≡ n) × (e.kind ≡ k)) → (e : Entry) × IsAmong (x ∷ es) e × (e.name ≡ n) × (e.kind ≡ k)
     by true t j more = (x, inl refl, (text_eq-Decides x.name n).0 t, cc)
     by false t j more = let e = more j in (e.0, inr e.1, e.2, e.3)
 
@@ -178,7 +180,8 @@ tree_rises root d =
     (ascends_filter text_cmp (λ n. is_dir root (d ++ n ∷ []) && not (is_extensions_name d n)) (names_in root d) (ascends_ascending text_cmp_total (filter_map (λ e. child_name d e.0) root)))
 
 -- a listing that was sorted shows the directories of the tree
-pub among_tree : (root : StorageRoot) (d : Place) (es fs : List Entry) → IsOrdinary es → IsListing root d es → IsPermutation es fs → IsSorted (λ e f. text_cmp e.name f.name) fs → directories_among d fs ≡ directories_in root d
+pub among_tree : (root : StorageRoot) (d : Place) (es fs : List Entry) → IsOrdinary es → IsListing root d es → IsPermutation es fs
+    → IsSorted (λ e f. text_cmp e.name f.name) fs → directories_among d fs ≡ directories_in root d
 among_tree root d es fs ordinary h moved sorted =
     ascending_unique place_cmp_total place_cmp_exact (directories_among d fs) (directories_in root d)
     (among_below d fs (names_rise es fs ordinary moved sorted)).ascend (tree_rises root d)
@@ -186,8 +189,12 @@ among_tree root d es fs ordinary h moved sorted =
 
 -- ---- entry by entry
 
-pub among_kept : (d : Place) (es : List Entry) (i : ℕ) (e : Entry) → i < length es → e ≡ get_or es i e → is_directory_entry d e ≡ true → directories_among d (drop i es) ≡ (d ++ e.name ∷ []) ∷ directories_among d (drop (i + 1) es)
-among_kept d es i e l is t = ap (directories_among d) (drop_item es i e l is) ∙ ap (λ b. map (λ e. d ++ e.name ∷ []) (cond b (e ∷ filter (is_directory_entry d) (drop (i + 1) es)) (filter (is_directory_entry d) (drop (i + 1) es)))) t
+pub among_kept : (d : Place) (es : List Entry) (i : ℕ) (e : Entry) → i < length es → e ≡ get_or es i e → is_directory_entry d e ≡ true
+    → directories_among d (drop i es) ≡ (d ++ e.name ∷ []) ∷ directories_among d (drop (i + 1) es)
+among_kept d es i e l is t = ap (directories_among d) (drop_item es i e l is)
+    ∙ ap (λ b. map (λ e. d ++ e.name ∷ []) (cond b (e ∷ filter (is_directory_entry d) (drop (i + 1) es)) (filter (is_directory_entry d) (drop (i + 1) es)))) t
 
-pub among_passed : (d : Place) (es : List Entry) (i : ℕ) (e : Entry) → i < length es → e ≡ get_or es i e → is_directory_entry d e ≡ false → directories_among d (drop i es) ≡ directories_among d (drop (i + 1) es)
-among_passed d es i e l is t = ap (directories_among d) (drop_item es i e l is) ∙ ap (λ b. map (λ e. d ++ e.name ∷ []) (cond b (e ∷ filter (is_directory_entry d) (drop (i + 1) es)) (filter (is_directory_entry d) (drop (i + 1) es)))) t
+pub among_passed : (d : Place) (es : List Entry) (i : ℕ) (e : Entry) → i < length es → e ≡ get_or es i e → is_directory_entry d e ≡ false
+    → directories_among d (drop i es) ≡ directories_among d (drop (i + 1) es)
+among_passed d es i e l is t = ap (directories_among d) (drop_item es i e l is)
+    ∙ ap (λ b. map (λ e. d ++ e.name ∷ []) (cond b (e ∷ filter (is_directory_entry d) (drop (i + 1) es)) (filter (is_directory_entry d) (drop (i + 1) es)))) t

@@ -20,10 +20,12 @@ head_declared d head.Undeclared k some = absurd (some refl)
 head_declared d head.Known k some = k.0
 head_declared d head.Stops k some = k.0
 
-pub root_leads : (root : StorageRoot) (d : Place) (es : List Entry) (b : Bool) → length d ≡ 0 → IsOrdinary es → IsListing root d es → is_known (declared level.Root (file_names es)) ≡ b → b ≡ leads_on root d
+pub root_leads : (root : StorageRoot) (d : Place) (es : List Entry) (b : Bool) → length d ≡ 0 → IsOrdinary es → IsListing root d es
+    → is_known (declared level.Root (file_names es)) ≡ b → b ≡ leads_on root d
 root_leads root [] es b top ordinary h k = sym k ∙ sym (ap is_known (declared_root root es ordinary h))
 root_leads root (n ∷ d) es b top ordinary h k = absurd (omega (arith, top))
 
-pub lower_leads : (root : StorageRoot) (d : Place) (es : List Entry) (b : Bool) → (length d ≡ 0 → ⊥) → is_listable root d ≡ true → IsOrdinary es → IsListing root d es → is_declared (declared level.Object (file_names es)) ≡ b → not b ≡ leads_on root d
+pub lower_leads : (root : StorageRoot) (d : Place) (es : List Entry) (b : Bool) → (length d ≡ 0 → ⊥) → is_listable root d ≡ true → IsOrdinary es
+    → IsListing root d es → is_declared (declared level.Object (file_names es)) ≡ b → not b ≡ leads_on root d
 lower_leads root [] es b below l ordinary h k = absurd (below refl)
 lower_leads root (n ∷ d) es b below l ordinary h k = ap not (sym k ∙ sym (ap is_declared (declared_object root (n ∷ d) es l ordinary h)))

@@ -65,7 +65,8 @@ module _ (root : StorageRoot) where
   }
 
   module _ (m n : ℕ) (above : List Place) (so : IsWidest root m n above) where
-    on_as : (xs : List Place) → xs ≡ level root n → (b : Bool) → nat_le (length (level root n)) (width (suc m)) ≡ b → (i : ℕ) × IsWidest root (suc m) i (cond (nat_le (length xs) (width (suc m))) [] xs)
+    on_as : (xs : List Place) → xs ≡ level root n → (b : Bool) → nat_le (length (level root n)) (width (suc m)) ≡ b → (i : ℕ)
+        × IsWidest root (suc m) i (cond (nat_le (length xs) (width (suc m))) [] xs)
     on_as xs e true h =
         let low : width n ≤ width (suc m) = leb-true (width n) (width (suc m)) h in
         let drop : cond (nat_le (length xs) (width (suc m))) [] xs ≡ [] = ap (λ ys. cond (nat_le (length ys) (width (suc m))) [] ys) e ∙ ap (λ b. cond b [] (level root n)) h in (
@@ -110,9 +111,12 @@ module _ (root : StorageRoot) (count : ℕ) where
   abbrev Ends : ℕ → ℕ → Type 0
   Ends m n = (count ≤ length (level root n)) ⊎ ((level root (m + 1) ≡ []) ⊎ ((max_held < held root n m + length (level root (m + 1))) ⊎ (m ≡ 128)))
 
-  found_from : (k m n : ℕ) (above : List Place) → ((j : ℕ) → j < m → length (level root j) < count) → level root m ≢ [] → IsWidest root m n above → m + k ≡ 128 → Found root count (level_from k root count above (level root m))
+  found_from : (k m n : ℕ) (above : List Place) → ((j : ℕ) → j < m → length (level root j) < count) → level root m ≢ [] → IsWidest root m n above → m + k ≡ 128
+      → Found root count (level_from k root count above (level root m))
   unfolding level_from
-  found_from zero m n above fewer some so sum = record { number = n; is = so.is; level = record { last = m; reached = so.reached; some = some; fewer = fewer; widest = so.widest; lowest = so.lowest; ends = inr (inr (inr (omega (arith, sum)))) } }
+  found_from zero m n above fewer some so sum =
+      record { number = n; is = so.is; level =
+      record { last = m; reached = so.reached; some = some; fewer = fewer; widest = so.widest; lowest = so.lowest; ends = inr (inr (inr (omega (arith, sum)))) } }
   found_from (suc k) m n above fewer some so sum =
       let on = widest_on root m n above so in
       by (nat_le count (length (level root m))) refl (λ less more. found_from k (suc m) on.0 (kept (wider above (level root m)) (level root (suc m))) less more on.1 (omega (arith, sum)))
@@ -132,7 +136,8 @@ module _ (root : StorageRoot) (count : ℕ) where
 
       lower : (b : Bool) → (length (level_below root (level root m)) == 0 || nat_lt (room_below above (level root m)) (length (level_below root (level root m)))) ≡ b
           → nat_le count (length (level root m)) ≡ false → Goes k m above
-          → Found root count (option_map_or (λ next. level_from k root count (kept (wider above (level root m)) next) next) (cond b None (Some (level_below root (level root m)))) (wider above (level root m)))
+          → Found root count (option_map_or (λ next. level_from k root count (kept (wider above (level root m)) next) next)
+              (cond b None (Some (level_below root (level root m)))) (wider above (level root m)))
       lower true e h go = ended (inr (last (or_cases (length (level_below root (level root m)) == 0) (nat_lt (room_below above (level root m)) (length (level_below root (level root m)))) e)))
         where
           last : ((length (level_below root (level root m)) == 0) ≡ true) ⊎ (nat_lt (room_below above (level root m)) (length (level_below root (level root m))) ≡ true)
@@ -143,10 +148,13 @@ module _ (root : StorageRoot) (count : ℕ) where
               let holds = so.holds in
               inr (inl (subst (λ xs. max_held < held root n m + length xs) (further root m) (omega (arith, many, holds))))
       lower false e h go =
-          go (one_more h) (something (level_below root (level root m)) (or_parts (length (level_below root (level root m)) == 0) (nat_lt (room_below above (level root m)) (length (level_below root (level root m)))) e).0)
+          go (one_more h) (something (level_below root (level root m))
+              (or_parts (length (level_below root (level root m)) == 0) (nat_lt (room_below above (level root m)) (length (level_below root (level root m)))) e).0)
 
       by : (b : Bool) → nat_le count (length (level root m)) ≡ b → Goes k m above
-          → Found root count (cond b (level root m) (option_map_or (λ next. level_from k root count (kept (wider above (level root m)) next) next) (next_level root (room_below above (level root m)) (level root m)) (wider above (level root m))))
+          → Found root count (cond b (level root m)
+              (option_map_or (λ next. level_from k root count (kept (wider above (level root m)) next) next)
+              (next_level root (room_below above (level root m)) (level root m)) (wider above (level root m))))
       by true h down = subst (Found root count) here (ended (inl (omega (arith, enough, most))))
         where
           enough : count ≤ length (level root m)

@@ -102,11 +102,13 @@ module _ (root : StorageRoot) where
   step_up d x h = by (is_extensions root d x) (zone root d) refl refl (as_step h)
     where
       as_step : (zone root (d ++ x ∷ []) ≡ hierarchy) ⊎ (zone root (d ++ x ∷ []) ≡ inside (d ++ x ∷ []) [])
-          → (cond (is_extensions root d x) skipped (step_zone root d x (zone root d)) ≡ hierarchy) ⊎ (cond (is_extensions root d x) skipped (step_zone root d x (zone root d)) ≡ inside (d ++ x ∷ []) [])
+          → (cond (is_extensions root d x) skipped (step_zone root d x (zone root d)) ≡ hierarchy)
+              ⊎ (cond (is_extensions root d x) skipped (step_zone root d x (zone root d)) ≡ inside (d ++ x ∷ []) [])
       as_step (inl z) = inl (sym (zone_step root d x) ∙ z)
       as_step (inr z) = inr (sym (zone_step root d x) ∙ z)
 
-      by : (e : Bool) (z : Zone) → is_extensions root d x ≡ e → zone root d ≡ z → (cond e skipped (step_zone root d x z) ≡ hierarchy) ⊎ (cond e skipped (step_zone root d x z) ≡ inside (d ++ x ∷ []) [])
+      by : (e : Bool) (z : Zone) → is_extensions root d x ≡ e → zone root d ≡ z → (cond e skipped (step_zone root d x z) ≡ hierarchy)
+          ⊎ (cond e skipped (step_zone root d x z) ≡ inside (d ++ x ∷ []) [])
           → (is_extensions root d x ≡ false) × (zone root d ≡ hierarchy)
       by true z f g (inl k) = absurd cc
       by true z f g (inr k) = absurd cc
@@ -158,19 +160,22 @@ module _ (root : StorageRoot) where
       by false b e f = refl
   no_extensions (m ∷ d) x t h = refl
 
-  among_here : (d : Place) (x : Text) (n : ℕ) → length d ≡ n → is_dir root (d ++ x ∷ []) ≡ true → is_extensions root d x ≡ false → zone root d ≡ hierarchy → IsAmong (directories_below root d) (d ++ x ∷ [])
+  among_here : (d : Place) (x : Text) (n : ℕ) → length d ≡ n → is_dir root (d ++ x ∷ []) ≡ true → is_extensions root d x ≡ false → zone root d ≡ hierarchy
+      → IsAmong (directories_below root d) (d ++ x ∷ [])
   among_here d x n l t e z =
       let test = λ (m : Text). is_dir root (d ++ m ∷ []) && not (is_extensions_name d m) in
       let named = entry_named root d x dir (leaf_dir (at root (d ++ x ∷ [])) t) in
       let kept = among_filter test (names_in root d) x named (and_both (is_dir root (d ++ x ∷ [])) (not (is_extensions_name d x)) t (ap not (no_extensions d x t e))) in
       subst (λ b. IsAmong (cond b (directories_in root d) []) (d ++ x ∷ [])) (sym (leads d n l z)) (among_map (λ m. d ++ m ∷ []) (filter test (names_in root d)) x kept)
 
-  lift : (n : ℕ) (p : Place) → length p ≡ suc n → is_dir root p ≡ true → IsPart p → ((d : Place) (x : Text) → length d ≡ n → is_dir root (d ++ x ∷ []) ≡ true → zone root d ≡ hierarchy → IsAmong (level root n) d) → IsAmong (level root (suc n)) p
+  lift : (n : ℕ) (p : Place) → length p ≡ suc n → is_dir root p ≡ true → IsPart p
+      → ((d : Place) (x : Text) → length d ≡ n → is_dir root (d ++ x ∷ []) ≡ true → zone root d ≡ hierarchy → IsAmong (level root n) d) → IsAmong (level root (suc n)) p
   lift n p l t k above =
       let s = last_name p n l in
       let there = ap (is_dir root) (sym s.2) ∙ t in
       let z = step_up s.0 s.1 (as_inside (s.0 ++ s.1 ∷ []) (subst IsPart s.2 k)) in
-      subst (IsAmong (level root (suc n))) (sym s.2) (among_flat_map (directories_below root) (level root n) s.0 (s.0 ++ s.1 ∷ []) (above s.0 s.1 s.3 there z.1) (among_here s.0 s.1 n s.3 there z.0 z.1))
+      subst (IsAmong (level root (suc n))) (sym s.2)
+          (among_flat_map (directories_below root) (level root n) s.0 (s.0 ++ s.1 ∷ []) (above s.0 s.1 s.3 there z.1) (among_here s.0 s.1 n s.3 there z.0 z.1))
 
   up : (n : ℕ) (p : Place) → length p ≡ suc n → is_dir root p ≡ true → IsPart p → IsAmong (level root (suc n)) p
   up zero p l t k = lift zero p l t k top

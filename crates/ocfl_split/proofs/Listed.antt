@@ -89,7 +89,8 @@ module _ (root : StorageRoot) where
   front_within room [] = ([], refl)
   front_within room (d ∷ ds) = by (nat_le (length (directories_below root d)) room) (front_within (room - length (directories_below root d)) ds)
     where
-      by : (b : Bool) → ((rest : List Place) × (ds ≡ listed_within root (room - length (directories_below root d)) ds ++ rest)) → (rest : List Place) × (d ∷ ds ≡ (d ∷ cond b (listed_within root (room - length (directories_below root d)) ds) []) ++ rest)
+      by : (b : Bool) → ((rest : List Place) × (ds ≡ listed_within root (room - length (directories_below root d)) ds ++ rest)) → (rest : List Place)
+          × (d ∷ ds ≡ (d ∷ cond b (listed_within root (room - length (directories_below root d)) ds) []) ++ rest)
       by true k = (k.0, ap (λ xs. d ∷ xs) k.1)
       by false k = (ds, refl)
 
@@ -130,14 +131,17 @@ module _ (root : StorageRoot) where
   listed_once zero count n above = none_listed n
   listed_once (suc k) count n above = by (nat_le count (length (level root n))) (listed_once k count (suc n) (kept (wider above (level root n)) (level root (suc n))))
     where
-      lower : (b : Bool) → IsListedFrom (suc n) (listed_from k root count (kept (wider above (level root n)) (level root (suc n))) (level root (suc n))) → IsListedFrom (suc n) (option_map_or (λ next. listed_from k root count (kept (wider above (level root n)) next) next) (cond b None (Some (level_below root (level root n)))) [])
+      lower : (b : Bool) → IsListedFrom (suc n) (listed_from k root count (kept (wider above (level root n)) (level root (suc n))) (level root (suc n)))
+          → IsListedFrom (suc n) (option_map_or (λ next. listed_from k root count (kept (wider above (level root n)) next) next) (cond b None (Some (level_below root (level root n)))) [])
       lower true h = none_listed (suc n)
       lower false h = h
 
       by : (b : Bool) → IsListedFrom (suc n) (listed_from k root count (kept (wider above (level root n)) (level root (suc n))) (level root (suc n)))
-          → IsListedFrom n (cond b [] (listed_within root (room_below above (level root n)) (level root n) ++ option_map_or (λ next. listed_from k root count (kept (wider above (level root n)) next) next) (next_level root (room_below above (level root n)) (level root n)) []))
+          → IsListedFrom n (cond b [] (listed_within root (room_below above (level root n)) (level root n) ++ option_map_or
+              (λ next. listed_from k root count (kept (wider above (level root n)) next) next) (next_level root (room_below above (level root n)) (level root n)) []))
       by true h = none_listed n
-      by false h = listed_level n (room_below above (level root n)) _ (lower (length (level_below root (level root n)) == 0 || nat_lt (room_below above (level root n)) (length (level_below root (level root n)))) h)
+      by false h = listed_level n (room_below above (level root n)) _
+          (lower (length (level_below root (level root n)) == 0 || nat_lt (room_below above (level root n)) (length (level_below root (level root n)))) h)
 
   pub listed_apart : (count : ℕ) → AllPairs (λ a b. a ≢ b) (listed_for root count)
   unfolding listed_for

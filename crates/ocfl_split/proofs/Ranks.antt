@@ -50,7 +50,8 @@ earlier_below (y ∷ xs) (suc i) x z h l (inr j) = earlier_below xs i x z h.1 (o
 pub none_below : IsBelow [] []
 none_below = record { ascend = tt; under = λ z i. absurd i }
 
-pub below_more : (depth : ℕ) (ds : List Place) (i : ℕ) (d : Place) (room : ℕ) (old new : List Place) → IsLevel depth ds → i < length ds → d ≡ get_or ds i d → IsBelow (take i ds) old → AddsBelow d room old new → IsBelow (take (i + 1) ds) new
+pub below_more : (depth : ℕ) (ds : List Place) (i : ℕ) (d : Place) (room : ℕ) (old new : List Place) → IsLevel depth ds → i < length ds → d ≡ get_or ds i d
+    → IsBelow (take i ds) old → AddsBelow d room old new → IsBelow (take (i + 1) ds) new
 below_more depth ds i d room old new h l is k adds =
     let more : take (i + 1) ds ≡ take i ds ++ d ∷ [] = take_more ds i d l ∙ ap (λ x. take i ds ++ x ∷ []) (sym is) in
     subst (λ xs. IsBelow xs new) (sym more) (subst (IsBelow (take i ds ++ d ∷ [])) (sym adds.added) (record {

@@ -6,12 +6,15 @@ use Rattle.ocfl_audit.specs.Zone.{hierarchy, zone, root_declared, object_declare
 use Rattle.ocfl_audit.specs.Objects.{IsObjectRoot}
 use Rattle.ocfl_item.specs.Ways.{is_extensions_name}
 
--- whether what lies in a directory of the hierarchy belongs to the hierarchy too: in the storage root where its version is known, elsewhere where no object is declared (OCFL 1.1, 4.3 Storage Hierarchies)
+-- whether what lies in a directory of the hierarchy belongs to the hierarchy too: in the storage
+-- root where its version is known, elsewhere where no object is declared (OCFL 1.1, 4.3 Storage
+-- Hierarchies)
 abbrev pub leads_on : StorageRoot → Place → Bool
 leads_on root [] = is_known (root_declared root)
 leads_on root (n ∷ d) = not (is_declared (object_declared root (n ∷ d)))
 
--- the directories right in a directory, ascending, without the extensions of the storage root (OCFL 1.1, 4.4 Storage Root Extensions)
+-- the directories right in a directory, ascending, without the extensions of the storage root (OCFL
+-- 1.1, 4.4 Storage Root Extensions)
 abbrev pub directories_in : StorageRoot → Place → List Place
 directories_in root d = map (λ n. d ++ n ∷ []) (filter (λ n. is_dir root (d ++ n ∷ []) && not (is_extensions_name d n)) (names_in root d))
 

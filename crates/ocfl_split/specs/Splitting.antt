@@ -38,7 +38,8 @@ wider above ds = if nat_le (length above) (length ds) then ds else above
 abbrev pub kept : List Place → List Place → List Place
 kept above ds = if nat_le (length above) (length ds) then [] else above
 
--- from a level on, at most k levels further down: the first that has at least so many directories, or else the widest that is reached, or that is above
+-- from a level on, at most k levels further down: the first that has at least so many directories,
+-- or else the widest that is reached, or that is above
 unfoldable pub level_from : ℕ → StorageRoot → ℕ → List Place → List Place → List Place
 level_from zero root count above ds = wider above ds
 level_from (suc k) root count above ds =
@@ -53,7 +54,9 @@ split_level root count = level_from deepest_level root count [] ([] ∷ [])
 abbrev pub held : StorageRoot → ℕ → ℕ → ℕ
 held root n last = if n == last then length (level root n) else length (level root n) + length (level root last)
 
--- level n is the one that is split: no level is wider down to the last one that is reached, and none below it equally wide. Each above the last has fewer directories than asked for, and level n has enough, or there is none deeper than the last, or no room for the next
+-- level n is the one that is split: no level is wider down to the last one that is reached, and
+-- none below it equally wide. Each above the last has fewer directories than asked for, and level n
+-- has enough, or there is none deeper than the last, or no room for the next
 pub record IsSplitLevel (root : StorageRoot) (count n : ℕ) : Type 0 where
   pub last : ℕ
   pub reached : n ≤ last
@@ -65,7 +68,8 @@ pub record IsSplitLevel (root : StorageRoot) (count n : ℕ) : Type 0 where
 
 -- ---- at equal distances
 
--- of m parts of about equally many directories, the first directory of the parts from 1 to k, where the very first part is 0
+-- of m parts of about equally many directories, the first directory of the parts from 1 to k, where
+-- the very first part is 0
 abbrev pub firsts : List Place → ℕ → ℕ → List Place
 firsts ds m zero = []
 firsts ds m (suc k) = firsts ds m k ++ option_to_list (slice_get ds ((k + 1) * length ds / m))
@@ -103,7 +107,8 @@ pub record ListsAll (root : StorageRoot) (s t : Store) (listed : List Place) : T
   pub over : s.tree ≡ root
   pub did : Did s t [] listed 0
 
--- the first of them were listed, in order, and then there was a fault; one of the store names the last of these
+-- the first of them were listed, in order, and then there was a fault; one of the store names the
+-- last of these
 pub record ListsStop (root : StorageRoot) (s t : Store) (listed : List Place) (why : Fault) : Type 0 where
   pub over : s.tree ≡ root
   pub listings : List Place

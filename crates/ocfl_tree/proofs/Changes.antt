@@ -45,7 +45,8 @@ no_refusal nodes (k ∷ p) h =
     let e = front_last k p in
     by e.0 e.1 e.2 (at nodes (k ∷ p)) refl (is_dir nodes (parent (k ∷ p))) refl (leb 1000000 (length (names_in nodes (parent (k ∷ p))))) refl h
   where
-    by : (d : Place) (n : Text) → k ∷ p ≡ d ++ n ∷ [] → (o : Option Leaf) → at nodes (k ∷ p) ≡ o → (b : Bool) → is_dir nodes (parent (k ∷ p)) ≡ b → (c : Bool) → leb 1000000 (length (names_in nodes (parent (k ∷ p)))) ≡ c
+    by : (d : Place) (n : Text) → k ∷ p ≡ d ++ n ∷ [] → (o : Option Leaf) → at nodes (k ∷ p) ≡ o → (b : Bool) → is_dir nodes (parent (k ∷ p)) ≡ b → (c : Bool)
+        → leb 1000000 (length (names_in nodes (parent (k ∷ p)))) ≡ c
         → cond (is_some o) (Some Exists) (cond (not b) (Some NoParent) (cond c (Some Full) None)) ≡ None → IsFree nodes (k ∷ p)
     by d n e (Some x) h b i c j none = absurd (some_not_none Exists none)
     by d n e None h false i c j none = absurd (some_not_none NoParent none)
@@ -69,7 +70,8 @@ kept_in-push : (nodes : StorageRoot) (p : Place) (x : Leaf) (d : Place) → kept
 kept_in-push [] p x d = refl
 kept_in-push (e ∷ nodes) p x d = ap (with_entry (child_name d e.0) e.1) (kept_in-push nodes p x d) ∙ with_entry-append (child_name d e.0) e.1 (kept_in nodes d) (with_entry (child_name d p) x [])
 
-few_push : (nodes : StorageRoot) (p : Place) (x : Leaf) → AreOnce nodes → IsFree nodes p → ((d : Place) → length (kept_in nodes d) ≤ 1000000) → (d : Place) → length (kept_in (nodes ++ (p, x) ∷ []) d) ≤ 1000000
+few_push : (nodes : StorageRoot) (p : Place) (x : Leaf) → AreOnce nodes → IsFree nodes p → ((d : Place) → length (kept_in nodes d) ≤ 1000000) → (d : Place)
+    → length (kept_in (nodes ++ (p, x) ∷ []) d) ≤ 1000000
 few_push nodes p x once free few d = rw (kept_in-push nodes p x d) (by (child_name d p) refl)
   where
     by : (o : Option Text) → child_name d p ≡ o → length (kept_in nodes d ++ with_entry o x []) ≤ 1000000
@@ -80,7 +82,8 @@ few_push nodes p x once free few d = rw (kept_in-push nodes p x d) (by (child_na
         let many = length-names_in nodes d once in
         omega (arith, length-append (kept_in nodes d) (with_entry (Some m) x []))
 
-pub kept_push : (nodes new : StorageRoot) (p : Place) (x : Leaf) (os : List Opening) (o : Option OpenFile) → put_refusal nodes p ≡ None → new ≡ nodes ++ (p, x) ∷ [] → IsKept nodes os o → IsKept new os None
+pub kept_push : (nodes new : StorageRoot) (p : Place) (x : Leaf) (os : List Opening) (o : Option OpenFile) → put_refusal nodes p ≡ None
+    → new ≡ nodes ++ (p, x) ∷ [] → IsKept nodes os o → IsKept new os None
 kept_push nodes new p x os o none added k =
     let free = no_refusal nodes p none in
     let absent : lookup nodes p ≡ None = ap (lookup nodes) free.below ∙ sym (at_in_dir nodes free.d free.n free.directory) ∙ ap (at nodes) (sym free.below) ∙ free.free in
@@ -91,7 +94,8 @@ kept_push nodes new p x os o none added k =
       reading = tt;
     })
 
-pub puts : (nodes new : StorageRoot) (p : Place) (x : Leaf) (o : Option OpenFile) (os : List Opening) (ls : List Place) (f l : ℕ) (faults : Faults) → put_refusal nodes p ≡ None → new ≡ nodes ++ (p, x) ∷ [] → IsKept nodes os o
+pub puts : (nodes new : StorageRoot) (p : Place) (x : Leaf) (o : Option OpenFile) (os : List Opening) (ls : List Place) (f l : ℕ) (faults : Faults)
+    → put_refusal nodes p ≡ None → new ≡ nodes ++ (p, x) ∷ [] → IsKept nodes os o
     → Puts (seen nodes o os ls f l faults).store (seen new None os ls f l faults).store p x
 puts nodes new p x o os ls f l faults none added k =
     let free = no_refusal nodes p none in
@@ -115,7 +119,8 @@ few_left (e ∷ nodes) p d = by (not (begins p e.0)) (few_left nodes p d)
     more None xs ys h = h
     more (Some n) xs ys h = omega (arith, h)
 
-    by : (b : Bool) → length (kept_in (filter (is_left p) nodes) d) ≤ length (kept_in nodes d) → length (kept_in (cond b (e ∷ filter (is_left p) nodes) (filter (is_left p) nodes)) d) ≤ length (with_entry (child_name d e.0) e.1 (kept_in nodes d))
+    by : (b : Bool) → length (kept_in (filter (is_left p) nodes) d) ≤ length (kept_in nodes d)
+        → length (kept_in (cond b (e ∷ filter (is_left p) nodes) (filter (is_left p) nodes)) d) ≤ length (with_entry (child_name d e.0) e.1 (kept_in nodes d))
     by true h = both (child_name d e.0) _ _ h
     by false h = more (child_name d e.0) _ _ h
 
@@ -127,7 +132,8 @@ kept_left nodes new p os o h is k = rw is (record {
   reading = tt;
 })
 
-pub removes : (nodes new : StorageRoot) (p : Place) (o : Option OpenFile) (os : List Opening) (ls : List Place) (f l : ℕ) (faults : Faults) → p ≢ [] → new ≡ filter (is_left p) nodes → Removes (seen nodes o os ls f l faults).store (seen new None os ls f l faults).store p
+pub removes : (nodes new : StorageRoot) (p : Place) (o : Option OpenFile) (os : List Opening) (ls : List Place) (f l : ℕ) (faults : Faults) → p ≢ []
+    → new ≡ filter (is_left p) nodes → Removes (seen nodes o os ls f l faults).store (seen new None os ls f l faults).store p
 removes nodes new p o os ls f l faults h is = rw is (record {
   tree = removal_leaves nodes p h;
   changes = record { closed = refl; openings_are = refl; listings_are = refl; failures_are = refl; largest = refl };

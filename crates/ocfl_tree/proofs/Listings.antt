@@ -28,11 +28,13 @@ pub kind_in-kept_in : (root : StorageRoot) (d : Place) (n : Text) → kind_in (k
 kind_in-kept_in [] d n = refl
 kind_in-kept_in (e ∷ root) d n = by (child_name d e.0) refl (kind_in-kept_in root d n)
   where
-    here : (m : Text) (b : Bool) → text_eq m n ≡ b → e.0 ≡ d ++ m ∷ [] → kind_in (kept_in root d) n ≡ option_map kind_of (lookup root (d ++ n ∷ [])) → cond b (Some (kind_of e.1)) (kind_in (kept_in root d) n) ≡ option_map kind_of (lookup (e ∷ root) (d ++ n ∷ []))
+    here : (m : Text) (b : Bool) → text_eq m n ≡ b → e.0 ≡ d ++ m ∷ [] → kind_in (kept_in root d) n ≡ option_map kind_of (lookup root (d ++ n ∷ []))
+        → cond b (Some (kind_of e.1)) (kind_in (kept_in root d) n) ≡ option_map kind_of (lookup (e ∷ root) (d ++ n ∷ []))
     here m true t there more = ap (option_map kind_of) (sym (lookup_here root e (d ++ n ∷ []) (there ∙ ap (λ x. d ++ x ∷ []) ((text_eq-Decides m n).0 t))))
     here m false t there more = more ∙ ap (option_map kind_of) (sym (lookup_other root e (d ++ n ∷ []) (λ same. differ _ _ (text_eq-Decides m n) t (same_from_push d d m n (sym there ∙ same)).1)))
 
-    by : (o : Option Text) → child_name d e.0 ≡ o → kind_in (kept_in root d) n ≡ option_map kind_of (lookup root (d ++ n ∷ [])) → kind_in (with_entry o e.1 (kept_in root d)) n ≡ option_map kind_of (lookup (e ∷ root) (d ++ n ∷ []))
+    by : (o : Option Text) → child_name d e.0 ≡ o → kind_in (kept_in root d) n ≡ option_map kind_of (lookup root (d ++ n ∷ []))
+        → kind_in (with_entry o e.1 (kept_in root d)) n ≡ option_map kind_of (lookup (e ∷ root) (d ++ n ∷ []))
     by None is more = more ∙ ap (option_map kind_of) (sym (lookup_other root e (d ++ n ∷ []) (λ same. some_not_none n (sym (sym is ∙ ap (child_name d) same ∙ child_name-append d n)))))
     by (Some m) is more = here m (text_eq m n) refl (append-child_name d e.0 m is) more
 
@@ -62,7 +64,8 @@ names_of-kept_in : (root : StorageRoot) (d : Place) → names_of (kept_in root d
 names_of-kept_in [] d = refl
 names_of-kept_in (e ∷ root) d = by (child_name d e.0) (names_of-kept_in root d)
   where
-    by : (o : Option Text) → names_of (kept_in root d) ≡ filter_map (λ e. child_name d e.0) root → names_of (with_entry o e.1 (kept_in root d)) ≡ cons_option o (filter_map (λ e. child_name d e.0) root)
+    by : (o : Option Text) → names_of (kept_in root d) ≡ filter_map (λ e. child_name d e.0) root
+        → names_of (with_entry o e.1 (kept_in root d)) ≡ cons_option o (filter_map (λ e. child_name d e.0) root)
     by None more = more
     by (Some m) more = ap (λ ns. m ∷ ns) more
 
@@ -70,7 +73,8 @@ length-insert_once : (x : Text) (ys : List Text) → (IsAmong ys x → ⊥) → 
 length-insert_once x [] h = refl
 length-insert_once x (y ∷ ys) h = by (text_cmp x y) refl (length-insert_once x ys (λ i. h (inr i)))
   where
-    by : (r : Ordering) → text_cmp x y ≡ r → length (insert_once text_cmp x ys) ≡ suc (length ys) → length (match_ordering r (x ∷ y ∷ ys) (y ∷ ys) (y ∷ insert_once text_cmp x ys)) ≡ suc (suc (length ys))
+    by : (r : Ordering) → text_cmp x y ≡ r → length (insert_once text_cmp x ys) ≡ suc (length ys)
+        → length (match_ordering r (x ∷ y ∷ ys) (y ∷ ys) (y ∷ insert_once text_cmp x ys)) ≡ suc (suc (length ys))
     by Less e more = refl
     by Equal e more = absurd (h (inl (text_cmp_exact x y e)))
     by Greater e more = ap suc more
@@ -204,7 +208,8 @@ among_names (e ∷ root) d n x h = by (place_eq e.0 (d ++ n ∷ [])) refl h (amo
     further None i = i
     further (Some m) i = inr i
 
-    by : (b : Bool) → place_eq e.0 (d ++ n ∷ []) ≡ b → cond b (Some e.1) (lookup root (d ++ n ∷ [])) ≡ Some x → (lookup root (d ++ n ∷ []) ≡ Some x → IsAmong (filter_map (λ e. child_name d e.0) root) n)
+    by : (b : Bool) → place_eq e.0 (d ++ n ∷ []) ≡ b → cond b (Some e.1) (lookup root (d ++ n ∷ [])) ≡ Some x
+        → (lookup root (d ++ n ∷ []) ≡ Some x → IsAmong (filter_map (λ e. child_name d e.0) root) n)
         → IsAmong (cons_option (child_name d e.0) (filter_map (λ e. child_name d e.0) root)) n
     by true t k more =
         let name : child_name d e.0 ≡ Some n = ap (child_name d) ((place_eq-Decides e.0 (d ++ n ∷ [])).0 t) ∙ child_name-append d n in

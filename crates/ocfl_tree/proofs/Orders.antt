@@ -118,7 +118,8 @@ module _ {A : Type 0} {cmp : A → A → Ordering} (exact : IsAntisymmetric cmp)
       join e (inl f) = inl (f ∙ e)
       join e (inr i) = i
 
-      by : (r : Ordering) → cmp x y ≡ r → (IsAmong (x ∷ ys) z ↔ IsAmong (insert_once cmp x ys) z) → IsAmong (x ∷ y ∷ ys) z ↔ IsAmong (match_ordering r (x ∷ y ∷ ys) (y ∷ ys) (y ∷ insert_once cmp x ys)) z
+      by : (r : Ordering) → cmp x y ≡ r → (IsAmong (x ∷ ys) z ↔ IsAmong (insert_once cmp x ys) z)
+          → IsAmong (x ∷ y ∷ ys) z ↔ IsAmong (match_ordering r (x ∷ y ∷ ys) (y ∷ ys) (y ∷ insert_once cmp x ys)) z
       by Less e k = (λ i. i, λ i. i)
       by Equal e k = (join (exact x y e), λ i. inr i)
       by Greater e k = (λ i. into i k.0, λ i. out i k.1)
@@ -135,7 +136,8 @@ module _ {A : Type 0} {cmp : A → A → Ordering} (exact : IsAntisymmetric cmp)
       off k (inl e) = inl e
       off k (inr i) = inr (k i)
 
-      by : (IsAmong xs z ↔ IsAmong (ascending cmp xs) z) → (IsAmong (x ∷ ascending cmp xs) z ↔ IsAmong (insert_once cmp x (ascending cmp xs)) z) → IsAmong (x ∷ xs) z ↔ IsAmong (insert_once cmp x (ascending cmp xs)) z
+      by : (IsAmong xs z ↔ IsAmong (ascending cmp xs) z) → (IsAmong (x ∷ ascending cmp xs) z ↔ IsAmong (insert_once cmp x (ascending cmp xs)) z)
+          → IsAmong (x ∷ xs) z ↔ IsAmong (insert_once cmp x (ascending cmp xs)) z
       by k l = (λ i. l.0 (front k.0 i), λ i. off k.1 (l.1 i))
 
 -- ---- filters, maps and joined lists

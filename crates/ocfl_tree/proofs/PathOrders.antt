@@ -43,8 +43,10 @@ slash_is c h = find (eqb_tells c 47)
 
 -- ---- two paths by their first bytes
 
--- `of` compares two places name by name: it goes on where the names are equal, and answers `less` or `greater` where they
--- are not, so `differ` for two bytes that are not the same; where one place ends first it answers `short` or `long`
+-- `of` compares two places name by name: it goes on where the names are equal, and answers `less`
+-- or `greater` where they
+-- are not, so `differ` for two bytes that are not the same; where one place ends first it answers
+-- `short` or `long`
 record ByNames {R : Type 0} (of : Place → Place → R) (less greater short long : R) (differ : ℕ → ℕ → R) : Type 0 where
   step : Ordering → R → R
   goes : (x y : Text) (xs ys : Place) → of (x ∷ xs) (y ∷ ys) ≡ step (text_cmp x y) (of xs ys)
@@ -120,7 +122,8 @@ whatever false r = refl
 -- ---- the order
 
 by_order : ByNames place_cmp Less Greater Less Greater nat_cmp
-by_order = record { step = ordering_then; goes = λ x y xs ys. refl; equal = λ r. refl; below = λ r. refl; above = λ r. refl; ends = λ y ys. refl; outlasts = λ x xs. refl; differs = λ a b o r e. by a b o r e (nat_cmp a b) refl }
+by_order = record { step = ordering_then; goes = λ x y xs ys. refl; equal = λ r. refl; below = λ r. refl; above = λ r. refl; ends = λ y ys. refl; outlasts =
+    λ x xs. refl; differs = λ a b o r e. by a b o r e (nat_cmp a b) refl }
   where
     by : (a b : ℕ) (o r : Ordering) → a ≢ b → (c : Ordering) → nat_cmp a b ≡ c → c ≡ ordering_then (ordering_then c o) r
     by a b o r e Less f = refl
@@ -154,7 +157,8 @@ less_by i m n h k = grind (arith, nat_tests)
 -- a comparison that goes on until the end of one text answers by the lengths
 module _ (cmp : Text → Text → Ordering) (ends : (x y : Text) → (length x ≡ 0) ⊎ (length y ≡ 0) → cmp x y ≡ nat_cmp (length x) (length y)) where
   pub compared_all : (t u : Text) (i s : ℕ) → s ≡ min (length t) (length u) → i ≤ s → s ≤ i → cmp (drop i t) (drop i u) ≡ nat_cmp (length t) (length u)
-  compared_all t u i s e h k = ends (drop i t) (drop i u) (by (nat_le (length t) (length u)) refl) ∙ (λ j. nat_cmp (length-drop i t j) (length-drop i u j)) ∙ less_by i (length t) (length u) (omega arith) (omega arith)
+  compared_all t u i s e h k = ends (drop i t) (drop i u) (by (nat_le (length t) (length u)) refl) ∙ (λ j. nat_cmp (length-drop i t j) (length-drop i u j))
+      ∙ less_by i (length t) (length u) (omega arith) (omega arith)
     where
       by : (b : Bool) → nat_le (length t) (length u) ≡ b → (length (drop i t) ≡ 0) ⊎ (length (drop i u) ≡ 0)
       by true f = let g : length t ≤ length u = leb-true _ _ f in inl (ap length (drop_all i t (omega arith)))
@@ -182,7 +186,8 @@ same_front n m x y b h k e is f = front_alike n x y h k (ap (λ l. pointwise nat
 -- ---- beginnings
 
 by_beginning : ByNames begins false false true false (λ a b. false)
-by_beginning = record { step = λ o r. is_eq o && r; goes = λ x y xs ys. refl; equal = λ r. refl; below = λ r. refl; above = λ r. refl; ends = λ y ys. refl; outlasts = λ x xs. refl; differs = λ a b o r e. by a b o r e (nat_cmp a b) refl }
+by_beginning = record { step = λ o r. is_eq o && r; goes = λ x y xs ys. refl; equal = λ r. refl; below = λ r. refl; above = λ r. refl; ends =
+    λ y ys. refl; outlasts = λ x xs. refl; differs = λ a b o r e. by a b o r e (nat_cmp a b) refl }
   where
     by : (a b : ℕ) (o : Ordering) (r : Bool) → a ≢ b → (c : Ordering) → nat_cmp a b ≡ c → false ≡ is_eq (ordering_then c o) && r
     by a b o r e Less f = refl

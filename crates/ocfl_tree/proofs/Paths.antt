@@ -65,7 +65,8 @@ pub elements-append : (t u : Text) → elements (t ++ 47 ∷ u) ≡ elements t +
 elements-append [] u = refl
 elements-append (c ∷ t) u = by (c == 47) (elements t) (some_element t) (elements-append t u)
   where
-    by : (b : Bool) (xs : Place) → (xs ≡ [] → ⊥) → elements (t ++ 47 ∷ u) ≡ xs ++ elements u → cond b ([] ∷ elements (t ++ 47 ∷ u)) (onto_first c (elements (t ++ 47 ∷ u))) ≡ cond b ([] ∷ xs) (onto_first c xs) ++ elements u
+    by : (b : Bool) (xs : Place) → (xs ≡ [] → ⊥) → elements (t ++ 47 ∷ u) ≡ xs ++ elements u
+        → cond b ([] ∷ elements (t ++ 47 ∷ u)) (onto_first c (elements (t ++ 47 ∷ u))) ≡ cond b ([] ∷ xs) (onto_first c xs) ++ elements u
     by true xs h e = ap (λ ys. [] ∷ ys) e
     by false [] h e = absurd (h refl)
     by false (x ∷ xs) h e = ap (onto_first c) e
@@ -120,7 +121,8 @@ Parts = Option (Bor Text × Bor Text)
 
 -- the clause of `rsplit_once` at a slash
 abbrev IsSplit : Text → Parts → Type 0
-IsSplit t r = MatchOption r (RFindsChar 47 t None) (λ x. (i : ℕ) × (j : ℕ) × RFindsChar 47 t (Some (i, j)) × (x.0.now ≡ take i t) × (x.1.now ≡ drop j t) × (i ≤ j) × (length x.0.now ≡ i) × (length x.1.now + j ≡ length t))
+IsSplit t r = MatchOption r (RFindsChar 47 t None)
+    (λ x. (i : ℕ) × (j : ℕ) × RFindsChar 47 t (Some (i, j)) × (x.0.now ≡ take i t) × (x.1.now ≡ drop j t) × (i ≤ j) × (length x.0.now ≡ i) × (length x.1.now + j ≡ length t))
 
 parts_of : (t : Text) (r : Parts) → IsSplit t r → MatchOption r (Lacks t) (λ x. (t ≡ x.0.now ++ 47 ∷ x.1.now) × Lacks x.1.now)
 parts_of t None h = λ i l. NoCharPasses-char 47 t i h (omega arith) l

@@ -19,7 +19,8 @@ pub same_some : {A : Type 0} (x y : A) → Some x ≡ Some y → x ≡ y
 same_some x y e = cc
 
 -- what a change of the last opening leaves of a reading
-changed : (s t u : Store) (p : Place) (given n : ℕ) (f : Opening → Opening) → Did s t (opening p given false ∷ []) [] 0 → u.tree ≡ t.tree → u.openings ≡ change_last f t.openings → u.listings ≡ t.listings → u.failures ≡ t.failures + n
+changed : (s t u : Store) (p : Place) (given n : ℕ) (f : Opening → Opening) → Did s t (opening p given false ∷ []) [] 0 → u.tree ≡ t.tree
+    → u.openings ≡ change_last f t.openings → u.listings ≡ t.listings → u.failures ≡ t.failures + n
     → Did s u (f (opening p given false) ∷ []) [] n
 changed s t u p given n f did tree openings listings failures = record {
   tree = tree ∙ did.tree;

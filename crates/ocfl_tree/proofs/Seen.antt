@@ -93,7 +93,8 @@ module _ (nodes : StorageRoot) (o : Option OpenFile) (os : List Opening) (ls : L
   }
 
 -- the open file's index is one of a file that is open
-pub kept_open : (nodes : StorageRoot) (os : List Opening) (i : ℕ) (o : Option OpenFile) (os' : List Opening) (p : Place) → IsKept nodes os o → i < length nodes → os' ≡ os ++ opening p 0 false ∷ [] → IsKept nodes os' (Some (record { index = i; offset = 0 }))
+pub kept_open : (nodes : StorageRoot) (os : List Opening) (i : ℕ) (o : Option OpenFile) (os' : List Opening) (p : Place) → IsKept nodes os o → i < length nodes
+    → os' ≡ os ++ opening p 0 false ∷ [] → IsKept nodes os' (Some (record { index = i; offset = 0 }))
 kept_open nodes os i o os' p k h added = record {
   once = k.once;
   rooted = k.rooted;
@@ -150,7 +151,8 @@ by_length zero n room x y e filled some whole = omega arith
 by_length (suc m) n room x y e filled some whole = absurd (omega (arith, some (omega arith) filled))
 
 -- a read of n bytes
-pub reads_seen : (nodes : StorageRoot) (o : Option OpenFile) (r : OpenFile) (os os' : List Opening) (ls : List Place) (f l l' n room : ℕ) (g h : Faults) (given all : Text) → o ≡ Some r → IfOpen nodes os o
+pub reads_seen : (nodes : StorageRoot) (o : Option OpenFile) (r : OpenFile) (os os' : List Opening) (ls : List Place) (f l l' n room : ℕ) (g h : Faults)
+    (given all : Text) → o ≡ Some r → IfOpen nodes os o
     → all ≡ drop r.offset (bytes_in (leaf_at nodes r.index))
     → n ≤ length all
     → (0 < length all → 0 < room → 0 < n)

@@ -28,7 +28,8 @@ parent-append (m ∷ []) n = refl
 parent-append (m ∷ k ∷ d) n = ap (λ q. m ∷ q) (parent-append (k ∷ d) n)
 
 -- what is right below a directory is what is looked up there
-at_below-append : (root : StorageRoot) (front : Place) (n : Text) (p : Place) (m : Text) → at_below root front n (p ++ m ∷ []) ≡ cond (is_dir_leaf (at_below root front n p)) (lookup root (front ++ n ∷ (p ++ m ∷ []))) None
+at_below-append : (root : StorageRoot) (front : Place) (n : Text) (p : Place) (m : Text)
+    → at_below root front n (p ++ m ∷ []) ≡ cond (is_dir_leaf (at_below root front n p)) (lookup root (front ++ n ∷ (p ++ m ∷ []))) None
 at_below-append root front n [] m = ap (λ q. cond (is_dir_leaf (lookup root (front ++ n ∷ []))) (lookup root q) None) (append_assoc front (n ∷ []) (m ∷ []))
 at_below-append root front n (k ∷ p) m = by (is_dir_leaf (lookup root (front ++ n ∷ []))) (at_below-append root (front ++ n ∷ []) k p m)
   where
@@ -102,7 +103,8 @@ at_below_push root p x y front n (m ∷ q) h = by (is_dir_leaf (lookup root (fro
     new : StorageRoot
     new = root ++ (p, x) ∷ []
 
-    by : (b : Bool) → is_dir_leaf (lookup root (front ++ n ∷ [])) ≡ b → cond b (at_below root (front ++ n ∷ []) m q) None ≡ Some y → (at_below root (front ++ n ∷ []) m q ≡ Some y → at_below (root ++ (p, x) ∷ []) (front ++ n ∷ []) m q ≡ Some y)
+    by : (b : Bool) → is_dir_leaf (lookup root (front ++ n ∷ [])) ≡ b → cond b (at_below root (front ++ n ∷ []) m q) None ≡ Some y
+        → (at_below root (front ++ n ∷ []) m q ≡ Some y → at_below (root ++ (p, x) ∷ []) (front ++ n ∷ []) m q ≡ Some y)
         → cond (is_dir_leaf (lookup (root ++ (p, x) ∷ []) (front ++ n ∷ []))) (at_below (root ++ (p, x) ∷ []) (front ++ n ∷ []) m q) None ≡ Some y
     by true e k more =
         ap (λ o. cond (is_dir_leaf o) (at_below (root ++ (p, x) ∷ []) (front ++ n ∷ []) m q) None)
@@ -116,7 +118,8 @@ at_push root p (n ∷ q) x y h = at_below_push root p x y [] n q h
 pub rooted_push : (root : StorageRoot) (d : Place) (n : Text) (x : Leaf) → IsRooted root → at root d ≡ Some dir → IsRooted (root ++ (d ++ n ∷ [], x) ∷ [])
 rooted_push root d n x rooted is = rooted_from_above (root ++ (d ++ n ∷ [], x) ∷ []) (λ e m y there. above e m y there (place_eq (d ++ n ∷ []) (e ++ m ∷ [])) refl)
   where
-    above : (e : Place) (m : Text) (y : Leaf) → lookup (root ++ (d ++ n ∷ [], x) ∷ []) (e ++ m ∷ []) ≡ Some y → (b : Bool) → place_eq (d ++ n ∷ []) (e ++ m ∷ []) ≡ b → at (root ++ (d ++ n ∷ [], x) ∷ []) e ≡ Some dir
+    above : (e : Place) (m : Text) (y : Leaf) → lookup (root ++ (d ++ n ∷ [], x) ∷ []) (e ++ m ∷ []) ≡ Some y → (b : Bool)
+        → place_eq (d ++ n ∷ []) (e ++ m ∷ []) ≡ b → at (root ++ (d ++ n ∷ [], x) ∷ []) e ≡ Some dir
     above e m y there true t =
         let same = same_from_push d e n m ((place_eq-Decides (d ++ n ∷ []) (e ++ m ∷ [])).0 t) in
         at_push root (d ++ n ∷ []) e x dir (ap (at root) (sym same.0) ∙ is)
@@ -124,7 +127,8 @@ rooted_push root d n x rooted is = rooted_from_above (root ++ (d ++ n ∷ [], x)
         let old = sym (lookup_push_other root (d ++ n ∷ []) (e ++ m ∷ []) x (differ _ _ (place_eq-Decides (d ++ n ∷ []) (e ++ m ∷ [])) t)) ∙ there in
         at_push root (d ++ n ∷ []) e x dir (dir_above root e m y rooted old)
 
-pub put_leaves : (root : StorageRoot) (d : Place) (n : Text) (x : Leaf) → IsRooted root → at root d ≡ Some dir → at root (d ++ n ∷ []) ≡ None → (q : Place) → at (root ++ (d ++ n ∷ [], x) ∷ []) q ≡ after_put root (d ++ n ∷ []) x q
+pub put_leaves : (root : StorageRoot) (d : Place) (n : Text) (x : Leaf) → IsRooted root → at root d ≡ Some dir → at root (d ++ n ∷ []) ≡ None → (q : Place)
+    → at (root ++ (d ++ n ∷ [], x) ∷ []) q ≡ after_put root (d ++ n ∷ []) x q
 put_leaves root d n x rooted is free q = by (place_eq q (d ++ n ∷ [])) refl
   where
     new : StorageRoot
@@ -205,7 +209,8 @@ removal_leaves root (k ∷ p) h (n ∷ q) = at_below_left root (k ∷ p) [] n q
 pub rooted_left : (root : StorageRoot) (p : Place) → p ≢ [] → IsRooted root → IsRooted (filter (is_left p) root)
 rooted_left root p h rooted = rooted_from_above (filter (is_left p) root) (λ d n x there. above d n x (begins p (d ++ n ∷ [])) (begins p d) refl refl (sym (lookup_left root p (d ++ n ∷ [])) ∙ there))
   where
-    above : (d : Place) (n : Text) (x : Leaf) (b c : Bool) → begins p (d ++ n ∷ []) ≡ b → begins p d ≡ c → cond (begins p (d ++ n ∷ [])) None (lookup root (d ++ n ∷ [])) ≡ Some x → at (filter (is_left p) root) d ≡ Some dir
+    above : (d : Place) (n : Text) (x : Leaf) (b c : Bool) → begins p (d ++ n ∷ []) ≡ b → begins p d ≡ c
+        → cond (begins p (d ++ n ∷ [])) None (lookup root (d ++ n ∷ [])) ≡ Some x → at (filter (is_left p) root) d ≡ Some dir
     above d n x true c e f there = absurd (some_not_none x (sym (sym (ap (λ b. cond b None (lookup root (d ++ n ∷ []))) e) ∙ there)))
     above d n x false true e f there = let longer = begins-longer p d (n ∷ []) f in absurd cc
     above d n x false false e f there =

@@ -24,7 +24,8 @@ module _ {A : Type 0} (test : A → Bool) where
   filter_onto [] ys = refl
   filter_onto (x ∷ xs) ys = by (test x) refl (filter_onto xs (x ∷ ys))
     where
-      by : (b : Bool) → test x ≡ b → back_onto (λ x. x) (filter test xs) (filter test (x ∷ ys)) ≡ filter test (back_onto (λ x. x) xs (x ∷ ys)) → back_onto (λ x. x) (cond b (x ∷ filter test xs) (filter test xs)) (filter test ys) ≡ filter test (back_onto (λ x. x) xs (x ∷ ys))
+      by : (b : Bool) → test x ≡ b → back_onto (λ x. x) (filter test xs) (filter test (x ∷ ys)) ≡ filter test (back_onto (λ x. x) xs (x ∷ ys))
+          → back_onto (λ x. x) (cond b (x ∷ filter test xs) (filter test xs)) (filter test ys) ≡ filter test (back_onto (λ x. x) xs (x ∷ ys))
       by true e h = ap (λ b. back_onto (λ x. x) (filter test xs) (cond b (x ∷ filter test ys) (filter test ys))) (sym e) ∙ h
       by false e h = ap (λ b. back_onto (λ x. x) (filter test xs) (cond b (x ∷ filter test ys) (filter test ys))) (sym e) ∙ h
 
@@ -59,7 +60,8 @@ pub next_of_last : (fs gs : List Folder) (f : Folder) (o : Option Entry) → gs 
     → next_of (piles_of gs) ≡ option_map (λ e. f.place ++ e.name ∷ []) o
 next_of_last fs gs f o h k = ap next_of (piles_push fs gs f h) ∙ by o (last_split f.entries.items o k)
   where
-    by : (o : Option Entry) → MatchOption o (f.entries.items ≡ []) (λ x. (ys : List Entry) × (f.entries.items ≡ ys ++ x ∷ [])) → next_in f.place (back (λ e. e) f.entries.items) ≡ option_map (λ e. f.place ++ e.name ∷ []) o
+    by : (o : Option Entry) → MatchOption o (f.entries.items ≡ []) (λ x. (ys : List Entry) × (f.entries.items ≡ ys ++ x ∷ []))
+        → next_in f.place (back (λ e. e) f.entries.items) ≡ option_map (λ e. f.place ++ e.name ∷ []) o
     by None e = ap (λ xs. next_in f.place (back (λ x. x) xs)) e
     by (Some e) w = ap (next_in f.place) (back_same (λ x. x) w.0 f.entries.items e w.1)
 
@@ -111,7 +113,8 @@ trim_keeps_by fs old new f b h k e n = ap piles_of (k ∙ sym h) ∙ sym (trim_k
 pub trim_drops_by : (fs old : List Folder) (f : Folder) (b : Bool) → old ≡ fs ++ f ∷ [] → b ≡ (vec_len f.entries == 0) → b ≡ true → trimmed (piles_of fs) ≡ trimmed (piles_of old)
 trim_drops_by fs old f b h e n = sym (trim_drops fs old f h (no_items f (sym e ∙ n)))
 
-pub taken_at : (fs old new : List Folder) (f g : Folder) (o : Option Entry) → old ≡ fs ++ f ∷ [] → new ≡ fs ++ g ∷ [] → g.place ≡ f.place → f.entries.items ≡ g.entries.items ++ option_to_list o → MatchOption o ((vec_len f.entries ≡ 0) × (vec_len g.entries ≡ 0)) (λ _. vec_len g.entries + 1 ≡ vec_len f.entries)
+pub taken_at : (fs old new : List Folder) (f g : Folder) (o : Option Entry) → old ≡ fs ++ f ∷ [] → new ≡ fs ++ g ∷ [] → g.place ≡ f.place
+    → f.entries.items ≡ g.entries.items ++ option_to_list o → MatchOption o ((vec_len f.entries ≡ 0) × (vec_len g.entries ≡ 0)) (λ _. vec_len g.entries + 1 ≡ vec_len f.entries)
     → MatchOption o (next_of (piles_of old) ≡ None) (λ entry. IsTaken (piles_of old) (piles_of new) entry)
 taken_at fs old new f g None h k p e v = none_taken fs old f h (by f.entries.items (omega (arith, v.0, f.entries.ok.0)))
   where

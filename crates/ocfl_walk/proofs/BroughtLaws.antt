@@ -82,7 +82,8 @@ module _ (d : Place) (es : List Entry) (fs gs : List Folder) (a : Option Around)
     chain_above : (r : Place) (k : ℕ) → length d < k → IsChain (d ++ n ∷ r) k ((d, names_of (left_of_folder f)) ∷ frames_of (piles_of fs))
     chain_above r k l =
         subst (λ ns. IsChain (d ++ n ∷ r) k ((d, ns) ∷ frames_of (piles_of fs))) (sym names_are)
-        (begins_front d (n ∷ r), l, before_below d r n (above_of n (names_of whole)) (before_above n (names_of whole)), ascends_filter text_cmp (λ m. is_lt (text_cmp n m)) (names_of whole) up, h.chain)
+        (begins_front d (n ∷ r), l, before_below d r n (above_of n (names_of whole)) (before_above n (names_of whole)), ascends_filter text_cmp
+            (λ m. is_lt (text_cmp n m)) (names_of whole) up, h.chain)
 
     few_left : length (left_of_folder f) ≤ 1000000
     few_left = let c = above_fewer n whole in omega (arith, few, c, ap length left)
@@ -114,7 +115,8 @@ module _ (d : Place) (es : List Entry) (fs gs : List Folder) (a : Option Around)
         } in
         subst (λ x. IsOrderly (d ++ x) (piles_of gs) a') (sym e) (subst (λ x. IsOrderly (d ++ n ∷ r) (piles_of gs) x) (sym same) (subst (λ ps. IsOrderly (d ++ n ∷ r) ps a) (sym piles_are) here))
 
-pub orderly_at : (d e r q : Place) (n : Text) (ps : List Pile) (a : Option Around) (res : Result Unit Fault) → e ≡ d ++ n ∷ [] → q ≡ n ∷ r → IfOk res (λ _. IsOrderly (e ++ r) ps a) → IfOk res (λ _. IsOrderly (d ++ q) ps a)
+pub orderly_at : (d e r q : Place) (n : Text) (ps : List Pile) (a : Option Around) (res : Result Unit Fault) → e ≡ d ++ n ∷ [] → q ≡ n ∷ r
+    → IfOk res (λ _. IsOrderly (e ++ r) ps a) → IfOk res (λ _. IsOrderly (d ++ q) ps a)
 orderly_at d e r q n ps a (Ok u) same is h = subst (λ x. IsOrderly (d ++ x) ps a) (sym is) (subst (λ x. IsOrderly x ps a) (ap (λ x. x ++ r) same ∙ append_one d r n) h)
 orderly_at d e r q n ps a (Err why) same is h = tt
 
@@ -145,7 +147,8 @@ module _ (root : StorageRoot) (d : Place) (es : List Entry) (fs gs : List Folder
       append_nothing_ [] = refl
       append_nothing_ (x ∷ xs) = ap (λ ys. x ∷ ys) (append_nothing_ xs)
 
-  pub brought_end : (q : Place) (a : Option Around) → length q ≡ 0 → left_names f ≡ names_in root d → AreEntries root d (left_of_folder f) → IsPart root d a → IsBrought root d q (piles_of fs) (piles_of gs) a
+  pub brought_end : (q : Place) (a : Option Around) → length q ≡ 0 → left_names f ≡ names_in root d → AreEntries root d (left_of_folder f) → IsPart root d a
+      → IsBrought root d q (piles_of fs) (piles_of gs) a
   brought_end q a none names are part = subst (λ x. IsBrought root d x (piles_of fs) (piles_of gs) a) (sym (no_names q none)) (brought_here a names are part)
 
   module _ (n : Text) (whole : List Entry) (left : left_of_folder f ≡ left_above n whole) (names : names_of whole ≡ names_in root d) (are : AreEntries root d whole) where
@@ -185,7 +188,8 @@ module _ (root : StorageRoot) (d : Place) (es : List Entry) (fs gs : List Folder
     module _ (s t : Store) (r q : Place) (is : q ≡ n ∷ r) (old new : Option Around) where
       -- no further
       pub came_stop : Leads root s t d n r old new (Ok None) → Descends root s t (way_below d q) [] (may_open old (zone root (d ++ q))) [] 0 × IsBrought root d q (piles_of fs) (piles_of gs) new
-      came_stop h = subst (λ x. Descends root s t (way_below d x) [] (may_open old (zone root (d ++ x))) [] 0 × IsBrought root d x (piles_of fs) (piles_of gs) new) (sym is) (h.gives.0, brought_stop r new h.gives.1)
+      came_stop h = subst (λ x. Descends root s t (way_below d x) [] (may_open old (zone root (d ++ x))) [] 0
+          × IsBrought root d x (piles_of fs) (piles_of gs) new) (sym is) (h.gives.0, brought_stop r new h.gives.1)
 
       -- and on
       module _ (u : Store) (inner : Folder) (hs : List Folder) (a : Option Around) (h : Leads root s t d n r old new (Ok (Some inner))) where
@@ -218,5 +222,6 @@ module _ (root : StorageRoot) (d : Place) (es : List Entry) (fs gs : List Folder
             (λ _. Descends root t u (way_below e r) [] (may_open new (zone root (e ++ r))) [] 0 × IsBrought root e r (piles_of gs) (piles_of hs) a)
             (λ why. DescendFails root t u (way_below e r) (may_open new (zone root (e ++ r))) why)) h.gives.1.place k))
 
-pub came_fails : (root : StorageRoot) (s t : Store) (d q r : Place) (n : Text) (old new : Option Around) (why : Fault) → q ≡ n ∷ r → Leads root s t d n r old new (Err why) → DescendFails root s t (way_below d q) (may_open old (zone root (d ++ q))) why
+pub came_fails : (root : StorageRoot) (s t : Store) (d q r : Place) (n : Text) (old new : Option Around) (why : Fault) → q ≡ n ∷ r
+    → Leads root s t d n r old new (Err why) → DescendFails root s t (way_below d q) (may_open old (zone root (d ++ q))) why
 came_fails root s t d q r n old new why is h = subst (λ x. DescendFails root s t (way_below d x) (may_open old (zone root (d ++ x))) why) (sym is) h.gives

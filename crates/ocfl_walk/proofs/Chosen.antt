@@ -105,7 +105,8 @@ module _ (ps qs : List Pile) (a : Option Around) (is : qs ≡ trimmed ps) where
   pub mid_stands : (root : StorageRoot) (p : Place) → IsStanding root p ps a → IsStanding root p qs a
   mid_stands root p h = subst (λ xs. IsStanding root p xs a) (sym is) (standing_trimmed root p ps a h)
 
-  pub chosen_turn : (root : StorageRoot) (last : Option Place) (p : Place) (t : Turn) → last ≡ Some p → IsOrderlyIf last ps a → IsStanding root p ps a → t ≡ turn_of (next_of qs) (path_from p a) → TurnIs root p qs t
+  pub chosen_turn : (root : StorageRoot) (last : Option Place) (p : Place) (t : Turn) → last ≡ Some p → IsOrderlyIf last ps a → IsStanding root p ps a
+      → t ≡ turn_of (next_of qs) (path_from p a) → TurnIs root p qs t
   chosen_turn root last p t l o h e =
       let fit = fit_of p ps a (subst (λ x. IsOrderlyIf x ps a) l o) in
       subst (λ xs. TurnIs root p xs t) (sym is)
@@ -125,7 +126,8 @@ goes_from old mid new l z (Ok s) g = by s g
     by step.End g = tt
 
 -- where the last place is there, the walk stands at it
-pub at_last : (root : StorageRoot) (old : Stand) (X : Option Place → Type 0) (last : Option Place) → StandsAt root old last → (old.last ≡ None → ⊥) → ((p : Place) → old.last ≡ Some p → IsStanding root p (piles_in old.last old.listings.items) old.around → X (Some p)) → X last
+pub at_last : (root : StorageRoot) (old : Stand) (X : Option Place → Type 0) (last : Option Place) → StandsAt root old last → (old.last ≡ None → ⊥)
+    → ((p : Place) → old.last ≡ Some p → IsStanding root p (piles_in old.last old.listings.items) old.around → X (Some p)) → X last
 at_last root old X None st n k = absurd (n st)
 at_last root old X (Some p) st n k = k p st.0 st.1
 

@@ -47,7 +47,8 @@ kept_names : (n : Text) (es : List Entry) → names_of (from_name n es) ≡ filt
 kept_names n [] = refl
 kept_names n (e ∷ es) = by (is_from_name n e.name) (kept_names n es)
   where
-    by : (b : Bool) → names_of (from_name n es) ≡ filter (is_from_name n) (names_of es) → names_of (cond b (e ∷ from_name n es) (from_name n es)) ≡ cond b (e.name ∷ filter (is_from_name n) (names_of es)) (filter (is_from_name n) (names_of es))
+    by : (b : Bool) → names_of (from_name n es) ≡ filter (is_from_name n) (names_of es)
+        → names_of (cond b (e ∷ from_name n es) (from_name n es)) ≡ cond b (e.name ∷ filter (is_from_name n) (names_of es)) (filter (is_from_name n) (names_of es))
     by true h = ap (λ xs. e.name ∷ xs) h
     by false h = h
 
@@ -63,7 +64,8 @@ kept_before : (d p : Place) (n : Text) (ns : List Text) → IsBeforeAll place_cm
 kept_before d p n [] h = tt
 kept_before d p n (m ∷ ns) h = by (is_from_name n m) (kept_before d p n ns h.1)
   where
-    by : (b : Bool) → IsBeforeAll place_cmp p (map (λ k. d ++ k ∷ []) (filter (is_from_name n) ns)) → IsBeforeAll place_cmp p (map (λ k. d ++ k ∷ []) (cond b (m ∷ filter (is_from_name n) ns) (filter (is_from_name n) ns)))
+    by : (b : Bool) → IsBeforeAll place_cmp p (map (λ k. d ++ k ∷ []) (filter (is_from_name n) ns))
+        → IsBeforeAll place_cmp p (map (λ k. d ++ k ∷ []) (cond b (m ∷ filter (is_from_name n) ns) (filter (is_from_name n) ns)))
     by true k = (h.0, k)
     by false k = k
 
@@ -141,8 +143,10 @@ module _ (xs : List Place) where
             one (k ∷ c) = ap (λ z. k ∷ z) (one c)
 
         by : (b : Bool) → is_lt (text_cmp m n) ≡ b → filter (is_from_place (d ++ n ∷ [])) ys ≡ cond b [] ys → filter (is_from_place (d ++ n ∷ [])) (y ∷ ys) ≡ cond b [] (y ∷ ys)
-        by true e k = ap (λ c. cond (not c) (y ∷ filter (is_from_place (d ++ n ∷ [])) ys) (filter (is_from_place (d ++ n ∷ [])) ys)) (ap (λ z. is_lt (place_cmp z (d ++ n ∷ []))) whole ∙ side m true e w.0) ∙ k
-        by false e k = ap (λ c. cond (not c) (y ∷ filter (is_from_place (d ++ n ∷ [])) ys) (filter (is_from_place (d ++ n ∷ [])) ys)) (ap (λ z. is_lt (place_cmp z (d ++ n ∷ []))) whole ∙ side m false e w.0) ∙ ap (λ zs. y ∷ zs) k
+        by true e k = ap (λ c. cond (not c) (y ∷ filter (is_from_place (d ++ n ∷ [])) ys) (filter (is_from_place (d ++ n ∷ [])) ys))
+            (ap (λ z. is_lt (place_cmp z (d ++ n ∷ []))) whole ∙ side m true e w.0) ∙ k
+        by false e k = ap (λ c. cond (not c) (y ∷ filter (is_from_place (d ++ n ∷ [])) ys) (filter (is_from_place (d ++ n ∷ [])) ys))
+            (ap (λ z. is_lt (place_cmp z (d ++ n ∷ []))) whole ∙ side m false e w.0) ∙ ap (λ zs. y ∷ zs) k
 
     named_kept : (ns : List Text) → flat_map below (filter (is_from_name n) ns) ≡ filter (is_from_place (d ++ n ∷ [])) (flat_map below ns)
     named_kept [] = refl
@@ -154,7 +158,8 @@ module _ (xs : List Place) where
         by : (b : Bool) → is_lt (text_cmp m n) ≡ b → flat_map below (filter (is_from_name n) ns) ≡ filter (is_from_place (d ++ n ∷ [])) (flat_map below ns)
             → flat_map below (cond (not b) (m ∷ filter (is_from_name n) ns) (filter (is_from_name n) ns)) ≡ filter (is_from_place (d ++ n ∷ [])) (below m ++ flat_map below ns)
         by true e k = k ∙ sym (filter_append (is_from_place (d ++ n ∷ [])) (below m) (flat_map below ns) ∙ ap (λ ys. ys ++ filter (is_from_place (d ++ n ∷ [])) (flat_map below ns)) (here true e))
-        by false e k = ap (λ ys. below m ++ ys) k ∙ sym (filter_append (is_from_place (d ++ n ∷ [])) (below m) (flat_map below ns) ∙ ap (λ ys. ys ++ filter (is_from_place (d ++ n ∷ [])) (flat_map below ns)) (here false e))
+        by false e k = ap (λ ys. below m ++ ys) k
+            ∙ sym (filter_append (is_from_place (d ++ n ∷ [])) (below m) (flat_map below ns) ∙ ap (λ ys. ys ++ filter (is_from_place (d ++ n ∷ [])) (flat_map below ns)) (here false e))
 
 -- ---- on any store
 
@@ -165,7 +170,8 @@ module _ (k : ℕ) (n : Text) where
     where
       by : (b : Bool) → IsOrderly d (cond b ((x.0, from_name n x.1) ∷ ps) (x ∷ ps)) a
       by true = record {
-        chain = subst (λ ns. IsChain d 128 ((x.0, ns) ∷ frames_of ps)) (sym (kept_names n x.1)) (h.chain.0, h.chain.1, kept_before x.0 d n (names_of x.1) h.chain.2, ascends_filter text_cmp (is_from_name n) (names_of x.1) h.chain.3, h.chain.4);
+        chain = subst (λ ns. IsChain d 128 ((x.0, ns) ∷ frames_of ps)) (sym (kept_names n x.1))
+            (h.chain.0, h.chain.1, kept_before x.0 d n (names_of x.1) h.chain.2, ascends_filter text_cmp (is_from_name n) (names_of x.1) h.chain.3, h.chain.4);
         few = (let f = kept_fewer n x.1 in omega (arith, f, h.few.0), h.few.1);
         object = h.object;
       }
@@ -240,7 +246,8 @@ module _ (root : StorageRoot) (d : Place) (n : Text) (q : Place) (j : IsJustBefo
 
   twice_above : filter (is_from_place p) (filter (above d) xs) ≡ filter (above q) xs
   twice_above =
-      ascending_unique place_cmp_total place_cmp_exact _ _ (ascends_filter place_cmp (is_from_place p) (filter (above d) xs) (ascends_filter place_cmp (above d) xs (seen_ascend root))) (ascends_filter place_cmp (above q) xs (seen_ascend root))
+      ascending_unique place_cmp_total place_cmp_exact _ _
+          (ascends_filter place_cmp (is_from_place p) (filter (above d) xs) (ascends_filter place_cmp (above d) xs (seen_ascend root))) (ascends_filter place_cmp (above q) xs (seen_ascend root))
       (λ z. (to z, from z))
     where
       to : (z : Place) → IsAmong (filter (is_from_place p) (filter (above d) xs)) z → IsAmong (filter (above q) xs) z
@@ -261,7 +268,8 @@ module _ (root : StorageRoot) (d : Place) (n : Text) (q : Place) (j : IsJustBefo
   cut_left (x ∷ ps) a h top = by (nat_le (length d) (length ps)) refl
     where
       rest : x.0 ≡ d → seen_left xs (frames_of ps) ≡ filter (is_from_place p) (seen_left xs (frames_of ps))
-      rest same = chain_kept xs p (suc (length d)) (frames_of ps) (chain_on p d (suc (length d)) (frames_of ps) (begins_front d (n ∷ [])) (omega arith) (subst (λ y. IsChain y (length y) (frames_of ps)) same h.chain.4))
+      rest same = chain_kept xs p (suc (length d)) (frames_of ps)
+          (chain_on p d (suc (length d)) (frames_of ps) (begins_front d (n ∷ [])) (omega arith) (subst (λ y. IsChain y (length y) (frames_of ps)) same h.chain.4))
 
       here : x.0 ≡ d → seen_in xs (d, filter (is_from_name n) (names_of x.1)) ++ seen_left xs (frames_of ps) ≡ filter (is_from_place p) (seen_in xs (d, names_of x.1) ++ seen_left xs (frames_of ps))
       here same =
@@ -272,8 +280,10 @@ module _ (root : StorageRoot) (d : Place) (n : Text) (q : Place) (j : IsJustBefo
       by true e =
           let same = (top x ps refl).0 e in
           ap (λ ns. seen_in xs (x.0, ns) ++ seen_left xs (frames_of ps)) (kept_names n x.1)
-          ∙ subst (λ y. seen_in xs (y, filter (is_from_name n) (names_of x.1)) ++ seen_left xs (frames_of ps) ≡ filter (is_from_place p) (seen_in xs (y, names_of x.1) ++ seen_left xs (frames_of ps))) (sym same) (here same)
-      by false e = chain_kept xs p (suc (length d)) (frames_of (x ∷ ps)) (chain_on p d (suc (length d)) (frames_of (x ∷ ps)) (begins_front d (n ∷ [])) (omega arith) (h.chain.0, (top x ps refl).1 e, h.chain.2, h.chain.3, h.chain.4))
+          ∙ subst (λ y. seen_in xs (y, filter (is_from_name n) (names_of x.1)) ++ seen_left xs (frames_of ps) ≡ filter (is_from_place p)
+              (seen_in xs (y, names_of x.1) ++ seen_left xs (frames_of ps))) (sym same) (here same)
+      by false e = chain_kept xs p (suc (length d)) (frames_of (x ∷ ps))
+          (chain_on p d (suc (length d)) (frames_of (x ∷ ps)) (begins_front d (n ∷ [])) (omega arith) (h.chain.0, (top x ps refl).1 e, h.chain.2, h.chain.3, h.chain.4))
 
   -- what is left leads to just what is seen above q
   pub cut_stack : (ps : List Pile) (a : Option Around) → IsOrderly d ps a → IsTop d ps → IsStack root d (frames_of ps) → IsStack root q (frames_of (trimmed (cut_top (length d) n ps)))
@@ -292,11 +302,13 @@ module _ (root : StorageRoot) (d : Place) (n : Text) (q : Place) (j : IsJustBefo
         stack listed
 
   -- to an entry
-  pub turn_entry : (x : Place) → is_lt (place_cmp p x) ≡ false → (ps : List Pile) → next_of ps ≡ Some x → IsStack root q (frames_of ps) → IsListed root (frames_of ps) → IsTurn root q x ((x, seen_names root x) ∷ popped ps)
+  pub turn_entry : (x : Place) → is_lt (place_cmp p x) ≡ false → (ps : List Pile) → next_of ps ≡ Some x → IsStack root q (frames_of ps)
+      → IsListed root (frames_of ps) → IsTurn root q x ((x, seen_names root x) ∷ popped ps)
   turn_entry x low [] e st listed = absurd cc
   turn_entry x low (t ∷ ps) e st listed = by t.0 t.1 e st listed
     where
-      by : (c : Place) (es : List Entry) → next_in c es ≡ Some x → IsStack root q ((c, names_of es) ∷ frames_of ps) → IsListed root ((c, names_of es) ∷ frames_of ps) → IsTurn root q x ((x, seen_names root x) ∷ popped_from c es ps)
+      by : (c : Place) (es : List Entry) → next_in c es ≡ Some x → IsStack root q ((c, names_of es) ∷ frames_of ps)
+          → IsListed root ((c, names_of es) ∷ frames_of ps) → IsTurn root q x ((x, seen_names root x) ∷ popped_from c es ps)
       by c [] e st listed = absurd cc
       by c (f ∷ es) e st listed =
           let is : c ++ f.name ∷ [] ≡ x = cc in
@@ -311,7 +323,8 @@ module _ (root : StorageRoot) (d : Place) (n : Text) (q : Place) (j : IsJustBefo
     ahead x i l = chain_over xs p 128 (frames_of ps) h.chain x (subst (λ ys. IsAmong ys x) (sym st) (among_filter (above q) xs x i (ap is_lt l)))
 
     pub turn_path : IsListed root (frames_of ps) → IsTurn root q p (frames_of ps)
-    turn_path listed = turn_low p (ap is_lt (equal_itself place_cmp_total p)) (frames_of ps) j.less (st ∙ same_above xs (seen_ascend root) q p ahead (λ y i l. place_cmp_total.trans q p y j.less l)) listed
+    turn_path listed = turn_low p (ap is_lt (equal_itself place_cmp_total p)) (frames_of ps) j.less
+        (st ∙ same_above xs (seen_ascend root) q p ahead (λ y i l. place_cmp_total.trans q p y j.less l)) listed
 
     pub path_unseen : seen root p ≡ None
     path_unseen = by (seen root p) refl

@@ -59,7 +59,8 @@ own_inventory_reached root o trail h = own_reached root o (heads_of root trail) 
 module _ (root : StorageRoot) where
   pub both_reached : (os os' : List Opening) → AreReached root os → AreReached root os' → AreReached root (os ++ os')
   both_reached os os' h k =
-      heads_append root os os' ∙ (λ i. h i ++ k i) ∙ sym (filter_append (reads_inventory root) (heads_of root os) (heads_of root os')) ∙ ap (filter (reads_inventory root)) (sym (heads_append root os os'))
+      heads_append root os os' ∙ (λ i. h i ++ k i) ∙ sym (filter_append (reads_inventory root) (heads_of root os) (heads_of root os'))
+          ∙ ap (filter (reads_inventory root)) (sym (heads_append root os os'))
 
   pub both_inventories : (os os' : List Opening) → AreInventories root os → AreInventories root os' → AreInventories root (os ++ os')
   both_inventories os os' h k =
@@ -78,13 +79,15 @@ module _ (root : StorageRoot) where
     reached = both_reached h.trail g.trail h.reached g.reached;
   }
 
-  pub failed_then : (s t u : Store) (why : Fault) (h : Calls root s t 0) (g : Calls root t u (failures_by why)) → NamesFailed root t u why g → NamesFailed root s u why (calls_then s t u (failures_by why) h g)
+  pub failed_then : (s t u : Store) (why : Fault) (h : Calls root s t 0) (g : Calls root t u (failures_by why)) → NamesFailed root t u why g
+      → NamesFailed root s u why (calls_then s t u (failures_by why) h g)
   failed_then s t u why h g k = λ q e. let f = k q e in (f.0, failed_behind root h.listings g.listings h.trail g.trail q (h.read refl) f.1)
 
   abbrev pub no_calls : (s t : Store) → s.tree ≡ root → Did s t [] [] 0 → Calls root s t 0
   no_calls s t over did = record { over = over; trail = []; listings = []; did = did; read = λ e. refl; meta = refl; reached = refl }
 
-  abbrev pub descends_on : (s t u : Store) (way more more' may left left' : List Place) (f : ℕ) → Descends root s t way more may left 0 → Descends root t u more more' left left' f → Descends root s u way more' may left' f
+  abbrev pub descends_on : (s t u : Store) (way more more' may left left' : List Place) (f : ℕ) → Descends root s t way more may left 0
+      → Descends root t u more more' left left' f → Descends root s u way more' may left' f
   descends_on s t u way more more' may left left' f h g =
       let a = h.calls in
       let b = g.calls in
@@ -95,7 +98,8 @@ module _ (root : StorageRoot) where
         heads = subst (λ x. IsFront (x ++ left') may) (sym (heads_append root a.trail b.trail)) (front_on (heads_of root a.trail) left may (heads_of root b.trail) left' h.heads g.heads);
       }
 
-  pub descent_fails_on : (s t u : Store) (way more may left : List Place) (why : Fault) → Descends root s t way more may left 0 → DescendFails root t u more left why → DescendFails root s u way may why
+  pub descent_fails_on : (s t u : Store) (way more may left : List Place) (why : Fault) → Descends root s t way more may left 0
+      → DescendFails root t u more left why → DescendFails root s u way may why
   descent_fails_on s t u way more may left why h g = record {
     goes = descends_on s t u way more [] may left [] (failures_by why) h g.goes;
     store = failed_then s t u why h.calls g.goes.calls g.store;
@@ -118,7 +122,8 @@ module _ (root : StorageRoot) where
   }
 
   -- what was done, on another way
-  abbrev pub descends_as : (s t : Store) (way more may left way' more' may' left' : List Place) (f : ℕ) (h : Descends root s t way more may left f) → IsFront (h.calls.listings ++ more') way' → IsFront (heads_of root h.calls.trail ++ left') may' → Descends root s t way' more' may' left' f
+  abbrev pub descends_as : (s t : Store) (way more may left way' more' may' left' : List Place) (f : ℕ) (h : Descends root s t way more may left f)
+      → IsFront (h.calls.listings ++ more') way' → IsFront (heads_of root h.calls.trail ++ left') may' → Descends root s t way' more' may' left' f
   descends_as s t way more may left way' more' may' left' f h listed heads = record { calls = h.calls; only = h.only; listed = listed; heads = heads }
 
   -- no more is done
@@ -151,7 +156,8 @@ module _ (root : StorageRoot) where
 
   descends_read : (s t : Store) (o : Place) (m : Opens root s t o) → AreInventories root m.reads.trail → Descends root s t [] [] (o ∷ []) [] 0
   descends_read s t o m only = record {
-    calls = record { over = m.reads.over; trail = m.reads.trail; listings = []; did = m.reads.did; read = λ e. m.reads.read; meta = m.reads.meta.meta; reached = own_inventory_reached root o m.reads.trail m.heads };
+    calls = record { over = m.reads.over; trail = m.reads.trail; listings = []; did = m.reads.did; read = λ e. m.reads.read; meta = m.reads.meta.meta; reached =
+        own_inventory_reached root o m.reads.trail m.heads };
     only = only;
     listed = ([], refl);
     heads = opens_front o m.reads.trail m.heads;

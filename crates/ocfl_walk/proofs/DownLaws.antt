@@ -52,7 +52,8 @@ module _ (root : StorageRoot) where
       by : (b : Bool) → is_dir root (n ∷ []) ≡ b → is_entered root (n ∷ []) ≡ false
       by true e =
           let there : is_in_extensions root (n ∷ []) ≡ true = ap (λ b. b && is_dir root (n ∷ [])) h ∙ e in
-          out_of_zone root (n ∷ []) (ap (is_listed_zone root) (ap (λ b. cond (not (is_known (root_declared root)) || b) skipped (object_zone root [] (n ∷ []))) there ∙ skips (not (is_known (root_declared root)))))
+          out_of_zone root (n ∷ []) (ap (is_listed_zone root)
+              (ap (λ b. cond (not (is_known (root_declared root)) || b) skipped (object_zone root [] (n ∷ []))) there ∙ skips (not (is_known (root_declared root)))))
       by false e = not_entered root (n ∷ []) e
   extensions_out (m ∷ d) n h = absurd (true_not_false (sym h))
 
@@ -75,7 +76,8 @@ module _ (root : StorageRoot) where
     zone_next : (on : Bool) → LeadsOn root d n (Some a) on → is_listed_zone root (zone root (d ++ n ∷ [])) ≡ on
     zone_next on h = ap (is_listed_zone root) (inside_step root d a.place p.0 n p.1) ∙ ap (λ x. is_listed_in_object x (p.0 ++ n ∷ [])) p.2 ∙ listed_step a.table p.0 n ∙ sym (h p.0 p.1 p.2)
 
-  pub in_object : (d : Place) (n : Text) (x : Option Around) (a : Around) → x ≡ Some a → IsPart root d x → LeadsOn root d n x true → (old : List Entry) (s t : Store) (f : Folder) → IsAt root d old → Enters root s t (d ++ n ∷ []) f.place f.entries.items
+  pub in_object : (d : Place) (n : Text) (x : Option Around) (a : Around) → x ≡ Some a → IsPart root d x → LeadsOn root d n x true
+      → (old : List Entry) (s t : Store) (f : Folder) → IsAt root d old → Enters root s t (d ++ n ∷ []) f.place f.entries.items
       → IsIn root (d ++ n ∷ []) f x
   in_object d n None a is p on old s t f at k = absurd cc
   in_object d n (Some b) a is p on old s t f at k = record {
@@ -134,7 +136,8 @@ module _ (root : StorageRoot) where
     may_is = ap holder_of (object_below d n r z)
 
     came : Descends root s t (way_below d (n ∷ r)) rest (may_open None (zone root (d ++ n ∷ r))) ((d ++ n ∷ []) ∷ []) 0
-    came = subst (λ x. Descends root s t (way_below d (n ∷ r)) rest (may_open None (zone root (d ++ n ∷ r))) x 0) may_is (descends_one root s t (d ++ n ∷ []) rest (may_open None (zone root (d ++ n ∷ r))) over did)
+    came = subst (λ x. Descends root s t (way_below d (n ∷ r)) rest (may_open None (zone root (d ++ n ∷ r))) x 0) may_is
+        (descends_one root s t (d ++ n ∷ []) rest (may_open None (zone root (d ++ n ∷ r))) over did)
 
     then : Descends root t u [] [] ((d ++ n ∷ []) ∷ []) [] 0 → Descends root s u (way_below d (n ∷ r)) rest (may_open None (zone root (d ++ n ∷ r))) [] 0
     then h = descends_on root s t u (way_below d (n ∷ r)) rest rest (may_open None (zone root (d ++ n ∷ r))) ((d ++ n ∷ []) ∷ []) [] 0 came (descends_beside t u rest ((d ++ n ∷ []) ∷ []) [] 0 h)
@@ -142,7 +145,8 @@ module _ (root : StorageRoot) where
     pub leads_object_none : Opens root t u (d ++ n ∷ []) (Ok None) → Leads root s u d n r None None (Ok None)
     leads_object_none h = record { gives = (descends_end root s u (way_below d (n ∷ r)) rest (may_open None (zone root (d ++ n ∷ r))) [] 0 (then h.gives.0), shut_object d n r z h.gives.1) }
 
-    pub leads_object : (a : Around) (f : Folder) → f.place ≡ d ++ n ∷ [] → IsObject root (d ++ n ∷ []) f.entries.items → Opens root t u (d ++ n ∷ []) (Ok (Some a)) → Leads root s u d n r None (Some a) (Ok (Some f))
+    pub leads_object : (a : Around) (f : Folder) → f.place ≡ d ++ n ∷ [] → IsObject root (d ++ n ∷ []) f.entries.items
+        → Opens root t u (d ++ n ∷ []) (Ok (Some a)) → Leads root s u d n r None (Some a) (Ok (Some f))
     leads_object a f e is h =
         let open_ = open_object root (d ++ n ∷ []) f.entries.items a.table is h.gives.1.1 in
         let part : IsPart root (d ++ n ∷ []) (Some a) = ([], z ∙ ap (λ x. inside x []) (sym h.gives.1.0), ap (table_at root) h.gives.1.0 ∙ h.gives.1.1) in

@@ -50,7 +50,8 @@ item_none : (root : StorageRoot) (x : Place) → notes root None x ≡ [] → ma
 item_none root x e = ap (λ ks. map (λ i. i.place) (on (not (is_empty (lines_at x ks))) (item_of root [] x))) e
 
 module _ (root : StorageRoot) where
-  due_steps : (last x : Place) → after (audit root []) (Some last) ≡ item_at root [] x ++ after (audit root []) (Some x) → due root (Some last) ≡ map (λ i. i.place) (item_at root [] x) ++ due root (Some x)
+  due_steps : (last x : Place) → after (audit root []) (Some last) ≡ item_at root [] x ++ after (audit root []) (Some x)
+      → due root (Some last) ≡ map (λ i. i.place) (item_at root [] x) ++ due root (Some x)
   due_steps last x h =
       due_places root (Some last) ∙ ap (map (λ i. i.place)) h ∙ places_append (item_at root [] x) (after (audit root []) (Some x))
       ∙ ap (λ ps. map (λ i. i.place) (item_at root [] x) ++ ps) (sym (due_places root (Some x)))
@@ -83,7 +84,8 @@ module _ (root : StorageRoot) where
       let there = among_from_filter (above b) (seen_places root) b (subst (λ xs. IsAmong xs b) same here) in
       absurd (not_below_itself place_cmp_total b (less_from _ there.1))
 
-  pub turn_comes : (last : Place) (ps : List Pile) (a : Option Around) (t : Turn) → IsStanding root last ps a → IsFitIf a → t ≡ turn_of (next_of (trimmed ps)) (path_from last a) → (t ≡ turn.Base → ⊥) → TurnIs root last (trimmed ps) t
+  pub turn_comes : (last : Place) (ps : List Pile) (a : Option Around) (t : Turn) → IsStanding root last ps a → IsFitIf a
+      → t ≡ turn_of (next_of (trimmed ps)) (path_from last a) → (t ≡ turn.Base → ⊥) → TurnIs root last (trimmed ps) t
   turn_comes last ps a t h fit is base = by t base (subst (λ x. NextIs root (is_closed root) last (place_by root (trimmed ps) x)) (sym is) (turn_is_next root (is_closed root) last ps a h fit))
     where
       by : (t : Turn) → (t ≡ turn.Base → ⊥) → NextIs root (is_closed root) last (place_by root (trimmed ps) t) → TurnIs root last (trimmed ps) t

@@ -55,7 +55,8 @@ branch_up u x y h l = and_both (is_lt (place_cmp u y)) (not (begins u y)) (ap is
 
     apart : (b : Bool) → begins u y ≡ b → begins u y ≡ false
     apart false e = e
-    apart true e = let r = begins_rest u y e in absurd (true_not_false (sym (begins_between u [] r.0 x (subst (λ z. place_cmp z x ≡ Less) (sym (append-nil u)) over) (subst (λ z. place_cmp x z ≡ Less) r.1 l)) ∙ out))
+    apart true e = let r = begins_rest u y e in absurd
+        (true_not_false (sym (begins_between u [] r.0 x (subst (λ z. place_cmp z x ≡ Less) (sym (append-nil u)) over) (subst (λ z. place_cmp x z ≡ Less) r.1 l)) ∙ out))
 
 bound_up : (b : Option Place) (x y : Place) → is_at_bound b x ≡ true → place_cmp x y ≡ Less → is_at_bound b y ≡ true
 bound_up None x y h l = h
@@ -109,7 +110,8 @@ module _ (e : End) where
     pub over : (from : Option Place) → ((y : Place) → IsAmong ps y → IsBeyond from y → is_past e y ≡ true) → before_end e (between ps from None) ≡ []
     over from h = none_left (between ps from None) (λ y i. let k = from_between ps from None y i in h y k.0 k.1)
 
-    pub split : (from : Option Place) (b : Place) → IsAscending place_cmp ps → IsBeyond from b → is_past e b ≡ false → between ps from (Some b) ++ before_end e (between ps (Some b) None) ≡ before_end e (between ps from None)
+    pub split : (from : Option Place) (b : Place) → IsAscending place_cmp ps → IsBeyond from b → is_past e b ≡ false
+        → between ps from (Some b) ++ before_end e (between ps (Some b) None) ≡ before_end e (between ps from None)
     split from b up l n =
         sym (
         ap (before_end e) (sym (between_on ps up from None b l tt)) ∙ filter_append (λ z. not (is_past e z)) (between ps from (Some b)) (between ps (Some b) None)
@@ -117,11 +119,13 @@ module _ (e : End) where
         )
 
   module _ (root : StorageRoot) where
-    pub looked_out : (from : Option Place) (b : Place) → IsBeyond from b → is_past e b ≡ false → looked_between root from (Some b) ++ before_end e (looked_between root (Some b) None) ≡ before_end e (looked_between root from None)
+    pub looked_out : (from : Option Place) (b : Place) → IsBeyond from b → is_past e b ≡ false
+        → looked_between root from (Some b) ++ before_end e (looked_between root (Some b) None) ≡ before_end e (looked_between root from None)
     unfolding looked_between
     looked_out from b l n = split (directories root) from b (directories_ascend root) l n
 
-    pub read_out : (from : Option Place) (b : Place) → IsBeyond from b → is_past e b ≡ false → read_between root from (Some b) ++ before_end e (read_between root (Some b) None) ≡ before_end e (read_between root from None)
+    pub read_out : (from : Option Place) (b : Place) → IsBeyond from b → is_past e b ≡ false
+        → read_between root from (Some b) ++ before_end e (read_between root (Some b) None) ≡ before_end e (read_between root from None)
     unfolding read_between
     read_out from b l n = split (objects root) from b (objects_ascend root) l n
 
@@ -148,12 +152,14 @@ module _ (e : End) where
     unfolding due
     due_above x past = over (item_places root) (Some x) (λ y i l. past_up e x y past l)
 
-    pub due_past : (last x : Place) → is_past e x ≡ true → (notes root None x ≢ [] → due root (Some last) ≡ x ∷ due root (Some x)) → (notes root None x ≡ [] → due root (Some last) ≡ due root (Some x)) → before_end e (due root (Some last)) ≡ []
+    pub due_past : (last x : Place) → is_past e x ≡ true → (notes root None x ≢ [] → due root (Some last) ≡ x ∷ due root (Some x))
+        → (notes root None x ≡ [] → due root (Some last) ≡ due root (Some x)) → before_end e (due root (Some last)) ≡ []
     due_past last x past some none = by (notes root None x) refl
       where
         by : (ns : List Note) → notes root None x ≡ ns → before_end e (due root (Some last)) ≡ []
         by [] f = ap (before_end e) (none f) ∙ due_above x past
-        by (n ∷ ns) f = ap (before_end e) (some (λ g. let two : n ∷ ns ≡ [] = sym f ∙ g in cc)) ∙ ap (λ b. cond (not b) (x ∷ before_end e (due root (Some x))) (before_end e (due root (Some x)))) past ∙ due_above x past
+        by (n ∷ ns) f = ap (before_end e) (some (λ g. let two : n ∷ ns ≡ [] = sym f ∙ g in cc))
+            ∙ ap (λ b. cond (not b) (x ∷ before_end e (due root (Some x))) (before_end e (due root (Some x)))) past ∙ due_above x past
 
     -- past the end from the storage root on
     pub all_past : is_past e [] ≡ true → (xs : List Place) → before_end e xs ≡ []

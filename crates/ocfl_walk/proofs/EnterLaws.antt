@@ -42,7 +42,8 @@ orderly_start s p none alone last =
     let fs = folders_from 0 (spot_of s.last) s.listings.items in
     subst (λ x. IsOrderlyIf x (piles_of fs) s.around) (sym last) (subst (λ a. IsOrderly p (piles_of fs) a) (sym alone) (orderly_nothing p fs (folders_none (spot_of s.last) s.listings.items none)))
 
-pub orderly_brought : (r : Result Unit Fault) (l : Option Place) (p d q : Place) (ps : List Pile) (a : Option Around) → l ≡ Some p → d ≡ [] → q ≡ p → IfOk r (λ _. IsOrderly (d ++ q) ps a) → IfOk r (λ _. IsOrderlyIf l ps a)
+pub orderly_brought : (r : Result Unit Fault) (l : Option Place) (p d q : Place) (ps : List Pile) (a : Option Around) → l ≡ Some p → d ≡ [] → q ≡ p
+    → IfOk r (λ _. IsOrderly (d ++ q) ps a) → IfOk r (λ _. IsOrderlyIf l ps a)
 orderly_brought (Err why) l p d q ps a last root_is same h = tt
 orderly_brought (Ok x) l p d q ps a last root_is same h =
     subst (λ x. IsOrderlyIf x ps a) (sym last) (subst (λ x. IsOrderly x ps a) same (subst (λ e. IsOrderly (e ++ q) ps a) root_is h))
@@ -59,7 +60,8 @@ module _ (root : StorageRoot) where
 
   module _ (s t : Store) (base : Folder) (m : Head) (ordinary : IsOrdinary base.entries.items) (says : IsHead (declared level.Root (file_names base.entries.items)) m) (k : Enters root s t [] base.place base.entries.items) where
     pub root_unknown : (m ≡ head.Known → ⊥) → ListsRoot root s t (Ok None)
-    root_unknown unknown = record { gives = (k.did, ap is_known (declared_root root base.entries.items ordinary k.listing) ∙ head_unknown (declared level.Root (file_names base.entries.items)) m says unknown) }
+    root_unknown unknown = record { gives =
+        (k.did, ap is_known (declared_root root base.entries.items ordinary k.listing) ∙ head_unknown (declared level.Root (file_names base.entries.items)) m says unknown) }
 
     pub root_known : m ≡ head.Known → ListsRoot root s t (Ok (Some base))
     root_known known = record { gives = (k.did, root_entered root s t base.place base.entries.items ordinary k (subst (IsHead (declared level.Root (file_names base.entries.items))) known says)) }
@@ -74,7 +76,8 @@ module _ (root : StorageRoot) where
 
   module _ (s t : Store) (p : Place) (over : s.tree ≡ root) (did : Did s t [] ([] ∷ []) 0) where
     came : Descends root s t (way_to p) (way_below [] p) (holder_of (zone root p)) (holder_of (zone root p)) 0
-    came = subst (λ w. Descends root s t w (way_below [] p) (holder_of (zone root p)) (holder_of (zone root p)) 0) (sym (way_is p)) (descends_one root s t [] (way_below [] p) (holder_of (zone root p)) over did)
+    came = subst (λ w. Descends root s t w (way_below [] p) (holder_of (zone root p)) (holder_of (zone root p)) 0) (sym (way_is p))
+        (descends_one root s t [] (way_below [] p) (holder_of (zone root p)) over did)
 
     pub start_listed : Starts root s t p 0
     start_listed = descends_end root s t (way_to p) (way_below [] p) (holder_of (zone root p)) (holder_of (zone root p)) 0 came
@@ -127,14 +130,16 @@ module _ (root : StorageRoot) where
   pub start_goes : (s t : Store) (p : Place) (over : s.tree ≡ root) (did : Did s t [] ([] ∷ []) 0) (u : Store) (d q : Place) (root_is : d ≡ []) (same : q ≡ p) (old new : Stand)
       → old.listings.items ≡ [] → old.around ≡ None → new.last ≡ Some p → (r : Result Unit Fault)
       → MatchResult r
-      (λ _. Descends root t u (way_below d q) [] (may_open old.around (zone root (d ++ q))) [] 0 × IsBrought root d q (piles_in old.last old.listings.items) (piles_in new.last new.listings.items) new.around)
+      (λ _. Descends root t u (way_below d q) [] (may_open old.around (zone root (d ++ q))) [] 0
+          × IsBrought root d q (piles_in old.last old.listings.items) (piles_in new.last new.listings.items) new.around)
       (λ why. DescendFails root t u (way_below d q) (may_open old.around (zone root (d ++ q))) why)
       → MatchResult r (λ _. Starts root s u p 0 × StandsAt root new (Some p)) (λ why. StartFails root s u p why)
   start_goes s t p over did u d q root_is same old new none alone last (Ok x) h = (
     start_down s t p over did u d q root_is same (subst (λ a. Descends root t u (way_below d q) [] (may_open a (zone root (d ++ q))) [] 0) alone h.0),
     (
       last,
-      stands_brought p d q (folders_from 0 (spot_of old.last) old.listings.items) (piles_in new.last new.listings.items) new.around (folders_none (spot_of old.last) old.listings.items none) root_is same h.1,
+      stands_brought p d q (folders_from 0 (spot_of old.last) old.listings.items) (piles_in new.last new.listings.items) new.around
+          (folders_none (spot_of old.last) old.listings.items none) root_is same h.1,
     ),
   )
   start_goes s t p over did u d q root_is same old new none alone last (Err why) h =

@@ -49,7 +49,8 @@ begins_last (m ∷ k ∷ o) [] n h = absurd (by (text_eq m n) h)
     by false g = true_not_false (sym g)
 begins_last (m ∷ o) (a ∷ d) n h = by (text_eq m a) refl h (begins_last o d n)
   where
-    by : (b : Bool) → text_eq m a ≡ b → b && begins o (d ++ n ∷ []) ≡ true → (begins o (d ++ n ∷ []) ≡ true → (begins o d ≡ true) ⊎ (o ≡ d ++ n ∷ [])) → (b && begins o d ≡ true) ⊎ (m ∷ o ≡ a ∷ d ++ n ∷ [])
+    by : (b : Bool) → text_eq m a ≡ b → b && begins o (d ++ n ∷ []) ≡ true → (begins o (d ++ n ∷ []) ≡ true → (begins o d ≡ true) ⊎ (o ≡ d ++ n ∷ []))
+        → (b && begins o d ≡ true) ⊎ (m ∷ o ≡ a ∷ d ++ n ∷ [])
     by true e g k = go (k g)
       where
         go : (begins o d ≡ true) ⊎ (o ≡ d ++ n ∷ []) → (begins o d ≡ true) ⊎ (m ∷ o ≡ a ∷ d ++ n ∷ [])
@@ -75,7 +76,8 @@ module _ (root : StorageRoot) where
       by false e j = absurd j
 
   -- which object holds the entry, where the directory is on the way to the last place
-  part_is : (last d : Place) (n : Text) (a : Option Around) → IsTableAround root last a → begins d last ≡ true → is_reached root d ≡ true → place_cmp last (d ++ n ∷ []) ≡ Less → IsPart root d (still a (d ++ n ∷ []))
+  part_is : (last d : Place) (n : Text) (a : Option Around) → IsTableAround root last a → begins d last ≡ true → is_reached root d ≡ true
+      → place_cmp last (d ++ n ∷ []) ≡ Less → IsPart root d (still a (d ++ n ∷ []))
   part_is last d n a h b r l = by (zone root d) refl (reached_entered d r)
     where
       x : Place
@@ -96,14 +98,16 @@ module _ (root : StorageRoot) where
           not_above (m ∷ s) f = not_below_itself place_cmp_total x (place_cmp_total.trans x (x ++ m ∷ s) x (above_self x m s) (ap (λ y. place_cmp y x) (sym f) ∙ l))
 
           no : (begins o.place d ≡ true) ⊎ (o.place ≡ x) → ⊥
-          no (inl g) = let w = begins_rest o.place d g in let z : zone root d ≡ inside o.place w.0 = ap (zone root) w.1 ∙ object_zone root o.place k.0 w.0 last k.1 in let bad : hierarchy ≡ inside o.place w.0 = sym e ∙ z in cc
+          no (inl g) = let w = begins_rest o.place d g in
+              let z : zone root d ≡ inside o.place w.0 = ap (zone root) w.1 ∙ object_zone root o.place k.0 w.0 last k.1 in let bad : hierarchy ≡ inside o.place w.0 = sym e ∙ z in cc
           no (inr g) = not_above k.0 (whole ∙ ap (λ y. y ++ k.0) g)
 
           go : (c : Bool) → begins o.place x ≡ c → cond c (Some o) None ≡ None
           go true f = absurd (no (begins_last o.place d n f))
           go false f = refl
 
-      within : (o q : Place) (table : Option Table) → zone root d ≡ inside o q → table_at root o ≡ table → is_listed_in_object table q ≡ true → (a : Option Around) → IsTableAround root last a → IsPart root d (still a x)
+      within : (o q : Place) (table : Option Table) → zone root d ≡ inside o q → table_at root o ≡ table → is_listed_in_object table q ≡ true
+          → (a : Option Around) → IsTableAround root last a → IsPart root d (still a x)
       within o q None e f g a k = absurd (true_not_false (sym g))
       within o q (Some t) e f g None k =
           let z : zone root last ≡ inside o (q ++ way.0) = ap (zone root) way.1 ∙ inside_on root d o q way.0 e in
@@ -120,7 +124,8 @@ module _ (root : StorageRoot) where
       by hierarchy e g = subst (IsPart root d) (sym (outside a h e)) e
       by (inside o q) e g = within o q (table_at root o) e refl g a h
 
-  pub entry_met : (last : Place) (ps new : List Pile) (entry : Entry) (x : Place) (a : Option Around) → IsOrderly last ps a → IsHeld root last ps a → (t : IsTaken ps new entry) → x ≡ t.place ++ entry.name ∷ [] → IsMet root t.place (still a x) entry x
+  pub entry_met : (last : Place) (ps new : List Pile) (entry : Entry) (x : Place) (a : Option Around) → IsOrderly last ps a → IsHeld root last ps a
+      → (t : IsTaken ps new entry) → x ≡ t.place ++ entry.name ∷ [] → IsMet root t.place (still a x) entry x
   entry_met last ps new entry x a o h t e =
       let listed : IsListed root (frames_of ((t.place, entry ∷ t.rest) ∷ t.others)) = subst (λ qs. IsListed root (frames_of qs)) t.old_is h.listed in
       let entries : HaveEntries root ((t.place, entry ∷ t.rest) ∷ t.others) = subst (HaveEntries root) t.old_is h.entries in

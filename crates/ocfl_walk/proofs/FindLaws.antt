@@ -88,7 +88,8 @@ module _ (root : StorageRoot) where
   pub finds_stopped : (s t : Store) (way may : List Place) (why : Fault) → length may ≤ 1 → DescendFails root s t way may why → FindFails root s t way may why
   finds_stopped s t way may why few h = record { finds = finds_descended s t way [] may [] (failures_by why) few h.goes; store = h.store }
 
-  both_once : (left : List Place) (os os' : List Opening) → length os + length left ≤ 1 → (left ≡ [] → os' ≡ []) → AllPairs (λ a b. a.place ≢ b.place) os' → AllPairs (λ a b. a.place ≢ b.place) (os ++ os')
+  both_once : (left : List Place) (os os' : List Opening) → length os + length left ≤ 1 → (left ≡ [] → os' ≡ []) → AllPairs (λ a b. a.place ≢ b.place) os'
+      → AllPairs (λ a b. a.place ≢ b.place) (os ++ os')
   both_once left [] os' few closed once = once
   both_once left (x ∷ os) os' few closed once =
       let none = ap length (closed (none_is left (omega (arith, few)))) in
@@ -126,7 +127,8 @@ module _ (root : StorageRoot) where
   finds_nothing s way may over = record { calls = no_calls root s s over (did_nothing s); once = none_once; closed = λ e. refl; listed = (way, refl); heads = (may, refl) }
 
   -- an item that is known without the store
-  pub item_known : (s t : Store) (way may : List Place) (p : Place) (r : Result (Option Pending) Fault) → Finds root s t way may 0 → IfErr r (λ why. why ≡ fault.Memory) → IfOk r (λ o. IsItemAt root p o) → FindsItem root s t way may p r
+  pub item_known : (s t : Store) (way may : List Place) (p : Place) (r : Result (Option Pending) Fault) → Finds root s t way may 0
+      → IfErr r (λ why. why ≡ fault.Memory) → IfOk r (λ o. IsItemAt root p o) → FindsItem root s t way may p r
   item_known s t way may p (Ok o) h only told = record { gives = (h, told) }
   item_known s t way may p (Err why) h only told = record { gives = subst (FindFails root s t way may) (sym only) (record { finds = h; store = λ q e. absurd (memory_no_store q e) }) }
 
@@ -166,7 +168,8 @@ module _ (root : StorageRoot) where
           filled g = cc
       own_closed false h k = elsewhere h not_base
 
-      abbrev finds_met : (f : ℕ) (listings : List Place) → s.tree ≡ root → Did s t trail listings f → (f ≡ 0 → IsMetadataRead root trail) → content_trail root trail ≡ [] → AllPairs (λ x y. x.place ≢ y.place) trail → IsFront listings (e ∷ []) → Finds root s t (e ∷ []) (may_open a (zone root e)) f
+      abbrev finds_met : (f : ℕ) (listings : List Place) → s.tree ≡ root → Did s t trail listings f → (f ≡ 0 → IsMetadataRead root trail)
+          → content_trail root trail ≡ [] → AllPairs (λ x y. x.place ≢ y.place) trail → IsFront listings (e ∷ []) → Finds root s t (e ∷ []) (may_open a (zone root e)) f
       finds_met f listings over did read meta once listed = record {
         calls = record { over = over; trail = trail; listings = listings; did = did; read = read; meta = meta; reached = own_inventory_reached root e trail heads };
         once = once;
@@ -179,12 +182,14 @@ module _ (root : StorageRoot) where
       pub item_met : (v : Visit) → Visits root s t e (Ok v) → FindsItem root s t (e ∷ []) (may_open a (zone root e)) e (Ok v.item)
       item_met v h =
           let m = h.gives.0 in
-          record { gives = (finds_met s t m.trail (subst (IsFront (heads_of root m.trail)) m.heads (front_all (heads_of root m.trail))) m.elsewhere 0 m.listings m.over m.did (λ g. m.read) m.meta m.once (front_own e (is_looked_into root e) m.listings m.listed), h.gives.1.item) }
+          record { gives = (finds_met s t m.trail (subst (IsFront (heads_of root m.trail)) m.heads (front_all (heads_of root m.trail))) m.elsewhere 0 m.listings
+              m.over m.did (λ g. m.read) m.meta m.once (front_own e (is_looked_into root e) m.listings m.listed), h.gives.1.item) }
 
       pub item_unmet : (why : Fault) → Visits root s t e (Err why) → FindsItem root s t (e ∷ []) (may_open a (zone root e)) e (Err why)
       item_unmet why h =
           let m = h.gives in
-          record { gives = record { finds = finds_met s t m.trail m.heads m.elsewhere (failures_by why) m.listings m.over m.did m.read m.meta m.once (front_within e (is_looked_into root e) m.listings m.listed); store = m.store } }
+          record { gives = record { finds =
+              finds_met s t m.trail m.heads m.elsewhere (failures_by why) m.listings m.over m.did m.read m.meta m.once (front_within e (is_looked_into root e) m.listings m.listed); store = m.store } }
 
   -- ---- a name before it
 
@@ -192,22 +197,27 @@ module _ (root : StorageRoot) where
     few_old : length (may_open old (zone root p)) ≤ 1
     few_old = may_few old (zone root p)
 
-    pub item_further : (s t u : Store) (inner : Folder) (r' : Place) (res : Result (Option Pending) Fault) → r ≡ r' → Leads root s t d n r old new (Ok (Some inner)) → FindsItem root t u (way_below inner.place r') (may_open new (zone root p)) p res
+    pub item_further : (s t u : Store) (inner : Folder) (r' : Place) (res : Result (Option Pending) Fault) → r ≡ r'
+        → Leads root s t d n r old new (Ok (Some inner)) → FindsItem root t u (way_below inner.place r') (may_open new (zone root p)) p res
         → FindsItem root s u (way_below d (n ∷ r)) (may_open old (zone root p)) p res
     item_further s t u inner r' res same h k =
         item_on s t u (way_below d (n ∷ r)) (way_below (d ++ n ∷ []) r) (may_open old (zone root p)) (may_open new (zone root p)) few_old
         (subst (λ x. Descends root s t (way_below d (n ∷ r)) (way_below (d ++ n ∷ []) r) (may_open old (zone root x)) (may_open new (zone root x)) 0) (sym is) h.gives.0)
-        p res (subst (λ x. FindsItem root t u (way_below (d ++ n ∷ []) x) (may_open new (zone root p)) p res) (sym same) (subst (λ x. FindsItem root t u (way_below x r') (may_open new (zone root p)) p res) h.gives.1.place k))
+        p res (subst (λ x. FindsItem root t u (way_below (d ++ n ∷ []) x) (may_open new (zone root p)) p res) (sym same)
+            (subst (λ x. FindsItem root t u (way_below x r') (may_open new (zone root p)) p res) h.gives.1.place k))
 
     pub item_stop : (s t : Store) (why : Fault) → Leads root s t d n r old new (Err why) → FindsItem root s t (way_below d (n ∷ r)) (may_open old (zone root p)) p (Err why)
     item_stop s t why h = record {
-      gives = finds_stopped s t (way_below d (n ∷ r)) (may_open old (zone root p)) why few_old (subst (λ x. DescendFails root s t (way_below d (n ∷ r)) (may_open old (zone root x)) why) (sym is) h.gives);
+      gives = finds_stopped s t (way_below d (n ∷ r)) (may_open old (zone root p)) why few_old
+          (subst (λ x. DescendFails root s t (way_below d (n ∷ r)) (may_open old (zone root x)) why) (sym is) h.gives);
     }
 
-    pub item_shut : (s t : Store) (res : Result (Option Pending) Fault) → Leads root s t d n r old new (Ok None) → IfErr res (λ why. why ≡ fault.Memory) → IfOk res (λ o. IsItemAt root p o) → FindsItem root s t (way_below d (n ∷ r)) (may_open old (zone root p)) p res
+    pub item_shut : (s t : Store) (res : Result (Option Pending) Fault) → Leads root s t d n r old new (Ok None) → IfErr res (λ why. why ≡ fault.Memory)
+        → IfOk res (λ o. IsItemAt root p o) → FindsItem root s t (way_below d (n ∷ r)) (may_open old (zone root p)) p res
     item_shut s t res h only told =
         item_known s t (way_below d (n ∷ r)) (may_open old (zone root p)) p res
-        (finds_descended s t (way_below d (n ∷ r)) [] (may_open old (zone root p)) [] 0 few_old (subst (λ x. Descends root s t (way_below d (n ∷ r)) [] (may_open old (zone root x)) [] 0) (sym is) h.gives.0))
+        (finds_descended s t (way_below d (n ∷ r)) [] (may_open old (zone root p)) [] 0 few_old
+            (subst (λ x. Descends root s t (way_below d (n ∷ r)) [] (may_open old (zone root x)) [] 0) (sym is) h.gives.0))
         only told
 
     pub shut_table : (s t : Store) → Leads root s t d n r old new (Ok None) → IsTableAround root p new
@@ -219,7 +229,8 @@ module _ (root : StorageRoot) where
 
   -- ---- an entry that is there, or not
 
-  listed_met : (d e : Place) (n : Text) (es : List Entry) (a : Option Around) (entry : Entry) → IsAt root d es → IsPart root d a → e ≡ d ++ n ∷ [] → entry.name ≡ n → kind_in es n ≡ Some entry.kind → IsMet root d a entry e
+  listed_met : (d e : Place) (n : Text) (es : List Entry) (a : Option Around) (entry : Entry) → IsAt root d es → IsPart root d a → e ≡ d ++ n ∷ []
+      → entry.name ≡ n → kind_in es n ≡ Some entry.kind → IsMet root d a entry e
   listed_met d e n es a entry at part is name there = record {
     is = is ∙ ap (λ x. d ++ x ∷ []) (sym name);
     reached = at.reached;
@@ -227,7 +238,8 @@ module _ (root : StorageRoot) where
     kind = ap (kind_at root d) name ∙ sym (at.listing.each n) ∙ there;
   }
 
-  pub visits_listed : (d e x : Place) (n : Text) (es given : List Entry) (a : Option Around) (entry : Entry) (s t : Store) (r : Result Visit Fault) → IsAt root d es → IsPart root d a → e ≡ d ++ n ∷ [] → x ≡ e → given ≡ es → entry.name ≡ n → kind_in given n ≡ Some entry.kind
+  pub visits_listed : (d e x : Place) (n : Text) (es given : List Entry) (a : Option Around) (entry : Entry) (s t : Store) (r : Result Visit Fault)
+      → IsAt root d es → IsPart root d a → e ≡ d ++ n ∷ [] → x ≡ e → given ≡ es → entry.name ≡ n → kind_in given n ≡ Some entry.kind
       → ((c : Place) → IsMet root c a entry x → Visits root s t x r) → Visits root s t e r
   visits_listed d e x n es given a entry s t r at part is place same name there told =
       let met = listed_met d e n es a entry at part is name (subst (λ ys. kind_in ys n ≡ Some entry.kind) same there) in

@@ -101,12 +101,14 @@ module _ (old : Stand) (x : Place) (orderly : IsOrderlyStand old) (some : old.la
     pub missing_there : GoesTo at_missing x r
     missing_there = subst (GoesTo at_missing x) (sym is) (goes_here at_missing x item refl)
 
-    pub missing_told : (root : StorageRoot) (s : Store) (l : Place) → s.tree ≡ root → IsHeld root x (piles_in old.last old.listings.items) old.around → IsTurn root l x (frames_of (piles_in old.last old.listings.items)) → seen root x ≡ None → IsItemAt root x item
+    pub missing_told : (root : StorageRoot) (s : Store) (l : Place) → s.tree ≡ root → IsHeld root x (piles_in old.last old.listings.items) old.around
+        → IsTurn root l x (frames_of (piles_in old.last old.listings.items)) → seen root x ≡ None → IsItemAt root x item
         → Steps root s s (Some l) at_missing r
     missing_told root s l tree held go unseen i =
         let here : IsStanding root x (piles_in old.last old.listings.items) old.around = record { stack = go.stack; listed = held.listed; entries = held.entries; table = held.table } in
         subst (Steps root s s (Some l) at_missing) (sym is)
-        (step_to root s s l x at_missing item (meets_shut root s x tree (shut_unseen root x unseen)) i (near_turn root l x _ go) (refl, subst (λ ps. IsStanding root x ps old.around) (sym missing_piles) here) go.some go.none)
+        (step_to root s s l x at_missing item (meets_shut root s x tree (shut_unseen root x unseen)) i (near_turn root l x _ go)
+            (refl, subst (λ ps. IsStanding root x ps old.around) (sym missing_piles) here) go.some go.none)
 
 -- ---- what is left once all before the name is let go
 
@@ -126,7 +128,8 @@ module _ (old : Stand) (d : Place) (n : Text) (mid : Listings) (there : old.last
   unfolding stand_size
   cut_no_more =
       subst (λ l. size_of l (piles_in old.last mid.items) old.around ≤ size_of l (piles_in old.last old.listings.items) old.around) (sym there)
-      (subst (λ ps. size_of (Some d) ps old.around ≤ size_of (Some d) (piles_in old.last old.listings.items) old.around) (sym is) (cut_size (length d) n d (piles_in old.last old.listings.items) old.around))
+      (subst (λ ps. size_of (Some d) ps old.around ≤ size_of (Some d) (piles_in old.last old.listings.items) old.around) (sym is)
+          (cut_size (length d) n d (piles_in old.last old.listings.items) old.around))
 
   pub cut_trims : trimmed (piles_in old.last mid.items) ≡ piles_in old.last mid.items
   cut_trims = trim_stays (cut_top (length d) n (piles_in old.last old.listings.items)) (piles_in old.last mid.items) old.around is
@@ -134,12 +137,14 @@ module _ (old : Stand) (d : Place) (n : Text) (mid : Listings) (there : old.last
   pub cut_begun : old.last ≢ None
   cut_begun e = let two : Some d ≡ None = sym there ∙ e in cc
 
-  pub cut_next : (o : Option Place) → IsBelowNext (d ++ n ∷ []) o → o ≡ next_of (piles_in old.last mid.items) → IfSome old.last (λ last. (place_cmp last (d ++ n ∷ []) ≡ Less) × IsAroundIf (d ++ n ∷ []) old.around × IsBelowNext (d ++ n ∷ []) (next_of (piles_in old.last mid.items)))
+  pub cut_next : (o : Option Place) → IsBelowNext (d ++ n ∷ []) o → o ≡ next_of (piles_in old.last mid.items)
+      → IfSome old.last (λ last. (place_cmp last (d ++ n ∷ []) ≡ Less) × IsAroundIf (d ++ n ∷ []) old.around × IsBelowNext (d ++ n ∷ []) (next_of (piles_in old.last mid.items)))
   cut_next o low same =
       subst (λ l. IfSome l (λ last. (place_cmp last (d ++ n ∷ []) ≡ Less) × IsAroundIf (d ++ n ∷ []) old.around × IsBelowNext (d ++ n ∷ []) (next_of (piles_in old.last mid.items)))) (sym there)
       (above_self d n [], around_on d n old.around here.object, subst (IsBelowNext (d ++ n ∷ [])) same low)
 
-  pub missing_next : (x : Place) → x ≡ d ++ n ∷ [] → (o : Option Place) → IsBelowNext x o → o ≡ next_of (piles_at d mid.items) → IfSome old.last (λ last. (place_cmp last x ≡ Less) × IsAroundIf x old.around × IsBelowNext x (next_of (piles_in old.last mid.items)))
+  pub missing_next : (x : Place) → x ≡ d ++ n ∷ [] → (o : Option Place) → IsBelowNext x o → o ≡ next_of (piles_at d mid.items)
+      → IfSome old.last (λ last. (place_cmp last x ≡ Less) × IsAroundIf x old.around × IsBelowNext x (next_of (piles_in old.last mid.items)))
   missing_next x own o low same =
       subst (λ y. IsBelowNext y o → IfSome old.last (λ last. (place_cmp last y ≡ Less) × IsAroundIf y old.around × IsBelowNext y (next_of (piles_in old.last mid.items)))) (sym own)
       (λ l. cut_next o l (same ∙ sym (ap (λ k. next_of (piles_in k mid.items)) there))) low
@@ -156,18 +161,21 @@ module _ (old : Stand) (d : Place) (n : Text) (mid : Listings) (there : old.last
     }
 
     top : IsTop d (piles_in old.last old.listings.items)
-    top = subst (λ l. IsTop d (piles_in l old.listings.items)) (sym there) (λ x rest e. top_here d old.listings.items x rest (subst (λ l. IsOrderly d (piles_in l old.listings.items) old.around) there here).chain e)
+    top = subst (λ l. IsTop d (piles_in l old.listings.items)) (sym there)
+        (λ x rest e. top_here d old.listings.items x rest (subst (λ l. IsOrderly d (piles_in l old.listings.items) old.around) there here).chain e)
 
     stands : IsStack root q (frames_of (piles_in old.last mid.items))
     stands = subst (λ ps. IsStack root q (frames_of ps)) (sym is) (cut_stack root d n q j (piles_in old.last old.listings.items) old.around here top st.stack)
 
-    pub cut_to_entry : (x : Place) → next_of (piles_in old.last mid.items) ≡ Some x → is_lt (place_cmp (d ++ n ∷ []) x) ≡ false → IsTurn root q x ((x, seen_names root x) ∷ popped (piles_in old.last mid.items))
+    pub cut_to_entry : (x : Place) → next_of (piles_in old.last mid.items) ≡ Some x → is_lt (place_cmp (d ++ n ∷ []) x) ≡ false
+        → IsTurn root q x ((x, seen_names root x) ∷ popped (piles_in old.last mid.items))
     cut_to_entry x e low = turn_entry root d n q j x low (piles_in old.last mid.items) e stands cut_held.listed
 
     module _ (o : Option Place) (low : IsBelowNext (d ++ n ∷ []) o) (same : o ≡ next_of (piles_in old.last mid.items)) where
       orderly_there : IsOrderly (d ++ n ∷ []) (piles_in old.last mid.items) old.around
       orderly_there =
-          orderly_on d (d ++ n ∷ []) (piles_in old.last mid.items) old.around (subst (λ ps. IsOrderly d ps old.around) (sym is) (cut_trimmed (length d) n d (piles_in old.last old.listings.items) old.around here)) (above_self d n [])
+          orderly_on d (d ++ n ∷ []) (piles_in old.last mid.items) old.around
+              (subst (λ ps. IsOrderly d ps old.around) (sym is) (cut_trimmed (length d) n d (piles_in old.last old.listings.items) old.around here)) (above_self d n [])
           (around_on d n old.around here.object) cut_trims (subst (IsBelowNext (d ++ n ∷ [])) same low)
 
       pub cut_unseen : seen root (d ++ n ∷ []) ≡ None
@@ -179,16 +187,19 @@ module _ (old : Stand) (d : Place) (n : Text) (mid : Listings) (there : old.last
       pub cut_held_there : IsHeld root (d ++ n ∷ []) (piles_in old.last mid.items) old.around
       cut_held_there = record { listed = cut_held.listed; entries = cut_held.entries; table = table_next root d n old.around st.table cut_unseen }
 
-    pub entry_turn : (x y : Place) → y ≡ d ++ n ∷ [] → (o : Option Place) → o ≡ next_of (piles_at d mid.items) → o ≡ Some x → is_lt (place_cmp y x) ≡ false → IsTurn root q x ((x, seen_names root x) ∷ popped (piles_in old.last mid.items))
+    pub entry_turn : (x y : Place) → y ≡ d ++ n ∷ [] → (o : Option Place) → o ≡ next_of (piles_at d mid.items) → o ≡ Some x → is_lt (place_cmp y x) ≡ false
+        → IsTurn root q x ((x, seen_names root x) ∷ popped (piles_in old.last mid.items))
     entry_turn x y own o next e low = cut_to_entry x (ap (λ l. next_of (piles_in l mid.items)) there ∙ sym next ∙ e) (subst (λ z. is_lt (place_cmp z x) ≡ false) own low)
 
-    pub missing_turn : (x : Place) → x ≡ d ++ n ∷ [] → (o : Option Place) → IsBelowNext x o → o ≡ next_of (piles_at d mid.items) → IsHeld root x (piles_in old.last mid.items) old.around × IsTurn root q x (frames_of (piles_in old.last mid.items)) × (seen root x ≡ None)
+    pub missing_turn : (x : Place) → x ≡ d ++ n ∷ [] → (o : Option Place) → IsBelowNext x o → o ≡ next_of (piles_at d mid.items)
+        → IsHeld root x (piles_in old.last mid.items) old.around × IsTurn root q x (frames_of (piles_in old.last mid.items)) × (seen root x ≡ None)
     missing_turn x own o low same =
         subst (λ y. IsBelowNext y o → IsHeld root y (piles_in old.last mid.items) old.around × IsTurn root q y (frames_of (piles_in old.last mid.items)) × (seen root y ≡ None)) (sym own)
         (λ l. let e = same ∙ sym (ap (λ k. next_of (piles_in k mid.items)) there) in (cut_held_there o l e, cut_to_path o l e, cut_unseen o l e)) low
 
 -- the listings once those before the name are let go
-pub mid_is : (p : Place) (old mid new : Listings) (k : ℕ) (d : Place) (n : Text) → ((q : Place) → piles_at q mid.items ≡ cut_top k n (piles_at q old.items)) → ((q : Place) → piles_at q new.items ≡ trimmed (piles_at q mid.items)) → k ≡ length d
+pub mid_is : (p : Place) (old mid new : Listings) (k : ℕ) (d : Place) (n : Text) → ((q : Place) → piles_at q mid.items ≡ cut_top k n (piles_at q old.items))
+    → ((q : Place) → piles_at q new.items ≡ trimmed (piles_at q mid.items)) → k ≡ length d
     → piles_at p new.items ≡ trimmed (cut_top (length d) n (piles_at p old.items))
 mid_is p old mid new k d n cuts trims deep = trims p ∙ ap trimmed (cuts p) ∙ ap (λ j. trimmed (cut_top j n (piles_at p old.items))) deep
 
@@ -212,13 +223,15 @@ module _ (old mid new : Stand) (x : Place) (same : mid.last ≡ old.last) (less 
   goes_at_missing (Ok step.End) g h = absurd h
 
 -- a step that leaves less
-pub goes_less : (old new : Stand) (x : Place) (r : Result Step Fault) → IfOk r (λ s. GoesAt old new s) → IfOk r (λ s. GoesTo new x s) → IfOk r (λ s. stand_size new < stand_size old) → IfOk r (λ s. GoesOn old new s)
+pub goes_less : (old new : Stand) (x : Place) (r : Result Step Fault) → IfOk r (λ s. GoesAt old new s) → IfOk r (λ s. GoesTo new x s)
+    → IfOk r (λ s. stand_size new < stand_size old) → IfOk r (λ s. GoesOn old new s)
 goes_less old new x (Err why) g h l = tt
 goes_less old new x (Ok (step.Item p)) g h l = (g.0, g.1, l, g.3)
 goes_less old new x (Ok step.Nothing) g h l = (g.0, g.1, g.2, l)
 goes_less old new x (Ok step.End) g h l = absurd h
 
-pub stays_before : (e : End) (old new : Stand) (x : Place) → is_past e x ≡ false → (r : Result Step Fault) → IfOk r (λ q. GoesAt old new q) → IfOk r (λ q. GoesTo new x q) → IfOk r (λ q. IsBefore e new q)
+pub stays_before : (e : End) (old new : Stand) (x : Place) → is_past e x ≡ false → (r : Result Step Fault) → IfOk r (λ q. GoesAt old new q)
+    → IfOk r (λ q. GoesTo new x q) → IfOk r (λ q. IsBefore e new q)
 stays_before e old new x n (Err why) g h = tt
 stays_before e old new x n (Ok (step.Item p)) g h = let same : p.place ≡ x = one (sym g.0 ∙ h) in ap (is_past e) same ∙ n
   where
@@ -227,7 +240,8 @@ stays_before e old new x n (Ok (step.Item p)) g h = let same : p.place ≡ x = o
 stays_before e old new x n (Ok step.Nothing) g h = tt
 stays_before e old new x n (Ok step.End) g h = tt
 
-pub steps_at : (root : StorageRoot) (s t : Store) (q x : Place) (e : End) (old new : Stand) (r : Result Step Fault) → IfOk r (λ p. GoesTo new x p) → StepsOutTo root s t (Some q) e new r → StepsAtTo root s t q e old new r
+pub steps_at : (root : StorageRoot) (s t : Store) (q x : Place) (e : End) (old new : Stand) (r : Result Step Fault) → IfOk r (λ p. GoesTo new x p)
+    → StepsOutTo root s t (Some q) e new r → StepsAtTo root s t q e old new r
 steps_at root s t q x e old new (Err why) g h = h
 steps_at root s t q x e old new (Ok (step.Item p)) g h = h
 steps_at root s t q x e old new (Ok step.Nothing) g h = h

@@ -47,7 +47,8 @@ not_none m (inr f) e = let two : made.Several ≡ made.None = sym f ∙ e in cc
 
 -- ---- on a store that tells its tree
 
-module _ (root : StorageRoot) (s t : Store) (d : Place) (n : Text) (inner : Folder) (k : ListsBelow root s t d n inner) (r : Place) (a : Option Around) (none : a ≡ None) (given : List Entry) (m : MadeDeclared) (same : given ≡ inner.entries.items)
+module _ (root : StorageRoot) (s t : Store) (d : Place) (n : Text) (inner : Folder) (k : ListsBelow root s t d n inner) (r : Place) (a : Option Around)
+    (none : a ≡ None) (given : List Entry) (m : MadeDeclared) (same : given ≡ inner.entries.items)
     (said : meaning level.Object given m ≡ declared level.Object (file_names given)) where
   pub hier_in : m ≡ made.None → Leads root s t d n r a a (Ok (Some inner))
   hier_in e =
@@ -66,7 +67,8 @@ module _ (root : StorageRoot) (s t : Store) (d : Place) (n : Text) (inner : Fold
         let some = not_none m e in
         let h = says some in
         let table = unknown_no_table root inner.place (ap is_known (sym h.says) ∙ no_known root inner.place inner.entries.items m h (inr e)) in
-        subst (λ x. Leads root s t d n r x x (Ok None)) (sym none) (leads_listed root s t d n r None k.over k.enters.did (shut_object root d n r (zone_here some) (ap (table_at root) (sym k.enters.is) ∙ table)))
+        subst (λ x. Leads root s t d n r x x (Ok None)) (sym none)
+            (leads_listed root s t d n r None k.over k.enters.did (shut_object root d n r (zone_here some) (ap (table_at root) (sym k.enters.is) ∙ table)))
 
     module _ (v : Version) (e : m ≡ made.One v) (u : Store) where
       some : m ≡ made.None → ⊥

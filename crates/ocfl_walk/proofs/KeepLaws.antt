@@ -29,7 +29,8 @@ all_above n m (e ∷ es) l h = by (is_lt (text_cmp n e.name)) (ap is_lt (text_cm
 above_first : (n : Text) (e : Entry) (es : List Entry) → IsAscending text_cmp (names_of (e ∷ es)) → is_lt (text_cmp n e.name) ≡ true → e ∷ es ≡ left_above n (e ∷ es)
 above_first n e es h l = ap (λ xs. e ∷ xs) (all_above n e.name es (less_from _ l) h.0) ∙ ap (λ b. cond b (e ∷ left_above n es) (left_above n es)) (sym l)
 
-pub keep_stop : (n : Text) (es : List Entry) (e : Entry) → Some e ≡ slice_get es (length es - 1) → IsAscending text_cmp (names_of (back (λ x. x) es)) → is_lt (text_cmp n e.name) ≡ true → back (λ x. x) es ≡ left_above n (back (λ x. x) es)
+pub keep_stop : (n : Text) (es : List Entry) (e : Entry) → Some e ≡ slice_get es (length es - 1) → IsAscending text_cmp (names_of (back (λ x. x) es))
+    → is_lt (text_cmp n e.name) ≡ true → back (λ x. x) es ≡ left_above n (back (λ x. x) es)
 keep_stop n es e last h l =
     let k = last_split es (Some e) last in
     let is : back (λ x. x) es ≡ e ∷ back (λ x. x) k.0 = ap (back (λ x. x)) k.1 ∙ back_push (λ x. x) k.0 e in
@@ -42,7 +43,8 @@ first_of : (x e : Entry) (xs es : List Entry) → x ∷ xs ≡ e ∷ es → x �
 first_of x e xs es h = cc
 
 -- the last entry is taken off, and does not lie above the name
-pub keep_drop : (n : Text) (es ys : List Entry) (o : Option Entry) (e : Entry) → Some e ≡ slice_get es (length es - 1) → es ≡ ys ++ option_to_list o → IsAscending text_cmp (names_of (back (λ x. x) es)) → is_lt (text_cmp n e.name) ≡ false
+pub keep_drop : (n : Text) (es ys : List Entry) (o : Option Entry) (e : Entry) → Some e ≡ slice_get es (length es - 1) → es ≡ ys ++ option_to_list o
+    → IsAscending text_cmp (names_of (back (λ x. x) es)) → is_lt (text_cmp n e.name) ≡ false
     → IsAscending text_cmp (names_of (back (λ x. x) ys)) × (left_above n (back (λ x. x) ys) ≡ left_above n (back (λ x. x) es))
 keep_drop n es ys None e last h a l =
     let same : es ≡ ys = h ∙ append-nil ys in
@@ -63,7 +65,8 @@ pub above_names : (n : Text) (es : List Entry) → names_of (left_above n es) �
 above_names n [] = refl
 above_names n (e ∷ es) = by (is_lt (text_cmp n e.name)) (above_names n es)
   where
-    by : (b : Bool) → names_of (left_above n es) ≡ filter (λ m. is_lt (text_cmp n m)) (names_of es) → names_of (cond b (e ∷ left_above n es) (left_above n es)) ≡ cond b (e.name ∷ filter (λ m. is_lt (text_cmp n m)) (names_of es)) (filter (λ m. is_lt (text_cmp n m)) (names_of es))
+    by : (b : Bool) → names_of (left_above n es) ≡ filter (λ m. is_lt (text_cmp n m)) (names_of es)
+        → names_of (cond b (e ∷ left_above n es) (left_above n es)) ≡ cond b (e.name ∷ filter (λ m. is_lt (text_cmp n m)) (names_of es)) (filter (λ m. is_lt (text_cmp n m)) (names_of es))
     by true h = ap (λ xs. e.name ∷ xs) h
     by false h = h
 

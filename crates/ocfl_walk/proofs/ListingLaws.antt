@@ -148,7 +148,8 @@ kind_among ns (e ∷ es) n k h is = by (text_eq e.name n) refl is (kind_among ns
     by true t j more = subst (IsAmong ns) ((text_eq-Decides e.name n).0 t) h.0
     by false t j more = more j
 
-pub names_back : (root : StorageRoot) (d : Place) (es fs : List Entry) → IsOrdinary es → IsListing root d es → IsPermutation es fs → IsSorted (λ e f. text_cmp f.name e.name) fs → names_of (back (λ e. e) fs) ≡ names_in root d
+pub names_back : (root : StorageRoot) (d : Place) (es fs : List Entry) → IsOrdinary es → IsListing root d es → IsPermutation es fs
+    → IsSorted (λ e f. text_cmp f.name e.name) fs → names_of (back (λ e. e) fs) ≡ names_in root d
 names_back root d es fs ordinary h moved sorted =
     names_sorted root d (names_of (back (λ e. e) fs)) (rises_back es fs ordinary moved sorted)
     (λ n. (name_leads root d (back (λ e. e) fs) n (entries_back root d es fs ordinary h moved), named n))

@@ -20,14 +20,16 @@ use Rattle.ocfl_audit.proofs.StepLaws.{zone_step}
 
 -- below the hierarchy an object begins at its own place
 pub own_head : (root : StorageRoot) (d : Place) (n : Text) → zone root d ≡ hierarchy → (o s : Place) → zone root (d ++ n ∷ []) ≡ inside o s → (o ≡ d ++ n ∷ []) × (s ≡ [])
-own_head root d n h o s e = by (is_extensions root d n) (is_declared (object_declared root (d ++ n ∷ []))) (sym (zone_step root d n ∙ ap (λ z. cond (is_extensions root d n) skipped (step_zone root d n z)) h) ∙ e)
+own_head root d n h o s e = by (is_extensions root d n) (is_declared (object_declared root (d ++ n ∷ [])))
+    (sym (zone_step root d n ∙ ap (λ z. cond (is_extensions root d n) skipped (step_zone root d n z)) h) ∙ e)
   where
     by : (a b : Bool) → cond a skipped (cond b (inside (d ++ n ∷ []) []) hierarchy) ≡ inside o s → (o ≡ d ++ n ∷ []) × (s ≡ [])
     by true b f = absurd cc
     by false true f = (cc, cc)
     by false false f = absurd cc
 
-pub table_met : (root : StorageRoot) (d x : Place) (entry : Entry) (a : Option Around) (table : Option Table) → IsMet root d a entry x → IsTableAt root x table → IsTableAround root x (around_of a x table)
+pub table_met : (root : StorageRoot) (d x : Place) (entry : Entry) (a : Option Around) (table : Option Table) → IsMet root d a entry x → IsTableAt root x table
+    → IsTableAround root x (around_of a x table)
 table_met root d x entry a (Some t) m h = ([], h.0, h.1)
 table_met root d x entry None None m h = λ o s e.
     let own = own_head root d entry.name m.part o s (sym (ap (zone root) m.is) ∙ e) in

@@ -38,7 +38,8 @@ begins_on d e p h k =
     let s = begins_rest e p k in
     subst (λ x. begins d x ≡ true) (sym (s.1 ∙ ap (λ x. x ++ s.0) r.1 ∙ append_assoc d r.0 s.0)) (begins_front d (r.0 ++ s.0))
 
-before_longer : (d p d' : Place) (ns : List Text) → begins d p ≡ true → length d' < length d → IsBeforeAll place_cmp d (map (λ n. d' ++ n ∷ []) ns) → IsBeforeAll place_cmp p (map (λ n. d' ++ n ∷ []) ns)
+before_longer : (d p d' : Place) (ns : List Text) → begins d p ≡ true → length d' < length d → IsBeforeAll place_cmp d (map (λ n. d' ++ n ∷ []) ns)
+    → IsBeforeAll place_cmp p (map (λ n. d' ++ n ∷ []) ns)
 before_longer d p d' [] h l b = tt
 before_longer d p d' (n ∷ ns) h l b =
     let r = begins_rest d p h in
@@ -61,7 +62,8 @@ few_trimmed : (ps : List Pile) → AllByRecursion (λ p. length p.1 ≤ 1000000)
 few_trimmed [] h = h
 few_trimmed (q ∷ ps) h = by q.0 q.1 h.0 h.1 (few_trimmed ps h.1)
   where
-    by : (d : Place) (es : List Entry) → length es ≤ 1000000 → AllByRecursion (λ p. length p.1 ≤ 1000000) ps → AllByRecursion (λ p. length p.1 ≤ 1000000) (trimmed ps) → AllByRecursion (λ p. length p.1 ≤ 1000000) (trimmed_from d es (trimmed ps) ps)
+    by : (d : Place) (es : List Entry) → length es ≤ 1000000 → AllByRecursion (λ p. length p.1 ≤ 1000000) ps
+        → AllByRecursion (λ p. length p.1 ≤ 1000000) (trimmed ps) → AllByRecursion (λ p. length p.1 ≤ 1000000) (trimmed_from d es (trimmed ps) ps)
     by d [] k m l = l
     by d (e ∷ es) k m l = (k, m)
 
@@ -111,10 +113,12 @@ module _ (last : Place) (ps new : List Pile) (entry : Entry) (a : Option Around)
   entry_short x e = omega (arith, ap length e, length_one t.place entry.name, old_chain.1)
 
   new_few : AllByRecursion (λ p. length p.1 ≤ 1000000) new
-  new_few = let f = subst (AllByRecursion (λ p. length p.1 ≤ 1000000)) t.old_is h.few in let n : length t.rest ≤ 1000000 = omega (arith, f.0) in subst (AllByRecursion (λ p. length p.1 ≤ 1000000)) (sym t.new_is) (n, f.1)
+  new_few = let f = subst (AllByRecursion (λ p. length p.1 ≤ 1000000)) t.old_is h.few in let n : length t.rest ≤ 1000000 = omega (arith, f.0) in subst
+      (AllByRecursion (λ p. length p.1 ≤ 1000000)) (sym t.new_is) (n, f.1)
 
   chain_at_entry : (k : ℕ) → length t.place < k → IsChain (t.place ++ entry.name ∷ []) k (frames_of new)
-  chain_at_entry k l = subst (λ qs. IsChain (t.place ++ entry.name ∷ []) k (frames_of qs)) (sym t.new_is) (begins_front t.place (entry.name ∷ []), l, before_names t.place entry.name (map (λ e. e.name) t.rest) old_chain.3.0, old_chain.3.1, old_chain.4)
+  chain_at_entry k l = subst (λ qs. IsChain (t.place ++ entry.name ∷ []) k (frames_of qs)) (sym t.new_is)
+      (begins_front t.place (entry.name ∷ []), l, before_names t.place entry.name (map (λ e. e.name) t.rest) old_chain.3.0, old_chain.3.1, old_chain.4)
 
   pub orderly_entry : (x : Place) → x ≡ t.place ++ entry.name ∷ [] → (f : Option Folder) → IfSome f (λ g. IsFairPile x g) → (a' : Option Around) → IsAroundIf x a' → IsOrderly x (pushed f new) a'
   orderly_entry x e None g a' h' = record { chain = subst (λ y. IsChain y 128 (frames_of new)) (sym e) (chain_at_entry 128 old_chain.1); few = new_few; object = h' }

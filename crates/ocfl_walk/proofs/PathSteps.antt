@@ -74,7 +74,8 @@ fewer : (f g : Place → Bool) (ps : List Place) (q : Place) → ((q : Place) �
 fewer f g [] q h i e k = absurd i
 fewer f g (p ∷ ps) q h i e k = by (f p) (g p) refl refl i (fewer_or_same f g ps h) (λ j. fewer f g ps q h j e k)
   where
-    by : (a b : Bool) → f p ≡ a → g p ≡ b → IsAmong (p ∷ ps) q → length (filter g ps) ≤ length (filter f ps) → (IsAmong ps q → length (filter g ps) < length (filter f ps)) → length (cond b (p ∷ filter g ps) (filter g ps)) < length (cond a (p ∷ filter f ps) (filter f ps))
+    by : (a b : Bool) → f p ≡ a → g p ≡ b → IsAmong (p ∷ ps) q → length (filter g ps) ≤ length (filter f ps)
+        → (IsAmong ps q → length (filter g ps) < length (filter f ps)) → length (cond b (p ∷ filter g ps) (filter g ps)) < length (cond a (p ∷ filter f ps) (filter f ps))
     by a b u v (inl w) l m = here a b (sym u ∙ ap f (sym w) ∙ e) (sym v ∙ ap g (sym w) ∙ k) l
       where
         here : (a b : Bool) → a ≡ true → b ≡ false → length (filter g ps) ≤ length (filter f ps) → length (cond b (p ∷ filter g ps) (filter g ps)) < length (cond a (p ∷ filter f ps) (filter f ps))
@@ -102,7 +103,8 @@ module _ (last b : Place) (ps : List Pile) (a : Option Around) (h : IsOrderly la
     where
       paths : (a : Option Around) → paths_above b a ≤ paths_above last a
       paths None = omega arith
-      paths (Some o) = fewer_or_same (λ q. is_lt (place_cmp last (o.place ++ q))) (λ q. is_lt (place_cmp b (o.place ++ q))) (paths_of o.table) (λ q u. ap is_lt (place_cmp_total.trans last b (o.place ++ q) over (less_from _ u)))
+      paths (Some o) = fewer_or_same (λ q. is_lt (place_cmp last (o.place ++ q))) (λ q. is_lt (place_cmp b (o.place ++ q))) (paths_of o.table)
+          (λ q u. ap is_lt (place_cmp_total.trans last b (o.place ++ q) over (less_from _ u)))
 
   pub orderly_on : IsAroundIf b a → trimmed ps ≡ ps → IsBelowNext b (next_of ps) → IsOrderly b ps a
   orderly_on object t n = record { chain = chain ps t n h.chain; few = h.few; object = object }
@@ -111,11 +113,13 @@ module _ (last b : Place) (ps : List Pile) (a : Option Around) (h : IsOrderly la
       chain [] t n c = tt
       chain (q ∷ ps) t n c = by q.0 q.1 t n c
         where
-          by : (d : Place) (es : List Entry) → trimmed ((d, es) ∷ ps) ≡ (d, es) ∷ ps → IsBelowNext b (next_of ((d, es) ∷ ps)) → IsChain last 128 ((d, map (λ e. e.name) es) ∷ frames_of ps) → IsChain b 128 ((d, map (λ e. e.name) es) ∷ frames_of ps)
+          by : (d : Place) (es : List Entry) → trimmed ((d, es) ∷ ps) ≡ (d, es) ∷ ps → IsBelowNext b (next_of ((d, es) ∷ ps))
+              → IsChain last 128 ((d, map (λ e. e.name) es) ∷ frames_of ps) → IsChain b 128 ((d, map (λ e. e.name) es) ∷ frames_of ps)
           by d [] t n c = absurd (head_some ((d, []) ∷ ps) ps d t)
           by d (e ∷ es) t n c =
               let r = begins_rest d last c.0 in
-              (begins_between d r.0 (e.name ∷ []) b (subst (λ x. place_cmp x b ≡ Less) r.1 over) n, c.1, (n, above_all b (d ++ e.name ∷ []) (map (λ m. d ++ m ∷ []) (map (λ x. x.name) es)) n (names d e.name (map (λ x. x.name) es) c.3.0)), c.3, c.4)
+              (begins_between d r.0 (e.name ∷ []) b (subst (λ x. place_cmp x b ≡ Less) r.1 over) n, c.1,
+                  (n, above_all b (d ++ e.name ∷ []) (map (λ m. d ++ m ∷ []) (map (λ x. x.name) es)) n (names d e.name (map (λ x. x.name) es) c.3.0)), c.3, c.4)
             where
               names : (d : Place) (n : Text) (ns : List Text) → IsBeforeAll text_cmp n ns → IsBeforeAll place_cmp (d ++ n ∷ []) (map (λ m. d ++ m ∷ []) ns)
               names d n ns g = before_names d n ns g

@@ -17,14 +17,16 @@ use Rattle.ocfl_item.specs.declared.folder.Folder.{Folder}
 use Rattle.ocfl_walk.proofs.Backs.{next_of_last, piles_push, taken_at, trim_drops_by, trim_keeps_by}
 use Rattle.ocfl_walk.proofs.OrderlyLaws.{back_count, chain_short, frames_count, length_one}
 
-push_from : (i : ℕ) (p : Place) (vs : List (Vec Entry Global)) (v : Vec Entry Global) → folders_from i p (vs ++ v ∷ []) ≡ folders_from i p vs ++ record { place = take (i + length vs) p; entries = v } ∷ []
+push_from : (i : ℕ) (p : Place) (vs : List (Vec Entry Global)) (v : Vec Entry Global)
+    → folders_from i p (vs ++ v ∷ []) ≡ folders_from i p vs ++ record { place = take (i + length vs) p; entries = v } ∷ []
 push_from i p [] v = let e : i ≡ i + 0 = omega arith in ap (λ k. record { place = take k p; entries = v } ∷ []) e
 push_from i p (w ∷ vs) v =
     let e : suc i + length vs ≡ i + length (w ∷ vs) = omega arith in
     ap (λ fs. record { place = take i p; entries = w } ∷ fs) (push_from (suc i) p vs v ∙ ap (λ k. folders_from (suc i) p vs ++ record { place = take k p; entries = v } ∷ []) e)
 
 -- a listing more
-pub folders_push : (p : Place) (vs ws : List (Vec Entry Global)) (v : Vec Entry Global) → ws ≡ vs ++ v ∷ [] → folders_from 0 p ws ≡ folders_from 0 p vs ++ record { place = take (length vs) p; entries = v } ∷ []
+pub folders_push : (p : Place) (vs ws : List (Vec Entry Global)) (v : Vec Entry Global) → ws ≡ vs ++ v ∷ []
+    → folders_from 0 p ws ≡ folders_from 0 p vs ++ record { place = take (length vs) p; entries = v } ∷ []
 folders_push p vs ws v e =
     let none : 0 + length vs ≡ length vs = omega arith in
     ap (folders_from 0 p) e ∙ push_from 0 p vs v ∙ ap (λ k. folders_from 0 p vs ++ record { place = take k p; entries = v } ∷ []) none
@@ -40,7 +42,8 @@ folders_same : (i : ℕ) (p q : Place) (vs : List (Vec Entry Global)) → ((k : 
 folders_same i p q [] h = refl
 folders_same i p q (v ∷ vs) h =
     let here : take i p ≡ take i q = h i (omega arith) in
-    ap (λ d. record { place = d; entries = v } ∷ folders_from (suc i) p vs) here ∙ ap (λ fs. record { place = take i q; entries = v } ∷ fs) (folders_same (suc i) p q vs (λ k l. h k (omega (arith, l))))
+    ap (λ d. record { place = d; entries = v } ∷ folders_from (suc i) p vs) here
+        ∙ ap (λ fs. record { place = take i q; entries = v } ∷ fs) (folders_same (suc i) p q vs (λ k l. h k (omega (arith, l))))
 
 -- the last place has a name for each listing but the first
 pub chain_deep : (p : Place) (k : ℕ) (vs : List (Vec Entry Global)) → IsChain p k (frames_of (piles_at p vs)) → length vs ≤ suc (length p)
@@ -75,10 +78,12 @@ folders_none p vs e = ap (folders_from 0 p) e
 
 -- ---- the next entry
 
-pub next_at : (p : Place) (vs above xs : List (Vec Entry Global)) (v : Vec Entry Global) (es : List Entry) (o : Option Entry) → xs ≡ vs → xs ≡ above ++ v ∷ [] → es ≡ v.items → o ≡ slice_get es (length es - 1)
+pub next_at : (p : Place) (vs above xs : List (Vec Entry Global)) (v : Vec Entry Global) (es : List Entry) (o : Option Entry) → xs ≡ vs → xs ≡ above ++ v ∷ []
+    → es ≡ v.items → o ≡ slice_get es (length es - 1)
     → next_of (piles_at p vs) ≡ option_map (λ e. take (length above) p ++ e.name ∷ []) o
 next_at p vs above xs v es o same split items last =
-    next_of_last (folders_from 0 p above) (folders_from 0 p vs) (record { place = take (length above) p; entries = v }) o (folders_push p above vs v (sym same ∙ split)) (subst (λ ys. o ≡ slice_get ys (length ys - 1)) items last)
+    next_of_last (folders_from 0 p above) (folders_from 0 p vs) (record { place = take (length above) p; entries = v }) o
+        (folders_push p above vs v (sym same ∙ split)) (subst (λ ys. o ≡ slice_get ys (length ys - 1)) items last)
 
 -- ---- whether the next entry lies at a place
 
@@ -110,7 +115,8 @@ module _ (last x d : Place) (n m : Text) (k : ℕ) (is : x ≡ d ++ n ∷ []) (o
 pub taken_here : (p : Place) (vs old new : List (Vec Entry Global)) (v w : Vec Entry Global) (o : Option Entry) → old ≡ vs ++ v ∷ [] → new ≡ vs ++ w ∷ [] → v.items ≡ w.items ++ option_to_list o
     → MatchOption o ((vec_len v ≡ 0) × (vec_len w ≡ 0)) (λ _. vec_len w + 1 ≡ vec_len v) → MatchOption o (next_of (piles_at p old) ≡ None) (λ entry. IsTaken (piles_at p old) (piles_at p new) entry)
 taken_here p vs old new v w o h k e n =
-    taken_at (folders_from 0 p vs) (folders_from 0 p old) (folders_from 0 p new) (record { place = take (length vs) p; entries = v }) (record { place = take (length vs) p; entries = w }) o (folders_push p vs old v h) (folders_push p vs new w k) refl e n
+    taken_at (folders_from 0 p vs) (folders_from 0 p old) (folders_from 0 p new) (record { place = take (length vs) p; entries = v })
+        (record { place = take (length vs) p; entries = w }) o (folders_push p vs old v h) (folders_push p vs new w k) refl e n
 
 pub same_count : {A : Type 0} (vs old new : List A) (v w : A) → old ≡ vs ++ v ∷ [] → new ≡ vs ++ w ∷ [] → length new ≡ length old
 same_count vs old new v w h k = ap length k ∙ length-append vs (w ∷ []) ∙ sym (ap length h ∙ length-append vs (v ∷ []))
@@ -123,11 +129,13 @@ pushed_at p vs ws f e place count =
 
 -- ---- listings that are let go
 
-pub trim_keeps_at : (p : Place) (vs old new : List (Vec Entry Global)) (v : Vec Entry Global) (b : Bool) → old ≡ vs ++ v ∷ [] → new ≡ vs ++ v ∷ [] → b ≡ (vec_len v == 0) → b ≡ false → piles_at p new ≡ trimmed (piles_at p old)
+pub trim_keeps_at : (p : Place) (vs old new : List (Vec Entry Global)) (v : Vec Entry Global) (b : Bool) → old ≡ vs ++ v ∷ [] → new ≡ vs ++ v ∷ []
+    → b ≡ (vec_len v == 0) → b ≡ false → piles_at p new ≡ trimmed (piles_at p old)
 trim_keeps_at p vs old new v b h k e n =
     trim_keeps_by (folders_from 0 p vs) (folders_from 0 p old) (folders_from 0 p new) (record { place = take (length vs) p; entries = v }) b (folders_push p vs old v h) (folders_push p vs new v k) e n
 
-pub trim_drops_at : (p : Place) (vs old : List (Vec Entry Global)) (v : Vec Entry Global) (b : Bool) → old ≡ vs ++ v ∷ [] → b ≡ (vec_len v == 0) → b ≡ true → trimmed (piles_at p vs) ≡ trimmed (piles_at p old)
+pub trim_drops_at : (p : Place) (vs old : List (Vec Entry Global)) (v : Vec Entry Global) (b : Bool) → old ≡ vs ++ v ∷ [] → b ≡ (vec_len v == 0) → b ≡ true
+    → trimmed (piles_at p vs) ≡ trimmed (piles_at p old)
 trim_drops_at p vs old v b h e n = trim_drops_by (folders_from 0 p vs) (folders_from 0 p old) (record { place = take (length vs) p; entries = v }) b (folders_push p vs old v h) e n
 
 -- ---- what lies before a name in the deepest listing
@@ -143,7 +151,8 @@ begins_later p vs k n l = by (piles_at p vs) (piles_count p vs)
         go true f = absurd (let m = leb-true k (length ps) f in omega (arith, e, l, m))
         go false f = refl
 
-pub begins_here : (p : Place) (vs old new : List (Vec Entry Global)) (v w : Vec Entry Global) (k : ℕ) (n : Text) → old ≡ vs ++ v ∷ [] → new ≡ vs ++ w ∷ [] → k < length old → back (λ x. x) w.items ≡ from_name n (back (λ x. x) v.items)
+pub begins_here : (p : Place) (vs old new : List (Vec Entry Global)) (v w : Vec Entry Global) (k : ℕ) (n : Text) → old ≡ vs ++ v ∷ [] → new ≡ vs ++ w ∷ []
+    → k < length old → back (λ x. x) w.items ≡ from_name n (back (λ x. x) v.items)
     → piles_at p new ≡ cut_top k n (piles_at p old)
 begins_here p vs old new v w k n h e l same =
     piles_push (folders_from 0 p vs) (folders_from 0 p new) (record { place = take (length vs) p; entries = w }) (folders_push p vs new w e)
@@ -177,7 +186,8 @@ some_count : (p : Place) (vs : List (Vec Entry Global)) (q : Pile) (ps : List Pi
 some_count p vs q ps is = let n = piles_count p vs in let m : length (piles_at p vs) ≡ length (q ∷ ps) = ap length is in omega (arith, n, m)
 
 -- the deepest listing is that of the last place, or of a directory above it
-pub top_here : (d : Place) (vs : List (Vec Entry Global)) (x : Pile) (rest : List Pile) → IsChain d 128 (frames_of (piles_at d vs)) → piles_at d vs ≡ x ∷ rest → (nat_le (length d) (length rest) ≡ true → x.0 ≡ d) × (nat_le (length d) (length rest) ≡ false → length x.0 < length d)
+pub top_here : (d : Place) (vs : List (Vec Entry Global)) (x : Pile) (rest : List Pile) → IsChain d 128 (frames_of (piles_at d vs)) → piles_at d vs ≡ x ∷ rest
+    → (nat_le (length d) (length rest) ≡ true → x.0 ≡ d) × (nat_le (length d) (length rest) ≡ false → length x.0 < length d)
 top_here d vs x rest c is = (whole, (λ e. let m = leb-false (length d) (length rest) e in let l = ap length top ∙ length-take-le (length rest) d (omega (arith, m)) in omega (arith, l, m)))
   where
     many : length vs ≡ suc (length rest)
@@ -209,7 +219,8 @@ module _ (p x : Place) (old new : List (Vec Entry Global)) (entry : Entry) (a : 
   top = top_place p old n (t.place, entry ∷ t.rest) t.others many t.old_is
 
   pub entry_shared : piles_at x new ≡ piles_at p new
-  entry_shared = ap piles_of (sym (folders_shared p x new n (count ∙ many) deep (subst (λ y. begins (take n p) y ≡ true) (sym (e ∙ ap (λ d. d ++ entry.name ∷ []) top)) (begins_front (take n p) (entry.name ∷ [])))))
+  entry_shared = ap piles_of (sym
+      (folders_shared p x new n (count ∙ many) deep (subst (λ y. begins (take n p) y ≡ true) (sym (e ∙ ap (λ d. d ++ entry.name ∷ []) top)) (begins_front (take n p) (entry.name ∷ [])))))
 
   pub entry_depth : length x ≡ length new
   entry_depth =
@@ -219,7 +230,8 @@ module _ (p x : Place) (old new : List (Vec Entry Global)) (entry : Entry) (a : 
       omega (arith, l, d, m, count)
 
   -- its listing goes on top
-  pub entry_pushed : (ws : List (Vec Entry Global)) (f : Option Folder) → IfSome f (λ g. IsFairPile x g) → ((q : Place) → IfSome f (λ g. (g.place ≡ q) × (length q ≡ length new)) → piles_at q ws ≡ pushed f (piles_at q new)) → piles_at x ws ≡ pushed f (piles_at p new)
+  pub entry_pushed : (ws : List (Vec Entry Global)) (f : Option Folder) → IfSome f (λ g. IsFairPile x g)
+      → ((q : Place) → IfSome f (λ g. (g.place ≡ q) × (length q ≡ length new)) → piles_at q ws ≡ pushed f (piles_at q new)) → piles_at x ws ≡ pushed f (piles_at p new)
   entry_pushed ws f fair push = push x (fits f fair) ∙ ap (pushed f) entry_shared
     where
       fits : (f : Option Folder) → IfSome f (λ g. IsFairPile x g) → IfSome f (λ g. (g.place ≡ x) × (length x ≡ length new))

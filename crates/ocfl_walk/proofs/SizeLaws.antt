@@ -36,7 +36,8 @@ module _ (w : ℕ) (positive : 0 < w) where
   level : (k : ℕ) → k ≤ 127 → (j : ℕ) × (128 - k ≡ suc j) × (128 - suc k ≡ j)
   level k h = (127 - k, omega (arith, h), omega (arith, h))
 
-  weigh_entry : (others : List Pile) (d : Place) (entry : Entry) (rest : List Entry) (f : Option Folder) (p q : ℕ) → length others ≤ 127 → IfSome f (λ g. length (left_of_folder g) ≤ 1000000) → 1000000 + p < w
+  weigh_entry : (others : List Pile) (d : Place) (entry : Entry) (rest : List Entry) (f : Option Folder) (p q : ℕ) → length others ≤ 127
+      → IfSome f (λ g. length (left_of_folder g) ≤ 1000000) → 1000000 + p < w
       → weigh w (pushed f ((d, rest) ∷ others)) + p < weigh w ((d, entry ∷ rest) ∷ others) + q
   weigh_entry others d entry rest f p q short few small = by f few
     where
@@ -83,7 +84,8 @@ few_paths : (x : Place) (a : Option Around) → IsAroundIf x a → paths_above x
 few_paths x None h = omega arith
 few_paths x (Some o) h = let n = kept (λ q. is_lt (place_cmp x (o.place ++ q))) (paths_of o.table) in omega (arith, n, count_paths o.table.triples, h.fit.few)
 
-pub size_entry : (last x : Place) (ps new : List Pile) (entry : Entry) (a a' : Option Around) (f : Option Folder) → IsOrderly last ps a → IsTaken ps new entry → IsAroundIf x a' → IfSome f (λ g. IsFairPile x g) → size_of (Some x) (pushed f new) a' < size_of (Some last) ps a
+pub size_entry : (last x : Place) (ps new : List Pile) (entry : Entry) (a a' : Option Around) (f : Option Folder) → IsOrderly last ps a → IsTaken ps new entry
+    → IsAroundIf x a' → IfSome f (λ g. IsFairPile x g) → size_of (Some x) (pushed f new) a' < size_of (Some last) ps a
 unfolding size_of entry_weight
 size_entry last x ps new entry a a' f h t h' g =
     let c = old_chain last ps new entry a h t in
@@ -97,7 +99,8 @@ size_entry last x ps new entry a a' f h t h' g =
     few None k = k
     few (Some y) k = k.few
 
-pub goes_to : (old new : Stand) (x : Place) (item : Option Pending) → IfSome item (λ p. p.place ≡ x) → new.last ≡ Some x → IsBeyond old.last x → stand_size new < stand_size old → length x ≤ 255 → GoesOn old new (step_from item)
+pub goes_to : (old new : Stand) (x : Place) (item : Option Pending) → IfSome item (λ p. p.place ≡ x) → new.last ≡ Some x → IsBeyond old.last x
+    → stand_size new < stand_size old → length x ≤ 255 → GoesOn old new (step_from item)
 goes_to old new x None i l o s d = (x, l, o, s)
 goes_to old new x (Some p) i l o s d = (l ∙ ap (λ y. Some y) (sym i), subst (IsBeyond old.last) (sym i) o, s, subst (λ y. length y ≤ 255) (sym i) d)
 
@@ -105,6 +108,9 @@ pub goes_here : (new : Stand) (x : Place) (item : Option Pending) → new.last �
 goes_here new x None l = l
 goes_here new x (Some p) l = l
 
-pub sizes_fall : (old new : Stand) (p x : Place) (ps qs : List Pile) (a a' : Option Around) → old.last ≡ Some p → piles_in old.last old.listings.items ≡ ps → old.around ≡ a → new.last ≡ Some x → piles_in new.last new.listings.items ≡ qs → new.around ≡ a' → size_of (Some x) qs a' < size_of (Some p) ps a → stand_size new < stand_size old
+pub sizes_fall : (old new : Stand) (p x : Place) (ps qs : List Pile) (a a' : Option Around) → old.last ≡ Some p → piles_in old.last old.listings.items ≡ ps
+    → old.around ≡ a → new.last ≡ Some x → piles_in new.last new.listings.items ≡ qs → new.around ≡ a' → size_of (Some x) qs a' < size_of (Some p) ps a → stand_size new < stand_size old
 unfolding stand_size
-sizes_fall old new p x ps qs a a' e1 e2 e3 f1 f2 f3 h = (subst (λ n. n < size_of old.last (piles_in old.last old.listings.items) old.around) (λ i. size_of (sym f1 i) (sym f2 i) (sym f3 i)) (subst (λ n. size_of (Some x) qs a' < n) (λ i. size_of (sym e1 i) (sym e2 i) (sym e3 i)) h))
+sizes_fall old new p x ps qs a a' e1 e2 e3 f1 f2 f3 h =
+    (subst (λ n. n < size_of old.last (piles_in old.last old.listings.items) old.around) (λ i. size_of (sym f1 i) (sym f2 i) (sym f3 i))
+    (subst (λ n. size_of (Some x) qs a' < n) (λ i. size_of (sym e1 i) (sym e2 i) (sym e3 i)) h))

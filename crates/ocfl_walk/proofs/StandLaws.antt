@@ -66,7 +66,8 @@ module _ (root : StorageRoot) where
       }
       by (Some g) e = record {
         stack = subst (λ d. IsStack root x ((d, left_names g) ∷ frames_of new)) (sym e.0) (subst (λ ns. IsStack root x ((x, ns) ∷ frames_of new)) (sym e.1) stack);
-        listed = subst (λ d. IsListed root ((d, left_names g) ∷ frames_of new)) (sym e.0) (subst (λ ns. IsListed root ((x, ns) ∷ frames_of new)) (sym e.1) (listed_own x (seen_names root x) (frames_of new) listed refl));
+        listed = subst (λ d. IsListed root ((d, left_names g) ∷ frames_of new)) (sym e.0)
+            (subst (λ ns. IsListed root ((x, ns) ∷ frames_of new)) (sym e.1) (listed_own x (seen_names root x) (frames_of new) listed refl));
         entries = (subst (λ d. AreEntries root d (left_of_folder g)) (sym e.0) e.2, entries);
         table = z;
       }
@@ -117,7 +118,8 @@ module _ (root : StorageRoot) (s t : Store) (last : Option Place) (e : End) (x :
   steps_out_to (Ok q) g l n h = step_out q g n h
   steps_out_to (Err why) g l n h = fails_out root s t t last x e l n why h
 
-pub stands_before : (e : End) (old new : Stand) (x : Place) → is_past e x ≡ false → (r : Result Step Fault) → IfOk r (λ q. GoesOn old new q) → IfOk r (λ q. GoesTo new x q) → IfOk r (λ q. IsBefore e new q)
+pub stands_before : (e : End) (old new : Stand) (x : Place) → is_past e x ≡ false → (r : Result Step Fault) → IfOk r (λ q. GoesOn old new q)
+    → IfOk r (λ q. GoesTo new x q) → IfOk r (λ q. IsBefore e new q)
 stands_before e old new x n (Err why) g h = tt
 stands_before e old new x n (Ok q) g h = by q g h
   where
@@ -152,7 +154,8 @@ module _ (root : StorageRoot) (s t u : Store) (last : Option Place) (e : End) (m
     so_far_step is = by f
       where
         by : SoFar root s t last e mid → SoFar root s u last e new
-        by (inl h) = inr (subst (λ x. (y : Place) × Walks root x u last (Some y) × StandsAt root new (Some y) × IsBeyond last y × (is_past e y ≡ false) × (due root last ≡ due root (Some y))) h.0 (next_step step.Nothing is last h.1))
+        by (inl h) = inr (subst (λ x. (y : Place) × Walks root x u last (Some y) × StandsAt root new (Some y) × IsBeyond last y × (is_past e y ≡ false)
+            × (due root last ≡ due root (Some y))) h.0 (next_step step.Nothing is last h.1))
         by (inr h) =
             let g = next_step step.Nothing is (Some h.0) h.2 in
             inr (g.0, walks_on root s t u last h.0 h.3 (Some g.0) (not_below h.0 g.0 g.3) h.1 g.1, g.2, after_on last h.0 g.0 h.3 g.3, g.4, h.5 ∙ g.5)

@@ -51,7 +51,8 @@ above_root d [] e = tt
 above_root d (n ∷ ns) e = (ap (λ y. place_cmp [] (y ++ n ∷ [])) e, above_root d ns e)
 
 pub orderly_first : (x : Place) (f : Option Folder) (ps : List Pile) (a : Option Around) → x ≡ [] → ps ≡ [] → a ≡ None → IfSome f (λ g. IsFairPile [] g) → IsOrderly x (pushed f ps) a
-orderly_first x f ps a e none alone h = subst (λ b. IsOrderly x (pushed f ps) b) (sym alone) (subst (λ qs. IsOrderly x (pushed f qs) None) (sym none) (subst (λ y. IsOrderly y (pushed f []) None) (sym e) (by f h)))
+orderly_first x f ps a e none alone h =
+    subst (λ b. IsOrderly x (pushed f ps) b) (sym alone) (subst (λ qs. IsOrderly x (pushed f qs) None) (sym none) (subst (λ y. IsOrderly y (pushed f []) None) (sym e) (by f h)))
   where
     by : (f : Option Folder) → IfSome f (λ g. IsFairPile [] g) → IsOrderly [] (pushed f []) None
     by None k = record { chain = tt; few = tt; object = tt }
@@ -84,11 +85,16 @@ module _ (w : ℕ) (big : 1000000 < w) where
 
 pub size_first : (x : Place) (f : Option Folder) (ps : List Pile) (a : Option Around) → ps ≡ [] → a ≡ None → IfSome f (λ g. IsFairPile [] g) → size_of (Some x) (pushed f ps) a < size_of None ps a
 unfolding size_of entry_weight
-size_first x f ps a none alone h = subst (λ b. size_of (Some x) (pushed f ps) b < size_of None ps b) (sym alone) (subst (λ qs. size_of (Some x) (pushed f qs) None < size_of None qs None) (sym none) (weight_first entry_weight (omega arith) f h))
+size_first x f ps a none alone h =
+    subst (λ b. size_of (Some x) (pushed f ps) b < size_of None ps b) (sym alone)
+    (subst (λ qs. size_of (Some x) (pushed f qs) None < size_of None qs None) (sym none) (weight_first entry_weight (omega arith) f h))
 
-pub size_begins : (old new : Stand) (x : Place) (ps qs : List Pile) (a a' : Option Around) → old.last ≡ None → piles_in old.last old.listings.items ≡ ps → old.around ≡ a → new.last ≡ Some x → piles_in new.last new.listings.items ≡ qs → new.around ≡ a' → size_of (Some x) qs a' < size_of None ps a → stand_size new < stand_size old
+pub size_begins : (old new : Stand) (x : Place) (ps qs : List Pile) (a a' : Option Around) → old.last ≡ None → piles_in old.last old.listings.items ≡ ps
+    → old.around ≡ a → new.last ≡ Some x → piles_in new.last new.listings.items ≡ qs → new.around ≡ a' → size_of (Some x) qs a' < size_of None ps a → stand_size new < stand_size old
 unfolding stand_size
-size_begins old new x ps qs a a' e1 e2 e3 f1 f2 f3 h = (subst (λ n. n < size_of old.last (piles_in old.last old.listings.items) old.around) (λ i. size_of (sym f1 i) (sym f2 i) (sym f3 i)) (subst (λ n. size_of (Some x) qs a' < n) (λ i. size_of (sym e1 i) (sym e2 i) (sym e3 i)) h))
+size_begins old new x ps qs a a' e1 e2 e3 f1 f2 f3 h =
+    (subst (λ n. n < size_of old.last (piles_in old.last old.listings.items) old.around) (λ i. size_of (sym f1 i) (sym f2 i) (sym f3 i))
+    (subst (λ n. size_of (Some x) qs a' < n) (λ i. size_of (sym e1 i) (sym e2 i) (sym e3 i)) h))
 
 pub root_short : (x : Place) → x ≡ [] → length x ≤ 255
 root_short x e = let n : length x ≡ length {A = Text} [] = ap length e in omega (arith, n)
@@ -99,7 +105,8 @@ item_first x (Some p) e h = h ∙ sym e
 
 module _ (root : StorageRoot) where
   pub first_stands : (x : Place) (f : Option Folder) (ps : List Pile) (a : Option Around) → x ≡ [] → ps ≡ [] → a ≡ None → IsPileAt root [] f → IsStanding root x (pushed f ps) a
-  first_stands x f ps a e none alone h = subst (λ b. IsStanding root x (pushed f ps) b) (sym alone) (subst (λ qs. IsStanding root x (pushed f qs) None) (sym none) (subst (λ y. IsStanding root y (pushed f []) None) (sym e) (by f h)))
+  first_stands x f ps a e none alone h =
+      subst (λ b. IsStanding root x (pushed f ps) b) (sym alone) (subst (λ qs. IsStanding root x (pushed f qs) None) (sym none) (subst (λ y. IsStanding root y (pushed f []) None) (sym e) (by f h)))
     where
       starts : IsStack root [] (([], seen_names root []) ∷ [])
       starts = stack_starts root (is_closed root) []
@@ -122,7 +129,8 @@ module _ (root : StorageRoot) where
   pub near_first : IsNear root None []
   near_first = record { beyond = tt; looked = looked_first root; read = read_first root ∙ sym (ap (λ b. on b []) (root_unread root)) }
 
-  pub step_first : (s t : Store) (x : Place) (new : Stand) (item : Option Pending) → x ≡ [] → Meets root s t [] → IsItemAt root [] item → StandsAt root new (Some x) → Steps root s t None new (step_from item)
+  pub step_first : (s t : Store) (x : Place) (new : Stand) (item : Option Pending) → x ≡ [] → Meets root s t [] → IsItemAt root [] item
+      → StandsAt root new (Some x) → Steps root s t None new (step_from item)
   step_first s t x new None e m i st = absurd (root_some root i)
   step_first s t x new (Some p) e m i st =
       let there : [] ≡ p.place = sym i.1 in (

@@ -1,4 +1,5 @@
--- One turn of the walk: what is next by the listings that are left and the table is what is next on a told tree.
+-- One turn of the walk: what is next by the listings that are left and the table is what is next on
+-- a told tree.
 use Rattle.std.proofs.Common.{◌≡◌, ◌≢◌, List, [], ◌∷◌, ◌++◌, refl, sym, ◌∙◌, ap, subst, true, false, Bool, map, filter, Option, Some, None, length, drop}
 use Rattle.std.specs.Prelude.{cond, option_map, find}
 use Rattle.std.specs.Ordering.{is_lt, match_ordering}
@@ -57,7 +58,8 @@ ascending_from p (q ∷ ps) h = let k = ascending_from q ps h.1 in by k.0 k.1 (p
   where
     by : (rest : List Place) → ascending place_cmp (q ∷ ps) ≡ q ∷ rest → (r : Ordering) → place_cmp p q ≡ r → r ≢ Greater → (more : List Place) × (ascending place_cmp (p ∷ q ∷ ps) ≡ p ∷ more)
     by rest e Less f n = (q ∷ rest, ap (insert_once place_cmp p) e ∙ ap (λ r. match_ordering r (p ∷ q ∷ rest) (q ∷ rest) (q ∷ insert_once place_cmp p rest)) f)
-    by rest e Equal f n = (rest, ap (insert_once place_cmp p) e ∙ ap (λ r. match_ordering r (p ∷ q ∷ rest) (q ∷ rest) (q ∷ insert_once place_cmp p rest)) f ∙ ap (λ x. x ∷ rest) (sym (place_cmp_exact p q f)))
+    by rest e Equal f n = (rest, ap (insert_once place_cmp p) e ∙ ap (λ r. match_ordering r (p ∷ q ∷ rest) (q ∷ rest) (q ∷ insert_once place_cmp p rest)) f
+        ∙ ap (λ x. x ∷ rest) (sym (place_cmp_exact p q f)))
     by rest e Greater f n = absurd (n refl)
 
 least_first : (s : Place) (ps : List Place) → Rises ps → first_of_list (filter (above s) (ascending place_cmp ps)) ≡ first_of_list (filter (above s) ps)
@@ -69,7 +71,8 @@ least_first s (p ∷ q ∷ ps) h = let k = ascending_from q ps h.1 in by k.0 k.1
     both true xs ys e = refl
     both false xs ys e = e
 
-    again : (b : Bool) (xs ys : List Place) → first_of_list (cond b (q ∷ xs) xs) ≡ first_of_list ys → (b ≡ true → first_of_list ys ≡ Some q) → first_of_list (cond b (q ∷ xs) xs) ≡ first_of_list (cond b (q ∷ ys) ys)
+    again : (b : Bool) (xs ys : List Place) → first_of_list (cond b (q ∷ xs) xs) ≡ first_of_list ys → (b ≡ true → first_of_list ys ≡ Some q)
+        → first_of_list (cond b (q ∷ xs) xs) ≡ first_of_list (cond b (q ∷ ys) ys)
     again true xs ys e f = refl
     again false xs ys e f = e
 
@@ -117,7 +120,8 @@ module _ (root : StorageRoot) where
   left_trimmed xs [] = refl
   left_trimmed xs (p ∷ ps) = by p.0 p.1 (left_trimmed xs ps)
     where
-      by : (d : Place) (es : List Entry) → seen_left xs (frames_of (trimmed ps)) ≡ seen_left xs (frames_of ps) → seen_left xs (frames_of (trimmed_from d es (trimmed ps) ps)) ≡ seen_left xs ((d, map (λ e. e.name) es) ∷ frames_of ps)
+      by : (d : Place) (es : List Entry) → seen_left xs (frames_of (trimmed ps)) ≡ seen_left xs (frames_of ps)
+          → seen_left xs (frames_of (trimmed_from d es (trimmed ps) ps)) ≡ seen_left xs ((d, map (λ e. e.name) es) ∷ frames_of ps)
       by d [] h = h
       by d (e ∷ es) h = refl
 
@@ -125,7 +129,8 @@ module _ (root : StorageRoot) where
   listed_trimmed [] h = h
   listed_trimmed (p ∷ ps) h = by p.0 p.1 h (listed_trimmed ps h.1)
     where
-      by : (d : Place) (es : List Entry) → IsListed root ((d, map (λ e. e.name) es) ∷ frames_of ps) → IsListed root (frames_of (trimmed ps)) → IsListed root (frames_of (trimmed_from d es (trimmed ps) ps))
+      by : (d : Place) (es : List Entry) → IsListed root ((d, map (λ e. e.name) es) ∷ frames_of ps) → IsListed root (frames_of (trimmed ps))
+          → IsListed root (frames_of (trimmed_from d es (trimmed ps) ps))
       by d [] k l = l
       by d (e ∷ es) k l = k
 
@@ -147,19 +152,23 @@ module _ (root : StorageRoot) where
 
   -- ---- the turn
 
-  turn_same : (ps : List Pile) (path : Option Place) → lesser (frames_of (trimmed ps)) (next_entry root (frames_of (trimmed ps))) path ≡ place_by root (trimmed ps) (turn_of (next_of (trimmed ps)) path)
+  turn_same : (ps : List Pile) (path : Option Place)
+      → lesser (frames_of (trimmed ps)) (next_entry root (frames_of (trimmed ps))) path ≡ place_by root (trimmed ps) (turn_of (next_of (trimmed ps)) path)
   turn_same [] None = refl
   turn_same [] (Some b) = refl
   turn_same (p ∷ ps) path = by p.0 p.1 path (turn_same ps path)
     where
       chosen : (d : Place) (e : Entry) (es : List Entry) (b : Place) (c : Bool)
-          → cond c (Some (b, (d, e.name ∷ map (λ x. x.name) es) ∷ frames_of ps)) (Some (d ++ e.name ∷ [], (d ++ e.name ∷ [], seen_names root (d ++ e.name ∷ [])) ∷ (d, map (λ x. x.name) es) ∷ frames_of ps))
+          → cond c (Some (b, (d, e.name ∷ map (λ x. x.name) es) ∷ frames_of ps))
+              (Some (d ++ e.name ∷ [], (d ++ e.name ∷ [], seen_names root (d ++ e.name ∷ [])) ∷ (d, map (λ x. x.name) es) ∷ frames_of ps))
           ≡ place_by root ((d, e ∷ es) ∷ ps) (cond c (turn.Path b) (turn.Entry (d ++ e.name ∷ [])))
       chosen d e es b true = refl
       chosen d e es b false = refl
 
-      by : (d : Place) (es : List Entry) (path : Option Place) → lesser (frames_of (trimmed ps)) (next_entry root (frames_of (trimmed ps))) path ≡ place_by root (trimmed ps) (turn_of (next_of (trimmed ps)) path)
-          → lesser (frames_of (trimmed_from d es (trimmed ps) ps)) (next_entry root (frames_of (trimmed_from d es (trimmed ps) ps))) path ≡ place_by root (trimmed_from d es (trimmed ps) ps) (turn_of (next_of (trimmed_from d es (trimmed ps) ps)) path)
+      by : (d : Place) (es : List Entry) (path : Option Place)
+          → lesser (frames_of (trimmed ps)) (next_entry root (frames_of (trimmed ps))) path ≡ place_by root (trimmed ps) (turn_of (next_of (trimmed ps)) path)
+          → lesser (frames_of (trimmed_from d es (trimmed ps) ps)) (next_entry root (frames_of (trimmed_from d es (trimmed ps) ps))) path ≡ place_by root
+              (trimmed_from d es (trimmed ps) ps) (turn_of (next_of (trimmed_from d es (trimmed ps) ps)) path)
       by d [] path h = h
       by d (e ∷ es) None h = refl
       by d (e ∷ es) (Some b) h = chosen d e es b (is_lt (place_cmp b (d ++ e.name ∷ [])))

@@ -30,7 +30,8 @@ module _ (root : StorageRoot) (s t : Store) (from : Option Place) (x : Place) (n
   pub meets_walks : Meets root s t x → Walks root s t from (Some x)
   meets_walks m = record {
     trail = m.trail;
-    audits = audits_meta root s t (looked_between root from (Some x)) (read_between root from (Some x)) m.trail m.over (subst (λ ls. Did s t m.trail ls 0) (m.listed ∙ sym near.looked) m.did) m.read m.meta (m.heads ∙ sym near.read);
+    audits = audits_meta root s t (looked_between root from (Some x)) (read_between root from (Some x)) m.trail m.over
+        (subst (λ ls. Did s t m.trail ls 0) (m.listed ∙ sym near.looked) m.did) m.read m.meta (m.heads ∙ sym near.read);
   }
 
   pub meets_fails : (why : Fault) → MeetFails root s t x why → FailsTo root s t from x why
@@ -76,8 +77,10 @@ module _ (root : StorageRoot) (s t u : Store) (from : Option Place) (b : Place) 
     listed = f.listed;
     heads = f.heads;
     fails = f.fails;
-    listed_front = front_more f.listed (looked_between root from (Some b)) (before_end e (looked_between root (Some b) None)) (before_end e (looked_between root from None)) (looked_out e root from b beyond before) f.listed_front;
-    heads_front = front_more f.heads (read_between root from (Some b)) (before_end e (read_between root (Some b) None)) (before_end e (read_between root from None)) (read_out e root from b beyond before) f.heads_front;
+    listed_front = front_more f.listed (looked_between root from (Some b)) (before_end e (looked_between root (Some b) None))
+        (before_end e (looked_between root from None)) (looked_out e root from b beyond before) f.listed_front;
+    heads_front = front_more f.heads (read_between root from (Some b)) (before_end e (read_between root (Some b) None))
+        (before_end e (read_between root from None)) (read_out e root from b beyond before) f.heads_front;
   }
 
   pub walks_out : Walks root s t from (Some b) → WalksOut root t u (Some b) e → WalksOut root s u from e
@@ -95,18 +98,22 @@ module _ (root : StorageRoot) (s t u : Store) (from : Option Place) (b : Place) 
     listed = looked_between root from (Some b) ++ w.listed;
     heads = read_between root from (Some b) ++ w.heads;
     fails = audits_fail root s t u [] [] _ _ _ _ v.trail w.trail why v.audits w.fails;
-    listed_front = front_behind (looked_between root from (Some b)) w.listed (before_end e (looked_between root (Some b) None)) (before_end e (looked_between root from None)) (looked_out e root from b beyond before) w.listed_front;
-    heads_front = front_behind (read_between root from (Some b)) w.heads (before_end e (read_between root (Some b) None)) (before_end e (read_between root from None)) (read_out e root from b beyond before) w.heads_front;
+    listed_front = front_behind (looked_between root from (Some b)) w.listed (before_end e (looked_between root (Some b) None))
+        (before_end e (looked_between root from None)) (looked_out e root from b beyond before) w.listed_front;
+    heads_front = front_behind (read_between root from (Some b)) w.heads (before_end e (read_between root (Some b) None))
+        (before_end e (read_between root from None)) (read_out e root from b beyond before) w.heads_front;
   }
 
 -- where nothing is left before the end nothing is done
-pub walks_out_nothing : (root : StorageRoot) (s : Store) (from : Option Place) (e : End) → s.tree ≡ root → before_end e (looked_between root from None) ≡ [] → before_end e (read_between root from None) ≡ [] → WalksOut root s s from e
+pub walks_out_nothing : (root : StorageRoot) (s : Store) (from : Option Place) (e : End) → s.tree ≡ root → before_end e (looked_between root from None) ≡ []
+    → before_end e (read_between root from None) ≡ [] → WalksOut root s s from e
 walks_out_nothing root s from e over looked read = record {
   trail = [];
   audits = subst (λ ls. Audits root s s [] ls (before_end e (read_between root from None)) []) (sym looked) (subst (λ hs. Audits root s s [] [] hs []) (sym read) (audits_nothing root s over));
 }
 
-pub fails_out_nothing : (root : StorageRoot) (s : Store) (from : Option Place) (e : End) (why : Fault) → s.tree ≡ root → failures_by why ≡ 0 → ((q : Place) → why ≡ fault.Store q → ⊥) → FailsOut root s s from e why
+pub fails_out_nothing : (root : StorageRoot) (s : Store) (from : Option Place) (e : End) (why : Fault) → s.tree ≡ root → failures_by why ≡ 0
+    → ((q : Place) → why ≡ fault.Store q → ⊥) → FailsOut root s s from e why
 fails_out_nothing root s from e why over none not = record {
   trail = [];
   listed = [];
@@ -116,7 +123,8 @@ fails_out_nothing root s from e why over none not = record {
   heads_front = front_none (before_end e (read_between root from None));
 }
 
-pub fails_to_nothing : (root : StorageRoot) (s : Store) (from : Option Place) (to : Place) (why : Fault) → s.tree ≡ root → failures_by why ≡ 0 → ((q : Place) → why ≡ fault.Store q → ⊥) → FailsTo root s s from to why
+pub fails_to_nothing : (root : StorageRoot) (s : Store) (from : Option Place) (to : Place) (why : Fault) → s.tree ≡ root → failures_by why ≡ 0
+    → ((q : Place) → why ≡ fault.Store q → ⊥) → FailsTo root s s from to why
 fails_to_nothing root s from to why over none not = record {
   trail = [];
   listed = [];

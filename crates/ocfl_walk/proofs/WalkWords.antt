@@ -70,11 +70,13 @@ opens_down root s t way more may left failures h = record { trail = h.calls.trai
 pub opens_nothing : (root : StorageRoot) (s : Store) → OpensInventories root s s
 opens_nothing root s = record { trail = []; opened = sym (append-nil s.openings); only = refl }
 
-pub gives_by : (root : StorageRoot) (s t : Store) (last : Option Place) (e : End) (new : Walk) → new.first ≡ None → (o : Option Pending) → NextTold root s t last e new.stand o → GivesOut root s t last e new o
+pub gives_by : (root : StorageRoot) (s t : Store) (last : Option Place) (e : End) (new : Walk) → new.first ≡ None → (o : Option Pending)
+    → NextTold root s t last e new.stand o → GivesOut root s t last e new o
 gives_by root s t last e new none None h = (h.0, h.1, (h.2.0, stands_now root new h.2.0 none h.2.1, h.2.2))
 gives_by root s t last e new none (Some p) h = (h.0, stands_now root new (Some p.place) none h.1, h.2.pending, h.2.due_are)
 
-pub told_by : (root : StorageRoot) (s t : Store) (last : Option Place) (e : End) (new : Walk) → new.first ≡ None → (r : Result (Option Pending) Fault) → MatchResult r (λ o. NextTold root s t last e new.stand o) (λ why. FailsOut root s t last e why) → MatchResult r (λ o. GivesOut root s t last e new o) (λ why. FailsOut root s t last e why)
+pub told_by : (root : StorageRoot) (s t : Store) (last : Option Place) (e : End) (new : Walk) → new.first ≡ None → (r : Result (Option Pending) Fault)
+    → MatchResult r (λ o. NextTold root s t last e new.stand o) (λ why. FailsOut root s t last e why) → MatchResult r (λ o. GivesOut root s t last e new o) (λ why. FailsOut root s t last e why)
 told_by root s t last e new none (Ok o) h = gives_by root s t last e new none o h
 told_by root s t last e new none (Err why) h = h
 
@@ -128,7 +130,8 @@ module _ (root : StorageRoot) (s t : Store) (last : Option Place) (e : End) (und
   gives_all None h = (walks_all root s t last e under below h.0, sym (all_kept e under below (due root last)) ∙ h.1, (h.2.0, h.2.1, sym (all_kept e under below (due root h.2.0)) ∙ h.2.2))
   gives_all (Some p) h = h
 
-  pub all_told : (r : Result (Option Pending) Fault) → MatchResult r (λ o. GivesOut root s t last e new o) (λ why. FailsOut root s t last e why) → MatchResult r (λ o. Gives root s t last new o) (λ why. WalkFails root s t last why)
+  pub all_told : (r : Result (Option Pending) Fault) → MatchResult r (λ o. GivesOut root s t last e new o) (λ why. FailsOut root s t last e why)
+      → MatchResult r (λ o. Gives root s t last new o) (λ why. WalkFails root s t last why)
   all_told (Ok o) h = gives_all o h
   all_told (Err why) h = fails_all root s t last e under below why h
 
@@ -141,7 +144,8 @@ no_names_there (n ∷ p) e = absurd (omega (arith, e))
 pub at_top : (root : StorageRoot) (p : Place) → p ≡ [] → (X : Option Place → Option Place → Type 0) → X None None → X (directory_of p) (place_before root p)
 at_top root p e X x = subst (λ y. X (directory_of y) (place_before root y)) (sym e) (subst (X None) (sym (before_root root)) x)
 
-pub at_name : (root : StorageRoot) (p d : Place) (n : Text) → p ≡ d ++ n ∷ [] → (X : Option Place → Option Place → Type 0) → X (Some d) (place_before root (d ++ n ∷ [])) → X (directory_of p) (place_before root p)
+pub at_name : (root : StorageRoot) (p d : Place) (n : Text) → p ≡ d ++ n ∷ [] → (X : Option Place → Option Place → Type 0)
+    → X (Some d) (place_before root (d ++ n ∷ [])) → X (directory_of p) (place_before root p)
 at_name root p d n e X x = subst (λ y. X (directory_of y) (place_before root y)) (sym e) (subst (λ o. X o (place_before root (d ++ n ∷ []))) (sym (directory_is d n)) x)
 
 pub some_directory : (p : Place) → p ≢ [] → (d : Place) × (directory_of p ≡ Some d)

@@ -57,7 +57,8 @@ no_content : (root : StorageRoot) (trail : List Opening) → content_trail root 
 no_content root [] h x i = absurd i
 no_content root (y ∷ trail) h x i = by (is_meta root y.place) refl h i (λ k j. no_content root trail k x j)
   where
-    by : (b : Bool) → is_meta root y.place ≡ b → map (λ o. o.place) (cond (not b) (y ∷ filter (λ o. not (is_meta root o.place)) trail) (filter (λ o. not (is_meta root o.place)) trail)) ≡ [] → IsAmong (y ∷ trail) x
+    by : (b : Bool) → is_meta root y.place ≡ b
+        → map (λ o. o.place) (cond (not b) (y ∷ filter (λ o. not (is_meta root o.place)) trail) (filter (λ o. not (is_meta root o.place)) trail)) ≡ [] → IsAmong (y ∷ trail) x
         → (content_trail root trail ≡ [] → IsAmong trail x → is_meta root x.place ≡ true) → is_meta root x.place ≡ true
     by false e k j more = absurd cc
     by true e k (inl f) more = ap (λ o. is_meta root o.place) f ∙ e
@@ -69,7 +70,9 @@ module _ (root : StorageRoot) (s t : Store) (p : Option Place) (g : GoesDown roo
   nothing_opened : content_trail root g.trail ≡ []
   nothing_opened = g.audits.opened ∙ none_hashed root
 
-  pub down_inventories : (trail : List Opening) × ((t.openings ≡ s.openings ++ trail) × ((x : Opening) (o : Place) → IsAmong trail x → IsObjectRoot root o → x.place ≡ o ++ codes "inventory.json" ∷ [] → (reads_inventory root o ≡ true) × ((q : Place) × (p ≡ Some (o ++ q)))))
+  pub down_inventories : (trail : List Opening)
+      × ((t.openings ≡ s.openings ++ trail)
+      × ((x : Opening) (o : Place) → IsAmong trail x → IsObjectRoot root o → x.place ≡ o ++ codes "inventory.json" ∷ [] → (reads_inventory root o ≡ true) × ((q : Place) × (p ≡ Some (o ++ q)))))
   down_inventories = (g.trail, (g.audits.did.openings_are, λ x o i object is. by p o (held x o i object is)))
     where
       held : (x : Opening) (o : Place) → IsAmong g.trail x → IsObjectRoot root o → x.place ≡ o ++ codes "inventory.json" ∷ [] → IsAmong (holder root p) o

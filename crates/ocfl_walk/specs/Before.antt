@@ -12,7 +12,8 @@ last_place [] = None
 last_place (p ∷ []) = Some p
 last_place (p ∷ q ∷ ps) = last_place (q ∷ ps)
 
--- the greatest place below p that may have lines, and none below the storage root's: what lies above it is what is not less than p
+-- the greatest place below p that may have lines, and none below the storage root's: what lies
+-- above it is what is not less than p
 unfoldable pub place_before : StorageRoot → Place → Option Place
 place_before root p = last_place (filter (λ q. is_lt (place_cmp q p)) (ascending place_cmp (candidates root)))
 

@@ -1,4 +1,5 @@
--- What the calls of a walk did to a store that tells its tree: from one place on to another, and down to one place.
+-- What the calls of a walk did to a store that tells its tree: from one place on to another, and
+-- down to one place.
 use Rattle.std.specs.Prelude.{List, [], ◌∷◌, Option, Some, None, AllPairs, ◌≢◌, filter}
 use Rattle.ocfl_tree.specs.Place.{Place}
 use Rattle.ocfl_tree.specs.StorageRoot.{StorageRoot}
@@ -62,7 +63,8 @@ abbrev pub holder : StorageRoot → Option Place → List Place
 holder root None = []
 holder root (Some p) = filter (reads_inventory root) (holder_of (zone root p))
 
--- the first directories on the way to a place were listed, and of inventories at most that of the object that holds it was read, where its head reaches it
+-- the first directories on the way to a place were listed, and of inventories at most that of the
+-- object that holds it was read, where its head reaches it
 pub record GoesDown (root : StorageRoot) (s t : Store) (p : Option Place) : Type 0 where
   pub trail : List Opening
   pub listed : List Place

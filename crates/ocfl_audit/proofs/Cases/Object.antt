@@ -6,7 +6,8 @@ use Rattle.ocfl_audit.specs.Between.{looked_between, read_between}
 use Rattle.ocfl_audit.proofs.Cases.OnLiterals.{audit_on_literals}
 use Rattle.ocfl_audit.proofs.Cases.Trees.{place, text_at, folder, storage_root, object_in, listing, lists_f}
 
--- objects `bare` with no inventory, `two` with two declarations, `u` of unknown version, one in the extensions, one in the content of `o`, and `h/q` whose head stops at what its inventory says
+-- objects `bare` with no inventory, `two` with two declarations, `u` of unknown version, one in the
+-- extensions, one in the content of `o`, and `h/q` whose head stops at what its inventory says
 abbrev some_count : StorageRoot
 some_count = storage_root (
     folder "bare" ∷ text_at "bare/0=ocfl_object_1.1" "ocfl_object_1.1\n" ∷ folder "bare/v1" ∷
@@ -32,7 +33,8 @@ unfolding audit_on_literals looked_between
 directories_that_count = refl
 
 -- behind the one, up to the other
-between_a_head_and_a_version : (read_between some_count (Some (place "h/q")) (Some (place "o/v1")) ≡ place "o" ∷ []) × (looked_between some_count (Some (place "h/q")) (Some (place "o/v1")) ≡ place "o" ∷ place "o/v1" ∷ [])
+between_a_head_and_a_version : (read_between some_count (Some (place "h/q")) (Some (place "o/v1")) ≡ place "o" ∷ [])
+    × (looked_between some_count (Some (place "h/q")) (Some (place "o/v1")) ≡ place "o" ∷ place "o/v1" ∷ [])
 unfolding audit_on_literals looked_between read_between
 between_a_head_and_a_version = (refl, refl)
 

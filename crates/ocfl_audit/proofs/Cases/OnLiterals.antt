@@ -15,7 +15,8 @@ unfolding s256.first_words s256.schedule s256.rounds s256.compress s256.hash_aft
 sha256_on_literals = tt
 
 unfoldable pub digests_on_literals : ⊤
-unfolding sha256_on_literals s512.first_words s512.schedule s512.rounds s512.compress s512.hash_after s512.digest_bytes s512.sha512 s512.sha512_256 s1.first_words s1.schedule s1.rounds s1.compress s1.hash_after s1.digest_bytes s1.sha1 m5.block_words m5.rounds m5.compress m5.hash_after m5.digest_bytes m5.md5
+unfolding sha256_on_literals s512.first_words s512.schedule s512.rounds s512.compress s512.hash_after s512.digest_bytes s512.sha512 s512.sha512_256
+    s1.first_words s1.schedule s1.rounds s1.compress s1.hash_after s1.digest_bytes s1.sha1 m5.block_words m5.rounds m5.compress m5.hash_after m5.digest_bytes m5.md5
 digests_on_literals = tt
 
 unfoldable pub audit_on_literals : ⊤

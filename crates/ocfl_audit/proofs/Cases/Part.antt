@@ -27,10 +27,12 @@ part_from p = record { under = []; from = Some (place p); below = None }
 -- ---- three files
 
 -- the item at a separator belongs to the part that it begins
-at_items : cut_at ("o/v1/content/a" ∷ "o/v1/content/b" ∷ []) (audit three_files []) ≡ codes "ok\t.\t-\nok\to\t-\n" ∷ codes "ok\to/v1/content/a\t3\n" ∷ codes "ok\to/v1/content/b\t0\nok\to/v1/content/c\t3\n" ∷ []
+at_items : cut_at ("o/v1/content/a" ∷ "o/v1/content/b" ∷ []) (audit three_files []) ≡ codes "ok\t.\t-\nok\to\t-\n" ∷ codes "ok\to/v1/content/a\t3\n" ∷ codes
+    "ok\to/v1/content/b\t0\nok\to/v1/content/c\t3\n" ∷ []
 at_items = rw items_of_three_files refl
 
-costs_at_items : (costs_of (parts_of (map place ("o/v1/content/a" ∷ "o/v1/content/b" ∷ []))) three_items ≡ 0 ∷ 4 ∷ 5 ∷ []) × (file_counts (parts_of (map place ("o/v1/content/a" ∷ "o/v1/content/b" ∷ []))) three_items ≡ 0 ∷ 1 ∷ 2 ∷ [])
+costs_at_items : (costs_of (parts_of (map place ("o/v1/content/a" ∷ "o/v1/content/b" ∷ []))) three_items ≡ 0 ∷ 4 ∷ 5 ∷ [])
+    × (file_counts (parts_of (map place ("o/v1/content/a" ∷ "o/v1/content/b" ∷ []))) three_items ≡ 0 ∷ 1 ∷ 2 ∷ [])
 costs_at_items = (refl, refl)
 
 at_no_item : cut_at ("o/v1/content/aa" ∷ []) (audit three_files []) ≡ codes "ok\t.\t-\nok\to\t-\nok\to/v1/content/a\t3\n" ∷ codes "ok\to/v1/content/b\t0\nok\to/v1/content/c\t3\n" ∷ []
@@ -47,7 +49,8 @@ above_the_last_item : cut_at ("p" ∷ []) three_items ≡ text three_items ∷ [
 above_the_last_item = refl
 
 -- a part that ends where it begins, and one that ends below that
-empty_parts : (within (record { under = []; from = Some (place "o"); below = Some (place "o") }) three_items ≡ []) × (within (record { under = []; from = Some (place "o/v1/content/b"); below = Some (place "o") }) three_items ≡ [])
+empty_parts : (within (record { under = []; from = Some (place "o"); below = Some (place "o") }) three_items ≡ [])
+    × (within (record { under = []; from = Some (place "o/v1/content/b"); below = Some (place "o") }) three_items ≡ [])
 empty_parts = (refl, refl)
 
 -- a branch between ends
@@ -55,7 +58,8 @@ branch_between : text (within (record { under = place "o/v1"; from = Some (place
 branch_between = refl
 
 -- runs of a part, by a budget of one
-runs_of_a_part : (map text (runs (within (part_from "o/v1/content/b") three_items) (replicate 3 (of_budget 1))) ≡ codes "ok\to/v1/content/b\t0\n" ∷ codes "ok\to/v1/content/c\t3\n" ∷ []) × (map total_cost (runs (within (part_from "o/v1/content/b") three_items) (replicate 3 (of_budget 1))) ≡ 1 ∷ 4 ∷ [])
+runs_of_a_part : (map text (runs (within (part_from "o/v1/content/b") three_items) (replicate 3 (of_budget 1))) ≡ codes "ok\to/v1/content/b\t0\n" ∷ codes
+    "ok\to/v1/content/c\t3\n" ∷ []) × (map total_cost (runs (within (part_from "o/v1/content/b") three_items) (replicate 3 (of_budget 1))) ≡ 1 ∷ 4 ∷ [])
 runs_of_a_part = (refl, refl)
 
 -- what is left of a part above a place before it, and of one above a place behind it
@@ -66,7 +70,8 @@ above_a_place_behind_a_part : after (within (part_below "o/v1/content/b") three_
 above_a_place_behind_a_part = refl
 
 -- the hashed files of each part
-hashed_in_parts : map (λ part. hashed_among three_files (places_within part (item_places three_files))) (parts_of (map place ("o/v1/content/b" ∷ []))) ≡ (place "o/v1/content/a" ∷ []) ∷ (place "o/v1/content/b" ∷ place "o/v1/content/c" ∷ []) ∷ []
+hashed_in_parts : map (λ part. hashed_among three_files (places_within part (item_places three_files))) (parts_of (map place ("o/v1/content/b" ∷ [])))
+    ≡ (place "o/v1/content/a" ∷ []) ∷ (place "o/v1/content/b" ∷ place "o/v1/content/c" ∷ []) ∷ []
 unfolding audit_on_literals hashed_among item_places
 hashed_in_parts = refl
 
@@ -83,16 +88,19 @@ branch_by_names : text (within (branch (place "o/v1/content/a")) slash_items) �
 branch_by_names = refl
 
 -- two separators enclose it
-around_the_branch : map (λ part. text (within part slash_items)) (parts_of (place "o/v1/content/a" ∷ (place "o/v1/content" ++ (97 ∷ 1 ∷ []) ∷ []) ∷ [])) ≡ codes "ok\t.\t-\nok\to\t-\n" ∷ codes "ok\to/v1/content/a/b\t3\n" ∷ codes "ok\to/v1/content/a-b\t3\n" ∷ []
+around_the_branch : map (λ part. text (within part slash_items)) (parts_of (place "o/v1/content/a" ∷ (place "o/v1/content" ++ (97 ∷ 1 ∷ []) ∷ []) ∷ [])) ≡ codes
+    "ok\t.\t-\nok\to\t-\n" ∷ codes "ok\to/v1/content/a/b\t3\n" ∷ codes "ok\to/v1/content/a-b\t3\n" ∷ []
 around_the_branch = refl
 
-enclosed_is_the_middle : parts_of (place "o" ∷ branch_end [] (codes "o") ∷ []) ≡ part_below "o" ∷ enclosed [] (codes "o") ∷ record { under = []; from = Some (branch_end [] (codes "o")); below = None } ∷ []
+enclosed_is_the_middle : parts_of (place "o" ∷ branch_end [] (codes "o") ∷ []) ≡ part_below "o" ∷ enclosed [] (codes "o")
+    ∷ record { under = []; from = Some (branch_end [] (codes "o")); below = None } ∷ []
 enclosed_is_the_middle = refl
 
 -- ---- a missing file, and one that is right
 
 -- both lines of the missing file are in one part
-at_the_missing_file : cut_at ("o/v1/content/a" ∷ []) (audit missing_and_right []) ≡ codes "ok\t.\t-\nok\to\t-\n" ∷ codes "E092\to/v1/content/a\tsha256 missing\nE093\to/v1/content/a\tsha1 missing\nok\to/v1/content/b\t3\n" ∷ []
+at_the_missing_file : cut_at ("o/v1/content/a" ∷ []) (audit missing_and_right []) ≡ codes "ok\t.\t-\nok\to\t-\n" ∷ codes
+    "E092\to/v1/content/a\tsha256 missing\nE093\to/v1/content/a\tsha1 missing\nok\to/v1/content/b\t3\n" ∷ []
 at_the_missing_file = rw items_around_a_missing_file refl
 
 -- ---- three objects
@@ -109,7 +117,8 @@ at_an_object : cut_at ("o2" ∷ []) (audit three_objects []) ≡ codes "ok\t.\t-
 at_an_object = rw items_of_three_objects refl
 
 -- and one inside it parts its head from its file
-inside_an_object : cut_at ("o2/v1/content/f" ∷ []) (audit three_objects []) ≡ codes "ok\t.\t-\nok\to1\t-\nok\to1/v1/content/f\t3\nok\to2\t-\n" ∷ codes "ok\to2/v1/content/f\t3\nok\to3\t-\nok\to3/v1/content/f\t3\n" ∷ []
+inside_an_object : cut_at ("o2/v1/content/f" ∷ []) (audit three_objects []) ≡ codes "ok\t.\t-\nok\to1\t-\nok\to1/v1/content/f\t3\nok\to2\t-\n" ∷ codes
+    "ok\to2/v1/content/f\t3\nok\to3\t-\nok\to3/v1/content/f\t3\n" ∷ []
 inside_an_object = rw items_of_three_objects refl
 
 branch_of_an_object : text (within (branch (place "o2")) object_items) ≡ codes "ok\to2\t-\nok\to2/v1/content/f\t3\n"
@@ -144,7 +153,8 @@ unread_together = refl
 abbrev joined_text : List Item → List Item → Text
 joined_text first second = text (within (part_below "o/v1/content/b") first) ++ text (within (part_from "o/v1/content/b") second)
 
-quick_audits_apart : joined_text (quick_256 three_files_listing three_files_content first_unread) (quick_256 three_files_listing three_files_content second_unread) ≡ codes "ok\t.\t-\nok\to\t-\nS08\to/v1/content/a\t-\nS08\to/v1/content/b\t-\nok\to/v1/content/c\t3\n"
+quick_audits_apart : joined_text (quick_256 three_files_listing three_files_content first_unread)
+    (quick_256 three_files_listing three_files_content second_unread) ≡ codes "ok\t.\t-\nok\to\t-\nS08\to/v1/content/a\t-\nS08\to/v1/content/b\t-\nok\to/v1/content/c\t3\n"
 unfolding audit_on_literals
 quick_audits_apart = refl
 

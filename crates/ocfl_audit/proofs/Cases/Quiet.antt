@@ -1,4 +1,5 @@
--- Worked cases of objects with a right sidecar, whose digest is not computed: it has no lines, whatever it is.
+-- Worked cases of objects with a right sidecar, whose digest is not computed: it has no lines,
+-- whatever it is.
 use Rattle.std.proofs.Common.{◌≡◌, List, [], ◌∷◌, ◌++◌, codes, refl, ◌∙◌, ap, Bool, true, false}
 use Rattle.std.specs.Prelude.{◌&&◌}
 use Prim.Native.String.{String}

@@ -38,7 +38,8 @@ item_beside sidecars root unread o inventory = record {
 
 -- the audit, with that head at o
 abbrev pub audit_beside : List Note → StorageRoot → Unread → Place → Text → List Item
-audit_beside sidecars root unread o inventory = filter has_lines (map (λ p. if place_eq p o then item_beside sidecars root unread o inventory else item_of root unread p) (ascending place_cmp (candidates root)))
+audit_beside sidecars root unread o inventory =
+    filter has_lines (map (λ p. if place_eq p o then item_beside sidecars root unread o inventory else item_of root unread p) (ascending place_cmp (candidates root)))
 
 module _ (root : StorageRoot) (n : Text) (q : Place) (inventory : Text) (sidecars : List Note) (there : file_at root ((n ∷ q) ++ inventory_name ∷ []) ≡ Some inventory) (those : sidecars_notes root (n ∷ q) inventory ≡ sidecars) where
   head_is : (d : Declared) → head_notes_by root (n ∷ q) d ≡ head_beside sidecars root (n ∷ q) inventory d
@@ -47,7 +48,8 @@ module _ (root : StorageRoot) (n : Text) (q : Place) (inventory : Text) (sidecar
   head_is (unknown t) = refl
   head_is (known v) =
       ap (λ f. or_clean (on (not (is_exact_declaration root (n ∷ q) Object v)) (plain E007) ++ inventory_file_notes root (n ∷ q) f)) there
-      ∙ ap (λ ns. or_clean (on (not (is_exact_declaration root (n ∷ q) Object v)) (plain E007) ++ cond (nat_le (length inventory) inventory_limit) (ns ++ inventory_part root (n ∷ q) inventory (algorithm_of inventory)) (plain S02 ∷ []))) those
+      ∙ ap (λ ns. or_clean (on (not (is_exact_declaration root (n ∷ q) Object v)) (plain E007) ++ cond (nat_le (length inventory) inventory_limit)
+          (ns ++ inventory_part root (n ∷ q) inventory (algorithm_of inventory)) (plain S02 ∷ []))) those
 
   notes_are : (u : Option ℕ) → notes root u (n ∷ q) ≡ notes_beside sidecars root u (n ∷ q) inventory
   notes_are u = by (zone root (n ∷ q)) refl

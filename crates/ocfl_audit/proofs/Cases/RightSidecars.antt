@@ -1,4 +1,5 @@
--- A right sidecar has no lines, whatever its digest is: worked cases need not compute the digests of their inventories.
+-- A right sidecar has no lines, whatever its digest is: worked cases need not compute the digests
+-- of their inventories.
 use Rattle.std.proofs.Common.{◌≡◌, ℕ, zero, suc, ◌<◌, ◌≤◌, ◌*◌, List, [], ◌∷◌, ◌++◌, length, codes, refl, sym, ◌∙◌, ap, arith, length-append, Some}
 use Rattle.std.specs.Int.{bytes_high_first, byte_at}
 use Rattle.hex.specs.Hex.{IsBytes, encode_lower, lower_digits}

@@ -56,11 +56,13 @@ root_declarations = refl
 -- ---- the base and the hierarchy
 
 base_and_hierarchies : AllAre (
-    reports "base_and_hierarchy" (storage_root (link "z" ∷ folder "y" ∷ text_at "y/readme" "" ∷ folder "x" ∷ folder "extensions" ∷ folder "extensions/k" ∷ text_at "notes" "n" ∷ [])) "ok\t.\t-\nE073\tx\t-\nE072\ty/readme\t-\nS04\tz\t-\n" ∷
+    reports "base_and_hierarchy" (storage_root
+        (link "z" ∷ folder "y" ∷ text_at "y/readme" "" ∷ folder "x" ∷ folder "extensions" ∷ folder "extensions/k" ∷ text_at "notes" "n" ∷ [])) "ok\t.\t-\nE073\tx\t-\nE072\ty/readme\t-\nS04\tz\t-\n" ∷
     reports "extensions_as_file" (storage_root (text_at "extensions" "" ∷ [])) "ok\t.\t-\n" ∷
     reports "extensions_as_link" (storage_root (link "extensions" ∷ [])) "ok\t.\t-\nS04\textensions\t-\n" ∷
     -- nothing in them is looked at
-    reports "inside_extensions" (storage_root (folder "extensions" ∷ text_at "extensions/f" "" ∷ link "extensions/l" ∷ folder "extensions/o" ∷ text_at "extensions/o/0=ocfl_object_1.1" "" ∷ [])) "ok\t.\t-\n" ∷
+    reports "inside_extensions" (storage_root
+        (folder "extensions" ∷ text_at "extensions/f" "" ∷ link "extensions/l" ∷ folder "extensions/o" ∷ text_at "extensions/o/0=ocfl_object_1.1" "" ∷ [])) "ok\t.\t-\n" ∷
     -- nor whether they are empty
     reports "empty_extensions" (storage_root (folder "extensions" ∷ [])) "ok\t.\t-\n" ∷
     -- only those of the base are kept apart
@@ -148,7 +150,8 @@ object_too_deep root = never (is_dir root (deep 128))
 deepest_object : (root : StorageRoot) → object_declared root (deep 127) ≡ (if is_dir root (deep 127) then declared Object (files_in root (deep 127)) else undeclared)
 deepest_object root = by_directory (is_dir root (deep 127))
   where
-    by_directory : (b : Bool) → (if b && nat_le (length (deep 127)) 127 then declared Object (files_in root (deep 127)) else undeclared) ≡ (if b then declared Object (files_in root (deep 127)) else undeclared)
+    by_directory : (b : Bool) → (if b && nat_le (length (deep 127)) 127 then declared Object (files_in root (deep 127)) else undeclared)
+        ≡ (if b then declared Object (files_in root (deep 127)) else undeclared)
     by_directory true = refl
     by_directory false = refl
 
@@ -170,13 +173,15 @@ version_too_deep : (root : StorageRoot) → object_entry_notes root (deep 128) (
 version_too_deep root = refl
 
 -- what would not be listed is not too deep
-stray_directory_at_the_depth : (root : StorageRoot) → (object_entry_notes root (deep 128) (codes "junk") (Some dir) ≡ plain E001 ∷ []) × (object_entry_notes root (deep 128) (codes "logs") (Some dir) ≡ [])
+stray_directory_at_the_depth : (root : StorageRoot) → (object_entry_notes root (deep 128) (codes "junk") (Some dir) ≡ plain E001 ∷ [])
+    × (object_entry_notes root (deep 128) (codes "logs") (Some dir) ≡ [])
 stray_directory_at_the_depth root = (refl, refl)
 
 abbrev bare_table : Table
 bare_table = record { algorithm = Sha256; content = codes "content"; triples = [] }
 
-content_directory_too_deep : (root : StorageRoot) → (version_entry_notes root bare_table (deep 128) (codes "content") (Some dir) ≡ plain S05 ∷ []) × (version_entry_notes root bare_table (deep 128) (codes "other") (Some dir) ≡ [])
+content_directory_too_deep : (root : StorageRoot) → (version_entry_notes root bare_table (deep 128) (codes "content") (Some dir) ≡ plain S05 ∷ [])
+    × (version_entry_notes root bare_table (deep 128) (codes "other") (Some dir) ≡ [])
 content_directory_too_deep root = (refl, refl)
 
 -- in place of the line for an empty one

@@ -1,4 +1,5 @@
--- Worked cases: runs by budgets, and what is left behind a place. An audit of several cases is computed once, and its runs over its items.
+-- Worked cases: runs by budgets, and what is left behind a place. An audit of several cases is
+-- computed once, and its runs over its items.
 use Rattle.std.proofs.Common.{◌≡◌, ◌≤◌, ◌⊎◌, inl, inr, ◌∙◌, ℕ, arith, List, [], ◌∷◌, ◌++◌, codes, refl, Some, None, true, false, map, replicate, take}
 use Prim.Native.String.{String}
 use Rattle.ocfl_tree.specs.Place.{Text}
@@ -48,18 +49,22 @@ quick_items_of_three_files = refl
 pub items_of_three_files : audit three_files [] ≡ three_items
 items_of_three_files = audit_256 three_files_listing three_files_content [] ∙ quick_items_of_three_files
 
-budgets_of_five : (costs three_items (replicate 4 5) ≡ 5 ∷ 4 ∷ []) × (texts three_items (replicate 4 5) ≡ codes "ok\t.\t-\nok\to\t-\nok\to/v1/content/a\t3\nok\to/v1/content/b\t0\n" ∷ codes "ok\to/v1/content/c\t3\n" ∷ [])
+budgets_of_five : (costs three_items (replicate 4 5) ≡ 5 ∷ 4 ∷ [])
+    × (texts three_items (replicate 4 5) ≡ codes "ok\t.\t-\nok\to\t-\nok\to/v1/content/a\t3\nok\to/v1/content/b\t0\n" ∷ codes "ok\to/v1/content/c\t3\n" ∷ [])
 budgets_of_five = (refl, refl)
 
 -- a file is started while less than the budget is spent, and not at the budget
-budgets_of_four : (costs three_items (replicate 4 4) ≡ 4 ∷ 5 ∷ []) × (texts three_items (replicate 4 4) ≡ codes "ok\t.\t-\nok\to\t-\nok\to/v1/content/a\t3\n" ∷ codes "ok\to/v1/content/b\t0\nok\to/v1/content/c\t3\n" ∷ [])
+budgets_of_four : (costs three_items (replicate 4 4) ≡ 4 ∷ 5 ∷ [])
+    × (texts three_items (replicate 4 4) ≡ codes "ok\t.\t-\nok\to\t-\nok\to/v1/content/a\t3\n" ∷ codes "ok\to/v1/content/b\t0\nok\to/v1/content/c\t3\n" ∷ [])
 budgets_of_four = (refl, refl)
 
 -- a file larger than the budget is taken all the same
-budgets_of_one : (costs three_items (replicate 4 1) ≡ 4 ∷ 1 ∷ 4 ∷ []) × (texts three_items (replicate 4 1) ≡ codes "ok\t.\t-\nok\to\t-\nok\to/v1/content/a\t3\n" ∷ codes "ok\to/v1/content/b\t0\n" ∷ codes "ok\to/v1/content/c\t3\n" ∷ [])
+budgets_of_one : (costs three_items (replicate 4 1) ≡ 4 ∷ 1 ∷ 4 ∷ [])
+    × (texts three_items (replicate 4 1) ≡ codes "ok\t.\t-\nok\to\t-\nok\to/v1/content/a\t3\n" ∷ codes "ok\to/v1/content/b\t0\n" ∷ codes "ok\to/v1/content/c\t3\n" ∷ [])
 budgets_of_one = (refl, refl)
 
-budget_of_nine : (costs three_items (replicate 4 9) ≡ 9 ∷ []) × (texts three_items (replicate 4 9) ≡ codes "ok\t.\t-\nok\to\t-\nok\to/v1/content/a\t3\nok\to/v1/content/b\t0\nok\to/v1/content/c\t3\n" ∷ [])
+budget_of_nine : (costs three_items (replicate 4 9) ≡ 9 ∷ [])
+    × (texts three_items (replicate 4 9) ≡ codes "ok\t.\t-\nok\to\t-\nok\to/v1/content/a\t3\nok\to/v1/content/b\t0\nok\to/v1/content/c\t3\n" ∷ [])
 budget_of_nine = (refl, refl)
 
 -- one more than what is spent before the last file
@@ -146,7 +151,8 @@ sums_of_budgets = (refl, refl)
 -- ---- places of runs
 
 -- the last place of the first run, and what it leaves
-places_of_the_first_run : (map (λ i. i.place) (cut three_items (of_budget 4)) ≡ [] ∷ place "o" ∷ place "o/v1/content/a" ∷ []) × (map (λ i. i.place) (left three_items (of_budget 4)) ≡ place "o/v1/content/b" ∷ place "o/v1/content/c" ∷ [])
+places_of_the_first_run : (map (λ i. i.place) (cut three_items (of_budget 4)) ≡ [] ∷ place "o" ∷ place "o/v1/content/a" ∷ [])
+    × (map (λ i. i.place) (left three_items (of_budget 4)) ≡ place "o/v1/content/b" ∷ place "o/v1/content/c" ∷ [])
 places_of_the_first_run = (refl, refl)
 
 -- ---- behind a place
@@ -200,15 +206,20 @@ quick_items_beside_an_unlisted_file = refl
 items_beside_an_unlisted_file : audit listed_and_unlisted [] ≡ unlisted_items
 items_beside_an_unlisted_file = audit_256 listed_and_unlisted_listing listed_and_unlisted_content [] ∙ quick_items_beside_an_unlisted_file
 
-unlisted_file_behind_the_budget : (texts unlisted_items (4 ∷ 4 ∷ []) ≡ codes "ok\t.\t-\nok\to\t-\nok\to/v1/content/f\t3\nE023\to/v1/content/z\t-\n" ∷ []) × (costs unlisted_items (4 ∷ 4 ∷ []) ≡ 4 ∷ []) × (left unlisted_items (of_budget 4) ≡ [])
+unlisted_file_behind_the_budget : (texts unlisted_items (4 ∷ 4 ∷ []) ≡ codes "ok\t.\t-\nok\to\t-\nok\to/v1/content/f\t3\nE023\to/v1/content/z\t-\n" ∷ [])
+    × (costs unlisted_items (4 ∷ 4 ∷ []) ≡ 4 ∷ []) × (left unlisted_items (of_budget 4) ≡ [])
 unlisted_file_behind_the_budget = (refl, refl, refl)
 
 -- nor is it one of the files that a run may start
-unlisted_file_behind_the_file_limit : (map text (runs unlisted_items (replicate 2 (limits_of 9 1))) ≡ codes "ok\t.\t-\nok\to\t-\nok\to/v1/content/f\t3\nE023\to/v1/content/z\t-\n" ∷ []) × (files_under unlisted_items 2 (limits_of 9 1) ≡ 1 ∷ []) × (left unlisted_items (limits_of 9 1) ≡ [])
+unlisted_file_behind_the_file_limit :
+    (map text (runs unlisted_items (replicate 2 (limits_of 9 1))) ≡ codes "ok\t.\t-\nok\to\t-\nok\to/v1/content/f\t3\nE023\to/v1/content/z\t-\n" ∷ [])
+    × (files_under unlisted_items 2 (limits_of 9 1) ≡ 1 ∷ []) × (left unlisted_items (limits_of 9 1) ≡ [])
 unlisted_file_behind_the_file_limit = (refl, refl, refl)
 
 -- a run has a finding where its own items have one
-finding_of_one_run : map found (runs (audit (sha256_object (listing (key abc.sha256 "[\"v1/content/a\",\"v1/content/c\"]" ∷ [])) (text_at "o/v1/content/a" "abc" ∷ text_at "o/v1/content/b" "" ∷ text_at "o/v1/content/c" "abc" ∷ [])) []) (of_budget 1 ∷ of_budget 1 ∷ [])) ≡ true ∷ false ∷ []
+finding_of_one_run : map found (runs
+    (audit (sha256_object (listing (key abc.sha256 "[\"v1/content/a\",\"v1/content/c\"]" ∷ []))
+    (text_at "o/v1/content/a" "abc" ∷ text_at "o/v1/content/b" "" ∷ text_at "o/v1/content/c" "abc" ∷ [])) []) (of_budget 1 ∷ of_budget 1 ∷ [])) ≡ true ∷ false ∷ []
 unfolding audit_on_literals
 finding_of_one_run = refl
 
@@ -243,7 +254,8 @@ behind_the_slash = refl
 -- ---- three objects
 
 -- a run goes on to the head of the next object
-runs_over_three_objects : texts (audit three_objects []) (replicate 4 1) ≡ codes "ok\t.\t-\nok\to1\t-\nok\to1/v1/content/f\t3\nok\to2\t-\n" ∷ codes "ok\to2/v1/content/f\t3\nok\to3\t-\n" ∷ codes "ok\to3/v1/content/f\t3\n" ∷ []
+runs_over_three_objects : texts (audit three_objects []) (replicate 4 1) ≡ codes "ok\t.\t-\nok\to1\t-\nok\to1/v1/content/f\t3\nok\to2\t-\n" ∷ codes
+    "ok\to2/v1/content/f\t3\nok\to3\t-\n" ∷ codes "ok\to3/v1/content/f\t3\n" ∷ []
 unfolding audit_on_literals
 runs_over_three_objects = refl
 

@@ -183,7 +183,8 @@ three_files = sha256_object three_files_listing three_files_content
 
 -- `a` is listed twice and not there, `b` is right
 abbrev pub missing_and_right_listing : Text
-missing_and_right_listing = listing_with (key no_bytes.sha256 "[\"v1/content/a\"]" ∷ key abc.sha256 "[\"v1/content/b\"]" ∷ []) (codes "{\"sha1\":" ++ keys (key no_bytes.sha1 "[\"v1/content/a\"]" ∷ []) ++ codes "}")
+missing_and_right_listing = listing_with (key no_bytes.sha256 "[\"v1/content/a\"]" ∷ key abc.sha256 "[\"v1/content/b\"]" ∷ [])
+    (codes "{\"sha1\":" ++ keys (key no_bytes.sha1 "[\"v1/content/a\"]" ∷ []) ++ codes "}")
 
 abbrev pub missing_and_right_content : StorageRoot
 missing_and_right_content = text_at "o/v1/content/b" "abc" ∷ []

@@ -98,13 +98,15 @@ quick_first_gave_all = refl
 first_gave_all : audit three_files (first_gave 3) ≡ others_right 4
 first_gave_all = audit_256 three_files_listing three_files_content (first_gave 3) ∙ quick_first_gave_all
 
-text_where_first_is_unread : (text (others_right 3) ≡ codes "ok\t.\t-\nok\to\t-\nS08\to/v1/content/a\t-\nok\to/v1/content/b\t0\nok\to/v1/content/c\t3\n") × (text (others_right 4) ≡ text (others_right 3))
+text_where_first_is_unread : (text (others_right 3) ≡ codes "ok\t.\t-\nok\to\t-\nS08\to/v1/content/a\t-\nok\to/v1/content/b\t0\nok\to/v1/content/c\t3\n")
+    × (text (others_right 4) ≡ text (others_right 3))
 text_where_first_is_unread = (refl, refl)
 
 cost_where_first_gave_two : total_cost (others_right 3) ≡ 8
 cost_where_first_gave_two = refl
 
-runs_where_first_gave_two : (map total_cost (runs (others_right 3) (map of_budget (replicate 5 3))) ≡ 3 ∷ 5 ∷ []) × (map total_cost (runs (others_right 3) (map of_budget (replicate 5 4))) ≡ 4 ∷ 4 ∷ [])
+runs_where_first_gave_two : (map total_cost (runs (others_right 3) (map of_budget (replicate 5 3))) ≡ 3 ∷ 5 ∷ [])
+    × (map total_cost (runs (others_right 3) (map of_budget (replicate 5 4))) ≡ 4 ∷ 4 ∷ [])
 runs_where_first_gave_two = (refl, refl)
 
 -- ---- what gives way, and what stays
@@ -119,7 +121,8 @@ fixity_alone = sha256_object fixity_alone_listing f_is_abc
 abbrev other_lines_of_unread_files_cases : List Case
 other_lines_of_unread_files_cases =
     -- the lines of its digests give way
-    reports_unread "wrong_file_unread" (listing_with lists_f (codes "{\"md5\":{\"x\":[\"v1/content/f\"]}}")) (text_at "o/v1/content/f" "" ∷ []) "o/v1/content/f" 0 "ok\t.\t-\nok\to\t-\nS08\to/v1/content/f\t-\n" ∷
+    reports_unread "wrong_file_unread" (listing_with lists_f (codes "{\"md5\":{\"x\":[\"v1/content/f\"]}}")) (text_at "o/v1/content/f" "" ∷ []) "o/v1/content/f"
+        0 "ok\t.\t-\nok\to\t-\nS08\to/v1/content/f\t-\n" ∷
     -- that the manifest does not name it stays
     reports_unread "unlisted_file_unread" fixity_alone_listing f_is_abc "o/v1/content/f" 0 "ok\t.\t-\nok\to\t-\nE023\to/v1/content/f\t-\nS08\to/v1/content/f\t-\n" ∷
     -- a file that nothing names is never opened
@@ -171,7 +174,8 @@ unfolding audit_on_literals
 unread_by_the_openings = refl
 
 -- an inventory, a sidecar or a declaration that fails is no content that fails
-failed_inventory_is_no_unread_content : unread_of three_files (opening "0=ocfl_1.1" 9 true ∷ opening "o/0=ocfl_object_1.1" 1 true ∷ opening "o/inventory.json" 0 true ∷ opening "o/inventory.json.sha512" 0 true ∷ []) ≡ []
+failed_inventory_is_no_unread_content : unread_of three_files
+    (opening "0=ocfl_1.1" 9 true ∷ opening "o/0=ocfl_object_1.1" 1 true ∷ opening "o/inventory.json" 0 true ∷ opening "o/inventory.json.sha512" 0 true ∷ []) ≡ []
 unfolding audit_on_literals
 failed_inventory_is_no_unread_content = refl
 

@@ -42,7 +42,8 @@ unfolding audit_on_literals
 listed_at_the_head = (refl, refl)
 
 -- then its three files, the version and its content directory
-listed_at_the_file : (taken_of_one_file 7 ≡ codes "ok\to\t-\n") × (taken_of_one_file 8 ≡ codes "ok\to\t-\nok\to/v1/content/f\t3\n") × (listed_of_one_file 8 ≡ place "o" ∷ place "o/v1" ∷ place "o/v1/content" ∷ [])
+listed_at_the_file : (taken_of_one_file 7 ≡ codes "ok\to\t-\n") × (taken_of_one_file 8 ≡ codes "ok\to\t-\nok\to/v1/content/f\t3\n")
+    × (listed_of_one_file 8 ≡ place "o" ∷ place "o/v1" ∷ place "o/v1/content" ∷ [])
 unfolding audit_on_literals
 listed_at_the_file = (refl, refl, refl)
 
@@ -51,7 +52,8 @@ listed_on_entering : map (λ f. f.0) (listed_at three_objects [] (place "o2") []
 unfolding audit_on_literals
 listed_on_entering = refl
 
-listed_behind_the_second_head : lists 16 three_objects (place "o2") (listed_at three_objects [] (place "o2") []) ≡ place "o2/v1" ∷ place "o2/v1/content" ∷ place "o3" ∷ place "o3/v1" ∷ place "o3/v1/content" ∷ []
+listed_behind_the_second_head : lists 16 three_objects (place "o2") (listed_at three_objects [] (place "o2") []) ≡ place "o2/v1" ∷ place "o2/v1/content" ∷ place
+    "o3" ∷ place "o3/v1" ∷ place "o3/v1/content" ∷ []
 unfolding audit_on_literals
 listed_behind_the_second_head = refl
 

@@ -84,7 +84,8 @@ pub record IsBase (root : StorageRoot) (d : Place) (es : List Entry) (m : MadeDe
 
 -- ---- an object's head
 
--- from s to t metadata was read, each file once, of inventories just that of o where it has one, and nothing was listed
+-- from s to t metadata was read, each file once, of inventories just that of o where it has one,
+-- and nothing was listed
 pub record ReadsOne (root : StorageRoot) (s t : Store) (o : Place) : Type 0 where
   pub over : s.tree ≡ root
   pub trail : List Opening

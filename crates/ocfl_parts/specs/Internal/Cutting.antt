@@ -20,7 +20,8 @@ abbrev pub AreBelow : List Place → Option Told → Type 0
 AreBelow ps None = ps ≡ []
 AreBelow ps (Some i) = AreSeparators (ps ++ i.place ∷ [])
 
--- after these lines there are these separators, the part has spent so much, and this item was begun. What further lines make of it is what they make of all
+-- after these lines there are these separators, the part has spent so much, and this item was
+-- begun. What further lines make of it is what they make of all
 pub record IsCutSoFar (budget : ℕ) (done : List Line) (ps : List Place) (spent : ℕ) (item : Option Told) : Type 0 where
   pub texts : All HasText done
   pub order : (more : List Line) → AreInOrder (last_place item) more ↔ AreInOrder None (done ++ more)
@@ -28,7 +29,8 @@ pub record IsCutSoFar (budget : ℕ) (done : List Line) (ps : List Place) (spent
   pub below : AreBelow ps item
   pub few : length ps ≤ max_separators
 
--- why a line was not taken: it is not the text of a line that may follow, or the item before it makes one separator too many
+-- why a line was not taken: it is not the text of a line that may follow, or the item before it
+-- makes one separator too many
 abbrev pub TakesNot : ℕ → List Line → ℕ → Text → SplitStop → Type 0
 TakesNot budget done number text (BadLine n) = (n ≡ number) × ((l : Line) → IsLineText text l → AreInOrder None (done ++ l ∷ []) → ⊥)
 TakesNot budget done number text Many = max_separators < length (cuts budget done)

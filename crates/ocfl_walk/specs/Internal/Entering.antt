@@ -50,7 +50,8 @@ pub record Calls (root : StorageRoot) (s t : Store) (failures : ℕ) : Type 0 wh
 abbrev pub NamesFailed : (root : StorageRoot) (s t : Store) (why : Fault) → Calls root s t (failures_by why) → Type 0
 NamesFailed root s t why calls = (q : Place) → why ≡ fault.Store q → (is_hashed root q ≡ false) × FailedAt root calls.listings calls.trail q
 
--- from s to t directories of a way were listed in order, with more of it left, and the inventories of some objects were read in order, with more of them left, and nothing else
+-- from s to t directories of a way were listed in order, with more of it left, and the inventories
+-- of some objects were read in order, with more of them left, and nothing else
 pub record Descends (root : StorageRoot) (s t : Store) (way more may left : List Place) (failures : ℕ) : Type 0 where
   pub calls : Calls root s t failures
   pub only : AreInventories root calls.trail
@@ -141,7 +142,8 @@ pub record IsBrought (root : StorageRoot) (d q : Place) (old new : List Pile) (a
   pub entries : HaveEntries root old → HaveEntries root new
   pub table : IsTableAround root (d ++ q) around
 
--- the start of a walk: at most the directories on the way to p were listed, each once, and at most the inventory of the object that holds p was opened, once, where its head reaches it
+-- the start of a walk: at most the directories on the way to p were listed, each once, and at most
+-- the inventory of the object that holds p was opened, once, where its head reaches it
 abbrev pub Starts : StorageRoot → Store → Store → Place → ℕ → Type 0
 Starts root s t p failures = Descends root s t (way_to p) [] (holder_of (zone root p)) [] failures
 

@@ -10,7 +10,8 @@ use Rattle.ocfl_walk.specs.Internal.Entering.{Calls, NamesFailed}
 use Rattle.ocfl_item.specs.declared.fault.Fault.{Fault}
 use Rattle.ocfl_item.specs.declared.pending.Pending.{Pending}
 
--- from s to t the first directories of a way were listed, in order, and metadata was read, each file once, of inventories the first of those that may be; where none may be, nothing was read
+-- from s to t the first directories of a way were listed, in order, and metadata was read, each
+-- file once, of inventories the first of those that may be; where none may be, nothing was read
 pub record Finds (root : StorageRoot) (s t : Store) (way may : List Place) (failures : ℕ) : Type 0 where
   pub calls : Calls root s t failures
   pub once : AllPairs (λ a b. a.place ≢ b.place) calls.trail

@@ -70,7 +70,8 @@ IsOrderlyStand s = IsOrderlyIf s.last (piles_in s.last s.listings.items) s.aroun
 
 -- ---- on a store that tells its tree
 
--- what is held besides, at a place: each name is one of its directory's listing, each entry what that leads to, and the table is that of the object that holds the place
+-- what is held besides, at a place: each name is one of its directory's listing, each entry what
+-- that leads to, and the table is that of the object that holds the place
 pub record IsHeld (root : StorageRoot) (stood : Place) (ps : List Pile) (around : Option Around) : Type 0 where
   pub listed : IsListed root (frames_of ps)
   pub entries : HaveEntries root ps

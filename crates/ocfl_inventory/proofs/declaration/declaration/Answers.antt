@@ -11,7 +11,9 @@ overflow_add-first c =
     search rules
 
 pub returns-then-is_some-clause-declared : goal.returns-then-is_some-clause-declared
-returns-then-is_some-clause-declared c = several_is c.args.level c.args.entries.now c.next_declaration.result c.next_declaration-2.result c.in-Some.first c.next_declaration.ensures c.in-Some.is c.next_declaration-2.ensures (sym c.is_some.ensures ∙ c.if-is_some.true)
+returns-then-is_some-clause-declared c =
+    several_is c.args.level c.args.entries.now c.next_declaration.result c.next_declaration-2.result c.in-Some.first c.next_declaration.ensures c.in-Some.is
+    c.next_declaration-2.ensures (sym c.is_some.ensures ∙ c.if-is_some.true)
 
 pub offset_bounds-entries-first : goal.offset_bounds-entries-first
 offset_bounds-entries-first c =
@@ -22,10 +24,18 @@ pub bounds-entries-first : goal.bounds-entries-first
 bounds-entries-first c = index_fits c.args.level c.args.entries.now 0 c.next_declaration.result c.in-Some.first c.next_declaration.ensures c.in-Some.is
 
 pub version_of-requires : goal.version_of-requires
-version_of-requires c = entry_counts c.args.level c.args.entries.now c.next_declaration.result c.in-Some.first c.index-entries-first.result c.next_declaration.ensures c.in-Some.is c.index-entries-first.is
+version_of-requires c = entry_counts c.args.level c.args.entries.now c.next_declaration.result c.in-Some.first c.index-entries-first.result
+    c.next_declaration.ensures c.in-Some.is c.index-entries-first.is
 
 pub returns-in-Some-version_of-clause-declared : goal.returns-in-Some-version_of-clause-declared
-returns-in-Some-version_of-clause-declared c = known_is c.args.level c.args.entries.now c.index-entries-first.result c.version_of.result c.in-Some-version_of.version (one_is c.args.level c.args.entries.now c.next_declaration.result c.next_declaration-2.result c.in-Some.first c.index-entries-first.result c.next_declaration.ensures c.in-Some.is c.index-entries-first.is c.next_declaration-2.ensures (sym c.is_some.ensures ∙ c.if-is_some.false)) c.version_of.ensures c.in-Some-version_of.is
+returns-in-Some-version_of-clause-declared c =
+    known_is c.args.level c.args.entries.now c.index-entries-first.result c.version_of.result c.in-Some-version_of.version
+    (one_is c.args.level c.args.entries.now c.next_declaration.result c.next_declaration-2.result c.in-Some.first c.index-entries-first.result
+    c.next_declaration.ensures c.in-Some.is c.index-entries-first.is c.next_declaration-2.ensures (sym c.is_some.ensures ∙ c.if-is_some.false)) c.version_of.ensures c.in-Some-version_of.is
 
 pub returns-in-None-clause-declared : goal.returns-in-None-clause-declared
-returns-in-None-clause-declared c = unknown_is c.args.level c.args.entries.now c.in-Some.first c.index-entries-first.result c.version_of.result (index_fits c.args.level c.args.entries.now 0 c.next_declaration.result c.in-Some.first c.next_declaration.ensures c.in-Some.is) c.index-entries-first.is (one_is c.args.level c.args.entries.now c.next_declaration.result c.next_declaration-2.result c.in-Some.first c.index-entries-first.result c.next_declaration.ensures c.in-Some.is c.index-entries-first.is c.next_declaration-2.ensures (sym c.is_some.ensures ∙ c.if-is_some.false)) c.version_of.ensures c.in-None.is
+returns-in-None-clause-declared c =
+    unknown_is c.args.level c.args.entries.now c.in-Some.first c.index-entries-first.result c.version_of.result
+    (index_fits c.args.level c.args.entries.now 0 c.next_declaration.result c.in-Some.first c.next_declaration.ensures c.in-Some.is) c.index-entries-first.is
+    (one_is c.args.level c.args.entries.now c.next_declaration.result c.next_declaration-2.result c.in-Some.first c.index-entries-first.result
+    c.next_declaration.ensures c.in-Some.is c.index-entries-first.is c.next_declaration-2.ensures (sym c.is_some.ensures ∙ c.if-is_some.false)) c.version_of.ensures c.in-None.is

@@ -24,5 +24,6 @@ returns-in_ok-push-in-None c =
     let texts = map string_bytes c.args.found.now.bad.items in
     rw seen (record {
       triples = search rules;
-      bad = ap (map string_bytes) c.in_ok-push-in-None.ensures.items ∙ map_push string_bytes c.args.found.now.bad.items c.in-String.text ∙ sym (ap (λ b. texts ++ cond b (string_bytes c.in-String.text ∷ []) []) (ap (is_bad c.args.source.now.content.now) (sym c.as_str.ensures.value) ∙ bad));
+      bad = ap (map string_bytes) c.in_ok-push-in-None.ensures.items ∙ map_push string_bytes c.args.found.now.bad.items c.in-String.text
+          ∙ sym (ap (λ b. texts ++ cond b (string_bytes c.in-String.text ∷ []) []) (ap (is_bad c.args.source.now.content.now) (sym c.as_str.ensures.value) ∙ bad));
     })

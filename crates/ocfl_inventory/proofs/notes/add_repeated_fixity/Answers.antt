@@ -9,8 +9,10 @@ use Rattle.ocfl_inventory.proofs.notes.add_repeated_fixity.Goals as goal
 
 pub loop-supported-preserved : goal.loop-supported-preserved
 loop-supported-preserved c =
-    several_more (λ (s : Supported). (s.algorithm, block_view s.block.items)) repeated_notes c.args.fixity.now c.loop-supported.supported-index c.supported-item.result (map remark_view c.args.out.now.items) (map remark_view c.loop-supported.out.items) _
+    several_more (λ (s : Supported). (s.algorithm, block_view s.block.items)) repeated_notes c.args.fixity.now c.loop-supported.supported-index
+        c.supported-item.result (map remark_view c.args.out.now.items) (map remark_view c.loop-supported.out.items) _
     c.loop-supported-test.true c.supported-item.is c.loop-supported.invariant c.in_ok-add_repeated_in.ensures
 
 pub returns : goal.returns
-returns c = appended_all (λ (ss : List Supported). flat_map repeated_notes (supported_view ss)) c.args.fixity.now c.loop-supported.supported-index _ _ c.loop-supported-test.false c.loop-supported.invariant
+returns c = appended_all (λ (ss : List Supported). flat_map repeated_notes (supported_view ss)) c.args.fixity.now c.loop-supported.supported-index _ _
+    c.loop-supported-test.false c.loop-supported.invariant

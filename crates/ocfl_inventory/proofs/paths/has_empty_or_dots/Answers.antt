@@ -5,4 +5,5 @@ use Rattle.ocfl_inventory.specs.ListedPath.{is_empty_or_dots}
 use Rattle.ocfl_inventory.proofs.paths.has_empty_or_dots.Goals as goal
 
 pub returns : goal.returns
-returns c = any_from_yields_List is_empty_or_dots _ _ _ c.any.ensures.ran (YieldsList-from_str_split 47 c.args.text.now (lit< tt) c.split.ensures.text c.split.ensures.has_more c.split.ensures.pattern) (λ x b q k. search (rules, tests))
+returns c = any_from_yields_List is_empty_or_dots _ _ _ c.any.ensures.ran
+    (YieldsList-from_str_split 47 c.args.text.now (lit< tt) c.split.ensures.text c.split.ensures.has_more c.split.ensures.pattern) (λ x b q k. search (rules, tests))

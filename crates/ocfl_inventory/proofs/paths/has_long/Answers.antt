@@ -5,4 +5,5 @@ use Rattle.ocfl_inventory.specs.ListedPath.{is_too_long}
 use Rattle.ocfl_inventory.proofs.paths.has_long.Goals as goal
 
 pub returns : goal.returns
-returns c = any_from_yields_List is_too_long _ _ _ c.any.ensures.ran (YieldsList-from_str_split 47 c.args.text.now (lit< tt) c.split.ensures.text c.split.ensures.has_more c.split.ensures.pattern) (λ x b q k. search (rules, tests))
+returns c = any_from_yields_List is_too_long _ _ _ c.any.ensures.ran
+    (YieldsList-from_str_split 47 c.args.text.now (lit< tt) c.split.ensures.text c.split.ensures.has_more c.split.ensures.pattern) (λ x b q k. search (rules, tests))

@@ -6,4 +6,5 @@ use Rattle.ocfl_inventory.specs.Reading.{keys_of}
 use Rattle.ocfl_inventory.proofs.reading.unsupported_keys.Given as goal
 
 abbrev pub invariant-loop-key : goal.invariant-loop-key
-invariant-loop-key l = map (λ t. t.now) l.found.items ++ filter (λ k. not (is_some (algorithm_named k))) (keys_of (members_view l.key-iterator)) ≡ filter (λ k. not (is_some (algorithm_named k))) (keys_of (members_view l.members.entries))
+invariant-loop-key l = map (λ t. t.now) l.found.items ++ filter (λ k. not (is_some (algorithm_named k))) (keys_of (members_view l.key-iterator)) ≡ filter
+    (λ k. not (is_some (algorithm_named k))) (keys_of (members_view l.members.entries))

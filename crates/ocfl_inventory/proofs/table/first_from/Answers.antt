@@ -6,4 +6,5 @@ use Rattle.ocfl_inventory.proofs.TableSearch.{parted_from}
 use Rattle.ocfl_inventory.proofs.table.first_from.Goals as goal
 
 pub returns-clause-found : goal.returns-clause-found
-returns-clause-found c = IsPartitionPoint-from_clause (λ t. is_lt (place_cmp t.path c.args.place.now)) c.args.triples.now c.partition_point.result c.partition_point.ensures.partitioned (parted_from c.args.triples.now c.args.place.now c.requires) (λ a r f h. search rules)
+returns-clause-found c = IsPartitionPoint-from_clause (λ t. is_lt (place_cmp t.path c.args.place.now)) c.args.triples.now c.partition_point.result
+    c.partition_point.ensures.partitioned (parted_from c.args.triples.now c.args.place.now c.requires) (λ a r f h. search rules)

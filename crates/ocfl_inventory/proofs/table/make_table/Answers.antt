@@ -7,7 +7,9 @@ use Rattle.ocfl_inventory.proofs.Inventories.{triples_once}
 use Rattle.ocfl_inventory.proofs.table.make_table.Goals as goal
 
 pub invariant_of-result : goal.invariant_of-result
-invariant_of-result c = subst (IsAscending triple_cmp) (sym (triples_once c.args.triples.items c.dedup.new.self.items c.requires c.dedup.ensures.filtered)) (ascends_ascending triple_total c.args.triples.items)
+invariant_of-result c = subst (IsAscending triple_cmp) (sym (triples_once c.args.triples.items c.dedup.new.self.items c.requires c.dedup.ensures.filtered))
+    (ascends_ascending triple_total c.args.triples.items)
 
 pub returns-clause-is : goal.returns-clause-is
-returns-clause-is c = λ i. record { algorithm = c.args.algorithm; content = string_bytes c.args.content; triples = triples_once c.args.triples.items c.dedup.new.self.items c.requires c.dedup.ensures.filtered i }
+returns-clause-is c = λ i. record { algorithm = c.args.algorithm; content = string_bytes c.args.content; triples =
+    triples_once c.args.triples.items c.dedup.new.self.items c.requires c.dedup.ensures.filtered i }

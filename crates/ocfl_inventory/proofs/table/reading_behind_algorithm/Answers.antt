@@ -8,7 +8,9 @@ pub returns-in-Ok-clause-fit : goal.returns-in-Ok-clause-fit
 returns-in-Ok-clause-fit c = read_fits c.in-Ok.ensures.reading.0 c.in-Ok.table c.in-Ok.ensures.reading.3 c.in-Ok.ensures.few
 
 pub returns-in-Err-clause-remarks : goal.returns-in-Err-clause-remarks
-returns-in-Err-clause-remarks c = stopped_remarks c.stopped.result c.in-Err.stop (behind_algorithm (members_view c.args.members.entries) c.args.algorithm) c.stopped.ensures.remarks c.in-Err.ensures.reading
+returns-in-Err-clause-remarks c =
+    stopped_remarks c.stopped.result c.in-Err.stop (behind_algorithm (members_view c.args.members.entries) c.args.algorithm) c.stopped.ensures.remarks c.in-Err.ensures.reading
 
 pub returns-in-Err-clause-table : goal.returns-in-Err-clause-table
-returns-in-Err-clause-table c = stopped_table c.stopped.result c.in-Err.stop (behind_algorithm (members_view c.args.members.entries) c.args.algorithm) c.stopped.ensures.remarks c.stopped.ensures.table c.in-Err.ensures.reading
+returns-in-Err-clause-table c =
+    stopped_table c.stopped.result c.in-Err.stop (behind_algorithm (members_view c.args.members.entries) c.args.algorithm) c.stopped.ensures.remarks c.stopped.ensures.table c.in-Err.ensures.reading

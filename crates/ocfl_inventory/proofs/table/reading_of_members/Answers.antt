@@ -4,7 +4,8 @@ use Rattle.ocfl_inventory.proofs.Stopped.{fails_then, stopped_algorithm, stopped
 use Rattle.ocfl_inventory.proofs.table.reading_of_members.Goals as goal
 
 pub returns-in-Err-clause-algorithm : goal.returns-in-Err-clause-algorithm
-returns-in-Err-clause-algorithm c = stopped_algorithm c.stopped.result c.in-Err.stop (algorithm_in (members_view c.args.members.entries)) c.stopped.ensures.remarks c.stopped.ensures.algorithm c.in-Err.ensures
+returns-in-Err-clause-algorithm c =
+    stopped_algorithm c.stopped.result c.in-Err.stop (algorithm_in (members_view c.args.members.entries)) c.stopped.ensures.remarks c.stopped.ensures.algorithm c.in-Err.ensures
 
 pub returns-in-Err-clause-remarks : goal.returns-in-Err-clause-remarks
 returns-in-Err-clause-remarks c =

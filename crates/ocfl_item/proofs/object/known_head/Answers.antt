@@ -35,7 +35,8 @@ returns g c = record {
   told = λ h root over here known.
       let read = c.in_ok-add_declaration_file.ensures.told h root over (listed_object root _ _ here) in
       let more = c.in_ok-table.ensures.told h root (read.0.did.tree ∙ read.0.over) (listed_object root _ _ here) in (
-        known_lines root _ here.zone c.args.version c.new-lines.result c.add_declaration_file.new.lines c.add_inventory_file.new.lines c.add_clean.new.lines known c.new-lines.ensures.lines read.1 more.1 c.in_ok-add_clean.ensures.lines,
+        known_lines root _ here.zone c.args.version c.new-lines.result c.add_declaration_file.new.lines c.add_inventory_file.new.lines c.add_clean.new.lines
+            known c.new-lines.ensures.lines read.1 more.1 c.in_ok-add_clean.ensures.lines,
         known_table root _ c.args.version _ known more.0,
       );
   opened = λ h root over here.

@@ -20,10 +20,12 @@ returns-in_err-folder-clause-told g c = λ h root over here.
     rw (p.1, p.2) (visits_stop root _ _ e _ (looked_either root e here short) (c.in_err-folder.ensures.told h root over (short_listable root e here short)))
 
 pub returns-in-None-clause-fair : goal.returns-in-None-clause-fair
-returns-in-None-clause-fair g c = fair_over c.args.place c.in_ok-folder.folder c.visit_undeclared.result c.in_ok-folder.ensures.place (search rules) (λ short. c.visit_undeclared.ensures.fair short c.in_ok-folder.ensures.ordinary)
+returns-in-None-clause-fair g c =
+    fair_over c.args.place c.in_ok-folder.folder c.visit_undeclared.result c.in_ok-folder.ensures.place (search rules) (λ short. c.visit_undeclared.ensures.fair short c.in_ok-folder.ensures.ordinary)
 
 pub returns-in_default-clause-fair : goal.returns-in_default-clause-fair
-returns-in_default-clause-fair g c = fair_over c.args.place c.in_ok-folder.folder c.visit_object.result c.in_ok-folder.ensures.place (search rules) (λ short. c.visit_object.ensures.fair short c.in_ok-folder.ensures.ordinary)
+returns-in_default-clause-fair g c =
+    fair_over c.args.place c.in_ok-folder.folder c.visit_object.result c.in_ok-folder.ensures.place (search rules) (λ short. c.visit_object.ensures.fair short c.in_ok-folder.ensures.ordinary)
 
 pub returns-in-None-clause-told : goal.returns-in-None-clause-told
 returns-in-None-clause-told g c = λ h root over here.

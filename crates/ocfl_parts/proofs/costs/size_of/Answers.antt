@@ -12,4 +12,5 @@ pub returns-then-size-lt-SIZE_LIMIT-clause-value : goal.returns-then-size-lt-SIZ
 returns-then-size-lt-SIZE_LIMIT-clause-value c = (is_size_of c.args.detail.now c.in_ok-size.size (sym c.as_bytes.ensures.value ∙ c.in_ok-size.ensures.found) (omega arith)).1
 
 pub returns-else-size-lt-SIZE_LIMIT-clause-none : goal.returns-else-size-lt-SIZE_LIMIT-clause-none
-returns-else-size-lt-SIZE_LIMIT-clause-none c = λ e. not_size_large c.args.detail.now c.in_ok-size.size (sym c.as_bytes.ensures.value ∙ c.in_ok-size.ensures.found) (omega arith) c.in_ok-size.ensures.fits
+returns-else-size-lt-SIZE_LIMIT-clause-none c =
+    λ e. not_size_large c.args.detail.now c.in_ok-size.size (sym c.as_bytes.ensures.value ∙ c.in_ok-size.ensures.found) (omega arith) c.in_ok-size.ensures.fits

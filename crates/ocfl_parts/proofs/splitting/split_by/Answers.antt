@@ -23,7 +23,8 @@ returns-then-not-branch-clause-refused g c =
     let inv = c.loop-number.invariant in
     let cutter = c.loop-number.cutter in
     IfErr-weaker c.end.result _ _ (λ stop f.
-    end_read c.args.budget inv.done cutter.separators cutter.spent cutter.item inv.cut (g.R.Read.remaining c.args.report.now) (g.R.Read.remaining c.loop-number.report) stop inv.read (f inv.done inv.cut)) c.end.ensures.refused
+    end_read c.args.budget inv.done cutter.separators cutter.spent cutter.item inv.cut (g.R.Read.remaining c.args.report.now)
+        (g.R.Read.remaining c.loop-number.report) stop inv.read (f inv.done inv.cut)) c.end.ensures.refused
 
 pub take_line-requires : goal.take_line-requires
 take_line-requires g c = record { below = c.loop-number.invariant.cut.below }
@@ -35,7 +36,8 @@ returns-in_err-cutter-clause-refused g c =
     let p = err_from_is_err_and c.from_residual-in_err-cutter.result c.from_residual-in_err-cutter.ensures.1 in
     rw (p.1, p.2)
     (line_read c.args.budget inv.done cutter.separators cutter.spent cutter.item inv.cut (g.R.Read.remaining c.args.report.now) (g.R.Read.remaining c.loop-number.report) c.loop-number.number
-    c.read_text.new.text.items c.deref.result.now c.in_err-cutter.field-0.0 inv.read inv.number c.in_ok-read_text.ensures.line (c.in_ok-read_text.ensures.more c.if-not-branch.false) c.deref.ensures.value
+    c.read_text.new.text.items c.deref.result.now c.in_err-cutter.field-0.0 inv.read inv.number c.in_ok-read_text.ensures.line
+        (c.in_ok-read_text.ensures.more c.if-not-branch.false) c.deref.ensures.value
     (c.in_err-cutter.ensures.refused inv.done inv.cut))
 
 pub loop-number-preserved : goal.loop-number-preserved
@@ -46,5 +48,6 @@ loop-number-preserved g c =
       done = inv.done ++ next.0 ∷ [];
       cut = next.2;
       number = omega (arith, inv.number, length-append inv.done (next.0 ∷ []));
-      read = more_read (g.R.Read.remaining c.args.report.now) (g.R.Read.remaining c.loop-number.report) (g.R.Read.remaining c.read_text.new.report) inv.done next.0 c.read_text.new.text.items c.deref.result.now inv.read c.in_ok-read_text.ensures.rest c.deref.ensures.value next.1;
+      read = more_read (g.R.Read.remaining c.args.report.now) (g.R.Read.remaining c.loop-number.report) (g.R.Read.remaining c.read_text.new.report) inv.done
+          next.0 c.read_text.new.text.items c.deref.result.now inv.read c.in_ok-read_text.ensures.rest c.deref.ensures.value next.1;
     }

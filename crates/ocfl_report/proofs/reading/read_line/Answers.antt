@@ -32,5 +32,6 @@ returns-clause-ok c =
     record {
       place = c.in-Ok.ensures.names;
       detail = IsUtf8-string_bytes c.in_ok-detail-2.detail;
-      is = text_from_fields c.args.bytes.now f.code.now f.place.now f.detail.now line c.in-Some.ensures.some c.in-Some-read_code.ensures.some c.in-Ok.ensures.ok (read ∙ ap escape (sym c.in_ok-detail-2.ensures.ok));
+      is = text_from_fields c.args.bytes.now f.code.now f.place.now f.detail.now line c.in-Some.ensures.some c.in-Some-read_code.ensures.some c.in-Ok.ensures.ok
+          (read ∙ ap escape (sym c.in_ok-detail-2.ensures.ok));
     }

@@ -25,7 +25,8 @@ loop-one-init g c = record {
 pub returns-in_default-clause-told : goal.returns-in_default-clause-told
 returns-in_default-clause-told g c told root over short =
     let e = c.cycle_end.ensures in
-    cycle_said root (part_of c.args.part.now) _ _ _ _ _ _ _ _ _ _ _ e.cursor e.found e.end (goes_unbegun root (part_of c.args.part.now) _ _ _ _ _ _ _ _ (c.loop-one.invariant.told told root over short) (omega (arith, c.in_default.ensures.further, c.loop-one.invariant.counts)))
+    cycle_said root (part_of c.args.part.now) _ _ _ _ _ _ _ _ _ _ _ e.cursor e.found e.end
+        (goes_unbegun root (part_of c.args.part.now) _ _ _ _ _ _ _ _ (c.loop-one.invariant.told told root over short) (omega (arith, c.in_default.ensures.further, c.loop-one.invariant.counts)))
 
 pub returns-in-Ended-clause-any_store : goal.returns-in-Ended-clause-any_store
 returns-in-Ended-clause-any_store g c = record {
@@ -38,7 +39,8 @@ returns-in-Ended-clause-any_store g c = record {
   spent_is = search rules;
   files_are = search rules;
   ended_is = search rules;
-  lines = λ wrote. lines_said _ _ _ _ c.cycle_end-in-Ended.ensures.found (lines_then _ _ _ _ _ _ c.loop-one.invariant.lines (c.run_part-reached.ensures.any_store.lines (ended_wrote _ c.in-Ended.is)) c.either-found.ensures);
+  lines = λ wrote. lines_said _ _ _ _ c.cycle_end-in-Ended.ensures.found
+      (lines_then _ _ _ _ _ _ c.loop-one.invariant.lines (c.run_part-reached.ensures.any_store.lines (ended_wrote _ c.in-Ended.is)) c.either-found.ensures);
 }
 
 pub returns-in-Ended-clause-told : goal.returns-in-Ended-clause-told
@@ -58,7 +60,8 @@ returns-in-Ended-clause-headline g c told root over short same =
     let e = c.cycle_end-in-Ended.ensures in
     let counted = e.runs ∙ sym (ap (λ x. x.runs) e.cursor ∙ one_run_more c.loop-one.cursor c.in-Ok.begun ran.cursor ran.spent ran.files ran.end moved.0 c.in-Ok.ensures.same i.unended moved.1 _ i.counts) in
     let end = c.cycle_end-in-Ended.result in
-    headline_of_part root (part_of c.args.part.now) (g.T.Tree.state c.args.store.now) (g.T.Tree.state c.run_part-reached.new.store) (g.W.Write.contents c.args.out.now) (g.W.Write.contents c.run_part-reached.new.out) (map limits_of c.args.limits.now) end.cursor end.found end.end end.runs
+    headline_of_part root (part_of c.args.part.now) (g.T.Tree.state c.args.store.now) (g.T.Tree.state c.run_part-reached.new.store)
+        (g.W.Write.contents c.args.out.now) (g.W.Write.contents c.run_part-reached.new.out) (map limits_of c.args.limits.now) end.cursor end.found end.end end.runs
     counted (returns-in-Ended-clause-told g c told root over short) same
 
 pub returns-in-Stopped-clause-any_store : goal.returns-in-Stopped-clause-any_store
@@ -74,7 +77,8 @@ returns-in-Stopped-clause-any_store g c =
       spent_is = search rules;
       files_are = search rules;
       ended_is = search rules;
-      lines = λ wrote. lines_said _ _ _ _ e.found (lines_then _ _ _ _ _ _ c.loop-one.invariant.lines (c.run_part-reached.ensures.any_store.lines (stopped_wrote _ _ _ c.in-Stopped.is e.end wrote)) c.either-found.ensures);
+      lines = λ wrote. lines_said _ _ _ _ e.found
+          (lines_then _ _ _ _ _ _ c.loop-one.invariant.lines (c.run_part-reached.ensures.any_store.lines (stopped_wrote _ _ _ c.in-Stopped.is e.end wrote)) c.either-found.ensures);
     }
 
 pub returns-in-Stopped-clause-told : goal.returns-in-Stopped-clause-told
@@ -119,5 +123,6 @@ pub returns-clause-headline : goal.returns-clause-headline
 returns-clause-headline g c told root over short same =
     let e = c.cycle_end-2.ensures in
     let end = c.cycle_end-2.result in
-    headline_of_part root (part_of c.args.part.now) (g.T.Tree.state c.args.store.now) (g.T.Tree.state c.loop-one.store) (g.W.Write.contents c.args.out.now) (g.W.Write.contents c.loop-one.out) (map limits_of c.args.limits.now) end.cursor end.found end.end end.runs
+    headline_of_part root (part_of c.args.part.now) (g.T.Tree.state c.args.store.now) (g.T.Tree.state c.loop-one.store) (g.W.Write.contents c.args.out.now)
+        (g.W.Write.contents c.loop-one.out) (map limits_of c.args.limits.now) end.cursor end.found end.end end.runs
     (e.runs ∙ sym (ap (λ x. x.runs) e.cursor ∙ c.loop-one.invariant.counts)) (returns-clause-told g c told root over short) same

@@ -24,5 +24,6 @@ invariant-loop-one g l =
       untouched : l.runs ≡ 0 → l.store ≡ l.fn.store;
       lines : WritesLines (Write.contents l.fn.out) (Write.contents l.out) l.found;
       told : IsTrue Tree.told → (root : StorageRoot) → (Tree.state l.fn.store).tree ≡ root → HasShortFiles root →
-          CycleGoes root (part_of l.fn.part) (Tree.state l.fn.store) (Tree.state l.store) (Write.contents l.fn.out) (Write.contents l.out) (map limits_of (drop l.one-index l.limits)) (map limits_of l.limits) l.cursor l.found;
+          CycleGoes root (part_of l.fn.part) (Tree.state l.fn.store) (Tree.state l.store) (Write.contents l.fn.out) (Write.contents l.out)
+              (map limits_of (drop l.one-index l.limits)) (map limits_of l.limits) l.cursor l.found;
     }

@@ -9,7 +9,8 @@ use Rattle.ocfl_scrub.proofs.part_performing.perform_part_run.Given as given
 use Rattle.ocfl_scrub.proofs.part_performing.perform_part_run.Goals as goal
 use Rattle.ocfl_scrub.proofs.part_performing.perform_part_run.Goals.{Joined-part-2}
 
-made : (g : given.Over) (c : Joined-part-2 g) → Made (BeginsPartWith c.args.ends.now (bytes_of g.R.Read.remaining c.args.reader)) (part_text c.args.ends.now) (limits_of c.args.limits) c.in-Ok.cursor c.run_part-end.result c.conclude_run.result
+made : (g : given.Over) (c : Joined-part-2 g)
+    → Made (BeginsPartWith c.args.ends.now (bytes_of g.R.Read.remaining c.args.reader)) (part_text c.args.ends.now) (limits_of c.args.limits) c.in-Ok.cursor c.run_part-end.result c.conclude_run.result
 made g c =
     let e = c.conclude_run.ensures in
     made_by c.run_part-end.ensures.any_store c.in-Ok.ensures.cursor e.worn.1 e.worn_ends (λ went. e.note went (part_text c.args.ends.now) c.encode_part-text.ensures.text)

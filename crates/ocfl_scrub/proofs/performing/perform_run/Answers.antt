@@ -8,7 +8,8 @@ use Rattle.ocfl_scrub.proofs.PerformLaws.{Made, handed_back, made_by, run_perfor
 use Rattle.ocfl_scrub.proofs.performing.perform_run.Given as given
 use Rattle.ocfl_scrub.proofs.performing.perform_run.Goals as goal
 
-made : (g : given.Over) (c : goal.After-conclude_run g) → Made (BeginsWith (bytes_of g.R.Read.remaining c.args.reader)) cursor_text (limits_of c.args.limits) c.in-Ok.cursor c.run-end.result c.conclude_run.result
+made : (g : given.Over) (c : goal.After-conclude_run g)
+    → Made (BeginsWith (bytes_of g.R.Read.remaining c.args.reader)) cursor_text (limits_of c.args.limits) c.in-Ok.cursor c.run-end.result c.conclude_run.result
 made g c =
     let e = c.conclude_run.ensures in
     made_by c.run-end.ensures.any_store c.in-Ok.ensures.cursor e.worn.1 e.worn_ends (λ went. e.note went cursor_text c.encode-text.ensures.text)

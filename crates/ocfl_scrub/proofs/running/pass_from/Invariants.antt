@@ -20,7 +20,8 @@ invariant-loop-pending g l =
       limits : l.meter.limits ≡ l.fn.limits;
       paid : IsPaid (limits_of l.fn.limits) l.meter.spent l.meter.files;
       told : IsTrue Tree.told → (root : StorageRoot) → (Tree.state l.fn.store).tree ≡ root → HasShortFiles root →
-          HasPaid root (part_of l.fn.part) (Tree.state l.fn.store) (Tree.state l.store) (Write.contents l.fn.out) (Write.contents l.out) l.walk l.fn.from l.last (limits_of l.fn.limits) l.meter.spent l.meter.files l.found;
+          HasPaid root (part_of l.fn.part) (Tree.state l.fn.store) (Tree.state l.store) (Write.contents l.fn.out) (Write.contents l.out) l.walk l.fn.from l.last
+              (limits_of l.fn.limits) l.meter.spent l.meter.files l.found;
     }
 
 abbrev pub decreases-loop-pending : goal.decreases-loop-pending

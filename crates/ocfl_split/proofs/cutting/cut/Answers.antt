@@ -28,7 +28,10 @@ loop-part-preserved c =
     record {
       start = λ k. absurd (omega (arith, k, c.loop-part.auto.part, c.loop-part-test.true));
       rule = c.in_ok-add.ensures.rule;
-      above = cut_on c.args.level.now c.loop-part.separators (c.loop-part.part * length c.args.level.now / c.min-parts.result) c.index-level-part.result l c.index-level-part.is c.loop-part.invariant.above c.add.new.separators ((c.loop-part.part + 1) * length c.args.level.now / c.min-parts.result) c.in_ok-add.ensures.added grows;
-      cut = firsts_more c.args.level.now c.loop-part.separators c.add.new.separators c.min-parts.result c.loop-part.part c.index-level-part.result c.loop-part.auto.part (got c.args.level.now (c.loop-part.part * length c.args.level.now / c.min-parts.result) c.index-level-part.result l c.index-level-part.is) c.loop-part.invariant.cut c.in_ok-add.ensures.added;
+      above = cut_on c.args.level.now c.loop-part.separators (c.loop-part.part * length c.args.level.now / c.min-parts.result) c.index-level-part.result l
+          c.index-level-part.is c.loop-part.invariant.above c.add.new.separators ((c.loop-part.part + 1) * length c.args.level.now / c.min-parts.result) c.in_ok-add.ensures.added grows;
+      cut = firsts_more c.args.level.now c.loop-part.separators c.add.new.separators c.min-parts.result c.loop-part.part c.index-level-part.result
+          c.loop-part.auto.part (got c.args.level.now (c.loop-part.part * length c.args.level.now / c.min-parts.result) c.index-level-part.result l
+          c.index-level-part.is) c.loop-part.invariant.cut c.in_ok-add.ensures.added;
       long = ap length c.in_ok-add.ensures.added ∙ omega (arith, length-append c.loop-part.separators (c.index-level-part.result ∷ []), c.loop-part.invariant.long, c.loop-part.auto.part);
     }

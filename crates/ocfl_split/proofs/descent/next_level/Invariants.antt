@@ -9,5 +9,6 @@ abbrev pub invariant-loop-place : goal.invariant-loop-place
 invariant-loop-place g l = record {
   few : length l.next.items ≤ l.room;
   fair : (depth : ℕ) → IsLevel depth l.level → IsBelow (take l.place-index l.level) l.next.items;
-  told : IsTrue g.T.Tree.told → (root : StorageRoot) → (g.T.Tree.state l.initial.store).tree ≡ root → AreListable root l.level → IsListedSo root (g.T.Tree.state l.initial.store) (g.T.Tree.state l.store) l.room l.level l.place-index l.next.items;
+  told : IsTrue g.T.Tree.told → (root : StorageRoot) → (g.T.Tree.state l.initial.store).tree ≡ root → AreListable root l.level
+      → IsListedSo root (g.T.Tree.state l.initial.store) (g.T.Tree.state l.store) l.room l.level l.place-index l.next.items;
 }

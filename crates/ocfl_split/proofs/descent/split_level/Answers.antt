@@ -19,7 +19,8 @@ loop-depth-init g c = record {
 pub returns-then-len-count-clause-told : goal.returns-then-len-count-clause-told
 returns-then-len-count-clause-told g c = λ h root over.
     let enough : nat_le c.args.count (length c.loop-depth.level.items) ≡ true = le-leb c.args.count (length c.loop-depth.level.items) (omega (arith, c.len.ensures, c.loop-depth.level.ok.0, c.if-len-count.true)) in
-    split_enough root c.args.count (g.T.Tree.state c.args.store.now) (g.T.Tree.state c.loop-depth.store) c.loop-depth.depth c.loop-depth.above.items c.loop-depth.level.items (c.loop-depth.invariant.told h root over) enough
+    split_enough root c.args.count (g.T.Tree.state c.args.store.now) (g.T.Tree.state c.loop-depth.store) c.loop-depth.depth c.loop-depth.above.items
+        c.loop-depth.level.items (c.loop-depth.invariant.told h root over) enough
 
 pub returns-in_err-next-clause-told : goal.returns-in_err-next-clause-told
 returns-in_err-next-clause-told g c = λ h root over.
@@ -29,10 +30,13 @@ returns-in_err-next-clause-told g c = λ h root over.
     let so = c.loop-depth.invariant.told h root over in
     let can = subst (AreListable root) (sym c.deref.ensures.value) (can_list root c.args.count (g.T.Tree.state c.args.store.now) (g.T.Tree.state c.loop-depth.store) c.loop-depth.depth c.loop-depth.above.items c.loop-depth.level.items so c.loop-depth.invariant.fair c.loop-depth-test.true) in
     let stops = subst (λ xs. ListsStop root (g.T.Tree.state c.loop-depth.store) (g.T.Tree.state c.next_level.new.store) (listed_within root c.saturating_sub-room.result xs) c.in_err-next.field-0.0) c.deref.ensures.value (c.in_err-next.ensures.told h root (over_after root _ _ _ so.lists) can) in
-    rw (p.1, p.2) (split_fails root c.args.count (g.T.Tree.state c.args.store.now) (g.T.Tree.state c.loop-depth.store) c.loop-depth.depth c.loop-depth.above.items c.loop-depth.level.items so (g.T.Tree.state c.next_level.new.store) c.saturating_sub-room.result c.loop-depth-test.true few room c.in_err-next.field-0.0 stops)
+    rw (p.1, p.2) (split_fails root c.args.count (g.T.Tree.state c.args.store.now) (g.T.Tree.state c.loop-depth.store) c.loop-depth.depth
+        c.loop-depth.above.items c.loop-depth.level.items so (g.T.Tree.state c.next_level.new.store) c.saturating_sub-room.result c.loop-depth-test.true few room c.in_err-next.field-0.0 stops)
 
 pub returns-in-None-clause-fair : goal.returns-in-None-clause-fair
-returns-in-None-clause-fair g c = subst (λ xs. (depth : ℕ) × IsLevel depth xs) (sym c.wider-in-None.ensures) (wider_is c.loop-depth.depth c.loop-depth.above.items c.loop-depth.level.items c.loop-depth.invariant.above c.loop-depth.invariant.fair)
+returns-in-None-clause-fair g c =
+    subst (λ xs. (depth : ℕ) × IsLevel depth xs) (sym c.wider-in-None.ensures)
+    (wider_is c.loop-depth.depth c.loop-depth.above.items c.loop-depth.level.items c.loop-depth.invariant.above c.loop-depth.invariant.fair)
 
 pub returns-in-None-clause-told : goal.returns-in-None-clause-told
 returns-in-None-clause-told g c = λ h root over.
@@ -52,7 +56,9 @@ loop-depth-preserved g c =
     let most : c.saturating_sub-room.result ≤ 1000000 = omega (arith, c.saturating_sub.ensures, c.saturating_sub-room.ensures) in
     record {
       fair = (rw c.in-Some.is at c.in_ok-next.ensures.fair) most c.loop-depth.depth (subst (IsLevel c.loop-depth.depth) (sym c.deref.ensures.value) c.loop-depth.invariant.fair);
-      above = subst IsNoneOrLevel (sym is) (kept_is (wider c.loop-depth.above.items c.loop-depth.level.items) c.in-Some.next.items (wider_is c.loop-depth.depth c.loop-depth.above.items c.loop-depth.level.items c.loop-depth.invariant.above c.loop-depth.invariant.fair));
+      above = subst IsNoneOrLevel (sym is)
+          (kept_is (wider c.loop-depth.above.items c.loop-depth.level.items) c.in-Some.next.items
+          (wider_is c.loop-depth.depth c.loop-depth.above.items c.loop-depth.level.items c.loop-depth.invariant.above c.loop-depth.invariant.fair));
       told = λ h root over.
           let few : nat_le c.args.count (length c.loop-depth.level.items) ≡ false = lt-leb c.args.count (length c.loop-depth.level.items) (omega (arith, c.len.ensures, c.loop-depth.level.ok.0, c.if-len-count.false)) in
           let room : c.saturating_sub-room.result ≡ room_below c.loop-depth.above.items c.loop-depth.level.items = omega (arith, c.saturating_sub.ensures, c.saturating_sub-room.ensures, c.len-in-loop-depth.ensures, c.len-in-loop-depth-2.ensures, c.loop-depth.level.ok.0, c.loop-depth.above.ok.0) in
@@ -60,11 +66,14 @@ loop-depth-preserved g c =
           let can = subst (AreListable root) (sym c.deref.ensures.value) (can_list root c.args.count (g.T.Tree.state c.args.store.now) (g.T.Tree.state c.loop-depth.store) c.loop-depth.depth c.loop-depth.above.items c.loop-depth.level.items so c.loop-depth.invariant.fair c.loop-depth-test.true) in
           let k = subst (λ xs. (Some c.in-Some.next.items ≡ next_level root c.saturating_sub-room.result xs) × ListsAll root (g.T.Tree.state c.loop-depth.store) (g.T.Tree.state c.next_level.new.store) (listed_within root c.saturating_sub-room.result xs)) c.deref.ensures.value
           (rw c.in-Some.is at (c.in_ok-next.ensures.told h root (over_after root _ _ _ so.lists) can)) in
-          split_on root c.args.count (g.T.Tree.state c.args.store.now) (g.T.Tree.state c.loop-depth.store) c.loop-depth.depth c.loop-depth.above.items c.loop-depth.level.items so (g.T.Tree.state c.next_level.new.store) c.saturating_sub-room.result c.loop-depth-test.true few room c.keep-above.result.items c.in-Some.next.items is k.0 k.1;
+          split_on root c.args.count (g.T.Tree.state c.args.store.now) (g.T.Tree.state c.loop-depth.store) c.loop-depth.depth c.loop-depth.above.items
+              c.loop-depth.level.items so (g.T.Tree.state c.next_level.new.store) c.saturating_sub-room.result c.loop-depth-test.true few room
+              c.keep-above.result.items c.in-Some.next.items is k.0 k.1;
     }
 
 pub returns-clause-fair : goal.returns-clause-fair
-returns-clause-fair g c = subst (λ xs. (depth : ℕ) × IsLevel depth xs) (sym c.wider-2.ensures) (wider_is c.loop-depth.depth c.loop-depth.above.items c.loop-depth.level.items c.loop-depth.invariant.above c.loop-depth.invariant.fair)
+returns-clause-fair g c = subst (λ xs. (depth : ℕ) × IsLevel depth xs) (sym c.wider-2.ensures)
+    (wider_is c.loop-depth.depth c.loop-depth.above.items c.loop-depth.level.items c.loop-depth.invariant.above c.loop-depth.invariant.fair)
 
 pub returns-clause-told : goal.returns-clause-told
 returns-clause-told g c = λ h root over.

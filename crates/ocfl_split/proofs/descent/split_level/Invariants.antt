@@ -10,5 +10,6 @@ abbrev pub invariant-loop-depth : goal.invariant-loop-depth
 invariant-loop-depth g l = record {
   fair : IsLevel l.depth l.level.items;
   above : IsNoneOrLevel l.above.items;
-  told : IsTrue g.T.Tree.told → (root : StorageRoot) → (g.T.Tree.state l.initial.store).tree ≡ root → IsSplitSo root (g.T.Tree.state l.initial.store) (g.T.Tree.state l.store) l.count l.depth l.above.items l.level.items;
+  told : IsTrue g.T.Tree.told → (root : StorageRoot) → (g.T.Tree.state l.initial.store).tree ≡ root
+      → IsSplitSo root (g.T.Tree.state l.initial.store) (g.T.Tree.state l.store) l.count l.depth l.above.items l.level.items;
 }

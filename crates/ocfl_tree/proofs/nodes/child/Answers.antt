@@ -10,7 +10,8 @@ use Rattle.ocfl_tree.proofs.nodes.child.Goals as goal
 pub returns-then-eq : goal.returns-then-eq
 returns-then-eq c =
     let same = (bytes_eq-Decides c.in_ok-parent.parent.now c.args.dir.now).0 (sym c.eq.ensures ∙ c.if-eq.true) in (
-      ap (child_name (names_of c.args.dir.now)) (c.in_ok-parent.ensures.0 ∙ ap (λ d. names_of d ++ c.in_ok-parent.name.now ∷ []) same) ∙ child_name-append (names_of c.args.dir.now) c.in_ok-parent.name.now,
+      ap (child_name (names_of c.args.dir.now)) (c.in_ok-parent.ensures.0 ∙ ap (λ d. names_of d ++ c.in_ok-parent.name.now ∷ []) same)
+          ∙ child_name-append (names_of c.args.dir.now) c.in_ok-parent.name.now,
       c.in_ok-parent.ensures.1,
     )
 

@@ -5,4 +5,5 @@ use Rattle.ocfl_tree.specs.Path.{fits}
 use Rattle.ocfl_tree.proofs.path.all_fit.Goals as goal
 
 pub returns : goal.returns
-returns c = all_from_yields_List fits _ _ _ c.all.ensures.ran (YieldsList-from_str_split 47 c.args.path.now (lit< tt) c.split.ensures.text c.split.ensures.has_more c.split.ensures.pattern) (λ x b q k. search (rules, tests))
+returns c = all_from_yields_List fits _ _ _ c.all.ensures.ran
+    (YieldsList-from_str_split 47 c.args.path.now (lit< tt) c.split.ensures.text c.split.ensures.has_more c.split.ensures.pattern) (λ x b q k. search (rules, tests))

@@ -12,7 +12,8 @@ pub returns-then-is_text : goal.returns-then-is_text
 returns-then-is_text c =
     let is : c.is_text.result ≡ text_eq c.entry-item.result.name c.args.name.now = c.is_text.ensures ∙ (λ i. text_eq (c.as_str.ensures.value i) (c.as_str-in-loop-entry.ensures.value i)) in (
       named_same c.entry-item.result.name c.args.name.now (sym is ∙ c.if-is_text.true),
-      sym (kind_found c.args.entries.now c.loop-entry.entry-index c.entry-item.result c.args.name.now c.is_text.result c.loop-entry-test.true c.entry-item.is c.loop-entry.invariant is c.if-is_text.true),
+      sym (kind_found c.args.entries.now c.loop-entry.entry-index c.entry-item.result c.args.name.now c.is_text.result c.loop-entry-test.true c.entry-item.is
+          c.loop-entry.invariant is c.if-is_text.true),
     )
 
 pub loop-entry-preserved : goal.loop-entry-preserved

@@ -6,4 +6,5 @@ use Rattle.ocfl_inventory.specs.Table.{Triple}
 use Rattle.ocfl_inventory.proofs.table.Table.named.Goals as goal
 
 pub returns : goal.returns
-returns c = subst (λ (ns : List Named). IfOk c.clone_named.result (λ v. map named_view v.items ≡ ns)) (c.triples_at.ensures ∙ ap (λ (xs : List Triple). named_among xs c.args.place.now) c.deref.ensures.value ∙ ap (λ (t : Table). named t c.args.place.now) c.self.view_is) c.clone_named.ensures
+returns c = subst (λ (ns : List Named). IfOk c.clone_named.result (λ v. map named_view v.items ≡ ns))
+    (c.triples_at.ensures ∙ ap (λ (xs : List Triple). named_among xs c.args.place.now) c.deref.ensures.value ∙ ap (λ (t : Table). named t c.args.place.now) c.self.view_is) c.clone_named.ensures

@@ -14,7 +14,8 @@ pub returns-clause-orderly : goal.returns-clause-orderly
 returns-clause-orderly c = missing_orderly c.args.self.now c.args.place c.requires.orderly c.requires.some c.requires.trim c.requires.next
 
 pub returns-clause-goes_on : goal.returns-clause-goes_on
-returns-clause-goes_on c = missing_goes_on c.args.self.now c.args.place c.requires.orderly c.requires.some c.requires.trim c.requires.next c.in_ok-item.item c.step_of.result c.step_of.ensures c.in_ok-item.ensures.fair c.in_ok-item.ensures.named
+returns-clause-goes_on c = missing_goes_on c.args.self.now c.args.place c.requires.orderly c.requires.some c.requires.trim c.requires.next c.in_ok-item.item
+    c.step_of.result c.step_of.ensures c.in_ok-item.ensures.fair c.in_ok-item.ensures.named
 
 pub returns-clause-falls : goal.returns-clause-falls
 returns-clause-falls c = missing_falls c.args.self.now c.args.place c.requires.orderly c.requires.some c.requires.trim c.requires.next
@@ -24,4 +25,5 @@ returns-clause-there c = missing_there c.args.self.now c.args.place c.requires.o
 
 pub returns-clause-told : goal.returns-clause-told
 returns-clause-told c = λ s root over last held turn unseen.
-    missing_told c.args.self.now c.args.place c.requires.orderly c.requires.some c.requires.trim c.requires.next c.in_ok-item.item c.step_of.result c.step_of.ensures root s last over held turn unseen (c.in_ok-item.ensures.told root held.table unseen)
+    missing_told c.args.self.now c.args.place c.requires.orderly c.requires.some c.requires.trim c.requires.next c.in_ok-item.item c.step_of.result
+        c.step_of.ensures root s last over held turn unseen (c.in_ok-item.ensures.told root held.table unseen)

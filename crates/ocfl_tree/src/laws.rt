@@ -1,12 +1,12 @@
 //! What callers of a store need once, as contracts of functions that do nothing.
 ghost use Rattle.std.specs.Prelude.{◌≡◌, ◌≢◌, ℕ, ◌+◌, ◌<◌, ◌++◌, [], ◌∷◌, List, length};
-ghost use Rattle.std.specs.Prelude.{true, false, None, Some};
+ghost use Rattle.std.specs.Prelude.{true, false, None, Some, Bool, IsTrue};
 ghost use Rattle.std.specs.List.Sorted.{IsPermutation};
 ghost use Rattle.ocfl_tree.specs.Name.{IsPlace};
 ghost use Rattle.ocfl_tree.specs.Place.{Text, Place as Spot};
 ghost use Rattle.ocfl_tree.specs.StorageRoot.{StorageRoot, file, dir, at};
 ghost use Rattle.ocfl_tree.specs.Listing.{entries_in, kind_in, kind_at, IsOrdinary, IsListing};
-ghost use Rattle.ocfl_tree.specs.Store.{Store, Did};
+ghost use Rattle.ocfl_tree.specs.Store.{Store, Did, IfTold};
 ghost use Rattle.ocfl_tree.specs.Calls.{opening, Lists, ListFails, Opens, OpenFails, Reads};
 ghost use Rattle.ocfl_tree.specs.Calls.{ReadFails, Closes};
 ghost use Rattle.ocfl_tree.specs.Reading.{IsReading};
@@ -22,6 +22,14 @@ pub fn every_place_has_names(place: &Place)
 {
     let _ = place.path();
 }
+
+/// What is said of a store that tells its tree is said of that tree, and of another store nothing.
+pub fn what_is_told_is_of_the_tree()
+    ensures holds { (s : Store) (holds : StorageRoot → Bool)
+        → IfTold true s (λ root. holds root ≡ true) → holds s.tree ≡ true }
+    ensures said { (told : Bool) (s : Store) (holds : StorageRoot → Bool)
+        → (IsTrue told → holds s.tree ≡ true) → IfTold told s (λ root. holds root ≡ true) }
+{}
 
 /// One call after another did what both did.
 #[tactic(auto, using(crate::proofs::Stores::did_both))]

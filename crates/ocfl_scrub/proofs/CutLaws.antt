@@ -1,6 +1,7 @@
 -- What is paid for is cut.
 use Rattle.std.proofs.Common.{◌≡◌, ℕ, zero, suc, ◌+◌, ◌<◌, ◌≤◌, List, [], ◌∷◌, ◌++◌, refl, sym, ◌∙◌, ap, subst, true, false, Bool, Some, None, Option, append-nil, length, take, drop, arith, eqb-true, ltb-true, ltb-false}
 use Rattle.std.proofs.lemmas.Bool.{eqb-false, lt-ltb}
+use Rattle.std.proofs.lemmas.List.{take-append-drop}
 use Rattle.std.specs.Prelude.{cond, ◌==◌, ◌||◌, ◌&&◌, nat_lt}
 use Rattle.ocfl_tree.specs.Place.{Place}
 use Rattle.ocfl_tree.specs.StorageRoot.{StorageRoot, Leaf, file, dir, other}
@@ -10,27 +11,13 @@ use Rattle.ocfl_audit.specs.Zone.{seen}
 use Rattle.ocfl_audit.specs.Lines.{named_at, cost_of, cost, is_hashed}
 use Rattle.ocfl_audit.specs.Audit.{total_cost}
 use Rattle.ocfl_audit.specs.Runs.{Limits, files_of, total_files, may_take, cut_len, cut, left}
+use Rattle.ocfl_audit.proofs.RunLaws.{cost_append, files_append}
 use Rattle.ocfl_scrub.proofs.Paying.{Paid}
 use Rattle.ocfl_scrub.specs.Running.{last_cost}
 
--- ---- costs and files of joined lists
-
-pub cost_append : (xs ys : List Item) → total_cost (xs ++ ys) ≡ total_cost xs + total_cost ys
-cost_append [] ys = omega arith
-cost_append (x ∷ xs) ys = let m = cost_append xs ys in omega (arith, m)
-
-pub files_append : (xs ys : List Item) → total_files (xs ++ ys) ≡ total_files xs + total_files ys
-files_append [] ys = omega arith
-files_append (x ∷ xs) ys = let m = files_append xs ys in omega (arith, m)
-
-take_drop_joined : (n : ℕ) (items : List Item) → take n items ++ drop n items ≡ items
-take_drop_joined zero items = refl
-take_drop_joined (suc n) [] = refl
-take_drop_joined (suc n) (i ∷ items) = ap (λ xs. i ∷ xs) (take_drop_joined n items)
-
 -- what a cut takes and what it leaves are all there is
 pub cut_and_left : (items : List Item) (l : Limits) → cut items l ++ left items l ≡ items
-cut_and_left items l = take_drop_joined _ items
+cut_and_left items l = take-append-drop _ items
 
 -- ---- cuts
 

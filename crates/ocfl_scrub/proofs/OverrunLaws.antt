@@ -7,7 +7,8 @@ use Rattle.ocfl_audit.specs.Audit.{total_cost}
 use Rattle.ocfl_audit.specs.Runs.{Limits}
 use Rattle.ocfl_scrub.specs.Call.{Call}
 use Rattle.ocfl_scrub.specs.Running.{last_cost, taken, Runs}
-use Rattle.ocfl_scrub.proofs.CutLaws.{cost_append, no_cost}
+use Rattle.ocfl_audit.proofs.RunLaws.{cost_append}
+use Rattle.ocfl_scrub.proofs.CutLaws.{no_cost}
 
 some_cost : (n : ℕ) → 0 < n → (c : ℕ) → cond (n == 0) c n ≡ n
 some_cost n h c = by (n == 0) refl

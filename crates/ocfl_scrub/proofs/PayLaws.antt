@@ -26,7 +26,8 @@ use Rattle.ocfl_scrub.proofs.Passing.{up_to_last, due_in}
 use Rattle.ocfl_scrub.proofs.Paying.{Paid, Counts, IsWithinBoth, Pays, PaysAll, PaysUpTo, PaysHalting}
 use Rattle.ocfl_item.proofs.AuditingLaws.{audits_on}
 use Rattle.ocfl_scrub.proofs.BetweenLaws.{HasGoneOn, looked_next, read_next}
-use Rattle.ocfl_scrub.proofs.CutLaws.{cost_append, files_append, paid_append, test_paid, test_free, free_costs}
+use Rattle.ocfl_audit.proofs.RunLaws.{cost_append, files_append}
+use Rattle.ocfl_scrub.proofs.CutLaws.{paid_append, test_paid, test_free, free_costs}
 use Rattle.ocfl_scrub.proofs.PassLaws.{no_items, halves, due_next, passes_none, passes_took, took_items, passes_missed, missed_items, next_is, passes_lost, walked_on, passes_finish, finished_items}
 
 -- ---- what items cost

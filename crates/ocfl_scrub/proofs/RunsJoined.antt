@@ -37,7 +37,8 @@ use Rattle.ocfl_item.proofs.AuditingLaws.{audits_fail, audits_nothing, audits_on
 use Rattle.ocfl_scrub.proofs.PassLaws.{text_append, found_append, no_items, take_nothing}
 use Rattle.ocfl_scrub.proofs.TakeLaws.{nothing_of, memory_other}
 use Rattle.ocfl_scrub.proofs.AuditLaws.{places_of_items}
-use Rattle.ocfl_scrub.proofs.CutLaws.{IsStop, cost_append, files_append, cut_of_paid, left_of_paid, cut_and_left}
+use Rattle.ocfl_audit.proofs.RunLaws.{cost_append, files_append}
+use Rattle.ocfl_scrub.proofs.CutLaws.{IsStop, cut_of_paid, left_of_paid, cut_and_left}
 use Rattle.ocfl_scrub.proofs.PartLaws.{stop_alike, stop_hashed}
 use Rattle.ocfl_scrub.proofs.NextLaws.{read_parts}
 use Rattle.ocfl_scrub.proofs.RunPlaces.{Took, Turn, first_place, front_is, rest_is, due_parts, front_length}

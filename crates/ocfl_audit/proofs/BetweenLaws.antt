@@ -8,7 +8,7 @@ use Rattle.std.specs.declared.cmp.Ordering.TheVariants.{Less, Equal, Greater}
 use Rattle.ocfl_tree.specs.Place.{Place, place_cmp}
 use Rattle.ocfl_tree.specs.Ascending.{ascending, IsAscending, IsAmong}
 use Rattle.ocfl_tree.specs.StorageRoot.{StorageRoot, Leaf, dir, at, is_dir, is_dir_leaf}
-use Rattle.ocfl_tree.proofs.Orders.{place_cmp_total, place_cmp_exact, true_not_false, below_from_greater, not_below_itself, ascending_unique, among_ascending, among_filter, among_from_filter, among_left, among_right, ascends_filter, ascends_ascending}
+use Rattle.ocfl_tree.proofs.Orders.{place_cmp_total, place_cmp_exact, true_not_false, below_from_greater, not_below_itself, not_less_itself, ascending_unique, among_ascending, among_filter, among_from_filter, among_left, among_right, ascends_filter, ascends_ascending}
 use Rattle.ocfl_audit.specs.Zone.{Zone, skipped, hierarchy, inside, zone, is_entered, is_listed_zone, seen, max_listed_depth, beginnings}
 use Rattle.ocfl_audit.specs.Walk.{is_reached}
 use Rattle.ocfl_audit.specs.Audit.{candidates}
@@ -22,15 +22,6 @@ use Rattle.ocfl_audit.proofs.BelowLaws.{less_from, from_append, ascends_append}
 use Rattle.ocfl_audit.proofs.WayLaws.{head_seen, is_closed}
 
 -- ---- what lies between two places, by order alone
-
--- no place is less than itself
-pub not_less_itself : (p : Place) → is_lt (place_cmp p p) ≡ false
-not_less_itself p = by (place_cmp p p) refl
-  where
-    by : (r : Ordering) → place_cmp p p ≡ r → is_lt r ≡ false
-    by Less e = absurd (not_below_itself place_cmp_total p e)
-    by Equal e = refl
-    by Greater e = refl
 
 not_true : (b : Bool) → not b ≡ true → b ≡ false
 not_true true h = absurd (true_not_false (sym h))
@@ -146,7 +137,7 @@ module _ (ps : List Place) where
         to z false e i = let k = from_between from (Some b) z i in absurd (out e (subst (IsAmong ps) (same z k.0 k.1 k.2) k.0))
 
         back : (z : Place) (t : Bool) → test ≡ t → IsAmong (on t b) z → IsAmong (between ps from (Some b)) z
-        back z true e (inl i) = subst (IsAmong (between ps from (Some b))) (sym i) (among_between from (Some b) b (here e) l (not_less_itself b))
+        back z true e (inl i) = subst (IsAmong (between ps from (Some b))) (sym i) (among_between from (Some b) b (here e) l (not_less_itself place_cmp_total b))
         back z true e (inr i) = absurd i
         back z false e i = absurd i
 

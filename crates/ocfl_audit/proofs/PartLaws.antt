@@ -9,7 +9,7 @@ use Rattle.std.specs.declared.cmp.Ordering.TheVariants.{Less, Equal, Greater}
 use Rattle.ocfl_tree.specs.Place.{Place, place_cmp, begins}
 use Rattle.ocfl_tree.specs.Ascending.{ascending, IsAscending, IsBeforeAll}
 use Rattle.ocfl_tree.specs.StorageRoot.{StorageRoot}
-use Rattle.ocfl_tree.proofs.Orders.{place_cmp_total, true_not_false, ascends_filter, ascends_ascending}
+use Rattle.ocfl_tree.proofs.Orders.{place_cmp_total, true_not_false, not_less, ascends_filter, ascends_ascending}
 use Rattle.ocfl_report.specs.Line.{Item}
 use Rattle.ocfl_report.specs.Text.{lines_text, text}
 use Rattle.ocfl_audit.specs.Lines.{is_empty, notes, is_hashed}
@@ -114,12 +114,7 @@ first_above p (q ∷ ps) h = h.0
 
 -- what is above a place that is not below p is not below it either
 not_below : (q z p : Place) → place_cmp q z ≡ Less → is_lt (place_cmp q p) ≡ false → is_lt (place_cmp z p) ≡ false
-not_below q z p l h = by (place_cmp z p) refl
-  where
-    by : (r : Ordering) → place_cmp z p ≡ r → is_lt r ≡ false
-    by Less e = absurd (true_not_false (sym (ap is_lt (place_cmp_total.trans q z p l e)) ∙ h))
-    by Equal e = refl
-    by Greater e = refl
+not_below q z p l h = not_less (place_cmp z p) (λ e. true_not_false (sym (ap is_lt (place_cmp_total.trans q z p l e)) ∙ h))
 
 -- what is not below a separator is not below the one before it
 is_from_both : (a : Option Place) (p : Place) (ps : List Place) (z : Place) → IsFirstAbove a (p ∷ ps) → is_lt (place_cmp z p) ≡ false → is_from a z ≡ true

@@ -10,9 +10,9 @@ use Rattle.std.specs.declared.cmp.Ordering.{Ordering}
 use Rattle.std.specs.declared.cmp.Ordering.TheVariants.{Less, Equal, Greater}
 use Rattle.std.proofs.lemmas.List.Sorted.{list_any-IsPermutation, sum_by-IsPermutation, IsPermutation-sym}
 use Rattle.ocfl_tree.specs.Ascending.{IsBeforeAll, IsAscending, IsAmong, ascending}
-use Rattle.ocfl_tree.proofs.Orders.{true_not_false, below_from_greater, not_below_itself, ascending_unique, ascends_ascending, among_ascending, ascends_filter, among_filter, among_from_filter}
+use Rattle.ocfl_tree.proofs.Orders.{true_not_false, below_from_greater, not_below_itself, not_less_itself, ascending_unique, ascends_ascending, among_ascending, ascends_filter, among_filter, among_from_filter}
 use Rattle.ocfl_inventory.specs.Internal.Beside.{hits}
-use Rattle.ocfl_inventory.proofs.Runs.{tally, tally_is, IsUnder, IsUp, IsFront, under_each, both_ways, not_below, hit_sound, hit_complete}
+use Rattle.ocfl_inventory.proofs.Runs.{tally, tally_is, IsUnder, IsUp, IsFront, under_each, both_ways, hit_sound, hit_complete}
 
 module _ {A : Type 0} {cmp : A → A → Ordering} (o : IsTotalOrder cmp) (exact : IsAntisymmetric cmp) where
   abbrev pub alike : A → A → Bool
@@ -202,7 +202,7 @@ module _ {A : Type 0} {cmp : A → A → Ordering} (o : IsTotalOrder cmp) (exact
   pub alike_front : IsFront cmp alike
   alike_front = record {
     itself = alike_itself;
-    later = λ x y h. let e : x ≡ y = alike_is x y h in subst (λ w. is_lt (cmp w x) ≡ false) e (not_below o exact x);
+    later = λ x y h. let e : x ≡ y = alike_is x y h in subst (λ w. is_lt (cmp w x) ≡ false) e (not_less_itself o x);
     between = λ x y z h k t. let e : x ≡ z = alike_is x z t in let f : x ≡ y = both_ways o exact x y h (subst (λ w. is_lt (cmp w y) ≡ false) (sym e) k) in subst
         (λ w. alike x w ≡ true) f (alike_itself x);
   }

@@ -9,7 +9,7 @@ use Rattle.std.specs.declared.cmp.Ordering.TheVariants.{Less, Equal, Greater}
 use Rattle.std.proofs.lemmas.List.Recursion.{is_count_by}
 use Rattle.ocfl_tree.specs.Ascending.{IsAmong}
 use Rattle.ocfl_inventory.specs.Internal.Beside.{hits}
-use Rattle.ocfl_tree.proofs.Orders.{true_not_false, below_from_greater, not_below_itself}
+use Rattle.ocfl_tree.proofs.Orders.{true_not_false, below_from_greater}
 
 -- ---- counting by a recursion
 
@@ -68,14 +68,6 @@ module _ {A : Type 0} {cmp : A → A → Ordering} (o : IsTotalOrder cmp) (exact
       by Less e = absurd (true_not_false (sym (ap is_lt e) ∙ k))
       by Equal e = exact x y e
       by Greater e = absurd (true_not_false (sym (ap is_lt (below_from_greater o x y e)) ∙ h))
-
-  pub not_below : (x : A) → is_lt (cmp x x) ≡ false
-  not_below x = by (cmp x x) refl
-    where
-      by : (r : Ordering) → cmp x x ≡ r → is_lt r ≡ false
-      by Less e = absurd (not_below_itself o x e)
-      by Equal e = refl
-      by Greater e = refl
 
   module _ {test : A → A → Bool} (front : IsFront cmp test) where
     abbrev IsHit : List A → A → Type 0

@@ -9,9 +9,9 @@ use Rattle.std.specs.declared.cmp.Ordering.{Ordering}
 use Rattle.std.specs.declared.cmp.Ordering.TheVariants.{Less, Equal, Greater}
 use Rattle.ocfl_tree.specs.Place.{Place, place_cmp, place_eq}
 use Rattle.ocfl_tree.specs.Ascending.{IsBeforeAll, IsAscending}
-use Rattle.ocfl_tree.proofs.Orders.{true_not_false, place_cmp_total, place_cmp_exact, below_from_greater}
+use Rattle.ocfl_tree.proofs.Orders.{true_not_false, place_cmp_total, place_cmp_exact, below_from_greater, not_less_itself}
 use Rattle.ocfl_inventory.specs.Table.{Named, Triple, triple_cmp, named_cmp}
-use Rattle.ocfl_inventory.proofs.Runs.{IsUnder, IsUp, not_below}
+use Rattle.ocfl_inventory.proofs.Runs.{IsUnder, IsUp}
 use Rattle.ocfl_inventory.proofs.Once.{no_fall}
 
 -- ---- the paths do not fall
@@ -39,7 +39,7 @@ under_at p (x ∷ xs) (suc j) d h l = under_at p xs j d h.1 (omega arith)
 
 up_at : (xs : List Triple) (i j : ℕ) (d : Triple) → IsUp place_cmp (map (λ t. t.path) xs) → i ≤ j → j < length xs → is_lt (place_cmp (get_or xs j d).path (get_or xs i d).path) ≡ false
 up_at [] i j d h k l = absurd (omega (arith, l))
-up_at (x ∷ xs) zero zero d h k l = not_below place_cmp_total place_cmp_exact x.path
+up_at (x ∷ xs) zero zero d h k l = not_less_itself place_cmp_total x.path
 up_at (x ∷ xs) zero (suc j) d h k l = under_at x.path xs j d h.0 (omega arith)
 up_at (x ∷ xs) (suc i) zero d h k l = absurd (omega (arith, k))
 up_at (x ∷ xs) (suc i) (suc j) d h k l = up_at xs i j d h.1 (omega arith) (omega arith)

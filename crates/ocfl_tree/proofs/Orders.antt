@@ -1,7 +1,7 @@
 -- Laws of ascending lists.
 use Rattle.std.proofs.Common.{◌≡◌, ◌↔◌, ◌⊎◌, inl, inr, List, [], ◌∷◌, ◌++◌, refl, sym, ◌∙◌, ap, subst, true, false, Bool, map, filter}
 use Rattle.std.specs.Prelude.{cond, flat_map}
-use Rattle.std.specs.Ordering.{ordering_reverse, match_ordering}
+use Rattle.std.specs.Ordering.{ordering_reverse, match_ordering, is_lt}
 use Rattle.std.specs.declared.cmp.Ordering.{Ordering}
 use Rattle.std.specs.declared.cmp.Ordering.TheVariants.{Less, Equal, Greater}
 use Rattle.std.specs.Cmp.{IsTotalOrder}
@@ -19,12 +19,21 @@ place_cmp_exact = slice_cmp-IsAntisymmetric (slice_cmp-IsAntisymmetric nat_cmp-I
 pub true_not_false : true ≡ false → ⊥
 true_not_false e = cc
 
+-- what is not `Less` is equal or greater
+pub not_less : (r : Ordering) → (r ≡ Less → ⊥) → is_lt r ≡ false
+not_less Less h = absurd (h refl)
+not_less Equal h = refl
+not_less Greater h = refl
+
 less_not_greater : Less ≡ Greater → ⊥
 less_not_greater e = cc
 
 module _ {A : Type 0} {cmp : A → A → Ordering} (o : IsTotalOrder cmp) where
   pub not_below_itself : (x : A) → cmp x x ≡ Less → ⊥
   not_below_itself x h = less_not_greater (sym h ∙ o.antisymm x x ∙ ap ordering_reverse h)
+
+  pub not_less_itself : (x : A) → is_lt (cmp x x) ≡ false
+  not_less_itself x = not_less (cmp x x) (not_below_itself x)
 
   pub not_both_below : (x y : A) → cmp x y ≡ Less → cmp y x ≡ Less → ⊥
   not_both_below x y h k = not_below_itself x (o.trans x y x h k)

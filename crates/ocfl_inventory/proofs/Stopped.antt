@@ -1,9 +1,10 @@
 -- What a reading gives where something stopped.
-use Rattle.std.proofs.Common.{◌≡◌, None, sym, ◌∙◌, ap, map}
+use Rattle.std.proofs.Common.{◌≡◌, Option, None, refl, sym, ◌∙◌, ap, map}
 use Rattle.std.specs.Prelude.{Result, Ok, Err, IfOk}
 use Rattle.std.specs.Result.{result_ok}
 use Rattle.ocfl_digest.specs.declared.algorithm.Algorithm.{Algorithm}
 use Rattle.ocfl_inventory.specs.Reading.{Reading, ◌>>=◌, Inventory}
+use Rattle.ocfl_inventory.specs.Note.{Note}
 use Rattle.ocfl_inventory.specs.Notes.{reading_notes}
 use Rattle.ocfl_inventory.specs.Internal.Parts.{Fails}
 use Rattle.ocfl_inventory.specs.Internal.ReadInventory.{SaysAlone}
@@ -24,16 +25,20 @@ stopped_remarks (Ok x) stops.Memory read h f = absurd h
 stopped_remarks (Ok x) (stops.Because r) read h f = h ∙ ap reading_notes (sym f)
 stopped_remarks (Err x) e read h f = tt
 
+-- what is given is what is taken of a reading that stopped, where nothing is
+stopped_part : {A B E : Type 0} (given : InventoryReading → Option B) (taken : Reading A → Option B) (o : Result InventoryReading E) (e : Stop) (read : Reading A)
+    → ((n : Note) → taken (Err n) ≡ None) → IfOk o (λ r. SaysAlone e (map remark_view r.remarks.items)) → IfOk o (λ r. given r ≡ None) → Fails e read
+    → IfOk o (λ r. given r ≡ taken read)
+stopped_part given taken (Ok x) stops.Memory read none h k f = absurd h
+stopped_part given taken (Ok x) (stops.Because r) read none h k f = k ∙ sym (none (remark_view r)) ∙ ap taken (sym f)
+stopped_part given taken (Err x) e read none h k f = tt
+
 pub stopped_table : {E : Type 0} (o : Result InventoryReading E) (e : Stop) (read : Reading Inventory)
     → IfOk o (λ r. SaysAlone e (map remark_view r.remarks.items)) → IfOk o (λ r. r.table ≡ None) → Fails e read
     → IfOk o (λ r. r.table ≡ table_from_reading read)
-stopped_table (Ok x) stops.Memory read h k f = absurd h
-stopped_table (Ok x) (stops.Because r) read h k f = k ∙ ap table_from_reading (sym f)
-stopped_table (Err x) e read h k f = tt
+stopped_table o e read = stopped_part (λ r. r.table) table_from_reading o e read (λ n. refl)
 
 pub stopped_algorithm : {E : Type 0} (o : Result InventoryReading E) (e : Stop) (read : Reading Algorithm)
     → IfOk o (λ r. SaysAlone e (map remark_view r.remarks.items)) → IfOk o (λ r. r.algorithm ≡ None) → Fails e read
     → IfOk o (λ r. r.algorithm ≡ result_ok read)
-stopped_algorithm (Ok x) stops.Memory read h k f = absurd h
-stopped_algorithm (Ok x) (stops.Because r) read h k f = k ∙ ap result_ok (sym f)
-stopped_algorithm (Err x) e read h k f = tt
+stopped_algorithm o e read = stopped_part (λ r. r.algorithm) result_ok o e read (λ n. refl)

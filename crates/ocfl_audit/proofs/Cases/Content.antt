@@ -1,5 +1,5 @@
 -- Worked cases: the content of objects, and what else lies in them.
-use Rattle.std.proofs.Common.{◌≡◌, ap, ◌∙◌, List, [], ◌∷◌, ◌++◌, codes, refl, true, map}
+use Rattle.std.proofs.Common.{◌≡◌, ap, List, [], ◌∷◌, ◌++◌, codes, refl, true, map}
 use Prim.Native.String.{String}
 use Rattle.ocfl_tree.specs.Place.{Text}
 use Rattle.ocfl_tree.specs.StorageRoot.{StorageRoot, file}
@@ -11,8 +11,8 @@ use Rattle.ocfl_audit.specs.Audit.{audit, total_cost}
 use Rattle.ocfl_audit.specs.Due.{item_places, hashed_among}
 use Rattle.ocfl_audit.specs.Walk.{item_at}
 use Rattle.ocfl_audit.proofs.Cases.OnLiterals.{audit_on_literals}
-use Rattle.ocfl_audit.proofs.Cases.Trees.{missing_and_right_content, missing_and_right_listing, sha512_file_listing, Case, case, Digests, AllAre, AllAreQuick, quickly, reports, place, text_at, folder, link, storage_root, object_in, sha256_object, sha512_object, f_is_abc, key, keys, inventory, listing, listing_with, lists_f, missing_and_right, sha512_file, abc, abc_sha512_capitals, no_bytes}
-use Rattle.ocfl_audit.proofs.Cases.Quiet.{quick_256, audit_256, quick_512, audit_512, reports_256, reports_512}
+use Rattle.ocfl_audit.proofs.Cases.Trees.{missing_and_right_content, missing_and_right_listing, sha512_file_listing, Case, case, Digests, AllAre, quickly, reports, place, text_at, folder, link, storage_root, object_in, sha256_object, sha512_object, f_is_abc, key, keys, inventory, listing, listing_with, lists_f, missing_and_right, sha512_file, abc, abc_sha512_capitals, no_bytes}
+use Rattle.ocfl_audit.proofs.Cases.Quiet.{audit_256, audit_512, reports_256, reports_512}
 
 -- ---- digests
 
@@ -31,12 +31,9 @@ digests_of_no_bytes = (refl, refl, refl, refl, refl)
 
 -- ---- a file and its digests
 
-quick_cost_of_right_file : map (λ i. i.cost) (quick_512 sha512_file_listing f_is_abc []) ≡ 0 ∷ 0 ∷ 4 ∷ []
-unfolding audit_on_literals
-quick_cost_of_right_file = refl
-
 cost_of_right_file : map (λ i. i.cost) (audit sha512_file []) ≡ 0 ∷ 0 ∷ 4 ∷ []
-cost_of_right_file = ap (map (λ i. i.cost)) (audit_512 sha512_file_listing f_is_abc []) ∙ quick_cost_of_right_file
+unfolding audit_on_literals
+cost_of_right_file = ap (map (λ i. i.cost)) (audit_512 sha512_file_listing f_is_abc [])
 
 -- an empty file that all algorithms name
 abbrev empty_file_listing : Text
@@ -102,12 +99,9 @@ files_and_digests_cases =
         "ok\t.\t-\nok\to\t-\nE023\to/v1/content/f\t-\nE093\to/v1/content/f\tmd5 x 900150983cd24fb0d6963f7d28e17f72\n" ∷
     []
 
-quick_files_and_digests : AllAreQuick files_and_digests_cases
-unfolding audit_on_literals
-quick_files_and_digests = refl
-
 files_and_digests : AllAre files_and_digests_cases
-files_and_digests = quickly files_and_digests_cases quick_files_and_digests
+unfolding audit_on_literals
+files_and_digests = quickly files_and_digests_cases refl
 
 -- ---- the fifth algorithm
 
@@ -129,12 +123,9 @@ fifth_algorithm_cases =
     reports_256 "fifth_algorithm_without_manifest" fifth_alone_listing f_is_abc "ok\t.\t-\nok\to\t-\nE023\to/v1/content/f\t-\n" ∷
     []
 
-quick_fifth_algorithm : AllAreQuick fifth_algorithm_cases
-unfolding audit_on_literals
-quick_fifth_algorithm = refl
-
 fifth_algorithm : AllAre fifth_algorithm_cases
-fifth_algorithm = quickly fifth_algorithm_cases quick_fifth_algorithm
+unfolding audit_on_literals
+fifth_algorithm = quickly fifth_algorithm_cases refl
 
 cost_of_fifth_algorithm : (map (λ i. i.cost) (audit fifth_alone []) ≡ 0 ∷ 0 ∷ 4 ∷ []) × (hashed_among fifth_alone (item_places fifth_alone) ≡ place "o/v1/content/f" ∷ [])
 unfolding audit_on_literals hashed_among item_places
@@ -178,21 +169,15 @@ files_that_nothing_names_cases =
     reports_256 "odd_letters_in_a_name" (listing []) ((place "o/v1/content" ++ (0xC3 ∷ 0xA9 ∷ 9 ∷ 37 ∷ 32 ∷ []) ∷ [], file []) ∷ []) "ok\t.\t-\nok\to\t-\nE023\to/v1/content/%C3%A9%09%25 \t-\n" ∷
     []
 
-quick_files_that_nothing_names : AllAreQuick files_that_nothing_names_cases
-unfolding audit_on_literals
-quick_files_that_nothing_names = refl
-
 files_that_nothing_names : AllAre files_that_nothing_names_cases
-files_that_nothing_names = quickly files_that_nothing_names_cases quick_files_that_nothing_names
+unfolding audit_on_literals
+files_that_nothing_names = quickly files_that_nothing_names_cases refl
 
 -- ---- paths where no file is
 
-quick_cost_of_missing_and_right_files : map (λ i. i.cost) (quick_256 missing_and_right_listing missing_and_right_content []) ≡ 0 ∷ 0 ∷ 0 ∷ 4 ∷ []
-unfolding audit_on_literals
-quick_cost_of_missing_and_right_files = refl
-
 cost_of_missing_and_right_files : map (λ i. i.cost) (audit missing_and_right []) ≡ 0 ∷ 0 ∷ 0 ∷ 4 ∷ []
-cost_of_missing_and_right_files = ap (map (λ i. i.cost)) (audit_256 missing_and_right_listing missing_and_right_content []) ∙ quick_cost_of_missing_and_right_files
+unfolding audit_on_literals
+cost_of_missing_and_right_files = ap (map (λ i. i.cost)) (audit_256 missing_and_right_listing missing_and_right_content [])
 
 abbrev paths_without_file_cases : List Case
 paths_without_file_cases =
@@ -211,12 +196,9 @@ paths_without_file_cases =
     reports_256 "missing_directory" (listing (key abc.sha256 "[\"v1/content/x/y\"]" ∷ [])) [] "ok\t.\t-\nok\to\t-\nE092\to/v1/content/x/y\tsha256 missing\n" ∷
     []
 
-quick_paths_without_file : AllAreQuick paths_without_file_cases
-unfolding audit_on_literals
-quick_paths_without_file = refl
-
 paths_without_file : AllAre paths_without_file_cases
-paths_without_file = quickly paths_without_file_cases quick_paths_without_file
+unfolding audit_on_literals
+paths_without_file = quickly paths_without_file_cases refl
 
 -- ---- directories and links in content
 
@@ -246,12 +228,9 @@ directories_and_links_in_content_cases =
         "ok\t.\t-\nok\to\t-\nS04\to/v1/content/f\t-\nE092\to/v1/content/f/g\tsha256 missing\n" ∷
     []
 
-quick_directories_and_links_in_content : AllAreQuick directories_and_links_in_content_cases
-unfolding audit_on_literals
-quick_directories_and_links_in_content = refl
-
 directories_and_links_in_content : AllAre directories_and_links_in_content_cases
-directories_and_links_in_content = quickly directories_and_links_in_content_cases quick_directories_and_links_in_content
+unfolding audit_on_literals
+directories_and_links_in_content = quickly directories_and_links_in_content_cases refl
 
 -- ---- entries of an object root
 
@@ -284,12 +263,9 @@ entries_of_objects_cases =
         (folder "p/q/v1" ∷ folder "p/q/v1/content" ∷ text_at "p/q/v1/content/f" "abc" ∷ []))) "ok\t.\t-\nok\tp/q\t-\nok\tp/q/v1/content/f\t3\nE073\tp/x\t-\n" ∷
     []
 
-quick_entries_of_objects : AllAreQuick entries_of_objects_cases
-unfolding audit_on_literals
-quick_entries_of_objects = refl
-
 entries_of_objects : AllAre entries_of_objects_cases
-entries_of_objects = quickly entries_of_objects_cases quick_entries_of_objects
+unfolding audit_on_literals
+entries_of_objects = quickly entries_of_objects_cases refl
 
 -- ---- entries of a version directory
 
@@ -311,9 +287,6 @@ entries_of_versions_cases =
         (codes "{\"digestAlgorithm\":\"sha256\",\"contentDirectory\":\"data\",\"manifest\":{\"ba7816bf8f01cfea414140de5dae2223b00361a396177a9cb410ff61f20015ad\":[\"v1/data/f\"]}}") (text_at "o/v1/content/x" "" ∷ folder "o/v1/data" ∷ text_at "o/v1/data/f" "abc" ∷ text_at "o/v1/data/g" "" ∷ []) "ok\t.\t-\nok\to\t-\nok\to/v1/data/f\t3\nE023\to/v1/data/g\t-\n" ∷
     []
 
-quick_entries_of_versions : AllAreQuick entries_of_versions_cases
-unfolding audit_on_literals
-quick_entries_of_versions = refl
-
 entries_of_versions : AllAre entries_of_versions_cases
-entries_of_versions = quickly entries_of_versions_cases quick_entries_of_versions
+unfolding audit_on_literals
+entries_of_versions = quickly entries_of_versions_cases refl

@@ -15,7 +15,7 @@ use Rattle.ocfl_audit.specs.Zone.{inventory_at, table_at}
 use Rattle.ocfl_audit.specs.Head.{inventory_file_notes, digest_of}
 use Rattle.ocfl_audit.specs.Audit.{audit}
 use Rattle.ocfl_audit.proofs.Cases.OnLiterals.{audit_on_literals}
-use Rattle.ocfl_audit.proofs.Cases.Trees.{Case, AllAre, AllAreQuick, quickly, reports, text_at, bytes_at, folder, link, storage_root, object, object_beside, right_sidecar_256, right_sidecar_512, sha256_object, f_is_abc, key, keys, inventory, inventory_with, listing, listing_with, lists_f, abc, abc_sha256_capitals}
+use Rattle.ocfl_audit.proofs.Cases.Trees.{Case, AllAre, quickly, reports, text_at, bytes_at, folder, link, storage_root, object, object_beside, right_sidecar_256, right_sidecar_512, sha256_object, f_is_abc, key, keys, inventory, inventory_with, listing, listing_with, lists_f, abc, abc_sha256_capitals}
 use Rattle.ocfl_audit.proofs.Cases.Quiet.{reports_256, reports_512}
 
 -- ---- the declaration
@@ -134,12 +134,9 @@ missing_sidecars_cases =
     reports_256 "sidecar_named_for_md5" (listing []) (text_at "o/inventory.json.md5" "" ∷ []) "ok\t.\t-\nok\to\t-\nE001\to/inventory.json.md5\t-\n" ∷
     []
 
-quick_missing_sidecars : AllAreQuick missing_sidecars_cases
-unfolding audit_on_literals
-quick_missing_sidecars = refl
-
 missing_sidecars : AllAre missing_sidecars_cases
-missing_sidecars = quickly missing_sidecars_cases quick_missing_sidecars
+unfolding audit_on_literals
+missing_sidecars = quickly missing_sidecars_cases refl
 
 -- only sha256 and sha512 have sidecars
 no_sidecar_for_others : (t : Text) → (sidecar_of Md5 t ≡ None) × (sidecar_of Sha1 t ≡ None) × (sidecar_of Sha512_256 t ≡ None)
@@ -155,12 +152,9 @@ inventories_without_json_cases =
     reports_256 "text_behind_the_json" (listing [] ++ codes "x") [] "ok\t.\t-\nE033\to\t-\n" ∷
     []
 
-quick_inventories_without_json : AllAreQuick inventories_without_json_cases
-unfolding audit_on_literals
-quick_inventories_without_json = refl
-
 inventories_without_json : AllAre inventories_without_json_cases
-inventories_without_json = quickly inventories_without_json_cases quick_inventories_without_json
+unfolding audit_on_literals
+inventories_without_json = quickly inventories_without_json_cases refl
 
 -- an inventory that lists `f`, with a `state` of these bytes
 abbrev with_state : Text → Text
@@ -178,12 +172,9 @@ values_in_json_cases =
     reports_256 "two_hundred_arrays" (with_state (replicate 200 91 ++ replicate 200 93)) f_is_abc "ok\t.\t-\nE033\to\t-\n" ∷
     []
 
-quick_values_in_json : AllAreQuick values_in_json_cases
-unfolding audit_on_literals
-quick_values_in_json = refl
-
 values_in_json : AllAre values_in_json_cases
-values_in_json = quickly values_in_json_cases quick_values_in_json
+unfolding audit_on_literals
+values_in_json = quickly values_in_json_cases refl
 
 -- ---- the algorithm
 
@@ -201,12 +192,9 @@ inventory_algorithms_cases =
     reports_256 "algorithm_twice" (codes "{\"digestAlgorithm\":\"md5\",\"manifest\":{},\"digestAlgorithm\":\"sha256\"}") [] "ok\t.\t-\nok\to\t-\n" ∷
     []
 
-quick_inventory_algorithms : AllAreQuick inventory_algorithms_cases
-unfolding audit_on_literals
-quick_inventory_algorithms = refl
-
 inventory_algorithms : AllAre inventory_algorithms_cases
-inventory_algorithms = quickly inventory_algorithms_cases quick_inventory_algorithms
+unfolding audit_on_literals
+inventory_algorithms = quickly inventory_algorithms_cases refl
 
 -- ---- the content directory
 
@@ -225,12 +213,9 @@ content_directories_cases =
     reports_256 "content_directory_is_a_number" (with_content "7") [] "ok\t.\t-\nS03\to\tcontentDirectory\n" ∷
     []
 
-quick_content_directories : AllAreQuick content_directories_cases
-unfolding audit_on_literals
-quick_content_directories = refl
-
 content_directories : AllAre content_directories_cases
-content_directories = quickly content_directories_cases quick_content_directories
+unfolding audit_on_literals
+content_directories = quickly content_directories_cases refl
 
 -- ---- the manifest and the fixity block as values
 
@@ -256,12 +241,9 @@ manifests_and_fixity_blocks_cases =
         "ok\t.\t-\nS07\to\tMD5\nS07\to\tblake2b-512\nS07\to\tsha3\nok\to/v1/content/f\t3\n" ∷
     []
 
-quick_manifests_and_fixity_blocks : AllAreQuick manifests_and_fixity_blocks_cases
-unfolding audit_on_literals
-quick_manifests_and_fixity_blocks = refl
-
 manifests_and_fixity_blocks : AllAre manifests_and_fixity_blocks_cases
-manifests_and_fixity_blocks = quickly manifests_and_fixity_blocks_cases quick_manifests_and_fixity_blocks
+unfolding audit_on_literals
+manifests_and_fixity_blocks = quickly manifests_and_fixity_blocks_cases refl
 
 -- ascending of itself, in whatever order a reading has the keys; a supported one is left out
 unsupported_keys_in_another_order : unsupported_in (member (codes "sha3") null (member (codes "md5") null (member (codes "blake2b-512") null no_members))) ≡ codes "blake2b-512" ∷ codes "sha3" ∷ []

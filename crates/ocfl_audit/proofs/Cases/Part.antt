@@ -1,5 +1,5 @@
 -- Worked cases: parts of storage roots.
-use Rattle.std.proofs.Common.{◌≡◌, ◌++◌, ◌∙◌, List, [], ◌∷◌, codes, refl, Some, None, map, replicate}
+use Rattle.std.proofs.Common.{◌≡◌, ◌++◌, List, [], ◌∷◌, codes, refl, Some, None, map, replicate}
 use Prim.Native.String.{String}
 use Rattle.ocfl_tree.specs.Place.{Text}
 use Rattle.ocfl_report.specs.Line.{Item}
@@ -10,7 +10,7 @@ use Rattle.ocfl_audit.specs.Runs.{runs, of_budget}
 use Rattle.ocfl_audit.specs.Parts.{Part, branch, within, places_within, parts_of, costs_of, file_counts, together, branch_end, enclosed}
 use Rattle.ocfl_audit.proofs.Cases.OnLiterals.{audit_on_literals}
 use Rattle.ocfl_audit.proofs.Cases.Trees.{three_files_listing, three_files_content, three_files, three_objects, missing_and_right, place, the_root, clean, right}
-use Rattle.ocfl_audit.proofs.Cases.Quiet.{quick_256, audit_256}
+use Rattle.ocfl_audit.proofs.Cases.Quiet.{audit_256}
 use Rattle.ocfl_audit.proofs.Cases.Run.{three_items, items_of_three_files, items_around_a_missing_file, slash_and_dash, slash_items, items_of_slash_and_dash}
 
 -- the texts of the parts that these separators make of some items
@@ -153,10 +153,6 @@ unread_together = refl
 abbrev joined_text : List Item → List Item → Text
 joined_text first second = text (within (part_below "o/v1/content/b") first) ++ text (within (part_from "o/v1/content/b") second)
 
-quick_audits_apart : joined_text (quick_256 three_files_listing three_files_content first_unread)
-    (quick_256 three_files_listing three_files_content second_unread) ≡ codes "ok\t.\t-\nok\to\t-\nS08\to/v1/content/a\t-\nS08\to/v1/content/b\t-\nok\to/v1/content/c\t3\n"
-unfolding audit_on_literals
-quick_audits_apart = refl
-
 audits_apart : joined_text (audit three_files first_unread) (audit three_files second_unread) ≡ codes "ok\t.\t-\nok\to\t-\nS08\to/v1/content/a\t-\nS08\to/v1/content/b\t-\nok\to/v1/content/c\t3\n"
-audits_apart = (λ k. joined_text (audit_256 three_files_listing three_files_content first_unread k) (audit_256 three_files_listing three_files_content second_unread k)) ∙ quick_audits_apart
+unfolding audit_on_literals
+audits_apart = λ k. joined_text (audit_256 three_files_listing three_files_content first_unread k) (audit_256 three_files_listing three_files_content second_unread k)

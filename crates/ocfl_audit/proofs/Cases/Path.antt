@@ -9,7 +9,7 @@ use Rattle.ocfl_report.specs.declared.code.Code.TheVariants.{E099, E100, S06}
 use Rattle.ocfl_inventory.specs.ListedPath.{path_fault}
 use Rattle.ocfl_audit.specs.Audit.{audit}
 use Rattle.ocfl_audit.proofs.Cases.OnLiterals.{audit_on_literals}
-use Rattle.ocfl_audit.proofs.Cases.Trees.{Case, AllAre, AllAreQuick, quickly, sha256_object, f_is_abc, key, keys, inventory, listing, listing_with, lists_f, abc, abc_sha256_capitals, no_bytes, no_bytes_sha256_capitals}
+use Rattle.ocfl_audit.proofs.Cases.Trees.{Case, AllAre, quickly, sha256_object, f_is_abc, key, keys, inventory, listing, listing_with, lists_f, abc, abc_sha256_capitals, no_bytes, no_bytes_sha256_capitals}
 use Rattle.ocfl_audit.proofs.Cases.Quiet.{reports_256, told_256}
 
 -- ---- keys
@@ -44,12 +44,9 @@ keys_that_stand_twice_cases =
     reports_256 "same_digest_in_other_blocks" (listing_with lists_f (codes "{\"md5\":{\"x\":[]},\"sha1\":{\"X\":[]}}")) f_is_abc "ok\t.\t-\nok\to\t-\nok\to/v1/content/f\t3\n" ∷
     []
 
-quick_keys_that_stand_twice : AllAreQuick keys_that_stand_twice_cases
-unfolding audit_on_literals
-quick_keys_that_stand_twice = refl
-
 keys_that_stand_twice : AllAre keys_that_stand_twice_cases
-keys_that_stand_twice = quickly keys_that_stand_twice_cases quick_keys_that_stand_twice
+unfolding audit_on_literals
+keys_that_stand_twice = quickly keys_that_stand_twice_cases refl
 
 -- ---- bad paths
 
@@ -69,12 +66,9 @@ bad_paths_cases =
     reports_256 "empty_path" (listing (key abc.sha256 "[\"\"]" ∷ [])) [] "ok\t.\t-\nE099\to\t\n" ∷
     []
 
-quick_bad_paths : AllAreQuick bad_paths_cases
-unfolding audit_on_literals
-quick_bad_paths = refl
-
 bad_paths : AllAre bad_paths_cases
-bad_paths = quickly bad_paths_cases quick_bad_paths
+unfolding audit_on_literals
+bad_paths = quickly bad_paths_cases refl
 
 -- these paths have this fault, where the content directory is `content`
 abbrev HaveFault : Option Code → List String → Type 0
@@ -144,12 +138,9 @@ long_paths_cases =
     reports_256 "nul_is_told_escaped" (lists_one (codes "v1/content/a\\u0000")) [] "ok\t.\t-\nS06\to\tv1/content/a%00\n" ∷
     []
 
-quick_long_paths : AllAreQuick long_paths_cases
-unfolding audit_on_literals
-quick_long_paths = refl
-
 long_paths : AllAre long_paths_cases
-long_paths = quickly long_paths_cases quick_long_paths
+unfolding audit_on_literals
+long_paths = quickly long_paths_cases refl
 
 -- ---- a content directory of another name
 
@@ -167,12 +158,9 @@ content_directory_longer_than_a_name = refl
 abbrev content_directory_with_nul_cases : List Case
 content_directory_with_nul_cases = reports_256 "content_directory_with_nul" (with_content (codes "a\\u0000") (codes "v1/a\\u0000/f")) [] "ok\t.\t-\nS06\to\tv1/a%00/f\n" ∷ []
 
-quick_content_directory_with_nul : AllAreQuick content_directory_with_nul_cases
-unfolding audit_on_literals
-quick_content_directory_with_nul = refl
-
 content_directory_with_nul : AllAre content_directory_with_nul_cases
-content_directory_with_nul = quickly content_directory_with_nul_cases quick_content_directory_with_nul
+unfolding audit_on_literals
+content_directory_with_nul = quickly content_directory_with_nul_cases refl
 
 -- ---- paths that are repeated or in each other's way
 
@@ -206,9 +194,6 @@ paths_in_conflict_cases =
         "ok\t.\t-\nE096\to\tba7816bf8f01cfea414140de5dae2223b00361a396177a9cb410ff61f20015ad\nE097\to\tmd5 a\nE100\to\t/x\nE100\to\t/w\nE101\to\tv1/content/f\nS07\to\tblake2b-512\nok\to/v1/content/f\t3\n" ∷
     []
 
-quick_paths_in_conflict : AllAreQuick paths_in_conflict_cases
-unfolding audit_on_literals
-quick_paths_in_conflict = refl
-
 paths_in_conflict : AllAre paths_in_conflict_cases
-paths_in_conflict = quickly paths_in_conflict_cases quick_paths_in_conflict
+unfolding audit_on_literals
+paths_in_conflict = quickly paths_in_conflict_cases refl

@@ -63,24 +63,22 @@ audit_512 inventory more unread = audit_is root (codes "o") [] inventory (beside
         ∙ ap (λ ns. beside_512 inventory root ++ ns) (right_512_is_quiet inventory)
         ∙ at_end (beside_512 inventory root)
 
--- the text of the audit of such an object
-abbrev pub told_256 : String → Text → StorageRoot → Text → Case
-told_256 name inventory more wanted = record {
+-- the text of items that can be had with less
+abbrev pub told : String → (items quick : List Item) → items ≡ quick → Text → Case
+told name items quick is_quick wanted = record {
   name = name;
-  shown = text (audit (sha256_object inventory more) []);
-  quick = text (quick_256 inventory more []);
-  is_quick = ap text (audit_256 inventory more []);
+  shown = text items;
+  quick = text quick;
+  is_quick = ap text is_quick;
   wanted = wanted;
 }
+
+-- the text of the audit of such an object
+abbrev pub told_256 : String → Text → StorageRoot → Text → Case
+told_256 name inventory more wanted = told name (audit (sha256_object inventory more) []) (quick_256 inventory more []) (audit_256 inventory more []) wanted
 
 abbrev pub reports_256 : String → Text → StorageRoot → String → Case
 reports_256 name inventory more t = told_256 name inventory more (codes t)
 
 abbrev pub reports_512 : String → Text → StorageRoot → String → Case
-reports_512 name inventory more t = record {
-  name = name;
-  shown = text (audit (sha512_object inventory more) []);
-  quick = text (quick_512 inventory more []);
-  is_quick = ap text (audit_512 inventory more []);
-  wanted = codes t;
-}
+reports_512 name inventory more t = told name (audit (sha512_object inventory more) []) (quick_512 inventory more []) (audit_512 inventory more []) (codes t)

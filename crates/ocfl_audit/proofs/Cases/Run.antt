@@ -1,6 +1,6 @@
 -- Worked cases: runs by budgets, and what is left behind a place. An audit of several cases is
 -- computed once, and its runs over its items.
-use Rattle.std.proofs.Common.{◌≡◌, ◌≤◌, ◌⊎◌, inl, inr, ◌∙◌, ℕ, arith, List, [], ◌∷◌, ◌++◌, codes, refl, Some, None, true, false, map, replicate, take}
+use Rattle.std.proofs.Common.{◌≡◌, ◌≤◌, ◌⊎◌, inl, inr, ℕ, arith, List, [], ◌∷◌, ◌++◌, codes, refl, Some, None, true, false, map, replicate, take}
 use Prim.Native.String.{String}
 use Rattle.ocfl_tree.specs.Place.{Text}
 use Rattle.ocfl_tree.specs.StorageRoot.{StorageRoot}
@@ -13,7 +13,7 @@ use Rattle.ocfl_audit.specs.Trail.{inventories}
 use Rattle.ocfl_audit.specs.Runs.{Limits, cut, left, runs, joined, total_files, IsAtLeast, FileLimitFits, of_budget, sum_of}
 use Rattle.ocfl_audit.proofs.Cases.OnLiterals.{audit_on_literals}
 use Rattle.ocfl_audit.proofs.Cases.Trees.{three_files_content, three_files_listing, missing_and_right_content, missing_and_right_listing, sha512_file_listing, Case, case, AllAre, Behind, behind, behind_each, place, text_at, folder, storage_root, sha256_object, f_is_abc, key, listing, lists_f, three_files, three_objects, missing_and_right, sha512_file, abc, item, the_root, clean, right}
-use Rattle.ocfl_audit.proofs.Cases.Quiet.{quick_512, audit_512, quick_256, audit_256}
+use Rattle.ocfl_audit.proofs.Cases.Quiet.{audit_512, audit_256}
 
 -- the texts of the runs that these budgets make of some items
 abbrev texts : List Item → List ℕ → List Text
@@ -42,12 +42,9 @@ one_run_where_nothing_costs = refl
 abbrev pub three_items : List Item
 three_items = the_root ∷ clean "o" ∷ right "o/v1/content/a" 4 "3" ∷ right "o/v1/content/b" 1 "0" ∷ right "o/v1/content/c" 4 "3" ∷ []
 
-quick_items_of_three_files : quick_256 three_files_listing three_files_content [] ≡ three_items
-unfolding audit_on_literals
-quick_items_of_three_files = refl
-
 pub items_of_three_files : audit three_files [] ≡ three_items
-items_of_three_files = audit_256 three_files_listing three_files_content [] ∙ quick_items_of_three_files
+unfolding audit_on_literals
+items_of_three_files = audit_256 three_files_listing three_files_content []
 
 budgets_of_five : (costs three_items (replicate 4 5) ≡ 5 ∷ 4 ∷ [])
     × (texts three_items (replicate 4 5) ≡ codes "ok\t.\t-\nok\to\t-\nok\to/v1/content/a\t3\nok\to/v1/content/b\t0\n" ∷ codes "ok\to/v1/content/c\t3\n" ∷ [])
@@ -160,12 +157,9 @@ places_of_the_first_run = (refl, refl)
 abbrev pub missing_items : List Item
 missing_items = the_root ∷ clean "o" ∷ item "o/v1/content/a" 0 (note E092 (codes "sha256 missing") ∷ note E093 (codes "sha1 missing") ∷ []) ∷ right "o/v1/content/b" 4 "3" ∷ []
 
-quick_items_around_a_missing_file : quick_256 missing_and_right_listing missing_and_right_content [] ≡ missing_items
-unfolding audit_on_literals
-quick_items_around_a_missing_file = refl
-
 pub items_around_a_missing_file : audit missing_and_right [] ≡ missing_items
-items_around_a_missing_file = audit_256 missing_and_right_listing missing_and_right_content [] ∙ quick_items_around_a_missing_file
+unfolding audit_on_literals
+items_around_a_missing_file = audit_256 missing_and_right_listing missing_and_right_content []
 
 -- what is left behind a place, by a budget of nine
 abbrev resumes : List Item → Behind → Case
@@ -199,12 +193,9 @@ listed_and_unlisted = sha256_object listed_and_unlisted_listing listed_and_unlis
 abbrev unlisted_items : List Item
 unlisted_items = the_root ∷ clean "o" ∷ right "o/v1/content/f" 4 "3" ∷ item "o/v1/content/z" 0 (plain E023 ∷ []) ∷ []
 
-quick_items_beside_an_unlisted_file : quick_256 listed_and_unlisted_listing listed_and_unlisted_content [] ≡ unlisted_items
-unfolding audit_on_literals
-quick_items_beside_an_unlisted_file = refl
-
 items_beside_an_unlisted_file : audit listed_and_unlisted [] ≡ unlisted_items
-items_beside_an_unlisted_file = audit_256 listed_and_unlisted_listing listed_and_unlisted_content [] ∙ quick_items_beside_an_unlisted_file
+unfolding audit_on_literals
+items_beside_an_unlisted_file = audit_256 listed_and_unlisted_listing listed_and_unlisted_content []
 
 unlisted_file_behind_the_budget : (texts unlisted_items (4 ∷ 4 ∷ []) ≡ codes "ok\t.\t-\nok\to\t-\nok\to/v1/content/f\t3\nE023\to/v1/content/z\t-\n" ∷ [])
     × (costs unlisted_items (4 ∷ 4 ∷ []) ≡ 4 ∷ []) × (left unlisted_items (of_budget 4) ≡ [])
@@ -237,12 +228,9 @@ slash_and_dash = sha256_object slash_and_dash_listing slash_and_dash_content
 abbrev pub slash_items : List Item
 slash_items = the_root ∷ clean "o" ∷ right "o/v1/content/a/b" 4 "3" ∷ right "o/v1/content/a-b" 4 "3" ∷ []
 
-quick_items_of_slash_and_dash : quick_256 slash_and_dash_listing slash_and_dash_content [] ≡ slash_items
-unfolding audit_on_literals
-quick_items_of_slash_and_dash = refl
-
 pub items_of_slash_and_dash : audit slash_and_dash [] ≡ slash_items
-items_of_slash_and_dash = audit_256 slash_and_dash_listing slash_and_dash_content [] ∙ quick_items_of_slash_and_dash
+unfolding audit_on_literals
+items_of_slash_and_dash = audit_256 slash_and_dash_listing slash_and_dash_content []
 
 slash_before_dash_in_runs : texts slash_items (1 ∷ 1 ∷ 1 ∷ []) ≡ codes "ok\t.\t-\nok\to\t-\nok\to/v1/content/a/b\t3\n" ∷ codes "ok\to/v1/content/a-b\t3\n" ∷ []
 slash_before_dash_in_runs = refl
@@ -273,12 +261,9 @@ inventories_of_a_stopped_object = refl
 abbrev one_items : List Item
 one_items = the_root ∷ clean "o" ∷ right "o/v1/content/f" 4 "3" ∷ []
 
-quick_items_of_one_file : quick_512 sha512_file_listing f_is_abc [] ≡ one_items
-unfolding audit_on_literals
-quick_items_of_one_file = refl
-
 items_of_one_file : audit sha512_file [] ≡ one_items
-items_of_one_file = audit_512 sha512_file_listing f_is_abc [] ∙ quick_items_of_one_file
+unfolding audit_on_literals
+items_of_one_file = audit_512 sha512_file_listing f_is_abc []
 
 -- an output that takes 10 bytes
 ten_bytes_of_the_report : take 10 (text one_items) ≡ codes "ok\t.\t-\nok\t"

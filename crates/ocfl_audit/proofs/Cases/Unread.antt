@@ -1,5 +1,5 @@
 -- Worked cases: content that can't be read.
-use Rattle.std.proofs.Common.{◌≡◌, ap, ◌∙◌, ℕ, List, [], ◌∷◌, codes, refl, Bool, true, false, map, replicate}
+use Rattle.std.proofs.Common.{◌≡◌, ap, ℕ, List, [], ◌∷◌, codes, refl, Bool, true, false, map, replicate}
 use Prim.Native.String.{String}
 use Rattle.ocfl_tree.specs.Place.{Text}
 use Rattle.ocfl_tree.specs.StorageRoot.{StorageRoot}
@@ -13,18 +13,13 @@ use Rattle.ocfl_audit.specs.Due.{item_places, items_at, hashed_among}
 use Rattle.ocfl_audit.specs.Trail.{unread_of, content_trail}
 use Rattle.ocfl_audit.specs.Runs.{runs, of_budget}
 use Rattle.ocfl_audit.proofs.Cases.OnLiterals.{audit_on_literals}
-use Rattle.ocfl_audit.proofs.Cases.Trees.{AllAreQuick, quickly, three_files_content, three_files_listing, Case, AllAre, place, text_at, bytes_at, folder, sha256_object, f_is_abc, key, listing, listing_with, lists_f, three_files, abc, item, the_root, clean, right}
-use Rattle.ocfl_audit.proofs.Cases.Quiet.{quick_256, audit_256}
+use Rattle.ocfl_audit.proofs.Cases.Trees.{quickly, three_files_content, three_files_listing, Case, AllAre, place, text_at, bytes_at, folder, sha256_object, f_is_abc, key, listing, listing_with, lists_f, three_files, abc, item, the_root, clean, right}
+use Rattle.ocfl_audit.proofs.Cases.Quiet.{quick_256, audit_256, told}
 
 -- the text of the audit where one file of an object with a right sidecar gave only so many bytes
 abbrev reports_unread : String → Text → StorageRoot → String → ℕ → String → Case
-reports_unread name inventory more p given t = let unread : Unread = (place p, given) ∷ [] in record {
-  name = name;
-  shown = text (audit (sha256_object inventory more) unread);
-  quick = text (quick_256 inventory more unread);
-  is_quick = ap text (audit_256 inventory more unread);
-  wanted = codes t;
-}
+reports_unread name inventory more p given t = let unread : Unread = (place p, given) ∷ [] in
+    told name (audit (sha256_object inventory more) unread) (quick_256 inventory more unread) (audit_256 inventory more unread) (codes t)
 
 -- the item of a file that could not be read, by its cost
 abbrev unread : String → ℕ → Item
@@ -49,19 +44,13 @@ f_gave given = (place "o/v1/content/f", given) ∷ []
 abbrev other_right : ℕ → List Item
 other_right cost = the_root ∷ clean "o" ∷ unread "o/v1/content/f" cost ∷ right "o/v1/content/g" 4 "3" ∷ []
 
-quick_cost_where_read_fails : quick_256 long_and_short_listing long_and_short_content (f_gave 65536) ≡ other_right 65537
-unfolding audit_on_literals
-quick_cost_where_read_fails = refl
-
 cost_where_read_fails : audit long_and_short (f_gave 65536) ≡ other_right 65537
-cost_where_read_fails = audit_256 long_and_short_listing long_and_short_content (f_gave 65536) ∙ quick_cost_where_read_fails
-
-quick_cost_where_open_fails : quick_256 long_and_short_listing long_and_short_content (f_gave 0) ≡ other_right 1
 unfolding audit_on_literals
-quick_cost_where_open_fails = refl
+cost_where_read_fails = audit_256 long_and_short_listing long_and_short_content (f_gave 65536)
 
 cost_where_open_fails : audit long_and_short (f_gave 0) ≡ other_right 1
-cost_where_open_fails = audit_256 long_and_short_listing long_and_short_content (f_gave 0) ∙ quick_cost_where_open_fails
+unfolding audit_on_literals
+cost_where_open_fails = audit_256 long_and_short_listing long_and_short_content (f_gave 0)
 
 text_where_a_long_file_is_unread : (text (other_right 65537) ≡ codes "ok\t.\t-\nok\to\t-\nS08\to/v1/content/f\t-\nok\to/v1/content/g\t3\n") × (text (other_right 1) ≡ text (other_right 65537))
 text_where_a_long_file_is_unread = (refl, refl)
@@ -83,20 +72,14 @@ first_gave given = (place "o/v1/content/a", given) ∷ []
 abbrev others_right : ℕ → List Item
 others_right cost = the_root ∷ clean "o" ∷ unread "o/v1/content/a" cost ∷ right "o/v1/content/b" 1 "0" ∷ right "o/v1/content/c" 4 "3" ∷ []
 
-quick_first_gave_two : quick_256 three_files_listing three_files_content (first_gave 2) ≡ others_right 3
-unfolding audit_on_literals
-quick_first_gave_two = refl
-
 first_gave_two : audit three_files (first_gave 2) ≡ others_right 3
-first_gave_two = audit_256 three_files_listing three_files_content (first_gave 2) ∙ quick_first_gave_two
+unfolding audit_on_literals
+first_gave_two = audit_256 three_files_listing three_files_content (first_gave 2)
 
 -- all bytes, and then the device failed
-quick_first_gave_all : quick_256 three_files_listing three_files_content (first_gave 3) ≡ others_right 4
-unfolding audit_on_literals
-quick_first_gave_all = refl
-
 first_gave_all : audit three_files (first_gave 3) ≡ others_right 4
-first_gave_all = audit_256 three_files_listing three_files_content (first_gave 3) ∙ quick_first_gave_all
+unfolding audit_on_literals
+first_gave_all = audit_256 three_files_listing three_files_content (first_gave 3)
 
 text_where_first_is_unread : (text (others_right 3) ≡ codes "ok\t.\t-\nok\to\t-\nS08\to/v1/content/a\t-\nok\to/v1/content/b\t0\nok\to/v1/content/c\t3\n")
     × (text (others_right 4) ≡ text (others_right 3))
@@ -131,19 +114,13 @@ other_lines_of_unread_files_cases =
     reports_unread "missing_file_stays_missing" (listing lists_f) [] "o/v1/content/f" 2 "ok\t.\t-\nok\to\t-\nE092\to/v1/content/f\tsha256 missing\n" ∷
     []
 
-quick_other_lines_of_unread_files : AllAreQuick other_lines_of_unread_files_cases
-unfolding audit_on_literals
-quick_other_lines_of_unread_files = refl
-
 other_lines_of_unread_files : AllAre other_lines_of_unread_files_cases
-other_lines_of_unread_files = quickly other_lines_of_unread_files_cases quick_other_lines_of_unread_files
-
-quick_cost_of_unlisted_file_unread : map (λ i. i.cost) (quick_256 fixity_alone_listing f_is_abc ((place "o/v1/content/f", 0) ∷ [])) ≡ 0 ∷ 0 ∷ 1 ∷ []
 unfolding audit_on_literals
-quick_cost_of_unlisted_file_unread = refl
+other_lines_of_unread_files = quickly other_lines_of_unread_files_cases refl
 
 cost_of_unlisted_file_unread : map (λ i. i.cost) (audit fixity_alone ((place "o/v1/content/f", 0) ∷ [])) ≡ 0 ∷ 0 ∷ 1 ∷ []
-cost_of_unlisted_file_unread = ap (map (λ i. i.cost)) (audit_256 fixity_alone_listing f_is_abc ((place "o/v1/content/f", 0) ∷ [])) ∙ quick_cost_of_unlisted_file_unread
+unfolding audit_on_literals
+cost_of_unlisted_file_unread = ap (map (λ i. i.cost)) (audit_256 fixity_alone_listing f_is_abc ((place "o/v1/content/f", 0) ∷ []))
 
 cost_of_unnamed_file : total_cost (audit (sha256_object (listing []) f_is_abc) ((place "o/v1/content/f", 2) ∷ [])) ≡ 0
 unfolding audit_on_literals

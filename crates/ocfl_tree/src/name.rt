@@ -1,5 +1,6 @@
 //! A name: one step on the way to a place.
-ghost use Rattle.std.specs.Prelude.{◌≡◌, ◌≢◌, All, IsTrue, ◌↔◌, IfOk, OnOk, Some, nat_eq, refl};
+ghost use Rattle.std.specs.Prelude.{◌≡◌, ◌≢◌, ◌↔◌, ℕ, List, All, IsTrue, IfOk, OnOk, Some};
+ghost use Rattle.std.specs.Prelude.{nat_eq, string_bytes, refl};
 ghost use Rattle.std.specs.Cmp.{partial_equiv_from_equiv};
 ghost use Rattle.std.specs.Cmp.Lexicographic.{pointwise, slice_cmp, nat_list_eq_equiv};
 ghost use Rattle.std.specs.Cmp.Lexicographic.{nat_list_cmp_total, texts_po, texts_ties};
@@ -18,9 +19,6 @@ pub struct Name {
 }
 
 impl Model for Name {
-    ghost use Rattle.std.specs.Prelude.{List, ℕ, string_bytes};
-    ghost use Rattle.ocfl_tree.specs.Name.{IsName};
-
     ghost Value = { List ℕ };
 
     ghost view = { λ a. string_bytes a.text };

@@ -98,9 +98,6 @@ runs_where_first_gave_two = (refl, refl)
 abbrev fixity_alone_listing : Text
 fixity_alone_listing = listing_with [] (codes "{\"md5\":{\"900150983cd24fb0d6963f7d28e17f72\":[\"v1/content/f\"]}}")
 
-abbrev fixity_alone : StorageRoot
-fixity_alone = sha256_object fixity_alone_listing f_is_abc
-
 abbrev other_lines_of_unread_files_cases : List Case
 other_lines_of_unread_files_cases =
     -- the lines of its digests give way
@@ -118,7 +115,7 @@ other_lines_of_unread_files : AllAre other_lines_of_unread_files_cases
 unfolding audit_on_literals
 other_lines_of_unread_files = quickly other_lines_of_unread_files_cases refl
 
-cost_of_unlisted_file_unread : map (λ i. i.cost) (audit fixity_alone ((place "o/v1/content/f", 0) ∷ [])) ≡ 0 ∷ 0 ∷ 1 ∷ []
+cost_of_unlisted_file_unread : map (λ i. i.cost) (audit (sha256_object fixity_alone_listing f_is_abc) ((place "o/v1/content/f", 0) ∷ [])) ≡ 0 ∷ 0 ∷ 1 ∷ []
 unfolding audit_on_literals
 cost_of_unlisted_file_unread = ap (map (λ i. i.cost)) (audit_256 fixity_alone_listing f_is_abc ((place "o/v1/content/f", 0) ∷ []))
 

@@ -1,5 +1,5 @@
 -- What each call of a store does, in other words.
-use Rattle.std.proofs.Common.{◌≡◌, ◌≢◌, ℕ, ◌+◌, ◌<◌, Bool, true, false, List, [], ◌∷◌, ◌++◌, Option, None, Some, length, refl, ap, ◌∙◌, append-nil, arith}
+use Rattle.std.proofs.Common.{◌≡◌, ◌≢◌, ℕ, ◌+◌, ◌<◌, true, false, List, [], ◌∷◌, ◌++◌, None, Some, length, refl, ap, ◌∙◌, append-nil, arith}
 use Rattle.ocfl_tree.specs.Place.{Text, Place as Spot}
 use Rattle.ocfl_tree.specs.StorageRoot.{file, dir, at}
 use Rattle.ocfl_tree.specs.Listing.{kind_in, kind_at}

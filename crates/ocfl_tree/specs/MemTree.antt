@@ -1,11 +1,13 @@
 -- What a tree in memory tells, and what its builders do.
-use Rattle.std.specs.Prelude.{◌≡◌, ℕ, ◌+◌, ◌-◌, ◌^◌, Bool, false, not, ◌&&◌, nat_lt, nat_le, [], ◌∷◌, ◌++◌, Option, Some, None, is_some, IsOkUnless, MatchOption, OnErr, OnOk, Result, Err, length, min, if◌then◌else◌, slice_get}
+use Rattle.std.specs.Prelude.{◌≡◌, ◌≢◌, IsTrue, IsErr, ℕ, ◌+◌, ◌-◌, ◌^◌, Bool, false, not, ◌&&◌, nat_lt, nat_le, [], ◌∷◌, ◌++◌, Option, Some, None, is_some, IsOkUnless, MatchOption, OnErr, OnOk, Result, Err, length, min, if◌then◌else◌, slice_get}
 use Rattle.std.specs.Option.{option_map_or}
 use Rattle.ocfl_tree.specs.Place.{Text, Place, place_eq, begins}
 use Rattle.ocfl_tree.specs.StorageRoot.{StorageRoot, Leaf, at, is_dir, names_in, max_entries}
 use Rattle.ocfl_tree.specs.Store.{Store}
 use Rattle.ocfl_tree.specs.Faults.{Faults, no_faults, is_struck, within_step}
 use Rattle.ocfl_tree.specs.declared.store.Opening.{Opening}
+use Rattle.ocfl_tree.specs.declared.store.Trouble.{Trouble}
+use Rattle.ocfl_tree.specs.declared.store.Trouble.TheVariants.{Absent}
 use Rattle.ocfl_tree.specs.declared.plan.Point.{Point}
 use Rattle.ocfl_tree.specs.declared.plan.Point.TheVariants as point
 use Rattle.ocfl_tree.specs.declared.build.BuildStop.{BuildStop}
@@ -35,6 +37,10 @@ with_point p point h = record h { faults = record h.faults { points = h.faults.p
 -- whether the next call, this one at p, answers that the device failed; the count of failures has a limit
 abbrev pub fails : Held → Place → Point → Bool
 fails h p call = nat_lt (h.store.failures + 1) (2 ^ 64) && is_struck h.faults p call
+
+-- a call that is made to fail does so, and not as if nothing were there
+abbrev pub FailsWhereStruck : {X : Type 0} → Bool → Result X Trouble → Type 0
+FailsWhereStruck struck result = IsTrue struck → IsErr result × (result ≢ Err Absent)
 
 abbrev pub last_opening : Store → Option Opening
 last_opening s = slice_get s.openings (length s.openings - 1)

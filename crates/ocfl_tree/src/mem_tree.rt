@@ -1,6 +1,6 @@
 //! A storage root in memory, which tells what was done to it and can be made to fail.
 ghost use Rattle.std.specs.Prelude.{◌≡◌, ◌≢◌, ◌↔◌, ◌<◌, ◌≤◌, ◌+◌, ◌^◌, [], true, IsTrue, ◌&&◌};
-ghost use Rattle.std.specs.Prelude.{nat_lt, IfOk, IfErr, OnOk, OnErr, IsOk, IsErr, IsOkUnless};
+ghost use Rattle.std.specs.Prelude.{nat_lt, IfOk, IfErr, OnOk, OnErr, IsOk, IsOkUnless};
 ghost use Rattle.std.specs.Prelude.{MatchOption, MatchResult, Err, length, take, max, is_some};
 ghost use Rattle.std.specs.Prelude.{IsSome, if◌then◌else◌};
 ghost use Rattle.ocfl_tree.specs.StorageRoot.{file, dir, other, at};
@@ -10,7 +10,7 @@ ghost use Rattle.ocfl_tree.specs.Calls.{Closes};
 ghost use Rattle.ocfl_tree.specs.Faults.{after_call};
 ghost use Rattle.ocfl_tree.specs.MemTree.{nothing_held, with_step, with_call, with_point, fails};
 ghost use Rattle.ocfl_tree.specs.MemTree.{read_fails, given_of, put_refusal, Puts, PutAnswer};
-ghost use Rattle.ocfl_tree.specs.MemTree.{Removes};
+ghost use Rattle.ocfl_tree.specs.MemTree.{FailsWhereStruck, Removes};
 
 use crate::build::BuildStop;
 use crate::nodes::{self, Node, Stored};
@@ -213,8 +213,7 @@ impl Tree for MemTree {
         ensures after { self.new.faults ≡ after_call self.old.faults }
         ensures device { result ≡ Err Trouble.Device
             → IsTrue (fails self.old place.now Point.List) }
-        ensures struck { IsTrue (fails self.old place.now Point.List)
-            → IsErr result × (result ≢ Err Trouble.Absent) }
+        ensures struck { FailsWhereStruck (fails self.old place.now Point.List) result }
     {
         let struck = self.plan.strikes(place, Point::List);
         if can_fail(struck, self.failures) {
@@ -245,8 +244,7 @@ impl Tree for MemTree {
         ensures after { self.new.faults ≡ after_call self.old.faults }
         ensures device { result ≡ Err Trouble.Device
             → IsTrue (fails self.old place.now Point.Open) }
-        ensures struck { IsTrue (fails self.old place.now Point.Open)
-            → IsErr result × (result ≢ Err Trouble.Absent) }
+        ensures struck { FailsWhereStruck (fails self.old place.now Point.Open) result }
     {
         self.open = None; // also where nothing is opened
         let struck = self.plan.strikes(place, Point::Open);

@@ -35,21 +35,15 @@ use Rattle.ocfl_scrub.proofs.PassLaws.{due_ascends}
 -- ---- what lies in a part: what is not less than its first place, and not past its end
 
 -- places that are not less than another
-not_less_twice : (x a b : Place) → is_lt (place_cmp x a) ≡ false → place_cmp b a ≡ Less → is_lt (place_cmp x b) ≡ false
-not_less_twice x a b h l = by (place_cmp x b) refl
-  where
-    by : (r : Ordering) → place_cmp x b ≡ r → is_lt r ≡ false
-    by Less e = absurd (true_not_false (sym (ap is_lt (place_cmp_total.trans x b a e l)) ∙ h))
-    by Equal e = refl
-    by Greater e = refl
-
 not_less_or : (x a b : Place) → is_lt (place_cmp x a) ≡ false → is_lt (place_cmp a b) ≡ false → is_lt (place_cmp x b) ≡ false
-not_less_or x a b h k = by (place_cmp a b) refl
+not_less_or x a b h k = by (place_cmp a b) (place_cmp x b) refl refl
   where
-    by : (r : Ordering) → place_cmp a b ≡ r → is_lt (place_cmp x b) ≡ false
-    by Less e = absurd (true_not_false (sym (ap is_lt e) ∙ k))
-    by Equal e = subst (λ z. is_lt (place_cmp x z) ≡ false) (place_cmp_exact a b e) h
-    by Greater e = not_less_twice x a b h (below_from_greater place_cmp_total a b e)
+    by : (r s : Ordering) → place_cmp a b ≡ r → place_cmp x b ≡ s → is_lt s ≡ false
+    by Less s e f = absurd (true_not_false (sym (ap is_lt e) ∙ k))
+    by Equal s e f = sym (ap is_lt f) ∙ subst (λ z. is_lt (place_cmp x z) ≡ false) (place_cmp_exact a b e) h
+    by Greater Less e f = absurd (true_not_false (sym (ap is_lt (place_cmp_total.trans x b a f (below_from_greater place_cmp_total a b e))) ∙ h))
+    by Greater Equal e f = refl
+    by Greater Greater e f = refl
 
 unless_root_is : (g b : Place) → unless_root g ≡ Some b → g ≡ b
 unless_root_is [] b e = absurd (let two : None ≡ Some b = e in cc)
@@ -71,7 +65,7 @@ module _ (part : Part) (x : Place) where
   over_under = by part.from
     where
       at : (a : Place) (b : Bool) → is_lt (place_cmp part.under a) ≡ b → is_lt (place_cmp x (cond b a part.under)) ≡ false → is_lt (place_cmp x part.under) ≡ false
-      at a true e h = not_less_twice x a part.under h (less_from _ e)
+      at a true e h = not_less_or x a part.under h (not_below part.under a (less_from _ e))
       at a false e h = h
 
       by : (from : Option Place) → is_lt (place_cmp x (greater_of part.under from)) ≡ false → is_lt (place_cmp x part.under) ≡ false

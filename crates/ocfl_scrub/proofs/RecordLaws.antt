@@ -490,17 +490,18 @@ pub clean_audit_performed : (known : Option (Option (List ℕ))) (root : Storage
     → t.failures ≡ s.failures → (written ≡ before ++ text (audit root [])) × (status ≡ status_of (found (audit root [])))
 clean_audit_performed known root s t before written status n stored h e f = h.clean e f
 
+-- what a command did in other words, unless memory ran out before it did anything
+unless_memory_first : {Does Says : Type 0} (call : Call) (status : ℕ) (n : Note) → (Does → Says) → Does ⊎ OutOfMemoryFirst call status n
+    → Says ⊎ ((status ≡ 3) × ((n ≡ note.OutOfMemory) × ((call.after ≡ call.before) × (call.new ≡ call.old))))
+unless_memory_first call status n said (inl k) = inl (said k)
+unless_memory_first call status n said (inr k) = inr (k.status_is, (k.says, (k.uncalled, k.unwritten)))
+
 pub check_performed : (call : Call) (known : Option (Option (List ℕ))) (path : String Global) (p : Place) (status : ℕ) (n : Note)
     (stored : Option (Vec ℕ Global)) → IsPlace p → string_bytes path ≡ place_text p → Performs call known (deed.Check path) status n stored
     → ((ran : CheckEnd) × (CheckEnds call p ran.item ran.found ran.end × IsCheckNote ran.item ran.found ran.end status n))
     ⊎ ((status ≡ 3) × ((n ≡ note.OutOfMemory) × ((call.after ≡ call.before) × (call.new ≡ call.old))))
-check_performed call known path p status n stored names e h = by (h p names e)
-  where
-    by : ChecksWithNote call p status n ⊎ OutOfMemoryFirst call status n
-        → ((ran : CheckEnd) × (CheckEnds call p ran.item ran.found ran.end × IsCheckNote ran.item ran.found ran.end status n))
-        ⊎ ((status ≡ 3) × ((n ≡ note.OutOfMemory) × ((call.after ≡ call.before) × (call.new ≡ call.old))))
-    by (inl k) = inl (k.ran, (k.checks, k.says))
-    by (inr k) = inr (k.status_is, (k.says, (k.uncalled, k.unwritten)))
+check_performed call known path p status n stored names e h =
+    unless_memory_first call status n (λ (k : ChecksWithNote call p status n). (k.ran, (k.checks, k.says))) (h p names e)
 
 pub cycle_performed : (call : Call) (known : Option (Option (List ℕ))) (limits : MadeLimits) (count : ℕ) (status : ℕ) (n : Note)
     (stored : Option (Vec ℕ Global)) → Performs call known (deed.Cycle limits count) status n stored
@@ -510,17 +511,8 @@ pub cycle_performed : (call : Call) (known : Option (Option (List ℕ))) (limits
     × (IsCycleNote ran.runs ran.spent ran.found ran.end status n
     × (IsUnfailing call → HeadlineOf call (map limits_of (replicate count limits)) ran.runs ran.end))))))
     ⊎ ((status ≡ 3) × ((n ≡ note.OutOfMemory) × ((call.after ≡ call.before) × (call.new ≡ call.old))))
-cycle_performed call known limits count status n stored h = by h
-  where
-    by : CyclesWithNote call (equal_limits limits count) status n ⊎ OutOfMemoryFirst call status n
-        → ((ran : CycleEnd) × (CyclesTo call (map limits_of (replicate count limits)) ran.cursor ran.found ran.end
-        × ((ran.runs ≡ ran.cursor.runs)
-        × ((ran.spent ≡ ran.cursor.spent)
-        × (IsCycleNote ran.runs ran.spent ran.found ran.end status n
-        × (IsUnfailing call → HeadlineOf call (map limits_of (replicate count limits)) ran.runs ran.end))))))
-        ⊎ ((status ≡ 3) × ((n ≡ note.OutOfMemory) × ((call.after ≡ call.before) × (call.new ≡ call.old))))
-    by (inl k) = inl (k.ran, (k.cycles, (k.count_is, (k.spent_is, (k.says, k.headline)))))
-    by (inr k) = inr (k.status_is, (k.says, (k.uncalled, k.unwritten)))
+cycle_performed call known limits count status n stored h = unless_memory_first call status n
+    (λ (k : CyclesWithNote call (equal_limits limits count) status n). (k.ran, (k.cycles, (k.count_is, (k.spent_is, (k.says, k.headline)))))) h
 
 pub run_performed : (call : Call) (known : Option (Option (List ℕ))) (limits : MadeLimits) (status : ℕ) (n : Note) (stored : Vec ℕ Global)
     → Performs call known (deed.Run limits) status n (Some stored) → (c : Cursor)

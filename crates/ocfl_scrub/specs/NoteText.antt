@@ -23,11 +23,11 @@ refused_text refused.Malformed = codes "malformed"
 refused_text refused.Memory = codes "out of memory"
 
 abbrev pub part_refused_text : PartRefused → Text
-part_refused_text part.NotCursor = codes "not a cursor"
-part_refused_text part.Damaged = codes "damaged"
-part_refused_text part.Malformed = codes "malformed"
+part_refused_text part.NotCursor = refused_text refused.NotCursor
+part_refused_text part.Damaged = refused_text refused.Damaged
+part_refused_text part.Malformed = refused_text refused.Malformed
 part_refused_text part.OtherPart = codes "another part"
-part_refused_text part.Memory = codes "out of memory"
+part_refused_text part.Memory = refused_text refused.Memory
 
 abbrev pub note_text : Note → Text
 note_text note.Nothing = []

@@ -113,10 +113,10 @@ fn part_refused_word(why: PartRefused) -> &'static str
     ensures { result.now ≡ part_refused_text why }
 {
     match why {
-        PartRefused::NotCursor => "not a cursor",
-        PartRefused::Damaged => "damaged",
-        PartRefused::Malformed => "malformed",
+        PartRefused::NotCursor => refused_word(Refused::NotCursor),
+        PartRefused::Damaged => refused_word(Refused::Damaged),
+        PartRefused::Malformed => refused_word(Refused::Malformed),
         PartRefused::OtherPart => "another part",
-        PartRefused::Memory => "out of memory",
+        PartRefused::Memory => refused_word(Refused::Memory),
     }
 }

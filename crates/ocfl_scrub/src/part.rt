@@ -5,13 +5,15 @@ ghost use Rattle.ocfl_audit.specs.Parts.{branch, whole};
 ghost use Rattle.ocfl_item.specs.Ways.{IsWayFault};
 ghost use Rattle.ocfl_walk.specs.WalkCalls.{GoDownFails, GoesDown};
 ghost use Rattle.ocfl_walk.specs.Walks.{IsLive, Stands};
+ghost use Rattle.ocfl_scrub.specs.Scoping.{part_between};
 ghost use Rattle.ocfl_scrub.specs.Starting.{entry, first_place as first_of_part, part_of, stand};
 ghost use Rattle.ocfl_scrub.specs.Starting.{is_before as lies_before};
 ghost use Rattle.ocfl_tree.specs.Store.{IfTold};
 
+use ocfl_cursor::PartEnds;
 use ocfl_tree::{Place, Tree};
 use ocfl_walk::{End, Fault, Walk};
-use std::alloc::Global;
+use std::alloc::{AllocError, Global};
 
 /// A part of a storage root: the places of one branch, from a first place to before a last one.
 #[derive(Debug, Drop)]
@@ -72,6 +74,32 @@ impl Part {
         } else {
             Some(first)
         }
+    }
+}
+
+/// The part that is a branch.
+pub(crate) fn branch_at(place: &Place) -> Result<Part, AllocError>
+    ensures { IfOk result (λ part. part_of part ≡ branch place.now) }
+{
+    Ok(Part::branch(place.try_clone()?))
+}
+
+/// The part that has these ends.
+pub(crate) fn part_between(alloc: Global, ends: &PartEnds) -> Result<Part, AllocError>
+    ensures { IfOk result (λ part. part_of part ≡ part_between ends.now) }
+{
+    let from = end_again(&ends.from)?;
+    let below = end_again(&ends.below)?;
+    Ok(Part::between(alloc, from, below))
+}
+
+/// The same end again.
+fn end_again(end: &Option<Place>) -> Result<Option<Place>, AllocError>
+    ensures { IfOk result (λ again. again ≡ end.now) }
+{
+    match end {
+        Some(place) => Ok(Some(place.try_clone()?)),
+        None => Ok(None),
     }
 }
 

@@ -1,13 +1,12 @@
 -- One item, judged and written.
 use Rattle.std.proofs.Common.{◌≡◌, ◌≢◌, ℕ, ◌+◌, List, [], ◌∷◌, refl, sym, ◌∙◌, ap, subst, true, false, Bool, Option, map, take, append-nil, arith}
 use Rattle.std.specs.Prelude.{cond, ◌||◌}
-use Rattle.std.specs.List.{list_any}
 use Rattle.std.specs.Io.KnownBytes.{Appends}
 use Rattle.std.proofs.KnownBytes.{Appends-nil}
 use Rattle.ocfl_tree.specs.Place.{Text, Place}
 use Rattle.ocfl_tree.specs.StorageRoot.{StorageRoot}
 use Rattle.ocfl_tree.specs.Store.{Store, Did}
-use Rattle.ocfl_report.specs.Line.{Line, line_of, is_finding_code, found}
+use Rattle.ocfl_report.specs.Line.{Line, line_of, found}
 use Rattle.ocfl_report.specs.Text.{lines_text, text}
 use Rattle.ocfl_report.specs.declared.line.Line.{Line as MadeLine}
 use Rattle.ocfl_audit.specs.Audit.{total_cost}
@@ -18,7 +17,7 @@ use Rattle.ocfl_item.specs.Judging.{Judges, JudgeFails}
 use Rattle.ocfl_item.specs.declared.fault.Fault.{Fault}
 use Rattle.ocfl_item.specs.declared.fault.Fault.TheVariants.{Store as AtStore, Memory, Output}
 use Rattle.ocfl_scrub.specs.Call.{call_of}
-use Rattle.ocfl_scrub.specs.Taking.{WritesLines, PartOf, Takes, Misses}
+use Rattle.ocfl_scrub.specs.Taking.{WritesLines, PartOf, Takes, Misses, finds, piece_of}
 use Rattle.ocfl_scrub.proofs.AuditsJoined.{nothing_hashed}
 use Rattle.ocfl_item.proofs.AuditingLaws.{audits_nothing}
 
@@ -32,8 +31,8 @@ pub nothing_written : (old : Option (List ℕ)) → WritesLines old old false
 nothing_written old = ([], Appends-nil old, refl)
 
 pub lines_written : (old new : Option (List ℕ)) (lines : List Line) (piece : List ℕ) (finding : Bool) → piece ≡ lines_text lines → Appends old new piece
-    → finding ≡ list_any (λ l. is_finding_code l.code) lines → WritesLines old new finding
-lines_written old new lines piece finding e sent finds = (lines, subst (Appends old new) e sent, finds)
+    → finding ≡ finds lines → WritesLines old new finding
+lines_written old new lines piece finding e sent found_is = (lines, subst (Appends old new) e sent, found_is)
 
 -- ---- on a store that tells its tree
 
@@ -56,13 +55,13 @@ pub nothing_of : (why : Fault) → why ≢ Output → (whole : Text) → PartOf 
 nothing_of why other whole = record { gone = 0; is = take_none whole; proper = λ e. absurd (other e); none = λ _. refl }
 
 module _ (root : StorageRoot) (s t : Store) (p : Place) (lines : List MadeLine) (cost : ℕ) (j : Judges root s t p lines cost) where
-  judged_text : lines_text (map line_of lines) ≡ text (items_at root j.trail (p ∷ []))
-  judged_text = sym (ap text j.item ∙ append-nil (lines_text (map line_of lines)))
+  judged_text : piece_of lines ≡ text (items_at root j.trail (p ∷ []))
+  judged_text = sym (ap text j.item ∙ append-nil (piece_of lines))
 
-  judged_found : found (items_at root j.trail (p ∷ [])) ≡ list_any (λ l. is_finding_code l.code) (map line_of lines)
-  judged_found = ap found j.item ∙ or_none (list_any (λ l. is_finding_code l.code) (map line_of lines))
+  judged_found : found (items_at root j.trail (p ∷ [])) ≡ finds (map line_of lines)
+  judged_found = ap found j.item ∙ or_none (finds (map line_of lines))
 
-  pub judged_takes : (old new : Option (List ℕ)) (piece : List ℕ) (finding : Bool) → piece ≡ lines_text (map line_of lines) → finding ≡ list_any (λ l. is_finding_code l.code) (map line_of lines)
+  pub judged_takes : (old new : Option (List ℕ)) (piece : List ℕ) (finding : Bool) → piece ≡ piece_of lines → finding ≡ finds (map line_of lines)
       → Appends old new piece → Takes (call_of root s t old new) p cost finding
   judged_takes old new piece finding e f sent = record {
     trail = j.trail;

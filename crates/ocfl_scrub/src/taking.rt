@@ -1,12 +1,10 @@
 //! One item: it is judged, and its lines go out as one piece.
 ghost use Rattle.std.specs.Prelude.{◌≡◌, ◌≢◌, ◌⊎◌, ◌||◌, IfErr, IfOk, map, MatchResult};
-ghost use Rattle.std.specs.List.{list_any};
-ghost use Rattle.ocfl_report.specs.Line.{line_of, is_finding_code};
-ghost use Rattle.ocfl_report.specs.Text.{lines_text};
+ghost use Rattle.ocfl_report.specs.Line.{line_of};
 ghost use Rattle.ocfl_item.specs.Judging.{CostFits};
 ghost use Rattle.ocfl_item.specs.Pending.{IsPending};
 ghost use Rattle.ocfl_scrub.specs.Call.{WhereTold};
-ghost use Rattle.ocfl_scrub.specs.Taking.{Misses, Takes, WritesLines};
+ghost use Rattle.ocfl_scrub.specs.Taking.{Misses, Takes, WritesLines, finds, piece_of};
 
 use ocfl_digest::Block;
 use ocfl_report::{Line, write_all_of};
@@ -69,7 +67,7 @@ pub(crate) fn take_item<T: Tree, W: Write>(
 }
 
 fn text_of(alloc: Global, lines: &[Line]) -> Result<Vec<u8>, AllocError>
-    ensures { IfOk result (λ text. text.items ≡ lines_text (map line_of lines.now)) }
+    ensures { IfOk result (λ text. text.items ≡ piece_of lines.now) }
 {
     let mut text = Vec::new(alloc);
     for line in lines {
@@ -79,7 +77,7 @@ fn text_of(alloc: Global, lines: &[Line]) -> Result<Vec<u8>, AllocError>
 }
 
 fn has_finding(lines: &[Line]) -> bool
-    ensures { result ≡ list_any (λ l. is_finding_code l.code) (map line_of lines.now) }
+    ensures { result ≡ finds (map line_of lines.now) }
 {
     for line in lines {
         if line.is_finding() {

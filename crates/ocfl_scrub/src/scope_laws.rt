@@ -4,9 +4,7 @@ ghost use Rattle.std.specs.Prelude.{length};
 ghost use Rattle.std.specs.declared.alloc.Global.{Global};
 ghost use Rattle.ocfl_tree.specs.Place.{Place};
 ghost use Rattle.ocfl_tree.specs.declared.store.Opening.{Opening};
-ghost use Rattle.ocfl_audit.specs.Audit.{audit};
-ghost use Rattle.ocfl_audit.specs.Parts.{branch, within};
-ghost use Rattle.ocfl_audit.specs.Trail.{unread_of};
+ghost use Rattle.ocfl_audit.specs.Parts.{branch};
 ghost use Rattle.ocfl_cursor.specs.Cursor.{Cursor};
 ghost use Rattle.ocfl_cursor.specs.Part.{IsPartText};
 ghost use Rattle.ocfl_cursor.specs.Refusal.{IsTextOf};
@@ -19,6 +17,7 @@ ghost use Rattle.ocfl_scrub.specs.Call.{Call};
 ghost use Rattle.ocfl_scrub.specs.Performing.{HandsBack, IsSaid, Performs, RefusesRightly};
 ghost use Rattle.ocfl_scrub.specs.Scoping.{BranchAudited, HandsBackIn, IsSaidIn};
 ghost use Rattle.ocfl_scrub.specs.Scoping.{PartRefusesRightly, PerformsIn, RefusesRightlyIn};
+ghost use Rattle.ocfl_scrub.specs.WholeAudit.{items_in};
 ghost use Rattle.ocfl_scrub.specs.declared.note.Note.{Note};
 ghost use Rattle.ocfl_scrub.specs.declared.note.Note.TheVariants as note;
 ghost use Rattle.ocfl_scrub.specs.declared.scope.Scope.TheVariants as scope;
@@ -42,10 +41,10 @@ pub fn an_empty_branch_has_no_item()
     ensures empty { (call : Call) (p : Place) (status : ℕ)
         → BranchAudited call p status note.EmptyBranch → (trail : List Opening)
         × ((call.after.openings ≡ call.before.openings ++ trail)
-        × (within (branch p) (audit call.root (unread_of call.root trail)) ≡ [])) }
+        × (items_in call.root trail (branch p) ≡ [])) }
     ensures some { (call : Call) (p : Place) (status : ℕ) → BranchAudited call p status note.Nothing
         → (trail : List Opening) × ((call.after.openings ≡ call.before.openings ++ trail)
-        × (within (branch p) (audit call.root (unread_of call.root trail)) ≢ [])) }
+        × (items_in call.root trail (branch p) ≢ [])) }
 {}
 
 /// A run of a part refuses its own cursor, of at most 67,108,864 bytes, only for want of memory. It

@@ -16,7 +16,7 @@ use Rattle.ocfl_cursor.specs.declared.part_reading.PartCursorStop.TheVariants as
 use Rattle.ocfl_deed.specs.declared.deed.Deed.{Deed}
 use Rattle.ocfl_deed.specs.declared.deed.Deed.TheVariants as deed
 use Rattle.ocfl_scrub.specs.Call.{Call, Writes, IsUnfailing}
-use Rattle.ocfl_scrub.specs.Noting.{status_of, IsAuditSaid, IsRanSaid, IsAuditNote, IsPartRefusedNote}
+use Rattle.ocfl_scrub.specs.Noting.{status_of, IsAuditSaid, IsRunSaid, IsAuditNote, IsPartRefusedNote}
 use Rattle.ocfl_scrub.specs.Performing.{IsSaid, RefusesRightly, HandedBack, HandsBack, OutOfMemoryFirst, RunMade, RunUnmade, RunUnread, RunWorn, Performs}
 use Rattle.ocfl_scrub.specs.Running.{limits_of}
 use Rattle.ocfl_scrub.specs.WholeAudit.{AuditEndsWithin}
@@ -39,11 +39,11 @@ abbrev pub IsBranchSaid : Note → Type 0
 IsBranchSaid note.EmptyBranch = ⊤
 IsBranchSaid n = IsAuditSaid n
 
--- of a run of a part
+-- of a run of a part, which refuses another kind of cursor
 abbrev pub IsPartRunSaid : Note → Type 0
-IsPartRunSaid note.CursorFileFailed = ⊤
 IsPartRunSaid (note.PartCursorRefused why) = ⊤
-IsPartRunSaid n = IsRanSaid n
+IsPartRunSaid (note.CursorRefused why) = ⊥
+IsPartRunSaid n = IsRunSaid n
 
 -- what each command can say
 abbrev pub IsSaidIn : Deed → Scope → Note → Type 0

@@ -1,6 +1,8 @@
-use Rattle.std.proofs.Common.{refl, sym, ◌∙◌, ap, ◌+◌, map, arith, rules}
+use Rattle.std.proofs.Common.{◌≢◌, refl, sym, ◌∙◌, ap, ◌+◌, map, arith, rules}
+use Rattle.ocfl_item.specs.declared.fault.Fault.TheVariants.{Output}
 use Rattle.ocfl_scrub.specs.Running.{limits_of}
 use Rattle.ocfl_scrub.specs.Starting.{part_of}
+use Rattle.ocfl_scrub.specs.declared.cycling.CycleStatus.TheVariants as cycle
 use Rattle.ocfl_scrub.proofs.TakeLaws.{nothing_written}
 use Rattle.ocfl_scrub.proofs.PassLaws.{lines_then}
 use Rattle.ocfl_scrub.proofs.CycleEndLaws.{headline_of_part}
@@ -29,19 +31,10 @@ returns-in_default-clause-told g c told root over short =
         (goes_unbegun root (part_of c.args.part.now) _ _ _ _ _ _ _ _ (c.loop-one.invariant.told told root over short) (omega (arith, c.in_default.ensures.further, c.loop-one.invariant.counts)))
 
 pub returns-in-Ended-clause-any_store : goal.returns-in-Ended-clause-any_store
-returns-in-Ended-clause-any_store g c = record {
-  unbroken = search rules;
-  none = search rules;
-  counted = search rules;
-  made = search rules;
-  first = search rules;
-  runs_are = search rules;
-  spent_is = search rules;
-  files_are = search rules;
-  ended_is = search rules;
-  lines = λ wrote. lines_said _ _ _ _ c.cycle_end-in-Ended.ensures.found
-      (lines_then _ _ _ _ _ _ c.loop-one.invariant.lines (c.run_part-reached.ensures.any_store.lines (ended_wrote _ c.in-Ended.is)) c.either-found.ensures);
-}
+returns-in-Ended-clause-any_store g c =
+    let lines = lines_said _ _ _ _ c.cycle_end-in-Ended.ensures.found
+        (lines_then _ _ _ _ _ _ c.loop-one.invariant.lines (c.run_part-reached.ensures.any_store.lines (ended_wrote _ c.in-Ended.is)) c.either-found.ensures) in
+    search (rules, lines)
 
 pub returns-in-Ended-clause-told : goal.returns-in-Ended-clause-told
 returns-in-Ended-clause-told g c told root over short =
@@ -67,19 +60,9 @@ returns-in-Ended-clause-headline g c told root over short same =
 pub returns-in-Stopped-clause-any_store : goal.returns-in-Stopped-clause-any_store
 returns-in-Stopped-clause-any_store g c =
     let e = c.cycle_end-in-Stopped.ensures in
-    record {
-      unbroken = search rules;
-      none = search rules;
-      counted = search rules;
-      made = search rules;
-      first = search rules;
-      runs_are = search rules;
-      spent_is = search rules;
-      files_are = search rules;
-      ended_is = search rules;
-      lines = λ wrote. lines_said _ _ _ _ e.found
-          (lines_then _ _ _ _ _ _ c.loop-one.invariant.lines (c.run_part-reached.ensures.any_store.lines (stopped_wrote _ _ _ c.in-Stopped.is e.end wrote)) c.either-found.ensures);
-    }
+    let lines = λ (wrote : c.cycle_end-in-Stopped.result.end ≢ cycle.Stopped Output). lines_said _ _ _ _ e.found
+        (lines_then _ _ _ _ _ _ c.loop-one.invariant.lines (c.run_part-reached.ensures.any_store.lines (stopped_wrote _ _ _ c.in-Stopped.is e.end wrote)) c.either-found.ensures) in
+    search (rules, lines)
 
 pub returns-in-Stopped-clause-told : goal.returns-in-Stopped-clause-told
 returns-in-Stopped-clause-told g c told root over short =

@@ -13,17 +13,9 @@ unreachable-requires g c =
     cc
 
 pub returns-clause-any_store : goal.returns-clause-any_store
-returns-clause-any_store g c = record {
-  unbroken = search rules;
-  worn = search rules;
-  worn_cursor = search rules;
-  worn_figures = search rules;
-  worn_silent = search rules;
-  cursor = search rules;
-  paid = search rules;
-  overrun = paid_within (limits_of c.args.limits) _ _ c.pass_from-last.ensures.paid;
-  lines = search rules;
-}
+returns-clause-any_store g c =
+    let overrun = paid_within (limits_of c.args.limits) _ _ c.pass_from-last.ensures.paid in
+    search (rules, overrun)
 
 pub returns-clause-told : goal.returns-clause-told
 returns-clause-told g c told root over short worked =

@@ -131,9 +131,6 @@ cycle_begins root part s old all c is over =
     subst (λ x. CycleGoes root part s s old old all all x false) (sym is) (record { last = None; cursor_is = refl; goes = goes_start root part s old all over })
 
 module _ (root : StorageRoot) (part : Part) (s t : Store) (old mid : Option (List ℕ)) (limits all : List Limits) (c : Cursor) (finding : Bool) (g : CycleGoes root part s t old mid limits all c finding) where
-  pub goes_over : t.tree ≡ root
-  goes_over = g.goes.over
-
   -- the limits ran out
   pub goes_out : limits ≡ [] → CyclesToWithin (call_of root s t old mid) part all c finding cycle.Spent
   goes_out e = record { last = g.last; cycle = g.goes.out e; cursor_is = g.cursor_is }
@@ -148,7 +145,10 @@ module _ (root : StorageRoot) (part : Part) (s t : Store) (old mid : Option (Lis
 
   -- one more run
   module _ (u : Store) (new : Option (List ℕ)) (l : Limits) (ls : List Limits) (now : Cursor) (made : RunEnd) (either : Bool)
-      (is_left : limits ≡ l ∷ ls) (is_now : now ≡ c) (ran : RunsFromWithin (call_of root t u mid new) part now l made) (is_either : either ≡ (finding || made.found)) where
+      (is_left : limits ≡ l ∷ ls) (is_now : now ≡ c) (runs_on : t.tree ≡ root → RunsFromWithin (call_of root t u mid new) part now l made) (is_either : either ≡ (finding || made.found)) where
+    ran : RunsFromWithin (call_of root t u mid new) part now l made
+    ran = runs_on g.goes.over
+
     here : GoesOn root part s t old mid g.last (l ∷ ls) all c.spent c.files finding c.runs
     here = subst (λ xs. GoesOn root part s t old mid g.last xs all c.spent c.files finding c.runs) is_left g.goes
 

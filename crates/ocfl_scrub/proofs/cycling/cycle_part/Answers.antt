@@ -6,7 +6,7 @@ use Rattle.ocfl_scrub.specs.declared.cycling.CycleStatus.TheVariants as cycle
 use Rattle.ocfl_scrub.proofs.TakeLaws.{nothing_written}
 use Rattle.ocfl_scrub.proofs.PassLaws.{lines_then}
 use Rattle.ocfl_scrub.proofs.CycleEndLaws.{headline_of_part}
-use Rattle.ocfl_scrub.proofs.CycleTurns.{cycle_begins, goes_over, goes_out, goes_unbegun, turn_spent, turn_ended, turn_stopped}
+use Rattle.ocfl_scrub.proofs.CycleTurns.{cycle_begins, goes_out, goes_unbegun, turn_spent, turn_ended, turn_stopped}
 use Rattle.ocfl_scrub.proofs.CycleLoop.{limits_next, limits_out, ended_not_worn, spent_not_worn, stopped_not_worn, ended_wrote, spent_wrote, stopped_wrote, new_unended, one_run_more, same_cycle, spent_unended, lines_said, cycle_said}
 use Rattle.ocfl_scrub.proofs.cycling.cycle_part.Goals as goal
 
@@ -39,11 +39,10 @@ returns-in-Ended-clause-any_store g c =
 pub returns-in-Ended-clause-told : goal.returns-in-Ended-clause-told
 returns-in-Ended-clause-told g c told root over short =
     let e = c.cycle_end-in-Ended.ensures in
-    let goes = c.loop-one.invariant.told told root over short in
     let next = limits_next c.args.limits.now c.loop-one.one-index c.one-item.result c.loop-one-test.true c.one-item.is in
-    let took = c.run_part-reached.ensures.told told root (goes_over root (part_of c.args.part.now) _ _ _ _ _ _ _ _ goes) short (ended_not_worn _ c.in-Ended.is) in
     cycle_said root (part_of c.args.part.now) _ _ _ _ _ _ _ _ _ _ _ e.cursor e.found e.end
-    (turn_ended root (part_of c.args.part.now) _ _ _ _ _ _ _ _ goes _ _ _ _ _ _ _ next c.in-Ok.ensures.same took c.either-found.ensures c.in-Ended.is)
+    (turn_ended root (part_of c.args.part.now) _ _ _ _ _ _ _ _ (c.loop-one.invariant.told told root over short) _ _ _ _ _ _ _ next c.in-Ok.ensures.same
+        (λ reached. c.run_part-reached.ensures.told told root reached short (ended_not_worn _ c.in-Ended.is)) c.either-found.ensures c.in-Ended.is)
 
 pub returns-in-Ended-clause-headline : goal.returns-in-Ended-clause-headline
 returns-in-Ended-clause-headline g c told root over short same =
@@ -67,11 +66,10 @@ returns-in-Stopped-clause-any_store g c =
 pub returns-in-Stopped-clause-told : goal.returns-in-Stopped-clause-told
 returns-in-Stopped-clause-told g c told root over short =
     let e = c.cycle_end-in-Stopped.ensures in
-    let goes = c.loop-one.invariant.told told root over short in
     let next = limits_next c.args.limits.now c.loop-one.one-index c.one-item.result c.loop-one-test.true c.one-item.is in
-    let took = c.run_part-reached.ensures.told told root (goes_over root (part_of c.args.part.now) _ _ _ _ _ _ _ _ goes) short (stopped_not_worn _ _ c.in-Stopped.is) in
     cycle_said root (part_of c.args.part.now) _ _ _ _ _ _ _ _ _ _ _ e.cursor e.found e.end
-    (turn_stopped root (part_of c.args.part.now) _ _ _ _ _ _ _ _ goes _ _ _ _ _ _ _ next c.in-Ok.ensures.same took c.either-found.ensures _ c.in-Stopped.is)
+    (turn_stopped root (part_of c.args.part.now) _ _ _ _ _ _ _ _ (c.loop-one.invariant.told told root over short) _ _ _ _ _ _ _ next c.in-Ok.ensures.same
+        (λ reached. c.run_part-reached.ensures.told told root reached short (stopped_not_worn _ _ c.in-Stopped.is)) c.either-found.ensures _ c.in-Stopped.is)
 
 pub loop-one-preserved : goal.loop-one-preserved
 loop-one-preserved g c =
@@ -90,10 +88,9 @@ loop-one-preserved g c =
       untouched = λ e. absurd (omega (arith, e));
       lines = lines_then _ _ _ _ _ _ i.lines (c.run_part-reached.ensures.any_store.lines (spent_wrote _ going)) c.either-found.ensures;
       told = λ told root over short.
-          let goes = i.told told root over short in
           let next = limits_next c.args.limits.now c.loop-one.one-index c.one-item.result c.loop-one-test.true c.one-item.is in
-          let took = c.run_part-reached.ensures.told told root (goes_over root (part_of c.args.part.now) _ _ _ _ _ _ _ _ goes) short (spent_not_worn _ going) in
-          turn_spent root (part_of c.args.part.now) _ _ _ _ _ _ _ _ goes _ _ _ _ _ _ _ next c.in-Ok.ensures.same took c.either-found.ensures going;
+          turn_spent root (part_of c.args.part.now) _ _ _ _ _ _ _ _ (i.told told root over short) _ _ _ _ _ _ _ next c.in-Ok.ensures.same
+              (λ reached. c.run_part-reached.ensures.told told root reached short (spent_not_worn _ going)) c.either-found.ensures going;
     }
 
 pub returns-clause-told : goal.returns-clause-told

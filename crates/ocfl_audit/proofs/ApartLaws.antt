@@ -114,9 +114,11 @@ module _ (z : Place) where
       by true f k more =
           let others : filter (λ part. lies_in part z) (map (λ e. e.0) parts) ≡ [] = cc in
           (λ g. sym (given_left (unread_in e.0 e.1) (together parts) (none_given parts others) ∙ given_in e.0 e.1 f), nothing_to_say (unread_in e.0 e.1 ++ together parts) parts others)
-      by false f k more =
-          (λ g. absurd (true_not_false (sym g ∙ f)), agree_also (together parts) (unread_in e.0 e.1 ++ together parts)
-              (sym (given_right (unread_in e.0 e.1) (together parts) (given_out e.0 e.1 f))) parts (more k))
+      by false f k more = (
+        λ g. absurd (true_not_false (sym g ∙ f)),
+        agree_also (together parts) (unread_in e.0 e.1 ++ together parts)
+            (sym (given_right (unread_in e.0 e.1) (together parts) (given_out e.0 e.1 f))) parts (more k),
+      )
 
 -- ---- items where what was read agrees
 

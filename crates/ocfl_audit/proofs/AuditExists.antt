@@ -205,7 +205,7 @@ module _ (root : StorageRoot) (unread : Unread) where
     where
       by : (b : Bool) → map (λ i. i.place) (filter has_lines (map (item_of root unread) ps)) ≡ filter (λ q. has_lines (item_of root unread q)) ps
           → map (λ i. i.place) (cond b (item_of root unread p ∷ filter has_lines (map (item_of root unread) ps))
-              (filter has_lines (map (item_of root unread) ps))) ≡ cond b (p ∷ filter (λ q. has_lines (item_of root unread q)) ps) (filter (λ q. has_lines (item_of root unread q)) ps)
+          (filter has_lines (map (item_of root unread) ps))) ≡ cond b (p ∷ filter (λ q. has_lines (item_of root unread q)) ps) (filter (λ q. has_lines (item_of root unread q)) ps)
       by true e = ap (λ x. p ∷ x) e
       by false e = e
 

@@ -252,7 +252,7 @@ module _ (ps : List Place) (ascends : IsAscending place_cmp ps) (d : Place) wher
           named m r e j l Less f =
               among_right down rest_of_parts z (subst (IsAmong rest_of_parts) (sym e)
               (among_flat_map (λ x. under ps (d ++ x ∷ [])) _ m (d ++ m ∷ r)
-                  (among_filter (λ x. is_lt (text_cmp n x)) ns m (cover m r (subst (IsAmong ps) e j)) (ap is_lt f)) (in_part m r (subst (IsAmong ps) e j))))
+              (among_filter (λ x. is_lt (text_cmp n x)) ns m (cover m r (subst (IsAmong ps) e j)) (ap is_lt f)) (in_part m r (subst (IsAmong ps) e j))))
           named m r e j l Equal f =
               let same : m ≡ n = sym (text_cmp_exact n m f) in
               among_left down rest_of_parts z (among_filter (above (d ++ n ∷ q)) (under ps (d ++ n ∷ [])) z
@@ -286,6 +286,6 @@ module _ (ps : List Place) (ascends : IsAscending place_cmp ps) (d : Place) wher
           (λ m. under ps (d ++ m ∷ [])) (filter (λ m. is_lt (text_cmp n m)) ns)
       split_after = same_places _ _ (ascends_filter place_cmp (above (d ++ n ∷ q)) _ (ascends_filter place_cmp (begins d) ps ascends))
           (ascends_append place_cmp down rest_of_parts
-              (ascends_filter place_cmp (above (d ++ n ∷ q)) _ (ascends_filter place_cmp (begins (d ++ n ∷ [])) ps ascends))
-              (parts_ascend _ (ascends_filter text_cmp (λ m. is_lt (text_cmp n m)) ns names)) apart)
+          (ascends_filter place_cmp (above (d ++ n ∷ q)) _ (ascends_filter place_cmp (begins (d ++ n ∷ [])) ps ascends))
+          (parts_ascend _ (ascends_filter text_cmp (λ m. is_lt (text_cmp n m)) ns names)) apart)
           after_to after_from

@@ -66,7 +66,7 @@ module _ (ps : List Place) where
     pub between_on : (from to : Option Place) (b : Place) → IsBeyond from b → IsWithin to b → between ps from (Some b) ++ between ps (Some b) to ≡ between ps from to
     between_on from to b l u =
         ascending_unique place_cmp_total place_cmp_exact _ _
-            (ascends_append place_cmp (between ps from (Some b)) (between ps (Some b) to) (between_ascends from (Some b)) (between_ascends (Some b) to) apart) (between_ascends from to)
+        (ascends_append place_cmp (between ps from (Some b)) (between ps (Some b) to) (between_ascends from (Some b)) (between_ascends (Some b) to) apart) (between_ascends from to)
         (λ z. (to_whole z, to_parts z))
       where
         -- what is not past b lies before what is above b

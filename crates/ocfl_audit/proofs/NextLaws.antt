@@ -148,14 +148,14 @@ module _ (root : StorageRoot) (closed : IsClosed root) where
   pub listed_left : (d q : Place) (fs : List Frame) → seen_left (seen_places root) (listed_at root d q fs) ≡ filter (above (d ++ q)) (under (seen_places root) d) ++ seen_left (seen_places root) fs
   listed_left d [] fs =
       ap (λ l. l ++ seen_left (seen_places root) fs)
-          (sym (split_self (seen_places root) (seen_ascend root) d (seen_names root d) (seen_names_ascend root d) (cover_seen d))
-          ∙ ap (λ p. filter (above p) (under (seen_places root) d)) (sym (append_nothing d)))
+      (sym (split_self (seen_places root) (seen_ascend root) d (seen_names root d) (seen_names_ascend root d) (cover_seen d))
+      ∙ ap (λ p. filter (above p) (under (seen_places root) d)) (sym (append_nothing d)))
   listed_left d (n ∷ q) fs =
       listed_left (d ++ n ∷ []) q ((d, filter (λ m. is_lt (text_cmp n m)) (seen_names root d)) ∷ fs)
       ∙ ap (λ p. filter (above p) (under (seen_places root) (d ++ n ∷ []))
-          ++ (flat_map (λ m. under (seen_places root) (d ++ m ∷ [])) (filter (λ m. is_lt (text_cmp n m)) (seen_names root d)) ++ seen_left (seen_places root) fs)) (append_one d q n)
+      ++ (flat_map (λ m. under (seen_places root) (d ++ m ∷ [])) (filter (λ m. is_lt (text_cmp n m)) (seen_names root d)) ++ seen_left (seen_places root) fs)) (append_one d q n)
       ∙ sym (append_assoc (filter (above (d ++ n ∷ q)) (under (seen_places root) (d ++ n ∷ [])))
-          (flat_map (λ m. under (seen_places root) (d ++ m ∷ [])) (filter (λ m. is_lt (text_cmp n m)) (seen_names root d))) (seen_left (seen_places root) fs))
+      (flat_map (λ m. under (seen_places root) (d ++ m ∷ [])) (filter (λ m. is_lt (text_cmp n m)) (seen_names root d))) (seen_left (seen_places root) fs))
       ∙ ap (λ l. l ++ seen_left (seen_places root) fs) (sym (split_after (seen_places root) (seen_ascend root) d (seen_names root d) (seen_names_ascend root d) (cover_seen d) n q))
 
   pub listed_is : (q : Place) → seen_left (seen_places root) (listed_at root [] q []) ≡ filter (above q) (seen_places root)
@@ -174,7 +174,7 @@ module _ (root : StorageRoot) (closed : IsClosed root) where
       → seen_left (seen_places root) ((d, n ∷ ns) ∷ fs) ≡ (d ++ n ∷ []) ∷ seen_left (seen_places root) ((d ++ n ∷ [], seen_names root (d ++ n ∷ [])) ∷ (d, ns) ∷ fs)
   listing_step d n ns fs leaf h =
       ap (λ l. (l ++ seen_in (seen_places root) (d, ns)) ++ seen_left (seen_places root) fs)
-          (seen_by_name (d ++ n ∷ []) ∙ ap (λ o. on (is_some o) (d ++ n ∷ []) ++ flat_map (λ m. under (seen_places root) ((d ++ n ∷ []) ++ m ∷ [])) (seen_names root (d ++ n ∷ []))) h)
+      (seen_by_name (d ++ n ∷ []) ∙ ap (λ o. on (is_some o) (d ++ n ∷ []) ++ flat_map (λ m. under (seen_places root) ((d ++ n ∷ []) ++ m ∷ [])) (seen_names root (d ++ n ∷ []))) h)
       ∙ regroup (d ++ n ∷ []) (seen_in (seen_places root) (d ++ n ∷ [], seen_names root (d ++ n ∷ []))) (seen_in (seen_places root) (d, ns)) (seen_left (seen_places root) fs)
     where
       regroup : (x : Place) (b c e : List Place) → (x ∷ b ++ c) ++ e ≡ x ∷ (b ++ (c ++ e))

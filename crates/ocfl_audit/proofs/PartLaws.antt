@@ -265,7 +265,7 @@ module _ (z : Place) where
 module _ (root : StorageRoot) (unread : Unread) (part : Part) where
   pub part_runs_join : (b n : ℕ) (limits : List Limits) → 1 ≤ b → 1 ≤ n → All (IsAtLeast b n) limits
       → total_cost (within part (audit root unread)) / b + total_files (within part (audit root unread)) / n + 1 ≤ length limits
-          → joined (runs (within part (audit root unread)) limits) ≡ within part (audit root unread)
+      → joined (runs (within part (audit root unread)) limits) ≡ within part (audit root unread)
   part_runs_join b n limits some_budget some_files large enough = large_whole b n some_budget some_files limits (within part (audit root unread)) large enough
 
   pub part_runs_few : (b n : ℕ) (limits : List Limits) → 1 ≤ b → 1 ≤ n → All (IsAtLeast b n) limits

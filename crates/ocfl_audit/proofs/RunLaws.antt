@@ -226,7 +226,7 @@ same_after (l ∷ ls) (i ∷ items) h =
     let budgets : List ℕ = map (λ k. k.budget) ls in
     let fits = All-head (FileLimitFits (i ∷ items)) l ls h in
     ap₂ (λ c r. c ∷ r) (same_cut (i ∷ items) l fits)
-        (same_after ls (left (i ∷ items) l) (left_fits (i ∷ items) l ls (All-tail (FileLimitFits (i ∷ items)) l ls h)) ∙ ap (budget_runs_after budgets) (same_left (i ∷ items) l fits))
+    (same_after ls (left (i ∷ items) l) (left_fits (i ∷ items) l ls (All-tail (FileLimitFits (i ∷ items)) l ls h)) ∙ ap (budget_runs_after budgets) (same_left (i ∷ items) l fits))
 
 pub same_runs : (items : List Item) (ls : List Limits) → FilesFit items ls → runs items ls ≡ budget_runs items (map (λ l. l.budget) ls)
 same_runs items [] h = refl
@@ -350,7 +350,7 @@ joined_after [] (i ∷ items) (inr c) h = absurd (omega (arith, c, h))
 joined_after (b ∷ bs) [] c h = refl
 joined_after (b ∷ bs) (i ∷ items) c h =
     ap (λ xs. budget_cut (i ∷ items) b ++ xs)
-        (by (rest_fits (i ∷ items) b (sum_of bs) h (left_has_cost (i ∷ items) b)) (joined_after bs (budget_left (i ∷ items) b) (left_has_cost (i ∷ items) b))) ∙ cut_and_left (i ∷ items) b
+    (by (rest_fits (i ∷ items) b (sum_of bs) h (left_has_cost (i ∷ items) b)) (joined_after bs (budget_left (i ∷ items) b) (left_has_cost (i ∷ items) b))) ∙ cut_and_left (i ∷ items) b
   where
     by : (budget_left (i ∷ items) b ≡ []) ⊎ (total_cost (budget_left (i ∷ items) b) ≤ sum_of bs)
         → (total_cost (budget_left (i ∷ items) b) ≤ sum_of bs → joined (budget_runs_after bs (budget_left (i ∷ items) b)) ≡ budget_left (i ∷ items) b)

@@ -22,7 +22,7 @@ object_zone_step root front (m ∷ d) n = by (is_declared (object_declared root 
   where
     by : (b : Bool) → object_zone root (front ++ m ∷ []) (d ++ n ∷ []) ≡ step_zone root ((front ++ m ∷ []) ++ d) n (object_zone root (front ++ m ∷ []) d)
         → cond b (inside (front ++ m ∷ []) (d ++ n ∷ [])) (object_zone root (front ++ m ∷ []) (d ++ n ∷ [])) ≡ step_zone root (front ++ m ∷ d) n
-            (cond b (inside (front ++ m ∷ []) d) (object_zone root (front ++ m ∷ []) d))
+        (cond b (inside (front ++ m ∷ []) d) (object_zone root (front ++ m ∷ []) d))
     by true h = refl
     by false h = h ∙ ap (λ x. step_zone root x n (object_zone root (front ++ m ∷ []) d)) (append_one front d m)
 
@@ -43,7 +43,7 @@ pub all_beginnings_step : (test : Place → Bool) (d : Place) (n : Text) → lis
 all_beginnings_step test [] n = and_true (test [])
 all_beginnings_step test (m ∷ d) n =
     ap (λ b. test [] && b) (all_map (λ q. m ∷ q) test (beginnings (d ++ n ∷ [])) ∙ all_beginnings_step (λ q. test (m ∷ q)) d n
-        ∙ ap (λ b. b && test (m ∷ d)) (sym (all_map (λ q. m ∷ q) test (beginnings d))))
+    ∙ ap (λ b. b && test (m ∷ d)) (sym (all_map (λ q. m ∷ q) test (beginnings d))))
     ∙ sym (and_assoc (test []) (list_all test (map (λ q. m ∷ q) (beginnings d))) (test (m ∷ d)))
 
 -- ---- one name further

@@ -52,7 +52,7 @@ module _ (root : StorageRoot) (unread : Unread) where
     where
       by : (b : Bool) → filter (λ i. test i.place) (map (item_of root unread) ps) ≡ map (item_of root unread) (filter test ps)
           → cond b (item_of root unread p ∷ filter (λ i. test i.place) (map (item_of root unread) ps))
-              (filter (λ i. test i.place) (map (item_of root unread) ps)) ≡ map (item_of root unread) (cond b (p ∷ filter test ps) (filter test ps))
+          (filter (λ i. test i.place) (map (item_of root unread) ps)) ≡ map (item_of root unread) (cond b (p ∷ filter test ps) (filter test ps))
       by true e = ap (λ l. item_of root unread p ∷ l) e
       by false e = e
 
@@ -62,7 +62,7 @@ module _ (root : StorageRoot) (unread : Unread) where
     where
       by : (b : Bool) → filter has_lines (map (item_of root unread) ps) ≡ map (item_of root unread) (filter (λ q. has_lines (item_of root unread q)) ps)
           → cond b (item_of root unread p ∷ filter has_lines (map (item_of root unread) ps)) (filter has_lines (map (item_of root unread) ps)) ≡ map
-              (item_of root unread) (cond b (p ∷ filter (λ q. has_lines (item_of root unread q)) ps) (filter (λ q. has_lines (item_of root unread q)) ps))
+          (item_of root unread) (cond b (p ∷ filter (λ q. has_lines (item_of root unread q)) ps) (filter (λ q. has_lines (item_of root unread q)) ps))
       by true e = ap (λ l. item_of root unread p ∷ l) e
       by false e = e
 
@@ -144,10 +144,10 @@ module _ (root : StorageRoot) (closed : IsClosed root) (unread : Unread) where
   -- those above a place below d: what is above it under its next name, and then all under greater names
   pub items_after_name : (d : Place) (n : Text) (q : Place) → after (items_under d (audit root unread)) (Some (d ++ n ∷ q))
       ≡ after (items_under (d ++ n ∷ []) (audit root unread)) (Some (d ++ n ∷ q)) ++ flat_map (λ m. items_under (d ++ m ∷ []) (audit root unread))
-          (filter (λ m. is_lt (text_cmp n m)) (names_below root d))
+      (filter (λ m. is_lt (text_cmp n m)) (names_below root d))
   items_after_name d n q =
       after_places root unread d (d ++ n ∷ q)
-          ∙ ap (map (item_of root unread)) (split_after (item_places root unread) (places_ascend root unread) d (names_below root d) (names_ascend root d) (cover d) n q)
+      ∙ ap (map (item_of root unread)) (split_after (item_places root unread) (places_ascend root unread) d (names_below root d) (names_ascend root d) (cover d) n q)
       ∙ map_append (item_of root unread) (filter (above (d ++ n ∷ q)) (under (item_places root unread) (d ++ n ∷ []))) _
       ∙ append_at (sym (after_places root unread (d ++ n ∷ []) (d ++ n ∷ q))) (sym (parts_places root unread d (filter (λ m. is_lt (text_cmp n m)) (names_below root d))))
     where
@@ -174,7 +174,7 @@ module _ (root : StorageRoot) (closed : IsClosed root) (unread : Unread) where
   walk_under zero d h = sym (nothing_under d h)
   walk_under (suc k) d h =
       ap (λ l. item_at root unread d ++ l)
-          (flat_map_alike (λ n. walk k root unread (d ++ n ∷ [])) (λ n. items_under (d ++ n ∷ []) (audit root unread)) (names_below root d) (λ n. walk_under k (d ++ n ∷ []) (deeper k d n h)))
+      (flat_map_alike (λ n. walk k root unread (d ++ n ∷ [])) (λ n. items_under (d ++ n ∷ []) (audit root unread)) (names_below root d) (λ n. walk_under k (d ++ n ∷ []) (deeper k d n h)))
       ∙ sym (items_by_name d)
 
   pub walk_after_under : (k : ℕ) (d q : Place) → ((r : Place) → IsAmong (item_places root unread) (d ++ r) → length r < k)
@@ -186,7 +186,7 @@ module _ (root : StorageRoot) (closed : IsClosed root) (unread : Unread) where
   walk_after_under (suc k) d (n ∷ q) h =
       append_at (walk_after_under k (d ++ n ∷ []) q (deeper k d n h) ∙ ap (λ p. after (items_under (d ++ n ∷ []) (audit root unread)) (Some p)) (append_one d q n))
       (flat_map_alike (λ m. walk k root unread (d ++ m ∷ [])) (λ m. items_under (d ++ m ∷ []) (audit root unread))
-          (filter (λ m. is_lt (text_cmp n m)) (names_below root d)) (λ m. walk_under k (d ++ m ∷ []) (deeper k d m h)))
+      (filter (λ m. is_lt (text_cmp n m)) (names_below root d)) (λ m. walk_under k (d ++ m ∷ []) (deeper k d m h)))
       ∙ sym (items_after_name d n q)
     where
       append_at : {a b c e : List Item} → a ≡ b → c ≡ e → a ++ c ≡ b ++ e
@@ -214,9 +214,9 @@ module _ (root : StorageRoot) (closed : IsClosed root) (unread : Unread) where
   entered_left d (n ∷ q) fs =
       entered_left (d ++ n ∷ []) q ((d, filter (λ m. is_lt (text_cmp n m)) (names_below root d)) ∷ fs)
       ∙ ap (λ p. after (items_under (d ++ n ∷ []) (audit root unread)) (Some p)
-          ++ (flat_map (λ m. items_under (d ++ m ∷ []) (audit root unread)) (filter (λ m. is_lt (text_cmp n m)) (names_below root d)) ++ left_of (audit root unread) fs)) (append_one d q n)
+      ++ (flat_map (λ m. items_under (d ++ m ∷ []) (audit root unread)) (filter (λ m. is_lt (text_cmp n m)) (names_below root d)) ++ left_of (audit root unread) fs)) (append_one d q n)
       ∙ sym (append_assoc (after (items_under (d ++ n ∷ []) (audit root unread)) (Some (d ++ n ∷ q)))
-          (flat_map (λ m. items_under (d ++ m ∷ []) (audit root unread)) (filter (λ m. is_lt (text_cmp n m)) (names_below root d))) (left_of (audit root unread) fs))
+      (flat_map (λ m. items_under (d ++ m ∷ []) (audit root unread)) (filter (λ m. is_lt (text_cmp n m)) (names_below root d))) (left_of (audit root unread) fs))
       ∙ ap (λ l. l ++ left_of (audit root unread) fs) (sym (items_after_name d n q))
 
   pub entered_is : (q : Place) → left_of (audit root unread) (entered_at root [] q []) ≡ after (audit root unread) (Some q)

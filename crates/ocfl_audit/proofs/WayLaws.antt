@@ -26,7 +26,7 @@ pub all_beginnings_append : (test : Place → Bool) (d r : Place) → list_all t
 all_beginnings_append test [] r = refl
 all_beginnings_append test (m ∷ d) r =
     ap (λ b. test [] && b) (all_map (λ q. m ∷ q) test (beginnings (d ++ r)) ∙ all_beginnings_append (λ q. test (m ∷ q)) d r
-        ∙ ap (λ b. b && list_all (λ q. test (m ∷ (d ++ q))) (beginnings r)) (sym (all_map (λ q. m ∷ q) test (beginnings d))))
+    ∙ ap (λ b. b && list_all (λ q. test (m ∷ (d ++ q))) (beginnings r)) (sym (all_map (λ q. m ∷ q) test (beginnings d))))
     ∙ sym (and_assoc (test []) (list_all test (map (λ q. m ∷ q) (beginnings d))) (list_all (λ q. test (m ∷ (d ++ q))) (beginnings r)))
 
 -- what lies on an entered way is entered

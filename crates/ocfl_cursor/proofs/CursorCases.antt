@@ -87,8 +87,11 @@ unfolding cursor_on_literals
 bodies_behind_the_root = refl
 
 bodies_of_an_ended_cursor : bodies (record { cycle = 18446744073709551615; runs = 10; spent = 9223372036854775808; files = 12; state = ended })
-    ≡ (codes "ocfl-scrub cursor 2\ncycle 18446744073709551615\nruns 10\nspent 9223372036854775808\nfiles 12\nended\n", codes
-        "ocfl-scrub cursor 1\ncycle 18446744073709551615\nruns 10\nspent 9223372036854775808\nended\n")
+    ≡ (
+      codes "ocfl-scrub cursor 2\ncycle 18446744073709551615\nruns 10\nspent 9223372036854775808\nfiles 12\nended\n",
+      codes
+          "ocfl-scrub cursor 1\ncycle 18446744073709551615\nruns 10\nspent 9223372036854775808\nended\n",
+    )
 unfolding cursor_on_literals
 bodies_of_an_ended_cursor = refl
 

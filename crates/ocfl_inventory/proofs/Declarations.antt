@@ -29,13 +29,13 @@ module _ (level : Level) where
     where
       keep : (b : Bool) → filter (is_declaration level) (file_names es) ≡ map (λ x. x.name) (filter (is_counted level) es)
           → cond b (e.name ∷ filter (is_declaration level) (file_names es)) (filter (is_declaration level) (file_names es)) ≡ map (λ x. x.name)
-              (cond b (e ∷ filter (is_counted level) es) (filter (is_counted level) es))
+          (cond b (e ∷ filter (is_counted level) es) (filter (is_counted level) es))
       keep true h = ap (λ ns. e.name ∷ ns) h
       keep false h = h
 
       by : (k : Kind) → filter (is_declaration level) (file_names es) ≡ map (λ x. x.name) (filter (is_counted level) es)
           → filter (is_declaration level) (cond (is_file k) (e.name ∷ file_names es) (file_names es)) ≡ map (λ x. x.name)
-              (cond (is_file k && is_declaration level e.name) (e ∷ filter (is_counted level) es) (filter (is_counted level) es))
+          (cond (is_file k && is_declaration level e.name) (e ∷ filter (is_counted level) es) (filter (is_counted level) es))
       by File h = keep (is_declaration level e.name) h
       by Dir h = h
       by Other h = h

@@ -100,9 +100,9 @@ module _ {A : Type 0} (cmp : A → A → Ordering) (total : IsTotalOrder cmp) (e
   pub ascending_filter : (xs : List A) → ascending cmp (filter test xs) ≡ filter test (ascending cmp xs)
   ascending_filter xs = ascending_unique total exact (ascending cmp (filter test xs)) (filter test (ascending cmp xs))
       (ascends_ascending total (filter test xs)) (ascends_filter cmp test (ascending cmp xs) (ascends_ascending total xs)) (λ z. (
-    λ i. let w = among_from_filter test xs z ((among_ascending exact (filter test xs) z).1 i) in among_filter test (ascending cmp xs) z ((among_ascending exact xs z).0 w.0) w.1,
-    λ i. let w = among_from_filter test (ascending cmp xs) z i in (among_ascending exact (filter test xs) z).0 (among_filter test xs z ((among_ascending exact xs z).1 w.0) w.1),
-  ))
+        λ i. let w = among_from_filter test xs z ((among_ascending exact (filter test xs) z).1 i) in among_filter test (ascending cmp xs) z ((among_ascending exact xs z).0 w.0) w.1,
+        λ i. let w = among_from_filter test (ascending cmp xs) z i in (among_ascending exact (filter test xs) z).0 (among_filter test xs z ((among_ascending exact xs z).1 w.0) w.1),
+      ))
 
 module _ (content : Text) where
   faults_left : (ts : List Text) → filter_map (fault_note content) (filter (is_bad content) ts) ≡ filter_map (fault_note content) ts
@@ -111,7 +111,7 @@ module _ (content : Text) where
     where
       by : (o : Option Code) → path_fault content t ≡ o → filter_map (fault_note content) (filter (is_bad content) ts) ≡ filter_map (fault_note content) ts
           → filter_map (fault_note content) (cond (is_some o) (t ∷ filter (is_bad content) ts) (filter (is_bad content) ts)) ≡ cons_option
-              (option_map (λ c. note c t) o) (filter_map (fault_note content) ts)
+          (option_map (λ c. note c t) o) (filter_map (fault_note content) ts)
       by None e h = h
       by (Some code) e h = ap (λ o. cons_option (option_map (λ c. note c t) o) (filter_map (fault_note content) (filter (is_bad content) ts))) e ∙ ap (λ ns. note code t ∷ ns) h
 
@@ -150,9 +150,9 @@ lines_of_listed i l h =
 pub ascending_permuted : (es fs : List Triple) → IsPermutation es fs → ascending triple_cmp fs ≡ ascending triple_cmp es
 ascending_permuted es fs p = ascending_unique triple_total triple_exact (ascending triple_cmp fs) (ascending triple_cmp es) (ascends_ascending triple_total fs)
     (ascends_ascending triple_total es) (λ z. (
-  λ i. (among_ascending triple_exact es z).0 (among_permuted triple_total triple_exact fs es (IsPermutation-sym es fs p) z ((among_ascending triple_exact fs z).1 i)),
-  λ i. (among_ascending triple_exact fs z).0 (among_permuted triple_total triple_exact es fs p z ((among_ascending triple_exact es z).1 i)),
-))
+      λ i. (among_ascending triple_exact es z).0 (among_permuted triple_total triple_exact fs es (IsPermutation-sym es fs p) z ((among_ascending triple_exact fs z).1 i)),
+      λ i. (among_ascending triple_exact fs z).0 (among_permuted triple_total triple_exact es fs p z ((among_ascending triple_exact es z).1 i)),
+    ))
 
 -- what was gathered beside sorted triples, of all that is listed
 pub all_gathered : (in_manifest sorted in_fixity found : List Triple) → IsPermutation in_manifest sorted → IsPermutation (sorted ++ in_fixity) found → IsPermutation (in_manifest ++ in_fixity) found

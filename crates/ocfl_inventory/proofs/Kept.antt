@@ -72,7 +72,7 @@ ends_dotted : (t : Text) → ends_with nat_eq t (codes "/") ≡ true → list_an
 ends_dotted t h =
     let e : t ≡ take (length t - 1) t ++ codes "/" = (ends_is Decides-eqb t (codes "/") (ends_with nat_eq t (codes "/")) refl).0 h in
     ap (λ u. list_any is_empty_or_dots (elements u)) e ∙ ap (list_any is_empty_or_dots) (elements-append (take (length t - 1) t) [])
-        ∙ dots_in_front (elements (take (length t - 1) t)) (elements []) refl
+    ∙ dots_in_front (elements (take (length t - 1) t)) (elements []) refl
 
 -- ---- what is kept
 

@@ -92,7 +92,7 @@ faults_step content xs i d front total new h e so_far =
     let later : List Note = filter_map (fault_note content) (map (λ x. x.now) (drop (i + 1) xs)) in
     let two : filter_map (fault_note content) (map (λ x. x.now) (drop i xs)) ≡ cons_option (fault_note content (get_or xs i d).now) later = ap (λ ys. filter_map (fault_note content) (map (λ x. x.now) ys)) one in
     ap (λ ys. ys ++ later) e ∙ append_assoc front (cons_option (fault_note content (get_or xs i d).now) []) later
-        ∙ ap (λ ys. front ++ ys) (joined (fault_note content (get_or xs i d).now) later ∙ sym two) ∙ so_far
+    ∙ ap (λ ys. front ++ ys) (joined (fault_note content (get_or xs i d).now) later ∙ sym two) ∙ so_far
   where
     joined : (o : Option Note) (ns : List Note) → cons_option o [] ++ ns ≡ cons_option o ns
     joined None ns = refl

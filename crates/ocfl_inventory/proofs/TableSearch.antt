@@ -134,7 +134,7 @@ module _ (q : Place) where
   picked_first (x ∷ xs) (suc j) h w =
       keep x _ (between_same x.path (h 0 x (omega arith) (omega arith)) (w.0 0 x (omega arith) (omega arith)))
       ∙ ap (λ ys. x.named ∷ ys) (picked_first xs j (λ k d a b. h (suc k) d (omega arith) (omega arith))
-          (λ k d a b. w.0 (suc k) d (omega arith) (omega arith), λ k d a b. w.1 (suc k) d (omega arith) (omega arith)))
+      (λ k d a b. w.0 (suc k) d (omega arith) (omega arith), λ k d a b. w.1 (suc k) d (omega arith) (omega arith)))
 
   both_below : (p : Place) → is_lt (place_cmp p q) ≡ true → is_lt (place_cmp q p) ≡ true → ⊥
   both_below p h k = true_not_false (sym h ∙ ap is_lt (place_cmp_total.antisymm p q) ∙ by (place_cmp q p) k)
@@ -162,7 +162,7 @@ module _ (q : Place) where
   picked (x ∷ xs) (suc i) (suc j) a low high =
       skip x _ (below_apart x.path (low.0 0 x (omega arith) (omega arith)))
       ∙ picked xs i j (omega (arith, a)) (λ k d b l. low.0 (suc k) d (omega arith) (omega arith), λ k d b l. low.1 (suc k) d (omega arith) (omega arith))
-          (λ k d b l. high.0 (suc k) d (omega arith) (omega arith), λ k d b l. high.1 (suc k) d (omega arith) (omega arith))
+      (λ k d b l. high.0 (suc k) d (omega arith) (omega arith), λ k d b l. high.1 (suc k) d (omega arith) (omega arith))
 
 -- ---- the next path
 

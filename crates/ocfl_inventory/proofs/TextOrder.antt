@@ -53,8 +53,8 @@ pub keys_repeated : (xs ys hs zs : List Text) → IsPermutation xs ys → IsSort
     → IsFiltered (DiffersFromLast (eq_by_cmp text_cmp)) [] hs zs → zs ≡ repeated text_cmp text_eq xs
 keys_repeated xs ys hs zs p s h f =
     dedup_is (eq_by_cmp text_cmp) hs zs f ∙ ap (dedup text_eq) h
-        ∙ sorted_hits nat_list_cmp_total text_exact (alike_front nat_list_cmp_total text_exact) _ xs ys (λ z i. refl) p
-        (subst (IsUp text_cmp) (itself ys) (up_from_sorted nat_list_cmp_total text_exact (λ t. t) ys (λ k d l. s k d (omega arith) l)))
+    ∙ sorted_hits nat_list_cmp_total text_exact (alike_front nat_list_cmp_total text_exact) _ xs ys (λ z i. refl) p
+    (subst (IsUp text_cmp) (itself ys) (up_from_sorted nat_list_cmp_total text_exact (λ t. t) ys (λ k d l. s k d (omega arith) l)))
   where
     itself : (ts : List Text) → map (λ t. t) ts ≡ ts
     itself [] = refl

@@ -107,8 +107,14 @@ audits_nothing root s over = record { over = over; did = did_nothing s; read = r
 pub fails_nothing : (root : StorageRoot) (s : Store) (why : Fault) → s.tree ≡ root → failures_by why ≡ 0 → ((q : Place) → why ≡ fault.Store q → ⊥) → Fails root s s [] [] [] [] why
 unfolding hashed_among
 fails_nothing root s why over none not =
-    record { over = over; did = (let same : 0 ≡ 0 + failures_by why = omega (arith, none) in subst (Did s s [] []) same (did_nothing s)); opened =
-    refl; heads_are = refl; store = λ q e. absurd (not q e) }
+    record {
+      over = over;
+      did = (let same : 0 ≡ 0 + failures_by why = omega (arith, none) in subst (Did s s [] []) same (did_nothing s));
+      opened =
+          refl;
+      heads_are = refl;
+      store = λ q e. absurd (not q e);
+    }
 
 -- where only metadata was read
 pub audits_meta : (root : StorageRoot) (s t : Store) (ls hs : List Place) (os : List Opening) → s.tree ≡ root → Did s t os ls 0 → IsMetadataRead root os

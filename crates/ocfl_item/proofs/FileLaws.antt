@@ -74,8 +74,11 @@ module _ (root : StorageRoot) (o : Place) (n : Text) (meta : is_meta root (o ++ 
           trail = k.openings;
           stops = record {
             goes = record { over = over; listings = []; did = k.did; read = λ g. absurd (store_counts g); listed = ([], refl) };
-            store = λ q g. (ap (is_hashed root) (sym (store_place (o ++ n ∷ []) q g))
-                ∙ file_not_hashed, subst (FailedAt root [] k.openings) (store_place (o ++ n ∷ []) q g) (in_opening [] k.opened.0 k.opened.2));
+            store = λ q g. (
+              ap (is_hashed root) (sym (store_place (o ++ n ∷ []) q g))
+                  ∙ file_not_hashed,
+              subst (FailedAt root [] k.openings) (store_place (o ++ n ∷ []) q g) (in_opening [] k.opened.0 k.opened.2),
+            );
           };
           opened = subst (λ os. IsFront (places_of os) (files_there root o (n ∷ []))) (sym k.opened.2) (one k.opened.0 true bytes e);
         }
@@ -112,8 +115,14 @@ module _ (root : StorageRoot) (o : Place) (n : Text) (meta : is_meta root (o ++ 
       let k = subst (λ x. ReadsBounded root s t x limit b) there l in
       record {
         gives = (
-          record { over = over; trail = opening (o ++ n ∷ []) (min (length k.bytes) (limit + 1)) false ∷ []; did = k.did; read = refl; opened =
-              ap (λ x. map (λ m. o ++ m ∷ []) (cond (is_some x) (n ∷ []) [])) (sym k.is_file) },
+          record {
+            over = over;
+            trail = opening (o ++ n ∷ []) (min (length k.bytes) (limit + 1)) false ∷ [];
+            did = k.did;
+            read = refl;
+            opened =
+                ap (λ x. map (λ m. o ++ m ∷ []) (cond (is_some x) (n ∷ []) [])) (sym k.is_file);
+          },
           (k.bytes, k.is_file, k.is_bounded),
         );
       }

@@ -72,8 +72,17 @@ module _ (root : StorageRoot) (o : Place) (es : List Entry) (h : IsObject root o
   pub table_read_from : (s t : Store) (r : Result (Option Table) Fault) → OpensJust root s t o (inventory_name ∷ []) r → IfOk r (λ table. table ≡ table_at root o) → ReadsTable root s t o r
   table_read_from s t (Ok table) k is =
       let some = some_of root o s t (inventory_name ∷ []) k in
-      record { gives = (record { reads = some_is_meta root o h.zone (inventory_name ∷ []) refl one_apart s t some; heads =
-          inventory_opened root o h.zone some.trail h.known some.opened }, is, inventory_alone root o h.zone k.trail some.opened) }
+      record {
+        gives = (
+          record {
+            reads = some_is_meta root o h.zone (inventory_name ∷ []) refl one_apart s t some;
+            heads =
+                inventory_opened root o h.zone some.trail h.known some.opened;
+          },
+          is,
+          inventory_alone root o h.zone k.trail some.opened,
+        );
+      }
   table_read_from s t (Err why) k is = record {
     gives = (
       record { stops = stop_is_meta root o h.zone (inventory_name ∷ []) refl one_apart s t why k; heads = inventory_opened root o h.zone k.trail h.known k.opened },
@@ -235,7 +244,7 @@ module _ (root : StorageRoot) (o : Place) (z : zone root o ≡ inside o []) (v :
       → ((ns : List Note) → HasLines b ns → HasLines c (or_clean ns)) → HasLines c (notes root None o)
   known_lines none a b c is has h k clean =
       clean (on (not (is_exact_declaration root o level.Object v)) (plain E007) ++ inventory_file_notes root o (file_at root (o ++ inventory_name ∷ [])))
-          (has_more none b [] _ has (adds_both none a b _ _ h k))
+      (has_more none b [] _ has (adds_both none a b _ _ h k))
       ∙ ap (lines_at c.place) (sym (head_notes_are root o z ∙ ap (head_notes_by root o) is))
 
 pub known_table : (root : StorageRoot) (o : Place) (v : Version) (table : Option Table) → object_declared root o ≡ known v

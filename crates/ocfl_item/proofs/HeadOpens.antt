@@ -67,7 +67,7 @@ module _ (root : StorageRoot) (o : Place) where
   abbrev ReadsWhole : Store → Store → PlaceLines → PlaceLines → Text → Result (Option Table) Fault → Type 0
   ReadsWhole s t old new bytes r =
       MatchResult r (λ table. ReadsFiles root s t o both × (table ≡ table_of bytes)
-          × Adds old new (sidecars_notes root o bytes ++ inventory_part root o bytes (algorithm_of bytes))) (λ why. FilesStop root s t o both why)
+      × Adds old new (sidecars_notes root o bytes ++ inventory_part root o bytes (algorithm_of bytes))) (λ why. FilesStop root s t o both why)
 
   pub whole_opens : (s t u : Store) (f : Option Bounded) (old new : PlaceLines) (bytes : Text) (r : Result (Option Table) Fault)
       → sidecars_for (file_at root (o ++ inventory_name ∷ [])) ≡ both → ReadsFile root s t o inventory_name inventory_limit (Ok f)
@@ -78,7 +78,7 @@ module _ (root : StorageRoot) (o : Place) where
   pub whole_told : (s t : Store) (old new : PlaceLines) (v : Vec ℕ Global) (bytes : Text) (r : Result (Option Table) Fault)
       → IsFileAt root (o ++ inventory_name ∷ []) inventory_limit (Some (bounded.Whole v)) → bytes ≡ v.items
       → ReadsWhole s t old new bytes r
-          → IfOk r (λ table. (table ≡ table_in (file_at root (o ++ inventory_name ∷ []))) × Adds old new (inventory_file_notes root o (file_at root (o ++ inventory_name ∷ []))))
+      → IfOk r (λ table. (table ≡ table_in (file_at root (o ++ inventory_name ∷ []))) × Adds old new (inventory_file_notes root o (file_at root (o ++ inventory_name ∷ []))))
   whole_told s t old new v bytes (Ok table) is same k = (inventory_table root o v bytes table is same k.1, inventory_lines root o old new v bytes is same k.2)
   whole_told s t old new v bytes (Err why) is same k = tt
 
@@ -100,7 +100,7 @@ module _ (root : StorageRoot) (o : Place) where
       → ReadsFiles root s s o (head_files root o (object_declared root o))
   stop_opens_none es m s over h stops =
       subst (ReadsFiles root s s o) (sym (ap (head_files root o) (sym h.says) ∙ no_head_files (meaning level.Object es m) stops))
-          (record { over = over; trail = []; did = did_nothing s; read = refl; opened = refl })
+      (record { over = over; trail = []; did = did_nothing s; read = refl; opened = refl })
 
   pub none_memory : (s : Store) (ns : List Text) → s.tree ≡ root → FilesStop root s s o ns fault.Memory
   none_memory s ns over = record {

@@ -193,7 +193,7 @@ module _ (root : StorageRoot) (s t : Store) (made : Pending) (over : s.tree ≡ 
   pub judged_whole : (w : Wanted) (d : Digests) (n : ℕ) (ns : List MadeNamed) (lines : List MadeLine) → ns ≡ made.named.items
       → AreWanted w (map (λ m. m.algorithm) made.named.items) → HashesFile root s t made.place w d n
       → ((bytes : Text) → HasDigests (map (λ m. m.algorithm) ns) bytes d → n ≡ length bytes
-          → map line_of lines ≡ lines_at made.place (or_bytes bytes (unnamed_notes (map named_view ns) ++ wrong_notes bytes (map named_view ns))))
+      → map line_of lines ≡ lines_at made.place (or_bytes bytes (unnamed_notes (map named_view ns) ++ wrong_notes bytes (map named_view ns))))
       → Judges root s t made.place lines (n + 1)
   judged_whole w d n ns lines same wanted h are =
       let f = hashed_file root made.place file_is in
@@ -203,7 +203,7 @@ module _ (root : StorageRoot) (s t : Store) (made : Pending) (over : s.tree ≡ 
       let has : HasDigests (map (λ m. m.algorithm) ns) f.bytes d = subst (λ b. HasDigests (map (λ m. m.algorithm) ns) b d) bytes (λ a i. h.digests.each a ∙ ap (λ b. cond b (Some (digest_bytes_of a h.bytes)) None) ((wanted a).1 (subst (λ ms. IsAmong (map (λ m. m.algorithm) ms) a) same i))) in
       whole_judges root made.place file_is s t n lines over h.did
       (ap (lines_at made.place) (f.lines None ∙ file_whole f.bytes (named_at root made.place) f.digests
-          ∙ ap (λ xs. or_bytes f.bytes (unnamed_notes xs ++ wrong_notes f.bytes xs)) (sym names)) ∙ sym (are f.bytes has count))
+      ∙ ap (λ xs. or_bytes f.bytes (unnamed_notes xs ++ wrong_notes f.bytes xs)) (sym names)) ∙ sym (are f.bytes has count))
       (f.whole ∙ ap (λ k. k + 1) (sym count))
 
   pub failed_part : HasShortFiles root → (n : ℕ) (cause : Cause) → StopsHashing root s t made.place n cause → cause ≢ Memory → JudgeFails root s t made.place
@@ -255,7 +255,7 @@ module _ (root : StorageRoot) (s t : Store) (made : Pending) (over : s.tree ≡ 
 
   whole_is : (read : Digests × ℕ) (r : Result Made Fault) → HashesFile root s t made.place w read.0 read.1 → IfOk r (λ j. j.1 ≡ read.1 + 1)
       → ((bytes : Text) → HasDigests (map (λ m. m.algorithm) made.named.items) bytes read.0 → read.1 ≡ length bytes
-          → IfOk r (λ j. map line_of j.0.items ≡ lines_at made.place (or_bytes bytes (unnamed_notes names ++ wrong_notes bytes names)))) → IsJudged r
+      → IfOk r (λ j. map line_of j.0.items ≡ lines_at made.place (or_bytes bytes (unnamed_notes names ++ wrong_notes bytes names)))) → IsJudged r
   whole_is read (Ok j) h cost are =
       subst (Judges root s t made.place j.0.items) (sym cost) (judged_whole root s t made over pending hashed w read.0 read.1 made.named.items j.0.items refl wanted h are)
   whole_is read (Err why) h cost are = failed_whole root s t made over pending hashed w read.0 read.1 h
@@ -272,7 +272,7 @@ module _ (root : StorageRoot) (s t : Store) (made : Pending) (over : s.tree ≡ 
   pub judged_is : (read : Result (Digests × ℕ) ReadStop) (r : Result Made Fault) → Read root s t made.place w read → IfOk r (λ j. j.1 ≡ given_in read + 1)
       → IfErr read (λ stop. stop.cause ≡ Memory → IfOk r (λ j. ⊥))
       → IfOk read (λ h. (bytes : Text) → HasDigests (map (λ m. m.algorithm) made.named.items) bytes h.0 → h.1 ≡ length bytes
-          → IfOk r (λ j. map line_of j.0.items ≡ lines_at made.place (or_bytes bytes (unnamed_notes names ++ wrong_notes bytes names))))
+      → IfOk r (λ j. map line_of j.0.items ≡ lines_at made.place (or_bytes bytes (unnamed_notes names ++ wrong_notes bytes names))))
       → IfErr read (λ stop. stop.cause ≢ Memory → IfOk r (λ j. map line_of j.0.items ≡ lines_at made.place (unnamed_notes names ++ plain S08 ∷ []))) → IsJudged r
   judged_is (Ok h) r did cost none whole part = whole_is h r did cost whole
   judged_is (Err stop) r did cost none whole part = part_is stop r did cost none part

@@ -268,8 +268,8 @@ module _ (root : StorageRoot) (d : Place) (es : List Entry) (ordinary : IsOrdina
   declared_listing level = same_declared level (filter (is_declaration level) (file_names es)) (filter (is_declaration level) (files_in root d))
       (once_filter (is_declaration level) (file_names es) (once_files es ordinary.once))
       (once_filter (is_declaration level) (files_in root d)
-          (once_ascending (files_in root d)
-          (ascends_filter text_cmp (λ n. is_some (file_at root (d ++ n ∷ []))) (names_in root d) (ascends_ascending text_cmp_total (filter_map (λ e. child_name d e.0) root)))))
+      (once_ascending (files_in root d)
+      (ascends_filter text_cmp (λ n. is_some (file_at root (d ++ n ∷ []))) (names_in root d) (ascends_ascending text_cmp_total (filter_map (λ e. child_name d e.0) root)))))
       (λ z i. let k = among_from_filter (is_declaration level) (file_names es) z i in among_filter (is_declaration level) (files_in root d) z (listed_to_model z k.0) k.1)
       (λ z i. let k = among_from_filter (is_declaration level) (files_in root d) z i in among_filter (is_declaration level) (file_names es) z (model_to_listed z k.0) k.1)
 

@@ -47,7 +47,7 @@ pub listable_object : (root : StorageRoot) (d : Place) → is_listable root d �
 listable_object root d h =
     ap (λ b. cond b (declared level.Object (files_in root d)) undeclared)
     (and_both (is_dir root d) (nat_le (length d) max_listed_depth) (and_second (nat_le (length d) max_listed_depth) (is_dir root d) h)
-        (and_first (nat_le (length d) max_listed_depth) (is_dir root d) h))
+    (and_first (nat_le (length d) max_listed_depth) (is_dir root d) h))
 
 -- what a listing declares an object to be
 pub declared_object : (root : StorageRoot) (d : Place) (es : List Entry) → is_listable root d ≡ true → IsOrdinary es → IsListing root d es

@@ -80,7 +80,7 @@ blocks m (k ∷ ks) h = by (blocks k ks h.1)
         ordered : (r : Ordering) → block_cmp m k ≡ r → ascending block_cmp (m ∷ k ∷ ks) ≡ match_ordering r (m ∷ b.first ∷ b.others) (b.first ∷ b.others) (b.first ∷ insert_once block_cmp m b.others)
         ordered r e =
             ap (insert_once block_cmp m) b.is
-                ∙ ap (λ o. match_ordering o (m ∷ b.first ∷ b.others) (b.first ∷ b.others) (b.first ∷ insert_once block_cmp m b.others)) (sym (alike_right block_cmp_total k b.first m b.like) ∙ e)
+            ∙ ap (λ o. match_ordering o (m ∷ b.first ∷ b.others) (b.first ∷ b.others) (b.first ∷ insert_once block_cmp m b.others)) (sym (alike_right block_cmp_total k b.first m b.like) ∙ e)
 
         go : (r : Ordering) → block_cmp m k ≡ r → Blocks m (k ∷ ks)
         go Less e = record {
@@ -107,7 +107,7 @@ missing_in_order (m ∷ ms) h = let b = blocks m ms h in ap (map missing_note) b
 
 pub missing_done : (old new : PlaceLines) (ns : List MadeNamed) (i : ℕ) (before : Option Named) → length ns ≤ i
     → (new.place ≡ old.place) × (map line_of new.lines.items ++ lines_at old.place (notes_behind before (map named_view (drop i ns))) ≡ map line_of
-        old.lines.items ++ lines_at old.place (notes_behind None (map named_view ns)))
+    old.lines.items ++ lines_at old.place (notes_behind None (map named_view ns)))
     → IsAscending named_cmp (map named_view ns) → Adds old new (missing_notes (map named_view ns))
 missing_done old new ns i before l so_far ascend = (
   so_far.0,

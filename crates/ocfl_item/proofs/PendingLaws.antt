@@ -64,7 +64,7 @@ module _ (root : StorageRoot) (p q : Place) (t : Table) (ns : List MadeNamed) (s
   -- the lines that were made, at the place itself
   pub known_lines_are : (ms : List MadeNamed) (l : PlaceLines) → ms ≡ ns → l.place ≡ p
       → (IsAscending named_cmp (map named_view ms) → HasLines l (sight_notes s ++ missing_notes (map named_view ms)))
-          → map line_of l.lines.items ≡ lines_at p (sight_notes s ++ missing_notes (map named_view ns))
+      → map line_of l.lines.items ≡ lines_at p (sight_notes s ++ missing_notes (map named_view ns))
   known_lines_are ms l same at made =
       made (subst (λ xs. IsAscending named_cmp (map named_view xs)) (sym same) names_ascend) ∙ (λ i. lines_at (at i) (sight_notes s ++ missing_notes (map named_view (same i))))
 

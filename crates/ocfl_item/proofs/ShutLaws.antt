@@ -54,7 +54,7 @@ module _ (root : StorageRoot) (e : Place) (some : e ≢ []) where
     looked = looked e some h;
     read = unread (is_head (zone root e)) (inventory_at root e)
         (ap (λ b. cond (is_known (cond b (declared level.Object (files_in root e)) undeclared)) (file_at root (e ++ inventory_name ∷ [])) None)
-            (swapped (nat_le (length e) max_listed_depth) (is_dir root e) h));
+        (swapped (nat_le (length e) max_listed_depth) (is_dir root e) h));
     names = hidden root e (not_entered root e h);
   }
     where

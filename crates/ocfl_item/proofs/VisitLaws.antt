@@ -100,14 +100,36 @@ no_notes root e h = short_notes root e [] h ∙ same_either (is_empty (names_in 
 
 -- nothing, at a place that is shut
 pub meets_shut : (root : StorageRoot) (s : Store) (e : Place) → s.tree ≡ root → IsShut root e → Meets root s s e
-meets_shut root s e over h = record { over = over; trail = []; listings = []; did = did_nothing s; read = refl; meta = refl; once = none_once; elsewhere =
-    λ g k. refl; listed = sym (ap (λ b. on b e) h.looked); heads = sym (ap (λ b. on b e) h.read) }
+meets_shut root s e over h = record {
+  over = over;
+  trail = [];
+  listings = [];
+  did = did_nothing s;
+  read = refl;
+  meta = refl;
+  once = none_once;
+  elsewhere =
+      λ g k. refl;
+  listed = sym (ap (λ b. on b e) h.looked);
+  heads = sym (ap (λ b. on b e) h.read);
+}
 
 -- a directory that is no object was listed
 pub meets_listing : (root : StorageRoot) (s t : Store) (e : Place) → s.tree ≡ root → Did s t [] (e ∷ []) 0 → is_looked_into root e ≡ true → reads_inventory root e ≡ false → Meets root s t e
 meets_listing root s t e over did looked read =
-    record { over = over; trail = []; listings = e ∷ []; did = did; read = refl; meta = refl; once = none_once; elsewhere = λ g k. refl; listed =
-    sym (ap (λ b. on b e) looked); heads = sym (ap (λ b. on b e) read) }
+    record {
+      over = over;
+      trail = [];
+      listings = e ∷ [];
+      did = did;
+      read = refl;
+      meta = refl;
+      once = none_once;
+      elsewhere = λ g k. refl;
+      listed =
+          sym (ap (λ b. on b e) looked);
+      heads = sym (ap (λ b. on b e) read);
+    }
 
 pub meet_stop : (root : StorageRoot) (s t : Store) (e : Place) (why : Fault) → is_looked_into root e ≡ true → Stops root s t (e ∷ []) [] why → MeetFails root s t e why
 meet_stop root s t e why looked h = record {

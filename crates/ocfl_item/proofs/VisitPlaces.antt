@@ -215,7 +215,7 @@ module _ (root : StorageRoot) (e : Place) (es : List Entry) (h : IsUndeclaredAt 
   full_visit v f full item folder table place entries =
       let k = listed_plain [] false (not_emptied root e es h.listing full) refl in
       visit_of_folder root e v f (subst (IsItemAt root e) (sym item) k.lines) folder table k.head place (directory_reached root e h.directory h.short h.none)
-          (subst (IsListing root e) (sym entries) h.listing)
+      (subst (IsListing root e) (sym entries) h.listing)
 
 -- the listing, and then what the head reads
 pub listed_then : (root : StorageRoot) (s t u : Store) (e : Place) → is_head (zone root e) ≡ true → s.tree ≡ root → Did s t [] (e ∷ []) 0
@@ -311,8 +311,17 @@ module _ (root : StorageRoot) (s t : Store) (e : Place) (f : Folder) (m : MadeDe
 
 pub head_memory : (root : StorageRoot) (s t : Store) (o : Place) → ReadsOne root s t o → VisitsHead root s t o (Err fault.Memory)
 head_memory root s t o h = record {
-  gives = record { over = h.over; trail = h.trail; did = h.did; read = λ g. h.read; meta = h.meta; once = h.once; heads =
-      subst (IsFront (heads_of root h.trail)) h.heads (front_all (heads_of root h.trail)); store = λ q g. absurd cc };
+  gives = record {
+    over = h.over;
+    trail = h.trail;
+    did = h.did;
+    read = λ g. h.read;
+    meta = h.meta;
+    once = h.once;
+    heads =
+        subst (IsFront (heads_of root h.trail)) h.heads (front_all (heads_of root h.trail));
+    store = λ q g. absurd cc;
+  };
 }
 
 pub head_stop : (root : StorageRoot) (s t : Store) (o : Place) (why : Fault) → HeadRead root s t o (Err why) → VisitsHead root s t o (Err why)
@@ -337,9 +346,12 @@ module _ (root : StorageRoot) (o : Place) (es : List Entry) (m : MadeDeclared) (
       × (p.place ≡ o) → f.place ≡ o → f.entries.items ≡ es → table_at root o ≡ Some t → IsVisit root o v
   open_visit v p f t item folder table pending place entries is = record {
     item = subst (IsItemAt root o) (sym item) pending;
-    folder = subst (IsFolderAt root o) (sym folder)
-        (place, and_both (list_all (is_entered root) (beginnings o)) (is_entered root o) h.way
-        (entered_from root o h.listable (ap (is_listed_zone root) h.zone ∙ ap (λ x. is_listed_in_object x []) is)), subst (IsListing root o) (sym entries) h.listing);
+    folder = subst (IsFolderAt root o) (sym folder) (
+      place,
+      and_both (list_all (is_entered root) (beginnings o)) (is_entered root o) h.way
+          (entered_from root o h.listable (ap (is_listed_zone root) h.zone ∙ ap (λ x. is_listed_in_object x []) is)),
+      subst (IsListing root o) (sym entries) h.listing,
+    );
     table = subst (IsTableAt root o) (sym table) (h.zone, is);
   }
 

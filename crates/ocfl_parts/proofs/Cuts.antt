@@ -188,7 +188,7 @@ module _ (b : ℕ) (small : b < 2 ^ 64) (done : List Line) (ps : List Place) (s 
       → (l : Line) → HasText l → said ≡ told l → IsCutSoFar b (done ++ l ∷ []) qs t (Some said)
   later_taken i said qs t e o closes above few l has g =
       subst (λ x. IsCutSoFar b (done ++ l ∷ []) qs t (Some x)) (sym g)
-          (goes_on b small done ps s l has i qs t (ap (λ x. place_cmp i.place x.place) (sym g) ∙ o) closes above few (subst (IsCutSoFar b done ps s) e h))
+      (goes_on b small done ps s l has i qs t (ap (λ x. place_cmp i.place x.place) (sym g) ∙ o) closes above few (subst (IsCutSoFar b done ps s) e h))
 
   -- all cuts, where no line follows
   cuts_whole : cuts b done ≡ ps ++ cuts_from b s (items_from item [])

@@ -44,7 +44,7 @@ encode_bytes c h = by (ltb c 128) (ltb c 2048) (ltb c 65536) refl refl refl (sca
   where
     by : (x y z : Bool) → ltb c 128 ≡ x → ltb c 2048 ≡ y → ltb c 65536 ≡ z → c < 1114112
         → All IsByte (cond x (c ∷ []) (cond y ((192 + c / 64) ∷ next c ∷ [])
-            (cond z ((224 + c / 4096) ∷ next (c / 64) ∷ next c ∷ []) ((240 + c / 262144) ∷ next (c / 4096) ∷ next (c / 64) ∷ next c ∷ []))))
+        (cond z ((224 + c / 4096) ∷ next (c / 64) ∷ next c ∷ []) ((240 + c / 262144) ∷ next (c / 4096) ∷ next (c / 64) ∷ next c ∷ []))))
     by true y z e f g below = let l = ltb-true c 128 e in All-from_recursion IsByte (c ∷ []) (omega arith, tt)
     by false true z e f g below = let l = ltb-true c 2048 f in All-from_recursion IsByte ((192 + c / 64) ∷ next c ∷ []) (omega arith, (omega arith, tt))
     by false false true e f g below = let l = ltb-true c 65536 g in All-from_recursion IsByte ((224 + c / 4096) ∷ next (c / 64) ∷ next c ∷ []) (omega arith, (omega arith, (omega arith, tt)))

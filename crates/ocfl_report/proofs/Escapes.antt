@@ -59,7 +59,7 @@ pub unescape-escape-append : (t rest : Text) → All (λ b. b < 256) t → unesc
 unescape-escape-append [] rest h = refl
 unescape-escape-append (b ∷ t) rest h =
     ap unescape (append_assoc (escape_byte b) (escape t) rest) ∙ unescape-escape_byte b (escape t ++ rest) (All-head IsByte b t h)
-        ∙ ap (λ x. b ∷ x) (unescape-escape-append t rest (All-tail IsByte b t h))
+    ∙ ap (λ x. b ∷ x) (unescape-escape-append t rest (All-tail IsByte b t h))
 
 -- escaped text reads back
 pub unescape-escape : (t : Text) → All (λ b. b < 256) t → unescape (escape t) ≡ t

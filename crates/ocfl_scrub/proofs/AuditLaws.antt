@@ -154,9 +154,9 @@ module _ (root : StorageRoot) (s t : Store) (old new : Option (List ℕ)) (last 
     trail = h.trail;
     audits = subst (λ ps. Audits root s t ps (looked_between root None None) (read_between root None None) h.trail) (all_places h.trail)
         (subst (λ xs. Audits root s t (places (items_in root h.trail whole)) (looked_between root None None) (xs ++ read_between root None None) h.trail)
-            (nothing_front h.looks.held h.looks.held_front)
+        (nothing_front h.looks.held h.looks.held_front)
         (subst (λ xs. Audits root s t (places (items_in root h.trail whole)) (xs ++ looked_between root None None) (h.looks.held ++ read_between root None None)
-            h.trail) (nothing_front h.looks.down h.looks.down_front) h.looks.audits));
+        h.trail) (nothing_front h.looks.down h.looks.down_front) h.looks.audits));
     wrote = h.wrote;
     last_is = h.last_is ∙ ap (last_of None) (all_places h.trail);
     found_is = h.found_is;
@@ -171,7 +171,7 @@ module _ (root : StorageRoot) (s t : Store) (old new : Option (List ℕ)) (last 
     heads = h.looks.heads;
     fails = subst (λ xs. Fails root s t (places h.stops.whole ++ h.stops.begun) h.looks.listed (xs ++ h.looks.heads) h.trail why) (nothing_front h.looks.held h.looks.held_front)
         (subst (λ xs. Fails root s t (places h.stops.whole ++ h.stops.begun) (xs ++ h.looks.listed) (h.looks.held ++ h.looks.heads) h.trail why)
-            (nothing_front h.looks.down h.looks.down_front) h.looks.fails);
+        (nothing_front h.looks.down h.looks.down_front) h.looks.fails);
     listed_front = h.looks.listed_front;
     heads_front = h.looks.heads_front;
   }

@@ -83,7 +83,7 @@ module _ {root : StorageRoot} {s t : Store} {old mid : Option (List ℕ)} {walk 
       unfolding passes_missed
       audit_missed why misses = halt_part root part s h.begun v old new h.stood last finding h.down why
           (passes_missed root (end_of part) h.begun t u old mid (stand root part None) h.stood finding h.beyond h.passes q.place item.above item.gives.3
-              item.in_front item.gives.0 v new why (misses (walked_over item.gives.0) item.gives.2)) h.last_is
+          item.in_front item.gives.0 v new why (misses (walked_over item.gives.0) item.gives.2)) h.last_is
 
   -- the walk did not get to its next item
   pub audit_lost : (why : Fault) → (IsLive walk → IsWayFault why)
@@ -91,4 +91,4 @@ module _ {root : StorageRoot} {s t : Store} {old mid : Option (List ℕ)} {walk 
   unfolding passes_lost
   audit_lost why only lost = halt_part root part s h.begun u old mid h.stood last finding h.down why
       (passes_lost root (end_of part) h.begun t u old mid (stand root part None) h.stood finding h.beyond h.passes why (only way.live).0
-          (lost (passes_over h.passes) way.live h.stood h.stands)) h.last_is
+      (lost (passes_over h.passes) way.live h.stood h.stands)) h.last_is

@@ -115,7 +115,7 @@ then_one root p front trail meta once (inl e) = subst AreOnce (sym (append-nil f
 then_one root p front trail meta once (inr k) =
     subst (λ os. AreOnce (front ++ os)) (sym k.1.0)
     (all_pairs_push (λ a b. a.place ≢ b.place) front k.0 once
-        (λ i d l e. true_not_false (sym (meta_at root front i d l (all_meta root front meta)) ∙ ap (is_meta root) (e ∙ k.1.1.0) ∙ hashed_no_meta root p k.1.1.1)))
+    (λ i d l e. true_not_false (sym (meta_at root front i d l (all_meta root front meta)) ∙ ap (is_meta root) (e ∙ k.1.1.0) ∙ hashed_no_meta root p k.1.1.1)))
 
 -- ---- the way down, and then the item
 
@@ -137,8 +137,14 @@ module _ (root : StorageRoot) (p : Place) where
           trail = g.trail;
           listed = g.listed;
           heads = g.heads;
-          audits = record { over = g.audits.over; did = g.audits.did; read = g.audits.read; opened = g.audits.opened ∙ nothing_hashed root
-              ∙ sym (lines_free root p none); heads_are = g.audits.heads_are };
+          audits = record {
+            over = g.audits.over;
+            did = g.audits.did;
+            read = g.audits.read;
+            opened = g.audits.opened ∙ nothing_hashed root
+                ∙ sym (lines_free root p none);
+            heads_are = g.audits.heads_are;
+          };
           just = record { listed_front = g.listed_front; heads_front = g.heads_front; once = g.once };
           wrote = subst (λ is. Appends old old (text is)) (sym e) (Appends-nil old);
           item_is = sym (ap (λ is. not (is_empty is)) e);

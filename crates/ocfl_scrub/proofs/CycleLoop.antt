@@ -90,4 +90,4 @@ pub cycle_said : (root : StorageRoot) (part : Part) (s t : Store) (old new : Opt
     → CyclesToWithin (call_of root s t old new) part all c finding end → CyclesToWithin (call_of root s t old new) part all d reported last_end
 cycle_said root part s t old new all c d finding reported end last_end e f g h =
     subst (CyclesToWithin (call_of root s t old new) part all d reported) (sym g)
-        (subst (λ v. CyclesToWithin (call_of root s t old new) part all d v end) (sym f) (subst (λ x. CyclesToWithin (call_of root s t old new) part all x finding end) (sym e) h))
+    (subst (λ v. CyclesToWithin (call_of root s t old new) part all d v end) (sym f) (subst (λ x. CyclesToWithin (call_of root s t old new) part all x finding end) (sym e) h))

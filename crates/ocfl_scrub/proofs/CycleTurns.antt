@@ -169,18 +169,22 @@ module _ (root : StorageRoot) (part : Part) (s t : Store) (old mid : Option (Lis
         let h = subst (RunEndsWithin (call_of root t u mid new) part g.last ran.last l made.spent made.files made.found) e from_last in
         subst (λ v. CycleGoes root part s u old new ls all made.cursor v) (sym is_either)
         (subst (λ x. CycleGoes root part s u old new ls all x (finding || made.found))
-            (sym (reached_is ∙ ap (λ w. cycle_cursor (c.runs + 1) (c.spent + made.spent) (c.files + made.files) (state_after w ran.last)) e))
-        (record { last = ran.last; cursor_is = refl; goes =
-            goes_run root part s t u old mid new g.last ran.last l ls all c.spent c.files made.spent made.files finding made.found c.runs here h.0 h.1 }))
+        (sym (reached_is ∙ ap (λ w. cycle_cursor (c.runs + 1) (c.spent + made.spent) (c.files + made.files) (state_after w ran.last)) e))
+        (record {
+          last = ran.last;
+          cursor_is = refl;
+          goes =
+              goes_run root part s t u old mid new g.last ran.last l ls all c.spent c.files made.spent made.files finding made.found c.runs here h.0 h.1;
+        }))
 
     cycle_of : (w : RunStatus) (last_end : CycleStatus) → made.end ≡ w → cycle_state last_end ran.last ≡ state_after w ran.last
         → PartsEnd root part s u old new None ran.last all (c.spent + made.spent) (c.files + made.files) (finding || made.found) (c.runs + 1) last_end
-            → CyclesToWithin (call_of root s u old new) part all made.cursor either last_end
+        → CyclesToWithin (call_of root s u old new) part all made.cursor either last_end
     cycle_of w last_end e f k =
         subst (λ v. CyclesToWithin (call_of root s u old new) part all made.cursor v last_end) (sym is_either)
         (subst (λ x. CyclesToWithin (call_of root s u old new) part all x (finding || made.found) last_end)
         (ap (cycle_cursor (c.runs + 1) (c.spent + made.spent) (c.files + made.files)) f
-            ∙ sym (reached_is ∙ ap (λ y. cycle_cursor (c.runs + 1) (c.spent + made.spent) (c.files + made.files) (state_after y ran.last)) e))
+        ∙ sym (reached_is ∙ ap (λ y. cycle_cursor (c.runs + 1) (c.spent + made.spent) (c.files + made.files) (state_after y ran.last)) e))
         (cycles_to root part s u old new all ran.last (c.runs + 1) (c.spent + made.spent) (c.files + made.files) (finding || made.found) last_end (omega arith) k))
 
     pub turn_ended : made.end ≡ run.Ended → CyclesToWithin (call_of root s u old new) part all made.cursor either cycle.Ended
@@ -192,4 +196,4 @@ module _ (root : StorageRoot) (part : Part) (s t : Store) (old mid : Option (Lis
     turn_stopped why e =
         let h = subst (RunEndsWithin (call_of root t u mid new) part g.last ran.last l made.spent made.files made.found) e from_last in
         cycle_of (run.Stopped why) (cycle.Stopped why) e refl
-            (goes_stops root part s t u old mid new g.last ran.last l ls all c.spent c.files made.spent made.files finding made.found c.runs here why h)
+        (goes_stops root part s t u old mid new g.last ran.last l ls all c.spent c.files made.spent made.files finding made.found c.runs here why h)

@@ -145,7 +145,7 @@ module _ (part : Part) where
       by [] e =
           ap (λ g. before_end (end_of part) (from_first (unless_root g) xs)) e
           ∙ filter_same _ _ (λ x. sym (lies_exact part x ∙ ap (λ g. not (is_lt (place_cmp x g)) && not (is_past (end_of part) x)) e
-              ∙ ap (λ b. not b && not (is_past (end_of part) x)) (nothing_less x))) xs
+          ∙ ap (λ b. not b && not (is_past (end_of part) x)) (nothing_less x))) xs
       by (n ∷ g) e =
           ap (λ h. before_end (end_of part) (from_first (unless_root h) xs)) e
           ∙ filter_twice (λ z. not (is_past (end_of part) z)) (λ q. not (is_lt (place_cmp q (n ∷ g)))) xs

@@ -169,7 +169,7 @@ module _ (root : StorageRoot) (e : End) (s t u : Store) (old mid : Option (List 
           trail = h.trail ++ (w.trail ++ k.trail);
           audits = subst (λ hs. Audits root s v (h.done ++ p ∷ []) (looked_between root from (Some p)) hs (h.trail ++ (w.trail ++ k.trail))) (read_next root e from last low p up)
               (subst (λ ls. Audits root s v (h.done ++ p ∷ []) ls (up_to_last (read_between root) from last ++ read_between root last (Some p))
-                  (h.trail ++ (w.trail ++ k.trail))) (looked_next root e from last low p up)
+              (h.trail ++ (w.trail ++ k.trail))) (looked_next root e from last low p up)
               (audits_on root s t v h.done (p ∷ []) _ _ _ _ h.trail (w.trail ++ k.trail) h.audits both));
           due_are = due_with ∙ sym (append_assoc h.done (p ∷ []) (due root (Some p)));
           inside = filter_append (λ z. not (is_past e z)) h.done (p ∷ []) ∙ ap (λ ps. ps ++ before_end e (p ∷ [])) h.inside ∙ ap (λ b. h.done ++ cond (not b) (p ∷ []) []) in_front;

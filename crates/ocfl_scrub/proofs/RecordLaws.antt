@@ -124,10 +124,22 @@ pub stopped_audit_wrote : (root : StorageRoot) (s t : Store) (before written : L
     × ((audit root (unread_of root trail) ≡ whole ++ others)
     × ((written ≡ before ++ (text whole ++ take gone (text (take 1 others))))
     × ((why ≡ fault.Output → gone < length (text (take 1 others))) × ((why ≢ fault.Output → gone ≡ 0) × (finding ≡ found whole)))))))))
-stopped_audit_wrote root s t before written last finding why h =
-    (h.trail, (h.stops.whole, (h.stops.others,
-    (h.stops.part_of.gone, (h.fails.did.openings_are,
-    (h.stops.items_are, ((h.stops.wrote ∙ ap (λ u. before ++ (text h.stops.whole ++ u)) h.stops.part_of.is), (h.stops.part_of.proper, (h.stops.part_of.none, h.found_is)))))))))
+stopped_audit_wrote root s t before written last finding why h = (
+  h.trail,
+  (
+    h.stops.whole,
+    (
+      h.stops.others,
+      (
+        h.stops.part_of.gone,
+        (
+          h.fails.did.openings_are,
+          (h.stops.items_are, ((h.stops.wrote ∙ ap (λ u. before ++ (text h.stops.whole ++ u)) h.stops.part_of.is), (h.stops.part_of.proper, (h.stops.part_of.none, h.found_is)))),
+        ),
+      ),
+    ),
+  ),
+)
 
 pub stopped_audit_opened : (call : Call) (last : Option Place) (finding : Bool) (why : Fault) → AuditStops call last finding why → (trail : List Opening)
     × ((whole : List Item) × ((others : List Item)
@@ -192,9 +204,13 @@ pub run_ended_at : (call : Call) (from last next : Option Place) (limits : Limit
     × ((call.after.openings ≡ call.before.openings ++ trail)
     × ((cut (after (audit call.root (unread_of call.root trail)) from) limits ≡ [] → last ≡ from)
     × ((front : List Item) (i : Item) → cut (after (audit call.root (unread_of call.root trail)) from) limits ≡ front ++ i ∷ [] → last ≡ Some i.place)))
-run_ended_at call from last next limits spent files finding h =
-    (h.trail, (h.looks.audits.did.openings_are,
-    ((λ e. h.last_is ∙ ap (λ items. last_of from (places items)) e), λ front i e. h.last_is ∙ ap (λ items. last_of from (places items)) e ∙ last_item from front i)))
+run_ended_at call from last next limits spent files finding h = (
+  h.trail,
+  (
+    h.looks.audits.did.openings_are,
+    ((λ e. h.last_is ∙ ap (λ items. last_of from (places items)) e), λ front i e. h.last_is ∙ ap (λ items. last_of from (places items)) e ∙ last_item from front i),
+  ),
+)
 
 pub stopped_run_wrote : (root : StorageRoot) (s t : Store) (before written : List ℕ) (from last : Option Place) (limits : Limits) (spent files : ℕ)
     (finding : Bool) (why : Fault) → RunStops (known_call root s t before written) from last limits spent files finding why → (trail : List Opening)
@@ -203,11 +219,28 @@ pub stopped_run_wrote : (root : StorageRoot) (s t : Store) (before written : Lis
     × ((cut (after (audit root (unread_of root trail)) from) limits ≡ whole ++ others)
     × ((written ≡ before ++ (text whole ++ take gone (text (take 1 others))))
     × ((why ≡ fault.Output → gone < length (text (take 1 others))) × ((why ≢ fault.Output → gone ≡ 0) × ((spent ≡ total_cost whole) × ((files ≡ total_files whole) × (finding ≡ found whole)))))))))))
-stopped_run_wrote root s t before written from last limits spent files finding why h =
-    (h.trail, (h.stops.whole, (h.stops.others,
-    (h.stops.part_of.gone, (h.looks.fails.did.openings_are,
-    (h.stops.items_are, ((h.stops.wrote ∙ ap (λ u. before ++ (text h.stops.whole ++ u)) h.stops.part_of.is),
-    (h.stops.part_of.proper, (h.stops.part_of.none, (h.figures.spent_is, (h.figures.files_is, h.figures.found_is)))))))))))
+stopped_run_wrote root s t before written from last limits spent files finding why h = (
+  h.trail,
+  (
+    h.stops.whole,
+    (
+      h.stops.others,
+      (
+        h.stops.part_of.gone,
+        (
+          h.looks.fails.did.openings_are,
+          (
+            h.stops.items_are,
+            (
+              (h.stops.wrote ∙ ap (λ u. before ++ (text h.stops.whole ++ u)) h.stops.part_of.is),
+              (h.stops.part_of.proper, (h.stops.part_of.none, (h.figures.spent_is, (h.figures.files_is, h.figures.found_is)))),
+            ),
+          ),
+        ),
+      ),
+    ),
+  ),
+)
 
 pub stopped_run_opened : (call : Call) (from last : Option Place) (limits : Limits) (spent files : ℕ) (finding : Bool) (why : Fault)
     → RunStops call from last limits spent files finding why → (trail : List Opening)
@@ -234,10 +267,22 @@ pub stopped_run_read : (call : Call) (from last : Option Place) (limits : Limits
     × ((call.after.openings ≡ call.before.openings ++ trail)
     × ((call.after.failures ≡ call.before.failures + (length (unread_of call.root trail) + failures_by why))
     × ((heads_of call.root trail ≡ held ++ heads) × ((holder call.root from ≡ held ++ below) × ((read_between call.root from None ≡ heads ++ rest) × (IsAscending place_cmp (held ++ heads)))))))))))
-stopped_run_read call from last limits spent files finding why h =
-    (h.trail, (h.looks.held, (h.looks.held_front.0,
-    (h.looks.heads, (h.looks.heads_front.0,
-    (h.looks.fails.did.openings_are, (h.looks.fails.did.failures_are, (h.looks.fails.heads_are, (h.looks.held_front.1, (h.looks.heads_front.1, h.looks.reads_once))))))))))
+stopped_run_read call from last limits spent files finding why h = (
+  h.trail,
+  (
+    h.looks.held,
+    (
+      h.looks.held_front.0,
+      (
+        h.looks.heads,
+        (
+          h.looks.heads_front.0,
+          (h.looks.fails.did.openings_are, (h.looks.fails.did.failures_are, (h.looks.fails.heads_are, (h.looks.held_front.1, (h.looks.heads_front.1, h.looks.reads_once))))),
+        ),
+      ),
+    ),
+  ),
+)
 
 pub stopped_run_ended_at : (call : Call) (from last : Option Place) (limits : Limits) (spent files : ℕ) (finding : Bool) (why : Fault)
     → RunStops call from last limits spent files finding why → (trail : List Opening)
@@ -245,11 +290,25 @@ pub stopped_run_ended_at : (call : Call) (from last : Option Place) (limits : Li
     × ((call.after.openings ≡ call.before.openings ++ trail)
     × ((cut (after (audit call.root (unread_of call.root trail)) from) limits ≡ whole ++ others)
     × ((spent ≡ total_cost whole) × ((whole ≡ [] → last ≡ from) × ((front : List Item) (i : Item) → whole ≡ front ++ i ∷ [] → last ≡ Some i.place)))))))
-stopped_run_ended_at call from last limits spent files finding why h =
-    (h.trail, (h.stops.whole, (h.stops.others,
-    (h.looks.fails.did.openings_are,
-    (h.stops.items_are, (h.figures.spent_is,
-    ((λ e. h.stops.last_is ∙ ap (λ items. last_of from (places items)) e), λ front i e. h.stops.last_is ∙ ap (λ items. last_of from (places items)) e ∙ last_item from front i)))))))
+stopped_run_ended_at call from last limits spent files finding why h = (
+  h.trail,
+  (
+    h.stops.whole,
+    (
+      h.stops.others,
+      (
+        h.looks.fails.did.openings_are,
+        (
+          h.stops.items_are,
+          (
+            h.figures.spent_is,
+            ((λ e. h.stops.last_is ∙ ap (λ items. last_of from (places items)) e), λ front i e. h.stops.last_is ∙ ap (λ items. last_of from (places items)) e ∙ last_item from front i),
+          ),
+        ),
+      ),
+    ),
+  ),
+)
 
 -- ---- a cycle
 
@@ -299,9 +358,13 @@ pub cycle_ended_at : (call : Call) (last : Option Place) (limits : List Limits) 
     × ((call.after.openings ≡ call.before.openings ++ trail)
     × ((joined (runs (audit call.root (unread_of call.root trail)) limits) ≡ [] → last ≡ None)
     × ((front : List Item) (i : Item) → joined (runs (audit call.root (unread_of call.root trail)) limits) ≡ front ++ i ∷ [] → last ≡ Some i.place)))
-cycle_ended_at call last limits spent files finding count whole h =
-    (h.trail, (h.audits.did.openings_are,
-    ((λ e. h.last_is ∙ ap (λ items. last_of None (places items)) e), λ front i e. h.last_is ∙ ap (λ items. last_of None (places items)) e ∙ last_item None front i)))
+cycle_ended_at call last limits spent files finding count whole h = (
+  h.trail,
+  (
+    h.audits.did.openings_are,
+    ((λ e. h.last_is ∙ ap (λ items. last_of None (places items)) e), λ front i e. h.last_is ∙ ap (λ items. last_of None (places items)) e ∙ last_item None front i),
+  ),
+)
 
 pub stopped_cycle_wrote : (root : StorageRoot) (s t : Store) (before written : List ℕ) (last : Option Place) (limits : List Limits) (spent files : ℕ)
     (finding : Bool) (count : ℕ) (why : Fault) → CycleStops (known_call root s t before written) last limits spent files finding count why
@@ -311,11 +374,28 @@ pub stopped_cycle_wrote : (root : StorageRoot) (s t : Store) (before written : L
     × ((joined (take count (runs (audit root (unread_of root trail)) limits)) ≡ whole ++ others)
     × ((written ≡ before ++ (text whole ++ take gone (text (take 1 others))))
     × ((why ≡ fault.Output → gone < length (text (take 1 others))) × ((why ≢ fault.Output → gone ≡ 0) × ((spent ≡ total_cost whole) × ((files ≡ total_files whole) × (finding ≡ found whole)))))))))))
-stopped_cycle_wrote root s t before written last limits spent files finding count why h =
-    (h.trail, (h.stops.whole, (h.stops.others,
-    (h.stops.part_of.gone, (h.fails.did.openings_are,
-    (h.stops.items_are, ((h.stops.wrote ∙ ap (λ u. before ++ (text h.stops.whole ++ u)) h.stops.part_of.is),
-    (h.stops.part_of.proper, (h.stops.part_of.none, (h.figures.spent_is, (h.figures.files_is, h.figures.found_is)))))))))))
+stopped_cycle_wrote root s t before written last limits spent files finding count why h = (
+  h.trail,
+  (
+    h.stops.whole,
+    (
+      h.stops.others,
+      (
+        h.stops.part_of.gone,
+        (
+          h.fails.did.openings_are,
+          (
+            h.stops.items_are,
+            (
+              (h.stops.wrote ∙ ap (λ u. before ++ (text h.stops.whole ++ u)) h.stops.part_of.is),
+              (h.stops.part_of.proper, (h.stops.part_of.none, (h.figures.spent_is, (h.figures.files_is, h.figures.found_is)))),
+            ),
+          ),
+        ),
+      ),
+    ),
+  ),
+)
 
 pub stopped_cycle_counted : (call : Call) (last : Option Place) (limits : List Limits) (spent files : ℕ) (finding : Bool) (count : ℕ) (why : Fault)
     → CycleStops call last limits spent files finding count why → (trail : List Opening)
@@ -324,9 +404,16 @@ pub stopped_cycle_counted : (call : Call) (last : Option Place) (limits : List L
     × ((1 ≤ count) × ((count ≤ length (runs (audit call.root (unread_of call.root trail)) limits))
     × ((spent ≡ total_cost whole) × ((whole ≡ joined (take (count - 1) (runs (audit call.root (unread_of call.root trail)) limits)) ++ rest)
     × (length (heads_of call.root trail) < length (inventories call.root) + count))))))))
-stopped_cycle_counted call last limits spent files finding count why h =
-    (h.trail, (h.stops.whole, (h.runs_before.0,
-    (h.fails.did.openings_are, (h.made, (h.count_fits, (h.figures.spent_is, (h.runs_before.1, fewer _ _ _ h.fails.heads_are (few_inventories call.root count h.heads h.inventories_read)))))))))
+stopped_cycle_counted call last limits spent files finding count why h = (
+  h.trail,
+  (
+    h.stops.whole,
+    (
+      h.runs_before.0,
+      (h.fails.did.openings_are, (h.made, (h.count_fits, (h.figures.spent_is, (h.runs_before.1, fewer _ _ _ h.fails.heads_are (few_inventories call.root count h.heads h.inventories_read)))))),
+    ),
+  ),
+)
 
 pub stopped_cycle_opened : (call : Call) (last : Option Place) (limits : List Limits) (spent files : ℕ) (finding : Bool) (count : ℕ) (why : Fault)
     → CycleStops call last limits spent files finding count why → (trail : List Opening)
@@ -343,9 +430,16 @@ pub stopped_cycle_ended_at : (call : Call) (last : Option Place) (limits : List 
     → CycleStops call last limits spent files finding count why → (trail : List Opening)
     × ((whole : List Item) × ((call.after.openings ≡ call.before.openings ++ trail)
     × ((spent ≡ total_cost whole) × ((whole ≡ [] → last ≡ None) × ((front : List Item) (i : Item) → whole ≡ front ++ i ∷ [] → last ≡ Some i.place)))))
-stopped_cycle_ended_at call last limits spent files finding count why h =
-    (h.trail, (h.stops.whole, (h.fails.did.openings_are,
-    (h.figures.spent_is, ((λ e. h.stops.last_is ∙ ap (λ items. last_of None (places items)) e), λ front i e. h.stops.last_is ∙ ap (λ items. last_of None (places items)) e ∙ last_item None front i)))))
+stopped_cycle_ended_at call last limits spent files finding count why h = (
+  h.trail,
+  (
+    h.stops.whole,
+    (
+      h.fails.did.openings_are,
+      (h.figures.spent_is, ((λ e. h.stops.last_is ∙ ap (λ items. last_of None (places items)) e), λ front i e. h.stops.last_is ∙ ap (λ items. last_of None (places items)) e ∙ last_item None front i)),
+    ),
+  ),
+)
 
 -- ---- how they ended
 
@@ -405,16 +499,18 @@ run_went_on call c limits ran p e h = (h.last, subst (λ state. RunEnds call (pl
 pub cursor_from_the_first : (call : Call) (c : Cursor) (limits : Limits) (ran : RunEnd) → c.state ≡ start → RunsFrom call c limits ran
     → (ran.cursor.cycle ≡ c.cycle) × ((ran.cursor.runs ≡ c.runs + 1) × ((ran.cursor.spent ≡ c.spent + ran.spent) × (ran.cursor.files ≡ c.files + ran.files)))
 cursor_from_the_first call c limits ran e h =
-    let b : begun c ≡ c = ap (begun_in c) e in
-    ((ap (λ r. r.cycle) h.cursor_is ∙ ap (λ r. r.cycle) b),
-    ((ap (λ r. r.runs) h.cursor_is ∙ ap (λ r. r.runs + 1) b), ((ap (λ r. r.spent) h.cursor_is ∙ ap (λ r. r.spent + ran.spent) b), (ap (λ r. r.files) h.cursor_is ∙ ap (λ r. r.files + ran.files) b))))
+    let b : begun c ≡ c = ap (begun_in c) e in (
+      (ap (λ r. r.cycle) h.cursor_is ∙ ap (λ r. r.cycle) b),
+      ((ap (λ r. r.runs) h.cursor_is ∙ ap (λ r. r.runs + 1) b), ((ap (λ r. r.spent) h.cursor_is ∙ ap (λ r. r.spent + ran.spent) b), (ap (λ r. r.files) h.cursor_is ∙ ap (λ r. r.files + ran.files) b))),
+    )
 
 pub cursor_from_a_place : (call : Call) (c : Cursor) (limits : Limits) (ran : RunEnd) (p : Place) → c.state ≡ behind p → RunsFrom call c limits ran
     → (ran.cursor.cycle ≡ c.cycle) × ((ran.cursor.runs ≡ c.runs + 1) × ((ran.cursor.spent ≡ c.spent + ran.spent) × (ran.cursor.files ≡ c.files + ran.files)))
 cursor_from_a_place call c limits ran p e h =
-    let b : begun c ≡ c = ap (begun_in c) e in
-    ((ap (λ r. r.cycle) h.cursor_is ∙ ap (λ r. r.cycle) b),
-    ((ap (λ r. r.runs) h.cursor_is ∙ ap (λ r. r.runs + 1) b), ((ap (λ r. r.spent) h.cursor_is ∙ ap (λ r. r.spent + ran.spent) b), (ap (λ r. r.files) h.cursor_is ∙ ap (λ r. r.files + ran.files) b))))
+    let b : begun c ≡ c = ap (begun_in c) e in (
+      (ap (λ r. r.cycle) h.cursor_is ∙ ap (λ r. r.cycle) b),
+      ((ap (λ r. r.runs) h.cursor_is ∙ ap (λ r. r.runs + 1) b), ((ap (λ r. r.spent) h.cursor_is ∙ ap (λ r. r.spent + ran.spent) b), (ap (λ r. r.files) h.cursor_is ∙ ap (λ r. r.files + ran.files) b))),
+    )
 
 pub cursor_of_the_next_cycle : (call : Call) (c : Cursor) (limits : Limits) (ran : RunEnd) → c.state ≡ ended → RunsFrom call c limits ran
     → (ran.cursor.cycle ≡ c.cycle + 1) × ((ran.cursor.runs ≡ 1) × ((ran.cursor.spent ≡ ran.spent) × (ran.cursor.files ≡ ran.files)))

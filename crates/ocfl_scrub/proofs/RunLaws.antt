@@ -108,7 +108,7 @@ module _ (root : StorageRoot) (part : Part) (s t u : Store) (old new : Option (L
 
         runs_of : next ≡ first_of (items_at root os later) → Audits root t u done (looked_in root part from next) (read_in root part from next) os
             → Appends old new (text (items_at root os done)) → finding ≡ found (items_at root os done) → last ≡ last_of from done
-                → RunsWithin (call_of root s u old new) part from last l spent files finding next
+            → RunsWithin (call_of root s u old new) part from last l spent files finding next
         runs_of next_is k wrote found_is last_is =
             let at_places : places (taken_in root (g.trail ++ os) part from l) ≡ done = ap places taken_are ∙ places_of_items root os done in
             record {
@@ -140,7 +140,7 @@ module _ (root : StorageRoot) (part : Part) (s t u : Store) (old new : Option (L
       → RunsWithin (call_of root s u old new) part from last l spent files finding (Some h.next)
   spent_all h last_is =
       runs_of h.trail h.done (h.next ∷ due_in root (end_of part) (Some h.next)) h.due_are h.counts (Some h.next)
-          (unpaid_stops root h.trail l spent files h.next _ h.hashed h.reached) (some_first root h.trail h.next _)
+      (unpaid_stops root h.trail l spent files h.next _ h.hashed h.reached) (some_first root h.trail h.next _)
       (subst (λ hs. Audits root t u h.done (looked_in root part from (Some h.next)) hs h.trail) (read_to root part from h.next h.in_front)
       (subst (λ ls. Audits root t u h.done ls (read_between root (stand root part from) (Some h.next)) h.trail) (looked_to root part from h.next h.in_front) h.audits)) h.wrote h.found_is last_is
 

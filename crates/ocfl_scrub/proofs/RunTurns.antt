@@ -118,7 +118,7 @@ module _ {root : StorageRoot} {s t : Store} {old mid : Option (List ℕ)} {walk 
         unfolding passes_missed pays_missed
         run_missed why misses = stopped root part s h.begun v old new from h.stood last l spent files finding h.down why
             (pays_missed root (end_of part) h.begun t u old mid (stand root part from) h.stood l spent files finding h.beyond h.pays q.place item.above
-                item.gives.3 item.in_front item.gives.0 v new (hashed_too may) why (misses (walked_over item.gives.0) item.gives.2))
+            item.gives.3 item.in_front item.gives.0 v new (hashed_too may) why (misses (walked_over item.gives.0) item.gives.2))
             h.last_is
 
   -- the walk did not get to its next item
@@ -127,4 +127,4 @@ module _ {root : StorageRoot} {s t : Store} {old mid : Option (List ℕ)} {walk 
   unfolding passes_lost pays_lost
   run_lost why only lost = stopped root part s h.begun u old mid from h.stood last l spent files finding h.down why
       (pays_lost root (end_of part) h.begun t u old mid (stand root part from) h.stood l spent files finding h.beyond h.pays why (only way.live).0
-          (lost (pays_over h.pays) way.live h.stood h.stands)) h.last_is
+      (lost (pays_over h.pays) way.live h.stood h.stands)) h.last_is

@@ -238,7 +238,7 @@ module _ (root : StorageRoot) (part : Part) (s t : Store) (old mid : Option (Lis
       sym (places_of_items root h.trail (due_within root part (last_of from done))) ∙ ap places (rest_is root part h.trail from w.whole (w.others ++ left_items) split) in
       let first : places w.others ≡ w.begun ++ (w.one.0 ++ places (drop 1 w.others)) =
       ap places (sym (take-append-drop 1 w.others)) ∙ map_append (λ i. i.place) (take 1 w.others) (drop 1 w.others)
-          ∙ ap (λ ps. ps ++ places (drop 1 w.others)) w.one.1 ∙ append_assoc w.begun w.one.0 (places (drop 1 w.others)) in
+      ∙ ap (λ ps. ps ++ places (drop 1 w.others)) w.one.1 ∙ append_assoc w.begun w.one.0 (places (drop 1 w.others)) in
       let behind : List Place = (w.one.0 ++ places (drop 1 w.others)) ++ places left_items in
       let next_begun : due_within root part (last_of from done) ≡ w.begun ++ behind =
       next_is ∙ map_append (λ i. i.place) w.others left_items ∙ ap (λ ps. ps ++ places left_items) first ∙ append_assoc w.begun (w.one.0 ++ places (drop 1 w.others)) (places left_items) in
@@ -306,8 +306,12 @@ module _ (root : StorageRoot) (part : Part) (s t : Store) (old mid : Option (Lis
       let spent_here : ℕ = total_cost (items_at root h.took.trail h.took.done) in
       let opened_here : ℕ = total_files (items_at root h.took.trail h.took.done) in
       let first = first_some next (due_within root part mid_last) h.next_is in
-      record { behind = first.0; due_is = first.1; hashed =
-          stop_hashed root h.took.trail l spent_here opened_here next first.0 (subst (λ qs. IsStop l spent_here opened_here (items_at root h.took.trail qs)) first.1 h.stops) }
+      record {
+        behind = first.0;
+        due_is = first.1;
+        hashed =
+            stop_hashed root h.took.trail l spent_here opened_here next first.0 (subst (λ qs. IsStop l spent_here opened_here (items_at root h.took.trail qs)) first.1 h.stops);
+      }
 
   pub next_some : is_empty (due_within root part mid_last) ≡ false
   next_some = ap is_empty next_there.due_is
@@ -341,7 +345,7 @@ module _ (root : StorageRoot) (part : Part) (s t : Store) (old mid : Option (Lis
         let then : items_at root (h.took.trail ++ os) (due_within root part mid_last) ≡ items_at root os (due_within root part mid_last) = items_behind root h.took.trail os h.took.done (due_within root part mid_last) up h.took.audits.opened in
         let split : items_at root (h.took.trail ++ os) (due_within root part from) ≡ items_at root h.took.trail h.took.done ++ items_at root os (due_within root part mid_last) =
         ap (items_at root (h.took.trail ++ os)) h.took.due_are ∙ items_append root (h.took.trail ++ os) h.took.done (due_within root part mid_last)
-            ∙ ap (λ is. is ++ items_at root (h.took.trail ++ os) (due_within root part mid_last)) first ∙ ap (λ is. items_at root h.took.trail h.took.done ++ is) then in
+        ∙ ap (λ is. is ++ items_at root (h.took.trail ++ os) (due_within root part mid_last)) first ∙ ap (λ is. items_at root h.took.trail h.took.done ++ is) then in
         let stop = stop_alike root h.took.trail os l _ _ (due_within root part mid_last) h.stops in
         let some : is_empty (items_at root os (due_within root part mid_last)) ≡ false = ap (λ qs. is_empty (items_at root os qs)) next_there.due_is ∙ some_items root os next next_there.behind in
         ap (λ is. runs is (l ∷ ls)) split

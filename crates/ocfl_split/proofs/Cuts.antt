@@ -80,7 +80,7 @@ module _ (ds xs : List Place) (j : ℕ) (p : Place) (l : j < length ds) (is : p 
       let rest : IsAscending place_cmp ((xs ++ p ∷ []) ++ drop (j + 1) ds) = subst (IsAscending place_cmp) (sym (append_assoc xs (p ∷ []) (drop (j + 1) ds))) here in
       let further : drop (k - (j + 1)) (drop (j + 1) ds) ≡ drop k ds = dropped (k - (j + 1)) (j + 1) ds ∙ ap (λ i. drop i ds) (omega (arith, m)) in
       subst (λ zs. IsAscending place_cmp (zs ++ drop k ds)) (sym e)
-          (subst (λ zs. IsAscending place_cmp ((xs ++ p ∷ []) ++ zs)) further (ascend_both (k - (j + 1)) (xs ++ p ∷ []) (drop (j + 1) ds) rest))
+      (subst (λ zs. IsAscending place_cmp ((xs ++ p ∷ []) ++ zs)) further (ascend_both (k - (j + 1)) (xs ++ p ∷ []) (drop (j + 1) ds) rest))
     where
       dropped : (a b : ℕ) (zs : List Place) → drop a (drop b zs) ≡ drop (a + b) zs
       dropped a zero zs = ap (λ i. drop i zs) (omega arith)

@@ -115,8 +115,12 @@ module _ (root : StorageRoot) (count : ℕ) where
       → Found root count (level_from k root count above (level root m))
   unfolding level_from
   found_from zero m n above fewer some so sum =
-      record { number = n; is = so.is; level =
-      record { last = m; reached = so.reached; some = some; fewer = fewer; widest = so.widest; lowest = so.lowest; ends = inr (inr (inr (omega (arith, sum)))) } }
+      record {
+        number = n;
+        is = so.is;
+        level =
+            record { last = m; reached = so.reached; some = some; fewer = fewer; widest = so.widest; lowest = so.lowest; ends = inr (inr (inr (omega (arith, sum)))) };
+      }
   found_from (suc k) m n above fewer some so sum =
       let on = widest_on root m n above so in
       by (nat_le count (length (level root m))) refl (λ less more. found_from k (suc m) on.0 (kept (wider above (level root m)) (level root (suc m))) less more on.1 (omega (arith, sum)))
@@ -137,7 +141,7 @@ module _ (root : StorageRoot) (count : ℕ) where
       lower : (b : Bool) → (length (level_below root (level root m)) == 0 || nat_lt (room_below above (level root m)) (length (level_below root (level root m)))) ≡ b
           → nat_le count (length (level root m)) ≡ false → Goes k m above
           → Found root count (option_map_or (λ next. level_from k root count (kept (wider above (level root m)) next) next)
-              (cond b None (Some (level_below root (level root m)))) (wider above (level root m)))
+          (cond b None (Some (level_below root (level root m)))) (wider above (level root m)))
       lower true e h go = ended (inr (last (or_cases (length (level_below root (level root m)) == 0) (nat_lt (room_below above (level root m)) (length (level_below root (level root m)))) e)))
         where
           last : ((length (level_below root (level root m)) == 0) ≡ true) ⊎ (nat_lt (room_below above (level root m)) (length (level_below root (level root m))) ≡ true)
@@ -149,12 +153,12 @@ module _ (root : StorageRoot) (count : ℕ) where
               inr (inl (subst (λ xs. max_held < held root n m + length xs) (further root m) (omega (arith, many, holds))))
       lower false e h go =
           go (one_more h) (something (level_below root (level root m))
-              (or_parts (length (level_below root (level root m)) == 0) (nat_lt (room_below above (level root m)) (length (level_below root (level root m)))) e).0)
+          (or_parts (length (level_below root (level root m)) == 0) (nat_lt (room_below above (level root m)) (length (level_below root (level root m)))) e).0)
 
       by : (b : Bool) → nat_le count (length (level root m)) ≡ b → Goes k m above
           → Found root count (cond b (level root m)
-              (option_map_or (λ next. level_from k root count (kept (wider above (level root m)) next) next)
-              (next_level root (room_below above (level root m)) (level root m)) (wider above (level root m))))
+          (option_map_or (λ next. level_from k root count (kept (wider above (level root m)) next) next)
+          (next_level root (room_below above (level root m)) (level root m)) (wider above (level root m))))
       by true h down = subst (Found root count) here (ended (inl (omega (arith, enough, most))))
         where
           enough : count ≤ length (level root m)

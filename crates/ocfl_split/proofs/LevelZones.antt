@@ -103,7 +103,7 @@ module _ (root : StorageRoot) where
     where
       as_step : (zone root (d ++ x ∷ []) ≡ hierarchy) ⊎ (zone root (d ++ x ∷ []) ≡ inside (d ++ x ∷ []) [])
           → (cond (is_extensions root d x) skipped (step_zone root d x (zone root d)) ≡ hierarchy)
-              ⊎ (cond (is_extensions root d x) skipped (step_zone root d x (zone root d)) ≡ inside (d ++ x ∷ []) [])
+          ⊎ (cond (is_extensions root d x) skipped (step_zone root d x (zone root d)) ≡ inside (d ++ x ∷ []) [])
       as_step (inl z) = inl (sym (zone_step root d x) ∙ z)
       as_step (inr z) = inr (sym (zone_step root d x) ∙ z)
 
@@ -175,7 +175,7 @@ module _ (root : StorageRoot) where
       let there = ap (is_dir root) (sym s.2) ∙ t in
       let z = step_up s.0 s.1 (as_inside (s.0 ++ s.1 ∷ []) (subst IsPart s.2 k)) in
       subst (IsAmong (level root (suc n))) (sym s.2)
-          (among_flat_map (directories_below root) (level root n) s.0 (s.0 ++ s.1 ∷ []) (above s.0 s.1 s.3 there z.1) (among_here s.0 s.1 n s.3 there z.0 z.1))
+      (among_flat_map (directories_below root) (level root n) s.0 (s.0 ++ s.1 ∷ []) (above s.0 s.1 s.3 there z.1) (among_here s.0 s.1 n s.3 there z.0 z.1))
 
   up : (n : ℕ) (p : Place) → length p ≡ suc n → is_dir root p ≡ true → IsPart p → IsAmong (level root (suc n)) p
   up zero p l t k = lift zero p l t k top

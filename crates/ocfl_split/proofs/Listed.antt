@@ -138,7 +138,7 @@ module _ (root : StorageRoot) where
 
       by : (b : Bool) → IsListedFrom (suc n) (listed_from k root count (kept (wider above (level root n)) (level root (suc n))) (level root (suc n)))
           → IsListedFrom n (cond b [] (listed_within root (room_below above (level root n)) (level root n) ++ option_map_or
-              (λ next. listed_from k root count (kept (wider above (level root n)) next) next) (next_level root (room_below above (level root n)) (level root n)) []))
+          (λ next. listed_from k root count (kept (wider above (level root n)) next) next) (next_level root (room_below above (level root n)) (level root n)) []))
       by true h = none_listed n
       by false h = listed_level n (room_below above (level root n)) _
           (lower (length (level_below root (level root n)) == 0 || nat_lt (room_below above (level root n)) (length (level_below root (level root n)))) h)

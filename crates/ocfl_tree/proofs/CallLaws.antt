@@ -16,8 +16,10 @@ none_more a b e = omega (arith, e)
 pub call_listed : (s t : Store) (p : Spot) (es : List Entry) → Lists s t p es → (at s.tree p ≡ Some dir)
     × (((n : Text) → kind_in es n ≡ kind_at s.tree p n)
     × ((t.tree ≡ s.tree) × ((t.openings ≡ s.openings) × ((t.listings ≡ s.listings ++ p ∷ []) × ((t.failures ≡ s.failures) × ((t.rest ≡ s.rest) × (t.largest ≡ s.largest)))))))
-call_listed s t p es h = (h.entries.directory,
-    (h.entries.each, (h.did.tree, ((h.did.openings_are ∙ append-nil s.openings), (h.did.listings_are, ((none_more s.failures t.failures h.did.failures_are), (h.rest, h.largest)))))))
+call_listed s t p es h = (
+  h.entries.directory,
+  (h.entries.each, (h.did.tree, ((h.did.openings_are ∙ append-nil s.openings), (h.did.listings_are, ((none_more s.failures t.failures h.did.failures_are), (h.rest, h.largest)))))),
+)
 
 pub call_unlisted : (s t : Store) (p : Spot) → ListFails s t p Device → (t.tree ≡ s.tree)
     × ((t.openings ≡ s.openings) × ((t.listings ≡ s.listings ++ p ∷ []) × ((t.failures ≡ s.failures + 1) × ((t.rest ≡ None) × (t.largest ≡ s.largest)))))
@@ -25,21 +27,34 @@ call_unlisted s t p h = (h.fails.did.tree, ((h.fails.did.openings_are ∙ append
 
 pub call_no_directory : (s t : Store) (p : Spot) → ListFails s t p Absent → (at s.tree p ≢ Some dir)
     × ((t.tree ≡ s.tree) × ((t.openings ≡ s.openings) × ((t.listings ≡ s.listings) × ((t.failures ≡ s.failures) × ((t.rest ≡ None) × (t.largest ≡ s.largest))))))
-call_no_directory s t p h = (h.absent refl,
-    (h.fails.did.tree, ((h.fails.did.openings_are ∙ append-nil s.openings),
-    ((h.fails.did.listings_are ∙ append-nil s.listings), ((none_more s.failures t.failures h.fails.did.failures_are), (h.fails.closed, h.fails.largest))))))
+call_no_directory s t p h = (
+  h.absent refl,
+  (
+    h.fails.did.tree,
+    (
+      (h.fails.did.openings_are ∙ append-nil s.openings),
+      ((h.fails.did.listings_are ∙ append-nil s.listings), ((none_more s.failures t.failures h.fails.did.failures_are), (h.fails.closed, h.fails.largest))),
+    ),
+  ),
+)
 
 pub call_no_memory : (s t : Store) (p : Spot) → ListFails s t p Memory → (t.tree ≡ s.tree)
     × ((t.openings ≡ s.openings) × ((t.listings ≡ s.listings) × ((t.failures ≡ s.failures) × ((t.rest ≡ None) × (t.largest ≡ s.largest)))))
-call_no_memory s t p h = (h.fails.did.tree,
-    ((h.fails.did.openings_are ∙ append-nil s.openings),
-    ((h.fails.did.listings_are ∙ append-nil s.listings), ((none_more s.failures t.failures h.fails.did.failures_are), (h.fails.closed, h.fails.largest)))))
+call_no_memory s t p h = (
+  h.fails.did.tree,
+  (
+    (h.fails.did.openings_are ∙ append-nil s.openings),
+    ((h.fails.did.listings_are ∙ append-nil s.listings), ((none_more s.failures t.failures h.fails.did.failures_are), (h.fails.closed, h.fails.largest))),
+  ),
+)
 
 pub call_opened : (s t : Store) (p : Spot) → Opens s t p → (bytes : Text)
     × ((at s.tree p ≡ Some (file bytes))
     × ((t.rest ≡ Some bytes) × ((t.tree ≡ s.tree) × ((t.openings ≡ s.openings ++ opening p 0 false ∷ []) × ((t.listings ≡ s.listings) × ((t.failures ≡ s.failures) × (t.largest ≡ s.largest)))))))
-call_opened s t p h = (h.bytes,
-    (h.is_file, (h.rest, (h.did.tree, (h.did.openings_are, ((h.did.listings_are ∙ append-nil s.listings), ((none_more s.failures t.failures h.did.failures_are), h.largest)))))))
+call_opened s t p h = (
+  h.bytes,
+  (h.is_file, (h.rest, (h.did.tree, (h.did.openings_are, ((h.did.listings_are ∙ append-nil s.listings), ((none_more s.failures t.failures h.did.failures_are), h.largest)))))),
+)
 
 pub call_unopened : (s t : Store) (p : Spot) → OpenFails s t p Device → (t.tree ≡ s.tree)
     × ((t.openings ≡ s.openings ++ opening p 0 true ∷ []) × ((t.listings ≡ s.listings) × ((t.failures ≡ s.failures + 1) × ((t.rest ≡ None) × (t.largest ≡ s.largest)))))
@@ -47,9 +62,16 @@ call_unopened s t p h = (h.fails.did.tree, (h.fails.did.openings_are, ((h.fails.
 
 pub call_no_file : (s t : Store) (p : Spot) → OpenFails s t p Absent → ((bytes : Text) → at s.tree p ≢ Some (file bytes))
     × ((t.tree ≡ s.tree) × ((t.openings ≡ s.openings) × ((t.listings ≡ s.listings) × ((t.failures ≡ s.failures) × ((t.rest ≡ None) × (t.largest ≡ s.largest))))))
-call_no_file s t p h = (h.absent refl,
-    (h.fails.did.tree, ((h.fails.did.openings_are ∙ append-nil s.openings),
-    ((h.fails.did.listings_are ∙ append-nil s.listings), ((none_more s.failures t.failures h.fails.did.failures_are), (h.fails.closed, h.fails.largest))))))
+call_no_file s t p h = (
+  h.absent refl,
+  (
+    h.fails.did.tree,
+    (
+      (h.fails.did.openings_are ∙ append-nil s.openings),
+      ((h.fails.did.listings_are ∙ append-nil s.listings), ((none_more s.failures t.failures h.fails.did.failures_are), (h.fails.closed, h.fails.largest))),
+    ),
+  ),
+)
 
 pub call_read : (s t : Store) (bytes : Text) (room : ℕ) → Reads s t bytes room → (left : Text)
     × ((s.rest ≡ Some (bytes ++ left)) × ((t.rest ≡ Some left) × ((bytes ≡ [] → 0 < room → left ≡ []) × ((t.tree ≡ s.tree) × ((t.listings ≡ s.listings) × (t.failures ≡ s.failures))))))
@@ -70,5 +92,7 @@ pub call_nothing_open : (s t : Store) → ReadFails s t Absent → (s.rest ≡ N
 call_nothing_open s t h = ((h.absent refl).0, (h.closed, (h.tree, ((h.absent refl).1, (h.listings_are, (none_more s.failures t.failures h.failures_are))))))
 
 pub call_closed : (s t : Store) → Closes s t → (t.tree ≡ s.tree) × ((t.openings ≡ s.openings) × ((t.listings ≡ s.listings) × ((t.failures ≡ s.failures) × ((t.rest ≡ None) × (t.largest ≡ s.largest)))))
-call_closed s t h = (h.did.tree,
-    ((h.did.openings_are ∙ append-nil s.openings), ((h.did.listings_are ∙ append-nil s.listings), ((none_more s.failures t.failures h.did.failures_are), (h.closed, h.largest)))))
+call_closed s t h = (
+  h.did.tree,
+  ((h.did.openings_are ∙ append-nil s.openings), ((h.did.listings_are ∙ append-nil s.listings), ((none_more s.failures t.failures h.did.failures_are), (h.closed, h.largest)))),
+)

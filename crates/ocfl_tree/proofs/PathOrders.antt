@@ -122,8 +122,17 @@ whatever false r = refl
 -- ---- the order
 
 by_order : ByNames place_cmp Less Greater Less Greater nat_cmp
-by_order = record { step = ordering_then; goes = λ x y xs ys. refl; equal = λ r. refl; below = λ r. refl; above = λ r. refl; ends = λ y ys. refl; outlasts =
-    λ x xs. refl; differs = λ a b o r e. by a b o r e (nat_cmp a b) refl }
+by_order = record {
+  step = ordering_then;
+  goes = λ x y xs ys. refl;
+  equal = λ r. refl;
+  below = λ r. refl;
+  above = λ r. refl;
+  ends = λ y ys. refl;
+  outlasts =
+      λ x xs. refl;
+  differs = λ a b o r e. by a b o r e (nat_cmp a b) refl;
+}
   where
     by : (a b : ℕ) (o r : Ordering) → a ≢ b → (c : Ordering) → nat_cmp a b ≡ c → c ≡ ordering_then (ordering_then c o) r
     by a b o r e Less f = refl
@@ -186,8 +195,17 @@ same_front n m x y b h k e is f = front_alike n x y h k (ap (λ l. pointwise nat
 -- ---- beginnings
 
 by_beginning : ByNames begins false false true false (λ a b. false)
-by_beginning = record { step = λ o r. is_eq o && r; goes = λ x y xs ys. refl; equal = λ r. refl; below = λ r. refl; above = λ r. refl; ends =
-    λ y ys. refl; outlasts = λ x xs. refl; differs = λ a b o r e. by a b o r e (nat_cmp a b) refl }
+by_beginning = record {
+  step = λ o r. is_eq o && r;
+  goes = λ x y xs ys. refl;
+  equal = λ r. refl;
+  below = λ r. refl;
+  above = λ r. refl;
+  ends =
+      λ y ys. refl;
+  outlasts = λ x xs. refl;
+  differs = λ a b o r e. by a b o r e (nat_cmp a b) refl;
+}
   where
     by : (a b : ℕ) (o : Ordering) (r : Bool) → a ≢ b → (c : Ordering) → nat_cmp a b ≡ c → false ≡ is_eq (ordering_then c o) && r
     by a b o r e Less f = refl

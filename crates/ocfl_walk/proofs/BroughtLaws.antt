@@ -81,9 +81,14 @@ module _ (d : Place) (es : List Entry) (fs gs : List Folder) (a : Option Around)
 
     chain_above : (r : Place) (k : ℕ) → length d < k → IsChain (d ++ n ∷ r) k ((d, names_of (left_of_folder f)) ∷ frames_of (piles_of fs))
     chain_above r k l =
-        subst (λ ns. IsChain (d ++ n ∷ r) k ((d, ns) ∷ frames_of (piles_of fs))) (sym names_are)
-        (begins_front d (n ∷ r), l, before_below d r n (above_of n (names_of whole)) (before_above n (names_of whole)), ascends_filter text_cmp
-            (λ m. is_lt (text_cmp n m)) (names_of whole) up, h.chain)
+        subst (λ ns. IsChain (d ++ n ∷ r) k ((d, ns) ∷ frames_of (piles_of fs))) (sym names_are) (
+          begins_front d (n ∷ r),
+          l,
+          before_below d r n (above_of n (names_of whole)) (before_above n (names_of whole)),
+          ascends_filter text_cmp
+              (λ m. is_lt (text_cmp n m)) (names_of whole) up,
+          h.chain,
+        )
 
     few_left : length (left_of_folder f) ≤ 1000000
     few_left = let c = above_fewer n whole in omega (arith, few, c, ap length left)

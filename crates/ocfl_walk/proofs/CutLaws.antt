@@ -247,7 +247,7 @@ module _ (root : StorageRoot) (d : Place) (n : Text) (q : Place) (j : IsJustBefo
   twice_above : filter (is_from_place p) (filter (above d) xs) ≡ filter (above q) xs
   twice_above =
       ascending_unique place_cmp_total place_cmp_exact _ _
-          (ascends_filter place_cmp (is_from_place p) (filter (above d) xs) (ascends_filter place_cmp (above d) xs (seen_ascend root))) (ascends_filter place_cmp (above q) xs (seen_ascend root))
+      (ascends_filter place_cmp (is_from_place p) (filter (above d) xs) (ascends_filter place_cmp (above d) xs (seen_ascend root))) (ascends_filter place_cmp (above q) xs (seen_ascend root))
       (λ z. (to z, from z))
     where
       to : (z : Place) → IsAmong (filter (is_from_place p) (filter (above d) xs)) z → IsAmong (filter (above q) xs) z
@@ -281,7 +281,7 @@ module _ (root : StorageRoot) (d : Place) (n : Text) (q : Place) (j : IsJustBefo
           let same = (top x ps refl).0 e in
           ap (λ ns. seen_in xs (x.0, ns) ++ seen_left xs (frames_of ps)) (kept_names n x.1)
           ∙ subst (λ y. seen_in xs (y, filter (is_from_name n) (names_of x.1)) ++ seen_left xs (frames_of ps) ≡ filter (is_from_place p)
-              (seen_in xs (y, names_of x.1) ++ seen_left xs (frames_of ps))) (sym same) (here same)
+          (seen_in xs (y, names_of x.1) ++ seen_left xs (frames_of ps))) (sym same) (here same)
       by false e = chain_kept xs p (suc (length d)) (frames_of (x ∷ ps))
           (chain_on p d (suc (length d)) (frames_of (x ∷ ps)) (begins_front d (n ∷ [])) (omega arith) (h.chain.0, (top x ps refl).1 e, h.chain.2, h.chain.3, h.chain.4))
 

@@ -60,7 +60,7 @@ module _ (root : StorageRoot) where
   pub both_reached : (os os' : List Opening) → AreReached root os → AreReached root os' → AreReached root (os ++ os')
   both_reached os os' h k =
       heads_append root os os' ∙ (λ i. h i ++ k i) ∙ sym (filter_append (reads_inventory root) (heads_of root os) (heads_of root os'))
-          ∙ ap (filter (reads_inventory root)) (sym (heads_append root os os'))
+      ∙ ap (filter (reads_inventory root)) (sym (heads_append root os os'))
 
   pub both_inventories : (os os' : List Opening) → AreInventories root os → AreInventories root os' → AreInventories root (os ++ os')
   both_inventories os os' h k =
@@ -156,8 +156,16 @@ module _ (root : StorageRoot) where
 
   descends_read : (s t : Store) (o : Place) (m : Opens root s t o) → AreInventories root m.reads.trail → Descends root s t [] [] (o ∷ []) [] 0
   descends_read s t o m only = record {
-    calls = record { over = m.reads.over; trail = m.reads.trail; listings = []; did = m.reads.did; read = λ e. m.reads.read; meta = m.reads.meta.meta; reached =
-        own_inventory_reached root o m.reads.trail m.heads };
+    calls = record {
+      over = m.reads.over;
+      trail = m.reads.trail;
+      listings = [];
+      did = m.reads.did;
+      read = λ e. m.reads.read;
+      meta = m.reads.meta.meta;
+      reached =
+          own_inventory_reached root o m.reads.trail m.heads;
+    };
     only = only;
     listed = ([], refl);
     heads = opens_front o m.reads.trail m.heads;

@@ -53,7 +53,7 @@ module _ (root : StorageRoot) where
       by true e =
           let there : is_in_extensions root (n ∷ []) ≡ true = ap (λ b. b && is_dir root (n ∷ [])) h ∙ e in
           out_of_zone root (n ∷ []) (ap (is_listed_zone root)
-              (ap (λ b. cond (not (is_known (root_declared root)) || b) skipped (object_zone root [] (n ∷ []))) there ∙ skips (not (is_known (root_declared root)))))
+          (ap (λ b. cond (not (is_known (root_declared root)) || b) skipped (object_zone root [] (n ∷ []))) there ∙ skips (not (is_known (root_declared root)))))
       by false e = not_entered root (n ∷ []) e
   extensions_out (m ∷ d) n h = absurd (true_not_false (sym h))
 

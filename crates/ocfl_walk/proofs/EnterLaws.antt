@@ -60,8 +60,10 @@ module _ (root : StorageRoot) where
 
   module _ (s t : Store) (base : Folder) (m : Head) (ordinary : IsOrdinary base.entries.items) (says : IsHead (declared level.Root (file_names base.entries.items)) m) (k : Enters root s t [] base.place base.entries.items) where
     pub root_unknown : (m ≡ head.Known → ⊥) → ListsRoot root s t (Ok None)
-    root_unknown unknown = record { gives =
-        (k.did, ap is_known (declared_root root base.entries.items ordinary k.listing) ∙ head_unknown (declared level.Root (file_names base.entries.items)) m says unknown) }
+    root_unknown unknown = record {
+      gives =
+          (k.did, ap is_known (declared_root root base.entries.items ordinary k.listing) ∙ head_unknown (declared level.Root (file_names base.entries.items)) m says unknown);
+    }
 
     pub root_known : m ≡ head.Known → ListsRoot root s t (Ok (Some base))
     root_known known = record { gives = (k.did, root_entered root s t base.place base.entries.items ordinary k (subst (IsHead (declared level.Root (file_names base.entries.items))) known says)) }
@@ -131,7 +133,7 @@ module _ (root : StorageRoot) where
       → old.listings.items ≡ [] → old.around ≡ None → new.last ≡ Some p → (r : Result Unit Fault)
       → MatchResult r
       (λ _. Descends root t u (way_below d q) [] (may_open old.around (zone root (d ++ q))) [] 0
-          × IsBrought root d q (piles_in old.last old.listings.items) (piles_in new.last new.listings.items) new.around)
+      × IsBrought root d q (piles_in old.last old.listings.items) (piles_in new.last new.listings.items) new.around)
       (λ why. DescendFails root t u (way_below d q) (may_open old.around (zone root (d ++ q))) why)
       → MatchResult r (λ _. Starts root s u p 0 × StandsAt root new (Some p)) (λ why. StartFails root s u p why)
   start_goes s t p over did u d q root_is same old new none alone last (Ok x) h = (

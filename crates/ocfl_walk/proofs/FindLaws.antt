@@ -182,14 +182,24 @@ module _ (root : StorageRoot) where
       pub item_met : (v : Visit) → Visits root s t e (Ok v) → FindsItem root s t (e ∷ []) (may_open a (zone root e)) e (Ok v.item)
       item_met v h =
           let m = h.gives.0 in
-          record { gives = (finds_met s t m.trail (subst (IsFront (heads_of root m.trail)) m.heads (front_all (heads_of root m.trail))) m.elsewhere 0 m.listings
-              m.over m.did (λ g. m.read) m.meta m.once (front_own e (is_looked_into root e) m.listings m.listed), h.gives.1.item) }
+          record {
+            gives = (
+              finds_met s t m.trail (subst (IsFront (heads_of root m.trail)) m.heads (front_all (heads_of root m.trail))) m.elsewhere 0 m.listings
+                  m.over m.did (λ g. m.read) m.meta m.once (front_own e (is_looked_into root e) m.listings m.listed),
+              h.gives.1.item,
+            );
+          }
 
       pub item_unmet : (why : Fault) → Visits root s t e (Err why) → FindsItem root s t (e ∷ []) (may_open a (zone root e)) e (Err why)
       item_unmet why h =
           let m = h.gives in
-          record { gives = record { finds =
-              finds_met s t m.trail m.heads m.elsewhere (failures_by why) m.listings m.over m.did m.read m.meta m.once (front_within e (is_looked_into root e) m.listings m.listed); store = m.store } }
+          record {
+            gives = record {
+              finds =
+                  finds_met s t m.trail m.heads m.elsewhere (failures_by why) m.listings m.over m.did m.read m.meta m.once (front_within e (is_looked_into root e) m.listings m.listed);
+              store = m.store;
+            };
+          }
 
   -- ---- a name before it
 
@@ -204,7 +214,7 @@ module _ (root : StorageRoot) where
         item_on s t u (way_below d (n ∷ r)) (way_below (d ++ n ∷ []) r) (may_open old (zone root p)) (may_open new (zone root p)) few_old
         (subst (λ x. Descends root s t (way_below d (n ∷ r)) (way_below (d ++ n ∷ []) r) (may_open old (zone root x)) (may_open new (zone root x)) 0) (sym is) h.gives.0)
         p res (subst (λ x. FindsItem root t u (way_below (d ++ n ∷ []) x) (may_open new (zone root p)) p res) (sym same)
-            (subst (λ x. FindsItem root t u (way_below x r') (may_open new (zone root p)) p res) h.gives.1.place k))
+        (subst (λ x. FindsItem root t u (way_below x r') (may_open new (zone root p)) p res) h.gives.1.place k))
 
     pub item_stop : (s t : Store) (why : Fault) → Leads root s t d n r old new (Err why) → FindsItem root s t (way_below d (n ∷ r)) (may_open old (zone root p)) p (Err why)
     item_stop s t why h = record {
@@ -217,7 +227,7 @@ module _ (root : StorageRoot) where
     item_shut s t res h only told =
         item_known s t (way_below d (n ∷ r)) (may_open old (zone root p)) p res
         (finds_descended s t (way_below d (n ∷ r)) [] (may_open old (zone root p)) [] 0 few_old
-            (subst (λ x. Descends root s t (way_below d (n ∷ r)) [] (may_open old (zone root x)) [] 0) (sym is) h.gives.0))
+        (subst (λ x. Descends root s t (way_below d (n ∷ r)) [] (may_open old (zone root x)) [] 0) (sym is) h.gives.0))
         only told
 
     pub shut_table : (s t : Store) → Leads root s t d n r old new (Ok None) → IsTableAround root p new

@@ -108,7 +108,7 @@ module _ (old : Stand) (x : Place) (orderly : IsOrderlyStand old) (some : old.la
         let here : IsStanding root x (piles_in old.last old.listings.items) old.around = record { stack = go.stack; listed = held.listed; entries = held.entries; table = held.table } in
         subst (Steps root s s (Some l) at_missing) (sym is)
         (step_to root s s l x at_missing item (meets_shut root s x tree (shut_unseen root x unseen)) i (near_turn root l x _ go)
-            (refl, subst (λ ps. IsStanding root x ps old.around) (sym missing_piles) here) go.some go.none)
+        (refl, subst (λ ps. IsStanding root x ps old.around) (sym missing_piles) here) go.some go.none)
 
 -- ---- what is left once all before the name is let go
 
@@ -129,7 +129,7 @@ module _ (old : Stand) (d : Place) (n : Text) (mid : Listings) (there : old.last
   cut_no_more =
       subst (λ l. size_of l (piles_in old.last mid.items) old.around ≤ size_of l (piles_in old.last old.listings.items) old.around) (sym there)
       (subst (λ ps. size_of (Some d) ps old.around ≤ size_of (Some d) (piles_in old.last old.listings.items) old.around) (sym is)
-          (cut_size (length d) n d (piles_in old.last old.listings.items) old.around))
+      (cut_size (length d) n d (piles_in old.last old.listings.items) old.around))
 
   pub cut_trims : trimmed (piles_in old.last mid.items) ≡ piles_in old.last mid.items
   cut_trims = trim_stays (cut_top (length d) n (piles_in old.last old.listings.items)) (piles_in old.last mid.items) old.around is
@@ -175,7 +175,7 @@ module _ (old : Stand) (d : Place) (n : Text) (mid : Listings) (there : old.last
       orderly_there : IsOrderly (d ++ n ∷ []) (piles_in old.last mid.items) old.around
       orderly_there =
           orderly_on d (d ++ n ∷ []) (piles_in old.last mid.items) old.around
-              (subst (λ ps. IsOrderly d ps old.around) (sym is) (cut_trimmed (length d) n d (piles_in old.last old.listings.items) old.around here)) (above_self d n [])
+          (subst (λ ps. IsOrderly d ps old.around) (sym is) (cut_trimmed (length d) n d (piles_in old.last old.listings.items) old.around here)) (above_self d n [])
           (around_on d n old.around here.object) cut_trims (subst (IsBelowNext (d ++ n ∷ [])) same low)
 
       pub cut_unseen : seen root (d ++ n ∷ []) ≡ None

@@ -116,7 +116,7 @@ module _ (root : StorageRoot) where
         answered s u p r
         (subst (λ w. FindsItem root s u w (holder_of (zone root p)) p r) (sym (way_is p))
         (item_on root s t u ([] ∷ way_below [] p) (way_below [] p) (holder_of (zone root p)) (holder_of (zone root p)) (may_few None (zone root p))
-            (descends_one root s t [] (way_below [] p) (holder_of (zone root p)) over did) p r
+        (descends_one root s t [] (way_below [] p) (holder_of (zone root p)) over did) p r
         (subst (λ x. FindsItem root t u (way_below [] x) (holder_of (zone root p)) p r) same (subst (λ x. FindsItem root t u (way_below x q) (holder_of (zone root p)) p r) base h))))
 
     skipped_notes : (q : Place) → q ≢ [] → is_known (root_declared root) ≡ false → notes root None q ≡ []
@@ -153,16 +153,18 @@ module _ (root : StorageRoot) where
   pub answered_base : (s t : Store) (p : Place) (v : Visit) → p ≡ [] → Visits root s t [] (Ok v) → GoesDown root s t (Some p) × IsItemAt root p v.item
   answered_base s t p v top h =
       let m = h.gives.0 in
-      subst (λ x. GoesDown root s t (Some x) × IsItemAt root x v.item) (sym top)
-      (went s t [] m.trail m.listings m.over m.meta m.once (front_own [] (is_looked_into root []) m.listings m.listed)
-          (no_objects m.trail (front_own [] (reads_inventory root []) (heads_of root m.trail) m.heads)) m.did m.read, h.gives.1.item)
+      subst (λ x. GoesDown root s t (Some x) × IsItemAt root x v.item) (sym top) (
+        went s t [] m.trail m.listings m.over m.meta m.once (front_own [] (is_looked_into root []) m.listings m.listed)
+            (no_objects m.trail (front_own [] (reads_inventory root []) (heads_of root m.trail) m.heads)) m.did m.read,
+        h.gives.1.item,
+      )
 
   pub answered_no_base : (s t : Store) (p : Place) (why : Fault) → p ≡ [] → Visits root s t [] (Err why) → GoDownFails root s t (Some p) why
   answered_no_base s t p why top h =
       let m = h.gives in
       subst (λ x. GoDownFails root s t (Some x) why) (sym top)
       (went_wrong s t [] m.trail m.listings m.over m.meta m.once (front_within [] (is_looked_into root []) m.listings m.listed)
-          (no_objects m.trail (front_within [] (reads_inventory root []) (heads_of root m.trail) m.heads)) why m.store m.did)
+      (no_objects m.trail (front_within [] (reads_inventory root []) (heads_of root m.trail) m.heads)) why m.store m.did)
 
   pub answered_memory : (s : Store) (p : Place) → s.tree ≡ root → GoDownFails root s s (Some p) fault.Memory
   answered_memory s p over = go_down_fails s s p fault.Memory (item_memory root s (way_to p) (holder_of (zone root p)) p over).gives

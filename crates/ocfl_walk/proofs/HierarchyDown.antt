@@ -68,7 +68,7 @@ module _ (root : StorageRoot) (s t : Store) (d : Place) (n : Text) (inner : Fold
         let h = says some in
         let table = unknown_no_table root inner.place (ap is_known (sym h.says) ∙ no_known root inner.place inner.entries.items m h (inr e)) in
         subst (λ x. Leads root s t d n r x x (Ok None)) (sym none)
-            (leads_listed root s t d n r None k.over k.enters.did (shut_object root d n r (zone_here some) (ap (table_at root) (sym k.enters.is) ∙ table)))
+        (leads_listed root s t d n r None k.over k.enters.did (shut_object root d n r (zone_here some) (ap (table_at root) (sym k.enters.is) ∙ table)))
 
     module _ (v : Version) (e : m ≡ made.One v) (u : Store) where
       some : m ≡ made.None → ⊥

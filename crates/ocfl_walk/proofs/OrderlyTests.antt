@@ -39,8 +39,11 @@ module _ {A : Type 0} (cmp : A → A → Ordering) where
 module _ {A : Type 0} (measure : A → ℕ) (n : ℕ) where
   all_from : (xs : List A) → list_all (λ x. nat_le (measure x) n) xs ≡ true → AllByRecursion (λ x. measure x ≤ n) xs
   all_from [] h = tt
-  all_from (x ∷ xs) h = (leb-true (measure x) n (and_first (nat_le (measure x) n) (list_all (λ x. nat_le (measure x) n) xs) h), all_from xs
-      (and_second (nat_le (measure x) n) (list_all (λ x. nat_le (measure x) n) xs) h))
+  all_from (x ∷ xs) h = (
+    leb-true (measure x) n (and_first (nat_le (measure x) n) (list_all (λ x. nat_le (measure x) n) xs) h),
+    all_from xs
+        (and_second (nat_le (measure x) n) (list_all (λ x. nat_le (measure x) n) xs) h),
+  )
 
   all_to : (xs : List A) → AllByRecursion (λ x. measure x ≤ n) xs → list_all (λ x. nat_le (measure x) n) xs ≡ true
   all_to [] h = refl
@@ -64,7 +67,7 @@ chain_to : (p : Place) (k : ℕ) (fs : List Frame) → IsChain p k fs → is_cha
 chain_to p k [] h = refl
 chain_to p k (f ∷ fs) h =
     and_both _ _ h.0 (and_both _ _ (lt-ltb (length f.0) k h.1)
-        (and_both _ _ (before_to place_cmp p (map (λ n. f.0 ++ n ∷ []) f.1) h.2) (and_both _ _ (ascending_to text_cmp f.1 h.3) (chain_to f.0 (length f.0) fs h.4))))
+    (and_both _ _ (before_to place_cmp p (map (λ n. f.0 ++ n ∷ []) f.1) h.2) (and_both _ _ (ascending_to text_cmp f.1 h.3) (chain_to f.0 (length f.0) fs h.4))))
 
 around_from : (last : Place) (a : Option Around) → is_around last a ≡ true → IsAroundIf last a
 around_from last None h = tt
@@ -87,7 +90,7 @@ around_to last None h = refl
 around_to last (Some a) h =
     and_both _ _ h.holds (and_both _ _ (le-leb (length a.place) 127 h.depth)
     (and_both _ _ (all_to (λ q. length q) 128 (paths_of a.table) h.fit.short)
-        (and_both _ _ (ascending_to triple_cmp a.table.triples h.fit.ascends) (lt-ltb (length a.table.triples) (2 ^ 64) h.fit.few))))
+    (and_both _ _ (ascending_to triple_cmp a.table.triples h.fit.ascends) (lt-ltb (length a.table.triples) (2 ^ 64) h.fit.few))))
 
 if_from : (last : Option Place) (ps : List Pile) (a : Option Around) → is_orderly_if last ps a ≡ true → IsOrderlyIf last ps a
 if_from None ps a h = (none ps (and_first (is_empty ps) (is_none a) h), free a (and_second (is_empty ps) (is_none a) h))

@@ -117,9 +117,13 @@ module _ (last b : Place) (ps : List Pile) (a : Option Around) (h : IsOrderly la
               → IsChain last 128 ((d, map (λ e. e.name) es) ∷ frames_of ps) → IsChain b 128 ((d, map (λ e. e.name) es) ∷ frames_of ps)
           by d [] t n c = absurd (head_some ((d, []) ∷ ps) ps d t)
           by d (e ∷ es) t n c =
-              let r = begins_rest d last c.0 in
-              (begins_between d r.0 (e.name ∷ []) b (subst (λ x. place_cmp x b ≡ Less) r.1 over) n, c.1,
-                  (n, above_all b (d ++ e.name ∷ []) (map (λ m. d ++ m ∷ []) (map (λ x. x.name) es)) n (names d e.name (map (λ x. x.name) es) c.3.0)), c.3, c.4)
+              let r = begins_rest d last c.0 in (
+                begins_between d r.0 (e.name ∷ []) b (subst (λ x. place_cmp x b ≡ Less) r.1 over) n,
+                c.1,
+                (n, above_all b (d ++ e.name ∷ []) (map (λ m. d ++ m ∷ []) (map (λ x. x.name) es)) n (names d e.name (map (λ x. x.name) es) c.3.0)),
+                c.3,
+                c.4,
+              )
             where
               names : (d : Place) (n : Text) (ns : List Text) → IsBeforeAll text_cmp n ns → IsBeforeAll place_cmp (d ++ n ∷ []) (map (λ m. d ++ m ∷ []) ns)
               names d n ns g = before_names d n ns g

@@ -43,7 +43,7 @@ folders_same i p q [] h = refl
 folders_same i p q (v ∷ vs) h =
     let here : take i p ≡ take i q = h i (omega arith) in
     ap (λ d. record { place = d; entries = v } ∷ folders_from (suc i) p vs) here
-        ∙ ap (λ fs. record { place = take i q; entries = v } ∷ fs) (folders_same (suc i) p q vs (λ k l. h k (omega (arith, l))))
+    ∙ ap (λ fs. record { place = take i q; entries = v } ∷ fs) (folders_same (suc i) p q vs (λ k l. h k (omega (arith, l))))
 
 -- the last place has a name for each listing but the first
 pub chain_deep : (p : Place) (k : ℕ) (vs : List (Vec Entry Global)) → IsChain p k (frames_of (piles_at p vs)) → length vs ≤ suc (length p)
@@ -83,7 +83,7 @@ pub next_at : (p : Place) (vs above xs : List (Vec Entry Global)) (v : Vec Entry
     → next_of (piles_at p vs) ≡ option_map (λ e. take (length above) p ++ e.name ∷ []) o
 next_at p vs above xs v es o same split items last =
     next_of_last (folders_from 0 p above) (folders_from 0 p vs) (record { place = take (length above) p; entries = v }) o
-        (folders_push p above vs v (sym same ∙ split)) (subst (λ ys. o ≡ slice_get ys (length ys - 1)) items last)
+    (folders_push p above vs v (sym same ∙ split)) (subst (λ ys. o ≡ slice_get ys (length ys - 1)) items last)
 
 -- ---- whether the next entry lies at a place
 
@@ -116,7 +116,7 @@ pub taken_here : (p : Place) (vs old new : List (Vec Entry Global)) (v w : Vec E
     → MatchOption o ((vec_len v ≡ 0) × (vec_len w ≡ 0)) (λ _. vec_len w + 1 ≡ vec_len v) → MatchOption o (next_of (piles_at p old) ≡ None) (λ entry. IsTaken (piles_at p old) (piles_at p new) entry)
 taken_here p vs old new v w o h k e n =
     taken_at (folders_from 0 p vs) (folders_from 0 p old) (folders_from 0 p new) (record { place = take (length vs) p; entries = v })
-        (record { place = take (length vs) p; entries = w }) o (folders_push p vs old v h) (folders_push p vs new w k) refl e n
+    (record { place = take (length vs) p; entries = w }) o (folders_push p vs old v h) (folders_push p vs new w k) refl e n
 
 pub same_count : {A : Type 0} (vs old new : List A) (v w : A) → old ≡ vs ++ v ∷ [] → new ≡ vs ++ w ∷ [] → length new ≡ length old
 same_count vs old new v w h k = ap length k ∙ length-append vs (w ∷ []) ∙ sym (ap length h ∙ length-append vs (v ∷ []))

@@ -74,7 +74,7 @@ module _ (old : Stand) (orderly : IsOrderlyStand old) (first : old.last ≡ None
           subst (GoesOn old base) (sym is)
           (goes_to old base x item (item_first x item top i) refl (subst (λ y. IsBeyond y x) (sym first) tt)
           (size_begins old base x (piles_at [] old.listings.items) _ old.around old.around first (ap (λ l. piles_in l old.listings.items) first) refl refl
-              base_piles refl (size_first x f (piles_at [] old.listings.items) old.around nothing.0 nothing.1 fair))
+          base_piles refl (size_first x f (piles_at [] old.listings.items) old.around nothing.0 nothing.1 fair))
           (root_short x top))
 
       pub base_there : GoesTo base [] r
@@ -108,7 +108,7 @@ module _ (old : Stand) (entry : Entry) (x : Place) (mid : Listings) (orderly : I
     entry_is_met root l e st =
         let o = subst (λ y. IsOrderlyIf y (piles_in old.last old.listings.items) old.around) e orderly in
         subst (λ y. IsMet root (taken (spot_of old.last)).place (still y x) entry x) (sym same)
-            (entry_met root l (piles_in old.last old.listings.items) (piles_in old.last mid.items) entry x old.around o st (taken (spot_of old.last)) own)
+        (entry_met root l (piles_in old.last old.listings.items) (piles_in old.last mid.items) entry x old.around o st (taken (spot_of old.last)) own)
 
   module _ (count : length mid.items ≡ length old.listings.items) (m : Met) (fair : IsFairMet x m) where
     pub entry_fits : IfSome m.folder (λ _. length mid.items < 128)
@@ -125,7 +125,7 @@ module _ (old : Stand) (entry : Entry) (x : Place) (mid : Listings) (orderly : I
       entry_orderly =
           subst (λ ps. IsOrderly x ps m.around) (sym entry_piles)
           (orderly_entry (spot_of old.last) (piles_in old.last old.listings.items) (piles_in old.last mid.items) entry old.around there.1
-              (taken (spot_of old.last)) x own m.folder fair.folder m.around fair.table)
+          (taken (spot_of old.last)) x own m.folder fair.folder m.around fair.table)
 
       module _ (r : Step) (is : r ≡ step_from m.item) where
         pub entry_goes_on : GoesOn old at_entry r
@@ -170,13 +170,13 @@ module _ (ps : List Pile) (a : Option Around) (x : Place) where
 pub by_turn : (root : StorageRoot) (old : Stand) (mid : Listings) → piles_in old.last mid.items ≡ trimmed (piles_in old.last old.listings.items) → (t u : Turn)
     → t ≡ u → (u ≡ turn.Base → ⊥) → (old.last ≡ None → t ≡ turn.Base)
     → ((p : Place) → old.last ≡ Some p → t ≡ turn_of (next_of (piles_in old.last mid.items)) (path_from p old.around)) → IsOrderlyStand old
-        → (X : Option Place → Type 0) (last : Option Place) → StandsAt root old last
+    → (X : Option Place → Type 0) (last : Option Place) → StandsAt root old last
     → ((p : Place) → old.last ≡ Some p → IsStanding root p (piles_in old.last mid.items) old.around → TurnIs root p (piles_in old.last mid.items) u → X (Some p)) → X last
 by_turn root old mid is t u same some base next orderly X last st k =
     at_last root old X last st (λ e. some (subst (λ y. y ≡ turn.Base) same (base e)))
     (λ p e h. k p e (mid_stands (piles_in old.last old.listings.items) (piles_in old.last mid.items) old.around is root p h)
     (subst (TurnIs root p (piles_in old.last mid.items)) same
-        (chosen_turn (piles_in old.last old.listings.items) (piles_in old.last mid.items) old.around is root old.last p t e orderly h (next p e))))
+    (chosen_turn (piles_in old.last old.listings.items) (piles_in old.last mid.items) old.around is root old.last p t e orderly h (next p e))))
 
 -- ---- at the end
 
@@ -184,7 +184,7 @@ by_turn root old mid is t u same some base next orderly X last st k =
 pub ends_here : (root : StorageRoot) (old : Stand) (mid : Listings) → piles_in old.last mid.items ≡ trimmed (piles_in old.last old.listings.items) → (t : Turn)
     → (old.last ≡ None → t ≡ turn.Base) → ((p : Place) → old.last ≡ Some p → t ≡ turn_of (next_of (piles_in old.last mid.items)) (path_from p old.around)) → IsOrderlyStand old
     → (e : End) → turn.End ≡ turn_before e t → (s : Store) → s.tree ≡ root → (last : Option Place) → StandsAt root old last
-        → StepsOut root s s last e (record { listings = mid; around = old.around; last = old.last }) step.End
+    → StepsOut root s s last e (record { listings = mid; around = old.around; last = old.last }) step.End
 ends_here root old mid is t base next orderly e ended s over last st = by t refl (ended_turn e t ended)
   where
     X : Option Place → Type 0
@@ -203,9 +203,11 @@ ends_here root old mid is t base next orderly e ended s over last st = by t refl
         (λ p l h go. (walks_out_nothing root s (Some p) e over (ap (before_end e) (looked_end root p go.0)) (ap (before_end e) (read_end root p go.0)), ap (before_end e) go.1, (l, h)))
     by turn.Base same (inr f) =
         let top = ap (is_turn_past e) (sym same) ∙ f in
-        at_first root old X last st (chosen_base old.last (next_of (piles_in old.last mid.items)) old.around t base next same)
-        (walks_out_nothing root s None e over (all_past e root top (looked_between root None None)) (all_past e root top (read_between root None None)),
-            all_past e root top (due root None), chosen_base old.last (next_of (piles_in old.last mid.items)) old.around t base next same)
+        at_first root old X last st (chosen_base old.last (next_of (piles_in old.last mid.items)) old.around t base next same) (
+          walks_out_nothing root s None e over (all_past e root top (looked_between root None None)) (all_past e root top (read_between root None None)),
+          all_past e root top (due root None),
+          chosen_base old.last (next_of (piles_in old.last mid.items)) old.around t base next same,
+        )
     by (turn.Entry x) same (inr f) = turned (turn.Entry x) same (λ g. cc) (λ p l h go. past p x _ l h (ap (is_turn_past e) (sym same) ∙ f) go)
     by (turn.Path x) same (inr f) = turned (turn.Path x) same (λ g. cc) (λ p l h go. past p x _ l h (ap (is_turn_past e) (sym same) ∙ f) go.0)
     by turn.End same (inr f) = absurd (true_not_false (sym (ap (is_turn_past e) (sym same) ∙ f)))

@@ -58,8 +58,11 @@ ascending_from p (q ∷ ps) h = let k = ascending_from q ps h.1 in by k.0 k.1 (p
   where
     by : (rest : List Place) → ascending place_cmp (q ∷ ps) ≡ q ∷ rest → (r : Ordering) → place_cmp p q ≡ r → r ≢ Greater → (more : List Place) × (ascending place_cmp (p ∷ q ∷ ps) ≡ p ∷ more)
     by rest e Less f n = (q ∷ rest, ap (insert_once place_cmp p) e ∙ ap (λ r. match_ordering r (p ∷ q ∷ rest) (q ∷ rest) (q ∷ insert_once place_cmp p rest)) f)
-    by rest e Equal f n = (rest, ap (insert_once place_cmp p) e ∙ ap (λ r. match_ordering r (p ∷ q ∷ rest) (q ∷ rest) (q ∷ insert_once place_cmp p rest)) f
-        ∙ ap (λ x. x ∷ rest) (sym (place_cmp_exact p q f)))
+    by rest e Equal f n = (
+      rest,
+      ap (insert_once place_cmp p) e ∙ ap (λ r. match_ordering r (p ∷ q ∷ rest) (q ∷ rest) (q ∷ insert_once place_cmp p rest)) f
+          ∙ ap (λ x. x ∷ rest) (sym (place_cmp_exact p q f)),
+    )
     by rest e Greater f n = absurd (n refl)
 
 least_first : (s : Place) (ps : List Place) → Rises ps → first_of_list (filter (above s) (ascending place_cmp ps)) ≡ first_of_list (filter (above s) ps)
@@ -160,7 +163,7 @@ module _ (root : StorageRoot) where
     where
       chosen : (d : Place) (e : Entry) (es : List Entry) (b : Place) (c : Bool)
           → cond c (Some (b, (d, e.name ∷ map (λ x. x.name) es) ∷ frames_of ps))
-              (Some (d ++ e.name ∷ [], (d ++ e.name ∷ [], seen_names root (d ++ e.name ∷ [])) ∷ (d, map (λ x. x.name) es) ∷ frames_of ps))
+          (Some (d ++ e.name ∷ [], (d ++ e.name ∷ [], seen_names root (d ++ e.name ∷ [])) ∷ (d, map (λ x. x.name) es) ∷ frames_of ps))
           ≡ place_by root ((d, e ∷ es) ∷ ps) (cond c (turn.Path b) (turn.Entry (d ++ e.name ∷ [])))
       chosen d e es b true = refl
       chosen d e es b false = refl
@@ -168,7 +171,7 @@ module _ (root : StorageRoot) where
       by : (d : Place) (es : List Entry) (path : Option Place)
           → lesser (frames_of (trimmed ps)) (next_entry root (frames_of (trimmed ps))) path ≡ place_by root (trimmed ps) (turn_of (next_of (trimmed ps)) path)
           → lesser (frames_of (trimmed_from d es (trimmed ps) ps)) (next_entry root (frames_of (trimmed_from d es (trimmed ps) ps))) path ≡ place_by root
-              (trimmed_from d es (trimmed ps) ps) (turn_of (next_of (trimmed_from d es (trimmed ps) ps)) path)
+          (trimmed_from d es (trimmed ps) ps) (turn_of (next_of (trimmed_from d es (trimmed ps) ps)) path)
       by d [] path h = h
       by d (e ∷ es) None h = refl
       by d (e ∷ es) (Some b) h = chosen d e es b (is_lt (place_cmp b (d ++ e.name ∷ [])))

@@ -78,25 +78,25 @@ files_and_digests_cases =
     reports_256 "fixity_match" (listing_with lists_f (codes "{\"md5\":{\"900150983CD24FB0D6963F7D28E17F72\":[\"v1/content/f\"]}}")) f_is_abc "ok\t.\t-\nok\to\t-\nok\to/v1/content/f\t3\n" ∷
     -- by the algorithms' names, whatever the order of the block
     reports_256 "fixity_mismatch_in_each_algorithm"
-        (listing_with lists_f (codes "{\"sha512/256\":{\"x\":[\"v1/content/f\"]},\"sha512\":{\"x\":[\"v1/content/f\"]},\"sha256\":{\"x\":[\"v1/content/f\"]},\"sha1\":{\"x\":[\"v1/content/f\"]},\"md5\":{\"x\":[\"v1/content/f\"]}}")) f_is_abc "ok\t.\t-\nok\to\t-\nE093\to/v1/content/f\tmd5 x 900150983cd24fb0d6963f7d28e17f72\nE093\to/v1/content/f\tsha1 x a9993e364706816aba3e25717850c26c9cd0d89d\nE093\to/v1/content/f\tsha256 x ba7816bf8f01cfea414140de5dae2223b00361a396177a9cb410ff61f20015ad\nE093\to/v1/content/f\tsha512 x ddaf35a193617abacc417349ae20413112e6fa4e89a97ea20a9eeee64b55d39a2192992a274fc1a836ba3c23a3feebbd454d4423643ce80e2a9ac94fa54ca49f\nE093\to/v1/content/f\tsha512/256 x 53048e2681941ef99b2e29b76b4c7dabe4c2d0c634fc6d46e0e2f13107e7af23\n" ∷
+    (listing_with lists_f (codes "{\"sha512/256\":{\"x\":[\"v1/content/f\"]},\"sha512\":{\"x\":[\"v1/content/f\"]},\"sha256\":{\"x\":[\"v1/content/f\"]},\"sha1\":{\"x\":[\"v1/content/f\"]},\"md5\":{\"x\":[\"v1/content/f\"]}}")) f_is_abc "ok\t.\t-\nok\to\t-\nE093\to/v1/content/f\tmd5 x 900150983cd24fb0d6963f7d28e17f72\nE093\to/v1/content/f\tsha1 x a9993e364706816aba3e25717850c26c9cd0d89d\nE093\to/v1/content/f\tsha256 x ba7816bf8f01cfea414140de5dae2223b00361a396177a9cb410ff61f20015ad\nE093\to/v1/content/f\tsha512 x ddaf35a193617abacc417349ae20413112e6fa4e89a97ea20a9eeee64b55d39a2192992a274fc1a836ba3c23a3feebbd454d4423643ce80e2a9ac94fa54ca49f\nE093\to/v1/content/f\tsha512/256 x 53048e2681941ef99b2e29b76b4c7dabe4c2d0c634fc6d46e0e2f13107e7af23\n" ∷
     -- the manifest before the fixity block; the digest that is right has no line
     reports_256 "two_digests_and_fixity"
-        (listing_with (key no_bytes.sha256 "[\"v1/content/f\"]" ∷ key abc.sha256 "[\"v1/content/f\"]" ∷ [])
-        (codes "{\"md5\":{\"d41d8cd98f00b204e9800998ecf8427e\":[\"v1/content/f\"]}}")) f_is_abc
-        "ok\t.\t-\nE101\to\tv1/content/f\nE092\to/v1/content/f\tsha256 e3b0c44298fc1c149afbf4c8996fb92427ae41e4649b934ca495991b7852b855 ba7816bf8f01cfea414140de5dae2223b00361a396177a9cb410ff61f20015ad\nE093\to/v1/content/f\tmd5 d41d8cd98f00b204e9800998ecf8427e 900150983cd24fb0d6963f7d28e17f72\n" ∷
+    (listing_with (key no_bytes.sha256 "[\"v1/content/f\"]" ∷ key abc.sha256 "[\"v1/content/f\"]" ∷ [])
+    (codes "{\"md5\":{\"d41d8cd98f00b204e9800998ecf8427e\":[\"v1/content/f\"]}}")) f_is_abc
+    "ok\t.\t-\nE101\to\tv1/content/f\nE092\to/v1/content/f\tsha256 e3b0c44298fc1c149afbf4c8996fb92427ae41e4649b934ca495991b7852b855 ba7816bf8f01cfea414140de5dae2223b00361a396177a9cb410ff61f20015ad\nE093\to/v1/content/f\tmd5 d41d8cd98f00b204e9800998ecf8427e 900150983cd24fb0d6963f7d28e17f72\n" ∷
     -- ascending, told folded and escaped
     reports_256 "two_wrong_digests" (listing (key "Y%" "[\"v1/content/f\"]" ∷ key "X y" "[\"v1/content/f\"]" ∷ [])) f_is_abc
-        "ok\t.\t-\nE101\to\tv1/content/f\nE092\to/v1/content/f\tsha256 x y ba7816bf8f01cfea414140de5dae2223b00361a396177a9cb410ff61f20015ad\nE092\to/v1/content/f\tsha256 y%25 ba7816bf8f01cfea414140de5dae2223b00361a396177a9cb410ff61f20015ad\n" ∷
+    "ok\t.\t-\nE101\to\tv1/content/f\nE092\to/v1/content/f\tsha256 x y ba7816bf8f01cfea414140de5dae2223b00361a396177a9cb410ff61f20015ad\nE092\to/v1/content/f\tsha256 y%25 ba7816bf8f01cfea414140de5dae2223b00361a396177a9cb410ff61f20015ad\n" ∷
     -- as written, `B` stands before `a`
     reports_256 "wrong_digests_ascend_folded" (listing (key "B" "[\"v1/content/f\"]" ∷ key "a" "[\"v1/content/f\"]" ∷ [])) f_is_abc
-        "ok\t.\t-\nE101\to\tv1/content/f\nE092\to/v1/content/f\tsha256 a ba7816bf8f01cfea414140de5dae2223b00361a396177a9cb410ff61f20015ad\nE092\to/v1/content/f\tsha256 b ba7816bf8f01cfea414140de5dae2223b00361a396177a9cb410ff61f20015ad\n" ∷
+    "ok\t.\t-\nE101\to\tv1/content/f\nE092\to/v1/content/f\tsha256 a ba7816bf8f01cfea414140de5dae2223b00361a396177a9cb410ff61f20015ad\nE092\to/v1/content/f\tsha256 b ba7816bf8f01cfea414140de5dae2223b00361a396177a9cb410ff61f20015ad\n" ∷
     -- one digest in either case of letters is one
     reports_256 "same_wrong_digest_twice" (listing (key "x" "[\"v1/content/f\"]" ∷ key "X" "[\"v1/content/f\"]" ∷ [])) f_is_abc
-        "ok\t.\t-\nE096\to\tx\nE101\to\tv1/content/f\nE092\to/v1/content/f\tsha256 x ba7816bf8f01cfea414140de5dae2223b00361a396177a9cb410ff61f20015ad\n" ∷
+    "ok\t.\t-\nE096\to\tx\nE101\to\tv1/content/f\nE092\to/v1/content/f\tsha256 x ba7816bf8f01cfea414140de5dae2223b00361a396177a9cb410ff61f20015ad\n" ∷
     -- hashed, but no `ok`
     reports_256 "named_by_fixity_alone" (listing_with [] (codes "{\"md5\":{\"900150983cd24fb0d6963f7d28e17f72\":[\"v1/content/f\"]}}")) f_is_abc "ok\t.\t-\nok\to\t-\nE023\to/v1/content/f\t-\n" ∷
     reports_256 "wrong_by_fixity_alone" (listing_with [] (codes "{\"md5\":{\"x\":[\"v1/content/f\"]}}")) f_is_abc
-        "ok\t.\t-\nok\to\t-\nE023\to/v1/content/f\t-\nE093\to/v1/content/f\tmd5 x 900150983cd24fb0d6963f7d28e17f72\n" ∷
+    "ok\t.\t-\nok\to\t-\nE023\to/v1/content/f\t-\nE093\to/v1/content/f\tmd5 x 900150983cd24fb0d6963f7d28e17f72\n" ∷
     []
 
 files_and_digests : AllAre files_and_digests_cases
@@ -115,11 +115,11 @@ fifth_alone = sha256_object fifth_alone_listing f_is_abc
 abbrev fifth_algorithm_cases : List Case
 fifth_algorithm_cases =
     reports_256 "fifth_algorithm_match"
-        (listing_with lists_f (codes "{\"sha512/256\":{\"53048e2681941ef99b2e29b76b4c7dabe4c2d0c634fc6d46e0e2f13107e7af23\":[\"v1/content/f\"]}}")) f_is_abc
-        "ok\t.\t-\nok\to\t-\nok\to/v1/content/f\t3\n" ∷
+    (listing_with lists_f (codes "{\"sha512/256\":{\"53048e2681941ef99b2e29b76b4c7dabe4c2d0c634fc6d46e0e2f13107e7af23\":[\"v1/content/f\"]}}")) f_is_abc
+    "ok\t.\t-\nok\to\t-\nok\to/v1/content/f\t3\n" ∷
     reports_256 "fifth_algorithm_mismatch"
-        (listing_with lists_f (codes "{\"sha512/256\":{\"ba7816bf8f01cfea414140de5dae2223b00361a396177a9cb410ff61f20015ad\":[\"v1/content/f\"]}}")) f_is_abc
-        "ok\t.\t-\nok\to\t-\nE093\to/v1/content/f\tsha512/256 ba7816bf8f01cfea414140de5dae2223b00361a396177a9cb410ff61f20015ad 53048e2681941ef99b2e29b76b4c7dabe4c2d0c634fc6d46e0e2f13107e7af23\n" ∷
+    (listing_with lists_f (codes "{\"sha512/256\":{\"ba7816bf8f01cfea414140de5dae2223b00361a396177a9cb410ff61f20015ad\":[\"v1/content/f\"]}}")) f_is_abc
+    "ok\t.\t-\nok\to\t-\nE093\to/v1/content/f\tsha512/256 ba7816bf8f01cfea414140de5dae2223b00361a396177a9cb410ff61f20015ad 53048e2681941ef99b2e29b76b4c7dabe4c2d0c634fc6d46e0e2f13107e7af23\n" ∷
     reports_256 "fifth_algorithm_without_manifest" fifth_alone_listing f_is_abc "ok\t.\t-\nok\to\t-\nE023\to/v1/content/f\t-\n" ∷
     []
 
@@ -148,8 +148,8 @@ unlisted_file_is_not_hashed = refl
 items_at_one_place : AllAre (
     shows "item_of_a_right_file" sha512_file "o/v1/content/f" "ok\to/v1/content/f\t3\n" ∷
     shows "item_of_a_wrong_file" (sha512_object (inventory "sha512" (keys (key abc.sha512 "[\"v1/content/f\"]" ∷ [])) (codes "{}"))
-        (text_at "o/v1/content/f" "" ∷ [])) "o/v1/content/f"
-        "E092\to/v1/content/f\tsha512 ddaf35a193617abacc417349ae20413112e6fa4e89a97ea20a9eeee64b55d39a2192992a274fc1a836ba3c23a3feebbd454d4423643ce80e2a9ac94fa54ca49f cf83e1357eefb8bdf1542850d66d8007d620e4050b5715dc83f4a921d36ce9ce47d0d13c5d85f2b0ff8318d2877eec2f63b931bd47417a81a538327af927da3e\n" ∷
+    (text_at "o/v1/content/f" "" ∷ [])) "o/v1/content/f"
+    "E092\to/v1/content/f\tsha512 ddaf35a193617abacc417349ae20413112e6fa4e89a97ea20a9eeee64b55d39a2192992a274fc1a836ba3c23a3feebbd454d4423643ce80e2a9ac94fa54ca49f cf83e1357eefb8bdf1542850d66d8007d620e4050b5715dc83f4a921d36ce9ce47d0d13c5d85f2b0ff8318d2877eec2f63b931bd47417a81a538327af927da3e\n" ∷
     shows "item_of_an_unlisted_file" with_unlisted "o/v1/content/g" "E023\to/v1/content/g\t-\n" ∷
     shows "no_item_where_nothing_is" sha512_file "o/v1/content/h" "" ∷
     shows "no_item_at_a_version" sha512_file "o/v1" "" ∷
@@ -182,17 +182,17 @@ cost_of_missing_and_right_files = ap (map (λ i. i.cost)) (audit_256 missing_and
 abbrev paths_without_file_cases : List Case
 paths_without_file_cases =
     reports_256 "missing_and_right_files" missing_and_right_listing missing_and_right_content
-        "ok\t.\t-\nok\to\t-\nE092\to/v1/content/a\tsha256 missing\nE093\to/v1/content/a\tsha1 missing\nok\to/v1/content/b\t3\n" ∷
+    "ok\t.\t-\nok\to\t-\nE092\to/v1/content/a\tsha256 missing\nE093\to/v1/content/a\tsha1 missing\nok\to/v1/content/b\t3\n" ∷
     -- one line for a block and algorithm, however many digests
     reports_256 "missing_under_several_digests"
-        (listing_with (key "x" "[\"v1/content/f\"]" ∷ key "y" "[\"v1/content/f\"]" ∷ [])
-        (codes "{\"sha1\":{\"z\":[\"v1/content/f\"]},\"md5\":{\"z\":[\"v1/content/f\"],\"w\":[\"v1/content/f\"]}}")) []
-        "ok\t.\t-\nE101\to\tv1/content/f\nE092\to/v1/content/f\tsha256 missing\nE093\to/v1/content/f\tmd5 missing\nE093\to/v1/content/f\tsha1 missing\n" ∷
+    (listing_with (key "x" "[\"v1/content/f\"]" ∷ key "y" "[\"v1/content/f\"]" ∷ [])
+    (codes "{\"sha1\":{\"z\":[\"v1/content/f\"]},\"md5\":{\"z\":[\"v1/content/f\"],\"w\":[\"v1/content/f\"]}}")) []
+    "ok\t.\t-\nE101\to\tv1/content/f\nE092\to/v1/content/f\tsha256 missing\nE093\to/v1/content/f\tmd5 missing\nE093\to/v1/content/f\tsha1 missing\n" ∷
     reports_256 "missing_by_fixity_alone" (listing_with [] (codes "{\"md5\":{\"x\":[\"v1/content/f\"]}}")) [] "ok\t.\t-\nok\to\t-\nE093\to/v1/content/f\tmd5 missing\n" ∷
     -- `v10` before `v2`, and no directory `v3`
     reports_256 "versions_in_order" (listing (key abc.sha256 "[\"v10/content/f\",\"v2/content/f\",\"v3/content/f\"]" ∷ []))
-        (folder "o/v10" ∷ folder "o/v10/content" ∷ text_at "o/v10/content/f" "abc" ∷ folder "o/v2" ∷ folder "o/v2/content" ∷ text_at "o/v2/content/f" "abc"
-        ∷ []) "ok\t.\t-\nok\to\t-\nok\to/v10/content/f\t3\nok\to/v2/content/f\t3\nE092\to/v3/content/f\tsha256 missing\n" ∷
+    (folder "o/v10" ∷ folder "o/v10/content" ∷ text_at "o/v10/content/f" "abc" ∷ folder "o/v2" ∷ folder "o/v2/content" ∷ text_at "o/v2/content/f" "abc"
+    ∷ []) "ok\t.\t-\nok\to\t-\nok\to/v10/content/f\t3\nok\to/v2/content/f\t3\nE092\to/v3/content/f\tsha256 missing\n" ∷
     reports_256 "missing_directory" (listing (key abc.sha256 "[\"v1/content/x/y\"]" ∷ [])) [] "ok\t.\t-\nok\to\t-\nE092\to/v1/content/x/y\tsha256 missing\n" ∷
     []
 
@@ -215,17 +215,17 @@ cost_of_listed_link = (refl, refl)
 abbrev directories_and_links_in_content_cases : List Case
 directories_and_links_in_content_cases =
     reports_256 "listed_empty_directory" (listing (key abc.sha256 "[\"v1/content/d\"]" ∷ [])) (folder "o/v1/content/d" ∷ [])
-        "ok\t.\t-\nok\to\t-\nE024\to/v1/content/d\t-\nE092\to/v1/content/d\tsha256 missing\n" ∷
+    "ok\t.\t-\nok\to\t-\nE024\to/v1/content/d\t-\nE092\to/v1/content/d\tsha256 missing\n" ∷
     reports_256 "directories_in_content" (listing (key abc.sha256 "[\"v1/content/d\",\"v1/content/e/g\"]" ∷ []))
-        (folder "o/v1/content/d" ∷ folder "o/v1/content/d/x" ∷ folder "o/v1/content/e" ∷ text_at "o/v1/content/e/g" "abc" ∷ [])
-        "ok\t.\t-\nok\to\t-\nE092\to/v1/content/d\tsha256 missing\nE024\to/v1/content/d/x\t-\nok\to/v1/content/e/g\t3\n" ∷
+    (folder "o/v1/content/d" ∷ folder "o/v1/content/d/x" ∷ folder "o/v1/content/e" ∷ text_at "o/v1/content/e/g" "abc" ∷ [])
+    "ok\t.\t-\nok\to\t-\nE092\to/v1/content/d\tsha256 missing\nE024\to/v1/content/d/x\t-\nok\to/v1/content/e/g\t3\n" ∷
     -- the same digests as where `f` is a file
     reports_256 "listed_link" (listing_with (key no_bytes.sha256 "[\"v1/content/f\"]" ∷ key abc.sha256 "[\"v1/content/f\"]" ∷ [])
-        (codes "{\"md5\":{\"d41d8cd98f00b204e9800998ecf8427e\":[\"v1/content/f\"]}}")) (link "o/v1/content/f" ∷ [])
-        "ok\t.\t-\nE101\to\tv1/content/f\nS04\to/v1/content/f\t-\nE092\to/v1/content/f\tsha256 missing\nE093\to/v1/content/f\tmd5 missing\n" ∷
+    (codes "{\"md5\":{\"d41d8cd98f00b204e9800998ecf8427e\":[\"v1/content/f\"]}}")) (link "o/v1/content/f" ∷ [])
+    "ok\t.\t-\nE101\to\tv1/content/f\nS04\to/v1/content/f\t-\nE092\to/v1/content/f\tsha256 missing\nE093\to/v1/content/f\tmd5 missing\n" ∷
     reports_256 "unlisted_link_in_content" (listing []) (link "o/v1/content/f" ∷ []) "ok\t.\t-\nok\to\t-\nS04\to/v1/content/f\t-\n" ∷
     reports_256 "path_below_a_link" (listing (key abc.sha256 "[\"v1/content/f/g\"]" ∷ [])) (link "o/v1/content/f" ∷ [])
-        "ok\t.\t-\nok\to\t-\nS04\to/v1/content/f\t-\nE092\to/v1/content/f/g\tsha256 missing\n" ∷
+    "ok\t.\t-\nok\to\t-\nS04\to/v1/content/f\t-\nE092\to/v1/content/f/g\tsha256 missing\n" ∷
     []
 
 directories_and_links_in_content : AllAre directories_and_links_in_content_cases
@@ -241,26 +241,26 @@ around_f name more t = reports_256 name (listing lists_f) (f_is_abc ++ more) t
 abbrev entries_of_objects_cases : List Case
 entries_of_objects_cases =
     around_f "entries_that_are_not_allowed"
-        (text_at "o/junk" "" ∷ folder "o/logs" ∷ text_at "o/logs/l" "" ∷ text_at "o/v1/notes" "" ∷ folder "o/v1/other" ∷ text_at "o/v1/other/x" "" ∷ [])
-        "ok\t.\t-\nok\to\t-\nE001\to/junk\t-\nok\to/v1/content/f\t3\nE015\to/v1/notes\t-\n" ∷
+    (text_at "o/junk" "" ∷ folder "o/logs" ∷ text_at "o/logs/l" "" ∷ text_at "o/v1/notes" "" ∷ folder "o/v1/other" ∷ text_at "o/v1/other/x" "" ∷ [])
+    "ok\t.\t-\nok\to\t-\nE001\to/junk\t-\nok\to/v1/content/f\t3\nE015\to/v1/notes\t-\n" ∷
     around_f "directories_of_an_object_root"
-        (folder "o/extensions" ∷ text_at "o/extensions/k" "" ∷ folder "o/logs" ∷ folder "o/v0002" ∷ folder "o/V3" ∷ folder "o/v" ∷ folder "o/vx" ∷ text_at
-        "o/vx/y" "" ∷ []) "ok\t.\t-\nok\to\t-\nE001\to/V3\t-\nE001\to/v\t-\nok\to/v1/content/f\t3\nE001\to/vx\t-\n" ∷
+    (folder "o/extensions" ∷ text_at "o/extensions/k" "" ∷ folder "o/logs" ∷ folder "o/v0002" ∷ folder "o/V3" ∷ folder "o/v" ∷ folder "o/vx" ∷ text_at
+    "o/vx/y" "" ∷ []) "ok\t.\t-\nok\to\t-\nE001\to/V3\t-\nE001\to/v\t-\nok\to/v1/content/f\t3\nE001\to/vx\t-\n" ∷
     around_f "files_of_an_object_root"
-        (text_at "o/0=ocfl_1.1" "" ∷ text_at "o/0=ocfl_object_x" "" ∷ text_at "o/extensions" "" ∷ text_at "o/logs" "" ∷ text_at "o/v2" "" ∷ [])
-        "ok\t.\t-\nok\to\t-\nE001\to/0=ocfl_1.1\t-\nE001\to/0=ocfl_object_x\t-\nE001\to/extensions\t-\nE001\to/logs\t-\nok\to/v1/content/f\t3\nE001\to/v2\t-\n" ∷
+    (text_at "o/0=ocfl_1.1" "" ∷ text_at "o/0=ocfl_object_x" "" ∷ text_at "o/extensions" "" ∷ text_at "o/logs" "" ∷ text_at "o/v2" "" ∷ [])
+    "ok\t.\t-\nok\to\t-\nE001\to/0=ocfl_1.1\t-\nE001\to/0=ocfl_object_x\t-\nE001\to/extensions\t-\nE001\to/logs\t-\nok\to/v1/content/f\t3\nE001\to/v2\t-\n" ∷
     -- links have their line whatever their name
     around_f "links_of_an_object_root" (link "o/inventory.json.sha512" ∷ link "o/logs" ∷ link "o/v2" ∷ link "o/0=ocfl_object_1.0" ∷ [])
-        "ok\t.\t-\nok\to\t-\nS04\to/0=ocfl_object_1.0\t-\nS04\to/inventory.json.sha512\t-\nS04\to/logs\t-\nok\to/v1/content/f\t3\nS04\to/v2\t-\n" ∷
+    "ok\t.\t-\nok\to\t-\nS04\to/0=ocfl_object_1.0\t-\nS04\to/inventory.json.sha512\t-\nS04\to/logs\t-\nok\to/v1/content/f\t3\nS04\to/v2\t-\n" ∷
     -- an object in an object is no object of its own
     around_f "object_within_an_object" (object_in "o/sub" (listing []) []) "ok\t.\t-\nok\to\t-\nE001\to/sub\t-\nok\to/v1/content/f\t3\n" ∷
     around_f "object_within_content" (folder "o/v1/content/p" ∷ text_at "o/v1/content/p/0=ocfl_object_1.1" "ocfl_object_1.1\n" ∷ [])
-        "ok\t.\t-\nok\to\t-\nok\to/v1/content/f\t3\nE023\to/v1/content/p/0=ocfl_object_1.1\t-\n" ∷
+    "ok\t.\t-\nok\to\t-\nok\to/v1/content/f\t3\nE023\to/v1/content/p/0=ocfl_object_1.1\t-\n" ∷
     -- also where its head stops
     reports "object_within_a_stopped_object" (storage_root (folder "o" ∷ text_at "o/0=ocfl_object_2.0" "" ∷ object_in "o/sub" (listing []) [])) "ok\t.\t-\nS01\to\t2.0\n" ∷
     reports "object_in_the_hierarchy"
-        (storage_root (folder "p" ∷ folder "p/x" ∷ object_in "p/q" (listing lists_f)
-        (folder "p/q/v1" ∷ folder "p/q/v1/content" ∷ text_at "p/q/v1/content/f" "abc" ∷ []))) "ok\t.\t-\nok\tp/q\t-\nok\tp/q/v1/content/f\t3\nE073\tp/x\t-\n" ∷
+    (storage_root (folder "p" ∷ folder "p/x" ∷ object_in "p/q" (listing lists_f)
+    (folder "p/q/v1" ∷ folder "p/q/v1/content" ∷ text_at "p/q/v1/content/f" "abc" ∷ []))) "ok\t.\t-\nok\tp/q\t-\nok\tp/q/v1/content/f\t3\nE073\tp/x\t-\n" ∷
     []
 
 entries_of_objects : AllAre entries_of_objects_cases
@@ -272,19 +272,19 @@ entries_of_objects = quickly entries_of_objects_cases refl
 abbrev entries_of_versions_cases : List Case
 entries_of_versions_cases =
     around_f "entries_of_a_version"
-        (text_at "o/v1/inventory.json" "" ∷ text_at "o/v1/inventory.json.sha256" "" ∷ text_at "o/v1/inventory.json.sha512" "" ∷ text_at
-        "o/v1/inventory.json.md5" "" ∷ folder "o/v1/logs" ∷ link "o/v1/other" ∷ folder "o/v2" ∷ folder "o/v2/content" ∷ [])
-        "ok\t.\t-\nok\to\t-\nok\to/v1/content/f\t3\nE015\to/v1/inventory.json.md5\t-\nS04\to/v1/other\t-\n" ∷
+    (text_at "o/v1/inventory.json" "" ∷ text_at "o/v1/inventory.json.sha256" "" ∷ text_at "o/v1/inventory.json.sha512" "" ∷ text_at
+    "o/v1/inventory.json.md5" "" ∷ folder "o/v1/logs" ∷ link "o/v1/other" ∷ folder "o/v2" ∷ folder "o/v2/content" ∷ [])
+    "ok\t.\t-\nok\to\t-\nok\to/v1/content/f\t3\nE015\to/v1/inventory.json.md5\t-\nS04\to/v1/other\t-\n" ∷
     reports_256 "links_of_a_version" (listing (key abc.sha256 "[\"v2/content/f\"]" ∷ []))
-        (link "o/v1/inventory.json" ∷ folder "o/v2" ∷ link "o/v2/content" ∷ []) "ok\t.\t-\nok\to\t-\nS04\to/v1/inventory.json\t-\nS04\to/v2/content\t-\nE092\to/v2/content/f\tsha256 missing\n" ∷
+    (link "o/v1/inventory.json" ∷ folder "o/v2" ∷ link "o/v2/content" ∷ []) "ok\t.\t-\nok\to\t-\nS04\to/v1/inventory.json\t-\nS04\to/v2/content\t-\nE092\to/v2/content/f\tsha256 missing\n" ∷
     reports_256 "version_is_a_link" (listing (key abc.sha256 "[\"v2/content/f\"]" ∷ [])) (link "o/v2" ∷ text_at "o/v2/content/f" "abc" ∷ [])
-        "ok\t.\t-\nok\to\t-\nS04\to/v2\t-\nE092\to/v2/content/f\tsha256 missing\n" ∷
+    "ok\t.\t-\nok\to\t-\nS04\to/v2\t-\nE092\to/v2/content/f\tsha256 missing\n" ∷
     reports_256 "version_is_a_file" (listing (key abc.sha256 "[\"v2/content/f\"]" ∷ [])) (text_at "o/v2" "" ∷ []) "ok\t.\t-\nok\to\t-\nE001\to/v2\t-\nE092\to/v2/content/f\tsha256 missing\n" ∷
     reports_256 "content_directory_is_a_file" (listing (key abc.sha256 "[\"v2/content/f\"]" ∷ [])) (folder "o/v2" ∷ text_at "o/v2/content" "" ∷ [])
-        "ok\t.\t-\nok\to\t-\nE015\to/v2/content\t-\nE092\to/v2/content/f\tsha256 missing\n" ∷
+    "ok\t.\t-\nok\to\t-\nE015\to/v2/content\t-\nE092\to/v2/content/f\tsha256 missing\n" ∷
     -- `content` is then a directory like others, and not entered
     reports_256 "content_directory_of_another_name"
-        (codes "{\"digestAlgorithm\":\"sha256\",\"contentDirectory\":\"data\",\"manifest\":{\"ba7816bf8f01cfea414140de5dae2223b00361a396177a9cb410ff61f20015ad\":[\"v1/data/f\"]}}") (text_at "o/v1/content/x" "" ∷ folder "o/v1/data" ∷ text_at "o/v1/data/f" "abc" ∷ text_at "o/v1/data/g" "" ∷ []) "ok\t.\t-\nok\to\t-\nok\to/v1/data/f\t3\nE023\to/v1/data/g\t-\n" ∷
+    (codes "{\"digestAlgorithm\":\"sha256\",\"contentDirectory\":\"data\",\"manifest\":{\"ba7816bf8f01cfea414140de5dae2223b00361a396177a9cb410ff61f20015ad\":[\"v1/data/f\"]}}") (text_at "o/v1/content/x" "" ∷ folder "o/v1/data" ∷ text_at "o/v1/data/f" "abc" ∷ text_at "o/v1/data/g" "" ∷ []) "ok\t.\t-\nok\to\t-\nok\to/v1/data/f\t3\nE023\to/v1/data/g\t-\n" ∷
     []
 
 entries_of_versions : AllAre entries_of_versions_cases

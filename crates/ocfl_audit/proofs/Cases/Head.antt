@@ -29,7 +29,7 @@ declared_by declarations = storage_root
 object_declarations : AllAre (
     reports "object_of_the_older_version" (declared_by (text_at "o/0=ocfl_object_1.0" "ocfl_object_1.0\n" ∷ [])) "ok\t.\t-\nok\to\t-\nok\to/v1/content/f\t3\n" ∷
     reports "two_object_declarations"
-        (declared_by (text_at "o/0=ocfl_object_1.0" "ocfl_object_1.0\n" ∷ text_at "o/0=ocfl_object_1.1" "ocfl_object_1.1\n" ∷ text_at "o/junk" "" ∷ [])) "ok\t.\t-\nE003\to\t-\n" ∷
+    (declared_by (text_at "o/0=ocfl_object_1.0" "ocfl_object_1.0\n" ∷ text_at "o/0=ocfl_object_1.1" "ocfl_object_1.1\n" ∷ text_at "o/junk" "" ∷ [])) "ok\t.\t-\nE003\to\t-\n" ∷
     reports "unknown_object_version" (declared_by (text_at "o/0=ocfl_object_2.0" "ocfl_object_2.0\n" ∷ text_at "o/junk" "" ∷ [])) "ok\t.\t-\nS01\to\t2.0\n" ∷
     -- the head goes on
     reports "object_declaration_without_line_feed" (declared_by (text_at "o/0=ocfl_object_1.1" "ocfl_object_1.1" ∷ [])) "ok\t.\t-\nE007\to\t-\nok\to/v1/content/f\t3\n" ∷
@@ -37,7 +37,7 @@ object_declarations : AllAre (
     reports "long_object_declaration" (declared_by (bytes_at "o/0=ocfl_object_1.1" (codes "ocfl_object_1.1\n" ++ replicate 4081 10) ∷ [])) "ok\t.\t-\nE007\to\t-\nok\to/v1/content/f\t3\n" ∷
     -- only files declare; a directory of such a name is not allowed
     reports "directory_beside_object_declaration" (declared_by (text_at "o/0=ocfl_object_1.1" "ocfl_object_1.1\n" ∷ folder "o/0=ocfl_object_1.0" ∷ []))
-        "ok\t.\t-\nok\to\t-\nE001\to/0=ocfl_object_1.0\t-\nok\to/v1/content/f\t3\n" ∷
+    "ok\t.\t-\nok\to\t-\nE001\to/0=ocfl_object_1.0\t-\nok\to/v1/content/f\t3\n" ∷
     [])
 unfolding audit_on_literals
 object_declarations = refl
@@ -104,17 +104,17 @@ sidecars_and_inventories : AllAre (
     reports "sidecar_in_capitals" (object_beside (codes abc_sha256_capitals ++ codes " inventory.json\n") (codes "abc") []) "ok\t.\t-\nE033\to\t-\n" ∷
     -- the sidecar's digest is told folded
     reports "wrong_sidecar_in_capitals" (object_beside (replicate 64 65 ++ codes " inventory.json\n") (codes "abc") [])
-        "ok\t.\t-\nE060\to\tsha256 aaaaaaaaaaaaaaaaaaaaaaaaaaaaaaaaaaaaaaaaaaaaaaaaaaaaaaaaaaaaaaaa ba7816bf8f01cfea414140de5dae2223b00361a396177a9cb410ff61f20015ad\nE033\to\t-\n" ∷
+    "ok\t.\t-\nE060\to\tsha256 aaaaaaaaaaaaaaaaaaaaaaaaaaaaaaaaaaaaaaaaaaaaaaaaaaaaaaaaaaaaaaaa ba7816bf8f01cfea414140de5dae2223b00361a396177a9cb410ff61f20015ad\nE033\to\t-\n" ∷
     -- and nothing of the object's insides
     reports "inventory_that_is_no_json"
-        (object_beside (codes "0000000000000000000000000000000000000000000000000000000000000000 inventory.json\n") (codes "abc")
-        (folder "o/v1" ∷ folder "o/v1/content" ∷ f_is_abc))
-        "ok\t.\t-\nE060\to\tsha256 0000000000000000000000000000000000000000000000000000000000000000 ba7816bf8f01cfea414140de5dae2223b00361a396177a9cb410ff61f20015ad\nE033\to\t-\n" ∷
+    (object_beside (codes "0000000000000000000000000000000000000000000000000000000000000000 inventory.json\n") (codes "abc")
+    (folder "o/v1" ∷ folder "o/v1/content" ∷ f_is_abc))
+    "ok\t.\t-\nE060\to\tsha256 0000000000000000000000000000000000000000000000000000000000000000 ba7816bf8f01cfea414140de5dae2223b00361a396177a9cb410ff61f20015ad\nE033\to\t-\n" ∷
     reports "both_sidecars_right" (object_beside (right_sidecar_256 (listing [])) (listing []) (bytes_at "o/inventory.json.sha512" (right_sidecar_512 (listing [])) ∷ [])) "ok\t.\t-\nok\to\t-\n" ∷
     reports "both_sidecars_without_form" (object_beside (codes "x") (listing []) (text_at "o/inventory.json.sha512" "y" ∷ [])) "ok\t.\t-\nE061\to\tsha256\nE061\to\tsha512\n" ∷
     reports "both_sidecars_wrong" (object_beside (replicate 64 48 ++ codes " inventory.json") (codes "abc")
-        (bytes_at "o/inventory.json.sha512" (replicate 128 48 ++ codes " inventory.json") ∷ []))
-        "ok\t.\t-\nE060\to\tsha256 0000000000000000000000000000000000000000000000000000000000000000 ba7816bf8f01cfea414140de5dae2223b00361a396177a9cb410ff61f20015ad\nE060\to\tsha512 00000000000000000000000000000000000000000000000000000000000000000000000000000000000000000000000000000000000000000000000000000000 ddaf35a193617abacc417349ae20413112e6fa4e89a97ea20a9eeee64b55d39a2192992a274fc1a836ba3c23a3feebbd454d4423643ce80e2a9ac94fa54ca49f\nE033\to\t-\n" ∷
+    (bytes_at "o/inventory.json.sha512" (replicate 128 48 ++ codes " inventory.json") ∷ []))
+    "ok\t.\t-\nE060\to\tsha256 0000000000000000000000000000000000000000000000000000000000000000 ba7816bf8f01cfea414140de5dae2223b00361a396177a9cb410ff61f20015ad\nE060\to\tsha512 00000000000000000000000000000000000000000000000000000000000000000000000000000000000000000000000000000000000000000000000000000000 ddaf35a193617abacc417349ae20413112e6fa4e89a97ea20a9eeee64b55d39a2192992a274fc1a836ba3c23a3feebbd454d4423643ce80e2a9ac94fa54ca49f\nE033\to\t-\n" ∷
     [])
 unfolding audit_on_literals
 sidecars_and_inventories = refl
@@ -181,7 +181,7 @@ values_in_json = quickly values_in_json_cases refl
 abbrev inventory_algorithms_cases : List Case
 inventory_algorithms_cases =
     reports "empty_object_as_inventory"
-        (object_beside (codes "44136fa355b3678a1146ad16f7e8649e94fb4fc21fe77e8310c060f61caaff8a inventory.json") (codes "{}") []) "ok\t.\t-\nE036\to\tdigestAlgorithm\n" ∷
+    (object_beside (codes "44136fa355b3678a1146ad16f7e8649e94fb4fc21fe77e8310c060f61caaff8a inventory.json") (codes "{}") []) "ok\t.\t-\nE036\to\tdigestAlgorithm\n" ∷
     reports_256 "algorithm_is_a_number" (inventory_with (key "digestAlgorithm" "7" ∷ key "manifest" "{}" ∷ [])) [] "ok\t.\t-\nS03\to\tdigestAlgorithm\n" ∷
     reports_256 "algorithm_in_capitals" (inventory "SHA256" (codes "{}") (codes "{}")) f_is_abc "ok\t.\t-\nE025\to\tSHA256\n" ∷
     reports_256 "algorithm_for_fixity_alone" (inventory "md5" (codes "{}") (codes "{}")) [] "ok\t.\t-\nE025\to\tmd5\n" ∷
@@ -238,7 +238,7 @@ manifests_and_fixity_blocks_cases =
     reports_256 "unsupported_fixity" (listing_with lists_f (codes "{\"blake2b-512\":7}")) f_is_abc "ok\t.\t-\nS07\to\tblake2b-512\nok\to/v1/content/f\t3\n" ∷
     -- ascending; capitals count in the name of an algorithm
     reports_256 "two_unsupported_fixities" (listing_with lists_f (codes "{\"sha3\":[],\"blake2b-512\":{\"x\":[\"/x\"]},\"MD5\":7}")) f_is_abc
-        "ok\t.\t-\nS07\to\tMD5\nS07\to\tblake2b-512\nS07\to\tsha3\nok\to/v1/content/f\t3\n" ∷
+    "ok\t.\t-\nS07\to\tMD5\nS07\to\tblake2b-512\nS07\to\tsha3\nok\to/v1/content/f\t3\n" ∷
     []
 
 manifests_and_fixity_blocks : AllAre manifests_and_fixity_blocks_cases

@@ -16,13 +16,13 @@ named_alike = storage_root (
     folder "h" ∷ text_at "h/readme" "" ∷ text_at "h/inventory.json" "{}" ∷ text_at "h/inventory.json.sha512" "" ∷ text_at "h/0=ocfl_1.1" "ocfl_1.1\n" ∷
     object_in "o" (listing lists_f) (text_at "o/readme" "" ∷ text_at "o/inventory.json.md5" "" ∷ text_at "o/inventory.json.sha512" "" ∷ text_at "o/0=ocfl_1.1" "" ∷ text_at "o/0=ocfl_object_1.0" "" ∷
     folder "o/v1" ∷ text_at "o/v1/inventory.json" "{}" ∷ text_at "o/v1/inventory.json.sha256" "" ∷ text_at "o/v1/0=ocfl_object_1.1" "" ∷ folder "o/v1/content"
-        ∷ text_at "o/v1/content/f" "abc" ∷ text_at "o/v1/content/inventory.json" "" ∷
+    ∷ text_at "o/v1/content/f" "abc" ∷ text_at "o/v1/content/inventory.json" "" ∷
     object_in "o/v1/content/p" (listing lists_f) (
     folder "u" ∷ text_at "u/0=ocfl_object_2.0" "" ∷ text_at "u/inventory.json" "{}" ∷ []))))
 
 metadata_of_a_tree : filter (is_meta named_alike) (map (λ e. e.0) named_alike)
     ≡ place "0=ocfl_1.1" ∷ place "o/0=ocfl_object_1.1" ∷ place "o/inventory.json" ∷ place "o/inventory.json.sha256" ∷ place "o/inventory.json.sha512" ∷ place
-        "o/0=ocfl_object_1.0" ∷ place "u/0=ocfl_object_2.0" ∷ place "u/inventory.json" ∷ []
+    "o/0=ocfl_object_1.0" ∷ place "u/0=ocfl_object_2.0" ∷ place "u/inventory.json" ∷ []
 unfolding audit_on_literals
 metadata_of_a_tree = refl
 

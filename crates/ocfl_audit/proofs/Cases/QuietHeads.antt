@@ -49,7 +49,7 @@ module _ (root : StorageRoot) (n : Text) (q : Place) (inventory : Text) (sidecar
   head_is (known v) =
       ap (λ f. or_clean (on (not (is_exact_declaration root (n ∷ q) Object v)) (plain E007) ++ inventory_file_notes root (n ∷ q) f)) there
       ∙ ap (λ ns. or_clean (on (not (is_exact_declaration root (n ∷ q) Object v)) (plain E007) ++ cond (nat_le (length inventory) inventory_limit)
-          (ns ++ inventory_part root (n ∷ q) inventory (algorithm_of inventory)) (plain S02 ∷ []))) those
+      (ns ++ inventory_part root (n ∷ q) inventory (algorithm_of inventory)) (plain S02 ∷ []))) those
 
   notes_are : (u : Option ℕ) → notes root u (n ∷ q) ≡ notes_beside sidecars root u (n ∷ q) inventory
   notes_are u = by (zone root (n ∷ q)) refl

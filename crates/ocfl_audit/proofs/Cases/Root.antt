@@ -57,12 +57,12 @@ root_declarations = refl
 
 base_and_hierarchies : AllAre (
     reports "base_and_hierarchy" (storage_root
-        (link "z" ∷ folder "y" ∷ text_at "y/readme" "" ∷ folder "x" ∷ folder "extensions" ∷ folder "extensions/k" ∷ text_at "notes" "n" ∷ [])) "ok\t.\t-\nE073\tx\t-\nE072\ty/readme\t-\nS04\tz\t-\n" ∷
+    (link "z" ∷ folder "y" ∷ text_at "y/readme" "" ∷ folder "x" ∷ folder "extensions" ∷ folder "extensions/k" ∷ text_at "notes" "n" ∷ [])) "ok\t.\t-\nE073\tx\t-\nE072\ty/readme\t-\nS04\tz\t-\n" ∷
     reports "extensions_as_file" (storage_root (text_at "extensions" "" ∷ [])) "ok\t.\t-\n" ∷
     reports "extensions_as_link" (storage_root (link "extensions" ∷ [])) "ok\t.\t-\nS04\textensions\t-\n" ∷
     -- nothing in them is looked at
     reports "inside_extensions" (storage_root
-        (folder "extensions" ∷ text_at "extensions/f" "" ∷ link "extensions/l" ∷ folder "extensions/o" ∷ text_at "extensions/o/0=ocfl_object_1.1" "" ∷ [])) "ok\t.\t-\n" ∷
+    (folder "extensions" ∷ text_at "extensions/f" "" ∷ link "extensions/l" ∷ folder "extensions/o" ∷ text_at "extensions/o/0=ocfl_object_1.1" "" ∷ [])) "ok\t.\t-\n" ∷
     -- nor whether they are empty
     reports "empty_extensions" (storage_root (folder "extensions" ∷ [])) "ok\t.\t-\n" ∷
     -- only those of the base are kept apart

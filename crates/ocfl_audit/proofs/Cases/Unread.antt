@@ -102,7 +102,7 @@ abbrev other_lines_of_unread_files_cases : List Case
 other_lines_of_unread_files_cases =
     -- the lines of its digests give way
     reports_unread "wrong_file_unread" (listing_with lists_f (codes "{\"md5\":{\"x\":[\"v1/content/f\"]}}")) (text_at "o/v1/content/f" "" ∷ []) "o/v1/content/f"
-        0 "ok\t.\t-\nok\to\t-\nS08\to/v1/content/f\t-\n" ∷
+    0 "ok\t.\t-\nok\to\t-\nS08\to/v1/content/f\t-\n" ∷
     -- that the manifest does not name it stays
     reports_unread "unlisted_file_unread" fixity_alone_listing f_is_abc "o/v1/content/f" 0 "ok\t.\t-\nok\to\t-\nE023\to/v1/content/f\t-\nS08\to/v1/content/f\t-\n" ∷
     -- a file that nothing names is never opened

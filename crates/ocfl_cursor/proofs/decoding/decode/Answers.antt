@@ -14,4 +14,4 @@ pub returns-in-Some-sealed_body-clause-refused : goal.returns-in-Some-sealed_bod
 returns-in-Some-sealed_body-clause-refused c =
     let known = known_version-from_rest c.args.text.now c.in-Some.rest.now _ _ c.in-Some.ensures.rest c.begins_with_version.ensures c.if-not-begins_with_version.false in
     refused_after_seal c.args.text.now c.in-Some-sealed_body.body.now c.read_body.result (sym c.in-Some.ensures.found) known c.in-Some-sealed_body.ensures.found
-        c.read_body.ensures.errors c.read_body.ensures.malformed
+    c.read_body.ensures.errors c.read_body.ensures.malformed

@@ -8,4 +8,4 @@ pub returns-in-Ok-clause-same : goal.returns-in-Ok-clause-same
 returns-in-Ok-clause-same c =
     let written = c.deref.ensures.value ∙ c.in-Ok.ensures.text in
     IfOk-weaker c.decode.result (IsTextOf c.deref.result.now) (λ read. read ≡ c.args.cursor.now)
-        (λ read h. text_determines c.deref.result.now read c.args.cursor.now h (record { keeps = c.encode.ensures.keeps; is = inl written })) c.decode.ensures.cursor
+    (λ read h. text_determines c.deref.result.now read c.args.cursor.now h (record { keeps = c.encode.ensures.keeps; is = inl written })) c.decode.ensures.cursor

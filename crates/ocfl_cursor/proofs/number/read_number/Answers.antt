@@ -19,4 +19,4 @@ returns-in_err-read_decimal-clause-missing c = λ e n rest l f.
     let begins = rw c.as_bytes.ensures.value at c.in_ok-after_name.ensures.found in
     let after_space = after_space_is c.args.name.now c.args.text.now c.in_ok-after_name.after_name.now c.in_ok-after_prefix.field-0.now n rest begins c.in_ok-after_prefix.ensures.found f in
     c.in_err-read_decimal.ensures.missing refl n l
-        (digits_are_decimal _ c.in_ok-digits.digits.now c.in_ok-digits.rest.now n rest l c.in_ok-digits.ensures.first c.in_ok-digits.ensures.found after_space)
+    (digits_are_decimal _ c.in_ok-digits.digits.now c.in_ok-digits.rest.now n rest l c.in_ok-digits.ensures.first c.in_ok-digits.ensures.found after_space)

@@ -10,7 +10,7 @@ pub returns-in_err-named-clause-refused : goal.returns-in_err-named-clause-refus
 returns-in_err-named-clause-refused c =
     let passed = err_from_is_err_and c.from_residual.result c.from_residual.ensures.1 in
     part_refused c.args.ends.now c.args.text.now c.in-Some.body.now c.from_residual.result passed.0 c.in_err-named.field-0.0 passed.1 passed.2
-        (sym c.starts_with.ensures.value ∙ c.if-not-starts_with.false) c.in-Some.ensures.found
+    (sym c.starts_with.ensures.value ∙ c.if-not-starts_with.false) c.in-Some.ensures.found
     c.in_err-named.ensures.errors (λ m. c.in_err-named.ensures.malformed (ap Err m))
 
 pub returns-then-is_same_part-clause-cursor : goal.returns-then-is_same_part-clause-cursor

@@ -9,11 +9,11 @@ returns-clause-found c =
     let text = c.args.text.now in
     let prefix = c.args.prefix.now in
     IfSome-from_cases {X = Bor (List ℕ)} c.strip_prefix.result ((rest : List ℕ) → text ≢ prefix ++ rest) (λ rest. text ≡ prefix ++ rest.now)
-        (strip_prefix_is Decides-eqb text prefix c.strip_prefix.result c.strip_prefix.ensures.cases)
+    (strip_prefix_is Decides-eqb text prefix c.strip_prefix.result c.strip_prefix.ensures.cases)
 
 pub returns-clause-missing : goal.returns-clause-missing
 returns-clause-missing c =
     let text = c.args.text.now in
     let prefix = c.args.prefix.now in
     none_from_cases {X = Bor (List ℕ)} c.strip_prefix.result ((rest : List ℕ) → text ≢ prefix ++ rest) (λ rest. text ≡ prefix ++ rest.now)
-        (strip_prefix_is Decides-eqb text prefix c.strip_prefix.result c.strip_prefix.ensures.cases)
+    (strip_prefix_is Decides-eqb text prefix c.strip_prefix.result c.strip_prefix.ensures.cases)

@@ -8,10 +8,10 @@ pub returns-clause-found : goal.returns-clause-found
 returns-clause-found c =
     let text = c.args.text.now in
     IfSome-from_cases {X = Bor (List ℕ)} c.strip_suffix.result ((line : List ℕ) → text ≢ line ++ 10 ∷ []) (λ line. text ≡ line.now ++ 10 ∷ [])
-        (strip_suffix_is Decides-eqb text (10 ∷ []) c.strip_suffix.result c.strip_suffix.ensures.cases)
+    (strip_suffix_is Decides-eqb text (10 ∷ []) c.strip_suffix.result c.strip_suffix.ensures.cases)
 
 pub returns-clause-missing : goal.returns-clause-missing
 returns-clause-missing c =
     let text = c.args.text.now in
     none_from_cases {X = Bor (List ℕ)} c.strip_suffix.result ((line : List ℕ) → text ≢ line ++ 10 ∷ []) (λ line. text ≡ line.now ++ 10 ∷ [])
-        (strip_suffix_is Decides-eqb text (10 ∷ []) c.strip_suffix.result c.strip_suffix.ensures.cases)
+    (strip_suffix_is Decides-eqb text (10 ∷ []) c.strip_suffix.result c.strip_suffix.ensures.cases)

@@ -15,7 +15,7 @@ returns-clause-lines g c =
     let few : length c.in-Ok.bytes.items ≤ max_part_text = omega arith in
     IfOk-weaker c.shown_lines.result _ _
     (λ lines h. shown_read (g.R.Read.remaining c.args.reader.now) c.in-Ok.bytes.items lines.items c.in-Ok.ensures.bytes few
-        (subst (λ t. AreShown t lines.items) c.deref.ensures.value h)) c.shown_lines.ensures.lines
+    (subst (λ t. AreShown t lines.items) c.deref.ensures.value h)) c.shown_lines.ensures.lines
 
 pub returns-clause-refused : goal.returns-clause-refused
 returns-clause-refused g c =

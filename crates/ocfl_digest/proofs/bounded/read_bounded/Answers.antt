@@ -14,13 +14,13 @@ returns-in_err-count-clause-reads g c = λ told root same.
     let p = err_from_is_err_and c.from_residual-in_err-count.result c.from_residual-in_err-count.ensures.1 in
     let long = c.loop-bytes.bytes.ok.0 in
     rw (p.1, p.2) (read_stops _ root _ _ _ _ _ _ _ _ (omega (arith, long)) c.loop-bytes.invariant (c.in_err-count.ensures.reads told)
-        (λ e. c.in_err-count.ensures.no_memory (ap Err e)) (c.in_err-count.ensures.largest told) told)
+    (λ e. c.in_err-count.ensures.no_memory (ap Err e)) (c.in_err-count.ensures.largest told) told)
 
 pub returns-then-count-eq0-clause-reads : goal.returns-then-count-eq0-clause-reads
 returns-then-count-eq0-clause-reads g c = λ told root same.
     let long = c.loop-bytes.bytes.ok.0 in
     bounding_ends _ root _ _ _ _ _ _ _ _ _ _ (omega (arith, long)) c.loop-bytes.invariant (c.in_ok-count.ensures.reads told)
-        (ap (λ n. take n c.read_piece.new.buffer) c.if-count-eq0.true) (c.in_ok-count.ensures.largest told)
+    (ap (λ n. take n c.read_piece.new.buffer) c.if-count-eq0.true) (c.in_ok-count.ensures.largest told)
     (c.close.ensures told) (refl {A = List ℕ}, c.loop-bytes.invariant.within) told same
 
 pub returns-then-left-count-clause-reads : goal.returns-then-left-count-clause-reads
@@ -49,6 +49,6 @@ loop-bytes-preserved g c =
     let bound = c.in_ok-count.ensures.bound in
     let step : IsBounding g.T.Tree.told (g.T.Tree.state c.args.store.now) (g.T.Tree.state c.read_piece.new.store) c.args.place.now c.args.limit (c.loop-bytes.bytes.items ++ take c.in_ok-count.count c.read_piece.new.buffer) =
     bounding_reads _ _ _ _ _ _ _ _ _ (omega (arith, long)) c.loop-bytes.invariant c.in_ok-count.ensures.reads c.in_ok-count.ensures.largest
-        (omega (arith, room, given, bound)) (omega (arith, long, given, bound)) in
+    (omega (arith, room, given, bound)) (omega (arith, long, given, bound)) in
     let grown : c.extend_from_slice.new.self.items ≡ c.loop-bytes.bytes.items ++ take c.in_ok-count.count c.read_piece.new.buffer = grind (arith, common_steps) in
     rw grown step

@@ -10,7 +10,7 @@ pub returns-clause-triples : goal.returns-clause-triples
 returns-clause-triples c =
     let content = c.args.content.now in
     all_gathered (triples_of false content c.args.algorithm (block_view c.args.manifest.items)) c.in_ok-manifest.manifest.triples.items
-        (flat_map (λ e. triples_of true content e.0 e.1) (supported_view c.args.fixity.items)) c.in_ok-found.found.triples.items c.in_ok-manifest.ensures.triples c.in_ok-found.ensures.triples
+    (flat_map (λ e. triples_of true content e.0 e.1) (supported_view c.args.fixity.items)) c.in_ok-found.found.triples.items c.in_ok-manifest.ensures.triples c.in_ok-found.ensures.triples
 
 pub returns-clause-listed : goal.returns-clause-listed
 returns-clause-listed c =

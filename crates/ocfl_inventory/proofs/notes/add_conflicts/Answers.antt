@@ -12,7 +12,7 @@ loop-place-preserved c =
     let line = λ (p : Place). note E101 (slashed p) in
     appended (map line) c.args.places.now c.loop-place.place-index (map remark_view c.args.out.now.items) (map remark_view c.loop-place.out.items) _ _
     (mapped_more line c.args.places.now c.loop-place.place-index c.place-item.result (note E101 c.path.result.now) c.loop-place-test.true
-        (ap (note E101) c.path.ensures.value ∙ ap line c.place-item.is))
+    (ap (note E101) c.path.ensures.value ∙ ap line c.place-item.is))
     c.loop-place.invariant c.in_ok-add.ensures
 
 pub returns : goal.returns

@@ -10,7 +10,7 @@ use Rattle.ocfl_inventory.proofs.notes.add_repeated_fixity.Goals as goal
 pub loop-supported-preserved : goal.loop-supported-preserved
 loop-supported-preserved c =
     several_more (λ (s : Supported). (s.algorithm, block_view s.block.items)) repeated_notes c.args.fixity.now c.loop-supported.supported-index
-        c.supported-item.result (map remark_view c.args.out.now.items) (map remark_view c.loop-supported.out.items) _
+    c.supported-item.result (map remark_view c.args.out.now.items) (map remark_view c.loop-supported.out.items) _
     c.loop-supported-test.true c.supported-item.is c.loop-supported.invariant c.in_ok-add_repeated_in.ensures
 
 pub returns : goal.returns

@@ -8,9 +8,9 @@ use Rattle.ocfl_inventory.proofs.notes.add_unsupported.Goals as goal
 pub loop-key-preserved : goal.loop-key-preserved
 loop-key-preserved c =
     appended (λ (ks : List (String Global)). map (note S07) (map string_bytes ks)) c.args.keys.now c.loop-key.key-index (map remark_view c.args.out.now.items)
-        (map remark_view c.loop-key.out.items) _ _
+    (map remark_view c.loop-key.out.items) _ _
     (seen_more (note S07) string_bytes c.args.keys.now c.loop-key.key-index c.key-item.result (note S07 c.as_str.result.now) c.loop-key-test.true
-        (ap (note S07) (c.as_str.ensures.value ∙ ap string_bytes c.key-item.is)))
+    (ap (note S07) (c.as_str.ensures.value ∙ ap string_bytes c.key-item.is)))
     c.loop-key.invariant c.in_ok-add.ensures
 
 pub returns : goal.returns

@@ -11,5 +11,9 @@ invariant_of-result c = subst (IsAscending triple_cmp) (sym (triples_once c.args
     (ascends_ascending triple_total c.args.triples.items)
 
 pub returns-clause-is : goal.returns-clause-is
-returns-clause-is c = λ i. record { algorithm = c.args.algorithm; content = string_bytes c.args.content; triples =
-    triples_once c.args.triples.items c.dedup.new.self.items c.requires c.dedup.ensures.filtered i }
+returns-clause-is c = λ i. record {
+  algorithm = c.args.algorithm;
+  content = string_bytes c.args.content;
+  triples =
+      triples_once c.args.triples.items c.dedup.new.self.items c.requires c.dedup.ensures.filtered i;
+}

@@ -21,7 +21,7 @@ returns-then-is_empty-clause-told c =
     let told : IsTold root c.args.place t q c.args.named.items c.args.sight = record { content = content; digests = digests; sight = sight } in
     nothing_known root c.args.place q t c.args.named.items c.args.sight told c.in_ok-known.known.lines.items unread
     (known_lines_are root c.args.place q t c.args.named.items c.args.sight told c.deref-2.result.now c.in_ok-known.known c.deref-2.ensures.value
-        (c.in_ok-known.ensures.place) c.in_ok-known.ensures.lines) empty
+    (c.in_ok-known.ensures.place) c.in_ok-known.ensures.lines) empty
 
 pub returns-clause-told : goal.returns-clause-told
 returns-clause-told c =
@@ -31,6 +31,6 @@ returns-clause-told c =
     let told : IsTold root c.args.place t q c.args.named.items c.args.sight = record { content = content; digests = digests; sight = sight } in (
       pending_known root c.args.place q t c.args.named.items c.args.sight told _ (c.in_ok-known.ensures.place) refl refl unread
           (known_lines_are root c.args.place q t c.args.named.items c.args.sight told c.deref-2.result.now c.in_ok-known.known c.deref-2.ensures.value
-              (c.in_ok-known.ensures.place) c.in_ok-known.ensures.lines) some,
+          (c.in_ok-known.ensures.place) c.in_ok-known.ensures.lines) some,
       c.in_ok-known.ensures.place,
     )

@@ -15,4 +15,4 @@ returns-clause-lines c = λ root stops points.
     let unknown = subst (λ xs. is_known (meaning level xs m) ≡ false) (sym same) stops in
     let adds = c.in_ok-add_stop.ensures.lines root d unknown (subst (λ xs. PointsAtOne level xs m) (sym same) points) in
     subst (HasLines c.add_stop.new.lines) (ap (λ xs. declared_notes root d level (meaning level xs m)) same)
-        (has_more c.new-lines.result c.add_stop.new.lines [] (declared_notes root d level (meaning level c.deref.result.now m)) c.new-lines.ensures.lines adds)
+    (has_more c.new-lines.result c.add_stop.new.lines [] (declared_notes root d level (meaning level c.deref.result.now m)) c.new-lines.ensures.lines adds)

@@ -15,7 +15,7 @@ returns-in_err-add_declaration-clause-told g c = λ h root over here.
     let p = err_from_is_err_and c.from_residual-in_err-add_declaration.result c.from_residual-in_err-add_declaration.ensures.1 in
     let name = c.declaration_name-name.ensures in
     rw (p.1, p.2) (one_memory root _ _ _ _ _ _
-        (head_declaration root _ _ _ _ _ _ _ name (c.in_ok-declaration.ensures.told h root over here.listing (file_is_meta root _ _ here.zone (declaration_is_meta _ _ name)))))
+    (head_declaration root _ _ _ _ _ _ _ name (c.in_ok-declaration.ensures.told h root over here.listing (file_is_meta root _ _ here.zone (declaration_is_meta _ _ name)))))
 
 pub returns-clause-told : goal.returns-clause-told
 returns-clause-told g c = λ h root over here.

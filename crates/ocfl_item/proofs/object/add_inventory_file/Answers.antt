@@ -20,7 +20,7 @@ pub returns-in-Some-Whole-clause-told : goal.returns-in-Some-Whole-clause-told
 returns-in-Some-Whole-clause-told g c = λ h root over here.
     let read = rw (c.in-Some-Whole.is, c.in-Some-Whole.field-0-is) at c.in_ok-read_file.ensures.told h root over here.listing (file_is_meta root _ _ here.zone refl) in
     whole_told root _ _ _ c.args.lines.now c.add_whole_inventory.new.lines c.in-Some-Whole.bytes _ _ read.gives.1 c.deref.ensures.value
-        (c.add_whole_inventory.ensures.told h root (over_file root _ _ _ _ _ _ read) here)
+    (c.add_whole_inventory.ensures.told h root (over_file root _ _ _ _ _ _ read) here)
 
 pub returns-in_err-read_file-clause-opened : goal.returns-in_err-read_file-clause-opened
 returns-in_err-read_file-clause-opened g c = λ h root over here.
@@ -55,4 +55,4 @@ pub returns-in-Some-Whole-clause-opened : goal.returns-in-Some-Whole-clause-open
 returns-in-Some-Whole-clause-opened g c = λ h root over here.
     let read = rw (c.in-Some-Whole.is, c.in-Some-Whole.field-0-is) at c.in_ok-read_file.ensures.told h root over here.listing (file_is_meta root _ _ here.zone refl) in
     whole_opens root _ _ _ _ _ c.args.lines.now c.add_whole_inventory.new.lines _ c.add_whole_inventory.result
-        (sidecars_within root _ c.in-Some-Whole.bytes read.gives.1) read (c.add_whole_inventory.ensures.told h root (over_file root _ _ _ _ _ _ read) here)
+    (sidecars_within root _ c.in-Some-Whole.bytes read.gives.1) read (c.add_whole_inventory.ensures.told h root (over_file root _ _ _ _ _ _ read) here)

@@ -21,7 +21,7 @@ pub returns-in-Dir : goal.returns-in-Dir
 returns-in-Dir c =
     let is : c.is_text.result ≡ text_eq c.entry-item.result.name c.args.name.now = c.is_text.ensures ∙ ap (λ x. text_eq x c.args.name.now) c.as_str.ensures.value in
     sym (ap is_file_kind (kind_found c.args.entries.now c.loop-entry.entry-index c.entry-item.result c.args.name.now c.is_text.result c.loop-entry-test.true
-        c.entry-item.is c.loop-entry.invariant is c.if-is_text.true))
+    c.entry-item.is c.loop-entry.invariant is c.if-is_text.true))
     ∙ other_kind c.entry-item.result.kind c.in-Dir.is
 
 pub loop-entry-preserved : goal.loop-entry-preserved

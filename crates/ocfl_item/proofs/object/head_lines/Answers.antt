@@ -26,8 +26,14 @@ returns-in-One g c =
 pub returns-in_err-lines : goal.returns-in_err-lines
 returns-in_err-lines g c =
     let p = err_from_is_err_and c.from_residual.result c.from_residual.ensures.1 in
-    rw (p.1, p.2) (record { only = (λ e. cc, λ e. cc); fit = tt; place = tt; told =
-        λ h root over here. head_read_from root _ _ _ _ here.zone (none_memory root _ _ _ over) tt; opened = λ h root over here. none_memory root _ _ _ over })
+    rw (p.1, p.2) (record {
+      only = (λ e. cc, λ e. cc);
+      fit = tt;
+      place = tt;
+      told =
+          λ h root over here. head_read_from root _ _ _ _ here.zone (none_memory root _ _ _ over) tt;
+      opened = λ h root over here. none_memory root _ _ _ over;
+    })
 
 pub returns : goal.returns
 returns g c = record {

@@ -9,4 +9,4 @@ returns-clause-told g c = λ h root over listing meta.
     let o = c.args.folder.now.place in
     let meta_here = subst (λ n. is_meta root (o ++ n ∷ []) ≡ true) (sym c.sidecar_name.ensures) meta in
     subst (λ n. ReadsFile root (g.T.Tree.state c.args.store.now) (g.T.Tree.state c.read_file.new.store) o n side_limit c.read_file.result)
-        c.sidecar_name.ensures (c.read_file.ensures.told h root over listing meta_here)
+    c.sidecar_name.ensures (c.read_file.ensures.told h root over listing meta_here)

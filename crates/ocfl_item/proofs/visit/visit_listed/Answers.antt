@@ -20,7 +20,7 @@ returns-clause-told g c = λ h root over here plain.
     let inner = c.in_ok-folder.ensures.told h root over (listable root e here short) in
     visits_told root _ _ e _ (entered_meets root _ _ e _ _ over inner (looked_listed root e here short) plain.head)
     (visit_of_folder root e c.of_folder.result f (subst (IsItemAt root e) (sym c.of_folder.ensures.item) (plain.lines ∙ no_notes root e short))
-        c.of_folder.ensures.folder c.of_folder.ensures.table plain.head inner.is (reached_here root e here short) inner.listing)
+    c.of_folder.ensures.folder c.of_folder.ensures.table plain.head inner.is (reached_here root e here short) inner.listing)
 
 pub returns-in_err-folder-clause-told : goal.returns-in_err-folder-clause-told
 returns-in_err-folder-clause-told g c = λ h root over here plain.

@@ -20,10 +20,12 @@ returns-clause-ok c = λ done h.
       | in-Some+in_ok-close w ↦ (
         w.separators-is
             ∙ last_closed c.args.budget small done c.args.cutter.separators c.args.cutter.spent c.args.cutter.item h w.in-Some.item w.close.new.separators
-                w.in_ok-close.field-0 w.in-Some.is w.in_ok-close.ensures.cuts,
+            w.in_ok-close.field-0 w.in-Some.is w.in_ok-close.ensures.cuts,
         subst (λ xs. length xs ≤ max_separators) (sym w.separators-is) (w.in_ok-close.ensures.few h.few),
       )
-      | in_default w ↦
-          (w.separators-is ∙ none_left c.args.budget small done c.args.cutter.separators c.args.cutter.spent c.args.cutter.item h w.in_default.is, subst
-              (λ xs. length xs ≤ max_separators) (sym w.separators-is) h.few)
+      | in_default w ↦ (
+        w.separators-is ∙ none_left c.args.budget small done c.args.cutter.separators c.args.cutter.spent c.args.cutter.item h w.in_default.is,
+        subst
+            (λ xs. length xs ≤ max_separators) (sym w.separators-is) h.few,
+      )
     ]

@@ -24,7 +24,7 @@ returns-then-not-branch-clause-refused g c =
     let cutter = c.loop-number.cutter in
     IfErr-weaker c.end.result _ _ (λ stop f.
     end_read c.args.budget inv.done cutter.separators cutter.spent cutter.item inv.cut (g.R.Read.remaining c.args.report.now)
-        (g.R.Read.remaining c.loop-number.report) stop inv.read (f inv.done inv.cut)) c.end.ensures.refused
+    (g.R.Read.remaining c.loop-number.report) stop inv.read (f inv.done inv.cut)) c.end.ensures.refused
 
 pub take_line-requires : goal.take_line-requires
 take_line-requires g c = record { below = c.loop-number.invariant.cut.below }
@@ -37,7 +37,7 @@ returns-in_err-cutter-clause-refused g c =
     rw (p.1, p.2)
     (line_read c.args.budget inv.done cutter.separators cutter.spent cutter.item inv.cut (g.R.Read.remaining c.args.report.now) (g.R.Read.remaining c.loop-number.report) c.loop-number.number
     c.read_text.new.text.items c.deref.result.now c.in_err-cutter.field-0.0 inv.read inv.number c.in_ok-read_text.ensures.line
-        (c.in_ok-read_text.ensures.more c.if-not-branch.false) c.deref.ensures.value
+    (c.in_ok-read_text.ensures.more c.if-not-branch.false) c.deref.ensures.value
     (c.in_err-cutter.ensures.refused inv.done inv.cut))
 
 pub loop-number-preserved : goal.loop-number-preserved

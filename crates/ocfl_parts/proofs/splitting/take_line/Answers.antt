@@ -12,4 +12,4 @@ pub returns-clause-refused : goal.returns-clause-refused
 returns-clause-refused c =
     let read = c.in-Ok.ensures.ok in
     IfErr-weaker c.take_told.result _ _
-        (λ stop f done h. place_refused c.args.budget done c.args.number c.args.text.now c.in-Ok.told.place read.0 stop read.1 (ap (λ t. t.place) read.2) (f done h)) c.take_told.ensures.refused
+    (λ stop f done h. place_refused c.args.budget done c.args.number c.args.text.now c.in-Ok.told.place read.0 stop read.1 (ap (λ t. t.place) read.2) (f done h)) c.take_told.ensures.refused

@@ -14,7 +14,7 @@ returns-in_err-spent-in-Less-clause-refused c =
     let p = err_from_is_err_and c.from_residual.result c.from_residual.ensures.1 in
     rw (p.1, p.2) (λ done h.
     close_refused c.args.budget small done c.args.cutter.separators c.args.cutter.spent c.args.cutter.item h c.in-Some.item c.args.number c.args.said.place
-        c.in_err-spent-in-Less.field-0.0 c.in-Some.is
+    c.in_err-spent-in-Less.field-0.0 c.in-Some.is
     c.in_err-spent-in-Less.ensures.stop (λ e. c.in_err-spent-in-Less.ensures.many (ap Err e)))
 
 pub returns-in_ok-spent-in-Less-clause-ok : goal.returns-in_ok-spent-in-Less-clause-ok
@@ -27,5 +27,5 @@ pub returns-in-Equal-clause-ok : goal.returns-in-Equal-clause-ok
 returns-in-Equal-clause-ok c = λ done line has e h.
     let small : c.args.budget < 2 ^ 64 = omega arith in
     same_taken c.args.budget small done c.args.cutter.separators c.args.cutter.spent c.args.cutter.item h c.in-Some.item c.args.said c.saturating_add.result
-        c.in-Some.is (sym c.cmp.ensures ∙ c.in-Equal.is)
+    c.in-Some.is (sym c.cmp.ensures ∙ c.in-Equal.is)
     c.saturating_add.ensures line has e

@@ -30,7 +30,7 @@ loop-pending-preserved g c =
       none_found = λ e. cc;
       told = λ told root over short.
           audit_took (part_of c.args.part.now) i.way (i.told told root over short) _ _ (given.ensures.told told root) given.field-0-is given.ensures.before _ _
-              _ _ _ _ took.place c.either-found.ensures (λ u q. took.told told root u short q);
+          _ _ _ _ took.place c.either-found.ensures (λ u q. took.told told root u short q);
     }
 
 pub returns-clause-told : goal.returns-clause-told
@@ -45,7 +45,7 @@ returns-clause-told g c told root over short =
           (audit_lost (part_of c.args.part.now) i.way (i.told told root over short) _ _ w.in-Err-next_within.ensures.only (w.in-Err-next_within.ensures.told told root))
       | in-Ok-Some+in-Err-take_item w ↦ rw (w.store-is, w.out-is, w.end-is)
           (audit_missed (part_of c.args.part.now) i.way (i.told told root over short) _ c.next_within.new.self (w.in-Ok-Some.ensures.told told root)
-              w.in-Ok-Some.field-0-is w.in-Ok-Some.ensures.before _ _ _ (λ u q. w.in-Err-take_item.ensures.told told root u short q))
+          w.in-Ok-Some.field-0-is w.in-Ok-Some.ensures.before _ _ _ (λ u q. w.in-Err-take_item.ensures.told told root u short q))
     ])
 
 pub returns-clause-unfailing : goal.returns-clause-unfailing

@@ -28,12 +28,12 @@ pub returns-in_default-clause-told : goal.returns-in_default-clause-told
 returns-in_default-clause-told g c told root over short =
     let e = c.cycle_end.ensures in
     cycle_said root (part_of c.args.part.now) _ _ _ _ _ _ _ _ _ _ _ e.cursor e.found e.end
-        (goes_unbegun root (part_of c.args.part.now) _ _ _ _ _ _ _ _ (c.loop-one.invariant.told told root over short) (omega (arith, c.in_default.ensures.further, c.loop-one.invariant.counts)))
+    (goes_unbegun root (part_of c.args.part.now) _ _ _ _ _ _ _ _ (c.loop-one.invariant.told told root over short) (omega (arith, c.in_default.ensures.further, c.loop-one.invariant.counts)))
 
 pub returns-in-Ended-clause-any_store : goal.returns-in-Ended-clause-any_store
 returns-in-Ended-clause-any_store g c =
     let lines = lines_said _ _ _ _ c.cycle_end-in-Ended.ensures.found
-        (lines_then _ _ _ _ _ _ c.loop-one.invariant.lines (c.run_part-reached.ensures.any_store.lines (ended_wrote _ c.in-Ended.is)) c.either-found.ensures) in
+    (lines_then _ _ _ _ _ _ c.loop-one.invariant.lines (c.run_part-reached.ensures.any_store.lines (ended_wrote _ c.in-Ended.is)) c.either-found.ensures) in
     search (rules, lines)
 
 pub returns-in-Ended-clause-told : goal.returns-in-Ended-clause-told
@@ -42,7 +42,7 @@ returns-in-Ended-clause-told g c told root over short =
     let next = limits_next c.args.limits.now c.loop-one.one-index c.one-item.result c.loop-one-test.true c.one-item.is in
     cycle_said root (part_of c.args.part.now) _ _ _ _ _ _ _ _ _ _ _ e.cursor e.found e.end
     (turn_ended root (part_of c.args.part.now) _ _ _ _ _ _ _ _ (c.loop-one.invariant.told told root over short) _ _ _ _ _ _ _ next c.in-Ok.ensures.same
-        (λ reached. c.run_part-reached.ensures.told told root reached short (ended_not_worn _ c.in-Ended.is)) c.either-found.ensures c.in-Ended.is)
+    (λ reached. c.run_part-reached.ensures.told told root reached short (ended_not_worn _ c.in-Ended.is)) c.either-found.ensures c.in-Ended.is)
 
 pub returns-in-Ended-clause-headline : goal.returns-in-Ended-clause-headline
 returns-in-Ended-clause-headline g c told root over short same =
@@ -53,14 +53,14 @@ returns-in-Ended-clause-headline g c told root over short same =
     let counted = e.runs ∙ sym (ap (λ x. x.runs) e.cursor ∙ one_run_more c.loop-one.cursor c.in-Ok.begun ran.cursor ran.spent ran.files ran.end moved.0 c.in-Ok.ensures.same i.unended moved.1 _ i.counts) in
     let end = c.cycle_end-in-Ended.result in
     headline_of_part root (part_of c.args.part.now) (g.T.Tree.state c.args.store.now) (g.T.Tree.state c.run_part-reached.new.store)
-        (g.W.Write.contents c.args.out.now) (g.W.Write.contents c.run_part-reached.new.out) (map limits_of c.args.limits.now) end.cursor end.found end.end end.runs
+    (g.W.Write.contents c.args.out.now) (g.W.Write.contents c.run_part-reached.new.out) (map limits_of c.args.limits.now) end.cursor end.found end.end end.runs
     counted (returns-in-Ended-clause-told g c told root over short) same
 
 pub returns-in-Stopped-clause-any_store : goal.returns-in-Stopped-clause-any_store
 returns-in-Stopped-clause-any_store g c =
     let e = c.cycle_end-in-Stopped.ensures in
     let lines = λ (wrote : c.cycle_end-in-Stopped.result.end ≢ cycle.Stopped Output). lines_said _ _ _ _ e.found
-        (lines_then _ _ _ _ _ _ c.loop-one.invariant.lines (c.run_part-reached.ensures.any_store.lines (stopped_wrote _ _ _ c.in-Stopped.is e.end wrote)) c.either-found.ensures) in
+    (lines_then _ _ _ _ _ _ c.loop-one.invariant.lines (c.run_part-reached.ensures.any_store.lines (stopped_wrote _ _ _ c.in-Stopped.is e.end wrote)) c.either-found.ensures) in
     search (rules, lines)
 
 pub returns-in-Stopped-clause-told : goal.returns-in-Stopped-clause-told
@@ -69,7 +69,7 @@ returns-in-Stopped-clause-told g c told root over short =
     let next = limits_next c.args.limits.now c.loop-one.one-index c.one-item.result c.loop-one-test.true c.one-item.is in
     cycle_said root (part_of c.args.part.now) _ _ _ _ _ _ _ _ _ _ _ e.cursor e.found e.end
     (turn_stopped root (part_of c.args.part.now) _ _ _ _ _ _ _ _ (c.loop-one.invariant.told told root over short) _ _ _ _ _ _ _ next c.in-Ok.ensures.same
-        (λ reached. c.run_part-reached.ensures.told told root reached short (stopped_not_worn _ _ c.in-Stopped.is)) c.either-found.ensures _ c.in-Stopped.is)
+    (λ reached. c.run_part-reached.ensures.told told root reached short (stopped_not_worn _ _ c.in-Stopped.is)) c.either-found.ensures _ c.in-Stopped.is)
 
 pub loop-one-preserved : goal.loop-one-preserved
 loop-one-preserved g c =
@@ -90,7 +90,7 @@ loop-one-preserved g c =
       told = λ told root over short.
           let next = limits_next c.args.limits.now c.loop-one.one-index c.one-item.result c.loop-one-test.true c.one-item.is in
           turn_spent root (part_of c.args.part.now) _ _ _ _ _ _ _ _ (i.told told root over short) _ _ _ _ _ _ _ next c.in-Ok.ensures.same
-              (λ reached. c.run_part-reached.ensures.told told root reached short (spent_not_worn _ going)) c.either-found.ensures going;
+          (λ reached. c.run_part-reached.ensures.told told root reached short (spent_not_worn _ going)) c.either-found.ensures going;
     }
 
 pub returns-clause-told : goal.returns-clause-told
@@ -104,5 +104,5 @@ returns-clause-headline g c told root over short same =
     let e = c.cycle_end-2.ensures in
     let end = c.cycle_end-2.result in
     headline_of_part root (part_of c.args.part.now) (g.T.Tree.state c.args.store.now) (g.T.Tree.state c.loop-one.store) (g.W.Write.contents c.args.out.now)
-        (g.W.Write.contents c.loop-one.out) (map limits_of c.args.limits.now) end.cursor end.found end.end end.runs
+    (g.W.Write.contents c.loop-one.out) (map limits_of c.args.limits.now) end.cursor end.found end.end end.runs
     (e.runs ∙ sym (ap (λ x. x.runs) e.cursor ∙ c.loop-one.invariant.counts)) (returns-clause-told g c told root over short) same

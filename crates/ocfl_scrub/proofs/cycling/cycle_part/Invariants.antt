@@ -25,5 +25,5 @@ invariant-loop-one g l =
       lines : WritesLines (Write.contents l.fn.out) (Write.contents l.out) l.found;
       told : IsTrue Tree.told → (root : StorageRoot) → (Tree.state l.fn.store).tree ≡ root → HasShortFiles root →
           CycleGoes root (part_of l.fn.part) (Tree.state l.fn.store) (Tree.state l.store) (Write.contents l.fn.out) (Write.contents l.out)
-              (map limits_of (drop l.one-index l.limits)) (map limits_of l.limits) l.cursor l.found;
+          (map limits_of (drop l.one-index l.limits)) (map limits_of l.limits) l.cursor l.found;
     }

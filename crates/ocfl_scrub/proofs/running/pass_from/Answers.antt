@@ -38,7 +38,7 @@ loop-pending-preserved g c =
       paid = charged_item _ c.loop-pending.meter _ _ _ _ i.limits i.paid took.cost may c.charge.ensures.spent c.charge.ensures.files;
       told = λ told root over short.
           run_took (part_of c.args.part.now) i.way (i.told told root over short) _ _ (given.ensures.told told root) given.field-0-is given.ensures.before
-              (λ h. within_both _ c.loop-pending.meter i.limits (may h)) _ _ _ _ _ _ _ _ took.place
+          (λ h. within_both _ c.loop-pending.meter i.limits (may h)) _ _ _ _ _ _ _ _ took.place
           c.charge.ensures.spent c.charge.ensures.files c.either-found.ensures (λ u q. took.told told root u short q);
     }
 
@@ -55,9 +55,9 @@ returns-clause-told g c told root over short =
       | in-Ok-Some+then-not-paid w ↦ let unpaid = w.pays-paid.ensures.unpaid w.if-not-paid.true in
           rw (w.store-is, w.out-is, w.end-is)
           (run_spent (part_of c.args.part.now) i.way (i.told told root over short) _ c.next_within.new.self (w.in-Ok-Some.ensures.told told root)
-              w.in-Ok-Some.field-0-is w.in-Ok-Some.ensures.before unpaid.0 (not_within _ c.loop-pending.meter i.limits unpaid.1))
+          w.in-Ok-Some.field-0-is w.in-Ok-Some.ensures.before unpaid.0 (not_within _ c.loop-pending.meter i.limits unpaid.1))
       | in-Ok-Some+else-not-paid+in-Err-take_item w ↦ rw (w.store-is, w.out-is, w.end-is)
           (run_missed (part_of c.args.part.now) i.way (i.told told root over short) _ c.next_within.new.self (w.in-Ok-Some.ensures.told told root)
-              w.in-Ok-Some.field-0-is w.in-Ok-Some.ensures.before (λ h. within_both _ c.loop-pending.meter i.limits (w.pays-paid.ensures.paid w.if-not-paid.false h))
+          w.in-Ok-Some.field-0-is w.in-Ok-Some.ensures.before (λ h. within_both _ c.loop-pending.meter i.limits (w.pays-paid.ensures.paid w.if-not-paid.false h))
           _ _ _ (λ u q. w.in-Err-take_item.ensures.told told root u short q))
     ])

@@ -14,7 +14,7 @@ returns-in_err-add_below-clause-told g c = λ h root over l.
     let here = subst (λ x. is_listable root x ≡ true) (sym c.place-item.is) (l c.loop-place.place-index c.place-item.result c.loop-place-test.true) in
     let stops = c.in_err-add_below.ensures.told h root (over_after root _ _ _ so.lists) here in
     rw (p.1, p.2) (one_stops root (g.T.Tree.state c.args.store.now) (g.T.Tree.state c.loop-place.store) (g.T.Tree.state c.add_below.new.store) c.args.room
-        c.args.level.now c.loop-place.place-index c.place-item.result c.loop-place.next.items so c.loop-place-test.true c.place-item.is c.in_err-add_below.field-0.0 stops)
+    c.args.level.now c.loop-place.place-index c.place-item.result c.loop-place.next.items so c.loop-place-test.true c.place-item.is c.in_err-add_below.field-0.0 stops)
 
 pub returns-then-not-branch-clause-told : goal.returns-then-not-branch-clause-told
 returns-then-not-branch-clause-told g c = λ h root over l.
@@ -22,7 +22,7 @@ returns-then-not-branch-clause-told g c = λ h root over l.
     let here = subst (λ x. is_listable root x ≡ true) (sym c.place-item.is) (l c.loop-place.place-index c.place-item.result c.loop-place-test.true) in
     let adds = c.in_ok-add_below.ensures.told h root (over_after root _ _ _ so.lists) here in
     one_too_many root (g.T.Tree.state c.args.store.now) (g.T.Tree.state c.loop-place.store) (g.T.Tree.state c.add_below.new.store) c.args.room c.args.level.now
-        c.loop-place.place-index c.place-item.result c.loop-place.next.items so c.loop-place-test.true c.place-item.is adds.1 c.loop-place.invariant.few (adds.0.many c.if-not-branch.true)
+    c.loop-place.place-index c.place-item.result c.loop-place.next.items so c.loop-place-test.true c.place-item.is adds.1 c.loop-place.invariant.few (adds.0.many c.if-not-branch.true)
 
 pub loop-place-preserved : goal.loop-place-preserved
 loop-place-preserved g c =
@@ -37,8 +37,8 @@ loop-place-preserved g c =
           let here = subst (λ x. is_listable root x ≡ true) (sym c.place-item.is) (l c.loop-place.place-index c.place-item.result c.loop-place-test.true) in
           let adds = c.in_ok-add_below.ensures.told h root (over_after root _ _ _ so.lists) here in
           one_more root (g.T.Tree.state c.args.store.now) (g.T.Tree.state c.loop-place.store) (g.T.Tree.state c.add_below.new.store) c.args.room
-              c.args.level.now c.loop-place.place-index c.place-item.result c.loop-place.next.items so c.loop-place-test.true c.place-item.is
-              c.add_below.new.next.items adds.1 (adds.0.added c.if-not-branch.false) few;
+          c.args.level.now c.loop-place.place-index c.place-item.result c.loop-place.next.items so c.loop-place-test.true c.place-item.is
+          c.add_below.new.next.items adds.1 (adds.0.added c.if-not-branch.false) few;
     }
 
 pub returns-then-is_empty-clause-told : goal.returns-then-is_empty-clause-told

@@ -20,7 +20,7 @@ pub returns-then-len-count-clause-told : goal.returns-then-len-count-clause-told
 returns-then-len-count-clause-told g c = λ h root over.
     let enough : nat_le c.args.count (length c.loop-depth.level.items) ≡ true = le-leb c.args.count (length c.loop-depth.level.items) (omega (arith, c.len.ensures, c.loop-depth.level.ok.0, c.if-len-count.true)) in
     split_enough root c.args.count (g.T.Tree.state c.args.store.now) (g.T.Tree.state c.loop-depth.store) c.loop-depth.depth c.loop-depth.above.items
-        c.loop-depth.level.items (c.loop-depth.invariant.told h root over) enough
+    c.loop-depth.level.items (c.loop-depth.invariant.told h root over) enough
 
 pub returns-in_err-next-clause-told : goal.returns-in_err-next-clause-told
 returns-in_err-next-clause-told g c = λ h root over.
@@ -31,7 +31,7 @@ returns-in_err-next-clause-told g c = λ h root over.
     let can = subst (AreListable root) (sym c.deref.ensures.value) (can_list root c.args.count (g.T.Tree.state c.args.store.now) (g.T.Tree.state c.loop-depth.store) c.loop-depth.depth c.loop-depth.above.items c.loop-depth.level.items so c.loop-depth.invariant.fair c.loop-depth-test.true) in
     let stops = subst (λ xs. ListsStop root (g.T.Tree.state c.loop-depth.store) (g.T.Tree.state c.next_level.new.store) (listed_within root c.saturating_sub-room.result xs) c.in_err-next.field-0.0) c.deref.ensures.value (c.in_err-next.ensures.told h root (over_after root _ _ _ so.lists) can) in
     rw (p.1, p.2) (split_fails root c.args.count (g.T.Tree.state c.args.store.now) (g.T.Tree.state c.loop-depth.store) c.loop-depth.depth
-        c.loop-depth.above.items c.loop-depth.level.items so (g.T.Tree.state c.next_level.new.store) c.saturating_sub-room.result c.loop-depth-test.true few room c.in_err-next.field-0.0 stops)
+    c.loop-depth.above.items c.loop-depth.level.items so (g.T.Tree.state c.next_level.new.store) c.saturating_sub-room.result c.loop-depth-test.true few room c.in_err-next.field-0.0 stops)
 
 pub returns-in-None-clause-fair : goal.returns-in-None-clause-fair
 returns-in-None-clause-fair g c =
@@ -67,8 +67,8 @@ loop-depth-preserved g c =
           let k = subst (λ xs. (Some c.in-Some.next.items ≡ next_level root c.saturating_sub-room.result xs) × ListsAll root (g.T.Tree.state c.loop-depth.store) (g.T.Tree.state c.next_level.new.store) (listed_within root c.saturating_sub-room.result xs)) c.deref.ensures.value
           (rw c.in-Some.is at (c.in_ok-next.ensures.told h root (over_after root _ _ _ so.lists) can)) in
           split_on root c.args.count (g.T.Tree.state c.args.store.now) (g.T.Tree.state c.loop-depth.store) c.loop-depth.depth c.loop-depth.above.items
-              c.loop-depth.level.items so (g.T.Tree.state c.next_level.new.store) c.saturating_sub-room.result c.loop-depth-test.true few room
-              c.keep-above.result.items c.in-Some.next.items is k.0 k.1;
+          c.loop-depth.level.items so (g.T.Tree.state c.next_level.new.store) c.saturating_sub-room.result c.loop-depth-test.true few room
+          c.keep-above.result.items c.in-Some.next.items is k.0 k.1;
     }
 
 pub returns-clause-fair : goal.returns-clause-fair

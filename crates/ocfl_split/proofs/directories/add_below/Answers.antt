@@ -11,7 +11,7 @@ returns-in_err-folder-clause-told g c = λ h root over l.
     let p = err_from_is_err_and c.from_residual-in_err-folder.result c.from_residual-in_err-folder.ensures.1 in
     let stops = c.in_err-folder.ensures.told h root over (subst (λ x. is_listable root x ≡ true) (sym c.in_ok-try_clone.ensures) l) in
     rw (p.1, p.2) (listing_stops root (g.T.Tree.state c.args.store.now) (g.T.Tree.state c.list.new.store) c.args.place.now c.in_ok-try_clone.field-0
-        c.in_err-folder.field-0.0 c.in_ok-try_clone.ensures stops)
+    c.in_err-folder.field-0.0 c.in_ok-try_clone.ensures stops)
 
 pub returns-clause-fair : goal.returns-clause-fair
 returns-clause-fair g c = λ fits.
@@ -30,7 +30,7 @@ returns-clause-told g c = λ h root over l.
       adds_all root (g.T.Tree.state c.args.store.now) (g.T.Tree.state c.list.new.store) c.args.place.now c.in_ok-try_clone.field-0 c.in_ok-folder.folder.place
           c.in_ok-folder.folder.entries.items c.sort.new.entries.items
           c.args.room c.args.next.now.items c.add_among.new.next.items c.leads_on_from.result c.in_ok-add_among.field-0 c.in_ok-try_clone.ensures enters
-              c.in_ok-folder.ensures.ordinary (c.leads_on_from.ensures root) c.if-not-leads_on_from.false
+          c.in_ok-folder.ensures.ordinary (c.leads_on_from.ensures root) c.if-not-leads_on_from.false
           c.sort.ensures.permutation c.sort.ensures.sorted c.in_ok-add_among.ensures.added c.in_ok-add_among.ensures.many,
       entered root (g.T.Tree.state c.args.store.now) (g.T.Tree.state c.list.new.store) c.args.place.now c.in_ok-try_clone.field-0 c.in_ok-folder.folder.place
           c.in_ok-folder.folder.entries.items over c.in_ok-try_clone.ensures enters,

@@ -15,11 +15,11 @@ pub returns-in_default-clause-orderly : goal.returns-in_default-clause-orderly
 returns-in_default-clause-orderly g t c =
     let fair = c.sorted.ensures.fair c.requires.coming.ordinary in
     end_orderly c.args.folder.place _ (folders_from 0 (spot_of c.args.stand.now.last) c.args.stand.now.listings.items)
-        (folders_from 0 (spot_of c.args.stand.now.last) c.push.new.self.items) c.args.stand.now.around c.requires.coming
-        (kept_at c.args.stand.now.last c.args.stand.now.listings.items c.sorted.result.entries)
-        (folders_push (spot_of c.args.stand.now.last) c.args.stand.now.listings.items c.push.new.self.items c.sorted.result.entries c.push.ensures.items)
-        (kept_place c.args.stand.now.last c.args.stand.now.listings.items c.sorted.result.entries c.args.folder.place c.args.names.now c.requires.way
-        c.requires.depth) c.args.names.now (rw c.in_default.is at c.split_first.ensures.cases) fair.0 fair.1
+    (folders_from 0 (spot_of c.args.stand.now.last) c.push.new.self.items) c.args.stand.now.around c.requires.coming
+    (kept_at c.args.stand.now.last c.args.stand.now.listings.items c.sorted.result.entries)
+    (folders_push (spot_of c.args.stand.now.last) c.args.stand.now.listings.items c.push.new.self.items c.sorted.result.entries c.push.ensures.items)
+    (kept_place c.args.stand.now.last c.args.stand.now.listings.items c.sorted.result.entries c.args.folder.place c.args.names.now c.requires.way
+    c.requires.depth) c.args.names.now (rw c.in_default.is at c.split_first.ensures.cases) fair.0 fair.1
 
 pub returns-in_default-clause-told : goal.returns-in_default-clause-told
 returns-in_default-clause-told g t c = λ h root over at part.
@@ -38,7 +38,7 @@ returns-in_err-inner-clause-told g t c = λ h root over at part.
     let parts = rw c.in-Some.is at c.split_first.ensures.cases in
     let p = err_from_is_err_and c.from_residual.result c.from_residual.ensures.1 in
     rw (p.1, p.2) (came_fails root (g.T.Tree.state c.args.store.now) (g.T.Tree.state c.down.new.store) c.args.folder.place c.args.names.now c.in-Some.rest.now
-        c.in-Some.name.now c.args.stand.now.around c.down.new.object _ parts.0 (c.in_err-inner.ensures.told h root over at part c.in-Some.rest.now))
+    c.in-Some.name.now c.args.stand.now.around c.down.new.object _ parts.0 (c.in_err-inner.ensures.told h root over at part c.in-Some.rest.now))
 
 pub push-requires : goal.push-requires
 push-requires g t c =
@@ -59,11 +59,11 @@ go_down-requires g t c =
     let way = rw c.in-Some-inner.is at c.in_ok-inner.ensures.fair in
     let coming : IsComing c.in-Some-inner.inner.place c.in-Some-inner.inner.entries.items (piles_in c.args.stand.now.last c.push-2.new.self.items) c.down.new.object =
     coming_next c.args.folder.place _ (folders_from 0 (spot_of c.args.stand.now.last) c.args.stand.now.listings.items)
-        (folders_from 0 (spot_of c.args.stand.now.last) c.push-2.new.self.items) c.args.stand.now.around c.requires.coming
-        (kept_at c.args.stand.now.last c.args.stand.now.listings.items c.keep_above.new.entries)
-        (folders_push (spot_of c.args.stand.now.last) c.args.stand.now.listings.items c.push-2.new.self.items c.keep_above.new.entries c.push-2.ensures.items)
-        (kept_place c.args.stand.now.last c.args.stand.now.listings.items c.keep_above.new.entries c.args.folder.place c.args.names.now c.requires.way
-        c.requires.depth) c.in-Some.name.now _ c.keep_above.ensures fair.0 fair.1
+    (folders_from 0 (spot_of c.args.stand.now.last) c.push-2.new.self.items) c.args.stand.now.around c.requires.coming
+    (kept_at c.args.stand.now.last c.args.stand.now.listings.items c.keep_above.new.entries)
+    (folders_push (spot_of c.args.stand.now.last) c.args.stand.now.listings.items c.push-2.new.self.items c.keep_above.new.entries c.push-2.ensures.items)
+    (kept_place c.args.stand.now.last c.args.stand.now.listings.items c.keep_above.new.entries c.args.folder.place c.args.names.now c.requires.way
+    c.requires.depth) c.in-Some.name.now _ c.keep_above.ensures fair.0 fair.1
     c.in-Some-inner.inner c.down.new.object way.0 way.1 in
     let d = c.args.folder.place in
     let last : c.args.stand.now.last ≡ Some (c.in-Some-inner.inner.place ++ c.in-Some.rest.now) =
@@ -79,24 +79,24 @@ returns-in-Some-inner-clause-told g t c = λ h root over at part.
     let told = c.sorted-left.ensures.told root c.requires.coming.ordinary at.listing in
     let leads = rw c.in-Some-inner.is at c.in_ok-inner.ensures.told h root over at part c.in-Some.rest.now in
     came_on root c.args.folder.place _ (folders_from 0 (spot_of c.args.stand.now.last) c.args.stand.now.listings.items)
-        (folders_from 0 (spot_of c.args.stand.now.last) c.push-2.new.self.items)
-        (kept_at c.args.stand.now.last c.args.stand.now.listings.items c.keep_above.new.entries)
-        (folders_push (spot_of c.args.stand.now.last) c.args.stand.now.listings.items c.push-2.new.self.items c.keep_above.new.entries c.push-2.ensures.items)
-        (kept_place c.args.stand.now.last c.args.stand.now.listings.items c.keep_above.new.entries c.args.folder.place c.args.names.now c.requires.way
-        c.requires.depth) at c.in-Some.name.now _ c.keep_above.ensures told.0 told.1
+    (folders_from 0 (spot_of c.args.stand.now.last) c.push-2.new.self.items)
+    (kept_at c.args.stand.now.last c.args.stand.now.listings.items c.keep_above.new.entries)
+    (folders_push (spot_of c.args.stand.now.last) c.args.stand.now.listings.items c.push-2.new.self.items c.keep_above.new.entries c.push-2.ensures.items)
+    (kept_place c.args.stand.now.last c.args.stand.now.listings.items c.keep_above.new.entries c.args.folder.place c.args.names.now c.requires.way
+    c.requires.depth) at c.in-Some.name.now _ c.keep_above.ensures told.0 told.1
     (g.T.Tree.state c.args.store.now) (g.T.Tree.state c.down.new.store) c.in-Some.rest.now c.args.names.now parts.0 c.args.stand.now.around c.down.new.object
-        (g.T.Tree.state c.go_down.new.store) c.in-Some-inner.inner (folders_from 0 (spot_of c.go_down.new.stand.last) c.go_down.new.stand.listings.items)
-        c.go_down.new.stand.around leads c.go_down.result
+    (g.T.Tree.state c.go_down.new.store) c.in-Some-inner.inner (folders_from 0 (spot_of c.go_down.new.stand.last) c.go_down.new.stand.listings.items)
+    c.go_down.new.stand.around leads c.go_down.result
     (c.go_down.ensures.told h root (leads.gives.0.calls.did.tree ∙ over)
-        (subst (λ e. IsAt root e c.in-Some-inner.inner.entries.items) (sym leads.gives.1.place) leads.gives.1.here)
-        (subst (λ e. IsPart root e c.down.new.object) (sym leads.gives.1.place) leads.gives.1.part))
+    (subst (λ e. IsAt root e c.in-Some-inner.inner.entries.items) (sym leads.gives.1.place) leads.gives.1.here)
+    (subst (λ e. IsPart root e c.down.new.object) (sym leads.gives.1.place) leads.gives.1.part))
 
 pub returns-in-Some-inner-clause-orderly : goal.returns-in-Some-inner-clause-orderly
 returns-in-Some-inner-clause-orderly g t c =
     let parts = rw c.in-Some.is at c.split_first.ensures.cases in
     let way = rw c.in-Some-inner.is at c.in_ok-inner.ensures.fair in
     orderly_at c.args.folder.place c.in-Some-inner.inner.place c.in-Some.rest.now c.args.names.now c.in-Some.name.now
-        (piles_in c.go_down.new.stand.last c.go_down.new.stand.listings.items) c.go_down.new.stand.around c.go_down.result way.0.place parts.0 c.go_down.ensures.orderly
+    (piles_in c.go_down.new.stand.last c.go_down.new.stand.listings.items) c.go_down.new.stand.around c.go_down.result way.0.place parts.0 c.go_down.ensures.orderly
 
 pub returns-clause-orderly : goal.returns-clause-orderly
 returns-clause-orderly g t c =
@@ -104,11 +104,11 @@ returns-clause-orderly g t c =
     let fair = c.sorted-left.ensures.fair c.requires.coming.ordinary in
     let same = rw c.in-None.is at c.in_ok-inner.ensures.fair in
     stop_orderly c.args.folder.place _ (folders_from 0 (spot_of c.args.stand.now.last) c.args.stand.now.listings.items)
-        (folders_from 0 (spot_of c.args.stand.now.last) c.push-2.new.self.items) c.args.stand.now.around c.requires.coming
-        (kept_at c.args.stand.now.last c.args.stand.now.listings.items c.keep_above.new.entries)
-        (folders_push (spot_of c.args.stand.now.last) c.args.stand.now.listings.items c.push-2.new.self.items c.keep_above.new.entries c.push-2.ensures.items)
-        (kept_place c.args.stand.now.last c.args.stand.now.listings.items c.keep_above.new.entries c.args.folder.place c.args.names.now c.requires.way
-        c.requires.depth) c.in-Some.name.now _ c.keep_above.ensures fair.0 fair.1
+    (folders_from 0 (spot_of c.args.stand.now.last) c.push-2.new.self.items) c.args.stand.now.around c.requires.coming
+    (kept_at c.args.stand.now.last c.args.stand.now.listings.items c.keep_above.new.entries)
+    (folders_push (spot_of c.args.stand.now.last) c.args.stand.now.listings.items c.push-2.new.self.items c.keep_above.new.entries c.push-2.ensures.items)
+    (kept_place c.args.stand.now.last c.args.stand.now.listings.items c.keep_above.new.entries c.args.folder.place c.args.names.now c.requires.way
+    c.requires.depth) c.in-Some.name.now _ c.keep_above.ensures fair.0 fair.1
     c.in-Some.rest.now c.args.names.now c.down.new.object parts.0 same
 
 pub returns-clause-told : goal.returns-clause-told
@@ -117,9 +117,9 @@ returns-clause-told g t c = λ h root over at part.
     let told = c.sorted-left.ensures.told root c.requires.coming.ordinary at.listing in
     let leads = rw c.in-None.is at c.in_ok-inner.ensures.told h root over at part c.in-Some.rest.now in
     came_stop root c.args.folder.place _ (folders_from 0 (spot_of c.args.stand.now.last) c.args.stand.now.listings.items)
-        (folders_from 0 (spot_of c.args.stand.now.last) c.push-2.new.self.items)
-        (kept_at c.args.stand.now.last c.args.stand.now.listings.items c.keep_above.new.entries)
-        (folders_push (spot_of c.args.stand.now.last) c.args.stand.now.listings.items c.push-2.new.self.items c.keep_above.new.entries c.push-2.ensures.items)
-        (kept_place c.args.stand.now.last c.args.stand.now.listings.items c.keep_above.new.entries c.args.folder.place c.args.names.now c.requires.way
-        c.requires.depth) at c.in-Some.name.now _ c.keep_above.ensures told.0 told.1
+    (folders_from 0 (spot_of c.args.stand.now.last) c.push-2.new.self.items)
+    (kept_at c.args.stand.now.last c.args.stand.now.listings.items c.keep_above.new.entries)
+    (folders_push (spot_of c.args.stand.now.last) c.args.stand.now.listings.items c.push-2.new.self.items c.keep_above.new.entries c.push-2.ensures.items)
+    (kept_place c.args.stand.now.last c.args.stand.now.listings.items c.keep_above.new.entries c.args.folder.place c.args.names.now c.requires.way
+    c.requires.depth) at c.in-Some.name.now _ c.keep_above.ensures told.0 told.1
     (g.T.Tree.state c.args.store.now) (g.T.Tree.state c.down.new.store) c.in-Some.rest.now c.args.names.now parts.0 c.args.stand.now.around c.down.new.object leads

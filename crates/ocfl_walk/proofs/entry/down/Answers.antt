@@ -10,13 +10,13 @@ pub returns-then-not-leads_on-clause-told : goal.returns-then-not-leads_on-claus
 returns-then-not-leads_on-clause-told g c = λ h root over at part r.
     leads_shut root (g.T.Tree.state c.args.store.now) (g.T.Tree.state c.args.store.now) c.args.folder.now.place c.args.name.now r c.args.object.now over (did_nothing _)
     (shut_off root c.args.folder.now.place c.args.name.now r c.args.object.now part
-        (subst (LeadsOn root c.args.folder.now.place c.args.name.now c.args.object.now) c.if-not-leads_on.true (c.leads_on.ensures root at)))
+    (subst (LeadsOn root c.args.folder.now.place c.args.name.now c.args.object.now) c.if-not-leads_on.true (c.leads_on.ensures root at)))
 
 pub returns-in_err-inner-clause-told : goal.returns-in_err-inner-clause-told
 returns-in_err-inner-clause-told g c = λ h root over at part r.
     let p = err_from_is_err_and c.from_residual.result c.from_residual.ensures.1 in
     rw (p.1, p.2) (leads_stop root (g.T.Tree.state c.args.store.now) (g.T.Tree.state c.listed.new.store) c.args.folder.now.place c.args.name.now r
-        c.args.object.now c.args.object.now _ (c.in_err-inner.ensures.told h root over at.listing))
+    c.args.object.now c.args.object.now _ (c.in_err-inner.ensures.told h root over at.listing))
 
 pub returns-in_default-clause-told : goal.returns-in_default-clause-told
 returns-in_default-clause-told g c = λ h root over at part r.
@@ -35,4 +35,4 @@ returns-in-Some-object-clause-told g c = λ h root over at part r.
     let k = rw c.in-Some.is at c.in_ok-inner.ensures.told h root over at.listing in
     leads_in root (g.T.Tree.state c.args.store.now) (g.T.Tree.state c.listed.new.store) c.args.folder.now.place c.args.name.now r c.args.object.now over c.in-Some.inner k.did
     (in_object root c.args.folder.now.place c.args.name.now c.args.object.now _ c.in-Some-object.is part
-        (subst (LeadsOn root c.args.folder.now.place c.args.name.now c.args.object.now) c.if-not-leads_on.false (c.leads_on.ensures root at)) _ _ _ c.in-Some.inner at k)
+    (subst (LeadsOn root c.args.folder.now.place c.args.name.now c.args.object.now) c.if-not-leads_on.false (c.leads_on.ensures root at)) _ _ _ c.in-Some.inner at k)

@@ -15,7 +15,7 @@ go_down-requires g c =
     record {
       coming = subst (λ a. IsComing c.in-Some.base.place c.in-Some.base.entries.items (piles_in stand.last stand.listings.items) a) (sym c.requires.around)
           (coming_root c.in-Some.base.place c.in-Some.base.entries.items (folders_from 0 (spot_of stand.last) stand.listings.items) base.place
-              (folders_none (spot_of stand.last) stand.listings.items c.requires.listings) base.entries);
+          (folders_none (spot_of stand.last) stand.listings.items c.requires.listings) base.entries);
       way = c.requires.last ∙ ap (λ x. Some x) (sym names ∙ ap (λ d. d ++ c.deref.result.now) (sym base.place));
       depth = ap length c.requires.listings ∙ sym (ap length base.place);
     }
@@ -47,13 +47,13 @@ returns-clause-orderly g c =
     let base = rw c.in-Some.is at c.in_ok-base.ensures.fair in
     let stand = c.go_down.new.stand in
     orderly_brought c.go_down.result stand.last c.args.after.now c.in-Some.base.place c.deref.result.now (piles_in stand.last stand.listings.items) stand.around
-        (c.go_down.ensures.last ∙ c.requires.last) base.place (c.deref.ensures.value ∙ c.in_ok-names.ensures) c.go_down.ensures.orderly
+    (c.go_down.ensures.last ∙ c.requires.last) base.place (c.deref.ensures.value ∙ c.in_ok-names.ensures) c.go_down.ensures.orderly
 
 pub returns-clause-told : goal.returns-clause-told
 returns-clause-told g c = λ h root over.
     let k = (rw c.in-Some.is at c.in_ok-base.ensures.told h root over).gives in
     let base = rw c.in-Some.is at c.in_ok-base.ensures.fair in
     start_goes root (g.T.Tree.state c.args.store.now) (g.T.Tree.state c.known_root.new.store) c.args.after.now over k.0 (g.T.Tree.state c.go_down.new.store)
-        c.in-Some.base.place c.deref.result.now base.place (c.deref.ensures.value ∙ c.in_ok-names.ensures) c.args.stand.now c.go_down.new.stand
-        c.requires.listings c.requires.around (c.go_down.ensures.last ∙ c.requires.last) c.go_down.result
+    c.in-Some.base.place c.deref.result.now base.place (c.deref.ensures.value ∙ c.in_ok-names.ensures) c.args.stand.now c.go_down.new.stand
+    c.requires.listings c.requires.around (c.go_down.ensures.last ∙ c.requires.last) c.go_down.result
     (c.go_down.ensures.told h root (k.0.tree ∙ over) k.1.here (subst (IsPart root c.in-Some.base.place) (sym c.requires.around) k.1.zone))

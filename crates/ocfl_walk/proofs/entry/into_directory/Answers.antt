@@ -13,7 +13,7 @@ pub returns-in_err-around-in-One-clause-told : goal.returns-in_err-around-in-One
 returns-in_err-around-in-One-clause-told g c = λ h root over s d n k r.
     let p = err_from_is_err_and c.from_residual.result c.from_residual.ensures.1 in
     rw (p.1, p.2) (hier_fails root s (g.T.Tree.state c.args.store.now) d n c.args.inner k r c.args.object.now c.requires _ _ c.deref.ensures.value
-        c.declaration.ensures.declared c.declaration.ensures.unknown c.in-One.field-0 c.in-One.is (g.T.Tree.state c.opened.new.store) _ (c.in_err-around-in-One.ensures.told h root over))
+    c.declaration.ensures.declared c.declaration.ensures.unknown c.in-One.field-0 c.in-One.is (g.T.Tree.state c.opened.new.store) _ (c.in_err-around-in-One.ensures.told h root over))
 
 pub returns-in_default-clause-told : goal.returns-in_default-clause-told
 returns-in_default-clause-told g c =
@@ -32,4 +32,4 @@ returns-in-Some-clause-told g c =
 pub returns-in-Unknown-clause-told : goal.returns-in-Unknown-clause-told
 returns-in-Unknown-clause-told g c = λ h root over s d n k r.
     hier_stopped root s (g.T.Tree.state c.args.store.now) d n c.args.inner k r c.args.object.now c.requires _ _ c.deref.ensures.value
-        c.declaration.ensures.declared c.declaration.ensures.unknown c.in-Unknown.is
+    c.declaration.ensures.declared c.declaration.ensures.unknown c.in-Unknown.is

@@ -8,7 +8,7 @@ pub returns-in_err-base-clause-told : goal.returns-in_err-base-clause-told
 returns-in_err-base-clause-told g c = λ h root over.
     let p = err_from_is_err_and c.from_residual.result c.from_residual.ensures.1 in
     rw (p.1, p.2) (root_stops root (g.T.Tree.state c.args.store.now) (g.T.Tree.state c.list.new.store) c.root.result _ c.root.ensures
-        (c.in_err-base.ensures.told h root over (root_listable root _ c.root.ensures)))
+    (c.in_err-base.ensures.told h root over (root_listable root _ c.root.ensures)))
 
 pub returns-in_default-clause-told : goal.returns-in_default-clause-told
 returns-in_default-clause-told g c = λ h root over.

@@ -28,7 +28,7 @@ returns c =
       λ t.
           let same : c.saturating_sub.result ≡ c.min.result = eqb-true _ _ t in
           next_is c.args.last.now c.args.place.now (names_of c.in-Some-split_last.directory.now) c.in-Some-split_last.name.now c.in-Some.entry.now.name
-              c.in-Some.names c.in-Some-split_last.ensures.0 _ (c.in-Some.ensures c.args.last.now)
+          c.in-Some.names c.in-Some-split_last.ensures.0 _ (c.in-Some.ensures c.args.last.now)
           named (sym c.if-not-starts_with_path.ensures) (omega arith),
       λ e.
           let fits = next_fits c.args.last.now c.args.place.now (names_of c.in-Some-split_last.directory.now) c.in-Some-split_last.name.now c.in-Some.entry.now.name c.in-Some.names c.in-Some-split_last.ensures.0 _ (c.in-Some.ensures c.args.last.now) e in

@@ -9,7 +9,7 @@ use Rattle.ocfl_tree.proofs.mem_tree.MemTreeTree.read.Goals as goal
 pub returns-then-can_fail-clause-reads : goal.returns-then-can_fail-clause-reads
 returns-then-can_fail-clause-reads c =
     rw (← c.self.view_is, c.device_failed.ensures.trouble, c.device_failed.ensures.counted)
-        (read_breaks c.self.inside.nodes.items c.self.inside.open c.in-Some.open _ _ _ _ _ _ c.self.inside.plan c.self.inside.plan c.in-Some.is c.self.invariant.reading c.note_failure.ensures)
+    (read_breaks c.self.inside.nodes.items c.self.inside.open c.in-Some.open _ _ _ _ _ _ c.self.inside.plan c.self.inside.plan c.in-Some.is c.self.invariant.reading c.note_failure.ensures)
 
 pub returns-then-can_fail-clause-device : goal.returns-then-can_fail-clause-device
 returns-then-can_fail-clause-device c =
@@ -30,5 +30,5 @@ returns-clause-reads c =
     c.bytes.ensures ∙ ap bytes_in (sym (leaf_at_item _ _ _ file.index c.index.ensures)) in
     let left = rest_slice c.in-Some.open.offset c.bytes.result.now ∙ ap (drop c.in-Some.open.offset) bytes in
     rw (← c.self.view_is) (reads_seen c.self.inside.nodes.items c.self.inside.open c.in-Some.open _ _ _ _ _ _ c.within_step-count.result _ c.self.inside.plan
-        c.self.inside.plan _ (take (length c.bytes.result.now - c.in-Some.open.offset) (drop c.in-Some.open.offset c.bytes.result.now)) c.in-Some.is
-        c.self.invariant.reading left (omega (arith, c.within_step-count.ensures.within)) (λ h k. c.within_step-count.ensures.some (omega arith)) c.give.ensures c.note_given.ensures)
+    c.self.inside.plan _ (take (length c.bytes.result.now - c.in-Some.open.offset) (drop c.in-Some.open.offset c.bytes.result.now)) c.in-Some.is
+    c.self.invariant.reading left (omega (arith, c.within_step-count.ensures.within)) (λ h k. c.within_step-count.ensures.some (omega arith)) c.give.ensures c.note_given.ensures)

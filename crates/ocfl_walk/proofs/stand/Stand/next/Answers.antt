@@ -14,7 +14,7 @@ pub returns-in_err-item-clause-told : goal.returns-in_err-item-clause-told
 returns-in_err-item-clause-told g c = λ h root over last st.
     let p = err_from_is_err_and c.from_residual.result c.from_residual.ensures.1 in
     rw (p.1, p.2) (so_far_fails root (g.T.Tree.state c.args.store.now) (g.T.Tree.state c.loop-item.store) (g.T.Tree.state c.step.new.store) last c.args.end.now
-        c.loop-item.self c.step.new.self over (c.loop-item.invariant.told h root over last st) _ (c.in_err-item.ensures.told h root))
+    c.loop-item.self c.step.new.self over (c.loop-item.invariant.told h root over last st) _ (c.in_err-item.ensures.told h root))
 
 pub returns-in-Item-clause-goes_on : goal.returns-in-Item-clause-goes_on
 returns-in-Item-clause-goes_on g c =
@@ -24,12 +24,12 @@ returns-in-Item-clause-goes_on g c =
 pub returns-in-Item-clause-told : goal.returns-in-Item-clause-told
 returns-in-Item-clause-told g c = λ h root over last st.
     so_far_item root (g.T.Tree.state c.args.store.now) (g.T.Tree.state c.loop-item.store) (g.T.Tree.state c.step.new.store) last c.args.end.now c.loop-item.self
-        c.step.new.self over (c.loop-item.invariant.told h root over last st) _ (c.in_ok-item.ensures.told h root) c.in-Item.item c.in-Item.is
+    c.step.new.self over (c.loop-item.invariant.told h root over last st) _ (c.in_ok-item.ensures.told h root) c.in-Item.item c.in-Item.is
 
 pub returns-in-End-clause-told : goal.returns-in-End-clause-told
 returns-in-End-clause-told g c = λ h root over last st.
     so_far_end root (g.T.Tree.state c.args.store.now) (g.T.Tree.state c.loop-item.store) (g.T.Tree.state c.step.new.store) last c.args.end.now c.loop-item.self
-        c.step.new.self over (c.loop-item.invariant.told h root over last st) _ (c.in_ok-item.ensures.told h root) c.in-End.is
+    c.step.new.self over (c.loop-item.invariant.told h root over last st) _ (c.in_ok-item.ensures.told h root) c.in-End.is
 
 pub loop-item-preserved : goal.loop-item-preserved
 loop-item-preserved g c = record {

@@ -59,13 +59,13 @@ returns-in-Base-clause-told g c = λ h root over last st.
     at_first root c.args.self.now (λ l. StepsOutTo root (g.T.Tree.state c.args.store.now) (g.T.Tree.state c.take_base.new.store) l c.args.end.now c.take_base.new.self c.take_base.result) last st
     (chosen_base c.args.self.now.last _ c.args.self.now.around c.in_ok-turn.turn c.in_ok-turn.ensures.base c.in_ok-turn.ensures.next kept.0)
     (steps_out_to root (g.T.Tree.state c.args.store.now) (g.T.Tree.state c.take_base.new.store) None c.args.end.now [] c.take_base.new.self c.take_base.result
-        c.take_base.ensures.there tt kept.1 (c.take_base.ensures.told h root over))
+    c.take_base.ensures.there tt kept.1 (c.take_base.ensures.told h root over))
 
 pub returns-in-Base-clause-before : goal.returns-in-Base-clause-before
 returns-in-Base-clause-before g c =
     let mid : Stand = record { listings = c.drop_empty.new.listings; around = c.args.self.now.around; last = c.args.self.now.last } in
     stands_before c.args.end.now mid c.take_base.new.self []
-        (kept_turn c.args.end.now c.in_ok-turn.turn turn.Base (sym c.in-Base.is ∙ c.unless_past.ensures) (λ e. cc)).1 c.take_base.result c.take_base.ensures.goes_on c.take_base.ensures.there
+    (kept_turn c.args.end.now c.in_ok-turn.turn turn.Base (sym c.in-Base.is ∙ c.unless_past.ensures) (λ e. cc)).1 c.take_base.result c.take_base.ensures.goes_on c.take_base.ensures.there
 
 pub returns-in-Entry-clause-goes_on : goal.returns-in-Entry-clause-goes_on
 returns-in-Entry-clause-goes_on g c =
@@ -75,17 +75,17 @@ pub returns-in-Entry-clause-told : goal.returns-in-Entry-clause-told
 returns-in-Entry-clause-told g c = λ h root over last st.
     let kept = (kept_turn c.args.end.now c.in_ok-turn.turn (turn.Entry c.in-Entry.place) (sym c.in-Entry.is ∙ c.unless_past.ensures) (λ e. cc)) in
     by_turn root c.args.self.now c.drop_empty.new.listings (c.drop_empty.ensures (spot_of c.args.self.now.last)) c.in_ok-turn.turn (turn.Entry c.in-Entry.place)
-        kept.0 (λ e. cc) c.in_ok-turn.ensures.base c.in_ok-turn.ensures.next c.requires
-        (λ l. StepsOutTo root (g.T.Tree.state c.args.store.now) (g.T.Tree.state c.take_entry.new.store) l c.args.end.now c.take_entry.new.self c.take_entry.result) last st
+    kept.0 (λ e. cc) c.in_ok-turn.ensures.base c.in_ok-turn.ensures.next c.requires
+    (λ l. StepsOutTo root (g.T.Tree.state c.args.store.now) (g.T.Tree.state c.take_entry.new.store) l c.args.end.now c.take_entry.new.self c.take_entry.result) last st
     (λ p f is go. steps_out_to root (g.T.Tree.state c.args.store.now) (g.T.Tree.state c.take_entry.new.store) (Some p) c.args.end.now c.in-Entry.place
-        c.take_entry.new.self c.take_entry.result c.take_entry.ensures.there go.above kept.1 (c.take_entry.ensures.told h root over p p f (held root p _ _ is) go))
+    c.take_entry.new.self c.take_entry.result c.take_entry.ensures.there go.above kept.1 (c.take_entry.ensures.told h root over p p f (held root p _ _ is) go))
 
 pub returns-in-Entry-clause-before : goal.returns-in-Entry-clause-before
 returns-in-Entry-clause-before g c =
     let mid : Stand = record { listings = c.drop_empty.new.listings; around = c.args.self.now.around; last = c.args.self.now.last } in
     stands_before c.args.end.now mid c.take_entry.new.self c.in-Entry.place
-        (kept_turn c.args.end.now c.in_ok-turn.turn (turn.Entry c.in-Entry.place) (sym c.in-Entry.is ∙ c.unless_past.ensures) (λ e. cc)).1 c.take_entry.result
-        c.take_entry.ensures.goes_on c.take_entry.ensures.there
+    (kept_turn c.args.end.now c.in_ok-turn.turn (turn.Entry c.in-Entry.place) (sym c.in-Entry.is ∙ c.unless_past.ensures) (λ e. cc)).1 c.take_entry.result
+    c.take_entry.ensures.goes_on c.take_entry.ensures.there
 
 pub returns-in-Path-clause-goes_on : goal.returns-in-Path-clause-goes_on
 returns-in-Path-clause-goes_on g c =
@@ -102,19 +102,19 @@ returns-in-Path-clause-told g c = λ h root over last st.
     let kept = (kept_turn c.args.end.now c.in_ok-turn.turn (turn.Path c.in-Path.place) (sym c.in-Path.is ∙ c.unless_past.ensures) (λ e. cc)) in
     let next = chosen_path c.args.self.now.last _ c.args.self.now.around c.in_ok-turn.turn c.in_ok-turn.ensures.base c.in_ok-turn.ensures.next c.in-Path.place kept.0 in
     by_turn root c.args.self.now c.drop_empty.new.listings (c.drop_empty.ensures (spot_of c.args.self.now.last)) c.in_ok-turn.turn (turn.Path c.in-Path.place)
-        kept.0 (λ e. cc) c.in_ok-turn.ensures.base c.in_ok-turn.ensures.next c.requires
-        (λ l. StepsOutTo root (g.T.Tree.state c.args.store.now) (g.T.Tree.state c.args.store.now) l c.args.end.now c.take_missing.new.self c.take_missing.result) last st
+    kept.0 (λ e. cc) c.in_ok-turn.ensures.base c.in_ok-turn.ensures.next c.requires
+    (λ l. StepsOutTo root (g.T.Tree.state c.args.store.now) (g.T.Tree.state c.args.store.now) l c.args.end.now c.take_missing.new.self c.take_missing.result) last st
     (λ p f is go.
     let there = held root c.in-Path.place _ _ (path_stands root p c.in-Path.place _ _ is go.0 (next p f).0) in
     steps_out_to root (g.T.Tree.state c.args.store.now) (g.T.Tree.state c.args.store.now) (Some p) c.args.end.now c.in-Path.place c.take_missing.new.self
-        c.take_missing.result c.take_missing.ensures.there go.0.above kept.1 (c.take_missing.ensures.told (g.T.Tree.state c.args.store.now) root over p there go.0 go.1))
+    c.take_missing.result c.take_missing.ensures.there go.0.above kept.1 (c.take_missing.ensures.told (g.T.Tree.state c.args.store.now) root over p there go.0 go.1))
 
 pub returns-in-Path-clause-before : goal.returns-in-Path-clause-before
 returns-in-Path-clause-before g c =
     let mid : Stand = record { listings = c.drop_empty.new.listings; around = c.args.self.now.around; last = c.args.self.now.last } in
     stays_before c.args.end.now mid c.take_missing.new.self c.in-Path.place
-        (kept_turn c.args.end.now c.in_ok-turn.turn (turn.Path c.in-Path.place) (sym c.in-Path.is ∙ c.unless_past.ensures) (λ e. cc)).1 c.take_missing.result
-        c.take_missing.ensures.goes_on c.take_missing.ensures.there
+    (kept_turn c.args.end.now c.in_ok-turn.turn (turn.Path c.in-Path.place) (sym c.in-Path.is ∙ c.unless_past.ensures) (λ e. cc)).1 c.take_missing.result
+    c.take_missing.ensures.goes_on c.take_missing.ensures.there
 
 pub returns-in-End-clause-orderly : goal.returns-in-End-clause-orderly
 returns-in-End-clause-orderly g c = mid_orderly _ _ c.args.self.now.around (c.drop_empty.ensures (spot_of c.args.self.now.last)) c.args.self.now.last c.requires
@@ -122,4 +122,4 @@ returns-in-End-clause-orderly g c = mid_orderly _ _ c.args.self.now.around (c.dr
 pub returns-in-End-clause-told : goal.returns-in-End-clause-told
 returns-in-End-clause-told g c = λ h root over last st.
     ends_here root c.args.self.now c.drop_empty.new.listings (c.drop_empty.ensures (spot_of c.args.self.now.last)) c.in_ok-turn.turn c.in_ok-turn.ensures.base
-        c.in_ok-turn.ensures.next c.requires c.args.end.now (sym c.in-End.is ∙ c.unless_past.ensures) (g.T.Tree.state c.args.store.now) over last st
+    c.in_ok-turn.ensures.next c.requires c.args.end.now (sym c.in-End.is ∙ c.unless_past.ensures) (g.T.Tree.state c.args.store.now) over last st

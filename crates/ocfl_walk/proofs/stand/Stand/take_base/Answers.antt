@@ -21,17 +21,17 @@ returns-clause-orderly g c = base_orderly c.args.self.now c.requires.orderly c.r
 pub returns-clause-goes_on : goal.returns-clause-goes_on
 returns-clause-goes_on g c =
     base_goes_on c.args.self.now c.requires.orderly c.requires.first c.push_if.new.listings c.root.result c.sorted_if.result c.root.ensures
-        (c.sorted_if.ensures.fair [] c.in_ok-item.ensures.fair.folder) c.push_if.ensures c.in_ok-item.field-0.item c.step_of.result c.step_of.ensures c.in_ok-item.ensures.fair.item
+    (c.sorted_if.ensures.fair [] c.in_ok-item.ensures.fair.folder) c.push_if.ensures c.in_ok-item.field-0.item c.step_of.result c.step_of.ensures c.in_ok-item.ensures.fair.item
 
 pub returns-clause-there : goal.returns-clause-there
 returns-clause-there g c =
     base_there c.args.self.now c.requires.orderly c.requires.first c.push_if.new.listings c.root.result c.sorted_if.result c.root.ensures
-        (c.sorted_if.ensures.fair [] c.in_ok-item.ensures.fair.folder) c.push_if.ensures c.in_ok-item.field-0.item c.step_of.result c.step_of.ensures
+    (c.sorted_if.ensures.fair [] c.in_ok-item.ensures.fair.folder) c.push_if.ensures c.in_ok-item.field-0.item c.step_of.result c.step_of.ensures
 
 pub returns-clause-told : goal.returns-clause-told
 returns-clause-told g c = λ h root over.
     let v = (c.in_ok-item.ensures.told h root over).gives in
     let pile = c.sorted_if.ensures.told root [] (ordinary root [] c.in_ok-item.field-0.folder c.in_ok-item.ensures.fair.folder) v.1.folder in
     base_told c.args.self.now c.requires.orderly c.requires.first c.push_if.new.listings c.root.result c.sorted_if.result c.root.ensures
-        (c.sorted_if.ensures.fair [] c.in_ok-item.ensures.fair.folder) c.push_if.ensures c.in_ok-item.field-0.item c.step_of.result c.step_of.ensures root
-        (g.T.Tree.state c.args.store.now) (g.T.Tree.state c.visit_base.new.store) v.0 v.1.item pile
+    (c.sorted_if.ensures.fair [] c.in_ok-item.ensures.fair.folder) c.push_if.ensures c.in_ok-item.field-0.item c.step_of.result c.step_of.ensures root
+    (g.T.Tree.state c.args.store.now) (g.T.Tree.state c.visit_base.new.store) v.0 v.1.item pile

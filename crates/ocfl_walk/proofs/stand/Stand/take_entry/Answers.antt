@@ -10,7 +10,7 @@ returns-in_err-item-clause-told g c = λ h root over stood last e is turn.
     let p = err_from_is_err_and c.from_residual.result c.from_residual.ensures.1 in
     let met = entry_is_met c.args.self.now c.in-Some.entry c.args.place c.take_entry.new.listings c.requires.orderly c.requires.next c.in-Some.ensures.taken _ c.take-around.ensures.value root stood e is in
     rw (p.1, p.2) (meets_fails root (g.T.Tree.state c.args.store.now) (g.T.Tree.state c.meet.new.store) (Some last) c.args.place
-        (near_turn root last c.args.place _ turn) _ (c.in_err-item.ensures.told h root over _ met))
+    (near_turn root last c.args.place _ turn) _ (c.in_err-item.ensures.told h root over _ met))
 
 pub push_if-requires : goal.push_if-requires
 push_if-requires g c = entry_fits c.args.self.now c.in-Some.entry c.args.place c.take_entry.new.listings c.requires.orderly c.requires.next
@@ -41,7 +41,7 @@ returns-clause-told g c = λ h root over stood last e is turn.
     let met = entry_is_met c.args.self.now c.in-Some.entry c.args.place c.take_entry.new.listings c.requires.orderly c.requires.next c.in-Some.ensures.taken _ c.take-around.ensures.value root stood e is in
     let m = c.in_ok-item.ensures.told h root over _ met in
     entry_told c.args.self.now c.in-Some.entry c.args.place c.take_entry.new.listings c.requires.orderly c.requires.next c.in-Some.ensures.taken
-        c.in-Some.ensures.count c.in_ok-item.field-0
-        (c.in_ok-item.ensures.fair (entry_around c.args.self.now c.in-Some.entry c.args.place c.take_entry.new.listings c.requires.orderly c.requires.next
-        c.in-Some.ensures.taken _ c.take-around.ensures.value)) c.push_if.new.listings c.push_if.ensures c.step_of.result c.step_of.ensures root
-        (g.T.Tree.state c.args.store.now) (g.T.Tree.state c.meet.new.store) last stood is turn m.0 m.1
+    c.in-Some.ensures.count c.in_ok-item.field-0
+    (c.in_ok-item.ensures.fair (entry_around c.args.self.now c.in-Some.entry c.args.place c.take_entry.new.listings c.requires.orderly c.requires.next
+    c.in-Some.ensures.taken _ c.take-around.ensures.value)) c.push_if.new.listings c.push_if.ensures c.step_of.result c.step_of.ensures root
+    (g.T.Tree.state c.args.store.now) (g.T.Tree.state c.meet.new.store) last stood is turn m.0 m.1

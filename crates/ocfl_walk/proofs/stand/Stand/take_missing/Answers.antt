@@ -26,4 +26,4 @@ returns-clause-there c = missing_there c.args.self.now c.args.place c.requires.o
 pub returns-clause-told : goal.returns-clause-told
 returns-clause-told c = λ s root over last held turn unseen.
     missing_told c.args.self.now c.args.place c.requires.orderly c.requires.some c.requires.trim c.requires.next c.in_ok-item.item c.step_of.result
-        c.step_of.ensures root s last over held turn unseen (c.in_ok-item.ensures.told root held.table unseen)
+    c.step_of.ensures root s last over held turn unseen (c.in_ok-item.ensures.told root held.table unseen)

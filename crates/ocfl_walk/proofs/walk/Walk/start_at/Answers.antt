@@ -15,7 +15,7 @@ pub returns-then-depth-eq0-clause-told : goal.returns-then-depth-eq0-clause-told
 returns-then-depth-eq0-clause-told g c = λ h root over.
     at_top root c.args.from.now (no_names_there c.args.from.now (sym c.depth.ensures ∙ c.if-depth-eq0.true))
     (λ d b. MatchResult c.start.result (λ walk. GoesDown root (g.T.Tree.state c.args.store.now) (g.T.Tree.state c.start.new.store) d × Stands root walk b)
-        (λ why. GoDownFails root (g.T.Tree.state c.args.store.now) (g.T.Tree.state c.start.new.store) d why))
+    (λ why. GoDownFails root (g.T.Tree.state c.args.store.now) (g.T.Tree.state c.start.new.store) d why))
     (c.start.ensures.told h root over)
 
 pub returns-in_err-directory-clause-told : goal.returns-in_err-directory-clause-told

@@ -100,6 +100,7 @@ pub fn directories_lie_above()
 {}
 
 /// Zone, entered and seen, one name further.
+#[tactic(auto, using(crate::proofs::StepLaws::zone_step, crate::proofs::StepLaws::entered_step, crate::proofs::StepLaws::reached_step, crate::proofs::StepLaws::seen_step, crate::proofs::StepLaws::listed_step))]
 pub fn a_name_is_one_step()
     ensures zone { (root : StorageRoot) (d : Place) (n : Text)
         → zone root (d ++ n ∷ []) ≡ (if is_extensions root d n then skipped else step_zone root d n
@@ -496,6 +497,7 @@ pub fn parts_go_on()
 
 /// A place and the same with the byte 1 after its last name, as separators, enclose its branch and
 /// nothing else. The longer name is a name, unless the other has 255 bytes already.
+#[tactic(auto, using(crate::proofs::BranchLaws::ends_above, crate::proofs::BranchLaws::enclosed_is, crate::proofs::BranchLaws::enclosed_items, crate::proofs::BranchLaws::end_is_no_name))]
 pub fn two_separators_enclose_a_branch()
     ensures ascend { (d : Place) (n : Text) → place_cmp (d ++ n ∷ []) (branch_end d n) ≡ Less }
     ensures places { (d : Place) (n : Text) (p : Place) → IsPlace p

@@ -56,7 +56,7 @@ impl PlaceLines {
         Ok(())
     }
 
-    /// The lines with one more behind them, the last, which takes the place.
+    /// The lines with a last one after them, which takes the place.
     pub(crate) fn with_last(self, code: Code, detail: String) -> Result<Vec<Line>, AllocError>
         ensures { (ns : List Note) → HasLines self ns
             → IfOk result (λ lines. map line_of lines.items

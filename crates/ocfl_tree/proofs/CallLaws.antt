@@ -3,7 +3,7 @@ use Rattle.std.proofs.Common.{◌≡◌, ◌≢◌, ℕ, ◌+◌, ◌<◌, true,
 use Rattle.ocfl_tree.specs.Place.{Text, Place as Spot}
 use Rattle.ocfl_tree.specs.StorageRoot.{file, dir, at}
 use Rattle.ocfl_tree.specs.Listing.{kind_in, kind_at}
-use Rattle.ocfl_tree.specs.Store.{Store}
+use Rattle.ocfl_tree.specs.Store.{Store, Did}
 use Rattle.ocfl_tree.specs.Calls.{opening, change_last, with_given, with_failure, Lists, ListFails, Opens, OpenFails, Reads, ReadFails, Closes}
 use Rattle.ocfl_tree.specs.declared.store.Entry.{Entry}
 use Rattle.ocfl_tree.specs.declared.store.Opening.{Opening}
@@ -12,6 +12,17 @@ use Rattle.ocfl_tree.proofs.Seen.{change_last-append}
 
 none_more : (a b : ℕ) → b ≡ a + 0 → b ≡ a
 none_more a b e = omega (arith, e)
+
+-- what stands after a call that did nothing and left no file open
+abbrev IsClosed : Store → Store → Type 0
+IsClosed s t = (t.tree ≡ s.tree)
+    × ((t.openings ≡ s.openings) × ((t.listings ≡ s.listings) × ((t.failures ≡ s.failures) × ((t.rest ≡ None) × (t.largest ≡ s.largest)))))
+
+did_nothing : (s t : Store) → Did s t [] [] 0 → t.rest ≡ None → t.largest ≡ s.largest → IsClosed s t
+did_nothing s t did closed largest = (
+  did.tree,
+  ((did.openings_are ∙ append-nil s.openings), ((did.listings_are ∙ append-nil s.listings), ((none_more s.failures t.failures did.failures_are), (closed, largest)))),
+)
 
 pub call_listed : (s t : Store) (p : Spot) (es : List Entry) → Lists s t p es → (at s.tree p ≡ Some dir)
     × (((n : Text) → kind_in es n ≡ kind_at s.tree p n)
@@ -25,28 +36,11 @@ pub call_unlisted : (s t : Store) (p : Spot) → ListFails s t p Device → (t.t
     × ((t.openings ≡ s.openings) × ((t.listings ≡ s.listings ++ p ∷ []) × ((t.failures ≡ s.failures + 1) × ((t.rest ≡ None) × (t.largest ≡ s.largest)))))
 call_unlisted s t p h = (h.fails.did.tree, ((h.fails.did.openings_are ∙ append-nil s.openings), (h.fails.did.listings_are, (h.fails.did.failures_are, (h.fails.closed, h.fails.largest)))))
 
-pub call_no_directory : (s t : Store) (p : Spot) → ListFails s t p Absent → (at s.tree p ≢ Some dir)
-    × ((t.tree ≡ s.tree) × ((t.openings ≡ s.openings) × ((t.listings ≡ s.listings) × ((t.failures ≡ s.failures) × ((t.rest ≡ None) × (t.largest ≡ s.largest))))))
-call_no_directory s t p h = (
-  h.absent refl,
-  (
-    h.fails.did.tree,
-    (
-      (h.fails.did.openings_are ∙ append-nil s.openings),
-      ((h.fails.did.listings_are ∙ append-nil s.listings), ((none_more s.failures t.failures h.fails.did.failures_are), (h.fails.closed, h.fails.largest))),
-    ),
-  ),
-)
+pub call_no_directory : (s t : Store) (p : Spot) → ListFails s t p Absent → (at s.tree p ≢ Some dir) × IsClosed s t
+call_no_directory s t p h = (h.absent refl, did_nothing s t h.fails.did h.fails.closed h.fails.largest)
 
-pub call_no_memory : (s t : Store) (p : Spot) → ListFails s t p Memory → (t.tree ≡ s.tree)
-    × ((t.openings ≡ s.openings) × ((t.listings ≡ s.listings) × ((t.failures ≡ s.failures) × ((t.rest ≡ None) × (t.largest ≡ s.largest)))))
-call_no_memory s t p h = (
-  h.fails.did.tree,
-  (
-    (h.fails.did.openings_are ∙ append-nil s.openings),
-    ((h.fails.did.listings_are ∙ append-nil s.listings), ((none_more s.failures t.failures h.fails.did.failures_are), (h.fails.closed, h.fails.largest))),
-  ),
-)
+pub call_no_memory : (s t : Store) (p : Spot) → ListFails s t p Memory → IsClosed s t
+call_no_memory s t p h = did_nothing s t h.fails.did h.fails.closed h.fails.largest
 
 pub call_opened : (s t : Store) (p : Spot) → Opens s t p → (bytes : Text)
     × ((at s.tree p ≡ Some (file bytes))
@@ -60,18 +54,8 @@ pub call_unopened : (s t : Store) (p : Spot) → OpenFails s t p Device → (t.t
     × ((t.openings ≡ s.openings ++ opening p 0 true ∷ []) × ((t.listings ≡ s.listings) × ((t.failures ≡ s.failures + 1) × ((t.rest ≡ None) × (t.largest ≡ s.largest)))))
 call_unopened s t p h = (h.fails.did.tree, (h.fails.did.openings_are, ((h.fails.did.listings_are ∙ append-nil s.listings), (h.fails.did.failures_are, (h.fails.closed, h.fails.largest)))))
 
-pub call_no_file : (s t : Store) (p : Spot) → OpenFails s t p Absent → ((bytes : Text) → at s.tree p ≢ Some (file bytes))
-    × ((t.tree ≡ s.tree) × ((t.openings ≡ s.openings) × ((t.listings ≡ s.listings) × ((t.failures ≡ s.failures) × ((t.rest ≡ None) × (t.largest ≡ s.largest))))))
-call_no_file s t p h = (
-  h.absent refl,
-  (
-    h.fails.did.tree,
-    (
-      (h.fails.did.openings_are ∙ append-nil s.openings),
-      ((h.fails.did.listings_are ∙ append-nil s.listings), ((none_more s.failures t.failures h.fails.did.failures_are), (h.fails.closed, h.fails.largest))),
-    ),
-  ),
-)
+pub call_no_file : (s t : Store) (p : Spot) → OpenFails s t p Absent → ((bytes : Text) → at s.tree p ≢ Some (file bytes)) × IsClosed s t
+call_no_file s t p h = (h.absent refl, did_nothing s t h.fails.did h.fails.closed h.fails.largest)
 
 pub call_read : (s t : Store) (bytes : Text) (room : ℕ) → Reads s t bytes room → (left : Text)
     × ((s.rest ≡ Some (bytes ++ left)) × ((t.rest ≡ Some left) × ((bytes ≡ [] → 0 < room → left ≡ []) × ((t.tree ≡ s.tree) × ((t.listings ≡ s.listings) × (t.failures ≡ s.failures))))))
@@ -91,8 +75,5 @@ pub call_nothing_open : (s t : Store) → ReadFails s t Absent → (s.rest ≡ N
     × ((t.rest ≡ None) × ((t.tree ≡ s.tree) × ((t.openings ≡ s.openings) × ((t.listings ≡ s.listings) × (t.failures ≡ s.failures)))))
 call_nothing_open s t h = ((h.absent refl).0, (h.closed, (h.tree, ((h.absent refl).1, (h.listings_are, (none_more s.failures t.failures h.failures_are))))))
 
-pub call_closed : (s t : Store) → Closes s t → (t.tree ≡ s.tree) × ((t.openings ≡ s.openings) × ((t.listings ≡ s.listings) × ((t.failures ≡ s.failures) × ((t.rest ≡ None) × (t.largest ≡ s.largest)))))
-call_closed s t h = (
-  h.did.tree,
-  ((h.did.openings_are ∙ append-nil s.openings), ((h.did.listings_are ∙ append-nil s.listings), ((none_more s.failures t.failures h.did.failures_are), (h.closed, h.largest)))),
-)
+pub call_closed : (s t : Store) → Closes s t → IsClosed s t
+call_closed s t h = did_nothing s t h.did h.closed h.largest

@@ -1,5 +1,5 @@
 -- Worked cases: content that can't be read.
-use Rattle.std.proofs.Common.{◌≡◌, ap, ℕ, List, [], ◌∷◌, codes, refl, Bool, true, false, map, replicate}
+use Rattle.std.proofs.Common.{◌≡◌, ap, ℕ, ◌+◌, List, [], ◌∷◌, codes, refl, Bool, true, false, map, replicate}
 use Prim.Native.String.{String}
 use Rattle.ocfl_tree.specs.Place.{Text}
 use Rattle.ocfl_tree.specs.StorageRoot.{StorageRoot}
@@ -16,10 +16,14 @@ use Rattle.ocfl_audit.proofs.Cases.OnLiterals.{audit_on_literals}
 use Rattle.ocfl_audit.proofs.Cases.Trees.{quickly, three_files_content, three_files_listing, Case, AllAre, place, text_at, bytes_at, folder, sha256_object, f_is_abc, key, listing, listing_with, lists_f, three_files, abc, item, the_root, clean, right}
 use Rattle.ocfl_audit.proofs.Cases.Quiet.{quick_256, audit_256, told}
 
+-- where the file at this place gave only so many bytes
+abbrev gave : String → ℕ → Unread
+gave p given = (place p, given) ∷ []
+
 -- the text of the audit where one file of an object with a right sidecar gave only so many bytes
 abbrev reports_unread : String → Text → StorageRoot → String → ℕ → String → Case
-reports_unread name inventory more p given t = let unread : Unread = (place p, given) ∷ [] in
-    told name (audit (sha256_object inventory more) unread) (quick_256 inventory more unread) (audit_256 inventory more unread) (codes t)
+reports_unread name inventory more p given t =
+    told name (audit (sha256_object inventory more) (gave p given)) (quick_256 inventory more (gave p given)) (audit_256 inventory more (gave p given)) (codes t)
 
 -- the item of a file that could not be read, by its cost
 abbrev unread : String → ℕ → Item
@@ -36,21 +40,19 @@ long_and_short_content = bytes_at "o/v1/content/f" (replicate 65537 97) ∷ text
 abbrev long_and_short : StorageRoot
 long_and_short = sha256_object long_and_short_listing long_and_short_content
 
--- where `f` gave this many bytes
-abbrev f_gave : ℕ → Unread
-f_gave given = (place "o/v1/content/f", given) ∷ []
-
 -- what the audit then gives, by the cost of `f`
 abbrev other_right : ℕ → List Item
 other_right cost = the_root ∷ clean "o" ∷ unread "o/v1/content/f" cost ∷ right "o/v1/content/g" 4 "3" ∷ []
 
-cost_where_read_fails : audit long_and_short (f_gave 65536) ≡ other_right 65537
+f_unread : (given : ℕ) → audit long_and_short (gave "o/v1/content/f" given) ≡ other_right (given + 1)
 unfolding audit_on_literals
-cost_where_read_fails = audit_256 long_and_short_listing long_and_short_content (f_gave 65536)
+f_unread given = audit_256 long_and_short_listing long_and_short_content (gave "o/v1/content/f" given)
 
-cost_where_open_fails : audit long_and_short (f_gave 0) ≡ other_right 1
-unfolding audit_on_literals
-cost_where_open_fails = audit_256 long_and_short_listing long_and_short_content (f_gave 0)
+cost_where_read_fails : audit long_and_short (gave "o/v1/content/f" 65536) ≡ other_right 65537
+cost_where_read_fails = f_unread 65536
+
+cost_where_open_fails : audit long_and_short (gave "o/v1/content/f" 0) ≡ other_right 1
+cost_where_open_fails = f_unread 0
 
 text_where_a_long_file_is_unread : (text (other_right 65537) ≡ codes "ok\t.\t-\nok\to\t-\nS08\to/v1/content/f\t-\nok\to/v1/content/g\t3\n") × (text (other_right 1) ≡ text (other_right 65537))
 text_where_a_long_file_is_unread = (refl, refl)
@@ -64,22 +66,17 @@ each_is_opened_once = refl
 
 -- ---- three files, of which the first fails
 
--- where it gave this many bytes
-abbrev first_gave : ℕ → Unread
-first_gave given = (place "o/v1/content/a", given) ∷ []
-
 -- what the audit then gives, by the cost of the first
 abbrev others_right : ℕ → List Item
 others_right cost = the_root ∷ clean "o" ∷ unread "o/v1/content/a" cost ∷ right "o/v1/content/b" 1 "0" ∷ right "o/v1/content/c" 4 "3" ∷ []
 
-first_gave_two : audit three_files (first_gave 2) ≡ others_right 3
+first_unread : (given : ℕ) → audit three_files (gave "o/v1/content/a" given) ≡ others_right (given + 1)
 unfolding audit_on_literals
-first_gave_two = audit_256 three_files_listing three_files_content (first_gave 2)
+first_unread given = audit_256 three_files_listing three_files_content (gave "o/v1/content/a" given)
 
--- all bytes, and then the device failed
-first_gave_all : audit three_files (first_gave 3) ≡ others_right 4
-unfolding audit_on_literals
-first_gave_all = audit_256 three_files_listing three_files_content (first_gave 3)
+-- some bytes, and all, before the device failed
+first_gave_two_or_all : (audit three_files (gave "o/v1/content/a" 2) ≡ others_right 3) × (audit three_files (gave "o/v1/content/a" 3) ≡ others_right 4)
+first_gave_two_or_all = (first_unread 2, first_unread 3)
 
 text_where_first_is_unread : (text (others_right 3) ≡ codes "ok\t.\t-\nok\to\t-\nS08\to/v1/content/a\t-\nok\to/v1/content/b\t0\nok\to/v1/content/c\t3\n")
     × (text (others_right 4) ≡ text (others_right 3))
@@ -115,15 +112,15 @@ other_lines_of_unread_files : AllAre other_lines_of_unread_files_cases
 unfolding audit_on_literals
 other_lines_of_unread_files = quickly other_lines_of_unread_files_cases refl
 
-cost_of_unlisted_file_unread : map (λ i. i.cost) (audit (sha256_object fixity_alone_listing f_is_abc) ((place "o/v1/content/f", 0) ∷ [])) ≡ 0 ∷ 0 ∷ 1 ∷ []
+cost_of_unlisted_file_unread : map (λ i. i.cost) (audit (sha256_object fixity_alone_listing f_is_abc) (gave "o/v1/content/f" 0)) ≡ 0 ∷ 0 ∷ 1 ∷ []
 unfolding audit_on_literals
-cost_of_unlisted_file_unread = ap (map (λ i. i.cost)) (audit_256 fixity_alone_listing f_is_abc ((place "o/v1/content/f", 0) ∷ []))
+cost_of_unlisted_file_unread = ap (map (λ i. i.cost)) (audit_256 fixity_alone_listing f_is_abc (gave "o/v1/content/f" 0))
 
-cost_of_unnamed_file : total_cost (audit (sha256_object (listing []) f_is_abc) ((place "o/v1/content/f", 2) ∷ [])) ≡ 0
+cost_of_unnamed_file : total_cost (audit (sha256_object (listing []) f_is_abc) (gave "o/v1/content/f" 2)) ≡ 0
 unfolding audit_on_literals
 cost_of_unnamed_file = refl
 
-cost_of_listed_directory_unread : total_cost (audit (sha256_object (listing lists_f) (folder "o/v1/content/f" ∷ [])) ((place "o/v1/content/f", 2) ∷ [])) ≡ 0
+cost_of_listed_directory_unread : total_cost (audit (sha256_object (listing lists_f) (folder "o/v1/content/f" ∷ [])) (gave "o/v1/content/f" 2)) ≡ 0
 unfolding audit_on_literals
 cost_of_listed_directory_unread = refl
 

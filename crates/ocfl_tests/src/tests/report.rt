@@ -3,8 +3,8 @@ use crate::tests::common::Runtime;
 use crate::tests::common::store::place_of;
 use ocfl_report::laws::line_reads_back;
 use ocfl_report::{
-    Code, Line, LineStop, OutStop, PlaceStop, put_place, read_line, read_place, split_once,
-    write_all_of,
+    Code, Line, LineStop, OutStop, PlaceStop, put_place, read_decimal, read_line, read_place,
+    split_once, write_all_of,
 };
 use ocfl_tree::Place;
 use std::alloc::Global;
@@ -313,6 +313,31 @@ fn other_lines_are_bad(rt: HostRuntime) {
         let read = read_line(rt.alloc(), text.as_bytes()).err();
         assert_eq!(rt; read, Some(LineStop::Bad), "{row}");
     }
+}
+
+/// Texts with the numbers that they are read as.
+const DECIMALS: [(&str, Option<u128>); 13] = [
+    ("0", Some(0)),
+    ("7", Some(7)),
+    ("10", Some(10)),
+    ("340282366920938463463374607431768211455", Some(u128::MAX)),
+    ("340282366920938463463374607431768211456", None),
+    ("1000000000000000000000000000000000000000", None),
+    ("", None),
+    ("00", None),
+    ("01", None),
+    ("+1", None),
+    ("-1", None),
+    ("1 ", None),
+    ("1a", None),
+];
+
+#[test]
+fn decimals_are_read(rt: HostRuntime) {
+    for (text, wanted) in DECIMALS {
+        assert_eq!(rt; read_decimal(text.as_bytes()), wanted, "{text}");
+    }
+    assert_eq!(rt; read_decimal(b"1\xff"), None);
 }
 
 #[test]

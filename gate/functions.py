@@ -130,6 +130,12 @@ def functions_of(crate):
     return found
 
 
+def laws_of(crate):
+    """The laws of a crate, as paths below it: functions that have clauses and do nothing."""
+    return [re.sub(r"/", "::", os.path.splitext(it.file)[0].removeprefix("src/")) + "::" + it.name
+            for it in functions_of(crate) if not it.owner and not it.body.strip()]
+
+
 def seen_outside(top):
     """The public modules of a crate, and the names that it passes on of the others."""
     with open(os.path.join(top, "lib.rt")) as file:

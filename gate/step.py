@@ -18,6 +18,9 @@ KEPT = "out/incremental"
 # What says no more than that a proof names what is gone, or rests on another that failed.
 NAMES = re.compile(r"(note: )?(\./)?proofs/.*(has no field|is not in scope|has no `)"
                    r"|.*(was|is) not admitted")
+# What it says at a place that it refuses, and of a function whose proof it refuses.
+SAID = re.compile(r"note: \S+:\d+:\d+: |\S+:\d+:\d+: error")
+NOT_PROVED = re.compile(r"fn \S+: not proved")
 
 
 def library(rt, crate, jobs):
@@ -43,11 +46,30 @@ def over(crate):
 
 
 def alone(rt, crate, file):
-    """Checks a crate with one edit."""
+    """Checks a crate with one edit. One of definitions is first tried on the laws alone, which is
+    sooner done and says more of it."""
     with over(crate) as kept:
+        refused = by_laws(rt, crate, file, kept)
+        if refused:
+            return True, "refused by a law: " + refused[:160]
         verdict, text = rt.must_fail(crate, file, ["--jobs", "1"], kept)
     # `rt` gives a word for each verdict, of which these two are refusals.
     return verdict in (rt.REFUSED, rt.AT_LIMIT), text.split(": ", 1)[-1]
+
+
+def by_laws(rt, crate, file, kept):
+    """What of the crate's laws refuses an edit of definitions, or nothing."""
+    texts, fault = rt.read_edit(file, crate.folder)
+    laws = functions.laws_of(crate.name)
+    if fault or not laws or not all(path.startswith("specs/") for path in texts):
+        return ""
+    only = [word for law in laws for word in ("--only", law)]
+    ran = rt.checked(crate, texts, ["--jobs", "1", *only], kept)
+    lines = ran.stdout.rstrip("\n").split("\n")
+    told = lines[-1].startswith("only=") and is_read(rt, ran, lines, texts)
+    if ran.returncode != 1 or not told or not any(NOT_PROVED.match(line) for line in lines):
+        return ""
+    return refusal([line for line in lines if SAID.match(line)])
 
 
 def together(rt, crate, files, jobs="1", first=False):
@@ -71,7 +93,12 @@ def together(rt, crate, files, jobs="1", first=False):
 def is_told(rt, ran, lines, changed):
     """Whether the prover read the sources and gave its verdict on all of them."""
     return (ran.returncode == 1 and lines[-1].startswith("logic=not-proved")
-            and not any(rt.unread(line, changed) for line in lines)
+            and is_read(rt, ran, lines, changed))
+
+
+def is_read(rt, ran, lines, changed):
+    """Whether the prover read what was changed, over libraries that it could use."""
+    return (not any(rt.unread(line, changed) for line in lines)
             and not rt.rtlib.STALE.search(ran.stdout))
 
 

@@ -11,7 +11,6 @@ use Rattle.ocfl_audit.specs.Zone.{seen}
 use Rattle.ocfl_audit.specs.Lines.{named_at, cost_of, cost, is_hashed}
 use Rattle.ocfl_audit.specs.Audit.{total_cost}
 use Rattle.ocfl_audit.specs.Runs.{Limits, files_of, total_files, may_take, cut_len, cut, left}
-use Rattle.ocfl_audit.proofs.RunLaws.{cost_append, files_append}
 use Rattle.ocfl_scrub.proofs.Paying.{Paid}
 use Rattle.ocfl_scrub.specs.Running.{last_cost}
 

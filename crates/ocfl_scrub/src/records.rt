@@ -1,10 +1,11 @@
 //! What the records of a check, an audit, a run and a cycle say, in other words: of the bytes that
-//! a writer got, and of what a store tells of the calls that were made.
+//! a writer got, and of what a store tells of the calls that were made. Last, on any store.
 ghost use Rattle.std.specs.Prelude.{◌≡◌, ◌≢◌, ◌≤◌, ◌<◌, ◌+◌, ◌-◌, ◌/◌, ◌++◌, ◌∷◌, [], ℕ, List};
 ghost use Rattle.std.specs.Prelude.{Bool, true, false, not, Option, None, Some, Vec, String};
 ghost use Rattle.std.specs.Prelude.{string_bytes, replicate, length, take, map, All, AllPairs, ◌⊎◌};
+ghost use Rattle.std.specs.Prelude.{◌↔◌, ◌^◌};
 ghost use Rattle.std.specs.declared.alloc.Global.{Global};
-ghost use Rattle.ocfl_tree.specs.Place.{Place, place_cmp};
+ghost use Rattle.ocfl_tree.specs.Place.{Place, Text, place_cmp};
 ghost use Rattle.ocfl_tree.specs.Name.{IsPlace};
 ghost use Rattle.ocfl_tree.specs.Ascending.{IsAscending};
 ghost use Rattle.ocfl_tree.specs.StorageRoot.{StorageRoot};
@@ -24,18 +25,26 @@ ghost use Rattle.ocfl_item.specs.Looking.{failures_by, way_to};
 ghost use Rattle.ocfl_item.specs.declared.fault.Fault.{Fault};
 ghost use Rattle.ocfl_item.specs.declared.fault.Fault.TheVariants as fault;
 ghost use Rattle.ocfl_walk.specs.WalkCalls.{holder, way_of};
-ghost use Rattle.ocfl_cursor.specs.Cursor.{Cursor, start, behind, ended, cursor_text};
+ghost use Rattle.ocfl_cursor.specs.Cursor.{Cursor, start, behind, ended, cursor_text, new_cursor};
+ghost use Rattle.ocfl_cursor.specs.Moves.{after_run};
 ghost use Rattle.ocfl_cursor.specs.declared.limits.Limits.{Limits as MadeLimits};
+ghost use Rattle.ocfl_deed.specs.declared.deed.Deed.{Deed};
 ghost use Rattle.ocfl_deed.specs.declared.deed.Deed.TheVariants as deed;
 ghost use Rattle.ocfl_scrub.specs.Call.{Call, IsUnfailing, known_call};
 ghost use Rattle.ocfl_scrub.specs.Running.{place_in, limits_of, Runs, RunStops, RunEnds, RunsFrom};
-ghost use Rattle.ocfl_scrub.specs.Running.{RunsCleanly};
+ghost use Rattle.ocfl_scrub.specs.Running.{ArePaid, IsWorn, RunsCleanly, RunsOnAnyStore, begun};
+ghost use Rattle.ocfl_scrub.specs.Running.{state_after};
 ghost use Rattle.ocfl_scrub.specs.Cycling.{Cycles, CycleStops, CycleEnds, CyclesTo, HeadlineOf};
+ghost use Rattle.ocfl_scrub.specs.Cycling.{CyclesOnAnyStore};
 ghost use Rattle.ocfl_scrub.specs.Checking.{Checks, CheckStops, CheckEnds};
-ghost use Rattle.ocfl_scrub.specs.WholeAudit.{AuditsAll, AuditStops, AuditEnds};
+ghost use Rattle.ocfl_scrub.specs.WholeAudit.{AuditsAll, AuditStops, AuditEnds, AuditsOnAnyStore};
 ghost use Rattle.ocfl_scrub.specs.Noting.{status_of, IsAuditNote, IsCheckNote, IsCycleNote};
-ghost use Rattle.ocfl_scrub.specs.Noting.{IsRunNote};
-ghost use Rattle.ocfl_scrub.specs.Performing.{BeginsWith, Performs};
+ghost use Rattle.ocfl_scrub.specs.Noting.{EndsUnread, IsRunNote, IsStatus, IsUnreadSaid};
+ghost use Rattle.ocfl_scrub.specs.Noting.{ReportsOnAnyStore, WritesWithStatus};
+ghost use Rattle.ocfl_scrub.specs.Performing.{AnswersOnAnyStore, BeginsWith, HasBadPath, IsKeptBy};
+ghost use Rattle.ocfl_scrub.specs.Performing.{IsSilent, IsWithoutFile, Performs, RefusesPath};
+ghost use Rattle.ocfl_scrub.specs.Performing.{UnshownSaid, WritesBy};
+ghost use Rattle.ocfl_scrub.specs.Taking.{WritesLines};
 ghost use Rattle.ocfl_scrub.specs.declared.auditing.AuditEnd.{AuditEnd};
 ghost use Rattle.ocfl_scrub.specs.declared.checking.CheckEnd.{CheckEnd};
 ghost use Rattle.ocfl_scrub.specs.declared.checking.End.TheVariants as end;
@@ -46,6 +55,7 @@ ghost use Rattle.ocfl_scrub.specs.declared.cycling.CycleStatus.{CycleStatus};
 ghost use Rattle.ocfl_scrub.specs.declared.cycling.CycleStatus.TheVariants as cycle;
 ghost use Rattle.ocfl_scrub.specs.declared.note.Note.{Note};
 ghost use Rattle.ocfl_scrub.specs.declared.note.Note.TheVariants as note;
+ghost use Rattle.ocfl_scrub.specs.declared.performing.Performed.{Performed};
 
 /// A check that ended wrote the lines of its place, in which the openings show what failed. It
 /// opened that place's file if it is hashed, no other content, and no file twice. It listed the
@@ -499,4 +509,105 @@ pub fn a_command_does_what_it_is_asked_for()
     ensures show { (call : Call) (known : Option (Option (List ℕ))) (status : ℕ) (n : Note)
         (stored : Option (Vec ℕ Global)) → Performs call known deed.Show status n stored
         → call.after ≡ call.before }
+{}
+
+/// An audit stops for what a call answered, and for no walk of its own that had failed. Unless the
+/// output failed, it reports what it wrote. Where it took nothing, it wrote and found nothing.
+pub fn an_audit_reports_what_it_wrote()
+    ensures unbroken { (old new : Option (List ℕ)) (ran : AuditEnd)
+        → AuditsOnAnyStore (λ o. o) old new ran → ran.end ≢ end.Stopped fault.Broken }
+    ensures lines { (old new : Option (List ℕ)) (ran : AuditEnd)
+        → AuditsOnAnyStore (λ o. o) old new ran → ran.end ≢ end.Stopped fault.Output
+        → WritesLines old new ran.found }
+    ensures nothing { (old new : Option (List ℕ)) (ran : AuditEnd)
+        → AuditsOnAnyStore (λ o. o) old new ran → ran.last ≡ None → (ran.found ≡ false)
+        × (ran.end ≢ end.Stopped fault.Output → new ≡ old) }
+{}
+
+/// A run of a worn cursor is not made, and changes nothing. Any other leaves its cursor where it
+/// ended, keeps its limits, and reports what it wrote, unless the output failed.
+pub fn a_run_keeps_its_limits()
+    ensures unbroken { (s t : Store) (old new : Option (List ℕ)) (c : Cursor)
+        (limits : MadeLimits) (ran : RunEnd) → RunsOnAnyStore (λ o. o) s t old new c limits ran
+        → ran.end ≢ run.Stopped fault.Broken }
+    ensures worn { (s t : Store) (old new : Option (List ℕ)) (c : Cursor)
+        (limits : MadeLimits) (ran : RunEnd) → RunsOnAnyStore (λ o. o) s t old new c limits ran
+        → (ran.end ≡ run.Worn) ↔ IsWorn c }
+    ensures unmade { (s t : Store) (old new : Option (List ℕ)) (c : Cursor)
+        (limits : MadeLimits) (ran : RunEnd) → RunsOnAnyStore (λ o. o) s t old new c limits ran
+        → ran.end ≡ run.Worn → (ran.cursor ≡ c) × ((ran.spent ≡ 0) × ((ran.files ≡ 0)
+        × ((ran.found ≡ false) × ((t ≡ s) × (new ≡ old))))) }
+    ensures cursor { (s t : Store) (old new : Option (List ℕ)) (c : Cursor)
+        (limits : MadeLimits) (ran : RunEnd) → RunsOnAnyStore (λ o. o) s t old new c limits ran
+        → ran.end ≢ run.Worn → (last : Option Place)
+        × (ran.cursor ≡ after_run (begun c) ran.spent ran.files (state_after ran.end last)) }
+    ensures paid { (s t : Store) (old new : Option (List ℕ)) (c : Cursor)
+        (limits : MadeLimits) (ran : RunEnd) → RunsOnAnyStore (λ o. o) s t old new c limits ran
+        → (ran.spent ≤ limits.budget + 2 ^ 62) × ((costs : List ℕ)
+        × (ArePaid (limits_of limits) 0 0 costs
+        × ((ran.spent ≡ sum_of costs) × (ran.files ≡ length costs)))) }
+    ensures lines { (s t : Store) (old new : Option (List ℕ)) (c : Cursor)
+        (limits : MadeLimits) (ran : RunEnd) → RunsOnAnyStore (λ o. o) s t old new c limits ran
+        → ran.end ≢ run.Stopped fault.Output → WritesLines old new ran.found }
+{}
+
+/// A cycle's cursor is of the first cycle, and has its figures. It makes at most a run for each of
+/// its limits, and at least one if there are any.
+pub fn a_cycle_is_counted_by_its_cursor()
+    ensures unbroken { (s t : Store) (old new : Option (List ℕ)) (limits : List MadeLimits)
+        (ran : CycleEnd) → CyclesOnAnyStore (λ o. o) s t old new limits ran
+        → ran.end ≢ cycle.Stopped fault.Broken }
+    ensures none { (s t : Store) (old new : Option (List ℕ)) (ran : CycleEnd)
+        → CyclesOnAnyStore (λ o. o) s t old new [] ran → (ran.cursor ≡ new_cursor)
+        × ((ran.end ≡ cycle.Spent) × ((ran.found ≡ false) × ((t ≡ s) × (new ≡ old)))) }
+    ensures counted { (s t : Store) (old new : Option (List ℕ)) (limits : List MadeLimits)
+        (ran : CycleEnd) → CyclesOnAnyStore (λ o. o) s t old new limits ran
+        → (ran.runs ≤ length limits) × (1 ≤ length limits → 1 ≤ ran.runs) }
+    ensures cursor { (s t : Store) (old new : Option (List ℕ)) (limits : List MadeLimits)
+        (ran : CycleEnd) → CyclesOnAnyStore (λ o. o) s t old new limits ran
+        → (ran.cursor.cycle ≡ 1) × ((ran.cursor.runs ≡ ran.runs)
+        × ((ran.cursor.spent ≡ ran.spent) × (ran.cursor.files ≡ ran.files))) }
+    ensures end { (s t : Store) (old new : Option (List ℕ)) (limits : List MadeLimits)
+        (ran : CycleEnd) → CyclesOnAnyStore (λ o. o) s t old new limits ran
+        → (ran.end ≡ cycle.Ended) ↔ (ran.cursor.state ≡ ended) }
+    ensures lines { (s t : Store) (old new : Option (List ℕ)) (limits : List MadeLimits)
+        (ran : CycleEnd) → CyclesOnAnyStore (λ o. o) s t old new limits ran
+        → ran.end ≢ cycle.Stopped fault.Output → WritesLines old new ran.found }
+{}
+
+/// A check and an audit end with the status of what is said. If nothing is said, all lines went
+/// out, and the status says whether one of them is a finding. Where no cursor was read, that is
+/// said, and the status is 3 or 4.
+pub fn a_report_has_its_status()
+    ensures status { (old new : Option (List ℕ)) (status : ℕ) (n : Note)
+        → ReportsOnAnyStore (λ o. o) old new status n → IsStatus status n }
+    ensures lines { (old new : Option (List ℕ)) (status : ℕ) (n : Note)
+        → ReportsOnAnyStore (λ o. o) old new status n → n ≡ note.Nothing
+        → WritesWithStatus old new status }
+    ensures unread { (status : ℕ) (n : Note) → EndsUnread status n
+        → IsStatus status n × ((3 ≤ status) × IsUnreadSaid n) }
+{}
+
+/// A command ends with the status of what is said, with the lines and the cursor that belong to
+/// it, and with no call where none is to be made.
+pub fn an_answer_fits_its_command()
+    ensures status { (s t : Store) (old new : Option (List ℕ)) (known : Option (Option Text))
+        (d : Deed) (said : Performed) → AnswersOnAnyStore (λ o. o) s t old new known d said
+        → IsStatus said.status said.note }
+    ensures silent { (s t : Store) (old new : Option (List ℕ)) (known : Option (Option Text))
+        (d : Deed) (said : Performed) → AnswersOnAnyStore (λ o. o) s t old new known d said
+        → IsSilent said.note → (t ≡ s) × (new ≡ old) }
+    ensures bad_path { (s t : Store) (old new : Option (List ℕ)) (known : Option (Option Text))
+        (d : Deed) (said : Performed) → AnswersOnAnyStore (λ o. o) s t old new known d said
+        → RefusesPath d said.status said.note × (HasBadPath d → (t ≡ s) × (new ≡ old)) }
+    ensures show { (s t : Store) (old new : Option (List ℕ)) (known : Option (Option Text))
+        (said : Performed) → AnswersOnAnyStore (λ o. o) s t old new known deed.Show said
+        → (t ≡ s) × ((said.status ≡ 0) ↔ (said.note ≡ note.Nothing)) }
+    ensures cursor { (s t : Store) (old new : Option (List ℕ)) (known : Option (Option Text))
+        (d : Deed) (said : Performed) → AnswersOnAnyStore (λ o. o) s t old new known d said
+        → UnshownSaid d known said.note × (IsKeptBy d said.note said.cursor
+        × IsWithoutFile known d said.note) }
+    ensures lines { (s t : Store) (old new : Option (List ℕ)) (known : Option (Option Text))
+        (d : Deed) (said : Performed) → AnswersOnAnyStore (λ o. o) s t old new known d said
+        → WritesBy known d said.status said.note old new }
 {}

@@ -102,7 +102,8 @@ module _ (root : StorageRoot) (closed : IsClosed root) where
   pub stack_pops : (last d : Place) (n : Text) (ns : List Text) (fs : List Frame) (leaf : Leaf) → IsStack root last ((d, n ∷ ns) ∷ fs) → seen root (d ++ n ∷ []) ≡ Some leaf
       → (place_cmp last (d ++ n ∷ []) ≡ Less) × (NoneSeenBetween root last (d ++ n ∷ []) × IsStack root (d ++ n ∷ []) ((d ++ n ∷ [], seen_names root (d ++ n ∷ [])) ∷ (d, ns) ∷ fs))
   stack_pops last d n ns fs leaf h s =
-      let k = first_least (seen_places root) (seen_ascend root) last (d ++ n ∷ []) (seen_left (seen_places root) ((d ++ n ∷ [], seen_names root (d ++ n ∷ [])) ∷ (d, ns) ∷ fs)) (sym (listing_step root closed d n ns fs leaf s) ∙ h) in
+      let k = first_least (seen_places root) (seen_ascend root) last (d ++ n ∷ [])
+      (seen_left (seen_places root) ((d ++ n ∷ [], seen_names root (d ++ n ∷ [])) ∷ (d, ns) ∷ fs)) (sym (listing_step root closed d n ns fs leaf s) ∙ h) in
       (k.0, ((λ p l g. k.1.0 p (seen_to root p l g)), k.1.1))
 
   -- a place that is not seen leaves the stack as it is

@@ -104,7 +104,8 @@ module _ (root : StorageRoot) (unread : Unread) where
       to z i =
           let k = among_from_filter (place_eq d) item_places z i in
           let e : d ≡ z = place_from_test d z k.1 in
-          let h : has_lines (item_of root unread d) ≡ true = ap (λ x. has_lines (item_of root unread x)) e ∙ (among_from_filter (λ x. has_lines (item_of root unread x)) (ascending place_cmp (candidates root)) z k.0).1 in
+          let h : has_lines (item_of root unread d) ≡ true = ap (λ x. has_lines (item_of root unread x)) e ∙
+          (among_from_filter (λ x. has_lines (item_of root unread x)) (ascending place_cmp (candidates root)) z k.0).1 in
           subst (λ b. IsAmong (on b d) z) (sym h) (inl (sym e))
 
       from : (z : Place) (b : Bool) → has_lines (item_of root unread d) ≡ b → IsAmong (on b d) z → IsAmong (filter (place_eq d) item_places) z

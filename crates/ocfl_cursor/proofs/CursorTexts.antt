@@ -132,7 +132,8 @@ IsStateLine-cursor c h = record { short = h.place; is = refl }
 -- cursors are the same if their lines are
 pub lines_determine : (v : Version) (lines : Text) (c d : Cursor) → AreLinesOf v lines c → AreLinesOf v lines d → c ≡ d
 lines_determine v lines c d h k =
-    let same = counts_text_determines v c.cycle c.runs c.spent c.files d.cycle d.runs d.spent d.files _ _ (CountsFit-lines v lines c h) (CountsFit-lines v lines d k) (sym (lines_parts v lines c h) ∙ lines_parts v lines d k) in
+    let same = counts_text_determines v c.cycle c.runs c.spent c.files d.cycle d.runs d.spent d.files _ _ (CountsFit-lines v lines c h)
+    (CountsFit-lines v lines d k) (sym (lines_parts v lines c h) ∙ lines_parts v lines d k) in
     let state : c.state ≡ d.state = state_line_determines _ c.state d.state (IsStateLine-cursor c h.keeps) (record { short = k.keeps.place; is = same.rest }) in
     λ i. record { cycle = same.cycle i; runs = same.runs i; spent = same.spent i; files = same.files i; state = state i }
 

@@ -77,7 +77,8 @@ module _ (ms now : Members) (front : Blocks) (a : Algorithm) (rest : List Algori
   }
 
 -- the same of the i-th of the supported algorithms
-module _ (ms now : Members) (front : Blocks) (i : ℕ) (d : Algorithm) (value : Option Data) (left : AreLeft ms now front (drop i supported)) (within : i < length supported) (is : value ≡ value_for (get_or supported i d) now) where
+module _ (ms now : Members) (front : Blocks) (i : ℕ) (d : Algorithm) (value : Option Data) (left : AreLeft ms now front (drop i supported))
+    (within : i < length supported) (is : value ≡ value_for (get_or supported i d) now) where
   abbrev rest_is : drop i supported ≡ get_or supported i d ∷ drop (i + 1) supported
   rest_is = drop_more supported i d within
 

@@ -90,7 +90,8 @@ pub faults_step : (content : Text) (xs : List (Bor Text)) (i : ℕ) (d : Bor Tex
 faults_step content xs i d front total new h e so_far =
     let one : drop i xs ≡ get_or xs i d ∷ drop (i + 1) xs = drop-cons xs i d h ∙ ap (λ n. get_or xs i d ∷ drop n xs) (sym (add-one i)) in
     let later : List Note = filter_map (fault_note content) (map (λ x. x.now) (drop (i + 1) xs)) in
-    let two : filter_map (fault_note content) (map (λ x. x.now) (drop i xs)) ≡ cons_option (fault_note content (get_or xs i d).now) later = ap (λ ys. filter_map (fault_note content) (map (λ x. x.now) ys)) one in
+    let two : filter_map (fault_note content) (map (λ x. x.now) (drop i xs)) ≡ cons_option (fault_note content (get_or xs i d).now) later =
+    ap (λ ys. filter_map (fault_note content) (map (λ x. x.now) ys)) one in
     ap (λ ys. ys ++ later) e ∙ append_assoc front (cons_option (fault_note content (get_or xs i d).now) []) later
     ∙ ap (λ ys. front ++ ys) (joined (fault_note content (get_or xs i d).now) later ∙ sym two) ∙ so_far
   where

@@ -3,7 +3,8 @@ use Rattle.std.proofs.Common.{◌≡◌, List, [], ◌∷◌, ◌++◌, refl, sy
 use Rattle.std.proofs.lemmas.List.{append-nil}
 use Rattle.ocfl_inventory.specs.Internal.Beside.{hits}
 
-module _ {P A : Type 0} (f : P → A) (test : A → A → Bool) (xs : List P) (i : ℕ) (x y : P) (front total : List A) (b : Bool) (low : 1 ≤ i) (high : i < length xs) (x_is : x ≡ get_or xs (i - 1) x) (y_is : y ≡ get_or xs i y) (tested : b ≡ test (f x) (f y)) (so_far : front ++ hits test (map f (drop (i - 1) xs)) ≡ total) where
+module _ {P A : Type 0} (f : P → A) (test : A → A → Bool) (xs : List P) (i : ℕ) (x y : P) (front total : List A) (b : Bool) (low : 1 ≤ i)
+    (high : i < length xs) (x_is : x ≡ get_or xs (i - 1) x) (y_is : y ≡ get_or xs i y) (tested : b ≡ test (f x) (f y)) (so_far : front ++ hits test (map f (drop (i - 1) xs)) ≡ total) where
   after_is : drop (i + 1 - 1) xs ≡ y ∷ drop (i + 1) xs
   after_is = let e : i + 1 - 1 ≡ i = omega arith in ap (λ n. drop n xs) e ∙ drop-cons xs i y high ∙ (λ j. sym y_is j ∷ drop (sym (add-one i) j) xs)
 

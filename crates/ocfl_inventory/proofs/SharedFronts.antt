@@ -89,7 +89,8 @@ last_alike path other from n m b low is as_many h begun =
     let rest = drop (length path) other in
     let whole : other ≡ path ++ rest = (starts_is Decides-eqb other path (starts_with nat_eq other path) refl).0 begun in
     let short : m ≤ length (drop from path) = simp length-drop (omega (arith, is, as_many)) in
-    let same : take m (drop from other) ≡ take n (drop from path) = ap (λ t. take m (drop from t)) whole ∙ ap (take m) (drop-append-le from path rest low) ∙ take-append-le m (drop from path) rest short ∙ ap (λ k. take k (drop from path)) as_many in
+    let same : take m (drop from other) ≡ take n (drop from path) =
+    ap (λ t. take m (drop from t)) whole ∙ ap (take m) (drop-append-le from path rest low) ∙ take-append-le m (drop from path) rest short ∙ ap (λ k. take k (drop from path)) as_many in
     h ∙ ap (pointwise nat_eq (take n (drop from path))) same ∙ (bytes_eq-Decides (take n (drop from path)) (take n (drop from path))).1 refl
 
 pub not_begun : (t u : Text) (p q : Place) (b : Bool) → names_of t ≡ p → names_of u ≡ q → (starts_with nat_eq u t ≡ true → b ≡ true) → b ≡ false → b ≡ begins p q

@@ -182,7 +182,8 @@ module _ (root : StorageRoot) where
       by true = refl
       by false = refl
 
-  module _ (e : Place) (es : List Entry) (m : MadeDeclared) (h : IsBase root e es m) (v : Visit) (p : Pending) (item : v.item ≡ Some p) (table : v.table ≡ None) (pending : IsPending root p) (at : p.place ≡ e) where
+  module _ (e : Place) (es : List Entry) (m : MadeDeclared) (h : IsBase root e es m) (v : Visit) (p : Pending) (item : v.item ≡ Some p)
+      (table : v.table ≡ None) (pending : IsPending root p) (at : p.place ≡ e) where
     there : IsItemAt root [] v.item
     there = subst (IsItemAt root []) (sym item) (pending, at ∙ h.top)
 
@@ -203,7 +204,8 @@ module _ (root : StorageRoot) where
   listing_there : (s t : Store) (d e : Place) (es : List Entry) → Enters root s t d e es → IsListing root e es
   listing_there s t d e es h = subst (λ x. IsListing root x es) (sym h.is) h.listing
 
-  module _ (s t : Store) (p e : Place) (es given : List Entry) (m : MadeDeclared) (top : p ≡ []) (there : Enters root s t p e es) (same : given ≡ es) (ordinary : IsOrdinary es) (says : meaning Root given m ≡ declared Root (file_names given)) (points : PointsAtOne Root given m) where
+  module _ (s t : Store) (p e : Place) (es given : List Entry) (m : MadeDeclared) (top : p ≡ []) (there : Enters root s t p e es) (same : given ≡ es)
+      (ordinary : IsOrdinary es) (says : meaning Root given m ≡ declared Root (file_names given)) (points : PointsAtOne Root given m) where
     pub base_is : IsBase root e es m
     base_is = record {
       top = there.is ∙ top;

@@ -154,7 +154,8 @@ module _ (root : StorageRoot) (o : Place) where
   joined : (os os' : List Opening) (ns ms : List Text) → places_of os ≡ files_there root o ns → IsFront (places_of os') (files_there root o ms)
       → IsFront (places_of (os ++ os')) (files_there root o (ns ++ ms))
   joined os os' ns ms h k =
-      let all : IsFront (files_there root o ns ++ places_of os') (files_there root o ns ++ files_there root o ms) = front_then_front (files_there root o ns) (places_of os') (files_there root o ms) k in
+      let all : IsFront (files_there root o ns ++ places_of os') (files_there root o ns ++ files_there root o ms) =
+      front_then_front (files_there root o ns) (places_of os') (files_there root o ms) k in
       subst (λ x. IsFront x (files_there root o (ns ++ ms))) (sym (places_then os os' ∙ ap (λ x. x ++ places_of os') h))
       (subst (IsFront (files_there root o ns ++ places_of os')) (sym (there_then ns ms)) all)
 

@@ -158,7 +158,8 @@ module _ (root : StorageRoot) (o : Place) where
       → Adds old new (sidecars_notes root o bytes ++ inventory_part root o bytes (algorithm_of bytes))
       → Adds old new (inventory_file_notes root o (file_at root (o ++ inventory_name ∷ [])))
   inventory_lines old new v bytes is same h =
-      let k : Adds old new (sidecars_notes root o is.0 ++ inventory_part root o is.0 (algorithm_of is.0)) = subst (λ b. Adds old new (sidecars_notes root o b ++ inventory_part root o b (algorithm_of b))) (same ∙ is.2.0) h in
+      let k : Adds old new (sidecars_notes root o is.0 ++ inventory_part root o is.0 (algorithm_of is.0)) =
+      subst (λ b. Adds old new (sidecars_notes root o b ++ inventory_part root o b (algorithm_of b))) (same ∙ is.2.0) h in
       subst (λ f. Adds old new (inventory_file_notes root o f)) (sym is.1)
       (subst (λ b. Adds old new (cond b (sidecars_notes root o is.0 ++ inventory_part root o is.0 (algorithm_of is.0)) (plain S02 ∷ []))) (sym (le-leb (length is.0) inventory_limit is.2.1)) k)
 

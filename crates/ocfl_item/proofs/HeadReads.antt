@@ -65,7 +65,8 @@ head_read_from root s t o (Err why) z k is =
         once = stops.meta.once;
         heads =
             let same = same_trail s t stops.trail k.trail stops.stops.goes.listings k.stops.goes.listings (failures_by why) (failures_by why) stops.stops.goes.did k.stops.goes.did in
-            let front : IsFront (heads_at root (places_of k.trail)) (heads_at root (files_there root o names)) = (heads_at root k.opened.0, ap (heads_at root) k.opened.1 ∙ heads_append root (places_of k.trail) k.opened.0) in
+            let front : IsFront (heads_at root (places_of k.trail)) (heads_at root (files_there root o names)) =
+            (heads_at root k.opened.0, ap (heads_at root) k.opened.1 ∙ heads_append root (places_of k.trail) k.opened.0) in
             subst (λ l. IsFront l (on (reads_inventory root o) o)) (sym (ap (heads_of root) same ∙ heads_are root k.trail))
             (subst (IsFront (heads_at root (places_of k.trail))) (heads_exact root o z) front);
         store = λ q e.

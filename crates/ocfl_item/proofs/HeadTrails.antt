@@ -97,7 +97,8 @@ module _ (root : StorageRoot) (o : Place) (z : zone root o ≡ inside o []) wher
   pub inventory_opened : (trail : List Opening) → is_known (object_declared root o) ≡ true
       → IsFront (places_of trail) (files_there root o (inventory_name ∷ [])) → IsFront (heads_of root trail) (on (reads_inventory root o) o)
   inventory_opened trail version h =
-      let front : IsFront (heads_at root (places_of trail)) (heads_at root (files_there root o (inventory_name ∷ []))) = (heads_at root h.0, ap (heads_at root) h.1 ∙ heads_append root (places_of trail) h.0) in
+      let front : IsFront (heads_at root (places_of trail)) (heads_at root (files_there root o (inventory_name ∷ []))) =
+      (heads_at root h.0, ap (heads_at root) h.1 ∙ heads_append root (places_of trail) h.0) in
       subst (λ l. IsFront l (on (reads_inventory root o) o)) (sym (heads_are root trail))
       (subst (IsFront (heads_at root (places_of trail))) (heads_one [] refl ∙ sym (ap (λ b. on b o) (reads_known version))) front)
 

@@ -200,7 +200,9 @@ module _ (root : StorageRoot) (s t : Store) (made : Pending) (over : s.tree ≡ 
       let bytes : h.bytes ≡ f.bytes = some_same h.bytes f.bytes (sym h.is_file ∙ ap (option_and_then bytes_of) f.is_file) in
       let count : n ≡ length f.bytes = h.length_is ∙ ap length bytes in
       let names : map named_view ns ≡ named_at root made.place = ap (map named_view) same ∙ pending.named in
-      let has : HasDigests (map (λ m. m.algorithm) ns) f.bytes d = subst (λ b. HasDigests (map (λ m. m.algorithm) ns) b d) bytes (λ a i. h.digests.each a ∙ ap (λ b. cond b (Some (digest_bytes_of a h.bytes)) None) ((wanted a).1 (subst (λ ms. IsAmong (map (λ m. m.algorithm) ms) a) same i))) in
+      let has : HasDigests (map (λ m. m.algorithm) ns) f.bytes d =
+      subst (λ b. HasDigests (map (λ m. m.algorithm) ns) b d) bytes
+      (λ a i. h.digests.each a ∙ ap (λ b. cond b (Some (digest_bytes_of a h.bytes)) None) ((wanted a).1 (subst (λ ms. IsAmong (map (λ m. m.algorithm) ms) a) same i))) in
       whole_judges root made.place file_is s t n lines over h.did
       (ap (lines_at made.place) (f.lines None ∙ file_whole f.bytes (named_at root made.place) f.digests
       ∙ ap (λ xs. or_bytes f.bytes (unnamed_notes xs ++ wrong_notes f.bytes xs)) (sym names)) ∙ sym (are f.bytes has count))
@@ -246,7 +248,8 @@ by_cause TooLong k l = l (λ e. cc)
 abbrev Made : Type 0
 Made = Vec MadeLine Global × ℕ
 
-module _ (root : StorageRoot) (s t : Store) (made : Pending) (over : s.tree ≡ root) (pending : IsPending root made) (hashed : made.hashed ≡ true) (short : HasShortFiles root) (w : Wanted) (wanted : AreWanted w (map (λ m. m.algorithm) made.named.items)) where
+module _ (root : StorageRoot) (s t : Store) (made : Pending) (over : s.tree ≡ root) (pending : IsPending root made) (hashed : made.hashed ≡ true)
+    (short : HasShortFiles root) (w : Wanted) (wanted : AreWanted w (map (λ m. m.algorithm) made.named.items)) where
   abbrev names : List Named
   names = map named_view made.named.items
 

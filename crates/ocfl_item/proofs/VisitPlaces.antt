@@ -303,7 +303,8 @@ module _ (root : StorageRoot) (s t : Store) (e : Place) (f : Folder) (m : MadeDe
   pub object_visits : (u : Store) (r : Result Visit Fault) → m ≢ made.None → (t.tree ≡ root → IsDeclared root f.place f.entries.items m → VisitsHead root t u f.place r) → Visits root s u e r
   object_visits u r not told =
       let z : zone root e ≡ inside e [] = h.directory.zone ∙ ap (λ b. cond b (inside e []) hierarchy) (ap is_declared says ∙ some_declared f.entries.items m h.points not) in
-      let object : IsDeclared root e f.entries.items m = record { listing = h.there.listing; way = h.directory.here.way; listable = short_listable root e h.directory h.short; zone = z; says = sym says; points = h.points } in
+      let object : IsDeclared root e f.entries.items m = record
+      { listing = h.there.listing; way = h.directory.here.way; listable = short_listable root e h.directory h.short; zone = z; says = sym says; points = h.points } in
       visits_then root s t u e r (ap is_head z) h.over h.there.did looked
       (subst (λ x. VisitsHead root t u x r) h.there.is (told (h.there.did.tree ∙ h.over) (subst (λ x. IsDeclared root x f.entries.items m) (sym h.there.is) object)))
 

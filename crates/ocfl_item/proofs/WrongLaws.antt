@@ -33,7 +33,8 @@ pub wrong_step : (old mid new : PlaceLines) (ns : List MadeNamed) (i : ℕ) (n :
     → (bytes : Text) → HasDigests (map (λ m. m.algorithm) ns) bytes d → Adds old new (wrong_notes bytes (map named_view (take (i + 1) ns)))
 wrong_step old mid new ns i n d l is last before bytes has =
     let named : IsAmong ns n = subst (IsAmong ns) (sym is) (among_at ns i n l) in
-    let both = adds_both old mid new (wrong_notes bytes (map named_view (take i ns))) (wrong_notes bytes (named_view n ∷ [])) (before bytes has) (last bytes (has n.algorithm (among_map (λ m. m.algorithm) ns n named))) in
+    let both = adds_both old mid new (wrong_notes bytes (map named_view (take i ns))) (wrong_notes bytes (named_view n ∷ [])) (before bytes has)
+    (last bytes (has n.algorithm (among_map (λ m. m.algorithm) ns n named))) in
     let more : map named_view (take (i + 1) ns) ≡ map named_view (take i ns) ++ named_view n ∷ [] = map_more named_view ns i n l ∙ ap (λ m. map named_view (take i ns) ++ named_view m ∷ []) (sym is) in
     subst (Adds old new) (sym (ap (wrong_notes bytes) more ∙ wrong_push bytes (map named_view (take i ns)) (named_view n))) both
 

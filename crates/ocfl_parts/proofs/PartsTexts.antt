@@ -118,7 +118,8 @@ goes_on_before : (ps before : List Place) (tail rest : Text) → All IsPlace ps 
 goes_on_before [] before tail rest h k l e = absurd (omega arith)
 goes_on_before (p ∷ ps) [] tail rest h k l e = record { next = p; more = ps; is = refl; text = sym e ∙ append_assoc (part_line p) (parts_text ps) tail }
 goes_on_before (p ∷ ps) (q ∷ qs) tail rest h k l e =
-    let first = first_lines p q (parts_text ps ++ tail) (parts_text qs ++ rest) (All-head IsPlace p ps h) (All-head IsPlace q qs k) (sym (append_assoc (part_line p) (parts_text ps) tail) ∙ e ∙ append_assoc (part_line q) (parts_text qs) rest) in
+    let first = first_lines p q (parts_text ps ++ tail) (parts_text qs ++ rest) (All-head IsPlace p ps h) (All-head IsPlace q qs k)
+    (sym (append_assoc (part_line p) (parts_text ps) tail) ∙ e ∙ append_assoc (part_line q) (parts_text qs) rest) in
     let on = goes_on_before ps qs tail rest (All-tail IsPlace p ps h) (All-tail IsPlace q qs k) (omega arith) first.1 in
     record { next = on.next; more = on.more; is = (λ i. first.0 i ∷ on.is i); text = on.text }
 

@@ -30,7 +30,8 @@ first_lines l m r s h k e =
     let whole = sym (line_text-append l r) ∙ e ∙ line_text-append m s in
     let same_codes = first_parts 9 (code_text l.code) (code_text m.code) _ _ (no_tab _ (code_text_printable l.code)) (no_tab _ (code_text_printable m.code)) whole in
     let same_places = first_parts 9 (place_text l.place) (place_text m.place) _ _ (no_tab _ (place_text_printable l.place h.place)) (no_tab _ (place_text_printable m.place k.place)) same_codes.1 in
-    let same_details = first_parts 10 (escape l.detail) (escape m.detail) r s (no_line_feed _ (escape_printable l.detail h.detail)) (no_line_feed _ (escape_printable m.detail k.detail)) same_places.1 in
+    let same_details = first_parts 10 (escape l.detail) (escape m.detail) r s (no_line_feed _ (escape_printable l.detail h.detail))
+    (no_line_feed _ (escape_printable m.detail k.detail)) same_places.1 in
     let code = code_text_injective l.code m.code same_codes.0 in
     let place = place_text_determines l.place m.place h.place k.place same_places.0 in
     let detail = escape_injective l.detail m.detail h.detail k.detail same_details.0 in

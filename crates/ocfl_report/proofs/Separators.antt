@@ -23,7 +23,8 @@ separated_not_empty c [] r e = cc
 separated_not_empty c (x ∷ xs) r e = cc
 
 -- texts in a row determine what they are of, where none is empty and each is told apart from what follows it
-module _ {A : Type 0} (Is : A → Type 0) (line : A → Text) (first : (x y : A) (r s : Text) → Is x → Is y → line x ++ r ≡ line y ++ s → (x ≡ y) × (r ≡ s)) (some : (x : A) (r : Text) → line x ++ r ≢ []) where
+module _ {A : Type 0} (Is : A → Type 0) (line : A → Text)
+    (first : (x y : A) (r s : Text) → Is x → Is y → line x ++ r ≡ line y ++ s → (x ≡ y) × (r ≡ s)) (some : (x : A) (r : Text) → line x ++ r ≢ []) where
   pub texts_determine : (xs ys : List A) → All Is xs → All Is ys → flat_map line xs ≡ flat_map line ys → xs ≡ ys
   texts_determine [] [] h k e = refl
   texts_determine [] (y ∷ ys) h k e = absurd (some y (flat_map line ys) (sym e))

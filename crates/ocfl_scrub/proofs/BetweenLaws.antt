@@ -38,7 +38,8 @@ not_past m p h = by (place_cmp p m) refl
     by Equal e = refl
     by Greater e = refl
 
-module _ (f : Option Place → Option Place → List Place) (joins : (from to : Option Place) (b : Place) → IsBeyond from b → IsWithin to b → f from (Some b) ++ f (Some b) to ≡ f from to) (self : (p : Place) → f (Some p) (Some p) ≡ []) where
+module _ (f : Option Place → Option Place → List Place)
+    (joins : (from to : Option Place) (b : Place) → IsBeyond from b → IsWithin to b → f from (Some b) ++ f (Some b) to ≡ f from to) (self : (p : Place) → f (Some p) (Some p) ≡ []) where
   up_self : (from : Option Place) → up_to_last f from from ≡ []
   up_self None = refl
   up_self (Some p) = self p

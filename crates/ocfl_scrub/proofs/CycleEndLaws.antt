@@ -84,8 +84,10 @@ module _ (root : StorageRoot) (part : Part) (s t : Store) (old new : Option (Lis
       let are : all_in root k.trail part limits ≡ items_at root k.trail k.done = ap (λ is. joined (runs is limits)) (part_is root part k.trail) ∙ h.runs_are in
       let at_places : k.done ≡ places (all_in root k.trail part limits) = sym (ap places are ∙ places_of_items root k.trail k.done) in
       let counted : count ≡ length (runs_in root k.trail part limits) = h.count_is ∙ ap (λ is. length (runs is limits)) (sym (part_is root part k.trail)) in
-      let to_end : all_in root k.trail part limits ≡ items → ended ≡ true = λ e. h.ended_is ∙ none_due root k.trail k.done (due_within root part last) (sym are ∙ e ∙ part_is root part k.trail ∙ ap (items_at root k.trail) k.due_are) in
-      let done_all : ended ≡ true → k.done ≡ due_within root part None = λ e. sym (k.due_are ∙ ap (λ qs. k.done ++ qs) (nothing (due_within root part last) (sym h.ended_is ∙ e)) ∙ append-nil k.done) in
+      let to_end : all_in root k.trail part limits ≡ items → ended ≡ true =
+      λ e. h.ended_is ∙ none_due root k.trail k.done (due_within root part last) (sym are ∙ e ∙ part_is root part k.trail ∙ ap (items_at root k.trail) k.due_are) in
+      let done_all : ended ≡ true → k.done ≡ due_within root part None =
+      λ e. sym (k.due_are ∙ ap (λ qs. k.done ++ qs) (nothing (due_within root part last) (sym h.ended_is ∙ e)) ∙ append-nil k.done) in
       record {
         trail = k.trail;
         listed = k.listed;

@@ -67,7 +67,8 @@ state_unended None e = cc
 state_unended (Some p) e = cc
 
 -- one run later, on every store
-module _ (c now reached : Cursor) (cost opened : ℕ) (end : RunStatus) (last : Option Place) (is_now : now ≡ c) (unended : c.state ≢ ended) (is : reached ≡ after_run (begun now) cost opened (state_after end last)) where
+module _ (c now reached : Cursor) (cost opened : ℕ) (end : RunStatus) (last : Option Place) (is_now : now ≡ c) (unended : c.state ≢ ended)
+    (is : reached ≡ after_run (begun now) cost opened (state_after end last)) where
   reached_is : reached ≡ after_run c cost opened (state_after end last)
   reached_is = is ∙ ap (λ x. after_run (begun x) cost opened (state_after end last)) is_now ∙ ap (λ x. after_run x cost opened (state_after end last)) (begun_same c c.state unended)
 

@@ -26,7 +26,8 @@ use Rattle.ocfl_scrub.proofs.CycleEndLaws.{cycles, cycle_stops, cycles_none}
 
 -- where a cycle of all limits has come: whatever the runs of the limits that are left do from here,
 -- with them the cycle is whole
-pub record GoesOn (root : StorageRoot) (part : Part) (s t : Store) (old mid : Option (List ℕ)) (last : Option Place) (limits all : List Limits) (spent files : ℕ) (finding : Bool) (count : ℕ) : Type 0 where
+pub record GoesOn (root : StorageRoot) (part : Part) (s t : Store) (old mid : Option (List ℕ)) (last : Option Place) (limits all : List Limits)
+    (spent files : ℕ) (finding : Bool) (count : ℕ) : Type 0 where
   pub over : t.tree ≡ root
   pub out : limits ≡ [] → CyclesWithin (call_of root s t old mid) part last all spent files finding count false
   pub go : (u : Store) (new : Option (List ℕ)) (last' : Option Place) (spent' files' : ℕ) (finding' : Bool) (n : ℕ) (end : CycleStatus)
@@ -79,7 +80,8 @@ goes_start root part s old all over = record {
   go = λ u new last' spent' files' finding' n end k. figures root part s u old new last' all end _ _ _ _ _ _ _ _ (more_none spent') (more_none files') refl (more_none n) k;
 }
 
-module _ (root : StorageRoot) (part : Part) (s t u : Store) (old mid new : Option (List ℕ)) (last next_last : Option Place) (l : Limits) (ls all : List Limits) (spent files cost opened : ℕ) (finding more : Bool) (count : ℕ) (g : GoesOn root part s t old mid last (l ∷ ls) all spent files finding count) where
+module _ (root : StorageRoot) (part : Part) (s t u : Store) (old mid new : Option (List ℕ)) (last next_last : Option Place) (l : Limits)
+    (ls all : List Limits) (spent files cost opened : ℕ) (finding more : Bool) (count : ℕ) (g : GoesOn root part s t old mid last (l ∷ ls) all spent files finding count) where
   goes_run : (next : Place) → RunsWithin (call_of root t u mid new) part last next_last l cost opened more (Some next)
       → GoesOn root part s u old new next_last ls all (spent + cost) (files + opened) (finding || more) (count + 1)
   goes_run next h =
@@ -130,7 +132,8 @@ pub cycle_begins : (root : StorageRoot) (part : Part) (s : Store) (old : Option 
 cycle_begins root part s old all c is over =
     subst (λ x. CycleGoes root part s s old old all all x false) (sym is) (record { last = None; cursor_is = refl; goes = goes_start root part s old all over })
 
-module _ (root : StorageRoot) (part : Part) (s t : Store) (old mid : Option (List ℕ)) (limits all : List Limits) (c : Cursor) (finding : Bool) (g : CycleGoes root part s t old mid limits all c finding) where
+module _ (root : StorageRoot) (part : Part) (s t : Store) (old mid : Option (List ℕ)) (limits all : List Limits) (c : Cursor) (finding : Bool)
+    (g : CycleGoes root part s t old mid limits all c finding) where
   -- the limits ran out
   pub goes_out : limits ≡ [] → CyclesToWithin (call_of root s t old mid) part all c finding cycle.Spent
   goes_out e = record { last = g.last; cycle = g.goes.out e; cursor_is = g.cursor_is }

@@ -154,7 +154,8 @@ module _ (root : StorageRoot) where
   each_opened (d ∷ ds) h = ap (λ x. x ++ flat_map (λ e. opened_by root e.runs) ds) (part_opened root d.part d.first d.runs h.0.begins h.0.are)
       ∙ ap (λ x. hashed_among root (places_within d.part (item_places root)) ++ x) (each_opened ds h.1)
 
-  module _ (separators : List Place) (ds : List PartCycle) (up : IsAscending place_cmp separators) (are : map (λ d. d.part) ds ≡ parts_of separators) (done : AllByRecursion (IsPartCycle root) ds) where
+  module _ (separators : List Place) (ds : List PartCycle) (up : IsAscending place_cmp separators) (are : map (λ d. d.part) ds ≡ parts_of separators)
+      (done : AllByRecursion (IsPartCycle root) ds) where
     pub all_reports : flat_map (λ d. reports_of d.runs) ds ≡ text (audit root [])
     all_reports = each_report ds done ∙ ap (flat_map (λ part. text (within part (audit root [])))) are ∙ texts_join root separators up []
 

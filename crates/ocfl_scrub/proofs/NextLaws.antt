@@ -99,7 +99,8 @@ module _ (root : StorageRoot) (part : Part) where
         by : (os : List Place) → read_in root part last (Some next) ≡ os → os ≡ []
         by [] e = refl
         by (o ∷ os) e =
-            let i = among_from_filter (lies_in part) (read_between root last (Some next)) o (subst (λ ps. IsAmong ps o) (sym e ∙ places_within_is part (read_between root last (Some next))) (inl refl)) in
+            let i = among_from_filter (lies_in part) (read_between root last (Some next)) o
+            (subst (λ ps. IsAmong ps o) (sym e ∙ places_within_is part (read_between root last (Some next))) (inl refl)) in
             let k = (read_part root last (Some next) o).0 i.0 in
             absurd (no_object o i.1 k.0 k.1.0 k.1.1)
 

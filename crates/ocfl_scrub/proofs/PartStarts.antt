@@ -164,7 +164,8 @@ module _ (part : Part) where
 
 -- ---- what is left where the walk begins
 
-module _ (root : StorageRoot) (part : Part) (f : Option Place → List Place) (from_b : (b : Place) → f (place_before root b) ≡ places_from b (f None)) (after_p : (p : Place) → f (Some p) ≡ filter (λ q. is_lt (place_cmp p q)) (f None)) where
+module _ (root : StorageRoot) (part : Part) (f : Option Place → List Place) (from_b : (b : Place) → f (place_before root b) ≡ places_from b (f None))
+    (after_p : (p : Place) → f (Some p) ≡ filter (λ q. is_lt (place_cmp p q)) (f None)) where
   -- a place that is less than the first leaves all
   lesser_leaves_all : (b : Place) → first_place part ≡ Some b → (above : Option Place) → is_before above b ≡ true → places_within part (f None) ≡ places_within part (f above)
   lesser_leaves_all b e None t = refl

@@ -139,12 +139,14 @@ among_beyond root (Some q) p i = less_from (place_cmp q p) (among_from_filter (�
 pub due_beyond : (root : StorageRoot) (last : Option Place) (p : Place) (rest : List Place) → due root last ≡ p ∷ rest → IsBeyond last p
 due_beyond root last p rest e = among_beyond root last p (subst (λ zs. IsAmong zs p) (sym e) (inl refl))
 
-module _ (root : StorageRoot) (e : End) (s t u : Store) (old mid : Option (List ℕ)) (from last : Option Place) (finding : Bool) (low : HasGoneOn e from last) (h : Passes root e s t old mid from last finding) where
+module _ (root : StorageRoot) (e : End) (s t u : Store) (old mid : Option (List ℕ)) (from last : Option Place) (finding : Bool)
+    (low : HasGoneOn e from last) (h : Passes root e s t old mid from last finding) where
   -- what was taken, and what is left before the end
   pub halves : due_in root e from ≡ h.done ++ due_in root e last
   halves = ap (before_end e) h.due_are ∙ filter_append (λ z. not (is_past e z)) h.done (due root last) ∙ ap (λ ps. ps ++ due_in root e last) h.inside
 
-  module _ (p : Place) (up : IsBeyond last p) (least : due root last ≡ p ∷ due root (Some p)) (in_front : is_past e p ≡ false) (w : Walks root t u last (Some p)) (v : Store) (new : Option (List ℕ)) where
+  module _ (p : Place) (up : IsBeyond last p) (least : due root last ≡ p ∷ due root (Some p)) (in_front : is_past e p ≡ false)
+      (w : Walks root t u last (Some p)) (v : Store) (new : Option (List ℕ)) where
     pub due_with : due root from ≡ h.done ++ ((p ∷ []) ++ due root (Some p))
     due_with = h.due_are ∙ ap (λ ps. h.done ++ ps) least
 

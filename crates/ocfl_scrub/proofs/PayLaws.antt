@@ -87,7 +87,8 @@ pays_over h = h.passes.audits.did.tree ∙ h.passes.audits.over
 
 -- ---- a pass goes on
 
-module _ (root : StorageRoot) (end : End) (s t u : Store) (old mid : Option (List ℕ)) (from last : Option Place) (l : Limits) (spent files : ℕ) (finding : Bool) (low : HasGoneOn end from last) (h : Pays root end s t old mid from last l spent files finding) where
+module _ (root : StorageRoot) (end : End) (s t u : Store) (old mid : Option (List ℕ)) (from last : Option Place) (l : Limits) (spent files : ℕ)
+    (finding : Bool) (low : HasGoneOn end from last) (h : Pays root end s t old mid from last l spent files finding) where
   module _ (p : Place) (up : IsBeyond last p) (least : due root last ≡ p ∷ due root (Some p)) (in_front : is_past end p ≡ false) (w : Walks root t u last (Some p)) where
     module _ (v : Store) (new : Option (List ℕ)) (may : is_hashed root p ≡ true → IsWithinBoth l spent files) where
       unfoldable pub pays_took : (cost charged started : ℕ) (more either : Bool) → Takes (call_of root u v mid new) p cost more → charged ≡ spent + cost

@@ -61,7 +61,8 @@ pub record PaysUpTo (root : StorageRoot) (e : End) (s t : Store) (old new : Opti
   pub reached : IsWithinBoth limits spent files → ⊥
 
 -- from s to t there was a fault behind the last of them: the next one is paid for, or it was not begun
-pub record PaysHalting (root : StorageRoot) (e : End) (s t : Store) (old new : Option (List ℕ)) (from last : Option Place) (limits : Limits) (spent files : ℕ) (finding : Bool) (why : Fault) : Type 0 where
+pub record PaysHalting (root : StorageRoot) (e : End) (s t : Store) (old new : Option (List ℕ)) (from last : Option Place) (limits : Limits)
+    (spent files : ℕ) (finding : Bool) (why : Fault) : Type 0 where
   pub halts : Halts root e s t old new from last finding why
   pub counts : Counts limits spent files (items_at root halts.trail halts.done)
   pub next : Paid limits spent files (items_at root halts.trail (take 1 (due_in root e last))) ⊎ ((why ≢ fault.Output) × (halts.begun ≡ []))

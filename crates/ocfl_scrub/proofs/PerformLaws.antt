@@ -39,7 +39,8 @@ pub record Made (Begins : Cursor → Type 0) (text_of : Cursor → Text) (limits
   pub says : ran.end ≢ run.Worn → IsStoredNote text_of ran.cursor ran.spent ran.found ran.end said.status said.note said.cursor
 
 -- what a run does on any store
-module _ {S O : Type 0} {contents : O → Option (List ℕ)} {before after : S} {old new : O} {from : Cursor} {limits : MadeLimits} {ran : RunEnd} (r : RunsOnAnyStore contents before after old new from limits ran) where
+module _ {S O : Type 0} {contents : O → Option (List ℕ)} {before after : S} {old new : O} {from : Cursor} {limits : MadeLimits} {ran : RunEnd}
+    (r : RunsOnAnyStore contents before after old new from limits ran) where
   pub made_by : {Begins : Cursor → Type 0} {text_of : Cursor → Text} {said : Performed} → Begins from → (ran.end ≡ run.Worn → said.note ≡ note.CursorWorn)
       → (ran.end ≡ run.Worn → (said.status ≡ 3) × IsNone said.cursor)
       → (ran.end ≢ run.Worn → IsStoredNote text_of ran.cursor ran.spent ran.found ran.end said.status said.note said.cursor) → Made Begins text_of (limits_of limits) from ran said

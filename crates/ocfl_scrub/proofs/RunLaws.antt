@@ -88,7 +88,8 @@ next_of (inr c) f = inr c
 
 -- ---- after a walk that went down to where the pass over a part begins
 
-module _ (root : StorageRoot) (part : Part) (s t u : Store) (old new : Option (List ℕ)) (from stood last : Option Place) (l : Limits) (spent files : ℕ) (finding : Bool) (g : GoesDown root s t (entry part from)) where
+module _ (root : StorageRoot) (part : Part) (s t u : Store) (old new : Option (List ℕ)) (from stood last : Option Place) (l : Limits)
+    (spent files : ℕ) (finding : Bool) (g : GoesDown root s t (entry part from)) where
   module _ (os : List Opening) (done later : List Place) (due_are : due_in root (end_of part) (stand root part from) ≡ done ++ later) where
     are : items_above_in root (g.trail ++ os) part from ≡ items_at root os done ++ items_at root os later
     are = above_are root part s t from g os done later due_are
@@ -210,7 +211,8 @@ a_first : (items : List Item) (p : Place) → Some p ≡ first_of items → item
 a_first [] p e f = absurd cc
 a_first (i ∷ items) p e f = cc
 
-module _ (root : StorageRoot) (part : Part) (s t : Store) (old new : Option (List ℕ)) (c : Cursor) (last : Option Place) (l : Limits) (spent files : ℕ) (finding : Bool) (same : t.failures ≡ s.failures) where
+module _ (root : StorageRoot) (part : Part) (s t : Store) (old new : Option (List ℕ)) (c : Cursor) (last : Option Place) (l : Limits)
+    (spent files : ℕ) (finding : Bool) (same : t.failures ≡ s.failures) where
   all_read : (next : Option Place) (h : RunsWithin (call_of root s t old new) part (place_in c.state) last l spent files finding next) → unread_of root h.trail ≡ []
   all_read next h = none_left (unread_of root h.trail) s.failures (sym same ∙ h.looks.audits.did.failures_are)
 

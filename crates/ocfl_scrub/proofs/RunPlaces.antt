@@ -99,7 +99,8 @@ pub record Took (root : StorageRoot) (part : Part) (s t : Store) (old new : Opti
   pub figures : Figures (items_at root trail done) spent files finding
 
 -- a run took them: its limits allow these places, and not what is next
-pub record Turn (root : StorageRoot) (part : Part) (s t : Store) (old new : Option (List ℕ)) (from last : Option Place) (limits : Limits) (spent files : ℕ) (finding : Bool) (next : Option Place) : Type 0 where
+pub record Turn (root : StorageRoot) (part : Part) (s t : Store) (old new : Option (List ℕ)) (from last : Option Place) (limits : Limits)
+    (spent files : ℕ) (finding : Bool) (next : Option Place) : Type 0 where
   pub took : Took root part s t old new from last spent files finding
   pub next_is : next ≡ first_place (due_within root part last)
   pub paid : Paid limits 0 0 (items_at root took.trail took.done)
@@ -123,7 +124,8 @@ module _ (root : StorageRoot) (part : Part) (s t : Store) (old new : Option (Lis
       let done : List Place = places cut_items in
       let is_last : last_of from done ≡ last = sym h.last_is in
       let taken_is : cut_items ≡ items_at root h.trail done = sym (front_is root part h.trail from cut_items left_items split) in
-      let left_is : left_items ≡ items_at root h.trail (due_within root part last) = sym (rest_is root part h.trail from cut_items left_items split) ∙ ap (λ l. items_at root h.trail (due_within root part l)) is_last in
+      let left_is : left_items ≡ items_at root h.trail (due_within root part last) =
+      sym (rest_is root part h.trail from cut_items left_items split) ∙ ap (λ l. items_at root h.trail (due_within root part l)) is_last in
       record {
         took = record {
           done = done;

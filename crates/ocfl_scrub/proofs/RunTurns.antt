@@ -94,7 +94,8 @@ module _ {root : StorageRoot} {s t : Store} {old mid : Option (List ℕ)} {walk 
       pub run_spent : q.hashed ≡ true → (IsWithinBoth l spent files → ⊥) → (p : Place) × RunsWithin (call_of root s u old mid) part from last l spent files finding (Some p)
       unfolding pays_up_to
       run_spent e k =
-          let up_to = pays_up_to root (end_of part) h.begun t u old mid (stand root part from) h.stood l spent files finding h.beyond h.pays q.place item.above item.gives.3 item.in_front item.gives.0 (sym item.gives.2.hashed ∙ e) k in
+          let up_to = pays_up_to root (end_of part) h.begun t u old mid (stand root part from) h.stood l spent files finding h.beyond h.pays q.place
+          item.above item.gives.3 item.in_front item.gives.0 (sym item.gives.2.hashed ∙ e) k in
           (up_to.next, spent_all root part s h.begun u old mid from h.stood last l spent files finding h.down up_to h.last_is)
 
       module _ (may : q.hashed ≡ true → IsWithinBoth l spent files) (v : Store) (new : Option (List ℕ)) where

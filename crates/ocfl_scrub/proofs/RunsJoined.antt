@@ -52,7 +52,8 @@ pub record ReadFew (root : StorageRoot) (part : Part) (from : Option Place) (hea
   pub some : 1 ≤ count → length heads < length (holder root (entry part from)) + length (read_in root part from None) + count
 
 -- from s to t the runs of the limits took the items above from up to last
-pub record Parts (root : StorageRoot) (part : Part) (s t : Store) (old new : Option (List ℕ)) (from last : Option Place) (limits : List Limits) (spent files : ℕ) (finding : Bool) (count : ℕ) (ended : Bool) : Type 0 where
+pub record Parts (root : StorageRoot) (part : Part) (s t : Store) (old new : Option (List ℕ)) (from last : Option Place) (limits : List Limits)
+    (spent files : ℕ) (finding : Bool) (count : ℕ) (ended : Bool) : Type 0 where
   pub took : Took root part s t old new from last spent files finding
   pub runs_are : joined (runs (items_at root took.trail (due_within root part from)) limits) ≡ items_at root took.trail took.done
   pub count_is : count ≡ length (runs (items_at root took.trail (due_within root part from)) limits)
@@ -61,7 +62,8 @@ pub record Parts (root : StorageRoot) (part : Part) (s t : Store) (old new : Opt
   pub made : ended ≡ true → 1 ≤ count
 
 -- from s to t they took the items above from up to last, and then there was a fault
-pub record PartsStop (root : StorageRoot) (part : Part) (s t : Store) (old new : Option (List ℕ)) (from last : Option Place) (limits : List Limits) (spent files : ℕ) (finding : Bool) (count : ℕ) (why : Fault) : Type 0 where
+pub record PartsStop (root : StorageRoot) (part : Part) (s t : Store) (old new : Option (List ℕ)) (from last : Option Place) (limits : List Limits)
+    (spent files : ℕ) (finding : Bool) (count : ℕ) (why : Fault) : Type 0 where
   pub done : List Place
   pub begun : List Place
   pub rest : List Place
@@ -209,10 +211,14 @@ module _ (root : StorageRoot) (part : Part) (s t : Store) (old mid : Option (Lis
   pub parts_ended : Turn root part s t old mid from mid_last l spent files finding None → Parts root part s t old mid from mid_last (l ∷ ls) spent files finding 1 true
   parts_ended h =
       let none : due_within root part mid_last ≡ [] = first_none (due_within root part mid_last) h.next_is in
-      let split : items_at root h.took.trail (due_within root part from) ≡ items_at root h.took.trail h.took.done ++ items_at root h.took.trail (due_within root part mid_last) = ap (items_at root h.took.trail) h.took.due_are ∙ items_append root h.took.trail h.took.done (due_within root part mid_last) in
+      let split : items_at root h.took.trail (due_within root part from) ≡ items_at root h.took.trail h.took.done ++ items_at root h.took.trail
+      (due_within root part mid_last) = ap (items_at root h.took.trail) h.took.due_are ∙ items_append root h.took.trail h.took.done (due_within root part mid_last) in
       let is_cut : cut (items_at root h.took.trail (due_within root part from)) l ≡ items_at root h.took.trail h.took.done = ap (λ is. cut is l) split ∙ cut_of_paid l _ _ h.paid h.stops in
-      let is_left : left (items_at root h.took.trail (due_within root part from)) l ≡ [] = ap (λ is. left is l) split ∙ left_of_paid l _ _ h.paid h.stops ∙ ap (items_at root h.took.trail) none ∙ no_items root h.took.trail in
-      let are : runs (items_at root h.took.trail (due_within root part from)) (l ∷ ls) ≡ cut (items_at root h.took.trail (due_within root part from)) l ∷ [] = ap (λ xs. cut (items_at root h.took.trail (due_within root part from)) l ∷ runs_after ls xs) is_left ∙ ap (λ xs. cut (items_at root h.took.trail (due_within root part from)) l ∷ xs) (runs_end ls) in
+      let is_left : left (items_at root h.took.trail (due_within root part from)) l ≡ [] =
+      ap (λ is. left is l) split ∙ left_of_paid l _ _ h.paid h.stops ∙ ap (items_at root h.took.trail) none ∙ no_items root h.took.trail in
+      let are : runs (items_at root h.took.trail (due_within root part from)) (l ∷ ls) ≡ cut (items_at root h.took.trail (due_within root part from)) l ∷ [] =
+      ap (λ xs. cut (items_at root h.took.trail (due_within root part from)) l ∷ runs_after ls xs) is_left ∙ ap
+      (λ xs. cut (items_at root h.took.trail (due_within root part from)) l ∷ xs) (runs_end ls) in
       record {
         took = h.took;
         runs_are = ap joined are ∙ append-nil _ ∙ is_cut;
@@ -294,7 +300,8 @@ among_behind : (ps : List Place) (p : Place) (qs : List Place) → IsAmong (ps +
 among_behind [] p qs = inl refl
 among_behind (x ∷ ps) p qs = inr (among_behind ps p qs)
 
-module _ (root : StorageRoot) (part : Part) (s t : Store) (old mid : Option (List ℕ)) (from mid_last : Option Place) (l : Limits) (spent files : ℕ) (finding : Bool) (ls : List Limits) (next : Place) (h : Turn root part s t old mid from mid_last l spent files finding (Some next)) where
+module _ (root : StorageRoot) (part : Part) (s t : Store) (old mid : Option (List ℕ)) (from mid_last : Option Place) (l : Limits) (spent files : ℕ)
+    (finding : Bool) (ls : List Limits) (next : Place) (h : Turn root part s t old mid from mid_last l spent files finding (Some next)) where
   -- what is next is a hashed file
   pub record IsNext : Type 0 where
     pub behind : List Place
@@ -319,7 +326,8 @@ module _ (root : StorageRoot) (part : Part) (s t : Store) (old mid : Option (Lis
   -- what both read
   reads_then : (heads : List Place) (count : ℕ) → ReadFew root part mid_last heads count → ReadFew root part from (h.took.heads ++ heads) (1 + count)
   reads_then heads count k =
-      let there : IsAmong (due_within root part from) next = subst (λ ps. IsAmong ps next) (sym (h.took.due_are ∙ ap (λ ps. h.took.done ++ ps) next_there.due_is)) (among_behind h.took.done next next_there.behind) in
+      let there : IsAmong (due_within root part from) next = subst (λ ps. IsAmong ps next)
+      (sym (h.took.due_are ∙ ap (λ ps. h.took.done ++ ps) next_there.due_is)) (among_behind h.took.done next next_there.behind) in
       let parts = read_parts root part mid_last next next_there.behind next_there.due_is next_there.hashed from there in
       record { none = λ e. absurd (omega (arith, e)); some = λ e. by count k.none k.some parts }
     where
@@ -340,9 +348,11 @@ module _ (root : StorageRoot) (part : Part) (s t : Store) (old mid : Option (Lis
         → runs (items_at root (h.took.trail ++ os) (due_within root part from)) (l ∷ ls) ≡ items_at root h.took.trail h.took.done ∷ runs (items_at root os (due_within root part mid_last)) ls
     runs_then os ps rest opened is =
         let up : IsAscending place_cmp (h.took.done ++ due_within root part mid_last) = subst (IsAscending place_cmp) h.took.due_are (due_within_ascends root part from) in
-        let up_front : IsAscending place_cmp (h.took.done ++ ps) = ascends_left place_cmp (h.took.done ++ ps) rest (subst (IsAscending place_cmp) (ap (λ qs. h.took.done ++ qs) is ∙ sym (append_assoc h.took.done ps rest)) up) in
+        let up_front : IsAscending place_cmp (h.took.done ++ ps) =
+        ascends_left place_cmp (h.took.done ++ ps) rest (subst (IsAscending place_cmp) (ap (λ qs. h.took.done ++ qs) is ∙ sym (append_assoc h.took.done ps rest)) up) in
         let first : items_at root (h.took.trail ++ os) h.took.done ≡ items_at root h.took.trail h.took.done = items_before root h.took.trail os h.took.done ps up_front opened in
-        let then : items_at root (h.took.trail ++ os) (due_within root part mid_last) ≡ items_at root os (due_within root part mid_last) = items_behind root h.took.trail os h.took.done (due_within root part mid_last) up h.took.audits.opened in
+        let then : items_at root (h.took.trail ++ os) (due_within root part mid_last) ≡ items_at root os (due_within root part mid_last) =
+        items_behind root h.took.trail os h.took.done (due_within root part mid_last) up h.took.audits.opened in
         let split : items_at root (h.took.trail ++ os) (due_within root part from) ≡ items_at root h.took.trail h.took.done ++ items_at root os (due_within root part mid_last) =
         ap (items_at root (h.took.trail ++ os)) h.took.due_are ∙ items_append root (h.took.trail ++ os) h.took.done (due_within root part mid_last)
         ∙ ap (λ is. is ++ items_at root (h.took.trail ++ os) (due_within root part mid_last)) first ∙ ap (λ is. items_at root h.took.trail h.took.done ++ is) then in
@@ -358,8 +368,10 @@ module _ (root : StorageRoot) (part : Part) (s t : Store) (old mid : Option (Lis
     parts_then ended k =
         let a = h.took in
         let b = k.took in
-        let due_are : due_within root part from ≡ (a.done ++ b.done) ++ due_within root part last = a.due_are ∙ ap (λ qs. a.done ++ qs) b.due_are ∙ sym (append_assoc a.done b.done (due_within root part last)) in
-        let up : IsAscending place_cmp (a.done ++ b.done) = ascends_left place_cmp (a.done ++ b.done) (due_within root part last) (subst (IsAscending place_cmp) due_are (due_within_ascends root part from)) in
+        let due_are : due_within root part from ≡ (a.done ++ b.done) ++ due_within root part last =
+        a.due_are ∙ ap (λ qs. a.done ++ qs) b.due_are ∙ sym (append_assoc a.done b.done (due_within root part last)) in
+        let up : IsAscending place_cmp (a.done ++ b.done) = ascends_left place_cmp (a.done ++ b.done) (due_within root part last)
+        (subst (IsAscending place_cmp) due_are (due_within_ascends root part from)) in
         let first : List Item = items_at root a.trail a.done in
         let second : List Item = items_at root b.trail b.done in
         let same : items_at root (a.trail ++ b.trail) (a.done ++ b.done) ≡ first ++ second = items_then root a.trail b.trail a.done b.done up a.audits.opened b.audits.opened in
@@ -377,7 +389,8 @@ module _ (root : StorageRoot) (part : Part) (s t : Store) (old mid : Option (Lis
             figures = figures_then same a.figures b.figures;
           };
           runs_are = ap joined are ∙ ap (λ is. first ++ is) k.runs_are ∙ sym same;
-          count_is = let n : length (runs (items_at root (a.trail ++ b.trail) (due_within root part from)) (l ∷ ls)) ≡ suc (length (runs (items_at root b.trail (due_within root part mid_last)) ls)) = ap length are in let c = k.count_is in omega (arith, n, c);
+          count_is = let n : length (runs (items_at root (a.trail ++ b.trail) (due_within root part from)) (l ∷ ls)) ≡ suc
+              (length (runs (items_at root b.trail (due_within root part mid_last)) ls)) = ap length are in let c = k.count_is in omega (arith, n, c);
           read = reads_then b.heads count k.read;
           ended_is = k.ended_is;
           made = λ e. omega arith;
@@ -387,8 +400,10 @@ module _ (root : StorageRoot) (part : Part) (s t : Store) (old mid : Option (Lis
         → PartsStop root part s u old new from last (l ∷ ls) (spent + spent') (files + files') (finding || finding') (1 + count) why
     stops_then why k =
         let both : (h.took.done ++ k.done) ++ k.begun ≡ h.took.done ++ (k.done ++ k.begun) = append_assoc h.took.done k.done k.begun in
-        let due_are : due_within root part from ≡ (h.took.done ++ (k.done ++ k.begun)) ++ k.rest = h.took.due_are ∙ ap (λ qs. h.took.done ++ qs) k.due_are ∙ sym (append_assoc h.took.done (k.done ++ k.begun) k.rest) in
-        let all_up : IsAscending place_cmp (h.took.done ++ (k.done ++ k.begun)) = ascends_left place_cmp (h.took.done ++ (k.done ++ k.begun)) k.rest (subst (IsAscending place_cmp) due_are (due_within_ascends root part from)) in
+        let due_are : due_within root part from ≡ (h.took.done ++ (k.done ++ k.begun)) ++ k.rest =
+        h.took.due_are ∙ ap (λ qs. h.took.done ++ qs) k.due_are ∙ sym (append_assoc h.took.done (k.done ++ k.begun) k.rest) in
+        let all_up : IsAscending place_cmp (h.took.done ++ (k.done ++ k.begun)) =
+        ascends_left place_cmp (h.took.done ++ (k.done ++ k.begun)) k.rest (subst (IsAscending place_cmp) due_are (due_within_ascends root part from)) in
         let up : IsAscending place_cmp (h.took.done ++ k.done) = ascends_left place_cmp (h.took.done ++ k.done) k.begun (subst (IsAscending place_cmp) (sym both) all_up) in
         let first : List Item = items_at root h.took.trail h.took.done in
         let second : List Item = items_at root k.trail k.done in
@@ -420,7 +435,8 @@ module _ (root : StorageRoot) (part : Part) (s t : Store) (old mid : Option (Lis
           gone = k.gone;
           wrote = subst (Appends old new) texts (Appends-trans old mid new _ _ h.took.wrote k.wrote);
           part_of = k.part_of;
-          count_fits = let n : length (runs (items_at root (h.took.trail ++ k.trail) (due_within root part from)) (l ∷ ls)) ≡ suc (length (runs (items_at root k.trail (due_within root part mid_last)) ls)) = ap length are in let c = k.count_fits in omega (arith, n, c);
+          count_fits = let n : length (runs (items_at root (h.took.trail ++ k.trail) (due_within root part from)) (l ∷ ls)) ≡ suc
+              (length (runs (items_at root k.trail (due_within root part mid_last)) ls)) = ap length are in let c = k.count_fits in omega (arith, n, c);
           figures = figures_then same h.took.figures k.figures;
           read = reads_then k.heads count k.read;
         }

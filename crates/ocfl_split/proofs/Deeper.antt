@@ -87,7 +87,8 @@ module _ (root : StorageRoot) where
         let over : nat_le (length (directories_below root d)) (room - length next) ≡ false = lt-leb (length (directories_below root d)) (room - length next) (omega (arith, sum, few, many)) in
         let whole : level_below root ds ≡ (next ++ directories_below root d) ++ level_below root (drop (i + 1) ds) =
         so.next ∙ ap (λ xs. next ++ level_below root xs) left ∙ sym (append_assoc next (directories_below root d) (level_below root (drop (i + 1) ds))) in
-        let long : length (level_below root ds) ≡ length (next ++ directories_below root d) + length (level_below root (drop (i + 1) ds)) = ap length whole ∙ length-append (next ++ directories_below root d) (level_below root (drop (i + 1) ds)) in
+        let long : length (level_below root ds) ≡ length (next ++ directories_below root d) + length (level_below root (drop (i + 1) ds)) =
+        ap length whole ∙ length-append (next ++ directories_below root d) (level_below root (drop (i + 1) ds)) in
         let listed : listed_within root room ds ≡ take i ds ++ d ∷ [] =
         so.listed ∙ ap (λ xs. take i ds ++ listed_within root (room - length next) xs) left
         ∙ ap (λ b. take i ds ++ d ∷ cond b (listed_within root (room - length next - length (directories_below root d)) (drop (i + 1) ds)) []) over in (

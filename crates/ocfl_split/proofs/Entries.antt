@@ -161,7 +161,8 @@ module _ (root : StorageRoot) (d : Place) (es fs : List Entry) (ordinary : IsOrd
       let listed : kind_at root d k.0.name ≡ Some kind.Dir = sym (h.each k.0.name) ∙ own_kind es ordinary.once k.0 (among_moved fs es (IsPermutation-sym es fs moved) k.0 f.0) ∙ ap Some is_kind in
       let directory : is_dir root (d ++ k.0.name ∷ []) ≡ true = leaf_is_dir (at root (d ++ k.0.name ∷ [])) listed in
       let named = entry_named root d k.0.name dir (leaf_dir (at root (d ++ k.0.name ∷ [])) directory) in
-      let kept = among_filter of_tree (names_in root d) k.0.name named (and_both (is_dir root (d ++ k.0.name ∷ [])) (not (is_extensions_name d k.0.name)) directory (and_second (is_dir_kind (Some k.0.kind)) (not (is_extensions_name d k.0.name)) f.1)) in
+      let kept = among_filter of_tree (names_in root d) k.0.name named
+      (and_both (is_dir root (d ++ k.0.name ∷ [])) (not (is_extensions_name d k.0.name)) directory (and_second (is_dir_kind (Some k.0.kind)) (not (is_extensions_name d k.0.name)) f.1)) in
       subst (IsAmong (directories_in root d)) (sym k.2) (among_map (λ n. d ++ n ∷ []) (filter of_tree (names_in root d)) k.0.name kept)
 
   from_tree : (z : Place) → IsAmong (directories_in root d) z → IsAmong (directories_among d fs) z
@@ -171,7 +172,8 @@ module _ (root : StorageRoot) (d : Place) (es fs : List Entry) (ordinary : IsOrd
       let directory : at root (d ++ k.0 ∷ []) ≡ Some dir = leaf_dir (at root (d ++ k.0 ∷ [])) (and_first (is_dir root (d ++ k.0 ∷ [])) (not (is_extensions_name d k.0)) f.1) in
       let e = entry_of es k.0 kind.Dir (h.each k.0 ∙ ap (option_map kind_of) directory) in
       let out : not (is_extensions_name d e.0.name) ≡ true = ap (λ n. not (is_extensions_name d n)) e.2 ∙ and_second (is_dir root (d ++ k.0 ∷ [])) (not (is_extensions_name d k.0)) f.1 in
-      let kept = among_filter (is_directory_entry d) fs e.0 (among_moved es fs moved e.0 e.1) (and_both (is_dir_kind (Some e.0.kind)) (not (is_extensions_name d e.0.name)) (ap (λ x. is_dir_kind (Some x)) e.3) out) in
+      let kept = among_filter (is_directory_entry d) fs e.0 (among_moved es fs moved e.0 e.1)
+      (and_both (is_dir_kind (Some e.0.kind)) (not (is_extensions_name d e.0.name)) (ap (λ x. is_dir_kind (Some x)) e.3) out) in
       subst (IsAmong (directories_among d fs)) (ap (λ n. d ++ n ∷ []) e.2 ∙ sym k.2) (among_map (λ e. d ++ e.name ∷ []) (filter (is_directory_entry d) fs) e.0 kept)
 
 pub tree_rises : (root : StorageRoot) (d : Place) → IsAscending place_cmp (directories_in root d)

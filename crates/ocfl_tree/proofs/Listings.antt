@@ -166,7 +166,8 @@ same_kinds [] [] h k same = IsPermutation-refl []
 same_kinds [] (y ∷ ys) h k same = absurd (some_not_none y.kind (sym (ap (λ b. cond b (Some y.kind) (kind_in ys y.name)) (text_eq-same y.name)) ∙ sym (same y.name)))
 same_kinds (x ∷ xs) ys h k same =
     let here : kind_in ys x.name ≡ Some x.kind = sym (same x.name) ∙ ap (λ b. cond b (Some x.kind) (kind_in xs x.name)) (text_eq-same x.name) in
-    let rest : IsPermutation xs (without x.name ys) = same_kinds xs (without x.name ys) h.1 (apart_without ys x.name k) (λ n. by n (text_eq x.name n) refl (same n) ∙ sym (kind_in-without ys x.name n)) in
+    let rest : IsPermutation xs (without x.name ys) = same_kinds xs (without x.name ys) h.1 (apart_without ys x.name k)
+    (λ n. by n (text_eq x.name n) refl (same n) ∙ sym (kind_in-without ys x.name n)) in
     IsPermutation-trans (x ∷ xs) (x ∷ without x.name ys) ys (IsPermutation-cons x xs (without x.name ys) rest)
     (IsPermutation-sym ys (x ∷ without x.name ys) (fronted ys x.name x.kind k here))
   where

@@ -138,7 +138,8 @@ module _ (root : StorageRoot) where
   -- a listing that failed
   pub listing_fails : (s t : Store) (d : Place) (way may : List Place) (why : Fault) → Stops root s t (d ∷ []) [] why → DescendFails root s t (d ∷ way) may why
   listing_fails s t d way may why h =
-      let listed : IsFront (h.goes.listings ++ []) (d ∷ way) = (h.goes.listed.0 ++ way, ap (λ x. x ++ way) h.goes.listed.1 ∙ append_assoc h.goes.listings h.goes.listed.0 way ∙ ap (λ x. x ++ (h.goes.listed.0 ++ way)) (sym (append-nil h.goes.listings))) in
+      let listed : IsFront (h.goes.listings ++ []) (d ∷ way) =
+      (h.goes.listed.0 ++ way, ap (λ x. x ++ way) h.goes.listed.1 ∙ append_assoc h.goes.listings h.goes.listed.0 way ∙ ap (λ x. x ++ (h.goes.listed.0 ++ way)) (sym (append-nil h.goes.listings))) in
       record {
         goes = record {
           calls = record { over = h.goes.over; trail = []; listings = h.goes.listings; did = h.goes.did; read = λ e. refl; meta = refl; reached = refl };

@@ -58,7 +58,8 @@ module _ (root : StorageRoot) where
   pub root_stops : (s t : Store) (d : Place) (why : Fault) → d ≡ [] → Stops root s t (d ∷ []) [] why → ListsRoot root s t (Err why)
   root_stops s t d why e h = record { gives = subst (λ x. Stops root s t (x ∷ []) [] why) e h }
 
-  module _ (s t : Store) (base : Folder) (m : Head) (ordinary : IsOrdinary base.entries.items) (says : IsHead (declared level.Root (file_names base.entries.items)) m) (k : Enters root s t [] base.place base.entries.items) where
+  module _ (s t : Store) (base : Folder) (m : Head) (ordinary : IsOrdinary base.entries.items)
+      (says : IsHead (declared level.Root (file_names base.entries.items)) m) (k : Enters root s t [] base.place base.entries.items) where
     pub root_unknown : (m ≡ head.Known → ⊥) → ListsRoot root s t (Ok None)
     root_unknown unknown = record {
       gives =
@@ -113,7 +114,8 @@ module _ (root : StorageRoot) where
   -- and where it is
   pub stands_brought : (p d q : Place) (fs : List Folder) (new : List Pile) (a : Option Around) → fs ≡ [] → d ≡ [] → q ≡ p → IsBrought root d q (piles_of fs) new a → IsStanding root p new a
   stands_brought p d q fs new a none root_is same h =
-      let k : IsBrought root [] p [] new a = subst (λ x. IsBrought root [] x [] new a) same (subst (λ x. IsBrought root x q [] new a) root_is (subst (λ x. IsBrought root d q (piles_of x) new a) none h)) in
+      let k : IsBrought root [] p [] new a = subst (λ x. IsBrought root [] x [] new a) same
+      (subst (λ x. IsBrought root x q [] new a) root_is (subst (λ x. IsBrought root d q (piles_of x) new a) none h)) in
       record {
         stack = k.stack ∙ stack_starts root (is_closed root) p;
         listed = k.listed tt;

@@ -116,7 +116,8 @@ module _ (root : StorageRoot) where
           let z : zone root last ≡ inside o (q ++ way.0) = ap (zone root) way.1 ∙ inside_on root d o q way.0 e in
           let same : o ≡ c.place = let two : inside o (q ++ way.0) ≡ inside c.place k.0 = sym z ∙ k.1 in cc in
           let whole : d ≡ o ++ q = (zone_is root d o q e).whole in
-          let begun : begins c.place x ≡ true = subst (λ y. begins y x ≡ true) same (subst (λ y. begins o y ≡ true) (sym (ap (λ y. y ++ n ∷ []) whole ∙ append_assoc o q (n ∷ []))) (begins_front o (q ++ n ∷ []))) in
+          let begun : begins c.place x ≡ true = subst (λ y. begins y x ≡ true) same
+          (subst (λ y. begins o y ≡ true) (sym (ap (λ y. y ++ n ∷ []) whole ∙ append_assoc o q (n ∷ []))) (begins_front o (q ++ n ∷ []))) in
           subst (IsPart root d) (sym (ap (λ y. cond y (Some c) None) begun)) (q, subst (λ y. zone root d ≡ inside y q) same e, k.2)
 
       by : (z : Zone) → zone root d ≡ z → is_listed_zone root z ≡ true → IsPart root d (still a x)

@@ -112,7 +112,8 @@ module _ (old : Stand) (x : Place) (orderly : IsOrderlyStand old) (some : old.la
 
 -- ---- what is left once all before the name is let go
 
-module _ (old : Stand) (d : Place) (n : Text) (mid : Listings) (there : old.last ≡ Some d) (orderly : IsOrderlyStand old) (is : piles_in old.last mid.items ≡ trimmed (cut_top (length d) n (piles_in old.last old.listings.items))) where
+module _ (old : Stand) (d : Place) (n : Text) (mid : Listings) (there : old.last ≡ Some d) (orderly : IsOrderlyStand old)
+    (is : piles_in old.last mid.items ≡ trimmed (cut_top (length d) n (piles_in old.last old.listings.items))) where
   abbrev cut : Stand
   cut = record { listings = mid; around = old.around; last = old.last }
 

@@ -57,7 +57,8 @@ module _ (root : StorageRoot) where
   did_well s t trail listed meta did = subst (Did s t trail listed) (sym (none_unread trail meta)) did
 
   module _ (s t : Store) (p : Place) where
-    module _ (trail : List Opening) (listed : List Place) (over : s.tree ≡ root) (meta : content_trail root trail ≡ []) (once : AllPairs (λ a b. a.place ≢ b.place) trail) (way : IsFront listed (way_to p)) (heads : IsFront (heads_of root trail) (holder root (Some p))) where
+    module _ (trail : List Opening) (listed : List Place) (over : s.tree ≡ root) (meta : content_trail root trail ≡ [])
+        (once : AllPairs (λ a b. a.place ≢ b.place) trail) (way : IsFront listed (way_to p)) (heads : IsFront (heads_of root trail) (holder root (Some p))) where
       went : Did s t trail listed 0 → IsMetadataRead root trail → GoesDown root s t (Some p)
       went did read = record {
         trail = trail;

@@ -52,7 +52,8 @@ module _ (root : StorageRoot) (s t : Store) (d : Place) (n : Text) (inner : Fold
     (said : meaning level.Object given m ≡ declared level.Object (file_names given)) where
   pub hier_in : m ≡ made.None → Leads root s t d n r a a (Ok (Some inner))
   hier_in e =
-      let h = subst (λ x. InHierarchy root x inner.entries.items) k.enters.is (undeclared_entered root s t d inner.place n k.entries inner.entries.items given m k.above k.on k.ordinary k.enters same said e) in
+      let h = subst (λ x. InHierarchy root x inner.entries.items) k.enters.is
+      (undeclared_entered root s t d inner.place n k.entries inner.entries.items given m k.above k.on k.ordinary k.enters same said e) in
       subst (λ x. Leads root s t d n r x x (Ok (Some inner))) (sym none) (leads_in root s t d n r None k.over inner k.enters.did (record { place = k.enters.is; here = h.here; part = h.zone }))
 
   module _ (points : PointsAtOne level.Object given m) where

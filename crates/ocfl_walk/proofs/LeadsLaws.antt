@@ -36,7 +36,8 @@ pub around_on : (d : Place) (n : Text) (x : Option Around) → IsAroundIf d x �
 around_on d n None h = tt
 around_on d n (Some a) h = record { holds = begins_on a.place d (d ++ n ∷ []) h.holds (begins_front d (n ∷ [])); depth = h.depth; fit = h.fit }
 
-module _ (root : StorageRoot) (d : Place) (n : Text) (es : List Entry) (a : Around) (at : IsAt root d es) (s : Place) (z : zone root d ≡ inside a.place s) (t : table_at root a.place ≡ Some a.table) where
+module _ (root : StorageRoot) (d : Place) (n : Text) (es : List Entry) (a : Around) (at : IsAt root d es) (s : Place)
+    (z : zone root d ≡ inside a.place s) (t : table_at root a.place ≡ Some a.table) where
   listed_here : is_listed_within a.table s ≡ true
   listed_here =
       let entered : is_entered root d ≡ true = and_second (list_all (is_entered root) (beginnings d)) (is_entered root d) at.reached in

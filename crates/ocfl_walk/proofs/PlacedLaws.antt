@@ -176,7 +176,8 @@ snoc (suc n) (v ∷ w ∷ vs) e = let k = snoc n (w ∷ vs) (omega (arith, e)) i
 top_place : (p : Place) (vs : List (Vec Entry Global)) (n : ℕ) (q : Pile) (ps : List Pile) → length vs ≡ suc n → piles_at p vs ≡ q ∷ ps → q.0 ≡ take n p
 top_place p vs n q ps count is =
     let k = snoc n vs count in
-    let top : piles_at p vs ≡ (take (length k.0) p, back (λ x. x) k.1.items) ∷ piles_at p k.0 = piles_push (folders_from 0 p k.0) (folders_from 0 p vs) (record { place = take (length k.0) p; entries = k.1 }) (folders_push p k.0 vs k.1 k.2) in
+    let top : piles_at p vs ≡ (take (length k.0) p, back (λ x. x) k.1.items) ∷ piles_at p k.0 =
+    piles_push (folders_from 0 p k.0) (folders_from 0 p vs) (record { place = take (length k.0) p; entries = k.1 }) (folders_push p k.0 vs k.1 k.2) in
     first (sym is ∙ top) ∙ ap (λ m. take m p) k.3
   where
     first : {x : Pile} {xs : List Pile} → q ∷ ps ≡ x ∷ xs → q.0 ≡ x.0
@@ -205,7 +206,8 @@ top_here d vs x rest c is = (whole, (λ e. let m = leb-false (length d) (length 
         top ∙ ap (λ k. take k d) same ∙ take-length d
 
 -- at an entry of the deepest listing
-module _ (p x : Place) (old new : List (Vec Entry Global)) (entry : Entry) (a : Option Around) (h : IsOrderly p (piles_at p old) a) (t : IsTaken (piles_at p old) (piles_at p new) entry) (count : length new ≡ length old) (e : x ≡ t.place ++ entry.name ∷ []) where
+module _ (p x : Place) (old new : List (Vec Entry Global)) (entry : Entry) (a : Option Around) (h : IsOrderly p (piles_at p old) a)
+    (t : IsTaken (piles_at p old) (piles_at p new) entry) (count : length new ≡ length old) (e : x ≡ t.place ++ entry.name ∷ []) where
   abbrev n : ℕ
   n = length t.others
 

@@ -91,7 +91,8 @@ module _ (old : Stand) (orderly : IsOrderlyStand old) (first : old.last ≡ None
 pub held : (root : StorageRoot) (p : Place) (ps : List Pile) (a : Option Around) → IsStanding root p ps a → IsHeld root p ps a
 held root p ps a h = record { listed = h.listed; entries = h.entries; table = h.table }
 
-module _ (old : Stand) (entry : Entry) (x : Place) (mid : Listings) (orderly : IsOrderlyStand old) (next : next_of (piles_in old.last old.listings.items) ≡ Some x) (taken : (p : Place) → IsTaken (piles_at p old.listings.items) (piles_at p mid.items) entry) where
+module _ (old : Stand) (entry : Entry) (x : Place) (mid : Listings) (orderly : IsOrderlyStand old)
+    (next : next_of (piles_in old.last old.listings.items) ≡ Some x) (taken : (p : Place) → IsTaken (piles_at p old.listings.items) (piles_at p mid.items) entry) where
   there : (old.last ≡ Some (spot_of old.last)) × IsOrderly (spot_of old.last) (piles_in old.last old.listings.items) old.around
   there = begun old.last (piles_in old.last old.listings.items) old.around x orderly next
 
@@ -130,8 +131,10 @@ module _ (old : Stand) (entry : Entry) (x : Place) (mid : Listings) (orderly : I
       module _ (r : Step) (is : r ≡ step_from m.item) where
         pub entry_goes_on : GoesOn old at_entry r
         entry_goes_on =
-            let above = subst (λ y. place_cmp (spot_of old.last) y ≡ Less) (sym own) (entry_after (spot_of old.last) (piles_in old.last old.listings.items) (piles_in old.last mid.items) entry old.around there.1 (taken (spot_of old.last))) in
-            let small = size_entry (spot_of old.last) x (piles_in old.last old.listings.items) (piles_in old.last mid.items) entry old.around m.around m.folder there.1 (taken (spot_of old.last)) fair.table fair.folder in
+            let above = subst (λ y. place_cmp (spot_of old.last) y ≡ Less) (sym own)
+            (entry_after (spot_of old.last) (piles_in old.last old.listings.items) (piles_in old.last mid.items) entry old.around there.1 (taken (spot_of old.last))) in
+            let small = size_entry (spot_of old.last) x (piles_in old.last old.listings.items) (piles_in old.last mid.items) entry old.around m.around
+            m.folder there.1 (taken (spot_of old.last)) fair.table fair.folder in
             subst (GoesOn old at_entry) (sym is)
             (goes_to old at_entry x m.item fair.item refl (subst (λ y. IsBeyond y x) (sym there.0) above)
             (sizes_fall old at_entry (spot_of old.last) x _ _ old.around m.around there.0 refl refl refl entry_piles refl small)
@@ -144,7 +147,8 @@ module _ (old : Stand) (entry : Entry) (x : Place) (mid : Listings) (orderly : I
             → IsTurn root l x ((x, seen_names root x) ∷ popped (piles_in old.last old.listings.items)) → Meets root s u x → IsMeeting root x m
             → Steps root s u (Some l) at_entry r
         entry_told root s u l k st go meets met =
-            let here = entry_stands root l x (piles_in old.last old.listings.items) (piles_in old.last mid.items) entry m.folder old.around m.around st.entries go (taken (spot_of old.last)) met.folder met.table in
+            let here = entry_stands root l x (piles_in old.last old.listings.items) (piles_in old.last mid.items) entry m.folder old.around m.around
+            st.entries go (taken (spot_of old.last)) met.folder met.table in
             subst (Steps root s u (Some l) at_entry) (sym is)
             (step_to root s u l x at_entry m.item meets met.item (near_turn root l x _ go) (refl, subst (λ ps. IsStanding root x ps m.around) (sym entry_piles) here) go.some go.none)
 

@@ -78,7 +78,8 @@ files_and_digests_cases =
     reports_256 "fixity_match" (listing_with lists_f (codes "{\"md5\":{\"900150983CD24FB0D6963F7D28E17F72\":[\"v1/content/f\"]}}")) f_is_abc "ok\t.\t-\nok\to\t-\nok\to/v1/content/f\t3\n" ∷
     -- by the algorithms' names, whatever the order of the block
     reports_256 "fixity_mismatch_in_each_algorithm"
-    (listing_with lists_f (codes "{\"sha512/256\":{\"x\":[\"v1/content/f\"]},\"sha512\":{\"x\":[\"v1/content/f\"]},\"sha256\":{\"x\":[\"v1/content/f\"]},\"sha1\":{\"x\":[\"v1/content/f\"]},\"md5\":{\"x\":[\"v1/content/f\"]}}")) f_is_abc "ok\t.\t-\nok\to\t-\nE093\to/v1/content/f\tmd5 x 900150983cd24fb0d6963f7d28e17f72\nE093\to/v1/content/f\tsha1 x a9993e364706816aba3e25717850c26c9cd0d89d\nE093\to/v1/content/f\tsha256 x ba7816bf8f01cfea414140de5dae2223b00361a396177a9cb410ff61f20015ad\nE093\to/v1/content/f\tsha512 x ddaf35a193617abacc417349ae20413112e6fa4e89a97ea20a9eeee64b55d39a2192992a274fc1a836ba3c23a3feebbd454d4423643ce80e2a9ac94fa54ca49f\nE093\to/v1/content/f\tsha512/256 x 53048e2681941ef99b2e29b76b4c7dabe4c2d0c634fc6d46e0e2f13107e7af23\n" ∷
+    (listing_with lists_f
+    (codes "{\"sha512/256\":{\"x\":[\"v1/content/f\"]},\"sha512\":{\"x\":[\"v1/content/f\"]},\"sha256\":{\"x\":[\"v1/content/f\"]},\"sha1\":{\"x\":[\"v1/content/f\"]},\"md5\":{\"x\":[\"v1/content/f\"]}}")) f_is_abc "ok\t.\t-\nok\to\t-\nE093\to/v1/content/f\tmd5 x 900150983cd24fb0d6963f7d28e17f72\nE093\to/v1/content/f\tsha1 x a9993e364706816aba3e25717850c26c9cd0d89d\nE093\to/v1/content/f\tsha256 x ba7816bf8f01cfea414140de5dae2223b00361a396177a9cb410ff61f20015ad\nE093\to/v1/content/f\tsha512 x ddaf35a193617abacc417349ae20413112e6fa4e89a97ea20a9eeee64b55d39a2192992a274fc1a836ba3c23a3feebbd454d4423643ce80e2a9ac94fa54ca49f\nE093\to/v1/content/f\tsha512/256 x 53048e2681941ef99b2e29b76b4c7dabe4c2d0c634fc6d46e0e2f13107e7af23\n" ∷
     -- the manifest before the fixity block; the digest that is right has no line
     reports_256 "two_digests_and_fixity"
     (listing_with (key no_bytes.sha256 "[\"v1/content/f\"]" ∷ key abc.sha256 "[\"v1/content/f\"]" ∷ [])

@@ -36,7 +36,8 @@ keys_that_stand_twice_cases =
     "ok\t.\t-\nE097\to\tmd5 900150983cd24fb0d6963f7d28e17f72\nok\to/v1/content/f\t3\n" ∷
     -- by the algorithms' names, then by the digests
     reports_256 "digests_twice_in_fixity_ascending"
-    (listing_with lists_f (codes "{\"sha512/256\":{\"e\":[],\"E\":[]},\"sha512\":{\"d\":[],\"D\":[]},\"sha256\":{\"c\":[],\"C\":[]},\"sha1\":{\"b\":[],\"B\":[]},\"md5\":{\"z\":[],\"Z\":[],\"a\":[],\"A\":[]}}")) f_is_abc "ok\t.\t-\nE097\to\tmd5 a\nE097\to\tmd5 z\nE097\to\tsha1 b\nE097\to\tsha256 c\nE097\to\tsha512 d\nE097\to\tsha512/256 e\nok\to/v1/content/f\t3\n" ∷
+    (listing_with lists_f
+    (codes "{\"sha512/256\":{\"e\":[],\"E\":[]},\"sha512\":{\"d\":[],\"D\":[]},\"sha256\":{\"c\":[],\"C\":[]},\"sha1\":{\"b\":[],\"B\":[]},\"md5\":{\"z\":[],\"Z\":[],\"a\":[],\"A\":[]}}")) f_is_abc "ok\t.\t-\nE097\to\tmd5 a\nE097\to\tmd5 z\nE097\to\tsha1 b\nE097\to\tsha256 c\nE097\to\tsha512 d\nE097\to\tsha512/256 e\nok\to/v1/content/f\t3\n" ∷
     reports_256 "manifest_keys_before_fixity_keys"
     (listing_with (key abc.sha256 "[]" ∷ key abc_sha256_capitals "[]" ∷ []) (codes "{\"md5\":{\"a\":[],\"A\":[]}}")) []
     "ok\t.\t-\nE096\to\tba7816bf8f01cfea414140de5dae2223b00361a396177a9cb410ff61f20015ad\nE097\to\tmd5 a\n" ∷

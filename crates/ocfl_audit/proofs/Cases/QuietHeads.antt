@@ -41,7 +41,8 @@ abbrev pub audit_beside : List Note → StorageRoot → Unread → Place → Tex
 audit_beside sidecars root unread o inventory =
     filter has_lines (map (λ p. if place_eq p o then item_beside sidecars root unread o inventory else item_of root unread p) (ascending place_cmp (candidates root)))
 
-module _ (root : StorageRoot) (n : Text) (q : Place) (inventory : Text) (sidecars : List Note) (there : file_at root ((n ∷ q) ++ inventory_name ∷ []) ≡ Some inventory) (those : sidecars_notes root (n ∷ q) inventory ≡ sidecars) where
+module _ (root : StorageRoot) (n : Text) (q : Place) (inventory : Text) (sidecars : List Note)
+    (there : file_at root ((n ∷ q) ++ inventory_name ∷ []) ≡ Some inventory) (those : sidecars_notes root (n ∷ q) inventory ≡ sidecars) where
   head_is : (d : Declared) → head_notes_by root (n ∷ q) d ≡ head_beside sidecars root (n ∷ q) inventory d
   head_is undeclared = refl
   head_is several = refl

@@ -13,7 +13,8 @@ loop-triple-preserved c =
     let value = c.path-in-loop-triple-2.ensures.value ∙ ap slashed c.path-in-loop-triple.ensures in
     let known = c.path-in-loop-triple-2.ensures.place ∙ c.path-in-loop-triple.ensures in
     let shared = c.count_shared-count.ensures.shared in
-    let step = front_step c.loop-triple.shared.now c.count_shared-count.result c.args.triples.now c.loop-triple.triple-index c.triple-item.result text shared.0 c.loop-triple-test.true c.triple-item.is value known (sym c.as_bytes.ensures.value ∙ shared.1) c.loop-triple.invariant in
+    let step = front_step c.loop-triple.shared.now c.count_shared-count.result c.args.triples.now c.loop-triple.triple-index c.triple-item.result text
+    shared.0 c.loop-triple-test.true c.triple-item.is value known (sym c.as_bytes.ensures.value ∙ shared.1) c.loop-triple.invariant in
     subst (λ (front : List ℕ). All (IsBelow front) (take (c.loop-triple.triple-index + 1) c.args.triples.now)) (sym c.split_at.ensures.front) step
 
 pub returns : goal.returns

@@ -26,7 +26,8 @@ returns-then-is_empty-clause-told c =
 pub returns-clause-told : goal.returns-clause-told
 returns-clause-told c =
     let unread = ap (λ ns. is_read c.args.sight (map named_view ns)) (sym c.deref.ensures.value) ∙ sym c.is_hashed.ensures ∙ c.if-is_hashed.false in
-    let some = λ (e : c.in_ok-known.known.lines.items ≡ []). eqb-false (vec_len c.in_ok-known.known.lines) 0 (sym c.is_empty.ensures ∙ c.if-is_empty.false) (omega (arith, ap length e, c.in_ok-known.known.lines.ok.0)) in
+    let some = λ (e : c.in_ok-known.known.lines.items ≡ []). eqb-false (vec_len c.in_ok-known.known.lines) 0
+    (sym c.is_empty.ensures ∙ c.if-is_empty.false) (omega (arith, ap length e, c.in_ok-known.known.lines.ok.0)) in
     λ root t q content digests sight.
     let told : IsTold root c.args.place t q c.args.named.items c.args.sight = record { content = content; digests = digests; sight = sight } in (
       pending_known root c.args.place q t c.args.named.items c.args.sight told _ (c.in_ok-known.ensures.place) refl refl unread

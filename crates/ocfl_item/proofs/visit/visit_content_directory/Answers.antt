@@ -36,7 +36,8 @@ returns-clause-told g c = λ h root over here t q content digests.
       | else-is_empty w ↦ subst (IsSight root e) (sym w.sight-is)
           (dir_sight root e here f.entries.items short inner.listing (some_entries f.entries.items f.entries.len f.entries.ok.0 (sym w.if-is_empty.false ∙ c.is_empty.ensures)))
     ] in
-    let item = c.in_ok-item.ensures.told root t q (subst (λ x. content_at root x ≡ Some (t, q)) (sym inner.is) content) digests (subst (λ x. IsSight root x c.if-is_empty.sight) (sym inner.is) sight) in
+    let item = c.in_ok-item.ensures.told root t q (subst (λ x. content_at root x ≡ Some (t, q)) (sym inner.is) content) digests
+    (subst (λ x. IsSight root x c.if-is_empty.sight) (sym inner.is) sight) in
     visits_told root _ _ e _ (entered_meets root _ _ e _ _ over inner (looked_listed root e here short) (content_no_head root e (t, q) content))
     (visit_of_folder root e c.of_folder.result f
     (subst (IsItemAt root e) (sym c.of_folder.ensures.item) (subst (λ x. IsItemAt root x c.in_ok-item.item) inner.is item)) c.of_folder.ensures.folder

@@ -29,10 +29,12 @@ returns-in_default-clause-fair g c =
 
 pub returns-in-None-clause-told : goal.returns-in-None-clause-told
 returns-in-None-clause-told g c = λ h root over here.
-    let k = listed_as root _ _ c.args.place c.in_ok-folder.folder c.declaration.result _ over here (search rules) (c.in_ok-folder.ensures.told h root over) c.in_ok-folder.ensures.ordinary c.deref.ensures.value c.declaration.ensures.declared c.declaration.ensures.unknown in
+    let k = listed_as root _ _ c.args.place c.in_ok-folder.folder c.declaration.result _ over here (search rules)
+    (c.in_ok-folder.ensures.told h root over) c.in_ok-folder.ensures.ordinary c.deref.ensures.value c.declaration.ensures.declared c.declaration.ensures.unknown in
     undeclared_visits root _ _ c.args.place c.in_ok-folder.folder c.declaration.result k c.visit_undeclared.result c.in-None.is c.visit_undeclared.ensures.only (c.visit_undeclared.ensures.told root)
 
 pub returns-in_default-clause-told : goal.returns-in_default-clause-told
 returns-in_default-clause-told g c = λ h root over here.
-    let k = listed_as root _ _ c.args.place c.in_ok-folder.folder c.declaration.result _ over here (search rules) (c.in_ok-folder.ensures.told h root over) c.in_ok-folder.ensures.ordinary c.deref.ensures.value c.declaration.ensures.declared c.declaration.ensures.unknown in
+    let k = listed_as root _ _ c.args.place c.in_ok-folder.folder c.declaration.result _ over here (search rules)
+    (c.in_ok-folder.ensures.told h root over) c.in_ok-folder.ensures.ordinary c.deref.ensures.value c.declaration.ensures.declared c.declaration.ensures.unknown in
     object_visits root _ _ c.args.place c.in_ok-folder.folder c.declaration.result k _ c.visit_object.result c.in_default.not-None (c.visit_object.ensures.told h root)

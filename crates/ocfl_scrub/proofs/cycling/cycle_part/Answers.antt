@@ -50,7 +50,8 @@ returns-in-Ended-clause-headline g c told root over short same =
     let ran = c.run_part-reached.result in
     let moved = c.run_part-reached.ensures.any_store.cursor (ended_not_worn _ c.in-Ended.is) in
     let e = c.cycle_end-in-Ended.ensures in
-    let counted = e.runs ∙ sym (ap (λ x. x.runs) e.cursor ∙ one_run_more c.loop-one.cursor c.in-Ok.begun ran.cursor ran.spent ran.files ran.end moved.0 c.in-Ok.ensures.same i.unended moved.1 _ i.counts) in
+    let counted = e.runs ∙ sym
+    (ap (λ x. x.runs) e.cursor ∙ one_run_more c.loop-one.cursor c.in-Ok.begun ran.cursor ran.spent ran.files ran.end moved.0 c.in-Ok.ensures.same i.unended moved.1 _ i.counts) in
     let end = c.cycle_end-in-Ended.result in
     headline_of_part root (part_of c.args.part.now) (g.T.Tree.state c.args.store.now) (g.T.Tree.state c.run_part-reached.new.store)
     (g.W.Write.contents c.args.out.now) (g.W.Write.contents c.run_part-reached.new.out) (map limits_of c.args.limits.now) end.cursor end.found end.end end.runs

@@ -16,14 +16,16 @@ loop-part-init c = record {
 
 pub add-requires-clause-above : goal.add-requires-clause-above
 add-requires-clause-above c =
-    let l : c.loop-part.part * length c.args.level.now / c.min-parts.result < length c.args.level.now = index_within c.loop-part.part c.min-parts.result (length c.args.level.now) c.loop-part-test.true (omega (arith, c.min-parts.ensures)) in
+    let l : c.loop-part.part * length c.args.level.now / c.min-parts.result < length c.args.level.now =
+    index_within c.loop-part.part c.min-parts.result (length c.args.level.now) c.loop-part-test.true (omega (arith, c.min-parts.ensures)) in
     cut_above c.args.level.now c.loop-part.separators (c.loop-part.part * length c.args.level.now / c.min-parts.result) c.index-level-part.result l c.index-level-part.is c.loop-part.invariant.above
 
 pub loop-part-preserved : goal.loop-part-preserved
 loop-part-preserved c =
     let few : c.min-parts.result ≤ length c.args.level.now = omega (arith, c.min-parts.ensures) in
     let some : 0 < c.min-parts.result = omega arith in
-    let l : c.loop-part.part * length c.args.level.now / c.min-parts.result < length c.args.level.now = index_within c.loop-part.part c.min-parts.result (length c.args.level.now) c.loop-part-test.true few in
+    let l : c.loop-part.part * length c.args.level.now / c.min-parts.result < length c.args.level.now =
+    index_within c.loop-part.part c.min-parts.result (length c.args.level.now) c.loop-part-test.true few in
     let grows = index_grows c.loop-part.part c.min-parts.result (length c.args.level.now) some few in
     record {
       start = λ k. absurd (omega (arith, k, c.loop-part.auto.part, c.loop-part-test.true));

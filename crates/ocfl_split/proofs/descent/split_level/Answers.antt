@@ -18,7 +18,8 @@ loop-depth-init g c = record {
 
 pub returns-then-len-count-clause-told : goal.returns-then-len-count-clause-told
 returns-then-len-count-clause-told g c = λ h root over.
-    let enough : nat_le c.args.count (length c.loop-depth.level.items) ≡ true = le-leb c.args.count (length c.loop-depth.level.items) (omega (arith, c.len.ensures, c.loop-depth.level.ok.0, c.if-len-count.true)) in
+    let enough : nat_le c.args.count (length c.loop-depth.level.items) ≡ true =
+    le-leb c.args.count (length c.loop-depth.level.items) (omega (arith, c.len.ensures, c.loop-depth.level.ok.0, c.if-len-count.true)) in
     split_enough root c.args.count (g.T.Tree.state c.args.store.now) (g.T.Tree.state c.loop-depth.store) c.loop-depth.depth c.loop-depth.above.items
     c.loop-depth.level.items (c.loop-depth.invariant.told h root over) enough
 
@@ -29,7 +30,8 @@ returns-in_err-next-clause-told g c = λ h root over.
     let room : c.saturating_sub-room.result ≡ room_below c.loop-depth.above.items c.loop-depth.level.items = omega (arith, c.saturating_sub.ensures, c.saturating_sub-room.ensures, c.len-in-loop-depth.ensures, c.len-in-loop-depth-2.ensures, c.loop-depth.level.ok.0, c.loop-depth.above.ok.0) in
     let so = c.loop-depth.invariant.told h root over in
     let can = subst (AreListable root) (sym c.deref.ensures.value) (can_list root c.args.count (g.T.Tree.state c.args.store.now) (g.T.Tree.state c.loop-depth.store) c.loop-depth.depth c.loop-depth.above.items c.loop-depth.level.items so c.loop-depth.invariant.fair c.loop-depth-test.true) in
-    let stops = subst (λ xs. ListsStop root (g.T.Tree.state c.loop-depth.store) (g.T.Tree.state c.next_level.new.store) (listed_within root c.saturating_sub-room.result xs) c.in_err-next.field-0.0) c.deref.ensures.value (c.in_err-next.ensures.told h root (over_after root _ _ _ so.lists) can) in
+    let stops = subst (λ xs. ListsStop root (g.T.Tree.state c.loop-depth.store) (g.T.Tree.state c.next_level.new.store)
+    (listed_within root c.saturating_sub-room.result xs) c.in_err-next.field-0.0) c.deref.ensures.value (c.in_err-next.ensures.told h root (over_after root _ _ _ so.lists) can) in
     rw (p.1, p.2) (split_fails root c.args.count (g.T.Tree.state c.args.store.now) (g.T.Tree.state c.loop-depth.store) c.loop-depth.depth
     c.loop-depth.above.items c.loop-depth.level.items so (g.T.Tree.state c.next_level.new.store) c.saturating_sub-room.result c.loop-depth-test.true few room c.in_err-next.field-0.0 stops)
 
@@ -44,9 +46,11 @@ returns-in-None-clause-told g c = λ h root over.
     let room : c.saturating_sub-room.result ≡ room_below c.loop-depth.above.items c.loop-depth.level.items = omega (arith, c.saturating_sub.ensures, c.saturating_sub-room.ensures, c.len-in-loop-depth.ensures, c.len-in-loop-depth-2.ensures, c.loop-depth.level.ok.0, c.loop-depth.above.ok.0) in
     let so = c.loop-depth.invariant.told h root over in
     let can = subst (AreListable root) (sym c.deref.ensures.value) (can_list root c.args.count (g.T.Tree.state c.args.store.now) (g.T.Tree.state c.loop-depth.store) c.loop-depth.depth c.loop-depth.above.items c.loop-depth.level.items so c.loop-depth.invariant.fair c.loop-depth-test.true) in
-    let k = subst (λ xs. (None ≡ next_level root c.saturating_sub-room.result xs) × ListsAll root (g.T.Tree.state c.loop-depth.store) (g.T.Tree.state c.next_level.new.store) (listed_within root c.saturating_sub-room.result xs)) c.deref.ensures.value
+    let k = subst (λ xs. (None ≡ next_level root c.saturating_sub-room.result xs) × ListsAll root (g.T.Tree.state c.loop-depth.store)
+    (g.T.Tree.state c.next_level.new.store) (listed_within root c.saturating_sub-room.result xs)) c.deref.ensures.value
     (rw c.in-None.is at (c.in_ok-next.ensures.told h root (over_after root _ _ _ so.lists) can)) in
-    let ends = split_last root c.args.count (g.T.Tree.state c.args.store.now) (g.T.Tree.state c.loop-depth.store) c.loop-depth.depth c.loop-depth.above.items c.loop-depth.level.items so (g.T.Tree.state c.next_level.new.store) c.saturating_sub-room.result c.loop-depth-test.true few room k.0 k.1 in
+    let ends = split_last root c.args.count (g.T.Tree.state c.args.store.now) (g.T.Tree.state c.loop-depth.store) c.loop-depth.depth
+    c.loop-depth.above.items c.loop-depth.level.items so (g.T.Tree.state c.next_level.new.store) c.saturating_sub-room.result c.loop-depth-test.true few room k.0 k.1 in
     (c.wider-in-None.ensures ∙ ends.0, ends.1)
 
 pub loop-depth-preserved : goal.loop-depth-preserved
@@ -64,7 +68,8 @@ loop-depth-preserved g c =
           let room : c.saturating_sub-room.result ≡ room_below c.loop-depth.above.items c.loop-depth.level.items = omega (arith, c.saturating_sub.ensures, c.saturating_sub-room.ensures, c.len-in-loop-depth.ensures, c.len-in-loop-depth-2.ensures, c.loop-depth.level.ok.0, c.loop-depth.above.ok.0) in
           let so = c.loop-depth.invariant.told h root over in
           let can = subst (AreListable root) (sym c.deref.ensures.value) (can_list root c.args.count (g.T.Tree.state c.args.store.now) (g.T.Tree.state c.loop-depth.store) c.loop-depth.depth c.loop-depth.above.items c.loop-depth.level.items so c.loop-depth.invariant.fair c.loop-depth-test.true) in
-          let k = subst (λ xs. (Some c.in-Some.next.items ≡ next_level root c.saturating_sub-room.result xs) × ListsAll root (g.T.Tree.state c.loop-depth.store) (g.T.Tree.state c.next_level.new.store) (listed_within root c.saturating_sub-room.result xs)) c.deref.ensures.value
+          let k = subst (λ xs. (Some c.in-Some.next.items ≡ next_level root c.saturating_sub-room.result xs) × ListsAll root
+          (g.T.Tree.state c.loop-depth.store) (g.T.Tree.state c.next_level.new.store) (listed_within root c.saturating_sub-room.result xs)) c.deref.ensures.value
           (rw c.in-Some.is at (c.in_ok-next.ensures.told h root (over_after root _ _ _ so.lists) can)) in
           split_on root c.args.count (g.T.Tree.state c.args.store.now) (g.T.Tree.state c.loop-depth.store) c.loop-depth.depth c.loop-depth.above.items
           c.loop-depth.level.items so (g.T.Tree.state c.next_level.new.store) c.saturating_sub-room.result c.loop-depth-test.true few room
@@ -77,5 +82,6 @@ returns-clause-fair g c = subst (λ xs. (depth : ℕ) × IsLevel depth xs) (sym 
 
 pub returns-clause-told : goal.returns-clause-told
 returns-clause-told g c = λ h root over.
-    let ends = split_ends root c.args.count (g.T.Tree.state c.args.store.now) (g.T.Tree.state c.loop-depth.store) c.loop-depth.depth c.loop-depth.above.items c.loop-depth.level.items (c.loop-depth.invariant.told h root over) c.loop-depth-test.false in
+    let ends = split_ends root c.args.count (g.T.Tree.state c.args.store.now) (g.T.Tree.state c.loop-depth.store) c.loop-depth.depth
+    c.loop-depth.above.items c.loop-depth.level.items (c.loop-depth.invariant.told h root over) c.loop-depth-test.false in
     (c.wider-2.ensures ∙ ends.0, ends.1)

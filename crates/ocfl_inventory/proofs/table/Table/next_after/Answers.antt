@@ -12,7 +12,8 @@ use Rattle.ocfl_inventory.proofs.table.Table.next_after.Goals as goal
 pub returns-in-Some-clause-path : goal.returns-in-Some-clause-path
 returns-in-Some-clause-path c =
     let at = λ (xs : List Triple). option_map (λ t. t.path) (slice_get xs c.first_above.result) in
-    let high = subst (λ (xs : List Triple). IsPartitionPoint (λ t. is_lt (place_cmp c.in-Some.place.now t.path) ≡ false) (λ t. is_lt (place_cmp c.in-Some.place.now t.path) ≡ true) xs c.first_above.result) c.deref-in-Some.ensures.value c.first_above.ensures.found in
+    let high = subst (λ (xs : List Triple). IsPartitionPoint (λ t. is_lt (place_cmp c.in-Some.place.now t.path) ≡ false)
+    (λ t. is_lt (place_cmp c.in-Some.place.now t.path) ≡ true) xs c.first_above.result) c.deref-in-Some.ensures.value c.first_above.ensures.found in
     c.path_at.ensures ∙ ap at c.deref.ensures.value
     ∙ found_at (λ p. is_lt (place_cmp c.in-Some.place.now p)) c.self.inside.triples.items c.first_above.result high
     ∙ ap (λ (t : Table). next_path t (Some c.in-Some.place.now)) c.self.view_is

@@ -14,13 +14,15 @@ returns-then-can_fail-clause-reads c =
 pub returns-then-can_fail-clause-device : goal.returns-then-can_fail-clause-device
 returns-then-can_fail-clause-device c =
     let struck = rw c.deref.ensures.value at c.strikes_read-struck.ensures.struck in
-    let is = read_fails_is c.self.inside.nodes.items c.self.inside.open c.in-Some.open c.self.inside.openings.items c.self.inside.listings.items c.self.inside.failures c.self.inside.largest c.self.inside.plan c.strikes_read-struck.result c.in-Some.is c.self.invariant.reading struck in
+    let is = read_fails_is c.self.inside.nodes.items c.self.inside.open c.in-Some.open c.self.inside.openings.items c.self.inside.listings.items
+    c.self.inside.failures c.self.inside.largest c.self.inside.plan c.strikes_read-struck.result c.in-Some.is c.self.invariant.reading struck in
     rw (← c.self.view_is) (λ _. (ap is_some (some_rest c.self.inside.nodes.items _ _ c.in-Some.is), is ∙ sym c.can_fail.ensures ∙ c.if-can_fail.true), λ _. ap Err c.device_failed.ensures.trouble)
 
 pub returns-clause-device : goal.returns-clause-device
 returns-clause-device c =
     let struck = rw c.deref.ensures.value at c.strikes_read-struck.ensures.struck in
-    let is = read_fails_is c.self.inside.nodes.items c.self.inside.open c.in-Some.open c.self.inside.openings.items c.self.inside.listings.items c.self.inside.failures c.self.inside.largest c.self.inside.plan c.strikes_read-struck.result c.in-Some.is c.self.invariant.reading struck in
+    let is = read_fails_is c.self.inside.nodes.items c.self.inside.open c.in-Some.open c.self.inside.openings.items c.self.inside.listings.items
+    c.self.inside.failures c.self.inside.largest c.self.inside.plan c.strikes_read-struck.result c.in-Some.is c.self.invariant.reading struck in
     rw (← c.self.view_is) (λ e. absurd cc, λ h. absurd (true_not_false (sym h.1 ∙ is ∙ sym c.can_fail.ensures ∙ c.if-can_fail.false)))
 
 pub returns-clause-reads : goal.returns-clause-reads

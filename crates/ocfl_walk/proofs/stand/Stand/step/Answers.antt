@@ -92,7 +92,8 @@ returns-in-Path-clause-goes_on g c =
     let kept = (kept_turn c.args.end.now c.in_ok-turn.turn (turn.Path c.in-Path.place) (sym c.in-Path.is ∙ c.unless_past.ensures) (λ e. cc)).0 in
     let begun = chosen_begun c.args.self.now.last _ c.args.self.now.around c.in_ok-turn.turn c.in_ok-turn.ensures.base c.in_ok-turn.ensures.next c.in-Path.place kept in
     let next = chosen_path c.args.self.now.last _ c.args.self.now.around c.in_ok-turn.turn c.in_ok-turn.ensures.base c.in_ok-turn.ensures.next c.in-Path.place kept in
-    let named = path_named _ c.args.self.now.around c.in-Path.place c.args.self.now.last (mid_orderly _ _ c.args.self.now.around (c.drop_empty.ensures (spot_of c.args.self.now.last)) c.args.self.now.last c.requires) begun next in
+    let named = path_named _ c.args.self.now.around c.in-Path.place c.args.self.now.last
+    (mid_orderly _ _ c.args.self.now.around (c.drop_empty.ensures (spot_of c.args.self.now.last)) c.args.self.now.last c.requires) begun next in
     let mid : Stand = record { listings = c.drop_empty.new.listings; around = c.args.self.now.around; last = c.args.self.now.last } in
     goes_from c.args.self.now mid c.take_missing.new.self refl (sizes c.args.self.now mid refl refl (c.drop_empty.ensures (spot_of c.args.self.now.last))) c.take_missing.result
     (goes_less mid c.take_missing.new.self c.in-Path.place c.take_missing.result c.take_missing.ensures.goes_on c.take_missing.ensures.there (c.take_missing.ensures.falls named))

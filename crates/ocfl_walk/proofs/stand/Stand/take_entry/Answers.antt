@@ -8,7 +8,8 @@ use Rattle.ocfl_walk.proofs.stand.Stand.take_entry.Goals as goal
 pub returns-in_err-item-clause-told : goal.returns-in_err-item-clause-told
 returns-in_err-item-clause-told g c = λ h root over stood last e is turn.
     let p = err_from_is_err_and c.from_residual.result c.from_residual.ensures.1 in
-    let met = entry_is_met c.args.self.now c.in-Some.entry c.args.place c.take_entry.new.listings c.requires.orderly c.requires.next c.in-Some.ensures.taken _ c.take-around.ensures.value root stood e is in
+    let met = entry_is_met c.args.self.now c.in-Some.entry c.args.place c.take_entry.new.listings c.requires.orderly c.requires.next
+    c.in-Some.ensures.taken _ c.take-around.ensures.value root stood e is in
     rw (p.1, p.2) (meets_fails root (g.T.Tree.state c.args.store.now) (g.T.Tree.state c.meet.new.store) (Some last) c.args.place
     (near_turn root last c.args.place _ turn) _ (c.in_err-item.ensures.told h root over _ met))
 
@@ -38,7 +39,8 @@ returns-clause-there g c = entry_there c.args.self.now c.in-Some.entry c.args.pl
 
 pub returns-clause-told : goal.returns-clause-told
 returns-clause-told g c = λ h root over stood last e is turn.
-    let met = entry_is_met c.args.self.now c.in-Some.entry c.args.place c.take_entry.new.listings c.requires.orderly c.requires.next c.in-Some.ensures.taken _ c.take-around.ensures.value root stood e is in
+    let met = entry_is_met c.args.self.now c.in-Some.entry c.args.place c.take_entry.new.listings c.requires.orderly c.requires.next
+    c.in-Some.ensures.taken _ c.take-around.ensures.value root stood e is in
     let m = c.in_ok-item.ensures.told h root over _ met in
     entry_told c.args.self.now c.in-Some.entry c.args.place c.take_entry.new.listings c.requires.orderly c.requires.next c.in-Some.ensures.taken
     c.in-Some.ensures.count c.in_ok-item.field-0

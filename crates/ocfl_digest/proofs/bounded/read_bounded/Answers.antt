@@ -48,7 +48,7 @@ loop-bytes-preserved g c =
     let given = length-take c.in_ok-count.count c.read_piece.new.buffer in
     let bound = c.in_ok-count.ensures.bound in
     let step : IsBounding g.T.Tree.told (g.T.Tree.state c.args.store.now) (g.T.Tree.state c.read_piece.new.store) c.args.place.now c.args.limit
-      (c.loop-bytes.bytes.items ++ take c.in_ok-count.count c.read_piece.new.buffer) =
+    (c.loop-bytes.bytes.items ++ take c.in_ok-count.count c.read_piece.new.buffer) =
     bounding_reads _ _ _ _ _ _ _ _ _ (omega (arith, long)) c.loop-bytes.invariant c.in_ok-count.ensures.reads c.in_ok-count.ensures.largest
     (omega (arith, room, given, bound)) (omega (arith, long, given, bound)) in
     let grown : c.extend_from_slice.new.self.items ≡ c.loop-bytes.bytes.items ++ take c.in_ok-count.count c.read_piece.new.buffer = grind (arith, common_steps) in

@@ -511,8 +511,8 @@ pub fn a_command_does_what_it_is_asked_for()
         → call.after ≡ call.before }
 {}
 
-/// An audit stops for what a call answered, and for no walk of its own that had failed. Unless the
-/// output failed, it reports what it wrote. Where it took nothing, it wrote and found nothing.
+/// An audit stops only for what a call answered. Unless the output failed, it reports what it
+/// wrote. Where it took nothing, it found nothing, and wrote nothing unless the output failed.
 pub fn an_audit_reports_what_it_wrote()
     ensures unbroken { (old new : Option (List ℕ)) (ran : AuditEnd)
         → AuditsOnAnyStore (λ o. o) old new ran → ran.end ≢ end.Stopped fault.Broken }

@@ -285,7 +285,7 @@ const FILES_CHANGES: [Changes; 3] = [
     ("cursor 2\n", &[("files in version 1", "cursor 1\n")]),
 ];
 
-/// With each of these changes the body is that of no cursor.
+/// Each of these changes makes a body that no cursor has.
 fn expect_malformed(
     rt: &impl Runtime,
     version: &str,

@@ -46,7 +46,7 @@ pub fn cut(mut text: Vec<u8>) -> Vec<u8> {
     text
 }
 
-/// The place of a path; `-` is none.
+/// The place at a path, or `None` for `-`.
 pub fn end_at(alloc: Global, path: &str) -> Result<Option<Place>, Fail> {
     if path == "-" {
         Ok(None)
@@ -55,7 +55,7 @@ pub fn end_at(alloc: Global, path: &str) -> Result<Option<Place>, Fail> {
     }
 }
 
-/// The ends of a part, by their paths; `-` is none.
+/// The ends of a part at these paths, where `-` stands for no end.
 pub fn ends_of(alloc: Global, from: &str, below: &str) -> Result<PartEnds, Fail> {
     Ok(PartEnds {
         from: end_at(alloc, from)?,

@@ -36,7 +36,7 @@ def try_edits(edits, kept=True):
     of the crate."""
     rt = toolchain.load()
     if rt is None:
-        return fail("the command rt is not found; README.md tells of the toolchain")
+        return fail("the command rt is not found; README.md says what it needs")
     began = time.monotonic()
     with tempfile.TemporaryDirectory(prefix="ocfl-scrub-edits-") as folder:
         copy_to(folder, below({edit.crate for edit in edits}), kept=kept)

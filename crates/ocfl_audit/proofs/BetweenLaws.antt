@@ -1,4 +1,5 @@
--- What lies between two places adds up, and between a place and the next that is seen lies at most that one.
+-- What lies between two places adds up, and between a place and the next that is seen lies at most
+-- that one.
 use Rattle.std.proofs.Common.{◌≡◌, ◌≢◌, ◌⊎◌, inl, inr, List, [], ◌∷◌, ◌++◌, refl, sym, ◌∙◌, ap, subst, true, false, Bool, map, filter, Option, Some, None}
 use Rattle.std.specs.Prelude.{cond, ◌&&◌, not, nat_le, length}
 use Rattle.std.specs.List.{list_all}

@@ -1,4 +1,5 @@
--- The audit is the items of its places, and what could be read changes an item at its own place alone.
+-- The audit is the items of its places, and what could be read changes an item at its own place
+-- alone.
 use Rattle.std.proofs.Common.{◌≡◌, ℕ, List, [], ◌∷◌, refl, sym, ◌∙◌, ap, map, Option, Some, None, not}
 use Rattle.std.specs.Ordering.{is_lt}
 use Rattle.ocfl_tree.specs.Place.{Place, place_cmp}

@@ -256,7 +256,8 @@ module _ (root : StorageRoot) (closed : IsClosed root) (unread : Unread) where
   lined_notes : (y : Place) → has_lines (item_of root unread y) ≡ true → notes root (given_by unread y) y ≢ []
   lined_notes y h = place_has root unread y (has_place root unread y h)
 
-  -- a step of the walk: the least of what the listings and the table lead to, with its item if it has lines
+  -- a step of the walk: the least of what the listings and the table lead to, with its item if it
+  -- has lines
   pub walk_takes : (last x : Place) → place_cmp last x ≡ Less → NoneSeenBetween root last x → NoPathBetween root last x
       → after (audit root unread) (Some last) ≡ item_at root unread x ++ after (audit root unread) (Some x)
   walk_takes last x l sight path = by (has_lines (item_of root unread x)) refl

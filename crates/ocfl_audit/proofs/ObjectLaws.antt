@@ -19,7 +19,7 @@ use Rattle.ocfl_audit.proofs.AuditExists.{some_not_none, append_one, append_noth
 use Rattle.ocfl_audit.proofs.BelowLaws.{text_cmp_exact}
 use Rattle.ocfl_audit.proofs.BetweenLaws.{among_between, from_between, directories, objects, directories_ascend, objects_ascend, head_zone, is_directory, from_directory, is_object, from_object, read_seen}
 
--- ---- places with more behind them
+-- ---- places with more below them
 
 longer : (s : Place) (n : Text) (q : Place) → s ++ n ∷ q ≢ []
 longer [] n q e = cc

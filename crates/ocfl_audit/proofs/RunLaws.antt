@@ -183,7 +183,8 @@ same_len l s f [] h = refl
 same_len l s f (i ∷ items) h =
     ap₂ (λ t n. cond t (suc n) 0) (same_test l s f i.cost (omega (arith, h))) (same_len l (s + i.cost) (f + files_of i.cost) items (omega (arith, h)))
 
--- no more files were started than was spent: a limit that is no less than the budget is not reached before it
+-- no more files were started than was spent: a limit that is no less than the budget is not reached
+-- before it
 spent_test : (l : Limits) (s f c : ℕ) → l.budget ≤ l.files → f ≤ s → may_take l s f c ≡ (c == 0 || nat_lt s l.budget)
 spent_test l s f c fits h = by (c == 0)
   where
@@ -324,7 +325,8 @@ left_has_cost items b = by (budget_left items b) refl
         no : x ∷ xs ≡ [] → ⊥
         no q = cc
 
--- where something is left, the cut has spent its budget, and so the rest costs no more than the later budgets
+-- where something is left, the cut has spent its budget, and so the rest costs no more than the
+-- later budgets
 rest_fits : (items : List Item) (b m : ℕ) → total_cost items ≤ b + m → HasCost (budget_left items b) → (budget_left items b ≡ []) ⊎ (total_cost (budget_left items b) ≤ m)
 rest_fits items b m h (inl e) = inl e
 rest_fits items b m h (inr c) =

@@ -163,7 +163,8 @@ path_hierarchy root last z o s q t y g i l = cc
 pub names_sorted : (root : StorageRoot) (d : Place) (ns : List Text) → IsAscending text_cmp ns → ((n : Text) → IsAmong ns n ↔ IsAmong (names_in root d) n) → ns ≡ names_in root d
 names_sorted root d ns h same = ascending_unique text_cmp_total text_cmp_exact ns (names_in root d) h (ascends_ascending text_cmp_total (filter_map (λ e. child_name d e.0) root)) same
 
--- below a directory that is not reached no listing leads to anything, so the entry at a place may end there
+-- below a directory that is not reached no listing leads to anything, so the entry at a place may
+-- end there
 pub start_stops : (root : StorageRoot) (ps : List Place) (d q : Place) (fs : List Frame) → is_reached root d ≡ false → seen_left ps (listed_at root d q fs) ≡ seen_left ps fs
 start_stops root ps d [] fs h = ap (λ b. seen_in ps (d, cond b (names_in root d) []) ++ seen_left ps fs) h
 start_stops root ps d (n ∷ q) fs h =

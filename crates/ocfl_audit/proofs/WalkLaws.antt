@@ -142,7 +142,8 @@ module _ (root : StorageRoot) (closed : IsClosed root) (unread : Unread) where
       after_places root unread d d ∙ ap (map (item_of root unread)) (split_self (item_places root unread) (places_ascend root unread) d (names_below root d) (names_ascend root d) (cover d))
       ∙ sym (parts_places root unread d (names_below root d))
 
-  -- those above a place below d: what is above it under its next name, and then all under greater names
+  -- those above a place below d: what is above it under its next name, and then all under greater
+  -- names
   pub items_after_name : (d : Place) (n : Text) (q : Place) → after (items_under d (audit root unread)) (Some (d ++ n ∷ q))
       ≡ after (items_under (d ++ n ∷ []) (audit root unread)) (Some (d ++ n ∷ q)) ++ flat_map (λ m. items_under (d ++ m ∷ []) (audit root unread))
       (filter (λ m. is_lt (text_cmp n m)) (names_below root d))

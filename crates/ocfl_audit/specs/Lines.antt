@@ -40,7 +40,8 @@ hierarchy_notes root p (Some other) = plain S04 ∷ []
 abbrev pub is_inventory_or_sidecar : Text → Bool
 is_inventory_or_sidecar n = text_eq n inventory_name || text_eq n (sidecar_name Sha256) || text_eq n (sidecar_name Sha512)
 
--- an entry n of an object root (OCFL 1.1, 3.1 Object Structure, 3.8 Logs Directory and 3.9 Object Extensions)
+-- an entry n of an object root (OCFL 1.1, 3.1 Object Structure, 3.8 Logs Directory and 3.9 Object
+-- Extensions)
 abbrev pub object_entry_notes : StorageRoot → Place → Text → Option Leaf → List Note
 object_entry_notes root p n None = []
 object_entry_notes root p n (Some (file bytes)) = on (not (is_declaration Object n || is_inventory_or_sidecar n)) (plain E001)
@@ -86,7 +87,8 @@ or_bytes bytes (n ∷ ns) = n ∷ ns
 abbrev pub unnamed_notes : List Named → List Note
 unnamed_notes ns = on (not (is_in_manifest ns)) (plain E023)
 
--- a content file; u is what it gave before it could not be read on. A file that nothing names is never opened
+-- a content file; u is what it gave before it could not be read on. A file that nothing names is
+-- never opened
 abbrev pub file_notes : Text → List Named → Option ℕ → List Note
 file_notes bytes [] u = plain E023 ∷ []
 file_notes bytes (n ∷ ns) None = or_bytes bytes (unnamed_notes (n ∷ ns) ++ wrong_notes bytes (n ∷ ns))

@@ -49,7 +49,8 @@ pub data IsObjectFile (n : Text) : Type 0 where
   declaration : is_declaration Object n ≡ true → IsObjectFile n
   of_inventory : IsInventoryFile n → IsObjectFile n
 
--- what is read for its own sake: the storage root's declarations, and such files right in an object's root
+-- what is read for its own sake: the storage root's declarations, and such files right in an
+-- object's root
 pub data IsMetadata (root : StorageRoot) (p : Place) : Type 0 where
   of_root : (n : Text) → is_declaration Root n ≡ true → p ≡ n ∷ [] → IsMetadata root p
   of_object : (o : Place) (n : Text) → IsObjectRoot root o → IsObjectFile n → p ≡ o ++ n ∷ [] → IsMetadata root p

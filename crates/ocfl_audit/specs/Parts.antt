@@ -1,4 +1,5 @@
--- Parts of a storage root, so that many processes can share it: what lies in them, and what they cost.
+-- Parts of a storage root, so that many processes can share it: what lies in them, and what they
+-- cost.
 use Rattle.std.specs.Prelude.{ℕ, ◌&&◌, ◌||◌, List, [], ◌∷◌, ◌++◌, Bool, true, not, if◌then◌else◌, Option, Some, None, is_some, map, filter, flat_map}
 use Rattle.std.specs.Ordering.{is_lt}
 use Rattle.ocfl_tree.specs.Place.{Text, Place, place_cmp, begins}

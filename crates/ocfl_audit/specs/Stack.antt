@@ -12,7 +12,7 @@ use Rattle.ocfl_audit.specs.Head.{on}
 use Rattle.ocfl_audit.specs.Walk.{is_reached, item_at, items_under, names_below, seen_names}
 use Rattle.std.specs.declared.cmp.Ordering.TheVariants.{Less}
 
--- ---- a stack of directories, the deepest first, each with the names in it that are still to be taken
+-- ---- a stack of directories, the deepest first, each with its names that are still to be taken
 
 abbrev pub Frame : Type 0
 Frame = Place × List Text
@@ -91,11 +91,11 @@ abbrev pub IsListed : StorageRoot → List Frame → Type 0
 IsListed root [] = ⊤
 IsListed root (f ∷ fs) = ((n : Text) → IsAmong (names_left f) n → IsAmong (seen_names root (place_of_frame f)) n) × IsListed root fs
 
--- a place that comes next, and the stack behind it
+-- a place that comes next, and the stack after it
 abbrev pub Next : Type 0
 Next = Place × List Frame
 
--- the next entry of a stack; behind it its own listing is on top, empty where it is not entered
+-- the next entry of a stack; after it its own listing is on top, empty where it is not entered
 abbrev pub entry_of : StorageRoot → Place → List Text → List Frame → Option Next → Option Next
 entry_of root d [] fs later = later
 entry_of root d (n ∷ ns) fs later = Some (d ++ n ∷ [], (d ++ n ∷ [], seen_names root (d ++ n ∷ [])) ∷ (d, ns) ∷ fs)

@@ -141,7 +141,7 @@ they_break_the_rule = search arith
 
 -- ---- refusals
 
--- a text with the right last line behind it
+-- a text with the right last line after it
 abbrev sealed : String → Text
 sealed body = codes body ++ digest_line (codes body)
 
@@ -157,11 +157,11 @@ upward n (suc k) = n ∷ upward (n + 1) k
 abbrev whole : Text
 whole = codes "ocfl-scrub cursor 1\ncycle 3\nruns 2\nspent 9\nafter o/v1/content/c\ndigest 822836e04ff6618e0a7571237f0049f590a6f9890506f09338f0505902d351d7\n"
 
--- cut behind n bytes
+-- cut after n bytes
 abbrev cut_to : ℕ → Refusal
 cut_to n = refusal (take n whole)
 
--- within the first line, in front of the version, and anywhere behind it
+-- within the first line, in front of the version, and anywhere after it
 cut_anywhere : map cut_to (upward 0 136) ≡ replicate 18 not_cursor ++ version ∷ replicate 117 damaged
 unfolding cursor_on_literals
 cut_anywhere = refl
@@ -212,7 +212,7 @@ changed_in_front = refl
 in_two : (f : ℕ → Refusal) → map f (upward 0 136) ≡ map f (upward 0 64) ++ map f (upward 64 72)
 in_two f = refl
 
--- in the first line, in the version or the line feed behind it, and anywhere else
+-- in the first line, in the version or the line feed after it, and anywhere else
 changed_anywhere : map changed_at (upward 0 136) ≡ replicate 18 not_cursor ++ version ∷ version ∷ replicate 116 damaged
 changed_anywhere = in_two changed_at ∙ ap₂ ◌++◌ changed_in_front changed_in_last_line
 

@@ -21,7 +21,7 @@ use Rattle.ocfl_cursor.proofs.Paths.{length-place_text}
 
 -- ---- the first line
 
--- texts that differ in the byte behind the front differ
+-- texts that differ in the byte after the front differ
 versions_differ : (a b : Text) → codes "ocfl-scrub cursor 1\n" ++ a ≡ codes "ocfl-scrub cursor 2\n" ++ b → ⊥
 versions_differ a b e = eqb-false 49 50 refl (ap (λ t. get_or t 18 0) e)
 

@@ -1,4 +1,5 @@
--- What the first bytes of a reader tell of all of them, where one more is read than a cursor's text can have.
+-- What the first bytes of a reader tell of all of them, where one more is read than a cursor's text
+-- can have.
 use Rattle.std.proofs.Common.{◌≡◌, ◌⊎◌, inl, inr, ℕ, ◌<◌, ◌≤◌, [], ◌++◌, nat_eq, nat_le, false, min, length, take, codes, Option, Some, None, IfSome, sym, subst, ◌∙◌, arith, length-take}
 use Rattle.std.specs.List.{starts_with}
 use Rattle.std.specs.Option.{option_map}

@@ -66,7 +66,7 @@ end_text_determines word (Some p) (Some q) h k e = ap Some (both_places word p q
 
 -- ---- what is read of an end
 
--- the place whose path is the word, behind `./`
+-- the place whose path is the word, after `./`
 pub end_of_word : (word : Text) (p : Place) → word ≡ place_text p → codes "./" ++ word ≡ end_text word (Some p)
 end_of_word word p e = by (text_eq (place_text p) word) ((text_eq-Decides _ _).1 (sym e))
   where

@@ -26,6 +26,7 @@ pub record IsMeter (m : Meter) : Type 0 where
   pub files : m.files ≤ m.limits.files
   pub paid : m.files ≤ m.spent
 
--- a file may be started: less than the budget is spent, and fewer files than their limit are started
+-- a file may be started: less than the budget is spent, and fewer files than their limit are
+-- started
 abbrev pub MayStart : Meter → Type 0
 MayStart m = (m.spent < m.limits.budget) × (m.files < m.limits.files)

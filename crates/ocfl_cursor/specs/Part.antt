@@ -15,7 +15,8 @@ pub record AreEnds (e : PartEnds) : Type 0 where
   pub from : HasNames e.from
   pub below : HasNames e.below
 
--- an end: a word where there is no place, else the place's text, with `./` before it where that is the word
+-- an end: a word where there is no place, else the place's text, with `./` before it where that is
+-- the word
 abbrev pub end_text : Text → Option Place → Text
 end_text word None = word
 end_text word (Some p) = if text_eq (place_text p) word then codes "./" ++ place_text p else place_text p

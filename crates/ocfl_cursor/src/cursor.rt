@@ -9,8 +9,8 @@ use std::marker::Model;
 use std::mem;
 
 /// What one run leaves for the next: the cycle (1 to 2^64 - 1), how many runs it has had, what they
-/// have spent (at most 2^63 a run), how many files they have started (each costs at least 1), and
-/// where the next run begins.
+/// have spent, how many files they have started, and where the next run begins. A run spends at
+/// most 2^63, and each file costs at least 1.
 #[derive(Debug, Drop)]
 pub struct Cursor {
     cycle: u64,

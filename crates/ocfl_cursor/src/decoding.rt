@@ -109,7 +109,7 @@ pub(crate) fn read_lines(alloc: Global, version: Version, lines: &[u8]) -> Resul
     }
 }
 
-/// The numbers that a cursor's text tells.
+/// The numbers in a cursor's text.
 #[derive(Clone, Copy)]
 struct Counts {
     cycle: u64,
@@ -141,7 +141,7 @@ fn read_counts(version: Version, lines: &[u8]) -> Option<(Counts, &[u8])>
     Some((counts, rest))
 }
 
-/// Reads the first line, which tells the version.
+/// Reads the first line, which names the version.
 fn read_first_line(body: &[u8]) -> Option<(Version, &[u8])>
     ensures found { IfSome result (λ read. body.now ≡ version_line read.0 ++ read.1.now) }
     ensures missing { IsNone result

@@ -44,7 +44,7 @@ pub fn read_bounded<T: Tree>(
     let mut buffer = [0; 4096];
     loop {
         let left = limit - bytes.len();
-        // One byte past the limit tells a longer file.
+        // One byte past the limit shows that the file is longer.
         let count = read_piece(store, &mut buffer, left.min(4095) + 1)?;
         if count == 0 {
             store.close();

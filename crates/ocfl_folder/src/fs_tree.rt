@@ -23,11 +23,16 @@ use std::{fs, io};
 /// A folder of the file system. It does not tell its tree.
 ///
 /// A link is listed as `Other`. None is followed, except for the folder itself and for one that
-/// replaced a directory or a file after that was looked at. What is not found is `Absent`; running
-/// out of memory is `Memory`, but never in a read; every other fault is `Device`: a file where a
-/// directory is asked for or the other way round, a name that is not UTF-8 or is listed twice, more
-/// than 1,000,000 entries, an entry that goes away while it is listed, a file that is another when
-/// it is open, a path that is longer than the system takes.
+/// replaced a directory or a file after that was looked at.
+///
+/// What is not found is `Absent`. Running out of memory is `Memory`, but never in a read. Every
+/// other fault is `Device`:
+///
+/// - a file where a directory is asked for, or the other way round;
+/// - a name that is not UTF-8, or that is listed twice;
+/// - more than 1,000,000 entries, or one that goes away while it is listed;
+/// - a file that is another once it is open;
+/// - a path that is longer than the system takes.
 ///
 /// The directory that was found last is known until a listing or an opening fails. The names on the
 /// way to a place in it, or in one on the way there, are not looked at again; at any other place

@@ -35,8 +35,8 @@ impl Listed {
         }
     }
 
-    /// Appends an entry, and keeps the look at a file. `Device` if there are [`MAX_ENTRIES`] already,
-    /// `Memory` if memory is refused.
+    /// Appends an entry, and keeps the look at a file. `Device` if there are [`MAX_ENTRIES`]
+    /// already, `Memory` if memory is refused.
     pub(crate) fn add(&mut self, entry: Entry, node: Node) -> Result<(), Trouble> {
         if self.entries.len() >= MAX_ENTRIES {
             return Err(Trouble::Device);

@@ -17,7 +17,7 @@ use Rattle.ocfl_inventory.proofs.Blocks.{with_front, with_front_one}
 abbrev Blocks : Type 0
 Blocks = List (Algorithm × Block)
 
--- behind some blocks, those that are read one after the other are those that are read
+-- after some blocks, those that are read one after the other are those that are read
 blocks_behind : (ms : Members) (algorithms : List Algorithm) (front : Blocks)
     → with_blocks front (values_for algorithms ms) ≡ with_front front (blocks_for ms algorithms)
 blocks_behind ms [] front = ap Some (sym (append-nil front))
@@ -47,7 +47,7 @@ all_apart : AreApart supported
 all_apart = ((refl, (refl, (refl, (refl, tt)))), ((refl, (refl, (refl, tt))), ((refl, (refl, tt)), ((refl, tt), (tt, tt)))))
 
 -- the members at the keys of some algorithms are as they were, and the blocks of these are still to
--- be read behind those that were
+-- be read after those that were
 pub record AreLeft (ms now : Members) (front : Blocks) (algorithms : List Algorithm) : Type 0 where
   pub untouched : AllByRecursion (λ a. value_for a now ≡ value_for a ms) algorithms
   pub reads : with_blocks front (values_for algorithms ms) ≡ blocks_for ms supported

@@ -176,7 +176,8 @@ module _ {A : Type 0} {cmp : A → A → Ordering} (o : IsTotalOrder cmp) (exact
     same_tally : (xs ys : List A) (z : A) → IsPermutation xs ys → tally (test z) ys ≡ tally (test z) xs
     same_tally xs ys z p = tally_is (test z) ys ∙ sum_by-IsPermutation (λ x. cond (test z x) 1 0) xs ys p ∙ sym (tally_is (test z) xs)
 
-    -- those that pass the test with two or more, themselves among them: in a sorted list, with the next
+    -- those that pass the test with two or more, themselves among them: in a sorted list, with the
+    -- next
     pub sorted_hits : (p : A → Bool) (xs ys : List A) → ((z : A) → IsAmong xs z → p z ≡ nat_le 2 (count_by (test z) xs)) → IsPermutation xs ys → IsUp cmp ys
         → dedup alike (hits test ys) ≡ filter p (ascending cmp xs)
     sorted_hits p xs ys is perm up =

@@ -54,7 +54,8 @@ module _ {A : Type 0} (cmp : A → A → Ordering) where
   under_each x (y ∷ ys) h z (inl e) = ap (λ w. is_lt (cmp w x)) e ∙ h.0
   under_each x (y ∷ ys) h z (inr i) = under_each x ys h.1 z i
 
--- a test that an element passes with itself, that only later ones pass, and that each one between passes
+-- a test that an element passes with itself, that only later ones pass, and that each one between
+-- passes
 pub record IsFront {A : Type 0} (cmp : A → A → Ordering) (test : A → A → Bool) : Type 0 where
   pub itself : (x : A) → test x x ≡ true
   pub later : (x y : A) → test x y ≡ true → is_lt (cmp y x) ≡ false

@@ -14,7 +14,7 @@ use Rattle.ocfl_inventory.specs.declared.remark.Stop.{Stop}
 use Rattle.ocfl_inventory.specs.declared.remark.Stop.TheVariants as stops
 use Rattle.ocfl_inventory.specs.declared.table.InventoryReading.{InventoryReading}
 
--- what stops first stops all that comes behind it
+-- what stops first stops all that comes after it
 pub fails_then : {A B : Type 0} (e : Stop) (read : Reading A) (f : A → Reading B) → Fails e read → Fails e (read >>= f)
 fails_then stops.Memory read f h = tt
 fails_then (stops.Because r) read f h = ap (λ x. x >>= f) h

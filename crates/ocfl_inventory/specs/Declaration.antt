@@ -18,7 +18,7 @@ abbrev pub begins_with_digit : Text → Bool
 begins_with_digit [] = false
 begins_with_digit (c ∷ t) = is_ascii_digit c
 
--- what stands behind the prefix
+-- what follows the prefix
 abbrev pub after_prefix : Level → Text → Text
 after_prefix level n = drop (length (prefix level)) n
 

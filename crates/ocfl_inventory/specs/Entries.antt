@@ -42,7 +42,7 @@ PointsAtOne level es (made.One v) = Unit {0}
 PointsAtOne level es (made.Unknown i) = (e : Entry) × (slice_get es i ≡ Some e) × (is_counted level e ≡ true)
 PointsAtOne level es made.Several = Unit {0}
 
--- the first declaration from an index on, and what is left behind it
+-- the first declaration from an index on, and what is left after it
 abbrev pub IsNext : Level → List Entry → ℕ → Option ℕ → Type 0
 IsNext level es from None = filter (is_counted level) (drop from es) ≡ []
 IsNext level es from (Some i) = (e : Entry) × (i < length es) × (slice_get es i ≡ Some e) × (is_counted level e ≡ true) × (filter (is_counted level) (drop from es) ≡ e ∷ filter (is_counted level) (drop (i + 1) es))

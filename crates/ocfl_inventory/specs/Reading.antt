@@ -1,4 +1,5 @@
--- What the bytes of an `inventory.json` hold, or the line that stops (OCFL 1.1, 3.5 Inventory; RFC 8259).
+-- What the bytes of an `inventory.json` hold, or the line that stops (OCFL 1.1, 3.5 Inventory; RFC
+-- 8259).
 use Rattle.std.specs.Prelude.{◌==◌, ◌||◌, List, [], ◌∷◌, not, if◌then◌else◌, Option, Some, None, option_map, option_and_then, is_some, Result, Ok, Err, filter, codes}
 use Rattle.std.specs.List.{list_any}
 use Rattle.std.specs.Str.{is_utf8}
@@ -44,7 +45,8 @@ block_of d = option_and_then lists_of (as_object d)
 
 -- ---- the keys, each of which may stop
 
--- UTF-8, JSON, and an object (RFC 8259, 8.1, 2 and 4); of a key that is repeated the last value is kept
+-- UTF-8, JSON, and an object (RFC 8259, 8.1, 2 and 4); of a key that is repeated the last value is
+-- kept
 abbrev pub object_of : Text → Reading Members
 object_of bytes = or_stop (plain E033) (if is_utf8 bytes then option_and_then as_object (read bytes) else None)
 
@@ -111,7 +113,7 @@ pub record Inventory : Type 0 where
 abbrev pub algorithm_of : Text → Reading Algorithm
 algorithm_of bytes = object_of bytes >>= algorithm_in
 
--- the keys are looked at in this order, behind the algorithm: the first that stops is the answer
+-- the keys are looked at in this order, after the algorithm: the first that stops is the answer
 abbrev pub behind_algorithm : Members → Algorithm → Reading Inventory
 behind_algorithm ms a = do
   c ← content_from (get_member (codes "contentDirectory") ms)

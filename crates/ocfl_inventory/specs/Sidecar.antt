@@ -1,4 +1,5 @@
--- The text of a sidecar, the file beside an inventory that has its digest (OCFL 1.1, 3.6 Inventory Digest).
+-- The text of a sidecar, the file beside an inventory that has its digest (OCFL 1.1, 3.6 Inventory
+-- Digest).
 use Rattle.std.specs.Prelude.{◌≡◌, ℕ, ◌≤◌, ◌==◌, ◌&&◌, ◌||◌, ◌≢◌, nat_eq, nat_le, nat_lt, List, [], ◌∷◌, ◌++◌, Bool, true, Result, Ok, Err, length, take, drop, if◌then◌else◌, Option, Some, None, option_and_then, codes}
 use Rattle.std.specs.List.{list_all, starts_with}
 use Rattle.hex.specs.Hex.{decode_of}

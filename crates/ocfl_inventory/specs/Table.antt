@@ -39,7 +39,8 @@ pub record Triple : Type 0 where
 abbrev pub triple_cmp : Triple → Triple → Ordering
 triple_cmp a b = ordering_then (place_cmp a.path b.path) (named_cmp a.named b.named)
 
--- what the manifest and the supported algorithms of the fixity block say: the triples ascending, each once
+-- what the manifest and the supported algorithms of the fixity block say: the triples ascending,
+-- each once
 pub record Table : Type 0 where
   pub algorithm : Algorithm
   pub content : Text

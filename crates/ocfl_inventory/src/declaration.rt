@@ -73,7 +73,7 @@ pub fn declaration_bytes(level: Level, version: Version) -> &'static [u8]
     }
 }
 
-/// What of a name stands behind the prefix of declarations' names, known version or not; none where
+/// What of a name follows the prefix of declarations' names, known version or not; none where
 /// the name lacks that.
 pub fn version_in_name(level: Level, name: &str) -> Option<&str>
     ensures { MatchOption result ((rest : Text) → name.now ≢ level_prefix level ++ rest)
@@ -91,7 +91,7 @@ fn is_digit_first(bytes: &[u8]) -> bool
     }
 }
 
-/// What stands behind as many bytes as the prefix has.
+/// What follows as many bytes as the prefix has.
 fn behind_prefix(level: Level, name: &[u8]) -> &[u8]
     requires { length (level_prefix level) ≤ length name.now }
     ensures { result.now ≡ after_prefix level name.now }
@@ -120,7 +120,7 @@ fn is_declaration_entry(level: Level, entry: &Entry) -> bool
     }
 }
 
-/// The index of the first declaration at or behind an index.
+/// The index of the first declaration at or after an index.
 fn next_declaration(entries: &[Entry], level: Level, from: usize) -> Option<usize>
     ensures { IsNext level entries.now from result }
 {

@@ -2,7 +2,7 @@
 
 use crate::triple::Triple;
 
-/// The first bytes of a text, and zeros behind its end.
+/// The first bytes of a text, and zeros after its end.
 fn window(text: &[u8]) -> [u8; 256] {
     let mut seen = [0; 256];
     let count = text.len().min(256);
@@ -19,7 +19,7 @@ fn mark(seen: &[u8; 256], other: &[u8; 256], marks: &mut [u8; 256]) {
     }
 }
 
-/// The spots where the paths of triples differ, of so many bytes behind those that they share.
+/// The spots where the paths of triples differ, of so many bytes after those that they share.
 fn marks(triples: &[Triple], shared: usize) -> [u8; 256] {
     let mut marks = [0; 256];
     let Some(first) = triples.first() else {

@@ -81,7 +81,7 @@ fn is_name_and_tail(name: &[u8]) -> bool
     are_tail(tail)
 }
 
-/// Whether this may stand behind the digits.
+/// Whether this may follow the digits.
 fn is_after_digits(rest: &[u8]) -> bool
     ensures { result ≡ goes_on rest.now }
 {

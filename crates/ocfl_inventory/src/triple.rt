@@ -78,7 +78,7 @@ impl Triple {
         &self.path
     }
 
-    /// What of the path stands behind so many bytes.
+    /// What follows so many bytes of the path.
     pub(crate) fn past(&self, count: usize) -> &[u8]
         ensures { result.now ≡ drop count (slashed self.now.path) }
     {
@@ -92,7 +92,7 @@ impl Triple {
     }
 }
 
-/// What stands behind so many bytes.
+/// What follows so many bytes.
 fn past(text: &str, count: usize) -> &[u8]
     ensures { result.now ≡ drop count text.now }
 {

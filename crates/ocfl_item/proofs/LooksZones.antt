@@ -160,7 +160,7 @@ out_of_zone root d h = by (nat_le (length d) max_listed_depth) (is_dir root d)
     by true false = refl
     by false b = refl
 
--- behind what is not reached nothing is seen
+-- below what is not reached nothing is seen
 pub unseen_behind : (root : StorageRoot) (e r : Place) (m : Text) → is_reached root e ≡ false → seen root (e ++ m ∷ r) ≡ None
 unseen_behind root e r m h = by (list_all (is_entered root) (beginnings (e ++ m ∷ r))) refl
   where

@@ -28,6 +28,7 @@ pub record FilesStop (root : StorageRoot) (s t : Store) (o : Place) (names : Lis
   pub stops : Stops root s t [] trail why
   pub opened : IsFront (places_of trail) (files_there root o names)
 
--- of these files those that are there were opened, in order, and none else; before a fault the first of them
+-- of these files those that are there were opened, in order, and none else; before a fault the
+-- first of them
 abbrev pub OpensJust : {A : Type 0} → StorageRoot → Store → Store → Place → List Text → Result A Fault → Type 0
 OpensJust root s t o names r = MatchResult r (λ x. ReadsFiles root s t o names) (FilesStop root s t o names)

@@ -238,7 +238,7 @@ fn add_remarks(lines: &mut PlaceLines, remarks: Vec<Remark>) -> Result<(), Alloc
     Ok(())
 }
 
-/// Appends the lines of what an inventory says, behind that of the sidecar of its algorithm, and
+/// Appends the lines of what an inventory says, after that of the sidecar of its algorithm, and
 /// gives its table.
 fn add_read(
     alloc: Global,

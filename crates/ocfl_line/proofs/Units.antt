@@ -31,7 +31,7 @@ row_found rows t i d l before test =
     let here : beside (map row_of (get_or rows i d ∷ drop (i + 1) rows)) t ≡ Some (get_or rows i d).1 = rw test refl in
     sym (before ∙ at_drop_more (λ rs. beside (map row_of rs) t) rows i d l ∙ here)
 
--- and otherwise what the rows behind it give
+-- and otherwise what the rows after it give
 pub row_passed : (rows : List (Bor Text × ℕ)) (t : Text) (i : ℕ) (d : Bor Text × ℕ) → i < length rows
     → beside (map row_of rows) t ≡ beside (map row_of (drop i rows)) t
     → str_eq_ignore_ascii_case t (get_or rows i d).0.now ≡ false

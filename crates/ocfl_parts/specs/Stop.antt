@@ -5,7 +5,8 @@ use Rattle.ocfl_parts.specs.Parts.{max_bytes, HasMoreLines, IsBadLine, IsFirstBa
 use Rattle.ocfl_parts.specs.declared.reading.PartsStop.{PartsStop}
 use Rattle.ocfl_parts.specs.declared.reading.PartsStop.TheVariants.{Line, Long, Read, Memory}
 
--- too many bytes come first, then the lines in their order: the first bad one, or one more than there may be
+-- too many bytes come first, then the lines in their order: the first bad one, or one more than
+-- there may be
 abbrev pub StopsRightly : Text → PartsStop → Type 0
 StopsRightly b (Line n) = IsBadLine b n
 StopsRightly b Long = (max_bytes < length b) ⊎ HasMoreLines b

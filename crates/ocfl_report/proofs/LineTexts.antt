@@ -12,7 +12,7 @@ use Rattle.ocfl_report.proofs.Escapes.{escape_injective, escape_printable}
 use Rattle.ocfl_report.proofs.CodeTexts.{code_text_injective, code_text_printable}
 use Rattle.ocfl_report.proofs.PlaceTexts.{place_text_determines, place_text_printable}
 
--- the text of a line and what follows it, as three parts with a separator behind each
+-- the text of a line and what follows it, as three parts with a separator after each
 line_text-append : (l : Line) (rest : Text) → line_text l ++ rest ≡ code_text l.code ++ 9 ∷ (place_text l.place ++ 9 ∷ (escape l.detail ++ 10 ∷ rest))
 line_text-append l rest = simp append_assoc
 
@@ -56,7 +56,7 @@ text_is_lines_text (i ∷ items) = ap (λ t. lines_text i.lines ++ t) (text_is_l
 
 -- ---- a line whose fields are read
 
--- the text of three fields, as three parts with a separator behind each
+-- the text of three fields, as three parts with a separator after each
 three_fields : (code place detail : Text) → code ++ 9 ∷ place ++ 9 ∷ detail ++ 10 ∷ [] ≡ code ++ 9 ∷ (place ++ 9 ∷ (detail ++ 10 ∷ []))
 three_fields code place detail = simp append_assoc
 

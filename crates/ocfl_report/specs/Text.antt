@@ -1,4 +1,5 @@
--- The text of a report: a line is its code, its place and its detail with tabs between them, and a line feed.
+-- The text of a report: a line is its code, its place and its detail with tabs between them, and a
+-- line feed.
 use Rattle.std.specs.Prelude.{◌≡◌, ℕ, ◌/◌, ◌%◌, ◌<◌, ◌==◌, ◌||◌, nat_lt, nat_le, List, [], ◌∷◌, ◌++◌, All, Bool, if◌then◌else◌, map, flat_map, codes, slice_index}
 use Rattle.std.specs.List.{join_with_byte}
 use Rattle.std.specs.Str.{IsUtf8}

@@ -20,7 +20,7 @@ pub(crate) const ESCAPED: AsciiSet = ascii_set!(CONTROLS.add(b'%'));
 /// Appends the text with each control, `%`, DEL and byte outside ASCII as `%` and two capital
 /// hexadecimal digits.
 ///
-/// Where memory is refused a beginning of that stands behind what was there.
+/// Where memory is refused a beginning of that stands after what was there.
 pub(crate) fn put_escaped(text: &[u8], out: &mut Vec<u8>) -> Result<(), AllocError>
     ensures ok { OnOk result (out.new.items ≡ out.old.items ++ escape text.now) }
     ensures begins { StartsWith out.new.items out.old.items }

@@ -98,6 +98,6 @@ module _ (root : StorageRoot) where
     pub read_front : IsFront (read_between root last (Some p)) (before_end e (read_between root last None))
     read_front = (before_end e (read_between root (Some p) None), sym (read_out e root last p far inside))
 
--- a front of what is left is one of the whole behind what was before
+-- a front of what is left is one of the whole after what was before
 pub front_behind : (before front left whole : List Place) → before ++ left ≡ whole → IsFront front left → IsFront (before ++ front) whole
 front_behind before front left whole e f = (f.0, sym e ∙ ap (λ xs. before ++ xs) f.1 ∙ sym (append_assoc before front f.0))

@@ -109,7 +109,7 @@ one_of_front root p [] rest trail e h = inl (none_opened trail (h ∙ nothing_ha
 one_of_front root p (q ∷ []) rest trail e h = one_or_none root p trail (h ∙ ap (λ x. hashed_among root (x ∷ [])) (let f : q ≡ p = cc in f))
 one_of_front root p (q ∷ r ∷ begun) rest trail e h = absurd cc
 
--- a content file behind metadata is another file
+-- a content file after metadata is another file
 then_one : (root : StorageRoot) (p : Place) (front trail : List Opening) → content_trail root front ≡ [] → AreOnce front → IsOne root p trail → AreOnce (front ++ trail)
 then_one root p front trail meta once (inl e) = subst AreOnce (sym (append-nil front) ∙ ap (λ os. front ++ os) (sym e)) once
 then_one root p front trail meta once (inr k) =

@@ -1,4 +1,5 @@
--- The loop of a cycle over a part: where it has come, what one more run makes of that, and how it ends.
+-- The loop of a cycle over a part: where it has come, what one more run makes of that, and how it
+-- ends.
 use Rattle.std.proofs.Common.{◌≡◌, ℕ, ◌+◌, ◌≤◌, List, [], ◌∷◌, refl, sym, ◌∙◌, ap, subst, true, false, Bool, Some, None, Option, arith}
 use Rattle.std.specs.Prelude.{◌||◌}
 use Rattle.ocfl_tree.specs.Place.{Place}

@@ -1,4 +1,4 @@
--- What a call over a part looks at, behind the way down to where it begins.
+-- What a call over a part looks at, after the way down to where it begins.
 use Rattle.std.proofs.Common.{◌++◌, [], List, Option, None, refl, sym, subst, append-nil, ℕ}
 use Rattle.ocfl_tree.specs.Place.{Place}
 use Rattle.ocfl_tree.specs.StorageRoot.{StorageRoot}

@@ -17,7 +17,7 @@ some_cost n h c = by (n == 0) refl
     by true e = let z = eqb-true n 0 e in absurd (omega (arith, z, h))
     by false e = refl
 
--- the last item that costs something is the one behind which none does
+-- the last item that costs something is the one after which none does
 last_is : (front : List Item) (last : Item) (behind : List Item) → 0 < last.cost → total_cost behind ≡ 0 → last_cost (front ++ last ∷ behind) ≡ last.cost
 last_is [] last behind h k = ap (λ n. cond (n == 0) last.cost n) (no_cost behind k)
 last_is (i ∷ front) last behind h k = ap (λ n. cond (n == 0) i.cost n) (last_is front last behind h k) ∙ some_cost last.cost h i.cost

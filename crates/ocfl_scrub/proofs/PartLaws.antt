@@ -1,4 +1,4 @@
--- A cut by its parts: what it takes is paid for, and the first item behind it is not. What could be
+-- A cut by its parts: what it takes is paid for, and the first item after it is not. What could be
 -- read has no part in the latter.
 use Rattle.std.proofs.Common.{◌≡◌, ℕ, suc, ◌+◌, ◌<◌, List, [], ◌∷◌, refl, sym, ◌∙◌, ap, subst, true, false, Bool, take, drop, arith, eqb-true}
 use Rattle.std.specs.Prelude.{cond, ◌==◌, ◌||◌, ◌&&◌, nat_lt}

@@ -45,7 +45,8 @@ pub record PaysAll (root : StorageRoot) (e : End) (s t : Store) (old new : Optio
   pub finishes : Finishes root e s t old new from last finding
   pub counts : Counts limits spent files (items_at root finishes.trail (due_in root e from))
 
--- from s to t those before a hashed item were, at which a limit is reached; the walk has gone on to it
+-- from s to t those before a hashed item were, at which a limit is reached; the walk has gone on to
+-- it
 pub record PaysUpTo (root : StorageRoot) (e : End) (s t : Store) (old new : Option (List ℕ)) (from last : Option Place) (limits : Limits) (spent files : ℕ) (finding : Bool) : Type 0 where
   pub next : Place
   pub done : List Place
@@ -60,7 +61,8 @@ pub record PaysUpTo (root : StorageRoot) (e : End) (s t : Store) (old new : Opti
   pub hashed : is_hashed root next ≡ true
   pub reached : IsWithinBoth limits spent files → ⊥
 
--- from s to t there was a fault behind the last of them: the next one is paid for, or it was not begun
+-- from s to t there was a fault after the last of them: the next one is paid for, or it was not
+-- begun
 pub record PaysHalting (root : StorageRoot) (e : End) (s t : Store) (old new : Option (List ℕ)) (from last : Option Place) (limits : Limits)
     (spent files : ℕ) (finding : Bool) (why : Fault) : Type 0 where
   pub halts : Halts root e s t old new from last finding why

@@ -47,7 +47,7 @@ module _ (root : StorageRoot) (unread : Unread) (part : Part) where
       let w = after_is_end (within part (audit root unread)) p (items_ascend root unread part) in
       after_next w.0 x rest (w.1 ∙ ap (λ is. w.0 ++ is) e)
 
-  -- behind the last of a front lies what follows it
+  -- after the last of a front lies what follows it
   pub after_front : (from : Option Place) (xs ys : List Item) → after (within part (audit root unread)) from ≡ xs ++ ys → after (within part (audit root unread)) (last_of from (places xs)) ≡ ys
   after_front from [] ys e = e
   after_front from (x ∷ xs) ys e = after_front (Some x.place) xs ys (after_one from x (xs ++ ys) e)
@@ -86,7 +86,8 @@ abbrev pub first_place : List Place → Option Place
 first_place [] = None
 first_place (p ∷ ps) = Some p
 
--- from s to t the places above from were audited up to last, and their items went out, with these figures
+-- from s to t the places above from were audited up to last, and their items went out, with these
+-- figures
 pub record Took (root : StorageRoot) (part : Part) (s t : Store) (old new : Option (List ℕ)) (from last : Option Place) (spent files : ℕ) (finding : Bool) : Type 0 where
   pub done : List Place
   pub trail : List Opening

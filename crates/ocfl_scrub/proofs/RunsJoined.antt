@@ -343,7 +343,8 @@ module _ (root : StorageRoot) (part : Part) (s t : Store) (old mid : Option (Lis
           omega (arith, e, r, m, one, parts)
 
   module _ (u : Store) (new : Option (List ℕ)) (last : Option Place) (spent' files' : ℕ) (finding' : Bool) (count : ℕ) where
-    -- at a trail that goes on over places that follow, the runs are the first cut and those of the rest
+    -- at a trail that goes on over places that follow, the runs are the first cut and those of the
+    -- rest
     runs_then : (os : List Opening) (ps rest : List Place) → content_trail root os ≡ hashed_among root ps → due_within root part mid_last ≡ ps ++ rest
         → runs (items_at root (h.took.trail ++ os) (due_within root part from)) (l ∷ ls) ≡ items_at root h.took.trail h.took.done ∷ runs (items_at root os (due_within root part mid_last)) ls
     runs_then os ps rest opened is =

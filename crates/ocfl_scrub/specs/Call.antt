@@ -1,4 +1,5 @@
--- A call over a storage root: what the store tells, and what is known of the output, before it and after it.
+-- A call over a storage root: what the store tells, and what is known of the output, before it and
+-- after it.
 use Rattle.std.specs.Prelude.{◌≡◌, ℕ, List, Bool, Option, Some}
 use Rattle.std.specs.Io.KnownBytes.{Appends}
 use Rattle.ocfl_tree.specs.Place.{Text}

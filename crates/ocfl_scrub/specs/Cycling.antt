@@ -1,4 +1,5 @@
--- What a cycle does: runs from the first item on, one for each of some limits, until no item is left.
+-- What a cycle does: runs from the first item on, one for each of some limits, until no item is
+-- left.
 use Rattle.std.specs.Prelude.{◌≡◌, ◌≢◌, ◌<◌, ◌≤◌, ◌+◌, ◌-◌, ◌/◌, ◌↔◌, ℕ, List, [], ◌++◌, Bool, true, false, Option, None, All, map, take, length, ⊤}
 use Rattle.ocfl_tree.specs.Place.{Place}
 use Rattle.ocfl_tree.specs.StorageRoot.{StorageRoot}

@@ -1,4 +1,5 @@
--- Runs of a part made one after the other, by whatever processes, and the parts of a storage root together.
+-- Runs of a part made one after the other, by whatever processes, and the parts of a storage root
+-- together.
 use Rattle.std.specs.Prelude.{◌≡◌, List, [], ◌∷◌, ◌++◌, None, flat_map}
 use Rattle.ocfl_tree.specs.Place.{Text, Place}
 use Rattle.ocfl_tree.specs.StorageRoot.{StorageRoot}

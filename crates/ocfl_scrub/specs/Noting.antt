@@ -153,7 +153,8 @@ abbrev pub IsAuditNote : Bool → End → ℕ → Note → Type 0
 IsAuditNote finding end.Ended status n = (status ≡ status_of finding) × (n ≡ note.Nothing)
 IsAuditNote finding (end.Stopped why) status n = (status ≡ 3) × IsStopNote why n
 
--- what a run is said to have done: the cycle and the runs of the cursor that it answered, and its own cost
+-- what a run is said to have done: the cycle and the runs of the cursor that it answered, and its
+-- own cost
 abbrev pub run_summary : Cursor → ℕ → Bool → Note
 run_summary c spent whole = note.RunMade c.cycle c.runs spent whole
 

@@ -47,12 +47,14 @@ abbrev pub BeginsWith : Option (Option Text) → Cursor → Type 0
 BeginsWith None c = c ≡ new_cursor
 BeginsWith (Some known) c = IfSome known (λ bytes. IsTextOf bytes c)
 
--- no cursor was read, and where the bytes are known they are rightly refused; only a reader can be refused
+-- no cursor was read, and where the bytes are known they are rightly refused; only a reader can be
+-- refused
 abbrev pub StopsWith : Option (Option Text) → CursorStop → Type 0
 StopsWith None why = ⊥
 StopsWith (Some known) why = IfSome known (λ bytes. StopsRightly bytes why)
 
--- nothing is shown, and where the bytes are known they are rightly refused; only a reader can be refused
+-- nothing is shown, and where the bytes are known they are rightly refused; only a reader can be
+-- refused
 abbrev pub UnshownWith : Option (Option Text) → ShowStop → Type 0
 UnshownWith None why = ⊥
 UnshownWith (Some known) why = IfSome known (λ bytes. UnshownRightly bytes why)

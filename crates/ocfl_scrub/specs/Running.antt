@@ -143,7 +143,8 @@ pub record RunsWithin (call : Call) (part : Part) (from last : Option Place) (li
 abbrev pub Runs : Call → Option Place → Option Place → Limits → ℕ → ℕ → Bool → Option Place → Type 0
 Runs call from last limits spent files finding next = RunsWithin call whole from last limits spent files finding next
 
--- a run stopped: the first items of the cut went out whole, and of the next at most a proper beginning
+-- a run stopped: the first items of the cut went out whole, and of the next at most a proper
+-- beginning
 pub record RunStopsWithin (call : Call) (part : Part) (from last : Option Place) (limits : Limits) (spent files : ℕ) (finding : Bool) (why : Fault) : Type 0 where
   pub trail : List Opening
   pub stops : StopsWithin (taken_in call.root trail part from limits) call.old call.new from last why

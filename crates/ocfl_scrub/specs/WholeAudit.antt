@@ -68,7 +68,8 @@ pub record AuditsWithin (call : Call) (part : Part) (last : Option Place) (findi
   pub last_is : last ≡ last_of None (places (items_in call.root trail part))
   pub found_is : finding ≡ found (items_in call.root trail part)
 
--- it stopped: the first items of the part went out whole, and of the next at most a proper beginning
+-- it stopped: the first items of the part went out whole, and of the next at most a proper
+-- beginning
 pub record AuditStopsWithin (call : Call) (part : Part) (last : Option Place) (finding : Bool) (why : Fault) : Type 0 where
   pub trail : List Opening
   pub stops : StopsWithin (items_in call.root trail part) call.old call.new None last why

@@ -18,7 +18,8 @@ abbrev pub last_of : Option Place → List Place → Option Place
 last_of last [] = last
 last_of last (p ∷ ps) = last_of (Some p) ps
 
--- what items cost, how many of them are files that were read, and whether a line of one is a finding
+-- what items cost, how many of them are files that were read, and whether a line of one is a
+-- finding
 pub record Figures (items : List Item) (spent files : ℕ) (finding : Bool) : Type 0 where
   pub spent_is : spent ≡ total_cost items
   pub files_is : files ≡ total_files items

@@ -48,7 +48,7 @@ pub struct CycleEnd {
 /// Makes runs from the first item on, one for each of these limits, until no item is left. Between
 /// two runs the cursor is written as its text and read again.
 ///
-/// Each run takes the items behind those of the run before, and what they write, joined, begins the
+/// Each run takes the items after those of the run before, and what they write, joined, begins the
 /// report of the whole audit; it is all of that where the cycle has ended. Without limits there is
 /// no run. A run that stopped is counted, also where it took nothing. Running out of memory for a
 /// cursor's text is `Stopped(Fault::Memory)`, with the cursor of the last run.

@@ -84,8 +84,9 @@ pub fn overrun_is_less_than_the_last_file()
 {}
 
 /// The status says how a command ended. With 0 and 1 all lines went out, or with 0 there are none.
-/// 2 is that of a bad path and of a branch without items, 3 that of a stop, of a worn cursor and of
-/// its file that failed, and 4 that of bytes that are refused as a cursor. There is no other.
+/// 2 is that of a bad path and of a branch without items. 3 is that of a stop, of a worn cursor and
+/// of a cursor's file that failed. 4 is that of bytes that are refused as a cursor. No other is
+/// given.
 #[tactic(auto, using(crate::proofs::NoteLaws::without_finding, crate::proofs::NoteLaws::with_finding, crate::proofs::NoteLaws::of_nothing_there, crate::proofs::NoteLaws::after_failures, crate::proofs::NoteLaws::of_refused_cursors, crate::proofs::NoteLaws::no_other_status))]
 pub fn statuses_say_how_a_command_ended()
     ensures without_finding { (n : Note) → IsStatus 0 n ↔ (IsWhole n ⊎ (n ≡ note.NoItem)) }

@@ -24,7 +24,7 @@ ghost use Rattle.ocfl_scrub.specs.declared.checking.End.{End};
 /// If no failure was counted, the reports of the runs of one cycle of a part, joined, are what the
 /// audit has there, whatever processes made them. Each hashed file of the part was opened once, in
 /// order. If each budget is at least B and each limit on files at least N, there are at most
-/// cost / B + files / N + 1 runs, by the cost and the files of the part, each rounded down.
+/// cost / B + files / N + 1 runs. Cost and files are the part's, and each quotient is rounded down.
 #[tactic(auto, using(crate::proofs::JoinLaws::part_reports, crate::proofs::JoinLaws::part_opened))]
 pub fn runs_of_a_part_join()
     ensures reports { (root : StorageRoot) (part : Part) (c : Cursor) (runs : List PartRun)

@@ -29,7 +29,7 @@ pub enum RunStatus {
     Ended,
     /// The next item is a file that the limits do not allow to start.
     Spent,
-    /// A call failed, and a run from the cursor goes on behind the last item that went out whole.
+    /// A call failed, and a run from the cursor goes on after the last item that went out whole.
     Stopped(Fault),
     /// No further run can be counted, and none was made.
     Worn,
@@ -157,7 +157,7 @@ fn begin(cursor: Cursor) -> Result<(Cursor, Option<Place>), Cursor>
     }
 }
 
-// Where a run leaves the cursor: behind the last item that was taken, unless none is left.
+// Where a run leaves the cursor: after the last item that was taken, unless none is left.
 fn left_state(end: &RunStatus, last: Option<Place>) -> State
     requires short { IsShort last }
     ensures state { state_of result ≡ state_after end.now last }

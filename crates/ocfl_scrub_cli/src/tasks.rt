@@ -45,7 +45,7 @@ fn open_cursor<R: Files>(rt: &R, task: &Task) -> Result<Option<R::File>, Note> {
     }
 }
 
-/// What the last cycle cost, where a run begins the next one: its stored cursor tells that, and
+/// What the last cycle cost, where a run begins the next one: its stored cursor holds that, and
 /// that of a cycle that goes on does not. Whatever is wrong with the cursor, the run says it.
 fn last_cost<R>(rt: &R, task: &Task, scope: &Scope) -> Option<u128>
 where

@@ -89,7 +89,8 @@ module _ (root : StorageRoot) (count : ℕ) (above ds : List Place) where
 
 -- ---- so far
 
--- the directories above a level with n names were listed, and what comes further down is as from there
+-- the directories above a level with n names were listed, and what comes further down is as from
+-- there
 pub record IsSplitSo (root : StorageRoot) (s t : Store) (count n : ℕ) (above ds : List Place) : Type 0 where
   pub directories : AreDirectories root ds
   pub done : List Place

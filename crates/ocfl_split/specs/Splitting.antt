@@ -20,7 +20,8 @@ deepest_level = max_listed_depth + 1
 
 -- ---- the level that is split
 
--- room for so many directories of the next level is left by a level, and by what is kept of those above it
+-- room for so many directories of the next level is left by a level, and by what is kept of those
+-- above it
 abbrev pub room_below : List Place → List Place → ℕ
 room_below above ds = max_held - (length above + length ds)
 

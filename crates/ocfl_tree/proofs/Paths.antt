@@ -172,7 +172,7 @@ first_of_some t r x is e k =
 pub first_of_none : (t : Text) (r : Parts) → r ≡ None → IsSplitOnceResult 47 t r → (length t == 0) ≡ false → IsFirst t t []
 first_of_none t r is e some = only_element t some (subst (IfSplit t) is (split_parts 47 t r e (omega arith)))
 
--- ---- one path behind another
+-- ---- one path after another
 
 pub names_joined : (t u : Text) → names_of (joined t u) ≡ names_of t ++ names_of u
 names_joined [] u = refl
@@ -191,7 +191,7 @@ names_child t n h = names_joined t n ∙ ap (λ ns. names_of t ++ ns) (names_of_
 pub place_child : (t n w : Text) → w ≡ joined t n → IsPlace (names_of t) → IsName n → IsPlace (names_of w)
 place_child t n w e h k = place_joined t n w e h (subst IsPlace (sym (names_of_name n k)) (All-cons IsName n [] k (All-nil IsName)))
 
--- ---- so many names at the front, and what is behind them
+-- ---- so many names at the front, and what follows them
 
 pub place_behind : (t u : Text) (i : ℕ) → names_of u ≡ drop i (names_of t) → IsPlace (names_of t) → IsPlace (names_of u)
 place_behind t u i e h = subst IsPlace (sym e) (All-drop IsName i (names_of t) h)

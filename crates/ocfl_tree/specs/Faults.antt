@@ -15,7 +15,8 @@ pub record Faults : Type 0 where
 abbrev pub no_faults : Faults
 no_faults = record { step = None; call = None; points = [] }
 
--- whether a fault that was planned for the first is one of the second: a read fails at that offset or later
+-- whether a fault that was planned for the first is one of the second: a read fails at that offset
+-- or later
 abbrev pub is_met : Point → Point → Bool
 is_met point.List point.List = true
 is_met point.List point.Open = false

@@ -34,7 +34,8 @@ with_call k h = record h { faults = record h.faults { call = Some k } }
 abbrev pub with_point : Place → Point → Held → Held
 with_point p point h = record h { faults = record h.faults { points = h.faults.points ++ (p, point) ∷ [] } }
 
--- whether the next call, this one at p, answers that the device failed; the count of failures has a limit
+-- whether the next call, this one at p, answers that the device failed; the count of failures has a
+-- limit
 abbrev pub fails : Held → Place → Point → Bool
 fails h p call = nat_lt (h.store.failures + 1) (2 ^ 64) && is_struck h.faults p call
 

@@ -37,7 +37,7 @@ joined (b ∷ t) (c ∷ u) = (b ∷ t) ++ 47 ∷ (c ∷ u)
 abbrev pub fits : Text → Bool
 fits n = not (length n == 0) && nat_le (length n) 255 && not (pointwise nat_eq n (codes ".")) && not (pointwise nat_eq n (codes ".."))
 
--- ---- paths compared by their bytes: what their elements are compared by, with no list of the elements
+-- ---- paths compared by their bytes, without a list of their elements
 
 -- two bytes that differ: a slash ends an element, and so comes before all else
 abbrev pub byte_cmp : ℕ → ℕ → Ordering

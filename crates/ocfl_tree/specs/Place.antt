@@ -8,7 +8,8 @@ use Rattle.std.specs.Cmp.Lexicographic.{slice_cmp}
 abbrev pub Text : Type 0
 Text = List ℕ
 
--- the names from the storage root down, and none for the storage root itself (OCFL 1.1, 4.1 Root Structure)
+-- the names from the storage root down, and none for the storage root itself (OCFL 1.1, 4.1 Root
+-- Structure)
 abbrev pub Place : Type 0
 Place = List Text
 

@@ -16,7 +16,7 @@ ghost use Rattle.ocfl_tree.specs.declared.store.Trouble.TheVariants.{Device, Abs
 
 use crate::place::Place;
 
-/// A place has names alone: its path tells them.
+/// A place has names alone: its path determines them.
 pub fn every_place_has_names(place: &Place)
     ensures { IsPlace place.now }
 {

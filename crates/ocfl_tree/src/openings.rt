@@ -58,7 +58,7 @@ pub(crate) fn note_failure(openings: &mut Vec<Opening>)
     openings[last].failed = true;
 }
 
-/// Counts a read of the file that was opened last, and tells whether it is made to fail.
+/// Counts a read of the file that was opened last, and reports whether it is made to fail.
 pub(crate) fn strikes_read(plan: &mut Plan, openings: &[Opening]) -> bool
     requires { 0 < length openings.now }
     ensures struck { (front : List Opening) (last : Opening) → openings.now ≡ front ++ last ∷ []

@@ -113,7 +113,7 @@ fn split_first(path: &str) -> Option<(&str, &str)>
     }
 }
 
-/// What of a path lies behind so many names.
+/// What follows so many names of a path.
 pub(crate) fn behind(path: &str, names: usize) -> &str
     requires { IsPlace (names_of path.now) }
     ensures { names_of result.now ≡ drop names (names_of path.now) }

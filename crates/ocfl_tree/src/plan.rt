@@ -48,7 +48,7 @@ fn is_planned(points: &[(Place, Point)], place: &Place, call: Point) -> bool
     false
 }
 
-/// Counts a call, and tells whether it is the one that fails.
+/// Counts a call, and reports whether it is the one that fails.
 fn is_due(call: &mut Option<u64>) -> bool
     ensures due { result ≡ is_due call.old }
     ensures after { call.new ≡ due_after call.old }
@@ -116,7 +116,7 @@ impl Plan {
         Ok(())
     }
 
-    /// Counts a call at a place, and tells whether it is made to fail.
+    /// Counts a call at a place, and reports whether it is made to fail.
     pub(crate) fn strikes(&mut self, place: &Place, call: Point) -> bool
         ensures struck { result ≡ is_struck self.old place.now call }
         ensures after { self.new ≡ after_call self.old }

@@ -56,7 +56,7 @@ module _ (root : StorageRoot) where
       due_places root (Some last) ∙ ap (map (λ i. i.place)) h ∙ places_append (item_at root [] x) (after (audit root []) (Some x))
       ∙ ap (λ ps. map (λ i. i.place) (item_at root [] x) ++ ps) (sym (due_places root (Some x)))
 
-  -- a place with nothing before it, and what the stack leads to behind it
+  -- a place with nothing before it, and what the stack leads to after it
   pub turn_by : (last x : Place) (fs : List Frame) → place_cmp last x ≡ Less → NoneSeenBetween root last x → NoPathBetween root last x → IsStack root x fs → IsListed root fs → IsTurn root last x fs
   turn_by last x fs over sight path stack listed =
       let steps = due_steps last x (walk_takes root (is_closed root) [] last x over sight path) in

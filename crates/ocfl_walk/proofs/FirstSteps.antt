@@ -204,7 +204,7 @@ pub mid_is : (p : Place) (old mid new : Listings) (k : ℕ) (d : Place) (n : Tex
     → piles_at p new.items ≡ trimmed (cut_top (length d) n (piles_at p old.items))
 mid_is p old mid new k d n cuts trims deep = trims p ∙ ap trimmed (cuts p) ∙ ap (λ j. trimmed (cut_top j n (piles_at p old.items))) deep
 
--- the directory behind which a walk stands
+-- the directory after which a walk stands
 pub one_directory : (last : Option Place) (d c : Place) → last ≡ Some d → last ≡ Some c → d ≡ c
 one_directory last d c e f = let both : Some d ≡ Some c = sym e ∙ f in cc
 

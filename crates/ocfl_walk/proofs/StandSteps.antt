@@ -169,7 +169,7 @@ module _ (ps : List Pile) (a : Option Around) (x : Place) where
 
 -- ---- by the turn that is chosen
 
--- what is so of each place that a walk that has begun stands behind, and of what its turn comes to,
+-- what is so of each place after which a walk stands that has begun, and of what its turn comes to,
 -- is so of where it stands
 pub by_turn : (root : StorageRoot) (old : Stand) (mid : Listings) → piles_in old.last mid.items ≡ trimmed (piles_in old.last old.listings.items) → (t u : Turn)
     → t ≡ u → (u ≡ turn.Base → ⊥) → (old.last ≡ None → t ≡ turn.Base)

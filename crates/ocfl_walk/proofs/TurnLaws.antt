@@ -35,7 +35,7 @@ find_first test (p ∷ ps) = by (test p) (find_first test ps)
     by true h = refl
     by false h = h
 
--- each path is not above the one behind it
+-- each path is not above the one after it
 abbrev Rises : List Place → Type 0
 Rises [] = Unit {0}
 Rises (p ∷ []) = Unit {0}

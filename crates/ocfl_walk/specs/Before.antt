@@ -1,4 +1,4 @@
--- What a walk that begins at a place stands behind: the place before it.
+-- The place before a place: a walk that begins at the one stands after the other.
 use Rattle.std.specs.Prelude.{List, [], ◌∷◌, Option, Some, None, not, filter, option_map}
 use Rattle.std.specs.Ordering.{is_lt}
 use Rattle.ocfl_tree.specs.Place.{Place, place_cmp}

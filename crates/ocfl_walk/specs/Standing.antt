@@ -1,4 +1,5 @@
--- Where a walk stands: what is left of its listings, and the table of the object that holds its last place.
+-- Where a walk stands: what is left of its listings, and the table of the object that holds its
+-- last place.
 use Rattle.std.specs.declared.alloc.Global.{Global}
 use Rattle.std.specs.Prelude.{Vec, suc, take, ◌≡◌, ◌+◌, ◌*◌, ◌-◌, ◌^◌, ℕ, List, [], ◌∷◌, ◌++◌, Option, Some, None, map, filter, length}
 use Rattle.std.specs.Ordering.{is_lt}
@@ -46,7 +47,7 @@ frame_of p = (p.0, map (λ e. e.name) p.1)
 abbrev pub frames_of : List Pile → List Frame
 frames_of ps = map frame_of ps
 
--- the place that a walk stands behind; the storage root's where it has not begun
+-- the place after which a walk stands; the storage root's where it has not begun
 abbrev pub spot_of : Option Place → Place
 spot_of None = []
 spot_of (Some p) = p

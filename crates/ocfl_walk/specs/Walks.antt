@@ -24,7 +24,7 @@ IsLive walk = walk.broken ≡ false
 abbrev pub IsBroken : Walk → Type 0
 IsBroken walk = walk.broken ≡ true
 
--- the place behind which it stands
+-- the place after which it stands
 abbrev pub last_of : Walk → Option Place
 last_of walk = walk.stand.last
 
@@ -36,12 +36,13 @@ first_size (Some n) = 1
 unfoldable pub walk_size : Walk → ℕ
 walk_size walk = first_size walk.first + stand_size walk.stand
 
--- a walk that begins at a name of the directory behind which it stands, stands behind the place before that
+-- a walk that begins at a name of the directory after which it stands, stands after the place
+-- before that
 abbrev pub StandsFrom : StorageRoot → Option Text → Stand → Option Place → Type 0
 StandsFrom root None s last = StandsAt root s last
 StandsFrom root (Some n) s last = (d : Place) × StandsAt root s (Some d) × (last ≡ place_before root (d ++ n ∷ []))
 
--- it stands over this tree, behind this place
+-- it stands over this tree, after this place
 abbrev pub Stands : StorageRoot → Walk → Option Place → Type 0
 Stands root walk last = StandsFrom root walk.first walk.stand last
 
@@ -56,7 +57,7 @@ abbrev pub GoesOn : Walk → Walk → Option Pending → Type 0
 GoesOn old new None = ⊤
 GoesOn old new (Some p) = (last_of new ≡ Some p.place) × IsBeyond (last_of old) p.place × (walk_size new < walk_size old) × (length p.place ≤ 255)
 
--- nothing is left above the place behind which it stands
+-- nothing is left above the place after which it stands
 abbrev pub HasEnded : StorageRoot → Walk → Type 0
 HasEnded root walk = (x : Option Place) × Stands root walk x × (due root x ≡ [])
 
@@ -68,7 +69,7 @@ Gives root s t last new (Some p) =
 
 -- ---- up to an end
 
--- nothing is left before the end above the place behind which it stands
+-- nothing is left before the end above the place after which it stands
 abbrev pub HasEndedOut : StorageRoot → End → Walk → Type 0
 HasEndedOut root e walk = (x : Option Place) × Stands root walk x × (before_end e (due root x) ≡ [])
 

@@ -50,7 +50,7 @@ fn item_in<T: Tree>(
     }
 }
 
-/// The item of a name and those behind it, below a directory.
+/// The item of a name and those after it, below a directory.
 pub(crate) fn find_below<T: Tree>(
     alloc: Global,
     store: &mut T,

@@ -303,7 +303,7 @@ fn met_by(around: Option<Around>, place: &Place, visit: Visit) -> Result<Met, Al
     })
 }
 
-/// What is met at an entry behind the last place.
+/// What is met at an entry after the last place.
 fn meet<T: Tree>(
     alloc: Global,
     store: &mut T,

@@ -31,7 +31,8 @@ metadata_by_name : map (is_meta named_alike) ([] ∷ place "o" ∷ place "0=ocfl
 unfolding audit_on_literals
 metadata_by_name = refl
 
--- nor anything of an object below a storage root of unknown version, but the storage root's own declaration
+-- nor anything of an object below a storage root of unknown version, but the storage root's own
+-- declaration
 metadata_of_an_unknown_root : filter (is_meta (text_at "0=ocfl_2.0" "" ∷ object_in "o" (listing lists_f) []))
     (place "0=ocfl_2.0" ∷ place "o/0=ocfl_object_1.1" ∷ place "o/inventory.json" ∷ []) ≡ place "0=ocfl_2.0" ∷ []
 unfolding audit_on_literals

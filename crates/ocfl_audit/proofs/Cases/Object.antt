@@ -32,7 +32,7 @@ directories_that_count : looked_between some_count None None
 unfolding audit_on_literals looked_between
 directories_that_count = refl
 
--- behind the one, up to the other
+-- after the one, up to the other
 between_a_head_and_a_version : (read_between some_count (Some (place "h/q")) (Some (place "o/v1")) ≡ place "o" ∷ [])
     × (looked_between some_count (Some (place "h/q")) (Some (place "o/v1")) ≡ place "o" ∷ place "o/v1" ∷ [])
 unfolding audit_on_literals looked_between read_between

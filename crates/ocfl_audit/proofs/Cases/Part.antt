@@ -62,7 +62,7 @@ runs_of_a_part : (map text (runs (within (part_from "o/v1/content/b") three_item
     "ok\to/v1/content/c\t3\n" ∷ []) × (map total_cost (runs (within (part_from "o/v1/content/b") three_items) (replicate 3 (of_budget 1))) ≡ 1 ∷ 4 ∷ [])
 runs_of_a_part = (refl, refl)
 
--- what is left of a part above a place before it, and of one above a place behind it
+-- what is left of a part above a place before it, and of one above a place after it
 above_a_place_before_a_part : text (after (within (part_from "o/v1/content/b") three_items) (Some (place "o"))) ≡ codes "ok\to/v1/content/b\t0\nok\to/v1/content/c\t3\n"
 above_a_place_before_a_part = refl
 

@@ -1,4 +1,4 @@
--- Worked cases: runs by budgets, and what is left behind a place. An audit of several cases is
+-- Worked cases: runs by budgets, and what is left after a place. An audit of several cases is
 -- computed once, and its runs over its items.
 use Rattle.std.proofs.Common.{◌≡◌, ◌≤◌, ◌⊎◌, inl, inr, ℕ, arith, List, [], ◌∷◌, ◌++◌, codes, refl, Some, None, true, false, map, replicate, take}
 use Prim.Native.String.{String}
@@ -128,7 +128,8 @@ at_least_just = record { budget = omega arith; files = omega arith }
 not_at_least : (IsAtLeast 9 3 (limits_of 8 3) → ⊥) × (IsAtLeast 9 3 (limits_of 9 2) → ⊥)
 not_at_least = ((λ h. let m : 9 ≤ 8 = h.budget in omega (arith, m)), λ h. let m : 3 ≤ 2 = h.files in omega (arith, m))
 
--- a limit on files fits three files where it is three, or the budget; and not where it is less than both
+-- a limit on files fits three files where it is three, or the budget; and not where it is less than
+-- both
 limits_that_fit : FileLimitFits three_items (limits_of 9 3) × FileLimitFits three_items (limits_of 2 2)
 limits_that_fit = (inr (omega arith), inl (omega arith))
 
@@ -152,7 +153,7 @@ places_of_the_first_run : (map (λ i. i.place) (cut three_items (of_budget 4)) �
     × (map (λ i. i.place) (left three_items (of_budget 4)) ≡ place "o/v1/content/b" ∷ place "o/v1/content/c" ∷ [])
 places_of_the_first_run = (refl, refl)
 
--- ---- behind a place
+-- ---- after a place
 
 abbrev pub missing_items : List Item
 missing_items = the_root ∷ clean "o" ∷ item "o/v1/content/a" 0 (note E092 (codes "sha256 missing") ∷ note E093 (codes "sha1 missing") ∷ []) ∷ right "o/v1/content/b" 4 "3" ∷ []
@@ -161,7 +162,7 @@ pub items_around_a_missing_file : audit missing_and_right [] ≡ missing_items
 unfolding audit_on_literals
 items_around_a_missing_file = audit_256 missing_and_right_listing missing_and_right_content []
 
--- what is left behind a place, by a budget of nine
+-- what is left after a place, by a budget of nine
 abbrev resumes : List Item → Behind → Case
 resumes items b = case b.name (text (cut (after items (Some (place b.place))) (of_budget 9))) (codes b.lines)
 

@@ -12,7 +12,8 @@ use Rattle.ocfl_digest.specs.declared.algorithm.Algorithm.TheVariants.{Sha256, S
 use Rattle.ocfl_audit.specs.Head.{digest_of}
 use Rattle.ocfl_audit.specs.Audit.{audit}
 
--- a case by its name: a text, and what it is to be; and a text that it is and that takes less to compute
+-- a case by its name: a text, and what it is to be; and a text that it is and that takes less to
+-- compute
 pub record Case : Type 0 where
   pub name : String
   pub shown : Text
@@ -223,9 +224,9 @@ the_root = record { place = []; lines = lines_at [] (plain Clean ∷ []); cost =
 abbrev pub right : String → ℕ → String → Item
 right p cost bytes = item p cost (note Clean (codes bytes) ∷ [])
 
--- ---- what is left behind places, for runs and for walks
+-- ---- what is left after places, for runs and for walks
 
--- a place, and the lines of what is behind it
+-- a place, and the lines of what comes after it
 pub record Behind : Type 0 where
   pub name : String
   pub place : String
@@ -234,7 +235,7 @@ pub record Behind : Type 0 where
 abbrev pub behind : String → String → String → Behind
 behind name p lines = record { name = name; place = p; lines = lines }
 
--- of `missing_and_right`: before its object, in it, and behind it
+-- of `missing_and_right`: before its object, in it, and after it
 abbrev pub behind_each : List Behind
 behind_each =
     behind "behind_an_earlier_sibling" "n" "ok\to\t-\nE092\to/v1/content/a\tsha256 missing\nE093\to/v1/content/a\tsha1 missing\nok\to/v1/content/b\t3\n" ∷

@@ -29,7 +29,7 @@ reports_unread name inventory more p given t =
 abbrev unread : String → ℕ → Item
 unread p cost = item p cost (plain S08 ∷ [])
 
--- ---- a long file `f` whose read fails behind 65,536 bytes, and a short one
+-- ---- a long file `f` whose read fails after 65,536 bytes, and a short one
 
 abbrev long_and_short_listing : Text
 long_and_short_listing = listing (key abc.sha256 "[\"v1/content/f\",\"v1/content/g\"]" ∷ [])
@@ -130,7 +130,7 @@ cost_of_listed_directory_unread = refl
 abbrev opening : String → ℕ → Bool → Opening
 opening p given failed = record { place = place p; given = given; failed = failed }
 
--- of a whole audit in which `a` failed behind two bytes
+-- of a whole audit in which `a` failed after two bytes
 abbrev openings : List Opening
 openings =
     opening "0=ocfl_1.1" 9 false ∷ opening "o/0=ocfl_object_1.1" 16 false ∷ opening "o/inventory.json" 300 false ∷ opening "o/inventory.json.sha256" 80 false

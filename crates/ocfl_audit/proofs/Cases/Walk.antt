@@ -36,7 +36,7 @@ listed_at_the_root : (map (λ f. f.0) (listed_at sha512_file [] [] []) ≡ [] �
 unfolding audit_on_literals
 listed_at_the_root = (refl, refl)
 
--- behind the root's declaration comes the object
+-- after the root's declaration comes the object
 listed_at_the_head : (taken_of_one_file 2 ≡ codes "ok\to\t-\n") × (listed_of_one_file 2 ≡ place "o" ∷ [])
 unfolding audit_on_literals
 listed_at_the_head = (refl, refl)

@@ -19,7 +19,7 @@ abbrev pub files_line : Version → ℕ → Text
 files_line One files = []
 files_line Two files = number_line (codes "files") files
 
--- as many files as the version tells, in a cursor's field
+-- as many files as the version gives, in a cursor's field
 abbrev pub FilesFit : Version → ℕ → Type 0
 FilesFit One files = files ≡ 0
 FilesFit Two files = files < 2 ^ 128

@@ -63,12 +63,12 @@ values_for algorithms ms = map (λ a. (value_for a ms, a)) algorithms
 abbrev pub supported_view : List Supported → List (Algorithm × Block)
 supported_view = map (λ s. (s.algorithm, block_view s.block.items))
 
--- the block of one algorithm behind those before it, and none where it is not of the form
+-- the block of one algorithm after those before it, and none where it is not of the form
 abbrev pub with_block : List (Algorithm × Block) → Option Data → Algorithm → Option (List (Algorithm × Block))
 with_block front None a = Some front
 with_block front (Some d) a = option_map (λ b. front ++ (a, b) ∷ []) (block_of d)
 
--- the blocks of the algorithms behind those before them, and none where one is not of the form
+-- the blocks of the algorithms after those before them, and none where one is not of the form
 abbrev pub with_blocks : List (Algorithm × Block) → List (Option Data × Algorithm) → Option (List (Algorithm × Block))
 with_blocks front [] = Some front
 with_blocks front (e ∷ more) = option_and_then (λ blocks. with_blocks blocks more) (with_block front e.0 e.1)

@@ -18,7 +18,8 @@ content_in root (inside o (v ∷ [])) = None
 content_in root (inside o (v ∷ n ∷ [])) = None
 content_in root (inside o (v ∷ c ∷ n ∷ q)) = option_map (λ t. (t, v ∷ c ∷ n ∷ q)) (table_at root o)
 
--- the table of the object that a place of at least three names more lies in, and the place as a path of it
+-- the table of the object that a place of at least three names more lies in, and the place as a
+-- path of it
 abbrev pub content_at : StorageRoot → Place → Option (Table × Place)
 content_at root p = content_in root (zone root p)
 

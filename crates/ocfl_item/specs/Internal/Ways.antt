@@ -1,4 +1,5 @@
--- What reading an object's own files did, and what is known of an object whose declarations were read.
+-- What reading an object's own files did, and what is known of an object whose declarations were
+-- read.
 use Rattle.std.specs.Prelude.{List, Bool, true, false, Option, Some, None, Result, MatchResult, AllPairs, ◌≡◌, ◌≢◌, []}
 use Rattle.std.specs.List.{list_all}
 use Rattle.ocfl_tree.specs.Place.{Place}

@@ -33,7 +33,7 @@ fn cursor_behind(place: Place) -> Result<Cursor, Fail> {
     Ok(Cursor::from_parts(1, 1, 0, 0, State::After(place)).ok_or("a place of at most 255 names")?)
 }
 
-/// The sealed text of a cursor that begins so and stands behind this place.
+/// The sealed text of a cursor that begins so and stands after this place.
 fn text_behind(alloc: Global, front: &str, place: &Place) -> Result<Vec<u8>, Fail> {
     let body = format!(in alloc; "{front}after {}\n", DisplayPlace(place))?;
     sealed(alloc, body.as_str())

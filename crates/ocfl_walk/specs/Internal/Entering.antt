@@ -36,7 +36,8 @@ may_open (Some a) z = []
 abbrev pub AreReached : StorageRoot → List Opening → Type 0
 AreReached root trail = heads_of root trail ≡ filter (reads_inventory root) (heads_of root trail)
 
--- from s to t directories were listed and metadata was read, of inventories only those that heads reach
+-- from s to t directories were listed and metadata was read, of inventories only those that heads
+-- reach
 pub record Calls (root : StorageRoot) (s t : Store) (failures : ℕ) : Type 0 where
   pub over : s.tree ≡ root
   pub trail : List Opening
@@ -88,7 +89,8 @@ pub record StaysOut (root : StorageRoot) (s t : Store) (d : Place) : Type 0 wher
   pub did : Did s t [] [] 0
   pub closed : is_listable root d ≡ false
 
--- whether a name leads on from d: in an object by its table, else unless it is the storage root's extensions
+-- whether a name leads on from d: in an object by its table, else unless it is the storage root's
+-- extensions
 abbrev pub LeadsOn : StorageRoot → Place → Text → Option Around → Bool → Type 0
 LeadsOn root d n None on = on ≡ not (is_extensions_name d n)
 LeadsOn root d n (Some a) on = (s : Place) → zone root d ≡ inside a.place s → table_at root a.place ≡ Some a.table → on ≡ step_listed a.table s n

@@ -118,7 +118,7 @@ pub record IsTaken (old new : List Pile) (entry : Entry) : Type 0 where
   pub old_is : old ≡ (place, entry ∷ rest) ∷ others
   pub new_is : new ≡ (place, rest) ∷ others
 
--- the stack behind the first entry
+-- the stack after the first entry
 abbrev pub popped_from : Place → List Entry → List Pile → List Frame
 popped_from d [] ps = []
 popped_from d (e ∷ es) ps = (d, map (λ x. x.name) es) ∷ frames_of ps

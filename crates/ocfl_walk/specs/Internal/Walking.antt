@@ -85,7 +85,7 @@ StepsOut root s t last e new step.End = WalksOut root s t last e × (before_end 
 abbrev pub StepsOutTo : StorageRoot → Store → Store → Option Place → End → Stand → Result Step Fault → Type 0
 StepsOutTo root s t last e new r = MatchResult r (λ step. StepsOut root s t last e new step) (λ why. FailsOut root s t last e why)
 
--- the first step of a walk that begins at a place, behind the place q before it
+-- the first step of a walk that begins at a place, after the place q before it
 abbrev pub StepsAt : StorageRoot → Store → Store → Place → End → Stand → Stand → Step → Type 0
 StepsAt root s t q e old new (step.Item p) = StepsOut root s t (Some q) e new (step.Item p)
 StepsAt root s t q e old new step.Nothing = StepsOut root s t (Some q) e new step.Nothing

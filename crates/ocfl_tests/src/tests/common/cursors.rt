@@ -6,7 +6,7 @@ use sha2::{Digest, Sha256};
 use std::alloc::Global;
 use std::test::Fail;
 
-/// A text of a cursor behind `o/v1/content/c`, before its digest line.
+/// A text of a cursor after `o/v1/content/c`, before its digest line.
 pub const BODY: &str =
     "ocfl-scrub cursor 2\ncycle 3\nruns 2\nspent 9\nfiles 3\nafter o/v1/content/c\n";
 

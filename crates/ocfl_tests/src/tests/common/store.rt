@@ -40,9 +40,9 @@ pub fn put_dir(alloc: Global, store: &mut MemTree, path: &str) -> Result<(), Fai
     Ok(())
 }
 
-/// Makes one change: `-` before the path takes away what is there, `/` behind it puts a directory,
-/// `@` what is neither a file nor a directory, and no mark a file of this text, in which digests
-/// may be named.
+/// Makes one change. A `-` before the path takes away what is there. A `/` after it puts a
+/// directory, and `@` what is neither a file nor a directory. Without a mark a file of this text is
+/// put, in which digests may be named.
 fn change_one(alloc: Global, store: &mut MemTree, path: &str, text: &str) -> Result<(), Fail> {
     if let Some(path) = path.strip_prefix("-") {
         store.remove(&place_of(alloc, path)?)?;
@@ -80,7 +80,7 @@ pub fn was_not_called(store: &MemTree) -> bool {
     store.openings().is_empty() && store.listings().is_empty()
 }
 
-/// The paths of the listings but for the first ones, oldest first, each with a semicolon behind it.
+/// The paths of the listings but for the first ones, oldest first, each with a semicolon after it.
 pub fn listed_from(alloc: Global, store: &MemTree, first: usize) -> Result<String, Fail> {
     let mut text = String::new(alloc);
     for place in store.listings().iter().skip(first) {

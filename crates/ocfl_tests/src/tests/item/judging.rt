@@ -26,8 +26,8 @@ fn object(
     Ok(store)
 }
 
-/// The file `f` of the bytes `abc`: a name, a manifest, a fixity block, the lines of `f`, their cost,
-/// and how often `f` is opened.
+/// The file `f` of the bytes `abc`: a name, a manifest, a fixity block, the lines of `f`, their
+/// cost, and how often `f` is opened.
 const THERE: [(&str, &str, &str, &str, (u64, usize)); 5] = [
     ("a right file", LISTS_F, "", "ok|o/v1/content/f|3\n", (4, 1)),
     (

@@ -162,7 +162,7 @@ fn failing_reports_are_told(rt: HostRuntime) -> Result<(), Fail> {
     ];
     let stops = (SplitStop::Read, SplitStop::Memory);
     expect_failures(&rt, &given, stops, |slow| read_stop(alloc, slow))?;
-    // A line that is bad comes before the failure behind it.
+    // A line that is bad comes before the failure after it.
     let left = b"ok\tb\t3\nok\ta\t3\n";
     let then = Then::Fails(ErrorKind::PermissionDenied);
     let stop = read_stop(alloc, Slow { left, then })?;

@@ -17,7 +17,7 @@ use std::test::Fail;
 type Cut = (u64, u64, &'static [usize]);
 
 /// The files of the first root cost 4, 1 and 4, those of the second 4 and 4, and those of the third
-/// 4 each, behind the head of an object. Of the last one the first file is missing, which costs
+/// 4 each, after the head of an object. Of the last one the first file is missing, which costs
 /// nothing. A run takes what costs nothing, and a file while it has spent less than the budget.
 const CUTS: [Cut; 8] = [
     (1, 1, &[1, 1, 1, 2, 3]),

@@ -67,7 +67,7 @@ fn text_above(alloc: Global, items: &[Passage], after: Option<&Place>) -> Result
     Ok(text)
 }
 
-/// The text of what a walk gives that is entered behind a place.
+/// The text of what a walk gives that is entered after a place.
 pub(crate) fn rest_behind(
     alloc: Global,
     store: &mut MemTree,

@@ -82,10 +82,10 @@ pub(crate) fn finds(
     expect(rt, row, store, "o", lines, status, "")
 }
 
-/// The content behind a head that does not stop is right.
+/// The content after a head that does not stop is right.
 pub(crate) const GOES_ON: Option<&str> = Some(FILE_IS_OK);
 
-/// The content behind a head that stops is not checked.
+/// The content after a head that stops is not checked.
 pub(crate) const STOPS: Option<&str> = Some("");
 
 /// The head of the object has these lines, and checking its content writes this where it is asked;

@@ -1,4 +1,4 @@
-//! Checks of an object as a whole: the lines of its head, and whether its content is checked behind
+//! Checks of an object as a whole: the lines of its head, and whether its content is checked after
 //! them.
 use super::expected::{FILE_IS_OK, GOES_ON, STOPS, expect, expect_audit, expect_head, finds};
 use crate::tests::common::Runtime;
@@ -24,8 +24,8 @@ fn right_object_without_reading_content(rt: HostRuntime) -> Result<(), Fail> {
     expect_head(&rt, "a right object", &mut store, "ok|o|-\n", GOES_ON)
 }
 
-/// The lines of a head, what checking its content writes, and what is changed in the root of a right
-/// object so that it has them, each with a name.
+/// The lines of a head, what checking its content writes, and what is changed in the root of a
+/// right object so that it has them, each with a name.
 type Heads = (
     &'static str,
     Option<&'static str>,
@@ -311,7 +311,7 @@ fn heads_that_stop_at_declarations(rt: HostRuntime) -> Result<(), Fail> {
 
 // ---- sidecars
 
-/// The root of a right object, its sidecar the right digits with this behind them.
+/// The root of a right object, its sidecar the right digits with this after them.
 fn object_with_digits_and(alloc: Global, behind: &str) -> Result<MemTree, Fail> {
     let inventory = listing(alloc, LISTS_F, "")?;
     let digits = short_digits(alloc, inventory.as_bytes())?;

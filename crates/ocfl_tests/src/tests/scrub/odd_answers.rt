@@ -24,7 +24,7 @@ pub(crate) fn forgetful(alloc: Global, hidden: &str) -> Result<Odd, Fail> {
 }
 
 /// What is listed and not found, the text of the audit, a path that is checked with its text, and
-/// the status of both. With status 3 the note tells the place.
+/// the status of both. With status 3 the note names the place.
 const HIDDEN: [(&str, &str, Option<(&str, &str)>, u8); 9] = [
     (
         FILE,

@@ -229,7 +229,7 @@ fn expect_refused(
 /// The lines of a cursor after the first run of that part.
 const BEHIND_B: &str = "cycle 1\nruns 1\nspent 1\nfiles 1\nafter o/v1/content/b\n";
 
-/// The text of that cursor, with this behind its lines.
+/// The text of that cursor, with this after its lines.
 fn behind_b(alloc: Global, more: &str) -> Result<Vec<u8>, Fail> {
     sealed(
         alloc,
@@ -304,8 +304,9 @@ fn cursors_of_parts_that_are_shown(rt: HostRuntime) -> Result<(), Fail> {
     Ok(())
 }
 
-/// Parts of a root in which the object `o` cannot be listed: their ends as places and in texts, what
-/// an audit of each writes with its status and note, the note of a run, and its cursor's state.
+/// Parts of a root in which the object `o` cannot be listed: their ends as places and in texts,
+/// what an audit of each writes with its status and note, the note of a run, and its cursor's
+/// state.
 const BESIDE: [((&str, &str), &str, (&str, u8, &str), &str, &str); 3] = [
     (
         ("-", "o"),

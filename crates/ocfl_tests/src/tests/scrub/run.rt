@@ -150,7 +150,7 @@ fn slash_before_dash(rt: HostRuntime) -> Result<(), Fail> {
     expect_runs(&rt, "a slash before a dash", &mut store, MOST, &runs)
 }
 
-/// Runs from behind these places write these pieces and say this.
+/// Runs from after these places write these pieces and say this.
 fn expect_behind(
     rt: &impl Runtime,
     store: &mut MemTree,

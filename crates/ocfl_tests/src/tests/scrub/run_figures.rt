@@ -54,7 +54,7 @@ pub(crate) fn equal_limits(
     Ok(all)
 }
 
-/// A cursor of the first cycle that has had no run and stands behind this place.
+/// A cursor of the first cycle that has had no run and stands after this place.
 pub(crate) fn cursor_after(alloc: Global, path: &str) -> Result<Cursor, Fail> {
     cursor_of(1, 0, State::After(place_of(alloc, path)?))
 }
@@ -284,7 +284,7 @@ pub(crate) fn items_in(report: &str) -> usize {
 }
 
 /// The figures of the items that went out whole, where so many bytes of the report did, and the
-/// report behind them.
+/// report after them.
 pub(crate) fn due_of(report: &str, room: usize) -> Result<(Figures, &str), Fail> {
     let (went, left) = report
         .split_at_checked(whole_items(report, room))

@@ -92,7 +92,7 @@ fn is_cut(end: &RunStatus) -> bool {
     matches!(end, RunStatus::Stopped(Fault::Output))
 }
 
-/// Makes runs from the first item on until none is left, also behind a stop, and joins what they
+/// Makes runs from the first item on until none is left, also after a stop, and joins what they
 /// write. It says whether one of them stopped.
 fn runs_joined(alloc: Global, store: &mut MemTree, budget: u64) -> Result<(String, bool), Fail> {
     let mut block = Block::new(alloc)?;

@@ -126,7 +126,7 @@ fn contents(store: &MemTree) -> usize {
         .count()
 }
 
-/// Each file was opened once, and an inventory once more for each run behind the first at most.
+/// Each file was opened once, and an inventory once more for each run after the first at most.
 fn opened_once(
     rt: &impl Runtime,
     row: &str,

@@ -149,7 +149,7 @@ impl Tried {
     }
 }
 
-/// An audit whose output takes so many bytes of the report says so. A walk behind its last place
+/// An audit whose output takes so many bytes of the report says so. A walk after its last place
 /// gives the rest, so that of the item that did not go out whole at most a beginning went out.
 fn expect_cut_audit(rt: &impl Runtime, root: &mut Tried, room: usize) -> Result<(), Fail> {
     let alloc = rt.alloc();
@@ -188,7 +188,7 @@ fn output_that_fails_at_each_byte(rt: HostRuntime) -> Result<(), Fail> {
 }
 
 /// An audit of a store whose call fails writes whole items of the report, or says which file it
-/// did not read. A walk behind the last place gives the rest. It says whether there is such a call.
+/// did not read. A walk after the last place gives the rest. It says whether there is such a call.
 fn expect_failing_audit(rt: &impl Runtime, root: &Tried, call: u64) -> Result<bool, Fail> {
     let alloc = rt.alloc();
     let (mut block, mut out) = (Block::new(alloc)?, Vec::new(alloc));

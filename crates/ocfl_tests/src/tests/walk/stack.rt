@@ -49,7 +49,7 @@ const B: Step = ("o/v1/content/b", ALL_LISTED);
 
 const END: Step = ("-", ALL_LISTED);
 
-/// Places, with the steps of a walk that is entered behind each, and of one that begins at it.
+/// Places, with the steps of a walk that is entered after each, and of one that begins at it.
 pub(crate) const STEPS: [(&str, &[Step], &[Step]); 16] = [
     ("", &[("", ";"), O, A, B, END], &[("", ";"), O, A, B, END]),
     ("n", &[O, A, B, END], &[O, A, B, END]),
@@ -194,7 +194,7 @@ fn objects_that_share_a_prefix(rt: HostRuntime) -> Result<(), Fail> {
 // ---- listed files that are not there
 
 /// The places of the items of an object that lists files which are not there, before, between and
-/// behind its entries, and of the directory behind it, with their lines.
+/// after its entries, and of the directory after it, with their lines.
 const ITEMS: [(&str, &str); 8] = [
     ("o", "ok|o|-\n"),
     ("o/v1/content/a/b", "E092|o/v1/content/a/b|sha256 missing\n"),

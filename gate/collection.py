@@ -10,6 +10,8 @@ from gate.commands import fail
 from gate.repository import TOP, crates, folder_of
 
 LIST = os.path.join(TOP, "gate", "edits.txt")
+# A use that an edit puts in: of which crate and module of `specs`, and which names.
+USE = re.compile(r"(?m)^new: (?:ghost )?use Rattle\.(ocfl_\w+)\.specs\.([\w.]+)\.\{(.*)\};?$")
 # An edit: its crate, its path below the crate's `edits` without `.edit`, and its file.
 Edit = collections.namedtuple("Edit", "crate path file")
 # A line of the list: an edit, and the public functions that it turns by a function that they call.
@@ -33,10 +35,14 @@ def name_of(edit):
     return os.path.basename(edit.path)
 
 
+def text_of(edit):
+    with open(edit.file, encoding="utf-8", errors="replace") as file:
+        return file.read()
+
+
 def source_of(edit):
     """The file of the crate that an edit turns first, or nothing."""
-    with open(edit.file, encoding="utf-8", errors="replace") as file:
-        found = re.search(r"(?m)^file: (\S+)", file.read())
+    found = re.search(r"(?m)^file: (\S+)", text_of(edit))
     return found[1] if found else ""
 
 
@@ -75,7 +81,7 @@ def named(crate, name):
 
 def looked_at():
     """Looks at all edits without trying them, which is one check, and says what is wrong."""
-    faults = misplaced() + unreadable()
+    faults = misplaced() + unreadable() + unknown_names()
     for fault in faults:
         fail(fault)
     return int(not faults), len(faults)
@@ -87,6 +93,20 @@ def unreadable():
     for edit in every_edit() if rt else []:
         why = rt.read_edit(edit.file, folder_of(edit.crate))[1]
         faults += ["%s %s: %s" % (edit.crate, edit.path, why)] if why else []
+    return faults
+
+
+def unknown_names():
+    """The edits that use a name which has left its module, so that the prover would not read them."""
+    faults = []
+    for edit in every_edit():
+        for crate, module, names in USE.findall(text_of(edit)):
+            file = os.path.join(folder_of(crate), "specs", *module.split(".")) + ".antt"
+            if os.path.isfile(file):
+                with open(file) as it:
+                    known = set(re.findall(r"[^\s(){},;]+", it.read()))
+                faults += ["%s %s: %s has no %s" % (edit.crate, edit.path, file, name)
+                           for name in names.split(", ") if name.split(" ")[0] not in known]
     return faults
 
 

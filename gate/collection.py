@@ -97,7 +97,8 @@ def unreadable():
 
 
 def unknown_names():
-    """The edits that use a name which has left its module, so that the prover would not read them."""
+    """The edits that use a name which its module no longer mentions: the prover could not read
+    them."""
     faults = []
     for edit in every_edit():
         for crate, module, names in USE.findall(text_of(edit)):

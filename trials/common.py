@@ -44,6 +44,19 @@ def is_so(name, got, expected):
     return False
 
 
+def is_not_so_yet(name, got, expected, why):
+    """Counts a known fault, for the reason `why`: it passes as long as what came is not what is
+    expected, and fails when it is, so that whoever mends it calls `is_so` instead."""
+    global passed
+    if got != expected:
+        passed += 1
+        print("not so yet: %s: %s" % (name, why), flush=True)
+        return True
+    failed.append(name)
+    print("%s: holds now; it was expected to fail: %s" % (name, why), flush=True)
+    return False
+
+
 def shown(value):
     text = repr(value)
     return text if len(text) < 1500 else text[:700] + " .. " + text[-700:]

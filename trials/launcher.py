@@ -12,11 +12,14 @@ import time
 import common
 from common import is_so, read, write
 
-# It counts how often it was called, and makes a program that shows its words and ends with 7.
+# It notes how it was called to prove all, and makes a program that shows its words and ends with 7.
 RT = b"""#!/bin/sh
-echo built >> "$COUNT"
-[ "$RT_FAILS" = "" ] || { echo "not proved"; exit 1; }
-[ "$RT_WAITS" = "" ] || sleep 30
+if [ "$1" = all ]; then
+  echo "$*" >> "$COUNT"
+  [ "$RT_FAILS" = "" ] || { echo "not proved"; exit 1; }
+  [ "$RT_WAITS" = "" ] || sleep 30
+  exit 0
+fi
 mkdir -p out
 printf '#!/bin/sh\\necho "$*"\\nexit 7\\n' > out/ocfl_scrub_cli
 chmod 755 out/ocfl_scrub_cli
@@ -88,6 +91,9 @@ def builds_once(copy):
           (7, "one two words\n", 3))
     is_so("it says so", ["about 40 minutes" in said, copy.logs in said], [True, True])
     is_so("it leaves no log behind it", os.listdir(copy.logs), [])
+    words = read(copy.count).decode().split("\n")[-2].split()
+    is_so("it proves crates side by side", words[:3], ["all", "check", "--jobs"])
+    is_so("as many as there are processors", 1 <= int(words[3]) <= os.cpu_count(), True)
     is_so("it builds once", copy.called(["again"]), (7, "again\n", "", 3))
 
 

@@ -5,7 +5,7 @@ import os
 import threading
 import time
 
-from gate import toolchain
+from gate import minutes, toolchain
 from gate.commands import say
 from gate.repository import TESTS, crates
 
@@ -45,10 +45,12 @@ class Clock:
 
     def tell(self):
         """Says the minutes of each crate, as far as they were seen, and those of the whole."""
-        for crate in crates():
-            minutes = self.minutes(crate, False), self.minutes(crate, True)
-            if any(minutes) and crate != TESTS:
-                say("%s: %.1f processor minutes of proofs, %.1f of edits" % (crate, *minutes))
+        taken = {crate: (self.minutes(crate, False), self.minutes(crate, True))
+                 for crate in crates() if crate != TESTS}
+        for crate, both in taken.items():
+            if any(both):
+                say("%s: %.1f processor minutes of proofs, %.1f of edits" % (crate, *both))
+        minutes.note(taken, crates())
         rt = toolchain.load()
         processors = rt.processors() if rt else os.cpu_count()
         say("all of it took %.1f minutes on %d processors"

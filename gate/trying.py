@@ -20,6 +20,8 @@ from gate.repository import TOP, below, copy_to, crates
 
 # How long the proof of a crate may take, and the check of each edit, in seconds.
 PROOF_LIMIT, EDIT_LIMIT = 7200, 900
+# What a check takes of memory, in bytes.
+MEMORY = 3_000_000_000
 # What `rt` says of a refusal that says little of a contract.
 LITTLE = ("only because a proof file names what the edit took away",
           "only by a limit of the prover")
@@ -29,30 +31,44 @@ PRINTING = threading.Lock()
 Step = collections.namedtuple("Step", "told seconds")
 
 
-def try_edits(edits, kept=True):
-    """Tries edits of any crates, side by side as far as processors and memory allow, or as many at
-    once as RT_JOBS says, over what earlier checks in the repository kept or from nothing. Counts
-    the proof of each crate, each edit, and the check at the end that the kept work is still that
-    of the crate."""
+def lanes(rt):
+    """How many checks are made at once: one a processor, of which each has its memory."""
+    return max(1, min(rt.processors(), int(0.85 * rt.free()) // MEMORY))
+
+
+def try_edits(edits):
+    """Tries edits of any crates over what earlier checks in the repository kept."""
+    with tempfile.TemporaryDirectory(prefix="ocfl-scrub-edits-") as folder:
+        copy_to(folder, below({edit.crate for edit in edits}), kept=True)
+        return try_over(folder, edits, are_proved=False)
+
+
+def try_over(folder, edits, are_proved=True):
+    """Tries edits in a copy of the crates, side by side as far as processors and memory allow, or
+    as many at once as RT_JOBS says. It is over the libraries that `rt ci` proved there from
+    nothing, or over what may be out of date. Counts the proof of each crate, each edit, and the
+    check at the end that the kept work is still that of the crate."""
     rt = toolchain.load()
     if rt is None:
         return fail("the command rt is not found; README.md says what it needs")
     began = time.monotonic()
-    with tempfile.TemporaryDirectory(prefix="ocfl-scrub-edits-") as folder:
-        copy_to(folder, below({edit.crate for edit in edits}), kept=kept)
-        given = rt.in_lanes(tasks_of(rt, folder, edits))
+    given = rt.in_lanes(tasks_of(rt, folder, edits, are_proved))
     tell(given, time.monotonic() - began)
     wells = [well for key, step in given.items() if key[1] != "library" for well, _ in step.told]
     return wells.count(True), wells.count(False)
 
 
-def tasks_of(rt, folder, edits):
+def tasks_of(rt, folder, edits, are_proved):
     """The steps as `rt` takes them: what each waits for, its work, its memory, and a call."""
     chosen = {edit.crate for edit in edits}
     made = toolchain.crates_of(rt, folder)
-    lower = {it.name for name in chosen for it in made[name].below()}
+    # (`rt` writes the library of a proved crate alone)
+    proved = {name for name, it in made.items() if are_proved and os.path.isdir(it.rlib)}
+    lower = {it.name for name in chosen for it in made[name].below()} - proved
     tasks = {}
     for name in below(chosen):
+        if name in proved - chosen:
+            continue
         lines, memory = made[name].count(rb"\n"), rt.need(made[name])
 
         def add(kind, waits, work, *tried):
@@ -61,7 +77,8 @@ def tasks_of(rt, folder, edits):
             tasks[key] = waits, work, memory, call
             return key
 
-        waits, tried = [(it.name, "library", ()) for it in made[name].below()], []
+        waits, tried = [(it.name, "library", ()) for it in made[name].below()
+                        if it.name in lower], []
         shared, alone = rounds.share(name, [it for it in edits if it.crate == name])
         if shared and not os.path.isdir(os.path.join(made[name].folder, KEPT)):
             tried = [add("seed", waits, lines, *shared.pop(0))]

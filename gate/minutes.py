@@ -1,0 +1,80 @@
+"""What the proofs and the edits of each crate cost: the file `bench/proof_minutes.tsv`, and which
+crate became dearer.
+
+All minutes of the file are those of one machine. Where most crates took more or less by about the
+same factor, the machine is another one, and what it took is divided by that factor."""
+import os
+import statistics
+import subprocess
+
+from gate.commands import FAILURES, say
+from gate.repository import TOP
+
+FILE = os.path.join(TOP, "bench", "proof_minutes.tsv")
+HEAD = "crate\tproof\tedits\tcommit"
+# By how much a crate becomes dearer or cheaper, and by how many minutes at least.
+MORE, LITTLE = 1.2, 0.3
+
+
+def parsed(text):
+    """The rows of the file: by crate the processor minutes of its proof and of its edits, and the
+    commit at which they were taken."""
+    rows = [line.split("\t") for line in text.splitlines()[1:]]
+    return {crate: (float(proof), float(edits), commit) for crate, proof, edits, commit in rows}
+
+
+def written(rows, order):
+    """The file with these rows, the crates in an order."""
+    lines = ["%s\t%.1f\t%.1f\t%s" % (crate, *rows[crate]) for crate in order if crate in rows]
+    return "\n".join([HEAD, *lines, ""])
+
+
+def pace(before, taken):
+    """How long this machine takes for what took the file's a minute, by the crates of both."""
+    ratios = [sum(taken[crate]) / sum(before[crate][:2])
+              for crate in taken if crate in before and sum(before[crate][:2]) > LITTLE]
+    return statistics.median(ratios) if len(ratios) > 4 else 1
+
+
+def changed(before, taken):
+    """The crates that are new, or that became dearer or cheaper, each with its minutes at the
+    file's pace."""
+    factor, found = pace(before, taken), {}
+    for crate, minutes in taken.items():
+        proof, edits = (it / factor for it in minutes)
+        old, new = sum(before.get(crate, (0, 0))[:2]), proof + edits
+        if crate not in before or max(old, new) > max(MORE * min(old, new), min(old, new) + LITTLE):
+            found[crate] = proof, edits
+    return found
+
+
+def note(taken, order):
+    """Says which crates became dearer or cheaper since their rows were written, and writes those
+    rows anew. What failed, or was not proved from nothing, says nothing of what that costs."""
+    if FAILURES:
+        return
+    before = parsed(read()) if os.path.exists(FILE) else {}
+    found = changed(before, {crate: both for crate, both in taken.items() if both[0] > 0})
+    for crate in found.keys() & before.keys():
+        say("%s took %.1f minutes at %s, and %.1f now" % (
+            crate, sum(before[crate][:2]), before[crate][2], sum(found[crate])))
+    if found:
+        now = {crate: (*minutes, commit_of(TOP)) for crate, minutes in found.items()}
+        with open(FILE, "w") as file:
+            file.write(written({**before, **now}, order))
+
+
+def read():
+    with open(FILE) as file:
+        return file.read()
+
+
+def commit_of(folder):
+    """The commit of a folder, with a plus where it was changed since."""
+    commands = [["rev-parse", "--short=7", "HEAD"], ["status", "--porcelain", "-uno"]]
+    try:
+        said = [subprocess.run(["git", *words], cwd=folder, stdout=subprocess.PIPE, check=True,
+                               text=True).stdout.strip() for words in commands]
+    except (OSError, subprocess.CalledProcessError):
+        return "unknown"
+    return said[0] + "+" * bool(said[1])

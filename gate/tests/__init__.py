@@ -1,0 +1,1 @@
+"""Tests of the gate itself: what can be tried without proving."""

@@ -6,7 +6,7 @@ ghost use Rattle.std.specs.IoError.{error_kind};
 ghost use Rattle.ocfl_folder.specs.declared.fs_tree.Fault.TheVariants.{Trouble as Lasting};
 ghost use Rattle.ocfl_tree.specs.declared.store.Trouble.TheVariants.{Absent, Memory};
 ghost use Rattle.ocfl_tree.specs.Listing.{IsOrdinary};
-ghost use Rattle.ocfl_tree.specs.MemTree.{empty_store};
+ghost use Rattle.ocfl_tree.specs.Store.{empty_store};
 ghost use Rattle.ocfl_tree.specs.Path.{names_of};
 ghost use Rattle.ocfl_tree.specs.Place.{begins};
 

@@ -8,7 +8,7 @@ use Rattle.ocfl_tree.specs.Calls.{opening, change_last, with_given, with_failure
 use Rattle.ocfl_tree.specs.declared.store.Entry.{Entry}
 use Rattle.ocfl_tree.specs.declared.store.Opening.{Opening}
 use Rattle.ocfl_tree.specs.declared.store.Trouble.TheVariants.{Device, Absent, Memory}
-use Rattle.ocfl_tree.proofs.Seen.{change_last-append}
+use Rattle.ocfl_tree.proofs.Lists.{change_last-append}
 
 none_more : (a b : ℕ) → b ≡ a + 0 → b ≡ a
 none_more a b e = omega (arith, e)

@@ -1,5 +1,4 @@
 pub mod Bools
-pub mod Changes
 pub mod Listings
 pub mod Lists
 pub mod Names
@@ -9,7 +8,6 @@ pub mod Paths
 pub mod PathNames
 pub mod Places
 pub mod Reading
-pub mod Seen
 pub mod Stores
 pub mod Trees
 pub mod CallLaws

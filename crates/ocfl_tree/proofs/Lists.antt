@@ -1,10 +1,9 @@
 -- What is kept at an index, and where it is looked up.
-use Rattle.std.proofs.Common.{◌≡◌, ◌≢◌, ℕ, ◌+◌, ◌<◌, cond, List, [], ◌∷◌, ◌++◌, length, drop, get_or, set, Some, None, sym, ◌∙◌, ap, refl}
-use Rattle.std.proofs.lemmas.List.{drop_more, get_or_default}
-use Rattle.ocfl_tree.specs.Place.{Text, Place, child_name}
-use Rattle.ocfl_tree.specs.StorageRoot.{StorageRoot, Leaf, dir, lookup}
-use Rattle.ocfl_tree.specs.Listing.{kind_of}
-use Rattle.ocfl_tree.specs.Internal.Nodes.{leaf_at, with_entry, kept_in}
+use Rattle.std.proofs.Common.{◌≡◌, ◌≢◌, ℕ, ◌+◌, ◌<◌, cond, List, [], ◌∷◌, ◌++◌, length, drop, get_or, Some, sym, ◌∙◌, ap, refl}
+use Rattle.std.proofs.lemmas.List.{drop_more}
+use Rattle.ocfl_tree.specs.Place.{Place}
+use Rattle.ocfl_tree.specs.Calls.{change_last}
+use Rattle.ocfl_tree.specs.StorageRoot.{StorageRoot, Leaf, lookup}
 use Rattle.ocfl_tree.proofs.Places.{place_eq-Decides, not_decided}
 
 -- the rest of a list from an item that was read
@@ -17,22 +16,7 @@ lookup_here root e p is = ap (λ b. cond b (Some e.1) (lookup root p)) ((place_e
 pub lookup_other : (root : StorageRoot) (e : Place × Leaf) (p : Place) → e.0 ≢ p → lookup (e ∷ root) p ≡ lookup root p
 lookup_other root e p other = ap (λ b. cond b (Some e.1) (lookup root p)) (not_decided _ _ (place_eq-Decides e.0 p) other)
 
-pub leaf_at_item : (root : StorageRoot) (i : ℕ) (e : Place × Leaf) → i < length root → e ≡ get_or root i e → leaf_at root i ≡ e.1
-leaf_at_item root i e h is = ap (λ (x : Place × Leaf). x.1) (get_or_default root i ([], dir) e h ∙ sym is)
-
--- one more of what is kept, read at an index
-pub kept_more : (root : StorageRoot) (i : ℕ) (e : Place × Leaf) (d : Place) → i < length root → e ≡ get_or root i e
-    → kept_in (drop i root) d ≡ with_entry (child_name d e.0) e.1 (kept_in (drop (i + 1) root) d)
-kept_more root i e d h is = ap (λ es. kept_in es d) (drop_item root i e h is)
-
-pub kept_more_child : (root : StorageRoot) (i : ℕ) (e : Place × Leaf) (d : Place) (n : Text) → i < length root → e ≡ get_or root i e → child_name d e.0 ≡ Some n
-    → kept_in (drop i root) d ≡ record { name = n; kind = kind_of e.1 } ∷ kept_in (drop (i + 1) root) d
-kept_more_child root i e d n h is some = kept_more root i e d h is ∙ ap (λ o. with_entry o e.1 (kept_in (drop (i + 1) root) d)) some
-
-pub kept_more_other : (root : StorageRoot) (i : ℕ) (e : Place × Leaf) (d : Place) → i < length root → e ≡ get_or root i e → child_name d e.0 ≡ None
-    → kept_in (drop i root) d ≡ kept_in (drop (i + 1) root) d
-kept_more_other root i e d h is none = kept_more root i e d h is ∙ ap (λ o. with_entry o e.1 (kept_in (drop (i + 1) root) d)) none
-
-pub set_last : {X : Type 0} (xs : List X) (x y : X) → set (xs ++ x ∷ []) (length xs) y ≡ xs ++ y ∷ []
-set_last [] x y = refl
-set_last (z ∷ xs) x y = ap (λ ys. z ∷ ys) (set_last xs x y)
+pub change_last-append : {A : Type 0} (f : A → A) (xs : List A) (x : A) → change_last f (xs ++ x ∷ []) ≡ xs ++ f x ∷ []
+change_last-append f [] x = refl
+change_last-append f (y ∷ []) x = refl
+change_last-append f (y ∷ z ∷ xs) x = ap (λ ys. y ∷ ys) (change_last-append f (z ∷ xs) x)

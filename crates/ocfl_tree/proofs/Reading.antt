@@ -10,7 +10,7 @@ use Rattle.ocfl_tree.specs.declared.store.Opening.{Opening}
 use Rattle.ocfl_tree.specs.declared.store.Trouble.TheVariants.{Device, Absent}
 use Rattle.ocfl_tree.proofs.Stores.{did_both}
 use Rattle.ocfl_tree.proofs.Trees.{some_not_none}
-use Rattle.ocfl_tree.proofs.Seen.{change_last-append}
+use Rattle.ocfl_tree.proofs.Lists.{change_last-append}
 
 pub reading_opens : (s t : Store) (p : Place) → Opens s t p → IsReading s t p []
 reading_opens s t p o = record { left = o.bytes; is_file = o.is_file; rest = o.rest; did = o.did }

@@ -7,6 +7,3 @@ pub mod Store
 pub mod Listing
 pub mod Calls
 pub mod Reading
-pub mod Faults
-pub mod MemTree
-pub mod Internal

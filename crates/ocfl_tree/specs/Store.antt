@@ -1,5 +1,5 @@
 -- What a store that tells its tree tells, and what a call did to that.
-use Rattle.std.specs.Prelude.{◌≡◌, ℕ, ◌+◌, List, ◌++◌, Bool, IsTrue, Option}
+use Rattle.std.specs.Prelude.{◌≡◌, ℕ, ◌+◌, List, [], ◌++◌, Bool, IsTrue, Option, None}
 use Rattle.ocfl_tree.specs.Place.{Text, Place}
 use Rattle.ocfl_tree.specs.StorageRoot.{StorageRoot}
 use Rattle.ocfl_tree.specs.declared.store.Opening.{Opening}
@@ -15,6 +15,10 @@ pub record Store : Type 0 where
   pub failures : ℕ
   -- the largest read that was asked
   pub largest : ℕ
+
+-- a root with nothing in it, of which nothing was asked
+abbrev pub empty_store : Store
+empty_store = record { tree = []; rest = None; openings = []; listings = []; failures = 0; largest = 0 }
 
 -- of a store that tells its tree, whatever that tree is
 abbrev pub IfTold : Bool → Store → (StorageRoot → Type 0) → Type 0

@@ -7,7 +7,8 @@ use ocfl_digest::{
     read_bounded,
 };
 use ocfl_folder::FsTree;
-use ocfl_tree::{MemTree, Point, Tree, Trouble};
+use ocfl_memory::{MemTree, Point};
+use ocfl_tree::{Tree, Trouble};
 use std::alloc::Global;
 use std::fs;
 use std::test::Fail;

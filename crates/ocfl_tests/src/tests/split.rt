@@ -4,8 +4,8 @@ use crate::tests::common::store::{change, expect_listed, place_of, put};
 use crate::tests::parts::text_of;
 use crate::tests::walk::said;
 use ocfl_item::Fault;
+use ocfl_memory::{MemTree, Point};
 use ocfl_split::split;
-use ocfl_tree::{MemTree, Point};
 use std::alloc::Global;
 use std::test::Fail;
 

@@ -1,7 +1,8 @@
 //! What the fixtures themselves are to do.
 use crate::tests::common::digests::lines_of;
 use crate::tests::common::store::{change, listed_from, place_of};
-use ocfl_tree::{MemTree, Tree};
+use ocfl_memory::MemTree;
+use ocfl_tree::Tree;
 use std::test::Fail;
 
 #[test]

@@ -1,7 +1,7 @@
 //! Storage roots and objects in them.
 use crate::tests::common::digests::with_digests;
 use crate::tests::common::store::{put, put_dir};
-use ocfl_tree::MemTree;
+use ocfl_memory::MemTree;
 use sha2::{Digest, Sha256, Sha512};
 use std::alloc::Global;
 use std::test::Fail;

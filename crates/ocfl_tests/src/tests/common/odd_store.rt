@@ -1,8 +1,9 @@
 //! Stores that answer oddly.
 ghost use Rattle.std.specs.Prelude.{false};
-ghost use Rattle.ocfl_tree.specs.MemTree.{empty_store};
+ghost use Rattle.ocfl_tree.specs.Store.{empty_store};
 
-use ocfl_tree::{Entry, Kind, MemTree, Name, Place, Tree, Trouble};
+use ocfl_memory::MemTree;
+use ocfl_tree::{Entry, Kind, Name, Place, Tree, Trouble};
 
 /// How a store differs from the one in memory that stands behind it.
 #[derive(Drop)]

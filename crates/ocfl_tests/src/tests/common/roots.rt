@@ -4,7 +4,7 @@ use crate::tests::common::object::{
     object_listing, object_with, object_without_files, put_right_object,
 };
 use crate::tests::common::store::{change, place_of, put};
-use ocfl_tree::{MemTree, Point};
+use ocfl_memory::{MemTree, Point};
 use std::alloc::Global;
 use std::test::Fail;
 

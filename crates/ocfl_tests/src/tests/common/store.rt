@@ -1,6 +1,7 @@
 //! Trees in memory: what lies in them, and what was asked of them.
 use crate::tests::common::Runtime;
-use ocfl_tree::{MemTree, Name, Place};
+use ocfl_memory::MemTree;
+use ocfl_tree::{Name, Place};
 use std::alloc::Global;
 use std::test::Fail;
 

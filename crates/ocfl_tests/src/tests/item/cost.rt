@@ -4,7 +4,7 @@ use crate::tests::common::odd_store::{Odd, Oddity};
 use crate::tests::common::roots::{first_fails, long_file_fails, right_object};
 use crate::tests::common::store::{place_of, times_opened};
 use crate::tests::walk::{expect_item, expect_row, failed_place};
-use ocfl_tree::Point;
+use ocfl_memory::Point;
 use ocfl_walk::{Fault, Walk};
 use std::alloc::Global;
 use std::test::Fail;

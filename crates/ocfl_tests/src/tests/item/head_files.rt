@@ -2,7 +2,7 @@
 use crate::tests::common::object::bare_root;
 use crate::tests::common::store::{change, expect_opened, place_of};
 use crate::tests::walk::{expect_item, failed_place};
-use ocfl_tree::{MemTree, Point};
+use ocfl_memory::{MemTree, Point};
 use std::alloc::Global;
 use std::test::Fail;
 

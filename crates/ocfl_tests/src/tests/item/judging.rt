@@ -5,7 +5,7 @@ use crate::tests::common::object::{
 use crate::tests::common::roots::unread_in_fixity_alone;
 use crate::tests::common::store::{change, place_of, put_dir, times_opened};
 use crate::tests::walk::expect_item;
-use ocfl_tree::{MemTree, Point};
+use ocfl_memory::{MemTree, Point};
 use std::alloc::Global;
 use std::test::Fail;
 

@@ -11,7 +11,8 @@ use ocfl_item::{
     Around, Folder, Head, Visit, can_enter, head_of, is_extensions, list, table_of_object,
     visit_base, visit_entry, visit_path,
 };
-use ocfl_tree::{MemTree, Name};
+use ocfl_memory::MemTree;
+use ocfl_tree::Name;
 use std::alloc::Global;
 use std::test::Fail;
 

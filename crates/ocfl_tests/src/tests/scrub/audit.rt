@@ -6,7 +6,7 @@ use crate::tests::common::roots::{
     unread_in_fixity_alone,
 };
 use crate::tests::common::store::{expect_listed, times_opened};
-use ocfl_tree::Point;
+use ocfl_memory::Point;
 use std::test::Fail;
 
 #[test]

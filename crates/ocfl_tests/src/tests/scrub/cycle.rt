@@ -9,8 +9,8 @@ use crate::tests::common::roots::{long_object, right_objects, three_files};
 use crate::tests::common::store::{expect_opened, place_of, put, times_opened, was_not_called};
 use ocfl_cursor::Limits;
 use ocfl_digest::Block;
+use ocfl_memory::{MemTree, Point};
 use ocfl_scrub::{CycleEnd, cycle};
-use ocfl_tree::{MemTree, Point};
 use std::alloc::Global;
 use std::test::Fail;
 

@@ -4,8 +4,9 @@ use crate::tests::common::Runtime;
 use crate::tests::common::digests::lines_of;
 use crate::tests::common::object::FILE;
 use ocfl_digest::Block;
+use ocfl_memory::MemTree;
 use ocfl_scrub::{Note, audited, checked};
-use ocfl_tree::{MemTree, Tree};
+use ocfl_tree::Tree;
 use std::test::Fail;
 
 /// The line of the content file `f`, which is right.

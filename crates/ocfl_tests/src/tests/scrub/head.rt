@@ -8,7 +8,7 @@ use crate::tests::common::object::{
 };
 use crate::tests::common::roots::right_object;
 use crate::tests::common::store::{change, place_of, put, times_opened};
-use ocfl_tree::{MemTree, Point};
+use ocfl_memory::{MemTree, Point};
 use std::alloc::Global;
 use std::test::Fail;
 

@@ -5,7 +5,7 @@ use crate::tests::common::object::{
     FILE, INVENTORY, LISTS_F, SHORT_SIDECAR, inventory, listing, object_with, short_digits,
 };
 use crate::tests::common::store::put;
-use ocfl_tree::MemTree;
+use ocfl_memory::MemTree;
 use std::alloc::Global;
 use std::test::Fail;
 

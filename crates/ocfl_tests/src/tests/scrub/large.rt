@@ -11,8 +11,8 @@ use crate::tests::common::store::{place_of, put};
 use ocfl_cursor::Cursor;
 use ocfl_deed::Deed;
 use ocfl_digest::Block;
+use ocfl_memory::{MemTree, Point};
 use ocfl_scrub::{audited, checked, perform, run};
-use ocfl_tree::{MemTree, Point};
 use std::alloc::Global;
 use std::test::Fail;
 

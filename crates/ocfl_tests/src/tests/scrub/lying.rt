@@ -1,6 +1,6 @@
 //! Stores that lie, in that what they tell changes, and one that lacks memory.
 ghost use Rattle.std.specs.Prelude.{false};
-ghost use Rattle.ocfl_tree.specs.MemTree.{empty_store};
+ghost use Rattle.ocfl_tree.specs.Store.{empty_store};
 
 use super::faults::{expect_rest, ran};
 use super::run_figures::{MOST, limits};
@@ -8,9 +8,10 @@ use super::stop::{ROOTS, Tried, root_by};
 use crate::tests::common::Runtime;
 use ocfl_cursor::Cursor;
 use ocfl_digest::Block;
+use ocfl_memory::MemTree;
 use ocfl_report::read_place;
 use ocfl_scrub::{RunEnd, RunStatus, run};
-use ocfl_tree::{Entry, MemTree, Place, Tree, Trouble};
+use ocfl_tree::{Entry, Place, Tree, Trouble};
 use ocfl_walk::Fault;
 use std::test::Fail;
 

@@ -6,10 +6,10 @@ use crate::tests::common::cursors::end_at;
 use crate::tests::common::roots::right_objects;
 use ocfl_cursor::{Cursor, State};
 use ocfl_digest::Block;
+use ocfl_memory::MemTree;
 use ocfl_scrub::{
     AuditEnd, CycleEnd, CycleStatus, End, Part, RunEnd, RunStatus, audit_part, cycle_part, run_part,
 };
-use ocfl_tree::MemTree;
 use ocfl_walk::Fault;
 use std::alloc::Global;
 use std::test::Fail;

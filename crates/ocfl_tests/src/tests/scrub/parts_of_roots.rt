@@ -12,9 +12,10 @@ use crate::tests::common::roots::{
 use crate::tests::common::store::{expect_listed, expect_opened, place_of, was_not_called};
 use ocfl_cursor::Cursor;
 use ocfl_digest::Block;
+use ocfl_memory::{MemTree, Point};
 use ocfl_report::DisplayPlace;
 use ocfl_scrub::{AuditEnd, End, Part, audit_part, cycle_part, run_part};
-use ocfl_tree::{MemTree, Place, Point};
+use ocfl_tree::Place;
 use std::alloc::Global;
 use std::test::Fail;
 

@@ -8,8 +8,9 @@ use crate::tests::common::cursors::{cut, ends_of, sealed};
 use crate::tests::common::roots::{right_objects, three_files};
 use crate::tests::common::store::{place_of, was_not_called};
 use ocfl_deed::Deed;
+use ocfl_memory::Point;
 use ocfl_scrub::Scope;
-use ocfl_tree::{Point, Tree};
+use ocfl_tree::Tree;
 use std::alloc::Global;
 use std::test::Fail;
 

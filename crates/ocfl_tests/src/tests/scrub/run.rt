@@ -13,8 +13,8 @@ use crate::tests::common::store::{
 };
 use ocfl_cursor::{Cursor, State};
 use ocfl_digest::Block;
+use ocfl_memory::MemTree;
 use ocfl_scrub::run;
-use ocfl_tree::MemTree;
 use std::test::Fail;
 
 const THREE_ENDED: &str = "spent 9 files 3 clean, ended; cycle 1 runs 1 spent 9 files 3 ended";

@@ -7,7 +7,7 @@ use crate::tests::common::roots::{
     first_fails, long_file_fails, under_four_algorithms, unread_in_fixity_alone,
 };
 use crate::tests::common::store::{place_of, times_opened};
-use ocfl_tree::Point;
+use ocfl_memory::Point;
 use std::test::Fail;
 
 const A_FAILS: &str = "S08|o/v1/content/a|-\n";

@@ -3,9 +3,10 @@ use crate::tests::common::digests::with_digests;
 use crate::tests::common::object::short_digits;
 use crate::tests::common::store::place_of;
 use ocfl_digest::Block;
+use ocfl_memory::MemTree;
 use ocfl_report::put_place;
 use ocfl_scrub::{audited, checked};
-use ocfl_tree::{MemTree, Place};
+use ocfl_tree::Place;
 use std::alloc::Global;
 use std::test::Fail;
 

@@ -8,8 +8,9 @@ use crate::tests::common::Runtime;
 use crate::tests::common::store::place_of;
 use ocfl_cursor::{PartEnds, decode_part, encode_part};
 use ocfl_digest::Block;
+use ocfl_memory::MemTree;
 use ocfl_scrub::{CycleStatus, End, Part, audit, audit_part, cycle_part, run_part};
-use ocfl_tree::{MemTree, Place};
+use ocfl_tree::Place;
 use std::alloc::Global;
 use std::test::Fail;
 

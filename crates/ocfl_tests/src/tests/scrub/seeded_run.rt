@@ -6,8 +6,8 @@ use crate::tests::common::Runtime;
 use crate::tests::common::store::opened_from;
 use ocfl_cursor::{Cursor, Limits};
 use ocfl_digest::Block;
+use ocfl_memory::MemTree;
 use ocfl_scrub::{CycleStatus, RunEnd, RunStatus, cycle, run};
-use ocfl_tree::MemTree;
 use std::alloc::Global;
 use std::test::Fail;
 

@@ -12,8 +12,9 @@ use crate::tests::common::roots::{
 use crate::tests::common::store::place_of;
 use ocfl_cursor::Cursor;
 use ocfl_digest::Block;
+use ocfl_memory::{MemTree, Point};
 use ocfl_scrub::{End, audit, audited};
-use ocfl_tree::{MemTree, Place, Point};
+use ocfl_tree::Place;
 use ocfl_walk::Fault;
 use std::alloc::Global;
 use std::test::Fail;

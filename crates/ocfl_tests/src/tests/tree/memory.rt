@@ -1,7 +1,8 @@
 //! The tree in memory: what it holds, what its builders refuse, and its calls that fail.
 use super::{lists, whole};
 use crate::tests::common::store::{change, place_of};
-use ocfl_tree::{BuildStop, MemTree, Place, Point, Tree, Trouble};
+use ocfl_memory::{BuildStop, MemTree, Point};
+use ocfl_tree::{Place, Tree, Trouble};
 use std::alloc::Global;
 use std::test::Fail;
 

@@ -4,7 +4,7 @@ use crate::tests::common::digests::lines_of;
 use crate::tests::common::object::bare_root;
 use crate::tests::common::store::{change, expect_listed, expect_opened, place_of, put_dir};
 use crate::tests::walk::{failed_place, item, judged};
-use ocfl_tree::{MemTree, Point};
+use ocfl_memory::{MemTree, Point};
 use std::alloc::Global;
 use std::test::Fail;
 

@@ -4,7 +4,7 @@ use crate::tests::common::object::{bare_root, listing, object_listing, put_objec
 use crate::tests::common::roots::{missing_and_there, right_object, right_objects};
 use crate::tests::common::store::{change, expect_listed, expect_opened, opened_from};
 use crate::tests::walk::{entered, expect, expect_after, said};
-use ocfl_tree::MemTree;
+use ocfl_memory::MemTree;
 use ocfl_walk::Walk;
 use std::alloc::Global;
 use std::test::Fail;

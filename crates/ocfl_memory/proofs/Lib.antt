@@ -1,0 +1,5 @@
+mod Changes
+mod Listings
+mod Lists
+mod Seen
+mod Trees

@@ -1,0 +1,3 @@
+pub mod MemTree
+pub mod Faults
+pub mod Internal

@@ -1,6 +1,0 @@
-use Rattle.std.proofs.Common.{◌≡◌, drop}
-use Rattle.ocfl_tree.specs.Faults.{is_planned}
-use Rattle.ocfl_tree.proofs.plan.is_planned.Given as goal
-
-abbrev pub invariant-loop-planned : goal.invariant-loop-planned
-invariant-loop-planned l = is_planned l.points l.place l.call ≡ is_planned (drop l.planned-index l.points) l.place l.call

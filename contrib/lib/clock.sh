@@ -13,14 +13,18 @@ read_end() {
       *) complaint="--until needs a time like 06:00"; return 1 ;;
     esac
     look_at_clock
-    end=$(date -d "$until" +%s) && [ "$end" -gt "$seconds_now" ] \
-      || end=$(date -d "tomorrow $until" +%s)
+    find_end '' && [ "$end" -gt "$seconds_now" ] || find_end 'tomorrow ' || {
+      complaint="the clock shows no $until today or tomorrow"
+      return 1
+    }
   elif [ -n "$hours" ]; then
     case $hours in
       *[!0-9.]* | *.*.* | .) complaint="--hours needs a number like 8 or 7.5"; return 1 ;;
     esac
     look_at_clock
-    end=$((seconds_now + $(awk -v hours="$hours" 'BEGIN { printf "%.0f", hours * 3600 }')))
+    seconds=$(awk -v hours="$hours" 'BEGIN { printf "%.0f", hours * 3600 }')
+    [ "$seconds" -gt 0 ] || { complaint="--hours needs a number like 8 or 7.5"; return 1; }
+    end=$((seconds_now + seconds))
   fi
   [ -n "$end" ] || return 0
   read_size "$budget"
@@ -29,6 +33,18 @@ read_end() {
     complaint="--budget needs a number like 20G"
     return 1
   }
+}
+
+# Sets `end` to when the clock shows --until on a day; where it leaps over that, to when it has.
+find_end() {
+  hour=${until%:*} minute=${until#*:}
+  minute=$((60 * ${hour#0} + ${minute#0}))
+  while [ "$minute" -lt 1440 ]; do
+    at=$(printf '%02d:%02d' $((minute / 60)) $((minute % 60)))
+    if end=$(date -d "$1$at" +%s 2> /dev/null); then return 0; fi
+    minute=$((minute + 1))
+  done
+  return 1
 }
 
 # Sets `size` to the number that a size says, as ocfl-scrub reads it: 20G, 20GiB, 20GB. 0 where it

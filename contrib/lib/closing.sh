@@ -1,7 +1,7 @@
 #!/bin/sh
 # Closing the report of a cycle that has ended: is it whole, what was found, what is gone since the
 # cycle before. `nightly` and `rotate` read this file, after `state.sh`.
-# shellcheck disable=SC2034,SC2154
+# shellcheck disable=SC2030,SC2031,SC2034,SC2154
 
 # Sets `named_cycle`, the number of the cycle in the name of a file or folder.
 read_cycle_of() {
@@ -23,12 +23,18 @@ find_closed() {
   closed_file=${2:-$state}/reports/cycle-$padded
 }
 
+# Whether a file is a closed report, and no copy that somebody made beside it. Sets `named_cycle`.
+is_report() {
+  read_cycle_of "$1"
+  case $named_cycle in '' | *[!0-9]*) return 1 ;; esac
+  [ -e "$1" ]
+}
+
 # Sets `earlier`, the newest whole report of a cycle before this one; empty where none lies there.
 find_earlier() {
   earlier=''
   for file in "$state"/reports/cycle-*; do
-    number=${file##*/cycle-}
-    if [ -e "$file" ] && [ "${number%.gz}" -lt "$1" ]; then earlier=$file; fi
+    if is_report "$file" && [ "$named_cycle" -lt "$1" ]; then earlier=$file; fi
   done
 }
 
@@ -38,6 +44,41 @@ is_readable() {
     *.gz) gzip -t -- "$1" 2> /dev/null ;;
     *) [ -r "$1" ] ;;
   esac
+}
+
+# Whether a closed report has the digest that its statement gives, or the log where none lies there.
+is_as_stated() {
+  read_cycle_of "$1"
+  pad "$named_cycle"
+  stated=$(sed -n 's/^Report SHA-256: //p' "$state/reports/statement-$padded" 2> /dev/null)
+  [ -n "$stated" ] || { is_as_logged "$1"; return; }
+  sum=$(gzip -cdf -- "$1" | sha256sum)
+  [ "$stated" = "${sum%% *}" ]
+}
+
+# The same by the log, piece by piece, where it has their digests: of a joined report it has none.
+is_as_logged() (
+  cycle=$named_cycle stands=ended
+  run=$(ended_row 4) spent=$(ended_row 8)
+  find_pieces
+  case $known in *"${newline}piece"*) ;; *) return 0 ;; esac
+  gzip -cdf -- "$1" | {
+    while IFS=$tab read -r kind from to before after; do
+      [ "$kind" = piece ] || continue
+      sum=$({ printf '%s\n' "$before"; head -c $((to - from)) <&5; } | sha256sum)
+      [ "${sum%% *}" = "$after" ] || exit 1
+    done 5<&0 <<TEXT
+$known
+TEXT
+    [ "$(wc -c)" -eq 0 ]
+  }
+)
+
+# A column of the row with which this cycle was closed.
+ended_row() {
+  awk -F '\t' -v cycle="$cycle" -v column="$1" '
+    NF == 14 && $2 == "ended" && $3 == cycle { value = $column }
+    END { print value }' "$state/nights"
 }
 
 # Closes the cycle that the cursor says has ended, and writes its statement.
@@ -84,33 +125,51 @@ was_lost() {
 }
 
 # Lists what stands in the report before, or is expected, and has no line in this one. Of a report
-# that lost lines that cannot be said. Where the one before cannot be read, `unstated` says so.
+# that lost lines that cannot be said. Where the one before or the list of what is expected cannot
+# be read, or that report is another one now, `unstated` says so.
 list_gone() {
   pad "$cycle"
   list=$state/reports/gone-$padded
-  compared=nothing
-  case $closed in */incomplete-*) rm -f -- "$list"; return 0 ;; esac
+  compared=nothing asked=''
+  case ${closed##*/} in incomplete-*) remove "$list"; return ;; esac
   find_earlier "$cycle"
-  if [ -n "$earlier" ] && ! is_readable "$earlier"; then
-    echo "$earlier cannot be read: what is gone since then is not known." >&2
-    unstated=yes earlier=''
+  if [ -z "$earlier" ]; then :
+  elif ! is_readable "$earlier"; then
+    leave_out "$earlier cannot be read: what is gone since then is not known."
+    earlier=''
+  elif ! is_as_stated "$earlier"; then
+    leave_out "$earlier is not what its statement or the log says: what is gone since then is not \
+known."
+    earlier=''
   fi
-  if [ -z "$earlier$expected" ]; then
-    remove "$list" "$list.new"
-    return
-  fi
-  {
-    if [ -n "$earlier" ]; then
-      zcat -f -- "$earlier" | LC_ALL=C NEWER=$1 awk -f "$here/lib/gone.awk" || return 3
-    fi
-    [ -z "$expected" ] || LC_ALL=C NEWER=$1 awk -f "$here/lib/expected.awk" "$expected" \
-      | LC_ALL=C sort
-  } > "$list.new" || return 3
+  printf '' > "$list.new" && list_missing "$1" || return 3
   if [ -n "$earlier" ]; then
+    zcat -f -- "$earlier" | LC_ALL=C NEWER=$1 awk -f "$here/lib/gone.awk" > "$list.gone" \
+      && cat -- "$list.new" >> "$list.gone" && mv -f -- "$list.gone" "$list.new" || return 3
     read_cycle_of "$earlier"
     compared=$named_cycle
   fi
-  if [ -s "$list.new" ]; then mv -f -- "$list.new" "$list"; else rm -f -- "$list" "$list.new"; fi
+  if [ -s "$list.new" ]; then mv -f -- "$list.new" "$list"; else remove "$list" "$list.new"; fi
+}
+
+leave_out() {
+  printf '%s\n' "$1" >&2
+  unstated=yes
+}
+
+# Sets `asked` to `yes` where the objects that are expected were looked for, and to `unknown` where
+# their list cannot be read.
+list_missing() {
+  [ -n "$expected" ] || return 0
+  asked=yes
+  if [ ! -d "$expected" ] \
+    && LC_ALL=C NEWER=$1 awk -f "$here/lib/expected.awk" "$expected" > "$list.new"; then
+    LC_ALL=C sort -o "$list.new" -- "$list.new"
+    return
+  fi
+  leave_out "$expected could not be read: which of its objects are missing is not known."
+  asked=unknown
+  printf '' > "$list.new"
 }
 
 # Sets `gone` to how many objects and files the list of what is gone has, and `missing` to how many
@@ -134,9 +193,12 @@ count_codes() {
 # Logs the end of the cycle.
 log_closing() {
   whole=whole
-  case $closed in */incomplete-*) whole="incomplete ${lacking:-lost lines}" ;; esac
+  case ${closed##*/} in incomplete-*) whole="incomplete ${lacking:-lost lines}" ;; esac
   count_gone
-  if [ -n "$expected" ] && [ "$whole" = whole ]; then gone="$gone; expected $missing"; fi
+  case $asked in
+    yes) gone="$gone; expected $missing" ;;
+    unknown) gone="$gone; expected unknown" ;;
+  esac
   log ended "report reports/${closed##*/}; $whole; findings ${found:-none}; compared $compared; \
 gone $gone"
 }
@@ -150,26 +212,42 @@ write_statement() {
   [ -e "$closed_file" ] || return 0
   "$here/reports/statement" ${seal:+--seal "$seal"} "$state" "$cycle" > /dev/null && return 0
   unstated=yes
-  echo "The statement of cycle $cycle could not be made or sealed. To try again:" >&2
-  echo "$here/reports/statement${seal:+ --seal COMMAND} $state $cycle" >&2
+  printf '%s\n' "The statement of cycle $cycle could not be made or sealed. To try again:" \
+    "$here/reports/statement${seal:+ --seal COMMAND} $state $cycle" >&2
 }
 
 # Compresses the reports of all cycles but the one that was closed last, and removes those that are
 # not to be kept.
 tidy_reports() {
-  newest=''
-  for file in "$state"/reports/cycle-*[0-9] "$state"/reports/incomplete-*[0-9]; do
-    [ -e "$file" ] || continue
-    if [ -z "$newest" ] || [ "${file##*-}" -gt "${newest##*-}" ]; then newest=$file; fi
+  newest=0
+  for file in "$state"/reports/cycle-* "$state"/reports/incomplete-*; do
+    if is_report "$file" && [ "$named_cycle" -gt "$newest" ]; then newest=$named_cycle; fi
   done
   for file in "$state"/reports/cycle-*[0-9] "$state"/reports/incomplete-*[0-9]; do
-    if [ ! -e "$file" ] || [ "$file" = "$newest" ]; then continue; fi
+    if ! is_report "$file" || [ "$named_cycle" -eq "$newest" ]; then continue; fi
     gzip -f -- "$file" || return 3
   done
   [ -n "$keep" ] || return 0
-  for file in "$state"/reports/cycle-* "$state"/reports/incomplete-*; do
-    [ ! -e "$file" ] || printf '%s\t%s\n' "${file##*-}" "$file"
-  done | sort -r | tail -n "+$((keep + 1))" | cut -f 2- | while IFS= read -r file; do
-    rm -f -- "$file" || return 3
+  unwanted_reports | while IFS= read -r file; do
+    rm -f -- "$state/reports/$file" || return 3
   done
+}
+
+# The names of the reports that --keep leaves out. The last whole one stays, since the next is
+# compared with it, and so does each of which nobody was told all.
+unwanted_reports() {
+  for file in "$state"/reports/cycle-* "$state"/reports/incomplete-*; do
+    ! is_report "$file" || printf '%s\t%s\n' "$named_cycle" "${file##*/}"
+  done | sort -r -n | awk -F '\t' -v keep="$keep" -v untold="$(first_untold)" '
+    $2 ~ /^cycle-/ && ++whole == 1 { next }
+    NR > keep && (untold == "" || $1 + 0 < untold + 0) { print $2 }'
+}
+
+# The first cycle of which the log has rows that nobody was told of, if there is one.
+first_untold() {
+  awk -F '\t' '
+    NF != 14 { next }
+    $2 == "told" { first = ""; next }
+    $3 > 0 && (first == "" || $3 + 0 < first + 0) { first = $3 }
+    END { print first }' "$state/nights"
 }

@@ -8,8 +8,10 @@ BEGIN { FS = OFS = "\t" }
 }
 
 END {
-  while ((getline < ENVIRON["NEWER"]) > 0) {
+  while ((got = (getline < ENVIRON["NEWER"])) > 0) {
     if ($1 !~ /^(E001|E015|E023|E024|E072|E073|E092|E093|S04|S05|S08)$/) delete missing[$2]
   }
+  # What cannot be read has not lost anything.
+  if (got < 0) exit 3
   for (path in missing) print "expected", path
 }

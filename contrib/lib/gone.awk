@@ -5,6 +5,7 @@ BEGIN { FS = OFS = "\t"; next_path() }
 
 # A text that goes by bytes as its path goes by places: a slash is below all that a name can hold.
 function order(path) {
+  if (path == ".") return ""
   gsub("/", "\001", path)
   if (path ~ /%/) {
     gsub(/%[01]/, "\002&", path)
@@ -14,14 +15,16 @@ function order(path) {
 }
 
 # Goes on to the newer report's next path.
-function next_path(   line, fields) {
-  while ((getline line < ENVIRON["NEWER"]) > 0) {
+function next_path(   line, fields, got) {
+  while ((got = (getline line < ENVIRON["NEWER"])) > 0) {
     split(line, fields, "\t")
     if (fields[2] "" != newer "") {
       newer = fields[2] ""
       return
     }
   }
+  # What cannot be read has not lost anything.
+  if (got < 0) exit 3
   ended = 1
 }
 

@@ -7,9 +7,11 @@
 # them and `untold_lines` to where new lines of reports are, as `untold.awk` says them.
 read_untold() {
   untold='' untold_lines=''
-  : > "$scratch/untold"
-  [ ! -f "$state/nights" ] || untold=$(UNTOLD=$scratch/untold awk -v tonight="$night" \
-    -f "$here/lib/untold.awk" "$state/nights")
+  printf '' > "$scratch/untold" || return 3
+  if [ -f "$state/nights" ]; then
+    untold=$(UNTOLD=$scratch/untold awk -v tonight="$night" -f "$here/lib/untold.awk" \
+      "$state/nights") || return 3
+  fi
   case $untold in *"$newline"*) untold_lines=${untold#*"$newline"} ;; esac
   untold=${untold%%"$newline"*}
 }
@@ -17,54 +19,83 @@ read_untold() {
 # Whether something of a kind is among them.
 has_untold() { case " $untold " in *" $1 "*) ;; *) return 1 ;; esac; }
 
-# The findings of a cycle's report from one byte on, up to another, in this folder of state or in
-# another one.
-findings_between() {
-  find_closed "$1" "${4:-}"
-  file=$closed_file
-  if [ ! -e "$file" ]; then
-    if is_closed "$1" "${4:-}"; then return 0; fi
-    file=${4:-$state}/report
-  fi
-  case $file in
-    *.gz) zcat -- "$file" | tail -c "+$(($2 + 1))" | head -c "$(($3 - $2))" ;;
-    *) if [ "$2" -eq 0 ]; then head -c "$3" -- "$file"; else piece "$file" "$2" "$3"; fi ;;
-  esac | LC_ALL=C grep -E -v "$no_findings" || [ $? -eq 1 ]
+# Sets `found_in` to the report of a cycle in this folder of state or in another one: the closed
+# one, or the open one; empty where it was closed and is not there any more.
+find_lines() {
+  find_closed "$1" "${2:-}"
+  found_in=$closed_file
+  if [ -e "$found_in" ]; then return 0; fi
+  found_in=''
+  is_closed "$1" "${2:-}" || found_in=${2:-$state}/report
+}
+
+# The bytes of a cycle's report from one on, up to another, in this folder of state or in another.
+lines_between() {
+  find_lines "$1" "${4:-}"
+  case $found_in in
+    '') ;;
+    *.gz) gzip -cd -- "$found_in" | tail -c "+$(($2 + 1))" | head -c "$(($3 - $2))" ;;
+    *) if [ "$2" -eq 0 ]; then head -c "$3" -- "$found_in"; else piece "$found_in" "$2" "$3"; fi ;;
+  esac
+}
+
+# The findings among them.
+findings_between() { lines_between "$@" | LC_ALL=C grep -E -v "$no_findings" || [ $? -eq 1 ]; }
+
+# Whether all of these bytes can be read, or their report was taken away.
+has_lines() {
+  find_lines "$1" "${4:-}"
+  [ -n "$found_in" ] || return 0
+  is_readable "$found_in" && [ "$(lines_between "$@" | wc -c)" -eq $(($3 - $2)) ]
 }
 
 # Shows the twenty gravest of the findings in a file. If they cannot be sorted, it shows the first.
 show_gravest() {
-  "$here/reports/findings" --by-weight "$1" > "$scratch/sorted" || cp -- "$1" "$scratch/sorted"
+  "$here/reports/findings" --by-weight "$1" > "$scratch/sorted" \
+    || cp -- "$1" "$scratch/sorted" || return 3
   head -n 20 -- "$scratch/sorted"
 }
 
 say_findings() {
   [ -n "$untold_lines" ] || return 0
   while read -r of first last from to; do
-    findings_between "$of" "$from" "$to" > "$scratch/found"
-    [ -s "$scratch/found" ] || continue
-    count=$(wc -l < "$scratch/found")
-    findings_told=$((findings_told + count))
     which="run $first"
     [ "$first" = "$last" ] || which="runs $first to $last"
-    echo "$count finding(s) tonight in $whose, cycle $of, $which:"
-    show_gravest "$scratch/found"
-    find_closed "$of"
-    where=$closed_file
-    [ -e "$where" ] || where=$report
-    [ "$count" -le 20 ] || echo "and $((count - 20)) more, at the end of $where"
-    echo "To look at one again: ocfl-scrub check $root PATH, with the path as shown above."
+    if has_lines "$of" "$from" "$to"; then
+      findings_between "$of" "$from" "$to" > "$scratch/found" || return 3
+      [ ! -s "$scratch/found" ] || say_found || return 3
+    else
+      unread=yes
+      printf '%s\n' "The findings of cycle $of, $which, cannot be told: $found_in cannot be read \
+whole." || return 3
+    fi
   done <<TEXT
 $untold_lines
 TEXT
 }
 
-# A night that made runs, and has no row `told`, was cut as well.
+say_found() {
+  count=$(wc -l < "$scratch/found") || return 3
+  findings_told=$((findings_told + count))
+  printf '%s\n' "$count finding(s) tonight in $whose, cycle $of, $which:" \
+    && show_gravest "$scratch/found" || return 3
+  find_closed "$of"
+  where=$closed_file
+  [ -e "$where" ] || where=$report
+  [ "$count" -le 20 ] || printf '%s\n' "and $((count - 20)) more, at the end of $where" || return 3
+  printf '%s\n' "To look at one again: ocfl-scrub check $root PATH, with the path as shown above."
+}
+
+# A night that made runs, and has neither a row `told` nor one `untold`, was cut as well.
 say_cut() {
   has_untold cut || return 0
   awk -F '\t' -v tonight="$night" '
     $2 ~ /^[0-9]+$/ && $14 != tonight && !($14 in runs) { nights[++count] = $14 }
     $2 ~ /^[0-9]+$/ { runs[$14] }
+    $2 == "untold" {
+      was_cut[$14]
+      printf "The night of %s could not say what it had to say.\n", $14
+    }
     $2 == "cut" {
       was_cut[$14]
       printf "The night of %s was cut: run %s of cycle %s ", $14, $4, $3
@@ -116,21 +147,25 @@ say_ended() {
 
 # What each run said that neither ended well nor with findings alone.
 say_stops() {
-  while IFS=$tab read -r _ code of _ _ _ text _; do
+  while IFS= read -r row; do
+    row=${row#*"$tab"}
+    code=${row%%"$tab"*} row=${row#*"$tab"}
+    of=${row%%"$tab"*} row=${row#*"$tab"*"$tab"*"$tab"*"$tab"}
+    text=${row%%"$tab"*}
     case $code in
       '' | *[!0-9]* | 0 | 1) ;;
-      3) if [ "$of" -eq 0 ]; then echo "$text"; else say_stop "$text"; fi ;;
-      2) echo "The command line was not understood: $text" ;;
-      4) echo "$cursor is damaged or of another program ($text); nothing was run." ;;
+      3) if [ "$of" -eq 0 ]; then printf '%s\n' "$text"; else say_stop "$text"; fi ;;
+      2) printf '%s\n' "The command line was not understood: $text" ;;
+      4) printf '%s\n' "$cursor is damaged or of another program ($text); nothing was run." ;;
       *) say_kill "$code" "$text" ;;
-    esac
+    esac || return 3
   done < "$scratch/untold"
 }
 
 say_kill() {
   case $2 in
     "ended by "*) ;;
-    *) echo "The program was killed (status $1); the next night makes its run again." ;;
+    *) printf '%s\n' "The program was killed (status $1); the next night makes its run again." ;;
   esac
 }
 
@@ -149,46 +184,46 @@ stopped_since() {
 say_stop() {
   case $1 in
     "stopped at "*) say_stop_at "$1" "${1#stopped at }" ;;
+    *"$no_run") printf '%s\n' "$1" ;;
     *)
       trouble=$(try_state 2>&1) || trouble=" ($state: $(system_words "$trouble"))"
-      echo "The night of $whose stopped: ${1:-no word}$trouble."
-      echo "The next one goes on from the cursor."
+      printf '%s\n' "The night of $whose stopped: ${1:-no word}$trouble." \
+        "The next one goes on from the cursor."
       ;;
   esac
 }
 
 say_stop_at() {
   reason=$(reason_of "$2")
-  echo "The night of $whose stopped: $1${reason:+ ($reason)}. The next one tries that place again."
+  printf '%s\n' \
+    "The night of $whose stopped: $1${reason:+ ($reason)}. The next one tries that place again." \
+    || return 3
   since=$(stopped_since "$1")
   [ -n "$since" ] || return 0
   which=${part:+ in this part}
-  echo "Each night since $since stopped there: what comes after $2$which is not audited until that"
-  echo "place can be read. README.md says how to audit the rest: \"A place that cannot be read\"."
+  printf '%s\n' \
+    "Each night since $since stopped there: what comes after $2$which is not audited until that" \
+    "place can be read. README.md says how to audit the rest: \"A place that cannot be read\"."
 }
 
 say_signal() {
   is_ending || return 0
-  echo "The night of $whose was ended by $(cat -- "$scratch/signal") after $runs run(s)."
+  printf '%s\n' \
+    "The night of $whose was ended by $(cat -- "$scratch/signal") after $runs run(s)." || return 3
   case ${note:-} in "ended by "*) echo "The last one was cut, and is made again." ;; esac
 }
 
-# All that nobody was told of.
+# All that nobody was told of. Fails where it cannot be said whole.
 compose() {
   whose=${part:+part $part of }$root
-  findings_told=0
-  read_untold
-  say_cut
-  say_lost
-  say_findings
-  say_ended
-  say_stops
-  say_signal
+  findings_told=0 unread=''
+  read_untold && say_cut && say_lost && say_findings && say_ended && say_stops && say_signal
 }
 
-# The status of a night that says this, whatever its runs gave: 3 where lines were lost, 1 where
-# something was found or is gone.
+# The status of a night that says this, whatever its runs gave: 3 where lines were lost or cannot be
+# read, 1 where something was found or is gone; that of a night whose text is sent with this one.
 worsen_by_untold() {
   if [ "$findings_told" -gt 0 ] || has_untold gone; then worsen 1; fi
-  if has_untold lost || has_untold incomplete; then worsen 3; fi
+  if has_untold lost || has_untold incomplete || [ -n "${unread:-}" ]; then worsen 3; fi
+  [ -z "${unsent_status:-}" ] || worsen "$unsent_status"
 }

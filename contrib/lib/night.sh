@@ -4,35 +4,70 @@
 # `end_night`.
 # shellcheck disable=SC2030,SC2031,SC2034,SC2154
 
-# What is said goes into this night's own file, from which `tell` takes it, and to standard error.
-# The file is made before anything can fail, so that `tell` never sends what another night said.
+# What is said goes to standard error, and into a file of this night. With --for-tell it goes into
+# the file alone, from which `tell` sends it and which it then removes. The file is made before
+# anything can fail, so that `tell` never sends what another night said.
 begin_text() {
-  own=$state/tonight.${INVOCATION_ID:-$$}
+  own=$state/said.$$
+  [ -z "$for_tell" ] || own=$state/tonight.${INVOCATION_ID:-$$}
   umask 027
+  # A text of an earlier process of this number, which was not sent.
+  if [ -s "$own" ] && [ ! -L "$own" ]; then mv -f -- "$own" "$own.before"; fi 2> /dev/null
   set -C
   { remove "$own"; printf '' > "$own"; } 2> /dev/null || own=''
   set +C
 }
 
-# Says what comes in.
-tell() {
-  if [ -n "$own" ]; then
-    if [ -n "$for_tell" ]; then
-      cat >> "$own"
-    else
-      tee -a "$own" >&2
-    fi
-  else
-    cat >&2
+# Says what a file has, where it has something. Fails where it could not be written whole; what
+# cannot be left for `tell` still goes to standard error.
+tell_file() {
+  [ -s "$1" ] || return 0
+  if [ -n "$own" ] && [ -n "$for_tell" ]; then
+    if leave "$1"; then return 0; fi
+    cat -- "$1" >&2
+    return 3
   fi
+  cat -- "$1" >&2 || return 3
+  [ -z "$own" ] || leave "$1" || return 0
 }
 
-# Says what a file has, where it has something.
-tell_file() { [ ! -s "$1" ] || tell < "$1"; }
+# Appends a file to the text of this night: all of it and onto the disk, or nothing.
+leave() {
+  measure_file "$own"
+  if cat -- "$1" >> "$own" && sync -- "$own"; then return 0; fi
+  truncate -s "$size" -- "$own"
+  return 3
+}
+
+# Says what comes in: a short text.
+tell() {
+  text=$(cat)
+  if [ -n "$own" ] && printf '%s\n' "$text" >> "$own" && [ -n "$for_tell" ]; then return 0; fi
+  printf '%s\n' "$text" >&2
+}
 
 # Ends what cannot begin: its command line is wrong, or the folder cannot be used.
-fail() { { echo "$called: $1"; echo "$called: try: $called --help"; } | tell; exit 2; }
-stop() { echo "$called: $1" | tell; exit "${2:-3}"; }
+fail() { stop "$1$newline$called: try: $called --help" 2; }
+stop() {
+  printf '%s: %s\n' "$called" "$1" | tell
+  if [ -n "$own" ] && [ -z "$for_tell" ]; then rm -f -- "$own"; fi
+  exit "${2:-3}"
+}
+
+# Says once more what an earlier night left for `tell`, and nobody sent. Of a part that is one of
+# many, the night of all parts says what its log has.
+unsent='Not sent on the night that said it:'
+say_unsent() {
+  if [ ! -s "$1" ] || [ -L "$1" ] || [ -e "${state%/*}/table" ]; then return 0; fi
+  IFS= read -r first < "$1"
+  {
+    [ "$first" = "$unsent" ] || printf '%s\n' "$unsent"
+    cat -- "$1"
+  } > "$scratch/unsent" && tell_file "$scratch/unsent" || return 3
+  [ ! -f "$state/nights" ] || unsent_status=$(awk -F '\t' '
+    NF == 14 && $2 == "told" && match($7, /^status [0-9]+/) { last = substr($7, 8, RLENGTH - 7) }
+    END { print last + 0 }' "$state/nights")
+}
 
 # What is asked of a night's words, once all are read.
 check_night_words() {
@@ -47,32 +82,72 @@ check_night_words() {
 # The same of the words about closed reports.
 check_report_words() {
   case $keep in *[!0-9]* | 0) fail "--keep needs a number from 1 on" ;; esac
-  [ -z "$expected" ] || [ -r "$expected" ] || fail "$expected cannot be read"
+  if [ -z "$expected" ]; then return 0; fi
+  if [ ! -r "$expected" ] || [ -d "$expected" ]; then fail "$expected cannot be read"; fi
 }
 
-# Makes the folder, takes its lock, and makes a folder for what is only of this call.
+# Makes the folder, for its owner and his group. One that is missing from an empty folder is rather
+# one that is not mounted.
+make_state() {
+  [ ! -d "$state" ] || return 0
+  above=$(realpath -m -- "$state") || exit 3
+  until [ -d "$above" ]; do above=$(dirname -- "$above"); done
+  if [ "$above" != / ] && [ -z "$(names_in "$above" | head -n 1)" ] && ! mountpoint -q -- "$above"
+  then
+    stop "there is no folder $state, and $above is empty: is its file system mounted? Nothing was \
+run. For a first night, make the folder."
+  fi
+  mkdir -p -- "$state" || exit 3
+}
+
+# Takes the lock of the folder, and makes a folder for what is only of this call.
 hold_state() {
   umask 027
-  [ -d "$state" ] || mkdir -p -- "$state" || exit 3
+  make_state
   state=$(CDPATH='' cd -- "$state" && pwd -P) || exit 3
   if [ -n "$own" ]; then own=$state/${own##*/}; fi
   printf '' >> "$state/lock" || stop "$state/lock cannot be written"
   exec 9>> "$state/lock"
-  flock -n 9 || stop "another night still runs in $state; nothing was done" 75
-  scratch=$(mktemp -d) || stop "no temporary folder can be made"
+  why=$(flock -n 9 2>&1)
+  case $? in
+    0) ;;
+    1) stop "another night still runs in $state; nothing was done" 75 ;;
+    *) stop "$state/lock cannot be locked: $why. Nothing was run." ;;
+  esac
+  make_scratch || stop "no temporary folder can be made"
   # The night removes it itself.
   trap '[ ! -e "$scratch" ] || rm -rf -- "$scratch"' EXIT
 }
 
+# The name has the number of the state folder: what else has it is of nights that were killed, since
+# this one holds the lock.
+make_scratch() {
+  scratch=${TMPDIR:-/tmp}/ocfl-scrub.$(stat -c %d-%i -- "$state") || return 3
+  find "${scratch%/*}/" -mindepth 1 -maxdepth 1 -type d -user "$(id -u)" \
+    -name "${scratch##*/}.??????" -exec rm -rf -- {} + 2> /dev/null
+  scratch=$(mktemp -d -- "$scratch.XXXXXX")
+}
+
 # The same for a night, which has a text of its own.
 open_state() {
-  [ -d "$state" ] || mkdir -p -- "$state" || exit 3
+  umask 027
+  make_state
   [ -n "$own" ] || begin_text
   hold_state
-  for file in "$state"/tonight "$state"/tonight.*; do
-    [ "$file" = "$own" ] || remove "$file"
+  for file in "$state"/tonight "$state"/said.* "$state"/tonight.*; do
+    if [ "$file" = "$own" ]; then continue; fi
+    case $file in
+      "$state"/tonight.*) say_unsent "$file" || { unsent_status=3; continue; } ;;
+    esac
+    remove "$file"
   done
   [ -z "$own" ] || ln -- "$own" "$state/tonight" 2> /dev/null
+}
+
+# Where the file system knows no second name of a file, `tonight` is a copy.
+copy_text() {
+  if [ -z "$own" ] || [ ! -e "$own" ] || [ -e "$state/tonight" ]; then return 0; fi
+  cp -- "$own" "$state/tonight"
 }
 
 # The worst status of the night: 2, 4, 3, 1, 0, and over all of them that the program was killed.
@@ -88,7 +163,7 @@ worsen() {
 # Ends a night that cannot go on: the reason is a row of the log, and is said as such.
 refuse() {
   worsen "$1"
-  log_refusal "$1" "$2" || echo "$2" | tell
+  log_refusal "$1" "$2" || printf '%s\n' "$2" | tell
   end_night
 }
 
@@ -100,9 +175,7 @@ break_off() {
 
 # The folder of a root that is not mounted is empty, and a run would take it for a root's end.
 check_root() {
-  set -- "$root"/0=ocfl_*
-  [ -e "$1" ] \
-    || refuse 3 "there is no file 0=ocfl_* in $root: is its file system mounted? Nothing was run."
+  look_at_root || refuse 3 "$why Nothing was run."
   if [ ! -e "$state/root" ]; then
     bind_root || break_off "Nothing was run."
   elif ! is_same_root; then

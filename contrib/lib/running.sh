@@ -2,22 +2,54 @@
 # The runs of a night. `nightly` reads this file.
 # shellcheck disable=SC2030,SC2031,SC2034,SC2154
 
-# Whether a signal asked the night to end.
-is_ending() { [ -e "$scratch/signal" ]; }
+# Whether a signal asked the night to end; also SIGKILL, of which its first shell could say nothing.
+is_ending() {
+  [ ! -e "$scratch/signal" ] || return 0
+  if [ -z "$front" ] || is_there "$front"; then return 1; fi
+  echo SIGKILL > "$scratch/signal"
+}
 
 # Makes one run of this budget: sets `status`, and `note` to what it said.
 run_program() {
   left=${files_limit:+$((files_limit - files_started))}
   # shellcheck disable=SC2016
   {
-    sh -c 'echo $$ > "$1"; shift; exec "$@"' sh "$scratch/running" \
-      "$program" run --cursor "$cursor" --budget "$1" ${left:+--files "$left"} \
+    sh -c 'echo "$$ $(cut -d " " -f 22 /proc/$$/stat)" > "$1"; shift; exec "$@"' sh \
+      "$scratch/running" "$program" run --cursor "$cursor" --budget "$1" ${left:+--files "$left"} \
       ${part:+--parts "$state/parts" --part "$part"} "$root" >> "$report"
     status=$?
   } 2> "$scratch/said"
   : > "$scratch/running"
   read_note
   if [ "$status" -gt 128 ] && is_ending; then note="ended by $(cat -- "$scratch/signal")"; fi
+}
+
+# Keeps the cursor as it is, before anything is run. A power cut may leave the program's cursor, and
+# not what it reported: so all that came before is on the disk first.
+keep_cursor() {
+  printf '' >> "$report" || return 3
+  if [ -e "$cursor" ]; then
+    cp -- "$cursor" "$cursor_before"
+  else
+    printf '' > "$cursor_before"
+  fi || return 3
+  sync -- "$cursor_before" "$report" "$state/nights" "$state"
+}
+
+# Looks at the root after a run: one that is gone, or another one, was no run over this root. Its
+# cursor is taken back then.
+look_again() {
+  if look_at_root; then
+    if ! is_same_root; then
+      why="$state: $why."
+    elif [ "$number" = "$(root_number)" ]; then
+      return 0
+    else
+      why="the file system of $root was mounted anew meanwhile."
+    fi
+  fi
+  status=3 note="$why $no_run"
+  put_back
 }
 
 # Sets `note` to the last thing that the program said itself.
@@ -42,7 +74,10 @@ make_run() {
   began=$time_now started=$seconds_now cost=0 seconds=0 run=$((run + 1))
   log began "budget $1" || return 3
   set -- "$1" "$cycle" "$run" "$spent" "$files" "$stands" "$bytes" "$lines" "$digest"
+  keep_cursor || return 3
+  number=$(root_number)
   run_program "$1"
+  look_again || return 3
   look_at_clock
   seconds=$((seconds_now - started)) runs=$((runs + 1))
   read_cursor || return 3
@@ -50,13 +85,14 @@ make_run() {
     cost=$((spent - $4))
     files_started=$((files_started + files - $5)) night_cost=$((night_cost + cost))
     take_over "$7" "$8" "$9" "$6" || lose || return 3
-    log "$status" "$note" || return 3
+    sync -- "$report" && log "$status" "$note" && sync -- "$state/nights" || return 3
   else
-    # The cursor did not move: the run was killed, or could not store it.
+    # The cursor did not move: the run was killed, could not store it, or does not count.
     bytes=$7 lines=$8 digest=$9
     cut_report "$bytes" || return 3
     (cycle=$2 run=$3 spent=$4 files=$5 stands=$6 && log "$status" "$note") || return 3
   fi
+  remove "$cursor_before"
 }
 
 # Whether a further run is one of a cycle that is asked for.

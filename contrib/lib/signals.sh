@@ -2,9 +2,16 @@
 # The signals that end a night. The script that they reach waits for the night, which is a shell of
 # its own. That shell and all that it starts ignore them: they go to whole groups, and would end a
 # tool in the middle of its work. `nightly` reads this file.
-# shellcheck disable=SC2154
+# shellcheck disable=SC2034,SC2154
 
-# Notes the first signal, for the night to see, and begins to count --grace.
+# Whether the night is there, or a run of it that outlived it. Sets `running` to the run.
+is_under_way() {
+  { read -r running < "$scratch/running"; } 2> /dev/null || running=''
+  is_there "$worker" || is_there "$running"
+}
+
+# Notes the first signal, for the night to see, and begins to count --grace. What counts ends with
+# the night, however that ends, and kills nothing but its run.
 on_signal() {
   signals=$((signals + 1))
   [ -z "$timer" ] || return 0
@@ -12,12 +19,12 @@ on_signal() {
   (
     trap '' HUP INT TERM
     left=$grace
-    while [ "$left" -gt 0 ]; do
+    while [ "$left" -gt 0 ] && is_under_way; do
       sleep 1
       left=$((left - 1))
     done
-    while :; do
-      if read -r running < "$scratch/running"; then kill -s KILL "$running"; fi
+    while is_under_way; do
+      ! is_there "$running" || kill -s KILL "${running% *}"
       sleep 1
     done
   ) > /dev/null 2>&1 9>&- &
@@ -27,8 +34,12 @@ on_signal() {
 # Runs the night, and gives its status.
 run_night() {
   signals=0 timer=''
+  know $$
+  front=$known_as
   (trap '' HUP INT TERM; night) &
   child=$!
+  know "$child"
+  worker=$known_as
   for name in HUP INT TERM; do
     # shellcheck disable=SC2064
     trap "on_signal SIG$name" "$name"

@@ -10,6 +10,8 @@ tab=${IFS#?} newline=${IFS#??}
 tab=${tab%?}
 # How many bytes of a report have one digest at most: 64 MiB.
 piece_size=67108864
+# What a run says whose root is another one afterwards.
+no_run='The run does not count: the next night makes it again.'
 
 # The program: that of the environment, or the one installed with these scripts, or of their clone.
 find_program() {
@@ -76,10 +78,47 @@ $shown
 TEXT
 }
 
-# Whether the log has a run that stored a cursor.
+# Sets `known_as` to the number of a process and when it was started, since numbers come again;
+# fails where it is not there, or has ended.
+know() {
+  known_as=''
+  { IFS= read -r process < "/proc/$1/stat"; } 2> /dev/null || return 1
+  # The name before them may have blanks.
+  # shellcheck disable=SC2086
+  set -- "$1" ${process##*) }
+  [ "$2" != Z ] || return 1
+  known_as="$1 ${21}"
+}
+
+is_there() { know "${1% *}" && [ "$known_as" = "$1" ]; }
+
+# The cursor of before a run lies beside the cursor until the run's report is on the disk. A machine
+# that went down meanwhile may have lost that, so the run is made again; after a kill it is there.
+take_back() {
+  cursor_before=$cursor.before
+  if [ -e "$cursor_before" ] && was_down; then put_back; fi
+}
+
+put_back() {
+  if [ -s "$cursor_before" ]; then
+    mv -f -- "$cursor_before" "$cursor"
+  else
+    remove "$cursor" "$cursor_before"
+  fi && sync -- "$state"
+}
+
+# Whether the machine was started after the run began: by when this process was, since then.
+was_down() {
+  know $$ || return 1
+  look_at_clock
+  booted=$((seconds_now - ${known_as#* } / $(getconf CLK_TCK)))
+  [ "$(stat -c %Y -- "$cursor_before")" -lt "$booted" ]
+}
+
+# Whether the log has a run that stored a cursor: one that ended well, or came from the start.
 has_runs() {
   [ -f "$state/nights" ] && awk -F '\t' '
-    $2 ~ /^[01]$/ { found = 1 }
+    $2 ~ /^[01]$/ || (NF == 14 && $2 ~ /^([0-9]+|cut)$/ && $13 !~ /^(start|-)$/) { found = 1 }
     END { exit !found }' "$state/nights"
 }
 
@@ -114,7 +153,8 @@ find_unfinished() {
   [ ! -f "$state/nights" ] || unfinished=$(awk -F '\t' '
     NF != 14 { next }
     $2 == "began" { row = $0 }
-    $2 == "cut" || $2 ~ /^[0-9]+$/ { row = "" }
+    # A refusal is no run: it has no cycle.
+    $2 == "cut" || ($2 ~ /^[0-9]+$/ && $3 > 0) { row = "" }
     END { if (row != "") print row }' "$state/nights")
 }
 
@@ -270,6 +310,12 @@ settle() {
   bytes=0 lines=0 digest=$nothing cost=0 seconds=0
   began=$time_now
   find_unfinished
+  settle_before || return 3
+  if [ -n "$unfinished" ]; then log_cut || return 3; fi
+  remove "$cursor_before"
+}
+
+settle_before() {
   find_pieces
   find_closed "$cycle"
   if [ "$run" -eq 0 ]; then
@@ -284,8 +330,7 @@ settle() {
     settle_unfinished
   else
     settle_unknown
-  fi || return 3
-  [ -z "$unfinished" ] || log_cut
+  fi
 }
 
 # A column of the row `began` that has no second row.
@@ -304,14 +349,18 @@ TEXT
   fi
 }
 
-# The run that has no second row ended: its night was cut after it.
+# The run that has no second row ended: its night was cut after it. Where its report is not there,
+# that run is made again, as long as the cursor of before is known.
 settle_unfinished() {
   find_pieces unfinished
   if holds_newest "$report" "$known" \
     && take_over "$(column 11)" "$(column 5)" "$(column 12)" "$(column 13)"; then
     return 0
+  elif [ -e "$cursor_before" ]; then
+    put_back && read_cursor && settle_before
+  else
+    lose
   fi
-  lose
 }
 
 # Of an older log, the count of lines is all that is known of the report.

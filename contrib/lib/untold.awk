@@ -1,21 +1,24 @@
 # Reads the log of nights, and writes the rows after its last row `told` into the file UNTOLD, which
 # the environment names.
 #
-# Writes one line with what is among them: `cut`, a night that was cut; `lost`, a report that lost
-# lines; `incomplete`, a cycle that was closed with a report that is not whole; `gone`, one in which
-# something is gone. Then, of each cycle with new lines of its report, a line with its number, its
-# first and its last run, and the first and the last byte of these lines. It takes `tonight`, the
-# night that says this.
+# Writes one line with what is among them: `cut`, a night that was cut or could not say all; `lost`,
+# a report that lost lines; `incomplete`, a cycle that was closed with a report that is not whole;
+# `gone`, one in which something is gone. Then, of each cycle with new lines of its report, a line
+# with its number, its first and its last run, and the first and the last byte of these lines. It
+# takes `tonight`, the night that says this.
 BEGIN { FS = "\t" }
 
 NF != 14 { next }
 
+# What a run appended begins where the row before it left the report, told or not.
 $2 == "told" {
   count = 0
+  from = after
   next
 }
 
 { rows[++count] = $0 }
+$2 ~ /^([0-9]+|began|cut|lost)$/ && $3 > 0 { after = $11 }
 
 END {
   for (n = 1; n <= count; n++) {
@@ -31,7 +34,7 @@ END {
 }
 
 function note_kinds() {
-  if ($2 == "cut" || ($2 ~ /^[0-9]+$/ && $14 != tonight)) kinds["cut"]
+  if ($2 ~ /^(cut|untold)$/ || ($2 ~ /^[0-9]+$/ && $14 != tonight)) kinds["cut"]
   if ($2 == "lost") kinds["lost"]
   if ($2 != "ended") return
   if ($7 ~ /; incomplete /) kinds["incomplete"]

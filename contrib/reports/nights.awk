@@ -39,7 +39,7 @@ END {
       objects = word[2]
       files = word[4]
     }
-    if (word[1] == "expected") expected = word[2]
+    if (word[1] == "expected") expected = word[2] == "unknown" ? "not known" : word[2]
   }
   sub(/.*\//, "", name)
   print "Report\t" name

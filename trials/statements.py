@@ -104,6 +104,7 @@ TEXT = """ocfl-scrub statement 1
 
 Storage root: /srv/ocfl%09"\\%C3%BC%25|
 Declaration SHA-256: {declaration}
+State folder: {state}
 Host: {host}
 Cycle: 2
 First night: 2026-02-01T22:00:00Z
@@ -136,16 +137,20 @@ Program: ocfl-scrub 0.1.0
 Program commit: 0123abcd
 Program SHA-256: {program}
 Program file dated: 2026-01-01T00:00:00Z
+Programs of its runs, SHA-256: not known
 """
-def text_of(made):
+
+
+def text_of(made, state):
     """The statement of the second cycle of `audited`, by this program."""
-    return TEXT.format(declaration="d" * 64, host=os.uname().nodename, gone=digest(GONE.encode()),
-                       digest=digest("".join(LINES).encode()), program=digest(common.read(made)))
+    return TEXT.format(declaration="d" * 64, state=state.path, host=os.uname().nodename,
+                       gone=digest(GONE.encode()), program=digest(common.read(made)),
+                       digest=digest("".join(LINES).encode()))
 
 
 def statement(folder):
     state, made = audited(folder)
-    text = text_of(made)
+    text = text_of(made, state)
     is_so("statement", ask("statement", state.path, 2, OCFL_SCRUB=made), (0, "", ""))
     is_so("its text", state.has("reports/statement-000002"), text)
     is_so("the same as JSON", json.loads(state.has("reports/statement-000002.json")), as_json(text))
@@ -185,7 +190,7 @@ def as_json(text):
         if not name.startswith("Findings "):
             key = name.lower().replace(", ", "_").replace(" ", "_").replace("-", "_")
             made[key] = int(value) if name in numbers else value
-    made["whole"] = rows[12][1] == "yes"
+    made["whole"] = dict(rows)["Whole"] == "yes"
     return made
 
 
@@ -206,7 +211,7 @@ def incomplete_statement(folder):
     made = program(folder, "0" * 64)
     is_so("incomplete", ask("statement", state.path, 1, OCFL_SCRUB=made), (0, "", ""))
     text = state.has("reports/statement-000001")
-    wanted = ["Lost lines: lost 1 of 2 lines", "Root changed to: /srv/new", "Whole: no",
+    wanted = ["Lost lines: lost 1 of 2 lines", "Root changed: /srv/new", "Whole: no",
               "Report: incomplete-000001", "Broken lines: 1", "Report lines: 6", "Nights: 2",
               "Runs: 3", "First night: 2026-01-01T22:00:00Z", "Last night: 2026-01-02T22:00:00Z",
               "Objects: 3", "Objects without findings: 3", "Findings: 1",
@@ -255,7 +260,7 @@ def real_program(folder):
 
 def seals(folder):
     state, made = audited(folder)
-    text = text_of(made)
+    text = text_of(made, state)
     reports = state.path + "/reports/"
     asked = ["--seal", 'rev "$1" > "$1.asc" && ls > "$1.names"', state.path, 2]
     is_so("sealed", ask("statement", *asked, OCFL_SCRUB=made), (0, "", ""))
@@ -353,7 +358,7 @@ def told_seals(folder):
 
 def verifying(folder):
     state, made = audited(folder)
-    text = text_of(made)
+    text = text_of(made, state)
     ask("statement", state.path, 2, OCFL_SCRUB=made)
     file = state.path + "/reports/statement-000002"
     report = state.path + "/reports/cycle-000002"
@@ -423,7 +428,7 @@ def premis_of(state, *words):
                     for outcome in event.findall("p:eventOutcomeInformation", NAMES)]
         link = tuple(part.text for part in event.find("p:linkingObjectIdentifier", NAMES))
         is_so("the link leads to an object", link in objects, True)
-        events.append((event.find("p:eventIdentifier", NAMES)[1].text.split(":", 2)[2],
+        events.append((event.find("p:eventIdentifier", NAMES)[1].text.split(":", 3)[3],
                        event.find("p:eventDateTime", NAMES).text, outcomes, link))
     agents = [part.text for part in tree.iter("{%s}agentIdentifierValue" % NAMES["p"])]
     links = {part.text for part in tree.iter("{%s}linkingAgentIdentifierValue" % NAMES["p"])}
@@ -433,7 +438,7 @@ def premis_of(state, *words):
 
 def premis(folder):
     state, made = audited(folder)
-    text = text_of(made)
+    text = text_of(made, state)
     root = folder + "/<&root"
     identity = 'urn:"<&>\u00fc\u0001\n'
     for name, data in [("o", json.dumps({"id": identity}).encode()), ("o2", b"no inventory"),

@@ -72,7 +72,8 @@ make_run() {
     cycle=$((cycle + 1)) run=0 spent=0 files=0 stands=start bytes=0 lines=0 digest=$nothing
   fi
   began=$time_now started=$seconds_now cost=0 seconds=0 run=$((run + 1))
-  log began "budget $1" || return 3
+  look_at_program
+  log began "budget $1; program $program_digest" || return 3
   set -- "$1" "$cycle" "$run" "$spent" "$files" "$stands" "$bytes" "$lines" "$digest"
   keep_cursor || return 3
   number=$(root_number)

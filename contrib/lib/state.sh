@@ -3,6 +3,11 @@
 # `nightly` and `rotate` read this file. They set `here`, `state`, `scratch` and `say` first.
 # shellcheck disable=SC2030,SC2031,SC2034,SC2154
 
+# shellcheck source=contrib/lib/owner.sh
+. "$here/lib/owner.sh"
+# shellcheck source=contrib/lib/program.sh
+. "$here/lib/program.sh"
+
 # The digest of a report without lines.
 nothing=0000000000000000000000000000000000000000000000000000000000000000
 # What separates words when a shell begins: a blank, a tab and a line feed.

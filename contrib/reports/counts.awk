@@ -1,8 +1,10 @@
 # What one pass over a report counts, as lines `NAME TAB NUMBER`. A file is counted that was read to
-# its end and has every digest that is known of it.
+# its end and has every digest that is known of it. UNREAD names a list of places that were not
+# audited: nobody can say of an object with such a place that it has no finding.
 BEGIN {
   FS = "\t"
   read_codes()
+  read_unread(ENVIRON["UNREAD"])
 }
 
 NF != 3 {
@@ -19,8 +21,8 @@ $1 == "ok" && $3 != "-" {
 is_object_line($1, $2, $3) && ($2 "") != (object "") {
   objects++
   object = $2
-  is_sound = 1
-  sound++
+  is_sound = !(object in has_unread)
+  if (is_sound) sound++
 }
 
 is_finding($1) {
@@ -40,4 +42,12 @@ END {
   printf "Findings\t%.0f\n", findings
   number = sorted_keys(count, codes)
   for (at = 1; at <= number; at++) printf "Findings %s\t%.0f\n", codes[at], count[codes[at]]
+}
+
+# Notes each of these places, and all above it.
+function read_unread(file,  place) {
+  while (file != "" && (getline place < file) > 0) {
+    do has_unread[place]
+    while (sub(/\/[^\/]*$/, "", place))
+  }
 }

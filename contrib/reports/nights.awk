@@ -2,9 +2,23 @@
 # logs of before; column 2 is a run's status, or a word that says what the row is.
 BEGIN { FS = "\t" }
 
-(NF != 14 && NF != 7) || ($3 "") != (ENVIRON["CYCLE"] "") { next }
+NF != 14 && NF != 7 { next }
 
-$2 ~ /^[0-9]+$/ || $2 == "cut" {
+# A root that changed is that of the runs after it, also where the cycle before was still named.
+$2 == "root" {
+  sub(/^it belongs to the storage root /, "it was ", $7)
+  sub(/, and this one is /, ", and is now ", $7)
+  pending = pending (pending == "" ? "" : "; ") $7
+}
+is_run() && $3 > 0 {
+  if (($3 "") == (ENVIRON["CYCLE"] "") && pending != "")
+    changed = changed (changed == "" ? "" : "; ") pending
+  pending = ""
+}
+
+($3 "") != (ENVIRON["CYCLE"] "") { next }
+
+is_run() {
   night = NF == 14 ? $14 : $1
   if (first == "") first = night
   last = night
@@ -17,7 +31,6 @@ $2 ~ /^[0-9]+$/ || $2 == "cut" {
 }
 
 $2 == "lost" { lost = lost (lost == "" ? "" : ", ") $7 }
-$2 == "root" { moved = $7 }
 $2 == "ended" { closed = $1; said = $7 }
 
 END {
@@ -27,7 +40,7 @@ END {
   print "Closed\t" closed
   printf "Nights\t%.0f\nRuns\t%.0f\nCut nights\t%.0f\n", nights, runs, cut
   print "Lost lines\t" (lost == "" ? "none" : lost)
-  if (moved != "") print "Root changed to\t" moved
+  if (changed != "") print "Root changed\t" changed
   parts = split(said, part, /; */)
   compared = "nothing"
   for (at = 1; at <= parts; at++) {
@@ -50,3 +63,5 @@ END {
   if (expected == "") expected = whole == "whole" ? "not asked" : "not known"
   print "Expected objects missing\t" expected
 }
+
+function is_run() { return $2 ~ /^[0-9]+$/ || $2 == "cut" }

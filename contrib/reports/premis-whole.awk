@@ -29,19 +29,31 @@ substr($0, 1, 2) != "@ " { print; next }
 }
 
 END {
+  while ((getline agent < ENVIRON["AGENTS"]) > 0) {
+    write_agent(agent)
+    agents++
+  }
+  if (!agents) write_agent(ENVIRON["AGENT"])
+  print "</premis>"
+}
+
+# Version and commit are known of the program that the statement describes.
+function write_agent(digest,  word, is_described) {
   split(ENVIRON["PROGRAM"], word, " ")
+  is_described = (digest "") == (ENVIRON["AGENT"] "")
   printf "%s", "  <agent>\n    <agentIdentifier>\n" \
     element(6, "agentIdentifierType", "SHA-256 of the program") \
-    element(6, "agentIdentifierValue", ENVIRON["AGENT"]) \
+    element(6, "agentIdentifierValue", digest) \
     "    </agentIdentifier>\n" \
     element(4, "agentName", word[1]) \
     "    <agentType authority=\"agentType\"" \
     " authorityURI=\"http://id.loc.gov/vocabulary/preservation/agentType\"" \
     " valueURI=\"http://id.loc.gov/vocabulary/preservation/agentType/sof\"" \
-    ">software</agentType>\n" \
-    element(4, "agentVersion", word[2]) \
-    element(4, "agentNote", "commit " ENVIRON["COMMIT"]) \
-    "  </agent>\n</premis>\n"
+    ">software</agentType>\n"
+  if (is_described)
+    printf "%s", element(4, "agentVersion", word[2]) \
+      element(4, "agentNote", "commit " ENVIRON["COMMIT"])
+  print "  </agent>"
 }
 
 function write_object(type, value, id) {

@@ -1,8 +1,9 @@
 # The fixity events of a report. Standard output takes one line for each object that an event names
 # (its path, in the order of the report); the file EVENTS takes the events, in which a line
 # `@ PATH` stands for the link to the object at PATH. EACH says what an event is for: `cycle`,
-# `finding` or `object`. NIGHTS holds `LINES TAB TIME` for each night of the cycle: how many lines
-# the report had after it, and when it began.
+# `finding` or `object`. NIGHTS holds `LINES TAB TIME TAB PROGRAM` for each run of the cycle: how
+# many lines the report had after it, when it began, and the program that made it, or `-`. An event
+# names the programs of the runs that wrote its lines; AGENTS takes each of them.
 BEGIN {
   FS = "\t"
   each = ENVIRON["EACH"]
@@ -12,12 +13,16 @@ BEGIN {
     split(night, field, "\t")
     upto[++nights] = field[1] + 0
     began[nights] = field[2]
+    program[nights] = field[3] == "-" ? ENVIRON["AGENT"] : field[3]
   }
   if (nights == 0) fail("no night of this cycle is logged")
   now = 1
 }
 
-{ while (now < nights && NR > upto[now]) now++ }
+{
+  earlier = now
+  while (now < nights && NR > upto[now]) now++
+}
 
 is_object_line($1, $2, $3) && ($2 "") != (object "") {
   end_object()
@@ -47,11 +52,13 @@ is_finding($1) {
 
 END {
   if (failed) exit 3
+  earlier = now
   end_object()
   if (each == "cycle") {
     open_event("", "Audit of a storage root")
     outcome(findings ? "fail" : "pass", findings + 0 " findings in " NR " lines")
-    close_event(".")
+    from = 1
+    close_event(".", nights)
   }
   close(events)
 }
@@ -59,14 +66,14 @@ END {
 function end_object() {
   if (object == "" || each != "object") return
   if (!failed_object) outcome("pass", "")
-  close_event(object)
+  close_event(object, earlier)
   failed_object = 0
 }
 
 function write_finding(of) {
   open_event(sprintf(":finding:%.0f", NR), "Finding of an audit")
   outcome("fail", $0)
-  close_event(of)
+  close_event(of, now)
 }
 
 # A finding outside of any object comes in the midst of an object's event, so it waits for its end.
@@ -78,6 +85,7 @@ function write_apart() {
 
 # Events are told apart by the numbers of the lines at which they begin.
 function open_event(number, detail) {
+  from = now
   printf "%s", "  <event>\n    <eventIdentifier>\n" \
     element(6, "eventIdentifierType", "ocfl-scrub event") \
     element(6, "eventIdentifierValue", ENVIRON["EVENT"] number) \
@@ -102,9 +110,17 @@ function outcome(word, note,  detail) {
     "    </eventOutcomeInformation>\n" > events
 }
 
-function close_event(of) {
-  printf "%s@ %s\n  </event>\n", "    <linkingAgentIdentifier>\n" \
-    element(6, "linkingAgentIdentifierType", "SHA-256 of the program") \
-    element(6, "linkingAgentIdentifierValue", ENVIRON["AGENT"]) \
-    "    </linkingAgentIdentifier>\n", of > events
+function close_event(of, last,  run, linked) {
+  for (run = from; run <= last; run++) {
+    if (program[run] in linked) continue
+    linked[program[run]]
+    printf "%s", "    <linkingAgentIdentifier>\n" \
+      element(6, "linkingAgentIdentifierType", "SHA-256 of the program") \
+      element(6, "linkingAgentIdentifierValue", program[run]) \
+      "    </linkingAgentIdentifier>\n" > events
+    if (program[run] in is_agent) continue
+    is_agent[program[run]]
+    print program[run] > ENVIRON["AGENTS"]
+  }
+  printf "@ %s\n  </event>\n", of > events
 }

@@ -1,8 +1,20 @@
 #!/bin/sh
-# What the questions to reports share: each of them reads this file.
+# What the questions to reports share: each of them reads this file, and sets `here` first.
 
 # With --help a question shows what its head says.
 case ${1:-} in --help | -h) sed -n '2,/^set /s/^# \{0,1\}//p' "$0"; exit 0 ;; esac
+
+# shellcheck source=contrib/lib/owner.sh disable=SC2154
+. "$here/../lib/owner.sh"
+# What a question reads may be in the folder of another user, who may not read all that root may.
+for asked in "$@"; do
+  if [ -d "$asked" ]; then
+    as_owner "$asked" "$0" "$@"
+  elif [ -e "$asked" ] || [ -L "$asked" ]; then
+    as_owner "$asked" "$0" "$@"
+    as_owner "$(dirname -- "$asked")" "$0" "$@"
+  fi
+done
 
 # Ends with the line of the question that begins with `# usage: `.
 usage() {
@@ -20,7 +32,7 @@ readable() {
         *) continue ;;
       esac
     fi
-    echo "$asked cannot be read" >&2
+    printf '%s\n' "$asked cannot be read" >&2
     exit 3
   done
 }
@@ -49,6 +61,7 @@ find_report() {
   asked=$3
   while [ ${#asked} -lt 6 ]; do asked=0$asked; done
   for found_report in "$1/$2-$asked" "$1/$2-$asked.gz"; do
+    refuse_links "$found_report"
     [ ! -f "$found_report" ] || return 0
   done
   found_report=''

@@ -38,11 +38,11 @@ def statuses(folder):
     state = standing(folder)
     calm = "/srv/ocfl: %slast night 2026-03-09T22:00:00Z, status 0; cycle 2 is open, 30 of 100 " \
         "done, 5 night(s) left; last whole cycle 1 on 2026-03-04; "
-    found = "4 open finding(s) (E007 1, E023 1, E072 1, S08 1)"
+    found = "4 open finding(s), 1 of weight 1 (E007 1, E023 1, E072 1, S08 1)"
     figures = ["age=25200s;93600;180000;0", "findings=4;1;;0", "damaged=1;1;1;0", "gone=0;1;;0",
                "progress=30%;;;0;100"]
-    is_so("standing", status(state), (2, "OCFL-SCRUB CRITICAL - " + calm % (
-        "1 open finding(s) of weight 1; 4 open finding(s); ") + found, figures))
+    is_so("standing", status(state), (
+        2, "OCFL-SCRUB CRITICAL - " + (calm % (found + "; "))[:-2], figures))
     listed = ran([CONTRIB + "/status", "--list", state.path])[1].splitlines(True)[1:]
     is_so("the gravest first", listed, [LINES[11], LINES[5], LINES[10], LINES[1]])
     quiet = ["--damaged", "2,3", "--findings", "5,6"]
@@ -62,8 +62,8 @@ def statuses(folder):
         is_so("a night that never ran, at " + now, status(state, *quiet, now=now)[0], level)
     known = write(folder + "/known", "S08\to3-4/\nE072\n")
     given, text, after = status(state, "--known", known)
-    is_so("known findings", (given, text.endswith(
-        "; 3 open finding(s) (E007 1, E023 1, E072 1), 1 known"), after[1:3]),
+    is_so("known findings", (given, ": 3 open finding(s) (E007 1, E023 1, E072 1), 1 known; "
+                             in text, after[1:3]),
           (1, True, ["findings=3;1;;0", "damaged=0;1;1;0"]))
     for words in [[], ["--what", "x"], ["--age", "1", "x"], ["--age", "1,2,3", "x"],
                   ["--age", ",1", "x"], ["--gone", "1,-2", "x"], ["--list", "x", "y"], ["--known"]]:
@@ -132,7 +132,8 @@ def troubled(folder):
     after("gone", closes("whole; findings none; compared 1; gone 1 objects 0 files"), 1,
           "1 object(s) and 0 file(s) are gone")
     after("an expected object", closes(
-        "whole; findings none; compared 1; gone 0 objects 0 files; expected 2"), 1, "are gone")
+        "whole; findings none; compared 1; gone 0 objects 0 files; expected 2"), 1,
+          ": 2 expected object(s) are missing; ")
     def no_longer_expected(state):
         closes("whole; findings none; compared 1; gone 0 objects 0 files; expected 2")(state)
         state.night("2026-03-10T23:30:00Z", 3, 1, 9, 70, stands="ended")

@@ -4,6 +4,13 @@ BEGIN { FS = "\t" }
 
 NF != 14 && NF != 7 { next }
 
+# A night that was refused: it says nothing of any cycle.
+$2 ~ /^[0-9]+$/ && $3 + 0 == 0 {
+  start_night(NF == 14 ? $14 : $1)
+  if (rank($2) > rank(night_status)) night_status = $2
+  next
+}
+
 # A run, with its own status or cut. Old rows have no columns for the night and for what the cycle
 # has spent, and their nights are over.
 $2 ~ /^[0-9]+$/ || $2 == "cut" {
@@ -43,6 +50,7 @@ $2 == "ended" {
     gone_files = word[4]
   }
   if (match($7, /expected [0-9]+/)) expected = substr($7, RSTART + 9, RLENGTH - 9)
+  is_expected_unknown = $7 ~ /expected unknown/
   next
 }
 
@@ -52,6 +60,13 @@ $2 == "told" {
   start_night($14)
   is_under_way = 0
   if (match($7, /status [0-9]+/)) night_status = substr($7, RSTART + 7, RLENGTH - 7)
+}
+
+# What the night had to say could not be written.
+$2 == "untold" {
+  start_night($14)
+  is_under_way = 0
+  if (rank(3) > rank(night_status)) night_status = 3
 }
 
 END {
@@ -132,10 +147,9 @@ function judge() {
   if (night_status == "cut" || status_before == "cut") raise(1, "a night was cut")
   if (rank(night_status) > 1 && night_status != "cut")
     raise(2, "the last night ended with status " night_status)
-  compare("DAMAGED", damaged, damaged + 0 " open finding(s) of weight 1")
-  compare("FINDINGS", open_findings, open_findings + 0 " open finding(s)")
-  compare("GONE", gone_objects + gone_files + expected, \
-    gone_objects + 0 " object(s) and " gone_files + 0 " file(s) are gone")
+  judge_findings()
+  compare("GONE", gone_objects + gone_files + expected, lost_things())
+  if (is_expected_unknown) raise(1, "how many expected objects are missing is not known")
   if (closed_how == "incomplete") raise(1, "the report of cycle " closed " is not whole")
   if (lost_in != "" && lost_in != closed) raise(1, "the report of cycle " lost_in " lost lines")
   if (whole_time != "")
@@ -143,10 +157,39 @@ function judge() {
       "the last whole cycle ended on " substr(whole_time, 1, 10))
 }
 
-function compare(name, value, text,  limit) {
+# Where a limit is reached, the findings are said first, and else last.
+function judge_findings(  at_damaged, at_all) {
+  at_damaged = reached("DAMAGED", damaged)
+  at_all = reached("FINDINGS", open_findings)
+  if (at_damaged + at_all == 0) return
+  raise(at_damaged > at_all ? at_damaged : at_all, findings_text())
+  are_said = 1
+}
+
+function findings_text(  text) {
+  text = open_findings + 0 " open finding(s)"
+  if (damaged) text = text ", " damaged " of weight 1"
+  return text codes() (known_findings ? ", " known_findings " known" : "")
+}
+
+function lost_things(  text) {
+  if (gone_objects + gone_files > 0 || expected + 0 == 0)
+    text = gone_objects + 0 " object(s) and " gone_files + 0 " file(s) are gone"
+  if (expected + 0 > 0)
+    text = text (text == "" ? "" : ", and ") expected " expected object(s) are missing"
+  return text
+}
+
+function compare(name, value, text,  at) {
+  at = reached(name, value)
+  if (at) raise(at, text)
+}
+
+# 2 where the limit for alarms is reached, 1 where that for warnings is.
+function reached(name, value,  limit) {
   split(ENVIRON[name], limit, ",")
-  if (limit[2] != "-" && value >= limit[2] + 0) raise(2, text)
-  else if (limit[1] != "-" && value >= limit[1] + 0) raise(1, text)
+  if (limit[2] != "-" && value >= limit[2] + 0) return 2
+  return limit[1] != "-" && value >= limit[1] + 0
 }
 
 # UNKNOWN is raised alone, so the greatest number is the gravest.
@@ -162,13 +205,13 @@ function write_line(  words, text) {
   if (night != "") {
     text = text (why == "" ? ": " : "; ") "last night " night ", status " night_status
     if (is_under_way) text = text ", under way"
-    text = text "; " (is_open ? "cycle " cycle " is open" : "cycle " cycle " has ended")
+    if (cycle == "") text = text "; no run has been made"
+    else text = text "; cycle " cycle (is_open ? " is open" : " has ended")
     if (is_open && done != "") text = text ", " done " of 100 done"
     if (has_left) text = text sprintf(", %.0f night(s) left", left)
     text = text "; last whole cycle " (whole_cycle == "" ? "none" : whole_cycle " on " \
       substr(whole_time, 1, 10))
-    text = text "; " open_findings + 0 " open finding(s)" codes()
-    if (known_findings) text = text ", " known_findings " known"
+    if (!are_said) text = text "; " findings_text()
   }
   print text figures() > ENVIRON["LINE"]
   close(ENVIRON["LINE"])
@@ -204,9 +247,11 @@ function write_metrics(  keys, number, at) {
   metric("last_night_status", "Status of the last night; 255 where it was cut.", \
     night_status == "cut" ? 255 : night_status)
   metric("last_night_run_seconds", "How long the runs of the last night took.", seconds + 0)
-  metric("cycle", "The cycle of the last night.", cycle)
-  metric("cycle_read_bytes", "Bytes that the cycle has read.", spent - files)
-  metric("cycle_read_files", "Files that the cycle has read.", files + 0)
+  if (cycle != "") {
+    metric("cycle", "The cycle of the last run.", cycle)
+    metric("cycle_read_bytes", "Bytes that the cycle has read.", spent - files)
+    metric("cycle_read_files", "Files that the cycle has read.", files + 0)
+  }
   if (closed != "") {
     metric("closed_cycle", "The last closed cycle.", closed)
     metric("closed_cycle_read_bytes", "Bytes that it read.", closed_cost - closed_files)

@@ -133,6 +133,7 @@ end_night() { end_parts; }
 check_common_words() {
   [ -z "$complaint" ] || fail "$complaint"
   [ -n "$state" ] || fail "--state is missing"
+  [ ! -d "$state" ] || refuse_other_owner "$state"
   [ -n "$root" ] || fail "the storage root is missing"
   ! lies_in_root || fail "$state is in the storage root"
 }

@@ -17,6 +17,19 @@ function read_codes(  line, field, got) {
   if (got < 0) fail(ENVIRON["CODES"] " cannot be read")
 }
 
+# Whether this is the line of a report, by its columns and its code.
+function is_report_line() { return NF == 3 && $1 ~ /^(ok|[ES][0-9]+)$/ && $2 != "" && $3 != "" }
+
+# Says what is no line of a report, once, and ends with status 3.
+function refuse_odd_lines() {
+  if (!odd) return
+  printf "%.0f line(s) are no lines of a report, the first is line %.0f\n", odd, first_odd \
+    > "/dev/stderr"
+  exit 3
+}
+
+function note_odd_line() { if (++odd == 1) first_odd = NR }
+
 function is_finding(code) { return code != "ok" && code != "S07" }
 
 # A code that the table lacks is grave until somebody says otherwise.

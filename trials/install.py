@@ -41,6 +41,7 @@ share/ocfl-scrub/lib/codes.awk 644
 share/ocfl-scrub/lib/dividing.awk 644
 share/ocfl-scrub/lib/dividing.sh 644
 share/ocfl-scrub/lib/expected.awk 644
+share/ocfl-scrub/lib/given.awk 644
 share/ocfl-scrub/lib/gone.awk 644
 share/ocfl-scrub/lib/joining.sh 644
 share/ocfl-scrub/lib/message.sh 644

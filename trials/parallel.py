@@ -17,8 +17,8 @@ import time
 import common
 from common import PROGRAM, is_so
 from shared.nights import CONTRIB, Nights, ask, instead, ran, read, tried_apart, write
-from shared.parallel import (Place, Together, add_content, audit, findings, is_stated, make_root,
-                             told_in, without)
+from shared.parallel import (Place, Together, add_content, again, audit, audit_parts, begun,
+                             by_hand, findings, is_stated, make_root, told_in, without)
 
 # Notes how many runs are under way at once.
 COUNTING = """mkdir -p {folder}/running
@@ -258,7 +258,9 @@ def never_half(folder):
     part = [CONTRIB + "/parallel/part", "--state", nights.state, "--budget", "1M", "--part"]
     for number in parts[1:]:
         is_so("part " + number, ran([*part, number, root])[0], 0)
-    is_so("all but one", (ran(end)[0], nights.has("reports/cycle-000001")), (1, None))
+    status, _, said = ran(end)
+    is_so("all but one", (status, "No night was made in part %s since" % parts[0] in said,
+                          nights.has("reports/cycle-000001")), (3, True, None))
     is_so("the last one", ran([*part, parts[0], root])[0], 0)
     one = nights.set() + "/2"
     kept = read(one + "/part")
@@ -312,35 +314,6 @@ def part_nights(folder):
 
 # Nights by hand, over a root of nine small objects in four parts
 
-def by_hand(nights, name, *words, **environment):
-    """A call of `begin`, `part` or `end`."""
-    return ran([CONTRIB + "/parallel/" + name, "--state", nights.state, *words, nights.root],
-               **environment)
-
-
-def begun(folder, damaged=(), state="state"):
-    """The nights of a root in which some objects are damaged, and the numbers of its parts."""
-    objects = {"o%d" % number: {"v1/content/a": b"abc", "v1/content/b": b"d"}
-               for number in range(9)}
-    root = common.make_root(folder + "/root", objects)
-    for place in damaged:
-        write("%s/%s/v1/content/a" % (root, place), "damaged")
-    nights = Together("%s/%s" % (folder, state), root)
-    return nights, again(nights)
-
-
-def again(nights):
-    status, out, said = by_hand(nights, "begin", "--parts", "4")
-    is_so("begin", (status, said), (0, ""))
-    return out.split()
-
-
-def audit_parts(nights, numbers, budget="1M"):
-    for number in numbers:
-        is_so("part " + number, by_hand(nights, "part", "--part", number, "--budget", budget),
-              (0, "", ""))
-
-
 def slow(folder, seconds):
     """A program that takes its time."""
     return instead(folder, "slow", 'touch %s/runs\nsleep %d\nexec {program} "$@"'
@@ -372,7 +345,7 @@ def signalled(folder, nights, words, name):
 def signals(folder):
     """A signal to a part alone, as Slurm and Kubernetes send it, ends its night between two runs;
     one to the night of all parts is no failure."""
-    nights, _ = begun(folder)
+    nights, numbers = begun(folder)
     for number, name in [("1", "TERM"), ("2", "INT"), ("3", "HUP")]:
         part = Nights(nights.set() + "/" + number, nights.root)
         words = [CONTRIB + "/parallel/part", "--state", nights.state, "--part", number, "--hours",
@@ -381,6 +354,7 @@ def signals(folder):
         is_so(name + ": no run is cut", (part.rows("cut"), len(part.rows("run"))), ([], 1))
         is_so(name + ": it says so", "was ended by SIGTERM after 1 run(s)" in (
             part.has("tonight") or ""), True)
+    audit_parts(nights, numbers[3:], "1")
     is_so("told", by_hand(nights, "end"), (0, "", ""))
     for grace in ["0", "30"]:
         words = nights.words("1", ["--grace", grace], jobs=2, parts=4)
@@ -400,7 +374,7 @@ def closed_before_told(folder):
     said = by_hand(nights, "end")[2]
     is_so("findings of each cycle", re.findall(r"cycle (\d), in (\d) part", said),
           [("1", "2"), ("2", "1")])
-    rows = [tuple(row) for row in nights.rows("run")]
+    rows = [tuple(row) for row in nights.rows("run") if row[2] != "0"]
     is_so("each run is logged once", (len(rows), len(set(rows))), (len(numbers) + 1,) * 2)
     is_so("at its cost", nights.rows("ended")[0][7], str(sum(
         int(row[5]) for row in rows if row[2] == "1")))
@@ -442,6 +416,7 @@ def seals(folder):
 def not_run(folder):
     """What GNU parallel did not run is said."""
     nights, _ = begun(folder)
+    shutil.rmtree(nights.state)
     write(folder + "/bin/parallel", "#!/bin/sh\n[ \"$1\" != --version ] || exec echo GNU parallel 1"
           "\necho no room for us >&2\nexit 255\n", 0o755)
     path = folder + "/bin:" + os.environ["PATH"]
@@ -460,8 +435,8 @@ def not_run(folder):
 
 def late(folder):
     """A part whose end has passed says nothing, and not what its last night said."""
-    nights, _ = begun(folder, ["o0"])
-    audit_parts(nights, ["1"], "1")
+    nights, numbers = begun(folder, ["o0"])
+    audit_parts(nights, numbers, "1")
     part = Nights(nights.set() + "/1", nights.root)
     is_so("it has findings", "finding(s) tonight" in (part.has("tonight") or ""), True)
     is_so("they are told", by_hand(nights, "end")[0], 1)
@@ -492,7 +467,8 @@ exec %s "$@"
 
 def said_meanwhile(folder):
     """What a part says while a message is made is in the next one."""
-    nights, _ = begun(folder)
+    nights, numbers = begun(folder)
+    audit_parts(nights, numbers, "1")
     write(nights.set() + "/said", "Part 1: a word\n")
     write(folder + "/bin/rm", SAYING % shutil.which("rm"), 0o755)
     path = folder + "/bin:" + os.environ["PATH"]

@@ -8,8 +8,8 @@
 branch_of() {
   case ${1##*/} in
     inventory.json | inventory.json.* | 0=ocfl_*)
-      case $1 in */*) echo "${1%/*}" ;; *) echo . ;; esac ;;
-    *) echo "$1" ;;
+      case $1 in */*) printf '%s\n' "${1%/*}" ;; *) echo . ;; esac ;;
+    *) printf '%s\n' "$1" ;;
   esac
 }
 
@@ -22,16 +22,18 @@ can_stand_alone() {
 # Divides each part that stopped at one place on two nights, and writes which, with tabs: its
 # number, its name, the branch, and the night since which it stopped there.
 divide_parts() {
-  : > "$scratch/divided"
-  awk -F '\t' '$6 != "closed" && $8 != "-" && $9 != "-"' "$scratch/standing" \
-    > "$scratch/to_divide"
+  printf '' > "$scratch/divided" || return 3
+  awk -F '\t' '$6 != "closed" && $8 != "%" && $9 != "%"' "$scratch/standing" \
+    > "$scratch/to_divide" || return 3
   while IFS=$tab read -r number name _ _ alone _ _ stopped since _; do
     branch=$(branch_of "$stopped")
     if [ "$branch" = "$alone" ] || ! can_stand_alone "$branch"; then continue; fi
     NAME=$name PLACE=$branch LC_ALL=C awk -f "$here/reports/report.awk" \
-      -f "$here/lib/dividing.awk" "$set/table" > "$set/table.new" || continue
+      -f "$here/lib/dividing.awk" "$set/table" > "$set/table.new"
+    case $? in 0) ;; 1) continue ;; *) return 3 ;; esac
     mv -f -- "$set/table.new" "$set/table" || return 3
-    printf '%s\t%s\t%s\t%s\n' "$number" "$name" "$branch" "$since" >> "$scratch/divided"
+    printf '%s\t%s\t%s\t%s\n' "$number" "$name" "$branch" "$since" >> "$scratch/divided" \
+      || return 3
   done < "$scratch/to_divide"
   [ ! -s "$scratch/divided" ] || { write_separators && end_earlier; }
 }
@@ -55,7 +57,7 @@ with_other_ends() {
 # Lets the cursor of each part end where the table says that the part ends: earlier than when it was
 # stored, after a division. A kill in between leaves it for the next call.
 end_earlier() {
-  with_other_ends > "$scratch/others"
+  with_other_ends > "$scratch/others" || return 3
   while IFS=$tab read -r number name; do
     find_ends "$number" "$set/separators" || return 3
     (

@@ -7,7 +7,7 @@
 # is left out, once it was tried.
 can_join() {
   awk -F '\t' '
-    $6 == "closed" || ($5 != "-" && $8 != "-") { next }
+    $6 == "closed" || ($5 != "%" && $8 != "%") { next }
     { open++ }
     END { exit NR == 0 || open > 0 }' "$scratch/standing"
 }
@@ -34,13 +34,14 @@ compare_ends() {
       }
       close(path)
     }
-    function odd_one(part, folder,  ends) {
+    function odd_one(part, folder,  ends, escaped) {
       if (part > separators + 1) return "none"
       ends = "from " end("start", at[part - 1]) "\nbelow " end("end", at[part])
       if (ends_in(folder "/part") != ends) return "folder"
       read_statement(folder "/" ENVIRON["STATEMENT"])
-      gsub(/%/, "%25", ends)
-      return stated == ends ? "-" : "statement"
+      escaped = ends
+      gsub(/%/, "%25", escaped)
+      return stated == ends || stated == escaped ? "-" : "statement"
     }
     BEGIN {
       OFS = FS
@@ -58,19 +59,31 @@ compare_ends() {
 say_odd() {
   case $odd in
     folder) say "$folder is of another part: $(named "$(cat -- "$folder/part")")" ;;
+    cursor) say "$folder/cursor is not that of the end of this part: $(named "$shown")" ;;
     statement)
       stated=$(sed -n 's/^Part from: /from /p; s/^Part below: /below /p' "$statement") \
         && say "$statement is of another part: $(named "$stated")" ;;
   esac
 }
 
-# Appends the report of a part, where its folder is of the part that the table says and its
-# statement says the same of the part and of the lines that were appended: these are read back from
-# descriptor 4, which stands where the lines before them end.
+# Whether the cursor of a part, as the program shows it, is that of the end of the part that its
+# folder says. The runs went by it, whatever folder and statement say.
+is_at_end_of_part() {
+  shown=$("$program" show "$folder/cursor" 2>&1) || return 1
+  case $shown in
+    "$(cat -- "$folder/part")${newline}cycle $of_cycle$newline"*"${newline}ended") ;;
+    *) return 1 ;;
+  esac
+}
+
+# Appends the report of a part, where its folder and its cursor are of the part that the table says
+# and its statement says the same of the part and of the lines that were appended: these are read
+# back from descriptor 4, which stands where the lines before them end.
 add_report() {
   folder=$set/$name
   find_closed "$of_cycle" "$folder"
   statement=$folder/reports/statement-$padded
+  if [ "$odd" = - ] && ! is_at_end_of_part; then odd=cursor; fi
   if [ "$odd" != - ]; then
     say_odd
     return 3
@@ -92,7 +105,7 @@ add_reports() {
   while IFS=$tab read -r number name alone now is_whole odd stated; do
     if [ "$now" != closed ]; then
       kind=incomplete
-      echo "$alone" >> "$scratch/unread" || return 3
+      printf '%s\n' "$alone" >> "$scratch/unread" || return 3
     else
       [ "$is_whole" = whole ] || kind=incomplete
       add_report || return 3

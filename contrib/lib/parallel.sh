@@ -39,7 +39,6 @@ state_cycle_before() {
 # Takes over the rows of the parts, joins their reports where that can be done, or else divides
 # those that stop twice. What goes wrong is in the file `trouble`.
 gather() {
-  read_parts "$of_cycle" || return 3
   cat -- "$scratch/rows" >> "$state/nights" || return 3
   if is_closed "$cycle"; then return 0; fi
   if can_join; then
@@ -50,16 +49,17 @@ gather() {
 }
 
 # The same for each cycle whose parts still have a folder: what they say goes into the file `text`.
+# Fails where that text has not all of it.
 gather_all() {
-  : > "$scratch/text"
+  printf '' > "$scratch/text" || return 3
   for set in "$state"/parts-*; do
-    [ -s "$set/table" ] || continue
+    is_set || continue
     read_cycle_of "$set"
     cycle=$named_cycle
-    : > "$scratch/divided"
+    remove "$set/standing.new" && printf '' > "$scratch/divided" && read_parts "$of_cycle" || return 3
     gather 2> "$scratch/trouble" || worsen 3
-    cat -- "$scratch/trouble" >> "$scratch/text"
-    if [ -n "${join_only:-}" ]; then keep_trouble; else tell_of_set; fi
+    cat -- "$scratch/trouble" >> "$scratch/text" || return 3
+    if [ -n "${join_only:-}" ]; then keep_trouble; else tell_of_set; fi || return 3
   done
 }
 
@@ -67,16 +67,14 @@ gather_all() {
 keep_trouble() { ! is_closed "$cycle" || cat -- "$scratch/trouble" >> "$set/said"; }
 
 tell_of_set() {
-  take_said
-  compose_parts >> "$scratch/text"
-  worsen_by_events
-  cp -- "$scratch/standing" "$set/standing.new"
+  take_said && log_untried && compose_parts >> "$scratch/text" && worsen_by_events \
+    && cp -- "$scratch/standing" "$set/standing.new"
 }
 
 # After it was said: what was told is noted, and the folders of closed cycles are removed.
 forget_told() {
   for set in "$state"/parts-*; do
-    [ -e "$set/standing.new" ] || continue
+    if ! is_set || [ ! -e "$set/standing.new" ]; then continue; fi
     mv -f -- "$set/standing.new" "$scratch/standing" && note_told
     read_cycle_of "$set"
     if is_closed "$named_cycle"; then remove_set; fi
@@ -92,30 +90,42 @@ remove_set() {
 # A signal is no failure: the status stays as it is.
 say_signal_of_all() {
   [ ! -e "$scratch/signal" ] \
-    || echo "The night of $root was ended by $(cat -- "$scratch/signal")."
+    || printf 'The night of %s was ended by %s.\n' "$root" "$(cat -- "$scratch/signal")"
 }
 
-# Ends a night of all parts: says in one message what nobody was told of.
-end_parts() {
+# Composes what nobody was told of, in the file `text`.
+compose_all() {
   findings_told=0
-  gather_all
-  read_untold
-  {
-    awk -F '\t' '$2 ~ /^[0-9]+$/ && $3 == 0 { print $7 }' "$scratch/untold"
-    say_ended
-    say_unread
-    say_signal_of_all
-  } >> "$scratch/text"
-  worsen_by_untold
-  tell_file "$scratch/text"
+  gather_all && read_untold || return 3
+  { say_refusals && say_ended && say_unread && say_signal_of_all; } >> "$scratch/text" || return 3
+  worsen_by_refusals && worsen_by_untold
+}
+
+# Ends a night of all parts: says in one message what nobody was told of. It counts as told once
+# all of it was composed and handed on.
+end_parts() {
+  cut_half_row
+  if compose_all; then composed=yes; else composed=''; fi
   find_cycle
   blank_row
   seconds=$((seconds_now - night_began)) began=$night
-  log told "status $night_status, $(standing_text), findings $findings_told"
-  forget_told
+  if ! { tell_file "$scratch/text" && [ -n "$composed" ] \
+    && log told "status $night_status, $(standing_text), findings $findings_told" \
+    && forget_told; }; then
+    keep_untold
+  fi
   [ -z "$own" ] || [ -s "$own" ] || rm -f -- "$own" "$state/tonight"
   rm -rf -- "$scratch"
   exit "$night_status"
+}
+
+# Says and logs that something is still to be said: the next night says all of it.
+keep_untold() {
+  worsen 3
+  untold="The message of the night of $root could not be made or handed on whole: is there room in \
+$state and in ${TMPDIR:-/tmp}? The next night says all of it."
+  log_refusal 3 "$untold"
+  printf '%s\n' "$untold" | tell || printf '%s\n' "$untold" >&2
 }
 
 # How many parts there are, and how many of them have ended.
@@ -136,4 +146,9 @@ check_common_words() {
   [ ! -d "$state" ] || refuse_other_owner "$state"
   [ -n "$root" ] || fail "the storage root is missing"
   ! lies_in_root || fail "$state is in the storage root"
+  ! is_of_nightly || stop "$state belongs to nightly, which audits a storage root as a whole, or to \
+one part. Nothing was run. The scripts of parallel need a folder of their own."
 }
+
+# Whether the folder is that of a night of `nightly`.
+is_of_nightly() { [ -e "$state/cursor" ] || [ -e "$state/report" ] || [ -e "$state/part" ]; }

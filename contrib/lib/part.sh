@@ -19,7 +19,24 @@ find_ends() {
     }' "$2")
 }
 
+# Whether the folder is that of all parts of a storage root.
+has_parts() {
+  for sign in "$state"/parts-* "$state"/reports/separators-* "$state"/reports/runs-*; do
+    [ ! -e "$sign" ] || return 0
+  done
+  return 1
+}
+
+# Refuses the folder of all parts, and leaves nothing in it.
+refuse_parts() {
+  [ -z "$own" ] || rm -f -- "$own"
+  own=''
+  stop "$state belongs to parallel/nightly, which audits a storage root in parts. Nothing was run. \
+This night needs a folder of its own."
+}
+
 check_part_words() {
+  ! has_parts || refuse_parts
   [ -n "$part$parts" ] || return 0
   if [ -z "$part" ] || [ -z "$parts" ]; then fail "--part and --parts need each other"; fi
   case $part in *[!0-9]* | 0*) fail "--part needs a number from 1 on" ;; esac

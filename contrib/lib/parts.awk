@@ -3,8 +3,10 @@
 #
 #   standing  a line for each part: its number, name, from, below, the place that it stands alone
 #             with, `closed`, `open` or `new`, `whole` or `incomplete`, the place where its last
-#             night stopped, the first of at least two nights that stopped there, and how many rows
-#             its log has
+#             night stopped, the first of at least two nights that stopped there, how many rows its
+#             log has, the first of the nights since which each run was killed before it stored
+#             anything, on how many nights, the last of these, the night of a run that has no second
+#             row yet, and where the cursor stands
 #   events    a line for each row that nobody was told of: `found`, `cut`, `lost`, `stop`, `run`
 #   rows      the rows of the parts that the log of all parts has not yet
 #   sums      what all parts of the cycle spent, and how many files they read
@@ -12,7 +14,7 @@
 # It takes `cycle` (of all parts), `of_cycle` (of the parts) and `nothing` (the digest of no
 # report), and from the environment OUT, SET (the folder of the parts) and LOG (the log of all
 # parts).
-# Columns of a line of `standing` that are empty are `-`.
+# Columns of a line of `standing` that are empty are `%`, which no place and no name can be.
 BEGIN {
   FS = OFS = "\t"
   set = ENVIRON["SET"]
@@ -37,13 +39,14 @@ END {
   for (part = 1; part <= NR; part++) {
     print part, name[part], filled(from[part]), filled(part < NR ? from[part + 1] : ""),
       filled(alone[part]), state[part], whole[part], filled(stopped[part]),
-      filled(twice[part] ? since[part] : ""),
-      count[part] + 0 > standing
+      filled(twice[part] ? since[part] : ""), count[part] + 0, filled(killed_since[part]),
+      kills[part] + 0, filled(killed_last[part]), filled(unfinished[part]),
+      filled(stands[part]) > standing
   }
   print number(spent), number(files) > (ENVIRON["OUT"] "/sums")
 }
 
-function filled(text) { return text == "" ? "-" : text }
+function filled(text) { return text == "" ? "%" : text }
 
 function read_told(  line, field) {
   while ((getline line < (set "/told")) > 0) {
@@ -75,11 +78,15 @@ function read_part(  path, line, field, fields, begun, is_run, row, last_night, 
     if (fields != 14) continue
     row++
     if (state[part] == "new") state[part] = "open"
-    if (field[2] == "began") begun = field[11]
+    if (field[2] == "began") {
+      begun = field[11]
+      unfinished[part] = field[14]
+    }
     is_run = field[2] ~ /^[0-9]+$/ || field[2] == "cut" || field[2] == "lost"
     if (field[2] == "lost") begun = 0
     if (is_run && field[3] "" == of_cycle "") sum(field)
     if (is_run) note_stop(field)
+    if (is_run && field[3] "" == of_cycle "") note_kill(field)
     if (field[2] == "ended" && field[3] "" == of_cycle "") {
       state[part] = "closed"
       if (field[7] ~ /; incomplete /) whole[part] = "incomplete"
@@ -101,6 +108,22 @@ function note_stop(field,  place) {
     twice[part] = 0
   } else if (place != "" && field[14] "" != since[part] "") twice[part] = 1
   stopped[part] = place
+}
+
+# The nights since which no run of this part came to its end: each was killed, or its night was.
+function note_kill(field,  is_kill) {
+  if (field[2] == "lost") return
+  is_kill = field[2] == "cut" ? field[7] ~ /made again/ : field[2] > 4
+  unfinished[part] = ""
+  stands[part] = field[13]
+  if (!is_kill) {
+    killed_since[part] = killed_last[part] = ""
+    kills[part] = 0
+    return
+  }
+  if (killed_since[part] == "") killed_since[part] = field[14]
+  if (field[14] "" != killed_last[part] "") kills[part]++
+  killed_last[part] = field[14]
 }
 
 # Rows of the log of all parts: their sums are those of the cycle.

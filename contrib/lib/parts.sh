@@ -4,7 +4,8 @@
 #
 # The folder `parts-000001` has the parts of cycle 1: `table` with a line for each (its name, the
 # separator that it begins with, the place that it stands alone with), `separators`, which is made
-# of the table, and a folder of `nightly` for each part, by its name.
+# of the table, and a folder of `nightly` for each part, by its name. A name stays with its ends, or
+# after a division with the first of the pieces; no list counts parts by where they stand.
 # shellcheck disable=SC2030,SC2031,SC2034,SC2154
 
 # Sets `cycle`, the one that is open or that comes next, and `set`, the folder of its parts.
@@ -17,6 +18,12 @@ find_cycle() {
   set=$state/parts-$padded
 }
 
+# Whether `set` is a folder of parts, and no copy that somebody put beside it.
+is_set() {
+  case ${set##*/parts-} in '' | *[!0-9]*) return 1 ;; esac
+  [ -s "$set/table" ]
+}
+
 in_order() {
   LC_ALL=C awk -f "$here/reports/report.awk" -f "$here/lib/separators.awk" \
     | LC_ALL=C sort -u -t "$tab" -k 1,1 | cut -f 2
@@ -26,6 +33,8 @@ in_order() {
 report_to_split() {
   for kind in cycle incomplete; do
     for file in "$state/reports/$kind"-*; do
+      number=${file##*/"$kind"-}
+      case ${number%.gz} in *[!0-9]*) continue ;; esac
       [ ! -s "$file" ] || printf '%s\n' "$file"
     done | tail -n 1
   done | head -n 1
@@ -95,8 +104,20 @@ write_separators() {
 
 count_parts() { wc -l < "$set/table"; }
 
-# Sets `name`, that of a part by its number, and so of its folder; empty where there is none.
-find_name() { name=$(awk -F '\t' -v part="$1" 'NR == part { print $1 }' "$set/table"); }
+# Reads the ends of a part by its name, which is that of its folder: writes the separators that make
+# it into a file, none but its own, and sets `number` to which of the parts of that file it is.
+# Empty where there is no such part. The table is read once, so that no division comes in between.
+find_part() {
+  number=$(NAME=$1 SEPARATORS=$2 awk -F '\t' '
+    { from[NR] = $2 }
+    $1 "" == ENVIRON["NAME"] "" { at = NR }
+    END {
+      if (!at) exit 0
+      if (at > 1) print from[at] > ENVIRON["SEPARATORS"]
+      if (at < NR) print from[at + 1] > ENVIRON["SEPARATORS"]
+      print (at > 1 ? 2 : 1)
+    }' "$set/table")
+}
 
 # Reads the table and all logs: the files `standing`, `events` and `rows` in the folder `scratch`,
 # as `lib/parts.awk` writes them. The parts' own cycle has the number $1.
@@ -108,4 +129,23 @@ read_parts() {
 # How many parts are in a state: `closed`, `open` or `new`.
 parts_that_are() {
   awk -F '\t' -v state="$1" '$6 == state { count++ } END { print count + 0 }' "$scratch/standing"
+}
+
+# Notes, for `end`, which parts are given out on this night, and how many rows the log of each has.
+give_out() {
+  awk -F '\t' -v night="$night" '$6 != "closed" { print night "\t" $2 "\t" $10 }' \
+    "$scratch/standing" >> "$set/given"
+}
+
+# Logs which parts were given out, up to this night, and made no night since: nobody ran them, or
+# what ran them failed before it could write a row. A part that came too late is none of them.
+log_untried() {
+  [ -s "$set/given" ] || return 0
+  LATE=$set/late STANDING=$scratch/standing GIVEN=$scratch/given awk -F '\t' -v tonight="$night" \
+    -f "$here/lib/given.awk" "$set/given" > "$scratch/untried" || return 3
+  while IFS= read -r text; do
+    log_refusal 3 "$text" || return 3
+  done < "$scratch/untried"
+  cp -- "$scratch/given" "$set/given.new" && mv -f -- "$set/given.new" "$set/given" || return 3
+  remove "$set/late"
 }

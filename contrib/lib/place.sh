@@ -31,24 +31,23 @@ reason_of_folder() {
   why=$(LC_ALL=C ls -A -- "$1" 2>&1 > /dev/null) || { system_words "$why"; return 0; }
   names=$(names_in "$1" | wc -l)
   if ! names_in "$1" | iconv -f UTF-8 -t UTF-8 > /dev/null 2>&1; then
-    odd=$(names_in "$1" | first_odd_name)
+    odd=$(first_odd_name "$1")
     echo "a name in it is not UTF-8${odd:+: $odd}"
   elif [ "$names" -gt 1000000 ]; then
     echo "it has $names entries, more than 1000000"
   fi
 }
 
-# The first name that is not UTF-8, with `%` and two digits for each byte that is not ASCII.
+# The first name in a folder that is not UTF-8: the one after the lines that `iconv` takes. It has
+# `%` and two digits for each byte that is not ASCII.
 first_odd_name() {
-  while IFS= read -r name; do
-    if printf '%s' "$name" | iconv -f UTF-8 -t UTF-8 > /dev/null 2>&1; then continue; fi
-    printf '%s' "$name" | od -An -v -tx1 | tr -d '\n' | awk '{
+  taken=$(names_in "$1" | iconv -f UTF-8 -t UTF-8 2> /dev/null | wc -l)
+  names_in "$1" | LC_ALL=C sed -n "$((taken + 1)){p;q;}" | tr -d '\n' | od -An -v -tx1 \
+    | tr -d '\n' | awk '{
       for (n = 1; n <= NF; n++) printf "%s", $n ~ /^([2-6]|7[0-9a-e])/ && $n != "25" \
         ? sprintf("%c", 16 * (index("0123456789abcdef", substr($n, 1, 1)) - 1) \
           + index("0123456789abcdef", substr($n, 2, 1)) - 1) : "%" toupper($n)
     }'
-    return 0
-  done
 }
 
 # An inventory, a sidecar or a declaration is read whole: it is small.

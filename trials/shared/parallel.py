@@ -8,7 +8,7 @@ import shutil
 import subprocess
 
 import common
-from common import PROGRAM, TOP
+from common import PROGRAM, TOP, is_so
 from shared.nights import CONTRIB, Nights, ask, ran, read, write
 
 # A name that is not UTF-8 keeps a directory from being listed, for root too.
@@ -112,6 +112,35 @@ class Together(Nights):
                 for row in Nights(os.path.join(self.set(), name), self.root).rows(*kinds)]
 
 
+def by_hand(nights, name, *words, **environment):
+    """A call of `begin`, `part` or `end`."""
+    return ran([CONTRIB + "/parallel/" + name, "--state", nights.state, *words, nights.root],
+               **environment)
+
+
+def begun(folder, damaged=(), state="state"):
+    """The nights of a root in which some objects are damaged, and the names of its parts."""
+    objects = {"o%d" % number: {"v1/content/a": b"abc", "v1/content/b": b"d"}
+               for number in range(9)}
+    root = common.make_root(folder + "/root", objects)
+    for place in damaged:
+        write("%s/%s/v1/content/a" % (root, place), "damaged")
+    nights = Together("%s/%s" % (folder, state), root)
+    return nights, again(nights)
+
+
+def again(nights):
+    status, out, said = by_hand(nights, "begin", "--parts", "4")
+    is_so("begin", (status, said), (0, ""))
+    return out.split()
+
+
+def audit_parts(nights, numbers, budget="1M"):
+    for number in numbers:
+        is_so("part " + number, by_hand(nights, "part", "--part", number, "--budget", budget),
+              (0, "", ""))
+
+
 def told_in(said):
     """The report lines that a message has."""
     return {line for line in said.splitlines(True) if line.count("\t") == 2}
@@ -124,5 +153,5 @@ def is_stated(name, nights, report):
                          ""))
 
 
-__all__ = ["Place", "Together", "add_content", "audit", "findings", "is_stated", "make_root",
-           "told_in", "without"]
+__all__ = ["Place", "Together", "add_content", "again", "audit", "audit_parts", "begun", "by_hand",
+           "findings", "is_stated", "make_root", "told_in", "without"]

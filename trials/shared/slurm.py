@@ -84,7 +84,7 @@ def addresses(host):
 class Slurm:
     """munged, slurmctld and slurmd as children of this process; they end with the block."""
 
-    def __init__(self, cpus=4):
+    def __init__(self, cpus=4, more=""):
         # Paths of sockets are short.
         self.folder = tempfile.mkdtemp(prefix="ocfl-slurm-", dir="/tmp")
         self.daemons = {}
@@ -92,9 +92,9 @@ class Slurm:
         kept = {name: value for name, value in os.environ.items()
                 if not name.startswith(("SLURM_", "SBATCH_", "SQUEUE_", "SINFO_"))}
         self.how = {**kept, "PATH": path, "SLURM_CONF": self.folder + "/slurm.conf"}
-        self.configure(cpus)
+        self.configure(cpus, more)
 
-    def configure(self, cpus):
+    def configure(self, cpus, more):
         os.chmod(self.folder, 0o755)
         for name in ["state", "spool"]:
             os.mkdir(os.path.join(self.folder, name))
@@ -110,7 +110,8 @@ class Slurm:
         with open(self.folder + "/slurm.conf", "w") as file:
             file.write(CONFIG.format(
                 host=host, user=user, port=port, other=other, folder=self.folder, cpus=cpus,
-                loopback="CommunicationParameters=NoInAddrAny,NoCtldInAddrAny\n" if alone else ""))
+                loopback="CommunicationParameters=NoInAddrAny,NoCtldInAddrAny\n" if alone else "")
+                + more)
         version = self.said(["slurmd", "-V"]).split()[-1:]
         is_older = not version or tuple(map(int, version[0].split(".")[:2])) < (23, 11)
         with open(self.folder + "/cgroup.conf", "w") as file:

@@ -86,6 +86,20 @@ def until_an_hour(folder):
     is_so("a night ends with its cycle", clock.nights.rows("ended")[-1:] != [], True)
 
 
+def hours_that_are_not_there(folder):
+    """The clock leaps from 02:00 to 03:00: a night until 02:30 ends at 03:00."""
+    os.environ["TZ"] = "CET-1CEST,M3.5.0,M10.5.0/3"
+    try:
+        clock = Clock(folder, "2026-03-29 01:58:00")
+        is_so("night", clock.night("100", "--until", "02:30"), (0, "", ""))
+        is_so("it ends in time", (clock.costs(), clock.shown()), ([100, 20], "03:00:00"))
+        clock.set("2026-03-28 02:45:00")
+        is_so("begun the day before", clock.night("100", "--until", "02:30")[0:2], (0, ""))
+        is_so("the cycle ends before that", clock.nights.whole(1).count("\n"), 62)
+    finally:
+        del os.environ["TZ"]
+
+
 def for_hours(folder):
     clock = Clock(folder, "2025-01-01 22:00:00")
     is_so("night", clock.night("40", "--hours", "0.05"), (0, "", ""))
@@ -107,6 +121,7 @@ def at_least_one_file(folder):
 def usage(folder):
     clock = Clock(folder, "2025-01-01 22:00:00")
     for words in [["--until", "6"], ["--until", "24:00"], ["--hours", "x"], ["--hours", "1.2.3"],
+                  ["--hours", "0"], ["--hours", "0.0"], ["--hours", "."], ["--hours", "0.0001"],
                   ["--until", "06:00", "--hours", "1"], ["--hours", "1", "--grace", "x"]]:
         is_so("usage: " + " ".join(words), clock.night(None, *words)[0:2], (2, ""))
     for budget in ["0", "10x", "10Ki", "10B", "1.5G", "+10", "K"]:
@@ -275,7 +290,7 @@ def pieces_of_a_long_run(folder):
         is_so(name + ": the end", nights.reports(), [ends])
 
 
-PARTS = [until_an_hour, for_hours, at_least_one_file, usage, one_message, a_kill_loses_a_slice,
+PARTS = [until_an_hour, hours_that_are_not_there, for_hours, at_least_one_file, usage, one_message, a_kill_loses_a_slice,
          signals, grace_is_over, by_timeout, no_whole_reading, pieces_of_a_long_run]
 
 

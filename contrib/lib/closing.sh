@@ -84,8 +84,22 @@ ended_row() {
 # Closes the cycle that the cursor says has ended, and writes its statement.
 close_cycle() {
   [ "$stands" = ended ] || return 0
-  is_closed "$cycle" || close_report || return 3
+  if is_closed "$cycle"; then
+    can_state || return 0
+  else
+    close_report || return 3
+  fi
   write_statement
+}
+
+# A statement that is made later is one of the report that was closed, and of no other.
+can_state() {
+  find_closed "$cycle"
+  if [ ! -e "$closed_file" ] || [ -e "$state/reports/statement-$padded" ]; then return 0; fi
+  named_cycle=$cycle
+  if is_as_logged "$closed_file"; then return 0; fi
+  leave_out "$closed_file is not what the log says: no statement of cycle $cycle is made."
+  return 1
 }
 
 # Moves the report of the cycle to its place, and logs what it has.

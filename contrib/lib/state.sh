@@ -358,14 +358,14 @@ TEXT
 # that run is made again, as long as the cursor of before is known.
 settle_unfinished() {
   find_pieces unfinished
-  if holds_newest "$report" "$known" \
-    && take_over "$(column 11)" "$(column 5)" "$(column 12)" "$(column 13)"; then
-    return 0
-  elif [ -e "$cursor_before" ]; then
-    put_back && read_cursor && settle_before
-  else
-    lose
+  if holds_newest "$report" "$known"; then
+    if take_over "$(column 11)" "$(column 5)" "$(column 12)" "$(column 13)"; then return 0; fi
+    if [ -e "$cursor_before" ]; then
+      put_back && read_cursor && settle_before
+      return
+    fi
   fi
+  lose
 }
 
 # Of an older log, the count of lines is all that is known of the report.

@@ -130,7 +130,7 @@ def usage(folder):
         is_so("no number of files: " + files, clock.night("10", "--files", files)[0], 2)
     is_so("nothing is there", os.path.exists(clock.nights.path("cursor")), False)
     is_so("a night without a budget", clock.night(None, "--hours", "1")[0], 0)
-    is_so("has one of 20G", clock.nights.rows("began")[0][6], "budget 20G")
+    is_so("has one of 20G", clock.nights.rows("began")[0][6].split(";")[0], "budget 20G")
 
 
 def one_message(folder):

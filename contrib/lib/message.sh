@@ -86,16 +86,16 @@ say_found() {
   printf '%s\n' "To look at one again: ocfl-scrub check $root PATH, with the path as shown above."
 }
 
-# A night that made runs, and has neither a row `told` nor one `untold`, was cut as well.
+# How a night says that its message failed.
+not_told='The message of the night of'
+
+# A night that made runs, and has no row `told`, was cut as well; but not one whose message failed.
 say_cut() {
   has_untold cut || return 0
-  awk -F '\t' -v tonight="$night" '
+  awk -F '\t' -v tonight="$night" -v not_told="$not_told" '
     $2 ~ /^[0-9]+$/ && $14 != tonight && !($14 in runs) { nights[++count] = $14 }
     $2 ~ /^[0-9]+$/ { runs[$14] }
-    $2 == "untold" {
-      was_cut[$14]
-      printf "The night of %s could not say what it had to say.\n", $14
-    }
+    $3 == 0 && index($7, not_told " ") == 1 { was_cut[$14] }
     $2 == "cut" {
       was_cut[$14]
       printf "The night of %s was cut: run %s of cycle %s ", $14, $4, $3

@@ -92,8 +92,8 @@ make_state() {
   [ ! -d "$state" ] || return 0
   above=$(realpath -m -- "$state") || exit 3
   until [ -d "$above" ]; do above=$(dirname -- "$above"); done
-  if [ "$above" != / ] && [ -z "$(names_in "$above" | head -n 1)" ] && ! mountpoint -q -- "$above"
-  then
+  if [ "$above" != / ] && [ -r "$above" ] && [ -z "$(names_in "$above" | head -n 1)" ] \
+    && ! mountpoint -q -- "$above"; then
     stop "there is no folder $state, and $above is empty: is its file system mounted? Nothing was \
 run. For a first night, make the folder."
   fi

@@ -5,7 +5,7 @@
 # shellcheck disable=SC2034,SC2154
 
 # Whether the night is there, or a run of it that outlived it. Sets `running` to the run.
-is_under_way() {
+is_night_there() {
   { read -r running < "$scratch/running"; } 2> /dev/null || running=''
   is_there "$worker" || is_there "$running"
 }
@@ -19,11 +19,11 @@ on_signal() {
   (
     trap '' HUP INT TERM
     left=$grace
-    while [ "$left" -gt 0 ] && is_under_way; do
+    while [ "$left" -gt 0 ] && is_night_there; do
       sleep 1
       left=$((left - 1))
     done
-    while is_under_way; do
+    while is_night_there; do
       ! is_there "$running" || kill -s KILL "${running% *}"
       sleep 1
     done

@@ -1,11 +1,11 @@
 # Reads the log of nights, and writes the rows after its last row `told` into the file UNTOLD, which
 # the environment names.
 #
-# Writes one line with what is among them: `cut`, a night that was cut or could not say all; `lost`,
-# a report that lost lines; `incomplete`, a cycle that was closed with a report that is not whole;
-# `gone`, one in which something is gone. Then, of each cycle with new lines of its report, a line
-# with its number, its first and its last run, and the first and the last byte of these lines. It
-# takes `tonight`, the night that says this.
+# Writes one line with what is among them: `cut`, a night that was cut; `lost`, a report that lost
+# lines; `incomplete`, a cycle that was closed with a report that is not whole; `gone`, one in which
+# something is gone. Then, of each cycle with new lines of its report, a line with its number, its
+# first and its last run, and the first and the last byte of these lines. It takes `tonight`, the
+# night that says this.
 BEGIN { FS = "\t" }
 
 NF != 14 { next }
@@ -34,7 +34,7 @@ END {
 }
 
 function note_kinds() {
-  if ($2 ~ /^(cut|untold)$/ || ($2 ~ /^[0-9]+$/ && $14 != tonight)) kinds["cut"]
+  if ($2 == "cut" || ($2 ~ /^[0-9]+$/ && $14 != tonight)) kinds["cut"]
   if ($2 == "lost") kinds["lost"]
   if ($2 != "ended") return
   if ($7 ~ /; incomplete /) kinds["incomplete"]

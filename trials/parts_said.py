@@ -145,6 +145,12 @@ def begin_refused(folder):
     status, _, said = by_hand(nights, "end")
     is_so("the end says why", (status, "mounted?" in said), (3, True))
     is_so("status after it", status_of(nights), 2)
+    os.rmdir(nights.root)
+    os.rename(nights.root + ".away", nights.root)
+    is_so("by a lock", ran(["flock", nights.path("lock"), CONTRIB + "/parallel/begin", "--parts",
+                            "4", "--state", nights.state, nights.root])[0], 75)
+    status, _, said = by_hand(nights, "end")
+    is_so("is said too", (status, "still runs" in said), (3, True))
 
 
 def open_somewhere(path):
@@ -184,13 +190,14 @@ def killed_each_night(folder):
     for _ in range(3):
         killed_night(nights, last, file)
         told.append(by_hand(nights, "end"))
-        again(nights)
+        if len(told) > 1:
+            is_so("status", status_of(nights), 2)
         time.sleep(1)
+        again(nights)
     is_so("from the second night on", [status for status, _, _ in told[1:]], [3, 3])
     for _, _, said in told[1:]:
         is_so("what is not audited", bool(re.search(
             r"(?s)\b[Pp]art %s \(from o\d[^)]*\).*not audited" % last, said)), True)
-    is_so("status", status_of(nights), 2)
     write(file, b"abc")
     audit_parts(nights, [last])
     by_hand(nights, "end")

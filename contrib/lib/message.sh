@@ -215,7 +215,7 @@ say_signal() {
 
 # All that nobody was told of. Fails where it cannot be said whole.
 compose() {
-  whose=${part:+part $part of }$root
+  whose=${part:+part ${OCFL_SCRUB_PART:-$part} of }$root
   findings_told=0 unread=''
   read_untold && say_cut && say_lost && say_findings && say_ended && say_stops && say_signal
 }

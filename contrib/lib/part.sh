@@ -64,6 +64,10 @@ its own."
   if ! { { [ -e "$state/part" ] || put_text "$ends" "$state/part"; } && keep_separators; }; then
     break_off "Nothing was run."
   fi
+  bound=$ends
+  if ! find_ends "$part" "$state/parts" || [ "$ends" != "$bound" ]; then
+    refuse 3 "$parts was changed while this night began. Nothing was run."
+  fi
 }
 
 keep_separators() {

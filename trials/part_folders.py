@@ -183,8 +183,8 @@ def without_locks(folder):
         is_so(name, (status, "still runs" in said, nights.state + "/lock" in said),
               (3, False, True))
     audit_parts(nights, names)
-    is_so("with locks", (by_hand(nights, "end"), nights.has("reports/cycle-000001")),
-          ((0, "", ""), audit(nights.root)))
+    by_hand(nights, "end")
+    is_so("with locks", nights.has("reports/cycle-000001"), audit(nights.root))
 
 
 # In the place of Slurm: takes jobs as one with arrays of so many tasks does, and notes them.

@@ -115,6 +115,7 @@ end_parts() {
     keep_untold
   fi
   [ -z "$own" ] || [ -s "$own" ] || rm -f -- "$own" "$state/tonight"
+  copy_text || worsen 3
   rm -rf -- "$scratch"
   exit "$night_status"
 }

@@ -77,6 +77,7 @@ def simple_questions(folder):
             status, out, said = ask(name, folder + "/plain", folder + "/" + file)
             is_so("%s of %s" % (name, file), (status, out, "/%s cannot be read" % file in said),
                   (3, "", True))
+    no_reports(folder)
     two = ask("bytes", folder + "/plain", folder + "/packed.gz")[1]
     is_so("two reports", two, "%d files, %d bytes\n" % (2 * len(sizes), 2 * sum(sizes)))
     for name in ["findings", "totals", "bytes", "changed", "to-json", "unverified", "database",
@@ -87,6 +88,20 @@ def simple_questions(folder):
         status, out, said = ask(name, "--help")
         is_so("help of " + name, (status, "\nusage: %s " % name in out, said), (0, True, ""))
     return lines
+
+
+def no_reports(folder):
+    """A log of nights, a statement and a text are no reports, and nothing is told of them."""
+    nights = Nights(folder + "/nights", common.make_root(folder + "/small", {"o": {"v1/content/a":
+                                                                                  b"a"}}))
+    nights.cycle()
+    write(folder + "/text", "a text\n")
+    for file in [nights.path("nights"), nights.path("reports/statement-000001"), folder + "/text"]:
+        for words in [["findings"], ["findings", "--by-weight"], ["totals"], ["bytes"],
+                      ["to-json"]]:
+            status, out, said = ask(*words, file)
+            is_so("%s of %s" % (" ".join(words), os.path.basename(file)),
+                  (status, out, said != ""), (3, "", True))
 
 
 def as_json(line):
@@ -181,7 +196,9 @@ def unverified(folder):
                                for path, began, code, cycle in late)
             is_so("not verified since %s, %d cycles" % (date, count),
                   ask("unverified", date, state), (0, expected, ""))
-    is_so("no date", ask("unverified", "'; drop", state)[0:2], (2, ""))
+    for date in ["'; drop", "2026-13-45", "2025-02-29", "2025-01-01T25:00:00Z", "2025", "2025-1-1",
+                 "2025-01-01T10:00", "--", "2025-01-01Z"]:
+        is_so("no date: " + date, ask("unverified", date, state)[0:2], (2, ""))
     database(folder, state)
 
 

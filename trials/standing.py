@@ -11,6 +11,7 @@ import re
 
 import common
 from common import is_so
+from shared.nights import Nights, make_root
 from shared.states import (CONTRIB, LINES, State, is_finding, line, ran, read, tools, tried, write)
 
 
@@ -253,9 +254,129 @@ def metrics(folder):
                                  common.read(state.path + "/nights") == log), (True, True))
 
 
+# What a status must not say
+
+DAMAGED = line("E092", "b/v1/content/a", "sha256 x y")
+AGAIN = line("E092", "d/v1/content/a", "sha256 x y")
+
+
+def closed(folder, reports, opened=()):
+    """A folder with these closed reports, as forms and lines, and the open one."""
+    state = State(folder)
+    for cycle, (form, lines) in enumerate(reports, 1):
+        night = "2026-03-0%dT22:00:00Z" % cycle
+        state.night(night, cycle, 1, len(lines), 100, stands="ended")
+        whole = "whole" if form == "cycle" else "incomplete lost lines"
+        state.close(night, cycle, whole + "; findings none; compared nothing; gone 0 objects 0 "
+                    "files", lines, form, packed=cycle < len(reports))
+    state.night("2026-03-09T22:00:00Z", len(reports) + 1, 1, len(opened), 5)
+    write(state.path + "/report", "".join(opened))
+    return state
+
+
+def listed(state, *words):
+    return ran([CONTRIB + "/status", "--list", *words, state.path])[1].splitlines(True)[1:]
+
+
+def not_whole(folder):
+    """A finding stays open where a report that is not whole did not come to its place."""
+    start = [line("ok", "."), line("ok", "a")]
+    whole = start + [line("ok", "b"), DAMAGED, line("ok", "c")]
+    without, right = start + [line("ok", "c")], start + [line("ok", "b"), line(
+        "ok", "b/v1/content/a", "3"), line("ok", "c")]
+    for name, reports, opened, expected in [
+            ("left out once", [("cycle", whole), ("incomplete", without)], [], [DAMAGED]),
+            ("left out twice", [("cycle", whole), ("incomplete", without),
+                                ("incomplete", without + [AGAIN])], [], [DAMAGED, AGAIN]),
+            ("of the first, which is not whole", [("incomplete", whole), ("incomplete", without)],
+             [], [DAMAGED]),
+            ("found right by one that is not whole", [("cycle", whole), ("incomplete", right)],
+             [], []),
+            ("found right since", [("cycle", whole), ("incomplete", without)], right, []),
+            ("no place of a whole one", [("cycle", whole), ("incomplete", without),
+                                         ("cycle", without)], [], []),
+            ("found by the open one", [("cycle", without), ("incomplete", without)],
+             start + [line("ok", "b"), DAMAGED], [DAMAGED])]:
+        state = closed(folder + "/" + name.replace(" ", "-"), reports, opened)
+        is_so("open findings: " + name, listed(state), expected)
+        file = folder + "/figures.prom"
+        status(state, "--prometheus", file)
+        figures = re.findall(r"ocfl_scrub_(damaged|open_findings)\{.*\} (\d+)", read(file))
+        is_so("their figures: " + name, figures, [("damaged", str(len(expected))), (
+            "open_findings", str(len(expected)))])
+    write(state.path + "/reports/cycle-000009.bak", "".join(whole))
+    write(state.path + "/reports/incomplete-x", "".join(whole))
+    is_so("a copy is no report", listed(state), [DAMAGED])
+
+
+def is_known(folder):
+    """Known findings are left out of the list, and counted."""
+    state = closed(folder + "/state", [("cycle", [line("ok", "."), DAMAGED, AGAIN])])
+    known = write(folder + "/known", DAMAGED)
+    is_so("known findings are not listed", listed(state, "--known", known), [AGAIN])
+    write(known, "E092\t./\n")
+    is_so("all are known", listed(state, "--known", known), [])
+    is_so("they are counted", "0 open finding(s), 2 known" in status(state, "--known", known)[1],
+          True)
+    is_so("without a file of known ones", listed(state), [DAMAGED, AGAIN])
+
+
+def once(folder):
+    """A number of findings stands there once."""
+    state = closed(folder + "/state", [("cycle", [line("ok", "."), DAMAGED])])
+    is_so("one finding", status(state)[1].count("open finding"), 1)
+    is_so("and below the limits", status(state, "--findings", "-,-", "--damaged", "-,-")[1].count(
+        "open finding"), 1)
+
+
+def refused(folder):
+    """A night that was refused is of no cycle."""
+    nights = Nights(folder + "/state", make_root(folder + "/root"))
+    call = [CONTRIB + "/status", nights.state]
+    os.rename(nights.root, nights.root + ".away")
+    is_so("refused", nights.night("4")[0], 3)
+    given, out, _ = ran(call)
+    is_so("before the first cycle", (given, re.findall("cycle +[0-9]*(?: is| has)", out)), (2, []))
+    os.rename(nights.root + ".away", nights.root)
+    nights.night("4")
+    os.rename(nights.root, nights.root + ".away")
+    nights.night("4")
+    given, out, _ = ran(call)
+    is_so("in the first cycle", (given, re.findall("cycle [0-9]* (?:is open|has ended)", out)),
+          (2, ["cycle 1 is open"]))
+    os.rename(nights.root + ".away", nights.root)
+    nights.night("1K")
+    os.rename(nights.root, nights.root + ".away")
+    nights.night("4")
+    given, out, _ = ran([*call, "--prometheus", folder + "/x.prom"])
+    is_so("after it", (given, re.findall("cycle [0-9]* (?:is open|has ended)|of 100", out)),
+          (2, ["cycle 1 has ended"]))
+    is_so("its figure", re.findall(r"ocfl_scrub_cycle\{.*\} (\d+)", read(folder + "/x.prom")),
+          ["1"])
+
+
+def missing(folder):
+    """Objects that are expected and missing are called so."""
+    nights = Nights(folder + "/state", make_root(folder + "/root"))
+    expected = write(folder + "/expected", "o\nx\ny\n")
+    nights.night("1K", more=["--expected", expected])
+    given, out, _ = ran([CONTRIB + "/status", nights.state])
+    is_so("two expected objects", (given, "2 expected object" in out, "0 object" in out,
+                                   " gone=2;" in out), (1, True, False, True))
+
+
+def strange_paths(folder):
+    """A path of the folder with any byte changes nothing."""
+    for number, name in enumerate(["a\nb", "a\\nb", "a\tb |"]):
+        state = closed("%s/%d/%s" % (folder, number, name), [("cycle", [line("ok", "."), DAMAGED])])
+        given, out, said = ran([CONTRIB + "/status", "--age", "-,-", "--list", state.path])
+        is_so("a folder named %r" % name, (given, out.split("\n", 1)[1], said), (2, DAMAGED, ""))
+
+
 def tell(folder):
     tools({"awk": "mawk", "gzip": "gzip"})
-    for part in [statuses, troubled, old_log, open_findings, metrics]:
+    for part in [statuses, troubled, old_log, open_findings, metrics, not_whole, is_known, once,
+                 refused, missing, strange_paths]:
         os.mkdir(os.path.join(folder, part.__name__))
         tried(part, os.path.join(folder, part.__name__))
 

@@ -444,7 +444,7 @@ def premis(folder):
     for name, data in [("o", json.dumps({"id": identity}).encode()), ("o2", b"no inventory"),
                        ("o3", b'["id"]'), ("o3-4", b'{"id": 7}')]:
         write(root + "/%s/inventory.json" % name, data)
-    write(state.path + "/root", "path\t%s\ndeclaration\t%s\n" % (root, "d" * 64))
+    write(state.path + "/root", "path\t%s\ndeclared\t%s\n" % (root, "d" * 64))
     is_so("no statement", premis_of(state)[0], 3)
     ask("statement", state.path, 2, OCFL_SCRUB=made)
     name = ("OCFL storage root", "%s:%s" % (os.uname().nodename, root))

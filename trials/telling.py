@@ -141,7 +141,116 @@ def as_the_user(folder):
           ["User=ocfl-scrub", "ExecStart=/"])
 
 
-PARTS = [by_hand, once, of_this_night, a_word_of_a_good_night, links, as_the_user]
+def given_up(folder, body):
+    """The environment of a mail that does this."""
+    write(folder + "/bin/mail", "#!/bin/sh\n" + body, 0o755)
+    return {"PATH": folder + "/bin:" + os.environ["PATH"], "MAIL": "her@example.org"}
+
+
+def night_alone(nights, number, budget="1K"):
+    """A night for `tell`, which is not called."""
+    return ran([*nights.words(budget, ["--for-tell"])], INVOCATION_ID="night%d" % number)[0]
+
+
+def told(nights, number, status, **environment):
+    """What tells of a night: its status, and what it says."""
+    done = ran(tell_words(nights), EXIT_CODE="exited", EXIT_STATUS=str(status),
+               INVOCATION_ID="night%d" % number, **{"MAIL": "", "JOURNAL": "", **environment})
+    return done[0], done[1] + done[2]
+
+
+def not_sent(folder):
+    """What was not sent is told by the next night: where nothing called `tell`, where it was
+    killed, where the mail failed. The file is right again in the meantime."""
+    for name, body in [("never", None), ("killed", "cat > /dev/null; kill -KILL $PPID\n"),
+                       ("failed", "cat > /dev/null; exit 1\n")]:
+        there = "%s/%s" % (folder, name)
+        nights = Nights(there + "/state", make_root(there + "/root"))
+        write(nights.root + "/o/v1/content/b", "b")
+        is_so(name + ": found", night_alone(nights, 1), 1)
+        if body:
+            given = told(nights, 1, 1, **given_up(there, body))
+            is_so(name + ": not sent", given[0] != 0, True)
+        if name == "failed":
+            is_so("the journal has what no mail had", given[1].count(WRONG_B), 1)
+        write(nights.root + "/o/v1/content/b", "")
+        status = night_alone(nights, 2)
+        mail = mailing(there)
+        is_so(name + ": sent", (told(nights, 2, status, **mail)[0],
+                                (read(there + "/mailed") or "").count(WRONG_B)), (0, 1))
+        os.remove(there + "/mailed") if os.path.exists(there + "/mailed") else None
+        status = night_alone(nights, 3)
+        told(nights, 3, status, **mail)
+        is_so(name + ": once", (status, read(there + "/mailed")), (0, None))
+
+
+def sent(folder):
+    """What was sent is not told again, by no night."""
+    nights = Nights(folder + "/state", make_root(folder + "/root"))
+    write(nights.root + "/o/v1/content/b", "b")
+    mail = mailing(folder)
+    is_so("sent", told(nights, 1, night_alone(nights, 1), **mail)[0], 0)
+    is_so("by mail", (read(folder + "/mailed") or "").count(WRONG_B), 1)
+    os.remove(folder + "/mailed")
+    write(nights.root + "/o/v1/content/b", "")
+    is_so("not by the next night", (told(nights, 2, night_alone(nights, 2), **mail),
+                                    read(folder + "/mailed")), ((0, ""), None))
+    is_so("the last text is still there", (nights.has("tonight") or "").count(WRONG_B) <= 1, True)
+
+
+def no_text(folder):
+    """A night of which there is no text is not said to have one in the journal."""
+    nights = Nights(folder + "/state", make_root(folder + "/root"))
+    write(nights.root + "/o/v1/content/b", "b")
+    night_alone(nights, 1)
+    told(nights, 1, 1)
+    said = told(nights, 1, 1)[1]
+    is_so("a second call", ("sent already" in said, "The journal has the text" in said),
+          (True, False))
+
+
+def names(folder):
+    """No byte of a name makes a line of its own, in a header or in a text, or controls a
+    terminal."""
+    nights = Nights(folder + "/state", make_root(folder + "/root"))
+    write(folder + "/bin/mail", '#!/bin/sh\nprintf "%%s\\n" "$2" > %s/subject; cat > %s/body\n'
+          % (folder, folder), 0o755)
+    mail = {"PATH": folder + "/bin:" + os.environ["PATH"], "MAIL": "her@example.org"}
+    for name, shown in [("x\nBcc: evil@example.org", "x%0ABcc: evil@example.org"),
+                        ("x\r\nSubject: y", "x%0D%0ASubject: y"), ("\033[2Jx", "%1B[2Jx"),
+                        ("a \u00fc\u009b%41\t", "a %C3%BC%C2%9B%2541%09"), ("-n", "-n"), ("x\\n", "x\\n")]:
+        for text in ["", "1 finding\n"]:
+            write(nights.path("tonight"), text)
+            words = [CONTRIB + "/tell", name, nights.state]
+            ran(words, EXIT_CODE="exited", EXIT_STATUS="1", **mail)
+            is_so("the subject of %r" % name, read(folder + "/subject"),
+                  "ocfl-scrub: findings in %s\n" % shown)
+            is_so("no such byte in its text", [part in (read(folder + "/body") or "") for part in [
+                "\nBcc", "\r", "\033", "\u009b", "\nSubject"]], [False] * 5)
+            said = ran(words, EXIT_CODE="exited", EXIT_STATUS="1", MAIL="")[2]
+            is_so("nor in the journal", said.splitlines()[:1],
+                  ["ocfl-scrub: findings in " + shown])
+
+
+def of_parts(folder):
+    """The same of the nights of all parts: what tells of them is killed, and made again."""
+    nights = Nights(folder + "/state", make_root(folder + "/root"))
+    write(nights.root + "/o/v1/content/b", "b")
+    common_words = ["--state", nights.state]
+    numbers = ran([CONTRIB + "/parallel/begin", "--parts", "1", *common_words, nights.root])[1]
+    for number in numbers.split():
+        ran([CONTRIB + "/parallel/part", "--part", number, *common_words, nights.root])
+    end = [CONTRIB + "/parallel/end", "--for-tell", *common_words, nights.root]
+    status = ran(end, INVOCATION_ID="night1")[0]
+    is_so("found in a part", (status, told(nights, 1, status, **given_up(
+        folder, "kill -KILL $PPID\n"))[0] != 0), (1, True))
+    status = ran(end, INVOCATION_ID="night2")[0]
+    told(nights, 2, status, **mailing(folder))
+    is_so("sent at last", (read(folder + "/mailed") or "").count(WRONG_B), 1)
+
+
+PARTS = [by_hand, once, of_this_night, a_word_of_a_good_night, links, as_the_user, not_sent, sent,
+         no_text, names, of_parts]
 
 
 def tell(folder):

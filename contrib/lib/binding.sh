@@ -35,9 +35,12 @@ describe_root() {
 $declared
 TEXT
   ) && path=$(realpath -- "$root") && sum=$(sha256sum < "$names") || return 1
+  # What `sha256sum` says of the declaration, for the statement; where there are several, of all.
+  bytes_of=$(cat -- "$root"/0=ocfl_* | sha256sum) || return 1
   put_in_line "$path"
   {
     printf 'path\t%s\ndeclaration\t%s\n' "$line" "${declared%% *}" \
+      && printf 'declared\t%s\n' "${bytes_of%% *}" \
       && printf 'names\t%s %s\n\n' "$(wc -l < "$names")" "${sum%% *}" && cat -- "$names"
   } > "$scratch/root"
 }

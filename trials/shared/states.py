@@ -72,8 +72,8 @@ class State:
     def __init__(self, path, root="/srv/ocfl", declaration="d" * 64):
         self.path, self.log = path, []
         self.spent = self.files = 0
-        write(path + "/root", "path\t%s\ndeclaration\t%s\nnames\t1 %s\n\no\n"
-              % (root, declaration, NOTHING))
+        write(path + "/root", "path\t%s\ndeclaration\t%s\ndeclared\t%s\nnames\t1 %s\n\no\n"
+              % (root, NOTHING, declaration, NOTHING))
 
     def row(self, began, status, cycle, run, lines, cost, said, stands, night, files=1):
         self.log.append((began, status, cycle, run, lines, cost, said, self.spent, self.files, 60,

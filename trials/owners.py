@@ -1,0 +1,170 @@
+#!/usr/bin/env python3
+"""Tries what scripts do in the folder of another user, who can put links and files into it: what
+root calls there reads and writes nothing that this user may not. And what scripts do with links in
+a folder of one's own.
+
+usage: owners.py [PART]...
+
+What only root can try is skipped and named where another user runs it.
+"""
+import os
+import shutil
+
+import common
+from common import PROGRAM, is_so
+from shared.nights import CONTRIB, Nights, make_root, ran, read, tried_apart, write
+
+NOBODY = 65534
+SECRET = "E092\tsecret\t-\n"
+
+
+class Other:
+    """The folder of state of another user, with a whole cycle; the scripts and the program where
+    that user can reach them; and a file that root alone may read."""
+
+    def __init__(self, folder):
+        for at in [folder, os.path.dirname(folder)]:
+            os.chmod(at, 0o755)
+        self.folder, self.scripts = folder, folder + "/contrib"
+        shutil.copytree(CONTRIB, self.scripts)
+        self.program = shutil.copy(PROGRAM, folder + "/program")
+        self.secret = folder + "/secret"
+        write(self.secret, SECRET, 0o600)
+        os.mkdir(folder + "/of-nobody")
+        os.mkdir(folder + "/tmp", 0o777)
+        os.chmod(folder + "/tmp", 0o1777)
+        os.chown(folder + "/of-nobody", NOBODY, NOBODY)
+        self.nights = Nights(folder + "/of-nobody/state", make_root(folder + "/root"))
+        self.calls("nightly", "--state", self.nights.state, "--budget", "1K", self.nights.root,
+                   user=NOBODY)
+
+    def calls(self, name, *words, user=0, **given):
+        """What a script gives as root, or as a user."""
+        before = ["setpriv", "--reuid", str(user), "--regid", str(user), "--clear-groups"]
+        return ran([*(before if user else []), "%s/%s" % (self.scripts, name), *words],
+                   OCFL_SCRUB=self.program, TMPDIR=self.folder + "/tmp", **given)
+
+    def link(self, name, to=None):
+        """Puts a link into the folder, as its user can."""
+        path = self.nights.path(name)
+        if os.path.lexists(path):
+            os.remove(path)
+        os.symlink(to or self.secret, path)
+        os.chown(path, NOBODY, NOBODY, follow_symlinks=False)
+
+    def is_safe(self, name):
+        is_so("the file of root after " + name, (read(self.secret), os.stat(self.secret).st_uid),
+              (SECRET, 0))
+
+    def owners(self):
+        """The users whose the files of the folder are."""
+        found = set()
+        for where, folders, names in os.walk(self.nights.state):
+            found |= {os.lstat(os.path.join(where, name)).st_uid for name in folders + names}
+        return found
+
+
+def writing(folder):
+    """Links in the place of what scripts write."""
+    other = Other(folder)
+    state, root = other.nights.state, other.nights.root
+    is_so("a night of the user", sorted(os.listdir(state + "/reports"))[0], "cycle-000001")
+    for name in ["statement-000001", "statement-000001.json"]:
+        os.remove(other.nights.path("reports/" + name))
+        for end in ["", ".new"]:
+            other.link("reports/" + name + end)
+        other.calls("reports/statement", state, "1")
+        other.is_safe("a statement in the place of " + name)
+        for end in ["", ".new"]:
+            os.remove(other.nights.path("reports/" + name + end))
+    is_so("a statement as root", (other.calls("reports/statement", state, "1")[0], os.stat(
+        other.nights.path("reports/statement-000001")).st_uid), (0, NOBODY))
+    before = common.snapshot(state)
+    for name, words in [("nightly", ["--state", state, "--budget", "1K", root]),
+                        ("rotate", [state]),
+                        ("parallel/nightly", ["--jobs", "1", "--parts", "2", "--state", state,
+                                              "--budget", "1K", root]),
+                        ("parallel/begin", ["--parts", "2", "--state", state, root]),
+                        ("parallel/part", ["--part", "1", "--state", state, root]),
+                        ("parallel/end", ["--state", state, root])]:
+        status, out, said = other.calls(name, *words)
+        is_so("%s as root" % name, (status, out, "belongs to the user" in said), (3, "", True))
+    is_so("nothing in the folder has changed", common.snapshot(state) == before, True)
+    is_so("all of it is the user's", other.owners(), {NOBODY})
+    for name in ["root.new", "nights", "report", "tonight"]:
+        other.link(name)
+    other.calls("nightly", "--state", state, "--budget", "1K", root)
+    other.is_safe("a night of root")
+
+
+def reading(folder):
+    """Links in the place of what scripts read: nothing of what they lead to is shown."""
+    other = Other(folder)
+    state = other.nights.state
+    report = other.nights.path("reports/cycle-000001")
+    for name in ["reports/cycle-000001", "reports/cycle-000002", "report", "reports/gone-000001",
+                 "nights", "root", "reports/statement-000001"]:
+        kept = common.read(other.nights.path(name)) if os.path.exists(
+            other.nights.path(name)) else None
+        other.link(name)
+        for words in [["status", "--list", state], ["reports/findings", report],
+                      ["reports/findings", other.nights.path("report")],
+                      ["reports/totals", report], ["reports/to-json", report],
+                      ["reports/verify-statement", other.nights.path("reports/statement-000001")],
+                      ["reports/premis", "--each", "finding", state, "1"],
+                      ["reports/unverified", "2030-01-01", state],
+                      ["reports/database", state, folder + "/tmp/db"]]:
+            said = other.calls(*words)
+            is_so("%s with a link as %s" % (words[0], name), [
+                "secret" in text.replace(other.secret, "") for text in said[1:]], [False, False])
+            if os.path.exists(folder + "/tmp/db"):
+                is_so("the database has nothing of it", b"secret" in common.read(
+                    folder + "/tmp/db"), False)
+                os.remove(folder + "/tmp/db")
+        os.remove(other.nights.path(name))
+        if kept is not None:
+            write(other.nights.path(name), kept)
+            os.chown(other.nights.path(name), NOBODY, NOBODY)
+    is_so("without links root has its answers", [other.calls(*words)[0] for words in [
+        ["status", "--age", "-,-", state], ["reports/totals", report],
+        ["reports/verify-statement", other.nights.path("reports/statement-000001")]]], [0, 0, 0])
+
+
+def links_of_ones_own(folder):
+    """No link in a folder of state is followed, whoever calls."""
+    nights = Nights(folder + "/state", make_root(folder + "/root"))
+    nights.cycle()
+    secret = folder + "/secret"
+    write(secret, SECRET)
+    report, statement = nights.path("reports/cycle-000001"), nights.path(
+        "reports/statement-000001")
+    for name in ["reports/cycle-000001", "nights"]:
+        kept = common.read(nights.path(name))
+        os.remove(nights.path(name))
+        os.symlink(secret, nights.path(name))
+        status, out, _ = ran([CONTRIB + "/status", "--list", nights.state])
+        is_so("status with a link as " + name, (status, "secret\t" in out), (3, False))
+        os.remove(nights.path(name))
+        write(nights.path(name), kept)
+    os.rename(report, folder + "/report")
+    os.symlink(folder + "/report", report)
+    is_so("verify-statement", ran([CONTRIB + "/reports/verify-statement", statement])[0], 3)
+    os.remove(statement)
+    is_so("a statement", ran([CONTRIB + "/reports/statement", nights.state, "1"])[0:2], (3, ""))
+    os.remove(report)
+    os.rename(folder + "/report", report)
+    os.symlink(secret, statement + ".new")
+    is_so("a new statement", ran([CONTRIB + "/reports/statement", nights.state, "1"])[0:2], (0, ""))
+    is_so("what the link led to", (read(secret), os.path.islink(statement)), (SECRET, False))
+
+
+PARTS = [links_of_ones_own] + ([writing, reading] if os.geteuid() == 0 else [])
+
+
+def tell(folder):
+    if os.geteuid() != 0:
+        print("owners.py: skipped: what root calls: this is not root")
+    tried_apart(PARTS, folder)
+
+
+common.trial(tell)

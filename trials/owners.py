@@ -30,10 +30,11 @@ class Other:
         self.program = shutil.copy(PROGRAM, folder + "/program")
         self.secret = folder + "/secret"
         write(self.secret, SECRET, 0o600)
-        os.mkdir(folder + "/of-nobody")
+        os.makedirs(folder + "/of-nobody/state")
         os.mkdir(folder + "/tmp", 0o777)
         os.chmod(folder + "/tmp", 0o1777)
-        os.chown(folder + "/of-nobody", NOBODY, NOBODY)
+        for at in ["/of-nobody", "/of-nobody/state"]:
+            os.chown(folder + at, NOBODY, NOBODY)
         self.nights = Nights(folder + "/of-nobody/state", make_root(folder + "/root"))
         self.calls("nightly", "--state", self.nights.state, "--budget", "1K", self.nights.root,
                    user=NOBODY)

@@ -178,7 +178,8 @@ def not_sent(folder):
         mail = mailing(there)
         is_so(name + ": sent", (told(nights, 2, status, **mail)[0],
                                 (read(there + "/mailed") or "").count(WRONG_B)), (0, 1))
-        os.remove(there + "/mailed") if os.path.exists(there + "/mailed") else None
+        if os.path.exists(there + "/mailed"):
+            os.remove(there + "/mailed")
         status = night_alone(nights, 3)
         told(nights, 3, status, **mail)
         is_so(name + ": once", (status, read(there + "/mailed")), (0, None))
@@ -209,6 +210,20 @@ def no_text(folder):
           (True, False))
 
 
+def not_begun(folder):
+    """A night that systemd could not begin is told, though it has no status."""
+    nights = Nights(folder + "/state", make_root(folder + "/root"))
+    nights.cycle()
+    given = {"EXIT_CODE": "", "EXIT_STATUS": "", "INVOCATION_ID": "night1", "MAIL": ""}
+    said = ran(tell_words(nights), SERVICE_RESULT="resources", **given)[2]
+    is_so("a night that did not begin", said.splitlines()[:1],
+          ["ocfl-scrub: archive: the night did not begin (resources)"])
+    is_so("a good night", ran(tell_words(nights), SERVICE_RESULT="success", **{
+        **given, "EXIT_CODE": "exited", "EXIT_STATUS": "0"}), (0, "", ""))
+    unit = read(CONTRIB + "/systemd/ocfl-scrub@.service")
+    is_so("no night is left out without a word", re.findall("(?m)^Condition.*", unit), [])
+
+
 def names(folder):
     """No byte of a name makes a line of its own, in a header or in a text, or controls a
     terminal."""
@@ -218,7 +233,8 @@ def names(folder):
     mail = {"PATH": folder + "/bin:" + os.environ["PATH"], "MAIL": "her@example.org"}
     for name, shown in [("x\nBcc: evil@example.org", "x%0ABcc: evil@example.org"),
                         ("x\r\nSubject: y", "x%0D%0ASubject: y"), ("\033[2Jx", "%1B[2Jx"),
-                        ("a \u00fc\u009b%41\t", "a %C3%BC%C2%9B%2541%09"), ("-n", "-n"), ("x\\n", "x\\n")]:
+                        ("a \u00fc\u009b%41\t", "a %C3%BC%C2%9B%2541%09"), ("-n", "-n"),
+                        ("x\\n", "x\\n")]:
         for text in ["", "1 finding\n"]:
             write(nights.path("tonight"), text)
             words = [CONTRIB + "/tell", name, nights.state]
@@ -250,7 +266,7 @@ def of_parts(folder):
 
 
 PARTS = [by_hand, once, of_this_night, a_word_of_a_good_night, links, as_the_user, not_sent, sent,
-         no_text, names, of_parts]
+         no_text, not_begun, names, of_parts]
 
 
 def tell(folder):

@@ -147,6 +147,19 @@ def links_of_ones_own(folder):
         is_so("status with a link as " + name, (status, "secret\t" in out), (3, False))
         os.remove(nights.path(name))
         write(nights.path(name), kept)
+    for name in ["report", "nights", "root", "lock", "reports"]:
+        kept = nights.path(name) + ".kept"
+        if os.path.exists(nights.path(name)):
+            os.rename(nights.path(name), kept)
+        os.symlink(secret, nights.path(name))
+        for words in [nights.words("1K"), [CONTRIB + "/rotate", nights.state]]:
+            status, _, said = ran(words)
+            is_so("%s with a link as %s" % (os.path.basename(words[0]), name),
+                  (status, nights.path(name) + " is a link" in said), (3, True))
+        os.remove(nights.path(name))
+        if os.path.exists(kept):
+            os.rename(kept, nights.path(name))
+    is_so("what the links led to", read(secret), SECRET)
     os.rename(report, folder + "/report")
     os.symlink(folder + "/report", report)
     is_so("verify-statement", ran([CONTRIB + "/reports/verify-statement", statement])[0], 3)

@@ -53,7 +53,9 @@ THEN = {
 }
 # What differs from one run to the next.
 MASKS = [(r"\d{4}-\d\d-\d\dT\d\d:\d\d:\d\dZ", "TIME"), (r"\d{4}-\d\d-\d\d", "DAY"),
-         (r"age=\d+s", "age=s"), (r"(?m)^(Host|Program commit|Program SHA-256): .*", r"\1: .")]
+         (r"age=\d+s", "age=s"),
+         (r"(?m)^(Host|State folder|Program commit|Program SHA-256): .*", r"\1: ."),
+         (r"(?m)^(Programs of its runs, SHA-256): .*", r"\1: .")]
 # Folders of the system that a page names.
 SYSTEM = re.compile(r"(?<![\w.~/])/(?=(?:tmp|srv|usr/local|var/lib|mnt|etc)\b)")
 # Others: a command that names one is not run.

@@ -105,6 +105,7 @@ hold_state() {
   umask 027
   make_state
   state=$(CDPATH='' cd -- "$state" && pwd -P) || exit 3
+  refuse_links_in "$state"
   if [ -n "$own" ]; then own=$state/${own##*/}; fi
   printf '' >> "$state/lock" || stop "$state/lock cannot be written"
   exec 9>> "$state/lock"

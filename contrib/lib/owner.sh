@@ -43,3 +43,8 @@ refuse_links() {
     exit 3
   done
 }
+
+# The same of all that a night writes into a folder of state. A cursor is renamed into its place.
+refuse_links_in() {
+  for name in lock nights root report reports part parts; do refuse_links "$1/$name"; done
+}

@@ -20,8 +20,6 @@ from gate.repository import TOP, below, copy_to, crates
 
 # How long the proof of a crate may take, and the check of each edit, in seconds.
 PROOF_LIMIT, EDIT_LIMIT = 7200, 900
-# What a check takes of memory, in bytes.
-MEMORY = 3_000_000_000
 # What `rt` says of a refusal that says little of a contract.
 LITTLE = ("only because a proof file names what the edit took away",
           "only by a limit of the prover")
@@ -29,11 +27,6 @@ PRINTING = threading.Lock()
 # What a step gave: of each thing that it tried whether it went well and what is to be said of it,
 # and its processor seconds.
 Step = collections.namedtuple("Step", "told seconds")
-
-
-def lanes(rt):
-    """How many checks are made at once: one a processor, of which each has its memory."""
-    return max(1, min(rt.processors(), int(0.85 * rt.free()) // MEMORY))
 
 
 def try_edits(edits):

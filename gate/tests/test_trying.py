@@ -90,12 +90,5 @@ class Steps(unittest.TestCase):
         self.assertEqual(steps["ocfl_parts", "seed"], [("ocfl_report", "library")])
 
 
-class Lanes(unittest.TestCase):
-    def test_one_a_processor_where_memory_lasts(self):
-        for processors, free, made in [(4, 20e9, 4), (4, 8e9, 2), (2, 1e9, 1), (1, 99e9, 1)]:
-            rt = types.SimpleNamespace(processors=lambda: processors, free=lambda: free)
-            self.assertEqual(trying.lanes(rt), made)
-
-
 if __name__ == "__main__":
     unittest.main()

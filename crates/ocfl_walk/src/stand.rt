@@ -47,7 +47,7 @@ pub(crate) struct Stand {
 }
 
 /// Which place is next.
-#[derive(Debug, Drop)]
+#[derive(Drop)]
 pub(crate) enum Turn {
     /// The storage root.
     Base,
@@ -59,7 +59,7 @@ pub(crate) enum Turn {
 }
 
 /// What was met at an entry.
-#[derive(Debug, Drop)]
+#[derive(Drop)]
 pub(crate) struct Met {
     pub(crate) item: Option<Pending>,
     pub(crate) folder: Option<Folder>,
@@ -68,7 +68,7 @@ pub(crate) struct Met {
 }
 
 /// What a step came to.
-#[derive(Debug, Drop)]
+#[derive(Drop)]
 pub(crate) enum Step {
     Item(Pending),
     /// A place without lines.

@@ -5,7 +5,9 @@ usage: bench/proof_times.py CRATE [HOW_MANY]
 
 Proves the crate from nothing, by one process and over what is proved below it, and prints how many
 seconds passed before each module of its proof was kept, the most first. `F.Lts` is made from the
-body of the function F and grows faster than it; `F.Proof` is mostly what is searched for.
+body of the function F and grows faster than it; `F.Proof` is mostly what is searched for. The time
+of `CRATE` itself, and of a module that is small in other runs, is mostly the reading of libraries,
+which the first module that needs them waits for.
 """
 import os
 import shutil

@@ -23,19 +23,31 @@ def share(crate, edits):
     """Shares out the edits of a crate: the rounds, the largest first, and those that must be tried
     alone."""
     known = functions.functions_of(crate)
-    rounds, alone = [], []
-    for edit in edits:
-        turn = turn_of(crate, edit, known)
-        if turn is None:
-            alone.append(edit)
-            continue
+    turns = [turn_of(crate, edit, known) for edit in edits]
+    alone = [edit for edit, turn in zip(edits, turns) if turn is None]
+    rounds = fewest([turn for turn in turns if turn])
+    rounds = sorted(([turn.edit for turn in it] for it in rounds), key=len, reverse=True)
+    return [it for it in rounds if len(it) > 1], alone + [it[0] for it in rounds if len(it) == 1]
+
+
+def fewest(turns):
+    """Rounds of edits that stand apart: packed in the order of the list, or first those that fit
+    with the fewest others, whichever makes fewer rounds."""
+    others = [sum(not apart(turn, other) for other in turns) for turn in turns]
+    crowded = sorted(range(len(turns)), key=lambda at: -others[at])
+    return min(packed(turns), packed([turns[at] for at in crowded]), key=len)
+
+
+def packed(turns):
+    """Puts each edit into the first round that it fits into."""
+    rounds = []
+    for turn in turns:
         fitting = (it for it in rounds if len(it) < MOST and all(apart(turn, at) for at in it))
         found = next(fitting, None)
         if found is None:
             rounds.append(found := [])
         found.append(turn)
-    rounds = sorted(([turn.edit for turn in it] for it in rounds), key=len, reverse=True)
-    return [it for it in rounds if len(it) > 1], alone + [it[0] for it in rounds if len(it) == 1]
+    return rounds
 
 
 def turn_of(crate, edit, known):

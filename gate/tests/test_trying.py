@@ -1,15 +1,17 @@
 """Tests how edits are shared out among rounds and steps."""
+import collections
 import os
 import tempfile
 import types
 import unittest
 
-from gate import collection, rounds, trying
+from gate import rounds, trying
+from gate.collection import listed as every_listed
 from gate.repository import below, crates
 
 
 def listed(crate):
-    return [entry.edit for entry in collection.listed() if entry.edit.crate == crate]
+    return [entry.edit for entry in every_listed() if entry.edit.crate == crate]
 
 
 class Rounds(unittest.TestCase):
@@ -30,6 +32,16 @@ class Rounds(unittest.TestCase):
             self.assertEqual(len({turn.function for turn in turns}), len(turns))
             self.assertTrue(all(rounds.apart(one, other)
                                 for at, one in enumerate(turns) for other in turns[:at]))
+
+    def test_rounds_are_few(self):
+        """Of four functions in a chain of calls, the list has the ends first, which leaves the
+        two between them apart."""
+        function = collections.namedtuple("Function", "name owner body")
+        called = {"one": "two()", "two": "three()", "three": "four()", "four": ""}
+        turns = [rounds.Turn(name, it, it, []) for name in ["one", "four", "two", "three"]
+                 for it in [function(name, "", called[name])]]
+        self.assertEqual(len(rounds.packed(turns)), 3)
+        self.assertEqual(len(rounds.fewest(turns)), 2)
 
 
 class Crate:

@@ -57,14 +57,38 @@ pub(crate) fn usage_error(
 ) -> Result<clap::Error, AllocError>
     ensures { IfOk result (λ error. kind_of error ≡ ValueValidation) }
 {
-    let Some((name, inner)) = matches.subcommand() else {
-        // `clap` takes no words without a subcommand.
-        let mut command = line_command(alloc)?;
-        return command.error(ErrorKind::ValueValidation, "a subcommand is required");
-    };
+    match matches.subcommand() {
+        Some((name, inner)) => complaint_error(alloc, name, inner),
+        None => lacking_error(alloc),
+    }
+}
+
+/// The error of words without a subcommand, which `clap` does not take.
+fn lacking_error(alloc: Global) -> Result<clap::Error, AllocError>
+    ensures { IfOk result (λ error. kind_of error ≡ ValueValidation) }
+{
+    let mut command = line_command(alloc)?;
+    command.error(ErrorKind::ValueValidation, "a subcommand is required")
+}
+
+/// The error of the words of the subcommand with this name.
+fn complaint_error(
+    alloc: Global,
+    name: &str,
+    inner: &ArgMatches<'_>,
+) -> Result<clap::Error, AllocError>
+    ensures { IfOk result (λ error. kind_of error ≡ ValueValidation) }
+{
     let text = find_complaint(name, inner).text(alloc)?;
+    subcommand_error(alloc, name, text.as_str())
+}
+
+/// An error with this text and the usage of the subcommand with this name.
+fn subcommand_error(alloc: Global, name: &str, text: &str) -> Result<clap::Error, AllocError>
+    ensures { IfOk result (λ error. kind_of error ≡ ValueValidation) }
+{
     let mut command = single_command(alloc, name)?;
-    command.error(ErrorKind::ValueValidation, text.as_str())
+    command.error(ErrorKind::ValueValidation, text)
 }
 
 /// What is wrong with the words of the subcommand with this name.

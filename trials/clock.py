@@ -290,8 +290,9 @@ def pieces_of_a_long_run(folder):
         is_so(name + ": the end", nights.reports(), [ends])
 
 
-PARTS = [until_an_hour, hours_that_are_not_there, for_hours, at_least_one_file, usage, one_message, a_kill_loses_a_slice,
-         signals, grace_is_over, by_timeout, no_whole_reading, pieces_of_a_long_run]
+PARTS = [until_an_hour, hours_that_are_not_there, for_hours, at_least_one_file, usage, one_message,
+         a_kill_loses_a_slice, signals, grace_is_over, by_timeout, no_whole_reading,
+         pieces_of_a_long_run]
 
 
 def tell(folder):

@@ -70,7 +70,7 @@ def the_last_whole_one(folder):
     """--keep leaves the last whole report, with which the next one is compared."""
     nights = make_nights(folder)
     keep = ["--keep", "1"]
-    nights.night("1K", more=keep)
+    is_so("the first night", nights.night("1K", more=keep), (0, "", ""))
     nights.night("4", more=keep)
     write(nights.path("report"), nights.has("report").replace("ok", "OK"))
     status, _, said = nights.night("1K", more=keep)

@@ -259,7 +259,7 @@ unwanted_reports() {
 
 # The first cycle of which the log has rows that nobody was told of, if there is one.
 first_untold() {
-  awk -F '\t' '
+  [ ! -f "$state/nights" ] || awk -F '\t' '
     NF != 14 { next }
     $2 == "told" { first = ""; next }
     $3 > 0 && (first == "" || $3 + 0 < first + 0) { first = $3 }

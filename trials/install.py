@@ -70,6 +70,8 @@ share/ocfl-scrub/parallel/part 755
 share/ocfl-scrub/reports/bytes 755
 share/ocfl-scrub/reports/bytes.awk 644
 share/ocfl-scrub/reports/changed 755
+share/ocfl-scrub/reports/changed.awk 644
+share/ocfl-scrub/reports/closed.sh 644
 share/ocfl-scrub/reports/codes 644
 share/ocfl-scrub/reports/counts.awk 644
 share/ocfl-scrub/reports/database 755

@@ -98,9 +98,9 @@ def no_reports(folder):
     write(folder + "/text", "a text\n")
     for file in [nights.path("nights"), nights.path("reports/statement-000001"), folder + "/text"]:
         for words in [["findings"], ["findings", "--by-weight"], ["totals"], ["bytes"],
-                      ["to-json"]]:
+                      ["to-json"], ["changed", folder + "/plain"]]:
             status, out, said = ask(*words, file)
-            is_so("%s of %s" % (" ".join(words), os.path.basename(file)),
+            is_so("%s of %s" % (words[0], os.path.basename(file)),
                   (status, out, said != ""), (3, "", True))
 
 
@@ -224,6 +224,7 @@ def unverified_objects(folder):
 
 def database(folder, state):
     file = folder + "/audit.db"
+    shutil.copy(state + "/reports/cycle-000001.gz", state + "/reports/cycle-000001.bak")
     is_so("database", ask("database", state, file), (0, "", ""))
     count = "select cycle, count(*) from line group by cycle"
     is_so("its lines", ran(["sqlite3", file, count])[1],

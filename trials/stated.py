@@ -188,7 +188,12 @@ def two_folders(folder):
         is_so("its folder", lines_of(nights, 1).get("State folder"),
               nights.state.replace("\n", "%0A"))
         is_so("the statement holds", verified(file_of(nights, 1))[0], 0)
-    is_so("no two events have one identifier", len(set(ids)), 4)
+    nights = Nights(folder + "/one", folder + "/root")
+    shutil.rmtree(nights.state)
+    time.sleep(1.1)
+    nights.cycle()
+    ids += re.findall("<eventIdentifierValue>(.*?)<", ask("premis", nights.state, "1")[1])
+    is_so("no two events have one identifier", (len(ids), len(set(ids))), (5, 5))
 
 
 # What is checked

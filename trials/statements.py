@@ -428,7 +428,8 @@ def premis_of(state, *words):
                     for outcome in event.findall("p:eventOutcomeInformation", NAMES)]
         link = tuple(part.text for part in event.find("p:linkingObjectIdentifier", NAMES))
         is_so("the link leads to an object", link in objects, True)
-        events.append((event.find("p:eventIdentifier", NAMES)[1].text.split(":", 3)[3],
+        identifier = event.find("p:eventIdentifier", NAMES)[1].text
+        events.append((identifier[identifier.index("cycle-"):],
                        event.find("p:eventDateTime", NAMES).text, outcomes, link))
     agents = [part.text for part in tree.iter("{%s}agentIdentifierValue" % NAMES["p"])]
     links = {part.text for part in tree.iter("{%s}linkingAgentIdentifierValue" % NAMES["p"])}

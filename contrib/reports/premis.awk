@@ -33,7 +33,7 @@ is_object_line($1, $2, $3) && ($2 "") != (object "") {
   }
 }
 
-is_finding($1) {
+NF == 3 && is_finding($1) {
   findings++
   within = is_within($2, object)
   if (each == "finding") {

@@ -4,26 +4,60 @@
 usage: launcher.py
 """
 import os
+import pty
+import re
 import shutil
 import signal
 import subprocess
 import time
 
 import common
-from common import is_so, read, write
+from common import is_so, write
 
-# It notes how it was called to prove all, and makes a program that shows its words and ends with 7.
+
+def read(path):
+    return common.text_of(common.read(path))
+
+
+# The kit that README names, by its logic.
+LOGIC = re.search(r"`logic (\w+)`", read(os.path.join(common.TOP, "README.md")))[1]
+CRATES = b"# lowest first\nlow:\nmiddle: low\nocfl_tests: low\nocfl_scrub_cli: middle\n"
+PROVED = ["low", "middle", "ocfl_scrub_cli"]
+# What stands for the command `rt`. It proves these crates, and makes a program that shows its words
+# and ends with 7; counts how often it did; and does a look as `rt try` does.
 RT = b"""#!/bin/sh
-if [ "$1" = all ]; then
-  echo "$*" >> "$COUNT"
-  [ "$RT_FAILS" = "" ] || { echo "not proved"; exit 1; }
-  [ "$RT_WAITS" = "" ] || sleep 30
-  exit 0
-fi
-mkdir -p out
-printf '#!/bin/sh\\necho "$*"\\nexit 7\\n' > out/ocfl_scrub_cli
-chmod 755 out/ocfl_scrub_cli
-"""
+case $1 in
+  version) echo "${RT_KIT-rattle-kit-99 logic %s}" ;;
+  all)
+    shift
+    echo "$*" >> "$JOBS"
+    for name in low middle ocfl_scrub_cli; do
+      printf '== %%s\\nfn of %%s: proved\\n' "$name" "$name"
+      [ "$name" != middle ] || [ "$RT_FAILS" = "" ] || { echo "fn x: not proved"; exit 1; }
+    done ;;
+  run)
+    echo built >> "$COUNT"
+    [ "$RT_FAILS" = "" ] || { echo "fn x: not proved"; exit 1; }
+    [ "$RT_WAITS" = "" ] || { echo $$ > "$COUNT.pid"; exec sleep 30; }
+    mkdir -p out
+    printf '#!/bin/sh\\necho "$*"\\nexit 7\\n' > out/ocfl_scrub_cli
+    chmod 755 out/ocfl_scrub_cli ;;
+  try)
+    while [ "$1" != -- ]; do shift; done
+    shift
+    printf '%%s\\n' "$@"
+    echo "ocfl-scrub: said by the program" >&2
+    echo "interpreter: no-answer: a call of a function is not supported" >&2
+    if [ "$RT_ENDS" = "" ]; then
+      echo "checked: no-answer: ${RT_SAYS-the program did not end within the time limit}" >&2
+      echo "run=no-answer proved=no" >&2
+      exit 6
+    fi
+    echo "checked: ended status=$RT_ENDS" >&2
+    echo "run=ended status=$RT_ENDS runners=1 proved=no" >&2
+    exit "$RT_ENDS" ;;
+esac
+""" % LOGIC.encode()
 
 
 class Copy:
@@ -34,7 +68,7 @@ class Copy:
         self.crate = os.path.join(self.top, "crates/ocfl_scrub_cli")
         self.program = os.path.join(self.crate, "out/ocfl_scrub_cli")
         self.source = write(os.path.join(self.crate, "src/main.rt"), b"")
-        write(os.path.join(self.top, "crates.txt"), b"")
+        write(os.path.join(self.top, "crates.txt"), CRATES)
         self.launcher = os.path.join(self.top, "ocfl-scrub")
         shutil.copy(os.path.join(common.TOP, "ocfl-scrub"), self.launcher)
         self.logs = os.path.join(folder, "logs")
@@ -42,8 +76,9 @@ class Copy:
         rt = write(os.path.join(folder, "bin/rt"), RT)
         os.chmod(rt, 0o755)
         self.count = write(os.path.join(folder, "count"), b"")
+        self.jobs = write(os.path.join(folder, "jobs"), b"")
         path = "%s:/usr/bin:/bin" % os.path.dirname(rt)
-        self.how = {"PATH": path, "TMPDIR": self.logs, "COUNT": self.count}
+        self.how = {"PATH": path, "TMPDIR": self.logs, "COUNT": self.count, "JOBS": self.jobs}
 
     def called(self, words, launcher=None, cwd=None, before=(), **more):
         """Status, output, what was said, and how often it was built until now."""
@@ -63,38 +98,141 @@ def age(path):
 
 
 def no_toolchain(copy):
+    """What is missing is the last thing said: a night passes on no more than that."""
     status, out, said, builds = copy.called(["audit"], PATH="/usr/bin:/bin")
-    is_so("no toolchain", (status, out, builds, "command rt" in said, "README.md" in said),
-          (3, "", 0, True, True))
+    last = said.splitlines()[-1]
+    is_so("no toolchain", (status, out, builds), (3, "", 0))
+    is_so("no toolchain: the reason comes last",
+          [part in last for part in ["it is not built", "command rt is not found", "README.md"]],
+          [True, True, True])
+    for name, kit in [("another kit", "rattle-kit-13b logic 0123456789abcdef"),
+                      ("a kit whose logic begins so", "rattle-kit-99 logic %s0" % LOGIC),
+                      ("a kit without a name", "")]:
+        status, out, said, builds = copy.called(["audit"], RT_KIT=kit)
+        is_so(name, (status, out, builds), (3, "", 0))
+        is_so(name + ": it is named, and so is what is wanted",
+              [len(said.splitlines()), kit in said, "logic %s:" % LOGIC in said,
+               "README.md" in said], [1, True, True, True])
 
 
 def fails(copy):
     status, out, said, builds = copy.called(["audit"], RT_FAILS="1")
-    is_so("a build that fails", (status, out, builds, "not proved" in said), (3, "", 1, True))
+    is_so("a build that fails", (status, out, builds, "fn x: not proved" in said),
+          (3, "", 0, True))
+    is_so("it shows nothing that was proved", "fn of" in said, False)
     is_so("it leaves no log", os.listdir(copy.logs), [])
 
 
+def is_running(pid):
+    return os.path.exists("/proc/%d" % int(pid or 0))
+
+
 def stopped(copy):
-    """A build that is stopped leaves no log, and the next call builds."""
-    process = subprocess.Popen([copy.launcher, "audit"], stderr=subprocess.PIPE,
-                               env={**copy.how, "RT_WAITS": "1"}, start_new_session=True)
-    while copy.builds() < 2:
-        time.sleep(0.01)
-    os.killpg(process.pid, signal.SIGTERM)
-    process.communicate(timeout=60)
-    is_so("a build that is stopped", (process.returncode, os.listdir(copy.logs)), (3, []))
+    """A build that is stopped leaves no log and nothing that runs, and the next call builds."""
+    for name, stop in [("the group", os.killpg), ("the launcher alone", os.kill)]:
+        write(copy.count + ".pid", b"")
+        process = subprocess.Popen([copy.launcher, "audit"], stderr=subprocess.PIPE,
+                                   env={**copy.how, "RT_WAITS": "1"}, start_new_session=True)
+        end = time.monotonic() + 20
+        while not read(copy.count + ".pid").endswith("\n") and time.monotonic() < end:
+            time.sleep(0.01)
+        stop(process.pid, signal.SIGTERM)
+        process.communicate(timeout=60)
+        is_so("a build of which %s is stopped" % name,
+              (process.returncode, os.listdir(copy.logs), is_running(read(copy.count + ".pid"))),
+              (3, [], False))
 
 
 def builds_once(copy):
+    write(copy.jobs, b"")
     status, out, said, builds = copy.called(["one", "two words"])
     is_so("it builds, and hands on words and status", (status, out, builds),
           (7, "one two words\n", 3))
-    is_so("it says so", ["about 40 minutes" in said, copy.logs in said], [True, True])
+    is_so("it says so", [part in said for part in [
+        "it is not built.", "30 minutes", copy.launcher + " --unproved audit ROOT", copy.logs,
+        "README.md"]], [True] * 5)
+    is_so("where there is no terminal, each crate that is proved has its line",
+          [line.split(": ")[1:] for line in said.splitlines() if " proved, " in line],
+          [["%d of 3 crates proved, 0 minutes so far" % (at + 1), name]
+           for at, name in enumerate(PROVED)])
+    is_so("it proves crates side by side", fits_machine(read(copy.jobs)), True)
     is_so("it leaves no log behind it", os.listdir(copy.logs), [])
-    words = read(copy.count).decode().split("\n")[-2].split()
-    is_so("it proves crates side by side", words[:3], ["all", "check", "--jobs"])
-    is_so("as many as there are processors", 1 <= int(words[3]) <= os.cpu_count(), True)
     is_so("it builds once", copy.called(["again"]), (7, "again\n", "", 3))
+
+
+def fits_machine(words):
+    """Whether so many crates are proved at once as there are processors, or fewer for memory."""
+    jobs = int(re.fullmatch(r"check --jobs (\d+)\n", words)[1])
+    most = len(os.sched_getaffinity(0))
+    room = int(re.search(r"MemAvailable: +(\d+)", read("/proc/meminfo"))[1]) / 3e6
+    return 1 <= jobs <= most and (jobs == most or jobs < room + 2)
+
+
+def chosen_jobs(copy):
+    os.remove(copy.program)
+    write(copy.jobs, b"")
+    is_so("RT_JOBS says how many crates at once", copy.called(["x"], RT_JOBS="1")[0], 7)
+    is_so("so many are proved at once", read(copy.jobs), "check --jobs 1\n")
+
+
+def on_a_terminal(copy):
+    """There the progress is one line, which is gone in the end."""
+    os.remove(copy.program)
+    ours, theirs = pty.openpty()
+    process = subprocess.Popen([copy.launcher, "x"], stdout=subprocess.PIPE, stderr=theirs,
+                               stdin=subprocess.DEVNULL, env=copy.how)
+    os.close(theirs)
+    sent = b""
+    while part := read_some(ours):
+        sent += part
+    out = process.communicate(timeout=60)[0]
+    os.close(ours)
+    lines = sent.decode().replace("\r\n", "\n").split("\n")
+    is_so("on a terminal", (process.returncode, out, len(lines)), (7, b"x\n", 4))
+    shown = [part.rstrip() for part in lines[-1].split("\r")]
+    is_so("on a terminal: how far it is", "ocfl-scrub: 3 of 3 crates proved, 0 minutes so far, "
+          "compiling" in shown, True)
+    is_so("on a terminal: it fits into a line", max(len(part) for part in shown) < 80, True)
+    is_so("on a terminal: nothing of it is left", shown[-2:], ["", ""])
+
+
+def read_some(terminal):
+    try:
+        return os.read(terminal, 65536)
+    except OSError:
+        return b""
+
+
+def unproved(folder, copy):
+    """A look hands on the report, what the program said, and its status, and builds nothing."""
+    root = os.path.join(folder, "a root")
+    os.mkdir(root)
+    before = copy.builds()
+    for name, words, cwd, given in [
+        ("a look", [root], "/", [root]),
+        ("a look at a relative root", ["a root"], folder, [root]),
+        ("a look at one object", ["--under", "a root", "."], folder,
+         ["--under", "a root", folder + "/."]),
+    ]:
+        for status in [0, 1, 3]:
+            done = copy.called(["--unproved", "audit", *words], cwd=cwd, RT_ENDS=str(status))
+            is_so("%s, status %d" % (name, status), done[:2] + done[3:],
+                  (status, "".join(word + "\n" for word in ["audit", *given]), before))
+            is_so("%s, status %d: what is said" % (name, status),
+                  ["nothing is proved" in done[2], "ocfl-scrub: said by the program\n" in done[2],
+                   "unproved program\n" in done[2], "no-answer" in done[2], "run=" in done[2]],
+                  [True, True, True, False, False])
+    status, _, said, _ = copy.called(["--unproved", "audit", root])
+    is_so("a look that takes too long", (status, "did not end in" in said), (3, True))
+    status, _, said, _ = copy.called(["--unproved", "audit", root], RT_SAYS="it broke")
+    is_so("a look without an answer", (status, "it broke" in said), (3, True))
+    for words in [[], ["audit"], ["audit", root, "--quiet"], ["check", root], ["audit", "gone"]]:
+        status, out, said, _ = copy.called(["--unproved", *words])
+        is_so("--unproved %s" % words, (status, out, "--unproved takes audit" in said),
+              (2, "", True))
+    said = copy.called(["--unproved", "audit", root], PATH="/usr/bin:/bin")[2]
+    is_so("a look without a toolchain", "command rt is not found" in said, True)
+    is_so("a look leaves nothing behind it", os.listdir(copy.logs), [])
 
 
 def from_anywhere(folder, copy):
@@ -142,10 +280,13 @@ def tell(folder):
     copy = Copy(folder)
     no_toolchain(copy)
     fails(copy)
+    unproved(folder, copy)
     stopped(copy)
     builds_once(copy)
     from_anywhere(folder, copy)
     builds_anew(copy)
+    chosen_jobs(copy)
+    on_a_terminal(copy)
 
 
 common.trial(tell)

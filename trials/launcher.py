@@ -149,7 +149,7 @@ def builds_once(copy):
     is_so("it builds, and hands on words and status", (status, out, builds),
           (7, "one two words\n", 3))
     is_so("it says so", [part in said for part in [
-        "it is not built.", "30 minutes", copy.launcher + " --unproved audit ROOT", copy.logs,
+        "it is not built.", "30 to 40 minutes", copy.launcher + " --unproved audit ROOT", copy.logs,
         "README.md"]], [True] * 5)
     is_so("where there is no terminal, each crate that is proved has its line",
           [line.split(": ")[1:] for line in said.splitlines() if " proved, " in line],

@@ -37,12 +37,18 @@ NO_COMMANDS = {
     "[Service]": "lines of a unit",
     "[Unit]": "lines of a unit",
     "reports/statement --seal ": "needs keys, which trials/statements.py makes",
+    "E092\t": "a line of a report",
 }
 # Statuses of commands that may end otherwise than with 0: the sample has a damaged file.
-ENDS = [(r"xargs .*\n.*ocfl-scrub audit ", {0, 123}),
-        (r"ocfl-scrub (audit|run|check) |/nightly |zdiff ", {0, 1}), (r"/status ", {2})]
+ENDS = [(r"# still E092", {1}), (r"# ok$|# the rest of its object", {0}),
+        (r"xargs .*\n.*ocfl-scrub audit ", {0, 123}),
+        (r"ocfl-scrub (--unproved )?(audit|run|check) |/nightly |zdiff ", {0, 1}),
+        (r"/status ", {2})]
 # What else a user has done before the further commands of a page, which need two whole cycles.
 THEN = {
+    "./nightly --state ~/audit --until 06:00 /srv/ocfl": [
+        "mkdir -p /mnt/copy/letters/v1/content",
+        "echo 'Yours sincerely' > /mnt/copy/letters/v1/content/damaged.txt"],
     "./nightly --state ~/audit --hours 1 /srv/ocfl": [
         "./nightly --state ~/audit --hours 1 /srv/ocfl",
         "./nightly --state ~/audit --budget 10 /srv/ocfl",
@@ -85,31 +91,36 @@ class Session:
                      "etc/systemd/system"]:
             os.makedirs(os.path.join(self.folder, name))
         self.clone = make_clone(self.folder + "/clone")
-        path = "%s/usr/local/bin:%s" % (self.folder, os.environ["PATH"])
-        self.how = {**os.environ, "HOME": self.folder + "/home", "PATH": path}
+        home = self.folder + "/home"
+        path = "%s/.local/bin:%s/usr/local/bin:%s" % (home, self.folder, os.environ["PATH"])
+        self.how = {**os.environ, "HOME": home, "PATH": path, "TMPDIR": self.folder + "/tmp"}
         self.how.pop("OCFL_SCRUB", None)
         self.call("./clone/samples/make /srv/ocfl", self.folder)
         self.at = self.folder + at
 
     def here(self, text):
-        """What a page shows, with the folders of the trial."""
-        return SYSTEM.sub(self.folder + "/", text)
+        """What a page shows, with the folders of the trial. The clone has the proved program, and
+        no sources for a look."""
+        return SYSTEM.sub(self.folder + "/", text).replace("ocfl-scrub --unproved ", "ocfl-scrub ")
 
     def call(self, command, at=None):
-        """Status and output of a command, in the folder that the one before left."""
+        """Status and output of a command, in the folder that the one before left, with the
+        variable `root` as it left that."""
         self.at = at or self.at
-        words = ["sh", "-c", 'eval "$1"; status=$?; pwd > "$2"; exit $status', "sh",
-                 self.here(command), self.folder + "/at"]
+        words = ["sh", "-c", 'eval "$1"; status=$?; pwd > "$2"; echo "${root:-}" > "$3"; '
+                 'exit $status', "sh", self.here(command), self.folder + "/at",
+                 self.folder + "/root"]
         done = subprocess.run(words, cwd=self.at, env=self.how, stdin=subprocess.DEVNULL,
                               stdout=subprocess.PIPE, stderr=subprocess.STDOUT, timeout=600)
         self.at = read(self.folder + "/at").rstrip("\n")
+        self.how["root"] = read(self.folder + "/root").rstrip("\n")
         return done.returncode, common.text_of(done.stdout).replace(self.folder, "")
 
     def run(self, page, command, shown):
         """Runs a command of a page, and what its user does then."""
         name = "%s: %s" % (page, command.strip())
         ends = [ends for pattern, ends in ENDS if re.search(pattern, command)] or [{0}]
-        is_apart = OTHER.search(SYSTEM.sub("", command)) is None
+        is_apart = OTHER.search(SYSTEM.sub("", re.sub(r" #.*", "", command))) is None
         status, got = self.call(command) if is_apart else ("not run", "")
         if status not in ends[0]:
             is_so(name, (status, got), ends[0])

@@ -11,6 +11,7 @@ mod version;
 
 use clap::error::ErrorKind;
 use ocfl_line::{Asked, LineStop, asked};
+use progress::{Terminals, find_terminals};
 use saying::{STOPPED, USAGE, say, say_out_of_memory};
 use splits::split_root;
 use std::process::ExitCode;
@@ -56,7 +57,7 @@ where
 }
 
 /// Runs the program, and gives its exit status.
-fn run_program<R>(rt: &R) -> u8
+fn run_program<R>(rt: &R, terminals: Terminals) -> u8
 where
     R: Files + Env + AllocGlobal + Clock + Print + Eprint,
 {
@@ -72,7 +73,7 @@ where
         }
     }
     match asked(rt.alloc(), words.as_slice()) {
-        Ok(Asked::Task(task)) => do_task(rt, &task),
+        Ok(Asked::Task(task)) => do_task(rt, &task, terminals),
         Ok(Asked::Split(split)) => split_root(rt, &split),
         Err(LineStop::Usage(error)) => print_usage(rt, &error),
         Err(LineStop::Memory) => say_out_of_memory(rt),
@@ -80,5 +81,5 @@ where
 }
 
 fn main(rt: HostRuntime) -> ExitCode {
-    ExitCode::from(run_program(&rt))
+    ExitCode::from(run_program(&rt, find_terminals(&rt)))
 }

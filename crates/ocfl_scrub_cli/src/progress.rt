@@ -5,9 +5,7 @@ use ocfl_inventory::{Level, is_declaration_name};
 use ocfl_report::DisplayPlace;
 use ocfl_tree::{Entry, Kind, Place, Tree, Trouble};
 use std::alloc::AllocError;
-use std::fs;
-use std::io::{self, Write};
-use std::rt::Files;
+use std::io::{self, IsTerminal, Write};
 use std::time::{Clock, Instant};
 
 /// The work from one showing to the next, in bytes: a fifth of a second and more.
@@ -22,16 +20,19 @@ const WIDTH: usize = 79;
 /// How much of a place is shown at most, from its end.
 const TAIL: usize = 40;
 
-/// Whether an output, by its name below `/dev`, is a terminal. Where the system does not say which
-/// file it is, it is taken for none.
-pub(crate) fn is_terminal<R: Files + AllocGlobal>(rt: &R, output: &str) -> bool {
-    let Ok(path) = fs::canonicalize(rt, output) else {
-        return false;
-    };
-    let Some(name) = path.to_str() else {
-        return false;
-    };
-    name.starts_with("/dev/pts/") || name.starts_with("/dev/tty") || name == "/dev/console"
+/// Which outputs go to a terminal.
+#[derive(Clone, Copy)]
+pub(crate) struct Terminals {
+    pub(crate) output: bool,
+    pub(crate) error: bool,
+}
+
+/// Asks the system which outputs go to a terminal.
+pub(crate) fn find_terminals(rt: &HostRuntime) -> Terminals {
+    Terminals {
+        output: rt.stdout().is_terminal(),
+        error: rt.stderr().is_terminal(),
+    }
 }
 
 /// Removes what is shown.

@@ -1,7 +1,7 @@
 //! Doing a deed over a folder: its store, its cursor's file, its progress.
 
 use crate::files::{lies_inside, open_if_there, put_in_place};
-use crate::progress::{Clearing, Watched, clear, is_terminal};
+use crate::progress::{Clearing, Terminals, Watched, clear};
 use crate::saying::{STOPPED, USAGE, say, say_out_of_memory, say_stop};
 use crate::scope::read_scope;
 use ocfl_cursor::{State, read_cursor, read_part_cursor};
@@ -22,10 +22,12 @@ fn file_note(error: &io::Error) -> Note {
     }
 }
 
-/// Whether progress is shown while this is done.
-fn is_shown<R: Files + AllocGlobal>(rt: &R, task: &Task) -> bool {
+/// Which terminals show progress and share it with the report: none where no progress is shown.
+fn shown_on(task: &Task, terminals: Terminals) -> Terminals {
     let is_long = matches!(&task.deed, Deed::Audit | Deed::Run(_) | Deed::Cycle(_, _));
-    is_long && !task.quiet && is_terminal(rt, "/dev/stderr")
+    let error = is_long && !task.quiet && terminals.error;
+    let output = error && terminals.output;
+    Terminals { output, error }
 }
 
 /// The folder that the command line names, and the current one where it names none.
@@ -74,7 +76,7 @@ fn perform_over_folder<R>(
     rt: &R,
     task: &Task,
     scope: &Scope,
-    is_shown: bool,
+    shown_on: Terminals,
     block: &mut Block,
 ) -> Result<Performed, Note>
 where
@@ -83,16 +85,16 @@ where
     let Ok(folder) = FsTree::at(rt, root_of(task)) else {
         return Err(Note::OutOfMemory);
     };
-    let last_cost = if is_shown {
+    let last_cost = if shown_on.error {
         last_cost(rt, task, scope)
     } else {
         None
     };
-    let mut store = Watched::over(rt, folder, is_shown, last_cost);
+    let mut store = Watched::over(rt, folder, shown_on.error, last_cost);
     let mut reader = open_cursor(rt, task)?;
     let mut out = Clearing {
         rt,
-        is_shared: is_shown && is_terminal(rt, "/dev/stdout"),
+        is_shared: shown_on.output,
         out: io::writer(rt),
     };
     let alloc = rt.alloc();
@@ -121,27 +123,26 @@ where
 }
 
 /// Does the deed, stores its cursor, and gives the status with what is to be said.
-fn perform_and_store<R>(rt: &R, task: &Task, scope: &Scope, is_shown: bool) -> (u8, Note)
+fn perform_and_store<R>(rt: &R, task: &Task, scope: &Scope, shown_on: Terminals) -> (u8, Note)
 where
     R: Files + AllocGlobal + Clock + Print + Eprint,
 {
     let Ok(mut block) = Block::new(rt.alloc()) else {
         return (STOPPED, Note::OutOfMemory);
     };
-    match perform_over_folder(rt, task, scope, is_shown, &mut block) {
+    match perform_over_folder(rt, task, scope, shown_on, &mut block) {
         Ok(performed) => store_cursor(rt, task, performed),
         Err(note) => (STOPPED, note),
     }
 }
 
 /// Does the deed, reports on standard error, and gives the status.
-fn perform_and_report<R>(rt: &R, task: &Task, scope: &Scope) -> u8
+fn perform_and_report<R>(rt: &R, task: &Task, scope: &Scope, shown_on: Terminals) -> u8
 where
     R: Files + AllocGlobal + Clock + Print + Eprint,
 {
-    let is_shown = is_shown(rt, task);
-    let (status, note) = perform_and_store(rt, task, scope, is_shown);
-    if is_shown {
+    let (status, note) = perform_and_store(rt, task, scope, shown_on);
+    if shown_on.error {
         clear(rt);
     }
     if !matches!(note, Note::Nothing) {
@@ -169,7 +170,7 @@ fn refuse_cursor_inside<R: Files + AllocGlobal + Eprint>(rt: &R, task: &Task) ->
 }
 
 /// Does what a task asks for, and gives the exit status.
-pub(crate) fn do_task<R>(rt: &R, task: &Task) -> u8
+pub(crate) fn do_task<R>(rt: &R, task: &Task, terminals: Terminals) -> u8
 where
     R: Files + AllocGlobal + Clock + Print + Eprint,
 {
@@ -177,7 +178,7 @@ where
         return status;
     }
     match read_scope(rt, &task.chosen) {
-        Ok(scope) => perform_and_report(rt, task, &scope),
+        Ok(scope) => perform_and_report(rt, task, &scope, shown_on(task, terminals)),
         Err(stop) => say_stop(rt, &stop),
     }
 }

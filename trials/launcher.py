@@ -34,7 +34,8 @@ case $1 in
     for name in low middle ocfl_scrub_cli; do
       printf '== %%s\\nfn of %%s: proved\\n' "$name" "$name"
       [ "$name" != middle ] || [ "$RT_FAILS" = "" ] || { echo "fn x: not proved"; exit 1; }
-    done ;;
+    done
+    echo "== summary" ;;
   run)
     echo built >> "$COUNT"
     [ "$RT_FAILS" = "" ] || { echo "fn x: not proved"; exit 1; }
@@ -153,7 +154,7 @@ def builds_once(copy):
         "README.md"]], [True] * 5)
     is_so("where there is no terminal, each crate that is proved has its line",
           [line.split(": ")[1:] for line in said.splitlines() if " proved, " in line],
-          [["%d of 3 crates proved, 0 minutes so far" % (at + 1), name]
+          [["%d of 3 crates proved, 0 min so far" % (at + 1), name]
            for at, name in enumerate(PROVED)])
     is_so("it proves crates side by side", fits_machine(read(copy.jobs)), True)
     is_so("it leaves no log behind it", os.listdir(copy.logs), [])
@@ -190,7 +191,7 @@ def on_a_terminal(copy):
     lines = sent.decode().replace("\r\n", "\n").split("\n")
     is_so("on a terminal", (process.returncode, out, len(lines)), (7, b"x\n", 4))
     shown = [part.rstrip() for part in lines[-1].split("\r")]
-    is_so("on a terminal: how far it is", "ocfl-scrub: 3 of 3 crates proved, 0 minutes so far, "
+    is_so("on a terminal: how far it is", "ocfl-scrub: 3 of 3 crates proved, 0 min so far, "
           "compiling" in shown, True)
     is_so("on a terminal: it fits into a line", max(len(part) for part in shown) < 80, True)
     is_so("on a terminal: nothing of it is left", shown[-2:], ["", ""])

@@ -52,9 +52,10 @@ class Terminal:
         self.ours, self.theirs = pty.openpty()
         self.sent = b""
 
-    def ran(self, words, **outputs):
+    def ran(self, words, before=(), **outputs):
         """The status, what came by pipes, and this terminal's text."""
-        process = start(words, **{name: self.theirs for name in outputs if outputs[name]})
+        process = start(words, before,
+                        **{name: self.theirs for name in outputs if outputs[name]})
         os.close(self.theirs)
         while True:
             try:
@@ -91,6 +92,21 @@ def on_standard_error(folder, root, report):
         is_so(words[0] + ": progress", shown_on(terminal), ["2 files, 255 MiB, at " + SHOWN])
         is_so(words[0] + ": what is left on the terminal", terminal.text(), said)
         is_so(words[0] + ": it fits into a line", widest(terminal) <= 79, True)
+
+
+def without_proc(root, report):
+    """A terminal is one by what it is, also if no file system has a name for it."""
+    if os.geteuid() != 0:
+        return note_left_out("a terminal without /proc: mounting needs root")
+    hidden = ["unshare", "-m", "sh", "-c", 'mount -t tmpfs none /proc && exec "$@"', "sh"]
+    terminal = Terminal()
+    status, out, _ = terminal.ran(["audit", root], hidden, stderr=True)
+    is_so("without /proc: the report", (status, out), (0, report))
+    is_so("without /proc: progress", shown_on(terminal), ["2 files, 255 MiB, at " + SHOWN])
+
+
+def note_left_out(what):
+    print("progress.py: skipped: %s" % what, flush=True)
 
 
 def shown_on(terminal):
@@ -192,6 +208,7 @@ def tell(folder):
     is_so("without a terminal", (status, said, report.count("\n")), (0, "", 5))
     for tells in [on_standard_error, quietly, on_one_terminal, in_the_next_cycle]:
         tells(folder, root, report)
+    without_proc(root, report)
     in_an_open_cycle(folder, root)
     over_many_objects(folder)
 

@@ -21,7 +21,8 @@ def read(path):
 
 # The kit that README names, by its logic.
 LOGIC = re.search(r"`logic (\w+)`", read(os.path.join(common.TOP, "README.md")))[1]
-CRATES = b"# lowest first\nlow:\nmiddle: low\nocfl_tests: low\nocfl_scrub_cli: middle\n"
+CRATES = b"# lowest first\nlow:\nbeside: low\nmiddle: low sha2\nocfl_tests: low beside\n" \
+         b"ocfl_scrub_cli: middle\n"
 PROVED = ["low", "middle", "ocfl_scrub_cli"]
 # What stands for the command `rt`. It proves these crates, and makes a program that shows its words
 # and ends with 7; counts how often it did; and does a look as `rt try` does.

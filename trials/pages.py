@@ -87,7 +87,8 @@ class Session:
 
     def __init__(self, folder, at):
         self.folder = os.path.realpath(folder)
-        for name in ["home", "tmp", "srv", "usr/local", "var/lib", "mnt/usb",
+        # A home and a folder of states that hold nothing at all look like disks that are away.
+        for name in ["home/mail", "tmp", "srv", "usr/local", "var/lib/dpkg", "mnt/usb",
                      "etc/systemd/system"]:
             os.makedirs(os.path.join(self.folder, name))
         self.clone = make_clone(self.folder + "/clone")

@@ -20,17 +20,17 @@ use Rattle.ocfl_audit.specs.Between.{read_between}
 use Rattle.ocfl_audit.specs.Runs.{Limits, runs, joined, sum_of}
 use Rattle.ocfl_audit.proofs.ObjectLaws.{inventories_read}
 use Rattle.ocfl_audit.proofs.RunLaws.{large_whole, large_few, limits_join, limits_few}
-use Rattle.ocfl_cursor.specs.Cursor.{Cursor}
 use Rattle.ocfl_item.specs.Looking.{IsFront}
 use Rattle.ocfl_item.specs.Auditing.{Audits, Fails}
 use Rattle.ocfl_item.specs.declared.fault.Fault.{Fault}
-use Rattle.ocfl_scrub.specs.Call.{call_of}
+use Rattle.ocfl_scrub.specs.Call.{Call, call_of}
 use Rattle.ocfl_scrub.specs.Written.{places, last_of, Figures}
 use Rattle.ocfl_audit.specs.Parts.{Part, whole, within, places_within}
 use Rattle.ocfl_scrub.specs.WholeAudit.{items_in}
 use Rattle.ocfl_scrub.specs.Starting.{due_within}
-use Rattle.ocfl_scrub.specs.Cycling.{enough, Headline, HeadlineOf}
-use Rattle.ocfl_scrub.specs.Cycling.{runs_in, all_in, inventories_in, CyclesWithin, CycleStopsWithin, CycleEndsWithin, CyclesToWithin, HeadlineWithin, HeadlineOfPart}
+use Rattle.ocfl_scrub.specs.Chaining.{IsMadeOf}
+use Rattle.ocfl_scrub.specs.Cycling.{enough, EachStartsBelow, Headline, HeadlineOf, HeadlineWithin, HeadlineOfPart}
+use Rattle.ocfl_scrub.specs.Together.{runs_in, all_in, inventories_in, CyclesWithin, CycleStopsWithin}
 use Rattle.ocfl_scrub.specs.declared.cycling.CycleStatus.{CycleStatus}
 use Rattle.ocfl_scrub.specs.declared.cycling.CycleStatus.TheVariants.{Ended, Spent, Stopped}
 use Rattle.ocfl_scrub.proofs.AuditLaws.{due_all, places_of_items, none_left}
@@ -140,15 +140,19 @@ module _ (root : StorageRoot) (part : Part) (s t : Store) (old new : Option (Lis
   part_places : (os : List Opening) → places (items_in root os part) ≡ places_within part (item_places root)
   part_places os = ap places (part_is root part os) ∙ places_of_items root os (due_within root part None) ∙ ap (places_within part) (due_all root)
 
-  part_headline : (ends : Bool) → CyclesWithin (call_of root s t old new) part last limits spent files finding count ends → t.failures ≡ s.failures
-      → HeadlineWithin (call_of root s t old new) part limits count ends
-  part_headline ends h same =
+  pub part_headline : (ends : Bool) → CyclesWithin (call_of root s t old new) part last limits spent files finding count ends
+      → (calls : List Call) → IsMadeOf (call_of root s t old new) calls → EachStartsBelow limits calls (runs (within part (audit root [])) limits)
+      → t.failures ≡ s.failures → HeadlineWithin (call_of root s t old new) part limits count ends
+  part_headline ends h calls made_of below same =
       let none : unread_of root h.trail ≡ [] = none_left (unread_of root h.trail) s.failures (sym same ∙ h.audits.did.failures_are) in
       record {
         trail = h.trail;
         opened = h.audits.did.openings_are;
         reports = subst (λ u. Appends old new (text (joined (runs (within part (audit root u)) limits)))) none h.wrote;
         each_run = h.count_is ∙ ap (λ u. length (runs (within part (audit root u)) limits)) none;
+        calls = calls;
+        made_of = made_of;
+        starts_below = below;
         whole_part = λ e. subst (λ u. Appends old new (text (within part (audit root u)))) none (subst (λ is. Appends old new (text is)) (h.ends_is.0 e).1 h.wrote);
         opened_once = λ e. h.audits.opened ∙ ap (hashed_among root) (ap places (h.ends_is.0 e).1 ∙ part_places h.trail);
         ends_within = λ b n p q large fits. (
@@ -156,18 +160,6 @@ module _ (root : StorageRoot) (part : Part) (s t : Store) (old new : Option (Lis
           subst (λ u. count ≤ enough (within part (audit root u)) b n) none (h.few b n p q large),
         );
       }
-
-  headline_ends : (end : CycleStatus) → CycleEndsWithin (call_of root s t old new) part last limits spent files finding count end → t.failures ≡ s.failures
-      → HeadlineOfPart (call_of root s t old new) part limits count end
-  headline_ends Ended h same = part_headline true h same
-  headline_ends Spent h same = part_headline false h same
-  headline_ends (Stopped why) h same = tt
-
-pub headline_of_part : (root : StorageRoot) (part : Part) (s t : Store) (old new : Option (List ℕ)) (limits : List Limits) (c : Cursor) (finding : Bool)
-    (end : CycleStatus) (count : ℕ) → count ≡ c.runs
-    → CyclesToWithin (call_of root s t old new) part limits c finding end → t.failures ≡ s.failures → HeadlineOfPart (call_of root s t old new) part limits count end
-headline_of_part root part s t old new limits c finding end count is h same =
-    subst (λ n. HeadlineOfPart (call_of root s t old new) part limits n end) (sym is) (headline_ends root part s t old new h.last limits c.spent c.files finding c.runs end h.cycle same)
 
 -- without limits nothing is done
 pub cycles_none : (root : StorageRoot) (part : Part) (s : Store) (old : Option (List ℕ)) (limits : List Limits) → limits ≡ [] → s.tree ≡ root
@@ -213,6 +205,9 @@ whole_headline root s t old new limits count ends h = record {
   opened = h.opened;
   reports = h.reports;
   each_run = h.each_run;
+  calls = h.calls;
+  made_of = h.made_of;
+  starts_below = h.starts_below;
   whole_audit = h.whole_part;
   opened_once = h.opened_once;
   ends_within = h.ends_within;

@@ -1,21 +1,16 @@
 -- The loop of a cycle as the code says it.
-use Rattle.std.proofs.Common.{◌≡◌, ◌≢◌, ◌<◌, ◌≤◌, ℕ, ◌+◌, List, [], ◌∷◌, refl, sym, ◌∙◌, ap, subst, Bool, Some, None, Option, map, drop, length, get_or}
+use Rattle.std.proofs.Common.{◌≡◌, ◌≢◌, ◌<◌, ◌≤◌, ℕ, ◌+◌, List, [], ◌∷◌, refl, sym, ◌∙◌, ap, subst, Bool, Some, None, Option, map, drop, length, length-drop, get_or, arith}
+use Rattle.std.proofs.lemmas.List.{length-map}
 use Rattle.std.proofs.Math.ListN.{drop_of_length-le}
 use Rattle.ocfl_tree.specs.Place.{Place}
-use Rattle.ocfl_tree.specs.StorageRoot.{StorageRoot}
-use Rattle.ocfl_tree.specs.Store.{Store}
 use Rattle.ocfl_tree.proofs.Lists.{drop_item}
-use Rattle.ocfl_audit.specs.Runs.{Limits}
 use Rattle.ocfl_cursor.specs.Cursor.{State, start, behind, ended, Cursor, new_cursor}
 use Rattle.ocfl_cursor.specs.Moves.{after_run}
 use Rattle.ocfl_cursor.specs.declared.limits.Limits.{Limits as MadeLimits}
 use Rattle.ocfl_item.specs.declared.fault.Fault.{Fault}
 use Rattle.ocfl_item.specs.declared.fault.Fault.TheVariants.{Output}
-use Rattle.ocfl_scrub.specs.Call.{call_of}
 use Rattle.ocfl_scrub.specs.Taking.{WritesLines}
 use Rattle.ocfl_scrub.specs.Running.{limits_of, state_at, state_after, begun_in, begun}
-use Rattle.ocfl_audit.specs.Parts.{Part}
-use Rattle.ocfl_scrub.specs.Cycling.{CyclesToWithin}
 use Rattle.ocfl_scrub.specs.declared.running.RunStatus.{RunStatus}
 use Rattle.ocfl_scrub.specs.declared.running.RunStatus.TheVariants as run
 use Rattle.ocfl_scrub.specs.declared.cycling.CycleStatus.{CycleStatus}
@@ -28,6 +23,9 @@ limits_next xs i x fits is = ap (map limits_of) (drop_item xs i x fits is)
 
 pub limits_out : (xs : List MadeLimits) (i : ℕ) → length xs ≤ i → map limits_of (drop i xs) ≡ []
 limits_out xs i out = ap (map limits_of) (drop_of_length-le xs out)
+
+pub limits_some : (xs : List MadeLimits) (i : ℕ) → i < length xs → 1 ≤ length (map limits_of (drop i xs))
+limits_some xs i fits = let m = length-map (drop i xs) limits_of in let n = length-drop i xs in omega (arith, m, n, fits)
 
 -- ---- how a run ended
 
@@ -85,10 +83,3 @@ module _ (c now reached : Cursor) (cost opened : ℕ) (end : RunStatus) (last : 
 
 pub lines_said : (old new : Option (List ℕ)) (finding reported : Bool) → reported ≡ finding → WritesLines old new finding → WritesLines old new reported
 lines_said old new finding reported e h = subst (WritesLines old new) (sym e) h
-
-pub cycle_said : (root : StorageRoot) (part : Part) (s t : Store) (old new : Option (List ℕ)) (all : List Limits) (c d : Cursor) (finding reported : Bool)
-    (end last_end : CycleStatus) → d ≡ c → reported ≡ finding → last_end ≡ end
-    → CyclesToWithin (call_of root s t old new) part all c finding end → CyclesToWithin (call_of root s t old new) part all d reported last_end
-cycle_said root part s t old new all c d finding reported end last_end e f g h =
-    subst (CyclesToWithin (call_of root s t old new) part all d reported) (sym g)
-    (subst (λ v. CyclesToWithin (call_of root s t old new) part all d v end) (sym f) (subst (λ x. CyclesToWithin (call_of root s t old new) part all x finding end) (sym e) h))

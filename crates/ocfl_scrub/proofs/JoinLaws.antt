@@ -30,7 +30,7 @@ use Rattle.ocfl_scrub.proofs.PassLaws.{text_append}
 use Rattle.ocfl_scrub.proofs.RunLaws.{no_first}
 use Rattle.ocfl_scrub.proofs.RunPlaces.{after_front}
 use Rattle.ocfl_scrub.proofs.RunsJoined.{runs_go_on}
-use Rattle.ocfl_scrub.proofs.CycleTurns.{place_there}
+use Rattle.ocfl_scrub.proofs.ChainLaws.{place_there}
 
 some_first : (items : List Item) (p : Place) → Some p ≡ first_of items → is_empty items ≡ false
 some_first [] p e = absurd cc

@@ -17,7 +17,9 @@ pub mod NextLaws
 pub mod RunPlaces
 pub mod RunsJoined
 pub mod CycleEndLaws
-pub mod CycleTurns
+pub mod ChainRuns
+pub mod ChainLaws
+pub mod ChainHeadline
 pub mod CycleLoop
 pub mod MeterLaws
 pub mod WayOrder

@@ -29,7 +29,9 @@ use Rattle.ocfl_cursor.specs.Moves.{next_cycle}
 use Rattle.ocfl_cursor.specs.declared.limits.Limits.{Limits as MadeLimits}
 use Rattle.ocfl_deed.specs.declared.deed.Deed.TheVariants as deed
 use Rattle.ocfl_scrub.specs.Running.{first_of, begun_in, begun, place_in, state_at, state_after, limits_of, Runs, RunStops, RunEnds, RunsFrom, RunsCleanly}
-use Rattle.ocfl_scrub.specs.Cycling.{Cycles, CycleStops, CycleEnds, CyclesTo, HeadlineOf}
+use Rattle.ocfl_scrub.specs.Chaining.{CycleOfRuns}
+use Rattle.ocfl_scrub.specs.Cycling.{HeadlineOf}
+use Rattle.ocfl_scrub.specs.Together.{Cycles, CycleStops, CycleEnds, CyclesTo}
 use Rattle.ocfl_scrub.specs.Checking.{Checks, CheckStops, CheckEnds}
 use Rattle.ocfl_scrub.specs.WholeAudit.{AuditsAll, AuditStops, AuditEnds}
 use Rattle.ocfl_scrub.specs.Noting.{status_of, IsAuditNote, IsCheckNote, IsCycleNote, IsRunNote, ChecksWithNote, CyclesWithNote}
@@ -601,7 +603,7 @@ check_performed call known path p status n stored names e h =
 
 pub cycle_performed : (call : Call) (known : Option (Option (List ℕ))) (limits : MadeLimits) (count : ℕ) (status : ℕ) (n : Note)
     (stored : Option (Vec ℕ Global)) → Performs call known (deed.Cycle limits count) status n stored
-    → ((ran : CycleEnd) × (CyclesTo call (map limits_of (replicate count limits)) ran.cursor ran.found ran.end
+    → ((ran : CycleEnd) × (CycleOfRuns call (map limits_of (replicate count limits)) ran
     × ((ran.runs ≡ ran.cursor.runs)
     × ((ran.spent ≡ ran.cursor.spent)
     × (IsCycleNote ran.runs ran.spent ran.found ran.end status n

@@ -141,7 +141,7 @@ runs_go_on [] ls h = absurd cc
 runs_go_on (i ∷ items) [] h = refl
 runs_go_on (i ∷ items) (l ∷ ls) h = refl
 
-runs_end : (ls : List Limits) → runs_after ls [] ≡ []
+pub runs_end : (ls : List Limits) → runs_after ls [] ≡ []
 runs_end [] = refl
 runs_end (l ∷ ls) = refl
 

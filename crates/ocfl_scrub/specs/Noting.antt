@@ -23,7 +23,8 @@ use Rattle.ocfl_scrub.specs.declared.checking.End.TheVariants as end
 use Rattle.ocfl_audit.specs.Parts.{Part}
 use Rattle.ocfl_audit.specs.Runs.{Limits}
 use Rattle.ocfl_scrub.specs.Running.{RunsFromWithin, RunsCleanlyWithin}
-use Rattle.ocfl_scrub.specs.Cycling.{CyclesTo, HeadlineOf}
+use Rattle.ocfl_scrub.specs.Chaining.{CycleOfRuns}
+use Rattle.ocfl_scrub.specs.Cycling.{HeadlineOf}
 use Rattle.ocfl_scrub.specs.declared.running.RunEnd.{RunEnd}
 use Rattle.ocfl_scrub.specs.declared.running.RunStatus.{RunStatus}
 use Rattle.ocfl_scrub.specs.declared.running.RunStatus.TheVariants as run
@@ -218,7 +219,7 @@ pub record RunsWithNote (call : Call) (part : Part) (text_of : Cursor → Text) 
 -- a cycle was made, and the status and the text are those of the cycle
 pub record CyclesWithNote (call : Call) (limits : List Limits) (status : ℕ) (n : Note) : Type 0 where
   pub ran : CycleEnd
-  pub cycles : CyclesTo call limits ran.cursor ran.found ran.end
+  pub cycles : CycleOfRuns call limits ran
   pub headline : IsUnfailing call → HeadlineOf call limits ran.runs ran.end
   pub count_is : ran.runs ≡ ran.cursor.runs
   pub spent_is : ran.spent ≡ ran.cursor.spent

@@ -3,8 +3,8 @@
 ghost use Rattle.std.specs.Prelude.{◌≡◌, ◌≤◌, false, map, IfErr, IfOk};
 ghost use Rattle.ocfl_cursor.specs.Cursor.{new_cursor};
 ghost use Rattle.ocfl_scrub.specs.Call.{IsUnfailing, WhereTold};
-ghost use Rattle.ocfl_scrub.specs.Cycling.{CyclesOnAnyStore, CyclesTo, CyclesToWithin};
-ghost use Rattle.ocfl_scrub.specs.Cycling.{HeadlineOf, HeadlineOfPart};
+ghost use Rattle.ocfl_scrub.specs.Chaining.{CycleOfRuns, CycleOfRunsWithin};
+ghost use Rattle.ocfl_scrub.specs.Cycling.{CyclesOnAnyStore, HeadlineOf, HeadlineOfPart};
 ghost use Rattle.ocfl_scrub.specs.Running.{limits_of};
 ghost use Rattle.ocfl_scrub.specs.Starting.{part_of};
 
@@ -62,7 +62,7 @@ pub fn cycle<T: Tree, W: Write>(
     ensures any_store { CyclesOnAnyStore W.contents store.old store.new out.old out.new
         limits.now result }
     ensures told { WhereTold T.told T.state W.contents store.old store.new out.old out.new (λ call.
-        CyclesTo call (map limits_of limits.now) result.cursor result.found result.end) }
+        CycleOfRuns call (map limits_of limits.now) result) }
     ensures headline { WhereTold T.told T.state W.contents store.old store.new out.old out.new
         (λ call. IsUnfailing call → HeadlineOf call (map limits_of limits.now)
         result.runs result.end) }
@@ -84,8 +84,7 @@ pub fn cycle_part<T: Tree, W: Write>(
     ensures any_store { CyclesOnAnyStore W.contents store.old store.new out.old out.new
         limits.now result }
     ensures told { WhereTold T.told T.state W.contents store.old store.new out.old out.new (λ call.
-        CyclesToWithin call (part_of part.now) (map limits_of limits.now)
-        result.cursor result.found result.end) }
+        CycleOfRunsWithin call (part_of part.now) (map limits_of limits.now) result) }
     ensures headline { WhereTold T.told T.state W.contents store.old store.new out.old out.new
         (λ call. IsUnfailing call → HeadlineOfPart call (part_of part.now)
         (map limits_of limits.now) result.runs result.end) }

@@ -19,6 +19,7 @@ ghost use Rattle.ocfl_audit.specs.Due.{hashed_among, item_places};
 ghost use Rattle.ocfl_audit.specs.Trail.{content_trail, heads_of, inventories, unread_of};
 ghost use Rattle.ocfl_audit.specs.Walk.{item_at};
 ghost use Rattle.ocfl_audit.specs.Between.{looked_between, read_between};
+ghost use Rattle.ocfl_audit.specs.Parts.{Part};
 ghost use Rattle.ocfl_audit.specs.Runs.{Limits, cut, left, runs, joined, total_files, IsAtLeast};
 ghost use Rattle.ocfl_audit.specs.Runs.{FilesFit, sum_of};
 ghost use Rattle.ocfl_item.specs.Looking.{failures_by, way_to};
@@ -34,8 +35,10 @@ ghost use Rattle.ocfl_scrub.specs.Call.{Call, IsUnfailing, known_call};
 ghost use Rattle.ocfl_scrub.specs.Running.{place_in, limits_of, Runs, RunStops, RunEnds, RunsFrom};
 ghost use Rattle.ocfl_scrub.specs.Running.{ArePaid, IsWorn, RunsCleanly, RunsOnAnyStore, begun};
 ghost use Rattle.ocfl_scrub.specs.Running.{state_after};
-ghost use Rattle.ocfl_scrub.specs.Cycling.{Cycles, CycleStops, CycleEnds, CyclesTo, HeadlineOf};
-ghost use Rattle.ocfl_scrub.specs.Cycling.{CyclesOnAnyStore};
+ghost use Rattle.ocfl_scrub.specs.Chaining.{CycleOfRuns, CycleOfRunsWithin};
+ghost use Rattle.ocfl_scrub.specs.Cycling.{CyclesOnAnyStore, HeadlineOf, HeadlineOfPart};
+ghost use Rattle.ocfl_scrub.specs.Together.{Cycles, CycleStops, CycleEnds, CyclesTo};
+ghost use Rattle.ocfl_scrub.specs.Together.{CyclesToWithin};
 ghost use Rattle.ocfl_scrub.specs.Checking.{Checks, CheckStops, CheckEnds};
 ghost use Rattle.ocfl_scrub.specs.WholeAudit.{AuditsAll, AuditStops, AuditEnds, AuditsOnAnyStore};
 ghost use Rattle.ocfl_scrub.specs.Noting.{status_of, IsAuditNote, IsCheckNote, IsCycleNote};
@@ -250,6 +253,22 @@ pub fn a_run_that_stops_took_the_first_of_its_cut()
         × ((cut (after (audit call.root (unread_of call.root trail)) from) limits ≡ whole ++ others)
         × ((spent ≡ total_cost whole) × ((whole ≡ [] → last ≡ from) × ((front : List Item)
         (i : Item) → whole ≡ front ++ i ∷ [] → last ≡ Some i.place))))))) }
+{}
+
+/// What the runs of a cycle did together, of the whole and of a part, and the headline of its runs.
+#[tactic(auto, using(crate::proofs::ChainLaws::together, crate::proofs::ChainHeadline::headline_of_part, crate::proofs::ChainHeadline::headline_of_whole))]
+pub fn a_cycle_does_what_its_runs_do()
+    ensures whole { (call : Call) (limits : List Limits) (ran : CycleEnd)
+        → CycleOfRuns call limits ran → CyclesTo call limits ran.cursor ran.found ran.end }
+    ensures part { (call : Call) (part : Part) (limits : List Limits) (ran : CycleEnd)
+        → CycleOfRunsWithin call part limits ran
+        → CyclesToWithin call part limits ran.cursor ran.found ran.end }
+    ensures headline { (call : Call) (limits : List Limits) (ran : CycleEnd)
+        → CycleOfRuns call limits ran → IsUnfailing call
+        → HeadlineOf call limits ran.runs ran.end }
+    ensures headline_of_part { (call : Call) (part : Part) (limits : List Limits) (ran : CycleEnd)
+        → CycleOfRunsWithin call part limits ran → IsUnfailing call
+        → HeadlineOfPart call part limits ran.runs ran.end }
 {}
 
 /// A cycle that did not stop wrote what the runs of its limits take of the audit, one after the
@@ -493,7 +512,7 @@ pub fn a_command_does_what_it_is_asked_for()
     ensures cycle { (call : Call) (known : Option (Option (List ℕ))) (limits : MadeLimits)
         (count : ℕ) (status : ℕ) (n : Note) (stored : Option (Vec ℕ Global))
         → Performs call known (deed.Cycle limits count) status n stored → ((ran : CycleEnd)
-        × (CyclesTo call (map limits_of (replicate count limits)) ran.cursor ran.found ran.end
+        × (CycleOfRuns call (map limits_of (replicate count limits)) ran
         × ((ran.runs ≡ ran.cursor.runs) × ((ran.spent ≡ ran.cursor.spent)
         × (IsCycleNote ran.runs ran.spent ran.found ran.end status n × (IsUnfailing call
         → HeadlineOf call (map limits_of (replicate count limits)) ran.runs ran.end)))))) ⊎ ((status

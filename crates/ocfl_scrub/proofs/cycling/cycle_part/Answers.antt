@@ -1,13 +1,14 @@
-use Rattle.std.proofs.Common.{◌≢◌, refl, sym, ◌∙◌, ap, ◌+◌, map, arith, rules}
+use Rattle.std.proofs.Common.{◌≢◌, refl, ap, ◌+◌, map, arith, rules}
 use Rattle.ocfl_item.specs.declared.fault.Fault.TheVariants.{Output}
+use Rattle.ocfl_scrub.specs.Call.{call_of}
 use Rattle.ocfl_scrub.specs.Running.{limits_of}
 use Rattle.ocfl_scrub.specs.Starting.{part_of}
 use Rattle.ocfl_scrub.specs.declared.cycling.CycleStatus.TheVariants as cycle
 use Rattle.ocfl_scrub.proofs.TakeLaws.{nothing_written}
 use Rattle.ocfl_scrub.proofs.PassLaws.{lines_then}
-use Rattle.ocfl_scrub.proofs.CycleEndLaws.{headline_of_part}
-use Rattle.ocfl_scrub.proofs.CycleTurns.{cycle_begins, goes_out, goes_unbegun, turn_spent, turn_ended, turn_stopped}
-use Rattle.ocfl_scrub.proofs.CycleLoop.{limits_next, limits_out, ended_not_worn, spent_not_worn, stopped_not_worn, ended_wrote, spent_wrote, stopped_wrote, new_unended, one_run_more, same_cycle, spent_unended, lines_said, cycle_said}
+use Rattle.ocfl_scrub.proofs.ChainHeadline.{headline_of_part}
+use Rattle.ocfl_scrub.proofs.ChainRuns.{chain_begins, chain_goes_on, cycle_out, cycle_unbegun, cycle_ended, cycle_stopped}
+use Rattle.ocfl_scrub.proofs.CycleLoop.{limits_next, limits_out, limits_some, ended_not_worn, spent_not_worn, stopped_not_worn, ended_wrote, spent_wrote, stopped_wrote, new_unended, one_run_more, same_cycle, spent_unended, lines_said}
 use Rattle.ocfl_scrub.proofs.cycling.cycle_part.Goals as goal
 
 pub loop-one-init : goal.loop-one-init
@@ -21,14 +22,14 @@ loop-one-init g c = record {
   silent = λ e. refl;
   untouched = λ e. refl;
   lines = nothing_written _;
-  told = λ told root over short. cycle_begins root (part_of c.args.part.now) _ _ _ _ c.new-cursor.ensures over;
+  told = λ told root over short. chain_begins root (part_of c.args.part.now) _ _ _ _ _ c.new-cursor.ensures refl over;
 }
 
 pub returns-in_default-clause-told : goal.returns-in_default-clause-told
 returns-in_default-clause-told g c told root over short =
     let e = c.cycle_end.ensures in
-    cycle_said root (part_of c.args.part.now) _ _ _ _ _ _ _ _ _ _ _ e.cursor e.found e.end
-    (goes_unbegun root (part_of c.args.part.now) _ _ _ _ _ _ _ _ (c.loop-one.invariant.told told root over short) (omega (arith, c.in_default.ensures.further, c.loop-one.invariant.counts)))
+    cycle_unbegun root (part_of c.args.part.now) _ _ _ _ _ _ _ _ _ (c.loop-one.invariant.told told root over short) _ e.runs e.cursor e.found e.end c.in_default.ensures.further
+    (limits_some c.args.limits.now c.loop-one.one-index c.loop-one-test.true)
 
 pub returns-in-Ended-clause-any_store : goal.returns-in-Ended-clause-any_store
 returns-in-Ended-clause-any_store g c =
@@ -40,22 +41,14 @@ pub returns-in-Ended-clause-told : goal.returns-in-Ended-clause-told
 returns-in-Ended-clause-told g c told root over short =
     let e = c.cycle_end-in-Ended.ensures in
     let next = limits_next c.args.limits.now c.loop-one.one-index c.one-item.result c.loop-one-test.true c.one-item.is in
-    cycle_said root (part_of c.args.part.now) _ _ _ _ _ _ _ _ _ _ _ e.cursor e.found e.end
-    (turn_ended root (part_of c.args.part.now) _ _ _ _ _ _ _ _ (c.loop-one.invariant.told told root over short) _ _ _ _ _ _ _ next c.in-Ok.ensures.same
-    (λ reached. c.run_part-reached.ensures.told told root reached short (ended_not_worn _ c.in-Ended.is)) c.either-found.ensures c.in-Ended.is)
+    cycle_ended root (part_of c.args.part.now) _ _ _ _ _ _ _ _ _ (c.loop-one.invariant.told told root over short) _ _ _ _ _ _ _ next c.in-Ok.ensures.same
+    (λ reached. c.run_part-reached.ensures.told told root reached short (ended_not_worn _ c.in-Ended.is)) c.either-found.ensures _ e.runs e.cursor e.found e.end c.in-Ended.is
 
 pub returns-in-Ended-clause-headline : goal.returns-in-Ended-clause-headline
 returns-in-Ended-clause-headline g c told root over short same =
-    let i = c.loop-one.invariant in
-    let ran = c.run_part-reached.result in
-    let moved = c.run_part-reached.ensures.any_store.cursor (ended_not_worn _ c.in-Ended.is) in
-    let e = c.cycle_end-in-Ended.ensures in
-    let counted = e.runs ∙ sym
-    (ap (λ x. x.runs) e.cursor ∙ one_run_more c.loop-one.cursor c.in-Ok.begun ran.cursor ran.spent ran.files ran.end moved.0 c.in-Ok.ensures.same i.unended moved.1 _ i.counts) in
-    let end = c.cycle_end-in-Ended.result in
-    headline_of_part root (part_of c.args.part.now) (g.T.Tree.state c.args.store.now) (g.T.Tree.state c.run_part-reached.new.store)
-    (g.W.Write.contents c.args.out.now) (g.W.Write.contents c.run_part-reached.new.out) (map limits_of c.args.limits.now) end.cursor end.found end.end end.runs
-    counted (returns-in-Ended-clause-told g c told root over short) same
+    headline_of_part (call_of root (g.T.Tree.state c.args.store.now) (g.T.Tree.state c.run_part-reached.new.store)
+    (g.W.Write.contents c.args.out.now) (g.W.Write.contents c.run_part-reached.new.out)) (part_of c.args.part.now) (map limits_of c.args.limits.now)
+    c.cycle_end-in-Ended.result (returns-in-Ended-clause-told g c told root over short) same
 
 pub returns-in-Stopped-clause-any_store : goal.returns-in-Stopped-clause-any_store
 returns-in-Stopped-clause-any_store g c =
@@ -68,9 +61,8 @@ pub returns-in-Stopped-clause-told : goal.returns-in-Stopped-clause-told
 returns-in-Stopped-clause-told g c told root over short =
     let e = c.cycle_end-in-Stopped.ensures in
     let next = limits_next c.args.limits.now c.loop-one.one-index c.one-item.result c.loop-one-test.true c.one-item.is in
-    cycle_said root (part_of c.args.part.now) _ _ _ _ _ _ _ _ _ _ _ e.cursor e.found e.end
-    (turn_stopped root (part_of c.args.part.now) _ _ _ _ _ _ _ _ (c.loop-one.invariant.told told root over short) _ _ _ _ _ _ _ next c.in-Ok.ensures.same
-    (λ reached. c.run_part-reached.ensures.told told root reached short (stopped_not_worn _ _ c.in-Stopped.is)) c.either-found.ensures _ c.in-Stopped.is)
+    cycle_stopped root (part_of c.args.part.now) _ _ _ _ _ _ _ _ _ (c.loop-one.invariant.told told root over short) _ _ _ _ _ _ _ next c.in-Ok.ensures.same
+    (λ reached. c.run_part-reached.ensures.told told root reached short (stopped_not_worn _ _ c.in-Stopped.is)) c.either-found.ensures _ _ e.runs e.cursor e.found e.end c.in-Stopped.is
 
 pub loop-one-preserved : goal.loop-one-preserved
 loop-one-preserved g c =
@@ -90,20 +82,17 @@ loop-one-preserved g c =
       lines = lines_then _ _ _ _ _ _ i.lines (c.run_part-reached.ensures.any_store.lines (spent_wrote _ going)) c.either-found.ensures;
       told = λ told root over short.
           let next = limits_next c.args.limits.now c.loop-one.one-index c.one-item.result c.loop-one-test.true c.one-item.is in
-          turn_spent root (part_of c.args.part.now) _ _ _ _ _ _ _ _ (i.told told root over short) _ _ _ _ _ _ _ next c.in-Ok.ensures.same
+          chain_goes_on root (part_of c.args.part.now) _ _ _ _ _ _ _ _ _ (i.told told root over short) _ _ _ _ _ _ _ next c.in-Ok.ensures.same
           (λ reached. c.run_part-reached.ensures.told told root reached short (spent_not_worn _ going)) c.either-found.ensures going;
     }
 
 pub returns-clause-told : goal.returns-clause-told
 returns-clause-told g c told root over short =
     let e = c.cycle_end-2.ensures in
-    cycle_said root (part_of c.args.part.now) _ _ _ _ _ _ _ _ _ _ _ e.cursor e.found e.end
-    (goes_out root (part_of c.args.part.now) _ _ _ _ _ _ _ _ (c.loop-one.invariant.told told root over short) (limits_out c.args.limits.now c.loop-one.one-index c.loop-one-test.false))
+    cycle_out root (part_of c.args.part.now) _ _ _ _ _ _ _ _ _ (c.loop-one.invariant.told told root over short) _ e.runs e.cursor e.found e.end
+    (limits_out c.args.limits.now c.loop-one.one-index c.loop-one-test.false)
 
 pub returns-clause-headline : goal.returns-clause-headline
 returns-clause-headline g c told root over short same =
-    let e = c.cycle_end-2.ensures in
-    let end = c.cycle_end-2.result in
-    headline_of_part root (part_of c.args.part.now) (g.T.Tree.state c.args.store.now) (g.T.Tree.state c.loop-one.store) (g.W.Write.contents c.args.out.now)
-    (g.W.Write.contents c.loop-one.out) (map limits_of c.args.limits.now) end.cursor end.found end.end end.runs
-    (e.runs ∙ sym (ap (λ x. x.runs) e.cursor ∙ c.loop-one.invariant.counts)) (returns-clause-told g c told root over short) same
+    headline_of_part (call_of root (g.T.Tree.state c.args.store.now) (g.T.Tree.state c.loop-one.store) (g.W.Write.contents c.args.out.now)
+    (g.W.Write.contents c.loop-one.out)) (part_of c.args.part.now) (map limits_of c.args.limits.now) c.cycle_end-2.result (returns-clause-told g c told root over short) same

@@ -6,7 +6,7 @@ use Rattle.ocfl_item.specs.Judging.{HasShortFiles}
 use Rattle.ocfl_scrub.specs.Running.{limits_of}
 use Rattle.ocfl_scrub.specs.Starting.{part_of}
 use Rattle.ocfl_scrub.specs.Taking.{WritesLines}
-use Rattle.ocfl_scrub.proofs.CycleTurns.{CycleGoes}
+use Rattle.ocfl_scrub.proofs.ChainRuns.{ChainSoFar}
 use Rattle.ocfl_scrub.proofs.cycling.cycle_part.Given as goal
 
 abbrev pub invariant-loop-one : goal.invariant-loop-one
@@ -24,6 +24,6 @@ invariant-loop-one g l =
       untouched : l.runs ≡ 0 → l.store ≡ l.fn.store;
       lines : WritesLines (Write.contents l.fn.out) (Write.contents l.out) l.found;
       told : IsTrue Tree.told → (root : StorageRoot) → (Tree.state l.fn.store).tree ≡ root → HasShortFiles root →
-          CycleGoes root (part_of l.fn.part) (Tree.state l.fn.store) (Tree.state l.store) (Write.contents l.fn.out) (Write.contents l.out)
-          (map limits_of (drop l.one-index l.limits)) (map limits_of l.limits) l.cursor l.found;
+          ChainSoFar root (part_of l.fn.part) (Tree.state l.fn.store) (Tree.state l.store) (Write.contents l.fn.out) (Write.contents l.out)
+          (map limits_of (drop l.one-index l.limits)) (map limits_of l.limits) l.cursor l.found l.runs;
     }

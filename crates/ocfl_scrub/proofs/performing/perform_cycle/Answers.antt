@@ -1,6 +1,7 @@
 use Rattle.std.proofs.Common.{◌≡◌, subst, inl, ◌∙◌, ap, map}
 use Rattle.ocfl_scrub.specs.Call.{call_of}
-use Rattle.ocfl_scrub.specs.Cycling.{CyclesTo, HeadlineOf}
+use Rattle.ocfl_scrub.specs.Chaining.{CycleOfRuns}
+use Rattle.ocfl_scrub.specs.Cycling.{HeadlineOf}
 use Rattle.ocfl_scrub.specs.Running.{limits_of}
 use Rattle.ocfl_scrub.specs.Performing.{equal_limits}
 use Rattle.ocfl_scrub.proofs.performing.perform_cycle.Goals as goal
@@ -16,7 +17,7 @@ returns-clause-told g c told root over short =
     let same : map limits_of c.deref.result.now ≡ equal_limits c.args.limits c.args.count = ap (map limits_of) (c.deref.ensures.value ∙ c.in-Ok.ensures) in
     inl (record {
       ran = end;
-      cycles = subst (λ ls. CyclesTo (call_of root s t old new) ls end.cursor end.found end.end) same (e.told told root over short);
+      cycles = subst (λ ls. CycleOfRuns (call_of root s t old new) ls end) same (e.told told root over short);
       headline = λ clean. subst (λ ls. HeadlineOf (call_of root s t old new) ls end.runs end.end) same (e.headline told root over short clean);
       count_is = e.any_store.runs_are;
       spent_is = e.any_store.spent_is;

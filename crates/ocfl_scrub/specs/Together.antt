@@ -1,0 +1,108 @@
+-- What the runs of a cycle do together.
+use Rattle.std.specs.Prelude.{◌≡◌, ◌<◌, ◌≤◌, ◌+◌, ◌-◌, ◌↔◌, ℕ, List, ◌++◌, Bool, true, false, Option, None, All, map, take, length}
+use Rattle.ocfl_tree.specs.Place.{Place}
+use Rattle.ocfl_tree.specs.StorageRoot.{StorageRoot}
+use Rattle.ocfl_tree.specs.declared.store.Opening.{Opening}
+use Rattle.ocfl_report.specs.Line.{Item}
+use Rattle.ocfl_report.specs.Text.{text}
+use Rattle.ocfl_audit.specs.Audit.{total_cost}
+use Rattle.ocfl_audit.specs.Parts.{Part, whole}
+use Rattle.ocfl_audit.specs.Runs.{Limits, runs, joined, IsAtLeast, FilesFit, sum_of}
+use Rattle.ocfl_cursor.specs.Cursor.{State, ended, Cursor}
+use Rattle.ocfl_item.specs.Looking.{IsFront}
+use Rattle.ocfl_item.specs.Auditing.{Audits, Fails}
+use Rattle.ocfl_item.specs.declared.fault.Fault.{Fault}
+use Rattle.ocfl_walk.specs.WalkCalls.{holder}
+use Rattle.ocfl_scrub.specs.Call.{Call, Writes}
+use Rattle.ocfl_scrub.specs.Starting.{entry, read_in}
+use Rattle.ocfl_scrub.specs.WholeAudit.{items_in}
+use Rattle.ocfl_scrub.specs.Written.{places, last_of, Figures, StopsWithin}
+use Rattle.ocfl_scrub.specs.Running.{state_at}
+use Rattle.ocfl_scrub.specs.Cycling.{enough}
+use Rattle.ocfl_scrub.specs.declared.cycling.CycleStatus.{CycleStatus}
+use Rattle.ocfl_scrub.specs.declared.cycling.CycleStatus.TheVariants as status
+
+abbrev pub cycle_state : CycleStatus → Option Place → State
+cycle_state status.Ended last = ended
+cycle_state status.Spent last = state_at last
+cycle_state (status.Stopped why) last = state_at last
+
+-- the cursor of the first cycle, with these figures
+abbrev pub cycle_cursor : ℕ → ℕ → ℕ → State → Cursor
+cycle_cursor count spent files state = record { cycle = 1; runs = count; spent = spent; files = files; state = state }
+
+-- the runs of the audit of a part, where a trail shows what could not be read
+abbrev pub runs_in : StorageRoot → List Opening → Part → List Limits → List (List Item)
+runs_in root trail part limits = runs (items_in root trail part) limits
+
+-- what they take together
+abbrev pub all_in : StorageRoot → List Opening → Part → List Limits → List Item
+all_in root trail part limits = joined (runs_in root trail part limits)
+
+-- how many inventories a run of a part may read: that of the object that holds the place where the
+-- part begins, and those of the part
+abbrev pub inventories_in : StorageRoot → Part → ℕ
+inventories_in root part = length (holder root (entry part None)) + length (read_in root part None None)
+
+-- a cycle made the runs of the limits over a part: what they take together was written. Each hashed
+-- file of it was opened once, in order. Inventories were read at most as often as one run may read
+-- any, and once more for each run after the first. The part has ended where a run was made and
+-- nothing of it is left
+pub record CyclesWithin (call : Call) (part : Part) (last : Option Place) (limits : List Limits) (spent files : ℕ) (finding : Bool) (count : ℕ) (ends : Bool) : Type 0 where
+  pub trail : List Opening
+  pub listed : List Place
+  pub heads : List Place
+  pub audits : Audits call.root call.before call.after (places (all_in call.root trail part limits)) listed heads trail
+  pub inventories_read : 1 ≤ count → length heads < inventories_in call.root part + count
+  pub wrote : Writes call (text (all_in call.root trail part limits))
+  pub figures : Figures (all_in call.root trail part limits) spent files finding
+  pub count_is : count ≡ length (runs_in call.root trail part limits)
+  pub last_is : last ≡ last_of None (places (all_in call.root trail part limits))
+  pub ends_is : (ends ≡ true) ↔ ((1 ≤ count) × (all_in call.root trail part limits ≡ items_in call.root trail part))
+  pub few : (b n : ℕ) → 1 ≤ b → 1 ≤ n → All (IsAtLeast b n) limits → count ≤ enough (items_in call.root trail part) b n
+  pub suffice : (b n : ℕ) → 1 ≤ b → 1 ≤ n → All (IsAtLeast b n) limits → enough (items_in call.root trail part) b n ≤ length limits → ends ≡ true
+  pub by_sum : (k : ℕ) → 1 ≤ k → k ≤ length limits → FilesFit (items_in call.root trail part) limits → total_cost (items_in call.root trail part) ≤ sum_of (take k (map (λ l. l.budget) limits)) → (ends ≡ true) × (count ≤ k)
+
+-- what so many of the first runs take together
+abbrev pub first_in : StorageRoot → List Opening → Part → List Limits → ℕ → List Item
+first_in root trail part limits count = joined (take count (runs_in root trail part limits))
+
+-- a cycle over a part stopped, in its last run or before a further one began: the first items that
+-- its runs take went out whole, and of the next at most a proper beginning. Those of the runs
+-- before the last are among them, also where the last took none
+pub record CycleStopsWithin (call : Call) (part : Part) (last : Option Place) (limits : List Limits) (spent files : ℕ) (finding : Bool) (count : ℕ) (why : Fault) : Type 0 where
+  pub trail : List Opening
+  pub made : 1 ≤ count
+  pub count_fits : count ≤ length (runs_in call.root trail part limits)
+  pub stops : StopsWithin (first_in call.root trail part limits count) call.old call.new None last why
+  pub runs_before : IsFront (first_in call.root trail part limits (count - 1)) stops.whole
+  pub figures : Figures stops.whole spent files finding
+  pub listed : List Place
+  pub heads : List Place
+  pub fails : Fails call.root call.before call.after (places stops.whole ++ stops.begun) listed heads trail why
+  pub inventories_read : length heads < inventories_in call.root part + count
+
+abbrev pub CycleEndsWithin : Call → Part → Option Place → List Limits → ℕ → ℕ → Bool → ℕ → CycleStatus → Type 0
+CycleEndsWithin call part last limits spent files finding count status.Ended = CyclesWithin call part last limits spent files finding count true
+CycleEndsWithin call part last limits spent files finding count status.Spent = CyclesWithin call part last limits spent files finding count false
+CycleEndsWithin call part last limits spent files finding count (status.Stopped why) = CycleStopsWithin call part last limits spent files finding count why
+
+-- a cycle over a part led to a cursor
+pub record CyclesToWithin (call : Call) (part : Part) (limits : List Limits) (c : Cursor) (finding : Bool) (end : CycleStatus) : Type 0 where
+  pub last : Option Place
+  pub cycle : CycleEndsWithin call part last limits c.spent c.files finding c.runs end
+  pub cursor_is : c ≡ cycle_cursor c.runs c.spent c.files (cycle_state end last)
+
+-- ---- the same of the whole
+
+abbrev pub Cycles : Call → Option Place → List Limits → ℕ → ℕ → Bool → ℕ → Bool → Type 0
+Cycles call last limits spent files finding count ends = CyclesWithin call whole last limits spent files finding count ends
+
+abbrev pub CycleStops : Call → Option Place → List Limits → ℕ → ℕ → Bool → ℕ → Fault → Type 0
+CycleStops call last limits spent files finding count why = CycleStopsWithin call whole last limits spent files finding count why
+
+abbrev pub CycleEnds : Call → Option Place → List Limits → ℕ → ℕ → Bool → ℕ → CycleStatus → Type 0
+CycleEnds call last limits spent files finding count end = CycleEndsWithin call whole last limits spent files finding count end
+
+abbrev pub CyclesTo : Call → List Limits → Cursor → Bool → CycleStatus → Type 0
+CyclesTo call limits c finding end = CyclesToWithin call whole limits c finding end

@@ -21,11 +21,11 @@ use Rattle.ocfl_item.proofs.AuditingLaws.{unread_append}
 
 -- ---- what a trail shows
 
-hashed_are_among : (root : StorageRoot) (ps : List Place) (p : Place) → IsAmong (hashed_among root ps) p → IsAmong ps p
+pub hashed_are_among : (root : StorageRoot) (ps : List Place) (p : Place) → IsAmong (hashed_among root ps) p → IsAmong ps p
 unfolding hashed_among
 hashed_are_among root ps p i = (among_from_filter (is_hashed root) ps p i).0
 
-failed_among : (os : List Opening) (p : Place)
+pub failed_among : (os : List Opening) (p : Place)
     → IsAmong (map (λ (e : Place × ℕ). e.0) (map (λ (o : Opening). (o.place, o.given)) (filter (λ (o : Opening). o.failed) os))) p → IsAmong (map (λ o. o.place) os) p
 failed_among [] p i = i
 failed_among (o ∷ os) p i = by o.failed i (failed_among os p)
@@ -39,7 +39,7 @@ failed_among (o ∷ os) p i = by o.failed i (failed_among os p)
 -- ---- what is given at a place
 
 module _ (p : Place) where
-  given_none : (u : Unread) → (IsAmong (map (λ (e : Place × ℕ). e.0) u) p → ⊥) → given_by u p ≡ None
+  pub given_none : (u : Unread) → (IsAmong (map (λ (e : Place × ℕ). e.0) u) p → ⊥) → given_by u p ≡ None
   given_none [] h = refl
   given_none (e ∷ u) h = by (place_cmp e.0 p) refl (given_none u (λ i. h (inr i)))
     where
@@ -48,11 +48,11 @@ module _ (p : Place) where
       by Equal f k = absurd (h (inl (sym (place_cmp_exact e.0 p f))))
       by Greater f k = k
 
-  given_left : (u v : Unread) → given_by v p ≡ None → given_by (u ++ v) p ≡ given_by u p
+  pub given_left : (u v : Unread) → given_by v p ≡ None → given_by (u ++ v) p ≡ given_by u p
   given_left [] v h = h
   given_left (e ∷ u) v h = ap (cond (place_eq e.0 p) (Some e.1)) (given_left u v h)
 
-  given_right : (u v : Unread) → (IsAmong (map (λ (e : Place × ℕ). e.0) u) p → ⊥) → given_by (u ++ v) p ≡ given_by v p
+  pub given_right : (u v : Unread) → (IsAmong (map (λ (e : Place × ℕ). e.0) u) p → ⊥) → given_by (u ++ v) p ≡ given_by v p
   given_right [] v h = refl
   given_right (e ∷ u) v h = by (place_cmp e.0 p) refl (given_right u v (λ i. h (inr i)))
     where
@@ -62,26 +62,26 @@ module _ (p : Place) where
       by Greater f k = k
 
 -- a place that is none of ps is not unread in a trail over ps
-not_unread : (root : StorageRoot) (os : List Opening) (ps : List Place) (p : Place) → content_trail root os ≡ hashed_among root ps → (IsAmong ps p → ⊥)
+pub not_unread : (root : StorageRoot) (os : List Opening) (ps : List Place) (p : Place) → content_trail root os ≡ hashed_among root ps → (IsAmong ps p → ⊥)
     → IsAmong (map (λ (e : Place × ℕ). e.0) (unread_of root os)) p → ⊥
 not_unread root os ps p e h i = h (hashed_are_among root ps p (subst (λ qs. IsAmong qs p) e (failed_among (content_openings root os) p i)))
 
-not_after : (ps qs : List Place) (p : Place) → IsAscending place_cmp (ps ++ qs) → IsAmong ps p → IsAmong qs p → ⊥
+pub not_after : (ps qs : List Place) (p : Place) → IsAscending place_cmp (ps ++ qs) → IsAmong ps p → IsAmong qs p → ⊥
 not_after ps qs p h i j = not_below_itself place_cmp_total p (before_each place_cmp p qs (ascends_across place_cmp ps qs p h i) p j)
 
 -- ---- items at two trails
 
 -- what was read differs at none of the places
-abbrev AgreeAt : Unread → Unread → List Place → Type 0
+abbrev pub AgreeAt : Unread → Unread → List Place → Type 0
 AgreeAt u v [] = Unit {0}
 AgreeAt u v (p ∷ ps) = (given_by u p ≡ given_by v p) × AgreeAt u v ps
 
-items_agree : (root : StorageRoot) (u v : Unread) (ps : List Place) → AgreeAt u v ps → map (item_of root u) ps ≡ map (item_of root v) ps
+pub items_agree : (root : StorageRoot) (u v : Unread) (ps : List Place) → AgreeAt u v ps → map (item_of root u) ps ≡ map (item_of root v) ps
 items_agree root u v [] h = refl
 items_agree root u v (p ∷ ps) h = ap (λ g. record { place = p; lines = lines_at p (notes root g p); cost = cost root g p } ∷ map (item_of root u) ps) h.0
     ∙ ap (λ is. item_of root v p ∷ is) (items_agree root u v ps h.1)
 
-agree_all : (u v : Unread) (ps : List Place) → ((p : Place) → IsAmong ps p → given_by u p ≡ given_by v p) → AgreeAt u v ps
+pub agree_all : (u v : Unread) (ps : List Place) → ((p : Place) → IsAmong ps p → given_by u p ≡ given_by v p) → AgreeAt u v ps
 agree_all u v [] h = tt
 agree_all u v (p ∷ ps) h = (h p (inl refl), agree_all u v ps (λ q i. h q (inr i)))
 

@@ -20,6 +20,7 @@ pub mod CycleEndLaws
 pub mod ChainRuns
 pub mod ChainLaws
 pub mod ChainHeadline
+pub mod ChainLooks
 pub mod CycleLoop
 pub mod MeterLaws
 pub mod WayOrder
@@ -36,3 +37,4 @@ pub mod HeadlineLaws
 pub mod OverrunLaws
 pub mod RecordLaws
 pub mod JoinLaws
+pub mod CycleRuns

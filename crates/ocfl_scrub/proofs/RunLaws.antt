@@ -70,7 +70,7 @@ first_taken l s f (y ∷ ys) h =
     let n : ℕ = cut_len l (s + y.cost) (f + files_of y.cost) ys in
     ap (λ v. take 1 (take (cond v (suc n) 0) (y ∷ ys))) h.0 ∙ ap (λ zs. y ∷ zs) (take_nothing (take n ys) ∙ sym (take_nothing ys))
 
-no_part : (why : Fault) → why ≢ Output → (whole part : Text) → PartOf why whole part → part ≡ []
+pub no_part : (why : Fault) → why ≢ Output → (whole part : Text) → PartOf why whole part → part ≡ []
 no_part why other whole part h = h.is ∙ ap (λ n. take n whole) (h.none other) ∙ take_nothing whole
 
 -- what was begun and written of the next item is a beginning of the first that the cut has left

@@ -1,17 +1,22 @@
 -- Runs of a part made one after the other, by whatever processes, and the parts of a storage root
 -- together.
-use Rattle.std.specs.Prelude.{◌≡◌, List, [], ◌∷◌, ◌++◌, None, flat_map}
-use Rattle.ocfl_tree.specs.Place.{Text, Place}
+use Rattle.std.specs.Prelude.{◌≡◌, ◌≢◌, ℕ, List, [], ◌∷◌, ◌++◌, Bool, true, false, not, Option, Some, None, filter, flat_map, length}
+use Rattle.std.specs.Ordering.{is_lt}
+use Rattle.ocfl_tree.specs.Place.{Text, Place, place_cmp}
 use Rattle.ocfl_tree.specs.StorageRoot.{StorageRoot}
 use Rattle.ocfl_tree.specs.Store.{Store}
 use Rattle.ocfl_tree.specs.declared.store.Opening.{Opening}
+use Rattle.ocfl_report.specs.Line.{Item}
+use Rattle.ocfl_report.specs.Text.{text}
+use Rattle.ocfl_audit.specs.Audit.{Unread, after}
 use Rattle.ocfl_audit.specs.Parts.{Part}
 use Rattle.ocfl_audit.specs.Runs.{Limits}
-use Rattle.ocfl_audit.specs.Trail.{content_trail}
-use Rattle.ocfl_cursor.specs.Cursor.{Cursor}
-use Rattle.ocfl_scrub.specs.Call.{known_call}
-use Rattle.ocfl_scrub.specs.Running.{place_in, RunsFromWithin}
+use Rattle.ocfl_audit.specs.Trail.{content_trail, unread_of}
+use Rattle.ocfl_cursor.specs.Cursor.{State, start, behind, ended, Cursor}
+use Rattle.ocfl_scrub.specs.Call.{Call, known_call}
+use Rattle.ocfl_scrub.specs.Running.{place_in, taken_in, RunEndsWithin, RunsFromWithin}
 use Rattle.ocfl_scrub.specs.declared.running.RunEnd.{RunEnd}
+use Rattle.ocfl_scrub.specs.declared.running.RunStatus.{RunStatus}
 use Rattle.ocfl_scrub.specs.declared.running.RunStatus.TheVariants as status
 
 -- what a run was given, what it wrote and opened, and what it answered
@@ -53,3 +58,70 @@ pub record PartCycle : Type 0 where
 pub record IsPartCycle (root : StorageRoot) (d : PartCycle) : Type 0 where
   pub begins : place_in d.first.state ≡ None
   pub are : AreRuns root d.part d.first d.runs
+
+-- ---- the same where any run may stop, and may meet files that it cannot read
+
+-- the items of a run whose lines went out whole
+abbrev pub items_out : (call : Call) (part : Part) (from last : Option Place) (limits : Limits) (spent files : ℕ) (finding : Bool) (end : RunStatus) → RunEndsWithin call part from last limits spent files finding end → List Item
+items_out call part from last limits spent files finding status.Ended run = taken_in call.root run.trail part from limits
+items_out call part from last limits spent files finding status.Spent run = taken_in call.root run.1.trail part from limits
+items_out call part from last limits spent files finding (status.Stopped why) run = run.stops.whole
+items_out call part from last limits spent files finding status.Worn run = []
+
+-- a run was made from a cursor, whatever failed in it. Its report is the lines of those items; after
+-- it stands what went out of the next one's lines, where the output failed
+pub record Ran (root : StorageRoot) (part : Part) (c : Cursor) (r : PartRun) : Type 0 where
+  pub before : Store
+  pub behind : Store
+  pub old : Text
+  pub cut : Text
+  pub runs : RunsFromWithin (known_call root before behind old (old ++ (r.report ++ cut))) part c r.limits r.ran
+  pub report_is : r.report ≡ text (items_out (known_call root before behind old (old ++ (r.report ++ cut))) part (place_in c.state) runs.last r.limits r.ran.spent r.ran.files r.ran.found r.ran.end runs.run)
+  pub opened_is : behind.openings ≡ before.openings ++ r.opened
+
+-- each was made from the cursor that the one before it answered, and none but the last may have
+-- ended the cycle
+abbrev pub AreOneCycle : StorageRoot → Part → Cursor → List PartRun → Type 0
+AreOneCycle root part c [] = ⊥
+AreOneCycle root part c (r ∷ []) = Ran root part c r
+AreOneCycle root part c (r ∷ q ∷ runs) = Ran root part c r × ((r.ran.end ≢ status.Ended) × AreOneCycle root part r.ran.cursor (q ∷ runs))
+
+-- the cursor that the last of them answered
+abbrev pub cursor_after : Cursor → List PartRun → Cursor
+cursor_after c [] = c
+cursor_after c (r ∷ runs) = cursor_after r.ran.cursor runs
+
+-- whether a run that leaves a cursor like this has taken what is at a place, and what it leaves
+abbrev pub is_taken : State → Place → Bool
+is_taken start p = false
+is_taken (behind q) p = not (is_lt (place_cmp q p))
+is_taken ended p = true
+
+abbrev pub left_by : State → List Item → List Item
+left_by start items = items
+left_by (behind q) items = after items (Some q)
+left_by ended items = []
+
+-- the files that a run could not read, and those of all runs. A file after the cursor is not among
+-- them, since a later run opens it again
+abbrev pub unread_by : StorageRoot → PartRun → Unread
+unread_by root r = filter (λ e. is_taken r.ran.cursor.state e.0) (unread_of root r.opened)
+
+abbrev pub unread_together : StorageRoot → List PartRun → Unread
+unread_together root runs = flat_map (unread_by root) runs
+
+-- how many of some runs did not stop
+abbrev pub is_stopped : RunStatus → Bool
+is_stopped status.Ended = false
+is_stopped status.Spent = false
+is_stopped (status.Stopped why) = true
+is_stopped status.Worn = false
+
+abbrev pub unstopped : List PartRun → ℕ
+unstopped runs = length (filter (λ r. not (is_stopped r.ran.end)) runs)
+
+-- the runs of a part's cycle, from its first item to its end
+pub record IsWholeCycle (root : StorageRoot) (d : PartCycle) : Type 0 where
+  pub starts : place_in d.first.state ≡ None
+  pub are : AreOneCycle root d.part d.first d.runs
+  pub ends : (cursor_after d.first d.runs).state ≡ ended

@@ -1,25 +1,34 @@
 //! The laws of parts: what the runs of a part wrote, joined, and what the parts of a storage root
 //! wrote together.
-ghost use Rattle.std.specs.Prelude.{◌≡◌, ◌≤◌, ◌+◌, ◌++◌, ◌/◌, ℕ, Bool, List, [], Option, None, All};
-ghost use Rattle.std.specs.Prelude.{flat_map, length, map};
+ghost use Rattle.std.specs.Prelude.{◌≡◌, ◌≢◌, ◌≤◌, ◌+◌, ◌++◌, ◌/◌, ℕ, Bool, List, []};
+ghost use Rattle.std.specs.Prelude.{Option, None, All};
+ghost use Rattle.std.specs.Prelude.{filter, flat_map, length, map};
 ghost use Rattle.std.specs.List.{AllByRecursion};
-ghost use Rattle.ocfl_tree.specs.Place.{Place, place_cmp};
+ghost use Rattle.ocfl_tree.specs.Place.{Place, Text, place_cmp};
 ghost use Rattle.ocfl_tree.specs.Ascending.{IsAscending};
 ghost use Rattle.ocfl_tree.specs.StorageRoot.{StorageRoot};
+ghost use Rattle.ocfl_tree.specs.Store.{Store};
 ghost use Rattle.ocfl_tree.specs.declared.store.Opening.{Opening};
 ghost use Rattle.ocfl_report.specs.Text.{text};
 ghost use Rattle.ocfl_audit.specs.Audit.{audit, total_cost};
 ghost use Rattle.ocfl_audit.specs.Due.{hashed_among, item_places};
-ghost use Rattle.ocfl_audit.specs.Parts.{Part, parts_of, places_within, within};
-ghost use Rattle.ocfl_audit.specs.Runs.{IsAtLeast, total_files};
+ghost use Rattle.ocfl_audit.specs.Lines.{is_empty};
+ghost use Rattle.ocfl_audit.specs.Parts.{Part, parts_of, places_within, whole, within};
+ghost use Rattle.ocfl_audit.specs.Runs.{IsAtLeast, Limits, total_files};
 ghost use Rattle.ocfl_audit.specs.Trail.{heads_of};
-ghost use Rattle.ocfl_cursor.specs.Cursor.{Cursor};
-ghost use Rattle.ocfl_scrub.specs.Call.{Call};
-ghost use Rattle.ocfl_scrub.specs.Running.{place_in};
-ghost use Rattle.ocfl_scrub.specs.Joining.{AreRuns, IsPartCycle, PartCycle, PartRun, opened_by};
-ghost use Rattle.ocfl_scrub.specs.Joining.{reports_of};
+ghost use Rattle.ocfl_cursor.specs.Cursor.{Cursor, ended};
+ghost use Rattle.ocfl_item.specs.declared.fault.Fault.TheVariants as fault;
+ghost use Rattle.ocfl_scrub.specs.Call.{Call, known_call};
+ghost use Rattle.ocfl_scrub.specs.Chaining.{CycleOfRunsWithin};
+ghost use Rattle.ocfl_scrub.specs.Running.{RunsFromWithin, place_in};
+ghost use Rattle.ocfl_scrub.specs.Joining.{AreOneCycle, AreRuns, IsPartCycle, IsWholeCycle};
+ghost use Rattle.ocfl_scrub.specs.Joining.{PartCycle, PartRun, Ran, cursor_after, left_by};
+ghost use Rattle.ocfl_scrub.specs.Joining.{opened_by, reports_of, unread_together, unstopped};
 ghost use Rattle.ocfl_scrub.specs.WholeAudit.{AuditEndsWithin};
 ghost use Rattle.ocfl_scrub.specs.declared.checking.End.{End};
+ghost use Rattle.ocfl_scrub.specs.declared.cycling.CycleEnd.{CycleEnd};
+ghost use Rattle.ocfl_scrub.specs.declared.running.RunEnd.{RunEnd};
+ghost use Rattle.ocfl_scrub.specs.declared.running.RunStatus.TheVariants as run;
 
 /// If no failure was counted, the reports of the runs of one cycle of a part, joined, are what the
 /// audit has there, whatever processes made them. Each hashed file of the part was opened once, in
@@ -58,6 +67,57 @@ pub fn parts_join_to_the_audit()
         ≡ hashed_among root (item_places root) }
 {}
 
+/// Runs of one cycle of a part, each from the cursor of the one before it. Any may stop at a call
+/// that fails, and any may meet content that it cannot read. Their reports, joined, are the audit
+/// of the part up to the last cursor. In it just those files are called unreadable that could not
+/// be read by the run that took them. If the last run ended, the reports are all of it.
+///
+/// Of the runs that did not stop there are at most cost / B + files / N + 1, whether or not the
+/// cycle has ended, if each budget is at least B and each limit on files at least N.
+pub fn runs_that_stop_join()
+    ensures reports { (root : StorageRoot) (part : Part) (c : Cursor) (runs : List PartRun)
+        → place_in c.state ≡ None → AreOneCycle root part c runs
+        → reports_of runs ++ text (left_by (cursor_after c runs).state
+        (within part (audit root (unread_together root runs))))
+        ≡ text (within part (audit root (unread_together root runs))) }
+    ensures ended { (root : StorageRoot) (part : Part) (c : Cursor) (runs : List PartRun)
+        → place_in c.state ≡ None → AreOneCycle root part c runs
+        → (cursor_after c runs).state ≡ ended
+        → reports_of runs ≡ text (within part (audit root (unread_together root runs))) }
+    ensures whole { (root : StorageRoot) (c : Cursor) (runs : List PartRun)
+        → place_in c.state ≡ None → AreOneCycle root whole c runs
+        → (cursor_after c runs).state ≡ ended
+        → reports_of runs ≡ text (audit root (unread_together root runs)) }
+    ensures few { (root : StorageRoot) (part : Part) (c : Cursor) (runs : List PartRun)
+        → place_in c.state ≡ None → AreOneCycle root part c runs → (b n : ℕ) → 1 ≤ b → 1 ≤ n
+        → All (IsAtLeast b n) (map (λ r. r.limits) runs) → unstopped runs
+        ≤ total_cost (within part (audit root (unread_together root runs))) / b
+        + total_files (within part (audit root (unread_together root runs))) / n + 1 }
+{}
+
+/// The same of the parts that separators make, if the cycle of each has ended: the reports, joined
+/// in order, are the audit of the whole root, in which just the files are called unreadable that
+/// could not be read by the run that took them.
+pub fn parts_with_runs_that_stop_join()
+    ensures { (root : StorageRoot) (separators : List Place) (cycles : List PartCycle)
+        → IsAscending place_cmp separators
+        → map (λ d. d.part) cycles ≡ parts_of separators
+        → AllByRecursion (IsWholeCycle root) cycles
+        → flat_map (λ d. reports_of d.runs) cycles
+        ≡ text (audit root (flat_map (λ d. unread_together root d.runs) cycles)) }
+{}
+
+/// What `run_part` says of a run (`told`) gives it a report: the text that it wrote, except for a
+/// beginning of the next item's lines if the output failed.
+pub fn each_run_has_a_report()
+    ensures { (root : StorageRoot) (s t : Store) (old new : Text) (part : Part) (c : Cursor)
+        (limits : Limits) (ran : RunEnd)
+        → RunsFromWithin (known_call root s t old new) part c limits ran → (r : PartRun)
+        × ((cut : Text) × ((r.limits ≡ limits) × ((r.ran ≡ ran)
+        × ((new ≡ old ++ (r.report ++ cut)) × ((ran.end ≢ run.Stopped fault.Output → cut ≡ [])
+        × Ran root part c r))))) }
+{}
+
 /// The audit of a part lists each directory once and reads each inventory once, in order, whether
 /// it ends or stops.
 #[tactic(auto, using(crate::proofs::OrderLaws::part_lists_once, crate::proofs::OrderLaws::part_reads_once))]
@@ -69,4 +129,24 @@ pub fn an_audit_of_a_part_looks_once()
         → AuditEndsWithin call part last finding end → (trail : List Opening)
         × ((call.after.openings ≡ call.before.openings ++ trail)
         × IsAscending place_cmp (heads_of call.root trail)) }
+{}
+
+/// Each run of a cycle lists each directory at most once and reads each inventory at most once, in
+/// order, and nothing is listed or read between two runs. So a cycle has at least as many runs as
+/// listings of the storage root.
+pub fn each_run_of_a_cycle_looks_once()
+    ensures listed { (call : Call) (part : Part) (limits : List Limits) (ran : CycleEnd)
+        → CycleOfRunsWithin call part limits ran → (looks : List (List Place))
+        × ((length looks ≡ ran.runs)
+        × ((call.after.listings ≡ call.before.listings ++ flat_map (λ ls. ls) looks)
+        × AllByRecursion (IsAscending place_cmp) looks)) }
+    ensures read { (call : Call) (part : Part) (limits : List Limits) (ran : CycleEnd)
+        → CycleOfRunsWithin call part limits ran → (trails : List (List Opening))
+        × ((length trails ≡ ran.runs)
+        × ((call.after.openings ≡ call.before.openings ++ flat_map (λ os. os) trails)
+        × AllByRecursion (λ os. IsAscending place_cmp (heads_of call.root os)) trails)) }
+    ensures root { (call : Call) (part : Part) (limits : List Limits) (ran : CycleEnd)
+        → CycleOfRunsWithin call part limits ran → (listed : List Place)
+        × ((call.after.listings ≡ call.before.listings ++ listed)
+        × (length (filter is_empty listed) ≤ ran.runs)) }
 {}

@@ -1,0 +1,118 @@
+-- What each run of a cycle lists and reads.
+use Rattle.std.proofs.Common.{◌≡◌, ℕ, suc, ◌+◌, ◌≤◌, List, [], ◌∷◌, ◌++◌, refl, sym, ◌∙◌, ap, subst, Bool, Option, append-nil, append_assoc, filter, length, length-append, arith}
+use Rattle.std.specs.Prelude.{flat_map}
+use Rattle.std.specs.List.{AllByRecursion}
+use Rattle.ocfl_tree.specs.Place.{Place, place_cmp}
+use Rattle.ocfl_tree.specs.Ascending.{IsBeforeAll, IsAscending}
+use Rattle.ocfl_tree.specs.StorageRoot.{StorageRoot}
+use Rattle.ocfl_tree.specs.Store.{Store}
+use Rattle.ocfl_tree.specs.declared.store.Opening.{Opening}
+use Rattle.ocfl_audit.specs.Lines.{is_empty}
+use Rattle.ocfl_audit.specs.Parts.{Part}
+use Rattle.ocfl_audit.specs.Runs.{Limits}
+use Rattle.ocfl_audit.specs.Trail.{heads_of}
+use Rattle.ocfl_audit.proofs.Trails.{filter_append}
+use Rattle.ocfl_cursor.specs.Cursor.{Cursor, new_cursor}
+use Rattle.ocfl_scrub.specs.Call.{Call, call_of}
+use Rattle.ocfl_scrub.specs.Chaining.{MadeRun, calls_of, AreChained, IsMadeOf, CycleOfRunsWithin}
+use Rattle.ocfl_scrub.specs.Running.{place_in, RunEndsWithin}
+use Rattle.ocfl_scrub.specs.declared.cycling.CycleEnd.{CycleEnd}
+use Rattle.ocfl_scrub.specs.declared.running.RunStatus.{RunStatus}
+use Rattle.ocfl_scrub.specs.declared.running.RunStatus.TheVariants as run
+use Rattle.ocfl_scrub.proofs.ChainHeadline.{now}
+
+module _ (root : StorageRoot) (part : Part) where
+  -- ---- one run
+
+  abbrev Lists : Store → Store → Type 0
+  Lists s t = (listed : List Place) × ((t.listings ≡ s.listings ++ listed) × IsAscending place_cmp listed)
+
+  abbrev Reads : Store → Store → Type 0
+  Reads s t = (trail : List Opening) × ((t.openings ≡ s.openings ++ trail) × IsAscending place_cmp (heads_of root trail))
+
+  module _ (s t : Store) (old new : Option (List ℕ)) (from last : Option Place) (l : Limits) (spent files : ℕ) (finding : Bool) where
+    lists : (end : RunStatus) → RunEndsWithin (call_of root s t old new) part from last l spent files finding end → Lists s t
+    lists run.Ended h = (_, (h.looks.audits.did.listings_are, h.looks.lists_once))
+    lists run.Spent h = (_, (h.1.looks.audits.did.listings_are, h.1.looks.lists_once))
+    lists (run.Stopped why) h = (_, (h.looks.fails.did.listings_are, h.looks.lists_once))
+    lists run.Worn h = absurd h
+
+    reads : (end : RunStatus) → RunEndsWithin (call_of root s t old new) part from last l spent files finding end → Reads s t
+    reads run.Ended h = (h.trail, (h.looks.audits.did.openings_are, subst (IsAscending place_cmp) (sym h.looks.audits.heads_are) h.looks.reads_once))
+    reads run.Spent h = (h.1.trail, (h.1.looks.audits.did.openings_are, subst (IsAscending place_cmp) (sym h.1.looks.audits.heads_are) h.1.looks.reads_once))
+    reads (run.Stopped why) h = (h.trail, (h.looks.fails.did.openings_are, subst (IsAscending place_cmp) (sym h.looks.fails.heads_are) h.looks.reads_once))
+    reads run.Worn h = absurd h
+
+  -- ---- the runs of a chain
+
+  lists_all : (made : List MadeRun) (c : Cursor) (s t : Store) (old new : Option (List ℕ)) → AreChained part c made → IsMadeOf (call_of root s t old new) (calls_of made)
+      → (looks : List (List Place)) × ((length looks ≡ length made) × ((t.listings ≡ s.listings ++ flat_map (λ ls. ls) looks) × AllByRecursion (IsAscending place_cmp) looks))
+  lists_all [] c s t old new h m = ([], (refl, (ap (λ x. x.listings) m.0 ∙ sym (append-nil s.listings), tt)))
+  lists_all (r ∷ rest) c s t old new h m =
+      let k = now root part s old c r h.0 m.0 in
+      let one : Lists s r.call.after = lists s r.call.after old r.call.new (place_in c.state) k.last r.limits r.ran.spent r.ran.files r.ran.found r.ran.end k.run in
+      let more = lists_all rest r.ran.cursor r.call.after t r.call.new new h.1 m.1 in (
+        one.0 ∷ more.0,
+        (
+          ap suc more.1.0,
+          (
+            more.1.1.0 ∙ ap (λ ls. ls ++ flat_map (λ x. x) more.0) one.1.0 ∙ append_assoc s.listings one.0 (flat_map (λ x. x) more.0),
+            (one.1.1, more.1.1.1),
+          ),
+        ),
+      )
+
+  reads_all : (made : List MadeRun) (c : Cursor) (s t : Store) (old new : Option (List ℕ)) → AreChained part c made → IsMadeOf (call_of root s t old new) (calls_of made)
+      → (trails : List (List Opening)) × ((length trails ≡ length made) × ((t.openings ≡ s.openings ++ flat_map (λ os. os) trails)
+      × AllByRecursion (λ os. IsAscending place_cmp (heads_of root os)) trails))
+  reads_all [] c s t old new h m = ([], (refl, (ap (λ x. x.openings) m.0 ∙ sym (append-nil s.openings), tt)))
+  reads_all (r ∷ rest) c s t old new h m =
+      let k = now root part s old c r h.0 m.0 in
+      let one : Reads s r.call.after = reads s r.call.after old r.call.new (place_in c.state) k.last r.limits r.ran.spent r.ran.files r.ran.found r.ran.end k.run in
+      let more = reads_all rest r.ran.cursor r.call.after t r.call.new new h.1 m.1 in (
+        one.0 ∷ more.0,
+        (
+          ap suc more.1.0,
+          (
+            more.1.1.0 ∙ ap (λ os. os ++ flat_map (λ x. x) more.0) one.1.0 ∙ append_assoc s.openings one.0 (flat_map (λ x. x) more.0),
+            (one.1.1, more.1.1.1),
+          ),
+        ),
+      )
+
+-- ---- how often the storage root is listed
+
+none_later : (ps : List Place) → IsBeforeAll place_cmp [] ps → length (filter is_empty ps) ≡ 0
+none_later [] h = refl
+none_later ([] ∷ ps) h = absurd (let e = h.0 in cc)
+none_later ((n ∷ p) ∷ ps) h = none_later ps h.1
+
+root_once : (ps : List Place) → IsAscending place_cmp ps → length (filter is_empty ps) ≤ 1
+root_once [] h = omega arith
+root_once ([] ∷ ps) h = let e = none_later ps h.0 in omega (arith, e)
+root_once ((n ∷ p) ∷ ps) h = root_once ps h.1
+
+root_each : (looks : List (List Place)) → AllByRecursion (IsAscending place_cmp) looks → length (filter is_empty (flat_map (λ ls. ls) looks)) ≤ length looks
+root_each [] h = omega arith
+root_each (ps ∷ looks) h =
+    let a = root_once ps h.0 in
+    let b = root_each looks h.1 in
+    let e : length (filter is_empty (ps ++ flat_map (λ ls. ls) looks)) ≡ length (filter is_empty ps) + length (filter is_empty (flat_map (λ ls. ls) looks)) =
+    ap length (filter_append is_empty ps (flat_map (λ ls. ls) looks)) ∙ length-append (filter is_empty ps) (filter is_empty (flat_map (λ ls. ls) looks)) in
+    omega (arith, a, b, e)
+
+-- ---- a cycle
+
+module _ (call : Call) (part : Part) (limits : List Limits) (ran : CycleEnd) (h : CycleOfRunsWithin call part limits ran) where
+  pub cycle_lists : (looks : List (List Place)) × ((length looks ≡ ran.runs) × ((call.after.listings ≡ call.before.listings ++ flat_map (λ ls. ls) looks)
+      × AllByRecursion (IsAscending place_cmp) looks))
+  cycle_lists = let k = lists_all call.root part h.runs new_cursor call.before call.after call.old call.new h.chained h.made_of in (k.0, (k.1.0 ∙ sym h.count_is, k.1.1))
+
+  pub cycle_reads : (trails : List (List Opening)) × ((length trails ≡ ran.runs) × ((call.after.openings ≡ call.before.openings ++ flat_map (λ os. os) trails)
+      × AllByRecursion (λ os. IsAscending place_cmp (heads_of call.root os)) trails))
+  cycle_reads = let k = reads_all call.root part h.runs new_cursor call.before call.after call.old call.new h.chained h.made_of in (k.0, (k.1.0 ∙ sym h.count_is, k.1.1))
+
+  pub root_listed : (listed : List Place) × ((call.after.listings ≡ call.before.listings ++ listed) × (length (filter is_empty listed) ≤ ran.runs))
+  root_listed =
+      let k = cycle_lists in
+      (flat_map (λ ls. ls) k.0, (k.1.1.0, subst (λ n. length (filter is_empty (flat_map (λ ls. ls) k.0)) ≤ n) k.1.0 (root_each k.0 k.1.1.1)))

@@ -1,0 +1,11 @@
+use Rattle.ocfl_scrub.proofs.ChainLooks.{cycle_lists, cycle_reads, root_listed}
+use Rattle.ocfl_scrub.proofs.parts.each_run_of_a_cycle_looks_once.Goals as goal
+
+pub returns-clause-listed : goal.returns-clause-listed
+returns-clause-listed c = cycle_lists
+
+pub returns-clause-read : goal.returns-clause-read
+returns-clause-read c = cycle_reads
+
+pub returns-clause-root : goal.returns-clause-root
+returns-clause-root c = root_listed

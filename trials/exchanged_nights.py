@@ -10,7 +10,7 @@ import shutil
 import common
 from common import PROGRAM, is_not_so_yet, is_so, sound
 from shared.nights import Nights, instead, ran, read, tried_apart, write
-from shared.spaces import MountedRoot, in_space
+from shared.spaces import MountedRoot, in_space, tried_where_mounts_are
 
 FILES = {"v1/content/a": b"abc", "v1/content/b": b"abc"}
 OBJECTS = {place: FILES for place in "abcde"}
@@ -178,13 +178,13 @@ def rights(folder):
         is_so("under the mask %03o" % mask, (len(seen) > 10, open_to_others), (True, []))
 
 
-PARTS = [unmounted, link_that_moves, mounted_anew, killed_as_well, no_storage_root,
-         state_unmounted, rights]
+MOUNTING = [unmounted, mounted_anew, killed_as_well, state_unmounted]
+PARTS = [link_that_moves, no_storage_root, rights]
 
 
 def tell(folder):
     is_so("the audit of the trials' own root", "".join(sound(OBJECTS)).count("\n"), 16)
-    tried_apart(PARTS, folder)
+    tried_apart(PARTS + tried_where_mounts_are(MOUNTING), folder)
 
 
 common.trial(tell)

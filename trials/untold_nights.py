@@ -11,7 +11,7 @@ import shutil
 import common
 from common import PROGRAM, is_so
 from shared.nights import (CONTRIB, Nights, instead, ran, read, tried_apart, write)
-from shared.spaces import in_space, move, path_with
+from shared.spaces import in_space, path_with, tried_where_mounts_are
 
 FILES = {"v1/content/a": b"abc", "v1/content/b": b"abc"}
 OBJECTS = {place: FILES for place in "abcde"}
@@ -67,6 +67,28 @@ def full_temporary_folder(folder):
         is_so(name + ": and not again", told(nights.night("1")[2]), [0, 0])
 
 
+def little_room(folder):
+    """TMPDIR has room for so many blocks from the beginning on."""
+    untold, whole = [], []
+    for blocks in range(1, 11):
+        nights = make_nights("%s/%d" % (folder, blocks))
+        tiny = nights.state + "-tmp"
+        os.makedirs(tiny)
+        mounts = "mount -t tmpfs -o size=64k none '%s' && head -c %dK /dev/zero > '%s/filler'" % (
+            tiny, 64 - 4 * blocks, tiny)
+        status, _, first = in_space(mounts, nights.words("24", ["--hours", "1"]), TMPDIR=tiny)
+        # Where runs were made, their findings are told even if the files are right by now.
+        if nights.whole(1):
+            mend(nights)
+        second = nights.night("1" if nights.whole(1) else "1K")[2]
+        if 0 in told(first + second) or status != 3 and told(first) != [1, 1]:
+            untold.append(blocks)
+        whole.append("".join(line.split("\t")[0] + " " for line in nights.whole(1).splitlines()))
+    is_so("each is told, whatever the room", untold, [])
+    is_so("and each report is whole", set(whole), {"ok " * 6 + "E092 " + "ok " * 5 + "E092 "
+                                                   + "ok " * 3})
+
+
 def full_once_the_run_is_over(folder):
     """The same once the cursor of the run was read: as the text is made."""
     nights = make_nights(folder)
@@ -93,7 +115,7 @@ def lost_tools(folder):
     taking = instead(folder, "taking", '{program} "$@"; status=$?; %s; exit $status' % away)
     status, _, said = ran(words, OCFL_SCRUB=taking)
     if os.path.exists(folder + "/lib"):
-        move(folder + "/lib", folder + "/contrib/lib")
+        shutil.move(folder + "/lib", folder + "/contrib/lib")
     first = told(said)
     is_so("the night fails, or tells it", status == 3 or first[0] == 1, True)
     is_so("it is told by the next night", first[0] + told(ran(words)[2])[0] > 0, True)
@@ -233,13 +255,13 @@ def names_in_the_text(folder):
           (False, True, [1, 0]))
 
 
-PARTS = [full_temporary_folder, full_once_the_run_is_over, lost_tools, full_state, damaged_report,
-         nobody_sends, killed_before_it_is_sent, without_second_names, a_lock_that_fails,
-         cut_and_refused, names_in_the_text]
+MOUNTING = [full_temporary_folder, little_room, full_once_the_run_is_over, full_state]
+PARTS = [lost_tools, damaged_report, nobody_sends, killed_before_it_is_sent, without_second_names,
+         a_lock_that_fails, cut_and_refused, names_in_the_text]
 
 
 def tell(folder):
-    tried_apart(PARTS, folder)
+    tried_apart(PARTS + tried_where_mounts_are(MOUNTING), folder)
 
 
 common.trial(tell)

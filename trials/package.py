@@ -207,7 +207,7 @@ def dpkg(*words):
 
 
 def older(folder, made):
-    """The package with a lower version, one more file and another script."""
+    """The package with a lower version, one more file, another script and another program."""
     tree = folder + "/older"
     ran(["dpkg-deb", "--raw-extract", made + ".deb", tree])
     text = read(tree + "/DEBIAN/control")
@@ -215,6 +215,8 @@ def older(folder, made):
     write("%s/%slib/older.sh" % (tree, SHARE), "")
     with open("%s/%snightly" % (tree, SHARE), "a") as file:
         file.write("# older\n")
+    with open(tree + "/usr/bin/ocfl-scrub", "ab") as program:
+        program.write(b"older\n")
     ran(["dpkg-deb", "--root-owner-group", "-Zgzip", "--build", tree, tree + ".deb"])
     return tree + ".deb"
 
@@ -279,6 +281,10 @@ def installing(folder, made, paths):
           (0, "", ""))
     is_so("the next night goes on", service.night(), (0, "", ""))
     is_so("the report of the cycle", service.has("reports/cycle-000001"), "".join(ITEMS))
+    programs = [common.read(folder + "/older/usr/bin/ocfl-scrub"), common.read(PROGRAM)]
+    is_so("its statement names the program before the upgrade and that after it", [
+        digest(program) in service.has("reports/statement-000001") for program in programs],
+          [True, True])
     using(service)
     units()
     kept = service.kept()

@@ -236,6 +236,25 @@ def checking(folder):
     forged(nights, copied, names)
 
 
+def losses(folder):
+    """The event of a cycle that no longer found something is no pass."""
+    nights = Nights(folder + "/state", make_root(folder + "/root"))
+    nights.cycle()
+    is_so("nothing is lost", outcomes(nights, 1), ["pass"])
+    shutil.copytree(nights.root + "/o", nights.root + "/p")
+    nights.cycle()
+    shutil.rmtree(nights.root + "/p")
+    nights.cycle()
+    is_so("an object is lost", outcomes(nights, 3), ["fail"])
+    write(folder + "/expected", "o\nq\n")
+    nights.night("1K", more=["--expected", folder + "/expected"])
+    is_so("an expected object is missing", outcomes(nights, 4), ["fail"])
+
+
+def outcomes(nights, cycle):
+    return re.findall("<eventOutcome>(.*?)<", ask("premis", nights.state, str(cycle))[1])
+
+
 def forged(nights, copied, names):
     """Lines that were added, changed or taken away."""
     text = nights.has("reports/statement-000003")
@@ -295,7 +314,7 @@ def copies_are_no_seals(folder):
 
 
 PARTS = [two_programs, two_programs_of_parts, left_out, ends_of_parts, changed_roots, declaration,
-         two_folders, checking, no_list, copies_are_no_seals]
+         two_folders, checking, losses, no_list, copies_are_no_seals]
 
 
 def tell(folder):

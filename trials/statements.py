@@ -451,7 +451,8 @@ def premis(folder):
     name = ("OCFL storage root", "%s:%s" % (os.uname().nodename, root))
     first, last = "2026-02-01T22:00:00Z", "2026-02-03T22:00:00Z"
     is_so("one for the cycle", premis_of(state), [
-        ("cycle-000002", last, [("fail", "4 findings in 13 lines")], name)])
+        ("cycle-000002", last, [("fail", "4 findings in 13 lines; Objects gone: 1; Files gone: 2; "
+                                 "Expected objects missing: 1")], name)])
 
     def fail(text):
         return ("fail", text.rstrip("\n").replace("\t", " "))

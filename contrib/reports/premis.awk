@@ -56,7 +56,9 @@ END {
   end_object()
   if (each == "cycle") {
     open_event("", "Audit of a storage root")
-    outcome(findings ? "fail" : "pass", findings + 0 " findings in " NR " lines")
+    gone = ENVIRON["GONE"]
+    outcome(findings || gone != "" ? "fail" : "pass",
+      findings + 0 " findings in " NR " lines" gone)
     from = 1
     close_event(".", nights)
   }

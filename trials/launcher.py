@@ -19,8 +19,10 @@ def read(path):
     return common.text_of(common.read(path))
 
 
-# The kit that README names, by its logic.
-LOGIC = re.search(r"`logic (\w+)`", read(os.path.join(common.TOP, "README.md")))[1]
+README = read(os.path.join(common.TOP, "README.md"))
+# The kit that README names, by its logic, and how long it says that a build takes.
+LOGIC = re.search(r"`logic (\w+)`", README)[1]
+MINUTES = re.search(r"proves and builds it, in ([\w ]+ minutes)", README)[1]
 CRATES = b"# lowest first\nlow:\nbeside: low\nmiddle: low sha2\nocfl_tests: low beside\n" \
          b"ocfl_scrub_cli: middle\n"
 PROVED = ["low", "middle", "ocfl_scrub_cli"]
@@ -151,7 +153,7 @@ def builds_once(copy):
     is_so("it builds, and hands on words and status", (status, out, builds),
           (7, "one two words\n", 3))
     is_so("it says so", [part in said for part in [
-        "it is not built.", "30 to 40 minutes", copy.launcher + " --unproved audit ROOT", copy.logs,
+        "it is not built.", MINUTES, copy.launcher + " --unproved audit ROOT", copy.logs,
         "README.md"]], [True] * 5)
     is_so("where there is no terminal, each crate that is proved has its line",
           [line.split(": ")[1:] for line in said.splitlines() if " proved, " in line],

@@ -145,6 +145,9 @@ def state_unmounted(folder):
         Nights(folder + "/mounted/other", below.root).night("8")), (None, (0, "", "")))
     is_so("a first night, in a folder of others",
           Nights(folder + "/mounted/third", below.root).night("8"), (0, "", ""))
+    os.mkdir(folder + "/home")
+    is_so("a first night, in an empty home",
+          Nights(folder + "/home/audit", below.root).night("8", HOME=folder + "/home"), (0, "", ""))
     shutil.rmtree(folder + "/disk")
     shutil.rmtree(folder + "/mounted")
     os.makedirs(folder + "/disk")

@@ -92,12 +92,15 @@ make_state() {
   [ ! -d "$state" ] || return 0
   above=$(realpath -m -- "$state") || exit 3
   until [ -d "$above" ]; do above=$(dirname -- "$above"); done
-  if [ "$above" != / ] && [ -r "$above" ] && [ -z "$(names_in "$above" | head -n 1)" ] \
-    && ! mountpoint -q -- "$above"; then
-    stop "there is no folder $state, and $above is empty: is its file system mounted? Nothing was \
-run. For a first night, make the folder."
-  fi
+  ! is_bare "$above" || stop "there is no folder $state, and $above is empty: is its file system \
+mounted? Nothing was run. For a first night, make the folder."
   mkdir -p -- "$state" || exit 3
+}
+
+# Whether a folder is empty as one is where nothing is mounted. A home may be empty.
+is_bare() {
+  if [ "$1" = / ] || [ "$1" = "$(realpath -m -- "${HOME:-/}")" ] || [ ! -r "$1" ]; then return 1; fi
+  [ -z "$(names_in "$1" | head -n 1)" ] && ! mountpoint -q -- "$1"
 }
 
 # Takes the lock of the folder, and makes a folder for what is only of this call.

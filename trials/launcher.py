@@ -34,9 +34,11 @@ case $1 in
   version) echo "${RT_KIT-rattle-kit-99 logic %s}" ;;
   ci)
     cat crates.txt > "$READ"
-    for name in low middle ocfl_scrub_cli; do
+    echo "rt: low is kept: an earlier run on this machine proved the same files"
+    for name in middle ocfl_scrub_cli; do
       printf '== %%s\\nfn of %%s: proved\\n' "$name" "$name"
-      [ "$name" != middle ] || [ "$RT_FAILS" = "" ] || { echo "fn x: not proved"; exit 1; }
+      [ "$RT_FAILS" = "" ] || { echo "fn x: not proved"; echo "rt: $name NOT PROVED"; exit 1; }
+      echo "rt: $name proved"
     done
     echo built >> "$COUNT"
     [ "$RT_WAITS" = "" ] || { echo $$ > "$COUNT.pid"; exec sleep 30; }

@@ -47,7 +47,7 @@ def moved(folder):
             by_hand(nights, "end")
             time.sleep(1)
     shutil.copytree(nights.state, folder + "/kept", symlinks=True)
-    for hundredths in range(2, 34, 4):
+    for hundredths in (4, 7, 10, 14, 20):
         shutil.rmtree(nights.state)
         shutil.copytree(folder + "/kept", nights.state, symlinks=True)
         status, _ = divided_meanwhile(nights, names[-1], hundredths / 100)
@@ -137,7 +137,7 @@ def copies(folder):
 def sizes(folder):
     """What the folder of a part takes does not grow with the names in the top folder."""
     root = common.make_root(folder + "/root", {})
-    for number in range(4000):
+    for number in range(1200):
         os.mkdir("%s/%s-%04d" % (root, "n" * 40, number))
     nights = Together(folder + "/state", root)
     status, out, _ = by_hand(nights, "begin", "--parts", "40")
@@ -187,7 +187,8 @@ def without_locks(folder):
     is_so("with locks", nights.has("reports/cycle-000001"), audit(nights.root))
 
 
-# In the place of Slurm: takes jobs as one with arrays of so many tasks does, and notes them.
+# In the place of Slurm: takes jobs as one with arrays of so many tasks does, and notes them. It has
+# given many jobs before.
 SBATCH = """#!/bin/sh
 for word in "$@"; do
   case $word in --array=*) array=${word#--array=}; array=${array%%%*} ;; esac
@@ -197,7 +198,7 @@ if [ "${array##*[-,]}" -ge "${WIDEST:-1001}" ] 2> /dev/null; then
   exit 1
 fi
 echo "$array" >> "$TAKEN"
-wc -l < "$TAKEN"
+echo "1234567890123456789$(wc -l < "$TAKEN")"
 """
 SCONTROL = """#!/bin/sh
 echo "MaxArraySize            = ${WIDEST:-1001}"
@@ -224,17 +225,20 @@ def tasks_in(arrays):
 
 
 def wide(folder):
-    """A night of more parts than one array of Slurm takes, and than fit into one word of a
-    command, is given to it whole."""
+    """A night of more parts than one array of Slurm takes, and one whose tasks, each named, do not
+    fit into one word of a command, is given to it whole."""
     root = common.make_root(folder + "/root", {})
-    for number in range(12000):
-        os.mkdir("%s/n-%05d" % (root, number))
+    for number in range(5200):
+        os.mkdir("%s/n-%04d" % (root, number))
     nights = Together(folder + "/state", root)
-    status, kinds, said, arrays = submitted(folder, nights, 12000, 1001)
-    is_so("12,000 parts", (status, said, kinds[-2:], tasks_in(arrays)),
-          (0, "", ["join", "tell"], len(nights.names())))
-    is_so("in arrays that Slurm takes", (kinds[:-2], max(map(tasks_in, zip(arrays))) <= 1000),
-          (["parts"] * len(arrays), True))
+    for widest in (100001, 1001):
+        status, kinds, said, arrays = submitted(folder, nights, 5200, widest)
+        name = "arrays of less than %d: " % widest
+        is_so(name + "all parts", (status, said, kinds[-2:], tasks_in(arrays)),
+              (0, "", ["join", "tell"], len(nights.names())))
+        is_so(name + "each is taken", (kinds[:-2], [
+            array for array in arrays if tasks_in([array]) >= widest]),
+              (["parts"] * len(arrays), []))
 
 
 def no_arrays(folder):

@@ -19,7 +19,7 @@ from shared.parallel import (Place, Together, again, audit, audit_parts, begun, 
                              told_in, without)
 
 # Names that a shell's `echo` would turn into others, and one that a list might keep for nothing.
-ODD_NAMES = ["b\\nx\\tAll is well\\033[2J", "b\\tx", "-"]
+ODD_NAMES = ["b\\nx\\tAll is well\\033[2J", "-"]
 
 
 def status_of(nights):
@@ -83,25 +83,25 @@ exec "$@"
 """
 
 
-def in_mounts(script, nights, disk, more):
+def in_mounts(script, nights, disk, budget):
     words = ["unshare", "-m", "sh", "-c", script, "sh", disk, nights.root, nights.state]
-    return ran(words + nights.words("4", more, jobs=1, parts=2))
+    return ran(words + nights.words(budget, ["--hours", "1"], jobs=1, parts=2))
 
 
 def unmounted(folder):
     """A root that is unmounted within a night is not taken for one that has ended."""
-    disk = small_root(folder + "/disk", ["c39"], 40)
+    disk = small_root(folder + "/disk", ["c29"], 30)
     root = folder + "/mounted"
     os.mkdir(root)
     nights = Together(folder + "/state", root)
-    status, _, said = in_mounts(UNMOUNTING, nights, disk, ["--hours", "1"])
+    status, _, said = in_mounts(UNMOUNTING, nights, disk, "4")
     if status == 99:
         print("not tried: nothing can be mounted here")
         return
     is_so("it is said", (status, root in said and "mounted?" in said), (3, True))
     is_so("nothing is closed", glob.glob(nights.path("reports/cycle-*")), [])
     is_so("status", status_of(nights), 2)
-    status, _, said = in_mounts(MOUNTED, nights, disk, ["--hours", "1"])
+    status, _, said = in_mounts(MOUNTED, nights, disk, "1M")
     is_so("mounted again", (status, nights.has("reports/cycle-000001")), (1, audit(disk)))
     is_so("with its finding", told_in(said), findings(audit(disk)))
 

@@ -359,8 +359,9 @@ def tell(folder):
     paths = members(common.read(made + ".tar.gz"))
     before = traces(paths)
     with Layer(folder + "/layers") as layer:
-        if layer.why:
-            skip("installing the package", layer.why)
+        why = layer.why or before and "it is on this system: %s" % ", ".join(before[:3])
+        if why:
+            skip("installing the package", why)
         else:
             tried(installing, folder, made, paths)
     is_so("the system is as it was", traces(paths), before)

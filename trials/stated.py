@@ -124,6 +124,20 @@ def left_out(folder):
     is_so("no separators", (status, "separators-000001" in out), (4, True))
 
 
+def lost_lines(folder):
+    """Of a report that lost lines nobody can say which objects have no findings."""
+    nights = Nights(folder + "/state", make_root(folder + "/root"))
+    write(nights.root + "/o/v1/content/a", "b")
+    nights.night("2")
+    kept = nights.has("report").splitlines(True)
+    write(nights.path("report"), "".join(row for row in kept if not row.startswith("E092")))
+    nights.cycle()
+    lines = lines_of(nights, 1)
+    is_so("a cycle that lost a finding", [lines.get(name) for name in [
+        "Whole", "Findings", "Objects without findings"]], ["no", "0", "not known"])
+    is_so("it is what was made", verified(file_of(nights, 1))[0], 0)
+
+
 def ends_of_parts(folder):
     """Separators stand as in reports and in the file of separators."""
     nights = Nights(folder + "/state", make_root(folder + "/root"))
@@ -313,8 +327,8 @@ def copies_are_no_seals(folder):
           (0, False))
 
 
-PARTS = [two_programs, two_programs_of_parts, left_out, ends_of_parts, changed_roots, declaration,
-         two_folders, checking, losses, no_list, copies_are_no_seals]
+PARTS = [two_programs, two_programs_of_parts, left_out, lost_lines, ends_of_parts, changed_roots,
+         declaration, two_folders, checking, losses, no_list, copies_are_no_seals]
 
 
 def tell(folder):

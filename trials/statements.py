@@ -214,7 +214,7 @@ def incomplete_statement(folder):
     wanted = ["Lost lines: lost 1 of 2 lines", "Root changed: /srv/new", "Whole: no",
               "Report: incomplete-000001", "Broken lines: 1", "Report lines: 6", "Nights: 2",
               "Runs: 3", "First night: 2026-01-01T22:00:00Z", "Last night: 2026-01-02T22:00:00Z",
-              "Objects: 3", "Objects without findings: 3", "Findings: 1",
+              "Objects: 3", "Objects without findings: not known", "Findings: 1",
               "Program commit: not known", "Program SHA-256: " + digest(common.read(made))]
     is_so("what it says", [row for row in wanted if "\n%s\n" % row not in text], [])
     is_so("as JSON", json.loads(state.has("reports/statement-000001.json"))["whole"], False)

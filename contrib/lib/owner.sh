@@ -30,7 +30,7 @@ as_owner() {
 refuse_other_owner() {
   find_owner "$1"
   [ -n "$owner" ] || return 0
-  say "$1 belongs to the user $(stat -L -c '%U' -- "$1"), and not to root. Call this as that" \
+  say "$1 belongs to the user $(stat -L -c "%U (%u)" -- "$1"), and not to root. Call this as that" \
     "user; nothing was done"
   exit 3
 }

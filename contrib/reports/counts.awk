@@ -1,6 +1,7 @@
 # What one pass over a report counts, as lines `NAME TAB NUMBER`. A file is counted that was read to
 # its end and has every digest that is known of it. UNREAD names a list of places that were not
-# audited: nobody can say of an object with such a place that it has no finding.
+# audited: nobody can say of an object with such a place that it has no finding. With LOST, the
+# report lost lines, and so nobody can say it of any object.
 BEGIN {
   FS = "\t"
   read_codes()
@@ -37,7 +38,8 @@ is_finding($1) {
 END {
   if (failed) exit 3
   printf "Report lines\t%.0f\nBroken lines\t%.0f\n", NR, broken
-  printf "Objects\t%.0f\nObjects without findings\t%.0f\n", objects, sound
+  printf "Objects\t%.0f\nObjects without findings\t%s\n", objects, \
+    ENVIRON["LOST"] == "" ? sprintf("%.0f", sound) : "not known"
   printf "Files found right\t%.0f\nBytes found right\t%s\n", files, total("bytes")
   printf "Findings\t%.0f\n", findings
   number = sorted_keys(count, codes)

@@ -107,6 +107,7 @@ def inside_the_root(folder, root):
     """A cursor's file in the storage root is refused, on whatever way it is named."""
     link = os.path.join(folder, "link")
     os.symlink(os.path.join(root, "o"), link)
+    part = ["--parts", write(os.path.join(folder, "no-separators"), b""), "--part", "1"]
     before = common.snapshot(root)
     for name, file in [
         ("object", os.path.join(root, "o/cursor")),
@@ -114,8 +115,10 @@ def inside_the_root(folder, root):
         ("over a link", os.path.join(link, "cursor")),
         ("over dots", os.path.join(root, "o", "..", "cursor")),
     ]:
-        status, out, said = ran(["run", "--budget", "4", root, "--cursor", file])
-        is_so("file in the root: " + name, (status, out, said != ""), (2, "", True))
+        for choice in [[], part]:
+            got = ran(["run", "--budget", "4", root, "--cursor", file, *choice])
+            is_so("file in the root: %s %s" % (name, choice[2:]), (*got[:2], got[2] != ""),
+                  (2, "", True))
     is_so("the root is as it was", common.snapshot(root), before)
 
 

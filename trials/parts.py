@@ -519,6 +519,45 @@ def closed_directory(folder):
     expect("a split of no root", nowhere, 3, [], "stopped at .")
 
 
+def stopped_part(folder):
+    """A run of a part that stops keeps the cursor after what went out, and the next goes on."""
+    objects = {name: {"v1/content/f": b"abc"} for name in ["a", "b", "d/o", "e"]}
+    made = make_root(os.path.join(folder, "stopped"), objects)
+    items = common.sound(objects)
+    bad = os.path.join(os.fsencode(made), b"d", b"\xff")
+    write(bad, b"")
+    file = write(os.path.join(folder, "stopped-parts"), b"b\n")
+    cursor = os.path.join(folder, "stopped-cursor")
+    run = ["run", "--cursor", cursor, "--budget", "1K", *part_words(file, 2), made]
+    expect("a part that stops", run, 3, items[3:5], "stopped at d")
+    shown = "from b\nbelow end\ncycle 1\nruns 1\nspent 4\nfiles 1\nafter b/v1/content/f\n"
+    expect("the cursor of a part that stops", ["show", cursor], 0, [shown], None)
+    os.remove(bad)
+    expect("a part that stopped goes on", run, 0, items[5:], "cycle 1, run 2, cost 8, ended")
+
+
+def long_reports(folder):
+    """A report of more than a million lines is read to its end."""
+    file = os.path.join(folder, "long-report")
+    report = line("ok", ".") + line("ok", "a", 3) + line("ok", "b", 0) * 1_000_100
+    split = ["split", "--budget", "4", "--report", file]
+    write(file, report.encode())
+    expect("a report of a million lines and more", split, 0, ["b\n"], None)
+    write(file, (report + line("ok", "a", 3)).encode())
+    expect("a bad line beyond a million", split, 2, [], "bad report: line 1000103")
+
+
+def failed_output(folder):
+    """A split whose output fails ends with its status and text."""
+    root = make_root(os.path.join(folder, "failed"), {name: {} for name in ["a", "b", "c"]})
+    report = line("ok", ".") + line("ok", "a", 3) + line("ok", "b", 3)
+    file = write(os.path.join(folder, "failed-report"), report.encode())
+    for words in [["split", "--parts", "3", root], ["split", "--budget", "1", "--report", file]]:
+        with open("/dev/full", "wb") as full:
+            got = ran(words, stdout=full)
+        is_so("output of %s fails" % words[:2], got, (3, "", common.note("output failed")))
+
+
 def faulty_reports(folder):
     """Reports that are none, and none at all."""
     file = os.path.join(folder, "faulty-report")
@@ -561,6 +600,9 @@ def tell(folder):
     other_cursors(folder)
     kills(folder)
     closed_directory(folder)
+    stopped_part(folder)
+    failed_output(folder)
+    long_reports(folder)
     faulty_reports(folder)
 
 

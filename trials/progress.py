@@ -9,9 +9,11 @@ import os
 import pty
 import re
 import subprocess
+import threading
 
 import common
 from common import end, is_so, note, ran, start
+from shared.shims import compiled
 
 # More than the program reads from one showing to the next.
 LARGE = 300 << 20
@@ -52,10 +54,10 @@ class Terminal:
         self.ours, self.theirs = pty.openpty()
         self.sent = b""
 
-    def ran(self, words, before=(), **outputs):
+    def ran(self, words, before=(), how=None, **outputs):
         """The status, what came by pipes, and this terminal's text."""
-        process = start(words, before,
-                        **{name: self.theirs for name in outputs if outputs[name]})
+        ends = {name: self.theirs for name in outputs if outputs[name]}
+        process = start(words, before, **ends, **(how or {}))
         os.close(self.theirs)
         while True:
             try:
@@ -146,6 +148,74 @@ def in_an_open_cycle(folder, root):
     is_so("the run that goes on: progress", shown_on(terminal), ["1 files, 255 MiB, at " + SHOWN])
 
 
+def cursor_that_cost(folder, cost):
+    """The file of a cursor whose cycle has ended, and cost this."""
+    body = b"ocfl-scrub cursor 2\ncycle 1\nruns 1\nspent %d\nfiles 1\nended\n" % cost
+    text = body + b"digest %s\n" % common.digest(body).encode()
+    return common.write(os.path.join(folder, "cursor that cost"), text)
+
+
+def shares_of_a_cycle(folder, root):
+    """Beyond the last cycle's cost no time is told, and the share stays in its room."""
+    for cost, share in [(255 << 20, "100 %"), (200 << 20, "127 %"), (1, "999 %")]:
+        terminal = Terminal()
+        run = ["run", "--cursor", cursor_that_cost(folder, cost), "--budget", "1G", root]
+        is_so("a last cycle of %d" % cost, terminal.ran(run, stderr=True)[0], 0)
+        done = "2 files, 255 MiB, %s of the last cycle, at " % share
+        is_so("a last cycle of %d: progress" % cost, shown_on(terminal),
+              [done + LARGE_PLACE[-min(40, 79 - len(done)):]])
+        is_so("a last cycle of %d: it fits into a line" % cost, widest(terminal) <= 79, True)
+
+
+def minutes_that_are_left(folder, root):
+    """An hour after the first hundredths, by a clock that goes by hours."""
+    hours = {**os.environ, "LD_PRELOAD": compiled(folder, "hours")}
+    # A quarter is done in 60 minutes: 180 are left, and one more for the seconds of the last.
+    for share, minutes in [(25, 181), (75, 21)]:
+        # Half a hundredth more than that is done, of what is read by then.
+        cursor = cursor_that_cost(folder, (511 << 19) * 200 // (2 * share + 1))
+        terminal = Terminal()
+        run = ["run", "--cursor", cursor, "--budget", "1G", root]
+        is_so("%d %%: the run" % share, terminal.ran(run, how={"env": hours}, stderr=True)[0], 0)
+        shown = re.findall(r"MiB, (.*) at ", "".join(shown_on(terminal)))
+        is_so("%d %%: the minutes left" % share, shown,
+              ["%d %% of the last cycle, %d min left," % (share, minutes)])
+
+
+def at_a_directory(folder):
+    """Where nothing is read, the directory that is listed is shown."""
+    root = common.make_root(os.path.join(folder, "directories"), {})
+    for number in range(8_200):
+        os.mkdir(os.path.join(root, "d%04d" % number))
+    terminal = Terminal()
+    # A pipe has no room for all of its lines.
+    with open(os.devnull, "wb") as null:
+        status = terminal.ran(["audit", root], how={"stdout": null}, stderr=True)[0]
+    is_so("many directories", status, 1)
+    # 8,192 calls are the work of 256 MiB: the first two list the root and open its declaration.
+    is_so("many directories: progress", shown_on(terminal), ["0 files, 0 MiB, at d8189"])
+
+
+def from_a_pipe(folder, root, report):
+    """A cursor from a pipe is read once, by the run itself."""
+    file = os.path.join(folder, "pipe")
+    given = [common.read(cursor_that_cost(folder, COST))]
+    os.mkfifo(file)
+
+    def give():
+        while True:
+            with open(file, "wb") as pipe:
+                pipe.write(given.pop() if given else b"")
+
+    threading.Thread(target=give, daemon=True).start()
+    terminal = Terminal()
+    run = ["run", "--cursor", file, "--budget", "1G", root]
+    is_so("a cursor from a pipe", terminal.ran(run, stderr=True)[:2], (0, report))
+    is_so("a cursor from a pipe: progress", shown_on(terminal), ["2 files, 255 MiB, at " + SHOWN])
+    is_so("a cursor from a pipe: what is said", terminal.text(),
+          note(SUMMARY.replace("cycle 1", "cycle 2")))
+
+
 def over_many_objects(folder):
     """Content files are counted as the cursor counts them, and no other files."""
     files = {**FILES, "v1/content/0=ocfl_object_1.1": b"", "v2/content/d/e": b"abc"}
@@ -166,16 +236,21 @@ def over_many_objects(folder):
 
 def quietly(folder, root, report):
     cursor = os.path.join(folder, "quiet")
+    parts = common.write(os.path.join(folder, "quiet parts"), b"")
+    part = ["--parts", parts, "--part", "1"]
     for words, said in [
         (["audit", root], ""),
+        (["audit", "--under", ".", root], ""),
+        (["audit", *part, root], ""),
+        (["run", "--cursor", cursor + "-part", "--budget", "1G", *part, root], note(SUMMARY)),
         (["run", "--cursor", cursor, "--budget", "1G", root], note(SUMMARY)),
         (["cycle", "--budget", "1G", "--runs", "9", root], note(CYCLE)),
     ]:
         terminal = Terminal()
         got = terminal.ran([words[0], "--quiet", *words[1:]], stderr=True)[:2]
-        is_so("quiet %s: the report" % words[0], got, (0, report))
+        is_so("quiet %s: the report" % words[:2], got, (0, report))
         shown = terminal.sent.decode().replace("\r\n", "\n")
-        is_so("quiet %s: no more is shown than is said" % words[0], shown, said)
+        is_so("quiet %s: no more is shown than is said" % words[:2], shown, said)
     terminal = Terminal()
     checked = common.line("ok", LARGE_PLACE, LARGE)
     status, out, _ = terminal.ran(["check", root, LARGE_PLACE], stderr=True)
@@ -206,11 +281,13 @@ def tell(folder):
     root = make(folder)
     status, report, said = ran(["audit", root])
     is_so("without a terminal", (status, said, report.count("\n")), (0, "", 5))
-    for tells in [on_standard_error, quietly, on_one_terminal, in_the_next_cycle]:
+    for tells in [on_standard_error, quietly, on_one_terminal, in_the_next_cycle, from_a_pipe]:
         tells(folder, root, report)
     without_proc(root, report)
-    in_an_open_cycle(folder, root)
+    for tells in [in_an_open_cycle, shares_of_a_cycle, minutes_that_are_left]:
+        tells(folder, root)
     over_many_objects(folder)
+    at_a_directory(folder)
 
 
 common.trial(tell)

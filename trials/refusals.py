@@ -7,23 +7,14 @@ The calls that take memory are those of the C library: `refusals.c` stands befor
 """
 import json
 import os
-import shutil
 import subprocess
 
 import common
 from common import (PROGRAM, digest, is_so, make_object, make_root, note, put_inventory,
                     shown_cursor, sound, write)
+from shared.shims import compiled
 
 OUT_OF_MEMORY = note("out of memory")
-SHIM = os.path.join(os.path.dirname(os.path.abspath(__file__)), "refusals.c")
-
-
-def compiled(folder):
-    """The library that stands before the C library."""
-    made = os.path.join(folder, "refusals.so")
-    compiler = shutil.which("cc") or shutil.which("clang") or "cc"
-    subprocess.run([compiler, "-shared", "-fPIC", "-O1", "-o", made, SHIM], check=True)
-    return made
 
 
 class Refusing:
@@ -32,7 +23,7 @@ class Refusing:
     def __init__(self, folder):
         self.flag = os.path.join(folder, "refused")
         self.noted = os.path.join(folder, "span")
-        self.library = compiled(folder)
+        self.library = compiled(folder, "refusals")
 
     def ran(self, words, call):
         """Status, output and note of a run whose call of that number is refused, and whether it
@@ -79,23 +70,49 @@ def commands_without_a_cursor(refusing, name, root, items):
         tried.append(("check of " + place, ["check", root, place], [item], "", 30))
     for what, words, written, summary, least in tried:
         found = int(any(not item.startswith("ok") for item in written))
-        odd, calls = [], 0
-        for calls, (status, out, said) in refusing.each(words):
-            stops = status == 3 and said == OUT_OF_MEMORY and out in beginnings(written)
-            if not stops and (status, out, said) != (found, "".join(written), summary):
-                odd.append((calls, status, out, said))
-        is_so("%s, %s: each of %d refusals" % (name, what, calls), odd, [])
-        is_so("%s, %s: there are refusals" % (name, what), calls > least, True)
+        without = found, "".join(written), summary
+        each_is_told(refusing, "%s, %s" % (name, what), words, written, without, least)
 
 
-def runs_with_a_cursor(refusing, folder, name, root):
+def each_is_told(refusing, name, words, written, without, least):
+    """After each refusal whole pieces were written and the program stopped for memory, or all is
+    as without. There are more refusals than `least`."""
+    odd, calls = [], 0
+    for calls, (status, out, said) in refusing.each(words):
+        stops = status == 3 and said == OUT_OF_MEMORY and out in beginnings(written)
+        if not stops and (status, out, said) != without:
+            odd.append((calls, status, out, said))
+    is_so("%s: each of %d refusals" % (name, calls), odd, [])
+    is_so("%s: there are refusals" % name, calls > least, True)
+
+
+def parts_and_splits(refusing, folder):
+    """What reads a branch, separators or a report tells refused memory as such, and so does a
+    split by listing."""
+    objects = {name: {"v1/content/f": ABC} for name in ("o1", "o2", "o3")}
+    root, items = make_root(os.path.join(folder, "parts root"), objects), sound(objects)
+    report = write(os.path.join(folder, "report"), "".join(items).encode())
+    by_report = ["split", "--budget", "1", "--report", report]
+    part = ["--parts", write(os.path.join(folder, "parts"), b"o2\n"), "--part", "2"]
+    for name, words, written in [
+        ("a branch", ["audit", "--under", "o2", root], items[3:5]),
+        ("a part", ["audit", *part, root], items[3:]),
+        ("a split by listing", ["split", "--parts", "3", root], ["o2\no3\n"]),
+        ("a split by a report", by_report, ["o2/v1/content/f\no3/v1/content/f\n"]),
+    ]:
+        each_is_told(refusing, name, words, written, (0, "".join(written), ""), 10)
+    runs_with_a_cursor(refusing, folder, "a part", root, part)
+
+
+def runs_with_a_cursor(refusing, folder, name, root, choice=()):
     """After each refusal the cursor file is whole, and the next run goes on where it stands.
 
     Where the run itself wanted what was refused, there is memory for the text of its cursor, and
     the file is that of one run more.
     """
     file = os.path.join(folder, "cursor")
-    words = ["run", "--cursor", file, "--budget", "4", root]
+    words = ["run", "--cursor", file, "--budget", "4", *choice, root]
+    whole = ["run", "--cursor", file, "--budget", "1T", *choice, root]
 
     def begin():
         for each in (file, file + ".new"):
@@ -105,7 +122,7 @@ def runs_with_a_cursor(refusing, folder, name, root):
 
     begin()
     first = common.read(file)
-    went = common.ran(["run", "--cursor", file, "--budget", "1T", root])[1]
+    went = common.ran(whole)[1]
     begin()
     inside = refusing.span(words)
     odd, stays, calls = [], [], 0
@@ -114,7 +131,7 @@ def runs_with_a_cursor(refusing, folder, name, root):
         has_ended = not kept and shown_cursor(file).endswith("\nended\n")
         rest = ""
         if not has_ended:
-            rest = common.ran(["run", "--cursor", file, "--budget", "1T", root])[1]
+            rest = common.ran(whole)[1]
         joined = rest if kept else out + rest
         is_told = status in (0, 1) or status == 3 and said == OUT_OF_MEMORY
         if joined != went or not is_told or os.path.exists(file + ".new"):
@@ -193,6 +210,7 @@ def main(folder):
         runs_with_a_cursor(refusing, folder, name, root)
     refused_before_it_writes(refusing, folder, root)
     shown(refusing, folder, root)
+    parts_and_splits(refusing, folder)
 
 
 if __name__ == "__main__":

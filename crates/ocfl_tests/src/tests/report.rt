@@ -245,6 +245,20 @@ fn lines_are_read(rt: HostRuntime) -> Result<(), Fail> {
 }
 
 #[test]
+fn long_details_are_read_back(rt: HostRuntime) -> Result<(), Fail> {
+    let alloc = rt.alloc();
+    for size in [1_024usize, 1_025, 70_000] {
+        let detail = String::from_utf8(vec![in alloc; b'd'; size]?)?;
+        let text = line_text(alloc, Code::E099, "o", detail.as_str())?;
+        let wanted = format!(in alloc; "E099\to\t{detail}\n")?;
+        assert!(rt; text.as_slice() == wanted.as_bytes(), "{size}");
+        let line = read_line(alloc, &text)?;
+        assert!(rt; line.detail.as_str() == detail.as_str(), "{size}");
+    }
+    Ok(())
+}
+
+#[test]
 fn each_code_is_read_back(rt: HostRuntime) -> Result<(), Fail> {
     let alloc = rt.alloc();
     for text in CODES {

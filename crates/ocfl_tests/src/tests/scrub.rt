@@ -9,6 +9,7 @@ mod faults;
 mod head;
 mod inventory_lines;
 mod large;
+mod long_parts;
 mod lying;
 mod odd_answers;
 mod part_stop;

@@ -1,6 +1,6 @@
 //! Splitting by listing: which directories are given, which are listed, and what stops it.
 use crate::tests::common::object::bare_root;
-use crate::tests::common::store::{change, expect_listed, place_of, put};
+use crate::tests::common::store::{change, expect_listed, place_of, put, put_dir};
 use crate::tests::parts::text_of;
 use crate::tests::walk::said;
 use ocfl_item::Fault;
@@ -167,5 +167,23 @@ fn listings_that_fail_stop_it(rt: HostRuntime) -> Result<(), Fail> {
         expect_listed(&rt, row, &store, listings)?;
         assert_eq!(rt; store.failures(), 1, "{row}");
     }
+    Ok(())
+}
+
+#[test]
+fn a_level_of_many_directories(rt: HostRuntime) -> Result<(), Fail> {
+    let alloc = rt.alloc();
+    let mut store = bare_root(alloc)?;
+    for number in 10_000..12_100u64 {
+        let path = format!(in alloc; "{number}")?;
+        put_dir(alloc, &mut store, path.as_str())?;
+    }
+    let text = split_text(alloc, &mut store, 3)?;
+    assert_eq!(rt; text.as_str(), "10700\n11400\n");
+    expect_listed(&rt, "2,100 directories", &store, ";")?;
+    // Each of them is listed where a deeper level is looked for.
+    let text = split_text(alloc, &mut store, 2_101)?;
+    assert_eq!(rt; text.as_str().lines().count(), 2_099);
+    assert_eq!(rt; store.listings().len(), 2_102);
     Ok(())
 }

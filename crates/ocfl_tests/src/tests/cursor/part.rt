@@ -5,7 +5,8 @@ use crate::tests::common::store::place_of;
 use crate::tests::common::{Runtime, expect_shown};
 use ocfl_cursor::{
     Cursor, PartEnds, PartRefused, Refused, State, decode_part, encode_part, every_part_has_ends,
-    no_part_is_refused, part_reads_back, parts_and_whole_are_apart, text_determines_the_part,
+    no_part_is_refused, part_reads_back, parts_and_whole_are_apart, read_part_cursor,
+    text_determines_the_part,
 };
 use std::alloc::Global;
 use std::test::Fail;
@@ -104,6 +105,34 @@ fn cursors_of_parts_are_read_back(rt: HostRuntime) -> Result<(), Fail> {
     };
     let read = part_reads_back(alloc, &ends, &Cursor::new())?;
     assert_eq!(rt; read.cycle(), 1);
+    Ok(())
+}
+
+#[test]
+fn cursors_of_parts_may_be_long(rt: HostRuntime) -> Result<(), Fail> {
+    let alloc = rt.alloc();
+    // Each byte of a name is escaped: a place of 255 names has 195,585 bytes of text.
+    for (row, names, least) in [
+        ("ends of 4,600 bytes", 6usize, 9_000usize),
+        ("longer than a cursor of the whole may be", 255, 580_000),
+        ("of more names than a cursor's place", 1_000, 1_500_000),
+    ] {
+        let ends = PartEnds {
+            from: Some(long_place(alloc, names)?),
+            below: Some(long_place(alloc, names + 1)?),
+        };
+        let place = long_place(alloc, names.min(255))?;
+        let cursor = Cursor::from_parts(3, 2, 9, 3, State::After(place)).ok_or("a cursor")?;
+        let text = encode_part(alloc, &ends, &cursor)?;
+        assert!(rt; text.len() > least, "{row}");
+        let mut reader = text.as_slice();
+        let read = read_part_cursor(alloc, &mut reader, &ends)
+            .ok()
+            .ok_or("read from a reader")?;
+        assert_eq!(rt; read.state(), cursor.state(), "{row}");
+        let read = part_reads_back(alloc, &ends, &cursor)?;
+        assert_eq!(rt; read.spent(), 9, "{row}");
+    }
     Ok(())
 }
 

@@ -50,6 +50,8 @@ struct Fake {
     alloc: Global,
     faults: Faults,
     names: &'static [u8],
+    /// How many further names it has, of a number each.
+    numbered: u64,
     /// How often the folder or a name was looked at.
     looks: Rc<Cell<u32>>,
 }
@@ -68,6 +70,7 @@ impl Fake {
             alloc,
             faults: Faults { call, kind, left },
             names,
+            numbered: 0,
             looks: Rc::new(alloc, Cell::new(0))?,
         })
     }
@@ -76,8 +79,21 @@ impl Fake {
 /// A directory that is being read: each read gives one name.
 #[derive(Drop)]
 struct FakeDir {
+    alloc: Global,
     faults: Faults,
     names: &'static [u8],
+    numbered: u64,
+}
+
+impl FakeDir {
+    /// Gives the next number as a name.
+    fn read_number(&mut self, buffer: &mut [u8]) -> io::Result<usize> {
+        self.numbered -= 1;
+        let name = format!(in self.alloc; "{}\0", self.numbered)?;
+        let count = name.len();
+        buffer[..count].copy_from_slice(name.as_bytes());
+        Ok(count)
+    }
 }
 
 #[derive(Drop)]
@@ -95,6 +111,9 @@ fn unsupported<T>() -> io::Result<T>
 
 impl Read for FakeDir {
     fn read(&mut self, buffer: &mut [u8]) -> io::Result<usize> {
+        if self.numbered > 0 {
+            return self.read_number(buffer);
+        }
         let ends = self.names.is_empty();
         self.faults.meet(if ends { Call::End } else { Call::Name })?;
         let count = match self.names.iter().position(|byte| *byte == 0) {
@@ -186,8 +205,10 @@ impl Files for Fake {
     fn open_dir(&self, _path: &str) -> io::Result<FakeDir> {
         self.faults.meet(Call::OpenDir)?;
         Ok(FakeDir {
+            alloc: self.alloc,
             faults: self.faults.clone()?,
             names: self.names,
+            numbered: self.numbered,
         })
     }
 
@@ -355,6 +376,20 @@ fn a_listing_that_fails_behind_its_names_is_no_listing(rt: HostRuntime) -> Resul
     ] {
         let answer = listed(Fake::new(alloc, names, Call::End, kind, often)?)?;
         assert_eq!(rt; answer, want, "{kind:?}, {often} times");
+    }
+    Ok(())
+}
+
+#[test]
+fn a_listing_of_many_reads_is_whole(rt: HostRuntime) -> Result<(), Fail> {
+    for count in [1_002u64, 1_003, 3_000] {
+        let mut files = Fake::new(rt.alloc(), b"", Call::Name, ErrorKind::Other, 0)?;
+        files.numbered = count;
+        assert_eq!(rt;
+            listed(files)?,
+            Ok(count as usize),
+            "{count} names, one a read"
+        );
     }
     Ok(())
 }

@@ -169,3 +169,19 @@ fn failing_reports_are_told(rt: HostRuntime) -> Result<(), Fail> {
     assert_eq!(rt; stop, Some(SplitStop::Line(2)));
     Ok(())
 }
+
+#[test]
+fn report_lines_may_be_long(rt: HostRuntime) -> Result<(), Fail> {
+    let alloc = rt.alloc();
+    for size in [1_025usize, 70_000] {
+        let detail = String::from_utf8(vec![in alloc; b'd'; size]?)?;
+        let name = String::from_utf8(vec![in alloc; b'n'; 250]?)?;
+        let report = format!(in alloc;
+            "ok\t.\t-\nE099\to\t{detail}\nok\to/{name}\t0\nok\to/{name}/{name}/{name}/{name}/{name}\t0\n"
+        )?;
+        let text = split_text(alloc, 1, report.as_str())?;
+        let wanted = format!(in alloc; "o/{name}/{name}/{name}/{name}/{name}\n")?;
+        assert_eq!(rt; text.as_str(), wanted.as_str(), "{size}");
+    }
+    Ok(())
+}

@@ -84,7 +84,11 @@ fn inventory_of_three_hundred_members(rt: HostRuntime) -> Result<(), Fail> {
 }
 
 /// What a deed writes, its status and its note, where no cursor is stored.
-fn performed(alloc: Global, store: &mut MemTree, deed: &Deed) -> Result<(String, String), Fail> {
+pub(super) fn performed(
+    alloc: Global,
+    store: &mut MemTree,
+    deed: &Deed,
+) -> Result<(String, String), Fail> {
     let (mut block, mut out) = (Block::new(alloc)?, Vec::new(alloc));
     let reader: Option<&mut &[u8]> = None;
     let done = perform(alloc, store, deed, reader, &mut block, &mut out);
@@ -176,5 +180,37 @@ fn lines_of_an_item_go_out_as_one_piece(rt: HostRuntime) -> Result<(), Fail> {
     let lines = "E092|o/v1/content/g|sha256 missing\nE093|o/v1/content/g|md5 missing\n";
     let lines = lines_of(alloc, lines)?;
     expect_calls(&rt, "a missing file", &out, lines.as_str());
+    Ok(())
+}
+
+/// The writer was called so often, and kept these lines.
+fn expect_pieces(rt: &impl Runtime, row: &str, out: &Counting, lines: &str, count: usize) {
+    assert_eq!(rt; out.calls, count, "{row}");
+    assert!(rt; out.kept.as_slice() == lines.as_bytes(), "{row}");
+}
+
+#[test]
+fn long_items_go_out_as_one_piece(rt: HostRuntime) -> Result<(), Fail> {
+    let alloc = rt.alloc();
+    let paths = numbered(alloc, 2_000, "\"/", "\"", ",")?;
+    let manifest = format!(in alloc; "\"ABC_SHA256\":[{paths},\"v1/content/f\"]")?;
+    let lines = numbered(alloc, 2_000, "E100|o|/", "\n", "")?;
+    let text = format!(in alloc; "ok|.|-\n{lines}{FILE_IS_OK}")?;
+    let text = lines_of(alloc, text.as_str())?;
+    assert!(rt; text.len() > 20_000);
+    let inventory = listing(alloc, manifest.as_str(), "")?;
+    let mut block = Block::new(alloc)?;
+    let mut store = object_with(alloc, inventory.as_str())?;
+    let mut out = Counting::new(alloc);
+    let _ = audited(alloc, &mut store, &mut block, &mut out);
+    expect_pieces(&rt, "an audit", &out, text.as_str(), 3);
+    let mut out = Counting::new(alloc);
+    let _ = checked(alloc, &mut store, "o", &mut block, &mut out);
+    let head = lines_of(alloc, lines.as_str())?;
+    expect_pieces(&rt, "a check", &out, head.as_str(), 1);
+    let mut out = Counting::new(alloc);
+    let most = limits(MOST, MOST)?;
+    let _ = run(alloc, &mut store, Cursor::new(), most, &mut block, &mut out);
+    expect_pieces(&rt, "a run", &out, text.as_str(), 3);
     Ok(())
 }

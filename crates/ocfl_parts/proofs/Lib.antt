@@ -4,3 +4,4 @@ pub mod Limited
 pub mod Numbers
 pub mod Cuts
 pub mod Reports
+pub mod ItemCuts

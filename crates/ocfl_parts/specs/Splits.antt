@@ -1,10 +1,10 @@
 -- Where a report is cut into parts of about one cost.
-use Rattle.std.specs.Prelude.{◌≡◌, ◌≢◌, ℕ, ◌+◌, ◌≤◌, ◌<◌, ◌==◌, ◌||◌, nat_lt, List, [], ◌∷◌, ◌++◌, length, All, if◌then◌else◌, Option, Some, None, ⊤}
+use Rattle.std.specs.Prelude.{◌≡◌, ◌≢◌, ℕ, ◌+◌, ◌≤◌, ◌<◌, ◌==◌, ◌||◌, nat_lt, List, [], ◌∷◌, ◌++◌, length, All, if◌then◌else◌, Option, Some, None, map, ⊤}
 use Rattle.std.specs.Str.{IsUtf8}
 use Rattle.std.specs.declared.cmp.Ordering.TheVariants.{Greater}
 use Rattle.ocfl_tree.specs.Place.{Text, Place, place_cmp, place_eq}
 use Rattle.ocfl_tree.specs.Name.{IsPlace}
-use Rattle.ocfl_report.specs.Line.{Line}
+use Rattle.ocfl_report.specs.Line.{Line, Item}
 use Rattle.ocfl_report.specs.Text.{line_text, lines_text}
 use Rattle.ocfl_parts.specs.Parts.{max_separators}
 use Rattle.ocfl_parts.specs.Costs.{told_cost, told}
@@ -23,6 +23,13 @@ items_from (Some i) (l ∷ ls) =
 
 abbrev pub items_told : List Line → List Told
 items_told ls = items_from None ls
+
+-- the same as items that a run could take, whose lines do not count here
+abbrev pub as_item : Told → Item
+as_item t = record { place = t.place; lines = []; cost = t.cost }
+
+abbrev pub reported : List Line → List Item
+reported ls = map as_item (items_told ls)
 
 -- ---- cuts
 

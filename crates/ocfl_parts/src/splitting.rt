@@ -57,9 +57,8 @@ struct Cutter {
 /// All bytes of the reader are read as that report, and one line is in memory at a time.
 ///
 /// An `ok` line of a content file of n bytes says that its item cost n + 1. Any other line says
-/// that it cost nothing. The parts are the runs that this budget makes: an item begins the next
-/// part if it costs something and its part has spent the budget. So each part but the last costs
-/// at least the budget, and passes it by less than its last file's cost.
+/// that it cost nothing. An item begins the next part if it costs something and its part has spent
+/// the budget. `ocfl_split::laws` says that these are the runs that the budget makes of the items.
 pub fn split_by<R: BufRead>(
     alloc: Global,
     report: &mut R,

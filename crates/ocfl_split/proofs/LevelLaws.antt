@@ -211,3 +211,8 @@ pub separator_there : (root : StorageRoot) (count : ℕ) (p : Place) → IsAmong
 separator_there root count p h =
     let k = one_level root count in
     leaf_dir (at root p) (level_there root k.0 p (subst (λ xs. IsAmong xs p) k.1.0 (separator_in_level root count p h)))
+
+pub none_above_has_enough : (root : StorageRoot) (count n k : ℕ) → IsSplitLevel root count n → k < n → length (level root k) < count
+none_above_has_enough root count n k h l =
+    let reached = h.reached in
+    h.fewer k (omega (arith, l, reached))

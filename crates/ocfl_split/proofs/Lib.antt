@@ -8,4 +8,6 @@ pub mod Descents
 pub mod LevelLaws
 pub mod LevelZones
 pub mod Listed
+pub mod ReportedParts
+pub mod ReportedRuns
 mod Cases

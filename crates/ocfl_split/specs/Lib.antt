@@ -1,3 +1,4 @@
 pub mod Levels
 pub mod Splitting
+pub mod Reported
 pub mod Internal

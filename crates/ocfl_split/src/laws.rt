@@ -1,18 +1,26 @@
 //! The laws of what splits a storage root.
 ghost use Rattle.std.specs.Prelude.{◌≡◌, ◌↔◌, ℕ, ◌+◌, ◌-◌, ◌*◌, ◌/◌, ◌<◌, ◌≤◌, ◌≢◌, Some};
 ghost use Rattle.std.specs.Prelude.{AllPairs, length, min, slice_get};
+ghost use Rattle.std.specs.Prelude.{List, ◌∷◌, ◌++◌, drop, map, replicate};
 ghost use Rattle.ocfl_tree.specs.Ascending.{IsAmong, IsAscending};
 ghost use Rattle.ocfl_tree.specs.Place.{Place, place_cmp};
 ghost use Rattle.ocfl_tree.specs.StorageRoot.{StorageRoot, dir, at};
+ghost use Rattle.ocfl_report.specs.Line.{Line, Item};
+ghost use Rattle.ocfl_audit.specs.Runs.{Limits, runs, joined, FileLimitFits};
+ghost use Rattle.ocfl_audit.specs.Parts.{within, parts_of};
+ghost use Rattle.ocfl_parts.specs.Splits.{cuts, reported};
 ghost use Rattle.ocfl_split.specs.Levels.{level, LiesInHierarchy};
+ghost use Rattle.ocfl_split.specs.Reported.{first_places, PassesJust};
 ghost use Rattle.ocfl_split.specs.Splitting.{IsSplitLevel, listed_for, split_level, separators_of};
 
 /// What is split is one level of the storage hierarchy: the first that has enough directories, or
-/// else the widest that is reached.
-#[tactic(auto, using(crate::proofs::LevelLaws::one_level))]
+/// else the widest that is reached. None above it has enough.
+#[tactic(auto, using(crate::proofs::LevelLaws::one_level, crate::proofs::LevelLaws::none_above_has_enough))]
 pub fn one_level_is_split()
-    ensures { (root : StorageRoot) (count : ℕ) → (n : ℕ)
+    ensures one { (root : StorageRoot) (count : ℕ) → (n : ℕ)
         × ((split_level root count ≡ level root n) × IsSplitLevel root count n) }
+    ensures first { (root : StorageRoot) (count n k : ℕ) → IsSplitLevel root count n → k < n
+        → length (level root k) < count }
 {}
 
 /// The separators are directories of that level, and so of the tree.
@@ -52,4 +60,24 @@ pub fn directories_are_listed_once()
     ensures order { (root : StorageRoot) (n : ℕ) → IsAscending place_cmp (level root n) }
     ensures once { (root : StorageRoot) (count : ℕ)
         → AllPairs (λ a b. a ≢ b) (listed_for root count) }
+{}
+
+/// A report is cut at the first places of the runs, but the first, that a budget makes of its items
+/// where there are enough of them. So the items of the parts are those of the runs. Each run but
+/// the last costs at least the budget, and passes it by less than its last file.
+#[tactic(auto, using(crate::proofs::ReportedRuns::cuts_begin_runs))]
+pub fn a_report_is_cut_into_runs()
+    ensures places { (lines : List Line) (l : Limits) (n : ℕ) → 1 ≤ l.budget
+        → FileLimitFits (reported lines) l
+        → joined (runs (reported lines) (replicate n l)) ≡ reported lines
+        → cuts l.budget lines ≡ first_places (drop 1 (runs (reported lines) (replicate n l))) }
+    ensures parts { (lines : List Line) (l : Limits) (n : ℕ) → 1 ≤ n → 1 ≤ l.budget
+        → FileLimitFits (reported lines) l
+        → joined (runs (reported lines) (replicate n l)) ≡ reported lines
+        → IsAscending place_cmp (map (λ i. i.place) (reported lines))
+        → map (λ part. within part (reported lines)) (parts_of (cuts l.budget lines))
+        ≡ runs (reported lines) (replicate n l) }
+    ensures costs { (items : List Item) (l : Limits) (n : ℕ) (before : List (List Item))
+        (run next : List Item) (later : List (List Item)) → 1 ≤ l.budget → FileLimitFits items l
+        → runs items (replicate n l) ≡ before ++ run ∷ next ∷ later → PassesJust l.budget run }
 {}

@@ -1,4 +1,4 @@
-/* A clock whose each reading is an hour after the one before, for what measures how long it took. */
+/* A clock of which each reading is an hour after the one before. */
 #include <sys/syscall.h>
 #include <time.h>
 #include <unistd.h>

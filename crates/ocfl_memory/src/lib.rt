@@ -2,6 +2,7 @@
 #![tactic(auto)]
 
 mod build;
+pub mod laws;
 mod mem_tree;
 mod nodes;
 mod openings;

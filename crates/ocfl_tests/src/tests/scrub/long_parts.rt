@@ -10,7 +10,7 @@ use crate::tests::common::store::{place_of, put, put_dir};
 use ocfl_cursor::PartEnds;
 use ocfl_deed::Deed;
 use ocfl_scrub::Scope;
-use ocfl_tree::MemTree;
+use ocfl_memory::MemTree;
 use std::alloc::Global;
 use std::test::Fail;
 

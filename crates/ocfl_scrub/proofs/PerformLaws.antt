@@ -11,9 +11,10 @@ use Rattle.ocfl_cursor.specs.Moves.{after_run}
 use Rattle.ocfl_cursor.specs.declared.limits.Limits.{Limits as MadeLimits}
 use Rattle.ocfl_deed.specs.declared.deed.Deed.{Deed}
 use Rattle.ocfl_deed.specs.declared.deed.Deed.TheVariants as deed
+use Rattle.ocfl_scope.specs.Finding.{IsNoPath}
 use Rattle.ocfl_scrub.specs.Call.{Call, IsUnfailing}
 use Rattle.ocfl_scrub.specs.Noting.{IsRefused, IsStoredNote}
-use Rattle.ocfl_scrub.specs.Performing.{HandedBack, IsNoPath, RefusesPath, RunMade, RunUnmade, RunWorn}
+use Rattle.ocfl_scrub.specs.Performing.{HandedBack, RefusesPath, RunMade, RunUnmade, RunWorn}
 use Rattle.ocfl_scrub.specs.Running.{IsPaid, IsWorn, RunsCleanlyWithin, RunsFromWithin, RunsOnAnyStore, begun, limits_of, state_after}
 use Rattle.ocfl_scrub.specs.declared.note.Note.{Note}
 use Rattle.ocfl_scrub.specs.declared.note.Note.TheVariants as note

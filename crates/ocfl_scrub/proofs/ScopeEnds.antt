@@ -32,7 +32,7 @@ use Rattle.ocfl_scrub.specs.declared.checking.End.{End}
 use Rattle.ocfl_scrub.specs.declared.checking.End.TheVariants as end
 use Rattle.ocfl_scrub.specs.declared.note.Note.{Note}
 use Rattle.ocfl_scrub.specs.declared.note.Note.TheVariants as note
-use Rattle.ocfl_scrub.specs.declared.scope.Scope.TheVariants as scope
+use Rattle.ocfl_scope.specs.declared.scope.Scope.TheVariants as scope
 
 -- ---- within the whole
 

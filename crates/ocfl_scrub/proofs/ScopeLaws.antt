@@ -19,7 +19,7 @@ use Rattle.ocfl_scrub.specs.declared.auditing.AuditEnd.{AuditEnd}
 use Rattle.ocfl_scrub.specs.declared.checking.End.TheVariants as end
 use Rattle.ocfl_scrub.specs.declared.note.Note.{Note}
 use Rattle.ocfl_scrub.specs.declared.note.Note.TheVariants as note
-use Rattle.ocfl_scrub.specs.declared.scope.Scope.{Scope}
+use Rattle.ocfl_scope.specs.declared.scope.Scope.{Scope}
 
 -- ---- audits
 

@@ -22,6 +22,7 @@ use Rattle.ocfl_cursor.specs.declared.showing.ShowStop.{ShowStop}
 use Rattle.ocfl_cursor.specs.declared.showing.ShowStop.TheVariants as show
 use Rattle.ocfl_deed.specs.declared.deed.Deed.{Deed}
 use Rattle.ocfl_deed.specs.declared.deed.Deed.TheVariants as deed
+use Rattle.ocfl_scope.specs.Finding.{IsNoPath}
 use Rattle.ocfl_scrub.specs.Call.{Call, Writes, IsUnfailing}
 use Rattle.ocfl_scrub.specs.Noting.{IsStatus, status_of, IsAuditSaid, IsCheckSaid, IsRunSaid, IsCycleSaid, IsFileSaid, IsShowSaid, IsRefused, IsRunNote, IsUnreadNote, WritesWithStatus, AuditsWithNote, ChecksWithNote, RunsWithNote, CyclesWithNote}
 use Rattle.ocfl_scrub.specs.Running.{IsPaid, IsWorn, begun, limits_of, state_after}
@@ -126,10 +127,6 @@ abbrev pub IsWithoutFile : Option (Option Text) → Deed → Note → Type 0
 IsWithoutFile None (deed.Run limits) n = n ≢ note.CursorFileFailed
 IsWithoutFile None deed.Show n = n ≡ note.CursorFileFailed
 IsWithoutFile known deed n = ⊤
-
--- the path of no place
-abbrev pub IsNoPath : Text → Type 0
-IsNoPath path = (p : Place) → IsPlace p → path ≢ place_text p
 
 -- the path that is to be checked names no place
 abbrev pub HasBadPath : Deed → Type 0

@@ -15,6 +15,9 @@ use Rattle.ocfl_cursor.specs.declared.part_reading.PartCursorStop.{PartCursorSto
 use Rattle.ocfl_cursor.specs.declared.part_reading.PartCursorStop.TheVariants as stop
 use Rattle.ocfl_deed.specs.declared.deed.Deed.{Deed}
 use Rattle.ocfl_deed.specs.declared.deed.Deed.TheVariants as deed
+use Rattle.ocfl_scope.specs.Numbered.{part_between}
+use Rattle.ocfl_scope.specs.declared.scope.Scope.{Scope}
+use Rattle.ocfl_scope.specs.declared.scope.Scope.TheVariants as scope
 use Rattle.ocfl_scrub.specs.Call.{Call, Writes, IsUnfailing}
 use Rattle.ocfl_scrub.specs.Noting.{status_of, IsAuditSaid, IsRunSaid, IsAuditNote, IsPartRefusedNote}
 use Rattle.ocfl_scrub.specs.Performing.{IsSaid, RefusesRightly, HandedBack, HandsBack, OutOfMemoryFirst, RunMade, RunUnmade, RunUnread, RunWorn, Performs}
@@ -25,12 +28,6 @@ use Rattle.ocfl_scrub.specs.declared.checking.End.{End}
 use Rattle.ocfl_scrub.specs.declared.checking.End.TheVariants as end
 use Rattle.ocfl_scrub.specs.declared.note.Note.{Note}
 use Rattle.ocfl_scrub.specs.declared.note.Note.TheVariants as note
-use Rattle.ocfl_scrub.specs.declared.scope.Scope.{Scope}
-use Rattle.ocfl_scrub.specs.declared.scope.Scope.TheVariants as scope
-
--- the part that has these ends
-abbrev pub part_between : PartEnds → Part
-part_between e = record { under = []; from = e.from; below = e.below }
 
 -- ---- what is said
 

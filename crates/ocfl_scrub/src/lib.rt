@@ -13,7 +13,6 @@ pub mod parts;
 mod performing;
 pub mod records;
 mod running;
-mod scope;
 pub mod scope_laws;
 mod taking;
 
@@ -22,8 +21,8 @@ pub use checking::{CheckEnd, End, check};
 pub use command::{audited, checked};
 pub use cycling::{CycleEnd, CycleStatus, cycle, cycle_part};
 pub use note::Note;
+pub use ocfl_scope::Scope;
 pub use part::Part;
 pub use part_performing::perform_part;
 pub use performing::{Performed, perform};
 pub use running::{RunEnd, RunStatus, run, run_part};
-pub use scope::Scope;

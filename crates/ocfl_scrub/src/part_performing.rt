@@ -1,6 +1,8 @@
 //! What the program does for a command within a scope: on the whole storage root, on a branch of
 //! it, or on one part.
 ghost use Rattle.std.specs.Prelude.{◌≡◌, ◌≢◌, IfErr, IfOk, None, Some};
+ghost use Rattle.ocfl_scope.specs.Numbered.{part_between as part_of_ends};
+ghost use Rattle.ocfl_scope.specs.declared.scope.Scope.TheVariants as scopes;
 ghost use Rattle.ocfl_scrub.specs.Call.{WhereTold};
 ghost use Rattle.ocfl_scrub.specs.Running.{limits_of};
 ghost use Rattle.ocfl_scrub.specs.Noting.{EndsUnread, IsAuditSaid, IsStatus};
@@ -12,8 +14,6 @@ ghost use Rattle.ocfl_scrub.specs.Scoping.{IsBranchNote, IsBranchSaid, IsPartRun
 ghost use Rattle.ocfl_scrub.specs.Scoping.{IsPartUnreadNote, PartPerformed};
 ghost use Rattle.ocfl_scrub.specs.Scoping.{PartRefusesRightly, PartRunPerformed, PartStopsWith};
 ghost use Rattle.ocfl_scrub.specs.Scoping.{PerformsIn, RefusesRightlyIn};
-ghost use Rattle.ocfl_scrub.specs.Scoping.{part_between as part_of_ends};
-ghost use Rattle.ocfl_scrub.specs.declared.scope.Scope.TheVariants as scopes;
 
 use crate::auditing::{AuditEnd, audit_part};
 use crate::checking::End;
@@ -22,10 +22,10 @@ use crate::note::Note;
 use crate::part::{branch_at, part_between};
 use crate::performing::{Performed, conclude_run, describe_part_refused, perform, without_cursor};
 use crate::running::run_part;
-use crate::scope::Scope;
 use ocfl_cursor::{Cursor, Limits, PartCursorStop, PartEnds, encode_part, read_part_cursor};
 use ocfl_deed::Deed;
 use ocfl_digest::Block;
+use ocfl_scope::Scope;
 use ocfl_tree::{Place, Tree};
 use ocfl_walk::Fault;
 use std::alloc::Global;

@@ -13,6 +13,7 @@ ghost use Rattle.ocfl_cursor.specs.declared.ends.PartEnds.{PartEnds};
 ghost use Rattle.ocfl_cursor.specs.declared.refused.PartRefused.{PartRefused};
 ghost use Rattle.ocfl_cursor.specs.declared.refused.PartRefused.TheVariants as refused;
 ghost use Rattle.ocfl_deed.specs.declared.deed.Deed.{Deed};
+ghost use Rattle.ocfl_scope.specs.declared.scope.Scope.TheVariants as scope;
 ghost use Rattle.ocfl_scrub.specs.Call.{Call};
 ghost use Rattle.ocfl_scrub.specs.Performing.{HandsBack, IsSaid, Performs, RefusesRightly};
 ghost use Rattle.ocfl_scrub.specs.Scoping.{BranchAudited, HandsBackIn, IsSaidIn};
@@ -20,7 +21,6 @@ ghost use Rattle.ocfl_scrub.specs.Scoping.{PartRefusesRightly, PerformsIn, Refus
 ghost use Rattle.ocfl_scrub.specs.WholeAudit.{items_in};
 ghost use Rattle.ocfl_scrub.specs.declared.note.Note.{Note};
 ghost use Rattle.ocfl_scrub.specs.declared.note.Note.TheVariants as note;
-ghost use Rattle.ocfl_scrub.specs.declared.scope.Scope.TheVariants as scope;
 
 /// Within the whole storage root a command ends as it does without a scope.
 pub fn the_whole_is_no_other_scope()

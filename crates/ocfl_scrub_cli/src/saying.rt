@@ -1,6 +1,7 @@
 //! What the program says on standard error, and the statuses that go with it.
 
-use ocfl_parts::{PartsStop, SplitStop};
+use ocfl_parts::SplitStop;
+use ocfl_scope::ScopeStop;
 use ocfl_scrub::Note;
 use thiserror::Error;
 
@@ -14,15 +15,9 @@ pub(crate) const STOPPED: u8 = 3;
 /// Why a command does not begin, or makes no separators. Its `Display` is what is said of it.
 #[derive(Debug, Drop, Error)]
 pub(crate) enum Stop {
-    /// The path of a branch is not that of a place.
-    #[error("bad path")]
-    BadPath,
-    /// There are fewer parts.
-    #[error("no such part")]
-    NoSuchPart,
-    /// The separators were not read.
+    /// The scope that is chosen was not found.
     #[error("{0}")]
-    Parts(PartsStop),
+    Scope(ScopeStop),
     /// The report was not split.
     #[error("{0}")]
     Report(SplitStop),
@@ -38,10 +33,10 @@ impl Stop {
     /// The exit status.
     pub(crate) fn status(&self) -> u8 {
         match self {
-            Stop::BadPath | Stop::NoSuchPart | Stop::TooLong => USAGE,
-            Stop::Parts(PartsStop::Line(_) | PartsStop::Long) => USAGE,
+            Stop::Scope(why) => why.status(),
+            Stop::TooLong => USAGE,
             Stop::Report(SplitStop::Line(_) | SplitStop::Many) => USAGE,
-            Stop::Parts(_) | Stop::Report(_) | Stop::Stopped(_) => STOPPED,
+            Stop::Report(_) | Stop::Stopped(_) => STOPPED,
         }
     }
 }

@@ -9,6 +9,7 @@ mod item;
 mod line;
 mod parts;
 mod report;
+mod scope;
 mod scrub;
 mod split;
 mod tree;

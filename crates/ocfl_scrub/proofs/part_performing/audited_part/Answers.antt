@@ -1,5 +1,5 @@
 use Rattle.std.proofs.Common.{inl}
-use Rattle.ocfl_scrub.specs.Scoping.{part_between}
+use Rattle.ocfl_scope.specs.Numbered.{part_between}
 use Rattle.ocfl_scrub.proofs.ScopeLaws.{part_audited}
 use Rattle.ocfl_scrub.proofs.part_performing.audited_part.Goals as goal
 

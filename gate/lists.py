@@ -86,7 +86,7 @@ def undefined(page, crate, files, wanted):
 def of_laws():
     """The table of laws."""
     page, title = "docs/ASSURANCE.md", "Laws of the definitions"
-    modules = ["laws", "records", "parts", "scope_laws"]
+    modules = ["laws", "records", "parts", "handing", "scope_laws"]
     there = [name for crate in crates() if crate != TESTS for module in modules
              for name in laws_in(os.path.join(folder_of(crate), "src", module + ".rt"))]
     listed = [name for row in rows(page, title) for name in NAMED.findall(row[1])

@@ -38,3 +38,4 @@ pub mod OverrunLaws
 pub mod RecordLaws
 pub mod JoinLaws
 pub mod CycleRuns
+pub mod CallsJoined

@@ -6,7 +6,7 @@ use Rattle.ocfl_tree.specs.Place.{Text, Place}
 use Rattle.ocfl_tree.specs.Store.{Store}
 use Rattle.ocfl_audit.specs.Parts.{Part}
 use Rattle.ocfl_audit.specs.Runs.{Limits}
-use Rattle.ocfl_cursor.specs.Cursor.{Cursor}
+use Rattle.ocfl_cursor.specs.Cursor.{Cursor, IsCursor}
 use Rattle.ocfl_cursor.specs.Moves.{after_run}
 use Rattle.ocfl_cursor.specs.declared.limits.Limits.{Limits as MadeLimits}
 use Rattle.ocfl_deed.specs.declared.deed.Deed.{Deed}
@@ -33,6 +33,7 @@ worn_or_not (run.Stopped why) = inr (λ e. cc)
 pub record Made (Begins : Cursor → Type 0) (text_of : Cursor → Text) (limits : Limits) (from : Cursor) (ran : RunEnd) (said : Performed) : Type 0 where
   pub begins : Begins from
   pub paid : IsPaid limits ran.spent ran.files
+  pub keeps : IsCursor ran.cursor
   pub leads : ran.end ≢ run.Worn → (last : Option Place) × (ran.cursor ≡ after_run (begun from) ran.spent ran.files (state_after ran.end last))
   pub is_worn : ran.end ≡ run.Worn → IsWorn from
   pub worn_says : ran.end ≡ run.Worn → said.note ≡ note.CursorWorn
@@ -42,12 +43,13 @@ pub record Made (Begins : Cursor → Type 0) (text_of : Cursor → Text) (limits
 -- what a run does on any store
 module _ {S O : Type 0} {contents : O → Option (List ℕ)} {before after : S} {old new : O} {from : Cursor} {limits : MadeLimits} {ran : RunEnd}
     (r : RunsOnAnyStore contents before after old new from limits ran) where
-  pub made_by : {Begins : Cursor → Type 0} {text_of : Cursor → Text} {said : Performed} → Begins from → (ran.end ≡ run.Worn → said.note ≡ note.CursorWorn)
+  pub made_by : {Begins : Cursor → Type 0} {text_of : Cursor → Text} {said : Performed} → Begins from → IsCursor ran.cursor → (ran.end ≡ run.Worn → said.note ≡ note.CursorWorn)
       → (ran.end ≡ run.Worn → (said.status ≡ 3) × IsNone said.cursor)
       → (ran.end ≢ run.Worn → IsStoredNote text_of ran.cursor ran.spent ran.found ran.end said.status said.note said.cursor) → Made Begins text_of (limits_of limits) from ran said
-  made_by begins worn_says worn_ends says = record {
+  made_by begins keeps worn_says worn_ends says = record {
     begins = begins;
     paid = r.paid;
+    keeps = keeps;
     leads = r.cursor;
     is_worn = r.worn.0;
     worn_says = worn_says;
@@ -76,6 +78,7 @@ module _ {Begins : Cursor → Type 0} {text_of : Cursor → Text} {limits : Limi
             paid = h.paid;
             last = (h.leads unworn).0;
             cursor_is = (h.leads unworn).1;
+            keeps = h.keeps;
             handed_is = (says unworn).0;
             says = (says unworn).1;
           }
@@ -101,6 +104,7 @@ module _ {Begins : Cursor → Type 0} {text_of : Cursor → Text} {limits : Limi
           ran = ran;
           runs = subst (λ q. RunsFromWithin call q from limits ran) same (runs went);
           clean = λ f. subst (λ q. RunsCleanlyWithin call q from limits ran.spent ran.files ran.found ran.end) same (clean f);
+          keeps = h.keeps;
           says = h.says went;
         };
       })

@@ -2,7 +2,7 @@
 use Rattle.std.specs.Prelude.{◌≡◌, ◌≢◌, ◌⊎◌, ◌≤◌, ℕ, List, Bool, true, false, Option, Some, None, Vec, ⊤}
 use Rattle.std.specs.declared.alloc.Global.{Global}
 use Rattle.ocfl_tree.specs.Place.{Text, Place}
-use Rattle.ocfl_cursor.specs.Cursor.{Cursor}
+use Rattle.ocfl_cursor.specs.Cursor.{Cursor, IsCursor}
 use Rattle.ocfl_cursor.specs.declared.reading.CursorStop.{CursorStop}
 use Rattle.ocfl_cursor.specs.declared.reading.CursorStop.TheVariants as stop
 use Rattle.ocfl_cursor.specs.declared.refused.PartRefused.{PartRefused}
@@ -214,6 +214,7 @@ pub record RunsWithNote (call : Call) (part : Part) (text_of : Cursor → Text) 
   pub ran : RunEnd
   pub runs : RunsFromWithin call part c limits ran
   pub clean : IsUnfailing call → RunsCleanlyWithin call part c limits ran.spent ran.files ran.found ran.end
+  pub keeps : IsCursor ran.cursor
   pub says : IsStoredNote text_of ran.cursor ran.spent ran.found ran.end status n stored
 
 -- a cycle was made, and the status and the text are those of the cycle

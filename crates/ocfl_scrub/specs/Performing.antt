@@ -10,7 +10,7 @@ use Rattle.ocfl_report.specs.Text.{place_text, text}
 use Rattle.ocfl_audit.specs.Audit.{audit}
 use Rattle.ocfl_audit.specs.Parts.{Part, whole}
 use Rattle.ocfl_audit.specs.Runs.{Limits}
-use Rattle.ocfl_cursor.specs.Cursor.{Cursor, new_cursor, cursor_text}
+use Rattle.ocfl_cursor.specs.Cursor.{Cursor, IsCursor, new_cursor, cursor_text}
 use Rattle.ocfl_cursor.specs.Moves.{after_run}
 use Rattle.ocfl_cursor.specs.Refusal.{IsTextOf}
 use Rattle.ocfl_cursor.specs.Shown.{IsShownFrom, UnshownRightly}
@@ -115,6 +115,7 @@ pub record HandedBack (Begins : Cursor → Type 0) (text_of : Cursor → Text) (
   pub paid : IsPaid limits ran.spent ran.files
   pub last : Option Place
   pub cursor_is : ran.cursor ≡ after_run (begun from) ran.spent ran.files (state_after ran.end last)
+  pub keeps : IsCursor ran.cursor
   pub handed_is : handed ≡ text_of ran.cursor
   pub says : IsRunNote ran.cursor ran.spent ran.found ran.end status n
 

@@ -5,6 +5,7 @@ mod auditing;
 mod checking;
 mod command;
 mod cycling;
+pub mod handing;
 pub mod laws;
 mod note;
 mod part;

@@ -13,7 +13,7 @@ made : (g : given.Over) (c : Joined-part-2 g)
     → Made (BeginsPartWith c.args.ends.now (bytes_of g.R.Read.remaining c.args.reader)) (part_text c.args.ends.now) (limits_of c.args.limits) c.in-Ok.cursor c.run_part-end.result c.conclude_run.result
 made g c =
     let e = c.conclude_run.ensures in
-    made_by c.run_part-end.ensures.any_store c.in-Ok.ensures.cursor e.worn.1 e.worn_ends (λ went. e.note went (part_text c.args.ends.now) c.encode_part-text.ensures.text)
+    made_by c.run_part-end.ensures.any_store c.in-Ok.ensures.cursor c.encode_part-text.ensures.keeps e.worn.1 e.worn_ends (λ went. e.note went (part_text c.args.ends.now) c.encode_part-text.ensures.text)
 
 pub returns-clause-handed_back : goal.returns-clause-handed_back
 returns-clause-handed_back g c = handed_back (made g c)

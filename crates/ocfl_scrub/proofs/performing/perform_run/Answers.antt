@@ -12,7 +12,7 @@ made : (g : given.Over) (c : goal.After-conclude_run g)
     → Made (BeginsWith (bytes_of g.R.Read.remaining c.args.reader)) cursor_text (limits_of c.args.limits) c.in-Ok.cursor c.run-end.result c.conclude_run.result
 made g c =
     let e = c.conclude_run.ensures in
-    made_by c.run-end.ensures.any_store c.in-Ok.ensures.cursor e.worn.1 e.worn_ends (λ went. e.note went cursor_text c.encode-text.ensures.text)
+    made_by c.run-end.ensures.any_store c.in-Ok.ensures.cursor c.encode-text.ensures.keeps e.worn.1 e.worn_ends (λ went. e.note went cursor_text c.encode-text.ensures.text)
 
 pub returns-clause-handed_back : goal.returns-clause-handed_back
 returns-clause-handed_back g c = handed_back (made g c)

@@ -1,0 +1,95 @@
+-- Calls of the program's function that run a part one after the other: each reads the bytes that the
+-- one before handed back. And such calls on all parts of a storage root.
+use Rattle.std.specs.Prelude.{◌≡◌, List, [], ◌∷◌, ◌++◌, Bool, true, false, Option, Some, None, flat_map, map, option_map, ⊤}
+use Rattle.ocfl_tree.specs.Place.{Text, Place}
+use Rattle.ocfl_tree.specs.StorageRoot.{StorageRoot}
+use Rattle.ocfl_tree.specs.Store.{Store}
+use Rattle.ocfl_tree.specs.declared.store.Opening.{Opening}
+use Rattle.ocfl_audit.specs.Runs.{Limits}
+use Rattle.ocfl_audit.specs.Trail.{content_trail}
+use Rattle.ocfl_cursor.specs.Cursor.{Cursor}
+use Rattle.ocfl_cursor.specs.Part.{IsPartText}
+use Rattle.ocfl_cursor.specs.declared.ends.PartEnds.{PartEnds}
+use Rattle.ocfl_cursor.specs.declared.limits.Limits.{Limits as MadeLimits}
+use Rattle.ocfl_deed.specs.declared.deed.Deed.TheVariants as deed
+use Rattle.ocfl_scope.specs.declared.scope.Scope.TheVariants as scope
+use Rattle.ocfl_scrub.specs.Call.{known_call}
+use Rattle.ocfl_scrub.specs.Running.{limits_of, place_in}
+use Rattle.ocfl_scrub.specs.Scoping.{PerformsIn}
+use Rattle.ocfl_scrub.specs.declared.note.Note.{Note}
+use Rattle.ocfl_scrub.specs.declared.note.Note.TheVariants as note
+use Rattle.ocfl_scrub.specs.declared.performing.Performed.{Performed}
+
+-- ---- one call
+
+-- the limits that it was given, what it wrote and opened, and what it ended with
+pub record PartCall : Type 0 where
+  pub limits : MadeLimits
+  pub report : Text
+  pub opened : List Opening
+  pub said : Performed
+
+-- the bytes that it handed back
+abbrev pub handed_by : PartCall → Option Text
+handed_by c = option_map (λ bytes. bytes.items) c.said.cursor
+
+-- the bytes of the reader that a call is given: there is none while nothing is stored
+abbrev pub bytes_stored : Option Text → Option (Option Text)
+bytes_stored None = None
+bytes_stored (Some bytes) = Some (Some bytes)
+
+-- it was asked for a run of the part with these ends, was given these bytes as the stored cursor and
+-- a store that tells this tree, and no failure was counted
+pub record CalledWell (root : StorageRoot) (e : PartEnds) (stored : Option Text) (c : PartCall) : Type 0 where
+  pub before : Store
+  pub behind : Store
+  pub old : Text
+  pub performs : PerformsIn (known_call root before behind old (old ++ c.report)) (deed.Run c.limits) (scope.Part e) (bytes_stored stored) c.said.status c.said.note c.said.cursor
+  pub opened_is : behind.openings ≡ before.openings ++ c.opened
+  pub unfailing : behind.failures ≡ before.failures
+
+-- it says that it made a run, and whether no item is left
+abbrev pub SaysMade : Bool → Note → Type 0
+SaysMade whole (note.RunMade cycle runs cost ended) = ended ≡ whole
+SaysMade whole n = ⊥
+
+-- ---- the calls of one cycle of a part
+
+-- the first was given the bytes that are stored, and each other the bytes that the one before handed
+-- back. Each but the last left items, and the last left none
+abbrev pub AreCalls : StorageRoot → PartEnds → Option Text → List PartCall → Type 0
+AreCalls root e stored [] = ⊥
+AreCalls root e stored (c ∷ []) = CalledWell root e stored c × SaysMade true c.said.note
+AreCalls root e stored (c ∷ d ∷ calls) = CalledWell root e stored c × (SaysMade false c.said.note × AreCalls root e (handed_by c) (d ∷ calls))
+
+-- nothing is stored, or a cursor with which the part's first item is next
+abbrev pub BeginsCycle : PartEnds → Option Text → Type 0
+BeginsCycle e None = ⊤
+BeginsCycle e (Some bytes) = (c : Cursor) → IsPartText e bytes c → place_in c.state ≡ None
+
+-- what is stored after the calls
+abbrev pub stored_after : Option Text → List PartCall → Option Text
+stored_after stored [] = stored
+stored_after stored (c ∷ calls) = stored_after (handed_by c) calls
+
+-- what they wrote and opened together, and their limits
+abbrev pub written_by : List PartCall → Text
+written_by calls = flat_map (λ c. c.report) calls
+
+abbrev pub content_opened : StorageRoot → List PartCall → List Place
+content_opened root calls = flat_map (λ c. content_trail root c.opened) calls
+
+abbrev pub limits_given : List PartCall → List Limits
+limits_given calls = map (λ c. limits_of c.limits) calls
+
+-- ---- all parts
+
+-- the calls of one cycle of a part, and what was stored before them
+pub record CalledCycle : Type 0 where
+  pub ends : PartEnds
+  pub stored : Option Text
+  pub calls : List PartCall
+
+pub record IsCalledCycle (root : StorageRoot) (d : CalledCycle) : Type 0 where
+  pub begins : BeginsCycle d.ends d.stored
+  pub are : AreCalls root d.ends d.stored d.calls

@@ -1,0 +1,93 @@
+//! The laws of calls that hand the cursor of a part from one to the next as bytes, as the program
+//! does from one process to another.
+ghost use Rattle.std.specs.Prelude.{◌≡◌, ◌≤◌, ◌+◌, ◌++◌, ◌/◌, ℕ, List, [], Option, Some, All};
+ghost use Rattle.std.specs.Prelude.{flat_map, length, map};
+ghost use Rattle.std.specs.List.{AllByRecursion};
+ghost use Rattle.ocfl_tree.specs.Place.{Text};
+ghost use Rattle.ocfl_tree.specs.StorageRoot.{StorageRoot};
+ghost use Rattle.ocfl_tree.specs.declared.store.Opening.{Opening};
+ghost use Rattle.ocfl_report.specs.Text.{text};
+ghost use Rattle.ocfl_audit.specs.Audit.{audit, total_cost};
+ghost use Rattle.ocfl_audit.specs.Due.{hashed_among, item_places};
+ghost use Rattle.ocfl_audit.specs.Parts.{places_within, within};
+ghost use Rattle.ocfl_audit.specs.Runs.{IsAtLeast, total_files};
+ghost use Rattle.ocfl_cursor.specs.declared.ends.PartEnds.{PartEnds};
+ghost use Rattle.ocfl_cursor.specs.declared.limits.Limits.{Limits as MadeLimits};
+ghost use Rattle.ocfl_deed.specs.declared.deed.Deed.TheVariants as deeds;
+ghost use Rattle.ocfl_scope.specs.Numbered.{AreAllFrom, part_between};
+ghost use Rattle.ocfl_scope.specs.declared.scope.Scope.TheVariants as scopes;
+ghost use Rattle.ocfl_scrub.specs.Call.{IsUnfailing, WhereTold};
+ghost use Rattle.ocfl_scrub.specs.Handing.{AreCalls, BeginsCycle, CalledCycle, CalledWell};
+ghost use Rattle.ocfl_scrub.specs.Handing.{IsCalledCycle, PartCall, bytes_stored};
+ghost use Rattle.ocfl_scrub.specs.Handing.{content_opened, limits_given, stored_after, written_by};
+ghost use Rattle.ocfl_scrub.specs.Performing.{bytes_of};
+
+use crate::part_performing::perform_part;
+use crate::performing::Performed;
+use ocfl_deed::Deed;
+use ocfl_digest::Block;
+use ocfl_scope::Scope;
+use ocfl_tree::Tree;
+use std::alloc::Global;
+use std::io::{Read, Write};
+
+/// A call of `perform_part` for a run of a part is one of which the laws below speak, if its store
+/// tells its tree, the bytes of its cursor and of its output are known, and no failure is counted.
+pub fn a_call_is_told<T: Tree, R: Read, W: Write>(
+    alloc: Global,
+    store: &mut T,
+    deed: &Deed,
+    scope: &Scope,
+    reader: Option<&mut R>,
+    block: &mut Block,
+    out: &mut W,
+) -> Performed
+    ensures { WhereTold T.told T.state W.contents store.old store.new out.old out.new (λ call.
+        (limits : MadeLimits) (e : PartEnds) (stored : Option Text) (old report : Text)
+        (opened : List Opening) → deed.now ≡ deeds.Run limits → scope.now ≡ scopes.Part e
+        → bytes_of R.remaining reader.entry ≡ bytes_stored stored → call.old ≡ Some old
+        → call.new ≡ Some (old ++ report)
+        → call.after.openings ≡ call.before.openings ++ opened → IsUnfailing call
+        → CalledWell call.root e stored
+        (record { limits = limits; report = report; opened = opened; said = result })) }
+{
+    perform_part(alloc, store, deed, scope, reader, block, out)
+}
+
+/// Calls of `perform_part` run one part, in any processes. Each reads as its stored cursor the
+/// bytes that the call before handed back. The first reads none, or those of a cursor with which a
+/// cycle begins. No failure is counted, and the last call ends the cycle. Then the outputs, joined,
+/// are what the audit has in the part. Each hashed file of it was opened once, in order, and the
+/// calls are few. With the bytes that the last one handed back, the next cycle begins.
+pub fn calls_on_a_part_join()
+    ensures reports { (root : StorageRoot) (e : PartEnds) (stored : Option Text)
+        (calls : List PartCall) → BeginsCycle e stored → AreCalls root e stored calls
+        → written_by calls ≡ text (within (part_between e) (audit root [])) }
+    ensures opened { (root : StorageRoot) (e : PartEnds) (stored : Option Text)
+        (calls : List PartCall) → BeginsCycle e stored → AreCalls root e stored calls
+        → content_opened root calls
+        ≡ hashed_among root (places_within (part_between e) (item_places root)) }
+    ensures few { (root : StorageRoot) (e : PartEnds) (stored : Option Text)
+        (calls : List PartCall) → BeginsCycle e stored → AreCalls root e stored calls
+        → (b n : ℕ) → 1 ≤ b → 1 ≤ n → All (IsAtLeast b n) (limits_given calls)
+        → length calls ≤ total_cost (within (part_between e) (audit root [])) / b
+        + total_files (within (part_between e) (audit root [])) / n + 1 }
+    ensures next { (root : StorageRoot) (e : PartEnds) (stored : Option Text)
+        (calls : List PartCall) → AreCalls root e stored calls
+        → BeginsCycle e (stored_after stored calls) }
+{}
+
+/// Bytes are the text of separators, and each part that they make has its cycle of such calls.
+/// While the root stays unchanged and every call succeeds, the outputs of all parts, joined in
+/// order, are exactly the audit of the whole root. Each hashed file is opened once.
+pub fn calls_on_all_parts_join_to_the_audit()
+    ensures reports { (root : StorageRoot) (separators : Text) (cycles : List CalledCycle)
+        → AreAllFrom separators 1 (map (λ d. d.ends) cycles)
+        → AllByRecursion (IsCalledCycle root) cycles
+        → flat_map (λ d. written_by d.calls) cycles ≡ text (audit root []) }
+    ensures opened { (root : StorageRoot) (separators : Text) (cycles : List CalledCycle)
+        → AreAllFrom separators 1 (map (λ d. d.ends) cycles)
+        → AllByRecursion (IsCalledCycle root) cycles
+        → flat_map (λ d. content_opened root d.calls) cycles
+        ≡ hashed_among root (item_places root) }
+{}

@@ -32,6 +32,7 @@ pub mod PerformLaws
 pub mod ScopeLaws
 pub mod ScopeEnds
 pub mod NoteLaws
+pub mod UncutLaws
 pub mod FileLaws
 pub mod HeadlineLaws
 pub mod OverrunLaws

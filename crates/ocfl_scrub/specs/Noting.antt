@@ -123,6 +123,7 @@ WritesWhole old new = (finding : Bool) × WritesLines old new finding
 pub record ReportsOnAnyStore {O : Type 0} (contents : O → Option (List ℕ)) (old new : O) (status : ℕ) (n : Note) : Type 0 where
   pub status_is : IsStatus status n
   pub lines : n ≡ note.Nothing → WritesWithStatus (contents old) (contents new) status
+  pub uncut : n ≢ note.OutputFailed → WritesWhole (contents old) (contents new)
 
 -- what a command is ended with where no cursor was read
 pub record EndsUnread (status : ℕ) (n : Note) : Type 0 where

@@ -24,7 +24,7 @@ use Rattle.ocfl_deed.specs.declared.deed.Deed.{Deed}
 use Rattle.ocfl_deed.specs.declared.deed.Deed.TheVariants as deed
 use Rattle.ocfl_scope.specs.Finding.{IsNoPath}
 use Rattle.ocfl_scrub.specs.Call.{Call, Writes, IsUnfailing}
-use Rattle.ocfl_scrub.specs.Noting.{IsStatus, status_of, IsAuditSaid, IsCheckSaid, IsRunSaid, IsCycleSaid, IsFileSaid, IsShowSaid, IsRefused, IsRunNote, IsUnreadNote, WritesWithStatus, AuditsWithNote, ChecksWithNote, RunsWithNote, CyclesWithNote}
+use Rattle.ocfl_scrub.specs.Noting.{IsStatus, status_of, IsAuditSaid, IsCheckSaid, IsRunSaid, IsCycleSaid, IsFileSaid, IsShowSaid, IsRefused, IsRunNote, IsUnreadNote, WritesWhole, WritesWithStatus, AuditsWithNote, ChecksWithNote, RunsWithNote, CyclesWithNote}
 use Rattle.ocfl_scrub.specs.Running.{IsPaid, IsWorn, begun, limits_of, state_after}
 use Rattle.ocfl_scrub.specs.declared.performing.Performed.{Performed}
 use Rattle.ocfl_scrub.specs.declared.running.RunEnd.{RunEnd}
@@ -159,10 +159,29 @@ ShowsWith known note.Nothing old new = Shows known old new
 ShowsWith known note.OutputFailed old new = ShowsPart known old new
 ShowsWith known n old new = new ≡ old
 
--- the lines of a report went out, and the status says whether one of them is a finding
-abbrev pub WritesBy : Option (Option Text) → Deed → ℕ → Note → Option (List ℕ) → Option (List ℕ) → Type 0
-WritesBy known deed.Show status n old new = ShowsWith known n old new
-WritesBy known deed status n old new = IsWhole n → WritesWithStatus old new status
+-- what went out of a report: some lines, each whole unless the output failed. Where all went out,
+-- the status says whether one of them is a finding
+pub record WritesReport (status : ℕ) (n : Note) (old new : Option (List ℕ)) : Type 0 where
+  pub uncut : n ≢ note.OutputFailed → WritesWhole old new
+  pub whole : IsWhole n → WritesWithStatus old new status
+
+-- the same of a run. Without memory for its cursor's text it says that memory ran out and hands none
+-- back, even where the output failed before
+pub record WritesRun (status : ℕ) (n : Note) (stored : Option (Vec ℕ Global)) (old new : Option (List ℕ)) : Type 0 where
+  pub uncut : n ≢ note.OutputFailed → (n ≢ note.OutOfMemory) ⊎ IsSome stored → WritesWhole old new
+  pub whole : IsWhole n → WritesWithStatus old new status
+
+-- what went out of a check: nothing, unless all its lines did or the output failed
+pub record WritesCheck (status : ℕ) (n : Note) (old new : Option (List ℕ)) : Type 0 where
+  pub none : n ≢ note.Nothing → n ≢ note.OutputFailed → new ≡ old
+  pub whole : IsWhole n → WritesWithStatus old new status
+
+-- what went out, by what was asked for and what is said
+abbrev pub WritesBy : Option (Option Text) → Deed → Performed → Option (List ℕ) → Option (List ℕ) → Type 0
+WritesBy known deed.Show said old new = ShowsWith known said.note old new
+WritesBy known (deed.Check path) said old new = WritesCheck said.status said.note old new
+WritesBy known (deed.Run limits) said old new = WritesRun said.status said.note said.cursor old new
+WritesBy known d said old new = WritesReport said.status said.note old new
 
 -- what a command ends with on any store, by what the store and the output are before it and after
 -- it, and by the bytes of the cursor that it reads
@@ -176,7 +195,7 @@ pub record AnswersOnAnyStore {S O : Type 0} (contents : O → Option (List ℕ))
   pub without_file : IsWithoutFile known d said.note
   pub bad_path : RefusesPath d said.status said.note
   pub bad_path_silent : HasBadPath d → (after ≡ before) × (new ≡ old)
-  pub lines : WritesBy known d said.status said.note (contents old) (contents new)
+  pub lines : WritesBy known d said (contents old) (contents new)
 
 -- ---- of a store that tells its tree
 

@@ -8,7 +8,7 @@ ghost use Rattle.ocfl_audit.specs.Audit.{audit as whole_audit};
 ghost use Rattle.ocfl_scrub.specs.Call.{IsUnfailing, WhereTold, Writes};
 ghost use Rattle.ocfl_scrub.specs.Noting.{status_of, IsAuditNote, IsAuditSaid, IsCheckNote};
 ghost use Rattle.ocfl_scrub.specs.Noting.{IsCheckSaid, IsRefused, IsStatus, IsStopNote, IsStopSaid};
-ghost use Rattle.ocfl_scrub.specs.Noting.{AuditsWithNote, ChecksWithNote, WritesWhole};
+ghost use Rattle.ocfl_scrub.specs.Noting.{AuditsWithNote, ChecksWithNote};
 ghost use Rattle.ocfl_scrub.specs.Noting.{ReportsOnAnyStore};
 
 use crate::auditing::{AuditEnd, audit};
@@ -66,8 +66,6 @@ pub fn audited<T: Tree, W: Write>(
     // Of every store.
     ensures any_store { ReportsOnAnyStore W.contents out.old out.new result.0 result.1 }
     ensures said { IsAuditSaid result.1 }
-    ensures uncut { result.1 ≢ Note.OutputFailed
-        → WritesWhole (W.contents out.old) (W.contents out.new) }
 
     // Of a store that tells its tree.
     ensures told { WhereTold T.told T.state W.contents store.old store.new out.old out.new (λ call.

@@ -1,5 +1,5 @@
 //! What the program does for a command: the one function that the program and the tests call.
-ghost use Rattle.std.specs.Prelude.{◌≡◌, ◌≢◌, ◌↔◌, ℕ, IfErr, IfOk, IsNone, Some, Vec};
+ghost use Rattle.std.specs.Prelude.{◌≡◌, ◌≢◌, ◌↔◌, ◌⊎◌, ℕ, IfErr, IfOk, IsNone, IsSome, Some, Vec};
 ghost use Rattle.std.specs.Prelude.{List, replicate};
 ghost use Rattle.std.specs.declared.alloc.Global.{Global};
 ghost use Rattle.ocfl_cursor.specs.Cursor.{Cursor as CursorModel};
@@ -9,14 +9,13 @@ ghost use Rattle.ocfl_scrub.specs.Noting.{IsCycleNote, IsCycleSaid, IsRanSaid, I
 ghost use Rattle.ocfl_scrub.specs.Noting.{IsRunSaid, IsShowSaid, IsStatus, IsStoredNote};
 ghost use Rattle.ocfl_scrub.specs.Noting.{EndsUnread, IsPartRefusedNote, IsUnreadNote};
 ghost use Rattle.ocfl_scrub.specs.Noting.{IsUnshownNote};
-ghost use Rattle.ocfl_scrub.specs.Noting.{WritesWithStatus};
 ghost use Rattle.ocfl_scrub.specs.Noting.{run_summary as summary_of_run, status_of};
 ghost use Rattle.ocfl_scrub.specs.Performing.{AnswersOnAnyStore};
 ghost use Rattle.ocfl_scrub.specs.Performing.{BeginsWith, CyclePerformed, HandsBack, IsKept};
 ghost use Rattle.ocfl_scrub.specs.Performing.{IsSaid, IsSilent, IsWhole};
 ghost use Rattle.ocfl_scrub.specs.Performing.{IsWithoutFile};
 ghost use Rattle.ocfl_scrub.specs.Performing.{Performs, RefusesRightly, RunPerformed};
-ghost use Rattle.ocfl_scrub.specs.Performing.{ShowsWith, StopsWith, UnshownSaid};
+ghost use Rattle.ocfl_scrub.specs.Performing.{ShowsWith, StopsWith, UnshownSaid, WritesReport};
 ghost use Rattle.ocfl_scrub.specs.Performing.{bytes_of};
 ghost use Rattle.ocfl_scrub.specs.Performing.{equal_limits as limits_of_each};
 
@@ -168,6 +167,9 @@ pub(crate) fn conclude_run(end: RunEnd, text: Result<Vec<u8>, AllocError>) -> Pe
         result.status result.note result.cursor }
     ensures lines { IsWhole result.note →
         (end.end ≢ RunStatus.Stopped Fault.Output) × (result.status ≡ status_of end.found) }
+    ensures uncut { result.note ≢ Note.OutputFailed
+        → (result.note ≢ Note.OutOfMemory) ⊎ IsSome result.cursor
+        → end.end ≢ RunStatus.Stopped Fault.Output }
 {
     let RunEnd {
         cursor,
@@ -200,6 +202,7 @@ pub(crate) fn describe_run(cursor: &Cursor, spent: u64, found: bool, end: RunSta
     ensures kept { end ≢ RunStatus.Worn → (text : Vec ℕ Global) → IsKept result.1 (Some text) }
     ensures lines { IsWhole result.1 →
         (end ≢ RunStatus.Stopped Fault.Output) × (result.0 ≡ status_of found) }
+    ensures uncut { result.1 ≢ Note.OutputFailed → end ≢ RunStatus.Stopped Fault.Output }
 {
     match end {
         RunStatus::Ended => (status(found), run_summary(cursor, spent, true)),
@@ -232,8 +235,7 @@ fn perform_cycle<T: Tree, W: Write>(
     // Of every store.
     ensures status { IsStatus result.0 result.1 }
     ensures said { IsCycleSaid result.1 }
-    ensures lines { IsWhole result.1 →
-        WritesWithStatus (W.contents out.old) (W.contents out.new) result.0 }
+    ensures lines { WritesReport result.0 result.1 (W.contents out.old) (W.contents out.new) }
 
     // Of a store that tells its tree.
     ensures told { WhereTold T.told T.state W.contents store.old store.new out.old out.new (λ call.
@@ -259,6 +261,8 @@ fn describe_cycle(end: CycleEnd) -> (u8, Note)
     ensures said { IsCycleSaid result.1 }
     ensures lines { IsWhole result.1 →
         (end.end ≢ CycleStatus.Stopped Fault.Output) × (result.0 ≡ status_of end.found) }
+    ensures uncut { result.1 ≢ Note.OutputFailed
+        → end.end ≢ CycleStatus.Stopped Fault.Output }
 {
     let CycleEnd {
         runs,

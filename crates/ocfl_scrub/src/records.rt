@@ -3,7 +3,7 @@
 ghost use Rattle.std.specs.Prelude.{◌≡◌, ◌≢◌, ◌≤◌, ◌<◌, ◌+◌, ◌-◌, ◌/◌, ◌++◌, ◌∷◌, [], ℕ, List};
 ghost use Rattle.std.specs.Prelude.{Bool, true, false, not, Option, None, Some, Vec, String};
 ghost use Rattle.std.specs.Prelude.{string_bytes, replicate, length, take, map, All, AllPairs, ◌⊎◌};
-ghost use Rattle.std.specs.Prelude.{◌↔◌, ◌^◌};
+ghost use Rattle.std.specs.Prelude.{◌↔◌, ◌^◌, IsSome};
 ghost use Rattle.std.specs.declared.alloc.Global.{Global};
 ghost use Rattle.ocfl_tree.specs.Place.{Place, Text, place_cmp};
 ghost use Rattle.ocfl_tree.specs.Name.{IsPlace};
@@ -43,7 +43,7 @@ ghost use Rattle.ocfl_scrub.specs.Checking.{Checks, CheckStops, CheckEnds};
 ghost use Rattle.ocfl_scrub.specs.WholeAudit.{AuditsAll, AuditStops, AuditEnds, AuditsOnAnyStore};
 ghost use Rattle.ocfl_scrub.specs.Noting.{status_of, IsAuditNote, IsCheckNote, IsCycleNote};
 ghost use Rattle.ocfl_scrub.specs.Noting.{EndsUnread, IsRunNote, IsStatus, IsUnreadSaid};
-ghost use Rattle.ocfl_scrub.specs.Noting.{ReportsOnAnyStore, WritesWithStatus};
+ghost use Rattle.ocfl_scrub.specs.Noting.{ReportsOnAnyStore, WritesWhole, WritesWithStatus};
 ghost use Rattle.ocfl_scrub.specs.Performing.{AnswersOnAnyStore, BeginsWith, HasBadPath, IsKeptBy};
 ghost use Rattle.ocfl_scrub.specs.Performing.{IsSilent, IsWithoutFile, Performs, RefusesPath};
 ghost use Rattle.ocfl_scrub.specs.Performing.{UnshownSaid, WritesBy};
@@ -595,14 +595,17 @@ pub fn a_cycle_is_counted_by_its_cursor()
 {}
 
 /// A check and an audit end with the status of what is said. If nothing is said, all lines went
-/// out, and the status says whether one of them is a finding. Where no cursor was read, that is
-/// said, and the status is 3 or 4.
+/// out, and the status says whether one of them is a finding. Unless the output failed, no line was
+/// cut short. Where no cursor was read, that is said, and the status is 3 or 4.
 pub fn a_report_has_its_status()
     ensures status { (old new : Option (List ℕ)) (status : ℕ) (n : Note)
         → ReportsOnAnyStore (λ o. o) old new status n → IsStatus status n }
     ensures lines { (old new : Option (List ℕ)) (status : ℕ) (n : Note)
         → ReportsOnAnyStore (λ o. o) old new status n → n ≡ note.Nothing
         → WritesWithStatus old new status }
+    ensures uncut { (old new : Option (List ℕ)) (status : ℕ) (n : Note)
+        → ReportsOnAnyStore (λ o. o) old new status n → n ≢ note.OutputFailed
+        → WritesWhole old new }
     ensures unread { (status : ℕ) (n : Note) → EndsUnread status n
         → IsStatus status n × ((3 ≤ status) × IsUnreadSaid n) }
 {}
@@ -628,5 +631,24 @@ pub fn an_answer_fits_its_command()
         × IsWithoutFile known d said.note) }
     ensures lines { (s t : Store) (old new : Option (List ℕ)) (known : Option (Option Text))
         (d : Deed) (said : Performed) → AnswersOnAnyStore (λ o. o) s t old new known d said
-        → WritesBy known d said.status said.note old new }
+        → WritesBy known d said old new }
+{}
+
+/// Whatever a command is asked for, what goes out before a stop at a place is whole lines. So is
+/// what goes out before memory runs out, unless a run hands no cursor back: then the output may
+/// have failed before. A check writes nothing unless it ends with an item.
+pub fn only_a_failed_output_cuts_a_line()
+    ensures stopped { (s t : Store) (old new : Option (List ℕ)) (known : Option (Option Text))
+        (d : Deed) (said : Performed) (p : Place)
+        → AnswersOnAnyStore (λ o. o) s t old new known d said
+        → said.note ≡ note.StoppedAt p → WritesWhole old new }
+    ensures memory { (s t : Store) (old new : Option (List ℕ)) (known : Option (Option Text))
+        (d : Deed) (said : Performed) → AnswersOnAnyStore (λ o. o) s t old new known d said
+        → said.note ≡ note.OutOfMemory
+        → ((limits : MadeLimits) → d ≢ deed.Run limits) ⊎ IsSome said.cursor
+        → WritesWhole old new }
+    ensures check { (s t : Store) (old new : Option (List ℕ)) (known : Option (Option Text))
+        (path : String Global) (said : Performed)
+        → AnswersOnAnyStore (λ o. o) s t old new known (deed.Check path) said
+        → said.note ≢ note.Nothing → said.note ≢ note.OutputFailed → new ≡ old }
 {}

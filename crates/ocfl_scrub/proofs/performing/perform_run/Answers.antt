@@ -1,4 +1,4 @@
-use Rattle.std.proofs.Common.{inr, refl}
+use Rattle.std.proofs.Common.{inr, refl, rules}
 use Rattle.ocfl_audit.specs.Parts.{whole}
 use Rattle.ocfl_cursor.specs.Cursor.{cursor_text}
 use Rattle.ocfl_scrub.specs.Call.{call_of}
@@ -22,3 +22,23 @@ returns-clause-told g c told root over short =
     let r = c.run-end.ensures in
     run_performed (made g c) (call_of root _ _ _ _) whole whole refl (λ worn. inr worn) (worn_silent r.any_store g.T.Tree.state)
     (r.told told root over short) (r.unfailing told root over short)
+
+pub returns-clause-any_store : goal.returns-clause-any_store
+returns-clause-any_store g c =
+    let ran = c.run-end.ensures.any_store in
+    let said = c.conclude_run.ensures in
+    record {
+      status = search rules;
+      silent = search rules;
+      show_calls = search rules;
+      show_ends = search rules;
+      unshown = search rules;
+      kept = search rules;
+      without_file = search rules;
+      bad_path = search rules;
+      bad_path_silent = search rules;
+      lines = record {
+        uncut = λ written kept. (c.run-end.result.found, ran.lines (said.uncut written kept));
+        whole = search rules;
+      };
+    }

@@ -12,5 +12,6 @@ mod report;
 mod scope;
 mod scrub;
 mod split;
+mod state;
 mod tree;
 mod walk;

@@ -1,0 +1,30 @@
+-- What the calls of a state folder answer.
+use Rattle.std.specs.Prelude.{◌≡◌, ◌≢◌, ℕ, ◌<◌, ◌≤◌, IsTrue, [], Result, Err, IsErr, IsErrOf, length, take, drop, Vec}
+use Rattle.std.specs.declared.alloc.Global.{Global}
+use Rattle.ocfl_state.specs.Content.{Bytes, Content, is_closed}
+use Rattle.ocfl_state.specs.declared.folder.Trouble.{Trouble}
+use Rattle.ocfl_state.specs.declared.folder.Trouble.TheVariants.{Failed, Full, Taken}
+
+abbrev pub bytes_of : Vec ℕ Global → Bytes
+bytes_of v = v.items
+
+-- `Failed` and `Full` are answered only where the disk has failed in the call, `Taken` never
+pub record HasCause {T : Type 0} (before now : ℕ) (result : Result T Trouble) : Type 0 where
+  pub later : before ≤ now
+  pub failed : IsErrOf result Failed → before < now
+  pub full : IsErrOf result Full → before < now
+  pub not_taken : result ≢ Err Taken
+
+-- the same of closing, which is refused where a report of that cycle is closed
+pub record ClosesRightly {T : Type 0} (content : Content) (cycle before now : ℕ) (result : Result T Trouble) : Type 0 where
+  pub later : before ≤ now
+  pub failed : IsErrOf result Failed → before < now
+  pub full : IsErrOf result Full → before < now
+  pub taken : result ≡ Err Taken → IsTrue (is_closed content.closed cycle)
+  pub refused : IsTrue (is_closed content.closed cycle) → IsErr result
+
+-- a read from there gives these bytes into a buffer of so many: none only at the end
+pub record IsReadOf (report : Bytes) (start : ℕ) (bytes : Bytes) (room : ℕ) : Type 0 where
+  pub within : length bytes ≤ room
+  pub are : bytes ≡ take (length bytes) (drop start report)
+  pub end : bytes ≡ [] → 0 < room → drop start report ≡ []

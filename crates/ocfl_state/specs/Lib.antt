@@ -1,0 +1,4 @@
+pub mod Content
+pub mod Crash
+pub mod Calls
+pub mod Memory

@@ -6,6 +6,7 @@ usage: exchanged_nights.py [PART]...
 """
 import os
 import shutil
+import subprocess
 
 import common
 from common import PROGRAM, is_not_so_yet, is_so, sound
@@ -127,6 +128,16 @@ def no_storage_root(folder):
     is_so("an object where a root was", (nights.night("1K")[0], nights.has("cursor")), (3, cursor))
 
 
+def a_pipe_among_declarations(folder):
+    """A pipe that is named as a declaration is not waited for."""
+    nights = Nights(folder + "/state", make_root(folder + "/root"))
+    os.mkfifo(nights.root + "/0=ocfl_pipe")
+    night = subprocess.Popen(nights.words("1K"), start_new_session=True, stdout=subprocess.PIPE,
+                             stderr=subprocess.PIPE, env={**os.environ, "OCFL_SCRUB": PROGRAM})
+    status = common.end(night, 30)[0]
+    is_so("the night ends", (status, nights.whole(1)), (1, audit_of(nights.root)))
+
+
 def state_unmounted(folder):
     """The file system of the state folder is not mounted: no other cycle begins in silence."""
     make_root(folder + "/root")
@@ -182,7 +193,7 @@ def rights(folder):
 
 
 MOUNTING = [unmounted, mounted_anew, killed_as_well, state_unmounted]
-PARTS = [link_that_moves, no_storage_root, rights]
+PARTS = [link_that_moves, no_storage_root, a_pipe_among_declarations, rights]
 
 
 def tell(folder):

@@ -122,8 +122,11 @@ def lost_tools(folder):
 
 
 def full_state(folder):
-    """The state folder is full when the text is left for `tell`."""
-    nights = make_nights(folder)
+    """The state folder is full when a long text is left for `tell`."""
+    nights = make_nights(folder, bad=())
+    long = ["v1/content/%s/%s%02d" % ("x" * 240, "y" * 240, number) for number in range(20)]
+    common.make_object(nights.root + "/a0", {path: b"abd" for path in long},
+                       {path: b"abc" for path in long})
     disk, small = folder + "/disk", Nights(folder + "/disk/state", nights.root)
     os.makedirs(disk)
     filling = instead(folder, "filling", '{program} "$@"; status=$?\n'
@@ -131,16 +134,19 @@ def full_state(folder):
     night = "INVOCATION_ID=night%d OCFL_SCRUB='%s' '%s' --for-tell --state '%s' --budget %s '%s'" \
         " 2> %s/said%d; echo $? > %s/status%d\n"
     script = "mount -t tmpfs -o size=2m none '%s'\n" % disk
-    script += night % (1, filling, CONTRIB + "/nightly", small.state, "16", small.root,
+    script += night % (1, filling, CONTRIB + "/nightly", small.state, "90", small.root,
                        folder, 1, folder, 1)
+    script += "cat %s/tonight.night1 > %s/first 2> /dev/null\n" % (small.state, folder)
     script += "rm -f %s/filler\n" % disk
     script += night % (2, PROGRAM, CONTRIB + "/nightly", small.state, "1", small.root,
                        folder, 2, folder, 2)
     script += "cat %s/tonight.night2 > %s/left 2> /dev/null" % (small.state, folder)
     ran(["unshare", "-rm", "sh", "-c", script])
-    is_so("the night fails", read(folder + "/status1"), "3\n")
-    is_so("the next one leaves it for `tell`", (read(folder + "/status2"), told(
-        read(folder + "/left") or "")[0]), ("1\n", 1))
+    is_so("the night fails, and leaves no half of it", (
+        read(folder + "/status1"), (read(folder + "/first") or "").count("E092\t")), ("3\n", 0))
+    is_so("the next one leaves it for `tell`", (
+        read(folder + "/status2"), (read(folder + "/left") or "").count("E092\ta0/")),
+          ("1\n", 20))
 
 
 def damaged_report(folder):

@@ -27,16 +27,21 @@ describe_root() {
   names=$scratch/names declared=''
   LC_ALL=C find "$root/." -mindepth 1 -maxdepth 1 ! -name '0=ocfl_*' -printf '%f\n' \
     > "$scratch/listed" && LC_ALL=C sort -o "$names" -- "$scratch/listed" || return 1
+  set --
   for file in "$root"/0=ocfl_*; do
+    # A pipe would be waited for.
+    [ -f "$file" ] || continue
     sum=$(sha256sum < "$file") || return 1
     declared=$declared${declared:+$newline}${file##*/}$tab$sum
+    set -- "$@" "$file"
   done
+  [ -n "$declared" ] || { echo "its declaration is gone" >&2; return 1; }
   declared=$(sha256sum <<TEXT
 $declared
 TEXT
   ) && path=$(realpath -- "$root") && sum=$(sha256sum < "$names") || return 1
   # What `sha256sum` says of the declaration, for the statement; where there are several, of all.
-  bytes_of=$(cat -- "$root"/0=ocfl_* | sha256sum) || return 1
+  bytes_of=$(cat -- "$@" | sha256sum) || return 1
   put_in_line "$path"
   {
     printf 'path\t%s\ndeclaration\t%s\n' "$line" "${declared%% *}" \

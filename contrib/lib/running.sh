@@ -27,13 +27,14 @@ run_program() {
 # Keeps the cursor as it is, before anything is run. A power cut may leave the program's cursor, and
 # not what it reported: so all that came before is on the disk first.
 keep_cursor() {
-  printf '' >> "$report" || return 3
+  printf '' >> "$report" && uname -n > "$cursor_before.on" || return 3
   if [ -e "$cursor" ]; then
-    cp -- "$cursor" "$cursor_before"
+    cp -- "$cursor" "$cursor_before.new"
   else
-    printf '' > "$cursor_before"
+    printf '' > "$cursor_before.new"
   fi || return 3
-  sync -- "$cursor_before" "$report" "$state/nights" "$state"
+  sync -- "$cursor_before.new" "$report" "$state/nights" \
+    && mv -f -- "$cursor_before.new" "$cursor_before" && sync -- "$state"
 }
 
 # Looks at the root after a run: one that is gone, or another one, was no run over this root. Its
@@ -93,7 +94,7 @@ make_run() {
     cut_report "$bytes" || return 3
     (cycle=$2 run=$3 spent=$4 files=$5 stands=$6 && log "$status" "$note") || return 3
   fi
-  remove "$cursor_before"
+  let_go
 }
 
 # Whether a further run is one of a cycle that is asked for.

@@ -112,8 +112,12 @@ put_back() {
   fi && sync -- "$state"
 }
 
-# Whether the machine was started after the run began: by when this process was, since then.
+let_go() { remove "$cursor_before" "$cursor_before.on" "$cursor_before.new"; }
+
+# Whether the run began before the machine was started, by when this process was since then; that of
+# another machine may have gone down.
 was_down() {
+  [ "$(cat -- "$cursor_before.on" 2> /dev/null)" = "$(uname -n)" ] || return 0
   know $$ || return 1
   look_at_clock
   booted=$((seconds_now - ${known_as#* } / $(getconf CLK_TCK)))
@@ -317,7 +321,7 @@ settle() {
   find_unfinished
   settle_before || return 3
   if [ -n "$unfinished" ]; then log_cut || return 3; fi
-  remove "$cursor_before"
+  let_go
 }
 
 settle_before() {

@@ -64,7 +64,7 @@ def moved(folder):
 
 
 def another_cursor(folder):
-    """A report is joined of parts whose cursors are at the ends of these parts, and of no others."""
+    """A report is joined of parts whose cursors are at the ends of these parts."""
     nights, names = begun(folder)
     audit_parts(nights, names)
     cursors = ["%s/%s/cursor" % (nights.set(), name) for name in names[1:3]]

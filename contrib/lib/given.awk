@@ -1,7 +1,8 @@
-# Reads the list of what was given out (night, name of the part, how many rows its log had then), and
-# writes a line for each night up to `tonight` after which parts made no night. What was given out
-# later goes into the file GIVEN. LATE names the parts that came when the night was over, STANDING
-# is as `lib/parts.awk` writes it, and both come from the environment.
+# Reads the list of what was given out (night, name of the part, how many rows its log had then),
+# and writes a line for each night up to `tonight` after which parts made no night. What was given
+# out later goes into the file GIVEN. With `begins` the next night begins: what was given out may
+# still wait for its turn, so the line says how it was then. LATE names the parts that came when the
+# night was over, STANDING is as `lib/parts.awk` writes it, and both come from the environment.
 BEGIN {
   FS = "\t"
   given = ENVIRON["GIVEN"]
@@ -31,12 +32,15 @@ $1 > tonight "" {
 }
 
 END {
-  for (n = 1; n <= count; n++) {
-    night = nights[n]
-    if (number[night]) print "No night was made in " named(night) " since " \
-      (number[night] == 1 ? "it was" : "they were") " given out on the night of " night ": " \
-      "nothing in " (number[night] == 1 ? "it" : "them") " was audited."
-  }
+  for (n = 1; n <= count; n++) if (number[nights[n]]) print said_of(nights[n])
+}
+
+function said_of(night,  is_one) {
+  is_one = number[night] == 1
+  if (begins) return "When the next night began, no night had been made in " named(night) \
+    (is_one ? ", which was" : ", which were") " given out on the night of " night "."
+  return "No night was made in " named(night) " since " (is_one ? "it was" : "they were") \
+    " given out on the night of " night ": nothing in " (is_one ? "it" : "them") " was audited."
 }
 
 # The names of these parts; those that count on from one another as the first and the last.

@@ -56,7 +56,8 @@ gather_all() {
     is_set || continue
     read_cycle_of "$set"
     cycle=$named_cycle
-    remove "$set/standing.new" && printf '' > "$scratch/divided" && read_parts "$of_cycle" || return 3
+    remove "$set/standing.new" && printf '' > "$scratch/divided" \
+      && read_parts "$of_cycle" || return 3
     gather 2> "$scratch/trouble" || worsen 3
     cat -- "$scratch/trouble" >> "$scratch/text" || return 3
     if [ -n "${join_only:-}" ]; then keep_trouble; else tell_of_set; fi || return 3
@@ -147,8 +148,8 @@ check_common_words() {
   [ ! -d "$state" ] || refuse_other_owner "$state"
   [ -n "$root" ] || fail "the storage root is missing"
   ! lies_in_root || fail "$state is in the storage root"
-  ! is_of_nightly || stop "$state belongs to nightly, which audits a storage root as a whole, or to \
-one part. Nothing was run. The scripts of parallel need a folder of their own."
+  ! is_of_nightly || stop "$state belongs to nightly, which audits a storage root as a whole, or \
+to one part. Nothing was run. The scripts of parallel need a folder of their own."
 }
 
 # Whether the folder is that of a night of `nightly`.

@@ -138,11 +138,12 @@ give_out() {
 }
 
 # Logs which parts were given out, up to this night, and made no night since: nobody ran them, or
-# what ran them failed before it could write a row. A part that came too late is none of them.
+# what ran them failed before it could write a row. A part that came too late is none of them. With
+# $1 the next night begins.
 log_untried() {
   [ -s "$set/given" ] || return 0
-  LATE=$set/late STANDING=$scratch/standing GIVEN=$scratch/given awk -F '\t' -v tonight="$night" \
-    -f "$here/lib/given.awk" "$set/given" > "$scratch/untried" || return 3
+  LATE=$set/late STANDING=$scratch/standing GIVEN=$scratch/given awk -v tonight="$night" \
+    -v begins="${1:-}" -f "$here/lib/given.awk" "$set/given" > "$scratch/untried" || return 3
   while IFS= read -r text; do
     log_refusal 3 "$text" || return 3
   done < "$scratch/untried"

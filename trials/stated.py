@@ -92,36 +92,45 @@ def together(nights, program=PROGRAM, budget="1K", parts="2"):
 # Places that were left out
 
 def left_out(folder):
-    """A folder that cannot be listed: it is named, and its object is not called one without
-    findings."""
+    """A folder that cannot be listed any more: it is named, its object is not called one without
+    findings, and what was found in it before stays open."""
     objects = {name: {"v1/content/f": name.encode()} for name in "abcd"}
     nights = Nights(folder + "/state", common.make_root(folder + "/root", objects))
+    write(nights.root + "/b/v1/content/f", "damaged")
+    together(nights)
     with open(os.fsencode(nights.root) + b"/b/v1/content/\xff", "w"):
         pass
     for _ in range(4):
         together(nights)
-        if os.path.exists(file_of(nights, 1)):
+        if os.path.exists(file_of(nights, 2)):
             break
-    lines = lines_of(nights, 1)
+    lines = lines_of(nights, 2)
     is_so("a cycle that left something out", [lines.get(name) for name in [
         "Whole", "Objects", "Objects without findings", "Places not audited"]],
           ["no", "4", "3", "1"])
     is_so("the place is named", "b/v1/content" in lines.values(), True)
-    unread = nights.path("reports/unread-000001")
+    listed = ran([CONTRIB + "/status", "--list", nights.state])[1].splitlines()[1:]
+    is_so("what is open", [row.split("\t")[:2] for row in listed], [["E092", "b/v1/content/f"]])
+    lists_of_it(nights, lines)
+
+
+def lists_of_it(nights, lines):
+    """The lists beside such a statement, changed and missing."""
+    file = file_of(nights, 2)
+    unread = nights.path("reports/unread-000002")
     is_so("the list is sealed by its digest", digest(common.read(unread)) in lines.values(), True)
-    is_so("all of it holds", verified(file_of(nights, 1))[0], 0)
+    is_so("all of it holds", verified(file)[0], 0)
     kept = common.read(unread)
     write(unread, "c/v1/content\n")
-    is_so("another place", verified(file_of(nights, 1))[0], 1)
+    is_so("another place", verified(file)[0], 1)
     os.remove(unread)
-    status, out, _ = verified(file_of(nights, 1))
-    is_so("no list of them", (status, "unread-000001" in out, "Objects without findings" in out),
+    status, out, _ = verified(file)
+    is_so("no list of them", (status, "unread-000002" in out, "Objects without findings" in out),
           (4, True, True))
     write(unread, kept)
-    separators = nights.path("reports/separators-000001")
-    os.remove(separators)
-    status, out, _ = verified(file_of(nights, 1))
-    is_so("no separators", (status, "separators-000001" in out), (4, True))
+    os.remove(nights.path("reports/separators-000002"))
+    status, out, _ = verified(file)
+    is_so("no separators", (status, "separators-000002" in out), (4, True))
 
 
 def lost_lines(folder):

@@ -210,6 +210,18 @@ def no_text(folder):
           (True, False))
 
 
+def many(folder):
+    """Of many findings the message has twenty, and names the file that has all."""
+    files = {"v1/content/%02d" % number: b"abc" for number in range(25)}
+    nights = Nights(folder + "/state", common.make_root(folder + "/root", {"o": files}))
+    for number in range(25):
+        write(nights.root + "/o/v1/content/%02d" % number, "b")
+    said = nights.cycle()[2]
+    where = re.findall("(?m)^and 5 more, in (.*)$", said)
+    is_so("twenty findings", (said.count("\nE092\t"), len(where)), (20, 1))
+    is_so("all of them", [(read(file) or "").count("E092\t") for file in where], [25])
+
+
 def not_begun(folder):
     """A night that systemd could not begin is told, though it has no status."""
     nights = Nights(folder + "/state", make_root(folder + "/root"))
@@ -266,7 +278,7 @@ def of_parts(folder):
 
 
 PARTS = [by_hand, once, of_this_night, a_word_of_a_good_night, links, as_the_user, not_sent, sent,
-         no_text, not_begun, names, of_parts]
+         no_text, many, not_begun, names, of_parts]
 
 
 def tell(folder):

@@ -82,7 +82,7 @@ say_found() {
   find_closed "$of"
   where=$closed_file
   [ -e "$where" ] || where=$report
-  [ "$count" -le 20 ] || printf '%s\n' "and $((count - 20)) more, at the end of $where" || return 3
+  [ "$count" -le 20 ] || printf '%s\n' "and $((count - 20)) more, in $where" || return 3
   printf '%s\n' "To look at one again: ocfl-scrub check $root PATH, with the path as shown above."
 }
 

@@ -8,6 +8,7 @@ Whatever is shown, the report is the same bytes, and where there is no terminal 
 import os
 import pty
 import re
+import stat
 import subprocess
 import threading
 
@@ -203,9 +204,13 @@ def from_a_pipe(folder, root, report):
     os.mkfifo(file)
 
     def give():
-        while True:
-            with open(file, "wb") as pipe:
-                pipe.write(given.pop() if given else b"")
+        try:
+            # The program puts a file in the pipe's place at its end.
+            while stat.S_ISFIFO(os.stat(file).st_mode):
+                with open(os.open(file, os.O_WRONLY), "wb") as pipe:
+                    pipe.write(given.pop() if given else b"")
+        except FileNotFoundError:
+            pass
 
     threading.Thread(target=give, daemon=True).start()
     terminal = Terminal()

@@ -97,9 +97,9 @@ say_signal_of_all() {
 # Composes what nobody was told of, in the file `text`.
 compose_all() {
   findings_told=0
-  gather_all && read_untold || return 3
+  gather_all && read_untold && has_room || return 3
   { say_refusals && say_ended && say_unread && say_signal_of_all; } >> "$scratch/text" || return 3
-  worsen_by_refusals && worsen_by_untold
+  worsen_by_refusals && worsen_by_untold && has_room
 }
 
 # Ends a night of all parts: says in one message what nobody was told of. It counts as told once

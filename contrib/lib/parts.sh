@@ -108,23 +108,29 @@ count_parts() { wc -l < "$set/table"; }
 # it into a file, none but its own, and sets `number` to which of the parts of that file it is.
 # Empty where there is no such part. The table is read once, so that no division comes in between.
 find_part() {
-  number=$(NAME=$1 SEPARATORS=$2 awk -F '\t' '
+  found=$(NAME=$1 awk -F '\t' '
     { from[NR] = $2 }
     $1 "" == ENVIRON["NAME"] "" { at = NR }
     END {
       if (!at) exit 0
-      if (at > 1) print from[at] > ENVIRON["SEPARATORS"]
-      if (at < NR) print from[at + 1] > ENVIRON["SEPARATORS"]
       print (at > 1 ? 2 : 1)
-    }' "$set/table")
+      if (at > 1) print from[at]
+      if (at < NR) print from[at + 1]
+    }' "$set/table") || return 3
+  number=${found%%"$newline"*}
+  case $found in *"$newline"*) printf '%s\n' "${found#*"$newline"}" > "$2" ;; esac
 }
 
 # Reads the table and all logs: the files `standing`, `events` and `rows` in the folder `scratch`,
 # as `lib/parts.awk` writes them. The parts' own cycle has the number $1.
 read_parts() {
   SET=$set OUT=$scratch LOG=$state/nights LC_ALL=C awk -v cycle="$cycle" -v of_cycle="$1" \
-    -v nothing="$nothing" -f "$here/lib/parts.awk" "$set/table"
+    -v nothing="$nothing" -f "$here/lib/parts.awk" "$set/table" && has_room
 }
+
+# Whether what was written before is whole: not each awk fails where a file of its own is not. Where
+# there was no room for that, there is none for more.
+has_room() { printf '%8192s' '' >> "$scratch/room"; }
 
 # How many parts are in a state: `closed`, `open` or `new`.
 parts_that_are() {
@@ -143,7 +149,8 @@ give_out() {
 log_untried() {
   [ -s "$set/given" ] || return 0
   LATE=$set/late STANDING=$scratch/standing GIVEN=$scratch/given awk -v tonight="$night" \
-    -v begins="${1:-}" -f "$here/lib/given.awk" "$set/given" > "$scratch/untried" || return 3
+    -v begins="${1:-}" -f "$here/lib/given.awk" "$set/given" > "$scratch/untried" \
+    && has_room || return 3
   while IFS= read -r text; do
     log_refusal 3 "$text" || return 3
   done < "$scratch/untried"

@@ -20,7 +20,7 @@ untold_stretches() {
 # Collects them in the file `found`, and the names of the parts in `found_in`.
 find_untold() {
   printf '' > "$scratch/found" && printf '' > "$scratch/found_in" || return 3
-  untold_stretches > "$scratch/stretches" || return 3
+  untold_stretches > "$scratch/stretches" && has_room || return 3
   while IFS=$tab read -r name of from to; do
     findings_between "$of" "$from" "$to" "$set/$name" < /dev/null > "$scratch/one" || return 3
     [ -s "$scratch/one" ] || continue

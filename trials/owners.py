@@ -144,7 +144,8 @@ def links_of_ones_own(folder):
         os.remove(nights.path(name))
         os.symlink(secret, nights.path(name))
         status, out, _ = ran([CONTRIB + "/status", "--list", nights.state])
-        is_so("status with a link as " + name, (status, "secret\t" in out), (3, False))
+        is_so("status with a link as " + name, (status, "secret\t" in out, nights.path(
+            name) + " is a link" in out), (3, False, True))
         os.remove(nights.path(name))
         write(nights.path(name), kept)
     for name in ["report", "nights", "root", "lock", "reports"]:

@@ -16,6 +16,10 @@ read_untold() {
   untold=${untold%%"$newline"*}
 }
 
+# Whether what was written before is whole: not each awk fails where a file of its own is not. Where
+# there was no room for that, there is none for more.
+has_room() { printf '%8192s' '' >> "$scratch/room"; }
+
 # Whether something of a kind is among them.
 has_untold() { case " $untold " in *" $1 "*) ;; *) return 1 ;; esac; }
 
@@ -217,7 +221,8 @@ say_signal() {
 compose() {
   whose=${part:+part ${OCFL_SCRUB_PART:-$part} of }$root
   findings_told=0 unread=''
-  read_untold && say_cut && say_lost && say_findings && say_ended && say_stops && say_signal
+  read_untold && has_room && say_cut && say_lost && say_findings && say_ended && say_stops \
+    && say_signal && has_room
 }
 
 # The status of a night that says this, whatever its runs gave: 3 where lines were lost or cannot be

@@ -128,10 +128,6 @@ read_parts() {
     -v nothing="$nothing" -f "$here/lib/parts.awk" "$set/table" && has_room
 }
 
-# Whether what was written before is whole: not each awk fails where a file of its own is not. Where
-# there was no room for that, there is none for more.
-has_room() { printf '%8192s' '' >> "$scratch/room"; }
-
 # How many parts are in a state: `closed`, `open` or `new`.
 parts_that_are() {
   awk -F '\t' -v state="$1" '$6 == state { count++ } END { print count + 0 }' "$scratch/standing"

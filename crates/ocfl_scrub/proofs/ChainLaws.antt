@@ -78,7 +78,7 @@ ends_in runs unused (cycle.Stopped why) (inr b) = inr (b.memory, b.spent)
 pub spent_not_ended : run.Spent ≡ run.Ended → ⊥
 spent_not_ended e = cc
 
-spent_not_stopped : (why : Fault) → run.Spent ≡ run.Stopped why → ⊥
+pub spent_not_stopped : (why : Fault) → run.Spent ≡ run.Stopped why → ⊥
 spent_not_stopped why e = cc
 
 abbrev found_by : List MadeRun → Bool

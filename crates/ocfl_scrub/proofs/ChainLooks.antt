@@ -1,7 +1,8 @@
 -- What each run of a cycle lists and reads.
-use Rattle.std.proofs.Common.{◌≡◌, ℕ, suc, ◌+◌, ◌≤◌, List, [], ◌∷◌, ◌++◌, refl, sym, ◌∙◌, ap, subst, Bool, Option, append-nil, append_assoc, filter, length, length-append, arith}
+use Rattle.std.proofs.Common.{◌≡◌, inl, inr, ℕ, suc, ◌+◌, ◌≤◌, List, [], ◌∷◌, ◌++◌, refl, sym, ◌∙◌, ap, subst, Bool, Option, append-nil, append_assoc, filter, length, length-append, arith}
 use Rattle.std.specs.Prelude.{flat_map}
 use Rattle.std.specs.List.{AllByRecursion}
+use Rattle.std.proofs.lemmas.List.{length-map}
 use Rattle.ocfl_tree.specs.Place.{Place, place_cmp}
 use Rattle.ocfl_tree.specs.Ascending.{IsBeforeAll, IsAscending}
 use Rattle.ocfl_tree.specs.StorageRoot.{StorageRoot}
@@ -14,12 +15,16 @@ use Rattle.ocfl_audit.specs.Trail.{heads_of}
 use Rattle.ocfl_audit.proofs.Trails.{filter_append}
 use Rattle.ocfl_cursor.specs.Cursor.{Cursor, new_cursor}
 use Rattle.ocfl_scrub.specs.Call.{Call, call_of}
-use Rattle.ocfl_scrub.specs.Chaining.{MadeRun, calls_of, AreChained, IsMadeOf, CycleOfRunsWithin}
+use Rattle.ocfl_item.specs.Auditing.{FailedAt}
+use Rattle.ocfl_item.specs.declared.fault.Fault.TheVariants.{Memory, Store as AtStore}
+use Rattle.ocfl_scrub.specs.Chaining.{MadeRun, calls_of, AreChained, IsMadeOf, last_end, ChainEnds, CycleOfRunsWithin}
 use Rattle.ocfl_scrub.specs.Running.{place_in, RunEndsWithin}
 use Rattle.ocfl_scrub.specs.declared.cycling.CycleEnd.{CycleEnd}
+use Rattle.ocfl_scrub.specs.declared.cycling.CycleStatus.TheVariants as cycle
 use Rattle.ocfl_scrub.specs.declared.running.RunStatus.{RunStatus}
 use Rattle.ocfl_scrub.specs.declared.running.RunStatus.TheVariants as run
 use Rattle.ocfl_scrub.proofs.ChainHeadline.{now}
+use Rattle.ocfl_scrub.proofs.ChainLaws.{spent_not_stopped}
 
 module _ (root : StorageRoot) (part : Part) where
   -- ---- one run
@@ -80,6 +85,22 @@ module _ (root : StorageRoot) (part : Part) where
         ),
       )
 
+  -- ---- the last of them, where a call of the store failed
+
+  abbrev FailedIn : Store → Store → Place → Type 0
+  FailedIn s t q = (listed : List Place) × ((trail : List Opening) × ((t.listings ≡ s.listings ++ listed) × ((t.openings ≡ s.openings ++ trail) × FailedAt root listed trail q)))
+
+  last_failed : (made : List MadeRun) (c : Cursor) (s t : Store) (old new : Option (List ℕ)) → AreChained part c made → IsMadeOf (call_of root s t old new) (calls_of made)
+      → (q : Place) → last_end made ≡ run.Stopped (AtStore q) → (front : List Call) × ((k : Call) × ((calls_of made ≡ front ++ k ∷ []) × FailedIn k.before k.after q))
+  last_failed [] c s t old new h m q e = absurd (spent_not_stopped (AtStore q) e)
+  last_failed (r ∷ []) c s t old new h m q e =
+      let k = now root part s old c r h.0 m.0 in
+      let fails = (subst (RunEndsWithin (call_of root s r.call.after old r.call.new) part (place_in c.state) k.last r.limits r.ran.spent r.ran.files r.ran.found) e k.run).looks.fails in
+      ([], (call_of root s r.call.after old r.call.new, (ap (λ x. x ∷ []) m.0, (_, (_, (fails.did.listings_are, (fails.did.openings_are, (fails.store q refl).1)))))))
+  last_failed (r ∷ x ∷ rest) c s t old new h m q e =
+      let later = last_failed (x ∷ rest) r.ran.cursor r.call.after t r.call.new new h.1 m.1 q e in
+      (r.call ∷ later.0, (later.1.0, (ap (λ ks. r.call ∷ ks) later.1.1.0, later.1.1.1)))
+
 -- ---- how often the storage root is listed
 
 none_later : (ps : List Place) → IsBeforeAll place_cmp [] ps → length (filter is_empty ps) ≡ 0
@@ -116,3 +137,17 @@ module _ (call : Call) (part : Part) (limits : List Limits) (ran : CycleEnd) (h 
   root_listed =
       let k = cycle_lists in
       (flat_map (λ ls. ls) k.0, (k.1.1.0, subst (λ n. length (filter is_empty (flat_map (λ ls. ls) k.0)) ≤ n) k.1.0 (root_each k.0 k.1.1.1)))
+
+  pub failed_last : (q : Place) → ran.end ≡ cycle.Stopped (AtStore q) → (calls : List Call) × ((k : Call) × (IsMadeOf call (calls ++ k ∷ []) × ((length (calls ++ k ∷ []) ≡ ran.runs)
+      × FailedIn call.root part k.before k.after q)))
+  failed_last q e = by (subst (ChainEnds h.runs h.unused) e h.ends)
+    where
+      not_memory : AtStore q ≡ Memory → ⊥
+      not_memory f = cc
+
+      by : ChainEnds h.runs h.unused (cycle.Stopped (AtStore q))
+          → (calls : List Call) × ((k : Call) × (IsMadeOf call (calls ++ k ∷ []) × ((length (calls ++ k ∷ []) ≡ ran.runs) × FailedIn call.root part k.before k.after q)))
+      by (inr b) = absurd (not_memory b.memory)
+      by (inl f) =
+          let k = last_failed call.root part h.runs new_cursor call.before call.after call.old call.new h.chained h.made_of q f in
+          (k.0, (k.1.0, (subst (IsMadeOf call) k.1.1.0 h.made_of, (ap length (sym k.1.1.0) ∙ length-map h.runs (λ r. r.call) ∙ sym h.count_is, k.1.1.1))))

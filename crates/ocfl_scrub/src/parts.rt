@@ -1,6 +1,6 @@
 //! The laws of parts: what the runs of a part wrote, joined, and what the parts of a storage root
 //! wrote together.
-ghost use Rattle.std.specs.Prelude.{◌≡◌, ◌≢◌, ◌≤◌, ◌+◌, ◌++◌, ◌/◌, ℕ, Bool, List, []};
+ghost use Rattle.std.specs.Prelude.{◌≡◌, ◌≢◌, ◌≤◌, ◌+◌, ◌++◌, ◌/◌, ℕ, Bool, List, [], ◌∷◌};
 ghost use Rattle.std.specs.Prelude.{Option, None, All};
 ghost use Rattle.std.specs.Prelude.{filter, flat_map, length, map};
 ghost use Rattle.std.specs.List.{AllByRecursion};
@@ -17,9 +17,10 @@ ghost use Rattle.ocfl_audit.specs.Parts.{Part, parts_of, places_within, whole, w
 ghost use Rattle.ocfl_audit.specs.Runs.{IsAtLeast, Limits, total_files};
 ghost use Rattle.ocfl_audit.specs.Trail.{heads_of};
 ghost use Rattle.ocfl_cursor.specs.Cursor.{Cursor, ended};
+ghost use Rattle.ocfl_item.specs.Auditing.{FailedAt};
 ghost use Rattle.ocfl_item.specs.declared.fault.Fault.TheVariants as fault;
 ghost use Rattle.ocfl_scrub.specs.Call.{Call, known_call};
-ghost use Rattle.ocfl_scrub.specs.Chaining.{CycleOfRunsWithin};
+ghost use Rattle.ocfl_scrub.specs.Chaining.{CycleOfRunsWithin, IsMadeOf};
 ghost use Rattle.ocfl_scrub.specs.Running.{RunsFromWithin, place_in};
 ghost use Rattle.ocfl_scrub.specs.Joining.{AreOneCycle, AreRuns, IsPartCycle, IsWholeCycle};
 ghost use Rattle.ocfl_scrub.specs.Joining.{PartCycle, PartRun, Ran, cursor_after, left_by};
@@ -27,6 +28,7 @@ ghost use Rattle.ocfl_scrub.specs.Joining.{opened_by, reports_of, unread_togethe
 ghost use Rattle.ocfl_scrub.specs.WholeAudit.{AuditEndsWithin};
 ghost use Rattle.ocfl_scrub.specs.declared.checking.End.{End};
 ghost use Rattle.ocfl_scrub.specs.declared.cycling.CycleEnd.{CycleEnd};
+ghost use Rattle.ocfl_scrub.specs.declared.cycling.CycleStatus.TheVariants as cycle;
 ghost use Rattle.ocfl_scrub.specs.declared.running.RunEnd.{RunEnd};
 ghost use Rattle.ocfl_scrub.specs.declared.running.RunStatus.TheVariants as run;
 
@@ -133,7 +135,8 @@ pub fn an_audit_of_a_part_looks_once()
 
 /// Each run of a cycle lists each directory at most once and reads each inventory at most once, in
 /// order, and nothing is listed or read between two runs. So a cycle has at least as many runs as
-/// listings of the storage root.
+/// listings of the storage root. Where a call of the store failed, it was the last listing or the
+/// last opening of the last run that is counted.
 pub fn each_run_of_a_cycle_looks_once()
     ensures listed { (call : Call) (part : Part) (limits : List Limits) (ran : CycleEnd)
         → CycleOfRunsWithin call part limits ran → (looks : List (List Place))
@@ -149,4 +152,12 @@ pub fn each_run_of_a_cycle_looks_once()
         → CycleOfRunsWithin call part limits ran → (listed : List Place)
         × ((call.after.listings ≡ call.before.listings ++ listed)
         × (length (filter is_empty listed) ≤ ran.runs)) }
+    ensures failed { (call : Call) (part : Part) (limits : List Limits) (ran : CycleEnd)
+        → CycleOfRunsWithin call part limits ran → (q : Place)
+        → ran.end ≡ cycle.Stopped (fault.Store q) → (calls : List Call) × ((k : Call)
+        × (IsMadeOf call (calls ++ k ∷ []) × ((length (calls ++ k ∷ []) ≡ ran.runs)
+        × ((listed : List Place) × ((trail : List Opening)
+        × ((k.after.listings ≡ k.before.listings ++ listed)
+        × ((k.after.openings ≡ k.before.openings ++ trail)
+        × FailedAt call.root listed trail q))))))) }
 {}

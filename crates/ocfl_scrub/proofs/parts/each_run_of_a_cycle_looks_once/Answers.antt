@@ -1,4 +1,4 @@
-use Rattle.ocfl_scrub.proofs.ChainLooks.{cycle_lists, cycle_reads, root_listed}
+use Rattle.ocfl_scrub.proofs.ChainLooks.{cycle_lists, cycle_reads, failed_last, root_listed}
 use Rattle.ocfl_scrub.proofs.parts.each_run_of_a_cycle_looks_once.Goals as goal
 
 pub returns-clause-listed : goal.returns-clause-listed
@@ -9,3 +9,6 @@ returns-clause-read c = cycle_reads
 
 pub returns-clause-root : goal.returns-clause-root
 returns-clause-root c = root_listed
+
+pub returns-clause-failed : goal.returns-clause-failed
+returns-clause-failed c = failed_last

@@ -18,7 +18,11 @@ read_untold() {
 
 # Whether what was written before is whole: not each awk fails where a file of its own is not. Where
 # there was no room for that, there is none for more.
-has_room() { printf '%8192s' '' >> "$scratch/room"; }
+rooms=0
+has_room() {
+  rooms=$((rooms + 1))
+  printf '%8192s' '' > "$scratch/room.$rooms"
+}
 
 # Whether something of a kind is among them.
 has_untold() { case " $untold " in *" $1 "*) ;; *) return 1 ;; esac; }

@@ -96,10 +96,22 @@ fn the_report_is_read_from_an_offset(rt: HostRuntime) -> Result<(), Fail> {
 /// Crashes after the synced folder got `de` appended, or was cut to 1: how many of the bytes that
 /// were not on the disk stay, whether as zeros, and what the folder shows then.
 const CRASHES: [(&str, u64, usize, bool, &str); 6] = [
-    ("nothing is lost", 5, usize::MAX, false, "mark|abcde|1 false first"),
+    (
+        "nothing is lost",
+        5,
+        usize::MAX,
+        false,
+        "mark|abcde|1 false first",
+    ),
     ("all of it", 5, 0, false, "mark|abc|1 false first"),
     ("a byte of it stays", 5, 1, false, "mark|abcd|1 false first"),
-    ("zeros in its place", 5, 2, true, "mark|abc\0\0|1 false first"),
+    (
+        "zeros in its place",
+        5,
+        2,
+        true,
+        "mark|abc\0\0|1 false first",
+    ),
     ("a cut", 1, usize::MAX, false, "mark|a|1 false first"),
     ("a cut, nothing stays", 1, 0, false, "mark|a|1 false first"),
 ];
@@ -168,8 +180,16 @@ fn each_call_fails_once_and_does_nothing(rt: HostRuntime) -> Result<(), Fail> {
             folder.close(1, true).err(),
         ];
         for (index, error) in failed.iter().enumerate() {
-            let last = if index == 8 { Some(Trouble::Taken) } else { None };
-            let want = if index + 1 == number as usize { Some(Trouble::Failed) } else { last };
+            let last = if index == 8 {
+                Some(Trouble::Taken)
+            } else {
+                None
+            };
+            let want = if index + 1 == number as usize {
+                Some(Trouble::Failed)
+            } else {
+                last
+            };
             assert_eq!(rt; *error, want, "call {number}, {index}");
         }
         expect(&rt, "unchanged", &folder, "mark|abc|1 false first")?;

@@ -9,8 +9,8 @@ use crate::tests::common::object::{bare_root, listing, object_with, put_object};
 use crate::tests::common::store::{place_of, put, put_dir};
 use ocfl_cursor::PartEnds;
 use ocfl_deed::Deed;
-use ocfl_scrub::Scope;
 use ocfl_memory::MemTree;
+use ocfl_scrub::Scope;
 use std::alloc::Global;
 use std::test::Fail;
 

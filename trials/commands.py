@@ -262,7 +262,7 @@ def findings(root):
 
 
 def samples(folder):
-    """What README shows: the sample, and a nightly cycle over it."""
+    """The sample that README makes, and a nightly cycle over it."""
     for name in ["make", "nights"]:
         made = os.path.join(folder, name)
         script = os.path.join(common.TOP, "samples", name)

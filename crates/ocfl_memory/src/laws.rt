@@ -5,8 +5,8 @@ ghost use Rattle.ocfl_tree.specs.StorageRoot.{Leaf};
 ghost use Rattle.ocfl_tree.specs.Store.{Store};
 ghost use Rattle.ocfl_memory.specs.MemTree.{Puts, Removes};
 
-/// What is put into a tree in memory or taken from it closes the open file, and leaves the record of
-/// all calls as it was.
+/// What is put into a tree in memory or taken from it closes the open file, and leaves the record
+/// of all calls as it was.
 pub fn changes_leave_what_was_told()
     ensures put { (s t : Store) (p : Place) (leaf : Leaf) → Puts s t p leaf → (t.rest ≡ None)
         × ((t.openings ≡ s.openings) × ((t.listings ≡ s.listings) × ((t.failures ≡ s.failures)

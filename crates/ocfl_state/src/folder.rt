@@ -40,8 +40,8 @@ impl<T: Drop> From<AllocFailed<T>> for Trouble {
 /// A longer checkpoint is not read, in bytes.
 pub const MAX_CHECKPOINT: usize = 1 << 20;
 
-/// What the nights over one storage root keep on a disk: a checkpoint, the report of the open cycle,
-/// and the closed reports of earlier cycles.
+/// What the nights over one storage root keep on a disk: a checkpoint, the report of the open
+/// cycle, and the closed reports of earlier cycles.
 ///
 /// A crash may come at any moment, in a call or between two. After any trouble but `Taken` the
 /// folder holds one of the contents that a crash in that call may leave: open it again.
@@ -137,8 +137,8 @@ pub trait StateFolder {
         ensures crash { IsTrue told → Passes may_leave moment left_since Same self.old self.new }
         ensures cause { IsTrue told → HasCause (faults self.old) (faults self.new) result };
 
-    /// The report becomes the closed report of a cycle, as a whole, and the next one is empty. After
-    /// `Ok` that is on the disk, as far as the report was.
+    /// The report becomes the closed report of a cycle, as a whole, and the next one is empty.
+    /// After `Ok` that is on the disk, as far as the report was.
     ///
     /// `Taken` where a report of that cycle is closed; then nothing is changed.
     fn close(&mut self, cycle: u64, whole: bool) -> Result<(), Trouble>

@@ -111,8 +111,8 @@ impl MemState {
         self.past.get(changes)
     }
 
-    /// The folder that a crash leaves, where it comes after so many of the changes: of the report's
-    /// bytes that were not on the disk at most `left` stay, all zeros if `zeroed`. `None` where there
+    /// The folder that a crash leaves if it comes after so many of the changes. Of the report's
+    /// bytes that were not on the disk at most `left` stay, all zeros if `zeroed`. `None` if there
     /// were fewer changes.
     #[tactic(auto, using(crate::proofs::Images::torn_is_image))]
     pub fn crashed(

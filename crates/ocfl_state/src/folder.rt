@@ -37,9 +37,6 @@ impl<T: Drop> From<AllocFailed<T>> for Trouble {
     }
 }
 
-/// A longer checkpoint is not read, in bytes.
-pub const MAX_CHECKPOINT: usize = 1 << 20;
-
 /// What the nights over one storage root keep on a disk: a checkpoint, the report of the open
 /// cycle, and the closed reports of earlier cycles.
 ///
@@ -65,8 +62,6 @@ pub trait StateFolder {
     ghost faults: { Self → ℕ };
 
     /// The checkpoint's bytes; `None` where there is no checkpoint.
-    ///
-    /// `Failed` also where it has more than `MAX_CHECKPOINT` bytes.
     fn checkpoint(&mut self) -> Result<Option<Vec<u8>>, Trouble>
         ensures value { IsTrue told → IfOk result (λ found.
             option_map bytes_of found ≡ (seen self.old).checkpoint) }

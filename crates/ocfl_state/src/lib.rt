@@ -6,6 +6,6 @@ mod folder;
 mod held;
 mod memory;
 
-pub use folder::{MAX_CHECKPOINT, StateFolder, Trouble};
+pub use folder::{StateFolder, Trouble};
 pub use held::ClosedReport;
 pub use memory::MemState;

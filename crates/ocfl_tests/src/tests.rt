@@ -4,6 +4,7 @@ mod common;
 mod cursor;
 mod digest;
 mod folder;
+mod identity;
 mod inventory;
 mod item;
 mod line;

@@ -1,0 +1,166 @@
+-- A sorted listing is the entries of the directory.
+use Rattle.std.proofs.Common.{◌≡◌, inl, inr, suc, ◌+◌, List, [], ◌∷◌, refl, sym, ◌∙◌, ap, subst, false, Option, Some, None, arith, All, IsPermutation}
+use Rattle.std.specs.Prelude.{filter_map, option_map, slice_index_or}
+use Rattle.std.specs.List.{AllByRecursion, IsDistinct, cons_option}
+use Rattle.std.specs.List.Sorted.{IsSorted}
+use Rattle.std.specs.Ordering.{is_lt, is_eq, ordering_reverse}
+use Rattle.std.specs.declared.cmp.Ordering.{Ordering}
+use Rattle.std.specs.declared.cmp.Ordering.TheVariants.{Less, Equal, Greater}
+use Rattle.std.proofs.lemmas.List.Elements.{All-nil, All-cons}
+use Rattle.std.proofs.lemmas.List.Sorted.{All-permutation, IsPermutation-sym, IsPermutation-map}
+use Rattle.std.proofs.lemmas.Map.Keys.{IsDistinct-IsPermutation}
+use Rattle.ocfl_tree.specs.Place.{Place, Text, child_name, text_cmp, text_eq}
+use Rattle.ocfl_tree.specs.Ascending.{IsAscending, IsAmong, IsBeforeAll}
+use Rattle.ocfl_tree.specs.StorageRoot.{StorageRoot, names_in}
+use Rattle.ocfl_tree.specs.Listing.{IsListing, IsOrdinary, entries_in, entry_at, kind_at}
+use Rattle.ocfl_tree.specs.declared.store.Entry.{Entry}
+use Rattle.ocfl_tree.specs.declared.store.Kind.{Kind}
+use Rattle.ocfl_tree.proofs.Orders.{ascending_unique, ascends_ascending, below_from_greater, true_not_false}
+use Rattle.ocfl_tree.proofs.Places.{text_cmp_exact, text_cmp_total}
+use Rattle.ocfl_tree.proofs.Listings.{listing_permutes}
+use Rattle.ocfl_identity.specs.Identity.{names_of}
+
+-- ---- names that ascend are distinct, and so are they in any order
+
+turns : (n m : Text) → text_eq n m ≡ text_eq m n
+turns n m = by (text_cmp n m) ∙ ap is_eq (sym (text_cmp_total.antisymm m n))
+  where
+    by : (r : Ordering) → is_eq r ≡ is_eq (ordering_reverse r)
+    by Less = refl
+    by Equal = refl
+    by Greater = refl
+
+distinct : (ns : List Text) → IsAscending text_cmp ns → IsDistinct text_eq ns
+unfolding IsDistinct
+distinct [] h = tt
+distinct (n ∷ ns) h = (apart ns h.0, distinct ns h.1)
+  where
+    apart : (ms : List Text) → IsBeforeAll text_cmp n ms → AllByRecursion (λ m. text_eq n m ≡ false) ms
+    apart [] b = tt
+    apart (m ∷ ms) b = (ap is_eq b.0, apart ms b.1)
+
+-- ---- a sorted list of distinct names ascends
+
+rises : (es : List Entry) → IsSorted (λ e f. text_cmp e.name f.name) es → IsDistinct text_eq (names_of es) → IsAscending text_cmp (names_of es)
+unfolding IsDistinct
+rises [] s d = tt
+rises (x ∷ []) s d = (tt, tt)
+rises (x ∷ y ∷ es) s d =
+    let rest : IsAscending text_cmp (names_of (y ∷ es)) = rises (y ∷ es) (later s) d.1 in
+    let first : text_cmp x.name y.name ≡ Less = by (text_cmp x.name y.name) refl (s 0 x (omega arith) (omega arith)) in
+    ((first, further (names_of es) first rest.0), rest)
+  where
+    later : IsSorted (λ e f. text_cmp e.name f.name) (x ∷ y ∷ es) → IsSorted (λ e f. text_cmp e.name f.name) (y ∷ es)
+    later s k e l h =
+        let same : suc k + 1 ≡ suc (k + 1) = omega arith in
+        subst (λ j. is_lt (text_cmp (slice_index_or (x ∷ y ∷ es) j e).name (slice_index_or (y ∷ es) k e).name) ≡ false) same (s (suc k) e (omega arith) (omega (arith, h)))
+
+    by : (r : Ordering) → text_cmp x.name y.name ≡ r → is_lt (text_cmp y.name x.name) ≡ false → text_cmp x.name y.name ≡ Less
+    by Less e h = e
+    by Equal e h = absurd (true_not_false (sym (ap is_eq e) ∙ d.0.0))
+    by Greater e h = absurd (true_not_false (sym (ap is_lt (below_from_greater text_cmp_total x.name y.name e)) ∙ h))
+
+    further : (ns : List Text) → text_cmp x.name y.name ≡ Less → IsBeforeAll text_cmp y.name ns → IsBeforeAll text_cmp x.name ns
+    further [] b h = tt
+    further (n ∷ ns) b h = (text_cmp_total.trans x.name y.name n b h.0, further ns b h.1)
+
+-- ---- the entries of a directory
+
+module _ (root : StorageRoot) (d : Place) where
+  abbrev named : Text → Option Entry
+  named n = entry_at root d n
+
+  abbrev Are : List Entry → Type 0
+  Are es = AllByRecursion (λ e. named e.name ≡ Some e) es
+
+  abbrev of : Text → Option Kind → List Entry → List Entry
+  of n kind es = cons_option (option_map (λ k. record { name = n; kind = k }) kind) es
+
+  own : (ns : List Text) → Are (filter_map named ns)
+  own [] = tt
+  own (n ∷ ns) = by (kind_at root d n) refl (own ns)
+    where
+      by : (o : Option Kind) → kind_at root d n ≡ o → Are (filter_map named ns) → Are (of n o (filter_map named ns))
+      by None e more = more
+      by (Some k) e more = (ap (option_map (λ j. record { name = n; kind = j })) e, more)
+
+  before : (n : Text) (ns : List Text) → IsBeforeAll text_cmp n ns → IsBeforeAll text_cmp n (names_of (filter_map named ns))
+  before n [] h = tt
+  before n (m ∷ ns) h = by (kind_at root d m) (before n ns h.1)
+    where
+      by : (o : Option Kind) → IsBeforeAll text_cmp n (names_of (filter_map named ns)) → IsBeforeAll text_cmp n (names_of (of m o (filter_map named ns)))
+      by None more = more
+      by (Some k) more = (h.0, more)
+
+  ascend : (ns : List Text) → IsAscending text_cmp ns → IsAscending text_cmp (names_of (filter_map named ns))
+  ascend [] h = tt
+  ascend (n ∷ ns) h = by (kind_at root d n) (ascend ns h.1)
+    where
+      by : (o : Option Kind) → IsAscending text_cmp (names_of (filter_map named ns)) → IsAscending text_cmp (names_of (of n o (filter_map named ns)))
+      by None more = more
+      by (Some k) more = (before n ns h.0, more)
+
+  entries_ascend : IsAscending text_cmp (names_of (entries_in root d))
+  entries_ascend = ascend (names_in root d) (ascends_ascending text_cmp_total (filter_map (λ e. child_name d e.0) root))
+
+  from_names : (es : List Entry) → Are es → es ≡ filter_map named (names_of es)
+  from_names [] h = refl
+  from_names (e ∷ es) h = ap (λ fs. e ∷ fs) (from_names es h.1) ∙ ap (λ o. cons_option o (filter_map named (names_of es))) (sym h.0)
+
+-- ---- what permutations keep
+
+module _ {A : Type 0} (P : A → Type 0) where
+  to_all : (xs : List A) → AllByRecursion P xs → All P xs
+  to_all [] h = All-nil P
+  to_all (x ∷ xs) h = All-cons P x xs h.0 (to_all xs h.1)
+
+  from_all : (xs : List A) → All P xs → AllByRecursion P xs
+  from_all [] h = tt
+  from_all (x ∷ xs) h = (h 0 x (omega arith), from_all xs (λ k d l. h (suc k) d (omega (arith, l))))
+
+  moved : (xs ys : List A) → IsPermutation xs ys → AllByRecursion P xs → AllByRecursion P ys
+  moved xs ys m h = from_all ys (All-permutation P xs ys m (to_all xs h))
+
+  one_of : (xs : List A) (z : A) → AllByRecursion P xs → IsAmong xs z → P z
+  one_of [] z h i = absurd i
+  one_of (x ∷ xs) z h (inl e) = subst P (sym e) h.0
+  one_of (x ∷ xs) z h (inr i) = one_of xs z h.1 i
+
+module _ {A : Type 0} where
+  all_among : (xs : List A) → AllByRecursion (IsAmong xs) xs
+  all_among [] = tt
+  all_among (x ∷ xs) = (inl refl, later xs (all_among xs))
+    where
+      later : (ys : List A) → AllByRecursion (IsAmong xs) ys → AllByRecursion (IsAmong (x ∷ xs)) ys
+      later [] h = tt
+      later (y ∷ ys) h = (inr h.0, later ys h.1)
+
+  among_moved : (xs ys : List A) (z : A) → IsPermutation xs ys → IsAmong xs z → IsAmong ys z
+  among_moved xs ys z m i = one_of (IsAmong ys) xs z (moved (IsAmong ys) ys xs (IsPermutation-sym xs ys m) (all_among ys)) i
+
+-- a listing in order is the entries of the directory
+pub sorted_listing : (root : StorageRoot) (d : Place) (es fs : List Entry) → IsOrdinary es → IsListing root d es → IsPermutation es fs → IsSorted (λ e f. text_cmp e.name f.name) fs → fs ≡ entries_in root d
+sorted_listing root d es fs ordinary h m sorted =
+    from_names root d fs (moved (λ e. entry_at root d e.name ≡ Some e) es fs m (moved (λ e. entry_at root d e.name ≡ Some e) _ es here (own root d (names_in root d))))
+    ∙ ap (filter_map (entry_at root d)) names
+    ∙ sym (from_names root d (entries_in root d) (own root d (names_in root d)))
+  where
+    there : IsPermutation es (entries_in root d)
+    there = listing_permutes root d es ordinary h
+
+    here : IsPermutation (entries_in root d) es
+    here = IsPermutation-sym es (entries_in root d) there
+
+    of_name : (xs ys : List Entry) → IsPermutation xs ys → IsPermutation (names_of xs) (names_of ys)
+    of_name xs ys k = IsPermutation-map (λ e. e.name) xs ys k
+
+    apart : IsDistinct text_eq (names_of fs)
+    apart = IsDistinct-IsPermutation text_eq turns (names_of es) (names_of fs) (of_name es fs m)
+        (IsDistinct-IsPermutation text_eq turns (names_of (entries_in root d)) (names_of es) (of_name _ es here) (distinct _ (entries_ascend root d)))
+
+    names : names_of fs ≡ names_of (entries_in root d)
+    names = ascending_unique text_cmp_total text_cmp_exact (names_of fs) (names_of (entries_in root d)) (rises fs sorted apart) (entries_ascend root d)
+        (λ n. (
+          λ i. among_moved (names_of es) _ n (of_name es _ there) (among_moved (names_of fs) (names_of es) n (of_name fs es (IsPermutation-sym es fs m)) i),
+          λ i. among_moved (names_of es) (names_of fs) n (of_name es fs m) (among_moved _ (names_of es) n (of_name _ es here) i),
+        ))

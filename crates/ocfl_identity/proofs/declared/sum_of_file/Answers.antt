@@ -1,0 +1,30 @@
+use Rattle.std.proofs.Common.{◌∙◌, ◌++◌, ◌∷◌, [], sym, ap, refl, Some, None}
+use Rattle.std.specs.Prelude.{cond}
+use Rattle.std.specs.Option.{option_map}
+use Rattle.std.proofs.lemmas.List.{append-nil}
+use Rattle.sha2.specs.Sha256.{sha256}
+use Rattle.hex.specs.Hex.{encode_lower}
+use Rattle.ocfl_tree.specs.StorageRoot.{file_at}
+use Rattle.ocfl_digest.specs.declared.algorithm.Algorithm.TheVariants.{Sha256 as OfSha256}
+use Rattle.ocfl_identity.specs.Identity.{digits_of}
+use Rattle.ocfl_identity.proofs.declared.sum_of_file.Goals as goal
+
+pub returns-in_err-sha256_digits-in-Ok-clause-keeps : goal.returns-in_err-sha256_digits-in-Ok-clause-keeps
+returns-in_err-sha256_digits-in-Ok-clause-keeps g c = λ told. (c.in-Ok.ensures.hashes told _ refl).did.tree
+
+pub returns-in_ok-sha256_digits-in-Ok-clause-keeps : goal.returns-in_ok-sha256_digits-in-Ok-clause-keeps
+returns-in_ok-sha256_digits-in-Ok-clause-keeps g c = λ told. (c.in-Ok.ensures.hashes told _ refl).did.tree
+
+pub returns-in_ok-sha256_digits-in-Ok-clause-told : goal.returns-in_ok-sha256_digits-in-Ok-clause-told
+returns-in_ok-sha256_digits-in-Ok-clause-told g c = λ told root is.
+    let h = c.in-Ok.ensures.hashes told root is in
+    c.in_ok-sha256_digits-in-Ok.ensures
+    ∙ ap (option_map encode_lower) (h.digests.each OfSha256 ∙ ap (λ b. cond b (Some (sha256 h.bytes)) None) c.with-wanted.ensures.added)
+    ∙ ap digits_of (sym h.is_file)
+    ∙ ap (λ p. digits_of (file_at root p)) (c.in_ok-place.ensures ∙ ap (λ d. d ++ c.args.name.now ∷ []) c.root.ensures)
+
+pub returns-in_err-sha256_digits-in-Ok-clause-unlisted : goal.returns-in_err-sha256_digits-in-Ok-clause-unlisted
+returns-in_err-sha256_digits-in-Ok-clause-unlisted g c = λ told. (c.in-Ok.ensures.hashes told _ refl).did.listings_are ∙ append-nil _
+
+pub returns-in_ok-sha256_digits-in-Ok-clause-unlisted : goal.returns-in_ok-sha256_digits-in-Ok-clause-unlisted
+returns-in_ok-sha256_digits-in-Ok-clause-unlisted g c = λ told. (c.in-Ok.ensures.hashes told _ refl).did.listings_are ∙ append-nil _

@@ -1,0 +1,13 @@
+use Rattle.std.proofs.Common.{rules}
+use Rattle.std.specs.Ordering.{is_lt}
+use Rattle.std.proofs.lemmas.Fn.{always_returns_same}
+use Rattle.std.proofs.lemmas.List.MinMax.{ranks_by}
+use Rattle.ocfl_tree.specs.Place.{text_cmp}
+use Rattle.ocfl_tree.specs.declared.store.Entry.{Entry}
+use Rattle.ocfl_tree.proofs.Places.{text_cmp_total}
+use Rattle.ocfl_identity.proofs.gathered.sort.Goals as goal
+
+pub returns-clause-sorted : goal.returns-clause-sorted
+returns-clause-sorted c =
+    let name = λ (e : Entry). e.name in
+    c.sort_unstable_by.ensures.sorted (λ x y. is_lt (text_cmp x.name y.name)) (ranks_by text_cmp_total name) (always_returns_same _ _ _ (λ a r f h. search rules))

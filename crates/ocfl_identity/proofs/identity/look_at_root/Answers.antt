@@ -1,0 +1,22 @@
+use Rattle.std.proofs.Common.{◌≡◌, ◌∙◌, [], subst}
+use Rattle.ocfl_tree.specs.Listing.{IsListing}
+use Rattle.ocfl_identity.specs.Identity.{declarations_among}
+use Rattle.ocfl_identity.proofs.Ordered.{sorted_listing}
+use Rattle.ocfl_identity.proofs.identity.look_at_root.Goals as goal
+
+pub returns-clause-told : goal.returns-clause-told
+returns-clause-told g c = λ told root is.
+    let l = c.in-Ok.ensures.lists told in
+    let listing : IsListing root [] c.in-Ok.entries.items =
+    subst (λ r. IsListing r [] c.in-Ok.entries.items) is (subst (λ p. IsListing (g.T.Tree.state c.args.store.now).tree p c.in-Ok.entries.items) c.root-top.ensures l.entries) in
+    c.identify.ensures.told told root (l.did.tree ∙ is)
+    (c.deref.ensures.value ∙ sorted_listing root [] c.in-Ok.entries.items c.sort.new.entries.items c.in-Ok.ensures.ordinary listing c.sort.ensures.permutation c.sort.ensures.sorted)
+
+pub returns-clause-undeclared : goal.returns-clause-undeclared
+returns-clause-undeclared g c = λ told root is none.
+    let l = c.in-Ok.ensures.lists told in
+    let listing : IsListing root [] c.in-Ok.entries.items =
+    subst (λ r. IsListing r [] c.in-Ok.entries.items) is (subst (λ p. IsListing (g.T.Tree.state c.args.store.now).tree p c.in-Ok.entries.items) c.root-top.ensures l.entries) in
+    subst (λ es. declarations_among es ≡ [])
+    (c.deref.ensures.value ∙ sorted_listing root [] c.in-Ok.entries.items c.sort.new.entries.items c.in-Ok.ensures.ordinary listing c.sort.ensures.permutation c.sort.ensures.sorted)
+    (c.identify.ensures.undeclared none)

@@ -1,0 +1,52 @@
+-- What tells one storage root from another: its declarations (OCFL 1.1, 4.2 Root Conformance
+-- Declaration), and the names in its top folder.
+use Rattle.std.specs.Prelude.{◌≡◌, List, [], ◌∷◌, ◌++◌, length, map, filter, flat_map, codes, Option, Some, None}
+use Rattle.std.specs.Option.{option_map}
+use Rattle.sha2.specs.Sha256.{sha256}
+use Rattle.hex.specs.Hex.{encode_lower}
+use Rattle.ocfl_tree.specs.Place.{Text}
+use Rattle.ocfl_tree.specs.StorageRoot.{StorageRoot, file_at}
+use Rattle.ocfl_tree.specs.Listing.{entries_in}
+use Rattle.ocfl_tree.specs.declared.store.Entry.{Entry}
+use Rattle.ocfl_inventory.specs.Entries.{is_counted}
+use Rattle.ocfl_inventory.specs.declared.declaration.Level.TheVariants.{Root}
+use Rattle.ocfl_identity.specs.declared.identity.Identity.{Identity}
+
+abbrev pub names_of : List Entry → List Text
+names_of es = map (λ e. e.name) es
+
+-- the names of the files that declare a storage root
+abbrev pub declarations_among : List Entry → List Text
+declarations_among es = names_of (filter (is_counted Root) es)
+
+-- names, each followed by a zero, which no name has
+abbrev pub ended_names : List Text → Text
+ended_names names = flat_map (λ n. n ++ 0 ∷ []) names
+
+-- a line as `sha256sum` prints it: the digits of the digest, two spaces, the name
+abbrev pub sum_line : Text → Text → Text
+sum_line digits name = digits ++ codes "  " ++ name ++ 10 ∷ []
+
+-- the SHA-256 of a file, in hexadecimal digits (FIPS 180-4, 6.2)
+abbrev pub digits_of : Option Text → Option Text
+digits_of file = option_map (λ bytes. encode_lower (sha256 bytes)) file
+
+abbrev pub before_lines : Option Text → Option Text → Option Text
+before_lines None lines = None
+before_lines (Some line) lines = option_map (λ rest. line ++ rest) lines
+
+-- the lines of the files with these names in the top folder, if there is one for each name
+abbrev pub sum_lines : StorageRoot → List Text → Option Text
+sum_lines root [] = Some []
+sum_lines root (n ∷ names) = before_lines (option_map (λ digits. sum_line digits n) (digits_of (file_at root (n ∷ [])))) (sum_lines root names)
+
+-- their SHA-256
+abbrev pub declared_by : StorageRoot → List Text → Option Text
+declared_by root names = option_map sha256 (sum_lines root names)
+
+-- the identity of a storage root
+pub record IsIdentityOf (root : StorageRoot) (id : Identity) : Type 0 where
+  pub declarations : id.declarations.items ≡ declarations_among (entries_in root [])
+  pub declared : declared_by root id.declarations.items ≡ Some id.declared
+  pub count : id.count ≡ length (entries_in root [])
+  pub names : id.names ≡ sha256 (ended_names (names_of (entries_in root [])))

@@ -1,0 +1,8 @@
+//! What tells one storage root from another.
+#![tactic(auto)]
+
+mod declared;
+mod gathered;
+mod identity;
+
+pub use identity::{Identity, NoIdentity, is_still_declared, look_at_root};

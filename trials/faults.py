@@ -185,12 +185,25 @@ def always_interrupted(audit):
         error_at(audit, place, "getdents64", "EINTR", "1+")
 
 
+def separators_fail(audit, folder):
+    """Opening the file of separators fails, for want of memory or for another reason."""
+    parts = os.path.join(folder, "parts")
+    common.write(parts, b"b\n")
+    words = ["audit", "--parts", parts, "--part", "1", audit.root]
+    for error, said in [("ENOMEM", "out of memory"), ("EACCES", "parts file failed"),
+                        ("EIO", "parts file failed")]:
+        rule = "inject=openat:error=%s:when=1" % error
+        is_so("separators with " + error, traced([*calls_on(parts), "-e", rule], words),
+              (3, "", note(said)))
+
+
 def tell(folder):
     audit = Audit(folder)
     before = common.snapshot(audit.root)
     audit.is_untouched("without a fault", ran(audit.run))
     each_call(audit, folder)
     always_interrupted(audit)
+    separators_fail(audit, folder)
     is_so("nothing was written below the root", common.snapshot(audit.root), before)
 
 

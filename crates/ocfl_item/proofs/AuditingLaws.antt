@@ -1,12 +1,12 @@
 -- What calls did adds up; where a call failed; and files that were opened once each.
-use Rattle.std.proofs.Common.{◌≡◌, ◌+◌, List, [], ◌∷◌, ◌++◌, refl, sym, ◌∙◌, ap, subst, Bool, false, map, filter, length, append_assoc, arith, ◌≢◌, ◌≤◌, true}
+use Rattle.std.proofs.Common.{◌≡◌, ℕ, suc, cond, ◌+◌, List, [], ◌∷◌, ◌++◌, refl, sym, ◌∙◌, ap, subst, Bool, false, map, filter, length, append_assoc, arith, ◌≢◌, ◌≤◌, true}
 use Rattle.std.proofs.lemmas.List.{append-nil, length-append, map-append}
 use Rattle.std.specs.Prelude.{not, ◌&&◌, AllPairs}
 use Rattle.ocfl_tree.specs.Place.{Place}
 use Rattle.ocfl_tree.specs.StorageRoot.{StorageRoot}
-use Rattle.ocfl_tree.specs.Store.{Store, Did}
+use Rattle.ocfl_tree.specs.Store.{Store, Did, failed_openings}
 use Rattle.ocfl_tree.specs.declared.store.Opening.{Opening}
-use Rattle.ocfl_tree.proofs.Stores.{did_both}
+use Rattle.ocfl_tree.proofs.Stores.{did_both, did_nothing, listed_well, listing_failed}
 use Rattle.ocfl_audit.specs.Zone.{zone}
 use Rattle.ocfl_audit.specs.Lines.{is_hashed}
 use Rattle.ocfl_audit.specs.Due.{hashed_among}
@@ -25,14 +25,50 @@ read_behind root os os' h k = filter_append (λ o. o.failed && is_meta root o.pl
 
 -- ---- where a call failed
 
--- what was done before does not matter, where no metadata failed
-pub failed_behind : (root : StorageRoot) (ls ls' : List Place) (os os' : List Opening) (q : Place) → IsMetadataRead root os → FailedAt root ls' os' q → FailedAt root (ls ++ ls') (os ++ os') q
-failed_behind root ls ls' os os' q h (in_listing before e k) = in_listing (ls ++ before) (ap (λ x. ls ++ x) e ∙ sym (append_assoc ls before (q ∷ []))) (read_behind root os os' h k)
-failed_behind root ls ls' os os' q h (in_opening before given e) = in_opening (os ++ before) given (ap (λ x. os ++ x) e ∙ sym (append_assoc os before (opening q given true ∷ [])))
+-- what was done before does not matter, where neither metadata nor a listing failed
+pub failed_behind : (root : StorageRoot) (s t u : Store) (ls ls' : List Place) (os os' : List Opening) (q : Place) → IsMetadataRead root os → t.failed_listings ≡ s.failed_listings
+    → FailedAt root t u ls' os' q → FailedAt root s u (ls ++ ls') (os ++ os') q
+failed_behind root s t u ls ls' os os' q h well (in_listing before e failed k) =
+    in_listing (ls ++ before) (ap (λ x. ls ++ x) e ∙ sym (append_assoc ls before (q ∷ []))) (failed ∙ ap (λ x. x ++ q ∷ []) well) (read_behind root os os' h k)
+failed_behind root s t u ls ls' os os' q h well (in_opening before given e none) =
+    in_opening (os ++ before) given (ap (λ x. os ++ x) e ∙ sym (append_assoc os before (opening q given true ∷ []))) (none ∙ well)
 
 -- a listing that failed
-pub failed_listing : (root : StorageRoot) (p q : Place) → p ≡ q → FailedAt root (p ∷ []) [] q
-failed_listing root p q e = in_listing [] (ap (λ x. x ∷ []) e) refl
+pub failed_listing : (root : StorageRoot) (s t : Store) (p q : Place) → p ≡ q → Did s t [] (p ∷ []) 1 → FailedAt root s t (p ∷ []) [] q
+failed_listing root s t p q e did = in_listing [] (ap (λ x. x ∷ []) e) (listing_failed s t p did ∙ ap (λ x. s.failed_listings ++ x ∷ []) e) refl
+
+-- an opening that failed is one of metadata or of content
+failed_split : (root : StorageRoot) (os : List Opening) → failed_openings os ≡ length (filter (λ o. o.failed && is_meta root o.place) os) + length (unread_of root os)
+failed_split root [] = refl
+failed_split root (o ∷ os) = by o.failed refl (is_meta root o.place) (failed_split root os)
+  where
+    failed : List Opening → List Opening
+    failed xs = filter (λ x. x.failed) xs
+
+    metas : List Opening → List Opening
+    metas xs = filter (λ x. x.failed && is_meta root x.place) xs
+
+    count : List Opening → ℕ
+    count xs = length {A = Place × ℕ} (map (λ x. (x.place, x.given)) xs)
+
+    contents : List Opening
+    contents = content_openings root os
+
+    by : (b : Bool) → o.failed ≡ b → (m : Bool) → length (failed os) ≡ length (metas os) + count (failed contents)
+        → length (cond b (o ∷ failed os) (failed os)) ≡ length (cond (b && m) (o ∷ metas os) (metas os)) + count (failed (cond (not m) (o ∷ contents) contents))
+    by true e true k = omega (arith, k)
+    by true e false k =
+        let one : count (failed (o ∷ contents)) ≡ suc (count (failed contents)) = ap (λ c. count (cond c (o ∷ failed contents) (failed contents))) e in
+        omega (arith, k, one)
+    by false e true k = k
+    by false e false k = k ∙ ap (λ n. length (metas os) + n) (sym (ap (λ c. count (cond c (o ∷ failed contents) (failed contents))) e))
+
+-- where no metadata failed, each failure is that of a content file
+pub content_failed : (root : StorageRoot) (os : List Opening) → IsMetadataRead root os → length (unread_of root os) ≤ failed_openings os
+content_failed root os h = let all = failed_split root os in let none : length (filter (λ o. o.failed && is_meta root o.place) os) ≡ 0 = ap length h in omega (arith, all, none)
+
+pub audits_well : (root : StorageRoot) (s t : Store) (ps ls hs : List Place) (os : List Opening) → Audits root s t ps ls hs os → t.failed_listings ≡ s.failed_listings
+audits_well root s t ps ls hs os h = listed_well s t os ls (length (unread_of root os)) (content_failed root os h.read) h.did
 
 -- ---- once each
 
@@ -93,13 +129,10 @@ module _ (root : StorageRoot) (s t u : Store) where
         subst (Did s u (os ++ os') (ls ++ ls')) same both;
     opened = trail_append root os os' ∙ ap (λ l. l ++ content_trail root os') h.opened ∙ ap (λ l. hashed_among root ps ++ l) k.opened ∙ sym (hashed_append root ps qs);
     heads_are = heads_append root os os' ∙ ap (λ l. l ++ heads_of root os') h.heads_are ∙ ap (λ l. hs ++ l) k.heads_are;
-    store = λ q e. let w = k.store q e in (w.0, failed_behind root ls ls' os os' q h.read w.1);
+    store = λ q e. let w = k.store q e in (w.0, failed_behind root s t u ls ls' os os' q h.read (audits_well root s t ps ls hs os h) w.1);
   }
 
 -- where nothing was done
-pub did_nothing : (s : Store) → Did s s [] [] 0
-did_nothing s = record { tree = refl; openings_are = sym (append-nil s.openings); listings_are = sym (append-nil s.listings); failures_are = omega arith }
-
 pub audits_nothing : (root : StorageRoot) (s : Store) → s.tree ≡ root → Audits root s s [] [] [] []
 unfolding hashed_among
 audits_nothing root s over = record { over = over; did = did_nothing s; read = refl; opened = refl; heads_are = refl }
@@ -125,7 +158,7 @@ audits_meta root s t ls hs os over did read meta heads =
 
 pub fails_meta : (root : StorageRoot) (s t : Store) (ls hs : List Place) (os : List Opening) (why : Fault) → s.tree ≡ root → Did s t os ls (failures_by why)
     → content_trail root os ≡ [] → heads_of root os ≡ hs
-    → ((q : Place) → why ≡ fault.Store q → (is_hashed root q ≡ false) × FailedAt root ls os q) → Fails root s t [] ls hs os why
+    → ((q : Place) → why ≡ fault.Store q → (is_hashed root q ≡ false) × FailedAt root s t ls os q) → Fails root s t [] ls hs os why
 unfolding hashed_among
 fails_meta root s t ls hs os why over did meta heads store = record {
   over = over;

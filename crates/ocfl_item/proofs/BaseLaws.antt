@@ -40,7 +40,7 @@ use Rattle.ocfl_item.specs.declared.visit.Visit.{Visit}
 use Rattle.ocfl_item.proofs.HeadLaws.{unknown_stops}
 use Rattle.ocfl_item.proofs.ItemLaws.{clean_some}
 use Rattle.ocfl_item.proofs.LinesLaws.{unhashed_at}
-use Rattle.ocfl_tree.proofs.Stores.{did_then}
+use Rattle.ocfl_tree.proofs.Stores.{did_then, listed_well}
 use Rattle.ocfl_item.proofs.LooksZones.{at_root, declared_root}
 use Rattle.ocfl_audit.specs.Head.{on}
 use Rattle.ocfl_audit.proofs.BetweenLaws.{root_unread}
@@ -166,7 +166,7 @@ module _ (root : StorageRoot) where
         listed = subst (IsFront (m.listings ++ k.stops.goes.listings)) (ap (λ l. m.listings ++ l) no_listing ∙ append-nil m.listings ∙ m.listed) (front_all (m.listings ++ k.stops.goes.listings));
         heads = subst (IsFront (heads_of root (m.trail ++ k.trail)))
             (heads_append root m.trail k.trail ∙ ap (λ l. heads_of root m.trail ++ l) quiet.1 ∙ append-nil (heads_of root m.trail) ∙ m.heads) (front_all (heads_of root (m.trail ++ k.trail)));
-        store = λ q g. let w = k.stops.store q g in (w.0, failed_behind root m.listings k.stops.goes.listings m.trail k.trail q m.read w.1);
+        store = λ q g. let w = k.stops.store q g in (w.0, failed_behind root s t u m.listings k.stops.goes.listings m.trail k.trail q m.read (listed_well s t m.trail m.listings 0 (omega arith) m.did) w.1);
       }
     where
       nothing_listed : (xs ys : List Place) → [] ≡ xs ++ ys → xs ≡ []

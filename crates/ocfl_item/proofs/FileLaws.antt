@@ -7,7 +7,7 @@ use Rattle.std.specs.Prelude.{cond, ◌||◌, ◌&&◌, not, min, AllPairs, Ok, 
 use Rattle.std.specs.List.{list_all}
 use Rattle.ocfl_tree.specs.Place.{Text, Place}
 use Rattle.ocfl_tree.specs.StorageRoot.{StorageRoot, file_at, bytes_of}
-use Rattle.ocfl_tree.specs.Store.{Store}
+use Rattle.ocfl_tree.specs.Store.{Store, Did}
 use Rattle.ocfl_tree.specs.Calls.{opening}
 use Rattle.ocfl_tree.specs.Listing.{IsListing, kind_in}
 use Rattle.ocfl_tree.specs.declared.store.Entry.{Entry}
@@ -32,8 +32,8 @@ use Rattle.ocfl_audit.proofs.PathLaws.{hashed_no_meta}
 use Rattle.ocfl_item.proofs.AuditingLaws.{failed_behind, read_behind}
 use Rattle.ocfl_item.proofs.LooksEntries.{file_there, no_file_there}
 use Rattle.ocfl_item.proofs.LooksZones.{inside_on}
-use Rattle.ocfl_tree.proofs.Stores.{did_then}
-use Rattle.ocfl_item.proofs.LooksCalls.{did_nothing, store_place, memory_no_store, kind_is_file, kind_is_no_file, front_more}
+use Rattle.ocfl_tree.proofs.Stores.{did_then, did_nothing, listed_well}
+use Rattle.ocfl_item.proofs.LooksCalls.{store_place, memory_no_store, kind_is_file, kind_is_no_file, front_more}
 
 -- ---- one file
 
@@ -68,6 +68,9 @@ module _ (root : StorageRoot) (o : Place) (n : Text) (meta : is_meta root (o ++ 
         one : (given : ℕ) (failed : Bool) (bytes : Text) → file_at root (o ++ n ∷ []) ≡ Some bytes → IsFront (places_of (opening (o ++ n ∷ []) given failed ∷ [])) (files_there root o (n ∷ []))
         one given failed bytes e = ([], ap (λ b. map (λ m. o ++ m ∷ []) (cond (is_some b) (n ∷ []) [])) e)
 
+        one_failed : (given : ℕ) → {os : List Opening} → os ≡ opening (o ++ n ∷ []) given true ∷ [] → Did s t os [] 1 → t.failed_listings ≡ s.failed_listings
+        one_failed given e did = listed_well s t (opening (o ++ n ∷ []) given true ∷ []) [] 1 (let one : 1 ≤ 1 = omega arith in one) (subst (λ os. Did s t os [] 1) e did)
+
         by : (trouble : Trouble) → StopsReading root s t (o ++ n ∷ []) limit trouble → {bytes : Text} → file_at root (o ++ n ∷ []) ≡ Some bytes
             → FilesStop root s t o (n ∷ []) (fault_by (o ++ n ∷ []) trouble)
         by Device k {bytes = bytes} e = record {
@@ -77,7 +80,7 @@ module _ (root : StorageRoot) (o : Place) (n : Text) (meta : is_meta root (o ++ 
             store = λ q g. (
               ap (is_hashed root) (sym (store_place (o ++ n ∷ []) q g))
                   ∙ file_not_hashed,
-              subst (FailedAt root [] k.openings) (store_place (o ++ n ∷ []) q g) (in_opening [] k.opened.0 k.opened.2),
+              subst (FailedAt root s t [] k.openings) (store_place (o ++ n ∷ []) q g) (in_opening [] k.opened.0 k.opened.2 (one_failed k.opened.0 k.opened.2 k.did)),
             );
           };
           opened = subst (λ os. IsFront (places_of os) (files_there root o (n ∷ []))) (sym k.opened.2) (one k.opened.0 true bytes e);
@@ -195,7 +198,7 @@ module _ (root : StorageRoot) (o : Place) where
             read = λ e. read_behind root h.trail k.trail h.read (k.stops.goes.read e);
             listed = k.stops.goes.listed;
           };
-          store = λ q e. let f = k.stops.store q e in (f.0, failed_behind root [] k.stops.goes.listings h.trail k.trail q h.read f.1);
+          store = λ q e. let f = k.stops.store q e in (f.0, failed_behind root s t u [] k.stops.goes.listings h.trail k.trail q h.read (listed_well s t h.trail [] 0 (omega arith) h.did) f.1);
         };
         opened = joined h.trail k.trail ns ms h.opened k.opened;
       }

@@ -30,7 +30,8 @@ use Rattle.ocfl_item.specs.declared.fault.Fault.TheVariants as fault
 use Rattle.ocfl_item.specs.declared.lines.PlaceLines.{PlaceLines}
 use Rattle.ocfl_item.proofs.FileLaws.{files_then, memory_after, some_of, stop_more, stop_then}
 use Rattle.ocfl_item.proofs.HeadCalls.{inventory_lines, inventory_table, later_stops, not_within}
-use Rattle.ocfl_item.proofs.LooksCalls.{did_nothing, memory_no_store}
+use Rattle.ocfl_item.proofs.LooksCalls.{memory_no_store}
+use Rattle.ocfl_tree.proofs.Stores.{did_nothing}
 
 abbrev both : List Text
 both = sidecar_name Sha256 ∷ sidecar_name Sha512 ∷ []

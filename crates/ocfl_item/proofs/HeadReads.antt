@@ -71,6 +71,6 @@ head_read_from root s t o (Err why) z k is =
             (subst (IsFront (heads_at root (places_of k.trail))) (heads_exact root o z) front);
         store = λ q e.
             let f = stops.stops.store q e in
-            (f.0, subst (λ ls. FailedAt root ls stops.trail q) (nothing_listed stops.stops.goes.listings stops.stops.goes.listed) f.1);
+            (f.0, subst (λ ls. FailedAt root s t ls stops.trail q) (nothing_listed stops.stops.goes.listings stops.stops.goes.listed) f.1);
       };
     }

@@ -35,10 +35,10 @@ use Rattle.ocfl_audit.proofs.BelowLaws.{place_same}
 use Rattle.ocfl_item.proofs.ContentLaws.{IsHashedFile, hashed_file, unhashed_cost}
 use Rattle.ocfl_audit.proofs.PathLaws.{hashed_no_meta, hashed_path}
 use Rattle.ocfl_item.specs.Auditing.{IsMetadataRead}
-use Rattle.ocfl_item.proofs.AuditingLaws.{did_nothing}
 use Rattle.ocfl_item.specs.declared.fault.Fault.{Fault}
 use Rattle.ocfl_item.specs.declared.fault.Fault.TheVariants as fault
 use Rattle.ocfl_item.proofs.WantedLaws.{AreWanted}
+use Rattle.ocfl_tree.proofs.Stores.{did_nothing}
 
 -- ---- the lines of a file that some digest is named for
 

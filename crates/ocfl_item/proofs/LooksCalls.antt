@@ -71,7 +71,7 @@ pub list_stops : (root : StorageRoot) (s t : Store) (p : Place) (trouble : Troub
     → Stops root s t (p ∷ []) [] (fault_by p trouble)
 list_stops root s t p Device over l h = record {
   goes = record { over = over; listings = p ∷ []; did = h.fails.did; read = λ e. refl; listed = ([], refl) };
-  store = λ q e. (ap (is_hashed root) (sym (store_place p q e)) ∙ dir_not_hashed root p (listable_dir root p l), failed_listing root p q (store_place p q e));
+  store = λ q e. (ap (is_hashed root) (sym (store_place p q e)) ∙ dir_not_hashed root p (listable_dir root p l), failed_listing root s t p q (store_place p q e) h.fails.did);
 }
 list_stops root s t p Absent over l h = absurd (h.absent refl (ap (λ x. at x p) over ∙ listable_dir root p l))
 list_stops root s t p Memory over l h = record {
@@ -85,9 +85,6 @@ fault_on_way p Absent = (λ e. cc, λ e. cc)
 fault_on_way p Memory = (λ e. cc, λ e. cc)
 
 -- ---- what is seen at the end of the way
-
-pub did_nothing : (s : Store) → Did s s [] [] 0
-did_nothing s = record { tree = refl; openings_are = sym (append-nil s.openings); listings_are = sym (append-nil s.listings); failures_are = omega arith }
 
 module _ (root : StorageRoot) where
   pub enters_at : (s t : Store) (p q e : Place) (es : List Entry) → p ≡ q → Enters root s t p e es → Enters root s t q e es

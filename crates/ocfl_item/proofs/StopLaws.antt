@@ -10,6 +10,7 @@ use Rattle.ocfl_audit.specs.Lines.{is_hashed}
 use Rattle.ocfl_audit.specs.Trail.{is_meta, unread_of}
 use Rattle.ocfl_item.specs.Auditing.{Audits, Fails, FailedAt, in_listing, in_opening}
 use Rattle.ocfl_item.specs.declared.fault.Fault.TheVariants as fault
+use Rattle.ocfl_item.proofs.AuditingLaws.{audits_well}
 
 none_passes : (test : Opening → Bool) (os : List Opening) → filter test os ≡ [] → (o : Opening) → IsAmong os o → test o ≡ false
 none_passes test [] e o there = absurd there
@@ -28,19 +29,22 @@ module _ (root : StorageRoot) (s t : Store) (places listed heads : List Place) (
   no_metadata : filter (λ o. o.failed && is_meta root o.place) trail ≡ [] → (o : Opening) → IsAmong trail o → o.failed ≡ true → is_meta root o.place ≡ false
   no_metadata e o there failed = second_false o.failed (is_meta root o.place) failed (none_passes (λ x. x.failed && is_meta root x.place) trail e o there)
 
-  pub only_content_failed : Audits root s t places listed heads trail → (s.tree ≡ root) × ((t.tree ≡ root) × ((o : Opening) → IsAmong trail o → o.failed ≡ true → is_meta root o.place ≡ false))
-  only_content_failed h = (h.over, (h.did.tree ∙ h.over, no_metadata h.read))
+  pub only_content_failed : Audits root s t places listed heads trail → (s.tree ≡ root)
+      × ((t.tree ≡ root) × ((t.failed_listings ≡ s.failed_listings) × ((o : Opening) → IsAmong trail o → o.failed ≡ true → is_meta root o.place ≡ false)))
+  only_content_failed h = (h.over, (h.did.tree ∙ h.over, (audits_well root s t places listed heads trail h, no_metadata h.read)))
 
   pub no_hashed_file_stops : (q : Place) → Fails root s t places listed heads trail (fault.Store q) → (is_hashed root q ≡ false) × (t.failures ≡ s.failures + (length (unread_of root trail) + 1))
   no_hashed_file_stops q h = ((h.store q refl).0, h.did.failures_are)
 
   pub last_call_failed : (q : Place) → Fails root s t places listed heads trail (fault.Store q)
-      → ((before : List Place) × ((listed ≡ before ++ q ∷ []) × ((o : Opening) → IsAmong trail o → o.failed ≡ true → is_meta root o.place ≡ false)))
-      ⊎ ((before : List Opening) × ((given : ℕ) × (trail ≡ before ++ record { place = q; given = given; failed = true } ∷ [])))
+      → ((before : List Place) × ((listed ≡ before ++ q ∷ [])
+      × ((t.failed_listings ≡ s.failed_listings ++ q ∷ []) × ((o : Opening) → IsAmong trail o → o.failed ≡ true → is_meta root o.place ≡ false))))
+      ⊎ ((before : List Opening) × ((given : ℕ) × ((trail ≡ before ++ record { place = q; given = given; failed = true } ∷ []) × (t.failed_listings ≡ s.failed_listings))))
   last_call_failed q h = by (h.store q refl).1
     where
-      by : FailedAt root listed trail q
-          → ((before : List Place) × ((listed ≡ before ++ q ∷ []) × ((o : Opening) → IsAmong trail o → o.failed ≡ true → is_meta root o.place ≡ false)))
-          ⊎ ((before : List Opening) × ((given : ℕ) × (trail ≡ before ++ record { place = q; given = given; failed = true } ∷ [])))
-      by (in_listing before e read) = inl (before, (e, no_metadata read))
-      by (in_opening before given e) = inr (before, (given, e))
+      by : FailedAt root s t listed trail q
+          → ((before : List Place) × ((listed ≡ before ++ q ∷ [])
+          × ((t.failed_listings ≡ s.failed_listings ++ q ∷ []) × ((o : Opening) → IsAmong trail o → o.failed ≡ true → is_meta root o.place ≡ false))))
+          ⊎ ((before : List Opening) × ((given : ℕ) × ((trail ≡ before ++ record { place = q; given = given; failed = true } ∷ []) × (t.failed_listings ≡ s.failed_listings))))
+      by (in_listing before e failed read) = inl (before, (e, (failed, no_metadata read)))
+      by (in_opening before given e none) = inr (before, (given, (e, none)))

@@ -44,11 +44,12 @@ use Rattle.ocfl_item.specs.declared.sight.Sight.TheVariants as sight
 use Rattle.ocfl_tree.proofs.Bools.{and_both}
 use Rattle.ocfl_item.proofs.LooksZones.{leaf_dir, entered_from}
 use Rattle.ocfl_item.proofs.LooksEntries.{emptied, not_emptied}
-use Rattle.ocfl_item.proofs.AuditingLaws.{did_nothing, front_all, front_none, none_once}
+use Rattle.ocfl_item.proofs.AuditingLaws.{front_all, front_none, none_once}
 use Rattle.ocfl_item.proofs.ShutLaws.{listed_shows, looked_at, no_head_unread, shut_no_dir, shut_zone}
 use Rattle.ocfl_item.proofs.LinesLaws.{unhashed_at}
 use Rattle.ocfl_audit.proofs.PathLaws.{named_path, notes_at}
 use Rattle.ocfl_audit.proofs.AuditExists.{IsInside, zone_is}
+use Rattle.ocfl_tree.proofs.Stores.{did_nothing}
 
 -- ---- the item of one line
 

@@ -42,8 +42,8 @@ use Rattle.ocfl_item.specs.declared.meeting.Around.{Around}
 use Rattle.ocfl_item.specs.declared.role.Role.TheVariants as role
 use Rattle.ocfl_item.specs.declared.visit.Visit.{Visit}
 use Rattle.ocfl_audit.proofs.AuditExists.{not_empty}
-use Rattle.ocfl_item.proofs.AuditingLaws.{failed_behind, none_once, did_nothing, front_all, front_none}
-use Rattle.ocfl_tree.proofs.Stores.{did_then}
+use Rattle.ocfl_item.proofs.AuditingLaws.{failed_behind, none_once, front_all, front_none}
+use Rattle.ocfl_tree.proofs.Stores.{did_then, did_nothing, listed_well}
 use Rattle.ocfl_item.proofs.LooksEntries.{emptied, not_emptied}
 use Rattle.ocfl_tree.proofs.Bools.{and_both, and_first}
 use Rattle.ocfl_item.proofs.ItemLaws.{head_unhashed}
@@ -246,7 +246,7 @@ listed_fails root s t u e why head over did looked h = record {
   elsewhere = λ g k. absurd (true_not_false (sym head ∙ g));
   listed = subst (λ b. IsFront (e ∷ []) (on b e)) (sym looked) (front_all (e ∷ []));
   heads = h.heads;
-  store = λ q g. let w = h.store q g in (w.0, failed_behind root (e ∷ []) [] [] h.trail q refl w.1);
+  store = λ q g. let w = h.store q g in (w.0, failed_behind root s t u (e ∷ []) [] [] h.trail q refl (listed_well s t [] (e ∷ []) 0 (omega arith) did) w.1);
 }
 
 pub visits_then : (root : StorageRoot) (s t u : Store) (e : Place) (r : Result Visit Fault) → is_head (zone root e) ≡ true → s.tree ≡ root

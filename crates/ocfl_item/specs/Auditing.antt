@@ -27,10 +27,12 @@ pub record Audits (root : StorageRoot) (s t : Store) (places listed heads : List
   pub opened : content_trail root trail ≡ hashed_among root places
   pub heads_are : heads_of root trail ≡ heads
 
--- the call that failed was the last listing, and then no metadata failed, or the last opening
-pub data FailedAt (root : StorageRoot) (listed : List Place) (trail : List Opening) (q : Place) : Type 0 where
-  in_listing : (before : List Place) → listed ≡ before ++ q ∷ [] → IsMetadataRead root trail → FailedAt root listed trail q
-  in_opening : (before : List Opening) (given : ℕ) → trail ≡ before ++ opening q given true ∷ [] → FailedAt root listed trail q
+-- the call that failed was the last listing, which alone of listings failed, and no metadata did; or
+-- it was the last opening, which failed, and no listing did
+pub data FailedAt (root : StorageRoot) (s t : Store) (listed : List Place) (trail : List Opening) (q : Place) : Type 0 where
+  in_listing : (before : List Place) → listed ≡ before ++ q ∷ [] → t.failed_listings ≡ s.failed_listings ++ q ∷ [] → IsMetadataRead root trail
+      → FailedAt root s t listed trail q
+  in_opening : (before : List Opening) (given : ℕ) → trail ≡ before ++ opening q given true ∷ [] → t.failed_listings ≡ s.failed_listings → FailedAt root s t listed trail q
 
 -- the same, and then there was a fault; one of the store names the place at which it failed, which
 -- is no hashed file's
@@ -39,4 +41,4 @@ pub record Fails (root : StorageRoot) (s t : Store) (places listed heads : List 
   pub did : Did s t trail listed (length (unread_of root trail) + failures_by why)
   pub opened : content_trail root trail ≡ hashed_among root places
   pub heads_are : heads_of root trail ≡ heads
-  pub store : (q : Place) → why ≡ fault.Store q → (is_hashed root q ≡ false) × FailedAt root listed trail q
+  pub store : (q : Place) → why ≡ fault.Store q → (is_hashed root q ≡ false) × FailedAt root s t listed trail q

@@ -48,7 +48,7 @@ pub record MeetFails (root : StorageRoot) (s t : Store) (e : Place) (why : Fault
   pub elsewhere : is_head (zone root e) ≡ false → e ≢ [] → trail ≡ []
   pub listed : IsFront listings (on (is_looked_into root e) e)
   pub heads : IsFront (heads_of root trail) (on (reads_inventory root e) e)
-  pub store : (q : Place) → why ≡ fault.Store q → (is_hashed root q ≡ false) × FailedAt root listings trail q
+  pub store : (q : Place) → why ≡ fault.Store q → (is_hashed root q ≡ false) × FailedAt root s t listings trail q
 
 -- the item of a place, if it has lines
 abbrev pub IsItemAt : StorageRoot → Place → Option Pending → Type 0

@@ -43,7 +43,7 @@ pub record Goes (root : StorageRoot) (s t : Store) (way : List Place) (trail : L
 -- and then there was a fault; one of the store names the place at which it failed
 pub record Stops (root : StorageRoot) (s t : Store) (way : List Place) (trail : List Opening) (why : Fault) : Type 0 where
   pub goes : Goes root s t way trail (failures_by why)
-  pub store : (q : Place) → why ≡ fault.Store q → (is_hashed root q ≡ false) × FailedAt root goes.listings trail q
+  pub store : (q : Place) → why ≡ fault.Store q → (is_hashed root q ≡ false) × FailedAt root s t goes.listings trail q
 
 -- ---- one name further
 

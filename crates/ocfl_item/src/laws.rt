@@ -25,14 +25,15 @@ pub fn calls_add_up()
         (os ++ rs) why }
 {}
 
-/// Unless calls stopped, only content failed. A stop at a place counts one failure more than there
-/// are content files that could not be read. The place is no hashed file's, and names the last
-/// listing, and then no metadata failed, or the last opening, which did fail.
+/// Unless calls stopped, only content failed, and no listing. A stop at a place counts one failure
+/// more than there are content files that could not be read. The place is no hashed file's. It is
+/// that of the last listing, which alone of listings failed, and then no metadata failed; or that
+/// of the last opening, which failed, and then no listing failed.
 pub fn stops_name_the_call_that_failed()
     ensures content { (root : StorageRoot) (s t : Store) (places listed heads : List Place)
         (trail : List Opening) → Audits root s t places listed heads trail
-        → (s.tree ≡ root) × ((t.tree ≡ root) × ((o : Opening) → IsAmong trail o
-        → o.failed ≡ true → is_meta root o.place ≡ false)) }
+        → (s.tree ≡ root) × ((t.tree ≡ root) × ((t.failed_listings ≡ s.failed_listings)
+        × ((o : Opening) → IsAmong trail o → o.failed ≡ true → is_meta root o.place ≡ false))) }
     ensures counted { (root : StorageRoot) (s t : Store) (places listed heads : List Place)
         (trail : List Opening) (q : Place)
         → Fails root s t places listed heads trail (fault.Store q)
@@ -41,10 +42,12 @@ pub fn stops_name_the_call_that_failed()
     ensures place { (root : StorageRoot) (s t : Store) (places listed heads : List Place)
         (trail : List Opening) (q : Place)
         → Fails root s t places listed heads trail (fault.Store q)
-        → ((before : List Place) × ((listed ≡ before ++ q ∷ []) × ((o : Opening)
-        → IsAmong trail o → o.failed ≡ true → is_meta root o.place ≡ false)))
+        → ((before : List Place) × ((listed ≡ before ++ q ∷ [])
+        × ((t.failed_listings ≡ s.failed_listings ++ q ∷ []) × ((o : Opening)
+        → IsAmong trail o → o.failed ≡ true → is_meta root o.place ≡ false))))
         ⊎ ((before : List Opening) × ((given : ℕ)
-        × (trail ≡ before ++ record { place = q; given = given; failed = true } ∷ []))) }
+        × ((trail ≡ before ++ record { place = q; given = given; failed = true } ∷ [])
+        × (t.failed_listings ≡ s.failed_listings)))) }
 {}
 
 /// A storage root has short files exactly where each of its files has fewer than 2^62 bytes.

@@ -95,15 +95,15 @@ kept_push nodes new p x os o none added k =
       reading = tt;
     })
 
-pub puts : (nodes new : StorageRoot) (p : Place) (x : Leaf) (o : Option OpenFile) (os : List Opening) (ls : List Place) (f l : ℕ) (faults : Faults)
+pub puts : (nodes new : StorageRoot) (p : Place) (x : Leaf) (o : Option OpenFile) (os : List Opening) (ls us : List Place) (f l : ℕ) (faults : Faults)
     → put_refusal nodes p ≡ None → new ≡ nodes ++ (p, x) ∷ [] → IsKept nodes os o
-    → Puts (seen nodes o os ls f l faults).store (seen new None os ls f l faults).store p x
-puts nodes new p x o os ls f l faults none added k =
+    → Puts (seen nodes o os ls us f l faults).store (seen new None os ls us f l faults).store p x
+puts nodes new p x o os ls us f l faults none added k =
     let free = no_refusal nodes p none in
     rw added (record {
       tree = subst (λ q. (r : Place) → at (nodes ++ (q, x) ∷ []) r ≡ after_put nodes q x r) (sym free.below)
           (put_leaves nodes free.d free.n x k.rooted free.directory (ap (at nodes) (sym free.below) ∙ free.free));
-      changes = record { closed = refl; openings_are = refl; listings_are = refl; failures_are = refl; largest = refl };
+      changes = record { closed = refl; openings_are = refl; listings_are = refl; failed_are = refl; failures_are = refl; largest = refl };
     })
 
 -- ---- a removal
@@ -133,11 +133,11 @@ kept_left nodes new p os o h is k = rw is (record {
   reading = tt;
 })
 
-pub removes : (nodes new : StorageRoot) (p : Place) (o : Option OpenFile) (os : List Opening) (ls : List Place) (f l : ℕ) (faults : Faults) → p ≢ []
-    → new ≡ filter (is_left p) nodes → Removes (seen nodes o os ls f l faults).store (seen new None os ls f l faults).store p
-removes nodes new p o os ls f l faults h is = rw is (record {
+pub removes : (nodes new : StorageRoot) (p : Place) (o : Option OpenFile) (os : List Opening) (ls us : List Place) (f l : ℕ) (faults : Faults) → p ≢ []
+    → new ≡ filter (is_left p) nodes → Removes (seen nodes o os ls us f l faults).store (seen new None os ls us f l faults).store p
+removes nodes new p o os ls us f l faults h is = rw is (record {
   tree = removal_leaves nodes p h;
-  changes = record { closed = refl; openings_are = refl; listings_are = refl; failures_are = refl; largest = refl };
+  changes = record { closed = refl; openings_are = refl; listings_are = refl; failed_are = refl; failures_are = refl; largest = refl };
 })
 
 -- where nothing was refused, there was no reason to

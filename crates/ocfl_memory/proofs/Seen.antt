@@ -11,7 +11,7 @@ use Rattle.ocfl_memory.specs.MemTree.{fails, read_fails}
 use Rattle.ocfl_memory.specs.Internal.Nodes.{leaf_at, bytes_in, stands_at, kept_in}
 use Rattle.ocfl_memory.specs.declared.plan.Point.TheVariants as point
 use Rattle.ocfl_memory.specs.Internal.Kept.{rest_of, seen, IsOpen, IfOpen, IsKept}
-use Rattle.ocfl_tree.specs.Calls.{Lists, ListFails, Opens, OpenFails, Reads, ReadFails, Fails, opening, change_last, with_given, with_failure}
+use Rattle.ocfl_tree.specs.Calls.{Lists, ListFails, Opens, OpenFails, Reads, ReadFails, Closes, Fails, opening, change_last, with_given, with_failure}
 use Rattle.ocfl_memory.specs.declared.mem_tree.OpenFile.{OpenFile}
 use Rattle.ocfl_tree.specs.declared.store.Entry.{Entry}
 use Rattle.ocfl_tree.specs.declared.store.Opening.{Opening}
@@ -21,40 +21,77 @@ use Rattle.ocfl_memory.proofs.Listings.{kept_is_listing}
 use Rattle.ocfl_tree.proofs.Lists.{change_last-append}
 use Rattle.ocfl_tree.proofs.Trees.{some_not_none}
 
-module _ (nodes : StorageRoot) (o : Option OpenFile) (os : List Opening) (ls : List Place) (f l : ℕ) (g h : Faults) where
+module _ (nodes : StorageRoot) (o : Option OpenFile) (os : List Opening) (ls us : List Place) (f l : ℕ) (g h : Faults) where
   pub lists_seen : (ls' : List Place) (p : Place) (es : List Entry) → IsKept nodes os o → stands_at nodes p ≡ Some dir → es ≡ kept_in nodes p → ls' ≡ ls ++ p ∷ []
-      → Lists (seen nodes o os ls f l g).store (seen nodes o os ls' f l h).store p es
+      → Lists (seen nodes o os ls us f l g).store (seen nodes o os ls' us f l h).store p es
   lists_seen ls' p es k is same added = record {
     entries = rw same (kept_is_listing nodes p (k.rooted p ∙ is));
-    did = record { tree = refl; openings_are = sym (append-nil os); listings_are = added; failures_are = omega arith };
+    did = record {
+      tree = refl;
+      openings_are = sym (append-nil os);
+      listings_are = added;
+      failures_are = omega arith;
+      failed = [];
+      failed_are = sym (append-nil us);
+      failed_among = λ q i. absurd i;
+      each_failed = refl;
+    };
     rest = refl;
     largest = refl;
   }
 
-  fails_seen : (os' xs : List Opening) (ls' ys : List Place) (e : Trouble) → e ≢ Device → os' ≡ os → ls' ≡ ls → Fails (seen nodes o os ls f l g).store (seen nodes None os' ls' f l h).store xs ys e
+  fails_seen : (os' xs : List Opening) (ls' ys : List Place) (e : Trouble) → e ≢ Device → os' ≡ os → ls' ≡ ls → Fails (seen nodes o os ls us f l g).store (seen nodes None os' ls' us f l h).store xs ys e
   fails_seen os' xs ls' ys Device apart so sl = absurd (apart refl)
   fails_seen os' xs ls' ys Absent apart so sl = record {
-    did = record { tree = refl; openings_are = so ∙ sym (append-nil os); listings_are = sl ∙ sym (append-nil ls); failures_are = omega arith };
+    did = record {
+      tree = refl;
+      openings_are = so ∙ sym (append-nil os);
+      listings_are = sl ∙ sym (append-nil ls);
+      failures_are = omega arith;
+      failed = [];
+      failed_are = sym (append-nil us);
+      failed_among = λ q i. i;
+      each_failed = refl;
+    };
     closed = refl;
     largest = refl;
   }
   fails_seen os' xs ls' ys Memory apart so sl = record {
-    did = record { tree = refl; openings_are = so ∙ sym (append-nil os); listings_are = sl ∙ sym (append-nil ls); failures_are = omega arith };
+    did = record {
+      tree = refl;
+      openings_are = so ∙ sym (append-nil os);
+      listings_are = sl ∙ sym (append-nil ls);
+      failures_are = omega arith;
+      failed = [];
+      failed_are = sym (append-nil us);
+      failed_among = λ q i. i;
+      each_failed = refl;
+    };
     closed = refl;
     largest = refl;
   }
 
   pub list_fails_seen : (ls' : List Place) (p : Place) (e : Trouble) → IsKept nodes os o → e ≢ Device → (e ≡ Absent → stands_at nodes p ≢ Some dir) → ls' ≡ ls
-      → ListFails (seen nodes o os ls f l g).store (seen nodes None os ls' f l h).store p e
+      → ListFails (seen nodes o os ls us f l g).store (seen nodes None os ls' us f l h).store p e
   list_fails_seen ls' p e k apart absent sl = record {
     fails = fails_seen os [] ls' (p ∷ []) e apart refl sl;
     absent = λ is there. absent is (sym (k.rooted p) ∙ there);
   }
 
-  pub list_breaks : (ls' : List Place) (p : Place) → ls' ≡ ls ++ p ∷ [] → ListFails (seen nodes o os ls f l g).store (seen nodes None os ls' (f + 1) l h).store p Device
-  list_breaks ls' p added = record {
+  pub list_breaks : (ls' us' : List Place) (p : Place) → ls' ≡ ls ++ p ∷ [] → us' ≡ us ++ p ∷ []
+      → ListFails (seen nodes o os ls us f l g).store (seen nodes None os ls' us' (f + 1) l h).store p Device
+  list_breaks ls' us' p added noted = record {
     fails = record {
-      did = record { tree = refl; openings_are = sym (append-nil os); listings_are = added; failures_are = refl };
+      did = record {
+        tree = refl;
+        openings_are = sym (append-nil os);
+        listings_are = added;
+        failures_are = refl;
+        failed = p ∷ [];
+        failed_are = noted;
+        failed_among = λ q i. i;
+        each_failed = refl;
+      };
       closed = refl;
       largest = refl;
     };
@@ -62,30 +99,64 @@ module _ (nodes : StorageRoot) (o : Option OpenFile) (os : List Opening) (ls : L
   }
 
   pub opens_seen : (os' : List Opening) (p : Place) (i : ℕ) → IsKept nodes os o → stands_at nodes p ≡ Some (file (bytes_in (leaf_at nodes i))) → os' ≡ os ++ opening p 0 false ∷ []
-      → Opens (seen nodes o os ls f l g).store (seen nodes (Some (record { index = i; offset = 0 })) os' ls f l h).store p
+      → Opens (seen nodes o os ls us f l g).store (seen nodes (Some (record { index = i; offset = 0 })) os' ls us f l h).store p
   opens_seen os' p i k is added = record {
     bytes = bytes_in (leaf_at nodes i);
     is_file = k.rooted p ∙ is;
     rest = refl;
-    did = record { tree = refl; openings_are = added; listings_are = sym (append-nil ls); failures_are = omega arith };
+    did = record {
+      tree = refl;
+      openings_are = added;
+      listings_are = sym (append-nil ls);
+      failures_are = omega arith;
+      failed = [];
+      failed_are = sym (append-nil us);
+      failed_among = λ q i. i;
+      each_failed = refl;
+    };
     largest = refl;
   }
 
   pub open_fails_seen : (os' : List Opening) (p : Place) (e : Trouble) → IsKept nodes os o → e ≢ Device → (e ≡ Absent → (bytes : Text) → stands_at nodes p ≢ Some (file bytes)) → os' ≡ os
-      → OpenFails (seen nodes o os ls f l g).store (seen nodes None os' ls f l h).store p e
+      → OpenFails (seen nodes o os ls us f l g).store (seen nodes None os' ls us f l h).store p e
   open_fails_seen os' p e k apart absent so = record {
     fails = fails_seen os' (opening p 0 true ∷ []) ls [] e apart so refl;
     absent = λ is bytes there. absent is bytes (sym (k.rooted p) ∙ there);
   }
 
-  pub open_breaks : (os' : List Opening) (p : Place) → os' ≡ os ++ opening p 0 true ∷ [] → OpenFails (seen nodes o os ls f l g).store (seen nodes None os' ls (f + 1) l h).store p Device
+  pub open_breaks : (os' : List Opening) (p : Place) → os' ≡ os ++ opening p 0 true ∷ [] → OpenFails (seen nodes o os ls us f l g).store (seen nodes None os' ls us (f + 1) l h).store p Device
   open_breaks os' p added = record {
     fails = record {
-      did = record { tree = refl; openings_are = added; listings_are = sym (append-nil ls); failures_are = refl };
+      did = record {
+        tree = refl;
+        openings_are = added;
+        listings_are = sym (append-nil ls);
+        failures_are = refl;
+        failed = [];
+        failed_are = sym (append-nil us);
+        failed_among = λ q i. i;
+        each_failed = refl;
+      };
       closed = refl;
       largest = refl;
     };
     absent = λ is. absurd cc;
+  }
+
+  pub closes_seen : Closes (seen nodes o os ls us f l g).store (seen nodes None os ls us f l h).store
+  closes_seen = record {
+    did = record {
+      tree = refl;
+      openings_are = sym (append-nil os);
+      listings_are = sym (append-nil ls);
+      failures_are = omega arith;
+      failed = [];
+      failed_are = sym (append-nil us);
+      failed_among = λ q i. i;
+      each_failed = refl;
+    };
+    closed = refl;
+    largest = refl;
   }
 
 -- the open file's index is one of a file that is open
@@ -113,27 +184,28 @@ last_is front last =
     ap (slice_get (front ++ last ∷ [])) place ∙ last_at front last
 
 -- whether the device fails in a read of the open file
-pub read_fails_is : (nodes : StorageRoot) (o : Option OpenFile) (r : OpenFile) (os : List Opening) (ls : List Place) (f l : ℕ) (g : Faults) (struck : Bool) → o ≡ Some r → IfOpen nodes os o
+pub read_fails_is : (nodes : StorageRoot) (o : Option OpenFile) (r : OpenFile) (os : List Opening) (ls us : List Place) (f l : ℕ) (g : Faults) (struck : Bool) → o ≡ Some r → IfOpen nodes os o
     → ((front : List Opening) (last : Opening) → os ≡ front ++ last ∷ [] → struck ≡ is_struck g last.place (point.Read last.given))
-    → read_fails (seen nodes o os ls f l g) ≡ (nat_lt (f + 1) (2 ^ 64) && struck)
-read_fails_is nodes o r os ls f l g struck is h told =
+    → read_fails (seen nodes o os ls us f l g) ≡ (nat_lt (f + 1) (2 ^ 64) && struck)
+read_fails_is nodes o r os ls us f l g struck is h told =
     let open_file = is_open nodes os o r is h in
     let last : slice_get os (length os - 1) ≡ Some open_file.last = ap (λ xs. slice_get xs (length xs - 1)) open_file.is_last ∙ last_is open_file.front open_file.last in
-    ap (λ x. option_map_or (λ y. fails (seen nodes o os ls f l g) y.place (point.Read y.given)) x false) last
+    ap (λ x. option_map_or (λ y. fails (seen nodes o os ls us f l g) y.place (point.Read y.given)) x false) last
     ∙ ap (λ b. nat_lt (f + 1) (2 ^ 64) && b) (sym (told open_file.front open_file.last open_file.is_last))
 
 pub some_rest : (nodes : StorageRoot) (o : Option OpenFile) (r : OpenFile) → o ≡ Some r → rest_of nodes o ≡ Some (drop r.offset (bytes_in (leaf_at nodes r.index)))
 some_rest nodes o r is = ap (rest_of nodes) is
 
-pub read_breaks : (nodes : StorageRoot) (o : Option OpenFile) (r : OpenFile) (os os' : List Opening) (ls : List Place) (f l l' : ℕ) (g h : Faults) → o ≡ Some r → IfOpen nodes os o
+pub read_breaks : (nodes : StorageRoot) (o : Option OpenFile) (r : OpenFile) (os os' : List Opening) (ls us : List Place) (f l l' : ℕ) (g h : Faults) → o ≡ Some r → IfOpen nodes os o
     → ((front : List Opening) (last : Opening) → os ≡ front ++ last ∷ [] → os' ≡ front ++ with_failure last ∷ [])
-    → ReadFails (seen nodes o os ls f l g).store (seen nodes None os' ls (f + 1) l' h).store Device
-read_breaks nodes o r os os' ls f l l' g h is k noted =
+    → ReadFails (seen nodes o os ls us f l g).store (seen nodes None os' ls us (f + 1) l' h).store Device
+read_breaks nodes o r os os' ls us f l l' g h is k noted =
     let open_file = is_open nodes os o r is k in
     record {
       tree = refl;
       closed = refl;
       listings_are = refl;
+      failed_listings_are = refl;
       failures_are = refl;
       absent = λ e. absurd cc;
       device = λ _. (
@@ -147,15 +219,15 @@ by_length zero n room x y e filled some whole = omega arith
 by_length (suc m) n room x y e filled some whole = absurd (omega (arith, some (omega arith) filled))
 
 -- a read of n bytes
-pub reads_seen : (nodes : StorageRoot) (o : Option OpenFile) (r : OpenFile) (os os' : List Opening) (ls : List Place) (f l l' n room : ℕ) (g h : Faults)
+pub reads_seen : (nodes : StorageRoot) (o : Option OpenFile) (r : OpenFile) (os os' : List Opening) (ls us : List Place) (f l l' n room : ℕ) (g h : Faults)
     (given all : Text) → o ≡ Some r → IfOpen nodes os o
     → all ≡ drop r.offset (bytes_in (leaf_at nodes r.index))
     → n ≤ length all
     → (0 < length all → 0 < room → 0 < n)
     → given ≡ take n all
     → ((front : List Opening) (last : Opening) → os ≡ front ++ last ∷ [] → os' ≡ front ++ with_given n last ∷ [])
-    → Reads (seen nodes o os ls f l g).store (seen nodes (Some (record { index = r.index; offset = r.offset + n })) os' ls f l' h).store given room
-reads_seen nodes o r os os' ls f l l' n room g h given all is k rest enough some taken noted =
+    → Reads (seen nodes o os ls us f l g).store (seen nodes (Some (record { index = r.index; offset = r.offset + n })) os' ls us f l' h).store given room
+reads_seen nodes o r os os' ls us f l l' n room g h given all is k rest enough some taken noted =
     let open_file = is_open nodes os o r is k in
     let bytes : Text = bytes_in (leaf_at nodes r.index) in
     let long : length given ≡ n = ap length taken ∙ length-take-le n all enough in
@@ -174,6 +246,7 @@ reads_seen nodes o r os os' ls f l l' n room g h given all is k rest enough some
       openings_are = noted open_file.front open_file.last open_file.is_last ∙ sym (change_last-append (with_given n) open_file.front open_file.last)
           ∙ ap (change_last (with_given n)) (sym open_file.is_last) ∙ ap (λ m. change_last (with_given m) os) (sym long);
       listings_are = refl;
+      failed_are = refl;
       failures_are = refl;
     }
 

@@ -69,6 +69,7 @@ pub record Changes (s t : Store) : Type 0 where
   pub closed : t.rest ≡ None
   pub openings_are : t.openings ≡ s.openings
   pub listings_are : t.listings ≡ s.listings
+  pub failed_are : t.failed_listings ≡ s.failed_listings
   pub failures_are : t.failures ≡ s.failures
   pub largest : t.largest ≡ s.largest
 

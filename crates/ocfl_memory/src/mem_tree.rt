@@ -14,7 +14,7 @@ ghost use Rattle.ocfl_memory.specs.MemTree.{FailsWhereStruck, Removes};
 
 use crate::build::BuildStop;
 use crate::nodes::{self, Node, Stored};
-use crate::openings::{note_failure, note_given, note_listing, note_opening, strikes_read};
+use crate::openings::{note_failed_listing, note_failure, note_given, note_opening, strikes_read};
 use crate::plan::{Plan, Point};
 use ocfl_tree::{Entry, Opening, Place, Tree, Trouble};
 use std::alloc::Global;
@@ -34,6 +34,7 @@ pub struct MemTree {
     open: Option<OpenFile>,
     openings: Vec<Opening>,
     listings: Vec<Place>,
+    failed_listings: Vec<Place>,
     failures: u64,
     largest: usize,
     plan: Plan,
@@ -46,8 +47,8 @@ impl Model for MemTree {
 
     ghost use Rattle.ocfl_memory.specs.Internal.Kept.{seen, IsKept};
 
-    ghost view = { λ a. seen a.nodes.items a.open a.openings.items a.listings.items a.failures
-        a.largest a.plan };
+    ghost view = { λ a. seen a.nodes.items a.open a.openings.items a.listings.items
+        a.failed_listings.items a.failures a.largest a.plan };
 
     ghost invariant = { λ a. IsKept a.nodes.items a.openings.items a.open };
 }
@@ -79,6 +80,7 @@ impl MemTree {
             open: None,
             openings: Vec::new(alloc),
             listings: Vec::new(alloc),
+            failed_listings: Vec::new(alloc),
             failures: 0,
             largest: 0,
             plan: Plan::new(alloc),
@@ -216,7 +218,7 @@ impl Tree for MemTree {
         let struck = self.plan.strikes(place, Point::List);
         if can_fail(struck, self.failures) {
             self.open = None; // after trouble no file is open
-            note_listing(&mut self.listings, place)?;
+            note_failed_listing(&mut self.listings, &mut self.failed_listings, place)?;
             return Err(device_failed(&mut self.failures));
         }
         match nodes::list(

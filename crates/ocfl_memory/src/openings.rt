@@ -27,11 +27,31 @@ pub(crate) fn note_opening(
 }
 
 /// Notes a listing.
-pub(crate) fn note_listing(listings: &mut Vec<Place>, place: &Place) -> Result<(), AllocError>
+fn note_listing(listings: &mut Vec<Place>, place: &Place) -> Result<(), AllocError>
     ensures ok { OnOk result (listings.new.items ≡ listings.old.items ++ place.now ∷ []) }
     ensures err { OnErr result (listings.new.items ≡ listings.old.items) }
 {
     listings.push(place.try_clone()?)?;
+    Ok(())
+}
+
+/// Notes a listing in which the device failed.
+pub(crate) fn note_failed_listing(
+    listings: &mut Vec<Place>,
+    failed: &mut Vec<Place>,
+    place: &Place,
+) -> Result<(), AllocError>
+    ensures listed { OnOk result (listings.new.items ≡ listings.old.items ++ place.now ∷ []) }
+    ensures failed { OnOk result (failed.new.items ≡ failed.old.items ++ place.now ∷ []) }
+    ensures unlisted { OnErr result (listings.new.items ≡ listings.old.items) }
+    ensures unfailed { OnErr result (failed.new.items ≡ failed.old.items) }
+{
+    let noted = listings.len();
+    note_listing(listings, place)?;
+    if note_listing(failed, place).is_err() {
+        listings.truncate(noted); // neither is noted
+        return Err(AllocError);
+    }
     Ok(())
 }
 

@@ -88,7 +88,7 @@ module _ (root : StorageRoot) (part : Part) where
   -- ---- the last of them, where a call of the store failed
 
   abbrev FailedIn : Store → Store → Place → Type 0
-  FailedIn s t q = (listed : List Place) × ((trail : List Opening) × ((t.listings ≡ s.listings ++ listed) × ((t.openings ≡ s.openings ++ trail) × FailedAt root listed trail q)))
+  FailedIn s t q = (listed : List Place) × ((trail : List Opening) × ((t.listings ≡ s.listings ++ listed) × ((t.openings ≡ s.openings ++ trail) × FailedAt root s t listed trail q)))
 
   last_failed : (made : List MadeRun) (c : Cursor) (s t : Store) (old new : Option (List ℕ)) → AreChained part c made → IsMadeOf (call_of root s t old new) (calls_of made)
       → (q : Place) → last_end made ≡ run.Stopped (AtStore q) → (front : List Call) × ((k : Call) × ((calls_of made ≡ front ++ k ∷ []) × FailedIn k.before k.after q))

@@ -136,7 +136,7 @@ pub fn an_audit_of_a_part_looks_once()
 /// Each run of a cycle lists each directory at most once and reads each inventory at most once, in
 /// order, and nothing is listed or read between two runs. So a cycle has at least as many runs as
 /// listings of the storage root. Where a call of the store failed, it was the last listing or the
-/// last opening of the last run that is counted.
+/// last opening of the last run that is counted, and no other listing of that run failed.
 pub fn each_run_of_a_cycle_looks_once()
     ensures listed { (call : Call) (part : Part) (limits : List Limits) (ran : CycleEnd)
         → CycleOfRunsWithin call part limits ran → (looks : List (List Place))
@@ -159,5 +159,5 @@ pub fn each_run_of_a_cycle_looks_once()
         × ((listed : List Place) × ((trail : List Opening)
         × ((k.after.listings ≡ k.before.listings ++ listed)
         × ((k.after.openings ≡ k.before.openings ++ trail)
-        × FailedAt call.root listed trail q))))))) }
+        × FailedAt call.root k.before k.after listed trail q))))))) }
 {}

@@ -1,5 +1,5 @@
 -- One directory is listed, and the directories right below it are taken.
-use Rattle.std.proofs.Common.{◌≡◌, ℕ, ◌<◌, List, [], ◌∷◌, ◌++◌, refl, sym, ◌∙◌, ap, subst, true, false, Bool, length, append_assoc, IsPermutation}
+use Rattle.std.proofs.Common.{◌≡◌, ℕ, ◌<◌, List, [], ◌∷◌, ◌++◌, refl, sym, ◌∙◌, ap, subst, true, false, Bool, length, append_assoc, arith, IsPermutation}
 use Rattle.std.specs.Prelude.{cond}
 use Rattle.std.specs.List.Sorted.{IsSorted}
 use Rattle.std.proofs.lemmas.List.{append-nil}
@@ -8,13 +8,13 @@ use Rattle.ocfl_tree.specs.StorageRoot.{StorageRoot}
 use Rattle.ocfl_tree.specs.Store.{Store}
 use Rattle.ocfl_tree.specs.Listing.{IsListing, IsOrdinary}
 use Rattle.ocfl_tree.specs.declared.store.Entry.{Entry}
-use Rattle.ocfl_tree.proofs.Stores.{did_then}
+use Rattle.ocfl_tree.proofs.Stores.{did_then, did_nothing, listed_well}
 use Rattle.ocfl_item.specs.Auditing.{FailedAt, in_listing, in_opening}
 use Rattle.ocfl_item.specs.Looking.{failures_by}
 use Rattle.ocfl_item.specs.Ways.{is_listable, Enters, Stops}
 use Rattle.ocfl_item.specs.declared.fault.Fault.{Fault}
 use Rattle.ocfl_item.specs.declared.fault.Fault.TheVariants as fault
-use Rattle.ocfl_item.proofs.LooksCalls.{did_nothing, memory_no_store}
+use Rattle.ocfl_item.proofs.LooksCalls.{memory_no_store}
 use Rattle.ocfl_split.specs.Levels.{leads_on, directories_in, directories_below}
 use Rattle.ocfl_split.specs.Splitting.{ListsAll, ListsStop}
 use Rattle.ocfl_split.specs.Internal.Directories.{directories_among, AddsAll}
@@ -27,9 +27,10 @@ pub never_empty : {A : Type 0} (before : List A) (x : A) → [] ≡ before ++ x 
 never_empty [] x e = cc
 never_empty (y ∷ before) x e = cc
 
-failed_last : (root : StorageRoot) (ls : List Place) (q : Place) → FailedAt root ls [] q → (before : List Place) × (ls ≡ before ++ q ∷ [])
-failed_last root ls q (in_listing before e read) = (before, e)
-failed_last root ls q (in_opening before given e) = absurd (never_empty before _ e)
+failed_last : (root : StorageRoot) (s t : Store) (ls : List Place) (q : Place) → FailedAt root s t ls [] q
+    → ((before : List Place) × (ls ≡ before ++ q ∷ [])) × (t.failed_listings ≡ s.failed_listings ++ q ∷ [])
+failed_last root s t ls q (in_listing before e failed read) = ((before, e), failed)
+failed_last root s t ls q (in_opening before given e none) = absurd (never_empty before _ e)
 
 module _ (root : StorageRoot) where
   pub listing_stops : (s t : Store) (d p : Place) (why : Fault) → p ≡ d → Stops root s t (p ∷ []) [] why → ListsStop root s t (d ∷ []) why
@@ -38,7 +39,8 @@ module _ (root : StorageRoot) where
     listings = h.goes.listings;
     did = h.goes.did;
     front = h.goes.listed;
-    last = λ q e. failed_last root h.goes.listings q (h.store q e).1;
+    last = λ q e. (failed_last root s t h.goes.listings q (h.store q e).1).0;
+    failed = λ q e. (failed_last root s t h.goes.listings q (h.store q e).1).1;
   })
 
   pub lists_none : (s : Store) → s.tree ≡ root → ListsAll root s s []
@@ -46,7 +48,11 @@ module _ (root : StorageRoot) where
 
   -- memory was refused after these were listed
   pub memory_stops : (s t : Store) (ds more : List Place) → ListsAll root s t ds → ListsStop root s t (ds ++ more) fault.Memory
-  memory_stops s t ds more h = record { over = h.over; listings = ds; did = h.did; front = (more, refl); last = λ q e. absurd (memory_no_store q e) }
+  memory_stops s t ds more h = record { over = h.over; listings = ds; did = h.did; front = (more, refl); last = λ q e. absurd (memory_no_store q e); failed = λ q e. absurd (memory_no_store q e) }
+
+  -- and before anything was listed
+  pub memory_first : (s : Store) (ds : List Place) → s.tree ≡ root → ListsStop root s s ds fault.Memory
+  memory_first s ds over = memory_stops s s [] ds (lists_none s over)
 
   pub memory_at_end : (s t : Store) (ds : List Place) → ListsAll root s t ds → ListsStop root s t ds fault.Memory
   memory_at_end s t ds h = subst (λ xs. ListsStop root s t xs fault.Memory) (append-nil ds) (memory_stops s t ds [] h)
@@ -61,6 +67,7 @@ module _ (root : StorageRoot) where
     did = did_then s t u [] [] ds k.listings (failures_by why) h.did k.did;
     front = (k.front.0, ap (λ xs. ds ++ xs) k.front.1 ∙ sym (append_assoc ds k.listings k.front.0));
     last = λ q e. let l = k.last q e in (ds ++ l.0, ap (λ xs. ds ++ xs) l.1 ∙ sym (append_assoc ds l.0 (q ∷ [])));
+    failed = λ q e. k.failed q e ∙ ap (λ xs. xs ++ q ∷ []) (listed_well s t [] ds 0 (omega arith) h.did);
   }
 
   pub stops_before : (s t : Store) (es more : List Place) (why : Fault) → ListsStop root s t es why → ListsStop root s t (es ++ more) why
@@ -70,6 +77,7 @@ module _ (root : StorageRoot) where
     did = k.did;
     front = (k.front.0 ++ more, ap (λ xs. xs ++ more) k.front.1 ∙ append_assoc k.listings k.front.0 more);
     last = k.last;
+    failed = k.failed;
   }
 
   pub over_after : (s t : Store) (ds : List Place) → ListsAll root s t ds → t.tree ≡ root

@@ -109,10 +109,11 @@ pub record ListsAll (root : StorageRoot) (s t : Store) (listed : List Place) : T
   pub did : Did s t [] listed 0
 
 -- the first of them were listed, in order, and then there was a fault; one of the store names the
--- last of these
+-- last of these, which alone failed
 pub record ListsStop (root : StorageRoot) (s t : Store) (listed : List Place) (why : Fault) : Type 0 where
   pub over : s.tree ≡ root
   pub listings : List Place
   pub did : Did s t [] listings (failures_by why)
   pub front : IsFront listings listed
   pub last : (q : Place) → why ≡ fault.Store q → (before : List Place) × (listings ≡ before ++ q ∷ [])
+  pub failed : (q : Place) → why ≡ fault.Store q → t.failed_listings ≡ s.failed_listings ++ q ∷ []

@@ -1,14 +1,17 @@
 -- What each call of a store does, in other words.
-use Rattle.std.proofs.Common.{◌≡◌, ◌≢◌, ℕ, ◌+◌, ◌<◌, true, false, List, [], ◌∷◌, ◌++◌, None, Some, length, refl, ap, ◌∙◌, append-nil, arith}
+use Rattle.std.proofs.Common.{◌≡◌, ◌≢◌, ℕ, ◌+◌, ◌<◌, ◌≤◌, true, false, List, [], ◌∷◌, ◌++◌, None, Some, length, refl, ap, ◌∙◌, append-nil, arith}
 use Rattle.ocfl_tree.specs.Place.{Text, Place as Spot}
 use Rattle.ocfl_tree.specs.StorageRoot.{file, dir, at}
 use Rattle.ocfl_tree.specs.Listing.{kind_in, kind_at}
-use Rattle.ocfl_tree.specs.Store.{Store, Did}
+use Rattle.ocfl_tree.specs.Ascending.{IsAmong}
+use Rattle.ocfl_tree.specs.Store.{Store, Did, failed_openings}
 use Rattle.ocfl_tree.specs.Calls.{opening, change_last, with_given, with_failure, Lists, ListFails, Opens, OpenFails, Reads, ReadFails, Closes}
 use Rattle.ocfl_tree.specs.declared.store.Entry.{Entry}
 use Rattle.ocfl_tree.specs.declared.store.Opening.{Opening}
+use Rattle.ocfl_tree.specs.declared.store.Trouble.{Trouble}
 use Rattle.ocfl_tree.specs.declared.store.Trouble.TheVariants.{Device, Absent, Memory}
 use Rattle.ocfl_tree.proofs.Lists.{change_last-append}
+use Rattle.ocfl_tree.proofs.Stores.{listed_well, listing_failed}
 
 none_more : (a b : ℕ) → b ≡ a + 0 → b ≡ a
 none_more a b e = omega (arith, e)
@@ -77,3 +80,39 @@ call_nothing_open s t h = ((h.absent refl).0, (h.closed, (h.tree, ((h.absent ref
 
 pub call_closed : (s t : Store) → Closes s t → IsClosed s t
 call_closed s t h = did_nothing s t h.did h.closed h.largest
+
+-- ---- which listings failed
+
+pub listed_none_failed : (s t : Store) (p : Spot) (es : List Entry) → Lists s t p es → t.failed_listings ≡ s.failed_listings
+listed_none_failed s t p es h = listed_well s t [] (p ∷ []) 0 (omega arith) h.did
+
+pub unlisted_failed : (s t : Store) (p : Spot) → ListFails s t p Device → t.failed_listings ≡ s.failed_listings ++ p ∷ []
+unlisted_failed s t p h = listing_failed s t p h.fails.did
+
+pub absent_none_failed : (s t : Store) (p : Spot) → ListFails s t p Absent → t.failed_listings ≡ s.failed_listings
+absent_none_failed s t p h = listed_well s t [] [] 0 (omega arith) h.fails.did
+
+pub memory_none_failed : (s t : Store) (p : Spot) → ListFails s t p Memory → t.failed_listings ≡ s.failed_listings
+memory_none_failed s t p h = listed_well s t [] [] 0 (omega arith) h.fails.did
+
+pub opened_none_failed : (s t : Store) (p : Spot) → Opens s t p → t.failed_listings ≡ s.failed_listings
+opened_none_failed s t p h = listed_well s t (opening p 0 false ∷ []) [] 0 (omega arith) h.did
+
+pub unopened_none_failed : (s t : Store) (p : Spot) (why : Trouble) → OpenFails s t p why → t.failed_listings ≡ s.failed_listings
+unopened_none_failed s t p Device h = listed_well s t (opening p 0 true ∷ []) [] 1 (let one : 1 ≤ 1 = omega arith in one) h.fails.did
+unopened_none_failed s t p Absent h = listed_well s t [] [] 0 (omega arith) h.fails.did
+unopened_none_failed s t p Memory h = listed_well s t [] [] 0 (omega arith) h.fails.did
+
+pub read_none_failed : (s t : Store) (bytes : Text) (room : ℕ) → Reads s t bytes room → t.failed_listings ≡ s.failed_listings
+read_none_failed s t bytes room h = h.failed_are
+
+pub unread_none_failed : (s t : Store) (why : Trouble) → ReadFails s t why → t.failed_listings ≡ s.failed_listings
+unread_none_failed s t why h = h.failed_listings_are
+
+pub closed_none_failed : (s t : Store) → Closes s t → t.failed_listings ≡ s.failed_listings
+closed_none_failed s t h = listed_well s t [] [] 0 (omega arith) h.did
+
+-- what calls did together: each failure is told by an opening or a listing
+pub each_failure_is_told : (s t : Store) (os : List Opening) (ls : List Spot) (f : ℕ) → Did s t os ls f → (failed : List Spot)
+    × ((t.failed_listings ≡ s.failed_listings ++ failed) × (((p : Spot) → IsAmong failed p → IsAmong ls p) × (f ≡ failed_openings os + length failed)))
+each_failure_is_told s t os ls f h = (h.failed, (h.failed_are, (h.failed_among, h.each_failed)))

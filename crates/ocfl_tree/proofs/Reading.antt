@@ -3,12 +3,12 @@ use Rattle.std.specs.Prelude.{option_and_then}
 use Rattle.std.proofs.Common.{◌≡◌, ◌≢◌, Option, None, ℕ, ◌+◌, true, false, [], ◌∷◌, ◌++◌, length, Some, sym, ◌∙◌, ap, refl, append_assoc, append-nil, length-append, arith, add-zero, ◌<◌}
 use Rattle.ocfl_tree.specs.Place.{Text, Place}
 use Rattle.ocfl_tree.specs.StorageRoot.{StorageRoot, Leaf, file, dir, other, at, bytes_of, file_at}
-use Rattle.ocfl_tree.specs.Store.{Store, Did}
+use Rattle.ocfl_tree.specs.Store.{Store, Did, failed_openings}
 use Rattle.ocfl_tree.specs.Calls.{Opens, Reads, ReadFails, Closes, opening, change_last, with_given, with_failure}
 use Rattle.ocfl_tree.specs.Reading.{IsReading}
 use Rattle.ocfl_tree.specs.declared.store.Opening.{Opening}
 use Rattle.ocfl_tree.specs.declared.store.Trouble.TheVariants.{Device, Absent}
-use Rattle.ocfl_tree.proofs.Stores.{did_both}
+use Rattle.ocfl_tree.proofs.Stores.{did_both, listed_well}
 use Rattle.ocfl_tree.proofs.Trees.{some_not_none}
 use Rattle.ocfl_tree.proofs.Lists.{change_last-append}
 
@@ -20,13 +20,17 @@ same_some x y e = cc
 
 -- what a change of the last opening leaves of a reading
 changed : (s t u : Store) (p : Place) (given n : ℕ) (f : Opening → Opening) → Did s t (opening p given false ∷ []) [] 0 → u.tree ≡ t.tree
-    → u.openings ≡ change_last f t.openings → u.listings ≡ t.listings → u.failures ≡ t.failures + n
-    → Did s u (f (opening p given false) ∷ []) [] n
-changed s t u p given n f did tree openings listings failures = record {
+    → u.openings ≡ change_last f t.openings → u.listings ≡ t.listings → u.failed_listings ≡ t.failed_listings → u.failures ≡ t.failures + n
+    → n ≡ failed_openings (f (opening p given false) ∷ []) → Did s u (f (opening p given false) ∷ []) [] n
+changed s t u p given n f did tree openings listings unlisted failures each = record {
   tree = tree ∙ did.tree;
   openings_are = openings ∙ ap (change_last f) did.openings_are ∙ change_last-append f s.openings (opening p given false);
   listings_are = listings ∙ did.listings_are;
   failures_are = let one = did.failures_are in omega (arith, one, failures);
+  failed = [];
+  failed_are = unlisted ∙ listed_well s t (opening p given false ∷ []) [] 0 (omega arith) did ∙ sym (append-nil s.failed_listings);
+  failed_among = λ q i. i;
+  each_failed = each ∙ sym (add-zero (failed_openings (f (opening p given false) ∷ [])));
 }
 
 pub reading_reads : (s t u : Store) (p : Place) (given bytes : Text) (room : ℕ) → IsReading s t p given → Reads t u bytes room → IsReading s u p (given ++ bytes)
@@ -36,7 +40,7 @@ reading_reads s t u p given bytes room h r =
       left = r.left;
       is_file = h.is_file ∙ ap (λ x. Some (file x)) (ap (λ x. given ++ x) left ∙ sym (append_assoc given bytes r.left));
       rest = r.after;
-      did = rw (length-append given bytes) (changed s t u p (length given) 0 (with_given (length bytes)) h.did r.tree r.openings_are r.listings_are (r.failures_are ∙ sym (add-zero t.failures)));
+      did = rw (length-append given bytes) (changed s t u p (length given) 0 (with_given (length bytes)) h.did r.tree r.openings_are r.listings_are r.failed_are (r.failures_are ∙ sym (add-zero t.failures)) refl);
     }
 
 -- at the end, the bytes that were given are the file's
@@ -46,7 +50,7 @@ reading_ends s t u p given room h r filled =
     h.is_file ∙ ap (λ x. Some (file (given ++ x))) left ∙ ap (λ x. Some (file x)) (append-nil given)
 
 pub reading_fails : (s t u : Store) (p : Place) (given : Text) → IsReading s t p given → ReadFails t u Device → Did s u (opening p (length given) true ∷ []) [] 1
-reading_fails s t u p given h r = changed s t u p (length given) 1 with_failure h.did r.tree (r.device refl).1 r.listings_are r.failures_are
+reading_fails s t u p given h r = changed s t u p (length given) 1 with_failure h.did r.tree (r.device refl).1 r.listings_are r.failed_listings_are r.failures_are refl
 
 pub reading_closes : (s t u : Store) (p : Place) (given : Text) → IsReading s t p given → Closes t u → Did s u (opening p (length given) false ∷ []) [] 0
 reading_closes s t u p given h c = did_both s t u (opening p (length given) false ∷ []) [] [] [] 0 0 h.did c.did

@@ -73,6 +73,7 @@ pub record Reads (s t : Store) (bytes : Text) (room : ℕ) : Type 0 where
   pub tree : t.tree ≡ s.tree
   pub openings_are : t.openings ≡ change_last (with_given (length bytes)) s.openings
   pub listings_are : t.listings ≡ s.listings
+  pub failed_are : t.failed_listings ≡ s.failed_listings
   pub failures_are : t.failures ≡ s.failures
 
 -- without an open file a read answers `Absent`, and only then
@@ -80,6 +81,7 @@ pub record ReadFails (s t : Store) (trouble : Trouble) : Type 0 where
   pub tree : t.tree ≡ s.tree
   pub closed : t.rest ≡ None
   pub listings_are : t.listings ≡ s.listings
+  pub failed_listings_are : t.failed_listings ≡ s.failed_listings
   pub failures_are : t.failures ≡ s.failures + failures_of trouble
   pub absent : trouble ≡ Absent → (s.rest ≡ None) × (t.openings ≡ s.openings)
   pub device : trouble ≡ Device → (s.rest ≢ None) × (t.openings ≡ change_last with_failure s.openings)

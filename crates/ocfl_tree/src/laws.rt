@@ -2,16 +2,18 @@
 ghost use Rattle.std.specs.Prelude.{◌≡◌, ◌≢◌, ℕ, ◌+◌, ◌<◌, ◌++◌, [], ◌∷◌, List, length};
 ghost use Rattle.std.specs.Prelude.{true, false, None, Some, Bool, IsTrue};
 ghost use Rattle.std.specs.List.Sorted.{IsPermutation};
+ghost use Rattle.ocfl_tree.specs.Ascending.{IsAmong};
 ghost use Rattle.ocfl_tree.specs.Name.{IsPlace};
 ghost use Rattle.ocfl_tree.specs.Place.{Text, Place as Spot};
 ghost use Rattle.ocfl_tree.specs.StorageRoot.{StorageRoot, file, dir, at};
 ghost use Rattle.ocfl_tree.specs.Listing.{entries_in, kind_in, kind_at, IsOrdinary, IsListing};
-ghost use Rattle.ocfl_tree.specs.Store.{Store, Did, IfTold};
+ghost use Rattle.ocfl_tree.specs.Store.{Store, Did, IfTold, failed_openings};
 ghost use Rattle.ocfl_tree.specs.Calls.{opening, Lists, ListFails, Opens, OpenFails, Reads};
 ghost use Rattle.ocfl_tree.specs.Calls.{ReadFails, Closes};
 ghost use Rattle.ocfl_tree.specs.Reading.{IsReading};
 ghost use Rattle.ocfl_tree.specs.declared.store.Entry.{Entry};
 ghost use Rattle.ocfl_tree.specs.declared.store.Opening.{Opening};
+ghost use Rattle.ocfl_tree.specs.declared.store.Trouble.{Trouble};
 ghost use Rattle.ocfl_tree.specs.declared.store.Trouble.TheVariants.{Device, Absent, Memory};
 
 use crate::place::Place;
@@ -108,4 +110,31 @@ pub fn each_call_does_what_it_tells()
     ensures closed { (s t : Store) → Closes s t → (t.tree ≡ s.tree) × ((t.openings ≡ s.openings)
         × ((t.listings ≡ s.listings) × ((t.failures ≡ s.failures) × ((t.rest ≡ None)
         × (t.largest ≡ s.largest))))) }
+{}
+
+/// A listing in which the device failed is told beside the others, and no other call tells one. Of
+/// what calls did together, each failure is told by an opening or a listing.
+pub fn failed_listings_are_told()
+    ensures listed { (s t : Store) (p : Spot) (es : List Entry) → Lists s t p es
+        → t.failed_listings ≡ s.failed_listings }
+    ensures unlisted { (s t : Store) (p : Spot) → ListFails s t p Device
+        → t.failed_listings ≡ s.failed_listings ++ p ∷ [] }
+    ensures no_directory { (s t : Store) (p : Spot) → ListFails s t p Absent
+        → t.failed_listings ≡ s.failed_listings }
+    ensures no_memory { (s t : Store) (p : Spot) → ListFails s t p Memory
+        → t.failed_listings ≡ s.failed_listings }
+    ensures opened { (s t : Store) (p : Spot) → Opens s t p
+        → t.failed_listings ≡ s.failed_listings }
+    ensures unopened { (s t : Store) (p : Spot) (why : Trouble) → OpenFails s t p why
+        → t.failed_listings ≡ s.failed_listings }
+    ensures read { (s t : Store) (bytes : Text) (room : ℕ) → Reads s t bytes room
+        → t.failed_listings ≡ s.failed_listings }
+    ensures unread { (s t : Store) (why : Trouble) → ReadFails s t why
+        → t.failed_listings ≡ s.failed_listings }
+    ensures closed { (s t : Store) → Closes s t → t.failed_listings ≡ s.failed_listings }
+    ensures together { (s t : Store) (os : List Opening) (ls : List Spot) (f : ℕ)
+        → Did s t os ls f → (failed : List Spot)
+        × ((t.failed_listings ≡ s.failed_listings ++ failed)
+        × (((p : Spot) → IsAmong failed p → IsAmong ls p)
+        × (f ≡ failed_openings os + length failed))) }
 {}

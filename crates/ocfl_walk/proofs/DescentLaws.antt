@@ -19,8 +19,8 @@ use Rattle.ocfl_audit.specs.Trail.{heads_of, reads_inventory}
 use Rattle.ocfl_item.proofs.AuditingLaws.{failed_behind, read_behind, heads_append}
 use Rattle.ocfl_item.specs.declared.fault.Fault.{Fault}
 use Rattle.ocfl_item.specs.declared.fault.Fault.TheVariants as fault
-use Rattle.ocfl_tree.proofs.Stores.{did_then}
-use Rattle.ocfl_item.proofs.LooksCalls.{did_nothing, memory_no_store}
+use Rattle.ocfl_tree.proofs.Stores.{did_then, did_nothing, listed_well}
+use Rattle.ocfl_item.proofs.LooksCalls.{memory_no_store}
 use Rattle.ocfl_item.proofs.LooksZones.{is_plain}
 use Rattle.ocfl_audit.proofs.Trails.{content_behind, filter_append}
 
@@ -81,7 +81,7 @@ module _ (root : StorageRoot) where
 
   pub failed_then : (s t u : Store) (why : Fault) (h : Calls root s t 0) (g : Calls root t u (failures_by why)) → NamesFailed root t u why g
       → NamesFailed root s u why (calls_then s t u (failures_by why) h g)
-  failed_then s t u why h g k = λ q e. let f = k q e in (f.0, failed_behind root h.listings g.listings h.trail g.trail q (h.read refl) f.1)
+  failed_then s t u why h g k = λ q e. let f = k q e in (f.0, failed_behind root s t u h.listings g.listings h.trail g.trail q (h.read refl) (listed_well s t h.trail h.listings 0 (omega arith) h.did) f.1)
 
   abbrev pub no_calls : (s t : Store) → s.tree ≡ root → Did s t [] [] 0 → Calls root s t 0
   no_calls s t over did = record { over = over; trail = []; listings = []; did = did; read = λ e. refl; meta = refl; reached = refl }
@@ -108,6 +108,12 @@ module _ (root : StorageRoot) where
   -- nothing was done
   pub descends_not : (s t : Store) (way may : List Place) → s.tree ≡ root → Did s t [] [] 0 → Descends root s t way [] may [] 0
   descends_not s t way may over did = record { calls = no_calls s t over did; only = refl; listed = (way, refl); heads = (may, refl) }
+
+  pub stops_memory : (s : Store) (way : List Place) → s.tree ≡ root → Stops root s s way [] fault.Memory
+  stops_memory s way over = record {
+    goes = record { over = over; listings = []; did = did_nothing s; read = λ e. refl; listed = (way, refl) };
+    store = λ q e. absurd (memory_no_store q e);
+  }
 
   pub descent_memory : (s : Store) (way may : List Place) → s.tree ≡ root → DescendFails root s s way may fault.Memory
   descent_memory s way may over = record { goes = descends_not s s way may over (did_nothing s); store = λ q e. absurd (memory_no_store q e) }

@@ -32,9 +32,10 @@ use Rattle.ocfl_audit.specs.Between.{is_looked_into}
 use Rattle.ocfl_walk.proofs.DescentLaws.{calls_then, failed_then, front_on, front_within, no_calls, own_inventory_reached}
 use Rattle.ocfl_item.proofs.AuditingLaws.{few_once, front_all, none_once, heads_append}
 use Rattle.ocfl_item.proofs.ItemLaws.{head_zone}
-use Rattle.ocfl_item.proofs.LooksCalls.{did_nothing, memory_no_store}
+use Rattle.ocfl_item.proofs.LooksCalls.{memory_no_store}
 use Rattle.ocfl_item.proofs.LooksZones.{inside_step, sight_nothing, unseen_behind}
 use Rattle.ocfl_walk.proofs.MeetLaws.{own_head}
+use Rattle.ocfl_tree.proofs.Stores.{did_nothing}
 
 -- ---- lists
 

@@ -70,7 +70,7 @@ module _ (root : StorageRoot) where
         once = once;
       }
 
-      went_wrong : (why : Fault) → ((q : Place) → why ≡ fault.Store q → (is_hashed root q ≡ false) × FailedAt root listed trail q)
+      went_wrong : (why : Fault) → ((q : Place) → why ≡ fault.Store q → (is_hashed root q ≡ false) × FailedAt root s t listed trail q)
           → Did s t trail listed (failures_by why) → GoDownFails root s t (Some p) why
       went_wrong why store did = record {
         trail = trail;

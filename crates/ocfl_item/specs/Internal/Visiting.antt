@@ -104,7 +104,7 @@ pub record ReadOneFails (root : StorageRoot) (s t : Store) (o : Place) (why : Fa
   pub meta : content_trail root trail ≡ []
   pub once : AllPairs (λ a b. a.place ≢ b.place) trail
   pub heads : IsFront (heads_of root trail) (on (reads_inventory root o) o)
-  pub store : (q : Place) → why ≡ fault.Store q → (is_hashed root q ≡ false) × FailedAt root [] trail q
+  pub store : (q : Place) → why ≡ fault.Store q → (is_hashed root q ≡ false) × FailedAt root s t [] trail q
 
 -- the lines of an object's head and its table
 pub record HeadRead (root : StorageRoot) (s t : Store) (o : Place) (r : Result (PlaceLines × Option Table) Fault) : Type 0 where

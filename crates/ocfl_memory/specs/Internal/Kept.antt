@@ -34,13 +34,14 @@ pub record IsKept (nodes : StorageRoot) (openings : List Opening) (reader : Opti
   pub reading : IfOpen nodes openings reader
 
 -- what is seen of the parts
-abbrev pub seen : StorageRoot → Option OpenFile → List Opening → List Place → ℕ → ℕ → Faults → Held
-seen nodes reader openings listings failures largest faults = record {
+abbrev pub seen : StorageRoot → Option OpenFile → List Opening → List Place → List Place → ℕ → ℕ → Faults → Held
+seen nodes reader openings listings unlisted failures largest faults = record {
   store = record {
     tree = nodes;
     rest = rest_of nodes reader;
     openings = openings;
     listings = listings;
+    failed_listings = unlisted;
     failures = failures;
     largest = largest;
   };

@@ -49,7 +49,7 @@ pub record Calls (root : StorageRoot) (s t : Store) (failures : ℕ) : Type 0 wh
 
 -- a fault of the store names the place at which the last call failed
 abbrev pub NamesFailed : (root : StorageRoot) (s t : Store) (why : Fault) → Calls root s t (failures_by why) → Type 0
-NamesFailed root s t why calls = (q : Place) → why ≡ fault.Store q → (is_hashed root q ≡ false) × FailedAt root calls.listings calls.trail q
+NamesFailed root s t why calls = (q : Place) → why ≡ fault.Store q → (is_hashed root q ≡ false) × FailedAt root s t calls.listings calls.trail q
 
 -- from s to t directories of a way were listed in order, with more of it left, and the inventories
 -- of some objects were read in order, with more of them left, and nothing else

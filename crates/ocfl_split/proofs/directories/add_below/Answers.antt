@@ -2,9 +2,14 @@ use Rattle.std.proofs.Common.{◌≡◌, ◌∙◌, ◌∷◌, [], sym, subst, t
 use Rattle.std.proofs.lemmas.Result.{err_from_is_err_and}
 use Rattle.ocfl_item.specs.Ways.{is_listable}
 use Rattle.ocfl_split.specs.Internal.Directories.{directories_among, IsBelow}
-use Rattle.ocfl_split.proofs.Below.{listing_stops, entered, adds_all}
+use Rattle.ocfl_split.proofs.Below.{listing_stops, entered, adds_all, memory_first}
 use Rattle.ocfl_split.proofs.Entries.{among_below, names_rise}
 use Rattle.ocfl_split.proofs.directories.add_below.Goals as goal
+
+pub returns-in_err-try_clone-clause-told : goal.returns-in_err-try_clone-clause-told
+returns-in_err-try_clone-clause-told g c = λ h root over l.
+    let p = err_from_is_err_and c.from_residual.result c.from_residual.ensures.1 in
+    rw (p.1, p.2) (memory_first root (g.T.Tree.state c.args.store.now) _ over)
 
 pub returns-in_err-folder-clause-told : goal.returns-in_err-folder-clause-told
 returns-in_err-folder-clause-told g c = λ h root over l.

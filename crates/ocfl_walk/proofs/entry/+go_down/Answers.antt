@@ -5,10 +5,10 @@ use Rattle.ocfl_walk.specs.Standing.{folders_from, piles_in, spot_of}
 use Rattle.ocfl_walk.specs.Internal.Entering.{IsComing}
 use Rattle.std.proofs.lemmas.Result.{err_from_is_err_and}
 use Rattle.ocfl_walk.proofs.DescentLaws.{descends_not}
-use Rattle.ocfl_item.proofs.LooksCalls.{did_nothing}
 use Rattle.ocfl_walk.proofs.BroughtLaws.{came_fails, came_on, came_stop, coming_next, coming_room, end_orderly, brought_end, orderly_at, stop_orderly}
 use Rattle.ocfl_audit.proofs.AuditExists.{append_one}
 use Rattle.ocfl_walk.proofs.PlacedLaws.{deeper, folders_count, folders_push, kept_at, kept_place}
+use Rattle.ocfl_tree.proofs.Stores.{did_nothing}
 use Rattle.ocfl_walk.proofs.entry.+go_down.Goals as goal
 
 pub returns-in_default-clause-orderly : goal.returns-in_default-clause-orderly

@@ -1,9 +1,9 @@
 use Rattle.std.proofs.Common.{subst}
 use Rattle.std.proofs.lemmas.Result.{err_from_is_err_and}
-use Rattle.ocfl_item.proofs.LooksCalls.{did_nothing}
 use Rattle.ocfl_walk.specs.Internal.Entering.{LeadsOn}
 use Rattle.ocfl_walk.proofs.LeadsLaws.{around_on}
 use Rattle.ocfl_walk.proofs.DownLaws.{in_object, leads_in, leads_shut, leads_stop, shut_off, shut_unlisted}
+use Rattle.ocfl_tree.proofs.Stores.{did_nothing}
 use Rattle.ocfl_walk.proofs.entry.down.Goals as goal
 
 pub returns-then-not-leads_on-clause-told : goal.returns-then-not-leads_on-clause-told

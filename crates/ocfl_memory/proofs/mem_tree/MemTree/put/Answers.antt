@@ -16,7 +16,7 @@ invariant_of-self-2 c =
 pub returns-clause-ok : goal.returns-clause-ok
 returns-clause-ok c =
     let none = not_refused _ c.in_ok-put.ensures.refused in
-    rw (← c.self.view_is) (puts _ _ c.args.place.now c.args.stored _ _ _ _ _ c.self.inside.plan
+    rw (← c.self.view_is) (puts _ _ c.args.place.now c.args.stored _ _ _ _ _ _ c.self.inside.plan
     (sym (refusal_found c.self.inside.nodes.items _ _ c.args.place.now c.self.invariant) ∙ none) c.in_ok-put.ensures.ok c.self.invariant)
 
 pub returns-clause-refused : goal.returns-clause-refused

@@ -10,4 +10,4 @@ invariant_of-self c =
 pub returns-clause-ok : goal.returns-clause-ok
 returns-clause-ok c =
     let some : c.args.place.now ≢ [] = search rules in
-    rw (← c.self.view_is) (removes _ _ c.args.place.now _ _ _ _ _ c.self.inside.plan some c.remove.ensures)
+    rw (← c.self.view_is) (removes _ _ c.args.place.now _ _ _ _ _ _ c.self.inside.plan some c.remove.ensures)

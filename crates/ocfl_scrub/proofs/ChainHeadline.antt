@@ -29,7 +29,7 @@ use Rattle.ocfl_scrub.specs.declared.running.RunStatus.TheVariants as run
 use Rattle.ocfl_scrub.proofs.AuditLaws.{none_left}
 use Rattle.ocfl_scrub.proofs.ChainLaws.{given, place_there, spent_not_ended, counted, together}
 use Rattle.ocfl_scrub.proofs.CutLaws.{cut_and_left}
-use Rattle.ocfl_scrub.proofs.CycleEndLaws.{part_headline, headline_of}
+use Rattle.ocfl_scrub.proofs.CycleEndLaws.{part_headline}
 use Rattle.ocfl_scrub.proofs.PartLaws.{cut_paid}
 use Rattle.ocfl_scrub.proofs.Paying.{Paid}
 use Rattle.ocfl_scrub.proofs.RunLaws.{no_first}
@@ -203,5 +203,9 @@ module _ (call : Call) (part : Part) (limits : List Limits) (ran : CycleEnd) (h 
   headline_of_part = by_end ran.end (together call part limits ran h) h.ends
 
 pub headline_of_whole : (call : Call) (limits : List Limits) (ran : CycleEnd) → CycleOfRuns call limits ran → IsUnfailing call → HeadlineOf call limits ran.runs ran.end
-headline_of_whole call limits ran h same =
-    headline_of call.root call.before call.after call.old call.new limits ran.runs ran.end (headline_of_part call whole limits ran h same)
+headline_of_whole call limits ran h same = headline_of_part call whole limits ran h same
+
+-- the same of a part that is the whole
+pub headline_as_whole : (call : Call) (part : Part) (limits : List Limits) (count : ℕ) (end : CycleStatus) → part ≡ whole → HeadlineOfPart call part limits count end
+    → HeadlineOf call limits count end
+headline_as_whole call part limits count end e h = subst (λ x. HeadlineOfPart call x limits count end) e h

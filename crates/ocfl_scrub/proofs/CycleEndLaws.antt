@@ -15,7 +15,7 @@ use Rattle.ocfl_audit.specs.Audit.{audit}
 use Rattle.ocfl_audit.specs.Zone.{inventory_name}
 use Rattle.ocfl_audit.specs.Lines.{is_empty}
 use Rattle.ocfl_audit.specs.Trail.{unread_of, inventories}
-use Rattle.ocfl_audit.specs.Due.{item_places, due, items_at, hashed_among}
+use Rattle.ocfl_audit.specs.Due.{due, items_at, hashed_among}
 use Rattle.ocfl_audit.specs.Between.{read_between}
 use Rattle.ocfl_audit.specs.Runs.{Limits, runs, joined, sum_of}
 use Rattle.ocfl_audit.proofs.ObjectLaws.{inventories_read}
@@ -25,15 +25,13 @@ use Rattle.ocfl_item.specs.Auditing.{Audits, Fails}
 use Rattle.ocfl_item.specs.declared.fault.Fault.{Fault}
 use Rattle.ocfl_scrub.specs.Call.{Call, call_of}
 use Rattle.ocfl_scrub.specs.Written.{places, last_of, Figures}
-use Rattle.ocfl_audit.specs.Parts.{Part, whole, within, places_within}
+use Rattle.ocfl_audit.specs.Parts.{Part, whole, within}
 use Rattle.ocfl_scrub.specs.WholeAudit.{items_in}
 use Rattle.ocfl_scrub.specs.Starting.{due_within}
 use Rattle.ocfl_scrub.specs.Chaining.{IsMadeOf}
-use Rattle.ocfl_scrub.specs.Cycling.{enough, EachStartsBelow, Headline, HeadlineOf, HeadlineWithin, HeadlineOfPart}
+use Rattle.ocfl_scrub.specs.Cycling.{enough, EachStartsBelow, Headline}
 use Rattle.ocfl_scrub.specs.Together.{runs_in, all_in, inventories_in, CyclesWithin, CycleStopsWithin}
-use Rattle.ocfl_scrub.specs.declared.cycling.CycleStatus.{CycleStatus}
-use Rattle.ocfl_scrub.specs.declared.cycling.CycleStatus.TheVariants.{Ended, Spent, Stopped}
-use Rattle.ocfl_scrub.proofs.AuditLaws.{due_all, places_of_items, none_left}
+use Rattle.ocfl_scrub.proofs.AuditLaws.{places_of_items, none_left}
 use Rattle.ocfl_scrub.proofs.NextLaws.{root_is_due}
 use Rattle.ocfl_scrub.proofs.PartStarts.{above_in}
 use Rattle.ocfl_scrub.proofs.RunsJoined.{Parts, PartsStop}
@@ -137,12 +135,9 @@ module _ (root : StorageRoot) (part : Part) (s t : Store) (old new : Option (Lis
 
   -- ---- where no failure was counted
 
-  part_places : (os : List Opening) → places (items_in root os part) ≡ places_within part (item_places root)
-  part_places os = ap places (part_is root part os) ∙ places_of_items root os (due_within root part None) ∙ ap (places_within part) (due_all root)
-
   pub part_headline : (ends : Bool) → CyclesWithin (call_of root s t old new) part last limits spent files finding count ends
       → (calls : List Call) → IsMadeOf (call_of root s t old new) calls → EachStartsBelow limits calls (runs (within part (audit root [])) limits)
-      → t.failures ≡ s.failures → HeadlineWithin (call_of root s t old new) part limits count ends
+      → t.failures ≡ s.failures → Headline (call_of root s t old new) (within part (audit root [])) limits count ends
   part_headline ends h calls made_of below same =
       let none : unread_of root h.trail ≡ [] = none_left (unread_of root h.trail) s.failures (sym same ∙ h.audits.did.failures_are) in
       record {
@@ -153,8 +148,8 @@ module _ (root : StorageRoot) (part : Part) (s t : Store) (old new : Option (Lis
         calls = calls;
         made_of = made_of;
         starts_below = below;
-        whole_part = λ e. subst (λ u. Appends old new (text (within part (audit root u)))) none (subst (λ is. Appends old new (text is)) (h.ends_is.0 e).1 h.wrote);
-        opened_once = λ e. h.audits.opened ∙ ap (hashed_among root) (ap places (h.ends_is.0 e).1 ∙ part_places h.trail);
+        all_items = λ e. subst (λ u. Appends old new (text (within part (audit root u)))) none (subst (λ is. Appends old new (text is)) (h.ends_is.0 e).1 h.wrote);
+        opened_once = λ e. h.audits.opened ∙ ap (λ is. hashed_among root (places is)) (h.ends_is.0 e).1 ∙ ap (λ u. hashed_among root (places (within part (audit root u)))) none;
         ends_within = λ b n p q large fits. (
           h.suffice b n p q large (subst (λ u. enough (within part (audit root u)) b n ≤ length limits) (sym none) fits),
           subst (λ u. count ≤ enough (within part (audit root u)) b n) none (h.few b n p q large),
@@ -197,24 +192,3 @@ module _ (root : StorageRoot) (limits : List Limits) (count : ℕ) where
 
 pub few_inventories : (root : StorageRoot) (count : ℕ) (heads : List Place) → length heads < inventories_in root whole + count → length heads < length (inventories root) + count
 few_inventories root count heads h = let n = inventory_count root in omega (arith, h, n)
-
-whole_headline : (root : StorageRoot) (s t : Store) (old new : Option (List ℕ)) (limits : List Limits) (count : ℕ) (ends : Bool)
-    → HeadlineWithin (call_of root s t old new) whole limits count ends → Headline (call_of root s t old new) limits count ends
-whole_headline root s t old new limits count ends h = record {
-  trail = h.trail;
-  opened = h.opened;
-  reports = h.reports;
-  each_run = h.each_run;
-  calls = h.calls;
-  made_of = h.made_of;
-  starts_below = h.starts_below;
-  whole_audit = h.whole_part;
-  opened_once = h.opened_once;
-  ends_within = h.ends_within;
-}
-
-pub headline_of : (root : StorageRoot) (s t : Store) (old new : Option (List ℕ)) (limits : List Limits) (count : ℕ) (end : CycleStatus)
-    → HeadlineOfPart (call_of root s t old new) whole limits count end → HeadlineOf (call_of root s t old new) limits count end
-headline_of root s t old new limits count Ended h = whole_headline root s t old new limits count true h
-headline_of root s t old new limits count Spent h = whole_headline root s t old new limits count false h
-headline_of root s t old new limits count (Stopped why) h = tt

@@ -1,5 +1,5 @@
 -- What the headline of a cycle says where it has ended, and where it has not.
-use Rattle.std.proofs.Common.{◌≡◌, refl, ℕ, ◌+◌, ◌/◌, ◌≤◌, List, [], ◌++◌, length, All}
+use Rattle.std.proofs.Common.{◌≡◌, refl, ◌∙◌, ap, ℕ, ◌+◌, ◌/◌, ◌≤◌, List, [], ◌++◌, length, All}
 use Rattle.std.proofs.lemmas.Bool.{false≢true}
 use Rattle.ocfl_tree.specs.Place.{Text}
 use Rattle.ocfl_tree.specs.StorageRoot.{StorageRoot}
@@ -8,15 +8,17 @@ use Rattle.ocfl_tree.specs.declared.store.Opening.{Opening}
 use Rattle.ocfl_report.specs.Text.{text}
 use Rattle.ocfl_audit.specs.Audit.{audit, total_cost}
 use Rattle.ocfl_audit.specs.Due.{hashed_among, item_places}
+use Rattle.ocfl_audit.specs.Parts.{whole}
 use Rattle.ocfl_audit.specs.Runs.{Limits, IsAtLeast, joined, runs, total_files}
 use Rattle.ocfl_audit.specs.Trail.{content_trail}
 use Rattle.ocfl_scrub.specs.Call.{Call, known_call}
 use Rattle.ocfl_scrub.specs.Cycling.{HeadlineOf}
 use Rattle.ocfl_scrub.specs.declared.cycling.CycleStatus.TheVariants as cycle
+use Rattle.ocfl_scrub.proofs.JoinLaws.{places_are}
 
 module _ (root : StorageRoot) (s t : Store) (limits : List Limits) (count : ℕ) (before behind : Text) where
   pub whole_audit : HeadlineOf (known_call root s t before behind) limits count cycle.Ended → behind ≡ before ++ text (audit root [])
-  whole_audit h = h.whole_audit refl
+  whole_audit h = h.all_items refl
 
   pub part_of_it : HeadlineOf (known_call root s t before behind) limits count cycle.Spent → behind ≡ before ++ text (joined (runs (audit root []) limits))
   part_of_it h = h.reports
@@ -24,7 +26,7 @@ module _ (root : StorageRoot) (s t : Store) (limits : List Limits) (count : ℕ)
 module _ (call : Call) (limits : List Limits) (count : ℕ) where
   pub each_file : HeadlineOf call limits count cycle.Ended
       → (trail : List Opening) × ((call.after.openings ≡ call.before.openings ++ trail) × (content_trail call.root trail ≡ hashed_among call.root (item_places call.root)))
-  each_file h = (h.trail, (h.opened, h.opened_once refl))
+  each_file h = (h.trail, (h.opened, h.opened_once refl ∙ ap (hashed_among call.root) (places_are call.root whole)))
 
   pub few_runs : (b n : ℕ) → HeadlineOf call limits count cycle.Ended → 1 ≤ b → 1 ≤ n → All (IsAtLeast b n) limits
       → total_cost (audit call.root []) / b + total_files (audit call.root []) / n + 1 ≤ length limits

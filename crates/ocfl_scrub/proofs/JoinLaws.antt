@@ -119,7 +119,7 @@ module _ (root : StorageRoot) (part : Part) where
   -- ---- from the first item on
 
   -- those of a part's places
-  places_are : places (within part (audit root [])) ≡ places_within part (item_places root)
+  pub places_are : places (within part (audit root [])) ≡ places_within part (item_places root)
   places_are = ap places (within_by_places root [] part) ∙ same (places_within part (item_places root))
     where
       same : (ps : List Place) → places (map (item_of root []) ps) ≡ ps

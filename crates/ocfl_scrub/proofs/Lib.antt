@@ -34,9 +34,9 @@ pub mod ScopeEnds
 pub mod NoteLaws
 pub mod UncutLaws
 pub mod FileLaws
-pub mod HeadlineLaws
 pub mod OverrunLaws
 pub mod RecordLaws
 pub mod JoinLaws
+pub mod HeadlineLaws
 pub mod CycleRuns
 pub mod CallsJoined

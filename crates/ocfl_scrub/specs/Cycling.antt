@@ -4,8 +4,8 @@ use Rattle.ocfl_tree.specs.declared.store.Opening.{Opening}
 use Rattle.ocfl_report.specs.Line.{Item}
 use Rattle.ocfl_report.specs.Text.{text}
 use Rattle.ocfl_audit.specs.Audit.{audit, total_cost}
-use Rattle.ocfl_audit.specs.Due.{item_places, hashed_among}
-use Rattle.ocfl_audit.specs.Parts.{Part, within, places_within}
+use Rattle.ocfl_audit.specs.Due.{hashed_among}
+use Rattle.ocfl_audit.specs.Parts.{Part, within}
 use Rattle.ocfl_audit.specs.Trail.{content_trail}
 use Rattle.ocfl_audit.specs.Runs.{Limits, total_files, StaysWithin, runs, joined, IsAtLeast}
 use Rattle.ocfl_cursor.specs.Cursor.{ended, new_cursor}
@@ -56,49 +56,33 @@ EachStartsBelow limits [] cuts = cuts ≡ []
 EachStartsBelow (l ∷ limits) (run ∷ calls) (items ∷ cuts) = StartsBelow l run items × EachStartsBelow limits calls cuts
 EachStartsBelow limits (run ∷ calls) cuts = ⊥
 
--- While the root stays unchanged and every call succeeds: the reports of the runs, joined, are the
--- cuts of the audit by their limits. The cycle is runs, one for each cut, that each start a file only
--- while their cost is below their budget and their files are below their limit. Where it has ended
--- the reports are exactly the whole audit, and each hashed file was opened once, in order; and it has
--- ended within as many runs as the cost by the budget and the files by their limit, each rounded
--- down, and one more
-pub record Headline (call : Call) (limits : List Limits) (count : ℕ) (whole : Bool) : Type 0 where
+-- While the root stays unchanged and every call succeeds, of a cycle over these items: the reports of
+-- its runs, joined, are the cuts of the items by their limits. The cycle is runs, one for each cut,
+-- that each start a file only while their cost is below their budget and their files are below their
+-- limit. Where it has ended the reports are exactly all items, and each hashed file of theirs was
+-- opened once, in order; and it has ended within as many runs as the cost by the budget and the files
+-- by their limit, each rounded down, and one more
+pub record Headline (call : Call) (items : List Item) (limits : List Limits) (count : ℕ) (whole : Bool) : Type 0 where
   pub trail : List Opening
   pub opened : call.after.openings ≡ call.before.openings ++ trail
-  pub reports : Writes call (text (joined (runs (audit call.root []) limits)))
-  pub each_run : count ≡ length (runs (audit call.root []) limits)
+  pub reports : Writes call (text (joined (runs items limits)))
+  pub each_run : count ≡ length (runs items limits)
   pub calls : List Call
   pub made_of : IsMadeOf call calls
-  pub starts_below : EachStartsBelow limits calls (runs (audit call.root []) limits)
-  pub whole_audit : whole ≡ true → Writes call (text (audit call.root []))
-  pub opened_once : whole ≡ true → content_trail call.root trail ≡ hashed_among call.root (item_places call.root)
-  pub ends_within : (b n : ℕ) → 1 ≤ b → 1 ≤ n → All (IsAtLeast b n) limits → enough (audit call.root []) b n ≤ length limits → (whole ≡ true) × (count ≤ enough (audit call.root []) b n)
+  pub starts_below : EachStartsBelow limits calls (runs items limits)
+  pub all_items : whole ≡ true → Writes call (text items)
+  pub opened_once : whole ≡ true → content_trail call.root trail ≡ hashed_among call.root (places items)
+  pub ends_within : (b n : ℕ) → 1 ≤ b → 1 ≤ n → All (IsAtLeast b n) limits → enough items b n ≤ length limits → (whole ≡ true) × (count ≤ enough items b n)
 
+abbrev pub HeadlineBy : Call → List Item → List Limits → ℕ → CycleStatus → Type 0
+HeadlineBy call items limits count status.Ended = Headline call items limits count true
+HeadlineBy call items limits count status.Spent = Headline call items limits count false
+HeadlineBy call items limits count (status.Stopped why) = ⊤
+
+-- the headline: the items are the whole audit
 abbrev pub HeadlineOf : Call → List Limits → ℕ → CycleStatus → Type 0
-HeadlineOf call limits count status.Ended = Headline call limits count true
-HeadlineOf call limits count status.Spent = Headline call limits count false
-HeadlineOf call limits count (status.Stopped why) = ⊤
+HeadlineOf call limits count end = HeadlineBy call (audit call.root []) limits count end
 
--- ---- the headline of parts
-
--- The same of one part, while the root stays unchanged and every call succeeds. The reports of its
--- runs, joined, are the cuts of what the audit has there, and each run starts a file only while it is
--- below its limits. If its cycle has ended they are exactly that, and each hashed file of the part was
--- opened once, in order. It has ended within as many runs as its cost by the budget and its files by
--- their limit, each rounded down, and one more
-pub record HeadlineWithin (call : Call) (part : Part) (limits : List Limits) (count : ℕ) (ends : Bool) : Type 0 where
-  pub trail : List Opening
-  pub opened : call.after.openings ≡ call.before.openings ++ trail
-  pub reports : Writes call (text (joined (runs (within part (audit call.root [])) limits)))
-  pub each_run : count ≡ length (runs (within part (audit call.root [])) limits)
-  pub calls : List Call
-  pub made_of : IsMadeOf call calls
-  pub starts_below : EachStartsBelow limits calls (runs (within part (audit call.root [])) limits)
-  pub whole_part : ends ≡ true → Writes call (text (within part (audit call.root [])))
-  pub opened_once : ends ≡ true → content_trail call.root trail ≡ hashed_among call.root (places_within part (item_places call.root))
-  pub ends_within : (b n : ℕ) → 1 ≤ b → 1 ≤ n → All (IsAtLeast b n) limits → enough (within part (audit call.root [])) b n ≤ length limits → (ends ≡ true) × (count ≤ enough (within part (audit call.root [])) b n)
-
+-- the headline of a part: they are what the audit has there
 abbrev pub HeadlineOfPart : Call → Part → List Limits → ℕ → CycleStatus → Type 0
-HeadlineOfPart call part limits count status.Ended = HeadlineWithin call part limits count true
-HeadlineOfPart call part limits count status.Spent = HeadlineWithin call part limits count false
-HeadlineOfPart call part limits count (status.Stopped why) = ⊤
+HeadlineOfPart call part limits count end = HeadlineBy call (within part (audit call.root [])) limits count end

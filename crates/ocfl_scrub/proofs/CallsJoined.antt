@@ -3,18 +3,17 @@ use Rattle.std.proofs.Common.{◌≡◌, ℕ, suc, ◌+◌, ◌≤◌, ◌/◌, 
 use Rattle.std.specs.Prelude.{◌⊎◌, flat_map, option_map}
 use Rattle.std.specs.List.{AllByRecursion}
 use Rattle.std.specs.declared.alloc.Global.{Global}
-use Rattle.ocfl_tree.specs.Place.{Text, Place}
+use Rattle.ocfl_tree.specs.Place.{Text}
 use Rattle.ocfl_tree.specs.StorageRoot.{StorageRoot}
 use Rattle.ocfl_tree.specs.Store.{Store}
 use Rattle.ocfl_report.specs.Text.{text}
 use Rattle.ocfl_audit.specs.Audit.{audit, total_cost}
 use Rattle.ocfl_audit.specs.Due.{item_places, hashed_among}
-use Rattle.ocfl_audit.specs.Parts.{parts_of, within, places_within}
+use Rattle.ocfl_audit.specs.Parts.{within, places_within}
 use Rattle.ocfl_audit.specs.Runs.{total_files, IsAtLeast}
 use Rattle.ocfl_audit.specs.Trail.{content_trail}
 use Rattle.ocfl_audit.proofs.PartLaws.{texts_join, hashed_join}
 use Rattle.ocfl_cursor.specs.Cursor.{Cursor, IsCursor}
-use Rattle.ocfl_cursor.specs.Moves.{after_run}
 use Rattle.ocfl_cursor.specs.Part.{IsPartText, part_text}
 use Rattle.ocfl_cursor.specs.declared.ends.PartEnds.{PartEnds}
 use Rattle.ocfl_cursor.specs.declared.part_reading.PartCursorStop.{PartCursorStop}
@@ -33,7 +32,7 @@ use Rattle.ocfl_scrub.specs.Handing.{PartCall, CalledWell, SaysMade, AreCalls, B
 use Rattle.ocfl_scrub.specs.Joining.{AreRuns, PartRun, RanWell, opened_by, reports_of}
 use Rattle.ocfl_scrub.specs.Noting.{IsPartRefusedNote, IsRunNote, IsStopNote, IsStoredNote}
 use Rattle.ocfl_scrub.specs.Performing.{RunMade, RunUnmade}
-use Rattle.ocfl_scrub.specs.Running.{begun, limits_of, place_in, state_after}
+use Rattle.ocfl_scrub.specs.Running.{limits_of, place_in, state_after}
 use Rattle.ocfl_scrub.specs.Scoping.{BeginsPartWith, IsPartUnreadNote, PerformsIn, WhyNoPartRun}
 use Rattle.ocfl_scrub.specs.declared.note.Note.{Note}
 use Rattle.ocfl_scrub.specs.declared.note.Note.TheVariants as note
@@ -44,7 +43,7 @@ use Rattle.ocfl_scrub.specs.declared.running.RunStatus.TheVariants as run
 use Rattle.ocfl_scrub.proofs.JoinLaws.{part_opened, part_reports, part_runs}
 
 -- how a run ended that left items, or none
-abbrev end_by : Bool → RunStatus
+abbrev pub end_by : Bool → RunStatus
 end_by true = run.Ended
 end_by false = run.Spent
 
@@ -77,7 +76,7 @@ none_made whole e known status n (inr (inr h)) says = unmade_says whole n note.O
 
 -- ---- and of one that was
 
-ran_says : (whole : Bool) (c : Cursor) (spent : ℕ) (finding : Bool) (how : RunStatus) (status : ℕ) (n : Note) → IsRunNote c spent finding how status n → SaysMade whole n → how ≡ end_by whole
+pub ran_says : (whole : Bool) (c : Cursor) (spent : ℕ) (finding : Bool) (how : RunStatus) (status : ℕ) (n : Note) → IsRunNote c spent finding how status n → SaysMade whole n → how ≡ end_by whole
 ran_says whole c spent finding run.Ended status n h says = ap end_by (subst (SaysMade whole) h.1 says)
 ran_says whole c spent finding run.Spent status n h says = ap end_by (subst (SaysMade whole) h.1 says)
 ran_says whole c spent finding (run.Stopped why) status n h says = absurd (stop_says whole why n h.1 says)
@@ -197,7 +196,7 @@ module _ (root : StorageRoot) (e : PartEnds) where
       }
 
   -- it begins with the part's first item
-  fresh : (stored : Option Text) (c : Cursor) → BeginsCycle e stored → BeginsPartWith e (bytes_stored stored) c → place_in c.state ≡ None
+  pub fresh : (stored : Option Text) (c : Cursor) → BeginsCycle e stored → BeginsPartWith e (bytes_stored stored) c → place_in c.state ≡ None
   fresh None c begins h = ap (λ x. place_in x.state) h
   fresh (Some bytes) c begins h = begins c h
 

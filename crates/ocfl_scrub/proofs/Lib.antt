@@ -40,3 +40,4 @@ pub mod JoinLaws
 pub mod HeadlineLaws
 pub mod CycleRuns
 pub mod CallsJoined
+pub mod CallsMade

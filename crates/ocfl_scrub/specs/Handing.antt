@@ -1,10 +1,13 @@
 -- Calls of the program's function that run a part one after the other: each reads the bytes that the
 -- one before handed back. And such calls on all parts of a storage root.
-use Rattle.std.specs.Prelude.{◌≡◌, List, [], ◌∷◌, ◌++◌, Bool, true, false, Option, Some, None, flat_map, map, option_map, ⊤}
+use Rattle.std.specs.Prelude.{◌≡◌, ℕ, List, [], ◌∷◌, ◌++◌, Bool, true, false, Option, Some, None, Vec, IsSome, flat_map, map, option_map, ⊤}
+use mathlib.Core.Logic.{inl, inr}
+use Rattle.std.specs.declared.alloc.Global.{Global}
 use Rattle.ocfl_tree.specs.Place.{Text, Place}
 use Rattle.ocfl_tree.specs.StorageRoot.{StorageRoot}
 use Rattle.ocfl_tree.specs.Store.{Store}
 use Rattle.ocfl_tree.specs.declared.store.Opening.{Opening}
+use Rattle.ocfl_report.specs.Text.{text}
 use Rattle.ocfl_audit.specs.Runs.{Limits}
 use Rattle.ocfl_audit.specs.Trail.{content_trail}
 use Rattle.ocfl_cursor.specs.Cursor.{Cursor}
@@ -13,12 +16,15 @@ use Rattle.ocfl_cursor.specs.declared.ends.PartEnds.{PartEnds}
 use Rattle.ocfl_cursor.specs.declared.limits.Limits.{Limits as MadeLimits}
 use Rattle.ocfl_deed.specs.declared.deed.Deed.TheVariants as deed
 use Rattle.ocfl_scope.specs.declared.scope.Scope.TheVariants as scope
-use Rattle.ocfl_scrub.specs.Call.{known_call}
+use Rattle.ocfl_scope.specs.Numbered.{part_between}
+use Rattle.ocfl_scrub.specs.Call.{Call, known_call}
+use Rattle.ocfl_scrub.specs.Joining.{PartRun, items_out}
 use Rattle.ocfl_scrub.specs.Running.{limits_of, place_in}
-use Rattle.ocfl_scrub.specs.Scoping.{PerformsIn}
+use Rattle.ocfl_scrub.specs.Scoping.{PartRunPerformed, PerformsIn}
 use Rattle.ocfl_scrub.specs.declared.note.Note.{Note}
 use Rattle.ocfl_scrub.specs.declared.note.Note.TheVariants as note
 use Rattle.ocfl_scrub.specs.declared.performing.Performed.{Performed}
+use Rattle.ocfl_scrub.specs.declared.running.RunEnd.{RunEnd}
 
 -- ---- one call
 
@@ -93,3 +99,67 @@ pub record CalledCycle : Type 0 where
 pub record IsCalledCycle (root : StorageRoot) (d : CalledCycle) : Type 0 where
   pub begins : BeginsCycle d.ends d.stored
   pub are : AreCalls root d.ends d.stored d.calls
+
+-- ---- the same where any call may stop, and may meet files that it cannot read
+
+-- a call, and what its run answered
+pub record MadeCall : Type 0 where
+  pub call : PartCall
+  pub ran : RunEnd
+
+-- that run
+abbrev pub run_in : MadeCall → PartRun
+run_in c = record { limits = limits_of c.call.limits; report = c.call.report; opened = c.call.opened; ran = c.ran }
+
+-- the command made a run that answered so, and the report is the lines of the items that went out
+abbrev pub HasRun : (call : Call) (e : PartEnds) (known : Option (Option Text)) (limits : Limits) (status : ℕ) (n : Note) (stored : Option (Vec ℕ Global))
+    → PartRunPerformed call e known limits status n stored → RunEnd → Text → Type 0
+HasRun call e known limits status n stored (inl made) ran report =
+    (made.runs.ran ≡ ran)
+    × (report ≡ text (items_out call (part_between e) (place_in made.from.state) made.runs.runs.last limits made.runs.ran.spent made.runs.ran.files made.runs.ran.found made.runs.ran.end made.runs.runs.run))
+HasRun call e known limits status n stored (inr unmade) ran report = ⊥
+
+-- it was asked for a run of the part with these ends, was given these bytes as the stored cursor and
+-- a store that tells this tree, and handed a cursor back, whatever failed in it. After its report
+-- stands what went out of the next item's lines, where the output failed
+pub record MadeFrom (root : StorageRoot) (e : PartEnds) (stored : Option Text) (c : MadeCall) : Type 0 where
+  pub before : Store
+  pub behind : Store
+  pub old : Text
+  pub cut : Text
+  pub performs : PerformsIn (known_call root before behind old (old ++ (c.call.report ++ cut))) (deed.Run c.call.limits) (scope.Part e) (bytes_stored stored) c.call.said.status c.call.said.note c.call.said.cursor
+  pub has_run : HasRun (known_call root before behind old (old ++ (c.call.report ++ cut))) e (bytes_stored stored) (limits_of c.call.limits) c.call.said.status c.call.said.note c.call.said.cursor performs c.ran c.call.report
+  pub handed : IsSome c.call.said.cursor
+  pub opened_is : behind.openings ≡ before.openings ++ c.call.opened
+
+-- the first was given the bytes that are stored, and each other the bytes that the one before handed
+-- back, and none but the last says that no item is left. A call whose bytes were not stored, or that
+-- handed none back, is not among them: what is stored stays, and the next one takes the same items
+abbrev pub AreMadeCalls : StorageRoot → PartEnds → Option Text → List MadeCall → Type 0
+AreMadeCalls root e stored [] = ⊥
+AreMadeCalls root e stored (c ∷ []) = MadeFrom root e stored c
+AreMadeCalls root e stored (c ∷ d ∷ calls) = MadeFrom root e stored c × ((SaysMade true c.call.said.note → ⊥) × AreMadeCalls root e (handed_by c.call) (d ∷ calls))
+
+-- the last says that no item is left
+abbrev pub SayEnded : List MadeCall → Type 0
+SayEnded [] = ⊥
+SayEnded (c ∷ []) = SaysMade true c.call.said.note
+SayEnded (c ∷ d ∷ calls) = SayEnded (d ∷ calls)
+
+-- what is stored after them, and their runs
+abbrev pub stored_last : Option Text → List MadeCall → Option Text
+stored_last stored calls = stored_after stored (map (λ c. c.call) calls)
+
+abbrev pub runs_made : List MadeCall → List PartRun
+runs_made calls = map run_in calls
+
+-- the calls of one cycle of a part, from its first item to its end
+pub record MadeCycle : Type 0 where
+  pub ends : PartEnds
+  pub stored : Option Text
+  pub calls : List MadeCall
+
+pub record IsMadeCycle (root : StorageRoot) (d : MadeCycle) : Type 0 where
+  pub starts : BeginsCycle d.ends d.stored
+  pub are : AreMadeCalls root d.ends d.stored d.calls
+  pub says : SayEnded d.calls

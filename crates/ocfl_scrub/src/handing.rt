@@ -1,7 +1,7 @@
 //! The laws of calls that hand the cursor of a part from one to the next as bytes, as the program
 //! does from one process to another.
-ghost use Rattle.std.specs.Prelude.{◌≡◌, ◌≤◌, ◌+◌, ◌++◌, ◌/◌, ℕ, List, [], Option, Some, All};
-ghost use Rattle.std.specs.Prelude.{flat_map, length, map};
+ghost use Rattle.std.specs.Prelude.{◌≡◌, ◌≢◌, ◌≤◌, ◌+◌, ◌++◌, ◌/◌, ℕ, List, [], Option, Some, All};
+ghost use Rattle.std.specs.Prelude.{IsSome, flat_map, length, map};
 ghost use Rattle.std.specs.List.{AllByRecursion};
 ghost use Rattle.ocfl_tree.specs.Place.{Text};
 ghost use Rattle.ocfl_tree.specs.StorageRoot.{StorageRoot};
@@ -11,16 +11,22 @@ ghost use Rattle.ocfl_audit.specs.Audit.{audit, total_cost};
 ghost use Rattle.ocfl_audit.specs.Due.{hashed_among, item_places};
 ghost use Rattle.ocfl_audit.specs.Parts.{places_within, within};
 ghost use Rattle.ocfl_audit.specs.Runs.{IsAtLeast, total_files};
+ghost use Rattle.ocfl_cursor.specs.Cursor.{Cursor};
 ghost use Rattle.ocfl_cursor.specs.declared.ends.PartEnds.{PartEnds};
 ghost use Rattle.ocfl_cursor.specs.declared.limits.Limits.{Limits as MadeLimits};
 ghost use Rattle.ocfl_deed.specs.declared.deed.Deed.TheVariants as deeds;
 ghost use Rattle.ocfl_scope.specs.Numbered.{AreAllFrom, part_between};
 ghost use Rattle.ocfl_scope.specs.declared.scope.Scope.TheVariants as scopes;
 ghost use Rattle.ocfl_scrub.specs.Call.{IsUnfailing, WhereTold};
-ghost use Rattle.ocfl_scrub.specs.Handing.{AreCalls, BeginsCycle, CalledCycle, CalledWell};
-ghost use Rattle.ocfl_scrub.specs.Handing.{IsCalledCycle, PartCall, bytes_stored};
-ghost use Rattle.ocfl_scrub.specs.Handing.{content_opened, limits_given, stored_after, written_by};
+ghost use Rattle.ocfl_scrub.specs.Handing.{AreCalls, AreMadeCalls, BeginsCycle, CalledCycle};
+ghost use Rattle.ocfl_scrub.specs.Handing.{CalledWell, IsCalledCycle, IsMadeCycle, MadeCall};
+ghost use Rattle.ocfl_scrub.specs.Handing.{MadeCycle, MadeFrom, PartCall, SayEnded, bytes_stored};
+ghost use Rattle.ocfl_scrub.specs.Handing.{content_opened, limits_given, runs_made};
+ghost use Rattle.ocfl_scrub.specs.Handing.{stored_after, stored_last, written_by};
+ghost use Rattle.ocfl_scrub.specs.Joining.{left_by, reports_of, unread_together, unstopped};
 ghost use Rattle.ocfl_scrub.specs.Performing.{bytes_of};
+ghost use Rattle.ocfl_scrub.specs.Scoping.{BeginsPartWith};
+ghost use Rattle.ocfl_scrub.specs.declared.note.Note.TheVariants as notes;
 
 use crate::part_performing::perform_part;
 use crate::performing::Performed;
@@ -90,4 +96,74 @@ pub fn calls_on_all_parts_join_to_the_audit()
         → AllByRecursion (IsCalledCycle root) cycles
         → flat_map (λ d. content_opened root d.calls) cycles
         ≡ hashed_among root (item_places root) }
+{}
+
+/// A call of `perform_part` for a run of a part that hands a cursor back is one of which the laws
+/// below speak, whatever failed in it. Its report is what it wrote, except for a beginning of the
+/// next item's lines if the output failed.
+pub fn a_call_that_hands_back_has_a_report<T: Tree, R: Read, W: Write>(
+    alloc: Global,
+    store: &mut T,
+    deed: &Deed,
+    scope: &Scope,
+    reader: Option<&mut R>,
+    block: &mut Block,
+    out: &mut W,
+) -> Performed
+    ensures { WhereTold T.told T.state W.contents store.old store.new out.old out.new (λ call.
+        (limits : MadeLimits) (e : PartEnds) (stored : Option Text) (old new : Text)
+        → deed.now ≡ deeds.Run limits → scope.now ≡ scopes.Part e
+        → bytes_of R.remaining reader.entry ≡ bytes_stored stored → call.old ≡ Some old
+        → call.new ≡ Some new → IsSome result.cursor → (c : MadeCall)
+        × ((c.call.limits ≡ limits) × ((c.call.said ≡ result)
+        × ((call.after.openings ≡ call.before.openings ++ c.call.opened)
+        × ((cut : Text) × ((new ≡ old ++ (c.call.report ++ cut))
+        × ((result.note ≢ notes.OutputFailed → cut ≡ [])
+        × MadeFrom call.root e stored c))))))) }
+{
+    perform_part(alloc, store, deed, scope, reader, block, out)
+}
+
+/// The same calls, of which any may stop at a call of the store that fails, and may meet content
+/// that it cannot read. Each that handed a cursor back as bytes is one of them, and the next one
+/// reads these bytes. Their reports, joined, are the audit of the part up to the cursor with which
+/// a further call begins. In it just those files are called unreadable that could not be read by
+/// the call that took them. If the last call says that no item is left, the reports are all of it,
+/// and with the bytes that it handed back the next cycle begins.
+///
+/// Of the calls that did not stop there are at most cost / B + files / N + 1, whether or not the
+/// cycle has ended, if each budget is at least B and each limit on files at least N.
+pub fn calls_that_stop_join()
+    ensures reports { (root : StorageRoot) (e : PartEnds) (stored : Option Text)
+        (calls : List MadeCall) → BeginsCycle e stored → AreMadeCalls root e stored calls
+        → (last : Cursor) → BeginsPartWith e (bytes_stored (stored_last stored calls)) last
+        → reports_of (runs_made calls) ++ text (left_by last.state
+        (within (part_between e) (audit root (unread_together root (runs_made calls)))))
+        ≡ text (within (part_between e) (audit root (unread_together root (runs_made calls)))) }
+    ensures ended { (root : StorageRoot) (e : PartEnds) (stored : Option Text)
+        (calls : List MadeCall) → BeginsCycle e stored → AreMadeCalls root e stored calls
+        → SayEnded calls → reports_of (runs_made calls)
+        ≡ text (within (part_between e) (audit root (unread_together root (runs_made calls)))) }
+    ensures few { (root : StorageRoot) (e : PartEnds) (stored : Option Text)
+        (calls : List MadeCall) → BeginsCycle e stored → AreMadeCalls root e stored calls
+        → (b n : ℕ) → 1 ≤ b → 1 ≤ n
+        → All (IsAtLeast b n) (map (λ r. r.limits) (runs_made calls))
+        → unstopped (runs_made calls) ≤ total_cost
+        (within (part_between e) (audit root (unread_together root (runs_made calls)))) / b
+        + total_files
+        (within (part_between e) (audit root (unread_together root (runs_made calls)))) / n + 1 }
+    ensures next { (root : StorageRoot) (e : PartEnds) (stored : Option Text)
+        (calls : List MadeCall) → AreMadeCalls root e stored calls → SayEnded calls
+        → BeginsCycle e (stored_last stored calls) }
+{}
+
+/// The same of all parts that the text of separators makes, if the cycle of each has ended. The
+/// reports, joined in order, are the audit of the whole root, in which just the files are called
+/// unreadable that could not be read by the call that took them.
+pub fn parts_with_calls_that_stop_join()
+    ensures { (root : StorageRoot) (separators : Text) (cycles : List MadeCycle)
+        → AreAllFrom separators 1 (map (λ d. d.ends) cycles)
+        → AllByRecursion (IsMadeCycle root) cycles
+        → flat_map (λ d. reports_of (runs_made d.calls)) cycles
+        ≡ text (audit root (flat_map (λ d. unread_together root (runs_made d.calls)) cycles)) }
 {}

@@ -1,0 +1,183 @@
+-- How one more place moves the comparison of two reports.
+use Rattle.std.proofs.Common.{◌≡◌, ◌≢◌, ◌⊎◌, inl, inr, ℕ, List, [], ◌∷◌, ◌++◌, Bool, true, false, Option, Some, None, IfSome, length, All, map, refl, sym, ap, subst, ◌∙◌, append_assoc, append-nil}
+use Rattle.std.specs.Prelude.{flat_map}
+use Rattle.std.specs.Io.KnownBytes.{Consumes, Appends, IsAtEnd}
+use Rattle.std.specs.declared.cmp.Ordering.{Ordering}
+use Rattle.std.specs.declared.cmp.Ordering.TheVariants.{Less, Equal, Greater}
+use Rattle.std.proofs.lemmas.List.Concat.{flat_map-append}
+use Rattle.std.proofs.lemmas.List.Elements.{All-append, All-cons, All-nil, All-head, All-tail, All-weaker}
+use Rattle.ocfl_tree.specs.Place.{Text, Place, place_cmp}
+use Rattle.ocfl_tree.specs.Ascending.{IsBeforeAll, IsAscending}
+use Rattle.ocfl_tree.proofs.Orders.{place_cmp_total, not_below_itself}
+use Rattle.ocfl_report.specs.Line.{Line, line_of}
+use Rattle.ocfl_report.specs.Text.{lines_text}
+use Rattle.ocfl_report.specs.declared.line.Line.{Line as MadeLine}
+use Rattle.ocfl_parts.specs.Splits.{HasText, AreLines}
+use Rattle.ocfl_compare.specs.Changes.{answers_text}
+use Rattle.ocfl_compare.specs.Compared.{IsReport, IsAnswered}
+use Rattle.ocfl_compare.specs.CompareStop.{StopsRightly}
+use Rattle.ocfl_compare.specs.Internal.Reading.{listed, IsReading, HasRead, IsNotAbove, IsBelow, IsAt, IsNextPlace, ReadStopsRightly}
+use Rattle.ocfl_compare.specs.Internal.Turns.{AreTaken, Group, IsGroup, group_text, said_text, IsHalf, AreWritten, IsSoFar, before_stop, now_stop}
+use Rattle.ocfl_compare.specs.declared.question.Question.{Question}
+use Rattle.ocfl_compare.specs.declared.reading.ReadStop.{ReadStop}
+use Rattle.ocfl_compare.specs.declared.reading.ReadStop.TheVariants.{Line as BadLine, Failed, Memory}
+use Rattle.ocfl_compare.specs.declared.stop.CompareStop.{CompareStop}
+use Rattle.ocfl_compare.specs.declared.stop.CompareStop.TheVariants as stop
+use Rattle.ocfl_compare.proofs.Groups.{groups_said}
+
+-- ---- places
+
+below_next : (q p : Place) (next : Option MadeLine) → place_cmp q p ≡ Less → IsBelow p next → IsBelow q next
+below_next q p None e h = tt
+below_next q p (Some l) e h = place_cmp_total.trans q p l.place e h
+
+below_at : (q p : Place) (next : Option MadeLine) → IsBelow q next → IsAt p next → place_cmp q p ≡ Less
+below_at q p None h a = absurd a
+below_at q p (Some l) h a = subst (λ x. place_cmp q x ≡ Less) (sym a) h
+
+-- a next line that is beyond its place is another one
+moved : (p : Place) (first next : Option MadeLine) → IsAt p first → IsBelow p next → next ≡ first → ⊥
+moved p first next a h e = by first a (subst (IsBelow p) e h)
+  where
+    by : (o : Option MadeLine) → IsAt p o → IsBelow p o → ⊥
+    by None a h = a
+    by (Some l) a h = not_below_itself place_cmp_total p (subst (λ x. place_cmp p x ≡ Less) (sym a) h)
+
+before_one : (x : Place) (gs : List Group) (g : Group) → IsBeforeAll place_cmp x (map (λ h. h.place) gs) → place_cmp x g.place ≡ Less → IsBeforeAll place_cmp x (map (λ h. h.place) (gs ++ g ∷ []))
+before_one x [] g h e = (e, tt)
+before_one x (f ∷ gs) g h e = (h.0, before_one x gs g h.1 e)
+
+ascend_one : (gs : List Group) (g : Group) → IsAscending place_cmp (map (λ h. h.place) gs) → All (λ h. place_cmp h.place g.place ≡ Less) gs → IsAscending place_cmp (map (λ h. h.place) (gs ++ g ∷ []))
+ascend_one [] g h k = (tt, tt)
+ascend_one (f ∷ gs) g h k =
+    let P : Group → Type 0 = λ x. place_cmp x.place g.place ≡ Less in
+    (before_one f.place gs g h.0 (All-head P f gs k), ascend_one gs g h.1 (All-tail P f gs k))
+
+-- ---- bytes
+
+pub written_more : (a b c : Option Text) (s t : Text) → Appends a b s → Appends b c t → Appends a c (s ++ t)
+written_more None b c s t h k = tt
+written_more (Some x) None c s t h k = absurd h
+written_more (Some x) (Some y) None s t h k = absurd k
+written_more (Some x) (Some y) (Some z) s t h k = k ∙ ap (λ u. u ++ t) h ∙ append_assoc x s t
+
+none_written : (a : Option Text) → Appends a a []
+none_written None = tt
+none_written (Some x) = sym (append-nil x)
+
+none_consumed : (a : Option Text) → Consumes a a []
+none_consumed None = tt
+none_consumed (Some x) = refl
+
+flat_one : {A : Type 0} (f : Group → List A) (gs : List Group) (g : Group) → flat_map f (gs ++ g ∷ []) ≡ flat_map f gs ++ f g
+flat_one f gs g = flat_map-append f gs (g ∷ []) ∙ ap (λ t. flat_map f gs ++ t) (append-nil (f g))
+
+-- ---- one half
+
+half_more : (lines : Group → List Line) (gs : List Group) (g : Group) (all left after : Option Text) (first next : Option MadeLine) (count k : ℕ)
+    → AreTaken g.place all after (flat_map lines gs) (lines g) first next k → IsBelow g.place next → All (λ f. place_cmp f.place g.place ≡ Less) gs
+    → IsHalf lines (gs ++ g ∷ []) all after next k
+half_more lines gs g all left after first next count k t below less = record {
+  reading = subst (λ ls. HasRead all after ls next k) (sym (flat_one lines gs g)) t.reading;
+  below = All-append (λ f. IsBelow f.place next) gs (g ∷ []) (All-weaker (λ f. place_cmp f.place g.place ≡ Less) (λ f. IsBelow f.place next) (λ f e. below_next f.place g.place next e below) gs less)
+      (All-cons (λ f. IsBelow f.place next) g [] below (All-nil (λ f. IsBelow f.place next)));
+}
+
+less_than : (p : Place) (gs : List Group) (next : Option MadeLine) → All (λ f. IsBelow f.place next) gs → IsAt p next → All (λ f. place_cmp f.place p ≡ Less) gs
+less_than p gs next h a = All-weaker (λ f. IsBelow f.place next) (λ f. place_cmp f.place p ≡ Less) (λ f b. below_at f.place p next b a) gs h
+
+-- ---- both
+
+abbrev group_of : Place → List Line → List Line → Group
+group_of p was is = record { place = p; before = was; now = is }
+
+module _ (asked : Question) (left : List Place) (p : Place) (b c d n m o w x y : Option Text) (b_next b_then n_next n_then : Option MadeLine) (b_count b_more n_count n_more : ℕ)
+    (next : IsNextPlace (Some p) b_next n_next) (h : IsSoFar asked left b c b_next b_count n m n_next n_count w x) where
+  pub place_more : (was is : List Line) → AreTaken p b d (flat_map (λ g. g.before) h.groups) was b_next b_then b_more → AreTaken p n o (flat_map (λ g. g.now) h.groups) is n_next n_then n_more
+      → IsBelow p b_then → IsBelow p n_then → Appends x y (said_text asked left p was is)
+      → IsSoFar asked left b d b_then b_more n o n_then n_more w y
+  place_more was is b_taken n_taken b_below n_below said = record {
+    groups = h.groups ++ group_of p was is ∷ [];
+    before = half_more (λ g. g.before) h.groups (group_of p was is) b c d b_next b_then b_count b_more b_taken b_below less;
+    now = half_more (λ g. g.now) h.groups (group_of p was is) n m o n_next n_then n_count n_more n_taken n_below less;
+    written = record {
+      are = All-append IsGroup h.groups (group_of p was is ∷ []) h.written.are (All-cons IsGroup (group_of p was is) [] (record { before = b_taken.here; now = n_taken.here; some = some next.0 b_taken.some n_taken.some }) (All-nil IsGroup));
+      ascend = ascend_one h.groups (group_of p was is) h.written.ascend less;
+      written = subst (Appends w y) (sym (flat_one (group_text asked left) h.groups (group_of p was is))) (written_more w x y (flat_map (group_text asked left) h.groups) (group_text asked left (group_of p was is)) h.written.written said);
+    };
+  }
+    where
+      less_by : IsAt p b_next ⊎ IsAt p n_next → All (λ f. place_cmp f.place p ≡ Less) h.groups
+      less_by (inl a) = less_than p h.groups b_next h.before.below a
+      less_by (inr a) = less_than p h.groups n_next h.now.below a
+
+      less : All (λ f. place_cmp f.place p ≡ Less) h.groups
+      less = less_by next.0
+
+      some : IsAt p b_next ⊎ IsAt p n_next → (was ≢ []) ⊎ (b_then ≡ b_next) → (is ≢ []) ⊎ (n_then ≡ n_next) → (was ≢ []) ⊎ (is ≢ [])
+      some (inl a) (inl s) t = inl s
+      some (inl a) (inr e) t = absurd (moved p b_next b_then a b_below e)
+      some (inr a) s (inl t) = inr t
+      some (inr a) s (inr e) = absurd (moved p n_next n_then a n_below e)
+
+-- ---- the beginning and the end
+
+pub nothing_read : (all : Option Text) (next : Option MadeLine) (count : ℕ) → next ≡ None → count ≡ 0 → IsReading all all [] next count
+nothing_read all next count e f =
+    subst (λ o. IsReading all all [] o count) (sym e)
+    (record { lines = record { texts = All-nil HasText; order = tt }; read = none_consumed all; counted = f })
+
+pub begun : (asked : Question) (left : List Place) (b c n m w : Option Text) (b_next n_next : Option MadeLine) (b_count n_count : ℕ) → HasRead b c [] b_next b_count → HasRead n m [] n_next n_count
+    → IsSoFar asked left b c b_next b_count n m n_next n_count w w
+begun asked left b c n m w b_next n_next b_count n_count h k = record {
+  groups = [];
+  before = record { reading = h; below = All-nil (λ g. IsBelow g.place b_next) };
+  now = record { reading = k; below = All-nil (λ g. IsBelow g.place n_next) };
+  written = record { are = All-nil IsGroup; ascend = tt; written = none_written w };
+}
+
+whole : (all left : Option Text) (ls : List Line) (count : ℕ) → IsReading all left ls None count → IfSome all (λ b. IsAtEnd left) → IfSome all (λ b. IsReport b ls)
+whole None left ls count h end = tt
+whole (Some b) None ls count h end = absurd h.read
+whole (Some b) (Some rest) ls count h end = record {
+  are = subst AreLines (append-nil ls) h.lines;
+  is = h.read ∙ (λ i. lines_text (append-nil ls i) ++ end i) ∙ append-nil (lines_text ls);
+}
+
+pub compared : (asked : Question) (left : List Place) (b c n m w x : Option Text) (b_next n_next : Option MadeLine) (b_count n_count : ℕ) → IsNextPlace None b_next n_next
+    → IsSoFar asked left b c b_next b_count n m n_next n_count w x → IfSome b (λ s. IfSome n (λ t. IsAnswered asked left s t w x))
+compared asked left b c n m w x b_next n_next b_count n_count next h =
+    let was = flat_map (λ g. g.before) h.groups in
+    let is = flat_map (λ g. g.now) h.groups in
+    let b_read : IsReading b c was None b_count = subst (λ o. IsReading b c was o b_count) next.0 h.before.reading.reading in
+    let n_read : IsReading n m is None n_count = subst (λ o. IsReading n m is o n_count) next.1 h.now.reading.reading in
+    both b n (whole b c was b_count b_read (h.before.reading.end next.0)) (whole n m is n_count n_read (h.now.reading.end next.1))
+    (subst (Appends w x) (groups_said h.groups h.written.are h.written.ascend asked left) h.written.written)
+  where
+    both : (k l : Option Text) → IfSome k (λ s. IsReport s (flat_map (λ g. g.before) h.groups)) → IfSome l (λ t. IsReport t (flat_map (λ g. g.now) h.groups))
+        → Appends w x (answers_text asked left (flat_map (λ g. g.before) h.groups) (flat_map (λ g. g.now) h.groups)) → IfSome k (λ s. IfSome l (λ t. IsAnswered asked left s t w x))
+    both None l r s a = tt
+    both (Some k) None r s a = tt
+    both (Some k) (Some l) r s a = record { before = flat_map (λ g. g.before) h.groups; now = flat_map (λ g. g.now) h.groups; is_before = r; is_now = s; written = a }
+
+-- ---- stops
+
+pub before_stops : (b n : Option Text) (s : ReadStop) → IfSome b (λ k. ReadStopsRightly k s) → IfSome b (λ k. IfSome n (λ l. StopsRightly k l (before_stop s)))
+before_stops None n s h = tt
+before_stops (Some k) None s h = tt
+before_stops (Some k) (Some l) (BadLine i) h = h
+before_stops (Some k) (Some l) Failed h = tt
+before_stops (Some k) (Some l) Memory h = tt
+
+pub now_stops : (b n : Option Text) (s : ReadStop) → IfSome n (λ k. ReadStopsRightly k s) → IfSome b (λ k. IfSome n (λ l. StopsRightly k l (now_stop s)))
+now_stops None n s h = tt
+now_stops (Some k) None s h = tt
+now_stops (Some k) (Some l) (BadLine i) h = h
+now_stops (Some k) (Some l) Failed h = tt
+now_stops (Some k) (Some l) Memory h = tt
+
+pub other_stops : (b n : Option Text) (s : CompareStop) → (s ≡ stop.Output) ⊎ (s ≡ stop.Memory) → IfSome b (λ k. IfSome n (λ l. StopsRightly k l s))
+other_stops None n s h = tt
+other_stops (Some k) None s h = tt
+other_stops (Some k) (Some l) s (inl e) = subst (StopsRightly k l) (sym e) tt
+other_stops (Some k) (Some l) s (inr e) = subst (StopsRightly k l) (sym e) tt

@@ -1,0 +1,9 @@
+use Rattle.std.proofs.Common.{◌∙◌, ◌||◌, false, ap, refl}
+use Rattle.ocfl_report.specs.Line.{line_of}
+use Rattle.ocfl_compare.proofs.Tellings.{told_more}
+use Rattle.ocfl_compare.proofs.told.tell.Goals as goal
+
+pub returns : goal.returns
+returns c = λ own h.
+    told_more c.args.told (record { absent = false; object = c.either.result; file = c.either-2.result; findings = c.add_code.new.findings }) own (line_of c.args.line.now) h refl
+    (c.either.ensures ∙ ap (λ b. c.args.told.object || b) c.is_of_object.ensures) (c.either-2.ensures ∙ ap (λ b. c.args.told.file || b) c.is_of_file.ensures) c.in_ok-add_code.ensures

@@ -1,0 +1,28 @@
+-- What comparing two reports does.
+use Rattle.std.specs.Prelude.{◌≡◌, List, Option}
+use Rattle.std.specs.Io.KnownBytes.{Appends}
+use Rattle.ocfl_tree.specs.Place.{Text, Place}
+use Rattle.ocfl_report.specs.Line.{Line}
+use Rattle.ocfl_report.specs.Text.{lines_text}
+use Rattle.ocfl_parts.specs.Splits.{AreLines}
+use Rattle.ocfl_compare.specs.declared.question.Question.{Question}
+use Rattle.ocfl_compare.specs.declared.question.Question.TheVariants.{Changed}
+use Rattle.ocfl_compare.specs.Changes.{answers_text}
+
+-- the bytes are those of a report with these lines
+pub record IsReport (b : Text) (ls : List Line) : Type 0 where
+  pub are : AreLines ls
+  pub is : b ≡ lines_text ls
+
+-- the bytes before and these are those of two reports, and what was asked of them was appended to
+-- what a writer has
+pub record IsAnswered (asked : Question) (left : List Place) (b n : Text) (old new : Option Text) : Type 0 where
+  pub before : List Line
+  pub now : List Line
+  pub is_before : IsReport b before
+  pub is_now : IsReport n now
+  pub written : Appends old new (answers_text asked left before now)
+
+-- what changed was appended
+abbrev pub IsCompared : List Place → Text → Text → Option Text → Option Text → Type 0
+IsCompared = IsAnswered Changed

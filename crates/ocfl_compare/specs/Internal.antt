@@ -1,0 +1,4 @@
+pub mod Reading
+pub mod Telling
+pub mod Turns
+pub mod Listing

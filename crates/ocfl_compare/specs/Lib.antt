@@ -1,0 +1,8 @@
+pub mod Kinds
+pub mod Changes
+pub mod Compared
+pub mod CompareStop
+pub mod Joined
+pub mod Expected
+-- What private functions and fields say: a reader of the public contracts needs none of it.
+pub mod Internal

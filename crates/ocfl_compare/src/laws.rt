@@ -1,0 +1,31 @@
+//! The laws of what changed between two reports.
+ghost use Rattle.std.specs.Prelude.{◌≡◌, ◌↔◌, List, [], true, false, map};
+ghost use Rattle.std.specs.List.{list_any};
+ghost use Rattle.ocfl_tree.specs.Ascending.{IsAmong};
+ghost use Rattle.ocfl_tree.specs.Place.{Place};
+ghost use Rattle.ocfl_report.specs.Line.{Line};
+ghost use Rattle.ocfl_compare.specs.Changes.{changes_at, comparison_text, file_gone, finding_codes};
+ghost use Rattle.ocfl_compare.specs.Changes.{found, lines_at, object_gone};
+ghost use Rattle.ocfl_compare.specs.Kinds.{tells_file, tells_object};
+
+/// Between a report and itself nothing changed.
+#[tactic(auto, using(crate::proofs::ChangeLaws::nothing_changed))]
+pub fn a_report_is_as_itself()
+    ensures { (left : List Place) (lines : List Line) → comparison_text left lines lines ≡ [] }
+{}
+
+/// An object is gone from a place exactly where the report before has a line of it there, and this
+/// one has no line there. So is a content file.
+#[tactic(auto, using(crate::proofs::ChangeLaws::object_gone_is, crate::proofs::ChangeLaws::file_gone_is))]
+pub fn what_is_gone_is_the_difference()
+    ensures objects { (before now : List Line) → IsAmong (changes_at before now) object_gone
+        ↔ (now ≡ []) × (list_any tells_object before ≡ true) }
+    ensures files { (before now : List Line) → IsAmong (changes_at before now) file_gone
+        ↔ (now ≡ []) × (list_any tells_file before ≡ true) }
+{}
+
+/// Where the report before has no line, the findings of this one are new, and nothing else changed.
+#[tactic(auto, using(crate::proofs::ChangeLaws::from_nothing))]
+pub fn nothing_is_gone_from_nothing()
+    ensures { (now : List Line) → changes_at [] now ≡ map found (finding_codes now) }
+{}

@@ -1,0 +1,217 @@
+//! Reading a report line by line.
+ghost use Rattle.std.specs.Prelude.{◌≡◌, ◌≢◌, ◌⊎◌, ◌+◌, List, ℕ, [], ◌++◌, Option, None};
+ghost use Rattle.std.specs.Prelude.{true, false, IfOk, IfErr, IfSome, OnOk, option_map};
+ghost use Rattle.std.specs.Io.BufRead.{take_through};
+ghost use Rattle.std.specs.Io.KnownBytes.{Consumes, IsAtEnd};
+ghost use Rattle.ocfl_tree.specs.Place.{place_cmp};
+ghost use Rattle.std.specs.declared.cmp.Ordering.TheVariants.{Greater};
+ghost use Rattle.ocfl_report.specs.Line.{Line as ModelLine};
+ghost use Rattle.ocfl_compare.specs.Internal.Reading.{GoesOn, HasRead, IsBelow, IsNotAbove};
+ghost use Rattle.ocfl_compare.specs.Internal.Reading.{IsReading};
+ghost use Rattle.ocfl_compare.specs.Internal.Reading.{IsNextLine, IsNextPlace, IsOpen};
+ghost use Rattle.ocfl_compare.specs.Internal.Reading.{IsUnfit, ReadStopsRightly};
+ghost use Rattle.ocfl_compare.specs.Internal.Reading.{is_after, listed};
+ghost use Rattle.ocfl_compare.specs.Internal.Telling.{IsTold, Tells};
+ghost use Rattle.ocfl_compare.specs.Internal.Turns.{AreTaken};
+
+use crate::told::{Told, nothing, tell};
+use ocfl_report::{Line, LineStop, read_line};
+use ocfl_tree::Place;
+use std::alloc::{AllocError, Global};
+use std::cmp::Ordering;
+use std::io::{BufRead, ErrorKind};
+
+/// How far a report is read.
+#[derive(Drop)]
+pub(crate) struct Reading {
+    /// The line that was read last and is not taken yet. None before the first, and at the end.
+    pub(crate) next: Option<Line>,
+    /// How many lines were read.
+    pub(crate) count: u64,
+}
+
+/// Why a report was not read on.
+#[derive(Clone, Copy, Debug, PartialEq, Eq)]
+pub(crate) enum ReadStop {
+    /// The first line, from 1, that is no report line, or whose place is less than the one before.
+    Line(u64),
+    /// The reader failed.
+    Failed,
+    /// Memory was refused.
+    Memory,
+}
+
+/// Takes the line that was read last, and reads the next one.
+pub(crate) fn read_next<R: BufRead>(
+    alloc: Global,
+    report: &mut R,
+    text: &mut Vec<u8>,
+    reading: Reading,
+) -> Result<Reading, ReadStop>
+    ensures ok { IfOk result (λ after. (all : Option (List ℕ)) (done : List ModelLine)
+        → IsOpen done reading.next
+        → IsReading all (R.remaining report.old) done reading.next reading.count
+        → HasRead all (R.remaining report.new) (done ++ listed reading.next)
+        after.next after.count) }
+    ensures order { IfOk result (λ after. GoesOn reading.next after.next) }
+    ensures refused { IfErr result (λ stop. (all : Option (List ℕ)) (done : List ModelLine)
+        → IsOpen done reading.next
+        → IsReading all (R.remaining report.old) done reading.next reading.count
+        → IfSome all (λ bytes. ReadStopsRightly bytes stop)) }
+{
+    if !read_text(report, text)? {
+        return Ok(Reading {
+            next: None,
+            count: reading.count,
+        });
+    }
+    take_text(alloc, text.as_slice(), reading)
+}
+
+/// Reads the next line with its line feed, or whatever is left. Gives false at the end.
+fn read_text<R: BufRead>(report: &mut R, text: &mut Vec<u8>) -> Result<bool, ReadStop>
+    ensures line { OnOk result
+        (IfSome (R.remaining report.old) (λ bytes. text.new.items ≡ take_through 10 bytes)) }
+    ensures rest { OnOk result
+        (Consumes (R.remaining report.old) (R.remaining report.new) text.new.items) }
+    ensures more { IfOk result (λ more. more ≡ true → text.new.items ≢ []) }
+    ensures none { IfOk result (λ more. more ≡ false → text.new.items ≡ []) }
+    ensures end { IfOk result (λ more. more ≡ false → IsAtEnd (R.remaining report.old)) }
+    ensures stop { IfErr result (λ stop. (stop ≡ ReadStop.Failed) ⊎ (stop ≡ ReadStop.Memory)) }
+{
+    text.clear();
+    match report.read_until(b'\n', text) {
+        Ok(count) => Ok(count > 0),
+        Err(error) if error.kind() == ErrorKind::OutOfMemory => Err(ReadStop::Memory),
+        Err(_) => Err(ReadStop::Failed),
+    }
+}
+
+/// The line whose text this is, after the one that was read last.
+fn take_text(alloc: Global, text: &[u8], reading: Reading) -> Result<Reading, ReadStop>
+    ensures ok { IfOk result (λ after. IsNextLine text.now after.next
+        × (GoesOn reading.next after.next × (after.count ≡ reading.count + 1))) }
+    ensures bad { IfErr result (λ stop. (n : ℕ) → stop ≡ ReadStop.Line n
+        → (n ≡ reading.count + 1) × IsUnfit text.now reading.next) }
+{
+    let Some(count) = reading.count.checked_add(1) else {
+        return Err(ReadStop::Failed);
+    };
+    let line = match read_line(alloc, text) {
+        Ok(line) => line,
+        Err(LineStop::Bad) => return Err(ReadStop::Line(count)),
+        Err(LineStop::Memory) => return Err(ReadStop::Memory),
+    };
+    if is_above(&reading.next, &line.place) {
+        return Err(ReadStop::Line(count));
+    }
+    Ok(Reading {
+        next: Some(line),
+        count,
+    })
+}
+
+/// Whether the line that was read last has a greater place.
+fn is_above(last: &Option<Line>, place: &Place) -> bool
+    ensures { result ≡ is_after last.now place.now }
+{
+    match last {
+        Some(line) => line.place.cmp(place).is_gt(),
+        None => false,
+    }
+}
+
+/// What was taken of a report, and how far it is read then.
+#[derive(Drop)]
+pub(crate) struct Taken {
+    pub(crate) told: Told,
+    pub(crate) reading: Reading,
+}
+
+/// Takes all next lines that have the place.
+pub(crate) fn take_place<R: BufRead>(
+    alloc: Global,
+    place: &Place,
+    report: &mut R,
+    text: &mut Vec<u8>,
+    first: Reading,
+) -> Result<Taken, ReadStop>
+    requires least { IsNotAbove place.now first.next }
+    ensures taken { IfOk result (λ taken. (all : Option (List ℕ)) (done : List ModelLine)
+        → HasRead all (R.remaining report.old) done first.next first.count
+        → (own : List ModelLine) × IsTold taken.told own
+        × AreTaken place.now all (R.remaining report.new) done own first.next
+        taken.reading.next taken.reading.count) }
+    ensures below { IfOk result (λ taken. IsBelow place.now taken.reading.next) }
+    ensures refused { IfErr result (λ stop. (all : Option (List ℕ)) (done : List ModelLine)
+        → HasRead all (R.remaining report.old) done first.next first.count
+        → IfSome all (λ bytes. ReadStopsRightly bytes stop)) }
+{
+    let mut told = nothing(alloc);
+    let mut reading = first;
+    for _ in 0..u64::MAX {
+        match take_line(place, told, &reading.next) {
+            Ok(Telling::More(more)) => told = more,
+            Ok(Telling::Whole(told)) => return Ok(Taken { told, reading }),
+            Err(AllocError) => return Err(ReadStop::Memory),
+        }
+        reading = read_next(alloc, report, text, reading)?;
+    }
+    Err(ReadStop::Failed)
+}
+
+/// What the lines of a place say so far: with one more, or all of them.
+#[derive(Drop)]
+pub(crate) enum Telling {
+    More(Told),
+    Whole(Told),
+}
+
+/// Takes the next line, if it has the place.
+fn take_line(place: &Place, told: Told, next: &Option<Line>) -> Result<Telling, AllocError>
+    ensures { IfOk result (Tells place.now told next.now) }
+{
+    let Some(line) = next else {
+        return Ok(Telling::Whole(told));
+    };
+    match place.cmp(&line.place) {
+        Ordering::Equal => Ok(Telling::More(tell(told, line)?)),
+        _ => Ok(Telling::Whole(told)),
+    }
+}
+
+/// The least place of two next lines. None at the end of both reports.
+pub(crate) fn next_place(
+    before: &Option<Line>,
+    now: &Option<Line>,
+) -> Result<Option<Place>, AllocError>
+    ensures { IfOk result (λ place. IsNextPlace place before.now now.now) }
+{
+    match lesser(before, now) {
+        Some(place) => Ok(Some(place.try_clone()?)),
+        None => Ok(None),
+    }
+}
+
+fn lesser<'a>(before: &'a Option<Line>, now: &'a Option<Line>) -> Option<&'a Place>
+    ensures { IsNextPlace (option_map (λ p. p.now) result) before.now now.now }
+{
+    match (before, now) {
+        (None, None) => None,
+        (Some(line), None) => Some(&line.place),
+        (None, Some(line)) => Some(&line.place),
+        (Some(line), Some(other)) => Some(lesser_place(&line.place, &other.place)),
+    }
+}
+
+fn lesser_place<'a>(place: &'a Place, other: &'a Place) -> &'a Place
+    ensures which { (result.now ≡ place.now) ⊎ (result.now ≡ other.now) }
+    ensures first { place_cmp result.now place.now ≢ Greater }
+    ensures second { place_cmp result.now other.now ≢ Greater }
+{
+    if other.cmp(place).is_lt() {
+        other
+    } else {
+        place
+    }
+}

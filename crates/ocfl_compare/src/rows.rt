@@ -1,0 +1,171 @@
+//! The text of what changed at a place.
+ghost use Rattle.std.specs.Prelude.{◌≡◌, ◌&&◌, [], ◌++◌, List, OnOk, flat_map, if◌then◌else◌};
+ghost use Rattle.std.specs.List.{list_any};
+ghost use Rattle.ocfl_tree.specs.Place.{Place as ModelPlace};
+ghost use Rattle.ocfl_report.specs.Line.{Line as ModelLine};
+ghost use Rattle.ocfl_compare.specs.Changes.{changes_text, file_gone, is_left as is_left_out};
+ghost use Rattle.ocfl_compare.specs.Changes.{object_gone, repaired, row_text, when};
+ghost use Rattle.ocfl_compare.specs.Internal.Telling.{IsTold, new_text, told_answer};
+ghost use Rattle.ocfl_compare.specs.Internal.Telling.{told_changes, told_missing, told_repaired};
+ghost use Rattle.ocfl_compare.specs.Internal.Turns.{said_text};
+
+use crate::question::Question;
+use crate::told::{Told, has_code};
+use ocfl_report::{Code, put_place};
+use ocfl_tree::Place;
+use std::alloc::AllocError;
+
+/// Appends the answer of a place, if it was not left out.
+pub(crate) fn put_said(
+    asked: Question,
+    left: &[Place],
+    place: &Place,
+    before: &Told,
+    now: &Told,
+    rows: &mut Vec<u8>,
+) -> Result<(), AllocError>
+    ensures { OnOk result ((was : List ModelLine) (is : List ModelLine)
+        → IsTold before.now was → IsTold now.now is
+        → rows.new.items ≡ rows.old.items ++ said_text asked left.now place.now was is) }
+{
+    if is_left(left, place) {
+        return Ok(());
+    }
+    put_answer(asked, place, before, now, rows)
+}
+
+/// Whether the place was left out, or lies below one that was.
+fn is_left(left: &[Place], place: &Place) -> bool
+    ensures { result ≡ is_left_out left.now place.now }
+{
+    left.iter().any(|branch| place.starts_with(branch))
+}
+
+/// Appends the answer of a place.
+fn put_answer(
+    asked: Question,
+    place: &Place,
+    before: &Told,
+    now: &Told,
+    rows: &mut Vec<u8>,
+) -> Result<(), AllocError>
+    ensures { OnOk result (rows.new.items
+        ≡ rows.old.items ++ changes_text place.now (told_answer asked before.now now.now)) }
+{
+    match asked {
+        Question::Changed => put_changes(place, before, now, rows),
+        Question::Expected => put_missing(place, before, now, rows),
+    }
+}
+
+/// Appends a row for an object that has no line now.
+fn put_missing(
+    place: &Place,
+    listed: &Told,
+    now: &Told,
+    rows: &mut Vec<u8>,
+) -> Result<(), AllocError>
+    ensures { OnOk result (rows.new.items
+        ≡ rows.old.items ++ changes_text place.now (told_missing listed.now now.now)) }
+{
+    put_row_if(!now.object && listed.object, "expected", place, rows)
+}
+
+/// Appends a row for each change.
+fn put_changes(
+    place: &Place,
+    before: &Told,
+    now: &Told,
+    rows: &mut Vec<u8>,
+) -> Result<(), AllocError>
+    ensures { OnOk result (rows.new.items
+        ≡ rows.old.items ++ changes_text place.now (told_changes before.now now.now)) }
+{
+    put_gone_object(place, before, now, rows)?;
+    put_gone_file(place, before, now, rows)?;
+    put_new(
+        place,
+        before.findings.as_slice(),
+        now.findings.as_slice(),
+        rows,
+    )?;
+    put_repaired(place, before, now, rows)?;
+    Ok(())
+}
+
+/// Appends a row for an object that is gone.
+fn put_gone_object(
+    place: &Place,
+    before: &Told,
+    now: &Told,
+    rows: &mut Vec<u8>,
+) -> Result<(), AllocError>
+    ensures { OnOk result (rows.new.items ≡ rows.old.items
+        ++ changes_text place.now (when (now.now.absent && before.now.object) object_gone)) }
+{
+    put_row_if(now.absent && before.object, "object", place, rows)
+}
+
+/// Appends a row for a content file that is gone.
+fn put_gone_file(
+    place: &Place,
+    before: &Told,
+    now: &Told,
+    rows: &mut Vec<u8>,
+) -> Result<(), AllocError>
+    ensures { OnOk result (rows.new.items ≡ rows.old.items
+        ++ changes_text place.now (when (now.now.absent && before.now.file) file_gone)) }
+{
+    put_row_if(now.absent && before.file, "file", place, rows)
+}
+
+/// Appends a row for a place that is repaired.
+fn put_repaired(
+    place: &Place,
+    before: &Told,
+    now: &Told,
+    rows: &mut Vec<u8>,
+) -> Result<(), AllocError>
+    ensures { OnOk result (rows.new.items ≡ rows.old.items
+        ++ changes_text place.now (when (told_repaired before.now now.now) repaired)) }
+{
+    put_row_if(is_repaired(before, now), "repaired", place, rows)
+}
+
+/// Whether there was a finding, and now there are lines and none of them is one.
+fn is_repaired(before: &Told, now: &Told) -> bool
+    ensures { result ≡ told_repaired before.now now.now }
+{
+    !now.absent && now.findings.is_empty() && !before.findings.is_empty()
+}
+
+/// Appends a row for each code that was not there before.
+fn put_new(
+    place: &Place,
+    before: &[Code],
+    now: &[Code],
+    rows: &mut Vec<u8>,
+) -> Result<(), AllocError>
+    ensures { OnOk result (rows.new.items
+        ≡ rows.old.items ++ flat_map (new_text place.now before.now) now.now) }
+{
+    for code in now {
+        put_row_if(!has_code(before, *code), code.text(), place, rows)?;
+    }
+    Ok(())
+}
+
+/// Appends a row, or nothing.
+fn put_row_if(is: bool, word: &str, place: &Place, rows: &mut Vec<u8>) -> Result<(), AllocError>
+    ensures { OnOk result (rows.new.items
+        ≡ rows.old.items ++ (if is then row_text word.now place.now else [])) }
+{
+    if !is {
+        return Ok(());
+    }
+    rows.extend_from_slice(word.as_bytes())?;
+    rows.push(b'\t')?;
+    put_place(place, rows)?;
+    rows.push(b'\n')?;
+    Ok(())
+}

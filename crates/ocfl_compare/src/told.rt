@@ -1,0 +1,79 @@
+//! What the lines of one place say together.
+ghost use Rattle.std.specs.Prelude.{◌≡◌, ◌||◌, List, [], ◌∷◌, ◌++◌, IfOk, OnOk};
+ghost use Rattle.ocfl_report.specs.Line.{Line as ModelLine, line_of};
+ghost use Rattle.ocfl_compare.specs.Changes.{has_code as has_that_code, with_code};
+ghost use Rattle.ocfl_compare.specs.Internal.Telling.{IsTold};
+
+use crate::kinds::{is_of_file, is_of_object};
+use ocfl_report::{Code, Line};
+use ocfl_tree::is_text;
+use std::alloc::{AllocError, Global};
+
+/// What the lines of one place say together.
+#[derive(Drop)]
+pub(crate) struct Told {
+    /// There is no line.
+    pub(crate) absent: bool,
+    /// There is a line of an object.
+    pub(crate) object: bool,
+    /// There is a line of a content file.
+    pub(crate) file: bool,
+    /// The codes of findings, each once.
+    pub(crate) findings: Vec<Code>,
+}
+
+/// What no line says.
+pub(crate) fn nothing(alloc: Global) -> Told
+    ensures { IsTold result [] }
+{
+    Told {
+        absent: true,
+        object: false,
+        file: false,
+        findings: Vec::new(alloc),
+    }
+}
+
+/// What the lines say with one more.
+pub(crate) fn tell(told: Told, line: &Line) -> Result<Told, AllocError>
+    ensures { IfOk result (λ after. (own : List ModelLine) → IsTold told own
+        → IsTold after (own ++ line_of line.now ∷ [])) }
+{
+    let Told {
+        absent: _,
+        object,
+        file,
+        mut findings,
+    } = told;
+    add_code(line, &mut findings)?;
+    Ok(Told {
+        absent: false,
+        object: either(object, is_of_object(line)),
+        file: either(file, is_of_file(line)),
+        findings,
+    })
+}
+
+fn either(one: bool, other: bool) -> bool
+    ensures { result ≡ one || other }
+{
+    if one { true } else { other }
+}
+
+/// Appends the code of a finding that is not among them.
+fn add_code(line: &Line, findings: &mut Vec<Code>) -> Result<(), AllocError>
+    ensures { OnOk result (findings.new.items ≡ with_code findings.old.items line.now.code) }
+{
+    if !line.is_finding() || has_code(findings.as_slice(), line.code) {
+        return Ok(());
+    }
+    findings.push(line.code)?;
+    Ok(())
+}
+
+/// Whether the code is among them.
+pub(crate) fn has_code(codes: &[Code], code: Code) -> bool
+    ensures { result ≡ has_that_code codes.now code }
+{
+    codes.iter().any(|other| is_text(code.text(), other.text()))
+}

@@ -1,0 +1,288 @@
+//! What reports say of one another, and the reports of all parts.
+use crate::tests::common::input::{Slow, Then, failures};
+use crate::tests::common::output::Narrow;
+use crate::tests::common::store::place_of;
+use ocfl_compare::{CompareStop, compare};
+use ocfl_tree::Place;
+use std::alloc::Global;
+use std::io::BufReader;
+use std::test::Fail;
+
+mod joining;
+
+/// A root with two objects, of which one has a file that is missing.
+const BEFORE: &str = "ok\t.\t-\nok\to\t-\nok\to/v1/content/a\t3\n\
+E092\to/v1/content/b\tsha256 missing\nok\tp\t-\nok\tp/v1/content/c\t0\n";
+
+/// The same root without the second object; the missing file is back, and the other is damaged.
+const NOW: &str = "ok\t.\t-\nok\to\t-\nE092\to/v1/content/a\tsha512 aa bb\n\
+ok\to/v1/content/b\t4\n";
+
+/// What changed between two reports, but for places that were left out.
+fn changes(alloc: Global, before: &str, now: &str, left: &[Place]) -> Result<String, Fail> {
+    let mut first = before.as_bytes();
+    let mut second = now.as_bytes();
+    let mut out = Vec::new(alloc);
+    compare(alloc, &mut first, &mut second, left, &mut out)?;
+    Ok(String::from_utf8(out)?)
+}
+
+fn stop_of(alloc: Global, before: &str, now: &str) -> Option<CompareStop> {
+    let mut first = before.as_bytes();
+    let mut second = now.as_bytes();
+    let mut out = Vec::new(alloc);
+    compare(alloc, &mut first, &mut second, &[], &mut out).err()
+}
+
+#[test]
+fn changes_stand_in_the_order_of_places(rt: HostRuntime) -> Result<(), Fail> {
+    let alloc = rt.alloc();
+    let text = changes(alloc, BEFORE, NOW, &[])?;
+    let wanted = "E092\to/v1/content/a\nrepaired\to/v1/content/b\nobject\tp\n\
+file\tp/v1/content/c\n";
+    assert_eq!(rt; text.as_str(), wanted);
+    let text = changes(alloc, NOW, BEFORE, &[])?;
+    assert_eq!(rt;
+        text.as_str(),
+        "repaired\to/v1/content/a\nE092\to/v1/content/b\n"
+    );
+    let text = changes(alloc, "", NOW, &[])?;
+    assert_eq!(rt; text.as_str(), "E092\to/v1/content/a\n");
+    let text = changes(alloc, NOW, "", &[])?;
+    let wanted = "object\to\nfile\to/v1/content/a\nfile\to/v1/content/b\n";
+    assert_eq!(rt; text.as_str(), wanted);
+    Ok(())
+}
+
+/// Objects whose names stand below that of the root, or mean something to a shell or a terminal.
+const ODD: &str = "ok\t.\t-\nok\t#hash\t-\nok\t#hash/v1/content/a\t1\nok\t(c)\t-\n\
+ok\t(c)/v1/content/a\t1\nok\t+b\t-\nok\t+b/v1/content/a\t1\nok\t-\t-\nok\t-/v1/content/a\t1\n\
+ok\t-b\t-\nok\t-b/v1/content/a\t1\nok\ta\\nb\t-\nok\ta%0Ab\t-\n";
+
+#[test]
+fn names_do_not_matter(rt: HostRuntime) -> Result<(), Fail> {
+    let alloc = rt.alloc();
+    // A line feed stands before a backslash.
+    assert_eq!(rt; stop_of(alloc, ODD, ""), Some(CompareStop::Before(13)));
+    let report =
+        "ok\t.\t-\nok\t#hash\t-\nok\t(c)\t-\nok\t+b\t-\nok\t-\t-\nok\t-b\t-\nok\t-b/v1\t1\n\
+ok\ta\t-\nok\ta/b\t-\nok\ta%0Ab\t-\nok\ta-b\t-\nok\ta\\nb\t-\nok\t~\t-\n";
+    assert_eq!(rt; changes(alloc, report, report, &[])?.as_str(), "");
+    let left = "ok\t.\t-\nok\t#hash\t-\nok\t(c)\t-\nok\t-\t-\nok\t-b\t-\nok\ta\t-\nok\ta-b\t-\n";
+    let wanted = "object\t+b\nfile\t-b/v1\nobject\ta/b\nobject\ta%0Ab\nobject\ta\\nb\nobject\t~\n";
+    assert_eq!(rt; changes(alloc, report, left, &[])?.as_str(), wanted);
+    Ok(())
+}
+
+/// Lines of the place `o`, and what is gone where this report has no line there.
+const KINDS: [(&str, &[&str]); 3] = [
+    (
+        "object\to\n",
+        &[
+            "ok\to\t-\n",
+            "E003\to\t-\n",
+            "E007\to\t-\n",
+            "E017\to\ta/b\n",
+            "E018\to\t..\n",
+            "E025\to\tmd5\n",
+            "E033\to\t-\n",
+            "E036\to\tdigestAlgorithm\n",
+            "E041\to\tmanifest\n",
+            "E058\to\t-\n",
+            "E060\to\tsha512 aa bb\n",
+            "E061\to\tsha512\n",
+            "E063\to\t-\n",
+            "E096\to\taa\n",
+            "E097\to\tmd5 aa\n",
+            "E099\to\ta//b\n",
+            "E100\to\t/a\n",
+            "E101\to\tv1/content/a\n",
+            "S01\to\t9.9\n",
+            "S02\to\t-\n",
+            "S03\to\tmanifest\n",
+            "S06\to\ta\n",
+            "S07\to\tblake2b\n",
+            "S07\to\ta\nE101\to\tv1/content/a\n",
+        ],
+    ),
+    (
+        "file\to\n",
+        &[
+            "ok\to\t0\n",
+            "ok\to\t3\n",
+            "E023\to\t-\n",
+            "E092\to\tsha512 missing\n",
+            "E093\to\tmd5 aa bb\n",
+            "S08\to\t-\n",
+            "E024\to\t-\nE092\to\tsha512 missing\n",
+            "S04\to\t-\nE093\to\tmd5 missing\n",
+            "E023\to\t-\nS08\to\t-\n",
+        ],
+    ),
+    (
+        "",
+        &[
+            "E001\to\t-\n",
+            "E015\to\t-\n",
+            "E024\to\t-\n",
+            "E072\to\t-\n",
+            "E073\to\t-\n",
+            "S04\to\t-\n",
+            "S05\to\t-\n",
+            "ok\t.\t-\n",
+            "E069\t.\t-\n",
+            "E076\t.\t-\n",
+            "E080\t.\t-\n",
+            "S01\t.\t9.9\n",
+        ],
+    ),
+];
+
+#[test]
+fn objects_and_content_files_can_be_gone(rt: HostRuntime) -> Result<(), Fail> {
+    let alloc = rt.alloc();
+    for (wanted, reports) in KINDS {
+        for report in reports {
+            assert_eq!(rt;
+                changes(alloc, report, "", &[])?.as_str(),
+                wanted,
+                "{report}"
+            );
+            // With any line at the place nothing is gone there.
+            let text = changes(alloc, report, "S05\t.\t-\nS05\to\t-\n", &[])?;
+            assert_eq!(rt; text.as_str().contains("object\t"), false, "{report}");
+            assert_eq!(rt; text.as_str().contains("file\t"), false, "{report}");
+        }
+    }
+    Ok(())
+}
+
+#[test]
+fn a_finding_is_new_by_its_code_and_place(rt: HostRuntime) -> Result<(), Fail> {
+    let alloc = rt.alloc();
+    for (before, now, wanted) in [
+        ("ok\to\t-\n", "E060\to\tsha512 aa bb\n", "E060\to\n"),
+        (
+            "E101\to\ta\n",
+            "E060\to\tsha512 aa bb\nE101\to\tb\n",
+            "E060\to\n",
+        ),
+        ("E101\to\ta\n", "E101\to\tb\nE101\to\tc\n", ""),
+        (
+            "ok\to\t3\n",
+            "E092\to\tsha256 aa bb\nE092\to\tsha512 aa bb\n",
+            "E092\to\n",
+        ),
+        (
+            "ok\to\t3\n",
+            "E023\to\t-\nE093\to\tmd5 aa bb\n",
+            "E023\to\nE093\to\n",
+        ),
+        (
+            "E092\tn\tsha256 missing\n",
+            "E092\tn\tsha256 missing\nE092\to\tsha256 missing\n",
+            "E092\to\n",
+        ),
+        ("ok\to\t-\n", "S07\to\tblake2b\n", ""),
+        (
+            "E060\to\tsha512 aa bb\n",
+            "S07\to\tblake2b\n",
+            "repaired\to\n",
+        ),
+        ("E060\to\tsha512 aa bb\n", "ok\to\t-\n", "repaired\to\n"),
+        ("E072\to\t-\n", "", ""),
+        ("E092\to\tsha256 missing\n", "E023\to\t-\n", "E023\to\n"),
+        ("S07\to\tblake2b\n", "ok\to\t-\n", ""),
+    ] {
+        let text = changes(alloc, before, now, &[])?;
+        assert_eq!(rt; text.as_str(), wanted, "{before}{now}");
+    }
+    Ok(())
+}
+
+#[test]
+fn branches_that_were_left_out_are_not_compared(rt: HostRuntime) -> Result<(), Fail> {
+    let alloc = rt.alloc();
+    for (left, wanted) in [
+        ("p", "E092\to/v1/content/a\nrepaired\to/v1/content/b\n"),
+        ("o", "object\tp\nfile\tp/v1/content/c\n"),
+        (
+            "o/v1/content/a",
+            "repaired\to/v1/content/b\nobject\tp\nfile\tp/v1/content/c\n",
+        ),
+        (
+            "p/v1",
+            "E092\to/v1/content/a\nrepaired\to/v1/content/b\nobject\tp\n",
+        ),
+        (".", ""),
+    ] {
+        let branch = place_of(alloc, left)?;
+        assert_eq!(rt;
+            changes(alloc, BEFORE, NOW, &[branch])?.as_str(),
+            wanted,
+            "{left}"
+        );
+    }
+    let branches = [place_of(alloc, "p/v1")?, place_of(alloc, "o")?];
+    assert_eq!(rt;
+        changes(alloc, BEFORE, NOW, &branches)?.as_str(),
+        "object\tp\n"
+    );
+    Ok(())
+}
+
+#[test]
+fn the_first_bad_line_is_named(rt: HostRuntime) -> Result<(), Fail> {
+    let alloc = rt.alloc();
+    for (bad, number) in [
+        ("ok\ta\t-", 1u64),
+        ("\n", 1),
+        ("ok\ta\t-\nE999\tb\t-\n", 2),
+        ("ok\tb\t-\nok\ta\t-\n", 2),
+        ("ok\ta-b\t-\nok\ta/b\t-\n", 2),
+        ("ok\ta\t-\nok\ta\t-\nok\t%c3%a9\t-\n", 3),
+        ("ok\ta\t-\nok\tb\t-\nok\tc\t-\nok\t.\t-\n", 4),
+    ] {
+        assert_eq!(rt;
+            stop_of(alloc, bad, NOW),
+            Some(CompareStop::Before(number)),
+            "{bad}"
+        );
+        assert_eq!(rt;
+            stop_of(alloc, BEFORE, bad),
+            Some(CompareStop::Now(number)),
+            "{bad}"
+        );
+    }
+    Ok(())
+}
+
+#[test]
+fn readers_and_writers_that_fail_are_told(rt: HostRuntime) -> Result<(), Fail> {
+    let alloc = rt.alloc();
+    for (row, kind, before) in failures(CompareStop::BeforeFailed, CompareStop::Memory) {
+        let then = Then::Fails(kind);
+        let left = BEFORE.as_bytes();
+        let mut failing = BufReader::new(alloc, Slow { left, then })?;
+        let mut other = NOW.as_bytes();
+        let mut out = Vec::new(alloc);
+        let stop = compare(alloc, &mut failing, &mut other, &[], &mut out).err();
+        assert_eq!(rt; stop, Some(before), "{row}");
+    }
+    for (row, kind, now) in failures(CompareStop::NowFailed, CompareStop::Memory) {
+        let then = Then::Fails(kind);
+        let left = NOW.as_bytes();
+        let mut failing = BufReader::new(alloc, Slow { left, then })?;
+        let mut other = BEFORE.as_bytes();
+        let mut out = Vec::new(alloc);
+        let stop = compare(alloc, &mut other, &mut failing, &[], &mut out).err();
+        assert_eq!(rt; stop, Some(now), "{row}");
+    }
+    let mut first = BEFORE.as_bytes();
+    let mut second = NOW.as_bytes();
+    let mut narrow = Narrow::new(alloc, 7);
+    let stop = compare(alloc, &mut first, &mut second, &[], &mut narrow).err();
+    assert_eq!(rt; stop, Some(CompareStop::Output));
+    assert_eq!(rt; narrow.kept.as_slice(), b"E092\to/".as_slice());
+    Ok(())
+}

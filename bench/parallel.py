@@ -143,16 +143,15 @@ def nights_of_a_part(folder, root):
 def join(folder, count=1000000):
     """Joining so many lines: the reading of the parts, the lists of what is gone and of codes, and
     the statement."""
-    reports, write_line = os.path.join(CONTRIB, "reports"), folder + "/lines"
+    write_line = folder + "/lines"
     with open(write_line, "w") as file:
         for number in range(count // 10):
             file.write("ok\t%03d/o-%07d\t-\n" % (number // 1000, number))
             file.writelines("ok\t%03d/o-%07d/v1/content/a-file-%d.tif\t123456789\n" % (
                 number // 1000, number, of) for of in range(9))
-    gone = "NEWER='%s' awk -f '%s/../lib/gone.awk' '%s'" % (write_line, reports, write_line)
+    gone = "NEWER='%s' awk -f '%s/lib/gone.awk' '%s'" % (write_line, CONTRIB, write_line)
     codes = "grep -v '^ok' '%s'" % write_line
-    count_ = "CODES='%s/codes' awk -f '%s/report.awk' -f '%s/counts.awk' '%s'" % (
-        reports, reports, reports, write_line)
+    count_ = "'%s/ocfl-scrub-reports' bytes '%s'" % (CONTRIB, write_line)
     script = "cat '%s' | tee '%s/joined' | sha256sum; %s; %s; sha256sum '%s'; %s" % (
         write_line, folder, gone, codes, write_line, count_)
     return used(["sh", "-c", script])

@@ -13,6 +13,7 @@ PLACES = {
     "crates/ocfl_line/src/command.rt": r'const VERSION: &str = "',
     "crates/ocfl_tests/src/tests/line.rt": r'"ocfl-scrub ',
     "contrib/man/ocfl-scrub.1": r"ocfl\\-scrub ",
+    "contrib/man/ocfl-scrub-reports.1": r"ocfl\\-scrub ",
     "contrib/README.md": r"Program: ocfl-scrub ",
     "README.md": r"ocfl-scrub_",
 }

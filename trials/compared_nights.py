@@ -50,7 +50,7 @@ def killed(nights, more):
 
 def holds(name, nights, cycle):
     """The statement of a cycle holds, as `verify-statement` says."""
-    is_so(name, ask("verify-statement", nights.path("reports/statement-%06d" % cycle))[0], 0)
+    is_so(name, ask("verify", nights.path("reports/statement-%06d" % cycle))[0], 0)
 
 
 def kept_until_told(folder):

@@ -12,7 +12,7 @@ import shutil
 import common
 from common import PROGRAM, TOP, digest, is_so, version
 from shared.clones import git, make_clone
-from shared.nights import ITEMS, make_root, ran, read, tried, write
+from shared.nights import CONTRIB, ITEMS, make_root, ran, read, tried, write
 from shared.rules import codes_of_rules
 
 PACKAGES = {"man": "man-db", "groff": "groff", "systemd-analyze": "systemd", "flock": "util-linux",
@@ -29,6 +29,8 @@ def tools():
 # Installing
 
 INSTALLED = """bin/ocfl-scrub 755
+bin/ocfl-scrub-reports 755
+share/man/man1/ocfl-scrub-reports.1 644
 share/man/man1/ocfl-scrub.1 644
 share/ocfl-scrub/BUILD 644
 share/ocfl-scrub/CLUSTERS.md 644
@@ -53,6 +55,7 @@ share/ocfl-scrub/lib/parts.awk 644
 share/ocfl-scrub/lib/parts.sh 644
 share/ocfl-scrub/lib/pieces.awk 644
 share/ocfl-scrub/lib/place.sh 644
+share/ocfl-scrub/lib/places.awk 644
 share/ocfl-scrub/lib/program.sh 644
 share/ocfl-scrub/lib/running.sh 644
 share/ocfl-scrub/lib/runs.awk 644
@@ -62,55 +65,38 @@ share/ocfl-scrub/lib/state.sh 644
 share/ocfl-scrub/lib/together.sh 644
 share/ocfl-scrub/lib/untold.awk 644
 share/ocfl-scrub/nightly 755
+share/ocfl-scrub/ocfl-scrub-reports 755
 share/ocfl-scrub/ocfl-scrub.cron 644
+share/ocfl-scrub/ocfl_scrub_reports/__init__.py 644
+share/ocfl-scrub/ocfl_scrub_reports/codes 644
+share/ocfl-scrub/ocfl_scrub_reports/command.py 644
+share/ocfl-scrub/ocfl_scrub_reports/database.py 644
+share/ocfl-scrub/ocfl_scrub_reports/files.py 644
+share/ocfl-scrub/ocfl_scrub_reports/premis.py 644
+share/ocfl-scrub/ocfl_scrub_reports/questions.py 644
+share/ocfl-scrub/ocfl_scrub_reports/report.py 644
+share/ocfl-scrub/ocfl_scrub_reports/standing.py 644
+share/ocfl-scrub/ocfl_scrub_reports/state.py 644
+share/ocfl-scrub/ocfl_scrub_reports/statement.py 644
+share/ocfl-scrub/ocfl_scrub_reports/status.py 644
+share/ocfl-scrub/ocfl_scrub_reports/tell.py 644
+share/ocfl-scrub/ocfl_scrub_reports/verify.py 644
+share/ocfl-scrub/ocfl_scrub_reports/weights.py 644
+share/ocfl-scrub/ocfl_scrub_reports/xml.py 644
 share/ocfl-scrub/parallel/begin 755
 share/ocfl-scrub/parallel/end 755
 share/ocfl-scrub/parallel/nightly 755
 share/ocfl-scrub/parallel/part 755
-share/ocfl-scrub/reports/bytes 755
-share/ocfl-scrub/reports/bytes.awk 644
-share/ocfl-scrub/reports/changed 755
-share/ocfl-scrub/reports/changed.awk 644
-share/ocfl-scrub/reports/closed.sh 644
-share/ocfl-scrub/reports/codes 644
-share/ocfl-scrub/reports/counts.awk 644
-share/ocfl-scrub/reports/database 755
-share/ocfl-scrub/reports/differences.awk 644
-share/ocfl-scrub/reports/findings 755
-share/ocfl-scrub/reports/findings.awk 644
-share/ocfl-scrub/reports/json.awk 644
-share/ocfl-scrub/reports/lines.awk 644
-share/ocfl-scrub/reports/nights.awk 644
-share/ocfl-scrub/reports/open.awk 644
-share/ocfl-scrub/reports/premis 755
-share/ocfl-scrub/reports/premis-whole.awk 644
-share/ocfl-scrub/reports/premis.awk 644
-share/ocfl-scrub/reports/programs.awk 644
-share/ocfl-scrub/reports/reading.sh 644
-share/ocfl-scrub/reports/report.awk 644
-share/ocfl-scrub/reports/statement 755
-share/ocfl-scrub/reports/statement.awk 644
-share/ocfl-scrub/reports/status.awk 644
-share/ocfl-scrub/reports/to-json 755
-share/ocfl-scrub/reports/totals 755
-share/ocfl-scrub/reports/totals.awk 644
-share/ocfl-scrub/reports/unverified 755
-share/ocfl-scrub/reports/unverified.sql 644
-share/ocfl-scrub/reports/verify-statement 755
-share/ocfl-scrub/reports/weights.awk 644
-share/ocfl-scrub/reports/xml.awk 644
 share/ocfl-scrub/rotate 755
 share/ocfl-scrub/slurm/join.sbatch 755
 share/ocfl-scrub/slurm/part.sbatch 755
 share/ocfl-scrub/slurm/submit 755
 share/ocfl-scrub/slurm/tell.sbatch 755
-share/ocfl-scrub/status 755
 share/ocfl-scrub/systemd/archive.conf 644
 share/ocfl-scrub/systemd/ocfl-scrub-tell-failed@.service 644
 share/ocfl-scrub/systemd/ocfl-scrub-tell@.service 644
 share/ocfl-scrub/systemd/ocfl-scrub@.service 644
 share/ocfl-scrub/systemd/ocfl-scrub@.timer 644
-share/ocfl-scrub/tell 755
 """
 
 
@@ -229,6 +215,7 @@ def uninstalling(folder):
 
 
 LIST = "share/ocfl-scrub/INSTALLED"
+CODES = "ocfl_scrub_reports/codes"
 
 
 def refusals(install, prefix, folder):
@@ -259,17 +246,17 @@ def others_stay(install, prefix):
     """What was there before, what came later, and what was changed since."""
     share = prefix + "/share/ocfl-scrub/"
     os.makedirs(prefix + "/share/man")
-    others = [prefix + "/bin/other", share + "audit/cursor", share + "reports/mine"]
+    others = [prefix + "/bin/other", share + "audit/cursor", share + CODES[:-5] + "mine"]
     write(others[0], "")
     ran([install, prefix])
     for other in others[1:]:
         write(other, "")
-    write(share + "reports/codes", "changed")
+    write(share + CODES, "changed")
     os.remove(share + "rotate")
-    os.rename(share + "status", share + "mine")
-    os.symlink("mine", share + "status")
+    os.rename(share + "nightly", share + "mine")
+    os.symlink("mine", share + "nightly")
     status, out, said = ran([install, "--uninstall", prefix])
-    stay = [share + name for name in ["reports", "reports/codes", "status"]] + [share[:-1]]
+    stay = [share + name for name in [CODES[:-6], CODES, "nightly"]] + [share[:-1]]
     is_so("uninstall beside other files", (status, sorted(said.splitlines())), (0, sorted(
         "install: %s stays: %s" % (path, "it holds other files" if os.path.isdir(path)
                                    else "it was changed after it was installed")
@@ -278,9 +265,9 @@ def others_stay(install, prefix):
           [])
     is_so("other files stay", everything(prefix), [
         "bin/", "bin/other", "share/", "share/man/", "share/ocfl-scrub/", "share/ocfl-scrub/audit/",
-        "share/ocfl-scrub/audit/cursor", "share/ocfl-scrub/mine", "share/ocfl-scrub/reports/",
-        "share/ocfl-scrub/reports/codes", "share/ocfl-scrub/reports/mine",
-        "share/ocfl-scrub/status"])
+        "share/ocfl-scrub/audit/cursor", "share/ocfl-scrub/mine", "share/ocfl-scrub/nightly",
+        "share/ocfl-scrub/ocfl_scrub_reports/", "share/ocfl-scrub/" + CODES,
+        "share/ocfl-scrub/ocfl_scrub_reports/mine"])
     shutil.rmtree(prefix)
 
 
@@ -306,8 +293,11 @@ def older_version(clone, install, prefix):
 # The manual page
 
 def manual(prefix):
-    page = TOP + "/contrib/man/ocfl-scrub.1"
-    for name, file in [("page", page), ("installed page", prefix + "/share/man/man1/ocfl-scrub.1")]:
+    page, others = TOP + "/contrib/man/ocfl-scrub.1", TOP + "/contrib/man/ocfl-scrub-reports.1"
+    installed = prefix + "/share/man/man1/"
+    for name, file in [("page", page), ("installed page", installed + "ocfl-scrub.1"),
+                       ("second page", others),
+                       ("second page, installed", installed + "ocfl-scrub-reports.1")]:
         for words in [["man", "--warnings", "-l", "-E", "UTF-8", file],
                       ["groff", "-man", "-Tutf8", "-wall", file]]:
             is_so("%s by %s" % (name, words[0]), ran(words)[0::2], (0, ""))
@@ -324,6 +314,19 @@ def manual(prefix):
                     for command in ["audit", "run", "cycle", "split"])
     options = {"\\-\\-%s" % option for option in re.findall(r"--([a-z]+)", shown)}
     is_so("the page tells of each option", sorted(o for o in options if o not in text), [])
+    of_reports(read(others))
+
+
+def of_reports(text):
+    """The page of the questions has each command, and each of their options."""
+    tool = CONTRIB + "/ocfl-scrub-reports"
+    commands = re.findall(r"(?m)^    ([a-z]+)\b", ran([tool, "--help"])[1])
+    is_so("the commands of the second page", re.findall(r"(?m)^\.TP\n\.B ([a-z]+)$", text),
+          commands)
+    shown = "".join(ran([tool, command, "--help"])[1] for command in commands)
+    options = {word.replace("-", "\\-") for word in re.findall(r"--[a-z-]+", shown)}
+    is_so("its options", sorted(o for o in options - {"\\-\\-help"} if o not in text), [])
+    is_so("no long line in it", [row for row in text.splitlines() if len(row) > 90], [])
 
 
 # systemd and cron

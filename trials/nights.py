@@ -129,7 +129,7 @@ def cost_is_the_cursors(folder):
 def is_stated(name, nights, report):
     """The cycle of this report has a statement, and that holds."""
     file = "reports/statement-" + report.split("-")[1]
-    is_so(name, ask("verify-statement", nights.path(file)),
+    is_so(name, ask("verify", nights.path(file)),
           (0, "%s is what %s says\n" % (nights.path("reports/" + report), file[8:]), ""))
 
 
@@ -169,10 +169,10 @@ def statements_that_fail(folder):
     mute = folder + "/mute"
     write(mute, '#!/bin/sh\n[ "$1" != --version ] || exit 9\nexec %s "$@"\n' % PROGRAM, 0o755)
     said = "The statement of cycle %d could not be made or sealed. To try again:\n" \
-        "%s/reports/statement%s %s %d\n"
+        "%s/ocfl-scrub-reports statement%s %s %d\n"
     status, _, text = nights.night("1K", program=mute)
     is_so("none", (status, said % (1, CONTRIB, "", nights.state, 1) in text), (3, True))
-    is_so("its reason", "statement: %s does not say its version\n" % mute in text, True)
+    is_so("its reason", "%s does not say its version\n" % mute in text, True)
     is_so("its cycle is closed", (nights.whole(1), len(nights.rows("ended"))), ("".join(ITEMS), 1))
     is_so("the next night makes it", nights.night("1"), (0, "", ""))
     is_stated("it holds", nights, "cycle-000001")

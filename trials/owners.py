@@ -12,7 +12,7 @@ import shutil
 
 import common
 from common import PROGRAM, is_so
-from shared.nights import CONTRIB, Nights, make_root, ran, read, tried_apart, write
+from shared.nights import CONTRIB, REPORTS, Nights, make_root, ran, read, tried_apart, write
 
 NOBODY = 65534
 SECRET = "E092\tsecret\t-\n"
@@ -45,6 +45,9 @@ class Other:
         return ran([*(before if user else []), "%s/%s" % (self.scripts, name), *words],
                    OCFL_SCRUB=self.program, TMPDIR=self.folder + "/tmp", **given)
 
+    def asks(self, *words):
+        return self.calls("ocfl-scrub-reports", *words)
+
     def link(self, name, to=None):
         """Puts a link into the folder, as its user can."""
         path = self.nights.path(name)
@@ -74,11 +77,11 @@ def writing(folder):
         os.remove(other.nights.path("reports/" + name))
         for end in ["", ".new"]:
             other.link("reports/" + name + end)
-        other.calls("reports/statement", state, "1")
+        other.asks("statement", state, "1")
         other.is_safe("a statement in the place of " + name)
         for end in ["", ".new"]:
             os.remove(other.nights.path("reports/" + name + end))
-    is_so("a statement as root", (other.calls("reports/statement", state, "1")[0], os.stat(
+    is_so("a statement as root", (other.asks("statement", state, "1")[0], os.stat(
         other.nights.path("reports/statement-000001")).st_uid), (0, NOBODY))
     before = common.snapshot(state)
     for name, words in [("nightly", ["--state", state, "--budget", "1K", root]),
@@ -108,14 +111,14 @@ def reading(folder):
         kept = common.read(other.nights.path(name)) if os.path.exists(
             other.nights.path(name)) else None
         other.link(name)
-        for words in [["status", "--list", state], ["reports/findings", report],
-                      ["reports/findings", other.nights.path("report")],
-                      ["reports/totals", report], ["reports/to-json", report],
-                      ["reports/verify-statement", other.nights.path("reports/statement-000001")],
-                      ["reports/premis", "--each", "finding", state, "1"],
-                      ["reports/unverified", "2030-01-01", state],
-                      ["reports/database", state, folder + "/tmp/db"]]:
-            said = other.calls(*words)
+        for words in [["status", "--list", state], ["findings", report],
+                      ["findings", other.nights.path("report")], ["totals", report],
+                      ["json", report],
+                      ["verify", other.nights.path("reports/statement-000001")],
+                      ["premis", "--each", "finding", state, "1"],
+                      ["unverified", "2030-01-01", state],
+                      ["database", state, folder + "/tmp/db"]]:
+            said = other.asks(*words)
             is_so("%s with a link as %s" % (words[0], name), [
                 "secret" in text.replace(other.secret, "") for text in said[1:]], [False, False])
             if os.path.exists(folder + "/tmp/db"):
@@ -126,9 +129,9 @@ def reading(folder):
         if kept is not None:
             write(other.nights.path(name), kept)
             os.chown(other.nights.path(name), NOBODY, NOBODY)
-    is_so("without links root has its answers", [other.calls(*words)[0] for words in [
-        ["status", "--age", "-,-", state], ["reports/totals", report],
-        ["reports/verify-statement", other.nights.path("reports/statement-000001")]]], [0, 0, 0])
+    is_so("without links root has its answers", [other.asks(*words)[0] for words in [
+        ["status", "--age", "-,-", state], ["totals", report],
+        ["verify", other.nights.path("reports/statement-000001")]]], [0, 0, 0])
 
 
 def links_of_ones_own(folder):
@@ -143,7 +146,7 @@ def links_of_ones_own(folder):
         kept = common.read(nights.path(name))
         os.remove(nights.path(name))
         os.symlink(secret, nights.path(name))
-        status, out, _ = ran([CONTRIB + "/status", "--list", nights.state])
+        status, out, _ = ran([REPORTS, "status", "--list", nights.state])
         is_so("status with a link as " + name, (status, "secret\t" in out, nights.path(
             name) + " is a link" in out), (3, False, True))
         os.remove(nights.path(name))
@@ -163,13 +166,13 @@ def links_of_ones_own(folder):
     is_so("what the links led to", read(secret), SECRET)
     os.rename(report, folder + "/report")
     os.symlink(folder + "/report", report)
-    is_so("verify-statement", ran([CONTRIB + "/reports/verify-statement", statement])[0], 3)
+    is_so("verify", ran([REPORTS, "verify", statement])[0], 3)
     os.remove(statement)
-    is_so("a statement", ran([CONTRIB + "/reports/statement", nights.state, "1"])[0:2], (3, ""))
+    is_so("a statement", ran([REPORTS, "statement", nights.state, "1"])[0:2], (3, ""))
     os.remove(report)
     os.rename(folder + "/report", report)
     os.symlink(secret, statement + ".new")
-    is_so("a new statement", ran([CONTRIB + "/reports/statement", nights.state, "1"])[0:2], (0, ""))
+    is_so("a new statement", ran([REPORTS, "statement", nights.state, "1"])[0:2], (0, ""))
     is_so("what the link led to", (read(secret), os.path.islink(statement)), (SECRET, False))
 
 

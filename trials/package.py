@@ -125,7 +125,7 @@ def installed(folder):
             path = os.path.relpath(file, folder)
             if "@" in name:
                 path = UNITS + name
-            if name == "ocfl-scrub.1":
+            if name.endswith(".1"):
                 path += ".gz"
             if name != "INSTALLED":
                 yield path, "%o" % (os.stat(file).st_mode & 0o777), common.read(file)
@@ -136,7 +136,7 @@ def control(made):
                   .splitlines() if not row.startswith(" "))
     floor = re.search(r"glibc ([\d.]+) or later", read(TOP + "/README.md"))[1]
     is_so("control", [fields[name] for name in ["Package", "Version", "Architecture", "Depends"]],
-          ["ocfl-scrub", version(), "amd64", "libc6 (>= %s)" % floor])
+          ["ocfl-scrub", version(), "amd64", "libc6 (>= %s), python3 (>= 3.9)" % floor])
     symbols = ran(["readelf", "-W", "--dyn-syms", PROGRAM])[1]
     asked = [tuple(map(int, it.split("."))) for it in re.findall(r"@GLIBC_([\d.]+)", symbols)]
     is_so("the floor is what its symbols ask for", ".".join(map(str, max(asked))), floor)
@@ -304,15 +304,15 @@ def using(service):
     is_so("--version", service.calls("ocfl-scrub", "--version"), (0, build + own, ""))
     is_so("BUILD has the digest of the program", "\nsha256 %s\n" % digest(common.read(PROGRAM))
           in build, True)
-    share = "/" + SHARE
-    is_so("statement", service.calls(share + "reports/statement", service.STATE, "1"), (0, "", ""))
+    asks = "ocfl-scrub-reports"
+    is_so("statement", service.calls(asks, "statement", service.STATE, "1"), (0, "", ""))
     text = service.has("reports/statement-000001") or ""
     is_so("its program", ["Program: ocfl-scrub " + version() in text, "not known" in
                           re.findall("(?m)^Program commit: (.*)$", text)], [True, False])
-    status, out, _ = service.calls(share + "status", service.STATE)
+    status, out, _ = service.calls(asks, "status", service.STATE)
     is_so("status", (status, out[:13]), (0, "OCFL-SCRUB OK"))
-    is_so("tell", service.calls(share + "tell", "archive", service.STATE), (0, "", ""))
-    is_so("it has no right to write elsewhere", service.calls("touch", share + "x")[0], 1)
+    is_so("tell", service.calls("/" + SHARE + asks, "tell", "archive", service.STATE), (0, "", ""))
+    is_so("it has no right to write elsewhere", service.calls("touch", "/" + SHARE + "x")[0], 1)
 
 
 def units():

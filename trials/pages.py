@@ -36,14 +36,14 @@ NOT_RUN = {
 NO_COMMANDS = {
     "[Service]": "lines of a unit",
     "[Unit]": "lines of a unit",
-    "reports/statement --seal ": "needs keys, which trials/statements.py makes",
+    "ocfl-scrub-reports statement --seal ": "needs keys, which trials/statements.py makes",
     "E092\t": "a line of a report",
 }
 # Statuses of commands that may end otherwise than with 0: the sample has a damaged file.
 ENDS = [(r"# still E092", {1}), (r"# ok$|# the rest of its object", {0}),
         (r"xargs .*\n.*ocfl-scrub audit ", {0, 123}),
         (r"ocfl-scrub (--unproved )?(audit|run|check) |/nightly |zdiff ", {0, 1}),
-        (r"/status ", {2})]
+        (r"ocfl-scrub-reports status ", {2})]
 # What else a user has done before the further commands of a page, which need two whole cycles.
 THEN = {
     "./nightly --state ~/audit --until 06:00 /srv/ocfl": [

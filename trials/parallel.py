@@ -16,7 +16,7 @@ import time
 
 import common
 from common import PROGRAM, is_so
-from shared.nights import CONTRIB, Nights, ask, instead, ran, read, tried_apart, write
+from shared.nights import CONTRIB, REPORTS, Nights, ask, instead, ran, read, tried_apart, write
 from shared.parallel import (Place, Together, add_content, again, audit, audit_parts, begun,
                              by_hand, findings, is_stated, make_root, told_in, without)
 
@@ -196,7 +196,7 @@ def messages(folder):
     is_so("the first night", (status, bool(re.search(stop + "The other parts go on", said)),
                               "stands alone" in said), (3, True, False))
     is_so("the others have ended", len(nights.logs("ended")), len(nights.names()) - 1)
-    status, out, _ = ran([CONTRIB + "/status", "--list", nights.state])
+    status, out, _ = ran([REPORTS, "status", "--list", nights.state])
     is_so("status has the findings of an open cycle", (status, set(out.splitlines(True)[1:])),
           (2, findings(so_far(nights))))
     status, _, said = night()
@@ -554,8 +554,8 @@ def usage(folder):
     is_so("not mounted", (status, "is its file system mounted?" in said), (3, True))
     os.rename(folder + "/kept", root + "/0=ocfl_1.1")
     is_so("then a night", ran(nights.words("1M", jobs=2, parts=2))[0], 1)
-    is_so("statement", ask("verify-statement", nights.path("reports/statement-000001"))[0], 0)
-    status, out, _ = ran([CONTRIB + "/status", nights.state])
+    is_so("statement", ask("verify", nights.path("reports/statement-000001"))[0], 0)
+    status, out, _ = ran([REPORTS, "status", nights.state])
     is_so("status", (status, "cycle 1 has ended" in out), (2, True))
 
 

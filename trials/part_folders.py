@@ -15,7 +15,7 @@ import time
 
 import common
 from common import PROGRAM, is_so
-from shared.nights import CONTRIB, Nights, ran, read, tried_apart, write
+from shared.nights import CONTRIB, REPORTS, Nights, ran, read, tried_apart, write
 from shared.parallel import (Place, Together, again, audit, audit_parts, begun, by_hand, findings,
                              make_root, told_in)
 
@@ -253,7 +253,7 @@ def no_arrays(folder):
     status, out, said = ran([CONTRIB + "/slurm/submit", "--parts", "4", "--state", nights.state,
                              nights.root], PATH=folder + "/bin:" + os.environ["PATH"])
     is_so("refused", (status, out, "no room" in said), (3, "", True))
-    is_so("status", ran([CONTRIB + "/status", nights.state])[0], 2)
+    is_so("status", ran([REPORTS, "status", nights.state])[0], 2)
 
 
 PARTS = [moved, another_cursor, other_folders, copies, sizes, long_folder, without_locks, wide,

@@ -14,7 +14,7 @@ import time
 
 import common
 from common import PROGRAM, is_so
-from shared.nights import CONTRIB, ran, read, tried_apart, write
+from shared.nights import CONTRIB, REPORTS, ran, tried_apart, write
 from shared.parallel import (Place, Together, again, audit, audit_parts, begun, by_hand, findings,
                              told_in, without)
 
@@ -23,7 +23,7 @@ ODD_NAMES = ["b\\nx\\tAll is well\\033[2J", "-"]
 
 
 def status_of(nights):
-    return ran([CONTRIB + "/status", "--age", "-,-", nights.state])[0]
+    return ran([REPORTS, "status", "--age", "-,-", nights.state])[0]
 
 
 def small_root(folder, damaged=(), count=4):

@@ -15,10 +15,10 @@ import time
 
 import common
 from common import PROGRAM, TOP, is_so
-from shared.nights import CONTRIB, Nights, ask, is_found, ran, read, text_of, tried, write
+from shared.nights import REPORTS, Nights, ask, is_found, ran, read, text_of, tried, write
 from shared.rules import codes_of_rules
 
-PACKAGES = {"jq": "jq", "sqlite3": "sqlite3", "awk": "mawk", "gzip": "gzip"}
+PACKAGES = {"sqlite3": "sqlite3", "awk": "mawk", "gzip": "gzip"}
 
 
 def tools():
@@ -68,11 +68,11 @@ def simple_questions(folder):
         is_so("totals", ask("totals", file), (0, totals, ""))
         is_so("bytes", ask("bytes", file),
               (0, "%d files, %d bytes\n" % (len(sizes), sum(sizes)), ""))
-        status, out, said = ask("to-json", file)
-        is_so("to-json", (status, [json.loads(line) for line in out.splitlines()], said),
+        status, out, said = ask("json", file)
+        is_so("json", (status, [json.loads(line) for line in out.splitlines()], said),
               (0, [as_json(line) for line in lines], ""))
     write(folder + "/cut.gz", gzip.compress(text_of(lines).encode())[:-9])
-    for name in ["findings", "totals", "bytes", "to-json"]:
+    for name in ["findings", "totals", "bytes", "json"]:
         for file in ["cut.gz", "none"]:
             status, out, said = ask(name, folder + "/plain", folder + "/" + file)
             is_so("%s of %s" % (name, file), (status, out, "/%s cannot be read" % file in said),
@@ -80,14 +80,37 @@ def simple_questions(folder):
     no_reports(folder)
     two = ask("bytes", folder + "/plain", folder + "/packed.gz")[1]
     is_so("two reports", two, "%d files, %d bytes\n" % (2 * len(sizes), 2 * sum(sizes)))
-    for name in ["findings", "totals", "bytes", "changed", "to-json", "unverified", "database",
-                 "statement", "verify-statement", "premis"]:
-        status, out, said = ask(name)
-        is_so("usage of " + name, (status, out, said.startswith("usage: %s " % name)),
-              (2, "", True))
-        status, out, said = ask(name, "--help")
-        is_so("help of " + name, (status, "\nusage: %s " % name in out, said), (0, True, ""))
+    commands(folder)
     return lines
+
+
+NAMES = ["findings", "totals", "bytes", "changed", "json", "unverified", "database", "statement",
+         "verify", "premis", "status", "tell"]
+
+
+def commands(folder):
+    """What each command shows of itself, and what it refuses; files whose names look like
+    options."""
+    for name in NAMES:
+        status, out, said = ask(name)
+        is_so("usage of " + name, (status, out, said.startswith("usage: ocfl-scrub-reports %s "
+                                                                % name)),
+              (3 if name == "status" else 2, "", True))
+        status, out, said = ask(name, "--help")
+        is_so("help of " + name, (status, out.startswith("usage: ocfl-scrub-reports %s " % name),
+                                  out.splitlines()[-2][:9], out.splitlines()[-1].startswith(
+                                      "  ocfl-scrub-reports %s " % name), said),
+              (0, True, "example:", True, ""))
+    for words in [["--help"], ["-h"]]:
+        status, out, said = ask(*words)
+        is_so("help", (status, [name for name in NAMES if name not in out], said), (0, [], ""))
+    for words in [[], ["what"], ["--what"]]:
+        status, out, said = ran([REPORTS, *words])
+        is_so("usage: %s" % words, (status, out, said.startswith("usage: ")), (2, "", True))
+    shutil.copy(folder + "/plain", folder + "/-plain")
+    status, out, said = ran([REPORTS, "totals", "--", "-plain"], cwd=folder)
+    is_so("a name like an option", (status, out, said), (0, ask("totals", folder + "/plain")[1],
+                                                         ""))
 
 
 def no_reports(folder):
@@ -98,7 +121,7 @@ def no_reports(folder):
     write(folder + "/text", "a text\n")
     for file in [nights.path("nights"), nights.path("reports/statement-000001"), folder + "/text"]:
         for words in [["findings"], ["findings", "--by-weight"], ["totals"], ["bytes"],
-                      ["to-json"], ["changed", folder + "/plain"]]:
+                      ["json"], ["changed", folder + "/plain"]]:
             status, out, said = ask(*words, file)
             is_so("%s of %s" % (words[0], os.path.basename(file)),
                   (status, out, said != ""), (3, "", True))
@@ -144,12 +167,12 @@ CYCLES = [
 ]
 
 
-def row(is_new, *columns):
-    """A row of the log, as it is now or as it was in earlier versions."""
-    return columns + ("9", "1", "2", "100", "ab" * 32, "after o", columns[0]) if is_new else columns
+def row(*columns):
+    """A row of the log."""
+    return columns + ("9", "1", "2", "100", "ab" * 32, "after o", columns[0])
 
 
-def make_state(state, cycles, is_new=True):
+def make_state(state, cycles):
     log = []
     for cycle, (nights, lines) in enumerate(cycles, 1):
         is_open = cycle == 3
@@ -161,11 +184,10 @@ def make_state(state, cycles, is_new=True):
         for run, (began, upto) in enumerate(nights, 1):
             end = "open" if is_open or run < len(nights) else "ended"
             said = "cycle %d, run %d, cost 9, %s" % (cycle, run, end)
-            log.append(row(is_new, began, "0", str(cycle), str(run), str(upto), "9", said))
-            log.append(row(is_new, began, "3", str(cycle), str(run), "0", "0", "stopped at o"))
-            if is_new:
-                log.append(row(True, began, "told", str(cycle), str(run), "99", "9", "status 0"))
-                log.append(row(True, began, "began", str(cycle), str(run), "99", "0", "budget 1"))
+            log.append(row(began, "0", str(cycle), str(run), str(upto), "9", said))
+            log.append(row(began, "3", str(cycle), str(run), "0", "0", "stopped at o"))
+            log.append(row(began, "told", str(cycle), str(run), "99", "9", "status 0"))
+            log.append(row(began, "began", str(cycle), str(run), "99", "0", "budget 1"))
     write(state + "/nights", text_of(log))
 
 
@@ -184,9 +206,9 @@ def verified(cycles):
 
 
 def unverified(folder):
-    for count, is_new in [(2, True), (3, True), (3, False)]:
-        state = folder + "/state-%d-%s" % (count, is_new)
-        make_state(state, CYCLES[:count], is_new)
+    for count in [2, 3]:
+        state = folder + "/state-%d" % count
+        make_state(state, CYCLES[:count])
         content = verified(CYCLES[:count])
         for date in ["2025-01-01", "2025-02-01", "2025-02-02T22:00:00Z", "2025-02-02T22:00:01Z",
                      "2026-01-01"]:

@@ -178,7 +178,7 @@ class Seeded:
         for cycle in sorted(ended):
             is_so("told in cycle %d" % cycle, sorted(findings - self.told[cycle]), [])
             statement = self.nights.path("reports/statement-%06d" % cycle)
-            is_so("statement of cycle %d" % cycle, ask("verify-statement", statement)[0], 0)
+            is_so("statement of cycle %d" % cycle, ask("verify", statement)[0], 0)
 
 
 def tell(folder):

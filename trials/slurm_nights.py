@@ -13,7 +13,7 @@ import time
 
 import common
 from common import PROGRAM, is_so
-from shared.nights import CONTRIB, ran, read, write
+from shared.nights import CONTRIB, REPORTS, ran, read, write
 from shared.parallel import Together, audit, findings, told_in
 from shared.slurm import Slurm
 
@@ -67,7 +67,7 @@ class Site:
         told = re.search(r"(?m)^[^:]*\bparts (.*)$", self.said())
         is_so(name, [of for of in (names[0], names[-1]) if not re.search(
             r"\b%s\b" % of, told[1] if told else "")], [])
-        is_so("status: " + name, ran([CONTRIB + "/status", self.nights.state])[0], 2)
+        is_so("status: " + name, ran([REPORTS, "status", self.nights.state])[0], 2)
 
 
 def cancelled(site):

@@ -11,13 +11,13 @@ import re
 
 import common
 from common import is_so
-from shared.nights import Nights, make_root
-from shared.states import (CONTRIB, LINES, State, is_finding, line, ran, read, tools, tried, write)
+from shared.nights import REPORTS, Nights, make_root
+from shared.states import LINES, State, is_finding, line, ran, read, tools, tried, write
 
 
 def status(state, *words, now="2026-03-10T05:00:00Z"):
     """The status, the words before the bar, and the figures after it."""
-    given, out, said = ran([CONTRIB + "/status", "--now", now, *words, state.path])
+    given, out, said = ran([REPORTS, "status", "--now", now, *words, state.path])
     first = out.split("\n")[0]
     return given, first.split(" | ")[0], first.split(" | ")[-1].split() if " | " in first else said
 
@@ -44,7 +44,7 @@ def statuses(folder):
                "progress=30%;;;0;100"]
     is_so("standing", status(state), (
         2, "OCFL-SCRUB CRITICAL - " + (calm % (found + "; "))[:-2], figures))
-    listed = ran([CONTRIB + "/status", "--list", state.path])[1].splitlines(True)[1:]
+    listed = ran([REPORTS, "status", "--list", state.path])[1].splitlines(True)[1:]
     is_so("the gravest first", listed, [LINES[11], LINES[5], LINES[10], LINES[1]])
     quiet = ["--damaged", "2,3", "--findings", "5,6"]
     is_so("below the limits", status(state, *quiet)[0:2],
@@ -68,11 +68,11 @@ def statuses(folder):
           (1, True, ["findings=3;1;;0", "damaged=0;1;1;0"]))
     for words in [[], ["--what", "x"], ["--age", "1", "x"], ["--age", "1,2,3", "x"],
                   ["--age", ",1", "x"], ["--gone", "1,-2", "x"], ["--list", "x", "y"], ["--known"]]:
-        is_so("usage of status: " + " ".join(words), ran([CONTRIB + "/status"] + words)[0:2],
+        is_so("usage of status: " + " ".join(words), ran([REPORTS, "status"] + words)[0:2],
               (3, ""))
     for name, words in [("folder", [folder + "/none"]),
                         ("known", ["--known", "/none", state.path])]:
-        given, out, _ = ran([CONTRIB + "/status"] + words)
+        given, out, _ = ran([REPORTS, "status"] + words)
         is_so("no " + name, (given, out[:21]), (3, "OCFL-SCRUB UNKNOWN - "))
     empty = State(folder + "/empty")
     is_so("no night", status(empty)[0:2], (3, "OCFL-SCRUB UNKNOWN - /srv/ocfl: no night has run"))
@@ -150,22 +150,6 @@ def troubled(folder):
           "99 of 100 done, 1 night(s) left")
 
 
-def old_log(folder):
-    """A log of seven columns, whose nights have no other rows."""
-    path = folder + "/state"
-    rows = [("2026-03-0%dT22:00:00Z" % run, 0, 1, run, 5, 25, "cycle 1, run %d, cost 25, %s" % (
-        run, "ended" if run == 4 else "open")) for run in range(1, 5)]
-    rows += [("2026-03-08T22:00:00Z", 0, 2, 1, 5, 30, "cycle 2, run 1, cost 30, open"),
-             ("2026-03-09T22:00:00Z", 3, 2, 1, 5, 0, "stopped at o")]
-    write(path + "/nights", "".join("\t".join(map(str, row)) + "\n" for row in rows))
-    out = ran([CONTRIB + "/status", "--now", "2026-03-10T05:00:00Z", path])
-    is_so("an old log", out, (2, "OCFL-SCRUB CRITICAL - %s: the last night ended with status 3; "
-                                 "last night 2026-03-09T22:00:00Z, status 3; cycle 2 is open, 30 "
-                                 "of 100 done, 5 night(s) left; last whole cycle 1 on 2026-03-04; "
-                                 "0 open finding(s) | age=25200s;93600;180000;0 findings=0;1;;0 "
-                                 "damaged=0;1;1;0 gone=0;1;;0 progress=30%%;;;0;100\n" % path, ""))
-
-
 ODD = ["%01", "%1F", "!", "%25", "%25a", "-", "0", "01", "1", "1e0", "a", "a b", "a-", "ab", "~",
        "%7F", "%C3%A9"]
 
@@ -207,11 +191,13 @@ def open_findings(folder):
               gzip.compress("".join(older).encode()) if packed else "".join(older))
         write(state.path + "/reports/cycle-000000", line("E001", "old"))
         write(state.path + "/report", "".join(newer) + chance.choice(["", "E0", "E092\to/v1/co"]))
-        out = ran([CONTRIB + "/status", "--list", state.path])[1]
+        out = ran([REPORTS, "status", "--list", state.path])[1]
         listed = out.splitlines(True)[1:]
         if not is_so("open findings %d" % number, sorted(listed), sorted(expected)):
             break
-        is_so("their order", listed, sorted(listed, key=lambda text: raw(text.split("\t")[1])))
+        newest = [text for text in newer if is_finding(text)]
+        is_so("those of the open report first, each report in its order", listed,
+              newest + [text for text in older if text in expected and text not in newest])
 
 
 def metrics(folder):
@@ -275,7 +261,7 @@ def closed(folder, reports, opened=()):
 
 
 def listed(state, *words):
-    return ran([CONTRIB + "/status", "--list", *words, state.path])[1].splitlines(True)[1:]
+    return ran([REPORTS, "status", "--list", *words, state.path])[1].splitlines(True)[1:]
 
 
 def not_whole(folder):
@@ -287,7 +273,7 @@ def not_whole(folder):
     for name, reports, opened, expected in [
             ("left out once", [("cycle", whole), ("incomplete", without)], [], [DAMAGED]),
             ("left out twice", [("cycle", whole), ("incomplete", without),
-                                ("incomplete", without + [AGAIN])], [], [DAMAGED, AGAIN]),
+                                ("incomplete", without + [AGAIN])], [], [AGAIN, DAMAGED]),
             ("of the first, which is not whole", [("incomplete", whole), ("incomplete", without)],
              [], [DAMAGED]),
             ("found right by one that is not whole", [("cycle", whole), ("incomplete", right)],
@@ -332,7 +318,7 @@ def once(folder):
 def refused(folder):
     """A night that was refused is of no cycle."""
     nights = Nights(folder + "/state", make_root(folder + "/root"))
-    call = [CONTRIB + "/status", nights.state]
+    call = [REPORTS, "status", nights.state]
     os.rename(nights.root, nights.root + ".away")
     is_so("refused", nights.night("4")[0], 3)
     given, out, _ = ran(call)
@@ -360,7 +346,7 @@ def missing(folder):
     nights = Nights(folder + "/state", make_root(folder + "/root"))
     expected = write(folder + "/expected", "o\nx\ny\n")
     nights.night("1K", more=["--expected", expected])
-    given, out, _ = ran([CONTRIB + "/status", nights.state])
+    given, out, _ = ran([REPORTS, "status", nights.state])
     is_so("two expected objects", (given, "2 expected object" in out, "0 object" in out,
                                    " gone=2;" in out), (1, True, False, True))
 
@@ -369,13 +355,13 @@ def strange_paths(folder):
     """A path of the folder with any byte changes nothing."""
     for number, name in enumerate(["a\nb", "a\\nb", "a\tb |"]):
         state = closed("%s/%d/%s" % (folder, number, name), [("cycle", [line("ok", "."), DAMAGED])])
-        given, out, said = ran([CONTRIB + "/status", "--age", "-,-", "--list", state.path])
+        given, out, said = ran([REPORTS, "status", "--age", "-,-", "--list", state.path])
         is_so("a folder named %r" % name, (given, out.split("\n", 1)[1], said), (2, DAMAGED, ""))
 
 
 def tell(folder):
     tools({"awk": "mawk", "gzip": "gzip"})
-    for part in [statuses, troubled, old_log, open_findings, metrics, not_whole, is_known, once,
+    for part in [statuses, troubled, open_findings, metrics, not_whole, is_known, once,
                  refused, missing, strange_paths]:
         os.mkdir(os.path.join(folder, part.__name__))
         tried(part, os.path.join(folder, part.__name__))

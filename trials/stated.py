@@ -11,7 +11,7 @@ import time
 
 import common
 from common import PROGRAM, digest, is_so
-from shared.nights import CONTRIB, Nights, ask, make_root, ran, read, tried_apart, write
+from shared.nights import CONTRIB, REPORTS, Nights, ask, make_root, ran, read, tried_apart, write
 
 
 def lines_of(nights, cycle):
@@ -25,7 +25,7 @@ def file_of(nights, cycle):
 
 
 def verified(statement, *report):
-    return ask("verify-statement", statement, *report)
+    return ask("verify", statement, *report)
 
 
 # Programs
@@ -109,7 +109,7 @@ def left_out(folder):
         "Whole", "Objects", "Objects without findings", "Places not audited"]],
           ["no", "4", "3", "1"])
     is_so("the place is named", "b/v1/content" in lines.values(), True)
-    listed = ran([CONTRIB + "/status", "--list", nights.state])[1].splitlines()[1:]
+    listed = ran([REPORTS, "status", "--list", nights.state])[1].splitlines()[1:]
     is_so("what is open", [row.split("\t")[:2] for row in listed], [["E092", "b/v1/content/f"]])
     lists_of_it(nights, lines)
 

@@ -18,8 +18,7 @@ from common import TOP, digest, is_so
 from shared.states import (CONTRIB, GONE, LINES, REPORTS, State, ask, audited, is_finding, line,
                            program, ran, read, tools, tried, write)
 
-PACKAGES = {"awk": "mawk", "gzip": "gzip", "jq": "jq", "xmllint": "libxml2-utils",
-            "strace": "strace", "openssl": "openssl"}
+PACKAGES = {"gzip": "gzip", "xmllint": "libxml2-utils", "strace": "strace", "openssl": "openssl"}
 
 
 # Findings
@@ -90,7 +89,8 @@ def table_of_codes():
     rules = read(TOP + "/docs/RULES.md").split("\n## Codes\n")[1].split("\n## ")[0]
     codes = set(re.findall(r"\b[ES]\d+\b", "".join(row.split("|")[1] for row in rules.splitlines()
                                                    if row.startswith("|"))))
-    rows = [row.split("\t") for row in read(REPORTS + "codes").splitlines() if row[0] != "#"]
+    table = read(CONTRIB + "/ocfl_scrub_reports/codes")
+    rows = [row.split("\t") for row in table.splitlines() if row[0] != "#"]
     is_so("codes of the table", sorted(row[0] for row in rows), sorted(codes))
     is_so("their weights", sorted({row[1] for row in rows}), ["-", "1", "2", "3", "4"])
     apart = {"E001", "E015", "E023", "E024", "E069", "E072", "E073", "E076", "E080", "E092", "E093",
@@ -121,6 +121,7 @@ Broken lines: 0
 Report SHA-256: {digest}
 Objects: 4
 Objects without findings: 2
+Content files: 5
 Files found right: 4
 Bytes found right: 9223372036854775811
 Findings: 4
@@ -133,19 +134,27 @@ Objects gone: 1
 Files gone: 2
 List of what is gone, SHA-256: {gone}
 Expected objects missing: 1
+Objects gone and not back: 1
+Files gone and not back: 2
 Program: ocfl-scrub 0.1.0
 Program commit: 0123abcd
 Program SHA-256: {program}
 Program file dated: 2026-01-01T00:00:00Z
 Programs of its runs, SHA-256: not known
+Statement before, SHA-256: no statement
+Not looked at: {not_looked_at}
 """
+
+
+NOT_LOOKED_AT = "versions, states and ids of inventories; inventories of versions; logs and " \
+    "extensions; files of objects whose inventory cannot be used"
 
 
 def text_of(made, state):
     """The statement of the second cycle of `audited`, by this program."""
     return TEXT.format(declaration="d" * 64, state=state.path, host=os.uname().nodename,
                        gone=digest(GONE.encode()), program=digest(common.read(made)),
-                       digest=digest("".join(LINES).encode()))
+                       digest=digest("".join(LINES).encode()), not_looked_at=NOT_LOOKED_AT)
 
 
 def statement(folder):
@@ -181,8 +190,9 @@ def as_json(text):
     """What a statement says, as its JSON form should."""
     rows = [row.split(": ", 1) for row in text.splitlines()[2:]]
     numbers = {"Cycle", "Nights", "Runs", "Cut nights", "Report lines", "Broken lines", "Objects",
-               "Objects without findings", "Files found right", "Bytes found right", "Findings",
-               "Compared with cycle", "Objects gone", "Files gone", "Expected objects missing"}
+               "Objects without findings", "Content files", "Files found right",
+               "Bytes found right", "Findings", "Compared with cycle", "Objects gone", "Files gone",
+               "Expected objects missing", "Objects gone and not back", "Files gone and not back"}
     made = {"form": "ocfl-scrub statement 1",
             "findings_by_code": {name[9:]: int(value) for name, value in rows
                                  if name.startswith("Findings ")}}
@@ -218,7 +228,7 @@ def incomplete_statement(folder):
               "Program commit: not known", "Program SHA-256: " + digest(common.read(made))]
     is_so("what it says", [row for row in wanted if "\n%s\n" % row not in text], [])
     is_so("as JSON", json.loads(state.has("reports/statement-000001.json"))["whole"], False)
-    is_so("it is so", ask("verify-statement", state.path + "/reports/statement-000001")[0], 0)
+    is_so("it is so", ask("verify", state.path + "/reports/statement-000001")[0], 0)
     os.remove(state.path + "/reports/incomplete-000001")
     os.remove(state.path + "/reports/statement-000001")
     status, _, said = ask("statement", state.path, 1, OCFL_SCRUB=made)
@@ -250,8 +260,8 @@ def real_program(folder):
     launcher = write(clone + "/ocfl-scrub", '#!/bin/sh\nexec %s "$@"\n' % built, 0o755)
     for number, given in enumerate(["", launcher]):
         os.remove(state.path + "/reports/statement-000001")
-        is_so("in a clone %d" % number, ran([clone + "/contrib/reports/statement", state.path, "1"],
-                                            OCFL_SCRUB=given), (0, "", ""))
+        is_so("in a clone %d" % number, ran([clone + "/contrib/ocfl-scrub-reports", "statement",
+                                             state.path, "1"], OCFL_SCRUB=given), (0, "", ""))
         is_so("it is not the launcher's digest", wanted[0] in
               state.has("reports/statement-000001"), True)
 
@@ -329,7 +339,8 @@ def told_seals(folder):
     """The seals of contrib/README.md, and what checks them; those whose tool is not here are not
     tried."""
     page = read(TOP + "/contrib/README.md")
-    told = re.findall(r"^    reports/statement --seal '(.*)' ~/audit 1\n    (.*)\n", page, re.M)
+    command = "ocfl-scrub-reports statement --seal '(.*)' ~/audit 1"
+    told = re.findall(r"^    %s\n    (.*)\n" % command, page, re.M)
     is_so("seals told", [seal.split()[0] for seal, _ in told], ["gpg", "minisign", "openssl"])
     home = folder + "/home"
     make_keys(home)
@@ -363,11 +374,12 @@ def verifying(folder):
     file = state.path + "/reports/statement-000002"
     report = state.path + "/reports/cycle-000002"
     holds = (0, "%s is what statement-000002 says\n" % report, "")
-    is_so("it holds", ask("verify-statement", file), holds)
+    is_so("it holds", ask("verify", file), holds)
     with open(report, "rb") as plain:
         write(folder + "/other.gz", gzip.compress(plain.read()))
-    is_so("of another copy", ask("verify-statement", file, folder + "/other.gz")[0], 0)
+    is_so("of another copy", ask("verify", file, folder + "/other.gz")[0], 0)
     counted = ["Report lines", "Broken lines", "Report SHA-256", "Objects", "Findings S08",
+               "Content files",
                "Objects without findings", "Files found right", "Bytes found right", "Findings",
                "Objects gone", "Files gone", "List of what is gone, SHA-256", "Whole",
                "Expected objects missing", "Findings E007"]
@@ -375,23 +387,23 @@ def verifying(folder):
         old = re.search("^%s: (.*)$" % name, text, re.M)[1]
         new = {"yes": "no"}.get(old, old[:-1] + ("1" if old[-1] != "1" else "2"))
         write(file, text.replace("\n%s: %s\n" % (name, old), "\n%s: %s\n" % (name, new)))
-        status, out, _ = ask("verify-statement", file)
+        status, out, _ = ask("verify", file)
         is_so("changed: " + name, (status, out.splitlines()), (1, [
             "%s: the statement says %s, and it is %s" % (name, new, old),
             "%s.json does not say the same as %s" % (file, file)]))
         write(file, text.replace("\n%s: %s\n" % (name, old), "\n"))
         is_so("missing: " + name, "%s: the statement lacks it, and it is %s" % (name, old) in
-              ask("verify-statement", file)[1], True)
+              ask("verify", file)[1], True)
     write(file, text.replace("Findings E007: 1", "Findings E007: 1\nFindings E033: 1"))
     is_so("a code that is not there", "Findings E033: the statement says 1, and it is 0" in
-          ask("verify-statement", file)[1], True)
+          ask("verify", file)[1], True)
     write(file, text.replace("Host: ", "Host: x"))
-    is_so("JSON says another host", ask("verify-statement", file)[0], 1)
+    is_so("JSON says another host", ask("verify", file)[0], 1)
     write(file, text)
     changed_reports(file, report)
     for words, status in [([], 2), ([file, file, file], 2), (["--what"], 2),
                           ([folder + "/none"], 3), ([report], 3), ([file, folder + "/none"], 3)]:
-        is_so("verify-statement %d" % status, ask("verify-statement", *words)[0:2], (status, ""))
+        is_so("verify %d" % status, ask("verify", *words)[0:2], (status, ""))
 
 
 def changed_reports(file, report):
@@ -401,7 +413,7 @@ def changed_reports(file, report):
                        ("two lines exchanged", b"".join(
                            text.encode() for text in [LINES[1], LINES[0]] + LINES[2:]))]:
         write(report, data)
-        status, out, _ = ask("verify-statement", file)
+        status, out, _ = ask("verify", file)
         is_so("report: " + name, (status, "Report SHA-256: the statement says" in out), (1, True))
     write(report, kept)
 
@@ -437,6 +449,15 @@ def premis_of(state, *words):
     return events
 
 
+def lost(name):
+    """The events of what is gone, when the cycle was closed. A file that is gone is of the root."""
+    closed = "2026-02-03T23:00:00Z"
+    return [("cycle-000002:gone:1", closed, [("fail", "gone: p")], ("OCFL object path", "p")),
+            ("cycle-000002:gone:2", closed, [("fail", "gone: p/v1/content/a")], name),
+            ("cycle-000002:gone:3", closed, [("fail", "gone: p/v1/content/b")], name),
+            ("cycle-000002:gone:4", closed, [("fail", "missing: z")], ("OCFL object path", "z"))]
+
+
 def premis(folder):
     state, made = audited(folder)
     text = text_of(made, state)
@@ -464,15 +485,16 @@ def premis(folder):
             ("cycle-000002:finding:6", last, [fail(LINES[5])], path("o2")),
             ("cycle-000002:finding:11", last, [fail(LINES[10])], path("o3-4")),
             ("cycle-000002:finding:12", last, [fail(LINES[11])], path("o3-4"))]
-    is_so("one for each finding", premis_of(state, "--each", "finding"), each)
+    is_so("one for each finding", premis_of(state, "--each", "finding"), each + lost(name))
     whole = [("cycle-000002:object:3", first, [("pass",)], path("o")),
              ("cycle-000002:object:6", last, [fail(LINES[5])], path("o2")),
              ("cycle-000002:object:9", last, [("pass",)], path("o3")),
              ("cycle-000002:object:10", last, [fail(LINES[10]), fail(LINES[11])], path("o3-4"))]
-    is_so("one for each object", premis_of(state, "--each", "object"), each[:1] + whole)
+    is_so("one for each object", premis_of(state, "--each", "object"),
+          each[:1] + whole + lost(name))
     with_id = whole[0][:3] + (("OCFL object id", identity.replace("\x01", "\ufffd")),)
     is_so("with ids", premis_of(state, "--ids", "--each", "object"),
-          each[:1] + [with_id] + whole[1:])
+          each[:1] + [with_id] + whole[1:] + lost(name))
     strange_paths(folder, state, root, made)
     for words in [[], [state.path], ["--each", "x", state.path, 2], [state.path, "0"]]:
         is_so("usage of premis", ask("premis", *words)[0:2], (2, ""))
@@ -482,7 +504,7 @@ def premis(folder):
     write(file, text.replace("Whole: yes", "Whole: no"))
     for words in [[], ["--each", "object"]]:
         is_so("of a report that is not whole", premis_of(state, *words)[0], 3)
-    is_so("findings of it", len(premis_of(state, "--each", "finding")), 4)
+    is_so("findings of it", len(premis_of(state, "--each", "finding")), 8)
 
 
 def strange_paths(folder, state, root, made):
@@ -494,7 +516,7 @@ def strange_paths(folder, state, root, made):
         "%%%02X" % byte for byte in c.encode()) for c in path) for path in paths]
     kept = common.read(state.path + "/reports/cycle-000002")
     write(state.path + "/reports/cycle-000002", "".join(line("ok", path) for path in shown))
-    ids = [event[3][1] for event in premis_of(state, "--ids", "--each", "object")]
+    ids = [event[3][1] for event in premis_of(state, "--ids", "--each", "object")[:-4]]
     is_so("ids of strange paths", ids, ["id %d" % number for number in range(len(paths))])
     write(state.path + "/reports/cycle-000002", kept)
 
@@ -519,16 +541,15 @@ def takes_little(folder):
             file.write("%s\tobject-%06d/v1/content/a-file\t%s\n" % (code, number, number))
     shutil.copy(report, state.path + "/report")
     calls = folder + "/calls"
-    for words in [[REPORTS + "statement", state.path, "2"], [CONTRIB + "/status", state.path],
-                  [REPORTS + "verify-statement", state.path + "/reports/statement-000002"],
-                  [REPORTS + "premis", "--each", "finding", state.path, "2"],
-                  [REPORTS + "findings", report]]:
-        name = os.path.basename(words[0])
-        limited = ["sh", "-c", 'ulimit -d 20000; exec "$@"', "sh"] + words
+    for words in [["statement", state.path, "2"], ["status", state.path],
+                  ["verify", state.path + "/reports/statement-000002"],
+                  ["premis", "--each", "finding", state.path, "2"], ["findings", report]]:
+        name = words[0]
+        limited = ["sh", "-c", 'ulimit -d 100000; exec "$@"', "sh", REPORTS] + words
         began = used()
         traced = ["strace", "-f", "--quiet=all", "-y", "-e", "trace=open,openat", "-o", calls]
         given, out, said = ran(traced + limited, OCFL_SCRUB=made)
-        is_so("%s within 20 MB" % name, (given, said), (2 if name == "status" else 0, ""))
+        is_so("%s within 100 MB" % name, (given, said), (2 if name == "status" else 0, ""))
         opened = [row for row in read(calls).splitlines() if row.endswith("<%s>" % report)]
         is_so("%s opens the report once" % name, len(opened), 1)
         is_so("%s takes less than a minute" % name, used() - began < 60, True)

@@ -10,12 +10,12 @@ import shutil
 
 import common
 from common import PROGRAM, is_so
-from shared.nights import (CONTRIB, WRONG_B, Nights, instead, make_root, ran, read, tried_apart,
-                           write)
+from shared.nights import (CONTRIB, REPORTS, WRONG_B, Nights, instead, make_root, ran, read,
+                           tried_apart, write)
 
 
 def tell_words(nights):
-    return [CONTRIB + "/tell", "archive", nights.state]
+    return [REPORTS, "tell", "archive", nights.state]
 
 
 def mailing(folder):
@@ -249,7 +249,7 @@ def names(folder):
                         ("x\\n", "x\\n")]:
         for text in ["", "1 finding\n"]:
             write(nights.path("tonight"), text)
-            words = [CONTRIB + "/tell", name, nights.state]
+            words = [REPORTS, "tell", "--", name, nights.state]
             ran(words, EXIT_CODE="exited", EXIT_STATUS="1", **mail)
             is_so("the subject of %r" % name, read(folder + "/subject"),
                   "ocfl-scrub: findings in %s\n" % shown)

@@ -10,7 +10,7 @@ import shutil
 
 import common
 from common import PROGRAM, is_so
-from shared.nights import (CONTRIB, Nights, instead, ran, read, tried_apart, write)
+from shared.nights import CONTRIB, REPORTS, Nights, instead, ran, read, tried_apart, write
 from shared.spaces import in_space, path_with, tried_where_mounts_are
 
 FILES = {"v1/content/a": b"abc", "v1/content/b": b"abc"}
@@ -174,7 +174,7 @@ def nobody_sends(folder):
     is_so("a third night too",
           (nights.night("1", more=["--for-tell"], INVOCATION_ID="night3")[0], told(left(nights)),
            left(nights).count("Not sent on")), (1, [1, 0], 1))
-    status, _, said = ran([CONTRIB + "/tell", "archive", nights.state], INVOCATION_ID="night3",
+    status, _, said = ran([REPORTS, "tell", "archive", nights.state], INVOCATION_ID="night3",
                           EXIT_CODE="exited", EXIT_STATUS="1", MAIL="")
     is_so("sent", (status, told(said)), (0, [1, 0]))
     is_so("and silent then", (nights.night("1", more=["--for-tell"], INVOCATION_ID="night4"),

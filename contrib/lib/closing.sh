@@ -201,7 +201,7 @@ count_gone() {
 # Sets `found` to the codes of the findings of a report, each with its number.
 count_codes() {
   found=$(LC_ALL=C grep -E -v "$no_findings" < "$1" | LC_ALL=C awk -F '\t' \
-    -f "$here/reports/report.awk" -f "$here/lib/codes.awk")
+    -f "$here/lib/codes.awk")
 }
 
 # Logs the end of the cycle.
@@ -224,10 +224,11 @@ write_statement() {
   # Whoever moved the report away wants no statement here.
   find_closed "$cycle"
   [ -e "$closed_file" ] || return 0
-  "$here/reports/statement" ${seal:+--seal "$seal"} "$state" "$cycle" > /dev/null && return 0
+  "$here/ocfl-scrub-reports" statement ${seal:+--seal "$seal"} -- "$state" "$cycle" > /dev/null \
+    && return 0
   unstated=yes
   printf '%s\n' "The statement of cycle $cycle could not be made or sealed. To try again:" \
-    "$here/reports/statement${seal:+ --seal COMMAND} $state $cycle" >&2
+    "$here/ocfl-scrub-reports statement${seal:+ --seal COMMAND} $state $cycle" >&2
 }
 
 # Compresses the reports of all cycles but the one that was closed last, and removes those that are

@@ -1,7 +1,7 @@
 # Reads the table of parts, and writes it with the part NAME divided at the branch of PLACE: what
 # comes before the branch, the branch alone, and what comes after it. The first piece keeps its
 # name. Names and places come from the environment. Ends with status 1 where nothing changes. Read
-# after `reports/report.awk`.
+# after `places.awk`.
 BEGIN {
   FS = OFS = "\t"
   name = ENVIRON["NAME"]

@@ -28,7 +28,7 @@ divide_parts() {
   while IFS=$tab read -r number name _ _ alone _ _ stopped since _; do
     branch=$(branch_of "$stopped")
     if [ "$branch" = "$alone" ] || ! can_stand_alone "$branch"; then continue; fi
-    NAME=$name PLACE=$branch LC_ALL=C awk -f "$here/reports/report.awk" \
+    NAME=$name PLACE=$branch LC_ALL=C awk -f "$here/lib/places.awk" \
       -f "$here/lib/dividing.awk" "$set/table" > "$set/table.new"
     case $? in 0) ;; 1) continue ;; *) return 3 ;; esac
     mv -f -- "$set/table.new" "$set/table" || return 3

@@ -59,7 +59,7 @@ has_lines() {
 
 # Shows the twenty gravest of the findings in a file. If they cannot be sorted, it shows the first.
 show_gravest() {
-  "$here/reports/findings" --by-weight "$1" > "$scratch/sorted" \
+  "$here/ocfl-scrub-reports" findings --by-weight -- "$1" > "$scratch/sorted" \
     || cp -- "$1" "$scratch/sorted" || return 3
   head -n 20 -- "$scratch/sorted"
 }

@@ -25,7 +25,7 @@ is_set() {
 }
 
 in_order() {
-  LC_ALL=C awk -f "$here/reports/report.awk" -f "$here/lib/separators.awk" \
+  LC_ALL=C awk -f "$here/lib/places.awk" -f "$here/lib/separators.awk" \
     | LC_ALL=C sort -u -t "$tab" -k 1,1 | cut -f 2
 }
 

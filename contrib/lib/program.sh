@@ -1,5 +1,5 @@
 #!/bin/sh
-# The file of the program that a night runs. `nightly` and `reports/statement` read this file.
+# The file of the program that a night runs. `nightly` reads this file.
 # shellcheck disable=SC2034,SC2154
 
 # Sets `program_file` to the program itself: in a clone a launcher is called, which runs the program

@@ -17,5 +17,5 @@ while :; do
   rm -f -- "$state/tonight.$INVOCATION_ID"
   sleep 5
 done
-EXIT_STATUS=$status "$here/tell" "${root##*/}" "$state" || exit 3
+EXIT_STATUS=$status "$here/ocfl-scrub-reports" tell -- "${root##*/}" "$state" || exit 3
 case $status in 0 | 1) exit 0 ;; *) exit "$status" ;; esac

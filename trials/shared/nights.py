@@ -13,6 +13,7 @@ import common
 from common import PROGRAM, TOP, digest
 
 CONTRIB = os.path.abspath(os.environ.get("OCFL_SCRUB_CONTRIB") or os.path.join(TOP, "contrib"))
+REPORTS = CONTRIB + "/ocfl-scrub-reports"
 ITEMS = ["ok\t.\t-\n", "ok\to\t-\n", "ok\to/v1/content/a\t3\n", "ok\to/v1/content/b\t0\n",
          "ok\to/v1/content/c\t3\n"]
 WRONG_B = "E092\to/v1/content/b\tsha256 %s %s\n" % (digest(b""), digest(b"b"))
@@ -57,7 +58,7 @@ def is_found(line):
 
 
 def ask(name, *words, **environment):
-    return ran([CONTRIB + "/reports/" + name] + list(words), **environment)
+    return ran([REPORTS, name, *words], **environment)
 
 
 def instead(folder, name, body):

@@ -148,7 +148,7 @@ def told_in(said):
 
 def is_stated(name, nights, report):
     file = "reports/statement-" + report.split("-")[1]
-    return common.is_so(name, ask("verify-statement", nights.path(file)),
+    return common.is_so(name, ask("verify", nights.path(file)),
                         (0, "%s is what %s says\n" % (nights.path("reports/" + report), file[8:]),
                          ""))
 

@@ -15,7 +15,7 @@ import common
 from common import TOP, digest, is_so
 
 CONTRIB = os.path.abspath(os.environ.get("OCFL_SCRUB_CONTRIB") or os.path.join(TOP, "contrib"))
-REPORTS = CONTRIB + "/reports/"
+REPORTS = CONTRIB + "/ocfl-scrub-reports"
 NOTHING = "0" * 64
 VERSION = """#!/bin/sh
 printf 'ocfl-scrub 0.1.0\\ncommit 0123abcd\\nkit k\\nsha256 %s\\n' {digest}
@@ -48,7 +48,7 @@ def ran(words, **environment):
 
 
 def ask(name, *words, **environment):
-    return ran([REPORTS + name] + [str(word) for word in words], **environment)
+    return ran([REPORTS, name, *map(str, words)], **environment)
 
 
 def line(code, path, detail="-"):

@@ -1,0 +1,152 @@
+"""Files as the commands read and write them: whose they are, links, compression, whole lines."""
+from __future__ import annotations
+
+import os
+import shutil
+import sys
+import tempfile
+import zlib
+from typing import IO, Iterable, Iterator
+
+BLOCK = 1 << 20
+# So little is inflated at once that no file makes much of it.
+PACKED = 1 << 15
+
+
+class Failed(Exception):
+    """Ends a command with a text and a status."""
+
+    def __init__(self, text: str, status: int = 3) -> None:
+        super().__init__(text)
+        self.text, self.status = text, status
+
+
+def say(text: str) -> None:
+    """Writes a line to standard error."""
+    print(text, file=sys.stderr, flush=True)
+
+
+def unreadable(path: str) -> Failed:
+    return Failed(path + " cannot be read")
+
+
+# Owners and links
+
+def drop_to_owner_of(path: str) -> None:
+    """Where root asks about what another user owns, goes on with the rights of that user, who can
+    put a link or anything else there. A link is of the user who made it, or of the user of what it
+    leads to."""
+    if os.geteuid() != 0:
+        return
+    for follows in (False, True):
+        try:
+            user = os.stat(path, follow_symlinks=follows).st_uid
+            group = os.stat(path).st_gid
+        except OSError:
+            continue
+        if user != 0:
+            os.setgroups([])
+            os.setresgid(group, group, group)
+            os.setresuid(user, user, user)
+            return
+
+
+def drop_to_owners_of(paths: Iterable[str]) -> None:
+    """The same for what a command is given: a folder, or a file and the folder that holds it."""
+    for path in paths:
+        drop_to_owner_of(path)
+        if not os.path.isdir(path) and os.path.lexists(path):
+            drop_to_owner_of(os.path.dirname(path) or ".")
+
+
+def refuse_links(*paths: str) -> None:
+    """Fails if one of these is a link, wherever it leads: nothing in a state folder is one."""
+    for path in paths:
+        if os.path.islink(path):
+            raise Failed(path + " is a link, and no link in a state folder is followed")
+
+
+# Reading
+
+def chunks(path: str) -> Iterator[bytes]:
+    """The bytes of a file, plain or compressed, as they are without compression."""
+    if not os.path.isfile(path):
+        raise unreadable(path)
+    try:
+        with open(path, "rb", buffering=0) as file:
+            is_packed = path.endswith(".gz") or file.read(2) == b"\x1f\x8b"
+            file.seek(0)
+            yield from inflated(file) if is_packed else iter(lambda: file.read(BLOCK), b"")
+    except (OSError, EOFError, zlib.error) as error:
+        raise unreadable(path) from error
+
+
+def inflated(file: IO[bytes]) -> Iterator[bytes]:
+    """What a gzip file holds, member after member."""
+    inflater = zlib.decompressobj(31)
+    while data := inflater.unused_data.lstrip(b"\0") or file.read(PACKED):
+        if inflater.eof:
+            data = data.lstrip(b"\0")
+            if not data:
+                continue
+            inflater = zlib.decompressobj(31)
+        yield inflater.decompress(data)
+    if not inflater.eof:
+        raise EOFError
+
+
+def blocks(path: str) -> Iterator[bytes]:
+    """The lines of a file, many at a time: each block is a line feed, and then whole lines. Only
+    the last line of a file may lack its own line feed."""
+    rest = [b"\n"]
+    for chunk in chunks(path):
+        end = chunk.rfind(b"\n") + 1
+        if end:
+            yield b"".join(rest) + chunk[:end]
+            rest = [b"\n"]
+        rest.append(chunk[end:])
+    last = b"".join(rest)
+    if last != b"\n":
+        yield last
+
+
+def lines(path: str) -> Iterator[bytes]:
+    """The lines of a file without their line feeds."""
+    for block in blocks(path):
+        yield from block[1:].removesuffix(b"\n").split(b"\n")
+
+
+def text_of(data: bytes) -> str:
+    """Bytes of any kind as text, which `bytes_of` makes the same bytes again."""
+    return os.fsdecode(data)
+
+
+def bytes_of(text: str) -> bytes:
+    return os.fsencode(text)
+
+
+# Writing
+
+def spool() -> IO[bytes]:
+    """A place for what is written once all of it is known: little in memory, more on the disk."""
+    return tempfile.SpooledTemporaryFile(max_size=BLOCK)
+
+
+def pour(file: IO[bytes], out: IO[bytes] | None = None) -> None:
+    """Writes what a spool holds to standard output, or elsewhere."""
+    file.seek(0)
+    sys.stdout.flush()
+    shutil.copyfileobj(file, out or sys.stdout.buffer, BLOCK)
+
+
+def put(data: bytes, path: str) -> None:
+    """Puts a file in its place, whole or not at all. What lies there is exchanged, and no link is
+    followed."""
+    new = path + ".new"
+    if os.path.lexists(new):
+        os.remove(new)
+    with open(os.open(new, os.O_WRONLY | os.O_CREAT | os.O_EXCL, 0o640), "wb") as file:
+        file.write(data)
+        file.flush()
+        os.fsync(file.fileno())
+    os.replace(new, path)

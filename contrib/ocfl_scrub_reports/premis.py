@@ -1,0 +1,249 @@
+"""The fixity events of a closed cycle as PREMIS 3 XML."""
+from __future__ import annotations
+
+import json
+import os
+from bisect import bisect_left
+from dataclasses import dataclass, field
+from typing import Iterator
+from urllib.parse import unquote_to_bytes
+
+from . import files
+from .report import Line, Reading, is_within
+from .state import State
+from .statement import Statement, programs_of
+from .weights import Weights
+from .xml import element, text
+
+HEAD = """<?xml version="1.0" encoding="UTF-8"?>
+<premis xmlns="http://www.loc.gov/premis/v3"
+    xmlns:xsi="http://www.w3.org/2001/XMLSchema-instance" version="3.0">
+"""
+VOCABULARY = "http://id.loc.gov/vocabulary/preservation/"
+LOSSES = ("Objects gone", "Files gone", "Expected objects missing")
+
+
+@dataclass
+class Run:
+    """A run of the cycle: how many lines the report had after it, when it began, its program."""
+    lines: int
+    began: str
+    program: str
+
+
+@dataclass
+class Event:
+    """An event under way: the line at which it begins, the object that it is about (or `.`), and
+    what came of it, each with a note."""
+    identifier: str
+    detail: str
+    first: int
+    of: bytes
+    outcomes: list[tuple[str, bytes]] = field(default_factory=list)
+
+
+def term(name: str, kind: str, value: str, label: str) -> str:
+    """An element with a term of a controlled vocabulary."""
+    return element(name, label, authority=kind, authorityURI=VOCABULARY + kind,
+                   valueURI="%s%s/%s" % (VOCABULARY, kind, value))
+
+
+def identified(kind: str, *pairs: tuple[str, str]) -> str:
+    """Identifiers of a kind, each with its type and its value."""
+    return "".join(element(kind, element(kind + "Type", text(of)),
+                           element(kind + "Value", text(value))) for of, value in pairs)
+
+
+def outcome(word: str, note: bytes) -> str:
+    return element("eventOutcomeInformation", element("eventOutcome", word), element(
+        "eventOutcomeDetail", element("eventOutcomeDetailNote", text(
+            note.replace(b"\t", b" ").decode()))) if note else "")
+
+
+class Events:
+    """The events of one cycle, as they are found, and the objects and programs that they name."""
+
+    def __init__(self, state: State, cycle: int, each: str, with_ids: bool) -> None:
+        self.state, self.cycle, self.each, self.with_ids = state, cycle, each, with_ids
+        self.said = Statement.of(state, cycle)
+        if each != "finding" and self.said["Whole"] != "yes":
+            raise files.Failed("the report of cycle %d is not whole: try --each finding" % cycle)
+        self.report = self.said.report_beside(state.reports)
+        self.root_folder = state.bound_to("path")
+        if with_ids and not os.path.isdir(files.bytes_of(self.root_folder)):
+            raise files.Failed("the storage root is not at %s, so no id can be read"
+                               % self.root_folder)
+        self.root = "%s:%s" % (self.said["Host"], self.said["Storage root"])
+        self.runs = self.runs_of_cycle()
+        self.objects, self.events = files.spool(), files.spool()
+        self.agents: dict[str, None] = {}
+        self.weights = Weights()
+        self.object = self.shown = b""
+        self.identity: tuple[str, str] = ("", "")
+
+    def runs_of_cycle(self) -> list[Run]:
+        runs = [Run(run.lines, run.began, program or self.said["Program SHA-256"])
+                for run, program in programs_of(self.state, self.cycle) if run.lines > 0]
+        if not runs:
+            raise files.Failed("no night of this cycle is logged")
+        return runs
+
+    def run_of(self, line: int) -> int:
+        """The run that wrote a line."""
+        ends = [run.lines for run in self.runs]
+        return min(bisect_left(ends, line), len(ends) - 1)
+
+    # Objects
+
+    def name_object(self, path: bytes) -> tuple[str, str]:
+        """Writes an object once, and gives how events link to it: by its OCFL id, or its path."""
+        if path != self.shown:
+            self.shown = path
+            by_path = ("OCFL object path", path.decode())
+            found = self.id_of(path) if self.with_ids else None
+            self.identity = ("OCFL object id", found) if found is not None else by_path
+            pairs = [self.identity, by_path] if found is not None else [by_path]
+            self.put_object(*pairs)
+        return self.identity
+
+    def put_object(self, *pairs: tuple[str, str]) -> None:
+        made = element("object", identified("objectIdentifier", *pairs))
+        made = made.replace("<object>", '<object xsi:type="intellectualEntity">', 1)
+        self.objects.write(made.encode())
+
+    def id_of(self, path: bytes) -> str | None:
+        """The id in an object's inventory, if there is one that can be read."""
+        names = (unquote_to_bytes(name) for name in path.split(b"/"))
+        file = os.path.join(files.bytes_of(self.root_folder), *names, b"inventory.json")
+        try:
+            with open(file, "rb") as inventory:
+                known = json.load(inventory)
+        except (OSError, ValueError, RecursionError):
+            return None
+        found = known.get("id") if isinstance(known, dict) else None
+        return found if isinstance(found, str) and found else None
+
+    # Events
+
+    def event(self, event: Event, last: int, time: str | None = None) -> None:
+        """Writes an event whose lines end with this one."""
+        first, end = self.run_of(event.first), self.run_of(last)
+        programs = dict.fromkeys(run.program for run in self.runs[first:end + 1])
+        self.agents.update(programs)
+        link = (("OCFL storage root", self.root) if event.of == b"."
+                else self.name_object(event.of))
+        self.events.write(element(
+            "event",
+            identified("eventIdentifier", ("ocfl-scrub event", self.name() + event.identifier)),
+            term("eventType", "eventType", "fix", "fixity check"),
+            element("eventDateTime", time or self.runs[first].began),
+            element("eventDetailInformation", element("eventDetail", text(
+                "%s; %s" % (event.detail, self.details())))),
+            *(outcome(*it) for it in event.outcomes or [("pass", b"")]),
+            identified("linkingAgentIdentifier",
+                       *(("SHA-256 of the program", program) for program in programs)),
+            identified("linkingObjectIdentifier", link)).encode())
+
+    def name(self) -> str:
+        """How the identifiers of all events begin. Two folders of state can be of one root, and
+        one that was begun anew has its first cycle twice."""
+        return ":".join([self.root, *map(self.said.__getitem__, ("State folder", "Closed",
+                                                                 "Report"))])
+
+    def details(self) -> str:
+        return "cycle %d, report %s with SHA-256 %s" % (
+            self.cycle, self.said["Report"], self.said["Report SHA-256"])
+
+    # What the lines of the report give
+
+    def of_cycle(self) -> None:
+        reading = Reading(self.report)
+        found = sum(line.is_finding() for line in reading.apart())
+        lost = ["%s: %s" % (name, self.said[name]) for name in LOSSES
+                if self.said[name].strip("0").isdecimal()]
+        note = "; ".join(["%d findings in %d lines" % (found, reading.lines), *lost])
+        came = "fail" if found or lost else "pass"
+        event = Event("", "Audit of a storage root", 1, b".", [(came, note.encode())])
+        self.event(event, self.runs[-1].lines, self.runs[-1].began)
+
+    def lines(self) -> Iterator[tuple[Line, bool]]:
+        """The lines of the report apart from right files, and whether each begins an object."""
+        for line in Reading(self.report).apart():
+            begins = line.path != self.object and self.weights.is_of_object(*line[1:])
+            if begins:
+                self.object = line.path
+            yield line, begins
+
+    def of_findings(self) -> None:
+        for line, _ in self.lines():
+            if line.is_finding():
+                within = self.object and is_within(line.path, self.object)
+                self.finding(line, self.object if within else b".")
+
+    def finding(self, line: Line, of: bytes) -> None:
+        event = Event(":finding:%d" % line.number, "Finding of an audit", line.number, of,
+                      [("fail", line.text())])
+        self.event(event, line.number)
+
+    def of_objects(self) -> None:
+        event = None
+        number = 0
+        for line, begins in self.lines():
+            number = line.number
+            within = event and is_within(line.path, event.of)
+            # A finding outside of any object comes after the event of the object before it.
+            if event and (begins or line.is_finding() and not within):
+                self.event(event, number - 1)
+                event = None
+            if begins:
+                event = Event(":object:%d" % number, "Audit of an object", number, line.path)
+            if line.is_finding() and event:
+                event.outcomes.append(("fail", line.text()))
+            elif line.is_finding():
+                self.object = b""
+                self.finding(line, b".")
+        if event:
+            self.event(event, self.runs[-1].lines)
+
+    def write(self) -> None:
+        {"cycle": self.of_cycle, "finding": self.of_findings,
+         "object": self.of_objects}[self.each]()
+        self.of_losses()
+        out = files.spool()
+        out.write(HEAD.encode())
+        objects, self.objects = self.objects, out
+        self.put_object(("OCFL storage root", self.root))
+        for part in (objects, self.events):
+            files.pour(part, out)
+        for program in self.agents or [self.said["Program SHA-256"]]:
+            out.write(self.agent(program).encode())
+        out.write(b"</premis>\n")
+        files.pour(out)
+
+    def of_losses(self) -> None:
+        """What the cycle no longer found has no line in its report: an event for each line of the
+        list of what is gone, at the time when the cycle was closed."""
+        path = self.state.find("gone", self.cycle) if self.each != "cycle" else None
+        for number, line in enumerate(files.lines(path) if path else [], 1):
+            kind, _, place = line.partition(b"\t")
+            note = (b"missing: " if kind == b"expected" else b"gone: ") + place
+            event = Event(":gone:%d" % number, "Loss found by an audit", self.runs[-1].lines,
+                          b"." if kind == b"file" else place, [("fail", note)])
+            self.event(event, self.runs[-1].lines, self.said["Closed"])
+
+    def agent(self, program: str) -> str:
+        """A program. Version and commit are known of the one that the statement describes."""
+        name, _, version = self.said["Program"].partition(" ")
+        described = program == self.said["Program SHA-256"]
+        return element(
+            "agent", identified("agentIdentifier", ("SHA-256 of the program", program)),
+            element("agentName", text(name)), term("agentType", "agentType", "sof", "software"),
+            *([element("agentVersion", text(version)),
+               element("agentNote", text("commit " + self.said["Program commit"]))]
+              if described else []))
+
+
+def show(state: State, cycle: int, each: str, with_ids: bool) -> None:
+    """Writes the events of a cycle: one for the cycle, or one for each finding or object."""
+    state.refuse_links()
+    Events(state, cycle, each, with_ids).write()

@@ -1,0 +1,133 @@
+"""Questions to reports that need nothing but the reports."""
+from __future__ import annotations
+
+import json
+import sqlite3
+import sys
+from collections import Counter
+from itertools import islice
+from typing import IO, Iterable, Iterator
+
+from . import files, report
+from .weights import Known, Weights
+
+# So many findings are held in memory at once.
+HELD = 100000
+
+
+def show_findings(reports: list[str], older: str | None = None, known: str | None = None,
+                  weights: Weights | None = None) -> None:
+    """Writes the findings of reports: those that OLDER lacks, and that are not known; with weights
+    the gravest first."""
+    leave_out = Known(known)
+    found = files.spool()
+    for path in reports:
+        for lines in report.findings(path):
+            write_lines(found, leave_out.without(lines))
+    if older:
+        found = new_ones(found, older)
+    if weights:
+        found = by_weight(found, weights)
+    files.pour(found)
+
+
+def write_lines(out: IO[bytes], lines: list[bytes]) -> None:
+    if lines:
+        out.write(b"\n".join(lines) + b"\n")
+
+
+def lines_of(spool: IO[bytes]) -> Iterator[bytes]:
+    spool.seek(0)
+    return (line.rstrip(b"\n") for line in spool)
+
+
+def new_ones(found: IO[bytes], older: str) -> IO[bytes]:
+    """Those of the lines that a report lacks, in their order. The report is read once for each
+    100,000 lines, so that no more are in memory."""
+    new, lines = files.spool(), lines_of(found)
+    while held := dict.fromkeys(islice(lines, HELD)):
+        for others in report.findings(older):
+            for line in others:
+                held.pop(line, None)
+        write_lines(new, list(held))
+    return new
+
+
+def by_weight(found: IO[bytes], weights: Weights) -> IO[bytes]:
+    """The same lines, the gravest first, and those of one weight in their order."""
+    return gravest_first((weights.weight(line), line) for line in lines_of(found))
+
+
+def gravest_first(weighed: Iterable[tuple[bytes, bytes]]) -> IO[bytes]:
+    spools: dict[bytes, IO[bytes]] = {}
+    for weight, line in weighed:
+        if weight not in spools:
+            spools[weight] = files.spool()
+        spools[weight].write(line + b"\n")
+    whole = files.spool()
+    for weight in sorted(spools):
+        files.pour(spools[weight], whole)
+    return whole
+
+
+def show_totals(reports: list[str]) -> None:
+    """Writes how many lines of each code reports have."""
+    counts: Counter[bytes] = Counter()
+    for path in reports:
+        for block in report.Reading(path).whole():
+            others = report.CODES_APART.findall(block)
+            counts.update(others)
+            counts[b"ok"] += block.count(b"\nok\t")
+    for code in sorted(counts):
+        if counts[code]:
+            print("%s\t%d" % (code.decode(), counts[code]))
+
+
+def show_bytes(reports: list[str]) -> None:
+    """Writes how many content files reports call right, and the sum of their bytes."""
+    count = total = 0
+    for path in reports:
+        for block in report.Reading(path).whole():
+            sizes = report.RIGHT.findall(block)
+            count += len(sizes)
+            total += sum(map(int, sizes))
+    print("%d files, %d bytes" % (count, total))
+
+
+def show_json(reports: list[str]) -> None:
+    """Writes each line of reports as a JSON object."""
+    for path in reports:
+        for _ in report.Reading(path).whole():
+            pass
+    for path in reports:
+        for block in report.Reading(path).whole():
+            for line in filter(None, block[1:-1].decode().split("\n")):
+                sys.stdout.write(as_json(*line.split("\t")) + "\n")
+
+
+def as_json(code: str, path: str, detail: str) -> str:
+    line = {"code": code, "path": path, "detail": detail, "finding": code not in ("ok", "S07")}
+    if code == "ok" and detail != "-":
+        line["bytes"] = int(detail)
+    return json.dumps(line, separators=(",", ":"))
+
+
+CHANGED = """
+select min(sign), line from line group by line having min(sign) = max(sign)
+order by min(path), min(sign) desc, line
+"""
+
+
+def show_changed(older: str, newer: str) -> None:
+    """Writes the lines that only one of two reports has, by path: `-` before those of the older
+    one, `+` before those of the newer one. They are sorted on the disk."""
+    database = sqlite3.connect("")
+    database.execute("create table line (sign blob, path blob, line blob)")
+    for sign, path in ((b"-", older), (b"+", newer)):
+        for block in report.Reading(path).whole():
+            database.executemany("insert into line values (?, ?, ?)", (
+                (sign, line.split(b"\t")[1], line) for line in block[1:-1].split(b"\n") if line))
+    sys.stdout.flush()
+    for sign, line in database.execute(CHANGED):
+        sys.stdout.buffer.write(sign + b"\t" + line + b"\n")
+    database.close()

@@ -1,0 +1,121 @@
+"""Reports by the grammar of their lines, some thousand lines at a time.
+
+A block is a line feed and then whole lines, so that each line stands between two line feeds. The
+searches below go over a whole block at once; a loop over lines would take many times as long.
+"""
+from __future__ import annotations
+
+import re
+from typing import Callable, Iterator, NamedTuple
+
+from . import files
+
+CODE = rb"ok|E[0-9]{3}|S[0-9]{2}"
+ESCAPE = rb"%(?:[01][0-9A-F]|25|7F|[89A-F][0-9A-F])"
+TEXT = rb"(?:[ -$&-~]|" + ESCAPE + rb")+"
+LINE = re.compile(rb"(" + CODE + rb")\t(" + TEXT + rb")\t(" + TEXT + rb")")
+PRINTABLE = bytes(range(0x20, 0x7F))
+OTHER_CODE = re.compile(rb"\n(?:E[0-9]{3}|S[0-9]{2})\t")
+BAD_ESCAPE = re.compile(rb"%(?!" + ESCAPE[1:] + rb")")
+FINDING = re.compile(rb"\n(?!S07\t)([ES][^\n]*)")
+# All lines but those of content files that were found right.
+APART = re.compile(rb"\n(?!ok\t[^\t\n]+\t[0-9])([^\t\n]+)\t([^\t\n]+)\t([^\n]+)")
+RIGHT = re.compile(rb"\nok\t[^\t\n]+\t([0-9]+)")
+CODES_APART = re.compile(rb"\n(?!ok\t)([^\t\n]+)")
+NO_FINDINGS = (b"ok", b"S07")
+
+
+class Line(NamedTuple):
+    number: int
+    code: bytes
+    path: bytes
+    detail: bytes
+
+    def text(self) -> bytes:
+        return b"\t".join(self[1:])
+
+    def is_finding(self) -> bool:
+        return self.code not in NO_FINDINGS
+
+
+class Reading:
+    """One reading of a report, from its first line to its last."""
+
+    def __init__(self, path: str, each_block: Callable[[bytes], object] | None = None) -> None:
+        self.path, self.each_block = path, each_block
+        # How many lines were read, and how many of them are no lines of a report.
+        self.lines = self.odd = self.first_odd = 0
+
+    def blocks(self) -> Iterator[bytes]:
+        """The blocks of the report. What is no line of a report is an empty line in them."""
+        for block in files.blocks(self.path):
+            if self.each_block:
+                self.each_block(block[1:])
+            count = max(1, block.count(b"\n") - 1)
+            yield block if are_lines(block, count) else self.mended(block)
+            self.lines += count
+
+    def mended(self, block: bytes) -> bytes:
+        kept = [b""]
+        for number, line in enumerate(block[1:].split(b"\n")[:-1], self.lines + 1):
+            kept.append(line if LINE.fullmatch(line) else self.note_odd(number))
+        if not block.endswith(b"\n"):
+            self.note_odd(self.lines + len(kept))
+        return b"\n".join(kept) + b"\n"
+
+    def note_odd(self, number: int) -> bytes:
+        self.odd += 1
+        self.first_odd = self.first_odd or number
+        return b""
+
+    def refuse_odd(self) -> None:
+        """Fails if something that was read is no line of a report."""
+        if self.odd:
+            raise files.Failed("%s: %d line(s) are no lines of a report, the first is line %d"
+                               % (self.path, self.odd, self.first_odd))
+
+    def whole(self) -> Iterator[bytes]:
+        """The blocks; fails at the end if something is no line of a report."""
+        yield from self.blocks()
+        self.refuse_odd()
+
+    def apart(self) -> Iterator[Line]:
+        """The lines of all but content files that were found right, with their numbers."""
+        for block in self.blocks():
+            number, at = self.lines + 1, 1
+            for found in APART.finditer(block):
+                number += block.count(b"\n", at, found.start() + 1)
+                at = found.start() + 1
+                yield Line(number, *found.groups())
+
+
+def are_lines(block: bytes, count: int) -> bool:
+    """Whether a block has nothing but lines of a report, `count` of them."""
+    if block.translate(None, PRINTABLE) != b"\n" + b"\t\t\n" * count:
+        return False
+    if b"\t\t" in block or b"\t\n" in block:
+        return False
+    right = block.count(b"\nok\t")
+    if right != count and right + len(OTHER_CODE.findall(block)) != count:
+        return False
+    return b"%" not in block or not BAD_ESCAPE.search(block)
+
+
+def findings(path: str, must_be_whole: bool = True) -> Iterator[list[bytes]]:
+    """The findings of a report as their lines, many at a time."""
+    reading = Reading(path)
+    for block in reading.whole() if must_be_whole else reading.blocks():
+        found = FINDING.findall(block)
+        if found:
+            yield found
+
+
+def paths(path: str) -> Iterator[list[bytes]]:
+    """The paths of all lines, many at a time."""
+    for block in Reading(path).blocks():
+        yield block.split(b"\t")[1::2]
+
+
+def is_within(path: bytes, above: bytes) -> bool:
+    """Whether a place is at another one or below it."""
+    return path == above or path.startswith(above + b"/")

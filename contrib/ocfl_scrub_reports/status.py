@@ -1,0 +1,364 @@
+"""How the nights of a storage root are going: a line for a monitor, and figures for Prometheus."""
+from __future__ import annotations
+
+import math
+import os
+import re
+import tempfile
+from collections import Counter
+from dataclasses import dataclass, field
+from datetime import datetime, timezone
+from typing import IO, Iterator, Optional, Tuple
+
+from . import files, standing
+from .questions import gravest_first
+from .state import Closing, Entry, State, closing_of
+from .weights import Known, Weights
+
+WORDS = ("OK", "WARNING", "CRITICAL", "UNKNOWN")
+# Killed is worse than cut, and that than these.
+RANKS = {"0": 0, "1": 1, "3": 2, "4": 3, "2": 4, "cut": 5}
+# From which number on there is a warning, and an alarm; None stands for never.
+Limit = Tuple[Optional[int], Optional[int]]
+
+
+def rank(status: str) -> int:
+    return RANKS.get(status, 6)
+
+
+def seconds_of(time: str) -> int:
+    """The seconds since 1970 of a time like 2025-03-01T22:00:00Z."""
+    moment = datetime.fromisoformat(time.replace("Z", "+00:00"))
+    if moment.tzinfo is None:
+        moment = moment.replace(tzinfo=timezone.utc)
+    return int(moment.timestamp())
+
+
+@dataclass
+class Log:
+    """What the log says of the nights."""
+    night: str = ""
+    status: str = "0"
+    status_before: str = "0"
+    is_under_way: bool = False
+    seconds: int = 0
+    cycle: int | None = None
+    is_open: bool = False
+    spent: int = 0
+    files: int = 0
+    cost: Counter[int] = field(default_factory=Counter)
+    nights: dict[int, set[str]] = field(default_factory=dict)
+    closed: Entry | None = None
+    closing: Closing = field(default_factory=Closing)
+    whole: Entry | None = None
+    lost_in: int | None = None
+
+    def take(self, entry: Entry) -> None:
+        """Goes on to the next entry."""
+        if entry.is_run():
+            self.take_run(entry)
+        elif entry.kind == "ended":
+            self.closed, self.closing, self.is_open = entry, closing_of(entry.said), False
+            if self.closing.is_whole:
+                self.whole = entry
+        elif entry.kind == "lost":
+            self.lost_in = entry.cycle
+        elif entry.kind in ("began", "told", "untold"):
+            self.start_night(entry.night)
+            self.is_under_way = entry.kind == "began"
+            said = re.search("status ([0-9]+)", entry.said)
+            if entry.kind == "told" and said:
+                self.status = said[1]
+            if entry.kind == "untold":
+                self.worsen("3")
+
+    def take_run(self, entry: Entry) -> None:
+        self.start_night(entry.night)
+        self.worsen(entry.kind)
+        if entry.cycle == 0:
+            # A night that was refused says nothing of any cycle.
+            return
+        self.cycle = entry.cycle
+        self.cost[entry.cycle] += entry.cost
+        self.nights.setdefault(entry.cycle, set()).add(entry.night)
+        self.seconds += entry.seconds
+        self.spent, self.files = entry.spent, entry.files
+        self.is_open = entry.stands != "ended"
+
+    def start_night(self, night: str) -> None:
+        if night != self.night:
+            self.status_before = self.status
+            self.night, self.status, self.seconds, self.is_under_way = night, "0", 0, False
+
+    def worsen(self, status: str) -> None:
+        if rank(status) > rank(self.status):
+            self.status = status
+
+
+@dataclass
+class Findings:
+    """What is open. `listed` has it as lines, those that are known left out."""
+    count: Counter[str]
+    damaged: int
+    known: int
+    objects: int
+    files: int
+    listed: IO[bytes]
+
+
+def findings_of(state: State, known: Known, weights: Weights) -> Findings:
+    found = Findings(Counter(), 0, 0, 0, 0, files.spool())
+
+    def unknown_ones() -> Iterator[tuple[bytes, bytes]]:
+        for line in standing.open_findings(state):
+            if known.has(line):
+                found.known += 1
+                continue
+            weight = weights.weight(line)
+            found.damaged += weight == b"1"
+            found.count[line.partition(b"\t")[0].decode()] += 1
+            yield weight, line
+
+    found.listed = gravest_first(unknown_ones())
+    found.listed.seek(0, os.SEEK_END)
+    for line in standing.losses(state):
+        if not known.has(line):
+            found.objects += line.startswith(b"object\t")
+            found.files += line.startswith(b"file\t")
+            found.listed.write(line + b"\n")
+    return found
+
+
+class Standing:
+    """How the nights stand at a time, as limits judge it."""
+
+    def __init__(self, log: Log, found: Findings, limits: dict[str, Limit], now: int) -> None:
+        self.log, self.found, self.limits, self.now = log, found, limits, now
+        self.age = now - seconds_of(log.night) if log.night else 0
+        self.open = sum(found.count.values())
+        self.expected = log.closing.expected or 0
+        self.gone = found.objects + found.files + self.expected
+        self.level, self.reasons, self.are_said = 0, [], False  # type: int, list[str], bool
+        self.done, self.left = self.reckon()
+        self.judge()
+
+    def reckon(self) -> tuple[int | None, int | None]:
+        """How far the open cycle is in hundredths of the cost of the last one, and how many nights
+        that leaves."""
+        log, whole = self.log, self.log.closed.spent if self.log.closed else 0
+        if not log.night or not log.is_open or not whole or log.cycle is None:
+            return None, None
+        done = min(99, 100 * log.spent // whole)
+        rate = log.cost[log.cycle] / len(log.nights[log.cycle])
+        if rate <= 0:
+            return done, None
+        return done, max(1, math.ceil((whole - log.spent) / rate))
+
+    def judge(self) -> None:
+        log = self.log
+        if not log.night:
+            self.add(3, "no night has run")
+            return
+        self.compare("age", self.age / 3600, "the last night began %s ago" % span(self.age))
+        # Until a night is over, that of the night before it counts as well.
+        if log.is_under_way and rank(log.status_before) > rank(log.status):
+            log.status = log.status_before
+        if "cut" in (log.status, log.status_before):
+            self.add(1, "a night was cut")
+        if rank(log.status) > 1 and log.status != "cut":
+            self.add(2, "the last night ended with status " + log.status)
+        self.judge_findings()
+        self.compare("gone", self.gone, self.lost_things())
+        self.judge_cycles()
+
+    def judge_cycles(self) -> None:
+        log = self.log
+        if log.closing.is_expected_unknown:
+            self.add(1, "how many expected objects are missing is not known")
+        if log.closed and not log.closing.is_whole:
+            self.add(1, "the report of cycle %d is not whole" % log.closed.cycle)
+        if log.lost_in is not None and (not log.closed or log.lost_in != log.closed.cycle):
+            self.add(1, "the report of cycle %d lost lines" % log.lost_in)
+        if log.whole:
+            self.compare("cycle_age", (self.now - seconds_of(log.whole.began)) / 86400,
+                         "the last whole cycle ended on " + log.whole.began[:10])
+
+    def judge_findings(self) -> None:
+        """If a limit is reached, the findings are said first, and else last."""
+        level = max(self.reached("damaged", self.found.damaged),
+                    self.reached("findings", self.open))
+        if level:
+            self.add(level, self.findings_text())
+            self.are_said = True
+
+    def add(self, level: int, text: str) -> None:
+        self.level = max(self.level, level)
+        self.reasons.append(text)
+
+    def compare(self, name: str, value: float, text: str) -> None:
+        level = self.reached(name, value)
+        if level:
+            self.add(level, text)
+
+    def reached(self, name: str, value: float) -> int:
+        warning, alarm = self.limits[name]
+        if alarm is not None and value >= alarm:
+            return 2
+        return int(warning is not None and value >= warning)
+
+    def findings_text(self) -> str:
+        found = self.found
+        codes = ", ".join("%s %d" % (code, found.count[code]) for code in sorted(found.count))
+        return "%d open finding(s)%s%s%s" % (
+            self.open, ", %d of weight 1" % found.damaged if found.damaged else "",
+            " (%s)" % codes if codes else "", ", %d known" % found.known if found.known else "")
+
+    def lost_things(self) -> str:
+        found, texts = self.found, []
+        if found.objects + found.files or not self.expected:
+            texts.append("%d object(s) and %d file(s) are gone" % (found.objects, found.files))
+        if self.expected:
+            texts.append("%d expected object(s) are missing" % self.expected)
+        return ", and ".join(texts)
+
+    # The line
+
+    def line(self, root: str) -> str:
+        """The line for a monitor. A bar would begin the figures."""
+        text = "OCFL-SCRUB %s - %s" % (WORDS[self.level], re.sub(r"[|\n]", "?", root))
+        parts = [*self.reasons, *self.about_nights()]
+        return text + ": " + "; ".join(parts) + self.figures()
+
+    def about_nights(self) -> list[str]:
+        log = self.log
+        if not log.night:
+            return []
+        night = "last night %s, status %s" % (log.night, log.status)
+        cycle = "no run has been made" if log.cycle is None else "cycle %d %s" % (
+            log.cycle, "is open" if log.is_open else "has ended")
+        if log.is_open and self.done is not None:
+            cycle += ", %d of 100 done" % self.done
+        if self.left is not None:
+            cycle += ", %d night(s) left" % self.left
+        whole = "%d on %s" % (log.whole.cycle, log.whole.began[:10]) if log.whole else "none"
+        return [night + (", under way" if log.is_under_way else ""), cycle,
+                "last whole cycle " + whole, *([] if self.are_said else [self.findings_text()])]
+
+    def figures(self) -> str:
+        if not self.log.night:
+            return ""
+        found = [("age", "%ds" % self.age, 3600), ("findings", self.open, 1),
+                 ("damaged", self.found.damaged, 1), ("gone", self.gone, 1)]
+        text = " |" + "".join(" %s=%s;%s;0" % (name, value, ";".join(
+            "" if limit is None else str(limit * unit) for limit in self.limits[name]))
+                              for name, value, unit in found)
+        return text + (" progress=%d%%;;;0;100" % self.done if self.done is not None else "")
+
+    # Figures for Prometheus
+
+    def metrics(self) -> list[tuple[str, str, float]]:
+        """The name, the help and the value of each figure."""
+        log = self.log
+        if not log.night:
+            return [("last_night_timestamp_seconds", "When the last night began.", 0)]
+        of_nights = [
+            ("last_night_timestamp_seconds", "When the last night began.", seconds_of(log.night)),
+            ("last_night_age_seconds", "How long ago the last night began, as this was written.",
+             self.age),
+            ("last_night_status", "Status of the last night; 255 where it was cut.",
+             255 if log.status == "cut" else int(log.status)),
+            ("last_night_run_seconds", "How long the runs of the last night took.", log.seconds)]
+        return of_nights + self.of_cycles() + self.of_findings()
+
+    def of_cycles(self) -> list[tuple[str, str, float]]:
+        log = self.log
+        found: list[tuple[str, str, float]] = []
+        if log.cycle is not None:
+            found += [("cycle", "The cycle of the last run.", log.cycle),
+                      ("cycle_read_bytes", "Bytes that the cycle has read.", log.spent - log.files),
+                      ("cycle_read_files", "Files that the cycle has read.", log.files)]
+        if log.closed:
+            found += [("closed_cycle", "The last closed cycle.", log.closed.cycle),
+                      ("closed_cycle_read_bytes", "Bytes that it read.",
+                       log.closed.spent - log.closed.files),
+                      ("closed_cycle_read_files", "Files that it read.", log.closed.files),
+                      ("closed_cycle_whole", "1 where its report is whole.",
+                       int(log.closing.is_whole))]
+        if self.done is not None:
+            found.append(("cycle_progress_ratio", "How far the cycle is, by the last one.",
+                          self.done / 100))
+        if self.left is not None:
+            found.append(("nights_left", "Nights that the cycle still needs.", self.left))
+        if log.whole:
+            found.append(("whole_cycle_timestamp_seconds", "When the last whole cycle ended.",
+                          seconds_of(log.whole.began)))
+        return found
+
+    def of_findings(self) -> list[tuple[str, str, float]]:
+        found = self.found
+        return [
+            ("gone_objects", "Objects that were gone and are not back.", found.objects),
+            ("gone_files", "Files that were gone and are not back.", found.files),
+            ("expected_objects_missing", "Expected objects that the last closed cycle lacks.",
+             self.expected),
+            ("known_findings", "Open findings that are known.", found.known),
+            ("damaged", "Open findings of weight 1 that are not known.", found.damaged),
+            ("open_findings", "Open findings that are not known.", self.open)]
+
+    def metrics_text(self, root: str, state: str) -> str:
+        labels = 'root="%s",state="%s"' % (label(root), label(state))
+        head = "# HELP ocfl_scrub_%s %s\n# TYPE ocfl_scrub_%s gauge\n"
+        text = "".join(head % (name, help_, name) + "ocfl_scrub_%s{%s} %s\n" % (
+            name, labels, "%.6g" % value if value != int(value) else "%d" % value)
+                       for name, help_, value in self.metrics())
+        if self.log.night and self.found.count:
+            name = "open_findings_by_code"
+            text += head % (name, "The same by their codes.", name)
+            text += "".join('ocfl_scrub_%s{%s,code="%s"} %d\n' % (
+                name, labels, code, self.found.count[code]) for code in sorted(self.found.count))
+        return text
+
+
+def label(text: str) -> str:
+    return text.replace("\\", "\\\\").replace('"', '\\"').replace("\n", "\\n")
+
+
+def span(seconds: int) -> str:
+    return "%d h" % (seconds // 3600) if seconds < 172800 else "%d days" % (seconds // 86400)
+
+
+def put_metrics(text: str, path: str) -> None:
+    """Exchanges the file of figures as a whole. The collector reads the names that end in `.prom`,
+    so the new one has another ending until then."""
+    try:
+        number, new = tempfile.mkstemp(prefix=os.path.basename(path) + ".",
+                                       dir=os.path.dirname(path) or ".")
+        try:
+            with open(number, "wb") as file:
+                file.write(files.bytes_of(text))
+            os.chmod(new, 0o644)
+            os.replace(new, path)
+        except OSError:
+            os.remove(new)
+            raise
+    except OSError as error:
+        raise files.Failed("status: %s could not be written" % path) from error
+
+
+def standing_of(state: State, known: str | None, weights: Weights, limits: dict[str, Limit],
+                now: int) -> Standing:
+    if not os.path.isdir(state.path):
+        raise files.Failed(state.path + " is no folder")
+    state.refuse_links()
+    leave_out = Known(known)
+    log = Log()
+    for entry in state.entries() if os.path.lexists(state.log) else ():
+        log.take(entry)
+    found = findings_of(state, leave_out, weights)
+    closing = log.closing
+    if log.closed and closing.objects + closing.files and not state.find("gone",
+                                                                         log.closed.cycle):
+        # The list is not there, so the log alone knows of them.
+        found.objects += closing.objects
+        found.files += closing.files
+    return Standing(log, found, limits, now)

@@ -74,6 +74,7 @@ share/ocfl-scrub/ocfl_scrub_reports/database.py 644
 share/ocfl-scrub/ocfl_scrub_reports/files.py 644
 share/ocfl-scrub/ocfl_scrub_reports/premis.py 644
 share/ocfl-scrub/ocfl_scrub_reports/questions.py 644
+share/ocfl-scrub/ocfl_scrub_reports/recheck.py 644
 share/ocfl-scrub/ocfl_scrub_reports/report.py 644
 share/ocfl-scrub/ocfl_scrub_reports/standing.py 644
 share/ocfl-scrub/ocfl_scrub_reports/state.py 644

@@ -85,7 +85,7 @@ def simple_questions(folder):
 
 
 NAMES = ["findings", "totals", "bytes", "changed", "json", "unverified", "database", "statement",
-         "verify", "premis", "status", "tell"]
+         "verify", "premis", "status", "recheck", "tell"]
 
 
 def commands(folder):

@@ -261,7 +261,8 @@ def closed(folder, reports, opened=()):
 
 
 def listed(state, *words):
-    return ran([REPORTS, "status", "--list", *words, state.path])[1].splitlines(True)[1:]
+    folder = state.state if isinstance(state, Nights) else state.path
+    return ran([REPORTS, "status", "--list", *words, folder])[1].splitlines(True)[1:]
 
 
 def not_whole(folder):
@@ -351,6 +352,67 @@ def missing(folder):
                                    " gone=2;" in out), (1, True, False, True))
 
 
+def mended(folder):
+    """What is mended is said by a look at each place alone."""
+    objects = {name: {"v1/content/f": name.encode()} for name in "abc"}
+    nights = Nights(folder + "/state", common.make_root(folder + "/root", objects))
+    files = [nights.root + "/%s/v1/content/f" % name for name in "abc"]
+    for file in files[:2]:
+        write(file, "x")
+    nights.cycle()
+    found = listed(nights)
+    call = [REPORTS, "recheck", nights.state]
+    is_so("nothing is mended", ran(call), (1, "".join("open\t" + text for text in found), ""))
+    write(files[0], "a")
+    is_so("one is", ran(call), (1, "mended\t%sopen\t%s" % tuple(found), ""))
+    write(files[1], "y")
+    given, out, _ = ran(call)
+    is_so("damaged otherwise", (given, [row.split("\t")[:2] for row in out.splitlines()]), (
+        1, [["mended", "E092"], ["mended", "E092"], ["new", "E092"]]))
+    known = write(folder + "/known", "E092\tb/\n")
+    is_so("known", ran([*call, "--known", known]), (0, "mended\t" + found[0], ""))
+    write(files[1], "b")
+    is_so("all are mended", ran(call)[0], 0)
+    os.rename(nights.root, nights.root + ".away")
+    given, out, said = ran(call)
+    is_so("no root", (given, out, "a/v1/content/f could not be looked at" in said), (3, "", True))
+
+
+def losses(folder):
+    """What is gone stays open until it has a line again, or is known."""
+    objects = {name: {"v1/content/f": name.encode()} for name in "abc"}
+    nights = Nights(folder + "/state", common.make_root(folder + "/root", objects))
+    call = [REPORTS, "status", "--list", "--prometheus", folder + "/x.prom"]
+
+    def gone(*words):
+        given, out, _ = ran([*call, *words, nights.state])
+        return given, re.findall(r" gone=(\d+)", out), out.splitlines()[1:], re.findall(
+            r"ocfl_scrub_gone_(?:objects|files)\{.*\} (\d+)", read(folder + "/x.prom"))
+
+    nights.cycle()
+    is_so("nothing is gone", gone(), (0, ["0"], [], ["0", "0"]))
+    os.rename(nights.root + "/b", folder + "/b")
+    lost = ["object\tb", "file\tb/v1/content/f"]
+    for cycle in ["2", "3", "4"]:
+        nights.cycle()
+        is_so("gone after cycle " + cycle, gone(), (1, ["2"], lost, ["1", "1"]))
+    text = nights.has("reports/statement-000004")
+    is_so("in a later statement", re.findall("(?m)^(?:Objects|Files) gone.*", text), [
+        "Objects gone: 0", "Files gone: 0", "Objects gone and not back: 1",
+        "Files gone and not back: 1"])
+    known = write(folder + "/known", "object\tb\n")
+    is_so("an object that is known", gone("--known", known), (1, ["1"], lost[1:], ["0", "1"]))
+    write(known, "object\tb\nfile\tb/\n")
+    is_so("all of it is known", gone("--known", known), (0, ["0"], [], ["0", "0"]))
+    os.rename(folder + "/b", nights.root + "/b")
+    nights.night("1")
+    nights.night("1K")
+    is_so("back", gone(), (0, ["0"], [], ["0", "0"]))
+    text = nights.has("reports/statement-000005")
+    is_so("in its statement", re.findall("(?m)^Objects gone and.*", text),
+          ["Objects gone and not back: 0"])
+
+
 def strange_paths(folder):
     """A path of the folder with any byte changes nothing."""
     for number, name in enumerate(["a\nb", "a\\nb", "a\tb |"]):
@@ -362,7 +424,7 @@ def strange_paths(folder):
 def tell(folder):
     tools({"awk": "mawk", "gzip": "gzip"})
     for part in [statuses, troubled, open_findings, metrics, not_whole, is_known, once,
-                 refused, missing, strange_paths]:
+                 refused, missing, losses, mended, strange_paths]:
         os.mkdir(os.path.join(folder, part.__name__))
         tried(part, os.path.join(folder, part.__name__))
 

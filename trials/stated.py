@@ -305,6 +305,21 @@ def forged(nights, copied, names):
     is_so("another JSON", verified(file)[0], 1)
 
 
+def chained(folder):
+    """A statement has the digest of the one before, so that none can be changed alone."""
+    nights = Nights(folder + "/state", make_root(folder + "/root"))
+    for _ in range(2):
+        nights.cycle()
+    first = file_of(nights, 1)
+    name = "Statement before, SHA-256"
+    is_so("the statement before", [lines_of(nights, cycle).get(name) for cycle in [1, 2]],
+          ["no statement", digest(common.read(first))])
+    is_so("both hold", [verified(file_of(nights, cycle))[0] for cycle in [1, 2]], [0, 0])
+    write(first, read(first).replace("Host: ", "Host: x"))
+    status, out, _ = verified(file_of(nights, 2))
+    is_so("the one before was changed", (status, name + ": the statement says" in out), (1, True))
+
+
 def no_list(folder):
     """What is gone without a list of it."""
     nights = Nights(folder + "/state", make_root(folder + "/root"))
@@ -337,7 +352,7 @@ def copies_are_no_seals(folder):
 
 
 PARTS = [two_programs, two_programs_of_parts, left_out, lost_lines, ends_of_parts, changed_roots,
-         declaration, two_folders, checking, losses, no_list, copies_are_no_seals]
+         declaration, two_folders, checking, losses, chained, no_list, copies_are_no_seals]
 
 
 def tell(folder):

@@ -7,6 +7,7 @@ import re
 import signal
 import sqlite3
 import sys
+import textwrap
 import time
 from typing import Callable, NoReturn, Sequence
 
@@ -133,6 +134,11 @@ def do_status(given: argparse.Namespace) -> int:
     return standing.level
 
 
+def do_recheck(given: argparse.Namespace) -> int:
+    from . import recheck
+    return recheck.show(state_of(given), given.known)
+
+
 def do_tell(given: argparse.Namespace) -> int:
     from . import tell
     files.drop_to_owners_of([given.state])
@@ -160,14 +166,14 @@ class Commands:
         made = self.all.add_parser(
             name, help=short, allow_abbrev=False, epilog=example("%s %s" % (name, shown)),
             formatter_class=argparse.RawDescriptionHelpFormatter,
-            description=sentence(short) + (" " + more if more else ""))
+            description=textwrap.fill("%s. %s" % (short[0].upper() + short[1:], more), 79))
         made.set_defaults(does=does, parser=made)
         return made
 
     def of_reports(self) -> None:
         made = self.add("findings", do_findings, "shows the findings of reports",
                         "--by-weight --new ~/audit/reports/cycle-000001.gz ~/audit/report",
-                        "These are\nall lines but `ok` and the note `S07`.")
+                        "These are all lines but `ok` and the note `S07`.")
         made.add_argument("--new", metavar="OLDER", help="only those that the report OLDER lacks")
         made.add_argument("--known", metavar="FILE", help="without those that FILE names: " + KNOWN)
         made.add_argument("--by-weight", action="store_true", help="the gravest first")
@@ -181,7 +187,7 @@ class Commands:
             add_reports(self.add(name, of_reports(show), short, "~/audit/reports/cycle-000001"))
         made = self.add("changed", do_changed, "shows what differs between two reports",
                         "~/audit/reports/cycle-000001.gz ~/audit/reports/cycle-000002",
-                        "After `-`\ncome lines that only OLDER has, after `+` those that only "
+                        "After `-` come lines that only OLDER has, after `+` those that only "
                         "NEWER has, by path.")
         made.add_argument("older", metavar="OLDER")
         made.add_argument("newer", metavar="NEWER")
@@ -190,21 +196,21 @@ class Commands:
         made = self.add("unverified", do_unverified,
                         "shows the content files that no night found right since a date",
                         "2025-03-01 ~/audit",
-                        "For\neach: when it was found right last, or `never`; its path; code and "
+                        "For each: when it was found right last, or `never`; its path; code and "
                         "cycle of its last line.")
         made.add_argument("date", metavar="DATE", help="like 2025-03-01 or 2025-03-01T22:00:00Z")
         add_state(made)
         made = self.add("database", do_database,
                         "puts all reports of a folder of state into an SQLite database",
                         "~/audit audit.db",
-                        "The\ntable `line` has the lines, `run` the runs of the log, and the view "
-                        "`dated` lines with the\ntime at which their run began.")
+                        "The table `line` has the lines, `run` the runs of the log, and the view "
+                        "`dated` lines with the time at which their run began.")
         add_state(made)
         made.add_argument("database", metavar="DATABASE", help="a file that is not there yet")
         made = self.add("premis", do_premis,
                         "writes the fixity events of a closed cycle as PREMIS 3 XML",
                         "--each object --ids ~/audit 1",
-                        "Of a\nreport that is not whole it writes those of findings alone.")
+                        "Of a report that is not whole it writes those of findings alone.")
         made.add_argument("--each", choices=["cycle", "finding", "object"], default="cycle",
                           help="an event for the cycle, or for each finding or object; what is "
                                "gone has events too")
@@ -217,7 +223,7 @@ class Commands:
         made = self.add("statement", do_statement,
                         "writes the statement of a closed cycle beside its report",
                         "--seal 'minisign -S -s ~/key -m \"$1\" > /dev/null' ~/audit 1",
-                        "One that\nis there stays as it is.")
+                        "One that is there stays as it is.")
         made.add_argument("--seal", metavar="COMMAND",
                           help="the shell runs COMMAND with the statement's name as $1, in a "
                                "folder that holds it alone; what it leaves there is kept beside it")
@@ -226,8 +232,8 @@ class Commands:
         made = self.add("verify", do_verify,
                         "compares a statement with its report and with what lies beside it",
                         "~/audit/reports/statement-000001",
-                        "Ends\nwith 0 if each line was checked and holds, with 1 if one does not "
-                        "hold or is unknown, and\nwith 4 if some could not be checked.")
+                        "Ends with 0 if each line was checked and holds, with 1 if one does not "
+                        "hold or is unknown, and with 4 if some could not be checked.")
         made.add_argument("statement", metavar="STATEMENT")
         made.add_argument("report", metavar="REPORT", nargs="?",
                           help="the one that the statement names, unless it is given")
@@ -235,8 +241,8 @@ class Commands:
     def of_nights(self) -> None:
         made = self.add("status", do_status, "says in one line how the nights are going",
                         "--known ~/known --list ~/audit",
-                        "Ends with 0\nto 3 for OK, WARNING, CRITICAL and UNKNOWN, as plugins of "
-                        "monitors do. W,C is a warning from W\non and an alarm from C on, - is "
+                        "Ends with 0 to 3 for OK, WARNING, CRITICAL and UNKNOWN, as plugins of "
+                        "monitors do. W,C is a warning from W on and an alarm from C on, - is "
                         "never.")
         made.fault_status = 3
         for name, default, help_ in LIMITS:
@@ -251,15 +257,19 @@ class Commands:
                           help="write the figures for the textfile collector of node_exporter")
         made.add_argument("--now", metavar="TIME", type=moment, help="take TIME for the present")
         add_state(made)
+        made = self.add("recheck", do_recheck,
+                        "looks again at the places of open findings, and says which are mended",
+                        "~/audit",
+                        "Ends with 1 if a finding is still open or a new one is there, and with 3 "
+                        "if a place could not be looked at. The next cycle says the same in its "
+                        "report.")
+        made.add_argument("--known", metavar="FILE", help="without those that FILE names: " + KNOWN)
+        add_state(made)
         made = self.add("tell", do_tell, "sends what a night said", "archive ~/audit",
-                        "It goes by mail to\n$MAIL or else to standard error; to both with "
+                        "It goes by mail to $MAIL or else to standard error; to both with "
                         "JOURNAL=yes. systemd calls it after each night.")
         made.add_argument("name", metavar="NAME")
         add_state(made)
-
-
-def sentence(short: str) -> str:
-    return short[0].upper() + short[1:] + "."
 
 
 def example(words: str) -> str:

@@ -74,10 +74,11 @@ def show_totals(reports: list[str]) -> None:
     """Writes how many lines of each code reports have."""
     counts: Counter[bytes] = Counter()
     for path in reports:
-        for block in report.Reading(path).whole():
-            others = report.CODES_APART.findall(block)
-            counts.update(others)
-            counts[b"ok"] += block.count(b"\nok\t")
+        reading = report.Reading(path)
+        for _ in reading.whole():
+            counts.update(line[:line.index(b"\t")] for line in reading.others)
+        counts[b"ok"] += reading.lines
+    counts[b"ok"] -= sum(counts.values()) - counts[b"ok"]
     for code in sorted(counts):
         if counts[code]:
             print("%s\t%d" % (code.decode(), counts[code]))

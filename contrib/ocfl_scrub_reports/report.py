@@ -15,13 +15,13 @@ ESCAPE = rb"%(?:[01][0-9A-F]|25|7F|[89A-F][0-9A-F])"
 TEXT = rb"(?:[ -$&-~]|" + ESCAPE + rb")+"
 LINE = re.compile(rb"(" + CODE + rb")\t(" + TEXT + rb")\t(" + TEXT + rb")")
 PRINTABLE = bytes(range(0x20, 0x7F))
-OTHER_CODE = re.compile(rb"\n(?:E[0-9]{3}|S[0-9]{2})\t")
+KNOWN_CODE = re.compile(rb"(?:E[0-9]{3}|S[0-9]{2})\t")
 BAD_ESCAPE = re.compile(rb"%(?!" + ESCAPE[1:] + rb")")
-FINDING = re.compile(rb"\n(?!S07\t)([ES][^\n]*)")
+# The lines that are not `ok`.
+OTHER = re.compile(rb"\n(?!ok\t)([^\n]+)")
 # All lines but those of content files that were found right.
 APART = re.compile(rb"\n(?!ok\t[^\t\n]+\t[0-9])([^\t\n]+)\t([^\t\n]+)\t([^\n]+)")
 RIGHT = re.compile(rb"\nok\t[^\t\n]+\t([0-9]+)")
-CODES_APART = re.compile(rb"\n(?!ok\t)([^\t\n]+)")
 NO_FINDINGS = (b"ok", b"S07")
 
 
@@ -45,15 +45,35 @@ class Reading:
         self.path, self.each_block = path, each_block
         # How many lines were read, and how many of them are no lines of a report.
         self.lines = self.odd = self.first_odd = 0
+        # The lines of the last block that are not `ok`.
+        self.others: list[bytes] = []
 
     def blocks(self) -> Iterator[bytes]:
         """The blocks of the report. What is no line of a report is an empty line in them."""
         for block in files.blocks(self.path):
             if self.each_block:
                 self.each_block(block[1:])
-            count = max(1, block.count(b"\n") - 1)
-            yield block if are_lines(block, count) else self.mended(block)
+            count = self.count_lines(block)
+            if count is None:
+                count = max(1, block.count(b"\n") - 1)
+                block = self.mended(block)
+                self.others = OTHER.findall(block)
+            yield block
             self.lines += count
+
+    def count_lines(self, block: bytes) -> int | None:
+        """How many lines a block has, or None unless all of them are lines of a report. Notes those
+        that are not `ok`."""
+        columns = block.translate(None, PRINTABLE)
+        count = (len(columns) - 1) // 3
+        if columns != b"\n" + b"\t\t\n" * count or b"\t\t" in block or b"\t\n" in block:
+            return None
+        if b"%" in block and BAD_ESCAPE.search(block):
+            return None
+        right = block.count(b"\nok\t")
+        self.others = OTHER.findall(block) if right < count else []
+        is_whole = right + len(self.others) == count and all(map(KNOWN_CODE.match, self.others))
+        return count if is_whole else None
 
     def mended(self, block: bytes) -> bytes:
         kept = [b""]
@@ -89,25 +109,12 @@ class Reading:
                 yield Line(number, *found.groups())
 
 
-def are_lines(block: bytes, count: int) -> bool:
-    """Whether a block has nothing but lines of a report, `count` of them."""
-    if block.translate(None, PRINTABLE) != b"\n" + b"\t\t\n" * count:
-        return False
-    if b"\t\t" in block or b"\t\n" in block:
-        return False
-    right = block.count(b"\nok\t")
-    if right != count and right + len(OTHER_CODE.findall(block)) != count:
-        return False
-    return b"%" not in block or not BAD_ESCAPE.search(block)
-
-
 def findings(path: str, must_be_whole: bool = True) -> Iterator[list[bytes]]:
     """The findings of a report as their lines, many at a time."""
     reading = Reading(path)
-    for block in reading.whole() if must_be_whole else reading.blocks():
-        found = FINDING.findall(block)
-        if found:
-            yield found
+    for _ in reading.whole() if must_be_whole else reading.blocks():
+        if reading.others:
+            yield [line for line in reading.others if not line.startswith(b"S07\t")]
 
 
 def paths(path: str) -> Iterator[list[bytes]]:

@@ -72,6 +72,7 @@ share/ocfl-scrub/ocfl_scrub_reports/codes 644
 share/ocfl-scrub/ocfl_scrub_reports/command.py 644
 share/ocfl-scrub/ocfl_scrub_reports/database.py 644
 share/ocfl-scrub/ocfl_scrub_reports/files.py 644
+share/ocfl-scrub/ocfl_scrub_reports/page.py 644
 share/ocfl-scrub/ocfl_scrub_reports/premis.py 644
 share/ocfl-scrub/ocfl_scrub_reports/questions.py 644
 share/ocfl-scrub/ocfl_scrub_reports/recheck.py 644
@@ -327,7 +328,7 @@ def of_reports(text):
     shown = "".join(ran([tool, command, "--help"])[1] for command in commands)
     options = {word.replace("-", "\\-") for word in re.findall(r"--[a-z-]+", shown)}
     is_so("its options", sorted(o for o in options - {"\\-\\-help"} if o not in text), [])
-    is_so("no long line in it", [row for row in text.splitlines() if len(row) > 90], [])
+    is_so("no long line in it", [row for row in text.splitlines() if len(row) > 80], [])
 
 
 # systemd and cron

@@ -85,7 +85,8 @@ def simple_questions(folder):
 
 
 NAMES = ["findings", "totals", "bytes", "changed", "json", "unverified", "database", "statement",
-         "verify", "premis", "status", "recheck", "tell"]
+         "verify", "premis", "status", "page", "recheck",
+         "tell"]
 
 
 def commands(folder):

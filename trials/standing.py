@@ -8,6 +8,7 @@ import gzip
 import os
 import random
 import re
+import xml.etree.ElementTree
 
 import common
 from common import is_so
@@ -413,6 +414,31 @@ def losses(folder):
           ["Objects gone and not back: 0"])
 
 
+def page(folder):
+    """A page for a browser has what the status has, whatever the names are, and nothing from
+    elsewhere."""
+    state = standing(folder, '<script>"&\u00e9|')
+    bad = line("E092", "<b>&amp;<script>alert(1)</script>", "md5 missing")
+    write(state.path + "/reports/cycle-000001", "".join([*LINES, bad]))
+    write(state.path + "/reports/gone-000001", "object\t<i>\n")
+    given, out, said = ran([REPORTS, "page", "--now", "2026-03-10T05:00:00Z", state.path])
+    is_so("page", (given, said, out.isascii(), out.startswith("<!DOCTYPE html>")),
+          (0, "", True, True))
+    root = xml.etree.ElementTree.fromstring(re.sub(
+        "<meta[^>]*>", "", out).replace("<!DOCTYPE html>", ""))
+    texts = [text for element in root.iter() for text in [element.text] if text]
+    is_so("what it shows", [text in texts for text in [
+        "CRITICAL", "5 open finding(s), 2 of weight 1 (E007 1, E023 1, E072 1, E092 1, S08 1)",
+        "<b>&amp;<script>alert(1)</script>", "<i>", "30 of 100", "2026-03-09T22:00:00Z"]],
+          [True] * 6)
+    is_so("no script, nothing from elsewhere", re.findall("<script|src=|href=|url\\(|http", out),
+          [])
+    is_so("a plot of each night", len(list(root.iter("rect"))), 12)
+    is_so("no folder", ran([REPORTS, "page", folder + "/none"])[0:2], (3, ""))
+    empty = State(folder + "/empty")
+    is_so("no night", ran([REPORTS, "page", empty.path])[0], 0)
+
+
 def strange_paths(folder):
     """A path of the folder with any byte changes nothing."""
     for number, name in enumerate(["a\nb", "a\\nb", "a\tb |"]):
@@ -424,7 +450,7 @@ def strange_paths(folder):
 def tell(folder):
     tools({"awk": "mawk", "gzip": "gzip"})
     for part in [statuses, troubled, open_findings, metrics, not_whole, is_known, once,
-                 refused, missing, losses, mended, strange_paths]:
+                 refused, missing, losses, mended, page, strange_paths]:
         os.mkdir(os.path.join(folder, part.__name__))
         tried(part, os.path.join(folder, part.__name__))
 

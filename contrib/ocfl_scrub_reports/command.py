@@ -112,14 +112,30 @@ def do_verify(given: argparse.Namespace) -> int:
     return verify.show(given.statement, given.report)
 
 
+def limits_of(given: argparse.Namespace) -> dict[str, tuple[int | None, int | None]]:
+    names = [name[2:].replace("-", "_") for name, _, _ in LIMITS]
+    return {name: getattr(given, name) for name in names}
+
+
+def now_of(given: argparse.Namespace) -> int:
+    now: int | None = given.now
+    return int(time.time()) if now is None else now
+
+
+def do_page(given: argparse.Namespace) -> None:
+    from . import page, status
+    state, weights = state_of(given), Weights(given.codes)
+    standing = status.standing_of(state, given.known, weights, limits_of(given), now_of(given))
+    page.show(state, standing, weights, state.bound_to("path") or given.state,
+              time.strftime("%Y-%m-%dT%H:%M:%SZ", time.gmtime(now_of(given))))
+
+
 def do_status(given: argparse.Namespace) -> int:
     from . import status
-    chosen = {name[2:].replace("-", "_"): getattr(given, name[2:].replace("-", "_"))
-              for name, _, _ in LIMITS}
     try:
         state = state_of(given)
-        standing = status.standing_of(state, given.known, Weights(given.codes), chosen,
-                                      int(time.time()) if given.now is None else given.now)
+        standing = status.standing_of(state, given.known, Weights(given.codes),
+                                      limits_of(given), now_of(given))
     except (files.Failed, OSError, ValueError) as error:
         # A bar would begin the figures, and a line feed another line.
         print("OCFL-SCRUB UNKNOWN - " + re.sub(r"[|\n]", "?", str(error)))
@@ -245,17 +261,17 @@ class Commands:
                         "monitors do. W,C is a warning from W on and an alarm from C on, - is "
                         "never.")
         made.fault_status = 3
-        for name, default, help_ in LIMITS:
-            made.add_argument(name, metavar="W,C", type=limits, default=limits(default),
-                              help="%s (%s)" % (help_, default))
-        made.add_argument("--known", metavar="FILE", help=KNOWN)
-        add_codes(made)
+        add_limits(made)
         made.add_argument("--list", action="store_true",
                           help="list the open findings that are not known below the line, the "
                                "gravest first, and then what is gone")
         made.add_argument("--prometheus", metavar="FILE",
                           help="write the figures for the textfile collector of node_exporter")
-        made.add_argument("--now", metavar="TIME", type=moment, help="take TIME for the present")
+        add_state(made)
+        made = self.add("page", do_page, "writes a page that shows how the nights are going",
+                        "~/audit > index.html",
+                        "It is one file of HTML without scripts, for a browser or a printer.")
+        add_limits(made)
         add_state(made)
         made = self.add("recheck", do_recheck,
                         "looks again at the places of open findings, and says which are mended",
@@ -282,6 +298,16 @@ def add_reports(parser: Parser) -> None:
 
 def add_state(parser: Parser) -> None:
     parser.add_argument("state", metavar="STATE", help="the folder of `nightly`")
+
+
+def add_limits(parser: Parser) -> None:
+    """The options that say what is grave, what is known, and what time it is."""
+    for name, default, help_ in LIMITS:
+        parser.add_argument(name, metavar="W,C", type=limits, default=limits(default),
+                            help="%s (%s)" % (help_, default))
+    parser.add_argument("--known", metavar="FILE", help=KNOWN)
+    add_codes(parser)
+    parser.add_argument("--now", metavar="TIME", type=moment, help="take TIME for the present")
 
 
 def add_codes(parser: Parser) -> None:

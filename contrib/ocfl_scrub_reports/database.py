@@ -57,11 +57,11 @@ DATE = re.compile(r"\d{4}-\d\d-\d\d(T\d\d:\d\d:\d\dZ)?")
 
 def make(state: State, path: str) -> None:
     """Puts all reports of the folder into a new database."""
-    files.refuse_links(state.log, state.at("report"), state.reports,
-                       *(report.path for report in state.closed()))
+    state.refuse_links()
+    files.refuse_links(*(report.path for report in state.closed()))
     if os.path.lexists(path):
         raise files.Failed(path + " is there already", 2)
-    if not os.path.isfile(state.log):
+    if not state.has_log():
         raise files.Failed("there is no log of nights in " + state.path, 2)
     for report in state.closed():
         for _ in files.chunks(report.path):
@@ -107,8 +107,8 @@ def reports(state: State) -> Iterator[tuple[int, str]]:
     """The reports of the folder with their cycles, the open one last."""
     for report in state.closed():
         yield report.cycle, report.path
-    opened = state.at("report")
-    if os.path.isfile(opened) and os.path.getsize(opened):
+    opened = state.open_report()
+    if opened and os.path.getsize(opened):
         cycle = 0
         for entry in state.entries():
             if entry.is_run() and entry.lines > 0:

@@ -75,6 +75,7 @@ class Events:
                                % self.root_folder)
         self.root = "%s:%s" % (self.said["Host"], self.said["Storage root"])
         self.runs = self.runs_of_cycle()
+        self.ends = [run.lines for run in self.runs]
         self.objects, self.events = files.spool(), files.spool()
         self.agents: dict[str, None] = {}
         self.weights = Weights()
@@ -90,8 +91,7 @@ class Events:
 
     def run_of(self, line: int) -> int:
         """The run that wrote a line."""
-        ends = [run.lines for run in self.runs]
-        return min(bisect_left(ends, line), len(ends) - 1)
+        return min(bisect_left(self.ends, line), len(self.ends) - 1)
 
     # Objects
 

@@ -119,7 +119,8 @@ def closed_in(folder: str) -> list[Closed]:
 
 
 class State:
-    """A folder of `nightly` or of `parallel/nightly`."""
+    """A folder of `nightly` or of `parallel/nightly`. No other module knows the names of its
+    files."""
 
     def __init__(self, path: str) -> None:
         self.path = path
@@ -170,14 +171,26 @@ class State:
         words = (files.text_of(line).partition(" ") for line in files.lines(self.at("part")))
         return {word: place for word, _, place in words if word in ("from", "below")}
 
+    def has_log(self) -> bool:
+        return os.path.isfile(self.log)
+
+    def open_report(self) -> str | None:
+        """The report of the open cycle, but of none that is made of parts."""
+        report = self.at("report")
+        return report if os.path.isfile(report) else None
+
     def open_reports(self) -> list[str]:
         """The report of the open cycle; of parts, that of each in their order."""
-        report = self.at("report")
-        if os.path.isfile(report):
+        report = self.open_report()
+        if report:
             return [report]
         return [path for part in self.parts() for path in
                 [part + "/report", *(it.path for it in closed_in(part + "/reports"))]
                 if os.path.lexists(path)]
+
+    @staticmethod
+    def closed_of_part(part: str) -> list[Closed]:
+        return closed_in(part + "/reports")
 
     def parts(self) -> list[str]:
         """The folders of the parts of the last cycle, in the order of the parts."""

@@ -363,7 +363,7 @@ def write(state: State, number: int, seal: str | None) -> None:
     path = os.path.join(state.reports, cycle_name("statement", number))
     state.refuse_links()
     files.refuse_links(path, path + ".json", path + ".sealed")
-    if not os.path.isfile(state.log):
+    if not state.has_log():
         raise files.Failed("there is no log of nights in " + state.path)
     if not os.path.isfile(path):
         text = facts_of(state, number).text()

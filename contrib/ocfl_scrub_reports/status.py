@@ -352,7 +352,7 @@ def standing_of(state: State, known: str | None, weights: Weights, limits: dict[
     state.refuse_links()
     leave_out = Known(known)
     log = Log()
-    for entry in state.entries() if os.path.lexists(state.log) else ():
+    for entry in state.entries() if state.has_log() else ():
         log.take(entry)
     found = findings_of(state, leave_out, weights)
     closing = log.closing

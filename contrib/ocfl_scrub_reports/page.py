@@ -1,0 +1,209 @@
+"""A page in HTML that shows how the nights of a storage root are going. It needs no other file and
+runs no script."""
+from __future__ import annotations
+
+import os
+from dataclasses import dataclass
+from html import escape
+from itertools import islice
+from typing import IO, Iterable, Sequence
+
+from . import files, questions, report
+from .state import Closing, Entry, State, closing_of, cycle_name
+from .statement import plain
+from .status import WORDS, Standing
+from .weights import Weights
+
+SHOWN = 200
+NIGHTS = 60
+STYLE = """
+:root { color-scheme: light dark; --bar: #36c; --line: #8888; --good: #2a7; --bad: #c33; }
+body { font: 1rem/1.5 system-ui, sans-serif; max-width: 70rem; margin: 2rem auto; padding: 0 1rem; }
+table { border-collapse: collapse; margin: 1rem 0; max-width: 100%; }
+caption, h2 { text-align: left; font-weight: 600; }
+th, td { border-bottom: 1px solid var(--line); padding: .2rem .8rem .2rem 0; text-align: left;
+  vertical-align: top; overflow-wrap: anywhere; }
+td.number { text-align: right; }
+svg { width: 100%; height: auto; } svg rect { fill: var(--bar); } svg .done { fill: var(--good); }
+svg .open { fill: var(--line); } .level { font-size: 1.2rem; font-weight: 600; }
+code { overflow-wrap: anywhere; }
+@media (prefers-color-scheme: dark) { :root { --bar: #8ad; --good: #5c9; --bad: #f88; } }
+@media print { body { max-width: none; margin: 0; } }
+"""
+
+
+@dataclass
+class Night:
+    """What one night read, and how long its runs took."""
+    began: str
+    bytes: int = 0
+    seconds: int = 0
+    status: str = ""
+
+
+def nights_of(entries: Iterable[Entry]) -> list[Night]:
+    found: dict[str, Night] = {}
+    for entry in entries:
+        if not entry.is_run() and entry.kind != "told":
+            continue
+        night = found.setdefault(entry.night, Night(entry.night))
+        if entry.kind == "told":
+            night.status = entry.said.partition(",")[0].removeprefix("status ")
+        else:
+            night.bytes += entry.cost
+            night.seconds += entry.seconds
+    return list(found.values())[-NIGHTS:]
+
+
+# Pieces of HTML. All texts are escaped here.
+
+def text(value: object) -> str:
+    return escape(str(value))
+
+
+def table(caption: str, heads: Sequence[str], rows: Iterable[Sequence[object]]) -> str:
+    head = "".join('<th scope="col">%s</th>' % text(name) for name in heads)
+    body = "".join("<tr>%s</tr>\n" % "".join(map(cell, row)) for row in rows)
+    return ("<table><caption>%s</caption>\n<thead><tr>%s</tr></thead>\n<tbody>%s</tbody></table>\n"
+            % (text(caption), head, body))
+
+
+def cell(value: object) -> str:
+    return '<td%s>%s</td>' % (' class="number"' if isinstance(value, (int, float)) else "",
+                              "{:,}".format(value) if isinstance(value, int) else text(value))
+
+
+def section(name: str, *content: str) -> str:
+    made = "".join(content)
+    return "<section><h2>%s</h2>\n%s</section>\n" % (text(name), made) if made else ""
+
+
+def bars(title: str, values: Sequence[tuple[str, float, str]]) -> str:
+    """A plot of bars: the name, the value and the shown value of each."""
+    most = max((value for _, value, _ in values), default=0)
+    if most <= 0:
+        return ""
+    width = 600 / max(len(values), 12)
+    drawn = "".join(
+        '<rect x="%.1f" y="%.1f" width="%.1f" height="%.1f"><title>%s: %s</title></rect>' % (
+            at * width, 100 - 95 * value / most, width * 0.8, 95 * value / most, text(name),
+            text(shown)) for at, (name, value, shown) in enumerate(values))
+    return '<p>%s</p>\n<svg viewBox="0 0 600 100" role="img" aria-label="%s">%s</svg>\n' % (
+        text(title), text(title), drawn)
+
+
+def strip(done: Sequence[bool]) -> str:
+    """A strip of parts, which shows which are done."""
+    if not done:
+        return ""
+    title, width = "%d of %d parts are done" % (sum(done), len(done)), 600 / len(done)
+    drawn = "".join('<rect class="%s" x="%.2f" width="%.2f" height="20"/>' % (
+        "done" if it else "open", at * width, width * 0.9) for at, it in enumerate(done))
+    return '<p>%s</p>\n<svg viewBox="0 0 600 20" role="img" aria-label="%s">%s</svg>\n' % (
+        title, title, drawn)
+
+
+def size(count: float) -> str:
+    """Bytes with a unit of a thousand."""
+    for unit in ("bytes", "kB", "MB", "GB", "TB"):
+        if count < 1000:
+            break
+        count /= 1000
+    else:
+        unit = "PB"
+    return "%.3g %s" % (count, unit)
+
+
+# Sections
+
+def about_cycle(state: State, standing: Standing) -> str:
+    log = standing.log
+    facts = [("the last night began", log.night), ("its status", log.status),
+             ("cycle", log.cycle if log.cycle is not None else "none"),
+             ("the cycle has read", size(log.spent - log.files))]
+    if standing.done is not None:
+        facts.append(("of what the last one read", "%d of 100" % standing.done))
+    if standing.left is not None:
+        facts.append(("nights left", standing.left))
+    parts = [any(os.path.isfile(it.path) for it in state.closed_of_part(part))
+             for part in state.parts()]
+    return section("The open cycle" if log.is_open else "The last cycle",
+                   table("How far it is", ("", ""), facts), strip(parts))
+
+
+def about_nights(nights: list[Night]) -> str:
+    rows = [(it.began, size(it.bytes), "%.1f" % (it.seconds / 3600), it.status or "cut")
+            for it in reversed(nights)]
+    return section("Nights", bars("Bytes that each night read", [
+        (it.began, it.bytes, size(it.bytes)) for it in nights]), bars("Hours of each night", [
+            (it.began, it.seconds, "%.1f h" % (it.seconds / 3600)) for it in nights]),
+        table("The last nights", ("began", "read", "hours", "status"), rows))
+
+
+def about_findings(standing: Standing, weights: Weights) -> str:
+    standing.found.listed.seek(0)
+    lines = [files.text_of(it.rstrip(b"\n")).split("\t")
+             for it in islice(standing.found.listed, SHOWN)]
+    rows = [(weights.weight(line[0].encode() + b"\t").decode(), *line) for line in lines
+            if len(line) == 3]
+    gone = [line for line in lines if len(line) == 2]
+    left = standing.open + standing.found.objects + standing.found.files - len(lines)
+    more = "<p>and %d more, which status --list has</p>\n" % left if left > 0 else ""
+    return section("What is open", "<p>%s</p>\n" % text(standing.findings_text()),
+                   table("Open findings", ("weight", "code", "place", "detail"), rows)
+                   if rows else "", table("Gone and not back", ("what", "place"), gone)
+                   if gone else "", more)
+
+
+def about_changes(state: State) -> str:
+    """What the last closed report has that the one before had not, and the other way round."""
+    closed = [it.path for it in state.closed()][-2:]
+    if len(closed) < 2:
+        return ""
+    spools = [findings_in(path) for path in closed]
+    new = count(questions.new_ones(spools[1], closed[0]))
+    mended = count(questions.new_ones(spools[0], closed[1]))
+    return section("Since the cycle before", table("Findings of the last two closed reports", (
+        "new", "no longer there"), [(new, mended)]))
+
+
+def findings_in(path: str) -> IO[bytes]:
+    found = files.spool()
+    for lines in report.findings(path, must_be_whole=False):
+        questions.write_lines(found, lines)
+    return found
+
+
+def count(spool: IO[bytes]) -> int:
+    return sum(1 for _ in questions.lines_of(spool))
+
+
+def about_cycles(state: State) -> str:
+    ended: list[tuple[Entry, Closing]] = [(it, closing_of(it.said)) for it in state.entries()
+                                          if it.kind == "ended"]
+    rows = [(it.cycle, it.began, size(it.spent - it.files), "yes" if closing.is_whole else "no",
+             "%d objects, %d files" % (closing.objects, closing.files), cycle_name(
+                 "statement", it.cycle) if state.find("statement", it.cycle) else "none")
+            for it, closing in reversed(ended)]
+    return section("Closed cycles", table("Their reports and statements lie in %s" % plain(
+        "", state.reports), ("cycle", "closed", "read", "whole", "gone", "statement"), rows)
+        if rows else "")
+
+
+def show(state: State, standing: Standing, weights: Weights, root: str, now: str) -> None:
+    """Writes the page to standard output."""
+    name = plain("", root)
+    level = "".join("<li>%s</li>" % text(reason) for reason in standing.reasons)
+    body = "".join([
+        "<h1>Fixity of %s</h1>\n<p class=\"level\">%s</p>\n<ul>%s</ul>\n<p>As of %s</p>\n" % (
+            text(name), WORDS[standing.level], level, text(now)),
+        about_cycle(state, standing), about_findings(standing, weights),
+        about_changes(state), about_nights(nights_of(state.entries() if state.has_log() else ())),
+        about_cycles(state) if state.has_log() else ""])
+    page = ('<!DOCTYPE html>\n<html lang="en">\n<head>\n<meta charset="utf-8">\n<meta name='
+            '"viewport" content="width=device-width">\n<title>Fixity of %s</title>\n<style>%s'
+            '</style>\n</head>\n<body>\n<main>\n%s</main>\n</body>\n</html>\n'
+            % (text(name), STYLE, body))
+    out = files.spool()
+    out.write(page.encode("ascii", "xmlcharrefreplace"))
+    files.pour(out)

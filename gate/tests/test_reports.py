@@ -134,11 +134,20 @@ class Questions(Folder):
         self.assertEqual(found.splitlines(), [it for it in newer if it not in older])
 
     def test_known(self):
-        known = Known(self.put(b"E092\ta\tx\nE092\tb\nE072\tc/\nobject\td\n# E001\te\n"))
+        known = Known(self.put(b"E092\ta\tx\nE092\tb\nE072\tc/\nobject\td\n# E001\te\nE024\t./"))
         lines = [b"E092\ta\tx", b"E092\ta\ty", b"E092\tb\ty", b"E072\tc\t-", b"E072\tc/d/e\t-",
-                 b"E072\tcd\t-", b"object\td", b"object\td/e", b"E001\te\t-"]
+                 b"E072\tcd\t-", b"object\td", b"object\td/e", b"E001\te\t-",
+                 b"E024\tf/g\t-"]
         self.assertEqual([known.has(line) for line in lines],
-                         [True, False, True, False, True, False, True, False, False])
+                         [True, False, True, False, True, False, True, False, False, True])
+
+    def test_a_note_is_no_finding(self):
+        path = self.put(b"S07\to\tx\nS08\to/a\t-\n")
+        self.assertEqual(list(report.findings(path)), [[b"S08\to/a\t-"]])
+
+    def test_a_finding_beside_an_object_is_not_within_it(self):
+        path = self.put(b"ok\to\t-\nE072\to2\t-\nok\tp\t-\nE023\tp/x\t-\n")
+        self.assertEqual(statement.Count(path, [], False).facts()["Objects without findings"], "1")
 
     def test_weights(self):
         weights = Weights()

@@ -77,7 +77,8 @@ def main():
             if words[0] == "premis":
                 taken([COMMAND, "statement", state, "1"])
             seconds, held = taken([COMMAND, *words])
-            shown = " ".join(word for word in words if not word.startswith((folder, "-,")))
+            shown = " ".join(word for word in words if not word.startswith((folder, "-,", "1")))
+            shown = shown.replace("status --age", "status")
             print("| `%s` | %.2f | %.1f | %.0f |" % (shown, seconds, seconds / reading, held),
                   flush=True)
     finally:

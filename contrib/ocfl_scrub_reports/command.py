@@ -12,7 +12,7 @@ import time
 from typing import Callable, NoReturn, Sequence
 
 from . import files, questions
-from .state import State
+from .state import State, open_state
 from .weights import TABLE, Weights
 
 PROGRAM = "ocfl-scrub-reports"
@@ -82,7 +82,7 @@ def do_changed(given: argparse.Namespace) -> None:
 
 def state_of(given: argparse.Namespace) -> State:
     files.drop_to_owners_of([given.state])
-    return State(given.state)
+    return open_state(given.state)
 
 
 def do_unverified(given: argparse.Namespace) -> None:

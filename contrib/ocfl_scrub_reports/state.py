@@ -1,6 +1,7 @@
 """The folder of state of a storage root: its log, its reports, and what it is bound to.
 
-This is the one module that knows where a night keeps what.
+This is the one module that knows where a night keeps what, and how its log is written. Another
+layout is another class with the public methods of `State`, which `open_state` then chooses.
 """
 from __future__ import annotations
 
@@ -200,3 +201,8 @@ class State:
             return []
         return [os.path.join(os.path.dirname(table), files.text_of(line.split(b"\t")[0]))
                 for line in files.lines(table)]
+
+
+def open_state(path: str) -> State:
+    """The folder of state at a path, by its layout."""
+    return State(path)

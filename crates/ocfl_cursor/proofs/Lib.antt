@@ -10,5 +10,6 @@ pub mod PartRefusals
 pub mod Limited
 pub mod PartLimited
 pub mod ShownTexts
+pub mod StoredLines
 pub mod OnLiterals
 pub mod CursorCases

@@ -6,6 +6,7 @@ pub mod Refused
 pub mod Part
 pub mod PartRefusal
 pub mod Stop
+pub mod Lines
 pub mod Shown
 pub mod Internal
 pub mod Limits

@@ -8,6 +8,7 @@ mod ends;
 mod form;
 mod laws;
 mod limits;
+mod lines;
 mod meter;
 mod number;
 mod part_decoding;
@@ -30,6 +31,7 @@ pub use laws::{
     text_determines_the_part, text_determines_what_is_shown, what_a_meter_charged_fits_a_cursor,
 };
 pub use limits::{Budget, FileLimit, Limits};
+pub use lines::{read_stored_lines, stored_lines};
 pub use meter::Meter;
 pub use part_decoding::decode_part;
 pub use part_encoding::{encode_part, part_lines};

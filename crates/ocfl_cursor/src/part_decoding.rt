@@ -63,7 +63,7 @@ pub(crate) fn read_part_body(alloc: Global, body: &[u8]) -> Result<(PartEnds, Cu
 }
 
 /// Reads the lines of both ends. Gives what follows them too.
-fn read_ends(alloc: Global, lines: &[u8]) -> Result<(PartEnds, &[u8]), PartRefused>
+pub(crate) fn read_ends(alloc: Global, lines: &[u8]) -> Result<(PartEnds, &[u8]), PartRefused>
     ensures found { IfOk result (λ read. lines.now ≡ ends_lines read.0 ++ read.1.now) }
     ensures names { IfOk result (λ read. AreEnds read.0) }
     ensures malformed { result ≡ Err PartRefused.Malformed → (e : ModelEnds) (rest : List ℕ)

@@ -2,10 +2,32 @@
 //! earlier cycles.
 #![tactic(auto)]
 
+mod checkpoint;
+mod checkpoint_account;
+mod checkpoint_decoding;
+mod checkpoint_encoding;
+mod checkpoint_fields;
+mod checkpoint_form;
+mod checkpoint_laws;
+mod checkpoint_left;
+mod checkpoint_parts;
+mod checkpoint_refused;
+mod checkpoint_seal;
+mod checkpoint_showing;
 mod folder;
 mod held;
 mod memory;
 
+pub use checkpoint::Checkpoint;
+pub use checkpoint_decoding::decode_checkpoint;
+pub use checkpoint_encoding::{checkpoint_lines, encode_checkpoint};
+pub use checkpoint_laws::{
+    checkpoint_reads_back, every_checkpoint_fits, no_checkpoint_is_refused,
+    text_determines_the_checkpoint,
+};
+pub use checkpoint_parts::{Left, Phase, ReportMark, RootIdentity, TopNames};
+pub use checkpoint_refused::NotDecoded;
+pub use checkpoint_showing::{NotShown, read_stored, show_stored};
 pub use folder::{StateFolder, Trouble};
 pub use held::ClosedReport;
 pub use memory::MemState;

@@ -6,8 +6,8 @@ use crate::tests::common::cursors::{
 use crate::tests::common::input::{Slow, Then, expect_failures};
 use ocfl_cursor::{
     Cursor, CursorStop, PartCursorStop, PartRefused, Refused, ShowStop, encode_part,
-    no_stored_part_is_refused, part_lines, read_part_cursor, read_shown,
-    text_determines_what_is_shown,
+    no_stored_part_is_refused, part_lines, read_part_cursor, read_shown, read_stored_lines,
+    stored_lines, text_determines_what_is_shown,
 };
 use std::test::Fail;
 
@@ -171,4 +171,39 @@ fn nothing_is_shown_of_other_bytes(rt: HostRuntime) -> Result<(), Fail> {
     expect_failures(&rt, &given, stops, |mut reader| {
         Ok(read_shown(alloc, &mut reader).err())
     })
+}
+
+#[test]
+fn lines_of_cursors_are_read_by_themselves(rt: HostRuntime) -> Result<(), Fail> {
+    let alloc = rt.alloc();
+    for (row, lines, of_a_part) in [
+        ("of the whole root", LINES, false),
+        ("of a part", PART_LINES, true),
+    ] {
+        let (part, cursor) = read_stored_lines(alloc, lines.as_bytes())?;
+        assert_eq!(rt; part.is_some(), of_a_part, "{row}");
+        assert_eq!(rt; (cursor.cycle(), cursor.files()), (3, 3), "{row}");
+        let written = stored_lines(alloc, &part, &cursor)?;
+        assert_eq!(rt; written.as_slice(), lines.as_bytes(), "{row}");
+    }
+    for (row, lines) in [
+        ("no lines", ""),
+        (
+            "the lines of version 1",
+            "cycle 3\nruns 2\nspent 9\nstart\n",
+        ),
+        ("a first line too", BODY),
+        (
+            "one end",
+            "from start\ncycle 1\nruns 0\nspent 0\nfiles 0\nstart\n",
+        ),
+        (
+            "an end that is no place",
+            "from /\nbelow end\ncycle 1\nruns 0\nspent 0\nfiles 0\nstart\n",
+        ),
+    ] {
+        let refused = read_stored_lines(alloc, lines.as_bytes()).err();
+        assert_eq!(rt; refused, Some(Refused::Malformed), "{row}");
+    }
+    Ok(())
 }

@@ -1,0 +1,19 @@
+use Rattle.std.proofs.Common.{refl, sym, codes, ◌∙◌}
+use Rattle.std.proofs.lemmas.List.{append_cancel_left}
+use Rattle.ocfl_report.specs.Text.{place_text}
+use Rattle.ocfl_cursor.proofs.Texts.{text_eq-same}
+use Rattle.ocfl_state.proofs.CheckpointFields.{stood_path}
+use Rattle.ocfl_state.proofs.checkpoint_fields.read_stood.Goals as goal
+
+pub returns-then-is_bytes-clause-place : goal.returns-then-is_bytes-clause-place
+returns-then-is_bytes-clause-place c = text_eq-same _ _ (sym c.is_bytes.ensures ∙ c.if-is_bytes.true)
+
+pub returns-in_default-clause-malformed : goal.returns-in_default-clause-malformed
+returns-in_default-clause-malformed c = λ _ s h f.
+    let stood = stood_path c.args.line.now s (sym c.is_bytes.ensures ∙ c.if-is_bytes.false) h f in
+    c.in_default.ensures.missing refl (place_text stood.place) stood.is
+
+pub returns-in-Err-clause-malformed : goal.returns-in-Err-clause-malformed
+returns-in-Err-clause-malformed c = λ e s h f.
+    let stood = stood_path c.args.line.now s (sym c.is_bytes.ensures ∙ c.if-is_bytes.false) h f in
+    c.in-Err.ensures.malformed (cc e) stood.place stood.names (append_cancel_left (codes "after ") _ _ (sym c.in-Some.ensures.found ∙ stood.is))

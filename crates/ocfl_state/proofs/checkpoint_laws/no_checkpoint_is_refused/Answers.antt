@@ -1,0 +1,5 @@
+use Rattle.ocfl_state.proofs.CheckpointRefusals.{only_memory}
+use Rattle.ocfl_state.proofs.checkpoint_laws.no_checkpoint_is_refused.Goals as goal
+
+pub returns : goal.returns
+returns c = λ b d h r k. only_memory b d h r k

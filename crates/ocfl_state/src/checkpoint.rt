@@ -1,0 +1,47 @@
+//! The checkpoint: what one night leaves for the next.
+
+use crate::checkpoint_parts::{Left, Phase, ReportMark, RootIdentity, TopNames};
+use ocfl_cursor::{Cursor, PartEnds};
+use std::marker::Model;
+
+/// What one night leaves for the next: whose root is read, how much of the report belongs to the
+/// cursor, how much of that was said, and where the next run begins.
+#[derive(Debug, Drop)]
+pub struct Checkpoint {
+    /// The storage root that the nights read.
+    pub root: RootIdentity,
+    /// The names in its top folder when the cycle began.
+    pub names: TopNames,
+    /// Whether the report grows, or is to be closed.
+    pub phase: Phase,
+    /// Whether nothing of the cycle's report was lost.
+    pub whole: bool,
+    /// As much of the report as belongs to the cursor.
+    pub report: ReportMark,
+    /// How many bytes of that were said: no finding before them is unsaid.
+    pub told: u64,
+    /// The branches of the cycle that could not be read, in the order in which they were met.
+    pub left: Vec<Left>,
+    /// The part that the nights read; `None` where they read the whole root.
+    pub part: Option<PartEnds>,
+    /// Where the next run begins, and what the runs of the cycle have spent.
+    pub cursor: Cursor,
+}
+
+impl Model for Checkpoint {
+    ghost use Rattle.ocfl_state.specs.Checkpoint.{Checkpoint};
+
+    ghost Value = { Checkpoint };
+
+    ghost view = { λ a. record {
+      root = a.root;
+      names = a.names;
+      phase = a.phase;
+      whole = a.whole;
+      report = a.report;
+      told = a.told;
+      left = a.left.items;
+      part = a.part;
+      cursor = a.cursor;
+    } };
+}

@@ -1,0 +1,386 @@
+//! Checkpoints and their text, and why other bytes are refused.
+use crate::tests::common::Runtime;
+use crate::tests::common::cursors::{LINES as CURSOR_LINES, ends_of, whole_text as cursor_text};
+use crate::tests::common::store::place_of;
+use ocfl_cursor::{Cursor, CursorStop, Refused, ShowStop, State};
+use ocfl_state::{
+    Checkpoint, Left, NotDecoded, NotShown, Phase, ReportMark, RootIdentity, TopNames,
+    checkpoint_lines, checkpoint_reads_back, decode_checkpoint, encode_checkpoint,
+    every_checkpoint_fits, no_checkpoint_is_refused, read_stored, show_stored,
+    text_determines_the_checkpoint,
+};
+use sha2::{Digest, Sha256};
+use std::alloc::Global;
+use std::test::Fail;
+
+/// The first line of a checkpoint.
+const FIRST: &str = "ocfl-scrub checkpoint 1\n";
+
+/// The other lines of a checkpoint after its first slice, but the last.
+const LINES: &str = "root /srv/ocfl
+declared 1111111111111111111111111111111111111111111111111111111111111111
+names 3 abababababababababababababababababababababababababababababababab
+phase open
+whole yes
+report 120 3
+pieces 0000000000000000000000000000000000000000000000000000000000000000
+tail e3e3e3e3e3e3e3e3e3e3e3e3e3e3e3e3e3e3e3e3e3e3e3e3e3e3e3e3e3e3e3e3
+told 60
+left 0
+cycle 1
+runs 1
+spent 4
+files 1
+after o/v1/content/a
+";
+
+/// The SHA-256 of all these lines, by `sha256sum`.
+const DIGEST: &str = "cbb44e94eb3662aba258c26594e167a4cb4760b9ca98538285f7ed6ebb391159";
+
+/// The lines of a part's checkpoint that is closing, after two branches were left out.
+const PART_LINES: &str = "root /mnt/r%C3%A9 %25/ocfl
+declared abababababababababababababababababababababababababababababababab
+names 18446744073709551615 1111111111111111111111111111111111111111111111111111111111111111
+phase closing
+whole no
+report 18446744073709551615 7
+pieces e3e3e3e3e3e3e3e3e3e3e3e3e3e3e3e3e3e3e3e3e3e3e3e3e3e3e3e3e3e3e3e3
+tail 0000000000000000000000000000000000000000000000000000000000000000
+told 18446744073709551615
+left 2
+left .
+start
+left o/a%0Ab
+after start
+from ./start
+below z
+cycle 7
+runs 2
+spent 9
+files 3
+ended
+";
+
+/// The SHA-256 of the first line and these, by `sha256sum`.
+const PART_DIGEST: &str = "94cef0980813f810797b1826333cf15479200e84339b723bc7cfdd8c97c0ec3b";
+
+/// The checkpoint after a first slice.
+fn checkpoint(alloc: Global) -> Result<Checkpoint, Fail> {
+    let place = place_of(alloc, "o/v1/content/a")?;
+    Ok(Checkpoint {
+        root: RootIdentity {
+            path: place_of(alloc, "srv/ocfl")?,
+            declared: [0x11; 32],
+        },
+        names: TopNames {
+            count: 3,
+            digest: [0xAB; 32],
+        },
+        phase: Phase::Open,
+        whole: true,
+        report: ReportMark {
+            bytes: 120,
+            lines: 3,
+            pieces: [0; 32],
+            tail: [0xE3; 32],
+        },
+        told: 60,
+        left: Vec::new(alloc),
+        part: None,
+        cursor: Cursor::from_parts(1, 1, 4, 1, State::After(place)).ok_or("a cursor")?,
+    })
+}
+
+/// The checkpoint of a part that is closing.
+fn part_checkpoint(alloc: Global) -> Result<Checkpoint, Fail> {
+    let mut left = Vec::new(alloc);
+    left.push(Left {
+        place: place_of(alloc, ".")?,
+        after: None,
+    })?;
+    left.push(Left {
+        place: place_of(alloc, "o/a\nb")?,
+        after: Some(place_of(alloc, "start")?),
+    })?;
+    Ok(Checkpoint {
+        root: RootIdentity {
+            path: place_of(alloc, "mnt/ré %/ocfl")?,
+            declared: [0xAB; 32],
+        },
+        names: TopNames {
+            count: u64::MAX,
+            digest: [0x11; 32],
+        },
+        phase: Phase::Closing,
+        whole: false,
+        report: ReportMark {
+            bytes: u64::MAX,
+            lines: 7,
+            pieces: [0xE3; 32],
+            tail: [0; 32],
+        },
+        told: u64::MAX,
+        left,
+        part: Some(ends_of(alloc, "start", "z")?),
+        cursor: Cursor::from_parts(7, 2, 9, 3, State::Ended).ok_or("a cursor")?,
+    })
+}
+
+/// The text with its right last line.
+fn sealed(alloc: Global, body: &str) -> Result<Vec<u8>, Fail> {
+    let digest = hex::encode(alloc, Sha256::digest(body.as_bytes()))?;
+    Ok(format!(in alloc; "{body}sha256 {digest}\n")?.into_bytes())
+}
+
+/// The whole text of the first checkpoint.
+fn whole_text(alloc: Global) -> Result<Vec<u8>, Fail> {
+    Ok(format!(in alloc; "{FIRST}{LINES}sha256 {DIGEST}\n")?.into_bytes())
+}
+
+/// Why the bytes are refused as a checkpoint.
+fn refusal_of(alloc: Global, text: &[u8]) -> Option<NotDecoded> {
+    decode_checkpoint(alloc, text).err()
+}
+
+/// Why the sealed text is refused.
+fn sealed_refusal(alloc: Global, body: &str) -> Result<Option<NotDecoded>, Fail> {
+    let text = sealed(alloc, body)?;
+    Ok(refusal_of(alloc, &text))
+}
+
+fn expect_text(
+    rt: &impl Runtime,
+    checkpoint: &Checkpoint,
+    lines: &str,
+    digest: &str,
+) -> Result<(), Fail> {
+    let alloc = rt.alloc();
+    let wanted = format!(in alloc; "{FIRST}{lines}sha256 {digest}\n")?;
+    let text = encode_checkpoint(alloc, checkpoint)?;
+    assert_eq!(rt; text.as_slice(), wanted.as_bytes(), "{digest}");
+    let shown = checkpoint_lines(alloc, checkpoint)?;
+    assert_eq!(rt; shown.as_slice(), lines.as_bytes(), "{digest}, shown");
+    let read = decode_checkpoint(alloc, &text)?;
+    let again = encode_checkpoint(alloc, &read)?;
+    assert_eq!(rt; again.as_slice(), wanted.as_bytes(), "{digest}, again");
+    every_checkpoint_fits(&read);
+    let back = checkpoint_reads_back(alloc, &read)?;
+    let again = encode_checkpoint(alloc, &back)?;
+    assert_eq!(rt; again.as_slice(), wanted.as_bytes(), "{digest}, back");
+    Ok(())
+}
+
+#[test]
+fn checkpoints_have_these_texts(rt: HostRuntime) -> Result<(), Fail> {
+    let alloc = rt.alloc();
+    expect_text(&rt, &checkpoint(alloc)?, LINES, DIGEST)?;
+    expect_text(&rt, &part_checkpoint(alloc)?, PART_LINES, PART_DIGEST)?;
+    text_determines_the_checkpoint();
+    no_checkpoint_is_refused();
+    Ok(())
+}
+
+#[test]
+fn each_part_of_a_checkpoint_is_read(rt: HostRuntime) -> Result<(), Fail> {
+    let alloc = rt.alloc();
+    let text = format!(in alloc; "{FIRST}{PART_LINES}sha256 {PART_DIGEST}\n")?;
+    let read = decode_checkpoint(alloc, text.as_bytes())?;
+    assert_eq!(rt; read.root.path.path(), "mnt/ré %/ocfl");
+    assert_eq!(rt; read.root.declared, [0xAB; 32]);
+    assert_eq!(rt;
+        (read.names.count, read.names.digest),
+        (u64::MAX, [0x11; 32])
+    );
+    assert_eq!(rt; (read.phase, read.whole), (Phase::Closing, false));
+    assert_eq!(rt; (read.report.bytes, read.report.lines), (u64::MAX, 7));
+    assert_eq!(rt;
+        (read.report.pieces, read.report.tail),
+        ([0xE3; 32], [0; 32])
+    );
+    assert_eq!(rt; read.told, u64::MAX);
+    assert_eq!(rt; read.left.len(), 2);
+    assert_eq!(rt;
+        (read.left[0].place.depth(), read.left[0].after.is_none()),
+        (0, true)
+    );
+    assert_eq!(rt; read.left[1].place.path(), "o/a\nb");
+    let after = read.left[1].after.as_ref().ok_or("after a place")?;
+    assert_eq!(rt; after.path(), "start");
+    let part = read.part.as_ref().ok_or("a part")?;
+    let from = part.from.as_ref().ok_or("a first place")?;
+    assert_eq!(rt; from.path(), "start");
+    assert_eq!(rt; (read.cursor.cycle(), read.cursor.runs()), (7, 2));
+    assert_eq!(rt; read.cursor.state(), &State::Ended);
+    Ok(())
+}
+
+#[test]
+fn other_bytes_are_no_checkpoint(rt: HostRuntime) -> Result<(), Fail> {
+    let alloc = rt.alloc();
+    for (row, front, wanted) in [
+        ("no bytes", "", NotDecoded::NotCheckpoint),
+        (
+            "the name of the tool",
+            "ocfl-scrub ",
+            NotDecoded::NotCheckpoint,
+        ),
+        (
+            "a cursor",
+            "ocfl-scrub cursor 2\n",
+            NotDecoded::NotCheckpoint,
+        ),
+        (
+            "no version",
+            "ocfl-scrub checkpoint \n",
+            NotDecoded::Version,
+        ),
+        (
+            "version 2",
+            "ocfl-scrub checkpoint 2\n",
+            NotDecoded::Version,
+        ),
+        (
+            "version 01",
+            "ocfl-scrub checkpoint 01\n",
+            NotDecoded::Version,
+        ),
+        (
+            "version 10",
+            "ocfl-scrub checkpoint 10\n",
+            NotDecoded::Version,
+        ),
+        (
+            "a blank after it",
+            "ocfl-scrub checkpoint 1 \n",
+            NotDecoded::Version,
+        ),
+        ("the first line alone", FIRST, NotDecoded::Damaged),
+        (
+            "no line feed",
+            "ocfl-scrub checkpoint 1",
+            NotDecoded::Damaged,
+        ),
+    ] {
+        let refused = refusal_of(alloc, front.as_bytes());
+        assert_eq!(rt; refused, Some(wanted), "{row}");
+    }
+    let body = format!(in alloc; "ocfl-scrub checkpoint 2\n{LINES}")?;
+    let refused = sealed_refusal(alloc, body.as_str())?;
+    assert_eq!(rt; refused, Some(NotDecoded::Version), "version 2, sealed");
+    Ok(())
+}
+
+#[test]
+fn damaged_checkpoints_are_refused(rt: HostRuntime) -> Result<(), Fail> {
+    let alloc = rt.alloc();
+    let text = whole_text(alloc)?;
+    // Each byte made another one, and each cut.
+    for index in 0..text.len() {
+        let wanted = if index < 22 {
+            NotDecoded::NotCheckpoint
+        } else if index < 24 {
+            NotDecoded::Version
+        } else {
+            NotDecoded::Damaged
+        };
+        let mut changed = text.to_vec(alloc)?;
+        changed[index] = if text[index] == b'0' { b'1' } else { b'0' };
+        assert_eq!(rt; refusal_of(alloc, &changed), Some(wanted), "{index}");
+        if index >= 24 {
+            let cut = refusal_of(alloc, &text[..index]);
+            assert_eq!(rt; cut, Some(NotDecoded::Damaged), "cut to {index}");
+        }
+    }
+    let body = format!(in alloc; "{FIRST}{LINES}")?;
+    for (row, last) in [
+        (
+            "the line of a cursor",
+            format!(in alloc; "digest {DIGEST}\n")?,
+        ),
+        (
+            "capitals",
+            format!(in alloc; "sha256 {}\n", DIGEST.to_ascii_uppercase(alloc)?)?,
+        ),
+        ("a byte after it", format!(in alloc; "sha256 {DIGEST}\n\n")?),
+    ] {
+        let text = format!(in alloc; "{body}{last}")?;
+        let refused = refusal_of(alloc, text.as_bytes());
+        assert_eq!(rt; refused, Some(NotDecoded::Damaged), "{row}");
+    }
+    Ok(())
+}
+
+/// A line of the first checkpoint, or a part of one, and what makes the text malformed in its
+/// place.
+const MALFORMED: [(&str, &str); 26] = [
+    ("root /srv/ocfl", "root srv/ocfl"),
+    ("root /srv/ocfl", "root /."),
+    ("root /srv/ocfl", "root /srv//ocfl"),
+    ("root /srv/ocfl", "root /srv/ocfl/"),
+    ("root /srv/ocfl", "root "),
+    ("root /srv/ocfl\n", ""),
+    ("declared 1", "declared "),
+    ("declared 1", "declared g"),
+    ("names 3 a", "names 3 A"),
+    ("names 3 ", "names 03 "),
+    ("names 3 ", "names 18446744073709551616 "),
+    ("names 3 ", "names 3"),
+    ("phase open", "phase closed"),
+    ("phase open", "phase open "),
+    ("whole yes", "whole maybe"),
+    ("report 120 3", "report 120"),
+    ("report 120 3", "report 120  3"),
+    ("report 120 3", "report 3 120"),
+    ("told 60", "told 121"),
+    ("told 60", "told -1"),
+    ("left 0", "left 1"),
+    ("left 0\n", "left 0\nleft o\nstart\n"),
+    ("left 0\n", "left 1\nleft o\n"),
+    ("left 0\n", "left 1\nleft o\nended\n"),
+    ("cycle 1", "cycle 0"),
+    ("after o/v1/content/a\n", "after o/v1/content/a\n\n"),
+];
+
+#[test]
+fn other_lines_are_malformed(rt: HostRuntime) -> Result<(), Fail> {
+    let alloc = rt.alloc();
+    let body = format!(in alloc; "{FIRST}{LINES}")?;
+    assert_eq!(rt; sealed_refusal(alloc, body.as_str())?, None);
+    for (line, other) in MALFORMED {
+        let (before, after) = body.as_str().split_once(line).ok_or("the line is there")?;
+        let changed = format!(in alloc; "{before}{other}{after}")?;
+        let refused = sealed_refusal(alloc, changed.as_str())?;
+        assert_eq!(rt; refused, Some(NotDecoded::Malformed), "{other}");
+    }
+    // One of the branches that were left out.
+    let left = format!(in alloc;
+        "{FIRST}{}",
+        LINES.replace(alloc, "left 0\n", "left 1\nleft o\nstart\n")?
+    )?;
+    assert_eq!(rt; sealed_refusal(alloc, left.as_str())?, None, "a branch");
+    Ok(())
+}
+
+#[test]
+fn checkpoints_and_cursors_are_shown(rt: HostRuntime) -> Result<(), Fail> {
+    let alloc = rt.alloc();
+    let text = whole_text(alloc)?;
+    let shown = show_stored(alloc, &text).ok().ok_or("shown")?;
+    assert_eq!(rt; shown.as_slice(), LINES.as_bytes());
+    let shown = read_stored(alloc, &mut text.as_slice())
+        .ok()
+        .ok_or("shown")?;
+    assert_eq!(rt; shown.as_slice(), LINES.as_bytes());
+    let cursor = cursor_text(alloc)?;
+    let shown = show_stored(alloc, &cursor).ok().ok_or("a cursor")?;
+    assert_eq!(rt; shown.as_slice(), CURSOR_LINES.as_bytes());
+    let damaged = NotShown::Checkpoint(NotDecoded::Damaged);
+    let cut = show_stored(alloc, &text[..text.len() - 1]).err();
+    assert_eq!(rt; cut, Some(damaged), "a checkpoint that is cut");
+    let refused = NotShown::Cursor(ShowStop::Whole(CursorStop::Refused(Refused::Damaged)));
+    let cut = show_stored(alloc, &cursor[..cursor.len() - 1]).err();
+    assert_eq!(rt; cut, Some(refused), "a cursor that is cut");
+    let refused = NotShown::Cursor(ShowStop::Whole(CursorStop::Refused(Refused::NotCursor)));
+    assert_eq!(rt; show_stored(alloc, b"{}").err(), Some(refused), "neither");
+    Ok(())
+}

@@ -5,3 +5,7 @@ pub mod CheckpointTexts
 pub mod CheckpointRefusals
 pub mod CheckpointWriting
 pub mod CheckpointShowing
+pub mod PieceLaws
+pub mod Readings
+pub mod SummaryLaws
+pub mod Resuming

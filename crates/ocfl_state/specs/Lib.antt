@@ -6,3 +6,4 @@ pub mod Checkpoint
 pub mod CheckpointRefusal
 pub mod CheckpointLines
 pub mod CheckpointShown
+pub mod Pieces

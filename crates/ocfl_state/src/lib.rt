@@ -14,9 +14,12 @@ mod checkpoint_parts;
 mod checkpoint_refused;
 mod checkpoint_seal;
 mod checkpoint_showing;
+mod comparing;
 mod folder;
 mod held;
+pub mod laws;
 mod memory;
+mod pieces;
 
 pub use checkpoint::Checkpoint;
 pub use checkpoint_decoding::decode_checkpoint;
@@ -28,6 +31,8 @@ pub use checkpoint_laws::{
 pub use checkpoint_parts::{Left, Phase, ReportMark, RootIdentity, TopNames};
 pub use checkpoint_refused::NotDecoded;
 pub use checkpoint_showing::{NotShown, read_stored, show_stored};
+pub use comparing::{digests_of_report, is_report_of, resume_digests};
 pub use folder::{StateFolder, Trouble};
 pub use held::ClosedReport;
 pub use memory::MemState;
+pub use pieces::{PIECE_LEN, ReportDigests, ReportSummary};

@@ -4,6 +4,8 @@ use ocfl_state::{MemState, StateFolder, Trouble};
 use std::alloc::Global;
 use std::test::Fail;
 
+mod pieces;
+
 /// A checkpoint, a closed report of cycle 1 and an open report, all on the disk.
 fn synced(alloc: Global) -> Result<MemState, Fail> {
     let mut folder = MemState::new(alloc);

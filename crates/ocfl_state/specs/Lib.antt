@@ -7,3 +7,4 @@ pub mod CheckpointRefusal
 pub mod CheckpointLines
 pub mod CheckpointShown
 pub mod Pieces
+pub mod Reasons

@@ -4,6 +4,7 @@ use ocfl_state::{MemState, StateFolder, Trouble};
 use std::alloc::Global;
 use std::test::Fail;
 
+mod disk;
 mod pieces;
 
 /// A checkpoint, a closed report of cycle 1 and an open report, all on the disk.

@@ -1,0 +1,217 @@
+//! The folder of the file system in which a state lies, and the calls of the system on it.
+//!
+//! No link in the folder is followed: what lies at a name is looked at first, and what is opened
+//! must be the file of that look.
+ghost use Rattle.std.specs.Prelude.{◌≡◌, IfOk, Ok};
+
+use crate::state_file::{Reason, StateFile};
+use std::alloc::Global;
+use std::fs::{self, DirBuilder, File, Metadata, OpenOptions};
+use std::io::{self, ErrorKind};
+use std::os::unix::fs::{DirBuilderExt, MetadataExt, OpenOptionsExt};
+use std::rt::Files;
+
+/// Who may read and write a file that is made: its owner, and its group may read.
+const FILE_MODE: u32 = 0o640;
+
+/// The same of a folder.
+const FOLDER_MODE: u32 = 0o750;
+
+/// A folder by its path, which may be a link itself.
+#[derive(Drop)]
+pub(crate) struct Disk<R: Files<File = File> + AllocGlobal + Clone + Drop> {
+    rt: R,
+    path: String,
+}
+
+/// What is wrong with a file that no call of the system refused.
+pub(crate) fn wrong(file: StateFile, what: &str) -> Reason {
+    Reason {
+        file,
+        error: io::Error::new(ErrorKind::InvalidInput, what),
+    }
+}
+
+/// Whether two looks saw the same file.
+fn is_same(look: &Metadata, opened: &Metadata) -> bool {
+    opened.is_file() && look.dev() == opened.dev() && look.ino() == opened.ino()
+}
+
+/// The result of a call on a file, with that file as the reason of a failure.
+pub(crate) fn of_file<T>(file: StateFile, outcome: io::Result<T>) -> Result<T, Reason>
+    ensures { IfOk result (λ value. outcome ≡ Ok value) }
+{
+    match outcome {
+        Ok(value) => Ok(value),
+        Err(error) => Err(Reason { file, error }),
+    }
+}
+
+/// Options for reading a file.
+pub(crate) fn for_reading() -> OpenOptions {
+    let mut options = OpenOptions::new();
+    options.read(true);
+    options
+}
+
+/// Options for reading a file and appending to it.
+pub(crate) fn for_appending() -> OpenOptions {
+    let mut options = OpenOptions::new();
+    options.read(true);
+    options.append(true);
+    options
+}
+
+impl<R: Files<File = File> + AllocGlobal + Clone + Drop> Disk<R> {
+    pub(crate) fn at(rt: R, path: &str) -> io::Result<Disk<R>> {
+        let path = String::from_str(rt.alloc(), path)?;
+        Ok(Disk { rt, path })
+    }
+
+    pub(crate) fn alloc(&self) -> Global {
+        self.rt.alloc()
+    }
+
+    fn joined(&self, file: StateFile) -> io::Result<String> {
+        let path = self.path.as_str();
+        Ok(format!(in self.rt.alloc(); "{path}/{file}")?)
+    }
+
+    /// The path of a file.
+    fn path_of(&self, file: StateFile) -> Result<String, Reason> {
+        of_file(file, self.joined(file))
+    }
+
+    /// What lies at a name, which may be a link. `None` where nothing does.
+    pub(crate) fn look(&self, file: StateFile) -> Result<Option<Metadata>, Reason> {
+        let path = self.path_of(file)?;
+        match fs::symlink_metadata(&self.rt, path.as_str()) {
+            Ok(metadata) => Ok(Some(metadata)),
+            Err(error) if error.kind() == ErrorKind::NotFound => Ok(None),
+            Err(error) => Err(Reason { file, error }),
+        }
+    }
+
+    /// Whether anything lies at a name.
+    pub(crate) fn has(&self, file: StateFile) -> Result<bool, Reason> {
+        Ok(self.look(file)?.is_some())
+    }
+
+    /// What the look at a file saw, if it is there: only a file that is no link, folder or pipe.
+    pub(crate) fn look_for_file(&self, file: StateFile) -> Result<Option<Metadata>, Reason> {
+        match self.look(file)? {
+            Some(metadata) if !metadata.is_file() => Err(wrong(file, "not a regular file")),
+            found => Ok(found),
+        }
+    }
+
+    /// Whether a folder is there. What is none is refused.
+    pub(crate) fn has_folder(&self, folder: StateFile) -> Result<bool, Reason> {
+        match self.look(folder)? {
+            Some(metadata) if !metadata.is_dir() => Err(wrong(folder, "not a folder")),
+            found => Ok(found.is_some()),
+        }
+    }
+
+    /// Whether the state folder is there, where a link leads to it too.
+    pub(crate) fn is_there(&self) -> Result<bool, Reason> {
+        match fs::metadata(&self.rt, self.path.as_str()) {
+            Ok(metadata) if metadata.is_dir() => Ok(true),
+            Ok(_) => Err(wrong(StateFile::Folder, "not a folder")),
+            Err(error) if error.kind() == ErrorKind::NotFound => Ok(false),
+            Err(error) => Err(Reason {
+                file: StateFile::Folder,
+                error,
+            }),
+        }
+    }
+
+    /// Opens a file that is there. `None` where it is not.
+    pub(crate) fn open(
+        &self,
+        file: StateFile,
+        options: &OpenOptions,
+    ) -> Result<Option<File>, Reason> {
+        let Some(look) = self.look_for_file(file)? else {
+            return Ok(None);
+        };
+        let path = self.path_of(file)?;
+        let opened = of_file(file, options.open(&self.rt, path.as_str()))?;
+        if is_same(&look, &of_file(file, opened.metadata())?) {
+            Ok(Some(opened))
+        } else {
+            Err(wrong(file, "exchanged while it was opened"))
+        }
+    }
+
+    /// Makes a file, and opens it for reading and appending. What lies there already is refused.
+    pub(crate) fn create(&self, file: StateFile) -> Result<File, Reason> {
+        let path = self.path_of(file)?;
+        let mut options = for_appending();
+        options.create_new(true);
+        options.mode(FILE_MODE);
+        of_file(file, options.open(&self.rt, path.as_str()))
+    }
+
+    /// Opens a file for reading and appending, which is made where it is not there.
+    pub(crate) fn open_or_create(&self, file: StateFile) -> Result<File, Reason> {
+        match self.open(file, &for_appending())? {
+            Some(opened) => Ok(opened),
+            None => self.create(file),
+        }
+    }
+
+    /// Makes the folder of the closed reports.
+    pub(crate) fn create_reports(&self) -> Result<(), Reason> {
+        let path = self.path_of(StateFile::Reports)?;
+        of_file(StateFile::Reports, self.create_at(path.as_str()))
+    }
+
+    fn create_at(&self, path: &str) -> io::Result<()> {
+        let mut builder = DirBuilder::new();
+        builder.mode(FOLDER_MODE);
+        builder.create(&self.rt, path)
+    }
+
+    /// Makes the state folder, and brings its name to the disk.
+    pub(crate) fn create_itself(&self) -> Result<(), Reason> {
+        of_file(StateFile::Folder, self.create_at(self.path.as_str()))?;
+        self.sync_folder(StateFile::Above)
+    }
+
+    /// Removes a file. It need not be there.
+    pub(crate) fn remove(&self, file: StateFile) -> Result<(), Reason> {
+        let path = self.path_of(file)?;
+        match fs::remove_file(&self.rt, path.as_str()) {
+            Err(error) if error.kind() != ErrorKind::NotFound => Err(Reason { file, error }),
+            _ => Ok(()),
+        }
+    }
+
+    /// Gives a file another name, in place of what has that name.
+    pub(crate) fn rename(&self, from: StateFile, to: StateFile) -> Result<(), Reason> {
+        let old = self.path_of(from)?;
+        let new = self.path_of(to)?;
+        of_file(to, fs::rename(&self.rt, old.as_str(), new.as_str()))
+    }
+
+    /// Brings the names of a folder to the disk.
+    pub(crate) fn sync_folder(&self, folder: StateFile) -> Result<(), Reason> {
+        let path = self.path_of(folder)?;
+        let opened = of_file(folder, File::open(&self.rt, path.as_str()))?;
+        of_file(folder, opened.sync_all())
+    }
+
+    /// Whether a folder has no entry.
+    pub(crate) fn is_empty(&self, folder: StateFile) -> Result<bool, Reason> {
+        let path = self.path_of(folder)?;
+        let mut entries = of_file(folder, fs::read_dir(&self.rt, path.as_str()))?;
+        match entries.next() {
+            Some(entry) => {
+                of_file(folder, entry)?;
+                Ok(false)
+            }
+            None => Ok(true),
+        }
+    }
+}

@@ -4,6 +4,7 @@ from __future__ import annotations
 import json
 import sqlite3
 import sys
+import tempfile
 from collections import Counter
 from itertools import islice
 from typing import IO, Iterable, Iterator
@@ -13,6 +14,8 @@ from .weights import Known, Weights
 
 # So many findings are held in memory at once.
 HELD = 100000
+# So many files are the lines of a report divided into.
+PARTS = 128
 
 
 def show_findings(reports: list[str], older: str | None = None, known: str | None = None,
@@ -113,22 +116,30 @@ def as_json(code: str, path: str, detail: str) -> str:
     return json.dumps(line, separators=(",", ":"))
 
 
-CHANGED = """
-select min(sign), line from line group by line having min(sign) = max(sign)
-order by min(path), min(sign) desc, line
-"""
+def divided(path: str) -> list[IO[bytes]]:
+    """The lines of a report in PARTS files, so that a line is in the same part of any report."""
+    parts: list[IO[bytes]] = [tempfile.TemporaryFile() for _ in range(PARTS)]
+    for block in report.Reading(path).whole():
+        lists: list[list[bytes]] = [[] for _ in parts]
+        for line in block[1:-1].split(b"\n"):
+            lists[hash(line) % PARTS].append(line)
+        for part, lines in zip(parts, lists):
+            write_lines(part, lines)
+    return parts
 
 
 def show_changed(older: str, newer: str) -> None:
     """Writes the lines that only one of two reports has, by path: `-` before those of the older
-    one, `+` before those of the newer one. They are sorted on the disk."""
+    one, `+` before those of the newer one. No more than a part of both is in memory."""
     database = sqlite3.connect("")
     database.execute("create table line (sign blob, path blob, line blob)")
-    for sign, path in ((b"-", older), (b"+", newer)):
-        for block in report.Reading(path).whole():
+    for parts in zip(divided(older), divided(newer)):
+        before, after = (set(lines_of(part)) for part in parts)
+        for sign, lines in ((b"-", before - after), (b"+", after - before)):
             database.executemany("insert into line values (?, ?, ?)", (
-                (sign, line.split(b"\t")[1], line) for line in block[1:-1].split(b"\n") if line))
+                (sign, line.split(b"\t")[1], line) for line in lines))
     sys.stdout.flush()
-    for sign, line in database.execute(CHANGED):
+    for sign, line in database.execute(
+            "select sign, line from line order by path, sign desc, line"):
         sys.stdout.buffer.write(sign + b"\t" + line + b"\n")
     database.close()

@@ -193,3 +193,20 @@ class Words(unittest.TestCase):
     def test_xml(self):
         self.assertEqual(xml.element("a", xml.element("b", xml.text("<&>\"\r\0")), c='"'),
                          '<a c="&quot;">\n  <b>&lt;&amp;&gt;&quot;&#13;\ufffd</b>\n</a>\n')
+
+
+class Changes(Folder):
+    def test_in_parts(self):
+        chance = random.Random(5)
+        every = [b"%s\t%s%d\t1" % (code, name, at) for at in range(60) for name in (b"a", b"B/")
+                 for code in (b"ok", b"E072")]
+        older, newer = ([it for it in every if chance.random() < 0.8] for _ in range(2))
+        paths = [self.put(b"".join(it + b"\n" for it in lines), name)
+                 for name, lines in (("older", older), ("newer", newer))]
+        rows = [b"-\t" + it for it in older if it not in newer]
+        rows += [b"+\t" + it for it in newer if it not in older]
+        rows.sort(key=lambda it: (it.split(b"\t")[2], it[:1] != b"-", it))
+        for parts in (1, 3, 128):
+            with mock.patch.object(questions, "PARTS", parts):
+                found = self.said(questions.show_changed, *paths)
+            self.assertEqual(found.splitlines(), rows)

@@ -23,8 +23,10 @@ table { border-collapse: collapse; margin: 1rem 0; max-width: 100%; }
 caption, h2 { text-align: left; font-weight: 600; }
 th, td { border-bottom: 1px solid var(--line); padding: .2rem .8rem .2rem 0; text-align: left;
   vertical-align: top; overflow-wrap: anywhere; }
+th { white-space: nowrap; } tbody th { font-weight: normal; }
 td.number { text-align: right; }
-svg { width: 100%; height: auto; } svg rect { fill: var(--bar); } svg .done { fill: var(--good); }
+svg { width: 100%; height: auto; } svg { max-width: 45rem; display: block; }
+svg rect { fill: var(--bar); } svg .done { fill: var(--good); }
 svg .open { fill: var(--line); } .level { font-size: 1.2rem; font-weight: 600; }
 code { overflow-wrap: anywhere; }
 @media (prefers-color-scheme: dark) { :root { --bar: #8ad; --good: #5c9; --bad: #f88; } }
@@ -63,7 +65,8 @@ def text(value: object) -> str:
 
 def table(caption: str, heads: Sequence[str], rows: Iterable[Sequence[object]]) -> str:
     head = "".join('<th scope="col">%s</th>' % text(name) for name in heads)
-    body = "".join("<tr>%s</tr>\n" % "".join(map(cell, row)) for row in rows)
+    body = "".join('<tr><th scope="row">%s</th>%s</tr>\n' % (
+        text(first), "".join(map(cell, others))) for first, *others in rows)
     return ("<table><caption>%s</caption>\n<thead><tr>%s</tr></thead>\n<tbody>%s</tbody></table>\n"
             % (text(caption), head, body))
 
@@ -118,17 +121,17 @@ def size(count: float) -> str:
 
 def about_cycle(state: State, standing: Standing) -> str:
     log = standing.log
-    facts = [("the last night began", log.night), ("its status", log.status),
-             ("cycle", log.cycle if log.cycle is not None else "none"),
-             ("the cycle has read", size(log.spent - log.files))]
+    facts = [("number", "none" if log.cycle is None else str(log.cycle)),
+             ("has read", size(log.spent - log.files)),
+             ("the last night began", log.night), ("its status", log.status)]
     if standing.done is not None:
         facts.append(("of what the last one read", "%d of 100" % standing.done))
     if standing.left is not None:
-        facts.append(("nights left", standing.left))
+        facts.append(("nights left", str(standing.left)))
     parts = [any(os.path.isfile(it.path) for it in state.closed_of_part(part))
              for part in state.parts()]
     return section("The open cycle" if log.is_open else "The last cycle",
-                   table("How far it is", ("", ""), facts), strip(parts))
+                   table("How far it is", ("what", "how it is"), facts), strip(parts))
 
 
 def about_nights(nights: list[Night]) -> str:

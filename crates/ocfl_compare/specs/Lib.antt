@@ -2,6 +2,7 @@ pub mod Kinds
 pub mod Changes
 pub mod Compared
 pub mod CompareStop
+pub mod Listed
 pub mod Joined
 pub mod Expected
 -- What private functions and fields say: a reader of the public contracts needs none of it.

@@ -1,8 +1,11 @@
-//! The laws of what changed between two reports.
-ghost use Rattle.std.specs.Prelude.{◌≡◌, ◌↔◌, List, [], true, false, map};
+//! The laws of what changed between two reports, and of parts that are joined.
+ghost use Rattle.std.specs.Prelude.{◌≡◌, ◌↔◌, ℕ, List, [], Some, None, true, map};
 ghost use Rattle.std.specs.List.{list_any};
 ghost use Rattle.ocfl_tree.specs.Ascending.{IsAmong};
-ghost use Rattle.ocfl_tree.specs.Place.{Place};
+ghost use Rattle.ocfl_tree.specs.Place.{Place, Text};
+ghost use Rattle.ocfl_parts.specs.Separators.{end_of_part, start_of_part};
+ghost use Rattle.ocfl_compare.specs.Joined.{fault_of};
+ghost use Rattle.ocfl_compare.specs.declared.joining.ClosedPart.{ClosedPart};
 ghost use Rattle.ocfl_report.specs.Line.{Line};
 ghost use Rattle.ocfl_compare.specs.Changes.{changes_at, comparison_text, file_gone, finding_codes};
 ghost use Rattle.ocfl_compare.specs.Changes.{found, lines_at, object_gone};
@@ -28,4 +31,15 @@ pub fn what_is_gone_is_the_difference()
 #[tactic(auto, using(crate::proofs::ChangeLaws::from_nothing))]
 pub fn nothing_is_gone_from_nothing()
     ensures { (now : List Line) → changes_at [] now ≡ map found (finding_codes now) }
+{}
+
+/// A part that has no fault is of this storage root and of this cycle, has the ends of the part with
+/// this number, and its report is whole.
+#[tactic(auto, using(crate::proofs::Parts::part_right))]
+pub fn a_part_without_fault_is_right()
+    ensures { (separators : List Place) (root : Text) (cycle number : ℕ) (part : ClosedPart)
+        → fault_of separators root cycle number (Some part) ≡ None
+        → (part.root.items ≡ root) × ((part.from ≡ start_of_part separators number)
+        × ((part.below ≡ end_of_part separators number)
+        × ((part.cycle ≡ cycle) × (part.whole ≡ true)))) }
 {}

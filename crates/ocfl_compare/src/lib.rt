@@ -7,6 +7,7 @@ mod expecting;
 mod joining;
 mod kinds;
 pub mod laws;
+mod listing;
 mod question;
 mod reading;
 mod rows;
@@ -18,4 +19,5 @@ pub use expecting::find_expected;
 pub use joining::{
     ClosedPart, JoinStop, MissingPart, PartFault, find_fault, find_missing, join_part,
 };
+pub use listing::{ListStop, read_list};
 pub use stop::CompareStop;

@@ -69,7 +69,7 @@ pub(crate) fn read_next<R: BufRead>(
 }
 
 /// Reads the next line with its line feed, or whatever is left. Gives false at the end.
-fn read_text<R: BufRead>(report: &mut R, text: &mut Vec<u8>) -> Result<bool, ReadStop>
+pub(crate) fn read_text<R: BufRead>(report: &mut R, text: &mut Vec<u8>) -> Result<bool, ReadStop>
     ensures line { OnOk result
         (IfSome (R.remaining report.old) (λ bytes. text.new.items ≡ take_through 10 bytes)) }
     ensures rest { OnOk result

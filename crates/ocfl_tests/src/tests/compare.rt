@@ -8,6 +8,7 @@ use std::alloc::Global;
 use std::io::BufReader;
 use std::test::Fail;
 
+mod expecting;
 mod joining;
 
 /// A root with two objects, of which one has a file that is missing.

@@ -1,0 +1,241 @@
+-- The lines of a list, one by one.
+use Rattle.std.proofs.Common.{◌≡◌, ◌≢◌, ◌⊎◌, inl, inr, ℕ, ◌+◌, ◌<◌, List, [], ◌∷◌, ◌++◌, Bool, true, false, Option, Some, None, IfSome, length, All, map, refl, sym, ap, subst, ◌∙◌, append_assoc, append-nil, length-append, arith}
+use Rattle.std.specs.Prelude.{⊤, cond, ◌==◌, ◌||◌, flat_map}
+use Rattle.std.specs.List.{slice_split, onto_first}
+use Rattle.std.specs.Io.BufRead.{take_through}
+use Rattle.std.specs.Io.KnownBytes.{Consumes, IsAtEnd}
+use Rattle.std.proofs.lemmas.List.Concat.{flat_map-append}
+use Rattle.std.proofs.lemmas.List.Elements.{All-append, All-cons, All-nil}
+use Rattle.ocfl_tree.specs.Place.{Text, Place}
+use Rattle.ocfl_tree.specs.Name.{IsPlace}
+use Rattle.ocfl_report.specs.Text.{place_text}
+use Rattle.ocfl_report.proofs.PlaceTexts.{place_text_determines}
+use Rattle.ocfl_compare.specs.Listed.{is_trimmed, trim_onto, trimmed, path_of, path_in, list_lines, listed_paths, IsObjectPlace, IsList, IsBadListLine, ListStopsRightly}
+use Rattle.ocfl_compare.specs.declared.listing.ListStop.{ListStop}
+use Rattle.ocfl_compare.specs.declared.listing.ListStop.TheVariants.{Line, Long, Failed, Memory}
+
+-- ---- trimming
+
+trim_last : (t : Text) (b : ℕ) → is_trimmed b ≡ true → trimmed (t ++ b ∷ []) ≡ trimmed t
+trim_last [] b e = ap (λ c. cond c [] (b ∷ [])) e
+trim_last (c ∷ t) b e = ap (trim_onto c) (trim_last t b e)
+
+-- ---- the first line
+
+-- the first line of some bytes, the line feed aside, and what follows: further lines, or nothing
+abbrev AreLinesOf : Text → Text → Text → Type 0
+AreLinesOf b line after = (list_lines b ≡ line ∷ list_lines after) ⊎ ((after ≡ []) × (list_lines b ≡ line ∷ []))
+
+record Splits (b text after : Text) : Type 0 where
+  pub line : Text
+  pub same : trimmed text ≡ trimmed line
+  pub lines : AreLinesOf b line after
+
+tail_same : (x y : ℕ) (b c : Text) → x ∷ b ≡ y ∷ c → b ≡ c
+tail_same x y b c e = cc
+
+onto : (x : ℕ) (b after line : Text) → AreLinesOf b line after → (onto_first x (list_lines b) ≡ (x ∷ line) ∷ list_lines after) ⊎ ((after ≡ []) × (onto_first x (list_lines b) ≡ (x ∷ line) ∷ []))
+onto x b after line (inl h) = inl (ap (onto_first x) h)
+onto x b after line (inr h) = inr (h.0, ap (onto_first x) h.1)
+
+first : (b after : Text) → b ≡ take_through 10 b ++ after → b ≢ [] → Splits b (take_through 10 b) after
+first [] after e some = absurd (some refl)
+first (x ∷ []) after e some = by (x == 10) refl e
+  where
+    by : (z : Bool) → (x == 10) ≡ z → x ∷ [] ≡ cond z (x ∷ []) (x ∷ []) ++ after → Splits (x ∷ []) (cond z (x ∷ []) (x ∷ [])) after
+    by true f g = record { line = []; same = ap (λ c. cond (x == 47 || c) [] (x ∷ [])) f ∙ or_true (x == 47); lines = inl (ap (λ c. cond c ([] ∷ ([] ∷ [])) ((x ∷ []) ∷ [])) f ∙ ap (λ t. [] ∷ list_lines t) (tail_same x x [] after g)) }
+      where
+        or_true : (c : Bool) → cond (c || true) [] (x ∷ []) ≡ []
+        or_true true = refl
+        or_true false = refl
+    by false f g = record { line = x ∷ []; same = refl; lines = inr (sym (tail_same x x [] after g), ap (λ c. cond c ([] ∷ ([] ∷ [])) ((x ∷ []) ∷ [])) f) }
+first (x ∷ y ∷ b) after e some = by (x == 10) refl e (λ g. first (y ∷ b) after g (λ h. cc))
+  where
+    by : (z : Bool) → (x == 10) ≡ z → x ∷ y ∷ b ≡ cond z (x ∷ []) (x ∷ take_through 10 (y ∷ b)) ++ after → (y ∷ b ≡ take_through 10 (y ∷ b) ++ after → Splits (y ∷ b) (take_through 10 (y ∷ b)) after)
+        → Splits (x ∷ y ∷ b) (cond z (x ∷ []) (x ∷ take_through 10 (y ∷ b))) after
+    by true f g k = record {
+      line = [];
+      same = ap (λ c. cond (x == 47 || c) [] (x ∷ [])) f ∙ or_true (x == 47);
+      lines = inl (ap (λ c. cond c ([] ∷ list_lines (y ∷ b)) (onto_first x (list_lines (y ∷ b)))) f ∙ ap (λ t. [] ∷ list_lines t) (tail_same x x (y ∷ b) after g));
+    }
+      where
+        or_true : (c : Bool) → cond (c || true) [] (x ∷ []) ≡ []
+        or_true true = refl
+        or_true false = refl
+    by false f g k =
+        let rest = k (tail_same x x (y ∷ b) (take_through 10 (y ∷ b) ++ after) g) in
+        record {
+          line = x ∷ rest.line;
+          same = ap (trim_onto x) rest.same;
+          lines = subst (λ ls. (ls ≡ (x ∷ rest.line) ∷ list_lines after) ⊎ ((after ≡ []) × (ls ≡ (x ∷ rest.line) ∷ []))) (sym (ap (λ c. cond c ([] ∷ list_lines (y ∷ b)) (onto_first x (list_lines (y ∷ b)))) f)) (onto x (y ∷ b) after rest.line rest.lines);
+        }
+
+-- ---- lines so far
+
+-- these lines were read of all bytes, and what is left
+abbrev pub AreRead : Text → Text → List Text → Type 0
+AreRead b left done = (list_lines b ≡ done ++ list_lines left) ⊎ ((left ≡ []) × (list_lines b ≡ done))
+
+pub record IsListed (b left : Text) (ps : List Place) (n : ℕ) : Type 0 where
+  pub done : List Text
+  pub read : AreRead b left done
+  pub places : All IsObjectPlace ps
+  pub paths : flat_map path_in done ≡ map place_text ps
+  pub count : n ≡ length done + 1
+
+pub none_listed : (b : Text) (ps : List Place) (n : ℕ) → ps ≡ [] → n ≡ 1 → IsListed b b ps n
+none_listed b ps n e f = record { done = []; read = inl refl; places = subst (All IsObjectPlace) (sym e) (All-nil IsObjectPlace); paths = ap (map place_text) (sym e); count = f }
+
+lines_more : (b left after line : Text) (done : List Text) → left ≢ [] → AreRead b left done → AreLinesOf left line after → AreRead b after (done ++ line ∷ [])
+lines_more b left after line done some (inr h) k = absurd (some h.0)
+lines_more b left after line done some (inl h) (inl k) = inl (h ∙ ap (λ ls. done ++ ls) k ∙ sym (append_assoc done (line ∷ []) (list_lines after)))
+lines_more b left after line done some (inl h) (inr k) = inr (k.0, h ∙ ap (λ ls. done ++ ls) k.1)
+
+line_stands : (b left after line : Text) (done : List Text) → left ≢ [] → AreRead b left done → AreLinesOf left line after → (rest : List Text) × (list_lines b ≡ done ++ line ∷ rest)
+line_stands b left after line done some (inr h) k = absurd (some h.0)
+line_stands b left after line done some (inl h) (inl k) = (list_lines after, h ∙ ap (λ ls. done ++ ls) k)
+line_stands b left after line done some (inl h) (inr k) = ([], h ∙ ap (λ ls. done ++ ls) k.1)
+
+map_more : (xs ys : List Place) → map place_text (xs ++ ys) ≡ map place_text xs ++ map place_text ys
+map_more [] ys = refl
+map_more (x ∷ xs) ys = ap (λ t. place_text x ∷ t) (map_more xs ys)
+
+module _ (b left after text : Text) (ps : List Place) (n : ℕ) (h : IsListed b left ps n) (some : text ≢ []) (is_first : text ≡ take_through 10 left) (read : left ≡ text ++ after) where
+  not_empty : left ≢ []
+  not_empty e = some (is_first ∙ ap (take_through 10) e)
+
+  split : Splits left (take_through 10 left) after
+  split = first left after (read ∙ ap (λ t. t ++ after) is_first) not_empty
+
+  path_is : path_in text ≡ path_in split.line
+  path_is = ap path_in is_first ∙ ap path_of split.same
+
+  pub listed_more : (more : List Place) (qs : List Place) (k : ℕ) → All IsObjectPlace more → qs ≡ ps ++ more → path_in text ≡ map place_text more → k ≡ n + 1 → IsListed b after qs k
+  listed_more more qs k places e paths f = record {
+    done = h.done ++ split.line ∷ [];
+    read = lines_more b left after split.line h.done not_empty h.read split.lines;
+    places = subst (All IsObjectPlace) (sym e) (All-append IsObjectPlace ps more h.places places);
+    paths = flat_map-append path_in h.done (split.line ∷ []) ∙ (λ i. h.paths i ++ (append-nil (path_in split.line) ∙ sym path_is ∙ paths) i) ∙ sym (map_more ps more) ∙ ap (map place_text) (sym e);
+    count = f ∙ ap (λ x. x + 1) (h.count ∙ sym (length-append h.done (split.line ∷ [])));
+  }
+
+  pub line_bad : (m : ℕ) → m ≡ n → path_in text ≢ [] → ((p : Place) → IsObjectPlace p → path_in text ≢ place_text p ∷ []) → IsBadListLine b m
+  line_bad m e path bad =
+      let stands = line_stands b left after split.line h.done not_empty h.read split.lines in
+      record {
+        before = h.done;
+        line = split.line;
+        rest = stands.0;
+        listed = ps;
+        is = stands.1;
+        number = e ∙ h.count;
+        places = h.places;
+        paths = h.paths;
+        some = λ z. path (path_is ∙ z);
+        bad = λ p o z. bad p o (path_is ∙ z);
+      }
+
+pub all_listed : (b left : Text) (ps : List Place) (n : ℕ) → IsListed b left ps n → left ≡ [] → IsList b ps
+all_listed b left ps n h e = record { places = h.places; is = by h.read }
+  where
+    by : AreRead b left h.done → listed_paths b ≡ map place_text ps
+    by (inl k) = ap (flat_map path_in) (k ∙ ap (λ t. h.done ++ list_lines t) e) ∙ flat_map-append path_in h.done ([] ∷ []) ∙ append-nil (flat_map path_in h.done) ∙ h.paths
+    by (inr k) = ap (flat_map path_in) k.1 ∙ h.paths
+
+-- ---- of a reader's bytes, where they are known
+
+abbrev pub KnownListed : Option Text → Option Text → List Place → ℕ → Type 0
+KnownListed None left ps n = ⊤
+KnownListed (Some b) None ps n = ⊥
+KnownListed (Some b) (Some left) ps n = IsListed b left ps n
+
+pub known_none : (known : Option Text) (ps : List Place) (n : ℕ) → ps ≡ [] → n ≡ 1 → KnownListed known known ps n
+known_none None ps n e f = tt
+known_none (Some b) ps n e f = none_listed b ps n e f
+
+pub known_more : (all left after : Option Text) (text bytes : Text) (ps : List Place) (n : ℕ) → KnownListed all left ps n → text ≢ [] → IfSome left (λ xs. text ≡ take_through 10 xs)
+    → Consumes left after text → bytes ≡ text → (qs : List Place) (k : ℕ)
+    → (more : List Place) × (All IsObjectPlace more × ((qs ≡ ps ++ more) × (path_in bytes ≡ map place_text more))) → k ≡ n + 1 → KnownListed all after qs k
+known_more None left after text bytes ps n h some line read e qs k m f = tt
+known_more (Some b) None after text bytes ps n h some line read e qs k m f = absurd h
+known_more (Some b) (Some left) None text bytes ps n h some line read e qs k m f = absurd read
+known_more (Some b) (Some left) (Some after) text bytes ps n h some line read e qs k m f =
+    listed_more b left after text ps n h some line read m.0 qs k m.1.0 m.1.1.0 (ap path_in (sym e) ∙ m.1.1.1) f
+
+pub known_bad : (all left after : Option Text) (text bytes : Text) (ps : List Place) (n : ℕ) (stop : ListStop) → KnownListed all left ps n → text ≢ [] → IfSome left (λ xs. text ≡ take_through 10 xs)
+    → Consumes left after text → bytes ≡ text
+    → ((m : ℕ) → stop ≡ Line m → (m ≡ n) × ((path_in bytes ≢ []) × ((p : Place) → IsObjectPlace p → path_in bytes ≢ place_text p ∷ [])))
+    → IfSome all (λ b. ListStopsRightly b stop)
+known_bad None left after text bytes ps n stop h some line read e bad = tt
+known_bad (Some b) None after text bytes ps n stop h some line read e bad = absurd h
+known_bad (Some b) (Some left) None text bytes ps n stop h some line read e bad = absurd read
+known_bad (Some b) (Some left) (Some after) text bytes ps n (Line m) h some line read e bad =
+    let k = bad m refl in
+    line_bad b left after text ps n h some line read m k.0 (λ z. k.1.0 (ap path_in e ∙ z)) (λ p o z. k.1.1 p o (ap path_in e ∙ z))
+known_bad (Some b) (Some left) (Some after) text bytes ps n Long h some line read e bad = tt
+known_bad (Some b) (Some left) (Some after) text bytes ps n Failed h some line read e bad = tt
+known_bad (Some b) (Some left) (Some after) text bytes ps n Memory h some line read e bad = tt
+
+pub known_all : (all left : Option Text) (ps : List Place) (n : ℕ) → KnownListed all left ps n → IsAtEnd left → IfSome all (λ b. IsList b ps)
+known_all None left ps n h end = tt
+known_all (Some b) None ps n h end = absurd h
+known_all (Some b) (Some left) ps n h end = all_listed b left ps n h end
+
+pub known_other : (all : Option Text) (stop : ListStop) → (stop ≡ Long) ⊎ ((stop ≡ Failed) ⊎ (stop ≡ Memory)) → IfSome all (λ b. ListStopsRightly b stop)
+known_other None stop h = tt
+known_other (Some b) (Line n) (inl e) = cc
+known_other (Some b) (Line n) (inr (inl e)) = cc
+known_other (Some b) (Line n) (inr (inr e)) = cc
+known_other (Some b) Long h = tt
+known_other (Some b) Failed h = tt
+known_other (Some b) Memory h = tt
+
+-- ---- one line
+
+pub no_path : (line path : Text) → path ≡ trimmed line → path_of path ≡ [] → path_in line ≡ map place_text []
+no_path line path e f = ap path_of (sym e) ∙ f
+
+pub one_path : (line path : Text) (p : Place) → path ≡ trimmed line → path_of path ≡ path ∷ [] → path ≡ place_text p → path_in line ≡ map place_text (p ∷ [])
+one_path line path p e f g = ap path_of (sym e) ∙ f ∙ ap (λ t. t ∷ []) g
+
+pub object_place : (p : Place) → IsPlace p → length p ≢ 0 → IsObjectPlace p
+object_place p names some = record { names = names; below = λ e. some (ap length e) }
+
+some_path : (line path : Text) → path ≡ trimmed line → path_of path ≡ path ∷ [] → path_in line ≢ []
+some_path line path e f z = by (sym (ap path_of (sym e) ∙ f) ∙ z)
+  where
+    by : path ∷ [] ≡ [] → ⊥
+    by h = cc
+
+head_same : (x y : Text) → x ∷ [] ≡ y ∷ [] → x ≡ y
+head_same x y e = cc
+
+pub bad_path : (line path : Text) (k : ℕ) → path ≡ trimmed line → path_of path ≡ path ∷ [] → ((p : Place) → IsPlace p → path ≡ place_text p → p ≢ [] → ⊥)
+    → (m : ℕ) → Line k ≡ Line m → (m ≡ k) × ((path_in line ≢ []) × ((p : Place) → IsObjectPlace p → path_in line ≢ place_text p ∷ []))
+bad_path line path k e f bad m g = (same m g, (some_path line path e f, λ p o z. bad p o.names (head_same path (place_text p) (sym (ap path_of (sym e) ∙ f) ∙ z)) o.below))
+  where
+    same : (m : ℕ) → Line k ≡ Line m → m ≡ k
+    same m g = cc
+
+pub root_only : (path : Text) (p : Place) → IsPlace p → length p ≡ 0 → path ≡ place_text p → (q : Place) → IsPlace q → path ≡ place_text q → q ≢ [] → ⊥
+root_only path p names none e q others f some = some (place_text_determines q p others names (sym f ∙ e) ∙ empty p none)
+  where
+    empty : (xs : Place) → length xs ≡ 0 → xs ≡ []
+    empty [] h = refl
+    empty (x ∷ xs) h = cc
+
+-- ---- trimming, as the code does it
+
+trim_none : (t : Text) (b : ℕ) → is_trimmed b ≡ false → trimmed (t ++ b ∷ []) ≡ t ++ b ∷ []
+trim_none [] b e = ap (λ c. cond c [] (b ∷ [])) e
+trim_none (c ∷ []) b e = ap (trim_onto c) (trim_none [] b e)
+trim_none (c ∷ d ∷ t) b e = ap (trim_onto c) (trim_none (d ∷ t) b e)
+
+pub end_off : (line rest : Text) (b : ℕ) (z : Bool) → line ≡ rest ++ b ∷ [] → z ≡ is_trimmed b → z ≡ true → trimmed line ≡ trimmed rest
+end_off line rest b z e f g = ap trimmed e ∙ trim_last rest b (sym f ∙ g)
+
+pub end_on : (line rest : Text) (b : ℕ) (z : Bool) → line ≡ rest ++ b ∷ [] → z ≡ is_trimmed b → z ≡ false → trimmed line ≡ line
+end_on line rest b z e f g = ap trimmed e ∙ trim_none rest b (sym f ∙ g) ∙ sym e
+
+pub shorter_by_one : (line rest : Text) (b : ℕ) → line ≡ rest ++ b ∷ [] → length rest < length line
+shorter_by_one line rest b e = omega (arith, ap length e, length-append rest (b ∷ []))

@@ -178,7 +178,8 @@ impl ReportDigests {
         ensures { (value : Bytes) (k lines : ℕ) (text : Bytes)
             → CarriedFrom value k lines self.now text → result ≡ tail_of text }
     {
-        digest_of(&self.tail)
+        let tail = &self.tail;
+        digest_of(tail)
     }
 
     /// What a checkpoint keeps of the report.

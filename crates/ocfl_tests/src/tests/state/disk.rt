@@ -2,6 +2,7 @@
 use crate::tests::common::Runtime;
 use ocfl_state::{FsState, StateFile, StateFolder, StateStop, Trouble};
 use std::io::Read;
+use std::rt::Files;
 use std::test::Fail;
 use std::{fs, os};
 
@@ -23,7 +24,7 @@ fn fresh(rt: &HostRuntime, path: &str) -> Result<(), Fail> {
     Ok(())
 }
 
-fn expect_text(rt: &HostRuntime, path: &str, want: &str) -> Result<(), Fail> {
+fn expect_text<R: Runtime + Files>(rt: &R, path: &str, want: &str) -> Result<(), Fail> {
     let text = fs::read_to_string(rt, path)?;
     assert_eq!(rt; text.as_str(), want, "{path}");
     Ok(())
@@ -123,7 +124,10 @@ fn a_failed_call_keeps_its_reason(rt: HostRuntime) -> Result<(), Fail> {
     fresh(&rt, "reasons")?;
     let mut folder = open(&rt, "reasons", true)?;
     let large = vec![in rt.alloc(); b'x'; 1_048_577]?;
-    assert_eq!(rt; folder.put_checkpoint(large.as_slice()).err(), Some(Trouble::Failed));
+    assert_eq!(rt;
+        folder.put_checkpoint(large.as_slice()).err(),
+        Some(Trouble::Failed)
+    );
     assert!(rt; folder.checkpoint()?.is_none());
     folder.put_checkpoint(&large[..1_048_576])?;
     assert!(rt; folder.checkpoint()?.is_some());

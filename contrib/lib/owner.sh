@@ -1,7 +1,6 @@
 #!/bin/sh
 # Whose folder this is. The user whose it is can put a link, or anything else, into it at any time.
-# So what root calls there has that user's rights, or does nothing. All scripts that read or write a
-# state folder read this file.
+# So what root calls there does nothing. All scripts that write into a state folder read this file.
 
 # Sets `owner` to the number of the user whose a file or folder is, where that is not root and root
 # asks; else to nothing. A link is the user's who made it, or of the user of what it leads to.
@@ -13,17 +12,6 @@ find_owner() {
     [ "${owner:-0}" -eq 0 ] || return 0
   done
   owner=''
-}
-
-# Where root calls a script on what is another user's, calls it again with that user's rights.
-#
-# as_owner FILE SCRIPT WORD...
-as_owner() {
-  find_owner "$1"
-  [ -n "$owner" ] || return 0
-  group=$(stat -L -c '%g' -- "$1") || return 3
-  shift
-  exec setpriv --reuid "$owner" --regid "$group" --clear-groups -- "$@"
 }
 
 # Refuses what root would write into a folder of another user.

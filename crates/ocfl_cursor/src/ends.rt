@@ -27,7 +27,7 @@ pub fn every_part_has_ends(ends: &PartEnds)
 }
 
 /// Whether two parts have the same ends.
-pub(crate) fn is_same_part(ends: &PartEnds, other: &PartEnds) -> bool
+pub fn is_same_part(ends: &PartEnds, other: &PartEnds) -> bool
     ensures { IsTrue result ↔ (ends.now ≡ other.now) }
 {
     is_same_end(&ends.from, &other.from) && is_same_end(&ends.below, &other.below)

@@ -24,7 +24,7 @@ mod state;
 pub use cursor::Cursor;
 pub use decoding::decode;
 pub use encoding::{cursor_lines, encode};
-pub use ends::{PartEnds, every_part_has_ends};
+pub use ends::{PartEnds, every_part_has_ends, is_same_part};
 pub use laws::{
     a_meter_stops_at_its_limits, cursor_reads_back, no_part_is_refused, no_stored_part_is_refused,
     part_reads_back, parts_and_whole_are_apart, text_determines_the_cursor,

@@ -5,7 +5,7 @@ use crate::tests::common::store::place_of;
 use crate::tests::common::{Runtime, expect_shown};
 use ocfl_cursor::{
     Cursor, PartEnds, PartRefused, Refused, State, decode_part, encode_part, every_part_has_ends,
-    no_part_is_refused, part_reads_back, parts_and_whole_are_apart, read_part_cursor,
+    is_same_part, no_part_is_refused, part_reads_back, parts_and_whole_are_apart, read_part_cursor,
     text_determines_the_part,
 };
 use std::alloc::Global;
@@ -58,13 +58,18 @@ fn parts_are_named(rt: HostRuntime) -> Result<(), Fail> {
         assert_eq!(rt; read.state(), &State::Start, "{row}");
         // No other part takes it.
         for (other, from, below, ..) in PARTS {
-            let ends = ends_of(alloc, from, below)?;
+            let others = ends_of(alloc, from, below)?;
+            assert_eq!(rt;
+                is_same_part(&ends, &others),
+                other == row,
+                "{row} is {other}"
+            );
             let wanted = if other == row {
                 None
             } else {
                 Some(PartRefused::OtherPart)
             };
-            let refused = decode_part(alloc, &text, &ends).err();
+            let refused = decode_part(alloc, &text, &others).err();
             assert_eq!(rt; refused, wanted, "{row}, read as {other}");
         }
         let refused = refusal_of(alloc, &text);

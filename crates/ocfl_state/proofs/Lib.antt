@@ -9,3 +9,4 @@ pub mod PieceLaws
 pub mod Readings
 pub mod SummaryLaws
 pub mod Resuming
+pub mod CheckpointCases

@@ -1,6 +1,7 @@
 //! The tests, in a module for each crate. The first column of a table names its rows, and each
 //! assertion on a row carries that name.
 mod checkpoint;
+mod clock;
 mod common;
 mod compare;
 mod cursor;

@@ -17,5 +17,6 @@ mod scope;
 mod scrub;
 mod split;
 mod state;
+mod telling;
 mod tree;
 mod walk;

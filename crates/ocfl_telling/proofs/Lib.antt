@@ -1,0 +1,5 @@
+pub mod Taking
+pub mod Weights
+pub mod Heaps
+pub mod Pieces
+pub mod ShownLines

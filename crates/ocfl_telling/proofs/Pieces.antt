@@ -1,0 +1,98 @@
+-- Bytes of a report that come piece by piece.
+use Rattle.std.proofs.Common.{◌≡◌, ◌≢◌, List, [], ◌∷◌, ◌++◌, true, false, not, refl, ap, sym, subst, ◌∙◌, append_assoc}
+use Rattle.std.specs.Prelude.{All}
+use Rattle.std.proofs.lemmas.Grind.{flat_map-append}
+use Rattle.std.proofs.lemmas.List.{append-nil}
+use Rattle.std.proofs.lemmas.List.Elements.{All-append, All-cons, All-nil, filter-append}
+use Rattle.ocfl_tree.specs.Place.{Text}
+use Rattle.ocfl_report.specs.Line.{Line}
+use Rattle.ocfl_report.specs.Text.{IsLine, IsLineText, line_text, lines_text}
+use Rattle.ocfl_report.proofs.LineTexts.{IsLine-from_text}
+use Rattle.ocfl_telling.specs.Gravest.{IsOf}
+use Rattle.ocfl_telling.specs.Known.{is_known, unknown}
+use Rattle.ocfl_telling.specs.Found.{AreAll, HasBadLine, IsAfter}
+use Rattle.ocfl_telling.specs.declared.found.Found.{Found}
+use Rattle.ocfl_telling.specs.declared.known.Entry.{Entry}
+
+-- a line that is known is left out
+pub unknown_same : (es : List Entry) (ls : List Line) (l : Line) → is_known es l ≡ true → unknown es (ls ++ l ∷ []) ≡ unknown es ls
+unknown_same es ls l h =
+    let none : unknown es (l ∷ []) ≡ [] = rw h refl in
+    filter-append (λ m. not (is_known es m)) ls (l ∷ []) ∙ ap (λ t. unknown es ls ++ t) none ∙ append-nil (unknown es ls)
+
+-- and another is not
+pub unknown_more : (es : List Entry) (ls : List Line) (l : Line) → is_known es l ≡ false → unknown es (ls ++ l ∷ []) ≡ unknown es ls ++ l ∷ []
+unknown_more es ls l h =
+    let one : unknown es (l ∷ []) ≡ l ∷ [] = rw h refl in
+    filter-append (λ m. not (is_known es m)) ls (l ∷ []) ∙ ap (λ t. unknown es ls ++ t) one
+
+lines_more : (ls : List Line) (l : Line) → lines_text (ls ++ l ∷ []) ≡ lines_text ls ++ line_text l
+lines_more ls l = flat_map-append line_text ls (l ∷ []) ∙ ap (λ t. lines_text ls ++ t) (append-nil (line_text l))
+
+-- the end of a line: what was kept, and this with its line feed, are the text of the line
+pub line_taken : (es : List Entry) (old new : Found) (b part : Text) (l : Line) → IsAfter es old b → new.rest.items ≡ []
+    → IsLineText ((old.rest.items ++ part) ++ 10 ∷ []) l
+    → ((ls : List Line) → IsOf old.gravest (unknown es ls) → IsOf new.gravest (unknown es (ls ++ l ∷ [])))
+    → IsAfter es new (b ++ (part ++ 10 ∷ []))
+line_taken es old new b part l h empty text adds =
+    let rest = old.rest.items in
+    let joined : rest ++ (part ++ 10 ∷ []) ≡ line_text l = sym (append_assoc rest part (10 ∷ [])) ∙ text.is in
+    record {
+      lines = h.lines ++ l ∷ [];
+      are = All-append IsLine h.lines (l ∷ []) h.are (All-cons IsLine l [] (IsLine-from_text _ l text) (All-nil IsLine));
+      is = ap (λ t. t ++ (part ++ 10 ∷ [])) h.is ∙ append_assoc (lines_text h.lines) rest (part ++ 10 ∷ []) ∙ ap (λ t. lines_text h.lines ++ t) joined
+          ∙ sym (lines_more h.lines l) ∙ sym (append-nil (lines_text (h.lines ++ l ∷ []))) ∙ ap (λ t. lines_text (h.lines ++ l ∷ []) ++ t) (sym empty);
+      unended = subst (All (λ c. c ≢ 10)) (sym empty) (All-nil (λ c. c ≢ 10));
+      gravest = adds h.lines h.gravest;
+    }
+
+-- or they are the text of none
+pub line_refused : (es : List Entry) (old : Found) (b part after : Text) → IsAfter es old b → All (λ c. c ≢ 10) part
+    → ((l : Line) → IsLineText ((old.rest.items ++ part) ++ 10 ∷ []) l → ⊥) → HasBadLine (b ++ (part ++ 10 ∷ []) ++ after)
+line_refused es old b part after h one refused =
+    let rest = old.rest.items in
+    let joined : b ++ (part ++ 10 ∷ []) ≡ lines_text h.lines ++ ((rest ++ part) ++ 10 ∷ []) =
+    ap (λ t. t ++ (part ++ 10 ∷ [])) h.is ∙ append_assoc (lines_text h.lines) rest (part ++ 10 ∷ []) ∙ ap (λ t. lines_text h.lines ++ t) (sym (append_assoc rest part (10 ∷ []))) in
+    record {
+      before = h.lines;
+      bad = rest ++ part;
+      after = after;
+      are = h.are;
+      is = ap (λ t. t ++ after) joined;
+      one = All-append (λ c. c ≢ 10) rest part h.unended one;
+      refused = refused;
+    }
+
+-- what has no line feed is kept
+pub rest_kept : (es : List Entry) (old new : Found) (b more : Text) → IsAfter es old b → All (λ c. c ≢ 10) more → new.rest.items ≡ old.rest.items ++ more
+    → new.gravest ≡ old.gravest → IsAfter es new (b ++ more)
+rest_kept es old new b more h unended e same = record {
+  lines = h.lines;
+  are = h.are;
+  is = ap (λ t. t ++ more) h.is ∙ append_assoc (lines_text h.lines) old.rest.items more ∙ ap (λ t. lines_text h.lines ++ t) (sym e);
+  unended = subst (All (λ c. c ≢ 10)) (sym e) (All-append (λ c. c ≢ 10) old.rest.items more h.unended unended);
+  gravest = subst (λ g. IsOf g (unknown es h.lines)) (sym same) h.gravest;
+}
+
+-- at the end of a line all is taken
+pub all_taken : (es : List Entry) (f : Found) (b : Text) → f.rest.items ≡ [] → IsAfter es f b → AreAll es f.gravest b
+all_taken es f b empty h = record {
+  lines = h.lines;
+  are = h.are;
+  is = h.is ∙ ap (λ t. lines_text h.lines ++ t) empty ∙ append-nil (lines_text h.lines);
+  gravest = h.gravest;
+}
+
+-- ---- pieces
+
+pub cut_on : (done part after bytes left : Text) → bytes ≡ done ++ left → left ≡ part ++ 10 ∷ after → bytes ≡ (done ++ (part ++ 10 ∷ [])) ++ after
+cut_on done part after bytes left e f =
+    let grouped : (done ++ (part ++ 10 ∷ [])) ++ after ≡ done ++ (part ++ 10 ∷ after) = append_assoc done (part ++ 10 ∷ []) after ∙ ap (λ t. done ++ t) (append_assoc part (10 ∷ []) after) in
+    e ∙ ap (λ t. done ++ t) f ∙ sym grouped
+
+pub bad_joined : (b done part after bytes left : Text) → bytes ≡ done ++ left → left ≡ part ++ 10 ∷ after → ((b ++ done) ++ (part ++ 10 ∷ [])) ++ after ≡ b ++ bytes
+bad_joined b done part after bytes left e f =
+    ap (λ t. t ++ after) (append_assoc b done (part ++ 10 ∷ [])) ∙ append_assoc b (done ++ (part ++ 10 ∷ [])) after ∙ ap (λ t. b ++ t) (sym (cut_on done part after bytes left e f))
+
+pub rest_joined : (b done bytes left : Text) → bytes ≡ done ++ left → (b ++ done) ++ left ≡ b ++ bytes
+rest_joined b done bytes left e = append_assoc b done left ∙ ap (λ t. b ++ t) (sym e)

@@ -1,0 +1,6 @@
+use Rattle.std.proofs.Common.{◌∙◌, append_assoc, rules}
+use Rattle.std.proofs.lemmas.Result.{IfOk-weaker}
+use Rattle.ocfl_telling.proofs.closing.gone_head_of.Goals as goal
+
+pub returns : goal.returns
+returns c = IfOk-weaker c.format.result _ _ (λ s h. h ∙ search (rules, append_assoc)) c.format.ensures.ok

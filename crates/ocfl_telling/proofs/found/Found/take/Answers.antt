@@ -1,0 +1,33 @@
+use Rattle.std.proofs.Common.{[], ◌∷◌, ◌++◌, append_assoc, refl, sym, subst}
+use Rattle.std.proofs.lemmas.List.{append-nil}
+use Rattle.std.proofs.lemmas.Result.{err_from_is_err_and}
+use Rattle.ocfl_telling.specs.Found.{HasBadLine, IsAfter}
+use Rattle.ocfl_telling.proofs.Pieces.{bad_joined, cut_on, rest_joined, rest_kept}
+use Rattle.ocfl_telling.proofs.found.Found.take.Goals as goal
+
+pub loop-part-init : goal.loop-part-init
+loop-part-init c = record { done = []; cut = refl; after = λ b h. subst (IsAfter c.args.known.now.entries.items c.args.self) (sym (append-nil b)) h }
+
+pub returns-in_err-found-clause-bad : goal.returns-in_err-found-clause-bad
+returns-in_err-found-clause-bad c = λ e b h.
+    let inv = c.loop-part.invariant in
+    let passed = err_from_is_err_and c.from_residual.result c.from_residual.ensures.1 in
+    subst HasBadLine (bad_joined b inv.done c.in-Some.part.now c.in-Some.after.now c.args.bytes.now c.loop-part.left.now inv.cut c.in-Some.ensures.found)
+    (c.in_err-found.ensures.bad (cc (passed.1, passed.2, e)) (b ++ inv.done) c.in-Some.after.now (inv.after b h))
+
+pub loop-part-preserved : goal.loop-part-preserved
+loop-part-preserved c =
+    let inv = c.loop-part.invariant in
+    record {
+      done = inv.done ++ (c.in-Some.part.now ++ 10 ∷ []);
+      cut = cut_on inv.done c.in-Some.part.now c.in-Some.after.now c.args.bytes.now c.loop-part.left.now inv.cut c.in-Some.ensures.found;
+      after = λ b h. subst (IsAfter c.args.known.now.entries.items c.in_ok-found.found) (append_assoc b inv.done (c.in-Some.part.now ++ 10 ∷ []))
+          (c.in_ok-found.ensures.ok (b ++ inv.done) (inv.after b h));
+    }
+
+pub returns-clause-ok : goal.returns-clause-ok
+returns-clause-ok c = λ b h.
+    let inv = c.loop-part.invariant in
+    subst (IsAfter c.args.known.now.entries.items _) (rest_joined b inv.done c.args.bytes.now c.loop-part.left.now inv.cut)
+    (rest_kept c.args.known.now.entries.items c.loop-part.found _ (b ++ inv.done) c.loop-part.left.now (inv.after b h) (c.in_default.ensures.missing refl)
+    c.in_ok-extend_from_slice.ensures.items refl)

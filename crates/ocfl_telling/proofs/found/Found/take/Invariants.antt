@@ -1,0 +1,14 @@
+use Rattle.std.proofs.Common.{◌≡◌, ◌++◌, length}
+use Rattle.ocfl_tree.specs.Place.{Text}
+use Rattle.ocfl_telling.specs.Found.{IsAfter}
+use Rattle.ocfl_telling.proofs.found.Found.take.Given as goal
+
+abbrev pub invariant-loop-part : goal.invariant-loop-part
+invariant-loop-part l = record {
+  done : Text;
+  cut : l.bytes ≡ done ++ l.left;
+  after : (b : Text) → IsAfter l.known.entries.items l.fn.self b → IsAfter l.known.entries.items l.found (b ++ done);
+}
+
+abbrev pub decreases-loop-part : goal.decreases-loop-part
+decreases-loop-part l = length l.left

@@ -1,0 +1,60 @@
+-- What is said of a cycle that was closed.
+use Rattle.std.specs.Prelude.{ℕ, ◌-◌, ◌==◌, min, List, [], ◌∷◌, ◌++◌, Bool, length, map, take, flat_map, codes, decimal, if◌then◌else◌}
+use Rattle.ocfl_tree.specs.Place.{Text}
+use Rattle.ocfl_report.specs.Line.{line_of}
+use Rattle.ocfl_report.specs.Text.{escape, lines_text, place_text}
+use Rattle.ocfl_telling.specs.Gravest.{most_shown}
+use Rattle.ocfl_telling.specs.Night.{more_text}
+use Rattle.ocfl_telling.specs.declared.closing.Kind.{Kind}
+use Rattle.ocfl_telling.specs.declared.closing.Kind.TheVariants.{Object, File, Expected}
+use Rattle.ocfl_telling.specs.declared.closing.Gone.{Gone}
+use Rattle.ocfl_telling.specs.declared.closing.Closing.{Closing}
+
+abbrev pub not_whole_text : ℕ → Text → Text
+not_whole_text cycle report = codes "Cycle " ++ decimal cycle ++ codes " has ended, and its report is not whole: " ++ escape report ++ codes "\n"
+
+abbrev pub ended_text : Bool → ℕ → Text → Text
+ended_text whole cycle report = if whole then [] else not_whole_text cycle report
+
+-- how many are not shown, of a list that has so many of them
+abbrev pub not_shown : ℕ → ℕ → ℕ
+not_shown count listed = count - min listed most_shown
+
+-- a line, what is shown, and how many more there are in a file; nothing of none
+abbrev pub section_text : ℕ → Text → Text → ℕ → Text → Text
+section_text count head shown left file = if count == 0 then [] else head ++ shown ++ more_text file left
+
+abbrev pub kind_text : Kind → Text
+kind_text Object = codes "object"
+kind_text File = codes "file"
+kind_text Expected = codes "expected"
+
+abbrev pub gone_line : Gone → Text
+gone_line g = kind_text g.kind ++ 9 ∷ place_text g.place ++ 10 ∷ []
+
+abbrev pub gone_lines : List Gone → Text
+gone_lines gs = flat_map gone_line gs
+
+abbrev pub new_head : ℕ → ℕ → ℕ → Text
+new_head count cycle before = decimal count ++ codes " finding(s) of cycle " ++ decimal cycle ++ codes " are new since cycle " ++ decimal before ++ codes ":\n"
+
+abbrev pub repaired_head : ℕ → ℕ → ℕ → Text
+repaired_head count cycle before = decimal count ++ codes " finding(s) of cycle " ++ decimal before ++ codes " are repaired in cycle " ++ decimal cycle ++ codes ":\n"
+
+abbrev pub gone_head : ℕ → ℕ → ℕ → Text
+gone_head count cycle before = decimal count ++ codes " object(s) and file(s) of cycle " ++ decimal before ++ codes " are in no report of cycle " ++ decimal cycle ++ codes ":\n"
+
+abbrev pub new_text : Closing → Text
+new_text c = section_text c.appeared_count (new_head c.appeared_count c.cycle c.before) (lines_text (map line_of (take most_shown c.appeared.now)))
+    (not_shown c.appeared_count (length c.appeared.now)) c.report.now
+
+abbrev pub repaired_text : Closing → Text
+repaired_text c = section_text c.repaired_count (repaired_head c.repaired_count c.cycle c.before) (lines_text (map line_of (take most_shown c.repaired.now)))
+    (not_shown c.repaired_count (length c.repaired.now)) c.earlier.now
+
+abbrev pub gone_text : Closing → Text
+gone_text c = section_text c.gone_count (gone_head c.gone_count c.cycle c.before) (gone_lines (take most_shown c.gone.now))
+    (not_shown c.gone_count (length c.gone.now)) c.list.now
+
+abbrev pub closing_text : Closing → Text
+closing_text c = ended_text c.whole c.cycle c.report.now ++ new_text c ++ repaired_text c ++ gone_text c

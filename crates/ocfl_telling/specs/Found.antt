@@ -1,0 +1,36 @@
+-- The findings among the bytes of a report that come piece by piece.
+use Rattle.std.specs.Prelude.{◌≡◌, ◌≢◌, List, [], ◌∷◌, ◌++◌, All}
+use Rattle.ocfl_tree.specs.Place.{Text}
+use Rattle.ocfl_report.specs.Line.{Line}
+use Rattle.ocfl_report.specs.Text.{IsLine, IsLineText, lines_text}
+use Rattle.ocfl_telling.specs.Gravest.{IsOf}
+use Rattle.ocfl_telling.specs.Known.{unknown}
+use Rattle.ocfl_telling.specs.declared.gravest.Gravest.{Gravest}
+use Rattle.ocfl_telling.specs.declared.found.Found.{Found}
+use Rattle.ocfl_telling.specs.declared.known.Entry.{Entry}
+
+-- after these bytes: their whole lines are taken but for those that are known, and what follows the
+-- last line feed is kept
+pub record IsAfter (known : List Entry) (f : Found) (b : Text) : Type 0 where
+  pub lines : List Line
+  pub are : All IsLine lines
+  pub is : b ≡ lines_text lines ++ f.rest.items
+  pub unended : All (λ c. c ≢ 10) f.rest.items
+  pub gravest : IsOf f.gravest (unknown known lines)
+
+-- the bytes are the text of these lines, and the findings are kept of them that are not known
+pub record AreAll (known : List Entry) (g : Gravest) (b : Text) : Type 0 where
+  pub lines : List Line
+  pub are : All IsLine lines
+  pub is : b ≡ lines_text lines
+  pub gravest : IsOf g (unknown known lines)
+
+-- after some lines of a report, the bytes go on with a line that is none of a report
+pub record HasBadLine (b : Text) : Type 0 where
+  pub before : List Line
+  pub bad : Text
+  pub after : Text
+  pub are : All IsLine before
+  pub is : b ≡ lines_text before ++ (bad ++ 10 ∷ []) ++ after
+  pub one : All (λ c. c ≢ 10) bad
+  pub refused : (l : Line) → IsLineText (bad ++ 10 ∷ []) l → ⊥

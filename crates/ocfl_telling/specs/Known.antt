@@ -1,0 +1,31 @@
+-- Findings that are known, and the text of a list of them.
+use Rattle.std.specs.Prelude.{List, Bool, ◌&&◌, not}
+use Rattle.std.specs.List.{filter, list_any}
+use Rattle.ocfl_tree.specs.Place.{text_eq, place_eq, begins}
+use Rattle.ocfl_report.specs.Line.{Line, line_of}
+use Rattle.ocfl_report.specs.Text.{code_text}
+use Rattle.ocfl_report.specs.declared.code.Code.{Code}
+use Rattle.ocfl_telling.specs.declared.known.Reach.{Reach}
+use Rattle.ocfl_telling.specs.declared.known.Reach.TheVariants.{One, Place, Branch}
+use Rattle.ocfl_telling.specs.declared.known.Entry.{Entry}
+
+-- ---- what a list names
+
+abbrev pub code_eq : Code → Code → Bool
+code_eq c d = text_eq (code_text c) (code_text d)
+
+-- one finding with its detail; all of a code at a place; all of a code at a place and below it
+abbrev pub reaches : Reach → Line → Line → Bool
+reaches One m l = place_eq m.place l.place && text_eq m.detail l.detail
+reaches Place m l = place_eq m.place l.place
+reaches Branch m l = begins m.place l.place
+
+abbrev pub names : Line → Entry → Bool
+names l e = code_eq e.line.code l.code && reaches e.reach (line_of e.line) l
+
+abbrev pub is_known : List Entry → Line → Bool
+is_known es l = list_any (names l) es
+
+-- the lines that a list leaves
+abbrev pub unknown : List Entry → List Line → List Line
+unknown es ls = filter (λ l. not (is_known es l)) ls

@@ -1,0 +1,9 @@
+pub mod Weight
+pub mod Gravest
+pub mod Known
+pub mod Found
+pub mod Night
+pub mod Log
+pub mod Refusal
+pub mod Stop
+pub mod Closing

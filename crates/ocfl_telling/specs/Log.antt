@@ -1,0 +1,68 @@
+-- The lines of the log, as JSON (RFC 8259).
+use Rattle.std.specs.Prelude.{◌≡◌, ℕ, [], ◌∷◌, ◌++◌, Some, codes}
+use Rattle.serde_json.specs.Data.{Data, Members, boolean, number, unsigned, string, object, member, no_members}
+use Rattle.serde_json.specs.Read.{read}
+use Rattle.serde_json.specs.Written.{compact_text}
+use Rattle.ocfl_tree.specs.Place.{Text}
+use Rattle.ocfl_report.specs.Text.{escape, place_text}
+use Rattle.ocfl_telling.specs.declared.log.Stands.{Stands}
+use Rattle.ocfl_telling.specs.declared.log.Stands.TheVariants.{Start, After, Ended}
+use Rattle.ocfl_telling.specs.declared.log.SliceRow.{SliceRow}
+use Rattle.ocfl_telling.specs.declared.log.ClosingRow.{ClosingRow}
+use Rattle.ocfl_telling.specs.declared.log.RefusalRow.{RefusalRow}
+use Rattle.ocfl_telling.specs.declared.log.NightRow.{NightRow}
+
+-- the bytes are one line: a JSON text without line feeds that reads as this value
+pub record IsJsonLine (b : Text) (d : Data) : Type 0 where
+  pub text : b ≡ compact_text d ++ 10 ∷ []
+  pub reads : read (compact_text d) ≡ Some d
+
+-- as the text of a cursor says it
+abbrev pub stands_text : Stands → Text
+stands_text Start = codes "start"
+stands_text (After place) = codes "after " ++ place_text place.now
+stands_text Ended = codes "ended"
+
+-- a member that is a number
+abbrev pub counts : Text → ℕ → Members → Members
+counts key n rest = member key (number (unsigned n)) rest
+
+-- a member that is a text
+abbrev pub says : Text → Text → Members → Members
+says key text rest = member key (string text) rest
+
+-- a slice, with the text of where its cursor stands
+abbrev pub slice_with : SliceRow → Text → Data
+slice_with r stands = object (counts (codes "bytes") r.bytes (counts (codes "cost") r.cost (counts (codes "cycle") r.cycle
+    (counts (codes "files") r.files (counts (codes "lines") r.lines (counts (codes "night") r.night
+    (says (codes "row") (codes "slice") (counts (codes "run") r.run (counts (codes "seconds") r.seconds
+    (counts (codes "spent") r.spent (says (codes "stands") stands (counts (codes "status") r.status
+    (counts (codes "time") r.time no_members)))))))))))))
+
+abbrev pub slice_data : SliceRow → Data
+slice_data r = slice_with r (stands_text r.stands)
+
+-- a closing, with the path of its report
+abbrev pub closing_with : ClosingRow → Text → Data
+closing_with r report = object (counts (codes "cycle") r.cycle (counts (codes "findings") r.findings
+    (counts (codes "gone") r.gone (counts (codes "left") r.left (counts (codes "new") r.appeared
+    (counts (codes "night") r.night (counts (codes "repaired") r.repaired (says (codes "report") report
+    (says (codes "row") (codes "closing") (counts (codes "time") r.time
+    (member (codes "whole") (boolean r.whole) no_members)))))))))))
+
+abbrev pub closing_data : ClosingRow → Data
+closing_data r = closing_with r (escape r.report.now)
+
+-- a refusal, with what is said of it
+abbrev pub refusal_with : RefusalRow → Text → Data
+refusal_with r said = object (counts (codes "night") r.night (says (codes "row") (codes "refusal")
+    (says (codes "said") said (counts (codes "status") r.status
+    (counts (codes "time") r.time no_members)))))
+
+abbrev pub refusal_data : RefusalRow → Data
+refusal_data r = refusal_with r (escape r.said.now)
+
+abbrev pub night_data : NightRow → Data
+night_data r = object (counts (codes "cost") r.cost (counts (codes "findings") r.findings
+    (counts (codes "night") r.night (says (codes "row") (codes "night") (counts (codes "runs") r.runs
+    (counts (codes "seconds") r.seconds (counts (codes "status") r.status (counts (codes "time") r.time no_members))))))))

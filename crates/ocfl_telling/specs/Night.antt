@@ -1,0 +1,46 @@
+-- What is said of the findings of a night.
+use Rattle.std.specs.Prelude.{ℕ, ◌-◌, ◌==◌, List, [], ◌++◌, length, Option, Some, None, codes, decimal, if◌then◌else◌}
+use Rattle.ocfl_tree.specs.Place.{Text}
+use Rattle.ocfl_report.specs.Line.{Line}
+use Rattle.ocfl_report.specs.Text.{escape, lines_text}
+use Rattle.ocfl_telling.specs.Gravest.{by_weight, gravest, most_shown}
+use Rattle.ocfl_telling.specs.declared.night.Night.{Night}
+
+abbrev pub part_text : ℕ → Text → Text
+part_text part root = codes "part " ++ decimal part ++ codes " of " ++ escape root
+
+-- a storage root by its path, or a part of it
+abbrev pub whose_text : Option ℕ → Text → Text
+whose_text None root = escape root
+whose_text (Some part) root = part_text part root
+
+abbrev pub between_text : ℕ → ℕ → Text
+between_text first last = codes "runs " ++ decimal first ++ codes " to " ++ decimal last
+
+-- the runs of a night, by their numbers
+abbrev pub runs_text : ℕ → ℕ → Text
+runs_text first last = if first == last then codes "run " ++ decimal first else between_text first last
+
+-- the line before the findings
+abbrev pub head_text : Night → ℕ → Text
+head_text n count = decimal count ++ codes " finding(s) tonight in " ++ whose_text n.part n.root.now ++ codes ", cycle "
+    ++ decimal n.cycle ++ codes ", " ++ runs_text n.first n.last ++ codes ":\n"
+
+abbrev pub some_more_text : Text → ℕ → Text
+some_more_text report left = codes "and " ++ decimal left ++ codes " more, in " ++ escape report ++ codes "\n"
+
+-- how many are not shown, and where they are
+abbrev pub more_text : Text → ℕ → Text
+more_text report left = if left == 0 then [] else some_more_text report left
+
+-- how to read a file again
+abbrev pub look_text : Text → Text
+look_text root = codes "To look at one again: ocfl-scrub check " ++ escape root ++ codes " PATH, with the path as shown above.\n"
+
+-- so many findings, of which these are shown
+abbrev pub findings_text : Night → ℕ → List Line → Text
+findings_text n count shown = head_text n count ++ lines_text shown ++ more_text n.report.now (count - most_shown) ++ look_text n.root.now
+
+-- the message of a night with these lines, and nothing where none is a finding
+abbrev pub night_text : Night → List Line → Text
+night_text n ls = if length (by_weight ls) == 0 then [] else findings_text n (length (by_weight ls)) (gravest ls)

@@ -1,0 +1,136 @@
+//! The findings among the bytes of a report, which come piece by piece.
+
+ghost use Rattle.std.specs.Prelude.{◌≡◌, List, ◌∷◌, ◌++◌, [], OnOk};
+ghost use Rattle.ocfl_report.specs.Line.{Line as ModelLine, line_of};
+ghost use Rattle.ocfl_telling.specs.Gravest.{IsOf};
+ghost use Rattle.ocfl_telling.specs.Known.{unknown};
+
+use crate::gravest::Gravest;
+use crate::known::Known;
+use ocfl_report::{Line, LineStop, read_line, split_once};
+use std::alloc::{AllocError, Global};
+
+/// Why the bytes of a report were not taken.
+#[derive(Clone, Copy, Debug, PartialEq, Eq)]
+pub enum FoundStop {
+    /// A line of them is none of a report.
+    Bad,
+    /// Memory was refused.
+    Memory,
+}
+
+impl From<AllocError> for FoundStop {
+    ghost use Rattle.std.specs.Prelude.{◌≡◌};
+    ghost use Rattle.ocfl_telling.specs.declared.found.FoundStop.TheVariants.{Memory};
+
+    ghost from_gives = { λ _ stop. stop ≡ Memory };
+
+    fn from(_: AllocError) -> FoundStop {
+        FoundStop::Memory
+    }
+}
+
+/// What was found in the bytes of a report so far.
+#[derive(Debug, Drop)]
+pub struct Found {
+    /// The findings among the lines.
+    pub gravest: Gravest,
+    /// What comes after the last line feed.
+    pub rest: Vec<u8>,
+}
+
+impl Found {
+    ghost use Rattle.std.specs.Prelude.{◌≡◌, ◌≢◌, List, ℕ, [], ◌∷◌, ◌++◌, All, IfOk, OnErr};
+    ghost use Rattle.ocfl_tree.specs.Place.{Text as ModelText};
+    ghost use Rattle.ocfl_telling.specs.Found.{IsAfter, AreAll, HasBadLine};
+    ghost use Rattle.ocfl_telling.specs.declared.known.Entry.{Entry as ModelEntry};
+
+    /// Nothing, of no bytes.
+    pub fn new(alloc: Global) -> Found
+        ensures { (known : List ModelEntry) → IsAfter known result [] }
+    {
+        Found {
+            gravest: Gravest::new(alloc),
+            rest: Vec::new(alloc),
+        }
+    }
+
+    /// Takes the next bytes, which may begin and end within a line, and leaves out what is known.
+    /// It holds one line, and at most 20 findings of each weight. To be called with one list each
+    /// time.
+    pub fn take(self, alloc: Global, known: &Known, bytes: &[u8]) -> Result<Found, FoundStop>
+        ensures ok { IfOk result (λ found. (b : ModelText)
+            → IsAfter known.now.entries.items self b
+            → IsAfter known.now.entries.items found (b ++ bytes.now)) }
+        ensures bad { result ≡ Err FoundStop.Bad → (b : ModelText)
+            → IsAfter known.now.entries.items self b → HasBadLine (b ++ bytes.now) }
+    {
+        let mut found = self;
+        let mut left = bytes;
+        while let Some((part, after)) = split_once(left, b'\n') {
+            found = found.end_line(alloc, known, part)?;
+            left = after;
+        }
+        found.rest.extend_from_slice(left)?;
+        Ok(found)
+    }
+
+    /// Takes the end of a line, up to its line feed.
+    fn end_line(self, alloc: Global, known: &Known, part: &[u8]) -> Result<Found, FoundStop>
+        requires { All (λ c. c ≢ 10) part.now }
+        ensures ok { IfOk result (λ found. (b : ModelText)
+            → IsAfter known.now.entries.items self b
+            → IsAfter known.now.entries.items found (b ++ (part.now ++ 10 ∷ []))) }
+        ensures bad { result ≡ Err FoundStop.Bad → (b after : ModelText)
+            → IsAfter known.now.entries.items self b
+            → HasBadLine (b ++ (part.now ++ 10 ∷ []) ++ after) }
+    {
+        let Found {
+            mut gravest,
+            mut rest,
+        } = self;
+        put_end(part, &mut rest)?;
+        let line = match read_line(alloc, rest.as_slice()) {
+            Ok(line) => line,
+            Err(LineStop::Bad) => return Err(FoundStop::Bad),
+            Err(LineStop::Memory) => return Err(FoundStop::Memory),
+        };
+        add_unknown(&mut gravest, known, line)?;
+        rest.clear();
+        Ok(Found { gravest, rest })
+    }
+
+    /// The findings of all the bytes. [`FoundStop::Bad`] if the last line has no line feed.
+    pub fn end(self) -> Result<Gravest, FoundStop>
+        ensures ok { IfOk result (λ g. (known : List ModelEntry) (b : ModelText)
+            → IsAfter known self b → AreAll known g b) }
+        ensures bad { OnErr result (self.rest.items ≢ []) }
+        ensures memory { result ≢ Err FoundStop.Memory }
+    {
+        if !self.rest.is_empty() {
+            return Err(FoundStop::Bad);
+        }
+        Ok(self.gravest)
+    }
+}
+
+/// Takes a line, unless it is known.
+fn add_unknown(gravest: &mut Gravest, known: &Known, line: Line) -> Result<(), AllocError>
+    ensures { OnOk result ((ls : List ModelLine)
+        → IsOf gravest.old (unknown known.now.entries.items ls)
+        → IsOf gravest.new (unknown known.now.entries.items (ls ++ line_of line ∷ []))) }
+{
+    if known.names(&line) {
+        return Ok(());
+    }
+    gravest.add(line)
+}
+
+/// Appends the end of a line, and its line feed.
+fn put_end(part: &[u8], rest: &mut Vec<u8>) -> Result<(), AllocError>
+    ensures { OnOk result (rest.new.items ≡ rest.old.items ++ part.now ++ 10 ∷ []) }
+{
+    rest.extend_from_slice(part)?;
+    rest.push(b'\n')?;
+    Ok(())
+}

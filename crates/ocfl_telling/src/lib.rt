@@ -1,0 +1,32 @@
+//! What a night says and logs: the gravest of the findings that were not said before, why a night
+//! was refused or stopped, what a closed cycle found, and a line of the log for each.
+//!
+//! Texts are made in memory, since each has at most a few dozen lines, and
+//! `ocfl_report::write_all_of` writes them. Every name and path in them is escaped as in reports.
+#![tactic(auto)]
+
+mod closing;
+mod found;
+mod gravest;
+mod known;
+pub mod laws;
+mod log;
+mod night;
+mod refusal;
+mod shown;
+mod stop;
+mod weight;
+
+pub use closing::{Closing, Gone, Kind, closing_text};
+pub use found::{Found, FoundStop};
+pub use gravest::{Gravest, Kept, SHOWN};
+pub use known::{Entry, Known, Reach};
+pub use log::{
+    ClosingRow, NightRow, RefusalRow, SliceRow, Stands, closing_line, night_line, refusal_line,
+    slice_line,
+};
+pub use night::{Night, night_text};
+pub use refusal::{Refusal, refusal_text};
+pub use shown::Shown;
+pub use stop::{Stop, stop_text};
+pub use weight::{Weight, weigh};

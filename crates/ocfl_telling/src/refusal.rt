@@ -1,0 +1,184 @@
+//! Why a night did nothing: a sentence for each reason.
+ghost use Rattle.std.specs.Prelude.{◌≡◌, IfOk, string_bytes};
+ghost use Rattle.ocfl_telling.specs.Refusal.{refusal_text as text_of_refusal, reason_text};
+ghost use Rattle.ocfl_telling.specs.Refusal.{ending_text, names_gone_text, other_declaration_text};
+ghost use Rattle.ocfl_telling.specs.Refusal.{other_part_text, other_root_text, root_changed_text};
+
+use crate::shown::Shown;
+use std::alloc::{AllocError, Global};
+
+/// Why a night did nothing.
+#[derive(Clone, Copy, Debug, PartialEq, Eq)]
+pub enum Refusal<'a> {
+    /// The state folder has no checkpoint.
+    NoCheckpoint,
+    /// It has no checkpoint, and has a report or closed reports.
+    HasReports,
+    /// The checkpoint's file is none.
+    NotCheckpoint,
+    /// It is of a version that is not known.
+    Version,
+    /// It does not have its digest.
+    Damaged,
+    /// It has its digest, and is not of the form.
+    Malformed,
+    /// The state folder is one of the scripts of before, with a cursor and a log of nights.
+    OfScripts,
+    /// The root does not declare itself a storage root.
+    NoRoot,
+    /// The state folder belongs to the storage root with this path.
+    OtherRoot(&'a str),
+    /// The root's declaration is not the one of before.
+    OtherDeclaration,
+    /// The state folder belongs to another part, or to the whole.
+    OtherPart,
+    /// More than half of the names in the root's folder are gone.
+    NamesGone {
+        /// How many are gone.
+        gone: u64,
+        /// How many there were.
+        before: u64,
+    },
+    /// After a slice the root is gone, or another one.
+    RootChanged,
+    /// The number of the cycle can grow no more.
+    Worn,
+}
+
+/// What is wrong, in words.
+fn reason(
+    alloc: Global,
+    refusal: Refusal<'_>,
+    root: &str,
+    state: &str,
+) -> Result<String, AllocError>
+    ensures { IfOk result
+        (λ text. string_bytes text ≡ reason_text refusal.entry root.now state.now) }
+{
+    let folders = (root, state);
+    let root = Shown(root);
+    let state = Shown(state);
+    match refusal {
+        Refusal::NoCheckpoint => format!(in alloc;
+            "{state} has no checkpoint: is its file system mounted? For a first night, give \
+             --create."
+        ),
+        Refusal::HasReports => format!(in alloc;
+            "{state} has reports of earlier nights, and no checkpoint. Put it back, or begin anew \
+             in another folder."
+        ),
+        Refusal::NotCheckpoint => format!(in alloc; "{state}/checkpoint is no checkpoint."),
+        Refusal::Version => format!(in alloc; "{state}/checkpoint is of another version."),
+        Refusal::Damaged => format!(in alloc; "{state}/checkpoint is damaged."),
+        Refusal::Malformed => format!(in alloc; "{state}/checkpoint is malformed."),
+        Refusal::OfScripts => format!(in alloc;
+            "{state} is a folder of earlier scripts, with a cursor and a log of nights. Begin anew \
+             in another folder."
+        ),
+        Refusal::NoRoot => format!(in alloc;
+            "{root} does not declare itself a storage root: is its file system mounted?"
+        ),
+        Refusal::OtherRoot(bound) => other_root(alloc, bound, folders),
+        Refusal::OtherDeclaration => other_declaration(alloc, folders),
+        Refusal::OtherPart => other_part(alloc, folders),
+        Refusal::NamesGone { gone, before } => names_gone(alloc, gone, before, folders.0),
+        Refusal::RootChanged => root_changed(alloc, folders.0),
+        Refusal::Worn => format!(in alloc; "The number of the cycle in {state} can grow no more."),
+    }
+}
+
+/// Of a folder that is another root's.
+fn other_root(alloc: Global, bound: &str, folders: (&str, &str)) -> Result<String, AllocError>
+    ensures { IfOk result (λ text. string_bytes text
+        ≡ other_root_text bound.now folders.entry.0.now folders.entry.1.now) }
+{
+    format!(in alloc;
+        "{} belongs to the storage root {}, and this one is {}.",
+        Shown(folders.1),
+        Shown(bound),
+        Shown(folders.0)
+    )
+}
+
+/// Of a root whose declaration is another one.
+fn other_declaration(alloc: Global, folders: (&str, &str)) -> Result<String, AllocError>
+    ensures { IfOk result (λ text. string_bytes text
+        ≡ other_declaration_text folders.entry.0.now folders.entry.1.now) }
+{
+    format!(in alloc;
+        "{}: the declaration of {} is not the one of before.",
+        Shown(folders.1),
+        Shown(folders.0)
+    )
+}
+
+/// Of a folder that is another part's.
+fn other_part(alloc: Global, folders: (&str, &str)) -> Result<String, AllocError>
+    ensures { IfOk result (λ text. string_bytes text
+        ≡ other_part_text folders.entry.0.now folders.entry.1.now) }
+{
+    format!(in alloc;
+        "{} belongs to another part of {}, or to all of it.",
+        Shown(folders.1),
+        Shown(folders.0)
+    )
+}
+
+/// Of a root that lost most of its names.
+fn names_gone(alloc: Global, gone: u64, before: u64, root: &str) -> Result<String, AllocError>
+    ensures { IfOk result (λ text. string_bytes text ≡ names_gone_text gone before root.now) }
+{
+    format!(in alloc;
+        "{gone} of the {before} names in {} are gone: is its file system mounted? --force-root \
+         runs it all the same.",
+        Shown(root)
+    )
+}
+
+/// Of a root that is another one now.
+fn root_changed(alloc: Global, root: &str) -> Result<String, AllocError>
+    ensures { IfOk result (λ text. string_bytes text ≡ root_changed_text root.now) }
+{
+    format!(in alloc;
+        "{} is not the storage root that the night began with: is its file system mounted?",
+        Shown(root)
+    )
+}
+
+/// What became of the run.
+fn ending(refusal: Refusal<'_>) -> &'static str
+    ensures { result.now ≡ ending_text refusal.entry }
+{
+    match refusal {
+        Refusal::RootChanged => " The run does not count; the next night makes it again.\n",
+        Refusal::NoCheckpoint
+        | Refusal::HasReports
+        | Refusal::NotCheckpoint
+        | Refusal::Version
+        | Refusal::Damaged
+        | Refusal::Malformed
+        | Refusal::OfScripts
+        | Refusal::NoRoot
+        | Refusal::OtherRoot(_)
+        | Refusal::OtherDeclaration
+        | Refusal::OtherPart
+        | Refusal::NamesGone { .. }
+        | Refusal::Worn => " Nothing was run.\n",
+    }
+}
+
+/// The line that says why a night did nothing, or nothing more: what is wrong, and what became of
+/// the run.
+pub fn refusal_text(
+    alloc: Global,
+    refusal: Refusal<'_>,
+    root: &str,
+    state: &str,
+) -> Result<String, AllocError>
+    ensures { IfOk result
+        (λ text. string_bytes text ≡ text_of_refusal refusal.entry root.now state.now) }
+{
+    let mut text = reason(alloc, refusal, root, state)?;
+    text.push_str(ending(refusal))?;
+    Ok(text)
+}

@@ -1,0 +1,22 @@
+//! A text as it is shown to a user.
+ghost use Rattle.std.specs.Prelude.{Some};
+ghost use Rattle.ocfl_report.specs.Text.{escape};
+
+use percent_encoding::{AsciiSet, CONTROLS, ascii_set, percent_encode};
+use std::fmt;
+
+/// The ASCII bytes that are escaped, as in reports: the controls, DEL among them, and `%`.
+const ESCAPED: AsciiSet = ascii_set!(CONTROLS.add(b'%'));
+
+/// A text whose `Display` escapes it as report lines escape names: no byte of it can move the
+/// cursor of a terminal or begin a line.
+#[derive(Clone, Copy, Debug)]
+pub struct Shown<'a>(pub &'a str);
+
+impl fmt::Display for Shown<'_> {
+    ghost output = { λ s. Some (escape s.0.now) };
+
+    fn fmt<W: fmt::Write>(&self, f: &mut fmt::Formatter<W>) -> fmt::Result {
+        write!(f, "{}", percent_encode(self.0.as_bytes(), ESCAPED))
+    }
+}

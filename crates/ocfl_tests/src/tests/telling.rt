@@ -1,0 +1,409 @@
+//! What a night says and logs.
+use crate::tests::common::Runtime;
+use crate::tests::common::store::place_of;
+use ocfl_report::{Line, read_line};
+use ocfl_telling::laws::{all_findings_are_ordered, findings_have_weights};
+use ocfl_telling::{
+    Closing, ClosingRow, Entry, Found, FoundStop, Gone, Gravest, Kind, Known, Night, NightRow,
+    Reach, Refusal, RefusalRow, SliceRow, Stands, Stop, Weight, closing_line, closing_text,
+    night_line, night_text, refusal_line, refusal_text, slice_line, stop_text, weigh,
+};
+use std::alloc::Global;
+use std::test::Fail;
+
+/// The weights of the table `contrib/reports/codes`, by code.
+const WEIGHTS: [(&str, Option<Weight>); 8] = [
+    ("ok\ta\t-\n", None),
+    ("S07\ta\t-\n", None),
+    ("E092\ta\t-\n", Some(Weight::Bytes)),
+    ("S08\ta\t-\n", Some(Weight::Bytes)),
+    ("E060\ta\t-\n", Some(Weight::Object)),
+    ("S05\ta\t-\n", Some(Weight::Object)),
+    ("E023\ta\t-\n", Some(Weight::Record)),
+    ("E072\ta\t-\n", Some(Weight::Position)),
+];
+
+#[test]
+fn codes_have_weights(rt: HostRuntime) -> Result<(), Fail> {
+    for (text, wanted) in WEIGHTS {
+        let line = read_line(rt.alloc(), text.as_bytes())?;
+        assert_eq!(rt; weigh(line.code), wanted, "{text}");
+    }
+    findings_have_weights();
+    all_findings_are_ordered();
+    Ok(())
+}
+
+/// What is found in a report that comes in pieces of so many bytes.
+fn found_in(
+    alloc: Global,
+    known: &Known,
+    report: &str,
+    piece: usize,
+) -> Result<Gravest, FoundStop> {
+    let mut found = Found::new(alloc);
+    let mut rest = report.as_bytes();
+    for _ in 0..report.len() {
+        let count = piece.min(rest.len());
+        found = found.take(alloc, known, &rest[..count])?;
+        rest = &rest[count..];
+    }
+    found.end()
+}
+
+const NIGHT: Night<'static> = Night {
+    root: "/srv/\u{e9}\n",
+    part: None,
+    cycle: 2,
+    first: 3,
+    last: 4,
+    report: "/state/report",
+};
+
+const REPORT: &str = "ok\t.\t-\nE072\ta\t-\nE092\tb/v1/content/f\tsha512 00 11\nS07\tb\tx\n\
+E060\tc\tsha512\nE092\td\tmd5 missing\n";
+
+const MESSAGE: &str = "4 finding(s) tonight in /srv/%C3%A9%0A, cycle 2, runs 3 to 4:
+E092\tb/v1/content/f\tsha512 00 11
+E092\td\tmd5 missing
+E060\tc\tsha512
+E072\ta\t-
+To look at one again: ocfl-scrub check /srv/%C3%A9%0A PATH, with the path as shown above.
+";
+
+#[test]
+fn nights_say_what_is_gravest_first(rt: HostRuntime) -> Result<(), Fail> {
+    let alloc = rt.alloc();
+    let known = Known::new(alloc);
+    for piece in [1, 5, 1000] {
+        let found = found_in(alloc, &known, REPORT, piece)?;
+        assert_eq!(rt; found.count(), 4, "{piece}");
+        let text = String::from_utf8(night_text(alloc, &NIGHT, &found)?)?;
+        assert_eq!(rt; text.as_str(), MESSAGE, "{piece}");
+    }
+    Ok(())
+}
+
+/// A report with so many findings of one code, at the places `p000` on.
+fn many(alloc: Global, code: &str, count: usize) -> Result<String, Fail> {
+    let mut text = String::new(alloc);
+    for number in 0..count {
+        text.push_str(format!(in alloc; "{code}\tp{number:03}\t-\n")?.as_str())?;
+    }
+    Ok(text)
+}
+
+#[test]
+fn nights_show_twenty(rt: HostRuntime) -> Result<(), Fail> {
+    let alloc = rt.alloc();
+    let known = Known::new(alloc);
+    let part = Night {
+        part: Some(7),
+        first: 4,
+        ..NIGHT
+    };
+    for (count, more) in [(20, ""), (21, "and 1 more, in /state/report\n")] {
+        let report = many(alloc, "E072", count)?;
+        let found = found_in(alloc, &known, report.as_str(), 1000)?;
+        let text = String::from_utf8(night_text(alloc, &part, &found)?)?;
+        let shown = many(alloc, "E072", 20)?;
+        let wanted = format!(in alloc;
+            "{count} finding(s) tonight in part 7 of /srv/%C3%A9%0A, cycle 2, run 4:\n{shown}{more}\
+             To look at one again: ocfl-scrub check /srv/%C3%A9%0A PATH, with the path as shown \
+             above.\n"
+        )?;
+        assert_eq!(rt; text.as_str(), wanted.as_str(), "{count}");
+    }
+    Ok(())
+}
+
+#[test]
+fn graver_findings_take_the_room(rt: HostRuntime) -> Result<(), Fail> {
+    let alloc = rt.alloc();
+    let mut report = many(alloc, "E072", 15)?;
+    report.push_str(many(alloc, "E023", 15)?.as_str())?;
+    report.push_str(many(alloc, "E060", 3)?.as_str())?;
+    report.push_str(many(alloc, "S08", 1)?.as_str())?;
+    let found = found_in(alloc, &Known::new(alloc), report.as_str(), 1000)?;
+    let text = String::from_utf8(night_text(alloc, &NIGHT, &found)?)?;
+    let mut codes = String::new(alloc);
+    for line in text.as_str().lines() {
+        if let Some((code, _)) = line.split_once('\t') {
+            codes.push_str(code)?;
+            codes.push(' ')?;
+        }
+    }
+    let wanted =
+        "S08 E060 E060 E060 E023 E023 E023 E023 E023 E023 E023 E023 E023 E023 E023 E023 E023 \
+                  E023 E023 E072 ";
+    assert_eq!(rt; codes.as_str(), wanted);
+    assert!(rt; text.as_str().contains("and 14 more, in /state/report\n"));
+    Ok(())
+}
+
+#[test]
+fn nothing_found_is_not_said(rt: HostRuntime) -> Result<(), Fail> {
+    let alloc = rt.alloc();
+    for report in ["", "ok\t.\t-\n", "ok\t.\t-\nS07\ta\tx\n"] {
+        let found = found_in(alloc, &Known::new(alloc), report, 1000)?;
+        assert!(rt; night_text(alloc, &NIGHT, &found)?.is_empty(), "{report}");
+    }
+    Ok(())
+}
+
+#[test]
+fn bytes_of_no_report_are_refused(rt: HostRuntime) -> Result<(), Fail> {
+    let alloc = rt.alloc();
+    for report in [
+        "ok\t.\t-",
+        "ok\t.\n",
+        "ok\t.\t-\nE999\ta\t-\nok\tb\t-\n",
+        "\n",
+    ] {
+        for piece in [1, 1000] {
+            let stop = found_in(alloc, &Known::new(alloc), report, piece).err();
+            assert_eq!(rt; stop, Some(FoundStop::Bad), "{report}");
+        }
+    }
+    Ok(())
+}
+
+fn line_of(alloc: Global, text: &str) -> Result<Line, Fail> {
+    Ok(read_line(alloc, text.as_bytes())?)
+}
+
+/// A list with one entry.
+fn known_as(alloc: Global, reach: Reach, text: &str) -> Result<Known, Fail> {
+    let mut entries = Vec::new(alloc);
+    let line = line_of(alloc, text)?;
+    entries.push(Entry { reach, line })?;
+    Ok(Known { entries })
+}
+
+/// An entry, a line, and whether the entry names it.
+const NAMED: [(Reach, &str, &str, bool); 12] = [
+    (Reach::One, "E092\ta/b\tx\n", "E092\ta/b\tx\n", true),
+    (Reach::One, "E092\ta/b\tx\n", "E092\ta/b\ty\n", false),
+    (Reach::One, "E092\ta/b\tx\n", "E093\ta/b\tx\n", false),
+    (Reach::One, "E092\ta/b\tx\n", "E092\ta\tx\n", false),
+    (Reach::Place, "E092\ta/b\t-\n", "E092\ta/b\ty\n", true),
+    (Reach::Place, "E092\ta/b\t-\n", "E092\ta/b/c\ty\n", false),
+    (Reach::Place, "E092\ta/b\t-\n", "E072\ta/b\t-\n", false),
+    (Reach::Branch, "E072\ta/b\t-\n", "E072\ta/b\t-\n", true),
+    (Reach::Branch, "E072\ta/b\t-\n", "E072\ta/b/c\t-\n", true),
+    (Reach::Branch, "E072\ta/b\t-\n", "E072\ta/bc\t-\n", false),
+    (Reach::Branch, "E072\ta/b\t-\n", "E073\ta/b/c\t-\n", false),
+    (Reach::Branch, "E072\t.\t-\n", "E072\tz\t-\n", true),
+];
+
+#[test]
+fn lists_name_findings(rt: HostRuntime) -> Result<(), Fail> {
+    let alloc = rt.alloc();
+    for (reach, entry, line, wanted) in NAMED {
+        let known = known_as(alloc, reach, entry)?;
+        let line = line_of(alloc, line)?;
+        assert_eq!(rt; known.names(&line), wanted, "{entry}{line:?}");
+    }
+    Ok(())
+}
+
+#[test]
+fn known_findings_are_left_out(rt: HostRuntime) -> Result<(), Fail> {
+    let alloc = rt.alloc();
+    let known = known_as(alloc, Reach::Branch, "E092\tb\t-\n")?;
+    let found = found_in(alloc, &known, REPORT, 1000)?;
+    assert_eq!(rt; found.count(), 3);
+    assert_eq!(rt; found.bytes.count, 1);
+    Ok(())
+}
+
+#[test]
+fn refusals_say_why(rt: HostRuntime) -> Result<(), Fail> {
+    let alloc = rt.alloc();
+    for (refusal, wanted) in [
+        (
+            Refusal::NoCheckpoint,
+            "S has no checkpoint: is its file system mounted? For a first night, give --create. \
+             Nothing was run.\n",
+        ),
+        (
+            Refusal::OtherRoot("/srv/\u{1b}[2J"),
+            "S belongs to the storage root /srv/%1B[2J, and this one is R. Nothing was run.\n",
+        ),
+        (
+            Refusal::NamesGone { gone: 3, before: 5 },
+            "3 of the 5 names in R are gone: is its file system mounted? --force-root runs it all \
+             the same. Nothing was run.\n",
+        ),
+        (
+            Refusal::RootChanged,
+            "R is not the storage root that the night began with: is its file system mounted? The \
+             run does not count; the next night makes it again.\n",
+        ),
+    ] {
+        let text = refusal_text(alloc, refusal, "R", "S")?;
+        assert_eq!(rt; text.as_str(), wanted, "{refusal:?}");
+    }
+    Ok(())
+}
+
+#[test]
+fn stops_say_why(rt: HostRuntime) -> Result<(), Fail> {
+    let alloc = rt.alloc();
+    let place = place_of(alloc, "a/b\n")?;
+    for (stop, words, part, wanted) in [
+        (
+            Stop::At(&place),
+            Some("Permission denied"),
+            None,
+            "The night of R stopped: stopped at a/b%0A (Permission denied). The next one tries \
+             that place again.\n",
+        ),
+        (
+            Stop::State,
+            Some("No space left on device"),
+            Some(2),
+            "The night of part 2 of R stopped: S failed (No space left on device). The next one \
+             goes on from the checkpoint.\n",
+        ),
+        (
+            Stop::Memory,
+            None,
+            None,
+            "The night of R stopped: out of memory. The next one goes on from the checkpoint.\n",
+        ),
+    ] {
+        let text = stop_text(alloc, stop, words, part, "R", "S")?;
+        assert_eq!(rt; text.as_str(), wanted);
+    }
+    Ok(())
+}
+
+/// A closing of which there is nothing to say.
+fn quiet<'a>() -> Closing<'a> {
+    Closing {
+        cycle: 3,
+        before: 2,
+        whole: true,
+        report: "reports/cycle-000003",
+        earlier: "reports/cycle-000002",
+        list: "reports/gone-000003",
+        appeared: &[],
+        appeared_count: 0,
+        repaired: &[],
+        repaired_count: 0,
+        gone: &[],
+        gone_count: 0,
+    }
+}
+
+const CLOSED: &str = "Cycle 3 has ended, and its report is not whole: reports/cycle-000003
+1 finding(s) of cycle 3 are new since cycle 2:
+E092\ta\tx
+22 finding(s) of cycle 2 are repaired in cycle 3:
+E072\tb\t-
+and 21 more, in reports/cycle-000002
+2 object(s) and file(s) of cycle 2 are in no report of cycle 3:
+object\to
+file\to/v1/content/f
+";
+
+#[test]
+fn closings_say_what_changed(rt: HostRuntime) -> Result<(), Fail> {
+    let alloc = rt.alloc();
+    assert!(rt; closing_text(alloc, &quiet())?.is_empty());
+    let mut new = Vec::new(alloc);
+    new.push(line_of(alloc, "E092\ta\tx\n")?)?;
+    let mut repaired = Vec::new(alloc);
+    repaired.push(line_of(alloc, "E072\tb\t-\n")?)?;
+    let mut gone = Vec::new(alloc);
+    for (kind, path) in [(Kind::Object, "o"), (Kind::File, "o/v1/content/f")] {
+        let place = place_of(alloc, path)?;
+        gone.push(Gone { kind, place })?;
+    }
+    let closing = Closing {
+        whole: false,
+        appeared: new.as_slice(),
+        appeared_count: 1,
+        repaired: repaired.as_slice(),
+        repaired_count: 22,
+        gone: gone.as_slice(),
+        gone_count: 2,
+        ..quiet()
+    };
+    let text = String::from_utf8(closing_text(alloc, &closing)?)?;
+    assert_eq!(rt; text.as_str(), CLOSED);
+    Ok(())
+}
+
+/// The rows of the log were compared with what Python's `json.dumps` writes of the same objects.
+#[test]
+fn rows_are_json(rt: HostRuntime) -> Result<(), Fail> {
+    expect_rows(&rt)
+}
+
+fn expect_rows(rt: &impl Runtime) -> Result<(), Fail> {
+    let alloc = rt.alloc();
+    let place = place_of(alloc, "a\"\\/\n")?;
+    let slice = SliceRow {
+        time: 1700000001,
+        night: 1700000000,
+        cycle: 1,
+        run: 2,
+        status: 3,
+        cost: 4,
+        spent: 5,
+        files: 6,
+        lines: 7,
+        bytes: 8,
+        seconds: 9,
+        stands: Stands::After(&place),
+    };
+    assert_eq!(rt; slice_line(alloc, &slice)?.as_str(), SLICE);
+    let closing = ClosingRow {
+        time: 1,
+        night: 2,
+        cycle: 3,
+        report: "/s/\u{9b}",
+        whole: true,
+        findings: 4,
+        appeared: 5,
+        repaired: 6,
+        gone: 7,
+        left: 8,
+    };
+    assert_eq!(rt; closing_line(alloc, &closing)?.as_str(), CLOSING);
+    let refusal = RefusalRow {
+        time: 1,
+        night: 2,
+        status: 75,
+        said: "no\tone",
+    };
+    assert_eq!(rt; refusal_line(alloc, &refusal)?.as_str(), REFUSAL);
+    let night = NightRow {
+        time: 1,
+        night: 2,
+        status: 0,
+        runs: 3,
+        cost: 18446744073709551615,
+        seconds: 4,
+        findings: 5,
+    };
+    assert_eq!(rt; night_line(alloc, &night)?.as_str(), NIGHT_ROW);
+    Ok(())
+}
+
+const SLICE: &str =
+    "{\"bytes\":8,\"cost\":4,\"cycle\":1,\"files\":6,\"lines\":7,\"night\":1700000000,\
+\"row\":\"slice\",\"run\":2,\"seconds\":9,\"spent\":5,\"stands\":\"after a\\\"\\\\/%0A\",\"status\":3,\
+\"time\":1700000001}\n";
+
+const CLOSING: &str = "{\"cycle\":3,\"findings\":4,\"gone\":7,\"left\":8,\"new\":5,\"night\":2,\
+\"repaired\":6,\"report\":\"/s/%C2%9B\",\"row\":\"closing\",\"time\":1,\"whole\":true}\n";
+
+const REFUSAL: &str =
+    "{\"night\":2,\"row\":\"refusal\",\"said\":\"no%09one\",\"status\":75,\"time\":1}\n";
+
+const NIGHT_ROW: &str =
+    "{\"cost\":18446744073709551615,\"findings\":5,\"night\":2,\"row\":\"night\",\
+\"runs\":3,\"seconds\":4,\"status\":0,\"time\":1}\n";

@@ -1,19 +1,22 @@
 -- What calls did adds up; where a call failed; and files that were opened once each.
-use Rattle.std.proofs.Common.{◌≡◌, ℕ, suc, cond, ◌+◌, List, [], ◌∷◌, ◌++◌, refl, sym, ◌∙◌, ap, subst, Bool, false, map, filter, length, append_assoc, arith, ◌≢◌, ◌≤◌, true}
+use Rattle.std.proofs.Common.{◌≡◌, ◌⊎◌, inl, inr, ℕ, suc, cond, ◌+◌, List, [], ◌∷◌, ◌++◌, refl, sym, ◌∙◌, ap, subst, Bool, false, map, filter, length, append_assoc, arith, ◌≢◌, ◌≤◌, true}
 use Rattle.std.proofs.lemmas.List.{append-nil, length-append, map-append}
-use Rattle.std.specs.Prelude.{not, ◌&&◌, AllPairs}
-use Rattle.ocfl_tree.specs.Place.{Place}
-use Rattle.ocfl_tree.specs.StorageRoot.{StorageRoot}
+use Rattle.std.specs.Prelude.{not, ◌&&◌, AllPairs, is_some}
+use Rattle.ocfl_tree.specs.Place.{Text, Place}
+use Rattle.ocfl_tree.specs.Ascending.{IsAmong}
+use Rattle.ocfl_tree.specs.StorageRoot.{StorageRoot, file_at}
 use Rattle.ocfl_tree.specs.Store.{Store, Did, failed_openings}
 use Rattle.ocfl_tree.specs.declared.store.Opening.{Opening}
-use Rattle.ocfl_tree.proofs.Stores.{did_both, did_nothing, listed_well, listing_failed}
+use Rattle.ocfl_tree.proofs.Orders.{among_left, among_right, among_map}
+use Rattle.ocfl_tree.proofs.Stores.{among_either, did_both, did_nothing, listed_well, listing_failed}
 use Rattle.ocfl_audit.specs.Zone.{zone}
 use Rattle.ocfl_audit.specs.Lines.{is_hashed}
 use Rattle.ocfl_audit.specs.Due.{hashed_among}
-use Rattle.ocfl_audit.specs.Trail.{is_meta, content_openings, content_trail, unread_of, heads_of, inventory_of}
+use Rattle.ocfl_audit.specs.Trail.{is_meta, content_openings, content_trail, unread_of, heads_of, inventory_of, places_of}
 use Rattle.ocfl_audit.proofs.Trails.{filter_append, none_unread}
 use Rattle.ocfl_item.specs.Looking.{IsFront, failures_by}
-use Rattle.ocfl_item.specs.Auditing.{Audits, Fails, FailedAt, IsMetadataRead, in_listing, in_opening}
+use Rattle.ocfl_item.specs.Auditing.{Audits, Fails, FailedAt, IsMetadataRead, LiesIn, LieIn, in_listing, in_opening}
+use Rattle.ocfl_item.specs.HeadFiles.{files_there}
 use Rattle.ocfl_item.specs.declared.fault.Fault.{Fault}
 use Rattle.ocfl_item.specs.declared.fault.Fault.TheVariants as fault
 use Rattle.ocfl_tree.specs.Calls.{opening}
@@ -104,6 +107,44 @@ pub hashed_append : (root : StorageRoot) (ps qs : List Place) → hashed_among r
 unfolding hashed_among
 hashed_append root ps qs = filter_append (is_hashed root) ps qs
 
+-- ---- where metadata lies
+
+pub near_none : (root : StorageRoot) (ds : List Place) → LieIn root ds []
+near_none root ds o i meta = absurd i
+
+lies_left : (ds es : List Place) (p : Place) → LiesIn ds p → LiesIn (ds ++ es) p
+lies_left ds es p h = (h.0, (h.1.0, (among_left ds es h.0 h.1.1.0, h.1.1.1)))
+
+lies_right : (ds es : List Place) (p : Place) → LiesIn es p → LiesIn (ds ++ es) p
+lies_right ds es p h = (h.0, (h.1.0, (among_right ds es h.0 h.1.1.0, h.1.1.1)))
+
+pub near_on : (root : StorageRoot) (ds es : List Place) (os os' : List Opening) → LieIn root ds os → LieIn root es os' → LieIn root (ds ++ es) (os ++ os')
+near_on root ds es os os' h k o i meta = by (among_either os os' o i)
+  where
+    by : IsAmong os o ⊎ IsAmong os' o → LiesIn (ds ++ es) o.place
+    by (inl j) = lies_left ds es o.place (h o j meta)
+    by (inr j) = lies_right ds es o.place (k o j meta)
+
+-- both in directories of the first
+pub near_within : (root : StorageRoot) (ds es : List Place) (os os' : List Opening) → LieIn root ds os → LieIn root ds os' → LieIn root (ds ++ es) (os ++ os')
+near_within root ds es os os' h k o i meta = by (among_either os os' o i)
+  where
+    by : IsAmong os o ⊎ IsAmong os' o → LiesIn (ds ++ es) o.place
+    by (inl j) = lies_left ds es o.place (h o j meta)
+    by (inr j) = lies_left ds es o.place (k o j meta)
+
+one_of : (o : Place) (ns : List Text) (p : Place) → IsAmong (map (λ n. o ++ n ∷ []) ns) p → (n : Text) × (p ≡ o ++ n ∷ [])
+one_of o [] p i = absurd i
+one_of o (n ∷ ns) p (inl e) = (n, e)
+one_of o (n ∷ ns) p (inr i) = one_of o ns p i
+
+-- files of o lie in o
+pub files_near : (root : StorageRoot) (o : Place) (names : List Text) (trail : List Opening) → IsFront (places_of trail) (files_there root o names) → LieIn root (o ∷ []) trail
+files_near root o names trail h x i meta =
+    let place : IsAmong (places_of trail) x.place = among_map (λ y. y.place) trail x i in
+    let file = one_of o (filter (λ n. is_some (file_at root (o ++ n ∷ []))) names) x.place (subst (λ l. IsAmong l x.place) (sym h.1) (among_left (places_of trail) h.0 x.place place)) in
+    (o, (file.0, (inl refl, file.1)))
+
 -- ---- one call after the other
 
 module _ (root : StorageRoot) (s t u : Store) where
@@ -115,6 +156,7 @@ module _ (root : StorageRoot) (s t u : Store) where
     read = read_behind root os os' h.read k.read;
     opened = trail_append root os os' ∙ ap (λ l. l ++ content_trail root os') h.opened ∙ ap (λ l. hashed_among root ps ++ l) k.opened ∙ sym (hashed_append root ps qs);
     heads_are = heads_append root os os' ∙ ap (λ l. l ++ heads_of root os') h.heads_are ∙ ap (λ l. hs ++ l) k.heads_are;
+    near = near_on root ls ls' os os' h.near k.near;
   }
 
   pub audits_fail : (ps qs ls ls' hs hs' : List Place) (os os' : List Opening) (why : Fault) → Audits root s t ps ls hs os → Fails root t u qs ls' hs' os' why
@@ -129,13 +171,14 @@ module _ (root : StorageRoot) (s t u : Store) where
         subst (Did s u (os ++ os') (ls ++ ls')) same both;
     opened = trail_append root os os' ∙ ap (λ l. l ++ content_trail root os') h.opened ∙ ap (λ l. hashed_among root ps ++ l) k.opened ∙ sym (hashed_append root ps qs);
     heads_are = heads_append root os os' ∙ ap (λ l. l ++ heads_of root os') h.heads_are ∙ ap (λ l. hs ++ l) k.heads_are;
+    near = near_on root ls ls' os os' h.near k.near;
     store = λ q e. let w = k.store q e in (w.0, failed_behind root s t u ls ls' os os' q h.read (audits_well root s t ps ls hs os h) w.1);
   }
 
 -- where nothing was done
 pub audits_nothing : (root : StorageRoot) (s : Store) → s.tree ≡ root → Audits root s s [] [] [] []
 unfolding hashed_among
-audits_nothing root s over = record { over = over; did = did_nothing s; read = refl; opened = refl; heads_are = refl }
+audits_nothing root s over = record { over = over; did = did_nothing s; read = refl; opened = refl; heads_are = refl; near = near_none root [] }
 
 pub fails_nothing : (root : StorageRoot) (s : Store) (why : Fault) → s.tree ≡ root → failures_by why ≡ 0 → ((q : Place) → why ≡ fault.Store q → ⊥) → Fails root s s [] [] [] [] why
 unfolding hashed_among
@@ -146,26 +189,28 @@ fails_nothing root s why over none not =
       opened =
           refl;
       heads_are = refl;
+      near = near_none root [];
       store = λ q e. absurd (not q e);
     }
 
 -- where only metadata was read
 pub audits_meta : (root : StorageRoot) (s t : Store) (ls hs : List Place) (os : List Opening) → s.tree ≡ root → Did s t os ls 0 → IsMetadataRead root os
-    → content_trail root os ≡ [] → heads_of root os ≡ hs → Audits root s t [] ls hs os
+    → content_trail root os ≡ [] → heads_of root os ≡ hs → LieIn root ls os → Audits root s t [] ls hs os
 unfolding hashed_among
-audits_meta root s t ls hs os over did read meta heads =
-    record { over = over; did = subst (Did s t os ls) (sym (ap length (none_unread root os meta))) did; read = read; opened = meta; heads_are = heads }
+audits_meta root s t ls hs os over did read meta heads near =
+    record { over = over; did = subst (Did s t os ls) (sym (ap length (none_unread root os meta))) did; read = read; opened = meta; heads_are = heads; near = near }
 
 pub fails_meta : (root : StorageRoot) (s t : Store) (ls hs : List Place) (os : List Opening) (why : Fault) → s.tree ≡ root → Did s t os ls (failures_by why)
-    → content_trail root os ≡ [] → heads_of root os ≡ hs
+    → content_trail root os ≡ [] → heads_of root os ≡ hs → LieIn root ls os
     → ((q : Place) → why ≡ fault.Store q → (is_hashed root q ≡ false) × FailedAt root s t ls os q) → Fails root s t [] ls hs os why
 unfolding hashed_among
-fails_meta root s t ls hs os why over did meta heads store = record {
+fails_meta root s t ls hs os why over did meta heads near store = record {
   over = over;
   did = let none : length (unread_of root os) ≡ 0 = ap length (none_unread root os meta) in
       let same : failures_by why ≡ length (unread_of root os) + failures_by why = omega (arith, none) in subst (Did s t os ls) same did;
   opened = meta;
   heads_are = heads;
+  near = near;
   store = store;
 }
 

@@ -21,6 +21,7 @@ use Rattle.ocfl_inventory.specs.declared.declaration.Version.TheVariants.{V1_0, 
 use Rattle.ocfl_digest.specs.declared.bounded.Bounded.{Bounded}
 use Rattle.ocfl_audit.specs.Zone.{skipped, hierarchy, inside, zone, root_declared, object_declared, is_in_extensions, is_listed_zone, is_known, is_declared}
 use Rattle.ocfl_audit.specs.Head.{root_notes_by}
+use Rattle.ocfl_item.specs.Auditing.{LieIn}
 use Rattle.ocfl_item.specs.HeadFiles.{FilesStop, ReadsFiles, files_there}
 use Rattle.ocfl_item.specs.Internal.HeadFiles.{IsFileAt, ReadsFile}
 use Rattle.ocfl_audit.specs.Lines.{named_at, named_in, notes}
@@ -44,7 +45,7 @@ use Rattle.ocfl_tree.proofs.Stores.{did_then, listed_well}
 use Rattle.ocfl_item.proofs.LooksZones.{at_root, declared_root}
 use Rattle.ocfl_audit.specs.Head.{on}
 use Rattle.ocfl_audit.proofs.BetweenLaws.{root_unread}
-use Rattle.ocfl_item.proofs.AuditingLaws.{failed_behind, read_behind, few_once, none_once, front_all, heads_append}
+use Rattle.ocfl_item.proofs.AuditingLaws.{failed_behind, files_near, near_none, near_within, read_behind, few_once, none_once, front_all, heads_append}
 use Rattle.ocfl_item.proofs.VisitLaws.{meet_out, meet_stop, visit_of_folder, visit_of_item}
 use Rattle.ocfl_audit.proofs.Trails.{content_behind}
 
@@ -129,7 +130,7 @@ module _ (root : StorageRoot) where
 
   abbrev pub base_listed : (s t : Store) (p e : Place) (es : List Entry) → p ≡ [] → s.tree ≡ root → Enters root s t p e es → Meets root s t []
   base_listed s t p e es top over h =
-      record { over = over; trail = []; listings = p ∷ []; did = h.did; read = refl; meta = refl; once = none_once; elsewhere = λ g k. refl; listed = ap (λ x. x ∷ []) top; heads = no_inventory }
+      record { over = over; trail = []; listings = p ∷ []; did = h.did; read = refl; meta = refl; once = none_once; elsewhere = λ g k. refl; near = near_none root (p ∷ []); listed = ap (λ x. x ∷ []) top; heads = no_inventory }
 
   pub base_memory : (s t : Store) → Meets root s t [] → MeetFails root s t [] fault.Memory
   base_memory s t m = meet_out root s t [] fault.Memory m refl
@@ -146,6 +147,7 @@ module _ (root : StorageRoot) where
         meta = content_behind root m.trail k.trail m.meta ∙ quiet.0;
         once = one_once n m.trail k.trail none ([], sym k.opened ∙ sym (append-nil (places_of k.trail)));
         elsewhere = λ g e. absurd (e refl);
+        near = near_within root m.listings [] m.trail k.trail m.near (subst (λ l. LieIn root l k.trail) (sym m.listed) (files_near root [] (n ∷ []) k.trail ([], sym k.opened ∙ sym (append-nil (places_of k.trail)))));
         listed = append-nil m.listings ∙ m.listed;
         heads = heads_append root m.trail k.trail ∙ ap (λ l. heads_of root m.trail ++ l) quiet.1 ∙ append-nil (heads_of root m.trail) ∙ m.heads;
       }
@@ -163,6 +165,7 @@ module _ (root : StorageRoot) where
         meta = content_behind root m.trail k.trail m.meta ∙ quiet.0;
         once = one_once n m.trail k.trail none k.opened;
         elsewhere = λ g e. absurd (e refl);
+        near = near_within root m.listings k.stops.goes.listings m.trail k.trail m.near (subst (λ l. LieIn root l k.trail) (sym m.listed) (files_near root [] (n ∷ []) k.trail k.opened));
         listed = subst (IsFront (m.listings ++ k.stops.goes.listings)) (ap (λ l. m.listings ++ l) no_listing ∙ append-nil m.listings ∙ m.listed) (front_all (m.listings ++ k.stops.goes.listings));
         heads = subst (IsFront (heads_of root (m.trail ++ k.trail)))
             (heads_append root m.trail k.trail ∙ ap (λ l. heads_of root m.trail ++ l) quiet.1 ∙ append-nil (heads_of root m.trail) ∙ m.heads) (front_all (heads_of root (m.trail ++ k.trail)));

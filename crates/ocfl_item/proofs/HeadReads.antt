@@ -1,13 +1,13 @@
 -- What reading an object's head did, as a visit says it.
 use Rattle.std.proofs.Common.{◌≡◌, ℕ, List, [], ◌∷◌, ◌++◌, refl, sym, ◌∙◌, ap, subst, Option}
 use Rattle.std.specs.Prelude.{IfOk, Result, Ok, Err}
-use Rattle.std.proofs.lemmas.List.{append_cancel_left}
+use Rattle.std.proofs.lemmas.List.{append_cancel_left, append-nil}
 use Rattle.ocfl_tree.specs.Place.{Place}
 use Rattle.ocfl_tree.specs.StorageRoot.{StorageRoot}
 use Rattle.ocfl_tree.specs.Store.{Store, Did}
 use Rattle.ocfl_inventory.specs.Table.{Table}
 use Rattle.ocfl_item.specs.Looking.{IsFront, failures_by}
-use Rattle.ocfl_item.specs.Auditing.{FailedAt}
+use Rattle.ocfl_item.specs.Auditing.{FailedAt, LieIn}
 use Rattle.ocfl_tree.specs.declared.store.Opening.{Opening}
 use Rattle.ocfl_audit.specs.Head.{on}
 use Rattle.ocfl_audit.specs.Trail.{heads_of, places_of, reads_inventory}
@@ -18,6 +18,7 @@ use Rattle.ocfl_item.specs.Internal.Ways.{IsHeadOf}
 use Rattle.ocfl_item.specs.Internal.Visiting.{HeadRead}
 use Rattle.ocfl_item.specs.declared.fault.Fault.{Fault}
 use Rattle.ocfl_item.specs.declared.lines.PlaceLines.{PlaceLines}
+use Rattle.ocfl_item.proofs.AuditingLaws.{files_near}
 use Rattle.ocfl_item.proofs.FileLaws.{some_is_meta, some_of, stop_is_meta}
 use Rattle.ocfl_item.proofs.HeadCalls.{head_files_apart, head_files_meta}
 use Rattle.ocfl_item.proofs.HeadTrails.{heads_append, heads_are, heads_at, heads_exact}
@@ -47,6 +48,8 @@ head_read_from root s t o (Ok p) z k is =
           read = reads.read;
           meta = reads.meta.meta;
           once = reads.meta.once;
+          near = subst (LieIn root (o ∷ [])) (sym (same_trail s t reads.trail k.trail [] [] 0 0 reads.did k.did))
+              (files_near root o names k.trail ([], sym k.opened ∙ sym (append-nil (places_of k.trail))));
           heads = ap (heads_of root) (same_trail s t reads.trail k.trail [] [] 0 0 reads.did k.did) ∙ heads_are root k.trail ∙ ap (heads_at root) k.opened ∙ heads_exact root o z;
         },
         is,
@@ -69,6 +72,9 @@ head_read_from root s t o (Err why) z k is =
             (heads_at root k.opened.0, ap (heads_at root) k.opened.1 ∙ heads_append root (places_of k.trail) k.opened.0) in
             subst (λ l. IsFront l (on (reads_inventory root o) o)) (sym (ap (heads_of root) same ∙ heads_are root k.trail))
             (subst (IsFront (heads_at root (places_of k.trail))) (heads_exact root o z) front);
+        near = subst (LieIn root (o ∷ []))
+            (sym (same_trail s t stops.trail k.trail stops.stops.goes.listings k.stops.goes.listings (failures_by why) (failures_by why) stops.stops.goes.did k.stops.goes.did))
+            (files_near root o names k.trail k.opened);
         store = λ q e.
             let f = stops.stops.store q e in
             (f.0, subst (λ ls. FailedAt root s t ls stops.trail q) (nothing_listed stops.stops.goes.listings stops.stops.goes.listed) f.1);

@@ -1,5 +1,5 @@
 -- What judging one item does to a store that tells its tree.
-use Rattle.std.proofs.Common.{◌≡◌, ◌≢◌, ℕ, ◌+◌, ◌<◌, ◌≤◌, ◌^◌, List, [], ◌∷◌, ◌++◌, length, cond, map, filter, refl, sym, ◌∙◌, ap, subst, true, false, Bool, Option, Some, None, not, arith}
+use Rattle.std.proofs.Common.{◌≡◌, inl, inr, ◌≢◌, ℕ, ◌+◌, ◌<◌, ◌≤◌, ◌^◌, List, [], ◌∷◌, ◌++◌, length, cond, map, filter, refl, sym, ◌∙◌, ap, subst, true, false, Bool, Option, Some, None, not, arith}
 use Rattle.std.specs.Prelude.{option_and_then, max, IfErr, IfOk, MatchResult, Result, Ok, Err, Vec}
 use Rattle.std.specs.declared.alloc.Global.{Global}
 use Rattle.ocfl_tree.specs.Place.{Place, Text}
@@ -28,16 +28,18 @@ use Rattle.ocfl_item.specs.Internal.FileLines.{HasDigests, given_in}
 use Rattle.ocfl_item.specs.Judging.{HasShortFiles, Judges, JudgeFails}
 use Rattle.ocfl_audit.specs.Lines.{notes, named_at, is_hashed, cost, file_notes, or_bytes, unnamed_notes, wrong_notes}
 use Rattle.ocfl_item.specs.Pending.{IsPending}
-use Rattle.ocfl_audit.specs.Trail.{content_openings, content_trail, heads_of, inventory_of, unread_of}
+use Rattle.ocfl_audit.specs.Trail.{is_meta, content_openings, content_trail, heads_of, inventory_of, unread_of}
 use Rattle.ocfl_item.specs.declared.pending.Pending.{Pending}
 use Rattle.ocfl_audit.proofs.AuditExists.{some_not_none}
 use Rattle.ocfl_audit.proofs.BelowLaws.{place_same}
 use Rattle.ocfl_item.proofs.ContentLaws.{IsHashedFile, hashed_file, unhashed_cost}
 use Rattle.ocfl_audit.proofs.PathLaws.{hashed_no_meta, hashed_path}
-use Rattle.ocfl_item.specs.Auditing.{IsMetadataRead}
+use Rattle.ocfl_item.specs.Auditing.{IsMetadataRead, LieIn}
+use Rattle.ocfl_item.proofs.AuditingLaws.{near_none}
 use Rattle.ocfl_item.specs.declared.fault.Fault.{Fault}
 use Rattle.ocfl_item.specs.declared.fault.Fault.TheVariants as fault
 use Rattle.ocfl_item.proofs.WantedLaws.{AreWanted}
+use Rattle.ocfl_tree.proofs.Orders.{true_not_false}
 use Rattle.ocfl_tree.proofs.Stores.{did_nothing}
 
 -- ---- the lines of a file that some digest is named for
@@ -71,7 +73,7 @@ judged_known root s made lines over pending unhashed same =
     let free : is_hashed root made.place ≡ false = sym pending.hashed ∙ unhashed in
     record {
       trail = [];
-      audits = record { over = over; did = did_nothing s; read = refl; opened = sym (hashed_alone root made.place false free); heads_are = refl };
+      audits = record { over = over; did = did_nothing s; read = refl; opened = sym (hashed_alone root made.place false free); heads_are = refl; near = near_none root [] };
       alone = sym (hashed_alone root made.place false free);
       item = item_is root made.place [] None lines 0 refl (sym (same ∙ pending.lines unhashed)) (unhashed_cost root made.place free);
     }
@@ -84,7 +86,7 @@ unfolding hashed_among
 nothing_judged root s t p over did = record {
   trail = [];
   part = false;
-  fails = record { over = over; did = did; opened = refl; heads_are = refl; store = λ q e. absurd (not_the_store q e) };
+  fails = record { over = over; did = did; opened = refl; heads_are = refl; near = near_none root []; store = λ q e. absurd (not_the_store q e) };
   alone = refl;
 }
 
@@ -103,6 +105,10 @@ module _ (root : StorageRoot) (p : Place) (hashed : is_hashed root p ≡ true) w
   opened_read : (n : ℕ) (failed : Bool) → IsMetadataRead root (opening p n failed ∷ [])
   opened_read n false = refl
   opened_read n true = ap (λ b. cond b (opening p n true ∷ []) []) (hashed_no_meta root p hashed)
+
+  opened_near : (n : ℕ) (failed : Bool) → LieIn root [] (opening p n failed ∷ [])
+  opened_near n failed o (inl e) meta = absurd (true_not_false (sym meta ∙ ap (λ x. is_meta root x.place) e ∙ hashed_no_meta root p hashed))
+  opened_near n failed o (inr i) meta = absurd i
 
   none_unread : (n : ℕ) → unread_of root (opening p n false ∷ []) ≡ []
   none_unread n = ap (λ os. map (λ o. (o.place, o.given)) (filter (λ o. o.failed) os)) (opened_content n false)
@@ -131,6 +137,7 @@ module _ (root : StorageRoot) (p : Place) (hashed : is_hashed root p ≡ true) w
           did = subst (Did s t (opening p n failed ∷ []) []) same did;
           opened = opened_place n failed;
           heads_are = no_head n failed;
+          near = opened_near n failed;
           store = λ q e. absurd (not_the_store q e);
         };
         alone = sym (hashed_alone root p true hashed);
@@ -147,7 +154,7 @@ module _ (root : StorageRoot) (p : Place) (hashed : is_hashed root p ≡ true) w
       → lines_at p (notes root u p) ≡ map line_of lines → cost root u p ≡ n + 1 → Judges root s t p lines (n + 1)
   opens_judges s t n failed u lines over did given are costs = record {
     trail = opening p n failed ∷ [];
-    audits = record { over = over; did = did; read = opened_read n failed; opened = opened_place n failed; heads_are = no_head n failed };
+    audits = record { over = over; did = did; read = opened_read n failed; opened = opened_place n failed; heads_are = no_head n failed; near = opened_near n failed };
     alone = sym (hashed_alone root p true hashed);
     item = item_is root p (opening p n failed ∷ []) u lines (n + 1) given are costs;
   }

@@ -44,7 +44,7 @@ use Rattle.ocfl_item.specs.declared.sight.Sight.TheVariants as sight
 use Rattle.ocfl_tree.proofs.Bools.{and_both}
 use Rattle.ocfl_item.proofs.LooksZones.{leaf_dir, entered_from}
 use Rattle.ocfl_item.proofs.LooksEntries.{emptied, not_emptied}
-use Rattle.ocfl_item.proofs.AuditingLaws.{front_all, front_none, none_once}
+use Rattle.ocfl_item.proofs.AuditingLaws.{front_all, front_none, near_none, none_once}
 use Rattle.ocfl_item.proofs.ShutLaws.{listed_shows, looked_at, no_head_unread, shut_no_dir, shut_zone}
 use Rattle.ocfl_item.proofs.LinesLaws.{unhashed_at}
 use Rattle.ocfl_audit.proofs.PathLaws.{named_path, notes_at}
@@ -111,6 +111,7 @@ meets_shut root s e over h = record {
   once = none_once;
   elsewhere =
       λ g k. refl;
+  near = near_none root [];
   listed = sym (ap (λ b. on b e) h.looked);
   heads = sym (ap (λ b. on b e) h.read);
 }
@@ -127,6 +128,7 @@ meets_listing root s t e over did looked read =
       meta = refl;
       once = none_once;
       elsewhere = λ g k. refl;
+      near = near_none root (e ∷ []);
       listed =
           sym (ap (λ b. on b e) looked);
       heads = sym (ap (λ b. on b e) read);
@@ -142,6 +144,7 @@ meet_stop root s t e why looked h = record {
   meta = refl;
   once = none_once;
   elsewhere = λ g k. refl;
+  near = near_none root h.goes.listings;
   listed = subst (λ b. IsFront h.goes.listings (on b e)) (sym looked) h.goes.listed;
   heads = front_none (on (reads_inventory root e) e);
   store = h.store;
@@ -157,6 +160,7 @@ meet_out root s t e why h is = subst (MeetFails root s t e) (sym is) (record {
   meta = h.meta;
   once = h.once;
   elsewhere = h.elsewhere;
+  near = h.near;
   listed = subst (IsFront h.listings) h.listed (front_all h.listings);
   heads = subst (IsFront (heads_of root h.trail)) h.heads (front_all (heads_of root h.trail));
   store = λ q g. absurd cc;
@@ -173,6 +177,7 @@ meet_nothing root s e over = record {
   meta = refl;
   once = none_once;
   elsewhere = λ g k. refl;
+  near = near_none root [];
   listed = front_none (on (is_looked_into root e) e);
   heads = front_none (on (reads_inventory root e) e);
   store = λ q g. absurd cc;

@@ -42,7 +42,7 @@ use Rattle.ocfl_item.specs.declared.meeting.Around.{Around}
 use Rattle.ocfl_item.specs.declared.role.Role.TheVariants as role
 use Rattle.ocfl_item.specs.declared.visit.Visit.{Visit}
 use Rattle.ocfl_audit.proofs.AuditExists.{not_empty}
-use Rattle.ocfl_item.proofs.AuditingLaws.{failed_behind, none_once, front_all, front_none}
+use Rattle.ocfl_item.proofs.AuditingLaws.{failed_behind, near_none, none_once, front_all, front_none}
 use Rattle.ocfl_tree.proofs.Stores.{did_then, did_nothing, listed_well}
 use Rattle.ocfl_item.proofs.LooksEntries.{emptied, not_emptied}
 use Rattle.ocfl_tree.proofs.Bools.{and_both, and_first}
@@ -229,6 +229,7 @@ listed_then root s t u e head over did looked h = record {
   meta = h.meta;
   once = h.once;
   elsewhere = λ g k. absurd (true_not_false (sym head ∙ g));
+  near = h.near;
   listed = sym (ap (λ b. on b e) looked);
   heads = h.heads;
 }
@@ -244,6 +245,7 @@ listed_fails root s t u e why head over did looked h = record {
   meta = h.meta;
   once = h.once;
   elsewhere = λ g k. absurd (true_not_false (sym head ∙ g));
+  near = h.near;
   listed = subst (λ b. IsFront (e ∷ []) (on b e)) (sym looked) (front_all (e ∷ []));
   heads = h.heads;
   store = λ q g. let w = h.store q g in (w.0, failed_behind root s t u (e ∷ []) [] [] h.trail q refl (listed_well s t [] (e ∷ []) 0 (omega arith) did) w.1);
@@ -321,6 +323,7 @@ head_memory root s t o h = record {
     once = h.once;
     heads =
         subst (IsFront (heads_of root h.trail)) h.heads (front_all (heads_of root h.trail));
+    near = h.near;
     store = λ q g. absurd cc;
   };
 }
@@ -358,7 +361,7 @@ module _ (root : StorageRoot) (o : Place) (es : List Entry) (m : MadeDeclared) (
 
 pub unread_memory : (root : StorageRoot) (s : Store) (o : Place) → s.tree ≡ root → HeadRead root s s o (Err fault.Memory)
 unread_memory root s o over = record {
-  gives = record { over = over; trail = []; did = did_nothing s; read = λ g. refl; meta = refl; once = none_once; heads = front_none (on (reads_inventory root o) o); store = λ q g. absurd cc };
+  gives = record { over = over; trail = []; did = did_nothing s; read = λ g. refl; meta = refl; once = none_once; heads = front_none (on (reads_inventory root o) o); near = near_none root (o ∷ []); store = λ q g. absurd cc };
 }
 
 -- what is fair of a directory that was listed

@@ -1,7 +1,8 @@
 -- What calls above the store did to a store that tells its tree: one record where they succeed, and
 -- one for a fault.
 use Rattle.std.specs.Prelude.{◌≡◌, ◌&&◌, ℕ, ◌+◌, List, [], ◌∷◌, ◌++◌, true, false, filter, length}
-use Rattle.ocfl_tree.specs.Place.{Place}
+use Rattle.ocfl_tree.specs.Place.{Text, Place}
+use Rattle.ocfl_tree.specs.Ascending.{IsAmong}
 use Rattle.ocfl_tree.specs.StorageRoot.{StorageRoot}
 use Rattle.ocfl_tree.specs.Store.{Store, Did}
 use Rattle.ocfl_tree.specs.Calls.{opening}
@@ -17,15 +18,24 @@ use Rattle.ocfl_item.specs.declared.fault.Fault.TheVariants as fault
 abbrev pub IsMetadataRead : StorageRoot → List Opening → Type 0
 IsMetadataRead root trail = filter (λ o. o.failed && is_meta root o.place) trail ≡ []
 
+-- a place lies right in one of these directories
+abbrev pub LiesIn : List Place → Place → Type 0
+LiesIn dirs p = (d : Place) × ((n : Text) × (IsAmong dirs d × (p ≡ d ++ n ∷ [])))
+
+-- so does each declaration, inventory and sidecar that was opened
+abbrev pub LieIn : StorageRoot → List Place → List Opening → Type 0
+LieIn root dirs trail = (o : Opening) → IsAmong trail o → is_meta root o.place ≡ true → LiesIn dirs o.place
+
 -- from s to t these places were audited: the content files of those that are hashed were opened, in
 -- order, and nothing failed but these openings; these directories were listed, and the inventories
--- of these objects opened, in order
+-- of these objects opened, in order; of metadata only files right in these directories were opened
 pub record Audits (root : StorageRoot) (s t : Store) (places listed heads : List Place) (trail : List Opening) : Type 0 where
   pub over : s.tree ≡ root
   pub did : Did s t trail listed (length (unread_of root trail))
   pub read : IsMetadataRead root trail
   pub opened : content_trail root trail ≡ hashed_among root places
   pub heads_are : heads_of root trail ≡ heads
+  pub near : LieIn root listed trail
 
 -- the call that failed was the last listing, which alone of listings failed, and no metadata did; or
 -- it was the last opening, which failed, and no listing did
@@ -41,4 +51,5 @@ pub record Fails (root : StorageRoot) (s t : Store) (places listed heads : List 
   pub did : Did s t trail listed (length (unread_of root trail) + failures_by why)
   pub opened : content_trail root trail ≡ hashed_among root places
   pub heads_are : heads_of root trail ≡ heads
+  pub near : LieIn root listed trail
   pub store : (q : Place) → why ≡ fault.Store q → (is_hashed root q ≡ false) × FailedAt root s t listed trail q

@@ -11,7 +11,7 @@ use Rattle.ocfl_audit.specs.Lines.{notes, is_hashed}
 use Rattle.ocfl_audit.specs.Head.{on}
 use Rattle.ocfl_audit.specs.Trail.{content_trail, heads_of, is_head, reads_inventory}
 use Rattle.ocfl_audit.specs.Between.{is_looked_into}
-use Rattle.ocfl_item.specs.Auditing.{FailedAt, IsMetadataRead}
+use Rattle.ocfl_item.specs.Auditing.{FailedAt, IsMetadataRead, LieIn}
 use Rattle.ocfl_item.specs.Looking.{IsFront, failures_by}
 use Rattle.ocfl_item.specs.Pending.{IsPending}
 use Rattle.ocfl_audit.specs.Walk.{is_reached, seen_names}
@@ -22,8 +22,8 @@ use Rattle.ocfl_item.specs.declared.pending.Pending.{Pending}
 use Rattle.ocfl_item.specs.declared.visit.Visit.{Visit}
 
 -- from s to t just what is looked into and read at one place was listed and read: this directory,
--- and the inventory of this object; no file was opened twice, and none where neither an object nor
--- the storage root is
+-- and the inventory of this object; no file was opened twice, none but right in this directory, and
+-- none where neither an object nor the storage root is
 pub record Meets (root : StorageRoot) (s t : Store) (e : Place) : Type 0 where
   pub over : s.tree ≡ root
   pub trail : List Opening
@@ -35,6 +35,7 @@ pub record Meets (root : StorageRoot) (s t : Store) (e : Place) : Type 0 where
   pub elsewhere : is_head (zone root e) ≡ false → e ≢ [] → trail ≡ []
   pub listed : listings ≡ on (is_looked_into root e) e
   pub heads : heads_of root trail ≡ on (reads_inventory root e) e
+  pub near : LieIn root listings trail
 
 -- at most this, and then there was a fault
 pub record MeetFails (root : StorageRoot) (s t : Store) (e : Place) (why : Fault) : Type 0 where
@@ -48,6 +49,7 @@ pub record MeetFails (root : StorageRoot) (s t : Store) (e : Place) (why : Fault
   pub elsewhere : is_head (zone root e) ≡ false → e ≢ [] → trail ≡ []
   pub listed : IsFront listings (on (is_looked_into root e) e)
   pub heads : IsFront (heads_of root trail) (on (reads_inventory root e) e)
+  pub near : LieIn root listings trail
   pub store : (q : Place) → why ≡ fault.Store q → (is_hashed root q ≡ false) × FailedAt root s t listings trail q
 
 -- the item of a place, if it has lines

@@ -144,6 +144,7 @@ module _ (root : StorageRoot) (p : Place) where
             opened = g.audits.opened ∙ nothing_hashed root
                 ∙ sym (lines_free root p none);
             heads_are = g.audits.heads_are;
+            near = g.audits.near;
           };
           just = record { listed_front = g.listed_front; heads_front = g.heads_front; once = g.once };
           wrote = subst (λ is. Appends old old (text is)) (sym e) (Appends-nil old);

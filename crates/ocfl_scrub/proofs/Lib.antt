@@ -41,3 +41,4 @@ pub mod HeadlineLaws
 pub mod CycleRuns
 pub mod CallsJoined
 pub mod CallsMade
+mod OpeningLaws

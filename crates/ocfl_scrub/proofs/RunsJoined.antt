@@ -186,7 +186,7 @@ parts_unbegun root part s old last limits over =
       others = [];
       listed = [];
       heads = [];
-      fails = record { over = over; did = none.did; opened = none.opened; heads_are = refl; store = λ q e. absurd (not_of_store q e) };
+      fails = record { over = over; did = none.did; opened = none.opened; heads_are = refl; near = none.near; store = λ q e. absurd (not_of_store q e) };
       due_are = refl;
       last_is = refl;
       runs_begin = joined_none all;

@@ -78,6 +78,7 @@ module _ (root : StorageRoot) (s t : Store) (p : Place) (lines : List MadeLine) 
     did = subst (Did s t j.trail []) (other.0 _) j.audits.did;
     opened = j.audits.opened;
     heads_are = j.audits.heads_are;
+    near = j.audits.near;
     store = λ q e. absurd (other.1 q e);
   }
 
@@ -123,7 +124,7 @@ unbegun root s old p over =
       trail = [];
       begun = [];
       one = (p ∷ [], refl);
-      fails = record { over = over; did = subst (Did s s [] []) (memory_none.0 _) none.did; opened = none.opened; heads_are = refl; store = λ q e. absurd (memory_none.1 q e) };
+      fails = record { over = over; did = subst (Did s s [] []) (memory_none.0 _) none.did; opened = none.opened; heads_are = refl; near = none.near; store = λ q e. absurd (memory_none.1 q e) };
       alone = sym (nothing_hashed root);
       part = [];
       wrote = Appends-nil old;

@@ -5,7 +5,7 @@ ghost use Rattle.std.specs.Prelude.{Option, None, All};
 ghost use Rattle.std.specs.Prelude.{filter, flat_map, length, map};
 ghost use Rattle.std.specs.List.{AllByRecursion};
 ghost use Rattle.ocfl_tree.specs.Place.{Place, Text, place_cmp};
-ghost use Rattle.ocfl_tree.specs.Ascending.{IsAscending};
+ghost use Rattle.ocfl_tree.specs.Ascending.{IsAmong, IsAscending};
 ghost use Rattle.ocfl_tree.specs.StorageRoot.{StorageRoot};
 ghost use Rattle.ocfl_tree.specs.Store.{Store};
 ghost use Rattle.ocfl_tree.specs.declared.store.Opening.{Opening};
@@ -21,7 +21,9 @@ ghost use Rattle.ocfl_item.specs.Auditing.{FailedAt};
 ghost use Rattle.ocfl_item.specs.declared.fault.Fault.TheVariants as fault;
 ghost use Rattle.ocfl_scrub.specs.Call.{Call, known_call};
 ghost use Rattle.ocfl_scrub.specs.Chaining.{CycleOfRunsWithin, IsMadeOf};
-ghost use Rattle.ocfl_scrub.specs.Running.{RunsFromWithin, place_in};
+ghost use Rattle.ocfl_scrub.specs.Checking.{CheckEnds};
+ghost use Rattle.ocfl_scrub.specs.Openings.{OpensNear, OpensWithin};
+ghost use Rattle.ocfl_scrub.specs.Running.{RunEndsWithin, RunsFromWithin, place_in};
 ghost use Rattle.ocfl_scrub.specs.Joining.{AreOneCycle, AreRuns, IsPartCycle, IsWholeCycle};
 ghost use Rattle.ocfl_scrub.specs.Joining.{PartCycle, PartRun, Ran, cursor_after, left_by};
 ghost use Rattle.ocfl_scrub.specs.Joining.{opened_by, reports_of, unread_together, unstopped};
@@ -30,6 +32,7 @@ ghost use Rattle.ocfl_scrub.specs.declared.checking.End.{End};
 ghost use Rattle.ocfl_scrub.specs.declared.cycling.CycleEnd.{CycleEnd};
 ghost use Rattle.ocfl_scrub.specs.declared.cycling.CycleStatus.TheVariants as cycle;
 ghost use Rattle.ocfl_scrub.specs.declared.running.RunEnd.{RunEnd};
+ghost use Rattle.ocfl_scrub.specs.declared.running.RunStatus.{RunStatus};
 ghost use Rattle.ocfl_scrub.specs.declared.running.RunStatus.TheVariants as run;
 
 /// If no failure was counted, the reports of the runs of one cycle of a part, joined, are what the
@@ -131,6 +134,23 @@ pub fn an_audit_of_a_part_looks_once()
         → AuditEndsWithin call part last finding end → (trail : List Opening)
         × ((call.after.openings ≡ call.before.openings ++ trail)
         × IsAscending place_cmp (heads_of call.root trail)) }
+{}
+
+/// Each file that an audit, a run or a check opens is a hashed one, or lies right in a directory that
+/// the call listed. Each such directory lies in the part or is on the way down to where the call
+/// began; of a check it is on the way to its place.
+pub fn openings_lie_where_it_was_listed()
+    ensures audit { (call : Call) (part : Part) (last : Option Place) (finding : Bool) (end : End)
+        → AuditEndsWithin call part last finding end
+        → OpensWithin call.root part None call.before call.after }
+    ensures run { (call : Call) (part : Part) (from last : Option Place) (limits : Limits)
+        (spent files : ℕ) (finding : Bool) (end : RunStatus)
+        → RunEndsWithin call part from last limits spent files finding end
+        → OpensWithin call.root part from call.before call.after }
+    ensures check { (call : Call) (p : Place) (item finding : Bool) (end : End)
+        → CheckEnds call p item finding end → (listed : List Place)
+        × (OpensNear call.root call.before call.after listed
+        × ((d : Place) → IsAmong listed d → (q : Place) × (p ≡ d ++ q))) }
 {}
 
 /// Each run of a cycle lists each directory at most once and reads each inventory at most once, in

@@ -1,22 +1,25 @@
 -- What was done on the way down to a place, and where that leads.
-use Rattle.std.proofs.Common.{true, false, Bool, filter, ◌≡◌, ℕ, List, [], ◌∷◌, ◌++◌, refl, sym, ◌∙◌, ap, subst, Some, None, arith, length, append_assoc}
+use Rattle.std.proofs.Common.{true, false, Bool, filter, ◌≡◌, ◌≤◌, inl, inr, ℕ, List, [], ◌∷◌, ◌++◌, refl, sym, ◌∙◌, ap, subst, Some, None, arith, length, append_assoc}
 use Rattle.std.proofs.lemmas.List.{append-nil, length-append}
 use Rattle.std.specs.Prelude.{Ok, Err, cond}
-use Rattle.ocfl_tree.specs.Place.{Place}
+use Rattle.ocfl_tree.specs.Place.{Place, text_eq}
+use Rattle.ocfl_tree.specs.Ascending.{IsAmong}
 use Rattle.ocfl_tree.specs.StorageRoot.{StorageRoot}
 use Rattle.ocfl_tree.specs.Store.{Store, Did}
 use Rattle.ocfl_tree.specs.declared.store.Opening.{Opening}
 use Rattle.ocfl_inventory.specs.Table.{Table}
 use Rattle.ocfl_tree.proofs.Orders.{true_not_false}
-use Rattle.ocfl_audit.specs.Zone.{zone}
+use Rattle.ocfl_audit.specs.Zone.{Zone, skipped, hierarchy, inside, zone, inventory_name}
 use Rattle.ocfl_item.specs.Looking.{IsFront, failures_by}
 use Rattle.ocfl_item.specs.Ways.{AreInventories, Stops}
 use Rattle.ocfl_item.specs.Internal.Ways.{Opens, ReadsTable}
-use Rattle.ocfl_walk.specs.Internal.Entering.{AreReached, Calls, NamesFailed, Descends, DescendFails, Opens as Opened}
+use Rattle.ocfl_walk.specs.Internal.Entering.{AreReached, Calls, NamesFailed, Descends, DescendFails, OpensIn, Opens as Opened}
 use Rattle.ocfl_item.specs.Around.{IsTableAround}
 use Rattle.ocfl_audit.specs.Head.{on}
-use Rattle.ocfl_audit.specs.Trail.{heads_of, reads_inventory}
-use Rattle.ocfl_item.proofs.AuditingLaws.{failed_behind, read_behind, heads_append}
+use Rattle.ocfl_audit.specs.Trail.{heads_of, inventory_of, reads_inventory}
+use Rattle.ocfl_audit.proofs.AuditExists.{zone_is}
+use Rattle.ocfl_item.specs.Auditing.{LiesIn, LieIn}
+use Rattle.ocfl_item.proofs.AuditingLaws.{failed_behind, near_none, near_on, read_behind, heads_append}
 use Rattle.ocfl_item.specs.declared.fault.Fault.{Fault}
 use Rattle.ocfl_item.specs.declared.fault.Fault.TheVariants as fault
 use Rattle.ocfl_tree.proofs.Stores.{did_then, did_nothing, listed_well}
@@ -55,6 +58,21 @@ own_reached root o xs h = by (reads_inventory root o) refl xs h
 
 pub own_inventory_reached : (root : StorageRoot) (o : Place) (trail : List Opening) → IsFront (heads_of root trail) (on (reads_inventory root o) o) → AreReached root trail
 own_inventory_reached root o trail h = own_reached root o (heads_of root trail) h
+
+nothing_listed : (xs : List Place) (rest : List Place) → [] ≡ xs ++ rest → xs ≡ []
+nothing_listed [] rest h = refl
+nothing_listed (x ∷ xs) rest h = absurd cc
+
+own_inventory : (o : Place) (b : Bool) (c : Place) → IsFront (c ∷ []) (on b o) → c ≡ o
+own_inventory o true c h = let k = h.1 in cc
+own_inventory o false c h = absurd (let k = h.1 in cc)
+
+at_most_one : (o : Place) (b : Bool) (xs : List Place) → IsFront xs (on b o) → length xs ≤ 1
+at_most_one o true [] h = omega arith
+at_most_one o true (x ∷ []) h = omega arith
+at_most_one o true (x ∷ y ∷ xs) h = absurd (let k = h.1 in cc)
+at_most_one o false [] h = omega arith
+at_most_one o false (x ∷ xs) h = absurd (let k = h.1 in cc)
 
 module _ (root : StorageRoot) where
   pub both_reached : (os os' : List Opening) → AreReached root os → AreReached root os' → AreReached root (os ++ os')
@@ -96,6 +114,7 @@ module _ (root : StorageRoot) where
         only = both_inventories a.trail b.trail h.only g.only;
         listed = front_on a.listings more way b.listings more' h.listed g.listed;
         heads = subst (λ x. IsFront (x ++ left') may) (sym (heads_append root a.trail b.trail)) (front_on (heads_of root a.trail) left may (heads_of root b.trail) left' h.heads g.heads);
+        near = near_on root a.listings b.listings a.trail b.trail h.near g.near;
       }
 
   pub descent_fails_on : (s t u : Store) (way more may left : List Place) (why : Fault) → Descends root s t way more may left 0
@@ -107,7 +126,7 @@ module _ (root : StorageRoot) where
 
   -- nothing was done
   pub descends_not : (s t : Store) (way may : List Place) → s.tree ≡ root → Did s t [] [] 0 → Descends root s t way [] may [] 0
-  descends_not s t way may over did = record { calls = no_calls s t over did; only = refl; listed = (way, refl); heads = (may, refl) }
+  descends_not s t way may over did = record { calls = no_calls s t over did; only = refl; listed = (way, refl); heads = (may, refl); near = near_none root [] }
 
   pub stops_memory : (s : Store) (way : List Place) → s.tree ≡ root → Stops root s s way [] fault.Memory
   stops_memory s way over = record {
@@ -125,12 +144,13 @@ module _ (root : StorageRoot) where
     only = refl;
     listed = ([], sym (append-nil (d ∷ way)));
     heads = ([], sym (append-nil may));
+    near = near_none root (d ∷ []);
   }
 
   -- what was done, on another way
   abbrev pub descends_as : (s t : Store) (way more may left way' more' may' left' : List Place) (f : ℕ) (h : Descends root s t way more may left f)
       → IsFront (h.calls.listings ++ more') way' → IsFront (heads_of root h.calls.trail ++ left') may' → Descends root s t way' more' may' left' f
-  descends_as s t way more may left way' more' may' left' f h listed heads = record { calls = h.calls; only = h.only; listed = listed; heads = heads }
+  descends_as s t way more may left way' more' may' left' f h listed heads = record { calls = h.calls; only = h.only; listed = listed; heads = heads; near = h.near }
 
   -- no more is done
   abbrev pub descends_end : (s t : Store) (way more may left : List Place) (f : ℕ) → Descends root s t way more may left f → Descends root s t way [] may [] f
@@ -152,17 +172,42 @@ module _ (root : StorageRoot) where
           only = refl;
           listed = listed;
           heads = (may, refl);
+          near = near_none root h.goes.listings;
         };
         store = h.store;
       }
 
   -- ---- an object's inventory
 
+  -- which lies right in it
+  one_near : (o : Place) (x : Opening) (z : Zone) → zone root x.place ≡ z → IsFront (inventory_of z ++ []) (on (reads_inventory root o) o) → 1 ≡ length (inventory_of z ++ [])
+      → LiesIn (o ∷ []) x.place
+  one_near o x skipped e h one = absurd (omega (arith, one))
+  one_near o x hierarchy e h one = absurd (omega (arith, one))
+  one_near o x (inside c []) e h one = absurd (omega (arith, one))
+  one_near o x (inside c (n ∷ m ∷ q)) e h one = absurd (omega (arith, one))
+  one_near o x (inside c (n ∷ [])) e h one = by (text_eq n inventory_name) h one
+    where
+      by : (b : Bool) → IsFront (cond b (c ∷ []) [] ++ []) (on (reads_inventory root o) o) → 1 ≡ length (cond b (c ∷ []) [] ++ []) → LiesIn (o ∷ []) x.place
+      by false k l = absurd (omega (arith, l))
+      by true k l =
+          let same : c ≡ o = own_inventory o (reads_inventory root o) c k in
+          (c, (n, (inl same, (zone_is root x.place c (n ∷ []) e).whole)))
+
+  inventory_near : (o : Place) (trail : List Opening) → AreInventories root trail → IsFront (heads_of root trail) (on (reads_inventory root o) o) → LieIn root (o ∷ []) trail
+  inventory_near o [] only h = near_none root (o ∷ [])
+  inventory_near o (x ∷ []) only h = λ y i meta. by y i
+    where
+      by : (y : Opening) → IsAmong (x ∷ []) y → LiesIn (o ∷ []) y.place
+      by y (inl e) = subst (λ v. LiesIn (o ∷ []) v.place) (sym e) (one_near o x (zone root x.place) refl h only)
+      by y (inr i) = absurd i
+  inventory_near o (x ∷ y ∷ trail) only h = absurd (let few = at_most_one o (reads_inventory root o) (heads_of root (x ∷ y ∷ trail)) h in omega (arith, only, few))
+
   opens_front : (o : Place) (trail : List Opening) → IsFront (heads_of root trail) (on (reads_inventory root o) o) → IsFront (heads_of root trail ++ []) (o ∷ [])
   opens_front o trail h = subst (λ x. IsFront x (o ∷ [])) (sym (append-nil (heads_of root trail))) (front_within o (reads_inventory root o) (heads_of root trail) h)
 
-  descends_read : (s t : Store) (o : Place) (m : Opens root s t o) → AreInventories root m.reads.trail → Descends root s t [] [] (o ∷ []) [] 0
-  descends_read s t o m only = record {
+  opens_read : (s t : Store) (o : Place) (m : Opens root s t o) → AreInventories root m.reads.trail → OpensIn root s t o 0
+  opens_read s t o m only = record {
     calls = record {
       over = m.reads.over;
       trail = m.reads.trail;
@@ -174,8 +219,9 @@ module _ (root : StorageRoot) where
           own_inventory_reached root o m.reads.trail m.heads;
     };
     only = only;
-    listed = ([], refl);
+    unlisted = refl;
     heads = opens_front o m.reads.trail m.heads;
+    near = inventory_near o m.reads.trail only m.heads;
   }
 
   pub opened_stops : (s t : Store) (o : Place) (why : Fault) → ReadsTable root s t o (Err why) → Opened root s t o (Err why)
@@ -194,21 +240,22 @@ module _ (root : StorageRoot) where
               reached = own_inventory_reached root o k.trail r.gives.0.heads;
             };
             only = r.gives.1;
-            listed = subst (λ x. IsFront x []) (sym (append-nil k.stops.goes.listings)) k.stops.goes.listed;
+            unlisted = nothing_listed k.stops.goes.listings k.stops.goes.listed.0 k.stops.goes.listed.1;
             heads = opens_front o k.trail r.gives.0.heads;
+            near = inventory_near o k.trail r.gives.1 r.gives.0.heads;
           };
           store = k.stops.store;
         };
       }
 
   pub opened_none : (s t : Store) (o : Place) → ReadsTable root s t o (Ok None) → Opened root s t o (Ok None)
-  opened_none s t o r = record { gives = (descends_read s t o r.gives.0 r.gives.2, sym r.gives.1) }
+  opened_none s t o r = record { gives = (opens_read s t o r.gives.0 r.gives.2, sym r.gives.1) }
 
   pub opened_memory : (s t : Store) (o : Place) (table : Table) → ReadsTable root s t o (Ok (Some table)) → Opened root s t o (Err fault.Memory)
-  opened_memory s t o table r = record { gives = record { goes = descends_read s t o r.gives.0 r.gives.2; store = λ q e. absurd (memory_no_store q e) } }
+  opened_memory s t o table r = record { gives = record { goes = opens_read s t o r.gives.0 r.gives.2; store = λ q e. absurd (memory_no_store q e) } }
 
   pub opened_table : (s t : Store) (o p : Place) (table : Table) → ReadsTable root s t o (Ok (Some table)) → p ≡ o → Opened root s t o (Ok (Some (record { place = p; table = table })))
-  opened_table s t o p table r e = record { gives = (descends_read s t o r.gives.0 r.gives.2, (e, sym r.gives.1)) }
+  opened_table s t o p table r e = record { gives = (opens_read s t o r.gives.0 r.gives.2, (e, sym r.gives.1)) }
 
   -- ---- what is shut
 

@@ -10,9 +10,10 @@ use Rattle.ocfl_audit.specs.Zone.{skipped, inside, object_zone, root_declared, i
 use Rattle.ocfl_audit.specs.Walk.{is_reached}
 use Rattle.ocfl_item.specs.Ways.{Enters, Stops, way_below, is_listable, is_extensions_name, IsAt, IsObject}
 use Rattle.ocfl_item.specs.Around.{IsPart, IsTableAround}
-use Rattle.ocfl_walk.specs.Internal.Entering.{Descends, IsIn, IsShut, Leads, LeadsOn, Opens, may_open}
+use Rattle.ocfl_walk.specs.Internal.Entering.{Descends, IsIn, IsShut, Leads, LeadsOn, Opens, OpensIn, may_open}
+use Rattle.ocfl_audit.specs.Trail.{heads_of}
 use Rattle.ocfl_walk.specs.WalkCalls.{holder_of}
-use Rattle.ocfl_item.specs.Looking.{IsFront}
+use Rattle.ocfl_item.specs.Looking.{IsFront, failures_by}
 use Rattle.ocfl_item.specs.declared.fault.Fault.{Fault}
 use Rattle.ocfl_item.specs.declared.folder.Folder.{Folder}
 use Rattle.ocfl_item.specs.declared.meeting.Around.{Around}
@@ -20,7 +21,8 @@ use Rattle.ocfl_tree.proofs.Orders.{true_not_false}
 use Rattle.ocfl_audit.proofs.AuditExists.{append_one}
 use Rattle.ocfl_audit.proofs.StepLaws.{reached_step, listed_step}
 use Rattle.ocfl_item.proofs.LooksZones.{inside_on, inside_step, not_entered, out_of_zone, open_object, reach_on, entered_from, is_plain, plain_below, plain_extensions}
-use Rattle.ocfl_walk.proofs.DescentLaws.{descends_as, descends_on, descent_fails_on, descends_not, descends_one, descends_end, listing_fails, plain_table}
+use Rattle.ocfl_walk.proofs.DescentLaws.{both_inventories, calls_then, failed_then, descends_not, descends_one, descends_end, listing_fails, plain_table}
+use Rattle.ocfl_item.proofs.AuditingLaws.{near_none, near_within}
 
 is_not : (b : Bool) → false ≡ not b → b ≡ true
 is_not true h = refl
@@ -29,10 +31,6 @@ is_not false h = absurd (true_not_false (sym h))
 and_false : (a b : Bool) → b ≡ false → a && b ≡ false
 and_false true b h = h
 and_false false b h = refl
-
-nothing_more : (xs : List Place) → (rest : List Place) → [] ≡ (xs ++ []) ++ rest → xs ≡ []
-nothing_more [] rest h = refl
-nothing_more (x ∷ xs) rest h = absurd cc
 
 module _ (root : StorageRoot) where
   shut_out : (d : Place) (n : Text) → is_entered root (d ++ n ∷ []) ≡ false → is_reached root (d ++ n ∷ []) ≡ false
@@ -123,11 +121,6 @@ module _ (root : StorageRoot) where
 
   -- into an object
 
-  abbrev descends_beside : (s t : Store) (way may left : List Place) (f : ℕ) → Descends root s t [] [] may left f → Descends root s t way way may left f
-  descends_beside s t way may left f h =
-      let none : h.calls.listings ≡ [] = nothing_more h.calls.listings h.listed.0 h.listed.1 in
-      descends_as root s t [] [] may left way way may left f h (subst (λ ls. IsFront (ls ++ way) way) (sym none) ([], sym (append-nil way))) h.heads
-
   module _ (s t u : Store) (d : Place) (n : Text) (r : Place) (over : s.tree ≡ root) (did : Did s t [] ((d ++ n ∷ []) ∷ []) 0) (z : zone root (d ++ n ∷ []) ≡ inside (d ++ n ∷ []) []) where
     abbrev rest : List Place
     rest = way_below (d ++ n ∷ []) r
@@ -135,26 +128,38 @@ module _ (root : StorageRoot) where
     may_is : may_open None (zone root (d ++ n ∷ r)) ≡ (d ++ n ∷ []) ∷ []
     may_is = ap holder_of (object_below d n r z)
 
-    came : Descends root s t (way_below d (n ∷ r)) rest (may_open None (zone root (d ++ n ∷ r))) ((d ++ n ∷ []) ∷ []) 0
-    came = subst (λ x. Descends root s t (way_below d (n ∷ r)) rest (may_open None (zone root (d ++ n ∷ r))) x 0) may_is
-        (descends_one root s t (d ++ n ∷ []) rest (may_open None (zone root (d ++ n ∷ r))) over did)
+    abbrev came : Descends root s t (way_below d (n ∷ r)) rest (may_open None (zone root (d ++ n ∷ r))) ((d ++ n ∷ []) ∷ []) 0
+    came = record {
+      calls = record { over = over; trail = []; listings = (d ++ n ∷ []) ∷ []; did = did; read = λ e. refl; meta = refl; reached = refl };
+      only = refl;
+      listed = ([], sym (append-nil ((d ++ n ∷ []) ∷ rest)));
+      heads = subst (IsFront ((d ++ n ∷ []) ∷ [])) (sym may_is) ([], refl);
+      near = near_none root ((d ++ n ∷ []) ∷ []);
+    }
 
-    then : Descends root t u [] [] ((d ++ n ∷ []) ∷ []) [] 0 → Descends root s u (way_below d (n ∷ r)) rest (may_open None (zone root (d ++ n ∷ r))) [] 0
-    then h = descends_on root s t u (way_below d (n ∷ r)) rest rest (may_open None (zone root (d ++ n ∷ r))) ((d ++ n ∷ []) ∷ []) [] 0 came (descends_beside t u rest ((d ++ n ∷ []) ∷ []) [] 0 h)
+    abbrev then : (f : ℕ) → OpensIn root t u (d ++ n ∷ []) f → Descends root s u (way_below d (n ∷ r)) rest (may_open None (zone root (d ++ n ∷ r))) [] f
+    then f h = record {
+      calls = calls_then root s t u f came.calls h.calls;
+      only = both_inventories root [] h.calls.trail refl h.only;
+      listed = subst (λ ls. IsFront (((d ++ n ∷ []) ∷ ls) ++ rest) ((d ++ n ∷ []) ∷ rest)) (sym h.unlisted) ([], sym (append-nil ((d ++ n ∷ []) ∷ rest)));
+      heads = subst (IsFront (heads_of root h.calls.trail ++ [])) (sym may_is) h.heads;
+      near = near_within root ((d ++ n ∷ []) ∷ []) h.calls.listings [] h.calls.trail (near_none root ((d ++ n ∷ []) ∷ [])) h.near;
+    }
 
     pub leads_object_none : Opens root t u (d ++ n ∷ []) (Ok None) → Leads root s u d n r None None (Ok None)
-    leads_object_none h = record { gives = (descends_end root s u (way_below d (n ∷ r)) rest (may_open None (zone root (d ++ n ∷ r))) [] 0 (then h.gives.0), shut_object d n r z h.gives.1) }
+    leads_object_none h = record { gives = (descends_end root s u (way_below d (n ∷ r)) rest (may_open None (zone root (d ++ n ∷ r))) [] 0 (then 0 h.gives.0), shut_object d n r z h.gives.1) }
 
     pub leads_object : (a : Around) (f : Folder) → f.place ≡ d ++ n ∷ [] → IsObject root (d ++ n ∷ []) f.entries.items
         → Opens root t u (d ++ n ∷ []) (Ok (Some a)) → Leads root s u d n r None (Some a) (Ok (Some f))
     leads_object a f e is h =
         let open_ = open_object root (d ++ n ∷ []) f.entries.items a.table is h.gives.1.1 in
         let part : IsPart root (d ++ n ∷ []) (Some a) = ([], z ∙ ap (λ x. inside x []) (sym h.gives.1.0), ap (table_at root) h.gives.1.0 ∙ h.gives.1.1) in
-        record { gives = (then h.gives.0, record { place = e; here = open_.here; part = part }) }
+        record { gives = (then 0 h.gives.0, record { place = e; here = open_.here; part = part }) }
 
     pub leads_object_stop : (why : Fault) → Opens root t u (d ++ n ∷ []) (Err why) → Leads root s u d n r None None (Err why)
-    leads_object_stop why h =
-        record {
-          gives = descent_fails_on root s t u (way_below d (n ∷ r)) rest (may_open None (zone root (d ++ n ∷ r))) ((d ++ n ∷ []) ∷ []) why came
-              (record { goes = descends_end root t u rest rest ((d ++ n ∷ []) ∷ []) [] _ (descends_beside t u rest ((d ++ n ∷ []) ∷ []) [] _ h.gives.goes); store = h.gives.store });
-        }
+    leads_object_stop why h = record {
+      gives = record {
+        goes = descends_end root s u (way_below d (n ∷ r)) rest (may_open None (zone root (d ++ n ∷ r))) [] (failures_by why) (then (failures_by why) h.gives.goes);
+        store = failed_then root s t u why came.calls h.gives.goes.calls h.gives.store;
+      };
+    }

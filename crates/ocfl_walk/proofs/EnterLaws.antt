@@ -1,5 +1,5 @@
 -- The start of a walk at a place.
-use Rattle.std.proofs.Common.{◌≡◌, List, [], ◌∷◌, ◌++◌, sym, ◌∙◌, ap, subst, false, Option, Some, None, length, arith}
+use Rattle.std.proofs.Common.{◌≡◌, List, [], ◌∷◌, ◌++◌, append-nil, refl, sym, ◌∙◌, ap, subst, false, Option, Some, None, length, arith}
 use Rattle.std.specs.Prelude.{cond, ◌||◌, not, Result, Ok, Err, IfOk, MatchResult}
 use Rattle.ocfl_tree.specs.Place.{Place}
 use Rattle.ocfl_tree.specs.StorageRoot.{StorageRoot}
@@ -27,7 +27,8 @@ use Rattle.ocfl_item.specs.declared.folder.Head.TheVariants as head
 use Rattle.ocfl_item.specs.declared.meeting.Around.{Around}
 use Rattle.ocfl_walk.specs.declared.stand.Stand.{Stand}
 use Rattle.ocfl_walk.proofs.PlacedLaws.{folders_none}
-use Rattle.ocfl_walk.proofs.DescentLaws.{descends_end, descends_on, descends_one, descent_fails_on, descent_memory, listing_fails, plain_table}
+use Rattle.ocfl_item.proofs.AuditingLaws.{near_none}
+use Rattle.ocfl_walk.proofs.DescentLaws.{descends_end, descends_on, descent_fails_on, descent_memory, listing_fails, plain_table}
 use Rattle.ocfl_item.proofs.LooksCalls.{head_unknown, root_entered, way_is}
 use Rattle.ocfl_item.proofs.LooksZones.{declared_root, out_of_zone, plain_unknown}
 use Rattle.ocfl_audit.proofs.StackLaws.{stack_starts, start_stops}
@@ -78,18 +79,25 @@ module _ (root : StorageRoot) where
   start_unlisted s t p why h = subst (λ w. DescendFails root s t w (holder_of (zone root p)) why) (sym (way_is p)) (listing_fails root s t [] (way_below [] p) (holder_of (zone root p)) why h)
 
   module _ (s t : Store) (p : Place) (over : s.tree ≡ root) (did : Did s t [] ([] ∷ []) 0) where
-    came : Descends root s t (way_to p) (way_below [] p) (holder_of (zone root p)) (holder_of (zone root p)) 0
-    came = subst (λ w. Descends root s t w (way_below [] p) (holder_of (zone root p)) (holder_of (zone root p)) 0) (sym (way_is p))
-        (descends_one root s t [] (way_below [] p) (holder_of (zone root p)) over did)
+    abbrev pub came : Descends root s t (way_to p) (way_below [] p) (holder_of (zone root p)) (holder_of (zone root p)) 0
+    came = record {
+      calls = record { over = over; trail = []; listings = [] ∷ []; did = did; read = λ e. refl; meta = refl; reached = refl };
+      only = refl;
+      listed = ([], way_is p ∙ sym (append-nil ([] ∷ way_below [] p)));
+      heads = ([], sym (append-nil (holder_of (zone root p))));
+      near = near_none root ([] ∷ []);
+    }
 
-    pub start_listed : Starts root s t p 0
-    start_listed = descends_end root s t (way_to p) (way_below [] p) (holder_of (zone root p)) (holder_of (zone root p)) 0 came
+    pub start_listed : Starts root s t p
+    start_listed = record { goes = descends_end root s t (way_to p) (way_below [] p) (holder_of (zone root p)) (holder_of (zone root p)) 0 came; root_first = ([], refl) }
 
     module _ (u : Store) (d q : Place) (root_is : d ≡ []) (same : q ≡ p) where
-      pub start_down : Descends root t u (way_below d q) [] (holder_of (zone root (d ++ q))) [] 0 → Starts root s u p 0
-      start_down h =
-          descends_on root s t u (way_to p) (way_below [] p) [] (holder_of (zone root p)) (holder_of (zone root p)) [] 0 came
-          (subst (λ x. Descends root t u (way_below [] x) [] (holder_of (zone root x)) [] 0) same (subst (λ e. Descends root t u (way_below e q) [] (holder_of (zone root (e ++ q))) [] 0) root_is h))
+      pub start_down : Descends root t u (way_below d q) [] (holder_of (zone root (d ++ q))) [] 0 → Starts root s u p
+      start_down h = record {
+        goes = descends_on root s t u (way_to p) (way_below [] p) [] (holder_of (zone root p)) (holder_of (zone root p)) [] 0 came
+            (subst (λ x. Descends root t u (way_below [] x) [] (holder_of (zone root x)) [] 0) same (subst (λ e. Descends root t u (way_below e q) [] (holder_of (zone root (e ++ q))) [] 0) root_is h));
+        root_first = (_, refl);
+      }
 
       pub start_stops_down : (why : Fault) → DescendFails root t u (way_below d q) (holder_of (zone root (d ++ q))) why → StartFails root s u p why
       start_stops_down why h =
@@ -137,7 +145,7 @@ module _ (root : StorageRoot) where
       (λ _. Descends root t u (way_below d q) [] (may_open old.around (zone root (d ++ q))) [] 0
       × IsBrought root d q (piles_in old.last old.listings.items) (piles_in new.last new.listings.items) new.around)
       (λ why. DescendFails root t u (way_below d q) (may_open old.around (zone root (d ++ q))) why)
-      → MatchResult r (λ _. Starts root s u p 0 × StandsAt root new (Some p)) (λ why. StartFails root s u p why)
+      → MatchResult r (λ _. Starts root s u p × StandsAt root new (Some p)) (λ why. StartFails root s u p why)
   start_goes s t p over did u d q root_is same old new none alone last (Ok x) h = (
     start_down s t p over did u d q root_is same (subst (λ a. Descends root t u (way_below d q) [] (may_open a (zone root (d ++ q))) [] 0) alone h.0),
     (

@@ -14,7 +14,7 @@ use Rattle.ocfl_walk.specs.WalkCalls.{holder_of}
 use Rattle.ocfl_walk.specs.Internal.Entering.{Descends, DescendFails, Leads, may_open}
 use Rattle.ocfl_walk.specs.Internal.Finding.{Finds, FindFails, FindsItem}
 use Rattle.ocfl_item.specs.Looking.{IsFront, failures_by}
-use Rattle.ocfl_item.specs.Auditing.{IsMetadataRead}
+use Rattle.ocfl_item.specs.Auditing.{IsMetadataRead, LieIn}
 use Rattle.ocfl_item.specs.Around.{IsMet, IsPart, IsTableAround}
 use Rattle.ocfl_item.specs.Meeting.{IsItemAt, Visits}
 use Rattle.ocfl_item.specs.Ways.{AreInventories, IsAt, way_below}
@@ -30,7 +30,7 @@ use Rattle.ocfl_audit.proofs.WayLaws.{head_seen, is_closed}
 use Rattle.ocfl_audit.specs.Head.{on}
 use Rattle.ocfl_audit.specs.Between.{is_looked_into}
 use Rattle.ocfl_walk.proofs.DescentLaws.{calls_then, failed_then, front_on, front_within, no_calls, own_inventory_reached}
-use Rattle.ocfl_item.proofs.AuditingLaws.{few_once, front_all, none_once, heads_append}
+use Rattle.ocfl_item.proofs.AuditingLaws.{few_once, front_all, near_none, near_on, none_once, heads_append}
 use Rattle.ocfl_item.proofs.ItemLaws.{head_zone}
 use Rattle.ocfl_item.proofs.LooksCalls.{memory_no_store}
 use Rattle.ocfl_item.proofs.LooksZones.{inside_step, sight_nothing, unseen_behind}
@@ -51,7 +51,7 @@ front_fits : {A : Type 0} (xs ys zs : List A) → IsFront (xs ++ ys) zs → leng
 front_fits xs ys zs h = let one = ap length h.1 in omega (arith, one, length-append (xs ++ ys) h.0, length-append xs ys)
 
 -- a front of what is left
-front_next : {A : Type 0} (a m w b : List A) → IsFront (a ++ m) w → IsFront b m → IsFront (a ++ b) w
+pub front_next : {A : Type 0} (a m w b : List A) → IsFront (a ++ m) w → IsFront b m → IsFront (a ++ b) w
 front_next a m w b h g = front_of (a ++ b) [] w (front_on a m w b [] h (subst (λ x. IsFront x m) (sym (append-nil b)) g))
 
 pub may_few : (a : Option Around) (z : Zone) → length (may_open a z) ≤ 1
@@ -84,12 +84,13 @@ module _ (root : StorageRoot) where
         closed = λ e. none_is trail (let none = ap length e in omega (arith, none, all));
         listed = front_of h.calls.listings more way h.listed;
         heads = front_of (heads_of root trail) left may h.heads;
+        near = h.near;
       }
 
   pub finds_stopped : (s t : Store) (way may : List Place) (why : Fault) → length may ≤ 1 → DescendFails root s t way may why → FindFails root s t way may why
   finds_stopped s t way may why few h = record { finds = finds_descended s t way [] may [] (failures_by why) few h.goes; store = h.store }
 
-  both_once : (left : List Place) (os os' : List Opening) → length os + length left ≤ 1 → (left ≡ [] → os' ≡ []) → AllPairs (λ a b. a.place ≢ b.place) os'
+  pub both_once : (left : List Place) (os os' : List Opening) → length os + length left ≤ 1 → (left ≡ [] → os' ≡ []) → AllPairs (λ a b. a.place ≢ b.place) os'
       → AllPairs (λ a b. a.place ≢ b.place) (os ++ os')
   both_once left [] os' few closed once = once
   both_once left (x ∷ os) os' few closed once =
@@ -100,10 +101,10 @@ module _ (root : StorageRoot) where
     abbrev trail : List Opening
     trail = h.calls.trail
 
-    all : length trail + length left ≤ length may
+    pub all : length trail + length left ≤ length may
     all = few_openings trail left may h.only h.heads
 
-    abbrev finds_on : (f : ℕ) → Finds root t u more left f → Finds root s u way may f
+    abbrev pub finds_on : (f : ℕ) → Finds root t u more left f → Finds root s u way may f
     finds_on f g =
         let behind = g.calls.trail in
         record {
@@ -116,6 +117,7 @@ module _ (root : StorageRoot) where
               (λ i. before i ++ after i);
           listed = front_next h.calls.listings more way g.calls.listings h.listed g.listed;
           heads = subst (λ x. IsFront x may) (sym (heads_append root trail behind)) (front_next (heads_of root trail) left may (heads_of root behind) h.heads g.heads);
+          near = near_on root h.calls.listings g.calls.listings trail behind h.near g.near;
         }
 
     pub item_on : (p : Place) (r : Result (Option Pending) Fault) → FindsItem root t u more left p r → FindsItem root s u way may p r
@@ -125,7 +127,7 @@ module _ (root : StorageRoot) where
     }
 
   pub finds_nothing : (s : Store) (way may : List Place) → s.tree ≡ root → Finds root s s way may 0
-  finds_nothing s way may over = record { calls = no_calls root s s over (did_nothing s); once = none_once; closed = λ e. refl; listed = (way, refl); heads = (may, refl) }
+  finds_nothing s way may over = record { calls = no_calls root s s over (did_nothing s); once = none_once; closed = λ e. refl; listed = (way, refl); heads = (may, refl); near = near_none root [] }
 
   -- an item that is known without the store
   pub item_known : (s t : Store) (way may : List Place) (p : Place) (r : Result (Option Pending) Fault) → Finds root s t way may 0
@@ -170,13 +172,15 @@ module _ (root : StorageRoot) where
       own_closed false h k = elsewhere h not_base
 
       abbrev finds_met : (f : ℕ) (listings : List Place) → s.tree ≡ root → Did s t trail listings f → (f ≡ 0 → IsMetadataRead root trail)
-          → content_trail root trail ≡ [] → AllPairs (λ x y. x.place ≢ y.place) trail → IsFront listings (e ∷ []) → Finds root s t (e ∷ []) (may_open a (zone root e)) f
-      finds_met f listings over did read meta once listed = record {
+          → content_trail root trail ≡ [] → AllPairs (λ x y. x.place ≢ y.place) trail → IsFront listings (e ∷ []) → LieIn root listings trail
+          → Finds root s t (e ∷ []) (may_open a (zone root e)) f
+      finds_met f listings over did read meta once listed near = record {
         calls = record { over = over; trail = trail; listings = listings; did = did; read = read; meta = meta; reached = own_inventory_reached root e trail heads };
         once = once;
         closed = own_closed (is_head (zone root e)) refl;
         listed = listed;
         heads = own_heads (is_head (zone root e)) refl;
+        near = near;
       }
 
     module _ (s t : Store) where
@@ -186,7 +190,7 @@ module _ (root : StorageRoot) where
           record {
             gives = (
               finds_met s t m.trail (subst (IsFront (heads_of root m.trail)) m.heads (front_all (heads_of root m.trail))) m.elsewhere 0 m.listings
-                  m.over m.did (λ g. m.read) m.meta m.once (front_own e (is_looked_into root e) m.listings m.listed),
+                  m.over m.did (λ g. m.read) m.meta m.once (front_own e (is_looked_into root e) m.listings m.listed) m.near,
               h.gives.1.item,
             );
           }
@@ -197,7 +201,7 @@ module _ (root : StorageRoot) where
           record {
             gives = record {
               finds =
-                  finds_met s t m.trail m.heads m.elsewhere (failures_by why) m.listings m.over m.did m.read m.meta m.once (front_within e (is_looked_into root e) m.listings m.listed);
+                  finds_met s t m.trail m.heads m.elsewhere (failures_by why) m.listings m.over m.did m.read m.meta m.once (front_within e (is_looked_into root e) m.listings m.listed) m.near;
               store = m.store;
             };
           }

@@ -10,8 +10,8 @@ use Rattle.ocfl_audit.specs.Due.{hashed_among}
 use Rattle.ocfl_audit.specs.Lines.{is_hashed, notes, notes_in}
 use Rattle.ocfl_audit.specs.Between.{is_looked_into}
 use Rattle.ocfl_audit.specs.Trail.{content_openings, content_trail, heads_of, inventory_of, reads_inventory, unread_of}
-use Rattle.ocfl_item.specs.Auditing.{FailedAt, IsMetadataRead}
-use Rattle.ocfl_walk.specs.WalkCalls.{GoDownFails, GoesDown, holder, holder_of}
+use Rattle.ocfl_item.specs.Auditing.{FailedAt, IsMetadataRead, LieIn}
+use Rattle.ocfl_walk.specs.WalkCalls.{GoDownFails, GoesDown, IsRootFirst, holder, holder_of}
 use Rattle.ocfl_walk.specs.Internal.Entering.{Starts, StartFails}
 use Rattle.ocfl_walk.specs.Internal.Finding.{Finds, FindFails, FindsItem}
 use Rattle.ocfl_item.specs.Looking.{IsFront, failures_by, way_to}
@@ -24,9 +24,9 @@ use Rattle.ocfl_item.specs.declared.visit.Visit.{Visit}
 use Rattle.ocfl_audit.proofs.AuditExists.{zone_is}
 use Rattle.ocfl_audit.proofs.PathLaws.{notes_at}
 use Rattle.ocfl_item.proofs.AuditingLaws.{audits_nothing, front_all, front_kept, none_once}
-use Rattle.ocfl_walk.proofs.DescentLaws.{descends_one, front_within}
-use Rattle.ocfl_walk.proofs.EnterLaws.{start_listed, start_unlisted}
-use Rattle.ocfl_walk.proofs.FindLaws.{front_own, finds_descended, finds_stopped, item_memory, item_on, may_few}
+use Rattle.ocfl_walk.proofs.DescentLaws.{front_within}
+use Rattle.ocfl_walk.proofs.EnterLaws.{came, start_listed, start_unlisted}
+use Rattle.ocfl_walk.proofs.FindLaws.{front_own, finds_descended, finds_on, finds_stopped, item_memory, item_on, may_few}
 use Rattle.ocfl_item.proofs.LooksCalls.{way_is}
 
 -- ---- as it is told
@@ -58,13 +58,14 @@ module _ (root : StorageRoot) where
 
   module _ (s t : Store) (p : Place) where
     module _ (trail : List Opening) (listed : List Place) (over : s.tree ≡ root) (meta : content_trail root trail ≡ [])
-        (once : AllPairs (λ a b. a.place ≢ b.place) trail) (way : IsFront listed (way_to p)) (heads : IsFront (heads_of root trail) (holder root (Some p))) where
-      went : Did s t trail listed 0 → IsMetadataRead root trail → GoesDown root s t (Some p)
-      went did read = record {
+        (once : AllPairs (λ a b. a.place ≢ b.place) trail) (way : IsFront listed (way_to p)) (heads : IsFront (heads_of root trail) (holder root (Some p))) (near : LieIn root listed trail) where
+      went : Did s t trail listed 0 → IsMetadataRead root trail → IsRootFirst listed → GoesDown root s t (Some p)
+      went did read first = record {
         trail = trail;
         listed = listed;
         heads = heads_of root trail;
-        audits = record { over = over; did = did_well s t trail listed meta did; read = read; opened = meta ∙ sym (none_hashed root); heads_are = refl };
+        audits = record { over = over; did = did_well s t trail listed meta did; read = read; opened = meta ∙ sym (none_hashed root); heads_are = refl; near = near };
+        root_first = first;
         listed_front = way;
         heads_front = heads;
         once = once;
@@ -76,7 +77,7 @@ module _ (root : StorageRoot) where
         trail = trail;
         listed = listed;
         heads = heads_of root trail;
-        fails = record { over = over; did = did_so s t trail listed (failures_by why) meta did; opened = meta ∙ sym (none_hashed root); heads_are = refl; store = store };
+        fails = record { over = over; did = did_so s t trail listed (failures_by why) meta did; opened = meta ∙ sym (none_hashed root); heads_are = refl; near = near; store = store };
         listed_front = way;
         heads_front = heads;
         once = once;
@@ -86,25 +87,21 @@ module _ (root : StorageRoot) where
     held : (may : List Place) (f : ℕ) (h : Finds root s t (way_to p) may f) → IsFront (heads_of root h.calls.trail) (filter (reads_inventory root) may)
     held may f h = front_kept (reads_inventory root) (heads_of root h.calls.trail) may h.calls.reached h.heads
 
-    pub goes_down : Finds root s t (way_to p) (holder_of (zone root p)) 0 → GoesDown root s t (Some p)
-    goes_down h = let k = h.calls in went k.trail k.listings k.over k.meta h.once h.listed (held (holder_of (zone root p)) 0 h) k.did (k.read refl)
+    pub goes_down : (h : Finds root s t (way_to p) (holder_of (zone root p)) 0) → IsRootFirst h.calls.listings → GoesDown root s t (Some p)
+    goes_down h first = let k = h.calls in went k.trail k.listings k.over k.meta h.once h.listed (held (holder_of (zone root p)) 0 h) h.near k.did (k.read refl) first
 
     pub go_down_fails : (why : Fault) → FindFails root s t (way_to p) (holder_of (zone root p)) why → GoDownFails root s t (Some p) why
-    go_down_fails why h = let k = h.finds.calls in went_wrong k.trail k.listings k.over k.meta h.finds.once h.finds.listed (held (holder_of (zone root p)) (failures_by why) h.finds) why h.store k.did
+    go_down_fails why h = let k = h.finds.calls in went_wrong k.trail k.listings k.over k.meta h.finds.once h.finds.listed (held (holder_of (zone root p)) (failures_by why) h.finds) h.finds.near why h.store k.did
 
     -- the start of a walk is such a way
-    pub start_goes_down : Starts root s t p 0 → GoesDown root s t (Some p)
-    start_goes_down h = goes_down (finds_descended root s t (way_to p) [] (holder_of (zone root p)) [] 0 (may_few None (zone root p)) h)
+    pub start_goes_down : Starts root s t p → GoesDown root s t (Some p)
+    start_goes_down h = goes_down (finds_descended root s t (way_to p) [] (holder_of (zone root p)) [] 0 (may_few None (zone root p)) h.goes) h.root_first
 
     pub start_fails_down : (why : Fault) → StartFails root s t p why → GoDownFails root s t (Some p) why
     start_fails_down why h = go_down_fails why (finds_stopped root s t (way_to p) (holder_of (zone root p)) why (may_few None (zone root p)) h)
 
   abbrev pub IsAnswer : Store → Store → Place → Result (Option Pending) Fault → Type 0
   IsAnswer s t p r = MatchResult r (λ o. GoesDown root s t (Some p) × IsItemAt root p o) (λ why. GoDownFails root s t (Some p) why)
-
-  pub answered : (s t : Store) (p : Place) (r : Result (Option Pending) Fault) → FindsItem root s t (way_to p) (holder_of (zone root p)) p r → IsAnswer s t p r
-  answered s t p (Ok o) h = (goes_down s t p h.gives.0, h.gives.1)
-  answered s t p (Err why) h = go_down_fails s t p why h.gives
 
   -- ---- below the storage root
 
@@ -114,11 +111,15 @@ module _ (root : StorageRoot) where
   module _ (s t : Store) (p : Place) (over : s.tree ≡ root) (did : Did s t [] ([] ∷ []) 0) where
     pub answered_below : (u : Store) (d q : Place) (r : Result (Option Pending) Fault) → d ≡ [] → q ≡ p → FindsItem root t u (way_below d q) (holder_of (zone root p)) p r → IsAnswer s u p r
     answered_below u d q r base same h =
-        answered s u p r
-        (subst (λ w. FindsItem root s u w (holder_of (zone root p)) p r) (sym (way_is p))
-        (item_on root s t u ([] ∷ way_below [] p) (way_below [] p) (holder_of (zone root p)) (holder_of (zone root p)) (may_few None (zone root p))
-        (descends_one root s t [] (way_below [] p) (holder_of (zone root p)) over did) p r
-        (subst (λ x. FindsItem root t u (way_below [] x) (holder_of (zone root p)) p r) same (subst (λ x. FindsItem root t u (way_below x q) (holder_of (zone root p)) p r) base h))))
+        by r (subst (λ x. FindsItem root t u (way_below [] x) (holder_of (zone root p)) p r) same (subst (λ x. FindsItem root t u (way_below x q) (holder_of (zone root p)) p r) base h))
+      where
+        may : List Place
+        may = holder_of (zone root p)
+
+        by : (r : Result (Option Pending) Fault) → FindsItem root t u (way_below [] p) may p r → IsAnswer s u p r
+        by (Ok o) k = (goes_down s u p (finds_on root s t u (way_to p) (way_below [] p) may may (may_few None (zone root p)) (came root s t p over did) 0 k.gives.0) (_, refl), k.gives.1)
+        by (Err why) k =
+            go_down_fails s u p why (item_on root s t u (way_to p) (way_below [] p) may may (may_few None (zone root p)) (came root s t p over did) p (Err why) k).gives
 
     skipped_notes : (q : Place) → q ≢ [] → is_known (root_declared root) ≡ false → notes root None q ≡ []
     skipped_notes q some h = notes_at root None q some ∙ ap (λ b. notes_in root q None (cond (not b || is_in_extensions root q) skipped (object_zone root [] q))) h
@@ -156,7 +157,7 @@ module _ (root : StorageRoot) where
       let m = h.gives.0 in
       subst (λ x. GoesDown root s t (Some x) × IsItemAt root x v.item) (sym top) (
         went s t [] m.trail m.listings m.over m.meta m.once (front_own [] (is_looked_into root []) m.listings m.listed)
-            (no_objects m.trail (front_own [] (reads_inventory root []) (heads_of root m.trail) m.heads)) m.did m.read,
+            (no_objects m.trail (front_own [] (reads_inventory root []) (heads_of root m.trail) m.heads)) m.near m.did m.read ([], m.listed),
         h.gives.1.item,
       )
 
@@ -165,7 +166,7 @@ module _ (root : StorageRoot) where
       let m = h.gives in
       subst (λ x. GoDownFails root s t (Some x) why) (sym top)
       (went_wrong s t [] m.trail m.listings m.over m.meta m.once (front_within [] (is_looked_into root []) m.listings m.listed)
-      (no_objects m.trail (front_within [] (reads_inventory root []) (heads_of root m.trail) m.heads)) why m.store m.did)
+      (no_objects m.trail (front_within [] (reads_inventory root []) (heads_of root m.trail) m.heads)) m.near why m.store m.did)
 
   pub answered_memory : (s : Store) (p : Place) → s.tree ≡ root → GoDownFails root s s (Some p) fault.Memory
   answered_memory s p over = go_down_fails s s p fault.Memory (item_memory root s (way_to p) (holder_of (zone root p)) p over).gives
@@ -177,6 +178,7 @@ start_at_none root s over = record {
   listed = [];
   heads = [];
   audits = audits_nothing root s over;
+  root_first = tt;
   listed_front = front_all [];
   heads_front = front_all [];
   once = none_once;

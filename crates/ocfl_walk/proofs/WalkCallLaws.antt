@@ -9,7 +9,7 @@ use Rattle.ocfl_audit.specs.Trail.{heads_of, reads_inventory}
 use Rattle.ocfl_audit.specs.Between.{IsBeyond, IsWithin, is_looked_into, looked_between, read_between}
 use Rattle.ocfl_audit.proofs.BetweenLaws.{looked_on, read_on}
 use Rattle.ocfl_item.specs.Looking.{IsFront, failures_by}
-use Rattle.ocfl_item.specs.Auditing.{Audits}
+use Rattle.ocfl_item.specs.Auditing.{Audits, LieIn}
 use Rattle.ocfl_item.proofs.AuditingLaws.{audits_nothing, audits_on, audits_fail, audits_meta, fails_meta, fails_nothing, front_behind, front_more, front_none}
 use Rattle.ocfl_walk.specs.Ends.{before_end, is_past}
 use Rattle.ocfl_walk.specs.WalkCalls.{FailsOut, Walks, WalkFails, WalksOut}
@@ -31,7 +31,8 @@ module _ (root : StorageRoot) (s t : Store) (from : Option Place) (x : Place) (n
   meets_walks m = record {
     trail = m.trail;
     audits = audits_meta root s t (looked_between root from (Some x)) (read_between root from (Some x)) m.trail m.over
-        (subst (λ ls. Did s t m.trail ls 0) (m.listed ∙ sym near.looked) m.did) m.read m.meta (m.heads ∙ sym near.read);
+        (subst (λ ls. Did s t m.trail ls 0) (m.listed ∙ sym near.looked) m.did) m.read m.meta (m.heads ∙ sym near.read)
+        (subst (λ ls. LieIn root ls m.trail) (m.listed ∙ sym near.looked) m.near);
   }
 
   pub meets_fails : (why : Fault) → MeetFails root s t x why → FailsTo root s t from x why
@@ -39,7 +40,7 @@ module _ (root : StorageRoot) (s t : Store) (from : Option Place) (x : Place) (n
     trail = m.trail;
     listed = m.listings;
     heads = heads_of root m.trail;
-    fails = fails_meta root s t m.listings (heads_of root m.trail) m.trail why m.over m.did m.meta refl m.store;
+    fails = fails_meta root s t m.listings (heads_of root m.trail) m.trail why m.over m.did m.meta refl m.near m.store;
     listed_front = subst (IsFront m.listings) (sym near.looked) m.listed;
     heads_front = subst (IsFront (heads_of root m.trail)) (sym near.read) m.heads;
   }

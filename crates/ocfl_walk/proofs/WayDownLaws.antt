@@ -1,7 +1,7 @@
 -- What was done on the way down to a place, in words of single calls.
 use Rattle.std.proofs.Common.{◌≡◌, ◌⊎◌, inl, inr, List, [], ◌∷◌, ◌++◌, refl, sym, ◌∙◌, ap, subst, true, false, Bool, map, filter, Option, Some, None, arith}
 use Rattle.std.proofs.lemmas.List.{append-nil}
-use Rattle.std.specs.Prelude.{codes, cond, not}
+use Rattle.std.specs.Prelude.{IfSome, codes, cond, not}
 use Rattle.ocfl_tree.specs.Place.{Place, Text}
 use Rattle.ocfl_tree.specs.Ascending.{IsAmong}
 use Rattle.ocfl_tree.specs.StorageRoot.{StorageRoot}
@@ -14,14 +14,14 @@ use Rattle.ocfl_audit.specs.Zone.{beginnings, zone}
 use Rattle.ocfl_audit.proofs.MetaLaws.{head_shown}
 use Rattle.ocfl_item.specs.Looking.{way_to}
 use Rattle.ocfl_item.proofs.WantedLaws.{among_last}
-use Rattle.ocfl_walk.specs.WalkCalls.{GoesDown, holder, way_of}
+use Rattle.ocfl_walk.specs.WalkCalls.{GoesDown, IsRootFirst, holder, way_of}
 use Rattle.ocfl_walk.proofs.FoundLaws.{none_hashed, none_unread}
 use Rattle.ocfl_walk.proofs.HolderLaws.{held_above}
 
 -- ---- places on the way
 
 -- a place that another begins with
-abbrev IsBeginning : Place → Place → Type 0
+abbrev pub IsBeginning : Place → Place → Type 0
 IsBeginning p d = (q : Place) × (p ≡ d ++ q)
 
 mapped : (n : Text) (ps : List Place) (d : Place) → IsAmong (map (λ q. n ∷ q) ps) d → (e : Place) × IsAmong ps e × (d ≡ n ∷ e)
@@ -37,7 +37,7 @@ begun (n ∷ p) d (inr i) =
     let q = begun p k.0 k.1 in
     (q.0, ap (λ x. n ∷ x) q.1 ∙ ap (λ x. x ++ q.0) (sym k.2))
 
-on_way : (p d : Place) → IsAmong (way_to p) d → IsBeginning p d
+pub on_way : (p d : Place) → IsAmong (way_to p) d → IsBeginning p d
 on_way p d i = by ((among_last (beginnings p) p d).0 i)
   where
     by : IsAmong (beginnings p) d ⊎ (d ≡ p) → IsBeginning p d
@@ -93,6 +93,11 @@ module _ (root : StorageRoot) (s t : Store) (p : Option Place) (g : GoesDown roo
       by : (p : Option Place) (d : Place) → IsAmong (way_of p) d → (q : Place) × (p ≡ Some (d ++ q))
       by None d i = absurd i
       by (Some e) d i = let k = on_way e d i in (k.0, ap (λ y. Some y) k.1)
+
+  pub down_root : (q : Place) → p ≡ Some q → (rest : List Place) × (t.listings ≡ s.listings ++ [] ∷ rest)
+  down_root q e =
+      let first : IsRootFirst g.listed = subst (λ x. IfSome x (λ y. IsRootFirst g.listed)) e g.root_first in
+      (first.0, g.audits.did.listings_are ∙ ap (λ l. s.listings ++ l) first.1)
 
   pub down_unfailing : t.failures ≡ s.failures
   down_unfailing = let none = none_unread root g.trail nothing_opened in let all = g.audits.did.failures_are in omega (arith, none, all)

@@ -1,6 +1,6 @@
 -- What the calls of a walk did to a store that tells its tree: from one place on to another, and
 -- down to one place.
-use Rattle.std.specs.Prelude.{List, [], ◌∷◌, Option, Some, None, AllPairs, ◌≢◌, filter}
+use Rattle.std.specs.Prelude.{List, [], ◌∷◌, Option, Some, None, IfSome, AllPairs, ◌≡◌, ◌≢◌, filter}
 use Rattle.ocfl_tree.specs.Place.{Place}
 use Rattle.ocfl_tree.specs.StorageRoot.{StorageRoot}
 use Rattle.ocfl_tree.specs.Store.{Store}
@@ -63,13 +63,18 @@ abbrev pub holder : StorageRoot → Option Place → List Place
 holder root None = []
 holder root (Some p) = filter (reads_inventory root) (holder_of (zone root p))
 
--- the first directories on the way to a place were listed, and of inventories at most that of the
--- object that holds it was read, where its head reaches it
+-- the storage root, and nothing before it
+abbrev pub IsRootFirst : List Place → Type 0
+IsRootFirst listed = (rest : List Place) × (listed ≡ [] ∷ rest)
+
+-- the first directories on the way to a place were listed, the storage root at least, and of
+-- inventories at most that of the object that holds it was read, where its head reaches it
 pub record GoesDown (root : StorageRoot) (s t : Store) (p : Option Place) : Type 0 where
   pub trail : List Opening
   pub listed : List Place
   pub heads : List Place
   pub audits : Audits root s t [] listed heads trail
+  pub root_first : IfSome p (λ q. IsRootFirst listed)
   pub listed_front : IsFront listed (way_of p)
   pub heads_front : IsFront heads (holder root p)
   pub once : AllPairs (λ a b. a.place ≢ b.place) trail

@@ -226,7 +226,7 @@ fn go_down_from_root<T: Tree>(
     ensures orderly { IfOk result (λ _. IsOrderlyStand stand.new) }
     ensures told { IfTold T.told (T.state store.old) (λ root.
         MatchResult result
-        (λ _. Starts root (T.state store.old) (T.state store.new) after.now 0
+        (λ _. Starts root (T.state store.old) (T.state store.new) after.now
         × StandsAt root stand.new (Some after.now))
         (λ why. StartFails root (T.state store.old) (T.state store.new) after.now why)) }
 {
@@ -244,7 +244,7 @@ pub(crate) fn stand_at<T: Tree>(alloc: Global, store: &mut T, after: &Place) -> 
     ensures orderly { IfOk result (λ stand. IsOrderlyStand stand) }
     ensures told { IfTold T.told (T.state store.old) (λ root.
         MatchResult result
-        (λ stand. Starts root (T.state store.old) (T.state store.new) after.now 0
+        (λ stand. Starts root (T.state store.old) (T.state store.new) after.now
         × StandsAt root stand (Some after.now))
         (λ why. StartFails root (T.state store.old) (T.state store.new) after.now why)) }
 {

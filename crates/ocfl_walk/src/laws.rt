@@ -40,7 +40,7 @@ pub fn the_way_down_is_exact()
 
 /// On the way down to a place no call failed. Of files only metadata was opened, and of inventories
 /// only that of the object that holds the place, where its head reaches it. Of directories only the
-/// beginnings of the place were listed, and the place.
+/// beginnings of the place were listed, and the place, and the storage root first.
 pub fn the_way_down_opens_one_inventory()
     ensures inventories { (root : StorageRoot) (s t : Store) (p : Option Place)
         → GoesDown root s t p → (trail : List Opening) × ((t.openings ≡ s.openings ++ trail)
@@ -53,6 +53,9 @@ pub fn the_way_down_opens_one_inventory()
     ensures listed { (root : StorageRoot) (s t : Store) (p : Option Place)
         → GoesDown root s t p → (listed : List Place) × ((t.listings ≡ s.listings ++ listed)
         × ((d : Place) → IsAmong listed d → (q : Place) × (p ≡ Some (d ++ q)))) }
+    ensures first { (root : StorageRoot) (s t : Store) (p : Option Place)
+        → GoesDown root s t p → (q : Place) → p ≡ Some q → (rest : List Place)
+        × (t.listings ≡ s.listings ++ [] ∷ rest) }
     ensures unfailing { (root : StorageRoot) (s t : Store) (p : Option Place)
         → GoesDown root s t p → t.failures ≡ s.failures }
 {}

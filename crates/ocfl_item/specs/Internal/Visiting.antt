@@ -21,7 +21,7 @@ use Rattle.ocfl_tree.specs.declared.store.Opening.{Opening}
 use Rattle.ocfl_inventory.specs.Table.{Table}
 use Rattle.ocfl_audit.specs.Head.{on}
 use Rattle.ocfl_audit.specs.Trail.{content_trail, is_head, heads_of, reads_inventory}
-use Rattle.ocfl_item.specs.Auditing.{FailedAt, IsMetadataRead}
+use Rattle.ocfl_item.specs.Auditing.{FailedAt, IsMetadataRead, LieIn}
 use Rattle.ocfl_item.specs.Looking.{IsFront, failures_by}
 use Rattle.ocfl_item.specs.Internal.Ways.{IsHeadOf}
 use Rattle.ocfl_item.specs.Meeting.{IsVisit}
@@ -84,8 +84,8 @@ pub record IsBase (root : StorageRoot) (d : Place) (es : List Entry) (m : MadeDe
 
 -- ---- an object's head
 
--- from s to t metadata was read, each file once, of inventories just that of o where it has one,
--- and nothing was listed
+-- from s to t metadata was read, right in o and each file once, of inventories just that of o where
+-- it has one, and nothing was listed
 pub record ReadsOne (root : StorageRoot) (s t : Store) (o : Place) : Type 0 where
   pub over : s.tree ≡ root
   pub trail : List Opening
@@ -94,6 +94,7 @@ pub record ReadsOne (root : StorageRoot) (s t : Store) (o : Place) : Type 0 wher
   pub meta : content_trail root trail ≡ []
   pub once : AllPairs (λ a b. a.place ≢ b.place) trail
   pub heads : heads_of root trail ≡ on (reads_inventory root o) o
+  pub near : LieIn root (o ∷ []) trail
 
 -- at most this, and then there was a fault
 pub record ReadOneFails (root : StorageRoot) (s t : Store) (o : Place) (why : Fault) : Type 0 where
@@ -104,6 +105,7 @@ pub record ReadOneFails (root : StorageRoot) (s t : Store) (o : Place) (why : Fa
   pub meta : content_trail root trail ≡ []
   pub once : AllPairs (λ a b. a.place ≢ b.place) trail
   pub heads : IsFront (heads_of root trail) (on (reads_inventory root o) o)
+  pub near : LieIn root (o ∷ []) trail
   pub store : (q : Place) → why ≡ fault.Store q → (is_hashed root q ≡ false) × FailedAt root s t [] trail q
 
 -- the lines of an object's head and its table

@@ -11,8 +11,8 @@ use Rattle.ocfl_audit.specs.Zone.{Zone, inside, root_declared, zone, table_at, i
 use Rattle.ocfl_audit.specs.Lines.{is_hashed}
 use Rattle.ocfl_audit.specs.Trail.{content_trail, heads_of, reads_inventory}
 use Rattle.ocfl_item.specs.Looking.{way_to, IsFront, failures_by}
-use Rattle.ocfl_item.specs.Auditing.{FailedAt, IsMetadataRead}
-use Rattle.ocfl_walk.specs.WalkCalls.{holder_of}
+use Rattle.ocfl_item.specs.Auditing.{FailedAt, IsMetadataRead, LieIn}
+use Rattle.ocfl_walk.specs.WalkCalls.{IsRootFirst, holder_of}
 use Rattle.ocfl_item.specs.Ways.{way_below, is_extensions_name, is_listable, AreInventories, Enters, InHierarchy, IsAt, Stops}
 use Rattle.ocfl_audit.specs.Walk.{is_reached, step_listed}
 use Rattle.ocfl_audit.specs.Stack.{seen_places, seen_left, listed_at, IsListed}
@@ -52,12 +52,14 @@ abbrev pub NamesFailed : (root : StorageRoot) (s t : Store) (why : Fault) → Ca
 NamesFailed root s t why calls = (q : Place) → why ≡ fault.Store q → (is_hashed root q ≡ false) × FailedAt root s t calls.listings calls.trail q
 
 -- from s to t directories of a way were listed in order, with more of it left, and the inventories
--- of some objects were read in order, with more of them left, and nothing else
+-- of some objects were read in order, right in these directories, with more of them left, and
+-- nothing else
 pub record Descends (root : StorageRoot) (s t : Store) (way more may left : List Place) (failures : ℕ) : Type 0 where
   pub calls : Calls root s t failures
   pub only : AreInventories root calls.trail
   pub listed : IsFront (calls.listings ++ more) way
   pub heads : IsFront (heads_of root calls.trail ++ left) may
+  pub near : LieIn root calls.listings calls.trail
 
 -- and then there was a fault
 pub record DescendFails (root : StorageRoot) (s t : Store) (way may : List Place) (why : Fault) : Type 0 where
@@ -75,12 +77,25 @@ pub record ListsRoot (root : StorageRoot) (s t : Store) (r : Result (Option Fold
 
 -- ---- the table of an object
 
+-- from s to t at most the inventory of o was opened, right in o, and nothing was listed
+pub record OpensIn (root : StorageRoot) (s t : Store) (o : Place) (failures : ℕ) : Type 0 where
+  pub calls : Calls root s t failures
+  pub only : AreInventories root calls.trail
+  pub unlisted : calls.listings ≡ []
+  pub heads : IsFront (heads_of root calls.trail ++ []) (o ∷ [])
+  pub near : LieIn root (o ∷ []) calls.trail
+
+-- and then there was a fault
+pub record OpensInFails (root : StorageRoot) (s t : Store) (o : Place) (why : Fault) : Type 0 where
+  pub goes : OpensIn root s t o (failures_by why)
+  pub store : NamesFailed root s t why goes.calls
+
 -- an object was opened, and has a table or not
 pub record Opens (root : StorageRoot) (s t : Store) (o : Place) (r : Result (Option Around) Fault) : Type 0 where
   pub gives : MatchResult r
-      (λ next. Descends root s t [] [] (o ∷ []) [] 0
+      (λ next. OpensIn root s t o 0
       × MatchOption next (table_at root o ≡ None) (λ a. (a.place ≡ o) × (table_at root o ≡ Some a.table)))
-      (λ why. DescendFails root s t [] (o ∷ []) why)
+      (λ why. OpensInFails root s t o why)
 
 -- ---- one name further
 
@@ -144,10 +159,12 @@ pub record IsBrought (root : StorageRoot) (d q : Place) (old new : List Pile) (a
   pub entries : HaveEntries root old → HaveEntries root new
   pub table : IsTableAround root (d ++ q) around
 
--- the start of a walk: at most the directories on the way to p were listed, each once, and at most
--- the inventory of the object that holds p was opened, once, where its head reaches it
-abbrev pub Starts : StorageRoot → Store → Store → Place → ℕ → Type 0
-Starts root s t p failures = Descends root s t (way_to p) [] (holder_of (zone root p)) [] failures
+-- the start of a walk: the storage root and at most the directories on the way to p were listed,
+-- each once, and at most the inventory of the object that holds p was opened, once, where its head
+-- reaches it
+pub record Starts (root : StorageRoot) (s t : Store) (p : Place) : Type 0 where
+  pub goes : Descends root s t (way_to p) [] (holder_of (zone root p)) [] 0
+  pub root_first : IsRootFirst goes.calls.listings
 
 abbrev pub StartFails : StorageRoot → Store → Store → Place → Fault → Type 0
 StartFails root s t p why = DescendFails root s t (way_to p) (holder_of (zone root p)) why

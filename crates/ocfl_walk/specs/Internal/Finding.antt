@@ -4,20 +4,23 @@ use Rattle.ocfl_tree.specs.Place.{Place}
 use Rattle.ocfl_tree.specs.StorageRoot.{StorageRoot}
 use Rattle.ocfl_tree.specs.Store.{Store}
 use Rattle.ocfl_audit.specs.Trail.{heads_of}
+use Rattle.ocfl_item.specs.Auditing.{LieIn}
 use Rattle.ocfl_item.specs.Looking.{IsFront, failures_by}
 use Rattle.ocfl_item.specs.Meeting.{IsItemAt}
 use Rattle.ocfl_walk.specs.Internal.Entering.{Calls, NamesFailed}
 use Rattle.ocfl_item.specs.declared.fault.Fault.{Fault}
 use Rattle.ocfl_item.specs.declared.pending.Pending.{Pending}
 
--- from s to t the first directories of a way were listed, in order, and metadata was read, each
--- file once, of inventories the first of those that may be; where none may be, nothing was read
+-- from s to t the first directories of a way were listed, in order, and metadata was read, right in
+-- these and each file once, of inventories the first of those that may be; where none may be,
+-- nothing was read
 pub record Finds (root : StorageRoot) (s t : Store) (way may : List Place) (failures : ℕ) : Type 0 where
   pub calls : Calls root s t failures
   pub once : AllPairs (λ a b. a.place ≢ b.place) calls.trail
   pub closed : may ≡ [] → calls.trail ≡ []
   pub listed : IsFront calls.listings way
   pub heads : IsFront (heads_of root calls.trail) may
+  pub near : LieIn root calls.listings calls.trail
 
 -- and then there was a fault
 pub record FindFails (root : StorageRoot) (s t : Store) (way may : List Place) (why : Fault) : Type 0 where

@@ -3,3 +3,4 @@ pub mod Weights
 pub mod Heaps
 pub mod Pieces
 pub mod ShownLines
+pub mod Lists

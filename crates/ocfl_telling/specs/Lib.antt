@@ -1,6 +1,7 @@
 pub mod Weight
 pub mod Gravest
 pub mod Known
+pub mod List
 pub mod Found
 pub mod Night
 pub mod Log

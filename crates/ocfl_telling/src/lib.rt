@@ -10,6 +10,7 @@ mod found;
 mod gravest;
 mod known;
 pub mod laws;
+mod list;
 mod log;
 mod night;
 mod refusal;
@@ -21,6 +22,7 @@ pub use closing::{Closing, Gone, Kind, closing_text};
 pub use found::{Found, FoundStop};
 pub use gravest::{Gravest, Kept, SHOWN};
 pub use known::{Entry, Known, Reach};
+pub use list::{KnownStop, read_known};
 pub use log::{
     ClosingRow, NightRow, RefusalRow, SliceRow, Stands, closing_line, night_line, refusal_line,
     slice_line,

@@ -4,9 +4,10 @@ use crate::tests::common::store::place_of;
 use ocfl_report::{Line, read_line};
 use ocfl_telling::laws::{all_findings_are_ordered, findings_have_weights};
 use ocfl_telling::{
-    Closing, ClosingRow, Entry, Found, FoundStop, Gone, Gravest, Kind, Known, Night, NightRow,
-    Reach, Refusal, RefusalRow, SliceRow, Stands, Stop, Weight, closing_line, closing_text,
-    night_line, night_text, refusal_line, refusal_text, slice_line, stop_text, weigh,
+    Closing, ClosingRow, Entry, Found, FoundStop, Gone, Gravest, Kind, Known, KnownStop, Night,
+    NightRow, Reach, Refusal, RefusalRow, SliceRow, Stands, Stop, Weight, closing_line,
+    closing_text, night_line, night_text, read_known, refusal_line, refusal_text, slice_line,
+    stop_text, weigh,
 };
 use std::alloc::Global;
 use std::test::Fail;
@@ -395,8 +396,8 @@ fn expect_rows(rt: &impl Runtime) -> Result<(), Fail> {
 
 const SLICE: &str =
     "{\"bytes\":8,\"cost\":4,\"cycle\":1,\"files\":6,\"lines\":7,\"night\":1700000000,\
-\"row\":\"slice\",\"run\":2,\"seconds\":9,\"spent\":5,\"stands\":\"after a\\\"\\\\/%0A\",\"status\":3,\
-\"time\":1700000001}\n";
+\"row\":\"slice\",\"run\":2,\"seconds\":9,\"spent\":5,\"stands\":\"after a\\\"\\\\/%0A\",\
+\"status\":3,\"time\":1700000001}\n";
 
 const CLOSING: &str = "{\"cycle\":3,\"findings\":4,\"gone\":7,\"left\":8,\"new\":5,\"night\":2,\
 \"repaired\":6,\"report\":\"/s/%C2%9B\",\"row\":\"closing\",\"time\":1,\"whole\":true}\n";
@@ -407,3 +408,62 @@ const REFUSAL: &str =
 const NIGHT_ROW: &str =
     "{\"cost\":18446744073709551615,\"findings\":5,\"night\":2,\"row\":\"night\",\
 \"runs\":3,\"seconds\":4,\"status\":0,\"time\":1}\n";
+
+/// A list, and how many entries it has.
+const LISTS: [(&str, usize); 8] = [
+    ("", 0),
+    ("# a remark\n\n#\n", 0),
+    ("E092\ta/b\tsha512 00 11\n", 1),
+    ("E092\ta/b\n", 1),
+    ("E072\ta/\n", 1),
+    ("E072\t./\n", 1),
+    ("E072\ta/\n# why\nE092\tb", 2),
+    ("E092\t%C3%A9/\n", 1),
+];
+
+#[test]
+fn lists_are_read(rt: HostRuntime) -> Result<(), Fail> {
+    let alloc = rt.alloc();
+    for (text, count) in LISTS {
+        let mut reader = text.as_bytes();
+        assert_eq!(rt;
+            read_known(alloc, &mut reader)?.entries.len(),
+            count,
+            "{text}"
+        );
+    }
+    let mut reader = b"E072\t./\nE092\ta\nE093\tb\tmd5 missing\n".as_slice();
+    let known = read_known(alloc, &mut reader)?;
+    for (line, wanted) in [
+        ("E072\tz/y\t-\n", true),
+        ("E092\ta\tx\n", true),
+        ("E092\ta/b\tx\n", false),
+        ("E093\tb\tmd5 missing\n", true),
+        ("E093\tb\tmd5 00 11\n", false),
+    ] {
+        assert_eq!(rt; known.names(&line_of(alloc, line)?), wanted, "{line}");
+    }
+    Ok(())
+}
+
+/// A list, and the number of its first line that names nothing.
+const BAD_LISTS: [(&str, usize); 8] = [
+    ("E999\ta\n", 1),
+    ("E092\n", 1),
+    ("E092\ta//\n", 1),
+    ("E092\t/a\n", 1),
+    ("#x\nE092 a\n", 2),
+    ("E092\ta\tb\tc\n", 1),
+    ("E092\ta/b\n\n x", 3),
+    ("E092\t%c3%a9\n", 1),
+];
+
+#[test]
+fn bad_lists_name_their_line(rt: HostRuntime) -> Result<(), Fail> {
+    for (text, line) in BAD_LISTS {
+        let mut reader = text.as_bytes();
+        let stop = read_known(rt.alloc(), &mut reader).err();
+        assert_eq!(rt; stop, Some(KnownStop::Line(line)), "{text}");
+    }
+    Ok(())
+}

@@ -1,0 +1,216 @@
+//! Reading a list of known findings from its text.
+ghost use Rattle.std.specs.Prelude.{◌≡◌, ◌≢◌, ◌⊎◌, ◌↔◌, ◌++◌, ◌∷◌, [], take, IfOk, IfErr, IfSome};
+ghost use Rattle.std.specs.Prelude.{IsNone, IsTrue, OnOk};
+ghost use Rattle.ocfl_tree.specs.Place.{Text as ModelText};
+ghost use Rattle.ocfl_report.specs.Line.{Line as ModelLine, line_of};
+ghost use Rattle.ocfl_report.specs.Text.{IsLineText};
+ghost use Rattle.ocfl_telling.specs.List.{HasFeed, IsEnded, IsEntry, IsKnownText, IsList};
+ghost use Rattle.ocfl_telling.specs.List.{IsRemark, IsRow};
+ghost use Rattle.ocfl_telling.specs.List.{KnownStopsRightly, Row as ModelRow, RowsStop, entries_of};
+ghost use Rattle.ocfl_telling.specs.List.{row_text};
+ghost use Rattle.ocfl_telling.specs.declared.known.Entry.{Entry as ModelEntry};
+
+use crate::known::{Entry, Known, Reach};
+use ocfl_report::{Line, LineStop, read_line, split_once};
+use std::alloc::{AllocError, Global};
+use std::io::{ErrorKind, Read};
+use thiserror::Error;
+
+/// How many bytes a list has at most.
+const MAX_BYTES: usize = 16_777_216;
+
+/// Why no list was read: too many bytes come first, and then the lines in their order.
+#[derive(Clone, Copy, Debug, PartialEq, Eq, Error)]
+pub enum KnownStop {
+    /// The first line, from 1, that names no findings and is no remark.
+    #[error("bad list of known findings: line {0}")]
+    Line(usize),
+    /// There are more than 16,777,216 bytes.
+    #[error("bad list of known findings: too long")]
+    Long,
+    /// The reader failed.
+    #[error("list of known findings failed")]
+    Read,
+    /// Memory was refused.
+    #[error("out of memory")]
+    Memory,
+}
+
+/// Reads a list from all the bytes of a reader. Each line is a report line; or a code, a tab and a
+/// path, for all findings of the code at that place; or the same with `/` behind the path, for
+/// those at and below it, where `./` is the whole root. A line that is empty or begins with `#` is
+/// a remark. The last line may lack its line feed.
+pub fn read_known<R: Read>(alloc: Global, reader: &mut R) -> Result<Known, KnownStop>
+    ensures known { IfOk result
+        (λ known. IfSome (R.remaining reader.old)
+        (λ bytes. IsKnownText bytes known.entries.items)) }
+    ensures refused { IfErr result
+        (λ stop. IfSome (R.remaining reader.old) (λ bytes. KnownStopsRightly bytes stop)) }
+{
+    let bytes = read_limited(alloc, reader)?;
+    read_text(alloc, bytes)
+}
+
+/// The list whose text the bytes are.
+fn read_text(alloc: Global, bytes: Vec<u8>) -> Result<Known, KnownStop>
+    ensures known { IfOk result (λ known. IsKnownText bytes.items known.entries.items) }
+    ensures refused { IfErr result (λ stop. KnownStopsRightly bytes.items stop) }
+{
+    if bytes.len() > MAX_BYTES {
+        return Err(KnownStop::Long);
+    }
+    let mut text = bytes;
+    if end_last_line(&mut text).is_err() {
+        return Err(KnownStop::Memory);
+    }
+    read_rows(alloc, text.as_slice())
+}
+
+/// Appends the line feed that the last line may lack.
+fn end_last_line(bytes: &mut Vec<u8>) -> Result<(), AllocError>
+    ensures { OnOk result (IsEnded bytes.old.items bytes.new.items) }
+{
+    if is_ended(bytes.as_slice()) {
+        return Ok(());
+    }
+    bytes.push(b'\n')?;
+    Ok(())
+}
+
+/// Whether there is no last line, or it has its line feed.
+fn is_ended(bytes: &[u8]) -> bool
+    ensures { IsTrue result ↔ ((bytes.now ≡ []) ⊎ HasFeed bytes.now) }
+{
+    if bytes.is_empty() {
+        return true;
+    }
+    match bytes.strip_suffix(b"\n") {
+        Some(_) => true,
+        None => false,
+    }
+}
+
+/// All the bytes of a reader, or the first of them, one more than a list can have.
+fn read_limited<R: Read>(alloc: Global, reader: &mut R) -> Result<Vec<u8>, KnownStop>
+    ensures bytes { IfOk result
+        (λ bytes. IfSome (R.remaining reader.old) (λ all. bytes.items ≡ take 16777217 all)) }
+    ensures stop { IfErr result
+        (λ stop. (stop ≡ KnownStop.Read) ⊎ (stop ≡ KnownStop.Memory)) }
+{
+    let mut bytes = Vec::new(alloc);
+    let mut limited = Read::take(reader, MAX_BYTES as u64 + 1);
+    match limited.read_to_end(&mut bytes) {
+        Ok(_) => Ok(bytes),
+        Err(error) if error.kind() == ErrorKind::OutOfMemory => Err(KnownStop::Memory),
+        Err(_) => Err(KnownStop::Read),
+    }
+}
+
+/// The list of these lines.
+fn read_rows(alloc: Global, bytes: &[u8]) -> Result<Known, KnownStop>
+    ensures known { IfOk result (λ known. IsList bytes.now known.entries.items) }
+    ensures refused { IfErr result (λ stop. RowsStop bytes.now stop) }
+{
+    let mut entries = Vec::new(alloc);
+    let mut rest = bytes;
+    for number in 1..usize::MAX {
+        if rest.is_empty() {
+            return Ok(Known { entries });
+        }
+        match take_row(alloc, rest, &mut entries) {
+            Ok(after) => rest = after,
+            Err(LineStop::Bad) => return Err(KnownStop::Line(number)),
+            Err(LineStop::Memory) => return Err(KnownStop::Memory),
+        }
+    }
+    Err(KnownStop::Memory)
+}
+
+/// Takes the first line. Gives what follows it.
+fn take_row<'a>(
+    alloc: Global,
+    text: &'a [u8],
+    entries: &mut Vec<Entry>,
+) -> Result<&'a [u8], LineStop>
+    ensures ok { IfOk result (λ after. (row : ModelRow) × IsRow row
+        × (text.now ≡ row_text row ++ after.now)
+        × (entries.new.items ≡ entries.old.items ++ entries_of (row ∷ []))) }
+    ensures bad { result ≡ Err LineStop.Bad
+        → (row : ModelRow) (after : ModelText) → IsRow row → text.now ≢ row_text row ++ after }
+{
+    let Some((row, after)) = split_once(text, b'\n') else {
+        return Err(LineStop::Bad);
+    };
+    if is_remark(row) {
+        return Ok(after);
+    }
+    let entry = match read_entry(alloc, row) {
+        Ok(Some(entry)) => entry,
+        Ok(None) => return Err(LineStop::Bad),
+        Err(_) => return Err(LineStop::Memory),
+    };
+    put_entry(entry, entries)?;
+    Ok(after)
+}
+
+fn put_entry(entry: Entry, entries: &mut Vec<Entry>) -> Result<(), AllocError>
+    ensures { OnOk result (entries.new.items ≡ entries.old.items ++ entry ∷ []) }
+{
+    entries.push(entry)?;
+    Ok(())
+}
+
+/// Whether a line is a remark.
+fn is_remark(row: &[u8]) -> bool
+    ensures { IsTrue result ↔ IsRemark row.now }
+{
+    match row.first() {
+        Some(first) => *first == b'#',
+        None => true,
+    }
+}
+
+/// What a line names, and `None` where it names nothing.
+fn read_entry(alloc: Global, row: &[u8]) -> Result<Option<Entry>, AllocError>
+    ensures found { IfOk result (λ o. IfSome o (IsEntry row.now)) }
+    ensures missing { IfOk result
+        (λ o. IsNone o → (e : ModelEntry) → IsEntry row.now e → ⊥) }
+{
+    if let Some(line) = read_as(alloc, row, b"\n")? {
+        return Ok(Some(entry_of(Reach::One, line)));
+    }
+    if let Some(line) = read_as(alloc, row, b"\t-\n")? {
+        return Ok(Some(entry_of(Reach::Place, line)));
+    }
+    let Some(path) = row.strip_suffix(b"/") else {
+        return Ok(None);
+    };
+    match read_as(alloc, path, b"\t-\n")? {
+        Some(line) => Ok(Some(entry_of(Reach::Branch, line))),
+        None => Ok(None),
+    }
+}
+
+/// An entry.
+fn entry_of(reach: Reach, line: Line) -> Entry
+    ensures reach { result.reach ≡ reach }
+    ensures line { result.line ≡ line }
+{
+    Entry { reach, line }
+}
+
+/// The report line whose text this is with these bytes behind it, and `None` where there is none.
+fn read_as(alloc: Global, text: &[u8], end: &[u8]) -> Result<Option<Line>, AllocError>
+    ensures found { IfOk result
+        (λ o. IfSome o (λ line. IsLineText (text.now ++ end.now) (line_of line))) }
+    ensures missing { IfOk result
+        (λ o. IsNone o → (l : ModelLine) → IsLineText (text.now ++ end.now) l → ⊥) }
+{
+    let mut whole = Vec::from_slice(alloc, text)?;
+    whole.extend_from_slice(end)?;
+    match read_line(alloc, whole.as_slice()) {
+        Ok(line) => Ok(Some(line)),
+        Err(LineStop::Bad) => Ok(None),
+        Err(LineStop::Memory) => Err(AllocError),
+    }
+}

@@ -1,0 +1,136 @@
+-- Chains of runs, and the closed reports.
+use Rattle.std.proofs.Common.{◌≡◌, ◌≢◌, ◌⊎◌, inl, inr, ℕ, ◌+◌, ◌≤◌, List, [], ◌∷◌, ◌++◌, Option, Some, None, refl, sym, ◌∙◌, ap, subst, arith, Bool, true, false, ◌||◌, ◌==◌, take}
+use Rattle.std.proofs.lemmas.List.{append-nil, take_all}
+use Rattle.std.proofs.lemmas.Bool.{eq-eqb}
+use Rattle.std.proofs.lemmas.Bool.Decides.{eqb_tells}
+use Rattle.std.proofs.lemmas.List.Concat.{flat_map-append}
+use Rattle.ocfl_tree.specs.Place.{Text, Place}
+use Rattle.ocfl_tree.specs.StorageRoot.{StorageRoot}
+use Rattle.ocfl_audit.specs.Parts.{Part}
+use Rattle.ocfl_audit.specs.Runs.{Limits}
+use Rattle.ocfl_cursor.specs.Cursor.{Cursor, State, ended}
+use Rattle.ocfl_cursor.specs.Moves.{after_run}
+use Rattle.ocfl_scrub.specs.Call.{Call}
+use Rattle.ocfl_scrub.specs.Running.{place_in, begun, begun_in, state_after, RunEndsWithin, RunsFromWithin}
+use Rattle.ocfl_scrub.specs.Joining.{PartRun, Ran}
+use Rattle.ocfl_scrub.specs.declared.running.RunEnd.{RunEnd}
+use Rattle.ocfl_scrub.specs.declared.running.RunStatus.{RunStatus}
+use Rattle.ocfl_scrub.specs.declared.running.RunStatus.TheVariants as status
+use Rattle.ocfl_state.specs.Content.{Closed, is_closed}
+use Rattle.ocfl_night.specs.Chain.{RootRun, joined, LeadTo, EndAt, IsWholeReport, AreClosed}
+use Rattle.ocfl_night.specs.Sound.{closed_text}
+
+-- a beginning of nothing
+abbrev pub nothing : Text
+nothing = []
+
+pub take_nothing : (n : ℕ) → take n nothing ≡ nothing
+take_nothing n = take_all n nothing (omega arith)
+
+-- ---- a run more
+
+pub lead_on : (part : Part) (c e : Cursor) (runs : List RootRun) (r : RootRun) → LeadTo part c runs e → Ran r.root part e r.run → r.run.ran.end ≢ status.Ended → LeadTo part c (runs ++ r ∷ []) r.run.ran.cursor
+lead_on part c e [] r chain made goes = (subst (λ (x : Cursor). Ran r.root part x r.run) chain made, goes, refl)
+lead_on part c e (q ∷ runs) r chain made goes = (chain.0, chain.1, lead_on part q.run.ran.cursor e runs r chain.2 made goes)
+
+pub end_on : (part : Part) (c e : Cursor) (runs : List RootRun) (r : RootRun) → LeadTo part c runs e → Ran r.root part e r.run → r.run.ran.end ≡ status.Ended → EndAt part c (runs ++ r ∷ []) r.run.ran.cursor
+end_on part c e [] r chain made ends = (subst (λ (x : Cursor). Ran r.root part x r.run) chain made, ends, refl)
+end_on part c e (q ∷ []) r chain made ends = (chain.0, chain.1, end_on part q.run.ran.cursor e [] r chain.2 made ends)
+end_on part c e (q ∷ p ∷ runs) r chain made ends = (chain.0, chain.1, end_on part q.run.ran.cursor e (p ∷ runs) r chain.2 made ends)
+
+pub joined_on : (runs : List RootRun) (r : RootRun) → joined (runs ++ r ∷ []) ≡ joined runs ++ r.run.report
+joined_on runs r =
+    flat_map-append (λ (x : RootRun). x.run.report) runs (r ∷ []) ∙ ap (λ (l : Text). joined runs ++ l) (append-nil r.run.report)
+
+-- ---- cursors
+
+-- the cursor that a run left
+pub left_by_run : (root : StorageRoot) (part : Part) (c : Cursor) (r : PartRun) → Ran root part c r
+    → (last : Option Place) × (r.ran.cursor ≡ after_run (begun c) r.ran.spent r.ran.files (state_after r.ran.end last))
+left_by_run root part c r made = (made.runs.last, made.runs.cursor_is)
+
+cycle_after : (b x : Cursor) (spent files : ℕ) (end : RunStatus) (last : Option Place) → end ≢ status.Ended → x ≡ after_run b spent files (state_after end last) → (begun x).cycle ≡ b.cycle
+cycle_after b x spent files status.Ended last goes is = absurd (goes refl)
+cycle_after b x spent files status.Spent None goes is = ap (λ (y : Cursor). (begun y).cycle) is
+cycle_after b x spent files status.Spent (Some p) goes is = ap (λ (y : Cursor). (begun y).cycle) is
+cycle_after b x spent files (status.Stopped why) None goes is = ap (λ (y : Cursor). (begun y).cycle) is
+cycle_after b x spent files (status.Stopped why) (Some p) goes is = ap (λ (y : Cursor). (begun y).cycle) is
+cycle_after b x spent files status.Worn None goes is = ap (λ (y : Cursor). (begun y).cycle) is
+cycle_after b x spent files status.Worn (Some p) goes is = ap (λ (y : Cursor). (begun y).cycle) is
+
+-- a run that does not end the cycle stays in it
+pub same_cycle : (root : StorageRoot) (part : Part) (c : Cursor) (r : PartRun) → Ran root part c r → r.ran.end ≢ status.Ended → (begun r.ran.cursor).cycle ≡ (begun c).cycle
+same_cycle root part c r made goes =
+    let left = left_by_run root part c r made in
+    cycle_after (begun c) r.ran.cursor r.ran.spent r.ran.files r.ran.end left.0 goes left.1
+
+-- the run that ends the cycle
+pub ended_cursor : (root : StorageRoot) (part : Part) (c : Cursor) (r : PartRun) → Ran root part c r → r.ran.end ≡ status.Ended → (r.ran.cursor.state ≡ ended) × (r.ran.cursor.cycle ≡ (begun c).cycle)
+ended_cursor root part c r made is =
+    let left = left_by_run root part c r made in
+    (ap (λ (y : Cursor). y.state) left.1 ∙ ap (λ (e : RunStatus). state_after e left.0) is, ap (λ (y : Cursor). y.cycle) left.1)
+
+pub next_cycle_begun : (c : Cursor) → c.state ≡ ended → (begun c).cycle ≡ c.cycle + 1
+next_cycle_begun c is = subst (λ (s : State). (begun_in c s).cycle ≡ c.cycle + 1) (sym is) refl
+
+-- ---- the store's tree
+
+module _ (call : Call) (part : Part) where
+  tree_by : (from last : Option Place) (limits : Limits) (spent files : ℕ) (finding : Bool) (end : RunStatus) → RunEndsWithin call part from last limits spent files finding end → call.after.tree ≡ call.root
+  tree_by from last limits spent files finding status.Ended run = run.looks.audits.did.tree ∙ run.looks.audits.over
+  tree_by from last limits spent files finding status.Spent run = run.1.looks.audits.did.tree ∙ run.1.looks.audits.over
+  tree_by from last limits spent files finding (status.Stopped why) run = run.looks.fails.did.tree ∙ run.looks.fails.over
+  tree_by from last limits spent files finding status.Worn run = absurd run
+
+  -- a run leaves the store's tree as it was
+  pub tree_after : (c : Cursor) (limits : Limits) (ran : RunEnd) → RunsFromWithin call part c limits ran → call.after.tree ≡ call.root
+  tree_after c limits ran runs = tree_by (place_in c.state) runs.last limits ran.spent ran.files ran.found ran.end runs.run
+
+-- ---- closed reports
+
+pub closed_up : (part : Part) (n next : ℕ) (closed : List Closed) → AreClosed part n closed next → n ≤ next
+closed_up part n next [] are = omega (arith, are)
+closed_up part n next (d ∷ closed) are = let more = closed_up part (n + 1) next closed are.2 in omega (arith, more)
+
+pub closed_on : (part : Part) (n next : ℕ) (closed : List Closed) (d : Closed) → AreClosed part n closed next → d.cycle ≡ next → (d.whole ≡ true → IsWholeReport part d) → AreClosed part n (closed ++ d ∷ []) (next + 1)
+closed_on part n next [] d are cycle whole = (cycle ∙ are, whole, ap (λ (x : ℕ). x + 1) are)
+closed_on part n next (x ∷ closed) d are cycle whole = (are.0, are.1, closed_on part (n + 1) next closed d are.2 cycle whole)
+
+differs : (a b : ℕ) → (a ≡ b → ⊥) → (a == b) ≡ false
+differs a b other = by (eqb_tells a b)
+  where
+    by : (((a == b) ≡ true) × (a ≡ b)) ⊎ (((a == b) ≡ false) × (a ≢ b)) → (a == b) ≡ false
+    by (inl w) = absurd (other w.1)
+    by (inr w) = w.0
+
+or_false : (a b : Bool) → a ≡ false → b ≡ false → (a || b) ≡ false
+or_false a b p q = ap (λ (x : Bool). x || b) p ∙ q
+
+or_left : (a b : Bool) → a ≡ true → (a || b) ≡ true
+or_left a b p = ap (λ (x : Bool). x || b) p
+
+or_true : (a b : Bool) → b ≡ true → (a || b) ≡ true
+or_true true b q = refl
+or_true false b q = q
+
+-- no report of a later cycle is closed
+pub not_closed : (part : Part) (n next cycle : ℕ) (closed : List Closed) → AreClosed part n closed next → next ≤ cycle → is_closed closed cycle ≡ false
+not_closed part n next cycle [] are le = refl
+not_closed part n next cycle (d ∷ closed) are le =
+    let up = closed_up part (n + 1) next closed are.2 in
+    let other : (d.cycle ≡ cycle → ⊥) = λ is. omega (arith, is, are.0, up, le) in
+    or_false (d.cycle == cycle) (is_closed closed cycle) (differs d.cycle cycle other) (not_closed part (n + 1) next cycle closed are.2 le)
+
+-- that of the last cycle is
+pub last_closed : (part : Part) (n last : ℕ) (closed : List Closed) → AreClosed part n closed (last + 1) → n ≤ last → is_closed closed last ≡ true
+last_closed part n last [] are le = absurd (omega (arith, are, le))
+last_closed part n last (d ∷ []) are le =
+    let same : d.cycle ≡ last = omega (arith, are.0, are.2) in
+    or_left (d.cycle == last) false (eq-eqb d.cycle last same)
+last_closed part n last (d ∷ e ∷ closed) are le =
+    let up = closed_up part (n + 1 + 1) (last + 1) closed are.2.2 in
+    or_true (d.cycle == last) (is_closed (e ∷ closed) last) (last_closed part (n + 1) last (e ∷ closed) are.2 (omega (arith, up)))
+
+pub closed_text_on : (closed : List Closed) (d : Closed) → closed_text (closed ++ d ∷ []) ≡ closed_text closed ++ d.report
+closed_text_on closed d =
+    flat_map-append (λ (x : Closed). x.report) closed (d ∷ []) ∙ ap (λ (l : Text). closed_text closed ++ l) (append-nil d.report)

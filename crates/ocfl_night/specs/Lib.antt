@@ -1,0 +1,5 @@
+pub mod Mark
+pub mod Chain
+pub mod Sound
+pub mod Steps
+pub mod Nights

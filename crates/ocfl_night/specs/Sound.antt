@@ -1,0 +1,158 @@
+-- What nights keep true of a state folder's bytes, at every moment.
+use Rattle.std.specs.Prelude.{◌≡◌, ◌⊎◌, ℕ, ◌+◌, ◌≤◌, List, [], ◌∷◌, ◌++◌, length, take, true, Option, Some, None, MatchOption, flat_map}
+use Rattle.std.specs.Io.KnownBytes.{Appends}
+use Rattle.ocfl_tree.specs.Place.{Text}
+use Rattle.ocfl_audit.specs.Parts.{Part}
+use Rattle.ocfl_cursor.specs.Cursor.{Cursor, ended}
+use Rattle.ocfl_scrub.specs.Running.{place_in, begun}
+use Rattle.ocfl_state.specs.Content.{Content, Closed}
+use Rattle.ocfl_state.specs.Crash.{Outcomes, Begins, Only}
+use Rattle.ocfl_night.specs.Mark.{IsTextOf}
+use Rattle.ocfl_night.specs.Chain.{RootRun, joined, LeadTo, EndAt, AreClosed}
+use Rattle.ocfl_night.specs.declared.shape.Mark.{Mark}
+use Rattle.ocfl_night.specs.declared.shape.Phase.TheVariants.{Open, Closing}
+
+-- the closed reports, joined
+abbrev pub closed_text : List Closed → Text
+closed_text closed = flat_map (λ d. d.report) closed
+
+-- The cycle goes on: a chain of runs leads to the checkpoint's cursor. The report begins with as
+-- many bytes as the checkpoint says, and where nothing was lost these are what the runs wrote. Of
+-- all the reports t was told.
+pub record IsOpen (part : Part) (t : Text) (k : Mark) (c : Content) : Type 0 where
+  pub phase : k.phase ≡ Open
+  pub first : Cursor
+  pub runs : List RootRun
+  pub starts : place_in first.state ≡ None
+  pub chain : LeadTo part first runs k.cursor
+  pub text : Text
+  pub bytes : k.bytes ≡ length text
+  pub begins : Begins text c.report
+  pub is_whole : k.whole ≡ true → text ≡ joined runs
+  pub told : k.told ≤ k.bytes
+  pub told_is : t ≡ closed_text c.closed ++ take k.told text
+  pub earlier : AreClosed part 1 c.closed (begun k.cursor).cycle
+
+-- the cycle has ended, and its report is to be closed
+pub record IsClosing (part : Part) (t : Text) (k : Mark) (c : Content) : Type 0 where
+  pub phase : k.phase ≡ Closing
+  pub first : Cursor
+  pub runs : List RootRun
+  pub starts : place_in first.state ≡ None
+  pub chain : EndAt part first runs k.cursor
+  pub ends : k.cursor.state ≡ ended
+  pub bytes : k.bytes ≡ length c.report
+  pub is_whole : k.whole ≡ true → c.report ≡ joined runs
+  pub told : k.told ≤ k.bytes
+  pub told_is : t ≡ closed_text c.closed ++ take k.told c.report
+  pub earlier : AreClosed part 1 c.closed k.cursor.cycle
+
+-- it is closed, and all of it was told
+pub record IsMoved (part : Part) (t : Text) (k : Mark) (c : Content) : Type 0 where
+  pub phase : k.phase ≡ Closing
+  pub ends : k.cursor.state ≡ ended
+  pub counted : 1 ≤ k.cursor.cycle
+  pub report : c.report ≡ []
+  pub told : k.told ≡ k.bytes
+  pub told_is : t ≡ closed_text c.closed
+  pub earlier : AreClosed part 1 c.closed (k.cursor.cycle + 1)
+
+abbrev pub Stands : Part → Text → Mark → Content → Type 0
+Stands part t k c = IsOpen part t k c ⊎ (IsClosing part t k c ⊎ IsMoved part t k c)
+
+-- no night was there
+pub record IsNew (t : Text) (c : Content) : Type 0 where
+  pub report : c.report ≡ []
+  pub closed : c.closed ≡ []
+  pub told_is : t ≡ []
+
+-- these are the text of a checkpoint, and the report and the closed ones are as it says
+pub record IsMarked (part : Part) (t : Text) (bytes : List ℕ) (c : Content) : Type 0 where
+  pub mark : Mark
+  pub is : IsTextOf bytes mark
+  pub stands : Stands part t mark c
+
+-- a content is as nights over a part leave it, which have told this text
+abbrev pub IsSoundAt : Part → Text → Content → Type 0
+IsSoundAt part t c = MatchOption c.checkpoint (IsNew t c) (λ bytes. IsMarked part t bytes c)
+
+abbrev pub IsSound : Part → Content → Type 0
+IsSound part c = (t : Text) × IsSoundAt part t c
+
+-- a crash now leaves a sound content
+abbrev pub IsKept : {F : Type 0} → (F → Outcomes) → Part → F → Type 0
+IsKept may_leave part folder = (c : Content) → may_leave folder c → IsSound part c
+
+-- the checkpoint is this one
+pub record IsAt (k : Mark) (c : Content) : Type 0 where
+  pub bytes : List ℕ
+  pub is : c.checkpoint ≡ Some bytes
+  pub text : IsTextOf bytes k
+
+-- the folder is at this checkpoint, and all that is read is on the disk
+pub record IsSettled {F : Type 0} (seen : F → Content) (may_leave : F → Outcomes) (part : Part) (t : Text) (k : Mark) (folder : F) : Type 0 where
+  pub at : IsAt k (seen folder)
+  pub stands : Stands part t k (seen folder)
+  pub only : Only (seen folder) (may_leave folder)
+
+-- the same, and the report of a cycle that goes on has no more than the checkpoint says
+pub record IsReady {F : Type 0} (seen : F → Content) (may_leave : F → Outcomes) (part : Part) (t : Text) (k : Mark) (folder : F) : Type 0 where
+  pub at : IsAt k (seen folder)
+  pub stands : Stands part t k (seen folder)
+  pub exact : k.phase ≡ Open → length (seen folder).report ≡ k.bytes
+  pub only : Only (seen folder) (may_leave folder)
+
+-- ---- what an output heard
+
+-- what was told is t and more, and an output took all of the more since then
+pub record IsHeard (part : Part) (t : Text) (old new : Option Text) (c : Content) : Type 0 where
+  pub more : Text
+  pub sound : IsSoundAt part (t ++ more) c
+  pub others : Text
+  pub took : Appends old new (more ++ others)
+
+-- a folder is ready, with t and more told, and that is what an output took since then
+pub record IsHeardReady {F : Type 0} (seen : F → Content) (may_leave : F → Outcomes) (part : Part) (t : Text) (old new : Option Text) (k : Mark) (folder : F) : Type 0 where
+  pub more : Text
+  pub ready : IsReady seen may_leave part (t ++ more) k folder
+  pub took : Appends old new more
+
+-- what one of these outcomes told is told still
+pub record IsFound (part : Part) (outcomes : Outcomes) (c : Content) : Type 0 where
+  pub from : Content
+  pub was : outcomes from
+  pub t : Text
+  pub before : IsSoundAt part t from
+  pub now : IsSoundAt part t c
+
+-- a folder is ready, with what one of these outcomes told
+pub record IsFoundReady {F : Type 0} (seen : F → Content) (may_leave : F → Outcomes) (part : Part) (outcomes : Outcomes) (k : Mark) (folder : F) : Type 0 where
+  pub from : Content
+  pub was : outcomes from
+  pub t : Text
+  pub before : IsSoundAt part t from
+  pub ready : IsReady seen may_leave part t k folder
+
+-- what one of these outcomes told is told still, and more than that only if an output took it
+pub record IsHeardSince (part : Part) (outcomes : Outcomes) (old new : Option Text) (c : Content) : Type 0 where
+  pub from : Content
+  pub was : outcomes from
+  pub t : Text
+  pub before : IsSoundAt part t from
+  pub heard : IsHeard part t old new c
+
+-- a folder is ready, with what one of these outcomes told and what an output took since then
+pub record IsReadySince {F : Type 0} (seen : F → Content) (may_leave : F → Outcomes) (part : Part) (outcomes : Outcomes) (old new : Option Text) (k : Mark) (folder : F) : Type 0 where
+  pub from : Content
+  pub was : outcomes from
+  pub t : Text
+  pub before : IsSoundAt part t from
+  pub heard : IsHeardReady seen may_leave part t old new k folder
+
+-- ---- the closed reports
+
+-- they are those of the cycles up to this one; before there was one less, or a crash had come right
+-- after the last one was closed, and there were as many
+pub record IsOneMore (part : Part) (cycle : ℕ) (old new : List Closed) : Type 0 where
+  pub now : AreClosed part 1 new (cycle + 1)
+  pub before : (new ≡ old) ⊎ ((d : Closed) × (new ≡ old ++ d ∷ []))

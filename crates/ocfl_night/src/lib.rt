@@ -1,0 +1,19 @@
+//! The steps of a night, which takes up what the last one left, ended or crashed, and closes the
+//! report of a cycle that has ended; and what holds of any nights.
+#![tactic(auto)]
+
+mod closing;
+mod codec;
+mod laws;
+mod mark;
+mod opening;
+mod reports;
+mod shape;
+mod stop;
+
+pub use closing::finish;
+pub use laws::{a_whole_report_is_the_audit, nights_are_sound, what_was_told_was_taken};
+pub use mark::{look, put_mark};
+pub use opening::open;
+pub use shape::{Mark, Phase};
+pub use stop::Stop;

@@ -5,3 +5,5 @@ pub mod Sound
 pub mod Heard
 pub mod AnyNights
 pub mod TakingUp
+pub mod Pieces
+pub mod Extending

@@ -8,12 +8,16 @@ mod laws;
 mod mark;
 mod opening;
 mod reports;
+mod saying;
 mod shape;
+mod slicing;
 mod stop;
 
 pub use closing::finish;
 pub use laws::{a_whole_report_is_the_audit, nights_are_sound, what_was_told_was_taken};
 pub use mark::{look, put_mark};
 pub use opening::open;
+pub use saying::speak;
 pub use shape::{Mark, Phase};
+pub use slicing::{Made, slice};
 pub use stop::Stop;

@@ -1,0 +1,144 @@
+//! Saying what was not said.
+ghost use Rattle.std.specs.Prelude.{◌≡◌, ◌-◌, ◌≤◌, IfOk, IsTrue, OnOk, take, drop, List, ℕ};
+ghost use Rattle.std.specs.Io.KnownBytes.{Appends, Keeps};
+ghost use Rattle.ocfl_audit.specs.Parts.{Part};
+ghost use Rattle.ocfl_tree.specs.Place.{Text};
+ghost use Rattle.ocfl_state.specs.Crash.{LeavesOnly, Passes, Same};
+ghost use Rattle.ocfl_night.specs.Sound.{IsHeard, IsHeardReady, IsReady};
+ghost use Rattle.ocfl_night.specs.Steps.{IsAllTold};
+
+use crate::mark::put_mark;
+use crate::shape::Mark;
+use crate::stop::Stop;
+use ocfl_report::write_all_of;
+use ocfl_state::StateFolder;
+use std::alloc::Global;
+use std::io::Write;
+
+// How many bytes are read at once.
+const PIECE: usize = 8_192;
+
+/// Says a piece of the report that begins at an offset, and gives how many bytes that were: 1 to
+/// the most that are asked for. `Short` where the report has no more.
+fn say_piece<S: StateFolder, W: Write>(
+    folder: &mut S,
+    out: &mut W,
+    start: u64,
+    most: u64,
+) -> Result<u64, Stop>
+    requires { 1 ≤ most }
+    ensures some { IfOk result (λ count. (1 ≤ count) × (count ≤ most)) }
+    ensures said { IsTrue S.told → IfOk result (λ count. Appends (W.contents out.old)
+        (W.contents out.new) (take count (drop start (S.seen folder.old).report))) }
+    ensures grew { (more : List ℕ) × Appends (W.contents out.old) (W.contents out.new) more }
+    ensures seen { IsTrue S.told → S.seen folder.new ≡ S.seen folder.old }
+    ensures crash { IsTrue S.told
+        → Passes S.may_leave S.moment S.left_since Same folder.old folder.new }
+{
+    let mut piece = [0; PIECE];
+    let count = folder.read(start, &mut piece)?;
+    if count == 0 {
+        return Err(Stop::Short);
+    }
+    let told = (count as u64).min(most);
+    match write_all_of(out, &piece[..told as usize]) {
+        Ok(()) => Ok(told),
+        Err(_) => Err(Stop::Output),
+    }
+}
+
+/// Says the report's bytes from one offset to another.
+fn say_between<S: StateFolder, W: Write>(
+    folder: &mut S,
+    out: &mut W,
+    start: u64,
+    end: u64,
+) -> Result<(), Stop>
+    requires { start ≤ end }
+    ensures said { IsTrue S.told → OnOk result (Appends (W.contents out.old)
+        (W.contents out.new) (take (end - start) (drop start (S.seen folder.old).report))) }
+    ensures grew { (more : List ℕ) × Appends (W.contents out.old) (W.contents out.new) more }
+    ensures seen { IsTrue S.told → S.seen folder.new ≡ S.seen folder.old }
+    ensures crash { IsTrue S.told
+        → Passes S.may_leave S.moment S.left_since Same folder.old folder.new }
+{
+    let mut at = start;
+    while at < end {
+        at += say_piece(folder, out, at, end - at)?;
+    }
+    Ok(())
+}
+
+/// Flushes an output.
+fn flush<W: Write>(out: &mut W) -> Result<(), Stop>
+    ensures { Keeps (W.contents out.old) (W.contents out.new) }
+{
+    match out.flush() {
+        Ok(()) => Ok(()),
+        Err(_) => Err(Stop::Output),
+    }
+}
+
+/// Says the report's bytes from one offset to another, and flushes the output.
+fn say<S: StateFolder, W: Write>(
+    folder: &mut S,
+    out: &mut W,
+    start: u64,
+    end: u64,
+) -> Result<(), Stop>
+    requires { start ≤ end }
+    ensures said { IsTrue S.told → OnOk result (Appends (W.contents out.old)
+        (W.contents out.new) (take (end - start) (drop start (S.seen folder.old).report))) }
+    ensures grew { (more : List ℕ) × Appends (W.contents out.old) (W.contents out.new) more }
+    ensures seen { IsTrue S.told → S.seen folder.new ≡ S.seen folder.old }
+    ensures crash { IsTrue S.told
+        → Passes S.may_leave S.moment S.left_since Same folder.old folder.new }
+{
+    say_between(folder, out, start, end)?;
+    flush(out)
+}
+
+/// Says what was not said of the report, and then puts a checkpoint that says so.
+pub fn speak<S: StateFolder, W: Write>(
+    alloc: Global,
+    folder: &mut S,
+    out: &mut W,
+    mark: Mark,
+) -> Result<Mark, Stop>
+    ensures heard { IsTrue S.told → (part : Part) (t : Text)
+        → IsReady S.seen S.may_leave part t mark folder.old
+        → LeavesOnly S.moment S.left_since folder.old folder.new
+        (IsHeard part t (W.contents out.old) (W.contents out.new)) }
+    ensures ready { IsTrue S.told → (part : Part) (t : Text)
+        → IsReady S.seen S.may_leave part t mark folder.old
+        → IfOk result (λ next. IsHeardReady S.seen S.may_leave part t
+        (W.contents out.old) (W.contents out.new) next folder.new) }
+    ensures all { IfOk result (λ next. IsAllTold mark next) }
+    ensures grew { (more : List ℕ) × Appends (W.contents out.old) (W.contents out.new) more }
+    ensures closed { IsTrue S.told → OnOk result
+        ((S.seen folder.new).closed ≡ (S.seen folder.old).closed) }
+{
+    if mark.told == mark.bytes {
+        return Ok(mark);
+    }
+    if mark.told > mark.bytes {
+        return Err(Stop::Damaged);
+    }
+    say(folder, out, mark.told, mark.bytes)?;
+    let Mark {
+        phase,
+        whole,
+        bytes,
+        told: _,
+        cursor,
+    } = mark;
+    let next = Mark {
+        phase,
+        whole,
+        bytes,
+        told: bytes,
+        cursor,
+    };
+    put_mark(alloc, folder, &next)?;
+    Ok(next)
+}

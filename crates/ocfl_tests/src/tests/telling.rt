@@ -422,7 +422,7 @@ const LISTS: [(&str, usize); 8] = [
 ];
 
 #[test]
-fn lists_are_read(rt: HostRuntime) -> Result<(), Fail> {
+fn lists_of_known_findings_are_read(rt: HostRuntime) -> Result<(), Fail> {
     let alloc = rt.alloc();
     for (text, count) in LISTS {
         let mut reader = text.as_bytes();

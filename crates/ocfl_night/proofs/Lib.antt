@@ -7,3 +7,4 @@ pub mod AnyNights
 pub mod TakingUp
 pub mod Pieces
 pub mod Extending
+pub mod Clocks

@@ -3,3 +3,4 @@ pub mod Chain
 pub mod Sound
 pub mod Steps
 pub mod Nights
+pub mod Clock

@@ -11,6 +11,7 @@ mod identity;
 mod inventory;
 mod item;
 mod line;
+mod night;
 mod parts;
 mod report;
 mod scope;

@@ -1,7 +1,8 @@
 -- What an output heard.
-use Rattle.std.proofs.Common.{◌≡◌, inl, inr, ℕ, [], ◌++◌, length, Option, sym, ◌∙◌, ap, subst, append_assoc}
+use Rattle.std.proofs.Common.{◌≡◌, inl, inr, ℕ, [], ◌++◌, length, Option, sym, ◌∙◌, ap, subst, append_assoc, Result, Ok, Err}
 use Rattle.std.proofs.KnownBytes.{Appends-nil, Appends-trans}
 use Rattle.std.proofs.lemmas.List.{append-nil}
+use Rattle.std.specs.Result.{IsOk, OnOk}
 use Rattle.std.specs.Io.KnownBytes.{Appends}
 use Rattle.ocfl_tree.specs.Place.{Text}
 use Rattle.ocfl_audit.specs.Parts.{Part}
@@ -127,3 +128,8 @@ since_sound part outcomes s0 s1 c h = (h.t ++ h.heard.more, h.heard.sound)
 
 pub kept_found : (part : Part) (outcomes : Outcomes) (c : Content) → ((d : Content) → outcomes d → IsSound part d) → outcomes c → IsFound part outcomes c
 kept_found part outcomes c kept was = let s = kept c was in record { from = c; was = was; t = s.0; before = s.1; now = s.1 }
+
+-- what holds if there is a value, where there is one
+pub on_ok : {T E P : Type 0} (r : Result T E) → IsOk r → OnOk r P → P
+on_ok (Ok x) ok p = p
+on_ok (Err e) ok p = absurd (cc ok)

@@ -102,6 +102,12 @@ pub record IsReady {F : Type 0} (seen : F → Content) (may_leave : F → Outcom
   pub exact : k.phase ≡ Open → length (seen folder).report ≡ k.bytes
   pub only : Only (seen folder) (may_leave folder)
 
+-- all of its report is said
+pub record IsAllSaid (c : Content) : Type 0 where
+  pub mark : Mark
+  pub at : IsAt mark c
+  pub all : mark.told ≡ mark.bytes
+
 -- ---- what an output heard
 
 -- what was told is t and more, and an output took all of the more since then

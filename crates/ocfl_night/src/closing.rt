@@ -3,7 +3,7 @@ ghost use Rattle.std.specs.Prelude.{◌≡◌, IfOk, IfSome, IsTrue, OnOk};
 ghost use Rattle.ocfl_audit.specs.Parts.{Part};
 ghost use Rattle.ocfl_tree.specs.Place.{Text};
 ghost use Rattle.ocfl_state.specs.Crash.{LeavesOnly, Only, Passes};
-ghost use Rattle.ocfl_night.specs.Sound.{IsOneMore, IsReady, IsSoundAt};
+ghost use Rattle.ocfl_night.specs.Sound.{IsAllSaid, IsOneMore, IsReady, IsSoundAt};
 ghost use Rattle.ocfl_night.specs.Steps.{IsMoveDone, MayMoveAt};
 ghost use Rattle.ocfl_night.specs.declared.shape.Phase.TheVariants.{Closing};
 
@@ -43,6 +43,7 @@ fn close<S: StateFolder>(alloc: Global, folder: &mut S, mark: Mark) -> Result<Ma
         → IsReady S.seen S.may_leave part t mark folder.old
         → OnOk result (IsOneMore part mark.cursor.cycle
         (S.seen folder.old).closed (S.seen folder.new).closed) }
+    ensures all { IfOk result (λ next. next.told ≡ next.bytes) }
 {
     if mark.told != mark.bytes {
         return Err(Stop::Unsaid);
@@ -79,6 +80,9 @@ pub fn finish<S: StateFolder>(
         → IsReady S.seen S.may_leave part t mark folder.old
         → IfOk result (λ ended. IfSome ended (λ cycle. IsOneMore part cycle
         (S.seen folder.old).closed (S.seen folder.new).closed)) }
+    ensures said { IsTrue S.told → (part : Part) (t : Text)
+        → IsReady S.seen S.may_leave part t mark folder.old
+        → mark.told ≡ mark.bytes → OnOk result (IsAllSaid (S.seen folder.new)) }
 {
     match mark.phase {
         Phase::Open => Ok(None),

@@ -1,5 +1,5 @@
 //! A night.
-ghost use Rattle.std.specs.Prelude.{◌≡◌, ◌≢◌, ◌+◌, ◌≤◌, IfOk, IsTrue, List, Ok, OnOk, Some, ℕ};
+ghost use Rattle.std.specs.Prelude.{◌≡◌, ◌≢◌, ◌+◌, ◌≤◌, IfOk, IsOk, IsTrue, List, Ok, OnOk, Some, ℕ};
 ghost use Rattle.std.specs.Io.KnownBytes.{Appends};
 ghost use Rattle.ocfl_audit.specs.Parts.{Part as ModelPart};
 ghost use Rattle.ocfl_tree.specs.Place.{Text};
@@ -7,10 +7,11 @@ ghost use Rattle.ocfl_tree.specs.Store.{IfTold};
 ghost use Rattle.ocfl_item.specs.Judging.{HasShortFiles};
 ghost use Rattle.ocfl_scrub.specs.Starting.{part_of};
 ghost use Rattle.ocfl_state.specs.Crash.{LeavesOnly};
-ghost use Rattle.ocfl_night.specs.Sound.{IsHeard, IsHeardReady, IsHeardSince, IsKept, IsOneMore};
+ghost use Rattle.ocfl_night.specs.Sound.{IsAllSaid, IsHeard, IsHeardReady, IsHeardSince, IsKept, IsOneMore};
 ghost use Rattle.ocfl_night.specs.Sound.{IsReady, IsReadySince, IsSound};
 ghost use Rattle.ocfl_night.specs.Clock.{BeginsInTime};
 ghost use Rattle.ocfl_night.specs.Nights.{IsSafeNight};
+ghost use Rattle.ocfl_night.specs.declared.stop.Stop.{Stop as ModelStop};
 ghost use Rattle.ocfl_night.specs.declared.plan.Halt.TheVariants as halt;
 ghost use Rattle.ocfl_night.specs.declared.shape.Phase.TheVariants.{Open};
 
@@ -98,6 +99,7 @@ fn turn<S: StateFolder, T: Tree, W: Write>(
         ((S.seen folder.new).closed ≡ (S.seen folder.old).closed)) }
     ensures root { IfTold T.told (T.state tree.old) (λ root. HasShortFiles root
         → OnOk result ((T.state tree.new).tree ≡ root)) }
+    ensures all { IfOk result (λ made. made.mark.told ≡ made.mark.bytes) }
 {
     let Made {
         mark: sliced,
@@ -212,6 +214,8 @@ fn go_on<S: StateFolder, T: Tree, C: Clock, W: Write>(
         → OnOk result ((T.state tree.new).tree ≡ root)) }
     ensures clock { IsTrue C.told → BeginsInTime plan.now.end
         (C.answers clock.old) (C.answers clock.new) tally.old.runs tally.new.runs }
+    ensures all { mark.told ≡ mark.bytes
+        → IfOk result (λ next. next.0.told ≡ next.0.bytes) }
 {
     if mark.phase != Phase::Open {
         return Ok((mark, Some(Pause::Closing)));
@@ -253,6 +257,8 @@ fn runs<S: StateFolder, T: Tree, C: Clock, W: Write>(
         ((S.seen folder.new).closed ≡ (S.seen folder.old).closed)) }
     ensures clock { IsTrue C.told → BeginsInTime plan.now.end
         (C.answers clock.old) (C.answers clock.new) tally.old.runs tally.new.runs }
+    ensures all { start.told ≡ start.bytes
+        → IfOk result (λ next. next.0.told ≡ next.0.bytes) }
 {
     let mut mark = start;
     for _run in 0..u64::MAX {
@@ -283,6 +289,7 @@ fn catch_up<S: StateFolder, W: Write>(
     ensures grew { (more : List ℕ) × Appends (W.contents out.old) (W.contents out.new) more }
     ensures closed { IsTrue S.told → OnOk result
         ((S.seen folder.new).closed ≡ (S.seen folder.old).closed) }
+    ensures all { IfOk result (λ mark. mark.told ≡ mark.bytes) }
 {
     let mark = open(alloc, folder, create)?;
     speak(alloc, folder, out, mark)
@@ -312,6 +319,9 @@ fn make_runs<S: StateFolder, T: Tree, C: Clock, W: Write>(
         (S.seen folder.old).closed (S.seen folder.new).closed) }
     ensures clock { IsTrue C.told → BeginsInTime plan.now.end
         (C.answers clock.old) (C.answers clock.new) tally.old.runs tally.new.runs }
+    ensures said { IsTrue S.told → IfTold T.told (T.state tree.old) (λ root. HasShortFiles root
+        → (t : Text) → IsReady S.seen S.may_leave (part_of part.now) t mark folder.old
+        → mark.told ≡ mark.bytes → OnOk result (IsAllSaid (S.seen folder.new))) }
 {
     let (last, pause) = runs(
         alloc, folder, tree, part, mark, plan, clock, tally, block, out,
@@ -341,6 +351,9 @@ fn go_through<S: StateFolder, T: Tree, C: Clock, W: Write>(
         (S.seen folder.old).closed (S.seen folder.new).closed) }
     ensures clock { IsTrue C.told → BeginsInTime plan.now.end
         (C.answers clock.old) (C.answers clock.new) tally.old.runs tally.new.runs }
+    ensures said { IsTrue S.told → IfTold T.told (T.state tree.old) (λ root. HasShortFiles root
+        → IsKept S.may_leave (part_of part.now) folder.old
+        → OnOk result (IsAllSaid (S.seen folder.new))) }
 {
     let mark = catch_up(alloc, folder, out, plan.create)?;
     make_runs(
@@ -376,6 +389,12 @@ pub fn night<S: StateFolder, T: Tree, C: Clock, W: Write>(
         → IsSafeNight S.may_leave S.moment S.left_since (part_of part.now)
         folder.old folder.new (W.contents out.old) (W.contents out.new)) }
 
+    // Unless something is troubled, all of the report is said, also what earlier nights left.
+    ensures said { IsTrue S.told → IfTold T.told (T.state tree.old) (λ root. HasShortFiles root
+        → IsKept S.may_leave (part_of part.now) folder.old
+        → ((why : ModelStop) → result.end ≢ halt.Troubled why)
+        → IsAllSaid (S.seen folder.new)) }
+
     // The report of a cycle that is said to have ended is closed.
     ensures ended { IsTrue S.told → IfTold T.told (T.state tree.old) (λ root. HasShortFiles root
         → IsKept S.may_leave (part_of part.now) folder.old
@@ -398,6 +417,7 @@ fn account(tally: Tally, through: Result<Halt, Stop>) -> NightEnd
     ensures ended { (cycle : ℕ) → result.end ≡ halt.CycleEnded cycle
         → through ≡ Ok (halt.CycleEnded cycle) }
     ensures runs { result.runs ≡ tally.runs }
+    ensures said { ((why : ModelStop) → result.end ≢ halt.Troubled why) → IsOk through }
 {
     let end = match through {
         Ok(halt) => halt,

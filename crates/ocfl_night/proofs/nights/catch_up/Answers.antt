@@ -28,3 +28,6 @@ pub returns-clause-ready : goal.returns-clause-ready
 returns-clause-ready g c = λ told part kept.
     let r = c.in_ok-mark.ensures.ready told part kept in
     IfOk-weaker c.speak.result _ _ (λ next h. record { from = r.from; was = r.was; t = r.t; before = r.before; heard = h }) (c.speak.ensures.ready told part r.t r.ready)
+
+pub returns-clause-all : goal.returns-clause-all
+returns-clause-all g c = IfOk-weaker c.speak.result _ _ (λ next h. h.told_is) c.speak.ensures.all

@@ -35,3 +35,8 @@ returns-clause-ended g c = λ told tells root over short kept cycle is.
     let r = c.in_ok-mark.ensures.ready told part kept in
     subst (λ (old : List Closed). IsOneMore part cycle old (s c.make_runs.new.folder).closed) (c.in_ok-mark.ensures.closed told)
     (c.make_runs.ensures.ended told tells root over short (r.t ++ r.heard.more) r.heard.ready cycle is)
+
+pub returns-clause-said : goal.returns-clause-said
+returns-clause-said g c = λ told tells root over short kept.
+    let r = c.in_ok-mark.ensures.ready told (part_of c.args.part.now) kept in
+    c.make_runs.ensures.said told tells root over short (r.t ++ r.heard.more) r.heard.ready c.in_ok-mark.ensures.all

@@ -35,3 +35,8 @@ returns-clause-ended g c = λ told tells root over short t r cycle is.
     let one = c.in_ok-ended.ensures.closed told part (t ++ ready.more) ready.ready in
     let more = subst (λ (o : Option ℕ). IfSome o (λ n. IsOneMore part n (s c.runs.new.folder).closed new)) (c.halt_after.ensures cycle (cc is)) one in
     subst (λ (old : List Closed). IsOneMore part cycle old new) (c.in_ok-last.ensures.closed told tells root over short) more
+
+pub returns-clause-said : goal.returns-clause-said
+returns-clause-said g c = λ told tells root over short t r all.
+    let ready = c.in_ok-last.ensures.ready told tells root over short t r in
+    c.in_ok-ended.ensures.said told (part_of c.args.part.now) (t ++ ready.more) ready.ready (c.in_ok-last.ensures.all all)

@@ -1,7 +1,7 @@
 use Rattle.ocfl_scrub.specs.Starting.{part_of}
 use Rattle.ocfl_night.specs.Sound.{IsSound, IsHeardSince}
 use Rattle.ocfl_night.proofs.Moments.{leaves_weaker}
-use Rattle.ocfl_night.proofs.Heard.{since_sound}
+use Rattle.ocfl_night.proofs.Heard.{on_ok, since_sound}
 use Rattle.ocfl_night.proofs.nights.night.Goals as goal
 
 pub returns-clause-any_moment : goal.returns-clause-any_moment
@@ -23,3 +23,7 @@ returns-clause-kept g c = λ told tells root over short kept d left.
 
 pub returns-clause-ended : goal.returns-clause-ended
 returns-clause-ended g c = λ told tells root over short kept cycle is. c.go_through-through.ensures.ended told tells root over short kept cycle (c.account.ensures.ended cycle is)
+
+pub returns-clause-said : goal.returns-clause-said
+returns-clause-said g c = λ told tells root over short kept well.
+    on_ok c.go_through-through.result (c.account.ensures.said well) (c.go_through-through.ensures.said told tells root over short kept)

@@ -18,6 +18,7 @@ loop-run-init g c =
       grew = grew_none s;
       closed = λ told tells root over short. refl;
       clock = λ told. none_begun c.args.plan.now.end (g.C.Clock.answers c.args.clock.now) c.args.tally.now.runs;
+      all = λ is. is;
       root = λ tells root over short. over;
     }
 
@@ -92,5 +93,9 @@ loop-run-preserved g c =
       grew = grew_on s0 s1 s2 inv.grew c.go_on.ensures.grew;
       closed = λ told tells root over short. c.in_ok-next.ensures.closed told tells root (inv.root tells root over short) short ∙ inv.closed told tells root over short;
       clock = λ told. begun_on c.args.plan.now.end (g.C.Clock.answers c.args.clock.now) (g.C.Clock.answers c.loop-run.clock) (g.C.Clock.answers c.go_on.new.clock) c.args.tally.now.runs c.loop-run.tally.runs c.go_on.new.tally.runs (inv.clock told) (c.go_on.ensures.clock told);
+      all = λ is. c.in_ok-next.ensures.all (inv.all is);
       root = λ tells root over short. c.in_ok-next.ensures.root tells root (inv.root tells root over short) short;
     }
+
+pub returns-in-Some-clause-all : goal.returns-in-Some-clause-all
+returns-in-Some-clause-all g c = λ is. c.in_ok-next.ensures.all (c.loop-run.invariant.all is)

@@ -22,5 +22,6 @@ invariant-loop-run g l =
       grew : (more : List ℕ) × Appends (contents l.fn.out) (contents l.out) more;
       closed : IsTrue g.S.StateFolder.told → IfTold g.T.Tree.told (g.T.Tree.state l.fn.tree) (λ root. HasShortFiles root → (seen l.folder).closed ≡ (seen l.fn.folder).closed);
       clock : IsTrue g.C.Clock.told → BeginsInTime l.fn.plan.end (g.C.Clock.answers l.fn.clock) (g.C.Clock.answers l.clock) l.fn.tally.runs l.tally.runs;
+      all : l.fn.start.told ≡ l.fn.start.bytes → l.mark.told ≡ l.mark.bytes;
       root : IfTold g.T.Tree.told (g.T.Tree.state l.fn.tree) (λ root. HasShortFiles root → (g.T.Tree.state l.tree).tree ≡ root);
     }

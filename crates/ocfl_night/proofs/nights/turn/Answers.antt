@@ -19,3 +19,6 @@ returns-clause-heard g c = λ told tells root over short t r.
     let part = part_of c.args.part.now in
     silent_then part t (g.W.Write.contents c.args.out.now) (g.W.Write.contents c.speak.new.out) c.args.folder.now c.slice.new.folder c.speak.new.folder
     (c.slice.ensures.any_moment told tells root over short t r) c.speak.ensures.grew (c.speak.ensures.heard told part t (c.in_ok-sliced.ensures.ready told tells root over short t r))
+
+pub returns-clause-all : goal.returns-clause-all
+returns-clause-all g c = c.in_ok-said.ensures.all.told_is

@@ -37,6 +37,8 @@ fn trim<S: StateFolder>(folder: &mut S, most: u64) -> Result<(), Stop>
 /// Whether nothing is in a folder that has no checkpoint, as far as calls can show it.
 #[tactic(auto, using(crate::proofs::Moments::only_same))]
 fn is_new<S: StateFolder>(folder: &mut S) -> Result<bool, Stop>
+    ensures empty { IsTrue S.told → IfOk result (λ new. IsTrue new
+        → length (S.seen folder.old).report ≡ 0) }
     ensures seen { IsTrue S.told → S.seen folder.new ≡ S.seen folder.old }
     ensures only { IsTrue S.told → Only (S.seen folder.old) (S.may_leave folder.old)
         → Only (S.seen folder.new) (S.may_leave folder.new) }
@@ -74,6 +76,7 @@ fn put_first<S: StateFolder>(alloc: Global, folder: &mut S) -> Result<Mark, Stop
 
 /// Begins in a folder in which nothing is.
 fn begin<S: StateFolder>(alloc: Global, folder: &mut S) -> Result<Mark, Stop>
+    ensures empty { IsTrue S.told → OnOk result (length (S.seen folder.old).report ≡ 0) }
     ensures any_moment { IsTrue S.told → (part : Part)
         → Only (S.seen folder.old) (S.may_leave folder.old)
         → (S.seen folder.old).checkpoint ≡ None → IsNew [] (S.seen folder.old)
@@ -117,6 +120,9 @@ pub fn open<S: StateFolder>(alloc: Global, folder: &mut S, create: bool) -> Resu
         (S.may_leave folder.old) mark folder.new) }
     ensures closed { IsTrue S.told → OnOk result
         ((S.seen folder.new).closed ≡ (S.seen folder.old).closed) }
+    // A report without a checkpoint is never begun anew.
+    ensures empty { IsTrue S.told → (S.seen folder.old).checkpoint ≡ None
+        → OnOk result (length (S.seen folder.old).report ≡ 0) }
 {
     match look(alloc, folder)? {
         None => {

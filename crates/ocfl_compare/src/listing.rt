@@ -19,7 +19,7 @@ const MAX_LINES: u64 = 10_000_000;
 /// Why no list was read.
 #[derive(Clone, Copy, Debug, PartialEq, Eq, Error)]
 pub enum ListStop {
-    /// The first line, from 1, with a path that is that of no object.
+    /// The first line, counted from 1, whose path no object can have.
     #[error("bad list: line {0}")]
     Line(u64),
     /// It has more than 10,000,000 lines.

@@ -13,7 +13,7 @@ use crate::stop::Stop;
 use ocfl_state::StateFolder;
 use std::alloc::Global;
 
-/// The report becomes the closed one of a cycle, if there is none of that cycle.
+/// Closes the report as that of a cycle, unless one of that cycle is closed.
 fn move_report<S: StateFolder>(folder: &mut S, cycle: u64, whole: bool) -> Result<(), Stop>
     ensures moved { IsTrue S.told → OnOk result
         (IsMoveDone cycle whole (S.seen folder.old) (S.seen folder.new)) }

@@ -105,7 +105,7 @@ impl<R: Files<File = File> + AllocGlobal + Clone + Drop> Disk<R> {
         }
     }
 
-    /// Whether a folder is there. What is none is refused.
+    /// Whether a folder is there. Anything else at that name is refused.
     pub(crate) fn has_folder(&self, folder: StateFile) -> Result<bool, Reason> {
         match self.look(folder)? {
             Some(metadata) if !metadata.is_dir() => Err(wrong(folder, "not a folder")),

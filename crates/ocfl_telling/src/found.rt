@@ -13,7 +13,7 @@ use std::alloc::{AllocError, Global};
 /// Why the bytes of a report were not taken.
 #[derive(Clone, Copy, Debug, PartialEq, Eq)]
 pub enum FoundStop {
-    /// A line of them is none of a report.
+    /// One of their lines is not a line of a report.
     Bad,
     /// Memory was refused.
     Memory,

@@ -199,7 +199,7 @@ fn entry_of(reach: Reach, line: Line) -> Entry
     Entry { reach, line }
 }
 
-/// The report line whose text this is with these bytes behind it, and `None` where there is none.
+/// The report line that this text and the bytes after it make, if they make one.
 fn read_as(alloc: Global, text: &[u8], end: &[u8]) -> Result<Option<Line>, AllocError>
     ensures found { IfOk result
         (λ o. IfSome o (λ line. IsLineText (text.now ++ end.now) (line_of line))) }

@@ -14,7 +14,7 @@ pub enum Refusal<'a> {
     NoCheckpoint,
     /// It has no checkpoint, and has a report or closed reports.
     HasReports,
-    /// The checkpoint's file is none.
+    /// The checkpoint's file is not a checkpoint.
     NotCheckpoint,
     /// It is of a version that is not known.
     Version,

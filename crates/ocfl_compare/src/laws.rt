@@ -33,8 +33,8 @@ pub fn nothing_is_gone_from_nothing()
     ensures { (now : List Line) → changes_at [] now ≡ map found (finding_codes now) }
 {}
 
-/// A part that has no fault is of this storage root and of this cycle, has the ends of the part with
-/// this number, and its report is whole.
+/// A part that has no fault is of this storage root and of this cycle, has the ends of the part
+/// with this number, and its report is whole.
 #[tactic(auto, using(crate::proofs::Parts::part_right))]
 pub fn a_part_without_fault_is_right()
     ensures { (separators : List Place) (root : Text) (cycle number : ℕ) (part : ClosedPart)

@@ -35,7 +35,8 @@ pub enum ListStop {
 
 /// Reads a list of objects: a path a line, written as in report lines, in any order. Slashes at the
 /// end of a line do not count. Empty lines and those that begin with `#` have no path, and the last
-/// line need not end in a line feed. All bytes of the reader are read, and the places are in memory.
+/// line need not end in a line feed. All bytes of the reader are read, and the places are in
+/// memory.
 pub fn read_list<R: BufRead>(alloc: Global, list: &mut R) -> Result<Vec<Place>, ListStop>
     ensures list { IfOk result (λ places. IfSome (R.remaining list.old) (λ bytes.
         IsList bytes places.items)) }

@@ -45,8 +45,8 @@ impl From<AllocError> for NoIdentity {
 
 /// Looks at a storage root: lists its top folder, and reads its declarations.
 ///
-/// `Undeclared` if the top folder has no declaration of a storage root, and `Unread` if it cannot be
-/// listed, or a declaration cannot be read.
+/// `Undeclared` if the top folder has no declaration of a storage root, and `Unread` if it cannot
+/// be listed, or a declaration cannot be read.
 pub fn look_at_root<T: Tree>(
     alloc: Global,
     store: &mut T,

@@ -52,9 +52,9 @@ pub fn audit<T: Tree, W: Write>(
     audit_part(alloc, store, &whole, block, out)
 }
 
-/// Does for a part what [`audit`] does for the whole. Outside the part no directory is listed and no
-/// inventory read but on the way down to where it begins; `last` is `None` if no item of the part
-/// went out whole.
+/// Does for a part what [`audit`] does for the whole. Outside the part no directory is listed and
+/// no inventory read but on the way down to where it begins; `last` is `None` if no item of the
+/// part went out whole.
 pub fn audit_part<T: Tree, W: Write>(
     alloc: Global,
     store: &mut T,

@@ -136,9 +136,9 @@ pub fn an_audit_of_a_part_looks_once()
         × IsAscending place_cmp (heads_of call.root trail)) }
 {}
 
-/// Each file that an audit, a run or a check opens is a hashed one, or lies right in a directory that
-/// the call listed. Each such directory lies in the part or is on the way down to where the call
-/// began; of a check it is on the way to its place.
+/// Each file that an audit, a run or a check opens is a hashed one, or lies right in a directory
+/// that the call listed. Each such directory lies in the part or is on the way down to where the
+/// call began; of a check it is on the way to its place.
 pub fn openings_lie_where_it_was_listed()
     ensures audit { (call : Call) (part : Part) (last : Option Place) (finding : Bool) (end : End)
         → AuditEndsWithin call part last finding end

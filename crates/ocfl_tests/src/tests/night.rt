@@ -29,6 +29,7 @@ struct Still(u64);
 
 impl Clock for Still {
     ghost told = { false };
+
     ghost answers = { λ _. [] };
 
     fn now(&mut self) -> u64 {
@@ -116,7 +117,12 @@ fn three_nights_close_the_audit(rt: HostRuntime) -> Result<(), Fail> {
     let mut folder = MemState::new(rt.alloc());
     let mut said = Vec::new(rt.alloc());
     for want in ["spent", "spent", "cycle 1 ended"] {
-        let made = night_of(rt.alloc(), &mut folder, &plan(Some(1), None, true)?, &mut said)?;
+        let made = night_of(
+            rt.alloc(),
+            &mut folder,
+            &plan(Some(1), None, true)?,
+            &mut said,
+        )?;
         assert_eq!(rt; ending(&made.end), want);
         assert_eq!(rt; (made.runs, made.files, made.found), (1, 1, false));
     }
@@ -135,7 +141,12 @@ fn one_night_makes_all_runs(rt: HostRuntime) -> Result<(), Fail> {
     assert_eq!(rt; ending(&made.end), "cycle 1 ended");
     assert_eq!(rt; (made.runs, made.files, made.spent), (3, 3, 9));
     assert_eq!(rt; closed_whole(&folder), Some(audit.as_bytes()));
-    let next = night_of(rt.alloc(), &mut folder, &plan(None, None, false)?, &mut said)?;
+    let next = night_of(
+        rt.alloc(),
+        &mut folder,
+        &plan(None, None, false)?,
+        &mut said,
+    )?;
     assert_eq!(rt; ending(&next.end), "a cycle ended");
     assert_eq!(rt; folder.closed().len(), 2);
     assert_eq!(rt; folder.closed()[1].cycle, 2);
@@ -146,7 +157,12 @@ fn one_night_makes_all_runs(rt: HostRuntime) -> Result<(), Fail> {
 fn a_folder_is_begun_in_only_if_asked(rt: HostRuntime) -> Result<(), Fail> {
     let mut folder = MemState::new(rt.alloc());
     let mut said = Vec::new(rt.alloc());
-    let made = night_of(rt.alloc(), &mut folder, &plan(None, None, false)?, &mut said)?;
+    let made = night_of(
+        rt.alloc(),
+        &mut folder,
+        &plan(None, None, false)?,
+        &mut said,
+    )?;
     assert_eq!(rt; ending(&made.end), "no checkpoint");
     assert!(rt; folder.checkpoint_bytes().is_none() && folder.report().is_empty());
     folder.append(b"x")?;
@@ -162,10 +178,19 @@ fn a_folder_is_begun_in_only_if_asked(rt: HostRuntime) -> Result<(), Fail> {
 
 #[test]
 fn no_run_begins_at_the_end(rt: HostRuntime) -> Result<(), Fail> {
-    for (end, want, runs) in [(4, "time up", 0), (5, "time up", 0), (6, "cycle 1 ended", 3)] {
+    for (end, want, runs) in [
+        (4, "time up", 0),
+        (5, "time up", 0),
+        (6, "cycle 1 ended", 3),
+    ] {
         let mut folder = MemState::new(rt.alloc());
         let mut said = Vec::new(rt.alloc());
-        let made = night_of(rt.alloc(), &mut folder, &plan(None, Some(end), true)?, &mut said)?;
+        let made = night_of(
+            rt.alloc(),
+            &mut folder,
+            &plan(None, Some(end), true)?,
+            &mut said,
+        )?;
         assert_eq!(rt; (ending(&made.end), made.runs), (want, runs), "{end}");
     }
     Ok(())
@@ -177,11 +202,21 @@ fn what_the_output_refused_is_said_by_the_next_night(rt: HostRuntime) -> Result<
     for room in 0..first.len() {
         let mut folder = MemState::new(rt.alloc());
         let mut narrow = Narrow::new(rt.alloc(), room);
-        let made = night_of(rt.alloc(), &mut folder, &plan(Some(1), None, true)?, &mut narrow)?;
+        let made = night_of(
+            rt.alloc(),
+            &mut folder,
+            &plan(Some(1), None, true)?,
+            &mut narrow,
+        )?;
         assert_eq!(rt; ending(&made.end), "output", "{room}");
         assert_eq!(rt; folder.report(), first.as_bytes(), "{room}");
         let mut said = Vec::new(rt.alloc());
-        let next = night_of(rt.alloc(), &mut folder, &plan(Some(0), None, false)?, &mut said)?;
+        let next = night_of(
+            rt.alloc(),
+            &mut folder,
+            &plan(Some(0), None, false)?,
+            &mut said,
+        )?;
         assert_eq!(rt; (ending(&next.end), next.runs), ("spent", 0), "{room}");
         assert_eq!(rt; said.as_slice(), first.as_bytes(), "{room}");
     }
@@ -227,9 +262,16 @@ fn expect_audit_after(
                 return Err("no such moment".into());
             };
             let said = close_cycle(rt.alloc(), &mut crashed)?;
-            assert_eq!(rt; closed_whole(&crashed), Some(audit), "{changes} {left} {zeroed}");
+            assert_eq!(rt;
+                closed_whole(&crashed),
+                Some(audit),
+                "{changes} {left} {zeroed}"
+            );
             assert!(rt; audit.ends_with(&said), "{changes} {left} {zeroed}");
-            assert!(rt; heard + said.len() >= audit.len(), "{changes} {left} {zeroed}");
+            assert!(rt;
+                heard + said.len() >= audit.len(),
+                "{changes} {left} {zeroed}"
+            );
         }
     }
     Ok(())
@@ -242,7 +284,12 @@ fn no_crash_loses_or_repeats_a_line(rt: HostRuntime) -> Result<(), Fail> {
     let mut said = Vec::new(rt.alloc());
     let mut changes = 0;
     for _ in 0..3 {
-        let _ = night_of(rt.alloc(), &mut folder, &plan(Some(1), None, true)?, &mut said)?;
+        let _ = night_of(
+            rt.alloc(),
+            &mut folder,
+            &plan(Some(1), None, true)?,
+            &mut said,
+        )?;
         while changes <= folder.changes() {
             expect_audit_after(&rt, &folder, changes, said.len(), audit.as_bytes())?;
             changes += 1;

@@ -1,5 +1,5 @@
 -- A pass over all items of a part is its audit, and the whole is one part.
-use Rattle.std.proofs.Common.{◌≡◌, ◌≢◌, ℕ, zero, suc, ◌+◌, List, [], ◌∷◌, ◌++◌, refl, sym, ◌∙◌, ap, subst, Bool, false, None, Option, length, map, take, arith}
+use Rattle.std.proofs.Common.{◌≡◌, ◌≢◌, ℕ, zero, suc, ◌+◌, List, [], ◌∷◌, ◌++◌, refl, sym, ◌∙◌, ap, subst, Bool, false, None, Option, length, map, take, append-nil, arith}
 use Rattle.std.specs.Io.KnownBytes.{Appends}
 use Rattle.std.proofs.KnownBytes.{Appends-nil}
 use Rattle.ocfl_tree.specs.Place.{Place}
@@ -26,10 +26,11 @@ use Rattle.ocfl_scrub.specs.Call.{call_of}
 use Rattle.ocfl_scrub.specs.Taking.{PartOf}
 use Rattle.ocfl_scrub.specs.Written.{places, last_of, StopsWithin}
 use Rattle.ocfl_scrub.specs.Running.{items_above_in}
-use Rattle.ocfl_scrub.specs.Starting.{end_of, entry, stand, looked_in, read_in, LooksOver, StopsLooking}
+use Rattle.ocfl_scrub.specs.Starting.{extent_of, FilesLieIn, end_of, entry, stand, looked_in, read_in, LooksOver, StopsLooking}
 use Rattle.ocfl_scrub.proofs.PartStarts.{above_in, due_starts, looked_all, read_all}
 use Rattle.ocfl_scrub.proofs.Passing.{due_in, Finishes, Halts}
 use Rattle.ocfl_scrub.proofs.LookLaws.{looks_over, stops_looking, stops_above}
+use Rattle.ocfl_scrub.proofs.WayListed.{halted_lie, taken_lie}
 use Rattle.ocfl_scrub.specs.WholeAudit.{items_in, AuditsWithin, AuditStopsWithin, AuditEndsWithin, AuditsAll, AuditStops, AuditEnds}
 use Rattle.ocfl_scrub.specs.declared.checking.End.{End}
 use Rattle.ocfl_scrub.specs.declared.checking.End.TheVariants.{Ended, Stopped}
@@ -86,7 +87,8 @@ module _ (root : StorageRoot) (part : Part) (s t u : Store) (old new : Option (L
       (subst (λ ls. Audits root t u all ls (before_end (end_of part) (read_between root (stand root part None) None)) h.trail) (looked_all root part None) h.audits) in
       record {
         trail = g.trail ++ h.trail;
-        looks = subst (λ ps. LooksOver (call_of root s u old new) part None None ps (g.trail ++ h.trail)) at_places (looks_over root part s t u old new None g None all h.trail below);
+        looks = subst (λ ps. LooksOver (call_of root s u old new) (extent_of part) None None ps (g.trail ++ h.trail)) at_places (looks_over root part s t u old new None g None all h.trail
+            (taken_lie root part None g.listed g.all_listed None all [] (sym (append-nil all)) (λ p d b k. tt)) below);
         wrote = subst (λ is. Appends old new (text is)) items h.wrote;
         last_is = last_is ∙ ap (last_of None) at_places;
         found_is = h.found_is ∙ ap found items;
@@ -114,8 +116,8 @@ module _ (root : StorageRoot) (part : Part) (s t u : Store) (old new : Option (L
           last_is = last_is ∙ ap (last_of None) whole_places;
         };
         found_is = h.found_is;
-        looks = subst (λ ps. StopsLooking (call_of root s u old new) part None (ps ++ h.begun) (g.trail ++ h.trail) why) whole_places
-            (stops_looking root part s t u old new None g why (h.done ++ h.begun) h.listed h.heads h.trail h.fails listed_front heads_front);
+        looks = subst (λ ps. StopsLooking (call_of root s u old new) (extent_of part) None (ps ++ h.begun) (g.trail ++ h.trail) why) whole_places
+            (stops_looking root part s t u old new None g why (h.done ++ h.begun) h.listed h.heads h.trail h.fails listed_front heads_front (halted_lie root part None g.listed g.all_listed h));
       }
 
 -- nothing went out
@@ -174,6 +176,7 @@ module _ (root : StorageRoot) (s t : Store) (old new : Option (List ℕ)) (last 
         (nothing_front h.looks.down h.looks.down_front) h.looks.fails);
     listed_front = h.looks.listed_front;
     heads_front = h.looks.heads_front;
+    files_lie = subst (λ xs. FilesLieIn root (places h.stops.whole ++ h.stops.begun) (xs ++ h.looks.listed)) (nothing_front h.looks.down h.looks.down_front) h.looks.files_lie;
   }
 
   pub whole_told : (end : End) → AuditEndsWithin (call_of root s t old new) whole last finding end → AuditEnds (call_of root s t old new) last finding end

@@ -16,7 +16,7 @@ use Rattle.ocfl_audit.specs.Runs.{Limits, files_of, total_files, may_take, Stays
 use Rattle.ocfl_audit.specs.Trail.{unread_of}
 use Rattle.ocfl_cursor.specs.Cursor.{Cursor, new_cursor}
 use Rattle.ocfl_scrub.specs.Call.{Call, call_of, IsUnfailing}
-use Rattle.ocfl_scrub.specs.Chaining.{MadeRun, calls_of, AreChained, IsMadeOf, AreSpent, last_end, ChainEnds, CycleOfRunsWithin, CycleOfRuns}
+use Rattle.ocfl_scrub.specs.Chaining.{MadeRun, IsMadeOf, CycleOfRunsWithin, CycleOfRuns}
 use Rattle.ocfl_scrub.specs.Cycling.{StartsBelow, EachStartsBelow, HeadlineOf, HeadlineOfPart}
 use Rattle.ocfl_scrub.specs.Running.{first_of, place_in, state_after, RunsWithin, RunEndsWithin, RunsFromWithin}
 use Rattle.ocfl_scrub.specs.Together.{CyclesToWithin}
@@ -27,6 +27,7 @@ use Rattle.ocfl_scrub.specs.declared.cycling.CycleStatus.TheVariants as cycle
 use Rattle.ocfl_scrub.specs.declared.running.RunStatus.{RunStatus}
 use Rattle.ocfl_scrub.specs.declared.running.RunStatus.TheVariants as run
 use Rattle.ocfl_scrub.proofs.AuditLaws.{none_left}
+use Rattle.ocfl_scrub.proofs.ChainParts.{calls_of, AreMade, AreSpent, last_end, LastEnds, Apart, apart}
 use Rattle.ocfl_scrub.proofs.ChainLaws.{given, place_there, spent_not_ended, counted, together}
 use Rattle.ocfl_scrub.proofs.CutLaws.{cut_and_left}
 use Rattle.ocfl_scrub.proofs.CycleEndLaws.{part_headline}
@@ -78,7 +79,7 @@ module _ (root : StorageRoot) (part : Part) where
       → RunsFromWithin (call_of root s r.call.after old r.call.new) part c r.limits r.ran
   now s old c r did is = subst (λ k. RunsFromWithin k part c r.limits r.ran) is did
 
-  all_grow : (made : List MadeRun) (c : Cursor) (s t : Store) (old new : Option (List ℕ)) → AreChained part c made → IsMadeOf (call_of root s t old new) (calls_of made)
+  all_grow : (made : List MadeRun) (c : Cursor) (s t : Store) (old new : Option (List ℕ)) → AreMade part c made → IsMadeOf (call_of root s t old new) (calls_of made)
       → s.failures ≤ t.failures
   all_grow [] c s t old new h m = let e : t.failures ≡ s.failures = ap (λ x. x.failures) m.0 in omega (arith, e)
   all_grow (r ∷ rest) c s t old new h m =
@@ -162,7 +163,7 @@ module _ (root : StorageRoot) (part : Part) where
         (x.below, subst (EachStartsBelow ls calls) (sym on) later)
 
   -- in a chain that counts no failure, its first run counts none
-  same_here : (r : MadeRun) (rest : List MadeRun) (c : Cursor) (s t : Store) (old new : Option (List ℕ)) → AreChained part c (r ∷ rest)
+  same_here : (r : MadeRun) (rest : List MadeRun) (c : Cursor) (s t : Store) (old new : Option (List ℕ)) → AreMade part c (r ∷ rest)
       → IsMadeOf (call_of root s t old new) (calls_of (r ∷ rest)) → t.failures ≡ s.failures → r.call.after.failures ≡ s.failures
   same_here r rest c s t old new h m same =
       let k = now s old c r h.0 m.0 in
@@ -170,7 +171,7 @@ module _ (root : StorageRoot) (part : Part) where
       let b = all_grow rest r.ran.cursor r.call.after t r.call.new new h.1 m.1 in
       omega (arith, a, b, same)
 
-  starts : (made : List MadeRun) (unused : List Limits) (c : Cursor) (s t : Store) (old new : Option (List ℕ)) → AreChained part c made
+  starts : (made : List MadeRun) (unused : List Limits) (c : Cursor) (s t : Store) (old new : Option (List ℕ)) → AreMade part c made
       → IsMadeOf (call_of root s t old new) (calls_of made) → AreSpent made → (last_end made ≡ run.Ended) ⊎ ((last_end made ≡ run.Spent) × (unused ≡ []))
       → t.failures ≡ s.failures → EachStartsBelow (given made unused) (calls_of made) (runs (above (place_in c.state)) (given made unused))
   starts [] unused c s t old new h m spent (inl e) same = absurd (spent_not_ended e)
@@ -185,27 +186,25 @@ module _ (root : StorageRoot) (part : Part) where
 -- ---- a cycle
 
 module _ (call : Call) (part : Part) (limits : List Limits) (ran : CycleEnd) (h : CycleOfRunsWithin call part limits ran) (same : IsUnfailing call) where
-  each_below : (last_end h.runs ≡ run.Ended) ⊎ ((last_end h.runs ≡ run.Spent) × (h.unused ≡ []))
-      → EachStartsBelow limits (calls_of h.runs) (runs (within part (audit call.root [])) limits)
-  each_below ends = subst (λ ls. EachStartsBelow ls (calls_of h.runs) (runs (within part (audit call.root [])) ls)) (sym h.limits_are)
-      (starts call.root part h.runs h.unused new_cursor call.before call.after call.old call.new h.chained h.made_of h.spent ends same)
+  abbrev a : Apart call part limits ran
+  a = apart call part limits ran h
 
-  by_end : (end : CycleStatus) → CyclesToWithin call part limits ran.cursor ran.found end → ChainEnds h.runs h.unused end → HeadlineOfPart call part limits ran.runs end
+  each_below : (last_end a.runs ≡ run.Ended) ⊎ ((last_end a.runs ≡ run.Spent) × (a.unused ≡ []))
+      → EachStartsBelow limits (calls_of a.runs) (runs (within part (audit call.root [])) limits)
+  each_below ends = subst (λ ls. EachStartsBelow ls (calls_of a.runs) (runs (within part (audit call.root [])) ls)) (sym a.limits_are)
+      (starts call.root part a.runs a.unused new_cursor call.before call.after call.old call.new a.chained a.made_of a.spent ends same)
+
+  by_end : (end : CycleStatus) → CyclesToWithin call part limits ran.cursor ran.found end → LastEnds a.runs a.unused end → HeadlineOfPart call part limits ran.runs end
   by_end cycle.Ended k ends = subst (λ n. HeadlineOfPart call part limits n cycle.Ended) (sym (counted call part limits ran h))
       (part_headline call.root part call.before call.after call.old call.new k.last limits ran.cursor.spent ran.cursor.files ran.found ran.cursor.runs true k.cycle
-      (calls_of h.runs) h.made_of (each_below (inl ends)) same)
+      (calls_of a.runs) a.made_of (each_below (inl ends)) same)
   by_end cycle.Spent k ends = subst (λ n. HeadlineOfPart call part limits n cycle.Spent) (sym (counted call part limits ran h))
       (part_headline call.root part call.before call.after call.old call.new k.last limits ran.cursor.spent ran.cursor.files ran.found ran.cursor.runs false k.cycle
-      (calls_of h.runs) h.made_of (each_below (inr ends)) same)
+      (calls_of a.runs) a.made_of (each_below (inr ends)) same)
   by_end (cycle.Stopped why) k ends = tt
 
   pub headline_of_part : HeadlineOfPart call part limits ran.runs ran.end
-  headline_of_part = by_end ran.end (together call part limits ran h) h.ends
+  headline_of_part = by_end ran.end (together call part limits ran h) a.ends
 
 pub headline_of_whole : (call : Call) (limits : List Limits) (ran : CycleEnd) → CycleOfRuns call limits ran → IsUnfailing call → HeadlineOf call limits ran.runs ran.end
 headline_of_whole call limits ran h same = headline_of_part call whole limits ran h same
-
--- the same of a part that is the whole
-pub headline_as_whole : (call : Call) (part : Part) (limits : List Limits) (count : ℕ) (end : CycleStatus) → part ≡ whole → HeadlineOfPart call part limits count end
-    → HeadlineOf call limits count end
-headline_as_whole call part limits count end e h = subst (λ x. HeadlineOfPart call x limits count end) e h

@@ -6,7 +6,7 @@ use Rattle.ocfl_tree.specs.Place.{Place}
 use Rattle.ocfl_tree.specs.StorageRoot.{StorageRoot}
 use Rattle.ocfl_tree.specs.Store.{Store}
 use Rattle.ocfl_audit.specs.Lines.{is_empty}
-use Rattle.ocfl_audit.specs.Parts.{Part}
+use Rattle.ocfl_audit.specs.Parts.{Part, whole}
 use Rattle.ocfl_audit.specs.Runs.{Limits}
 use Rattle.ocfl_cursor.specs.Cursor.{State, Cursor, new_cursor}
 use Rattle.ocfl_cursor.specs.Moves.{after_run}
@@ -15,8 +15,8 @@ use Rattle.ocfl_item.specs.declared.fault.Fault.TheVariants.{Memory}
 use Rattle.ocfl_scrub.specs.Call.{Call, call_of}
 use Rattle.ocfl_scrub.specs.Running.{place_in, state_at, state_after, begun_in, RunEndsWithin, RunsFromWithin}
 use Rattle.ocfl_scrub.specs.Starting.{due_within}
-use Rattle.ocfl_scrub.specs.Chaining.{MadeRun, calls_of, AreChained, IsMadeOf, AreSpent, last_end, last_cursor, ChainEnds, CycleOfRunsWithin}
-use Rattle.ocfl_scrub.specs.Together.{CyclesToWithin, cycle_state, cycle_cursor}
+use Rattle.ocfl_scrub.specs.Chaining.{MadeRun, IsMadeOf, CycleOfRunsWithin, CycleOfRuns}
+use Rattle.ocfl_scrub.specs.Together.{CyclesToWithin, CyclesTo, cycle_state, cycle_cursor}
 use Rattle.ocfl_scrub.specs.declared.running.RunStatus.{RunStatus}
 use Rattle.ocfl_scrub.specs.declared.running.RunStatus.TheVariants as run
 use Rattle.ocfl_scrub.specs.declared.cycling.CycleEnd.{CycleEnd}
@@ -27,6 +27,7 @@ use Rattle.ocfl_scrub.proofs.RunPlaces.{Turn, turn_of}
 use Rattle.ocfl_scrub.proofs.RunsJoined.{PartsEnd, parts_none, parts_unbegun, parts_ended, parts_stopped, next_some, ends_then}
 use Rattle.ocfl_scrub.proofs.CycleEndLaws.{cycles, cycle_stops, cycles_none}
 use Rattle.ocfl_scrub.proofs.ChainRuns.{run_over}
+use Rattle.ocfl_scrub.proofs.ChainParts.{calls_of, AreMade, AreSpent, last_end, last_cursor, LastEnds, apart}
 
 -- ---- cursors
 
@@ -69,7 +70,7 @@ EndsIn runs unused cycle.Ended = last_end runs ≡ run.Ended
 EndsIn runs unused cycle.Spent = (last_end runs ≡ run.Spent) × (unused ≡ [])
 EndsIn runs unused (cycle.Stopped why) = (last_end runs ≡ run.Stopped why) ⊎ ((why ≡ Memory) × (last_end runs ≡ run.Spent))
 
-ends_in : (runs : List MadeRun) (unused : List Limits) (end : CycleStatus) → ChainEnds runs unused end → EndsIn runs unused end
+ends_in : (runs : List MadeRun) (unused : List Limits) (end : CycleStatus) → LastEnds runs unused end → EndsIn runs unused end
 ends_in runs unused cycle.Ended h = h
 ends_in runs unused cycle.Spent h = h
 ends_in runs unused (cycle.Stopped why) (inl e) = inl e
@@ -214,7 +215,7 @@ module _ (root : StorageRoot) (part : Part) where
 
   -- the runs of a chain
   comes : (r : MadeRun) (rest : List MadeRun) (unused : List Limits) (end : CycleStatus) (s t : Store) (old new : Option (List ℕ)) (c : Cursor) (from : Option Place)
-      → c.state ≡ state_at from → AreChained part c (r ∷ rest) → IsMadeOf (call_of root s t old new) (calls_of (r ∷ rest)) → AreSpent (r ∷ rest) → EndsIn (r ∷ rest) unused end
+      → c.state ≡ state_at from → AreMade part c (r ∷ rest) → IsMadeOf (call_of root s t old new) (calls_of (r ∷ rest)) → AreSpent (r ∷ rest) → EndsIn (r ∷ rest) unused end
       → Comes s t old new c from (given (r ∷ rest) unused) (r ∷ rest) end
   comes r [] unused end s t old new c from there chained made spent ends = last_here s t old new c from r there chained.0 made.0 unused made.1 end ends
   comes r (q ∷ rest) unused end s t old new c from there chained made spent ends =
@@ -241,7 +242,7 @@ module _ (root : StorageRoot) (part : Part) (s t : Store) (old new : Option (Lis
       record { last = last; cycle = cycle_stops root part s t old new last limits spent files finding count why some k; cursor_is = refl }
 
   module _ (ran : CycleEnd) (over : s.tree ≡ root) where
-    no_runs : (unused : List Limits) (end : CycleStatus) → limits ≡ unused → (t ≡ s) × (new ≡ old) → ChainEnds [] unused end → ran.cursor ≡ new_cursor → ran.found ≡ false
+    no_runs : (unused : List Limits) (end : CycleStatus) → limits ≡ unused → (t ≡ s) × (new ≡ old) → LastEnds [] unused end → ran.cursor ≡ new_cursor → ran.found ≡ false
         → CyclesToWithin (call_of root s t old new) part limits ran.cursor ran.found end
     no_runs unused cycle.Ended are same ends cursor found = absurd (spent_not_ended ends)
     no_runs unused (cycle.Stopped why) are same (inl e) cursor found = absurd (spent_not_stopped why e)
@@ -253,8 +254,8 @@ module _ (root : StorageRoot) (part : Part) (s t : Store) (old new : Option (Lis
         (subst (λ v. CyclesToWithin (call_of root s s old old) part limits new_cursor v cycle.Spent) (sym found)
         (record { last = None; cycle = cycles_none root part s old limits (are ∙ ends.1) over; cursor_is = refl }))))
 
-    some_runs : (r : MadeRun) (rest : List MadeRun) (unused : List Limits) → limits ≡ given (r ∷ rest) unused → AreChained part new_cursor (r ∷ rest)
-        → IsMadeOf (call_of root s t old new) (calls_of (r ∷ rest)) → AreSpent (r ∷ rest) → ChainEnds (r ∷ rest) unused ran.end
+    some_runs : (r : MadeRun) (rest : List MadeRun) (unused : List Limits) → limits ≡ given (r ∷ rest) unused → AreMade part new_cursor (r ∷ rest)
+        → IsMadeOf (call_of root s t old new) (calls_of (r ∷ rest)) → AreSpent (r ∷ rest) → LastEnds (r ∷ rest) unused ran.end
         → ran.cursor ≡ last_cursor new_cursor (r ∷ rest) → ran.found ≡ found_by (r ∷ rest) → CyclesToWithin (call_of root s t old new) part limits ran.cursor ran.found ran.end
     some_runs r rest unused are chained made spent ends cursor found =
         let k = comes root part r rest unused ran.end s t old new new_cursor None refl chained made spent (ends_in (r ∷ rest) unused ran.end ends) in
@@ -265,23 +266,27 @@ module _ (root : StorageRoot) (part : Part) (s t : Store) (old new : Option (Lis
         (subst (λ v. CyclesToWithin (call_of root s t old new) part limits (cycle_cursor count k.spent k.files (cycle_state ran.end k.last)) v ran.end) (sym found)
         (cycles_to k.last count k.spent k.files (found_by (r ∷ rest)) ran.end (omega arith) parts))
 
-    by_runs : (runs : List MadeRun) (unused : List Limits) → limits ≡ given runs unused → AreChained part new_cursor runs → IsMadeOf (call_of root s t old new) (calls_of runs)
-        → AreSpent runs → ChainEnds runs unused ran.end → ran.cursor ≡ last_cursor new_cursor runs → ran.found ≡ found_by runs
+    by_runs : (runs : List MadeRun) (unused : List Limits) → limits ≡ given runs unused → AreMade part new_cursor runs → IsMadeOf (call_of root s t old new) (calls_of runs)
+        → AreSpent runs → LastEnds runs unused ran.end → ran.cursor ≡ last_cursor new_cursor runs → ran.found ≡ found_by runs
         → CyclesToWithin (call_of root s t old new) part limits ran.cursor ran.found ran.end
     by_runs [] unused are chained made spent ends cursor found = no_runs unused ran.end are made ends cursor found
     by_runs (r ∷ rest) unused are chained made spent ends cursor found = some_runs r rest unused are chained made spent ends cursor found
 
 pub together : (call : Call) (part : Part) (limits : List Limits) (ran : CycleEnd) → CycleOfRunsWithin call part limits ran → CyclesToWithin call part limits ran.cursor ran.found ran.end
 together call part limits ran h =
-    by_runs call.root part call.before call.after call.old call.new limits ran h.over h.runs h.unused h.limits_are h.chained h.made_of h.spent h.ends h.cursor_is h.found_is
+    let a = apart call part limits ran h in
+    by_runs call.root part call.before call.after call.old call.new limits ran a.over a.runs a.unused a.limits_are a.chained a.made_of a.spent a.ends a.cursor_is a.found_is
+
+pub together_whole : (call : Call) (limits : List Limits) (ran : CycleEnd) → CycleOfRuns call limits ran → CyclesTo call limits ran.cursor ran.found ran.end
+together_whole call limits ran h = together call whole limits ran h
 
 -- its count is that of its cursor
 pub counted : (call : Call) (part : Part) (limits : List Limits) (ran : CycleEnd) → CycleOfRunsWithin call part limits ran → ran.runs ≡ ran.cursor.runs
-counted call part limits ran h = h.count_is ∙ by h.runs h.chained h.made_of h.spent h.ends ∙ sym (ap (λ c. c.runs) h.cursor_is)
+counted call part limits ran h = let a = apart call part limits ran h in a.count_is ∙ by a.unused a.runs a.chained a.made_of a.spent a.ends ∙ sym (ap (λ c. c.runs) a.cursor_is)
   where
-    by : (runs : List MadeRun) → AreChained part new_cursor runs → IsMadeOf call (calls_of runs) → AreSpent runs → ChainEnds runs h.unused ran.end → length runs ≡ (last_cursor new_cursor runs).runs
-    by [] chained made spent ends = refl
-    by (r ∷ rest) chained made spent ends =
-        let k = comes call.root part r rest h.unused ran.end call.before call.after call.old call.new new_cursor None refl chained made spent (ends_in (r ∷ rest) h.unused ran.end ends) in
+    by : (unused : List Limits) (runs : List MadeRun) → AreMade part new_cursor runs → IsMadeOf call (calls_of runs) → AreSpent runs → LastEnds runs unused ran.end → length runs ≡ (last_cursor new_cursor runs).runs
+    by unused [] chained made spent ends = refl
+    by unused (r ∷ rest) chained made spent ends =
+        let k = comes call.root part r rest unused ran.end call.before call.after call.old call.new new_cursor None refl chained made spent (ends_in (r ∷ rest) unused ran.end ends) in
         let e : (last_cursor new_cursor (r ∷ rest)).runs ≡ 0 + length (r ∷ rest) = ap (λ c. c.runs) k.cursor_is in
         omega (arith, e)

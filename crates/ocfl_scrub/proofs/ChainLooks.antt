@@ -17,7 +17,7 @@ use Rattle.ocfl_cursor.specs.Cursor.{Cursor, new_cursor}
 use Rattle.ocfl_scrub.specs.Call.{Call, call_of}
 use Rattle.ocfl_item.specs.Auditing.{FailedAt}
 use Rattle.ocfl_item.specs.declared.fault.Fault.TheVariants.{Memory, Store as AtStore}
-use Rattle.ocfl_scrub.specs.Chaining.{MadeRun, calls_of, AreChained, IsMadeOf, last_end, ChainEnds, CycleOfRunsWithin}
+use Rattle.ocfl_scrub.specs.Chaining.{MadeRun, IsMadeOf, CycleOfRunsWithin}
 use Rattle.ocfl_scrub.specs.Running.{place_in, RunEndsWithin}
 use Rattle.ocfl_scrub.specs.declared.cycling.CycleEnd.{CycleEnd}
 use Rattle.ocfl_scrub.specs.declared.cycling.CycleStatus.TheVariants as cycle
@@ -25,6 +25,8 @@ use Rattle.ocfl_scrub.specs.declared.running.RunStatus.{RunStatus}
 use Rattle.ocfl_scrub.specs.declared.running.RunStatus.TheVariants as run
 use Rattle.ocfl_scrub.proofs.ChainHeadline.{now}
 use Rattle.ocfl_scrub.proofs.ChainLaws.{spent_not_stopped}
+use Rattle.ocfl_scrub.proofs.LooksOnce.{run_lists_once, run_reads_once}
+use Rattle.ocfl_scrub.proofs.ChainParts.{calls_of, AreMade, last_end, LastEnds, Apart, apart}
 
 module _ (root : StorageRoot) (part : Part) where
   -- ---- one run
@@ -35,27 +37,14 @@ module _ (root : StorageRoot) (part : Part) where
   abbrev Reads : Store → Store → Type 0
   Reads s t = (trail : List Opening) × ((t.openings ≡ s.openings ++ trail) × IsAscending place_cmp (heads_of root trail))
 
-  module _ (s t : Store) (old new : Option (List ℕ)) (from last : Option Place) (l : Limits) (spent files : ℕ) (finding : Bool) where
-    lists : (end : RunStatus) → RunEndsWithin (call_of root s t old new) part from last l spent files finding end → Lists s t
-    lists run.Ended h = (_, (h.looks.audits.did.listings_are, h.looks.lists_once))
-    lists run.Spent h = (_, (h.1.looks.audits.did.listings_are, h.1.looks.lists_once))
-    lists (run.Stopped why) h = (_, (h.looks.fails.did.listings_are, h.looks.lists_once))
-    lists run.Worn h = absurd h
-
-    reads : (end : RunStatus) → RunEndsWithin (call_of root s t old new) part from last l spent files finding end → Reads s t
-    reads run.Ended h = (h.trail, (h.looks.audits.did.openings_are, subst (IsAscending place_cmp) (sym h.looks.audits.heads_are) h.looks.reads_once))
-    reads run.Spent h = (h.1.trail, (h.1.looks.audits.did.openings_are, subst (IsAscending place_cmp) (sym h.1.looks.audits.heads_are) h.1.looks.reads_once))
-    reads (run.Stopped why) h = (h.trail, (h.looks.fails.did.openings_are, subst (IsAscending place_cmp) (sym h.looks.fails.heads_are) h.looks.reads_once))
-    reads run.Worn h = absurd h
-
   -- ---- the runs of a chain
 
-  lists_all : (made : List MadeRun) (c : Cursor) (s t : Store) (old new : Option (List ℕ)) → AreChained part c made → IsMadeOf (call_of root s t old new) (calls_of made)
+  lists_all : (made : List MadeRun) (c : Cursor) (s t : Store) (old new : Option (List ℕ)) → AreMade part c made → IsMadeOf (call_of root s t old new) (calls_of made)
       → (looks : List (List Place)) × ((length looks ≡ length made) × ((t.listings ≡ s.listings ++ flat_map (λ ls. ls) looks) × AllByRecursion (IsAscending place_cmp) looks))
   lists_all [] c s t old new h m = ([], (refl, (ap (λ x. x.listings) m.0 ∙ sym (append-nil s.listings), tt)))
   lists_all (r ∷ rest) c s t old new h m =
       let k = now root part s old c r h.0 m.0 in
-      let one : Lists s r.call.after = lists s r.call.after old r.call.new (place_in c.state) k.last r.limits r.ran.spent r.ran.files r.ran.found r.ran.end k.run in
+      let one : Lists s r.call.after = run_lists_once (call_of root s r.call.after old r.call.new) part (place_in c.state) k.last r.limits r.ran.spent r.ran.files r.ran.found r.ran.end k.run in
       let more = lists_all rest r.ran.cursor r.call.after t r.call.new new h.1 m.1 in (
         one.0 ∷ more.0,
         (
@@ -67,13 +56,13 @@ module _ (root : StorageRoot) (part : Part) where
         ),
       )
 
-  reads_all : (made : List MadeRun) (c : Cursor) (s t : Store) (old new : Option (List ℕ)) → AreChained part c made → IsMadeOf (call_of root s t old new) (calls_of made)
+  reads_all : (made : List MadeRun) (c : Cursor) (s t : Store) (old new : Option (List ℕ)) → AreMade part c made → IsMadeOf (call_of root s t old new) (calls_of made)
       → (trails : List (List Opening)) × ((length trails ≡ length made) × ((t.openings ≡ s.openings ++ flat_map (λ os. os) trails)
       × AllByRecursion (λ os. IsAscending place_cmp (heads_of root os)) trails))
   reads_all [] c s t old new h m = ([], (refl, (ap (λ x. x.openings) m.0 ∙ sym (append-nil s.openings), tt)))
   reads_all (r ∷ rest) c s t old new h m =
       let k = now root part s old c r h.0 m.0 in
-      let one : Reads s r.call.after = reads s r.call.after old r.call.new (place_in c.state) k.last r.limits r.ran.spent r.ran.files r.ran.found r.ran.end k.run in
+      let one : Reads s r.call.after = run_reads_once (call_of root s r.call.after old r.call.new) part (place_in c.state) k.last r.limits r.ran.spent r.ran.files r.ran.found r.ran.end k.run in
       let more = reads_all rest r.ran.cursor r.call.after t r.call.new new h.1 m.1 in (
         one.0 ∷ more.0,
         (
@@ -90,7 +79,7 @@ module _ (root : StorageRoot) (part : Part) where
   abbrev FailedIn : Store → Store → Place → Type 0
   FailedIn s t q = (listed : List Place) × ((trail : List Opening) × ((t.listings ≡ s.listings ++ listed) × ((t.openings ≡ s.openings ++ trail) × FailedAt root s t listed trail q)))
 
-  last_failed : (made : List MadeRun) (c : Cursor) (s t : Store) (old new : Option (List ℕ)) → AreChained part c made → IsMadeOf (call_of root s t old new) (calls_of made)
+  last_failed : (made : List MadeRun) (c : Cursor) (s t : Store) (old new : Option (List ℕ)) → AreMade part c made → IsMadeOf (call_of root s t old new) (calls_of made)
       → (q : Place) → last_end made ≡ run.Stopped (AtStore q) → (front : List Call) × ((k : Call) × ((calls_of made ≡ front ++ k ∷ []) × FailedIn k.before k.after q))
   last_failed [] c s t old new h m q e = absurd (spent_not_stopped (AtStore q) e)
   last_failed (r ∷ []) c s t old new h m q e =
@@ -125,13 +114,16 @@ root_each (ps ∷ looks) h =
 -- ---- a cycle
 
 module _ (call : Call) (part : Part) (limits : List Limits) (ran : CycleEnd) (h : CycleOfRunsWithin call part limits ran) where
+  abbrev a : Apart call part limits ran
+  a = apart call part limits ran h
+
   pub cycle_lists : (looks : List (List Place)) × ((length looks ≡ ran.runs) × ((call.after.listings ≡ call.before.listings ++ flat_map (λ ls. ls) looks)
       × AllByRecursion (IsAscending place_cmp) looks))
-  cycle_lists = let k = lists_all call.root part h.runs new_cursor call.before call.after call.old call.new h.chained h.made_of in (k.0, (k.1.0 ∙ sym h.count_is, k.1.1))
+  cycle_lists = let k = lists_all call.root part a.runs new_cursor call.before call.after call.old call.new a.chained a.made_of in (k.0, (k.1.0 ∙ sym a.count_is, k.1.1))
 
   pub cycle_reads : (trails : List (List Opening)) × ((length trails ≡ ran.runs) × ((call.after.openings ≡ call.before.openings ++ flat_map (λ os. os) trails)
       × AllByRecursion (λ os. IsAscending place_cmp (heads_of call.root os)) trails))
-  cycle_reads = let k = reads_all call.root part h.runs new_cursor call.before call.after call.old call.new h.chained h.made_of in (k.0, (k.1.0 ∙ sym h.count_is, k.1.1))
+  cycle_reads = let k = reads_all call.root part a.runs new_cursor call.before call.after call.old call.new a.chained a.made_of in (k.0, (k.1.0 ∙ sym a.count_is, k.1.1))
 
   pub root_listed : (listed : List Place) × ((call.after.listings ≡ call.before.listings ++ listed) × (length (filter is_empty listed) ≤ ran.runs))
   root_listed =
@@ -140,14 +132,14 @@ module _ (call : Call) (part : Part) (limits : List Limits) (ran : CycleEnd) (h 
 
   pub failed_last : (q : Place) → ran.end ≡ cycle.Stopped (AtStore q) → (calls : List Call) × ((k : Call) × (IsMadeOf call (calls ++ k ∷ []) × ((length (calls ++ k ∷ []) ≡ ran.runs)
       × FailedIn call.root part k.before k.after q)))
-  failed_last q e = by (subst (ChainEnds h.runs h.unused) e h.ends)
+  failed_last q e = by (subst (LastEnds a.runs a.unused) e a.ends)
     where
       not_memory : AtStore q ≡ Memory → ⊥
       not_memory f = cc
 
-      by : ChainEnds h.runs h.unused (cycle.Stopped (AtStore q))
+      by : LastEnds a.runs a.unused (cycle.Stopped (AtStore q))
           → (calls : List Call) × ((k : Call) × (IsMadeOf call (calls ++ k ∷ []) × ((length (calls ++ k ∷ []) ≡ ran.runs) × FailedIn call.root part k.before k.after q)))
       by (inr b) = absurd (not_memory b.memory)
       by (inl f) =
-          let k = last_failed call.root part h.runs new_cursor call.before call.after call.old call.new h.chained h.made_of q f in
-          (k.0, (k.1.0, (subst (IsMadeOf call) k.1.1.0 h.made_of, (ap length (sym k.1.1.0) ∙ length-map h.runs (λ r. r.call) ∙ sym h.count_is, k.1.1.1))))
+          let k = last_failed call.root part a.runs new_cursor call.before call.after call.old call.new a.chained a.made_of q f in
+          (k.0, (k.1.0, (subst (IsMadeOf call) k.1.1.0 a.made_of, (ap length (sym k.1.1.0) ∙ length-map a.runs (λ r. r.call) ∙ sym a.count_is, k.1.1.1))))

@@ -13,7 +13,7 @@ use Rattle.ocfl_item.specs.declared.fault.Fault.{Fault}
 use Rattle.ocfl_item.specs.declared.fault.Fault.TheVariants.{Memory}
 use Rattle.ocfl_scrub.specs.Call.{Call, call_of}
 use Rattle.ocfl_scrub.specs.Running.{RunEndsWithin, RunsFromWithin}
-use Rattle.ocfl_scrub.specs.Chaining.{MadeRun, calls_of, AreChained, IsMadeOf, AreSpent, last_end, last_cursor, ChainEnds, CycleOfRunsWithin}
+use Rattle.ocfl_scrub.specs.Chaining.{MadeRun, IsMadeOf, CycleOfRunsWithin}
 use Rattle.ocfl_scrub.specs.declared.running.RunEnd.{RunEnd}
 use Rattle.ocfl_scrub.specs.declared.running.RunStatus.{RunStatus}
 use Rattle.ocfl_scrub.specs.declared.running.RunStatus.TheVariants as run
@@ -21,13 +21,14 @@ use Rattle.ocfl_scrub.specs.declared.cycling.CycleEnd.{CycleEnd}
 use Rattle.ocfl_scrub.specs.declared.cycling.CycleStatus.{CycleStatus}
 use Rattle.ocfl_scrub.specs.declared.cycling.CycleStatus.TheVariants as cycle
 use Rattle.ocfl_scrub.proofs.AuditsJoined.{audits_over}
+use Rattle.ocfl_scrub.proofs.ChainParts.{calls_of, AreMade, AreSpent, last_end, last_cursor, LastEnds, put_together}
 use Rattle.ocfl_scrub.proofs.Lists.{map_append}
 use Rattle.ocfl_scrub.proofs.TakeLaws.{or_none}
 
 -- ---- one run more
 
-chained_more : (part : Part) (c : Cursor) (runs : List MadeRun) (r : MadeRun) → AreChained part c runs → RunsFromWithin r.call part (last_cursor c runs) r.limits r.ran
-    → AreChained part c (runs ++ r ∷ [])
+chained_more : (part : Part) (c : Cursor) (runs : List MadeRun) (r : MadeRun) → AreMade part c runs → RunsFromWithin r.call part (last_cursor c runs) r.limits r.ran
+    → AreMade part c (runs ++ r ∷ [])
 chained_more part c [] r h k = (k, tt)
 chained_more part c (q ∷ runs) r h k = (h.0, chained_more part q.ran.cursor runs r h.1 k)
 
@@ -82,7 +83,7 @@ run_over root part s t old new from last l spent files finding run.Worn h = absu
 pub record Chain (root : StorageRoot) (part : Part) (s t : Store) (old mid : Option (List ℕ)) (limits all : List Limits) (c : Cursor) (finding : Bool)
     (count : ℕ) : Type 0 where
   pub runs : List MadeRun
-  pub chained : AreChained part new_cursor runs
+  pub chained : AreMade part new_cursor runs
   pub made_of : IsMadeOf (call_of root s t old mid) (calls_of runs)
   pub limits_are : all ≡ map (λ r. r.limits) runs ++ limits
   pub count_is : count ≡ length runs
@@ -109,8 +110,8 @@ chain_begins root part s old all c count is none over = record {
 module _ (root : StorageRoot) (part : Part) (s t : Store) (old mid : Option (List ℕ)) (limits all : List Limits) (c : Cursor) (finding : Bool) (count : ℕ) where
   -- such runs are a cycle
   cycle_is : (k : Chain root part s t old mid limits all c finding count) (ran : CycleEnd) (end : CycleStatus) → ran.runs ≡ count → ran.cursor ≡ c → ran.found ≡ finding → ran.end ≡ end
-      → s.tree ≡ root → AreSpent k.runs → ChainEnds k.runs limits end → CycleOfRunsWithin (call_of root s t old mid) part all ran
-  cycle_is k ran end counted cursor found end_is over spent ends = record {
+      → s.tree ≡ root → AreSpent k.runs → LastEnds k.runs limits end → CycleOfRunsWithin (call_of root s t old mid) part all ran
+  cycle_is k ran end counted cursor found end_is over spent ends = put_together (call_of root s t old mid) part all ran (record {
     over = over;
     runs = k.runs;
     chained = k.chained;
@@ -118,11 +119,11 @@ module _ (root : StorageRoot) (part : Part) (s t : Store) (old mid : Option (Lis
     unused = limits;
     limits_are = k.limits_are;
     spent = spent;
-    ends = subst (ChainEnds k.runs limits) (sym end_is) ends;
+    ends = subst (LastEnds k.runs limits) (sym end_is) ends;
     count_is = counted ∙ k.count_is;
     cursor_is = cursor ∙ k.cursor_is;
     found_is = found ∙ k.found_is;
-  }
+  })
 
 module _ (root : StorageRoot) (part : Part) (s t : Store) (old mid : Option (List ℕ)) (limits all : List Limits) (c : Cursor) (finding : Bool) (count : ℕ)
     (g : ChainSoFar root part s t old mid limits all c finding count) where

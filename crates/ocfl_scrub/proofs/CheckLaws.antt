@@ -36,6 +36,7 @@ use Rattle.ocfl_scrub.specs.declared.checking.End.TheVariants.{Stopped}
 use Rattle.ocfl_scrub.proofs.AuditsJoined.{nothing_hashed}
 use Rattle.ocfl_item.proofs.AuditingLaws.{audits_fail, audits_on}
 use Rattle.ocfl_scrub.proofs.TakeLaws.{nothing_of}
+use Rattle.ocfl_scrub.proofs.WayListed.{checked_lie, front_lies}
 
 -- ---- the item of a place
 
@@ -146,6 +147,7 @@ module _ (root : StorageRoot) (p : Place) where
             heads_are = g.audits.heads_are;
             near = g.audits.near;
           };
+          files_lie = checked_lie root s t p g;
           just = record { listed_front = g.listed_front; heads_front = g.heads_front; once = g.once };
           wrote = subst (λ is. Appends old old (text is)) (sym e) (Appends-nil old);
           item_is = sym (ap (λ is. not (is_empty is)) e);
@@ -160,6 +162,7 @@ module _ (root : StorageRoot) (p : Place) where
       listed = g.listed;
       heads = g.heads;
       fails = g.fails;
+      files_lie = λ q i h. absurd i;
       just = record { listed_front = g.listed_front; heads_front = g.heads_front; once = g.once };
       part = [];
       wrote = Appends-nil old;
@@ -183,6 +186,7 @@ module _ (root : StorageRoot) (p : Place) where
           audits = subst (λ hs. Audits root s u (p ∷ []) g.listed hs (g.trail ++ k.trail)) (append-nil g.heads)
               (subst (λ ls. Audits root s u (p ∷ []) ls (g.heads ++ []) (g.trail ++ k.trail)) (append-nil g.listed)
               (audits_on root s t u [] (p ∷ []) g.listed [] g.heads [] g.trail k.trail g.audits k.audits));
+          files_lie = checked_lie root s t p g;
           just = just_then k.trail (one_or_none root p k.trail k.alone);
           wrote = subst (λ is. Appends old new (text is)) (sym items) k.wrote;
           item_is = sym (ap (λ is. not (is_empty is)) (items ∙ one_item root k.trail p));
@@ -201,6 +205,7 @@ module _ (root : StorageRoot) (p : Place) where
           fails = subst (λ hs. Fails root s u k.begun g.listed hs (g.trail ++ k.trail) why) (append-nil g.heads)
               (subst (λ ls. Fails root s u k.begun ls (g.heads ++ []) (g.trail ++ k.trail) why) (append-nil g.listed)
               (audits_fail root s t u [] k.begun g.listed [] g.heads [] g.trail k.trail why g.audits k.fails));
+          files_lie = front_lies root s t p g k.begun k.one.0 k.one.1;
           just = just_then k.trail (one_of_front root p k.begun k.one.0 k.trail k.one.1 k.alone);
           part = k.part;
           wrote = k.wrote;

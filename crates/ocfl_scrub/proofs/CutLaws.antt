@@ -2,7 +2,7 @@
 use Rattle.std.proofs.Common.{◌≡◌, ℕ, zero, suc, ◌+◌, ◌<◌, ◌≤◌, List, [], ◌∷◌, ◌++◌, refl, sym, ◌∙◌, ap, subst, true, false, Bool, Some, None, Option, append-nil, length, take, drop, arith, eqb-true, ltb-true, ltb-false}
 use Rattle.std.proofs.lemmas.Bool.{eqb-false, lt-ltb}
 use Rattle.std.proofs.lemmas.List.{take-append-drop}
-use Rattle.std.specs.Prelude.{cond, ◌==◌, ◌||◌, ◌&&◌, nat_lt}
+use Rattle.std.specs.Prelude.{if◌then◌else◌, cond, ◌==◌, ◌||◌, ◌&&◌, nat_lt}
 use Rattle.ocfl_tree.specs.Place.{Place}
 use Rattle.ocfl_tree.specs.StorageRoot.{StorageRoot, Leaf, file, dir, other}
 use Rattle.ocfl_report.specs.Line.{Item}
@@ -12,7 +12,6 @@ use Rattle.ocfl_audit.specs.Lines.{named_at, cost_of, cost, is_hashed}
 use Rattle.ocfl_audit.specs.Audit.{total_cost}
 use Rattle.ocfl_audit.specs.Runs.{Limits, files_of, total_files, may_take, cut_len, cut, left}
 use Rattle.ocfl_scrub.proofs.Paying.{Paid}
-use Rattle.ocfl_scrub.specs.Running.{last_cost}
 
 -- what a cut takes and what it leaves are all there is
 pub cut_and_left : (items : List Item) (l : Limits) → cut items l ++ left items l ≡ items
@@ -132,6 +131,11 @@ pub free_costs : (root : StorageRoot) (u : Option ℕ) (p : Place) → is_hashed
 free_costs root u p h = let l : cost root u p ≤ 0 = ltb-false 0 (cost root u p) (sym (cost_read_or_not root u p) ∙ h) in omega (arith, l)
 
 -- ---- by how much what was spent passes the budget
+
+-- the cost of the last item that costs something
+abbrev pub last_cost : List Item → ℕ
+last_cost [] = 0
+last_cost (i ∷ items) = if last_cost items == 0 then i.cost else last_cost items
 
 pub no_cost : (items : List Item) → total_cost items ≡ 0 → last_cost items ≡ 0
 no_cost [] h = refl

@@ -8,6 +8,7 @@ pub mod Passing
 pub mod PassLaws
 pub mod LoopLaws
 pub mod LookLaws
+pub mod LooksOnce
 pub mod AuditLaws
 pub mod AuditTurns
 pub mod OrderLaws
@@ -17,13 +18,16 @@ pub mod NextLaws
 pub mod RunPlaces
 pub mod RunsJoined
 pub mod CycleEndLaws
+pub mod DirectoryLaws
 pub mod ChainRuns
 pub mod ChainLaws
 pub mod ChainHeadline
 pub mod ChainLooks
+pub mod ChainParts
 pub mod CycleLoop
 pub mod MeterLaws
 pub mod WayOrder
+pub mod WayListed
 pub mod Paying
 pub mod PayLaws
 pub mod RunTurns

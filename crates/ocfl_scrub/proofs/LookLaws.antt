@@ -11,29 +11,25 @@ use Rattle.ocfl_item.specs.declared.fault.Fault.{Fault}
 use Rattle.ocfl_item.proofs.AuditingLaws.{audits_fail, audits_on}
 use Rattle.ocfl_walk.specs.WalkCalls.{GoesDown, GoDownFails}
 use Rattle.ocfl_scrub.specs.Call.{call_of}
-use Rattle.ocfl_scrub.specs.Starting.{entry, looked_in, read_in, LooksOver, StopsLooking}
-use Rattle.ocfl_scrub.proofs.WayOrder.{listed_once_in, read_once_in}
-
-all_front : (xs : List Place) → IsFront xs xs
-all_front xs = ([], sym (append-nil xs))
+use Rattle.ocfl_scrub.specs.Starting.{extent_of, FilesLieIn, entry, looked_in, read_in, LooksOver, StopsLooking}
 
 module _ (root : StorageRoot) (part : Part) (s t u : Store) (old new : Option (List ℕ)) (from : Option Place) (g : GoesDown root s t (entry part from)) where
   pub looks_over : (to : Option Place) (done : List Place) (os : List Opening)
-      → Audits root t u done (looked_in root part from to) (read_in root part from to) os → LooksOver (call_of root s u old new) part from to done (g.trail ++ os)
-  looks_over to done os k = record {
+      → FilesLieIn root done (g.listed ++ looked_in root part from to) → Audits root t u done (looked_in root part from to) (read_in root part from to) os
+      → LooksOver (call_of root s u old new) (extent_of part) from to done (g.trail ++ os)
+  looks_over to done os files k = record {
     down = g.listed;
     held = g.heads;
     audits = audits_on root s t u [] done g.listed (looked_in root part from to) g.heads (read_in root part from to) g.trail os g.audits k;
     down_front = g.listed_front;
+    files_lie = files;
     held_front = g.heads_front;
-    lists_once = listed_once_in root part from to g.listed (looked_in root part from to) g.listed_front (all_front _);
-    reads_once = read_once_in root part from to g.heads (read_in root part from to) g.heads_front (all_front _);
   }
 
   pub stops_looking : (why : Fault) (begun listed heads : List Place) (os : List Opening) → Fails root t u begun listed heads os why
-      → IsFront listed (looked_in root part from None) → IsFront heads (read_in root part from None)
-      → StopsLooking (call_of root s u old new) part from begun (g.trail ++ os) why
-  stops_looking why begun listed heads os k listed_front heads_front = record {
+      → IsFront listed (looked_in root part from None) → IsFront heads (read_in root part from None) → FilesLieIn root begun (g.listed ++ listed)
+      → StopsLooking (call_of root s u old new) (extent_of part) from begun (g.trail ++ os) why
+  stops_looking why begun listed heads os k listed_front heads_front files = record {
     down = g.listed;
     listed = listed;
     held = g.heads;
@@ -43,13 +39,12 @@ module _ (root : StorageRoot) (part : Part) (s t u : Store) (old new : Option (L
     listed_front = listed_front;
     held_front = g.heads_front;
     heads_front = heads_front;
-    lists_once = listed_once_in root part from None g.listed listed g.listed_front listed_front;
-    reads_once = read_once_in root part from None g.heads heads g.heads_front heads_front;
+    files_lie = files;
   }
 
 -- it did not come to where it begins
 pub stops_above : (root : StorageRoot) (part : Part) (s t : Store) (old new : Option (List ℕ)) (from : Option Place) (why : Fault)
-    (g : GoDownFails root s t (entry part from) why) → StopsLooking (call_of root s t old new) part from [] g.trail why
+    (g : GoDownFails root s t (entry part from) why) → StopsLooking (call_of root s t old new) (extent_of part) from [] g.trail why
 stops_above root part s t old new from why g =
     let no_directory : IsFront [] (looked_in root part from None) = (looked_in root part from None, refl) in
     let no_head : IsFront [] (read_in root part from None) = (read_in root part from None, refl) in
@@ -63,6 +58,5 @@ stops_above root part s t old new from why g =
       listed_front = no_directory;
       held_front = g.heads_front;
       heads_front = no_head;
-      lists_once = listed_once_in root part from None g.listed [] g.listed_front no_directory;
-      reads_once = read_once_in root part from None g.heads [] g.heads_front no_head;
+      files_lie = λ p i h. absurd i;
     }

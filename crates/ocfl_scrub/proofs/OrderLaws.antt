@@ -4,21 +4,15 @@ use Rattle.std.specs.Ordering.{is_lt}
 use Rattle.ocfl_tree.specs.Place.{Place, place_cmp}
 use Rattle.ocfl_tree.specs.Ascending.{ascending, IsAscending, IsAmong}
 use Rattle.ocfl_tree.specs.StorageRoot.{StorageRoot}
-use Rattle.ocfl_tree.specs.declared.store.Opening.{Opening}
 use Rattle.ocfl_tree.proofs.Orders.{place_cmp_total, place_cmp_exact, ascends_filter, ascends_ascending, among_ascending, among_filter, among_from_filter}
 use Rattle.ocfl_inventory.specs.Note.{Note}
 use Rattle.ocfl_audit.specs.Audit.{candidates}
 use Rattle.ocfl_audit.specs.Between.{up_to, between, is_looked_into, looked_between, read_between}
 use Rattle.ocfl_audit.specs.Due.{places_after, item_places, hashed_among}
 use Rattle.ocfl_audit.specs.Lines.{is_empty, is_hashed, notes}
-use Rattle.ocfl_audit.specs.Trail.{heads_of, reads_inventory}
-use Rattle.ocfl_audit.specs.Parts.{Part}
+use Rattle.ocfl_audit.specs.Trail.{reads_inventory}
 use Rattle.ocfl_audit.proofs.AuditExists.{notes_candidate}
 use Rattle.ocfl_audit.proofs.PathLaws.{hashed_lines}
-use Rattle.ocfl_scrub.specs.Call.{Call}
-use Rattle.ocfl_scrub.specs.WholeAudit.{AuditEndsWithin}
-use Rattle.ocfl_scrub.specs.declared.checking.End.{End}
-use Rattle.ocfl_scrub.specs.declared.checking.End.TheVariants as end
 
 items_ascend : (root : StorageRoot) → IsAscending place_cmp (item_places root)
 unfolding item_places
@@ -64,15 +58,3 @@ pub read_ascend : (root : StorageRoot) (from to : Option Place) → IsAscending 
 unfolding read_between
 read_ascend root from to =
     between_ascends _ from to (ascends_filter place_cmp (reads_inventory root) (ascending place_cmp (map (λ e. e.0) root)) (ascends_ascending place_cmp_total (map (λ e. e.0) root)))
-
--- ---- the audit of a part
-
-module _ (call : Call) (part : Part) (last : Option Place) (finding : Bool) where
-  pub part_lists_once : (how : End) → AuditEndsWithin call part last finding how → (listed : List Place) × ((call.after.listings ≡ call.before.listings ++ listed) × IsAscending place_cmp listed)
-  part_lists_once end.Ended h = (_, (h.looks.audits.did.listings_are, h.looks.lists_once))
-  part_lists_once (end.Stopped why) h = (_, (h.looks.fails.did.listings_are, h.looks.lists_once))
-
-  pub part_reads_once : (how : End) → AuditEndsWithin call part last finding how → (trail : List Opening)
-      × ((call.after.openings ≡ call.before.openings ++ trail) × IsAscending place_cmp (heads_of call.root trail))
-  part_reads_once end.Ended h = (h.trail, (h.looks.audits.did.openings_are, subst (IsAscending place_cmp) (sym h.looks.audits.heads_are) h.looks.reads_once))
-  part_reads_once (end.Stopped why) h = (h.trail, (h.looks.fails.did.openings_are, subst (IsAscending place_cmp) (sym h.looks.fails.heads_are) h.looks.reads_once))

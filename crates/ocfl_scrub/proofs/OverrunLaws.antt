@@ -4,11 +4,13 @@ use Rattle.std.specs.Prelude.{cond, ◌==◌}
 use Rattle.ocfl_tree.specs.Place.{Place}
 use Rattle.ocfl_report.specs.Line.{Item}
 use Rattle.ocfl_audit.specs.Audit.{total_cost}
-use Rattle.ocfl_audit.specs.Runs.{Limits}
+use Rattle.ocfl_audit.specs.Runs.{Limits, cut}
 use Rattle.ocfl_scrub.specs.Call.{Call}
-use Rattle.ocfl_scrub.specs.Running.{last_cost, taken, Runs}
+use Rattle.ocfl_scrub.specs.Running.{items_over, taken_over, RunsOver}
+use Rattle.ocfl_scrub.specs.Starting.{Extent}
 use Rattle.ocfl_audit.proofs.RunLaws.{cost_append}
-use Rattle.ocfl_scrub.proofs.CutLaws.{no_cost}
+use Rattle.ocfl_scrub.proofs.CutLaws.{last_cost, no_cost, paid_passes}
+use Rattle.ocfl_scrub.proofs.PartLaws.{cut_paid}
 
 some_cost : (n : ℕ) → 0 < n → (c : ℕ) → cond (n == 0) c n ≡ n
 some_cost n h c = by (n == 0) refl
@@ -22,14 +24,14 @@ last_is : (front : List Item) (last : Item) (behind : List Item) → 0 < last.co
 last_is [] last behind h k = ap (λ n. cond (n == 0) last.cost n) (no_cost behind k)
 last_is (i ∷ front) last behind h k = ap (λ n. cond (n == 0) i.cost n) (last_is front last behind h k) ∙ some_cost last.cost h i.cost
 
-pub less_than_the_last : (call : Call) (from to next : Option Place) (limits : Limits) (spent files : ℕ) (finding : Bool)
-    (run : Runs call from to limits spent files finding next) (front behind : List Item) (last : Item)
-    → taken call.root run.trail from limits ≡ front ++ last ∷ behind → 0 < last.cost → total_cost behind ≡ 0 → spent < limits.budget + last.cost
-less_than_the_last call from to next limits spent files finding run front behind last are h k =
-    let a = run.figures.spent_is in
-    let e : total_cost (taken call.root run.trail from limits) ≡ total_cost (front ++ last ∷ behind) = ap total_cost are in
+pub less_than_the_last : (call : Call) (over : Extent) (from to next : Option Place) (limits : Limits) (spent files : ℕ) (finding : Bool)
+    (run : RunsOver call over from to limits spent files finding next) (front behind : List Item) (last : Item)
+    → taken_over call.root run.trail over from limits ≡ front ++ last ∷ behind → 0 < last.cost → total_cost behind ≡ 0 → spent < limits.budget + last.cost
+less_than_the_last call over from to next limits spent files finding run front behind last are h k =
+    let items : List Item = items_over call.root run.trail over from in
+    let a : spent ≡ total_cost (cut items limits) = run.figures.spent_is in
+    let e : total_cost (cut items limits) ≡ total_cost (front ++ last ∷ behind) = ap total_cost are in
     let f = cost_append front (last ∷ behind) in
-    let c : last_cost (taken call.root run.trail from limits) ≡ last.cost = ap last_cost are ∙ last_is front last behind h k in
-    let some : 0 < spent = omega (arith, a, e, f, h) in
-    let m = run.overrun some in
-    omega (arith, m, c)
+    let c : last_cost (cut items limits) ≡ last.cost = ap last_cost are ∙ last_is front last behind h k in
+    let m = paid_passes limits (cut items limits) (cut_paid limits items) (omega (arith, e, f, h)) in
+    omega (arith, a, m, c)

@@ -30,26 +30,15 @@ use Rattle.ocfl_walk.proofs.EndLaws.{all_left, not_past_down}
 use Rattle.ocfl_scrub.specs.Starting.{end_of, greater_of, unless_root, first_place, is_before, entry_by, entry, stand_by, stand, due_within, looked_in, read_in}
 use Rattle.ocfl_scrub.specs.Running.{items_above_in}
 use Rattle.ocfl_scrub.proofs.OrderLaws.{looked_ascend, read_ascend}
-use Rattle.ocfl_scrub.proofs.PassLaws.{due_ascends}
+use Rattle.ocfl_scrub.proofs.PassLaws.{due_ascends, not_less_or}
 
 -- ---- what lies in a part: what is not less than its first place, and not past its end
 
--- places that are not less than another
-not_less_or : (x a b : Place) → is_lt (place_cmp x a) ≡ false → is_lt (place_cmp a b) ≡ false → is_lt (place_cmp x b) ≡ false
-not_less_or x a b h k = by (place_cmp a b) (place_cmp x b) refl refl
-  where
-    by : (r s : Ordering) → place_cmp a b ≡ r → place_cmp x b ≡ s → is_lt s ≡ false
-    by Less s e f = absurd (true_not_false (sym (ap is_lt e) ∙ k))
-    by Equal s e f = sym (ap is_lt f) ∙ subst (λ z. is_lt (place_cmp x z) ≡ false) (place_cmp_exact a b e) h
-    by Greater Less e f = absurd (true_not_false (sym (ap is_lt (place_cmp_total.trans x b a f (below_from_greater place_cmp_total a b e))) ∙ h))
-    by Greater Equal e f = refl
-    by Greater Greater e f = refl
-
-unless_root_is : (g b : Place) → unless_root g ≡ Some b → g ≡ b
+pub unless_root_is : (g b : Place) → unless_root g ≡ Some b → g ≡ b
 unless_root_is [] b e = absurd (let two : None ≡ Some b = e in cc)
 unless_root_is (n ∷ g) b e = let two : Some (n ∷ g) ≡ Some b = e in cc
 
-nothing_less : (x : Place) → is_lt (place_cmp x []) ≡ false
+pub nothing_less : (x : Place) → is_lt (place_cmp x []) ≡ false
 nothing_less [] = refl
 nothing_less (n ∷ x) = refl
 
@@ -123,7 +112,7 @@ module _ (part : Part) (x : Place) where
       by false e = ap (λ b. not (is_lt (place_cmp x (greater_of part.under part.from))) && not (b || is_at_bound part.below x)) (apart out (over_under e))
           ∙ and_false (not (is_lt (place_cmp x (greater_of part.under part.from))))
 
-  lies_exact : lies_in part x ≡ not (is_lt (place_cmp x (greater_of part.under part.from))) && not (is_past (end_of part) x)
+  pub lies_exact : lies_in part x ≡ not (is_lt (place_cmp x (greater_of part.under part.from))) && not (is_past (end_of part) x)
   lies_exact = by (begins part.under x) refl
     where
       by : (b : Bool) → begins part.under x ≡ b → lies_in part x ≡ not (is_lt (place_cmp x (greater_of part.under part.from))) && not (is_past (end_of part) x)
@@ -152,7 +141,7 @@ module _ (part : Part) where
           ∙ filter_same _ _ (λ x. sym (lies_exact part x ∙ ap (λ h. not (is_lt (place_cmp x h)) && not (is_past (end_of part) x)) e)) xs
 
   -- what lies in a part is not less than its first place
-  not_less_first : (b x : Place) → first_place part ≡ Some b → lies_in part x ≡ true → is_lt (place_cmp x b) ≡ false
+  pub not_less_first : (b x : Place) → first_place part ≡ Some b → lies_in part x ≡ true → is_lt (place_cmp x b) ≡ false
   not_less_first b x e h = by (is_lt (place_cmp x b)) refl
     where
       shown : not (is_lt (place_cmp x b)) && not (is_past (end_of part) x) ≡ true
@@ -220,7 +209,7 @@ module _ (root : StorageRoot) (part : Part) (above : Option Place) where
   unfolding due
   due_starts = leaves root part (due root) (due_from root) (λ p. refl) above
 
-  looked_starts : (to : Option Place) → before_end (end_of part) (looked_between root (stand root part above) to) ≡ looked_in root part above to
+  pub looked_starts : (to : Option Place) → before_end (end_of part) (looked_between root (stand root part above) to) ≡ looked_in root part above to
   unfolding looked_between
   looked_starts to = leaves root part (λ from. looked_between root from to) (λ b. looked_from root b to) (λ p. filter_up_to (λ q. is_lt (place_cmp p q)) _ to) above
 

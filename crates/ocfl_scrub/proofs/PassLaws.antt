@@ -1,5 +1,5 @@
 -- A pass, item by item, and its ends.
-use Rattle.std.proofs.Common.{◌≡◌, ◌≢◌, inl, ℕ, List, [], ◌∷◌, ◌++◌, refl, sym, ◌∙◌, ap, subst, true, false, Bool, Some, None, Option, append-nil, append_assoc, take, not}
+use Rattle.std.proofs.Common.{◌≡◌, ◌≢◌, ◌⊎◌, inl, inr, ℕ, List, [], ◌∷◌, ◌++◌, refl, sym, ◌∙◌, ap, subst, true, false, Bool, Some, None, Option, append-nil, append_assoc, take, not}
 use Rattle.std.specs.Prelude.{cond, ◌||◌}
 use Rattle.std.specs.List.{list_any}
 use Rattle.std.specs.Ordering.{is_lt}
@@ -10,19 +10,24 @@ use Rattle.ocfl_tree.specs.Ascending.{ascending, IsAscending, IsAmong}
 use Rattle.ocfl_tree.specs.StorageRoot.{StorageRoot}
 use Rattle.ocfl_tree.specs.Store.{Store}
 use Rattle.ocfl_tree.specs.declared.store.Opening.{Opening}
-use Rattle.ocfl_tree.proofs.Orders.{place_cmp_total, ascends_filter, ascends_ascending, among_from_filter}
+use Rattle.ocfl_tree.proofs.Orders.{place_cmp_total, place_cmp_exact, not_less_itself, below_from_greater, true_not_false, among_left, among_right, ascends_filter, ascends_ascending, among_from_filter}
+use Rattle.std.specs.declared.cmp.Ordering.{Ordering}
+use Rattle.std.specs.declared.cmp.Ordering.TheVariants.{Less, Equal, Greater}
+use Rattle.ocfl_tree.proofs.Stores.{among_either}
 use Rattle.ocfl_report.specs.Line.{Line, Item, has_finding, found, is_finding_code}
 use Rattle.ocfl_report.specs.Text.{lines_text, text, line_text}
 use Rattle.ocfl_audit.specs.Audit.{candidates}
 use Rattle.ocfl_audit.specs.Lines.{is_empty, notes}
 use Rattle.ocfl_audit.specs.Due.{item_places, due, items_at, hashed_among}
 use Rattle.ocfl_audit.specs.Trail.{content_trail}
-use Rattle.ocfl_audit.specs.Between.{IsBeyond, looked_between, read_between}
+use Rattle.ocfl_audit.specs.Between.{IsBeyond, IsWithin, looked_between, read_between}
 use Rattle.ocfl_audit.proofs.BelowLaws.{less_from}
+use Rattle.ocfl_audit.proofs.BetweenLaws.{among_between, from_between}
 use Rattle.ocfl_audit.proofs.Trails.{filter_append}
 use Rattle.ocfl_item.specs.Auditing.{Audits, Fails}
 use Rattle.ocfl_walk.specs.WalkCalls.{Walks, WalksOut, FailsOut}
 use Rattle.ocfl_walk.specs.Ends.{is_past, before_end}
+use Rattle.ocfl_walk.proofs.BeforeLaws.{not_below}
 use Rattle.ocfl_walk.specs.declared.end.End.{End}
 use Rattle.ocfl_item.specs.declared.fault.Fault.{Fault}
 use Rattle.ocfl_item.specs.declared.fault.Fault.TheVariants.{Output}
@@ -110,6 +115,53 @@ module _ (root : StorageRoot) (t u v : Store) (last to : Option Place) (w : Walk
       (subst (λ ls. Fails root t v qs ls (read_between root last to ++ []) (w.trail ++ os) why) (append-nil (looked_between root last to))
       (audits_fail root t u v [] qs (looked_between root last to) [] (read_between root last to) [] w.trail os why w.audits k))
 
+-- ---- the last place that was taken
+
+-- places that are not less than another
+pub not_less_or : (x a b : Place) → is_lt (place_cmp x a) ≡ false → is_lt (place_cmp a b) ≡ false → is_lt (place_cmp x b) ≡ false
+not_less_or x a b h k = by (place_cmp a b) (place_cmp x b) refl refl
+  where
+    by : (r s : Ordering) → place_cmp a b ≡ r → place_cmp x b ≡ s → is_lt s ≡ false
+    by Less s e f = absurd (true_not_false (sym (ap is_lt e) ∙ k))
+    by Equal s e f = sym (ap is_lt f) ∙ subst (λ z. is_lt (place_cmp x z) ≡ false) (place_cmp_exact a b e) h
+    by Greater Less e f = absurd (true_not_false (sym (ap is_lt (place_cmp_total.trans x b a f (below_from_greater place_cmp_total a b e))) ∙ h))
+    by Greater Equal e f = refl
+    by Greater Greater e f = refl
+
+-- the last of some places is not less than any of them
+last_upper : (from : Option Place) (ps : List Place) → IsAscending place_cmp ps → (p : Place) → IsAmong ps p → (m : Place) × ((last_of from ps ≡ Some m) × (is_lt (place_cmp m p) ≡ false))
+last_upper from [] up p i = absurd i
+last_upper from (q ∷ []) up p (inl e) = (q, (refl, subst (λ x. is_lt (place_cmp q x) ≡ false) (sym e) (not_less_itself place_cmp_total q)))
+last_upper from (q ∷ []) up p (inr i) = absurd i
+last_upper from (q ∷ r ∷ ps) up p (inl e) =
+    let k = last_upper (Some q) (r ∷ ps) up.1 r (inl refl) in
+    (k.0, (k.1.0, not_less_or k.0 r p k.1.1 (not_below p r (subst (λ x. place_cmp x r ≡ Less) (sym e) up.0.0))))
+last_upper from (q ∷ r ∷ ps) up p (inr i) = last_upper (Some q) (r ∷ ps) up.1 p i
+
+pub among_more : (xs ys whole rest : List Place) (z : Place) → whole ≡ ys ++ rest → IsAmong (xs ++ ys) z → IsAmong (xs ++ whole) z
+among_more xs ys whole rest z e i = by (among_either xs ys z i)
+  where
+    by : IsAmong xs z ⊎ IsAmong ys z → IsAmong (xs ++ whole) z
+    by (inl j) = among_left xs whole z j
+    by (inr j) = among_right xs whole z (subst (λ zs. IsAmong zs z) (sym e) (among_left ys rest z j))
+
+module _ (root : StorageRoot) (from : Option Place) where
+  -- what is listed up to a place is listed further on
+  pub looked_further : (to : Option Place) (p d : Place) → (is_lt (place_cmp p d) ≡ false → IsWithin to d) → IsAmong (looked_between root from (Some p)) d → IsAmong (looked_between root from to) d
+  unfolding looked_between
+  looked_further to p d far i = let k = from_between _ from (Some p) d i in among_between _ from to d k.0 k.1 (far k.2)
+
+  module _ (e : End) where
+    -- what was listed up to a place was listed up to one that is not less
+    pub listed_further : (p m d : Place) → is_lt (place_cmp m p) ≡ false → IsAmong (before_end e (looked_between root from (Some p))) d → IsAmong (looked_between root from (Some m)) d
+    listed_further p m d n i =
+        looked_further (Some m) p d (λ k. not_less_or m p d n k) (among_from_filter (λ z. not (is_past e z)) (looked_between root from (Some p)) d i).0
+
+    pub listed_to_last : (done : List Place) → IsAscending place_cmp done → (p : Place) → IsAmong done p → (d : Place) → IsAmong (before_end e (looked_between root from (Some p))) d
+        → (last : Option Place) → last ≡ last_of from done → IsAmong (up_to_last (looked_between root) from last) d
+    listed_to_last done up p i d j last is =
+        let k = last_upper from done up p i in subst (λ o. IsAmong (up_to_last (looked_between root) from o) d) (sym (is ∙ k.1.0)) (listed_further p k.0 d k.1.1 j)
+
 -- ---- a pass begins
 
 unfoldable pub passes_none : (root : StorageRoot) (e : End) (s : Store) (old : Option (List ℕ)) (from : Option Place) → s.tree ≡ root → Passes root e s s old old from from false
@@ -152,6 +204,13 @@ module _ (root : StorageRoot) (e : End) (s t u : Store) (old mid : Option (List 
 
     pub with_ascends : IsAscending place_cmp (h.done ++ p ∷ [])
     with_ascends = front_ascends root from h.done (p ∷ []) (due root (Some p)) due_with
+
+    -- these are up to the place itself
+    pub up_to_next : (q : Place) → IsAmong (h.done ++ p ∷ []) q → is_lt (place_cmp p q) ≡ false
+    up_to_next q i =
+        let k = last_upper from (h.done ++ p ∷ []) with_ascends q i in
+        let same : k.0 ≡ p = (let two : Some k.0 ≡ Some p = sym k.1.0 ∙ last_append from h.done p in cc) in
+        subst (λ x. is_lt (place_cmp x q) ≡ false) same k.1.1
 
     module _ (cost : ℕ) (more : Bool) (k : Takes (call_of root u v mid new) p cost more) where
       pub taken_there : Audits root t v (p ∷ []) (looked_between root last (Some p)) (read_between root last (Some p)) (w.trail ++ k.trail)
@@ -214,6 +273,7 @@ module _ (root : StorageRoot) (e : End) (s t u : Store) (old mid : Option (List 
           fails = audits_fail root s t v h.done k.begun _ _ _ _ h.trail (w.trail ++ k.trail) why h.audits both;
           listed_front = front_behind _ _ _ _ (looked_end root e from last low) (looked_front root e last p up in_front);
           heads_front = front_behind _ _ _ _ (read_end root e from last low) (read_front root e last p up in_front);
+          there = λ q i d j. subst (λ ds. IsAmong ds d) (sym (looked_next root e from last low p up)) (listed_further root from e q p d (up_to_next q (among_more h.done k.begun (p ∷ []) k.one.0 q k.one.1 i)) j);
           due_are = halves;
           one = (k.one.0, next_is ∙ k.one.1);
           last_is = h.last_is;
@@ -222,6 +282,9 @@ module _ (root : StorageRoot) (e : End) (s t u : Store) (old mid : Option (List 
           part_of = subst (λ is. PartOf why (text is) k.part) next k.part_of;
           found_is = h.found_is ∙ ap found (sym before);
         }
+
+  pub done_ascends : IsAscending place_cmp h.done
+  done_ascends = ascends_left place_cmp h.done (due root last) (subst (IsAscending place_cmp) h.due_are (due_ascends root from))
 
   -- nothing was done but walking
   pub walked_on : (os : List Opening) → content_trail root os ≡ hashed_among root [] → items_at root (h.trail ++ os) h.done ≡ items_at root h.trail h.done
@@ -243,6 +306,8 @@ module _ (root : StorageRoot) (e : End) (s t u : Store) (old mid : Option (List 
         fails = audits_fail root s t u h.done [] _ _ _ _ h.trail w.trail why h.audits w.fails;
         listed_front = front_behind _ _ _ _ (looked_end root e from last low) w.listed_front;
         heads_front = front_behind _ _ _ _ (read_end root e from last low) w.heads_front;
+        there = λ q i d j. among_left (up_to_last (looked_between root) from last) w.listed d
+            (listed_to_last root from e h.done done_ascends q (subst (λ qs. IsAmong qs q) (append-nil h.done) i) d j last h.last_is);
         due_are = halves;
         one = (take 1 (due_in root e last), refl);
         last_is = h.last_is;

@@ -2,6 +2,7 @@
 use Rattle.std.specs.Prelude.{◌≡◌, ℕ, List, [], ◌++◌, Bool, Option, Some, None, take}
 use Rattle.std.specs.Io.KnownBytes.{Appends}
 use Rattle.ocfl_tree.specs.Place.{Text, Place}
+use Rattle.ocfl_tree.specs.Ascending.{IsAmong}
 use Rattle.ocfl_tree.specs.StorageRoot.{StorageRoot}
 use Rattle.ocfl_tree.specs.Store.{Store}
 use Rattle.ocfl_tree.specs.declared.store.Opening.{Opening}
@@ -46,7 +47,8 @@ pub record Finishes (root : StorageRoot) (e : End) (s t : Store) (old new : Opti
   pub found_is : finding ≡ found (items_at root trail (due_in root e from))
 
 -- from s to t the items above from were taken up to last, and then there was a fault: of the next
--- item before the end at most a proper beginning went out
+-- item before the end at most a proper beginning went out. Up to each of these items all
+-- directories were listed
 pub record Halts (root : StorageRoot) (e : End) (s t : Store) (old new : Option (List ℕ)) (from last : Option Place) (finding : Bool) (why : Fault) : Type 0 where
   pub done : List Place
   pub begun : List Place
@@ -56,6 +58,7 @@ pub record Halts (root : StorageRoot) (e : End) (s t : Store) (old new : Option 
   pub fails : Fails root s t (done ++ begun) listed heads trail why
   pub listed_front : IsFront listed (before_end e (looked_between root from None))
   pub heads_front : IsFront heads (before_end e (read_between root from None))
+  pub there : (p : Place) → IsAmong (done ++ begun) p → (d : Place) → IsAmong (before_end e (looked_between root from (Some p))) d → IsAmong listed d
   pub due_are : due_in root e from ≡ done ++ due_in root e last
   pub one : IsFront begun (take 1 (due_in root e last))
   pub last_is : last ≡ last_of from done

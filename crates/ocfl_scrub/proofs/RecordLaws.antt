@@ -17,6 +17,7 @@ use Rattle.ocfl_audit.specs.Due.{hashed_among, item_places}
 use Rattle.ocfl_audit.specs.Trail.{content_trail, heads_of, inventories, unread_of}
 use Rattle.ocfl_audit.specs.Walk.{item_at}
 use Rattle.ocfl_audit.specs.Between.{looked_between, read_between}
+use Rattle.ocfl_audit.specs.Parts.{whole}
 use Rattle.ocfl_audit.specs.Runs.{Limits, cut, left, runs, joined, total_files, IsAtLeast, FilesFit, sum_of}
 use Rattle.ocfl_item.specs.Looking.{failures_by, way_to}
 use Rattle.ocfl_item.specs.declared.fault.Fault.{Fault}
@@ -30,6 +31,7 @@ use Rattle.ocfl_cursor.specs.declared.limits.Limits.{Limits as MadeLimits}
 use Rattle.ocfl_deed.specs.declared.deed.Deed.TheVariants as deed
 use Rattle.ocfl_scrub.specs.Running.{first_of, begun_in, begun, place_in, state_at, state_after, limits_of, Runs, RunStops, RunEnds, RunsFrom, RunsCleanly}
 use Rattle.ocfl_scrub.specs.Chaining.{CycleOfRuns}
+use Rattle.ocfl_scrub.proofs.LooksOnce.{lists_once, reads_once, stops_list_once, stops_read_once}
 use Rattle.ocfl_scrub.specs.Cycling.{HeadlineOf}
 use Rattle.ocfl_scrub.specs.Together.{Cycles, CycleStops, CycleEnds, CyclesTo}
 use Rattle.ocfl_scrub.specs.Checking.{Checks, CheckStops, CheckEnds}
@@ -184,7 +186,7 @@ pub run_listed : (call : Call) (from last next : Option Place) (limits : Limits)
     → Runs call from last limits spent files finding next → (down : List Place)
     × ((rest : List Place) × ((call.after.listings ≡ call.before.listings ++ (down ++ looked_between call.root from next))
     × ((way_of from ≡ down ++ rest) × (IsAscending place_cmp (down ++ looked_between call.root from next)))))
-run_listed call from last next limits spent files finding h = (h.looks.down, (h.looks.down_front.0, (h.looks.audits.did.listings_are, (h.looks.down_front.1, h.looks.lists_once))))
+run_listed call from last next limits spent files finding h = (h.looks.down, (h.looks.down_front.0, (h.looks.audits.did.listings_are, (h.looks.down_front.1, lists_once call whole from next _ h.trail h.looks))))
 
 pub run_read : (call : Call) (from last next : Option Place) (limits : Limits) (spent files : ℕ) (finding : Bool)
     → Runs call from last limits spent files finding next → (trail : List Opening)
@@ -192,7 +194,7 @@ pub run_read : (call : Call) (from last next : Option Place) (limits : Limits) (
     × ((call.after.openings ≡ call.before.openings ++ trail)
     × ((heads_of call.root trail ≡ held ++ read_between call.root from next) × ((holder call.root from ≡ held ++ rest) × (IsAscending place_cmp (held ++ read_between call.root from next)))))))
 run_read call from last next limits spent files finding h =
-    (h.trail, (h.looks.held, (h.looks.held_front.0, (h.looks.audits.did.openings_are, (h.looks.audits.heads_are, (h.looks.held_front.1, h.looks.reads_once))))))
+    (h.trail, (h.looks.held, (h.looks.held_front.0, (h.looks.audits.did.openings_are, (h.looks.audits.heads_are, (h.looks.held_front.1, reads_once call whole from next _ h.trail h.looks))))))
 
 pub run_went_to : (call : Call) (from last next : Option Place) (limits : Limits) (spent files : ℕ) (finding : Bool)
     → Runs call from last limits spent files finding next → (trail : List Opening)
@@ -260,7 +262,7 @@ pub stopped_run_listed : (call : Call) (from last : Option Place) (limits : Limi
     × ((rest : List Place) × ((call.after.listings ≡ call.before.listings ++ (down ++ listed))
     × ((way_of from ≡ down ++ below) × ((looked_between call.root from None ≡ listed ++ rest) × (IsAscending place_cmp (down ++ listed))))))))
 stopped_run_listed call from last limits spent files finding why h =
-    (h.looks.down, (h.looks.down_front.0, (h.looks.listed, (h.looks.listed_front.0, (h.looks.fails.did.listings_are, (h.looks.down_front.1, (h.looks.listed_front.1, h.looks.lists_once)))))))
+    (h.looks.down, (h.looks.down_front.0, (h.looks.listed, (h.looks.listed_front.0, (h.looks.fails.did.listings_are, (h.looks.down_front.1, (h.looks.listed_front.1, stops_list_once call whole from _ h.trail why h.looks)))))))
 
 pub stopped_run_read : (call : Call) (from last : Option Place) (limits : Limits) (spent files : ℕ) (finding : Bool) (why : Fault)
     → RunStops call from last limits spent files finding why → (trail : List Opening)
@@ -279,7 +281,7 @@ stopped_run_read call from last limits spent files finding why h = (
         h.looks.heads,
         (
           h.looks.heads_front.0,
-          (h.looks.fails.did.openings_are, (h.looks.fails.did.failures_are, (h.looks.fails.heads_are, (h.looks.held_front.1, (h.looks.heads_front.1, h.looks.reads_once))))),
+          (h.looks.fails.did.openings_are, (h.looks.fails.did.failures_are, (h.looks.fails.heads_are, (h.looks.held_front.1, (h.looks.heads_front.1, stops_read_once call whole from _ h.trail why h.looks))))),
         ),
       ),
     ),

@@ -3,7 +3,9 @@ use Rattle.std.proofs.Common.{◌≡◌, ◌≢◌, ◌⊎◌, inl, inr, ℕ, su
 use Rattle.std.specs.Prelude.{cond}
 use Rattle.std.specs.Option.{option_map, option_copied}
 use Rattle.std.specs.Io.KnownBytes.{Appends}
-use Rattle.ocfl_tree.specs.Place.{Text, Place}
+use Rattle.std.specs.Ordering.{is_lt}
+use Rattle.ocfl_tree.specs.Place.{Text, Place, place_cmp}
+use Rattle.ocfl_tree.specs.Ascending.{IsBeforeAll}
 use Rattle.ocfl_tree.specs.StorageRoot.{StorageRoot}
 use Rattle.ocfl_tree.specs.Store.{Store}
 use Rattle.ocfl_tree.specs.declared.store.Opening.{Opening}
@@ -12,8 +14,8 @@ use Rattle.ocfl_report.specs.Text.{text}
 use Rattle.ocfl_audit.specs.Audit.{audit, after, total_cost, given_by}
 use Rattle.ocfl_audit.specs.Lines.{is_hashed}
 use Rattle.ocfl_audit.specs.Due.{items_at}
-use Rattle.ocfl_audit.specs.Between.{read_between}
-use Rattle.ocfl_audit.specs.Parts.{Part, within}
+use Rattle.ocfl_audit.specs.Between.{IsWithin, read_between}
+use Rattle.ocfl_audit.specs.Parts.{Part, whole, within}
 use Rattle.ocfl_audit.specs.Trail.{unread_of}
 use Rattle.ocfl_audit.specs.Runs.{Limits, files_of, total_files, cut_len, cut, left}
 use Rattle.ocfl_cursor.specs.Cursor.{State, Cursor, IsShortPlace, IsCursor}
@@ -25,11 +27,12 @@ use Rattle.ocfl_walk.specs.WalkCalls.{GoesDown, GoDownFails}
 use Rattle.ocfl_walk.specs.Ends.{before_end}
 use Rattle.ocfl_item.specs.declared.fault.Fault.{Fault}
 use Rattle.ocfl_item.specs.declared.fault.Fault.TheVariants.{Output}
-use Rattle.ocfl_scrub.specs.Call.{call_of}
+use Rattle.ocfl_scrub.specs.Call.{Call, call_of}
 use Rattle.ocfl_scrub.specs.Taking.{PartOf}
 use Rattle.ocfl_scrub.specs.Written.{places, last_of, Figures}
-use Rattle.ocfl_scrub.specs.Running.{items_above_in, taken_in, rest_in, first_of, last_cost, place_in, RunsWithin, RunStopsWithin, RunEndsWithin, RunsFromWithin, RunsCleanWithin, RunsCleanlyWithin, IsPaid, begun, state_after}
-use Rattle.ocfl_scrub.specs.Starting.{end_of, entry, stand, looked_in, read_in, LooksOver, StopsLooking}
+use Rattle.ocfl_scrub.specs.Running.{items_above_in, taken_in, rest_in, first_of, place_in, RunsWithin, RunStopsWithin, RunEndsWithin, RunsFromWithin, RunsFrom, RunsCleanWithin, RunsCleanlyWithin, IsPaid, begun, state_after}
+use Rattle.ocfl_scrub.specs.declared.running.RunEnd.{RunEnd}
+use Rattle.ocfl_scrub.specs.Starting.{extent_of, end_of, entry, stand, looked_in, read_in, LooksOver, StopsLooking}
 use Rattle.ocfl_scrub.specs.Beginning.{Begins}
 use Rattle.ocfl_scrub.proofs.Paying.{Paid, Counts, IsWithinBoth, PaysAll, PaysUpTo, PaysHalting}
 use Rattle.ocfl_scrub.specs.declared.running.RunStatus.{RunStatus}
@@ -41,6 +44,7 @@ use Rattle.ocfl_scrub.proofs.MeterLaws.{paid_files}
 use Rattle.ocfl_scrub.proofs.Passing.{due_in}
 use Rattle.ocfl_scrub.proofs.PartStarts.{looked_all, read_all, looked_to, read_to}
 use Rattle.ocfl_scrub.proofs.LookLaws.{looks_over, stops_looking, stops_above}
+use Rattle.ocfl_scrub.proofs.WayListed.{before_next, halted_lie, taken_lie}
 use Rattle.ocfl_scrub.proofs.CutLaws.{IsStop, paid_begins, cut_of_paid, left_of_paid, paid_passes, test_unpaid, hashed_costs}
 
 -- ---- where a cut ends
@@ -107,23 +111,19 @@ module _ (root : StorageRoot) (part : Part) (s t u : Store) (old new : Option (L
         rest_are : rest_in root (g.trail ++ os) part from l ≡ items_at root os later
         rest_are = ap (λ is. left is l) are ∙ left_of_paid l _ _ counts.paid stop_there
 
-        runs_of : next ≡ first_of (items_at root os later) → Audits root t u done (looked_in root part from next) (read_in root part from next) os
+        runs_of : next ≡ first_of (items_at root os later) → ((p d : Place) → IsBeforeAll place_cmp p later → is_lt (place_cmp p d) ≡ false → IsWithin next d) → Audits root t u done (looked_in root part from next) (read_in root part from next) os
             → Appends old new (text (items_at root os done)) → finding ≡ found (items_at root os done) → last ≡ last_of from done
             → RunsWithin (call_of root s u old new) part from last l spent files finding next
-        runs_of next_is k wrote found_is last_is =
+        runs_of next_is far k wrote found_is last_is =
             let at_places : places (taken_in root (g.trail ++ os) part from l) ≡ done = ap places taken_are ∙ places_of_items root os done in
             record {
               trail = g.trail ++ os;
-              looks = subst (λ ps. LooksOver (call_of root s u old new) part from next ps (g.trail ++ os)) (sym at_places) (looks_over root part s t u old new from g next done os k);
+              looks = subst (λ ps. LooksOver (call_of root s u old new) (extent_of part) from next ps (g.trail ++ os)) (sym at_places) (looks_over root part s t u old new from g next done os
+                  (taken_lie root part from g.listed g.all_listed next done later due_are far) k);
               wrote = subst (λ is. Appends old new (text is)) (sym taken_are) wrote;
               figures = subst (λ is. Figures is spent files finding) (sym taken_are) (record { spent_is = counts.spent_is; files_is = counts.files_is; found_is = found_is });
               last_is = last_is ∙ ap (last_of from) (sym at_places);
               next_is = next_is ∙ ap first_of (sym rest_are);
-              overrun = λ some.
-                  let c = counts.spent_is in
-                  let q = paid_passes l (items_at root os done) counts.paid (omega (arith, some, c)) in
-                  let e : last_cost (taken_in root (g.trail ++ os) part from l) ≡ last_cost (items_at root os done) = ap last_cost taken_are in
-                  omega (arith, q, c, e);
             }
 
   -- all were taken
@@ -132,7 +132,7 @@ module _ (root : StorageRoot) (part : Part) (s t u : Store) (old new : Option (L
   ended h last_is =
       let k = h.finishes in
       let all : List Place = due_in root (end_of part) (stand root part from) in
-      runs_of k.trail all [] (sym (append-nil all)) h.counts None (nothing_stops root k.trail l spent files) (none_first root k.trail)
+      runs_of k.trail all [] (sym (append-nil all)) h.counts None (nothing_stops root k.trail l spent files) (none_first root k.trail) (λ p d b n. tt)
       (subst (λ hs. Audits root t u all (looked_in root part from None) hs k.trail) (read_all root part from)
       (subst (λ ls. Audits root t u all ls (before_end (end_of part) (read_between root (stand root part from) None)) k.trail) (looked_all root part from) k.audits)) k.wrote k.found_is last_is
 
@@ -141,7 +141,7 @@ module _ (root : StorageRoot) (part : Part) (s t u : Store) (old new : Option (L
       → RunsWithin (call_of root s u old new) part from last l spent files finding (Some h.next)
   spent_all h last_is =
       runs_of h.trail h.done (h.next ∷ due_in root (end_of part) (Some h.next)) h.due_are h.counts (Some h.next)
-      (unpaid_stops root h.trail l spent files h.next _ h.hashed h.reached) (some_first root h.trail h.next _)
+      (unpaid_stops root h.trail l spent files h.next _ h.hashed h.reached) (some_first root h.trail h.next _) (λ p d b n. before_next p h.next d b.0 n)
       (subst (λ hs. Audits root t u h.done (looked_in root part from (Some h.next)) hs h.trail) (read_to root part from h.next h.in_front)
       (subst (λ ls. Audits root t u h.done ls (read_between root (stand root part from) (Some h.next)) h.trail) (looked_to root part from h.next h.in_front) h.audits)) h.wrote h.found_is last_is
 
@@ -181,8 +181,8 @@ module _ (root : StorageRoot) (part : Part) (s t u : Store) (old new : Option (L
           last_is = last_is ∙ ap (last_of from) whole_places;
         };
         figures = record { spent_is = h.counts.spent_is; files_is = h.counts.files_is; found_is = k.found_is };
-        looks = subst (λ ps. StopsLooking (call_of root s u old new) part from (ps ++ k.begun) trail why) whole_places
-            (stops_looking root part s t u old new from g why (k.done ++ k.begun) k.listed k.heads k.trail k.fails listed_front heads_front);
+        looks = subst (λ ps. StopsLooking (call_of root s u old new) (extent_of part) from (ps ++ k.begun) trail why) whole_places
+            (stops_looking root part s t u old new from g why (k.done ++ k.begun) k.listed k.heads k.trail k.fails listed_front heads_front (halted_lie root part from g.listed g.all_listed k));
       }
 
 -- the place that a walk is given by reference
@@ -266,3 +266,7 @@ module _ (root : StorageRoot) (part : Part) (s t : Store) (old new : Option (Lis
 
   pub clean_from : t.failures ≡ s.failures → RunsCleanlyWithin (call_of root s t old new) part c l spent files finding end
   clean_from same = runs_cleanly root part s t old new c last l spent files finding same end begun_there
+
+-- of a part that is the whole
+pub run_as_whole : (call : Call) (part : Part) (c : Cursor) (l : Limits) (ran : RunEnd) → part ≡ whole → RunsFromWithin call part c l ran → RunsFrom call c l ran
+run_as_whole call part c l ran e h = subst (λ x. RunsFromWithin call x c l ran) e h

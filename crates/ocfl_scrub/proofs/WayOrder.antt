@@ -32,7 +32,7 @@ module _ (n : Text) where
   root_before [] = tt
   root_before (a ∷ ps) = (refl, root_before ps)
 
-  way_parts : (p : Place) → way_to (n ∷ p) ≡ [] ∷ map (λ q. n ∷ q) (way_to p)
+  pub way_parts : (p : Place) → way_to (n ∷ p) ≡ [] ∷ map (λ q. n ∷ q) (way_to p)
   way_parts p = ap (λ ps. [] ∷ ps) (sym (map_append (λ q. n ∷ q) (beginnings p) (p ∷ [])))
 
 pub way_ascends : (p : Place) → IsAscending place_cmp (way_to p)

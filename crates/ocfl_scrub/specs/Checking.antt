@@ -13,6 +13,7 @@ use Rattle.ocfl_item.specs.Auditing.{Audits, Fails}
 use Rattle.ocfl_walk.specs.WalkCalls.{holder}
 use Rattle.ocfl_item.specs.declared.fault.Fault.{Fault}
 use Rattle.ocfl_scrub.specs.Call.{Call, Writes}
+use Rattle.ocfl_scrub.specs.Starting.{FilesLieIn}
 use Rattle.ocfl_scrub.specs.Taking.{PartOf}
 use Rattle.ocfl_scrub.specs.declared.checking.End.{End}
 use Rattle.ocfl_scrub.specs.declared.checking.End.TheVariants as end
@@ -33,13 +34,14 @@ pub record IsJustFor (root : StorageRoot) (p : Place) (listed heads : List Place
   pub once : AreOnce trail
 
 -- the place was checked: its lines were written, its file was opened if it is hashed and no other
--- content, only directories on the way to it were listed, each once, and at most the inventory of
--- its object was read
+-- content, only directories on the way to it were listed, each once and a hashed file's own among
+-- them, and at most the inventory of its object was read
 pub record Checks (call : Call) (p : Place) (item finding : Bool) : Type 0 where
   pub trail : List Opening
   pub listed : List Place
   pub heads : List Place
   pub audits : Audits call.root call.before call.after (p ∷ []) listed heads trail
+  pub files_lie : FilesLieIn call.root (p ∷ []) listed
   pub just : IsJustFor call.root p listed heads trail
   pub wrote : Writes call (text (checked_item call.root trail p))
   pub item_is : item ≡ not (is_empty (checked_item call.root trail p))
@@ -54,6 +56,7 @@ pub record CheckStops (call : Call) (p : Place) (why : Fault) : Type 0 where
   pub listed : List Place
   pub heads : List Place
   pub fails : Fails call.root call.before call.after begun listed heads trail why
+  pub files_lie : FilesLieIn call.root begun listed
   pub just : IsJustFor call.root p listed heads trail
   pub part : Text
   pub wrote : Writes call part

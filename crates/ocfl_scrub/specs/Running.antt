@@ -1,6 +1,6 @@
 -- What one run does: of a part of a storage root it takes what lies above its cursor's place, as
 -- far as its limits allow.
-use Rattle.std.specs.Prelude.{◌≡◌, ◌≢◌, ◌↔◌, ◌<◌, ◌≤◌, ◌+◌, ◌==◌, ◌^◌, ℕ, List, [], ◌∷◌, ◌++◌, Bool, false, Option, Some, None, length, if◌then◌else◌, ⊤}
+use Rattle.std.specs.Prelude.{◌≡◌, ◌≢◌, ◌↔◌, ◌<◌, ◌≤◌, ◌+◌, ◌^◌, ℕ, List, [], ◌∷◌, ◌++◌, Bool, false, Option, Some, None, length, ⊤}
 use Rattle.ocfl_tree.specs.Place.{Place}
 use Rattle.ocfl_tree.specs.StorageRoot.{StorageRoot}
 use Rattle.ocfl_tree.specs.declared.store.Opening.{Opening}
@@ -18,7 +18,7 @@ use Rattle.ocfl_item.specs.declared.fault.Fault.{Fault}
 use Rattle.ocfl_item.specs.declared.fault.Fault.TheVariants as fault
 use Rattle.ocfl_scrub.specs.Call.{Call, Writes}
 use Rattle.ocfl_scrub.specs.Taking.{WritesLines}
-use Rattle.ocfl_scrub.specs.Starting.{LooksOver, StopsLooking}
+use Rattle.ocfl_scrub.specs.Starting.{Extent, entire, extent_of, LooksOver, StopsLooking}
 use Rattle.ocfl_scrub.specs.Written.{places, last_of, Figures, StopsWithin}
 use Rattle.ocfl_scrub.specs.declared.running.RunEnd.{RunEnd}
 use Rattle.ocfl_scrub.specs.declared.running.RunStatus.{RunStatus}
@@ -32,9 +32,8 @@ limits_of l = record { budget = l.budget; files = l.files }
 
 -- the place above which a run takes items: none for a beginning
 abbrev pub place_in : State → Option Place
-place_in start = None
 place_in (behind p) = Some p
-place_in ended = None
+place_in _ = None
 
 -- where the last item that was taken leaves the cursor
 abbrev pub state_at : Option Place → State
@@ -43,15 +42,12 @@ state_at (Some p) = behind p
 
 abbrev pub state_after : RunStatus → Option Place → State
 state_after status.Ended last = ended
-state_after status.Spent last = state_at last
-state_after (status.Stopped why) last = state_at last
-state_after status.Worn last = state_at last
+state_after _ last = state_at last
 
 -- the cursor that a run begins with: that of the next cycle where the last one has ended
 abbrev pub begun_in : Cursor → State → Cursor
-begun_in c start = c
-begun_in c (behind p) = c
 begun_in c ended = next_cycle c
+begun_in c _ = c
 
 abbrev pub begun : Cursor → Cursor
 begun c = begun_in c c.state
@@ -109,69 +105,84 @@ abbrev pub first_of : List Item → Option Place
 first_of [] = None
 first_of (i ∷ items) = Some i.place
 
--- the cost of the last item that costs something
-abbrev pub last_cost : List Item → ℕ
-last_cost [] = 0
-last_cost (i ∷ items) = if last_cost items == 0 then i.cost else last_cost items
+-- ---- by what a run is over
+
+-- the items above a place that a run is over
+abbrev pub items_over : StorageRoot → List Opening → Extent → Option Place → List Item
+items_over root trail over from = after (over.items (audit root (unread_of root trail))) from
+
+-- those of them that the limits allow
+abbrev pub taken_over : StorageRoot → List Opening → Extent → Option Place → Limits → List Item
+taken_over root trail over from limits = cut (items_over root trail over from) limits
+
+-- a run took the cut of its limits. Each hashed file of it was opened once, in order, and it looked
+-- up to the first item that is left
+pub record RunsOver (call : Call) (over : Extent) (from last : Option Place) (limits : Limits) (spent files : ℕ) (finding : Bool) (next : Option Place) : Type 0 where
+  pub trail : List Opening
+  pub looks : LooksOver call over from next (places (taken_over call.root trail over from limits)) trail
+  pub wrote : Writes call (text (taken_over call.root trail over from limits))
+  pub figures : Figures (taken_over call.root trail over from limits) spent files finding
+  pub last_is : last ≡ last_of from (places (taken_over call.root trail over from limits))
+  pub next_is : next ≡ first_of (left (items_over call.root trail over from) limits)
+
+-- a run stopped: the first items of the cut went out whole, and of the next at most a proper
+-- beginning
+pub record RunStopsOver (call : Call) (over : Extent) (from last : Option Place) (limits : Limits) (spent files : ℕ) (finding : Bool) (why : Fault) : Type 0 where
+  pub trail : List Opening
+  pub stops : StopsWithin (taken_over call.root trail over from limits) call.old call.new from last why
+  pub figures : Figures stops.whole spent files finding
+  pub looks : StopsLooking call over from (places stops.whole ++ stops.begun) trail why
+
+abbrev pub RunEndsOver : Call → Extent → Option Place → Option Place → Limits → ℕ → ℕ → Bool → RunStatus → Type 0
+RunEndsOver call over from last limits spent files finding status.Ended = RunsOver call over from last limits spent files finding None
+RunEndsOver call over from last limits spent files finding status.Spent = (next : Place) × RunsOver call over from last limits spent files finding (Some next)
+RunEndsOver call over from last limits spent files finding (status.Stopped why) = RunStopsOver call over from last limits spent files finding why
+RunEndsOver call over from last limits spent files finding status.Worn = ⊥
+
+-- a run from one cursor led to another
+pub record RunsFromOver (call : Call) (over : Extent) (c : Cursor) (limits : Limits) (ran : RunEnd) : Type 0 where
+  pub last : Option Place
+  pub run : RunEndsOver call over (place_in c.state) last limits ran.spent ran.files ran.found ran.end
+  pub cursor_is : ran.cursor ≡ after_run (begun_in c c.state) ran.spent ran.files (state_after ran.end last)
 
 -- ---- of a part
 
 -- the items of a part above a place
 abbrev pub items_above_in : StorageRoot → List Opening → Part → Option Place → List Item
-items_above_in root trail part from = after (within part (audit root (unread_of root trail))) from
+items_above_in root trail part from = items_over root trail (extent_of part) from
 
 -- those of them that the limits allow, and those that they leave
 abbrev pub taken_in : StorageRoot → List Opening → Part → Option Place → Limits → List Item
-taken_in root trail part from limits = cut (items_above_in root trail part from) limits
+taken_in root trail part from limits = taken_over root trail (extent_of part) from limits
 
 abbrev pub rest_in : StorageRoot → List Opening → Part → Option Place → Limits → List Item
 rest_in root trail part from limits = left (items_above_in root trail part from) limits
 
--- a run took the cut of its limits from a part. Each hashed file of it was opened once, in order,
--- and it looked over the part up to the first item that is left. What was spent passes the budget
--- by less than the last file's cost
-pub record RunsWithin (call : Call) (part : Part) (from last : Option Place) (limits : Limits) (spent files : ℕ) (finding : Bool) (next : Option Place) : Type 0 where
-  pub trail : List Opening
-  pub looks : LooksOver call part from next (places (taken_in call.root trail part from limits)) trail
-  pub wrote : Writes call (text (taken_in call.root trail part from limits))
-  pub figures : Figures (taken_in call.root trail part from limits) spent files finding
-  pub last_is : last ≡ last_of from (places (taken_in call.root trail part from limits))
-  pub next_is : next ≡ first_of (rest_in call.root trail part from limits)
-  pub overrun : 0 < spent → spent < limits.budget + last_cost (taken_in call.root trail part from limits)
+abbrev pub RunsWithin : Call → Part → Option Place → Option Place → Limits → ℕ → ℕ → Bool → Option Place → Type 0
+RunsWithin call part from last limits spent files finding next = RunsOver call (extent_of part) from last limits spent files finding next
 
--- the same of the whole
-abbrev pub Runs : Call → Option Place → Option Place → Limits → ℕ → ℕ → Bool → Option Place → Type 0
-Runs call from last limits spent files finding next = RunsWithin call whole from last limits spent files finding next
-
--- a run stopped: the first items of the cut went out whole, and of the next at most a proper
--- beginning
-pub record RunStopsWithin (call : Call) (part : Part) (from last : Option Place) (limits : Limits) (spent files : ℕ) (finding : Bool) (why : Fault) : Type 0 where
-  pub trail : List Opening
-  pub stops : StopsWithin (taken_in call.root trail part from limits) call.old call.new from last why
-  pub figures : Figures stops.whole spent files finding
-  pub looks : StopsLooking call part from (places stops.whole ++ stops.begun) trail why
-
-abbrev pub RunStops : Call → Option Place → Option Place → Limits → ℕ → ℕ → Bool → Fault → Type 0
-RunStops call from last limits spent files finding why = RunStopsWithin call whole from last limits spent files finding why
+abbrev pub RunStopsWithin : Call → Part → Option Place → Option Place → Limits → ℕ → ℕ → Bool → Fault → Type 0
+RunStopsWithin call part from last limits spent files finding why = RunStopsOver call (extent_of part) from last limits spent files finding why
 
 abbrev pub RunEndsWithin : Call → Part → Option Place → Option Place → Limits → ℕ → ℕ → Bool → RunStatus → Type 0
-RunEndsWithin call part from last limits spent files finding status.Ended = RunsWithin call part from last limits spent files finding None
-RunEndsWithin call part from last limits spent files finding status.Spent = (next : Place) × RunsWithin call part from last limits spent files finding (Some next)
-RunEndsWithin call part from last limits spent files finding (status.Stopped why) = RunStopsWithin call part from last limits spent files finding why
-RunEndsWithin call part from last limits spent files finding status.Worn = ⊥
+RunEndsWithin call part from last limits spent files finding end = RunEndsOver call (extent_of part) from last limits spent files finding end
+
+abbrev pub RunsFromWithin : Call → Part → Cursor → Limits → RunEnd → Type 0
+RunsFromWithin call part c limits ran = RunsFromOver call (extent_of part) c limits ran
+
+-- ---- of the whole
+
+abbrev pub Runs : Call → Option Place → Option Place → Limits → ℕ → ℕ → Bool → Option Place → Type 0
+Runs call from last limits spent files finding next = RunsOver call entire from last limits spent files finding next
+
+abbrev pub RunStops : Call → Option Place → Option Place → Limits → ℕ → ℕ → Bool → Fault → Type 0
+RunStops call from last limits spent files finding why = RunStopsOver call entire from last limits spent files finding why
 
 abbrev pub RunEnds : Call → Option Place → Option Place → Limits → ℕ → ℕ → Bool → RunStatus → Type 0
-RunEnds call from last limits spent files finding end = RunEndsWithin call whole from last limits spent files finding end
+RunEnds call from last limits spent files finding end = RunEndsOver call entire from last limits spent files finding end
 
--- a run of a part from one cursor led to another
-pub record RunsFromWithin (call : Call) (part : Part) (c : Cursor) (limits : Limits) (ran : RunEnd) : Type 0 where
-  pub last : Option Place
-  pub run : RunEndsWithin call part (place_in c.state) last limits ran.spent ran.files ran.found ran.end
-  pub cursor_is : ran.cursor ≡ after_run (begun c) ran.spent ran.files (state_after ran.end last)
-
--- a run from one cursor led to another
 abbrev pub RunsFrom : Call → Cursor → Limits → RunEnd → Type 0
-RunsFrom call c limits ran = RunsFromWithin call whole c limits ran
+RunsFrom call c limits ran = RunsFromOver call entire c limits ran
 
 -- ---- where no failure was counted
 

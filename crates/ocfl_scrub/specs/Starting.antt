@@ -1,16 +1,18 @@
 -- Where a walk over a part of a storage root begins, and what of the root is looked at from there
 -- on.
-use Rattle.std.specs.Prelude.{List, [], ◌∷◌, ◌++◌, Bool, true, Option, Some, None, if◌then◌else◌}
+use Rattle.std.specs.Prelude.{◌≡◌, List, [], ◌∷◌, ◌++◌, Bool, true, Option, Some, None, if◌then◌else◌}
 use Rattle.std.specs.Ordering.{is_lt}
 use Rattle.ocfl_tree.specs.Place.{Place, place_cmp}
-use Rattle.ocfl_tree.specs.Ascending.{IsAscending}
+use Rattle.ocfl_tree.specs.Ascending.{IsAmong}
 use Rattle.ocfl_tree.specs.StorageRoot.{StorageRoot}
 use Rattle.ocfl_tree.specs.declared.store.Opening.{Opening}
+use Rattle.ocfl_report.specs.Line.{Item}
 use Rattle.ocfl_audit.specs.Due.{due}
+use Rattle.ocfl_audit.specs.Lines.{is_hashed}
 use Rattle.ocfl_audit.specs.Between.{looked_between, read_between}
-use Rattle.ocfl_audit.specs.Parts.{Part, places_within}
+use Rattle.ocfl_audit.specs.Parts.{Part, within, places_within}
 use Rattle.ocfl_item.specs.Looking.{IsFront}
-use Rattle.ocfl_item.specs.Auditing.{Audits, Fails}
+use Rattle.ocfl_item.specs.Auditing.{Audits, Fails, LiesIn}
 use Rattle.ocfl_item.specs.declared.fault.Fault.{Fault}
 use Rattle.ocfl_walk.specs.WalkCalls.{way_of, holder}
 use Rattle.ocfl_walk.specs.Before.{directory_of, place_before}
@@ -74,29 +76,50 @@ looked_in root part from to = places_within part (looked_between root from to)
 abbrev pub read_in : StorageRoot → Part → Option Place → Option Place → List Place
 read_in root part from to = places_within part (read_between root from to)
 
--- a call over a part audited these places of it, the first of those above one, and came to another.
--- Listed were the first directories on the way down to where it began, and those of the part
--- between the two places that are looked into, in order. Read were at most the inventory of the
--- object that holds the place gone down to, and those of the part between the two places
-pub record LooksOver (call : Call) (part : Part) (from to : Option Place) (audited : List Place) (trail : List Opening) : Type 0 where
+-- ---- what a call is over
+
+-- which items and which places of a storage root a call is over, and where its walk goes down to, by
+-- the place above which items are taken
+pub record Extent : Type 0 where
+  pub items : List Item → List Item
+  pub places : List Place → List Place
+  pub goes_down_to : Option Place → Option Place
+
+-- the whole: all, and the walk goes down to that place
+abbrev pub entire : Extent
+entire = record { items = λ items. items; places = λ places. places; goes_down_to = λ from. from }
+
+-- a part: what lies in it
+abbrev pub extent_of : Part → Extent
+extent_of part = record { items = λ items. within part items; places = λ places. places_within part places; goes_down_to = λ from. entry part from }
+
+-- of these places each hashed file lies right in one of these directories
+abbrev pub FilesLieIn : StorageRoot → List Place → List Place → Type 0
+FilesLieIn root places dirs = (p : Place) → IsAmong places p → is_hashed root p ≡ true → LiesIn dirs p
+
+-- such a call audited these places, the first of those above one, and came to another. Listed were
+-- the first directories on the way down to where it began, and those that it is over between the
+-- two places, in order: among them the directory of each file. Read were at most the inventory of
+-- the object that holds the place gone down to, and those that it is over between the two places.
+-- None of these is listed or read twice, since what is gone down to lies before what is above it (a
+-- law of `parts`)
+pub record LooksOver (call : Call) (over : Extent) (from to : Option Place) (audited : List Place) (trail : List Opening) : Type 0 where
   pub down : List Place
   pub held : List Place
-  pub audits : Audits call.root call.before call.after audited (down ++ looked_in call.root part from to) (held ++ read_in call.root part from to) trail
-  pub down_front : IsFront down (way_of (entry part from))
-  pub held_front : IsFront held (holder call.root (entry part from))
-  pub lists_once : IsAscending place_cmp (down ++ looked_in call.root part from to)
-  pub reads_once : IsAscending place_cmp (held ++ read_in call.root part from to)
+  pub audits : Audits call.root call.before call.after audited (down ++ over.places (looked_between call.root from to)) (held ++ over.places (read_between call.root from to)) trail
+  pub down_front : IsFront down (way_of (over.goes_down_to from))
+  pub files_lie : FilesLieIn call.root audited (down ++ over.places (looked_between call.root from to))
+  pub held_front : IsFront held (holder call.root (over.goes_down_to from))
 
--- such a call stopped, and had begun with these places
-pub record StopsLooking (call : Call) (part : Part) (from : Option Place) (begun : List Place) (trail : List Opening) (why : Fault) : Type 0 where
+-- such a call stopped, and had begun with these places: the directory of each file was listed
+pub record StopsLooking (call : Call) (over : Extent) (from : Option Place) (begun : List Place) (trail : List Opening) (why : Fault) : Type 0 where
   pub down : List Place
   pub listed : List Place
   pub held : List Place
   pub heads : List Place
   pub fails : Fails call.root call.before call.after begun (down ++ listed) (held ++ heads) trail why
-  pub down_front : IsFront down (way_of (entry part from))
-  pub listed_front : IsFront listed (looked_in call.root part from None)
-  pub held_front : IsFront held (holder call.root (entry part from))
-  pub heads_front : IsFront heads (read_in call.root part from None)
-  pub lists_once : IsAscending place_cmp (down ++ listed)
-  pub reads_once : IsAscending place_cmp (held ++ heads)
+  pub down_front : IsFront down (way_of (over.goes_down_to from))
+  pub listed_front : IsFront listed (over.places (looked_between call.root from None))
+  pub held_front : IsFront held (holder call.root (over.goes_down_to from))
+  pub heads_front : IsFront heads (over.places (read_between call.root from None))
+  pub files_lie : FilesLieIn call.root begun (down ++ listed)

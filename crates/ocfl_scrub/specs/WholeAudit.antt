@@ -16,7 +16,7 @@ use Rattle.ocfl_item.specs.declared.fault.Fault.{Fault}
 use Rattle.ocfl_item.specs.declared.fault.Fault.TheVariants as fault
 use Rattle.ocfl_scrub.specs.Call.{Call, Writes}
 use Rattle.ocfl_scrub.specs.Taking.{WritesLines}
-use Rattle.ocfl_scrub.specs.Starting.{LooksOver, StopsLooking}
+use Rattle.ocfl_scrub.specs.Starting.{extent_of, FilesLieIn, LooksOver, StopsLooking}
 use Rattle.ocfl_scrub.specs.Written.{places, last_of, StopsWithin}
 use Rattle.ocfl_scrub.specs.declared.auditing.AuditEnd.{AuditEnd}
 use Rattle.ocfl_scrub.specs.declared.checking.End.{End}
@@ -39,7 +39,8 @@ pub record AuditsAll (call : Call) (last : Option Place) (finding : Bool) : Type
   pub last_is : last ≡ last_of None (item_places call.root)
   pub found_is : finding ≡ found (audit call.root (unread_of call.root trail))
 
--- the audit stopped: its first items went out whole, and of the next at most a proper beginning
+-- the audit stopped: its first items went out whole, and of the next at most a proper beginning.
+-- The directory of each file that it came to was listed
 pub record AuditStops (call : Call) (last : Option Place) (finding : Bool) (why : Fault) : Type 0 where
   pub trail : List Opening
   pub stops : StopsWithin (audit call.root (unread_of call.root trail)) call.old call.new None last why
@@ -49,6 +50,7 @@ pub record AuditStops (call : Call) (last : Option Place) (finding : Bool) (why 
   pub fails : Fails call.root call.before call.after (places stops.whole ++ stops.begun) listed heads trail why
   pub listed_front : IsFront listed (looked_between call.root None None)
   pub heads_front : IsFront heads (read_between call.root None None)
+  pub files_lie : FilesLieIn call.root (places stops.whole ++ stops.begun) listed
 
 abbrev pub AuditEnds : Call → Option Place → Bool → End → Type 0
 AuditEnds call last finding end.Ended = AuditsAll call last finding
@@ -63,7 +65,7 @@ items_in root trail part = within part (audit root (unread_of root trail))
 -- the text of the audit of a part was written: each hashed file in it was opened once, in order
 pub record AuditsWithin (call : Call) (part : Part) (last : Option Place) (finding : Bool) : Type 0 where
   pub trail : List Opening
-  pub looks : LooksOver call part None None (places (items_in call.root trail part)) trail
+  pub looks : LooksOver call (extent_of part) None None (places (items_in call.root trail part)) trail
   pub wrote : Writes call (text (items_in call.root trail part))
   pub last_is : last ≡ last_of None (places (items_in call.root trail part))
   pub found_is : finding ≡ found (items_in call.root trail part)
@@ -74,7 +76,7 @@ pub record AuditStopsWithin (call : Call) (part : Part) (last : Option Place) (f
   pub trail : List Opening
   pub stops : StopsWithin (items_in call.root trail part) call.old call.new None last why
   pub found_is : finding ≡ found stops.whole
-  pub looks : StopsLooking call part None (places stops.whole ++ stops.begun) trail why
+  pub looks : StopsLooking call (extent_of part) None (places stops.whole ++ stops.begun) trail why
 
 abbrev pub AuditEndsWithin : Call → Part → Option Place → Bool → End → Type 0
 AuditEndsWithin call part last finding end.Ended = AuditsWithin call part last finding

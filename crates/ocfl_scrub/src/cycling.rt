@@ -2,9 +2,9 @@
 //! its own.
 ghost use Rattle.std.specs.Prelude.{◌≡◌, ◌≤◌, false, map, IfErr, IfOk};
 ghost use Rattle.ocfl_cursor.specs.Cursor.{new_cursor};
-ghost use Rattle.ocfl_scrub.specs.Call.{IsUnfailing, WhereTold};
+ghost use Rattle.ocfl_scrub.specs.Call.{WhereTold};
 ghost use Rattle.ocfl_scrub.specs.Chaining.{CycleOfRuns, CycleOfRunsWithin};
-ghost use Rattle.ocfl_scrub.specs.Cycling.{CyclesOnAnyStore, HeadlineOf, HeadlineOfPart};
+ghost use Rattle.ocfl_scrub.specs.Cycling.{CyclesOnAnyStore};
 ghost use Rattle.ocfl_scrub.specs.Running.{limits_of};
 ghost use Rattle.ocfl_scrub.specs.Starting.{part_of};
 
@@ -52,6 +52,9 @@ pub struct CycleEnd {
 /// report of the whole audit; it is all of that where the cycle has ended. Without limits there is
 /// no run. A run that stopped is counted, also where it took nothing. Running out of memory for a
 /// cursor's text is `Stopped(Fault::Memory)`, with the cursor of the last run.
+///
+/// What it keeps while the root stays unchanged and every call succeeds is a law over `told`:
+/// [`headline`](crate::headline).
 pub fn cycle<T: Tree, W: Write>(
     alloc: Global,
     store: &mut T,
@@ -63,9 +66,6 @@ pub fn cycle<T: Tree, W: Write>(
         limits.now result }
     ensures told { WhereTold T.told T.state W.contents store.old store.new out.old out.new (λ call.
         CycleOfRuns call (map limits_of limits.now) result) }
-    ensures headline { WhereTold T.told T.state W.contents store.old store.new out.old out.new
-        (λ call. IsUnfailing call → HeadlineOf call (map limits_of limits.now)
-        result.runs result.end) }
 {
     let whole = Part::whole(alloc);
     cycle_part(alloc, store, &whole, limits, block, out)
@@ -85,9 +85,6 @@ pub fn cycle_part<T: Tree, W: Write>(
         limits.now result }
     ensures told { WhereTold T.told T.state W.contents store.old store.new out.old out.new (λ call.
         CycleOfRunsWithin call (part_of part.now) (map limits_of limits.now) result) }
-    ensures headline { WhereTold T.told T.state W.contents store.old store.new out.old out.new
-        (λ call. IsUnfailing call → HeadlineOfPart call (part_of part.now)
-        (map limits_of limits.now) result.runs result.end) }
 {
     let mut cursor = Cursor::new();
     let mut runs = 0;

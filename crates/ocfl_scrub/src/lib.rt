@@ -6,6 +6,7 @@ mod checking;
 mod command;
 mod cycling;
 pub mod handing;
+pub mod headline;
 pub mod laws;
 mod note;
 mod part;

@@ -23,11 +23,11 @@ ghost use Rattle.ocfl_scrub.specs.Call.{Call, known_call};
 ghost use Rattle.ocfl_scrub.specs.Chaining.{CycleOfRunsWithin, IsMadeOf};
 ghost use Rattle.ocfl_scrub.specs.Checking.{CheckEnds};
 ghost use Rattle.ocfl_scrub.specs.Openings.{OpensNear, OpensWithin};
-ghost use Rattle.ocfl_scrub.specs.Running.{RunEndsWithin, RunsFromWithin, place_in};
+ghost use Rattle.ocfl_scrub.specs.Running.{RunEnds, RunEndsWithin, RunsFromWithin, place_in};
 ghost use Rattle.ocfl_scrub.specs.Joining.{AreOneCycle, AreRuns, IsPartCycle, IsWholeCycle};
 ghost use Rattle.ocfl_scrub.specs.Joining.{PartCycle, PartRun, Ran, cursor_after, left_by};
 ghost use Rattle.ocfl_scrub.specs.Joining.{opened_by, reports_of, unread_together, unstopped};
-ghost use Rattle.ocfl_scrub.specs.WholeAudit.{AuditEndsWithin};
+ghost use Rattle.ocfl_scrub.specs.WholeAudit.{AuditEnds, AuditEndsWithin};
 ghost use Rattle.ocfl_scrub.specs.declared.checking.End.{End};
 ghost use Rattle.ocfl_scrub.specs.declared.cycling.CycleEnd.{CycleEnd};
 ghost use Rattle.ocfl_scrub.specs.declared.cycling.CycleStatus.TheVariants as cycle;
@@ -125,7 +125,7 @@ pub fn each_run_has_a_report()
 
 /// The audit of a part lists each directory once and reads each inventory once, in order, whether
 /// it ends or stops.
-#[tactic(auto, using(crate::proofs::OrderLaws::part_lists_once, crate::proofs::OrderLaws::part_reads_once))]
+#[tactic(auto, using(crate::proofs::LooksOnce::part_lists_once, crate::proofs::LooksOnce::part_reads_once))]
 pub fn an_audit_of_a_part_looks_once()
     ensures listed { (call : Call) (part : Part) (last : Option Place) (finding : Bool)
         (end : End) → AuditEndsWithin call part last finding end → (listed : List Place)
@@ -136,20 +136,41 @@ pub fn an_audit_of_a_part_looks_once()
         × IsAscending place_cmp (heads_of call.root trail)) }
 {}
 
-/// Each file that an audit, a run or a check opens is a hashed one, or lies right in a directory
-/// that the call listed. Each such directory lies in the part or is on the way down to where the
-/// call began; of a check it is on the way to its place.
+/// So does a run of a part.
+#[tactic(auto, using(crate::proofs::LooksOnce::run_lists_once, crate::proofs::LooksOnce::run_reads_once))]
+pub fn a_run_of_a_part_looks_once()
+    ensures listed { (call : Call) (part : Part) (from last : Option Place) (limits : Limits)
+        (spent files : ℕ) (finding : Bool) (end : RunStatus)
+        → RunEndsWithin call part from last limits spent files finding end → (listed : List Place)
+        × ((call.after.listings ≡ call.before.listings ++ listed) × IsAscending place_cmp listed) }
+    ensures read { (call : Call) (part : Part) (from last : Option Place) (limits : Limits)
+        (spent files : ℕ) (finding : Bool) (end : RunStatus)
+        → RunEndsWithin call part from last limits spent files finding end
+        → (trail : List Opening) × ((call.after.openings ≡ call.before.openings ++ trail)
+        × IsAscending place_cmp (heads_of call.root trail)) }
+{}
+
+/// Each file that an audit, a run or a check opens lies right in a directory that the call listed,
+/// content files too, and also where the call stopped. Each such directory lies in the part or is
+/// on the way down to where the call began; of a check it is on the way to its place.
 pub fn openings_lie_where_it_was_listed()
     ensures audit { (call : Call) (part : Part) (last : Option Place) (finding : Bool) (end : End)
         → AuditEndsWithin call part last finding end
-        → OpensWithin call.root part None call.before call.after }
+        → OpensWithin part None call.before call.after }
+    ensures whole { (call : Call) (last : Option Place) (finding : Bool) (end : End)
+        → AuditEnds call last finding end
+        → (listed : List Place) × OpensNear call.before call.after listed }
     ensures run { (call : Call) (part : Part) (from last : Option Place) (limits : Limits)
         (spent files : ℕ) (finding : Bool) (end : RunStatus)
         → RunEndsWithin call part from last limits spent files finding end
-        → OpensWithin call.root part from call.before call.after }
+        → OpensWithin part from call.before call.after }
+    ensures whole_run { (call : Call) (from last : Option Place) (limits : Limits)
+        (spent files : ℕ) (finding : Bool) (end : RunStatus)
+        → RunEnds call from last limits spent files finding end
+        → (listed : List Place) × OpensNear call.before call.after listed }
     ensures check { (call : Call) (p : Place) (item finding : Bool) (end : End)
         → CheckEnds call p item finding end → (listed : List Place)
-        × (OpensNear call.root call.before call.after listed
+        × (OpensNear call.before call.after listed
         × ((d : Place) → IsAmong listed d → (q : Place) × (p ≡ d ++ q))) }
 {}
 

@@ -36,7 +36,7 @@ ghost use Rattle.ocfl_scrub.specs.Running.{place_in, limits_of, Runs, RunStops, 
 ghost use Rattle.ocfl_scrub.specs.Running.{ArePaid, IsWorn, RunsCleanly, RunsOnAnyStore, begun};
 ghost use Rattle.ocfl_scrub.specs.Running.{state_after};
 ghost use Rattle.ocfl_scrub.specs.Chaining.{CycleOfRuns, CycleOfRunsWithin};
-ghost use Rattle.ocfl_scrub.specs.Cycling.{CyclesOnAnyStore, HeadlineOf, HeadlineOfPart};
+ghost use Rattle.ocfl_scrub.specs.Cycling.{CyclesOnAnyStore, HeadlineOf};
 ghost use Rattle.ocfl_scrub.specs.Together.{Cycles, CycleStops, CycleEnds, CyclesTo};
 ghost use Rattle.ocfl_scrub.specs.Together.{CyclesToWithin};
 ghost use Rattle.ocfl_scrub.specs.Checking.{Checks, CheckStops, CheckEnds};
@@ -255,20 +255,13 @@ pub fn a_run_that_stops_took_the_first_of_its_cut()
         (i : Item) → whole ≡ front ++ i ∷ [] → last ≡ Some i.place))))))) }
 {}
 
-/// What the runs of a cycle did together, of the whole and of a part, and the headline of its runs.
-#[tactic(auto, using(crate::proofs::ChainLaws::together, crate::proofs::ChainHeadline::headline_of_part, crate::proofs::ChainHeadline::headline_of_whole))]
+/// What the runs of a cycle did together, of the whole and of a part.
 pub fn a_cycle_does_what_its_runs_do()
     ensures whole { (call : Call) (limits : List Limits) (ran : CycleEnd)
         → CycleOfRuns call limits ran → CyclesTo call limits ran.cursor ran.found ran.end }
     ensures part { (call : Call) (part : Part) (limits : List Limits) (ran : CycleEnd)
         → CycleOfRunsWithin call part limits ran
         → CyclesToWithin call part limits ran.cursor ran.found ran.end }
-    ensures headline { (call : Call) (limits : List Limits) (ran : CycleEnd)
-        → CycleOfRuns call limits ran → IsUnfailing call
-        → HeadlineOf call limits ran.runs ran.end }
-    ensures headline_of_part { (call : Call) (part : Part) (limits : List Limits) (ran : CycleEnd)
-        → CycleOfRunsWithin call part limits ran → IsUnfailing call
-        → HeadlineOfPart call part limits ran.runs ran.end }
 {}
 
 /// A cycle that did not stop wrote what the runs of its limits take of the audit, one after the

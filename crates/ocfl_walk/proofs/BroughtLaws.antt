@@ -15,7 +15,7 @@ use Rattle.ocfl_walk.specs.Standing.{AreEntries, HaveEntries, Pile, frames_of, p
 use Rattle.ocfl_walk.specs.Internal.Standing.{IsAroundIf, IsChain, IsOrderly, left_names, left_of_folder}
 use Rattle.ocfl_item.specs.Around.{IsPart, IsTableAround}
 use Rattle.ocfl_item.specs.Meeting.{IsFairFolder}
-use Rattle.ocfl_walk.specs.Internal.Entering.{Descends, DescendFails, IsBrought, IsComing, IsShut, Leads, may_open}
+use Rattle.ocfl_walk.specs.Internal.Entering.{Comes, DescendFails, IsBrought, IsComing, IsShut, Leads, may_open}
 use Rattle.ocfl_item.specs.declared.fault.Fault.{Fault}
 use Rattle.ocfl_item.specs.declared.folder.Folder.{Folder}
 use Rattle.ocfl_item.specs.declared.meeting.Around.{Around}
@@ -23,7 +23,8 @@ use Rattle.ocfl_tree.proofs.Orders.{among_from_filter, ascends_filter}
 use Rattle.ocfl_audit.proofs.AuditExists.{append_one}
 use Rattle.ocfl_walk.proofs.Backs.{piles_push}
 use Rattle.ocfl_audit.proofs.BelowLaws.{above_name, begins_front, less_from}
-use Rattle.ocfl_walk.proofs.DescentLaws.{descends_on, descent_fails_on}
+use Rattle.ocfl_walk.proofs.DescentLaws.{descent_fails_on}
+use Rattle.ocfl_walk.proofs.ReachLaws.{comes_on}
 use Rattle.ocfl_walk.proofs.KeepLaws.{above_fewer, above_names, left_above, names_of}
 use Rattle.ocfl_walk.proofs.OrderlyLaws.{back_count, begins_on, begins_own, chain_short, frames_count, length_one, own_names}
 use Rattle.ocfl_audit.proofs.StackLaws.{start_stops}
@@ -192,39 +193,39 @@ module _ (root : StorageRoot) (d : Place) (es : List Entry) (fs gs : List Folder
 
     module _ (s t : Store) (r q : Place) (is : q ≡ n ∷ r) (old new : Option Around) where
       -- no further
-      pub came_stop : Leads root s t d n r old new (Ok None) → Descends root s t (way_below d q) [] (may_open old (zone root (d ++ q))) [] 0 × IsBrought root d q (piles_of fs) (piles_of gs) new
-      came_stop h = subst (λ x. Descends root s t (way_below d x) [] (may_open old (zone root (d ++ x))) [] 0
+      pub came_stop : Leads root s t d n r old new (Ok None) → Comes root s t (way_below d q) [] (may_open old (zone root (d ++ q))) [] × IsBrought root d q (piles_of fs) (piles_of gs) new
+      came_stop h = subst (λ x. Comes root s t (way_below d x) [] (may_open old (zone root (d ++ x))) []
           × IsBrought root d x (piles_of fs) (piles_of gs) new) (sym is) (h.gives.0, brought_stop r new h.gives.1)
 
       -- and on
       module _ (u : Store) (inner : Folder) (hs : List Folder) (a : Option Around) (h : Leads root s t d n r old new (Ok (Some inner))) where
         then : (res : Result Unit Fault) → MatchResult res
-            (λ _. Descends root t u (way_below (d ++ n ∷ []) r) [] (may_open new (zone root ((d ++ n ∷ []) ++ r))) [] 0 × IsBrought root (d ++ n ∷ []) r (piles_of gs) (piles_of hs) a)
+            (λ _. Comes root t u (way_below (d ++ n ∷ []) r) [] (may_open new (zone root ((d ++ n ∷ []) ++ r))) [] × IsBrought root (d ++ n ∷ []) r (piles_of gs) (piles_of hs) a)
             (λ why. DescendFails root t u (way_below (d ++ n ∷ []) r) (may_open new (zone root ((d ++ n ∷ []) ++ r))) why)
             → MatchResult res
-            (λ _. Descends root s u (way_below d (n ∷ r)) [] (may_open old (zone root (d ++ n ∷ r))) [] 0 × IsBrought root d (n ∷ r) (piles_of fs) (piles_of hs) a)
+            (λ _. Comes root s u (way_below d (n ∷ r)) [] (may_open old (zone root (d ++ n ∷ r))) [] × IsBrought root d (n ∷ r) (piles_of fs) (piles_of hs) a)
             (λ why. DescendFails root s u (way_below d (n ∷ r)) (may_open old (zone root (d ++ n ∷ r))) why)
         then (Ok x) k = (
-          descends_on root s t u (way_below d (n ∷ r)) (way_below (d ++ n ∷ []) r) [] (may_open old (zone root (d ++ n ∷ r))) (may_open new (zone root (d ++ n ∷ r))) [] 0 h.gives.0
-              (subst (λ p. Descends root t u (way_below (d ++ n ∷ []) r) [] (may_open new (zone root p)) [] 0) (append_one d r n) k.0),
+          comes_on root s t u (way_below d (n ∷ r)) (way_below (d ++ n ∷ []) r) (may_open old (zone root (d ++ n ∷ r))) (may_open new (zone root (d ++ n ∷ r))) [] [] h.gives.0
+              (subst (λ p. Comes root t u (way_below (d ++ n ∷ []) r) [] (may_open new (zone root p)) []) (append_one d r n) k.0),
           brought_on r (piles_of hs) a k.1,
         )
         then (Err why) k =
-            descent_fails_on root s t u (way_below d (n ∷ r)) (way_below (d ++ n ∷ []) r) (may_open old (zone root (d ++ n ∷ r))) (may_open new (zone root (d ++ n ∷ r))) why h.gives.0
+            descent_fails_on root s t u (way_below d (n ∷ r)) (way_below (d ++ n ∷ []) r) (may_open old (zone root (d ++ n ∷ r))) (may_open new (zone root (d ++ n ∷ r))) why h.gives.0.goes
             (subst (λ p. DescendFails root t u (way_below (d ++ n ∷ []) r) (may_open new (zone root p)) why) (append_one d r n) k)
 
         pub came_on : (res : Result Unit Fault) → MatchResult res
-            (λ _. Descends root t u (way_below inner.place r) [] (may_open new (zone root (inner.place ++ r))) [] 0 × IsBrought root inner.place r (piles_of gs) (piles_of hs) a)
+            (λ _. Comes root t u (way_below inner.place r) [] (may_open new (zone root (inner.place ++ r))) [] × IsBrought root inner.place r (piles_of gs) (piles_of hs) a)
             (λ why. DescendFails root t u (way_below inner.place r) (may_open new (zone root (inner.place ++ r))) why)
             → MatchResult res
-            (λ _. Descends root s u (way_below d q) [] (may_open old (zone root (d ++ q))) [] 0 × IsBrought root d q (piles_of fs) (piles_of hs) a)
+            (λ _. Comes root s u (way_below d q) [] (may_open old (zone root (d ++ q))) [] × IsBrought root d q (piles_of fs) (piles_of hs) a)
             (λ why. DescendFails root s u (way_below d q) (may_open old (zone root (d ++ q))) why)
         came_on res k =
             subst (λ x. MatchResult res
-            (λ _. Descends root s u (way_below d x) [] (may_open old (zone root (d ++ x))) [] 0 × IsBrought root d x (piles_of fs) (piles_of hs) a)
+            (λ _. Comes root s u (way_below d x) [] (may_open old (zone root (d ++ x))) [] × IsBrought root d x (piles_of fs) (piles_of hs) a)
             (λ why. DescendFails root s u (way_below d x) (may_open old (zone root (d ++ x))) why)) (sym is)
             (then res (subst (λ e. MatchResult res
-            (λ _. Descends root t u (way_below e r) [] (may_open new (zone root (e ++ r))) [] 0 × IsBrought root e r (piles_of gs) (piles_of hs) a)
+            (λ _. Comes root t u (way_below e r) [] (may_open new (zone root (e ++ r))) [] × IsBrought root e r (piles_of gs) (piles_of hs) a)
             (λ why. DescendFails root t u (way_below e r) (may_open new (zone root (e ++ r))) why)) h.gives.1.place k))
 
 pub came_fails : (root : StorageRoot) (s t : Store) (d q r : Place) (n : Text) (old new : Option Around) (why : Fault) → q ≡ n ∷ r

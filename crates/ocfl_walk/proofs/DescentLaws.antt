@@ -138,7 +138,7 @@ module _ (root : StorageRoot) where
   descent_memory s way may over = record { goes = descends_not s s way may over (did_nothing s); store = λ q e. absurd (memory_no_store q e) }
 
   -- one directory was listed
-  pub descends_one : (s t : Store) (d : Place) (way may : List Place) → s.tree ≡ root → Did s t [] (d ∷ []) 0 → Descends root s t (d ∷ way) way may may 0
+  abbrev pub descends_one : (s t : Store) (d : Place) (way may : List Place) → s.tree ≡ root → Did s t [] (d ∷ []) 0 → Descends root s t (d ∷ way) way may may 0
   descends_one s t d way may over did = record {
     calls = record { over = over; trail = []; listings = d ∷ []; did = did; read = λ e. refl; meta = refl; reached = refl };
     only = refl;

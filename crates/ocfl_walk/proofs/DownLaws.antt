@@ -3,6 +3,7 @@ use Rattle.std.proofs.Common.{◌≡◌, ℕ, List, [], ◌∷◌, ◌++◌, ref
 use Rattle.std.proofs.lemmas.List.{append-nil}
 use Rattle.std.specs.Prelude.{cond, ◌&&◌, ◌||◌, not, Ok, Err}
 use Rattle.ocfl_tree.specs.Place.{Text, Place}
+use Rattle.ocfl_tree.specs.Ascending.{IsAmong}
 use Rattle.ocfl_tree.specs.StorageRoot.{StorageRoot, is_dir}
 use Rattle.ocfl_tree.specs.Store.{Store, Did}
 use Rattle.ocfl_tree.specs.declared.store.Entry.{Entry}
@@ -22,6 +23,7 @@ use Rattle.ocfl_audit.proofs.AuditExists.{append_one}
 use Rattle.ocfl_audit.proofs.StepLaws.{reached_step, listed_step}
 use Rattle.ocfl_item.proofs.LooksZones.{inside_on, inside_step, not_entered, out_of_zone, open_object, reach_on, entered_from, is_plain, plain_below, plain_extensions}
 use Rattle.ocfl_walk.proofs.DescentLaws.{both_inventories, calls_then, failed_then, descends_not, descends_one, descends_end, listing_fails, plain_table}
+use Rattle.ocfl_walk.proofs.ReachLaws.{comes_shut}
 use Rattle.ocfl_item.proofs.AuditingLaws.{near_none, near_within}
 
 is_not : (b : Bool) → false ≡ not b → b ≡ true
@@ -102,19 +104,22 @@ module _ (root : StorageRoot) where
 
   module _ (s t : Store) (d : Place) (n : Text) (r : Place) (a : Option Around) (over : s.tree ≡ root) where
     pub leads_shut : Did s t [] [] 0 → IsShut root d n r a → Leads root s t d n r a a (Ok None)
-    leads_shut did h = record { gives = (descends_not root s t (way_below d (n ∷ r)) (may_open a (zone root (d ++ n ∷ r))) over did, h) }
+    leads_shut did h = record { gives = (comes_shut root d n r h.out s t (may_open a (zone root (d ++ n ∷ r))) (descends_not root s t (way_below d (n ∷ r)) (may_open a (zone root (d ++ n ∷ r))) over did), h) }
 
     pub leads_listed : Did s t [] ((d ++ n ∷ []) ∷ []) 0 → IsShut root d n r a → Leads root s t d n r a a (Ok None)
     leads_listed did h = record {
       gives = (
-        descends_end root s t (way_below d (n ∷ r)) (way_below (d ++ n ∷ []) r) (may_open a (zone root (d ++ n ∷ r))) (may_open a (zone root (d ++ n ∷ r))) 0
-            (descends_one root s t (d ++ n ∷ []) (way_below (d ++ n ∷ []) r) (may_open a (zone root (d ++ n ∷ r))) over did),
+        comes_shut root d n r h.out s t (may_open a (zone root (d ++ n ∷ r)))
+            (descends_end root s t (way_below d (n ∷ r)) (way_below (d ++ n ∷ []) r) (may_open a (zone root (d ++ n ∷ r))) (may_open a (zone root (d ++ n ∷ r))) 0
+            (descends_one root s t (d ++ n ∷ []) (way_below (d ++ n ∷ []) r) (may_open a (zone root (d ++ n ∷ r))) over did)),
         h,
       );
     }
 
     pub leads_in : (f : Folder) → Did s t [] ((d ++ n ∷ []) ∷ []) 0 → IsIn root (d ++ n ∷ []) f a → Leads root s t d n r a a (Ok (Some f))
-    leads_in f did h = record { gives = (descends_one root s t (d ++ n ∷ []) (way_below (d ++ n ∷ []) r) (may_open a (zone root (d ++ n ∷ r))) over did, h) }
+    leads_in f did h = record {
+      gives = (record { goes = descends_one root s t (d ++ n ∷ []) (way_below (d ++ n ∷ []) r) (may_open a (zone root (d ++ n ∷ r))) over did; all = λ e i k. i }, h);
+    }
 
   pub leads_stop : (s t : Store) (d : Place) (n : Text) (r : Place) (a b : Option Around) (why : Fault) → Stops root s t ((d ++ n ∷ []) ∷ []) [] why → Leads root s t d n r a b (Err why)
   leads_stop s t d n r a b why h = record { gives = listing_fails root s t (d ++ n ∷ []) (way_below (d ++ n ∷ []) r) (may_open a (zone root (d ++ n ∷ r))) why h }
@@ -147,14 +152,26 @@ module _ (root : StorageRoot) where
     }
 
     pub leads_object_none : Opens root t u (d ++ n ∷ []) (Ok None) → Leads root s u d n r None None (Ok None)
-    leads_object_none h = record { gives = (descends_end root s u (way_below d (n ∷ r)) rest (may_open None (zone root (d ++ n ∷ r))) [] 0 (then 0 h.gives.0), shut_object d n r z h.gives.1) }
+    leads_object_none h =
+        let shut = shut_object d n r z h.gives.1 in
+        record {
+          gives = (
+            comes_shut root d n r shut.out s u (may_open None (zone root (d ++ n ∷ r))) (descends_end root s u (way_below d (n ∷ r)) rest (may_open None (zone root (d ++ n ∷ r))) [] 0 (then 0 h.gives.0)),
+            shut,
+          );
+        }
 
     pub leads_object : (a : Around) (f : Folder) → f.place ≡ d ++ n ∷ [] → IsObject root (d ++ n ∷ []) f.entries.items
         → Opens root t u (d ++ n ∷ []) (Ok (Some a)) → Leads root s u d n r None (Some a) (Ok (Some f))
     leads_object a f e is h =
         let open_ = open_object root (d ++ n ∷ []) f.entries.items a.table is h.gives.1.1 in
         let part : IsPart root (d ++ n ∷ []) (Some a) = ([], z ∙ ap (λ x. inside x []) (sym h.gives.1.0), ap (table_at root) h.gives.1.0 ∙ h.gives.1.1) in
-        record { gives = (then 0 h.gives.0, record { place = e; here = open_.here; part = part }) }
+        record {
+          gives = (
+            record { goes = then 0 h.gives.0; all = λ x i k. subst (λ ls. IsAmong (((d ++ n ∷ []) ∷ ls) ++ rest) x) (sym h.gives.0.unlisted) i },
+            record { place = e; here = open_.here; part = part },
+          );
+        }
 
     pub leads_object_stop : (why : Fault) → Opens root t u (d ++ n ∷ []) (Err why) → Leads root s u d n r None None (Err why)
     leads_object_stop why h = record {

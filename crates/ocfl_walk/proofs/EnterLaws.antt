@@ -1,10 +1,11 @@
 -- The start of a walk at a place.
-use Rattle.std.proofs.Common.{◌≡◌, List, [], ◌∷◌, ◌++◌, append-nil, refl, sym, ◌∙◌, ap, subst, false, Option, Some, None, length, arith}
+use Rattle.std.proofs.Common.{◌≡◌, inl, inr, true, List, [], ◌∷◌, ◌++◌, append-nil, refl, sym, ◌∙◌, ap, subst, false, Option, Some, None, length, arith}
 use Rattle.std.specs.Prelude.{cond, ◌||◌, not, Result, Ok, Err, IfOk, MatchResult}
 use Rattle.ocfl_tree.specs.Place.{Place}
 use Rattle.ocfl_tree.specs.StorageRoot.{StorageRoot}
 use Rattle.ocfl_tree.specs.Store.{Store, Did}
 use Rattle.ocfl_tree.specs.Listing.{IsOrdinary}
+use Rattle.ocfl_tree.specs.Ascending.{IsAmong}
 use Rattle.ocfl_tree.specs.declared.store.Entry.{Entry}
 use Rattle.ocfl_inventory.specs.Declaration.{declared}
 use Rattle.ocfl_inventory.specs.Entries.{file_names}
@@ -17,7 +18,7 @@ use Rattle.ocfl_item.specs.Ways.{Enters, IsHead, Stops, way_below}
 use Rattle.ocfl_walk.specs.Standing.{IsStanding, Pile, StandsAt, folders_from, piles_in, piles_of, spot_of}
 use Rattle.ocfl_walk.specs.Internal.Standing.{IsOrderly, IsOrderlyIf, IsOrderlyStand}
 use Rattle.ocfl_walk.specs.WalkCalls.{holder_of}
-use Rattle.ocfl_walk.specs.Internal.Entering.{Descends, DescendFails, IsBrought, IsComing, ListsRoot, Starts, StartFails, may_open}
+use Rattle.ocfl_walk.specs.Internal.Entering.{Comes, Descends, DescendFails, IsBrought, IsComing, ListsRoot, Starts, StartFails, may_open}
 use Rattle.ocfl_walk.specs.WalkCalls.{holder_of}
 use Rattle.ocfl_item.specs.declared.fault.Fault.{Fault}
 use Rattle.ocfl_item.specs.declared.fault.Fault.TheVariants as fault
@@ -28,7 +29,8 @@ use Rattle.ocfl_item.specs.declared.meeting.Around.{Around}
 use Rattle.ocfl_walk.specs.declared.stand.Stand.{Stand}
 use Rattle.ocfl_walk.proofs.PlacedLaws.{folders_none}
 use Rattle.ocfl_item.proofs.AuditingLaws.{near_none}
-use Rattle.ocfl_walk.proofs.DescentLaws.{descends_end, descends_on, descent_fails_on, descent_memory, listing_fails, plain_table}
+use Rattle.ocfl_walk.proofs.ReachLaws.{comes_on, none_reached}
+use Rattle.ocfl_walk.proofs.DescentLaws.{descends_end, descent_fails_on, descent_memory, listing_fails, plain_table}
 use Rattle.ocfl_item.proofs.LooksCalls.{head_unknown, root_entered, way_is}
 use Rattle.ocfl_item.proofs.LooksZones.{declared_root, out_of_zone, plain_unknown}
 use Rattle.ocfl_audit.proofs.StackLaws.{stack_starts, start_stops}
@@ -70,6 +72,9 @@ module _ (root : StorageRoot) where
     pub root_known : m ≡ head.Known → ListsRoot root s t (Ok (Some base))
     root_known known = record { gives = (k.did, root_entered root s t base.place base.entries.items ordinary k (subst (IsHead (declared level.Root (file_names base.entries.items))) known says)) }
 
+  unknown_out : is_known (root_declared root) ≡ false → is_reached root [] ≡ false
+  unknown_out h = out_of_zone root [] (ap (λ b. is_listed_zone root (cond (not b || false) skipped hierarchy)) h)
+
   -- ---- the start
 
   pub start_memory : (s : Store) (p : Place) → s.tree ≡ root → StartFails root s s p fault.Memory
@@ -88,14 +93,28 @@ module _ (root : StorageRoot) where
       near = near_none root ([] ∷ []);
     }
 
-    pub start_listed : Starts root s t p
-    start_listed = record { goes = descends_end root s t (way_to p) (way_below [] p) (holder_of (zone root p)) (holder_of (zone root p)) 0 came; root_first = ([], refl) }
+    abbrev pub comes_first : Comes root s t (way_to p) (way_below [] p) (holder_of (zone root p)) (holder_of (zone root p))
+    comes_first = record { goes = came; all = λ e i k. subst (λ w. IsAmong w e) (way_is p) i }
+
+    -- where nothing below the storage root is entered
+    pub start_listed : is_known (root_declared root) ≡ false → Starts root s t p
+    start_listed none = record {
+      comes = record {
+        goes = descends_end root s t (way_to p) (way_below [] p) (holder_of (zone root p)) (holder_of (zone root p)) 0 came;
+        all = λ e i k. by e (subst (λ w. IsAmong w e) (way_is p) i) k;
+      };
+      root_first = ([], refl);
+    }
+      where
+        by : (e : Place) → IsAmong ([] ∷ way_below [] p) e → is_reached root e ≡ true → IsAmong (([] ∷ []) ++ []) e
+        by e (inl f) k = inl f
+        by e (inr i) k = absurd (none_reached root [] p (unknown_out none) e i k)
 
     module _ (u : Store) (d q : Place) (root_is : d ≡ []) (same : q ≡ p) where
-      pub start_down : Descends root t u (way_below d q) [] (holder_of (zone root (d ++ q))) [] 0 → Starts root s u p
+      pub start_down : Comes root t u (way_below d q) [] (holder_of (zone root (d ++ q))) [] → Starts root s u p
       start_down h = record {
-        goes = descends_on root s t u (way_to p) (way_below [] p) [] (holder_of (zone root p)) (holder_of (zone root p)) [] 0 came
-            (subst (λ x. Descends root t u (way_below [] x) [] (holder_of (zone root x)) [] 0) same (subst (λ e. Descends root t u (way_below e q) [] (holder_of (zone root (e ++ q))) [] 0) root_is h));
+        comes = comes_on root s t u (way_to p) (way_below [] p) (holder_of (zone root p)) (holder_of (zone root p)) [] [] comes_first
+            (subst (λ x. Comes root t u (way_below [] x) [] (holder_of (zone root x)) []) same (subst (λ e. Comes root t u (way_below e q) [] (holder_of (zone root (e ++ q))) []) root_is h));
         root_first = (_, refl);
       }
 
@@ -105,9 +124,6 @@ module _ (root : StorageRoot) where
           (subst (λ x. DescendFails root t u (way_below [] x) (holder_of (zone root x)) why) same (subst (λ e. DescendFails root t u (way_below e q) (holder_of (zone root (e ++ q))) why) root_is h))
 
   -- where the root's version is not known
-  unknown_out : is_known (root_declared root) ≡ false → is_reached root [] ≡ false
-  unknown_out h = out_of_zone root [] (ap (λ b. is_listed_zone root (cond (not b || false) skipped hierarchy)) h)
-
   standing_nothing : (p : Place) → is_known (root_declared root) ≡ false → IsStanding root p [] None
   standing_nothing p h = record {
     stack = sym (start_stops root (seen_places root) [] p [] (unknown_out h)) ∙ stack_starts root (is_closed root) p;
@@ -142,12 +158,12 @@ module _ (root : StorageRoot) where
   pub start_goes : (s t : Store) (p : Place) (over : s.tree ≡ root) (did : Did s t [] ([] ∷ []) 0) (u : Store) (d q : Place) (root_is : d ≡ []) (same : q ≡ p) (old new : Stand)
       → old.listings.items ≡ [] → old.around ≡ None → new.last ≡ Some p → (r : Result Unit Fault)
       → MatchResult r
-      (λ _. Descends root t u (way_below d q) [] (may_open old.around (zone root (d ++ q))) [] 0
+      (λ _. Comes root t u (way_below d q) [] (may_open old.around (zone root (d ++ q))) []
       × IsBrought root d q (piles_in old.last old.listings.items) (piles_in new.last new.listings.items) new.around)
       (λ why. DescendFails root t u (way_below d q) (may_open old.around (zone root (d ++ q))) why)
       → MatchResult r (λ _. Starts root s u p × StandsAt root new (Some p)) (λ why. StartFails root s u p why)
   start_goes s t p over did u d q root_is same old new none alone last (Ok x) h = (
-    start_down s t p over did u d q root_is same (subst (λ a. Descends root t u (way_below d q) [] (may_open a (zone root (d ++ q))) [] 0) alone h.0),
+    start_down s t p over did u d q root_is same (subst (λ a. Comes root t u (way_below d q) [] (may_open a (zone root (d ++ q))) []) alone h.0),
     (
       last,
       stands_brought p d q (folders_from 0 (spot_of old.last) old.listings.items) (piles_in new.last new.listings.items) new.around

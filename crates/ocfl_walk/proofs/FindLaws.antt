@@ -1,5 +1,5 @@
 -- One place, looked up by itself.
-use Rattle.std.proofs.Common.{◌≡◌, ◌≢◌, ℕ, ◌+◌, ◌≤◌, List, [], ◌∷◌, ◌++◌, refl, sym, ◌∙◌, ap, subst, true, false, Bool, Option, Some, None, arith, length, append_assoc}
+use Rattle.std.proofs.Common.{◌≡◌, ◌≢◌, ◌⊎◌, inl, inr, ℕ, ◌+◌, ◌≤◌, List, [], ◌∷◌, ◌++◌, refl, sym, ◌∙◌, ap, subst, true, false, Bool, Option, Some, None, arith, length, append_assoc}
 use Rattle.std.proofs.lemmas.List.{append-nil, length-append}
 use Rattle.std.specs.Prelude.{AllPairs, Result, Ok, Err, IfErr, IfOk}
 use Rattle.ocfl_tree.specs.Place.{Text, Place}
@@ -11,8 +11,11 @@ use Rattle.ocfl_tree.specs.declared.store.Opening.{Opening}
 use Rattle.ocfl_audit.specs.Zone.{Zone, skipped, hierarchy, inside, zone, seen}
 use Rattle.ocfl_audit.specs.Trail.{heads_of, is_head, content_trail, reads_inventory}
 use Rattle.ocfl_walk.specs.WalkCalls.{holder_of}
-use Rattle.ocfl_walk.specs.Internal.Entering.{Descends, DescendFails, Leads, may_open}
-use Rattle.ocfl_walk.specs.Internal.Finding.{Finds, FindFails, FindsItem}
+use Rattle.ocfl_audit.specs.Walk.{is_reached}
+use Rattle.ocfl_tree.specs.Ascending.{IsAmong}
+use Rattle.ocfl_walk.specs.WalkCalls.{AreAllListed}
+use Rattle.ocfl_walk.specs.Internal.Entering.{Comes, Descends, DescendFails, Leads, may_open}
+use Rattle.ocfl_walk.specs.Internal.Finding.{Finds, FindsAll, FindFails, FindsItem}
 use Rattle.ocfl_item.specs.Looking.{IsFront, failures_by}
 use Rattle.ocfl_item.specs.Auditing.{IsMetadataRead, LieIn}
 use Rattle.ocfl_item.specs.Around.{IsMet, IsPart, IsTableAround}
@@ -24,7 +27,10 @@ use Rattle.ocfl_item.specs.declared.folder.Folder.{Folder}
 use Rattle.ocfl_item.specs.declared.pending.Pending.{Pending}
 use Rattle.ocfl_item.specs.declared.meeting.Around.{Around}
 use Rattle.ocfl_item.specs.declared.visit.Visit.{Visit}
-use Rattle.ocfl_tree.proofs.Orders.{true_not_false}
+use Rattle.ocfl_tree.proofs.Orders.{among_left, among_right, true_not_false}
+use Rattle.ocfl_tree.proofs.Stores.{among_either}
+use Rattle.ocfl_walk.proofs.ReachLaws.{own_listed}
+use Rattle.ocfl_audit.proofs.BetweenLaws.{seen_reached}
 use Rattle.ocfl_audit.proofs.AuditExists.{append_one, some_not_none}
 use Rattle.ocfl_audit.proofs.WayLaws.{head_seen, is_closed}
 use Rattle.ocfl_audit.specs.Head.{on}
@@ -87,6 +93,12 @@ module _ (root : StorageRoot) where
         near = h.near;
       }
 
+  abbrev pub finds_come : (s t : Store) (way may left : List Place) → length may ≤ 1 → Comes root s t way [] may left → FindsAll root s t way may
+  finds_come s t way may left few h = record {
+    finds = finds_descended s t way [] may left 0 few h.goes;
+    all = λ e i k. subst (λ ls. IsAmong ls e) (append-nil h.goes.calls.listings) (h.all e i k);
+  }
+
   pub finds_stopped : (s t : Store) (way may : List Place) (why : Fault) → length may ≤ 1 → DescendFails root s t way may why → FindFails root s t way may why
   finds_stopped s t way may why few h = record { finds = finds_descended s t way [] may [] (failures_by why) few h.goes; store = h.store }
 
@@ -120,20 +132,38 @@ module _ (root : StorageRoot) where
           near = near_on root h.calls.listings g.calls.listings trail behind h.near g.near;
         }
 
-    pub item_on : (p : Place) (r : Result (Option Pending) Fault) → FindsItem root t u more left p r → FindsItem root s u way may p r
-    item_on p (Ok o) k = record { gives = (finds_on 0 k.gives.0, k.gives.1) }
-    item_on p (Err why) k = record {
+    abbrev pub all_on : (g : FindsAll root t u more left) → AreAllListed root way (h.calls.listings ++ more) → FindsAll root s u way may
+    all_on g all_first = record {
+      finds = finds_on 0 g.finds;
+      all = λ e i k. by e k (among_either h.calls.listings more e (all_first e i k));
+    }
+      where
+        by : (e : Place) → is_reached root e ≡ true → IsAmong h.calls.listings e ⊎ IsAmong more e → IsAmong (h.calls.listings ++ g.finds.calls.listings) e
+        by e k (inl i) = among_left h.calls.listings g.finds.calls.listings e i
+        by e k (inr i) = among_right h.calls.listings g.finds.calls.listings e (g.all e i k)
+
+    pub item_on : AreAllListed root way (h.calls.listings ++ more) → (p : Place) (r : Result (Option Pending) Fault) → FindsItem root t u more left p r → FindsItem root s u way may p r
+    item_on all_first p (Ok o) k = record { gives = (all_on k.gives.0 all_first, k.gives.1) }
+    item_on all_first p (Err why) k = record {
       gives = record { finds = finds_on (failures_by why) k.gives.finds; store = failed_then root s t u why h.calls k.gives.finds.calls k.gives.store };
     }
 
   pub finds_nothing : (s : Store) (way may : List Place) → s.tree ≡ root → Finds root s s way may 0
   finds_nothing s way may over = record { calls = no_calls root s s over (did_nothing s); once = none_once; closed = λ e. refl; listed = (way, refl); heads = (may, refl); near = near_none root [] }
 
+  -- where the one place on the way is not entered
+  pub finds_none : (s : Store) (p : Place) (may : List Place) → s.tree ≡ root → is_reached root p ≡ false → FindsAll root s s (p ∷ []) may
+  finds_none s p may over out = record { finds = finds_nothing s (p ∷ []) may over; all = λ e i k. absurd (none e i k) }
+    where
+      none : (e : Place) → IsAmong (p ∷ []) e → is_reached root e ≡ true → ⊥
+      none e (inl f) k = true_not_false (sym k ∙ ap (is_reached root) f ∙ out)
+      none e (inr i) k = i
+
   -- an item that is known without the store
-  pub item_known : (s t : Store) (way may : List Place) (p : Place) (r : Result (Option Pending) Fault) → Finds root s t way may 0
+  pub item_known : (s t : Store) (way may : List Place) (p : Place) (r : Result (Option Pending) Fault) → FindsAll root s t way may
       → IfErr r (λ why. why ≡ fault.Memory) → IfOk r (λ o. IsItemAt root p o) → FindsItem root s t way may p r
   item_known s t way may p (Ok o) h only told = record { gives = (h, told) }
-  item_known s t way may p (Err why) h only told = record { gives = subst (FindFails root s t way may) (sym only) (record { finds = h; store = λ q e. absurd (memory_no_store q e) }) }
+  item_known s t way may p (Err why) h only told = record { gives = subst (FindFails root s t way may) (sym only) (record { finds = h.finds; store = λ q e. absurd (memory_no_store q e) }) }
 
   pub item_memory : (s : Store) (way may : List Place) (p : Place) → s.tree ≡ root → FindsItem root s s way may p (Err fault.Memory)
   item_memory s way may p over = record { gives = record { finds = finds_nothing s way may over; store = λ q e. absurd (memory_no_store q e) } }
@@ -189,8 +219,11 @@ module _ (root : StorageRoot) where
           let m = h.gives.0 in
           record {
             gives = (
-              finds_met s t m.trail (subst (IsFront (heads_of root m.trail)) m.heads (front_all (heads_of root m.trail))) m.elsewhere 0 m.listings
-                  m.over m.did (λ g. m.read) m.meta m.once (front_own e (is_looked_into root e) m.listings m.listed) m.near,
+              record {
+                finds = finds_met s t m.trail (subst (IsFront (heads_of root m.trail)) m.heads (front_all (heads_of root m.trail))) m.elsewhere 0 m.listings
+                    m.over m.did (λ g. m.read) m.meta m.once (front_own e (is_looked_into root e) m.listings m.listed) m.near;
+                all = own_listed root e m.listings m.listed;
+              },
               h.gives.1.item,
             );
           }
@@ -216,8 +249,9 @@ module _ (root : StorageRoot) where
         → Leads root s t d n r old new (Ok (Some inner)) → FindsItem root t u (way_below inner.place r') (may_open new (zone root p)) p res
         → FindsItem root s u (way_below d (n ∷ r)) (may_open old (zone root p)) p res
     item_further s t u inner r' res same h k =
-        item_on s t u (way_below d (n ∷ r)) (way_below (d ++ n ∷ []) r) (may_open old (zone root p)) (may_open new (zone root p)) few_old
-        (subst (λ x. Descends root s t (way_below d (n ∷ r)) (way_below (d ++ n ∷ []) r) (may_open old (zone root x)) (may_open new (zone root x)) 0) (sym is) h.gives.0)
+        let came : Comes root s t (way_below d (n ∷ r)) (way_below (d ++ n ∷ []) r) (may_open old (zone root p)) (may_open new (zone root p)) =
+        subst (λ x. Comes root s t (way_below d (n ∷ r)) (way_below (d ++ n ∷ []) r) (may_open old (zone root x)) (may_open new (zone root x))) (sym is) h.gives.0 in
+        item_on s t u (way_below d (n ∷ r)) (way_below (d ++ n ∷ []) r) (may_open old (zone root p)) (may_open new (zone root p)) few_old came.goes came.all
         p res (subst (λ x. FindsItem root t u (way_below (d ++ n ∷ []) x) (may_open new (zone root p)) p res) (sym same)
         (subst (λ x. FindsItem root t u (way_below x r') (may_open new (zone root p)) p res) h.gives.1.place k))
 
@@ -231,8 +265,8 @@ module _ (root : StorageRoot) where
         → IfOk res (λ o. IsItemAt root p o) → FindsItem root s t (way_below d (n ∷ r)) (may_open old (zone root p)) p res
     item_shut s t res h only told =
         item_known s t (way_below d (n ∷ r)) (may_open old (zone root p)) p res
-        (finds_descended s t (way_below d (n ∷ r)) [] (may_open old (zone root p)) [] 0 few_old
-        (subst (λ x. Descends root s t (way_below d (n ∷ r)) [] (may_open old (zone root x)) [] 0) (sym is) h.gives.0))
+        (finds_come s t (way_below d (n ∷ r)) (may_open old (zone root p)) [] few_old
+        (subst (λ x. Comes root s t (way_below d (n ∷ r)) [] (may_open old (zone root x)) []) (sym is) h.gives.0))
         only told
 
     pub shut_table : (s t : Store) → Leads root s t d n r old new (Ok None) → IsTableAround root p new
@@ -263,6 +297,13 @@ module _ (root : StorageRoot) where
   module _ (d e : Place) (n : Text) (es : List Entry) (at : IsAt root d es) (is : e ≡ d ++ n ∷ []) (none : kind_in es n ≡ None) where
     pub missing_unseen : seen root e ≡ None
     missing_unseen = ap (seen root) is ∙ sight_nothing root d n es at (sym none)
+
+    pub missing_out : is_reached root e ≡ false
+    missing_out = by (is_reached root e) refl
+      where
+        by : (b : Bool) → is_reached root e ≡ b → is_reached root e ≡ false
+        by false h = h
+        by true h = absurd (some_not_none dir (sym missing_unseen ∙ seen_reached root e h))
 
     pub missing_table : (a : Option Around) → IsPart root d a → IsTableAround root e a
     missing_table None z = λ o s h.

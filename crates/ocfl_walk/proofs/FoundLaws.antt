@@ -11,9 +11,9 @@ use Rattle.ocfl_audit.specs.Lines.{is_hashed, notes, notes_in}
 use Rattle.ocfl_audit.specs.Between.{is_looked_into}
 use Rattle.ocfl_audit.specs.Trail.{content_openings, content_trail, heads_of, inventory_of, reads_inventory, unread_of}
 use Rattle.ocfl_item.specs.Auditing.{FailedAt, IsMetadataRead, LieIn}
-use Rattle.ocfl_walk.specs.WalkCalls.{GoDownFails, GoesDown, IsRootFirst, holder, holder_of}
+use Rattle.ocfl_walk.specs.WalkCalls.{AreAllListed, GoDownFails, GoesDown, IsRootFirst, holder, holder_of}
 use Rattle.ocfl_walk.specs.Internal.Entering.{Starts, StartFails}
-use Rattle.ocfl_walk.specs.Internal.Finding.{Finds, FindFails, FindsItem}
+use Rattle.ocfl_walk.specs.Internal.Finding.{Finds, FindsAll, FindFails, FindsItem}
 use Rattle.ocfl_item.specs.Looking.{IsFront, failures_by, way_to}
 use Rattle.ocfl_item.specs.Meeting.{IsItemAt, Visits}
 use Rattle.ocfl_item.specs.Ways.{Stops, way_below}
@@ -25,9 +25,9 @@ use Rattle.ocfl_audit.proofs.AuditExists.{zone_is}
 use Rattle.ocfl_audit.proofs.PathLaws.{notes_at}
 use Rattle.ocfl_item.proofs.AuditingLaws.{audits_nothing, front_all, front_kept, none_once}
 use Rattle.ocfl_walk.proofs.DescentLaws.{front_within}
-use Rattle.ocfl_walk.proofs.EnterLaws.{came, start_listed, start_unlisted}
-use Rattle.ocfl_walk.proofs.FindLaws.{front_own, finds_descended, finds_on, finds_stopped, item_memory, item_on, may_few}
-use Rattle.ocfl_item.proofs.LooksCalls.{way_is}
+use Rattle.ocfl_walk.proofs.ReachLaws.{own_listed}
+use Rattle.ocfl_walk.proofs.EnterLaws.{comes_first, start_listed, start_unlisted}
+use Rattle.ocfl_walk.proofs.FindLaws.{all_on, front_own, finds_come, finds_stopped, item_memory, item_on, may_few}
 
 -- ---- as it is told
 
@@ -59,13 +59,14 @@ module _ (root : StorageRoot) where
   module _ (s t : Store) (p : Place) where
     module _ (trail : List Opening) (listed : List Place) (over : s.tree ≡ root) (meta : content_trail root trail ≡ [])
         (once : AllPairs (λ a b. a.place ≢ b.place) trail) (way : IsFront listed (way_to p)) (heads : IsFront (heads_of root trail) (holder root (Some p))) (near : LieIn root listed trail) where
-      went : Did s t trail listed 0 → IsMetadataRead root trail → IsRootFirst listed → GoesDown root s t (Some p)
-      went did read first = record {
+      went : Did s t trail listed 0 → IsMetadataRead root trail → IsRootFirst listed → AreAllListed root (way_to p) listed → GoesDown root s t (Some p)
+      went did read first all = record {
         trail = trail;
         listed = listed;
         heads = heads_of root trail;
         audits = record { over = over; did = did_well s t trail listed meta did; read = read; opened = meta ∙ sym (none_hashed root); heads_are = refl; near = near };
         root_first = first;
+        all_listed = all;
         listed_front = way;
         heads_front = heads;
         once = once;
@@ -87,15 +88,17 @@ module _ (root : StorageRoot) where
     held : (may : List Place) (f : ℕ) (h : Finds root s t (way_to p) may f) → IsFront (heads_of root h.calls.trail) (filter (reads_inventory root) may)
     held may f h = front_kept (reads_inventory root) (heads_of root h.calls.trail) may h.calls.reached h.heads
 
-    pub goes_down : (h : Finds root s t (way_to p) (holder_of (zone root p)) 0) → IsRootFirst h.calls.listings → GoesDown root s t (Some p)
-    goes_down h first = let k = h.calls in went k.trail k.listings k.over k.meta h.once h.listed (held (holder_of (zone root p)) 0 h) h.near k.did (k.read refl) first
+    pub goes_down : (h : FindsAll root s t (way_to p) (holder_of (zone root p))) → IsRootFirst h.finds.calls.listings → GoesDown root s t (Some p)
+    goes_down h first =
+        let k = h.finds.calls in
+        went k.trail k.listings k.over k.meta h.finds.once h.finds.listed (held (holder_of (zone root p)) 0 h.finds) h.finds.near k.did (k.read refl) first h.all
 
     pub go_down_fails : (why : Fault) → FindFails root s t (way_to p) (holder_of (zone root p)) why → GoDownFails root s t (Some p) why
     go_down_fails why h = let k = h.finds.calls in went_wrong k.trail k.listings k.over k.meta h.finds.once h.finds.listed (held (holder_of (zone root p)) (failures_by why) h.finds) h.finds.near why h.store k.did
 
     -- the start of a walk is such a way
     pub start_goes_down : Starts root s t p → GoesDown root s t (Some p)
-    start_goes_down h = goes_down (finds_descended root s t (way_to p) [] (holder_of (zone root p)) [] 0 (may_few None (zone root p)) h.goes) h.root_first
+    start_goes_down h = goes_down (finds_come root s t (way_to p) (holder_of (zone root p)) [] (may_few None (zone root p)) h.comes) h.root_first
 
     pub start_fails_down : (why : Fault) → StartFails root s t p why → GoDownFails root s t (Some p) why
     start_fails_down why h = go_down_fails why (finds_stopped root s t (way_to p) (holder_of (zone root p)) why (may_few None (zone root p)) h)
@@ -117,16 +120,19 @@ module _ (root : StorageRoot) where
         may = holder_of (zone root p)
 
         by : (r : Result (Option Pending) Fault) → FindsItem root t u (way_below [] p) may p r → IsAnswer s u p r
-        by (Ok o) k = (goes_down s u p (finds_on root s t u (way_to p) (way_below [] p) may may (may_few None (zone root p)) (came root s t p over did) 0 k.gives.0) (_, refl), k.gives.1)
+        by (Ok o) k =
+            let first = comes_first root s t p over did in
+            (goes_down s u p (all_on root s t u (way_to p) (way_below [] p) may may (may_few None (zone root p)) first.goes k.gives.0 first.all) (_, refl), k.gives.1)
         by (Err why) k =
-            go_down_fails s u p why (item_on root s t u (way_to p) (way_below [] p) may may (may_few None (zone root p)) (came root s t p over did) p (Err why) k).gives
+            let first = comes_first root s t p over did in
+            go_down_fails s u p why (item_on root s t u (way_to p) (way_below [] p) may may (may_few None (zone root p)) first.goes first.all p (Err why) k).gives
 
     skipped_notes : (q : Place) → q ≢ [] → is_known (root_declared root) ≡ false → notes root None q ≡ []
     skipped_notes q some h = notes_at root None q some ∙ ap (λ b. notes_in root q None (cond (not b || is_in_extensions root q) skipped (object_zone root [] q))) h
 
     -- where the root's version is not known nothing else has lines
     pub answered_unknown : p ≢ [] → is_known (root_declared root) ≡ false → GoesDown root s t (Some p) × IsItemAt root p None
-    answered_unknown some none = (start_goes_down s t p (start_listed root s t p over did), skipped_notes p some none)
+    answered_unknown some none = (start_goes_down s t p (start_listed root s t p over did none), skipped_notes p some none)
 
   -- ---- the storage root
 
@@ -157,7 +163,7 @@ module _ (root : StorageRoot) where
       let m = h.gives.0 in
       subst (λ x. GoesDown root s t (Some x) × IsItemAt root x v.item) (sym top) (
         went s t [] m.trail m.listings m.over m.meta m.once (front_own [] (is_looked_into root []) m.listings m.listed)
-            (no_objects m.trail (front_own [] (reads_inventory root []) (heads_of root m.trail) m.heads)) m.near m.did m.read ([], m.listed),
+            (no_objects m.trail (front_own [] (reads_inventory root []) (heads_of root m.trail) m.heads)) m.near m.did m.read ([], m.listed) (own_listed root [] m.listings m.listed),
         h.gives.1.item,
       )
 
@@ -179,6 +185,7 @@ start_at_none root s over = record {
   heads = [];
   audits = audits_nothing root s over;
   root_first = tt;
+  all_listed = λ d i k. absurd i;
   listed_front = front_all [];
   heads_front = front_all [];
   once = none_once;

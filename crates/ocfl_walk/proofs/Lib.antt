@@ -18,6 +18,7 @@ pub mod DescentLaws
 pub mod DownLaws
 pub mod HierarchyDown
 pub mod LeadsLaws
+pub mod ReachLaws
 pub mod BroughtLaws
 pub mod EnterLaws
 pub mod WalkCallLaws

@@ -10,6 +10,7 @@ use Rattle.ocfl_tree.specs.declared.store.Opening.{Opening}
 use Rattle.ocfl_tree.proofs.Orders.{among_left, among_right}
 use Rattle.ocfl_audit.specs.Objects.{IsObjectRoot}
 use Rattle.ocfl_audit.specs.Trail.{content_trail, heads_of, inventory_of, is_meta, reads_inventory}
+use Rattle.ocfl_audit.specs.Walk.{is_reached}
 use Rattle.ocfl_audit.specs.Zone.{beginnings, zone}
 use Rattle.ocfl_audit.proofs.MetaLaws.{head_shown}
 use Rattle.ocfl_item.specs.Looking.{way_to}
@@ -93,6 +94,9 @@ module _ (root : StorageRoot) (s t : Store) (p : Option Place) (g : GoesDown roo
       by : (p : Option Place) (d : Place) → IsAmong (way_of p) d → (q : Place) × (p ≡ Some (d ++ q))
       by None d i = absurd i
       by (Some e) d i = let k = on_way e d i in (k.0, ap (λ y. Some y) k.1)
+
+  pub down_entered : (listed : List Place) × ((t.listings ≡ s.listings ++ listed) × ((d : Place) → IsAmong (way_of p) d → is_reached root d ≡ true → IsAmong listed d))
+  down_entered = (g.listed, (g.audits.did.listings_are, g.all_listed))
 
   pub down_root : (q : Place) → p ≡ Some q → (rest : List Place) × (t.listings ≡ s.listings ++ [] ∷ rest)
   down_root q e =

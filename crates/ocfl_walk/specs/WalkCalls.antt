@@ -1,13 +1,15 @@
 -- What the calls of a walk did to a store that tells its tree: from one place on to another, and
 -- down to one place.
-use Rattle.std.specs.Prelude.{List, [], ◌∷◌, Option, Some, None, IfSome, AllPairs, ◌≡◌, ◌≢◌, filter}
+use Rattle.std.specs.Prelude.{true, List, [], ◌∷◌, Option, Some, None, IfSome, AllPairs, ◌≡◌, ◌≢◌, filter}
 use Rattle.ocfl_tree.specs.Place.{Place}
+use Rattle.ocfl_tree.specs.Ascending.{IsAmong}
 use Rattle.ocfl_tree.specs.StorageRoot.{StorageRoot}
 use Rattle.ocfl_tree.specs.Store.{Store}
 use Rattle.ocfl_tree.specs.declared.store.Opening.{Opening}
 use Rattle.ocfl_audit.specs.Zone.{Zone, skipped, hierarchy, inside, zone}
 use Rattle.ocfl_audit.specs.Between.{looked_between, read_between}
 use Rattle.ocfl_audit.specs.Trail.{reads_inventory}
+use Rattle.ocfl_audit.specs.Walk.{is_reached}
 use Rattle.ocfl_item.specs.Auditing.{Audits, Fails}
 use Rattle.ocfl_item.specs.Looking.{IsFront, way_to}
 use Rattle.ocfl_item.specs.declared.fault.Fault.{Fault}
@@ -67,14 +69,20 @@ holder root (Some p) = filter (reads_inventory root) (holder_of (zone root p))
 abbrev pub IsRootFirst : List Place → Type 0
 IsRootFirst listed = (rest : List Place) × (listed ≡ [] ∷ rest)
 
--- the first directories on the way to a place were listed, the storage root at least, and of
--- inventories at most that of the object that holds it was read, where its head reaches it
+-- of these directories those were listed that are entered, and all above them
+abbrev pub AreAllListed : StorageRoot → List Place → List Place → Type 0
+AreAllListed root dirs listed = (d : Place) → IsAmong dirs d → is_reached root d ≡ true → IsAmong listed d
+
+-- the first directories on the way to a place were listed, the storage root at least and all that
+-- are entered, and of inventories at most that of the object that holds it was read, where its head
+-- reaches it
 pub record GoesDown (root : StorageRoot) (s t : Store) (p : Option Place) : Type 0 where
   pub trail : List Opening
   pub listed : List Place
   pub heads : List Place
   pub audits : Audits root s t [] listed heads trail
   pub root_first : IfSome p (λ q. IsRootFirst listed)
+  pub all_listed : AreAllListed root (way_of p) listed
   pub listed_front : IsFront listed (way_of p)
   pub heads_front : IsFront heads (holder root p)
   pub once : AllPairs (λ a b. a.place ≢ b.place) trail

@@ -10,7 +10,7 @@ ghost use Rattle.ocfl_audit.specs.Zone.{zone};
 ghost use Rattle.ocfl_item.specs.Around.{IsPart};
 ghost use Rattle.ocfl_item.specs.Meeting.{IsFairFolder};
 ghost use Rattle.ocfl_item.specs.Ways.{Enters, IsAt, IsObject, IsWayFault, Stops, way_below};
-ghost use Rattle.ocfl_walk.specs.Internal.Entering.{StaysOut, Descends, DescendFails, IsBrought};
+ghost use Rattle.ocfl_walk.specs.Internal.Entering.{StaysOut, Comes, DescendFails, IsBrought};
 ghost use Rattle.ocfl_walk.specs.Internal.Entering.{IsComing, Opens, IsFairWay, Leads, LeadsOn};
 ghost use Rattle.ocfl_walk.specs.Internal.Entering.{ListsBelow, ListsRoot, Starts, StartFails};
 ghost use Rattle.ocfl_walk.specs.Internal.Entering.{may_open};
@@ -177,8 +177,8 @@ fn go_down<T: Tree>(
         IsAt root folder.place folder.entries.items → IsPart root folder.place stand.old.around
         → let may = may_open stand.old.around
         (zone root (folder.place ++ names.now)) in MatchResult result
-        (λ _. Descends root (T.state store.old) (T.state store.new)
-        (way_below folder.place names.now) [] may [] 0
+        (λ _. Comes root (T.state store.old) (T.state store.new)
+        (way_below folder.place names.now) [] may []
         × IsBrought root folder.place names.now (piles_in stand.old.last stand.old.listings.items)
         (piles_in stand.new.last stand.new.listings.items) stand.new.around)
         (λ why. DescendFails root (T.state store.old) (T.state store.new)

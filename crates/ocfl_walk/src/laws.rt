@@ -10,6 +10,7 @@ ghost use Rattle.ocfl_audit.specs.Between.{IsBeyond, IsWithin, looked_between, r
 ghost use Rattle.ocfl_audit.specs.Due.{due, item_places};
 ghost use Rattle.ocfl_audit.specs.Objects.{IsObjectRoot};
 ghost use Rattle.ocfl_audit.specs.Trail.{is_meta, reads_inventory};
+ghost use Rattle.ocfl_audit.specs.Walk.{is_reached};
 ghost use Rattle.ocfl_audit.specs.Zone.{inside, zone, beginnings};
 ghost use Rattle.ocfl_item.specs.declared.fault.Fault.{Fault};
 ghost use Rattle.ocfl_walk.specs.Before.{place_before, places_from};
@@ -40,7 +41,8 @@ pub fn the_way_down_is_exact()
 
 /// On the way down to a place no call failed. Of files only metadata was opened, and of inventories
 /// only that of the object that holds the place, where its head reaches it. Of directories only the
-/// beginnings of the place were listed, and the place, and the storage root first.
+/// beginnings of the place were listed, and the place: all that are entered, and the storage root
+/// first.
 pub fn the_way_down_opens_one_inventory()
     ensures inventories { (root : StorageRoot) (s t : Store) (p : Option Place)
         → GoesDown root s t p → (trail : List Opening) × ((t.openings ≡ s.openings ++ trail)
@@ -53,6 +55,9 @@ pub fn the_way_down_opens_one_inventory()
     ensures listed { (root : StorageRoot) (s t : Store) (p : Option Place)
         → GoesDown root s t p → (listed : List Place) × ((t.listings ≡ s.listings ++ listed)
         × ((d : Place) → IsAmong listed d → (q : Place) × (p ≡ Some (d ++ q)))) }
+    ensures entered { (root : StorageRoot) (s t : Store) (p : Option Place)
+        → GoesDown root s t p → (listed : List Place) × ((t.listings ≡ s.listings ++ listed)
+        × ((d : Place) → IsAmong (way_of p) d → is_reached root d ≡ true → IsAmong listed d)) }
     ensures first { (root : StorageRoot) (s t : Store) (p : Option Place)
         → GoesDown root s t p → (q : Place) → p ≡ Some q → (rest : List Place)
         × (t.listings ≡ s.listings ++ [] ∷ rest) }

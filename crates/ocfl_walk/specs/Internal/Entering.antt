@@ -12,7 +12,7 @@ use Rattle.ocfl_audit.specs.Lines.{is_hashed}
 use Rattle.ocfl_audit.specs.Trail.{content_trail, heads_of, reads_inventory}
 use Rattle.ocfl_item.specs.Looking.{way_to, IsFront, failures_by}
 use Rattle.ocfl_item.specs.Auditing.{FailedAt, IsMetadataRead, LieIn}
-use Rattle.ocfl_walk.specs.WalkCalls.{IsRootFirst, holder_of}
+use Rattle.ocfl_walk.specs.WalkCalls.{AreAllListed, IsRootFirst, holder_of}
 use Rattle.ocfl_item.specs.Ways.{way_below, is_extensions_name, is_listable, AreInventories, Enters, InHierarchy, IsAt, Stops}
 use Rattle.ocfl_audit.specs.Walk.{is_reached, step_listed}
 use Rattle.ocfl_audit.specs.Stack.{seen_places, seen_left, listed_at, IsListed}
@@ -60,6 +60,11 @@ pub record Descends (root : StorageRoot) (s t : Store) (way more may left : List
   pub listed : IsFront (calls.listings ++ more) way
   pub heads : IsFront (heads_of root calls.trail ++ left) may
   pub near : LieIn root calls.listings calls.trail
+
+-- and of the directories of the way that are entered each was listed, or is among those left
+pub record Comes (root : StorageRoot) (s t : Store) (way more may left : List Place) : Type 0 where
+  pub goes : Descends root s t way more may left 0
+  pub all : AreAllListed root way (goes.calls.listings ++ more)
 
 -- and then there was a fault
 pub record DescendFails (root : StorageRoot) (s t : Store) (way may : List Place) (why : Fault) : Type 0 where
@@ -138,8 +143,8 @@ pub record IsIn (root : StorageRoot) (e : Place) (f : Folder) (around : Option A
 pub record Leads (root : StorageRoot) (s t : Store) (d : Place) (n : Text) (r : Place) (old new : Option Around) (x : Result (Option Folder) Fault) : Type 0 where
   pub gives : MatchResult x
       (λ next. MatchOption next
-      (Descends root s t (way_below d (n ∷ r)) [] (may_open old (zone root (d ++ n ∷ r))) [] 0 × IsShut root d n r new)
-      (λ f. Descends root s t (way_below d (n ∷ r)) (way_below (d ++ n ∷ []) r) (may_open old (zone root (d ++ n ∷ r))) (may_open new (zone root (d ++ n ∷ r))) 0 × IsIn root (d ++ n ∷ []) f new))
+      (Comes root s t (way_below d (n ∷ r)) [] (may_open old (zone root (d ++ n ∷ r))) [] × IsShut root d n r new)
+      (λ f. Comes root s t (way_below d (n ∷ r)) (way_below (d ++ n ∷ []) r) (may_open old (zone root (d ++ n ∷ r))) (may_open new (zone root (d ++ n ∷ r))) × IsIn root (d ++ n ∷ []) f new))
       (λ why. DescendFails root s t (way_below d (n ∷ r)) (may_open old (zone root (d ++ n ∷ r))) why)
 
 -- ---- the whole way
@@ -160,11 +165,11 @@ pub record IsBrought (root : StorageRoot) (d q : Place) (old new : List Pile) (a
   pub table : IsTableAround root (d ++ q) around
 
 -- the start of a walk: the storage root and at most the directories on the way to p were listed,
--- each once, and at most the inventory of the object that holds p was opened, once, where its head
--- reaches it
+-- each once and all that are entered, and at most the inventory of the object that holds p was
+-- opened, once, where its head reaches it
 pub record Starts (root : StorageRoot) (s t : Store) (p : Place) : Type 0 where
-  pub goes : Descends root s t (way_to p) [] (holder_of (zone root p)) [] 0
-  pub root_first : IsRootFirst goes.calls.listings
+  pub comes : Comes root s t (way_to p) [] (holder_of (zone root p)) []
+  pub root_first : IsRootFirst comes.goes.calls.listings
 
 abbrev pub StartFails : StorageRoot → Store → Store → Place → Fault → Type 0
 StartFails root s t p why = DescendFails root s t (way_to p) (holder_of (zone root p)) why

@@ -8,6 +8,7 @@ use Rattle.ocfl_item.specs.Auditing.{LieIn}
 use Rattle.ocfl_item.specs.Looking.{IsFront, failures_by}
 use Rattle.ocfl_item.specs.Meeting.{IsItemAt}
 use Rattle.ocfl_walk.specs.Internal.Entering.{Calls, NamesFailed}
+use Rattle.ocfl_walk.specs.WalkCalls.{AreAllListed}
 use Rattle.ocfl_item.specs.declared.fault.Fault.{Fault}
 use Rattle.ocfl_item.specs.declared.pending.Pending.{Pending}
 
@@ -22,6 +23,11 @@ pub record Finds (root : StorageRoot) (s t : Store) (way may : List Place) (fail
   pub heads : IsFront (heads_of root calls.trail) may
   pub near : LieIn root calls.listings calls.trail
 
+-- and each directory of the way that is entered was listed
+pub record FindsAll (root : StorageRoot) (s t : Store) (way may : List Place) : Type 0 where
+  pub finds : Finds root s t way may 0
+  pub all : AreAllListed root way finds.calls.listings
+
 -- and then there was a fault
 pub record FindFails (root : StorageRoot) (s t : Store) (way may : List Place) (why : Fault) : Type 0 where
   pub finds : Finds root s t way may (failures_by why)
@@ -29,4 +35,4 @@ pub record FindFails (root : StorageRoot) (s t : Store) (way may : List Place) (
 
 -- the item of a place
 pub record FindsItem (root : StorageRoot) (s t : Store) (way may : List Place) (p : Place) (r : Result (Option Pending) Fault) : Type 0 where
-  pub gives : MatchResult r (λ o. Finds root s t way may 0 × IsItemAt root p o) (λ why. FindFails root s t way may why)
+  pub gives : MatchResult r (λ o. FindsAll root s t way may × IsItemAt root p o) (λ why. FindFails root s t way may why)

@@ -1,12 +1,9 @@
-use Rattle.std.proofs.Common.{◌≢◌, refl, ap, ◌+◌, map, arith, rules}
+use Rattle.std.proofs.Common.{◌≢◌, refl, ap, ◌+◌, arith, rules}
 use Rattle.ocfl_item.specs.declared.fault.Fault.TheVariants.{Output}
-use Rattle.ocfl_scrub.specs.Call.{call_of}
-use Rattle.ocfl_scrub.specs.Running.{limits_of}
 use Rattle.ocfl_scrub.specs.Starting.{part_of}
 use Rattle.ocfl_scrub.specs.declared.cycling.CycleStatus.TheVariants as cycle
 use Rattle.ocfl_scrub.proofs.TakeLaws.{nothing_written}
 use Rattle.ocfl_scrub.proofs.PassLaws.{lines_then}
-use Rattle.ocfl_scrub.proofs.ChainHeadline.{headline_of_part}
 use Rattle.ocfl_scrub.proofs.ChainRuns.{chain_begins, chain_goes_on, cycle_out, cycle_unbegun, cycle_ended, cycle_stopped}
 use Rattle.ocfl_scrub.proofs.CycleLoop.{limits_next, limits_out, limits_some, ended_not_worn, spent_not_worn, stopped_not_worn, ended_wrote, spent_wrote, stopped_wrote, new_unended, one_run_more, same_cycle, spent_unended, lines_said}
 use Rattle.ocfl_scrub.proofs.cycling.cycle_part.Goals as goal
@@ -43,12 +40,6 @@ returns-in-Ended-clause-told g c told root over short =
     let next = limits_next c.args.limits.now c.loop-one.one-index c.one-item.result c.loop-one-test.true c.one-item.is in
     cycle_ended root (part_of c.args.part.now) _ _ _ _ _ _ _ _ _ (c.loop-one.invariant.told told root over short) _ _ _ _ _ _ _ next c.in-Ok.ensures.same
     (λ reached. c.run_part-reached.ensures.told told root reached short (ended_not_worn _ c.in-Ended.is)) c.either-found.ensures _ e.runs e.cursor e.found e.end c.in-Ended.is
-
-pub returns-in-Ended-clause-headline : goal.returns-in-Ended-clause-headline
-returns-in-Ended-clause-headline g c told root over short same =
-    headline_of_part (call_of root (g.T.Tree.state c.args.store.now) (g.T.Tree.state c.run_part-reached.new.store)
-    (g.W.Write.contents c.args.out.now) (g.W.Write.contents c.run_part-reached.new.out)) (part_of c.args.part.now) (map limits_of c.args.limits.now)
-    c.cycle_end-in-Ended.result (returns-in-Ended-clause-told g c told root over short) same
 
 pub returns-in-Stopped-clause-any_store : goal.returns-in-Stopped-clause-any_store
 returns-in-Stopped-clause-any_store g c =
@@ -91,8 +82,3 @@ returns-clause-told g c told root over short =
     let e = c.cycle_end-2.ensures in
     cycle_out root (part_of c.args.part.now) _ _ _ _ _ _ _ _ _ (c.loop-one.invariant.told told root over short) _ e.runs e.cursor e.found e.end
     (limits_out c.args.limits.now c.loop-one.one-index c.loop-one-test.false)
-
-pub returns-clause-headline : goal.returns-clause-headline
-returns-clause-headline g c told root over short same =
-    headline_of_part (call_of root (g.T.Tree.state c.args.store.now) (g.T.Tree.state c.loop-one.store) (g.W.Write.contents c.args.out.now)
-    (g.W.Write.contents c.loop-one.out)) (part_of c.args.part.now) (map limits_of c.args.limits.now) c.cycle_end-2.result (returns-clause-told g c told root over short) same

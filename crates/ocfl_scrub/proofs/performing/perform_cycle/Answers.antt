@@ -1,9 +1,9 @@
 use Rattle.std.proofs.Common.{◌≡◌, subst, inl, ◌∙◌, ap, map}
 use Rattle.ocfl_scrub.specs.Call.{call_of}
 use Rattle.ocfl_scrub.specs.Chaining.{CycleOfRuns}
-use Rattle.ocfl_scrub.specs.Cycling.{HeadlineOf}
 use Rattle.ocfl_scrub.specs.Running.{limits_of}
 use Rattle.ocfl_scrub.specs.Performing.{equal_limits}
+use Rattle.ocfl_scrub.proofs.ChainHeadline.{headline_of_whole}
 use Rattle.ocfl_scrub.proofs.performing.perform_cycle.Goals as goal
 
 pub returns-clause-told : goal.returns-clause-told
@@ -15,10 +15,11 @@ returns-clause-told g c told root over short =
     let new = g.W.Write.contents c.cycle.new.out in
     let end = c.cycle.result in
     let same : map limits_of c.deref.result.now ≡ equal_limits c.args.limits c.args.count = ap (map limits_of) (c.deref.ensures.value ∙ c.in-Ok.ensures) in
+    let cycles : CycleOfRuns (call_of root s t old new) (equal_limits c.args.limits c.args.count) end = subst (λ ls. CycleOfRuns (call_of root s t old new) ls end) same (e.told told root over short) in
     inl (record {
       ran = end;
-      cycles = subst (λ ls. CycleOfRuns (call_of root s t old new) ls end) same (e.told told root over short);
-      headline = λ clean. subst (λ ls. HeadlineOf (call_of root s t old new) ls end.runs end.end) same (e.headline told root over short clean);
+      cycles = cycles;
+      headline = headline_of_whole (call_of root s t old new) (equal_limits c.args.limits c.args.count) end cycles;
       count_is = e.any_store.runs_are;
       spent_is = e.any_store.spent_is;
       says = c.describe_cycle.ensures.note;

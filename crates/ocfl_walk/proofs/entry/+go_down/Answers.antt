@@ -4,7 +4,7 @@ use Rattle.ocfl_item.specs.Around.{IsPart}
 use Rattle.ocfl_walk.specs.Standing.{folders_from, piles_in, spot_of}
 use Rattle.ocfl_walk.specs.Internal.Entering.{IsComing}
 use Rattle.std.proofs.lemmas.Result.{err_from_is_err_and}
-use Rattle.ocfl_walk.proofs.DescentLaws.{descends_not}
+use Rattle.ocfl_walk.proofs.ReachLaws.{comes_end}
 use Rattle.ocfl_walk.proofs.BroughtLaws.{came_fails, came_on, came_stop, coming_next, coming_room, end_orderly, brought_end, orderly_at, stop_orderly}
 use Rattle.ocfl_audit.proofs.AuditExists.{append_one}
 use Rattle.ocfl_walk.proofs.PlacedLaws.{deeper, folders_count, folders_push, kept_at, kept_place}
@@ -24,7 +24,7 @@ returns-in_default-clause-orderly g t c =
 pub returns-in_default-clause-told : goal.returns-in_default-clause-told
 returns-in_default-clause-told g t c = λ h root over at part.
     let told = c.sorted.ensures.told root c.requires.coming.ordinary at.listing in (
-      descends_not root (g.T.Tree.state c.args.store.now) (g.T.Tree.state c.args.store.now) _ _ over (did_nothing (g.T.Tree.state c.args.store.now)),
+      comes_end root (g.T.Tree.state c.args.store.now) c.args.folder.place c.args.names.now _ (rw c.in_default.is at c.split_first.ensures.cases) over (did_nothing (g.T.Tree.state c.args.store.now)),
       brought_end root c.args.folder.place _ (folders_from 0 (spot_of c.args.stand.now.last) c.args.stand.now.listings.items)
           (folders_from 0 (spot_of c.args.stand.now.last) c.push.new.self.items)
           (kept_at c.args.stand.now.last c.args.stand.now.listings.items c.sorted.result.entries)
@@ -87,7 +87,7 @@ returns-in-Some-inner-clause-told g t c = λ h root over at part.
     (g.T.Tree.state c.args.store.now) (g.T.Tree.state c.down.new.store) c.in-Some.rest.now c.args.names.now parts.0 c.args.stand.now.around c.down.new.object
     (g.T.Tree.state c.go_down.new.store) c.in-Some-inner.inner (folders_from 0 (spot_of c.go_down.new.stand.last) c.go_down.new.stand.listings.items)
     c.go_down.new.stand.around leads c.go_down.result
-    (c.go_down.ensures.told h root (leads.gives.0.calls.did.tree ∙ over)
+    (c.go_down.ensures.told h root (leads.gives.0.goes.calls.did.tree ∙ over)
     (subst (λ e. IsAt root e c.in-Some-inner.inner.entries.items) (sym leads.gives.1.place) leads.gives.1.here)
     (subst (λ e. IsPart root e c.down.new.object) (sym leads.gives.1.place) leads.gives.1.part))
 

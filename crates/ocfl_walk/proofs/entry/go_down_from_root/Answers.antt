@@ -37,7 +37,7 @@ returns-in_default g c = record {
   orderly = orderly_start c.args.stand.now c.args.after.now c.requires.listings c.requires.around c.requires.last;
   told = λ h root over.
       let k = (rw c.in_default.is at c.in_ok-base.ensures.told h root over).gives in (
-        start_listed root (g.T.Tree.state c.args.store.now) (g.T.Tree.state c.known_root.new.store) c.args.after.now over k.0,
+        start_listed root (g.T.Tree.state c.args.store.now) (g.T.Tree.state c.known_root.new.store) c.args.after.now over k.0 k.1,
         stands_start root c.args.stand.now c.args.after.now c.requires.listings c.requires.around c.requires.last k.1,
       );
 }

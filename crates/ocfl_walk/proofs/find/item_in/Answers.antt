@@ -1,8 +1,10 @@
-use Rattle.std.proofs.Common.{◌≡◌, subst, None}
+use Rattle.std.proofs.Common.{◌≡◌, [], ◌∷◌, subst, None}
 use Rattle.std.proofs.lemmas.Result.{err_from_is_err_and}
 use Rattle.std.specs.Prelude.{Ok, Err}
 use Rattle.ocfl_tree.specs.Listing.{kind_in}
-use Rattle.ocfl_walk.proofs.FindLaws.{item_known, item_memory, item_met, item_unmet, finds_nothing, missing_table, missing_unseen, visits_listed}
+use Rattle.ocfl_audit.specs.Zone.{zone}
+use Rattle.ocfl_walk.specs.Internal.Entering.{may_open}
+use Rattle.ocfl_walk.proofs.FindLaws.{item_known, item_memory, item_met, item_unmet, finds_none, missing_out, missing_table, missing_unseen, visits_listed}
 use Rattle.ocfl_walk.proofs.find.item_in.Goals as goal
 
 pub returns-in_err-try_clone-in-Some-clause-told : goal.returns-in_err-try_clone-in-Some-clause-told
@@ -30,5 +32,8 @@ returns-in_ok-visit_entry-in-Some-clause-told g c = λ h root over at part is.
 pub returns-in-None-clause-told : goal.returns-in-None-clause-told
 returns-in-None-clause-told g c = λ h root over at part is.
     let none : kind_in c.args.folder.now.entries.items c.args.name.now ≡ None = subst (λ es. kind_in es c.args.name.now ≡ None) c.deref.ensures.value (rw c.in-None.is at c.entry_named.ensures) in
-    item_known root _ _ _ _ c.args.place.now c.visit_path.result (finds_nothing root _ _ _ over) c.visit_path.ensures.only
+    let out = missing_out root _ _ _ _ at is none in
+    let may = may_open c.args.around.now (zone root c.args.place.now) in
+    item_known root (g.T.Tree.state c.args.store.now) (g.T.Tree.state c.args.store.now) (c.args.place.now ∷ []) may c.args.place.now c.visit_path.result
+    (finds_none root (g.T.Tree.state c.args.store.now) c.args.place.now may over out) c.visit_path.ensures.only
     (c.visit_path.ensures.told root (missing_table root _ _ _ _ at is none _ part) (missing_unseen root _ _ _ _ at is none))

@@ -22,7 +22,7 @@ returns-in_err-stand-clause-told g c = λ h root over.
     rw (p.1, p.2, c.in-Some.is) (start_fails_down root _ _ c.in-Some.place.now _ (c.in_err-stand.ensures.told h root over))
 
 pub returns-clause-inventories : goal.returns-clause-inventories
-returns-clause-inventories g c = λ h root over. opens_down root _ _ _ _ _ _ _ (c.in_ok-stand.ensures.told h root over).0.goes
+returns-clause-inventories g c = λ h root over. opens_down root _ _ _ _ _ _ _ (c.in_ok-stand.ensures.told h root over).0.comes.goes
 
 pub returns-in_default-clause-inventories : goal.returns-in_default-clause-inventories
 returns-in_default-clause-inventories g c = λ h root over. opens_nothing root _

@@ -41,7 +41,7 @@ pub returns-clause-last : goal.returns-clause-last
 returns-clause-last g c = c.in_ok-stand.ensures.last ∙ sym (ap directory_of c.in_ok-directory.ensures ∙ directory_is c.in_ok-directory.directory c.in_ok-directory.name)
 
 pub returns-clause-inventories : goal.returns-clause-inventories
-returns-clause-inventories g c = λ h root over. opens_down root _ _ _ _ _ _ _ (c.in_ok-stand.ensures.told h root over).0.goes
+returns-clause-inventories g c = λ h root over. opens_down root _ _ _ _ _ _ _ (c.in_ok-stand.ensures.told h root over).0.comes.goes
 
 pub returns-clause-told : goal.returns-clause-told
 returns-clause-told g c = λ h root over.

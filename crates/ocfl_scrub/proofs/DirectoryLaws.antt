@@ -1,0 +1,63 @@
+-- The directory of a hashed file is looked into.
+use Rattle.std.proofs.Common.{◌≡◌, ◌≢◌, List, [], ◌∷◌, ◌++◌, refl, sym, ◌∙◌, ap, Bool, true, false, Option, Some, None}
+use Rattle.std.specs.Prelude.{cond, nat_lt}
+use Rattle.std.specs.List.{list_all}
+use Rattle.ocfl_tree.specs.Place.{Text, Place}
+use Rattle.ocfl_tree.specs.Ascending.{IsAmong}
+use Rattle.ocfl_tree.specs.StorageRoot.{StorageRoot, Leaf, at}
+use Rattle.ocfl_tree.proofs.Orders.{true_not_false}
+use Rattle.ocfl_inventory.specs.Table.{Named}
+use Rattle.ocfl_audit.specs.Between.{is_looked_into, looked_between}
+use Rattle.ocfl_audit.specs.Lines.{cost_of, is_hashed, named_at}
+use Rattle.ocfl_audit.specs.Walk.{is_reached}
+use Rattle.ocfl_audit.specs.Zone.{beginnings, is_entered, seen}
+use Rattle.ocfl_audit.proofs.AuditExists.{zone_is}
+use Rattle.ocfl_audit.proofs.BetweenLaws.{is_directory}
+use Rattle.ocfl_audit.proofs.PathLaws.{hashed_path}
+use Rattle.ocfl_audit.proofs.StepLaws.{all_beginnings_step}
+use Rattle.ocfl_item.specs.Auditing.{LiesIn}
+use Rattle.ocfl_walk.proofs.ReachLaws.{reached_looked}
+
+-- ---- what is hashed lies in such a directory
+
+in_sight : (ns : List Named) (leaf : Option Leaf) → nat_lt 0 (cost_of ns None leaf) ≡ true → leaf ≢ None
+in_sight [] None h e = true_not_false (sym h)
+in_sight (n ∷ ns) None h e = true_not_false (sym h)
+in_sight ns (Some l) h e = absurd cc
+
+all_entered : (root : StorageRoot) (p : Place) → seen root p ≢ None → list_all (is_entered root) (beginnings p) ≡ true
+all_entered root p h = by (list_all (is_entered root) (beginnings p)) refl
+  where
+    by : (b : Bool) → list_all (is_entered root) (beginnings p) ≡ b → list_all (is_entered root) (beginnings p) ≡ true
+    by true e = e
+    by false e = absurd (h (ap (λ b. cond b (at root p) None) e))
+
+pub has_directory : (p : Place) → p ≢ [] → (d : Place) × ((n : Text) × (p ≡ d ++ n ∷ []))
+has_directory [] h = absurd (h refl)
+has_directory (n ∷ []) h = ([], (n, refl))
+has_directory (n ∷ m ∷ p) h = let k = has_directory (m ∷ p) (λ e. cc) in (n ∷ k.0, (k.1.0, ap (λ x. n ∷ x) k.1.1))
+
+not_root : (p o q : Place) (n : Text) → p ≡ o ++ n ∷ q → p ≢ []
+not_root p o q n e f = by o (sym e ∙ f)
+  where
+    by : (o : Place) → o ++ n ∷ q ≡ [] → ⊥
+    by [] g = cc
+    by (m ∷ o) g = cc
+
+pub hashed_within : (root : StorageRoot) (p : Place) → is_hashed root p ≡ true → (d : Place) × ((n : Text) × (((is_reached root d ≡ true) × (is_looked_into root d ≡ true)) × (p ≡ d ++ n ∷ [])))
+hashed_within root p h =
+    let k = hashed_path root p h in
+    let whole = (zone_is root p k.object (k.version ∷ k.content ∷ k.name ∷ k.rest) k.lies).whole in
+    let s = has_directory p (not_root p k.object (k.content ∷ k.name ∷ k.rest) k.version whole) in
+    let above = all_entered root p (in_sight (named_at root p) (seen root p) h) in
+    let reached : is_reached root s.0 ≡ true = sym (all_beginnings_step (is_entered root) s.0 s.1.0) ∙ ap (λ x. list_all (is_entered root) (beginnings x)) (sym s.1.1) ∙ above in
+    (s.0, (s.1.0, ((reached, reached_looked root s.0 reached), s.1.1)))
+
+-- ---- where all is listed
+
+all_looked : (root : StorageRoot) (d : Place) → is_looked_into root d ≡ true → IsAmong (looked_between root None None) d
+unfolding looked_between
+all_looked root d h = is_directory root d h
+
+pub hashed_lies : (root : StorageRoot) (p : Place) → is_hashed root p ≡ true → LiesIn (looked_between root None None) p
+hashed_lies root p h = let k = hashed_within root p h in (k.0, (k.1.0, (all_looked root k.0 k.1.1.0.1, k.1.1.1)))

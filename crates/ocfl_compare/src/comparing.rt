@@ -100,8 +100,8 @@ fn begin<R: BufRead, S: BufRead>(
     now: &mut S,
     text: &mut Vec<u8>,
 ) -> Result<Both, CompareStop>
-    ensures ok { IfOk result (λ both. (asked : ModelQuestion) (left : List ModelPlace) (w : Option (List ℕ))
-        → IsSoFar asked left
+    ensures ok { IfOk result (λ both.
+        (asked : ModelQuestion) (left : List ModelPlace) (w : Option (List ℕ)) → IsSoFar asked left
         (R.remaining before.old) (R.remaining before.new) both.before.next both.before.count
         (S.remaining now.old) (S.remaining now.new) both.now.next both.now.count w w) }
     ensures refused { IfErr result (λ stop.
@@ -184,7 +184,8 @@ fn say<W: Write>(
         → IsTold before.now was → IsTold now.now is
         → Appends (W.contents out.old) (W.contents out.new)
         (said_text asked left.now place.now was is)) }
-    ensures stop { IfErr result (λ stop. (stop ≡ CompareStop.Output) ⊎ (stop ≡ CompareStop.Memory)) }
+    ensures stop { IfErr result (λ stop.
+        (stop ≡ CompareStop.Output) ⊎ (stop ≡ CompareStop.Memory)) }
 {
     rows.clear();
     if put_said(asked, left, place, before, now, rows).is_err() {

@@ -9,4 +9,6 @@ pub mod PieceLaws
 pub mod Readings
 pub mod SummaryLaws
 pub mod Resuming
+pub mod FoundReports
+pub mod Marks
 pub mod CheckpointCases

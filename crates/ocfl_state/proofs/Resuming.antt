@@ -7,7 +7,7 @@ use Rattle.sha2.specs.Hashers.{Holds256}
 use Rattle.ocfl_state.specs.Content.{Bytes}
 use Rattle.ocfl_state.specs.Pieces.{piece_size, before_piece, chained, whole_pieces, after_pieces, rest_of, rest_at, pieces_of, tail_of, summary_of, CarriedFrom, Carries, PushesPart, HasTail, HasRead}
 use Rattle.ocfl_state.specs.declared.pieces.ReportDigests.{ReportDigests}
-use Rattle.ocfl_state.specs.declared.pieces.ReportSummary.{ReportSummary}
+use Rattle.ocfl_state.specs.declared.checkpoint_parts.ReportMark.{ReportMark}
 
 length-rest_at : (n : ℕ) (report : Bytes) → length (rest_at n report) ≤ n % piece_size
 length-rest_at n report = omega (arith, length-take (n - piece_size * (n / piece_size)) (drop (piece_size * (n / piece_size)) report))
@@ -37,17 +37,17 @@ length-rest : (n : ℕ) (report : Bytes) → n ≤ length report → piece_size 
 length-rest n report le = omega (arith, le, length-take (n - piece_size * (n / piece_size)) (drop (piece_size * (n / piece_size)) report), length-drop (piece_size * (n / piece_size)) report)
 
 -- what is read is pushed after the whole pieces
-pub reads_rest : (summary : ReportSummary) (report : Bytes) (count : ℕ) (old new : ReportDigests) → summary.bytes < 2 ^ 64
+pub reads_rest : (summary : ReportMark) (report : Bytes) (count : ℕ) (old new : ReportDigests) → summary.bytes < 2 ^ 64
     → CarriedFrom summary.pieces (summary.bytes / piece_size) 0 old [] → PushesPart (rest_at summary.bytes report) count old new → HasRead summary report new
 reads_rest summary report count old new short carried part =
     part.pushed summary.pieces (summary.bytes / piece_size) 0 [] carried
     (omega (arith, short, length-rest_at summary.bytes report))
     (omega (arith, short, length-rest_at summary.bytes report))
 
-pub read_tail : (summary : ReportSummary) (report : Bytes) (digests : ReportDigests) → HasRead summary report digests → Holds256 digests.tail (rest_at summary.bytes report)
+pub read_tail : (summary : ReportMark) (report : Bytes) (digests : ReportDigests) → HasRead summary report digests → Holds256 digests.tail (rest_at summary.bytes report)
 read_tail summary report digests read = subst (Holds256 digests.tail) (short_rest (rest_at summary.bytes report) (rest_is_short summary.bytes report)) read.tail
 
-pub tail_fits : (summary : ReportSummary) (report : Bytes) (found : Option ReportDigests) → summary.bytes ≤ length report
+pub tail_fits : (summary : ReportMark) (report : Bytes) (found : Option ReportDigests) → summary.bytes ≤ length report
     → (IsSome found ↔ (summary.tail ≡ sha256 (rest_at summary.bytes report))) → (IsSome found ↔ HasTail summary report)
 tail_fits summary report found long fits = (
   (λ some. record { long = long; tail = fits.0 some ∙ sym same }),
@@ -57,12 +57,12 @@ tail_fits summary report found long fits = (
     same : tail_of (take summary.bytes report) ≡ sha256 (rest_at summary.bytes report)
     same = ap sha256 (rest_of_front summary.bytes report long)
 
-pub resumed_carries : (summary : ReportSummary) (report text : Bytes) (read digests : ReportDigests) → summary.bytes ≤ length report
+pub resumed_carries : (summary : ReportMark) (report text : Bytes) (read digests : ReportDigests) → summary.bytes ≤ length report
     → HasRead summary report read → digests ≡ record read { lines = summary.lines }
     → summary ≡ summary_of text → rest_of text ≡ rest_of (take summary.bytes report) → Carries digests text
 resumed_carries summary report text read digests long has is same rest = subst (λ (d : ReportDigests). Carries d text) (sym is) (record {
-  bytes = omega (arith, has.bytes, length-rest summary.bytes report long, ap (λ (s : ReportSummary). s.bytes) same);
-  lines = omega (arith, ap (λ (s : ReportSummary). s.lines) same);
+  bytes = omega (arith, has.bytes, length-rest summary.bytes report long, ap (λ (s : ReportMark). s.bytes) same);
+  lines = omega (arith, ap (λ (s : ReportMark). s.lines) same);
   pieces = has.pieces ∙ value;
   begun = subst (Holds256 read.begun) (λ i. before_piece (value i) ++ rest_is i) has.begun;
   tail = subst (Holds256 read.tail) rest_is has.tail;
@@ -72,12 +72,12 @@ resumed_carries summary report text read digests long has is same rest = subst (
     short = rest_is_short summary.bytes report
 
     value : after_pieces summary.pieces (rest_at summary.bytes report) ≡ pieces_of text
-    value = short_pieces summary.pieces (rest_at summary.bytes report) short ∙ ap (λ (s : ReportSummary). s.pieces) same
+    value = short_pieces summary.pieces (rest_at summary.bytes report) short ∙ ap (λ (s : ReportMark). s.pieces) same
 
     rest_is : rest_of (rest_at summary.bytes report) ≡ rest_of text
     rest_is = short_rest (rest_at summary.bytes report) short ∙ sym (rest_of_front summary.bytes report long) ∙ sym rest
 
-pub resumed_all : (summary : ReportSummary) (report : Bytes) (read : ReportDigests) (found : Option ReportDigests) → summary.bytes ≤ length report
+pub resumed_all : (summary : ReportMark) (report : Bytes) (read : ReportDigests) (found : Option ReportDigests) → summary.bytes ≤ length report
     → HasRead summary report read → IfSome found (λ digests. digests ≡ record read { lines = summary.lines })
     → IfSome found (λ digests. (text : Bytes) → summary ≡ summary_of text → rest_of text ≡ rest_of (take summary.bytes report) → Carries digests text)
 resumed_all summary report read None long has is = tt

@@ -12,7 +12,7 @@ use Rattle.hex.specs.declared.error.FromHexError.{FromHexError}
 use Rattle.ocfl_state.specs.Content.{Bytes}
 use Rattle.ocfl_state.specs.Pieces.{piece_size, no_pieces, before_piece, piece_at, chained, whole_pieces, rest_of, tail_of, summary_of, Collision}
 use Rattle.ocfl_state.proofs.PieceLaws.{take-more}
-use Rattle.ocfl_state.specs.declared.pieces.ReportSummary.{ReportSummary}
+use Rattle.ocfl_state.specs.declared.checkpoint_parts.ReportMark.{ReportMark}
 
 same_number : (n m : ℕ) → (n ≡ m) ⊎ (n ≢ m)
 same_number n m = ⊎_elim (λ is. inl is.1) (λ other. inr other.1) (eqb_tells n m)
@@ -139,12 +139,12 @@ same_or_collision report other same = ⊎_elim
     (λ front. ⊎_elim
     (λ rest. inl (sym (take-append-drop k report) ∙ (λ i. front i ++ (rest ∙ ap (λ n. drop (piece_size * n) other) (sym count)) i) ∙ take-append-drop k other))
     (λ shown. inr shown)
-    (same_rest_or_collision report other (ap (λ (s : ReportSummary). s.tail) same)))
+    (same_rest_or_collision report other (ap (λ (s : ReportMark). s.tail) same)))
     (λ shown. inr shown)
-    (chain_tells (whole_pieces report) report other (ap (λ (s : ReportSummary). s.pieces) same ∙ ap (λ n. chained no_pieces n other) (sym count)))
+    (chain_tells (whole_pieces report) report other (ap (λ (s : ReportMark). s.pieces) same ∙ ap (λ n. chained no_pieces n other) (sym count)))
   where
     k : ℕ
     k = piece_size * whole_pieces report
 
     count : whole_pieces report ≡ whole_pieces other
-    count = ap (λ n. n / piece_size) (ap (λ (s : ReportSummary). s.bytes) same)
+    count = ap (λ n. n / piece_size) (ap (λ (s : ReportMark). s.bytes) same)

@@ -1,5 +1,5 @@
 -- What the calls of a state folder answer.
-use Rattle.std.specs.Prelude.{◌≡◌, ◌≢◌, ℕ, ◌<◌, ◌≤◌, IsTrue, [], Result, Err, IsErr, IsErrOf, length, take, drop, Vec}
+use Rattle.std.specs.Prelude.{◌≡◌, ◌≢◌, ◌⊎◌, ℕ, ◌<◌, ◌≤◌, IsTrue, [], Option, Some, None, Result, Err, IsErr, IsErrOf, length, take, drop, Vec}
 use Rattle.std.specs.declared.alloc.Global.{Global}
 use Rattle.ocfl_state.specs.Content.{Bytes, Content, is_closed}
 use Rattle.ocfl_state.specs.declared.folder.Trouble.{Trouble}
@@ -14,6 +14,26 @@ pub record HasCause {T : Type 0} (before now : ℕ) (result : Result T Trouble) 
   pub failed : IsErrOf result Failed → before < now
   pub full : IsErrOf result Full → before < now
   pub not_taken : result ≢ Err Taken
+
+-- the same where there is one more reason for `Failed`
+pub record HasCauseOr {T : Type 0} (Reason : Type 0) (before now : ℕ) (result : Result T Trouble) : Type 0 where
+  pub later : before ≤ now
+  pub failed : IsErrOf result Failed → (before < now) ⊎ Reason
+  pub full : IsErrOf result Full → before < now
+  pub not_taken : result ≢ Err Taken
+
+-- how many bytes a checkpoint has at most: 1 MiB
+abbrev pub most_checkpoint : ℕ
+most_checkpoint = 1048576
+
+-- these are more
+abbrev pub IsLong : Bytes → Type 0
+IsLong bytes = most_checkpoint < length bytes
+
+-- what lies there as a checkpoint is longer
+abbrev pub HasLong : Option Bytes → Type 0
+HasLong None = ⊥
+HasLong (Some bytes) = IsLong bytes
 
 -- the same of closing, which is refused where a report of that cycle is closed
 pub record ClosesRightly {T : Type 0} (content : Content) (cycle before now : ℕ) (result : Result T Trouble) : Type 0 where

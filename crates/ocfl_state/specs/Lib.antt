@@ -7,4 +7,5 @@ pub mod CheckpointRefusal
 pub mod CheckpointLines
 pub mod CheckpointShown
 pub mod Pieces
+pub mod Finding
 pub mod Reasons

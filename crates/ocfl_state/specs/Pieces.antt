@@ -6,7 +6,7 @@ use Rattle.sha2.specs.Hashers.{Holds256}
 use Rattle.hex.specs.Hex.{encode_lower}
 use Rattle.ocfl_state.specs.Content.{Bytes}
 use Rattle.ocfl_state.specs.declared.pieces.ReportDigests.{ReportDigests}
-use Rattle.ocfl_state.specs.declared.pieces.ReportSummary.{ReportSummary}
+use Rattle.ocfl_state.specs.declared.checkpoint_parts.ReportMark.{ReportMark}
 
 -- 4 MiB
 abbrev pub piece_size : ℕ
@@ -56,7 +56,7 @@ abbrev pub lines_of : Bytes → ℕ
 lines_of text = count_by (λ byte. byte == 10) text
 
 -- the length, the lines and the digests of a report
-abbrev pub summary_of : Bytes → ReportSummary
+abbrev pub summary_of : Bytes → ReportMark
 summary_of report = record {
   bytes = length report;
   lines = lines_of report;
@@ -77,7 +77,7 @@ abbrev pub Carries : ReportDigests → Bytes → Type 0
 Carries digests report = CarriedFrom no_pieces 0 0 digests report
 
 -- a report that is as long as a summary says, with the tail of that
-pub record HasTail (summary : ReportSummary) (report : Bytes) : Type 0 where
+pub record HasTail (summary : ReportMark) (report : Bytes) : Type 0 where
   pub long : summary.bytes ≤ length report
   pub tail : summary.tail ≡ tail_of (take summary.bytes report)
 
@@ -109,7 +109,7 @@ pub record Turns (old new : ReportDigests) : Type 0 where
   pub tail : Holds256 new.tail []
 
 -- the digests of what follows the whole pieces of a summary, as far as the report goes
-abbrev pub HasRead : ReportSummary → Bytes → ReportDigests → Type 0
+abbrev pub HasRead : ReportMark → Bytes → ReportDigests → Type 0
 HasRead summary report digests = CarriedFrom summary.pieces (summary.bytes / piece_size) 0 digests (rest_at summary.bytes report)
 
 -- two texts with the same SHA-256

@@ -1,5 +1,6 @@
 //! Reading a checkpoint from its text, and why other bytes are refused.
-ghost use Rattle.std.specs.Prelude.{◌≡◌, ◌⊎◌, Option, Err, IfOk, IfErr, IfSome, is_some, drop, codes};
+ghost use Rattle.std.specs.Prelude.{◌≡◌, ◌⊎◌, Option, Err, IfOk, IfErr, IfSome, is_some, drop};
+ghost use Rattle.std.specs.Prelude.{codes};
 ghost use Rattle.ocfl_tree.specs.Place.{text_eq};
 ghost use Rattle.ocfl_cursor.specs.Cursor.{Cursor as ModelCursor};
 ghost use Rattle.ocfl_cursor.specs.Internal.Body.{first_line};

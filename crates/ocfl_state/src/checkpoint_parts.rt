@@ -30,14 +30,18 @@ pub enum Phase {
     Closing,
 }
 
-/// As much of the open report as belongs to the cursor.
-#[derive(Clone, Copy, Debug)]
+/// What a checkpoint keeps of a report, or of as much of it as belongs to the cursor.
+///
+/// The chain of its pieces begins with 32 zeros. After a piece it is the SHA-256 of the chain
+/// before that piece, in 64 lower-case hexadecimal digits, a line feed, and the piece (FIPS 180-4,
+/// section 6.2).
+#[derive(Clone, Copy, Debug, PartialEq, Eq)]
 pub struct ReportMark {
     /// Its length, in bytes.
     pub bytes: u64,
     /// How many lines it has.
     pub lines: u64,
-    /// The digest that chains its whole pieces.
+    /// The digest that chains its whole pieces of 4 MiB.
     pub pieces: [u8; 32],
     /// The SHA-256 of what follows the last whole piece.
     pub tail: [u8; 32],

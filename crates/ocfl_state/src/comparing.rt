@@ -7,8 +7,9 @@ ghost use Rattle.ocfl_state.specs.Crash.{Same, Passes};
 ghost use Rattle.ocfl_state.specs.Pieces.{Carries, PushesPart, HasRead, summary_of, rest_of};
 ghost use Rattle.ocfl_state.specs.Pieces.{HasTail};
 
+use crate::checkpoint_parts::ReportMark;
 use crate::folder::{StateFolder, Trouble};
-use crate::pieces::{PIECE_LEN, ReportDigests, ReportSummary};
+use crate::pieces::{PIECE_LEN, ReportDigests};
 
 /// How many bytes of a report are read at once.
 const READ_LEN: usize = 16_384;
@@ -110,11 +111,23 @@ pub fn digests_of_report<S: StateFolder>(folder: &mut S) -> Result<ReportDigests
     Ok(digests)
 }
 
+/// The digests of the report's first bytes, at most `most` of them. These are read once.
+pub fn digests_of_front<S: StateFolder>(folder: &mut S, most: u64) -> Result<ReportDigests, Trouble>
+    ensures carried { IsTrue S.told → IfOk result (λ digests.
+        Carries digests (take most (S.seen folder.old).report)) }
+    ensures seen { IsTrue S.told → S.seen folder.new ≡ S.seen folder.old }
+    ensures crash { IsTrue S.told
+        → Passes S.may_leave S.moment S.left_since Same folder.old folder.new }
+    ensures cause { IsTrue S.told
+        → HasCause (S.faults folder.old) (S.faults folder.new) result }
+{
+    let mut digests = ReportDigests::new();
+    push_report(folder, 0, most, &mut digests)?;
+    Ok(digests)
+}
+
 /// Whether the report has this summary: its length, its lines and both digests. It is read once.
-pub fn is_report_of<S: StateFolder>(
-    folder: &mut S,
-    summary: &ReportSummary,
-) -> Result<bool, Trouble>
+pub fn is_report_of<S: StateFolder>(folder: &mut S, summary: &ReportMark) -> Result<bool, Trouble>
     ensures value { IsTrue S.told → IfOk result (λ answer.
         IsTrue answer ↔ (summary.now ≡ summary_of (S.seen folder.old).report)) }
     ensures seen { IsTrue S.told → S.seen folder.new ≡ S.seen folder.old }
@@ -130,7 +143,7 @@ pub fn is_report_of<S: StateFolder>(
 /// The digests of what follows the whole pieces, of which a summary has the chain.
 fn digests_of_tail<S: StateFolder>(
     folder: &mut S,
-    summary: &ReportSummary,
+    summary: &ReportMark,
 ) -> Result<ReportDigests, Trouble>
     ensures carried { IsTrue S.told → IfOk result (λ digests.
         HasRead summary.now (S.seen folder.old).report digests) }
@@ -154,7 +167,7 @@ fn digests_of_tail<S: StateFolder>(
 /// A longer report is looked at up to the summary's length.
 pub fn resume_digests<S: StateFolder>(
     folder: &mut S,
-    summary: &ReportSummary,
+    summary: &ReportMark,
 ) -> Result<Option<ReportDigests>, Trouble>
     ensures found { IsTrue S.told → IfOk result (λ found.
         IsSome found ↔ HasTail summary.now (S.seen folder.old).report) }

@@ -1,15 +1,20 @@
 //! The interface of a state folder.
-ghost use Rattle.std.specs.Prelude.{◌≡◌, ◌≢◌, ◌↔◌, ◌≤◌, ◌++◌, ◌*◌, Bool, IsTrue, IfOk, OnOk, ℕ};
+ghost use Rattle.std.specs.Prelude.{◌≡◌, ◌≢◌, ◌↔◌, ◌≤◌, ◌++◌, ◌*◌, Bool, IsTrue, IfOk, IfSome};
+ghost use Rattle.std.specs.Prelude.{OnOk, ℕ};
 ghost use Rattle.std.specs.Prelude.{List, Option, Err, length, take};
 ghost use Rattle.std.specs.Option.{option_map};
 ghost use Rattle.ocfl_state.specs.Content.{Content, Bytes, with_checkpoint, with_report, moved};
 ghost use Rattle.ocfl_state.specs.Content.{is_closed};
 ghost use Rattle.ocfl_state.specs.Crash.{Outcomes, Same, IsPut, MayPut, IsMoved, MayMove, MayTear};
 ghost use Rattle.ocfl_state.specs.Crash.{Only, Follows, Passes};
-ghost use Rattle.ocfl_state.specs.Calls.{HasCause, ClosesRightly, IsReadOf, bytes_of};
+ghost use Rattle.ocfl_state.specs.Calls.{HasCause, HasCauseOr, ClosesRightly, IsReadOf, bytes_of};
+ghost use Rattle.ocfl_state.specs.Calls.{HasLong, IsLong, most_checkpoint};
 ghost use Rattle.ocfl_state.specs.declared.folder.Trouble.TheVariants.{Memory};
 
 use std::alloc::{AllocError, AllocFailed};
+
+/// How many bytes a checkpoint has at most: 1 MiB.
+pub const MOST_CHECKPOINT: usize = 1_048_576;
 
 /// Why a call of a state folder failed: the disk failed, it is full, the report of that cycle is
 /// closed already, or memory was refused.
@@ -61,23 +66,33 @@ pub trait StateFolder {
     /// How often the disk has failed.
     ghost faults: { Self → ℕ };
 
-    /// The checkpoint's bytes; `None` where there is no checkpoint.
+    /// The checkpoint's bytes, at most [`MOST_CHECKPOINT`]; `None` where there is no checkpoint.
+    /// `Failed` where what lies there is longer.
     fn checkpoint(&mut self) -> Result<Option<Vec<u8>>, Trouble>
+        ensures bound { IfOk result (λ found. IfSome found (λ bytes.
+            length bytes.items ≤ most_checkpoint)) }
         ensures value { IsTrue told → IfOk result (λ found.
             option_map bytes_of found ≡ (seen self.old).checkpoint) }
         ensures seen { IsTrue told → seen self.new ≡ seen self.old }
         ensures crash { IsTrue told → Passes may_leave moment left_since Same self.old self.new }
-        ensures cause { IsTrue told → HasCause (faults self.old) (faults self.new) result };
+        ensures cause { IsTrue told → HasCauseOr (HasLong (seen self.old).checkpoint)
+            (faults self.old) (faults self.new) result };
 
     /// Puts a checkpoint in place of the one before, as a whole. After `Ok` it is on the disk.
+    /// `Failed` where it is longer than [`MOST_CHECKPOINT`]; then nothing is changed.
     fn put_checkpoint(&mut self, bytes: &[u8]) -> Result<(), Trouble>
+        ensures fits { OnOk result (length bytes.now ≤ most_checkpoint) }
         ensures put { IsTrue told → OnOk result
             (seen self.new ≡ with_checkpoint bytes.now (seen self.old)) }
         ensures durable { IsTrue told → OnOk result
             (Follows (IsPut bytes.now) (may_leave self.old) (may_leave self.new)) }
         ensures crash { IsTrue told
             → Passes may_leave moment left_since (MayPut bytes.now) self.old self.new }
-        ensures cause { IsTrue told → HasCause (faults self.old) (faults self.new) result };
+        ensures long { IsTrue told → IsLong bytes.now → seen self.new ≡ seen self.old }
+        ensures long_crash { IsTrue told → IsLong bytes.now
+            → Passes may_leave moment left_since Same self.old self.new }
+        ensures cause { IsTrue told → HasCauseOr (IsLong bytes.now)
+            (faults self.old) (faults self.new) result };
 
     /// The length of the report, in bytes; 0 where there is no report.
     fn length(&mut self) -> Result<u64, Trouble>

@@ -1,10 +1,12 @@
 //! A state folder of the file system.
-ghost use Rattle.std.specs.Prelude.{◌≡◌, ◌≤◌, ◌⊎◌, ⊤, false, IfOk, OnOk, IfErr, None, Ok, length};
+ghost use Rattle.std.specs.Prelude.{◌≡◌, ◌≤◌, ◌⊎◌, ⊤, false, IfOk, IfSome, OnOk, IfErr, None, Ok};
+ghost use Rattle.std.specs.Prelude.{length};
+ghost use Rattle.ocfl_state.specs.Calls.{most_checkpoint};
 ghost use Rattle.ocfl_state.specs.Reasons.{IsKept};
 ghost use Rattle.ocfl_state.specs.Content.{empty};
 
 use crate::disk::{Disk, for_appending, for_reading, of_file, wrong};
-use crate::folder::{StateFolder, Trouble};
+use crate::folder::{MOST_CHECKPOINT, StateFolder, Trouble};
 use crate::lock::{StateStop, hold};
 use crate::state_file::{Reason, StateFile, closed_file};
 use std::fs::File;
@@ -12,9 +14,6 @@ use std::io::{self, ErrorKind, Read, Write};
 use std::marker::Model;
 use std::os::unix::fs::{FileExt, MetadataExt};
 use std::rt::Files;
-
-/// How many bytes a checkpoint has at most: 1 MiB.
-const MOST_CHECKPOINT: usize = 1 << 20;
 
 /// How often an interrupted read is made at most.
 const TRIES: u64 = 1000;
@@ -74,6 +73,16 @@ fn read_at(file: &File, start: u64, buffer: &mut [u8]) -> io::Result<usize>
         }
     }
     Err(io::Error::from(ErrorKind::Interrupted))
+}
+
+/// Refuses bytes that are more than a checkpoint may have.
+fn fit(file: StateFile, bytes: &[u8]) -> Result<(), Reason>
+    ensures { OnOk result (length bytes.now ≤ most_checkpoint) }
+{
+    if bytes.len() > MOST_CHECKPOINT {
+        return Err(wrong(file, "more than 1 MiB"));
+    }
+    Ok(())
 }
 
 impl<R: Files<File = File> + AllocGlobal + Clone + Drop> FsState<R> {
@@ -168,25 +177,26 @@ impl<R: Files<File = File> + AllocGlobal + Clone + Drop> FsState<R> {
         Ok(None)
     }
 
-    /// The checkpoint's bytes. Its file has at most 1 MiB.
-    fn read_checkpoint(&self) -> Result<Option<Vec<u8>>, Reason> {
+    /// The checkpoint's bytes. Of a longer file one byte more than they may be is read.
+    fn read_checkpoint(&self) -> Result<Option<Vec<u8>>, Reason>
+        ensures { IfOk result (λ found. IfSome found (λ bytes.
+            length bytes.items ≤ most_checkpoint)) }
+    {
         let Some(file) = self.disk.open(StateFile::Checkpoint, &for_reading())? else {
             return Ok(None);
         };
         let mut bytes = Vec::new(self.disk.alloc());
         let mut limited = file.take(MOST_CHECKPOINT as u64 + 1);
         of_file(StateFile::Checkpoint, limited.read_to_end(&mut bytes))?;
-        if bytes.len() > MOST_CHECKPOINT {
-            return Err(wrong(StateFile::Checkpoint, "more than 1 MiB"));
-        }
+        fit(StateFile::Checkpoint, &bytes)?;
         Ok(Some(bytes))
     }
 
     /// Writes the next checkpoint beside the one that is there, and brings it to the disk.
-    fn write_beside(&self, bytes: &[u8]) -> Result<(), Reason> {
-        if bytes.len() > MOST_CHECKPOINT {
-            return Err(wrong(StateFile::NewCheckpoint, "more than 1 MiB"));
-        }
+    fn write_beside(&self, bytes: &[u8]) -> Result<(), Reason>
+        ensures { OnOk result (length bytes.now ≤ most_checkpoint) }
+    {
+        fit(StateFile::NewCheckpoint, bytes)?;
         // What a killed process left.
         self.disk.remove(StateFile::NewCheckpoint)?;
         let mut file = self.disk.create(StateFile::NewCheckpoint)?;
@@ -194,7 +204,9 @@ impl<R: Files<File = File> + AllocGlobal + Clone + Drop> FsState<R> {
         of_file(StateFile::NewCheckpoint, file.sync_all())
     }
 
-    fn replace_checkpoint(&self, bytes: &[u8]) -> Result<(), Reason> {
+    fn replace_checkpoint(&self, bytes: &[u8]) -> Result<(), Reason>
+        ensures { OnOk result (length bytes.now ≤ most_checkpoint) }
+    {
         self.write_beside(bytes)?;
         self.disk
             .rename(StateFile::NewCheckpoint, StateFile::Checkpoint)?;
@@ -351,6 +363,8 @@ impl<R: Files<File = File> + AllocGlobal + Clone + Drop> StateFolder for FsState
     ghost only_now = { λ told folder c left. tt };
 
     fn checkpoint(&mut self) -> Result<Option<Vec<u8>>, Trouble>
+        ensures bound { IfOk result (λ found. IfSome found (λ bytes.
+            length bytes.items ≤ most_checkpoint)) }
         ensures kept { IfErr result (λ trouble. IsKept self.new trouble) }
         ensures same { OnOk result (self.new ≡ self.old) }
     {
@@ -359,6 +373,7 @@ impl<R: Files<File = File> + AllocGlobal + Clone + Drop> StateFolder for FsState
     }
 
     fn put_checkpoint(&mut self, bytes: &[u8]) -> Result<(), Trouble>
+        ensures fits { OnOk result (length bytes.now ≤ most_checkpoint) }
         ensures kept { IfErr result (λ trouble. IsKept self.new trouble) }
         ensures same { OnOk result (self.new ≡ self.old) }
     {

@@ -1,11 +1,12 @@
 //! What a state folder in memory keeps at one moment, and each change of it.
-ghost use Rattle.std.specs.Prelude.{◌≡◌, ◌≤◌, IfOk, length, take, drop};
+ghost use Rattle.std.specs.Prelude.{◌≡◌, ◌≤◌, ◌↔◌, IfOk, IsTrue, length, take, drop};
 ghost use Rattle.std.specs.Option.{option_map};
 ghost use Rattle.ocfl_state.specs.Content.{is_closed};
-ghost use Rattle.ocfl_state.specs.Calls.{bytes_of, IsReadOf};
+ghost use Rattle.ocfl_state.specs.Calls.{bytes_of, HasLong, IsReadOf};
 ghost use Rattle.ocfl_state.specs.Memory.{kept_whole, after_put, after_append, after_cut};
 ghost use Rattle.ocfl_state.specs.Memory.{after_close, after_crash, or_zeros};
 
+use crate::folder::MOST_CHECKPOINT;
 use std::alloc::{AllocError, Global};
 use std::marker::Model;
 use std::mem;
@@ -53,6 +54,16 @@ impl Model for Held {
       synced = a.synced;
       most = a.most;
     } };
+}
+
+/// Whether what lies there is longer than a checkpoint may be.
+pub(crate) fn has_long(checkpoint: &Option<Vec<u8>>) -> bool
+    ensures { IsTrue result ↔ HasLong (option_map bytes_of checkpoint.now) }
+{
+    match checkpoint {
+        None => false,
+        Some(bytes) => bytes.len() > MOST_CHECKPOINT,
+    }
 }
 
 pub(crate) fn copy_checkpoint(

@@ -7,10 +7,10 @@ ghost use Rattle.ocfl_state.specs.Content.{empty};
 ghost use Rattle.ocfl_state.specs.Memory.{fresh, then_keeps, images, images_since, stays, only_now};
 ghost use Rattle.ocfl_state.specs.Memory.{IsCrashed, kept_after};
 
-use crate::folder::{StateFolder, Trouble};
+use crate::folder::{MOST_CHECKPOINT, StateFolder, Trouble};
 use crate::held::{
-    ClosedReport, Held, append_held, close_held, copy_checkpoint, cut_held, give_from, image_of,
-    is_among, put_held, sync_held,
+    ClosedReport, Held, append_held, close_held, copy_checkpoint, cut_held, give_from, has_long,
+    image_of, is_among, put_held, sync_held,
 };
 use std::alloc::{AllocError, Global};
 use std::marker::Model;
@@ -197,11 +197,17 @@ impl StateFolder for MemState {
 
     fn checkpoint(&mut self) -> Result<Option<Vec<u8>>, Trouble> {
         self.begin_call()?;
+        if has_long(&self.held.checkpoint) {
+            return Err(Trouble::Failed);
+        }
         Ok(copy_checkpoint(self.alloc, &self.held.checkpoint)?)
     }
 
     fn put_checkpoint(&mut self, bytes: &[u8]) -> Result<(), Trouble> {
         self.begin_call()?;
+        if bytes.len() > MOST_CHECKPOINT {
+            return Err(Trouble::Failed);
+        }
         let next = put_held(self.alloc, &self.held, bytes)?;
         self.keep(next)
     }

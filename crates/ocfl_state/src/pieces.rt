@@ -7,24 +7,12 @@ ghost use Rattle.sha2.specs.Sha256.{sha256};
 ghost use Rattle.ocfl_state.specs.Pieces.{piece_size, before_piece, lines_of, pieces_of, tail_of};
 ghost use Rattle.ocfl_state.specs.Pieces.{summary_of, CarriedFrom, Carries, Feeds, Turns, Pushes};
 
+use crate::checkpoint_parts::ReportMark;
 use sha2::{Digest, Sha256};
 use std::mem;
 
 /// How many bytes a whole piece of a report has: 4 MiB.
 pub const PIECE_LEN: usize = 4_194_304;
-
-/// What a checkpoint keeps of a report: its length in bytes, its lines, the digest that chains its
-/// whole pieces of 4 MiB, and the digest of what follows them.
-///
-/// The chain begins with 32 zeros. After a piece it is the SHA-256 of the chain before that piece,
-/// in 64 lower-case hexadecimal digits, a line feed, and the piece (FIPS 180-4, section 6.2).
-#[derive(Clone, Copy, Debug, PartialEq, Eq)]
-pub struct ReportSummary {
-    pub bytes: u64,
-    pub lines: u64,
-    pub pieces: [u8; 32],
-    pub tail: [u8; 32],
-}
 
 /// The length, the lines and the digests of a report, carried along while bytes are appended. It
 /// keeps none of the bytes.
@@ -152,7 +140,7 @@ impl ReportDigests {
 
     /// The digests with the lines of a summary, where what follows the whole pieces has the digest
     /// that it has of them.
-    pub(crate) fn resumed(mut self, summary: &ReportSummary) -> Option<ReportDigests>
+    pub(crate) fn resumed(mut self, summary: &ReportMark) -> Option<ReportDigests>
         ensures found { (text : Bytes) → Holds256 self.tail text
             → (IsSome result ↔ (summary.now.tail ≡ sha256 text)) }
         ensures same { IfSome result (λ digests. digests
@@ -183,10 +171,10 @@ impl ReportDigests {
     }
 
     /// What a checkpoint keeps of the report.
-    pub fn summary(&self) -> ReportSummary
+    pub fn summary(&self) -> ReportMark
         ensures { (report : Bytes) → Carries self.now report → result ≡ summary_of report }
     {
-        ReportSummary {
+        ReportMark {
             bytes: self.bytes,
             lines: self.lines,
             pieces: self.pieces,

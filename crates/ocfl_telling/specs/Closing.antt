@@ -41,8 +41,8 @@ new_head count cycle before = decimal count ++ codes " finding(s) of cycle " ++ 
 abbrev pub repaired_head : ℕ → ℕ → ℕ → Text
 repaired_head count cycle before = decimal count ++ codes " finding(s) of cycle " ++ decimal before ++ codes " are repaired in cycle " ++ decimal cycle ++ codes ":\n"
 
-abbrev pub gone_head : ℕ → ℕ → ℕ → Text
-gone_head count cycle before = decimal count ++ codes " object(s) and file(s) of cycle " ++ decimal before ++ codes " are in no report of cycle " ++ decimal cycle ++ codes ":\n"
+abbrev pub gone_head : ℕ → ℕ → Text
+gone_head count cycle = decimal count ++ codes " object(s) and file(s) are in no report of cycle " ++ decimal cycle ++ codes ":\n"
 
 abbrev pub new_text : Closing → Text
 new_text c = section_text c.appeared_count (new_head c.appeared_count c.cycle c.before) (lines_text (map line_of (take most_shown c.appeared.now)))
@@ -53,7 +53,7 @@ repaired_text c = section_text c.repaired_count (repaired_head c.repaired_count 
     (not_shown c.repaired_count (length c.repaired.now)) c.earlier.now
 
 abbrev pub gone_text : Closing → Text
-gone_text c = section_text c.gone_count (gone_head c.gone_count c.cycle c.before) (gone_lines (take most_shown c.gone.now))
+gone_text c = section_text c.gone_count (gone_head c.gone_count c.cycle) (gone_lines (take most_shown c.gone.now))
     (not_shown c.gone_count (length c.gone.now)) c.list.now
 
 abbrev pub closing_text : Closing → Text

@@ -24,9 +24,17 @@ IsEntryAs Branch t l = (path : Text) × (t ≡ path ++ codes "/") × IsLineText 
 abbrev pub IsEntry : Text → Entry → Type 0
 IsEntry t e = IsEntryAs e.reach t (line_of e.line)
 
--- nothing, or what begins with `#`
+-- the first bytes are this word
+abbrev pub BeginsWith : Text → Text → Type 0
+BeginsWith t word = (rest : Text) × (t ≡ word ++ rest)
+
+-- a line of what is gone names a loss, and no finding
+abbrev pub NamesLoss : Text → Type 0
+NamesLoss t = BeginsWith t (codes "object\t") ⊎ BeginsWith t (codes "file\t") ⊎ BeginsWith t (codes "expected\t")
+
+-- nothing, what begins with `#`, or a line of what is gone
 abbrev pub IsRemark : Text → Type 0
-IsRemark t = (t ≡ []) ⊎ ((rest : Text) × (t ≡ 35 ∷ rest))
+IsRemark t = (t ≡ []) ⊎ BeginsWith t (codes "#") ⊎ NamesLoss t
 
 -- a line without its line feed, and the entry that it is, unless it is a remark
 abbrev pub Row : Type 0

@@ -64,5 +64,6 @@ refusal_data r = refusal_with r (escape r.said.now)
 
 abbrev pub night_data : NightRow → Data
 night_data r = object (counts (codes "cost") r.cost (counts (codes "findings") r.findings
-    (counts (codes "night") r.night (says (codes "row") (codes "night") (counts (codes "runs") r.runs
-    (counts (codes "seconds") r.seconds (counts (codes "status") r.status (counts (codes "time") r.time no_members))))))))
+    (counts (codes "left") r.left (counts (codes "night") r.night (says (codes "program") r.program.now
+    (says (codes "row") (codes "night") (counts (codes "runs") r.runs (counts (codes "seconds") r.seconds
+    (counts (codes "status") r.status (counts (codes "time") r.time no_members))))))))))

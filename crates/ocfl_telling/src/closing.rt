@@ -207,12 +207,10 @@ fn repaired_head_of(
 }
 
 /// The line before what is gone.
-fn gone_head_of(alloc: Global, count: u64, cycle: u64, before: u64) -> Result<String, AllocError>
-    ensures { IfOk result (λ text. string_bytes text ≡ gone_head count cycle before) }
+fn gone_head_of(alloc: Global, count: u64, cycle: u64) -> Result<String, AllocError>
+    ensures { IfOk result (λ text. string_bytes text ≡ gone_head count cycle) }
 {
-    format!(in alloc;
-        "{count} object(s) and file(s) of cycle {before} are in no report of cycle {cycle}:\n"
-    )
+    format!(in alloc; "{count} object(s) and file(s) are in no report of cycle {cycle}:\n")
 }
 
 /// Appends what is new, and what is repaired.
@@ -236,7 +234,7 @@ pub fn closing_text(alloc: Global, closing: &Closing<'_>) -> Result<Vec<u8>, All
 {
     let mut text = Vec::from_slice(alloc, ended(alloc, closing)?.as_bytes())?;
     put_changes(alloc, closing, &mut text)?;
-    let head = gone_head_of(alloc, closing.gone_count, closing.cycle, closing.before)?;
+    let head = gone_head_of(alloc, closing.gone_count, closing.cycle)?;
     put_all_gone(alloc, head.as_str(), closing, &mut text)?;
     Ok(text)
 }

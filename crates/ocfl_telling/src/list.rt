@@ -4,8 +4,8 @@ ghost use Rattle.std.specs.Prelude.{IsNone, IsTrue, OnOk};
 ghost use Rattle.ocfl_tree.specs.Place.{Text as ModelText};
 ghost use Rattle.ocfl_report.specs.Line.{Line as ModelLine, line_of};
 ghost use Rattle.ocfl_report.specs.Text.{IsLineText};
-ghost use Rattle.ocfl_telling.specs.List.{HasFeed, IsEnded, IsEntry, IsKnownText, IsList};
-ghost use Rattle.ocfl_telling.specs.List.{IsRemark, IsRow};
+ghost use Rattle.ocfl_telling.specs.List.{BeginsWith, HasFeed, IsEnded, IsEntry, IsKnownText};
+ghost use Rattle.ocfl_telling.specs.List.{IsList, IsRemark, IsRow, NamesLoss};
 ghost use Rattle.ocfl_telling.specs.List.{KnownStopsRightly, Row as ModelRow, RowsStop, entries_of};
 ghost use Rattle.ocfl_telling.specs.List.{row_text};
 ghost use Rattle.ocfl_telling.specs.declared.known.Entry.{Entry as ModelEntry};
@@ -22,7 +22,7 @@ const MAX_BYTES: usize = 16_777_216;
 /// Why no list was read: too many bytes come first, and then the lines in their order.
 #[derive(Clone, Copy, Debug, PartialEq, Eq, Error)]
 pub enum KnownStop {
-    /// The first line, from 1, that names no findings and is no remark.
+    /// The first line, from 1, that names neither findings nor a loss, and is no remark.
     #[error("bad list of known findings: line {0}")]
     Line(usize),
     /// There are more than 16,777,216 bytes.
@@ -39,7 +39,8 @@ pub enum KnownStop {
 /// Reads a list from all the bytes of a reader. Each line is a report line; or a code, a tab and a
 /// path, for all findings of the code at that place; or the same with `/` behind the path, for
 /// those at and below it, where `./` is the whole root. A line that is empty or begins with `#` is
-/// a remark. The last line may lack its line feed.
+/// a remark. So is a line of what is gone: `object`, `file` or `expected`, then a tab. It names a
+/// loss, and no finding. The last line may lack its line feed.
 pub fn read_known<R: Read>(alloc: Global, reader: &mut R) -> Result<Known, KnownStop>
     ensures known { IfOk result
         (λ known. IfSome (R.remaining reader.old)
@@ -165,8 +166,25 @@ fn is_remark(row: &[u8]) -> bool
     ensures { IsTrue result ↔ IsRemark row.now }
 {
     match row.first() {
-        Some(first) => *first == b'#',
+        Some(first) => *first == b'#' || names_loss(row),
         None => true,
+    }
+}
+
+/// Whether a line is one of what is gone.
+fn names_loss(row: &[u8]) -> bool
+    ensures { IsTrue result ↔ NamesLoss row.now }
+{
+    begins_with(row, b"object\t") || begins_with(row, b"file\t") || begins_with(row, b"expected\t")
+}
+
+/// Whether the first bytes of a line are this word.
+fn begins_with(row: &[u8], word: &[u8]) -> bool
+    ensures { IsTrue result ↔ BeginsWith row.now word.now }
+{
+    match row.strip_prefix(word) {
+        Some(_) => true,
+        None => false,
     }
 }
 

@@ -98,7 +98,7 @@ pub struct RefusalRow<'a> {
 
 /// The end of a night.
 #[derive(Clone, Copy, Debug)]
-pub struct NightRow {
+pub struct NightRow<'a> {
     /// When it ended.
     pub time: u64,
     /// When it began.
@@ -113,6 +113,10 @@ pub struct NightRow {
     pub seconds: u64,
     /// How many findings it said.
     pub findings: u64,
+    /// How many branches it left out.
+    pub left: u64,
+    /// The SHA-256 of the program that made it, in hexadecimal digits. Empty if it is not known.
+    pub program: &'a str,
 }
 
 /// The text of a value without floats, and a line feed.
@@ -224,13 +228,15 @@ pub fn refusal_line(alloc: Global, row: &RefusalRow<'_>) -> Result<String, Alloc
 }
 
 /// What the line of a night says.
-fn night_value(alloc: Global, row: &NightRow) -> Result<Value, AllocError>
+fn night_value(alloc: Global, row: &NightRow<'_>) -> Result<Value, AllocError>
     ensures { IfOk result (λ v. view v ≡ night_data row.now) }
 {
     json!(in alloc; {
         "cost": row.cost,
         "findings": row.findings,
+        "left": row.left,
         "night": row.night,
+        "program": row.program,
         "row": "night",
         "runs": row.runs,
         "seconds": row.seconds,
@@ -240,7 +246,7 @@ fn night_value(alloc: Global, row: &NightRow) -> Result<Value, AllocError>
 }
 
 /// The line of a night that has ended.
-pub fn night_line(alloc: Global, row: &NightRow) -> Result<String, AllocError>
+pub fn night_line(alloc: Global, row: &NightRow<'_>) -> Result<String, AllocError>
     ensures { IfOk result (λ line. IsJsonLine (string_bytes line) (night_data row.now)) }
 {
     let value = night_value(alloc, row)?;

@@ -1,11 +1,12 @@
 -- What the words of a command line ask for.
-use Rattle.std.specs.Prelude.{◌≡◌, ◌↔◌, ℕ, ◌≤◌, List, Option, Some, None, IsSomeAnd, IsTrue, String, codes, option_map, string_bytes}
+use Rattle.std.specs.Prelude.{◌≡◌, ◌↔◌, ℕ, ◌≤◌, ◌<◌, ◌^◌, List, Option, Some, None, IsSomeAnd, IsTrue, String, codes, option_map, string_bytes}
 use Rattle.std.specs.declared.alloc.Global.{Global}
 use Rattle.std.specs.Str.Parse.{IsNumeral, digits_value, without_leading_plus}
 use Rattle.clap.specs.Words.{Row, Text, first_of, one_of}
 use Rattle.ocfl_cursor.specs.declared.limits.Limits.{Limits}
 use Rattle.ocfl_line.specs.Budget.{IsSizeText}
-use Rattle.ocfl_line.specs.Line.{most_parts, most_runs, most_split}
+use Rattle.ocfl_line.specs.Line.{most_hours, most_parts, most_runs, most_split}
+use Rattle.ocfl_line.specs.TimeOfDay.{IsTimeText}
 use Rattle.ocfl_deed.specs.declared.deed.Deed.{Deed}
 use Rattle.ocfl_deed.specs.declared.deed.Deed.TheVariants.{Audit, Run, Cycle, Check, Show}
 use Rattle.ocfl_line.specs.declared.task.Chosen.{Chosen}
@@ -13,6 +14,11 @@ use Rattle.ocfl_line.specs.declared.task.Chosen.TheVariants.{All, Branch, Part}
 use Rattle.ocfl_line.specs.declared.task.Task.{Task}
 use Rattle.ocfl_line.specs.declared.task.Split.{Split}
 use Rattle.ocfl_line.specs.declared.task.Split.TheVariants.{Listing, Report}
+use Rattle.ocfl_line.specs.declared.night.Until.{Until}
+use Rattle.ocfl_line.specs.declared.night.Until.TheVariants.{Never, Hours, TimeOfDay, At}
+use Rattle.ocfl_line.specs.declared.night.NightBounds.{NightBounds}
+use Rattle.ocfl_line.specs.declared.night.NightAsked.{NightAsked}
+use Rattle.ocfl_line.specs.declared.night.JoinAsked.{JoinAsked}
 use Rattle.ocfl_line.specs.declared.task.Asked.{Asked}
 use Rattle.ocfl_line.specs.declared.task.Asked.TheVariants as asked
 
@@ -88,10 +94,54 @@ IsSplit rows (Listing count root) = HasCount (codes "count") most_split rows cou
 IsSplit rows (Report budget report) = HasSize (codes "budget") rows budget
     × HasText (codes "report") rows report × IsLeftOut (codes "count") rows × IsLeftOut (codes "root") rows
 
+-- when a night begins no further run: the one end that is given, or never
+abbrev pub IsUntil : List Row → Until → Type 0
+IsUntil rows Never = IsLeftOut (codes "hours") rows × IsLeftOut (codes "until") rows × IsLeftOut (codes "end") rows
+IsUntil rows (Hours hours) = HasCount (codes "hours") most_hours rows hours
+    × IsLeftOut (codes "until") rows × IsLeftOut (codes "end") rows
+IsUntil rows (TimeOfDay hour minute) = IsSomeAnd (first_of (codes "until") rows) (λ t. IsTimeText t hour minute)
+    × IsLeftOut (codes "hours") rows × IsLeftOut (codes "end") rows
+IsUntil rows (At second) = HasNumber (codes "end") rows second × (second < 2 ^ 64)
+    × IsLeftOut (codes "hours") rows × IsLeftOut (codes "until") rows
+
+-- the size of an option that may be left out
+abbrev pub MayHaveSize : Text → List Row → Option ℕ → Type 0
+MayHaveSize id rows None = IsLeftOut id rows
+MayHaveSize id rows (Some n) = HasSize id rows n
+
+-- what a night may do, and until when
+pub record HasBounds (rows : List Row) (bounds : NightBounds) : Type 0 where
+  pub budget : MayHaveSize (codes "budget") rows bounds.budget
+  pub files : MayHaveSize (codes "files") rows bounds.files
+  pub slice : MayHaveSize (codes "slice") rows bounds.slice
+  pub until : IsUntil rows bounds.until
+
+-- objects are expected of a part
+abbrev pub ExpectsOfPart : List Row → Type 0
+ExpectsOfPart rows = (IsLeftOut (codes "expected") rows → ⊥) × (IsLeftOut (codes "parts") rows → ⊥)
+
+-- a night, with the folders and the files that it is made with
+pub record IsNight (rows : List Row) (n : NightAsked) : Type 0 where
+  pub state : HasText (codes "state") rows n.state
+  pub root : HasText (codes "root") rows n.root
+  pub bounds : HasBounds rows n.bounds
+  pub chosen : IsChosen rows n.chosen
+  pub known : option_map string_bytes n.known ≡ first_of (codes "known") rows
+  pub expected : option_map string_bytes n.expected ≡ first_of (codes "expected") rows
+  pub of_all : ExpectsOfPart rows → ⊥
+  pub create : IsTrue n.create ↔ IsGiven (codes "create") rows
+  pub force_root : IsTrue n.force_root ↔ IsGiven (codes "force-root") rows
+
+-- the joining of the closed reports of all parts
+abbrev pub IsJoin : List Row → JoinAsked → Type 0
+IsJoin rows j = HasText (codes "parts") rows j.parts × HasText (codes "state") rows j.state
+
 -- what the subcommand of this name and its matches ask for
 abbrev pub IsAsked : Text → List Row → Asked → Type 0
 IsAsked name rows (asked.Task t) = IsTask name rows t
 IsAsked name rows (asked.Split s) = (name ≡ codes "split") × IsSplit rows s
+IsAsked name rows (asked.Night n) = (name ≡ codes "night") × IsNight rows n
+IsAsked name rows (asked.Join j) = (name ≡ codes "join") × IsJoin rows j
 
 -- the same of the subcommand that `clap` finds
 abbrev pub Asks : Option (Text × List Row) → Asked → Type 0

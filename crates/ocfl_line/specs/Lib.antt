@@ -1,4 +1,5 @@
 pub mod Line
 pub mod Budget
+pub mod TimeOfDay
 pub mod Asks
 pub mod Stop

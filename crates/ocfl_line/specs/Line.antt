@@ -9,6 +9,7 @@ use Rattle.clap.specs.declared.builder.command.Command.TheViews.{out-Command}
 use Rattle.clap.specs.declared.builder.value_parser.ValueParser.TheVariants as vp
 use Rattle.ocfl_line.specs.declared.command.Argument.{Argument}
 use Rattle.ocfl_line.specs.declared.command.Argument.TheVariants.{Root, Path, File, Cursor, Budget, Files, Runs, Quiet, Under, Parts, Part, Count, AnyRoot, AnyBudget, Report}
+use Rattle.ocfl_line.specs.declared.command.Argument.TheVariants.{State, NightBudget, NightFiles, Slice, Hours, Until, End, Known, Expected, Create, ForceRoot, AllParts, PartStates}
 
 abbrev pub most_runs : ℕ
 most_runs = 100000
@@ -19,6 +20,9 @@ most_parts = 100001
 
 abbrev pub most_split : ℕ
 most_split = 100000
+
+abbrev pub most_hours : ℕ
+most_hours = 24
 
 -- ---- the arguments
 
@@ -56,9 +60,9 @@ runs_rule = record (needed_rule (codes "runs")) {
   parser = Some (vp.Unsigned 1 most_runs);
 }
 
--- a flag
-abbrev pub quiet_rule : Rule
-quiet_rule = record (new_rule (codes "quiet")) { long = Some (codes "quiet"); action = Some SetTrue }
+-- a flag, which has the name of what it says
+abbrev pub flag_rule : Text → Rule
+flag_rule id = record (new_rule id) { long = Some id; action = Some SetTrue }
 
 -- an argument that has a value and may be left out
 abbrev pub optional_rule : Text → Rule
@@ -67,6 +71,10 @@ optional_rule id = record (new_rule id) { value_names = 1 }
 -- such an option, which has the name of what it gives
 abbrev pub named_rule : Text → Rule
 named_rule id = record (optional_rule id) { long = Some id }
+
+-- one that must be given
+abbrev pub wanted_rule : Text → Rule
+wanted_rule id = record (needed_rule id) { long = Some id }
 
 -- which of the parts; `IsChosen` says what it goes with
 abbrev pub part_rule : Rule
@@ -79,6 +87,14 @@ count_rule = record (optional_rule (codes "count")) {
   parser = Some (vp.Unsigned 1 most_split);
 }
 
+-- for how many hours; `IsUntil` says what it goes with
+abbrev pub hours_rule : Rule
+hours_rule = record (named_rule (codes "hours")) { parser = Some (vp.Unsigned 1 most_hours) }
+
+-- any number of 64 bits
+abbrev pub end_rule : Rule
+end_rule = record (named_rule (codes "end")) { parser = Some (vp.Unsigned 0 18446744073709551615) }
+
 -- the rule of each argument of the program
 abbrev pub rule_for : Argument → Rule
 rule_for Root = root_rule
@@ -88,7 +104,7 @@ rule_for Cursor = cursor_rule
 rule_for Budget = budget_rule
 rule_for Files = files_rule
 rule_for Runs = runs_rule
-rule_for Quiet = quiet_rule
+rule_for Quiet = flag_rule (codes "quiet")
 rule_for Under = named_rule (codes "under")
 rule_for Parts = named_rule (codes "parts")
 rule_for Part = part_rule
@@ -96,6 +112,19 @@ rule_for Count = count_rule
 rule_for AnyRoot = optional_rule (codes "root")
 rule_for AnyBudget = named_rule (codes "budget")
 rule_for Report = named_rule (codes "report")
+rule_for State = wanted_rule (codes "state")
+rule_for NightBudget = named_rule (codes "budget")
+rule_for NightFiles = named_rule (codes "files")
+rule_for Slice = named_rule (codes "slice")
+rule_for Hours = hours_rule
+rule_for Until = named_rule (codes "until")
+rule_for End = end_rule
+rule_for Known = named_rule (codes "known")
+rule_for Expected = named_rule (codes "expected")
+rule_for Create = flag_rule (codes "create")
+rule_for ForceRoot = flag_rule (codes "force-root")
+rule_for AllParts = wanted_rule (codes "parts")
+rule_for PartStates = wanted_rule (codes "state")
 
 -- the argument is one that `clap` reads by this rule, for its own subcommand alone
 abbrev pub IsArg : Rule → Arg → Type 0
@@ -109,14 +138,20 @@ app_with name rules = on_top (λ s. record s { rules = rules }) (new_app name)
 
 abbrev pub audit_app : App
 audit_app = app_with (codes "audit") (named_rule (codes "under") ∷ named_rule (codes "parts") ∷ part_rule
-    ∷ quiet_rule ∷ root_rule ∷ [])
+    ∷ flag_rule (codes "quiet") ∷ root_rule ∷ [])
 
 abbrev pub run_app : App
 run_app = app_with (codes "run") (cursor_rule ∷ budget_rule ∷ files_rule ∷ named_rule (codes "parts") ∷ part_rule
-    ∷ quiet_rule ∷ root_rule ∷ [])
+    ∷ flag_rule (codes "quiet") ∷ root_rule ∷ [])
 
 abbrev pub cycle_app : App
-cycle_app = app_with (codes "cycle") (budget_rule ∷ files_rule ∷ runs_rule ∷ quiet_rule ∷ root_rule ∷ [])
+cycle_app = app_with (codes "cycle") (budget_rule ∷ files_rule ∷ runs_rule ∷ flag_rule (codes "quiet") ∷ root_rule ∷ [])
+
+abbrev pub night_app : App
+night_app = app_with (codes "night") (wanted_rule (codes "state") ∷ named_rule (codes "budget")
+    ∷ named_rule (codes "files") ∷ named_rule (codes "slice") ∷ hours_rule ∷ named_rule (codes "until") ∷ end_rule
+    ∷ named_rule (codes "parts") ∷ part_rule ∷ named_rule (codes "known") ∷ named_rule (codes "expected")
+    ∷ flag_rule (codes "create") ∷ flag_rule (codes "force-root") ∷ root_rule ∷ [])
 
 abbrev pub check_app : App
 check_app = app_with (codes "check") (root_rule ∷ path_rule ∷ [])
@@ -128,6 +163,9 @@ abbrev pub split_app : App
 split_app = app_with (codes "split") (count_rule ∷ named_rule (codes "budget") ∷ named_rule (codes "report")
     ∷ optional_rule (codes "root") ∷ [])
 
+abbrev pub join_app : App
+join_app = app_with (codes "join") (wanted_rule (codes "parts") ∷ wanted_rule (codes "state") ∷ [])
+
 -- ---- the program
 
 -- the program before its subcommands: it has a version, and one subcommand is required
@@ -135,8 +173,9 @@ abbrev pub bare_app : App
 bare_app = on_top (λ s. record s { has_version = true; subcommand_required = true }) (new_app (codes "ocfl-scrub"))
 
 abbrev pub line_app : App
-line_app = with_subcommand (with_subcommand (with_subcommand (with_subcommand (with_subcommand
-    (with_subcommand bare_app audit_app.top) run_app.top) cycle_app.top) check_app.top) split_app.top) show_app.top
+line_app = with_subcommand (with_subcommand (with_subcommand (with_subcommand (with_subcommand (with_subcommand
+    (with_subcommand (with_subcommand bare_app audit_app.top) run_app.top) cycle_app.top) night_app.top)
+    check_app.top) split_app.top) join_app.top) show_app.top
 
 -- the command is the one that `clap` reads as this
 abbrev pub IsCommand : App → Command → Type 0

@@ -2,13 +2,14 @@
 ghost use Rattle.std.specs.Prelude.{IfOk, map};
 ghost use Rattle.clap.specs.Words.{App, with_subcommand};
 ghost use Rattle.ocfl_line.specs.Line.{IsArg, IsCommand, app_with, bare_app, budget_rule};
-ghost use Rattle.ocfl_line.specs.Line.{count_rule, cursor_rule, files_rule, line_app, named_rule};
-ghost use Rattle.ocfl_line.specs.Line.{needed_rule, optional_rule, part_rule, quiet_rule, rule_for};
-ghost use Rattle.ocfl_line.specs.Line.{runs_rule};
+ghost use Rattle.ocfl_line.specs.Line.{count_rule, cursor_rule, end_rule, files_rule, flag_rule};
+ghost use Rattle.ocfl_line.specs.Line.{hours_rule, line_app, named_rule, needed_rule};
+ghost use Rattle.ocfl_line.specs.Line.{optional_rule, part_rule, rule_for, runs_rule, wanted_rule};
 
 use crate::command::Argument::{
-    AnyBudget, AnyRoot, Budget, Count, Cursor, File, Files, Part, Parts, Path, Quiet, Report, Root,
-    Runs, Under,
+    AllParts, AnyBudget, AnyRoot, Budget, Count, Create, Cursor, End, Expected, File, Files,
+    ForceRoot, Hours, Known, NightBudget, NightFiles, Part, PartStates, Parts, Path, Quiet, Report,
+    Root, Runs, Slice, State, Under, Until,
 };
 use clap::{Arg, ArgAction, Command, value_parser};
 use std::alloc::{AllocError, Global};
@@ -26,7 +27,8 @@ Exit status:
   1  findings
   2  usage
   3  stopped, worn or the cursor file failed
-  4  cursor refused";
+  4  cursor refused
+  75 another night holds the lock";
 
 /// An argument of a subcommand.
 #[derive(Clone, Copy)]
@@ -53,6 +55,32 @@ enum Argument {
     AnyBudget,
     /// The file of a report.
     Report,
+    /// The state folder.
+    State,
+    /// How much a night spends, or none.
+    NightBudget,
+    /// How many files a night starts, or none.
+    NightFiles,
+    /// How much each run of a night spends, or none.
+    Slice,
+    /// How many hours.
+    Hours,
+    /// A time of day.
+    Until,
+    /// A time in seconds.
+    End,
+    /// The file of findings that are known.
+    Known,
+    /// The file of the objects that must be there.
+    Expected,
+    /// Whether a state folder is begun in.
+    Create,
+    /// Whether another storage root is taken.
+    ForceRoot,
+    /// The file of the separators, of which all parts are taken.
+    AllParts,
+    /// The folder of the parts' state folders.
+    PartStates,
 }
 
 // What help says of each.
@@ -60,7 +88,7 @@ const ROOT: &str = "The folder of the storage root";
 
 const PATH: &str = "A place in it, written as in report lines; . is the root";
 
-const FILE: &str = "The cursor file";
+const FILE: &str = "The cursor file, or the checkpoint of a state folder";
 
 const CURSOR: &str = "The cursor file, which the run replaces; one that is not there is a new \
 cursor";
@@ -87,6 +115,35 @@ const ANY_BUDGET: &str = "Each part but the last costs N or one file more, in by
 file; N as run takes it";
 
 const REPORT: &str = "A report of the whole storage root, which says what each file cost";
+
+const STATE: &str = "The state folder, which keeps the checkpoint, the reports and the log: one \
+for each storage root, or for each part of one";
+
+const NIGHT_BUDGET: &str = "The night begins no further run once it has read N, in bytes and 1 for \
+each file; N as run takes it";
+
+const NIGHT_FILES: &str = "The night begins no further run once it has started N files: N as for \
+the budget";
+
+const SLICE: &str = "How much each run reads before the next checkpoint: N as for the budget";
+
+const HOURS: &str = "Begins no run after so many hours: 1 to 24";
+
+const UNTIL: &str = "Begins no run after the clock next shows this time: 00:00 to 23:59";
+
+const END: &str = "Begins no run from this time on, in seconds since 1970-01-01 00:00 UTC";
+
+const KNOWN: &str = "Findings that are known and are not said, a line of a report each";
+
+const EXPECTED: &str = "The objects that must be there, a path a line; not with a part";
+
+const CREATE: &str = "Begins a first cycle where the state folder has no checkpoint";
+
+const FORCE_ROOT: &str = "Takes ROOT for the root of this folder, though it differs from the one \
+of before";
+
+const PART_STATES: &str = "The folder that has the state folders of the parts: part-000001 and so \
+on";
 
 /// An argument that has a value and may be left out.
 fn optional<'a>(alloc: Global, id: &'a str, value: &'a str, help: &'a str) -> Arg<'a>
@@ -128,6 +185,13 @@ fn needed<'a>(alloc: Global, id: &'a str, value: &'a str, help: &'a str) -> Arg<
         .required(true)
 }
 
+/// An option that must be given, whose id is its name.
+fn wanted<'a>(alloc: Global, id: &'a str, value: &'a str, help: &'a str) -> Arg<'a>
+    ensures { IsArg (wanted_rule id.now) result }
+{
+    needed(alloc, id, value, help).long(id)
+}
+
 /// The file of the cursor, as an option.
 fn cursor_option<'a>(alloc: Global) -> Arg<'a>
     ensures { IsArg cursor_rule result }
@@ -158,13 +222,27 @@ fn runs_option<'a>(alloc: Global) -> Arg<'a>
         .value_parser(value_parser!(u64).range(1..=100000))
 }
 
-/// The flag that shows no progress.
-fn quiet_flag<'a>(alloc: Global) -> Arg<'a>
-    ensures { IsArg quiet_rule result }
+/// How many hours a night makes run after run.
+fn hours_option<'a>(alloc: Global) -> Arg<'a>
+    ensures { IsArg hours_rule result }
 {
-    Arg::new(alloc, "quiet")
-        .long("quiet")
-        .help(QUIET)
+    named(alloc, "hours", "H", HOURS).value_parser(value_parser!(u64).range(1..=24))
+}
+
+/// The time from which on a night begins no run.
+fn end_option<'a>(alloc: Global) -> Arg<'a>
+    ensures { IsArg end_rule result }
+{
+    named(alloc, "end", "SECONDS", END).value_parser(value_parser!(u64))
+}
+
+/// A flag, whose id is its name.
+fn flag<'a>(alloc: Global, id: &'a str, help: &'a str) -> Arg<'a>
+    ensures { IsArg (flag_rule id.now) result }
+{
+    Arg::new(alloc, id)
+        .long(id)
+        .help(help)
         .action(ArgAction::SetTrue)
 }
 
@@ -180,7 +258,7 @@ fn arg_of<'a>(alloc: Global, argument: Argument) -> Arg<'a>
         Budget => budget_option(alloc),
         Files => files_option(alloc),
         Runs => runs_option(alloc),
-        Quiet => quiet_flag(alloc),
+        Quiet => flag(alloc, "quiet", QUIET),
         Under => named(alloc, "under", "PLACE", UNDER),
         Parts => named(alloc, "parts", "FILE", PARTS),
         Part => part_option(alloc),
@@ -188,6 +266,19 @@ fn arg_of<'a>(alloc: Global, argument: Argument) -> Arg<'a>
         AnyRoot => optional(alloc, "root", "ROOT", ROOT),
         AnyBudget => named(alloc, "budget", "N", ANY_BUDGET),
         Report => named(alloc, "report", "FILE", REPORT),
+        State => wanted(alloc, "state", "DIR", STATE),
+        NightBudget => named(alloc, "budget", "N", NIGHT_BUDGET),
+        NightFiles => named(alloc, "files", "N", NIGHT_FILES),
+        Slice => named(alloc, "slice", "N", SLICE),
+        Hours => hours_option(alloc),
+        Until => named(alloc, "until", "HH:MM", UNTIL),
+        End => end_option(alloc),
+        Known => named(alloc, "known", "FILE", KNOWN),
+        Expected => named(alloc, "expected", "FILE", EXPECTED),
+        Create => flag(alloc, "create", CREATE),
+        ForceRoot => flag(alloc, "force-root", FORCE_ROOT),
+        AllParts => wanted(alloc, "parts", "FILE", PARTS),
+        PartStates => wanted(alloc, "state", "DIR", PART_STATES),
     }
 }
 
@@ -272,6 +363,15 @@ Example:
   ocfl-scrub cycle --budget 10G --runs 30 /srv/ocfl",
 };
 
+const NIGHT: Help<'static> = Help {
+    about: "Makes one night: takes up what the last one left, makes runs until something ends it, \
+and writes what was found",
+    usage: None,
+    example: "\
+Example:
+  ocfl-scrub night --state /var/lib/audit --until 06:00 /srv/ocfl",
+};
+
 const CHECK: Help<'static> = Help {
     about: "Writes the report lines of one place",
     usage: None,
@@ -292,8 +392,16 @@ Example:
   ocfl-scrub split --parts 100 /srv/ocfl > root.parts",
 };
 
+const JOIN: Help<'static> = Help {
+    about: "Joins the closed reports of all parts of one cycle",
+    usage: None,
+    example: "\
+Example:
+  ocfl-scrub join --parts root.parts --state /shared/audit",
+};
+
 const SHOW: Help<'static> = Help {
-    about: "Writes what a cursor file says",
+    about: "Writes what a cursor file or a checkpoint says",
     usage: None,
     example: "\
 Example:
@@ -307,9 +415,28 @@ const RUN_ARGUMENTS: &[Argument] = &[Cursor, Budget, Files, Parts, Part, Quiet, 
 
 const CYCLE_ARGUMENTS: &[Argument] = &[Budget, Files, Runs, Quiet, Root];
 
+const NIGHT_ARGUMENTS: &[Argument] = &[
+    State,
+    NightBudget,
+    NightFiles,
+    Slice,
+    Hours,
+    Until,
+    End,
+    Parts,
+    Part,
+    Known,
+    Expected,
+    Create,
+    ForceRoot,
+    Root,
+];
+
 const CHECK_ARGUMENTS: &[Argument] = &[Root, Path];
 
 const SPLIT_ARGUMENTS: &[Argument] = &[Count, AnyBudget, Report, AnyRoot];
+
+const JOIN_ARGUMENTS: &[Argument] = &[AllParts, PartStates];
 
 const SHOW_ARGUMENTS: &[Argument] = &[File];
 
@@ -332,8 +459,10 @@ pub(crate) fn line_command<'a>(alloc: Global) -> Result<Command<'a>, AllocError>
     let command = add_subcommand(command, alloc, "audit", AUDIT, AUDIT_ARGUMENTS)?;
     let command = add_subcommand(command, alloc, "run", RUN, RUN_ARGUMENTS)?;
     let command = add_subcommand(command, alloc, "cycle", CYCLE, CYCLE_ARGUMENTS)?;
+    let command = add_subcommand(command, alloc, "night", NIGHT, NIGHT_ARGUMENTS)?;
     let command = add_subcommand(command, alloc, "check", CHECK, CHECK_ARGUMENTS)?;
     let command = add_subcommand(command, alloc, "split", SPLIT, SPLIT_ARGUMENTS)?;
+    let command = add_subcommand(command, alloc, "join", JOIN, JOIN_ARGUMENTS)?;
     add_subcommand(command, alloc, "show", SHOW, SHOW_ARGUMENTS)
 }
 
@@ -343,8 +472,10 @@ pub(crate) fn single_command<'a>(alloc: Global, name: &'a str) -> Result<Command
         "audit" => (AUDIT, AUDIT_ARGUMENTS),
         "run" => (RUN, RUN_ARGUMENTS),
         "cycle" => (CYCLE, CYCLE_ARGUMENTS),
+        "night" => (NIGHT, NIGHT_ARGUMENTS),
         "check" => (CHECK, CHECK_ARGUMENTS),
         "split" => (SPLIT, SPLIT_ARGUMENTS),
+        "join" => (JOIN, JOIN_ARGUMENTS),
         _ => (SHOW, SHOW_ARGUMENTS),
     };
     let shown = format!(in alloc; "ocfl-scrub {name}")?;

@@ -21,6 +21,12 @@ enum Complaint<'a> {
     Both,
     /// The words are not those of one way to split.
     Split,
+    /// Objects are expected of a part.
+    Expected,
+    /// A night has more than one end.
+    Ends,
+    /// The value of `--until` is no time of day.
+    Time { value: &'a str },
 }
 
 impl Complaint<'_> {
@@ -44,6 +50,18 @@ impl Complaint<'_> {
                 alloc,
                 "'split' takes either '--parts <COUNT>' and '<ROOT>', \
                  or '--budget <N>' and '--report <FILE>'",
+            ),
+            Complaint::Expected => String::from_str(
+                alloc,
+                "'--expected <FILE>' is not given with '--parts <FILE>': objects are expected of \
+                 a whole storage root",
+            ),
+            Complaint::Ends => String::from_str(
+                alloc,
+                "only one of '--hours <H>', '--until <HH:MM>' and '--end <SECONDS>' is given",
+            ),
+            Complaint::Time { value } => format!(in alloc;
+                "invalid value '{value}' for '--until <HH:MM>': HH:MM is 00:00 to 23:59"
             ),
         }
     }
@@ -104,14 +122,25 @@ fn find_complaint<'a>(name: &str, inner: &ArgMatches<'a>) -> Complaint<'a> {
     if has_file != has_number {
         return Complaint::Unpaired;
     }
-    // Only `run` and `cycle` have a second size.
-    let id = if is_size(inner, "budget") {
-        "files"
-    } else {
-        "budget"
-    };
-    let value = text_of(inner, id).unwrap_or("");
-    Complaint::Size { id, value }
+    if has_file && !is_left_out(inner, "expected") {
+        return Complaint::Expected;
+    }
+    find_value(inner)
+}
+
+/// What is wrong with a value, or with the ends of a night, where all other words go together.
+fn find_value<'a>(inner: &ArgMatches<'a>) -> Complaint<'a> {
+    for id in ["budget", "files", "slice"] {
+        if !is_left_out(inner, id) && !is_size(inner, id) {
+            let value = text_of(inner, id).unwrap_or("");
+            return Complaint::Size { id, value };
+        }
+    }
+    if !is_left_out(inner, "hours") || !is_left_out(inner, "end") {
+        return Complaint::Ends;
+    }
+    let value = text_of(inner, "until").unwrap_or("");
+    Complaint::Time { value }
 }
 
 /// Whether the words are those of a split by a report, whatever its budget is.

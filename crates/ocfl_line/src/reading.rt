@@ -2,13 +2,14 @@
 ghost use Rattle.std.specs.Prelude.{ℕ, IfOk, IfSome, IsNone, codes};
 ghost use Rattle.clap.specs.Words.{found_of, rows_of, subcommand_rows_of};
 ghost use Rattle.ocfl_cursor.specs.declared.limits.Limits.{Limits as LimitsOf};
-ghost use Rattle.ocfl_line.specs.Asks.{Asks, HasLimits, HasRuns, IsDeed, IsTask};
+ghost use Rattle.ocfl_line.specs.Asks.{Asks, HasLimits, HasRuns, IsAsked, IsDeed, IsTask};
 ghost use Rattle.ocfl_deed.specs.declared.deed.Deed.{Deed as DeedOf};
 ghost use Rattle.ocfl_line.specs.declared.task.Task.{Task as TaskOf};
 ghost use Rattle.ocfl_line.specs.declared.task.Asked.{Asked as AskedOf};
 
 use crate::budget::{read_amount, read_budget};
 use crate::choosing::chosen_by;
+use crate::nights::{join_by, night_by};
 use crate::splitting::split_by;
 use crate::task::{Asked, Task};
 use crate::values::{copied, count_of, is_given, text_of};
@@ -113,23 +114,70 @@ fn task_of(alloc: Global, name: &str, inner: &ArgMatches<'_>) -> Result<Option<T
     }))
 }
 
+/// What the matches of `split` ask for, or `None` where they ask for nothing.
+fn asked_split(alloc: Global, inner: &ArgMatches<'_>) -> Result<Option<Asked>, AllocError>
+    ensures found { IfOk result (λ o.
+        IfSome o (IsAsked (codes "split") (rows_of (found_of inner.now)))) }
+    ensures missing { IfOk result (λ o. IsNone o
+        → (a : AskedOf) → IsAsked (codes "split") (rows_of (found_of inner.now)) a → ⊥) }
+{
+    match split_by(alloc, inner)? {
+        Some(split) => Ok(Some(Asked::Split(split))),
+        None => Ok(None),
+    }
+}
+
+/// The same of `night`.
+fn asked_night(alloc: Global, inner: &ArgMatches<'_>) -> Result<Option<Asked>, AllocError>
+    ensures found { IfOk result (λ o.
+        IfSome o (IsAsked (codes "night") (rows_of (found_of inner.now)))) }
+    ensures missing { IfOk result (λ o. IsNone o
+        → (a : AskedOf) → IsAsked (codes "night") (rows_of (found_of inner.now)) a → ⊥) }
+{
+    match night_by(alloc, inner)? {
+        Some(night) => Ok(Some(Asked::Night(night))),
+        None => Ok(None),
+    }
+}
+
+/// The same of `join`.
+fn asked_join(alloc: Global, inner: &ArgMatches<'_>) -> Result<Option<Asked>, AllocError>
+    ensures found { IfOk result (λ o.
+        IfSome o (IsAsked (codes "join") (rows_of (found_of inner.now)))) }
+    ensures missing { IfOk result (λ o. IsNone o
+        → (a : AskedOf) → IsAsked (codes "join") (rows_of (found_of inner.now)) a → ⊥) }
+{
+    match join_by(alloc, inner)? {
+        Some(join) => Ok(Some(Asked::Join(join))),
+        None => Ok(None),
+    }
+}
+
+/// What the subcommand with this name and these matches asks for, or `None` where it is nothing.
+fn asked_of(alloc: Global, name: &str, inner: &ArgMatches<'_>) -> Result<Option<Asked>, AllocError>
+    ensures found { IfOk result (λ o. IfSome o (IsAsked name.now (rows_of (found_of inner.now)))) }
+    ensures missing { IfOk result (λ o. IsNone o
+        → (a : AskedOf) → IsAsked name.now (rows_of (found_of inner.now)) a → ⊥) }
+{
+    match name {
+        "split" => asked_split(alloc, inner),
+        "night" => asked_night(alloc, inner),
+        "join" => asked_join(alloc, inner),
+        _ => match task_of(alloc, name, inner)? {
+            Some(task) => Ok(Some(Asked::Task(task))),
+            None => Ok(None),
+        },
+    }
+}
+
 /// What is asked for by matches, or `None` where they ask for nothing.
 pub(crate) fn asked_by(alloc: Global, matches: &ArgMatches<'_>) -> Result<Option<Asked>, AllocError>
     ensures found { IfOk result (λ o. IfSome o (Asks (subcommand_rows_of matches.now))) }
     ensures missing { IfOk result (λ o. IsNone o
         → (a : AskedOf) → Asks (subcommand_rows_of matches.now) a → ⊥) }
 {
-    let Some((name, inner)) = matches.subcommand() else {
-        return Ok(None);
-    };
-    if name == "split" {
-        return match split_by(alloc, inner)? {
-            Some(split) => Ok(Some(Asked::Split(split))),
-            None => Ok(None),
-        };
-    }
-    match task_of(alloc, name, inner)? {
-        Some(task) => Ok(Some(Asked::Task(task))),
+    match matches.subcommand() {
+        Some((name, inner)) => asked_of(alloc, name, inner),
         None => Ok(None),
     }
 }

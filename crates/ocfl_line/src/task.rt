@@ -1,5 +1,6 @@
 //! What a command line asks for, as its texts and numbers.
 
+use crate::night::{JoinAsked, NightAsked};
 use ocfl_deed::Deed;
 
 /// Which items of a storage root a deed takes.
@@ -59,4 +60,8 @@ pub enum Asked {
     Task(Task),
     /// The separators of parts are to be written.
     Split(Split),
+    /// A night is to be made.
+    Night(NightAsked),
+    /// The closed reports of all parts are to be joined.
+    Join(JoinAsked),
 }

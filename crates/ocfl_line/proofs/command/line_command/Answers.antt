@@ -8,4 +8,6 @@ returns c =
     let three = c.in_ok-command-3.ensures _ two in
     let four = c.in_ok-command-4.ensures _ three in
     let five = c.in_ok-command-5.ensures _ four in
-    IfOk-weaker c.add_subcommand-6.result _ _ (λ r h. h _ five) c.add_subcommand-6.ensures
+    let six = c.in_ok-command-6.ensures _ five in
+    let seven = c.in_ok-command-7.ensures _ six in
+    IfOk-weaker c.add_subcommand-8.result _ _ (λ r h. h _ seven) c.add_subcommand-8.ensures

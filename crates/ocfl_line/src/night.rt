@@ -1,0 +1,65 @@
+//! What a command line asks for of a night, as its texts and numbers.
+
+use crate::task::Chosen;
+use ocfl_cursor::Budget;
+
+/// When a night begins no further run.
+#[derive(Clone, Copy, Debug, PartialEq, Eq)]
+pub enum Until {
+    /// At no time.
+    Never,
+    /// So many hours after it began: 1 to 24.
+    Hours(u64),
+    /// When the clock next shows this time of day.
+    TimeOfDay {
+        /// 0 to 23.
+        hour: u8,
+        /// 0 to 59.
+        minute: u8,
+    },
+    /// At this time, in seconds since the Unix epoch.
+    At(u64),
+}
+
+/// What a night may do, and until when.
+#[derive(Clone, Copy, Debug, PartialEq, Eq)]
+pub struct NightBounds {
+    /// How much the night may spend, where that is said.
+    pub budget: Option<Budget>,
+    /// How many files it may start, where that is said: 1 to 2^62.
+    pub files: Option<u64>,
+    /// How much each of its runs may spend, where that is said.
+    pub slice: Option<Budget>,
+    /// When it begins no further run.
+    pub until: Until,
+}
+
+/// A night, and what it is made with.
+#[derive(Debug, Drop, PartialEq, Eq)]
+pub struct NightAsked {
+    /// The state folder.
+    pub state: String,
+    /// The folder of the storage root.
+    pub root: String,
+    /// What it may do, and until when.
+    pub bounds: NightBounds,
+    /// Which items it takes: all of them, or those of one part.
+    pub chosen: Chosen,
+    /// The file of findings that are known, where it is given.
+    pub known: Option<String>,
+    /// The file of the objects that must be there, where it is given; never with a part.
+    pub expected: Option<String>,
+    /// Whether a state folder without a checkpoint is begun in.
+    pub create: bool,
+    /// Whether another storage root than the one before is taken.
+    pub force_root: bool,
+}
+
+/// The joining of the closed reports of all parts.
+#[derive(Debug, Drop, PartialEq, Eq)]
+pub struct JoinAsked {
+    /// The file of the separators that cut the storage root into the parts.
+    pub parts: String,
+    /// The folder that has the state folders of the parts.
+    pub state: String,
+}

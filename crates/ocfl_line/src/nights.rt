@@ -1,0 +1,140 @@
+//! What the arguments that `clap` found ask for of nights.
+ghost use Rattle.std.specs.Prelude.{◌↔◌, ℕ, Option, String, IfOk, IfSome, IsNone, IsTrue};
+ghost use Rattle.std.specs.declared.alloc.Global.{Global};
+ghost use Rattle.clap.specs.Words.{found_of, rows_of};
+ghost use Rattle.ocfl_line.specs.Asks.{ExpectsOfPart, HasBounds, HasText, IsJoin, IsNight};
+ghost use Rattle.ocfl_line.specs.Asks.{MayHaveSize};
+ghost use Rattle.ocfl_line.specs.declared.night.JoinAsked.{JoinAsked as JoinOf};
+ghost use Rattle.ocfl_line.specs.declared.night.NightAsked.{NightAsked as NightOf};
+ghost use Rattle.ocfl_line.specs.declared.night.NightBounds.{NightBounds as BoundsOf};
+
+use crate::budget::{read_amount, read_budget};
+use crate::choosing::chosen_by;
+use crate::ending::until_of;
+use crate::night::{JoinAsked, NightAsked, NightBounds};
+use crate::values::{copied, is_given, is_left_out, text_of};
+use clap::ArgMatches;
+use ocfl_cursor::Budget;
+use std::alloc::{AllocError, Global};
+
+/// The size of an option, `Some(None)` where it is left out, and `None` where its text is no size.
+fn size_of(inner: &ArgMatches<'_>, id: &str) -> Option<Option<u64>>
+    ensures found { IfSome result (MayHaveSize id.now (rows_of (found_of inner.now))) }
+    ensures missing { IsNone result
+        → (size : Option ℕ) → MayHaveSize id.now (rows_of (found_of inner.now)) size → ⊥ }
+{
+    match text_of(inner, id) {
+        Some(text) => Some(Some(read_amount(text)?)),
+        None => Some(None),
+    }
+}
+
+/// The same of a budget.
+fn budget_of(inner: &ArgMatches<'_>, id: &str) -> Option<Option<Budget>>
+    ensures found { IfSome result (MayHaveSize id.now (rows_of (found_of inner.now))) }
+    ensures missing { IsNone result
+        → (size : Option ℕ) → MayHaveSize id.now (rows_of (found_of inner.now)) size → ⊥ }
+{
+    match text_of(inner, id) {
+        Some(text) => Some(Some(read_budget(text)?)),
+        None => Some(None),
+    }
+}
+
+/// What a night may do. `None` if one of its bounds cannot be read.
+fn bounds_of(inner: &ArgMatches<'_>) -> Option<NightBounds>
+    ensures found { IfSome result (HasBounds (rows_of (found_of inner.now))) }
+    ensures missing { IsNone result
+        → (bounds : BoundsOf) → HasBounds (rows_of (found_of inner.now)) bounds → ⊥ }
+{
+    let budget = budget_of(inner, "budget")?;
+    let files = size_of(inner, "files")?;
+    let slice = budget_of(inner, "slice")?;
+    let until = until_of(inner)?;
+    Some(NightBounds {
+        budget,
+        files,
+        slice,
+        until,
+    })
+}
+
+/// Whether objects are expected of a part.
+fn expects_of_part(inner: &ArgMatches<'_>) -> bool
+    ensures { IsTrue result ↔ ExpectsOfPart (rows_of (found_of inner.now)) }
+{
+    !is_left_out(inner, "expected") && !is_left_out(inner, "parts")
+}
+
+/// The texts of two arguments, or `None` where one of them is left out.
+fn both_of(
+    alloc: Global,
+    inner: &ArgMatches<'_>,
+    one: &str,
+    other: &str,
+) -> Result<Option<(String, String)>, AllocError>
+    ensures found { IfOk result (λ o. IfSome o (λ both.
+        HasText one.now (rows_of (found_of inner.now)) both.0
+        × HasText other.now (rows_of (found_of inner.now)) both.1)) }
+    ensures missing { IfOk result (λ o. IsNone o
+        → (first second : String Global) → HasText one.now (rows_of (found_of inner.now)) first
+        → HasText other.now (rows_of (found_of inner.now)) second → ⊥) }
+{
+    let Some(first) = copied(alloc, inner, one)? else {
+        return Ok(None);
+    };
+    match copied(alloc, inner, other)? {
+        Some(second) => Ok(Some((first, second))),
+        None => Ok(None),
+    }
+}
+
+/// A night, or `None` where its arguments ask for none.
+pub(crate) fn night_by(
+    alloc: Global,
+    inner: &ArgMatches<'_>,
+) -> Result<Option<NightAsked>, AllocError>
+    ensures found { IfOk result (λ o. IfSome o (IsNight (rows_of (found_of inner.now)))) }
+    ensures missing { IfOk result (λ o. IsNone o
+        → (night : NightOf) → IsNight (rows_of (found_of inner.now)) night → ⊥) }
+{
+    if expects_of_part(inner) {
+        return Ok(None);
+    }
+    let Some(bounds) = bounds_of(inner) else {
+        return Ok(None);
+    };
+    let Some(chosen) = chosen_by(alloc, inner)? else {
+        return Ok(None);
+    };
+    let Some((state, root)) = both_of(alloc, inner, "state", "root")? else {
+        return Ok(None);
+    };
+    let known = copied(alloc, inner, "known")?;
+    let expected = copied(alloc, inner, "expected")?;
+    Ok(Some(NightAsked {
+        state,
+        root,
+        bounds,
+        chosen,
+        known,
+        expected,
+        create: is_given(inner, "create"),
+        force_root: is_given(inner, "force-root"),
+    }))
+}
+
+/// The joining of the closed reports of all parts, or `None` where its arguments ask for none.
+pub(crate) fn join_by(
+    alloc: Global,
+    inner: &ArgMatches<'_>,
+) -> Result<Option<JoinAsked>, AllocError>
+    ensures found { IfOk result (λ o. IfSome o (IsJoin (rows_of (found_of inner.now)))) }
+    ensures missing { IfOk result (λ o. IsNone o
+        → (join : JoinOf) → IsJoin (rows_of (found_of inner.now)) join → ⊥) }
+{
+    match both_of(alloc, inner, "parts", "state")? {
+        Some((parts, state)) => Ok(Some(JoinAsked { parts, state })),
+        None => Ok(None),
+    }
+}

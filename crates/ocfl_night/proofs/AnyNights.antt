@@ -9,26 +9,27 @@ use Rattle.ocfl_audit.specs.Parts.{Part}
 use Rattle.ocfl_cursor.specs.Cursor.{Cursor, ended}
 use Rattle.ocfl_scrub.specs.Running.{begun}
 use Rattle.ocfl_scrub.specs.Joining.{Ran, AreOneCycle, cursor_after, reports_of}
+use Rattle.ocfl_state.specs.Checkpoint.{Checkpoint}
 use Rattle.ocfl_state.specs.Content.{Content, Closed, empty}
 use Rattle.ocfl_state.specs.Crash.{Outcomes}
 use Rattle.ocfl_night.specs.Chain.{RootRun, joined, EndAt}
 use Rattle.ocfl_night.specs.Sound.{closed_text, Stands, IsNew, IsMarked, IsSoundAt, IsSound, IsKept}
 use Rattle.ocfl_night.specs.Nights.{Night, AreNights, AtAnyMoment, AreWhole, IsTaken, AllTaken}
-use Rattle.ocfl_night.specs.declared.shape.Mark.{Mark}
-use Rattle.ocfl_night.proofs.Texts.{text_determines}
+use Rattle.ocfl_state.proofs.CheckpointTexts.{text_determines}
+use Rattle.ocfl_night.proofs.Sound.{long}
 use Rattle.ocfl_night.proofs.Chains.{ended_cursor, take_nothing}
 use Rattle.ocfl_night.proofs.Heard.{since_sound}
 
 -- ---- closed reports
 
-stands_whole : (part : Part) (t : Text) (k : Mark) (c : Content) → Stands part t k c → AreWhole part c.closed
+stands_whole : (part : Part) (t : Text) (k : Checkpoint) (c : Content) → Stands part t k c → AreWhole part c.closed
 stands_whole part t k c (inl o) = ((begun k.cursor).cycle, o.earlier)
 stands_whole part t k c (inr (inl w)) = (k.cursor.cycle, w.earlier)
 stands_whole part t k c (inr (inr w)) = (k.cursor.cycle + 1, w.earlier)
 
 found_whole : (part : Part) (t : Text) (o : Option (List ℕ)) (c : Content) → MatchOption o (IsNew t c) (λ bytes. IsMarked part t bytes c) → AreWhole part c.closed
 found_whole part t None c new = subst (λ (l : List Closed). AreWhole part l) (sym new.closed) (1, refl)
-found_whole part t (Some bytes) c marked = stands_whole part t marked.mark c marked.stands
+found_whole part t (Some bytes) c marked = stands_whole part t marked.checkpoint c marked.stands
 
 pub sound_whole : (part : Part) (c : Content) → IsSound part c → AreWhole part c.closed
 sound_whole part c sound = found_whole part sound.0 c.checkpoint c sound.1
@@ -38,18 +39,18 @@ empty_sound part c is = subst (λ (x : Content). IsSoundAt part [] x) (sym is) (
 
 -- ---- what was told
 
-abbrev told_in : Mark → Content → Text
+abbrev told_in : Checkpoint → Content → Text
 told_in k c = closed_text c.closed ++ take k.told c.report
 
-told_there : (part : Part) (t : Text) (k : Mark) (c : Content) → Stands part t k c → t ≡ told_in k c
-told_there part t k c (inl o) = o.told_is ∙ ap (λ (l : Text). closed_text c.closed ++ l) (sym (ap (take k.told) o.begins.1 ∙ take-append-le k.told o.text o.begins.0 (omega (arith, o.told, o.bytes))))
+told_there : (part : Part) (t : Text) (k : Checkpoint) (c : Content) → Stands part t k c → t ≡ told_in k c
+told_there part t k c (inl o) = o.told_is ∙ ap (λ (l : Text). closed_text c.closed ++ l) (sym (ap (take k.told) o.begins.1 ∙ take-append-le k.told o.text o.begins.0 (omega (arith, o.told, long o.text k.report o.report))))
 told_there part t k c (inr (inl w)) = w.told_is
-told_there part t k c (inr (inr w)) = w.told_is ∙ sym (ap (λ (l : Text). closed_text c.closed ++ l) (ap (take k.told) w.report ∙ take_nothing k.told) ∙ append-nil (closed_text c.closed))
+told_there part t k c (inr (inr w)) = w.told_is ∙ sym (ap (λ (l : Text). closed_text c.closed ++ l) (ap (take k.told) w.empty ∙ take_nothing k.told) ∙ append-nil (closed_text c.closed))
 
 told_twice : (part : Part) (t u : Text) (o : Option (List ℕ)) (c : Content) → MatchOption o (IsNew t c) (λ bytes. IsMarked part t bytes c) → MatchOption o (IsNew u c) (λ bytes. IsMarked part u bytes c) → t ≡ u
 told_twice part t u None c a b = a.told_is ∙ sym b.told_is
 told_twice part t u (Some bytes) c a b =
-    told_there part t a.mark c a.stands ∙ ap (λ (k : Mark). told_in k c) (text_determines bytes a.mark b.mark a.is b.is) ∙ sym (told_there part u b.mark c b.stands)
+    told_there part t a.checkpoint c a.stands ∙ ap (λ (k : Checkpoint). told_in k c) (text_determines bytes a.checkpoint b.checkpoint a.is b.is) ∙ sym (told_there part u b.checkpoint c b.stands)
 
 -- a content has told one text
 pub told_once : (part : Part) (t u : Text) (c : Content) → IsSoundAt part t c → IsSoundAt part u c → t ≡ u

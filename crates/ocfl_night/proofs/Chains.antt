@@ -1,6 +1,7 @@
 -- Chains of runs, and the closed reports.
-use Rattle.std.proofs.Common.{◌≡◌, ◌≢◌, ◌⊎◌, inl, inr, ℕ, ◌+◌, ◌≤◌, List, [], ◌∷◌, ◌++◌, Option, Some, None, refl, sym, ◌∙◌, ap, subst, arith, Bool, true, false, ◌||◌, ◌==◌, take}
-use Rattle.std.proofs.lemmas.List.{append-nil, take_all}
+use Rattle.std.proofs.Common.{◌≡◌, ◌≢◌, ◌⊎◌, inl, inr, ℕ, zero, suc, ◌+◌, ◌≤◌, List, [], ◌∷◌, ◌++◌, Option, Some, None, refl, sym, ◌∙◌, ap, subst, arith, append_assoc, Bool, true, false, ◌||◌, ◌==◌, take, ◌-◌, length, length-append}
+use Rattle.std.specs.Prelude.{slice_get}
+use Rattle.std.proofs.lemmas.List.{append-nil, take_all, take-append-le}
 use Rattle.std.proofs.lemmas.Bool.{eq-eqb}
 use Rattle.std.proofs.lemmas.Bool.Decides.{eqb_tells}
 use Rattle.std.proofs.lemmas.List.Concat.{flat_map-append}
@@ -10,14 +11,16 @@ use Rattle.ocfl_audit.specs.Parts.{Part}
 use Rattle.ocfl_audit.specs.Runs.{Limits}
 use Rattle.ocfl_cursor.specs.Cursor.{Cursor, State, ended}
 use Rattle.ocfl_cursor.specs.Moves.{after_run}
-use Rattle.ocfl_scrub.specs.Call.{Call}
+use Rattle.ocfl_tree.specs.Store.{Store}
+use Rattle.ocfl_scrub.specs.Call.{Call, call_of}
 use Rattle.ocfl_scrub.specs.Running.{place_in, begun, begun_in, state_after, RunEndsWithin, RunsFromWithin}
 use Rattle.ocfl_scrub.specs.Joining.{PartRun, Ran}
 use Rattle.ocfl_scrub.specs.declared.running.RunEnd.{RunEnd}
 use Rattle.ocfl_scrub.specs.declared.running.RunStatus.{RunStatus}
 use Rattle.ocfl_scrub.specs.declared.running.RunStatus.TheVariants as status
 use Rattle.ocfl_state.specs.Content.{Closed, is_closed}
-use Rattle.ocfl_night.specs.Chain.{RootRun, joined, LeadTo, EndAt, IsWholeReport, AreClosed}
+use Rattle.ocfl_state.specs.declared.checkpoint_parts.Left.{Left}
+use Rattle.ocfl_night.specs.Chain.{RootRun, joined, LeadTo, EndAt, past, past_branch, part_after, from_after, LedBy, Led, LedToEnd, IsWholeReport, AreClosed}
 use Rattle.ocfl_night.specs.Sound.{closed_text}
 
 -- a beginning of nothing
@@ -37,6 +40,27 @@ pub end_on : (part : Part) (c e : Cursor) (runs : List RootRun) (r : RootRun) �
 end_on part c e [] r chain made ends = (subst (λ (x : Cursor). Ran r.root part x r.run) chain made, ends, refl)
 end_on part c e (q ∷ []) r chain made ends = (chain.0, chain.1, end_on part q.run.ran.cursor e [] r chain.2 made ends)
 end_on part c e (q ∷ p ∷ runs) r chain made ends = (chain.0, chain.1, end_on part q.run.ran.cursor e (p ∷ runs) r chain.2 made ends)
+
+-- ---- around branches that are left out
+
+-- a run more at the end of the last leg
+module _ (Last : Part → Cursor → List RootRun → Cursor → Type 0) where
+  longer : (part : Part) (c d f : Cursor) (runs : List RootRun) (left : List Left) (r : RootRun)
+      → ((b : Cursor) (last : List RootRun) → LeadTo (part_after part left) b last d → Last (part_after part left) b (last ++ r ∷ []) f) → Led part c runs left d → LedBy Last part c (runs ++ r ∷ []) left f
+  longer part c d f runs [] r more led = more c runs led
+  longer part c d f runs (l ∷ left) r more (first, (rest, (e, (are, (leads, (stood, led)))))) =
+      (first, (rest ++ r ∷ [], (e, (ap (λ (rs : List RootRun). rs ++ r ∷ []) are ∙ append_assoc first rest (r ∷ []), (leads, (stood, longer (past_branch part l) e d f rest left r more led))))))
+
+pub led_on : (part : Part) (c d : Cursor) (runs : List RootRun) (left : List Left) (r : RootRun) → Led part c runs left d → Ran r.root (part_after part left) d r.run → r.run.ran.end ≢ status.Ended → Led part c (runs ++ r ∷ []) left r.run.ran.cursor
+led_on part c d runs left r led made goes = longer LeadTo part c d r.run.ran.cursor runs left r (λ b last leads. lead_on (part_after part left) b d last r leads made goes) led
+
+pub led_to_end : (part : Part) (c d : Cursor) (runs : List RootRun) (left : List Left) (r : RootRun) → Led part c runs left d → Ran r.root (part_after part left) d r.run → r.run.ran.end ≡ status.Ended → LedToEnd part c (runs ++ r ∷ []) left r.run.ran.cursor
+led_to_end part c d runs left r led made ends = longer EndAt part c d r.run.ran.cursor runs left r (λ b last leads. end_on (part_after part left) b d last r leads made ends) led
+
+-- a branch more is left out
+pub leave_on : (part : Part) (c d : Cursor) (runs : List RootRun) (left : List Left) (l : Left) → Led part c runs left d → place_in d.state ≡ l.after → Led part c runs (left ++ l ∷ []) d
+leave_on part c d runs [] l led stood = (runs, ([], (d, (sym (append-nil runs), (led, (stood, refl))))))
+leave_on part c d runs (x ∷ left) l (first, (rest, (e, (are, (leads, (there, led)))))) stood = (first, (rest, (e, (are, (leads, (there, leave_on (past_branch part x) e d rest left l led stood))))))
 
 pub joined_on : (runs : List RootRun) (r : RootRun) → joined (runs ++ r ∷ []) ≡ joined runs ++ r.run.report
 joined_on runs r =
@@ -86,6 +110,17 @@ module _ (call : Call) (part : Part) where
   pub tree_after : (c : Cursor) (limits : Limits) (ran : RunEnd) → RunsFromWithin call part c limits ran → call.after.tree ≡ call.root
   tree_after c limits ran runs = tree_by (place_in c.state) runs.last limits ran.spent ran.files ran.found ran.end runs.run
 
+-- whatever a run did, it leaves the store's tree as it was
+pub tree_kept : (root : StorageRoot) (s t : Store) (old new : Option (List ℕ)) (part : Part) (c : Cursor) (limits : Limits) (ran : RunEnd) → s.tree ≡ root → (ran.end ≡ status.Worn → t ≡ s)
+    → (ran.end ≢ status.Worn → RunsFromWithin (call_of root s t old new) part c limits ran) → t.tree ≡ root
+tree_kept root s t old new part c limits ran over worn runs = by ran.end refl
+  where
+    by : (e : RunStatus) → ran.end ≡ e → t.tree ≡ root
+    by status.Ended is = tree_after (call_of root s t old new) part c limits ran (runs (λ x. absurd (cc (is, x))))
+    by status.Spent is = tree_after (call_of root s t old new) part c limits ran (runs (λ x. absurd (cc (is, x))))
+    by (status.Stopped why) is = tree_after (call_of root s t old new) part c limits ran (runs (λ x. absurd (cc (is, x))))
+    by status.Worn is = ap (λ (x : Store). x.tree) (worn is) ∙ over
+
 -- ---- closed reports
 
 pub closed_up : (part : Part) (n next : ℕ) (closed : List Closed) → AreClosed part n closed next → n ≤ next
@@ -134,3 +169,42 @@ last_closed part n last (d ∷ e ∷ closed) are le =
 pub closed_text_on : (closed : List Closed) (d : Closed) → closed_text (closed ++ d ∷ []) ≡ closed_text closed ++ d.report
 closed_text_on closed d =
     flat_map-append (λ (x : Closed). x.report) closed (d ∷ []) ∙ ap (λ (l : Text). closed_text closed ++ l) (append-nil d.report)
+
+-- ---- the place past a branch
+
+past_last : (d : Place) (n : Text) → past (d ++ n ∷ []) ≡ d ++ (n ++ 1 ∷ []) ∷ []
+past_last [] n = refl
+past_last (k ∷ []) n = refl
+past_last (k ∷ m ∷ d) n = ap (λ (p : Place). k ∷ p) (past_last (m ∷ d) n)
+
+-- it has another last name
+pub past_is : (b d : Place) (n : Text) → b ≡ d ++ n ∷ [] → take (length b - 1) b ++ (n ++ 1 ∷ []) ∷ [] ≡ past b
+past_is b d n is =
+    let long : length b - 1 ≡ length d = omega (arith, ap length is, length-append d (n ∷ [])) in
+    let front : take (length b - 1) b ≡ d = ap (λ (m : ℕ). take m b) long ∙ ap (take (length d)) is ∙ take-append-le (length d) d (n ∷ []) (omega arith) ∙ take_all (length d) d (omega arith) in
+    ap (λ (p : Place). p ++ (n ++ 1 ∷ []) ∷ []) front ∙ sym (past_last d n) ∙ ap past (sym is)
+
+-- a part past several branches is that past the last of them
+pub after_is : (u : Place) (f b : Option Place) (left : List Left) → part_after (record { under = u; from = f; below = b }) left ≡ record { under = u; from = from_after f left; below = b }
+after_is u f b [] = refl
+after_is u f b (l ∷ left) = after_is u (Some (past l.place)) b left
+
+last_at : (from : Option Place) (left : List Left) (m : ℕ) (l : Left) → length left ≡ m + 1 → slice_get left m ≡ Some l → from_after from left ≡ Some (past l.place)
+last_at from [] m l long is = absurd (omega (arith, long))
+last_at from (x ∷ []) zero l long is = let same : x ≡ l = cc is in ap (λ (y : Left). Some (past y.place)) same
+last_at from (x ∷ []) (suc m) l long is = absurd (omega (arith, long))
+last_at from (x ∷ y ∷ left) zero l long is = absurd (omega (arith, long))
+last_at from (x ∷ y ∷ left) (suc m) l long is = last_at (Some (past x.place)) (y ∷ left) m l (omega (arith, long)) is
+
+none_at : (left : List Left) (m : ℕ) → suc m ≤ length left → slice_get left m ≡ None → ⊥
+none_at [] m less is = absurd (omega (arith, less))
+none_at (x ∷ left) zero less is = cc is
+none_at (x ∷ left) (suc m) less is = none_at left m (omega (arith, less)) is
+
+pub from_last : (from : Option Place) (left : List Left) (l : Left) → slice_get left (length left - 1) ≡ Some l → from_after from left ≡ Some (past l.place)
+from_last from [] l is = absurd (cc is)
+from_last from (x ∷ left) l is = last_at from (x ∷ left) (length (x ∷ left) - 1) l (omega arith) is
+
+pub from_none : (from : Option Place) (left : List Left) → slice_get left (length left - 1) ≡ None → from_after from left ≡ from
+from_none from [] is = refl
+from_none from (x ∷ left) is = absurd (none_at (x ∷ left) (length (x ∷ left) - 1) (omega arith) is)

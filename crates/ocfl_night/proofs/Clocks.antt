@@ -1,7 +1,8 @@
 -- How runs are begun by a clock.
-use Rattle.std.proofs.Common.{◌≡◌, ℕ, ◌+◌, ◌≤◌, List, [], ◌∷◌, ◌++◌, Option, Some, None, refl, sym, ◌∙◌, ap, subst, arith, append_assoc, Bool, true}
+use Rattle.std.proofs.Common.{◌≡◌, ℕ, ◌+◌, ◌≤◌, List, [], ◌∷◌, ◌++◌, Option, Some, None, refl, sym, ◌∙◌, ap, subst, arith, append_assoc, Bool, true, Result, Ok, Err}
 use Rattle.std.proofs.lemmas.List.{append-nil}
 use Rattle.std.specs.Prelude.{nat_lt, if◌then◌else◌}
+use Rattle.std.specs.Result.{OnOk}
 use Rattle.ocfl_night.specs.Clock.{answers_before, MayBegin, BeginsInTime}
 
 counted_on : (n x y z : ℕ) → x ≡ y + z → n + x ≡ (n + y) + z
@@ -51,3 +52,8 @@ no_end old n = record { asked = []; are = sym (append-nil old); begun = 1; few =
 
 pub fewer : (end : Option ℕ) (a b : List ℕ) (k m n : ℕ) → BeginsInTime end a b k m → n ≤ m → BeginsInTime end a b k n
 fewer end a b k m n p le = record { asked = p.asked; are = p.are; begun = p.begun; few = p.few; counted = omega (arith, p.counted, le) }
+
+-- what holds anyway holds of a value, where there is one
+pub if_ok : {T E P : Type 0} (r : Result T E) → P → OnOk r P
+if_ok (Ok x) p = p
+if_ok (Err e) p = tt

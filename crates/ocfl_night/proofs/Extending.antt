@@ -10,18 +10,16 @@ use Rattle.ocfl_item.specs.declared.fault.Fault.TheVariants as fault
 use Rattle.ocfl_scrub.specs.Joining.{PartRun, Ran}
 use Rattle.ocfl_scrub.specs.declared.running.RunEnd.{RunEnd}
 use Rattle.ocfl_scrub.specs.declared.running.RunStatus.TheVariants as status
-use Rattle.ocfl_state.specs.Content.{Content, with_report}
-use Rattle.ocfl_night.specs.Steps.{IsExtended}
+use Rattle.ocfl_night.specs.Steps.{IsRun}
 
 abbrev pub HasReport : StorageRoot → Part → Cursor → Limits → RunEnd → Text → Text → Type 0
 HasReport root part c limits ran old new = (r : PartRun) × ((cut : Text) × ((r.limits ≡ limits) × ((r.ran ≡ ran)
     × ((new ≡ old ++ (r.report ++ cut)) × ((ran.end ≢ status.Stopped fault.Output → cut ≡ []) × Ran root part c r)))))
 
-pub extended : (root : StorageRoot) (part : Part) (c : Cursor) (limits : Limits) (ran : RunEnd) (old new : Text) (f g : Content) → HasReport root part c limits ran old new → old ≡ [] → ran.end ≢ status.Stopped fault.Output
-    → g ≡ with_report (f.report ++ new) f → IsExtended part c root f g ran
-extended root part c limits ran old new f g h empty whole grown =
+pub run_of : (root : StorageRoot) (part : Part) (c : Cursor) (limits : Limits) (ran : RunEnd) (old new : Text) → HasReport root part c limits ran old new → old ≡ [] → ran.end ≢ status.Stopped fault.Output → IsRun part c root new ran
+run_of root part c limits ran old new h empty whole =
     let r = h.0 in
     let rest = h.1.1 in
     let cut = h.1.0 in
     let text : new ≡ r.report = rest.1.1.0 ∙ ap (λ (l : Text). l ++ (r.report ++ cut)) empty ∙ ap (λ (l : Text). r.report ++ l) (rest.1.1.1.0 whole) ∙ append-nil r.report in
-    record { run = r; ran_is = rest.1.0; made = rest.1.1.1.1; grown = grown ∙ ap (λ (l : Text). with_report (f.report ++ l) f) text }
+    record { run = r; ran_is = rest.1.0; made = rest.1.1.1.1; lines_are = text }

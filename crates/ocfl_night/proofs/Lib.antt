@@ -1,10 +1,13 @@
-pub mod Texts
 pub mod Moments
 pub mod Chains
 pub mod Sound
 pub mod Heard
 pub mod AnyNights
 pub mod TakingUp
+pub mod Foreigners
 pub mod Pieces
 pub mod Extending
 pub mod Clocks
+pub mod Compared
+pub mod Lost
+pub mod Around

@@ -1,14 +1,18 @@
 -- Chains of runs: what nights write of one cycle, each run from the cursor that the one before it
 -- answered.
-use Rattle.std.specs.Prelude.{◌≡◌, ◌≢◌, ℕ, ◌+◌, List, [], ◌∷◌, true, None, flat_map}
-use Rattle.ocfl_tree.specs.Place.{Text}
+use Rattle.std.specs.Prelude.{◌≡◌, ◌≢◌, ℕ, ◌+◌, List, [], ◌∷◌, ◌++◌, true, not, Option, Some, None, filter, flat_map}
+use Rattle.std.specs.Ordering.{is_lt}
+use Rattle.ocfl_tree.specs.Place.{Text, Place, place_cmp}
 use Rattle.ocfl_tree.specs.StorageRoot.{StorageRoot}
-use Rattle.ocfl_audit.specs.Parts.{Part}
+use Rattle.ocfl_report.specs.Line.{Item}
+use Rattle.ocfl_audit.specs.Audit.{after}
+use Rattle.ocfl_audit.specs.Parts.{Part, within}
 use Rattle.ocfl_cursor.specs.Cursor.{Cursor}
 use Rattle.ocfl_scrub.specs.Running.{place_in}
 use Rattle.ocfl_scrub.specs.Joining.{PartRun, Ran}
 use Rattle.ocfl_scrub.specs.declared.running.RunStatus.TheVariants as status
 use Rattle.ocfl_state.specs.Content.{Closed}
+use Rattle.ocfl_state.specs.declared.checkpoint_parts.Left.{Left}
 
 -- a run, and the storage root as it was then
 pub record RootRun : Type 0 where
@@ -30,6 +34,55 @@ abbrev pub EndAt : Part → Cursor → List RootRun → Cursor → Type 0
 EndAt part c [] d = ⊥
 EndAt part c (r ∷ []) d = Ran r.root part c r.run × (r.run.ran.end ≡ status.Ended) × (d ≡ r.run.ran.cursor)
 EndAt part c (r ∷ q ∷ runs) d = Ran r.root part c r.run × (r.run.ran.end ≢ status.Ended) × EndAt part r.run.ran.cursor (q ∷ runs) d
+
+-- ---- branches that are left out
+
+-- the place with the byte 1 after its last name: its branch lies before that
+abbrev pub past : Place → Place
+past [] = []
+past (n ∷ []) = (n ++ 1 ∷ []) ∷ []
+past (n ∷ m ∷ p) = n ∷ past (m ∷ p)
+
+-- what of a part comes after a branch
+abbrev pub past_branch : Part → Left → Part
+past_branch part l = record part { from = Some (past l.place) }
+
+-- and after several, left out one after the other
+abbrev pub part_after : Part → List Left → Part
+part_after part [] = part
+part_after part (l ∷ left) = part_after (past_branch part l) left
+
+-- where that begins, of what begins at a place
+abbrev pub from_after : Option Place → List Left → Option Place
+from_after from [] = from
+from_after from (l ∷ left) = from_after (Some (past l.place)) left
+
+-- Runs of a part, and of what comes after each branch that was left out. The cursor then stood where
+-- that says, and stays there. The last leg is one of these.
+abbrev pub LedBy : (Part → Cursor → List RootRun → Cursor → Type 0) → Part → Cursor → List RootRun → List Left → Cursor → Type 0
+LedBy Last part c runs [] d = Last part c runs d
+LedBy Last part c runs (l ∷ left) d =
+    (first : List RootRun) × ((rest : List RootRun) × ((e : Cursor) × ((runs ≡ first ++ rest) × (LeadTo part c first e × ((place_in e.state ≡ l.after) × LedBy Last (past_branch part l) e rest left d)))))
+
+-- the cycle goes on, or has ended
+abbrev pub Led : Part → Cursor → List RootRun → List Left → Cursor → Type 0
+Led part c runs left d = LedBy LeadTo part c runs left d
+
+abbrev pub LedToEnd : Part → Cursor → List RootRun → List Left → Cursor → Type 0
+LedToEnd part c runs left d = LedBy EndAt part c runs left d
+
+-- items that are not above a place
+abbrev pub up_to : Option Place → List Item → List Item
+up_to None items = []
+up_to (Some p) items = filter (λ i. not (is_lt (place_cmp p i.place))) items
+
+-- Of some items those of a part, above a place, without what was left out: those up to where the
+-- first branch was left out, and from there on those that come after the branch.
+abbrev pub around : Part → Option Place → List Left → List Item → List Item
+around part from [] items = after (within part items) from
+around part from (l ∷ left) items = up_to l.after (after (within part items) from) ++ around (past_branch part l) l.after left items
+
+-- ---- closed reports
 
 -- a closed report is what a whole chain of its cycle wrote
 pub record IsWholeReport (part : Part) (d : Closed) : Type 0 where

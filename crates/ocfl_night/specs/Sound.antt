@@ -5,59 +5,60 @@ use Rattle.ocfl_tree.specs.Place.{Text}
 use Rattle.ocfl_audit.specs.Parts.{Part}
 use Rattle.ocfl_cursor.specs.Cursor.{Cursor, ended}
 use Rattle.ocfl_scrub.specs.Running.{place_in, begun}
+use Rattle.ocfl_state.specs.Checkpoint.{Checkpoint, IsCheckpointText}
 use Rattle.ocfl_state.specs.Content.{Content, Closed}
 use Rattle.ocfl_state.specs.Crash.{Outcomes, Begins, Only}
-use Rattle.ocfl_night.specs.Mark.{IsTextOf}
-use Rattle.ocfl_night.specs.Chain.{RootRun, joined, LeadTo, EndAt, AreClosed}
-use Rattle.ocfl_night.specs.declared.shape.Mark.{Mark}
-use Rattle.ocfl_night.specs.declared.shape.Phase.TheVariants.{Open, Closing}
+use Rattle.ocfl_state.specs.Pieces.{summary_of}
+use Rattle.ocfl_state.specs.declared.checkpoint_parts.Phase.TheVariants.{Open, Closing}
+use Rattle.ocfl_night.specs.Chain.{RootRun, joined, Led, LedToEnd, AreClosed}
 
 -- the closed reports, joined
 abbrev pub closed_text : List Closed → Text
 closed_text closed = flat_map (λ d. d.report) closed
 
--- The cycle goes on: a chain of runs leads to the checkpoint's cursor. The report begins with as
--- many bytes as the checkpoint says, and where nothing was lost these are what the runs wrote. Of
--- all the reports t was told.
-pub record IsOpen (part : Part) (t : Text) (k : Mark) (c : Content) : Type 0 where
+-- The cycle goes on: a chain of runs leads to the checkpoint's cursor, around the branches that it
+-- names as left out. The report begins with the
+-- text of which the checkpoint has the length, the lines and the digests, and where nothing was lost
+-- that is what the runs wrote. Of all the reports t was told.
+pub record IsOpen (part : Part) (t : Text) (k : Checkpoint) (c : Content) : Type 0 where
   pub phase : k.phase ≡ Open
   pub first : Cursor
   pub runs : List RootRun
   pub starts : place_in first.state ≡ None
-  pub chain : LeadTo part first runs k.cursor
+  pub chain : Led part first runs k.left k.cursor
   pub text : Text
-  pub bytes : k.bytes ≡ length text
+  pub report : k.report ≡ summary_of text
   pub begins : Begins text c.report
   pub is_whole : k.whole ≡ true → text ≡ joined runs
-  pub told : k.told ≤ k.bytes
+  pub told : k.told ≤ k.report.bytes
   pub told_is : t ≡ closed_text c.closed ++ take k.told text
   pub earlier : AreClosed part 1 c.closed (begun k.cursor).cycle
 
 -- the cycle has ended, and its report is to be closed
-pub record IsClosing (part : Part) (t : Text) (k : Mark) (c : Content) : Type 0 where
+pub record IsClosing (part : Part) (t : Text) (k : Checkpoint) (c : Content) : Type 0 where
   pub phase : k.phase ≡ Closing
   pub first : Cursor
   pub runs : List RootRun
   pub starts : place_in first.state ≡ None
-  pub chain : EndAt part first runs k.cursor
+  pub chain : LedToEnd part first runs k.left k.cursor
   pub ends : k.cursor.state ≡ ended
-  pub bytes : k.bytes ≡ length c.report
+  pub report : k.report ≡ summary_of c.report
   pub is_whole : k.whole ≡ true → c.report ≡ joined runs
-  pub told : k.told ≤ k.bytes
+  pub told : k.told ≤ k.report.bytes
   pub told_is : t ≡ closed_text c.closed ++ take k.told c.report
   pub earlier : AreClosed part 1 c.closed k.cursor.cycle
 
 -- it is closed, and all of it was told
-pub record IsMoved (part : Part) (t : Text) (k : Mark) (c : Content) : Type 0 where
+pub record IsMoved (part : Part) (t : Text) (k : Checkpoint) (c : Content) : Type 0 where
   pub phase : k.phase ≡ Closing
   pub ends : k.cursor.state ≡ ended
   pub counted : 1 ≤ k.cursor.cycle
-  pub report : c.report ≡ []
-  pub told : k.told ≡ k.bytes
+  pub empty : c.report ≡ []
+  pub told : k.told ≡ k.report.bytes
   pub told_is : t ≡ closed_text c.closed
   pub earlier : AreClosed part 1 c.closed (k.cursor.cycle + 1)
 
-abbrev pub Stands : Part → Text → Mark → Content → Type 0
+abbrev pub Stands : Part → Text → Checkpoint → Content → Type 0
 Stands part t k c = IsOpen part t k c ⊎ (IsClosing part t k c ⊎ IsMoved part t k c)
 
 -- no night was there
@@ -68,9 +69,9 @@ pub record IsNew (t : Text) (c : Content) : Type 0 where
 
 -- these are the text of a checkpoint, and the report and the closed ones are as it says
 pub record IsMarked (part : Part) (t : Text) (bytes : List ℕ) (c : Content) : Type 0 where
-  pub mark : Mark
-  pub is : IsTextOf bytes mark
-  pub stands : Stands part t mark c
+  pub checkpoint : Checkpoint
+  pub is : IsCheckpointText bytes checkpoint
+  pub stands : Stands part t checkpoint c
 
 -- a content is as nights over a part leave it, which have told this text
 abbrev pub IsSoundAt : Part → Text → Content → Type 0
@@ -84,29 +85,29 @@ abbrev pub IsKept : {F : Type 0} → (F → Outcomes) → Part → F → Type 0
 IsKept may_leave part folder = (c : Content) → may_leave folder c → IsSound part c
 
 -- the checkpoint is this one
-pub record IsAt (k : Mark) (c : Content) : Type 0 where
+pub record IsAt (k : Checkpoint) (c : Content) : Type 0 where
   pub bytes : List ℕ
   pub is : c.checkpoint ≡ Some bytes
-  pub text : IsTextOf bytes k
+  pub text : IsCheckpointText bytes k
 
 -- the folder is at this checkpoint, and all that is read is on the disk
-pub record IsSettled {F : Type 0} (seen : F → Content) (may_leave : F → Outcomes) (part : Part) (t : Text) (k : Mark) (folder : F) : Type 0 where
+pub record IsSettled {F : Type 0} (seen : F → Content) (may_leave : F → Outcomes) (part : Part) (t : Text) (k : Checkpoint) (folder : F) : Type 0 where
   pub at : IsAt k (seen folder)
   pub stands : Stands part t k (seen folder)
   pub only : Only (seen folder) (may_leave folder)
 
 -- the same, and the report of a cycle that goes on has no more than the checkpoint says
-pub record IsReady {F : Type 0} (seen : F → Content) (may_leave : F → Outcomes) (part : Part) (t : Text) (k : Mark) (folder : F) : Type 0 where
+pub record IsReady {F : Type 0} (seen : F → Content) (may_leave : F → Outcomes) (part : Part) (t : Text) (k : Checkpoint) (folder : F) : Type 0 where
   pub at : IsAt k (seen folder)
   pub stands : Stands part t k (seen folder)
-  pub exact : k.phase ≡ Open → length (seen folder).report ≡ k.bytes
+  pub exact : k.phase ≡ Open → length (seen folder).report ≡ k.report.bytes
   pub only : Only (seen folder) (may_leave folder)
 
 -- all of its report is said
 pub record IsAllSaid (c : Content) : Type 0 where
-  pub mark : Mark
-  pub at : IsAt mark c
-  pub all : mark.told ≡ mark.bytes
+  pub checkpoint : Checkpoint
+  pub at : IsAt checkpoint c
+  pub all : checkpoint.told ≡ checkpoint.report.bytes
 
 -- ---- what an output heard
 
@@ -118,7 +119,7 @@ pub record IsHeard (part : Part) (t : Text) (old new : Option Text) (c : Content
   pub took : Appends old new (more ++ others)
 
 -- a folder is ready, with t and more told, and that is what an output took since then
-pub record IsHeardReady {F : Type 0} (seen : F → Content) (may_leave : F → Outcomes) (part : Part) (t : Text) (old new : Option Text) (k : Mark) (folder : F) : Type 0 where
+pub record IsHeardReady {F : Type 0} (seen : F → Content) (may_leave : F → Outcomes) (part : Part) (t : Text) (old new : Option Text) (k : Checkpoint) (folder : F) : Type 0 where
   pub more : Text
   pub ready : IsReady seen may_leave part (t ++ more) k folder
   pub took : Appends old new more
@@ -132,7 +133,7 @@ pub record IsFound (part : Part) (outcomes : Outcomes) (c : Content) : Type 0 wh
   pub now : IsSoundAt part t c
 
 -- a folder is ready, with what one of these outcomes told
-pub record IsFoundReady {F : Type 0} (seen : F → Content) (may_leave : F → Outcomes) (part : Part) (outcomes : Outcomes) (k : Mark) (folder : F) : Type 0 where
+pub record IsFoundReady {F : Type 0} (seen : F → Content) (may_leave : F → Outcomes) (part : Part) (outcomes : Outcomes) (k : Checkpoint) (folder : F) : Type 0 where
   pub from : Content
   pub was : outcomes from
   pub t : Text
@@ -148,7 +149,7 @@ pub record IsHeardSince (part : Part) (outcomes : Outcomes) (old new : Option Te
   pub heard : IsHeard part t old new c
 
 -- a folder is ready, with what one of these outcomes told and what an output took since then
-pub record IsReadySince {F : Type 0} (seen : F → Content) (may_leave : F → Outcomes) (part : Part) (outcomes : Outcomes) (old new : Option Text) (k : Mark) (folder : F) : Type 0 where
+pub record IsReadySince {F : Type 0} (seen : F → Content) (may_leave : F → Outcomes) (part : Part) (outcomes : Outcomes) (old new : Option Text) (k : Checkpoint) (folder : F) : Type 0 where
   pub from : Content
   pub was : outcomes from
   pub t : Text

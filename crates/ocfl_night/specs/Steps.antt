@@ -1,16 +1,91 @@
 -- What the steps of a night do to a state folder.
-use Rattle.std.specs.Prelude.{◌≡◌, ◌≢◌, ◌⊎◌, ℕ, ◌≤◌, ◌++◌, Bool, IsTrue, false, length}
+use Rattle.std.specs.Prelude.{◌≡◌, ◌≢◌, ◌⊎◌, ℕ, ◌-◌, ◌≤◌, [], ◌∷◌, ◌++◌, ◌&&◌, Bool, IsTrue, true, false, length, take, drop, ⊤}
+use Rattle.ocfl_tree.specs.Place.{Text, Place}
 use Rattle.ocfl_tree.specs.StorageRoot.{StorageRoot}
+use Rattle.ocfl_audit.specs.Lines.{is_empty}
 use Rattle.ocfl_audit.specs.Parts.{Part}
 use Rattle.ocfl_cursor.specs.Cursor.{Cursor}
+use Rattle.ocfl_scrub.specs.Running.{place_in}
 use Rattle.ocfl_scrub.specs.Joining.{PartRun, Ran}
 use Rattle.ocfl_scrub.specs.declared.running.RunEnd.{RunEnd}
 use Rattle.ocfl_scrub.specs.declared.running.RunStatus.TheVariants as status
-use Rattle.ocfl_state.specs.Content.{Bytes, Content, with_checkpoint, with_report, moved, is_closed}
-use Rattle.ocfl_state.specs.Crash.{Step, Begins}
-use Rattle.ocfl_night.specs.Mark.{IsTextOf}
-use Rattle.ocfl_night.specs.declared.shape.Mark.{Mark}
-use Rattle.ocfl_night.specs.declared.shape.Phase.TheVariants.{Open, Closing}
+use Rattle.ocfl_state.specs.Checkpoint.{Checkpoint, IsCheckpointText}
+use Rattle.ocfl_state.specs.Content.{Bytes, Content, with_checkpoint, moved, is_closed}
+use Rattle.ocfl_state.specs.Crash.{Outcomes, Step, Same, Begins, Passes}
+use Rattle.ocfl_state.specs.Pieces.{HasTail, summary_of}
+use Rattle.ocfl_state.specs.declared.checkpoint_parts.Left.{Left}
+use Rattle.ocfl_state.specs.declared.checkpoint_parts.ReportMark.{ReportMark}
+use Rattle.ocfl_state.specs.declared.checkpoint_parts.Phase.TheVariants.{Open, Closing}
+use Rattle.ocfl_night.specs.Site.{no_report}
+use Rattle.ocfl_night.specs.declared.plan.Halt.{Halt}
+use Rattle.ocfl_night.specs.declared.plan.Halt.TheVariants as halt
+
+-- ---- what is made of a checkpoint
+
+-- all of its report is said
+abbrev pub with_all_told : Checkpoint → Checkpoint
+with_all_told k = record k { told = k.report.bytes }
+
+-- that of the next cycle, of whose report there is nothing yet
+abbrev pub begun_anew : Checkpoint → Checkpoint
+begun_anew k = record k { phase = Open; whole = true; report = no_report; told = 0; left = [] }
+
+-- a branch is left out where the cursor stands
+abbrev pub left_at : Place → Checkpoint → Left
+left_at branch k = record { place = branch; after = place_in k.cursor.state }
+
+abbrev pub with_left : Place → Checkpoint → Checkpoint
+with_left branch k = record k { left = k.left ++ left_at branch k ∷ [] }
+
+-- a cycle is closed as whole if nothing of its report was lost and no branch was left out
+abbrev pub closes_whole : Checkpoint → Bool
+closes_whole k = k.whole && is_empty k.left
+
+-- that after a run, of which it keeps the report so
+pub record IsNext (k : Checkpoint) (ran : RunEnd) (report : ReportMark) (next : Checkpoint) : Type 0 where
+  pub ended : ran.end ≡ status.Ended → next.phase ≡ Closing
+  pub goes_on : ran.end ≢ status.Ended → next.phase ≡ Open
+  pub report_is : next.report ≡ report
+  pub cursor_is : next.cursor ≡ ran.cursor
+  pub whole_is : next.whole ≡ k.whole
+  pub told_is : next.told ≡ k.told
+  -- and whose it is
+  pub root_is : next.root ≡ k.root
+  pub names_are : next.names ≡ k.names
+  pub left_is : next.left ≡ k.left
+  pub part_is : next.part ≡ k.part
+
+-- that of a report that is another one than it says: it keeps what is there
+pub record IsShortened (k : Checkpoint) (report : ReportMark) (next : Checkpoint) : Type 0 where
+  pub report_is : next.report ≡ report
+  pub whole_is : next.whole ≡ false
+  pub told : next.told ≤ report.bytes
+  pub cursor_is : next.cursor ≡ k.cursor
+  pub phase_is : next.phase ≡ k.phase
+  pub part_is : next.part ≡ k.part
+
+-- ---- whether a report is as a checkpoint says
+
+-- it begins with a text that has this mark
+pub record BeginsAs (mark : ReportMark) (report : Bytes) : Type 0 where
+  pub text : Bytes
+  pub is : mark ≡ summary_of text
+  pub begins : Begins text report
+
+-- it is shorter than the checkpoint says, or has another tail: bytes of it were lost or changed
+abbrev pub IsChanged : Checkpoint → Content → Type 0
+IsChanged k c = HasTail k.report c.report → ⊥
+
+-- the same of a report that is not closed yet
+pub record IsLost (k : Checkpoint) (c : Content) : Type 0 where
+  pub there : k.phase ≡ Closing → is_closed c.closed k.cursor.cycle ≡ false
+  pub changed : IsChanged k c
+
+-- what was not said of the report
+abbrev pub unsaid : Checkpoint → Content → Text
+unsaid k c = take (k.report.bytes - k.told) (drop k.told c.report)
+
+-- ---- what is done to a folder
 
 -- The report alone may differ, and of its first n bytes those that were there stay.
 pub record KeepsFront (n : ℕ) (old new : Content) : Type 0 where
@@ -19,13 +94,13 @@ pub record KeepsFront (n : ℕ) (old new : Content) : Type 0 where
   pub front : (text : Bytes) → length text ≤ n → Begins text old.report → Begins text new.report
 
 -- the checkpoint as before, or this one
-abbrev pub MayMark : Mark → Step
-MayMark k old new = (new ≡ old) ⊎ ((bytes : Bytes) × (IsTextOf bytes k × (new ≡ with_checkpoint bytes old)))
+abbrev pub MayCheckpoint : Checkpoint → Step
+MayCheckpoint k old new = (new ≡ old) ⊎ ((bytes : Bytes) × (IsCheckpointText bytes k × (new ≡ with_checkpoint bytes old)))
 
 -- the checkpoint is this one, and nothing else is changed
-pub record IsMarkPut (k : Mark) (old new : Content) : Type 0 where
+pub record IsCheckpointPut (k : Checkpoint) (old new : Content) : Type 0 where
   pub bytes : Bytes
-  pub text : IsTextOf bytes k
+  pub text : IsCheckpointText bytes k
   pub put : new ≡ with_checkpoint bytes old
 
 -- the report of that cycle is closed: it was already, or has become it now
@@ -36,26 +111,20 @@ IsMoveDone cycle whole old new = (IsTrue (is_closed old.closed cycle) × (new �
 abbrev pub MayMoveAt : ℕ → Bool → Content → Step
 MayMoveAt cycle whole shown old new = (new ≡ old) ⊎ ((is_closed shown.closed cycle ≡ false) × (new ≡ moved cycle whole old))
 
--- a run was made from a cursor, and the report has its lines
-pub record IsExtended (part : Part) (c : Cursor) (root : StorageRoot) (old new : Content) (ran : RunEnd) : Type 0 where
+-- a run was made from a cursor over a root, and wrote these lines
+pub record IsRun (part : Part) (c : Cursor) (root : StorageRoot) (lines : Text) (ran : RunEnd) : Type 0 where
   pub run : PartRun
   pub ran_is : run.ran ≡ ran
   pub made : Ran root part c run
-  pub grown : new ≡ with_report (old.report ++ run.report) old
+  pub lines_are : lines ≡ run.report
 
--- the checkpoint after a run
-pub record IsNext (whole : Bool) (told : ℕ) (ran : RunEnd) (bytes : ℕ) (next : Mark) : Type 0 where
-  pub ended : ran.end ≡ status.Ended → next.phase ≡ Closing
-  pub goes_on : ran.end ≢ status.Ended → next.phase ≡ Open
-  pub whole_is : next.whole ≡ whole
-  pub told_is : next.told ≡ told
-  pub bytes_is : next.bytes ≡ bytes
-  pub cursor_is : next.cursor ≡ ran.cursor
+-- a folder stays as it was, whenever a crash comes
+pub record IsUntouched {F : Type 0} (seen : F → Content) (may_leave : F → Outcomes) (moment : F → ℕ) (left_since : F → ℕ → Outcomes) (old new : F) : Type 0 where
+  pub same : seen new ≡ seen old
+  pub crash : Passes may_leave moment left_since Same old new
 
--- the same checkpoint, but all of its report is said
-pub record IsAllTold (mark next : Mark) : Type 0 where
-  pub phase_is : next.phase ≡ mark.phase
-  pub whole_is : next.whole ≡ mark.whole
-  pub bytes_is : next.bytes ≡ mark.bytes
-  pub told_is : next.told ≡ next.bytes
-  pub cursor_is : next.cursor ≡ mark.cursor
+-- a night was refused, or something failed
+abbrev pub IsNotBegun : Halt → Type 0
+IsNotBegun (halt.Refused why) = ⊤
+IsNotBegun (halt.Troubled why) = ⊤
+IsNotBegun _ = ⊥

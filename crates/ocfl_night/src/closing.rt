@@ -1,16 +1,19 @@
 //! Closing the report of a cycle that has ended.
-ghost use Rattle.std.specs.Prelude.{◌≡◌, IfOk, IfSome, IsTrue, OnOk};
+ghost use Rattle.std.specs.Prelude.{◌≡◌, ◌≢◌, ◌⊎◌, false, IfOk, IfSome, IsTrue, OnOk};
 ghost use Rattle.ocfl_audit.specs.Parts.{Part};
 ghost use Rattle.ocfl_tree.specs.Place.{Text};
+ghost use Rattle.ocfl_state.specs.Content.{is_closed};
 ghost use Rattle.ocfl_state.specs.Crash.{LeavesOnly, Only, Passes};
+ghost use Rattle.ocfl_state.specs.Pieces.{summary_of};
+ghost use Rattle.ocfl_state.specs.declared.checkpoint_parts.Phase.TheVariants.{Closing};
 ghost use Rattle.ocfl_night.specs.Sound.{IsAllSaid, IsOneMore, IsReady, IsSoundAt};
-ghost use Rattle.ocfl_night.specs.Steps.{IsMoveDone, MayMoveAt};
-ghost use Rattle.ocfl_night.specs.declared.shape.Phase.TheVariants.{Closing};
+ghost use Rattle.ocfl_night.specs.Steps.{IsMoveDone, MayMoveAt, closes_whole};
 
-use crate::mark::put_mark;
-use crate::shape::{Mark, Phase};
+use crate::checkpoint::{
+    begun_anew, cycle_of, is_all_told, phase_of, put_checkpoint, report_of, whole_of,
+};
 use crate::stop::Stop;
-use ocfl_state::StateFolder;
+use ocfl_state::{Checkpoint, Phase, StateFolder, may_close_whole};
 use std::alloc::Global;
 
 /// Closes the report as that of a cycle, unless one of that cycle is closed.
@@ -29,41 +32,57 @@ fn move_report<S: StateFolder>(folder: &mut S, cycle: u64, whole: bool) -> Resul
     Ok(())
 }
 
+/// Closes the report as that of a checkpoint's cycle, unless one of that cycle is closed. It is
+/// read once, and not closed as whole where it is another one than the checkpoint says.
+fn move_as<S: StateFolder>(folder: &mut S, checkpoint: &Checkpoint) -> Result<(), Stop>
+    ensures moved { IsTrue S.told → (IsTrue (is_closed (S.seen folder.old).closed
+        checkpoint.now.cursor.cycle)
+        ⊎ (checkpoint.now.report ≡ summary_of (S.seen folder.old).report))
+        → OnOk result (IsMoveDone checkpoint.now.cursor.cycle
+        (closes_whole checkpoint.now) (S.seen folder.old) (S.seen folder.new)) }
+    ensures changed { IsTrue S.told → checkpoint.now.report ≢ summary_of (S.seen folder.old).report
+        → OnOk result (IsMoveDone checkpoint.now.cursor.cycle
+        false (S.seen folder.old) (S.seen folder.new)) }
+    ensures durable { IsTrue S.told → OnOk result
+        (Only (S.seen folder.old) (S.may_leave folder.old)
+        → Only (S.seen folder.new) (S.may_leave folder.new)) }
+    ensures crash { IsTrue S.told → (IsTrue (is_closed (S.seen folder.old).closed
+        checkpoint.now.cursor.cycle)
+        ⊎ (checkpoint.now.report ≡ summary_of (S.seen folder.old).report))
+        → Passes S.may_leave S.moment S.left_since
+        (MayMoveAt checkpoint.now.cursor.cycle (closes_whole checkpoint.now) (S.seen folder.old))
+        folder.old folder.new }
+{
+    let whole = may_close_whole(folder, &report_of(checkpoint), whole_of(checkpoint))?;
+    move_report(folder, cycle_of(checkpoint), whole)
+}
+
 /// Closes the report of a cycle that has ended, and begins the next one. `Unsaid` where not all of
 /// it was said.
-fn close<S: StateFolder>(alloc: Global, folder: &mut S, mark: Mark) -> Result<Mark, Stop>
-    requires { mark.phase ≡ Closing }
+fn close<S: StateFolder>(
+    alloc: Global,
+    folder: &mut S,
+    checkpoint: Checkpoint,
+) -> Result<Checkpoint, Stop>
+    requires { checkpoint.phase ≡ Closing }
     ensures any_moment { IsTrue S.told → (part : Part) (t : Text)
-        → IsReady S.seen S.may_leave part t mark folder.old
+        → IsReady S.seen S.may_leave part t checkpoint folder.old
         → LeavesOnly S.moment S.left_since folder.old folder.new (IsSoundAt part t) }
     ensures ready { IsTrue S.told → (part : Part) (t : Text)
-        → IsReady S.seen S.may_leave part t mark folder.old
+        → IsReady S.seen S.may_leave part t checkpoint folder.old
         → IfOk result (λ next. IsReady S.seen S.may_leave part t next folder.new) }
     ensures closed { IsTrue S.told → (part : Part) (t : Text)
-        → IsReady S.seen S.may_leave part t mark folder.old
-        → OnOk result (IsOneMore part mark.cursor.cycle
+        → IsReady S.seen S.may_leave part t checkpoint folder.old
+        → OnOk result (IsOneMore part checkpoint.cursor.cycle
         (S.seen folder.old).closed (S.seen folder.new).closed) }
-    ensures all { IfOk result (λ next. next.told ≡ next.bytes) }
+    ensures all { IfOk result (λ next. next.told ≡ next.report.bytes) }
 {
-    if mark.told != mark.bytes {
+    if !is_all_told(&checkpoint) {
         return Err(Stop::Unsaid);
     }
-    move_report(folder, mark.cursor.cycle(), mark.whole)?;
-    let Mark {
-        phase: _,
-        whole: _,
-        bytes: _,
-        told: _,
-        cursor,
-    } = mark;
-    let next = Mark {
-        phase: Phase::Open,
-        whole: true,
-        bytes: 0,
-        told: 0,
-        cursor,
-    };
-    put_mark(alloc, folder, &next)?;
+    move_as(folder, &checkpoint)?;
+    let next = begun_anew(alloc, checkpoint);
+    put_checkpoint(alloc, folder, &next)?;
     Ok(next)
 }
 
@@ -71,24 +90,25 @@ fn close<S: StateFolder>(alloc: Global, folder: &mut S, mark: Mark) -> Result<Ma
 pub fn finish<S: StateFolder>(
     alloc: Global,
     folder: &mut S,
-    mark: Mark,
+    checkpoint: Checkpoint,
 ) -> Result<Option<u64>, Stop>
     ensures any_moment { IsTrue S.told → (part : Part) (t : Text)
-        → IsReady S.seen S.may_leave part t mark folder.old
+        → IsReady S.seen S.may_leave part t checkpoint folder.old
         → LeavesOnly S.moment S.left_since folder.old folder.new (IsSoundAt part t) }
     ensures closed { IsTrue S.told → (part : Part) (t : Text)
-        → IsReady S.seen S.may_leave part t mark folder.old
+        → IsReady S.seen S.may_leave part t checkpoint folder.old
         → IfOk result (λ ended. IfSome ended (λ cycle. IsOneMore part cycle
         (S.seen folder.old).closed (S.seen folder.new).closed)) }
     ensures said { IsTrue S.told → (part : Part) (t : Text)
-        → IsReady S.seen S.may_leave part t mark folder.old
-        → mark.told ≡ mark.bytes → OnOk result (IsAllSaid (S.seen folder.new)) }
+        → IsReady S.seen S.may_leave part t checkpoint folder.old
+        → checkpoint.told ≡ checkpoint.report.bytes
+        → OnOk result (IsAllSaid (S.seen folder.new)) }
 {
-    match mark.phase {
+    match phase_of(&checkpoint) {
         Phase::Open => Ok(None),
         Phase::Closing => {
-            let cycle = mark.cursor.cycle();
-            close(alloc, folder, mark)?;
+            let cycle = cycle_of(&checkpoint);
+            close(alloc, folder, checkpoint)?;
             Ok(Some(cycle))
         }
     }

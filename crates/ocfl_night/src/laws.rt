@@ -5,9 +5,13 @@ ghost use Rattle.ocfl_tree.specs.StorageRoot.{StorageRoot};
 ghost use Rattle.ocfl_report.specs.Text.{text};
 ghost use Rattle.ocfl_audit.specs.Audit.{audit};
 ghost use Rattle.ocfl_audit.specs.Parts.{Part, within};
+ghost use Rattle.ocfl_audit.specs.Trail.{unread_of};
+ghost use Rattle.ocfl_cursor.specs.Cursor.{Cursor};
 ghost use Rattle.ocfl_scrub.specs.Joining.{unread_together};
+ghost use Rattle.ocfl_scrub.specs.Running.{place_in};
 ghost use Rattle.ocfl_state.specs.Content.{Closed, empty};
-ghost use Rattle.ocfl_night.specs.Chain.{IsWholeReport};
+ghost use Rattle.ocfl_state.specs.declared.checkpoint_parts.Left.{Left};
+ghost use Rattle.ocfl_night.specs.Chain.{IsWholeReport, LedToEnd, RootRun, around, joined};
 ghost use Rattle.ocfl_night.specs.Sound.{IsSound};
 ghost use Rattle.ocfl_night.specs.Nights.{AllTaken, AreNights, AreWhole, AtAnyMoment, Night};
 
@@ -48,3 +52,14 @@ pub fn a_whole_report_is_the_audit()
 {
     runs_that_stop_join();
 }
+
+/// The report of a cycle that left branches out is exactly the audit of the part up to where the
+/// first was left out, then what comes after that branch up to where the next was, and so on. All
+/// runs were over one storage root, and could read each content file that they opened.
+pub fn what_is_left_out_is_missing_alone()
+    ensures { (root : StorageRoot) (part : Part) (first last : Cursor) (runs : List RootRun)
+        (left : List Left) → LedToEnd part first runs left last
+        → AllByRecursion (λ r. r.root ≡ root) runs
+        → AllByRecursion (λ r. unread_of root r.run.opened ≡ []) runs
+        → joined runs ≡ text (around part (place_in first.state) left (audit root [])) }
+{}

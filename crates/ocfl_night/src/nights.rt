@@ -1,34 +1,54 @@
 //! A night.
-ghost use Rattle.std.specs.Prelude.{◌≡◌, ◌≢◌, ◌+◌, ◌≤◌, IfOk, IsOk, IsTrue, List, Ok, OnOk, Some, ℕ};
+ghost use Rattle.std.specs.Prelude.{◌≡◌, ◌≢◌, ◌⊎◌, ◌+◌, ◌≤◌, [], IfOk, IsErr, IsOk, IsTrue};
+ghost use Rattle.std.specs.Prelude.{List, Err, Ok, OnOk, Some, false, ℕ};
 ghost use Rattle.std.specs.Io.KnownBytes.{Appends};
 ghost use Rattle.ocfl_audit.specs.Parts.{Part as ModelPart};
 ghost use Rattle.ocfl_tree.specs.Place.{Text};
+ghost use Rattle.ocfl_tree.specs.Listing.{entries_in};
 ghost use Rattle.ocfl_tree.specs.Store.{IfTold};
+ghost use Rattle.ocfl_identity.specs.Identity.{declarations_among};
 ghost use Rattle.ocfl_item.specs.Judging.{HasShortFiles};
 ghost use Rattle.ocfl_scrub.specs.Starting.{part_of};
+ghost use Rattle.ocfl_state.specs.Checkpoint.{Checkpoint as ModelCheckpoint};
 ghost use Rattle.ocfl_state.specs.Crash.{LeavesOnly};
-ghost use Rattle.ocfl_night.specs.Sound.{IsAllSaid, IsHeard, IsHeardReady, IsHeardSince, IsKept, IsOneMore};
-ghost use Rattle.ocfl_night.specs.Sound.{IsReady, IsReadySince, IsSound};
+ghost use Rattle.ocfl_night.specs.Site.{IsAnothers, IsForeign, IsOtherThan, part_at};
+ghost use Rattle.ocfl_night.specs.Steps.{IsLost, IsNotBegun, IsUntouched};
+ghost use Rattle.ocfl_night.specs.Sound.{IsAllSaid, IsAt, IsHeard, IsHeardSince, IsKept, IsOneMore};
+ghost use Rattle.ocfl_night.specs.Sound.{IsReady, IsReadySince, IsSound, IsSoundAt};
 ghost use Rattle.ocfl_night.specs.Clock.{BeginsInTime};
 ghost use Rattle.ocfl_night.specs.Nights.{IsSafeNight};
 ghost use Rattle.ocfl_night.specs.declared.stop.Stop.{Stop as ModelStop};
 ghost use Rattle.ocfl_night.specs.declared.plan.Halt.TheVariants as halt;
-ghost use Rattle.ocfl_night.specs.declared.shape.Phase.TheVariants.{Open};
+ghost use Rattle.ocfl_night.specs.declared.refusal.NotOpened.TheVariants.{Refused};
+ghost use Rattle.ocfl_night.specs.declared.refusal.Refusal.{Refusal as ModelRefusal};
 
+use crate::checkpoint::phase_of;
 use crate::closing::finish;
+use crate::leaving::{branch_at, end_of, leave_out};
+use crate::looking::look_at;
 use crate::opening::open;
 use crate::plan::{Clock, Halt, NightEnd, Pause, Plan};
+use crate::refusal::NotOpened;
 use crate::saying::speak;
-use crate::shape::{Mark, Phase};
-use crate::slicing::{Made, slice};
+use crate::site::{Site, part_at};
+use crate::slicing::{Made, SliceEnd, slice};
 use crate::stop::Stop;
 use ocfl_cursor::{FileLimit, Limits};
 use ocfl_digest::Block;
-use ocfl_scrub::{Part, RunStatus};
-use ocfl_state::StateFolder;
-use ocfl_tree::Tree;
-use std::alloc::Global;
+use ocfl_identity::Identity;
+use ocfl_scrub::Part;
+use ocfl_state::{Checkpoint, Phase, StateFolder};
+use ocfl_tree::{Place, Tree};
+use ocfl_walk::Fault;
+use std::alloc::{AllocError, Global};
 use std::io::Write;
+
+/// How many branches a night leaves out at most.
+const MOST_LEFT: usize = 16;
+
+/// How many runs of a night stop at a place at most, so that a store that fails now here and now
+/// there ends it: two for each branch that is left out, and as many again.
+const MOST_STOPS: u64 = 64;
 
 /// What was done so far.
 #[derive(Debug, Drop)]
@@ -37,10 +57,16 @@ struct Tally {
     spent: u64,
     files: u64,
     found: bool,
+    /// How many runs stopped at a place.
+    stops: u64,
+    /// The place at which the last run stopped, if it is tried once more.
+    tried: Option<Place>,
+    /// The branches that were left out.
+    left: Vec<Place>,
 }
 
 impl Tally {
-    fn none() -> Tally
+    fn none(alloc: Global) -> Tally
         ensures { result.runs ≡ 0 }
     {
         Tally {
@@ -48,6 +74,9 @@ impl Tally {
             spent: 0,
             files: 0,
             found: false,
+            stops: 0,
+            tried: None,
+            left: Vec::new(alloc),
         }
     }
 
@@ -66,56 +95,76 @@ impl Tally {
         self.files = self.files.saturating_add(made.files);
         self.found = either(self.found, made.found);
     }
+
+    /// Whether a place that cannot be read is tried once more: not where it was just tried so.
+    fn tries_again(&mut self, place: &Place) -> Result<bool, AllocError>
+        ensures { self.new.runs ≡ self.old.runs }
+    {
+        if is_at(&self.tried, place) {
+            self.tried = None;
+            return Ok(false);
+        }
+        self.tried = Some(place.try_clone()?);
+        Ok(true)
+    }
+
+    /// The last run did not stop at a place.
+    fn forget_try(&mut self)
+        ensures { self.new.runs ≡ self.old.runs }
+    {
+        self.tried = None;
+    }
+
+    /// The branch that can be left out for a place that cannot be read. `None` where none can be.
+    fn branch_of(&self, alloc: Global, place: &Place) -> Result<Option<Place>, AllocError> {
+        if self.left.len() >= MOST_LEFT {
+            return Ok(None);
+        }
+        let branch = branch_at(place)?;
+        match end_of(alloc, &branch)? {
+            Some(_) => Ok(Some(branch)),
+            None => Ok(None),
+        }
+    }
+
+    /// The branch that is left out for a place at which a run stopped. `Err` where none is: the
+    /// place is tried once more, or the night is halted.
+    fn to_leave(
+        &mut self,
+        alloc: Global,
+        place: Place,
+        plan: &Plan,
+    ) -> Result<Result<Place, Option<Pause>>, AllocError>
+        ensures { self.new.runs ≡ self.old.runs }
+    {
+        self.stops = self.stops.saturating_add(1);
+        if plan.stop_at_faults || self.stops > MOST_STOPS {
+            return Ok(Err(Some(Pause::Stopped(Fault::Store(place)))));
+        }
+        if self.tries_again(&place)? {
+            return Ok(Err(None));
+        }
+        match self.branch_of(alloc, &place)? {
+            Some(branch) => {
+                self.left.push(branch.try_clone()?)?;
+                Ok(Ok(branch))
+            }
+            None => Ok(Err(Some(Pause::Stopped(Fault::Store(place))))),
+        }
+    }
+}
+
+/// Whether there is a place, and it is this one.
+fn is_at(tried: &Option<Place>, place: &Place) -> bool {
+    match tried {
+        Some(tried) => tried == place,
+        None => false,
+    }
 }
 
 /// Whether one of the two holds.
 fn either(first: bool, second: bool) -> bool {
     first || second
-}
-
-/// One run, and what is to be said of it.
-fn turn<S: StateFolder, T: Tree, W: Write>(
-    alloc: Global,
-    folder: &mut S,
-    tree: &mut T,
-    part: &Part,
-    mark: Mark,
-    limits: Limits,
-    block: &mut Block,
-    out: &mut W,
-) -> Result<Made, Stop>
-    requires { mark.phase ≡ Open }
-    ensures heard { IsTrue S.told → IfTold T.told (T.state tree.old) (λ root. HasShortFiles root
-        → (t : Text) → IsReady S.seen S.may_leave (part_of part.now) t mark folder.old
-        → LeavesOnly S.moment S.left_since folder.old folder.new
-        (IsHeard (part_of part.now) t (W.contents out.old) (W.contents out.new))) }
-    ensures ready { IsTrue S.told → IfTold T.told (T.state tree.old) (λ root. HasShortFiles root
-        → (t : Text) → IsReady S.seen S.may_leave (part_of part.now) t mark folder.old
-        → IfOk result (λ made. IsHeardReady S.seen S.may_leave (part_of part.now) t
-        (W.contents out.old) (W.contents out.new) made.mark folder.new)) }
-    ensures grew { (more : List ℕ) × Appends (W.contents out.old) (W.contents out.new) more }
-    ensures closed { IsTrue S.told → IfTold T.told (T.state tree.old) (λ root.
-        HasShortFiles root → OnOk result
-        ((S.seen folder.new).closed ≡ (S.seen folder.old).closed)) }
-    ensures root { IfTold T.told (T.state tree.old) (λ root. HasShortFiles root
-        → OnOk result ((T.state tree.new).tree ≡ root)) }
-    ensures all { IfOk result (λ made. made.mark.told ≡ made.mark.bytes) }
-{
-    let Made {
-        mark: sliced,
-        spent,
-        files,
-        found,
-        end,
-    } = slice(alloc, folder, tree, part, mark, limits, block)?;
-    let said = speak(alloc, folder, out, sliced)?;
-    Ok(Made {
-        mark: said,
-        spent,
-        files,
-        found,
-        end,
-    })
 }
 
 /// Whether the end of the plan has not come.
@@ -150,34 +199,47 @@ fn allowed<C: Clock>(plan: &Plan, clock: &mut C, tally: &Tally) -> Result<Limits
     ensures same { IsTrue C.told → (n : ℕ) → BeginsInTime plan.now.end
         (C.answers clock.old) (C.answers clock.new) n n }
 {
+    if clock.is_stopped() {
+        return Err(Pause::Asked);
+    }
     if !has_time(plan, clock) {
         return Err(Pause::TimeUp);
     }
     next_limits(plan, tally).ok_or(Pause::Spent)
 }
 
-/// Whether a night goes on after a run that ended so, or what halts it.
-fn pause_after(end: RunStatus) -> Option<Pause> {
+/// The place at which a slice stopped. `Err` if it stopped at none: with what halts the night, or
+/// with `None` if the night goes on.
+fn place_or_pause(end: SliceEnd) -> Result<Place, Option<Pause>> {
     match end {
-        RunStatus::Stopped(why) => Some(Pause::Stopped(why)),
-        RunStatus::Ended | RunStatus::Spent | RunStatus::Worn => None,
+        SliceEnd::Stopped(Fault::Store(place)) => Ok(place),
+        SliceEnd::Stopped(Fault::Memory) => Err(Some(Pause::Stopped(Fault::Memory))),
+        SliceEnd::Stopped(Fault::Output) => Err(Some(Pause::Stopped(Fault::Output))),
+        SliceEnd::Stopped(Fault::Broken) => Err(Some(Pause::Stopped(Fault::Broken))),
+        SliceEnd::Unread(place) => Err(Some(Pause::Stopped(Fault::Store(place)))),
+        SliceEnd::RootChanged => Err(Some(Pause::RootChanged)),
+        SliceEnd::Ended | SliceEnd::Spent => Err(None),
     }
 }
 
 /// What ends a night whose cycle has not ended.
 fn halt_of(pause: Pause) -> Halt
-    ensures { (cycle : ℕ) → result ≢ halt.CycleEnded cycle }
+    ensures not_ended { (cycle : ℕ) → result ≢ halt.CycleEnded cycle }
+    ensures unrefused { (why : ModelRefusal) → result ≢ halt.Refused why }
 {
     match pause {
         Pause::TimeUp => Halt::TimeUp,
         Pause::Spent | Pause::Closing => Halt::Spent,
+        Pause::Asked => Halt::Asked,
         Pause::Stopped(why) => Halt::Stopped(why),
+        Pause::RootChanged => Halt::RootChanged,
     }
 }
 
 /// What ends a night that has ended this cycle, or none.
 fn halt_after(ended: Option<u64>, pause: Pause) -> Halt
-    ensures { (cycle : ℕ) → result ≡ halt.CycleEnded cycle → ended ≡ Some cycle }
+    ensures ended { (cycle : ℕ) → result ≡ halt.CycleEnded cycle → ended ≡ Some cycle }
+    ensures unrefused { (why : ModelRefusal) → result ≢ halt.Refused why }
 {
     match ended {
         Some(cycle) => Halt::CycleEnded(cycle),
@@ -185,123 +247,196 @@ fn halt_after(ended: Option<u64>, pause: Pause) -> Halt
     }
 }
 
+/// Goes on after a run that stopped at a place: it is tried once more. If the run stops there
+/// again, the place's branch is left out. What halts the night where none can be, or is to be.
+fn pass_by<S: StateFolder>(
+    alloc: Global,
+    folder: &mut S,
+    checkpoint: Checkpoint,
+    place: Place,
+    plan: &Plan,
+    tally: &mut Tally,
+) -> Result<(Checkpoint, Option<Pause>), Stop>
+    ensures any_moment { IsTrue S.told → (part : ModelPart) (t : Text)
+        → IsReady S.seen S.may_leave part t checkpoint folder.old
+        → LeavesOnly S.moment S.left_since folder.old folder.new (IsSoundAt part t) }
+    ensures ready { IsTrue S.told → (part : ModelPart) (t : Text)
+        → IsReady S.seen S.may_leave part t checkpoint folder.old
+        → IfOk result (λ next. IsReady S.seen S.may_leave part t next.0 folder.new) }
+    ensures closed { IsTrue S.told → OnOk result
+        ((S.seen folder.new).closed ≡ (S.seen folder.old).closed) }
+    ensures runs { tally.new.runs ≡ tally.old.runs }
+{
+    if phase_of(&checkpoint) != Phase::Open {
+        return Ok((checkpoint, Some(Pause::Closing)));
+    }
+    match tally.to_leave(alloc, place, plan)? {
+        Ok(branch) => Ok((leave_out(alloc, folder, checkpoint, branch)?, None)),
+        Err(pause) => Ok((checkpoint, pause)),
+    }
+}
+
+/// Goes on after a slice, or says what halts the night then.
+fn go_on_after<S: StateFolder>(
+    alloc: Global,
+    folder: &mut S,
+    made: Made,
+    plan: &Plan,
+    tally: &mut Tally,
+) -> Result<(Checkpoint, Option<Pause>), Stop>
+    ensures any_moment { IsTrue S.told → (part : ModelPart) (t : Text)
+        → IsReady S.seen S.may_leave part t made.checkpoint folder.old
+        → LeavesOnly S.moment S.left_since folder.old folder.new (IsSoundAt part t) }
+    ensures ready { IsTrue S.told → (part : ModelPart) (t : Text)
+        → IsReady S.seen S.may_leave part t made.checkpoint folder.old
+        → IfOk result (λ next. IsReady S.seen S.may_leave part t next.0 folder.new) }
+    ensures closed { IsTrue S.told → OnOk result
+        ((S.seen folder.new).closed ≡ (S.seen folder.old).closed) }
+    ensures runs { tally.new.runs ≡ tally.old.runs }
+{
+    let Made {
+        checkpoint,
+        end,
+        ..
+    } = made;
+    match place_or_pause(end) {
+        Ok(place) => pass_by(alloc, folder, checkpoint, place, plan, tally),
+        Err(pause) => {
+            tally.forget_try();
+            Ok((checkpoint, pause))
+        }
+    }
+}
+
 /// One run more, if the cycle goes on and the plan allows it; and what halts the night then.
-fn go_on<S: StateFolder, T: Tree, C: Clock, W: Write>(
+fn go_on<S: StateFolder, T: Tree, C: Clock>(
     alloc: Global,
     folder: &mut S,
     tree: &mut T,
     part: &Part,
-    mark: Mark,
+    identity: &Identity,
+    checkpoint: Checkpoint,
     plan: &Plan,
     clock: &mut C,
     tally: &mut Tally,
     block: &mut Block,
-    out: &mut W,
-) -> Result<(Mark, Option<Pause>), Stop>
-    ensures heard { IsTrue S.told → IfTold T.told (T.state tree.old) (λ root. HasShortFiles root
-        → (t : Text) → IsReady S.seen S.may_leave (part_of part.now) t mark folder.old
+) -> Result<(Checkpoint, Option<Pause>), Stop>
+    ensures any_moment { IsTrue S.told → IfTold T.told (T.state tree.old) (λ root.
+        HasShortFiles root → (t : Text)
+        → IsReady S.seen S.may_leave (part_of part.now) t checkpoint folder.old
         → LeavesOnly S.moment S.left_since folder.old folder.new
-        (IsHeard (part_of part.now) t (W.contents out.old) (W.contents out.new))) }
-    ensures ready { IsTrue S.told → IfTold T.told (T.state tree.old) (λ root. HasShortFiles root
-        → (t : Text) → IsReady S.seen S.may_leave (part_of part.now) t mark folder.old
-        → IfOk result (λ next. IsHeardReady S.seen S.may_leave (part_of part.now) t
-        (W.contents out.old) (W.contents out.new) next.0 folder.new)) }
-    ensures grew { (more : List ℕ) × Appends (W.contents out.old) (W.contents out.new) more }
-    ensures closed { IsTrue S.told → IfTold T.told (T.state tree.old) (λ root.
-        HasShortFiles root → OnOk result
-        ((S.seen folder.new).closed ≡ (S.seen folder.old).closed)) }
+        (IsSoundAt (part_of part.now) t)) }
+    ensures ready { IsTrue S.told → IfTold T.told (T.state tree.old) (λ root.
+        HasShortFiles root → (t : Text)
+        → IsReady S.seen S.may_leave (part_of part.now) t checkpoint folder.old
+        → IfOk result (λ next. IsReady S.seen S.may_leave (part_of part.now) t
+        next.0 folder.new)) }
+    ensures closed { IsTrue S.told → OnOk result
+        ((S.seen folder.new).closed ≡ (S.seen folder.old).closed) }
     ensures root { IfTold T.told (T.state tree.old) (λ root. HasShortFiles root
-        → OnOk result ((T.state tree.new).tree ≡ root)) }
+        → (T.state tree.new).tree ≡ root) }
     ensures clock { IsTrue C.told → BeginsInTime plan.now.end
         (C.answers clock.old) (C.answers clock.new) tally.old.runs tally.new.runs }
-    ensures all { mark.told ≡ mark.bytes
-        → IfOk result (λ next. next.0.told ≡ next.0.bytes) }
 {
-    if mark.phase != Phase::Open {
-        return Ok((mark, Some(Pause::Closing)));
+    if phase_of(&checkpoint) != Phase::Open {
+        return Ok((checkpoint, Some(Pause::Closing)));
     }
     let limits = match allowed(plan, clock, tally) {
         Ok(limits) => limits,
-        Err(pause) => return Ok((mark, Some(pause))),
+        Err(pause) => return Ok((checkpoint, Some(pause))),
     };
     tally.begin();
-    let made = turn(alloc, folder, tree, part, mark, limits, block, out)?;
+    let made = slice(
+        alloc, folder, tree, part, identity, checkpoint, limits, block,
+    )?;
     tally.count(&made);
-    Ok((made.mark, pause_after(made.end)))
+    go_on_after(alloc, folder, made, plan, tally)
 }
 
 /// Makes runs until the cycle has ended, or something halts the night.
-fn runs<S: StateFolder, T: Tree, C: Clock, W: Write>(
+fn runs<S: StateFolder, T: Tree, C: Clock>(
     alloc: Global,
     folder: &mut S,
     tree: &mut T,
     part: &Part,
-    start: Mark,
+    identity: &Identity,
+    start: Checkpoint,
     plan: &Plan,
     clock: &mut C,
     tally: &mut Tally,
     block: &mut Block,
-    out: &mut W,
-) -> Result<(Mark, Pause), Stop>
-    ensures heard { IsTrue S.told → IfTold T.told (T.state tree.old) (λ root. HasShortFiles root
-        → (t : Text) → IsReady S.seen S.may_leave (part_of part.now) t start folder.old
+) -> Result<(Checkpoint, Pause), Stop>
+    ensures any_moment { IsTrue S.told → IfTold T.told (T.state tree.old) (λ root.
+        HasShortFiles root → (t : Text)
+        → IsReady S.seen S.may_leave (part_of part.now) t start folder.old
         → LeavesOnly S.moment S.left_since folder.old folder.new
-        (IsHeard (part_of part.now) t (W.contents out.old) (W.contents out.new))) }
-    ensures ready { IsTrue S.told → IfTold T.told (T.state tree.old) (λ root. HasShortFiles root
-        → (t : Text) → IsReady S.seen S.may_leave (part_of part.now) t start folder.old
-        → IfOk result (λ next. IsHeardReady S.seen S.may_leave (part_of part.now) t
-        (W.contents out.old) (W.contents out.new) next.0 folder.new)) }
-    ensures grew { (more : List ℕ) × Appends (W.contents out.old) (W.contents out.new) more }
-    ensures closed { IsTrue S.told → IfTold T.told (T.state tree.old) (λ root.
-        HasShortFiles root → OnOk result
-        ((S.seen folder.new).closed ≡ (S.seen folder.old).closed)) }
+        (IsSoundAt (part_of part.now) t)) }
+    ensures ready { IsTrue S.told → IfTold T.told (T.state tree.old) (λ root.
+        HasShortFiles root → (t : Text)
+        → IsReady S.seen S.may_leave (part_of part.now) t start folder.old
+        → IfOk result (λ next. IsReady S.seen S.may_leave (part_of part.now) t
+        next.0 folder.new)) }
+    ensures closed { IsTrue S.told → OnOk result
+        ((S.seen folder.new).closed ≡ (S.seen folder.old).closed) }
     ensures clock { IsTrue C.told → BeginsInTime plan.now.end
         (C.answers clock.old) (C.answers clock.new) tally.old.runs tally.new.runs }
-    ensures all { start.told ≡ start.bytes
-        → IfOk result (λ next. next.0.told ≡ next.0.bytes) }
 {
-    let mut mark = start;
+    let mut checkpoint = start;
     for _run in 0..u64::MAX {
         let (next, pause) = go_on(
-            alloc, folder, tree, part, mark, plan, clock, tally, block, out,
+            alloc, folder, tree, part, identity, checkpoint, plan, clock, tally, block,
         )?;
-        mark = next;
+        checkpoint = next;
         if let Some(pause) = pause {
-            return Ok((mark, pause));
+            return Ok((checkpoint, pause));
         }
     }
-    Ok((mark, Pause::Spent))
+    Ok((checkpoint, Pause::Spent))
 }
 
 /// Takes up what the last night left, and says what it left unsaid.
 fn catch_up<S: StateFolder, W: Write>(
     alloc: Global,
     folder: &mut S,
+    site: &Site,
+    identity: &Identity,
+    plan: &Plan,
     out: &mut W,
-    create: bool,
-) -> Result<Mark, Stop>
+    lost: &mut bool,
+) -> Result<Checkpoint, NotOpened>
     ensures heard { IsTrue S.told → (part : ModelPart) → IsKept S.may_leave part folder.old
         → LeavesOnly S.moment S.left_since folder.old folder.new (IsHeardSince part
         (S.may_leave folder.old) (W.contents out.old) (W.contents out.new)) }
     ensures ready { IsTrue S.told → (part : ModelPart) → IsKept S.may_leave part folder.old
-        → IfOk result (λ mark. IsReadySince S.seen S.may_leave part (S.may_leave folder.old)
-        (W.contents out.old) (W.contents out.new) mark folder.new) }
+        → IfOk result (λ k. IsReadySince S.seen S.may_leave part (S.may_leave folder.old)
+        (W.contents out.old) (W.contents out.new) k folder.new) }
     ensures grew { (more : List ℕ) × Appends (W.contents out.old) (W.contents out.new) more }
     ensures closed { IsTrue S.told → OnOk result
         ((S.seen folder.new).closed ≡ (S.seen folder.old).closed) }
-    ensures all { IfOk result (λ mark. mark.told ≡ mark.bytes) }
+    ensures refused { IsTrue S.told → (why : ModelRefusal) → result ≡ Err (Refused why)
+        → S.seen folder.new ≡ S.seen folder.old }
+    ensures foreign { IsTrue S.told → (k : ModelCheckpoint) → IsAt k (S.seen folder.old)
+        → IsForeign site.now identity.now plan.now.force_root k
+        → IsUntouched S.seen S.may_leave S.moment S.left_since folder.old folder.new }
+    ensures unopened { IsTrue S.told → (k : ModelCheckpoint) → IsAt k (S.seen folder.old)
+        → IsForeign site.now identity.now plan.now.force_root k → OnOk result ⊥ }
+    ensures lost { IsTrue S.told → (k : ModelCheckpoint) → IsAt k (S.seen folder.old)
+        → IsLost k (S.seen folder.old) → OnOk result (IsTrue lost.new) }
+    ensures all { IfOk result (λ k. k.told ≡ k.report.bytes) }
 {
-    let mark = open(alloc, folder, create)?;
-    speak(alloc, folder, out, mark)
+    let opened = open(alloc, folder, site, identity, plan)?;
+    *lost = opened.lost;
+    Ok(speak(alloc, folder, out, opened.checkpoint)?)
 }
 
-/// Makes runs, and closes the report if the cycle has ended.
+/// Makes runs, says what they wrote, and closes the report if the cycle has ended.
 fn make_runs<S: StateFolder, T: Tree, C: Clock, W: Write>(
     alloc: Global,
     folder: &mut S,
     tree: &mut T,
     part: &Part,
-    mark: Mark,
+    identity: &Identity,
+    checkpoint: Checkpoint,
     plan: &Plan,
     clock: &mut C,
     tally: &mut Tally,
@@ -309,25 +444,89 @@ fn make_runs<S: StateFolder, T: Tree, C: Clock, W: Write>(
     out: &mut W,
 ) -> Result<Halt, Stop>
     ensures heard { IsTrue S.told → IfTold T.told (T.state tree.old) (λ root. HasShortFiles root
-        → (t : Text) → IsReady S.seen S.may_leave (part_of part.now) t mark folder.old
+        → (t : Text) → IsReady S.seen S.may_leave (part_of part.now) t checkpoint folder.old
         → LeavesOnly S.moment S.left_since folder.old folder.new
         (IsHeard (part_of part.now) t (W.contents out.old) (W.contents out.new))) }
     ensures grew { (more : List ℕ) × Appends (W.contents out.old) (W.contents out.new) more }
     ensures ended { IsTrue S.told → IfTold T.told (T.state tree.old) (λ root. HasShortFiles root
-        → (t : Text) → IsReady S.seen S.may_leave (part_of part.now) t mark folder.old
+        → (t : Text) → IsReady S.seen S.may_leave (part_of part.now) t checkpoint folder.old
         → (cycle : ℕ) → result ≡ Ok (halt.CycleEnded cycle) → IsOneMore (part_of part.now) cycle
         (S.seen folder.old).closed (S.seen folder.new).closed) }
     ensures clock { IsTrue C.told → BeginsInTime plan.now.end
         (C.answers clock.old) (C.answers clock.new) tally.old.runs tally.new.runs }
     ensures said { IsTrue S.told → IfTold T.told (T.state tree.old) (λ root. HasShortFiles root
-        → (t : Text) → IsReady S.seen S.may_leave (part_of part.now) t mark folder.old
-        → mark.told ≡ mark.bytes → OnOk result (IsAllSaid (S.seen folder.new))) }
+        → (t : Text) → IsReady S.seen S.may_leave (part_of part.now) t checkpoint folder.old
+        → OnOk result (IsAllSaid (S.seen folder.new))) }
+    ensures unrefused { (why : ModelRefusal) → result ≢ Ok (halt.Refused why) }
 {
     let (last, pause) = runs(
-        alloc, folder, tree, part, mark, plan, clock, tally, block, out,
+        alloc, folder, tree, part, identity, checkpoint, plan, clock, tally, block,
     )?;
-    let ended = finish(alloc, folder, last)?;
+    let said = speak(alloc, folder, out, last)?;
+    let ended = finish(alloc, folder, said)?;
     Ok(halt_after(ended, pause))
+}
+
+/// What a night has once it is begun.
+#[derive(Debug, Drop)]
+struct Begun {
+    part: Part,
+    identity: Identity,
+    checkpoint: Checkpoint,
+}
+
+/// Looks at the root, takes up what the last night left, and says what it left unsaid.
+fn set_out<S: StateFolder, T: Tree, W: Write>(
+    alloc: Global,
+    folder: &mut S,
+    tree: &mut T,
+    site: &Site,
+    plan: &Plan,
+    block: &mut Block,
+    out: &mut W,
+    lost: &mut bool,
+) -> Result<Begun, NotOpened>
+    ensures part { IfOk result (λ begun. part_of begun.part ≡ part_at site.now.ends) }
+    ensures root { IsTrue T.told → (T.state tree.new).tree ≡ (T.state tree.old).tree }
+    ensures heard { IsTrue S.told → (part : ModelPart) → IsKept S.may_leave part folder.old
+        → LeavesOnly S.moment S.left_since folder.old folder.new (IsHeardSince part
+        (S.may_leave folder.old) (W.contents out.old) (W.contents out.new)) }
+    ensures ready { IsTrue S.told → (part : ModelPart) → IsKept S.may_leave part folder.old
+        → IfOk result (λ begun. IsReadySince S.seen S.may_leave part (S.may_leave folder.old)
+        (W.contents out.old) (W.contents out.new) begun.checkpoint folder.new) }
+    ensures grew { (more : List ℕ) × Appends (W.contents out.old) (W.contents out.new) more }
+    ensures closed { IsTrue S.told → OnOk result
+        ((S.seen folder.new).closed ≡ (S.seen folder.old).closed) }
+    ensures refused { IsTrue S.told → (why : ModelRefusal) → result ≡ Err (Refused why)
+        → S.seen folder.new ≡ S.seen folder.old }
+    ensures lost { IsTrue S.told → (k : ModelCheckpoint) → IsAt k (S.seen folder.old)
+        → IsLost k (S.seen folder.old) → OnOk result (IsTrue lost.new) }
+    ensures another { IsTrue S.told → (k : ModelCheckpoint) → IsAt k (S.seen folder.old)
+        → IsAnothers site.now k
+        → IsUntouched S.seen S.may_leave S.moment S.left_since folder.old folder.new }
+    ensures another_unopened { IsTrue S.told → (k : ModelCheckpoint) → IsAt k (S.seen folder.old)
+        → IsAnothers site.now k → OnOk result ⊥ }
+    ensures other_root { IsTrue S.told → IfTold T.told (T.state tree.old) (λ root.
+        (k : ModelCheckpoint) → IsAt k (S.seen folder.old) → IsOtherThan root k
+        → plan.now.force_root ≡ false
+        → IsUntouched S.seen S.may_leave S.moment S.left_since folder.old folder.new) }
+    ensures other_root_unopened { IsTrue S.told → IfTold T.told (T.state tree.old) (λ root.
+        (k : ModelCheckpoint) → IsAt k (S.seen folder.old) → IsOtherThan root k
+        → plan.now.force_root ≡ false → OnOk result ⊥) }
+    ensures undeclared { IsTrue S.told → IfTold T.told (T.state tree.old) (λ root.
+        declarations_among (entries_in root []) ≡ []
+        → IsUntouched S.seen S.may_leave S.moment S.left_since folder.old folder.new) }
+    ensures undeclared_unopened { IfTold T.told (T.state tree.old) (λ root.
+        declarations_among (entries_in root []) ≡ [] → OnOk result ⊥) }
+{
+    let part = part_at(alloc, &site.ends)?;
+    let identity = look_at(alloc, tree, block)?;
+    let checkpoint = catch_up(alloc, folder, site, &identity, plan, out, lost)?;
+    Ok(Begun {
+        part,
+        identity,
+        checkpoint,
+    })
 }
 
 /// Does what a night does, but for its account.
@@ -335,34 +534,65 @@ fn go_through<S: StateFolder, T: Tree, C: Clock, W: Write>(
     alloc: Global,
     folder: &mut S,
     tree: &mut T,
-    part: &Part,
+    site: &Site,
     plan: &Plan,
     clock: &mut C,
     tally: &mut Tally,
     block: &mut Block,
     out: &mut W,
-) -> Result<Halt, Stop>
+    lost: &mut bool,
+) -> Result<Halt, NotOpened>
     ensures heard { IsTrue S.told → IfTold T.told (T.state tree.old) (λ root. HasShortFiles root
-        → IsSafeNight S.may_leave S.moment S.left_since (part_of part.now)
+        → IsSafeNight S.may_leave S.moment S.left_since (part_at site.now.ends)
         folder.old folder.new (W.contents out.old) (W.contents out.new)) }
     ensures ended { IsTrue S.told → IfTold T.told (T.state tree.old) (λ root. HasShortFiles root
-        → IsKept S.may_leave (part_of part.now) folder.old
-        → (cycle : ℕ) → result ≡ Ok (halt.CycleEnded cycle) → IsOneMore (part_of part.now) cycle
+        → IsKept S.may_leave (part_at site.now.ends) folder.old
+        → (cycle : ℕ) → result ≡ Ok (halt.CycleEnded cycle)
+        → IsOneMore (part_at site.now.ends) cycle
         (S.seen folder.old).closed (S.seen folder.new).closed) }
     ensures clock { IsTrue C.told → BeginsInTime plan.now.end
         (C.answers clock.old) (C.answers clock.new) tally.old.runs tally.new.runs }
     ensures said { IsTrue S.told → IfTold T.told (T.state tree.old) (λ root. HasShortFiles root
-        → IsKept S.may_leave (part_of part.now) folder.old
+        → IsKept S.may_leave (part_at site.now.ends) folder.old
         → OnOk result (IsAllSaid (S.seen folder.new))) }
+    ensures refused { IsTrue S.told → (why : ModelRefusal) → result ≡ Err (Refused why)
+        → S.seen folder.new ≡ S.seen folder.old }
+    ensures unrefused { (why : ModelRefusal) → result ≢ Ok (halt.Refused why) }
+    ensures lost { IsTrue S.told → (k : ModelCheckpoint) → IsAt k (S.seen folder.old)
+        → IsLost k (S.seen folder.old) → OnOk result (IsTrue lost.new) }
+    ensures another { IsTrue S.told → (k : ModelCheckpoint) → IsAt k (S.seen folder.old)
+        → IsAnothers site.now k
+        → IsUntouched S.seen S.may_leave S.moment S.left_since folder.old folder.new }
+    ensures another_unopened { IsTrue S.told → (k : ModelCheckpoint) → IsAt k (S.seen folder.old)
+        → IsAnothers site.now k → OnOk result ⊥ }
+    ensures other_root { IsTrue S.told → IfTold T.told (T.state tree.old) (λ root.
+        (k : ModelCheckpoint) → IsAt k (S.seen folder.old) → IsOtherThan root k
+        → plan.now.force_root ≡ false
+        → IsUntouched S.seen S.may_leave S.moment S.left_since folder.old folder.new) }
+    ensures other_root_unopened { IsTrue S.told → IfTold T.told (T.state tree.old) (λ root.
+        (k : ModelCheckpoint) → IsAt k (S.seen folder.old) → IsOtherThan root k
+        → plan.now.force_root ≡ false → OnOk result ⊥) }
+    ensures undeclared { IsTrue S.told → IfTold T.told (T.state tree.old) (λ root.
+        declarations_among (entries_in root []) ≡ []
+        → IsUntouched S.seen S.may_leave S.moment S.left_since folder.old folder.new) }
+    ensures undeclared_unopened { IfTold T.told (T.state tree.old) (λ root.
+        declarations_among (entries_in root []) ≡ [] → OnOk result ⊥) }
 {
-    let mark = catch_up(alloc, folder, out, plan.create)?;
-    make_runs(
-        alloc, folder, tree, part, mark, plan, clock, tally, block, out,
-    )
+    let begun = set_out(alloc, folder, tree, site, plan, block, out, lost)?;
+    let Begun {
+        part,
+        identity,
+        checkpoint,
+    } = begun;
+    let halt = make_runs(
+        alloc, folder, tree, &part, &identity, checkpoint, plan, clock, tally, block, out,
+    )?;
+    Ok(halt)
 }
 
 /// A night: takes up what the last one left, ended, killed or crashed, says what it left unsaid,
-/// makes runs of a part until something ends it, and closes the report if the cycle has ended.
+/// makes runs until something ends it, says what they wrote, and closes the report if the cycle has
+/// ended. A place that cannot be read twice costs its branch, which is left out of the cycle.
 ///
 /// All clauses are of a folder and a store that are as they tell, over a root with no file of 2^62
 /// bytes or more.
@@ -370,7 +600,7 @@ pub fn night<S: StateFolder, T: Tree, C: Clock, W: Write>(
     alloc: Global,
     folder: &mut S,
     tree: &mut T,
-    part: &Part,
+    site: &Site,
     plan: &Plan,
     clock: &mut C,
     block: &mut Block,
@@ -378,56 +608,94 @@ pub fn night<S: StateFolder, T: Tree, C: Clock, W: Write>(
 ) -> NightEnd
     // If each crash before it leaves a sound content, so does a crash at any moment of it.
     ensures any_moment { IsTrue S.told → IfTold T.told (T.state tree.old) (λ root.
-        HasShortFiles root → IsKept S.may_leave (part_of part.now) folder.old
-        → LeavesOnly S.moment S.left_since folder.old folder.new (IsSound (part_of part.now))) }
+        HasShortFiles root → IsKept S.may_leave (part_at site.now.ends) folder.old
+        → LeavesOnly S.moment S.left_since folder.old folder.new
+        (IsSound (part_at site.now.ends))) }
     ensures kept { IsTrue S.told → IfTold T.told (T.state tree.old) (λ root. HasShortFiles root
-        → IsKept S.may_leave (part_of part.now) folder.old
-        → IsKept S.may_leave (part_of part.now) folder.new) }
+        → IsKept S.may_leave (part_at site.now.ends) folder.old
+        → IsKept S.may_leave (part_at site.now.ends) folder.new) }
 
     // Nothing more is told, at any moment, than was told before and the output has taken since.
     ensures heard { IsTrue S.told → IfTold T.told (T.state tree.old) (λ root. HasShortFiles root
-        → IsSafeNight S.may_leave S.moment S.left_since (part_of part.now)
+        → IsSafeNight S.may_leave S.moment S.left_since (part_at site.now.ends)
         folder.old folder.new (W.contents out.old) (W.contents out.new)) }
 
-    // Unless something is troubled, all of the report is said, also what earlier nights left.
+    // Unless it is refused or something is troubled, all of the report is said, also what earlier
+    // nights left.
     ensures said { IsTrue S.told → IfTold T.told (T.state tree.old) (λ root. HasShortFiles root
-        → IsKept S.may_leave (part_of part.now) folder.old
+        → IsKept S.may_leave (part_at site.now.ends) folder.old
         → ((why : ModelStop) → result.end ≢ halt.Troubled why)
+        → ((why : ModelRefusal) → result.end ≢ halt.Refused why)
         → IsAllSaid (S.seen folder.new)) }
+
+    // A night that is refused leaves the folder as it was.
+    ensures refused { IsTrue S.told → (why : ModelRefusal) → result.end ≡ halt.Refused why
+        → S.seen folder.new ≡ S.seen folder.old }
+
+    // So does one in whose folder is the checkpoint of another root or part,
+    ensures another { IsTrue S.told → (k : ModelCheckpoint) → IsAt k (S.seen folder.old)
+        → IsAnothers site.now k → IsNotBegun result.end
+        × IsUntouched S.seen S.may_leave S.moment S.left_since folder.old folder.new }
+    // of a root with another declaration, or without more than half of its names, unless forced,
+    ensures other_root { IsTrue S.told → IfTold T.told (T.state tree.old) (λ root.
+        (k : ModelCheckpoint) → IsAt k (S.seen folder.old) → IsOtherThan root k
+        → plan.now.force_root ≡ false → IsNotBegun result.end
+        × IsUntouched S.seen S.may_leave S.moment S.left_since folder.old folder.new) }
+    // and one over a folder that declares no storage root.
+    ensures undeclared { IsTrue S.told → IfTold T.told (T.state tree.old) (λ root.
+        declarations_among (entries_in root []) ≡ [] → IsNotBegun result.end
+        × IsUntouched S.seen S.may_leave S.moment S.left_since folder.old folder.new) }
+
+    // Where bytes of the report were lost or changed, it says so, unless it is refused or something
+    // is troubled.
+    ensures lost { IsTrue S.told → (k : ModelCheckpoint) → IsAt k (S.seen folder.old)
+        → IsLost k (S.seen folder.old)
+        → ((why : ModelStop) → result.end ≢ halt.Troubled why)
+        → ((why : ModelRefusal) → result.end ≢ halt.Refused why) → IsTrue result.lost }
 
     // The report of a cycle that is said to have ended is closed.
     ensures ended { IsTrue S.told → IfTold T.told (T.state tree.old) (λ root. HasShortFiles root
-        → IsKept S.may_leave (part_of part.now) folder.old
-        → (cycle : ℕ) → result.end ≡ halt.CycleEnded cycle → IsOneMore (part_of part.now) cycle
+        → IsKept S.may_leave (part_at site.now.ends) folder.old
+        → (cycle : ℕ) → result.end ≡ halt.CycleEnded cycle
+        → IsOneMore (part_at site.now.ends) cycle
         (S.seen folder.old).closed (S.seen folder.new).closed) }
 
     // No run is begun but where the clock has answered that the end has not come.
     ensures clock { IsTrue C.told → BeginsInTime plan.now.end
         (C.answers clock.old) (C.answers clock.new) 0 result.runs }
 {
-    let mut tally = Tally::none();
+    let mut tally = Tally::none(alloc);
+    let mut lost = false;
     let through = go_through(
-        alloc, folder, tree, part, plan, clock, &mut tally, block, out,
+        alloc, folder, tree, site, plan, clock, &mut tally, block, out, &mut lost,
     );
-    account(tally, through)
+    account(tally, lost, through)
 }
 
 /// The account of a night that ended so.
-fn account(tally: Tally, through: Result<Halt, Stop>) -> NightEnd
+fn account(tally: Tally, lost: bool, through: Result<Halt, NotOpened>) -> NightEnd
     ensures ended { (cycle : ℕ) → result.end ≡ halt.CycleEnded cycle
         → through ≡ Ok (halt.CycleEnded cycle) }
     ensures runs { result.runs ≡ tally.runs }
-    ensures said { ((why : ModelStop) → result.end ≢ halt.Troubled why) → IsOk through }
+    ensures lost { result.lost ≡ lost }
+    ensures said { ((why : ModelStop) → result.end ≢ halt.Troubled why)
+        → ((why : ModelRefusal) → result.end ≢ halt.Refused why) → IsOk through }
+    ensures not_begun { IsErr through → IsNotBegun result.end }
+    ensures refused { (why : ModelRefusal) → result.end ≡ halt.Refused why
+        → (through ≡ Err (Refused why)) ⊎ (through ≡ Ok (halt.Refused why)) }
 {
     let end = match through {
         Ok(halt) => halt,
-        Err(why) => Halt::Troubled(why),
+        Err(NotOpened::Refused(why)) => Halt::Refused(why),
+        Err(NotOpened::Troubled(why)) => Halt::Troubled(why),
     };
     NightEnd {
         runs: tally.runs,
         spent: tally.spent,
         files: tally.files,
         found: tally.found,
+        lost,
+        left: tally.left,
         end,
     }
 }

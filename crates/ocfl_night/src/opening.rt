@@ -1,34 +1,47 @@
-//! Opening a night: what the last one left is taken up.
-ghost use Rattle.std.specs.Prelude.{◌≡◌, ◌≤◌, [], IfOk, IsTrue, OnOk, None, length, take};
+//! Opening a night: what the last one left is taken up, if it is that of these nights.
+ghost use Rattle.std.specs.Prelude.{◌≡◌, ◌↔◌, [], IfOk, IsSome, IsTrue, OnOk, None, Err, false};
+ghost use Rattle.std.specs.Prelude.{length, take};
 ghost use Rattle.ocfl_audit.specs.Parts.{Part};
 ghost use Rattle.ocfl_tree.specs.Place.{Text};
-ghost use Rattle.ocfl_state.specs.Content.{with_report};
+ghost use Rattle.ocfl_state.specs.Checkpoint.{Checkpoint as ModelCheckpoint};
+ghost use Rattle.ocfl_state.specs.Content.{is_closed, with_report};
 ghost use Rattle.ocfl_state.specs.Crash.{LeavesOnly, Only, Passes, Same};
-ghost use Rattle.ocfl_night.specs.Sound.{IsFound, IsFoundReady, IsKept, IsNew, IsReady};
+ghost use Rattle.ocfl_state.specs.declared.checkpoint_parts.Phase.TheVariants.{Closing};
+ghost use Rattle.ocfl_night.specs.Site.{IsForeign};
+ghost use Rattle.ocfl_night.specs.Sound.{IsAt, IsFound, IsFoundReady, IsKept, IsNew, IsReady};
 ghost use Rattle.ocfl_night.specs.Sound.{IsSettled, IsSoundAt};
-ghost use Rattle.ocfl_night.specs.Steps.{KeepsFront};
+ghost use Rattle.ocfl_night.specs.Steps.{IsChanged, IsLost, IsShortened, IsUntouched, KeepsFront};
+ghost use Rattle.ocfl_night.specs.declared.refusal.Refusal.{Refusal as ModelRefusal};
+ghost use Rattle.ocfl_night.specs.declared.refusal.NotOpened.TheVariants.{Refused};
 
-use crate::mark::{look, put_mark};
-use crate::reports::cut_report;
-use crate::shape::{Mark, Phase};
+use crate::checkpoint::{bytes_of, cycle_of, look, phase_of, put_checkpoint, report_of};
+use crate::owning::{first_checkpoint, own, with_root};
+use crate::plan::Plan;
+use crate::refusal::{NotOpened, Refusal};
+use crate::reports::{cut_report, find_lost};
+use crate::site::Site;
 use crate::stop::Stop;
-use ocfl_cursor::Cursor;
-use ocfl_state::StateFolder;
+use ocfl_identity::Identity;
+use ocfl_state::{Checkpoint, Phase, ReportMark, StateFolder};
 use std::alloc::Global;
+
+/// What a night begins with.
+#[derive(Debug, Drop)]
+pub struct Opened {
+    pub checkpoint: Checkpoint,
+    /// Whether the report was shorter than the checkpoint said, or had another tail.
+    pub lost: bool,
+}
 
 /// Cuts the report to a length, and brings that to the disk.
 fn trim<S: StateFolder>(folder: &mut S, most: u64) -> Result<(), Stop>
     ensures cut { IsTrue S.told → OnOk result (S.seen folder.new
         ≡ with_report (take most (S.seen folder.old).report) (S.seen folder.old)) }
-    ensures long { IsTrue S.told → OnOk result (most ≤ length (S.seen folder.old).report) }
     ensures only { IsTrue S.told → OnOk result
         (Only (S.seen folder.new) (S.may_leave folder.new)) }
     ensures crash { IsTrue S.told → Passes S.may_leave S.moment S.left_since
         (KeepsFront most) folder.old folder.new }
 {
-    if folder.length()? < most {
-        return Err(Stop::Short);
-    }
     cut_report(folder, most)?;
     folder.sync()?;
     Ok(())
@@ -52,30 +65,34 @@ fn is_new<S: StateFolder>(folder: &mut S) -> Result<bool, Stop>
 }
 
 /// Puts the first checkpoint.
-fn put_first<S: StateFolder>(alloc: Global, folder: &mut S) -> Result<Mark, Stop>
+fn put_first<S: StateFolder>(
+    alloc: Global,
+    folder: &mut S,
+    site: &Site,
+    identity: &Identity,
+) -> Result<Checkpoint, Stop>
     ensures any_moment { IsTrue S.told → (part : Part)
         → Only (S.seen folder.old) (S.may_leave folder.old)
         → (S.seen folder.old).checkpoint ≡ None → IsNew [] (S.seen folder.old)
         → LeavesOnly S.moment S.left_since folder.old folder.new (IsSoundAt part []) }
     ensures ready { IsTrue S.told → (part : Part)
         → Only (S.seen folder.old) (S.may_leave folder.old) → IsNew [] (S.seen folder.old)
-        → IfOk result (λ mark. IsReady S.seen S.may_leave part [] mark folder.new) }
+        → IfOk result (λ k. IsReady S.seen S.may_leave part [] k folder.new) }
     ensures closed { IsTrue S.told → OnOk result
         ((S.seen folder.new).closed ≡ (S.seen folder.old).closed) }
 {
-    let mark = Mark {
-        phase: Phase::Open,
-        whole: true,
-        bytes: 0,
-        told: 0,
-        cursor: Cursor::new(),
-    };
-    put_mark(alloc, folder, &mark)?;
-    Ok(mark)
+    let checkpoint = first_checkpoint(alloc, site, identity)?;
+    put_checkpoint(alloc, folder, &checkpoint)?;
+    Ok(checkpoint)
 }
 
 /// Begins in a folder in which nothing is.
-fn begin<S: StateFolder>(alloc: Global, folder: &mut S) -> Result<Mark, Stop>
+fn begin<S: StateFolder>(
+    alloc: Global,
+    folder: &mut S,
+    site: &Site,
+    identity: &Identity,
+) -> Result<Checkpoint, NotOpened>
     ensures empty { IsTrue S.told → OnOk result (length (S.seen folder.old).report ≡ 0) }
     ensures any_moment { IsTrue S.told → (part : Part)
         → Only (S.seen folder.old) (S.may_leave folder.old)
@@ -83,57 +100,221 @@ fn begin<S: StateFolder>(alloc: Global, folder: &mut S) -> Result<Mark, Stop>
         → LeavesOnly S.moment S.left_since folder.old folder.new (IsSoundAt part []) }
     ensures ready { IsTrue S.told → (part : Part)
         → Only (S.seen folder.old) (S.may_leave folder.old) → IsNew [] (S.seen folder.old)
-        → IfOk result (λ mark. IsReady S.seen S.may_leave part [] mark folder.new) }
+        → IfOk result (λ k. IsReady S.seen S.may_leave part [] k folder.new) }
     ensures closed { IsTrue S.told → OnOk result
         ((S.seen folder.new).closed ≡ (S.seen folder.old).closed) }
+    ensures refused { IsTrue S.told → (why : ModelRefusal) → result ≡ Err (Refused why)
+        → S.seen folder.new ≡ S.seen folder.old }
 {
     if !is_new(folder)? {
-        return Err(Stop::NotEmpty);
+        return Err(NotOpened::Refused(Refusal::HasReports));
     }
-    put_first(alloc, folder)
+    Ok(put_first(alloc, folder, site, identity)?)
 }
 
-/// Cuts away what the checkpoint does not speak of.
-fn take_up<S: StateFolder>(folder: &mut S, mark: &Mark) -> Result<(), Stop>
+/// Whether the report of a cycle that has ended is still to be closed.
+fn is_to_close<S: StateFolder>(folder: &mut S, checkpoint: &Checkpoint) -> Result<bool, Stop>
     ensures any_moment { IsTrue S.told → (part : Part) (t : Text)
-        → IsSettled S.seen S.may_leave part t mark.now folder.old
+        → IsSettled S.seen S.may_leave part t checkpoint.now folder.old
+        → LeavesOnly S.moment S.left_since folder.old folder.new (IsSoundAt part t) }
+    ensures ready { IsTrue S.told → checkpoint.now.phase ≡ Closing → (part : Part) (t : Text)
+        → IsSettled S.seen S.may_leave part t checkpoint.now folder.old
+        → OnOk result (IsReady S.seen S.may_leave part t checkpoint.now folder.new) }
+    ensures value { IsTrue S.told → IfOk result (λ there. IsTrue there
+        ↔ (is_closed (S.seen folder.old).closed checkpoint.now.cursor.cycle ≡ false)) }
+    ensures seen { IsTrue S.told → S.seen folder.new ≡ S.seen folder.old }
+{
+    Ok(!folder.has_closed(cycle_of(checkpoint))?)
+}
+
+/// Cuts away what the checkpoint does not speak of. Gives whether what it speaks of is still to be
+/// closed.
+fn settle<S: StateFolder>(folder: &mut S, checkpoint: &Checkpoint) -> Result<bool, Stop>
+    ensures any_moment { IsTrue S.told → (part : Part) (t : Text)
+        → IsSettled S.seen S.may_leave part t checkpoint.now folder.old
         → LeavesOnly S.moment S.left_since folder.old folder.new (IsSoundAt part t) }
     ensures ready { IsTrue S.told → (part : Part) (t : Text)
-        → IsSettled S.seen S.may_leave part t mark.now folder.old
-        → OnOk result (IsReady S.seen S.may_leave part t mark.now folder.new) }
+        → IsSettled S.seen S.may_leave part t checkpoint.now folder.old
+        → OnOk result (IsReady S.seen S.may_leave part t checkpoint.now folder.new) }
+    ensures there { IsTrue S.told → IfOk result (λ there. IsTrue there
+        → checkpoint.now.phase ≡ Closing
+        → is_closed (S.seen folder.new).closed checkpoint.now.cursor.cycle ≡ false) }
+    ensures lost { IsTrue S.told → IsLost checkpoint.now (S.seen folder.old)
+        → IfOk result (λ there. IsTrue there × IsChanged checkpoint.now (S.seen folder.new)) }
     ensures closed { IsTrue S.told → OnOk result
         ((S.seen folder.new).closed ≡ (S.seen folder.old).closed) }
 {
-    match mark.phase {
-        Phase::Open => trim(folder, mark.bytes),
-        Phase::Closing => Ok(()),
+    match phase_of(checkpoint) {
+        Phase::Open => {
+            trim(folder, bytes_of(checkpoint))?;
+            Ok(true)
+        }
+        Phase::Closing => is_to_close(folder, checkpoint),
     }
 }
 
-/// Takes up what the last night left, however it ended.
-pub fn open<S: StateFolder>(alloc: Global, folder: &mut S, create: bool) -> Result<Mark, Stop>
+/// Takes up the report as far as the checkpoint speaks of it. Gives what there is of that, if bytes
+/// of it were lost or changed.
+fn take_up<S: StateFolder>(
+    folder: &mut S,
+    checkpoint: &Checkpoint,
+) -> Result<Option<ReportMark>, Stop>
+    ensures any_moment { IsTrue S.told → (part : Part) (t : Text)
+        → IsSettled S.seen S.may_leave part t checkpoint.now folder.old
+        → LeavesOnly S.moment S.left_since folder.old folder.new (IsSoundAt part t) }
+    ensures ready { IsTrue S.told → (part : Part) (t : Text)
+        → IsSettled S.seen S.may_leave part t checkpoint.now folder.old
+        → IfOk result (λ lost. (lost ≡ None)
+        × IsReady S.seen S.may_leave part t checkpoint.now folder.new) }
+    ensures lost { IsTrue S.told → IsLost checkpoint.now (S.seen folder.old)
+        → IfOk result (λ lost. IsSome lost) }
+    ensures closed { IsTrue S.told → OnOk result
+        ((S.seen folder.new).closed ≡ (S.seen folder.old).closed) }
+{
+    if !settle(folder, checkpoint)? {
+        return Ok(None);
+    }
+    Ok(find_lost(folder, &report_of(checkpoint))?)
+}
+
+/// The checkpoint of a report that is another one than it says: it keeps what is there.
+fn shortened(mut checkpoint: Checkpoint, report: ReportMark) -> Checkpoint
+    ensures { IsShortened checkpoint report result }
+{
+    checkpoint.whole = false;
+    checkpoint.told = checkpoint.told.min(report.bytes);
+    checkpoint.report = report;
+    checkpoint
+}
+
+/// Takes up the report as far as the checkpoint speaks of it. Where bytes of that were lost or
+/// changed, the checkpoint then speaks of what is there.
+fn fit<S: StateFolder>(folder: &mut S, checkpoint: Checkpoint) -> Result<Opened, Stop>
+    ensures any_moment { IsTrue S.told → (part : Part) (t : Text)
+        → IsSettled S.seen S.may_leave part t checkpoint folder.old
+        → LeavesOnly S.moment S.left_since folder.old folder.new (IsSoundAt part t) }
+    ensures ready { IsTrue S.told → (part : Part) (t : Text)
+        → IsSettled S.seen S.may_leave part t checkpoint folder.old
+        → IfOk result (λ opened. IsReady S.seen S.may_leave part t
+        opened.checkpoint folder.new) }
+    ensures closed { IsTrue S.told → OnOk result
+        ((S.seen folder.new).closed ≡ (S.seen folder.old).closed) }
+    ensures lost { IsTrue S.told → IsLost checkpoint (S.seen folder.old)
+        → IfOk result (λ opened. IsTrue opened.lost × (opened.checkpoint.whole ≡ false)) }
+{
+    match take_up(folder, &checkpoint)? {
+        None => Ok(Opened {
+            checkpoint,
+            lost: false,
+        }),
+        Some(report) => Ok(Opened {
+            checkpoint: shortened(checkpoint, report),
+            lost: true,
+        }),
+    }
+}
+
+/// Takes up what a checkpoint speaks of, and puts it with what the root has now.
+fn resume<S: StateFolder>(
+    alloc: Global,
+    folder: &mut S,
+    checkpoint: Checkpoint,
+    identity: &Identity,
+) -> Result<Opened, Stop>
+    ensures any_moment { IsTrue S.told → (part : Part) (t : Text)
+        → IsSettled S.seen S.may_leave part t checkpoint folder.old
+        → LeavesOnly S.moment S.left_since folder.old folder.new (IsSoundAt part t) }
+    ensures ready { IsTrue S.told → (part : Part) (t : Text)
+        → IsSettled S.seen S.may_leave part t checkpoint folder.old
+        → IfOk result (λ opened. IsReady S.seen S.may_leave part t
+        opened.checkpoint folder.new) }
+    ensures closed { IsTrue S.told → OnOk result
+        ((S.seen folder.new).closed ≡ (S.seen folder.old).closed) }
+    ensures lost { IsTrue S.told → IsLost checkpoint (S.seen folder.old)
+        → IfOk result (λ opened. IsTrue opened.lost × (opened.checkpoint.whole ≡ false)) }
+{
+    let fitted = fit(folder, checkpoint)?;
+    let lost = fitted.lost;
+    let next = with_root(fitted.checkpoint, identity);
+    put_checkpoint(alloc, folder, &next)?;
+    Ok(Opened {
+        checkpoint: next,
+        lost,
+    })
+}
+
+/// Begins anew in a folder with no checkpoint, if that is asked for.
+fn create<S: StateFolder>(
+    alloc: Global,
+    folder: &mut S,
+    site: &Site,
+    identity: &Identity,
+    plan: &Plan,
+) -> Result<Opened, NotOpened>
+    ensures empty { IsTrue S.told → OnOk result (length (S.seen folder.old).report ≡ 0) }
+    ensures any_moment { IsTrue S.told → (part : Part)
+        → Only (S.seen folder.old) (S.may_leave folder.old)
+        → (S.seen folder.old).checkpoint ≡ None → IsNew [] (S.seen folder.old)
+        → LeavesOnly S.moment S.left_since folder.old folder.new (IsSoundAt part []) }
+    ensures ready { IsTrue S.told → (part : Part)
+        → Only (S.seen folder.old) (S.may_leave folder.old) → IsNew [] (S.seen folder.old)
+        → IfOk result (λ opened. IsReady S.seen S.may_leave part []
+        opened.checkpoint folder.new) }
+    ensures closed { IsTrue S.told → OnOk result
+        ((S.seen folder.new).closed ≡ (S.seen folder.old).closed) }
+    ensures refused { IsTrue S.told → (why : ModelRefusal) → result ≡ Err (Refused why)
+        → S.seen folder.new ≡ S.seen folder.old }
+{
+    if !plan.create {
+        return Err(NotOpened::Refused(Refusal::NoCheckpoint));
+    }
+    let checkpoint = begin(alloc, folder, site, identity)?;
+    Ok(Opened {
+        checkpoint,
+        lost: false,
+    })
+}
+
+/// Takes up what the last night left, however it ended, if it was one over this root and this part.
+pub fn open<S: StateFolder>(
+    alloc: Global,
+    folder: &mut S,
+    site: &Site,
+    identity: &Identity,
+    plan: &Plan,
+) -> Result<Opened, NotOpened>
     ensures any_moment { IsTrue S.told → (part : Part) → IsKept S.may_leave part folder.old
         → LeavesOnly S.moment S.left_since folder.old folder.new
         (IsFound part (S.may_leave folder.old)) }
     ensures ready { IsTrue S.told → (part : Part) → IsKept S.may_leave part folder.old
-        → IfOk result (λ mark. IsFoundReady S.seen S.may_leave part
-        (S.may_leave folder.old) mark folder.new) }
+        → IfOk result (λ opened. IsFoundReady S.seen S.may_leave part
+        (S.may_leave folder.old) opened.checkpoint folder.new) }
     ensures closed { IsTrue S.told → OnOk result
         ((S.seen folder.new).closed ≡ (S.seen folder.old).closed) }
     // A report without a checkpoint is never begun anew.
     ensures empty { IsTrue S.told → (S.seen folder.old).checkpoint ≡ None
         → OnOk result (length (S.seen folder.old).report ≡ 0) }
+    // A report that is shorter than its checkpoint says, or has another tail, is not taken for
+    // whole.
+    ensures lost { IsTrue S.told → (k : ModelCheckpoint) → IsAt k (S.seen folder.old)
+        → IsLost k (S.seen folder.old)
+        → IfOk result (λ opened. IsTrue opened.lost × (opened.checkpoint.whole ≡ false)) }
+    // Where it is refused, the folder stays as it was.
+    ensures refused { IsTrue S.told → (why : ModelRefusal) → result ≡ Err (Refused why)
+        → S.seen folder.new ≡ S.seen folder.old }
+    // One of another root or part, or of a root that is not as it was, is not opened, and stays as
+    // it was.
+    ensures unopened { IsTrue S.told → (k : ModelCheckpoint) → IsAt k (S.seen folder.old)
+        → IsForeign site.now identity.now plan.now.force_root k → OnOk result ⊥ }
+    ensures foreign { IsTrue S.told → (k : ModelCheckpoint) → IsAt k (S.seen folder.old)
+        → IsForeign site.now identity.now plan.now.force_root k
+        → IsUntouched S.seen S.may_leave S.moment S.left_since folder.old folder.new }
 {
     match look(alloc, folder)? {
-        None => {
-            if !create {
-                return Err(Stop::NoCheckpoint);
-            }
-            begin(alloc, folder)
-        }
-        Some(mark) => {
-            take_up(folder, &mark)?;
-            Ok(mark)
+        None => create(alloc, folder, site, identity, plan),
+        Some(found) => {
+            let checkpoint = own(found, site, identity, plan.force_root)?;
+            Ok(resume(alloc, folder, checkpoint, identity)?)
         }
     }
 }

@@ -1,11 +1,13 @@
 //! What a night may do, and what it did.
 ghost use Rattle.std.specs.Prelude.{◌≡◌, ◌++◌, ◌∷◌, [], Bool, IsTrue, List, ℕ};
 
+use crate::refusal::Refusal;
 use crate::stop::Stop;
 use ocfl_cursor::Budget;
+use ocfl_tree::Place;
 use ocfl_walk::Fault;
 
-/// A clock, which may answer anything.
+/// A clock, which also knows whether the night is asked to stop. It may answer anything.
 pub trait Clock {
     /// Whether the clock is told. If not, the clause promises nothing.
     ghost told: { Bool };
@@ -16,6 +18,10 @@ pub trait Clock {
     /// The time, in seconds since the epoch.
     fn now(&mut self) -> u64
         ensures { IsTrue told → answers self.new ≡ answers self.old ++ result ∷ [] };
+
+    /// Whether the night is asked to stop. It is asked before each run.
+    fn is_stopped(&mut self) -> bool
+        ensures { IsTrue told → answers self.new ≡ answers self.old };
 }
 
 /// What a night may do.
@@ -31,6 +37,11 @@ pub struct Plan {
     pub files: Option<u64>,
     /// Whether a folder with no checkpoint is begun in.
     pub create: bool,
+    /// Whether a root with another declaration, or without more than half of its names, is taken
+    /// for the one of before. The checkpoint then has what the root has now.
+    pub force_root: bool,
+    /// Whether the night ends at a place that cannot be read, and leaves no branch out.
+    pub stop_at_faults: bool,
 }
 
 /// What ended a night.
@@ -42,9 +53,16 @@ pub enum Halt {
     TimeUp,
     /// As many files were started as the plan allows.
     Spent,
-    /// A run stopped; what went out whole is kept.
+    /// The night was asked to stop.
+    Asked,
+    /// A run stopped, and no branch could be left out for it; what went out whole is kept. Or the
+    /// root could not be looked at after a run, of which nothing is kept.
     Stopped(Fault),
-    /// Something else failed, or was refused.
+    /// After a run the root is gone, or another one. Nothing of that run is kept.
+    RootChanged,
+    /// Nothing was run, and the folder is as it was.
+    Refused(Refusal),
+    /// Something else failed.
     Troubled(Stop),
 }
 
@@ -53,7 +71,9 @@ pub enum Halt {
 pub(crate) enum Pause {
     TimeUp,
     Spent,
+    Asked,
     Stopped(Fault),
+    RootChanged,
     /// The cycle has ended.
     Closing,
 }
@@ -69,5 +89,10 @@ pub struct NightEnd {
     pub files: u64,
     /// Whether a line of one of their items is a finding.
     pub found: bool,
+    /// Whether bytes of the report were lost: it was shorter than the checkpoint says, or had
+    /// another tail.
+    pub lost: bool,
+    /// The branches that were left out in it, at most 16.
+    pub left: Vec<Place>,
     pub end: Halt,
 }

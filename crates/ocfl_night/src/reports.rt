@@ -1,20 +1,53 @@
-//! Changes of the report, as far as a crash keeps its front.
-ghost use Rattle.std.specs.Prelude.{◌≡◌, ◌++◌, IsTrue, OnOk, length, take};
+//! The report: what a checkpoint keeps of it, and changes, as far as a crash keeps its front.
+ghost use Rattle.std.specs.Prelude.{◌≡◌, ◌++◌, IfOk, IfSome, IsSome, IsTrue, None, OnOk, length};
+ghost use Rattle.std.specs.Prelude.{take};
 ghost use Rattle.ocfl_state.specs.Content.{with_report};
-ghost use Rattle.ocfl_state.specs.Crash.{Passes};
-ghost use Rattle.ocfl_night.specs.Steps.{KeepsFront};
+ghost use Rattle.ocfl_state.specs.Crash.{Passes, Same};
+ghost use Rattle.ocfl_state.specs.Pieces.{HasTail, summary_of};
+ghost use Rattle.ocfl_night.specs.Steps.{BeginsAs, KeepsFront};
 
-use ocfl_state::{StateFolder, Trouble};
+use ocfl_state::{FoundReport, ReportMark, StateFolder, Trouble, append_marked, find_report};
 
-/// Appends bytes to the report.
+/// What there is of a report that is another one than a mark says, up to the length that it says:
+/// bytes were lost or changed. `None` where it is as it says.
+///
+/// Less than 4 MiB are read where it is; else all of it up to that length.
+pub(crate) fn find_lost<S: StateFolder>(
+    folder: &mut S,
+    mark: &ReportMark,
+) -> Result<Option<ReportMark>, Trouble>
+    ensures kept { IsTrue S.told → BeginsAs mark.now (S.seen folder.old).report
+        → IfOk result (λ lost. lost ≡ None) }
+    ensures lost { IsTrue S.told → (HasTail mark.now (S.seen folder.old).report → ⊥)
+        → IfOk result (λ lost. IsSome lost) }
+    ensures there { IsTrue S.told → IfOk result (λ lost. IfSome lost (λ there.
+        there ≡ summary_of (take mark.now.bytes (S.seen folder.old).report))) }
+    ensures seen { IsTrue S.told → S.seen folder.new ≡ S.seen folder.old }
+    ensures crash { IsTrue S.told
+        → Passes S.may_leave S.moment S.left_since Same folder.old folder.new }
+{
+    match find_report(folder, mark)? {
+        FoundReport::Whole(_) => Ok(None),
+        FoundReport::Lost(digests) => Ok(Some(digests.summary())),
+    }
+}
+
+/// Appends bytes to the report, of which a checkpoint keeps a mark, and gives the mark of what it
+/// is then.
 #[tactic(auto, using(crate::proofs::Moments::torn_less))]
-pub(crate) fn append_report<S: StateFolder>(folder: &mut S, bytes: &[u8]) -> Result<(), Trouble>
+pub(crate) fn append_report<S: StateFolder>(
+    folder: &mut S,
+    mark: &ReportMark,
+    bytes: &[u8],
+) -> Result<ReportMark, Trouble>
+    ensures marked { IsTrue S.told → mark.now ≡ summary_of (S.seen folder.old).report
+        → IfOk result (λ next. next ≡ summary_of ((S.seen folder.old).report ++ bytes.now)) }
     ensures appended { IsTrue S.told → OnOk result (S.seen folder.new
         ≡ with_report ((S.seen folder.old).report ++ bytes.now) (S.seen folder.old)) }
     ensures crash { IsTrue S.told → Passes S.may_leave S.moment S.left_since
         (KeepsFront (length (S.seen folder.old).report)) folder.old folder.new }
 {
-    folder.append(bytes)
+    append_marked(folder, mark, bytes)
 }
 
 /// Cuts the report to a length.

@@ -5,13 +5,14 @@ ghost use Rattle.ocfl_audit.specs.Parts.{Part};
 ghost use Rattle.ocfl_tree.specs.Place.{Text};
 ghost use Rattle.ocfl_state.specs.Crash.{LeavesOnly, Passes, Same};
 ghost use Rattle.ocfl_night.specs.Sound.{IsHeard, IsHeardReady, IsReady};
-ghost use Rattle.ocfl_night.specs.Steps.{IsAllTold};
+ghost use Rattle.ocfl_night.specs.Steps.{unsaid, with_all_told};
 
-use crate::mark::put_mark;
-use crate::shape::Mark;
+use crate::checkpoint::{
+    bytes_of, is_all_told, put_checkpoint, tells_within, told_of, with_all_told,
+};
 use crate::stop::Stop;
 use ocfl_report::write_all_of;
-use ocfl_state::StateFolder;
+use ocfl_state::{Checkpoint, StateFolder};
 use std::alloc::Global;
 use std::io::Write;
 
@@ -98,47 +99,51 @@ fn say<S: StateFolder, W: Write>(
     flush(out)
 }
 
+/// Says what was not said of the report, and flushes the output.
+fn say_rest<S: StateFolder, W: Write>(
+    folder: &mut S,
+    out: &mut W,
+    checkpoint: &Checkpoint,
+) -> Result<(), Stop>
+    requires { checkpoint.now.told ≤ checkpoint.now.report.bytes }
+    ensures said { IsTrue S.told → OnOk result (Appends (W.contents out.old)
+        (W.contents out.new) (unsaid checkpoint.now (S.seen folder.old))) }
+    ensures grew { (more : List ℕ) × Appends (W.contents out.old) (W.contents out.new) more }
+    ensures seen { IsTrue S.told → S.seen folder.new ≡ S.seen folder.old }
+    ensures crash { IsTrue S.told
+        → Passes S.may_leave S.moment S.left_since Same folder.old folder.new }
+{
+    say(folder, out, told_of(checkpoint), bytes_of(checkpoint))
+}
+
 /// Says what was not said of the report, and then puts a checkpoint that says so.
 pub fn speak<S: StateFolder, W: Write>(
     alloc: Global,
     folder: &mut S,
     out: &mut W,
-    mark: Mark,
-) -> Result<Mark, Stop>
+    checkpoint: Checkpoint,
+) -> Result<Checkpoint, Stop>
     ensures heard { IsTrue S.told → (part : Part) (t : Text)
-        → IsReady S.seen S.may_leave part t mark folder.old
+        → IsReady S.seen S.may_leave part t checkpoint folder.old
         → LeavesOnly S.moment S.left_since folder.old folder.new
         (IsHeard part t (W.contents out.old) (W.contents out.new)) }
     ensures ready { IsTrue S.told → (part : Part) (t : Text)
-        → IsReady S.seen S.may_leave part t mark folder.old
+        → IsReady S.seen S.may_leave part t checkpoint folder.old
         → IfOk result (λ next. IsHeardReady S.seen S.may_leave part t
         (W.contents out.old) (W.contents out.new) next folder.new) }
-    ensures all { IfOk result (λ next. IsAllTold mark next) }
+    ensures all { IfOk result (λ next. next ≡ with_all_told checkpoint) }
     ensures grew { (more : List ℕ) × Appends (W.contents out.old) (W.contents out.new) more }
     ensures closed { IsTrue S.told → OnOk result
         ((S.seen folder.new).closed ≡ (S.seen folder.old).closed) }
 {
-    if mark.told == mark.bytes {
-        return Ok(mark);
+    if is_all_told(&checkpoint) {
+        return Ok(checkpoint);
     }
-    if mark.told > mark.bytes {
-        return Err(Stop::Damaged);
+    if !tells_within(&checkpoint) {
+        return Err(Stop::Overtold);
     }
-    say(folder, out, mark.told, mark.bytes)?;
-    let Mark {
-        phase,
-        whole,
-        bytes,
-        told: _,
-        cursor,
-    } = mark;
-    let next = Mark {
-        phase,
-        whole,
-        bytes,
-        told: bytes,
-        cursor,
-    };
-    put_mark(alloc, folder, &next)?;
+    say_rest(folder, out, &checkpoint)?;
+    let next = with_all_told(checkpoint);
+    put_checkpoint(alloc, folder, &next)?;
     Ok(next)
 }

@@ -1,26 +1,34 @@
 //! A slice: one run, whose lines are appended, come to the disk, and then count.
-ghost use Rattle.std.specs.Prelude.{◌≡◌, ◌≢◌, IfOk, IfNone, IsTrue, OnOk, length};
+ghost use Rattle.std.specs.Prelude.{◌≡◌, ◌≢◌, ◌⊎◌, ◌++◌, IfNone, IfOk, IsTrue, OnOk, length};
+ghost use Rattle.ocfl_audit.specs.Parts.{Part as ModelPart};
 ghost use Rattle.ocfl_tree.specs.Place.{Text};
+ghost use Rattle.ocfl_tree.specs.StorageRoot.{StorageRoot};
 ghost use Rattle.ocfl_tree.specs.Store.{IfTold};
 ghost use Rattle.ocfl_item.specs.Judging.{HasShortFiles};
 ghost use Rattle.ocfl_item.specs.declared.fault.Fault.TheVariants as fault;
 ghost use Rattle.ocfl_scrub.specs.Starting.{part_of};
 ghost use Rattle.ocfl_scrub.specs.declared.running.RunStatus.TheVariants as run;
+ghost use Rattle.ocfl_state.specs.Content.{with_report};
 ghost use Rattle.ocfl_state.specs.Crash.{LeavesOnly, Only, Passes};
+ghost use Rattle.ocfl_state.specs.Pieces.{summary_of};
+ghost use Rattle.ocfl_state.specs.declared.checkpoint_parts.Phase.TheVariants.{Closing, Open};
+ghost use Rattle.ocfl_night.specs.Chain.{part_after};
+ghost use Rattle.ocfl_night.specs.Site.{IsStill};
 ghost use Rattle.ocfl_night.specs.Sound.{IsReady, IsSoundAt};
-ghost use Rattle.ocfl_night.specs.Steps.{IsExtended, IsNext, KeepsFront};
-ghost use Rattle.ocfl_night.specs.declared.shape.Phase.TheVariants.{Open};
+ghost use Rattle.ocfl_night.specs.Steps.{IsNext, IsRun, KeepsFront};
 
-use crate::mark::put_mark;
+use crate::checkpoint::{cursor_of, put_checkpoint, report_of};
+use crate::leaving::part_past;
+use crate::looking::{NotKept, look_again};
 use crate::reports::append_report;
-use crate::shape::{Mark, Phase};
 use crate::stop::Stop;
 use ocfl_cursor::{Cursor, Limits};
 use ocfl_digest::Block;
+use ocfl_identity::Identity;
 use ocfl_scrub::parts::each_run_has_a_report;
 use ocfl_scrub::{Part, RunEnd, RunStatus, run_part};
-use ocfl_state::{StateFolder, Trouble};
-use ocfl_tree::Tree;
+use ocfl_state::{Checkpoint, Phase, ReportMark, StateFolder, Trouble};
+use ocfl_tree::{Place, Tree};
 use ocfl_walk::Fault;
 use std::alloc::Global;
 
@@ -36,53 +44,105 @@ fn lost(end: &RunStatus) -> Option<Stop>
     }
 }
 
-/// Makes a run, appends its lines, and brings them to the disk. Gives the length of the report too.
-fn extend<S: StateFolder, T: Tree>(
+/// Makes a run, and looks at the root after it. Gives its lines too.
+fn make_run<T: Tree>(
     alloc: Global,
-    folder: &mut S,
     tree: &mut T,
     part: &Part,
+    identity: &Identity,
     cursor: Cursor,
     limits: Limits,
     block: &mut Block,
-) -> Result<(RunEnd, u64), Stop>
-    ensures run { IsTrue S.told → IfTold T.told (T.state tree.old) (λ root. HasShortFiles root
-        → IfOk result (λ r. IsExtended (part_of part.now) cursor root
-        (S.seen folder.old) (S.seen folder.new) r.0)) }
-    ensures length { IsTrue S.told → IfOk result (λ r. r.1 ≡ length (S.seen folder.new).report) }
-    ensures only { IsTrue S.told → OnOk result
-        (Only (S.seen folder.new) (S.may_leave folder.new)) }
-    ensures crash { IsTrue S.told → Passes S.may_leave S.moment S.left_since
-        (KeepsFront (length (S.seen folder.old).report)) folder.old folder.new }
+) -> Result<(RunEnd, Vec<u8>), NotKept>
+    ensures run { IfTold T.told (T.state tree.old) (λ root. HasShortFiles root
+        → IfOk result (λ r. IsRun (part_of part.now) cursor root r.1.items r.0)) }
     ensures root { IfTold T.told (T.state tree.old) (λ root. HasShortFiles root
-        → OnOk result ((T.state tree.new).tree ≡ root)) }
+        → (T.state tree.new).tree ≡ root) }
+    ensures still { IsTrue T.told → OnOk result (IsStill identity.now (T.state tree.new).tree) }
 {
     let mut lines: Vec<u8> = Vec::new(alloc);
     let ran = run_part(alloc, tree, part, cursor, limits, block, &mut lines);
     each_run_has_a_report();
     if let Some(why) = lost(&ran.end) {
-        return Err(why);
+        return Err(NotKept::Troubled(why));
     }
-    append_report(folder, &lines)?;
-    let bytes = folder.length()?;
+    look_again(alloc, tree, identity, block)?;
+    Ok((ran, lines))
+}
+
+/// Appends the lines of a run to the report, of which a checkpoint keeps a mark, and brings them to
+/// the disk. Gives the mark of what it is then.
+fn extend<S: StateFolder>(
+    folder: &mut S,
+    mark: &ReportMark,
+    lines: &[u8],
+) -> Result<ReportMark, Stop>
+    ensures grown { IsTrue S.told → OnOk result (S.seen folder.new
+        ≡ with_report ((S.seen folder.old).report ++ lines.now) (S.seen folder.old)) }
+    ensures mark { IsTrue S.told → mark.now ≡ summary_of (S.seen folder.old).report
+        → IfOk result (λ next. next ≡ summary_of (S.seen folder.new).report) }
+    ensures only { IsTrue S.told → OnOk result
+        (Only (S.seen folder.new) (S.may_leave folder.new)) }
+    ensures crash { IsTrue S.told → Passes S.may_leave S.moment S.left_since
+        (KeepsFront (length (S.seen folder.old).report)) folder.old folder.new }
+{
+    let next = append_report(folder, mark, lines)?;
     folder.sync()?;
-    Ok((ran, bytes))
+    Ok(next)
+}
+
+/// How a slice ended.
+#[derive(Debug, Drop)]
+pub enum SliceEnd {
+    /// No item is left: the cycle has ended.
+    Ended,
+    /// The next item is a file that the limits do not allow to start.
+    Spent,
+    /// The run stopped; what went out whole is kept.
+    Stopped(Fault),
+    /// After the run the root is gone, or another one. Nothing of the run is kept.
+    RootChanged,
+    /// After the run the root could not be looked at. Nothing of the run is kept.
+    Unread(Place),
 }
 
 /// What a slice made.
 #[derive(Debug, Drop)]
 pub struct Made {
-    pub mark: Mark,
+    /// The checkpoint after it.
+    pub checkpoint: Checkpoint,
+    /// What its items cost.
     pub spent: u64,
+    /// How many of them are files that were read.
     pub files: u64,
+    /// Whether a line of one of them is a finding.
     pub found: bool,
-    pub end: RunStatus,
+    pub end: SliceEnd,
 }
 
-/// The checkpoint after a run. The one of the run that ended the cycle is itself `Closing`.
-fn after_run(whole: bool, told: u64, ran: RunEnd, bytes: u64) -> Made
-    ensures next { IsNext whole told ran bytes result.mark }
-    ensures end { result.end ≡ ran.end }
+/// How a slice ended whose run is kept.
+fn end_of(end: RunStatus) -> SliceEnd {
+    match end {
+        RunStatus::Ended => SliceEnd::Ended,
+        RunStatus::Spent | RunStatus::Worn => SliceEnd::Spent,
+        RunStatus::Stopped(why) => SliceEnd::Stopped(why),
+    }
+}
+
+/// The phase after a run that ended so. That of the run that ended the cycle is itself `Closing`.
+fn phase_after(end: &RunStatus) -> Phase
+    ensures ended { end.now ≡ run.Ended → result ≡ Closing }
+    ensures goes_on { end.now ≢ run.Ended → result ≡ Open }
+{
+    match end {
+        RunStatus::Ended => Phase::Closing,
+        RunStatus::Spent | RunStatus::Stopped(_) | RunStatus::Worn => Phase::Open,
+    }
+}
+
+/// The checkpoint after a run, of which it keeps the report so.
+fn after_run(mut checkpoint: Checkpoint, ran: RunEnd, report: ReportMark) -> Made
+    ensures { IsNext checkpoint ran report result.checkpoint }
 {
     let RunEnd {
         cursor,
@@ -91,61 +151,99 @@ fn after_run(whole: bool, told: u64, ran: RunEnd, bytes: u64) -> Made
         found,
         end,
     } = ran;
-    let phase = match end {
-        RunStatus::Ended => Phase::Closing,
-        RunStatus::Spent | RunStatus::Stopped(_) | RunStatus::Worn => Phase::Open,
-    };
+    checkpoint.phase = phase_after(&end);
+    checkpoint.report = report;
+    checkpoint.cursor = cursor;
     Made {
-        mark: Mark {
-            phase,
-            whole,
-            bytes,
-            told,
-            cursor,
-        },
+        checkpoint,
         spent,
         files,
         found,
+        end: end_of(end),
+    }
+}
+
+/// A slice of whose run nothing is kept.
+fn unmade(checkpoint: Checkpoint, end: SliceEnd) -> Made
+    ensures { result.checkpoint ≡ checkpoint }
+{
+    Made {
+        checkpoint,
+        spent: 0,
+        files: 0,
+        found: false,
         end,
     }
 }
 
-/// Makes one run from a checkpoint's cursor, and the checkpoint after it.
+/// Keeps the lines of a run that was made from a checkpoint's cursor, and puts the checkpoint after
+/// it.
+fn keep<S: StateFolder>(
+    alloc: Global,
+    folder: &mut S,
+    checkpoint: Checkpoint,
+    ran: RunEnd,
+    lines: &[u8],
+) -> Result<Made, Stop>
+    requires { checkpoint.phase ≡ Open }
+    ensures any_moment { IsTrue S.told → (part : ModelPart) (root : StorageRoot)
+        → IsRun (part_after part checkpoint.left) checkpoint.cursor root lines.now ran → (t : Text)
+        → IsReady S.seen S.may_leave part t checkpoint folder.old
+        → LeavesOnly S.moment S.left_since folder.old folder.new (IsSoundAt part t) }
+    ensures ready { IsTrue S.told → (part : ModelPart) (root : StorageRoot)
+        → IsRun (part_after part checkpoint.left) checkpoint.cursor root lines.now ran → (t : Text)
+        → IsReady S.seen S.may_leave part t checkpoint folder.old
+        → IfOk result (λ made. IsReady S.seen S.may_leave part t made.checkpoint folder.new) }
+    ensures closed { IsTrue S.told → OnOk result
+        ((S.seen folder.new).closed ≡ (S.seen folder.old).closed) }
+{
+    let mark = report_of(&checkpoint);
+    let report = extend(folder, &mark, lines)?;
+    let made = after_run(checkpoint, ran, report);
+    put_checkpoint(alloc, folder, &made.checkpoint)?;
+    Ok(made)
+}
+
+/// Makes one run from a checkpoint's cursor, past the branches that were left out, and the
+/// checkpoint after it. The root is looked at after the run: where it is gone, or another one,
+/// nothing of the run is kept.
 pub fn slice<S: StateFolder, T: Tree>(
     alloc: Global,
     folder: &mut S,
     tree: &mut T,
     part: &Part,
-    mark: Mark,
+    identity: &Identity,
+    checkpoint: Checkpoint,
     limits: Limits,
     block: &mut Block,
 ) -> Result<Made, Stop>
-    requires { mark.phase ≡ Open }
+    requires { checkpoint.phase ≡ Open }
     ensures any_moment { IsTrue S.told → IfTold T.told (T.state tree.old) (λ root.
         HasShortFiles root → (t : Text)
-        → IsReady S.seen S.may_leave (part_of part.now) t mark folder.old
+        → IsReady S.seen S.may_leave (part_of part.now) t checkpoint folder.old
         → LeavesOnly S.moment S.left_since folder.old folder.new
         (IsSoundAt (part_of part.now) t)) }
     ensures ready { IsTrue S.told → IfTold T.told (T.state tree.old) (λ root.
         HasShortFiles root → (t : Text)
-        → IsReady S.seen S.may_leave (part_of part.now) t mark folder.old
+        → IsReady S.seen S.may_leave (part_of part.now) t checkpoint folder.old
         → IfOk result (λ made. IsReady S.seen S.may_leave (part_of part.now) t
-        made.mark folder.new)) }
-    ensures closed { IsTrue S.told → IfTold T.told (T.state tree.old) (λ root.
-        HasShortFiles root → OnOk result
-        ((S.seen folder.new).closed ≡ (S.seen folder.old).closed)) }
+        made.checkpoint folder.new)) }
+    ensures closed { IsTrue S.told → OnOk result
+        ((S.seen folder.new).closed ≡ (S.seen folder.old).closed) }
     ensures root { IfTold T.told (T.state tree.old) (λ root. HasShortFiles root
-        → OnOk result ((T.state tree.new).tree ≡ root)) }
+        → (T.state tree.new).tree ≡ root) }
+
+    // Nothing is kept of a run after which the root is not the one of before.
+    ensures still { IsTrue S.told → IsTrue T.told → (S.seen folder.new ≡ S.seen folder.old)
+        ⊎ IsStill identity.now (T.state tree.new).tree }
 {
-    let Mark {
-        phase: _,
-        whole,
-        bytes: _,
-        told,
-        cursor,
-    } = mark;
-    let (ran, bytes) = extend(alloc, folder, tree, part, cursor, limits, block)?;
-    let made = after_run(whole, told, ran, bytes);
-    put_mark(alloc, folder, &made.mark)?;
-    Ok(made)
+    let cursor = cursor_of(&checkpoint)?;
+    let rest = part_past(alloc, part, checkpoint.left.as_slice())?;
+    let (ran, lines) = match make_run(alloc, tree, &rest, identity, cursor, limits, block) {
+        Ok(made) => made,
+        Err(NotKept::Troubled(why)) => return Err(why),
+        Err(NotKept::RootChanged) => return Ok(unmade(checkpoint, SliceEnd::RootChanged)),
+        Err(NotKept::Unread(place)) => return Ok(unmade(checkpoint, SliceEnd::Unread(place))),
+    };
+    keep(alloc, folder, checkpoint, ran, &lines)
 }

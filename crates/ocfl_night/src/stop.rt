@@ -1,6 +1,6 @@
 //! Why a night ended early.
 use ocfl_state::Trouble;
-use ocfl_walk::Fault;
+use ocfl_tree::Place;
 use std::alloc::AllocError;
 
 /// Why a night ended early.
@@ -8,18 +8,18 @@ use std::alloc::AllocError;
 pub enum Stop {
     /// A call of the state folder failed, or memory was refused.
     Folder(Trouble),
-    /// There is no checkpoint, and none is to be made.
-    NoCheckpoint,
-    /// There is a report, and no checkpoint.
-    NotEmpty,
-    /// The checkpoint's bytes are the text of none.
-    Damaged,
-    /// The report is shorter than the checkpoint says.
-    Short,
+    /// The root's top folder, or a declaration in it, could not be read: the place that failed.
+    Unread(Place),
     /// No further run can be counted.
     Worn,
+    /// The checkpoint leaves out a branch that has no end.
+    Endless,
     /// Some of the report was not said.
     Unsaid,
+    /// The checkpoint tells more than the report has.
+    Overtold,
+    /// The report ended before what was to be said of it.
+    Short,
     /// The output did not take what was said.
     Output,
 }

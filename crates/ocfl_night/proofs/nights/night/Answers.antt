@@ -1,12 +1,14 @@
-use Rattle.ocfl_scrub.specs.Starting.{part_of}
+use Rattle.std.proofs.Common.{⊎_elim, Bool, subst, sym}
+use Rattle.std.specs.Prelude.{IsTrue}
+use Rattle.ocfl_night.specs.Site.{part_at}
 use Rattle.ocfl_night.specs.Sound.{IsSound, IsHeardSince}
 use Rattle.ocfl_night.proofs.Moments.{leaves_weaker}
-use Rattle.ocfl_night.proofs.Heard.{on_ok, since_sound}
+use Rattle.ocfl_night.proofs.Heard.{none_ok, on_ok, since_sound}
 use Rattle.ocfl_night.proofs.nights.night.Goals as goal
 
 pub returns-clause-any_moment : goal.returns-clause-any_moment
 returns-clause-any_moment g c = λ told tells root over short kept.
-    let part = part_of c.args.part.now in
+    let part = part_at c.args.site.now.ends in
     let may = g.S.StateFolder.may_leave c.args.folder.now in
     let s0 = g.W.Write.contents c.args.out.now in
     let s1 = g.W.Write.contents c.go_through-through.new.out in
@@ -14,7 +16,7 @@ returns-clause-any_moment g c = λ told tells root over short kept.
 
 pub returns-clause-kept : goal.returns-clause-kept
 returns-clause-kept g c = λ told tells root over short kept d left.
-    let part = part_of c.args.part.now in
+    let part = part_at c.args.site.now.ends in
     let may = g.S.StateFolder.may_leave c.args.folder.now in
     let s0 = g.W.Write.contents c.args.out.now in
     let s1 = g.W.Write.contents c.go_through-through.new.out in
@@ -25,5 +27,26 @@ pub returns-clause-ended : goal.returns-clause-ended
 returns-clause-ended g c = λ told tells root over short kept cycle is. c.go_through-through.ensures.ended told tells root over short kept cycle (c.account.ensures.ended cycle is)
 
 pub returns-clause-said : goal.returns-clause-said
-returns-clause-said g c = λ told tells root over short kept well.
-    on_ok c.go_through-through.result (c.account.ensures.said well) (c.go_through-through.ensures.said told tells root over short kept)
+returns-clause-said g c = λ told tells root over short kept well unrefused.
+    on_ok c.go_through-through.result (c.account.ensures.said well unrefused) (c.go_through-through.ensures.said told tells root over short kept)
+
+pub returns-clause-another : goal.returns-clause-another
+returns-clause-another g c = λ told k at others.
+    (c.account.ensures.not_begun (none_ok c.go_through-through.result (c.go_through-through.ensures.another_unopened told k at others)), c.go_through-through.ensures.another told k at others)
+
+pub returns-clause-other_root : goal.returns-clause-other_root
+returns-clause-other_root g c = λ told tells root over k at other force.
+    (c.account.ensures.not_begun (none_ok c.go_through-through.result (c.go_through-through.ensures.other_root_unopened told tells root over k at other force)), c.go_through-through.ensures.other_root told tells root over k at other force)
+
+pub returns-clause-undeclared : goal.returns-clause-undeclared
+returns-clause-undeclared g c = λ told tells root over none.
+    (c.account.ensures.not_begun (none_ok c.go_through-through.result (c.go_through-through.ensures.undeclared_unopened tells root over none)), c.go_through-through.ensures.undeclared told tells root over none)
+
+pub returns-clause-refused : goal.returns-clause-refused
+returns-clause-refused g c = λ told why is.
+    ⊎_elim (λ err. c.go_through-through.ensures.refused told why err) (λ ok. absurd (c.go_through-through.ensures.unrefused why ok)) (c.account.ensures.refused why is)
+
+pub returns-clause-lost : goal.returns-clause-lost
+returns-clause-lost g c = λ told k at lost well unrefused.
+    subst (λ (b : Bool). IsTrue b) (sym c.account.ensures.lost)
+    (on_ok c.go_through-through.result (c.account.ensures.said well unrefused) (c.go_through-through.ensures.lost told k at lost))

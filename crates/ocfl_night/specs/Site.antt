@@ -1,0 +1,88 @@
+-- Whose a checkpoint is, and what it says of the root.
+use Rattle.std.specs.Prelude.{◌≡◌, ◌≢◌, ◌⊎◌, ℕ, ◌+◌, ◌<◌, ◌≤◌, [], Bool, true, false, Option, Some, None, if◌then◌else◌, length}
+use Rattle.ocfl_audit.specs.Parts.{Part, whole}
+use Rattle.ocfl_cursor.specs.Cursor.{new_cursor}
+use Rattle.ocfl_cursor.specs.declared.ends.PartEnds.{PartEnds}
+use Rattle.ocfl_scope.specs.Numbered.{part_between}
+use Rattle.ocfl_state.specs.Checkpoint.{Checkpoint}
+use Rattle.ocfl_state.specs.Pieces.{summary_of}
+use Rattle.ocfl_state.specs.declared.checkpoint_parts.ReportMark.{ReportMark}
+use Rattle.ocfl_state.specs.declared.checkpoint_parts.TopNames.{TopNames}
+use Rattle.ocfl_state.specs.declared.checkpoint_parts.Phase.TheVariants.{Open}
+use Rattle.ocfl_tree.specs.Listing.{entries_in}
+use Rattle.ocfl_tree.specs.StorageRoot.{StorageRoot}
+use Rattle.ocfl_identity.specs.Identity.{declared_by, declarations_among}
+use Rattle.ocfl_identity.specs.declared.identity.Identity.{Identity}
+use Rattle.ocfl_night.specs.declared.site.Site.{Site}
+
+-- the part with these ends, or all of the root
+abbrev pub part_at : Option PartEnds → Part
+part_at None = whole
+part_at (Some e) = part_between e
+
+-- ---- what a checkpoint has of the root and of the report
+
+abbrev pub names_now : Identity → TopNames
+names_now id = record { count = id.count; digest = id.names }
+
+-- that of an empty report
+abbrev pub no_report : ReportMark
+no_report = summary_of []
+
+-- the first one
+abbrev pub first_checkpoint : Site → Identity → Checkpoint
+first_checkpoint site id = record {
+  root = record { path = site.path; declared = id.declared };
+  names = names_now id;
+  phase = Open;
+  whole = true;
+  report = no_report;
+  told = 0;
+  left = [];
+  part = site.ends;
+  cursor = new_cursor;
+}
+
+-- the same with the declaration that the root has now, and with its names where they begin anew
+abbrev pub with_root : Bool → Identity → Checkpoint → Checkpoint
+with_root anew id k = record k {
+  root = record { path = k.root.path; declared = id.declared };
+  names = if anew then names_now id else k.names;
+}
+
+-- ---- whose it is
+
+-- of this path and part
+pub record IsOwn (site : Site) (k : Checkpoint) : Type 0 where
+  pub path : k.root.path ≡ site.path
+  pub part : k.part ≡ site.ends
+
+-- of another root or part
+abbrev pub IsAnothers : Site → Checkpoint → Type 0
+IsAnothers site k = (k.root.path ≢ site.path) ⊎ (k.part ≢ site.ends)
+
+-- more than half of the names of before are gone
+abbrev pub AreMostGone : Identity → Checkpoint → Type 0
+AreMostGone id k = id.count + id.count < k.names.count
+
+-- the root has the same declaration, and at least half of the names
+pub record IsSameRoot (id : Identity) (k : Checkpoint) : Type 0 where
+  pub declared : k.root.declared ≡ id.declared
+  pub names : k.names.count ≤ id.count + id.count
+
+-- the root has another declaration, or more than half of the names are gone
+abbrev pub IsOther : Identity → Checkpoint → Type 0
+IsOther id k = (k.root.declared ≢ id.declared) ⊎ AreMostGone id k
+
+-- no night is begun with this checkpoint
+abbrev pub IsForeign : Site → Identity → Bool → Checkpoint → Type 0
+IsForeign site id force k = IsAnothers site k ⊎ ((force ≡ false) × IsOther id k)
+
+-- the same of a storage root
+abbrev pub IsOtherThan : StorageRoot → Checkpoint → Type 0
+IsOtherThan root k = (declared_by root (declarations_among (entries_in root [])) ≢ Some k.root.declared)
+    ⊎ (length (entries_in root []) + length (entries_in root []) < k.names.count)
+
+-- the files that declared the root are there and are the same
+abbrev pub IsStill : Identity → StorageRoot → Type 0
+IsStill id root = declared_by root id.declarations.items ≡ Some id.declared

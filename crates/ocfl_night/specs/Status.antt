@@ -1,0 +1,27 @@
+-- The exit status of a program after a night.
+use Rattle.std.specs.Prelude.{ℕ, ◌==◌, Bool, if◌then◌else◌}
+use Rattle.ocfl_night.specs.declared.plan.Halt.{Halt}
+use Rattle.ocfl_night.specs.declared.plan.Halt.TheVariants as halt
+use Rattle.ocfl_night.specs.declared.refusal.Refusal.{Refusal}
+use Rattle.ocfl_night.specs.declared.refusal.Refusal.TheVariants as refusal
+
+-- 4 where the checkpoint cannot be read
+abbrev pub refusal_status : Refusal → ℕ
+refusal_status refusal.NotCheckpoint = 4
+refusal_status refusal.Version = 4
+refusal_status refusal.Damaged = 4
+refusal_status refusal.Malformed = 4
+refusal_status _ = 3
+
+-- 0 where a night ended as it may
+abbrev pub halt_status : Halt → ℕ
+halt_status (halt.CycleEnded cycle) = 0
+halt_status halt.TimeUp = 0
+halt_status halt.Spent = 0
+halt_status halt.Asked = 0
+halt_status (halt.Refused why) = refusal_status why
+halt_status _ = 3
+
+-- what was lost is graver than what was found
+abbrev pub found_status : Bool → ℕ → ℕ
+found_status lost findings = if lost then 3 else if findings == 0 then 0 else 1

@@ -1,0 +1,155 @@
+//! Leaving out a branch that cannot be read.
+ghost use Rattle.std.specs.Prelude.{◌≡◌, ◌⊎◌, ◌-◌, ◌++◌, ◌∷◌, [], IfOk, IfSome, IsTrue, OnOk};
+ghost use Rattle.std.specs.Prelude.{length, take};
+ghost use Rattle.ocfl_audit.specs.Parts.{Part as ModelPart};
+ghost use Rattle.ocfl_tree.specs.Place.{Text};
+ghost use Rattle.ocfl_cursor.specs.State.{state_of};
+ghost use Rattle.ocfl_scrub.specs.Running.{place_in};
+ghost use Rattle.ocfl_scrub.specs.Starting.{part_of};
+ghost use Rattle.ocfl_state.specs.Crash.{LeavesOnly};
+ghost use Rattle.ocfl_state.specs.declared.checkpoint_parts.Phase.TheVariants.{Open};
+ghost use Rattle.ocfl_night.specs.Chain.{from_after, part_after, past};
+ghost use Rattle.ocfl_night.specs.Sound.{IsReady, IsSoundAt};
+ghost use Rattle.ocfl_night.specs.Steps.{with_left};
+
+use crate::checkpoint::put_checkpoint;
+use crate::site::end_again;
+use crate::stop::Stop;
+use ocfl_cursor::State;
+use ocfl_inventory::{Level, is_declaration_name};
+use ocfl_scrub::Part;
+use ocfl_state::{Checkpoint, Left, StateFolder};
+use ocfl_tree::{Name, NameStop, Place};
+use ocfl_walk::End;
+use std::alloc::{AllocError, Global};
+
+/// The place with another last name.
+fn renamed(place: &Place, name: Name) -> Result<Place, AllocError>
+    ensures { IfOk result (λ other. other ≡ take (length place.now - 1) place.now ++ name ∷ []) }
+{
+    let mut other = place.first(place.depth().saturating_sub(1))?;
+    other.push(name)?;
+    Ok(other)
+}
+
+/// The name with the byte 1 after it. `None` where that is no name: it would have 256 bytes.
+fn lengthened(alloc: Global, name: &str) -> Result<Option<Name>, AllocError>
+    ensures { IfOk result (λ found. IfSome found (λ longer. longer ≡ name.now ++ 1 ∷ [])) }
+{
+    let mut longer = String::from_str(alloc, name)?;
+    longer.push('\u{1}')?;
+    match Name::new(alloc, longer.as_str()) {
+        Ok(name) => Ok(Some(name)),
+        Err(NameStop::Bad) => Ok(None),
+        Err(NameStop::Memory) => Err(AllocError),
+    }
+}
+
+/// The end of a branch: its place with the byte 1 after the last name, which comes after all that
+/// the branch has. `None` for the storage root, and for a last name of 255 bytes.
+pub(crate) fn end_of(alloc: Global, branch: &Place) -> Result<Option<Place>, AllocError>
+    ensures { IfOk result (λ found. IfSome found (λ end. end ≡ past branch.now)) }
+{
+    let Some((_, name)) = branch.split_last() else {
+        return Ok(None);
+    };
+    let Some(longer) = lengthened(alloc, name)? else {
+        return Ok(None);
+    };
+    let end = renamed(branch, longer)?;
+    Ok(Some(end))
+}
+
+/// Where what comes after the last branch that was left out begins, and the place itself where none
+/// was. `Endless` where that branch has no end.
+#[tactic(auto, using(crate::proofs::Chains::from_last, crate::proofs::Chains::from_none))]
+fn from_past(alloc: Global, from: &Option<Place>, left: &[Left]) -> Result<Option<Place>, Stop>
+    ensures { IfOk result (λ next. next ≡ from_after from.now left.now) }
+{
+    let Some(last) = left.last() else {
+        return Ok(end_again(from)?);
+    };
+    match end_of(alloc, &last.place)? {
+        Some(end) => Ok(Some(end)),
+        None => Err(Stop::Endless),
+    }
+}
+
+/// The part in which the next run is made: what comes after the last branch that was left out.
+/// `Endless` where that branch has no end.
+pub(crate) fn part_past(alloc: Global, part: &Part, left: &[Left]) -> Result<Part, Stop>
+    ensures { IfOk result (λ next. part_of next ≡ part_after (part_of part.now) left.now) }
+{
+    let from = from_past(alloc, &part.from, left)?;
+    let under = part.end.under.try_clone()?;
+    let below = end_again(&part.end.below)?;
+    Ok(Part {
+        from,
+        end: End { under, below },
+    })
+}
+
+/// Whether a file of this name speaks for the object that it lies in: as its declaration, its
+/// inventory or a sidecar of that.
+fn speaks_for_object(name: &str) -> bool {
+    name == "inventory.json"
+        || name.starts_with("inventory.json.")
+        || is_declaration_name(Level::Object, name)
+}
+
+/// The branch to leave out after a call at this place failed: that of the object if the place is
+/// one of its declarations, inventories or sidecars, else that of the place itself.
+pub(crate) fn branch_at(place: &Place) -> Result<Place, AllocError>
+    ensures { IfOk result (λ branch. (branch ≡ place.now)
+        ⊎ (branch ≡ take (length place.now - 1) place.now)) }
+{
+    match place.split_last() {
+        Some((_, name)) if speaks_for_object(name) => place.first(place.depth().saturating_sub(1)),
+        _ => place.try_clone(),
+    }
+}
+
+/// The place that a cursor stands after, or `None` where it stands at no place.
+fn stood_at(state: &State) -> Result<Option<Place>, AllocError>
+    ensures { IfOk result (λ stood. stood ≡ place_in (state_of state.now)) }
+{
+    match state {
+        State::After(place) => Ok(Some(place.try_clone()?)),
+        State::Start | State::Ended => Ok(None),
+    }
+}
+
+/// The checkpoint that names one branch more as left out, where its cursor stands.
+fn with_left(mut checkpoint: Checkpoint, branch: Place) -> Result<Checkpoint, AllocError>
+    ensures { IfOk result (λ next. next ≡ with_left branch checkpoint) }
+{
+    let after = stood_at(checkpoint.cursor.state())?;
+    checkpoint.left.push(Left {
+        place: branch,
+        after,
+    })?;
+    Ok(checkpoint)
+}
+
+/// Leaves out a branch where the cursor stands, and puts the checkpoint that names it.
+pub fn leave_out<S: StateFolder>(
+    alloc: Global,
+    folder: &mut S,
+    checkpoint: Checkpoint,
+    branch: Place,
+) -> Result<Checkpoint, Stop>
+    requires { checkpoint.phase ≡ Open }
+    ensures named { IfOk result (λ next. next ≡ with_left branch checkpoint) }
+    ensures any_moment { IsTrue S.told → (part : ModelPart) (t : Text)
+        → IsReady S.seen S.may_leave part t checkpoint folder.old
+        → LeavesOnly S.moment S.left_since folder.old folder.new (IsSoundAt part t) }
+    ensures ready { IsTrue S.told → (part : ModelPart) (t : Text)
+        → IsReady S.seen S.may_leave part t checkpoint folder.old
+        → IfOk result (λ next. IsReady S.seen S.may_leave part t next folder.new) }
+    ensures closed { IsTrue S.told → OnOk result
+        ((S.seen folder.new).closed ≡ (S.seen folder.old).closed) }
+{
+    let next = with_left(checkpoint, branch)?;
+    put_checkpoint(alloc, folder, &next)?;
+    Ok(next)
+}

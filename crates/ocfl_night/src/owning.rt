@@ -1,0 +1,168 @@
+//! Whether a checkpoint is that of these nights, and the root as it was.
+ghost use Rattle.std.specs.Prelude.{◌≡◌, ◌↔◌, ◌+◌, ◌<◌, Bool, IfOk, IsTrue, OnOk, false};
+ghost use Rattle.ocfl_night.specs.Site.{AreMostGone, IsOwn, IsSameRoot, first_checkpoint};
+ghost use Rattle.ocfl_night.specs.Site.{names_now};
+ghost use Rattle.ocfl_night.specs.Site.{with_root};
+
+use crate::checkpoint::no_report;
+use crate::refusal::Refusal;
+use crate::site::{Site, ends_again};
+use ocfl_cursor::{Cursor, PartEnds, State, is_same_part};
+use ocfl_identity::Identity;
+use ocfl_state::{Checkpoint, Phase, RootIdentity, TopNames};
+use ocfl_tree::Place;
+use std::alloc::{AllocError, Global};
+
+fn is_same_place(place: &Place, other: &Place) -> bool
+    ensures { IsTrue result ↔ (place.now ≡ other.now) }
+{
+    place == other
+}
+
+/// Whether a checkpoint is of the root at this path.
+fn is_at(checkpoint: &Checkpoint, path: &Place) -> bool
+    ensures { IsTrue result ↔ (checkpoint.now.root.path ≡ path.now) }
+{
+    is_same_place(&checkpoint.root.path, path)
+}
+
+/// Whether a checkpoint is of this part.
+fn is_of(checkpoint: &Checkpoint, ends: &Option<PartEnds>) -> bool
+    ensures { IsTrue result ↔ (checkpoint.now.part ≡ ends.now) }
+{
+    match (&checkpoint.part, ends) {
+        (None, None) => true,
+        (Some(part), Some(ends)) => is_same_part(part, ends),
+        _ => false,
+    }
+}
+
+/// Whether the root has the declaration that a checkpoint has.
+fn is_declared(checkpoint: &Checkpoint, identity: &Identity) -> bool
+    ensures { IsTrue result ↔ (checkpoint.now.root.declared ≡ identity.now.declared) }
+{
+    checkpoint.root.declared == identity.declared
+}
+
+/// Whether more than half of so many names are gone.
+fn is_most_gone(before: u64, now: u64) -> bool
+    ensures { IsTrue result ↔ (now + now < before) }
+{
+    before > now && before - now > now
+}
+
+/// Whether more than half of the names are gone that a checkpoint has.
+fn are_most_gone(checkpoint: &Checkpoint, identity: &Identity) -> bool
+    ensures { IsTrue result ↔ AreMostGone identity.now checkpoint.now }
+{
+    is_most_gone(checkpoint.names.count, identity.count)
+}
+
+/// Refuses a root with another declaration than a checkpoint has, or without more than half of its
+/// names.
+fn same_root(checkpoint: &Checkpoint, identity: &Identity) -> Result<(), Refusal>
+    ensures { OnOk result (IsSameRoot identity.now checkpoint.now) }
+{
+    if !is_declared(checkpoint, identity) {
+        return Err(Refusal::OtherDeclaration);
+    }
+    if are_most_gone(checkpoint, identity) {
+        let before = checkpoint.names.count;
+        return Err(Refusal::NamesGone {
+            gone: before.saturating_sub(identity.count),
+            before,
+        });
+    }
+    Ok(())
+}
+
+/// The path of the root that a checkpoint is of.
+fn path_of(checkpoint: Checkpoint) -> Place
+    ensures { result ≡ checkpoint.root.path }
+{
+    checkpoint.root.path
+}
+
+/// The same checkpoint, if it is of this root and this part, and unless forced the root is as it
+/// was.
+pub(crate) fn own(
+    found: Checkpoint,
+    site: &Site,
+    identity: &Identity,
+    force_root: bool,
+) -> Result<Checkpoint, Refusal>
+    ensures same { IfOk result (λ checkpoint. checkpoint ≡ found) }
+    ensures own { OnOk result (IsOwn site.now found) }
+    ensures root { force_root ≡ false → OnOk result (IsSameRoot identity.now found) }
+{
+    if !is_at(&found, &site.path) {
+        return Err(Refusal::OtherRoot(path_of(found)));
+    }
+    if !is_of(&found, &site.ends) {
+        return Err(Refusal::OtherPart);
+    }
+    if !force_root {
+        same_root(&found, identity)?;
+    }
+    Ok(found)
+}
+
+/// The names that a root has now.
+fn names_now(identity: &Identity) -> TopNames
+    ensures { result ≡ names_now identity.now }
+{
+    let digest = identity.names;
+    TopNames {
+        count: identity.count,
+        digest,
+    }
+}
+
+/// Whether the next run begins a cycle.
+fn begins(cursor: &Cursor) -> bool {
+    match cursor.state() {
+        State::Start | State::Ended => true,
+        State::After(_) => false,
+    }
+}
+
+/// The checkpoint with the declaration that the root has now. Its names are those of now where a
+/// cycle begins, or where more than half of them are gone; else they stay.
+pub(crate) fn with_root(mut checkpoint: Checkpoint, identity: &Identity) -> Checkpoint
+    ensures { (anew : Bool) × (result ≡ with_root anew identity.now checkpoint) }
+{
+    let anew = begins(&checkpoint.cursor) || are_most_gone(&checkpoint, identity);
+    let declared = identity.declared;
+    checkpoint.root.declared = declared;
+    if anew {
+        let names = names_now(identity);
+        checkpoint.names = names;
+    }
+    checkpoint
+}
+
+/// The first checkpoint of nights.
+pub(crate) fn first_checkpoint(
+    alloc: Global,
+    site: &Site,
+    identity: &Identity,
+) -> Result<Checkpoint, AllocError>
+    ensures { IfOk result (λ checkpoint. checkpoint ≡ first_checkpoint site.now identity.now) }
+{
+    let path = site.path.try_clone()?;
+    let part = ends_again(&site.ends)?;
+    let declared = identity.declared;
+    let names = names_now(identity);
+    let report = no_report();
+    Ok(Checkpoint {
+        root: RootIdentity { path, declared },
+        names,
+        phase: Phase::Open,
+        whole: true,
+        report,
+        told: 0,
+        left: Vec::new(alloc),
+        part,
+        cursor: Cursor::new(),
+    })
+}

@@ -1,0 +1,83 @@
+//! Why a night is refused, or was not begun.
+ghost use Rattle.std.specs.Prelude.{◌≡◌};
+ghost use Rattle.ocfl_state.specs.declared.folder.Trouble.TheVariants.{Memory};
+ghost use Rattle.ocfl_night.specs.declared.refusal.NotOpened.TheVariants.{Refused, Troubled};
+ghost use Rattle.ocfl_night.specs.declared.stop.Stop.TheVariants.{Folder};
+
+use crate::stop::Stop;
+use ocfl_state::Trouble;
+use ocfl_tree::Place;
+use std::alloc::AllocError;
+
+/// Why a night is refused: nothing was run, and nothing in the folder was changed.
+#[derive(Debug, Drop)]
+pub enum Refusal {
+    /// There is no checkpoint, and none is to be made.
+    NoCheckpoint,
+    /// There is no checkpoint, and there is a report, open or closed.
+    HasReports,
+    /// What stands in the checkpoint's place does not begin as a checkpoint.
+    NotCheckpoint,
+    /// The checkpoint is of a version that is not known.
+    Version,
+    /// The checkpoint does not have its digest.
+    Damaged,
+    /// The checkpoint has its digest, and is not of the form.
+    Malformed,
+    /// The root's top folder does not declare a storage root.
+    NoRoot,
+    /// The folder belongs to the storage root with this path.
+    OtherRoot(Place),
+    /// The folder belongs to another part of the root, or to all of it.
+    OtherPart,
+    /// The root's declaration is not the one of before.
+    OtherDeclaration,
+    /// More than half of the names in the root's top folder are gone since the cycle began.
+    NamesGone {
+        /// How many are gone.
+        gone: u64,
+        /// How many there were.
+        before: u64,
+    },
+}
+
+/// Why a night was not begun: it was refused, or something failed.
+#[derive(Debug, Drop)]
+pub enum NotOpened {
+    /// Nothing in the folder was changed.
+    Refused(Refusal),
+    /// Something failed.
+    Troubled(Stop),
+}
+
+impl From<Refusal> for NotOpened {
+    ghost from_gives = { λ why e. e ≡ Refused why };
+
+    fn from(why: Refusal) -> NotOpened {
+        NotOpened::Refused(why)
+    }
+}
+
+impl From<Stop> for NotOpened {
+    ghost from_gives = { λ why e. e ≡ Troubled why };
+
+    fn from(why: Stop) -> NotOpened {
+        NotOpened::Troubled(why)
+    }
+}
+
+impl From<Trouble> for NotOpened {
+    ghost from_gives = { λ why e. e ≡ Troubled (Folder why) };
+
+    fn from(trouble: Trouble) -> NotOpened {
+        NotOpened::Troubled(Stop::Folder(trouble))
+    }
+}
+
+impl From<AllocError> for NotOpened {
+    ghost from_gives = { λ _ e. e ≡ Troubled (Folder Memory) };
+
+    fn from(_error: AllocError) -> NotOpened {
+        NotOpened::Troubled(Stop::Folder(Trouble::Memory))
+    }
+}

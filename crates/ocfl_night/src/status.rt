@@ -1,0 +1,41 @@
+//! The exit status of a program after a night.
+ghost use Rattle.std.specs.Prelude.{◌≡◌};
+ghost use Rattle.ocfl_night.specs.Status.{found_status, halt_status, refusal_status};
+
+use crate::plan::Halt;
+use crate::refusal::Refusal;
+
+/// The status of a night that ended so, whatever it found: 0 where it ended as it may, 3 where
+/// something stopped or refused it, and 4 where that is a checkpoint that cannot be read.
+pub fn status_of(halt: &Halt) -> u8
+    ensures { result ≡ halt_status halt.now }
+{
+    match halt {
+        Halt::CycleEnded(_) | Halt::TimeUp | Halt::Spent | Halt::Asked => 0,
+        Halt::Stopped(_) | Halt::RootChanged | Halt::Troubled(_) => 3,
+        Halt::Refused(refusal) => status_of_refusal(refusal),
+    }
+}
+
+/// The status of a night that was refused so.
+fn status_of_refusal(refusal: &Refusal) -> u8
+    ensures { result ≡ refusal_status refusal.now }
+{
+    match refusal {
+        Refusal::NotCheckpoint | Refusal::Version | Refusal::Damaged | Refusal::Malformed => 4,
+        Refusal::NoCheckpoint | Refusal::HasReports | Refusal::NoRoot => 3,
+        Refusal::OtherRoot(_) | Refusal::OtherPart | Refusal::OtherDeclaration => 3,
+        Refusal::NamesGone { .. } => 3,
+    }
+}
+
+/// The status of a night by what came of it: 3 where some of the report was lost, 1 where findings
+/// were said, else 0. The status of the night is the greater one of this and of `status_of`.
+pub fn status_found(lost: bool, findings: u64) -> u8
+    ensures { result ≡ found_status lost findings }
+{
+    if lost {
+        return 3;
+    }
+    if findings == 0 { 0 } else { 1 }
+}

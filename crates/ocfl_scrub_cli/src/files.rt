@@ -15,7 +15,7 @@ pub(crate) fn folder_of(file: &str) -> &str {
 }
 
 /// A folder's own path. `None` where it cannot be resolved.
-fn path_of<R: Files + AllocGlobal>(rt: &R, folder: &str) -> io::Result<Option<PathBuf>> {
+pub(crate) fn path_of<R: Files + AllocGlobal>(rt: &R, folder: &str) -> io::Result<Option<PathBuf>> {
     match fs::canonicalize(rt, folder) {
         Ok(path) => Ok(Some(path)),
         Err(error) if error.kind() == io::ErrorKind::OutOfMemory => Err(error),

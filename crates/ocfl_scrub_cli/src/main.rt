@@ -2,18 +2,22 @@
 #![tactic(auto)]
 
 mod files;
+mod nights;
 mod progress;
 mod saying;
 mod scope;
+mod showing;
 mod splits;
 mod tasks;
 mod version;
 
 use clap::error::ErrorKind;
+use nights::{join_parts, make_night};
 use ocfl_line::{Asked, LineStop, asked};
 use progress::{Terminals, find_terminals};
 use saying::{STOPPED, USAGE, say, say_out_of_memory};
 use splits::split_root;
+use std::fs::File;
 use std::process::ExitCode;
 use std::rt::{Env, Files};
 use std::time::Clock;
@@ -59,7 +63,7 @@ where
 /// Runs the program, and gives its exit status.
 fn run_program<R>(rt: &R, terminals: Terminals) -> u8
 where
-    R: Files + Env + AllocGlobal + Clock + Print + Eprint,
+    R: Files<File = File> + Env + AllocGlobal + Clock + Print + Eprint,
 {
     let mut words = match read_words(rt) {
         Ok(words) => words,
@@ -75,6 +79,8 @@ where
     match asked(rt.alloc(), words.as_slice()) {
         Ok(Asked::Task(task)) => do_task(rt, &task, terminals),
         Ok(Asked::Split(split)) => split_root(rt, &split),
+        Ok(Asked::Night(night)) => make_night(rt, night, terminals),
+        Ok(Asked::Join(join)) => join_parts(rt, &join),
         Err(LineStop::Usage(error)) => print_usage(rt, &error),
         Err(LineStop::Memory) => say_out_of_memory(rt),
     }

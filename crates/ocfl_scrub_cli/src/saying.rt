@@ -3,6 +3,7 @@
 use ocfl_parts::SplitStop;
 use ocfl_scope::ScopeStop;
 use ocfl_scrub::Note;
+use ocfl_state::NotDecoded;
 use thiserror::Error;
 
 /// The exit status of a bad command line, path, part number, separators or report, and of a
@@ -12,7 +13,11 @@ pub(crate) const USAGE: u8 = 2;
 /// The exit status where a command stopped.
 pub(crate) const STOPPED: u8 = 3;
 
-/// Why a command does not begin, or makes no separators. Its `Display` is what is said of it.
+/// The exit status of bytes that are refused as a checkpoint.
+const REFUSED: u8 = 4;
+
+/// Why a command does not begin, makes no separators or shows nothing. Its `Display` is what is
+/// said of it.
 #[derive(Debug, Drop, Error)]
 pub(crate) enum Stop {
     /// The scope that is chosen was not found.
@@ -24,6 +29,12 @@ pub(crate) enum Stop {
     /// The separators' text would be longer than is read again.
     #[error("too many parts")]
     TooLong,
+    /// The bytes begin as a checkpoint, and are refused.
+    #[error("checkpoint refused: {0}")]
+    Checkpoint(NotDecoded),
+    /// The file of a checkpoint could not be read.
+    #[error("checkpoint file failed")]
+    CheckpointFile,
     /// What any command may stop for.
     #[error("{0}")]
     Stopped(Note),
@@ -36,7 +47,8 @@ impl Stop {
             Stop::Scope(why) => why.status(),
             Stop::TooLong => USAGE,
             Stop::Report(SplitStop::Line(_) | SplitStop::Many) => USAGE,
-            Stop::Report(_) | Stop::Stopped(_) => STOPPED,
+            Stop::Checkpoint(_) => REFUSED,
+            Stop::Report(_) | Stop::CheckpointFile | Stop::Stopped(_) => STOPPED,
         }
     }
 }
@@ -50,6 +62,13 @@ pub(crate) fn say<R: Eprint>(rt: &R, line: &str) {
 pub(crate) fn say_stop<R: Eprint>(rt: &R, stop: &Stop) -> u8 {
     let _ = eprintln!(rt; "ocfl-scrub: {stop}");
     stop.status()
+}
+
+/// Says what a command ended with, where that is to be said.
+pub(crate) fn say_note<R: Eprint>(rt: &R, note: &Note) {
+    if !matches!(note, Note::Nothing) {
+        let _ = eprintln!(rt; "ocfl-scrub: {note}");
+    }
 }
 
 /// Says that memory ran out, and gives the status.

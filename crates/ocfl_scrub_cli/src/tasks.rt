@@ -2,8 +2,9 @@
 
 use crate::files::{lies_inside, open_if_there, put_in_place};
 use crate::progress::{Clearing, Terminals, Watched, clear};
-use crate::saying::{STOPPED, USAGE, say, say_out_of_memory, say_stop};
+use crate::saying::{STOPPED, USAGE, say, say_note, say_out_of_memory, say_stop};
 use crate::scope::read_scope;
+use crate::showing::show_file;
 use ocfl_cursor::{State, read_cursor, read_part_cursor};
 use ocfl_deed::Deed;
 use ocfl_digest::Block;
@@ -146,9 +147,7 @@ where
     if shown_on.error {
         clear(rt);
     }
-    if !matches!(note, Note::Nothing) {
-        let _ = eprintln!(rt; "ocfl-scrub: {note}");
-    }
+    say_note(rt, &note);
     status
 }
 
@@ -175,6 +174,9 @@ pub(crate) fn do_task<R>(rt: &R, task: &Task, terminals: Terminals) -> u8
 where
     R: Files + AllocGlobal + Clock + Print + Eprint,
 {
+    if let (Deed::Show, Some(file)) = (&task.deed, &task.file) {
+        return show_file(rt, file.as_str());
+    }
     if let Some(status) = refuse_cursor_inside(rt, task) {
         return status;
     }

@@ -43,8 +43,8 @@ fn hash_reader<T: Read>(alloc: Global, reader: &mut T) -> io::Result<String> {
     Ok(hex::encode(alloc, hasher.finalize())?)
 }
 
-/// The SHA-256 of the running file.
-fn running_digest<R: Files + AllocGlobal>(rt: &R) -> io::Result<String> {
+/// The SHA-256 of the running file, in hexadecimal digits.
+pub(crate) fn running_digest<R: Files + AllocGlobal>(rt: &R) -> io::Result<String> {
     let mut file = File::open(rt, RUNNING_FILE)?;
     hash_reader(rt.alloc(), &mut file)
 }

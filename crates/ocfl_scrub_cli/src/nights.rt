@@ -1,0 +1,415 @@
+//! A night over a storage root and its state folder.
+
+mod closing;
+mod ending;
+mod failing;
+mod finding;
+mod joining;
+mod lists;
+mod logging;
+mod making;
+mod noted;
+mod roots;
+mod rows;
+mod sound;
+mod stand;
+mod state;
+mod telling;
+mod timing;
+
+use crate::nights::closing::{About, first_untold, tell_closing};
+use crate::nights::ending::{ending_text, is_own, left_text, lost_text};
+use crate::nights::failing::{Failure, say_failure, say_text};
+pub(crate) use crate::nights::joining::join_parts;
+use crate::nights::lists::{find_known, refuse_missing};
+use crate::nights::logging::{Account, log_night};
+use crate::nights::making::file_failure;
+use crate::nights::noted::Noting;
+use crate::nights::roots::{Root, find_ends, find_root, part_number};
+use crate::nights::stand::Standing;
+use crate::nights::state::{open_state, read_standing, refuse_overlap, words_of};
+use crate::nights::telling::{Names, Teller};
+use crate::nights::timing::{NightClock, end_of, is_spent_by, seconds_now};
+use crate::progress::{Clearing, Terminals, Watched, clear};
+use crate::saying::STOPPED;
+use crate::version::running_digest;
+use ocfl_cursor::Budget;
+use ocfl_digest::Block;
+use ocfl_folder::FsTree;
+use ocfl_line::NightAsked;
+use ocfl_night::{Halt, NightEnd, Plan, Site, night, status_found, status_of};
+use ocfl_state::{FsState, StateFile};
+use ocfl_telling::Known;
+use std::alloc::AllocError;
+use std::cell::Cell;
+use std::fs::File;
+use std::io::{self, Printer};
+use std::rc::Rc;
+use std::rt::{Env, Files};
+use std::time::Clock;
+
+/// How much a run spends, where that is not said: 1 GiB.
+const SLICE: u64 = 1 << 30;
+
+/// How many files a run starts at most.
+const SLICE_FILES: u64 = 20_000;
+
+/// What a night is made with.
+#[derive(Drop)]
+struct Given {
+    asked: NightAsked,
+    /// When the night began, in seconds since the epoch.
+    began: u64,
+    /// The path of the storage root.
+    root: String,
+    site: Site,
+    known: Known,
+    plan: Plan,
+}
+
+/// What a night made.
+#[derive(Drop)]
+struct Made {
+    end: NightEnd,
+    /// How many findings were said, and how many lines of the report were none.
+    findings: u64,
+    broken: u64,
+    /// How many branches are left out of the cycle that it read.
+    left: u64,
+}
+
+/// The text, where there is one.
+fn text_of(text: &Option<String>) -> Option<&str> {
+    match text {
+        Some(text) => Some(text.as_str()),
+        None => None,
+    }
+}
+
+/// How much each run spends: no more than the night may.
+fn slice_of(asked: &NightAsked) -> Result<Budget, AllocError> {
+    if let Some(slice) = asked.bounds.slice {
+        return Ok(slice);
+    }
+    match asked.bounds.budget {
+        Some(budget) if is_spent_by(budget, SLICE) => Ok(budget),
+        _ => Budget::new(SLICE).ok_or(AllocError),
+    }
+}
+
+/// What a night may do.
+fn plan_of(asked: &NightAsked, end: Option<u64>) -> Result<Plan, AllocError> {
+    Ok(Plan {
+        slice_budget: slice_of(asked)?,
+        slice_files: SLICE_FILES,
+        end,
+        files: asked.bounds.files,
+        create: asked.create,
+        force_root: asked.force_root,
+        stop_at_faults: false,
+    })
+}
+
+/// Reads all that a night is made with, but for its state folder.
+fn read_given<R>(rt: &R, asked: NightAsked, began: u64) -> Result<Given, Failure>
+where
+    R: Files + Env + AllocGlobal,
+{
+    let Root { path, place } = find_root(rt, asked.root.as_str(), asked.state.as_str())?;
+    refuse_overlap(rt, asked.state.as_str(), path.as_str())?;
+    let ends = find_ends(rt, &asked.chosen)?;
+    let known = find_known(rt, text_of(&asked.known))?;
+    refuse_missing(rt, text_of(&asked.expected))?;
+    let end = end_of(rt, asked.bounds.until, began)?;
+    Ok(Given {
+        began,
+        root: path,
+        site: Site { path: place, ends },
+        known,
+        plan: plan_of(&asked, end)?,
+        asked,
+    })
+}
+
+impl Given {
+    /// How what the night speaks of is called.
+    fn names(&self) -> Names<'_> {
+        Names {
+            root: self.root.as_str(),
+            part: part_number(&self.asked.chosen),
+            state: self.asked.state.as_str(),
+        }
+    }
+}
+
+/// What the last cycle cost, where the night begins the next one.
+fn last_cost(began: Standing) -> Option<u128> {
+    if began.has_ended {
+        Some(u128::from(began.spent))
+    } else {
+        None
+    }
+}
+
+/// Makes a night over an open folder. `now` is where the nights stand.
+fn run_night<'a, R>(
+    rt: &'a R,
+    given: &Given,
+    folder: &mut Noting<&'a R>,
+    now: &Rc<Cell<Standing>>,
+    shown_on: Terminals,
+) -> Result<Made, Failure>
+where
+    R: Files<File = File> + AllocGlobal + Clock + Print + Eprint,
+{
+    let alloc = rt.alloc();
+    let began = now.get();
+    let Ok(tree) = FsTree::at(rt, given.root.as_str()) else {
+        return Err(Failure::from(AllocError));
+    };
+    let mut tree = Watched::over(rt, tree, shown_on.error, last_cost(began));
+    let mut clock = NightClock {
+        rt,
+        stop: format!(in alloc; "{}/{}", given.asked.state, StateFile::Stop)?,
+        began,
+        now: now.clone()?,
+        budget: given.asked.bounds.budget,
+    };
+    let out = output_on(rt, shown_on);
+    let mut teller = Teller::new(alloc, given.names(), &given.known, now.clone()?, out);
+    let mut block = Block::new(alloc)?;
+    let end = night(
+        alloc,
+        folder,
+        &mut tree,
+        &given.site,
+        &given.plan,
+        &mut clock,
+        &mut block,
+        &mut teller,
+    );
+    Ok(Made {
+        end,
+        findings: teller.findings(),
+        broken: teller.broken(),
+        left: now.get().left,
+    })
+}
+
+/// Standard output, from which progress is removed where both go to one terminal.
+fn output_on<'a, R>(rt: &'a R, shown_on: Terminals) -> Clearing<'a, R, Printer<'a, R>>
+where
+    R: Print + Eprint,
+{
+    Clearing {
+        rt,
+        is_shared: shown_on.output,
+        out: io::writer(rt),
+    }
+}
+
+/// The status of a closing, or of why it could not be said.
+fn status_told<R: Eprint>(rt: &R, told: Result<u8, Failure>) -> u8 {
+    match told {
+        Ok(status) => status,
+        Err(failure) => say_failure(rt, &failure),
+    }
+}
+
+/// Says what the cycles found whose closing was not said: the last one before the night, and the
+/// one that it closed. Gives the status.
+fn tell_closings<'a, R>(
+    rt: &'a R,
+    folder: &mut FsState<&'a R>,
+    about: &About<'_>,
+    before: u64,
+    made: &Made,
+) -> u8
+where
+    R: Files<File = File> + AllocGlobal + Clock + Print + Eprint,
+{
+    let mut out = io::writer(rt);
+    let closed = match &made.end.end {
+        Halt::Refused(_) => return 0,
+        Halt::CycleEnded(cycle) => *cycle,
+        _ => 0,
+    };
+    let mut earlier = 0;
+    for cycle in first_untold(rt, folder, about.names.state, before)..=before {
+        let told = tell_closing(rt, folder, about, cycle, 0, &mut out);
+        earlier = earlier.max(status_told(rt, told));
+    }
+    let now = tell_closing(rt, folder, about, closed, made.left, &mut out);
+    earlier.max(status_told(rt, now))
+}
+
+/// Says how a night ended, and gives what was said.
+fn say_ending<'a, R>(
+    rt: &'a R,
+    folder: &mut FsState<&'a R>,
+    names: Names<'_>,
+    made: &Made,
+) -> Result<Option<String>, Failure>
+where
+    R: Files<File = File> + AllocGlobal + Eprint,
+{
+    let alloc = rt.alloc();
+    let words = words_of(alloc, folder.reason())?;
+    let said = ending_text(alloc, &made.end.end, text_of(&words), names)?;
+    if let Some(said) = &said {
+        say_text(rt, said.as_str());
+    }
+    for branch in &made.end.left {
+        say_text(rt, left_text(alloc, branch)?.as_str());
+    }
+    if is_lost(made) {
+        say_text(rt, lost_text(alloc, names.state, made.broken)?.as_str());
+    }
+    Ok(said)
+}
+
+/// Whether some of the report was lost, or cannot be read.
+fn is_lost(made: &Made) -> bool {
+    made.end.lost || made.broken > 0
+}
+
+/// Whether some of the report was lost, or a branch was left out of it.
+fn is_partial(made: &Made) -> bool {
+    is_lost(made) || !made.end.left.is_empty()
+}
+
+/// Makes a night, and gives its status.
+fn make_in<R>(rt: &R, given: &Given, shown_on: Terminals) -> Result<u8, Failure>
+where
+    R: Files<File = File> + AllocGlobal + Clock + Print + Eprint,
+{
+    let names = given.names();
+    let mut folder = open_state(rt, names.state, names.root, given.asked.create)?;
+    let began = read_standing(rt.alloc(), &mut folder);
+    let now = Rc::new(rt.alloc(), Cell::new(began))?;
+    let mut noting = Noting {
+        alloc: rt.alloc(),
+        folder,
+        now: now.clone()?,
+    };
+    let made = run_night(rt, given, &mut noting, &now, shown_on)?;
+    let mut folder = noting.folder;
+    if shown_on.error {
+        clear(rt);
+    }
+    let said = say_ending(rt, &mut folder, names, &made)?;
+    let about = About {
+        names,
+        known: &given.known,
+        expected: text_of(&given.asked.expected),
+        night: given.began,
+    };
+    let closings = tell_closings(rt, &mut folder, &about, began.last_closed(), &made);
+    let found = status_found(is_partial(&made), made.findings);
+    let status = status_of(&made.end.end).max(found).max(closings);
+    Ok(log_made(rt, &mut folder, given, names, &made, status, text_of(&said)))
+}
+
+/// Appends to the log what a night made, and gives its status.
+fn log_made<'a, R>(
+    rt: &'a R,
+    folder: &mut FsState<&'a R>,
+    given: &Given,
+    names: Names<'_>,
+    made: &Made,
+    status: u8,
+    said: Option<&str>,
+) -> u8
+where
+    R: Files<File = File> + AllocGlobal + Clock + Eprint,
+{
+    if let Halt::Refused(refusal) = &made.end.end {
+        if !is_own(refusal) {
+            return status;
+        }
+    }
+    let program = running_digest(rt).ok();
+    let account = Account {
+        began: given.began,
+        ended: seconds_now(rt),
+        status,
+        runs: made.end.runs,
+        cost: made.end.spent,
+        findings: made.findings,
+        left: u64::try_from(made.end.left.len()).unwrap_or(u64::MAX),
+        program: text_of(&program).unwrap_or(""),
+        said,
+    };
+    log_night(rt, folder, names.state, account)
+}
+
+/// Logs a night that failed before its folder was opened, if nights were made in that folder. What
+/// cannot be logged is left out: the failure itself is said.
+fn log_unbegun<R>(rt: &R, state: &str, began: u64, failure: &Failure)
+where
+    R: Files<File = File> + AllocGlobal + Clock + Eprint,
+{
+    let Some(said) = &failure.text else {
+        return;
+    };
+    if failure.status != STOPPED {
+        return;
+    }
+    if let Ok(mut folder) = FsState::open(rt, state, false) {
+        let program = running_digest(rt).ok();
+        let account = Account {
+            began,
+            ended: seconds_now(rt),
+            status: failure.status,
+            runs: 0,
+            cost: 0,
+            findings: 0,
+            left: 0,
+            program: text_of(&program).unwrap_or(""),
+            said: Some(said.as_str()),
+        };
+        log_night(rt, &mut folder, state, account);
+    }
+}
+
+/// Takes the numbers of standard streams that are closed, so that no file of the state gets one,
+/// and what is said with it. They are taken while the result lives.
+fn take_streams<R: Files + AllocGlobal>(rt: &R) -> Result<Vec<R::File>, Failure> {
+    let mut taken = Vec::new(rt.alloc());
+    for _ in 0..3 {
+        match File::open(rt, "/") {
+            Ok(file) => taken.push(file)?,
+            Err(error) => return Err(file_failure(rt.alloc(), "/", &error)?),
+        }
+    }
+    Ok(taken)
+}
+
+/// Makes a night, and gives its status.
+fn make_with<R>(rt: &R, asked: NightAsked, shown_on: Terminals) -> Result<u8, Failure>
+where
+    R: Files<File = File> + Env + AllocGlobal + Clock + Print + Eprint,
+{
+    let _streams = take_streams(rt)?;
+    let began = seconds_now(rt);
+    let state = String::from_str(rt.alloc(), asked.state.as_str())?;
+    match read_given(rt, asked, began) {
+        Ok(given) => make_in(rt, &given, shown_on),
+        Err(failure) => {
+            log_unbegun(rt, state.as_str(), began, &failure);
+            Err(failure)
+        }
+    }
+}
+
+/// Makes a night, and gives the exit status.
+pub(crate) fn make_night<R>(rt: &R, asked: NightAsked, terminals: Terminals) -> u8
+where
+    R: Files<File = File> + Env + AllocGlobal + Clock + Print + Eprint,
+{
+    let shown_on = Terminals {
+        output: terminals.error && terminals.output,
+        error: terminals.error,
+    };
+    status_told(rt, make_with(rt, asked, shown_on))
+}

@@ -1,0 +1,491 @@
+//! What is said of a cycle whose report was closed, against the last whole report before it.
+//!
+//! The list of what is gone is put in its place once all was said. While it is not there, the next
+//! night compares again.
+
+use crate::nights::failing::Failure;
+use crate::nights::finding::{Findings, find_lines};
+use crate::nights::lists::read_expected;
+use crate::nights::making::{file_failure, is_there, make_file, put_made};
+use crate::nights::rows::{Changes, Rows};
+use crate::nights::state::folder_failure;
+use crate::nights::telling::Names;
+use crate::nights::timing::seconds_now;
+use crate::saying::STOPPED;
+use ocfl_compare::{CompareStop, compare, find_expected};
+use ocfl_report::{Line, write_all_of};
+use ocfl_state::{FsState, OpenReport, StateFile};
+use ocfl_telling::{Closing, ClosingRow, Known, Shown, closing_line, closing_text};
+use std::alloc::{AllocError, Global};
+use std::fs::File;
+use std::io::{BufReader, Write};
+use std::rt::Files;
+use std::time::Clock;
+
+/// How many cycles back a whole report is looked for at most.
+const MOST_BACK: u64 = 1_000;
+
+/// With what a closing is said.
+#[derive(Clone, Copy)]
+pub(crate) struct About<'a> {
+    pub(crate) names: Names<'a>,
+    pub(crate) known: &'a Known,
+    /// The file of the objects that must be there.
+    pub(crate) expected: Option<&'a str>,
+    /// When the night began.
+    pub(crate) night: u64,
+}
+
+/// The paths of the files of a closed cycle.
+#[derive(Debug, Drop)]
+struct Paths {
+    report: String,
+    earlier: String,
+    list: String,
+    /// The list while it is written.
+    new_list: String,
+}
+
+/// The closed report of a cycle, and the last whole one before it.
+#[derive(Clone, Copy)]
+struct Pair {
+    cycle: u64,
+    /// Whether its report is whole.
+    whole: bool,
+    /// The number of the cycle before; 0 where there is no whole report.
+    before: u64,
+    /// How many branches were left out, as far as this night knows.
+    left: u64,
+}
+
+/// Opens the closed report of a cycle.
+fn open_report<R>(
+    alloc: Global,
+    folder: &mut FsState<R>,
+    state: &str,
+    cycle: u64,
+) -> Result<Option<OpenReport>, Failure>
+where
+    R: Files<File = File> + AllocGlobal + Clone + Drop,
+{
+    match folder.open_closed(cycle) {
+        Ok(found) => Ok(found),
+        Err(_) => Err(folder_failure(alloc, state, folder.reason())?),
+    }
+}
+
+/// The number of the last cycle before this one whose report is whole. 0 if no report is.
+fn find_before<R>(
+    alloc: Global,
+    folder: &mut FsState<R>,
+    state: &str,
+    cycle: u64,
+) -> Result<u64, Failure>
+where
+    R: Files<File = File> + AllocGlobal + Clone + Drop,
+{
+    for back in 1..MOST_BACK {
+        let before = cycle.saturating_sub(back);
+        if before == 0 {
+            return Ok(0);
+        }
+        if let Some(report) = open_report(alloc, folder, state, before)? {
+            if report.whole {
+                return Ok(before);
+            }
+        }
+    }
+    Ok(0)
+}
+
+/// A reader of the closed report of a cycle.
+fn reader_of<R>(
+    alloc: Global,
+    folder: &mut FsState<R>,
+    state: &str,
+    cycle: u64,
+) -> Result<BufReader<File>, Failure>
+where
+    R: Files<File = File> + AllocGlobal + Clone + Drop,
+{
+    let Some(report) = open_report(alloc, folder, state, cycle)? else {
+        return Err(Failure::stopped(format!(in alloc;
+            "the report of cycle {cycle} is gone from {}\n",
+            Shown(state)
+        )?));
+    };
+    match BufReader::new(alloc, report.file) {
+        Ok(reader) => Ok(reader),
+        Err(_) => Err(Failure::from(AllocError)),
+    }
+}
+
+/// Why two reports were not compared.
+fn uncompared(alloc: Global, pair: &Pair, stop: CompareStop) -> Result<Failure, AllocError> {
+    if stop == CompareStop::Memory {
+        return Err(AllocError);
+    }
+    let (cycle, before) = (pair.cycle, pair.before);
+    Ok(Failure::stopped(format!(in alloc;
+        "the report of cycle {cycle} was not compared with that of cycle {before}: {stop}\n"
+    )?))
+}
+
+/// Writes what changed since the report before.
+fn compare_pair<R, W>(
+    alloc: Global,
+    folder: &mut FsState<R>,
+    state: &str,
+    pair: &Pair,
+    rows: &mut Rows<'_, W>,
+) -> Result<(), Failure>
+where
+    R: Files<File = File> + AllocGlobal + Clone + Drop,
+    W: Write + Drop,
+{
+    if pair.before == 0 {
+        return Ok(());
+    }
+    let mut before = reader_of(alloc, folder, state, pair.before)?;
+    let mut now = reader_of(alloc, folder, state, pair.cycle)?;
+    match compare(alloc, &mut before, &mut now, &[], rows) {
+        Ok(()) => Ok(()),
+        Err(stop) => Err(uncompared(alloc, pair, stop)?),
+    }
+}
+
+/// Writes which objects of a list have no line in the report.
+fn look_for_expected<R, F, W>(
+    rt: &R,
+    folder: &mut FsState<F>,
+    about: &About<'_>,
+    pair: &Pair,
+    rows: &mut Rows<'_, W>,
+) -> Result<(), Failure>
+where
+    R: Files + AllocGlobal,
+    F: Files<File = File> + AllocGlobal + Clone + Drop,
+    W: Write + Drop,
+{
+    let Some(file) = about.expected else {
+        return Ok(());
+    };
+    let alloc = rt.alloc();
+    let mut listed = read_expected(rt, file)?;
+    let mut report = reader_of(alloc, folder, about.names.state, pair.cycle)?;
+    match find_expected(alloc, &mut listed, &mut report, &[], rows) {
+        Ok(()) => Ok(()),
+        Err(stop) => Err(uncompared(alloc, pair, stop)?),
+    }
+}
+
+/// The paths of a cycle's files.
+fn paths_of(alloc: Global, state: &str, pair: &Pair) -> Result<Paths, AllocError> {
+    let cycle = pair.cycle;
+    let report = if pair.whole {
+        StateFile::Whole(cycle)
+    } else {
+        StateFile::Incomplete(cycle)
+    };
+    Ok(Paths {
+        report: format!(in alloc; "{state}/{report}")?,
+        earlier: format!(in alloc; "{state}/{}", StateFile::Whole(pair.before))?,
+        list: list_path(alloc, state, cycle)?,
+        new_list: format!(in alloc; "{state}/{}/gone-{cycle:06}.new", StateFile::Reports)?,
+    })
+}
+
+/// The path of the list of what is gone at the end of a cycle.
+fn list_path(alloc: Global, state: &str, cycle: u64) -> Result<String, AllocError> {
+    format!(in alloc; "{state}/{}/gone-{cycle:06}", StateFile::Reports)
+}
+
+/// What changed since the last whole report, with the list of what is gone beside its place.
+fn find_changes<R, F>(
+    rt: &R,
+    folder: &mut FsState<F>,
+    about: &About<'_>,
+    pair: &Pair,
+    paths: &Paths,
+) -> Result<Changes, Failure>
+where
+    R: Files<File = File> + AllocGlobal,
+    F: Files<File = File> + AllocGlobal + Clone + Drop,
+{
+    let alloc = rt.alloc();
+    let list = make_file(rt, paths.new_list.as_str())?;
+    let mut rows = Rows {
+        alloc,
+        known: about.known,
+        changes: Changes::new(alloc),
+        list,
+    };
+    if pair.whole {
+        compare_pair(alloc, folder, about.names.state, pair, &mut rows)?;
+        look_for_expected(rt, folder, about, pair, &mut rows)?;
+    }
+    let Rows { changes, list, .. } = rows;
+    match list.sync_all() {
+        Ok(()) => Ok(changes),
+        Err(error) => Err(file_failure(alloc, paths.new_list.as_str(), &error)?),
+    }
+}
+
+/// The findings of the report of a cycle, with the whole lines of these.
+fn find_in<R>(
+    alloc: Global,
+    folder: &mut FsState<R>,
+    state: &str,
+    cycle: u64,
+    named: &[Line],
+    known: &Known,
+) -> Result<Findings, Failure>
+where
+    R: Files<File = File> + AllocGlobal + Clone + Drop,
+{
+    let mut report = reader_of(alloc, folder, state, cycle)?;
+    match find_lines(alloc, &mut report, named, known) {
+        Ok(found) => Ok(found),
+        Err(error) => Err(Failure::stopped(format!(in alloc;
+            "the report of cycle {cycle} in {}: {error}\n",
+            Shown(state)
+        )?)),
+    }
+}
+
+/// The whole lines of what is repaired, as the report before has them.
+fn find_repaired<R>(
+    alloc: Global,
+    folder: &mut FsState<R>,
+    state: &str,
+    pair: &Pair,
+    changes: &Changes,
+) -> Result<Vec<Line>, Failure>
+where
+    R: Files<File = File> + AllocGlobal + Clone + Drop,
+{
+    if changes.repaired.is_empty() {
+        return Ok(Vec::new(alloc));
+    }
+    let none = Known::new(alloc);
+    Ok(find_in(alloc, folder, state, pair.before, &changes.repaired, &none)?.lines)
+}
+
+/// What a closed cycle found, in its parts.
+#[derive(Debug, Drop)]
+struct Account {
+    changes: Changes,
+    /// How many findings the report has, and the whole lines of those that are new.
+    findings: Findings,
+    repaired: Vec<Line>,
+}
+
+impl Account {
+    /// How many findings are new, without those that are known.
+    fn appeared(&self) -> u64 {
+        self.changes
+            .appeared_count
+            .saturating_sub(self.findings.known)
+    }
+}
+
+/// Finds all that is said of a closed cycle.
+fn find_account<R, F>(
+    rt: &R,
+    folder: &mut FsState<F>,
+    about: &About<'_>,
+    pair: &Pair,
+    paths: &Paths,
+) -> Result<Account, Failure>
+where
+    R: Files<File = File> + AllocGlobal,
+    F: Files<File = File> + AllocGlobal + Clone + Drop,
+{
+    let (alloc, state) = (rt.alloc(), about.names.state);
+    let changes = find_changes(rt, folder, about, pair, paths)?;
+    let findings = if pair.whole {
+        find_in(
+            alloc,
+            folder,
+            state,
+            pair.cycle,
+            &changes.appeared,
+            about.known,
+        )?
+    } else {
+        Findings::new(alloc)
+    };
+    let repaired = find_repaired(alloc, folder, state, pair, &changes)?;
+    Ok(Account {
+        changes,
+        findings,
+        repaired,
+    })
+}
+
+/// What is said of a closed cycle.
+fn text_of(
+    alloc: Global,
+    pair: &Pair,
+    paths: &Paths,
+    account: &Account,
+) -> Result<Vec<u8>, AllocError> {
+    let changes = &account.changes;
+    closing_text(
+        alloc,
+        &Closing {
+            cycle: pair.cycle,
+            before: pair.before,
+            whole: pair.whole,
+            report: paths.report.as_str(),
+            earlier: paths.earlier.as_str(),
+            list: paths.list.as_str(),
+            appeared: &account.findings.lines,
+            appeared_count: account.appeared(),
+            repaired: &account.repaired,
+            repaired_count: changes.repaired_count,
+            gone: &changes.gone,
+            gone_count: changes.gone_count,
+        },
+    )
+}
+
+/// Says a text on the output, all of it.
+fn say<W: Write>(alloc: Global, out: &mut W, text: &[u8]) -> Result<(), Failure> {
+    if write_all_of(out, text).is_ok() && out.flush().is_ok() {
+        return Ok(());
+    }
+    Err(Failure::stopped(String::from_str(alloc, "output failed\n")?))
+}
+
+/// Appends a line on the closing to the log.
+fn log_closing<R, F>(
+    rt: &R,
+    folder: &mut FsState<F>,
+    about: &About<'_>,
+    pair: &Pair,
+    paths: &Paths,
+    account: &Account,
+) -> Result<(), Failure>
+where
+    R: AllocGlobal + Clock,
+    F: Files<File = File> + AllocGlobal + Clone + Drop,
+{
+    let (alloc, state) = (rt.alloc(), about.names.state);
+    let line = closing_line(
+        alloc,
+        &ClosingRow {
+            time: seconds_now(rt),
+            night: about.night,
+            cycle: pair.cycle,
+            report: paths.report.as_str(),
+            whole: pair.whole,
+            findings: account.findings.count,
+            appeared: account.appeared(),
+            repaired: account.changes.repaired_count,
+            gone: account.changes.gone_count,
+            left: pair.left,
+        },
+    )?;
+    match folder.append_log(line.as_bytes()) {
+        Ok(()) => Ok(()),
+        Err(_) => Err(folder_failure(alloc, state, folder.reason())?),
+    }
+}
+
+/// The status of a night that closed a cycle: 3 where its report is not whole, 1 where something is
+/// new or gone, else 0.
+fn status_of(whole: bool, account: &Account) -> u8 {
+    if !whole {
+        return STOPPED;
+    }
+    if account.changes.gone_count > 0 || account.appeared() > 0 {
+        1
+    } else {
+        0
+    }
+}
+
+/// Says what a closed cycle found, and then puts its list in place.
+fn tell_pair<R, F, W>(
+    rt: &R,
+    folder: &mut FsState<F>,
+    about: &About<'_>,
+    pair: &Pair,
+    out: &mut W,
+) -> Result<u8, Failure>
+where
+    R: Files<File = File> + AllocGlobal + Clock,
+    F: Files<File = File> + AllocGlobal + Clone + Drop,
+    W: Write,
+{
+    let alloc = rt.alloc();
+    let paths = paths_of(alloc, about.names.state, pair)?;
+    let account = find_account(rt, folder, about, pair, &paths)?;
+    say(alloc, out, &text_of(alloc, pair, &paths, &account)?)?;
+    put_made(rt, paths.new_list.as_str(), paths.list.as_str())?;
+    log_closing(rt, folder, about, pair, &paths, &account)?;
+    Ok(status_of(pair.whole, &account))
+}
+
+/// Whether the closed report of a cycle is there, and its list is not.
+fn is_untold<R, F>(rt: &R, folder: &mut FsState<F>, state: &str, cycle: u64) -> bool
+where
+    R: Files + AllocGlobal,
+    F: Files<File = File> + AllocGlobal + Clone + Drop,
+{
+    let is_closed = matches!(folder.open_closed(cycle), Ok(Some(_)));
+    match list_path(rt.alloc(), state, cycle) {
+        Ok(list) => is_closed && !is_there(rt, list.as_str()),
+        Err(_) => false,
+    }
+}
+
+/// The first of the cycles up to this one whose closings were not said, one after the other.
+pub(crate) fn first_untold<R, F>(rt: &R, folder: &mut FsState<F>, state: &str, cycle: u64) -> u64
+where
+    R: Files + AllocGlobal,
+    F: Files<File = File> + AllocGlobal + Clone + Drop,
+{
+    let mut first = cycle;
+    for _ in 0..MOST_BACK {
+        if first < 2 || !is_untold(rt, folder, state, first - 1) {
+            return first;
+        }
+        first -= 1;
+    }
+    first
+}
+
+/// Says what a closed cycle found, unless that was said, and gives the status. `cycle` is 0 where
+/// no cycle was closed, and `left` is how many branches were left out of it.
+pub(crate) fn tell_closing<R, F, W>(
+    rt: &R,
+    folder: &mut FsState<F>,
+    about: &About<'_>,
+    cycle: u64,
+    left: u64,
+    out: &mut W,
+) -> Result<u8, Failure>
+where
+    R: Files<File = File> + AllocGlobal + Clock,
+    F: Files<File = File> + AllocGlobal + Clone + Drop,
+    W: Write,
+{
+    let (alloc, state) = (rt.alloc(), about.names.state);
+    let list = list_path(alloc, state, cycle)?;
+    if cycle == 0 || is_there(rt, list.as_str()) {
+        return Ok(0);
+    }
+    // A report that was taken away cannot be compared.
+    let Some(closed) = open_report(alloc, folder, state, cycle)? else {
+        return Ok(0);
+    };
+    let pair = Pair {
+        cycle,
+        whole: closed.whole,
+        before: find_before(alloc, folder, state, cycle)?,
+        left,
+    };
+    tell_pair(rt, folder, about, &pair, out)
+}

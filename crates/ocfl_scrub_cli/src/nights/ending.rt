@@ -1,0 +1,131 @@
+//! What is said of how a night ends.
+
+use crate::nights::telling::Names;
+use ocfl_item::Fault;
+use ocfl_night::{Halt, Refusal, Stop};
+use ocfl_report::DisplayPlace;
+use ocfl_state::Trouble;
+use ocfl_telling::{Shown, refusal_text, stop_text};
+use ocfl_tree::Place;
+use std::alloc::{AllocError, Global};
+
+/// Whether a folder that was refused is one of these nights: one of another root, part or program
+/// is left as it is, its log too.
+pub(crate) fn is_own(refusal: &Refusal) -> bool {
+    match refusal {
+        Refusal::NoRoot | Refusal::OtherDeclaration | Refusal::NamesGone { .. } => true,
+        Refusal::NotCheckpoint | Refusal::Version | Refusal::Damaged | Refusal::Malformed => false,
+        Refusal::NoCheckpoint | Refusal::HasReports => false,
+        Refusal::OtherRoot(_) | Refusal::OtherPart => false,
+    }
+}
+
+/// What is said of a night that ended so; nothing where it ended well. `words` are the system's on
+/// the last call on the folder that failed.
+pub(crate) fn ending_text(
+    alloc: Global,
+    halt: &Halt,
+    words: Option<&str>,
+    names: Names<'_>,
+) -> Result<Option<String>, AllocError> {
+    match halt {
+        Halt::CycleEnded(_) | Halt::TimeUp | Halt::Spent | Halt::Asked => Ok(None),
+        Halt::Refused(refusal) => Ok(Some(text_of_refusal(alloc, refusal, names)?)),
+        Halt::RootChanged => Ok(Some(refusal_text(
+            alloc,
+            ocfl_telling::Refusal::RootChanged,
+            names.root,
+            names.state,
+        )?)),
+        Halt::Stopped(fault) => Ok(Some(text_of_stop(alloc, stop_of(fault), None, names)?)),
+        Halt::Troubled(stop) => Ok(Some(text_of_trouble(alloc, stop, words, names)?)),
+    }
+}
+
+/// What is said of a branch that was left out.
+pub(crate) fn left_text(alloc: Global, branch: &Place) -> Result<String, AllocError> {
+    format!(in alloc; "left out: {}\n", DisplayPlace(branch))
+}
+
+/// What is said of a report of which some was lost, or cannot be read.
+pub(crate) fn lost_text(alloc: Global, state: &str, broken: u64) -> Result<String, AllocError> {
+    let state = Shown(state);
+    if broken > 0 {
+        return format!(in alloc;
+            "{broken} line(s) of the report in {state} cannot be read: what they found is not \
+             known.\n"
+        );
+    }
+    format!(in alloc;
+        "The report in {state} does not have what the checkpoint says. It is not whole any more, \
+         and will be closed as an incomplete one.\n"
+    )
+}
+
+/// The line on a refusal.
+fn text_of_refusal(
+    alloc: Global,
+    refusal: &Refusal,
+    names: Names<'_>,
+) -> Result<String, AllocError> {
+    let bound = match refusal {
+        Refusal::OtherRoot(place) => format!(in alloc; "/{}", place.path())?,
+        _ => String::new(alloc),
+    };
+    let why = match refusal {
+        Refusal::NoCheckpoint => ocfl_telling::Refusal::NoCheckpoint,
+        Refusal::HasReports => ocfl_telling::Refusal::HasReports,
+        Refusal::NotCheckpoint => ocfl_telling::Refusal::NotCheckpoint,
+        Refusal::Version => ocfl_telling::Refusal::Version,
+        Refusal::Damaged => ocfl_telling::Refusal::Damaged,
+        Refusal::Malformed => ocfl_telling::Refusal::Malformed,
+        Refusal::NoRoot => ocfl_telling::Refusal::NoRoot,
+        Refusal::OtherRoot(_) => ocfl_telling::Refusal::OtherRoot(bound.as_str()),
+        Refusal::OtherPart => ocfl_telling::Refusal::OtherPart,
+        Refusal::OtherDeclaration => ocfl_telling::Refusal::OtherDeclaration,
+        Refusal::NamesGone { gone, before } => ocfl_telling::Refusal::NamesGone {
+            gone: *gone,
+            before: *before,
+        },
+    };
+    refusal_text(alloc, why, names.root, names.state)
+}
+
+/// What stopped a run.
+fn stop_of(fault: &Fault) -> ocfl_telling::Stop<'_> {
+    match fault {
+        Fault::Store(place) => ocfl_telling::Stop::At(place),
+        Fault::Output => ocfl_telling::Stop::Output,
+        Fault::Memory | Fault::Broken => ocfl_telling::Stop::Memory,
+    }
+}
+
+/// The line on a night that stopped.
+fn text_of_stop(
+    alloc: Global,
+    stop: ocfl_telling::Stop<'_>,
+    words: Option<&str>,
+    names: Names<'_>,
+) -> Result<String, AllocError> {
+    stop_text(alloc, stop, words, names.part, names.root, names.state)
+}
+
+/// The line on a night whose folder or output failed.
+fn text_of_trouble(
+    alloc: Global,
+    stop: &Stop,
+    words: Option<&str>,
+    names: Names<'_>,
+) -> Result<String, AllocError> {
+    match stop {
+        Stop::Worn => refusal_text(alloc, ocfl_telling::Refusal::Worn, names.root, names.state),
+        Stop::Output => text_of_stop(alloc, ocfl_telling::Stop::Output, None, names),
+        Stop::Unread(place) => text_of_stop(alloc, ocfl_telling::Stop::At(place), None, names),
+        Stop::Folder(Trouble::Memory) => {
+            text_of_stop(alloc, ocfl_telling::Stop::Memory, None, names)
+        }
+        Stop::Folder(_) | Stop::Endless | Stop::Unsaid | Stop::Overtold | Stop::Short => {
+            text_of_stop(alloc, ocfl_telling::Stop::State, words, names)
+        }
+    }
+}

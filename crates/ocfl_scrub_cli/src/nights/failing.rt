@@ -1,0 +1,65 @@
+//! Why a step of a night failed.
+
+use crate::saying::{STOPPED, USAGE, say_out_of_memory};
+use std::alloc::{AllocError, AllocFailed};
+
+/// Why a step of a night failed: what is said of it, and the exit status.
+#[derive(Debug, Drop)]
+pub(crate) struct Failure {
+    pub(crate) status: u8,
+    /// What is said, with its line feed. `None` where memory was refused.
+    pub(crate) text: Option<String>,
+}
+
+impl Failure {
+    /// A command line that cannot be followed.
+    pub(crate) fn usage(text: String) -> Failure {
+        Failure {
+            status: USAGE,
+            text: Some(text),
+        }
+    }
+
+    /// Something else that failed.
+    pub(crate) fn stopped(text: String) -> Failure {
+        Failure {
+            status: STOPPED,
+            text: Some(text),
+        }
+    }
+}
+
+impl From<AllocError> for Failure {
+    fn from(_error: AllocError) -> Failure {
+        Failure {
+            status: STOPPED,
+            text: None,
+        }
+    }
+}
+
+impl<T: Drop> From<AllocFailed<T>> for Failure {
+    fn from(_failed: AllocFailed<T>) -> Failure {
+        Failure {
+            status: STOPPED,
+            text: None,
+        }
+    }
+}
+
+/// Says a text that has its line feed on standard error. A standard error that cannot be written
+/// changes nothing.
+pub(crate) fn say_text<R: Eprint>(rt: &R, text: &str) {
+    let _ = eprint!(rt; "ocfl-scrub: {text}");
+}
+
+/// Says why a step failed, and gives the status.
+pub(crate) fn say_failure<R: Eprint>(rt: &R, failure: &Failure) -> u8 {
+    match &failure.text {
+        Some(text) => {
+            say_text(rt, text.as_str());
+            failure.status
+        }
+        None => say_out_of_memory(rt),
+    }
+}

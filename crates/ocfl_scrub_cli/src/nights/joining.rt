@@ -1,0 +1,433 @@
+//! Joining the closed reports of all parts of a storage root, of one cycle.
+
+use crate::nights::failing::{Failure, say_failure};
+use crate::nights::making::{file_failure, is_there, make_file, make_folder, put_made};
+use crate::nights::sound::is_sound;
+use crate::nights::stand::Standing;
+use crate::nights::state::{folder_failure, open_state};
+use crate::saying::{STOPPED, Stop};
+use ocfl_compare::{ClosedPart, MissingPart, find_missing, join_part};
+use ocfl_cursor::PartEnds;
+use ocfl_line::JoinAsked;
+use ocfl_parts::{PartsStop, Separators, read_parts};
+use ocfl_scope::ScopeStop;
+use ocfl_state::{Checkpoint, NotDecoded, OpenReport, StateFile, StateFolder, decode_checkpoint};
+use ocfl_telling::Shown;
+use ocfl_tree::Place;
+use std::alloc::{AllocError, Global};
+use std::fs::File;
+use std::io::{self, BufReader, ErrorKind, Read, Write};
+use std::rt::Files;
+
+/// What the checkpoint of a part says.
+#[derive(Debug, Drop)]
+struct Facts {
+    /// Which storage root it is of.
+    root: Vec<u8>,
+    from: Option<Place>,
+    below: Option<Place>,
+    /// The cycle that was closed last; 0 where none was.
+    last: u64,
+    /// Whether that cycle is known to have read files, so that its report has lines.
+    has_lines: bool,
+}
+
+/// Reads the separators' file.
+fn read_separators<R: Files + AllocGlobal>(rt: &R, file: &str) -> Result<Separators, Failure> {
+    let read = match File::open(rt, file) {
+        Ok(mut opened) => read_parts(rt.alloc(), &mut opened),
+        Err(_) => Err(PartsStop::Read),
+    };
+    match read {
+        Ok(separators) => Ok(separators),
+        Err(PartsStop::Memory) => Err(Failure::from(AllocError)),
+        Err(stop) => {
+            let stop = Stop::Scope(ScopeStop::Parts(stop));
+            Err(Failure {
+                status: stop.status(),
+                text: Some(format!(in rt.alloc(); "{stop}\n")?),
+            })
+        }
+    }
+}
+
+/// The path of the state folder of a part.
+fn path_of(alloc: Global, state: &str, number: usize) -> Result<String, AllocError> {
+    format!(in alloc; "{state}/part-{number:06}")
+}
+
+/// What a checkpoint says of its part.
+fn facts_of(alloc: Global, checkpoint: Checkpoint) -> Result<Facts, AllocError> {
+    let standing = Standing::of(&checkpoint);
+    let Checkpoint {
+        root: identity,
+        part,
+        ..
+    } = checkpoint;
+    let mut root = Vec::from_slice(alloc, identity.path.path().as_bytes())?;
+    root.push(b'\n')?;
+    root.extend_from_slice(&identity.declared)?;
+    let (from, below) = match part {
+        Some(PartEnds { from, below }) => (from, below),
+        None => (None, None),
+    };
+    Ok(Facts {
+        root,
+        from,
+        below,
+        last: standing.last_closed(),
+        has_lines: standing.is_closed && standing.spent > 0,
+    })
+}
+
+/// What is said of a file that is no checkpoint.
+fn refused(alloc: Global, path: &str, why: NotDecoded) -> Result<Failure, AllocError> {
+    if why == NotDecoded::Memory {
+        return Err(AllocError);
+    }
+    Ok(Failure::stopped(format!(in alloc; "{}/checkpoint: {why}\n", Shown(path))?))
+}
+
+/// What the state folder of a part says. `None` where there is no such folder yet.
+fn read_facts<R>(rt: &R, path: &str) -> Result<Option<Facts>, Failure>
+where
+    R: Files<File = File> + AllocGlobal,
+{
+    let alloc = rt.alloc();
+    if !is_there(rt, path) {
+        return Ok(None);
+    }
+    let mut folder = open_state(rt, path, path, false)?;
+    let bytes = match folder.checkpoint() {
+        Ok(Some(bytes)) => bytes,
+        Ok(None) => return Ok(None),
+        Err(_) => return Err(folder_failure(alloc, path, folder.reason())?),
+    };
+    match decode_checkpoint(alloc, &bytes) {
+        Ok(checkpoint) => Ok(Some(facts_of(alloc, checkpoint)?)),
+        Err(why) => Err(refused(alloc, path, why)?),
+    }
+}
+
+/// Opens the closed report of a cycle in the state folder of a part.
+fn open_report<R>(rt: &R, path: &str, cycle: u64) -> Result<Option<OpenReport>, Failure>
+where
+    R: Files<File = File> + AllocGlobal,
+{
+    let mut folder = open_state(rt, path, path, false)?;
+    match folder.open_closed(cycle) {
+        Ok(found) => Ok(found),
+        Err(_) => Err(folder_failure(rt.alloc(), path, folder.reason())?),
+    }
+}
+
+/// What the checkpoints of all parts say.
+fn read_all<R>(rt: &R, state: &str, count: usize) -> Result<Vec<Option<Facts>>, Failure>
+where
+    R: Files<File = File> + AllocGlobal,
+{
+    let alloc = rt.alloc();
+    let mut all = Vec::new(alloc);
+    for number in 1..=count {
+        let path = path_of(alloc, state, number)?;
+        all.push(read_facts(rt, path.as_str())?)?;
+    }
+    Ok(all)
+}
+
+/// The last cycle that each part has closed. 0 where one has closed none.
+fn last_of_all(all: &[Option<Facts>]) -> u64 {
+    let mut last = u64::MAX;
+    for one in all {
+        last = last.min(match one {
+            Some(facts) => facts.last,
+            None => 0,
+        });
+    }
+    last
+}
+
+/// Whether a report of no bytes had lines when it was closed.
+fn is_emptied(facts: &Facts, cycle: u64, bytes: u64) -> bool {
+    bytes == 0 && facts.has_lines && facts.last == cycle
+}
+
+/// What is known of the report that a part closed.
+fn closed_part<R>(
+    rt: &R,
+    path: &str,
+    facts: Facts,
+    cycle: u64,
+) -> Result<Option<ClosedPart>, Failure>
+where
+    R: Files<File = File> + AllocGlobal,
+{
+    let Some(report) = open_report(rt, path, cycle)? else {
+        return Ok(None);
+    };
+    let bytes = match report.file.metadata() {
+        Ok(metadata) => metadata.len(),
+        Err(error) => return Err(file_failure(rt.alloc(), path, &error)?),
+    };
+    let whole = report.whole && !is_emptied(&facts, cycle, bytes);
+    Ok(Some(ClosedPart {
+        root: facts.root,
+        from: facts.from,
+        below: facts.below,
+        cycle,
+        whole,
+        bytes,
+    }))
+}
+
+/// What is known of the reports that all parts closed in a cycle.
+fn closed_parts<R>(
+    rt: &R,
+    state: &str,
+    all: Vec<Option<Facts>>,
+    cycle: u64,
+) -> Result<Vec<Option<ClosedPart>>, Failure>
+where
+    R: Files<File = File> + AllocGlobal,
+{
+    let alloc = rt.alloc();
+    let mut parts = Vec::new(alloc);
+    for (index, one) in all.into_iter().enumerate() {
+        let path = path_of(alloc, state, index.saturating_add(1))?;
+        let part = match one {
+            Some(facts) => closed_part(rt, path.as_str(), facts, cycle)?,
+            None => None,
+        };
+        parts.push(part)?;
+    }
+    Ok(parts)
+}
+
+/// Which storage root the first part that is known is of.
+fn root_of(parts: &[Option<ClosedPart>]) -> &[u8] {
+    for part in parts {
+        if let Some(part) = part {
+            return part.root.as_slice();
+        }
+    }
+    &[]
+}
+
+/// Names the parts that cannot be joined, and gives the status.
+fn say_missing<R: Eprint>(rt: &R, missing: &[MissingPart]) -> u8 {
+    for one in missing {
+        let _ = eprintln!(rt; "ocfl-scrub: part {}: {}", one.part, one.fault);
+    }
+    STOPPED
+}
+
+/// Refuses a report that cannot be that of its part.
+fn refuse_unsound<R>(rt: &R, path: &str, number: usize, part: &ClosedPart) -> Result<(), Failure>
+where
+    R: Files<File = File> + AllocGlobal,
+{
+    let alloc = rt.alloc();
+    let report = open_there(rt, path, number, part.cycle)?;
+    let Ok(mut reader) = BufReader::new(alloc, report.file) else {
+        return Err(Failure::from(AllocError));
+    };
+    match is_sound(alloc, &mut reader, part) {
+        Ok(true) => Ok(()),
+        Ok(false) => Err(Failure::stopped(format!(in alloc;
+            "part {number}: its report was changed\n"
+        )?)),
+        Err(error) => Err(file_failure(alloc, path, &error)?),
+    }
+}
+
+/// Opens the closed report of a part, which was there before.
+fn open_there<R>(rt: &R, path: &str, number: usize, cycle: u64) -> Result<OpenReport, Failure>
+where
+    R: Files<File = File> + AllocGlobal,
+{
+    match open_report(rt, path, cycle)? {
+        Some(report) => Ok(report),
+        None => Err(Failure::stopped(format!(in rt.alloc();
+            "part {number}: its report is gone\n"
+        )?)),
+    }
+}
+
+/// Writes the report of a part behind those before it.
+fn join_one<R, W>(
+    rt: &R,
+    asked: &JoinAsked,
+    separators: &Separators,
+    root: &[u8],
+    number: usize,
+    part: &ClosedPart,
+    out: &mut W,
+) -> Result<(), Failure>
+where
+    R: Files<File = File> + AllocGlobal,
+    W: Write,
+{
+    let alloc = rt.alloc();
+    let path = path_of(alloc, asked.state.as_str(), number)?;
+    refuse_unsound(rt, path.as_str(), number, part)?;
+    let mut report = open_there(rt, path.as_str(), number, part.cycle)?;
+    match join_part(
+        separators,
+        root,
+        part.cycle,
+        number,
+        part,
+        &mut report.file,
+        out,
+    ) {
+        Ok(()) => Ok(()),
+        Err(stop) => Err(Failure::stopped(format!(in alloc; "part {number}: {stop}\n")?)),
+    }
+}
+
+/// An output that takes the bytes that a file has, and fails at others.
+#[derive(Drop)]
+struct Same {
+    there: File,
+}
+
+impl Write for Same {
+    fn write(&mut self, buffer: &[u8]) -> io::Result<usize> {
+        let mut have = [0; 4096];
+        let most = buffer.len().min(have.len());
+        let count = self.there.read(&mut have[..most])?;
+        if count == 0 || have[..count] != buffer[..count] {
+            return Err(io::Error::from(ErrorKind::InvalidData));
+        }
+        Ok(count)
+    }
+
+    fn flush(&mut self) -> io::Result<()> {
+        Ok(())
+    }
+}
+
+/// Refuses a file in place of the joined report that has other bytes than all of them.
+fn refuse_other<R>(
+    rt: &R,
+    asked: &JoinAsked,
+    separators: &Separators,
+    parts: &[Option<ClosedPart>],
+    path: &str,
+) -> Result<(), Failure>
+where
+    R: Files<File = File> + AllocGlobal,
+{
+    let alloc = rt.alloc();
+    let mut same = match File::open(rt, path) {
+        Ok(there) => Same { there },
+        Err(error) => return Err(file_failure(alloc, path, &error)?),
+    };
+    let joined = join_into(rt, asked, separators, parts, &mut same);
+    let mut more = [0; 1];
+    if joined.is_ok() && matches!(same.there.read(&mut more), Ok(0)) {
+        return Ok(());
+    }
+    Err(Failure::stopped(format!(in alloc; "{}: is not the joined report\n", Shown(path))?))
+}
+
+/// Writes all of them, one after the other.
+fn join_into<R, W>(
+    rt: &R,
+    asked: &JoinAsked,
+    separators: &Separators,
+    parts: &[Option<ClosedPart>],
+    out: &mut W,
+) -> Result<(), Failure>
+where
+    R: Files<File = File> + AllocGlobal,
+    W: Write,
+{
+    let root = root_of(parts);
+    for (index, part) in parts.iter().enumerate() {
+        if let Some(part) = part {
+            let number = index.saturating_add(1);
+            join_one(rt, asked, separators, root, number, part, out)?;
+        }
+    }
+    Ok(())
+}
+
+/// Joins all of them into a file.
+fn join_all<R>(
+    rt: &R,
+    asked: &JoinAsked,
+    separators: &Separators,
+    parts: &[Option<ClosedPart>],
+    path: &str,
+) -> Result<(), Failure>
+where
+    R: Files<File = File> + AllocGlobal,
+{
+    let mut out = make_file(rt, path)?;
+    join_into(rt, asked, separators, parts, &mut out)?;
+    match out.sync_all() {
+        Ok(()) => Ok(()),
+        Err(error) => Err(file_failure(rt.alloc(), path, &error)?),
+    }
+}
+
+/// Joins the reports of a cycle, unless they are joined already, and gives the status.
+fn join_cycle<R>(
+    rt: &R,
+    asked: &JoinAsked,
+    separators: &Separators,
+    all: Vec<Option<Facts>>,
+    cycle: u64,
+) -> Result<u8, Failure>
+where
+    R: Files<File = File> + AllocGlobal + Eprint,
+{
+    let (alloc, state) = (rt.alloc(), asked.state.as_str());
+    let path = format!(in alloc; "{state}/{}", StateFile::Whole(cycle))?;
+    let is_made = cycle > 0 && is_there(rt, path.as_str());
+    let parts = closed_parts(rt, state, all, cycle)?;
+    let missing = find_missing(alloc, separators, root_of(&parts), cycle, &parts)?;
+    if is_made && missing.is_empty() {
+        refuse_other(rt, asked, separators, &parts, path.as_str())?;
+    }
+    if is_made {
+        // Of parts that were tidied away nothing can be compared.
+        return Ok(0);
+    }
+    if !missing.is_empty() {
+        return Ok(say_missing(rt, &missing));
+    }
+    let made = format!(in alloc; "{path}.new")?;
+    make_folder(
+        rt,
+        format!(in alloc; "{state}/{}", StateFile::Reports)?.as_str(),
+    )?;
+    join_all(rt, asked, separators, &parts, made.as_str())?;
+    put_made(rt, made.as_str(), path.as_str())?;
+    Ok(0)
+}
+
+/// Joins the reports of the last cycle that all parts have closed, and gives the status.
+fn join_last<R>(rt: &R, asked: &JoinAsked) -> Result<u8, Failure>
+where
+    R: Files<File = File> + AllocGlobal + Eprint,
+{
+    let separators = read_separators(rt, asked.parts.as_str())?;
+    let count = separators.len().saturating_add(1);
+    let all = read_all(rt, asked.state.as_str(), count)?;
+    let cycle = last_of_all(&all);
+    join_cycle(rt, asked, &separators, all, cycle)
+}
+
+/// Joins the reports of all parts of the last cycle that all of them have closed, and gives the
+/// exit status. Each part whose report cannot be joined is named.
+pub(crate) fn join_parts<R>(rt: &R, asked: &JoinAsked) -> u8
+where
+    R: Files<File = File> + AllocGlobal + Eprint,
+{
+    match join_last(rt, asked) {
+        Ok(status) => status,
+        Err(failure) => say_failure(rt, &failure),
+    }
+}

@@ -1,0 +1,89 @@
+//! A state folder whose checkpoints are noted as they are put.
+ghost use Rattle.std.specs.Prelude.{⊤, false};
+ghost use Rattle.ocfl_state.specs.Content.{empty};
+
+use crate::nights::stand::Standing;
+use ocfl_state::{FsState, StateFolder, Trouble, decode_checkpoint};
+use std::alloc::Global;
+use std::cell::Cell;
+use std::fs::File;
+use std::rc::Rc;
+use std::rt::Files;
+
+/// A state folder, and where the nights stand by the checkpoint that was put last. What is said of
+/// a night, and its clock, go by that.
+#[derive(Drop)]
+pub(crate) struct Noting<R: Files<File = File> + AllocGlobal + Clone + Drop> {
+    pub(crate) alloc: Global,
+    pub(crate) folder: FsState<R>,
+    pub(crate) now: Rc<Cell<Standing>>,
+}
+
+impl<R: Files<File = File> + AllocGlobal + Clone + Drop> Noting<R> {
+    /// Notes a checkpoint. One for which there is no memory is not noted.
+    fn note(&self, bytes: &[u8]) {
+        if let Ok(checkpoint) = decode_checkpoint(self.alloc, bytes) {
+            let before = self.now.get();
+            self.now.set(Standing::of(&checkpoint).noted_after(before));
+        }
+    }
+}
+
+/// Does what the folder does.
+impl<R: Files<File = File> + AllocGlobal + Clone + Drop> StateFolder for Noting<R> {
+    ghost told = { false };
+
+    ghost seen = { λ _. empty };
+
+    ghost may_leave = { λ _ _. ⊤ };
+
+    ghost moment = { λ _. 0 };
+
+    ghost left_since = { λ _ _ _. ⊤ };
+
+    ghost faults = { λ _. 0 };
+
+    ghost stays = { λ told folder. tt };
+
+    ghost counts_now = { λ told folder t c le now. tt };
+
+    ghost only_now = { λ told folder c left. tt };
+
+    fn checkpoint(&mut self) -> Result<Option<Vec<u8>>, Trouble> {
+        self.folder.checkpoint()
+    }
+
+    fn put_checkpoint(&mut self, bytes: &[u8]) -> Result<(), Trouble> {
+        self.folder.put_checkpoint(bytes)?;
+        self.note(bytes);
+        Ok(())
+    }
+
+    fn length(&mut self) -> Result<u64, Trouble> {
+        self.folder.length()
+    }
+
+    fn read(&mut self, start: u64, buffer: &mut [u8]) -> Result<usize, Trouble> {
+        self.folder.read(start, buffer)
+    }
+
+    fn append(&mut self, bytes: &[u8]) -> Result<(), Trouble> {
+        self.folder.append(bytes)
+    }
+
+    fn cut(&mut self, most: u64) -> Result<(), Trouble> {
+        self.folder.cut(most)
+    }
+
+    fn sync(&mut self) -> Result<(), Trouble> {
+        self.folder.sync()
+    }
+
+    fn has_closed(&mut self, cycle: u64) -> Result<bool, Trouble> {
+        self.folder.has_closed(cycle)
+    }
+
+    fn close(&mut self, cycle: u64, whole: bool) -> Result<(), Trouble> {
+        self.folder.close(cycle, whole)
+    }
+}

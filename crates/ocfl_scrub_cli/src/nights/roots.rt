@@ -1,0 +1,80 @@
+//! Which storage root a night reads, and which part of it.
+
+use crate::nights::failing::Failure;
+use crate::scope::read_scope;
+use ocfl_cursor::PartEnds;
+use ocfl_line::Chosen;
+use ocfl_scope::Scope;
+use ocfl_telling::{Refusal, Shown, refusal_text};
+use ocfl_tree::Place;
+use std::alloc::{AllocError, Global};
+use std::rt::Files;
+use std::{fs, io};
+
+/// A storage root by its path, as the system resolves it.
+#[derive(Debug, Drop)]
+pub(crate) struct Root {
+    /// The path, from `/` on.
+    pub(crate) path: String,
+    /// The names in it.
+    pub(crate) place: Place,
+}
+
+/// The storage root with a path. `state` is the path of the state folder.
+pub(crate) fn find_root<R>(rt: &R, root: &str, state: &str) -> Result<Root, Failure>
+where
+    R: Files + AllocGlobal,
+{
+    let alloc = rt.alloc();
+    let path = match fs::canonicalize(rt, root) {
+        Ok(path) => path,
+        Err(error) => return Err(unresolved(alloc, root, state, &error)?),
+    };
+    let text = path.as_path().as_str();
+    match Place::from_path(String::from_str(alloc, text.strip_prefix('/').unwrap_or(text))?) {
+        Some(place) => Ok(Root {
+            path: String::from_str(alloc, text)?,
+            place,
+        }),
+        None => Err(Failure::usage(format!(in alloc;
+            "{} is no path of names in UTF-8\n",
+            Shown(text)
+        )?)),
+    }
+}
+
+/// Why a storage root's path was not resolved.
+fn unresolved(
+    alloc: Global,
+    root: &str,
+    state: &str,
+    error: &io::Error,
+) -> Result<Failure, AllocError> {
+    if error.kind() == io::ErrorKind::NotFound {
+        return Ok(Failure::stopped(refusal_text(alloc, Refusal::NoRoot, root, state)?));
+    }
+    Ok(Failure::stopped(format!(in alloc; "{}: {error}. Nothing was run.\n", Shown(root))?))
+}
+
+/// The ends of the part that is chosen. `None` where all of the root is.
+pub(crate) fn find_ends<R>(rt: &R, chosen: &Chosen) -> Result<Option<PartEnds>, Failure>
+where
+    R: Files + AllocGlobal,
+{
+    match read_scope(rt, chosen) {
+        Ok(Scope::Part(ends)) => Ok(Some(ends)),
+        Ok(Scope::Whole | Scope::Branch(_)) => Ok(None),
+        Err(stop) => Err(Failure {
+            status: stop.status(),
+            text: Some(format!(in rt.alloc(); "{stop}\n")?),
+        }),
+    }
+}
+
+/// The number of the part that is chosen. `None` where all of the root is.
+pub(crate) fn part_number(chosen: &Chosen) -> Option<u64> {
+    match chosen {
+        Chosen::Part { number, .. } => Some(*number as u64),
+        Chosen::All | Chosen::Branch(_) => None,
+    }
+}

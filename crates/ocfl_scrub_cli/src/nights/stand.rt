@@ -1,0 +1,91 @@
+//! Where the nights over a folder stand, by its checkpoint.
+
+use ocfl_cursor::State;
+use ocfl_state::{Checkpoint, Phase};
+
+/// Where the nights over a folder stand.
+#[derive(Clone, Copy, Debug)]
+pub(crate) struct Standing {
+    /// The number of the cycle.
+    pub(crate) cycle: u64,
+    /// How many runs the cycle has had.
+    pub(crate) runs: u64,
+    /// What they have spent, at most 2^64 - 1.
+    pub(crate) spent: u64,
+    /// Whether the cycle has ended.
+    pub(crate) has_ended: bool,
+    /// Whether its report is closed too.
+    pub(crate) is_closed: bool,
+    /// Whether its report is closed as whole: nothing of it was lost, and no branch was left out.
+    pub(crate) is_whole: bool,
+    /// How many branches were left out of it.
+    pub(crate) left: u64,
+}
+
+impl Standing {
+    /// Before the first night.
+    pub(crate) fn first() -> Standing {
+        Standing {
+            cycle: 1,
+            runs: 0,
+            spent: 0,
+            has_ended: false,
+            is_closed: false,
+            is_whole: true,
+            left: 0,
+        }
+    }
+
+    /// By a checkpoint.
+    pub(crate) fn of(checkpoint: &Checkpoint) -> Standing {
+        let cursor = &checkpoint.cursor;
+        let has_ended = matches!(cursor.state(), State::Ended);
+        Standing {
+            cycle: cursor.cycle(),
+            runs: cursor.runs(),
+            spent: u64::try_from(cursor.spent()).unwrap_or(u64::MAX),
+            has_ended,
+            is_closed: has_ended && checkpoint.phase == Phase::Open,
+            is_whole: checkpoint.whole && checkpoint.left.is_empty(),
+            left: u64::try_from(checkpoint.left.len()).unwrap_or(u64::MAX),
+        }
+    }
+
+    /// The same after what was noted before: the checkpoint that is put once a report is closed
+    /// names no branch of that cycle any more.
+    pub(crate) fn noted_after(self, before: Standing) -> Standing {
+        let left = if self.is_closed && self.cycle == before.cycle {
+            before.left
+        } else {
+            self.left
+        };
+        Standing { left, ..self }
+    }
+
+    /// The cycle whose report was closed last. 0 where none was.
+    pub(crate) fn last_closed(&self) -> u64 {
+        if self.is_closed {
+            self.cycle
+        } else {
+            self.cycle.saturating_sub(1)
+        }
+    }
+
+    /// How many runs of the cycle `now` there were when the nights stood here.
+    pub(crate) fn runs_before(&self, now: Standing) -> u64 {
+        if now.cycle == self.cycle {
+            self.runs
+        } else {
+            0
+        }
+    }
+
+    /// What was spent since the nights stood here. A night reads one cycle alone.
+    pub(crate) fn spent_until(&self, now: Standing) -> u64 {
+        if now.cycle == self.cycle {
+            now.spent.saturating_sub(self.spent)
+        } else {
+            now.spent
+        }
+    }
+}

@@ -1,0 +1,156 @@
+//! Opening the state folder of a night.
+
+use crate::files::{lies_inside, path_of};
+use crate::nights::failing::Failure;
+use crate::nights::making::is_there;
+use crate::nights::stand::Standing;
+use ocfl_state::{FsState, Reason, StateFile, StateFolder, StateStop, Trouble, decode_checkpoint};
+use ocfl_telling::{Refusal, Shown, refusal_text};
+use std::alloc::{AllocError, Global};
+use std::fs::File;
+use std::io;
+use std::path::Path;
+use std::rt::Files;
+
+/// The exit status where another night holds the folder's lock.
+const HELD: u8 = 75;
+
+/// Refuses a state folder in the storage root, and a storage root in the state folder.
+pub(crate) fn refuse_overlap<R>(rt: &R, state: &str, root: &str) -> Result<(), Failure>
+where
+    R: Files + AllocGlobal,
+{
+    match overlap(rt, state, root) {
+        Ok(false) => Ok(()),
+        Ok(true) => Err(Failure::usage(format!(in rt.alloc();
+            "the state folder and the storage root lie one in the other, and nothing is written \
+             into a storage root\n"
+        )?)),
+        Err(_) => Err(Failure::from(AllocError)),
+    }
+}
+
+/// Whether the folder lies in the root, or would, or the root in the folder.
+fn overlap<R: Files + AllocGlobal>(rt: &R, state: &str, root: &str) -> io::Result<bool> {
+    match path_of(rt, state)? {
+        Some(folder) => {
+            let folder = folder.as_path();
+            let root = Path::new(root);
+            Ok(folder.starts_with(root) || root.starts_with(folder))
+        }
+        None => lies_inside(rt, state.trim_end_matches('/'), root),
+    }
+}
+
+/// Refuses to begin nights in a folder that has those of parts.
+fn refuse_parts<R: Files + AllocGlobal>(rt: &R, state: &str) -> Result<(), Failure> {
+    let alloc = rt.alloc();
+    let part = format!(in alloc; "{state}/part-000001")?;
+    if !is_there(rt, part.as_str()) {
+        return Ok(());
+    }
+    let state = Shown(state);
+    Err(Failure::stopped(format!(in alloc;
+        "{state} has the folders of parts. Begin in another folder. Nothing was run.\n"
+    )?))
+}
+
+/// Opens the state folder, and holds its lock.
+pub(crate) fn open_state<'a, R>(
+    rt: &'a R,
+    state: &str,
+    root: &str,
+    create: bool,
+) -> Result<FsState<&'a R>, Failure>
+where
+    R: Files<File = File> + AllocGlobal,
+{
+    if create {
+        refuse_parts(rt, state)?;
+    }
+    match FsState::open(rt, state, create) {
+        Ok(folder) => Ok(folder),
+        Err(stop) => Err(unopened(rt.alloc(), state, root, stop)?),
+    }
+}
+
+/// Why the folder was not opened.
+fn unopened(
+    alloc: Global,
+    state: &str,
+    root: &str,
+    stop: StateStop,
+) -> Result<Failure, AllocError> {
+    let refusal = match stop {
+        StateStop::NoFolder | StateStop::NoCheckpoint => Refusal::NoCheckpoint,
+        StateStop::OfScripts(_) => Refusal::OfScripts,
+        StateStop::Used(_) => Refusal::HasReports,
+        StateStop::Held => return held(alloc, state),
+        StateStop::Failed(reason) => return failed(alloc, state, reason),
+    };
+    Ok(Failure::stopped(refusal_text(alloc, refusal, root, state)?))
+}
+
+/// That another night holds the folder.
+fn held(alloc: Global, state: &str) -> Result<Failure, AllocError> {
+    let state = Shown(state);
+    let text = format!(in alloc; "another night still runs in {state}; nothing was done\n")?;
+    Ok(Failure {
+        status: HELD,
+        text: Some(text),
+    })
+}
+
+/// A file of the folder, or the folder, and why a call on it failed.
+fn reason_text(alloc: Global, state: &str, reason: Reason) -> Result<String, AllocError> {
+    let state = Shown(state);
+    match reason.file {
+        StateFile::Folder => format!(in alloc; "{state}: {}", reason.error),
+        file => format!(in alloc; "{state}/{file}: {}", reason.error),
+    }
+}
+
+/// That a call on a file of the folder failed, when it was opened.
+fn failed(alloc: Global, state: &str, reason: Reason) -> Result<Failure, AllocError> {
+    if reason.trouble() == Trouble::Memory {
+        return Err(AllocError);
+    }
+    let why = reason_text(alloc, state, reason)?;
+    Ok(Failure::stopped(format!(in alloc; "{why}. Nothing was run.\n")?))
+}
+
+/// That a call on the folder failed in a night.
+pub(crate) fn folder_failure(
+    alloc: Global,
+    state: &str,
+    reason: Option<Reason>,
+) -> Result<Failure, AllocError> {
+    let Some(reason) = reason else {
+        return Ok(Failure::stopped(format!(in alloc; "{} failed\n", Shown(state))?));
+    };
+    let why = reason_text(alloc, state, reason)?;
+    Ok(Failure::stopped(format!(in alloc; "{why}\n")?))
+}
+
+/// The system's words on the last call on the folder that failed, with the file.
+pub(crate) fn words_of(
+    alloc: Global,
+    reason: Option<Reason>,
+) -> Result<Option<String>, AllocError> {
+    match reason {
+        Some(reason) => Ok(Some(format!(in alloc; "{}: {}", reason.file, reason.error)?)),
+        None => Ok(None),
+    }
+}
+
+/// Where the nights over a folder stand. Of a checkpoint that cannot be read the night itself says
+/// why.
+pub(crate) fn read_standing<S: StateFolder>(alloc: Global, folder: &mut S) -> Standing {
+    match folder.checkpoint() {
+        Ok(Some(bytes)) => match decode_checkpoint(alloc, &bytes) {
+            Ok(checkpoint) => Standing::of(&checkpoint),
+            Err(_) => Standing::first(),
+        },
+        Ok(None) | Err(_) => Standing::first(),
+    }
+}

@@ -1,0 +1,213 @@
+//! The output of a night: the bytes of its report come in, and what was found goes out.
+
+use crate::nights::stand::Standing;
+use ocfl_report::{LineStop, read_line, write_all_of};
+use ocfl_state::StateFile;
+use ocfl_telling::{Found, FoundStop, Gravest, Known, Night, night_text};
+use std::alloc::{AllocError, Global};
+use std::cell::Cell;
+use std::io::{self, ErrorKind, Write};
+use std::rc::Rc;
+
+/// How what a night speaks of is called.
+#[derive(Clone, Copy)]
+pub(crate) struct Names<'a> {
+    /// The path of the storage root.
+    pub(crate) root: &'a str,
+    /// The number of the part, where only a part is read.
+    pub(crate) part: Option<u64>,
+    /// The path of the state folder.
+    pub(crate) state: &'a str,
+}
+
+/// How the lines of a report begin that find nothing.
+const CLEAN: &[u8] = b"ok\t";
+
+/// An output that takes the bytes of a report, and says at each flush what was found in them since
+/// the one before, without what is known.
+///
+/// A flush fails if not all of it went out. Lines that are no report lines are left out and
+/// counted. After a failure nothing more is taken.
+#[derive(Drop)]
+pub(crate) struct Teller<'n, W: Drop> {
+    alloc: Global,
+    names: Names<'n>,
+    known: &'n Known,
+    /// Where the nights stand, and where they stood when all was said that there was to say.
+    now: Rc<Cell<Standing>>,
+    said_to: Standing,
+    /// What was found since; `None` after a failure.
+    found: Option<Found>,
+    /// The beginning of a line.
+    rest: Vec<u8>,
+    /// How many findings were said, and how many lines were left out.
+    findings: u64,
+    broken: u64,
+    out: W,
+}
+
+impl<'n, W: Write + Drop> Teller<'n, W> {
+    /// What it says is of the runs after where the nights stand now.
+    pub(crate) fn new(
+        alloc: Global,
+        names: Names<'n>,
+        known: &'n Known,
+        now: Rc<Cell<Standing>>,
+        out: W,
+    ) -> Teller<'n, W> {
+        Teller {
+            alloc,
+            names,
+            known,
+            said_to: now.get(),
+            now,
+            found: Some(Found::new(alloc)),
+            rest: Vec::new(alloc),
+            findings: 0,
+            broken: 0,
+            out,
+        }
+    }
+
+    /// How many findings were said.
+    pub(crate) fn findings(&self) -> u64 {
+        self.findings
+    }
+
+    /// How many lines were no report lines.
+    pub(crate) fn broken(&self) -> u64 {
+        self.broken
+    }
+
+    /// Takes a line that is a report's, with its line feed.
+    fn keep_line(&mut self) -> Result<(), FoundStop> {
+        let Some(found) = self.found.take() else {
+            return Err(FoundStop::Bad);
+        };
+        self.found = Some(found.take(self.alloc, self.known, self.rest.as_slice())?);
+        Ok(())
+    }
+
+    /// Takes a line, with its line feed.
+    fn end_line(&mut self) -> Result<(), FoundStop> {
+        if !self.rest.starts_with(CLEAN) {
+            match read_line(self.alloc, self.rest.as_slice()) {
+                Ok(_) => self.keep_line()?,
+                Err(LineStop::Bad) => self.broken = self.broken.saturating_add(1),
+                Err(LineStop::Memory) => return Err(FoundStop::Memory),
+            }
+        }
+        self.rest.clear();
+        Ok(())
+    }
+
+    /// Takes the next bytes, which may begin and end within a line.
+    fn take(&mut self, bytes: &[u8]) -> Result<(), FoundStop> {
+        for piece in bytes.split_inclusive(|&byte| byte == b'\n') {
+            self.rest.extend_from_slice(piece)?;
+            if piece.ends_with(b"\n") {
+                self.end_line()?;
+            }
+        }
+        Ok(())
+    }
+
+    /// Takes what was found, which is said then.
+    fn take_found(&mut self) -> Result<Found, FoundStop> {
+        if !self.rest.is_empty() {
+            self.broken = self.broken.saturating_add(1);
+            self.rest.clear();
+        }
+        match self.found.take() {
+            Some(found) => Ok(found),
+            None => Err(FoundStop::Bad),
+        }
+    }
+
+    /// Says what was found.
+    fn say(&mut self) -> io::Result<()> {
+        let gravest = self
+            .take_found()
+            .and_then(|found| found.end())
+            .map_err(error_of)?;
+        let now = self.now.get();
+        let text = message(self.alloc, self.names, self.said_to, now, &gravest)?;
+        if write_all_of(&mut self.out, &text).is_err() {
+            return Err(io::Error::from(ErrorKind::WriteZero));
+        }
+        self.out.flush()?;
+        let count = u64::try_from(gravest.count()).unwrap_or(u64::MAX);
+        self.findings = self.findings.saturating_add(count);
+        self.said_to = now;
+        self.found = Some(Found::new(self.alloc));
+        Ok(())
+    }
+}
+
+impl<W: Write + Drop> Write for Teller<'_, W> {
+    fn write(&mut self, buffer: &[u8]) -> io::Result<usize> {
+        match self.take(buffer) {
+            Ok(()) => Ok(buffer.len()),
+            Err(stop) => {
+                self.found = None;
+                Err(error_of(stop))
+            }
+        }
+    }
+
+    fn flush(&mut self) -> io::Result<()> {
+        self.say()
+    }
+}
+
+fn error_of(stop: FoundStop) -> io::Error {
+    match stop {
+        FoundStop::Bad => io::Error::from(ErrorKind::InvalidData),
+        FoundStop::Memory => io::Error::from(ErrorKind::OutOfMemory),
+    }
+}
+
+/// The numbers of the first and the last run whose findings are said. What earlier nights left
+/// unsaid may be of any run.
+fn runs_between(said_to: Standing, now: Standing) -> (u64, u64) {
+    let last = now.runs.max(1);
+    let before = said_to.runs_before(now);
+    if before < last {
+        (before + 1, last)
+    } else {
+        (1, last)
+    }
+}
+
+/// The file that will have the report once the night is over.
+fn report_of(now: Standing) -> StateFile {
+    if !now.has_ended || now.is_closed {
+        return StateFile::Report;
+    }
+    if now.is_whole {
+        StateFile::Whole(now.cycle)
+    } else {
+        StateFile::Incomplete(now.cycle)
+    }
+}
+
+/// The message about what was found.
+fn message(
+    alloc: Global,
+    names: Names<'_>,
+    said_to: Standing,
+    now: Standing,
+    gravest: &Gravest,
+) -> Result<Vec<u8>, AllocError> {
+    let (first, last) = runs_between(said_to, now);
+    let report = format!(in alloc; "{}/{}", names.state, report_of(now))?;
+    let night = Night {
+        root: names.root,
+        part: names.part,
+        cycle: now.cycle,
+        first,
+        last,
+        report: report.as_str(),
+    };
+    night_text(alloc, &night, gravest)
+}

@@ -18,6 +18,7 @@ mod scope;
 mod scrub;
 mod split;
 mod state;
+mod status;
 mod telling;
 mod tree;
 mod walk;

@@ -214,54 +214,57 @@ fn each_part_of_a_checkpoint_is_read(rt: HostRuntime) -> Result<(), Fail> {
     Ok(())
 }
 
+/// Bytes that are the text of no checkpoint, and why.
+const OTHER_BYTES: [(&str, &str, NotDecoded); 10] = [
+    ("no bytes", "", NotDecoded::NotCheckpoint),
+    (
+        "the name of the tool",
+        "ocfl-scrub ",
+        NotDecoded::NotCheckpoint,
+    ),
+    (
+        "a cursor",
+        "ocfl-scrub cursor 2\n",
+        NotDecoded::NotCheckpoint,
+    ),
+    (
+        "no version",
+        "ocfl-scrub checkpoint \n",
+        NotDecoded::Version,
+    ),
+    (
+        "version 2",
+        "ocfl-scrub checkpoint 2\n",
+        NotDecoded::Version,
+    ),
+    (
+        "version 01",
+        "ocfl-scrub checkpoint 01\n",
+        NotDecoded::Version,
+    ),
+    (
+        "version 10",
+        "ocfl-scrub checkpoint 10\n",
+        NotDecoded::Version,
+    ),
+    (
+        "a blank after it",
+        "ocfl-scrub checkpoint 1 \n",
+        NotDecoded::Version,
+    ),
+    ("the first line alone", FIRST, NotDecoded::Damaged),
+    (
+        "no line feed",
+        "ocfl-scrub checkpoint 1",
+        NotDecoded::Damaged,
+    ),
+];
+
 #[test]
 fn other_bytes_are_no_checkpoint(rt: HostRuntime) -> Result<(), Fail> {
     let alloc = rt.alloc();
-    for (row, front, wanted) in [
-        ("no bytes", "", NotDecoded::NotCheckpoint),
-        (
-            "the name of the tool",
-            "ocfl-scrub ",
-            NotDecoded::NotCheckpoint,
-        ),
-        (
-            "a cursor",
-            "ocfl-scrub cursor 2\n",
-            NotDecoded::NotCheckpoint,
-        ),
-        (
-            "no version",
-            "ocfl-scrub checkpoint \n",
-            NotDecoded::Version,
-        ),
-        (
-            "version 2",
-            "ocfl-scrub checkpoint 2\n",
-            NotDecoded::Version,
-        ),
-        (
-            "version 01",
-            "ocfl-scrub checkpoint 01\n",
-            NotDecoded::Version,
-        ),
-        (
-            "version 10",
-            "ocfl-scrub checkpoint 10\n",
-            NotDecoded::Version,
-        ),
-        (
-            "a blank after it",
-            "ocfl-scrub checkpoint 1 \n",
-            NotDecoded::Version,
-        ),
-        ("the first line alone", FIRST, NotDecoded::Damaged),
-        (
-            "no line feed",
-            "ocfl-scrub checkpoint 1",
-            NotDecoded::Damaged,
-        ),
-    ] {
-        let refused = refusal_of(alloc, front.as_bytes());
+    for (row, bytes, wanted) in OTHER_BYTES {
+        let refused = refusal_of(alloc, bytes.as_bytes());
         assert_eq!(rt; refused, Some(wanted), "{row}");
     }
     let body = format!(in alloc; "ocfl-scrub checkpoint 2\n{LINES}")?;

@@ -1,5 +1,6 @@
 //! Command lines: what their words ask for, and what is refused.
 mod chosen;
+mod night_words;
 mod sizes;
 
 use crate::tests::common::Runtime;
@@ -38,7 +39,7 @@ fn read(alloc: Global, line: &str) -> Result<Asked, LineStop> {
 fn read_task(alloc: Global, line: &str) -> Result<Task, Fail> {
     match read(alloc, line)? {
         Asked::Task(task) => Ok(task),
-        Asked::Split(_) => Err(Fail::from("no task")),
+        _ => Err(Fail::from("no task")),
     }
 }
 
@@ -235,7 +236,10 @@ fn answers_with_help(rt: HostRuntime) -> Result<(), Fail> {
     );
     for (line, part) in [
         ("--help", "\nUsage: ocfl-scrub <COMMAND>\n"),
-        ("--help", "\n  show   Writes what a cursor file says\n"),
+        (
+            "--help",
+            "\n  show   Writes what a cursor file or a checkpoint says\n",
+        ),
         ("--help", "\n  ocfl-scrub run --cursor root.cursor "),
         (
             "--help",

@@ -1,20 +1,26 @@
 //! Nights over a state folder and a storage root in memory.
 ghost use Rattle.std.specs.Prelude.{[], false};
+ghost use Rattle.ocfl_tree.specs.Store.{empty_store};
+
+mod left_out;
 
 use crate::tests::common::Runtime;
 use crate::tests::common::digests::lines_of;
 use crate::tests::common::output::Narrow;
 use crate::tests::common::roots::three_files;
-use crate::tests::common::store::place_of;
-use ocfl_cursor::Budget;
+use crate::tests::common::store::{change, place_of};
+use ocfl_cursor::{Budget, PartEnds};
 use ocfl_digest::Block;
 use ocfl_memory::{MemTree, Point};
-use ocfl_night::{Clock, Halt, NightEnd, Plan, Stop, night};
-use ocfl_scrub::Part;
-use ocfl_state::{MemState, StateFolder};
+use ocfl_night::{Clock, Halt, NightEnd, Plan, Refusal, Site, Stop, night};
+use ocfl_state::{MemState, StateFolder, decode_checkpoint};
+use ocfl_tree::{Entry, Place, Tree, Trouble};
+use sha2::{Digest, Sha256};
 use std::alloc::Global;
 use std::io::Write;
 use std::test::Fail;
+
+mod lost;
 
 /// The audit of the root of three files, whose costs are 4, 1 and 4.
 const AUDIT: &str =
@@ -23,9 +29,12 @@ const AUDIT: &str =
 /// What the first run of one file writes of it.
 const FIRST: &str = "ok|.|-\nok|o|-\nok|o/v1/content/a|3\n";
 
-/// A clock that stands still.
+/// A clock that stands still, and that asks to stop from some question on.
 #[derive(Drop)]
-struct Still(u64);
+struct Still {
+    time: u64,
+    questions: u64,
+}
 
 impl Clock for Still {
     ghost told = { false };
@@ -33,7 +42,13 @@ impl Clock for Still {
     ghost answers = { λ _. [] };
 
     fn now(&mut self) -> u64 {
-        self.0
+        self.time
+    }
+
+    fn is_stopped(&mut self) -> bool {
+        let asked = self.questions == 0;
+        self.questions = self.questions.saturating_sub(1);
+        asked
     }
 }
 
@@ -45,6 +60,16 @@ fn plan(files: Option<u64>, end: Option<u64>, create: bool) -> Result<Plan, Fail
         end,
         files,
         create,
+        force_root: false,
+        stop_at_faults: false,
+    })
+}
+
+/// All of the root at a path.
+fn site(alloc: Global) -> Result<Site, Fail> {
+    Ok(Site {
+        path: place_of(alloc, "srv/ocfl")?,
+        ends: None,
     })
 }
 
@@ -56,22 +81,23 @@ fn night_of<W: Write>(
     out: &mut W,
 ) -> Result<NightEnd, Fail> {
     let mut tree = three_files(alloc)?;
-    night_over(alloc, folder, &mut tree, plan, out)
+    night_over(alloc, folder, &mut tree, &site(alloc)?, plan, out)
 }
 
-fn night_over<W: Write>(
+fn night_over<T: Tree, W: Write>(
     alloc: Global,
     folder: &mut MemState,
-    tree: &mut MemTree,
+    tree: &mut T,
+    site: &Site,
     plan: &Plan,
     out: &mut W,
 ) -> Result<NightEnd, Fail> {
     let mut block = Block::new(alloc)?;
-    let part = Part::whole(alloc);
-    let mut clock = Still(5);
-    Ok(night(
-        alloc, folder, tree, &part, plan, &mut clock, &mut block, out,
-    ))
+    let mut clock = Still {
+        time: 5,
+        questions: 1 << 32,
+    };
+    Ok(night(alloc, folder, tree, site, plan, &mut clock, &mut block, out))
 }
 
 /// How a night ended, in a word or two.
@@ -81,12 +107,23 @@ fn ending(end: &Halt) -> &'static str {
         Halt::CycleEnded(_) => "a cycle ended",
         Halt::TimeUp => "time up",
         Halt::Spent => "spent",
+        Halt::Asked => "asked",
         Halt::Stopped(_) => "stopped",
-        Halt::Troubled(Stop::NoCheckpoint) => "no checkpoint",
-        Halt::Troubled(Stop::NotEmpty) => "not empty",
-        Halt::Troubled(Stop::Damaged) => "damaged",
+        Halt::RootChanged => "root changed",
+        Halt::Refused(Refusal::NoCheckpoint) => "no checkpoint",
+        Halt::Refused(Refusal::HasReports) => "has reports",
+        Halt::Refused(Refusal::NotCheckpoint) => "not a checkpoint",
+        Halt::Refused(Refusal::Version) => "version",
+        Halt::Refused(Refusal::Damaged) => "damaged",
+        Halt::Refused(Refusal::Malformed) => "malformed",
+        Halt::Refused(Refusal::NoRoot) => "no root",
+        Halt::Refused(Refusal::OtherRoot(_)) => "other root",
+        Halt::Refused(Refusal::OtherPart) => "other part",
+        Halt::Refused(Refusal::OtherDeclaration) => "other declaration",
+        Halt::Refused(Refusal::NamesGone { .. }) => "names gone",
         Halt::Troubled(Stop::Output) => "output",
         Halt::Troubled(Stop::Folder(_)) => "folder",
+        Halt::Troubled(Stop::Unread(_)) => "unread",
         Halt::Troubled(_) => "troubled",
     }
 }
@@ -167,11 +204,11 @@ fn a_folder_is_begun_in_only_if_asked(rt: HostRuntime) -> Result<(), Fail> {
     assert!(rt; folder.checkpoint_bytes().is_none() && folder.report().is_empty());
     folder.append(b"x")?;
     let made = night_of(rt.alloc(), &mut folder, &plan(None, None, true)?, &mut said)?;
-    assert_eq!(rt; ending(&made.end), "not empty");
+    assert_eq!(rt; ending(&made.end), "has reports");
     assert!(rt; folder.checkpoint_bytes().is_none() && folder.report() == b"x".as_slice());
     folder.close(1, true)?;
     let made = night_of(rt.alloc(), &mut folder, &plan(None, None, true)?, &mut said)?;
-    assert_eq!(rt; ending(&made.end), "not empty");
+    assert_eq!(rt; ending(&made.end), "has reports");
     assert!(rt; said.is_empty());
     Ok(())
 }
@@ -230,11 +267,14 @@ fn a_run_that_stops_is_kept(rt: HostRuntime) -> Result<(), Fail> {
     let mut said = Vec::new(rt.alloc());
     let mut tree = three_files(rt.alloc())?;
     tree.fail_at(&place_of(rt.alloc(), "o/v1")?, Point::List)?;
+    let mut strict = plan(None, None, true)?;
+    strict.stop_at_faults = true;
     let made = night_over(
         rt.alloc(),
         &mut folder,
         &mut tree,
-        &plan(None, None, true)?,
+        &site(rt.alloc())?,
+        &strict,
         &mut said,
     )?;
     assert_eq!(rt; ending(&made.end), "stopped");
@@ -317,5 +357,292 @@ fn no_failing_call_loses_or_repeats_a_line(rt: HostRuntime) -> Result<(), Fail> 
         assert!(rt; audit.as_bytes().ends_with(&rest), "{failing}");
         assert!(rt; said.len() + rest.len() >= audit.len(), "{failing}");
     }
+    Ok(())
+}
+
+/// A folder in which one night was made over the root of three files.
+fn after_one_night(alloc: Global) -> Result<MemState, Fail> {
+    let mut folder = MemState::new(alloc);
+    let mut said = Vec::new(alloc);
+    let _ = night_of(alloc, &mut folder, &plan(Some(1), None, true)?, &mut said)?;
+    Ok(folder)
+}
+
+/// The plan that forces a root.
+fn forced() -> Result<Plan, Fail> {
+    let mut plan = plan(Some(1), None, false)?;
+    plan.force_root = true;
+    Ok(plan)
+}
+
+/// A night that ends so, and leaves the folder as it was.
+fn expect_refused(
+    rt: &impl Runtime,
+    row: &str,
+    night: (&Site, &[(&str, &str)], &Plan),
+    want: &str,
+) -> Result<(), Fail> {
+    let (site, changes, plan) = night;
+    let alloc = rt.alloc();
+    let mut folder = after_one_night(alloc)?;
+    let before = after_one_night(alloc)?;
+    let mut said = Vec::new(alloc);
+    let mut tree = three_files(alloc)?;
+    change(alloc, &mut tree, changes)?;
+    let made = night_over(alloc, &mut folder, &mut tree, site, plan, &mut said)?;
+    assert_eq!(rt; ending(&made.end), want, "{row}");
+    assert_eq!(rt; (made.runs, said.len()), (0, 0), "{row}");
+    assert_eq!(rt;
+        folder.checkpoint_bytes(),
+        before.checkpoint_bytes(),
+        "{row}"
+    );
+    assert_eq!(rt; folder.report(), before.report(), "{row}");
+    Ok(())
+}
+
+#[test]
+fn another_root_or_part_is_refused(rt: HostRuntime) -> Result<(), Fail> {
+    let alloc = rt.alloc();
+    let more = plan(Some(1), None, true)?;
+    for (path, from, want) in [
+        ("srv/ocfl2", None, "other root"),
+        ("srv", None, "other root"),
+        (".", None, "other root"),
+        ("srv/ocfl", Some("o"), "other part"),
+        ("srv/ocfl2", Some("o"), "other root"),
+    ] {
+        let ends = match from {
+            Some(path) => Some(PartEnds {
+                from: Some(place_of(alloc, path)?),
+                below: None,
+            }),
+            None => None,
+        };
+        let other = Site {
+            path: place_of(alloc, path)?,
+            ends,
+        };
+        expect_refused(&rt, path, (&other, &[], &more), want)?;
+        expect_refused(&rt, path, (&other, &[], &forced()?), want)?;
+    }
+    Ok(())
+}
+
+#[test]
+fn a_root_that_is_not_as_it_was_is_refused(rt: HostRuntime) -> Result<(), Fail> {
+    let alloc = rt.alloc();
+    let here = site(alloc)?;
+    let more = plan(Some(1), None, true)?;
+    for (row, changes, want) in [
+        ("gone", ("-0=ocfl_1.1", ""), "no root"),
+        (
+            "other bytes",
+            ("0=ocfl_1.1", "ocfl_1.1"),
+            "other declaration",
+        ),
+        (
+            "one more",
+            ("0=ocfl_1.0", "ocfl_1.0\n"),
+            "other declaration",
+        ),
+    ] {
+        expect_refused(&rt, row, (&here, &[changes], &more), want)?;
+    }
+    expect_refused(
+        &rt,
+        "forced",
+        (&here, &[("-0=ocfl_1.1", "")], &forced()?),
+        "no root",
+    )
+}
+
+#[test]
+fn a_root_that_lost_its_names_is_refused(rt: HostRuntime) -> Result<(), Fail> {
+    let alloc = rt.alloc();
+    for (more, want) in [
+        (&[("p/", ""), ("q/", "")][..], "spent"),
+        (&[("p/", ""), ("q/", ""), ("r/", "")][..], "names gone"),
+    ] {
+        let mut folder = MemState::new(alloc);
+        let mut said = Vec::new(alloc);
+        let mut full = three_files(alloc)?;
+        change(alloc, &mut full, more)?;
+        let here = site(alloc)?;
+        let first = plan(Some(1), None, true)?;
+        let _ = night_over(alloc, &mut folder, &mut full, &here, &first, &mut said)?;
+        let made = night_of(alloc, &mut folder, &plan(Some(1), None, false)?, &mut said)?;
+        assert_eq!(rt; ending(&made.end), want);
+        let made = night_of(alloc, &mut folder, &forced()?, &mut said)?;
+        assert!(rt; made.runs == 1);
+        let made = night_of(alloc, &mut folder, &plan(Some(1), None, false)?, &mut said)?;
+        assert!(rt; ending(&made.end) != "names gone");
+    }
+    Ok(())
+}
+
+#[test]
+fn a_forced_root_is_taken_for_the_one_of_before(rt: HostRuntime) -> Result<(), Fail> {
+    let alloc = rt.alloc();
+    let mut folder = after_one_night(alloc)?;
+    let mut said = Vec::new(alloc);
+    let here = site(alloc)?;
+    let mut other = three_files(alloc)?;
+    change(alloc, &mut other, &[("0=ocfl_1.0", "ocfl_1.0\n")])?;
+    let made = night_over(alloc, &mut folder, &mut other, &here, &forced()?, &mut said)?;
+    assert_eq!(rt; made.runs, 1);
+    let next = plan(Some(1), None, false)?;
+    let made = night_over(alloc, &mut folder, &mut other, &here, &next, &mut said)?;
+    assert_eq!(rt; made.runs, 1);
+    let made = night_of(alloc, &mut folder, &next, &mut said)?;
+    assert_eq!(rt; ending(&made.end), "other declaration");
+    Ok(())
+}
+
+#[test]
+fn bytes_that_are_no_checkpoint_are_refused(rt: HostRuntime) -> Result<(), Fail> {
+    let alloc = rt.alloc();
+    let right = after_one_night(alloc)?;
+    let text = right.checkpoint_bytes().ok_or("no checkpoint")?;
+    for (row, place, byte, want) in [
+        ("front", 0, b'x', "not a checkpoint"),
+        ("version", 22, b'2', "version"),
+        ("a byte", 30, b'x', "damaged"),
+    ] {
+        let mut bytes = text.to_vec(alloc)?;
+        bytes[place] = byte;
+        let mut folder = after_one_night(alloc)?;
+        folder.put_checkpoint(&bytes)?;
+        let mut said = Vec::new(alloc);
+        let made = night_of(alloc, &mut folder, &plan(Some(1), None, true)?, &mut said)?;
+        assert_eq!(rt; ending(&made.end), want, "{row}");
+        assert_eq!(rt; folder.checkpoint_bytes(), Some(bytes.as_slice()), "{row}");
+        assert_eq!(rt; folder.report(), right.report(), "{row}");
+    }
+    Ok(())
+}
+
+/// A root that is unmounted after so many of its files were opened.
+#[derive(Drop)]
+struct Unmounted {
+    tree: MemTree,
+    empty: MemTree,
+    left: u64,
+}
+
+impl Tree for Unmounted {
+    ghost told = { false };
+
+    ghost state = { λ _. empty_store };
+
+    fn list(&mut self, place: &Place) -> Result<Vec<Entry>, Trouble> {
+        if self.left == 0 {
+            self.empty.list(place)
+        } else {
+            self.tree.list(place)
+        }
+    }
+
+    fn open(&mut self, place: &Place) -> Result<(), Trouble> {
+        if self.left == 0 {
+            return self.empty.open(place);
+        }
+        self.left -= 1;
+        self.tree.open(place)
+    }
+
+    fn read(&mut self, buffer: &mut [u8]) -> Result<usize, Trouble> {
+        self.tree.read(buffer)
+    }
+
+    fn close(&mut self) {
+        self.tree.close();
+    }
+}
+
+#[test]
+fn nothing_is_kept_of_a_run_over_an_unmounted_root(rt: HostRuntime) -> Result<(), Fail> {
+    let alloc = rt.alloc();
+    let audit = lines_of(alloc, AUDIT)?;
+    let here = site(alloc)?;
+    let mut changed = 0;
+    for left in 1..40 {
+        let mut folder = MemState::new(alloc);
+        let mut said = Vec::new(alloc);
+        let mut tree = Unmounted {
+            tree: three_files(alloc)?,
+            empty: MemTree::new(alloc),
+            left,
+        };
+        let all = plan(None, None, true)?;
+        let made = night_over(alloc, &mut folder, &mut tree, &here, &all, &mut said)?;
+        if ending(&made.end) == "root changed" {
+            changed += 1;
+            assert!(rt; audit.as_bytes().starts_with(folder.report()), "{left}");
+            assert_eq!(rt; said.as_slice(), folder.report(), "{left}");
+        }
+        let rest = close_cycle(alloc, &mut folder)?;
+        said.extend_from_slice(&rest)?;
+        assert_eq!(rt; closed_whole(&folder), Some(audit.as_bytes()), "{left}");
+        assert_eq!(rt; said.as_slice(), audit.as_bytes(), "{left}");
+    }
+    assert!(rt; changed > 3);
+    Ok(())
+}
+
+#[test]
+fn a_night_that_is_asked_to_stop_begins_no_run(rt: HostRuntime) -> Result<(), Fail> {
+    let alloc = rt.alloc();
+    for (questions, want, runs) in [(0, "asked", 0), (2, "asked", 2), (3, "cycle 1 ended", 3)] {
+        let mut folder = MemState::new(alloc);
+        let mut said = Vec::new(alloc);
+        let mut tree = three_files(alloc)?;
+        let mut block = Block::new(alloc)?;
+        let mut clock = Still { time: 5, questions };
+        let made = night(
+            alloc,
+            &mut folder,
+            &mut tree,
+            &site(alloc)?,
+            &plan(None, None, true)?,
+            &mut clock,
+            &mut block,
+            &mut said,
+        );
+        assert_eq!(rt; (ending(&made.end), made.runs), (want, runs), "{questions}");
+        assert_eq!(rt;
+            said.len(),
+            folder.report().len() + closed_bytes(&folder),
+            "{questions}"
+        );
+    }
+    Ok(())
+}
+
+/// How many bytes the closed reports have.
+fn closed_bytes(folder: &MemState) -> usize {
+    let mut count = 0;
+    for closed in folder.closed() {
+        count += closed.report.len();
+    }
+    count
+}
+
+#[test]
+fn a_checkpoint_has_what_its_report_has(rt: HostRuntime) -> Result<(), Fail> {
+    let alloc = rt.alloc();
+    let folder = after_one_night(alloc)?;
+    let text = folder.checkpoint_bytes().ok_or("no checkpoint")?;
+    let checkpoint = decode_checkpoint(alloc, text)?;
+    let report = &checkpoint.report;
+    assert_eq!(rt;
+        (report.bytes, report.lines),
+        (folder.report().len() as u64, 3)
+    );
+    assert_eq!(rt; checkpoint.told, report.bytes);
+    assert_eq!(rt; report.pieces, [0; 32]);
+    assert_eq!(rt; report.tail, Sha256::digest(folder.report()));
+    assert_eq!(rt; (checkpoint.names.count, checkpoint.left.len()), (2, 0));
+    assert!(rt; checkpoint.part.is_none() && checkpoint.whole);
     Ok(())
 }

@@ -1,10 +1,11 @@
 //! The state folder in memory: what its calls do and refuse, and what a crash leaves of it.
 use crate::tests::common::Runtime;
-use ocfl_state::{MemState, StateFolder, Trouble};
+use ocfl_state::{MOST_CHECKPOINT, MemState, StateFolder, Trouble};
 use std::alloc::Global;
 use std::test::Fail;
 
 mod disk;
+mod finding;
 mod pieces;
 
 /// A checkpoint, a closed report of cycle 1 and an open report, all on the disk.
@@ -70,6 +71,22 @@ fn calls_change_what_reads_show(rt: HostRuntime) -> Result<(), Fail> {
     for (cycle, want) in [(6, false), (7, true), (8, true), (9, false)] {
         assert_eq!(rt; folder.has_closed(cycle)?, want, "{cycle}");
     }
+    Ok(())
+}
+
+#[test]
+fn a_longer_checkpoint_is_refused(rt: HostRuntime) -> Result<(), Fail> {
+    let mut folder = synced(rt.alloc())?;
+    let bytes = vec![in rt.alloc(); b'x'; MOST_CHECKPOINT + 1]?;
+    let changes = folder.changes();
+    assert_eq!(rt; folder.put_checkpoint(&bytes).err(), Some(Trouble::Failed));
+    assert_eq!(rt; folder.changes(), changes);
+    expect(&rt, "unchanged", &folder, "mark|abc|1 false first")?;
+    folder.put_checkpoint(&bytes[..MOST_CHECKPOINT])?;
+    let Some(found) = folder.checkpoint()? else {
+        return Err("no checkpoint".into());
+    };
+    assert_eq!(rt; found.len(), MOST_CHECKPOINT);
     Ok(())
 }
 

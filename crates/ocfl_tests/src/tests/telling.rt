@@ -304,7 +304,7 @@ E092\ta\tx
 22 finding(s) of cycle 2 are repaired in cycle 3:
 E072\tb\t-
 and 21 more, in reports/cycle-000002
-2 object(s) and file(s) of cycle 2 are in no report of cycle 3:
+2 object(s) and file(s) are in no report of cycle 3:
 object\to
 file\to/v1/content/f
 ";
@@ -340,10 +340,13 @@ fn closings_say_what_changed(rt: HostRuntime) -> Result<(), Fail> {
 /// The rows of the log were compared with what Python's `json.dumps` writes of the same objects.
 #[test]
 fn rows_are_json(rt: HostRuntime) -> Result<(), Fail> {
-    expect_rows(&rt)
+    expect_slice(&rt)?;
+    expect_closing(&rt)?;
+    expect_refusal(&rt)?;
+    expect_night(&rt)
 }
 
-fn expect_rows(rt: &impl Runtime) -> Result<(), Fail> {
+fn expect_slice(rt: &impl Runtime) -> Result<(), Fail> {
     let alloc = rt.alloc();
     let place = place_of(alloc, "a\"\\/\n")?;
     let slice = SliceRow {
@@ -361,6 +364,10 @@ fn expect_rows(rt: &impl Runtime) -> Result<(), Fail> {
         stands: Stands::After(&place),
     };
     assert_eq!(rt; slice_line(alloc, &slice)?.as_str(), SLICE);
+    Ok(())
+}
+
+fn expect_closing(rt: &impl Runtime) -> Result<(), Fail> {
     let closing = ClosingRow {
         time: 1,
         night: 2,
@@ -373,14 +380,22 @@ fn expect_rows(rt: &impl Runtime) -> Result<(), Fail> {
         gone: 7,
         left: 8,
     };
-    assert_eq!(rt; closing_line(alloc, &closing)?.as_str(), CLOSING);
+    assert_eq!(rt; closing_line(rt.alloc(), &closing)?.as_str(), CLOSING);
+    Ok(())
+}
+
+fn expect_refusal(rt: &impl Runtime) -> Result<(), Fail> {
     let refusal = RefusalRow {
         time: 1,
         night: 2,
         status: 75,
         said: "no\tone",
     };
-    assert_eq!(rt; refusal_line(alloc, &refusal)?.as_str(), REFUSAL);
+    assert_eq!(rt; refusal_line(rt.alloc(), &refusal)?.as_str(), REFUSAL);
+    Ok(())
+}
+
+fn expect_night(rt: &impl Runtime) -> Result<(), Fail> {
     let night = NightRow {
         time: 1,
         night: 2,
@@ -389,8 +404,10 @@ fn expect_rows(rt: &impl Runtime) -> Result<(), Fail> {
         cost: 18446744073709551615,
         seconds: 4,
         findings: 5,
+        left: 6,
+        program: "0f",
     };
-    assert_eq!(rt; night_line(alloc, &night)?.as_str(), NIGHT_ROW);
+    assert_eq!(rt; night_line(rt.alloc(), &night)?.as_str(), NIGHT_ROW);
     Ok(())
 }
 
@@ -405,9 +422,8 @@ const CLOSING: &str = "{\"cycle\":3,\"findings\":4,\"gone\":7,\"left\":8,\"new\"
 const REFUSAL: &str =
     "{\"night\":2,\"row\":\"refusal\",\"said\":\"no%09one\",\"status\":75,\"time\":1}\n";
 
-const NIGHT_ROW: &str =
-    "{\"cost\":18446744073709551615,\"findings\":5,\"night\":2,\"row\":\"night\",\
-\"runs\":3,\"seconds\":4,\"status\":0,\"time\":1}\n";
+const NIGHT_ROW: &str = "{\"cost\":18446744073709551615,\"findings\":5,\"left\":6,\"night\":2,\
+\"program\":\"0f\",\"row\":\"night\",\"runs\":3,\"seconds\":4,\"status\":0,\"time\":1}\n";
 
 /// A list, and how many entries it has.
 const LISTS: [(&str, usize); 8] = [
@@ -446,8 +462,30 @@ fn lists_of_known_findings_are_read(rt: HostRuntime) -> Result<(), Fail> {
     Ok(())
 }
 
+/// What a list has, shown.
+fn shown_list(alloc: Global, text: &str) -> Result<String, Fail> {
+    let mut reader = text.as_bytes();
+    let known = read_known(alloc, &mut reader)?;
+    Ok(format!(in alloc; "{known:?}")?)
+}
+
+#[test]
+fn lines_of_what_is_gone_name_no_finding(rt: HostRuntime) -> Result<(), Fail> {
+    let alloc = rt.alloc();
+    let plain = shown_list(alloc, "E092\ta\nE072\tb/\n")?;
+    for text in [
+        "object\ta/b\nE092\ta\nE072\tb/\n",
+        "E092\ta\nfile\ta/b/v1/content/c\nE072\tb/\n",
+        "E092\ta\nE072\tb/\nexpected\td\n",
+        "object\ta\nE092\ta\nfile\tb\nE072\tb/\nexpected\tc",
+    ] {
+        assert_eq!(rt; shown_list(alloc, text)?, plain, "{text}");
+    }
+    Ok(())
+}
+
 /// A list, and the number of its first line that names nothing.
-const BAD_LISTS: [(&str, usize); 8] = [
+const BAD_LISTS: [(&str, usize); 11] = [
     ("E999\ta\n", 1),
     ("E092\n", 1),
     ("E092\ta//\n", 1),
@@ -456,6 +494,9 @@ const BAD_LISTS: [(&str, usize); 8] = [
     ("E092\ta\tb\tc\n", 1),
     ("E092\ta/b\n\n x", 3),
     ("E092\t%c3%a9\n", 1),
+    ("object a\n", 1),
+    ("object\ta\nfiles\ta\n", 2),
+    (" expected\ta\n", 1),
 ];
 
 #[test]

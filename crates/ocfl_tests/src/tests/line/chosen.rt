@@ -265,7 +265,9 @@ fn shows_help_of_parts(rt: HostRuntime) -> Result<(), Fail> {
     ] {
         assert!(rt; usage_text(alloc, line)?.contains(text), "{name}");
     }
-    for name in ["audit", "run", "cycle", "check", "split", "show"] {
+    for name in [
+        "audit", "run", "cycle", "night", "check", "split", "join", "show",
+    ] {
         let line = format!(in alloc; "{name} --help")?;
         let example = format!(in alloc; "\n\nExample:\n  ocfl-scrub {name} ")?;
         let text = usage_text(alloc, line.as_str())?;

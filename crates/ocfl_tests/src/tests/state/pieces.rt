@@ -1,8 +1,8 @@
 //! The digests of reports by whole pieces. The expected values are those of Python's `hashlib`.
 use crate::tests::common::Runtime;
 use ocfl_state::{
-    MemState, PIECE_LEN, ReportDigests, ReportSummary, StateFolder, digests_of_report,
-    is_report_of, resume_digests,
+    MemState, PIECE_LEN, ReportDigests, ReportMark, StateFolder, digests_of_report, is_report_of,
+    resume_digests,
 };
 use std::alloc::Global;
 use std::test::Fail;
@@ -37,7 +37,7 @@ const LAST_LINE: &str = "6d9880d2040ce6575fe85acbe7978ce7777668dec8d70ab1035bcd6
 fn expect(
     rt: &impl Runtime,
     row: &str,
-    found: ReportSummary,
+    found: ReportMark,
     counts: (u64, u64),
     digests: (&str, &str),
 ) -> Result<(), Fail> {
@@ -104,19 +104,19 @@ fn a_report_has_one_summary(rt: HostRuntime) -> Result<(), Fail> {
     let summary = digests_of_report(&mut folder)?.summary();
     assert!(rt; is_report_of(&mut folder, &summary)?);
     let others = [
-        ReportSummary {
+        ReportMark {
             bytes: summary.bytes + 1,
             ..summary
         },
-        ReportSummary {
+        ReportMark {
             lines: summary.lines + 1,
             ..summary
         },
-        ReportSummary {
+        ReportMark {
             pieces: [1; 32],
             ..summary
         },
-        ReportSummary {
+        ReportMark {
             tail: [1; 32],
             ..summary
         },

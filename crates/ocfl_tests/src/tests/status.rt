@@ -1,0 +1,26 @@
+//! The exit status after a night.
+use ocfl_night::{Halt, Refusal, status_found, status_of};
+use std::test::Fail;
+
+#[test]
+fn ends_have_statuses(rt: HostRuntime) -> Result<(), Fail> {
+    let rows = [
+        (Halt::CycleEnded(1), 0),
+        (Halt::Asked, 0),
+        (Halt::RootChanged, 3),
+        (Halt::Refused(Refusal::NoCheckpoint), 3),
+        (Halt::Refused(Refusal::Damaged), 4),
+    ];
+    for (halt, status) in rows {
+        assert_eq!(rt; status_of(&halt), status);
+    }
+    Ok(())
+}
+
+#[test]
+fn findings_have_statuses(rt: HostRuntime) -> Result<(), Fail> {
+    for (lost, findings, status) in [(false, 0, 0), (false, 5, 1), (true, 5, 3)] {
+        assert_eq!(rt; status_found(lost, findings), status, "{lost} {findings}");
+    }
+    Ok(())
+}

@@ -12,13 +12,14 @@ import time
 from typing import Callable, NoReturn, Sequence
 
 from . import files, questions
-from .state import State, open_state
+from .opening import open_state
+from .state import State
 from .weights import TABLE, Weights
 
 PROGRAM = "ocfl-scrub-reports"
 # Their values may begin with `-`.
 TAKE_VALUES = {"--age", "--findings", "--damaged", "--gone", "--cycle-age", "--known", "--new",
-               "--codes", "--seal", "--prometheus", "--now", "--each"}
+               "--codes", "--seal", "--prometheus", "--now", "--each", "--keep"}
 LIMITS = [("--age", "26,50", "hours since the last night began"),
           ("--findings", "1,-", "open findings that are not known"),
           ("--damaged", "1,1", "open findings of weight 1 that are not known"),
@@ -47,8 +48,14 @@ def limits(text: str) -> tuple[int | None, int | None]:
 
 def cycle(text: str) -> int:
     if not re.fullmatch("[1-9][0-9]*", text):
-        raise argparse.ArgumentTypeError("not the number of a cycle: " + repr(text))
+        raise argparse.ArgumentTypeError("a number from 1 on is needed: " + repr(text))
     return int(text)
+
+
+def report_at(path: str) -> str:
+    """A report by the name that it had before it was compressed, or by its own."""
+    packed = path + ".gz"
+    return packed if not os.path.lexists(path) and os.path.lexists(packed) else path
 
 
 def moment(text: str) -> int:
@@ -102,8 +109,12 @@ def do_premis(given: argparse.Namespace) -> None:
 
 def do_statement(given: argparse.Namespace) -> None:
     from . import statement
-    os.umask(0o027)
-    statement.write(state_of(given), given.cycle, given.seal)
+    statement.write(state_of(given), given.cycle, given.seal, given.known)
+
+
+def do_finish(given: argparse.Namespace) -> int:
+    from . import finish
+    return finish.finish(state_of(given), given.seal, given.known, given.keep)
 
 
 def do_verify(given: argparse.Namespace) -> int:
@@ -136,11 +147,11 @@ def do_status(given: argparse.Namespace) -> int:
         state = state_of(given)
         standing = status.standing_of(state, given.known, Weights(given.codes),
                                       limits_of(given), now_of(given))
+        root = state.bound_to("path") or given.state
     except (files.Failed, OSError, ValueError) as error:
         # A bar would begin the figures, and a line feed another line.
         print("OCFL-SCRUB UNKNOWN - " + re.sub(r"[|\n]", "?", str(error)))
         return 3
-    root = state.bound_to("path") or given.state
     print(standing.line(root))
     if given.list:
         files.pour(standing.found.listed)
@@ -188,9 +199,10 @@ class Commands:
 
     def of_reports(self) -> None:
         made = self.add("findings", do_findings, "shows the findings of reports",
-                        "--by-weight --new ~/audit/reports/cycle-000001.gz ~/audit/report",
+                        "--by-weight --new ~/audit/reports/cycle-000001 ~/audit/report",
                         "These are all lines but `ok` and the note `S07`.")
-        made.add_argument("--new", metavar="OLDER", help="only those that the report OLDER lacks")
+        made.add_argument("--new", metavar="OLDER", type=report_at,
+                          help="only those that the report OLDER lacks")
         made.add_argument("--known", metavar="FILE", help="without those that FILE names: " + KNOWN)
         made.add_argument("--by-weight", action="store_true", help="the gravest first")
         add_codes(made)
@@ -202,11 +214,11 @@ class Commands:
                 ("json", questions.show_json, "writes each line of reports as a JSON object")]:
             add_reports(self.add(name, of_reports(show), short, "~/audit/reports/cycle-000001"))
         made = self.add("changed", do_changed, "shows what differs between two reports",
-                        "~/audit/reports/cycle-000001.gz ~/audit/reports/cycle-000002",
+                        "~/audit/reports/cycle-000001 ~/audit/reports/cycle-000002",
                         "After `-` come lines that only OLDER has, after `+` those that only "
                         "NEWER has, by path.")
-        made.add_argument("older", metavar="OLDER")
-        made.add_argument("newer", metavar="NEWER")
+        made.add_argument("older", metavar="OLDER", type=report_at)
+        made.add_argument("newer", metavar="NEWER", type=report_at)
 
     def of_states(self) -> None:
         made = self.add("unverified", do_unverified,
@@ -240,18 +252,27 @@ class Commands:
                         "writes the statement of a closed cycle beside its report",
                         "--seal 'minisign -S -s ~/key -m \"$1\" > /dev/null' ~/audit 1",
                         "One that is there stays as it is.")
-        made.add_argument("--seal", metavar="COMMAND",
-                          help="the shell runs COMMAND with the statement's name as $1, in a "
-                               "folder that holds it alone; what it leaves there is kept beside it")
+        add_seal(made)
         add_state(made)
         made.add_argument("cycle", metavar="CYCLE", type=cycle)
+        made = self.add("finish", do_finish,
+                        "states, seals and compresses what nights closed",
+                        "--keep 12 ~/audit",
+                        "Each closed cycle gets its statement, if it lacks it. The reports before "
+                        "the last two whole ones are compressed. Ends with 75 if a night is under "
+                        "way.")
+        add_seal(made)
+        made.add_argument("--keep", metavar="N", type=cycle,
+                          help="remove the reports of all but the last N closed cycles, once they "
+                               "have a statement; those that are not compressed stay")
+        add_state(made)
         made = self.add("verify", do_verify,
                         "compares a statement with its report and with what lies beside it",
                         "~/audit/reports/statement-000001",
                         "Ends with 0 if each line was checked and holds, with 1 if one does not "
                         "hold or is unknown, and with 4 if some could not be checked.")
         made.add_argument("statement", metavar="STATEMENT")
-        made.add_argument("report", metavar="REPORT", nargs="?",
+        made.add_argument("report", metavar="REPORT", nargs="?", type=report_at,
                           help="the one that the statement names, unless it is given")
 
     def of_nights(self) -> None:
@@ -293,11 +314,21 @@ def example(words: str) -> str:
 
 
 def add_reports(parser: Parser) -> None:
-    parser.add_argument("report", metavar="REPORT", nargs="+", help="plain, or compressed by gzip")
+    parser.add_argument("report", metavar="REPORT", nargs="+", type=report_at,
+                        help="plain, or compressed by gzip, with or without .gz in its name")
 
 
 def add_state(parser: Parser) -> None:
-    parser.add_argument("state", metavar="STATE", help="the folder of `nightly`")
+    parser.add_argument("state", metavar="STATE", help="the folder of state of the nights")
+
+
+def add_seal(parser: Parser) -> None:
+    """The options of what makes statements."""
+    parser.add_argument("--seal", metavar="COMMAND",
+                        help="the shell runs COMMAND with the statement's name as $1, in a folder "
+                             "that holds it alone; what it leaves there is kept beside it")
+    parser.add_argument("--known", metavar="FILE",
+                        help="losses that FILE names are listed apart: " + KNOWN)
 
 
 def add_limits(parser: Parser) -> None:
@@ -330,6 +361,7 @@ def joined(words: Sequence[str]) -> list[str]:
 def main(words: Sequence[str] | None = None) -> int:
     """Does what the command line asks, and gives the status."""
     signal.signal(signal.SIGPIPE, signal.SIG_DFL)
+    os.umask(0o027)
     for end in (signal.SIGHUP, signal.SIGTERM, signal.SIGINT):
         signal.signal(end, lambda *_: sys.exit(3))
     sys.stdout.reconfigure(  # type: ignore[attr-defined]

@@ -6,7 +6,6 @@ import re
 import sqlite3
 import sys
 import tempfile
-from dataclasses import astuple
 from datetime import datetime
 from typing import Iterator
 
@@ -66,7 +65,11 @@ def make(state: State, path: str) -> None:
     for report in state.closed():
         for _ in files.chunks(report.path):
             pass
-    fill(state, path)
+    try:
+        fill(state, path)
+    except BaseException:
+        os.remove(path)
+        raise
 
 
 def fill(state: State, path: str) -> None:
@@ -89,13 +92,13 @@ def fill(state: State, path: str) -> None:
 def as_row(run: Entry) -> tuple[object, ...]:
     """The columns of a run. The status of one that was not cut is a number."""
     return tuple(files.bytes_of(value).decode("utf-8", "replace")
-                 if isinstance(value, str) else value for value in astuple(run))
+                 if isinstance(value, str) else value for value in run.columns())
 
 
 def runs(state: State) -> Iterator[Entry]:
-    """The runs of the log. Of a cycle that was joined of parts they are in a file of their own, in
-    the order of its report."""
-    joined = {report.cycle for report in state.closed() if state.find("runs", report.cycle)}
+    """The runs of the log. Of a cycle that was joined of parts they come in the order of its
+    report."""
+    joined = set(state.joined_cycles())
     for cycle in sorted(joined):
         yield from (entry for entry in state.runs(cycle) if entry.is_run())
     for entry in state.entries():

@@ -1,6 +1,7 @@
 """Files as the commands read and write them: whose they are, links, compression, whole lines."""
 from __future__ import annotations
 
+import hashlib
 import os
 import shutil
 import sys
@@ -40,14 +41,13 @@ def drop_to_owner_of(path: str) -> None:
         return
     for follows in (False, True):
         try:
-            user = os.stat(path, follow_symlinks=follows).st_uid
-            group = os.stat(path).st_gid
+            found = os.stat(path, follow_symlinks=follows)
         except OSError:
             continue
-        if user != 0:
+        if found.st_uid != 0:
             os.setgroups([])
-            os.setresgid(group, group, group)
-            os.setresuid(user, user, user)
+            os.setresgid(found.st_gid, found.st_gid, found.st_gid)
+            os.setresuid(found.st_uid, found.st_uid, found.st_uid)
             return
 
 
@@ -55,7 +55,7 @@ def drop_to_owners_of(paths: Iterable[str]) -> None:
     """The same for what a command is given: a folder, or a file and the folder that holds it."""
     for path in paths:
         drop_to_owner_of(path)
-        if not os.path.isdir(path) and os.path.lexists(path):
+        if not os.path.isdir(path):
             drop_to_owner_of(os.path.dirname(path) or ".")
 
 
@@ -116,6 +116,14 @@ def lines(path: str) -> Iterator[bytes]:
         yield from block[1:].removesuffix(b"\n").split(b"\n")
 
 
+def digest_of(path: str) -> str:
+    """The SHA-256 of a file, as it is without compression."""
+    digest = hashlib.sha256()
+    for chunk in chunks(path):
+        digest.update(chunk)
+    return digest.hexdigest()
+
+
 def text_of(data: bytes) -> str:
     """Bytes of any kind as text, which `bytes_of` makes the same bytes again."""
     return os.fsdecode(data)
@@ -139,14 +147,33 @@ def pour(file: IO[bytes], out: IO[bytes] | None = None) -> None:
     shutil.copyfileobj(file, out or sys.stdout.buffer, BLOCK)
 
 
+def create(path: str) -> IO[bytes]:
+    """Makes a new file for its owner and the group, in the place of what a kill left there. No link
+    is followed."""
+    if os.path.lexists(path):
+        os.remove(path)
+    return open(os.open(path, os.O_WRONLY | os.O_CREAT | os.O_EXCL, 0o640), "wb")
+
+
+def sync(file: IO[bytes]) -> None:
+    """Brings what was written to the disk."""
+    file.flush()
+    os.fsync(file.fileno())
+
+
+def sync_folder(path: str) -> None:
+    """Brings the names in a folder to the disk."""
+    number = os.open(path, os.O_RDONLY)
+    try:
+        os.fsync(number)
+    finally:
+        os.close(number)
+
+
 def put(data: bytes, path: str) -> None:
     """Puts a file in its place, whole or not at all. What lies there is exchanged, and no link is
     followed."""
-    new = path + ".new"
-    if os.path.lexists(new):
-        os.remove(new)
-    with open(os.open(new, os.O_WRONLY | os.O_CREAT | os.O_EXCL, 0o640), "wb") as file:
+    with create(path + ".new") as file:
         file.write(data)
-        file.flush()
-        os.fsync(file.fileno())
-    os.replace(new, path)
+        sync(file)
+    os.replace(path + ".new", path)

@@ -2,14 +2,13 @@
 runs no script."""
 from __future__ import annotations
 
-import os
 from dataclasses import dataclass
 from html import escape
 from itertools import islice
-from typing import IO, Iterable, Sequence
+from typing import Iterable, Sequence
 
-from . import files, questions, report
-from .state import Closing, Entry, State, closing_of, cycle_name
+from . import files, questions
+from .state import Closing, Entry, State, cycle_name
 from .statement import plain
 from .status import WORDS, Standing
 from .weights import Weights
@@ -50,7 +49,7 @@ def nights_of(entries: Iterable[Entry]) -> list[Night]:
             continue
         night = found.setdefault(entry.night, Night(entry.night))
         if entry.kind == "told":
-            night.status = entry.said.partition(",")[0].removeprefix("status ")
+            night.status = entry.status
         else:
             night.bytes += entry.cost
             night.seconds += entry.seconds
@@ -128,7 +127,7 @@ def about_cycle(state: State, standing: Standing) -> str:
         facts.append(("of what the last one read", "%d of 100" % standing.done))
     if standing.left is not None:
         facts.append(("nights left", str(standing.left)))
-    parts = [any(os.path.isfile(it.path) for it in state.closed_of_part(part))
+    parts = [not log.is_open or any(it.cycle == log.cycle for it in state.closed_of_part(part))
              for part in state.parts()]
     return section("The open cycle" if log.is_open else "The last cycle",
                    table("How far it is", ("what", "how it is"), facts), strip(parts))
@@ -163,27 +162,14 @@ def about_changes(state: State) -> str:
     closed = [it.path for it in state.closed()][-2:]
     if len(closed) < 2:
         return ""
-    spools = [findings_in(path) for path in closed]
-    new = count(questions.new_ones(spools[1], closed[0]))
-    mended = count(questions.new_ones(spools[0], closed[1]))
+    before, now = map(questions.findings_in, closed)
+    new, mended = questions.count_lacking(now, before), questions.count_lacking(before, now)
     return section("Since the cycle before", table("Findings of the last two closed reports", (
         "new", "no longer there"), [(new, mended)]))
 
 
-def findings_in(path: str) -> IO[bytes]:
-    found = files.spool()
-    for lines in report.findings(path, must_be_whole=False):
-        questions.write_lines(found, lines)
-    return found
-
-
-def count(spool: IO[bytes]) -> int:
-    return sum(1 for _ in questions.lines_of(spool))
-
-
 def about_cycles(state: State) -> str:
-    ended: list[tuple[Entry, Closing]] = [(it, closing_of(it.said)) for it in state.entries()
-                                          if it.kind == "ended"]
+    ended: list[tuple[Entry, Closing]] = [(it, it.closing) for it in state.entries() if it.closing]
     rows = [(it.cycle, it.began, size(it.spent - it.files), "yes" if closing.is_whole else "no",
              "%d objects, %d files" % (closing.objects, closing.files), cycle_name(
                  "statement", it.cycle) if state.find("statement", it.cycle) else "none")

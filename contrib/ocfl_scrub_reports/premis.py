@@ -125,10 +125,11 @@ class Events:
 
     # Events
 
-    def event(self, event: Event, last: int, time: str | None = None) -> None:
-        """Writes an event whose lines end with this one."""
-        first, end = self.run_of(event.first), self.run_of(last)
-        programs = dict.fromkeys(run.program for run in self.runs[first:end + 1])
+    def event(self, event: Event, time: str | None = None) -> None:
+        """Writes an event. The log does not say which night wrote a line, so its agents are the
+        programs of all nights of the cycle."""
+        first = self.run_of(event.first)
+        programs = dict.fromkeys(run.program for run in self.runs)
         self.agents.update(programs)
         link = (("OCFL storage root", self.root) if event.of == b"."
                 else self.name_object(event.of))
@@ -164,7 +165,7 @@ class Events:
         note = "; ".join(["%d findings in %d lines" % (found, reading.lines), *lost])
         came = "fail" if found or lost else "pass"
         event = Event("", "Audit of a storage root", 1, b".", [(came, note.encode())])
-        self.event(event, self.runs[-1].lines, self.runs[-1].began)
+        self.event(event, self.runs[-1].began)
 
     def lines(self) -> Iterator[tuple[Line, bool]]:
         """The lines of the report apart from right files, and whether each begins an object."""
@@ -183,7 +184,7 @@ class Events:
     def finding(self, line: Line, of: bytes) -> None:
         event = Event(":finding:%d" % line.number, "Finding of an audit", line.number, of,
                       [("fail", line.text())])
-        self.event(event, line.number)
+        self.event(event)
 
     def of_objects(self) -> None:
         event = None
@@ -193,7 +194,7 @@ class Events:
             within = event and is_within(line.path, event.of)
             # A finding outside of any object comes after the event of the object before it.
             if event and (begins or line.is_finding() and not within):
-                self.event(event, number - 1)
+                self.event(event)
                 event = None
             if begins:
                 event = Event(":object:%d" % number, "Audit of an object", number, line.path)
@@ -203,7 +204,7 @@ class Events:
                 self.object = b""
                 self.finding(line, b".")
         if event:
-            self.event(event, self.runs[-1].lines)
+            self.event(event)
 
     def write(self) -> None:
         {"cycle": self.of_cycle, "finding": self.of_findings,
@@ -229,7 +230,7 @@ class Events:
             note = (b"missing: " if kind == b"expected" else b"gone: ") + place
             event = Event(":gone:%d" % number, "Loss found by an audit", self.runs[-1].lines,
                           b"." if kind == b"file" else place, [("fail", note)])
-            self.event(event, self.runs[-1].lines, self.said["Closed"])
+            self.event(event, self.said["Closed"])
 
     def agent(self, program: str) -> str:
         """A program. Version and commit are known of the one that the statement describes."""

@@ -7,7 +7,7 @@ import sys
 import tempfile
 from collections import Counter
 from itertools import islice
-from typing import IO, Iterable, Iterator
+from typing import IO, Callable, Iterable, Iterator
 
 from . import files, report
 from .weights import Known, Weights
@@ -54,6 +54,23 @@ def new_ones(found: IO[bytes], older: str) -> IO[bytes]:
                 held.pop(line, None)
         write_lines(new, list(held))
     return new
+
+
+def findings_in(path: str, each_block: Callable[[bytes], object] | None = None) -> IO[bytes]:
+    """The findings of a report, which need not be whole, by one reading."""
+    found = files.spool()
+    for lines in report.findings(path, must_be_whole=False, each_block=each_block):
+        write_lines(found, lines)
+    return found
+
+
+def count_lacking(found: IO[bytes], others: IO[bytes]) -> int:
+    """How many of these lines are not among the others. No more than 100,000 are in memory."""
+    count, lines = 0, lines_of(found)
+    while held := list(islice(lines, HELD)):
+        lacking = set(held).difference(lines_of(others))
+        count += sum(line in lacking for line in held)
+    return count
 
 
 def by_weight(found: IO[bytes], weights: Weights) -> IO[bytes]:

@@ -6,8 +6,8 @@ import sys
 from itertools import groupby
 
 from . import files, standing
+from .program import find_program
 from .state import State
-from .statement import find_program
 from .weights import Known
 
 

@@ -109,9 +109,10 @@ class Reading:
                 yield Line(number, *found.groups())
 
 
-def findings(path: str, must_be_whole: bool = True) -> Iterator[list[bytes]]:
+def findings(path: str, must_be_whole: bool = True,
+             each_block: Callable[[bytes], object] | None = None) -> Iterator[list[bytes]]:
     """The findings of a report as their lines, many at a time."""
-    reading = Reading(path)
+    reading = Reading(path, each_block)
     for _ in reading.whole() if must_be_whole else reading.blocks():
         if reading.others:
             yield [line for line in reading.others if not line.startswith(b"S07\t")]

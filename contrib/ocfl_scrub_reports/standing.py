@@ -5,38 +5,53 @@ Reports are read once more for each 100,000 of these, so that no more are in mem
 from __future__ import annotations
 
 from itertools import islice
-from typing import Iterable, Iterator
+from typing import Iterable, Iterator, NamedTuple
 
 from . import files, report
 from .state import State
 
 HELD = 100000
-# Reports of which each place is in one at most: a closed report alone, or the open ones of parts.
-Group = list[str]
+LOSSES = (b"object\t", b"file\t")
+# The cycle of what is open still.
+OPEN = 1 << 63
 
 
-def left_over(items: Iterable[bytes], later: list[Group]) -> Iterator[bytes]:
-    """Those of these lines whose place has no line in any later report. A line's second column is
-    its place."""
+class Group(NamedTuple):
+    """Reports of which each place is in one at most: a closed report alone, or those of parts in
+    one cycle."""
+    cycle: int
+    reports: list[str]
+
+
+def left_over(items: Iterable[bytes], later: list[list[str]],
+              lists: Iterable[str] = ()) -> Iterator[bytes]:
+    """Those of these lines whose place has no line in any later report, nor in any of these lists
+    of what is gone. A line's second column is its place."""
     rest = iter(items)
+    again = list(lists)
     while held := list(islice(rest, HELD)):
         places: dict[bytes, list[bytes]] = {}
         for line in held:
             places.setdefault(line.split(b"\t", 2)[1], []).append(line)
         for path in (path for group in later for path in group):
-            drop_seen(places, path)
+            drop_seen(places, report.paths(path) if places else ())
+        for path in again:
+            drop_seen(places, places_gone(path) if places else ())
         for lines in places.values():
             yield from lines
 
 
-def drop_seen(places: dict[bytes, list[bytes]], path: str) -> None:
-    """Removes the places of which a report has a line."""
-    if not places:
-        return
-    for seen in report.paths(path):
+def drop_seen(places: dict[bytes, list[bytes]], paths: Iterable[list[bytes]]) -> None:
+    """Removes the places that are seen. They come many at a time."""
+    for seen in paths:
         if not places.keys().isdisjoint(seen):
             for place in seen:
                 places.pop(place, None)
+
+
+def places_gone(path: str) -> Iterator[list[bytes]]:
+    """The places of what a list calls gone, one at a time."""
+    return ([line.split(b"\t", 1)[1]] for line in files.lines(path) if line.startswith(LOSSES))
 
 
 def open_findings(state: State) -> Iterator[bytes]:
@@ -44,33 +59,30 @@ def open_findings(state: State) -> Iterator[bytes]:
     or a later one, and no later report came to their places."""
     groups = groups_of(state)
     for at in reversed(range(len(groups))):
-        found = (line for path in groups[at]
+        found = (line for path in groups[at].reports
                  for lines in report.findings(path, must_be_whole=False) for line in lines)
-        yield from left_over(found, groups[at + 1:])
+        yield from left_over(found, [it.reports for it in groups[at + 1:]])
 
 
-def groups_of(state: State) -> list[Group]:
-    """The last whole report, those after it and the open one."""
-    closed = state.closed()
+def groups_of(state: State, upto: int | None = None) -> list[Group]:
+    """The last whole report, those after it and the open one; or those up to a cycle."""
+    closed = [it for it in state.closed() if upto is None or it.cycle <= upto]
     whole = [at for at, it in enumerate(closed) if it.is_whole]
-    groups = [[it.path] for it in closed[whole[-1] if whole else 0:]] + [state.open_reports()]
-    files.refuse_links(*(path for group in groups for path in group))
+    groups = [Group(it.cycle, [it.path]) for it in closed[whole[-1] if whole else 0:]]
+    if upto is None:
+        groups += [Group(OPEN if cycle is None else cycle, paths)
+                   for cycle, paths in state.open_reports()]
+    files.refuse_links(*(path for group in groups for path in group.reports))
     return groups
 
 
 def losses(state: State, upto: int | None = None) -> Iterator[bytes]:
-    """The objects and files that were gone when some cycle was closed and have no line since, as
-    lines of the lists: up to a cycle, or up to now."""
-    lists = {it.cycle: it.path for it in state.lists_of_gone() if upto is None or it.cycle <= upto}
-    files.refuse_links(*lists.values())
-    told: set[bytes] = set()
-    for cycle in sorted(lists, reverse=True):
-        later = [[it.path] for it in state.closed()
-                 if it.cycle > cycle and (upto is None or it.cycle <= upto)]
-        if upto is None:
-            later.append(state.open_reports())
-        lost = (line for line in files.lines(lists[cycle])
-                if line.startswith((b"object\t", b"file\t")) and line not in told)
-        for line in left_over(lost, later):
-            told.add(line)
-            yield line
+    """The objects and files that were gone when some cycle was closed and are not back, as lines of
+    the lists, each once: up to a cycle, or up to now. What is back has a line in the last whole
+    report or in one after it."""
+    lists = [it for it in state.lists_of_gone() if upto is None or it.cycle <= upto]
+    groups = groups_of(state, upto)
+    for at in reversed(range(len(lists))):
+        lost = (line for line in files.lines(lists[at].path) if line.startswith(LOSSES))
+        later = [it.reports for it in groups if it.cycle > lists[at].cycle]
+        yield from left_over(lost, later, [it.path for it in lists[at + 1:]])

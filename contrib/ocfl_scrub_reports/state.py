@@ -1,12 +1,13 @@
-"""The folder of state of a storage root: its log, its reports, and what it is bound to.
+"""The folder of state of a storage root: what its log says, and which reports and lists lie in it.
 
-This is the one module that knows where a night keeps what, and how its log is written. Another
-layout is another class with the public methods of `State`, which `open_state` then chooses.
+`night_state.py` knows what a folder keeps where, and how its log is written. No other module does:
+each question is asked of a `State`, and `opening.py` chooses which.
 """
 from __future__ import annotations
 
 import os
 import re
+from collections import Counter
 from dataclasses import dataclass
 from typing import Iterator
 
@@ -14,12 +15,34 @@ from . import files
 
 NUMBERED = re.compile(r"([a-z]+)-([0-9]+)(\.gz)?")
 NOT_KNOWN = "not known"
+# Killed is worse than cut, and that than these.
+RANKS = {"": 0, "0": 0, "1": 1, "3": 2, "4": 3, "2": 4, "cut": 5}
+# How many lines a report has at most after a run of which the log does not say it.
+ALL_LINES = 1 << 62
+# What a run of the log has, in the order of its columns.
+COLUMNS = ("began", "kind", "cycle", "run", "lines", "cost", "said", "spent", "files", "seconds",
+           "bytes", "digest", "stands", "night")
+
+
+@dataclass
+class Closing:
+    """What the log says of a cycle that was closed. What was not compared or not asked is None."""
+    report: str = ""
+    is_whole: bool = False
+    compared: int | None = None
+    objects: int = 0
+    files: int = 0
+    expected: int | None = None
+    # What the log does not say: `expected`, if such objects were asked for; `kinds`, how many of
+    # what is gone are objects, which all then count as; `closed`, when; `lost`, how many lines.
+    unsaid: tuple[str, ...] = ()
 
 
 @dataclass(frozen=True)
 class Entry:
-    """A row of the log, by its columns. A run has its status as kind, or `cut`; of a night that was
-    refused the cycle is 0."""
+    """What the log says at one moment. A run has its status as kind, or `cut`; of a night that was
+    refused the cycle is 0. Of other kinds are `told` and `ended`, and last `stands`, where the
+    cycle now stands, and `lost`, if its report lost lines."""
     began: str
     kind: str
     cycle: int
@@ -34,59 +57,41 @@ class Entry:
     digest: str
     stands: str
     night: str
+    # Of `ended`: what was closed. Of `told`: the status of the night. Of a run: the SHA-256 of its
+    # program, and how many runs it stands for.
+    closing: Closing | None = None
+    status: str = ""
+    program: str = ""
+    runs: int = 1
 
     def is_run(self) -> bool:
         return self.kind.isdigit() or self.kind == "cut"
 
-
-@dataclass
-class Closing:
-    """What the log says of a cycle that was closed. What was not compared or not asked is None."""
-    report: str = ""
-    is_whole: bool = False
-    compared: int | None = None
-    objects: int = 0
-    files: int = 0
-    expected: int | None = None
-    is_expected_unknown: bool = False
+    def columns(self) -> list[str | int]:
+        return [getattr(self, name) for name in COLUMNS]
 
 
 @dataclass(frozen=True)
 class Closed:
-    """A closed report."""
+    """A closed report, or a list beside one."""
     cycle: int
     is_whole: bool
     path: str
 
 
-def entry_of(row: bytes) -> Entry | None:
-    """An entry of the log. What has other columns is none: a row that is being written, say."""
-    columns = files.text_of(row).split("\t")
-    if len(columns) != 14:
-        return None
-    numbers = {at: int(columns[at]) if columns[at].isdecimal() else 0
-               for at in (2, 3, 4, 5, 7, 8, 9, 10)}
-    return Entry(*(numbers.get(at, text) for at, text in enumerate(columns)))  # type: ignore
+def rank(status: str) -> int:
+    return RANKS.get(status, 6)
 
 
-def closing_of(said: str) -> Closing:
-    """What the text of the entry `ended` says."""
-    closing = Closing()
-    for part in re.split("; *", said):
-        key, _, value = part.partition(" ")
-        if key == "report":
-            closing.report = os.path.basename(value)
-        elif key == "whole":
-            closing.is_whole = True
-        elif key == "compared" and value.isdecimal():
-            closing.compared = int(value)
-        elif key == "gone":
-            words = value.split(" ")
-            closing.objects, closing.files = int(words[0]), int(words[2])
-        elif key == "expected":
-            closing.is_expected_unknown = value == "unknown"
-            closing.expected = int(value) if value.isdecimal() else None
-    return closing
+def worst(status: str, other: str) -> str:
+    """The worse of two statuses of a night."""
+    return other if rank(other) > rank(status) else status
+
+
+def kinds_in(path: str | None) -> Counter[bytes]:
+    """How many lines of each kind a list of what is gone has."""
+    rows = files.lines(path) if path else iter(())
+    return Counter(row.partition(b"\t")[0] for row in rows if row)
 
 
 def cycle_name(kind: str, cycle: int) -> str:
@@ -104,14 +109,17 @@ def find(folder: str, kind: str, cycle: int) -> str | None:
 
 
 def numbered_in(folder: str, *kinds: str) -> list[Closed]:
-    """The files of these kinds in a folder of reports, in the order of their cycles. What somebody
-    copied there under another name is none."""
-    found = []
+    """The files of these kinds in a folder of reports, in the order of their cycles: of a file that
+    lies there plain and compressed the plain one. What somebody copied there under another name is
+    none, and a link is refused."""
+    found: dict[tuple[int, str], Closed] = {}
     for name in sorted(os.listdir(folder)) if os.path.isdir(folder) else []:
         named = NUMBERED.fullmatch(name)
         if named and named[1] in kinds:
-            found.append(Closed(int(named[2]), named[1] == "cycle", os.path.join(folder, name)))
-    return sorted(found, key=lambda it: it.cycle)
+            path, cycle = os.path.join(folder, name), int(named[2])
+            files.refuse_links(path)
+            found.setdefault((cycle, named[1]), Closed(cycle, named[1] == "cycle", path))
+    return sorted(found.values(), key=lambda it: it.cycle)
 
 
 def closed_in(folder: str) -> list[Closed]:
@@ -120,32 +128,65 @@ def closed_in(folder: str) -> list[Closed]:
 
 
 class State:
-    """A folder of `nightly` or of `parallel/nightly`. No other module knows the names of its
-    files."""
+    """A folder of state. Each kind of folder is a class that says what is its own."""
+    # What lies in it that may be no link.
+    NAMES: tuple[str, ...] = ("report", "reports")
 
     def __init__(self, path: str) -> None:
         self.path = path
         self.reports = self.at("reports")
-        self.log = self.at("nights")
 
     def at(self, name: str) -> str:
         return os.path.join(self.path, name)
 
+    # What each kind says
+
+    def entries(self) -> Iterator[Entry]:
+        """The log, in its order."""
+        raise NotImplementedError
+
+    def has_log(self) -> bool:
+        raise NotImplementedError
+
+    def bound_to(self, name: str) -> str:
+        """What the folder is bound to: the `path` of the storage root, what it `declared`."""
+        raise NotImplementedError
+
+    def declaration(self) -> dict[str, str]:
+        """What a statement says of the root's declaration."""
+        raise NotImplementedError
+
+    def ends(self) -> dict[str, str]:
+        """The ends of the part that the folder is about: `from` and `below`."""
+        raise NotImplementedError
+
+    def parts(self) -> list[str]:
+        """The folders of the parts of the open cycle, in the order of the parts."""
+        raise NotImplementedError
+
+    def waiting_part(self) -> tuple[str, int] | None:
+        """Of parts: when the last night of the one began that waits longest for its next, and its
+        number. None of those counts that are done with the open cycle."""
+        return None
+
+    def refuse_damage(self) -> None:
+        """Fails if the program refuses what says to which root the folder is bound."""
+
+    # What holds of each kind
+
     def refuse_links(self) -> None:
-        files.refuse_links(*map(self.at, ("nights", "root", "report", "reports", "part")))
+        files.refuse_links(*map(self.at, self.NAMES))
 
     def find(self, kind: str, cycle: int) -> str | None:
         return find(self.reports, kind, cycle)
 
-    def entries(self, path: str | None = None) -> Iterator[Entry]:
-        """The log, in its order."""
-        return filter(None, map(entry_of, files.lines(path or self.log)))
-
     def runs(self, cycle: int) -> Iterator[Entry]:
-        """The entries of a cycle in the order of its report: of one that was joined of parts they
-        are in a file of their own."""
-        rows = self.entries(self.find("runs", cycle))
-        return (entry for entry in rows if entry.cycle == cycle)
+        """The entries of a cycle in the order of its report."""
+        return (entry for entry in self.entries() if entry.cycle == cycle)
+
+    def joined_cycles(self) -> list[int]:
+        """The cycles whose reports were joined of parts."""
+        return []
 
     def closed(self) -> list[Closed]:
         return closed_in(self.reports)
@@ -154,55 +195,26 @@ class State:
         """The lists of what was gone, in the order of their cycles."""
         return numbered_in(self.reports, "gone")
 
-    def bound_to(self, name: str) -> str:
-        """What the folder is bound to: the `path` of the storage root, what it `declared`."""
-        if os.path.isfile(self.at("root")):
-            for line in files.lines(self.at("root")):
-                key, _, value = files.text_of(line).partition("\t")
-                if not line:
-                    break
-                if key == name:
-                    return value
-        return ""
-
-    def ends(self) -> dict[str, str]:
-        """The ends of the part that the folder is about: `from` and `below`."""
-        if not os.path.isfile(self.at("part")):
-            return {}
-        words = (files.text_of(line).partition(" ") for line in files.lines(self.at("part")))
-        return {word: place for word, _, place in words if word in ("from", "below")}
-
-    def has_log(self) -> bool:
-        return os.path.isfile(self.log)
-
     def open_report(self) -> str | None:
         """The report of the open cycle, but of none that is made of parts."""
         report = self.at("report")
         return report if os.path.isfile(report) else None
 
-    def open_reports(self) -> list[str]:
-        """The report of the open cycle; of parts, that of each in their order."""
+    def open_reports(self) -> list[tuple[int | None, list[str]]]:
+        """The reports that are in no closed one of the folder. Of parts these are, by cycle, the
+        closed ones that are not joined. The open ones come last, with None as their cycle."""
         report = self.open_report()
         if report:
-            return [report]
-        return [path for part in self.parts() for path in
-                [part + "/report", *(it.path for it in closed_in(part + "/reports"))]
-                if os.path.lexists(path)]
+            return [(None, [report])]
+        unjoined: dict[int | None, list[str]] = {}
+        for part in self.parts():
+            for it in self.closed_of_part(part):
+                unjoined.setdefault(it.cycle, []).append(it.path)
+        reports = [part + "/report" for part in self.parts()]
+        return [*sorted(unjoined.items(), key=lambda it: it[0] or 0),
+                (None, [it for it in reports if os.path.lexists(it)])]
 
-    @staticmethod
-    def closed_of_part(part: str) -> list[Closed]:
+    def closed_of_part(self, part: str) -> list[Closed]:
+        """The closed reports of a part that are not joined yet."""
+        files.refuse_links(part, part + "/reports")
         return closed_in(part + "/reports")
-
-    def parts(self) -> list[str]:
-        """The folders of the parts of the last cycle, in the order of the parts."""
-        sets = sorted(name for name in os.listdir(self.path) if re.fullmatch("parts-[0-9]+", name))
-        table = self.at(sets[-1] + "/table") if sets else ""
-        if not os.path.isfile(table):
-            return []
-        return [os.path.join(os.path.dirname(table), files.text_of(line.split(b"\t")[0]))
-                for line in files.lines(table)]
-
-
-def open_state(path: str) -> State:
-    """The folder of state at a path, by its layout."""
-    return State(path)

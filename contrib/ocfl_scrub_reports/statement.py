@@ -5,54 +5,49 @@ import hashlib
 import json
 import os
 import re
-import shutil
-import subprocess
-import tempfile
 from dataclasses import dataclass, field
-from datetime import datetime, timezone
 from typing import Iterator
 
 from . import files, standing
-from .report import APART, RIGHT, Reading, is_within
-from .state import NOT_KNOWN, Closing, Entry, State, closing_of, cycle_name, find
-from .weights import Weights
+from .counts import Count, of_changes
+from .program import of_program
+from .seal import is_sealed, put_seal
+from .state import NOT_KNOWN, Closing, Entry, State, cycle_name, find
+from .weights import Known
 
 FORM = "ocfl-scrub statement 1"
-# The lines in their order. `*` stands for those of the codes, and `+` for those of the places that
-# were not audited.
+# The lines in their order. `*` stands for those of the codes.
 NAMES = [
-    "Storage root", "Root changed", "Declaration SHA-256", "State folder", "Part from",
-    "Part below", "Host", "Cycle", "Parts", "Separators SHA-256", "Places not audited", "+",
-    "List of places not audited, SHA-256", "First night", "Last night", "Closed", "Nights", "Runs",
-    "Cut nights", "Lost lines", "Report", "Whole", "Report lines", "Broken lines", "Report SHA-256",
-    "Objects", "Objects without findings", "Content files", "Files found right",
-    "Bytes found right", "Findings", "*", "Compared with cycle", "Objects gone", "Files gone",
+    "Storage root", "Declaration sums SHA-256", "State folder", "Part from", "Part below", "Host",
+    "Cycle", "First night", "Last night", "Oldest verification", "Closed", "Nights", "Runs",
+    "Lost lines", "Report", "Whole", "Report lines", "Broken lines", "Report SHA-256", "Objects",
+    "Objects without findings", "Content files", "Files found right", "Files not found right",
+    "Bytes found right", "Findings", "*", "Algorithms of wrong digests",
+    "Algorithms not computed", "Compared with cycle", "Report compared with, SHA-256",
+    "New findings", "Former findings", "Objects gone", "Files gone",
     "List of what is gone, SHA-256", "Expected objects missing", "Objects gone and not back",
-    "Files gone and not back", "Program", "Program commit", "Program SHA-256",
-    "Program file dated", "Programs of its runs, SHA-256", "Statement before, SHA-256",
-    "Not looked at"]
+    "Files gone and not back", "Known losses", "List of known losses, SHA-256", "Program",
+    "Program commit", "Program SHA-256", "Program file dated", "Programs of its runs, SHA-256",
+    "Statement before, SHA-256", "Not looked at", "Not said"]
 # Lines that only some statements have.
-OPTIONAL = {"Root changed", "Part from", "Part below", "Parts", "Separators SHA-256",
-            "Places not audited", "List of places not audited, SHA-256", "*", "+"}
-NUMBERS = {"Cycle", "Nights", "Runs", "Cut nights", "Report lines", "Broken lines", "Objects",
-           "Objects without findings", "Content files", "Files found right", "Bytes found right",
-           "Findings", "Compared with cycle", "Objects gone", "Files gone",
-           "Expected objects missing", "Objects gone and not back", "Files gone and not back"}
+OPTIONAL = {"Part from", "Part below", "*", "Known losses", "List of known losses, SHA-256"}
+NUMBERS = {"Cycle", "Nights", "Runs", "Report lines", "Broken lines", "Objects",
+           "Objects without findings", "Content files", "Files found right",
+           "Files not found right", "Bytes found right", "Findings", "Compared with cycle",
+           "New findings", "Former findings", "Objects gone", "Files gone",
+           "Expected objects missing", "Objects gone and not back", "Files gone and not back",
+           "Known losses"}
 NOT_LOOKED_AT = ("versions, states and ids of inventories; inventories of versions; logs and "
                  "extensions; files of objects whose inventory cannot be used")
+NOT_SAID = ("whether bytes came from the medium or from a cache; whether the clock was right; what "
+            "became of a file after it was read")
 OF_CODE = re.compile("Findings [A-Za-z0-9]+")
-OF_PLACE = re.compile("Not audited [1-9][0-9]*")
-PROGRAM = re.compile("program ([0-9a-f]+)$")
-# Codes of lines that are said of content files.
-OF_FILES = {b"E023", b"E092", b"E093", b"S08"}
-SHOWN_PLACES = 20
-TIME = "%Y-%m-%dT%H:%M:%SZ"
 
 
 def plain(name: str, value: str) -> str:
     """A value as a statement has it: `%` and two capital hexadecimal digits for every byte but
     printable ASCII, and for `%` itself, unless the value is a place, which is written so."""
-    stays = name in ("Part from", "Part below") or OF_PLACE.fullmatch(name)
+    stays = name in ("Part from", "Part below")
     return "".join(chr(byte) if 0x20 <= byte < 0x7F and (stays or byte != 0x25) else "%%%02X" % byte
                    for byte in files.bytes_of(value))
 
@@ -81,14 +76,13 @@ class Statement(dict[str, str]):
         cycle = int(self["Cycle"]) if self.get("Cycle", "").isdecimal() else 0
         path = find(folder, name.partition("-")[0], cycle)
         if path is None:
-            raise files.Failed("the report %s is not there, in %s" % (name, folder))
+            raise files.Failed("the report %s is not there, in %s" % (name, folder or "."))
         return path
 
     def text(self) -> str:
         of_codes = sorted(name for name in self if OF_CODE.fullmatch(name))
-        of_places = sorted(filter(OF_PLACE.fullmatch, self), key=lambda it: int(it.split()[-1]))
         names = [it for name in NAMES for it in
-                 {"*": of_codes, "+": of_places}.get(name, [name] if name in self else [])]
+                 {"*": of_codes}.get(name, [name] if name in self else [])]
         return FORM + "\n\n" + "".join("%s: %s\n" % (name, plain(name, self[name]) or NOT_KNOWN)
                                        for name in names)
 
@@ -120,25 +114,20 @@ class Cycle:
     """What the log says of a cycle."""
     nights: list[str] = field(default_factory=list)
     runs: int = 0
-    cut: int = 0
-    lost: list[str] = field(default_factory=list)
-    roots: list[str] = field(default_factory=list)
+    # When the cycle before was closed, if a row says it.
+    begun_after: str = ""
     closed: str = ""
     closing: Closing = field(default_factory=Closing)
 
 
 def cycle_of(state: State, number: int) -> Cycle:
-    """What the log says of a cycle. A root that changed is that of the runs after it, also if the
-    cycle before was still named."""
-    cycle, pending = Cycle(), []  # type: tuple[Cycle, list[str]]
+    """What the log says of a cycle."""
+    cycle = Cycle()
     for entry in state.entries():
-        if entry.kind == "root":
-            pending.append(root_changed(entry.said))
-        if entry.is_run() and entry.cycle > 0:
-            cycle.roots += pending if entry.cycle == number else []
-            pending = []
         if entry.cycle == number:
             note(cycle, entry)
+        elif entry.cycle == number - 1 and entry.kind == "ended":
+            cycle.begun_after = closed_at(entry)
     if not cycle.closed:
         raise files.Failed("the log does not say that cycle %d was closed" % number)
     return cycle
@@ -148,270 +137,137 @@ def note(cycle: Cycle, entry: Entry) -> None:
     if entry.is_run():
         if entry.night not in cycle.nights:
             cycle.nights.append(entry.night)
-        cycle.cut += entry.kind == "cut"
-        cycle.runs += entry.kind != "cut"
-    elif entry.kind == "lost":
-        cycle.lost.append(entry.said)
+        cycle.runs += entry.runs if entry.kind != "cut" else 0
     elif entry.kind == "ended":
-        cycle.closed, cycle.closing = entry.began, closing_of(entry.said)
+        cycle.closing = entry.closing or Closing()
+        cycle.closed = closed_at(entry) or NOT_KNOWN
 
 
-def root_changed(said: str) -> str:
-    return re.sub(", and this one is ", ", and is now ",
-                  re.sub("^it belongs to the storage root ", "it was ", said))
+def closed_at(entry: Entry) -> str:
+    """When a cycle was closed; empty if no row says it."""
+    return "" if entry.closing and "closed" in entry.closing.unsaid else entry.began
 
 
 def programs_of(state: State, cycle: int) -> Iterator[tuple[Entry, str]]:
     """The runs of a cycle, each with the SHA-256 of its program; an empty text if it is not
     known."""
-    program = ""
-    for entry in state.runs(cycle):
-        if entry.kind == "began":
-            found = PROGRAM.search(entry.said)
-            program = found[1] if found else ""
-        elif entry.is_run():
-            yield entry, program
-            program = ""
+    return ((entry, entry.program) for entry in state.runs(cycle) if entry.is_run())
 
 
 def of_log(cycle: Cycle) -> dict[str, str]:
     closing = cycle.closing
     is_known = closing.compared is not None
-    said = {"First night": cycle.nights[0] if cycle.nights else "",
+    # A list of what is gone is told of also where nobody knows what it was compared with.
+    are_told = "kinds" not in closing.unsaid and (is_known or closing.objects + closing.files > 0)
+    return {"First night": cycle.nights[0] if cycle.nights else "",
             "Last night": cycle.nights[-1] if cycle.nights else "", "Closed": cycle.closed,
             "Nights": str(len(cycle.nights)), "Runs": str(cycle.runs),
-            "Cut nights": str(cycle.cut), "Lost lines": ", ".join(cycle.lost) or "none",
+            "Lost lines": NOT_KNOWN if "lost" in closing.unsaid else "none",
             "Report": closing.report, "Whole": "yes" if closing.is_whole else "no",
             "Compared with cycle": str(closing.compared) if is_known else "nothing",
-            "Objects gone": str(closing.objects) if is_known else NOT_KNOWN,
-            "Files gone": str(closing.files) if is_known else NOT_KNOWN,
+            "Objects gone": str(closing.objects) if are_told else NOT_KNOWN,
+            "Files gone": str(closing.files) if are_told else NOT_KNOWN,
             "Expected objects missing": expected(closing)}
-    if cycle.roots:
-        said["Root changed"] = "; ".join(cycle.roots)
-    return said
 
 
 def expected(closing: Closing) -> str:
     if closing.expected is not None:
         return str(closing.expected)
-    return "not asked" if closing.is_whole and not closing.is_expected_unknown else NOT_KNOWN
+    is_silent = "expected" in closing.unsaid or not closing.is_whole
+    return NOT_KNOWN if is_silent else "not asked"
 
 
-# What the report says
-
-class Count:
-    """What one reading of a report counts. `unread` are places that were not audited: nobody can
-    say of an object with such a place that it has no finding. If the report lost lines, nobody can
-    say it of any."""
-
-    def __init__(self, report: str, unread: list[bytes], has_lost: bool) -> None:
-        self.objects = self.sound = self.content = self.right = self.bytes = 0
-        self.codes: dict[str, int] = {}
-        self.unread = {above for place in unread for above in aboves(place)}
-        self.has_lost = has_lost
-        self.weights = Weights()
-        self.object = self.file = b""
-        self.is_sound = False
-        digest = hashlib.sha256()
-        reading = Reading(report, digest.update)
-        for block in reading.blocks():
-            sizes = RIGHT.findall(block)
-            self.right += len(sizes)
-            self.bytes += sum(map(int, sizes))
-            for found in APART.finditer(block):
-                self.line(*found.groups())
-        self.lines, self.odd, self.digest = reading.lines, reading.odd, digest.hexdigest()
-
-    def line(self, code: bytes, path: bytes, detail: bytes) -> None:
-        """A line of what is no content file that was found right."""
-        if path != self.object and self.weights.is_of_object(code, path, detail):
-            self.object, self.is_sound = path, path not in self.unread
-            self.objects += 1
-            self.sound += self.is_sound
-        if code in OF_FILES and path != self.file:
-            self.file = path
-            self.content += 1
-        if code in (b"ok", b"S07"):
-            return
-        self.codes[code.decode()] = self.codes.get(code.decode(), 0) + 1
-        if self.is_sound and is_within(path, self.object):
-            self.is_sound = False
-            self.sound -= 1
-
-    def facts(self) -> dict[str, str]:
-        numbers = {"Report lines": self.lines, "Broken lines": self.odd, "Objects": self.objects,
-                   "Content files": self.content + self.right, "Files found right": self.right,
-                   "Bytes found right": self.bytes, "Findings": sum(self.codes.values()),
-                   **{"Findings " + code: self.codes[code] for code in sorted(self.codes)}}
-        return {**{name: str(number) for name, number in numbers.items()},
-                "Report SHA-256": self.digest,
-                "Objects without findings": NOT_KNOWN if self.has_lost else str(self.sound)}
-
-
-def aboves(place: bytes) -> Iterator[bytes]:
-    """A place and those above it."""
-    names = place.split(b"/")
-    return (b"/".join(names[:count]) for count in range(1, len(names) + 1))
-
-
-def digest_of(path: str) -> str:
-    """The SHA-256 of a file, as it is without compression."""
-    digest = hashlib.sha256()
-    for chunk in files.chunks(path):
-        digest.update(chunk)
-    return digest.hexdigest()
-
-
-def of_unread(path: str | None) -> dict[str, str]:
-    """The places that were not audited: how many, the first twenty, the digest of their list."""
-    if path is None:
-        return {}
-    places = list(files.lines(path))
-    named = {"Not audited %d" % number: files.text_of(place)
-             for number, place in enumerate(places[:SHOWN_PLACES], 1)}
-    return {"Places not audited": str(len(places)), **named,
-            "List of places not audited, SHA-256": digest_of(path)}
-
-
-def of_separators(path: str | None) -> dict[str, str]:
-    if path is None:
-        return {}
-    return {"Parts": str(sum(1 for _ in files.lines(path)) + 1),
-            "Separators SHA-256": digest_of(path)}
-
-
-# The program
-
-def find_program() -> str:
-    """The program that the nights run: that of the environment, of this installation, or of the
-    clone. In a clone a launcher is called, which runs the program that it built."""
-    here = os.path.dirname(os.path.abspath(__file__))
-    built = "crates/ocfl_scrub_cli/out/ocfl_scrub_cli"
-    candidates = [os.environ.get("OCFL_SCRUB", ""), here + "/../../../bin/ocfl-scrub",
-                  "%s/../../%s" % (here, built)]
-    program = next((it for it in candidates if it and os.access(it, os.X_OK)), "")
-    if not program:
-        raise files.Failed("the program is not at " + candidates[-1])
-    with open(program, "rb") as file:
-        is_script = file.read(2) == b"#!"
-    beside = os.path.join(os.path.dirname(program) or ".", built)
-    return beside if is_script and os.access(beside, os.X_OK) else program
-
-
-def of_program() -> dict[str, str]:
-    """Version, commit and digest of the program. The commit is known by what was written when it
-    was installed, if that is of these very bytes."""
-    program = find_program()
-    done = subprocess.run([program, "--version"], stdout=subprocess.PIPE, check=False)
-    if done.returncode != 0:
-        raise files.Failed(program + " does not say its version")
-    version, *notes = files.text_of(done.stdout).split("\n")
-    said = dict(row.split(" ", 1) for row in reversed(notes) if " " in row)
-    digest = digest_of(program)
-    dated = datetime.fromtimestamp(int(os.stat(program).st_mtime), timezone.utc)
-    return {"Program": version,
-            "Program commit": said.get("commit", "") if said.get("sha256") == digest else "",
-            "Program SHA-256": digest, "Program file dated": dated.strftime(TIME)}
+def of_runs(state: State, number: int, begun_after: str) -> dict[str, str]:
+    """A time that is older than no verification of the cycle, and the programs of its runs. A night
+    that was killed has no row: the cycle may have begun as soon as the one before was closed."""
+    oldest, programs, are_known = begun_after, {}, True  # type: str, dict[str, None], bool
+    for entry, program in programs_of(state, number):
+        oldest = min(filter(None, (oldest, entry.began)), default="")
+        programs[program] = None
+        are_known = are_known and bool(program)
+    return {"Oldest verification": oldest,
+            "Programs of its runs, SHA-256": " ".join(programs) if are_known else ""}
 
 
 # Making one
 
-def facts_of(state: State, number: int) -> Statement:
+class Losses:
+    """What was gone when a cycle or one before was closed, and has no line since: how much of it
+    nobody knows of, and the lines of what is known."""
+
+    def __init__(self, state: State, number: int, known: Known) -> None:
+        self.objects = self.files = 0
+        listed = []
+        for line in standing.losses(state, number):
+            if known.has(line):
+                listed.append(line + b"\n")
+            elif line.startswith(b"object"):
+                self.objects += 1
+            else:
+                self.files += 1
+        self.known = b"".join(listed)
+
+    def facts(self) -> dict[str, str]:
+        return {"Objects gone and not back": str(self.objects),
+                "Files gone and not back": str(self.files), **of_known(self.known)}
+
+
+def of_known(lines: bytes) -> dict[str, str]:
+    """The losses that are known: how many, and the digest of their list."""
+    return {"Known losses": str(lines.count(b"\n")),
+            "List of known losses, SHA-256": hashlib.sha256(lines).hexdigest()} if lines else {}
+
+
+def facts_of(state: State, number: int, losses: Losses) -> Statement:
     """All that the statement of a cycle says."""
     cycle = cycle_of(state, number)
     made = Statement(of_log(cycle))
     made["Cycle"] = str(number)
-    report = made.report_beside(state.reports)
-    unread, gone = state.find("unread", number), state.find("gone", number)
-    programs = [program for _, program in programs_of(state, number)]
+    report, compared = made.report_beside(state.reports), cycle.closing.compared
+    gone, before = state.find("gone", number), state.find("statement", number - 1)
     made.update(of_folder(state))
-    made.update(of_separators(state.find("separators", number)))
-    made.update(of_unread(unread))
-    made.update(Count(report, list(files.lines(unread)) if unread else [],
-                      bool(cycle.lost)).facts())
-    made["List of what is gone, SHA-256"] = digest_of(gone) if gone else "no list"
-    made.update(of_losses(state, number))
+    count = Count(report, made["Lost lines"] != "none")
+    made.update(count.facts())
+    made.update(of_changes(count.found, state.find("cycle", compared) if compared else None))
+    made["List of what is gone, SHA-256"] = files.digest_of(gone) if gone else "no list"
+    made.update(losses.facts())
     made.update(of_program())
-    made["Programs of its runs, SHA-256"] = (
-        " ".join(dict.fromkeys(programs)) if all(programs) else "")
-    before = state.find("statement", number - 1)
-    made["Statement before, SHA-256"] = digest_of(before) if before else "no statement"
-    made["Not looked at"] = NOT_LOOKED_AT
+    made.update(of_runs(state, number, cycle.begun_after))
+    made["Statement before, SHA-256"] = files.digest_of(before) if before else "no statement"
+    made["Not looked at"], made["Not said"] = NOT_LOOKED_AT, NOT_SAID
     return made
-
-
-def of_losses(state: State, number: int) -> dict[str, str]:
-    """What was gone when this cycle or one before was closed, and has no line since."""
-    count = {b"object": 0, b"file": 0}
-    for line in standing.losses(state, number):
-        count[line.partition(b"\t")[0]] += 1
-    return {"Objects gone and not back": str(count[b"object"]),
-            "Files gone and not back": str(count[b"file"])}
 
 
 def of_folder(state: State) -> dict[str, str]:
     """What the folder is bound to, and the machine."""
     ends = state.ends()
-    return {"Storage root": state.bound_to("path"),
-            "Declaration SHA-256": state.bound_to("declared"),
+    return {"Storage root": state.bound_to("path"), **state.declaration(),
             "State folder": os.path.realpath(state.path), "Host": os.uname().nodename,
             **{"Part " + word: place for word, place in ends.items()}}
 
 
-def write(state: State, number: int, seal: str | None) -> None:
+def write(state: State, number: int, seal: str | None, known: str | None) -> None:
     """Writes the statement of a cycle beside its report, unless it is there, and seals it."""
-    path = os.path.join(state.reports, cycle_name("statement", number))
+    path, listed = (os.path.join(state.reports, cycle_name(kind, number))
+                    for kind in ("statement", "known"))
     state.refuse_links()
-    files.refuse_links(path, path + ".json", path + ".sealed")
+    files.refuse_links(path, path + ".json", path + ".sealed", listed)
     if not state.has_log():
         raise files.Failed("there is no log of nights in " + state.path)
     if not os.path.isfile(path):
-        text = facts_of(state, number).text()
+        state.refuse_damage()
+        losses = Losses(state, number, Known(known))
+        text = facts_of(state, number, losses).text()
+        put_list(losses.known, listed)
         files.put(as_json(text).encode(), path + ".json")
         files.put(text.encode(), path)
     if seal is not None and not is_sealed(path):
         put_seal(path, seal)
 
 
-# Seals
-
-def is_sealed(path: str) -> bool:
-    """Whether the statement has a seal: all that its command left, as the list says, lies beside
-    it. Copies that somebody made of the statement are none."""
-    listed = path + ".sealed"
-    if not os.path.isfile(listed) or not os.path.getsize(listed):
-        return False
-    folder = os.path.dirname(path)
-    return all(os.path.isfile(os.path.join(folder, files.text_of(name)))
-               for name in files.lines(listed))
-
-
-def put_seal(path: str, command: str) -> None:
-    """Runs the command in a folder that holds the statement alone, and keeps what it leaves there
-    beside the statement."""
-    name = os.path.basename(path)
-    if os.path.lexists(path + ".sealed"):
-        os.remove(path + ".sealed")
-    with tempfile.TemporaryDirectory() as folder:
-        shutil.copyfile(path, os.path.join(folder, name))
-        done = subprocess.run(["sh", "-c", command, "seal", name], cwd=folder, check=False,
-                              stdin=subprocess.DEVNULL, stdout=2)
-        if done.returncode != 0:
-            raise files.Failed("the statement is not sealed: " + command)
-        if bytes_in(os.path.join(folder, name)) != bytes_in(path):
-            raise files.Failed("the seal's command changed the statement")
-        left = sorted(it for it in os.listdir(folder)
-                      if it.startswith(name + ".") and os.path.isfile(os.path.join(folder, it)))
-        if not left:
-            raise files.Failed("the seal's command left nothing beside the statement")
-        for it in left:
-            files.put(bytes_in(os.path.join(folder, it)), os.path.join(os.path.dirname(path), it))
-    files.put("".join(it + "\n" for it in left).encode(), path + ".sealed")
-
-
-def bytes_in(path: str) -> bytes:
-    try:
-        with open(path, "rb") as file:
-            return file.read()
-    except FileNotFoundError:
-        return b""
+def put_list(lines: bytes, path: str) -> None:
+    """Puts a list in its place; none if nothing is in it."""
+    if lines:
+        files.put(lines, path)
+    elif os.path.lexists(path):
+        os.remove(path)

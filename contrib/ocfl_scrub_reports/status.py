@@ -12,18 +12,12 @@ from typing import IO, Iterator, Optional, Tuple
 
 from . import files, standing
 from .questions import gravest_first
-from .state import Closing, Entry, State, closing_of
+from .state import Closing, Entry, State, rank, worst
 from .weights import Known, Weights
 
 WORDS = ("OK", "WARNING", "CRITICAL", "UNKNOWN")
-# Killed is worse than cut, and that than these.
-RANKS = {"0": 0, "1": 1, "3": 2, "4": 3, "2": 4, "cut": 5}
 # From which number on there is a warning, and an alarm; None stands for never.
 Limit = Tuple[Optional[int], Optional[int]]
-
-
-def rank(status: str) -> int:
-    return RANKS.get(status, 6)
 
 
 def seconds_of(time: str) -> int:
@@ -52,31 +46,32 @@ class Log:
     closing: Closing = field(default_factory=Closing)
     whole: Entry | None = None
     lost_in: int | None = None
+    waiting: tuple[str, int] | None = None
 
     def take(self, entry: Entry) -> None:
         """Goes on to the next entry."""
         if entry.is_run():
             self.take_run(entry)
         elif entry.kind == "ended":
-            self.closed, self.closing, self.is_open = entry, closing_of(entry.said), False
+            self.closed, self.closing = entry, entry.closing or Closing()
+            self.is_open = False
             if self.closing.is_whole:
                 self.whole = entry
         elif entry.kind == "lost":
             self.lost_in = entry.cycle
-        elif entry.kind in ("began", "told", "untold"):
+        elif entry.kind == "stands" and self.night:
+            self.cycle, self.spent, self.files = entry.cycle, entry.spent, entry.files
+            self.is_open = entry.stands != "ended"
+        elif entry.kind == "told":
             self.start_night(entry.night)
-            self.is_under_way = entry.kind == "began"
-            said = re.search("status ([0-9]+)", entry.said)
-            if entry.kind == "told" and said:
-                self.status = said[1]
-            if entry.kind == "untold":
-                self.worsen("3")
+            self.status, self.is_under_way = entry.status or self.status, False
 
     def take_run(self, entry: Entry) -> None:
         self.start_night(entry.night)
-        self.worsen(entry.kind)
+        self.status = worst(self.status, entry.kind)
+        # A night that was refused, or stopped, says nothing of any cycle.
+        self.is_under_way = entry.cycle > 0 and entry.kind != "cut"
         if entry.cycle == 0:
-            # A night that was refused says nothing of any cycle.
             return
         self.cycle = entry.cycle
         self.cost[entry.cycle] += entry.cost
@@ -89,10 +84,6 @@ class Log:
         if night != self.night:
             self.status_before = self.status
             self.night, self.status, self.seconds, self.is_under_way = night, "0", 0, False
-
-    def worsen(self, status: str) -> None:
-        if rank(status) > rank(self.status):
-            self.status = status
 
 
 @dataclass
@@ -149,7 +140,7 @@ class Standing:
         if not log.night or not log.is_open or not whole or log.cycle is None:
             return None, None
         done = min(99, 100 * log.spent // whole)
-        rate = log.cost[log.cycle] / len(log.nights[log.cycle])
+        rate = log.cost[log.cycle] / max(1, len(log.nights.get(log.cycle, ())))
         if rate <= 0:
             return done, None
         return done, max(1, math.ceil((whole - log.spent) / rate))
@@ -160,6 +151,8 @@ class Standing:
             self.add(3, "no night has run")
             return
         self.compare("age", self.age / 3600, "the last night began %s ago" % span(self.age))
+        if log.waiting:
+            self.judge_part(*log.waiting)
         # Until a night is over, that of the night before it counts as well.
         if log.is_under_way and rank(log.status_before) > rank(log.status):
             log.status = log.status_before
@@ -171,10 +164,17 @@ class Standing:
         self.compare("gone", self.gone, self.lost_things())
         self.judge_cycles()
 
+    def judge_part(self, night: str, number: int) -> None:
+        """Of parts each needs its nights."""
+        age = self.now - seconds_of(night) if night else 0
+        if not night:
+            self.add(2, "part %d has made no night" % number)
+        elif self.reached("age", age / 3600) > self.reached("age", self.age / 3600):
+            self.compare("age", age / 3600, "the last night of part %d began %s ago" % (
+                number, span(age)))
+
     def judge_cycles(self) -> None:
         log = self.log
-        if log.closing.is_expected_unknown:
-            self.add(1, "how many expected objects are missing is not known")
         if log.closed and not log.closing.is_whole:
             self.add(1, "the report of cycle %d is not whole" % log.closed.cycle)
         if log.lost_in is not None and (not log.closed or log.lost_in != log.closed.cycle):
@@ -279,9 +279,8 @@ class Standing:
                       ("cycle_read_files", "Files that the cycle has read.", log.files)]
         if log.closed:
             found += [("closed_cycle", "The last closed cycle.", log.closed.cycle),
-                      ("closed_cycle_read_bytes", "Bytes that it read.",
-                       log.closed.spent - log.closed.files),
-                      ("closed_cycle_read_files", "Files that it read.", log.closed.files),
+                      ("closed_cycle_cost", "What it read: bytes, and 1 for each file.",
+                       log.closed.spent),
                       ("closed_cycle_whole", "1 where its report is whole.",
                        int(log.closing.is_whole))]
         if self.done is not None:
@@ -354,6 +353,7 @@ def standing_of(state: State, known: str | None, weights: Weights, limits: dict[
     log = Log()
     for entry in state.entries() if state.has_log() else ():
         log.take(entry)
+    log.waiting = state.waiting_part()
     found = findings_of(state, leave_out, weights)
     closing = log.closing
     if log.closed and closing.objects + closing.files and not state.find("gone",

@@ -1,6 +1,7 @@
 """Sends what a night said, by mail or to standard error, which is the journal."""
 from __future__ import annotations
 
+import fcntl
 import glob
 import os
 import signal
@@ -34,10 +35,17 @@ class Night:
         # systemd has no status of a night that it could not begin.
         self.has_begun = bool(self.given.get("EXIT_CODE")) or self.result in ("", "success")
         self.number = self.given.get("INVOCATION_ID", "")
-        # The text of this night, and of no other.
-        own = os.path.join(self.state, "tonight" + (self.number and "." + self.number))
-        has_text = not os.path.islink(own) and os.path.isfile(own) and os.path.getsize(own)
-        self.own = own if has_text else None
+        # The text of this night, and those of earlier ones of which nobody was told.
+        own = os.path.join(self.state, "tonight." + self.number)
+        self.own = own if self.number and has_text(own) else None
+        unsent = [it for it in self.texts() if it != own]
+        self.unsent = [] if is_held(self.state) else unsent
+
+    def texts(self) -> list[str]:
+        """The texts that were not sent, in the order of their nights."""
+        names = glob.glob(os.path.join(glob.escape(self.state), "tonight.*"))
+        return sorted((it for it in names if not it.endswith(".new") and has_text(it)),
+                      key=lambda it: (os.stat(it).st_mtime_ns, it))
 
     def subject(self) -> str | None:
         """None where there is nothing to tell."""
@@ -46,44 +54,54 @@ class Night:
         if self.code != "exited":
             why = self.status + (", " + self.result if self.result else "")
             return "%s: the night was killed (%s)" % (self.shown, why)
-        if self.status == "0" and not self.own:
+        if self.status == "0" and not self.own and not self.unsent:
             return None
         stopped = "{}: the night stopped with status " + self.status
         return WORDS.get(self.status, stopped).replace("{}", self.shown)
 
     def text(self) -> bytes:
-        said = b""
+        said = b"".join(map(bytes_in, self.unsent))
         if self.own:
-            said = b"".join(files.chunks(self.own))
+            said += bytes_in(self.own)
         elif not self.has_begun:
-            said = ("Nothing was audited. systemctl status ocfl-scrub@%s says why.\n"
-                    % self.shown).encode()
-        elif self.code == "exited":
+            said += ("Nothing was audited. systemctl status ocfl-scrub@%s says why.\n"
+                     % self.shown).encode()
+        elif not said and self.code == "exited":
             said = (NO_TEXT % self.shown).encode()
         again = b"" if self.code == "exited" else (
-            b"The next night makes the run again that was under way.\n")
+            b"The next night goes on from the last checkpoint.\n")
         return said + again
 
     def forget(self) -> None:
-        """The text was sent: it stays as `tonight` alone, which the next night exchanges."""
-        if not self.own:
-            return
-        if self.number:
-            kept = os.path.join(self.state, "tonight")
-            # Both can be names of one file, of which a renaming would leave both.
-            if os.path.lexists(kept):
-                os.remove(kept)
-            os.rename(self.own, kept)
-            return
-        sent = b"".join(files.chunks(self.own))
-        for path in glob.glob(os.path.join(glob.escape(self.state), "tonight.*")):
-            if not os.path.islink(path) and b"".join(files.chunks(path)) == sent:
-                os.remove(path)
+        """The text was sent: the last one stays as `tonight`, until another one is sent."""
+        for path in [*self.unsent, *filter(None, [self.own])]:
+            os.replace(path, os.path.join(self.state, "tonight"))
+
+
+def is_held(state: str) -> bool:
+    """Whether a night is under way, whose text is not whole yet."""
+    path = os.path.join(state, "lock")
+    if os.path.islink(path) or not os.path.isfile(path):
+        return False
+    with open(path, "rb") as lock:
+        try:
+            fcntl.flock(lock, fcntl.LOCK_SH | fcntl.LOCK_NB)
+        except BlockingIOError:
+            return True
+    return False
+
+
+def has_text(path: str) -> bool:
+    return not os.path.islink(path) and os.path.isfile(path) and os.path.getsize(path) > 0
+
+
+def bytes_in(path: str) -> bytes:
+    return b"".join(files.chunks(path))
 
 
 def send(night: Night) -> int:
     """Sends the text of a night. Gives 3 if it was not sent as asked: then the text goes to
-    standard error, and the next night says it once more."""
+    standard error, and the next call sends it once more."""
     subject = night.subject()
     if subject is None:
         return 0

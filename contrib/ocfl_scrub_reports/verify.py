@@ -2,17 +2,17 @@
 from __future__ import annotations
 
 import os
-from collections import Counter
 
 from . import files
-from .state import cycle_name, find
-from .statement import (FORM, NAMES, OF_CODE, OF_PLACE, OPTIONAL, Count, Statement, as_json,
-                        digest_of, of_separators, of_unread, plain)
+from .counts import Count, of_changes
+from .state import cycle_name, find, kinds_in
+from .statement import FORM, NAMES, OF_CODE, OPTIONAL, Statement, as_json, of_known, plain
 
 GONE = {"Objects gone": b"object", "Files gone": b"file", "Expected objects missing": b"expected"}
 LIST_OF_GONE = "List of what is gone, SHA-256"
-LIST_OF_UNREAD = "List of places not audited, SHA-256"
+LIST_OF_KNOWN = "List of known losses, SHA-256"
 BEFORE = "Statement before, SHA-256"
+COMPARED = "Report compared with, SHA-256"
 
 
 class Check:
@@ -39,21 +39,35 @@ class Check:
     # What is so
 
     def find_facts(self) -> None:
-        unread = self.listed("unread", LIST_OF_UNREAD, "Places not audited",
-                             "Objects without findings", *filter(OF_PLACE.fullmatch, self.said))
-        self.facts.update(of_unread(unread))
-        counted = Count(self.report, list(files.lines(unread)) if unread else [],
-                        self.said.get("Lost lines") != "none").facts()
-        self.facts.update({name: counted[name] for name in counted if name not in self.lacking})
+        count = Count(self.report, self.said.get("Lost lines") != "none")
+        self.facts.update(count.facts())
         self.find_gone()
-        self.facts.update(of_separators(self.listed("separators", "Separators SHA-256", "Parts")))
+        self.find_before(count)
         is_whole = self.said.get("Report", "").startswith("cycle-")
         self.facts["Report"] = cycle_name("cycle" if is_whole else "incomplete", self.cycle)
         self.facts["Whole"] = "yes" if is_whole else "no"
         self.facts["Cycle"] = str(self.cycle)
+
+    def find_before(self, count: Count) -> None:
+        """What was before: the statement of the cycle before, and the report compared with."""
         before = find(self.folder, "statement", self.cycle - 1)
         if before and self.said.get(BEFORE) != "no statement":
-            self.facts[BEFORE] = digest_of(before)
+            self.facts[BEFORE] = files.digest_of(before)
+        elif self.said.get(BEFORE, "no statement") != "no statement":
+            self.lacking[BEFORE] = cycle_name("statement", self.cycle - 1)
+        self.find_changes(count)
+        known = self.listed("known", LIST_OF_KNOWN, "Known losses")
+        self.facts.update(of_known(b"".join(files.chunks(known)) if known else b""))
+
+    def find_changes(self, count: Count) -> None:
+        """What changed since the report compared with."""
+        compared = self.said.get("Compared with cycle", "")
+        earlier = find(self.folder, "cycle", int(compared)) if compared.isdecimal() else None
+        if earlier and self.said.get("New findings", "").isdecimal():
+            self.facts.update(of_changes(count.found, earlier))
+        elif compared.isdecimal() and self.said.get(COMPARED, "no report") != "no report":
+            self.lacking.update((name, cycle_name("cycle", int(compared)))
+                                for name in (COMPARED, "New findings", "Former findings"))
 
     def listed(self, kind: str, digest: str, *others: str) -> str | None:
         """The list of a kind beside the statement. If the statement names one that is not there,
@@ -67,9 +81,8 @@ class Check:
         path = self.listed("gone", LIST_OF_GONE, *GONE)
         if LIST_OF_GONE in self.lacking:
             return
-        self.facts[LIST_OF_GONE] = digest_of(path) if path else "no list"
-        count = Counter(line.partition(b"\t")[0] for line in files.lines(path) if line) \
-            if path else Counter()
+        self.facts[LIST_OF_GONE] = files.digest_of(path) if path else "no list"
+        count = kinds_in(path)
         for name, kind in GONE.items():
             said = self.said.get(name, "")
             if count[kind] or said[:1].isdecimal() and (path or said.strip("0")):
@@ -93,7 +106,7 @@ class Check:
     def compare_row(self, row: str, seen: set[str]) -> None:
         name, colon, value = row.partition(": ")
         is_of_code = OF_CODE.fullmatch(name)
-        if not colon or not (name in NAMES or is_of_code or OF_PLACE.fullmatch(name)):
+        if not colon or not (name in NAMES or is_of_code):
             self.differences.append("no statement has the line: " + shown(row))
             return
         if name in seen:
@@ -117,7 +130,7 @@ class Check:
 
 def shown(text: str) -> str:
     """A text of a statement, in printable ASCII."""
-    return plain("Not audited 1", text)
+    return plain("Part from", text)
 
 
 def show(path: str, report: str | None) -> int:

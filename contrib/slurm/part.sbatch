@@ -1,13 +1,9 @@
 #!/bin/sh
-# A task of the array job: one night of one part, whose name is a line of the list that the array
-# was given with. `submit` beside this script gives it to Slurm, which copies it elsewhere; its
-# first argument is the folder of the scripts.
-#
-# Where Slurm made the task twice at once, the second one waits for the lock of the part's folder.
-set -u
-here=$1 state=$2 root=$3 hours=$4 budget=$5 list=$6 before=$7
-part=$(sed -n "$((before + SLURM_ARRAY_TASK_ID))p" "$list")
-[ -n "$part" ] || { echo "$list has no part for task $SLURM_ARRAY_TASK_ID" >&2; exit 3; }
-echo "part $part on $(uname -n), started $((${SLURM_RESTART_COUNT:-0} + 1)) time(s)"
-exec "$here/parallel/part" --wait --state "$state" --part "$part" \
-  --hours "$hours" --budget "$budget" --grace 60 "$root"
+# A task of the array job that `submit` gives to Slurm: one night of the part whose number is in
+# this task's line of the list. Findings fail no task.
+here=$1 list=$2 part=$(sed -n "$(($3 + SLURM_ARRAY_TASK_ID))p" "$2") seconds=$4
+shift 4
+echo "part $part of $list on $(uname -n), started $((${SLURM_RESTART_COUNT:-0} + 1)) time(s)"
+"$here/parallel/part" --part "$part" --end "$(($(date +%s) + seconds))" "$@"
+status=$?
+[ "$status" -eq 1 ] || exit "$status"

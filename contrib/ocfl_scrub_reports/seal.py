@@ -1,0 +1,51 @@
+"""Seals of statements: what a command left beside them."""
+from __future__ import annotations
+
+import os
+import shutil
+import subprocess
+import tempfile
+
+from . import files
+
+
+def is_sealed(path: str) -> bool:
+    """Whether the statement has a seal: all that its command left, as the list says, lies beside
+    it. Copies that somebody made of the statement are none."""
+    listed = path + ".sealed"
+    if not os.path.isfile(listed) or not os.path.getsize(listed):
+        return False
+    folder = os.path.dirname(path)
+    return all(os.path.isfile(os.path.join(folder, files.text_of(name)))
+               for name in files.lines(listed))
+
+
+def put_seal(path: str, command: str) -> None:
+    """Runs the command in a folder that holds the statement alone, and keeps what it leaves there
+    beside the statement."""
+    name = os.path.basename(path)
+    if os.path.lexists(path + ".sealed"):
+        os.remove(path + ".sealed")
+    with tempfile.TemporaryDirectory() as folder:
+        shutil.copyfile(path, os.path.join(folder, name))
+        done = subprocess.run(["sh", "-c", command, "seal", name], cwd=folder, check=False,
+                              stdin=subprocess.DEVNULL, stdout=2)
+        if done.returncode != 0:
+            raise files.Failed("the statement is not sealed: " + command)
+        if bytes_in(os.path.join(folder, name)) != bytes_in(path):
+            raise files.Failed("the seal's command changed the statement")
+        left = sorted(it for it in os.listdir(folder)
+                      if it.startswith(name + ".") and os.path.isfile(os.path.join(folder, it)))
+        if not left:
+            raise files.Failed("the seal's command left nothing beside the statement")
+        for it in left:
+            files.put(bytes_in(os.path.join(folder, it)), os.path.join(os.path.dirname(path), it))
+    files.put("".join(it + "\n" for it in left).encode(), path + ".sealed")
+
+
+def bytes_in(path: str) -> bytes:
+    try:
+        with open(path, "rb") as file:
+            return file.read()
+    except FileNotFoundError:
+        return b""

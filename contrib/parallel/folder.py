@@ -1,0 +1,123 @@
+"""The folder of the parts of a storage root, which `begin`, `part`, `end` and `night` share."""
+from __future__ import annotations
+
+import fcntl
+import os
+import sys
+
+HERE = os.path.dirname(os.path.realpath(__file__))
+
+
+class Failed(Exception):
+    """Ends a command with a text and a status."""
+
+    def __init__(self, text: str, status: int = 3) -> None:
+        super().__init__(text)
+        self.status = status
+
+
+def program() -> str:
+    """The program that the nights run: that of the environment, of the installation, or a clone."""
+    there = [os.environ.get("OCFL_SCRUB", ""), HERE + "/../../../bin/ocfl-scrub",
+             HERE + "/../../ocfl-scrub"]
+    return next((path for path in there if path and os.access(path, os.X_OK)), there[-1])
+
+
+def taken(words: list[str], values: str, flags: str = "") -> tuple[dict[str, str], list[str]]:
+    """The options of these names, and the other words. --state is one of them."""
+    found, rest, left = {}, [], iter(words)
+    for word in left:
+        if word in ("--help", "-h"):
+            raise SystemExit(print((sys.modules["__main__"].__doc__ or "").strip()))
+        if word in ("--state " + values).split():
+            found[word] = next(left, "")
+        elif word in flags.split():
+            found[word] = "yes"
+        else:
+            rest.append(word)
+    if not all(found.values()) or not found.get("--state"):
+        raise Failed("--state or a value is missing; try --help", 2)
+    return found, rest
+
+
+def given_on(found: dict[str, str], *names: str) -> list[str]:
+    """The options of these names as words."""
+    return [word for name in names if name in found for word in (name, found[name])]
+
+
+def use(state: str, words: list[str] | None = None, create: bool = False) -> str:
+    """Refuses a folder in which root would leave files for another user, links in it, that of
+    another kind of night, and one in the storage root, which is the last of the words. Gives its
+    path."""
+    os.umask(0o027)
+    if words == [] or words and words[-1].startswith("-"):
+        raise Failed("the storage root is missing; try --help", 2)
+    roots = [os.path.realpath(root) + "/" for root in [*(words or [])[-1:], state]]
+    if words and (roots[0].startswith(roots[1]) or roots[1].startswith(roots[0])):
+        raise Failed("the state folder and the storage root lie one in the other", 2)
+    above = state if os.path.lexists(state) else os.path.dirname(os.path.abspath(state))
+    for follows in (False, True) if os.geteuid() == 0 and os.path.exists(above) else ():
+        owner = os.stat(above, follow_symlinks=follows).st_uid
+        if owner != 0:
+            raise Failed("%s belongs to the user %d: call this as that user" % (above, owner))
+    if create and not os.path.lexists(state):
+        os.mkdir(state, 0o750)
+    if not os.path.isdir(state):
+        raise Failed(state + " is not there: is its file system mounted? For a first night, give "
+                             "--create and --parts.")
+    for name in ("checkpoint", "cursor", "nights"):
+        if os.path.lexists(state + "/" + name):
+            raise Failed("%s is no folder of parts: it has a file %s" % (state, name))
+    return refuse_links(state, "parts", "said", "log", "given", "reports")
+
+
+def refuse_links(state: str, *names: str) -> str:
+    for name in names:
+        if os.path.islink(state + "/" + name):
+            raise Failed("%s/%s is a link, and no link in a state folder is followed"
+                         % (state, name))
+    return state
+
+
+def part(number: int) -> str:
+    return "part-%06d" % number
+
+
+def opened(path: str, flags: int = os.O_EXCL, lock: int = fcntl.LOCK_EX) -> int:
+    """Opens a file for its owner and the group, and holds it. What is written is on the disk then.
+    No link is followed."""
+    file = os.open(path, os.O_RDWR | os.O_APPEND | os.O_CREAT | os.O_NOFOLLOW | os.O_DSYNC | flags,
+                   0o640)
+    try:
+        fcntl.flock(file, lock)
+    except BlockingIOError as error:
+        raise Failed("another night still runs in %s; nothing was done" % os.path.dirname(path),
+                     75) from error
+    except OSError as error:
+        raise Failed("%s cannot be locked: %s" % (path, error.strerror)) from error
+    return file
+
+
+def note(state: str, number: int) -> int:
+    """A new file for what a part says, or for 0 what is said of all of them."""
+    import time
+    file = opened("%s/said/%06d-%d.%d" % (state, number, time.time_ns(), os.getpid()))
+    sync(state + "/said")
+    return file
+
+
+def put(path: str, data: bytes) -> None:
+    """Puts a file in its place, whole or not at all."""
+    if os.path.lexists(path + ".new"):
+        os.remove(path + ".new")
+    with os.fdopen(opened(path + ".new"), "wb") as file:
+        file.write(data)
+    os.replace(path + ".new", path)
+    sync(os.path.dirname(path))
+
+
+def sync(folder: str) -> None:
+    """Brings the names in a folder to the disk."""
+    number = os.open(folder, os.O_RDONLY)
+    os.fsync(number)
+    os.close(number)

@@ -1,0 +1,103 @@
+"""Which parts of a storage root were given out, and what came of it."""
+from __future__ import annotations
+
+import json
+import os
+import re
+import time
+from typing import Iterable
+
+from folder import note, opened, part, put
+
+# The row of a night that has come to its end.
+NIGHT = re.compile(rb'\{.*"row":"night".*"status":([0-9]+).*\}\n')
+CLOSING = re.compile(rb"\nphase closing\n(?:.*\n)*cycle ([0-9]+)\n")
+CLOSED = re.compile(r"(cycle|incomplete|gone)-([0-9]+)(\.gz)?")
+
+
+def ranges(numbers: Iterable[int]) -> str:
+    """Numbers of parts as a text: `parts 1-3, 7`."""
+    runs: list[list[int]] = []
+    for number in sorted(numbers):
+        if runs and runs[-1][-1] == number - 1:
+            runs[-1] = [runs[-1][0], number]
+        else:
+            runs.append([number])
+    text = ", ".join("-".join(map(str, run)) for run in runs)
+    return ("part " if text.isdecimal() else "parts ") + text
+
+
+def count_parts(state: str) -> int:
+    with open(state + "/parts", "rb") as file:
+        return file.read().count(b"\n") + 1
+
+
+def lists(state: str, number: int) -> list[tuple[str, int, str]]:
+    """The closed reports and lists of a part: kind, cycle and path."""
+    folder = "%s/%s/reports" % (state, part(number))
+    found = map(CLOSED.fullmatch, os.listdir(folder) if os.path.isdir(folder) else [])
+    return [(it[1], int(it[2]), folder + "/" + it[0]) for it in found if it]
+
+
+def closed(state: str, number: int) -> dict[int, str]:
+    """The cycles that a part has closed: `cycle` if the report is whole, else `incomplete`. One
+    that a night was closing when it was killed is none: its next night ends that."""
+    path = "%s/%s/checkpoint" % (state, part(number))
+    closing = None
+    if os.path.isfile(path):
+        with open(path, "rb") as file:
+            closing = CLOSING.search(file.read())
+    return {cycle: kind for kind, cycle, _ in lists(state, number)
+            if kind != "gone" and not (closing and cycle == int(closing[1]))}
+
+
+def log(state: str, night: int, row: str, **more: object) -> None:
+    """Appends a row to the log of all parts, in the program's form."""
+    # The row of an end comes after those of the parts in its second.
+    made = {"night": night, "row": row, "time": int(time.time()) + (row == "night"), **more}
+    file = opened(state + "/log", 0)
+    os.write(file, json.dumps(made, sort_keys=True, separators=(",", ":")).encode() + b"\n")
+    os.close(file)
+
+
+def leave(state: str, text: str) -> None:
+    """Leaves a text about all parts: `end` says it, with status 3."""
+    file = note(state, 0)
+    os.write(file, os.fsencode(text + "\n"))
+    os.close(file)
+
+
+def size_of_log(state: str, number: int) -> int:
+    path = "%s/%s/log" % (state, part(number))
+    return os.path.getsize(path) if os.path.exists(path) else 0
+
+
+class Given:
+    """The parts that were given out, when, in which cycle, and how long their logs were then."""
+
+    def __init__(self, state: str) -> None:
+        self.state, self.path = state, state + "/given"
+        self.night, self.cycle, self.logs = int(time.time()), 0, {}  # type: int, int, dict[str, int]
+        self.is_open = os.path.exists(self.path)
+        if self.is_open:
+            with open(self.path, "rb") as file:
+                self.night, self.cycle, self.logs = json.load(file)
+
+    def give(self, cycle: int, numbers: list[int]) -> None:
+        logs = {str(number): size_of_log(self.state, number) for number in numbers}
+        put(self.path, json.dumps([int(time.time()), cycle, logs]).encode())
+
+    def statuses(self, number: str) -> list[int]:
+        """The statuses of the nights that a part has ended since."""
+        if size_of_log(self.state, int(number)) <= self.logs[number]:
+            return []
+        with open("%s/%s/log" % (self.state, part(int(number))), "rb") as file:
+            file.seek(self.logs[number])
+            return [int(it[1]) for it in map(NIGHT.fullmatch, file) if it]
+
+    def not_run(self) -> str:
+        """Names the parts that have ended no night since. Empty if there are none."""
+        found = [int(number) for number in self.logs if not self.statuses(number)]
+        began = time.strftime("%Y-%m-%dT%H:%M:%SZ", time.gmtime(self.night))
+        return "No night has come to its end since %s in %s: it was not begun, refused or killed." % (
+            began, ranges(found)) if found else ""

@@ -8,7 +8,7 @@ import os
 import subprocess
 
 import common
-from common import digest, expect, is_so, line, nights, ran, read, write
+from common import checkpoint_text, digest, expect, is_so, line, nights, ran, read, write
 
 FILES = {"v1/content/a": b"abc", "v1/content/b": b"", "v1/content/c": b"abc"}
 ITEMS = common.sound({"o": FILES})
@@ -80,6 +80,34 @@ def refused_cursors(file, run):
         expect("refused: " + name, run + [file], 4, [], "cursor refused: " + why)
         expect("not shown: " + name, ["show", file], 4, [], "cursor refused: " + why)
         is_so("untouched: " + name, read(file), data)
+
+
+def checkpoints(folder):
+    """The checkpoint of a state folder is shown as a cursor is, and refused for its own reasons."""
+    file = os.path.join(folder, "checkpoint")
+    text = checkpoint_text()
+    shown = text.decode().split("\n", 1)[1].rsplit("sha256 ", 1)[0]
+    write(file, text)
+    expect("checkpoint shown", ["show", file], 0, [shown], None)
+    piped = subprocess.run([common.PROGRAM, "show", "/dev/stdin"], input=text, capture_output=True)
+    is_so("checkpoint shown from a pipe", (piped.returncode, piped.stdout, piped.stderr),
+          (0, shown.encode(), b""))
+    for name, data, why in [
+        ("its first words alone", b"ocfl-scrub checkpoint ", "version"),
+        ("later version", text.replace(b"checkpoint 1", b"checkpoint 2"), "version"),
+        ("cut", text[:-1], "damaged"),
+        ("changed", text.replace(b"runs 0", b"runs 1"), "damaged"),
+        ("leading zero", checkpoint_text(told="00"), "malformed"),
+        ("another phase", checkpoint_text(phase="shut"), "malformed"),
+        ("more said than there is", checkpoint_text(told="1"), "malformed"),
+        ("longer than any", text + b"x" * 2**20, "damaged"),
+        ("longer than is read", text + b"x" * 2**26, "not a checkpoint"),
+    ]:
+        write(file, data)
+        expect("checkpoint, " + name, ["show", file], 4, [], "checkpoint refused: " + why)
+        is_so("checkpoint, %s: untouched" % name, read(file), data)
+    write(file, text[:20])
+    expect("less than its first words", ["show", file], 4, [], "cursor refused: not a cursor")
 
 
 def cursor_files(folder, root):
@@ -210,6 +238,7 @@ def splits_by_report(folder):
 def usages(root):
     run = ["run", "--cursor", "c", "--budget"]
     cycle = ["cycle", "--budget", "1"]
+    night = ["night", "--state", "s", root]
     for name, words in [
         ("no command", []),
         ("no root", ["audit"]),
@@ -231,6 +260,21 @@ def usages(root):
         ("no way to split", ["split", root]),
         ("two ways to split", ["split", "--parts", "2", "--budget", "1", "--report", "p", root]),
         ("too many parts", ["split", "--parts", "100001", root]),
+        ("a night without a folder", ["night", root]),
+        ("a night without a root", ["night", "--state", "s"]),
+        ("a night of no hour", night + ["--hours", "0"]),
+        ("a night of more than a day", night + ["--hours", "25"]),
+        ("a night until midnight as 24:00", night + ["--until", "24:00"]),
+        ("a night until a time without minutes", night + ["--until", "6"]),
+        ("a night to no second", night + ["--end", "x"]),
+        ("a night with two ends", night + ["--hours", "1", "--until", "06:00"]),
+        ("a night of slices of nothing", night + ["--slice", "0"]),
+        ("a night of half a part", night + ["--part", "1"]),
+        ("objects expected of a part",
+         night + ["--parts", "p", "--part", "1", "--expected", "e"]),
+        ("a night of a branch", night + ["--under", "o"]),
+        ("a join without its parts", ["join", "--state", "s"]),
+        ("a join without a folder", ["join", "--parts", "p"]),
         ("no UTF-8", ["audit", b"\xff"]),
     ]:
         status, out, said = ran(words)
@@ -240,7 +284,7 @@ def usages(root):
 def helps():
     status, out, said = ran(["--help"])
     is_so("help", (status, "Usage: ocfl-scrub" in out, said), (0, True, ""))
-    for command in ["audit", "run", "cycle", "check", "split", "show"]:
+    for command in ["audit", "run", "cycle", "night", "check", "split", "join", "show"]:
         is_so("help names " + command, "\n  " + command in out, True)
         status, told, said = ran([command, "--help"])
         whole = "Usage: ocfl-scrub %s" % command in told
@@ -293,6 +337,7 @@ def tell(folder):
     three_nights(folder, root)
     cycles(root)
     cursor_files(os.path.join(folder, "files"), root)
+    checkpoints(os.path.join(folder, "files"))
     inside_the_root(folder, root)
     beside_the_root(os.path.join(folder, "beside"), root)
     other_roots(os.path.join(folder, "others"))

@@ -214,6 +214,17 @@ def snapshot(root):
     return found
 
 
+def checkpoint_text(**lines):
+    """The text of a checkpoint as the rules have it, in which these lines say something else."""
+    nothing = digest(b"")
+    said = {"root": "/srv/ocfl", "declared": nothing, "names": "2 " + nothing, "phase": "open",
+            "whole": "yes", "report": "0 0", "pieces": "0" * 64, "tail": nothing, "told": "0",
+            "left": "0", "cycle": "1", "runs": "0", "spent": "0", "files": "0", **lines}
+    body = "ocfl-scrub checkpoint 1\n"
+    body += "".join("%s %s\n" % it for it in said.items()) + "start\n"
+    return (body + "sha256 %s\n" % digest(body.encode())).encode()
+
+
 def shown_cursor(file):
     """What the program shows of a cursor, or its status and note where it shows none."""
     status, out, said = ran(["show", file])

@@ -36,47 +36,25 @@ share/ocfl-scrub/BUILD 644
 share/ocfl-scrub/CLUSTERS.md 644
 share/ocfl-scrub/INSTALLED 644
 share/ocfl-scrub/README.md 644
-share/ocfl-scrub/lib/binding.sh 644
-share/ocfl-scrub/lib/clock.sh 644
-share/ocfl-scrub/lib/closing.sh 644
-share/ocfl-scrub/lib/codes.awk 644
-share/ocfl-scrub/lib/dividing.awk 644
-share/ocfl-scrub/lib/dividing.sh 644
-share/ocfl-scrub/lib/expected.awk 644
-share/ocfl-scrub/lib/given.awk 644
-share/ocfl-scrub/lib/gone.awk 644
-share/ocfl-scrub/lib/joining.sh 644
-share/ocfl-scrub/lib/message.sh 644
-share/ocfl-scrub/lib/night.sh 644
-share/ocfl-scrub/lib/owner.sh 644
-share/ocfl-scrub/lib/parallel.sh 644
-share/ocfl-scrub/lib/part.sh 644
-share/ocfl-scrub/lib/parts.awk 644
-share/ocfl-scrub/lib/parts.sh 644
-share/ocfl-scrub/lib/pieces.awk 644
-share/ocfl-scrub/lib/place.sh 644
-share/ocfl-scrub/lib/places.awk 644
-share/ocfl-scrub/lib/program.sh 644
-share/ocfl-scrub/lib/running.sh 644
-share/ocfl-scrub/lib/runs.awk 644
-share/ocfl-scrub/lib/separators.awk 644
-share/ocfl-scrub/lib/signals.sh 644
-share/ocfl-scrub/lib/state.sh 644
-share/ocfl-scrub/lib/together.sh 644
-share/ocfl-scrub/lib/untold.awk 644
 share/ocfl-scrub/nightly 755
 share/ocfl-scrub/ocfl-scrub-reports 755
 share/ocfl-scrub/ocfl-scrub.cron 644
 share/ocfl-scrub/ocfl_scrub_reports/__init__.py 644
 share/ocfl-scrub/ocfl_scrub_reports/codes 644
 share/ocfl-scrub/ocfl_scrub_reports/command.py 644
+share/ocfl-scrub/ocfl_scrub_reports/counts.py 644
 share/ocfl-scrub/ocfl_scrub_reports/database.py 644
 share/ocfl-scrub/ocfl_scrub_reports/files.py 644
+share/ocfl-scrub/ocfl_scrub_reports/finish.py 644
+share/ocfl-scrub/ocfl_scrub_reports/night_state.py 644
+share/ocfl-scrub/ocfl_scrub_reports/opening.py 644
 share/ocfl-scrub/ocfl_scrub_reports/page.py 644
 share/ocfl-scrub/ocfl_scrub_reports/premis.py 644
+share/ocfl-scrub/ocfl_scrub_reports/program.py 644
 share/ocfl-scrub/ocfl_scrub_reports/questions.py 644
 share/ocfl-scrub/ocfl_scrub_reports/recheck.py 644
 share/ocfl-scrub/ocfl_scrub_reports/report.py 644
+share/ocfl-scrub/ocfl_scrub_reports/seal.py 644
 share/ocfl-scrub/ocfl_scrub_reports/standing.py 644
 share/ocfl-scrub/ocfl_scrub_reports/state.py 644
 share/ocfl-scrub/ocfl_scrub_reports/statement.py 644
@@ -86,19 +64,26 @@ share/ocfl-scrub/ocfl_scrub_reports/verify.py 644
 share/ocfl-scrub/ocfl_scrub_reports/weights.py 644
 share/ocfl-scrub/ocfl_scrub_reports/xml.py 644
 share/ocfl-scrub/parallel/begin 755
+share/ocfl-scrub/parallel/dividing.py 644
 share/ocfl-scrub/parallel/end 755
+share/ocfl-scrub/parallel/folder.py 644
+share/ocfl-scrub/parallel/given.py 644
+share/ocfl-scrub/parallel/joining.py 644
 share/ocfl-scrub/parallel/nightly 755
+share/ocfl-scrub/parallel/notes.py 644
 share/ocfl-scrub/parallel/part 755
-share/ocfl-scrub/rotate 755
-share/ocfl-scrub/slurm/join.sbatch 755
+share/ocfl-scrub/slurm/end.sbatch 755
 share/ocfl-scrub/slurm/part.sbatch 755
 share/ocfl-scrub/slurm/submit 755
-share/ocfl-scrub/slurm/tell.sbatch 755
 share/ocfl-scrub/systemd/archive.conf 644
 share/ocfl-scrub/systemd/ocfl-scrub-tell-failed@.service 644
 share/ocfl-scrub/systemd/ocfl-scrub-tell@.service 644
 share/ocfl-scrub/systemd/ocfl-scrub@.service 644
 share/ocfl-scrub/systemd/ocfl-scrub@.timer 644
+share/ocfl-scrub/systemd/sysusers.conf 644
+share/ocfl-scrub/systemd/tmpfiles.conf 644
+share/systemd/user/ocfl-scrub@.service 644
+share/systemd/user/ocfl-scrub@.timer 644
 """
 
 
@@ -254,7 +239,7 @@ def others_stay(install, prefix):
     for other in others[1:]:
         write(other, "")
     write(share + CODES, "changed")
-    os.remove(share + "rotate")
+    os.remove(share + "ocfl-scrub.cron")
     os.rename(share + "nightly", share + "mine")
     os.symlink("mine", share + "nightly")
     status, out, said = ran([install, "--uninstall", prefix])
@@ -275,17 +260,16 @@ def others_stay(install, prefix):
 
 def older_version(clone, install, prefix):
     """Files that only an earlier version had are removed, unless they were changed."""
-    older = [clone + "/contrib/lib/older.sh", clone + "/contrib/older/one"]
+    older = [clone + "/contrib/older/two", clone + "/contrib/older/one"]
     for path in older:
         write(path, "")
     ran([install, prefix])
     shutil.rmtree(os.path.dirname(older[1]))
-    os.remove(older[0])
     there = prefix + "/share/ocfl-scrub/"
     write(there + "older/one", "changed")
     status, out, said = ran([install, prefix])
     is_so("install over an older one",
-          (status, "removed %slib/older.sh\n" % there in out, "older/one stays: it" in said),
+          (status, "removed %solder/two\n" % there in out, "older/one stays: it" in said),
           (0, True, True))
     os.remove(there + "older/one")
     ran([install, "--uninstall", prefix])
@@ -310,11 +294,11 @@ def manual(prefix):
     told = set(re.findall(r"^\.B (ok|[ES]\d+)$", text, re.MULTILINE))
     is_so("each code is in the page", sorted(codes_of_rules() - told), [])
     is_so("each code of the page is a rule's", sorted(told - codes_of_rules()), [])
-    for command in ["audit", "run", "cycle", "check", "split", "show"]:
+    for command in ["audit", "run", "cycle", "night", "check", "split", "join", "show"]:
         is_so("the page tells of " + command, "\n.BI %s\\~ " % command in text, True)
     shown = "".join(ran([PROGRAM, command, "--help"])[1]
-                    for command in ["audit", "run", "cycle", "split"])
-    options = {"\\-\\-%s" % option for option in re.findall(r"--([a-z]+)", shown)}
+                    for command in ["audit", "run", "cycle", "night", "split", "join"])
+    options = {word.replace("-", "\\-") for word in re.findall(r"--[a-z-]+", shown)}
     is_so("the page tells of each option", sorted(o for o in options if o not in text), [])
     of_reports(read(others))
 
@@ -344,16 +328,50 @@ def units(prefix):
     is_so("two names of one unit", read(folder + "/" + names[2]), read(folder + "/" + names[3]))
     service = read(folder + "/ocfl-scrub@.service")
     wanted = ["ProtectSystem=strict", "StateDirectory=ocfl-scrub/%i", "SuccessExitStatus=1",
-              "MemoryMax=2G", "IOSchedulingClass=idle", "Nice=19", "KillMode=mixed",
-              "TimeoutStopSec=6min", "OnSuccess=ocfl-scrub-tell@%i.service",
+              "MemoryMax=2G", "IOSchedulingClass=idle", "Nice=19",
+              "OnSuccess=ocfl-scrub-tell@%i.service",
               "OnFailure=ocfl-scrub-tell-failed@%i.service", "SystemCallErrorNumber=EPERM"]
     is_so("what the service asks for", [w for w in wanted if "\n%s\n" % w not in service], [])
     is_so("nothing runs outside of the sandbox, or as root", re.findall(
         r"^Exec\w+=[-+!:@]*[+!].*", service + read(folder + "/" + names[2]), re.MULTILINE), [])
     is_so("exposed by at most 0.5", ran(["systemd-analyze", "security", "--offline=true",
                                          "--threshold=5", os.path.join(folder, names[0])])[0], 0)
-    is_so("it ends by the clock, and gives a run time to end",
-          [word in service for word in ["--until ${UNTIL}", "--grace 300"]], [True, True])
+    is_so("it ends by the clock", "--until ${UNTIL}" in service, True)
+    user_units(prefix)
+
+
+def user_units(prefix):
+    """Those of a user's own nights lie where the user's service manager looks below a home."""
+    folder = prefix + "/share/systemd/user"
+    for name in ["ocfl-scrub@.service", "ocfl-scrub@.timer"]:
+        is_so("systemd-analyze verify user/" + name,
+              ran(["systemd-analyze", "verify", os.path.join(folder, name)],
+                  MANPATH=prefix + "/share/man"), (0, "", ""))
+    is_so("the same timer", read(folder + "/ocfl-scrub@.timer"),
+          read(prefix + "/share/ocfl-scrub/systemd/ocfl-scrub@.timer"))
+
+
+def users_and_folders(folder, prefix):
+    """What systemd makes by sysusers.d and tmpfiles.d, below a folder: the user, and the folders of
+    the settings and the states; what is there stays."""
+    root, where = folder + "/system", prefix + "/share/ocfl-scrub/systemd"
+    os.makedirs(root + "/etc")
+    os.makedirs(root + "/var/lib")
+    for _ in range(2):
+        is_so("the user", ran(["systemd-sysusers", "--root=" + root,
+                               where + "/sysusers.conf"])[0], 0)
+        row = re.search("(?m)^ocfl-scrub:.*$", read(root + "/etc/passwd"))[0].split(":")
+        is_so("its home and shell", row[4:], ["Nights of ocfl-scrub", "/var/lib/ocfl-scrub",
+                                              "/usr/sbin/nologin"])
+        is_so("the folders", ran(["systemd-tmpfiles", "--root=" + root, "--create",
+                                  where + "/tmpfiles.conf"])[0], 0)
+        state, settings = root + "/var/lib/ocfl-scrub", root + "/etc/ocfl-scrub"
+        look = os.stat(state)
+        is_so("whose the states are", (look.st_mode & 0o777, look.st_uid), (0o750, int(row[2])))
+        is_so("and the settings", (os.stat(settings).st_mode & 0o777, os.stat(settings).st_uid),
+              (0o755, 0))
+        write(state + "/archive/checkpoint", "kept")
+    is_so("a state stays", read(state + "/archive/checkpoint"), "kept")
 
 
 def cron(folder, prefix):
@@ -369,8 +387,10 @@ def cron(folder, prefix):
             command = line.split(None, 6)
     is_so("when, and who", command[:6], ["0", "22", "*", "*", "*", "ocfl-scrub"])
     settings.update(STATE=folder + "/state", ROOT=folder + "/root")
-    is_so("it ends by the clock too", settings.get("UNTIL"), "--until 06:00")
-    is_so("and gives a run time to end", "$UNTIL --grace $GRACE" in command[6], True)
+    is_so("it ends by the clock too", settings.get("UNTIL"), "06:00")
+    first = [prefix + "/share/ocfl-scrub/nightly", "--create", "--files", "1", "--state",
+             folder + "/state", folder + "/root"]
+    is_so("the first night", ran(first), (0, "", ""))
     is_so("the line for cron", ran(["sh", "-c", command[6]], **settings), (0, "", ""))
     is_so("its report", read(folder + "/state/reports/cycle-000001"), "".join(ITEMS))
 
@@ -382,6 +402,8 @@ def tell(folder):
     tried(uninstalling, folder)
     tried(manual, prefix)
     tried(units, prefix)
+    if os.geteuid() == 0:
+        tried(users_and_folders, folder, prefix)
     tried(cron, folder + "/cron", prefix)
 
 

@@ -36,7 +36,7 @@ class Other:
         for at in ["/of-nobody", "/of-nobody/state"]:
             os.chown(folder + at, NOBODY, NOBODY)
         self.nights = Nights(folder + "/of-nobody/state", make_root(folder + "/root"))
-        self.calls("nightly", "--state", self.nights.state, "--budget", "1K", self.nights.root,
+        self.calls("nightly", "--create", "--state", self.nights.state, self.nights.root,
                    user=NOBODY)
 
     def calls(self, name, *words, user=0, **given):
@@ -84,20 +84,14 @@ def writing(folder):
     is_so("a statement as root", (other.asks("statement", state, "1")[0], os.stat(
         other.nights.path("reports/statement-000001")).st_uid), (0, NOBODY))
     before = common.snapshot(state)
-    for name, words in [("nightly", ["--state", state, "--budget", "1K", root]),
-                        ("rotate", [state]),
-                        ("parallel/nightly", ["--jobs", "1", "--parts", "2", "--state", state,
-                                              "--budget", "1K", root]),
-                        ("parallel/begin", ["--parts", "2", "--state", state, root]),
-                        ("parallel/part", ["--part", "1", "--state", state, root]),
-                        ("parallel/end", ["--state", state, root])]:
-        status, out, said = other.calls(name, *words)
-        is_so("%s as root" % name, (status, out, "belongs to the user" in said), (3, "", True))
+    for words in [["--state", state, root], ["--for-tell", "--state", state, root]]:
+        status, out, said = other.calls("nightly", *words)
+        is_so("a night as root", (status, out, "is another user's" in said), (3, "", True))
     is_so("nothing in the folder has changed", common.snapshot(state) == before, True)
     is_so("all of it is the user's", other.owners(), {NOBODY})
-    for name in ["root.new", "nights", "report", "tonight"]:
+    for name in ["checkpoint.new", "log", "report", "tonight"]:
         other.link(name)
-    other.calls("nightly", "--state", state, "--budget", "1K", root)
+    other.calls("nightly", "--state", state, root)
     other.is_safe("a night of root")
 
 
@@ -107,7 +101,7 @@ def reading(folder):
     state = other.nights.state
     report = other.nights.path("reports/cycle-000001")
     for name in ["reports/cycle-000001", "reports/cycle-000002", "report", "reports/gone-000001",
-                 "nights", "root", "reports/statement-000001"]:
+                 "log", "checkpoint", "reports/statement-000001"]:
         kept = common.read(other.nights.path(name)) if os.path.exists(
             other.nights.path(name)) else None
         other.link(name)
@@ -137,12 +131,12 @@ def reading(folder):
 def links_of_ones_own(folder):
     """No link in a folder of state is followed, whoever calls."""
     nights = Nights(folder + "/state", make_root(folder + "/root"))
-    nights.cycle()
+    nights.night()
     secret = folder + "/secret"
     write(secret, SECRET)
     report, statement = nights.path("reports/cycle-000001"), nights.path(
         "reports/statement-000001")
-    for name in ["reports/cycle-000001", "nights"]:
+    for name in ["reports/cycle-000001", "log"]:
         kept = common.read(nights.path(name))
         os.remove(nights.path(name))
         os.symlink(secret, nights.path(name))
@@ -151,15 +145,15 @@ def links_of_ones_own(folder):
             name) + " is a link" in out), (3, False, True))
         os.remove(nights.path(name))
         write(nights.path(name), kept)
-    for name in ["report", "nights", "root", "lock", "reports"]:
+    for name in ["lock", "reports"]:
         kept = nights.path(name) + ".kept"
         if os.path.exists(nights.path(name)):
             os.rename(nights.path(name), kept)
         os.symlink(secret, nights.path(name))
-        for words in [nights.words("1K"), [CONTRIB + "/rotate", nights.state]]:
+        for words in [nights.words(), [REPORTS, "finish", nights.state]]:
             status, _, said = ran(words)
             is_so("%s with a link as %s" % (os.path.basename(words[0]), name),
-                  (status, nights.path(name) + " is a link" in said), (3, True))
+                  (status, said != ""), (3, True))
         os.remove(nights.path(name))
         if os.path.exists(kept):
             os.rename(kept, nights.path(name))

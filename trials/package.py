@@ -26,6 +26,11 @@ NAME = "ocfl-scrub_%s_amd64" % version()
 DOCUMENTS = "usr/share/doc/ocfl-scrub/"
 SHARE = "usr/share/ocfl-scrub/"
 UNITS = "usr/lib/systemd/system/"
+# Where systemd looks for what `./install` puts elsewhere.
+MOVED = {SHARE + "systemd/sysusers.conf": "usr/lib/sysusers.d/ocfl-scrub.conf",
+         SHARE + "systemd/tmpfiles.conf": "usr/lib/tmpfiles.d/ocfl-scrub.conf",
+         "usr/share/systemd/user/ocfl-scrub@.service": "usr/lib/systemd/user/ocfl-scrub@.service",
+         "usr/share/systemd/user/ocfl-scrub@.timer": "usr/lib/systemd/user/ocfl-scrub@.timer"}
 # What each user has: the toolchain, which BUILD names, may be out of reach.
 CLEAN = {"PATH": "/usr/sbin:/usr/bin:/sbin:/bin", "HOME": "/nowhere"}
 
@@ -123,8 +128,9 @@ def installed(folder):
         for name in names:
             file = os.path.join(where, name)
             path = os.path.relpath(file, folder)
-            if "@" in name:
+            if path.startswith(SHARE) and "@" in name:
                 path = UNITS + name
+            path = MOVED.get(path, path)
             if name.endswith(".1"):
                 path += ".gz"
             if name != "INSTALLED":
@@ -149,8 +155,8 @@ def unpacked(folder, made):
     is_so("unpack", ran(["tar", "-xzf", made + ".tar.gz", "-C", there]), (0, "", ""))
     make_root(folder + "/root")
     given = {**CLEAN, "TMPDIR": folder}
-    done = subprocess.run([there + "/" + SHARE + "nightly", "--state", folder + "/alone",
-                           "--budget", "1K", folder + "/root"], env=given, capture_output=True)
+    done = subprocess.run([there + "/" + SHARE + "nightly", "--create", "--state",
+                           folder + "/alone", folder + "/root"], env=given, capture_output=True)
     is_so("a night from the tarball", (done.returncode, done.stderr), (0, b""))
     is_so("its report", read(folder + "/alone/reports/cycle-000001"), "".join(ITEMS))
 
@@ -212,7 +218,7 @@ def older(folder, made):
     ran(["dpkg-deb", "--raw-extract", made + ".deb", tree])
     text = read(tree + "/DEBIAN/control")
     write(tree + "/DEBIAN/control", text.replace("Version: " + version(), "Version: 0.9.0"))
-    write("%s/%slib/older.sh" % (tree, SHARE), "")
+    write("%s/%solder.sh" % (tree, SHARE), "")
     with open("%s/%snightly" % (tree, SHARE), "a") as file:
         file.write("# older\n")
     with open(tree + "/usr/bin/ocfl-scrub", "ab") as program:
@@ -228,12 +234,17 @@ class Service:
     SETTINGS = "/etc/ocfl-scrub/archive.conf"
 
     def __init__(self, root):
-        for words in [["useradd", "--system", "--home-dir", "/var/lib/ocfl-scrub", "--shell",
-                       "/usr/sbin/nologin", "ocfl-scrub"],
-                      ["install", "-d", "-o", "ocfl-scrub", self.STATE]]:
+        for words in [["systemd-sysusers"], ["systemd-tmpfiles", "--create", "/" + MOVED[
+                SHARE + "systemd/tmpfiles.conf"]]]:
             is_so(words[0], ran(words)[0], 0)
         text = read("/" + SHARE + "systemd/archive.conf").replace("ROOT=/srv/ocfl", "ROOT=" + root)
         write(self.SETTINGS, text)
+        self.root = root
+
+    def first(self):
+        """The first night, by hand."""
+        return self.calls("/" + SHARE + "nightly", "--create", "--files", "1", "--state",
+                          self.STATE, self.root)
 
     def calls(self, *words):
         """Status, output and what is said, without any right of root."""
@@ -241,13 +252,14 @@ class Service:
                               cwd="/", user="ocfl-scrub", group="ocfl-scrub", extra_groups=[])
         return done.returncode, done.stdout.decode(), done.stderr.decode()
 
-    def night(self, **given):
+    def night(self):
         """What `ExecStart` runs, with the settings of the unit and of its file."""
         unit = read("/" + UNITS + "ocfl-scrub@.service").replace("\\\n", " ")
         settings = dict(re.findall(r"([A-Z]+)=(\S*)", re.search("(?m)^Environment=.*", unit)[0]))
         settings.update(re.findall(r"(?m)^([A-Z]+)=(.*)$", read(self.SETTINGS)))
-        settings.update(given, UNTIL=time.strftime("%H:%M", time.localtime(time.time() + 21600)))
+        settings.update(UNTIL=time.strftime("%H:%M", time.localtime(time.time() + 21600)))
         words = re.search("(?m)^ExecStart=(.*)$", unit)[1].replace("%i", "archive")
+        words = words.replace("$OPTIONS ", "")
         return self.calls(*[re.sub(r"\$\{(\w+)\}", lambda it: settings[it[1]], word)
                             for word in words.replace("%S", "/var/lib").split()])
 
@@ -273,26 +285,26 @@ def installing(folder, made, paths):
     dpkg("--purge", "ocfl-scrub")
     is_so("install an older one", dpkg("--install", older(folder, made)), (0, ""))
     service = Service(folder + "/root")
-    is_so("a night of the older one", service.night(FILES="1"), (0, "", ""))
+    is_so("a night of the older one", service.first(), (0, "", ""))
     is_so("its cycle is open", service.has("report"), "".join(ITEMS[:3]))
     is_so("upgrade", dpkg("--install", made + ".deb"), (0, ""))
-    is_so("what only the older one had", os.path.exists("/%slib/older.sh" % SHARE), False)
+    is_so("what only the older one had", os.path.exists("/%solder.sh" % SHARE), False)
     is_so("dpkg finds each file as it was made", ran(["dpkg", "--verify", "ocfl-scrub"]),
           (0, "", ""))
     is_so("the next night goes on", service.night(), (0, "", ""))
     is_so("the report of the cycle", service.has("reports/cycle-000001"), "".join(ITEMS))
-    programs = [common.read(folder + "/older/usr/bin/ocfl-scrub"), common.read(PROGRAM)]
-    is_so("its statement names the program before the upgrade and that after it", [
-        digest(program) in service.has("reports/statement-000001") for program in programs],
-          [True, True])
+    is_so("its statement names the program that made it", digest(common.read(PROGRAM))
+          in service.has("reports/statement-000001"), True)
     using(service)
     units()
     kept = service.kept()
+    is_so("the user is there", b"\nocfl-scrub:" in common.read("/etc/passwd"), True)
     for words in [["--remove"], ["--purge"]]:
         is_so(words[0], dpkg(*words, "ocfl-scrub"), (0, ""))
         is_so("what is left after " + words[0], [it for it in paths if os.path.lexists("/" + it)],
               [])
         is_so("state and settings stay after " + words[0], service.kept(), kept)
+        is_so("the user stays too", b"\nocfl-scrub:" in common.read("/etc/passwd"), True)
     is_so("dpkg knows it no more", ran(["dpkg", "--status", "ocfl-scrub"])[0], 1)
 
 

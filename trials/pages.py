@@ -22,12 +22,14 @@ from shared.nights import CONTRIB, read, tried
 from shared.pages import blocks_of_manual, blocks_of_markdown, commands_of, links_of
 from shared.states import tools
 
-PACKAGES = {"git": "git", "jq": "jq", "sqlite3": "sqlite3", "awk": "mawk", "gzip": "gzip",
+PACKAGES = {"git": "git", "jq": "jq", "sqlite3": "sqlite3", "gzip": "gzip",
             "perl": "perl", "cmp": "diffutils", "dpkg-deb": "dpkg", "readelf": "binutils"}
 
 # How commands begin that are not run, and why not.
 NOT_RUN = {
-    "useradd ": "adds a user to the system",
+    "systemd-sysusers ": "adds a user to the system",
+    "systemd-tmpfiles ": "needs that user",
+    "runuser ": "needs that user",
     "systemctl ": "needs a service manager",
     "sudo apt install ": "changes the system; trials/package.py installs the package",
     "slurm/submit ": "needs a cluster; trials/slurm.py makes one",
@@ -42,19 +44,20 @@ NO_COMMANDS = {
 # Statuses of commands that may end otherwise than with 0: the sample has a damaged file.
 ENDS = [(r"# still E092", {1}), (r"# ok$|# the rest of its object", {0}),
         (r"xargs .*\n.*ocfl-scrub audit ", {0, 123}),
-        (r"ocfl-scrub (--unproved )?(audit|run|check) |/nightly |zdiff ", {0, 1}),
+        (r"ocfl-scrub (--unproved )?(audit|run|night|check) |/nightly |zdiff ", {0, 1}),
         (r"ocfl-scrub-reports status ", {2})]
 # What else a user has done before the further commands of a page, which need two whole cycles.
 THEN = {
-    "./nightly --state ~/audit --until 06:00 /srv/ocfl": [
+    "./nightly --create --state ~/audit --until 06:00 /srv/ocfl": [
         "mkdir -p /mnt/copy/letters/v1/content",
         "echo 'Yours sincerely' > /mnt/copy/letters/v1/content/damaged.txt"],
-    "./nightly --state ~/audit --hours 1 /srv/ocfl": [
+    "./nightly --create --state ~/audit --hours 1 /srv/ocfl": [
         "./nightly --state ~/audit --hours 1 /srv/ocfl",
-        "./nightly --state ~/audit --budget 10 /srv/ocfl",
+        "sleep 1.1; ./nightly --state ~/audit --slice 1 --files 1 /srv/ocfl",
         "mkdir -p /var/lib/node_exporter /var/lib/ocfl-scrub",
         "cp -R ~/audit /var/lib/ocfl-scrub/archive"],
-    "/usr/local/share/ocfl-scrub/nightly --state /var/lib/audit \\\n    --until 06:00 /srv/ocfl": [
+    "/usr/local/share/ocfl-scrub/nightly --create --state /var/lib/audit \\\n    --until 06:00 "
+    "/srv/ocfl": [
         "/usr/local/share/ocfl-scrub/nightly --state /var/lib/audit --hours 1 /srv/ocfl"],
 }
 # What differs from one run to the next.
@@ -89,7 +92,7 @@ class Session:
         self.folder = os.path.realpath(folder)
         # A home and a folder of states that hold nothing at all look like disks that are away.
         for name in ["home/mail", "tmp", "srv", "usr/local", "var/lib/dpkg", "mnt/usb",
-                     "etc/systemd/system"]:
+                     "etc/systemd/system", "etc/ocfl-scrub"]:
             os.makedirs(os.path.join(self.folder, name))
         self.clone = make_clone(self.folder + "/clone")
         home = self.folder + "/home"
@@ -165,7 +168,10 @@ def installed(folder):
 
 def nightly(folder):
     text = read(CONTRIB + "/README.md")
-    follow(installed(folder), "contrib/README.md", blocks_of_markdown(text))
+    session = installed(folder)
+    session.call("./install", session.clone)
+    session.at = session.folder + "/home"
+    follow(session, "contrib/README.md", blocks_of_markdown(text))
 
 
 def manual(folder):

@@ -1,263 +1,348 @@
 #!/usr/bin/env python3
-"""Tries which folder is whose in nights of all parts: parts that begin while others are divided,
-cursors of another part, folders of `nightly` and copies beside the real ones. What a part keeps
-does not grow with the storage root, and a lock that cannot be had is no night that still runs.
+"""Tries what nights of all parts say of what went wrong, by `begin`, `part` and `end` of
+`contrib/parallel`: parts that nobody ran or that were killed, broken folders, an interrupted
+division, messages without room, links, the folder of another user.
 
 usage: part_folders.py [PART]...
 """
 import glob
 import os
-import resource
 import shutil
 import signal
+import stat
 import subprocess
 import time
 
 import common
 from common import PROGRAM, is_so
-from shared.nights import CONTRIB, REPORTS, Nights, ran, read, tried_apart, write
-from shared.parallel import (Place, Together, again, audit, audit_parts, begun, by_hand, findings,
-                             make_root, told_in)
+from shared.nights import CONTRIB, ran, read, tried_apart, write
+from shared.parallel import Together, audit, begun, findings, small_root, told_in
 
 
-def divided_meanwhile(nights, name, seconds):
-    """A night of a part that stands still after so many seconds, while `end` divides another."""
-    words = [CONTRIB + "/parallel/part", "--state", nights.state, "--part", name, "--budget", "1M",
-             nights.root]
-    part = subprocess.Popen(words, start_new_session=True, stdin=subprocess.DEVNULL,
-                            stderr=subprocess.DEVNULL, env={**os.environ, "OCFL_SCRUB": PROGRAM})
-    time.sleep(seconds)
-    os.killpg(part.pid, signal.SIGSTOP)
-    status, _, said = by_hand(nights, "end")
-    os.killpg(part.pid, signal.SIGCONT)
-    part.wait(timeout=60)
-    return status, said
+def nobody_ran(folder):
+    """Parts that were given out and that nobody ran are named once, and `status` says so."""
+    nights, numbers = begun(folder)
+    is_so("four parts", numbers, ["1", "2", "3", "4"])
+    nights.make(["1", "4"])
+    status, out, said = nights.end()
+    is_so("the others are named", (status, said, " in parts 2-3: " in out), (3, "", True))
+    is_so("status", nights.level(), 2)
+    is_so("it is said once", (nights.end(), nights.level()), ((0, "", ""), 2))
+    nights.make(nights.given())
+    is_so("then all are run", (nights.end(), nights.level()), ((0, "", ""), 0))
+    nights.is_audit("and joined")
 
 
-def moved(folder):
-    """Parts that begin while another one is divided audit what they are called for: a report that
-    is called whole is the audit."""
-    nights, names = begun(folder, ["o8"])
-    place = Place(nights.root, "o1/v1/content")
-    whole = audit(nights.root)
-    place.spoil()
+def nobody_ended(folder):
+    """A night that nothing ended is said by the next one, with what was found in it."""
+    nights, numbers = begun(folder, ["o01"])
+    nights.make(numbers[:2])
+    nights.make(nights.given())
+    status, out, _ = nights.end()
+    is_so("it is said", (status, "Nothing ended" in out, " in parts 3-4: " in out), (3, True, True))
+    is_so("and the finding", told_in(out), findings(audit(nights.root)))
+
+
+def open_somewhere(path):
+    """Whether a process has a file open."""
+    for link in glob.glob("/proc/[0-9]*/fd/*"):
+        try:
+            if os.readlink(link) == path:
+                return True
+        except OSError:
+            continue
+    return False
+
+
+def killed(folder):
+    """A part that is killed is told on each night, until its run comes to its end."""
+    nights, numbers = begun(folder)
+    file = nights.root + "/o08/v1/content/a"
+    with open(file, "r+b") as large:
+        large.truncate(1 << 36)
+    nights.make(numbers[:-1])
     for _ in range(2):
-        audit_parts(nights, [name for name in again(nights) if name != names[-1]])
-        if _ == 0:
-            by_hand(nights, "end")
-            time.sleep(1)
-    shutil.copytree(nights.state, folder + "/kept", symlinks=True)
-    for hundredths in (4, 7, 10, 14, 20):
-        shutil.rmtree(nights.state)
-        shutil.copytree(folder + "/kept", nights.state, symlinks=True)
-        status, _ = divided_meanwhile(nights, names[-1], hundredths / 100)
-        is_so("the place is told", status, 3)
-        place.mend()
-        for _ in range(3):
-            for name in again(nights):
-                by_hand(nights, "part", "--part", name, "--budget", "1M")
-            by_hand(nights, "end")
-            if glob.glob(nights.path("reports/cycle-*")):
-                break
-        is_so("after %d hundredths" % hundredths, nights.has("reports/cycle-000001"), whole)
-        place.spoil()
+        part = subprocess.Popen([CONTRIB + "/parallel/part", "--state", nights.state, "--part", "4",
+                                 nights.root], env={**os.environ, "OCFL_SCRUB": PROGRAM})
+        until = time.monotonic() + 60
+        while not open_somewhere(file) and time.monotonic() < until:
+            time.sleep(0.01)
+        part.send_signal(signal.SIGKILL)
+        part.wait()
+        status, out, _ = nights.end()
+        is_so("killed", (status, " in part 4: " in out, nights.level()), (3, True, 2))
+        is_so("it alone is given out", nights.given(), ["4"])
+    write(file, "abc")
+    nights.make(["4"])
+    is_so("then it is audited", nights.end(), (0, "", ""))
+    nights.is_audit("joined")
 
 
-def another_cursor(folder):
-    """A report is joined of parts whose cursors are at the ends of these parts."""
-    nights, names = begun(folder)
-    audit_parts(nights, names)
-    cursors = ["%s/%s/cursor" % (nights.set(), name) for name in names[1:3]]
-    kept = [read(cursor) for cursor in cursors]
-    write(cursors[0], kept[1])
-    status, _, said = by_hand(nights, "end")
-    is_so("of another part", (status, cursors[0] in said, nights.has("reports/cycle-000001")),
-          (3, True, None))
-    os.remove(cursors[0])
-    is_so("none", (by_hand(nights, "end")[0], nights.has("reports/cycle-000001")), (3, None))
-    write(cursors[0], kept[0])
-    is_so("its own", (by_hand(nights, "end"), nights.has("reports/cycle-000001")),
-          ((0, "", ""), audit(nights.root)))
+def broken(folder):
+    """A folder of a part that is gone, is another's, or has no sound checkpoint is named with
+    status 3, and the other parts go on."""
+    for name in ["gone", "another part", "another root", "damaged", "no checkpoint", "a link"]:
+        there = "%s/%s" % (folder, name)
+        os.mkdir(there)
+        nights, numbers = begun(there)
+        nights.make(numbers)
+        nights.end()
+        own = nights.part(2).rstrip("/")
+        kept = shutil.move(own, there + "/kept")
+        spoil(name, nights, own, kept)
+        numbers = nights.given()
+        for number in numbers:
+            nights.by_hand("part", "--part", number)
+        status, out, _ = nights.end()
+        # A monitor gets UNKNOWN for a link.
+        is_so(name, (status, " in part 2: " in out, nights.level()),
+              (3, True, 3 if name == "a link" else 2))
+        is_so(name + ": which is named", out.count("part-000002") > 0, True)
+        is_so(name + ": the others", [nights.rows(number)[-1]["status"] for number in (1, 3, 4)],
+              [0, 0, 0])
+        is_so(name + ": nothing is joined", nights.has("reports/cycle-000002"), None)
+        if os.path.islink(own):
+            os.remove(own)
+        shutil.rmtree(own, ignore_errors=True)
+        shutil.move(kept, own)
+        nights.make(nights.given())
+        is_so(name + ": put back", nights.end(), (0, "", ""))
+        nights.is_audit(name + ": joined", 2)
 
 
-def contents(folder):
-    """What lies in a folder: the bytes of each file, by its path."""
-    return {path: os.path.isfile(path) and common.read(path)
-            for path in glob.glob(folder + "/**", recursive=True)}
+def spoil(name, nights, own, kept):
+    """Puts something else in the place of a part's folder."""
+    if name == "another part":
+        shutil.copytree(nights.part(3), own)
+    elif name == "a link":
+        os.symlink(kept, own)
+    elif name != "gone":
+        shutil.copytree(kept, own)
+    if name == "another root":
+        other = shutil.copytree(nights.root, nights.root + "-other")
+        shutil.rmtree(own)
+        ran([PROGRAM, "night", "--create", "--state", own, "--parts", nights.path("parts"),
+             "--part", "2", other])
+    elif name == "damaged":
+        write(own + "/checkpoint", read(own + "/checkpoint").replace("runs ", "runs 1"))
+    elif name == "no checkpoint":
+        os.remove(own + "/checkpoint")
+
+
+def separators(folder):
+    """A file of separators that is gone, cut short or broken is named; nothing is divided again."""
+    nights, numbers = begun(folder)
+    nights.make(numbers)
+    nights.end()
+    kept = read(nights.path("parts"))
+    for name, text in [("gone", None), ("broken", kept[:-2] + "\0"), ("out of order", "z\na\n"),
+                       ("cut short", kept.split("\n")[0] + "\n")]:
+        write(nights.path("parts"), text or "")
+        if text is None:
+            os.remove(nights.path("parts"))
+        before = read(nights.path("parts"))
+        status, out, said = nights.by_hand("begin", "--create", "--parts", "4")
+        for number in out.split():
+            nights.by_hand("part", "--part", number)
+        status, out, _ = nights.end()
+        is_so(name, (status, nights.path("parts") in out or "bad parts" in out, nights.level()),
+              (3, True, 2))
+        is_so(name + ": it stays", read(nights.path("parts")), before)
+    write(nights.path("parts"), kept)
+    nights.make(nights.given())
+    is_so("put back", nights.end()[0], 0)
+    is_so("joined", nights.has("reports/cycle-000002"), audit(nights.root))
+
+
+def interrupted(folder):
+    """A division that was cut at any call leaves nothing that a night takes for whole."""
+    nights = Together(folder + "/state", small_root(folder))
+    words = [CONTRIB + "/parallel/begin", "--create", "--parts", "4", "--state", nights.state,
+             nights.root]
+    for call in range(1, 60, 4):
+        shutil.rmtree(nights.state, ignore_errors=True)
+        killed_at = ["strace", "--quiet=all", "-o", "/dev/null", "-e",
+                     "inject=mkdir,rename,fsync,flock:signal=KILL:when=%d" % call]
+        if ran([*killed_at, *words])[0] == 0:
+            break
+        numbers = nights.given()
+        is_so("parts after call %d" % call, (numbers, nights.count()), (["1", "2", "3", "4"], 4))
+    is_so("it was cut", call > 8, True)
+    for number in ("1", "2", "3", "4"):
+        nights.by_hand("part", "--part", number)
+    nights.end()
+    nights.is_audit("the cycle")
+
+
+def begin_refused(folder):
+    """That a night could not begin is said by `end` once, and `status` shows it."""
+    nights, numbers = begun(folder)
+    os.rename(nights.root, nights.root + ".away")
+    os.mkdir(nights.root)
+    status, out, said = nights.by_hand("begin")
+    is_so("refused", (status, out, "is its file system mounted?" in said), (3, "", True))
+    is_so("status before the end", nights.level(), 2)
+    status, out, _ = nights.end()
+    is_so("the end says why", (status, out.count("is its file system mounted?")), (3, 1))
+    is_so("status after it", nights.level(), 2)
+    for number in numbers:
+        nights.by_hand("part", "--part", number)
+    status, out, _ = nights.end()
+    is_so("what all say is there once", (status, out.count("is its file system mounted?"),
+                                         "In parts 1-4:" in out), (1, 1, True))
+    other = Together(folder + "/other", nights.root)
+    status, out, said = other.by_hand("begin", "--create", "--parts", "4")
+    is_so("no first night", (status, os.path.exists(other.path("parts"))), (3, False))
+    shutil.rmtree(nights.root)
+    os.rename(nights.root + ".away", nights.root)
+    is_so("a state folder that is away", Together(folder + "/none", nights.root).by_hand(
+        "begin")[0:2], (3, ""))
+    is_so("is not made", os.path.exists(folder + "/none"), False)
+
+
+# Leaves so many KiB on a small disk that has the state.
+SMALL = """mount -t tmpfs -o size=1m tmpfs "$1" || exit 99
+cp -a "$2/." "$1" || exit 98
+head -c 4M /dev/zero > "$1/filler" 2> /dev/null
+shift 2
+"$@"; status=$?
+rm -f "$DISK/filler"; rm -rf "$KEPT"; cp -a "$DISK" "$KEPT"
+exit $status
+"""
+
+
+def no_room(folder):
+    """A message that could not be written, or for which the disk has no room, is said later."""
+    nights, numbers = begun(folder, ["o01", "o07"])
+    nights.make(numbers)
+    found = findings(audit(nights.root))
+    end = [CONTRIB + "/parallel/end", "--state", nights.state]
+    status, _, _ = ran(["sh", "-c", 'exec "$@" > /dev/full', "sh", *end])
+    is_so("a full output", status, 3)
+    os.mkdir(folder + "/disk")
+    kept = folder + "/kept"
+    words = [CONTRIB + "/parallel/end", "--for-tell", "--state", folder + "/disk"]
+    status, out, said = ran(["unshare", "-m", "sh", "-c", SMALL, "sh", folder + "/disk",
+                             nights.state, *words], DISK=folder + "/disk", KEPT=kept)
+    if status == 99:
+        print("not tried: nothing can be mounted here")
+    else:
+        is_so("a full disk", (status, bool(said)), (3, True))
+        status, out, _ = Together(kept, nights.root).end()
+        is_so("then said", told_in(out), found)
+    is_so("said at last", told_in(nights.end()[1]), found)
+
+
+def for_tell(folder):
+    """A message that was not sent stays when the end is made again, and is sent whole."""
+    nights, numbers = begun(folder, ["o08"])
+    nights.make(numbers)
+    for _ in range(2):
+        is_so("left", nights.by_hand("end", "--for-tell", INVOCATION_ID="x")[1:], ("", ""))
+    nights.make(nights.given()[:1])
+    nights.by_hand("end", "--for-tell", INVOCATION_ID="x")
+    text = nights.has("tonight.x")
+    is_so("all of it", (told_in(text) == findings(audit(nights.root)), "No night" in text),
+          (True, True))
+
+
+def files_are_ones_own(folder):
+    """From their first moment files are 0640 and folders 0750, whatever the umask says."""
+    nights = Together(folder + "/state", small_root(folder, ["o01"]))
+    made = folder + "/calls"
+    words = ["sh", "-c", "umask 0; exec \"$@\"", "sh", "strace", "-f", "-o", made, "-e",
+             "trace=open,openat,mkdir,umask", *nights.words("--for-tell", jobs=1, parts=2)]
+    ran(words)
+    modes = {line.split("O_CREAT")[1].split(", ")[1].split(")")[0]
+             for line in read(made).splitlines() if "O_CREAT" in line and ", 0" in line
+             and nights.state in line}
+    is_so("files are made 0640", modes - {"0640", "0600"}, set())
+    for where, folders, names in os.walk(nights.state):
+        for name in [*names, *folders]:
+            look = os.lstat(os.path.join(where, name))
+            wanted = (0o750, 0o700) if stat.S_ISDIR(look.st_mode) else (0o640, 0o600)
+            is_so("%s/%s" % (where, name), stat.S_IMODE(look.st_mode) in wanted, True)
+    is_so("the folder", stat.S_IMODE(os.stat(nights.state).st_mode), 0o750)
+
+
+def links(folder):
+    """No link in the folder is followed."""
+    nights, numbers = begun(folder)
+    nights.make(numbers)
+    secret = folder + "/secret"
+    write(secret, "secret\n")
+    for name in ["parts", "log", "given", "said/000001-9.9", "lock.parts", "reports"]:
+        kept = nights.path(name) + ".kept"
+        there = os.path.lexists(nights.path(name))
+        if there:
+            os.rename(nights.path(name), folder + "/kept")
+        os.symlink(secret, nights.path(name))
+        for call in ["begin", "end"]:
+            status, out, said = nights.by_hand(call)
+            is_so("%s with a link as %s" % (call, name), (status, "secret\n" in out + said),
+                  (3, False) if call == "end" or name != "said/000001-9.9" else (0, False))
+        is_so("as it was: " + name, read(secret), "secret\n")
+        os.remove(nights.path(name))
+        if there:
+            os.rename(folder + "/kept", nights.path(name))
+        assert not os.path.lexists(kept)
+
+
+def another_user(folder):
+    """Root does nothing in the folder of another user."""
+    if os.geteuid() != 0:
+        print("not tried: only root can be refused")
+        return
+    nights, numbers = begun(folder)
+    subprocess.run(["chown", "-R", "nobody", nights.state], check=True)
+    before = common.snapshot(nights.state)
+    for name, words in [("nightly", []), ("begin", []), ("part", ["--part", "1"]), ("end", [])]:
+        status, out, said = nights.by_hand(name, *words)
+        is_so(name, (status, out, "belongs to the user" in said), (3, "", True))
+    is_so("nothing has changed", common.snapshot(nights.state) == before, True)
 
 
 def other_folders(folder):
-    """A folder of `nightly` is refused by the scripts of all parts, and theirs by `nightly`, before
-    anything is written."""
-    nights, names = begun(folder)
-    whole = Nights(folder + "/whole", nights.root)
-    whole.night("4")
-    of_all = Together(whole.state, nights.root)
-    before = contents(whole.state)
-    for name, words in [("nightly", of_all.words("1M", jobs=2, parts=4)),
-                        ("for tell", of_all.words("1M", ["--for-tell"], jobs=2, parts=4))]:
-        status, _, said = ran(words)
-        is_so("parallel/" + name, (status, whole.state in said), (3, True))
-    for name in [["begin", "--parts", "4"], ["end"], ["end", "--join-only"]]:
-        status, _, said = by_hand(of_all, *name)
-        is_so("parallel/" + " ".join(name), (status, whole.state in said), (3, True))
-    is_so("nothing is written", contents(whole.state), before)
-    whole.night("1M")
-    is_so("its cycle", whole.whole(1), audit(nights.root))
-    is_refused_by_nightly(nights, "while a cycle is open")
-    audit_parts(nights, names)
-    is_so("their cycle", (by_hand(nights, "end"), nights.has("reports/cycle-000001")),
-          ((0, "", ""), audit(nights.root)))
-    is_refused_by_nightly(nights, "between two cycles")
-
-
-def is_refused_by_nightly(nights, when):
-    before = contents(nights.state)
-    for more in [[], ["--for-tell"]]:
-        status, _, said = Nights(nights.state, nights.root).night("1M", more=more)
-        is_so("nightly " + when, (status, nights.state in said), (3, True))
-    is_so("nothing is written there " + when, contents(nights.state), before)
-
-
-def copies(folder):
-    """A copy beside the folder of parts is neither joined nor removed."""
-    nights, names = begun(folder, ["o1"])
-    audit_parts(nights, names)
-    copy = nights.set() + ".bak"
-    shutil.copytree(nights.set(), copy)
-    before = contents(copy)
-    status, _, said = by_hand(nights, "end")
-    is_so("joined once", (status, said.count("finding(s) tonight"), told_in(said)),
-          (1, 1, findings(audit(nights.root))))
-    is_so("the reports", glob.glob(nights.path("reports/cycle-*")),
-          [nights.path("reports/cycle-000001")])
-    is_so("the copy is as it was", contents(copy), before)
-
-
-def sizes(folder):
-    """What the folder of a part takes does not grow with the names in the top folder."""
-    root = common.make_root(folder + "/root", {})
-    for number in range(1200):
-        os.mkdir("%s/%s-%04d" % (root, "n" * 40, number))
-    nights = Together(folder + "/state", root)
-    status, out, _ = by_hand(nights, "begin", "--parts", "40")
-    names = out.split()
-    is_so("begin", (status, len(names) >= 40), (0, True))
-    for name in names[:8]:
-        by_hand(nights, "part", "--part", name, "--budget", "1M")
-    taken = {}
-    for name in names[:8]:
-        for path in glob.glob("%s/%s/**" % (nights.set(), name), recursive=True):
-            look = os.lstat(path)
-            if os.path.isfile(path) and "/report" not in path[len(nights.set()):]:
-                taken[look.st_ino] = look.st_size
-    listed = os.path.getsize(nights.path("root"))
-    is_so("all eight take less than the names twice", sum(taken.values()) < 2 * listed, True)
-
-
-def long_folder(folder):
-    """The one odd name among many is found without two processes for each."""
-    root = make_root(folder, 12, faults=False)
-    for number in range(8000):
-        write("%s/01/o-001/v1/content/%06d" % (root, number), "")
-    Place(root, "01/o-001/v1/content").spoil()
-    nights = Together(folder + "/state", root)
-    before = resource.getrusage(resource.RUSAGE_CHILDREN)
-    status, _, said = ran(nights.words("1M", jobs=2, parts=2))
-    after = resource.getrusage(resource.RUSAGE_CHILDREN)
-    is_so("it is named", (status, "a name in it is not UTF-8: %FF" in said), (3, True))
-    spent = after.ru_utime + after.ru_stime - before.ru_utime - before.ru_stime
-    is_so("in few processes", spent < 4 or spent, True)
+    """The folder of a night of the whole root is refused, and nothing is written into a root."""
+    nights, _ = begun(folder)
+    whole = Together(folder + "/whole", nights.root)
+    ran([PROGRAM, "night", "--create", "--state", whole.state, nights.root])
+    for name, state, status in [("of a whole root", whole.state, 3), ("the root", nights.root, 2),
+                                ("in the root", nights.root + "/state", 2)]:
+        before = common.snapshot(nights.root), common.snapshot(whole.state)
+        for call in ["begin", "nightly", "part"]:
+            got = ran([CONTRIB + "/parallel/" + call, "--state", state, *(
+                ["--part", "1"] if call == "part" else ["--create", "--parts", "4"]), nights.root])
+            is_so("%s: %s" % (call, name), got[0], status)
+        is_so(name + ": nothing is written", (common.snapshot(nights.root), common.snapshot(
+            whole.state)) == before, True)
 
 
 def without_locks(folder):
-    """Where no lock can be had, that is said, and nobody waits for a night that does not run."""
-    nights, names = begun(folder)
+    """Where no lock can be had, that is said, and nobody waits."""
+    nights, _ = begun(folder)
     failing = ["strace", "-f", "--quiet=all", "-o", "/dev/null", "-e", "trace=flock", "-e",
                "inject=flock:error=ENOLCK"]
-    for name, words in [("begin", ["parallel/begin", "--parts", "4"]), ("end", ["parallel/end"]),
-                        ("nightly", ["parallel/nightly", "--jobs", "2", "--parts", "4", "--budget",
-                                     "1M"])]:
-        status, _, said = ran([*failing, CONTRIB + "/" + words[0], *words[1:], "--state",
-                               nights.state, nights.root])
-        is_so(name, (status, "still runs" in said, nights.state + "/lock" in said),
-              (3, False, True))
-    audit_parts(nights, names)
-    by_hand(nights, "end")
-    is_so("with locks", nights.has("reports/cycle-000001"), audit(nights.root))
+    for name in ["begin", "end"]:
+        root = [nights.root] if name == "begin" else []
+        status, _, said = ran([*failing, CONTRIB + "/parallel/" + name, "--state", nights.state,
+                               *root])
+        is_so(name, (status, "cannot be locked" in said), (3, True))
 
 
-# In the place of Slurm: takes jobs as one with arrays of so many tasks does, and notes them. It has
-# given many jobs before.
-SBATCH = """#!/bin/sh
-for word in "$@"; do
-  case $word in --array=*) array=${word#--array=}; array=${array%%%*} ;; esac
-done
-if [ "${array##*[-,]}" -ge "${WIDEST:-1001}" ] 2> /dev/null; then
-  echo "sbatch: error: Batch job submission failed: Invalid job array specification" >&2
-  exit 1
-fi
-echo "$array" >> "$TAKEN"
-echo "1234567890123456789$(wc -l < "$TAKEN")"
-"""
-SCONTROL = """#!/bin/sh
-echo "MaxArraySize            = ${WIDEST:-1001}"
-"""
+def by_cost(folder):
+    """The separators can be those of a file, such as one by the costs of a report."""
+    nights = Together(folder + "/state", small_root(folder))
+    write(folder + "/report", audit(nights.root))
+    write(folder + "/parts", ran([PROGRAM, "split", "--budget", "12", "--report", folder
+                                  + "/report"])[1])
+    is_so("a night", nights.night(parts=folder + "/parts")[0], 0)
+    is_so("these parts", nights.has("parts"), read(folder + "/parts"))
+    nights.is_audit("the cycle")
 
 
-def submitted(folder, nights, parts, widest):
-    """What a call of `slurm/submit` ends with, and the arrays that Slurm took."""
-    for name, text in [("sbatch", SBATCH), ("scontrol", SCONTROL), ("scancel", "#!/bin/sh\\n")]:
-        write("%s/bin/%s" % (folder, name), text, 0o755)
-    if os.path.exists(folder + "/taken"):
-        os.remove(folder + "/taken")
-    status, out, said = ran(
-        [CONTRIB + "/slurm/submit", "--parts", str(parts), "--state", nights.state, nights.root],
-        PATH=folder + "/bin:" + os.environ["PATH"], WIDEST=str(widest), TAKEN=folder + "/taken")
-    arrays = [row for row in (read(folder + "/taken") or "").split("\n") if row]
-    return status, [row.split()[0] for row in out.splitlines()], said, arrays
-
-
-def tasks_in(arrays):
-    """How many tasks arrays have, written as 1-3,7."""
-    ends = [stretch.split("-") for array in arrays for stretch in array.split(",")]
-    return sum(int(ends[-1]) - int(ends[0]) + 1 for ends in ends)
-
-
-def wide(folder):
-    """A night of more parts than one array of Slurm takes, and one whose tasks, each named, do not
-    fit into one word of a command, is given to it whole."""
-    root = common.make_root(folder + "/root", {})
-    for number in range(5200):
-        os.mkdir("%s/n-%04d" % (root, number))
-    nights = Together(folder + "/state", root)
-    for widest in (100001, 1001):
-        status, kinds, said, arrays = submitted(folder, nights, 5200, widest)
-        name = "arrays of less than %d: " % widest
-        is_so(name + "all parts", (status, said, kinds[-2:], tasks_in(arrays)),
-              (0, "", ["join", "tell"], len(nights.names())))
-        is_so(name + "each is taken", (kinds[:-2], [
-            array for array in arrays if tasks_in([array]) >= widest]),
-              (["parts"] * len(arrays), []))
-
-
-def no_arrays(folder):
-    """A Slurm that takes no arrays is named before anything is begun; one that refuses a job leaves
-    a night that is no good one."""
-    nights = Together(folder + "/state", make_root(folder, 12, faults=False))
-    status, kinds, said, _ = submitted(folder, nights, 4, 0)
-    is_so("none", (status, kinds, "MaxArraySize" in said, os.path.exists(nights.state)),
-          (3, [], True, False))
-    write(folder + "/bin/sbatch", "#!/bin/sh\necho no room >&2\nexit 1\n", 0o755)
-    write(folder + "/bin/scontrol", SCONTROL, 0o755)
-    status, out, said = ran([CONTRIB + "/slurm/submit", "--parts", "4", "--state", nights.state,
-                             nights.root], PATH=folder + "/bin:" + os.environ["PATH"])
-    is_so("refused", (status, out, "no room" in said), (3, "", True))
-    is_so("status", ran([REPORTS, "status", nights.state])[0], 2)
-
-
-PARTS = [moved, another_cursor, other_folders, copies, sizes, long_folder, without_locks, wide,
-         no_arrays]
+PARTS = [nobody_ran, nobody_ended, killed, broken, separators, interrupted, begin_refused, no_room,
+         for_tell, files_are_ones_own, links, another_user, other_folders, without_locks, by_cost]
 
 
 def tell(folder):

@@ -10,8 +10,8 @@ import os
 import subprocess
 
 import common
-from common import (PROGRAM, digest, is_so, make_object, make_root, note, put_inventory,
-                    shown_cursor, sound, write)
+from common import (PROGRAM, checkpoint_text, digest, is_so, make_object, make_root, note,
+                    put_inventory, shown_cursor, sound, write)
 from shared.shims import compiled
 
 OUT_OF_MEMORY = note("out of memory")
@@ -158,15 +158,18 @@ def refused_before_it_writes(refusing, folder, root):
 
 
 def shown(refusing, folder, root):
-    """What is shown of a cursor is whole, or nothing."""
+    """What is shown of a cursor or of a checkpoint is whole, or nothing."""
     file = os.path.join(folder, "shown")
     common.ran(["run", "--cursor", file, "--budget", "4", root])
-    text = shown_cursor(file)
-    odd = []
-    for call, (status, out, said) in refusing.each(["show", file]):
-        if (status, out, said) not in [(0, text, ""), (3, "", OUT_OF_MEMORY)]:
-            odd.append((call, status, out, said))
-    is_so("a cursor that is shown", odd, [])
+    checkpoint = write(os.path.join(folder, "checkpoint"), checkpoint_text())
+    for name, shown in [("cursor", file), ("checkpoint", checkpoint)]:
+        text = shown_cursor(shown)
+        is_so("a %s is shown" % name, isinstance(text, str), True)
+        odd = []
+        for call, (status, out, said) in refusing.each(["show", shown]):
+            if (status, out, said) not in [(0, text, ""), (3, "", OUT_OF_MEMORY)]:
+                odd.append((call, status, out, said))
+        is_so("a %s that is shown" % name, odd, [])
 
 
 ABC, NOTHING = b"abc", b""

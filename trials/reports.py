@@ -17,8 +17,9 @@ import common
 from common import PROGRAM, TOP, is_so
 from shared.nights import REPORTS, Nights, ask, is_found, ran, read, text_of, tried, write
 from shared.rules import codes_of_rules
+from shared.states import State
 
-PACKAGES = {"sqlite3": "sqlite3", "awk": "mawk", "gzip": "gzip"}
+PACKAGES = {"sqlite3": "sqlite3", "gzip": "gzip"}
 
 
 def tools():
@@ -85,8 +86,7 @@ def simple_questions(folder):
 
 
 NAMES = ["findings", "totals", "bytes", "changed", "json", "unverified", "database", "statement",
-         "verify", "premis", "status", "page", "recheck",
-         "tell"]
+         "finish", "verify", "premis", "status", "page", "recheck", "tell"]
 
 
 def commands(folder):
@@ -118,9 +118,9 @@ def no_reports(folder):
     """A log of nights, a statement and a text are no reports, and nothing is told of them."""
     nights = Nights(folder + "/nights", common.make_root(folder + "/small", {"o": {"v1/content/a":
                                                                                   b"a"}}))
-    nights.cycle()
+    nights.night()
     write(folder + "/text", "a text\n")
-    for file in [nights.path("nights"), nights.path("reports/statement-000001"), folder + "/text"]:
+    for file in [nights.path("log"), nights.path("reports/statement-000001"), folder + "/text"]:
         for words in [["findings"], ["findings", "--by-weight"], ["totals"], ["bytes"],
                       ["json"], ["changed", folder + "/plain"]]:
             status, out, said = ask(*words, file)
@@ -152,53 +152,43 @@ def changes(folder):
     is_so("unchanged", ask("changed", folder + "/older", folder + "/older"), (0, "", ""))
 
 
-# Two cycles and half of a third; of each night when it began, and the lines up to its end.
+# Two cycles and half of a third; of each when its nights began, and its lines.
 CYCLES = [
-    ([("2025-01-01T22:00:00Z", 4), ("2025-01-02T22:00:00Z", 7)], [
+    (["2025-01-01T22:00:00Z", "2025-01-02T22:00:00Z"], [
         ("ok", ".", "-"), ("ok", "o", "-"), ("ok", "o/v1/content/a", "3"),
         ("ok", 'o/v1/content/"b', "4"), ("ok", "o/v1/content/gone", "4"),
         ("ok", "o/v1/content/01", "4"), ("ok", "o/v1/content/z", "4")]),
-    ([("2025-02-01T22:00:00Z", 5), ("2025-02-02T22:00:00Z", 8)], [
+    (["2025-02-01T22:00:00Z", "2025-02-02T22:00:00Z"], [
         ("ok", ".", "-"), ("ok", "o", "-"), ("E092", "o/v1/content/a", "sha256 x y"),
         ("ok", 'o/v1/content/"b', "4"), ("E023", "o/v1/content/new", "-"),
         ("ok", "o/v1/content/1", "4"), ("ok", "o/v1/content/z", "4"), ("E025", '"p', '"a')]),
-    ([("2025-03-01T22:00:00Z", 4)], [
+    (["2025-03-01T22:00:00Z"], [
         ("ok", ".", "-"), ("ok", "o", "-"), ("E092", "o/v1/content/a", "sha256 x y"),
         ("ok", 'o/v1/content/"b', "4")]),
 ]
 
 
-def row(*columns):
-    """A row of the log."""
-    return columns + ("9", "1", "2", "100", "ab" * 32, "after o", columns[0])
-
-
-def make_state(state, cycles):
-    log = []
+def make_state(folder, cycles):
+    """A folder of the program's nights. A night of which the log does not say where it stopped may
+    have written any line."""
+    state = State(folder)
     for cycle, (nights, lines) in enumerate(cycles, 1):
         is_open = cycle == 3
-        report = "/report" if is_open else "/reports/cycle-%06d" % cycle
-        data = text_of(lines).encode()
-        if cycle == 1:
-            report, data = report + ".gz", gzip.compress(data)
-        write(state + report, data)
-        for run, (began, upto) in enumerate(nights, 1):
-            end = "open" if is_open or run < len(nights) else "ended"
-            said = "cycle %d, run %d, cost 9, %s" % (cycle, run, end)
-            log.append(row(began, "0", str(cycle), str(run), str(upto), "9", said))
-            log.append(row(began, "3", str(cycle), str(run), "0", "0", "stopped at o"))
-            log.append(row(began, "told", str(cycle), str(run), "99", "9", "status 0"))
-            log.append(row(began, "began", str(cycle), str(run), "99", "0", "budget 1"))
-    write(state + "/nights", text_of(log))
+        for number, began in enumerate(nights, 1):
+            state.night(began, cycle, 9, closes=None if is_open or number < len(nights) else {
+                "lines": text_of(lines), "packed": cycle == 1})
+            state.refuse(began.replace("T22", "T23"))
+        if is_open:
+            write(folder + "/report", text_of(lines))
 
 
 def verified(cycles):
     """When each content file was last found right, or `never`, and code and cycle of its last
-    line."""
+    line: the first night of a cycle counts, which is older than no reading."""
     content = {}
     for cycle, (nights, lines) in enumerate(cycles, 1):
-        for number, (code, path, detail) in enumerate(lines, 1):
-            began = min(night[0] for night in nights if night[1] >= number)
+        for code, path, detail in lines:
+            began = nights[0]
             if code == "ok" and detail != "-":
                 content[path] = (began, code, str(cycle))
             elif code in ("E023", "E092"):
@@ -229,14 +219,14 @@ def unverified_objects(folder):
     """Files of objects whose head stops, that are gone or lost their declaration, or a part."""
     objects = {name: {"v1/content/%d" % number: b"abc" for number in range(3)} for name in "ABCDE"}
     nights = Nights(folder + "/state", common.make_root(folder + "/root", objects))
-    nights.cycle()
+    nights.night()
     write(nights.root + "/A/inventory.json", "{")
     shutil.rmtree(nights.root + "/B")
     os.remove(nights.root + "/C/0=ocfl_object_1.1")
     shutil.rmtree(nights.root + "/D/v1")
     time.sleep(1.1)
     date = time.strftime("%Y-%m-%dT%H:%M:%SZ", time.gmtime())
-    nights.cycle()
+    nights.night()
     status, out, said = ask("unverified", date, nights.state)
     lines = [line.split("\t") for line in out.splitlines()]
     is_so("files that no night found right since", (status, [line[1] for line in lines], said), (

@@ -1,55 +1,71 @@
 #!/usr/bin/env python3
-"""Tries the nights of `contrib/slurm` on a Slurm of its own: an array of 24 parts. One task is
-queued again, one fails, one passes its time limit, and one runs twice at once; the controller is
-killed. The joined report of each cycle is the audit, except for the place that stands alone.
+"""Tries the nights of `contrib/slurm` on a Slurm of its own whose arrays have at most ten tasks, for
+14 parts: tasks that are queued again, that fail, that are made twice, that die at once; an array
+that is cancelled, a controller that is killed, a mail that is under way when its job is queued
+again. Then what `submit` does where Slurm refuses, with commands in its place.
 
-usage: slurm.py
+usage: slurm.py [PART]...
 """
 import os
 import re
+import shutil
 import subprocess
 import time
 
 import common
 from common import PROGRAM, is_so
-from shared.nights import CONTRIB, Nights, instead, ran, read, write
-from shared.parallel import (Place, Together, add_content, audit, findings, is_stated, make_root,
-                             without)
+from shared.nights import CONTRIB, ran, read, tried, write
+from shared.parallel import Together, audit, findings, is_stated, told_in
 from shared.slurm import Slurm
 
-BROKEN = "07/o-027/v1/content"
-# What the trial wants of a run of part K is in the files `slow-K`, `held-K` and `fails-K`.
-GUIDED = """part=
+PARTS = 14
+# What the trial wants of a night of part K is in the files `held-K` and `fails-K`.
+GUIDED = """#!/bin/sh
+[ "$1" = night ] || exec {program} "$@"
 for word in "$@"; do
-  [ "$before" != --cursor ] || part=${word%/cursor}
+  case $before in --part) part=$word ;; esac
   before=$word
 done
-part=${part##*/}
 if [ -e {folder}/fails-$part ]; then kill -KILL $$; fi
-if [ -e {folder}/slow-$part ]; then touch {folder}/begun-$part; sleep 20; fi
 while [ -e {folder}/held-$part ]; do touch {folder}/begun-$part; sleep 0.3; done
-exec {program} "$@\""""
+exec {program} "$@"
+"""
+# Takes a mail: the first one hangs.
+MAIL = """#!/bin/sh
+if [ ! -e {folder}/hung ]; then : > {folder}/hung; sleep 120; fi
+cat >> {folder}/mailed
+"""
 
 
-class Cluster:
-    """Nights over a root on a Slurm, and the jobs of the last one."""
+class Site:
+    """Nights over a small root, by scripts that lie where this trial can take some away."""
 
     def __init__(self, folder, slurm):
         self.folder, self.slurm = folder, slurm
-        self.root = make_root(folder, 60, faults=False)
-        add_content(self.root, os.path.dirname(os.path.dirname(BROKEN)), ["d", "e"])
+        self.root = common.make_root(folder + "/root", {
+            "o%02d" % number: {"v1/content/a": b"a"} for number in range(PARTS)})
+        write(self.root + "/o05/v1/content/a", "damaged")
+        self.scripts = shutil.copytree(CONTRIB, folder + "/contrib")
         self.nights = Together(folder + "/state", self.root)
-        self.program = instead(folder, "guided", GUIDED.replace("{folder}", folder))
-        self.audit = audit(self.root)
-        self.jobs = {}
+        write(folder + "/bin/mail", MAIL.replace("{folder}", folder), 0o755)
+        write(folder + "/guided", GUIDED.replace("{folder}", folder).replace("{program}", PROGRAM),
+              0o755)
+        self.jobs = []
 
-    def submit(self, *more, budget="1M", hours="0.5"):
-        words = [CONTRIB + "/slurm/submit", "--parts", "24", "--state", self.nights.state,
-                 "--budget", budget, "--hours", hours, *more, self.root]
-        status, out, said = ran(words, **{**self.slurm.how, "OCFL_SCRUB": self.program})
+    def words(self, *more):
+        return [self.scripts + "/slurm/submit", "--create", "--parts", str(PARTS), "--state",
+                self.nights.state, "--hours", "0.5", self.root, *more]
+
+    def submit(self, *more, **environment):
+        """A night, as the kinds and numbers of its jobs."""
+        status, out, said = ran(self.words(*more), **{
+            **self.slurm.how, "OCFL_SCRUB": self.folder + "/guided", **environment})
         is_so("submit", (status, said), (0, ""))
-        self.jobs = dict(line.split() for line in out.splitlines())
+        self.jobs = [tuple(line.split()) for line in out.splitlines()]
         return self.jobs
+
+    def numbers(self, kind):
+        return [number for of, number in self.jobs if of == kind]
 
     def mark(self, kind, part):
         write("%s/%s-%s" % (self.folder, kind, part), "")
@@ -58,123 +74,170 @@ class Cluster:
         os.remove("%s/%s-%s" % (self.folder, kind, part))
 
     def wait_for(self, part):
-        """Waits until a slow part runs."""
+        """Waits until a part that is held runs."""
         begun = "%s/begun-%s" % (self.folder, part)
         self.slurm.wait(lambda: os.path.exists(begun), "part %s" % part)
+        os.remove(begun)
 
-    def finish(self, limit=150):
-        """Waits until the jobs of the night have ended; what a killed controller lost is cancelled,
-        and the next night makes up for it."""
+    def finish(self, limit=90):
+        """Waits until the jobs of the night have ended; what a killed controller lost is
+        cancelled."""
         until = time.monotonic() + limit
         while self.slurm.left() and time.monotonic() < until:
-            time.sleep(0.3)
+            time.sleep(0.2)
         left = self.slurm.left()
         if left:
             print("cancelled: %s" % left)
             self.slurm.said(["scancel", *{row.split()[0].split("_")[0] for row in left}])
             self.slurm.wait(lambda: not self.slurm.left(), "the queue")
 
-    def state_of(self, kind):
-        return [row[0] for row in self.slurm.states(self.jobs[kind]).values()]
+    def said(self):
+        return "".join(read("%s/slurm/end-%s.out" % (self.nights.state, number)) or ""
+                       for number in self.numbers("end"))
 
-    def said(self, kind="tell"):
-        return read("%s/slurm/%s-%s.out" % (self.nights.state, kind, self.jobs[kind])) or ""
-
-    def closed(self, number):
-        for kind in ["cycle", "incomplete"]:
-            name = "%s-%06d" % (kind, number)
-            if self.nights.has("reports/" + name) is not None:
-                return name
-        return None
+    def is_told(self, name, parts):
+        """These parts are told as ones that made no night, and the night is no good one."""
+        is_so(name, (" in %s: " % parts in self.said(), self.nights.level()), (True, 2))
 
 
-def first_night(cluster):
-    """Tasks that are queued again, that fail, that pass their limit, that run twice."""
-    slurm = cluster.slurm
-    for kind, part in [("held", "2"), ("slow", "3"), ("held", "4"), ("fails", "5")]:
-        cluster.mark(kind, part)
-    cluster.submit("--minutes", "2", budget="1K")
-    array = cluster.jobs["parts"]
-    cluster.wait_for("2")
-    subprocess.run(["scontrol", "requeue", array + "_2"], env=slurm.how, check=True)
-    cluster.unmark("held", "2")
-    cluster.wait_for("4")
-    twice = subprocess.Popen([CONTRIB + "/parallel/part", "--wait", "--state",
-                              cluster.nights.state, "--part", "4", "--budget", "1K", cluster.root],
-                             env={**os.environ, "OCFL_SCRUB": cluster.program})
-    time.sleep(1)
-    cluster.unmark("held", "4")
-    cluster.finish()
-    is_so("the second of two at once", twice.wait(timeout=120), 0)
-    states = slurm.states(array)
-    is_so("the task that fails", states.get(array + "_5", [None])[0], "FAILED")
-    is_so("so nothing is joined", cluster.closed(1), None)
-    is_so("and it is said", "In part 5: the program was killed" in cluster.said(), True)
-    out = read("%s/slurm/part-%s_2.out" % (cluster.nights.state, array))
-    is_so("the task that was queued again", re.findall(r"started (\d) time", out), ["1", "2"])
-    part = Nights(cluster.nights.set() + "/3", cluster.root)
-    is_so("what passes its limit ends between two runs", (
-        states.get(array + "_3", [None])[0], part.rows("cut"), part.rows("ended"),
-        "was ended by SIGTERM" in (part.has("tonight") or "")), ("COMPLETED", [], [], True))
-    for kind, part in [("slow", "3"), ("fails", "5")]:
-        cluster.unmark(kind, part)
+def cancelled(site):
+    """An array that is cancelled before it begins."""
+    site.submit("--", "--begin=now+30", "--hold")
+    site.slurm.said(["scancel", *site.numbers("part")])
+    site.slurm.said(["scontrol", "update", "JobId=" + site.numbers("end")[0], "StartTime=now"])
+    site.slurm.said(["scontrol", "release", *site.numbers("end")])
+    site.finish()
+    site.is_told("an array that is cancelled", "parts 1-14")
 
 
-def usage(cluster):
-    """Words that a task or the join would refuse are refused before anything is submitted."""
-    for words in [["--keep", "0"], ["--budget", "4x"], ["--expected", cluster.folder + "/none"],
-                  ["--hours", "."]]:
-        status, _, said = ran([CONTRIB + "/slurm/submit", "--parts", "24", "--state",
-                               cluster.nights.state, *words, cluster.root], **cluster.slurm.how)
-        is_so("usage: " + words[0], (status, "try: slurm/submit --help" in said,
-                                     cluster.nights.set()), (2, True, None))
+def dying(site):
+    """Tasks that die at once: a script of theirs is missing on their node."""
+    os.rename(site.scripts + "/parallel/part", site.folder + "/part")
+    site.submit()
+    site.finish()
+    os.rename(site.folder + "/part", site.scripts + "/parallel/part")
+    site.is_told("tasks that die at once", "parts 1-14")
 
 
-def killed_controller(cluster):
-    """The controller is killed and started again while tasks run. It stores what it knows every few
-    seconds, and may forget or repeat what came after that."""
-    cluster.mark("held", "5")
-    cluster.submit(budget="2K")
-    cluster.wait_for("5")
+def requeued(site):
+    """A task is queued again, one fails, one is made twice."""
+    for kind, part in [("held", "2"), ("held", "4"), ("fails", "5")]:
+        site.mark(kind, part)
+    site.submit()
+    array = site.numbers("part")[0]
+    site.wait_for("2")
+    subprocess.run(["scontrol", "requeue", array + "_2"], env=site.slurm.how, check=True)
+    site.unmark("held", "2")
+    site.wait_for("4")
+    site.unmark("held", "4")
+    site.finish()
+    out = read(site.nights.path("slurm/part-2.out"))
+    is_so("the task that was queued again", re.findall(r"part 2 .*started (\d) time", out)[-2:],
+          ["1", "2"])
+    is_so("its part", site.nights.rows(2)[-1]["status"], 0)
+    site.is_told("the one that failed", "part 5")
+    is_so("findings fail no task", site.slurm.states(array).get(array + "_6", [None])[0],
+          "COMPLETED")
+    is_so("nothing is joined", site.nights.has("reports/cycle-000001"), None)
+    site.unmark("fails", "5")
+
+
+def killed_controller(site):
+    """The controller is killed and started again while a task runs. It may forget or repeat what
+    came in its last seconds."""
+    site.mark("held", "5")
+    site.submit()
+    site.wait_for("5")
     time.sleep(8)
-    cluster.slurm.kill_controller()
-    cluster.slurm.start_controller()
-    cluster.unmark("held", "5")
-    cluster.finish(60)
+    site.slurm.kill_controller()
+    site.slurm.start_controller()
+    site.unmark("held", "5")
+    site.finish(60)
+    for _ in range(3):
+        if site.nights.has("reports/cycle-000001") is None:
+            site.submit()
+            site.finish()
+    site.nights.is_audit("the cycle")
+    is_stated("its statement", site.nights, 1)
+    is_so("at the end no part waits", site.nights.level() in (0, 1), True)
 
 
-def further_nights(cluster, number, most=6):
-    """Nights until the cycle is closed."""
-    for _ in range(most):
-        if cluster.closed(number):
-            break
-        cluster.submit()
-        cluster.finish()
-    return cluster.closed(number)
+def told_again(site):
+    """More parts than an array has tasks are all audited; the job of the message is queued again
+    while its mail is under way, and then the mail is sent."""
+    site.submit("--at-once", "4", MAIL="her@example.org",
+                PATH=site.folder + "/bin:" + site.slurm.how["PATH"])
+    is_so("several arrays", len(site.numbers("part")), 2)
+    site.slurm.wait(lambda: os.path.exists(site.folder + "/hung"), "the mail", 90)
+    subprocess.run(["scontrol", "requeue", *site.numbers("end")], env=site.slurm.how, check=True)
+    site.finish()
+    site.nights.is_audit("the next cycle", 2)
+    mailed = read(site.folder + "/mailed") or ""
+    is_so("the mail", [line for line in mailed.splitlines(True) if line.count("\t") == 2],
+          sorted(findings(audit(site.root))))
+
+
+# In the place of Slurm: takes jobs as one with arrays of so many tasks does, and notes them.
+SBATCH = """#!/bin/sh
+for word in "$@"; do
+  case $word in --array=*) array=${word#--array=}; array=${array%%%*} ;; esac
+done
+if [ "${array##*[-,]}" -ge "${WIDEST:-1001}" ] 2> /dev/null || [ -e "$TAKEN.full" ]; then
+  echo "sbatch: error: Batch job submission failed: Invalid job array specification" >&2
+  exit 1
+fi
+echo "${array:-no array}" >> "$TAKEN"
+echo "1234567890123456789$(wc -l < "$TAKEN")"
+"""
+SCONTROL = """#!/bin/sh
+echo "MaxArraySize            = ${WIDEST:-1001}"
+"""
+
+
+def without_slurm(folder):
+    """A night of more parts than one array takes is given whole; a Slurm without arrays is named
+    before anything is begun; one that refuses a job leaves a night that is no good one."""
+    root = common.make_root(folder + "/root", {})
+    for number in range(1300):
+        os.mkdir("%s/n-%04d" % (root, number))
+    for name, text in [("sbatch", SBATCH), ("scontrol", SCONTROL), ("scancel", "#!/bin/sh\n")]:
+        write("%s/bin/%s" % (folder, name), text, 0o755)
+    taken = folder + "/taken"
+    for widest, arrays in [(0, None), (100001, ["1-1300"]), (501, ["1-500", "1-500", "1-300"])]:
+        nights = Together("%s/state-%d" % (folder, widest), root)
+        if os.path.exists(taken):
+            os.remove(taken)
+        status, out, said = submitted(folder, nights, widest)
+        if arrays is None:
+            is_so("no arrays", (status, out, "MaxArraySize" in said, os.path.exists(nights.state)),
+                  (3, "", True, False))
+            continue
+        is_so("arrays of less than %d" % widest, (status, said, read(taken).splitlines()),
+              (0, "", [*arrays, "no array"]))
+    write(taken + ".full", "")
+    status, out, said = submitted(folder, nights, 501)
+    is_so("refused", (status, "Slurm did not take all jobs" in said, nights.level()), (3, True, 2))
+    is_so("the parts are told", " in parts 1-1300: " in out, True)
+    for words in [["--hours", "x"], ["--budget", "4x"], ["--at-once", "x"]]:
+        new = Together(folder + "/new", root)
+        status, _, _ = submitted(folder, new, 501, *words)
+        is_so("usage: %s" % words, (status, os.path.exists(new.path("parts"))), (2, False))
+
+
+def submitted(folder, nights, widest, *more):
+    return ran([CONTRIB + "/slurm/submit", "--create", "--parts", "1300", "--state", nights.state,
+                *more, nights.root], PATH=folder + "/bin:" + os.environ["PATH"],
+               WIDEST=str(widest), TAKEN=folder + "/taken")
 
 
 def tell(folder):
-    with Slurm() as slurm:
-        cluster = Cluster(folder, slurm)
-        broken = Place(cluster.root, BROKEN)
-        broken.spoil()
-        usage(cluster)
-        first_night(cluster)
-        killed_controller(cluster)
-        report = further_nights(cluster, 1)
-        is_so("the first cycle is not whole", report, "incomplete-000001")
-        is_so("it is the audit but for the place that stands alone",
-              cluster.nights.has("reports/%s" % report), without(cluster.audit, BROKEN))
-        is_stated("its statement", cluster.nights, report)
-        is_so("it was joined by a job", cluster.state_of("join"), ["COMPLETED"])
-        is_so("which is told", "report is not whole: reports/%s" % report in cluster.said(), True)
-        broken.mend()
-        report = further_nights(cluster, 2)
-        is_so("the second cycle is whole", report, "cycle-000002")
-        is_so("it is the audit", cluster.nights.has("reports/%s" % report), cluster.audit)
-        is_stated("its statement too", cluster.nights, report)
-        is_so("a finding is told", any(line in cluster.said() for line in findings(cluster.audit)),
-              True)
+    with Slurm(more="MaxArraySize=11\n") as slurm:
+        os.mkdir(folder + "/site")
+        site = Site(folder + "/site", slurm)
+        for part in (cancelled, dying, requeued, killed_controller, told_again):
+            tried(part, site)
+    os.mkdir(folder + "/none")
+    tried(without_slurm, folder + "/none")
 
 
 common.trial(tell, needs=["slurmctld"])

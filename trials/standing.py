@@ -27,12 +27,11 @@ def status(state, *words, now="2026-03-10T05:00:00Z"):
 def standing(folder, root="/srv/ocfl"):
     """Cycle 1 of cost 100 in four nights, and two nights of cycle 2, of cost 30."""
     state = State(folder + "/state", root)
-    for run in range(1, 5):
-        state.night("2026-03-0%dT22:00:00Z" % run, 1, run, 3, 25,
-                    stands="ended" if run == 4 else "after o")
-    state.close("2026-03-04T23:00:00Z", 1, lines=LINES)
-    state.night("2026-03-08T22:00:00Z", 2, 1, 3, 14)
-    state.night("2026-03-09T22:00:00Z", 2, 2, 5, 16)
+    for night in range(1, 5):
+        state.night("2026-03-0%dT22:00:00Z" % night, 1, 25, closes=None if night < 4 else {
+            "at": "2026-03-04T23:00:00Z", "lines": LINES})
+    state.night("2026-03-08T22:00:00Z", 2, 14)
+    state.night("2026-03-09T22:00:00Z", 2, 16)
     write(state.path + "/report", "".join(LINES[0:1] + [line("ok", "o")]))
     return state
 
@@ -91,64 +90,42 @@ def troubled(folder):
         given = status(state, *quiet, now=now)
         is_so(name, (given[0], text in given[1]), (level, True))
 
-    def night(code, told=True):
-        return lambda state: state.night("2026-03-10T22:00:00Z", 2, 3, 5, 0, code, told=told)
+    def night(code):
+        return lambda state: state.night("2026-03-10T22:00:00Z", 2, 0, code, said="stopped at o")
 
     after("a stop", night(3), 2, "ended with status 3")
-    after("a refused cursor", night(4), 2, "ended with status 4")
-    after("a killed program", night(137), 2, "ended with status 137")
+    after("a refused checkpoint", night(4), 2, "ended with status 4")
     after("findings of a night", night(1), 0, "status 1")
-    after("a night that was refused", lambda state: state.tell("2026-03-10T22:00:00Z", 2, 2, 3), 2,
+    after("a night that was refused", lambda state: state.refuse("2026-03-10T22:00:00Z"), 2,
           "last night 2026-03-10T22:00:00Z, status 3")
-    after("a night under way", lambda state: state.begin("2026-03-10T22:00:00Z", 2, 3), 0,
-          "status 0, under way;")
 
-    def stopped_before(state):
-        state.night("2026-03-09T23:00:00Z", 2, 3, 5, 0, 3)
-        state.begin("2026-03-10T22:00:00Z", 2, 4)
+    def refused_and_made(state):
+        state.refuse("2026-03-09T23:00:00Z")
+        state.night("2026-03-10T22:00:00Z", 2, 9)
 
-    after("a stop before the night under way", stopped_before, 2, "status 3, under way;")
+    after("a refused night and a good one", refused_and_made, 0, "status 0; cycle 2 is open")
+    after("lost lines", lambda state: state.stand("after o", whole="no"), 1, "cycle 2 lost lines")
 
-    def slices(state):
-        state.night("2026-03-10T22:00:00Z", 2, 3, 5, 1, 3, told=False)
-        state.night("2026-03-10T22:00:00Z", 2, 4, 5, 1, 0, told=False)
-
-    after("the worst of the slices", slices, 2, "status 3, under way;")
-
-    def cut(state):
-        state.begin("2026-03-09T23:00:00Z", 2, 3)
-        state.cut("2026-03-09T23:00:00Z", 2, 2, 5)
-        state.night("2026-03-10T22:00:00Z", 2, 3, 5, 9)
-
-    after("a cut night", cut, 1, "a night was cut; ")
-    after("lost lines", lambda state: state.row(
-        "2026-03-10T22:00:00Z", "lost", 2, 2, 1, 0, "lost 4 of 5 lines", "after o",
-        "2026-03-10T22:00:00Z"), 1, "cycle 2 lost lines")
-
-    def closes(said, form="cycle"):
+    def closes(gone="", whole=True):
         def close(state):
-            state.night("2026-03-10T22:00:00Z", 2, 3, 9, 70, stands="ended")
-            state.close("2026-03-10T23:00:00Z", 2, said, LINES, form)
+            state.night("2026-03-10T22:00:00Z", 2, 70, closes={
+                "at": "2026-03-10T23:00:00Z", "gone": gone, "lines": LINES, "whole": whole})
             os.remove(state.path + "/report")
         return close
 
-    after("gone", closes("whole; findings none; compared 1; gone 1 objects 0 files"), 1,
-          "1 object(s) and 0 file(s) are gone")
-    after("an expected object", closes(
-        "whole; findings none; compared 1; gone 0 objects 0 files; expected 2"), 1,
+    after("gone", closes("object\tp\n"), 1, "1 object(s) and 0 file(s) are gone")
+    after("an expected object", closes("expected\tx\nexpected\ty\n"), 1,
           ": 2 expected object(s) are missing; ")
+
     def no_longer_expected(state):
-        closes("whole; findings none; compared 1; gone 0 objects 0 files; expected 2")(state)
-        state.night("2026-03-10T23:30:00Z", 3, 1, 9, 70, stands="ended")
-        state.close("2026-03-10T23:40:00Z", 3, lines=LINES)
+        closes("expected\tx\nexpected\ty\n")(state)
+        state.night("2026-03-10T23:30:00Z", 3, 70, closes={"lines": LINES})
 
     after("nothing is expected any more", no_longer_expected, 0, "cycle 3 has ended")
-    after("nothing gone", closes("whole; findings none; compared 1; gone 0 objects 0 files"), 0,
+    after("nothing gone", closes(), 0,
           "cycle 2 has ended; last whole cycle 2 on 2026-03-10")
-    after("an incomplete report", closes("incomplete lost lines; findings none; compared nothing; "
-                                         "gone 0 objects 0 files", "incomplete"), 1,
-          "the report of cycle 2 is not whole")
-    after("many nights", lambda state: state.night("2026-03-10T22:00:00Z", 2, 3, 5, 90), 0,
+    after("an incomplete report", closes(whole=False), 1, "the report of cycle 2 is not whole")
+    after("many nights", lambda state: state.night("2026-03-10T22:00:00Z", 2, 90), 0,
           "99 of 100 done, 1 night(s) left")
 
 
@@ -204,7 +181,6 @@ def open_findings(folder):
 
 def metrics(folder):
     state = standing(folder, 'a"b\\c')
-    state.begin("2026-03-09T22:00:00Z", 2, 2)
     file = folder + "/prom/ocfl.prom"
     os.makedirs(folder + "/prom")
     is_so("metrics", status(state, "--prometheus", file)[0], 2)
@@ -212,7 +188,7 @@ def metrics(folder):
     wanted = {"last_night_timestamp_seconds": "1773093600", "last_night_age_seconds": "25200",
               "last_night_status": "0", "last_night_run_seconds": "60", "cycle": "2",
               "cycle_read_bytes": "28", "cycle_read_files": "2", "closed_cycle": "1",
-              "closed_cycle_read_bytes": "96", "closed_cycle_read_files": "4",
+              "closed_cycle_cost": "100",
               "closed_cycle_whole": "1", "cycle_progress_ratio": "0.3", "nights_left": "5",
               "whole_cycle_timestamp_seconds": "1772665200", "gone_objects": "0", "gone_files": "0",
               "expected_objects_missing": "0", "known_findings": "0", "damaged": "1",
@@ -235,11 +211,11 @@ def metrics(folder):
     is_so("no night", status(empty, "--prometheus", file)[0], 3)
     is_so("its time", "last_night_timestamp_seconds{root=\"/srv/ocfl\",state=\"%s\"} 0\n"
           % empty.path in read(file), True)
-    log = common.read(state.path + "/nights")
+    log = common.read(state.path + "/log")
     before = common.snapshot(state.path)
     status(state)
     is_so("nothing is changed", (common.snapshot(state.path) == before,
-                                 common.read(state.path + "/nights") == log), (True, True))
+                                 common.read(state.path + "/log") == log), (True, True))
 
 
 # What a status must not say
@@ -252,12 +228,9 @@ def closed(folder, reports, opened=()):
     """A folder with these closed reports, as forms and lines, and the open one."""
     state = State(folder)
     for cycle, (form, lines) in enumerate(reports, 1):
-        night = "2026-03-0%dT22:00:00Z" % cycle
-        state.night(night, cycle, 1, len(lines), 100, stands="ended")
-        whole = "whole" if form == "cycle" else "incomplete lost lines"
-        state.close(night, cycle, whole + "; findings none; compared nothing; gone 0 objects 0 "
-                    "files", lines, form, packed=cycle < len(reports))
-    state.night("2026-03-09T22:00:00Z", len(reports) + 1, 1, len(opened), 5)
+        state.night("2026-03-0%dT22:00:00Z" % cycle, cycle, 100, closes={
+            "lines": lines, "whole": form == "cycle", "packed": cycle < len(reports)})
+    state.night("2026-03-09T22:00:00Z", len(reports) + 1, 5)
     write(state.path + "/report", "".join(opened))
     return state
 
@@ -322,21 +295,19 @@ def refused(folder):
     """A night that was refused is of no cycle."""
     nights = Nights(folder + "/state", make_root(folder + "/root"))
     call = [REPORTS, "status", nights.state]
+    nights.part()
     os.rename(nights.root, nights.root + ".away")
-    is_so("refused", nights.night("4")[0], 3)
-    given, out, _ = ran(call)
-    is_so("before the first cycle", (given, re.findall("cycle +[0-9]*(?: is| has)", out)), (2, []))
-    os.rename(nights.root + ".away", nights.root)
-    nights.night("4")
-    os.rename(nights.root, nights.root + ".away")
-    nights.night("4")
+    os.mkdir(nights.root)
+    is_so("refused", nights.night()[0], 3)
     given, out, _ = ran(call)
     is_so("in the first cycle", (given, re.findall("cycle [0-9]* (?:is open|has ended)", out)),
           (2, ["cycle 1 is open"]))
+    os.rmdir(nights.root)
     os.rename(nights.root + ".away", nights.root)
-    nights.night("1K")
+    nights.night()
     os.rename(nights.root, nights.root + ".away")
-    nights.night("4")
+    os.mkdir(nights.root)
+    nights.night()
     given, out, _ = ran([*call, "--prometheus", folder + "/x.prom"])
     is_so("after it", (given, re.findall("cycle [0-9]* (?:is open|has ended)|of 100", out)),
           (2, ["cycle 1 has ended"]))
@@ -348,7 +319,7 @@ def missing(folder):
     """Objects that are expected and missing are called so."""
     nights = Nights(folder + "/state", make_root(folder + "/root"))
     expected = write(folder + "/expected", "o\nx\ny\n")
-    nights.night("1K", more=["--expected", expected])
+    nights.night("--expected", expected)
     given, out, _ = ran([REPORTS, "status", nights.state])
     is_so("two expected objects", (given, "2 expected object" in out, "0 object" in out,
                                    " gone=2;" in out), (1, True, False, True))
@@ -361,7 +332,7 @@ def mended(folder):
     files = [nights.root + "/%s/v1/content/f" % name for name in "abc"]
     for file in files[:2]:
         write(file, "x")
-    nights.cycle()
+    nights.night()
     found = listed(nights)
     call = [REPORTS, "recheck", nights.state]
     is_so("nothing is mended", ran(call), (1, "".join("open\t" + text for text in found), ""))
@@ -391,12 +362,12 @@ def losses(folder):
         return given, re.findall(r" gone=(\d+)", out), out.splitlines()[1:], re.findall(
             r"ocfl_scrub_gone_(?:objects|files)\{.*\} (\d+)", read(folder + "/x.prom"))
 
-    nights.cycle()
+    nights.night()
     is_so("nothing is gone", gone(), (0, ["0"], [], ["0", "0"]))
     os.rename(nights.root + "/b", folder + "/b")
     lost = ["object\tb", "file\tb/v1/content/f"]
     for cycle in ["2", "3", "4"]:
-        nights.cycle()
+        nights.night()
         is_so("gone after cycle " + cycle, gone(), (1, ["2"], lost, ["1", "1"]))
     text = nights.has("reports/statement-000004")
     is_so("in a later statement", re.findall("(?m)^(?:Objects|Files) gone.*", text), [
@@ -407,8 +378,8 @@ def losses(folder):
     write(known, "object\tb\nfile\tb/\n")
     is_so("all of it is known", gone("--known", known), (0, ["0"], [], ["0", "0"]))
     os.rename(folder + "/b", nights.root + "/b")
-    nights.night("1")
-    nights.night("1K")
+    nights.part()
+    nights.night()
     is_so("back", gone(), (0, ["0"], [], ["0", "0"]))
     text = nights.has("reports/statement-000005")
     is_so("in its statement", re.findall("(?m)^Objects gone and.*", text),
@@ -465,7 +436,7 @@ def strange_paths(folder):
 
 
 def tell(folder):
-    tools({"awk": "mawk", "gzip": "gzip"})
+    tools({"gzip": "gzip"})
     for part in [statuses, troubled, open_findings, metrics, not_whole, is_known, once,
                  refused, missing, losses, mended, page, strange_paths]:
         os.mkdir(os.path.join(folder, part.__name__))

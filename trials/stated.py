@@ -1,23 +1,20 @@
 #!/usr/bin/env python3
-"""Tries what statements and PREMIS events say of nights that were made: by which programs, over
-which root, which places were left out; and what `verify-statement` could check.
+"""Tries what statements and PREMIS events say of nights that were made: by which program, since
+when, over which root; and what `verify` could check.
 
 usage: stated.py [PART]...
 """
 import os
 import re
 import shutil
-import time
 
 import common
 from common import PROGRAM, digest, is_so
-from shared.nights import CONTRIB, REPORTS, Nights, ask, make_root, ran, read, tried_apart, write
+from shared.nights import Nights, ask, make_root, read, tried_apart, write
 
 
 def lines_of(nights, cycle):
-    """The lines of a statement, by their names."""
-    text = nights.has("reports/statement-%06d" % cycle) or ""
-    return dict(row.split(": ", 1) for row in text.splitlines()[2:])
+    return nights.lines(cycle)
 
 
 def file_of(nights, cycle):
@@ -30,117 +27,49 @@ def verified(statement, *report):
 
 # Programs
 
-def another_program(folder):
-    """The program with other bytes, which does the same."""
-    file = folder + "/another"
-    shutil.copy(PROGRAM, file)
-    with open(file, "ab") as program:
-        program.write(b"\n#\n")
-    os.chmod(file, 0o755)
-    return file
-
-
-def named(text, programs):
-    return [digest(common.read(program)) in (text or "") for program in programs]
-
-
-def two_programs(folder):
-    """A program that is exchanged in the middle of a cycle is named, and so is the other one."""
+def programs(folder):
+    """A statement names the program that is there when it is made, and those of its nights."""
     nights = Nights(folder + "/state", make_root(folder + "/root"))
-    both = [PROGRAM, another_program(folder)]
-    nights.night("4")
-    nights.night("1K", program=both[1])
-    text = nights.has("reports/statement-000001")
-    is_so("both programs are named", named(text, both), [True, True])
+    another = folder + "/another"
+    shutil.copy(PROGRAM, another)
+    with open(another, "ab") as program:
+        program.write(b"\n#\n")
+    nights.part()
+    nights.night(program=another)
+    lines = lines_of(nights, 1)
+    is_so("the program", (lines.get("Program SHA-256"), lines.get("Programs of its runs, SHA-256")),
+          (digest(common.read(another)),
+           "%s %s" % (digest(common.read(PROGRAM)), digest(common.read(another)))))
     is_so("it is what was made", verified(file_of(nights, 1))[0], 0)
-    for words in [[], ["--each", "finding"], ["--each", "object"]]:
-        status, events, _ = ask("premis", *words, nights.state, "1")
-        expected = [False, False] if "finding" in words else [True, True]
-        links = "".join(re.findall("linkingAgentIdentifierValue>(.*?)<", events))
-        is_so("events %s of both" % words, (status, named(links, both)), (0, expected))
-    nights.cycle()
-    is_so("one program", named(nights.has("reports/statement-000002"), both), [True, False])
-    for end in ["", ".json"]:
-        os.remove(file_of(nights, 2) + end)
-    is_so("made by hand later", ask("statement", nights.state, "2", OCFL_SCRUB=both[1])[0], 0)
-    is_so("the program of the runs", named(nights.has("reports/statement-000002"), both[:1]),
-          [True])
-    events = ask("premis", nights.state, "2")[1]
-    links = "".join(re.findall("linkingAgentIdentifierValue>(.*?)<", events))
-    is_so("its events", named(links, both), [True, False])
+    links = re.findall("linkingAgentIdentifierValue>(.*?)<", ask("premis", nights.state, "1")[1])
+    is_so("its events", [digest(common.read(another)) in link for link in links], [False, True])
 
 
-def two_programs_of_parts(folder):
-    """The same of a cycle whose parts were joined."""
-    objects = {name: {"v1/content/f": name.encode()} for name in "abcd"}
-    nights = Nights(folder + "/state", common.make_root(folder + "/root", objects))
-    both = [PROGRAM, another_program(folder)]
-    for program, budget in [(both[0], "1"), (both[1], "1K")]:
-        together(nights, program=program, budget=budget)
-    is_so("both programs of the parts", named(nights.has("reports/statement-000001"), both),
-          [True, True])
+# Nights
 
-
-def together(nights, program=PROGRAM, budget="1K", parts="2"):
-    """A night of all parts. Two nights in one second would be taken for one."""
-    done = ran([CONTRIB + "/parallel/nightly", "--jobs", "2", "--parts", parts, "--state",
-                nights.state, "--budget", budget, nights.root], OCFL_SCRUB=program)
-    time.sleep(1.1)
-    return done
-
-
-# Places that were left out
-
-def left_out(folder):
-    """A folder that cannot be listed any more: it is named, its object is not called one without
-    findings, and what was found in it before stays open."""
-    objects = {name: {"v1/content/f": name.encode()} for name in "abcd"}
-    nights = Nights(folder + "/state", common.make_root(folder + "/root", objects))
-    write(nights.root + "/b/v1/content/f", "damaged")
-    together(nights)
-    with open(os.fsencode(nights.root) + b"/b/v1/content/\xff", "w"):
-        pass
-    for _ in range(4):
-        together(nights)
-        if os.path.exists(file_of(nights, 2)):
-            break
-    lines = lines_of(nights, 2)
-    is_so("a cycle that left something out", [lines.get(name) for name in [
-        "Whole", "Objects", "Objects without findings", "Places not audited"]],
-          ["no", "4", "3", "1"])
-    is_so("the place is named", "b/v1/content" in lines.values(), True)
-    listed = ran([REPORTS, "status", "--list", nights.state])[1].splitlines()[1:]
-    is_so("what is open", [row.split("\t")[:2] for row in listed], [["E092", "b/v1/content/f"]])
-    lists_of_it(nights, lines)
-
-
-def lists_of_it(nights, lines):
-    """The lists beside such a statement, changed and missing."""
-    file = file_of(nights, 2)
-    unread = nights.path("reports/unread-000002")
-    is_so("the list is sealed by its digest", digest(common.read(unread)) in lines.values(), True)
-    is_so("all of it holds", verified(file)[0], 0)
-    kept = common.read(unread)
-    write(unread, "c/v1/content\n")
-    is_so("another place", verified(file)[0], 1)
-    os.remove(unread)
-    status, out, _ = verified(file)
-    is_so("no list of them", (status, "unread-000002" in out, "Objects without findings" in out),
-          (4, True, True))
-    write(unread, kept)
-    os.remove(nights.path("reports/separators-000002"))
-    status, out, _ = verified(file)
-    is_so("no separators", (status, "separators-000002" in out), (4, True))
+def oldest(folder):
+    """No verification of a cycle is older than its statement says, also where the log lacks a
+    night that was killed."""
+    nights = Nights(folder + "/state", make_root(folder + "/root"))
+    nights.night()
+    nights.part()
+    rows = nights.has("log").splitlines(True)
+    write(nights.path("log"), "".join(rows[:-1]))
+    nights.night()
+    closed, oldest = lines_of(nights, 1).get("Closed"), lines_of(nights, 2).get(
+        "Oldest verification")
+    is_so("the cycle may have begun when the one before was closed", oldest, closed)
+    is_so("it is what was made", verified(file_of(nights, 2))[0], 0)
 
 
 def lost_lines(folder):
     """Of a report that lost lines nobody can say which objects have no findings."""
     nights = Nights(folder + "/state", make_root(folder + "/root"))
     write(nights.root + "/o/v1/content/a", "b")
-    nights.night("2")
+    nights.part()
     kept = nights.has("report").splitlines(True)
     write(nights.path("report"), "".join(row for row in kept if not row.startswith("E092")))
-    nights.cycle()
+    nights.night()
     lines = lines_of(nights, 1)
     is_so("a cycle that lost a finding", [lines.get(name) for name in [
         "Whole", "Findings", "Objects without findings"]], ["no", "0", "not known"])
@@ -152,7 +81,7 @@ def ends_of_parts(folder):
     nights = Nights(folder + "/state", make_root(folder + "/root"))
     parts = folder + "/parts"
     write(parts, "o/v1/content/a%01\no/v1/content/c%25\n")
-    nights.night("1K", more=["--parts", parts, "--part", "2"])
+    nights.night("--parts", parts, "--part", "2")
     lines = lines_of(nights, 1)
     is_so("the ends of a part", [lines.get("Part from"), lines.get("Part below")],
           ["o/v1/content/a%01", "o/v1/content/c%25"])
@@ -161,37 +90,13 @@ def ends_of_parts(folder):
 
 # Roots
 
-def moved(nights, to, budget):
-    """A night over the root, which was moved."""
-    os.rename(nights.root, to)
-    before, nights.root = nights.root, to
-    nights.night(budget, more=["--root-changed"])
-    return before
-
-
-def changed_roots(folder):
-    """A root that changed stands in the statement of the runs that it had."""
-    nights = Nights(folder + "/state", make_root(folder + "/root"))
-    nights.cycle()
-    moves = [(2, moved(nights, folder + "/second", "1K"))]
-    nights.night("4")
-    moves.append((3, moved(nights, folder + "/third", "1K")))
-    nights.cycle()
-    for (cycle, before), now in zip(moves, ["/second", "/third"]):
-        said = [value for name, value in lines_of(nights, cycle).items()
-                if name.startswith("Root changed")]
-        is_so("the root of cycle %d" % cycle, said, ["it was %s, and is now %s"
-                                                     % (before, folder + now)])
-    is_so("no other cycle says so", ["Root changed" in (nights.has(
-        "reports/statement-%06d" % cycle) or "Root changed") for cycle in [1, 4]], [False, False])
-
-
 def declaration(folder):
-    """The digest of a declaration is that of the file."""
+    """The digest of the declaration is that of what `sha256sum` says of its files."""
     nights = Nights(folder + "/state", make_root(folder + "/root"))
-    nights.cycle()
-    is_so("the digest of the declaration", lines_of(nights, 1).get("Declaration SHA-256"),
-          digest(common.read(nights.root + "/0=ocfl_1.1")))
+    nights.night()
+    sums = "%s  0=ocfl_1.1\n" % digest(common.read(nights.root + "/0=ocfl_1.1"))
+    is_so("the digest of the declaration", lines_of(nights, 1).get("Declaration sums SHA-256"),
+          digest(sums.encode()))
 
 
 # Folders of state
@@ -202,7 +107,7 @@ def two_folders(folder):
     ids = []
     for name in ["one", "two\nlines"]:
         nights = Nights(folder + "/" + name, folder + "/root")
-        nights.cycle()
+        nights.night()
         for words in [[], ["--each", "object"]]:
             status, events, _ = ask("premis", *words, nights.state, "1")
             found = re.findall("<eventIdentifierValue>(.*?)<", events, re.S)
@@ -213,8 +118,7 @@ def two_folders(folder):
         is_so("the statement holds", verified(file_of(nights, 1))[0], 0)
     nights = Nights(folder + "/one", folder + "/root")
     shutil.rmtree(nights.state)
-    time.sleep(1.1)
-    nights.cycle()
+    nights.night()
     ids += re.findall("<eventIdentifierValue>(.*?)<", ask("premis", nights.state, "1")[1])
     is_so("no two events have one identifier", (len(ids), len(set(ids))), (5, 5))
 
@@ -233,14 +137,15 @@ def away(nights, folder, names):
 def checking(folder):
     """What lies beside a statement can be checked, and what cannot is named."""
     nights = Nights(folder + "/state", make_root(folder + "/root"))
-    nights.cycle()
+    nights.night()
     os.remove(nights.root + "/o/v1/content/c")
     shutil.copytree(nights.root + "/o", nights.root + "/p")
-    nights.cycle()
+    nights.night()
     shutil.rmtree(nights.root + "/p")
-    nights.cycle()
-    nights.night("4")
-    names = ["statement-000003", "cycle-000003", "statement-000003.json", "gone-000003"]
+    nights.night()
+    nights.part()
+    names = ["statement-000003", "cycle-000003", "statement-000003.json", "gone-000003",
+             "cycle-000002", "statement-000002"]
     there = folder + "/away"
 
     def copied(names):
@@ -262,15 +167,15 @@ def checking(folder):
 def losses(folder):
     """The event of a cycle that no longer found something is no pass."""
     nights = Nights(folder + "/state", make_root(folder + "/root"))
-    nights.cycle()
+    nights.night()
     is_so("nothing is lost", outcomes(nights, 1), ["pass"])
     shutil.copytree(nights.root + "/o", nights.root + "/p")
-    nights.cycle()
+    nights.night()
     shutil.rmtree(nights.root + "/p")
-    nights.cycle()
+    nights.night()
     is_so("an object is lost", outcomes(nights, 3), ["fail"])
     write(folder + "/expected", "o\nq\n")
-    nights.night("1K", more=["--expected", folder + "/expected"])
+    nights.night("--expected", folder + "/expected")
     is_so("an expected object is missing", outcomes(nights, 4), ["fail"])
 
 
@@ -286,7 +191,7 @@ def forged(nights, copied, names):
                           ("a line of another cycle", text + "Not audited: o\n"),
                           ("a code that is none", text + "Findings of all: 0\n"),
                           ("a line less", re.sub("\nHost: .*", "", text)),
-                          ("a line twice", text + "Cut nights: 0\n"),
+                          ("a line twice", text + "Lost lines: none\n"),
                           ("another cycle", text.replace("\nCycle: 3\n", "\nCycle: 03\n"))]:
         file = copied(names[:2] + names[3:])
         write(file, changed)
@@ -309,7 +214,7 @@ def chained(folder):
     """A statement has the digest of the one before, so that none can be changed alone."""
     nights = Nights(folder + "/state", make_root(folder + "/root"))
     for _ in range(2):
-        nights.cycle()
+        nights.night()
     first = file_of(nights, 1)
     name = "Statement before, SHA-256"
     is_so("the statement before", [lines_of(nights, cycle).get(name) for cycle in [1, 2]],
@@ -323,7 +228,7 @@ def chained(folder):
 def no_list(folder):
     """What is gone without a list of it."""
     nights = Nights(folder + "/state", make_root(folder + "/root"))
-    nights.cycle()
+    nights.night()
     file = file_of(nights, 1)
     text = read(file)
     write(file, text.replace("Objects gone: not known", "Objects gone: 2"))
@@ -336,7 +241,7 @@ def no_list(folder):
 def copies_are_no_seals(folder):
     """A copy that somebody made of a statement is no seal of it."""
     nights = Nights(folder + "/state", make_root(folder + "/root"))
-    nights.cycle()
+    nights.night()
     file = file_of(nights, 1)
     seal = ["--seal", 'rev "$1" > "$1.rev"', nights.state, "1"]
     for name in ["bak", "orig", "json.bak"]:
@@ -351,12 +256,12 @@ def copies_are_no_seals(folder):
           (0, False))
 
 
-PARTS = [two_programs, two_programs_of_parts, left_out, lost_lines, ends_of_parts, changed_roots,
-         declaration, two_folders, checking, losses, chained, no_list, copies_are_no_seals]
+PARTS = [programs, oldest, lost_lines, ends_of_parts, declaration, two_folders, checking, losses,
+         chained, no_list, copies_are_no_seals]
 
 
 def tell(folder):
     tried_apart(PARTS, folder)
 
 
-common.trial(tell, needs=["parallel"])
+common.trial(tell)

@@ -103,16 +103,16 @@ def table_of_codes():
 TEXT = """ocfl-scrub statement 1
 
 Storage root: /srv/ocfl%09"\\%C3%BC%25|
-Declaration SHA-256: {declaration}
+Declaration sums SHA-256: {declaration}
 State folder: {state}
 Host: {host}
 Cycle: 2
 First night: 2026-02-01T22:00:00Z
 Last night: 2026-02-03T22:00:00Z
+Oldest verification: 2026-01-01T23:00:00Z
 Closed: 2026-02-03T23:00:00Z
-Nights: 3
+Nights: 2
 Runs: 2
-Cut nights: 1
 Lost lines: none
 Report: cycle-000002
 Whole: yes
@@ -123,13 +123,19 @@ Objects: 4
 Objects without findings: 2
 Content files: 5
 Files found right: 4
+Files not found right: 1
 Bytes found right: 9223372036854775811
 Findings: 4
 Findings E007: 1
 Findings E023: 1
 Findings E072: 1
 Findings S08: 1
+Algorithms of wrong digests: none
+Algorithms not computed: x 2
 Compared with cycle: 1
+Report compared with, SHA-256: {earlier}
+New findings: 4
+Former findings: 0
 Objects gone: 1
 Files gone: 2
 List of what is gone, SHA-256: {gone}
@@ -143,18 +149,22 @@ Program file dated: 2026-01-01T00:00:00Z
 Programs of its runs, SHA-256: not known
 Statement before, SHA-256: no statement
 Not looked at: {not_looked_at}
+Not said: {not_said}
 """
 
 
 NOT_LOOKED_AT = "versions, states and ids of inventories; inventories of versions; logs and " \
     "extensions; files of objects whose inventory cannot be used"
+NOT_SAID = "whether bytes came from the medium or from a cache; whether the clock was right; what " \
+    "became of a file after it was read"
 
 
 def text_of(made, state):
     """The statement of the second cycle of `audited`, by this program."""
     return TEXT.format(declaration="d" * 64, state=state.path, host=os.uname().nodename,
                        gone=digest(GONE.encode()), program=digest(common.read(made)),
-                       digest=digest("".join(LINES).encode()), not_looked_at=NOT_LOOKED_AT)
+                       digest=digest("".join(LINES).encode()), not_looked_at=NOT_LOOKED_AT,
+                       earlier=digest(LINES[0].encode()), not_said=NOT_SAID)
 
 
 def statement(folder):
@@ -164,17 +174,17 @@ def statement(folder):
     is_so("its text", state.has("reports/statement-000002"), text)
     is_so("the same as JSON", json.loads(state.has("reports/statement-000002.json")), as_json(text))
     is_so("what lies there", sorted(os.listdir(state.path + "/reports")),
-          ["cycle-000001.gz", "cycle-000002", "gone-000002", "statement-000002",
+          ["cycle-000001.gz", "cycle-000002", "gone-000001", "gone-000002", "statement-000002",
            "statement-000002.json"])
     is_so("who may read it", os.stat(state.path + "/reports/statement-000002").st_mode & 0o777,
           0o640)
     is_so("of a compressed report", ask("statement", state.path, 1, OCFL_SCRUB=made), (0, "", ""))
     first = state.has("reports/statement-000001")
     is_so("what it says", [text in first for text in [
-        "\nCycle: 1\n", "\nNights: 1\n", "\nRuns: 1\n", "\nCut nights: 0\n", "\nReport lines: 1\n",
+        "\nCycle: 1\n", "\nNights: 1\n", "\nRuns: 1\n", "\nReport lines: 1\n",
         "\nCompared with cycle: nothing\n", "\nObjects gone: not known\n",
-        "\nExpected objects missing: not asked\n", "SHA-256: no list\n", "\nFindings: 0\nCompared",
-        "\nReport SHA-256: %s\n" % digest(LINES[0].encode())]], [True] * 11)
+        "\nExpected objects missing: not known\n", "\nFindings: 0\nAlgo",
+        "\nReport SHA-256: %s\n" % digest(LINES[0].encode())]], [True] * 9)
     write(state.path + "/reports/statement-000002", "kept\n")
     is_so("again", ask("statement", state.path, 2, OCFL_SCRUB=made), (0, "", ""))
     is_so("it stays", state.has("reports/statement-000002"), "kept\n")
@@ -189,9 +199,10 @@ def statement(folder):
 def as_json(text):
     """What a statement says, as its JSON form should."""
     rows = [row.split(": ", 1) for row in text.splitlines()[2:]]
-    numbers = {"Cycle", "Nights", "Runs", "Cut nights", "Report lines", "Broken lines", "Objects",
+    numbers = {"Cycle", "Nights", "Runs", "Report lines", "Broken lines", "Objects",
                "Objects without findings", "Content files", "Files found right",
-               "Bytes found right", "Findings", "Compared with cycle", "Objects gone", "Files gone",
+               "Files not found right", "Bytes found right", "Findings", "Compared with cycle",
+               "New findings", "Former findings", "Objects gone", "Files gone",
                "Expected objects missing", "Objects gone and not back", "Files gone and not back"}
     made = {"form": "ocfl-scrub statement 1",
             "findings_by_code": {name[9:]: int(value) for name, value in rows
@@ -207,21 +218,15 @@ def as_json(text):
 def incomplete_statement(folder):
     """A report that lost lines, and holds half a line; a program that is not the installed one."""
     state = State(folder + "/state")
-    state.night("2026-01-01T22:00:00Z", 1, 1, 2, 4)
-    state.row("2026-01-02T22:00:00Z", "lost", 1, 1, 1, 0, "lost 1 of 2 lines", "after o",
-              "2026-01-02T22:00:00Z")
-    state.row("2026-01-02T22:00:00Z", "root", 1, 1, 1, 0, "/srv/new", "after o",
-              "2026-01-02T22:00:00Z")
-    state.night("2026-01-02T22:00:00Z", 1, 2, 3, 4, told=False)
-    state.row("2026-01-03T02:00:00Z", 0, 1, 3, 6, 4, "cycle 1, run 3, cost 4, ended", "ended",
-              "2026-01-02T22:00:00Z")
-    state.close("2026-01-03T03:00:00Z", 1, "incomplete lost lines; findings none; compared nothing;"
-                " gone 0 objects 0 files", [LINES[0], line("ok", "01"), line("ok", "1"), "ok\to\n",
-                                            LINES[2], line("E072", "o-x")], form="incomplete")
+    state.night("2026-01-01T22:00:00Z", 1, 4)
+    state.night("2026-01-02T22:00:00Z", 1, 8, 3, runs=2, closes={
+        "at": "2026-01-03T03:00:00Z", "whole": False, "lines": [
+            LINES[0], line("ok", "01"), line("ok", "1"), "ok\to\n", LINES[2],
+            line("E072", "o-x")]})
     made = program(folder, "0" * 64)
     is_so("incomplete", ask("statement", state.path, 1, OCFL_SCRUB=made), (0, "", ""))
     text = state.has("reports/statement-000001")
-    wanted = ["Lost lines: lost 1 of 2 lines", "Root changed: /srv/new", "Whole: no",
+    wanted = ["Lost lines: not known", "Whole: no",
               "Report: incomplete-000001", "Broken lines: 1", "Report lines: 6", "Nights: 2",
               "Runs: 3", "First night: 2026-01-01T22:00:00Z", "Last night: 2026-01-02T22:00:00Z",
               "Objects: 3", "Objects without findings: not known", "Findings: 1",
@@ -244,8 +249,7 @@ def real_program(folder):
                                         "p": {"v1/content/c": b"abc"}})
     write(folder + "/root/p/v1/content/c", "xyz")
     report = ran([common.PROGRAM, "audit", folder + "/root"])[1]
-    state.night("2026-01-01T22:00:00Z", 1, 1, 6, 9, stands="ended", status=1)
-    state.close("2026-01-01T23:00:00Z", 1, lines=[report])
+    state.night("2026-01-01T22:00:00Z", 1, 9, 1, closes={"lines": [report]})
     is_so("of the program", ask("statement", state.path, 1, OCFL_SCRUB=common.PROGRAM), (0, "", ""))
     text = state.has("reports/statement-000001")
     wanted = ["Program SHA-256: " + digest(common.read(common.PROGRAM)), "Objects: 2",
@@ -291,7 +295,7 @@ def seals(folder):
         asked[1] = command
         status, _, said = ask("statement", *asked, OCFL_SCRUB=made)
         is_so("a seal that " + name, (status, reason in said, state.has("reports/statement-000002"),
-                                      sorted(os.listdir(reports))[3:]),
+                                      sorted(os.listdir(reports))[4:]),
               (3, True, text, ["statement-000002", "statement-000002.json"]))
     asked[1] = 'echo mended > "$1.asc"'
     is_so("made up for", (ask("statement", *asked, OCFL_SCRUB=made)[0],
@@ -466,7 +470,8 @@ def premis(folder):
     for name, data in [("o", json.dumps({"id": identity}).encode()), ("o2", b"no inventory"),
                        ("o3", b'["id"]'), ("o3-4", b'{"id": 7}')]:
         write(root + "/%s/inventory.json" % name, data)
-    write(state.path + "/root", "path\t%s\ndeclared\t%s\n" % (root, "d" * 64))
+    state.root = root
+    state.stand("after o")
     is_so("no statement", premis_of(state)[0], 3)
     ask("statement", state.path, 2, OCFL_SCRUB=made)
     name = ("OCFL storage root", "%s:%s" % (os.uname().nodename, root))
@@ -482,14 +487,14 @@ def premis(folder):
         return ("OCFL object path", text)
 
     each = [("cycle-000002:finding:2", first, [fail(LINES[1])], name),
-            ("cycle-000002:finding:6", last, [fail(LINES[5])], path("o2")),
-            ("cycle-000002:finding:11", last, [fail(LINES[10])], path("o3-4")),
-            ("cycle-000002:finding:12", last, [fail(LINES[11])], path("o3-4"))]
+            ("cycle-000002:finding:6", first, [fail(LINES[5])], path("o2")),
+            ("cycle-000002:finding:11", first, [fail(LINES[10])], path("o3-4")),
+            ("cycle-000002:finding:12", first, [fail(LINES[11])], path("o3-4"))]
     is_so("one for each finding", premis_of(state, "--each", "finding"), each + lost(name))
     whole = [("cycle-000002:object:3", first, [("pass",)], path("o")),
-             ("cycle-000002:object:6", last, [fail(LINES[5])], path("o2")),
-             ("cycle-000002:object:9", last, [("pass",)], path("o3")),
-             ("cycle-000002:object:10", last, [fail(LINES[10]), fail(LINES[11])], path("o3-4"))]
+             ("cycle-000002:object:6", first, [fail(LINES[5])], path("o2")),
+             ("cycle-000002:object:9", first, [("pass",)], path("o3")),
+             ("cycle-000002:object:10", first, [fail(LINES[10]), fail(LINES[11])], path("o3-4"))]
     is_so("one for each object", premis_of(state, "--each", "object"),
           each[:1] + whole + lost(name))
     with_id = whole[0][:3] + (("OCFL object id", identity.replace("\x01", "\ufffd")),)

@@ -1,17 +1,19 @@
 #!/usr/bin/env python3
-"""Tries `contrib/tell`, as the service runs it after `contrib/nightly`: each night's text, once,
-and of no other night.
+"""Tries `ocfl-scrub-reports tell`, as the services run it after `contrib/nightly`: each night's
+text, once, and of no other night.
 
 usage: telling.py [PART]...
 """
 import os
 import re
+import shlex
 import shutil
+import subprocess
 
 import common
 from common import PROGRAM, is_so
-from shared.nights import (CONTRIB, REPORTS, WRONG_B, Nights, instead, make_root, ran, read,
-                           tried_apart, write)
+from shared.nights import (CONTRIB, REPORTS, WRONG_B, Nights, make_root, ran, read, tried_apart,
+                           write)
 
 
 def tell_words(nights):
@@ -26,17 +28,20 @@ def mailing(folder):
     return {"PATH": bin_ + ":" + os.environ["PATH"], "MAIL": "her@example.org"}
 
 
-def in_service(nights, number, budget="1K", program=PROGRAM, **environment):
+def in_service(nights, number, program=PROGRAM, **environment):
     """A night and what tells of it, as the service runs both: the status, and what the journal and
     the mail have."""
     unit = read(CONTRIB + "/systemd/ocfl-scrub@.service")
-    words = re.sub(r"\\\n", "", re.search(r"^ExecStart=((?:.*\\\n)*.*)$", unit, re.MULTILINE)[1])
-    given = {"UNTIL": "23:59", "BUDGET": budget, "FILES": "4611686018427387904", "KEEP": "",
-             "EXPECTED": "", "SEAL": "", "ROOT": nights.root}
+    line = re.sub(r"\\\n", "", re.search(r"^ExecStart=((?:.*\\\n)*.*)$", unit, re.MULTILINE)[1])
+    given = {"UNTIL": "23:59", "KEEP": "", "SEAL": "", "ROOT": nights.root,
+             "OPTIONS": "" if os.path.exists(nights.path("checkpoint")) else "--create"}
     words = [re.sub(r"\$\{(\w+)\}", lambda found: given[found[1]], word)
              .replace("%S/ocfl-scrub/%i", nights.state)
-             .replace("/usr/local/share/ocfl-scrub", CONTRIB) for word in words.split()]
+             .replace("/usr/local/share/ocfl-scrub", CONTRIB) for word in line.split()]
+    at = words.index("$OPTIONS")
+    words[at:at + 1] = shlex.split(given["OPTIONS"])
     environment = {"INVOCATION_ID": "night%d" % number, "MAIL": "", "JOURNAL": "", **environment}
+    os.makedirs(nights.state, exist_ok=True)
     status, out, said = ran(words, OCFL_SCRUB=program, **environment)
     told = ran(tell_words(nights), EXIT_CODE="exited", EXIT_STATUS=str(status), **environment)
     return status, out + said + told[1] + told[2]
@@ -44,20 +49,21 @@ def in_service(nights, number, budget="1K", program=PROGRAM, **environment):
 
 def by_hand(folder):
     nights = Nights(folder + "/state", "")
-    write(nights.path("tonight"), "1 finding\n")
+    write(nights.path("tonight.a"), "1 finding\n")
     mail = mailing(folder)
     tell = tell_words(nights)
     is_so("told of 1", ran(tell, EXIT_CODE="exited", EXIT_STATUS="1", **mail), (0, "", ""))
     is_so("mail", read(folder + "/mailed"),
           "-s ocfl-scrub: findings in archive her@example.org\n1 finding\n")
+    write(nights.path("tonight.b"), "2 findings\n")
     status, _, said = ran(tell, EXIT_CODE="exited", EXIT_STATUS="3", MAIL="")
     is_so("told of 3", (status, said.splitlines()),
-          (0, ["ocfl-scrub: archive: the night stopped with status 3", "1 finding"]))
+          (0, ["ocfl-scrub: archive: the night stopped with status 3", "2 findings"]))
+    is_so("what was sent last", nights.has("tonight"), "2 findings\n")
     status, _, said = ran(tell, EXIT_CODE="killed", EXIT_STATUS="KILL", SERVICE_RESULT="oom-kill",
                           MAIL="")
     is_so("told of a kill", said.splitlines()[:1],
           ["ocfl-scrub: archive: the night was killed (KILL, oom-kill)"])
-    os.remove(nights.path("tonight"))
     os.remove(folder + "/mailed")
     is_so("told of 0", ran(tell, EXIT_CODE="exited", EXIT_STATUS="0", **mail), (0, "", ""))
     is_so("no mail", read(folder + "/mailed"), None)
@@ -85,42 +91,63 @@ def of_this_night(folder):
     in_service(nights, 1)
     root, nights.root = nights.root, ""
     status, said = in_service(nights, 2)
-    is_so("no root", (status, "E092" in said, "storage root is missing" in said), (2, False, True))
+    is_so("no root", (status in (2, 3), "E092" in said), (True, False))
     nights.root = root
-    status, said = in_service(nights, 3, program="/none", PATH="/none")
+    write(folder + "/no_program", "#!/none\n", 0o755)
+    status, said = in_service(nights, 3, program=folder + "/no_program", PATH="/none")
     is_so("nothing can be run", "E092" in said, False)
     os.rename(root, root + ".away")
     status, said = in_service(nights, 4)
-    is_so("not mounted", (status, "E092" in said, said.count("is its file system mounted?")),
-          (3, False, 1))
+    is_so("not mounted", (status, "E092" in said, said.count(root)), (3, False, 1))
+    os.rename(root + ".away", root)
+    shutil.copytree(nights.state, folder + "/kept")
+    shutil.rmtree(nights.state)
+    os.mkdir(nights.state)
+    words = [CONTRIB + "/nightly", "--for-tell", "--state", nights.state, root]
+    is_so("an empty folder is not begun anew", (ran(words, INVOCATION_ID="night5")[0], "--create"
+                                                in (nights.has("tonight.night5") or "")), (3, True))
 
 
 def a_word_of_a_good_night(folder):
-    """A night without findings that has something to say is told: the one before was cut."""
+    """A night without findings that has something to say is told: a file is repaired."""
     nights = Nights(folder + "/state", make_root(folder + "/root"))
-    in_service(nights, 1, program=instead(folder, "killed", "kill -KILL $PPID; sleep 0.3; exit 1"))
-    ran(["flock", nights.path("lock"), "true"])
+    write(nights.root + "/o/v1/content/b", "b")
+    in_service(nights, 1)
+    write(nights.root + "/o/v1/content/b", "")
     status, said = in_service(nights, 2)
-    is_so("told", (status, "was cut: run 1 of cycle 1 is made again" in said), (0, True))
+    is_so("told", (status, "a word on the night" in said, "repaired" in said), (0, True, True))
     is_so("silent again", in_service(nights, 3), (0, ""))
+
+
+def under_way(folder):
+    """The text of a night that is under way is not sent by what tells of another one."""
+    nights = Nights(folder + "/state", make_root(folder + "/root"))
+    nights.night()
+    write(nights.path("tonight.other"), "half a text\n")
+    holding = "exec flock '%s' sh -c 'echo held; read word'" % nights.path("lock")
+    held = subprocess.Popen(["sh", "-c", holding], stdin=subprocess.PIPE, stdout=subprocess.PIPE)
+    held.stdout.readline()
+    is_so("not yet", (told(nights, 1, 0), nights.has("tonight.other")), ((0, ""), "half a text\n"))
+    held.communicate(b"\n")
+    is_so("then", told(nights, 1, 0)[1].count("half a text"), 1)
 
 
 def links(folder):
     """What lies there in the place of a text is not followed."""
     nights = Nights(folder + "/state", make_root(folder + "/root"))
-    nights.night("4")
+    nights.part()
     write(folder + "/secret", "secret\n", 0o600)
     for name in ["tonight", "tonight.night1"]:
-        if os.path.lexists(nights.path(name)):
-            os.remove(nights.path(name))
         os.symlink(folder + "/secret", nights.path(name))
     for environment in [{}, {"INVOCATION_ID": "night1"}]:
         said = ran(tell_words(nights), EXIT_CODE="exited", EXIT_STATUS="1", MAIL="", **environment)
         is_so("not shown", ["secret" in text for text in said[1:]], [False, False])
+    write(nights.root + "/o/v1/content/b", "b")
     in_service(nights, 1)
     is_so("not written", read(folder + "/secret"), "secret\n")
-    nights.night("4")
-    is_so("nor by hand", read(folder + "/secret"), "secret\n")
+    in_service(nights, 2)
+    is_so("nor as the last text", (read(folder + "/secret"), os.path.islink(
+        nights.path("tonight"))), ("secret\n", False))
 
 
 def as_the_user(folder):
@@ -131,10 +158,10 @@ def as_the_user(folder):
     for where in [folder, os.path.dirname(folder)]:
         os.chmod(where, 0o755)
     os.makedirs(folder + "/state")
-    write(folder + "/state/tonight", "secret\n", 0o600)
+    write(folder + "/state/tonight.a", "secret\n", 0o600)
     os.chown(folder + "/state", 65534, 65534)
-    said = ran([folder + "/contrib/tell", "archive", folder + "/state"], EXIT_CODE="exited",
-               EXIT_STATUS="1", MAIL="")
+    said = ran([folder + "/contrib/ocfl-scrub-reports", "tell", "archive", folder + "/state"],
+               EXIT_CODE="exited", EXIT_STATUS="1", MAIL="")
     is_so("as the user", "secret" in said[2], False)
     unit = read(CONTRIB + "/systemd/ocfl-scrub-tell@.service")
     is_so("the service too", re.findall(r"^(?:User=.*|ExecStart=.)", unit, re.MULTILINE),
@@ -147,9 +174,10 @@ def given_up(folder, body):
     return {"PATH": folder + "/bin:" + os.environ["PATH"], "MAIL": "her@example.org"}
 
 
-def night_alone(nights, number, budget="1K"):
+def night_alone(nights, number):
     """A night for `tell`, which is not called."""
-    return ran([*nights.words(budget, ["--for-tell"])], INVOCATION_ID="night%d" % number)[0]
+    os.makedirs(nights.state, exist_ok=True)
+    return nights.night("--for-tell", INVOCATION_ID="night%d" % number)[0]
 
 
 def told(nights, number, status, **environment):
@@ -176,27 +204,27 @@ def not_sent(folder):
         write(nights.root + "/o/v1/content/b", "")
         status = night_alone(nights, 2)
         mail = mailing(there)
-        is_so(name + ": sent", (told(nights, 2, status, **mail)[0],
-                                (read(there + "/mailed") or "").count(WRONG_B)), (0, 1))
-        if os.path.exists(there + "/mailed"):
-            os.remove(there + "/mailed")
+        is_so(name + ": sent", (told(nights, 2, status, **mail)[0], (read(there + "/mailed") or ""
+                                                                    ).count(WRONG_B)), (0, 2))
+        os.remove(there + "/mailed")
         status = night_alone(nights, 3)
         told(nights, 3, status, **mail)
         is_so(name + ": once", (status, read(there + "/mailed")), (0, None))
 
 
 def sent(folder):
-    """What was sent is not told again, by no night."""
+    """What was sent is not sent again, by no night."""
     nights = Nights(folder + "/state", make_root(folder + "/root"))
     write(nights.root + "/o/v1/content/b", "b")
     mail = mailing(folder)
     is_so("sent", told(nights, 1, night_alone(nights, 1), **mail)[0], 0)
     is_so("by mail", (read(folder + "/mailed") or "").count(WRONG_B), 1)
     os.remove(folder + "/mailed")
-    write(nights.root + "/o/v1/content/b", "")
-    is_so("not by the next night", (told(nights, 2, night_alone(nights, 2), **mail),
-                                    read(folder + "/mailed")), ((0, ""), None))
-    is_so("the last text is still there", (nights.has("tonight") or "").count(WRONG_B) <= 1, True)
+    os.makedirs(nights.root + "/extensions")
+    nights.part()
+    is_so("not by the next night", (told(nights, 2, 0, **mail), read(folder + "/mailed")),
+          ((0, ""), None))
+    is_so("the last text is still there", (nights.has("tonight") or "").count(WRONG_B), 1)
 
 
 def no_text(folder):
@@ -210,22 +238,10 @@ def no_text(folder):
           (True, False))
 
 
-def many(folder):
-    """Of many findings the message has twenty, and names the file that has all."""
-    files = {"v1/content/%02d" % number: b"abc" for number in range(25)}
-    nights = Nights(folder + "/state", common.make_root(folder + "/root", {"o": files}))
-    for number in range(25):
-        write(nights.root + "/o/v1/content/%02d" % number, "b")
-    said = nights.cycle()[2]
-    where = re.findall("(?m)^and 5 more, in (.*)$", said)
-    is_so("twenty findings", (said.count("\nE092\t"), len(where)), (20, 1))
-    is_so("all of them", [(read(file) or "").count("E092\t") for file in where], [25])
-
-
 def not_begun(folder):
     """A night that systemd could not begin is told, though it has no status."""
     nights = Nights(folder + "/state", make_root(folder + "/root"))
-    nights.cycle()
+    nights.night()
     given = {"EXIT_CODE": "", "EXIT_STATUS": "", "INVOCATION_ID": "night1", "MAIL": ""}
     said = ran(tell_words(nights), SERVICE_RESULT="resources", **given)[2]
     is_so("a night that did not begin", said.splitlines()[:1],
@@ -248,7 +264,7 @@ def names(folder):
                         ("a \u00fc\u009b%41\t", "a %C3%BC%C2%9B%2541%09"), ("-n", "-n"),
                         ("x\\n", "x\\n")]:
         for text in ["", "1 finding\n"]:
-            write(nights.path("tonight"), text)
+            write(nights.path("tonight.a"), text)
             words = [REPORTS, "tell", "--", name, nights.state]
             ran(words, EXIT_CODE="exited", EXIT_STATUS="1", **mail)
             is_so("the subject of %r" % name, read(folder + "/subject"),
@@ -260,25 +276,21 @@ def names(folder):
                   ["ocfl-scrub: findings in " + shown])
 
 
-def of_parts(folder):
-    """The same of the nights of all parts: what tells of them is killed, and made again."""
-    nights = Nights(folder + "/state", make_root(folder + "/root"))
-    write(nights.root + "/o/v1/content/b", "b")
-    common_words = ["--state", nights.state]
-    numbers = ran([CONTRIB + "/parallel/begin", "--parts", "1", *common_words, nights.root])[1]
-    for number in numbers.split():
-        ran([CONTRIB + "/parallel/part", "--part", number, *common_words, nights.root])
-    end = [CONTRIB + "/parallel/end", "--for-tell", *common_words, nights.root]
-    status = ran(end, INVOCATION_ID="night1")[0]
-    is_so("found in a part", (status, told(nights, 1, status, **given_up(
-        folder, "kill -KILL $PPID\n"))[0] != 0), (1, True))
-    status = ran(end, INVOCATION_ID="night2")[0]
-    told(nights, 2, status, **mailing(folder))
-    is_so("sent at last", (read(folder + "/mailed") or "").count(WRONG_B), 1)
+def of_a_user(folder):
+    """The unit of a user's own nights tells of each of them too, by the words of the same units."""
+    unit = read(CONTRIB + "/systemd/user/ocfl-scrub@.service").replace("\\\n", " ")
+    of_all = read(CONTRIB + "/systemd/ocfl-scrub@.service").replace("\\\n", " ")
+    at = {"%h/.local/state/ocfl-scrub/%i": "%S/ocfl-scrub/%i"}
+    starts = [re.search("(?m)^ExecStart=(.*)$", text)[1].split() for text in [unit, of_all]]
+    is_so("the same night", [at.get(word, word) for word in starts[0]], starts[1])
+    after = re.search("(?m)^ExecStopPost=(.*)$", unit)[1].split()
+    is_so("and then it is told", after, [
+        "/usr/local/share/ocfl-scrub/ocfl-scrub-reports", "tell", "--", "%i",
+        "%h/.local/state/ocfl-scrub/%i"])
 
 
-PARTS = [by_hand, once, of_this_night, a_word_of_a_good_night, links, as_the_user, not_sent, sent,
-         no_text, many, not_begun, names, of_parts]
+PARTS = [by_hand, once, of_this_night, a_word_of_a_good_night, under_way, links, as_the_user,
+         not_sent, sent, no_text, not_begun, names, of_a_user]
 
 
 def tell(folder):

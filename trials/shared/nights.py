@@ -4,9 +4,11 @@ The scripts are those of the folder that OCFL_SCRUB_CONTRIB names. Without it, t
 `contrib` at the top of the repository.
 """
 import gzip
+import json
 import os
 import subprocess
 import sys
+import time
 import traceback
 
 import common
@@ -71,21 +73,26 @@ def instead(folder, name, body):
 
 
 class Nights:
-    """A folder of state, and the nights over a root in it."""
+    """A folder of state, and the nights of `nightly` over a root in it."""
 
     def __init__(self, state, root):
         self.state, self.root = state, root
 
-    def words(self, budget="4", more=()):
-        budget = ["--budget", budget] if budget else []
-        return [CONTRIB + "/nightly", "--state", self.state, *budget, *more, self.root]
+    def words(self, *more):
+        """A night's words; those of a first one if the folder has no checkpoint."""
+        create = [] if os.path.exists(self.path("checkpoint")) else ["--create"]
+        return [CONTRIB + "/nightly", "--state", self.state, *create, *more, "--", self.root]
 
-    def night(self, budget="4", program=PROGRAM, more=(), **environment):
-        return ran(self.words(budget, more), OCFL_SCRUB=program, **environment)
+    def night(self, *more, program=PROGRAM, **environment):
+        """A night; without words that end it, of a whole cycle. Two nights in one second would be
+        taken for one."""
+        done = ran(self.words(*more), OCFL_SCRUB=program, **environment)
+        time.sleep(1.1)
+        return done
 
-    def cycle(self, budget="1K"):
-        """A night that makes a whole cycle."""
-        return self.night(budget)
+    def part(self, files="1", **how):
+        """A night that reads no more than so many files."""
+        return self.night("--files", files, **how)
 
     def path(self, name):
         return os.path.join(self.state, name)
@@ -94,19 +101,23 @@ class Nights:
         return read(self.path(name))
 
     def rows(self, *kinds):
-        """The rows of the log, of these kinds, as their columns; `run` stands for all numbers."""
-        rows = [line.split("\t") for line in (self.has("nights") or "").splitlines()]
-        return [row for row in rows if not kinds or row[1] in kinds
-                or "run" in kinds and row[1].isdigit()]
+        """The rows of the log, of these kinds."""
+        rows = [json.loads(line) for line in (self.has("log") or "").splitlines()]
+        return [row for row in rows if not kinds or row["row"] in kinds]
 
-    def log(self):
-        """The last run's row of the log, as far as the columns that each log has."""
-        return self.rows("run")[-1][1:7]
+    def lines(self, cycle):
+        """The lines of a cycle's statement, by their names."""
+        text = self.has("reports/statement-%06d" % cycle) or ""
+        return dict(row.split(": ", 1) for row in text.splitlines()[2:])
+
+    def holds(self, cycle):
+        """What `verify` gives for the statement of a cycle."""
+        return ask("verify", self.path("reports/statement-%06d" % cycle))[0]
 
     def reports(self):
-        """The names of the closed reports, without the statements beside them."""
+        """The names of the closed reports."""
         names = os.listdir(self.path("reports"))
-        return sorted(name for name in names if not name.startswith("statement-"))
+        return sorted(name for name in names if name.startswith(("cycle-", "incomplete-")))
 
     def whole(self, number):
         """The report of a cycle that is called whole."""

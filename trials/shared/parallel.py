@@ -1,7 +1,11 @@
-"""What the trials of many processes share: a storage root with damage of each kind and one place
-that cannot be read, and the folder of a night of all parts.
+"""What the trials of many processes share: a storage root with damage of each kind, and the folder
+of its parts.
+
+The scripts are those of the folder that OCFL_SCRUB_CONTRIB names. Without it, they are those of
+`contrib` at the top of the repository.
 """
 import glob
+import json
 import os
 import random
 import shutil
@@ -9,7 +13,7 @@ import subprocess
 
 import common
 from common import PROGRAM, TOP, is_so
-from shared.nights import CONTRIB, Nights, ask, ran, read, write
+from shared.nights import CONTRIB, REPORTS, ran, read, write
 
 # A name that is not UTF-8 keeps a directory from being listed, for root too.
 ODD = b"\xff"
@@ -46,13 +50,14 @@ def make_root(folder, count=300, seed=36, faults=True):
     return root
 
 
-def add_content(root, place, names):
-    """Gives an object of ours more content, as its inventory then says."""
-    folder = os.path.join(root, place)
-    files = {os.path.relpath(path, folder): common.read(path)
-             for path in glob.glob(folder + "/v1/content/*")}
-    files.update({"v1/content/" + name: name.encode() for name in names})
-    common.make_object(folder, files)
+def small_root(folder, damaged=(), count=9):
+    """A storage root of objects of two files each, some of them damaged."""
+    root = common.make_root(folder + "/root", {
+        "o%02d" % number: {"v1/content/a": b"abc", "v1/content/b": b"d"}
+        for number in range(count)})
+    for place in damaged:
+        write("%s/%s/v1/content/a" % (root, place), "damaged")
+    return root
 
 
 class Place:
@@ -74,71 +79,8 @@ def audit(root):
     return ran([PROGRAM, "audit", root])[1]
 
 
-def without(report, place):
-    """The lines of a report but those of a branch."""
-    return "".join(line for line in report.splitlines(True)
-                   if not (line.split("\t")[1] + "/").startswith(place + "/"))
-
-
 def findings(report):
     return {line for line in report.splitlines(True) if line.split("\t")[0] not in ("ok", "S07")}
-
-
-class Together(Nights):
-    """The folder of all parts of a storage root."""
-
-    def words(self, budget="12K", more=(), jobs=4, parts=24):
-        budget = ["--budget", budget] if budget else []
-        return [CONTRIB + "/parallel/nightly", "--jobs", str(jobs), "--parts", str(parts),
-                "--state", self.state, *budget, *more, self.root]
-
-    def start(self, budget="12K", more=(), program=PROGRAM, **how):
-        return subprocess.Popen(self.words(budget, more, **how), stdin=subprocess.DEVNULL,
-                                stdout=subprocess.DEVNULL, stderr=subprocess.PIPE,
-                                start_new_session=True,
-                                env={**os.environ, "OCFL_SCRUB": program})
-
-    def set(self):
-        """The folder of the parts of the open cycle."""
-        return (sorted(glob.glob(self.state + "/parts-*")) or [None])[-1]
-
-    def names(self):
-        """The names of the parts, in their order."""
-        return [row.split("\t")[0] for row in (read(self.set() + "/table") or "").splitlines()]
-
-    def logs(self, *kinds):
-        """The rows of the logs of all parts, of these kinds."""
-        return [row for name in self.names()
-                for row in Nights(os.path.join(self.set(), name), self.root).rows(*kinds)]
-
-
-def by_hand(nights, name, *words, **environment):
-    """A call of `begin`, `part` or `end`."""
-    return ran([CONTRIB + "/parallel/" + name, "--state", nights.state, *words, nights.root],
-               **environment)
-
-
-def begun(folder, damaged=(), state="state"):
-    """The nights of a root in which some objects are damaged, and the names of its parts."""
-    objects = {"o%d" % number: {"v1/content/a": b"abc", "v1/content/b": b"d"}
-               for number in range(9)}
-    root = common.make_root(folder + "/root", objects)
-    for place in damaged:
-        write("%s/%s/v1/content/a" % (root, place), "damaged")
-    nights = Together("%s/%s" % (folder, state), root)
-    return nights, again(nights)
-
-
-def again(nights):
-    status, out, said = by_hand(nights, "begin", "--parts", "4")
-    is_so("begin", (status, said), (0, ""))
-    return out.split()
-
-
-def audit_parts(nights, numbers, budget="1M"):
-    for number in numbers:
-        is_so("part " + number, by_hand(nights, "part", "--part", number, "--budget", budget),
-              (0, "", ""))
 
 
 def told_in(said):
@@ -146,12 +88,84 @@ def told_in(said):
     return {line for line in said.splitlines(True) if line.count("\t") == 2}
 
 
-def is_stated(name, nights, report):
-    file = "reports/statement-" + report.split("-")[1]
-    return common.is_so(name, ask("verify", nights.path(file)),
-                        (0, "%s is what %s says\n" % (nights.path("reports/" + report), file[8:]),
-                         ""))
+class Together:
+    """The folder of the parts of a storage root."""
+
+    def __init__(self, state, root):
+        self.state, self.root = state, root
+
+    def path(self, name):
+        return os.path.join(self.state, name)
+
+    def part(self, number, name=""):
+        return self.path("part-%06d/%s" % (int(number), name))
+
+    def has(self, name):
+        return read(self.path(name))
+
+    def words(self, *more, jobs=4, parts=24):
+        return [CONTRIB + "/parallel/nightly", "--create", "--jobs", str(jobs), "--parts",
+                str(parts), "--state", self.state, *more, self.root]
+
+    def night(self, *more, jobs=4, parts=4, **environment):
+        return ran(self.words(*more, jobs=jobs, parts=parts), **environment)
+
+    def start(self, *more, program=PROGRAM, **how):
+        return subprocess.Popen(self.words(*more, **how), stdin=subprocess.DEVNULL,
+                                stdout=subprocess.PIPE, stderr=subprocess.STDOUT,
+                                start_new_session=True,
+                                env={**os.environ, "OCFL_SCRUB": program})
+
+    def by_hand(self, name, *words, root=True, **environment):
+        """A call of `begin`, `part` or `end`."""
+        last = [self.root] if root and name != "end" else []
+        return ran([CONTRIB + "/parallel/" + name, "--state", self.state, *words, *last],
+                   **environment)
+
+    def given(self, *more):
+        """The numbers of the parts that `begin` gives out."""
+        status, out, said = self.by_hand("begin", "--create", "--parts", "4", *more)
+        is_so("begin", (status, said), (0, ""))
+        return out.split()
+
+    def make(self, numbers, *more):
+        for number in numbers:
+            is_so("part " + number, self.by_hand("part", "--part", number, *more)[0] in (0, 1),
+                  True)
+
+    def end(self, *words):
+        return self.by_hand("end", *words)
+
+    def level(self):
+        """What `status` ends with, whatever the findings and the age."""
+        return ran([REPORTS, "status", "--age", "-,-", "--findings", "-,-", "--damaged", "-,-",
+                    self.state])[0]
+
+    def rows(self, number):
+        """The rows of the log of a part."""
+        return [json.loads(row) for row in (read(self.part(number, "log")) or "").splitlines()]
+
+    def count(self):
+        return len(glob.glob(self.path("part-*")))
+
+    def is_audit(self, name, cycle=1):
+        """The joined report is what `audit` writes, byte for byte."""
+        return is_so(name, self.has("reports/cycle-%06d" % cycle), audit(self.root))
 
 
-__all__ = ["Place", "Together", "add_content", "again", "audit", "audit_parts", "begun", "by_hand",
-           "findings", "is_stated", "make_root", "told_in", "without"]
+def begun(folder, damaged=()):
+    """The nights of a small root, and the numbers of its four parts."""
+    nights = Together(folder + "/state", small_root(folder, damaged))
+    return nights, nights.given()
+
+
+def is_stated(name, nights, cycle):
+    """The statement of a joined report holds."""
+    statement = nights.path("reports/statement-%06d" % cycle)
+    said = ran([REPORTS, "verify", statement])
+    return is_so(name, (said[0] in (0, 4), "does not hold" in said[1] + said[2],
+                        "\nWhole: yes\n" in (read(statement) or "")), (True, False, True))
+
+
+__all__ = ["Place", "Together", "audit", "begun", "findings", "is_stated", "make_root",
+           "small_root", "told_in"]

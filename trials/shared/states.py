@@ -1,14 +1,17 @@
-"""What the trials of statements and of the status share: a folder of `nightly` as its log and its
-reports say, written by hand.
+"""What the trials of statements and of the status share: a folder of `ocfl-scrub night` as its
+checkpoint, its log and its reports say, written by hand.
 
 The scripts are those of the folder that OCFL_SCRUB_CONTRIB names. Without it, they are those of
 `contrib` at the top of the repository.
 """
+import calendar
 import gzip
+import json
 import os
 import shutil
 import subprocess
 import sys
+import time
 import traceback
 
 import common
@@ -16,7 +19,6 @@ from common import TOP, digest, is_so
 
 CONTRIB = os.path.abspath(os.environ.get("OCFL_SCRUB_CONTRIB") or os.path.join(TOP, "contrib"))
 REPORTS = CONTRIB + "/ocfl-scrub-reports"
-NOTHING = "0" * 64
 VERSION = """#!/bin/sh
 printf 'ocfl-scrub 0.1.0\\ncommit 0123abcd\\nkit k\\nsha256 %s\\n' {digest}
 """
@@ -66,47 +68,69 @@ def is_finding(text):
     return text.split("\t")[0] not in ("ok", "S07")
 
 
+def seconds(shown):
+    """The seconds since 1970 of a time such as 2026-01-01T22:00:00Z."""
+    return calendar.timegm(time.strptime(shown, "%Y-%m-%dT%H:%M:%SZ"))
+
+
+def escaped(text):
+    return "".join(chr(byte) if 0x20 <= byte < 0x7F and byte != 0x25 else "%%%02X" % byte
+                   for byte in text.encode())
+
+
 class State:
-    """A folder of `nightly`, written by hand: nights, reports, the root that it is bound to."""
+    """A folder of the program's nights, written by hand: nights, reports, its checkpoint."""
 
     def __init__(self, path, root="/srv/ocfl", declaration="d" * 64):
         self.path, self.log = path, []
-        self.spent = self.files = 0
-        write(path + "/root", "path\t%s\ndeclaration\t%s\ndeclared\t%s\nnames\t1 %s\n\no\n"
-              % (root, NOTHING, declaration, NOTHING))
+        self.root, self.declaration = root, declaration
+        self.cycle, self.runs, self.spent, self.files = 1, 0, 0, 0
+        write(path + "/lock", "")
+        self.stand("start")
 
-    def row(self, began, status, cycle, run, lines, cost, said, stands, night, files=1):
-        self.log.append((began, status, cycle, run, lines, cost, said, self.spent, self.files, 60,
-                         100, NOTHING, stands, night))
-        write(self.path + "/nights", "".join("\t".join(map(str, row)) + "\n" for row in self.log))
+    def stand(self, line, whole="yes"):
+        """Puts the checkpoint of where the cycle stands."""
+        text = common.checkpoint_text(
+            root=escaped(self.root), declared=self.declaration, whole=whole, cycle=str(self.cycle),
+            runs=str(self.runs), spent=str(self.spent), files=str(self.files))
+        body = text[:text.rindex(b"start\n")] + line.encode() + b"\n"
+        write(self.path + "/checkpoint", body + b"sha256 %s\n" % digest(body).encode())
 
-    def night(self, began, cycle, run, lines, cost, status=0, stands="after o", told=True):
-        self.begin(began, cycle, run)
-        self.spent, self.files = (0, 0) if run == 1 else (self.spent, self.files)
-        self.spent, self.files = self.spent + cost, self.files + 1
-        end = "ended" if stands == "ended" else "open"
-        self.row(began, status, cycle, run, lines, cost,
-                 "cycle %d, run %d, cost %d, %s" % (cycle, run, cost, end), stands, began)
-        if told:
-            self.tell(began, cycle, run, status)
+    def row(self, **row):
+        self.log.append(json.dumps(row, sort_keys=True, separators=(",", ":")))
+        write(self.path + "/log", "".join(it + "\n" for it in self.log))
 
-    def begin(self, began, cycle, run):
-        self.row(began, "began", cycle, run, 0, 0, "budget 9", "after o", began)
+    def night(self, began, cycle, cost, status=0, closes=None, runs=1, said=None):
+        """A night of this cycle that reads so much. `closes` are the words of `close`, if it closes
+        the cycle, and `said` is why it stopped."""
+        if cycle != self.cycle:
+            self.cycle, self.runs, self.spent, self.files = cycle, 0, 0, 0
+        self.runs, self.spent, self.files = self.runs + runs, self.spent + cost, self.files + 1
+        if closes is not None:
+            self.close(began, cycle, **closes)
+        if said is not None:
+            self.row(row="refusal", time=seconds(began) + 60, night=seconds(began), status=status,
+                     said=said)
+        self.row(row="night", time=seconds(began) + 60, night=seconds(began), status=status,
+                 runs=runs, cost=cost, seconds=60, findings=0)
+        self.stand("after o" if closes is None else "ended")
 
-    def tell(self, began, cycle, run, status):
-        self.row(began, "told", cycle, run, 0, 0, "status %s, runs 1, findings 0" % status,
-                 "after o", began)
+    def refuse(self, began, status=3):
+        """A night that was refused."""
+        spent, files = self.spent, self.files
+        self.night(began, self.cycle, 0, status, runs=0, said="is its file system mounted?")
+        self.spent, self.files = spent, files
+        self.stand("after o")
 
-    def cut(self, began, cycle, run, lines):
-        self.row(began, "cut", cycle, run, lines, 0, "it was killed", "after o", began)
-
-    def close(self, began, cycle, said="whole; findings none; compared nothing; gone 0 objects 0 "
-                                       "files", lines=None, form="cycle", packed=False):
-        name = "reports/%s-%06d" % (form, cycle)
-        self.row(began, "ended", cycle, 9, 9, 0, "report %s; %s" % (name, said), "ended", began)
+    def close(self, began, cycle, lines=None, gone="", whole=True, packed=False, at=None):
+        name = "reports/%s-%06d" % ("cycle" if whole else "incomplete", cycle)
         data = "".join(lines or []).encode()
         write(self.path + "/" + name + (".gz" if packed else ""),
               gzip.compress(data) if packed else data)
+        write(self.path + "/reports/gone-%06d" % cycle, gone)
+        self.row(row="closing", time=seconds(at or began), night=seconds(began), cycle=cycle,
+                 report=self.path + "/" + name, whole=whole, findings=0, new=0, repaired=0,
+                 gone=gone.count("\n"), left=0)
 
     def has(self, name):
         return read(self.path + "/" + name)
@@ -128,18 +152,15 @@ GONE = "object\tp\nfile\tp/v1/content/a\nfile\tp/v1/content/b\nexpected\tz\n"
 
 
 def audited(folder):
-    """A folder with two closed cycles, its program, and its fourth night in cycle 3."""
+    """A folder with two closed cycles, its program, and its fifth night in cycle 3."""
     state = State(folder + "/state", '/srv/ocfl\t"\\\u00fc%|')
-    state.night("2026-01-01T22:00:00Z", 1, 1, 1, 4, stands="ended")
-    state.close("2026-01-01T23:00:00Z", 1, lines=LINES[:1], packed=True)
-    state.night("2026-02-01T22:00:00Z", 2, 1, 5, 4)
-    state.begin("2026-02-02T22:00:00Z", 2, 2)
-    state.cut("2026-02-02T22:00:00Z", 2, 1, 5)
-    state.night("2026-02-03T22:00:00Z", 2, 2, 13, 4, stands="ended", status=1)
-    said = "whole; findings E007 1 E072 1; compared 1; gone 1 objects 2 files; expected 1"
-    state.close("2026-02-03T23:00:00Z", 2, said, LINES)
-    state.night("2026-02-04T22:00:00Z", 3, 1, 1, 4)
-    write(state.path + "/reports/gone-000002", GONE)
+    state.night("2026-01-01T22:00:00Z", 1, 4, closes={
+        "at": "2026-01-01T23:00:00Z", "lines": LINES[:1], "packed": True})
+    state.night("2026-02-01T22:00:00Z", 2, 4)
+    state.refuse("2026-02-02T22:00:00Z")
+    state.night("2026-02-03T22:00:00Z", 2, 4, 1, closes={
+        "at": "2026-02-03T23:00:00Z", "lines": LINES, "gone": GONE})
+    state.night("2026-02-04T22:00:00Z", 3, 4)
     return state, program(folder)
 
 

@@ -1,0 +1,144 @@
+#!/usr/bin/env python3
+"""Tries the joining of the closed reports of all parts of a storage root, by `ocfl-scrub join`.
+
+usage: joins.py [PART]...
+
+The state folders of the parts are made by hand: a checkpoint by its text, and a closed report.
+"""
+import os
+import shutil
+from typing import Any
+
+import common
+from common import digest, is_not_so_yet, is_so, ran
+from shared.nights import tried_apart
+
+SEPARATORS = ["b", "d"]
+ENDS = list(zip(["start", *SEPARATORS], [*SEPARATORS, "end"]))
+REPORTS = ["ok\t.\t-\nok\ta\t-\n", "ok\tb\t-\nE072\tc\t-\n", "ok\td\t-\n"]
+NOTHING = "0" * 64
+TEXT = """ocfl-scrub checkpoint 1
+root %(root)s
+declared %(declared)s
+names 3 %(zeros)s
+phase open
+whole yes
+report 0 0
+pieces %(zeros)s
+tail %(tail)s
+told 0
+left 0
+from %(from)s
+below %(below)s
+cycle %(cycle)d
+runs 1
+spent 9
+files 1
+%(state)s
+"""
+
+
+class Parts:
+    """The state folders of three parts, and the file of their separators."""
+
+    def __init__(self, folder: str) -> None:
+        self.folder, self.file = folder + "/parts", folder + "/separators"
+        self.cut(SEPARATORS)
+        for number in (1, 2, 3):
+            self.put(number)
+
+    def cut(self, separators: list[str]) -> None:
+        common.write(self.file, "".join(place + "\n" for place in separators).encode())
+
+    def path(self, number: int, name: str = "") -> str:
+        return "%s/part-%06d/%s" % (self.folder, number, name)
+
+    def put(self, number: int, of: int = 0, root: str = "/srv/ocfl", cycle: int = 1,
+            state: str = "ended", whole: bool = True) -> None:
+        """The folder of a part, as a night leaves it that closed a cycle; or one of part `of`."""
+        shutil.rmtree(self.path(number), ignore_errors=True)
+        ends = ENDS[(of or number) - 1]
+        text = TEXT % {"root": root, "declared": digest(b"declared"), "zeros": NOTHING,
+                       "tail": digest(b""), "from": ends[0], "below": ends[1], "cycle": cycle,
+                       "state": state}
+        seal = "sha256 %s\n" % digest(text.encode())
+        common.write(self.path(number, "checkpoint"), (text + seal).encode())
+        common.write(self.path(number, "lock"), b"")
+        for closed in range(1, cycle + (state == "ended")):
+            name = "reports/%s-%06d" % ("cycle" if whole else "incomplete", closed)
+            common.write(self.path(number, name), REPORTS[(of or number) - 1].encode())
+
+    def joined(self, cycle: int = 1) -> tuple[Any, Any, str]:
+        """The status of a joining, the joined report or None, and what was said."""
+        status, out, note = ran(["join", "--parts", self.file, "--state", self.folder])
+        path = "%s/reports/cycle-%06d" % (self.folder, cycle)
+        return status, common.read(path).decode() if os.path.exists(path) else None, out + note
+
+    def refused(self, name: str, said: str) -> None:
+        status, report, text = self.joined()
+        is_so(name, (status, report, said in text), (3, None, True))
+
+
+def whole(folder: str) -> None:
+    """The joined report has the lines of all parts in their order, and is made once."""
+    parts = Parts(folder)
+    is_so("joined", parts.joined(), (0, "".join(REPORTS), ""))
+    before = common.snapshot(parts.folder + "/reports")
+    is_so("once more", parts.joined(), (0, "".join(REPORTS), ""))
+    is_so("it is made once", common.snapshot(parts.folder + "/reports"), before)
+    is_so("nothing is left beside it", os.listdir(parts.folder + "/reports"), ["cycle-000001"])
+
+
+def later_cycles(folder: str) -> None:
+    """The last cycle is joined that all parts have closed."""
+    parts = Parts(folder)
+    parts.put(1, cycle=3)
+    parts.put(2, cycle=2)
+    parts.put(3, cycle=3, state="after d")
+    is_so("joined", parts.joined(2), (0, "".join(REPORTS), ""))
+    is_so("no other cycle", os.listdir(parts.folder + "/reports"), ["cycle-000002"])
+
+
+def refused(folder: str) -> None:
+    """Each part that cannot be joined is named, and then nothing is joined."""
+    parts = Parts(folder)
+    shutil.rmtree(parts.path(2))
+    parts.refused("a part that is gone", "part 2: ")
+    parts.put(2, state="after b")
+    parts.refused("an open part", "part 2: ")
+    parts.put(2, of=3)
+    parts.refused("a copy of another part", "part 2: ")
+    parts.put(2, root="/srv/other")
+    parts.refused("a part of another root", "part 2: ")
+    parts.put(2, whole=False)
+    parts.refused("a report that is not whole", "part 2: ")
+    parts.put(2)
+    os.remove(parts.path(2, "reports/cycle-000001"))
+    parts.refused("a report that is gone", "part 2: ")
+    parts.put(2)
+    common.write(parts.path(2, "checkpoint"), common.read(parts.path(3, "checkpoint"))[:-2])
+    parts.refused("a checkpoint that was cut", "part-000002")
+    parts.put(2)
+    for separators in (["b"], ["b", "c"], ["b", "d", "e"]):
+        parts.cut(separators)
+        parts.refused("another list: %s" % separators, "part ")
+    parts.cut(SEPARATORS)
+    is_so("as it was", parts.joined(), (0, "".join(REPORTS), ""))
+
+
+def lost_lines(folder: str) -> None:
+    """A report that lost whole lines."""
+    parts = Parts(folder)
+    common.write(parts.path(2, "reports/cycle-000001"), b"ok\tb\t-\n")
+    is_not_so_yet("lost lines", parts.joined()[0:2], (3, None),
+                  "no checkpoint keeps the digests of a closed report")
+
+
+PARTS = [whole, later_cycles, refused, lost_lines]
+
+
+def tell(folder: str) -> None:
+    tried_apart(PARTS, folder)
+
+
+common.trial(tell)

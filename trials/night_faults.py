@@ -1,0 +1,316 @@
+#!/usr/bin/env python3
+"""Makes each call fail that the program's own nights make on their folder, one at a time, and takes
+their output, their room and their temporary folder.
+
+usage: night_faults.py [PART]...
+
+strace injects the errors. Whatever fails, the nights that follow close a report that is the audit,
+byte for byte, and each finding is said; a night that could not go on says why, with status 3.
+"""
+import os
+import resource
+import shutil
+import signal
+import subprocess
+from typing import Any
+
+import common
+from common import Stopped, end, is_so, ran, start, traced
+from shared.nights import tried_apart
+from shared.own_nights import SLICE, Audited, Got, Moment, Nights, at_once, make_root, recorded
+from shared.spaces import can_mount, folder_at, memory_at, mount, unmount
+
+# The errors of a call that changes a folder, and of any other.
+ERRORS = ["EIO", "ENOSPC", "EDQUOT", "EACCES", "EROFS"]
+OTHERS = ["EIO", "EACCES", "ENOMEM"]
+CHANGING = {"write", "fsync", "fdatasync", "rename", "renameat", "renameat2", "ftruncate", "mkdir",
+            "unlink", "unlinkat"}
+PLAN = ["--create", "--slice", SLICE]
+
+
+def made(folder: str) -> tuple[Audited, Nights]:
+    audited = Audited(make_root(folder + "/root"))
+    return audited, Nights(folder + "/state", audited.root)
+
+
+def is_told(got: Got) -> bool:
+    """Whether a night ended well, or says why it did not."""
+    status, out, note = got
+    return status in (0, 1) or status == 3 and (out + note).strip() != ""
+
+
+def errors_of(moments: list[Moment]) -> list[tuple[Moment, str]]:
+    """Each of these calls with each of its errors."""
+    return [(moment, error) for moment in moments
+            for error in (ERRORS if moment.call in CHANGING else OTHERS)]
+
+
+def fail_each(audited: Audited, nights: Nights, log: str, before: str) -> None:
+    """Nights of which each call on their folder fails, and those that follow."""
+    def fail(number: int, failing: tuple[Moment, str]) -> tuple:
+        moment, error = failing
+        own = nights.beside(number)
+        own.again(before)
+        got = traced(moment.rule("error=" + error), own.words(*PLAN))
+        faults = audited.faults_after(own, got[1])
+        own.again()
+        return got[0], (is_told(got), faults)
+
+    nights.again(before)
+    failing = errors_of(recorded(nights, log, *PLAN))
+    results = at_once(fail, failing)
+    for (moment, error), (_, found) in zip(failing, results):
+        is_so("%s of %s %d" % (error, *moment), found, (True, []))
+    ended = sum(status == 3 for status, _ in results)
+    print("night_faults.py: %d errors of calls, %d of them ended a night" % (len(results), ended))
+    is_so("most of them end it", ended * 2 > len(results) > 100, True)
+
+
+def each_call(folder: str) -> None:
+    """Each call of a first night fails."""
+    audited, nights = made(folder)
+    fail_each(audited, nights, folder + "/log", "")
+
+
+def going_on(folder: str) -> None:
+    """The same of a night that finds a checkpoint and a report that is longer than it says."""
+    audited, nights = made(folder)
+    moments = recorded(nights, folder + "/log", *PLAN)
+    appends = [moment for moment in moments if moment.call == "write"]
+    nights.again()
+    said = traced(appends[len(appends) * 2 // 3].rule("signal=KILL"), nights.words(*PLAN))[1]
+    audited.findings = audited.unsaid(said)
+    shutil.copytree(nights.state, folder + "/kept")
+    fail_each(audited, nights, folder + "/log", folder + "/kept")
+
+
+def for_ever(folder: str) -> None:
+    """All calls of one kind fail from one on."""
+    audited, nights = made(folder)
+    calls = {moment.call for moment in recorded(nights, folder + "/log", *PLAN)}
+    failing = [(call, error) for call in sorted(calls & CHANGING) for error in ERRORS]
+
+    def fail(number: int, rule: tuple[str, str]) -> tuple[bool, list[str]]:
+        own = nights.beside(number)
+        # A write that fails everywhere could not be said.
+        files = ["-P", own.path("report"), "-P", own.path("checkpoint.new")]
+        rules = ["-e", "inject=%s:error=%s:when=2+" % rule]
+        got = traced([*(files if rule[0] == "write" else []), *rules], own.words(*PLAN))
+        return is_told(got), audited.faults_after(own, got[1])
+
+    for (call, error), found in zip(failing, at_once(fail, failing)):
+        is_so("%s of %s from the second on" % (error, call), found, (True, []))
+
+
+def no_locks(folder: str) -> None:
+    """A lock that the file system does not give is not that of another night."""
+    audited, nights = made(folder)
+    for call in ["flock", "fcntl"]:
+        nights.again()
+        got = traced(["-e", "inject=%s:error=ENOLCK" % call], nights.words(*PLAN))
+        is_so("ENOLCK of " + call, is_told(got), True)
+        is_so("then", audited.faults_after(nights, got[1]), [])
+
+
+# What nights say
+
+def unsaid_then_said(name: str, folder: str, **how: Any) -> None:
+    """A night whose output fails leaves what it found to the next one."""
+    audited, nights = made(folder + "/" + name.replace(" ", "-"))
+    status, out, note = nights.night(*PLAN, **how)
+    is_so(name, (status, "output failed" in note), (3, True))
+    is_so(name + ": the next night", audited.faults_after(nights, ""), [])
+
+
+def full_output(folder: str) -> None:
+    with open("/dev/full", "wb") as full:
+        unsaid_then_said("a full device", folder, stdout=full)
+    reading, writing = os.pipe()
+    os.close(reading)
+    unsaid_then_said("a closed pipe", folder, stdout=writing)
+    os.close(writing)
+    unsaid_then_said("no output", folder, stdout=None, preexec_fn=lambda: os.close(1))
+    for error in ERRORS:
+        audited, nights = made(folder + "/" + error)
+        got = traced(["-P", "/dev/null", "-e", "inject=write:error=%s:when=1" % error],
+                     nights.words(*PLAN), stdout=subprocess.DEVNULL)
+        is_so(error + " of the output", (got[0], audited.faults_after(nights, "")), (3, []))
+
+
+def no_streams(folder: str) -> None:
+    """Without standard streams nothing that is said gets into the state."""
+    audited, nights = made(folder)
+    before = [os.path.join(folder, "root"), nights.state]
+    status = nights.night(*PLAN, stdout=None, stderr=None,
+                          preexec_fn=lambda: os.closerange(0, 3))[0]
+    is_so("no streams", (status, audited.faults_after(nights, "")), (3, []))
+    is_so("nothing else is there", sorted(os.listdir(folder)),
+          sorted(map(os.path.basename, before)))
+
+
+def full_error(folder: str) -> None:
+    """Where standard error cannot be written, the status and the nights are the same."""
+    audited, nights = made(folder)
+    with open("/dev/full", "wb") as full:
+        status, out, _ = nights.night(*PLAN, stderr=full)
+    is_so("a full standard error", (status, audited.unsaid(out)), (1, []))
+    is_so("then", audited.faults_after(nights, out), [])
+
+
+def output_for_a_part(folder: str) -> None:
+    """An output with room for some of the lines: what it did not take is said again."""
+    audited, nights = made(folder)
+    os.mkdir(folder + "/small")
+    with memory_at(folder + "/small", "4k"):
+        for room in [0, 1, 100, 400, 600]:
+            nights.again()
+            common.write(folder + "/small/out", b"-" * (4096 - room))
+            with open(folder + "/small/out", "ab") as out:
+                status = nights.night(*PLAN, stdout=out)[0]
+            said = common.text_of(common.read(folder + "/small/out")[4096 - room:])
+            is_so("room for %d bytes" % room, status, 3)
+            is_so("room for %d bytes: then" % room, audited.faults_after(nights, said), [])
+
+
+# Room
+
+def filled(path: str) -> None:
+    """Fills the file system of a path."""
+    try:
+        with open(path, "wb", buffering=0) as file:
+            while file.write(bytes(4096)):
+                pass
+    except OSError:
+        pass
+
+
+def full_state(folder: str) -> None:
+    """The device of the state folder is full, before a night and from one of its moments on."""
+    audited, _ = made(folder)
+    os.mkdir(folder + "/disk")
+    with memory_at(folder + "/disk", "256k"):
+        nights = Nights(folder + "/disk/state", audited.root)
+        filled(folder + "/disk/filler")
+        got = nights.night(*PLAN)
+        is_so("full", (got[0], is_told(got)), (3, True))
+        os.remove(folder + "/disk/filler")
+        is_so("full: then", audited.faults_after(nights, got[1]), [])
+        for when in range(1, 12, 2):
+            nights.again()
+            stopped = Stopped([], "fsync", nights.words(*PLAN), when)
+            with stopped:
+                filled(folder + "/disk/filler")
+            is_so("full after fsync %d" % when, is_told(stopped.ended), True)
+            os.remove(folder + "/disk/filler")
+            is_so("full after fsync %d: then" % when,
+                  audited.faults_after(nights, stopped.ended[1]), [])
+
+
+def limited_size(folder: str) -> None:
+    """No file may have more bytes than a limit."""
+    audited, nights = made(folder)
+
+    def limit_to(most: int) -> None:
+        signal.signal(signal.SIGXFSZ, signal.SIG_IGN)
+        resource.setrlimit(resource.RLIMIT_FSIZE, (most, most))
+
+    for most in [0, 100, 490, 520]:
+        nights.again()
+        got = nights.night(*PLAN, preexec_fn=lambda: limit_to(most))
+        is_so("at most %d bytes" % most, (got[0], nights.state in got[2],
+                                          "File too large" in got[2]), (3, True, True))
+        is_so("at most %d bytes: then" % most, audited.faults_after(nights, got[1]), [])
+
+
+def full_tmp(folder: str) -> None:
+    """A night needs no room for temporary files."""
+    os.mkdir(folder + "/tmp")
+    with memory_at(folder + "/tmp", "4k"):
+        filled(folder + "/tmp/filler")
+        full = {**os.environ, "TMPDIR": folder + "/tmp"}
+        for name, env in [("full", full), ("none", {**full, "TMPDIR": folder + "/nothing"})]:
+            audited, nights = made(folder + "/" + name)
+            status, out, note = nights.night(*PLAN, env=env)
+            is_so("a temporary folder that is %s" % name,
+                  (status, note, audited.unsaid(out)), (1, "", []))
+            is_so("%s: then" % name, audited.faults_after(nights, out), [])
+
+
+def read_only(folder: str) -> None:
+    """A state folder that cannot be written, before a night and while it runs."""
+    audited, nights = made(folder)
+    said = nights.night(*PLAN, "--files", "3")[1]
+    kept = nights.kept()
+    with folder_at(nights.state, nights.state, "ro"):
+        got = nights.night("--slice", SLICE)
+        is_so("read-only", (got[0], is_told(got), nights.kept()), (3, True, kept))
+    stopped = Stopped([], "fsync", nights.words("--slice", SLICE), 4)
+    with stopped:
+        mount("-t", "tmpfs", "-o", "ro", "none", nights.state)
+    unmount(nights.state)
+    is_so("while it runs", (stopped.ended[0], is_told(stopped.ended)), (3, True))
+    is_so("then", audited.faults_after(nights, said + stopped.ended[1]), [])
+
+
+# A state folder that is gone
+
+def removed(folder: str) -> None:
+    """The state folder is removed, or moved, under a night."""
+    audited, nights = made(folder)
+    for when in range(2, 10):
+        nights.again()
+        stopped = Stopped([], "fsync", nights.words(*PLAN), when)
+        with stopped:
+            shutil.rmtree(nights.state)
+        is_so("removed after fsync %d" % when, is_told(stopped.ended), True)
+        status, out, note = nights.night()
+        is_so("the next night, without --create", (status, out + note != "", nights.kept()),
+              (3, True, {"checkpoint": None, "report": None}))
+        nights.again()
+        stopped = Stopped([], "fsync", nights.words(*PLAN), when)
+        with stopped:
+            os.rename(nights.state, folder + "/moved")
+        is_so("moved after fsync %d" % when, is_told(stopped.ended), True)
+        nights.again()
+        os.rename(folder + "/moved", nights.state)
+        is_so("moved back", audited.faults_after(nights, stopped.ended[1]), [])
+
+
+def two_at_once(folder: str) -> None:
+    """Another night holds the lock: status 75, and nothing is changed."""
+    audited, nights = made(folder)
+    for when in range(2, 10):
+        nights.again()
+        stopped = Stopped([], "fsync", nights.words(*PLAN), when)
+        with stopped:
+            before = common.snapshot(nights.state)
+            status, out, note = nights.first()
+            is_same = common.snapshot(nights.state) == before
+            is_so("two at once, %d" % when, (status, out, note != "", is_same),
+                  (75, "", True, True))
+        is_so("the first one", stopped.ended[0] in (0, 1), True)
+        is_so("then", audited.faults_after(nights, stopped.ended[1]), [])
+
+
+def killed_as_a_group(folder: str) -> None:
+    """SIGTERM, SIGINT and SIGHUP cut a night as a kill does, and leave no process."""
+    audited, nights = made(folder)
+    for number in (signal.SIGTERM, signal.SIGINT, signal.SIGHUP):
+        nights.again()
+        process = start(nights.words(*PLAN))
+        os.killpg(process.pid, number)
+        status, out, _ = end(process)
+        is_so(number.name, status in (-number, 0, 1), True)
+        is_so(number.name + ": then", audited.faults_after(nights, out), [])
+
+
+PARTS = [each_call, going_on, for_ever, no_locks, full_output, no_streams, full_error, removed,
+         two_at_once, killed_as_a_group, limited_size]
+MOUNTING = [output_for_a_part, full_state, full_tmp, read_only]
+
+
+def tell(folder: str) -> None:
+    tried_apart(PARTS + (MOUNTING if can_mount(MOUNTING) else []), folder)
+
+
+common.trial(tell, needs=["strace"])

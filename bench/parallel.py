@@ -1,14 +1,14 @@
 #!/usr/bin/env python3
 """Measures the wall time of a cycle of 1, 2 and 4 jobs of `contrib/parallel/nightly`, against
 `xargs -P` with `sha512sum`, on 4 GiB in 4,000 files that it makes, from the page cache. Then it
-measures what the estimate for a large root in README.md is made of: the listing of the way, an
-inventory, a slice and a join. Prints the tables.
+measures what a part costs beside its reading: the listing of the way, an inventory, its start.
+Prints the tables.
 
 usage: parallel.py [MIB [FILES [ROUNDS]]]      4096, 4000 and 3 where they are not given
        parallel.py --pieces                    the second table alone
 
 Build the program first, with ../ocfl-scrub --help. TMPDIR is where the folders are made: /dev/shm,
-if it has the room. Needs GNU parallel.
+if it has the room.
 """
 import os
 import shutil
@@ -51,7 +51,7 @@ def timed(words, **how):
 def a_cycle(folder, root, jobs, parts=40):
     state = "%s/state-%d" % (folder, jobs)
     seconds = timed([NIGHTLY, "--jobs", str(jobs), "--parts", str(parts), "--state", state,
-                     "--hours", "2", root], env=HOW)
+                     "--create", root], env=HOW)
     if not os.path.exists(state + "/reports/cycle-000001"):
         sys.exit("the cycle of %d jobs has not ended" % jobs)
     shutil.rmtree(state)
@@ -125,43 +125,20 @@ def make_flat(folder, count):
     return folder
 
 
-def nights_of_a_part(folder, root):
-    """What a night of a part costs in scripts, and each further run of that night."""
-    parts = folder + "/none"
-
-    def night(runs):
-        state = folder + "/night"
-        shutil.rmtree(state, ignore_errors=True)
-        words = [os.path.join(CONTRIB, "nightly"), "--state", state, "--part", "1",
-                 "--parts", parts, "--budget", "1", "--files", str(runs), "--hours", "1", root]
-        return used(words, env=HOW)
-
-    one = min(night(1) for _ in range(3))
-    return one, (min(night(21) for _ in range(3)) - one) / 20
-
-
-def join(folder, count=1000000):
-    """Joining so many lines: the reading of the parts, the lists of what is gone and of codes, and
-    the statement."""
-    write_line = folder + "/lines"
-    with open(write_line, "w") as file:
-        for number in range(count // 10):
-            file.write("ok\t%03d/o-%07d\t-\n" % (number // 1000, number))
-            file.writelines("ok\t%03d/o-%07d/v1/content/a-file-%d.tif\t123456789\n" % (
-                number // 1000, number, of) for of in range(9))
-    gone = "NEWER='%s' awk -f '%s/lib/gone.awk' '%s'" % (write_line, CONTRIB, write_line)
-    codes = "grep -v '^ok' '%s'" % write_line
-    count_ = "'%s/ocfl-scrub-reports' bytes '%s'" % (CONTRIB, write_line)
-    script = "cat '%s' | tee '%s/joined' | sha256sum; %s; %s; sha256sum '%s'; %s" % (
-        write_line, folder, gone, codes, write_line, count_)
-    return used(["sh", "-c", script])
+def start_of_a_part(folder, root):
+    """What `contrib/parallel/part` takes before the program begins."""
+    state, part = folder + "/state", os.path.join(CONTRIB, "parallel", "part")
+    timed([os.path.join(CONTRIB, "parallel", "begin"), "--create", "--parts", "2", "--state", state,
+           root], env=HOW)
+    return min(used([part, "--state", state, "--part", "1", root],
+                    env={**HOW, "OCFL_SCRUB": "/bin/true"}) for _ in range(5))
 
 
 def pieces(folder, many=1000000):
-    """What a slice costs beside its reading, and what a join costs, in CPU time."""
+    """What a run and the start of a part cost beside the reading, in CPU time."""
     small = make_root(folder + "/small", 64, 2000)
     run = a_run(folder, small, "009/o-95/v1/content/01")
-    night, slice_ = nights_of_a_part(folder, small)
+    start = start_of_a_part(folder, small)
     shutil.rmtree(small)
     flat = make_flat(folder + "/flat", many)
     way = a_run(folder, flat, "o-%07d/v1/content/a" % (many // 2)) - run
@@ -171,9 +148,7 @@ def pieces(folder, many=1000000):
     print("| a run of one small file from a cursor, with the way there and one inventory | %.4f |"
           % run)
     print("| the way in a flat root of 1,000,000 objects, more than that | %.2f |" % way)
-    print("| a night of a part by `nightly`, of one run | %.2f |" % night)
-    print("| each further run of that night | %.2f |" % slice_)
-    print("| a join of 1,000,000 lines | %.2f |" % join(folder))
+    print("| the start of a part by `parallel/part` | %.3f |" % start)
 
 
 def main():

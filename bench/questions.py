@@ -8,6 +8,8 @@ LINES is 10,000,000 if it is not given. One line in a hundred is a finding, and 
 path that is not ASCII. Prints the seconds of a
 processor and the MiB of memory that each command took, as a table.
 """
+import hashlib
+import json
 import os
 import shutil
 import subprocess
@@ -18,7 +20,26 @@ import measure
 
 COMMAND = os.path.abspath(os.path.join(measure.HERE, "..", "contrib", "ocfl-scrub-reports"))
 FOUND = "sha512 %s %s" % ("ab" * 64, "cd" * 64)
-NIGHT = "2026-01-01T22:00:00Z"
+# 2026-01-01T22:00:00Z
+NIGHT = 1767304800
+EMPTY = hashlib.sha256(b"").hexdigest()
+CHECKPOINT = ("""ocfl-scrub checkpoint 1
+root /srv/ocfl
+declared %s
+names 1 %s
+phase open
+whole yes
+report 0 0
+pieces %s
+tail %s
+told 0
+left 0
+cycle 1
+runs 1
+spent 9
+files 1
+ended
+""" % (EMPTY, EMPTY, "0" * 64, EMPTY)).encode()
 
 
 def write_report(path, count):
@@ -40,13 +61,15 @@ def make_state(folder, count):
     os.makedirs(folder + "/reports")
     report = folder + "/reports/cycle-000001.gz"
     write_report(report, count)
-    rows = [(NIGHT, "0", "1", "1", count, "9", "cycle 1, run 1, cost 9, ended"),
-            (NIGHT, "ended", "1", "1", count, "9", "report reports/cycle-000001; whole; findings "
-             "none; compared nothing; gone 0 objects 0 files"),
-            (NIGHT, "told", "1", "1", count, "9", "status 0, runs 1, findings 0")]
-    with open(folder + "/nights", "w") as file:
-        for row in rows:
-            file.write("\t".join(map(str, [*row, 9, 1, 60, 100, "0" * 64, "ended", NIGHT])) + "\n")
+    rows = [{"row": "closing", "time": NIGHT, "night": NIGHT, "cycle": 1, "report": report[:-3],
+             "whole": True, "findings": count // 100, "new": 0, "repaired": 0, "gone": 0,
+             "left": 0},
+            {"row": "night", "time": NIGHT, "night": NIGHT, "status": 0, "runs": 1, "cost": 9,
+             "seconds": 60, "findings": 0}]
+    with open(folder + "/log", "w") as file:
+        file.writelines(json.dumps(row) + "\n" for row in rows)
+    with open(folder + "/checkpoint", "wb") as file:
+        file.write(CHECKPOINT + b"sha256 %s\n" % hashlib.sha256(CHECKPOINT).hexdigest().encode())
     return report
 
 

@@ -132,8 +132,23 @@ def functions_of(crate):
 
 def laws_of(crate):
     """The laws of a crate, as paths below it: functions that have clauses and do nothing."""
-    return [re.sub(r"/", "::", os.path.splitext(it.file)[0].removeprefix("src/")) + "::" + it.name
-            for it in functions_of(crate) if not it.owner and not it.body.strip()]
+    return [path_of(it) for it in functions_of(crate) if not it.owner and not it.body.strip()]
+
+
+def path_of(function):
+    """The path of a function below its crate, as the prover has it: a method of a trait stands
+    below the names of its type, of the trait without its modules, and of the trait's types with
+    theirs, run together."""
+    modules = os.path.splitext(function.file)[0].split(os.sep)[1:]
+    of_trait = re.fullmatch(r"<(\w+) as (.*)>::(\w+)", function.name)
+    name = function.name
+    if of_trait:
+        trait, _, types = of_trait[2].partition("<")
+        # (without parameters, which have one letter)
+        words = [trait.rsplit("::", 1)[-1], *re.findall(r"\w\w+", types)]
+        words = "".join(it[0].upper() + it[1:] for it in words)
+        name = "%s%s::%s" % (of_trait[1], words, of_trait[3])
+    return "::".join([*(it for it in modules if it not in ("lib", "main", "mod")), name])
 
 
 def seen_outside(top):
@@ -185,7 +200,7 @@ def body_of(lines, at, indent):
 def function_of(start, head, shown, place):
     """A function with its whole name: that of its type before it, and of its trait."""
     name, owner, trait = start[3], "", ""
-    of_impl = re.match(r"(?:unsafe )?impl(?:<[^{]*?>)? (?:([^{]+?) for )?(\w+)", head)
+    of_impl = re.match(r"(?:unsafe )?impl(?:<(?:[^<>{]|<[^<>{]*>)*>)? (?:([^{]+?) for )?(\w+)", head)
     if of_impl:
         trait, owner = of_impl[1] or "", of_impl[2]
         name = "<%s as %s>::%s" % (owner, trait, name) if trait else "%s::%s" % (owner, name)

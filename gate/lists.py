@@ -52,7 +52,7 @@ def of_crates():
 def of_definitions():
     """The definitions to believe, and those of the tables of definitions."""
     command = [sys.executable, "-B", os.path.join(TOP, "docs", "definitions"),
-               "ocfl_scrub/cycling"]
+               "ocfl_scrub/cycling:cycle"]
     cited = re.findall(r"(?m)^(ocfl_\w+): (.*)$",
                        subprocess.run(command, stdout=subprocess.PIPE, text=True).stdout)
     page, faults, listed = "docs/ASSURANCE.md", [], []
@@ -86,7 +86,7 @@ def undefined(page, crate, files, wanted):
 def of_laws():
     """The table of laws."""
     page, title = "docs/ASSURANCE.md", "Laws of the definitions"
-    modules = ["laws", "records", "parts", "handing", "scope_laws"]
+    modules = ["laws", "headline", "records", "parts", "handing", "scope_laws"]
     there = [name for crate in crates() if crate != TESTS for module in modules
              for name in laws_in(os.path.join(folder_of(crate), "src", module + ".rt"))]
     listed = [name for row in rows(page, title) for name in NAMED.findall(row[1])

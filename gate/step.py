@@ -3,6 +3,7 @@
 Its last line says in JSON of each thing that it tried whether that went well and what is to be said
 of it, and the seconds of processors that it took."""
 import contextlib
+import hashlib
 import io
 import json
 import os
@@ -15,12 +16,18 @@ import tempfile
 from gate import collection, functions, rounds, toolchain
 
 KEPT = "out/incremental"
+# The status of a check that was called wrongly, as with a path that fits no function.
+UNASKED = 2
 # What says no more than that a proof names what is gone, or rests on another that failed.
-NAMES = re.compile(r"(note: )?(\./)?proofs/.*(has no field|is not in scope|has no `)"
-                   r"|.*(was|is) not admitted")
-# What it says at a place that it refuses, and of a function whose proof it refuses.
+GONE = r"(note: )?(\./)?proofs/.*(has no field|is not in scope|has no `)"
+NAMES = re.compile(GONE + r"|.*(was|is) not admitted")
+# What `rt` says of an edit that is refused by no more than the first.
+NAMES_ALONE = "only because a proof file names what the edit took away"
+# What it says at a place that it refuses, of a law whose proof it refuses, and of a function that
+# is not proved for what it does itself.
 SAID = re.compile(r"note: \S+:\d+:\d+: |\S+:\d+:\d+: error")
 NOT_PROVED = re.compile(r"fn \S+: not proved")
+REFUSED = re.compile(r"fn (\S+): (?:not proved|no proof)(?!: it calls)")
 
 
 def library(rt, crate, jobs):
@@ -36,22 +43,66 @@ def whole(rt, crate, jobs):
     return not ran.returncode, "proved" if not ran.returncode else ran.stdout[-2000:]
 
 
+def base(rt, crate, jobs):
+    """Checks a crate as it is, over the proof that `rt ci` just made of it. What its library lacks
+    of that is proved from nothing."""
+    with contextlib.suppress(OSError, ValueError, TypeError):
+        lay_out(crate)
+    return whole(rt, crate, jobs)
+
+
+def lay_out(crate):
+    """Lays out the checked modules that a library carries as a check keeps them: each in a file of
+    its own, in a folder for this build of the prover. A check takes only what is up to date."""
+    with open(os.path.join(crate.rlib, "format")) as it:
+        build = re.search(r"(?m)^rattle-build (\S+)$", it.read())
+    folder = os.path.join(crate.folder, KEPT, build[1].replace("/", "_"))
+    carried = os.path.join(crate.rlib, "toolchain", "checked")
+    with open(carried + ".json") as it:
+        rows = [json.loads(line) for line in it]
+    os.makedirs(os.path.join(folder, "long"))
+    with open(carried + ".a", "rb") as modules:
+        for name, begin, size in rows:
+            # (statements of modules, and a sum of all, have a slash in their names)
+            if "/" not in name:
+                modules.seek(begin)
+                module = modules.read(size)
+                for path in paths_of(name):
+                    with open(os.path.join(folder, path), "wb") as file:
+                        file.write(module)
+
+
+def paths_of(module):
+    """The files in which a check looks for a module. Those of long names stand apart, by a sum of
+    their length and name; from which length on is between these two."""
+    name = module.encode()
+    if len(name) <= 128:
+        yield module + ".oantt"
+    if len(name) > 117:
+        size = len(name).to_bytes(8, "little")
+        yield os.path.join("long", hashlib.sha256(size + name).hexdigest() + ".oantt")
+
+
 @contextlib.contextmanager
-def over(crate):
+def over(rt, crate):
     """Links to what a crate kept, so that each check is made over the same."""
     with tempfile.TemporaryDirectory() as room:
         kept = os.path.join(room, "kept")
-        shutil.copytree(os.path.join(crate.folder, KEPT), kept, copy_function=os.link)
+        rt.linked(os.path.join(crate.folder, KEPT), kept)
         yield kept
 
 
 def alone(rt, crate, file):
-    """Checks a crate with one edit. One of definitions is first tried on the laws alone, which is
-    sooner done and says more of it."""
-    with over(crate) as kept:
+    """Checks a crate with one edit. What is sooner done comes first: of an edit of definitions the
+    laws alone, which say more of it, and of one of a body its function. Where these refuse nothing,
+    the whole crate is checked."""
+    with over(rt, crate) as kept:
         refused = by_laws(rt, crate, file, kept)
         if refused:
             return True, "refused by a law: " + refused[:160]
+        refused = by_function(rt, crate, file, kept)
+        if refused:
+            return True, refused
         verdict, text = rt.must_fail(crate, file, ["--jobs", "1"], kept)
     # `rt` gives a word for each verdict, of which these two are refusals.
     return verdict in (rt.REFUSED, rt.AT_LIMIT), text.split(": ", 1)[-1]
@@ -63,37 +114,74 @@ def by_laws(rt, crate, file, kept):
     laws = functions.laws_of(crate.name)
     if fault or not laws or not all(path.startswith("specs/") for path in texts):
         return ""
-    only = [word for law in laws for word in ("--only", law)]
-    ran = rt.checked(crate, texts, ["--jobs", "1", *only], kept)
-    lines = ran.stdout.rstrip("\n").split("\n")
-    told = lines[-1].startswith("only=") and is_read(rt, ran, lines, texts)
-    if ran.returncode != 1 or not told or not any(NOT_PROVED.match(line) for line in lines):
+    lines = told_by(rt, crate, texts, ["--jobs", "1", *only(laws)], kept) or []
+    if not any(NOT_PROVED.match(line) for line in lines):
         return ""
     return refusal([line for line in lines if SAID.match(line)])
 
 
+def by_function(rt, crate, file, kept):
+    """What refuses an edit of one function's body there, or nothing."""
+    said = at_functions(rt, crate, turns_of(crate, [file]), ["--jobs", "1"], kept).get(file, [])
+    why = refusal(said)
+    gone = next((line for line in said if re.match(GONE, line)), "")
+    if gone and not why:
+        return "refused, %s: %s" % (NAMES_ALONE, gone[:160])
+    return why and "refused: " + why[:160]
+
+
 def together(rt, crate, files, jobs="1", first=False):
-    """Checks a crate with several edits, and then one by one those that were not refused so. The
-    first check of a crate keeps what it proves."""
-    chosen = [edit for edit in collection.every_edit() if edit.file in files]
-    known = functions.functions_of(crate.name)
-    turns = [rounds.turn_of(crate.name, edit, known) for edit in chosen]
+    """Checks the functions that several edits turn, and then one by one the edits that were not
+    refused so. The first check of a crate is of all of it, and keeps what it proves."""
     begun = contextlib.nullcontext(os.path.join(crate.folder, KEPT))
-    with begun if first else over(crate) as kept:
-        ran = rt.checked(crate, rounds.texts_of(crate.name, turns), ["--jobs", jobs], kept)
-    lines = ran.stdout.rstrip("\n").split("\n")
-    told = rounds.by_function(crate.name, lines, known)
-    found = {turn.edit.file: refusal(told[turn.function]) for turn in turns}
-    if not is_told(rt, ran, lines, {turn.function.file for turn in turns}):
-        found = {}
+    with begun if first else over(rt, crate) as kept:
+        said = at_functions(rt, crate, turns_of(crate, files), ["--jobs", jobs], kept, first)
+    found = {file: refusal(lines) for file, lines in said.items()}
     return [(True, "refused: " + found[file][:160]) if found.get(file) else alone(rt, crate, file)
             for file in files]
 
 
-def is_told(rt, ran, lines, changed):
-    """Whether the prover read the sources and gave its verdict on all of them."""
-    return (ran.returncode == 1 and lines[-1].startswith("logic=not-proved")
-            and is_read(rt, ran, lines, changed))
+def turns_of(crate, files):
+    """What these edits make of one function each; one that does more than that is left out."""
+    known = functions.functions_of(crate.name)
+    turns = [rounds.turn_of(crate.name, edit, known)
+             for edit in collection.every_edit() if edit.file in files]
+    return [turn for turn in turns if turn]
+
+
+def only(paths):
+    """The flags of a check of these functions and of what they call. It leaves out what calls
+    them, which knows them by their contracts."""
+    return [word for path in paths for word in ("--only", path)]
+
+
+def at_functions(rt, crate, turns, flags, kept, whole=False):
+    """What the prover says at the function of each of these edits that it does not prove, by the
+    files of the edits. The whole crate is checked where that is asked for, or where the prover does
+    not know a function by its path."""
+    if not turns:
+        return {}
+    texts = rounds.texts_of(crate.name, turns)
+    paths = {turn.edit.file: functions.path_of(turn.function) for turn in turns}
+    lines = None if whole else told_by(rt, crate, texts, [*flags, *only(paths.values())], kept)
+    if lines is None:
+        lines = told_by(rt, crate, texts, flags, kept) or []
+    told = rounds.by_function(crate.name, lines, functions.functions_of(crate.name))
+    refused = {found[1] for found in map(REFUSED.match, lines) if found}
+    return {turn.edit.file: told[turn.function] for turn in turns
+            if crate.name + "::" + paths[turn.edit.file] in refused}
+
+
+def told_by(rt, crate, texts, flags, kept):
+    """The lines of a check with these texts: none where the prover refused nothing, or gave no
+    verdict on what it was asked for, and nothing at all where it could not be asked so."""
+    ran = rt.checked(crate, texts, flags, kept)
+    if ran.returncode == UNASKED:
+        return None
+    lines = ran.stdout.rstrip("\n").split("\n")
+    last = "only=" if "--only" in flags else "logic=not-proved"
+    told = ran.returncode == 1 and lines[-1].startswith(last) and is_read(rt, ran, lines, texts)
+    return lines if told else []
 
 
 def is_read(rt, ran, lines, changed):
@@ -117,7 +205,8 @@ def main():
     elif kind == "edits":
         told = together(rt, crate, files) if len(files) > 1 else [alone(rt, crate, files[0])]
     else:
-        told = [(library if kind == "library" else whole)(rt, crate, ["--jobs", jobs])]
+        does = {"library": library, "base": base, "proof": whole}[kind]
+        told = [does(rt, crate, ["--jobs", jobs])]
     used = resource.getrusage(resource.RUSAGE_CHILDREN)
     print("\n" + json.dumps([told, used.ru_utime + used.ru_stime]))
 

@@ -1,8 +1,10 @@
 """Tries edits over kept work: each crate is proved once, and its edits are then checked over links
 to what that proof kept, so that what they do not turn is not checked again.
 
-Where nothing is kept of a crate, its largest round of edits comes before that proof: what the round
-does not turn is proved and kept by it, and the proof adds the rest."""
+In the gate that proof is the one that `rt ci` makes, and the edits of a crate wait for it in the
+queue of `rt ci`. Elsewhere it is one over what earlier checks kept. Where those kept nothing of a
+crate, its largest round of edits comes before that proof: what the round does not turn is proved
+and kept by it, and the proof adds the rest."""
 import collections
 import functools
 import json
@@ -14,15 +16,14 @@ import threading
 import time
 
 from gate import rounds, toolchain
-from gate.step import KEPT
+from gate.step import KEPT, NAMES_ALONE
 from gate.commands import fail, say
 from gate.repository import TOP, below, copy_to, crates
 
 # How long the proof of a crate may take, and the check of each edit, in seconds.
 PROOF_LIMIT, EDIT_LIMIT = 7200, 900
 # What `rt` says of a refusal that says little of a contract.
-LITTLE = ("only because a proof file names what the edit took away",
-          "only by a limit of the prover")
+LITTLE = (NAMES_ALONE, "only by a limit of the prover")
 PRINTING = threading.Lock()
 # What a step gave: of each thing that it tried whether it went well and what is to be said of it,
 # and its processor seconds.
@@ -30,67 +31,116 @@ Step = collections.namedtuple("Step", "told seconds")
 
 
 def try_edits(edits):
-    """Tries edits of any crates over what earlier checks in the repository kept."""
-    with tempfile.TemporaryDirectory(prefix="ocfl-scrub-edits-") as folder:
-        copy_to(folder, below({edit.crate for edit in edits}), kept=True)
-        return try_over(folder, edits, are_proved=False)
-
-
-def try_over(folder, edits, are_proved=True):
-    """Tries edits in a copy of the crates, side by side as far as processors and memory allow, or
-    as many at once as RT_JOBS says. It is over the libraries that `rt ci` proved there from
-    nothing, or over what may be out of date. Counts the proof of each crate, each edit, and the
-    check at the end that the kept work is still that of the crate."""
+    """Tries edits of any crates over what earlier checks in the repository kept, side by side as
+    far as processors and memory allow, or as many at once as RT_JOBS says."""
     rt = toolchain.load()
     if rt is None:
         return fail("the command rt is not found; README.md says what it needs")
     began = time.monotonic()
-    given = rt.in_lanes(tasks_of(rt, folder, edits, are_proved))
-    tell(given, time.monotonic() - began)
-    wells = [well for key, step in given.items() if key[1] != "library" for well, _ in step.told]
-    return wells.count(True), wells.count(False)
+    with tempfile.TemporaryDirectory(prefix="ocfl-scrub-edits-") as folder:
+        copy_to(folder, below({edit.crate for edit in edits}), kept=True)
+        wells, faults = told(rt.in_lanes(tasks_of(rt, folder, edits)))
+    say("the edits took %.1f minutes" % ((time.monotonic() - began) / 60))
+    return wells, faults
 
 
-def tasks_of(rt, folder, edits, are_proved):
-    """The steps as `rt` takes them: what each waits for, its work, its memory, and a call."""
-    chosen = {edit.crate for edit in edits}
-    made = toolchain.crates_of(rt, folder)
-    # (`rt` writes the library of a proved crate alone)
-    proved = {name for name, it in made.items() if are_proved and os.path.isdir(it.rlib)}
-    lower = {it.name for name in chosen for it in made[name].below()} - proved
-    tasks = {}
-    for name in below(chosen):
-        if name in proved - chosen:
+class Steps:
+    """Steps as the queues of `rt` take them, by their keys: what each waits for, its work, its
+    memory, and a call."""
+
+    def __init__(self, rt, folder):
+        self.rt, self.folder, self.tasks = rt, folder, {}
+        self.made = toolchain.crates_of(rt, folder)
+
+    def add(self, name, kind, waits, work, *tried):
+        key = name, kind, tried
+        call = functools.partial(step, self.folder, key, waits)
+        return self.put(key, waits, work, call)
+
+    def put(self, key, waits, work, call):
+        self.tasks[key] = waits, work, self.rt.need(self.made[key[0]]), call
+        return key
+
+    def lines(self, name):
+        return self.made[name].count(rb"\n")
+
+    def try_over(self, name, kind, waits, shared, alone):
+        """Tries edits over what a step of that kind keeps of a crate, and then sees that it is
+        still what that step left."""
+        kept, lines = Kept(self.rt, self.made[name]), self.lines(name)
+        key = name, kind, ()
+        proof = self.put(key, waits, lines // (10 if kind == "base" else 1),
+                         functools.partial(kept.leave, self.folder, key, waits))
+        tried = [self.add(name, "edits", [proof], len(it) * lines // 20, *it) for it in shared]
+        tried += [self.add(name, "edits", [proof], lines // 10, it) for it in alone]
+        key = name, "end", ()
+        self.put(key, [proof, *tried], 0, functools.partial(kept.compare, key))
+
+
+class Kept:
+    """What is kept of a crate, over which its edits are tried."""
+
+    def __init__(self, rt, crate):
+        self.rt, self.place, self.files = rt, os.path.join(crate.folder, KEPT), {}
+
+    def leave(self, folder, key, waits, given, jobs):
+        """Takes the step that keeps it."""
+        result = step(folder, key, waits, given, jobs)
+        self.files = self.rt.listing(self.place)
+        return result
+
+    def compare(self, key, _given, _jobs):
+        """Whether no file of it was changed since, lost or added."""
+        well = self.rt.listing(self.place) == self.files
+        text = "what was kept is as it was" if well else "what was kept was changed by a check"
+        return said(key, Step([(well, text)], 0))
+
+
+def tasks_beside(rt, folder, edits, whole):
+    """The steps for the queue of `rt ci` in a folder. The edits of a crate whose library has its
+    checked proofs wait for its proof there. Those of another need a proof of their own, which
+    waits for the libraries below as that of `rt ci` does."""
+    steps = Steps(rt, folder)
+    for name, crate in steps.made.items():
+        own = [edit for edit in edits if edit.crate == name]
+        if not own:
             continue
-        lines, memory = made[name].count(rb"\n"), rt.need(made[name])
+        shared, alone = rounds.share(name, own)
+        if name in whole:
+            steps.try_over(name, "base", [(name, "proof")], shared, alone)
+            continue
+        waits = [(it.name, "proof") for it in crate.below()]
+        if shared:
+            seed = steps.add(name, "seed", waits, steps.lines(name), *shared.pop(0))
+            waits = [*waits, seed]
+        steps.try_over(name, "proof", waits, shared, alone)
+    return steps.tasks
 
-        def add(kind, waits, work, *tried):
-            key = name, kind, tried
-            call = functools.partial(step, folder, key, waits)
-            tasks[key] = waits, work, memory, call
-            return key
 
-        waits, tried = [(it.name, "library", ()) for it in made[name].below()
-                        if it.name in lower], []
+def tasks_of(rt, folder, edits):
+    """The steps over what may be out of date, which build the libraries below first."""
+    steps, chosen = Steps(rt, folder), {edit.crate for edit in edits}
+    lower = {it.name for name in chosen for it in steps.made[name].below()}
+    for name in below(chosen):
+        if name not in steps.made:
+            continue
+        waits, lines = [(it.name, "library", ()) for it in steps.made[name].below()
+                        if it.name in lower], steps.lines(name)
         shared, alone = rounds.share(name, [it for it in edits if it.crate == name])
-        if shared and not os.path.isdir(os.path.join(made[name].folder, KEPT)):
-            tried = [add("seed", waits, lines, *shared.pop(0))]
-            waits = waits + tried
+        if shared and not os.path.isdir(os.path.join(steps.made[name].folder, KEPT)):
+            waits = waits + [steps.add(name, "seed", waits, lines, *shared.pop(0))]
         if name in lower:
-            waits = [add("library", waits, lines)]
+            waits = [steps.add(name, "library", waits, lines)]
         if name in chosen:
-            proof = add("proof", waits, lines)
-            tried += [add("edits", [proof], len(it) * lines // 20, *it) for it in shared]
-            tried += [add("edits", [proof], lines // 10, it) for it in alone]
-            add("end", tried, lines // 10)
-    return tasks
+            steps.try_over(name, "proof", waits, shared, alone)
+    return steps.tasks
 
 
 def step(folder, key, waits, given, jobs):
     """Takes one step in a process of its own, once those that it waits for went well, and says how
     it went. Whatever edits gave, what waits for them goes on."""
     crate, kind, edits = key
-    if not all(well for it in waits if not it[2] for well, _ in given[it].told):
+    if not all(went_well(it, given[it]) for it in waits):
         return said(key, not_tried(key, "not tried, since a step before it failed"))
     files = [edit.file for edit in edits]
     command = [sys.executable, "-B", "-m", "gate.step", folder, crate, kind, str(jobs), *files]
@@ -105,6 +155,13 @@ def step(folder, key, waits, given, jobs):
     except (IndexError, ValueError, TypeError):
         result = not_tried(key, "no verdict: its process ended with %s" % ran.returncode)
     return said(key, result)
+
+
+def went_well(key, gave):
+    """Whether what a step waits for went well: a proof of `rt ci`, or a step that tries no edit."""
+    if isinstance(gave, Step):
+        return bool(key[2]) or all(well for well, _ in gave.told)
+    return bool(gave)
 
 
 def not_tried(key, why):
@@ -125,8 +182,9 @@ def said(key, result):
     return result
 
 
-def tell(given, seconds):
-    """Says how many edits of each crate were refused, and what that took."""
+def told(given):
+    """Says how many edits of each crate were refused, and what that took, and counts the checks:
+    each edit, and each step that keeps what they are tried over."""
     for crate in crates():
         own = {key: step for key, step in given.items() if key[0] == crate}
         tried = [step for key, step in own.items() if key[2]]
@@ -140,4 +198,5 @@ def tell(given, seconds):
         little = sum(why in text for step in given.values() for _, text in step.told)
         if little:
             say("%d edits were refused %s" % (little, why))
-    say("the edits took %.1f minutes" % (seconds / 60))
+    wells = [well for key, step in given.items() if key[1] != "library" for well, _ in step.told]
+    return wells.count(True), wells.count(False)

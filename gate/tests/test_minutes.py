@@ -1,7 +1,12 @@
 """Tests what the gate says of the minutes that proofs and edits took."""
+import contextlib
+import io
+import os
+import tempfile
 import unittest
+from unittest import mock
 
-from gate import minutes
+from gate import clock, commands, minutes
 
 # Five crates of one machine, each with ten minutes.
 ALIKE = {"a%d" % at: (4.0, 6.0, "0000000") for at in range(5)}
@@ -43,6 +48,43 @@ class Minutes(unittest.TestCase):
         before = {crate: ALIKE[crate] for crate in ["a0", "a1"]}
         taken = {"a0": (8.0, 12.0), "a1": (4.0, 6.0)}
         self.assertEqual(minutes.changed(before, taken), {"a0": (8.0, 12.0)})
+
+
+class Files(unittest.TestCase):
+    """What a gate leaves of the file, over the processes that it saw."""
+
+    def setUp(self):
+        room = tempfile.TemporaryDirectory()
+        self.addCleanup(room.cleanup)
+        self.file = os.path.join(room.name, "minutes.tsv")
+        failures = list(commands.FAILURES)
+        self.addCleanup(commands.FAILURES.__setitem__, slice(None), failures)
+        commands.FAILURES.clear()
+
+    def told(self, taken):
+        """The file after a gate whose processes took so many seconds, by their crates and by
+        whether they checked an edit."""
+        gate = clock.Clock()
+        gate.taken = dict(enumerate(taken))
+        with mock.patch.object(minutes, "FILE", self.file), \
+                mock.patch.object(minutes, "commit_of", lambda folder: "1234567"), \
+                contextlib.redirect_stdout(io.StringIO()):
+            gate.tell()
+        with contextlib.suppress(OSError), open(self.file) as file:
+            return file.read()
+
+    def test_whole_gate_writes_it(self):
+        taken = [(("ocfl_tree", False), 60.0), (("ocfl_tree", True), 30.0),
+                 (("ocfl_report", False), 90.0), (("ocfl_tree", True), 60.0), (None, 5.0)]
+        self.assertEqual(self.told(taken), minutes.HEAD + "\nocfl_tree\t1.0\t1.5\t1234567\n"
+                         "ocfl_report\t1.5\t0.0\t1234567\n")
+
+    def test_what_was_kept_has_no_row(self):
+        self.assertIsNone(self.told([(("ocfl_tree", True), 30.0)]))
+
+    def test_failed_gate_writes_nothing(self):
+        commands.FAILURES.append("an edit")
+        self.assertIsNone(self.told([(("ocfl_tree", False), 60.0)]))
 
 
 if __name__ == "__main__":

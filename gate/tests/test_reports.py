@@ -14,7 +14,7 @@ from gate.repository import TOP
 
 sys.path.insert(0, os.path.join(TOP, "contrib"))
 
-from ocfl_scrub_reports import command, files, questions, report, standing, statement, xml
+from ocfl_scrub_reports import command, counts, files, questions, report, standing, xml
 from ocfl_scrub_reports.weights import Known, Weights
 
 RIGHT = [b"ok\t.\t-", b"ok\to/v1/content/a\t13", b"E092\to/a b\tmd5 missing", b"S07\to\tx%25",
@@ -133,6 +133,14 @@ class Questions(Folder):
             found = self.said(questions.show_findings, paths[:1], paths[1])
         self.assertEqual(found.splitlines(), [it for it in newer if it not in older])
 
+    def test_lacking_with_few_in_memory(self):
+        chance = random.Random(6)
+        lines = [[b"E072\ta%d\t-" % chance.randrange(60) for _ in range(50)] for _ in range(2)]
+        spools = [questions.findings_in(self.put(b"\n".join(it) + b"\n")) for it in lines]
+        with mock.patch.object(questions, "HELD", 7):
+            found = questions.count_lacking(*spools)
+        self.assertEqual(found, sum(1 for it in lines[0] if it not in lines[1]))
+
     def test_known(self):
         known = Known(self.put(b"E092\ta\tx\nE092\tb\nE072\tc/\nobject\td\n# E001\te\nE024\t./"))
         lines = [b"E092\ta\tx", b"E092\ta\ty", b"E092\tb\ty", b"E072\tc\t-", b"E072\tc/d/e\t-",
@@ -147,7 +155,7 @@ class Questions(Folder):
 
     def test_a_finding_beside_an_object_is_not_within_it(self):
         path = self.put(b"ok\to\t-\nE072\to2\t-\nok\tp\t-\nE023\tp/x\t-\n")
-        self.assertEqual(statement.Count(path, [], False).facts()["Objects without findings"], "1")
+        self.assertEqual(counts.Count(path, False).facts()["Objects without findings"], "1")
 
     def test_weights(self):
         weights = Weights()
@@ -157,11 +165,12 @@ class Questions(Folder):
     def test_counts(self):
         path = self.put(b"ok\t.\t-\nE072\ta\t-\nok\to\t-\nE023\to/x\t-\nS08\to/x\t-\nok\to/y\t3\n"
                         b"ok\to-\t-\nE092\to-/a\tmd5 missing\nE093\to-/a\tmd5 missing\nok\tp\t-\n")
-        facts = statement.Count(path, [b"p/q"], False).facts()
+        facts = counts.Count(path, False).facts()
         self.assertEqual([facts[name] for name in (
             "Report lines", "Objects", "Objects without findings", "Content files",
             "Files found right", "Findings", "Findings E023")],
-            ["10", "3", "0", "3", "1", "5", "1"])
+            ["10", "3", "1", "3", "1", "5", "1"])
+        self.assertEqual(counts.Count(path, True).facts()["Objects without findings"], "not known")
 
 
 class Standing(Folder):

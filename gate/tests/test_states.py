@@ -10,47 +10,33 @@ from gate.repository import TOP
 sys.path.insert(0, os.path.join(TOP, "contrib"))
 
 from gate.tests.test_reports import Folder
-from ocfl_scrub_reports import database, standing, state, statement, status
+from ocfl_scrub_reports import database, opening, standing, state, statement, status
 
 NIGHT = "2026-03-0%dT22:00:00Z"
 
 
-def row(day, kind, cycle=1, said="", stands="after o", spent=9, cost=9):
+def entry(day, kind, cycle=1, stands="after o", status=""):
+    """An entry of the log, of a night that began on a day."""
     night = NIGHT % day
-    columns = [night, kind, cycle, 1, 5, cost, said, spent, 1, 60, 100, "0" * 64, stands, night]
-    return "\t".join(map(str, columns)).encode()
+    return state.Entry(night, kind, cycle, 1, 5, 9, "", 9, 1, 60, 100, "", stands, night,
+                       status=status)
 
 
 class Log(unittest.TestCase):
-    def standing(self, *rows):
+    def standing(self, *entries):
         log = status.Log()
-        for entry in map(state.entry_of, rows):
-            log.take(entry)
+        for it in entries:
+            log.take(it)
         return log
 
-    def test_rows(self):
-        self.assertIsNone(state.entry_of(b"\t".join([b"1"] * 13)))
-        entry = state.entry_of(row(1, "cut", said="a b"))
-        self.assertEqual((entry.cycle, entry.said, entry.is_run()), (1, "a b", True))
-
-    def test_closing(self):
-        said = "report reports/cycle-000007; whole; findings E092 1; compared 6; gone 1 objects " \
-            "2 files; expected 3"
-        self.assertEqual(state.closing_of(said), state.Closing("cycle-000007", True, 6, 1, 2, 3))
-        said = "report /incomplete-x/reports/incomplete-000007; incomplete lost lines; compared " \
-            "nothing; gone 0 objects 0 files; expected unknown"
-        closing = state.closing_of(said)
-        self.assertEqual((closing.is_whole, closing.compared, closing.is_expected_unknown),
-                         (False, None, True))
-
     def test_the_worst_of_a_night(self):
-        log = self.standing(row(1, "0"), row(1, "3"), row(1, "1"))
+        log = self.standing(entry(1, "0"), entry(1, "3"), entry(1, "1"))
         self.assertEqual((log.status, log.cycle, log.is_open), ("3", 1, True))
-        log.take(state.entry_of(row(1, "told", said="status 1, runs 3")))
+        log.take(entry(1, "told", status="1"))
         self.assertEqual(log.status, "1")
 
     def test_a_night_that_was_refused_is_of_no_cycle(self):
-        log = self.standing(row(1, "0", 4), row(2, "3", 0))
+        log = self.standing(entry(1, "0", 4), entry(2, "3", 0))
         self.assertEqual((log.status, log.status_before, log.cycle), ("3", "0", 4))
 
     def test_seconds(self):
@@ -68,7 +54,7 @@ class Losses(Folder):
     def setUp(self):
         super().setUp()
         os.mkdir(self.folder + "/reports")
-        self.state = state.State(self.folder)
+        self.state = opening.open_state(self.folder)
 
     def report(self, name, *paths):
         self.put(b"".join(b"ok\t%s\t-\n" % it for it in paths), "reports/" + name)

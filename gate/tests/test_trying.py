@@ -1,11 +1,15 @@
-"""Tests how edits are shared out among rounds and steps."""
+"""Tests how edits are shared out among rounds and steps, and over what they are tried."""
 import collections
+import contextlib
+import io
+import json
 import os
+import re
 import tempfile
 import types
 import unittest
 
-from gate import rounds, trying
+from gate import commands, proving, rounds, step, trying
 from gate.collection import listed as every_listed
 from gate.repository import below, crates
 
@@ -59,47 +63,269 @@ class Crate:
         return 1000
 
 
-class Steps(unittest.TestCase):
+class Rooms(unittest.TestCase):
+    """Tests that have crates in a folder of their own, and may fail steps."""
+
     def setUp(self):
+        failures = list(commands.FAILURES)
+        self.addCleanup(commands.FAILURES.__setitem__, slice(None), failures)
         self.room = tempfile.TemporaryDirectory()
         self.addCleanup(self.room.cleanup)
         self.made = {}
         for name in below(["ocfl_digest", "ocfl_parts"]):
             if name.startswith("ocfl_"):
                 self.made[name] = Crate(name, self.room.name, self.made)
-        self.rt = types.SimpleNamespace(need=lambda crate: 1, rtlib=types.SimpleNamespace(
-            crates_below=lambda folder: self.made.values()))
+        self.rt = types.SimpleNamespace(need=lambda crate: 1, listing=listing, in_lanes=in_turn,
+                                        rtlib=types.SimpleNamespace(
+                                            crates_below=lambda folder: self.made.values()))
 
-    def steps(self, are_proved, *chosen):
+    def crate(self):
+        return self.made["ocfl_digest"]
+
+    def write(self, path, content):
+        file = os.path.join(self.crate().folder, path)
+        os.makedirs(os.path.dirname(file), exist_ok=True)
+        with open(file, "wb") as it:
+            it.write(content)
+
+
+def listing(folder):
+    """The sizes of the files of a folder, in the place of what `rt` looks at."""
+    return {name: os.path.getsize(os.path.join(folder, name)) for name in sorted(os.listdir(folder))}
+
+
+def in_turn(tasks):
+    """Takes steps one after the other, as the queue of `rt` may."""
+    given = {}
+    for key, (waits, _, _, call) in tasks.items():
+        assert all(it in given for it in waits), key
+        given[key] = call(given, 1)
+    return given
+
+
+class Steps(Rooms):
+    def steps(self, tasks_of, *chosen, **how):
         edits = [edit for crate in chosen for edit in listed(crate)]
-        tasks = trying.tasks_of(self.rt, self.room.name, edits, are_proved)
-        return {(crate, kind): [(it[0], it[1]) for it in tasks[key][0]]
-                for key in tasks for crate, kind, _ in [key]}
+        tasks = tasks_of(self.rt, self.room.name, edits, **how)
+        return {key[:2]: [it[:2] for it in tasks[key][0]] for key in tasks}
 
     def test_over_what_may_be_out_of_date(self):
         os.makedirs(self.made["ocfl_tree"].rlib)
-        steps = self.steps(False, "ocfl_digest")
+        steps = self.steps(trying.tasks_of, "ocfl_digest")
         self.assertEqual(steps["ocfl_tree", "library"], [])
         self.assertEqual(steps["ocfl_digest", "seed"], [("ocfl_tree", "library")])
         self.assertIn(("ocfl_digest", "seed"), steps["ocfl_digest", "proof"])
         self.assertEqual(steps["ocfl_digest", "edits"], [("ocfl_digest", "proof")])
 
     def test_over_kept_work(self):
-        os.makedirs(os.path.join(self.made["ocfl_digest"].folder, trying.KEPT))
-        self.assertNotIn(("ocfl_digest", "seed"), self.steps(False, "ocfl_digest"))
+        os.makedirs(os.path.join(self.crate().folder, trying.KEPT))
+        self.assertNotIn(("ocfl_digest", "seed"), self.steps(trying.tasks_of, "ocfl_digest"))
 
-    def test_over_what_was_proved(self):
-        os.makedirs(self.made["ocfl_tree"].rlib)
-        steps = self.steps(True, "ocfl_digest")
-        self.assertEqual({crate for crate, _ in steps}, {"ocfl_digest"})
-        self.assertEqual(steps["ocfl_digest", "seed"], [])
-        self.assertEqual(steps["ocfl_digest", "proof"], [("ocfl_digest", "seed")])
+    def test_beside_rt_ci(self):
+        """The edits of a crate that is built whole wait for its own proof, and for no other."""
+        steps = self.steps(trying.tasks_beside, "ocfl_digest", "ocfl_parts", whole=self.made)
+        self.assertEqual(steps["ocfl_digest", "base"], [("ocfl_digest", "proof")])
+        self.assertEqual(steps["ocfl_digest", "edits"], [("ocfl_digest", "base")])
+        self.assertEqual(steps["ocfl_parts", "base"], [("ocfl_parts", "proof")])
+        self.assertEqual({kind for _, kind in steps}, {"base", "edits", "end"})
+        self.assertIn(("ocfl_digest", "edits"), steps["ocfl_digest", "end"])
 
-    def test_over_what_was_not_proved(self):
-        os.makedirs(self.made["ocfl_tree"].rlib)
-        steps = self.steps(True, "ocfl_parts")
-        self.assertEqual(steps["ocfl_report", "library"], [])
-        self.assertEqual(steps["ocfl_parts", "seed"], [("ocfl_report", "library")])
+    def test_beside_rt_ci_over_statements(self):
+        """Another crate is proved once more, over the libraries that `rt ci` proved."""
+        steps = self.steps(trying.tasks_beside, "ocfl_digest", whole={"ocfl_parts"})
+        self.assertEqual(steps["ocfl_digest", "seed"], [("ocfl_tree", "proof")])
+        self.assertEqual(steps["ocfl_digest", "proof"],
+                         [("ocfl_tree", "proof"), ("ocfl_digest", "seed")])
+        self.assertEqual(steps["ocfl_digest", "edits"], [("ocfl_digest", "proof")])
+
+    def test_edits_of_what_is_not_proved_fail(self):
+        proofs = {(name, "proof"): ([], 1, 1, lambda given, jobs: False) for name in self.made}
+        proving.fill(self.rt, listed("ocfl_digest"), {"ocfl_digest"})
+        was = os.getcwd()
+        self.addCleanup(os.chdir, was)
+        os.chdir(self.room.name)
+        os.makedirs(os.path.join(self.crate().folder, trying.KEPT))
+        with contextlib.redirect_stdout(io.StringIO()) as out:
+            self.rt.in_lanes(proofs)
+        # (that nothing was changed holds all the same)
+        self.assertIn("\nedits: 1 passed, %d failed\n" % (len(listed("ocfl_digest")) + 1),
+                      out.getvalue())
+
+
+class Bases(Rooms):
+    def test_changed_work_is_seen(self):
+        self.write(trying.KEPT + "/a.oantt", b"one")
+        kept = trying.Kept(self.rt, self.crate())
+        kept.files = listing(kept.place)
+        key = "ocfl_digest", "end", ()
+        with contextlib.redirect_stdout(io.StringIO()):
+            self.assertTrue(kept.compare(key, {}, 1).told[0][0])
+            self.write(trying.KEPT + "/a.oantt", b"other")
+            self.assertFalse(kept.compare(key, {}, 1).told[0][0])
+
+    def test_library_is_laid_out(self):
+        """The modules that a library carries become the files that a check would have kept, and
+        statements of modules do not."""
+        top = "out/rlib/ocfl_digest.rlib/"
+        self.write(top + "format", b"rattle rlib\nrattle-build antt-1/0/src-2.bid-3\ncrate it\n")
+        rows = [["Rattle-a.b", 4, 3], ["part/Rattle-a.c", 7, 2], ["sum/all", 9, 1]]
+        self.write(top + "toolchain/checked.json", "\n".join(map(json.dumps, rows)).encode())
+        self.write(top + "toolchain/checked.a", b"ar: onetws")
+        step.lay_out(self.crate())
+        folder = os.path.join(self.crate().folder, trying.KEPT, "antt-1_0_src-2.bid-3")
+        self.assertEqual(sorted(os.listdir(folder)), ["Rattle-a.b.oantt", "long"])
+        with open(os.path.join(folder, "Rattle-a.b.oantt"), "rb") as file:
+            self.assertEqual(file.read(), b"one")
+
+    def test_long_names_are_laid_out(self):
+        """A name of 129 bytes, and the file in which a check was seen to keep its module."""
+        name = ("Rattle-ocfl_report-proofs.reading.fn.split_once.position+FnMut.TheLinks."
+                "ocfl_report-reading-fn-split_once-position+FnMut-call_mut")
+        path = "long/8313e637bb46f2ac0a00b54c7c2ddf8dbab24cf106645cce3af962556bad7a49.oantt"
+        self.assertEqual(list(step.paths_of(name)), [path])
+        self.assertIn(name[:120] + ".oantt", step.paths_of(name[:120]))
+        self.assertEqual(len(list(step.paths_of(name[:120]))), 2)
+
+    def test_library_without_proofs_is_proved(self):
+        """Where nothing can be laid out, the check is one from nothing."""
+        self.rt.checked = lambda crate, texts, jobs, kept: types.SimpleNamespace(returncode=0)
+        self.assertEqual(step.base(self.rt, self.crate(), []), (True, "proved"))
+
+    def test_libraries_are_built_whole(self):
+        class Built:
+            cuts_libraries = True
+
+            def __init__(self, name):
+                self.name = name
+
+            def ci(self, flags, tests):
+                return self.cuts_libraries
+
+        class Known:
+            def key(self, crate):
+                return "sum"
+
+        rt = types.SimpleNamespace(Crate=Built, Kept=Known)
+        proving.build(rt, {"high"})
+        self.assertFalse(rt.Crate("high").ci([], False))
+        self.assertTrue(rt.Crate("low").ci([], False))
+        # (what an earlier run kept without its proofs has another name)
+        self.assertNotEqual(rt.Kept().key(rt.Crate("high")), "sum")
+        self.assertEqual(rt.Kept().key(rt.Crate("low")), "sum")
+
+    def test_libraries_with_few_above_are_built_whole(self):
+        low, *above = [types.SimpleNamespace(name="a%d" % at) for at in range(proving.FEW + 2)]
+        low.below = lambda: []
+        for crate in above:
+            crate.below = lambda: [low]
+        made = {crate.name: crate for crate in [low, *above]}
+        self.assertEqual(proving.built_whole(made), set(made) - {low.name})
+        above[0].below = lambda: []
+        self.assertEqual(proving.built_whole(made), set(made))
+
+
+class Prover(Rooms):
+    """What a step makes of the lines of a prover that gives those of its tests."""
+
+    def setUp(self):
+        super().setUp()
+        self.flags, self.whole = [], []
+        self.known = rounds.functions.functions_of("ocfl_digest")
+        self.files = [edit.file for edit in rounds.share("ocfl_digest", listed("ocfl_digest"))[0][0]]
+        self.turns = step.turns_of(self.crate(), self.files)
+        rtlib = types.SimpleNamespace(STALE=re.compile("stale"))
+        self.rt = types.SimpleNamespace(REFUSED="refused", AT_LIMIT="limit", rtlib=rtlib,
+                                        checked=self.checked, must_fail=self.must_fail,
+                                        linked=lambda folder, to: None,
+                                        read_edit=lambda file, folder: ({"src/lib.rt": ""}, None),
+                                        unread=lambda line, changed: "cannot be read" in line)
+
+    def checked(self, crate, texts, flags, kept):
+        self.flags.append(flags)
+        asked = flags[1::2][1:] if "--only" in flags else [
+            step.functions.path_of(it) for it in self.known]
+        lines = [line for path in asked for line in self.lines_of(path)]
+        last = "only=%d proved=0" % len(asked) if "--only" in flags else "logic=not-proved"
+        return types.SimpleNamespace(returncode=self.status, stdout="\n".join([*lines, last, ""]))
+
+    def must_fail(self, crate, file, flags, kept):
+        self.whole.append(file)
+        return "missed", "must-fail a/b: NOT REFUSED: the crate is still proved with this edit"
+
+    def lines_of(self, path):
+        """The prover's lines on a function: all are refused, but for some."""
+        function = next(it for it in self.known if step.functions.path_of(it) == path)
+        said = self.said.get(path, "no proof: `search` did not prove `returns`")
+        at = "note: %s:%d:1: " % (function.file, rounds.span_of("ocfl_digest", function)[0])
+        return [at + self.notes.get(path, "it is not proved"), "fn ocfl_digest::%s: %s" % (path, said)]
+
+    status, said, notes = 1, {}, {}
+
+    def path(self, at):
+        return step.functions.path_of(self.turns[at].function)
+
+    def tried(self, **how):
+        return step.together(self.rt, self.crate(), [it.edit.file for it in self.turns], **how)
+
+    def test_round_is_of_what_it_turns(self):
+        self.assertTrue(all(well for well, _ in self.tried()))
+        paths = [step.functions.path_of(turn.function) for turn in self.turns]
+        self.assertEqual(self.flags, [["--jobs", "1", *step.only(paths)]])
+
+    def test_first_check_is_of_the_whole_crate(self):
+        self.assertTrue(all(well for well, _ in self.tried(jobs="2", first=True)))
+        self.assertEqual(self.flags, [["--jobs", "2"]])
+
+    def test_edit_that_changes_nothing_fails(self):
+        """What the prover still proves is not refused, whatever else it says there, and whatever
+        it says of the others."""
+        for said in ("proved", "no proof: it calls `ocfl_digest::a`, which is not proved"):
+            self.said, self.whole = {self.path(0): said}, []
+            wells = [well for well, _ in self.tried()]
+            self.assertEqual(wells, [False] + [True] * (len(self.turns) - 1), said)
+            self.assertEqual(self.whole, [self.turns[0].edit.file])
+
+    def test_no_verdict_is_no_refusal(self):
+        unread = {self.path(at): "cannot be read" for at in range(len(self.turns))}
+        for status, notes in ((0, {}), (2, {}), (3, {}), (1, unread)):
+            self.status, self.notes, self.whole = status, notes, []
+            self.assertFalse(any(well for well, _ in self.tried()))
+            self.assertEqual(self.whole, [turn.edit.file for turn in self.turns])
+
+    def test_gone_name_is_said(self):
+        """Where a proof only lacks a name, the edit is tried alone, and that is said of it."""
+        file = self.turns[0].edit.file
+        folder = rounds.folders_of(self.turns[0].function)[0]
+        note = "%s/Answers.antt:1:1: error: `it` has no field `other`" % folder
+        self.lines_of = lambda path: [note, "fn ocfl_digest::%s: not proved" % self.path(0)]
+        (well, text), *_ = self.tried()
+        self.assertTrue(well)
+        self.assertIn(step.NAMES_ALONE, text)
+        self.assertEqual(self.flags[1], ["--jobs", "1", "--only", self.path(0)])
+        self.assertNotIn(file, self.whole)
+
+    def test_paths_are_those_of_the_prover(self):
+        function = rounds.functions.Function("<Trouble as From<AllocFailed<T>>>::from", "Trouble",
+                                             True, "src/store.rt", 0, 0, "")
+        self.assertEqual(step.functions.path_of(function), "store::TroubleFromAllocFailed::from")
+        function = function._replace(name="<DisplayPlace as fmt::Display>::fmt", file="src/a/b.rt")
+        self.assertEqual(step.functions.path_of(function), "a::b::DisplayPlaceDisplay::fmt")
+        function = function._replace(name="<Stop as From<clap::Error>>::from", file="src/stop.rt")
+        self.assertEqual(step.functions.path_of(function), "stop::StopFromClapError::from")
+        function = function._replace(name="Line::put", file="src/lib.rt")
+        self.assertEqual(step.functions.path_of(function), "Line::put")
+
+    def test_unknown_path_is_a_check_of_the_whole_crate(self):
+        given = self.checked
+
+        def checked(crate, texts, flags, kept):
+            ran = given(crate, texts, flags, kept)
+            ran.returncode = 2 if "--only" in flags else 1
+            return ran
+
+        self.rt.checked = checked
+        self.assertTrue(all(well for well, _ in self.tried()))
+        self.assertEqual(["--only" in flags for flags in self.flags], [True, False])
 
 
 if __name__ == "__main__":

@@ -1,0 +1,66 @@
+"""`rt ci` over a copy of the crates, in a process of its own: `FOLDER`, which holds the copy.
+
+It is the kit's run, which proves each crate from nothing, but for two things. It builds libraries
+on which few others stand with their checked proofs, which `rt ci` leaves out, since what stands on
+a library reads its statements alone: so the edits of such a crate are tried over the proof that was
+just made, and need none of their own. And the edits stand in the same queue, so that they fill what
+proofs leave idle.
+
+A line `edits: N passed, M failed` says how those went; the last line is that of `rt ci`."""
+import os
+import sys
+
+from gate import collection, toolchain, trying
+
+# On how many crates at most a library stands that is built with its proofs: each of their checks
+# reads those, which takes it seconds.
+FEW = 3
+
+
+def main():
+    os.chdir(sys.argv[1])
+    rt = toolchain.load()
+    whole = built_whole(toolchain.crates_of(rt, os.getcwd()))
+    build(rt, whole)
+    fill(rt, [entry.edit for entry in collection.listed()], whole)
+    return rt.main(["ci"])
+
+
+def built_whole(made):
+    """The crates whose libraries are built with their proofs."""
+    above = [it.name for crate in made.values() for it in crate.below()]
+    return {name for name in made if above.count(name) <= FEW}
+
+
+def build(rt, whole):
+    """Has `rt ci` build these libraries with their proofs, and take none without from an earlier
+    run: their edits would need a proof of their own."""
+    made, key = rt.Crate.ci, rt.Kept.key
+
+    def ci(crate, flags, tests):
+        if crate.name in whole:
+            crate.cuts_libraries = False
+        return made(crate, flags, tests)
+
+    def key_of(kept, crate):
+        return key(kept, crate) + "-with-proofs" * (crate.name in whole)
+
+    rt.Crate.ci, rt.Kept.key = ci, key_of
+
+
+def fill(rt, edits, whole):
+    """Puts the steps of trying edits into the queue of `rt ci`."""
+    queue = rt.in_lanes
+
+    def in_lanes(tasks):
+        steps = trying.tasks_beside(rt, os.getcwd(), edits, whole)
+        given = queue({**tasks, **steps})
+        print("edits: %d passed, %d failed" % trying.told({key: given[key] for key in steps}),
+              flush=True)
+        return given
+
+    rt.in_lanes = in_lanes
+
+
+if __name__ == "__main__":
+    sys.exit(main())
